@@ -1,0 +1,10 @@
+pub mod Counts
+pub mod Pairs
+pub mod Views
+pub mod Sweeping
+pub mod Rules
+pub mod Joining
+pub mod Sorting
+pub mod Counting
+pub mod Widening
+pub mod Spans

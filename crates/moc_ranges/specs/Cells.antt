@@ -1,0 +1,42 @@
+-- Cells of every order, and what they have to do with a set of pixels (MOC 2.0).
+use Rattle.std.specs.Prelude.{◌≡◌, ℕ, zero, suc, ◌+◌, ◌-◌, ◌*◌, ◌/◌, Bool, not, ◌&&◌, ◌||◌, List, [], ◌∷◌, ◌++◌, map, nat_eq, nat_lt}
+use Rattle.std.specs.FinSet as set
+use Rattle.std.specs.List.{filter, range_with_len}
+use Rattle.std.proofs.Common.{◌∙◌, ap, sym}
+use Rattle.moc_sphere.specs.CellNumber.{CellNumber, cell_number, cell_count, cell_size}
+use Rattle.moc_ranges.specs.Numbers.{NumberSet}
+use Rattle.moc_ranges.specs.Pixels.{pixel_count, pixels}
+use Rattle.moc_ranges.specs.Operations.{meets, contains-pixels}
+
+-- the pixels of a cell
+unfoldable pub span : ℕ → ℕ → NumberSet
+span order index = set.retain pixels (λ p. nat_eq (p / cell_size order) index)
+
+-- the pixels whose cell of that order meets the set
+unfoldable pub degrade : NumberSet → ℕ → NumberSet
+degrade a order = set.retain pixels (λ p. meets a (span order (p / cell_size order)))
+
+-- whether a cell is one of a set's: its pixels are in the set, and it is of order 0 or its parent's pixels are not all in the set
+unfoldable pub is_cell_of : NumberSet → CellNumber → Bool
+is_cell_of a c = set.is_subset (span c.order c.index) a && (nat_eq c.order 0 || not (set.is_subset (span (c.order - 1) (c.index / 4)) a))
+
+-- the cells of the orders below `orders`, in rising NUNIQ: order after order, and within an order by rising index
+unfoldable pub cells_below : ℕ → List CellNumber
+cells_below zero = []
+cells_below (suc k) = cells_below k ++ map (cell_number k) (range_with_len 0 (cell_count k))
+
+-- the cells of a set, in rising NUNIQ (MOC 2.0, section 4.1: the normal form)
+unfoldable pub cells_of : NumberSet → List CellNumber
+cells_of a = filter (is_cell_of a) (cells_below 30)
+
+pub contains-span : (order index q : ℕ) → set.contains (span order index) q ≡ (nat_lt q pixel_count && nat_eq (q / cell_size order) index)
+unfolding span
+contains-span order index q =
+    set.contains-retain pixels (λ p. nat_eq (p / cell_size order) index) q (λ x tie. ap (λ p. nat_eq (p / cell_size order) index) (sym (set.nat_cmp-IsAntisymmetric q x tie)))
+    ∙ ap (λ b. b && nat_eq (q / cell_size order) index) (contains-pixels q)
+
+pub contains-degrade : (a : NumberSet) (order q : ℕ) → set.contains (degrade a order) q ≡ (nat_lt q pixel_count && meets a (span order (q / cell_size order)))
+unfolding degrade
+contains-degrade a order q =
+    set.contains-retain pixels (λ p. meets a (span order (p / cell_size order))) q (λ x tie. ap (λ p. meets a (span order (p / cell_size order))) (sym (set.nat_cmp-IsAntisymmetric q x tie)))
+    ∙ ap (λ b. b && meets a (span order (q / cell_size order))) (contains-pixels q)

@@ -1,0 +1,240 @@
+// A set of pixels.
+ghost use Rattle.std.specs.Prelude.{◌≡◌, ◌+◌, ◌<◌, ◌≤◌, ◌↔◌, IsTrue, IfOk, IfErr, OnOk, None, unwrap_or};
+ghost use Rattle.moc_ranges.specs.Faults.{first_fault};
+ghost use Rattle.std.specs.FinSet as set;
+ghost use Rattle.moc_ranges.specs.RangeList.{IsNormal, set_of};
+ghost use Rattle.moc_ranges.specs.Operations.{symmetric, complement, part_of, meets, IsWithin};
+ghost use Rattle.moc_ranges.specs.Pixels.{pixels};
+ghost use Rattle.moc_ranges.specs.Cells.{cells_of, degrade, span};
+ghost use Rattle.moc_ranges.specs.Bounds.{IsBounds};
+ghost use Rattle.moc_ranges.specs.Sweep.{IsCombined};
+
+use crate::errors::{Memory, RangesError};
+use crate::from_ranges::{check, joined, sorted, widened};
+use crate::ranges::Ranges;
+use crate::sweep::{Rule, count_both, keeps_some, sweep};
+use moc_sphere::{Cell, Order};
+use std::alloc::Global;
+use std::marker::Model;
+
+/// How many pixels there are: 12 * 4^29.
+pub const PIXEL_COUNT: u64 = 3458764513820540928;
+
+/// How many pixels a base pixel has: 4^29.
+const BASE_PIXEL_SIZE: u64 = 288230376151711744;
+
+/// A set of pixels, as the ends of its ranges in rising order: from, to, from, to ..
+#[derive(Debug, Drop)]
+pub struct Coverage {
+    bounds: Vec<u64>,
+}
+
+impl Model for Coverage {
+    ghost use Rattle.std.specs.Ordering.{nat_cmp};
+    ghost use Rattle.std.specs.FinSet as set;
+    ghost use Rattle.std.specs.Coded.{coded_ℕ};
+    ghost use Rattle.moc_ranges.specs.RangeList.{set_of};
+    ghost use Rattle.moc_ranges.specs.Bounds.{IsBounds, pairs_of};
+
+    ghost Value = { set.FinSet nat_cmp };
+
+    ghost coded = { set.code coded_ℕ };
+
+    ghost view = { λ c. set_of (pairs_of c.bounds.items) };
+
+    ghost invariant = { λ c. IsBounds c.bounds.items };
+}
+
+impl Coverage {
+    /// The empty set.
+    pub fn empty(alloc: Global) -> Self
+        ensures { result ≡ set.empty }
+    {
+        Self {
+            bounds: Vec::new(alloc),
+        }
+    }
+
+    /// Whether the set has this number.
+    pub fn contains(&self, pixel: u64) -> bool
+        ensures { result ≡ set.contains self.now pixel }
+    {
+        self.bounds.partition_point(|bound| *bound <= pixel) % 2 == 1
+    }
+
+    /// Whether the set has no pixel.
+    pub fn is_empty(&self) -> bool
+        ensures { IsTrue result ↔ (self.now ≡ set.empty) }
+    {
+        self.bounds.is_empty()
+    }
+
+    /// The ranges of the set, which no other normal list of ranges has.
+    pub fn ranges(&self) -> Ranges<'_>
+        ensures normal { IsNormal result }
+        ensures set { set_of result ≡ self.now }
+    {
+        Ranges::new(&self.bounds)
+    }
+
+    /// How many pixels the set has.
+    pub fn count(&self) -> u64
+        ensures size { result ≡ set.len self.now }
+        ensures bounded { result ≤ PIXEL_COUNT }
+    {
+        let mut total = 0;
+        for (from, to) in self.ranges() {
+            total += to - from;
+        }
+        total
+    }
+
+    /// The pixels in any of the pairs (from, to), `to` not included, in any order.
+    pub fn from_ranges(alloc: Global, pairs: &[(u64, u64)]) -> Result<Coverage, RangesError>
+        ensures union { IfOk result (λ c. c ≡ set_of pairs.now) }
+        ensures accepted { OnOk result (first_fault pairs.now ≡ None) }
+        ensures refused { IfErr result (λ e. e ≡ unwrap_or (first_fault pairs.now) RangesError.Memory) }
+    {
+        check(pairs)?;
+        let pairs = sorted(alloc, pairs)?;
+        let bounds = joined(alloc, &pairs)?;
+        Ok(Coverage { bounds })
+    }
+
+    /// The pixels of either set.
+    pub fn union(&self, alloc: Global, other: &Coverage) -> Result<Coverage, Memory>
+        ensures { IfOk result (λ c. c ≡ set.union self.now other.now) }
+    {
+        combined(alloc, Rule::UNION, &self.bounds, &other.bounds)
+    }
+
+    /// The pixels of both sets.
+    pub fn intersection(&self, alloc: Global, other: &Coverage) -> Result<Coverage, Memory>
+        ensures { IfOk result (λ c. c ≡ set.intersection self.now other.now) }
+    {
+        combined(alloc, Rule::INTERSECTION, &self.bounds, &other.bounds)
+    }
+
+    /// The pixels of this set that the other lacks.
+    pub fn difference(&self, alloc: Global, other: &Coverage) -> Result<Coverage, Memory>
+        ensures { IfOk result (λ c. c ≡ set.difference self.now other.now) }
+    {
+        combined(alloc, Rule::DIFFERENCE, &self.bounds, &other.bounds)
+    }
+
+    /// The pixels of just one of the two sets.
+    pub fn symmetric(&self, alloc: Global, other: &Coverage) -> Result<Coverage, Memory>
+        ensures { IfOk result (λ c. c ≡ symmetric self.now other.now) }
+    {
+        combined(alloc, Rule::SYMMETRIC, &self.bounds, &other.bounds)
+    }
+
+    /// The pixels that the set lacks.
+    pub fn complement(&self, alloc: Global) -> Result<Coverage, Memory>
+        ensures set { IfOk result (λ c. c ≡ complement self.now) }
+
+        // What lets a caller take a complement back.
+        ensures within { IsWithin self.now pixels }
+    {
+        combined(alloc, Rule::DIFFERENCE, &[0, PIXEL_COUNT], &self.bounds)
+    }
+
+    /// The pixels of one base pixel.
+    pub fn part(&self, alloc: Global, base_pixel: u8) -> Result<Coverage, Memory>
+        ensures { IfOk result (λ c. c ≡ part_of self.now base_pixel) }
+    {
+        let bounds = &self.bounds;
+        if base_pixel > 11 {
+            return Ok(Coverage::empty(alloc));
+        }
+        let from = u64::from(base_pixel) * BASE_PIXEL_SIZE;
+        combined(
+            alloc,
+            Rule::INTERSECTION,
+            bounds,
+            &[from, from + BASE_PIXEL_SIZE],
+        )
+    }
+
+    /// The set as cells of an order see it: all of each cell that it meets.
+    pub fn degrade(&self, alloc: Global, order: Order) -> Result<Coverage, Memory>
+        ensures { IfOk result (λ c. c ≡ degrade self.now order) }
+    {
+        let size = order.cell_size();
+        let wide = widened(alloc, size, self.ranges())?;
+        let bounds = joined(alloc, &wide)?;
+        Ok(Coverage { bounds })
+    }
+
+    /// How many pixels two sets have in common.
+    pub fn count_common(&self, other: &Coverage) -> u64
+        ensures { result ≡ set.len (set.intersection self.now other.now) }
+    {
+        count_both(&self.bounds, &other.bounds)
+    }
+
+    /// Whether two sets have a pixel in common.
+    pub fn meets(&self, other: &Coverage) -> bool
+        ensures { result ≡ meets self.now other.now }
+    {
+        keeps_some(Rule::INTERSECTION, &self.bounds, &other.bounds)
+    }
+
+    /// Whether every pixel of the other set is in this one.
+    pub fn covers(&self, other: &Coverage) -> bool
+        ensures { result ≡ set.is_subset other.now self.now }
+    {
+        !keeps_some(Rule::DIFFERENCE, &other.bounds, &self.bounds)
+    }
+
+    /// Whether two sets are one.
+    pub fn same(&self, other: &Coverage) -> bool
+        ensures { IsTrue result ↔ (self.now ≡ other.now) }
+    {
+        self.bounds == other.bounds
+    }
+
+    /// The set of all pixels.
+    pub fn full(alloc: Global) -> Result<Coverage, Memory>
+        ensures { IfOk result (λ c. c ≡ pixels) }
+    {
+        let bounds = [0, PIXEL_COUNT].to_vec(alloc)?;
+        Ok(Coverage { bounds })
+    }
+
+    /// The pixels of one cell.
+    pub fn from_cell(alloc: Global, cell: Cell) -> Result<Coverage, Memory>
+        ensures { IfOk result (λ c. c ≡ span cell.order cell.index) }
+    {
+        let (from, to) = cell.span();
+        let bounds = [from, to].to_vec(alloc)?;
+        Ok(Coverage { bounds })
+    }
+
+    /// The cells of the set, in rising NUNIQ: the fewest cells whose pixels the set has.
+    pub fn cells(&self, alloc: Global) -> Result<Vec<Cell>, Memory>
+        ensures { IfOk result (λ v. v.items ≡ cells_of self.now) }
+    {
+        let _ = self;
+        let _ = alloc;
+        Err(Memory)
+    }
+
+    /// A copy of the set.
+    pub fn try_copy(&self, alloc: Global) -> Result<Coverage, Memory>
+        ensures { IfOk result (λ c. c ≡ self.now) }
+    {
+        let bounds = self.bounds.to_vec(alloc)?;
+        Ok(Coverage { bounds })
+    }
+}
+
+/// What the rule keeps of two stored sets.
+fn combined(alloc: Global, rule: Rule, xs: &[u64], ys: &[u64]) -> Result<Coverage, Memory>
+    requires xs { IsBounds xs.now }
+    requires ys { IsBounds ys.now }
+    ensures { IfOk result (λ c. IsCombined rule xs.now ys.now c) }
+{
+    let bounds = sweep(alloc, rule, xs, ys)?;
+    Ok(Coverage { bounds })
+}

@@ -1,0 +1,86 @@
+// From pairs in any order to the bounds of their union.
+ghost use Rattle.std.specs.Prelude.{◌≡◌, ℕ, ◌*◌, ◌<◌, ◌≤◌, map, IfOk, IfErr, OnOk, None, Some};
+ghost use Rattle.moc_ranges.specs.Faults.{first_fault};
+ghost use Rattle.moc_ranges.specs.Sorted.{IsSortedFrom};
+ghost use Rattle.moc_ranges.specs.RangeList.{in_ranges, IsNormal};
+ghost use Rattle.moc_ranges.specs.Pixels.{pixel_count};
+ghost use Rattle.moc_ranges.specs.Widen.{widen};
+ghost use Rattle.moc_ranges.specs.Bounds.{IsBounds, inside};
+
+use crate::coverage::PIXEL_COUNT;
+use crate::errors::RangesError;
+use crate::ranges::Ranges;
+use std::alloc::{AllocError, Global};
+
+/// Refuses the first faulty pair.
+pub fn check(pairs: &[(u64, u64)]) -> Result<(), RangesError>
+    ensures ok { OnOk result (first_fault pairs.now ≡ None) }
+    ensures err { IfErr result (λ e. first_fault pairs.now ≡ Some e) }
+{
+    for (at, pair) in pairs.iter().enumerate() {
+        if pair.1 < pair.0 {
+            return Err(RangesError::Backwards { at });
+        }
+        if PIXEL_COUNT < pair.1 {
+            return Err(RangesError::PixelTooLarge { at });
+        }
+    }
+    Ok(())
+}
+
+/// The pairs that are not empty, by their starts.
+pub fn sorted(alloc: Global, pairs: &[(u64, u64)]) -> Result<Vec<(u64, u64)>, AllocError>
+    requires { first_fault pairs.now ≡ None }
+    ensures order { IfOk result (λ v. IsSortedFrom 0 v.items) }
+    ensures set { IfOk result (λ v. (q : ℕ) → in_ranges v.items q ≡ in_ranges pairs.now q) }
+{
+    let mut filled = Vec::new(alloc);
+    for pair in pairs {
+        if pair.0 < pair.1 {
+            filled.push(*pair)?;
+        }
+    }
+    filled.sort_unstable_by_key(|pair| pair.0);
+    Ok(filled)
+}
+
+/// The bounds of what lies in any of the pairs.
+pub fn joined(alloc: Global, pairs: &[(u64, u64)]) -> Result<Vec<u64>, AllocError>
+    requires { IsSortedFrom 0 pairs.now }
+    ensures bounds { IfOk result (λ v. IsBounds v.items) }
+    ensures set { IfOk result (λ v. (q : ℕ) → inside v.items q ≡ in_ranges pairs.now q) }
+{
+    let mut bounds = Vec::new(alloc);
+    let Some((first, others)) = pairs.split_first() else {
+        return Ok(bounds);
+    };
+    let mut from = first.0;
+    let mut to = first.1;
+    for pair in others {
+        if pair.0 <= to {
+            to = to.max(pair.1);
+        } else {
+            bounds.push(from)?;
+            bounds.push(to)?;
+            from = pair.0;
+            to = pair.1;
+        }
+    }
+    bounds.push(from)?;
+    bounds.push(to)?;
+    Ok(bounds)
+}
+
+/// Each range, from the start of the first cell that it meets to the end of the last.
+pub fn widened(alloc: Global, size: u64, ranges: Ranges<'_>) -> Result<Vec<(u64, u64)>, AllocError>
+    requires size { 0 < size }
+    requires whole { (cells : ℕ) × (cells * size ≡ pixel_count) }
+    requires normal { IsNormal ranges }
+    ensures { IfOk result (λ v. v.items ≡ map (widen size) ranges.entry) }
+{
+    let mut wide = Vec::new(alloc);
+    for (from, to) in ranges {
+        wide.push((from / size * size, (to - 1) / size * size + size))?;
+    }
+    Ok(wide)
+}

@@ -1,0 +1,217 @@
+-- Reading the ASCII form of a coverage (MOC 2.0, section 4.3.2): what a text says, or its first fault.
+use Rattle.std.specs.Prelude.{◌≡◌, ℕ, ◌+◌, ◌*◌, ◌<◌, ◌≤◌, Bool, true, false, not, ◌||◌, ◌==◌, nat_lt, if◌then◌else◌, List, [], ◌∷◌, ◌++◌, length, Option, Some, None, unwrap_or, ◌⊎◌, max}
+use Rattle.std.specs.List.{take_while}
+use Rattle.std.specs.Str.{all_ascii_digits}
+use Rattle.std.specs.Str.Parse.{digits_value}
+use Rattle.moc_sphere.specs.CellNumber.{cell_count, cell_size}
+use Rattle.moc_ranges.specs.Numbers.{NumberSet}
+use Rattle.moc_ranges.specs.RangeList.{set_of}
+use Rattle.moc_text.specs.declared.number.Number.{Number}
+use Rattle.moc_text.specs.declared.number.Item.{Item}
+use Rattle.moc_text.specs.declared.number.Parts.{Parts}
+use Rattle.moc_text.specs.declared.error.TextError.{TextError}
+use Rattle.moc_text.specs.declared.error.TextError.TheVariants.{BadByte, NoOrder, OrderTooLarge, CellTooLarge, Backwards, Unfinished}
+
+-- ---- words
+
+-- space, comma, tab, CR and LF
+abbrev pub is_separator : ℕ → Bool
+is_separator b = b == 32 || b == 44 || b == 9 || b == 13 || b == 10
+
+abbrev pub is_word_byte : ℕ → Bool
+is_word_byte b = not (is_separator b)
+
+-- a longest run of bytes that are no separators, and the place of its first byte
+pub record Word : Type 0 where
+  pub at : ℕ
+  pub bytes : List ℕ
+
+-- The words of the bytes from a place on: one begins at each byte that is no separator and has none that is no separator before it.
+abbrev pub words_from : Bool → ℕ → List ℕ → List Word
+words_from in_word at [] = []
+words_from in_word at (b ∷ bs) =
+    if is_separator b then words_from false (at + 1) bs
+    else (if in_word then words_from true (at + 1) bs
+    else record { at = at; bytes = take_while is_word_byte (b ∷ bs) } ∷ words_from true (at + 1) bs)
+
+abbrev pub words : List ℕ → List Word
+words text = words_from false 0 text
+
+-- ---- the three shapes
+
+-- one digit or more
+abbrev pub IsNumber : List ℕ → Type 0
+IsNumber digits = (0 < length digits) × (all_ascii_digits digits ≡ true)
+
+-- an optional `s`, a number, `/`
+pub record Mark : Type 0 where
+  pub prefixed : Bool
+  pub order : List ℕ
+
+abbrev pub prefix : Bool → List ℕ
+prefix prefixed = if prefixed then 115 ∷ [] else []
+
+abbrev pub mark_text : Mark → List ℕ
+mark_text m = prefix m.prefixed ++ m.order ++ 47 ∷ []
+
+-- a number; or a number, `-`, a number
+pub data Cells : Type 0 where
+  One : List ℕ → Cells
+  Run : List ℕ → List ℕ → Cells
+
+abbrev pub cells_text : Cells → List ℕ
+cells_text (One a) = a
+cells_text (Run a b) = a ++ 45 ∷ b
+
+abbrev pub AreCells : Cells → Type 0
+AreCells (One a) = IsNumber a
+AreCells (Run a b) = IsNumber a × IsNumber b
+
+-- a mark, an item, or a mark directly followed by an item
+pub data Shape : Type 0 where
+  JustMark : Mark → Shape
+  JustItem : Cells → Shape
+  MarkItem : Mark → Cells → Shape
+
+abbrev pub shape_text : Shape → List ℕ
+shape_text (JustMark m) = mark_text m
+shape_text (JustItem c) = cells_text c
+shape_text (MarkItem m c) = mark_text m ++ cells_text c
+
+abbrev pub IsShape : Shape → Type 0
+IsShape (JustMark m) = IsNumber m.order
+IsShape (JustItem c) = AreCells c
+IsShape (MarkItem m c) = IsNumber m.order × AreCells c
+
+abbrev pub IsLawful : List ℕ → Type 0
+IsLawful bytes = (shape : Shape) × IsShape shape × (bytes ≡ shape_text shape)
+
+-- ---- the fault of a word that has no shape
+
+-- a beginning of some lawful word
+abbrev pub IsBeginning : List ℕ → Type 0
+IsBeginning p = (more : List ℕ) × IsLawful (p ++ more)
+
+-- The longest beginning of the bytes that is also one of some lawful word is p, and rest comes after it.
+pub record IsLongestBeginning (p rest bytes : List ℕ) : Type 0 where
+  pub parts : bytes ≡ p ++ rest
+  pub begins : IsBeginning p
+  pub longest : (q more : List ℕ) → bytes ≡ q ++ more → IsBeginning q → length q ≤ length p
+
+abbrev pub ShapeFaultAt : ℕ → List ℕ → List ℕ → TextError → Type 0
+ShapeFaultAt at p [] f = (IsLawful p → ⊥) × (f ≡ Unfinished (at + length p))
+ShapeFaultAt at p (b ∷ rest) f = f ≡ BadByte (at + length p)
+
+abbrev pub HasShapeFault : Word → TextError → Type 0
+HasShapeFault w f = (p rest : List ℕ) × IsLongestBeginning p rest w.bytes × ShapeFaultAt w.at p rest f
+
+-- ---- what a lawful word means
+
+-- a number of a word, with the place of its first digit
+abbrev pub number_at : ℕ → List ℕ → Number
+number_at at digits = record { at = at; value = digits_value 10 digits }
+
+abbrev pub mark_at : ℕ → Mark → Number
+mark_at at m = number_at (at + length (prefix m.prefixed)) m.order
+
+abbrev pub item_at : ℕ → Cells → Item
+item_at at (One a) = record { first = number_at at a; last = None }
+item_at at (Run a b) = record { first = number_at at a; last = Some (number_at (at + length a + 1) b) }
+
+-- the numbers of a word of this shape that begins at a place
+abbrev pub parts_at : ℕ → Shape → Parts
+parts_at at (JustMark m) = record { mark = Some (mark_at at m); item = None }
+parts_at at (JustItem c) = record { mark = None; item = Some (item_at at c) }
+parts_at at (MarkItem m c) = record { mark = Some (mark_at at m); item = Some (item_at (at + length (mark_text m)) c) }
+
+-- the word is lawful, and these are its numbers
+abbrev pub Means : Word → Parts → Type 0
+Means w n = (shape : Shape) × IsShape shape × (w.bytes ≡ shape_text shape) × (n ≡ parts_at w.at shape)
+
+-- the order in force at a mark or none, where `before` was in force before it
+abbrev pub order_at : Option ℕ → Option Number → Option ℕ
+order_at before None = before
+order_at before (Some n) = Some n.value
+
+-- the last cell of an item
+abbrev pub last_of : Item → Number
+last_of i = unwrap_or i.last i.first
+
+-- ---- faults of a lawful word
+
+abbrev pub mark_fault : Option Number → Option TextError
+mark_fault None = None
+mark_fault (Some n) = if nat_lt 29 n.value then Some (OrderTooLarge n.at) else None
+
+-- of an item in a word that begins at `at`, where an order is in force or none
+abbrev pub item_fault : Option ℕ → ℕ → Option Item → Option TextError
+item_fault k at None = None
+item_fault None at (Some i) = Some (NoOrder at)
+item_fault (Some k) at (Some i) =
+    if not (nat_lt i.first.value (cell_count k)) then Some (CellTooLarge i.first.at)
+    else (if not (nat_lt (last_of i).value (cell_count k)) then Some (CellTooLarge (last_of i).at)
+    else (if nat_lt (last_of i).value i.first.value then Some (Backwards i.first.at) else None))
+
+abbrev pub or_else : Option TextError → Option TextError → Option TextError
+or_else (Some f) g = Some f
+or_else None g = g
+
+-- the first fault of a lawful word's numbers, if there is one
+abbrev pub fault_of : Option ℕ → ℕ → Parts → Option TextError
+fault_of before at n = or_else (mark_fault n.mark) (item_fault (order_at before n.mark) at n.item)
+
+abbrev pub IsFault : Option ℕ → Word → TextError → Type 0
+IsFault before w f = HasShapeFault w f ⊎ ((n : Parts) × Means w n × (fault_of before w.at n ≡ Some f))
+
+-- ---- the text
+
+-- No word is faulty, and these are the numbers of each.
+abbrev pub AreRead : Option ℕ → List Word → List Parts → Type 0
+AreRead before [] [] = Unit {0}
+AreRead before (w ∷ ws) (n ∷ ns) = Means w n × (fault_of before w.at n ≡ None) × AreRead (order_at before n.mark) ws ns
+AreRead before [] (n ∷ ns) = ⊥
+AreRead before (w ∷ ws) [] = ⊥
+
+-- the order in force after words with these numbers
+abbrev pub order_after : Option ℕ → List Parts → Option ℕ
+order_after before [] = before
+order_after before (n ∷ ns) = order_after (order_at before n.mark) ns
+
+-- the first pixel of an item's cells, and the one after the last
+abbrev pub span_of : ℕ → Item → ℕ × ℕ
+span_of k i = (i.first.value * cell_size k, ((last_of i).value + 1) * cell_size k)
+
+abbrev pub item_spans : Option ℕ → Option Item → List (ℕ × ℕ)
+item_spans (Some k) (Some i) = span_of k i ∷ []
+item_spans None i = []
+item_spans (Some k) None = []
+
+-- the spans of all items, in their order
+abbrev pub spans_of : Option ℕ → List Parts → List (ℕ × ℕ)
+spans_of before [] = []
+spans_of before (n ∷ ns) = item_spans (order_at before n.mark) n.item ++ spans_of (order_at before n.mark) ns
+
+-- the greater of two orders that may be none
+abbrev pub deeper : Option ℕ → Option ℕ → Option ℕ
+deeper None k = k
+deeper (Some j) None = Some j
+deeper (Some j) (Some k) = Some (max j k)
+
+-- the greatest order of a mark
+abbrev pub deepest_of : List Parts → Option ℕ
+deepest_of [] = None
+deepest_of (n ∷ ns) = deeper (order_at None n.mark) (deepest_of ns)
+
+-- The text says this set and this deepest order.
+abbrev pub Says : List ℕ → NumberSet → Option ℕ → Type 0
+Says text set deepest = (ns : List Parts) × AreRead None (words text) ns × (set ≡ set_of (spans_of None ns)) × (deepest ≡ deepest_of ns)
+
+-- The text's first faulty word has this fault.
+pub record IsFirstFault (text : List ℕ) (f : TextError) : Type 0 where
+  pub good : List Word
+  pub numbers : List Parts
+  pub bad : Word
+  pub others : List Word
+  pub parts : words text ≡ good ++ bad ∷ others
+  pub before : AreRead None good numbers
+  pub fault : IsFault (order_after None numbers) bad f
