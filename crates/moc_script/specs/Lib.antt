@@ -1,0 +1,9 @@
+pub mod Devices
+pub mod Lines
+pub mod Held
+pub mod LineReading
+pub mod Answers
+pub mod Runs
+pub mod Faults
+pub mod Batches
+pub mod Readings
