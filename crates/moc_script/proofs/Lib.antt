@@ -1,3 +1,6 @@
+pub mod SetLemmas
+pub mod CoverLemmas
+pub mod NumberLemmas
 pub mod LineLemmas
 pub mod Turns
 pub mod Sending

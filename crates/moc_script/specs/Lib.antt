@@ -1,9 +1,14 @@
+pub mod Words
+pub mod Faults
+pub mod Readings
+pub mod Language
+pub mod ReadErrors
+pub mod Replies
 pub mod Devices
 pub mod Lines
 pub mod Held
 pub mod LineReading
 pub mod Answers
-pub mod Runs
-pub mod Faults
 pub mod Batches
-pub mod Readings
+pub mod Runs
+pub mod Scripts

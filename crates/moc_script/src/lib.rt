@@ -2,11 +2,15 @@
 #![tactic(auto)]
 
 mod bytes;
+mod command;
 mod devices;
 mod fault;
 mod line_reader;
 mod machine;
+mod map;
+mod reply;
 mod run;
+mod words;
 
 pub use devices::{DeviceFault, OverReader, OverWriter, Sink, Source};
 pub use line_reader::LINE_LIMIT;

@@ -1,30 +1,16 @@
 //! A machine that commands are done on, and a batch of commands to a line.
 ghost use Rattle.std.specs.Prelude.{◌≡◌, ◌++◌, ◌∷◌, [], ℕ, List, Result, OnOk, codes};
 ghost use Rattle.std.specs.List.{count_by};
-ghost use Rattle.moc_script.specs.Batches.{is_blank, is_semicolon, pieces_of, piece_says, batch_of, commands_of, replies_to, after_commands, line_answer, after_line, LinesOfOneCommand};
+ghost use Rattle.moc_script.specs.Batches.{is_semicolon, pieces_of, piece_says, batch_of, commands_of, replies_to, after_commands, line_answer, after_line};
 ghost use Rattle.moc_script.specs.Faults.{name_of};
 ghost use Rattle.moc_script.specs.Readings.{Reads};
 ghost use Rattle.moc_script.specs.declared.fault.Fault.{Fault};
-ghost use Rattle.moc_script.specs.declared.machine.ReadError.TheVariants.{Memory};
 
 use crate::bytes::first_or_len;
-use crate::fault::Fault;
-use std::alloc::{AllocError, Global};
-
-/// Why a text is not read.
-#[derive(Clone, Copy, Debug, PartialEq, Eq)]
-pub enum ReadError {
-    Fault(Fault),
-    Memory,
-}
-
-impl From<AllocError> for ReadError {
-    ghost from_gives = { λ _ e. e ≡ Memory };
-
-    fn from(_error: AllocError) -> ReadError {
-        ReadError::Memory
-    }
-}
+use crate::fault::{Fault, ReadError};
+use crate::words::is_blank_text;
+use moc_ranges::Memory;
+use std::alloc::Global;
 
 /// The most commands of a line.
 const MOST: usize = 16;
@@ -42,22 +28,18 @@ pub trait Machine {
     /// What a command leaves.
     ghost after: { Self → Self.Command → Self };
 
-    fn read_piece(piece: &[u8]) -> Result<Self::Command, ReadError>
+    fn read_piece(alloc: Global, piece: &[u8]) -> Result<Self::Command, ReadError>
         ensures { Reads (λ x. x) result (says piece.now) };
 
     /// Does a command, and adds the reply to the text.
-    fn answer(&mut self, command: &Self::Command, text: &mut Vec<u8>) -> Result<(), AllocError>
+    fn answer(
+        &mut self,
+        alloc: Global,
+        command: &Self::Command,
+        text: &mut Vec<u8>,
+    ) -> Result<(), Memory>
         ensures text { OnOk result (text.new.items ≡ text.old.items ++ reply self.old command.now) }
         ensures after { OnOk result (self.new ≡ after self.old command.now) };
-}
-
-/// Nothing, or blanks alone.
-fn is_blank_text(bytes: &[u8]) -> bool
-    ensures { result ≡ is_blank bytes.now }
-{
-    bytes
-        .iter()
-        .all(|b| *b == b' ' || *b == b'\t' || *b == b'\r')
 }
 
 /// How many semicolons stand in a line.
@@ -68,13 +50,13 @@ fn semicolons_in(line: &[u8]) -> usize
 }
 
 /// What a piece of a line says.
-fn read_one<M: Machine>(piece: &[u8]) -> Result<M::Command, ReadError>
+fn read_one<M: Machine>(alloc: Global, piece: &[u8]) -> Result<M::Command, ReadError>
     ensures { Reads (λ x. x) result (piece_says M.says piece.now) }
 {
     if is_blank_text(piece) {
         return Err(ReadError::Fault(Fault::EmptyCommand));
     }
-    M::read_piece(piece)
+    M::read_piece(alloc, piece)
 }
 
 /// What the pieces of a line say.
@@ -86,7 +68,7 @@ fn read_pieces<M: Machine>(alloc: Global, line: &[u8]) -> Result<Vec<M::Command>
     loop {
         let at = first_or_len(b';', rest);
         let (piece, behind) = rest.split_at(at);
-        match read_one::<M>(piece) {
+        match read_one::<M>(alloc, piece) {
             Ok(command) => {
                 if commands.push(command).is_err() {
                     return Err(ReadError::Memory);
@@ -114,30 +96,31 @@ fn read_batch<M: Machine>(alloc: Global, line: &[u8]) -> Result<Vec<M::Command>,
 /// Does commands in order, and adds the replies, parted.
 fn do_batch<M: Machine>(
     machine: &mut M,
+    alloc: Global,
     commands: &[M::Command],
     text: &mut Vec<u8>,
-) -> Result<(), AllocError>
+) -> Result<(), Memory>
     ensures text { OnOk result (text.new.items ≡ text.old.items ++ replies_to M.reply M.after machine.old commands.now) }
     ensures after { OnOk result (machine.new ≡ after_commands M.reply M.after machine.old commands.now) }
 {
     let Some((first, later)) = commands.split_first() else {
         return Ok(());
     };
-    machine.answer(first, text)?;
+    machine.answer(alloc, first, text)?;
     for command in later {
         text.extend_from_slice(b" ; ")?;
-        machine.answer(command, text)?;
+        machine.answer(alloc, command, text)?;
     }
     Ok(())
 }
 
 /// Answers a fault.
-fn push_fault(fault: Fault, text: &mut Vec<u8>) -> Result<(), AllocError>
+fn push_fault(fault: Fault, text: &mut Vec<u8>) -> Result<(), Memory>
     ensures { OnOk result (text.new.items ≡ text.old.items ++ (codes "fault " ++ name_of fault ++ 10 ∷ [])) }
 {
     text.extend_from_slice(b"fault ")?;
     text.extend_from_slice(fault.name().as_bytes())?;
-    text.push(b'\n')?;
+    text.extend_from_slice(b"\n")?;
     Ok(())
 }
 
@@ -147,7 +130,7 @@ pub fn answer_line<M: Machine>(
     alloc: Global,
     line: &[u8],
     text: &mut Vec<u8>,
-) -> Result<(), AllocError>
+) -> Result<(), Memory>
     ensures text { OnOk result (text.new.items ≡ text.old.items ++ line_answer M.reply M.after M.says machine.old line.now) }
     ensures after { OnOk result (machine.new ≡ after_line M.reply M.after M.says machine.old line.now) }
 {
@@ -156,16 +139,11 @@ pub fn answer_line<M: Machine>(
     }
     match read_batch::<M>(alloc, line) {
         Ok(commands) => {
-            do_batch(machine, &commands, text)?;
-            text.push(b'\n')?;
+            do_batch(machine, alloc, &commands, text)?;
+            text.extend_from_slice(b"\n")?;
             Ok(())
         }
         Err(ReadError::Fault(fault)) => push_fault(fault, text),
-        Err(ReadError::Memory) => Err(AllocError),
+        Err(ReadError::Memory) => Err(Memory),
     }
 }
-
-/// Scripts without a semicolon mean one command a line.
-pub fn lines_of_one_command<M: Machine>()
-    ensures { LinesOfOneCommand M.reply M.after M.says }
-{}

@@ -7,7 +7,8 @@ ghost use Rattle.moc_script.specs.Runs.{Runs, Ended, Sends};
 use crate::devices::{DeviceFault, Sink, Source};
 use crate::line_reader::{Found, LINE_LIMIT, LineFault, LineReader};
 use crate::machine::{Machine, answer_line};
-use std::alloc::{AllocError, Global};
+use moc_ranges::Memory;
+use std::alloc::Global;
 
 /// Why a run ended before its input's end.
 #[derive(Clone, Copy, Debug, PartialEq, Eq)]
@@ -125,14 +126,15 @@ fn answer_whole<M: Machine>(
     line: &[u8],
     answer: &mut Vec<u8>,
     pending: &mut Vec<u8>,
-) -> Result<(), AllocError>
+) -> Result<(), Memory>
     ensures text { OnOk result (pending.new.items ≡ pending.old.items ++ line_answer M.reply M.after M.says machine.old line.now) }
     ensures after { OnOk result (machine.new ≡ after_line M.reply M.after M.says machine.old line.now) }
     ensures err { OnErr result (pending.new.items ≡ pending.old.items) }
 {
     answer.clear();
     answer_line(machine, alloc, line, answer)?;
-    pending.extend_from_slice(answer)
+    pending.extend_from_slice(answer)?;
+    Ok(())
 }
 
 /// Writes what is pending, if that is due.
