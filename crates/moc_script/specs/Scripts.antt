@@ -7,7 +7,7 @@ use Rattle.moc_script.specs.Replies.{text_on, set_after}
 use Rattle.moc_script.specs.Batches.{line_answer, after_line}
 use Rattle.moc_script.specs.Answers.{script_text}
 use Rattle.moc_script.specs.Runs.{Runs}
-use Rattle.moc_script.specs.declared.run.RunError.{RunError}
+use Rattle.moc_script.specs.declared.script.RunError.{RunError}
 
 -- the most bytes of a line
 abbrev pub line_limit : ℕ

@@ -9,9 +9,9 @@ mod line_reader;
 mod machine;
 mod map;
 mod reply;
-mod run;
+mod script;
 mod words;
 
 pub use devices::{DeviceFault, OverReader, OverWriter, Sink, Source};
 pub use line_reader::LINE_LIMIT;
-pub use run::RunError;
+pub use script::{RunError, run};

@@ -3,31 +3,81 @@ ghost use Rattle.std.specs.Prelude.{◌≡◌, ◌++◌, ◌||◌, [], ℕ, List
 ghost use Rattle.std.specs.Io.KnownBytes.{Appends, Keeps, IsAtEnd};
 ghost use Rattle.moc_script.specs.Batches.{line_answer, after_line};
 ghost use Rattle.moc_script.specs.Runs.{Runs, Ended, Sends};
+ghost use Rattle.moc_script.specs.Scripts.{RunsScript};
 
 use crate::devices::{DeviceFault, Sink, Source};
 use crate::line_reader::{Found, LINE_LIMIT, LineFault, LineReader};
 use crate::machine::{Machine, answer_line};
+use crate::map::Map;
 use moc_ranges::Memory;
 use std::alloc::Global;
+use thiserror::Error;
 
 /// Why a run ended before its input's end.
-#[derive(Clone, Copy, Debug, PartialEq, Eq)]
+#[derive(Clone, Copy, Debug, PartialEq, Eq, Error)]
 pub enum RunError {
     /// The reader failed.
+    #[error("the input could not be read")]
     Read,
-    /// The writer failed.
+    /// The writer failed, or took none of some bytes.
+    #[error("the output could not be written")]
     Write,
-    /// A line is over the limit.
+    /// A line is over the limit. Lines are counted from 1.
+    #[error("line {line} is too long")]
     LineTooLong { line: u64 },
     /// A growth was refused while this line was read or answered, or before the first line, at 0.
+    #[error("out of memory at line {line}")]
     Memory { line: u64 },
 }
 
 /// How many bytes of answers are kept before they are written.
 const FULL: usize = 65_536;
 
+/// Answers a script: one client asks and changes one set of pixels of order 29, which starts empty.
+///
+/// A line ends at a line feed, and bytes behind the last one are a last line. A line of blanks (space, tab, CR) alone has
+/// no answer; every other line has one, in order, ended by a line feed. A line is 1 to 16 commands parted by `;`, done in
+/// order, and its answer is theirs, parted by ` ; `. A command is a word and an operand: a coverage in the ASCII form of
+/// MOC 2.0 (the empty text is the empty set), behind `@` and an order where it is to be degraded first.
+///
+/// | Command | Answer |
+/// |---|---|
+/// | `add S` | `changed N`: S is added, N of its pixels are new |
+/// | `count S` | `total N`: the set has N of the pixels of S |
+/// | `read S` | `cover T`: T is the ASCII form of what S and the set share; `cover` alone for nothing |
+///
+/// A bad line changes nothing, and is answered `fault NAME`, by the first bad command from the left. Answers are written
+/// before each read that may wait.
+///
+/// Where the call ends with a fault, what is written is exactly the answers to the lines before the one that `LineTooLong`
+/// or `Memory` names, or to the whole lines that were read before `Read`; on `Write` it is as much of the answers as the
+/// writer took. After the whole text the writer is flushed, once. Each line is read and answered in one pass; an `add`
+/// takes time and memory linear in the ranges of both sets.
+pub fn run<R: Source, W: Sink>(
+    alloc: Global,
+    reader: &mut R,
+    writer: &mut W,
+) -> Result<(), RunError>
+    requires reader { R.mark reader.old ≡ false }
+    requires writer { W.mark writer.old ≡ false }
+
+    // What is written is the defined answers to what was read, as far as the outcome says.
+    ensures runs { IfSome (R.left reader.old) (λ input.
+        RunsScript input (R.left reader.new) (W.written writer.old) (W.written writer.new) result) }
+
+    // Only the reader's end ends a run without a fault, and then all is flushed.
+    ensures end { OnOk result (IsAtEnd (R.left reader.new)) }
+    ensures flushed { OnOk result (IsTrue (W.flushed writer.new)) }
+
+    // The devices' faults are theirs.
+    ensures read { IsErrOf result RunError.Read → IsTrue (R.mark reader.new) }
+    ensures write { IsErrOf result RunError.Write ↔ IsTrue (W.mark writer.new) }
+{
+    run_on(alloc, &mut Map::new(alloc), reader, writer)
+}
+
 /// Answers each line that is read, and writes the answers.
-pub fn run_on<M: Machine, R: Source, W: Sink>(
+pub(crate) fn run_on<M: Machine, R: Source, W: Sink>(
     alloc: Global,
     machine: &mut M,
     reader: &mut R,
@@ -39,6 +89,7 @@ pub fn run_on<M: Machine, R: Source, W: Sink>(
         Runs LINE_LIMIT (line_answer M.reply M.after M.says) (after_line M.reply M.after M.says) machine.old input
         (R.left reader.new) (W.written writer.old) (W.written writer.new) result) }
     ensures end { OnOk result (IsAtEnd (R.left reader.new)) }
+    ensures flushed { OnOk result (IsTrue (W.flushed writer.new)) }
     ensures read { IsErrOf result RunError.Read → IsTrue (R.mark reader.new) }
     ensures write { IsErrOf result RunError.Write ↔ IsTrue (W.mark writer.new) }
 {
@@ -70,6 +121,7 @@ fn is_write(outcome: &Result<(), RunError>) -> bool
 fn flush_if<W: Sink>(is_due: bool, writer: &mut W) -> Result<(), DeviceFault>
     ensures bytes { Keeps (W.written writer.old) (W.written writer.new) }
     ensures marks { W.mark writer.old ≡ false → W.mark writer.new ≡ is_err result }
+    ensures flushed { OnOk result (IsTrue is_due → IsTrue (W.flushed writer.new)) }
 {
     if is_due { writer.flush() } else { Ok(()) }
 }
