@@ -78,4 +78,3 @@ abbrev pub WrittenIsRead : Type 0
 WrittenIsRead =
     (a : NumberSet) (stated : Option ℕ) → IsWithin a pixels → ForSome stated (λ k. k ≤ 29) → (IsTooCoarse a stated → ⊥)
     → Says (ascii_text a stated) a (deepest_written a stated)
-

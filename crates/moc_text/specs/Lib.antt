@@ -1,4 +1,5 @@
 pub mod Ascii
 pub mod Scan
+pub mod Progress
 pub mod Reading
 pub mod AsciiText

@@ -4,8 +4,9 @@
 mod error;
 mod number;
 mod reading;
+mod scan;
 mod writing;
 
 pub use error::TextError;
-pub use reading::read_ascii;
+pub use reading::{read_ascii, readings_are_told};
 pub use writing::write_ascii;

@@ -17,7 +17,11 @@ struct Run {
 }
 
 /// Writes the ASCII form (MOC 2.0) of the set, with a stated order or none.
-pub fn write_ascii(alloc: Global, set: &Coverage, stated: Option<Order>) -> Result<String, TextError>
+pub fn write_ascii(
+    alloc: Global,
+    set: &Coverage,
+    stated: Option<Order>,
+) -> Result<String, TextError>
     ensures text { IfOk result (λ t. string_bytes t ≡ ascii_text set.now stated) }
     ensures fits { OnOk result (¬ IsTooCoarse set.now stated) }
     ensures fault { IfErr result (λ e. (e ≡ TextError.Memory) ⊎ ((e ≡ TextError.TooCoarse) × IsTooCoarse set.now stated)) }
