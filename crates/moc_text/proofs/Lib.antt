@@ -7,3 +7,5 @@ pub mod Scanning
 pub mod ReadWords
 pub mod OneReading
 pub mod Told
+pub mod Join
+pub mod Written

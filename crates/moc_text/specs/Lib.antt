@@ -3,3 +3,4 @@ pub mod Scan
 pub mod Progress
 pub mod Reading
 pub mod AsciiText
+pub mod Writing

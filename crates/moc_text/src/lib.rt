@@ -9,4 +9,4 @@ mod writing;
 
 pub use error::TextError;
 pub use reading::{read_ascii, readings_are_told};
-pub use writing::write_ascii;
+pub use writing::{write_ascii, written_is_read};
