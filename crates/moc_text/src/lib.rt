@@ -10,3 +10,6 @@ mod writing;
 pub use error::TextError;
 pub use reading::{read_ascii, readings_are_told};
 pub use writing::{write_ascii, written_is_read};
+
+#[cfg(test)]
+mod tests;
