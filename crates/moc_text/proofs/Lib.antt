@@ -1,0 +1,11 @@
+pub mod Automaton
+pub mod Cuts
+pub mod Stuck
+pub mod Powers
+pub mod Held
+pub mod Scanning
+pub mod ReadWords
+pub mod OneReading
+pub mod Told
+pub mod Join
+pub mod Written

@@ -58,10 +58,14 @@ text_of_cells cells stated = join_with_byte 32 (words_of stated None (runs_of ce
 unfoldable pub ascii_text : NumberSet → Option ℕ → List ℕ
 ascii_text a stated = text_of_cells (cells_of a) stated
 
+-- some of the cells is of a deeper order than the stated one
+abbrev pub HasDeeper : List CellNumber → Option ℕ → Type 0
+HasDeeper cells None = ⊥
+HasDeeper cells (Some k) = Any (λ c. k < c.order) cells
+
 -- some cell of the set is of a deeper order than the stated one
 abbrev pub IsTooCoarse : NumberSet → Option ℕ → Type 0
-IsTooCoarse a None = ⊥
-IsTooCoarse a (Some k) = Any (λ c. k < c.order) (cells_of a)
+IsTooCoarse a stated = HasDeeper (cells_of a) stated
 
 -- the greatest order of a cell
 abbrev pub deepest_cell : List CellNumber → Option ℕ
@@ -78,4 +82,3 @@ abbrev pub WrittenIsRead : Type 0
 WrittenIsRead =
     (a : NumberSet) (stated : Option ℕ) → IsWithin a pixels → ForSome stated (λ k. k ≤ 29) → (IsTooCoarse a stated → ⊥)
     → Says (ascii_text a stated) a (deepest_written a stated)
-

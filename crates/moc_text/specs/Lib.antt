@@ -1,4 +1,6 @@
 pub mod Ascii
 pub mod Scan
+pub mod Progress
 pub mod Reading
 pub mod AsciiText
+pub mod Writing

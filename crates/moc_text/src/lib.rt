@@ -4,8 +4,12 @@
 mod error;
 mod number;
 mod reading;
+mod scan;
 mod writing;
 
 pub use error::TextError;
-pub use reading::read_ascii;
-pub use writing::write_ascii;
+pub use reading::{read_ascii, readings_are_told};
+pub use writing::{write_ascii, written_is_read};
+
+#[cfg(test)]
+mod tests;

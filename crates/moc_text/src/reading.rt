@@ -1,12 +1,137 @@
 //! Reading the ASCII form.
-ghost use Rattle.std.specs.Prelude.{◌≡◌, ℕ, IfOk, IfErr, Option, ◌⊎◌};
-ghost use Rattle.moc_text.specs.Ascii.{Says, IsFirstFault};
-ghost use Rattle.moc_text.specs.Reading.{IsReadingOf};
+ghost use Rattle.std.specs.Prelude.{◌≡◌, ℕ, ◌∷◌, [], ◌++◌, IfOk, IfErr, IsOkUnless, MatchResult, None, Option, Some, SomeIff, ◌≤◌, ◌⊎◌};
+ghost use Rattle.moc_ranges.specs.Faults.{first_fault};
+ghost use Rattle.moc_ranges.specs.RangeList.{set_of};
+ghost use Rattle.moc_text.specs.Ascii.{mark_fault, item_fault, item_spans, order_at, deeper, Says, IsFirstFault};
+ghost use Rattle.moc_text.specs.Progress.{Progress, Fails};
+ghost use Rattle.moc_text.specs.Reading.{IsReadingOf, ReadingsAreTold};
 
 use crate::error::TextError;
+use crate::number::{Item, Number};
+use crate::scan::{is_separator, place, word};
 use moc_ranges::Coverage;
 use moc_sphere::Order;
 use std::alloc::Global;
+
+/// The order of this depth, or `None` above 29.
+fn order_of(depth: u64) -> Option<Order>
+    ensures { SomeIff result (depth ≤ 29) depth }
+{
+    Order::new(u8::try_from(depth).ok()?)
+}
+
+/// The first pixel of an item's cells, and the one after the last. The item's word begins at `at`.
+fn item_span(order: Option<Order>, at: usize, item: Item) -> Result<(u64, u64), TextError>
+    ensures { MatchResult result
+        (λ s. (item_fault order at (Some item) ≡ None) × (item_spans order (Some item) ≡ s ∷ []))
+        (λ e. item_fault order at (Some item) ≡ Some e) }
+{
+    let Some(order) = order else {
+        return Err(TextError::NoOrder { at });
+    };
+    let first = item.first;
+    let last = item.last.unwrap_or(first);
+    let count = order.cell_count();
+    if first.value >= count {
+        return Err(TextError::CellTooLarge { at: first.at });
+    }
+    if last.value >= count {
+        return Err(TextError::CellTooLarge { at: last.at });
+    }
+    if last.value < first.value {
+        return Err(TextError::Backwards { at: first.at });
+    }
+    let size = order.cell_size();
+    Ok((first.value * size, (last.value + 1) * size))
+}
+
+/// What the words so far say.
+#[derive(Drop)]
+struct Reading {
+    spans: Vec<(u64, u64)>,
+    order: Option<Order>,
+    deepest: Option<Order>,
+}
+
+impl Reading {
+    /// Goes on to the order of a mark, where there is one.
+    fn enter(&mut self, mark: Option<Number>) -> Result<(), TextError>
+        ensures { MatchResult result
+            (λ _. (mark_fault mark ≡ None)
+            × (self.new.order ≡ order_at self.old.order mark)
+            × (self.new.deepest ≡ deeper self.old.deepest (order_at None mark))
+            × (self.new.spans.items ≡ self.old.spans.items))
+            (λ e. mark_fault mark ≡ Some e) }
+    {
+        let Some(mark) = mark else {
+            return Ok(());
+        };
+        let Some(order) = order_of(mark.value) else {
+            return Err(TextError::OrderTooLarge { at: mark.at });
+        };
+        self.order = Some(order);
+        self.deepest = match self.deepest {
+            Some(deepest) => Some(deepest.max(order)),
+            None => Some(order),
+        };
+        Ok(())
+    }
+
+    /// Adds the cells of an item, where there is one.
+    fn add(&mut self, at: usize, item: Option<Item>) -> Result<(), TextError>
+        ensures { MatchResult result
+            (λ _. (item_fault self.old.order at item ≡ None)
+            × (self.new.order ≡ self.old.order)
+            × (self.new.deepest ≡ self.old.deepest)
+            × (self.new.spans.items ≡ self.old.spans.items ++ item_spans self.old.order item))
+            (λ e. Fails e (item_fault self.old.order at item)) }
+    {
+        let Some(item) = item else {
+            return Ok(());
+        };
+        let span = item_span(self.order, at, item)?;
+        self.spans.push(span)?;
+        Ok(())
+    }
+}
+
+/// Reads word by word.
+fn read_words(alloc: Global, text: &[u8]) -> Result<Reading, TextError>
+    ensures says { IfOk result (λ r. Progress text.now [] r.spans.items r.order r.deepest) }
+    ensures fault { IfErr result (λ e. (e ≡ TextError.Memory) ⊎ IsFirstFault text.now e) }
+{
+    let len = text.len();
+    let mut reading = Reading {
+        spans: Vec::new(alloc),
+        order: None,
+        deepest: None,
+    };
+    let mut rest = text;
+    while let [byte, after @ ..] = rest {
+        if is_separator(*byte) {
+            rest = after;
+            continue;
+        }
+        let at = place(len, rest);
+        let (parts, after) = word(len, rest)?;
+        reading.enter(parts.mark)?;
+        reading.add(at, parts.item)?;
+        rest = after;
+    }
+    Ok(reading)
+}
+
+/// The union of spans that are all ranges of pixels, for which only memory can be wanting.
+fn union_of(alloc: Global, spans: &[(u64, u64)]) -> Result<Coverage, TextError>
+    requires { first_fault spans.now ≡ None }
+    ensures set { IfOk result (λ c. c ≡ set_of spans.now) }
+    ensures memory { IsOkUnless result TextError.Memory }
+{
+    match Coverage::from_ranges(alloc, spans) {
+        Ok(set) => Ok(set),
+        Err(_) => Err(TextError::Memory),
+    }
+}
 
 /// Reads the ASCII form (MOC 2.0): the set, and the deepest order that the text names. One pass.
 pub fn read_ascii(alloc: Global, text: &[u8]) -> Result<(Coverage, Option<Order>), TextError>
@@ -19,7 +144,13 @@ pub fn read_ascii(alloc: Global, text: &[u8]) -> Result<(Coverage, Option<Order>
     // So the answer is the reading of the text.
     ensures reading { IsReadingOf text.now result }
 {
-    let _ = alloc;
-    let _ = text;
-    Err(TextError::Memory)
+    let reading = read_words(alloc, text)?;
+    let set = union_of(alloc, &reading.spans)?;
+    Ok((set, reading.deepest))
 }
+
+/// The law of reading: each text has one reading, which is the set and the deepest order that it says, or its
+/// first fault.
+pub fn readings_are_told()
+    ensures { ReadingsAreTold }
+{}

@@ -1,12 +1,14 @@
 //! Writing the ASCII form.
-ghost use Rattle.std.specs.Prelude.{◌≡◌, OnOk, IfOk, IfErr, ◌⊎◌};
+ghost use Rattle.std.specs.Prelude.{◌≡◌, ◌++◌, decimal, IfErr, IfOk, IsTrue, OnOk, ◌↔◌, ◌⊎◌};
 ghost use Rattle.std.specs.String.{string_bytes};
-ghost use Rattle.moc_text.specs.AsciiText.{ascii_text, IsTooCoarse};
+ghost use Rattle.moc_text.specs.AsciiText.{ascii_text, follows, HasDeeper, IsTooCoarse, mark_text_of, one, order_text, run_text, text_of_cells, WrittenIsRead};
+ghost use Rattle.moc_text.specs.Writing.{gap, run_part, stated_part};
 
 use crate::error::TextError;
+use itoa::Buffer;
 use moc_ranges::Coverage;
-use moc_sphere::Order;
-use std::alloc::Global;
+use moc_sphere::{Cell, Order};
+use std::alloc::{AllocError, Global};
 
 /// Consecutive cells of one order, the last included.
 #[derive(Clone, Copy)]
@@ -16,14 +18,157 @@ struct Run {
     last: u64,
 }
 
-/// Writes the ASCII form (MOC 2.0) of the set, with a stated order or none.
-pub fn write_ascii(alloc: Global, set: &Coverage, stated: Option<Order>) -> Result<String, TextError>
+impl Run {
+    /// The run of one cell.
+    fn new(cell: Cell) -> Self
+        ensures { result ≡ one cell }
+    {
+        Run {
+            order: cell.order().get(),
+            first: cell.index(),
+            last: cell.index(),
+        }
+    }
+
+    /// Whether the cell is the next one.
+    fn is_followed_by(&self, cell: Cell) -> bool
+        ensures { result ≡ follows self.now cell }
+    {
+        cell.order().get() == self.order && cell.index() > 0 && cell.index() - 1 == self.last
+    }
+}
+
+fn push_number(text: &mut String, number: u64) -> Result<(), AllocError>
+    ensures { OnOk result (string_bytes text.new ≡ string_bytes text.old ++ decimal number) }
+{
+    text.push_str(Buffer::new().format(number))?;
+    Ok(())
+}
+
+/// The order, and a slash.
+fn push_order(text: &mut String, order: u8) -> Result<(), AllocError>
+    ensures { OnOk result (string_bytes text.new ≡ string_bytes text.old ++ order_text order) }
+{
+    push_number(text, u64::from(order))?;
+    text.push('/')?;
+    Ok(())
+}
+
+/// A space, where something was written before.
+fn push_gap(text: &mut String, before: Option<u8>) -> Result<(), AllocError>
+    ensures { OnOk result (string_bytes text.new ≡ string_bytes text.old ++ gap before) }
+{
+    if before.is_some() {
+        text.push(' ')?;
+    }
+    Ok(())
+}
+
+/// The order, unless it was written last.
+fn push_mark(text: &mut String, before: Option<u8>, order: u8) -> Result<(), AllocError>
+    ensures { OnOk result (string_bytes text.new ≡ string_bytes text.old ++ mark_text_of before order) }
+{
+    if let Some(last) = before
+        && last == order
+    {
+        return Ok(());
+    }
+    push_order(text, order)
+}
+
+/// The cells of a run.
+fn push_cells(text: &mut String, run: Run) -> Result<(), AllocError>
+    ensures { OnOk result (string_bytes text.new ≡ string_bytes text.old ++ run_text run) }
+{
+    push_number(text, run.first)?;
+    if run.first != run.last {
+        text.push('-')?;
+        push_number(text, run.last)?;
+    }
+    Ok(())
+}
+
+fn push_run(text: &mut String, before: Option<u8>, run: Run) -> Result<(), AllocError>
+    ensures { OnOk result (string_bytes text.new ≡ string_bytes text.old ++ run_part before run) }
+{
+    push_gap(text, before)?;
+    push_mark(text, before, run.order)?;
+    push_cells(text, run)
+}
+
+/// The stated order, where it is deeper than the one written last.
+fn push_stated(text: &mut String, before: Option<u8>, stated: Option<u8>) -> Result<(), AllocError>
+    ensures { OnOk result (string_bytes text.new ≡ string_bytes text.old ++ stated_part before stated) }
+{
+    let Some(stated) = stated else {
+        return Ok(());
+    };
+    if let Some(last) = before
+        && stated <= last
+    {
+        return Ok(());
+    }
+    push_gap(text, before)?;
+    push_order(text, stated)
+}
+
+/// Whether a cell is of a deeper order than the stated one.
+fn has_deeper(cells: &[Cell], stated: Option<u8>) -> bool
+    ensures { IsTrue result ↔ HasDeeper cells.now stated }
+{
+    match stated {
+        Some(stated) => cells.iter().any(|cell| cell.order().get() > stated),
+        None => false,
+    }
+}
+
+/// Writes the cells run by run.
+fn push_all(text: &mut String, cells: &[Cell], stated: Option<u8>) -> Result<(), AllocError>
+    ensures { OnOk result (string_bytes text.new ≡ string_bytes text.old ++ text_of_cells cells.now stated) }
+{
+    let [first, rest @ ..] = cells else {
+        return push_stated(text, None, stated);
+    };
+    let mut before = None;
+    let mut run = Run::new(*first);
+    for cell in rest {
+        if run.is_followed_by(*cell) {
+            run.last = cell.index();
+        } else {
+            push_run(text, before, run)?;
+            before = Some(run.order);
+            run = Run::new(*cell);
+        }
+    }
+    push_run(text, before, run)?;
+    push_stated(text, Some(run.order), stated)
+}
+
+/// Writes the ASCII form (MOC 2.0) of the set: its cells by rising order and within an order by rising number,
+/// runs of consecutive cells joined, and then the stated order, if it is deeper than these. Refused with
+/// `TooCoarse` where the set has a cell of a deeper order than the stated one. Linear in the number of cells.
+#[tactic(auto, unfolding(crate::specs::AsciiText::ascii_text))]
+pub fn write_ascii(
+    alloc: Global,
+    set: &Coverage,
+    stated: Option<Order>,
+) -> Result<String, TextError>
     ensures text { IfOk result (λ t. string_bytes t ≡ ascii_text set.now stated) }
     ensures fits { OnOk result (¬ IsTooCoarse set.now stated) }
     ensures fault { IfErr result (λ e. (e ≡ TextError.Memory) ⊎ ((e ≡ TextError.TooCoarse) × IsTooCoarse set.now stated)) }
 {
-    let _ = alloc;
-    let _ = set;
-    let _ = stated;
-    Err(TextError::Memory)
+    let stated = stated.map(|order| order.get());
+    let cells = set.cells(alloc)?;
+    if has_deeper(&cells, stated) {
+        return Err(TextError::TooCoarse);
+    }
+    let mut text = String::with_capacity(alloc, cells.len())?;
+    push_all(&mut text, &cells, stated)?;
+    Ok(text)
 }
+
+/// The law of writing: the text of a set within the pixels says that set, and the stated order, or else the
+/// deepest order written. So it is read as these.
+pub fn written_is_read()
+    ensures { WrittenIsRead }
+{}

@@ -1,0 +1,152 @@
+-- Numbers held at the greatest of 64 bits.
+use Rattle.std.proofs.Common.{◌≡◌, ℕ, ◌+◌, ◌-◌, ◌*◌, ◌^◌, ◌<◌, ◌≤◌, true, false, cond, leb, leb-true, not, ltb, List, [], ◌∷◌, min, Option, Some, None, unwrap_or, refl, ap, ◌∙◌, arith}
+use Rattle.std.specs.Char.{is_ascii_digit, digit_value}
+use Rattle.std.specs.Int.{IsInRange}
+use Rattle.std.specs.Option.{ForSome}
+use Rattle.std.proofs.lemmas.Bool.{ltb-true, ltb-false}
+use Rattle.moc_text.specs.Ascii.{order_at, last_of, mark_fault, item_fault, item_spans}
+use Rattle.moc_sphere.specs.CellNumber.{cell_count, cell_size}
+use Rattle.moc_text.specs.declared.error.TextError.{TextError}
+use Rattle.moc_text.specs.declared.error.TextError.TheVariants.{OrderTooLarge, CellTooLarge, Backwards}
+use Rattle.moc_text.proofs.Powers.{cells_fit}
+use Rattle.std.specs.Str.{all_ascii_digits}
+use Rattle.std.specs.Str.Parse.{digits_value_after, digits_value}
+use Rattle.std.proofs.lemmas.Str.{digit_value_digit}
+use Rattle.std.proofs.lemmas.Bool.Decides.{nat_tests}
+use Rattle.moc_text.specs.Scan.{held_after}
+use Rattle.moc_text.specs.declared.number.Number.{Number}
+use Rattle.moc_text.specs.declared.number.Item.{Item}
+use Rattle.moc_text.specs.declared.number.Parts.{Parts}
+use Rattle.moc_text.proofs.Automaton.{both}
+
+is_digit : (d : ℕ) → is_ascii_digit d ≡ true → IsInRange 48 57 d
+is_digit d h =
+    let p = both (leb 48 d) (leb d 57) h in
+    (leb-true 48 d p.0, leb-true d 57 p.1)
+
+-- one more digit
+held_step : (top v d x : ℕ) → x ≡ d - 48 → min (min (min v top * 10) top + (d - 48)) top ≡ min (v * 10 + x) top
+held_step top v d x e = omega arith
+
+held-digits : (v : ℕ) (ds : List ℕ) → all_ascii_digits ds ≡ true → held_after (min v (2 ^ 64 - 1)) ds ≡ min (digits_value_after 10 v ds) (2 ^ 64 - 1)
+held-digits v [] h = refl
+held-digits v (d ∷ ds) h =
+    let p = both (is_ascii_digit d) (all_ascii_digits ds) h in
+    let e : digit_value d ≡ d - 48 = omega (arith, digit_value_digit d (is_digit d p.0)) in
+    ap (λ n. held_after n ds) (held_step (2 ^ 64 - 1) v d (digit_value d) e) ∙ held-digits (v * 10 + digit_value d) ds p.1
+
+pub held_is : (ds : List ℕ) → all_ascii_digits ds ≡ true → held_after 0 ds ≡ min (digits_value 10 ds) (2 ^ 64 - 1)
+held_is ds h = held-digits 0 ds h
+
+abbrev pub held_number : Number → Number
+held_number n = record { at = n.at; value = min n.value (2 ^ 64 - 1) }
+
+abbrev pub held_last : Option Number → Option Number
+held_last None = None
+held_last (Some n) = Some (held_number n)
+
+abbrev pub held_item : Item → Item
+held_item i = record { first = held_number i.first; last = held_last i.last }
+
+abbrev pub held_maybe : Option Item → Option Item
+held_maybe None = None
+held_maybe (Some i) = Some (held_item i)
+
+-- numbers of a word as the program has them
+abbrev pub held : Parts → Parts
+held n = record { mark = held_last n.mark; item = held_maybe n.item }
+
+-- ---- a held number serves as well
+
+-- tests against what 64 bits hold
+ltb-held : (top n v : ℕ) → n ≤ top → ltb (min v top) n ≡ ltb v n
+ltb-held top n v h = grind (arith, nat_tests)
+
+held-ltb : (top n v : ℕ) → n < top → ltb n (min v top) ≡ ltb n v
+held-ltb top n v h = grind (arith, nat_tests)
+
+held_below : (top n v : ℕ) → v < n → n ≤ top → min v top ≡ v
+held_below top n v lt le = omega arith
+
+pub mark_fault-held : (m : Option Number) → mark_fault (held_last m) ≡ mark_fault m
+mark_fault-held None = refl
+mark_fault-held (Some n) = ap (λ v. cond v (Some (OrderTooLarge n.at)) None) (held-ltb (2 ^ 64 - 1) 29 n.value (omega arith))
+
+-- an order that is not refused
+pub order_small : (n : Number) → mark_fault (Some n) ≡ None → n.value ≤ 29
+order_small n h =
+    elim (ltb 29 n.value) as (λ v. ltb 29 n.value ≡ v → cond v (Some (OrderTooLarge n.at)) None ≡ None → n.value ≤ 29) [
+      | true ↦ λ e k. absurd cc
+      | false ↦ λ e k. ltb-false 29 n.value e
+    ] refl h
+
+pub order_at-held : (before : Option ℕ) (m : Option Number) → mark_fault m ≡ None → order_at before (held_last m) ≡ order_at before m
+order_at-held before None h = refl
+order_at-held before (Some n) h = ap (λ (v : ℕ). Some v) (held_below (2 ^ 64 - 1) 30 n.value (omega (arith, order_small n h)) (omega arith))
+
+last_of-held : (i : Item) → last_of (held_item i) ≡ held_number (last_of i)
+last_of-held i = elim i.last as (λ l. unwrap_or (held_last l) (held_number i.first) ≡ held_number (unwrap_or l i.first)) [ None ↦ refl | Some n ↦ refl ]
+
+-- the tests of an item, on its numbers
+abbrev tests : ℕ → Number → Number → Option TextError
+tests cells first last =
+    cond (not (ltb first.value cells)) (Some (CellTooLarge first.at))
+    (cond (not (ltb last.value cells)) (Some (CellTooLarge last.at))
+    (cond (ltb last.value first.value) (Some (Backwards first.at)) None))
+
+tests-held : (cells : ℕ) (first last : Number) → cells ≤ 2 ^ 64 - 1 → tests cells (held_number first) (held_number last) ≡ tests cells first last
+tests-held cells first last le =
+    let a : ltb (min first.value (2 ^ 64 - 1)) cells ≡ ltb first.value cells = ltb-held (2 ^ 64 - 1) cells first.value le in
+    let b : ltb (min last.value (2 ^ 64 - 1)) cells ≡ ltb last.value cells = ltb-held (2 ^ 64 - 1) cells last.value le in
+    rw (a, b) (
+    elim (ltb first.value cells) as (λ v. ltb first.value cells ≡ v → cond (not v) (Some (CellTooLarge first.at)) (cond (not (ltb last.value cells)) (Some (CellTooLarge last.at)) (cond (ltb (min last.value (2 ^ 64 - 1)) (min first.value (2 ^ 64 - 1))) (Some (Backwards first.at)) None))
+    ≡ cond (not v) (Some (CellTooLarge first.at)) (cond (not (ltb last.value cells)) (Some (CellTooLarge last.at)) (cond (ltb last.value first.value) (Some (Backwards first.at)) None))) [
+      | false ↦ λ e. refl
+      | true ↦ λ e. elim (ltb last.value cells) as (λ v. ltb last.value cells ≡ v → cond (not v) (Some (CellTooLarge last.at)) (cond (ltb (min last.value (2 ^ 64 - 1)) (min first.value (2 ^ 64 - 1))) (Some (Backwards first.at)) None)
+          ≡ cond (not v) (Some (CellTooLarge last.at)) (cond (ltb last.value first.value) (Some (Backwards first.at)) None)) [
+            | false ↦ λ k. refl
+            | true ↦ λ k.
+                let x : min first.value (2 ^ 64 - 1) ≡ first.value = held_below (2 ^ 64 - 1) cells first.value (ltb-true _ _ e) le in
+                let y : min last.value (2 ^ 64 - 1) ≡ last.value = held_below (2 ^ 64 - 1) cells last.value (ltb-true _ _ k) le in
+                rw (x, y) refl
+          ] refl
+    ] refl)
+
+abbrev pub IsSmall : Option ℕ → Type 0
+IsSmall k = ForSome k (λ n. n ≤ 29)
+
+pub item_fault-held : (k : Option ℕ) (at : ℕ) (i : Option Item) → IsSmall k → item_fault k at (held_maybe i) ≡ item_fault k at i
+item_fault-held None at None h = refl
+item_fault-held (Some k) at None h = refl
+item_fault-held None at (Some i) h = refl
+item_fault-held (Some k) at (Some i) h =
+    ap (tests (cell_count k) (held_number i.first)) (last_of-held i) ∙ tests-held (cell_count k) i.first (last_of i) (omega (arith, cells_fit k (h k refl)))
+
+-- the numbers of an item that is not refused are cells
+tests_pass : (cells : ℕ) (first last : Number) → tests cells first last ≡ None → (first.value < cells) × (last.value < cells) × (first.value ≤ last.value)
+tests_pass cells first last h =
+    elim (ltb first.value cells) as (λ v. ltb first.value cells ≡ v → cond (not v) (Some (CellTooLarge first.at)) (cond (not (ltb last.value cells)) (Some (CellTooLarge last.at)) (cond (ltb last.value first.value) (Some (Backwards first.at)) None)) ≡ None → (first.value < cells) × (last.value < cells) × (first.value ≤ last.value)) [
+      | false ↦ λ e h. absurd cc
+      | true ↦ λ e. elim (ltb last.value cells) as (λ v. ltb last.value cells ≡ v → cond (not v) (Some (CellTooLarge last.at)) (cond (ltb last.value first.value) (Some (Backwards first.at)) None) ≡ None → (first.value < cells) × (last.value < cells) × (first.value ≤ last.value)) [
+        | false ↦ λ k h. absurd cc
+        | true ↦ λ k. elim (ltb last.value first.value) as (λ v. ltb last.value first.value ≡ v → cond v (Some (Backwards first.at)) None ≡ None → (first.value < cells) × (last.value < cells) × (first.value ≤ last.value)) [
+          | true ↦ λ l h. absurd cc
+          | false ↦ λ l h. (ltb-true _ _ e, ltb-true _ _ k, ltb-false _ _ l)
+        ] refl
+      ] refl
+    ] refl h
+
+pub item_cells : (k at : ℕ) (i : Item) → item_fault (Some k) at (Some i) ≡ None → (i.first.value < cell_count k) × ((last_of i).value < cell_count k) × (i.first.value ≤ (last_of i).value)
+item_cells k at i h = tests_pass (cell_count k) i.first (last_of i) h
+
+pub item_spans-held : (k : Option ℕ) (at : ℕ) (i : Option Item) → IsSmall k → item_fault k at i ≡ None → item_spans k (held_maybe i) ≡ item_spans k i
+item_spans-held None at i small h = refl
+item_spans-held (Some k) at None small h = refl
+item_spans-held (Some k) at (Some i) small h =
+    let p = item_cells k at i h in
+    let fit : cell_count k ≤ 2 ^ 64 - 1 = omega (arith, cells_fit k (small k refl)) in
+    let x : min i.first.value (2 ^ 64 - 1) ≡ i.first.value = held_below (2 ^ 64 - 1) (cell_count k) i.first.value p.0 fit in
+    let y : min (last_of i).value (2 ^ 64 - 1) ≡ (last_of i).value = held_below (2 ^ 64 - 1) (cell_count k) (last_of i).value p.1 fit in
+    let z : (last_of (held_item i)).value ≡ (last_of i).value = ap (λ (n : Number). n.value) (last_of-held i) ∙ y in
+    ap (λ (f : ℕ). (f * cell_size k, ((last_of (held_item i)).value + 1) * cell_size k) ∷ []) x
+    ∙ ap (λ (l : ℕ). (i.first.value * cell_size k, (l + 1) * cell_size k) ∷ []) z

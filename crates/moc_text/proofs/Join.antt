@@ -1,0 +1,43 @@
+-- The text in the order in which it is written is its words, parted by spaces.
+use Rattle.std.proofs.Common.{◌≡◌, ℕ, List, [], ◌∷◌, ◌++◌, Option, Some, None, true, false, cond, ltb, refl, sym, ap, ◌∙◌, ◌-◌, ◌≤◌, length, take, drop, get_or, arith}
+use Rattle.std.specs.List.{join_with_byte}
+use Rattle.std.proofs.lemmas.List.{append-nil, take_all}
+use Rattle.moc_text.specs.AsciiText.{order_text, mark_text_of, run_text, stated_words, words_of, runs_from, one, text_of_cells}
+use Rattle.moc_text.specs.Writing.{run_part, spaced, stated_part, onward}
+use Rattle.moc_sphere.specs.CellNumber.{CellNumber}
+use Rattle.moc_text.specs.declared.writing.Run.{Run}
+
+-- words behind a word
+abbrev behind : List (List ℕ) → List ℕ
+behind [] = []
+behind (w ∷ ws) = 32 ∷ join_with_byte 32 (w ∷ ws)
+
+join-cons : (w : List ℕ) (ws : List (List ℕ)) → join_with_byte 32 (w ∷ ws) ≡ w ++ behind ws
+join-cons w [] = sym (append-nil w)
+join-cons w (v ∷ ws) = refl
+
+stated-behind : (j : ℕ) (stated : Option ℕ) → stated_part (Some j) stated ≡ behind (stated_words (Some j) stated)
+stated-behind j None = refl
+stated-behind j (Some k) = elim (ltb j k) as (λ v. spaced (Some j) (cond v (order_text k ∷ []) []) ≡ behind (cond v (order_text k ∷ []) [])) [ true ↦ refl | false ↦ refl ]
+
+onward-behind : (stated : Option ℕ) (j : ℕ) (rs : List Run) → onward stated (Some j) rs ≡ behind (words_of stated (Some j) rs)
+onward-behind stated j [] = stated-behind j stated
+onward-behind stated j (r ∷ rs) =
+    let w = mark_text_of (Some j) r.order ++ run_text r in
+    ap (λ (t : List ℕ). run_part (Some j) r ++ t) (onward-behind stated r.order rs)
+    ∙ ap (λ (t : List ℕ). 32 ∷ t) (sym (join-cons w (words_of stated (Some r.order) rs)))
+
+pub onward-join : (stated : Option ℕ) (rs : List Run) → onward stated None rs ≡ join_with_byte 32 (words_of stated None rs)
+onward-join None [] = refl
+onward-join (Some k) [] = refl
+onward-join stated (r ∷ rs) =
+    ap (λ (t : List ℕ). (order_text r.order ++ run_text r) ++ t) (onward-behind stated r.order rs)
+    ∙ sym (join-cons (order_text r.order ++ run_text r) (words_of stated (Some r.order) rs))
+
+-- where the loop begins
+pub starts : (text : List ℕ) (cells : List CellNumber) (stated : Option ℕ) (run : Run) (d : CellNumber) → 1 ≤ length cells → run ≡ one (get_or cells 0 d)
+    → text ++ onward stated None (runs_from run (take (length cells - 1) (drop 1 cells))) ≡ text ++ text_of_cells cells stated
+starts text [] stated run d some is = absurd (omega arith)
+starts text (c ∷ cs) stated run d some is =
+    let rest : take (length (c ∷ cs) - 1) cs ≡ cs = ap (λ n. take n cs) (omega arith) ∙ take_all (length cs) cs (omega arith) in
+    ap (λ (t : List ℕ). text ++ t) (ap (λ (r : List CellNumber). onward stated None (runs_from run r)) rest ∙ onward-join stated (runs_from run cs) ∙ ap (λ r. join_with_byte 32 (words_of stated None (runs_from r cs))) is)

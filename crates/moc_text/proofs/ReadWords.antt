@@ -1,0 +1,228 @@
+-- Reading word by word.
+use Rattle.std.proofs.Common.{◌≡◌, ℕ, ◌+◌, ◌-◌, ◌<◌, ◌≤◌, true, false, List, [], ◌∷◌, ◌++◌, length, get_or, Option, Some, None, Ok, Err, refl, sym, ap, subst, ◌∙◌, arith, length-append, append_assoc, inl, inr}
+use Rattle.std.specs.List.{take_while}
+use Rattle.std.proofs.lemmas.List.{append-nil}
+use Rattle.moc_text.specs.Ascii.{is_separator, is_word_byte, Word, words, words_from, Shape, shape_text, IsShape, parts_at, Means, order_at, order_after, mark_fault, item_fault, or_else, fault_of, item_spans, spans_of, deeper, deepest_of, AreRead, HasShapeFault, IsFirstFault, Says}
+use Rattle.moc_ranges.specs.RangeList.{set_of}
+use Rattle.moc_text.specs.Scan.{is_end, scan_word}
+use Rattle.moc_text.specs.Progress.{Progress}
+use Rattle.moc_text.specs.declared.number.Number.{Number}
+use Rattle.moc_text.specs.declared.number.Parts.{Parts}
+use Rattle.moc_text.specs.declared.error.TextError.{TextError}
+use Rattle.moc_text.proofs.Automaton.{Start, run, accepts, run-shape}
+use Rattle.moc_text.proofs.Cuts.{IsWordPart, no_separator, words_begin, words_skip, words_front}
+use Rattle.moc_text.proofs.Held.{order_small, held_maybe, mark_fault-held, order_at-held, item_fault-held, item_spans-held, IsSmall}
+use Rattle.moc_text.proofs.Scanning.{Scanned, WordOutcome, word_outcome}
+
+-- ---- one more word
+
+AreRead_push : (before : Option ℕ) (ws : List Word) (ns : List Parts) (w : Word) (n : Parts) → AreRead before ws ns → Means w n → fault_of (order_after before ns) w.at n ≡ None → AreRead before (ws ++ w ∷ []) (ns ++ n ∷ [])
+AreRead_push before [] [] w n h m f = (m, f, tt)
+AreRead_push before (v ∷ ws) (k ∷ ns) w n h m f = (h.0, h.1, AreRead_push (order_at before k.mark) ws ns w n h.2 m f)
+AreRead_push before [] (k ∷ ns) w n h m f = absurd h
+AreRead_push before (v ∷ ws) [] w n h m f = absurd h
+
+order_after_push : (before : Option ℕ) (ns : List Parts) (n : Parts) → order_after before (ns ++ n ∷ []) ≡ order_at (order_after before ns) n.mark
+order_after_push before [] n = refl
+order_after_push before (k ∷ ns) n = order_after_push (order_at before k.mark) ns n
+
+spans_of_push : (before : Option ℕ) (ns : List Parts) (n : Parts) → spans_of before (ns ++ n ∷ []) ≡ spans_of before ns ++ item_spans (order_at (order_after before ns) n.mark) n.item
+spans_of_push before [] n = append-nil (item_spans (order_at before n.mark) n.item)
+spans_of_push before (k ∷ ns) n =
+    ap (λ (r : List (ℕ × ℕ)). item_spans (order_at before k.mark) k.item ++ r) (spans_of_push (order_at before k.mark) ns n)
+    ∙ sym (append_assoc (item_spans (order_at before k.mark) k.item) (spans_of (order_at before k.mark) ns) _)
+
+pub deeper_assoc : (a b c : Option ℕ) → deeper (deeper a b) c ≡ deeper a (deeper b c)
+deeper_assoc None b c = refl
+deeper_assoc (Some i) None c = refl
+deeper_assoc (Some i) (Some j) None = refl
+deeper_assoc (Some i) (Some j) (Some k) = ap (λ (n : ℕ). Some n) (omega arith)
+
+pub deeper-None : (a : Option ℕ) → deeper a None ≡ a
+deeper-None None = refl
+deeper-None (Some i) = refl
+
+deepest_of_push : (ns : List Parts) (n : Parts) → deepest_of (ns ++ n ∷ []) ≡ deeper (deepest_of ns) (order_at None n.mark)
+deepest_of_push [] n = deeper-None (order_at None n.mark)
+deepest_of_push (k ∷ ns) n = ap (deeper (order_at None k.mark)) (deepest_of_push ns n) ∙ sym (deeper_assoc (order_at None k.mark) (deepest_of ns) (order_at None n.mark))
+
+-- ---- the loop
+
+pub progress_none : (text : List ℕ) → Progress text text [] None None
+progress_none text = record {
+  good = [];
+  numbers = [];
+  within = omega arith;
+  parts = ap (λ n. words_from false n text) (omega arith);
+  read = tt;
+  spans_are = refl;
+  order_is = refl;
+  deepest_is = refl;
+}
+
+pub progress_skip : (text : List ℕ) (b : ℕ) (rest : List ℕ) (spans : List (ℕ × ℕ)) (order deepest : Option ℕ) → is_separator b ≡ true → Progress text (b ∷ rest) spans order deepest → Progress text rest spans order deepest
+progress_skip text b rest spans order deepest h p =
+    let place : length text - length (b ∷ rest) + 1 ≡ length text - length rest = omega (arith, p.within) in
+    record {
+      good = p.good;
+      numbers = p.numbers;
+      within = omega (arith, p.within);
+      parts = p.parts ∙ ap (λ (ws : List Word). p.good ++ ws) (words_skip b rest (length text - length (b ∷ rest)) h ∙ ap (λ n. words_from false n rest) place);
+      read = p.read;
+      spans_are = p.spans_are;
+      order_is = p.order_is;
+      deepest_is = p.deepest_is;
+    }
+
+-- a lawful word has bytes, and none of them is a separator
+pub shape_part : (s : Shape) → IsShape s → IsWordPart (shape_text s)
+shape_part s h = no_separator Start (shape_text s) (λ dead. let no : false ≡ true = sym (ap accepts dead) ∙ run-shape s h in absurd cc)
+
+some_bytes : (w : List ℕ) → accepts (run Start w) ≡ true → 0 < length w
+some_bytes [] e = absurd cc
+some_bytes (b ∷ w) e = omega arith
+
+pub shape_some : (s : Shape) → IsShape s → 0 < length (shape_text s)
+shape_some s h = some_bytes (shape_text s) (run-shape s h)
+
+pub after_shorter : (len : ℕ) (bytes : List ℕ) (n : Parts) (rest : List ℕ) → Scanned len bytes n rest → length rest < length bytes
+after_shorter len bytes n rest s = omega (arith, ap length s.parts, length-append (shape_text s.shape) rest, shape_some s.shape s.lawful)
+
+-- the words, from a scanned one on
+words_scanned : (text rest : List ℕ) (n : Parts) (after : List ℕ) → length rest ≤ length text → (s : Scanned (length text) rest n after)
+    → words_from false (length text - length rest) rest ≡ record { at = length text - length rest; bytes = shape_text s.shape } ∷ words_from false (length text - length after) after
+words_scanned text rest n after le s =
+    let at = length text - length rest in
+    let place : at + length (shape_text s.shape) ≡ length text - length after = omega (arith, le, ap length s.parts, length-append (shape_text s.shape) after) in
+    ap (words_from false at) s.parts
+    ∙ words_front (shape_text s.shape) after at (shape_some s.shape s.lawful) (shape_part s.shape s.lawful) s.ends
+    ∙ ap (λ n. record { at = at; bytes = shape_text s.shape } ∷ words_from false n after) place
+
+-- the true numbers of a scanned word
+abbrev true_parts : (len : ℕ) (bytes : List ℕ) (n : Parts) (rest : List ℕ) → Scanned len bytes n rest → Parts
+true_parts len bytes n rest s = parts_at (len - length bytes) s.shape
+
+first_none : (f g : Option TextError) → or_else f g ≡ None → f ≡ None
+first_none None g h = refl
+first_none (Some f) g h = absurd cc
+
+pub small_order : (before : Option ℕ) (m : Option Number) → IsSmall before → mark_fault m ≡ None → IsSmall (order_at before m)
+small_order before None small h = small
+small_order before (Some n) small h = λ k e.
+    let is : n.value ≡ k = cc in
+    subst (λ v. v ≤ 29) is (order_small n h)
+
+order_after_small : (before : Option ℕ) (ws : List Word) (ns : List Parts) → IsSmall before → AreRead before ws ns → IsSmall (order_after before ns)
+order_after_small before [] [] small h = small
+order_after_small before [] (n ∷ ns) small h = absurd h
+order_after_small before (w ∷ ws) [] small h = absurd h
+order_after_small before (w ∷ ws) (n ∷ ns) small h = order_after_small (order_at before n.mark) ws ns (small_order before n.mark small (first_none (mark_fault n.mark) (item_fault (order_at before n.mark) w.at n.item) h.1)) h.2
+
+none_small : IsSmall None
+none_small k e = absurd cc
+
+-- the order in force is one
+pub small_in_force : (text rest : List ℕ) (spans : List (ℕ × ℕ)) (order deepest : Option ℕ) → Progress text rest spans order deepest → IsSmall order
+small_in_force text rest spans order deepest p = subst IsSmall (sym p.order_is) (order_after_small None p.good p.numbers none_small p.read)
+
+-- where nothing is left, all words are read
+pub says_all : (text : List ℕ) (spans : List (ℕ × ℕ)) (order deepest : Option ℕ) → Progress text [] spans order deepest → Says text (set_of spans) deepest
+says_all text spans order deepest p =
+    let all : p.good ≡ words text = sym (p.parts ∙ append-nil p.good) in
+    (p.numbers, subst (λ (ws : List Word). AreRead None ws p.numbers) all p.read, ap set_of p.spans_are, p.deepest_is)
+
+no_fault : (f g : Option TextError) → f ≡ None → g ≡ None → or_else f g ≡ None
+no_fault f g h k = rw h k
+
+pub progress_word : (text rest : List ℕ) (spans : List (ℕ × ℕ)) (order deepest : Option ℕ) (n : Parts) (after : List ℕ) (spans' : List (ℕ × ℕ)) (order' deepest' : Option ℕ)
+    → IsSmall order → Progress text rest spans order deepest → Scanned (length text) rest n after
+    → mark_fault n.mark ≡ None → order' ≡ order_at order n.mark → deepest' ≡ deeper deepest (order_at None n.mark)
+    → item_fault order' (length text - length rest) n.item ≡ None → spans' ≡ spans ++ item_spans order' n.item
+    → Progress text after spans' order' deepest'
+progress_word text rest spans order deepest n after spans' order' deepest' small p s mf oi di if si =
+    let at = length text - length rest in
+    let t = parts_at at s.shape in
+    let mark : mark_fault t.mark ≡ None = sym (mark_fault-held t.mark) ∙ ap (λ (x : Parts). mark_fault x.mark) (sym s.is) ∙ mf in
+    let o : order' ≡ order_at order t.mark = oi ∙ ap (λ (x : Parts). order_at order x.mark) s.is ∙ order_at-held order t.mark mark in
+    let small' : IsSmall (order_at order t.mark) = small_order order t.mark small mark in
+    let item : item_fault (order_at order t.mark) at t.item ≡ None = sym (item_fault-held (order_at order t.mark) at t.item small') ∙ ap (λ k. item_fault k at (held_maybe t.item)) (sym o) ∙ ap (λ (x : Parts). item_fault order' at x.item) (sym s.is) ∙ if in
+    let added : spans' ≡ spans ++ item_spans (order_at order t.mark) t.item = si ∙ ap (λ (r : List (ℕ × ℕ)). spans ++ r) (ap (λ (x : Parts). item_spans order' x.item) s.is ∙ ap (λ k. item_spans k (held_maybe t.item)) o ∙ item_spans-held (order_at order t.mark) at t.item small' item) in
+    let d : deepest' ≡ deeper deepest (order_at None t.mark) = di ∙ ap (deeper deepest) (ap (λ (x : Parts). order_at None x.mark) s.is ∙ order_at-held None t.mark mark) in
+    let w : Word = record { at = at; bytes = shape_text s.shape } in
+    let fault : fault_of (order_after None p.numbers) at t ≡ None = ap (λ k. fault_of k at t) (sym p.order_is) ∙ no_fault (mark_fault t.mark) (item_fault (order_at order t.mark) at t.item) mark item in
+    record {
+      good = p.good ++ w ∷ [];
+      numbers = p.numbers ++ t ∷ [];
+      within = omega (arith, p.within, after_shorter (length text) rest n after s);
+      parts = p.parts ∙ ap (λ (ws : List Word). p.good ++ ws) (words_scanned text rest n after p.within s) ∙ sym (append_assoc p.good (w ∷ []) (words_from false (length text - length after) after));
+      read = AreRead_push None p.good p.numbers w t p.read (s.shape, s.lawful, refl, refl) fault;
+      spans_are = added ∙ ap (λ (r : List (ℕ × ℕ)). r ++ item_spans (order_at order t.mark) t.item) p.spans_are ∙ ap (λ k. spans_of None p.numbers ++ item_spans (order_at k t.mark) t.item) p.order_is ∙ sym (spans_of_push None p.numbers t);
+      order_is = o ∙ ap (λ k. order_at k t.mark) p.order_is ∙ sym (order_after_push None p.numbers t);
+      deepest_is = d ∙ ap (λ k. deeper k (order_at None t.mark)) p.deepest_is ∙ sym (deepest_of_push p.numbers t);
+    }
+
+-- ---- faults
+
+-- a word of no shape
+pub fault_shape : (text : List ℕ) (b : ℕ) (rest : List ℕ) (spans : List (ℕ × ℕ)) (order deepest : Option ℕ) (f : TextError)
+    → Progress text (b ∷ rest) spans order deepest → is_separator b ≡ false
+    → HasShapeFault (record { at = length text - length (b ∷ rest); bytes = take_while is_word_byte (b ∷ rest) }) f → IsFirstFault text f
+fault_shape text b rest spans order deepest f p h fault = record {
+  good = p.good;
+  numbers = p.numbers;
+  bad = record { at = length text - length (b ∷ rest); bytes = take_while is_word_byte (b ∷ rest) };
+  others = words_from true (length text - length (b ∷ rest) + 1) rest;
+  parts = p.parts ∙ ap (λ (ws : List Word). p.good ++ ws) (words_begin b rest (length text - length (b ∷ rest)) h);
+  before = p.read;
+  fault = inl fault;
+}
+
+-- a lawful word with a fault
+fault_parts : (text rest : List ℕ) (spans : List (ℕ × ℕ)) (order deepest : Option ℕ) (n : Parts) (after : List ℕ) (f : TextError)
+    → Progress text rest spans order deepest → (s : Scanned (length text) rest n after)
+    → fault_of order (length text - length rest) (parts_at (length text - length rest) s.shape) ≡ Some f → IsFirstFault text f
+fault_parts text rest spans order deepest n after f p s fault =
+    let at = length text - length rest in
+    let t = parts_at at s.shape in
+    record {
+      good = p.good;
+      numbers = p.numbers;
+      bad = record { at = at; bytes = shape_text s.shape };
+      others = words_from false (length text - length after) after;
+      parts = p.parts ∙ ap (λ (ws : List Word). p.good ++ ws) (words_scanned text rest n after p.within s);
+      before = p.read;
+      fault = inr (t, (s.shape, s.lawful, refl, refl), ap (λ k. fault_of k at t) (sym p.order_is) ∙ fault);
+    }
+
+pub fault_mark : (text rest : List ℕ) (spans : List (ℕ × ℕ)) (order deepest : Option ℕ) (n : Parts) (after : List ℕ) (f : TextError)
+    → Progress text rest spans order deepest → Scanned (length text) rest n after → mark_fault n.mark ≡ Some f → IsFirstFault text f
+fault_mark text rest spans order deepest n after f p s h =
+    let at = length text - length rest in
+    let t = parts_at at s.shape in
+    let mark : mark_fault t.mark ≡ Some f = sym (mark_fault-held t.mark) ∙ ap (λ (x : Parts). mark_fault x.mark) (sym s.is) ∙ h in
+    fault_parts text rest spans order deepest n after f p s (rw mark refl)
+
+pub fault_item : (text rest : List ℕ) (spans : List (ℕ × ℕ)) (order deepest : Option ℕ) (n : Parts) (after : List ℕ) (order' : Option ℕ) (f : TextError)
+    → IsSmall order → Progress text rest spans order deepest → Scanned (length text) rest n after → mark_fault n.mark ≡ None → order' ≡ order_at order n.mark → item_fault order' (length text - length rest) n.item ≡ Some f → IsFirstFault text f
+fault_item text rest spans order deepest n after order' f small p s mf oi h =
+    let at = length text - length rest in
+    let t = parts_at at s.shape in
+    let mark : mark_fault t.mark ≡ None = sym (mark_fault-held t.mark) ∙ ap (λ (x : Parts). mark_fault x.mark) (sym s.is) ∙ mf in
+    let o : order' ≡ order_at order t.mark = oi ∙ ap (λ (x : Parts). order_at order x.mark) s.is ∙ order_at-held order t.mark mark in
+    let small' : IsSmall (order_at order t.mark) = small_order order t.mark small mark in
+    let item : item_fault (order_at order t.mark) at t.item ≡ Some f = sym (item_fault-held (order_at order t.mark) at t.item small') ∙ ap (λ k. item_fault k at (held_maybe t.item)) (sym o) ∙ ap (λ (x : Parts). item_fault order' at x.item) (sym s.is) ∙ h in
+    fault_parts text rest spans order deepest n after f p s (rw mark item)
+
+-- ---- what the scanner's answer means in the loop
+
+is_end-first : (rest : List ℕ) → 0 < length rest → is_end rest ≡ is_separator (get_or rest 0 0)
+is_end-first [] h = absurd (omega arith)
+is_end-first (b ∷ rest) h = refl
+
+pub scanned_word : (len : ℕ) (rest : List ℕ) (n : Parts) (after : List ℕ) → length rest ≤ len → 0 < length rest → is_separator (get_or rest 0 0) ≡ false → scan_word len rest ≡ Ok (n, after) → Scanned len rest n after
+scanned_word len rest n after le some h e = subst (WordOutcome len rest) e (word_outcome len rest le (is_end-first rest some ∙ h))
+
+pub fault_scanned : (text rest : List ℕ) (spans : List (ℕ × ℕ)) (order deepest : Option ℕ) (f : TextError) → Progress text rest spans order deepest → 0 < length rest → is_separator (get_or rest 0 0) ≡ false → scan_word (length text) rest ≡ Err f → IsFirstFault text f
+fault_scanned text [] spans order deepest f p some h e = absurd (omega arith)
+fault_scanned text (b ∷ rest) spans order deepest f p some h e =
+    fault_shape text b rest spans order deepest f p h (subst (WordOutcome (length text) (b ∷ rest)) e (word_outcome (length text) (b ∷ rest) p.within h))

@@ -1,0 +1,240 @@
+-- The reading of a text is what the text says, or its first fault.
+use Rattle.std.proofs.Common.{◌≡◌, ℕ, ◌+◌, ◌-◌, ◌*◌, ◌<◌, ◌≤◌, Bool, true, false, cond, not, ltb, ◌⊎◌, List, [], ◌∷◌, ◌++◌, length, Option, Some, None, Result, Ok, Err, refl, sym, ap, subst, ◌∙◌, arith, inl, inr}
+use Rattle.std.specs.List.{take_while, list_all, AllByRecursion}
+use Rattle.std.specs.Result.{MatchResult}
+use Rattle.std.proofs.Math.Nat.{mul-le-mul_right}
+use Rattle.std.proofs.lemmas.List.{append-nil}
+use Rattle.std.proofs.lemmas.List.Sums.{take_while-cons}
+use Rattle.std.proofs.lemmas.Bool.{le-ltb}
+use Rattle.moc_sphere.specs.CellNumber.{cell_count, cell_size}
+use Rattle.moc_ranges.specs.Numbers.{NumberSet}
+use Rattle.moc_ranges.specs.Pixels.{pixel_count}
+use Rattle.moc_ranges.specs.RangeList.{set_of}
+use Rattle.moc_ranges.specs.Faults.{first_fault_from, first_fault, first_of_two, fault_of as pair_fault}
+use Rattle.moc_text.specs.Ascii.{is_separator, is_word_byte, Word, words_from, words, Shape, shape_text, IsShape, parts_at, Means, HasShapeFault, IsFault, order_at, order_after, last_of, mark_fault, item_fault, or_else, fault_of, span_of, item_spans, spans_of, deeper, deepest_of, AreRead, Says, IsFirstFault}
+use Rattle.moc_text.specs.Scan.{◌>>=◌, is_end, scan_word}
+use Rattle.moc_text.specs.Reading.{parts_of, faultless, numbers_of, reading_of, IsReadingOf, ReadingsAreTold}
+use Rattle.moc_text.specs.declared.number.Item.{Item}
+use Rattle.moc_text.specs.declared.number.Parts.{Parts}
+use Rattle.moc_text.specs.declared.error.TextError.{TextError}
+use Rattle.moc_text.specs.declared.error.TextError.TheVariants.{Memory}
+use Rattle.moc_text.proofs.Automaton.{both}
+use Rattle.moc_text.proofs.Cuts.{IsWordPart, take_while-part, take_while-more}
+use Rattle.moc_text.proofs.Powers.{span_fits}
+use Rattle.moc_text.proofs.Held.{held, held_last, held_maybe, mark_fault-held, order_at-held, item_fault-held, item_spans-held, item_cells, IsSmall}
+use Rattle.moc_text.proofs.Scanning.{WordOutcome, word_outcome}
+use Rattle.moc_text.proofs.ReadWords.{small_order}
+use Rattle.moc_text.proofs.OneReading.{one_set, one_first_fault, set_or_fault}
+
+-- ---- the words of a text
+
+-- a byte or more, and none of them a separator
+abbrev IsWord : Word → Type 0
+IsWord w = (0 < length w.bytes) × IsWordPart w.bytes
+
+front_is_word_part : (bytes : List ℕ) → IsWordPart (take_while is_word_byte bytes)
+front_is_word_part [] = refl
+front_is_word_part (b ∷ bytes) =
+    subst IsWordPart (sym (take_while-cons is_word_byte b bytes)) (elim (is_word_byte b) as (λ v. is_word_byte b ≡ v → IsWordPart (cond v (b ∷ take_while is_word_byte bytes) [])) [
+      | true ↦ λ e. rw e (front_is_word_part bytes)
+      | false ↦ λ e. refl
+    ] refl)
+
+words_are : (in_word : Bool) (at : ℕ) (text : List ℕ) → AllByRecursion IsWord (words_from in_word at text)
+words_are in_word at [] = tt
+words_are in_word at (b ∷ text) =
+    elim (is_separator b) as (λ v. is_separator b ≡ v → AllByRecursion IsWord (cond v (words_from false (at + 1) text) (cond in_word (words_from true (at + 1) text) (record { at = at; bytes = take_while is_word_byte (b ∷ text) } ∷ words_from true (at + 1) text)))) [
+      | true ↦ λ e. words_are false (at + 1) text
+      | false ↦ λ e. elim in_word as (λ v. AllByRecursion IsWord (cond v (words_from true (at + 1) text) (record { at = at; bytes = take_while is_word_byte (b ∷ text) } ∷ words_from true (at + 1) text))) [
+        | true ↦ words_are true (at + 1) text
+        | false ↦ ((omega (arith, ap length (take_while-more b text e)), front_is_word_part (b ∷ text)), words_are true (at + 1) text)
+      ]
+    ] refl
+
+-- ---- one word, by its own bytes
+
+nothing_after : (p rest : List ℕ) → IsWordPart (p ++ rest) → is_end rest ≡ true → rest ≡ []
+nothing_after [] [] h e = refl
+nothing_after [] (b ∷ rest) h e =
+    let k = both (is_word_byte b) (list_all is_word_byte rest) h in
+    let no : false ≡ true = sym (ap not e) ∙ k.0 in
+    absurd cc
+nothing_after (b ∷ p) rest h e = nothing_after p rest (both (is_word_byte b) (list_all is_word_byte (p ++ rest)) h).1 e
+
+whole_word : (bytes : List ℕ) → IsWordPart bytes → take_while is_word_byte bytes ≡ bytes
+whole_word bytes h = ap (take_while is_word_byte) (sym (append-nil bytes)) ∙ take_while-part bytes [] h ∙ append-nil bytes
+
+no_end : (bytes : List ℕ) → 0 < length bytes → IsWordPart bytes → is_end bytes ≡ false
+no_end [] some h = absurd (omega arith)
+no_end (b ∷ bytes) some h =
+    let k = both (is_word_byte b) (list_all is_word_byte bytes) h in
+    elim (is_separator b) as (λ v. not v ≡ true → v ≡ false) [ true ↦ λ e. absurd cc | false ↦ λ e. refl ] k.0
+
+abbrev PartsOutcome : Word → Result Parts TextError → Type 0
+PartsOutcome w (Ok n) = (shape : Shape) × IsShape shape × (w.bytes ≡ shape_text shape) × (n ≡ held (parts_at w.at shape))
+PartsOutcome w (Err f) = HasShapeFault w f
+
+from_scan : (w : Word) → IsWord w → (r : Result (Parts × List ℕ) TextError) → WordOutcome (w.at + length w.bytes) w.bytes r → PartsOutcome w (r >>= (λ scanned. Ok scanned.0))
+from_scan w h (Ok x) o =
+    let nothing : x.1 ≡ [] = nothing_after (shape_text o.shape) x.1 (subst IsWordPart o.parts h.1) o.ends in
+    let place : w.at + length w.bytes - length w.bytes ≡ w.at = omega arith in (
+      o.shape,
+      o.lawful,
+      o.parts ∙ ap (λ (r : List ℕ). shape_text o.shape ++ r) nothing ∙ append-nil (shape_text o.shape),
+      o.is ∙ ap (λ at. held (parts_at at o.shape)) place,
+    )
+from_scan w h (Err f) o =
+    let place : w.at + length w.bytes - length w.bytes ≡ w.at = omega arith in
+    let family : Word → Type 0 = λ v. HasShapeFault v f in
+    subst (λ (at : ℕ). HasShapeFault (record { at = at; bytes = w.bytes }) f) place
+    (subst (λ (bytes : List ℕ). HasShapeFault (record { at = w.at + length w.bytes - length w.bytes; bytes = bytes }) f) (whole_word w.bytes h.1) o)
+
+word_is : (w : Word) → IsWord w → PartsOutcome w (parts_of w)
+word_is w h = from_scan w h (scan_word (w.at + length w.bytes) w.bytes) (word_outcome (w.at + length w.bytes) w.bytes (omega arith) (no_end w.bytes h.0 h.1))
+
+-- ---- held numbers have the faults of the true ones
+
+or_none : (f g : Option TextError) → or_else f g ≡ None → (f ≡ None) × (g ≡ None)
+or_none None g h = (refl, h)
+or_none (Some f) g h = absurd cc
+
+fault_of-held : (before : Option ℕ) (at : ℕ) (t : Parts) → IsSmall before → fault_of before at (held t) ≡ fault_of before at t
+fault_of-held before at t small =
+    ap (λ f. or_else f (item_fault (order_at before (held_last t.mark)) at (held_maybe t.item))) (mark_fault-held t.mark)
+    ∙ elim (mark_fault t.mark) as (λ v. mark_fault t.mark ≡ v → or_else v (item_fault (order_at before (held_last t.mark)) at (held_maybe t.item)) ≡ or_else v (item_fault (order_at before t.mark) at t.item)) [
+      | Some f ↦ λ e. refl
+      | None ↦ λ e. ap (λ k. item_fault k at (held_maybe t.item)) (order_at-held before t.mark e) ∙ item_fault-held (order_at before t.mark) at t.item (small_order before t.mark small e)
+    ] refl
+
+-- ---- word by word
+
+record FaultIn (before : Option ℕ) (ws : List Word) (f : TextError) : Type 0 where
+  good : List Word
+  numbers : List Parts
+  bad : Word
+  others : List Word
+  parts : ws ≡ good ++ bad ∷ others
+  read : AreRead before good numbers
+  fault : IsFault (order_after before numbers) bad f
+
+abbrev Outcome : Option ℕ → List Word → Result (List Parts) TextError → Type 0
+Outcome before ws (Ok ns) = (ts : List Parts) × AreRead before ws ts × (spans_of before ns ≡ spans_of before ts) × (deepest_of ns ≡ deepest_of ts)
+Outcome before ws (Err f) = FaultIn before ws f
+
+-- the words after one that is read
+after_word : (before : Option ℕ) (w : Word) (ws : List Word) (t : Parts) → IsSmall before → Means w t → fault_of before w.at t ≡ None
+    → (r : Result (List Parts) TextError) → Outcome (order_at before t.mark) ws r → Outcome before (w ∷ ws) (r >>= (λ ns. Ok (held t ∷ ns)))
+after_word before w ws t small means none (Err f) o = record {
+  good = w ∷ o.good;
+  numbers = t ∷ o.numbers;
+  bad = o.bad;
+  others = o.others;
+  parts = ap (λ (r : List Word). w ∷ r) o.parts;
+  read = (means, none, o.read);
+  fault = o.fault;
+}
+after_word before w ws t small means none (Ok ns) o =
+    let f = or_none (mark_fault t.mark) (item_fault (order_at before t.mark) w.at t.item) none in
+    let k : order_at before (held_last t.mark) ≡ order_at before t.mark = order_at-held before t.mark f.0 in
+    let small' : IsSmall (order_at before t.mark) = small_order before t.mark small f.0 in (
+      t ∷ o.0,
+      (means, none, o.1),
+      ap (λ k. item_spans k (held_maybe t.item) ++ spans_of k ns) k
+          ∙ ap (λ (s : List (ℕ × ℕ)). s ++ spans_of (order_at before t.mark) ns) (item_spans-held (order_at before t.mark) w.at t.item small' f.1)
+          ∙ ap (λ (s : List (ℕ × ℕ)). item_spans (order_at before t.mark) t.item ++ s) o.2,
+      ap (λ k. deeper k (deepest_of ns)) (order_at-held None t.mark f.0) ∙ ap (deeper (order_at None t.mark)) o.3,
+    )
+
+-- the words from one on
+abbrev from_parts : Option ℕ → Word → List Word → Parts → Option TextError → Result (List Parts) TextError
+from_parts before w ws found fault = faultless fault found >>= (λ n. numbers_of (order_at before n.mark) ws >>= (λ ns. Ok (n ∷ ns)))
+
+from_true : (before : Option ℕ) (w : Word) (ws : List Word) (t : Parts) → IsSmall before → Means w t → ((k : Option ℕ) → IsSmall k → Outcome k ws (numbers_of k ws))
+    → Outcome before (w ∷ ws) (from_parts before w ws (held t) (fault_of before w.at t))
+from_true before w ws t small means later =
+    elim (fault_of before w.at t) as (λ v. fault_of before w.at t ≡ v → Outcome before (w ∷ ws) (from_parts before w ws (held t) v)) [
+      | Some f ↦ λ e. record { good = []; numbers = []; bad = w; others = ws; parts = refl; read = tt; fault = inr (t, means, e) }
+      | None ↦ λ e.
+          let f = or_none (mark_fault t.mark) (item_fault (order_at before t.mark) w.at t.item) e in
+          let k : order_at before t.mark ≡ order_at before (held_last t.mark) = sym (order_at-held before t.mark f.0) in
+          let o : Outcome (order_at before t.mark) ws (numbers_of (order_at before t.mark) ws) = later (order_at before t.mark) (small_order before t.mark small f.0) in
+          after_word before w ws t small means e (numbers_of (order_at before (held_last t.mark)) ws) (subst (λ j. Outcome (order_at before t.mark) ws (numbers_of j ws)) k o)
+    ] refl
+
+from_word : (before : Option ℕ) (w : Word) (ws : List Word) → IsSmall before → (r : Result Parts TextError) → PartsOutcome w r → ((k : Option ℕ) → IsSmall k → Outcome k ws (numbers_of k ws))
+    → Outcome before (w ∷ ws) (r >>= (λ found. from_parts before w ws found (fault_of before w.at found)))
+from_word before w ws small (Err f) o later = record { good = []; numbers = []; bad = w; others = ws; parts = refl; read = tt; fault = inl o }
+from_word before w ws small (Ok n) o later =
+    let t = parts_at w.at o.0 in
+    subst (λ (n : Parts). Outcome before (w ∷ ws) (from_parts before w ws n (fault_of before w.at n))) (sym o.3)
+    (subst (λ v. Outcome before (w ∷ ws) (from_parts before w ws (held t) v)) (sym (fault_of-held before w.at t small)) (from_true before w ws t small (o.0, o.1, o.2, refl) later))
+
+numbers_are : (before : Option ℕ) (ws : List Word) → IsSmall before → AllByRecursion IsWord ws → Outcome before ws (numbers_of before ws)
+numbers_are before [] small h = ([], tt, refl, refl)
+numbers_are before (w ∷ ws) small h = from_word before w ws small (parts_of w) (word_is w h.0) (λ k small'. numbers_are k ws small' h.1)
+
+-- ---- the text
+
+abbrev Told : List ℕ → Result (NumberSet × Option ℕ) TextError → Type 0
+Told text r = MatchResult r (λ read. Says text read.0 read.1) (λ fault. IsFirstFault text fault)
+
+from_numbers : (text : List ℕ) (r : Result (List Parts) TextError) → Outcome None (words text) r → Told text (r >>= (λ ns. Ok (set_of (spans_of None ns), deepest_of ns)))
+from_numbers text (Ok ns) o = (o.0, o.1, ap set_of o.2, o.3)
+from_numbers text (Err f) o = record { good = o.good; numbers = o.numbers; bad = o.bad; others = o.others; parts = o.parts; before = o.read; fault = o.fault }
+
+none_small : IsSmall None
+none_small k e = absurd cc
+
+told : (text : List ℕ) → Told text (reading_of text)
+unfolding reading_of
+told text = from_numbers text (numbers_of None (words text)) (numbers_are None (words text) none_small (words_are false 0 text))
+
+only_set : (text : List ℕ) (a : NumberSet) (k : Option ℕ) → Says text a k → (r : Result (NumberSet × Option ℕ) TextError) → Told text r → r ≡ Ok (a, k)
+only_set text a k s (Ok x) o =
+    let e = one_set text x.0 a x.1 k o s in
+    ap (λ (b : NumberSet). Ok (b, x.1)) e.0 ∙ ap (λ (j : Option ℕ). Ok (a, j)) e.1
+only_set text a k s (Err f) o = absurd (set_or_fault text a k f s o)
+
+only_fault : (text : List ℕ) (f : TextError) → IsFirstFault text f → (r : Result (NumberSet × Option ℕ) TextError) → Told text r → r ≡ Err f
+only_fault text f s (Ok x) o = absurd (set_or_fault text x.0 x.1 f o s)
+only_fault text f s (Err g) o = ap (λ (h : TextError). Err h) (one_first_fault text g f o s)
+
+pub readings_are_told : ReadingsAreTold
+readings_are_told = record {
+  told = told;
+  only_set = λ text a k s. only_set text a k s (reading_of text) (told text);
+  only_fault = λ text f s. only_fault text f s (reading_of text) (told text);
+}
+
+-- what is read as the text says is its reading
+pub reading_is : (text : List ℕ) (a : NumberSet) (k : Option ℕ) → Says text a k → IsReadingOf text (Ok (a, k))
+reading_is text a k s = readings_are_told.only_set text a k s
+
+pub fault_is : (text : List ℕ) (e : TextError) → (e ≡ Memory) ⊎ IsFirstFault text e → IsReadingOf text (Err e)
+fault_is text e (inl m) = inl m
+fault_is text e (inr f) = inr (readings_are_told.only_fault text e f)
+
+-- ---- the spans are no faulty ranges
+
+item_fine : (k : Option ℕ) (place : ℕ) (i : Option Item) → IsSmall k → item_fault k place i ≡ None → (rest : List (ℕ × ℕ)) → ((at : ℕ) → first_fault_from at rest ≡ None) → (at : ℕ) → first_fault_from at (item_spans k i ++ rest) ≡ None
+item_fine None place None small e rest h at = h at
+item_fine (Some k) place None small e rest h at = h at
+item_fine None place (Some i) small e rest h at = absurd cc
+item_fine (Some k) place (Some i) small e rest h at =
+    let p = item_cells k place i e in
+    let up : i.first.value * cell_size k ≤ ((last_of i).value + 1) * cell_size k = mul-le-mul_right (cell_size k) (omega (arith, p.2)) in
+    let fits : ((last_of i).value + 1) * cell_size k ≤ pixel_count = span_fits k ((last_of i).value + 1) (small k refl) (omega (arith, p.1)) in
+    rw (le-ltb (((last_of i).value + 1) * cell_size k) (i.first.value * cell_size k) up, le-ltb pixel_count (((last_of i).value + 1) * cell_size k) fits) (h (at + 1))
+
+spans_fine_from : (before : Option ℕ) (ws : List Word) (ns : List Parts) → IsSmall before → AreRead before ws ns → (at : ℕ) → first_fault_from at (spans_of before ns) ≡ None
+spans_fine_from before [] [] small h at = refl
+spans_fine_from before [] (n ∷ ns) small h at = absurd h
+spans_fine_from before (w ∷ ws) [] small h at = absurd h
+spans_fine_from before (w ∷ ws) (n ∷ ns) small h at =
+    let f = or_none (mark_fault n.mark) (item_fault (order_at before n.mark) w.at n.item) h.1 in
+    let small' : IsSmall (order_at before n.mark) = small_order before n.mark small f.0 in
+    item_fine (order_at before n.mark) w.at n.item small' f.1 (spans_of (order_at before n.mark) ns) (spans_fine_from (order_at before n.mark) ws ns small' h.2) at
+
+-- spans of words without a fault have none
+pub spans_fine : (ws : List Word) (ns : List Parts) → AreRead None ws ns → first_fault (spans_of None ns) ≡ None
+spans_fine ws ns h = spans_fine_from None ws ns none_small h 0

@@ -1,0 +1,403 @@
+-- A written text is read as it was meant.
+use Rattle.std.proofs.Common.{◌≡◌, ℕ, suc, ◌+◌, ◌-◌, ◌*◌, ◌^◌, ◌<◌, ◌≤◌, Bool, true, false, cond, eqb, ltb, ◌||◌, List, [], ◌∷◌, ◌++◌, length, map, max, Option, Some, None, refl, sym, ap, subst, ◌∙◌, arith, inl, inr}
+use Rattle.std.specs.Prelude.{decimal}
+use Rattle.std.specs.Str.{all_ascii_digits}
+use Rattle.std.specs.Str.Parse.{digits_value, AllDigits}
+use Rattle.std.specs.Option.{ForSome}
+use Rattle.std.specs.List.{join_with_byte, list_any, AllByRecursion}
+use Rattle.std.proofs.lemmas.List.{append-nil}
+use Rattle.std.proofs.lemmas.Bool.{cases_lt, le-leb, eqb-true, lt-ltb, le-ltb, ltb-false}
+use Rattle.std.proofs.lemmas.Str.Parse.{digit_from_value}
+use Rattle.std.proofs.lemmas.Fmt.{decimal_is_IsNumeral}
+use Rattle.moc_text.specs.Ascii.{Word, words, words_from, IsNumber, Mark, mark_text, Cells, One, Run, cells_text, AreCells, Shape, JustMark, JustItem, MarkItem, shape_text, IsShape, parts_at, mark_at, item_at, order_at, last_of, mark_fault, item_fault, or_else, fault_of, item_spans, spans_of, deeper, deepest_of, AreRead}
+use Rattle.moc_text.specs.AsciiText.{one, follows, runs_from, runs_of, run_text, order_text, mark_text_of, stated_words, words_of, ascii_text, text_of_cells, HasDeeper, deepest_cell, deepest_written, WrittenIsRead}
+use Rattle.moc_text.specs.declared.number.Item.{Item}
+use Rattle.moc_text.specs.declared.number.Parts.{Parts}
+use Rattle.moc_text.specs.declared.writing.Run.{Run as CellRun}
+use Rattle.moc_text.specs.declared.error.TextError.TheVariants.{OrderTooLarge}
+use Rattle.moc_text.proofs.Automaton.{both}
+use Rattle.moc_text.proofs.Cuts.{words_front, words_skip}
+use Rattle.moc_text.proofs.ReadWords.{shape_part, shape_some, deeper_assoc, deeper-None}
+use Rattle.moc_text.proofs.Powers.{cells_fit}
+use Rattle.moc_sphere.specs.CellNumber.{CellNumber, IsCell, cell_count, cell_size}
+use Rattle.moc_ranges.specs.Numbers.{NumberSet, same_members}
+use Rattle.moc_ranges.specs.RangeList.{set_of, in_range, contains-set_of}
+use Rattle.moc_ranges.specs.Cells.{cells_of}
+use Rattle.moc_ranges.specs.CellLaws.{cell_range, cells_are, cells_fill}
+use Rattle.std.proofs.lemmas.Bool.Decides.{nat_tests}
+use Rattle.std.proofs.Math.Nat.{mul-le-mul_right}
+
+-- ---- decimal numbers
+
+digits_are : (ds : List ℕ) → AllDigits 10 ds → all_ascii_digits ds ≡ true
+digits_are [] h = refl
+digits_are (d ∷ ds) h =
+    let r = digit_from_value d h.0 in
+    rw (le-leb 48 d r.0, le-leb d 57 r.1) (digits_are ds h.1)
+
+pub IsNumber-decimal : (n : ℕ) → n < 2 ^ 64 → IsNumber (decimal n)
+IsNumber-decimal n h =
+    let k = decimal_is_IsNumeral n h in
+    (k.0.0, digits_are (decimal n) k.0.1)
+
+pub value-decimal : (n : ℕ) → n < 2 ^ 64 → digits_value 10 (decimal n) ≡ n
+value-decimal n h = (decimal_is_IsNumeral n h).1
+
+-- ---- the words of words parted by spaces
+
+-- words of these shapes, from a place on
+abbrev placed : ℕ → List Shape → List Word
+placed at [] = []
+placed at (s ∷ ss) = record { at = at; bytes = shape_text s } ∷ placed (at + length (shape_text s) + 1) ss
+
+abbrev numbers : ℕ → List Shape → List Parts
+numbers at [] = []
+numbers at (s ∷ ss) = parts_at at s ∷ numbers (at + length (shape_text s) + 1) ss
+
+words-join : (at : ℕ) (ss : List Shape) → AllByRecursion IsShape ss → words_from false at (join_with_byte 32 (map shape_text ss)) ≡ placed at ss
+words-join at [] h = refl
+words-join at (s ∷ []) h =
+    ap (words_from false at) (sym (append-nil (shape_text s))) ∙ words_front (shape_text s) [] at (shape_some s h.0) (shape_part s h.0) refl
+words-join at (s ∷ t ∷ ss) h =
+    words_front (shape_text s) (32 ∷ join_with_byte 32 (map shape_text (t ∷ ss))) at (shape_some s h.0) (shape_part s h.0) refl
+    ∙ ap (λ (ws : List Word). record { at = at; bytes = shape_text s } ∷ ws) (words_skip 32 (join_with_byte 32 (map shape_text (t ∷ ss))) (at + length (shape_text s)) refl ∙ words-join (at + length (shape_text s) + 1) (t ∷ ss) h.1)
+
+-- ---- the shapes of a written text
+
+abbrev order_mark : ℕ → Mark
+order_mark k = record { prefixed = false; order = decimal k }
+
+abbrev run_cells : CellRun → Cells
+run_cells r = cond (eqb r.first r.last) (One (decimal r.first)) (Run (decimal r.first) (decimal r.last))
+
+abbrev run_shape : Option ℕ → CellRun → Shape
+run_shape None r = MarkItem (order_mark r.order) (run_cells r)
+run_shape (Some j) r = cond (eqb j r.order) (JustItem (run_cells r)) (MarkItem (order_mark r.order) (run_cells r))
+
+abbrev stated_shapes : Option ℕ → Option ℕ → List Shape
+stated_shapes before None = []
+stated_shapes None (Some k) = JustMark (order_mark k) ∷ []
+stated_shapes (Some j) (Some k) = cond (ltb j k) (JustMark (order_mark k) ∷ []) []
+
+abbrev shapes_of : Option ℕ → Option ℕ → List CellRun → List Shape
+shapes_of stated before [] = stated_shapes before stated
+shapes_of stated before (r ∷ rs) = run_shape before r ∷ shapes_of stated (Some r.order) rs
+
+run_cells-text : (r : CellRun) → cells_text (run_cells r) ≡ run_text r
+run_cells-text r = elim (eqb r.first r.last) as (λ v. cells_text (cond v (One (decimal r.first)) (Run (decimal r.first) (decimal r.last))) ≡ cond v (decimal r.first) (decimal r.first ++ 45 ∷ decimal r.last)) [ true ↦ refl | false ↦ refl ]
+
+run_shape-text : (before : Option ℕ) (r : CellRun) → shape_text (run_shape before r) ≡ mark_text_of before r.order ++ run_text r
+run_shape-text None r = ap (λ (t : List ℕ). order_text r.order ++ t) (run_cells-text r)
+run_shape-text (Some j) r =
+    elim (eqb j r.order) as (λ v. shape_text (cond v (JustItem (run_cells r)) (MarkItem (order_mark r.order) (run_cells r))) ≡ cond v [] (order_text r.order) ++ run_text r) [
+      | true ↦ run_cells-text r
+      | false ↦ ap (λ (t : List ℕ). order_text r.order ++ t) (run_cells-text r)
+    ]
+
+stated_shapes-text : (before stated : Option ℕ) → map shape_text (stated_shapes before stated) ≡ stated_words before stated
+stated_shapes-text before None = refl
+stated_shapes-text None (Some k) = refl
+stated_shapes-text (Some j) (Some k) = elim (ltb j k) as (λ v. map shape_text (cond v (JustMark (order_mark k) ∷ []) []) ≡ cond v (order_text k ∷ []) []) [ true ↦ refl | false ↦ refl ]
+
+shapes_of-text : (stated before : Option ℕ) (rs : List CellRun) → map shape_text (shapes_of stated before rs) ≡ words_of stated before rs
+shapes_of-text stated before [] = stated_shapes-text before stated
+shapes_of-text stated before (r ∷ rs) =
+    ap (λ (w : List ℕ). w ∷ map shape_text (shapes_of stated (Some r.order) rs)) (run_shape-text before r)
+    ∙ ap (λ (ws : List (List ℕ)). (mark_text_of before r.order ++ run_text r) ∷ ws) (shapes_of-text stated (Some r.order) rs)
+
+-- ---- runs of cells
+
+pub record IsRun (r : CellRun) : Type 0 where
+  pub order : r.order ≤ 29
+  pub forwards : r.first ≤ r.last
+  pub last : r.last < cell_count r.order
+
+runs_from-all : (r : CellRun) (cs : List CellNumber) → IsRun r → AllByRecursion IsCell cs → AllByRecursion IsRun (runs_from r cs)
+runs_from-all r [] h all = (h, tt)
+runs_from-all r (c ∷ cs) h all =
+    let k : IsCell c = all.0 in
+    elim (follows r c) as (λ v. follows r c ≡ v → AllByRecursion IsRun (cond v (runs_from (record r { last = c.index }) cs) (r ∷ runs_from (one c) cs))) [
+      | true ↦ λ e.
+          let p = both (eqb c.order r.order) (eqb (r.last + 1) c.index) e in
+          let o : c.order ≡ r.order = eqb-true c.order r.order p.0 in
+          let n : r.last + 1 ≡ c.index = eqb-true (r.last + 1) c.index p.1 in
+          runs_from-all (record r { last = c.index }) cs (record { order = h.order; forwards = omega (arith, h.forwards); last = subst (λ j. c.index < cell_count j) o k.index_in_range }) all.1
+      | false ↦ λ e. (h, runs_from-all (one c) cs (record { order = k.order_in_range; forwards = omega arith; last = k.index_in_range }) all.1)
+    ] refl
+
+runs_of-all : (cells : List CellNumber) → AllByRecursion IsCell cells → AllByRecursion IsRun (runs_of cells)
+runs_of-all [] all = tt
+runs_of-all (c ∷ cs) all =
+    let k : IsCell c = all.0 in
+    runs_from-all (one c) cs (record { order = k.order_in_range; forwards = omega arith; last = k.index_in_range }) all.1
+
+-- ---- the shapes are lawful
+
+run_cells_are : (r : CellRun) → IsRun r → AreCells (run_cells r)
+run_cells_are r h =
+    let fit = cells_fit r.order h.order in
+    let a : IsNumber (decimal r.first) = IsNumber-decimal r.first (omega (arith, h.forwards, h.last)) in
+    let b : IsNumber (decimal r.last) = IsNumber-decimal r.last (omega (arith, h.last)) in
+    elim (eqb r.first r.last) as (λ v. AreCells (cond v (One (decimal r.first)) (Run (decimal r.first) (decimal r.last)))) [ true ↦ a | false ↦ (a, b) ]
+
+order_number : (k : ℕ) → k ≤ 29 → IsNumber (decimal k)
+order_number k h = IsNumber-decimal k (omega arith)
+
+run_shape_is : (before : Option ℕ) (r : CellRun) → IsRun r → IsShape (run_shape before r)
+run_shape_is None r h = (order_number r.order h.order, run_cells_are r h)
+run_shape_is (Some j) r h =
+    elim (eqb j r.order) as (λ v. IsShape (cond v (JustItem (run_cells r)) (MarkItem (order_mark r.order) (run_cells r)))) [ true ↦ run_cells_are r h | false ↦ (order_number r.order h.order, run_cells_are r h) ]
+
+abbrev IsSmall : Option ℕ → Type 0
+IsSmall k = ForSome k (λ n. n ≤ 29)
+
+stated_shapes_are : (before stated : Option ℕ) → IsSmall stated → AllByRecursion IsShape (stated_shapes before stated)
+stated_shapes_are before None h = tt
+stated_shapes_are None (Some k) h = (order_number k (h k refl), tt)
+stated_shapes_are (Some j) (Some k) h = elim (ltb j k) as (λ v. AllByRecursion IsShape (cond v (JustMark (order_mark k) ∷ []) [])) [ true ↦ (order_number k (h k refl), tt) | false ↦ tt ]
+
+shapes_are : (stated before : Option ℕ) (rs : List CellRun) → IsSmall stated → AllByRecursion IsRun rs → AllByRecursion IsShape (shapes_of stated before rs)
+shapes_are stated before [] small h = stated_shapes_are before stated small
+shapes_are stated before (r ∷ rs) small h = (run_shape_is before r h.0, shapes_are stated (Some r.order) rs small h.1)
+
+-- ---- their numbers
+
+abbrev run_span : CellRun → ℕ × ℕ
+run_span r = (r.first * cell_size r.order, (r.last + 1) * cell_size r.order)
+
+record RunItem (r : CellRun) (i : Item) : Type 0 where
+  first : i.first.value ≡ r.first
+  last : (last_of i).value ≡ r.last
+
+run_item : (at : ℕ) (r : CellRun) → IsRun r → RunItem r (item_at at (run_cells r))
+run_item at r h =
+    let fit = cells_fit r.order h.order in
+    let a : digits_value 10 (decimal r.first) ≡ r.first = value-decimal r.first (omega (arith, h.forwards, h.last)) in
+    let b : digits_value 10 (decimal r.last) ≡ r.last = value-decimal r.last (omega (arith, h.last)) in
+    elim (eqb r.first r.last) as (λ v. eqb r.first r.last ≡ v → RunItem r (item_at at (cond v (One (decimal r.first)) (Run (decimal r.first) (decimal r.last))))) [
+      | true ↦ λ e. record { first = a; last = a ∙ eqb-true r.first r.last e }
+      | false ↦ λ e. record { first = a; last = b }
+    ] refl
+
+-- what a run's numbers say, where an order was in force or none
+record RunParts (before : Option ℕ) (r : CellRun) (n : Parts) : Type 0 where
+  mark : mark_fault n.mark ≡ None
+  order : order_at before n.mark ≡ Some r.order
+  deepest : (x : Option ℕ) → deeper before (deeper (order_at None n.mark) x) ≡ deeper before (deeper (Some r.order) x)
+  item : Item
+  item_is : n.item ≡ Some item
+  values : RunItem r item
+
+order_mark-fault : (at k : ℕ) → k ≤ 29 → mark_fault (Some (mark_at at (order_mark k))) ≡ None
+order_mark-fault at k h = ap (λ v. cond (ltb 29 v) (Some (OrderTooLarge (at + 0))) None) (value-decimal k (omega arith)) ∙ rw (le-ltb 29 k h) refl
+
+order_mark-value : (at k : ℕ) → k ≤ 29 → Some ((mark_at at (order_mark k)).value) ≡ Some k
+order_mark-value at k h = ap (λ (n : ℕ). Some n) (value-decimal k (omega arith))
+
+marked_parts : (before : Option ℕ) (at : ℕ) (r : CellRun) → IsRun r → RunParts before r (parts_at at (MarkItem (order_mark r.order) (run_cells r)))
+marked_parts before at r h = record {
+  mark = order_mark-fault at r.order h.order;
+  order = order_mark-value at r.order h.order;
+  deepest = λ x. ap (λ k. deeper before (deeper k x)) (order_mark-value at r.order h.order);
+  item = item_at (at + length (mark_text (order_mark r.order))) (run_cells r);
+  item_is = refl;
+  values = run_item (at + length (mark_text (order_mark r.order))) r h;
+}
+
+deeper_same : (j : ℕ) (x : Option ℕ) → deeper (Some j) (deeper (Some j) x) ≡ deeper (Some j) x
+deeper_same j x = sym (deeper_assoc (Some j) (Some j) x) ∙ ap (λ n. deeper (Some n) x) (omega arith)
+
+run_parts : (before : Option ℕ) (at : ℕ) (r : CellRun) → IsRun r → RunParts before r (parts_at at (run_shape before r))
+run_parts None at r h = marked_parts None at r h
+run_parts (Some j) at r h =
+    elim (eqb j r.order) as (λ v. eqb j r.order ≡ v → RunParts (Some j) r (parts_at at (cond v (JustItem (run_cells r)) (MarkItem (order_mark r.order) (run_cells r))))) [
+      | true ↦ λ e.
+          let same : j ≡ r.order = eqb-true j r.order e in
+          record {
+            mark = refl;
+            order = ap (λ (n : ℕ). Some n) same;
+            deepest = λ x. sym (deeper_same j x) ∙ ap (λ n. deeper (Some j) (deeper (Some n) x)) same;
+            item = item_at at (run_cells r);
+            item_is = refl;
+            values = run_item at r h;
+          }
+      | false ↦ λ e. marked_parts (Some j) at r h
+    ] refl
+
+item_ok : (k at : ℕ) (i : Item) (r : CellRun) → RunItem r i → r.first ≤ r.last → r.last < cell_count k → item_fault (Some k) at (Some i) ≡ None
+item_ok k at i r v le lt =
+    let a : ltb i.first.value (cell_count k) ≡ true = lt-ltb _ _ (omega (arith, v.first)) in
+    let b : ltb (last_of i).value (cell_count k) ≡ true = lt-ltb _ _ (omega (arith, v.last)) in
+    let c : ltb (last_of i).value i.first.value ≡ false = le-ltb _ _ (omega (arith, v.first, v.last)) in
+    rw (a, b, c) refl
+
+run_fault : (before : Option ℕ) (at : ℕ) (r : CellRun) (n : Parts) → IsRun r → RunParts before r n → fault_of before at n ≡ None
+run_fault before at r n h p =
+    let i : item_fault (order_at before n.mark) at n.item ≡ None = ap (λ k. item_fault k at n.item) p.order ∙ ap (item_fault (Some r.order) at) p.item_is ∙ item_ok r.order at p.item r p.values h.forwards h.last in
+    rw (p.mark, i) refl
+
+stated_read : (before stated : Option ℕ) (at : ℕ) → IsSmall stated → AreRead before (placed at (stated_shapes before stated)) (numbers at (stated_shapes before stated))
+stated_read before None at h = tt
+stated_read None (Some k) at h = ((JustMark (order_mark k), order_number k (h k refl), refl, refl), ap (λ f. or_else f None) (order_mark-fault at k (h k refl)), tt)
+stated_read (Some j) (Some k) at h =
+    elim (ltb j k) as (λ v. AreRead (Some j) (placed at (cond v (JustMark (order_mark k) ∷ []) [])) (numbers at (cond v (JustMark (order_mark k) ∷ []) []))) [
+      | true ↦ ((JustMark (order_mark k), order_number k (h k refl), refl, refl), ap (λ f. or_else f None) (order_mark-fault at k (h k refl)), tt)
+      | false ↦ tt
+    ]
+
+runs_read : (stated before : Option ℕ) (rs : List CellRun) (at : ℕ) → IsSmall stated → AllByRecursion IsRun rs → AreRead before (placed at (shapes_of stated before rs)) (numbers at (shapes_of stated before rs))
+runs_read stated before [] at small h = stated_read before stated at small
+runs_read stated before (r ∷ rs) at small h =
+    let p = run_parts before at r h.0 in
+    let next = at + length (shape_text (run_shape before r)) + 1 in (
+      (run_shape before r, run_shape_is before r h.0, refl, refl),
+      run_fault before at r (parts_at at (run_shape before r)) h.0 p,
+      subst (λ k. AreRead k (placed next (shapes_of stated (Some r.order) rs)) (numbers next (shapes_of stated (Some r.order) rs))) (sym p.order) (runs_read stated (Some r.order) rs next small h.1),
+    )
+
+-- ---- their spans and their deepest order
+
+stated_spans : (before stated : Option ℕ) (at : ℕ) → spans_of before (numbers at (stated_shapes before stated)) ≡ []
+stated_spans before None at = refl
+stated_spans None (Some k) at = refl
+stated_spans (Some j) (Some k) at = elim (ltb j k) as (λ v. spans_of (Some j) (numbers at (cond v (JustMark (order_mark k) ∷ []) [])) ≡ []) [ true ↦ refl | false ↦ refl ]
+
+run_spans : (before : Option ℕ) (r : CellRun) (n : Parts) → RunParts before r n → item_spans (order_at before n.mark) n.item ≡ run_span r ∷ []
+run_spans before r n p =
+    ap (λ k. item_spans k n.item) p.order ∙ ap (item_spans (Some r.order)) p.item_is
+    ∙ ap (λ (f : ℕ). (f * cell_size r.order, ((last_of p.item).value + 1) * cell_size r.order) ∷ []) p.values.first
+    ∙ ap (λ (l : ℕ). (r.first * cell_size r.order, (l + 1) * cell_size r.order) ∷ []) p.values.last
+
+runs_spans : (stated before : Option ℕ) (rs : List CellRun) (at : ℕ) → AllByRecursion IsRun rs → spans_of before (numbers at (shapes_of stated before rs)) ≡ map run_span rs
+runs_spans stated before [] at h = stated_spans before stated at
+runs_spans stated before (r ∷ rs) at h =
+    let n = parts_at at (run_shape before r) in
+    let p = run_parts before at r h.0 in
+    let others = numbers (at + length (shape_text (run_shape before r)) + 1) (shapes_of stated (Some r.order) rs) in
+    ap (λ (x : List (ℕ × ℕ)). x ++ spans_of (order_at before n.mark) others) (run_spans before r n p)
+    ∙ ap (λ (k : Option ℕ). run_span r ∷ spans_of k others) p.order
+    ∙ ap (λ (x : List (ℕ × ℕ)). run_span r ∷ x) (runs_spans stated (Some r.order) rs (at + length (shape_text (run_shape before r)) + 1) h.1)
+
+abbrev deepest_run : List CellRun → Option ℕ
+deepest_run [] = None
+deepest_run (r ∷ rs) = deeper (Some r.order) (deepest_run rs)
+
+max_left : (j k : ℕ) → k ≤ j → j ≡ max j k
+max_left j k h = omega arith
+
+stated_deepest : (before stated : Option ℕ) (at : ℕ) → IsSmall stated → deeper before (deepest_of (numbers at (stated_shapes before stated))) ≡ deeper before stated
+stated_deepest before None at h = refl
+stated_deepest None (Some k) at h = order_mark-value at k (h k refl)
+stated_deepest (Some j) (Some k) at h =
+    elim (ltb j k) as (λ v. ltb j k ≡ v → deeper (Some j) (deepest_of (numbers at (cond v (JustMark (order_mark k) ∷ []) []))) ≡ deeper (Some j) (Some k)) [
+      | true ↦ λ e. ap (deeper (Some j)) (order_mark-value at k (h k refl))
+      | false ↦ λ e. ap (λ (n : ℕ). Some n) (max_left j k (ltb-false j k e))
+    ] refl
+
+runs_deepest : (stated before : Option ℕ) (rs : List CellRun) (at : ℕ) → IsSmall stated → AllByRecursion IsRun rs → deeper before (deepest_of (numbers at (shapes_of stated before rs))) ≡ deeper before (deeper (deepest_run rs) stated)
+runs_deepest stated before [] at small h = stated_deepest before stated at small
+runs_deepest stated before (r ∷ rs) at small h =
+    let p = run_parts before at r h.0 in
+    let next = at + length (shape_text (run_shape before r)) + 1 in
+    p.deepest (deepest_of (numbers next (shapes_of stated (Some r.order) rs)))
+    ∙ ap (deeper before) (runs_deepest stated (Some r.order) rs next small h.1)
+    ∙ ap (deeper before) (sym (deeper_assoc (Some r.order) (deepest_run rs) stated))
+
+-- ---- runs and their cells
+
+abbrev within : ℕ → ℕ × ℕ → Bool
+within q s = in_range s q
+
+-- two spans that touch
+within-join : (x y z q : ℕ) → x ≤ y → y ≤ z → within q (x, z) ≡ (within q (x, y) || within q (y, z))
+within-join x y z q h k = grind (arith, nat_tests)
+
+-- spans with the same pixels have one union
+same_pixels : (ss ts : List (ℕ × ℕ)) → ((q : ℕ) → list_any (within q) ss ≡ list_any (within q) ts) → set_of ss ≡ set_of ts
+same_pixels ss ts h = same_members (set_of ss) (set_of ts) (λ q. contains-set_of ss q ∙ h q ∙ sym (contains-set_of ts q))
+
+or_regroup : (a b c : Bool) → ((a || b) || c) ≡ (a || (b || c))
+or_regroup true b c = refl
+or_regroup false b c = refl
+
+-- a run that goes on to the next cell
+run_more : (r : CellRun) (c : CellNumber) (q : ℕ) → r.first ≤ r.last → r.last + 1 ≡ c.index → c.order ≡ r.order → within q (run_span (record r { last = c.index })) ≡ (within q (run_span r) || within q (cell_range c))
+run_more r c q le n o =
+    let w = cell_size r.order in
+    let x : r.first * w ≤ (r.last + 1) * w = mul-le-mul_right w (omega arith) in
+    let y : (r.last + 1) * w ≤ (c.index + 1) * w = mul-le-mul_right w (omega arith) in
+    within-join (r.first * w) ((r.last + 1) * w) ((c.index + 1) * w) q x y
+    ∙ ap (λ (k : ℕ). within q (run_span r) || within q (k * w, (c.index + 1) * w)) n
+    ∙ ap (λ (k : ℕ). within q (run_span r) || within q (c.index * cell_size k, (c.index + 1) * cell_size k)) (sym o)
+
+runs_from-within : (r : CellRun) (cs : List CellNumber) (q : ℕ) → IsRun r → AllByRecursion IsCell cs → list_any (within q) (map run_span (runs_from r cs)) ≡ (within q (run_span r) || list_any (within q) (map cell_range cs))
+runs_from-within r [] q h all = refl
+runs_from-within r (c ∷ cs) q h all =
+    let k : IsCell c = all.0 in
+    elim (follows r c) as (λ v. follows r c ≡ v → list_any (within q) (map run_span (cond v (runs_from (record r { last = c.index }) cs) (r ∷ runs_from (one c) cs))) ≡ (within q (run_span r) || (within q (cell_range c) || list_any (within q) (map cell_range cs)))) [
+      | true ↦ λ e.
+          let p = both (eqb c.order r.order) (eqb (r.last + 1) c.index) e in
+          let o : c.order ≡ r.order = eqb-true c.order r.order p.0 in
+          let n : r.last + 1 ≡ c.index = eqb-true (r.last + 1) c.index p.1 in
+          let longer : IsRun (record r { last = c.index }) = record { order = h.order; forwards = omega (arith, h.forwards); last = subst (λ j. c.index < cell_count j) o k.index_in_range } in
+          runs_from-within (record r { last = c.index }) cs q longer all.1
+          ∙ ap (λ b. b || list_any (within q) (map cell_range cs)) (run_more r c q h.forwards n o)
+          ∙ or_regroup (within q (run_span r)) (within q (cell_range c)) (list_any (within q) (map cell_range cs))
+      | false ↦ λ e.
+          ap (λ b. within q (run_span r) || b) (runs_from-within (one c) cs q (record { order = k.order_in_range; forwards = omega arith; last = k.index_in_range }) all.1)
+    ] refl
+
+runs_pixels : (cells : List CellNumber) → AllByRecursion IsCell cells → set_of (map run_span (runs_of cells)) ≡ set_of (map cell_range cells)
+runs_pixels [] all = refl
+runs_pixels (c ∷ cs) all =
+    let k : IsCell c = all.0 in
+    same_pixels (map run_span (runs_from (one c) cs)) (map cell_range (c ∷ cs)) (λ q. runs_from-within (one c) cs q (record { order = k.order_in_range; forwards = omega arith; last = k.index_in_range }) all.1)
+
+runs_from-deepest : (r : CellRun) (cs : List CellNumber) → deepest_run (runs_from r cs) ≡ deeper (Some r.order) (deepest_cell cs)
+runs_from-deepest r [] = refl
+runs_from-deepest r (c ∷ cs) =
+    elim (follows r c) as (λ v. follows r c ≡ v → deepest_run (cond v (runs_from (record r { last = c.index }) cs) (r ∷ runs_from (one c) cs)) ≡ deeper (Some r.order) (deeper (Some c.order) (deepest_cell cs))) [
+      | true ↦ λ e.
+          let p = both (eqb c.order r.order) (eqb (r.last + 1) c.index) e in
+          let o : c.order ≡ r.order = eqb-true c.order r.order p.0 in
+          runs_from-deepest (record r { last = c.index }) cs ∙ sym (deeper_same r.order (deepest_cell cs)) ∙ ap (λ n. deeper (Some r.order) (deeper (Some n) (deepest_cell cs))) (sym o)
+      | false ↦ λ e. ap (deeper (Some r.order)) (runs_from-deepest (one c) cs)
+    ] refl
+
+runs_of-deepest : (cells : List CellNumber) → deepest_run (runs_of cells) ≡ deepest_cell cells
+runs_of-deepest [] = refl
+runs_of-deepest (c ∷ cs) = runs_from-deepest (one c) cs
+
+not_deeper : (c : CellNumber) (cs : List CellNumber) (k : ℕ) → (HasDeeper (c ∷ cs) (Some k) → ⊥) → c.order ≤ k
+not_deeper c cs k h = elim (cases_lt k c.order) [ inl lt ↦ absurd (h (0, c, omega arith, refl, lt)) | inr le ↦ le ]
+
+-- a stated order is at least as deep as each cell
+stated_is_deepest : (cells : List CellNumber) (k : ℕ) → (HasDeeper cells (Some k) → ⊥) → deeper (deepest_cell cells) (Some k) ≡ Some k
+stated_is_deepest [] k h = refl
+stated_is_deepest (c ∷ cs) k h =
+    let here : c.order ≤ k = not_deeper c cs k h in
+    deeper_assoc (Some c.order) (deepest_cell cs) (Some k)
+    ∙ ap (deeper (Some c.order)) (stated_is_deepest cs k (λ x. h (suc x.0, x.1, omega (arith, x.2), x.3, x.4)))
+    ∙ ap (λ (n : ℕ). Some n) (omega arith)
+
+deepest_is_written : (a : NumberSet) (stated : Option ℕ) → (HasDeeper (cells_of a) stated → ⊥) → deeper (deepest_cell (cells_of a)) stated ≡ deepest_written a stated
+deepest_is_written a None h = deeper-None (deepest_cell (cells_of a))
+deepest_is_written a (Some k) h = stated_is_deepest (cells_of a) k h
+
+-- ---- the whole text
+
+pub written_is_read : WrittenIsRead
+unfolding ascii_text
+written_is_read a stated in_pixels small fine =
+    let cells = cells_of a in
+    let all : AllByRecursion IsCell cells = cells_are a in
+    let rs = runs_of cells in
+    let runs : AllByRecursion IsRun rs = runs_of-all cells all in
+    let shapes = shapes_of stated None rs in
+    let text : join_with_byte 32 (map shape_text shapes) ≡ text_of_cells cells stated = ap (join_with_byte 32) (shapes_of-text stated None rs) in
+    let ws : placed 0 shapes ≡ words (text_of_cells cells stated) = sym (words-join 0 shapes (shapes_are stated None rs small runs)) ∙ ap words text in (
+      numbers 0 shapes,
+      subst (λ (w : List Word). AreRead None w (numbers 0 shapes)) ws (runs_read stated None rs 0 small runs),
+      sym (ap set_of (runs_spans stated None rs 0 runs) ∙ runs_pixels cells all ∙ cells_fill a in_pixels),
+      sym (runs_deepest stated None rs 0 small runs ∙ ap (λ k. deeper k stated) (runs_of-deepest cells) ∙ deepest_is_written a stated fine),
+    )
