@@ -72,3 +72,69 @@ fn no_input_and_no_last_line_feed(rt: HostRuntime) {
     assert_eq!(rt; result, Ok(()));
     assert_eq!(rt; text.as_slice(), ended.as_slice());
 }
+
+// Runs a script over std's readers and writers.
+fn run_over(alloc: Global, script: &[u8]) -> (Result<(), RunError>, Vec<u8>) {
+    let mut taken = Vec::new(alloc);
+    let mut source = OverReader::new(script);
+    let mut sink = OverWriter::new(&mut taken);
+    let result = run(alloc, &mut source, &mut sink);
+    drop(sink);
+    (result, taken)
+}
+
+#[test]
+fn longest_line(rt: HostRuntime) -> Result<(), Fail> {
+    let mut line = vec![in rt.alloc(); b' '; LINE_LIMIT]?;
+    line[..3].copy_from_slice(b"add");
+    let (result, text) = run_over(rt.alloc(), &line);
+    assert_eq!(rt; result, Ok(()));
+    assert_eq!(rt; text.as_slice(), b"changed 0\n".as_slice());
+    line.push(b' ')?;
+    let (result, text) = run_over(rt.alloc(), &line);
+    assert_eq!(rt; result, Err(RunError::LineTooLong { line: 1 }));
+    assert!(rt; text.is_empty());
+    Ok(())
+}
+
+// The bytes up to the last line feed.
+fn whole_lines(text: &[u8]) -> &[u8] {
+    match text.iter().rposition(|byte| *byte == b'\n') {
+        Some(at) => text.split_at(at).0,
+        None => b"",
+    }
+}
+
+#[test]
+fn failing_reads(rt: HostRuntime) {
+    for reads in 0..SCRIPT.len() + 1 {
+        let (result, text) = run_through(rt.alloc(), SCRIPT, reads as u64, PLENTY, true);
+        assert_eq!(rt; result, Err(RunError::Read), "after {reads} reads");
+        let given = whole_lines(SCRIPT.split_at(reads).0);
+        let (_, expected) = run_through(rt.alloc(), given, PLENTY, PLENTY, true);
+        assert_eq!(rt; text.as_slice(), expected.as_slice(), "after {reads} reads");
+    }
+    let reads = SCRIPT.len() as u64 + 1;
+    let (result, text) = run_through(rt.alloc(), SCRIPT, reads, PLENTY, true);
+    assert_eq!(rt; result, Ok(()));
+    assert_eq!(rt; text.as_slice(), ANSWERS);
+}
+
+#[test]
+fn failing_writes(rt: HostRuntime) {
+    for writes in 0..ANSWERS.len() {
+        let (result, text) = run_through(rt.alloc(), SCRIPT, PLENTY, writes as u64, true);
+        assert_eq!(rt; result, Err(RunError::Write), "after {writes} writes");
+        assert_eq!(rt; text.as_slice(), ANSWERS.split_at(writes).0, "after {writes} writes");
+    }
+    let (result, text) = run_through(rt.alloc(), SCRIPT, PLENTY, ANSWERS.len() as u64, true);
+    assert_eq!(rt; result, Ok(()));
+    assert_eq!(rt; text.as_slice(), ANSWERS);
+}
+
+#[test]
+fn failing_flush(rt: HostRuntime) {
+    let (result, text) = run_through(rt.alloc(), SCRIPT, PLENTY, PLENTY, false);
+    assert_eq!(rt; result, Err(RunError::Write));
+    assert_eq!(rt; text.as_slice(), ANSWERS);
+}
