@@ -1,7 +1,7 @@
 //! What scripts are answered.
 use crate::failing::{FailingSink, FailingSource};
 use moc_script::{LINE_LIMIT, OverReader, OverWriter, RunError, run};
-use std::alloc::Global;
+use std::alloc::{AllocError, Global};
 use std::test::Fail;
 
 const PLENTY: u64 = 1 << 40;
@@ -83,10 +83,16 @@ fn run_over(alloc: Global, script: &[u8]) -> (Result<(), RunError>, Vec<u8>) {
     (result, taken)
 }
 
+// `add` and spaces, so many bytes.
+fn add_and_spaces(alloc: Global, len: usize) -> Result<Vec<u8>, AllocError> {
+    let mut line = Vec::from_slice(alloc, b"add")?;
+    line.resize(len, b' ')?;
+    Ok(line)
+}
+
 #[test]
 fn longest_line(rt: HostRuntime) -> Result<(), Fail> {
-    let mut line = vec![in rt.alloc(); b' '; LINE_LIMIT]?;
-    line[..3].copy_from_slice(b"add");
+    let mut line = add_and_spaces(rt.alloc(), LINE_LIMIT)?;
     let (result, text) = run_over(rt.alloc(), &line);
     assert_eq!(rt; result, Ok(()));
     assert_eq!(rt; text.as_slice(), b"changed 0\n".as_slice());
