@@ -19,14 +19,16 @@ abbrev pub ◌>>=◌ : {A B : Type 0} → Result A Fault → (A → Result B Fau
 (Ok x) >>= f = f x
 (Err fault) >>= f = Err fault
 
--- the fault of a text that is no coverage, without its place; no text has a fault of another kind
+-- the fault of a text that is no coverage, without its place (a text has neither of the last two)
 abbrev pub fault_of : TextError → Fault
 fault_of (text.BadByte at) = BadByte
 fault_of (text.NoOrder at) = NoOrder
 fault_of (text.OrderTooLarge at) = OrderTooLarge
 fault_of (text.CellTooLarge at) = CellTooLarge
 fault_of (text.Backwards at) = Backwards
-fault_of _ = Unfinished
+fault_of (text.Unfinished at) = Unfinished
+fault_of text.Memory = Unfinished
+fault_of text.TooCoarse = Unfinished
 
 abbrev pub coverage_or_fault : Result (NumberSet × Option ℕ) TextError → Result NumberSet Fault
 coverage_or_fault (Ok read) = Ok read.0

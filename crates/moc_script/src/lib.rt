@@ -3,17 +3,20 @@
 
 mod bytes;
 mod command;
-mod devices;
 mod fault;
 mod laws;
 mod line_reader;
 mod machine;
 mod map;
 mod reply;
+mod responder;
 mod script;
+mod sink;
+mod source;
 mod words;
 
-pub use devices::{DeviceFault, OverReader, OverWriter, Sink, Source};
 pub use laws::{lines_of_one_command, lines_without_order};
 pub use line_reader::LINE_LIMIT;
 pub use script::{RunError, run};
+pub use sink::{OverWriter, Sink};
+pub use source::{DeviceFault, OverReader, Source};

@@ -5,7 +5,7 @@ ghost use Rattle.std.specs.Io.KnownBytes.{Keeps, Consumes, IsAtEnd};
 ghost use Rattle.moc_script.specs.Lines.{is_line_feed};
 
 use crate::bytes::first_or_len;
-use crate::devices::{DeviceFault, Source};
+use crate::source::{DeviceFault, Source};
 use std::alloc::{AllocError, Global};
 use std::marker::Model;
 

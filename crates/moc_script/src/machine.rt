@@ -17,6 +17,7 @@ const MOST: usize = 16;
 
 /// Something that does commands.
 pub trait Machine {
+    /// What a piece of a line says.
     type Command: Drop;
 
     /// What a piece of a line says that is not blank.
@@ -28,6 +29,7 @@ pub trait Machine {
     /// What a command leaves.
     ghost after: { Self → Self.Command → Self };
 
+    /// Reads a piece of a line.
     fn read_piece(alloc: Global, piece: &[u8]) -> Result<Self::Command, ReadError>
         ensures { Reads (λ x. x) result (says piece.now) };
 
@@ -125,7 +127,7 @@ fn push_fault(fault: Fault, text: &mut Vec<u8>) -> Result<(), Memory>
 }
 
 /// Does what a line says, and adds the answer to the text.
-pub fn answer_line<M: Machine>(
+pub(crate) fn answer_batch<M: Machine>(
     machine: &mut M,
     alloc: Global,
     line: &[u8],

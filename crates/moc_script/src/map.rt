@@ -3,12 +3,14 @@ ghost use Rattle.std.specs.Prelude.{◌≡◌, IfOk, OnOk, OnErr};
 ghost use Rattle.std.specs.FinSet as set;
 ghost use Rattle.moc_script.specs.Language.{command_of};
 ghost use Rattle.moc_script.specs.Replies.{operand_set, reply_on, set_after, text_on};
+ghost use Rattle.moc_script.specs.Scripts.{answer_on, set_after_line};
 ghost use Rattle.moc_script.specs.declared.reply.Reply.TheVariants.{Changed, Total, Cover};
 
 use crate::command::{Command, Operand, read_command};
 use crate::fault::ReadError;
-use crate::machine::Machine;
+use crate::machine::{Machine, answer_batch};
 use crate::reply::Reply;
+use crate::responder::Responder;
 use moc_ranges::{Coverage, Memory};
 use std::alloc::Global;
 use std::marker::Model;
@@ -107,5 +109,20 @@ impl Machine for Map {
     ) -> Result<(), Memory> {
         let reply = self.apply(alloc, command)?;
         reply.push_to(alloc, text)
+    }
+}
+
+impl Responder for Map {
+    ghost answer = { answer_on };
+
+    ghost after = { set_after_line };
+
+    fn answer_line(
+        &mut self,
+        alloc: Global,
+        line: &[u8],
+        text: &mut Vec<u8>,
+    ) -> Result<(), Memory> {
+        answer_batch(self, alloc, line, text)
     }
 }

@@ -1,14 +1,14 @@
 //! Scripts, run from a reader to a writer.
 ghost use Rattle.std.specs.Prelude.{◌≡◌, ◌++◌, ◌||◌, [], ℕ, List, None, Some, IfSome, IsTrue, ◌↔◌, false, OnOk, OnErr, IsErrOf, Err, is_err};
 ghost use Rattle.std.specs.Io.KnownBytes.{Appends, Keeps, IsAtEnd};
-ghost use Rattle.moc_script.specs.Batches.{line_answer, after_line};
 ghost use Rattle.moc_script.specs.Runs.{Runs, Ended, Sends};
 ghost use Rattle.moc_script.specs.Scripts.{RunsScript};
 
-use crate::devices::{DeviceFault, Sink, Source};
 use crate::line_reader::{Found, LINE_LIMIT, LineFault, LineReader};
-use crate::machine::{Machine, answer_line};
 use crate::map::Map;
+use crate::responder::Responder;
+use crate::sink::Sink;
+use crate::source::{DeviceFault, Source};
 use moc_ranges::Memory;
 use std::alloc::Global;
 use thiserror::Error;
@@ -78,16 +78,16 @@ pub fn run<R: Source, W: Sink>(
 }
 
 /// Answers each line that is read, and writes the answers.
-pub(crate) fn run_on<M: Machine, R: Source, W: Sink>(
+pub(crate) fn run_on<A: Responder, R: Source, W: Sink>(
     alloc: Global,
-    machine: &mut M,
+    responder: &mut A,
     reader: &mut R,
     writer: &mut W,
 ) -> Result<(), RunError>
     requires reader { R.mark reader.old ≡ false }
     requires writer { W.mark writer.old ≡ false }
     ensures runs { IfSome (R.left reader.old) (λ input.
-        Runs LINE_LIMIT (line_answer M.reply M.after M.says) (after_line M.reply M.after M.says) machine.old input
+        Runs LINE_LIMIT A.answer A.after responder.old input
         (R.left reader.new) (W.written writer.old) (W.written writer.new) result) }
     ensures end { OnOk result (IsAtEnd (R.left reader.new)) }
     ensures flushed { OnOk result (IsTrue (W.flushed writer.new)) }
@@ -99,7 +99,7 @@ pub(crate) fn run_on<M: Machine, R: Source, W: Sink>(
         return Err(RunError::Memory { line: 0 });
     };
     let mut pending = Vec::new(alloc);
-    let outcome = answer_lines(machine, alloc, &mut lines, &mut pending, reader, writer);
+    let outcome = answer_lines(responder, alloc, &mut lines, &mut pending, reader, writer);
     if is_write(&outcome) {
         return outcome;
     }
@@ -131,8 +131,8 @@ fn flush_if<W: Sink>(is_due: bool, writer: &mut W) -> Result<(), DeviceFault>
 }
 
 /// Answers each line, and writes what is pending before each read that may wait.
-fn answer_lines<M: Machine, R: Source, W: Sink>(
-    machine: &mut M,
+fn answer_lines<A: Responder, R: Source, W: Sink>(
+    responder: &mut A,
     alloc: Global,
     lines: &mut LineReader,
     pending: &mut Vec<u8>,
@@ -143,7 +143,7 @@ fn answer_lines<M: Machine, R: Source, W: Sink>(
     requires pending { pending.old.items ≡ [] }
     requires reader { R.mark reader.old ≡ false }
     requires writer { W.mark writer.old ≡ false }
-    ensures ended { Ended LINE_LIMIT (line_answer M.reply M.after M.says) (after_line M.reply M.after M.says) machine.old (R.left reader.old) (R.left reader.new)
+    ensures ended { Ended LINE_LIMIT A.answer A.after responder.old (R.left reader.old) (R.left reader.new)
         (W.written writer.old) (W.written writer.new) pending.new.items result }
     ensures read { IsErrOf result RunError.Read → IsTrue (R.mark reader.new) }
     ensures write { IsErrOf result RunError.Write ↔ IsTrue (W.mark writer.new) }
@@ -157,12 +157,12 @@ fn answer_lines<M: Machine, R: Source, W: Sink>(
         }
         match lines.next_line(reader) {
             Ok(Found::Line) => {
-                if answer_whole(machine, alloc, lines.line(), &mut answer, pending).is_err() {
+                if answer_whole(responder, alloc, lines.line(), &mut answer, pending).is_err() {
                     return Err(RunError::Memory { line });
                 }
             }
             Ok(Found::LastLine) => {
-                if answer_whole(machine, alloc, lines.line(), &mut answer, pending).is_err() {
+                if answer_whole(responder, alloc, lines.line(), &mut answer, pending).is_err() {
                     return Err(RunError::Memory { line });
                 }
                 return Ok(());
@@ -177,19 +177,19 @@ fn answer_lines<M: Machine, R: Source, W: Sink>(
 }
 
 /// Does what a line says, and adds the whole answer to what is pending, or nothing.
-fn answer_whole<M: Machine>(
-    machine: &mut M,
+fn answer_whole<A: Responder>(
+    responder: &mut A,
     alloc: Global,
     line: &[u8],
     answer: &mut Vec<u8>,
     pending: &mut Vec<u8>,
 ) -> Result<(), Memory>
-    ensures text { OnOk result (pending.new.items ≡ pending.old.items ++ line_answer M.reply M.after M.says machine.old line.now) }
-    ensures after { OnOk result (machine.new ≡ after_line M.reply M.after M.says machine.old line.now) }
+    ensures text { OnOk result (pending.new.items ≡ pending.old.items ++ A.answer responder.old line.now) }
+    ensures after { OnOk result (responder.new ≡ A.after responder.old line.now) }
     ensures err { OnErr result (pending.new.items ≡ pending.old.items) }
 {
     answer.clear();
-    answer_line(machine, alloc, line, answer)?;
+    responder.answer_line(alloc, line, answer)?;
     pending.extend_from_slice(answer)?;
     Ok(())
 }
