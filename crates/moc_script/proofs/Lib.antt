@@ -1,0 +1,10 @@
+pub mod SetLemmas
+pub mod CoverLemmas
+pub mod NumberLemmas
+pub mod LineLemmas
+pub mod Turns
+pub mod Sending
+pub mod Progress
+pub mod Endings
+pub mod Batching
+pub mod Single

@@ -1,0 +1,93 @@
+-- The command language: what a piece of a line says.
+use Rattle.std.specs.Prelude.{◌≡◌, ℕ, Bool, false, ◌==◌, nat_lt, List, [], ◌∷◌, codes, Option, Some, None, Result, Ok, Err, if◌then◌else◌}
+use Rattle.std.specs.List.{list_any}
+use Rattle.std.specs.Option.{ok_or}
+use Rattle.std.specs.Str.{bytes_eq}
+use Rattle.moc_ranges.specs.Numbers.{NumberSet}
+use Rattle.moc_text.specs.declared.error.TextError.{TextError}
+use Rattle.moc_text.specs.declared.error.TextError.TheVariants as text
+use Rattle.moc_text.specs.Reading.{reading_of}
+use Rattle.moc_script.specs.Words.{word_of, behind_word, number_of}
+use Rattle.moc_script.specs.declared.fault.Fault.{Fault}
+use Rattle.moc_script.specs.declared.fault.Fault.TheVariants.{UnknownWord, BadNumber, OrderTooLarge, CellTooLarge, BadByte, NoOrder, Backwards, Unfinished}
+use Rattle.moc_script.specs.declared.command.Operand.{Operand}
+use Rattle.moc_script.specs.declared.command.Command.{Command}
+use Rattle.moc_script.specs.declared.command.Command.TheVariants.{Add, Count, Read}
+
+infixl 10 ◌>>=◌
+-- what follows, or the fault that came first
+abbrev pub ◌>>=◌ : {A B : Type 0} → Result A Fault → (A → Result B Fault) → Result B Fault
+(Ok x) >>= f = f x
+(Err fault) >>= f = Err fault
+
+-- the fault of a text that is no coverage, without its place; no text has a fault of another kind
+abbrev pub fault_of : TextError → Fault
+fault_of (text.BadByte at) = BadByte
+fault_of (text.NoOrder at) = NoOrder
+fault_of (text.OrderTooLarge at) = OrderTooLarge
+fault_of (text.CellTooLarge at) = CellTooLarge
+fault_of (text.Backwards at) = Backwards
+fault_of _ = Unfinished
+
+abbrev pub coverage_or_fault : Result (NumberSet × Option ℕ) TextError → Result NumberSet Fault
+coverage_or_fault (Ok read) = Ok read.0
+coverage_or_fault (Err error) = Err (fault_of error)
+
+-- the set that a text says in the ASCII form of MOC 2.0
+abbrev pub coverage_of : List ℕ → Result NumberSet Fault
+coverage_of text = coverage_or_fault (reading_of text)
+
+-- the order that a field names: a number of 0 to 29
+abbrev pub order_of : List ℕ → Result ℕ Fault
+order_of field = do
+  order ← ok_or (number_of field) BadNumber
+  if nat_lt 29 order then Err OrderTooLarge else Ok order
+
+-- a coverage alone
+abbrev pub plain_operand_of : List ℕ → Result Operand Fault
+plain_operand_of text = do
+  set ← coverage_of text
+  Ok (record { set = set; coarse = None })
+
+-- an order, and a coverage behind it
+abbrev pub ordered_operand_of : List ℕ → List ℕ → Result Operand Fault
+ordered_operand_of field text = do
+  order ← order_of field
+  set ← coverage_of text
+  Ok (record { set = set; coarse = Some order })
+
+-- of a text with this first word: `@` and an order, then the coverage; or the coverage alone
+abbrev pub operand_by : List ℕ → List ℕ → Result Operand Fault
+operand_by [] text = plain_operand_of text
+operand_by (b ∷ field) text = if b == 64 then ordered_operand_of field (behind_word text) else plain_operand_of text
+
+-- what a text says as an operand
+abbrev pub operand_of : List ℕ → Result Operand Fault
+operand_of text = operand_by (word_of text) text
+
+-- the command of this word
+abbrev pub command_named : List ℕ → Result (Operand → Command) Fault
+command_named word =
+    if bytes_eq word (codes "add") then Ok (λ operand. Add operand)
+    else (if bytes_eq word (codes "count") then Ok (λ operand. Count operand)
+    else (if bytes_eq word (codes "read") then Ok (λ operand. Read operand)
+    else Err UnknownWord))
+
+-- the command that a piece says, where operands are read so
+abbrev pub command_by : (List ℕ → Result Operand Fault) → List ℕ → Result Command Fault
+command_by operand piece = do
+  command ← command_named (word_of piece)
+  operand ← operand (behind_word piece)
+  Ok (command operand)
+
+-- the command that a piece says
+abbrev pub command_of : List ℕ → Result Command Fault
+command_of piece = command_by operand_of piece
+
+-- `@`
+abbrev pub is_at_sign : ℕ → Bool
+is_at_sign b = b == 64
+
+-- A piece without `@` says what it says in the language whose operands are coverages alone.
+abbrev pub PiecesWithoutOrder : Type 0
+PiecesWithoutOrder = (piece : List ℕ) → list_any is_at_sign piece ≡ false → command_of piece ≡ command_by plain_operand_of piece

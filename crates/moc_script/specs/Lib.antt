@@ -1,0 +1,14 @@
+pub mod Words
+pub mod Faults
+pub mod Readings
+pub mod Language
+pub mod ReadErrors
+pub mod Replies
+pub mod Devices
+pub mod Lines
+pub mod Held
+pub mod LineReading
+pub mod Answers
+pub mod Batches
+pub mod Runs
+pub mod Scripts

@@ -1,0 +1,30 @@
+-- Scripts of commands on a set of pixels.
+use Rattle.std.specs.Prelude.{ℕ, List, Option, Result}
+use Rattle.std.specs.FinSet as set
+use Rattle.moc_ranges.specs.Numbers.{NumberSet}
+use Rattle.moc_script.specs.Language.{command_of}
+use Rattle.moc_script.specs.Replies.{text_on, set_after}
+use Rattle.moc_script.specs.Batches.{line_answer, after_line}
+use Rattle.moc_script.specs.Answers.{script_text}
+use Rattle.moc_script.specs.Runs.{Runs}
+use Rattle.moc_script.specs.declared.script.RunError.{RunError}
+
+-- the most bytes of a line
+abbrev pub line_limit : ℕ
+line_limit = 1048576
+
+-- the answer to a line on a set, with its line feed
+abbrev pub answer_on : NumberSet → List ℕ → List ℕ
+answer_on = line_answer text_on set_after command_of
+
+-- what a line leaves of a set
+abbrev pub set_after_line : NumberSet → List ℕ → NumberSet
+set_after_line = after_line text_on set_after command_of
+
+-- the text that a script is answered with, by a set that starts empty
+abbrev pub answers_of : List ℕ → List ℕ
+answers_of input = script_text line_limit answer_on set_after_line set.empty input
+
+-- of an input a run took a front, and it wrote the answers that its outcome names
+abbrev pub RunsScript : List ℕ → Option (List ℕ) → Option (List ℕ) → Option (List ℕ) → Result (Unit {0}) RunError → Type 0
+RunsScript input left written written' result = Runs line_limit answer_on set_after_line set.empty input left written written' result

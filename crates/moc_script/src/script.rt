@@ -1,0 +1,229 @@
+//! Scripts, run from a reader to a writer.
+ghost use Rattle.std.specs.Prelude.{◌≡◌, ◌++◌, ◌||◌, [], ℕ, List, None, Some, IfSome, IsTrue, ◌↔◌, false, OnOk, OnErr, IsErrOf, Err, is_err};
+ghost use Rattle.std.specs.Io.KnownBytes.{Appends, Keeps, IsAtEnd};
+ghost use Rattle.moc_script.specs.Batches.{line_answer, after_line};
+ghost use Rattle.moc_script.specs.Runs.{Runs, Ended, Sends};
+ghost use Rattle.moc_script.specs.Scripts.{RunsScript};
+
+use crate::devices::{DeviceFault, Sink, Source};
+use crate::line_reader::{Found, LINE_LIMIT, LineFault, LineReader};
+use crate::machine::{Machine, answer_line};
+use crate::map::Map;
+use moc_ranges::Memory;
+use std::alloc::Global;
+use thiserror::Error;
+
+/// Why a run ended before its input's end.
+#[derive(Clone, Copy, Debug, PartialEq, Eq, Error)]
+pub enum RunError {
+    /// The reader failed.
+    #[error("the input could not be read")]
+    Read,
+    /// The writer failed, or took none of some bytes.
+    #[error("the output could not be written")]
+    Write,
+    /// A line is over the limit. Lines are counted from 1.
+    #[error("line {line} is too long")]
+    LineTooLong { line: u64 },
+    /// A growth was refused while this line was read or answered, or before the first line, at 0.
+    #[error("out of memory at line {line}")]
+    Memory { line: u64 },
+}
+
+/// How many bytes of answers are kept before they are written.
+const FULL: usize = 65_536;
+
+/// Answers a script: one client asks and changes one set of pixels of order 29, which starts empty.
+///
+/// A line ends at a line feed, and bytes behind the last one are a last line. A line of blanks (space, tab, CR) alone has
+/// no answer; every other line has one, in order, ended by a line feed. A line is 1 to 16 commands parted by `;`, done in
+/// order, and its answer is theirs, parted by ` ; `. A command is a word and an operand: a coverage in the ASCII form of
+/// MOC 2.0 (the empty text is the empty set), behind `@` and an order where it is to be degraded first.
+///
+/// | Command | Answer |
+/// |---|---|
+/// | `add S` | `changed N`: S is added, N of its pixels are new |
+/// | `count S` | `total N`: the set has N of the pixels of S |
+/// | `read S` | `cover T`: T is the ASCII form of what S and the set share; `cover` alone for nothing |
+///
+/// A bad line changes nothing, and is answered `fault NAME`, by the first bad command from the left. Answers are written
+/// before each read that may wait.
+///
+/// Where the call ends with a fault, what is written is exactly the answers to the lines before the one that `LineTooLong`
+/// or `Memory` names, or to the whole lines that were read before `Read`; on `Write` it is as much of the answers as the
+/// writer took. After the whole text the writer is flushed, once. Each line is read and answered in one pass; an `add`
+/// takes time and memory linear in the ranges of both sets.
+pub fn run<R: Source, W: Sink>(
+    alloc: Global,
+    reader: &mut R,
+    writer: &mut W,
+) -> Result<(), RunError>
+    requires reader { R.mark reader.old ≡ false }
+    requires writer { W.mark writer.old ≡ false }
+
+    // What is written is the defined answers to what was read, as far as the outcome says.
+    ensures runs { IfSome (R.left reader.old) (λ input.
+        RunsScript input (R.left reader.new) (W.written writer.old) (W.written writer.new) result) }
+
+    // Only the reader's end ends a run without a fault, and then all is flushed.
+    ensures end { OnOk result (IsAtEnd (R.left reader.new)) }
+    ensures flushed { OnOk result (IsTrue (W.flushed writer.new)) }
+
+    // The devices' faults are theirs.
+    ensures read { IsErrOf result RunError.Read → IsTrue (R.mark reader.new) }
+    ensures write { IsErrOf result RunError.Write ↔ IsTrue (W.mark writer.new) }
+{
+    run_on(alloc, &mut Map::new(alloc), reader, writer)
+}
+
+/// Answers each line that is read, and writes the answers.
+pub(crate) fn run_on<M: Machine, R: Source, W: Sink>(
+    alloc: Global,
+    machine: &mut M,
+    reader: &mut R,
+    writer: &mut W,
+) -> Result<(), RunError>
+    requires reader { R.mark reader.old ≡ false }
+    requires writer { W.mark writer.old ≡ false }
+    ensures runs { IfSome (R.left reader.old) (λ input.
+        Runs LINE_LIMIT (line_answer M.reply M.after M.says) (after_line M.reply M.after M.says) machine.old input
+        (R.left reader.new) (W.written writer.old) (W.written writer.new) result) }
+    ensures end { OnOk result (IsAtEnd (R.left reader.new)) }
+    ensures flushed { OnOk result (IsTrue (W.flushed writer.new)) }
+    ensures read { IsErrOf result RunError.Read → IsTrue (R.mark reader.new) }
+    ensures write { IsErrOf result RunError.Write ↔ IsTrue (W.mark writer.new) }
+{
+    let Ok(mut lines) = LineReader::new(alloc) else {
+        return Err(RunError::Memory { line: 0 });
+    };
+    let mut pending = Vec::new(alloc);
+    let outcome = answer_lines(machine, alloc, &mut lines, &mut pending, reader, writer);
+    if is_write(&outcome) {
+        return outcome;
+    }
+    if send(&mut pending, writer).is_err() {
+        return Err(RunError::Write);
+    }
+    if flush_if(outcome.is_ok(), writer).is_err() {
+        return Err(RunError::Write);
+    }
+    outcome
+}
+
+/// Whether the writer failed.
+fn is_write(outcome: &Result<(), RunError>) -> bool
+    ensures { IsTrue result ↔ (outcome.now ≡ Err RunError.Write) }
+{
+    matches!(outcome, Err(RunError::Write))
+}
+
+/// Flushes the writer, if that is due.
+fn flush_if<W: Sink>(is_due: bool, writer: &mut W) -> Result<(), DeviceFault>
+    ensures bytes { Keeps (W.written writer.old) (W.written writer.new) }
+    ensures marks { W.mark writer.old ≡ false → W.mark writer.new ≡ is_err result }
+    ensures flushed { OnOk result (IsTrue is_due → IsTrue (W.flushed writer.new)) }
+{
+    if is_due { writer.flush() } else { Ok(()) }
+}
+
+/// Answers each line, and writes what is pending before each read that may wait.
+fn answer_lines<M: Machine, R: Source, W: Sink>(
+    machine: &mut M,
+    alloc: Global,
+    lines: &mut LineReader,
+    pending: &mut Vec<u8>,
+    reader: &mut R,
+    writer: &mut W,
+) -> Result<(), RunError>
+    requires unread { lines.old.unread ≡ [] }
+    requires pending { pending.old.items ≡ [] }
+    requires reader { R.mark reader.old ≡ false }
+    requires writer { W.mark writer.old ≡ false }
+    ensures ended { Ended LINE_LIMIT (line_answer M.reply M.after M.says) (after_line M.reply M.after M.says) machine.old (R.left reader.old) (R.left reader.new)
+        (W.written writer.old) (W.written writer.new) pending.new.items result }
+    ensures read { IsErrOf result RunError.Read → IsTrue (R.mark reader.new) }
+    ensures write { IsErrOf result RunError.Write ↔ IsTrue (W.mark writer.new) }
+{
+    let mut answer = Vec::new(alloc);
+    for line in 1..u64::MAX {
+        let is_due = !lines.holds_line() || pending.len() >= FULL;
+        if send_if(is_due, pending, writer).is_err() {
+            return Err(RunError::Write);
+        }
+        match lines.next_line(reader) {
+            Ok(Found::Line) => {
+                if answer_whole(machine, alloc, lines.line(), &mut answer, pending).is_err() {
+                    return Err(RunError::Memory { line });
+                }
+            }
+            Ok(Found::LastLine) => {
+                if answer_whole(machine, alloc, lines.line(), &mut answer, pending).is_err() {
+                    return Err(RunError::Memory { line });
+                }
+                return Ok(());
+            }
+            Ok(Found::Nothing) => return Ok(()),
+            Err(LineFault::Read) => return Err(RunError::Read),
+            Err(LineFault::TooLong) => return Err(RunError::LineTooLong { line }),
+            Err(LineFault::Memory) => return Err(RunError::Memory { line }),
+        }
+    }
+    Err(RunError::Memory { line: u64::MAX })
+}
+
+/// Does what a line says, and adds the whole answer to what is pending, or nothing.
+fn answer_whole<M: Machine>(
+    machine: &mut M,
+    alloc: Global,
+    line: &[u8],
+    answer: &mut Vec<u8>,
+    pending: &mut Vec<u8>,
+) -> Result<(), Memory>
+    ensures text { OnOk result (pending.new.items ≡ pending.old.items ++ line_answer M.reply M.after M.says machine.old line.now) }
+    ensures after { OnOk result (machine.new ≡ after_line M.reply M.after M.says machine.old line.now) }
+    ensures err { OnErr result (pending.new.items ≡ pending.old.items) }
+{
+    answer.clear();
+    answer_line(machine, alloc, line, answer)?;
+    pending.extend_from_slice(answer)?;
+    Ok(())
+}
+
+/// Writes what is pending, if that is due.
+fn send_if<W: Sink>(is_due: bool, pending: &mut Vec<u8>, writer: &mut W) -> Result<(), DeviceFault>
+    ensures sends { Sends pending.old.items (W.written writer.old) pending.new.items (W.written writer.new) result }
+    ensures marks { W.mark writer.old ≡ false → W.mark writer.new ≡ is_err result }
+{
+    if is_due {
+        send(pending, writer)
+    } else {
+        Ok(())
+    }
+}
+
+/// Writes what is pending, in as many calls as it takes.
+fn send<W: Sink>(pending: &mut Vec<u8>, writer: &mut W) -> Result<(), DeviceFault>
+    ensures sends { Sends pending.old.items (W.written writer.old) pending.new.items (W.written writer.new) result }
+    ensures all { OnOk result (pending.new.items ≡ []) }
+    ensures marks { W.mark writer.old ≡ false → W.mark writer.new ≡ is_err result }
+{
+    write_all(pending, writer)?;
+    pending.clear();
+    Ok(())
+}
+
+/// Writes all of the bytes.
+fn write_all<W: Sink>(bytes: &[u8], writer: &mut W) -> Result<(), DeviceFault>
+    ensures sends { Sends bytes.now (W.written writer.old) [] (W.written writer.new) result }
+    ensures marks { W.mark writer.old ≡ false → W.mark writer.new ≡ is_err result }
+{
+    let mut rest = bytes;
+    while !rest.is_empty() {
+        let count = writer.write(rest)?;
+        if count == 0 {
+            return Err(DeviceFault);
+        }
+        rest = rest.split_at(count).1;
+    }
+    Ok(())
+}

@@ -1,0 +1,63 @@
+//! The words and numbers of a line.
+ghost use Rattle.std.specs.Prelude.{◌≡◌, ◌-◌, ◌^◌, ◌≤◌, length, min};
+ghost use Rattle.std.specs.List.{prefix_len, position_or_len, list_any};
+ghost use Rattle.std.specs.Option.{option_map};
+ghost use Rattle.moc_script.specs.Words.{is_blank_byte, is_blank, word_of, behind_word, number_of};
+
+/// Whether a byte is a blank: a space, a tab or a CR.
+pub(crate) fn is_blank_at(byte: u8) -> bool
+    ensures { result ≡ is_blank_byte byte }
+{
+    matches!(byte, b' ' | b'\t' | b'\r')
+}
+
+/// Whether a text is nothing, or blanks alone.
+pub(crate) fn is_blank_text(text: &[u8]) -> bool
+    ensures { result ≡ is_blank text.now }
+{
+    text.iter().all(|byte| is_blank_at(*byte))
+}
+
+/// How many blanks stand at the front of a text.
+fn blanks_in_front(text: &[u8]) -> usize
+    ensures count { result ≡ prefix_len is_blank_byte text.now }
+    ensures within { result ≤ length text.now }
+{
+    text.iter().take_while(|byte| is_blank_at(**byte)).count()
+}
+
+/// How many bytes stand before the first blank of a text.
+fn bytes_before_blank(text: &[u8]) -> usize
+    ensures count { result ≡ position_or_len is_blank_byte text.now }
+    ensures within { result ≤ length text.now }
+{
+    text.iter().take_while(|byte| !is_blank_at(**byte)).count()
+}
+
+/// The first word of a text, blanks before it skipped, and what stands behind that word.
+pub(crate) fn split_word(text: &[u8]) -> (&[u8], &[u8])
+    ensures word { result.0.now ≡ word_of text.now }
+    ensures behind { result.1.now ≡ behind_word text.now }
+{
+    let front = text.split_at(blanks_in_front(text)).1;
+    front.split_at(bytes_before_blank(front))
+}
+
+/// The number that a field spells in base ten, or `u64::MAX` where it is larger; `None` where it spells none.
+pub(crate) fn number_in(field: &[u8]) -> Option<u64>
+    ensures { result ≡ option_map (λ n. min n (2 ^ 64 - 1)) (number_of field.now) }
+{
+    if field.is_empty() {
+        return None;
+    }
+    let mut value: u64 = 0;
+    for byte in field {
+        if !byte.is_ascii_digit() {
+            return None;
+        }
+        value = value
+            .saturating_mul(10)
+            .saturating_add(u64::from(*byte - b'0'));
+    }
+    Some(value)
+}
