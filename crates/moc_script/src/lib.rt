@@ -14,4 +14,4 @@ mod words;
 
 pub use devices::{DeviceFault, OverReader, OverWriter, Sink, Source};
 pub use line_reader::LINE_LIMIT;
-pub use script::{RunError, run};
+pub use script::{RunError, run, write_all};
