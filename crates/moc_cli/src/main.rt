@@ -5,6 +5,8 @@ mod action;
 mod command_line;
 mod dispatch;
 mod status;
+#[cfg(test)]
+mod tests;
 
 use crate::dispatch::program;
 use moc_script::{OverReader, OverWriter};
