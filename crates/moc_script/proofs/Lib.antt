@@ -8,3 +8,4 @@ pub mod Progress
 pub mod Endings
 pub mod Batching
 pub mod Single
+pub mod Unordered

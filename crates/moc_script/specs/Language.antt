@@ -1,6 +1,5 @@
 -- The command language: what a piece of a line says.
-use Rattle.std.specs.Prelude.{◌≡◌, ℕ, Bool, false, ◌==◌, nat_lt, List, [], ◌∷◌, codes, Option, Some, None, Result, Ok, Err, if◌then◌else◌}
-use Rattle.std.specs.List.{list_any}
+use Rattle.std.specs.Prelude.{ℕ, ◌==◌, nat_lt, List, [], ◌∷◌, codes, Option, Some, None, Result, Ok, Err, if◌then◌else◌}
 use Rattle.std.specs.Option.{ok_or}
 use Rattle.std.specs.Str.{bytes_eq}
 use Rattle.moc_ranges.specs.Numbers.{NumberSet}
@@ -83,11 +82,3 @@ command_by operand piece = do
 -- the command that a piece says
 abbrev pub command_of : List ℕ → Result Command Fault
 command_of piece = command_by operand_of piece
-
--- `@`
-abbrev pub is_at_sign : ℕ → Bool
-is_at_sign b = b == 64
-
--- A piece without `@` says what it says in the language whose operands are coverages alone.
-abbrev pub PiecesWithoutOrder : Type 0
-PiecesWithoutOrder = (piece : List ℕ) → list_any is_at_sign piece ≡ false → command_of piece ≡ command_by plain_operand_of piece

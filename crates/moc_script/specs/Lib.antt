@@ -12,3 +12,4 @@ pub mod Answers
 pub mod Batches
 pub mod Runs
 pub mod Scripts
+pub mod Laws

@@ -5,6 +5,7 @@ mod bytes;
 mod command;
 mod devices;
 mod fault;
+mod laws;
 mod line_reader;
 mod machine;
 mod map;
@@ -13,5 +14,6 @@ mod script;
 mod words;
 
 pub use devices::{DeviceFault, OverReader, OverWriter, Sink, Source};
+pub use laws::{lines_of_one_command, lines_without_order};
 pub use line_reader::LINE_LIMIT;
 pub use script::{RunError, run, write_all};

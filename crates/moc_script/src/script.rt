@@ -68,6 +68,7 @@ pub fn run<R: Source, W: Sink>(
     // Only the reader's end ends a run without a fault, and then all is flushed.
     ensures end { OnOk result (IsAtEnd (R.left reader.new)) }
     ensures flushed { OnOk result (IsTrue (W.flushed writer.new)) }
+    ensures unflushed { OnErr result (IsTrue (W.flushed writer.new) → IsTrue (W.flushed writer.old)) }
 
     // The devices' faults are theirs.
     ensures read { IsErrOf result RunError.Read → IsTrue (R.mark reader.new) }
@@ -90,6 +91,7 @@ pub(crate) fn run_on<M: Machine, R: Source, W: Sink>(
         (R.left reader.new) (W.written writer.old) (W.written writer.new) result) }
     ensures end { OnOk result (IsAtEnd (R.left reader.new)) }
     ensures flushed { OnOk result (IsTrue (W.flushed writer.new)) }
+    ensures unflushed { OnErr result (IsTrue (W.flushed writer.new) → IsTrue (W.flushed writer.old)) }
     ensures read { IsErrOf result RunError.Read → IsTrue (R.mark reader.new) }
     ensures write { IsErrOf result RunError.Write ↔ IsTrue (W.mark writer.new) }
 {
@@ -122,6 +124,8 @@ fn flush_if<W: Sink>(is_due: bool, writer: &mut W) -> Result<(), DeviceFault>
     ensures bytes { Keeps (W.written writer.old) (W.written writer.new) }
     ensures marks { W.mark writer.old ≡ false → W.mark writer.new ≡ is_err result }
     ensures flushed { OnOk result (IsTrue is_due → IsTrue (W.flushed writer.new)) }
+    ensures unflushed { OnErr result (IsTrue (W.flushed writer.new) → IsTrue (W.flushed writer.old)) }
+    ensures not_due { is_due ≡ false → IsTrue (W.flushed writer.new) → IsTrue (W.flushed writer.old) }
 {
     if is_due { writer.flush() } else { Ok(()) }
 }
@@ -143,6 +147,7 @@ fn answer_lines<M: Machine, R: Source, W: Sink>(
         (W.written writer.old) (W.written writer.new) pending.new.items result }
     ensures read { IsErrOf result RunError.Read → IsTrue (R.mark reader.new) }
     ensures write { IsErrOf result RunError.Write ↔ IsTrue (W.mark writer.new) }
+    ensures flushed { IsTrue (W.flushed writer.new) → IsTrue (W.flushed writer.old) }
 {
     let mut answer = Vec::new(alloc);
     for line in 1..u64::MAX {
@@ -193,6 +198,7 @@ fn answer_whole<M: Machine>(
 fn send_if<W: Sink>(is_due: bool, pending: &mut Vec<u8>, writer: &mut W) -> Result<(), DeviceFault>
     ensures sends { Sends pending.old.items (W.written writer.old) pending.new.items (W.written writer.new) result }
     ensures marks { W.mark writer.old ≡ false → W.mark writer.new ≡ is_err result }
+    ensures flushed { IsTrue (W.flushed writer.new) → IsTrue (W.flushed writer.old) }
 {
     if is_due {
         send(pending, writer)
@@ -206,6 +212,7 @@ fn send<W: Sink>(pending: &mut Vec<u8>, writer: &mut W) -> Result<(), DeviceFaul
     ensures sends { Sends pending.old.items (W.written writer.old) pending.new.items (W.written writer.new) result }
     ensures all { OnOk result (pending.new.items ≡ []) }
     ensures marks { W.mark writer.old ≡ false → W.mark writer.new ≡ is_err result }
+    ensures flushed { IsTrue (W.flushed writer.new) → IsTrue (W.flushed writer.old) }
 {
     write_all(pending, writer)?;
     pending.clear();
@@ -216,6 +223,7 @@ fn send<W: Sink>(pending: &mut Vec<u8>, writer: &mut W) -> Result<(), DeviceFaul
 pub fn write_all<W: Sink>(bytes: &[u8], writer: &mut W) -> Result<(), DeviceFault>
     ensures sends { Sends bytes.now (W.written writer.old) [] (W.written writer.new) result }
     ensures marks { W.mark writer.old ≡ false → W.mark writer.new ≡ is_err result }
+    ensures flushed { IsTrue (W.flushed writer.new) → IsTrue (W.flushed writer.old) }
 {
     let mut rest = bytes;
     while !rest.is_empty() {

@@ -1,0 +1,12 @@
+//! Laws of the language of scripts, which the proof shows. The calls do nothing.
+ghost use Rattle.moc_script.specs.Laws.{LinesOfOneCommand, LinesWithoutOrder};
+
+/// A line without `;` that is not blank is answered as the one command that it says, and leaves the set that this leaves.
+pub fn lines_of_one_command()
+    ensures { LinesOfOneCommand }
+{}
+
+/// A line without `@` is answered as in the language whose operands are coverages alone, and leaves the same set.
+pub fn lines_without_order()
+    ensures { LinesWithoutOrder }
+{}

@@ -1,0 +1,146 @@
+//! What scripts are answered.
+use crate::failing::{FailingSink, FailingSource};
+use moc_script::{LINE_LIMIT, OverReader, OverWriter, RunError, run};
+use std::alloc::{AllocError, Global};
+use std::test::Fail;
+
+const PLENTY: u64 = 1 << 40;
+
+const SCRIPT: &[u8] = b"add 0/0\nadd 0/0 ; count 0/0-1\n \t\r\n\nhop\nadd 5/7-3\nread 0/0-1 5";
+const ANSWERS: &[u8] = b"changed 288230376151711744\nchanged 0 ; total 288230376151711744\nfault UnknownWord\nfault Backwards\ncover 0/0\n";
+
+// Runs a script through devices that fail after so many calls.
+fn run_through(
+    alloc: Global,
+    script: &[u8],
+    reads: u64,
+    writes: u64,
+    can_flush: bool,
+) -> (Result<(), RunError>, Vec<u8>) {
+    let mut source = FailingSource {
+        bytes: script,
+        calls: reads,
+        is_marked: false,
+    };
+    let mut sink = FailingSink {
+        taken: Vec::new(alloc),
+        calls: writes,
+        can_flush,
+        is_marked: false,
+        is_flushed: false,
+    };
+    let result = run(alloc, &mut source, &mut sink);
+    (result, sink.taken)
+}
+
+#[test]
+fn add_count_and_read(rt: HostRuntime) {
+    let script = b"add 0/0 2\ncount 0/2 3\nadd 0/1\nread 0/0 1 2 3\nadd 1/0\nadd 0/12\nadd 0/0-1\nremove 0/0\n";
+    let answers = b"changed 576460752303423488\ntotal 288230376151711744\nchanged 288230376151711744\ncover 0/0-2\nchanged 0\nfault CellTooLarge\nchanged 0\nfault UnknownWord\n";
+    let (result, text) = run_through(rt.alloc(), script, PLENTY, PLENTY, true);
+    assert_eq!(rt; result, Ok(()));
+    assert_eq!(rt; text.as_slice(), answers.as_slice());
+}
+
+#[test]
+fn operands_with_an_order(rt: HostRuntime) {
+    let script = b"add @0 29/0\ncount @1 29/5 1/7\nread @29 1/3\nadd @8\nadd @30 1/0\nadd @ 1/0\nadd ,@8 1/0\nread @x30";
+    let answers = b"changed 288230376151711744\ntotal 72057594037927936\ncover 1/3\nchanged 0\nfault OrderTooLarge\nfault BadNumber\nfault BadByte\nfault BadNumber\n";
+    let (result, text) = run_through(rt.alloc(), script, PLENTY, PLENTY, true);
+    assert_eq!(rt; result, Ok(()));
+    assert_eq!(rt; text.as_slice(), answers.as_slice());
+}
+
+#[test]
+fn batches(rt: HostRuntime) {
+    let script = b"add 0/0 ; count 0/0-1 ; read 0/0\nadd 0/5 ;\nadd 0/5 ; hop\n;\nread;read;read;read;read;read;read;read;read;read;read;read;read;read;read;read\nread;read;read;read;read;read;read;read;read;read;read;read;read;read;read;read;read\nread 0/0-11";
+    let answers = b"changed 288230376151711744 ; total 288230376151711744 ; cover 0/0\nfault EmptyCommand\nfault UnknownWord\nfault EmptyCommand\ncover ; cover ; cover ; cover ; cover ; cover ; cover ; cover ; cover ; cover ; cover ; cover ; cover ; cover ; cover ; cover\nfault TooManyCommands\ncover 0/0\n";
+    let (result, text) = run_through(rt.alloc(), script, PLENTY, PLENTY, true);
+    assert_eq!(rt; result, Ok(()));
+    assert_eq!(rt; text.as_slice(), answers.as_slice());
+}
+
+#[test]
+fn no_input_and_no_last_line_feed(rt: HostRuntime) {
+    let (result, text) = run_through(rt.alloc(), b"", PLENTY, PLENTY, true);
+    assert_eq!(rt; result, Ok(()));
+    assert!(rt; text.is_empty());
+    let (result, ended) = run_through(rt.alloc(), b"add 29/0\nadd @0 29/0\n", PLENTY, PLENTY, true);
+    assert_eq!(rt; result, Ok(()));
+    assert_eq!(rt; ended.as_slice(), b"changed 1\nchanged 288230376151711743\n".as_slice());
+    let (result, text) = run_through(rt.alloc(), b"add 29/0\nadd @0 29/0", PLENTY, PLENTY, true);
+    assert_eq!(rt; result, Ok(()));
+    assert_eq!(rt; text.as_slice(), ended.as_slice());
+}
+
+// Runs a script over std's readers and writers.
+fn run_over(alloc: Global, script: &[u8]) -> (Result<(), RunError>, Vec<u8>) {
+    let mut taken = Vec::new(alloc);
+    let mut source = OverReader::new(script);
+    let mut sink = OverWriter::new(&mut taken);
+    let result = run(alloc, &mut source, &mut sink);
+    drop(sink);
+    (result, taken)
+}
+
+// `add` and spaces, so many bytes.
+fn add_and_spaces(alloc: Global, len: usize) -> Result<Vec<u8>, AllocError> {
+    let mut line = Vec::from_slice(alloc, b"add")?;
+    line.resize(len, b' ')?;
+    Ok(line)
+}
+
+#[test]
+fn longest_line(rt: HostRuntime) -> Result<(), Fail> {
+    let mut line = add_and_spaces(rt.alloc(), LINE_LIMIT)?;
+    let (result, text) = run_over(rt.alloc(), &line);
+    assert_eq!(rt; result, Ok(()));
+    assert_eq!(rt; text.as_slice(), b"changed 0\n".as_slice());
+    line.push(b' ')?;
+    let (result, text) = run_over(rt.alloc(), &line);
+    assert_eq!(rt; result, Err(RunError::LineTooLong { line: 1 }));
+    assert!(rt; text.is_empty());
+    Ok(())
+}
+
+// The bytes up to the last line feed.
+fn whole_lines(text: &[u8]) -> &[u8] {
+    match text.iter().rposition(|byte| *byte == b'\n') {
+        Some(at) => text.split_at(at).0,
+        None => b"",
+    }
+}
+
+#[test]
+fn failing_reads(rt: HostRuntime) {
+    for reads in 0..SCRIPT.len() + 1 {
+        let (result, text) = run_through(rt.alloc(), SCRIPT, reads as u64, PLENTY, true);
+        assert_eq!(rt; result, Err(RunError::Read), "after {reads} reads");
+        let given = whole_lines(SCRIPT.split_at(reads).0);
+        let (_, expected) = run_through(rt.alloc(), given, PLENTY, PLENTY, true);
+        assert_eq!(rt; text.as_slice(), expected.as_slice(), "after {reads} reads");
+    }
+    let reads = SCRIPT.len() as u64 + 1;
+    let (result, text) = run_through(rt.alloc(), SCRIPT, reads, PLENTY, true);
+    assert_eq!(rt; result, Ok(()));
+    assert_eq!(rt; text.as_slice(), ANSWERS);
+}
+
+#[test]
+fn failing_writes(rt: HostRuntime) {
+    for writes in 0..ANSWERS.len() {
+        let (result, text) = run_through(rt.alloc(), SCRIPT, PLENTY, writes as u64, true);
+        assert_eq!(rt; result, Err(RunError::Write), "after {writes} writes");
+        assert_eq!(rt; text.as_slice(), ANSWERS.split_at(writes).0, "after {writes} writes");
+    }
+    let (result, text) = run_through(rt.alloc(), SCRIPT, PLENTY, ANSWERS.len() as u64, true);
+    assert_eq!(rt; result, Ok(()));
+    assert_eq!(rt; text.as_slice(), ANSWERS);
+}
+
+#[test]
+fn failing_flush(rt: HostRuntime) {
+    let (result, text) = run_through(rt.alloc(), SCRIPT, PLENTY, PLENTY, false);
+    assert_eq!(rt; result, Err(RunError::Write));
+    assert_eq!(rt; text.as_slice(), ANSWERS);
+}
