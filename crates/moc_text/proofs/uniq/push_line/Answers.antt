@@ -18,7 +18,7 @@ pub returns-in_default-from_uniq : goal.returns-in_default-from_uniq
 returns-in_default-from_uniq c =
     let ends : after_line (past_digits c.args.bytes.now) ≡ Some c.in-Some.rest.now = ap after_line (sym c.digits-value.ensures.rest) ∙ sym c.in-Some.ensures in
     inr (line_wrong c.args.line c.args.bytes.now c.in-Some.rest.now c.requires ends (λ e. c.if-after-bytes.false (ap length c.digits-value.ensures.rest ∙ e))
-        (λ r. let no : false ≡ true = c.in_default-from_uniq.ensures.found.1 (omega (arith, r.0, c.digits-value.ensures.value), omega (arith, r.1, c.digits-value.ensures.value)) in absurd cc))
+    (λ r. let no : false ≡ true = c.in_default-from_uniq.ensures.found.1 (omega (arith, r.0, c.digits-value.ensures.value), omega (arith, r.1, c.digits-value.ensures.value)) in absurd cc))
 
 pub returns : goal.returns
 returns c =
