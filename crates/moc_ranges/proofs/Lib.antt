@@ -8,3 +8,5 @@ pub mod Sorting
 pub mod Counting
 pub mod Widening
 pub mod Spans
+pub mod CellRuns
+pub mod CellOrders

@@ -146,4 +146,3 @@ degraded order rs a q le normal is =
           false≢true (sym none ∙ in_widened w rs p q some (sym (holds p) ∙ here) (eqb-true _ _ parts.1))))) in
           none ∙ sym (contains-degrade a order q ∙ ap (λ b. ltb q pixel_count && b) apart ∙ and_false (ltb q pixel_count))
     ]
-

@@ -31,7 +31,7 @@ AllByRecursion-filter : {X : Type 0} (P : X → Type 0) (p : X → Bool) (xs : L
 AllByRecursion-filter P p [] all = tt
 AllByRecursion-filter P p (x ∷ xs) all =
     let rest = AllByRecursion-filter P p xs all.1 in
-    elim (p x) as (λ b. AllByRecursion P (cond b (x ∷ filter p xs) (filter p xs))) [ | true ↦ (all.0, rest) | false ↦ rest ]
+    elim (p x) as (λ b. AllByRecursion P (cond b (x ∷ filter p xs) (filter p xs))) [ true ↦ (all.0, rest) | false ↦ rest ]
 
 cells_of_order : (k from n : ℕ) → k ≤ 29 → from + n ≤ cell_count k → AllByRecursion IsCell (map (cell_number k) (range_with_len from n))
 cells_of_order k from zero small fits = tt
@@ -50,7 +50,7 @@ cells_are a = AllByRecursion-filter IsCell (is_cell_of a) (cells_below 30) (cell
 -- ---- numbers of a cell
 
 -- the pixels of the cell i of size w
-in_cell_range : (i w q : ℕ) → 0 < w → q / w ≡ i → in_range (i * w, (i + 1) * w) q ≡ true
+pub in_cell_range : (i w q : ℕ) → 0 < w → q / w ≡ i → in_range (i * w, (i + 1) * w) q ≡ true
 in_cell_range i w q pos is =
     let f = div-add-mod' q w in
     let g : q / w * w ≡ i * w = ap (λ n. n * w) is in
@@ -60,7 +60,7 @@ in_cell_range i w q pos is =
     let high : q < (i + 1) * w = omega arith in
     and_from _ _ (le-leb (i * w) q low) (lt-ltb q ((i + 1) * w) high)
 
-of_cell_range : (i w q : ℕ) → 0 < w → in_range (i * w, (i + 1) * w) q ≡ true → q / w ≡ i
+pub of_cell_range : (i w q : ℕ) → 0 < w → in_range (i * w, (i + 1) * w) q ≡ true → q / w ≡ i
 of_cell_range i w q pos has =
     let parts = and_parts _ _ has in
     let low : i * w ≤ q = leb-true _ _ parts.0 in
@@ -69,7 +69,7 @@ of_cell_range i w q pos has =
     ap (λ p. p / w) (sym e) ∙ div-mul-add i w (q - i * w) (omega arith)
 
 -- a cell of order k has the pixels of four cells of the next order
-four_parts : (k : ℕ) → k < 29 → cell_size k ≡ cell_size (suc k) * 4
+pub four_parts : (k : ℕ) → k < 29 → cell_size k ≡ cell_size (suc k) * 4
 unfolding cell_size
 four_parts k small =
     let deeper : 29 - k ≡ suc (29 - suc k) = omega arith in
@@ -80,7 +80,7 @@ parent_of_pixel k q small = div-div-eq-div-mul q (cell_size (suc k)) 4 ∙ ap (�
 
 -- ---- what the cells of a set have is in the set
 
-in_span : (k i q : ℕ) → k ≤ 29 → i < cell_count k → in_range (cell_range (cell_number k i)) q ≡ true → set.contains (span k i) q ≡ true
+pub in_span : (k i q : ℕ) → k ≤ 29 → i < cell_count k → in_range (cell_range (cell_number k i)) q ≡ true → set.contains (span k i) q ≡ true
 in_span k i q small fits has =
     let of_it : q / cell_size k ≡ i = of_cell_range i (cell_size k) q (cell_size-positive k) has in
     let high : q < (i + 1) * cell_size k = ltb-true q ((i + 1) * cell_size k) (and_parts (nat_le (i * cell_size k) q) (nat_lt q ((i + 1) * cell_size k)) has).1 in
@@ -99,11 +99,11 @@ cells_inside : (a : NumberSet) (cells : List CellNumber) (q : ℕ) → AllByRecu
 cells_inside a [] q are has = absurd (false≢true has)
 cells_inside a (c ∷ cells) q are has = elim (cases_Bool (is_cell_of a c)) [
   | inl of_a ↦
-    let at = subst (λ (b : Bool). in_ranges (map cell_range (cond b (c ∷ filter (is_cell_of a) cells) (filter (is_cell_of a) cells))) q ≡ true) of_a has in
-    elim (or_cases _ _ at) [
-      | inl here ↦ cell_inside a c q are.0 of_a here
-      | inr later ↦ cells_inside a cells q are.1 later
-    ]
+      let at = subst (λ (b : Bool). in_ranges (map cell_range (cond b (c ∷ filter (is_cell_of a) cells) (filter (is_cell_of a) cells))) q ≡ true) of_a has in
+      elim (or_cases _ _ at) [
+        | inl here ↦ cell_inside a c q are.0 of_a here
+        | inr later ↦ cells_inside a cells q are.1 later
+      ]
   | inr other ↦ cells_inside a cells q are.1 (subst (λ (b : Bool). in_ranges (map cell_range (cond b (c ∷ filter (is_cell_of a) cells) (filter (is_cell_of a) cells))) q ≡ true) other has)
 ]
 
@@ -121,9 +121,9 @@ largest_cell a q zero small sub = record { order = 0; order_in_range = omega ari
 largest_cell a q (suc k) small sub = elim (cases_Bool (set.is_subset (span k (q / cell_size k)) a)) [
   | inl whole ↦ largest_cell a q k (omega arith) whole
   | inr partly ↦
-    let before : suc k - 1 ≡ k = omega arith in
-    let parent : set.is_subset (span (suc k - 1) (q / cell_size (suc k) / 4)) a ≡ false = (λ i. set.is_subset (span (before i) (parent_of_pixel k q (omega arith) i)) a) ∙ partly in
-    record { order = suc k; order_in_range = small; is = and_from _ _ sub (or_right _ _ (not_from_false _ parent)) }
+      let before : suc k - 1 ≡ k = omega arith in
+      let parent : set.is_subset (span (suc k - 1) (q / cell_size (suc k) / 4)) a ≡ false = (λ i. set.is_subset (span (before i) (parent_of_pixel k q (omega arith) i)) a) ∙ partly in
+      record { order = suc k; order_in_range = small; is = and_from _ _ sub (or_right _ _ (not_from_false _ parent)) }
 ]
 
 one_pixel : cell_size 29 ≡ 1
@@ -146,12 +146,12 @@ kept_range p k i from (suc n) q low high is has =
     let rest = filter p (map (cell_number k) (range_with_len (from + 1) n)) in
     elim (cases_eq from i) [
       | inl same ↦
-        let kept : p (cell_number k from) ≡ true = ap (λ j. p (cell_number k j)) same ∙ is in
-        let here : in_range (cell_range (cell_number k from)) q ≡ true = ap (λ j. in_range (cell_range (cell_number k j)) q) same ∙ has in
-        ap (λ (b : Bool). in_ranges (map cell_range (cond b (cell_number k from ∷ rest) rest)) q) kept ∙ or_left _ _ here
+          let kept : p (cell_number k from) ≡ true = ap (λ j. p (cell_number k j)) same ∙ is in
+          let here : in_range (cell_range (cell_number k from)) q ≡ true = ap (λ j. in_range (cell_range (cell_number k j)) q) same ∙ has in
+          ap (λ (b : Bool). in_ranges (map cell_range (cond b (cell_number k from ∷ rest) rest)) q) kept ∙ or_left _ _ here
       | inr other ↦
-        let later = kept_range p k i (from + 1) n q (omega arith) (omega arith) is has in
-        elim (p (cell_number k from)) as (λ b. in_ranges (map cell_range (cond b (cell_number k from ∷ rest) rest)) q ≡ true) [ | true ↦ or_right _ _ later | false ↦ later ]
+          let later = kept_range p k i (from + 1) n q (omega arith) (omega arith) is has in
+          elim (p (cell_number k from)) as (λ b. in_ranges (map cell_range (cond b (cell_number k from ∷ rest) rest)) q ≡ true) [ true ↦ or_right _ _ later | false ↦ later ]
     ]
 
 in_ranges-append : (rs ss : List (ℕ × ℕ)) (q : ℕ) → in_ranges (rs ++ ss) q ≡ (in_ranges rs q || in_ranges ss q)
@@ -178,13 +178,13 @@ unfolding cells_of
 has_cell a q lt has =
     let c = largest_cell a q 29 (omega arith) (pixel_inside a q has) in
     kept_below (is_cell_of a) c.order (q / cell_size c.order) 30 q (omega (arith, c.order_in_range)) (index_fits c.order q c.order_in_range lt) c.is
-        (in_cell_range (q / cell_size c.order) (cell_size c.order) q (cell_size-positive c.order) refl)
+    (in_cell_range (q / cell_size c.order) (cell_size c.order) q (cell_size-positive c.order) refl)
 
 inside_only : (a : NumberSet) (q : ℕ) → in_ranges (map cell_range (cells_of a)) q ≡ true → set.contains a q ≡ true
 unfolding cells_of
 inside_only a q has = cells_inside a (cells_below 30) q (cells_below-are 30 (omega arith)) has
 
-same_truth : (x y : Bool) → (x ≡ true → y ≡ true) → (y ≡ true → x ≡ true) → x ≡ y
+pub same_truth : (x y : Bool) → (x ≡ true → y ≡ true) → (y ≡ true → x ≡ true) → x ≡ y
 same_truth true y there back = sym (there refl)
 same_truth false true there back = back refl
 same_truth false false there back = refl

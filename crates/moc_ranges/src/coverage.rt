@@ -9,6 +9,7 @@ ghost use Rattle.moc_ranges.specs.Cells.{cells_of, degrade, span};
 ghost use Rattle.moc_ranges.specs.Bounds.{IsBounds};
 ghost use Rattle.moc_ranges.specs.Sweep.{IsCombined};
 
+use crate::cells::{orders_with_cells, push_cells_of_order};
 use crate::errors::{Memory, RangesError};
 use crate::from_ranges::{check, joined, sorted, widened};
 use crate::ranges::Ranges;
@@ -215,9 +216,12 @@ impl Coverage {
     pub fn cells(&self, alloc: Global) -> Result<Vec<Cell>, Memory>
         ensures { IfOk result (λ v. v.items ≡ cells_of self.now) }
     {
-        let _ = self;
-        let _ = alloc;
-        Err(Memory)
+        let (first, end) = orders_with_cells(self.ranges());
+        let mut cells = Vec::new(alloc);
+        for level in first..end {
+            push_cells_of_order(&mut cells, Order::of(level), self.ranges())?;
+        }
+        Ok(cells)
     }
 
     /// A copy of the set.

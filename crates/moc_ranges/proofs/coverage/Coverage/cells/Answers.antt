@@ -1,0 +1,36 @@
+use Rattle.std.proofs.Common.{◌≡◌, ◌++◌, ◌-◌, ap, sym, subst, ◌∙◌, arith, add-one}
+use Rattle.std.specs.List.{filter}
+use Rattle.moc_ranges.specs.Numbers.{NumberSet}
+use Rattle.moc_ranges.specs.Cells.{is_cell_of, cells_below}
+use Rattle.moc_ranges.specs.CellRuns.{HasOrders, cells_at}
+use Rattle.moc_ranges.proofs.CellOrders.{cells_step, cells_before, cells_after}
+use Rattle.moc_ranges.proofs.coverage.Coverage.cells.Goals as goal
+
+pub loop-level-init : goal.loop-level-init
+loop-level-init c =
+    let first = c.orders_with_cells-first.result.0 in
+    let orders = subst (λ (a : NumberSet). HasOrders a first c.orders_with_cells-first.result.1) c.ranges-2.ensures.set c.orders_with_cells-first.ensures in
+    record {
+      found = c.new-cells.ensures.items ∙ sym (cells_before c.args.self.now first _ first orders (omega arith) orders.first_in_range);
+      within = omega arith;
+    }
+
+pub loop-level-preserved : goal.loop-level-preserved
+loop-level-preserved c =
+    let a = c.args.self.now in
+    let k = c.loop-level.level in
+    record {
+      found = c.in_ok-push_cells_of_order.ensures
+          ∙ (λ i. c.loop-level.invariant.found i ++ cells_at (c.ranges-in-loop-level.ensures.set i) (c.of.ensures i))
+          ∙ sym (rw add-one (cells_step a k));
+      within = omega arith;
+    }
+
+pub returns : goal.returns
+returns c =
+    let first = c.orders_with_cells-first.result.0 in
+    let end = c.orders_with_cells-first.result.1 in
+    let k = c.loop-level.level in
+    let orders = subst (λ (a : NumberSet). HasOrders a first end) c.ranges-2.ensures.set c.orders_with_cells-first.ensures in
+    c.loop-level.invariant.found
+    ∙ cells_after c.args.self.now first end k (30 - k) orders c.loop-level-test.false (omega (arith, orders.first_in_range, orders.last_in_range))
