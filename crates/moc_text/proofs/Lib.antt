@@ -9,3 +9,4 @@ pub mod OneReading
 pub mod Told
 pub mod Join
 pub mod Written
+pub mod UniqLines

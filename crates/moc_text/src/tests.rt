@@ -1,4 +1,4 @@
-use crate::{TextError, read_ascii, write_ascii};
+use crate::{TextError, UniqError, read_ascii, read_uniq, write_ascii, write_uniq};
 use moc_ranges::Coverage;
 use moc_sphere::Order;
 use std::alloc::Global;
@@ -174,5 +174,51 @@ fn written_ranges(rt: HostRuntime) -> Result<(), Fail> {
     let alloc = rt.alloc();
     let set = Coverage::from_ranges(alloc, &[(4, 8), (8, 9), (0, 4)])?;
     assert_eq!(rt; write_ascii(alloc, &set, None)?.as_str(), "28/0-1 29/8");
+    Ok(())
+}
+
+#[test]
+fn uniq_lists(rt: HostRuntime) -> Result<(), Fail> {
+    let alloc = rt.alloc();
+    let base = Coverage::from_ranges(alloc, &[(0, Q0)])?;
+    assert!(rt; read_uniq(alloc, b"16\n17\n\n18\n19")?.same(&base));
+    assert!(rt; read_uniq(alloc, b"")?.is_empty());
+    let last = Coverage::from_ranges(alloc, &[(3458764513820540927, 3458764513820540928)])?;
+    assert!(rt; read_uniq(alloc, b"4611686018427387903\n")?.same(&last));
+    Ok(())
+}
+
+#[test]
+fn uniq_faults(rt: HostRuntime) {
+    let alloc = rt.alloc();
+    assert!(rt;
+        matches!(
+            read_uniq(alloc, b"4\nx"),
+            Err(UniqError::BadByte { line: 2 })
+        )
+    );
+    assert!(rt;
+        matches!(
+            read_uniq(alloc, b"\n3\nx"),
+            Err(UniqError::NotUniq { line: 2 })
+        )
+    );
+    assert!(rt;
+        matches!(
+            read_uniq(alloc, b"4611686018427387904"),
+            Err(UniqError::NotUniq { line: 1 })
+        )
+    );
+}
+
+#[test]
+fn written_uniq_lists(rt: HostRuntime) -> Result<(), Fail> {
+    let alloc = rt.alloc();
+    let (set, _) = read_ascii(alloc, b"1/1-2 4 2/12-14 21 23 25 8/")?;
+    assert_eq!(rt;
+        write_uniq(alloc, &set)?.as_str(),
+        "17\n18\n20\n76\n77\n78\n85\n87\n89\n"
+    );
+    assert_eq!(rt; write_uniq(alloc, &Coverage::empty(alloc))?.as_str(), "");
     Ok(())
 }

@@ -38,7 +38,8 @@ impl Run {
     }
 }
 
-fn push_number(text: &mut String, number: u64) -> Result<(), AllocError>
+/// The number in decimal.
+pub fn push_number(text: &mut String, number: u64) -> Result<(), AllocError>
     ensures { OnOk result (string_bytes text.new ≡ string_bytes text.old ++ decimal number) }
 {
     text.push_str(Buffer::new().format(number))?;
