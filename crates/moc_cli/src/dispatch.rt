@@ -97,7 +97,10 @@ fn act<R: Source, W: Sink>(
 fn converted(alloc: Global, number: Number) -> Result<String, Fault> {
     let text = match number {
         Number::Ring(order, index) => format!(in alloc; "{}\n", Cell::new(order, index)?.ring()),
-        Number::Nest(order, ring) => format!(in alloc; "{}\n", Cell::from_ring(order, ring)?.index()),
+        Number::Nest(order, ring) => format!(in alloc;
+            "{}\n",
+            Cell::from_ring(order, ring)?.index()
+        ),
         Number::Uniq(order, index) => format!(in alloc; "{}\n", Cell::new(order, index)?.uniq()),
         Number::Cell(uniq) => {
             let cell = Cell::from_uniq(uniq)?;

@@ -18,6 +18,12 @@ fn main(rt: HostRuntime) -> io::Result<ExitCode> {
     let mut input = OverReader::new(rt.stdin());
     let mut output = OverWriter::new(rt.stdout());
     let mut faults = OverWriter::new(rt.stderr());
-    let status = program(rt.alloc(), words.as_slice(), &mut input, &mut output, &mut faults);
+    let status = program(
+        rt.alloc(),
+        words.as_slice(),
+        &mut input,
+        &mut output,
+        &mut faults,
+    );
     Ok(ExitCode::from(status))
 }

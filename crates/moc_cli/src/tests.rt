@@ -37,9 +37,15 @@ fn numbers(rt: HostRuntime) {
         (["ring", "2", "64"], "136\n"),
         (["ring", "29", "0"], "1729382253957480448\n"),
         (["nest", "1", "27"], "18\n"),
-        (["nest", "29", "3458764513820540927"], "3170534137668829184\n"),
+        (
+            ["nest", "29", "3458764513820540927"],
+            "3170534137668829184\n",
+        ),
         (["uniq", "3", "10"], "266\n"),
-        (["uniq", "29", "3458764513820540927"], "4611686018427387903\n"),
+        (
+            ["uniq", "29", "3458764513820540927"],
+            "4611686018427387903\n",
+        ),
     ] {
         expect(&rt, rt.alloc(), &words, "", 0, output, "");
     }
@@ -57,7 +63,15 @@ fn refused_numbers(rt: HostRuntime) {
         expect(&rt, rt.alloc(), &words, "", 1, "", fault);
     }
     for uniq in ["3", "4611686018427387904"] {
-        expect(&rt, rt.alloc(), &["cell", uniq], "", 1, "", "fault NotUniq\n");
+        expect(
+            &rt,
+            rt.alloc(),
+            &["cell", uniq],
+            "",
+            1,
+            "",
+            "fault NotUniq\n",
+        );
     }
 }
 
@@ -65,6 +79,7 @@ fn refused_numbers(rt: HostRuntime) {
 fn scripts(rt: HostRuntime) {
     expect(&rt, rt.alloc(), &["run"], "", 0, "", "");
     let script = "add 0/0 2\ncount 0/2 3\nadd 1/0\nremove 0/0";
-    let answers = "changed 576460752303423488\ntotal 288230376151711744\nchanged 0\nfault UnknownWord\n";
+    let answers =
+        "changed 576460752303423488\ntotal 288230376151711744\nchanged 0\nfault UnknownWord\n";
     expect(&rt, rt.alloc(), &["run"], script, 0, answers, "");
 }

@@ -25,7 +25,7 @@ number_of-other top field i d inside other =
     let no : list_all is_ascii_digit field ≡ false = list_all_at is_ascii_digit field i d inside other in
     let none : (b : Bool) → b && false ≡ false = λ b. elim b as (λ v. v && false ≡ false) [ true ↦ refl | false ↦ refl ] in
     sym (ap (λ b. option_map (λ n. min n top) (cond (ltb 0 (length field) && b) (Some (digits_value 10 field)) None)) no
-        ∙ ap (λ b. option_map (λ n. min n top) (cond b (Some (digits_value 10 field)) None)) (none (ltb 0 (length field))))
+    ∙ ap (λ b. option_map (λ n. min n top) (cond b (Some (digits_value 10 field)) None)) (none (ltb 0 (length field))))
 
 -- one more digit, held at the top
 held_step : (top v d x : ℕ) → x ≡ d - 48 → min (min (min v top * 10) top + (d - 48)) top ≡ min (v * 10 + x) top

@@ -38,9 +38,10 @@ module _ (p : ℕ → Bool) where
 
 none_behind : (text : List ℕ) → list_any is_at_sign text ≡ false → (list_any is_at_sign (word_of text) ≡ false) × (list_any is_at_sign (behind_word text) ≡ false)
 none_behind text none =
-    let front = (none_in_parts is_at_sign (prefix_len is_blank_byte text) text none).1 in
-    ((none_in_parts is_at_sign (position_or_len is_blank_byte (without_blanks text)) (without_blanks text) front).0,
-      (none_in_parts is_at_sign (length (word_of text)) (without_blanks text) front).1)
+    let front = (none_in_parts is_at_sign (prefix_len is_blank_byte text) text none).1 in (
+      (none_in_parts is_at_sign (position_or_len is_blank_byte (without_blanks text)) (without_blanks text) front).0,
+      (none_in_parts is_at_sign (length (word_of text)) (without_blanks text) front).1,
+    )
 
 operand_by-plain : (word text : List ℕ) → list_any is_at_sign word ≡ false → operand_by word text ≡ plain_operand_of text
 operand_by-plain [] text none = refl
