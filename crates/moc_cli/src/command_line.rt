@@ -42,6 +42,7 @@ pub fn command_line<'a>(alloc: Global) -> Result<Command<'a>, AllocError>
     Command::new(alloc, "moc")
         .about("Sky coverages (IVOA MOC 2.0) and HEALPix cell numbers")
         .after_help(EXAMPLE)
+        .bin_name("moc")?
         .no_binary_name(true)
         .subcommand_required(true)
         .subcommand(run)?

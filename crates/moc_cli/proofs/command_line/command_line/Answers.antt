@@ -24,7 +24,7 @@ returns c =
     let cell : app_of c.in_ok-cell.cell ≡ with_rule (new_app (codes "cell")) (number_rule (codes "UNIQ")) =
     c.in_ok-cell.ensures.shape c.number.ensures.local ∙ ap₂ with_rule (ap app_of_fields c.about-2.ensures ∙ c.new-2.ensures.app) c.number.ensures.rule in
     let bare : app_of c.subcommand_required.result ≡ with_word_required (without_name (new_app (codes "moc"))) =
-    ap app_of_fields c.subcommand_required.ensures ∙ ap with_word_required (ap app_of_fields c.no_binary_name.ensures ∙ ap without_name (ap app_of_fields c.after_help.ensures ∙ ap app_of_fields c.about-3.ensures ∙ c.new-3.ensures.app)) in
+    ap app_of_fields c.subcommand_required.ensures ∙ ap with_word_required (ap app_of_fields c.no_binary_name.ensures ∙ ap without_name (ap app_of_fields c.in_ok-bin_name.ensures.0 ∙ ap app_of_fields c.after_help.ensures ∙ ap app_of_fields c.about-3.ensures ∙ c.new-3.ensures.app)) in
     let with_run = c.in_ok-subcommand.ensures.shape (ap has_globals c.after_help-run.ensures ∙ ap has_globals c.about.ensures ∙ c.new.ensures.local) ∙ ap₂ with_subcommand bare (ap top_of run) in
     let with_ring = c.in_ok-subcommand-2.ensures.shape (ap has_globals c.about-ring.ensures ∙ c.in_ok-numbers.ensures.local) ∙ ap₂ with_subcommand with_run (ap top_of ring) in
     let with_nest = c.in_ok-subcommand-3.ensures.shape (ap has_globals c.about-nest.ensures ∙ c.in_ok-numbers-2.ensures.local) ∙ ap₂ with_subcommand with_ring (ap top_of nest) in
