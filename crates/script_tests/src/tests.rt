@@ -159,3 +159,38 @@ fn failing_flush(rt: HostRuntime) {
     assert_eq!(rt; result, Err(RunError::Write));
     assert_eq!(rt; text.as_slice(), ANSWERS);
 }
+
+// The lines of a text before the one of this number, counted from 1.
+fn lines_before(text: &[u8], number: u64) -> &[u8] {
+    let mut line = 1u64;
+    for (at, byte) in text.iter().enumerate() {
+        if line >= number {
+            return text.split_at(at).0;
+        }
+        if *byte == b'\n' {
+            line = line.saturating_add(1);
+        }
+    }
+    text
+}
+
+// With ample memory, and where one growth is refused (`rt try --test --fail-alloc N`, for each N): then the answers are
+// just those to the lines before.
+#[test]
+fn refused_growths(rt: HostRuntime) {
+    let mut room = [0u8; 128];
+    let mut source = OverReader::new(SCRIPT);
+    let mut sink = OverWriter::new(room.as_mut_slice());
+    let result = run(rt.alloc(), &mut source, &mut sink);
+    drop(sink);
+    let front = match result {
+        Err(RunError::Memory { line }) => lines_before(SCRIPT, line),
+        _ => SCRIPT,
+    };
+    assert!(rt; result.is_ok() || front.len() < SCRIPT.len());
+    let (ended, expected) = run_through(rt.alloc(), front, PLENTY, PLENTY, true);
+    assert_eq!(rt; ended, Ok(()));
+    let (answers, rest) = room.split_at(expected.len().min(128));
+    assert_eq!(rt; answers, expected.as_slice());
+    assert!(rt; rest.iter().all(|byte| *byte == 0));
+}
