@@ -10,3 +10,6 @@ pub mod Told
 pub mod Join
 pub mod Written
 pub mod UniqLines
+pub mod JsonOrders
+pub mod JsonMembers
+pub mod JsonFine

@@ -6,3 +6,5 @@ pub mod AsciiText
 pub mod Writing
 pub mod UniqList
 pub mod Lines
+pub mod JsonForm
+pub mod JsonScan

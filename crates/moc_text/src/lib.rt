@@ -2,6 +2,7 @@
 #![tactic(auto)]
 
 mod error;
+mod json;
 mod number;
 mod reading;
 mod scan;
@@ -10,6 +11,7 @@ mod uniq;
 mod writing;
 
 pub use error::TextError;
+pub use json::{JsonError, read_json};
 pub use reading::{read_ascii, readings_are_told};
 pub use uniq::{UniqError, read_uniq, write_uniq, written_uniq_is_read};
 pub use writing::{write_ascii, written_is_read};
