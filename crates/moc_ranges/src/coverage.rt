@@ -11,9 +11,9 @@ ghost use Rattle.moc_ranges.specs.Sweep.{IsCombined};
 
 use crate::cells::{orders_with_cells, push_cells_of_order};
 use crate::errors::{Memory, RangesError};
-use crate::from_ranges::{check, joined, sorted, widened};
+use crate::from_ranges::{check, joined, joined_cells, sorted};
 use crate::ranges::Ranges;
-use crate::sweep::{Rule, count_both, keeps_some, sweep};
+use crate::sweep::{Rule, count_both, cut, keeps_some, sweep};
 use moc_sphere::{Cell, Order};
 use std::alloc::Global;
 use std::marker::Model;
@@ -142,28 +142,25 @@ impl Coverage {
 
     /// The pixels of one base pixel.
     pub fn part(&self, alloc: Global, base_pixel: u8) -> Result<Coverage, Memory>
-        ensures { IfOk result (λ c. c ≡ part_of self.now base_pixel) }
+        ensures part { IfOk result (λ c. c ≡ part_of self.now base_pixel) }
+
+        // What lets a caller put a set together from its parts.
+        ensures within { IsWithin self.now pixels }
     {
         let bounds = &self.bounds;
         if base_pixel > 11 {
             return Ok(Coverage::empty(alloc));
         }
         let from = u64::from(base_pixel) * BASE_PIXEL_SIZE;
-        combined(
-            alloc,
-            Rule::INTERSECTION,
-            bounds,
-            &[from, from + BASE_PIXEL_SIZE],
-        )
+        let bounds = cut(alloc, bounds, from, from + BASE_PIXEL_SIZE)?;
+        Ok(Coverage { bounds })
     }
 
     /// The set as cells of an order see it: all of each cell that it meets.
     pub fn degrade(&self, alloc: Global, order: Order) -> Result<Coverage, Memory>
         ensures { IfOk result (λ c. c ≡ degrade self.now order) }
     {
-        let size = order.cell_size();
-        let wide = widened(alloc, size, self.ranges())?;
-        let bounds = joined(alloc, &wide)?;
+        let bounds = joined_cells(alloc, order.cell_size(), self.ranges())?;
         Ok(Coverage { bounds })
     }
 
@@ -234,6 +231,7 @@ impl Coverage {
 }
 
 /// What the rule keeps of two stored sets.
+#[inline]
 fn combined(alloc: Global, rule: Rule, xs: &[u64], ys: &[u64]) -> Result<Coverage, Memory>
     requires xs { IsBounds xs.now }
     requires ys { IsBounds ys.now }
