@@ -1,4 +1,4 @@
-// From pairs in any order to the bounds of their union.
+//! From pairs in any order to the bounds of their union, and from ranges to the cells that they meet.
 ghost use Rattle.std.specs.Prelude.{◌≡◌, ℕ, ◌*◌, ◌<◌, ◌≤◌, map, IfOk, IfErr, OnOk, None, Some};
 ghost use Rattle.moc_ranges.specs.Faults.{first_fault};
 ghost use Rattle.moc_ranges.specs.Sorted.{IsSortedFrom};
