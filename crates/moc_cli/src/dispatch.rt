@@ -13,6 +13,7 @@ use moc_script::{Sink, Source, run, write_all};
 use moc_sphere::Cell;
 use std::alloc::{AllocError, Global};
 use std::convert::AsStr;
+use std::io;
 
 /// Does what the words ask, and answers the exit status: 0 where it is done, 1 where a value, a text or a
 /// line is refused, 2 where the words are no command line, 3 where a device fails or memory is refused.
@@ -35,6 +36,15 @@ pub fn program<'a, S: AsStr, R: Source, W: Sink, E: Sink>(
         Err(error) => explain(alloc, &error, output, faults),
     };
     status.code()
+}
+
+/// Tells why the words could not be had, and answers the exit status: 3 for want of memory, and else 2.
+pub fn refuse_words<E: Sink>(error: &io::Error, faults: &mut E) -> u8 {
+    if error.kind() == io::ErrorKind::OutOfMemory {
+        return ended(Err(Fault::Memory), faults).code();
+    }
+    let _ = write_all(b"error: a word of the command line is not UTF-8\n", faults);
+    Status::BadWords.code()
 }
 
 /// Reads the words.

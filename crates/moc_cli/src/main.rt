@@ -8,22 +8,30 @@ mod status;
 #[cfg(test)]
 mod tests;
 
-use crate::dispatch::program;
+use crate::dispatch::{program, refuse_words};
 use moc_script::{OverReader, OverWriter};
 use std::io;
 use std::process::ExitCode;
 
-fn main(rt: HostRuntime) -> io::Result<ExitCode> {
-    let words: Vec<String> = std::env::args(&rt)?.skip(1).collect(rt.alloc())?;
+fn main(rt: HostRuntime) -> ExitCode {
     let mut input = OverReader::new(rt.stdin());
     let mut output = OverWriter::new(rt.stdout());
     let mut faults = OverWriter::new(rt.stderr());
-    let status = program(
-        rt.alloc(),
-        words.as_slice(),
-        &mut input,
-        &mut output,
-        &mut faults,
-    );
-    Ok(ExitCode::from(status))
+    let status = match words(&rt) {
+        Ok(words) => program(
+            rt.alloc(),
+            words.as_slice(),
+            &mut input,
+            &mut output,
+            &mut faults,
+        ),
+        Err(error) => refuse_words(&error, &mut faults),
+    };
+    ExitCode::from(status)
+}
+
+/// The words of the command line, without the program's name.
+fn words(rt: &HostRuntime) -> io::Result<Vec<String>> {
+    let words = std::env::args(rt)?.skip(1).collect(rt.alloc())?;
+    Ok(words)
 }
