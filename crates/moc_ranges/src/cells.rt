@@ -1,4 +1,4 @@
-// From ranges to cells: order after order, and within an order range after range.
+//! From ranges to cells: order after order, and within an order range after range.
 ghost use Rattle.std.specs.Prelude.{◌≡◌, ◌++◌, ◌<◌, ◌≤◌, [], ◌∷◌, OnOk};
 ghost use Rattle.moc_sphere.specs.CellNumber.{cell_count};
 ghost use Rattle.moc_ranges.specs.CellRuns.{AreWhole, HasOrders, cells_at, cells_between};

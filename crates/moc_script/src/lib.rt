@@ -17,6 +17,6 @@ mod words;
 
 pub use laws::{lines_of_one_command, lines_without_order};
 pub use line_reader::LINE_LIMIT;
-pub use script::{RunError, run};
+pub use script::{RunError, run, write_all};
 pub use sink::{OverWriter, Sink};
 pub use source::{DeviceFault, OverReader, Source};

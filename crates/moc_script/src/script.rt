@@ -220,7 +220,7 @@ fn send<W: Sink>(pending: &mut Vec<u8>, writer: &mut W) -> Result<(), DeviceFaul
 }
 
 /// Writes all of the bytes.
-fn write_all<W: Sink>(bytes: &[u8], writer: &mut W) -> Result<(), DeviceFault>
+pub fn write_all<W: Sink>(bytes: &[u8], writer: &mut W) -> Result<(), DeviceFault>
     ensures sends { Sends bytes.now (W.written writer.old) [] (W.written writer.new) result }
     ensures marks { W.mark writer.old ≡ false → W.mark writer.new ≡ is_err result }
     ensures flushed { IsTrue (W.flushed writer.new) → IsTrue (W.flushed writer.old) }

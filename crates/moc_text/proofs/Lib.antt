@@ -9,3 +9,7 @@ pub mod OneReading
 pub mod Told
 pub mod Join
 pub mod Written
+pub mod UniqLines
+pub mod JsonOrders
+pub mod JsonMembers
+pub mod JsonFine

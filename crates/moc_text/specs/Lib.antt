@@ -4,3 +4,7 @@ pub mod Progress
 pub mod Reading
 pub mod AsciiText
 pub mod Writing
+pub mod UniqList
+pub mod Lines
+pub mod JsonForm
+pub mod JsonScan

@@ -2,13 +2,18 @@
 #![tactic(auto)]
 
 mod error;
+mod json;
 mod number;
 mod reading;
 mod scan;
+mod spans;
+mod uniq;
 mod writing;
 
 pub use error::TextError;
+pub use json::{JsonError, read_json};
 pub use reading::{read_ascii, readings_are_told};
+pub use uniq::{UniqError, read_uniq, write_uniq, written_uniq_is_read};
 pub use writing::{write_ascii, written_is_read};
 
 #[cfg(test)]

@@ -1,7 +1,5 @@
 //! Reading the ASCII form.
-ghost use Rattle.std.specs.Prelude.{◌≡◌, ℕ, ◌∷◌, [], ◌++◌, IfOk, IfErr, IsOkUnless, MatchResult, None, Option, Some, SomeIff, ◌≤◌, ◌⊎◌};
-ghost use Rattle.moc_ranges.specs.Faults.{first_fault};
-ghost use Rattle.moc_ranges.specs.RangeList.{set_of};
+ghost use Rattle.std.specs.Prelude.{◌≡◌, ℕ, ◌∷◌, [], ◌++◌, IfOk, IfErr, MatchResult, None, Option, Some, SomeIff, ◌≤◌, ◌⊎◌};
 ghost use Rattle.moc_text.specs.Ascii.{mark_fault, item_fault, item_spans, order_at, deeper, Says, IsFirstFault};
 ghost use Rattle.moc_text.specs.Progress.{Progress, Fails};
 ghost use Rattle.moc_text.specs.Reading.{IsReadingOf, ReadingsAreTold};
@@ -9,6 +7,7 @@ ghost use Rattle.moc_text.specs.Reading.{IsReadingOf, ReadingsAreTold};
 use crate::error::TextError;
 use crate::number::{Item, Number};
 use crate::scan::{is_separator, place, word};
+use crate::spans::union_of;
 use moc_ranges::Coverage;
 use moc_sphere::Order;
 use std::alloc::Global;
@@ -119,18 +118,6 @@ fn read_words(alloc: Global, text: &[u8]) -> Result<Reading, TextError>
         rest = after;
     }
     Ok(reading)
-}
-
-/// The union of spans that are all ranges of pixels, for which only memory can be wanting.
-fn union_of(alloc: Global, spans: &[(u64, u64)]) -> Result<Coverage, TextError>
-    requires { first_fault spans.now ≡ None }
-    ensures set { IfOk result (λ c. c ≡ set_of spans.now) }
-    ensures memory { IsOkUnless result TextError.Memory }
-{
-    match Coverage::from_ranges(alloc, spans) {
-        Ok(set) => Ok(set),
-        Err(_) => Err(TextError::Memory),
-    }
 }
 
 /// Reads the ASCII form (MOC 2.0): the set, and the deepest order that the text names. One pass.

@@ -1,4 +1,6 @@
-use crate::{TextError, read_ascii, write_ascii};
+use crate::{
+    JsonError, TextError, UniqError, read_ascii, read_json, read_uniq, write_ascii, write_uniq,
+};
 use moc_ranges::Coverage;
 use moc_sphere::Order;
 use std::alloc::Global;
@@ -174,5 +176,118 @@ fn written_ranges(rt: HostRuntime) -> Result<(), Fail> {
     let alloc = rt.alloc();
     let set = Coverage::from_ranges(alloc, &[(4, 8), (8, 9), (0, 4)])?;
     assert_eq!(rt; write_ascii(alloc, &set, None)?.as_str(), "28/0-1 29/8");
+    Ok(())
+}
+
+#[test]
+fn uniq_lists(rt: HostRuntime) -> Result<(), Fail> {
+    let alloc = rt.alloc();
+    let base = Coverage::from_ranges(alloc, &[(0, Q0)])?;
+    assert!(rt; read_uniq(alloc, b"16\n17\n\n18\n19")?.same(&base));
+    assert!(rt; read_uniq(alloc, b"")?.is_empty());
+    let last = Coverage::from_ranges(alloc, &[(3458764513820540927, 3458764513820540928)])?;
+    assert!(rt; read_uniq(alloc, b"4611686018427387903\n")?.same(&last));
+    Ok(())
+}
+
+#[test]
+fn uniq_faults(rt: HostRuntime) {
+    let alloc = rt.alloc();
+    assert!(rt;
+        matches!(
+            read_uniq(alloc, b"4\nx"),
+            Err(UniqError::BadByte { line: 2 })
+        )
+    );
+    assert!(rt;
+        matches!(
+            read_uniq(alloc, b"\n3\nx"),
+            Err(UniqError::NotUniq { line: 2 })
+        )
+    );
+    assert!(rt;
+        matches!(
+            read_uniq(alloc, b"4611686018427387904"),
+            Err(UniqError::NotUniq { line: 1 })
+        )
+    );
+}
+
+#[test]
+fn written_uniq_lists(rt: HostRuntime) -> Result<(), Fail> {
+    let alloc = rt.alloc();
+    let (set, _) = read_ascii(alloc, b"1/1-2 4 2/12-14 21 23 25 8/")?;
+    assert_eq!(rt;
+        write_uniq(alloc, &set)?.as_str(),
+        "17\n18\n20\n76\n77\n78\n85\n87\n89\n"
+    );
+    assert_eq!(rt; write_uniq(alloc, &Coverage::empty(alloc))?.as_str(), "");
+    Ok(())
+}
+
+/// Whether the JSON text is read as these ranges of pixels and this deepest order.
+fn is_json(
+    alloc: Global,
+    text: &[u8],
+    ranges: &[(u64, u64)],
+    deepest: Option<u8>,
+) -> Result<bool, Fail> {
+    let (set, found) = read_json(alloc, text)?;
+    let wanted = Coverage::from_ranges(alloc, ranges)?;
+    Ok(set.same(&wanted) && found.map(|order| order.get()) == deepest)
+}
+
+#[test]
+fn json_objects(rt: HostRuntime) -> Result<(), Fail> {
+    let alloc = rt.alloc();
+    let text = b"{\"10\":[],\"2\":[5],\"1\":[1]}";
+    assert!(rt; is_json(alloc, text, &[(Q1, 2 * Q1), (5 * Q2, 6 * Q2)], Some(10))?);
+    assert!(rt; is_json(alloc, b"{\"01\":[0]}", &[(0, Q1)], Some(1))?);
+    assert!(rt; is_json(alloc, b"{}", &[], None)?);
+    Ok(())
+}
+
+#[test]
+fn json_faults(rt: HostRuntime) {
+    let alloc = rt.alloc();
+    assert!(rt;
+        matches!(
+            read_json(alloc, b"{\"2\":[-1]}"),
+            Err(JsonError::NotWhole { name: 0, place: 0 })
+        )
+    );
+    assert!(rt;
+        matches!(
+            read_json(alloc, b"{\"1\":[0,48]}"),
+            Err(JsonError::CellTooLarge { name: 0, place: 1 })
+        )
+    );
+    assert!(rt;
+        matches!(
+            read_json(alloc, b"{\"1\":[],\"30\":[0]}"),
+            Err(JsonError::BadOrder { name: 1 })
+        )
+    );
+    assert!(rt;
+        matches!(
+            read_json(alloc, b"{\"1\":5}"),
+            Err(JsonError::NotArray { name: 0 })
+        )
+    );
+    assert!(rt; matches!(read_json(alloc, b"[1]"), Err(JsonError::NotObject)));
+}
+
+#[test]
+fn not_json(rt: HostRuntime) -> Result<(), Fail> {
+    let alloc = rt.alloc();
+    assert!(rt; matches!(read_json(alloc, b"{\"1\":[0"), Err(JsonError::NotJson)));
+    assert!(rt;
+        matches!(
+            read_json(alloc, b"{\"1\":[0]}\xff"),
+            Err(JsonError::NotJson)
+        )
+    );
+    let brackets = repeated(alloc, b"", b'[', b"")?;
+    assert!(rt; matches!(read_json(alloc, &brackets), Err(JsonError::NotJson)));
     Ok(())
 }

@@ -38,7 +38,8 @@ impl Run {
     }
 }
 
-fn push_number(text: &mut String, number: u64) -> Result<(), AllocError>
+/// The number in decimal.
+pub fn push_number(text: &mut String, number: u64) -> Result<(), AllocError>
     ensures { OnOk result (string_bytes text.new ≡ string_bytes text.old ++ decimal number) }
 {
     text.push_str(Buffer::new().format(number))?;
@@ -50,7 +51,7 @@ fn push_order(text: &mut String, order: u8) -> Result<(), AllocError>
     ensures { OnOk result (string_bytes text.new ≡ string_bytes text.old ++ order_text order) }
 {
     push_number(text, u64::from(order))?;
-    text.push('/')?;
+    text.push_str("/")?;
     Ok(())
 }
 
@@ -59,7 +60,7 @@ fn push_gap(text: &mut String, before: Option<u8>) -> Result<(), AllocError>
     ensures { OnOk result (string_bytes text.new ≡ string_bytes text.old ++ gap before) }
 {
     if before.is_some() {
-        text.push(' ')?;
+        text.push_str(" ")?;
     }
     Ok(())
 }
@@ -82,7 +83,7 @@ fn push_cells(text: &mut String, run: Run) -> Result<(), AllocError>
 {
     push_number(text, run.first)?;
     if run.first != run.last {
-        text.push('-')?;
+        text.push_str("-")?;
         push_number(text, run.last)?;
     }
     Ok(())
@@ -162,7 +163,7 @@ pub fn write_ascii(
     if has_deeper(&cells, stated) {
         return Err(TextError::TooCoarse);
     }
-    let mut text = String::with_capacity(alloc, cells.len())?;
+    let mut text = String::with_capacity(alloc, cells.len().saturating_mul(9))?;
     push_all(&mut text, &cells, stated)?;
     Ok(text)
 }

@@ -18,4 +18,4 @@ union_of-requires c =
 pub returns-clause-reading : goal.returns-clause-reading
 returns-clause-reading c =
     let p = c.in_ok-reading.ensures.says in
-    rw (c.in_ok-set.ensures.set, c.deref.ensures.value) (reading_is c.args.text.now _ _ (says_all c.args.text.now _ _ _ p))
+    rw (c.in_ok-set.ensures, c.deref.ensures.value) (reading_is c.args.text.now _ _ (says_all c.args.text.now _ _ _ p))

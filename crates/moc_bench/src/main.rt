@@ -1,0 +1,43 @@
+//! `moc_bench OP REPEATS`: the time of one operation of the library, as a line `OP median first least checksum`, in seconds.
+//! Standard input has one coverage in ASCII a line: the first, and for an operation on two sets the second.
+#![tactic(auto)]
+
+mod operation;
+
+use crate::operation::{Operation, answer};
+use anyhow::{Result, bail};
+use moc_text::read_ascii;
+use std::io::Read;
+use std::time::Instant;
+
+fn main(rt: HostRuntime) -> Result<()> {
+    let words: Vec<String> = std::env::args(&rt)?.collect(rt.alloc())?;
+    let [_, word, repeats] = words.as_slice() else {
+        println!(rt; "moc_bench OP REPEATS")?;
+        return Ok(());
+    };
+    let Some(operation) = Operation::named(word.as_str()) else {
+        bail!("no operation {word}");
+    };
+    let repeats: u32 = repeats.as_str().parse()?;
+    let mut input = Vec::new(rt.alloc());
+    rt.stdin().read_to_end(&mut input)?;
+    let mut lines = input.split(|byte| *byte == b'\n');
+    let first = lines.next().unwrap_or(&[]);
+    let (a, _) = read_ascii(rt.alloc(), first)?;
+    let (b, _) = read_ascii(rt.alloc(), lines.next().unwrap_or(&[]))?;
+    let cells = operation.cells(rt.alloc())?;
+    let mut times = Vec::new(rt.alloc());
+    let mut sum = 0;
+    for _ in 0..repeats {
+        let start = Instant::now(&rt)?;
+        sum = answer(rt.alloc(), operation, first, &a, &b, &cells)?;
+        times.push(start.elapsed(&rt)?.as_micros())?;
+    }
+    let first = times.first().copied().unwrap_or(0);
+    times.sort_unstable();
+    let median = times.get(times.len() / 2).copied().unwrap_or(0);
+    let least = times.first().copied().unwrap_or(0);
+    println!(rt; "{word} {median} {first} {least} {sum}")?;
+    Ok(())
+}

@@ -1,0 +1,123 @@
+//! The operations that are timed.
+use anyhow::Result;
+use moc_ranges::Coverage;
+use moc_sphere::{Cell, Order};
+use moc_text::{read_ascii, write_ascii};
+use std::alloc::{AllocError, Global};
+
+/// What is timed.
+#[derive(Clone, Copy)]
+pub enum Operation {
+    ReadAscii,
+    Count,
+    Union,
+    Intersection,
+    Difference,
+    Complement,
+    Degrade(u8),
+    WriteAscii,
+    Ring(u8),
+    Nest(u8),
+}
+
+impl Operation {
+    pub fn named(word: &str) -> Option<Operation> {
+        match word {
+            "read_a" => Some(Operation::ReadAscii),
+            "count" => Some(Operation::Count),
+            "union" => Some(Operation::Union),
+            "intersection" => Some(Operation::Intersection),
+            "difference" => Some(Operation::Difference),
+            "complement" => Some(Operation::Complement),
+            "degrade10" => Some(Operation::Degrade(10)),
+            "degrade13" => Some(Operation::Degrade(13)),
+            "write_ascii" => Some(Operation::WriteAscii),
+            "ring13" => Some(Operation::Ring(13)),
+            "ring29" => Some(Operation::Ring(29)),
+            "nest13" => Some(Operation::Nest(13)),
+            "nest29" => Some(Operation::Nest(29)),
+            _ => None,
+        }
+    }
+
+    /// Ten million numbers of the order, for an operation on numbers.
+    pub fn cells(self, alloc: Global) -> Result<Vec<u64>, AllocError> {
+        match self {
+            Operation::Ring(order) | Operation::Nest(order) => random_cells(
+                alloc, order, 10_000_000,
+            ),
+            _ => Ok(Vec::new(alloc)),
+        }
+    }
+}
+
+/// Numbers below the count of an order's cells, by splitmix64 with the seed 42.
+fn random_cells(alloc: Global, order: u8, count: usize) -> Result<Vec<u64>, AllocError> {
+    let mut cells = Vec::new(alloc);
+    let Some(order) = Order::new(order) else {
+        return Ok(cells);
+    };
+    let all = order.cell_count().max(1);
+    let mut state = 42u64;
+    for _ in 0..count {
+        state = state.wrapping_add(0x9E37_79B9_7F4A_7C15);
+        let z = (state ^ (state >> 30)).wrapping_mul(0xBF58_476D_1CE4_E5B9);
+        let z = (z ^ (z >> 27)).wrapping_mul(0x94D0_49BB_1331_11EB);
+        cells.push((z ^ (z >> 31)) % all)?;
+    }
+    Ok(cells)
+}
+
+/// Does the operation once, and answers its checksum.
+pub fn answer(
+    alloc: Global,
+    operation: Operation,
+    text: &[u8],
+    a: &Coverage,
+    b: &Coverage,
+    cells: &[u64],
+) -> Result<u64> {
+    Ok(match operation {
+        Operation::ReadAscii => read_ascii(alloc, text)?.0.count(),
+        Operation::Count => a.count(),
+        Operation::Union => a.union(alloc, b)?.count(),
+        Operation::Intersection => a.intersection(alloc, b)?.count(),
+        Operation::Difference => a.difference(alloc, b)?.count(),
+        Operation::Complement => a.complement(alloc)?.count(),
+        Operation::Degrade(order) => match Order::new(order) {
+            Some(order) => a.degrade(alloc, order)?.count(),
+            None => 0,
+        },
+        Operation::WriteAscii => write_ascii(alloc, a, None)?.len() as u64,
+        Operation::Ring(order) => rings(order, cells),
+        Operation::Nest(order) => nests(order, cells),
+    })
+}
+
+/// The sum of the ring numbers of nested cells.
+fn rings(order: u8, cells: &[u64]) -> u64 {
+    let Some(order) = Order::new(order) else {
+        return 0;
+    };
+    let mut sum = 0u64;
+    for index in cells {
+        if let Ok(cell) = Cell::new(order, *index) {
+            sum = sum.wrapping_add(cell.ring());
+        }
+    }
+    sum
+}
+
+/// The sum of the nested numbers of ring numbers.
+fn nests(order: u8, cells: &[u64]) -> u64 {
+    let Some(order) = Order::new(order) else {
+        return 0;
+    };
+    let mut sum = 0u64;
+    for ring in cells {
+        if let Ok(cell) = Cell::from_ring(order, *ring) {
+            sum = sum.wrapping_add(cell.index());
+        }
+    }
+    sum
+}

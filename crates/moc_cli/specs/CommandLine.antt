@@ -1,0 +1,37 @@
+-- The command line of the program, as `clap` reads it.
+use Rattle.std.specs.Prelude.{ℕ, pos, Bool, true, List, Some, codes}
+use Rattle.clap.specs.Words.{App, Rule, Shape, Text, new_app, new_rule, takes, with_rule, with_subcommand}
+use Rattle.clap.specs.declared.builder.ValueParser.TheVariants.{Signed, Unsigned}
+
+-- a required order, 0 to 29
+abbrev pub order_rule : Rule
+order_rule = record (new_rule (codes "ORDER")) { required = true; parser = Some (Signed (pos 0) (pos 29)) }
+
+-- a required number of 64 bits
+abbrev pub number_rule : Text → Rule
+number_rule name = record (new_rule name) { required = true; parser = Some (Unsigned 0 18446744073709551615) }
+
+-- a word with an order and a number
+abbrev pub numbers_app : Text → Text → App
+numbers_app word name = with_rule (with_rule (new_app word) order_rule) (number_rule name)
+
+-- its first word is no program's name
+abbrev pub without_name : App → App
+without_name a = record a { top = record a.top { no_binary_name = true } }
+
+-- one of its words is required
+abbrev pub with_word_required : App → App
+with_word_required a = record a { top = record a.top { subcommand_required = true } }
+
+-- the words `run`, `ring ORDER CELL`, `nest ORDER RING`, `uniq ORDER CELL` and `cell UNIQ`
+unfoldable pub moc_app : App
+moc_app =
+    let with_run = with_subcommand (with_word_required (without_name (new_app (codes "moc")))) (new_app (codes "run")).top in
+    let with_ring = with_subcommand with_run (numbers_app (codes "ring") (codes "CELL")).top in
+    let with_nest = with_subcommand with_ring (numbers_app (codes "nest") (codes "RING")).top in
+    let with_uniq = with_subcommand with_nest (numbers_app (codes "uniq") (codes "CELL")).top in
+    with_subcommand with_uniq (with_rule (new_app (codes "cell")) (number_rule (codes "UNIQ"))).top
+
+-- whether `clap` takes the words; it does not where it refuses them, and where they ask for help
+unfoldable pub takes_words : List Text → Bool
+takes_words words = takes moc_app words

@@ -1,0 +1,48 @@
+//! What the words of the command line ask for.
+use clap::ArgMatches;
+use moc_sphere::{Cell, CellError, Order};
+
+/// What the words ask for.
+#[derive(Clone, Copy, Debug, PartialEq, Eq)]
+pub enum Action {
+    /// Run a script.
+    Run,
+    /// Convert a number.
+    Convert(Number),
+}
+
+/// A number to convert.
+#[derive(Clone, Copy, Debug, PartialEq, Eq)]
+pub enum Number {
+    /// A nested number to its ring number.
+    Ring(Order, u64),
+    /// A ring number to its nested number.
+    Nest(Order, u64),
+    /// A nested number to its NUNIQ number.
+    Uniq(Order, u64),
+    /// A NUNIQ number to its order and nested number.
+    Cell(u64),
+}
+
+impl Action {
+    /// What these matches ask for; `None` where they lack a word or a value, which `clap` requires.
+    pub fn from_matches(matches: &ArgMatches<'_>) -> Option<Action> {
+        let (name, values) = matches.subcommand()?;
+        match name {
+            "run" => Some(Action::Run),
+            "ring" => Some(Action::Convert(Number::Ring(order(values)?, index(values, "CELL")?))),
+            "nest" => Some(Action::Convert(Number::Nest(order(values)?, index(values, "RING")?))),
+            "uniq" => Some(Action::Convert(Number::Uniq(order(values)?, index(values, "CELL")?))),
+            "cell" => Some(Action::Convert(Number::Cell(index(values, "UNIQ")?))),
+            _ => None,
+        }
+    }
+}
+
+fn order(values: &ArgMatches<'_>) -> Option<Order> {
+    Order::new(values.get_one::<u8>("ORDER")?)
+}
+
+fn index(values: &ArgMatches<'_>, id: &str) -> Option<u64> {
+    values.get_one::<u64>(id)
+}

@@ -1,0 +1,83 @@
+//! The command line: one level of subcommands, all arguments positional and required.
+ghost use Rattle.std.specs.Prelude.{◌≡◌, IfOk, false};
+ghost use Rattle.clap.specs.Words.{app_of, rule_of};
+ghost use Rattle.clap.specs.declared.builder.command.Command.TheViews.{out-Command as fields_of};
+ghost use Rattle.moc_cli.specs.CommandLine.{moc_app, number_rule, numbers_app, order_rule};
+
+use clap::{Arg, Command, value_parser};
+use std::alloc::{AllocError, Global};
+
+/// What `moc --help` says below the list of words.
+const EXAMPLE: &str = "\
+Example:
+  printf 'add 0/0 2\\ncount 1/0-7\\nread 0/2-3\\n' | moc run
+answers
+  changed 576460752303423488
+  total 288230376151711744
+  cover 0/2
+
+Pixels are cells of order 29. A coverage is written as in MOC 2.0's ASCII form, as 3/10 12-15 4/2.";
+
+/// What `moc run --help` says below the usage.
+const SCRIPT: &str = "\
+The script is read from standard input, a command a line, on one coverage that starts empty:
+  add MOC     adds the coverage, and answers how many pixels it added
+  count MOC   answers how many pixels of the coverage are in the map
+  read MOC    answers what the coverage and the map have in common
+A bad line changes nothing and answers `fault` with the fault's name.";
+
+/// The words that the program knows.
+pub fn command_line<'a>(alloc: Global) -> Result<Command<'a>, AllocError>
+    ensures { IfOk result (λ c. app_of c ≡ moc_app) }
+{
+    let run = Command::new(alloc, "run")
+        .about("Runs a script of commands on one coverage")
+        .after_help(SCRIPT);
+    let ring = numbers(alloc, "ring", "CELL")?.about("Prints the ring number of a nested cell");
+    let nest = numbers(alloc, "nest", "RING")?.about("Prints the nested number of a ring number");
+    let uniq = numbers(alloc, "uniq", "CELL")?.about("Prints the NUNIQ number of a nested cell");
+    let cell = Command::new(alloc, "cell")
+        .about("Prints the order and the nested number of a NUNIQ number")
+        .arg(number(alloc, "UNIQ"))?;
+    Command::new(alloc, "moc")
+        .about("Sky coverages (IVOA MOC 2.0) and HEALPix cell numbers")
+        .after_help(EXAMPLE)
+        .bin_name("moc")?
+        .no_binary_name(true)
+        .subcommand_required(true)
+        .subcommand(run)?
+        .subcommand(ring)?
+        .subcommand(nest)?
+        .subcommand(uniq)?
+        .subcommand(cell)
+}
+
+/// A word with an order and a number.
+fn numbers<'a>(alloc: Global, word: &'a str, name: &'a str) -> Result<Command<'a>, AllocError>
+    ensures app { IfOk result (λ c. app_of c ≡ numbers_app word.entry.now name.entry.now) }
+    ensures local { IfOk result (λ c. (fields_of c).has_globals ≡ false) }
+{
+    Command::new(alloc, word)
+        .arg(order(alloc))?
+        .arg(number(alloc, name))
+}
+
+/// A required order, 0 to 29.
+fn order<'a>(alloc: Global) -> Arg<'a>
+    ensures rule { rule_of result ≡ order_rule }
+    ensures local { result.global ≡ false }
+{
+    Arg::new(alloc, "ORDER")
+        .required(true)
+        .value_parser(value_parser!(u8).range(0..=29))
+}
+
+/// A required number of 64 bits.
+fn number<'a>(alloc: Global, name: &'a str) -> Arg<'a>
+    ensures rule { rule_of result ≡ number_rule name.entry.now }
+    ensures local { result.global ≡ false }
+{
+    Arg::new(alloc, name)
+        .required(true)
+        .value_parser(value_parser!(u64))
+}

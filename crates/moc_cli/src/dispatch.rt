@@ -1,0 +1,127 @@
+//! What the words of the command line make the program do.
+ghost use Rattle.std.specs.Prelude.{◌≡◌, ◌≢◌, false, true, map, IfOk, IfErr};
+ghost use Rattle.clap.specs.Words.{HasMatchesOf, kind_of};
+ghost use Rattle.moc_cli.specs.CommandLine.{moc_app, takes_words};
+ghost use Rattle.moc_cli.specs.Statuses.{status_after};
+
+use crate::action::{Action, Number};
+use crate::command_line::command_line;
+use crate::status::{Fault, Status};
+use clap::error::ErrorKind;
+use clap::{ArgMatches, Error};
+use moc_script::{Sink, Source, run, write_all};
+use moc_sphere::Cell;
+use std::alloc::{AllocError, Global};
+use std::convert::AsStr;
+use std::io;
+
+/// Does what the words ask, and answers the exit status: 0 where it is done, 1 where a value, a text or a
+/// line is refused, 2 where the words are no command line, 3 where a device fails or memory is refused.
+/// What went wrong is said on `faults`; whether that can be written changes nothing.
+pub fn program<'a, S: AsStr, R: Source, W: Sink, E: Sink>(
+    alloc: Global,
+    words: &'a [S],
+    input: &mut R,
+    output: &mut W,
+    faults: &mut E,
+) -> u8
+    requires input { R.mark input.old ≡ false }
+    requires output { W.mark output.old ≡ false }
+
+    // Only words that are no command line are refused as such.
+    ensures refused { result ≡ 2 → takes_words (map S.text words.entry.now) ≡ false }
+{
+    let status = match parse(alloc, words) {
+        Ok(matches) => ended(act(alloc, &matches, input, output), faults),
+        Err(error) => explain(alloc, &error, output, faults),
+    };
+    status.code()
+}
+
+/// Tells why the words could not be had, and answers the exit status: 3 for want of memory, and else 2.
+pub fn refuse_words<E: Sink>(error: &io::Error, faults: &mut E) -> u8 {
+    if error.kind() == io::ErrorKind::OutOfMemory {
+        return ended(Err(Fault::Memory), faults).code();
+    }
+    let _ = write_all(b"error: a word of the command line is not UTF-8\n", faults);
+    Status::BadWords.code()
+}
+
+/// Reads the words.
+fn parse<'a, S: AsStr>(alloc: Global, words: &'a [S]) -> Result<ArgMatches<'a>, Error>
+    ensures matches { IfOk result (HasMatchesOf moc_app (map S.text words.entry.now)) }
+    ensures passes { IfErr result (λ e. takes_words (map S.text words.entry.now) ≡ true → kind_of e ≡ ErrorKind.OutOfMemory) }
+{
+    command_line(alloc)?.try_get_matches_from(words)
+}
+
+/// How the program ends with this outcome, after it has told a fault.
+fn ended<E: Sink>(outcome: Result<(), Fault>, faults: &mut E) -> Status
+    ensures { result ≡ status_after outcome }
+{
+    match outcome {
+        Ok(()) => Status::Done,
+        Err(fault) => {
+            let _ = write_all(fault.line().as_bytes(), faults);
+            fault.status()
+        }
+    }
+}
+
+/// Tells why there are no matches: help goes to the output, a refusal to the faults.
+fn explain<W: Sink, E: Sink>(alloc: Global, error: &Error, output: &mut W, faults: &mut E) -> Status
+    ensures { result ≡ Status.BadWords → kind_of error.now ≢ ErrorKind.OutOfMemory }
+{
+    if error.kind() == ErrorKind::OutOfMemory {
+        return ended(Err(Fault::Memory), faults);
+    }
+    let Ok(text) = format!(in alloc; "{error}") else {
+        return ended(Err(Fault::Memory), faults);
+    };
+    if error.use_stderr() {
+        let _ = write_all(text.as_bytes(), faults);
+        return Status::BadWords;
+    }
+    ended(print(&text, output), faults)
+}
+
+/// Does what the matches ask.
+fn act<R: Source, W: Sink>(
+    alloc: Global,
+    matches: &ArgMatches<'_>,
+    input: &mut R,
+    output: &mut W,
+) -> Result<(), Fault>
+    requires input { R.mark input.old ≡ false }
+    requires output { W.mark output.old ≡ false }
+{
+    match Action::from_matches(matches) {
+        Some(Action::Run) => Ok(run(alloc, input, output)?),
+        Some(Action::Convert(number)) => print(&converted(alloc, number)?, output),
+        // `clap` requires the word and its values, so none is missing.
+        None => Err(Fault::Memory),
+    }
+}
+
+/// The line of a converted number.
+fn converted(alloc: Global, number: Number) -> Result<String, Fault> {
+    let text = match number {
+        Number::Ring(order, index) => format!(in alloc; "{}\n", Cell::new(order, index)?.ring()),
+        Number::Nest(order, ring) => format!(in alloc;
+            "{}\n",
+            Cell::from_ring(order, ring)?.index()
+        ),
+        Number::Uniq(order, index) => format!(in alloc; "{}\n", Cell::new(order, index)?.uniq()),
+        Number::Cell(uniq) => {
+            let cell = Cell::from_uniq(uniq)?;
+            format!(in alloc; "{}/{}\n", cell.order().get(), cell.index())
+        }
+    };
+    Ok(text?)
+}
+
+/// Writes a text, whole.
+fn print<W: Sink>(text: &String, output: &mut W) -> Result<(), Fault> {
+    write_all(text.as_bytes(), output)?;
+    Ok(output.flush()?)
+}

@@ -1,0 +1,85 @@
+//! The words of the command line, over memory. Expected numbers are worked examples of the numbering, made apart from
+//! this program.
+use crate::dispatch::program;
+use moc_script::{OverReader, OverWriter};
+use std::alloc::Global;
+use std::process::Abort;
+use std::test::Fail;
+
+/// Checks the status, the output and the fault output of the words on an input.
+fn expect(
+    rt: &impl Abort,
+    alloc: Global,
+    words: &[&str],
+    input: &str,
+    status: u8,
+    output: &str,
+    faults: &str,
+) {
+    let mut written = Vec::new(alloc);
+    let mut told = Vec::new(alloc);
+    let answered = program(
+        alloc,
+        words,
+        &mut OverReader::new(input.as_bytes()),
+        &mut OverWriter::new(&mut written),
+        &mut OverWriter::new(&mut told),
+    );
+    assert_eq!(rt; answered, status, "{words:?}");
+    assert_eq!(rt; written.as_slice(), output.as_bytes(), "{words:?}");
+    assert_eq!(rt; told.as_slice(), faults.as_bytes(), "{words:?}");
+}
+
+#[test]
+fn numbers(rt: HostRuntime) {
+    for (words, output) in [
+        (["ring", "1", "18"], "27\n"),
+        (["ring", "2", "64"], "136\n"),
+        (["ring", "29", "0"], "1729382253957480448\n"),
+        (["nest", "1", "27"], "18\n"),
+        (
+            ["nest", "29", "3458764513820540927"],
+            "3170534137668829184\n",
+        ),
+        (["uniq", "3", "10"], "266\n"),
+        (
+            ["uniq", "29", "3458764513820540927"],
+            "4611686018427387903\n",
+        ),
+    ] {
+        expect(&rt, rt.alloc(), &words, "", 0, output, "");
+    }
+    expect(&rt, rt.alloc(), &["cell", "266"], "", 0, "3/10\n", "");
+    expect(&rt, rt.alloc(), &["cell", "15"], "", 0, "0/11\n", "");
+}
+
+#[test]
+fn refused_numbers(rt: HostRuntime) {
+    for (words, fault) in [
+        (["ring", "0", "12"], "fault CellTooLarge\n"),
+        (["nest", "0", "12"], "fault RingTooLarge\n"),
+        (["uniq", "0", "12"], "fault CellTooLarge\n"),
+    ] {
+        expect(&rt, rt.alloc(), &words, "", 1, "", fault);
+    }
+    for uniq in ["3", "4611686018427387904"] {
+        expect(
+            &rt,
+            rt.alloc(),
+            &["cell", uniq],
+            "",
+            1,
+            "",
+            "fault NotUniq\n",
+        );
+    }
+}
+
+#[test]
+fn scripts(rt: HostRuntime) {
+    expect(&rt, rt.alloc(), &["run"], "", 0, "", "");
+    let script = "add 0/0 2\ncount 0/2 3\nadd 1/0\nremove 0/0";
+    let answers =
+        "changed 576460752303423488\ntotal 288230376151711744\nchanged 0\nfault UnknownWord\n";
+    expect(&rt, rt.alloc(), &["run"], script, 0, answers, "");
+}

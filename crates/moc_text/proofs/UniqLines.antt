@@ -1,0 +1,350 @@
+-- The lines of a NUNIQ list, one by one.
+use Rattle.std.proofs.Common.{◌≡◌, ℕ, suc, ◌+◌, ◌-◌, ◌*◌, ◌^◌, ◌<◌, ◌≤◌, Bool, true, false, cond, not, ◌&&◌, ◌||◌, eqb, ltb, List, [], ◌∷◌, ◌++◌, length, map, min, Option, Some, None, Result, Ok, Err, ◌⊎◌, refl, sym, ap, subst, ◌∙◌, arith, length-append, append_assoc, pow-suc, lit<, inl, inr}
+use Rattle.std.specs.Prelude.{decimal}
+use Rattle.std.specs.Char.{is_ascii_digit}
+use Rattle.std.specs.List.{AllByRecursion}
+use Rattle.std.specs.Str.{all_ascii_digits}
+use Rattle.std.specs.Str.Parse.{digits_value}
+use Rattle.std.specs.Result.{MatchResult, IfOk, IfErr}
+use Rattle.std.proofs.Math.Nat.{pow-le-pow_right}
+use Rattle.std.proofs.lemmas.Bool.{cases_lt, cases_order, eqb-true, le-ltb, lt-ltb}
+use Rattle.std.proofs.lemmas.Bool.Decides.{nat_tests}
+use Rattle.std.proofs.lemmas.List.{append-nil, map-append}
+use Rattle.moc_sphere.specs.CellNumber.{CellNumber, cell_number, cell_count, cell_size, IsCell, uniq_of}
+use Rattle.moc_ranges.specs.Numbers.{NumberSet}
+use Rattle.moc_ranges.specs.Pixels.{pixels, pixel_count}
+use Rattle.moc_ranges.specs.RangeList.{set_of}
+use Rattle.moc_ranges.specs.Operations.{IsWithin}
+use Rattle.moc_ranges.specs.Faults.{first_fault_from, first_fault}
+use Rattle.moc_ranges.specs.Cells.{cells_of}
+use Rattle.moc_ranges.specs.CellLaws.{cell_range, cells_are, cells_fill}
+use Rattle.moc_text.specs.Ascii.{IsNumber}
+use Rattle.moc_text.specs.Scan.{front_digits, past_digits, held_after, starts_with_digit}
+use Rattle.moc_text.specs.UniqList.{with_byte, lines_of, line_fault, or_later, fault_from, uniq_fault, numbers_on, SaysUniq, number_lines, uniq_text, WrittenUniqIsRead}
+use Rattle.moc_text.specs.Lines.{after_line, IsPart, IsLineRead, LinesSoFar, AreLinesRead}
+use Rattle.moc_text.specs.declared.uniq.UniqError.{UniqError}
+use Rattle.moc_text.specs.declared.uniq.UniqError.TheVariants.{BadByte, NotUniq, Memory}
+use Rattle.moc_text.proofs.Automaton.{both}
+use Rattle.moc_text.proofs.Held.{held_is}
+use Rattle.moc_text.proofs.Powers.{cells_fit, span_fits}
+use Rattle.moc_text.proofs.Scanning.{digits-split, front-digits, past-digits}
+use Rattle.moc_text.proofs.Written.{IsNumber-decimal, value-decimal}
+
+-- ---- NUNIQ numbers
+
+four : (k : ℕ) → 4 ^ suc k ≡ 4 * 4 ^ k
+four k = omega (arith, pow-suc 4 k)
+
+uniq_bounds : (c : CellNumber) → IsCell c → (4 ^ (c.order + 1) ≤ uniq_of c) × (uniq_of c < 4 ^ (c.order + 2))
+uniq_bounds c h =
+    let one : c.order + 1 ≡ suc c.order = omega arith in
+    let two : c.order + 2 ≡ suc (suc c.order) = omega arith in
+    let i = h.index_in_range in
+    (omega arith, rw (one, two) (omega (arith, four c.order, four (suc c.order))))
+
+-- the numbers of cells are those from 4 up to 2^62
+pub uniq_range : (c : CellNumber) → IsCell c → (4 ≤ uniq_of c) × (uniq_of c < 2 ^ 62)
+uniq_range c h =
+    let b = uniq_bounds c h in
+    let first : 1 ≤ c.order + 1 = omega arith in
+    let last : c.order + 2 ≤ 31 = omega (arith, h.order_in_range) in
+    let low : 4 ^ 1 ≤ 4 ^ (c.order + 1) = pow-le-pow_right (lit< tt) first in
+    let high : 4 ^ (c.order + 2) ≤ 4 ^ 31 = pow-le-pow_right (lit< tt) last in
+    (omega (arith, low, b.0), omega (arith, high, b.1))
+
+same_order : (j k u : ℕ) → 4 ^ (j + 1) ≤ u → u < 4 ^ (j + 2) → 4 ^ (k + 1) ≤ u → u < 4 ^ (k + 2) → j ≡ k
+same_order j k u a b c d =
+    elim (cases_order j k) [
+      | inl e ↦ e
+      | inr (inl l) ↦ absurd (clash (j + 2) (k + 1) (pow-le-pow_right (lit< tt) (omega arith)) b c)
+      | inr (inr l) ↦ absurd (clash (k + 2) (j + 1) (pow-le-pow_right (lit< tt) (omega arith)) d a)
+    ]
+  where
+    clash : (m n : ℕ) → 4 ^ m ≤ 4 ^ n → u < 4 ^ m → 4 ^ n ≤ u → ⊥
+    clash m n l a b = omega arith
+
+-- a number is that of one cell
+one_cell : (c d : CellNumber) → IsCell c → IsCell d → uniq_of c ≡ uniq_of d → c ≡ d
+one_cell c d h k e =
+    let a = uniq_bounds c h in
+    let b = uniq_bounds d k in
+    let order : c.order ≡ d.order = same_order c.order d.order (uniq_of d) (omega (arith, a.0, e)) (omega (arith, a.1, e)) b.0 b.1 in
+    let power : 4 ^ (c.order + 1) ≡ 4 ^ (d.order + 1) = ap (λ n. 4 ^ (n + 1)) order in
+    let index : c.index ≡ d.index = omega (arith, power, e) in
+    ap (λ n. cell_number n c.index) order ∙ ap (λ n. cell_number d.order n) index
+
+same_cells : (cs ds : List CellNumber) → AllByRecursion IsCell cs → AllByRecursion IsCell ds → map uniq_of cs ≡ map uniq_of ds → cs ≡ ds
+same_cells [] [] h k e = refl
+same_cells [] (d ∷ ds) h k e = absurd cc
+same_cells (c ∷ cs) [] h k e = absurd cc
+same_cells (c ∷ cs) (d ∷ ds) h k e =
+    let first : uniq_of c ≡ uniq_of d = cc in
+    let others : map uniq_of cs ≡ map uniq_of ds = cc in
+    ap (λ (x : CellNumber). x ∷ cs) (one_cell c d h.0 k.0 first) ∙ ap (λ (xs : List CellNumber). d ∷ xs) (same_cells cs ds h.1 k.1 others)
+
+-- ---- the line at the front
+
+digit_no_end : (d : ℕ) → is_ascii_digit d ≡ true → eqb d 10 ≡ false
+digit_no_end d h = grind (arith, nat_tests)
+
+-- digits that an LF ends
+lines_cut : (ds rest : List ℕ) → all_ascii_digits ds ≡ true → lines_of (ds ++ 10 ∷ rest) ≡ ds ∷ lines_of rest
+lines_cut [] rest h = refl
+lines_cut (d ∷ ds) rest h =
+    let p = both (is_ascii_digit d) (all_ascii_digits ds) h in
+    rw (digit_no_end d p.0) (ap (with_byte d) (lines_cut ds rest p.1))
+
+-- digits that the text's end ends
+lines_last : (ds : List ℕ) → 0 < length ds → all_ascii_digits ds ≡ true → lines_of ds ≡ ds ∷ []
+lines_last [] some h = absurd (omega arith)
+lines_last (d ∷ []) some h =
+    let p = both (is_ascii_digit d) true h in
+    rw (digit_no_end d p.0) refl
+lines_last (d ∷ e ∷ ds) some h =
+    let p = both (is_ascii_digit d) (all_ascii_digits (e ∷ ds)) h in
+    rw (digit_no_end d p.0) (ap (with_byte d) (lines_last (e ∷ ds) (omega arith) p.1))
+
+-- what ends a line
+line_end : (b : ℕ) (more rest : List ℕ) → after_line (b ∷ more) ≡ Some rest → (b ≡ 10) × (more ≡ rest)
+line_end b more rest h =
+    elim (eqb b 10) as (λ v. eqb b 10 ≡ v → cond v (Some more) None ≡ Some rest → (b ≡ 10) × (more ≡ rest)) [
+      | true ↦ λ e k. let same : more ≡ rest = cc in (eqb-true b 10 e, same)
+      | false ↦ λ e k. absurd cc
+    ] refl h
+
+no_line_end : (b : ℕ) (more : List ℕ) → after_line (b ∷ more) ≡ None → eqb b 10 ≡ false
+no_line_end b more h = elim (eqb b 10) as (λ v. cond v (Some more) None ≡ None → v ≡ false) [ true ↦ λ k. absurd cc | false ↦ λ k. refl ] h
+
+front_line : (ds after rest : List ℕ) → 0 < length (ds ++ after) → all_ascii_digits ds ≡ true → after_line after ≡ Some rest → (lines_of (ds ++ after) ≡ ds ∷ lines_of rest) × (length rest ≤ length after)
+front_line ds [] rest some h e =
+    let none : [] ≡ rest = cc in
+    let whole : ds ++ [] ≡ ds = append-nil ds in
+    (ap lines_of whole ∙ lines_last ds (omega (arith, some, ap length whole)) h ∙ ap (λ (r : List ℕ). ds ∷ lines_of r) none, omega (arith, ap length none))
+front_line ds (b ∷ more) rest some h e =
+    let k = line_end b more rest e in
+    (ap (λ (n : ℕ). lines_of (ds ++ n ∷ more)) k.0 ∙ lines_cut ds more h ∙ ap (λ (r : List ℕ). ds ∷ lines_of r) k.1, omega (arith, ap length k.1))
+
+front_lines : (bytes rest : List ℕ) → 0 < length bytes → after_line (past_digits bytes) ≡ Some rest → lines_of bytes ≡ front_digits bytes ∷ lines_of rest
+front_lines bytes rest some e =
+    let split = digits-split bytes in
+    ap lines_of split ∙ (front_line (front_digits bytes) (past_digits bytes) rest (omega (arith, some, ap length split)) (front-digits bytes) e).0
+
+-- ---- a line with a byte that is no digit
+
+with_byte_is : (b : ℕ) (lines : List (List ℕ)) → (l : List ℕ) × (ls : List (List ℕ)) × (with_byte b lines ≡ (b ∷ l) ∷ ls)
+with_byte_is b [] = ([], [], refl)
+with_byte_is b (l ∷ ls) = (l, ls, refl)
+
+lines_bad : (ds : List ℕ) (b : ℕ) (more : List ℕ) → all_ascii_digits ds ≡ true → eqb b 10 ≡ false → (l : List ℕ) × (ls : List (List ℕ)) × (lines_of (ds ++ b ∷ more) ≡ (ds ++ b ∷ l) ∷ ls)
+lines_bad [] b more h e =
+    let f = with_byte_is b (lines_of more) in
+    (f.0, f.1, rw e f.2)
+lines_bad (d ∷ ds) b more h e =
+    let p = both (is_ascii_digit d) (all_ascii_digits ds) h in
+    let f = lines_bad ds b more p.1 e in
+    (f.0, f.1, rw (digit_no_end d p.0) (ap (with_byte d) f.2))
+
+not_digits : (ds : List ℕ) (b : ℕ) (l : List ℕ) → is_ascii_digit b ≡ false → all_ascii_digits (ds ++ b ∷ l) ≡ false
+not_digits [] b l e = rw e refl
+not_digits (d ∷ ds) b l e =
+    ap (λ v. is_ascii_digit d && v) (not_digits ds b l e) ∙ elim (is_ascii_digit d) as (λ v. (v && false) ≡ false) [ true ↦ refl | false ↦ refl ]
+
+bad_byte : (n : ℕ) (line : List ℕ) → all_ascii_digits line ≡ false → line_fault n line ≡ Some (BadByte n)
+bad_byte n [] h = absurd cc
+bad_byte n (b ∷ line) h = rw h refl
+
+bad_after : (n : ℕ) (ds after : List ℕ) → all_ascii_digits ds ≡ true → starts_with_digit after ≡ false → after_line after ≡ None → fault_from n (lines_of (ds ++ after)) ≡ Some (BadByte n)
+bad_after n ds [] h stops none = absurd cc
+bad_after n ds (b ∷ more) h stops none =
+    let f = lines_bad ds b more h (no_line_end b more none) in
+    ap (fault_from n) f.2 ∙ ap (λ x. or_later x (fault_from (n + 1) f.1)) (bad_byte n (ds ++ b ∷ f.0) (not_digits ds b f.0 stops))
+
+pub line_bad : (n : ℕ) (bytes : List ℕ) → after_line (past_digits bytes) ≡ None → fault_from n (lines_of bytes) ≡ Some (BadByte n)
+line_bad n bytes none = ap (λ (b : List ℕ). fault_from n (lines_of b)) (digits-split bytes) ∙ bad_after n (front_digits bytes) (past_digits bytes) (front-digits bytes) (past-digits bytes) none
+
+-- ---- a line of digits
+
+no_digits : (ds : List ℕ) → length ds ≡ 0 → ds ≡ []
+no_digits [] e = refl
+no_digits (d ∷ ds) e = absurd (omega arith)
+
+numbers_cons : (l : List ℕ) (ls : List (List ℕ)) → 0 < length l → numbers_on (l ∷ ls) ≡ digits_value 10 l ∷ numbers_on ls
+numbers_cons [] ls some = absurd (omega arith)
+numbers_cons (b ∷ l) ls some = refl
+
+abbrev number_fault : ℕ → Bool → Bool → Bool → Option UniqError
+number_fault n digits low high = cond (not digits) (Some (BadByte n)) (cond (low || not high) (Some (NotUniq n)) None)
+
+fault_cons : (n : ℕ) (l : List ℕ) → 0 < length l → line_fault n l ≡ number_fault n (all_ascii_digits l) (ltb (digits_value 10 l) 4) (ltb (digits_value 10 l) (2 ^ 62))
+fault_cons n [] some = absurd (omega arith)
+fault_cons n (b ∷ l) some = refl
+
+line_fine : (n : ℕ) (l : List ℕ) → IsNumber l → 4 ≤ digits_value 10 l → digits_value 10 l < 2 ^ 62 → line_fault n l ≡ None
+line_fine n l h low high = fault_cons n l h.0 ∙ rw (h.1, le-ltb (digits_value 10 l) 4 low, lt-ltb (digits_value 10 l) (2 ^ 62) high) refl
+
+shorter : (bytes rest : List ℕ) → 0 < length bytes → after_line (past_digits bytes) ≡ Some rest → length rest < length bytes
+shorter bytes rest some e = shorter_parts (front_digits bytes) (past_digits bytes) rest (omega (arith, some, ap length split)) e (ap length split)
+  where
+    split : bytes ≡ front_digits bytes ++ past_digits bytes
+    split = digits-split bytes
+
+    shorter_parts : (ds after rest : List ℕ) → 0 < length (ds ++ after) → after_line after ≡ Some rest → length bytes ≡ length (ds ++ after) → length rest < length bytes
+    shorter_parts ds [] rest some e is = let none : [] ≡ rest = cc in omega (arith, ap length none)
+    shorter_parts ds (b ∷ more) rest some e is = omega (arith, ap length (line_end b more rest e).1, length-append ds (b ∷ more))
+
+-- an empty line
+pub line_empty : (n : ℕ) (bytes rest : List ℕ) (old : List (ℕ × ℕ)) → 0 < length bytes → after_line (past_digits bytes) ≡ Some rest → length (past_digits bytes) ≡ length bytes → IsLineRead n bytes old rest old
+line_empty n bytes rest old some e same =
+    let none : front_digits bytes ≡ [] = no_digits (front_digits bytes) (omega (arith, same, ap length (digits-split bytes), length-append (front_digits bytes) (past_digits bytes))) in
+    let lines : lines_of bytes ≡ [] ∷ lines_of rest = front_lines bytes rest some e ∙ ap (λ (l : List ℕ). l ∷ lines_of rest) none in
+    record {
+      shorter = shorter bytes rest some e;
+      part = record { cells = []; are_cells = tt; numbers = ap numbers_on lines; spans = sym (append-nil old) };
+      fault = ap (fault_from n) lines;
+    }
+
+some_digits : (bytes : List ℕ) → (length (past_digits bytes) ≡ length bytes → ⊥) → 0 < length (front_digits bytes)
+some_digits bytes h = elim (cases_lt 0 (length (front_digits bytes))) [
+  | inl lt ↦ lt
+  | inr none ↦ absurd (h (omega (arith, none, ap length (digits-split bytes), length-append (front_digits bytes) (past_digits bytes))))
+]
+
+below_top : (v top n : ℕ) → n < top → min v top ≡ n → v ≡ n
+below_top v top n lt e = omega arith
+
+-- a line with the number of a cell
+pub line_cell : (n : ℕ) (bytes rest : List ℕ) (old : List (ℕ × ℕ)) (c : CellNumber) → 0 < length bytes → after_line (past_digits bytes) ≡ Some rest → (length (past_digits bytes) ≡ length bytes → ⊥) → IsCell c → uniq_of c ≡ held_after 0 (front_digits bytes)
+    → IsLineRead n bytes old rest (old ++ cell_range c ∷ [])
+line_cell n bytes rest old c some e digits is number =
+    let ds = front_digits bytes in
+    let h : IsNumber ds = (some_digits bytes digits, front-digits bytes) in
+    let range = uniq_range c is in
+    let value : digits_value 10 ds ≡ uniq_of c = below_top (digits_value 10 ds) (2 ^ 64 - 1) (uniq_of c) (omega (arith, range.1)) (sym (held_is ds h.1) ∙ sym number) in
+    let lines = front_lines bytes rest some e in
+    record {
+      shorter = shorter bytes rest some e;
+      part = record {
+        cells = c ∷ [];
+        are_cells = (is, tt);
+        numbers = ap numbers_on lines ∙ numbers_cons ds (lines_of rest) h.0 ∙ ap (λ v. v ∷ numbers_on (lines_of rest)) value;
+        spans = refl;
+      };
+      fault = ap (fault_from n) lines ∙ ap (λ x. or_later x (fault_from (n + 1) (lines_of rest))) (line_fine n ds h (omega (arith, value, range.0)) (omega (arith, value, range.1)));
+    }
+
+wrong_number : (v top : ℕ) → 2 ^ 62 ≤ top → ((4 ≤ min v top) × (min v top < 2 ^ 62) → ⊥) → (ltb v 4 || not (ltb v (2 ^ 62))) ≡ true
+wrong_number v top le h = elim (cases_lt v 4) [
+  | inl low ↦ rw (lt-ltb v 4 low) refl
+  | inr ge ↦ elim (cases_lt v (2 ^ 62)) [
+    | inl lt ↦ absurd (h (omega arith, omega arith))
+    | inr high ↦ rw (le-ltb v 4 ge, le-ltb v (2 ^ 62) high) refl
+  ]
+]
+
+-- a line with another number
+pub line_wrong : (n : ℕ) (bytes rest : List ℕ) → 0 < length bytes → after_line (past_digits bytes) ≡ Some rest → (length (past_digits bytes) ≡ length bytes → ⊥)
+    → ((4 ≤ held_after 0 (front_digits bytes)) × (held_after 0 (front_digits bytes) < 2 ^ 62) → ⊥) → fault_from n (lines_of bytes) ≡ Some (NotUniq n)
+line_wrong n bytes rest some e digits wrong =
+    let ds = front_digits bytes in
+    let h : IsNumber ds = (some_digits bytes digits, front-digits bytes) in
+    let held : held_after 0 ds ≡ min (digits_value 10 ds) (2 ^ 64 - 1) = held_is ds h.1 in
+    let w : (ltb (digits_value 10 ds) 4 || not (ltb (digits_value 10 ds) (2 ^ 62))) ≡ true = wrong_number (digits_value 10 ds) (2 ^ 64 - 1) (omega arith) (λ r. wrong (omega (arith, held, r.0), omega (arith, held, r.1))) in
+    let f : line_fault n ds ≡ Some (NotUniq n) = fault_cons n ds h.0 ∙ rw (h.1, w) refl in
+    ap (fault_from n) (front_lines bytes rest some e) ∙ ap (λ x. or_later x (fault_from (n + 1) (lines_of rest))) f
+
+-- ---- all lines
+
+append_all : {X : Type 0} (P : X → Type 0) (xs ys : List X) → AllByRecursion P xs → AllByRecursion P ys → AllByRecursion P (xs ++ ys)
+append_all P [] ys h k = k
+append_all P (x ∷ xs) ys h k = (h.0, append_all P xs ys h.1 k)
+
+pub part_none : (text : List ℕ) → IsPart text [] text []
+part_none text = record { cells = []; are_cells = tt; numbers = refl; spans = refl }
+
+pub part_more : (text bytes rest : List ℕ) (old new : List (ℕ × ℕ)) → IsPart text [] bytes old → IsPart bytes old rest new → IsPart text [] rest new
+part_more text bytes rest old new p q = record {
+  cells = p.cells ++ q.cells;
+  are_cells = append_all IsCell p.cells q.cells p.are_cells q.are_cells;
+  numbers = p.numbers ∙ ap (λ (r : List ℕ). map uniq_of p.cells ++ r) q.numbers ∙ sym (append_assoc (map uniq_of p.cells) (map uniq_of q.cells) (numbers_on (lines_of rest))) ∙ ap (λ (r : List ℕ). r ++ numbers_on (lines_of rest)) (sym (map-append uniq_of p.cells q.cells));
+  spans = q.spans ∙ ap (λ (r : List (ℕ × ℕ)). r ++ map cell_range q.cells) p.spans ∙ sym (map-append cell_range p.cells q.cells);
+}
+
+pub so_far_none : (text : List ℕ) → LinesSoFar text text 1 []
+unfolding uniq_fault
+so_far_none text = record { part = part_none text; fault = refl; within = omega arith }
+
+pub so_far_more : (text bytes rest : List ℕ) (line : ℕ) (old new : List (ℕ × ℕ)) → LinesSoFar text bytes line old → IsLineRead line bytes old rest new → LinesSoFar text rest (line + 1) new
+so_far_more text bytes rest line old new p q = record {
+  part = part_more text bytes rest old new p.part q.part;
+  fault = p.fault ∙ q.fault;
+  within = omega (arith, p.within, q.shorter);
+}
+
+-- ---- the text
+
+cells_fine : (cells : List CellNumber) → AllByRecursion IsCell cells → (at : ℕ) → first_fault_from at (map cell_range cells) ≡ None
+cells_fine [] h at = refl
+cells_fine (c ∷ cells) h at =
+    let up : c.index * cell_size c.order ≤ (c.index + 1) * cell_size c.order = omega arith in
+    let fits : (c.index + 1) * cell_size c.order ≤ pixel_count = span_fits c.order (c.index + 1) (h.0).order_in_range (omega (arith, (h.0).index_in_range)) in
+    rw (le-ltb ((c.index + 1) * cell_size c.order) (c.index * cell_size c.order) up, le-ltb pixel_count ((c.index + 1) * cell_size c.order) fits) (cells_fine cells h.1 (at + 1))
+
+-- the spans of cells have no fault
+pub lines_fine : (text : List ℕ) (spans : List (ℕ × ℕ)) → AreLinesRead text spans → first_fault spans ≡ None
+lines_fine text spans r = ap first_fault r.part.spans ∙ cells_fine r.part.cells r.part.are_cells 0
+
+pub lines_say : (text : List ℕ) (spans : List (ℕ × ℕ)) → AreLinesRead text spans → SaysUniq text (set_of spans)
+lines_say text spans r = record {
+  faultless = r.faultless;
+  cells = r.part.cells;
+  are_cells = r.part.are_cells;
+  numbers = sym (r.part.numbers ∙ append-nil (map uniq_of r.part.cells));
+  pixels_are = ap set_of r.part.spans;
+}
+
+-- a text says one set
+pub one_set : (text : List ℕ) (a b : NumberSet) → SaysUniq text a → SaysUniq text b → a ≡ b
+one_set text a b x y =
+    let cells : x.cells ≡ y.cells = same_cells x.cells y.cells x.are_cells y.are_cells (x.numbers ∙ sym y.numbers) in
+    x.pixels_are ∙ ap (λ (cs : List CellNumber). set_of (map cell_range cs)) cells ∙ sym y.pixels_are
+
+-- ---- what is written is read
+
+lines_numbers : (ns : List ℕ) → AllByRecursion (λ n. n < 2 ^ 62) ns → lines_of (number_lines ns) ≡ map decimal ns
+lines_numbers [] h = refl
+lines_numbers (n ∷ ns) h =
+    lines_cut (decimal n) (number_lines ns) (IsNumber-decimal n (omega (arith, h.0))).1 ∙ ap (λ (ls : List (List ℕ)). decimal n ∷ ls) (lines_numbers ns h.1)
+
+numbers_decimal : (ns : List ℕ) → AllByRecursion (λ n. n < 2 ^ 62) ns → numbers_on (map decimal ns) ≡ ns
+numbers_decimal [] h = refl
+numbers_decimal (n ∷ ns) h =
+    numbers_cons (decimal n) (map decimal ns) (IsNumber-decimal n (omega (arith, h.0))).0
+    ∙ ap (λ (m : ℕ). m ∷ numbers_on (map decimal ns)) (value-decimal n (omega (arith, h.0)))
+    ∙ ap (λ (r : List ℕ). n ∷ r) (numbers_decimal ns h.1)
+
+small_numbers : (cells : List CellNumber) → AllByRecursion IsCell cells → AllByRecursion (λ n. n < 2 ^ 62) (map uniq_of cells)
+small_numbers [] h = tt
+small_numbers (c ∷ cells) h = ((uniq_range c h.0).1, small_numbers cells h.1)
+
+decimals_fine : (at : ℕ) (cells : List CellNumber) → AllByRecursion IsCell cells → fault_from at (map decimal (map uniq_of cells)) ≡ None
+decimals_fine at [] h = refl
+decimals_fine at (c ∷ cells) h =
+    let range = uniq_range c h.0 in
+    let n : IsNumber (decimal (uniq_of c)) = IsNumber-decimal (uniq_of c) (omega (arith, range.1)) in
+    let value = value-decimal (uniq_of c) (omega (arith, range.1)) in
+    ap (λ x. or_later x (fault_from (at + 1) (map decimal (map uniq_of cells)))) (line_fine at (decimal (uniq_of c)) n (omega (arith, value, range.0)) (omega (arith, value, range.1)))
+    ∙ decimals_fine (at + 1) cells h.1
+
+pub written_uniq_is_read : WrittenUniqIsRead
+unfolding uniq_text uniq_fault
+written_uniq_is_read a in_pixels =
+    let cells = cells_of a in
+    let are : AllByRecursion IsCell cells = cells_are a in
+    let lines : lines_of (number_lines (map uniq_of cells)) ≡ map decimal (map uniq_of cells) = lines_numbers (map uniq_of cells) (small_numbers cells are) in
+    record {
+      faultless = ap (fault_from 1) lines ∙ decimals_fine 1 cells are;
+      cells = cells;
+      are_cells = are;
+      numbers = sym (ap numbers_on lines ∙ numbers_decimal (map uniq_of cells) (small_numbers cells are));
+      pixels_are = sym (cells_fill a in_pixels);
+    }

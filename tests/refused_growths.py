@@ -1,0 +1,81 @@
+#!/usr/bin/env python3
+"""Runs the built program with each growth refused in turn, and with devices that fail.
+
+A run that ends with `fault Memory` has written just the answers to the lines before, whole; one that ends well has met
+no refusal. The last line printed is `N passed, M failed`."""
+import os
+import subprocess
+import sys
+import tempfile
+
+TOP = os.path.dirname(os.path.dirname(os.path.abspath(__file__)))
+MOC = os.path.join(TOP, "crates", "moc_cli", "out", "moc_cli")
+SCRIPT = (b"add 0/0 2\ncount 0/2 3\nadd 0/1\nread 0/0 1 2 3\nadd @0 29/0 ; count 0/0-1\n\nadd 5/7-3\n"
+          b"add 3/17 5/999-1200,29/0\nread 1/0-5")
+ANSWERS = (b"changed 576460752303423488\ntotal 288230376151711744\nchanged 288230376151711744\ncover 0/0-2\n"
+           b"changed 0 ; total 576460752303423488\nfault Backwards\nchanged 0\ncover 0/0 1/4-5\n")
+
+
+def fronts(text):
+    """The text's fronts of whole lines."""
+    lines = text.splitlines(keepends=True)
+    return {b"".join(lines[:count]) for count in range(len(lines) + 1)}
+
+
+def run(words, script, refuse, shim):
+    """The ended run, and how many growths it asked for."""
+    count = shim + ".count"
+    environment = dict(os.environ, REFUSE=str(refuse), COUNT=count, LD_PRELOAD=shim)
+    ended = subprocess.run([MOC] + words, input=script, capture_output=True, env=environment, timeout=60)
+    with open(count) as file:
+        return ended, int(file.read())
+
+
+def is_met(ended, answers):
+    """Whether the run met a refusal as it should, or did without what it was refused."""
+    if ended.returncode == 0:
+        return ended.stdout == answers and not ended.stderr
+    return ended.returncode == 3 and ended.stderr == b"fault Memory\n" and ended.stdout in fronts(answers)
+
+
+def refuses_in_turn(words, script, answers, shim):
+    """How many refusals were met as they should, and how many not."""
+    ended, growths = run(words, script, 0, shim)
+    passed, faults = 0, 0
+    for refuse in range(1, growths + 1):
+        ended, _ = run(words, script, refuse, shim)
+        faults += ended.returncode == 3
+        if is_met(ended, answers):
+            passed += 1
+        else:
+            print(f"growth {refuse} of {words}: {ended}", file=sys.stderr)
+    # Each script takes memory, so some refusal shows.
+    failed = growths - passed + (faults == 0)
+    return passed, failed
+
+
+def main():
+    passed = failed = 0
+    with tempfile.TemporaryDirectory() as folder:
+        shim = os.path.join(folder, "refuse.so")
+        source = os.path.join(TOP, "tests", "refuse.c")
+        subprocess.run(["cc", "-O1", "-shared", "-fPIC", "-o", shim, source], check=True)
+        for words, script, answers in [
+            (["run"], SCRIPT, ANSWERS),
+            (["ring", "1", "18"], b"", b"27\n"),
+        ]:
+            good, bad = refuses_in_turn(words, script, answers, shim)
+            passed, failed = passed + good, failed + bad
+    with open("/dev/full", "wb") as full:
+        ended = subprocess.run([MOC, "run"], input=SCRIPT, stdout=full, stderr=subprocess.PIPE, timeout=60)
+    if ended.returncode == 3 and ended.stderr == b"fault Write\n":
+        passed += 1
+    else:
+        failed += 1
+        print(f"a full device: {ended}", file=sys.stderr)
+    print(f"{passed} passed, {failed} failed")
+    return 1 if failed else 0
+
+
+if __name__ == "__main__":
+    sys.exit(main())
