@@ -219,8 +219,9 @@ fn send<W: Sink>(pending: &mut Vec<u8>, writer: &mut W) -> Result<(), DeviceFaul
     Ok(())
 }
 
-/// Writes all of the bytes.
+/// Writes all of the bytes, in as many calls as it takes. Where the writer fails it has taken a front of them.
 pub fn write_all<W: Sink>(bytes: &[u8], writer: &mut W) -> Result<(), DeviceFault>
+    ensures written { OnOk result (Appends (W.written writer.old) (W.written writer.new) bytes.now) }
     ensures sends { Sends bytes.now (W.written writer.old) [] (W.written writer.new) result }
     ensures marks { W.mark writer.old ≡ false → W.mark writer.new ≡ is_err result }
     ensures flushed { IsTrue (W.flushed writer.new) → IsTrue (W.flushed writer.old) }
