@@ -368,7 +368,7 @@ runs_of-deepest : (cells : List CellNumber) → deepest_run (runs_of cells) ≡ 
 runs_of-deepest [] = refl
 runs_of-deepest (c ∷ cs) = runs_from-deepest (one c) cs
 
-not_deeper : (c : CellNumber) (cs : List CellNumber) (k : ℕ) → (HasDeeper (c ∷ cs) (Some k) → ⊥) → c.order ≤ k
+pub not_deeper : (c : CellNumber) (cs : List CellNumber) (k : ℕ) → (HasDeeper (c ∷ cs) (Some k) → ⊥) → c.order ≤ k
 not_deeper c cs k h = elim (cases_lt k c.order) [ inl lt ↦ absurd (h (0, c, omega arith, refl, lt)) | inr le ↦ le ]
 
 -- a stated order is at least as deep as each cell
