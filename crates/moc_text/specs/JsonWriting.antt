@@ -1,5 +1,5 @@
 -- How far the writing of a JSON text has come. The contracts of private functions cite it; no public clause does.
-use Rattle.std.specs.Prelude.{◌≡◌, ℕ, suc, ◌≤◌, ◌==◌, if◌then◌else◌, List, [], ◌∷◌, Option}
+use Rattle.std.specs.Prelude.{◌≡◌, ℕ, ◌≤◌, ◌==◌, if◌then◌else◌, List, [], ◌∷◌, Option}
 use Rattle.serde_json.specs.Data.{Data, Members}
 use Rattle.moc_sphere.specs.CellNumber.{CellNumber}
 use Rattle.moc_text.specs.JsonText.{datum, data_at, members_below}

@@ -2,7 +2,7 @@ use Rattle.std.proofs.Common.{◌≡◌, ◌≤◌, ℕ, List, Option, Some, tru
 use Rattle.std.proofs.lemmas.Str.{IsUtf8-string_bytes}
 use Rattle.serde_json.specs.Data.{Data, Members, object, depth}
 use Rattle.serde_json.specs.Read.{max_depth}
-use Rattle.serde_json.specs.View.{view, members_view}
+use Rattle.serde_json.specs.View.{view}
 use Rattle.serde_json.specs.Written.{compact_text, has_float}
 use Rattle.serde_json.specs.declared.value.Value.{Object}
 use Rattle.serde_json.proofs.Views.{view-Object}
@@ -33,7 +33,7 @@ pub returns-clause-reads_back : goal.returns-clause-reads_back
 returns-clause-reads_back c = λ in_pixels.
     let flat : depth (view (Object c.in_ok-members.members)) ≤ max_depth = subst (λ (d : Data). depth d ≤ max_depth) (sym (value_is c)) (shallow c.args.set.now c.args.stated) in
     let fine : HasDeeper (cells_of c.args.set.now) c.args.stated → ⊥ = λ deeper.
-        let found : c.has_deeper.result ≡ true = c.has_deeper.ensures.1 (rw (c.deref.ensures.value, c.in_ok-cells.ensures, c.depth_of-stated.ensures.same) deeper) in
-        let none : c.has_deeper.result ≡ false = c.if-has_deeper.false in
-        absurd cc in
+    let found : c.has_deeper.result ≡ true = c.has_deeper.ensures.1 (rw (c.deref.ensures.value, c.in_ok-cells.ensures, c.depth_of-stated.ensures.same) deeper) in
+    let none : c.has_deeper.result ≡ false = c.if-has_deeper.false in
+    absurd cc in
     written_says c.args.set.now c.args.stated _ (IsUtf8-string_bytes c.in_ok-to_string.field-0) (c.in_ok-to_string.ensures.reads_back flat ∙ ap (λ (d : Data). Some d) (value_is c)) in_pixels (rw c.depth_of-stated.ensures.same at c.depth_of-stated.ensures.small) fine
