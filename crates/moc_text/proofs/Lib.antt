@@ -13,3 +13,4 @@ pub mod UniqLines
 pub mod JsonOrders
 pub mod JsonMembers
 pub mod JsonFine
+pub mod JsonWritten

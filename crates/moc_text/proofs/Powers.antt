@@ -1,5 +1,5 @@
 -- Cells and their pixels within 64 bits.
-use Rattle.std.proofs.Common.{◌≡◌, ℕ, ◌+◌, ◌*◌, ◌^◌, ◌<◌, ◌≤◌, arith, lit<}
+use Rattle.std.proofs.Common.{ℕ, ◌*◌, ◌^◌, ◌<◌, ◌≤◌, arith, lit<}
 use Rattle.std.proofs.Math.Nat.{pow-le-pow_right, mul-le-mul_right}
 use Rattle.moc_sphere.specs.CellNumber.{cell_count, cell_size, cell_size-fills}
 use Rattle.moc_ranges.specs.Pixels.{pixel_count}

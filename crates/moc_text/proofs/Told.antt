@@ -1,17 +1,17 @@
 -- The reading of a text is what the text says, or its first fault.
-use Rattle.std.proofs.Common.{◌≡◌, ℕ, ◌+◌, ◌-◌, ◌*◌, ◌<◌, ◌≤◌, Bool, true, false, cond, not, ltb, ◌⊎◌, List, [], ◌∷◌, ◌++◌, length, Option, Some, None, Result, Ok, Err, refl, sym, ap, subst, ◌∙◌, arith, inl, inr}
+use Rattle.std.proofs.Common.{◌≡◌, ℕ, ◌+◌, ◌-◌, ◌*◌, ◌<◌, ◌≤◌, Bool, true, false, cond, not, ◌⊎◌, List, [], ◌∷◌, ◌++◌, length, Option, Some, None, Result, Ok, Err, refl, sym, ap, subst, ◌∙◌, arith, inl, inr}
 use Rattle.std.specs.List.{take_while, list_all, AllByRecursion}
 use Rattle.std.specs.Result.{MatchResult}
 use Rattle.std.proofs.Math.Nat.{mul-le-mul_right}
 use Rattle.std.proofs.lemmas.List.{append-nil}
 use Rattle.std.proofs.lemmas.List.Sums.{take_while-cons}
 use Rattle.std.proofs.lemmas.Bool.{le-ltb}
-use Rattle.moc_sphere.specs.CellNumber.{cell_count, cell_size}
+use Rattle.moc_sphere.specs.CellNumber.{cell_size}
 use Rattle.moc_ranges.specs.Numbers.{NumberSet}
 use Rattle.moc_ranges.specs.Pixels.{pixel_count}
 use Rattle.moc_ranges.specs.RangeList.{set_of}
-use Rattle.moc_ranges.specs.Faults.{first_fault_from, first_fault, first_of_two, fault_of as pair_fault}
-use Rattle.moc_text.specs.Ascii.{is_separator, is_word_byte, Word, words_from, words, Shape, shape_text, IsShape, parts_at, Means, HasShapeFault, IsFault, order_at, order_after, last_of, mark_fault, item_fault, or_else, fault_of, span_of, item_spans, spans_of, deeper, deepest_of, AreRead, Says, IsFirstFault}
+use Rattle.moc_ranges.specs.Faults.{first_fault_from, first_fault}
+use Rattle.moc_text.specs.Ascii.{is_separator, is_word_byte, Word, words_from, words, Shape, shape_text, IsShape, parts_at, Means, HasShapeFault, IsFault, order_at, order_after, last_of, mark_fault, item_fault, or_else, fault_of, item_spans, spans_of, deeper, deepest_of, AreRead, Says, IsFirstFault}
 use Rattle.moc_text.specs.Scan.{◌>>=◌, is_end, scan_word}
 use Rattle.moc_text.specs.Reading.{parts_of, faultless, numbers_of, reading_of, IsReadingOf, ReadingsAreTold}
 use Rattle.moc_text.specs.declared.number.Item.{Item}

@@ -1,20 +1,18 @@
 -- The lines of a NUNIQ list, one by one.
-use Rattle.std.proofs.Common.{◌≡◌, ℕ, suc, ◌+◌, ◌-◌, ◌*◌, ◌^◌, ◌<◌, ◌≤◌, Bool, true, false, cond, not, ◌&&◌, ◌||◌, eqb, ltb, List, [], ◌∷◌, ◌++◌, length, map, min, Option, Some, None, Result, Ok, Err, ◌⊎◌, refl, sym, ap, subst, ◌∙◌, arith, length-append, append_assoc, pow-suc, lit<, inl, inr}
+use Rattle.std.proofs.Common.{◌≡◌, ℕ, suc, ◌+◌, ◌-◌, ◌*◌, ◌^◌, ◌<◌, ◌≤◌, Bool, true, false, cond, not, ◌&&◌, ◌||◌, eqb, ltb, List, [], ◌∷◌, ◌++◌, length, map, min, Option, Some, None, refl, sym, ap, ◌∙◌, arith, length-append, append_assoc, pow-suc, lit<, inl, inr}
 use Rattle.std.specs.Prelude.{decimal}
 use Rattle.std.specs.Char.{is_ascii_digit}
 use Rattle.std.specs.List.{AllByRecursion}
 use Rattle.std.specs.Str.{all_ascii_digits}
 use Rattle.std.specs.Str.Parse.{digits_value}
-use Rattle.std.specs.Result.{MatchResult, IfOk, IfErr}
 use Rattle.std.proofs.Math.Nat.{pow-le-pow_right}
 use Rattle.std.proofs.lemmas.Bool.{cases_lt, cases_order, eqb-true, le-ltb, lt-ltb}
 use Rattle.std.proofs.lemmas.Bool.Decides.{nat_tests}
 use Rattle.std.proofs.lemmas.List.{append-nil, map-append}
-use Rattle.moc_sphere.specs.CellNumber.{CellNumber, cell_number, cell_count, cell_size, IsCell, uniq_of}
+use Rattle.moc_sphere.specs.CellNumber.{CellNumber, cell_number, cell_size, IsCell, uniq_of}
 use Rattle.moc_ranges.specs.Numbers.{NumberSet}
-use Rattle.moc_ranges.specs.Pixels.{pixels, pixel_count}
+use Rattle.moc_ranges.specs.Pixels.{pixel_count}
 use Rattle.moc_ranges.specs.RangeList.{set_of}
-use Rattle.moc_ranges.specs.Operations.{IsWithin}
 use Rattle.moc_ranges.specs.Faults.{first_fault_from, first_fault}
 use Rattle.moc_ranges.specs.Cells.{cells_of}
 use Rattle.moc_ranges.specs.CellLaws.{cell_range, cells_are, cells_fill}
@@ -23,10 +21,10 @@ use Rattle.moc_text.specs.Scan.{front_digits, past_digits, held_after, starts_wi
 use Rattle.moc_text.specs.UniqList.{with_byte, lines_of, line_fault, or_later, fault_from, uniq_fault, numbers_on, SaysUniq, number_lines, uniq_text, WrittenUniqIsRead}
 use Rattle.moc_text.specs.Lines.{after_line, IsPart, IsLineRead, LinesSoFar, AreLinesRead}
 use Rattle.moc_text.specs.declared.uniq.UniqError.{UniqError}
-use Rattle.moc_text.specs.declared.uniq.UniqError.TheVariants.{BadByte, NotUniq, Memory}
+use Rattle.moc_text.specs.declared.uniq.UniqError.TheVariants.{BadByte, NotUniq}
 use Rattle.moc_text.proofs.Automaton.{both}
 use Rattle.moc_text.proofs.Held.{held_is}
-use Rattle.moc_text.proofs.Powers.{cells_fit, span_fits}
+use Rattle.moc_text.proofs.Powers.{span_fits}
 use Rattle.moc_text.proofs.Scanning.{digits-split, front-digits, past-digits}
 use Rattle.moc_text.proofs.Written.{IsNumber-decimal, value-decimal}
 

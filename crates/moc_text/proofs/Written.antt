@@ -1,5 +1,5 @@
 -- A written text is read as it was meant.
-use Rattle.std.proofs.Common.{◌≡◌, ℕ, suc, ◌+◌, ◌-◌, ◌*◌, ◌^◌, ◌<◌, ◌≤◌, Bool, true, false, cond, eqb, ltb, ◌||◌, List, [], ◌∷◌, ◌++◌, length, map, max, Option, Some, None, refl, sym, ap, subst, ◌∙◌, arith, inl, inr}
+use Rattle.std.proofs.Common.{◌≡◌, ℕ, suc, ◌+◌, ◌*◌, ◌^◌, ◌<◌, ◌≤◌, Bool, true, false, cond, eqb, ltb, ◌||◌, List, [], ◌∷◌, ◌++◌, length, map, max, Option, Some, None, refl, sym, ap, subst, ◌∙◌, arith, inl, inr}
 use Rattle.std.specs.Prelude.{decimal}
 use Rattle.std.specs.Str.{all_ascii_digits}
 use Rattle.std.specs.Str.Parse.{digits_value, AllDigits}
@@ -368,7 +368,7 @@ runs_of-deepest : (cells : List CellNumber) → deepest_run (runs_of cells) ≡ 
 runs_of-deepest [] = refl
 runs_of-deepest (c ∷ cs) = runs_from-deepest (one c) cs
 
-not_deeper : (c : CellNumber) (cs : List CellNumber) (k : ℕ) → (HasDeeper (c ∷ cs) (Some k) → ⊥) → c.order ≤ k
+pub not_deeper : (c : CellNumber) (cs : List CellNumber) (k : ℕ) → (HasDeeper (c ∷ cs) (Some k) → ⊥) → c.order ≤ k
 not_deeper c cs k h = elim (cases_lt k c.order) [ inl lt ↦ absurd (h (0, c, omega arith, refl, lt)) | inr le ↦ le ]
 
 -- a stated order is at least as deep as each cell

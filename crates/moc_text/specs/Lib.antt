@@ -8,3 +8,5 @@ pub mod UniqList
 pub mod Lines
 pub mod JsonForm
 pub mod JsonScan
+pub mod JsonText
+pub mod JsonWriting

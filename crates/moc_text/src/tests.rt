@@ -1,5 +1,6 @@
 use crate::{
-    JsonError, TextError, UniqError, read_ascii, read_json, read_uniq, write_ascii, write_uniq,
+    JsonError, TextError, UniqError, read_ascii, read_json, read_uniq, write_ascii, write_json,
+    write_uniq,
 };
 use moc_ranges::Coverage;
 use moc_sphere::Order;
@@ -289,5 +290,38 @@ fn not_json(rt: HostRuntime) -> Result<(), Fail> {
     );
     let brackets = repeated(alloc, b"", b'[', b"")?;
     assert!(rt; matches!(read_json(alloc, &brackets), Err(JsonError::NotJson)));
+    Ok(())
+}
+
+/// The JSON text of what a JSON text says, with the deepest order that it names.
+fn json_again(alloc: Global, text: &[u8]) -> Result<String, JsonError> {
+    let (set, deepest) = read_json(alloc, text)?;
+    write_json(alloc, &set, deepest)
+}
+
+#[test]
+fn written_json(rt: HostRuntime) -> Result<(), Fail> {
+    let alloc = rt.alloc();
+    let text = b"{\"10\":[],\"2\":[5],\"1\":[1]}";
+    assert_eq!(rt; json_again(alloc, text)?.as_str(), "{\"1\":[1],\"10\":[]}");
+    assert_eq!(rt; json_again(alloc, b"{}")?.as_str(), "{}");
+    assert_eq!(rt; json_again(alloc, b"{\"8\":[]}")?.as_str(), "{\"8\":[]}");
+    Ok(())
+}
+
+#[test]
+fn written_json_orders(rt: HostRuntime) -> Result<(), Fail> {
+    let alloc = rt.alloc();
+    let (set, deepest) = read_ascii(alloc, b"1/1-2 4 2/12-14 21 23 25 8/")?;
+    assert_eq!(rt;
+        write_json(alloc, &set, deepest)?.as_str(),
+        "{\"1\":[1,2,4],\"2\":[12,13,14,21,23,25],\"8\":[]}"
+    );
+    assert!(rt;
+        matches!(
+            write_json(alloc, &set, Order::new(1)),
+            Err(JsonError::TooCoarse)
+        )
+    );
     Ok(())
 }

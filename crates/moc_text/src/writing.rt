@@ -1,5 +1,6 @@
 //! Writing the ASCII form.
-ghost use Rattle.std.specs.Prelude.{◌≡◌, ◌++◌, decimal, IfErr, IfOk, IsTrue, OnOk, ◌↔◌, ◌⊎◌};
+ghost use Rattle.std.specs.Prelude.{◌≡◌, ◌++◌, ◌≤◌, decimal, IfErr, IfOk, IsTrue, OnOk, ◌↔◌, ◌⊎◌};
+ghost use Rattle.std.specs.Option.{ForSome};
 ghost use Rattle.std.specs.String.{string_bytes};
 ghost use Rattle.moc_text.specs.AsciiText.{ascii_text, follows, HasDeeper, IsTooCoarse, mark_text_of, one, order_text, run_text, text_of_cells, WrittenIsRead};
 ghost use Rattle.moc_text.specs.Writing.{gap, run_part, stated_part};
@@ -113,8 +114,19 @@ fn push_stated(text: &mut String, before: Option<u8>, stated: Option<u8>) -> Res
     push_order(text, stated)
 }
 
+/// The depth of an order, where there is one.
+pub fn depth_of(order: Option<Order>) -> Option<u8>
+    ensures same { result ≡ order }
+    ensures small { ForSome result (λ k. k ≤ 29) }
+{
+    match order {
+        Some(order) => Some(order.get()),
+        None => None,
+    }
+}
+
 /// Whether a cell is of a deeper order than the stated one.
-fn has_deeper(cells: &[Cell], stated: Option<u8>) -> bool
+pub fn has_deeper(cells: &[Cell], stated: Option<u8>) -> bool
     ensures { IsTrue result ↔ HasDeeper cells.now stated }
 {
     match stated {
@@ -158,7 +170,7 @@ pub fn write_ascii(
     ensures fits { OnOk result (¬ IsTooCoarse set.now stated) }
     ensures fault { IfErr result (λ e. (e ≡ TextError.Memory) ⊎ ((e ≡ TextError.TooCoarse) × IsTooCoarse set.now stated)) }
 {
-    let stated = stated.map(|order| order.get());
+    let stated = depth_of(stated);
     let cells = set.cells(alloc)?;
     if has_deeper(&cells, stated) {
         return Err(TextError::TooCoarse);

@@ -1,6 +1,4 @@
-use Rattle.std.proofs.Common.{◌≡◌, List, sym, ap, ◌∙◌}
 use Rattle.std.proofs.lemmas.Result.{err_from_is_err_and}
-use Rattle.moc_ranges.specs.Faults.{first_fault}
 use Rattle.moc_text.proofs.ReadWords.{says_all}
 use Rattle.moc_text.proofs.Told.{reading_is, fault_is, spans_fine}
 use Rattle.moc_text.proofs.reading.read_ascii.Goals as goal

@@ -1,5 +1,4 @@
-use Rattle.std.proofs.Common.{◌≡◌, ◌∙◌, arith}
-use Rattle.moc_text.proofs.UniqLines.{part_more, so_far_none, so_far_more}
+use Rattle.moc_text.proofs.UniqLines.{so_far_none, so_far_more}
 use Rattle.moc_text.proofs.uniq.read_lines.Goals as goal
 
 pub loop-rest-init : goal.loop-rest-init

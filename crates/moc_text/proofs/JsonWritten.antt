@@ -1,0 +1,486 @@
+-- A written JSON text says the set that was written.
+use Rattle.std.proofs.Common.{Less, Equal, Greater, ◌≡◌, ℕ, zero, suc, ◌+◌, ◌*◌, ◌<◌, ◌≤◌, Bool, true, false, cond, ◌||◌, eqb, ltb, List, [], ◌∷◌, ◌++◌, length, map, max, Option, Some, None, Ok, refl, sym, ap, subst, ◌∙◌, arith, inl, inr}
+use Rattle.std.specs.Prelude.{decimal, IsUtf8}
+use Rattle.std.specs.Ordering.{nat_cmp, match_ordering}
+use Rattle.std.specs.Cmp.Lexicographic.{slice_cmp}
+use Rattle.std.specs.FinSet as set
+use Rattle.std.specs.List.{filter, range_with_len, AllByRecursion}
+use Rattle.std.specs.Option.{ForSome}
+use Rattle.std.specs.Str.Parse.{digits_value}
+use Rattle.std.proofs.lemmas.Bool.{cases_order, cases_lt, eq-eqb, ne_eqb, eqb-true, lt-ltb, le-ltb}
+use Rattle.std.proofs.lemmas.Bool.Decides.{nat_tests}
+use Rattle.std.proofs.lemmas.List.Folds.{list_any-append}
+use Rattle.std.proofs.lemmas.Map.Lookups.{exact_bytes}
+use Rattle.serde_json.specs.Data.{Data, array, Members, no_members, member, put, depth, items_depth, members_depth}
+use Rattle.serde_json.specs.View.{items_of}
+use Rattle.serde_json.specs.Read.{read, max_depth}
+use Rattle.serde_json.specs.Written.{has_float, items_have_float, members_have_float}
+use Rattle.moc_sphere.specs.CellNumber.{CellNumber, cell_number, cell_count, cell_size, IsCell}
+use Rattle.moc_ranges.specs.Numbers.{NumberSet, same_members}
+use Rattle.moc_ranges.specs.Pixels.{pixels}
+use Rattle.moc_ranges.specs.RangeList.{set_of, in_range, in_ranges, contains-set_of}
+use Rattle.moc_ranges.specs.Operations.{IsWithin}
+use Rattle.moc_ranges.specs.Cells.{is_cell_of, cells_below, cells_of}
+use Rattle.moc_ranges.specs.CellLaws.{cell_range, cells_are, cells_fill}
+use Rattle.moc_text.specs.Ascii.{deeper, IsNumber}
+use Rattle.moc_text.specs.AsciiText.{HasDeeper, IsTooCoarse, deepest_cell, deepest_written}
+use Rattle.moc_text.specs.JsonForm.{order_of_name, cells_from, cells_of_name, members_from, SaysJson}
+use Rattle.moc_text.specs.JsonText.{datum, data_at, is_stated, is_name, with_order, members_below, json_value}
+use Rattle.moc_text.specs.JsonWriting.{AreRising, front_data, past_order, MembersSoFar}
+use Rattle.moc_text.proofs.Written.{IsNumber-decimal, value-decimal, not_deeper}
+
+-- ---- the cells of a set stand by rising order
+
+rising_from : (j k : ℕ) (cells : List CellNumber) → j ≤ k → AreRising k cells → AreRising j cells
+rising_from j k [] le h = tt
+rising_from j k (c ∷ cells) le h = (omega (arith, h.0), h.1)
+
+rising_append : (j k : ℕ) (xs ys : List CellNumber) → AreRising j xs → AllByRecursion (λ c. c.order ≤ k) xs → AreRising k ys → j ≤ k → AreRising j (xs ++ ys)
+rising_append j k [] ys h all more le = rising_from j k ys le more
+rising_append j k (x ∷ xs) ys h all more le = (h.0, rising_append x.order k xs ys h.1 all.1 more all.0)
+
+order_rising : (k from n : ℕ) → AreRising k (map (cell_number k) (range_with_len from n))
+order_rising k from zero = tt
+order_rising k from (suc n) = (omega arith, order_rising k (from + 1) n)
+
+order_within : (k m from n : ℕ) → k ≤ m → AllByRecursion (λ c. c.order ≤ m) (map (cell_number k) (range_with_len from n))
+order_within k m from zero le = tt
+order_within k m from (suc n) le = (le, order_within k m (from + 1) n le)
+
+all_append : (P : CellNumber → Type 0) (xs ys : List CellNumber) → AllByRecursion P xs → AllByRecursion P ys → AllByRecursion P (xs ++ ys)
+all_append P [] ys h k = k
+all_append P (x ∷ xs) ys h k = (h.0, all_append P xs ys h.1 k)
+
+below_within : (n m : ℕ) → n ≤ suc m → AllByRecursion (λ c. c.order ≤ m) (cells_below n)
+unfolding cells_below
+below_within zero m le = tt
+below_within (suc k) m le = all_append (λ c. c.order ≤ m) (cells_below k) _ (below_within k m (omega arith)) (order_within k m 0 (cell_count k) (omega arith))
+
+below_rising : (n : ℕ) → AreRising 0 (cells_below n)
+unfolding cells_below
+below_rising zero = tt
+below_rising (suc k) = rising_append 0 k (cells_below k) _ (below_rising k) (below_within k k (omega arith)) (order_rising k 0 (cell_count k)) (omega arith)
+
+filter_rising : (p : CellNumber → Bool) (j : ℕ) (cells : List CellNumber) → AreRising j cells → AreRising j (filter p cells)
+filter_rising p j [] h = tt
+filter_rising p j (c ∷ cells) h =
+    let rest = filter_rising p c.order cells h.1 in
+    elim (p c) as (λ v. AreRising j (cond v (c ∷ filter p cells) (filter p cells))) [ true ↦ (h.0, rest) | false ↦ rising_from j c.order (filter p cells) h.0 rest ]
+
+pub cells_rise : (a : NumberSet) → AreRising 0 (cells_of a)
+unfolding cells_of
+cells_rise a = filter_rising (is_cell_of a) 0 (cells_below 30) (below_rising 30)
+
+-- ---- one order after another
+
+none_at : (k j : ℕ) (cells : List CellNumber) → k < j → AreRising j cells → data_at k cells ≡ []
+none_at k j [] lt h = refl
+none_at k j (c ∷ cells) lt h = rw (ne_eqb c.order k (λ e. omega (arith, h.0))) (none_at k c.order cells (omega (arith, h.0)) h.1)
+
+pub front_is : (k : ℕ) (cells : List CellNumber) → AreRising k cells → front_data k cells ≡ data_at k cells
+front_is k [] h = refl
+front_is k (c ∷ cells) h =
+    elim (eqb c.order k) as (λ v. eqb c.order k ≡ v → cond v (datum c ∷ front_data k cells) [] ≡ map datum (cond v (c ∷ filter (λ c. eqb c.order k) cells) (filter (λ c. eqb c.order k) cells))) [
+      | true ↦ λ e. ap (λ (r : List Data). datum c ∷ r) (front_is k cells (rising_from k c.order cells h.0 h.1))
+      | false ↦ λ e. sym (none_at k c.order cells (later k c.order h.0 e) h.1)
+    ] refl
+  where
+    later : (k o : ℕ) → k ≤ o → eqb o k ≡ false → k < o
+    later k o le e = grind (arith, nat_tests)
+
+past_later : (k j : ℕ) (cells : List CellNumber) → k < j → data_at j (past_order k cells) ≡ data_at j cells
+past_later k j [] lt = refl
+past_later k j (c ∷ cells) lt =
+    elim (eqb c.order k) as (λ v. eqb c.order k ≡ v → data_at j (cond v (past_order k cells) (c ∷ cells)) ≡ data_at j (c ∷ cells)) [
+      | true ↦ λ e.
+          let is : c.order ≡ k = eqb-true c.order k e in
+          past_later k j cells lt ∙ sym (rw (ne_eqb c.order j (λ f. omega (arith, f, is))) refl)
+      | false ↦ λ e. refl
+    ] refl
+
+past_rising : (k : ℕ) (cells : List CellNumber) → AreRising k cells → AreRising (k + 1) (past_order k cells)
+past_rising k [] h = tt
+past_rising k (c ∷ cells) h =
+    elim (eqb c.order k) as (λ v. eqb c.order k ≡ v → AreRising (k + 1) (cond v (past_order k cells) (c ∷ cells))) [
+      | true ↦ λ e. past_rising k cells (rising_from k c.order cells h.0 h.1)
+      | false ↦ λ e. (later k c.order h.0 e, h.1)
+    ] refl
+  where
+    later : (k o : ℕ) → k ≤ o → eqb o k ≡ false → k + 1 ≤ o
+    later k o le e = grind (arith, nat_tests)
+
+pub so_far_none : (cells : List CellNumber) (stated : Option ℕ) → AreRising 0 cells → MembersSoFar cells cells stated 0 no_members
+so_far_none cells stated h = record { rising = h; left = λ k le. refl; are = refl }
+
+pub so_far_more : (cells rest : List CellNumber) (stated : Option ℕ) (k : ℕ) (old new : Members) (ds : List Data) → MembersSoFar cells rest stated k old → ds ≡ front_data k rest → new ≡ with_order k stated ds old
+    → MembersSoFar cells (past_order k rest) stated (k + 1) new
+so_far_more cells rest stated k old new ds p taken put_in =
+    let here : ds ≡ data_at k cells = taken ∙ front_is k rest p.rising ∙ p.left k (omega arith) in
+    let next : k + 1 ≡ suc k = omega arith in
+    record {
+      rising = past_rising k rest p.rising;
+      left = λ j le. past_later k j rest (omega arith) ∙ p.left j (omega arith);
+      are = put_in ∙ ap (λ (x : List Data). with_order k stated x old) here ∙ ap (with_order k stated (data_at k cells)) p.are ∙ ap (members_below cells stated) (sym next);
+    }
+
+-- ---- what each member is
+
+-- the name of an order below n, and its cells
+record IsMember (cells : List CellNumber) (n : ℕ) (name : List ℕ) (d : Data) : Type 0 where
+  order : ℕ
+  below : order < n
+  named : name ≡ decimal order
+  has : d ≡ array (items_of (data_at order cells))
+
+abbrev AreMembers : List CellNumber → ℕ → Members → Type 0
+AreMembers cells n no_members = Unit {0}
+AreMembers cells n (member name d ms) = IsMember cells n name d × AreMembers cells n ms
+
+wider : (cells : List CellNumber) (n : ℕ) (ms : Members) → AreMembers cells n ms → AreMembers cells (suc n) ms
+wider cells n no_members h = tt
+wider cells n (member name d ms) h = (record { order = (h.0).order; below = omega (arith, (h.0).below); named = (h.0).named; has = (h.0).has }, wider cells n ms h.1)
+
+put_member : (cells : List CellNumber) (n : ℕ) (name : List ℕ) (d : Data) (ms : Members) → IsMember cells n name d → AreMembers cells n ms → AreMembers cells n (put name d ms)
+put_member cells n name d no_members is h = (is, tt)
+put_member cells n name d (member l e ms) is h =
+    elim (slice_cmp nat_cmp name l) as (λ o. slice_cmp nat_cmp name l ≡ o → AreMembers cells n (match_ordering o (member name d (member l e ms)) (member l d ms) (member l e (put name d ms)))) [
+      | Less ↦ λ o. (is, h)
+      | Equal ↦ λ o.
+          let same : name ≡ l = exact_bytes name l o in
+          (subst (λ (x : List ℕ). IsMember cells n x d) same is, h.1)
+      | Greater ↦ λ o. (h.0, put_member cells n name d ms is h.1)
+    ] refl
+
+new_member : (cells : List CellNumber) (k : ℕ) → IsMember cells (suc k) (decimal k) (array (items_of (data_at k cells)))
+new_member cells k = record { order = k; below = omega arith; named = refl; has = refl }
+
+with_order_members : (cells : List CellNumber) (stated : Option ℕ) (k : ℕ) (ms : Members) → AreMembers cells k ms → AreMembers cells (suc k) (with_order k stated (data_at k cells) ms)
+with_order_members cells stated k ms h =
+    elim (is_name k stated (data_at k cells)) as (λ v. AreMembers cells (suc k) (cond v (put (decimal k) (array (items_of (data_at k cells))) ms) ms)) [
+      | true ↦ put_member cells (suc k) (decimal k) (array (items_of (data_at k cells))) ms (new_member cells k) (wider cells k ms h)
+      | false ↦ wider cells k ms h
+    ]
+
+members_are : (cells : List CellNumber) (stated : Option ℕ) (n : ℕ) → AreMembers cells n (members_below cells stated n)
+members_are cells stated zero = tt
+members_are cells stated (suc k) = with_order_members cells stated k (members_below cells stated k) (members_are cells stated k)
+
+-- ---- a value with no float and a depth of two
+
+items_no_float : (cells : List CellNumber) → items_have_float (items_of (map datum cells)) ≡ false
+items_no_float [] = refl
+items_no_float (c ∷ cells) = items_no_float cells
+
+items_flat : (cells : List CellNumber) → items_depth (items_of (map datum cells)) ≡ 0
+items_flat [] = refl
+items_flat (c ∷ cells) = ap (λ n. max 0 n) (items_flat cells)
+
+members_no_float : (cells : List CellNumber) (n : ℕ) (ms : Members) → AreMembers cells n ms → members_have_float ms ≡ false
+members_no_float cells n no_members h = refl
+members_no_float cells n (member name d ms) h =
+    ap (λ (x : Data). has_float x || members_have_float ms) (h.0).has
+    ∙ ap (λ b. b || members_have_float ms) (items_no_float (filter (λ c. eqb c.order (h.0).order) cells))
+    ∙ members_no_float cells n ms h.1
+
+members_flat : (cells : List CellNumber) (n : ℕ) (ms : Members) → AreMembers cells n ms → members_depth ms ≤ 1
+members_flat cells n no_members h = omega arith
+members_flat cells n (member name d ms) h =
+    let here : depth d ≡ 1 = ap depth (h.0).has ∙ ap (λ n. suc n) (items_flat (filter (λ c. eqb c.order (h.0).order) cells)) in
+    omega (arith, here, members_flat cells n ms h.1)
+
+pub no_float : (a : NumberSet) (stated : Option ℕ) → has_float (json_value a stated) ≡ false
+unfolding json_value
+no_float a stated = members_no_float (cells_of a) 30 (members_below (cells_of a) stated 30) (members_are (cells_of a) stated 30)
+
+pub shallow : (a : NumberSet) (stated : Option ℕ) → depth (json_value a stated) ≤ max_depth
+unfolding json_value
+shallow a stated = omega (arith, members_flat (cells_of a) 30 (members_below (cells_of a) stated 30) (members_are (cells_of a) stated 30))
+
+-- ---- what the members say
+
+abbrev of_order : ℕ → List CellNumber → List CellNumber
+of_order k cells = filter (λ c. eqb c.order k) cells
+
+order_says : (k name place : ℕ) (cells : List CellNumber) → AllByRecursion IsCell cells → cells_from k name place (items_of (map datum (of_order k cells))) ≡ Ok (map cell_range (of_order k cells))
+order_says k name place [] h = refl
+order_says k name place (c ∷ cells) h =
+    elim (eqb c.order k) as (λ v. eqb c.order k ≡ v → cells_from k name place (items_of (map datum (cond v (c ∷ of_order k cells) (of_order k cells)))) ≡ Ok (map cell_range (cond v (c ∷ of_order k cells) (of_order k cells)))) [
+      | true ↦ λ e.
+          let is : c.order ≡ k = eqb-true c.order k e in
+          let fits : ltb c.index (cell_count k) ≡ true = lt-ltb c.index (cell_count k) (subst (λ j. c.index < cell_count j) is (h.0).index_in_range) in
+          let range : (c.index * cell_size k, (c.index + 1) * cell_size k) ≡ cell_range c = ap (λ j. (c.index * cell_size j, (c.index + 1) * cell_size j)) (sym is) in
+          rw (fits, order_says k name (place + 1) cells h.1) (ap (λ (r : ℕ × ℕ). Ok (r ∷ map cell_range (of_order k cells))) range)
+      | false ↦ λ e. order_says k name place cells h.1
+    ] refl
+
+name_is : (k : ℕ) → k < 30 → order_of_name (decimal k) ≡ Some k
+name_is k lt =
+    let n : IsNumber (decimal k) = IsNumber-decimal k (omega arith) in
+    let some : eqb (length (decimal k)) 0 ≡ false = ne_eqb (length (decimal k)) 0 (λ e. omega (arith, n.0, e)) in
+    rw (some, n.1, value-decimal k (omega arith), le-ltb 29 k (omega arith)) refl
+
+abbrev has : ℕ → ℕ → List CellNumber → Bool
+has q k cells = in_ranges (map cell_range (of_order k cells)) q
+
+-- whether a pixel is in the cells of a name
+abbrev named_has : ℕ → List CellNumber → Option ℕ → Bool
+named_has q cells None = false
+named_has q cells (Some k) = has q k cells
+
+abbrev some_has : ℕ → List CellNumber → Members → Bool
+some_has q cells no_members = false
+some_has q cells (member name d ms) = named_has q cells (order_of_name name) || some_has q cells ms
+
+abbrev deepest_name : Members → Option ℕ
+deepest_name no_members = None
+deepest_name (member name d ms) = deeper (order_of_name name) (deepest_name ms)
+
+record Say (cells : List CellNumber) (ms : Members) (name : ℕ) : Type 0 where
+  spans : List (ℕ × ℕ)
+  deepest : Option ℕ
+  read : members_from name ms ≡ Ok (spans, deepest)
+  contain : (q : ℕ) → in_ranges spans q ≡ some_has q cells ms
+  deepest_is : deepest ≡ deepest_name ms
+
+members_say : (cells : List CellNumber) (n : ℕ) (ms : Members) (name : ℕ) → n ≤ 30 → AllByRecursion IsCell cells → AreMembers cells n ms → Say cells ms name
+members_say cells n no_members name le all h = record { spans = []; deepest = None; read = refl; contain = λ q. refl; deepest_is = refl }
+members_say cells n (member text d ms) name le all h =
+    let later = members_say cells n ms (name + 1) le all h.1 in
+    let k = (h.0).order in
+    let o : order_of_name text ≡ Some k = ap order_of_name (h.0).named ∙ name_is k (omega (arith, (h.0).below)) in
+    let here : cells_of_name (order_of_name text) name d ≡ Ok (map cell_range (of_order k cells)) = ap (λ (x : Option ℕ). cells_of_name x name d) o ∙ ap (cells_of_name (Some k) name) (h.0).has ∙ order_says k name 0 cells all in
+    record {
+      spans = map cell_range (of_order k cells) ++ later.spans;
+      deepest = deeper (Some k) later.deepest;
+      read = rw (here, later.read) (ap (λ (x : Option ℕ). Ok (map cell_range (of_order k cells) ++ later.spans, deeper x later.deepest)) o);
+      contain = λ q. list_any-append (λ r. in_range r q) (map cell_range (of_order k cells)) later.spans ∙ ap (λ b. has q k cells || b) (later.contain q) ∙ ap (λ (x : Option ℕ). named_has q cells x || some_has q cells ms) (sym o);
+      deepest_is = ap (deeper (Some k)) later.deepest_is ∙ ap (λ (x : Option ℕ). deeper x (deepest_name ms)) (sym o);
+    }
+
+-- ---- a name among the others
+
+or_swap : (a b c : Bool) → (a || (b || c)) ≡ (b || (a || c))
+or_swap true true c = refl
+or_swap true false c = refl
+or_swap false true c = refl
+or_swap false false c = refl
+
+deeper_swap : (a b c : Option ℕ) → deeper a (deeper b c) ≡ deeper b (deeper a c)
+deeper_swap None b c = refl
+deeper_swap (Some i) None c = refl
+deeper_swap (Some i) (Some j) None = ap (λ (n : ℕ). Some n) (omega arith)
+deeper_swap (Some i) (Some j) (Some k) = ap (λ (n : ℕ). Some n) (omega arith)
+
+one_name : (j k : ℕ) → j < 30 → k < 30 → decimal j ≡ decimal k → j ≡ k
+one_name j k lj lk e = sym (value-decimal j (omega arith)) ∙ ap (digits_value 10) e ∙ value-decimal k (omega arith)
+
+put_has : (q : ℕ) (cells : List CellNumber) (k : ℕ) (d : Data) (ms : Members) → k < 30 → AreMembers cells k ms → some_has q cells (put (decimal k) d ms) ≡ (has q k cells || some_has q cells ms)
+put_has q cells k d no_members lt h = ap (λ (x : Option ℕ). named_has q cells x || false) (name_is k lt)
+put_has q cells k d (member l e ms) lt h =
+    elim (slice_cmp nat_cmp (decimal k) l) as (λ o. slice_cmp nat_cmp (decimal k) l ≡ o → some_has q cells (match_ordering o (member (decimal k) d (member l e ms)) (member l d ms) (member l e (put (decimal k) d ms))) ≡ (has q k cells || (named_has q cells (order_of_name l) || some_has q cells ms))) [
+      | Less ↦ λ o. ap (λ (x : Option ℕ). named_has q cells x || (named_has q cells (order_of_name l) || some_has q cells ms)) (name_is k lt)
+      | Equal ↦ λ o. absurd (omega (arith, (h.0).below, one_name k (h.0).order lt (omega (arith, (h.0).below)) (exact_bytes (decimal k) l o ∙ (h.0).named)))
+      | Greater ↦ λ o. ap (λ b. named_has q cells (order_of_name l) || b) (put_has q cells k d ms lt h.1) ∙ or_swap (named_has q cells (order_of_name l)) (has q k cells) (some_has q cells ms)
+    ] refl
+
+put_deepest : (cells : List CellNumber) (k : ℕ) (d : Data) (ms : Members) → k < 30 → AreMembers cells k ms → deepest_name (put (decimal k) d ms) ≡ deeper (Some k) (deepest_name ms)
+put_deepest cells k d no_members lt h = ap (λ (x : Option ℕ). deeper x None) (name_is k lt)
+put_deepest cells k d (member l e ms) lt h =
+    elim (slice_cmp nat_cmp (decimal k) l) as (λ o. slice_cmp nat_cmp (decimal k) l ≡ o → deepest_name (match_ordering o (member (decimal k) d (member l e ms)) (member l d ms) (member l e (put (decimal k) d ms))) ≡ deeper (Some k) (deeper (order_of_name l) (deepest_name ms))) [
+      | Less ↦ λ o. ap (λ (x : Option ℕ). deeper x (deeper (order_of_name l) (deepest_name ms))) (name_is k lt)
+      | Equal ↦ λ o. absurd (omega (arith, (h.0).below, one_name k (h.0).order lt (omega (arith, (h.0).below)) (exact_bytes (decimal k) l o ∙ (h.0).named)))
+      | Greater ↦ λ o. ap (deeper (order_of_name l)) (put_deepest cells k d ms lt h.1) ∙ deeper_swap (order_of_name l) (Some k) (deepest_name ms)
+    ] refl
+
+-- ---- all pixels
+
+nothing_has : (q : ℕ) (cells : List CellNumber) → map datum cells ≡ [] → in_ranges (map cell_range cells) q ≡ false
+nothing_has q [] e = refl
+nothing_has q (c ∷ cells) e = absurd cc
+
+unnamed_empty : (k : ℕ) (stated : Option ℕ) (ds : List Data) → is_name k stated ds ≡ false → ds ≡ []
+unnamed_empty k stated [] h = refl
+unnamed_empty k stated (d ∷ ds) h = absurd cc
+
+with_order_has : (q : ℕ) (cells : List CellNumber) (stated : Option ℕ) (k : ℕ) (ms : Members) → k < 30 → AreMembers cells k ms → some_has q cells (with_order k stated (data_at k cells) ms) ≡ (has q k cells || some_has q cells ms)
+with_order_has q cells stated k ms lt h =
+    elim (is_name k stated (data_at k cells)) as (λ v. is_name k stated (data_at k cells) ≡ v → some_has q cells (cond v (put (decimal k) (array (items_of (data_at k cells))) ms) ms) ≡ (has q k cells || some_has q cells ms)) [
+      | true ↦ λ e. put_has q cells k (array (items_of (data_at k cells))) ms lt h
+      | false ↦ λ e. ap (λ b. b || some_has q cells ms) (sym (nothing_has q (of_order k cells) (unnamed_empty k stated (data_at k cells) e)))
+    ] refl
+
+abbrev below_has : ℕ → ℕ → List CellNumber → Bool
+below_has q n cells = in_ranges (map cell_range (filter (λ c. ltb c.order n) cells)) q
+
+next_order : (q k : ℕ) (cells : List CellNumber) → (has q k cells || below_has q k cells) ≡ below_has q (suc k) cells
+next_order q k [] = refl
+next_order q k (c ∷ cells) =
+    let rest = next_order q k cells in
+    elim (cases_order c.order k) [
+      | inl e ↦ rw (eq-eqb c.order k e, le-ltb c.order k (omega (arith, e)), lt-ltb c.order (suc k) (omega (arith, e))) (regroup (in_range (cell_range c) q) (has q k cells) (below_has q k cells) ∙ ap (λ b. in_range (cell_range c) q || b) rest)
+      | inr (inl l) ↦ rw (ne_eqb c.order k (λ e. omega (arith, l, e)), lt-ltb c.order k l, lt-ltb c.order (suc k) (omega (arith, l))) (or_swap (has q k cells) (in_range (cell_range c) q) (below_has q k cells) ∙ ap (λ b. in_range (cell_range c) q || b) rest)
+      | inr (inr l) ↦ rw (ne_eqb c.order k (λ e. omega (arith, l, e)), le-ltb c.order k (omega (arith, l)), le-ltb c.order (suc k) (omega (arith, l))) rest
+    ]
+  where
+    regroup : (a b c : Bool) → ((a || b) || c) ≡ (a || (b || c))
+    regroup true b c = refl
+    regroup false b c = refl
+
+below_none : (q : ℕ) (cells : List CellNumber) → false ≡ below_has q 0 cells
+below_none q [] = refl
+below_none q (c ∷ cells) = below_none q cells ∙ sym (rw (le-ltb c.order 0 (omega arith)) refl)
+
+members_have : (q : ℕ) (cells : List CellNumber) (stated : Option ℕ) (n : ℕ) → n ≤ 30 → some_has q cells (members_below cells stated n) ≡ below_has q n cells
+members_have q cells stated zero le = below_none q cells
+members_have q cells stated (suc k) le =
+    with_order_has q cells stated k (members_below cells stated k) (omega arith) (members_are cells stated k)
+    ∙ ap (λ b. has q k cells || b) (members_have q cells stated k (omega arith)) ∙ next_order q k cells
+
+all_below : (q : ℕ) (cells : List CellNumber) → AllByRecursion IsCell cells → below_has q 30 cells ≡ in_ranges (map cell_range cells) q
+all_below q [] h = refl
+all_below q (c ∷ cells) h = rw (lt-ltb c.order 30 (omega (arith, (h.0).order_in_range))) (ap (λ b. in_range (cell_range c) q || b) (all_below q cells h.1))
+
+-- ---- the deepest name
+
+with_order_deepest : (cells : List CellNumber) (stated : Option ℕ) (k : ℕ) (ds : List Data) (ms : Members) → k < 30 → AreMembers cells k ms → deepest_name (with_order k stated ds ms) ≡ cond (is_name k stated ds) (deeper (Some k) (deepest_name ms)) (deepest_name ms)
+with_order_deepest cells stated k ds ms lt h =
+    elim (is_name k stated ds) as (λ v. deepest_name (cond v (put (decimal k) (array (items_of ds)) ms) ms) ≡ cond v (deeper (Some k) (deepest_name ms)) (deepest_name ms)) [ true ↦ put_deepest cells k (array (items_of ds)) ms lt h | false ↦ refl ]
+
+abbrev Below : ℕ → Option ℕ → Type 0
+Below n None = Unit {0}
+Below n (Some k) = k < n
+
+name_below : (cells : List CellNumber) (n : ℕ) (ms : Members) → n ≤ 30 → AreMembers cells n ms → Below n (deepest_name ms)
+name_below cells n no_members le h = tt
+name_below cells n (member text d ms) le h =
+    let k = (h.0).order in
+    let o : Some k ≡ order_of_name text = sym (ap order_of_name (h.0).named ∙ name_is k (omega (arith, (h.0).below))) in
+    subst (λ (x : Option ℕ). Below n (deeper x (deepest_name ms))) o (both_below k (deepest_name ms) (h.0).below (name_below cells n ms le h.1))
+  where
+    both_below : (k : ℕ) (x : Option ℕ) → k < n → Below n x → Below n (deeper (Some k) x)
+    both_below k None a b = a
+    both_below k (Some j) a b = omega arith
+
+greatest : (k : ℕ) (x : Option ℕ) → Below k x → deeper (Some k) x ≡ Some k
+greatest k None h = refl
+greatest k (Some j) h = ap (λ (n : ℕ). Some n) (omega arith)
+
+next_deepest : (cells : List CellNumber) (stated : Option ℕ) (k : ℕ) → k < 30 → deepest_name (members_below cells stated (suc k)) ≡ cond (is_name k stated (data_at k cells)) (Some k) (deepest_name (members_below cells stated k))
+next_deepest cells stated k lt =
+    let ms = members_below cells stated k in
+    with_order_deepest cells stated k (data_at k cells) ms lt (members_are cells stated k)
+    ∙ ap (λ (x : Option ℕ). cond (is_name k stated (data_at k cells)) x (deepest_name ms)) (greatest k (deepest_name ms) (name_below cells k ms (omega arith) (members_are cells stated k)))
+
+abbrev IsNamed : List CellNumber → Option ℕ → ℕ → Bool
+IsNamed cells stated k = is_name k stated (data_at k cells)
+
+-- where no order from m on is a name
+deepest_stays : (cells : List CellNumber) (stated : Option ℕ) (m n : ℕ) → m ≤ n → n ≤ 30 → ((k : ℕ) → m ≤ k → IsNamed cells stated k ≡ false) → deepest_name (members_below cells stated n) ≡ deepest_name (members_below cells stated m)
+deepest_stays cells stated m zero le lt none = let e : 0 ≡ m = omega arith in ap (λ n. deepest_name (members_below cells stated n)) e
+deepest_stays cells stated m (suc k) le lt none = elim (cases_lt m (suc k)) [
+  | inl l ↦ next_deepest cells stated k (omega arith) ∙ ap (λ b. cond b (Some k) (deepest_name (members_below cells stated k))) (none k (omega arith)) ∙ deepest_stays cells stated m k (omega arith) (omega arith) none
+  | inr ge ↦ let e : suc k ≡ m = omega arith in ap (λ n. deepest_name (members_below cells stated n)) e
+]
+
+-- the greatest order that is a name
+deepest_found : (cells : List CellNumber) (stated : Option ℕ) (m : ℕ) → m < 30 → IsNamed cells stated m ≡ true → ((k : ℕ) → suc m ≤ k → IsNamed cells stated k ≡ false) → deepest_name (members_below cells stated 30) ≡ Some m
+deepest_found cells stated m lt here none =
+    deepest_stays cells stated (suc m) 30 (omega arith) (omega arith) none ∙ next_deepest cells stated m lt ∙ ap (λ b. cond b (Some m) (deepest_name (members_below cells stated m))) here
+
+no_cells : (k : ℕ) (cells : List CellNumber) → AllByRecursion (λ c. c.order < k) cells → data_at k cells ≡ []
+no_cells k [] h = refl
+no_cells k (c ∷ cells) h = rw (ne_eqb c.order k (λ e. omega (arith, h.0, e))) (no_cells k cells h.1)
+
+unnamed : (k : ℕ) (stated : Option ℕ) (ds : List Data) → ds ≡ [] → is_stated k stated ≡ false → is_name k stated ds ≡ false
+unnamed k stated [] e s = s
+unnamed k stated (d ∷ ds) e s = absurd cc
+
+at_most : (k : ℕ) (cells : List CellNumber) → (HasDeeper cells (Some k) → ⊥) → AllByRecursion (λ c. c.order ≤ k) cells
+at_most k [] h = tt
+at_most k (c ∷ cells) h = (not_deeper c cells k h, at_most k cells (λ x. h (suc x.0, x.1, omega (arith, x.2), x.3, x.4)))
+
+below_all : (k m : ℕ) (cells : List CellNumber) → m < k → AllByRecursion (λ c. c.order ≤ m) cells → AllByRecursion (λ c. c.order < k) cells
+below_all k m [] lt h = tt
+below_all k m (c ∷ cells) lt h = (omega (arith, h.0), below_all k m cells lt h.1)
+
+stated_named : (k : ℕ) (ds : List Data) → is_name k (Some k) ds ≡ true
+stated_named k (d ∷ ds) = refl
+stated_named k [] = eq-eqb k k refl
+
+deepest_stated : (cells : List CellNumber) (s : ℕ) → s < 30 → (HasDeeper cells (Some s) → ⊥) → deepest_name (members_below cells (Some s) 30) ≡ Some s
+deepest_stated cells s lt fine =
+    deepest_found cells (Some s) s lt (stated_named s (data_at s cells))
+    (λ k le. unnamed k (Some s) (data_at k cells) (no_cells k cells (below_all k s cells (omega arith) (at_most s cells fine))) (ne_eqb k s (λ e. omega (arith, le, e))))
+
+-- the deepest order of cells: some cell has it, and none a deeper one
+record IsDeepest (cells : List CellNumber) (m : ℕ) : Type 0 where
+  small : m < 30
+  named : is_name m None (data_at m cells) ≡ true
+  most : AllByRecursion (λ c. c.order ≤ m) cells
+
+abbrev DeepestIs : List CellNumber → Option ℕ → Type 0
+DeepestIs cells None = cells ≡ []
+DeepestIs cells (Some m) = IsDeepest cells m
+
+named_more : (m : ℕ) (c : CellNumber) (cells : List CellNumber) → is_name m None (data_at m cells) ≡ true → is_name m None (data_at m (c ∷ cells)) ≡ true
+named_more m c cells h = elim (eqb c.order m) as (λ v. is_name m None (map datum (cond v (c ∷ of_order m cells) (of_order m cells))) ≡ true) [ true ↦ refl | false ↦ h ]
+
+named_here : (m : ℕ) (c : CellNumber) (cells : List CellNumber) → c.order ≡ m → is_name m None (data_at m (c ∷ cells)) ≡ true
+named_here m c cells e = rw (eq-eqb c.order m e) refl
+
+weaker : (m k : ℕ) (cells : List CellNumber) → m ≤ k → AllByRecursion (λ c. c.order ≤ m) cells → AllByRecursion (λ c. c.order ≤ k) cells
+weaker m k [] le h = tt
+weaker m k (c ∷ cells) le h = (omega (arith, h.0), weaker m k cells le h.1)
+
+deepest_of : (cells : List CellNumber) → AllByRecursion IsCell cells → DeepestIs cells (deepest_cell cells)
+deepest_of [] h = refl
+deepest_of (c ∷ cells) h = with_cell (deepest_cell cells) (deepest_of cells h.1)
+  where
+    with_cell : (x : Option ℕ) → DeepestIs cells x → DeepestIs (c ∷ cells) (deeper (Some c.order) x)
+    with_cell None e = record {
+      small = omega (arith, (h.0).order_in_range);
+      named = named_here c.order c cells refl;
+      most = (omega arith, subst (AllByRecursion (λ d. d.order ≤ c.order)) (sym e) tt);
+    }
+    with_cell (Some m) d = elim (cases_lt m c.order) [
+      | inl l ↦
+          let is : c.order ≡ max c.order m = omega arith in
+          subst (λ (n : ℕ). IsDeepest (c ∷ cells) n) is (record {
+            small = omega (arith, (h.0).order_in_range);
+            named = named_here c.order c cells refl;
+            most = (omega arith, weaker m c.order cells (omega arith) d.most);
+          })
+      | inr ge ↦
+          let is : m ≡ max c.order m = omega arith in
+          subst (λ (n : ℕ). IsDeepest (c ∷ cells) n) is (record {
+            small = d.small;
+            named = named_more m c cells d.named;
+            most = (ge, d.most);
+          })
+    ]
+
+deepest_unstated : (cells : List CellNumber) (x : Option ℕ) → DeepestIs cells x → deepest_name (members_below cells None 30) ≡ x
+deepest_unstated cells None e = deepest_stays cells None 0 30 (omega arith) (omega arith) (λ k le. unnamed k None (data_at k cells) (ap (data_at k) e) refl)
+deepest_unstated cells (Some m) d = deepest_found cells None m d.small d.named (λ k le. unnamed k None (data_at k cells) (no_cells k cells (below_all k m cells (omega arith) d.most)) refl)
+
+deepest_is : (a : NumberSet) (stated : Option ℕ) → ForSome stated (λ k. k ≤ 29) → (IsTooCoarse a stated → ⊥) → deepest_name (members_below (cells_of a) stated 30) ≡ deepest_written a stated
+deepest_is a None small fine = deepest_unstated (cells_of a) (deepest_cell (cells_of a)) (deepest_of (cells_of a) (cells_are a))
+deepest_is a (Some s) small fine = deepest_stated (cells_of a) s (omega (arith, small s refl)) fine
+
+-- ---- the whole text
+
+pub written_says : (a : NumberSet) (stated : Option ℕ) (text : List ℕ) → IsUtf8 text → read text ≡ Some (json_value a stated) → IsWithin a pixels → ForSome stated (λ k. k ≤ 29) → (IsTooCoarse a stated → ⊥) → SaysJson text a (deepest_written a stated)
+unfolding json_value
+written_says a stated text utf8 is in_pixels small fine =
+    let cells = cells_of a in
+    let say = members_say cells 30 (members_below cells stated 30) 0 (omega arith) (cells_are a) (members_are cells stated 30) in
+    let deepest : say.deepest ≡ deepest_written a stated = say.deepest_is ∙ deepest_is a stated small fine in
+    record {
+      value = json_value a stated;
+      json = record { utf8 = utf8; value = is };
+      spans = say.spans;
+      says = say.read ∙ ap (λ (k : Option ℕ). Ok (say.spans, k)) deepest;
+      set_is = same_members a (set_of say.spans) (λ q.
+          ap (λ (b : NumberSet). set.contains b q) (sym (cells_fill a in_pixels)) ∙ contains-set_of (map cell_range cells) q
+          ∙ sym (contains-set_of say.spans q ∙ say.contain q ∙ members_have q cells stated 30 (omega arith) ∙ all_below q cells (cells_are a)));
+    }
