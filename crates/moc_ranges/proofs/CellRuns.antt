@@ -253,6 +253,15 @@ one_test first last low high i none = let j = i / 4 in grind (arith, nat_tests)
 two_tests : (first last low high i : ℕ) → low < high → first ≤ 4 * low → 4 * high ≤ last → (((nat_le first i && nat_lt i last) && (false || not (nat_le low (i / 4) && nat_lt (i / 4) high))) || false) ≡ ((nat_le first i && nat_lt i (4 * low)) || (nat_le (4 * high) i && nat_lt i last))
 two_tests first last low high i some a b = grind (arith, nat_tests)
 
+-- no cell lies in the range
+pub run_none : (k from to first last : ℕ) → k ≤ 29 → from < to → to ≤ pixel_count → AreWhole k from to first last → last ≤ first → cells_at (set_of ((from, to) ∷ [])) k ≡ []
+run_none k from to first last small some fits_in whole none =
+    cells_at_any ((from, to) ∷ []) k (some, fits_in, tt, tt) small
+    ∙ ap (map (cell_number k)) (filter_none (λ i. list_any (part_at k i) ((from, to) ∷ [])) 0 (cell_count k) (λ i low high. or_from _ _ (and_left _ _ (whole_tests k from to first last i whole ∙ out first last i none)) refl))
+  where
+    out : (first last i : ℕ) → last ≤ first → (nat_le first i && nat_lt i last) ≡ false
+    out first last i none = grind (arith, nat_tests)
+
 pub run_top : (k from to first last : ℕ) → k ≡ 0 → from < to → to ≤ pixel_count → AreWhole k from to first last → cells_at (set_of ((from, to) ∷ [])) k ≡ cells_between k first last
 run_top zero from to first last top some fits_in whole =
     cells_at_any ((from, to) ∷ []) 0 (some, fits_in, tt, tt) (omega arith)
