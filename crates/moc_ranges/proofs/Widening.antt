@@ -1,10 +1,8 @@
 -- Widening ranges to whole cells.
-use Rattle.std.proofs.Common.{◌^◌, ◌%◌, max, ◌≡◌, ℕ, ◌+◌, ◌-◌, ◌*◌, ◌/◌, ◌<◌, ◌≤◌, Bool, true, false, ◌&&◌, leb, ltb, List, [], ◌∷◌, refl, sym, ap, subst, ◌∙◌, arith, inl, inr, map}
+use Rattle.std.proofs.Common.{◌^◌, max, ◌≡◌, ℕ, ◌+◌, ◌-◌, ◌*◌, ◌/◌, ◌<◌, ◌≤◌, Bool, true, false, ◌&&◌, leb, ltb, List, [], ◌∷◌, refl, sym, ap, subst, ◌∙◌, arith, inl, inr, map}
 use Rattle.std.proofs.lemmas.Nat.{div-add-mod', div_below, le-div}
 use Rattle.std.proofs.Math.Nat.{mul-le-mul_right}
-use Rattle.std.proofs.Common.{lit<, mul_assoc}
-use Rattle.std.proofs.lemmas.Nat.{pow-add}
-use Rattle.std.proofs.Math.Nat.{one-le-pow, pow-le-pow_right, mod-eq_of_lt}
+use Rattle.std.proofs.Math.Nat.{pow-le-pow_right, mod-eq_of_lt}
 use Rattle.std.specs.FinSet as set
 use Rattle.moc_sphere.specs.CellNumber.{cell_size, cell_size-positive, cell_size-fills}
 use Rattle.moc_ranges.specs.Numbers.{NumberSet}
@@ -12,7 +10,7 @@ use Rattle.moc_ranges.specs.Operations.{meets-some, meets-none}
 use Rattle.moc_ranges.specs.Cells.{span, degrade, contains-span, contains-degrade}
 use Rattle.moc_ranges.proofs.Joining.{Joining, joining_start, IsSortedFrom-less}
 use Rattle.std.proofs.lemmas.Bool.{cases_Bool, false≢true, false_from_ne_true, eqb-true, eq-eqb, or_cases, or_left, or_right, and_parts, and_from, leb-true, ltb-true, le-leb, lt-ltb}
-use Rattle.moc_ranges.specs.Pixels.{pixel_count, base_pixel_size}
+use Rattle.moc_ranges.specs.Pixels.{pixel_count}
 use Rattle.moc_ranges.specs.Sorted.{IsSortedFrom}
 use Rattle.moc_ranges.specs.Widen.{IsCellSize, widen}
 use Rattle.std.specs.Prelude.{bit_and}

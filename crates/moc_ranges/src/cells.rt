@@ -66,11 +66,15 @@ fn push_cells_of_range(
     requires within { to ≤ pixel_count }
     ensures { OnOk result (cells.new.items ≡ cells.old.items ++ cells_at (set_of ((from, to) ∷ [])) order) }
 {
+    let level = order.get();
     let (first, last) = whole_cells(order, from, to);
-    if order.get() == 0 {
+    if first >= last {
+        return Ok(());
+    }
+    if level == 0 {
         return push_row(cells, order, first, last);
     }
-    let (low, high) = whole_cells(Order::of(order.get() - 1), from, to);
+    let (low, high) = whole_cells(Order::of(level - 1), from, to);
     if low < high {
         push_row(cells, order, first, 4 * low)?;
         push_row(cells, order, 4 * high, last)

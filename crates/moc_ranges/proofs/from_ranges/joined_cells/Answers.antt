@@ -1,7 +1,7 @@
-use Rattle.std.proofs.Common.{◌≡◌, ◌<◌, ℕ, List, [], ◌∷◌, ◌++◌, ap, sym, subst, ◌∙◌, map}
-use Rattle.moc_ranges.specs.RangeList.{IsNormal, in_ranges}
+use Rattle.std.proofs.Common.{◌<◌, ℕ, List, [], ◌∷◌, ◌++◌, ap, sym, subst, ◌∙◌, map}
+use Rattle.moc_ranges.specs.RangeList.{IsNormal}
 use Rattle.moc_ranges.specs.Widen.{widen}
-use Rattle.moc_ranges.proofs.Joining.{Joining, joining_same, joining_joins, joining_parts, joined_bounds, joined_set}
+use Rattle.moc_ranges.proofs.Joining.{Joining, joining_same, joining_parts, joined_bounds, joined_set}
 use Rattle.moc_ranges.proofs.Widening.{cells_start}
 use Rattle.moc_ranges.proofs.from_ranges.joined_cells.Goals as goal
 

@@ -1,6 +1,4 @@
-use Rattle.std.proofs.Common.{◌≡◌, ◌-◌, ◌*◌, ◌/◌, ◌+◌, ◌≤◌, arith}
-use Rattle.std.specs.Prelude.{bit_and}
-use Rattle.moc_ranges.specs.Pixels.{pixel_count}
+use Rattle.std.proofs.Common.{◌-◌, ◌+◌, arith}
 use Rattle.moc_sphere.specs.CellNumber.{cell_size-positive}
 use Rattle.moc_ranges.proofs.Widening.{masked, wide_room}
 use Rattle.moc_ranges.proofs.from_ranges.widened.Goals as goal

@@ -1,8 +1,7 @@
-use Rattle.std.proofs.Common.{◌≡◌, ◌++◌, ◌∷◌, [], ◌+◌, ◌-◌, length, ap, sym, subst, ◌∙◌, leb, ltb, rules, arith, take, drop, List, ℕ, inl, inr, refl, append-nil}
+use Rattle.std.proofs.Common.{◌≡◌, ◌++◌, ◌∷◌, [], ◌+◌, ap, sym, ◌∙◌, leb, ltb, rules, take, drop, List, ℕ, refl, append-nil}
 use Rattle.std.proofs.lemmas.List.{take_rest}
 use Rattle.std.proofs.lemmas.Fn.{always_returns_same}
 use Rattle.std.proofs.lemmas.List.Sorted.{IsPartitionedBy-leb, IsPartitionedBy-ltb}
-use Rattle.moc_ranges.specs.Bounds.{is_odd, IsRising}
 use Rattle.moc_ranges.proofs.Counts.{IsNonDecreasingBy-rising}
 use Rattle.moc_ranges.proofs.Cutting.{IsEnd, end_in, end_out, cut_is, IsRising-drop}
 use Rattle.moc_ranges.proofs.sweep.cut.Goals as goal
