@@ -29,8 +29,9 @@ index_below k i l = subst (λ j. j < cell_count k) (index_of-face k i) (index_in
 pub placed : (k v f x y o : ℕ) (cell : CellNumber) → cell.order ≡ o → o ≡ k → v ≡ cell.index → IsAt cell f x y → v < cell_count cell.order
     → (v < cell_count k) × (face_of k v ≡ f) × (x_of k v ≡ x) × (y_of k v ≡ y)
 placed k v f x y o cell of_order order number place below =
-    let same : cell.order ≡ k = of_order ∙ order in
-    (subst (λ j. v < cell_count j) same below,
-    (λ t. face_of (sym same t) (number t)) ∙ place.face,
-    (λ t. x_of (sym same t) (number t)) ∙ place.right,
-    (λ t. y_of (sym same t) (number t)) ∙ place.up)
+    let same : cell.order ≡ k = of_order ∙ order in (
+      subst (λ j. v < cell_count j) same below,
+      (λ t. face_of (sym same t) (number t)) ∙ place.face,
+      (λ t. x_of (sym same t) (number t)) ∙ place.right,
+      (λ t. y_of (sym same t) (number t)) ∙ place.up,
+    )

@@ -34,7 +34,10 @@ impl Cell {
         for step in 0u32..9 {
             if step != 4 {
                 if let Some(to) = beside(side, from, step / 3, step % 3) {
-                    insert_rising(&mut cells, Cell::at_place(order, to.face as u8, to.x, to.y).index());
+                    insert_rising(
+                        &mut cells,
+                        Cell::at_place(order, to.face as u8, to.x, to.y).index(),
+                    );
                 }
             }
         }
