@@ -18,6 +18,7 @@ pub enum Operation {
     WriteAscii,
     Ring(u8),
     Nest(u8),
+    Near(u8),
 }
 
 impl Operation {
@@ -36,16 +37,19 @@ impl Operation {
             "ring29" => Some(Operation::Ring(29)),
             "nest13" => Some(Operation::Nest(13)),
             "nest29" => Some(Operation::Nest(29)),
+            "near13" => Some(Operation::Near(13)),
+            "near29" => Some(Operation::Near(29)),
             _ => None,
         }
     }
 
-    /// Ten million numbers of the order, for an operation on numbers.
+    /// Ten million numbers of the order for an operation on numbers, a million for touching cells.
     pub fn cells(self, alloc: Global) -> Result<Vec<u64>, AllocError> {
         match self {
-            Operation::Ring(order) | Operation::Nest(order) => random_cells(
-                alloc, order, 10_000_000,
-            ),
+            Operation::Ring(order) | Operation::Nest(order) => {
+                random_cells(alloc, order, 10_000_000)
+            }
+            Operation::Near(order) => random_cells(alloc, order, 1_000_000),
             _ => Ok(Vec::new(alloc)),
         }
     }
@@ -91,6 +95,7 @@ pub fn answer(
         Operation::WriteAscii => write_ascii(alloc, a, None)?.len() as u64,
         Operation::Ring(order) => rings(order, cells),
         Operation::Nest(order) => nests(order, cells),
+        Operation::Near(order) => touching(alloc, order, cells),
     })
 }
 
@@ -117,6 +122,22 @@ fn nests(order: u8, cells: &[u64]) -> u64 {
     for ring in cells {
         if let Ok(cell) = Cell::from_ring(order, *ring) {
             sum = sum.wrapping_add(cell.index());
+        }
+    }
+    sum
+}
+
+/// The sum of the numbers of the cells that touch nested cells.
+fn touching(alloc: Global, order: u8, cells: &[u64]) -> u64 {
+    let Some(order) = Order::new(order) else {
+        return 0;
+    };
+    let mut sum = 0u64;
+    for index in cells {
+        if let Ok(cell) = Cell::new(order, *index) {
+            for near in cell.touching(alloc).as_slice() {
+                sum = sum.wrapping_add(*near);
+            }
         }
     }
     sum

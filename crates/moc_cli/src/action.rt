@@ -22,6 +22,8 @@ pub enum Number {
     Uniq(Order, u64),
     /// A NUNIQ number to its order and nested number.
     Cell(u64),
+    /// A nested number to those of the touching cells.
+    Near(Order, u64),
 }
 
 impl Action {
@@ -33,6 +35,7 @@ impl Action {
             "ring" => Some(Action::Convert(Number::Ring(order(values)?, index(values, "CELL")?))),
             "nest" => Some(Action::Convert(Number::Nest(order(values)?, index(values, "RING")?))),
             "uniq" => Some(Action::Convert(Number::Uniq(order(values)?, index(values, "CELL")?))),
+            "near" => Some(Action::Convert(Number::Near(order(values)?, index(values, "CELL")?))),
             "cell" => Some(Action::Convert(Number::Cell(index(values, "UNIQ")?))),
             _ => None,
         }

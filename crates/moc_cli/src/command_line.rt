@@ -36,6 +36,7 @@ pub fn command_line<'a>(alloc: Global) -> Result<Command<'a>, AllocError>
     let ring = numbers(alloc, "ring", "CELL")?.about("Prints the ring number of a nested cell");
     let nest = numbers(alloc, "nest", "RING")?.about("Prints the nested number of a ring number");
     let uniq = numbers(alloc, "uniq", "CELL")?.about("Prints the NUNIQ number of a nested cell");
+    let near = numbers(alloc, "near", "CELL")?.about("Prints the nested cells that touch a cell");
     let cell = Command::new(alloc, "cell")
         .about("Prints the order and the nested number of a NUNIQ number")
         .arg(number(alloc, "UNIQ"))?;
@@ -49,6 +50,7 @@ pub fn command_line<'a>(alloc: Global) -> Result<Command<'a>, AllocError>
         .subcommand(ring)?
         .subcommand(nest)?
         .subcommand(uniq)?
+        .subcommand(near)?
         .subcommand(cell)
 }
 

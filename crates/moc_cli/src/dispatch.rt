@@ -13,6 +13,7 @@ use moc_script::{Sink, Source, run, write_all};
 use moc_sphere::Cell;
 use std::alloc::{AllocError, Global};
 use std::convert::AsStr;
+use std::fmt::Write;
 use std::io;
 
 /// Does what the words ask, and answers the exit status: 0 where it is done, 1 where a value, a text or a
@@ -112,12 +113,26 @@ fn converted(alloc: Global, number: Number) -> Result<String, Fault> {
             Cell::from_ring(order, ring)?.index()
         ),
         Number::Uniq(order, index) => format!(in alloc; "{}\n", Cell::new(order, index)?.uniq()),
+        Number::Near(order, index) => return Ok(near_line(alloc, Cell::new(order, index)?)?),
         Number::Cell(uniq) => {
             let cell = Cell::from_uniq(uniq)?;
             format!(in alloc; "{}/{}\n", cell.order().get(), cell.index())
         }
     };
     Ok(text?)
+}
+
+/// The line of the cells that touch a cell.
+fn near_line(alloc: Global, cell: Cell) -> Result<String, AllocError> {
+    let mut line = String::new(alloc);
+    for (place, index) in cell.touching(alloc).as_slice().iter().enumerate() {
+        if place > 0 {
+            line.push(' ')?;
+        }
+        write!(line, "{index}")?;
+    }
+    line.push('\n')?;
+    Ok(line)
 }
 
 /// Writes a text, whole.

@@ -83,3 +83,26 @@ fn scripts(rt: HostRuntime) {
         "changed 576460752303423488\ntotal 288230376151711744\nchanged 0\nfault UnknownWord\n";
     expect(&rt, rt.alloc(), &["run"], script, 0, answers, "");
 }
+
+#[test]
+fn near(rt: HostRuntime) {
+    for (words, output) in [
+        (["near", "0", "0"], "1 2 3 4 5 8\n"),
+        (["near", "0", "4"], "0 3 5 7 8 11\n"),
+        (["near", "1", "0"], "1 2 3 17 19 22 23 35\n"),
+        (["near", "1", "1"], "0 2 3 6 7 22 23\n"),
+        (["near", "1", "3"], "0 1 2 6 7 11 13 15\n"),
+        (["near", "2", "3"], "0 1 2 4 6 8 9 12\n"),
+    ] {
+        expect(&rt, rt.alloc(), &words, "", 0, output, "");
+    }
+    expect(
+        &rt,
+        rt.alloc(),
+        &["near", "0", "12"],
+        "",
+        1,
+        "",
+        "fault CellTooLarge\n",
+    );
+}

@@ -1,0 +1,64 @@
+-- The corner points of cells, and when two cells touch: a point of the sphere is named by its row and its column in it.
+use Rattle.std.specs.Prelude.{◌≢◌, ℕ, ◌+◌, ◌-◌, ◌*◌, ◌/◌, ◌%◌, ◌^◌, ◌<◌, min, List, [], ◌∷◌, Contains, Bool, not, nat_le, ◌==◌, ◌&&◌, if◌then◌else◌}
+use Rattle.std.specs.List.{filter, list_any, range_with_len}
+use Rattle.moc_sphere.specs.CellNumber.{cell_count}
+use Rattle.moc_sphere.specs.Faces.{face_of, x_of, y_of}
+use Rattle.moc_sphere.specs.Rings.{row_factor, column_factor}
+
+-- The row of the corner (X, Y) of base pixel f, from 0 at the north pole to 4n at the south pole.
+unfoldable pub corner_row : ℕ → ℕ → ℕ → ℕ → ℕ
+corner_row n f X Y = row_factor f * n - X - Y
+
+-- The column of a corner in the belt: `Q(f)·n + X - Y` round a circle of 8n half steps.
+unfoldable pub belt_column : ℕ → ℕ → ℕ → ℕ → ℕ
+belt_column n f X Y = (column_factor f * n + 8 * n + X - Y) % (8 * n)
+
+-- The column of a corner m rows from a pole: `q·m + (X - Y + m) div 2` round a circle of 4m steps.
+unfoldable pub polar_column : ℕ → ℕ → ℕ → ℕ → ℕ
+polar_column m f X Y = if m == 0 then 0 else ((f % 4 * m + (X + m - Y) / 2) % (4 * m))
+
+-- The column of the corner (X, Y) of base pixel f: in the belt for the rows n to 3n, else round the near pole.
+unfoldable pub corner_column : ℕ → ℕ → ℕ → ℕ → ℕ
+corner_column n f X Y =
+    let R = corner_row n f X Y in
+    if nat_le n R && nat_le R (3 * n) then belt_column n f X Y else polar_column (min R (4 * n - R)) f X Y
+
+-- A point of the sphere, by its row and its column in that row.
+pub record Point : Type 0 where
+  pub row : ℕ
+  pub column : ℕ
+
+-- The point at the corner (X, Y) of base pixel f.
+abbrev pub corner_point : ℕ → ℕ → ℕ → ℕ → Point
+corner_point n f X Y = record { row = corner_row n f X Y; column = corner_column n f X Y }
+
+-- The four points at the corners of cell i of order k: south, east, west and north.
+unfoldable pub corner_points : ℕ → ℕ → List Point
+corner_points k i =
+    let n = 2 ^ k in
+    let f = face_of k i in
+    let x = x_of k i in
+    let y = y_of k i in
+    corner_point n f x y ∷ corner_point n f (x + 1) y ∷ corner_point n f x (y + 1) ∷ corner_point n f (x + 1) (y + 1) ∷ []
+
+-- Two cells i and j of order k touch: they differ, and share a corner point.
+pub record Touches (k i j : ℕ) : Type 0 where
+  pub first : i < cell_count k
+  pub second : j < cell_count k
+  pub apart : i ≢ j
+  pub point : Point
+  pub mine : Contains (corner_points k i) point
+  pub yours : Contains (corner_points k j) point
+
+-- Two points are one.
+abbrev pub is_same_point : Point → Point → Bool
+is_same_point p q = (p.row == q.row) && (p.column == q.column)
+
+-- Whether two cells of order k touch, as a test.
+unfoldable pub is_touching : ℕ → ℕ → ℕ → Bool
+is_touching k i j =
+    not (i == j) && list_any (λ p. list_any (is_same_point p) (corner_points k j)) (corner_points k i)
+
+-- The cells that touch cell i of order k, rising. A specification's list: it runs through all cells of the order.
+unfoldable pub touching_cells : ℕ → ℕ → List ℕ
+touching_cells k i = filter (is_touching k i) (range_with_len 0 (cell_count k))

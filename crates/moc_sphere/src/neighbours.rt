@@ -1,0 +1,46 @@
+//! The cells that touch a cell.
+ghost use Rattle.smallvec.specs.SmallVec.{small_vec_len};
+ghost use Rattle.moc_sphere.specs.Touching.{Touches, touching_cells};
+ghost use Rattle.std.specs.List.Sorted.{IsStrictlyIncreasing};
+ghost use Rattle.std.specs.Prelude.{◌≡◌, ℕ, ◌≤◌, ◌↔◌, Contains};
+
+use crate::cell::Cell;
+use crate::rising::insert_rising;
+use crate::sides::{Place, beside};
+use smallvec::SmallVec;
+use std::alloc::Global;
+
+impl Cell {
+    /// The numbers of the cells that share a corner point with this one, rising: 8 of them, 7 at a vertex where three
+    /// base pixels meet, and 6 at order 0. A fixed number of steps; no memory is taken.
+    pub fn touching(self, alloc: Global) -> SmallVec<u64, 8>
+        ensures rising { IsStrictlyIncreasing result.items }
+        ensures touch { (j : ℕ) → Contains result.items j ↔ Touches self.order self.index j }
+
+        // As a list, the one that the definition names.
+        ensures whole { result.items ≡ touching_cells self.order self.index }
+
+        // Touching is symmetric.
+        ensures back { (j : ℕ) → Contains result.items j → Touches self.order j self.index }
+
+        ensures few { small_vec_len result ≤ 8 }
+        ensures inline { result.capacity ≡ 8 }
+    {
+        let order = self.order();
+        let (face, x, y) = self.face_xy();
+        let from = Place::new(u32::from(face), x, y);
+        let side = order.side() as u32;
+        let mut cells = SmallVec::new(alloc);
+        for step in 0u32..9 {
+            if step != 4 {
+                if let Some(to) = beside(side, from, step / 3, step % 3) {
+                    insert_rising(
+                        &mut cells,
+                        Cell::at_place(order, to.face as u8, to.x, to.y).index(),
+                    );
+                }
+            }
+        }
+        cells
+    }
+}

@@ -1,0 +1,163 @@
+//! What lies beyond the sides and vertices of a base pixel: the north cap's are numbered 0 to 3, the equator's
+//! 4 to 7, the south cap's 8 to 11, each four from west to east. `last` is the greatest coordinate.
+
+ghost use Rattle.moc_sphere.specs.Sides.{IsBeside, IsBeyondEast, IsBeyondNorth, IsBeyondNorthEast, IsBeyondNorthWest, IsBeyondSouth, IsBeyondSouthEast, IsBeyondSouthWest, IsBeyondWest};
+ghost use Rattle.std.specs.Prelude.{◌≡◌, ℕ, ◌+◌, ◌<◌, ◌≤◌, ◌^◌, MatchOption};
+
+/// A base pixel, and the place (x, y) of a cell in it.
+#[derive(Clone, Copy)]
+pub struct Place {
+    pub face: u32,
+    pub x: u32,
+    pub y: u32,
+}
+
+impl Place {
+    pub fn new(face: u32, x: u32, y: u32) -> Place
+        ensures { result ≡ record { face = face; x = x; y = y } }
+    {
+        Place { face, x, y }
+    }
+}
+
+fn beyond_north_east(last: u32, face: u32, along: u32) -> Place
+    requires { face < 12 }
+    ensures { IsBeyondNorthEast last face along result.face result.x result.y }
+{
+    if face < 4 {
+        Place::new((face + 1) % 4, along, last)
+    } else if face < 8 {
+        Place::new(face - 4, 0, along)
+    } else {
+        Place::new(4 + (face + 1) % 4, 0, along)
+    }
+}
+
+fn beyond_south_west(last: u32, face: u32, along: u32) -> Place
+    requires { face < 12 }
+    ensures { IsBeyondSouthWest last face along result.face result.x result.y }
+{
+    if face < 4 {
+        Place::new(face + 4, last, along)
+    } else if face < 8 {
+        Place::new(8 + (face + 3) % 4, last, along)
+    } else {
+        Place::new(8 + (face + 3) % 4, along, 0)
+    }
+}
+
+fn beyond_north_west(last: u32, face: u32, along: u32) -> Place
+    requires { face < 12 }
+    ensures { IsBeyondNorthWest last face along result.face result.x result.y }
+{
+    if face < 4 {
+        Place::new((face + 3) % 4, last, along)
+    } else if face < 8 {
+        Place::new((face + 3) % 4, along, 0)
+    } else {
+        Place::new(face - 4, along, 0)
+    }
+}
+
+fn beyond_south_east(last: u32, face: u32, along: u32) -> Place
+    requires { face < 12 }
+    ensures { IsBeyondSouthEast last face along result.face result.x result.y }
+{
+    if face < 4 {
+        Place::new(4 + (face + 1) % 4, along, last)
+    } else if face < 8 {
+        Place::new(face + 4, along, last)
+    } else {
+        Place::new(8 + (face + 1) % 4, 0, along)
+    }
+}
+
+fn beyond_north(last: u32, face: u32) -> Option<Place>
+    requires { face < 12 }
+    ensures { MatchOption result ((g z w : ℕ) → IsBeyondNorth last face g z w → ⊥) (λ to. IsBeyondNorth last face to.face to.x to.y) }
+{
+    if face < 4 {
+        Some(Place::new((face + 2) % 4, last, last))
+    } else if face < 8 {
+        None
+    } else {
+        Some(Place::new(face - 8, 0, 0))
+    }
+}
+
+fn beyond_south(last: u32, face: u32) -> Option<Place>
+    requires { face < 12 }
+    ensures { MatchOption result ((g z w : ℕ) → IsBeyondSouth last face g z w → ⊥) (λ to. IsBeyondSouth last face to.face to.x to.y) }
+{
+    if face < 4 {
+        Some(Place::new(face + 8, last, last))
+    } else if face < 8 {
+        None
+    } else {
+        Some(Place::new(8 + (face + 2) % 4, 0, 0))
+    }
+}
+
+fn beyond_east(last: u32, face: u32) -> Option<Place>
+    requires { face < 12 }
+    ensures { MatchOption result ((g z w : ℕ) → IsBeyondEast last face g z w → ⊥) (λ to. IsBeyondEast last face to.face to.x to.y) }
+{
+    if 4 <= face && face < 8 {
+        Some(Place::new(4 + (face + 1) % 4, 0, last))
+    } else {
+        None
+    }
+}
+
+fn beyond_west(last: u32, face: u32) -> Option<Place>
+    requires { face < 12 }
+    ensures { MatchOption result ((g z w : ℕ) → IsBeyondWest last face g z w → ⊥) (λ to. IsBeyondWest last face to.face to.x to.y) }
+{
+    if 4 <= face && face < 8 {
+        Some(Place::new(4 + (face + 3) % 4, last, 0))
+    } else {
+        None
+    }
+}
+
+/// The cell that a step of `a - 1` in x and `b - 1` in y leads to, or None where three base pixels meet and
+/// nothing lies across the vertex. `n` is the side of a base pixel.
+pub(crate) fn beside(n: u32, from: Place, a: u32, b: u32) -> Option<Place>
+    requires some { 0 < n }
+    requires few { n ≤ 2 ^ 29 }
+    requires face { from.face < 12 }
+    requires x { from.x < n }
+    requires y { from.y < n }
+    requires a_small { a < 3 }
+    requires b_small { b < 3 }
+    ensures { MatchOption result ((g z w : ℕ) → IsBeside n from.face (from.x + a) (from.y + b) g z w → ⊥)
+        (λ to. IsBeside n from.face (from.x + a) (from.y + b) to.face to.x to.y) }
+{
+    let s = from.x + a;
+    let t = from.y + b;
+    let face = from.face;
+    let last = n - 1;
+    if s == 0 {
+        if t == 0 {
+            beyond_south(last, face)
+        } else if t > n {
+            beyond_west(last, face)
+        } else {
+            Some(beyond_south_west(last, face, t - 1))
+        }
+    } else if s > n {
+        if t == 0 {
+            beyond_east(last, face)
+        } else if t > n {
+            beyond_north(last, face)
+        } else {
+            Some(beyond_north_east(last, face, t - 1))
+        }
+    } else if t == 0 {
+        Some(beyond_south_east(last, face, s - 1))
+    } else if t > n {
+        Some(beyond_north_west(last, face, s - 1))
+    } else {
+        Some(Place::new(face, s - 1, t - 1))
+    }
+}
