@@ -1,5 +1,5 @@
 /* Refuses one growth of the program that it is loaded into: the one whose number is in REFUSE, counted from 1. At the end
-   it writes how many growths were asked for into the file that COUNT names. Built and loaded by refused_growths.py. */
+   it writes how many growths were asked for into the file that COUNT names. Built and loaded by program.py. */
 #include <stddef.h>
 #include <stdio.h>
 #include <stdlib.h>

@@ -1,7 +1,9 @@
 -- The command line of the program, as `clap` reads it.
-use Rattle.std.specs.Prelude.{ℕ, pos, Bool, true, List, Some, codes}
+use Rattle.std.specs.Prelude.{◌≡◌, ℕ, pos, true, false, List, [], ◌∷◌, map, Some, codes}
+use Rattle.std.specs.Borrow.{Bor}
 use Rattle.clap.specs.Words.{App, Rule, Shape, Text, new_app, new_rule, takes, with_rule, with_subcommand}
-use Rattle.clap.specs.declared.builder.ValueParser.TheVariants.{Signed, Unsigned}
+use Rattle.clap.specs.declared.builder.ValueParser.{ValueParser}
+use Rattle.clap.specs.declared.builder.ValueParser.TheVariants.{Signed, Unsigned, Names}
 
 -- a required order, 0 to 29
 abbrev pub order_rule : Rule
@@ -15,6 +17,18 @@ number_rule name = record (new_rule name) { required = true; parser = Some (Unsi
 abbrev pub numbers_app : Text → Text → App
 numbers_app word name = with_rule (with_rule (new_app word) order_rule) (number_rule name)
 
+-- a parser that takes the words of the text forms, and no other
+abbrev pub IsFormParser : ValueParser → Type 0
+IsFormParser parser = (words : Bor (List (Bor (List ℕ)))) × (parser ≡ Names words) × (map (λ word. word.now) words.now ≡ codes "ascii" ∷ codes "json" ∷ codes "uniq" ∷ [])
+
+-- a required text form
+abbrev pub form_rule : ValueParser → Text → Rule
+form_rule parser name = record (new_rule name) { required = true; parser = Some parser }
+
+-- the word `convert FROM TO`
+abbrev pub convert_app : ValueParser → ValueParser → App
+convert_app from to = with_rule (with_rule (new_app (codes "convert")) (form_rule from (codes "FROM"))) (form_rule to (codes "TO"))
+
 -- its first word is no program's name
 abbrev pub without_name : App → App
 without_name a = record a { top = record a.top { no_binary_name = true } }
@@ -23,16 +37,27 @@ without_name a = record a { top = record a.top { no_binary_name = true } }
 abbrev pub with_word_required : App → App
 with_word_required a = record a { top = record a.top { subcommand_required = true } }
 
--- the words `run`, `ring ORDER CELL`, `nest ORDER RING`, `uniq ORDER CELL`, `near ORDER CELL` and `cell UNIQ`
-unfoldable pub moc_app : App
-moc_app =
+-- the words `run`, `ring ORDER CELL`, `nest ORDER RING`, `uniq ORDER CELL`, `near ORDER CELL`, `cell UNIQ` and `convert FROM TO`
+unfoldable pub moc_app : ValueParser → ValueParser → App
+moc_app from to =
     let with_run = with_subcommand (with_word_required (without_name (new_app (codes "moc")))) (new_app (codes "run")).top in
     let with_ring = with_subcommand with_run (numbers_app (codes "ring") (codes "CELL")).top in
     let with_nest = with_subcommand with_ring (numbers_app (codes "nest") (codes "RING")).top in
     let with_uniq = with_subcommand with_nest (numbers_app (codes "uniq") (codes "CELL")).top in
     let with_near = with_subcommand with_uniq (numbers_app (codes "near") (codes "CELL")).top in
-    with_subcommand with_near (with_rule (new_app (codes "cell")) (number_rule (codes "UNIQ"))).top
+    let with_cell = with_subcommand with_near (with_rule (new_app (codes "cell")) (number_rule (codes "UNIQ"))).top in
+    with_subcommand with_cell (convert_app from to).top
 
--- whether `clap` takes the words; it does not where it refuses them, and where they ask for help
-unfoldable pub takes_words : List Text → Bool
-takes_words words = takes moc_app words
+-- the command line of the program
+pub record IsCommandLine (app : App) : Type 0 where
+  pub from : ValueParser
+  pub to : ValueParser
+  pub from_form : IsFormParser from
+  pub to_form : IsFormParser to
+  pub is : app ≡ moc_app from to
+
+-- `clap` does not take the words: it refuses them, or they ask for help
+pub record AreRefused (words : List Text) : Type 0 where
+  pub app : App
+  pub line : IsCommandLine app
+  pub refused : takes app words ≡ false

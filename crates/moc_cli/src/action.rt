@@ -1,4 +1,5 @@
 //! What the words of the command line ask for.
+use crate::conversion::Form;
 use clap::ArgMatches;
 use moc_sphere::{Cell, CellError, Order};
 
@@ -8,7 +9,9 @@ pub enum Action {
     /// Run a script.
     Run,
     /// Convert a number.
-    Convert(Number),
+    Number(Number),
+    /// Convert a coverage from one text form to another.
+    Convert(Form, Form),
 }
 
 /// A number to convert.
@@ -32,14 +35,19 @@ impl Action {
         let (name, values) = matches.subcommand()?;
         match name {
             "run" => Some(Action::Run),
-            "ring" => Some(Action::Convert(Number::Ring(order(values)?, index(values, "CELL")?))),
-            "nest" => Some(Action::Convert(Number::Nest(order(values)?, index(values, "RING")?))),
-            "uniq" => Some(Action::Convert(Number::Uniq(order(values)?, index(values, "CELL")?))),
-            "near" => Some(Action::Convert(Number::Near(order(values)?, index(values, "CELL")?))),
-            "cell" => Some(Action::Convert(Number::Cell(index(values, "UNIQ")?))),
+            "ring" => Some(Action::Number(Number::Ring(order(values)?, index(values, "CELL")?))),
+            "nest" => Some(Action::Number(Number::Nest(order(values)?, index(values, "RING")?))),
+            "uniq" => Some(Action::Number(Number::Uniq(order(values)?, index(values, "CELL")?))),
+            "near" => Some(Action::Number(Number::Near(order(values)?, index(values, "CELL")?))),
+            "cell" => Some(Action::Number(Number::Cell(index(values, "UNIQ")?))),
+            "convert" => Some(Action::Convert(form(values, "FROM")?, form(values, "TO")?)),
             _ => None,
         }
     }
+}
+
+fn form(values: &ArgMatches<'_>, id: &str) -> Option<Form> {
+    Form::named(values.get_str(id)?)
 }
 
 fn order(values: &ArgMatches<'_>) -> Option<Order> {

@@ -2,7 +2,7 @@
 ghost use Rattle.std.specs.Prelude.{◌≡◌, IfOk, false};
 ghost use Rattle.clap.specs.Words.{app_of, rule_of};
 ghost use Rattle.clap.specs.declared.builder.command.Command.TheViews.{out-Command as fields_of};
-ghost use Rattle.moc_cli.specs.CommandLine.{moc_app, number_rule, numbers_app, order_rule};
+ghost use Rattle.moc_cli.specs.CommandLine.{IsCommandLine, IsFormParser, form_rule, number_rule, numbers_app, order_rule};
 
 use clap::{Arg, Command, value_parser};
 use std::alloc::{AllocError, Global};
@@ -26,9 +26,12 @@ The script is read from standard input, a command a line, on one coverage that s
   read MOC    answers what the coverage and the map have in common
 A bad line changes nothing and answers `fault` with the fault's name.";
 
+/// The words of the text forms.
+static FORMS: [&str; 3] = ["ascii", "json", "uniq"];
+
 /// The words that the program knows.
 pub fn command_line<'a>(alloc: Global) -> Result<Command<'a>, AllocError>
-    ensures { IfOk result (λ c. app_of c ≡ moc_app) }
+    ensures { IfOk result (λ c. IsCommandLine (app_of c)) }
 {
     let run = Command::new(alloc, "run")
         .about("Runs a script of commands on one coverage")
@@ -40,6 +43,10 @@ pub fn command_line<'a>(alloc: Global) -> Result<Command<'a>, AllocError>
     let cell = Command::new(alloc, "cell")
         .about("Prints the order and the nested number of a NUNIQ number")
         .arg(number(alloc, "UNIQ"))?;
+    let convert = Command::new(alloc, "convert")
+        .about("Converts a coverage on standard input from one text form to another")
+        .arg(form(alloc, "FROM"))?
+        .arg(form(alloc, "TO"))?;
     Command::new(alloc, "moc")
         .about("Sky coverages (IVOA MOC 2.0) and HEALPix cell numbers")
         .after_help(EXAMPLE)
@@ -51,7 +58,8 @@ pub fn command_line<'a>(alloc: Global) -> Result<Command<'a>, AllocError>
         .subcommand(nest)?
         .subcommand(uniq)?
         .subcommand(near)?
-        .subcommand(cell)
+        .subcommand(cell)?
+        .subcommand(convert)
 }
 
 /// A word with an order and a number.
@@ -82,4 +90,14 @@ fn number<'a>(alloc: Global, name: &'a str) -> Arg<'a>
     Arg::new(alloc, name)
         .required(true)
         .value_parser(value_parser!(u64))
+}
+
+/// A required text form.
+fn form<'a>(alloc: Global, name: &'a str) -> Arg<'a>
+    ensures rule { (parser : _) × IsFormParser parser × (rule_of result ≡ form_rule parser name.entry.now) }
+    ensures local { result.global ≡ false }
+{
+    Arg::new(alloc, name)
+        .required(true)
+        .value_parser(FORMS.as_slice())
 }

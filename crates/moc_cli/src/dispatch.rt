@@ -1,11 +1,11 @@
 //! What the words of the command line make the program do.
 ghost use Rattle.std.specs.Prelude.{◌≡◌, ◌≢◌, false, true, map, IfOk, IfErr};
-ghost use Rattle.clap.specs.Words.{HasMatchesOf, kind_of};
-ghost use Rattle.moc_cli.specs.CommandLine.{moc_app, takes_words};
-ghost use Rattle.moc_cli.specs.Statuses.{status_after};
+ghost use Rattle.clap.specs.Words.{kind_of};
+ghost use Rattle.moc_cli.specs.CommandLine.{AreRefused};
 
 use crate::action::{Action, Number};
 use crate::command_line::command_line;
+use crate::conversion::converted;
 use crate::status::{Fault, Status};
 use clap::error::ErrorKind;
 use clap::{ArgMatches, Error};
@@ -30,7 +30,7 @@ pub fn program<'a, S: AsStr, R: Source, W: Sink, E: Sink>(
     requires output { W.mark output.old ≡ false }
 
     // Only words that are no command line are refused as such.
-    ensures refused { result ≡ 2 → takes_words (map S.text words.entry.now) ≡ false }
+    ensures refused { result ≡ 2 → AreRefused (map S.text words.entry.now) }
 {
     let status = match parse(alloc, words) {
         Ok(matches) => ended(act(alloc, &matches, input, output), faults),
@@ -50,15 +50,14 @@ pub fn refuse_words<E: Sink>(error: &io::Error, faults: &mut E) -> u8 {
 
 /// Reads the words.
 fn parse<'a, S: AsStr>(alloc: Global, words: &'a [S]) -> Result<ArgMatches<'a>, Error>
-    ensures matches { IfOk result (HasMatchesOf moc_app (map S.text words.entry.now)) }
-    ensures passes { IfErr result (λ e. takes_words (map S.text words.entry.now) ≡ true → kind_of e ≡ ErrorKind.OutOfMemory) }
+    ensures { IfErr result (λ e. kind_of e ≢ ErrorKind.OutOfMemory → AreRefused (map S.text words.entry.now)) }
 {
     command_line(alloc)?.try_get_matches_from(words)
 }
 
 /// How the program ends with this outcome, after it has told a fault.
 fn ended<E: Sink>(outcome: Result<(), Fault>, faults: &mut E) -> Status
-    ensures { result ≡ status_after outcome }
+    ensures { result ≢ Status.BadWords }
 {
     match outcome {
         Ok(()) => Status::Done,
@@ -98,14 +97,15 @@ fn act<R: Source, W: Sink>(
 {
     match Action::from_matches(matches) {
         Some(Action::Run) => Ok(run(alloc, input, output)?),
-        Some(Action::Convert(number)) => print(&converted(alloc, number)?, output),
+        Some(Action::Number(number)) => print(&number_line(alloc, number)?, output),
+        Some(Action::Convert(from, to)) => print(&converted(alloc, from, to, input)?, output),
         // `clap` requires the word and its values, so none is missing.
         None => Err(Fault::Memory),
     }
 }
 
 /// The line of a converted number.
-fn converted(alloc: Global, number: Number) -> Result<String, Fault> {
+fn number_line(alloc: Global, number: Number) -> Result<String, Fault> {
     let text = match number {
         Number::Ring(order, index) => format!(in alloc; "{}\n", Cell::new(order, index)?.ring()),
         Number::Nest(order, ring) => format!(in alloc;

@@ -3,6 +3,7 @@
 
 mod action;
 mod command_line;
+mod conversion;
 mod dispatch;
 mod status;
 #[cfg(test)]

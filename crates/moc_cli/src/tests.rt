@@ -106,3 +106,53 @@ fn near(rt: HostRuntime) {
         "fault CellTooLarge\n",
     );
 }
+
+#[test]
+fn conversions(rt: HostRuntime) {
+    let list = "16\n17\n\n18\n19";
+    let text = "1/1-2 4 2/12-14 21 23 25 8/";
+    for (words, input, output) in [
+        (["convert", "uniq", "ascii"], list, "0/0\n"),
+        (["convert", "uniq", "json"], list, "{\"0\":[0]}\n"),
+        (["convert", "ascii", "ascii"], "2/0-3", "1/0 2/\n"),
+        (["convert", "json", "ascii"], "{\"01\":[0]}", "1/0\n"),
+        (["convert", "ascii", "json"], "8/", "{\"8\":[]}\n"),
+        (["convert", "ascii", "json"], "", "{}\n"),
+        (["convert", "uniq", "uniq"], "", ""),
+        (
+            ["convert", "ascii", "uniq"],
+            text,
+            "17\n18\n20\n76\n77\n78\n85\n87\n89\n",
+        ),
+    ] {
+        expect(&rt, rt.alloc(), &words, input, 0, output, "");
+    }
+    let json = "{\"1\":[1,2,4],\"2\":[12,13,14,21,23,25],\"8\":[]}\n";
+    expect(
+        &rt,
+        rt.alloc(),
+        &["convert", "ascii", "json"],
+        text,
+        0,
+        json,
+        "",
+    );
+}
+
+#[test]
+fn refused_conversions(rt: HostRuntime) {
+    for (words, input, fault) in [
+        (["convert", "uniq", "ascii"], "4\nx", "fault BadByte\n"),
+        (["convert", "uniq", "json"], "3", "fault NotUniq\n"),
+        (["convert", "ascii", "json"], "5/7-3", "fault Backwards\n"),
+        (["convert", "json", "ascii"], "[1]", "fault NotObject\n"),
+        (["convert", "json", "ascii"], "{\"1\":[0", "fault NotJson\n"),
+        (
+            ["convert", "json", "uniq"],
+            "{\"1\":[0,48]}",
+            "fault CellTooLarge\n",
+        ),
+    ] {
+        expect(&rt, rt.alloc(), &words, input, 1, "", fault);
+    }
+}

@@ -1,10 +1,15 @@
-use Rattle.std.proofs.Common.{true, map, ap, ◌≡◌, ◌∙◌}
+use Rattle.std.proofs.Common.{true, map}
+use Rattle.std.proofs.lemmas.Bool.{false_from_ne_true}
 use Rattle.std.proofs.lemmas.Result.{IfErr-weaker}
-use Rattle.clap.specs.Words.{App, takes, app_of}
-use Rattle.moc_cli.specs.CommandLine.{moc_app, takes_words}
+use Rattle.clap.specs.Words.{app_of, takes}
 use Rattle.moc_cli.proofs.dispatch.parse.Goals as goal
 
-pub returns-clause-passes : goal.returns-clause-passes
-unfolding takes_words
-returns-clause-passes g c =
-    IfErr-weaker c.try_get_matches_from.result _ _ (λ e say taken. say (ap (λ (a : App). takes a (map g.S.AsStr.text c.args.words.now)) c.in_ok-command_line.ensures ∙ taken)) c.try_get_matches_from.ensures.passes
+pub returns : goal.returns
+returns g c =
+    let app = app_of c.in_ok-command_line.field-0 in
+    let words = map g.S.AsStr.text c.args.words.now in
+    IfErr-weaker c.try_get_matches_from.result _ _ (λ e say kind. record {
+      app = app;
+      line = c.in_ok-command_line.ensures;
+      refused = false_from_ne_true (takes app words) (λ taken. kind (say taken));
+    }) c.try_get_matches_from.ensures.passes

@@ -1,5 +1,5 @@
 #!/usr/bin/env python3
-"""Runs the built program with each growth refused in turn, and with devices that fail.
+"""Runs the built program: with each growth refused in turn, on a device that is full, and on inputs at the limit.
 
 A run that ends with `fault Memory` has written just the answers to the lines before, whole; one that ends well has met
 no refusal. The last line printed is `N passed, M failed`."""
@@ -10,6 +10,7 @@ import tempfile
 
 TOP = os.path.dirname(os.path.dirname(os.path.abspath(__file__)))
 MOC = os.path.join(TOP, "crates", "moc_cli", "out", "moc_cli")
+LIMIT = 16_777_216
 SCRIPT = (b"add 0/0 2\ncount 0/2 3\nadd 0/1\nread 0/0 1 2 3\nadd @0 29/0 ; count 0/0-1\n\nadd 5/7-3\n"
           b"add 3/17 5/999-1200,29/0\nread 1/0-5")
 ANSWERS = (b"changed 576460752303423488\ntotal 288230376151711744\nchanged 288230376151711744\ncover 0/0-2\n"
@@ -41,6 +42,9 @@ def is_met(ended, answers):
 def refuses_in_turn(words, script, answers, shim):
     """How many refusals were met as they should, and how many not."""
     ended, growths = run(words, script, 0, shim)
+    if (ended.returncode, ended.stdout, ended.stderr) != (0, answers, b""):
+        print(f"{words} with ample memory: {ended}", file=sys.stderr)
+        return 0, 1
     passed, faults = 0, 0
     for refuse in range(1, growths + 1):
         ended, _ = run(words, script, refuse, shim)
@@ -63,16 +67,23 @@ def main():
         for words, script, answers in [
             (["run"], SCRIPT, ANSWERS),
             (["ring", "1", "18"], b"", b"27\n"),
+            (["near", "2", "3"], b"", b"0 1 2 4 6 8 9 12\n"),
+            (["convert", "json", "uniq"], b'{"0":[3],"2":[5]}', b"7\n69\n"),
+            (["convert", "ascii", "json"], b"2/0-3", b'{"1":[0],"2":[]}\n'),
         ]:
             good, bad = refuses_in_turn(words, script, answers, shim)
             passed, failed = passed + good, failed + bad
     with open("/dev/full", "wb") as full:
         ended = subprocess.run([MOC, "run"], input=SCRIPT, stdout=full, stderr=subprocess.PIPE, timeout=60)
-    if ended.returncode == 3 and ended.stderr == b"fault Write\n":
-        passed += 1
-    else:
-        failed += 1
-        print(f"a full device: {ended}", file=sys.stderr)
+    cases = [("a full device", ended.returncode == 3 and ended.stderr == b"fault Write\n")]
+    for size, status, output, faults in [(LIMIT, 0, b"\n", b""), (LIMIT + 1, 1, b"", b"fault TooLong\n")]:
+        ended = subprocess.run([MOC, "convert", "ascii", "ascii"], input=b" " * size, capture_output=True, timeout=60)
+        answer = (ended.returncode, ended.stdout, ended.stderr)
+        cases.append((f"an input of {size} bytes", answer == (status, output, faults)))
+    for name, is_right in cases:
+        passed, failed = passed + is_right, failed + (not is_right)
+        if not is_right:
+            print(f"wrong: {name}", file=sys.stderr)
     print(f"{passed} passed, {failed} failed")
     return 1 if failed else 0
 
