@@ -6,7 +6,7 @@ use Rattle.moc_script.specs.Language.{command_of}
 use Rattle.moc_script.specs.Replies.{text_on, set_after}
 use Rattle.moc_script.specs.Batches.{line_answer, after_line}
 use Rattle.moc_script.specs.Answers.{script_text}
-use Rattle.moc_script.specs.Runs.{Runs}
+use Rattle.moc_script.specs.Runs.{Runs, Begins}
 use Rattle.moc_script.specs.declared.script.RunError.{RunError}
 
 -- the most bytes of a line
@@ -28,3 +28,7 @@ answers_of input = script_text line_limit answer_on set_after_line set.empty inp
 -- of an input a run took a front, and it wrote the answers that its outcome names
 abbrev pub RunsScript : List ℕ → Option (List ℕ) → Option (List ℕ) → Option (List ℕ) → Result (Unit {0}) RunError → Type 0
 RunsScript input left written written' result = Runs line_limit answer_on set_after_line set.empty input left written written' result
+
+-- what was written is a beginning of the answers to the input
+abbrev pub BeginsAnswers : List ℕ → Option (List ℕ) → Option (List ℕ) → Type 0
+BeginsAnswers input written written' = Begins line_limit answer_on set_after_line set.empty input written written'

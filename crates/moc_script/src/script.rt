@@ -1,8 +1,8 @@
 //! Scripts, run from a reader to a writer.
 ghost use Rattle.std.specs.Prelude.{◌≡◌, ◌++◌, ◌||◌, [], ℕ, List, None, Some, IfSome, IsTrue, ◌↔◌, false, OnOk, OnErr, IsErrOf, Err, is_err};
 ghost use Rattle.std.specs.Io.KnownBytes.{Appends, Keeps, IsAtEnd};
-ghost use Rattle.moc_script.specs.Runs.{Runs, Ended, Sends};
-ghost use Rattle.moc_script.specs.Scripts.{RunsScript};
+ghost use Rattle.moc_script.specs.Runs.{Runs, Begins, Ended, Sends};
+ghost use Rattle.moc_script.specs.Scripts.{RunsScript, BeginsAnswers, answers_of};
 
 use crate::line_reader::{Found, LINE_LIMIT, LineFault, LineReader};
 use crate::map::Map;
@@ -65,6 +65,12 @@ pub fn run<R: Source, W: Sink>(
     ensures runs { IfSome (R.left reader.old) (λ input.
         RunsScript input (R.left reader.new) (W.written writer.old) (W.written writer.new) result) }
 
+    // So it is a beginning of the answers to the whole input, and all of them where no fault comes.
+    ensures begins { IfSome (R.left reader.old) (λ input.
+        BeginsAnswers input (W.written writer.old) (W.written writer.new)) }
+    ensures answers { OnOk result (IfSome (R.left reader.old) (λ input.
+        Appends (W.written writer.old) (W.written writer.new) (answers_of input))) }
+
     // Only the reader's end ends a run without a fault, and then all is flushed.
     ensures end { OnOk result (IsAtEnd (R.left reader.new)) }
     ensures flushed { OnOk result (IsTrue (W.flushed writer.new)) }
@@ -89,6 +95,8 @@ pub(crate) fn run_on<A: Responder, R: Source, W: Sink>(
     ensures runs { IfSome (R.left reader.old) (λ input.
         Runs LINE_LIMIT A.answer A.after responder.old input
         (R.left reader.new) (W.written writer.old) (W.written writer.new) result) }
+    ensures begins { IfSome (R.left reader.old) (λ input.
+        Begins LINE_LIMIT A.answer A.after responder.old input (W.written writer.old) (W.written writer.new)) }
     ensures end { OnOk result (IsAtEnd (R.left reader.new)) }
     ensures flushed { OnOk result (IsTrue (W.flushed writer.new)) }
     ensures unflushed { OnErr result (IsTrue (W.flushed writer.new) → IsTrue (W.flushed writer.old)) }
