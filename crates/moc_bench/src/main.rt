@@ -7,6 +7,7 @@ mod operation;
 use crate::operation::{Operation, answer};
 use anyhow::{Result, bail};
 use moc_text::read_ascii;
+use std::fmt;
 use std::io::Read;
 use std::time::Instant;
 
@@ -32,12 +33,27 @@ fn main(rt: HostRuntime) -> Result<()> {
     for _ in 0..repeats {
         let start = Instant::now(&rt)?;
         sum = answer(rt.alloc(), operation, first, &a, &b, &cells)?;
-        times.push(start.elapsed(&rt)?.as_micros())?;
+        let micros = start.elapsed(&rt)?.as_micros();
+        times.push(u64::try_from(micros).unwrap_or(u64::MAX))?;
     }
-    let first = times.first().copied().unwrap_or(0);
+    let first = in_seconds(times.first());
     times.sort_unstable();
-    let median = times.get(times.len() / 2).copied().unwrap_or(0);
-    let least = times.first().copied().unwrap_or(0);
+    let median = in_seconds(times.get(times.len() / 2));
+    let least = in_seconds(times.first());
     println!(rt; "{word} {median} {first} {least} {sum}")?;
     Ok(())
+}
+
+/// A time of so many microseconds.
+#[derive(Clone, Copy)]
+struct Seconds(u64);
+
+fn in_seconds(micros: Option<&u64>) -> Seconds {
+    Seconds(micros.copied().unwrap_or(0))
+}
+
+impl fmt::Display for Seconds {
+    fn fmt<W: fmt::Write>(&self, f: &mut fmt::Formatter<W>) -> fmt::Result {
+        write!(f, "{}.{:06}", self.0 / 1_000_000, self.0 % 1_000_000)
+    }
 }

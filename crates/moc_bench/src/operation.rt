@@ -2,7 +2,7 @@
 use anyhow::Result;
 use moc_ranges::Coverage;
 use moc_sphere::{Cell, Order};
-use moc_text::{read_ascii, write_ascii};
+use moc_text::{read_ascii, write_ascii, write_json};
 use std::alloc::{AllocError, Global};
 
 /// What is timed.
@@ -16,6 +16,7 @@ pub enum Operation {
     Complement,
     Degrade(u8),
     WriteAscii,
+    WriteJson,
     Ring(u8),
     Nest(u8),
     Near(u8),
@@ -33,6 +34,7 @@ impl Operation {
             "degrade10" => Some(Operation::Degrade(10)),
             "degrade13" => Some(Operation::Degrade(13)),
             "write_ascii" => Some(Operation::WriteAscii),
+            "write_json" => Some(Operation::WriteJson),
             "ring13" => Some(Operation::Ring(13)),
             "ring29" => Some(Operation::Ring(29)),
             "nest13" => Some(Operation::Nest(13)),
@@ -93,6 +95,7 @@ pub fn answer(
             None => 0,
         },
         Operation::WriteAscii => write_ascii(alloc, a, None)?.len() as u64,
+        Operation::WriteJson => write_json(alloc, a, None)?.len() as u64,
         Operation::Ring(order) => rings(order, cells),
         Operation::Nest(order) => nests(order, cells),
         Operation::Near(order) => touching(alloc, order, cells),

@@ -1,0 +1,15 @@
+#!/usr/bin/env bash
+# Times the library against Healpix_cxx 3.80 on the same input in one run: an operation a line, the library's line first.
+# Wants Debian's libhealpix-cxx-dev. Writes its input into bench/data (150 MB) once.
+set -euo pipefail
+cd "$(dirname "$0")"
+[ -d data ] || python3 generate.py data > /dev/null
+g++ -O2 -march=x86-64-v2 -std=c++17 -I/usr/include/healpix_cxx peer.cc -o peer -lhealpix_cxx
+(cd ../crates/moc_bench && rt run < /dev/null > /dev/null 2>&1)
+for operation in read_a write_ascii write_json count union intersection difference complement degrade10 degrade13 \
+    ring13 ring29 nest13 nest29 near13 near29; do
+    printf 'moc     '
+    (cat data/moc_a.txt; echo; cat data/moc_b.txt) | ../crates/moc_bench/out/moc_bench "$operation" 9
+    printf 'cxx     '
+    ./peer data "$operation" 9
+done
