@@ -4,8 +4,8 @@ use Rattle.std.specs.Prelude.{nat_eq, bit_or, ⊤}
 use Rattle.std.specs.List.{list_any, filter, range_with_len}
 use Rattle.std.proofs.lemmas.List.Elements.{filter-append}
 use Rattle.std.specs.Int.{w64, trailing_zeros, bit_at}
-use Rattle.std.proofs.lemmas.Bool.{cases_lt, cases_eq, or_cases, or_left, or_right, or_from, and_left, and_right, and_parts, false≢true, ne_eqb, false_from_ne_true}
-use Rattle.std.proofs.lemmas.Nat.{div-add-mod', le-div, mod-pow-add, or_mod, le_or_l, le_or_r}
+use Rattle.std.proofs.lemmas.Bool.{cases_lt, or_cases, or_left, or_right, or_from, and_parts, false≢true, ne_eqb, false_from_ne_true}
+use Rattle.std.proofs.lemmas.Nat.{div-add-mod', mod-pow-add, or_mod, le_or_l, le_or_r}
 use Rattle.std.proofs.lemmas.Nat.Bits.{bit_at-trailing_zeros}
 use Rattle.std.proofs.Math.Nat.{mul-le-mul_right, le_of_mul-le-mul_right, pow-le-pow_right, pow-succ'}
 use Rattle.moc_sphere.specs.CellNumber.{cell_number, cell_count, cell_size, cell_size-positive}

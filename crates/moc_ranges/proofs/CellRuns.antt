@@ -1,23 +1,21 @@
 -- The cells of one order of a set are, range after range, those that lie whole in the range while their parent does not.
-use Rattle.std.proofs.Common.{◌≡◌, ℕ, zero, suc, ◌+◌, ◌-◌, ◌*◌, ◌/◌, ◌%◌, ◌^◌, ◌<◌, ◌≤◌, ◌↔◌, Bool, true, false, cond, not, ◌&&◌, ◌||◌, List, [], ◌∷◌, ◌++◌, map, refl, sym, ap, subst, ◌∙◌, inl, inr, arith, append_assoc, add-zero}
+use Rattle.std.proofs.Common.{◌≡◌, ℕ, zero, suc, ◌+◌, ◌-◌, ◌*◌, ◌/◌, ◌^◌, ◌<◌, ◌≤◌, Bool, true, false, cond, not, ◌&&◌, ◌||◌, List, [], ◌∷◌, ◌++◌, map, refl, sym, ap, subst, ◌∙◌, inl, inr, arith}
 use Rattle.std.specs.Prelude.{nat_eq, nat_le, nat_lt}
 use Rattle.std.specs.FinSet as set
 use Rattle.std.specs.Cmp.{nat_cmp_total}
 use Rattle.std.specs.List.{filter, range_with_len, list_any}
-use Rattle.std.proofs.lemmas.Bool.{cases_Bool, cases_lt, cases_eq, and_parts, and_from, and_cases, and_left, or_from, or_parts, or_cases, or_left, or_right, lt-ltb, le-ltb, ltb-true, le-leb, lt-leb, leb-true, eq-eqb, ne_eqb, eqb-true, not_from_false, not_from_true, false≢true, false_from_ne_true}
+use Rattle.std.proofs.lemmas.Bool.{cases_Bool, cases_lt, and_parts, and_from, and_left, or_from, or_parts, or_cases, or_left, or_right, lt-ltb, ltb-true, le-leb, lt-leb, leb-true, ne_eqb, eqb-true, false≢true, false_from_ne_true}
 use Rattle.std.proofs.lemmas.Bool.Decides.{nat_tests}
 use Rattle.std.proofs.lemmas.List.{map-append}
 use Rattle.std.proofs.lemmas.List.FromFn.{map-range_with_len_more}
-use Rattle.std.proofs.lemmas.List.Elements.{filter-append}
 use Rattle.std.proofs.lemmas.Nat.{div_below, le-div, div-add-mod', mod_below}
-use Rattle.std.proofs.Math.Nat.{mul-le-mul_right, le_of_mul-le-mul_right, div-mul-le_self, pow-succ', pow-le-pow_right}
-use Rattle.moc_sphere.specs.CellNumber.{CellNumber, cell_number, cell_count, cell_size, cell_size-positive, cell_size-fills}
-use Rattle.moc_ranges.specs.Numbers.{NumberSet}
+use Rattle.std.proofs.Math.Nat.{mul-le-mul_right, div-mul-le_self, pow-succ', pow-le-pow_right}
+use Rattle.moc_sphere.specs.CellNumber.{cell_number, cell_count, cell_size, cell_size-positive, cell_size-fills}
 use Rattle.moc_ranges.specs.Pixels.{pixel_count}
-use Rattle.moc_ranges.specs.RangeList.{set_of, contains-set_of, in_range, in_ranges, IsNormal, BeginsAfter, LiesInOne, lies_in_one}
-use Rattle.moc_ranges.specs.Cells.{span, contains-span, is_cell_of, cells_below, cells_of}
-use Rattle.moc_ranges.specs.CellLaws.{in_span, same_truth, four_parts, in_cell_range, of_cell_range}
-use Rattle.moc_ranges.specs.CellRuns.{cells_at, cells_between, AreWhole, HasOrders}
+use Rattle.moc_ranges.specs.RangeList.{set_of, contains-set_of, in_ranges, IsNormal, BeginsAfter, LiesInOne, lies_in_one}
+use Rattle.moc_ranges.specs.Cells.{span, contains-span, is_cell_of}
+use Rattle.moc_ranges.specs.CellLaws.{in_span, same_truth, four_parts, in_cell_range}
+use Rattle.moc_ranges.specs.CellRuns.{cells_at, cells_between, AreWhole}
 
 -- ---- filters of numbers in a row
 
@@ -252,6 +250,15 @@ one_test first last low high i none = let j = i / 4 in grind (arith, nat_tests)
 -- the parents from `low` up to `high` lie in the range
 two_tests : (first last low high i : ℕ) → low < high → first ≤ 4 * low → 4 * high ≤ last → (((nat_le first i && nat_lt i last) && (false || not (nat_le low (i / 4) && nat_lt (i / 4) high))) || false) ≡ ((nat_le first i && nat_lt i (4 * low)) || (nat_le (4 * high) i && nat_lt i last))
 two_tests first last low high i some a b = grind (arith, nat_tests)
+
+-- no cell lies in the range
+pub run_none : (k from to first last : ℕ) → k ≤ 29 → from < to → to ≤ pixel_count → AreWhole k from to first last → last ≤ first → cells_at (set_of ((from, to) ∷ [])) k ≡ []
+run_none k from to first last small some fits_in whole none =
+    cells_at_any ((from, to) ∷ []) k (some, fits_in, tt, tt) small
+    ∙ ap (map (cell_number k)) (filter_none (λ i. list_any (part_at k i) ((from, to) ∷ [])) 0 (cell_count k) (λ i low high. or_from _ _ (and_left _ _ (whole_tests k from to first last i whole ∙ out first last i none)) refl))
+  where
+    out : (first last i : ℕ) → last ≤ first → (nat_le first i && nat_lt i last) ≡ false
+    out first last i none = grind (arith, nat_tests)
 
 pub run_top : (k from to first last : ℕ) → k ≡ 0 → from < to → to ≤ pixel_count → AreWhole k from to first last → cells_at (set_of ((from, to) ∷ [])) k ≡ cells_between k first last
 run_top zero from to first last top some fits_in whole =

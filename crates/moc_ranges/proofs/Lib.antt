@@ -10,3 +10,4 @@ pub mod Widening
 pub mod Spans
 pub mod CellRuns
 pub mod CellOrders
+pub mod Cutting

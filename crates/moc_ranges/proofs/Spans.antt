@@ -1,15 +1,14 @@
 -- The pixels of one cell, as a list of one range.
-use Rattle.std.proofs.Common.{◌≡◌, ℕ, ◌+◌, ◌*◌, ◌/◌, ◌<◌, ◌≤◌, ◌↔◌, Bool, true, false, ◌&&◌, ◌||◌, ltb, leb, [], ◌∷◌, refl, sym, ap, ◌∙◌, arith, inl, inr}
+use Rattle.std.proofs.Common.{◌≡◌, ℕ, ◌/◌, ◌<◌, ◌≤◌, ◌↔◌, true, false, [], ◌∷◌, sym, ◌∙◌, arith, inl, inr}
 use Rattle.std.specs.Prelude.{nat_eq, nat_lt}
-use Rattle.std.proofs.lemmas.Bool.{cases_lt, eq-eqb, eqb-true, false_from_ne_true, and_from, and_parts, lt-ltb, ltb-true}
+use Rattle.std.proofs.lemmas.Bool.{cases_lt, eq-eqb, eqb-true, false_from_ne_true, and_from, and_parts, lt-ltb}
 use Rattle.std.proofs.lemmas.Bool.Decides.{nat_tests}
 use Rattle.std.specs.FinSet as set
 use Rattle.moc_sphere.specs.CellNumber.{cell_number, IsInSpan, cell_size}
 use Rattle.moc_ranges.specs.Numbers.{same_members}
 use Rattle.moc_ranges.specs.Pixels.{pixel_count}
 use Rattle.moc_ranges.specs.Cells.{span, contains-span}
-use Rattle.moc_ranges.specs.RangeList.{set_of, contains-set_of, in_range, in_ranges}
-use Rattle.moc_ranges.specs.Bounds.{pairs_of}
+use Rattle.moc_ranges.specs.RangeList.{set_of, contains-set_of, in_ranges}
 
 abbrev IsSpanned : ℕ → ℕ → ℕ → ℕ → Type 0
 IsSpanned order index from to = (p : ℕ) → ((from ≤ p) × (p < to)) ↔ IsInSpan (cell_number order index) p

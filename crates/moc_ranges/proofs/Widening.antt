@@ -2,19 +2,21 @@
 use Rattle.std.proofs.Common.{◌^◌, max, ◌≡◌, ℕ, ◌+◌, ◌-◌, ◌*◌, ◌/◌, ◌<◌, ◌≤◌, Bool, true, false, ◌&&◌, leb, ltb, List, [], ◌∷◌, refl, sym, ap, subst, ◌∙◌, arith, inl, inr, map}
 use Rattle.std.proofs.lemmas.Nat.{div-add-mod', div_below, le-div}
 use Rattle.std.proofs.Math.Nat.{mul-le-mul_right}
-use Rattle.std.proofs.Common.{lit<, mul_assoc}
-use Rattle.std.proofs.lemmas.Nat.{pow-add}
-use Rattle.std.proofs.Math.Nat.{one-le-pow, pow-le-pow_right}
+use Rattle.std.proofs.Math.Nat.{pow-le-pow_right, mod-eq_of_lt}
 use Rattle.std.specs.FinSet as set
 use Rattle.moc_sphere.specs.CellNumber.{cell_size, cell_size-positive, cell_size-fills}
 use Rattle.moc_ranges.specs.Numbers.{NumberSet}
 use Rattle.moc_ranges.specs.Operations.{meets-some, meets-none}
 use Rattle.moc_ranges.specs.Cells.{span, degrade, contains-span, contains-degrade}
-use Rattle.moc_ranges.proofs.Joining.{IsSortedFrom-less}
+use Rattle.moc_ranges.proofs.Joining.{Joining, joining_start, IsSortedFrom-less}
 use Rattle.std.proofs.lemmas.Bool.{cases_Bool, false≢true, false_from_ne_true, eqb-true, eq-eqb, or_cases, or_left, or_right, and_parts, and_from, leb-true, ltb-true, le-leb, lt-ltb}
-use Rattle.moc_ranges.specs.Pixels.{pixel_count, base_pixel_size}
+use Rattle.moc_ranges.specs.Pixels.{pixel_count}
 use Rattle.moc_ranges.specs.Sorted.{IsSortedFrom}
-use Rattle.moc_ranges.specs.Widen.{widen}
+use Rattle.moc_ranges.specs.Widen.{IsCellSize, widen}
+use Rattle.std.specs.Prelude.{bit_and}
+use Rattle.std.proofs.lemmas.Nat.{pow_pos, shr_below}
+use Rattle.std.proofs.lemmas.Nat.Bits.{and_high}
+use Rattle.moc_ranges.proofs.CellRuns.{two_pow}
 use Rattle.moc_ranges.specs.RangeList.{set_of, contains-set_of, in_range, in_ranges, IsNormal, BeginsAfter}
 
 floor_le : (w q : ℕ) → q / w * w ≤ q
@@ -146,3 +148,36 @@ degraded order rs a q le normal is =
           false≢true (sym none ∙ in_widened w rs p q some (sym (holds p) ∙ here) (eqb-true _ _ parts.1))))) in
           none ∙ sym (contains-degrade a order q ∙ ap (λ b. ltb q pixel_count && b) apart ∙ and_false (ltb q pixel_count))
     ]
+
+-- ---- the code's masks
+
+-- the bits above a cell's
+pub masked : (size n : ℕ) → IsCellSize size → n < 2 ^ 64 → bit_and n (18446744073709551615 - (size - 1)) ≡ n / size * size
+masked size n is lt =
+    let s = 2 * (29 - is.order) in
+    let pow : 2 ^ s ≡ size = two_pow is.order ∙ sym is.is in
+    let j = 64 - s in
+    let sum : j + s ≡ 64 = omega arith in
+    let some = pow_pos s in
+    let fits_in : 2 ^ s ≤ 2 ^ 64 = pow-le-pow_right {n = 2} (omega arith) {i = s} {j = 64} (omega arith) in
+    let mask : 18446744073709551615 - (size - 1) ≡ 2 ^ (j + s) - 2 ^ s = omega (arith, ap (λ e. 2 ^ e) sum) in
+    let high : n < 2 ^ (j + s) = omega (arith, ap (λ e. 2 ^ e) sum) in
+    ap (bit_and n) mask ∙ and_high n j s ∙ ap (λ m. m * 2 ^ s) (mod-eq_of_lt (shr_below n j s high)) ∙ ap (λ w. n / w * w) pow
+
+-- a pixel's cell ends within the pixels
+pub wide_room : (size p : ℕ) → IsCellSize size → p < pixel_count → p / size * size + size ≤ pixel_count
+wide_room size p is lt =
+    let order = is.order in
+    let size_is = is.is in
+    let some = cell_size-positive order in
+    let whole : 12 * 4 ^ order * size ≡ pixel_count = ap (λ w. 12 * 4 ^ order * w) size_is ∙ cell_size-fills order is.order_in_range in
+    let below = div_below p size (12 * 4 ^ order) (omega arith) (omega arith) in
+    let room : (p / size + 1) * size ≤ 12 * 4 ^ order * size = mul-le-mul_right size (omega arith) in
+    omega arith
+
+size_sorted : (size : ℕ) (rs : List (ℕ × ℕ)) → IsCellSize size → IsNormal rs → IsSortedFrom 0 (map (widen size) rs)
+size_sorted size rs is normal = subst (λ (w : ℕ). IsSortedFrom 0 (map (widen w) rs)) (sym is.is) (widened_sorted is.order rs is.order_in_range normal)
+
+-- the first widened range is open
+pub cells_start : (size : ℕ) (range : ℕ × ℕ) (rest rs : List (ℕ × ℕ)) → IsCellSize size → IsNormal rs → rs ≡ range ∷ rest → Joining [] (widen size range).0 (widen size range).1 (map (widen size) rest) (map (widen size) rs)
+cells_start size range rest rs is normal e = joining_start (widen size range) (map (widen size) rest) (map (widen size) rs) (ap (map (widen size)) e) (size_sorted size rs is normal)

@@ -1,6 +1,6 @@
--- What callers know of the cells of a set: they are cells, and their pixels are just the set's.
+-- What callers know of the cells of a set: they are cells, in rising NUNIQ, and their pixels are just the set's.
 use Rattle.std.proofs.Common.{◌≡◌, ℕ, zero, suc, ◌+◌, ◌-◌, ◌*◌, ◌/◌, ◌^◌, ◌<◌, ◌≤◌, Bool, true, false, cond, ◌||◌, List, [], ◌∷◌, ◌++◌, map, refl, sym, ap, subst, ◌∙◌, inl, inr, arith}
-use Rattle.std.specs.Prelude.{nat_le, nat_lt}
+use Rattle.std.specs.Prelude.{nat_le, nat_lt, ⊤}
 use Rattle.std.specs.FinSet as set
 use Rattle.std.specs.Cmp.{nat_cmp_total}
 use Rattle.std.specs.List.{AllByRecursion, filter, range_with_len}
@@ -10,7 +10,7 @@ use Rattle.std.proofs.lemmas.List.Elements.{filter-append}
 use Rattle.std.proofs.lemmas.List.Folds.{list_any-append}
 use Rattle.std.proofs.lemmas.Nat.{div_below, div-mul-add, div-add-mod', mod_below, mul-le}
 use Rattle.std.proofs.Math.Nat.{div-div-eq-div-mul, pow-succ'}
-use Rattle.moc_sphere.specs.CellNumber.{CellNumber, cell_number, cell_count, cell_size, cell_size-positive, cell_size-fills, IsCell}
+use Rattle.moc_sphere.specs.CellNumber.{CellNumber, cell_number, cell_count, cell_size, cell_size-positive, cell_size-fills, IsCell, uniq_of}
 use Rattle.moc_ranges.specs.Numbers.{NumberSet, same_members}
 use Rattle.moc_ranges.specs.Pixels.{pixel_count, pixels}
 use Rattle.moc_ranges.specs.Operations.{IsWithin, contains-pixels}
@@ -194,3 +194,85 @@ pub cells_fill : (a : NumberSet) → IsWithin a pixels → set_of (map cell_rang
 cells_fill a within = same_members _ a (λ q.
     contains-set_of (map cell_range (cells_of a)) q
     ∙ same_truth _ _ (inside_only a q) (λ has. has_cell a q (ltb-true q pixel_count (sym (contains-pixels q) ∙ within.each q has)) has))
+
+-- ---- the order of cells
+
+-- each cell's NUNIQ number is at least `low`
+abbrev pub AllUniqFrom : ℕ → List CellNumber → Type 0
+AllUniqFrom low [] = ⊤
+AllUniqFrom low (c ∷ cells) = (low ≤ uniq_of c) × AllUniqFrom low cells
+
+-- each cell has a greater NUNIQ number than those before it
+abbrev pub IsRisingUniq : List CellNumber → Type 0
+IsRisingUniq [] = ⊤
+IsRisingUniq (c ∷ cells) = AllUniqFrom (uniq_of c + 1) cells × IsRisingUniq cells
+
+abbrev AllUniqBelow : ℕ → List CellNumber → Type 0
+AllUniqBelow high [] = ⊤
+AllUniqBelow high (c ∷ cells) = (uniq_of c < high) × AllUniqBelow high cells
+
+AllUniqFrom-append : (low : ℕ) (xs ys : List CellNumber) → AllUniqFrom low xs → AllUniqFrom low ys → AllUniqFrom low (xs ++ ys)
+AllUniqFrom-append low [] ys all more = more
+AllUniqFrom-append low (x ∷ xs) ys all more = (all.0, AllUniqFrom-append low xs ys all.1 more)
+
+AllUniqFrom-less : (low lower : ℕ) (xs : List CellNumber) → lower ≤ low → AllUniqFrom low xs → AllUniqFrom lower xs
+AllUniqFrom-less low lower [] le all = tt
+AllUniqFrom-less low lower (x ∷ xs) le all = (omega arith, AllUniqFrom-less low lower xs le all.1)
+
+AllUniqFrom-filter : (low : ℕ) (p : CellNumber → Bool) (xs : List CellNumber) → AllUniqFrom low xs → AllUniqFrom low (filter p xs)
+AllUniqFrom-filter low p [] all = tt
+AllUniqFrom-filter low p (x ∷ xs) all =
+    let rest = AllUniqFrom-filter low p xs all.1 in
+    elim (p x) as (λ b. AllUniqFrom low (cond b (x ∷ filter p xs) (filter p xs))) [ true ↦ (all.0, rest) | false ↦ rest ]
+
+AllUniqBelow-append : (high : ℕ) (xs ys : List CellNumber) → AllUniqBelow high xs → AllUniqBelow high ys → AllUniqBelow high (xs ++ ys)
+AllUniqBelow-append high [] ys all more = more
+AllUniqBelow-append high (x ∷ xs) ys all more = (all.0, AllUniqBelow-append high xs ys all.1 more)
+
+AllUniqBelow-more : (high higher : ℕ) (xs : List CellNumber) → high ≤ higher → AllUniqBelow high xs → AllUniqBelow higher xs
+AllUniqBelow-more high higher [] le all = tt
+AllUniqBelow-more high higher (x ∷ xs) le all = (omega arith, AllUniqBelow-more high higher xs le all.1)
+
+IsRisingUniq-append : (middle : ℕ) (xs ys : List CellNumber) → IsRisingUniq xs → AllUniqBelow middle xs → IsRisingUniq ys → AllUniqFrom middle ys → IsRisingUniq (xs ++ ys)
+IsRisingUniq-append middle [] ys up below more from = more
+IsRisingUniq-append middle (x ∷ xs) ys up below more from =
+    (AllUniqFrom-append (uniq_of x + 1) xs ys up.0 (AllUniqFrom-less middle (uniq_of x + 1) ys (omega arith) from), IsRisingUniq-append middle xs ys up.1 below.1 more from)
+
+IsRisingUniq-filter : (p : CellNumber → Bool) (xs : List CellNumber) → IsRisingUniq xs → IsRisingUniq (filter p xs)
+IsRisingUniq-filter p [] up = tt
+IsRisingUniq-filter p (x ∷ xs) up =
+    let rest = IsRisingUniq-filter p xs up.1 in
+    elim (p x) as (λ b. IsRisingUniq (cond b (x ∷ filter p xs) (filter p xs))) [ true ↦ (AllUniqFrom-filter (uniq_of x + 1) p xs up.0, rest) | false ↦ rest ]
+
+order_from : (k low from n : ℕ) → low ≤ 4 ^ (k + 1) + from → AllUniqFrom low (map (cell_number k) (range_with_len from n))
+order_from k low from zero le = tt
+order_from k low from (suc n) le = (le, order_from k low (from + 1) n (omega arith))
+
+order_rising : (k from n : ℕ) → IsRisingUniq (map (cell_number k) (range_with_len from n))
+order_rising k from zero = tt
+order_rising k from (suc n) = (order_from k (4 ^ (k + 1) + from + 1) (from + 1) n (omega arith), order_rising k (from + 1) n)
+
+order_below : (k from n high : ℕ) → 4 ^ (k + 1) + (from + n) ≤ high → AllUniqBelow high (map (cell_number k) (range_with_len from n))
+order_below k from zero high le = tt
+order_below k from (suc n) high le = (omega arith, order_below k (from + 1) n high (omega arith))
+
+next_power : (k : ℕ) → 4 ^ (k + 1) ≡ 4 * 4 ^ k
+next_power k = let one : k + 1 ≡ suc k = omega arith in ap (λ e. 4 ^ e) one ∙ pow-succ' 4 k
+
+cells_below-rise : (orders : ℕ) → IsRisingUniq (cells_below orders) × AllUniqBelow (4 ^ (orders + 1)) (cells_below orders)
+unfolding cells_below
+cells_below-rise zero = (tt, tt)
+cells_below-rise (suc k) =
+    let before = cells_below-rise k in
+    let here = map (cell_number k) (range_with_len 0 (cell_count k)) in
+    let same : suc k ≡ k + 1 = omega arith in
+    let next : 4 ^ (suc k + 1) ≡ 4 * 4 ^ (k + 1) = next_power (suc k) ∙ ap (λ e. 4 * 4 ^ e) same in
+    let last = next_power k in (
+      IsRisingUniq-append (4 ^ (k + 1)) (cells_below k) here before.0 before.1 (order_rising k 0 (cell_count k)) (order_from k (4 ^ (k + 1)) 0 (cell_count k) (omega arith)),
+      AllUniqBelow-append (4 ^ (suc k + 1)) (cells_below k) here (AllUniqBelow-more (4 ^ (k + 1)) (4 ^ (suc k + 1)) (cells_below k) (omega arith) before.1) (order_below k 0 (cell_count k) (4 ^ (suc k + 1)) (omega arith)),
+    )
+
+-- the cells of a set are in rising NUNIQ
+pub cells_rise : (a : NumberSet) → IsRisingUniq (cells_of a)
+unfolding cells_of
+cells_rise a = IsRisingUniq-filter (is_cell_of a) (cells_below 30) (cells_below-rise 30).0

@@ -1,4 +1,4 @@
-// From ranges to cells: order after order, and within an order range after range.
+//! From ranges to cells: order after order, and within an order range after range.
 ghost use Rattle.std.specs.Prelude.{◌≡◌, ◌++◌, ◌<◌, ◌≤◌, [], ◌∷◌, OnOk};
 ghost use Rattle.moc_sphere.specs.CellNumber.{cell_count};
 ghost use Rattle.moc_ranges.specs.CellRuns.{AreWhole, HasOrders, cells_at, cells_between};
@@ -66,11 +66,15 @@ fn push_cells_of_range(
     requires within { to ≤ pixel_count }
     ensures { OnOk result (cells.new.items ≡ cells.old.items ++ cells_at (set_of ((from, to) ∷ [])) order) }
 {
+    let level = order.get();
     let (first, last) = whole_cells(order, from, to);
-    if order.get() == 0 {
+    if first >= last {
+        return Ok(());
+    }
+    if level == 0 {
         return push_row(cells, order, first, last);
     }
-    let (low, high) = whole_cells(Order::of(order.get() - 1), from, to);
+    let (low, high) = whole_cells(Order::of(level - 1), from, to);
     if low < high {
         push_row(cells, order, first, 4 * low)?;
         push_row(cells, order, 4 * high, last)

@@ -1,30 +1,33 @@
-// A set of pixels.
+//! Sets of pixels, and the operations on them.
 ghost use Rattle.std.specs.Prelude.{◌≡◌, ◌+◌, ◌<◌, ◌≤◌, ◌↔◌, IsTrue, IfOk, IfErr, OnOk, None, unwrap_or};
 ghost use Rattle.moc_ranges.specs.Faults.{first_fault};
 ghost use Rattle.std.specs.FinSet as set;
 ghost use Rattle.moc_ranges.specs.RangeList.{IsNormal, set_of};
 ghost use Rattle.moc_ranges.specs.Operations.{symmetric, complement, part_of, meets, IsWithin};
-ghost use Rattle.moc_ranges.specs.Pixels.{pixels};
+ghost use Rattle.moc_ranges.specs.Pixels.{pixel_count, pixels};
 ghost use Rattle.moc_ranges.specs.Cells.{cells_of, degrade, span};
 ghost use Rattle.moc_ranges.specs.Bounds.{IsBounds};
 ghost use Rattle.moc_ranges.specs.Sweep.{IsCombined};
 
 use crate::cells::{orders_with_cells, push_cells_of_order};
 use crate::errors::{Memory, RangesError};
-use crate::from_ranges::{check, joined, sorted, widened};
+use crate::from_ranges::{check, joined, joined_cells, sorted};
 use crate::ranges::Ranges;
-use crate::sweep::{Rule, count_both, keeps_some, sweep};
+use crate::sweep::{Rule, count_both, cut, keeps_some, sweep};
 use moc_sphere::{Cell, Order};
 use std::alloc::Global;
 use std::marker::Model;
 
-/// How many pixels there are: 12 * 4^29.
+/// How many pixels the sky has: 12 * 4^29, the cells of order 29 (MOC 2.0).
 pub const PIXEL_COUNT: u64 = 3458764513820540928;
 
 /// How many pixels a base pixel has: 4^29.
 const BASE_PIXEL_SIZE: u64 = 288230376151711744;
 
-/// A set of pixels, as the ends of its ranges in rising order: from, to, from, to ..
+/// A set of pixels of order 29, by their nested numbers: a coverage of MOC 2.0.
+///
+/// It holds the ends of its ranges in rising order, from, to, from, to .., 16 bytes a range. Every set has one such
+/// list, so equal sets are stored alike. Below, n and m are the numbers of ranges of the sets that a call takes.
 #[derive(Debug, Drop)]
 pub struct Coverage {
     bounds: Vec<u64>,
@@ -47,7 +50,7 @@ impl Model for Coverage {
 }
 
 impl Coverage {
-    /// The empty set.
+    /// The empty set. Takes no memory.
     pub fn empty(alloc: Global) -> Self
         ensures { result ≡ set.empty }
     {
@@ -56,21 +59,22 @@ impl Coverage {
         }
     }
 
-    /// Whether the set has this number.
+    /// Whether the set has the pixel of this number; it has none above the last pixel. O(log n).
     pub fn contains(&self, pixel: u64) -> bool
         ensures { result ≡ set.contains self.now pixel }
     {
         self.bounds.partition_point(|bound| *bound <= pixel) % 2 == 1
     }
 
-    /// Whether the set has no pixel.
+    /// Whether the set has no pixel. O(1).
     pub fn is_empty(&self) -> bool
         ensures { IsTrue result ↔ (self.now ≡ set.empty) }
     {
         self.bounds.is_empty()
     }
 
-    /// The ranges of the set, which no other normal list of ranges has.
+    /// The ranges of the set, rising, none empty, and none touching the next: the one normal list of this set. Takes no
+    /// memory.
     pub fn ranges(&self) -> Ranges<'_>
         ensures normal { IsNormal result }
         ensures set { set_of result ≡ self.now }
@@ -78,10 +82,10 @@ impl Coverage {
         Ranges::new(&self.bounds)
     }
 
-    /// How many pixels the set has.
+    /// How many pixels of order 29 the set has. O(n), takes no memory.
     pub fn count(&self) -> u64
         ensures size { result ≡ set.len self.now }
-        ensures bounded { result ≤ PIXEL_COUNT }
+        ensures bounded { result ≤ pixel_count }
     {
         let mut total = 0;
         for (from, to) in self.ranges() {
@@ -90,7 +94,11 @@ impl Coverage {
         total
     }
 
-    /// The pixels in any of the pairs (from, to), `to` not included, in any order.
+    /// The pixels in any of the pairs (from, to), `to` not included. They may come in any order, overlap or be empty.
+    ///
+    /// Refused with `Backwards` where `to < from`, and else with `PixelTooLarge` where `to` is above the pixel count, at
+    /// the first faulty pair; with `Memory` where no pair is faulty and memory runs out. O(n) where the pairs rise by
+    /// their starts, and else O(n log n).
     pub fn from_ranges(alloc: Global, pairs: &[(u64, u64)]) -> Result<Coverage, RangesError>
         ensures union { IfOk result (λ c. c ≡ set_of pairs.now) }
         ensures accepted { OnOk result (first_fault pairs.now ≡ None) }
@@ -102,35 +110,35 @@ impl Coverage {
         Ok(Coverage { bounds })
     }
 
-    /// The pixels of either set.
+    /// The pixels of either set. One pass, O(n + m); refused where memory runs out.
     pub fn union(&self, alloc: Global, other: &Coverage) -> Result<Coverage, Memory>
         ensures { IfOk result (λ c. c ≡ set.union self.now other.now) }
     {
         combined(alloc, Rule::UNION, &self.bounds, &other.bounds)
     }
 
-    /// The pixels of both sets.
+    /// The pixels that both sets have. One pass, O(n + m); refused where memory runs out.
     pub fn intersection(&self, alloc: Global, other: &Coverage) -> Result<Coverage, Memory>
         ensures { IfOk result (λ c. c ≡ set.intersection self.now other.now) }
     {
         combined(alloc, Rule::INTERSECTION, &self.bounds, &other.bounds)
     }
 
-    /// The pixels of this set that the other lacks.
+    /// The pixels of this set that the other lacks. One pass, O(n + m); refused where memory runs out.
     pub fn difference(&self, alloc: Global, other: &Coverage) -> Result<Coverage, Memory>
         ensures { IfOk result (λ c. c ≡ set.difference self.now other.now) }
     {
         combined(alloc, Rule::DIFFERENCE, &self.bounds, &other.bounds)
     }
 
-    /// The pixels of just one of the two sets.
+    /// The pixels that just one of the two sets has. One pass, O(n + m); refused where memory runs out.
     pub fn symmetric(&self, alloc: Global, other: &Coverage) -> Result<Coverage, Memory>
         ensures { IfOk result (λ c. c ≡ symmetric self.now other.now) }
     {
         combined(alloc, Rule::SYMMETRIC, &self.bounds, &other.bounds)
     }
 
-    /// The pixels that the set lacks.
+    /// The pixels of the sky that the set lacks. One pass, O(n); refused where memory runs out.
     pub fn complement(&self, alloc: Global) -> Result<Coverage, Memory>
         ensures set { IfOk result (λ c. c ≡ complement self.now) }
 
@@ -140,62 +148,63 @@ impl Coverage {
         combined(alloc, Rule::DIFFERENCE, &[0, PIXEL_COUNT], &self.bounds)
     }
 
-    /// The pixels of one base pixel.
+    /// The pixels of the set in one base pixel, 0 to 11: those p with `p / 4^29` equal to it. Above 11 it is the empty set.
+    ///
+    /// O(log n), and the copy of the ranges that it answers; refused where memory runs out.
     pub fn part(&self, alloc: Global, base_pixel: u8) -> Result<Coverage, Memory>
-        ensures { IfOk result (λ c. c ≡ part_of self.now base_pixel) }
+        ensures part { IfOk result (λ c. c ≡ part_of self.now base_pixel) }
+
+        // What lets a caller put a set together from its parts.
+        ensures within { IsWithin self.now pixels }
     {
         let bounds = &self.bounds;
         if base_pixel > 11 {
             return Ok(Coverage::empty(alloc));
         }
         let from = u64::from(base_pixel) * BASE_PIXEL_SIZE;
-        combined(
-            alloc,
-            Rule::INTERSECTION,
-            bounds,
-            &[from, from + BASE_PIXEL_SIZE],
-        )
-    }
-
-    /// The set as cells of an order see it: all of each cell that it meets.
-    pub fn degrade(&self, alloc: Global, order: Order) -> Result<Coverage, Memory>
-        ensures { IfOk result (λ c. c ≡ degrade self.now order) }
-    {
-        let size = order.cell_size();
-        let wide = widened(alloc, size, self.ranges())?;
-        let bounds = joined(alloc, &wide)?;
+        let bounds = cut(alloc, bounds, from, from + BASE_PIXEL_SIZE)?;
         Ok(Coverage { bounds })
     }
 
-    /// How many pixels two sets have in common.
+    /// The set as cells of an order see it: all pixels of each cell of that order that it meets (MOC 2.0: degradation).
+    ///
+    /// One pass, O(n); refused where memory runs out.
+    pub fn degrade(&self, alloc: Global, order: Order) -> Result<Coverage, Memory>
+        ensures { IfOk result (λ c. c ≡ degrade self.now order) }
+    {
+        let bounds = joined_cells(alloc, order.cell_size(), self.ranges())?;
+        Ok(Coverage { bounds })
+    }
+
+    /// How many pixels of order 29 two sets have in common. One pass, O(n + m), takes no memory.
     pub fn count_common(&self, other: &Coverage) -> u64
         ensures { result ≡ set.len (set.intersection self.now other.now) }
     {
         count_both(&self.bounds, &other.bounds)
     }
 
-    /// Whether two sets have a pixel in common.
+    /// Whether two sets have a pixel in common. One pass up to the first, takes no memory.
     pub fn meets(&self, other: &Coverage) -> bool
         ensures { result ≡ meets self.now other.now }
     {
         keeps_some(Rule::INTERSECTION, &self.bounds, &other.bounds)
     }
 
-    /// Whether every pixel of the other set is in this one.
+    /// Whether this set has every pixel of the other. One pass up to the first that it lacks, takes no memory.
     pub fn covers(&self, other: &Coverage) -> bool
         ensures { result ≡ set.is_subset other.now self.now }
     {
         !keeps_some(Rule::DIFFERENCE, &other.bounds, &self.bounds)
     }
 
-    /// Whether two sets are one.
+    /// Whether two sets have the same pixels. O(n), takes no memory.
     pub fn same(&self, other: &Coverage) -> bool
         ensures { IsTrue result ↔ (self.now ≡ other.now) }
     {
         self.bounds == other.bounds
     }
 
-    /// The set of all pixels.
+    /// The set of all pixels of the sky; refused where memory runs out.
     pub fn full(alloc: Global) -> Result<Coverage, Memory>
         ensures { IfOk result (λ c. c ≡ pixels) }
     {
@@ -203,7 +212,7 @@ impl Coverage {
         Ok(Coverage { bounds })
     }
 
-    /// The pixels of one cell.
+    /// The pixels of order 29 in one cell; refused where memory runs out.
     pub fn from_cell(alloc: Global, cell: Cell) -> Result<Coverage, Memory>
         ensures { IfOk result (λ c. c ≡ span cell.order cell.index) }
     {
@@ -212,7 +221,10 @@ impl Coverage {
         Ok(Coverage { bounds })
     }
 
-    /// The cells of the set, in rising NUNIQ: the fewest cells whose pixels the set has.
+    /// The cells of the set, in rising NUNIQ: those whose pixels the set has, while it lacks one of their parent's or they
+    /// are of order 0 (MOC 2.0: the normal form).
+    ///
+    /// One pass over the ranges for each order that can have cells; refused where memory runs out.
     pub fn cells(&self, alloc: Global) -> Result<Vec<Cell>, Memory>
         ensures { IfOk result (λ v. v.items ≡ cells_of self.now) }
     {
@@ -224,7 +236,7 @@ impl Coverage {
         Ok(cells)
     }
 
-    /// A copy of the set.
+    /// A copy of the set. O(n); refused where memory runs out.
     pub fn try_copy(&self, alloc: Global) -> Result<Coverage, Memory>
         ensures { IfOk result (λ c. c ≡ self.now) }
     {
@@ -234,6 +246,7 @@ impl Coverage {
 }
 
 /// What the rule keeps of two stored sets.
+#[inline]
 fn combined(alloc: Global, rule: Rule, xs: &[u64], ys: &[u64]) -> Result<Coverage, Memory>
     requires xs { IsBounds xs.now }
     requires ys { IsBounds ys.now }

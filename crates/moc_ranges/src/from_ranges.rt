@@ -1,10 +1,10 @@
-// From pairs in any order to the bounds of their union.
+//! From pairs in any order to the bounds of their union, and from ranges to the cells that they meet.
 ghost use Rattle.std.specs.Prelude.{◌≡◌, ℕ, ◌*◌, ◌<◌, ◌≤◌, map, IfOk, IfErr, OnOk, None, Some};
 ghost use Rattle.moc_ranges.specs.Faults.{first_fault};
 ghost use Rattle.moc_ranges.specs.Sorted.{IsSortedFrom};
 ghost use Rattle.moc_ranges.specs.RangeList.{in_ranges, IsNormal};
 ghost use Rattle.moc_ranges.specs.Pixels.{pixel_count};
-ghost use Rattle.moc_ranges.specs.Widen.{widen};
+ghost use Rattle.moc_ranges.specs.Widen.{IsCellSize, widen};
 ghost use Rattle.moc_ranges.specs.Bounds.{IsBounds, inside};
 
 use crate::coverage::PIXEL_COUNT;
@@ -28,19 +28,25 @@ pub fn check(pairs: &[(u64, u64)]) -> Result<(), RangesError>
     Ok(())
 }
 
-/// The pairs that are not empty, by their starts.
+/// The pairs that are not empty, by their starts. They are sorted only where they do not rise already.
 pub fn sorted(alloc: Global, pairs: &[(u64, u64)]) -> Result<Vec<(u64, u64)>, AllocError>
     requires { first_fault pairs.now ≡ None }
     ensures order { IfOk result (λ v. IsSortedFrom 0 v.items) }
     ensures set { IfOk result (λ v. (q : ℕ) → in_ranges v.items q ≡ in_ranges pairs.now q) }
 {
-    let mut filled = Vec::new(alloc);
+    let mut filled = Vec::with_capacity(alloc, pairs.len())?;
+    let mut rising = true;
+    let mut last = 0;
     for pair in pairs {
         if pair.0 < pair.1 {
+            rising = rising && last <= pair.0;
+            last = pair.0;
             filled.push(*pair)?;
         }
     }
-    filled.sort_unstable_by_key(|pair| pair.0);
+    if !rising {
+        filled.sort_unstable_by_key(|pair| pair.0);
+    }
     Ok(filled)
 }
 
@@ -50,7 +56,7 @@ pub fn joined(alloc: Global, pairs: &[(u64, u64)]) -> Result<Vec<u64>, AllocErro
     ensures bounds { IfOk result (λ v. IsBounds v.items) }
     ensures set { IfOk result (λ v. (q : ℕ) → inside v.items q ≡ in_ranges pairs.now q) }
 {
-    let mut bounds = Vec::new(alloc);
+    let mut bounds = Vec::with_capacity(alloc, 2 * pairs.len())?;
     let Some((first, others)) = pairs.split_first() else {
         return Ok(bounds);
     };
@@ -71,16 +77,46 @@ pub fn joined(alloc: Global, pairs: &[(u64, u64)]) -> Result<Vec<u64>, AllocErro
     Ok(bounds)
 }
 
-/// Each range, from the start of the first cell that it meets to the end of the last.
-pub fn widened(alloc: Global, size: u64, ranges: Ranges<'_>) -> Result<Vec<(u64, u64)>, AllocError>
-    requires size { 0 < size }
-    requires whole { (cells : ℕ) × (cells * size ≡ pixel_count) }
-    requires normal { IsNormal ranges }
-    ensures { IfOk result (λ v. v.items ≡ map (widen size) ranges.entry) }
+/// A range from the start of the first cell that it meets to the end of the last, where cells have this size.
+#[inline]
+fn widened(size: u64, from: u64, to: u64) -> (u64, u64)
+    requires size { IsCellSize size }
+    requires rising { from < to }
+    requires within { to ≤ pixel_count }
+    ensures { result ≡ widen size (from, to) }
 {
-    let mut wide = Vec::new(alloc);
-    for (from, to) in ranges {
-        wide.push((from / size * size, (to - 1) / size * size + size))?;
+    let mask = !(size - 1);
+    (from & mask, ((to - 1) & mask) + size)
+}
+
+/// The bounds of what lies in any of the ranges, each widened to whole cells of a size.
+pub fn joined_cells(
+    alloc: Global,
+    size: u64,
+    mut ranges: Ranges<'_>,
+) -> Result<Vec<u64>, AllocError>
+    requires size { IsCellSize size }
+    requires ranges { IsNormal ranges }
+    ensures bounds { IfOk result (λ v. IsBounds v.items) }
+    ensures set { IfOk result (λ v. (q : ℕ) → inside v.items q ≡ in_ranges (map (widen size) ranges.entry) q) }
+{
+    let mut bounds = Vec::new(alloc);
+    let Some((first, last)) = ranges.next() else {
+        return Ok(bounds);
+    };
+    let (mut from, mut to) = widened(size, first, last);
+    for (first, last) in ranges {
+        let wide = widened(size, first, last);
+        if wide.0 <= to {
+            to = to.max(wide.1);
+        } else {
+            bounds.push(from)?;
+            bounds.push(to)?;
+            from = wide.0;
+            to = wide.1;
+        }
     }
-    Ok(wide)
+    bounds.push(from)?;
+    bounds.push(to)?;
+    Ok(bounds)
 }

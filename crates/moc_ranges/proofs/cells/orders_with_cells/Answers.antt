@@ -1,6 +1,4 @@
-use Rattle.std.proofs.Common.{◌≡◌, ◌<◌, ◌*◌, ◌^◌, ◌-◌, min, subst, sym, List, ℕ, arith, ap, ◌∙◌, ◌∷◌, []}
-use Rattle.moc_ranges.specs.RangeList.{set_of}
-use Rattle.moc_ranges.specs.CellRuns.{HasOrders}
+use Rattle.std.proofs.Common.{subst, List, ℕ, arith, []}
 use Rattle.moc_ranges.proofs.CellOrders.{Scanning, scan_step, scan_end, scan_nothing}
 use Rattle.moc_ranges.proofs.cells.orders_with_cells.Goals as goal
 

@@ -1,4 +1,4 @@
-use Rattle.std.proofs.Common.{ap, ◌∙◌, sym, ◌^◌, ◌*◌, ◌-◌, refl, ◌≡◌}
+use Rattle.std.proofs.Common.{ap, ◌∙◌, ◌^◌, ◌*◌, ◌-◌, refl, ◌≡◌}
 use Rattle.moc_sphere.specs.CellNumber.{cell_size}
 use Rattle.moc_ranges.proofs.CellRuns.{two_pow, whole_is}
 use Rattle.moc_ranges.proofs.cells.whole_cells.Goals as goal

@@ -1,7 +1,5 @@
-use Rattle.std.proofs.Common.{◌≡◌, ◌++◌, ◌-◌, ap, sym, subst, ◌∙◌, arith, add-one}
-use Rattle.std.specs.List.{filter}
+use Rattle.std.proofs.Common.{◌++◌, ◌-◌, sym, subst, ◌∙◌, arith, add-one}
 use Rattle.moc_ranges.specs.Numbers.{NumberSet}
-use Rattle.moc_ranges.specs.Cells.{is_cell_of, cells_below}
 use Rattle.moc_ranges.specs.CellRuns.{HasOrders, cells_at}
 use Rattle.moc_ranges.proofs.CellOrders.{cells_step, cells_before, cells_after}
 use Rattle.moc_ranges.proofs.coverage.Coverage.cells.Goals as goal

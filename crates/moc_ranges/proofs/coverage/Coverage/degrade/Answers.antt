@@ -1,19 +1,17 @@
-use Rattle.std.proofs.Common.{ℕ, List, ap, sym, subst, ◌∙◌, map}
-use Rattle.moc_ranges.specs.Sorted.{IsSortedFrom}
+use Rattle.std.proofs.Common.{ℕ, ap, ◌∙◌, map}
 use Rattle.moc_ranges.specs.Widen.{widen}
 use Rattle.moc_ranges.specs.RangeList.{in_ranges}
 use Rattle.moc_ranges.proofs.Views.{view_from_members}
-use Rattle.moc_ranges.proofs.Widening.{widened_sorted, degraded}
+use Rattle.moc_ranges.proofs.Widening.{degraded}
 use Rattle.moc_ranges.proofs.coverage.Coverage.degrade.Goals as goal
 
-pub joined-requires : goal.joined-requires
-joined-requires c =
-    let wide = c.deref.ensures.value ∙ c.in_ok-wide.ensures ∙ ap (λ size. map (widen size) c.ranges-2.result) c.cell_size-size.ensures.size in
-    subst (λ (rs : List (ℕ × ℕ)). IsSortedFrom 0 rs) (sym wide) (widened_sorted c.args.order c.ranges-2.result c.cell_size-size.ensures.in_range c.ranges-2.ensures.normal)
+pub joined_cells-requires : goal.joined_cells-requires
+joined_cells-requires c = record {
+  size = record { order = c.args.order; order_in_range = c.cell_size.ensures.in_range; is = c.cell_size.ensures.size };
+  ranges = c.ranges-2.ensures.normal;
+}
 
 pub returns : goal.returns
-returns c =
-    let wide = c.deref.ensures.value ∙ c.in_ok-wide.ensures ∙ ap (λ size. map (widen size) c.ranges-2.result) c.cell_size-size.ensures.size in
-    view_from_members _ _ c.in_ok-bounds.ensures.bounds
-    (λ q. c.in_ok-bounds.ensures.set q ∙ ap (λ (rs : List (ℕ × ℕ)). in_ranges rs q) wide
-    ∙ degraded c.args.order c.ranges-2.result c.args.self.now q c.cell_size-size.ensures.in_range c.ranges-2.ensures.normal c.ranges-2.ensures.set)
+returns c = view_from_members _ _ c.in_ok-bounds.ensures.bounds
+    (λ q. c.in_ok-bounds.ensures.set q ∙ ap (λ (size : ℕ). in_ranges (map (widen size) c.ranges-2.result) q) c.cell_size.ensures.size
+    ∙ degraded c.args.order c.ranges-2.result c.args.self.now q c.cell_size.ensures.in_range c.ranges-2.ensures.normal c.ranges-2.ensures.set)

@@ -1,4 +1,4 @@
-use Rattle.std.proofs.Common.{◌≡◌, List, [], ◌∷◌, ℕ, ap, ◌∙◌}
+use Rattle.std.proofs.Common.{List, ℕ, ap, ◌∙◌}
 use Rattle.moc_ranges.specs.RangeList.{set_of}
 use Rattle.moc_ranges.specs.Bounds.{pairs_of}
 use Rattle.moc_ranges.proofs.Spans.{span_view}

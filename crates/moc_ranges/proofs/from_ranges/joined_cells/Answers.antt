@@ -1,0 +1,46 @@
+use Rattle.std.proofs.Common.{◌<◌, ℕ, List, [], ◌∷◌, ◌++◌, ap, sym, subst, ◌∙◌, map}
+use Rattle.moc_ranges.specs.RangeList.{IsNormal}
+use Rattle.moc_ranges.specs.Widen.{widen}
+use Rattle.moc_ranges.proofs.Joining.{Joining, joining_same, joining_parts, joined_bounds, joined_set}
+use Rattle.moc_ranges.proofs.Widening.{cells_start}
+use Rattle.moc_ranges.proofs.from_ranges.joined_cells.Goals as goal
+
+pub loop-first-init : goal.loop-first-init
+loop-first-init c =
+    let range : ℕ × ℕ = (c.in-Some.first, c.in-Some.last) in
+    let steps = c.in-Some.ensures.steps ∙ ap (λ (rest : List (ℕ × ℕ)). range ∷ rest) (sym c.into_iter-first-iterator.ensures.into_iter_gives) in
+    let normal = subst (λ (rs : List (ℕ × ℕ)). IsNormal rs) steps c.requires.ranges in
+    record {
+      continues = (tt, tt);
+      normal = normal.3;
+      joining = joining_same _ _ _ _ _ _ _ _ c.new-bounds.ensures.items (ap (λ (r : ℕ × ℕ). r.0) c.widened-from.ensures) (ap (λ (r : ℕ × ℕ). r.1) c.widened-from.ensures) (cells_start c.args.size range c.into_iter-first-iterator.result c.args.ranges c.requires.size c.requires.ranges steps);
+    }
+
+pub loop-first-preserved : goal.loop-first-preserved
+loop-first-preserved c =
+    let range : ℕ × ℕ = (c.in-Some-2.first, c.in-Some-2.last) in
+    let w = c.args.size in
+    let whole = map (widen w) c.args.ranges in
+    let bounds = c.loop-first.bounds.items in
+    let from = c.loop-first.from in
+    let to = c.loop-first.to in
+    let normal = subst (λ (rs : List (ℕ × ℕ)). IsNormal rs) c.in-Some-2.ensures.steps c.loop-first.invariant.normal in
+    let s = subst (λ (rs : List (ℕ × ℕ)). Joining bounds from to (map (widen w) rs) whole) c.in-Some-2.ensures.steps c.loop-first.invariant.joining in
+    let wide = c.widened-wide.ensures in
+    let items = c.in_ok-push-2.ensures.items ∙ ap (λ (l : List ℕ). l ++ to ∷ []) c.in_ok-push.ensures.items in
+    let past : to < (widen w range).0 = subst (λ (r : ℕ × ℕ). to < r.0) wide c.if-wide-to.false in
+    record {
+      continues = (tt, tt);
+      normal = normal.3;
+      joining = joining_same _ _ _ _ _ _ _ _ items (ap (λ (r : ℕ × ℕ). r.0) wide) (ap (λ (r : ℕ × ℕ). r.1) wide) (joining_parts bounds from to (widen w range) (map (widen w) c.next-in-loop-first.new.self) whole s past);
+    }
+
+pub returns-clause-bounds : goal.returns-clause-bounds
+returns-clause-bounds c =
+    let s = subst (λ (rest : List (ℕ × ℕ)). Joining c.loop-first.bounds.items c.loop-first.from c.loop-first.to (map (widen c.args.size) rest) (map (widen c.args.size) c.args.ranges)) c.in-None.ensures.steps.0 c.loop-first.invariant.joining in
+    rw (c.in_ok-push-4.ensures.items, c.in_ok-push-3.ensures.items) (joined_bounds _ _ _ _ s)
+
+pub returns-clause-set : goal.returns-clause-set
+returns-clause-set c = λ q.
+    let s = subst (λ (rest : List (ℕ × ℕ)). Joining c.loop-first.bounds.items c.loop-first.from c.loop-first.to (map (widen c.args.size) rest) (map (widen c.args.size) c.args.ranges)) c.in-None.ensures.steps.0 c.loop-first.invariant.joining in
+    rw (c.in_ok-push-4.ensures.items, c.in_ok-push-3.ensures.items) (joined_set _ _ _ _ s q)
