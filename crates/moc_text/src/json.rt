@@ -206,8 +206,12 @@ fn read_object(alloc: Global, text: &[u8]) -> Result<(Vec<(u64, u64)>, Option<Or
     Ok((spans, deepest))
 }
 
-/// Reads the JSON form (MOC 2.0): the set, and the deepest order that the text names. The faults are tested in
-/// the order of their list; names are taken in byte order, as `serde_json` keeps them.
+/// Reads the JSON form (MOC 2.0): the set, and the deepest order that is a name. Names are numbered from 0 in byte
+/// order, as `serde_json` keeps them, and so are the items of an array.
+///
+/// Refused with `NotJson` where `serde_json` reads no value, with `NotObject` where the value is none; then for the
+/// first faulty name: `BadOrder` where it is no number up to 29, `NotArray` for its value, and for the first faulty
+/// item `NotWhole` or `CellTooLarge`. `Memory` where memory was refused.
 pub fn read_json(alloc: Global, text: &[u8]) -> Result<(Coverage, Option<Order>), JsonError>
     // What is read is what the text says.
     ensures set { IfOk result (λ r. SaysJson text.now r.0 r.1) }

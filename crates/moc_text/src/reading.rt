@@ -120,7 +120,12 @@ fn read_words(alloc: Global, text: &[u8]) -> Result<Reading, TextError>
     Ok(reading)
 }
 
-/// Reads the ASCII form (MOC 2.0): the set, and the deepest order that the text names. One pass.
+/// Reads the ASCII form (MOC 2.0): the set, and the deepest order that the text names. One pass over the bytes.
+///
+/// Refused for the first faulty word, with a place counted in bytes from 0: `BadByte` or `Unfinished` where the
+/// word goes on or ends as no word does, `OrderTooLarge` for an order above 29, `NoOrder` for an item before any
+/// order, `CellTooLarge` for a number that the order in force lacks, `Backwards` for a range that ends before it
+/// begins. `Memory` where memory was refused.
 pub fn read_ascii(alloc: Global, text: &[u8]) -> Result<(Coverage, Option<Order>), TextError>
     // What is read is what the text says.
     ensures set { IfOk result (λ r. Says text.now r.0 r.1) }
