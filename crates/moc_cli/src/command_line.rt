@@ -24,6 +24,7 @@ The script is read from standard input, a command a line, on one coverage that s
   add MOC     adds the coverage, and answers how many pixels it added
   count MOC   answers how many pixels of the coverage are in the map
   read MOC    answers what the coverage and the map have in common
+  near K I    answers whether the map has a pixel of the cell I of order K or of a touching cell
 A bad line changes nothing and answers `fault` with the fault's name.";
 
 /// The words of the text forms.

@@ -9,3 +9,4 @@ pub mod Endings
 pub mod Batching
 pub mod Single
 pub mod Unordered
+pub mod NearLemmas

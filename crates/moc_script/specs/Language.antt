@@ -2,16 +2,17 @@
 use Rattle.std.specs.Prelude.{ℕ, ◌==◌, nat_lt, List, [], ◌∷◌, codes, Option, Some, None, Result, Ok, Err, if◌then◌else◌}
 use Rattle.std.specs.Option.{ok_or}
 use Rattle.std.specs.Str.{bytes_eq}
+use Rattle.moc_sphere.specs.CellNumber.{cell_count, cell_number}
 use Rattle.moc_ranges.specs.Numbers.{NumberSet}
 use Rattle.moc_text.specs.declared.error.TextError.{TextError}
 use Rattle.moc_text.specs.declared.error.TextError.TheVariants as text
 use Rattle.moc_text.specs.Reading.{reading_of}
-use Rattle.moc_script.specs.Words.{word_of, behind_word, number_of}
+use Rattle.moc_script.specs.Words.{is_blank, word_of, behind_word, number_of}
 use Rattle.moc_script.specs.declared.fault.Fault.{Fault}
-use Rattle.moc_script.specs.declared.fault.Fault.TheVariants.{UnknownWord, BadNumber, OrderTooLarge, CellTooLarge, BadByte, NoOrder, Backwards, Unfinished}
+use Rattle.moc_script.specs.declared.fault.Fault.TheVariants.{UnknownWord, WrongCount, BadNumber, OrderTooLarge, CellTooLarge, BadByte, NoOrder, Backwards, Unfinished}
 use Rattle.moc_script.specs.declared.command.Operand.{Operand}
 use Rattle.moc_script.specs.declared.command.Command.{Command}
-use Rattle.moc_script.specs.declared.command.Command.TheVariants.{Add, Count, Read}
+use Rattle.moc_script.specs.declared.command.Command.TheVariants.{Add, Count, Read, Near}
 
 infixl 10 ◌>>=◌
 -- what follows, or the fault that came first
@@ -74,12 +75,35 @@ command_named word =
     else (if bytes_eq word (codes "read") then Ok (λ operand. Read operand)
     else Err UnknownWord))
 
--- the command that a piece says, where operands are read so
-abbrev pub command_by : (List ℕ → Result Operand Fault) → List ℕ → Result Command Fault
-command_by operand piece = do
+-- a cell of an order
+abbrev pub near_at : ℕ → ℕ → Result Command Fault
+near_at order index =
+    if nat_lt 29 order then Err OrderTooLarge else (if nat_lt index (cell_count order) then Ok (Near (cell_number order index)) else Err CellTooLarge)
+
+-- the cell that two fields name, an order and a number
+abbrev pub near_by : List ℕ → List ℕ → Result Command Fault
+near_by order index = do
+  k ← ok_or (number_of order) BadNumber
+  i ← ok_or (number_of index) BadNumber
+  near_at k i
+
+-- what stands behind `near`: just two fields
+abbrev pub near_of : List ℕ → Result Command Fault
+near_of text =
+    let rest = behind_word text in
+    if is_blank rest then Err WrongCount
+    else (if is_blank (behind_word rest) then near_by (word_of text) (word_of rest) else Err WrongCount)
+
+-- the command of a word with an operand
+abbrev pub command_with : (List ℕ → Result Operand Fault) → List ℕ → Result Command Fault
+command_with operand piece = do
   command ← command_named (word_of piece)
   operand ← operand (behind_word piece)
   Ok (command operand)
+
+-- the command that a piece says, where operands are read so
+abbrev pub command_by : (List ℕ → Result Operand Fault) → List ℕ → Result Command Fault
+command_by operand piece = if bytes_eq (word_of piece) (codes "near") then near_of (behind_word piece) else command_with operand piece
 
 -- the command that a piece says
 abbrev pub command_of : List ℕ → Result Command Fault

@@ -1,12 +1,12 @@
 //! Commands, and the pieces of lines that say them.
-ghost use Rattle.std.specs.Prelude.{◌≡◌, IfOk, unwrap_or};
-ghost use Rattle.moc_script.specs.Language.{coverage_of, order_of, plain_operand_of, operand_of, command_of};
+ghost use Rattle.std.specs.Prelude.{◌≡◌, ◌≤◌, IfOk, SomeIff, unwrap_or};
+ghost use Rattle.moc_script.specs.Language.{coverage_of, order_of, plain_operand_of, operand_of, near_by, near_of, command_of};
 ghost use Rattle.moc_script.specs.Readings.{Reads};
 
 use crate::fault::{Fault, ReadError};
-use crate::words::{number_in, split_word};
+use crate::words::{is_blank_text, number_in, split_word};
 use moc_ranges::{Coverage, Memory};
-use moc_sphere::Order;
+use moc_sphere::{Cell, Order};
 use moc_text::read_ascii;
 use std::alloc::Global;
 
@@ -26,6 +26,8 @@ pub enum Command {
     Count(Operand),
     /// Reads the pixels that the operand and the set share.
     Read(Operand),
+    /// Asks whether the set has a pixel of the cell or of a touching cell.
+    Near(Cell),
 }
 
 impl Operand {
@@ -89,12 +91,55 @@ fn read_operand(alloc: Global, text: &[u8]) -> Result<Operand, ReadError>
     }
 }
 
+/// The cell that two fields name, an order and a number.
+fn read_cell(order: &[u8], index: &[u8]) -> Result<Command, ReadError>
+    ensures { Reads (λ command. command) result (near_by order.now index.now) }
+{
+    let Some(depth) = number_in(order) else {
+        return Err(ReadError::Fault(Fault::BadNumber));
+    };
+    let Some(index) = number_in(index) else {
+        return Err(ReadError::Fault(Fault::BadNumber));
+    };
+    let Some(order) = order_of_depth(depth) else {
+        return Err(ReadError::Fault(Fault::OrderTooLarge));
+    };
+    match Cell::new(order, index) {
+        Ok(cell) => Ok(Command::Near(cell)),
+        Err(_) => Err(ReadError::Fault(Fault::CellTooLarge)),
+    }
+}
+
+/// The order of this depth, or `None` above 29.
+fn order_of_depth(depth: u64) -> Option<Order>
+    ensures { SomeIff result (depth ≤ 29) depth }
+{
+    Order::new(u8::try_from(depth).ok()?)
+}
+
+/// What stands behind `near`: just two fields, an order and the number of a cell.
+fn read_near(text: &[u8]) -> Result<Command, ReadError>
+    ensures { Reads (λ command. command) result (near_of text.now) }
+{
+    let (order, rest) = split_word(text);
+    if is_blank_text(rest) {
+        return Err(ReadError::Fault(Fault::WrongCount));
+    }
+    let (index, behind) = split_word(rest);
+    if !is_blank_text(behind) {
+        return Err(ReadError::Fault(Fault::WrongCount));
+    }
+    read_cell(order, index)
+}
+
 /// The command that a piece of a line says.
 pub(crate) fn read_command(alloc: Global, piece: &[u8]) -> Result<Command, ReadError>
     ensures { Reads (λ command. command) result (command_of piece.now) }
 {
     let (word, text) = split_word(piece);
-    if word == b"add".as_slice() {
+    if word == b"near".as_slice() {
+        read_near(text)
+    } else if word == b"add".as_slice() {
         Ok(Command::Add(read_operand(alloc, text)?))
     } else if word == b"count".as_slice() {
         Ok(Command::Count(read_operand(alloc, text)?))

@@ -1,10 +1,14 @@
 //! A set of pixels that commands work on.
-ghost use Rattle.std.specs.Prelude.{◌≡◌, IfOk, OnOk, OnErr};
+ghost use Rattle.std.specs.Prelude.{◌≡◌, ◌∷◌, IfOk, OnOk, OnErr, map};
 ghost use Rattle.std.specs.FinSet as set;
 ghost use Rattle.moc_script.specs.Language.{command_of};
-ghost use Rattle.moc_script.specs.Replies.{operand_set, reply_on, set_after, text_on};
+ghost use Rattle.moc_script.specs.Replies.{operand_set, reply_on, set_after, surroundings, text_on};
 ghost use Rattle.moc_script.specs.Scripts.{answer_on, set_after_line};
-ghost use Rattle.moc_script.specs.declared.reply.Reply.TheVariants.{Changed, Total, Cover};
+ghost use Rattle.moc_script.specs.declared.reply.Reply.TheVariants.{Changed, Total, Cover, Surrounds};
+ghost use Rattle.moc_sphere.specs.CellNumber.{cell_number};
+ghost use Rattle.moc_sphere.specs.Touching.{touching_cells};
+ghost use Rattle.moc_ranges.specs.CellLaws.{cell_range};
+ghost use Rattle.moc_ranges.specs.Operations.{meets};
 
 use crate::command::{Command, Operand, read_command};
 use crate::fault::ReadError;
@@ -12,7 +16,8 @@ use crate::machine::{Machine, answer_batch};
 use crate::reply::Reply;
 use crate::responder::Responder;
 use moc_ranges::{Coverage, Memory};
-use std::alloc::Global;
+use moc_sphere::Cell;
+use std::alloc::{AllocError, Global};
 use std::marker::Model;
 
 /// One set of pixels, which one client asks and changes.
@@ -53,6 +58,7 @@ impl Map {
             Command::Add(operand) => self.add(alloc, operand),
             Command::Count(operand) => self.count(alloc, operand),
             Command::Read(operand) => self.read(alloc, operand),
+            Command::Near(cell) => self.near(alloc, *cell),
         }
     }
 
@@ -86,6 +92,40 @@ impl Map {
         let set = wide.as_ref().unwrap_or(&operand.set);
         Ok(Reply::Cover(set.intersection(alloc, &self.coverage)?))
     }
+}
+
+impl Map {
+    /// Whether the set has a pixel of the cell or of a touching cell.
+    fn near(&self, alloc: Global, cell: Cell) -> Result<Reply, Memory>
+        ensures { IfOk result (λ reply. reply ≡ Surrounds (meets self.now (surroundings cell))) }
+    {
+        let around = surroundings_of(alloc, cell)?;
+        Ok(Reply::Surrounds(self.coverage.meets(&around)))
+    }
+}
+
+/// The pixels of a cell and of the cells that touch it.
+fn surroundings_of(alloc: Global, cell: Cell) -> Result<Coverage, Memory>
+    ensures { IfOk result (λ c. c ≡ surroundings cell) }
+{
+    let ranges = ranges_around(alloc, cell)?;
+    match Coverage::from_ranges(alloc, &ranges) {
+        Ok(set) => Ok(set),
+        // The ranges of cells have no fault, so only memory can be wanting.
+        Err(_) => Err(Memory),
+    }
+}
+
+/// The ranges of a cell and of the cells that touch it.
+fn ranges_around(alloc: Global, cell: Cell) -> Result<Vec<(u64, u64)>, AllocError>
+    ensures { IfOk result (λ v. v.items ≡ map (λ index. cell_range (cell_number cell.order index)) (cell.index ∷ touching_cells cell.order cell.index)) }
+{
+    let mut ranges = Vec::new(alloc);
+    ranges.push(cell.span())?;
+    for index in cell.touching(alloc).as_slice() {
+        ranges.push(Cell::of(cell.order(), *index).span())?;
+    }
+    Ok(ranges)
 }
 
 impl Machine for Map {

@@ -1,6 +1,7 @@
 //! Replies, and their texts.
 ghost use Rattle.std.specs.Prelude.{◌≡◌, ◌++◌, decimal, OnOk};
 ghost use Rattle.moc_script.specs.Replies.{reply_text, cover_text};
+ghost use Rattle.moc_script.specs.declared.reply.Reply.TheVariants.{Surrounds};
 
 use itoa::Buffer;
 use moc_ranges::{Coverage, Memory};
@@ -16,6 +17,8 @@ pub enum Reply {
     Total(u64),
     /// The pixels that were read.
     Cover(Coverage),
+    /// Whether the set has a pixel in the surroundings of a cell.
+    Surrounds(bool),
 }
 
 impl Reply {
@@ -27,6 +30,7 @@ impl Reply {
             Reply::Changed(pixels) => push_count(b"changed ", *pixels, text),
             Reply::Total(pixels) => push_count(b"total ", *pixels, text),
             Reply::Cover(set) => push_cover(alloc, set, text),
+            Reply::Surrounds(near) => push_near(*near, text),
         }
     }
 }
@@ -54,5 +58,17 @@ fn push_cover(alloc: Global, set: &Coverage, text: &mut Vec<u8>) -> Result<(), M
     };
     text.extend_from_slice(b"cover ")?;
     text.extend_from_slice(shown.as_bytes())?;
+    Ok(())
+}
+
+/// Adds `near yes` or `near no`.
+fn push_near(near: bool, text: &mut Vec<u8>) -> Result<(), Memory>
+    ensures { OnOk result (text.new.items ≡ text.old.items ++ reply_text (Surrounds near)) }
+{
+    if near {
+        text.extend_from_slice(b"near yes")?;
+    } else {
+        text.extend_from_slice(b"near no")?;
+    }
     Ok(())
 }

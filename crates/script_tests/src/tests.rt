@@ -69,6 +69,17 @@ fn batches(rt: HostRuntime) {
 }
 
 #[test]
+fn near(rt: HostRuntime) {
+    let script =
+        b"add 1/35\nnear 1 0\nnear 1 1\nnear 1\nnear 1 1x\nnear 0 12\nnear 30 0\nnear @1 1 0\nnear 0 0 0\nnear\nnear 0 99999999999999999999999999999999";
+    let answers =
+        b"changed 72057594037927936\nnear yes\nnear no\nfault WrongCount\nfault BadNumber\nfault CellTooLarge\nfault OrderTooLarge\nfault WrongCount\nfault WrongCount\nfault WrongCount\nfault CellTooLarge\n";
+    let (result, text) = run_through(rt.alloc(), script, PLENTY, PLENTY, true);
+    assert_eq!(rt; result, Ok(()));
+    assert_eq!(rt; text.as_slice(), answers.as_slice());
+}
+
+#[test]
 fn no_input_and_no_last_line_feed(rt: HostRuntime) {
     let (result, text) = run_through(rt.alloc(), b"", PLENTY, PLENTY, true);
     assert_eq!(rt; result, Ok(()));
