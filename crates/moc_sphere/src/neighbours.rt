@@ -1,9 +1,11 @@
 //! The cells that touch a cell.
 ghost use Rattle.smallvec.specs.SmallVec.{small_vec_len};
+ghost use Rattle.moc_sphere.specs.Faces.{IsAt};
 ghost use Rattle.moc_sphere.specs.Touching.{Touches, touching_cells};
 ghost use Rattle.std.specs.List.Sorted.{IsStrictlyIncreasing};
-ghost use Rattle.std.specs.Prelude.{◌≡◌, ℕ, ◌≤◌, ◌↔◌, Contains};
+ghost use Rattle.std.specs.Prelude.{◌≡◌, ℕ, ◌+◌, ◌<◌, ◌≤◌, ◌^◌, ◌↔◌, Contains};
 
+use crate::bits::spread;
 use crate::cell::Cell;
 use crate::rising::insert_rising;
 use crate::sides::{Place, beside};
@@ -26,8 +28,53 @@ impl Cell {
         ensures few { small_vec_len result ≤ 8 }
         ensures inline { result.capacity ≡ 8 }
     {
-        let order = self.order();
         let (face, x, y) = self.face_xy();
+        let last = (self.order().side() - 1) as u32;
+        if 0 < x && x < last && 0 < y && y < last {
+            self.touching_in_face(face, x, y, alloc)
+        } else {
+            self.touching_across(face, x, y, alloc)
+        }
+    }
+
+    /// The cells that touch this one, which has its place off the border of the base pixel: all lie in that one.
+    fn touching_in_face(self, face: u8, x: u32, y: u32, alloc: Global) -> SmallVec<u64, 8>
+        requires face { face < 12 }
+        requires place { IsAt self face x y }
+        requires x_above { 0 < x }
+        requires x_below { x + 1 < 2 ^ self.order }
+        requires y_above { 0 < y }
+        requires y_below { y + 1 < 2 ^ self.order }
+        ensures rising { IsStrictlyIncreasing result.items }
+        ensures touch { (j : ℕ) → Contains result.items j ↔ Touches self.order self.index j }
+        ensures few { small_vec_len result ≤ 8 }
+        ensures inline { result.capacity ≡ 8 }
+    {
+        let first = u64::from(face) << (2 * self.order().get());
+        let right = [spread(x - 1), spread(x), spread(x + 1)];
+        let up = [spread(y - 1), spread(y), spread(y + 1)];
+        let mut cells = SmallVec::new(alloc);
+        for near in 0usize..9 {
+            if near != 4 {
+                let index = first + right[near / 3] + 2 * up[near % 3];
+                insert_rising(&mut cells, index);
+            }
+        }
+        cells
+    }
+
+    /// The cells that touch this one, which has this place, in whatever base pixels they lie.
+    fn touching_across(self, face: u8, x: u32, y: u32, alloc: Global) -> SmallVec<u64, 8>
+        requires face { face < 12 }
+        requires place { IsAt self face x y }
+        requires x { x < 2 ^ self.order }
+        requires y { y < 2 ^ self.order }
+        ensures rising { IsStrictlyIncreasing result.items }
+        ensures touch { (j : ℕ) → Contains result.items j ↔ Touches self.order self.index j }
+        ensures few { small_vec_len result ≤ 8 }
+        ensures inline { result.capacity ≡ 8 }
+    {
+        let order = self.order();
         let from = Place::new(u32::from(face), x, y);
         let side = order.side() as u32;
         let mut cells = SmallVec::new(alloc);

@@ -1,67 +1,27 @@
-use Rattle.std.proofs.Common.{◌≡◌, ◌*◌, ℕ, ◌<◌, ◌^◌, ◌+◌, ap, subst, arith, ◌∙◌}
+use Rattle.std.proofs.Common.{◌≡◌, ℕ, ◌<◌, subst}
 use Rattle.moc_sphere.specs.CellNumber.{cell_count}
-use Rattle.moc_sphere.specs.Faces.{face_of, x_of, y_of}
-use Rattle.moc_sphere.specs.declared.sides.Place.{Place}
-use Rattle.moc_sphere.proofs.Search.{Found, found_none, found_skip, found_some, at_step, not_at_step, touch_from_found}
+use Rattle.moc_sphere.specs.Faces.{face_of}
 use Rattle.moc_sphere.proofs.Touching.{Touches-sym}
 use Rattle.moc_sphere.proofs.Whole.{is_whole}
-use Rattle.moc_sphere.proofs.FaceBounds.{index_below, placed}
+use Rattle.moc_sphere.proofs.FaceBounds.{index_below}
 use Rattle.moc_sphere.proofs.cell.Cell.touching.Goals as goal
-use Rattle.moc_sphere.proofs.cell.Cell.touching.Goals.{then-step-ne4+in-Some, then-step-ne4+in_default, else-step-ne4}
 
--- the cell's number is one of its order
-in_range : (c : goal.After-loop-step) → c.args.self.index < cell_count c.args.self.order
-in_range c = index_below c.args.self.order c.args.self.index (subst (λ f. f < 12) c.face_xy-face.ensures.face c.face_xy-face.ensures.face_in_range)
+-- a cell's number is one of its order
+in_range : (k i f : ℕ) → f ≡ face_of k i → f < 12 → i < cell_count k
+in_range k i f e l = index_below k i (subst (λ f. f < 12) e l)
 
-all_found : (c : goal.After-loop-step) → Found c.args.self.order c.args.self.index 9 c.loop-step.cells.items
-all_found c =
-    let nine : c.loop-step.step ≡ 9 = omega arith in
-    subst (λ t. Found c.args.self.order c.args.self.index t c.loop-step.cells.items) nine c.loop-step.invariant.found
+pub returns-then-y-last-clause-whole : goal.returns-then-y-last-clause-whole
+returns-then-y-last-clause-whole c =
+    let found = c.touching_in_face.ensures in
+    is_whole c.args.self.order c.args.self.index c.touching_in_face.result.items (in_range _ _ c.face_xy-face.result.0 c.face_xy-face.ensures.face c.face_xy-face.ensures.face_in_range) found.rising found.touch
 
-pub returns-clause-touch : goal.returns-clause-touch
-returns-clause-touch c =
-    touch_from_found c.args.self.order c.args.self.index c.loop-step.cells.items (in_range c) (all_found c)
+pub returns-then-y-last-clause-back : goal.returns-then-y-last-clause-back
+returns-then-y-last-clause-back c = λ j h. Touches-sym _ _ j ((c.touching_in_face.ensures.touch j).0 h)
 
-pub returns-clause-whole : goal.returns-clause-whole
-returns-clause-whole c =
-    let k = c.args.self.order in
-    let i = c.args.self.index in
-    let f = all_found c in
-    is_whole k i c.loop-step.cells.items (in_range c) f.rising (touch_from_found k i c.loop-step.cells.items (in_range c) f)
+pub returns-else-x-gt0-clause-whole : goal.returns-else-x-gt0-clause-whole
+returns-else-x-gt0-clause-whole c =
+    let found = c.touching_across.ensures in
+    is_whole c.args.self.order c.args.self.index c.touching_across.result.items (in_range _ _ c.face_xy-face.result.0 c.face_xy-face.ensures.face c.face_xy-face.ensures.face_in_range) found.rising found.touch
 
-pub returns-clause-back : goal.returns-clause-back
-returns-clause-back c = λ j h.
-    Touches-sym _ _ j ((touch_from_found c.args.self.order c.args.self.index c.loop-step.cells.items (in_range c) (all_found c) j).0 h)
-
-pub loop-step-preserved : goal.loop-step-preserved
-loop-step-preserved c =
-    let k = c.args.self.order in
-    let i = c.args.self.index in
-    let d = c.loop-step.step in
-    let p = c.new-from.result in
-    let face : p.face ≡ face_of k i = ap (λ (q : Place). q.face) c.new-from.ensures ∙ c.from.ensures ∙ c.face_xy-face.ensures.face in
-    let x : p.x ≡ x_of k i = ap (λ (q : Place). q.x) c.new-from.ensures ∙ c.face_xy-face.ensures.x in
-    let y : p.y ≡ y_of k i = ap (λ (q : Place). q.y) c.new-from.ensures ∙ c.face_xy-face.ensures.y in
-    let n : c.side-side.result ≡ 2 ^ k = c.side-side.ensures.value ∙ ap (λ o. 2 ^ o) c.order-order.ensures in
-    let f = c.loop-step.invariant.found in
-    elim c.if-step-ne4.branch [
-      | then-step-ne4+in-Some w ↦
-          let s = placed k w.index.result _ _ _ c.order-order.result w.at_place.result w.at_place.ensures.order c.order-order.ensures w.index.ensures.value w.at_place.ensures.place w.index.ensures.in_range in
-          rw w.cells-is (record {
-            room = w.insert_rising.ensures.capacity ∙ c.loop-step.invariant.room;
-            found = found_some k i d c.loop-step.cells.items f w.index.result w.insert_rising.new.list.items w.if-step-ne4.true
-                (at_step k i d _ p.face p.x p.y _ _ _ w.index.result n face x y w.in-Some.ensures s.0 s.1 s.2 s.3)
-                w.insert_rising.ensures.rising w.insert_rising.ensures.len w.insert_rising.ensures.has;
-          })
-      | then-step-ne4+in_default w ↦
-          rw w.cells-is (record {
-            room = c.loop-step.invariant.room;
-            found = found_none k i d c.loop-step.cells.items f w.if-step-ne4.true
-                (not_at_step k i d _ p.face p.x p.y n face x y w.in_default.ensures);
-          })
-      | else-step-ne4 w ↦
-          rw w.cells-is (record {
-            room = c.loop-step.invariant.room;
-            found = found_skip k i d c.loop-step.cells.items f w.if-step-ne4.false;
-          })
-    ]
+pub returns-else-x-gt0-clause-back : goal.returns-else-x-gt0-clause-back
+returns-else-x-gt0-clause-back c = λ j h. Touches-sym _ _ j ((c.touching_across.ensures.touch j).0 h)
