@@ -25,7 +25,12 @@ The script is read from standard input, a command a line, on one coverage that s
   count MOC   answers how many pixels of the coverage are in the map
   read MOC    answers what the coverage and the map have in common
   near K I    answers whether the map has a pixel of the cell I of order K or of a touching cell
-A bad line changes nothing and answers `fault` with the fault's name.";
+A bad line changes nothing and answers `fault` with the fault's name. Commands parted by `;` are answered on one line.
+
+Example:
+  add 3/10 12-15 4/2 ; count 0/0
+answers
+  changed 23643898043695104 ; total 23643898043695104";
 
 /// The words of the text forms.
 static FORMS: [&str; 3] = ["ascii", "json", "uniq"];

@@ -1,15 +1,19 @@
 //! Coverages from one text form to another.
+ghost use Rattle.std.specs.Prelude.{◌≡◌, ◌<◌, IfOk, length};
+ghost use Rattle.std.specs.String.{string_bytes};
+ghost use Rattle.moc_cli.specs.Conversion.{BringsPiece, ConvertsAll, FormSays, IsWhole, form_text};
+
 use crate::status::Fault;
 use moc_ranges::Coverage;
 use moc_script::Source;
 use moc_sphere::Order;
 use moc_text::{read_ascii, read_json, read_uniq, write_ascii, write_json, write_uniq};
-use std::alloc::Global;
+use std::alloc::{AllocError, Global};
 
 /// The most bytes of an input.
 pub const INPUT_LIMIT: usize = 16_777_216;
 
-/// How many bytes are read at a time, at the least.
+/// How many bytes are read at a time.
 const PIECE: usize = 65_536;
 
 /// A text form.
@@ -35,7 +39,9 @@ impl Form {
     }
 
     /// Reads a text: the set, and the deepest order that the text names, where the form names orders.
-    fn read(self, alloc: Global, text: &[u8]) -> Result<(Coverage, Option<Order>), Fault> {
+    fn read(self, alloc: Global, text: &[u8]) -> Result<(Coverage, Option<Order>), Fault>
+        ensures { IfOk result (λ r. FormSays self text.now r.0 r.1) }
+    {
         Ok(match self {
             Form::Ascii => read_ascii(alloc, text)?,
             Form::Json => read_json(alloc, text)?,
@@ -44,7 +50,9 @@ impl Form {
     }
 
     /// The text of a set with a stated order, ended by a line feed.
-    fn write(self, alloc: Global, set: &Coverage, stated: Option<Order>) -> Result<String, Fault> {
+    fn write(self, alloc: Global, set: &Coverage, stated: Option<Order>) -> Result<String, Fault>
+        ensures { IfOk result (λ t. string_bytes t ≡ form_text self set.now stated) }
+    {
         let mut text = match self {
             Form::Ascii => write_ascii(alloc, set, stated)?,
             Form::Json => write_json(alloc, set, stated)?,
@@ -56,20 +64,35 @@ impl Form {
     }
 }
 
-/// All bytes of an input of at most 16,777,216 bytes; `TooLong` for a longer one. Read in large pieces, into one buffer.
-pub fn read_whole<R: Source>(alloc: Global, input: &mut R) -> Result<Vec<u8>, Fault> {
-    let mut bytes = Vec::new(alloc);
-    let mut len = 0;
-    while len <= INPUT_LIMIT {
-        if bytes.len() - len < PIECE {
-            bytes.resize(2 * bytes.len() + PIECE, 0)?;
+/// Room for one piece.
+fn room(alloc: Global) -> Result<Vec<u8>, AllocError>
+    ensures { IfOk result (λ v. 0 < length v.items) }
+{
+    vec![in alloc; 0u8; PIECE]
+}
+
+/// Reads one more piece behind the text, and answers whether there was one.
+fn read_piece<R: Source>(input: &mut R, room: &mut [u8], text: &mut Vec<u8>) -> Result<bool, Fault>
+    requires { 0 < length room.old }
+    ensures { IfOk result (λ some. BringsPiece (R.left input.old) text.old.items (R.left input.new) text.new.items some) }
+{
+    let Ok(count) = input.read(room) else {
+        return Err(Fault::Read);
+    };
+    text.extend_from_slice(&room[..count])?;
+    Ok(count > 0)
+}
+
+/// All bytes of an input of at most 16,777,216 bytes; `TooLong` for a longer one. Read in large pieces into one buffer.
+fn read_whole<R: Source>(alloc: Global, input: &mut R) -> Result<Vec<u8>, Fault>
+    ensures { IfOk result (λ v. IsWhole (R.left input.old) (R.left input.new) v.items) }
+{
+    let mut room = room(alloc)?;
+    let mut text = Vec::new(alloc);
+    while text.len() <= INPUT_LIMIT {
+        if !read_piece(input, &mut room, &mut text)? {
+            return Ok(text);
         }
-        let count = input.read(&mut bytes[len..]).map_err(|_| Fault::Read)?;
-        if count == 0 {
-            bytes.truncate(len);
-            return Ok(bytes);
-        }
-        len += count;
     }
     Err(Fault::TooLong)
 }
@@ -80,7 +103,9 @@ pub fn converted<R: Source>(
     from: Form,
     to: Form,
     input: &mut R,
-) -> Result<String, Fault> {
+) -> Result<String, Fault>
+    ensures { IfOk result (λ t. ConvertsAll from to (R.left input.old) (R.left input.new) (string_bytes t)) }
+{
     let text = read_whole(alloc, input)?;
     let (set, deepest) = from.read(alloc, &text)?;
     to.write(alloc, &set, deepest)

@@ -1,8 +1,12 @@
-use Rattle.std.proofs.Common.{◌+◌, ◌-◌, ◌*◌, ◌≤◌, length}
+use Rattle.std.proofs.Common.{◌+◌, ◌-◌, ◌<◌, length}
+use Rattle.std.specs.Io.KnownBytes.{Consumes}
 use Rattle.moc_cli.proofs.conversion.read_whole.Given as goal
 
-abbrev pub invariant-loop-len : goal.invariant-loop-len
-invariant-loop-len g l = record { within : l.len ≤ length l.bytes.items; small : length l.bytes.items ≤ 2 * (16777216 + 65536) + 65536 }
+abbrev pub invariant-loop-input : goal.invariant-loop-input
+invariant-loop-input g l = record {
+  room : 0 < length l.room.items;
+  consumed : Consumes (g.R.Source.left l.fn.input) (g.R.Source.left l.input) l.text.items;
+}
 
-abbrev pub decreases-loop-len : goal.decreases-loop-len
-decreases-loop-len g l = 16777216 + 1 - l.len
+abbrev pub decreases-loop-input : goal.decreases-loop-input
+decreases-loop-input g l = 16777216 + 1 - length l.text.items
