@@ -25,7 +25,7 @@ unfoldable pub cells_below : ℕ → List CellNumber
 cells_below zero = []
 cells_below (suc k) = cells_below k ++ map (cell_number k) (range_with_len 0 (cell_count k))
 
--- the cells of a set, in rising NUNIQ (MOC 2.0, section 4.1: the normal form)
+-- the cells of a set, in rising NUNIQ (MOC 2.0: the normal form)
 unfoldable pub cells_of : NumberSet → List CellNumber
 cells_of a = filter (is_cell_of a) (cells_below 30)
 

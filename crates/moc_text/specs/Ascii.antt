@@ -1,4 +1,4 @@
--- Reading the ASCII form of a coverage (MOC 2.0, section 4.3.2): what a text says, or its first fault.
+-- Reading the ASCII form of a coverage (MOC 2.0): what a text says, or its first fault.
 use Rattle.std.specs.Prelude.{◌≡◌, ℕ, ◌+◌, ◌*◌, ◌<◌, ◌≤◌, Bool, true, false, not, ◌||◌, ◌==◌, nat_lt, if◌then◌else◌, List, [], ◌∷◌, ◌++◌, length, Option, Some, None, unwrap_or, ◌⊎◌, max}
 use Rattle.std.specs.List.{take_while}
 use Rattle.std.specs.Str.{all_ascii_digits}

@@ -1,4 +1,4 @@
--- Reading the JSON form of a coverage (MOC 2.0, section 4.3.3): the names of an object are orders, and their arrays are cells.
+-- Reading the JSON form of a coverage (MOC 2.0): the names of an object are orders, and their arrays are cells.
 use Rattle.std.specs.Prelude.{◌≡◌, ℕ, ◌+◌, ◌*◌, ◌&&◌, ◌==◌, not, nat_lt, if◌then◌else◌, List, [], ◌∷◌, ◌++◌, length, Option, Some, None, option_and_then, Result, Ok, Err, IsUtf8, ◌⊎◌}
 use Rattle.moc_sphere.specs.CellNumber.{cell_count, cell_size}
 use Rattle.moc_ranges.specs.Numbers.{NumberSet}
