@@ -1,5 +1,5 @@
 //! Sets of pixels, and the operations on them.
-ghost use Rattle.std.specs.Prelude.{◌≡◌, ◌+◌, ◌<◌, ◌≤◌, ◌↔◌, IsTrue, IfOk, IfErr, OnOk, None, unwrap_or};
+ghost use Rattle.std.specs.Prelude.{◌≡◌, ◌+◌, ◌<◌, ◌≤◌, ◌↔◌, nat_lt, IsTrue, IfOk, IfErr, OnOk, None, unwrap_or};
 ghost use Rattle.moc_ranges.specs.Faults.{first_fault};
 ghost use Rattle.std.specs.FinSet as set;
 ghost use Rattle.moc_ranges.specs.RangeList.{IsNormal, set_of};
@@ -164,6 +164,26 @@ impl Coverage {
         let from = u64::from(base_pixel) * BASE_PIXEL_SIZE;
         let bounds = cut(alloc, bounds, from, from + BASE_PIXEL_SIZE)?;
         Ok(Coverage { bounds })
+    }
+
+    /// Every coverage lies in the sky: what lets a caller use the laws of sets of pixels. Does nothing.
+    pub fn lies_in_sky(&self)
+        ensures { IsWithin self.now pixels }
+    {
+        let _bounds = &self.bounds;
+    }
+
+    /// Whether the set has a pixel in this base pixel, 0 to 11. Takes no memory.
+    pub fn meets_base_pixel(&self, base_pixel: u8) -> bool
+        requires { base_pixel < 12 }
+        ensures { result ≡ nat_lt 0 (set.len (part_of self.now base_pixel)) }
+    {
+        let first = u64::from(base_pixel) * BASE_PIXEL_SIZE;
+        keeps_some(
+            Rule::INTERSECTION,
+            &self.bounds,
+            &[first, first + BASE_PIXEL_SIZE],
+        )
     }
 
     /// The set as cells of an order see it: all pixels of each cell of that order that it meets (MOC 2.0: degradation).

@@ -1,0 +1,100 @@
+-- A batch is local.
+use Rattle.std.proofs.Common.{◌≡◌, ℕ, ◌/◌, ◌<◌, get_or, None, Some, Bool, true, false, inl, inr, List, [], ◌∷◌, refl, sym, ap, subst, ◌∙◌}
+use Rattle.moc_parts.specs.Prepared.{AreRepliesTo, IsPrepared, Preparation, kept}
+use Rattle.std.specs.FinSet as set
+use Rattle.std.proofs.lemmas.Bool.{cases_Bool}
+use Rattle.moc_ranges.specs.Numbers.{NumberSet, same_members}
+use Rattle.moc_ranges.specs.Pixels.{pixels, base_pixel_size}
+use Rattle.moc_ranges.specs.Operations.{IsWithin, part_of}
+use Rattle.moc_parts.specs.Objects.{IsLocal, AgreeOn, base_pixel}
+use Rattle.moc_parts.specs.declared.command.Command.{Command}
+use Rattle.moc_parts.specs.declared.reply.Reply.{Reply}
+use Rattle.moc_parts.specs.Commands.{commands, footprint, set_after, reply_on}
+use Rattle.moc_parts.specs.Batches.{batches, footprint_of_all, set_after_all, replies_on, AreCommands}
+use Rattle.moc_parts.proofs.Members.{or_left, or_right, clash, not_true_false, same_test, in_part, of_part}
+use Rattle.moc_parts.proofs.Locality.{command_local}
+
+-- after one command two sets agree where they did
+agree_after : (c : Command) (cs : List Command) (a b : NumberSet) → IsLocal commands c → IsWithin a pixels → IsWithin b pixels
+    → AgreeOn (footprint_of_all (c ∷ cs)) a b → AgreeOn (footprint_of_all (c ∷ cs)) (set_after a c) (set_after b c)
+agree_after c cs a b local v w same p f = elim (cases_Bool (footprint c (base_pixel p))) [
+  | inl t ↦ local.inside a b v w (λ q g. same q (or_left _ _ g)) p t
+  | inr t ↦ local.outside a v p t ∙ same p f ∙ sym (local.outside b w p t)
+]
+
+replies_alike : (cs : List Command) (a b : NumberSet) → AreCommands cs → IsWithin a pixels → IsWithin b pixels → AgreeOn (footprint_of_all cs) a b → replies_on a cs ≡ replies_on b cs
+replies_alike [] a b each v w same = refl
+replies_alike (c ∷ cs) a b each v w same =
+    let local : IsLocal commands c = command_local c each.0 in
+    ap (λ y. y ∷ replies_on (set_after a c) cs) (local.reply a b v w (λ p f. same p (or_left _ _ f)))
+    ∙ ap (λ ys. reply_on b c ∷ ys) (replies_alike cs (set_after a c) (set_after b c) each.1 (local.stays a v) (local.stays b w)
+    (λ p f. agree_after c cs a b local v w same p (or_right _ _ f)))
+
+sets_alike : (cs : List Command) (a b : NumberSet) → AreCommands cs → IsWithin a pixels → IsWithin b pixels → (p : ℕ) → set.contains a p ≡ set.contains b p
+    → AgreeOn (footprint_of_all cs) a b → set.contains (set_after_all a cs) p ≡ set.contains (set_after_all b cs) p
+sets_alike [] a b each v w p here same = here
+sets_alike (c ∷ cs) a b each v w p here same =
+    let local : IsLocal commands c = command_local c each.0 in
+    sets_alike cs (set_after a c) (set_after b c) each.1 (local.stays a v) (local.stays b w) p
+    (elim (cases_Bool (footprint c (base_pixel p))) [
+      | inl t ↦ local.inside a b v w (λ q g. same q (or_left _ _ g)) p t
+      | inr t ↦ local.outside a v p t ∙ here ∙ sym (local.outside b w p t)
+    ])
+    (λ q f. agree_after c cs a b local v w same q (or_right _ _ f))
+
+untouched : (cs : List Command) (a : NumberSet) → AreCommands cs → IsWithin a pixels → (p : ℕ) → footprint_of_all cs (base_pixel p) ≡ false → set.contains (set_after_all a cs) p ≡ set.contains a p
+untouched [] a each v p f = refl
+untouched (c ∷ cs) a each v p f =
+    let local : IsLocal commands c = command_local c each.0 in
+    untouched cs (set_after a c) each.1 (local.stays a v) p (not_true_false _ (λ t. clash _ (or_right (footprint c (base_pixel p)) _ t) f))
+    ∙ local.outside a v p (not_true_false _ (λ t. clash _ (or_left _ (footprint_of_all cs (base_pixel p)) t) f))
+
+stays_within : (cs : List Command) (a : NumberSet) → AreCommands cs → IsWithin a pixels → IsWithin (set_after_all a cs) pixels
+stays_within [] a each v = v
+stays_within (c ∷ cs) a each v = let local : IsLocal commands c = command_local c each.0 in stays_within cs (set_after a c) each.1 (local.stays a v)
+
+pub batch_local : (c : Command) (cs : List Command) → AreCommands (c ∷ cs) → IsLocal batches (c ∷ cs)
+batch_local c cs each =
+    let local : IsLocal commands c = command_local c each.0 in
+    record {
+      some = (local.some.0, local.some.1, or_left _ _ local.some.2);
+      reply = λ a b v w same. replies_alike (c ∷ cs) a b each v w same;
+      inside = λ a b v w same p f. sets_alike (c ∷ cs) a b each v w p (same p f) same;
+      outside = λ a v p f. untouched (c ∷ cs) a each v p f;
+      stays = λ a v. stays_within (c ∷ cs) a each v;
+    }
+
+-- what was found in the footprint tells the replies
+pub found_replies : (cs : List Command) (a b : NumberSet) → AreCommands cs → IsWithin a pixels → IsWithin b pixels → AgreeOn (footprint_of_all cs) a b → replies_on a cs ≡ replies_on b cs
+found_replies = replies_alike
+
+-- and the new parts of the footprint
+pub found_parts : (cs : List Command) (a b : NumberSet) → AreCommands cs → IsWithin a pixels → IsWithin b pixels → AgreeOn (footprint_of_all cs) a b
+    → (n : ℕ) → footprint_of_all cs n ≡ true → part_of (set_after_all a cs) n ≡ part_of (set_after_all b cs) n
+unfolding base_pixel
+found_parts cs a b each v w same n f = same_members _ _ (λ p. same_test _ _
+    (λ h. let k = of_part (set_after_all a cs) n p h in in_part (set_after_all b cs) n p (sym (alike p k.1) ∙ k.0) k.1)
+    (λ h. let k = of_part (set_after_all b cs) n p h in in_part (set_after_all a cs) n p (alike p k.1 ∙ k.0) k.1))
+  where
+    alike : (p : ℕ) → p / base_pixel_size ≡ n → set.contains (set_after_all a cs) p ≡ set.contains (set_after_all b cs) p
+    alike p e = let g : footprint_of_all cs (base_pixel p) ≡ true = ap (footprint_of_all cs) e ∙ f in sets_alike cs a b each v w p (same p g) same
+
+kept_alike : (t : Bool) (a b : NumberSet) (n : ℕ) → (t ≡ true → part_of a n ≡ part_of b n) → kept t a n ≡ kept t b n
+kept_alike true a b n h = ap Some (h refl)
+kept_alike false a b n h = refl
+
+-- the replies to what was found are those to every set that agrees with it
+pub replied : (cs : List Command) (found made : NumberSet) (replies : List Reply) → AreCommands cs → IsWithin made pixels → made ≡ found → replies ≡ replies_on made cs → AreRepliesTo cs found replies
+replied cs found made replies each w e r a v same =
+    r ∙ ap (λ t. replies_on t cs) e ∙ found_replies cs found a each (subst (λ t. IsWithin t pixels) e w) v same
+
+-- the answer on what was found is what is to be prepared
+pub prepared : (cs : List Command) (found made after : NumberSet) (p : Preparation) → AreCommands cs → IsWithin made pixels → made ≡ found
+    → after ≡ set_after_all made cs → p.replies ≡ replies_on made cs → ((b : ℕ) → b < 12 → get_or p.lists b None ≡ kept (footprint_of_all cs b) after b) → IsPrepared cs found p
+prepared cs found made after p each w e s r l =
+    let wf : IsWithin found pixels = subst (λ t. IsWithin t pixels) e w in
+    record {
+      replied = replied cs found made p.replies each w e r;
+      parts = λ a v same b lt. l b lt ∙ kept_alike (footprint_of_all cs b) after (set_after_all a cs) b
+          (λ f. ap (λ t. part_of t b) (s ∙ ap (λ t. set_after_all t cs) e) ∙ found_parts cs found a each wf v same b f);
+    }

@@ -1,0 +1,48 @@
+-- What the replies count.
+use Rattle.std.proofs.Common.{◌≡◌, ℕ, ◌-◌, ◌<◌, ◌≤◌, true, false, nat_lt, nat_eq, cond, inl, inr, refl, sym, ap, ◌∙◌, arith, lt-ltb, eqb-true}
+use Rattle.std.specs.Ordering.{nat_cmp}
+use Rattle.std.proofs.lemmas.Bool.{cases_Bool}
+use Rattle.moc_parts.specs.Commands.{parts_met}
+use Rattle.std.specs.FinSet as set
+use Rattle.moc_ranges.specs.Numbers.{NumberSet, same_members}
+use Rattle.moc_ranges.specs.Pixels.{pixels}
+use Rattle.moc_ranges.specs.Operations.{IsWithin, contains-pixels, meets, part_of}
+use Rattle.moc_ranges.specs.Cells.{degrade}
+use Rattle.moc_ranges.specs.Sizes.{len_parts}
+use Rattle.moc_parts.proofs.Members.{has-intersection, and_true, both, same_test}
+use Rattle.moc_parts.proofs.Coarse.{to_degrade}
+
+-- a set is in its degraded set
+pub in_degrade : (a : NumberSet) (order : ℕ) → IsWithin a pixels → (q : ℕ) → set.contains a q ≡ true → set.contains (degrade a order) q ≡ true
+in_degrade a order w q h = let in_q = sym (contains-pixels q) ∙ w.each q h in to_degrade a order q q in_q in_q h refl
+
+common_degrade : (a : NumberSet) (order : ℕ) → IsWithin a pixels → set.intersection (degrade a order) a ≡ a
+common_degrade a order w = same_members _ _ (λ q. has-intersection (degrade a order) a q ∙ same_test _ _ (λ h. (and_true (set.contains (degrade a order) q) (set.contains a q) h).1) (λ h. both (in_degrade a order w q h) h))
+
+pub degrade_more : (a : NumberSet) (order : ℕ) → IsWithin a pixels → set.len a ≤ set.len (degrade a order)
+degrade_more a order w =
+    let e : set.len (set.intersection (degrade a order) a) ≡ set.len a = ap set.len (common_degrade a order w) in
+    let parts = len_parts (degrade a order) a in omega (arith, e, parts)
+
+pub degrade_added : (a : NumberSet) (order : ℕ) → IsWithin a pixels → set.len (degrade a order) - set.len a ≡ set.len (set.difference (degrade a order) a)
+degrade_added a order w =
+    let e : set.len (set.intersection (degrade a order) a) ≡ set.len a = ap set.len (common_degrade a order w) in
+    let parts = len_parts (degrade a order) a in omega (arith, e, parts)
+
+pub meets_some_common : (a s : NumberSet) (n : ℕ) → n ≡ set.len (set.intersection a s) → 0 < n → meets a s ≡ true
+unfolding meets
+meets_some_common a s n e l = ap (λ m. nat_lt 0 m) (sym e) ∙ lt-ltb 0 n l
+
+pub meets_no_common : (a s : NumberSet) (n : ℕ) → n ≡ set.len (set.intersection a s) → n ≤ 0 → meets a s ≡ false
+unfolding meets
+meets_no_common a s n e l = let z : n ≡ 0 = omega arith in ap (λ m. nat_lt 0 m) (sym e ∙ z)
+
+-- the parts that a set meets, by the tests that the program makes
+pub parts_met_empty : (a : NumberSet) (b : ℕ) → a ≡ set.empty → parts_met a b ≡ nat_eq b 0
+parts_met_empty a b e = ap (λ (n : ℕ). cond (nat_eq n 0) (nat_eq b 0) (nat_lt 0 (set.len (part_of a b)))) (ap set.len e ∙ set.len-empty nat_cmp)
+
+pub parts_met_some : (a : NumberSet) (b : ℕ) → (a ≡ set.empty → ⊥) → parts_met a b ≡ nat_lt 0 (set.len (part_of a b))
+parts_met_some a b not_empty = elim (cases_Bool (nat_eq (set.len a) 0)) [
+  | inl t ↦ absurd (not_empty (set.empty_of_len a (eqb-true (set.len a) 0 t)))
+  | inr f ↦ ap (λ t. cond t (nat_eq b 0) (nat_lt 0 (set.len (part_of a b)))) f
+]

@@ -1,0 +1,241 @@
+-- The lists of a draft, one of them made anew.
+use Rattle.std.proofs.Common.{◌≡◌, ℕ, zero, suc, ◌+◌, ◌/◌, ◌<◌, Bool, true, false, not, ◌&&◌, ◌||◌, List, [], ◌∷◌, ◌++◌, Option, None, Some, length, get_or, replicate, take, nat_lt, nat_eq, inl, inr, get_or-append-add, refl, sym, ap, subst, ◌∙◌, arith}
+use Rattle.std.specs.Prelude.{set as set_at}
+use Rattle.std.specs.Borrow.{Bor}
+use Rattle.std.specs.Option.{unwrap_or}
+use Rattle.std.specs.FinSet as set
+use Rattle.std.proofs.lemmas.Bool.Decides.{nat_tests}
+use Rattle.std.proofs.lemmas.Bool.{cases_eq, cases_lt, lt-ltb}
+use Rattle.std.proofs.lemmas.List.{ext_get_or, get_or_default, get_or_append_left, get_or-map, length-map, length-set, get_or-set_same, get_or-set_other}
+use Rattle.moc_ranges.specs.Numbers.{NumberSet, same_members}
+use Rattle.moc_ranges.specs.Pixels.{pixels, base_pixel_size}
+use Rattle.moc_ranges.specs.Operations.{part_of, contains-part_of, contains-pixels, IsWithin}
+use Rattle.moc_parts.specs.declared.change.Change.{Change}
+use Rattle.moc_parts.specs.Changes.{changed, changed_part, IsChange}
+use Rattle.moc_parts.specs.Parts.{union_of, parts_below, AreParts}
+use Rattle.moc_parts.specs.Drafts.{newest, nows, with_part}
+use Rattle.moc_parts.proofs.Members.{has-union, has-difference, and_true, or_true}
+use Rattle.moc_parts.proofs.PartLaw.{part_law}
+use Rattle.moc_parts.proofs.Twelve.{first_parts, has-first_parts, length-parts_below, get-parts_below, parts_length, get-parts, within_base, below_base}
+
+-- ---- lists
+
+pub length-newest : (found : List NumberSet) (made : List (Option NumberSet)) → length (newest found made) ≡ length found
+length-newest [] made = refl
+length-newest (part ∷ found) [] = ap suc (length-newest found [])
+length-newest (part ∷ found) (new ∷ made) = ap suc (length-newest found made)
+
+pub newest-no : (found : List NumberSet) → newest found [] ≡ found
+newest-no [] = refl
+newest-no (part ∷ found) = ap (λ parts. part ∷ parts) (newest-no found)
+
+-- where nothing was made, the lists are those found
+pub newest-none : (found : List NumberSet) (n : ℕ) → newest found (replicate n None) ≡ found
+newest-none [] n = refl
+newest-none (part ∷ found) zero = newest-no (part ∷ found)
+newest-none (part ∷ found) (suc n) = ap (λ parts. part ∷ parts) (newest-none found n)
+
+pub get-newest : (found : List NumberSet) (made : List (Option NumberSet)) (b : ℕ) (d : NumberSet) (e : Option NumberSet) → b < length found → b < length made → get_or (newest found made) b d ≡ unwrap_or (get_or made b e) (get_or found b d)
+get-newest [] made b d e l m = absurd (omega arith)
+get-newest (part ∷ found) [] b d e l m = absurd (omega arith)
+get-newest (part ∷ found) (new ∷ made) zero d e l m = refl
+get-newest (part ∷ found) (new ∷ made) (suc b) d e l m = get-newest found made b d e (omega arith) (omega arith)
+
+pub set-newest : (found : List NumberSet) (made : List (Option NumberSet)) (b : ℕ) (part : NumberSet) → b < length found → b < length made → newest found (set_at made b (Some part)) ≡ set_at (newest found made) b part
+set-newest [] made b part l m = absurd (omega arith)
+set-newest (one ∷ found) [] b part l m = absurd (omega arith)
+set-newest (one ∷ found) (new ∷ made) zero part l m = refl
+set-newest (one ∷ found) (new ∷ made) (suc b) part l m = ap (λ parts. unwrap_or new one ∷ parts) (set-newest found made b part (omega arith) (omega arith))
+
+-- the next list is put into its place, or passed over
+pub newest-put : (found : List NumberSet) (made : List (Option NumberSet)) (b : ℕ) (part : NumberSet) → b < length found → b < length made → get_or made b None ≡ Some part → newest found (take (suc b) made) ≡ set_at (newest found (take b made)) b part
+newest-put [] made b part l m e = absurd (omega arith)
+newest-put (one ∷ found) [] b part l m e = absurd (omega arith)
+newest-put (one ∷ found) (new ∷ made) zero part l m e = ap (λ o. unwrap_or o one ∷ newest found []) e
+newest-put (one ∷ found) (new ∷ made) (suc b) part l m e = ap (λ parts. unwrap_or new one ∷ parts) (newest-put found made b part (omega arith) (omega arith) e)
+
+pub newest-pass : (found : List NumberSet) (made : List (Option NumberSet)) (b : ℕ) → b < length found → b < length made → get_or made b None ≡ None → newest found (take (suc b) made) ≡ newest found (take b made)
+newest-pass [] made b l m e = absurd (omega arith)
+newest-pass (one ∷ found) [] b l m e = absurd (omega arith)
+newest-pass (one ∷ found) (new ∷ made) zero l m e = ap (λ o. unwrap_or o one ∷ newest found []) e
+newest-pass (one ∷ found) (new ∷ made) (suc b) l m e = ap (λ parts. unwrap_or new one ∷ parts) (newest-pass found made b (omega arith) (omega arith) e)
+
+-- one element more, each of which is what it should be
+pub one_more : {X : Type 0} (xs : List X) (x d : X) (n : ℕ) (is : ℕ → X) → length xs ≡ n → ((k : ℕ) → k < n → get_or xs k d ≡ is k) → x ≡ is n → (k : ℕ) → k < n + 1 → get_or (xs ++ (x ∷ [])) k d ≡ is k
+one_more xs x d n is many each last k l = elim (cases_lt k n) [
+  | inl before ↦ get_or_append_left xs (x ∷ []) d k (subst (λ m. k < m) (sym many) before) ∙ each k before
+  | inr past ↦
+      let at : k ≡ n = omega arith in
+      let end : k ≡ length xs + 0 = at ∙ sym many ∙ omega arith in
+      ap (λ m. get_or (xs ++ (x ∷ [])) m d) end ∙ get_or-append-add xs (x ∷ []) 0 d ∙ last ∙ ap is (sym at)
+]
+
+-- ---- a set whose part b is another
+
+has-with_part : (a : NumberSet) (b : ℕ) (part : NumberSet) (q : ℕ) → set.contains (with_part a b part) q ≡ ((set.contains a q && not (nat_eq (q / base_pixel_size) b)) || set.contains part q)
+unfolding with_part
+has-with_part a b part q = has-union (set.retain a (λ p. not (nat_eq (p / base_pixel_size) b))) part q
+    ∙ ap (λ t. t || set.contains part q) (set.contains-retain a (λ p. not (nat_eq (p / base_pixel_size) b)) q (λ x tie. ap (λ p. not (nat_eq (p / base_pixel_size) b)) (sym (set.nat_cmp-IsAntisymmetric q x tie))))
+
+-- the pixels of a set that lies in part b are there
+has-lying : (part : NumberSet) (b q : ℕ) → part_of part b ≡ part → set.contains part q ≡ (set.contains part q && nat_eq (q / base_pixel_size) b)
+has-lying part b q lies = ap (λ c. set.contains c q) (sym lies) ∙ contains-part_of part b q
+
+here : (a x e : Bool) → x ≡ (x && e) → (((a && not e) || x) && e) ≡ x
+here true true true h = refl
+here true false true h = refl
+here true true false h = sym h
+here true false false h = refl
+here false true true h = refl
+here false false true h = refl
+here false true false h = sym h
+here false false false h = refl
+
+part-with_part : (a : NumberSet) (b : ℕ) (part : NumberSet) → part_of part b ≡ part → part_of (with_part a b part) b ≡ part
+part-with_part a b part lies = same_members _ _ (λ q.
+    contains-part_of (with_part a b part) b q ∙ ap (λ t. t && nat_eq (q / base_pixel_size) b) (has-with_part a b part q)
+    ∙ here (set.contains a q) (set.contains part q) (nat_eq (q / base_pixel_size) b) (has-lying part b q lies))
+
+there : (a x : Bool) (r b k : ℕ) → (k ≡ b → ⊥) → x ≡ (x && nat_eq r b) → (((a && not (nat_eq r b)) || x) && nat_eq r k) ≡ (a && nat_eq r k)
+there true true r b k other h = grind (arith, nat_tests)
+there true false r b k other h = grind (arith, nat_tests)
+there false true r b k other h = grind (arith, nat_tests)
+there false false r b k other h = refl
+
+part-with_other : (a : NumberSet) (b : ℕ) (part : NumberSet) (k : ℕ) → (k ≡ b → ⊥) → part_of part b ≡ part → part_of (with_part a b part) k ≡ part_of a k
+part-with_other a b part k other lies = same_members _ _ (λ q.
+    contains-part_of (with_part a b part) k q ∙ ap (λ t. t && nat_eq (q / base_pixel_size) k) (has-with_part a b part q)
+    ∙ there (set.contains a q) (set.contains part q) (q / base_pixel_size) b k other (has-lying part b q lies)
+    ∙ sym (contains-part_of a k q))
+
+set-parts : (a : NumberSet) (b : ℕ) (part : NumberSet) → b < 12 → part_of part b ≡ part → set_at (parts_below a 12) b part ≡ parts_below (with_part a b part) 12
+set-parts a b part l lies =
+    let len : length (parts_below a 12) ≡ 12 = length-parts_below a 12 in
+    ext_get_or set.empty (set_at (parts_below a 12) b part) (parts_below (with_part a b part) 12)
+    (length-set (parts_below a 12) b part ∙ len ∙ sym (length-parts_below (with_part a b part) 12))
+    (λ k lt.
+    let small : k < 12 = subst (λ n. k < n) (length-set (parts_below a 12) b part ∙ len) lt in
+    elim (cases_eq k b) [
+      | inl same ↦ ap (λ n. get_or (set_at (parts_below a 12) b part) n set.empty) same ∙ get_or-set_same (parts_below a 12) b part set.empty (subst (λ n. b < n) (sym len) l)
+          ∙ sym (part-with_part a b part lies) ∙ ap (λ n. part_of (with_part a b part) n) (sym same) ∙ sym (get-parts_below (with_part a b part) 12 k set.empty small)
+      | inr other ↦ get_or-set_other (parts_below a 12) b k part set.empty other ∙ get-parts_below a 12 k set.empty small
+          ∙ sym (part-with_other a b part k other lies) ∙ sym (get-parts_below (with_part a b part) 12 k set.empty small)
+    ])
+
+-- ---- a draft
+
+pub found_twelve : (found : List NumberSet) (made : List (Option NumberSet)) → AreParts (newest found made) → length found ≡ 12
+found_twelve found made e = sym (length-newest found made) ∙ parts_length (newest found made) e
+
+-- the list of one part
+pub newest_part : (found : List NumberSet) (made : List (Option NumberSet)) (b : ℕ) (d : NumberSet) (e : Option NumberSet) → AreParts (newest found made) → length made ≡ 12 → b < 12 → unwrap_or (get_or made b e) (get_or found b d) ≡ part_of (union_of (newest found made)) b
+newest_part found made b d e are twelve l =
+    sym (get-newest found made b d e (subst (λ n. b < n) (sym (found_twelve found made are)) l) (subst (λ n. b < n) (sym twelve) l)) ∙ get-parts (newest found made) b d are l
+
+-- the list that is owned where one was made or found
+pub owned_part : (found : List (Bor NumberSet)) (start made : List (Option NumberSet)) (b part : ℕ) (old : Option NumberSet) (list : Bor NumberSet)
+    → AreParts (newest (nows found) start) → length start ≡ 12 → length made ≡ 12 → b < 12 → part ≡ b → get_or made b None ≡ get_or start b None
+    → old ≡ get_or made part old → list ≡ get_or found part list → unwrap_or old list.now ≡ part_of (union_of (newest (nows found) start)) b
+owned_part found start made b part old list are twelve whole l at same old_is list_is =
+    let many : length found ≡ 12 = sym (length-map found (λ x. x.now)) ∙ found_twelve (nows found) start are in
+    let e : old ≡ get_or start b None = old_is ∙ ap (λ n. get_or made n old) at ∙ get_or_default made b old None (subst (λ n. b < n) (sym whole) l) ∙ same in
+    let f : list.now ≡ get_or (nows found) b list.now =
+    ap (λ x. x.now) (list_is ∙ ap (λ n. get_or found n list) at) ∙ sym (get_or-map (λ x. x.now) found b list list.now (subst (λ n. b < n) (sym many) l)) in
+    (λ i. unwrap_or (e i) (f i)) ∙ newest_part (nows found) start b list.now None are twelve l
+
+-- one list made anew
+pub newest_set : (found : List NumberSet) (made : List (Option NumberSet)) (b : ℕ) (part : NumberSet) → AreParts (newest found made) → length made ≡ 12 → b < 12 → part_of part b ≡ part
+    → newest found (set_at made b (Some part)) ≡ parts_below (with_part (union_of (newest found made)) b part) 12
+newest_set found made b part e twelve l lies =
+    set-newest found made b part (subst (λ n. b < n) (sym (found_twelve found made e)) l) (subst (λ n. b < n) (sym twelve) l)
+    ∙ ap (λ parts. set_at parts b part) e ∙ set-parts (union_of (newest found made)) b part l lies
+
+lying_within : (b q : ℕ) → b < 12 → nat_eq (q / base_pixel_size) b ≡ true → q / base_pixel_size < 12
+lying_within b q l e = grind (arith, nat_tests)
+
+pub with_part_within : (a : NumberSet) (b : ℕ) (part : NumberSet) → b < 12 → IsWithin a pixels → part_of part b ≡ part → IsWithin (with_part a b part) pixels
+with_part_within a b part l w lies = record {
+  each = λ q h. elim (or_true (set.contains a q && not (nat_eq (q / base_pixel_size) b)) (set.contains part q) (sym (has-with_part a b part q) ∙ h)) [
+    | inl old ↦ w.each q (and_true (set.contains a q) (not (nat_eq (q / base_pixel_size) b)) old).0
+    | inr new ↦ contains-pixels q ∙ below_base q (lying_within b q l (and_true (set.contains part q) (nat_eq (q / base_pixel_size) b) (sym (has-lying part b q lies) ∙ new)).1)
+  ];
+}
+
+-- ---- a set of which the first parts are changed
+
+unfoldable pub half_changed : NumberSet → NumberSet → ℕ → NumberSet
+half_changed new old n = set.union (first_parts new n) (set.difference old (first_parts old n))
+
+has-half : (new old : NumberSet) (n q : ℕ) → set.contains (half_changed new old n) q ≡ ((set.contains new q && nat_lt (q / base_pixel_size) n) || (set.contains old q && not (set.contains old q && nat_lt (q / base_pixel_size) n)))
+unfolding half_changed
+has-half new old n q = has-union (first_parts new n) (set.difference old (first_parts old n)) q
+    ∙ (λ i. has-first_parts new n q i || (has-difference old (first_parts old n) q ∙ ap (λ t. set.contains old q && not t) (has-first_parts old n q)) i)
+
+half-start : (x y : Bool) (r : ℕ) → ((x && nat_lt r 0) || (y && not (y && nat_lt r 0))) ≡ y
+half-start true true r = grind (arith, nat_tests)
+half-start true false r = grind (arith, nat_tests)
+half-start false true r = grind (arith, nat_tests)
+half-start false false r = refl
+
+pub half-none : (new old : NumberSet) → half_changed new old 0 ≡ old
+half-none new old = same_members _ _ (λ q. has-half new old 0 q ∙ half-start (set.contains new q) (set.contains old q) (q / base_pixel_size))
+
+half-end : (x y e : Bool) → (x ≡ true → e ≡ true) → (y ≡ true → e ≡ true) → ((x && e) || (y && not (y && e))) ≡ x
+half-end true true true f g = refl
+half-end true true false f g = refl
+half-end true false true f g = refl
+half-end true false false f g = f refl
+half-end false true true f g = refl
+half-end false true false f g = sym (g refl)
+half-end false false e f g = refl
+
+pub half-all : (new old : NumberSet) → IsWithin new pixels → IsWithin old pixels → half_changed new old 12 ≡ new
+half-all new old v w = same_members _ _ (λ q. has-half new old 12 q ∙ half-end (set.contains new q) (set.contains old q) (nat_lt (q / base_pixel_size) 12)
+    (λ h. lt-ltb (q / base_pixel_size) 12 (within_base new v q h)) (λ h. lt-ltb (q / base_pixel_size) 12 (within_base old w q h)))
+
+half-here : (x y : Bool) (r n : ℕ) → (((x && nat_lt r n) || (y && not (y && nat_lt r n))) && nat_eq r n) ≡ (y && nat_eq r n)
+half-here true true r n = grind (arith, nat_tests)
+half-here true false r n = grind (arith, nat_tests)
+half-here false true r n = grind (arith, nat_tests)
+half-here false false r n = refl
+
+-- the next part is not changed yet
+pub part-half : (new old : NumberSet) (n : ℕ) → part_of (half_changed new old n) n ≡ part_of old n
+part-half new old n = same_members _ _ (λ q. contains-part_of (half_changed new old n) n q ∙ ap (λ t. t && nat_eq (q / base_pixel_size) n) (has-half new old n q)
+    ∙ half-here (set.contains new q) (set.contains old q) (q / base_pixel_size) n ∙ sym (contains-part_of old n q))
+
+half-next : (x y : Bool) (r n : ℕ) → ((((x && nat_lt r n) || (y && not (y && nat_lt r n))) && not (nat_eq r n)) || (x && nat_eq r n)) ≡ ((x && nat_lt r (n + 1)) || (y && not (y && nat_lt r (n + 1))))
+half-next true true r n = grind (arith, nat_tests)
+half-next true false r n = grind (arith, nat_tests)
+half-next false true r n = grind (arith, nat_tests)
+half-next false false r n = refl
+
+-- one part more
+pub with_next : (new old : NumberSet) (n : ℕ) → with_part (half_changed new old n) n (part_of new n) ≡ half_changed new old (n + 1)
+with_next new old n = same_members _ _ (λ q. has-with_part (half_changed new old n) n (part_of new n) q
+    ∙ (λ i. (has-half new old n q i && not (nat_eq (q / base_pixel_size) n)) || contains-part_of new n q i)
+    ∙ half-next (set.contains new q) (set.contains old q) (q / base_pixel_size) n ∙ sym (has-half new old (n + 1) q))
+
+own : (x e : Bool) → ((x && not e) || (x && e)) ≡ x
+own true true = refl
+own true false = refl
+own false e = refl
+
+-- a set with its own part is the set
+pub with_own : (a : NumberSet) (b : ℕ) → with_part a b (part_of a b) ≡ a
+with_own a b = same_members _ _ (λ q. has-with_part a b (part_of a b) q ∙ ap (λ t. (set.contains a q && not (nat_eq (q / base_pixel_size) b)) || t) (contains-part_of a b q) ∙ own (set.contains a q) (nat_eq (q / base_pixel_size) b))
+
+-- a part lies in its base pixel
+pub part_lies : (a : NumberSet) (b : ℕ) → part_of (part_of a b) b ≡ part_of a b
+part_lies a b = same_members _ _ (λ q. contains-part_of (part_of a b) b q ∙ ap (λ t. t && nat_eq (q / base_pixel_size) b) (contains-part_of a b q) ∙ again (set.contains a q) (nat_eq (q / base_pixel_size) b) ∙ sym (contains-part_of a b q))
+  where
+    again : (x e : Bool) → ((x && e) && e) ≡ (x && e)
+    again true true = refl
+    again true false = refl
+    again false e = refl
+
+-- what a change makes of the next part
+pub made_part : (change : Change) → IsChange change → (old whole part : NumberSet) (b : ℕ) (new : Option NumberSet) → whole ≡ half_changed (changed change old) old b → part ≡ part_of whole b
+    → unwrap_or new part ≡ changed_part change part b → unwrap_or new part ≡ part_of (changed change old) b
+made_part change is old whole part b new half p made =
+    made ∙ ap (λ q. changed_part change q b) (p ∙ ap (λ a. part_of a b) half ∙ part-half (changed change old) old b) ∙ sym (part_law change is old b)

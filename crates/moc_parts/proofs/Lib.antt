@@ -1,0 +1,11 @@
+pub mod Members
+pub mod Coarse
+pub mod PartLaw
+pub mod Twelve
+pub mod Sums
+pub mod Counts
+pub mod Around
+pub mod Locality
+pub mod BatchLocality
+pub mod InOrder
+pub mod Drafting

@@ -1,0 +1,80 @@
+-- A change of a set, part by part.
+use Rattle.std.proofs.Common.{◌≡◌, ℕ, ◌/◌, Bool, true, false, not, ◌&&◌, ◌||◌, nat_lt, nat_eq, inl, inr, refl, sym, ap, ◌∙◌}
+use Rattle.std.specs.FinSet as set
+use Rattle.moc_ranges.specs.Numbers.{NumberSet, same_members}
+use Rattle.moc_ranges.specs.Pixels.{pixels, pixel_count, base_pixel_size}
+use Rattle.moc_ranges.specs.Operations.{complement, part_of, contains-part_of, contains-complement, contains-pixels, IsWithin}
+use Rattle.moc_parts.specs.declared.change.Change.{Change}
+use Rattle.moc_parts.specs.declared.change.Change.TheVariants.{Join, Leave, Share, Invert, Degrade}
+use Rattle.moc_parts.specs.Changes.{changed, changed_part, IsChange}
+use Rattle.moc_parts.proofs.Members.{has-union, has-intersection, has-difference, or_true, and_true, both, clash, not_true_false, same_test, is_some, in_part, of_part}
+use Rattle.moc_parts.proofs.Twelve.{or_nothing}
+use Rattle.moc_parts.proofs.Coarse.{part-degrade, of_degrade}
+
+or_and : (x y e : Bool) → ((x || y) && e) ≡ ((x && e) || (y && e))
+or_and true y true = refl
+or_and true true false = refl
+or_and true false false = refl
+or_and false y e = refl
+
+and_and : (x y e : Bool) → ((x && y) && e) ≡ ((x && e) && y)
+and_and true true true = refl
+and_and true true false = refl
+and_and true false true = refl
+and_and true false false = refl
+and_and false y e = refl
+
+complement_and : (n x e : Bool) → ((n && not x) && e) ≡ ((n && not (x && e)) && e)
+complement_and true true true = refl
+complement_and true true false = refl
+complement_and true false e = refl
+complement_and false x e = refl
+
+pub part-union : (a s : NumberSet) (b : ℕ) → part_of (set.union a s) b ≡ set.union (part_of a b) (part_of s b)
+part-union a s b = same_members _ _ (λ q.
+    contains-part_of (set.union a s) b q ∙ ap (λ t. t && nat_eq (q / base_pixel_size) b) (has-union a s q) ∙ or_and (set.contains a q) (set.contains s q) (nat_eq (q / base_pixel_size) b)
+    ∙ sym (has-union (part_of a b) (part_of s b) q ∙ (λ i. contains-part_of a b q i || contains-part_of s b q i)))
+
+pub part-difference : (a s : NumberSet) (b : ℕ) → part_of (set.difference a s) b ≡ set.difference (part_of a b) s
+part-difference a s b = same_members _ _ (λ q.
+    contains-part_of (set.difference a s) b q ∙ ap (λ t. t && nat_eq (q / base_pixel_size) b) (has-difference a s q) ∙ and_and (set.contains a q) (not (set.contains s q)) (nat_eq (q / base_pixel_size) b)
+    ∙ sym (has-difference (part_of a b) s q ∙ ap (λ t. t && not (set.contains s q)) (contains-part_of a b q)))
+
+pub part-intersection : (a s : NumberSet) (b : ℕ) → part_of (set.intersection a s) b ≡ set.intersection (part_of a b) s
+part-intersection a s b = same_members _ _ (λ q.
+    contains-part_of (set.intersection a s) b q ∙ ap (λ t. t && nat_eq (q / base_pixel_size) b) (has-intersection a s q) ∙ and_and (set.contains a q) (set.contains s q) (nat_eq (q / base_pixel_size) b)
+    ∙ sym (has-intersection (part_of a b) s q ∙ ap (λ t. t && set.contains s q) (contains-part_of a b q)))
+
+pub part-complement : (a : NumberSet) (b : ℕ) → part_of (complement a) b ≡ part_of (complement (part_of a b)) b
+part-complement a b = same_members _ _ (λ q.
+    contains-part_of (complement a) b q ∙ ap (λ t. t && nat_eq (q / base_pixel_size) b) (contains-complement a q)
+    ∙ complement_and (nat_lt q pixel_count) (set.contains a q) (nat_eq (q / base_pixel_size) b)
+    ∙ sym (contains-part_of (complement (part_of a b)) b q ∙ ap (λ t. t && nat_eq (q / base_pixel_size) b) (contains-complement (part_of a b) q ∙ ap (λ t. nat_lt q pixel_count && not t) (contains-part_of a b q))))
+
+-- part b of a changed set is what the change makes of part b
+pub part_law : (change : Change) → IsChange change → (a : NumberSet) (b : ℕ) → part_of (changed change a) b ≡ changed_part change (part_of a b) b
+part_law (Join s) k a b = part-union a s.now b
+part_law (Leave s) k a b = part-difference a s.now b
+part_law (Share s) k a b = part-intersection a s.now b
+part_law Invert k a b = part-complement a b
+part_law (Degrade order) k a b = part-degrade a order b k
+
+-- a change keeps sets within the pixels
+pub changed_within : (change : Change) (a : NumberSet) → IsChange change → IsWithin a pixels → IsWithin (changed change a) pixels
+changed_within (Join s) a v w = record { each = λ q h. elim (or_true (set.contains a q) (set.contains s.now q) (sym (has-union a s.now q) ∙ h)) [ inl e ↦ w.each q e | inr e ↦ v.each q e ] }
+changed_within (Leave s) a v w = record { each = λ q h. w.each q (and_true (set.contains a q) (not (set.contains s.now q)) (sym (has-difference a s.now q) ∙ h)).0 }
+changed_within (Share s) a v w = record { each = λ q h. w.each q (and_true (set.contains a q) (set.contains s.now q) (sym (has-intersection a s.now q) ∙ h)).0 }
+changed_within Invert a v w = record { each = λ q h. contains-pixels q ∙ (and_true (nat_lt q pixel_count) (not (set.contains a q)) (sym (contains-complement a q) ∙ h)).0 }
+changed_within (Degrade order) a v w = record { each = λ q h. contains-pixels q ∙ (of_degrade a order q h).3 }
+
+-- a set without pixels of part b leaves that part
+no_member : (s : NumberSet) (b q : ℕ) → nat_lt 0 (set.len (part_of s b)) ≡ false → set.contains (part_of s b) q ≡ false
+no_member s b q none = not_true_false _ (λ h. clash _ (is_some (part_of s b) q h) none)
+
+pub join_nothing : (part s : NumberSet) (b : ℕ) → nat_lt 0 (set.len (part_of s b)) ≡ false → set.union part (part_of s b) ≡ part
+join_nothing part s b none = same_members _ _ (λ q. has-union part (part_of s b) q ∙ ap (λ t. set.contains part q || t) (no_member s b q none) ∙ or_nothing (set.contains part q))
+
+pub leave_nothing : (part s : NumberSet) (b : ℕ) → part_of part b ≡ part → nat_lt 0 (set.len (part_of s b)) ≡ false → set.difference part s ≡ part
+leave_nothing part s b lies none = same_members _ _ (λ q. has-difference part s q ∙ same_test _ _
+    (λ h. (and_true (set.contains part q) (not (set.contains s q)) h).0)
+    (λ h. both h (ap not (not_true_false (set.contains s q) (λ t. clash _ (in_part s b q t (of_part part b q (ap (λ c. set.contains c q) lies ∙ h)).1) (no_member s b q none))))))

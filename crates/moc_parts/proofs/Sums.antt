@@ -1,0 +1,162 @@
+-- Sizes, part by part.
+use Rattle.std.proofs.Common.{◌≡◌, ℕ, ◌+◌, ◌-◌, ◌/◌, ◌≤◌, Bool, true, false, not, ◌&&◌, ◌||◌, nat_lt, nat_eq, [], ◌∷◌, refl, sym, ap, subst, ◌∙◌, arith}
+use Rattle.std.proofs.lemmas.Bool.Decides.{nat_tests}
+use Rattle.std.specs.FinSet as set
+use Rattle.moc_ranges.specs.Numbers.{NumberSet, same_members}
+use Rattle.moc_ranges.specs.Pixels.{pixels, pixel_count, base_pixel_size}
+use Rattle.moc_ranges.specs.Operations.{part_of, contains-part_of, contains-pixels, meets, meets-some, IsWithin}
+use Rattle.moc_ranges.specs.Sizes.{len_parts}
+use Rattle.moc_ranges.specs.RangeList.{IsNormal, in_ranges, set_of, contains-set_of, len_bounded}
+use Rattle.std.specs.Ordering.{nat_cmp}
+use Rattle.moc_parts.proofs.Members.{has-union, has-intersection, has-difference, has-empty, and_true, both, same_test, meets_at, of_part}
+use Rattle.moc_parts.proofs.Twelve.{first_parts, has-first_parts, first_parts-next, first_parts-all, first_parts-none, or_nothing}
+
+early : (x s : Bool) (r n : ℕ) → (((x && nat_lt r (n + 1)) && s) && (x && nat_lt r n)) ≡ ((x && nat_lt r n) && s)
+early true true r n = grind (arith, nat_tests)
+early true false r n = grind (arith, nat_tests)
+early false s r n = refl
+
+late : (x s : Bool) (r n : ℕ) → (((x && nat_lt r (n + 1)) && s) && not (x && nat_lt r n)) ≡ ((x && nat_eq r n) && s)
+late true true r n = grind (arith, nat_tests)
+late true false r n = grind (arith, nat_tests)
+late false s r n = refl
+
+-- what the first parts share with a set, one part more
+pub len-next : (a s : NumberSet) (n : ℕ) → set.len (set.intersection (first_parts a n) s) + set.len (set.intersection (part_of a n) s) ≡ set.len (set.intersection (first_parts a (n + 1)) s)
+len-next a s n =
+    let whole : NumberSet = set.intersection (first_parts a (n + 1)) s in
+    let old : set.intersection whole (first_parts a n) ≡ set.intersection (first_parts a n) s = same_members _ _ (λ q.
+    has-intersection whole (first_parts a n) q
+    ∙ (λ i. (has-intersection (first_parts a (n + 1)) s q ∙ ap (λ t. t && set.contains s q) (has-first_parts a (n + 1) q)) i && has-first_parts a n q i)
+    ∙ early (set.contains a q) (set.contains s q) (q / base_pixel_size) n
+    ∙ sym (has-intersection (first_parts a n) s q ∙ ap (λ t. t && set.contains s q) (has-first_parts a n q))) in
+    let new : set.difference whole (first_parts a n) ≡ set.intersection (part_of a n) s = same_members _ _ (λ q.
+    has-difference whole (first_parts a n) q
+    ∙ (λ i. (has-intersection (first_parts a (n + 1)) s q ∙ ap (λ t. t && set.contains s q) (has-first_parts a (n + 1) q)) i && not (has-first_parts a n q i))
+    ∙ late (set.contains a q) (set.contains s q) (q / base_pixel_size) n
+    ∙ sym (has-intersection (part_of a n) s q ∙ ap (λ t. t && set.contains s q) (contains-part_of a n q))) in
+    (λ i. set.len (sym old i) + set.len (sym new i)) ∙ len_parts whole (first_parts a n)
+
+in_all : (q : ℕ) → in_ranges ((0, pixel_count) ∷ []) q ≡ nat_lt q pixel_count
+in_all q = grind (arith, nat_tests)
+
+all_normal : IsNormal ((0, pixel_count) ∷ [])
+all_normal = (omega arith, omega arith, tt, tt)
+
+-- there are no more pixels than that
+pub len_within : (a : NumberSet) → IsWithin a pixels → set.len a ≤ pixel_count
+len_within a w =
+    let all : set_of ((0, pixel_count) ∷ []) ≡ pixels = same_members _ _ (λ q. contains-set_of ((0, pixel_count) ∷ []) q ∙ in_all q ∙ sym (contains-pixels q)) in
+    let bound : set.len pixels ≤ pixel_count = subst (λ s. set.len s ≤ pixel_count) all (len_bounded ((0, pixel_count) ∷ []) all_normal) in
+    let is : set.intersection pixels a ≡ a = same_members _ _ (λ q. same_test _ _
+    (λ h. (and_true _ _ (sym (has-intersection pixels a q) ∙ h)).1)
+    (λ h. has-intersection pixels a q ∙ both (w.each q h) h)) in
+    let parts = len_parts pixels a in
+    let e : set.len (set.intersection pixels a) ≡ set.len a = ap set.len is in
+    omega arith
+
+pub first_within : (a : NumberSet) (n : ℕ) → IsWithin a pixels → IsWithin (first_parts a n) pixels
+first_within a n w = record { each = λ q h. w.each q (and_true _ _ (sym (has-first_parts a n q) ∙ h)).0 }
+
+pub common_bound : (a s : NumberSet) → IsWithin a pixels → set.len (set.intersection a s) ≤ pixel_count
+common_bound a s w = let parts = len_parts a s in let bound = len_within a w in omega arith
+
+-- what is counted with one part more fits
+pub sum_bound : (a s : NumberSet) (n : ℕ) → IsWithin a pixels → set.len (set.intersection (first_parts a n) s) + set.len (set.intersection (part_of a n) s) ≤ pixel_count
+sum_bound a s n w = let next = len-next a s n in let bound = common_bound (first_parts a (n + 1)) s (first_within a (n + 1) w) in omega arith
+
+-- at the start, and at the end
+pub common-none : (a s : NumberSet) → set.intersection (first_parts a 0) s ≡ set.empty
+common-none a s = same_members _ _ (λ q. has-intersection (first_parts a 0) s q ∙ ap (λ t. set.contains t q && set.contains s q) (first_parts-none a) ∙ ap (λ t. t && set.contains s q) (has-empty q) ∙ sym (has-empty q))
+
+pub len_none : (a s : NumberSet) → 0 ≡ set.len (set.intersection (first_parts a 0) s)
+len_none a s = sym (ap set.len (common-none a s) ∙ set.len-empty nat_cmp)
+
+pub common-all : (a s : NumberSet) → IsWithin a pixels → set.intersection (first_parts a 12) s ≡ set.intersection a s
+common-all a s w = ap (λ t. set.intersection t s) (first_parts-all a w)
+
+or_and : (x y e : Bool) → ((x && e) || (y && e)) ≡ ((x || y) && e)
+or_and true y true = refl
+or_and true true false = refl
+or_and true false false = refl
+or_and false y e = refl
+
+-- one part more
+pub common-next : (a s : NumberSet) (n : ℕ) → set.union (set.intersection (first_parts a n) s) (set.intersection (part_of a n) s) ≡ set.intersection (first_parts a (n + 1)) s
+common-next a s n = same_members _ _ (λ q.
+    has-union (set.intersection (first_parts a n) s) (set.intersection (part_of a n) s) q
+    ∙ (λ i. has-intersection (first_parts a n) s q i || has-intersection (part_of a n) s q i)
+    ∙ or_and (set.contains (first_parts a n) q) (set.contains (part_of a n) q) (set.contains s q)
+    ∙ sym (has-intersection (first_parts a (n + 1)) s q ∙ ap (λ t. t && set.contains s q) (sym (ap (λ t. set.contains t q) (first_parts-next a n)) ∙ has-union (first_parts a n) (part_of a n) q)))
+
+first-self : (a : NumberSet) (n : ℕ) → set.intersection (first_parts a n) a ≡ first_parts a n
+first-self a n = same_members _ _ (λ q. has-intersection (first_parts a n) a q ∙ same_test _ _
+    (λ h. (and_true _ _ h).0) (λ h. both h (and_true _ _ (sym (has-first_parts a n q) ∙ h)).0))
+
+part-self : (a : NumberSet) (n : ℕ) → set.intersection (part_of a n) a ≡ part_of a n
+part-self a n = same_members _ _ (λ q. has-intersection (part_of a n) a q ∙ same_test _ _
+    (λ h. (and_true _ _ h).0) (λ h. both h (and_true _ _ (sym (contains-part_of a n q) ∙ h)).0))
+
+-- the size of the first parts, one part more
+pub size-next : (a : NumberSet) (n : ℕ) → set.len (first_parts a n) + set.len (part_of a n) ≡ set.len (first_parts a (n + 1))
+size-next a n = (λ i. set.len (sym (first-self a n) i) + set.len (sym (part-self a n) i)) ∙ len-next a a n ∙ ap set.len (first-self a (n + 1))
+
+pub size_bound : (a : NumberSet) (n : ℕ) → IsWithin a pixels → set.len (first_parts a n) + set.len (part_of a n) ≤ pixel_count
+size_bound a n w = let next = size-next a n in let bound = len_within (first_parts a (n + 1)) (first_within a (n + 1) w) in omega arith
+
+pub size_none : (a : NumberSet) → 0 ≡ set.len (first_parts a 0)
+size_none a = sym (ap set.len (first_parts-none a) ∙ set.len-empty nat_cmp)
+
+-- what is lacking, by what is shared
+pub lacking : (a s : NumberSet) → set.len s - set.len (set.intersection a s) ≡ set.len (set.difference s a)
+lacking a s =
+    let turned : set.intersection s a ≡ set.intersection a s = same_members _ _ (λ q. has-intersection s a q ∙ swap (set.contains s q) (set.contains a q) ∙ sym (has-intersection a s q)) in
+    let e : set.len (set.intersection s a) ≡ set.len (set.intersection a s) = ap set.len turned in
+    let parts = len_parts s a in omega arith
+  where
+    swap : (x y : Bool) → (x && y) ≡ (y && x)
+    swap true true = refl
+    swap true false = refl
+    swap false true = refl
+    swap false false = refl
+
+pub shared_less : (a s : NumberSet) → set.len (set.intersection a s) ≤ set.len s
+shared_less a s =
+    let turned : set.intersection s a ≡ set.intersection a s = same_members _ _ (λ q. has-intersection s a q ∙ swap (set.contains s q) (set.contains a q) ∙ sym (has-intersection a s q)) in
+    let e : set.len (set.intersection s a) ≡ set.len (set.intersection a s) = ap set.len turned in
+    let parts = len_parts s a in omega arith
+  where
+    swap : (x y : Bool) → (x && y) ≡ (y && x)
+    swap true true = refl
+    swap true false = refl
+    swap false true = refl
+    swap false false = refl
+
+pub kept_less : (a s : NumberSet) → set.len (set.intersection a s) ≤ set.len a
+kept_less a s = let parts = len_parts a s in omega arith
+
+pub dropped : (a s : NumberSet) → set.len a - set.len (set.intersection a s) ≡ set.len (set.difference a s)
+dropped a s = let parts = len_parts a s in omega arith
+
+-- ---- whether a set meets another, part by part
+
+pub meets-none : (a s : NumberSet) → meets (first_parts a 0) s ≡ false
+unfolding meets
+meets-none a s = ap (λ n. nat_lt 0 n) (sym (len_none a s))
+
+no_more : (x y z : ℕ) → x + y ≡ z → nat_lt 0 x ≡ false → nat_lt 0 y ≡ false → nat_lt 0 z ≡ false
+no_more x y z e f g = grind (arith, nat_tests)
+
+pub meets-next : (a s : NumberSet) (n : ℕ) → meets (first_parts a n) s ≡ false → meets (part_of a n) s ≡ false → meets (first_parts a (n + 1)) s ≡ false
+unfolding meets
+meets-next a s n f g = no_more _ _ _ (len-next a s n) f g
+
+pub meets-all : (a s : NumberSet) → IsWithin a pixels → meets (first_parts a 12) s ≡ meets a s
+meets-all a s w = ap (λ t. meets t s) (first_parts-all a w)
+
+pub meets-part : (a s : NumberSet) (b : ℕ) → meets (part_of a b) s ≡ true → meets a s ≡ true
+meets-part a s b h = let m = meets_at (part_of a b) s h in meets-some a s m.0 (of_part a b m.0 m.1).0 m.2
+
+-- nothing more in common
+pub union-nothing : (a b : NumberSet) → b ≡ set.empty → set.union a b ≡ a
+union-nothing a b e = same_members _ _ (λ q. has-union a b q ∙ ap (λ t. set.contains a q || set.contains t q) e ∙ ap (λ t. set.contains a q || t) (has-empty q) ∙ or_nothing (set.contains a q))

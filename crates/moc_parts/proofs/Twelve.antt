@@ -1,0 +1,139 @@
+-- The twelve parts of a set as a list, and what holds of the first n.
+use Rattle.std.proofs.Common.{◌≡◌, ℕ, zero, suc, ◌+◌, ◌*◌, ◌/◌, ◌<◌, Bool, true, false, ◌&&◌, ◌||◌, List, [], ◌∷◌, ◌++◌, length, get_or, nat_lt, nat_eq, inl, inr, refl, sym, ap, subst, ◌∙◌, arith, lt-ltb, length-append, get_or-append-add, div-lt_iff_lt-mul}
+use Rattle.std.proofs.lemmas.Bool.{cases_lt}
+use Rattle.std.proofs.lemmas.List.{get_or_append_left}
+use Rattle.std.proofs.lemmas.Bool.Decides.{nat_tests}
+use Rattle.std.specs.FinSet as set
+use Rattle.moc_ranges.specs.Numbers.{NumberSet, same_members}
+use Rattle.moc_ranges.specs.Pixels.{pixels, pixel_count, base_pixel_size}
+use Rattle.moc_ranges.specs.Operations.{part_of, contains-part_of, contains-pixels, IsWithin}
+use Rattle.moc_parts.specs.Parts.{union_of, parts_below, AreParts}
+use Rattle.moc_parts.proofs.Members.{has-union, has-empty, and_true, both, same_test}
+
+-- the pixels of a set in its first n parts
+unfoldable pub first_parts : NumberSet → ℕ → NumberSet
+first_parts a n = set.retain a (λ p. nat_lt (p / base_pixel_size) n)
+
+pub parts_below-next : (a : NumberSet) (n : ℕ) → parts_below a (n + 1) ≡ parts_below a n ++ (part_of a n ∷ [])
+unfolding parts_below
+parts_below-next a n = let e : n + 1 ≡ suc n = omega arith in ap (λ m. parts_below a m) e
+
+pub parts_below-none : (a : NumberSet) → parts_below a 0 ≡ []
+unfolding parts_below
+parts_below-none a = refl
+
+pub length-parts_below : (a : NumberSet) (n : ℕ) → length (parts_below a n) ≡ n
+unfolding parts_below
+length-parts_below a zero = refl
+length-parts_below a (suc n) = length-append (parts_below a n) (part_of a n ∷ []) ∙ ap (λ m. m + 1) (length-parts_below a n) ∙ omega arith
+
+pub get-parts_below : (a : NumberSet) (n b : ℕ) (d : NumberSet) → b < n → get_or (parts_below a n) b d ≡ part_of a b
+unfolding parts_below
+get-parts_below a zero b d l = absurd (omega arith)
+get-parts_below a (suc n) b d l = elim (cases_lt b n) [
+  | inl lt ↦ get_or_append_left (parts_below a n) (part_of a n ∷ []) d b (subst (λ m. b < m) (sym (length-parts_below a n)) lt) ∙ get-parts_below a n b d lt
+  | inr ge ↦
+      let is : b ≡ n = omega arith in
+      let at : b ≡ length (parts_below a n) + 0 = is ∙ sym (length-parts_below a n) ∙ omega arith in
+      ap (λ m. get_or (parts_below a n ++ (part_of a n ∷ [])) m d) at ∙ get_or-append-add (parts_below a n) (part_of a n ∷ []) 0 d ∙ ap (λ m. part_of a m) (sym is)
+]
+
+pub has-first_parts : (a : NumberSet) (n q : ℕ) → set.contains (first_parts a n) q ≡ (set.contains a q && nat_lt (q / base_pixel_size) n)
+unfolding first_parts
+has-first_parts a n q = set.contains-retain a (λ p. nat_lt (p / base_pixel_size) n) q (λ x tie. ap (λ p. nat_lt (p / base_pixel_size) n) (sym (set.nat_cmp-IsAntisymmetric q x tie)))
+
+pub or_nothing : (x : Bool) → (x || false) ≡ x
+or_nothing true = refl
+or_nothing false = refl
+
+or_shift : (x y z : Bool) → (x || (y || z)) ≡ ((x || y) || z)
+or_shift true y z = refl
+or_shift false y z = refl
+
+pub has-union_of_append : (xs : List NumberSet) (y : NumberSet) (q : ℕ) → set.contains (union_of (xs ++ (y ∷ []))) q ≡ (set.contains (union_of xs) q || set.contains y q)
+has-union_of_append [] y q = has-union y set.empty q ∙ ap (λ t. set.contains y q || t) (has-empty q) ∙ or_nothing (set.contains y q) ∙ sym (ap (λ t. t || set.contains y q) (has-empty q))
+has-union_of_append (x ∷ xs) y q = has-union x (union_of (xs ++ (y ∷ []))) q ∙ ap (λ t. set.contains x q || t) (has-union_of_append xs y q)
+    ∙ or_shift (set.contains x q) (set.contains (union_of xs) q) (set.contains y q) ∙ ap (λ t. t || set.contains y q) (sym (has-union x (union_of xs) q))
+
+next_test : (x : Bool) (r n : ℕ) → ((x && nat_lt r n) || (x && nat_eq r n)) ≡ (x && nat_lt r (n + 1))
+next_test true r n = grind (arith, nat_tests)
+next_test false r n = refl
+
+-- one part more
+pub first_parts-next : (a : NumberSet) (n : ℕ) → set.union (first_parts a n) (part_of a n) ≡ first_parts a (n + 1)
+first_parts-next a n = same_members _ _ (λ q.
+    has-union (first_parts a n) (part_of a n) q ∙ (λ i. has-first_parts a n q i || contains-part_of a n q i)
+    ∙ next_test (set.contains a q) (q / base_pixel_size) n ∙ sym (has-first_parts a (n + 1) q))
+
+never : (x : Bool) (r : ℕ) → (x && nat_lt r 0) ≡ false
+never true r = grind (arith, nat_tests)
+never false r = refl
+
+pub first_parts-none : (a : NumberSet) → first_parts a 0 ≡ set.empty
+first_parts-none a = same_members _ _ (λ q. has-first_parts a 0 q ∙ never (set.contains a q) (q / base_pixel_size) ∙ sym (has-empty q))
+
+pub union_of-parts_below : (a : NumberSet) (n : ℕ) → union_of (parts_below a n) ≡ first_parts a n
+union_of-parts_below a zero = ap union_of (parts_below-none a) ∙ sym (first_parts-none a)
+union_of-parts_below a (suc n) =
+    let e : suc n ≡ n + 1 = omega arith in
+    same_members _ _ (λ q.
+    ap (λ m. set.contains (union_of (parts_below a m)) q) e
+    ∙ ap (λ xs. set.contains (union_of xs) q) (parts_below-next a n)
+    ∙ has-union_of_append (parts_below a n) (part_of a n) q
+    ∙ ap (λ s. set.contains s q || set.contains (part_of a n) q) (union_of-parts_below a n)
+    ∙ sym (has-union (first_parts a n) (part_of a n) q)
+    ∙ ap (λ s. set.contains s q) (first_parts-next a n)
+    ∙ ap (λ m. set.contains (first_parts a m) q) (sym e))
+
+twelve_parts : pixel_count ≡ 12 * base_pixel_size
+twelve_parts = refl
+
+pub base_below : (p : ℕ) → nat_lt p pixel_count ≡ true → p / base_pixel_size < 12
+base_below p h = (div-lt_iff_lt-mul {k = base_pixel_size} {x = p} {y = 12} (omega arith)).1 (grind (arith, nat_tests))
+
+pub below_base : (p : ℕ) → p / base_pixel_size < 12 → nat_lt p pixel_count ≡ true
+below_base p h = let k = (div-lt_iff_lt-mul {k = base_pixel_size} {x = p} {y = 12} (omega arith)).0 h in lt-ltb p pixel_count (omega arith)
+
+pub within_base : (a : NumberSet) → IsWithin a pixels → (p : ℕ) → set.contains a p ≡ true → p / base_pixel_size < 12
+within_base a w p h = base_below p (sym (contains-pixels p) ∙ w.each p h)
+
+-- all twelve parts are the set
+pub first_parts-all : (a : NumberSet) → IsWithin a pixels → first_parts a 12 ≡ a
+first_parts-all a w = same_members _ _ (λ q. same_test _ _
+    (λ h. (and_true _ _ (sym (has-first_parts a 12 q) ∙ h)).0)
+    (λ h. has-first_parts a 12 q ∙ both h (lt-ltb (q / base_pixel_size) 12 (within_base a w q h))))
+
+pub union_of-parts : (a : NumberSet) → IsWithin a pixels → union_of (parts_below a 12) ≡ a
+union_of-parts a w = union_of-parts_below a 12 ∙ first_parts-all a w
+
+-- the parts of a set are parts
+pub AreParts-parts : (a : NumberSet) → IsWithin a pixels → AreParts (parts_below a 12)
+AreParts-parts a w = ap (λ s. parts_below s 12) (sym (union_of-parts a w))
+
+-- what is made of parts lies in the pixels
+pub parts_within : (sets : List NumberSet) → AreParts sets → IsWithin (union_of sets) pixels
+parts_within sets e = record {
+  each = λ q h.
+      let k : set.contains (first_parts (union_of sets) 12) q ≡ true = ap (λ s. set.contains s q) (sym (union_of-parts_below (union_of sets) 12)) ∙ ap (λ xs. set.contains (union_of xs) q) (sym e) ∙ h in
+      let m = and_true _ _ (sym (has-first_parts (union_of sets) 12 q) ∙ k) in
+      contains-pixels q ∙ below_base q (ltb_lt (q / base_pixel_size) m.1);
+}
+  where
+    ltb_lt : (n : ℕ) → nat_lt n 12 ≡ true → n < 12
+    ltb_lt n h = grind (arith, nat_tests)
+
+pub parts_length : (sets : List NumberSet) → AreParts sets → length sets ≡ 12
+parts_length sets e = ap length e ∙ length-parts_below (union_of sets) 12
+
+pub get-parts : (sets : List NumberSet) (b : ℕ) (d : NumberSet) → AreParts sets → b < 12 → get_or sets b d ≡ part_of (union_of sets) b
+get-parts sets b d e l = ap (λ xs. get_or xs b d) e ∙ get-parts_below (union_of sets) 12 b d l
+
+pub made_parts : (sets : List NumberSet) (a : NumberSet) → sets ≡ parts_below a 12 → IsWithin a pixels → AreParts sets
+made_parts sets a e w = subst AreParts (sym e) (AreParts-parts a w)
+
+pub made_union : (sets : List NumberSet) (a : NumberSet) → sets ≡ parts_below a 12 → IsWithin a pixels → union_of sets ≡ a
+made_union sets a e w = ap union_of e ∙ union_of-parts a w
+
+-- one list more
+pub made_next : (sets : List NumberSet) (a : NumberSet) (n : ℕ) → sets ≡ parts_below a n → (part : NumberSet) → part ≡ part_of a n → sets ++ (part ∷ []) ≡ parts_below a (n + 1)
+made_next sets a n e part p = (λ i. e i ++ (p i ∷ [])) ∙ sym (parts_below-next a n)

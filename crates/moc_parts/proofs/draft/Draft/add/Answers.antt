@@ -1,0 +1,10 @@
+use Rattle.std.proofs.Common.{◌-◌, ap, ◌∙◌, arith}
+use Rattle.moc_parts.specs.declared.reply.Reply.TheVariants.{Changed}
+use Rattle.moc_parts.proofs.Sums.{lacking, shared_less}
+use Rattle.moc_parts.proofs.draft.Draft.add.Goals as goal
+
+pub overflow_sub-lacking : goal.overflow_sub-lacking
+overflow_sub-lacking c = omega (arith, shared_less c.args.self.now.set c.args.other.now, c.count_common.ensures, c.count.ensures.size)
+
+pub returns-clause-reply : goal.returns-clause-reply
+returns-clause-reply c = ap Changed ((λ i. c.count.ensures.size i - c.count_common.ensures i) ∙ lacking c.args.self.now.set c.args.other.now)

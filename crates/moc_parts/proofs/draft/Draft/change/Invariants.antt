@@ -1,0 +1,7 @@
+use Rattle.std.proofs.Common.{◌≡◌}
+use Rattle.moc_parts.specs.Changes.{changed}
+use Rattle.moc_parts.proofs.Drafting.{half_changed}
+use Rattle.moc_parts.proofs.draft.Draft.change.Given as goal
+
+abbrev pub invariant-loop-b : goal.invariant-loop-b
+invariant-loop-b l = (l.self.set ≡ half_changed (changed l.change l.fn.self.set) l.fn.self.set l.b) × (l.self.found ≡ l.fn.self.found)

@@ -1,0 +1,6 @@
+use Rattle.std.proofs.Common.{◌≡◌}
+use Rattle.moc_parts.specs.Parts.{parts_below}
+use Rattle.moc_parts.proofs.map.Map.new.Given as goal
+
+abbrev pub invariant-loop-b : goal.invariant-loop-b
+invariant-loop-b l = l.parts.items ≡ parts_below l.fn.start l.b

@@ -1,0 +1,33 @@
+-- What a change makes of a set, and of one of its parts.
+use Rattle.std.specs.Prelude.{ℕ, ◌≤◌}
+use Rattle.std.specs.FinSet as set
+use Rattle.moc_ranges.specs.Numbers.{NumberSet}
+use Rattle.moc_ranges.specs.Pixels.{pixels}
+use Rattle.moc_ranges.specs.Operations.{complement, part_of, IsWithin}
+use Rattle.moc_ranges.specs.Cells.{degrade}
+use Rattle.moc_parts.specs.declared.change.Change.{Change}
+use Rattle.moc_parts.specs.declared.change.Change.TheVariants.{Join, Leave, Share, Invert, Degrade}
+
+-- what a change makes of a set
+abbrev pub changed : Change → NumberSet → NumberSet
+changed (Join s) a = set.union a s.now
+changed (Leave s) a = set.difference a s.now
+changed (Share s) a = set.intersection a s.now
+changed Invert a = complement a
+changed (Degrade order) a = degrade a order
+
+-- what it makes of part b alone
+abbrev pub changed_part : Change → NumberSet → ℕ → NumberSet
+changed_part (Join s) part b = set.union part (part_of s.now b)
+changed_part (Leave s) part b = set.difference part s.now
+changed_part (Share s) part b = set.intersection part s.now
+changed_part Invert part b = part_of (complement part) b
+changed_part (Degrade order) part b = degrade part order
+
+-- a change is by a set of pixels, or to an order that there is
+abbrev pub IsChange : Change → Type 0
+IsChange (Join s) = IsWithin s.now pixels
+IsChange (Leave s) = IsWithin s.now pixels
+IsChange (Share s) = IsWithin s.now pixels
+IsChange Invert = Unit {0}
+IsChange (Degrade order) = order ≤ 29

@@ -1,0 +1,112 @@
+-- The commands on one set of pixels, and their footprints.
+use Rattle.std.specs.Prelude.{ℕ, ◌≤◌, Bool, true, false, nat_lt, nat_eq, Option, None, Some, IfSome, List, ◌∷◌, map, if◌then◌else◌}
+use Rattle.std.specs.List.{list_any}
+use Rattle.std.specs.FinSet as set
+use Rattle.moc_sphere.specs.CellNumber.{CellNumber, cell_number, IsCell}
+use Rattle.moc_sphere.specs.Faces.{face_of}
+use Rattle.moc_sphere.specs.Touching.{touching_cells}
+use Rattle.moc_ranges.specs.Numbers.{NumberSet}
+use Rattle.moc_ranges.specs.Pixels.{pixel_count, pixels}
+use Rattle.moc_ranges.specs.RangeList.{set_of}
+use Rattle.moc_ranges.specs.CellLaws.{cell_range}
+use Rattle.moc_ranges.specs.Operations.{complement, part_of, meets, IsWithin}
+use Rattle.moc_ranges.specs.Cells.{degrade}
+use Rattle.moc_parts.specs.Objects.{Object}
+use Rattle.moc_parts.specs.declared.command.Operand.{Operand}
+use Rattle.moc_parts.specs.declared.command.Command.{Command}
+use Rattle.moc_parts.specs.declared.command.Command.TheVariants.{Add, Remove, Keep, Claim, Invert, Degrade, Count, Read, Near}
+use Rattle.moc_parts.specs.declared.reply.Reply.{Reply}
+use Rattle.moc_parts.specs.declared.reply.Reply.TheVariants as reply
+
+-- a set, degraded where an order is given
+abbrev pub degraded : NumberSet → Option ℕ → NumberSet
+degraded a None = a
+degraded a (Some order) = degrade a order
+
+-- the set that a command works with: the operand's, degraded where an order is given
+abbrev pub operand_set : Operand → NumberSet
+operand_set x = degraded x.set x.coarse
+
+-- the indices of a cell and of the cells that touch it
+abbrev pub cells_around : CellNumber → List ℕ
+cells_around c = c.index ∷ touching_cells c.order c.index
+
+-- the pixels of a cell and of the cells that touch it
+unfoldable pub surroundings : CellNumber → NumberSet
+surroundings c = set_of (map (λ index. cell_range (cell_number c.order index)) (cells_around c))
+
+-- the parts that a set meets, and part 0 where it is empty
+abbrev pub parts_met : NumberSet → ℕ → Bool
+parts_met a b = if nat_eq (set.len a) 0 then nat_eq b 0 else nat_lt 0 (set.len (part_of a b))
+
+-- the base pixels of a cell and of the cells that touch it
+abbrev pub parts_around : CellNumber → ℕ → Bool
+parts_around c b = list_any (λ index. nat_eq (face_of c.order index) b) (cells_around c)
+
+-- the parts that a command looks at and changes
+abbrev pub footprint : Command → ℕ → Bool
+footprint (Add x) b = parts_met x.set b
+footprint (Remove x) b = parts_met x.set b
+footprint (Keep x) b = nat_lt b 12
+footprint (Claim x) b = parts_met x.set b
+footprint Invert b = nat_lt b 12
+footprint (Degrade order) b = nat_lt b 12
+footprint (Count x) b = parts_met x.set b
+footprint (Read x) b = parts_met x.set b
+footprint (Near c) b = parts_around c b
+
+-- the set that a command leaves
+abbrev pub set_after : NumberSet → Command → NumberSet
+set_after a (Add x) = set.union a (operand_set x)
+set_after a (Remove x) = set.difference a (operand_set x)
+set_after a (Keep x) = set.intersection a (operand_set x)
+set_after a (Claim x) = if meets a (operand_set x) then a else set.union a (operand_set x)
+set_after a Invert = complement a
+set_after a (Degrade order) = degrade a order
+set_after a (Count x) = a
+set_after a (Read x) = a
+set_after a (Near c) = a
+
+-- what a command replies
+abbrev pub reply_on : NumberSet → Command → Reply
+reply_on a (Add x) = reply.Changed (set.len (set.difference (operand_set x) a))
+reply_on a (Remove x) = reply.Changed (set.len (set.intersection a (operand_set x)))
+reply_on a (Keep x) = reply.Changed (set.len (set.difference a (operand_set x)))
+reply_on a (Claim x) = if meets a (operand_set x) then reply.Taken (set.len (set.intersection a (operand_set x))) else reply.Claimed
+reply_on a Invert = reply.Changed pixel_count
+reply_on a (Degrade order) = reply.Changed (set.len (set.difference (degrade a order) a))
+reply_on a (Count x) = reply.Total (set.len (set.intersection a (operand_set x)))
+reply_on a (Read x) = reply.Cover (set.intersection a (operand_set x))
+reply_on a (Near c) = reply.Near (meets a (surroundings c))
+
+-- whether a command may change the set
+abbrev pub is_update : Command → Bool
+is_update (Add x) = true
+is_update (Remove x) = true
+is_update (Keep x) = true
+is_update (Claim x) = true
+is_update Invert = true
+is_update (Degrade order) = true
+is_update (Count x) = false
+is_update (Read x) = false
+is_update (Near c) = false
+
+-- the commands as an object
+abbrev pub commands : Object Command Reply
+commands = record { footprint = footprint; answer = λ a c. (set_after a c, reply_on a c) }
+
+-- an operand is a set of pixels, and its order is 0 to 29
+abbrev pub IsOperand : Operand → Type 0
+IsOperand x = IsWithin x.set pixels × IfSome x.coarse (λ order. order ≤ 29)
+
+-- sets lie within the pixels, orders are 0 to 29, and cells are cells
+abbrev pub IsCommand : Command → Type 0
+IsCommand (Add x) = IsOperand x
+IsCommand (Remove x) = IsOperand x
+IsCommand (Keep x) = IsOperand x
+IsCommand (Claim x) = IsOperand x
+IsCommand Invert = Unit {0}
+IsCommand (Degrade order) = order ≤ 29
+IsCommand (Count x) = IsOperand x
+IsCommand (Read x) = IsOperand x
+IsCommand (Near c) = IsCell c

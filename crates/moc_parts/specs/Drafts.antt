@@ -1,0 +1,32 @@
+-- A set in twelve parts while a batch is done on it: the lists that were found, and those that were made anew.
+use Rattle.std.specs.Prelude.{ℕ, ◌/◌, List, [], ◌∷◌, Option, map, not, nat_eq, refl}
+use Rattle.std.specs.Coded.{Coded, code_by, coded×, coded_list, coded_ℕ}
+use Rattle.std.specs.FinSet as set
+use Rattle.std.specs.Borrow.{Bor}
+use Rattle.std.specs.Option.{unwrap_or}
+use Rattle.moc_ranges.specs.Numbers.{NumberSet}
+use Rattle.moc_ranges.specs.Pixels.{base_pixel_size}
+
+-- the sets of the lists that were found
+abbrev pub nows : List (Bor NumberSet) → List NumberSet
+nows lists = map (λ list. list.now) lists
+
+-- of each part the set that was made, or else the one that was found
+abbrev pub newest : List NumberSet → List (Option NumberSet) → List NumberSet
+newest [] made = []
+newest (part ∷ found) [] = part ∷ newest found []
+newest (part ∷ found) (new ∷ made) = unwrap_or new part ∷ newest found made
+
+-- the parts that were found, and the set now
+pub record Drafted : Type 0 where
+  pub found : List NumberSet
+  pub set : NumberSet
+
+-- a draft is stored as the pair of its fields
+abbrev pub drafted_code : Coded Drafted
+drafted_code =
+    code_by (List NumberSet × NumberSet) (coded× (coded_list (set.code coded_ℕ)) (set.code coded_ℕ)) (λ d. (d.found, d.set)) (λ p. record { found = p.0; set = p.1 }) (λ _. refl)
+
+-- a set whose part b is another
+unfoldable pub with_part : NumberSet → ℕ → NumberSet → NumberSet
+with_part a b part = set.union (set.retain a (λ p. not (nat_eq (p / base_pixel_size) b))) part

@@ -1,0 +1,10 @@
+pub mod Objects
+pub mod Commands
+pub mod Batches
+pub mod Parts
+pub mod Changes
+pub mod Drafts
+pub mod Resolved
+pub mod PartSets
+pub mod Prepared
+pub mod Laws

@@ -1,0 +1,40 @@
+-- What is prepared from what was found in the footprint.
+use Rattle.std.specs.Prelude.{◌≡◌, ◌<◌, ℕ, Bool, true, false, get_or, Option, None, Some, List, map}
+use Rattle.std.specs.Borrow.{Bor}
+use Rattle.std.specs.Option.{option_copied}
+use Rattle.std.specs.FinSet as set
+use Rattle.moc_ranges.specs.Numbers.{NumberSet}
+use Rattle.moc_ranges.specs.Pixels.{pixels}
+use Rattle.moc_ranges.specs.Operations.{IsWithin, part_of}
+use Rattle.moc_parts.specs.Objects.{AgreeOn}
+use Rattle.moc_parts.specs.Batches.{set_after_all, replies_on, footprint_of_all}
+use Rattle.moc_parts.specs.declared.command.Command.{Command}
+use Rattle.moc_parts.specs.declared.reply.Reply.{Reply}
+
+-- what was found in a part, and nothing where the part was not looked at
+abbrev pub found_in : Option NumberSet → NumberSet
+found_in None = set.empty
+found_in (Some part) = part
+
+-- what was found in each of the twelve parts
+abbrev pub found_sets : List (Option (Bor NumberSet)) → List NumberSet
+found_sets found = map (λ part. found_in (option_copied part)) found
+
+-- the new contents that are left to take, by part, and the replies
+pub record Preparation : Type 0 where
+  pub lists : List (Option NumberSet)
+  pub replies : List Reply
+
+-- a part of a set, if it is kept
+abbrev pub kept : Bool → NumberSet → ℕ → Option NumberSet
+kept true a b = Some (part_of a b)
+kept false a b = None
+
+-- the replies are those on every set that agrees in the footprint with what was found
+abbrev pub AreRepliesTo : List Command → NumberSet → List Reply → Type 0
+AreRepliesTo cs found replies = (a : NumberSet) → IsWithin a pixels → AgreeOn (footprint_of_all cs) found a → replies ≡ replies_on a cs
+
+-- for every such set: the replies, and the new contents of the footprint's parts and of no other
+pub record IsPrepared (cs : List Command) (found : NumberSet) (p : Preparation) : Type 0 where
+  pub replied : AreRepliesTo cs found p.replies
+  pub parts : (a : NumberSet) → IsWithin a pixels → AgreeOn (footprint_of_all cs) found a → (b : ℕ) → b < 12 → get_or p.lists b None ≡ kept (footprint_of_all cs b) (set_after_all a cs) b

@@ -1,0 +1,140 @@
+//! What each command does to a draft.
+ghost use Rattle.std.specs.Prelude.{◌≡◌, ◌≤◌, IfOk, OnOk, if◌then◌else◌};
+ghost use Rattle.std.specs.FinSet as set;
+ghost use Rattle.moc_ranges.specs.Cells.{degrade};
+ghost use Rattle.moc_ranges.specs.Operations.{complement, meets, IsWithin};
+ghost use Rattle.moc_ranges.specs.Pixels.{pixel_count, pixels};
+ghost use Rattle.moc_parts.specs.Batches.{replies_on, set_after_all, AreCommands};
+ghost use Rattle.moc_parts.specs.Commands.{reply_on, set_after, surroundings, IsCommand};
+ghost use Rattle.moc_parts.specs.declared.reply.Reply.TheVariants as reply;
+
+use crate::change::Change;
+use crate::command::Command;
+use crate::draft::Draft;
+use crate::reply::{Replies, Reply};
+use crate::surroundings::surroundings_of;
+use moc_ranges::{Coverage, Memory, PIXEL_COUNT};
+use moc_sphere::{Cell, Order};
+use std::alloc::Global;
+
+impl<'a> Draft<'a> {
+    /// Adds a set.
+    fn add(&mut self, alloc: Global, other: &Coverage) -> Result<Reply, Memory>
+        requires { IsWithin other.now pixels }
+        ensures set { OnOk result (self.new.set ≡ set.union self.old.set other.now) }
+        ensures reply { IfOk result (λ r. r ≡ reply.Changed (set.len (set.difference other.now self.old.set))) }
+        ensures found { self.new.found ≡ self.old.found }
+    {
+        let lacking = other.count() - self.count_common(other);
+        self.change(alloc, &Change::Join(other))?;
+        Ok(Reply::Changed(lacking))
+    }
+
+    /// Removes a set.
+    fn remove(&mut self, alloc: Global, other: &Coverage) -> Result<Reply, Memory>
+        requires { IsWithin other.now pixels }
+        ensures set { OnOk result (self.new.set ≡ set.difference self.old.set other.now) }
+        ensures reply { IfOk result (λ r. r ≡ reply.Changed (set.len (set.intersection self.old.set other.now))) }
+        ensures found { self.new.found ≡ self.old.found }
+    {
+        let common = self.count_common(other);
+        self.change(alloc, &Change::Leave(other))?;
+        Ok(Reply::Changed(common))
+    }
+
+    /// Keeps what a set has.
+    fn keep(&mut self, alloc: Global, other: &Coverage) -> Result<Reply, Memory>
+        requires { IsWithin other.now pixels }
+        ensures set { OnOk result (self.new.set ≡ set.intersection self.old.set other.now) }
+        ensures reply { IfOk result (λ r. r ≡ reply.Changed (set.len (set.difference self.old.set other.now))) }
+        ensures found { self.new.found ≡ self.old.found }
+    {
+        let dropped = self.count() - self.count_common(other);
+        self.change(alloc, &Change::Share(other))?;
+        Ok(Reply::Changed(dropped))
+    }
+
+    /// Adds a set if nothing of it is there.
+    fn claim(&mut self, alloc: Global, other: &Coverage) -> Result<Reply, Memory>
+        requires { IsWithin other.now pixels }
+        ensures set { OnOk result (self.new.set ≡ (if meets self.old.set other.now then self.old.set else set.union self.old.set other.now)) }
+        ensures reply { IfOk result (λ r. r ≡ (if meets self.old.set other.now then reply.Taken (set.len (set.intersection self.old.set other.now)) else reply.Claimed)) }
+        ensures found { self.new.found ≡ self.old.found }
+    {
+        let common = self.count_common(other);
+        if common > 0 {
+            return Ok(Reply::Taken(common));
+        }
+        self.change(alloc, &Change::Join(other))?;
+        Ok(Reply::Claimed)
+    }
+
+    /// Takes the pixels of the sky that are not there.
+    fn invert(&mut self, alloc: Global) -> Result<Reply, Memory>
+        ensures set { OnOk result (self.new.set ≡ complement self.old.set) }
+        ensures reply { IfOk result (λ r. r ≡ reply.Changed pixel_count) }
+        ensures found { self.new.found ≡ self.old.found }
+    {
+        self.change(alloc, &Change::Invert)?;
+        Ok(Reply::Changed(PIXEL_COUNT))
+    }
+
+    /// Degrades to an order.
+    fn degrade(&mut self, alloc: Global, order: Order) -> Result<Reply, Memory>
+        requires { order ≤ 29 }
+        ensures set { OnOk result (self.new.set ≡ degrade self.old.set order) }
+        ensures reply { IfOk result (λ r. r ≡ reply.Changed (set.len (set.difference (degrade self.old.set order) self.old.set))) }
+        ensures found { self.new.found ≡ self.old.found }
+    {
+        self.lies_in_sky();
+        let before = self.count();
+        self.change(alloc, &Change::Degrade(order))?;
+        Ok(Reply::Changed(self.count() - before))
+    }
+
+    /// Whether a pixel of a cell or of a touching cell is there.
+    fn near(&self, alloc: Global, cell: Cell) -> Result<Reply, Memory>
+        ensures { IfOk result (λ r. r ≡ reply.Near (meets self.now.set (surroundings cell))) }
+    {
+        let around = surroundings_of(alloc, cell)?;
+        Ok(Reply::Near(self.meets(&around)))
+    }
+
+    /// Does a command.
+    pub(crate) fn answer(&mut self, alloc: Global, command: &Command) -> Result<Reply, Memory>
+        requires { IsCommand command.now }
+        ensures set { OnOk result (self.new.set ≡ set_after self.old.set command.now) }
+        ensures reply { IfOk result (λ r. r ≡ reply_on self.old.set command.now) }
+        ensures found { self.new.found ≡ self.old.found }
+    {
+        match command {
+            Command::Add(x) => self.add(alloc, x.resolved(alloc)?.set()),
+            Command::Remove(x) => self.remove(alloc, x.resolved(alloc)?.set()),
+            Command::Keep(x) => self.keep(alloc, x.resolved(alloc)?.set()),
+            Command::Claim(x) => self.claim(alloc, x.resolved(alloc)?.set()),
+            Command::Invert => self.invert(alloc),
+            Command::Degrade(order) => self.degrade(alloc, *order),
+            Command::Count(x) => Ok(Reply::Total(self.count_common(x.resolved(alloc)?.set()))),
+            Command::Read(x) => Ok(Reply::Cover(self.common(alloc, x.resolved(alloc)?.set())?)),
+            Command::Near(cell) => self.near(alloc, *cell),
+        }
+    }
+
+    /// Does commands in order.
+    pub(crate) fn answer_all(
+        &mut self,
+        alloc: Global,
+        commands: &[Command],
+    ) -> Result<Replies, Memory>
+        requires { AreCommands commands.now }
+        ensures set { OnOk result (self.new.set ≡ set_after_all self.old.set commands.now) }
+        ensures replies { IfOk result (λ r. r ≡ replies_on self.old.set commands.now) }
+        ensures found { self.new.found ≡ self.old.found }
+    {
+        let mut replies = Replies::new(alloc);
+        for command in commands {
+            replies.push(self.answer(alloc, command)?)?;
+        }
+        Ok(replies)
+    }
+}

@@ -1,0 +1,106 @@
+//! Commands that are done in order, as one operation.
+ghost use Rattle.std.specs.Prelude.{◌≡◌, ◌<◌, ◌≤◌, length, nat_eq, IfOk, IfErr, OnOk, OnErr, if◌then◌else◌};
+ghost use Rattle.std.specs.List.{list_any};
+ghost use Rattle.moc_parts.specs.Batches.{AreCommands};
+ghost use Rattle.moc_parts.specs.Commands.{is_update};
+
+use crate::command::Command;
+use crate::push::push;
+use moc_ranges::Memory;
+use std::alloc::Global;
+use std::marker::Model;
+use thiserror::Error;
+
+/// The most commands of a batch.
+const MOST: usize = 16;
+
+/// Why commands are no batch.
+#[derive(Clone, Copy, Debug, PartialEq, Eq, Error)]
+pub enum BatchError {
+    /// There is no command.
+    #[error("a batch has a command")]
+    EmptyCommand,
+    /// There are more than 16 commands.
+    #[error("a batch has at most 16 commands")]
+    TooManyCommands,
+}
+
+/// Commands that are done in order, as one operation: 1 to 16 of them.
+#[derive(Debug, Drop)]
+pub struct Batch {
+    commands: Vec<Command>,
+}
+
+impl Model for Batch {
+    ghost use Rattle.std.specs.Prelude.{List, ◌<◌, ◌≤◌, length};
+    ghost use Rattle.std.specs.Coded.{codes};
+    ghost use Rattle.moc_ranges.specs.contracts.coverage.Coverage as coverage;
+    ghost use Rattle.moc_parts.specs.declared.command.Command.{Command};
+
+    ghost Value = { List Command };
+
+    ghost coded = { Prim.hlevel (codes, coverage.the_row.coded) };
+
+    ghost view = { λ b. b.commands.items };
+
+    ghost invariant = { λ b. (0 < length b.commands.items) × (length b.commands.items ≤ 16) };
+}
+
+impl Batch {
+    /// The commands as a batch, if they are 1 to 16; else they are given up. Takes no memory.
+    pub fn new(commands: Vec<Command>) -> Result<Batch, BatchError>
+        ensures made { IfOk result (λ b. b ≡ commands.items) }
+        ensures accepted { OnOk result ((0 < length commands.items) × (length commands.items ≤ 16)) }
+        ensures empty { IfErr result (λ e. e ≡ (if nat_eq (length commands.items) 0 then BatchError.EmptyCommand else BatchError.TooManyCommands)) }
+        ensures refused { OnErr result (0 < length commands.items → 16 < length commands.items) }
+    {
+        if commands.is_empty() {
+            Err(BatchError::EmptyCommand)
+        } else if commands.len() > MOST {
+            Err(BatchError::TooManyCommands)
+        } else {
+            Ok(Batch { commands })
+        }
+    }
+
+    /// The commands, in order. Takes no memory.
+    pub fn commands(&self) -> &[Command]
+        ensures commands { result.now ≡ self.now }
+        ensures some { 0 < length self.now }
+        ensures few { length self.now ≤ 16 }
+
+        // What lets a caller use the laws of commands.
+        ensures proper { AreCommands self.now }
+    {
+        are_commands(&self.commands);
+        &self.commands
+    }
+
+    /// Whether some command may change the set. Takes no memory.
+    pub fn is_update(&self) -> bool
+        ensures { result ≡ list_any is_update self.now }
+    {
+        self.commands.iter().any(|command| command.is_update())
+    }
+
+    /// A copy. Linear in the ranges of the operands; refused where memory runs out.
+    pub fn try_copy(&self, alloc: Global) -> Result<Batch, Memory>
+        ensures { IfOk result (λ x. x ≡ self.now) }
+    {
+        let mut commands = Vec::new(alloc);
+        for command in &self.commands {
+            push(&mut commands, command.try_copy(alloc)?)?;
+        }
+        Ok(Batch { commands })
+    }
+}
+
+/// Each operand lies in the sky, and each order or cell is one. Does nothing.
+fn are_commands(commands: &[Command])
+    ensures { AreCommands commands.now }
+{
+    if let Some((first, rest)) = commands.split_first() {
+        first.is_command();
+        are_commands(rest);
+    }
+}

@@ -1,0 +1,217 @@
+//! A set in twelve parts while a batch is done on it.
+ghost use Rattle.std.specs.Prelude.{◌≡◌, ◌<◌, ◌++◌, ◌∷◌, [], ℕ, IfOk, OnOk, None, get_or, map, length, unwrap_or};
+ghost use Rattle.std.specs.FinSet as set;
+ghost use Rattle.moc_ranges.specs.Operations.{meets, part_of, IsWithin};
+ghost use Rattle.moc_ranges.specs.Pixels.{pixels};
+ghost use Rattle.moc_parts.specs.Changes.{changed, IsChange};
+ghost use Rattle.moc_parts.specs.Drafts.{newest, nows, with_part};
+ghost use Rattle.moc_parts.specs.Parts.{union_of, parts_below, AreParts};
+ghost use Rattle.moc_parts.specs.PartSets.{has};
+ghost use Rattle.moc_parts.specs.Prepared.{found_sets, kept};
+
+use crate::change::Change;
+use crate::part::{Part, PartSet};
+use crate::push::push;
+use moc_ranges::{Coverage, Memory};
+use std::alloc::Global;
+use std::marker::Model;
+
+/// The lists that were found in the twelve parts, and those that were made anew since.
+#[derive(Drop)]
+pub(crate) struct Draft<'a> {
+    found: Vec<&'a Coverage>,
+    made: Vec<Option<Coverage>>,
+}
+
+impl<'a> Model for Draft<'a> {
+    ghost use Rattle.std.specs.Prelude.{◌≡◌, length};
+    ghost use Rattle.moc_parts.specs.Drafts.{Drafted, drafted_code, newest, nows};
+    ghost use Rattle.moc_parts.specs.Parts.{union_of, AreParts};
+
+    ghost Value = { Drafted };
+
+    ghost coded = { drafted_code };
+
+    ghost view = { λ d. record { found = nows d.found.items; set = union_of (newest (nows d.found.items) d.made.items) } };
+
+    ghost invariant = { λ d. AreParts (newest (nows d.found.items) d.made.items) × (length d.made.items ≡ 12) };
+}
+
+impl<'a> Draft<'a> {
+    /// A draft of the set in these twelve lists.
+    pub(crate) fn new(alloc: Global, lists: &'a [Coverage]) -> Result<Draft<'a>, Memory>
+        requires { AreParts lists.now }
+        ensures { IfOk result (λ d. d ≡ record { found = lists.now; set = union_of lists.now }) }
+    {
+        let mut found = Vec::new(alloc);
+        for list in lists {
+            push(&mut found, list)?;
+        }
+        Draft::of(alloc, found)
+    }
+
+    /// A draft of the set in the lists that were found, with nothing in the parts that were not looked at.
+    pub(crate) fn found(
+        alloc: Global,
+        lists: &'a [Option<&'a Coverage>; 12],
+        nothing: &'a Coverage,
+    ) -> Result<Draft<'a>, Memory>
+        requires parts { AreParts (found_sets lists.now) }
+        requires nothing { nothing.now ≡ set.empty }
+        ensures { IfOk result (λ d. d ≡ record { found = found_sets lists.now; set = union_of (found_sets lists.now) }) }
+    {
+        let mut found = Vec::new(alloc);
+        for list in lists {
+            push(&mut found, list.unwrap_or(nothing))?;
+        }
+        Draft::of(alloc, found)
+    }
+
+    /// A draft on which nothing is done yet.
+    fn of(alloc: Global, found: Vec<&'a Coverage>) -> Result<Draft<'a>, Memory>
+        requires { AreParts (nows found.items) }
+        ensures { IfOk result (λ d. d ≡ record { found = nows found.entry.items; set = union_of (nows found.entry.items) }) }
+    {
+        let mut made = Vec::new(alloc);
+        for _ in &found {
+            push(&mut made, None)?;
+        }
+        Ok(Draft { found, made })
+    }
+
+    /// The set of one part.
+    fn part(&self, b: u8) -> &Coverage
+        requires { b < 12 }
+        ensures { result.now ≡ part_of self.now.set b }
+    {
+        match &self.made[b as usize] {
+            Some(list) => list,
+            None => self.found[b as usize],
+        }
+    }
+
+    /// Nothing lies outside of the sky.
+    pub(crate) fn lies_in_sky(&self)
+        ensures { IsWithin self.now.set pixels }
+    {
+        let _made = &self.made;
+    }
+
+    /// Makes the list of one part anew.
+    fn put(&mut self, b: u8, list: Coverage)
+        requires part { b < 12 }
+        requires list { part_of list b ≡ list }
+        ensures set { self.new.set ≡ with_part self.old.set b list }
+        ensures found { self.new.found ≡ self.old.found }
+    {
+        self.made[b as usize] = Some(list);
+    }
+
+    /// Changes the set.
+    pub(crate) fn change(&mut self, alloc: Global, change: &Change<'_>) -> Result<(), Memory>
+        requires { IsChange change.now }
+        ensures set { OnOk result (self.new.set ≡ changed change.now self.old.set) }
+        ensures found { self.new.found ≡ self.old.found }
+    {
+        self.lies_in_sky();
+        for b in 0u8..12 {
+            if let Some(list) = change.part(alloc, self.part(b), b)? {
+                self.put(b, list);
+            }
+        }
+        Ok(())
+    }
+
+    /// How many pixels the set has.
+    pub(crate) fn count(&self) -> u64
+        ensures { result ≡ set.len self.now.set }
+    {
+        self.lies_in_sky();
+        let mut total = 0;
+        for b in 0u8..12 {
+            total += self.part(b).count();
+        }
+        total
+    }
+
+    /// How many pixels the set has in common with another.
+    pub(crate) fn count_common(&self, other: &Coverage) -> u64
+        ensures { result ≡ set.len (set.intersection self.now.set other.now) }
+    {
+        self.lies_in_sky();
+        let mut total = 0;
+        for b in 0u8..12 {
+            total += self.part(b).count_common(other);
+        }
+        total
+    }
+
+    /// Whether the set has a pixel in common with another.
+    pub(crate) fn meets(&self, other: &Coverage) -> bool
+        ensures { result ≡ meets self.now.set other.now }
+    {
+        self.lies_in_sky();
+        for b in 0u8..12 {
+            if self.part(b).meets(other) {
+                return true;
+            }
+        }
+        false
+    }
+
+    /// The pixels that the set has in common with another.
+    pub(crate) fn common(&self, alloc: Global, other: &Coverage) -> Result<Coverage, Memory>
+        ensures { IfOk result (λ c. c ≡ set.intersection self.now.set other.now) }
+    {
+        self.lies_in_sky();
+        let mut common = Coverage::empty(alloc);
+        for b in 0u8..12 {
+            let shared = self.part(b).intersection(alloc, other)?;
+            if !shared.is_empty() {
+                common = common.union(alloc, &shared)?;
+            }
+        }
+        Ok(common)
+    }
+
+    /// The lists that were made anew.
+    pub(crate) fn into_made(self) -> Vec<Option<Coverage>>
+        ensures lists { newest self.entry.found result.items ≡ parts_below self.entry.set 12 }
+        ensures within { IsWithin self.entry.set pixels }
+        ensures twelve { length result.items ≡ 12 }
+    {
+        self.made
+    }
+
+    /// The lists of the parts of a footprint, with copies of those that were not made anew.
+    pub(crate) fn into_lists(
+        self,
+        alloc: Global,
+        footprint: PartSet,
+    ) -> Result<Vec<Option<Coverage>>, Memory>
+        ensures { IfOk result (λ lists. (b : ℕ) → b < 12 → get_or lists.items b None ≡ kept (has footprint b) self.entry.set b) }
+    {
+        let Draft { found, mut made } = self;
+        let mut lists = Vec::new(alloc);
+        for b in 0u8..12 {
+            let list = if footprint.contains(Part::of(b)) {
+                let part = usize::from(b);
+                Some(owned(alloc, made[part].take(), found[part])?)
+            } else {
+                None
+            };
+            push(&mut lists, list)?;
+        }
+        Ok(lists)
+    }
+}
+
+/// The list that was made anew, or else a copy of the one that was found.
+fn owned(alloc: Global, made: Option<Coverage>, found: &Coverage) -> Result<Coverage, Memory>
+    ensures { IfOk result (λ list. list ≡ unwrap_or made found.now) }
+{
+    match made {
+        Some(list) => Ok(list),
+        None => found.try_copy(alloc),
+    }
+}

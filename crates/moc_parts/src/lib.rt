@@ -1,0 +1,25 @@
+//! A coverage in twelve parts, one for each base pixel, and the commands that change and query it.
+#![tactic(auto)]
+
+mod answers;
+mod batch;
+mod change;
+mod command;
+mod draft;
+mod footprint;
+mod laws;
+mod map;
+mod part;
+mod prepared;
+mod push;
+mod reply;
+mod resolved;
+mod surroundings;
+
+pub use batch::{Batch, BatchError};
+pub use command::{Command, Operand};
+pub use laws::{batches_are_local, commands_are_local, degraded_operands_meet_the_same_parts};
+pub use map::Map;
+pub use part::{Part, PartSet};
+pub use prepared::{Prepared, prepare, reply_of};
+pub use reply::{Replies, Reply};

@@ -1,0 +1,84 @@
+//! A set of pixels in twelve parts.
+ghost use Rattle.std.specs.Prelude.{◌≡◌, IfOk, OnOk, OnErr, length};
+ghost use Rattle.moc_ranges.specs.Operations.{part_of};
+ghost use Rattle.moc_parts.specs.Batches.{replies_on, set_after_all};
+ghost use Rattle.moc_parts.specs.Drafts.{newest};
+
+use crate::batch::Batch;
+use crate::draft::Draft;
+use crate::part::Part;
+use crate::push::push;
+use crate::reply::Replies;
+use moc_ranges::{Coverage, Memory};
+use std::alloc::Global;
+use std::marker::Model;
+
+/// A set of pixels, as the twelve lists of its parts.
+#[derive(Debug, Drop)]
+pub struct Map {
+    parts: Vec<Coverage>,
+}
+
+impl Model for Map {
+    ghost use Rattle.std.specs.Ordering.{nat_cmp};
+    ghost use Rattle.std.specs.FinSet as set;
+    ghost use Rattle.std.specs.Coded.{coded_ℕ};
+    ghost use Rattle.moc_parts.specs.Parts.{union_of, AreParts};
+
+    ghost Value = { set.FinSet nat_cmp };
+
+    ghost coded = { set.code coded_ℕ };
+
+    ghost view = { λ m. union_of m.parts.items };
+
+    ghost invariant = { λ m. AreParts m.parts.items };
+}
+
+impl Map {
+    /// The map of a set. O(n) for n ranges; refused where memory runs out.
+    pub fn new(alloc: Global, start: Coverage) -> Result<Map, Memory>
+        ensures { IfOk result (λ m. m ≡ start) }
+    {
+        start.lies_in_sky();
+        let mut parts = Vec::new(alloc);
+        for b in 0u8..12 {
+            push(&mut parts, start.part(alloc, b)?)?;
+        }
+        Ok(Map { parts })
+    }
+
+    /// The pixels of one part. Takes no memory.
+    pub fn part(&self, part: Part) -> &Coverage
+        ensures { result.now ≡ part_of self.now part }
+    {
+        &self.parts[usize::from(part.get())]
+    }
+
+    /// Does the commands of a batch in order, and replies to each.
+    ///
+    /// A list that changes is made anew, in one pass; one that does not change is not copied. Refused where memory runs out;
+    /// the map then is as it was.
+    pub fn apply(&mut self, alloc: Global, batch: &Batch) -> Result<Replies, Memory>
+        ensures set { OnOk result (self.new ≡ set_after_all self.old batch.now) }
+        ensures replies { IfOk result (λ r. r ≡ replies_on self.old batch.now) }
+        ensures unchanged { OnErr result (self.new ≡ self.old) }
+    {
+        let mut draft = Draft::new(alloc, &self.parts)?;
+        let replies = draft.answer_all(alloc, batch.commands())?;
+        let made = draft.into_made();
+        put_all(&mut self.parts, made);
+        Ok(replies)
+    }
+}
+
+/// Puts the lists that were made anew into their places.
+fn put_all(parts: &mut [Coverage], mut made: Vec<Option<Coverage>>)
+    requires { length made.items ≡ length parts.old }
+    ensures { parts.new ≡ newest parts.old made.items }
+{
+    for b in 0..parts.len() {
+        if let Some(list) = made[b].take() {
+            parts[b] = list;
+        }
+    }
+}

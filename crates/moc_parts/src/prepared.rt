@@ -1,0 +1,102 @@
+//! What a batch makes of the parts in its footprint, from what was found there.
+ghost use Rattle.std.specs.Prelude.{◌≡◌, ◌<◌, ℕ, IfOk, None, false, get_or, set as set_at};
+ghost use Rattle.std.specs.List.{list_any};
+ghost use Rattle.moc_parts.specs.Commands.{is_update};
+ghost use Rattle.moc_parts.specs.Parts.{union_of, AreParts};
+ghost use Rattle.moc_parts.specs.Prepared.{found_sets, AreRepliesTo, IsPrepared};
+
+use crate::batch::Batch;
+use crate::draft::Draft;
+use crate::part::Part;
+use crate::reply::Replies;
+use moc_ranges::{Coverage, Memory};
+use std::alloc::Global;
+use std::marker::Model;
+
+/// The new list of each part in the footprint of a batch, and the replies to its commands.
+#[derive(Debug, Drop)]
+pub struct Prepared {
+    lists: Vec<Option<Coverage>>,
+    replies: Replies,
+}
+
+impl Model for Prepared {
+    ghost use Rattle.std.specs.Coded.{codes, coded_ℕ};
+    ghost use Rattle.std.specs.FinSet as set;
+    ghost use Rattle.std.specs.Ordering.{nat_cmp};
+    ghost use Rattle.moc_ranges.specs.contracts.coverage.Coverage as coverage;
+    ghost use Rattle.moc_parts.specs.Prepared.{Preparation};
+
+    ghost Value = { Preparation };
+
+    ghost coded = { Prim.hlevel (codes, coverage.the_row.coded, set.code {R = nat_cmp} coded_ℕ) };
+
+    ghost view = { λ p. record { lists = p.lists.items; replies = p.replies } };
+}
+
+impl Prepared {
+    /// The replies, in the order of the commands. Takes no memory.
+    pub fn reply(&self) -> &Replies
+        ensures { result.now ≡ self.now.replies }
+    {
+        &self.replies
+    }
+
+    /// The new list of a part: `None` outside of the footprint, and where it was taken before. Takes no memory.
+    pub fn take(&mut self, part: Part) -> Option<Coverage>
+        ensures taken { result ≡ get_or self.old.lists part None }
+        ensures left { self.new.lists ≡ set_at self.old.lists part None }
+        ensures replies { self.new.replies ≡ self.old.replies }
+    {
+        match self.lists.get_mut(usize::from(part.get())) {
+            Some(list) => list.take(),
+            None => None,
+        }
+    }
+
+    /// The replies alone; the lists that were not taken are given up. Takes no memory.
+    pub fn into_reply(self) -> Replies
+        ensures { result ≡ self.replies }
+    {
+        self.replies
+    }
+}
+
+/// The new lists of the parts in the footprint of a batch, and its replies, from the lists that were found there.
+///
+/// Each part that is found lies in its own base pixel. What was found outside of the footprint has no say in it. Lists that do
+/// not change are copied. Refused where memory runs out.
+pub fn prepare(
+    alloc: Global,
+    batch: &Batch,
+    found: &[Option<&Coverage>; 12],
+) -> Result<Prepared, Memory>
+    requires { AreParts (found_sets found.now) }
+
+    // So on every set that agrees with what was found in the footprint: its replies, and its new content there.
+    ensures { IfOk result (λ p. IsPrepared batch.now (union_of (found_sets found.now)) p) }
+{
+    let nothing = Coverage::empty(alloc);
+    let mut draft = Draft::found(alloc, found, &nothing)?;
+    let replies = draft.answer_all(alloc, batch.commands())?;
+    let lists = draft.into_lists(alloc, batch.footprint(alloc))?;
+    Ok(Prepared { lists, replies })
+}
+
+/// The replies to a batch that is no update, from the lists that were found in its footprint, as `prepare` has them.
+///
+/// Copies no list. Refused where memory runs out.
+pub fn reply_of(
+    alloc: Global,
+    batch: &Batch,
+    found: &[Option<&Coverage>; 12],
+) -> Result<Replies, Memory>
+    requires query { list_any is_update batch.now ≡ false }
+    requires parts { AreParts (found_sets found.now) }
+    ensures { IfOk result (λ r. AreRepliesTo batch.now (union_of (found_sets found.now)) r) }
+{
+    let nothing = Coverage::empty(alloc);
+    let mut draft = Draft::found(alloc, found, &nothing)?;
+    let replies = draft.answer_all(alloc, batch.commands())?;
+    Ok(replies)
+}

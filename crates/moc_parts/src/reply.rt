@@ -1,0 +1,95 @@
+//! What a map replies.
+ghost use Rattle.std.specs.Prelude.{◌≡◌, ◌++◌, ◌∷◌, [], IfOk, OnOk};
+
+use crate::push::push;
+use moc_ranges::{Coverage, Memory};
+use std::alloc::Global;
+use std::marker::Model;
+
+/// What a command is answered. Counts are of pixels of order 29.
+#[derive(Debug, Drop)]
+pub enum Reply {
+    /// How many pixels changed.
+    Changed(u64),
+    /// The set was claimed: nothing of it was there.
+    Claimed,
+    /// How many pixels of the claim were there already.
+    Taken(u64),
+    /// How many pixels were counted.
+    Total(u64),
+    /// The pixels that were read.
+    Cover(Coverage),
+    /// Whether the set has a pixel in the surroundings of the cell.
+    Near(bool),
+}
+
+impl Reply {
+    /// A copy. O(n) for n ranges; refused where memory runs out.
+    pub fn try_copy(&self, alloc: Global) -> Result<Reply, Memory>
+        ensures { IfOk result (λ x. x ≡ self.now) }
+    {
+        Ok(match self {
+            Reply::Changed(pixels) => Reply::Changed(*pixels),
+            Reply::Claimed => Reply::Claimed,
+            Reply::Taken(pixels) => Reply::Taken(*pixels),
+            Reply::Total(pixels) => Reply::Total(*pixels),
+            Reply::Cover(set) => Reply::Cover(set.try_copy(alloc)?),
+            Reply::Near(near) => Reply::Near(*near),
+        })
+    }
+}
+
+/// The replies of a batch, in the order of its commands.
+#[derive(Debug, Drop)]
+pub struct Replies {
+    replies: Vec<Reply>,
+}
+
+impl Model for Replies {
+    ghost use Rattle.std.specs.Prelude.{List};
+    ghost use Rattle.std.specs.Coded.{codes};
+    ghost use Rattle.moc_ranges.specs.contracts.coverage.Coverage as coverage;
+    ghost use Rattle.moc_parts.specs.declared.reply.Reply.{Reply};
+
+    ghost Value = { List Reply };
+
+    ghost coded = { Prim.hlevel (codes, coverage.the_row.coded) };
+
+    ghost view = { λ r. r.replies.items };
+}
+
+impl Replies {
+    /// No reply yet.
+    pub(crate) fn new(alloc: Global) -> Replies
+        ensures { result ≡ [] }
+    {
+        Replies {
+            replies: Vec::new(alloc),
+        }
+    }
+
+    /// Adds a reply.
+    pub(crate) fn push(&mut self, reply: Reply) -> Result<(), Memory>
+        ensures { OnOk result (self.new ≡ self.old ++ reply ∷ []) }
+    {
+        push(&mut self.replies, reply)
+    }
+
+    /// The replies, in the order of the commands. Takes no memory.
+    pub fn as_slice(&self) -> &[Reply]
+        ensures { result.now ≡ self.now }
+    {
+        &self.replies
+    }
+
+    /// A copy. Linear in the replies and their ranges; refused where memory runs out.
+    pub fn try_copy(&self, alloc: Global) -> Result<Replies, Memory>
+        ensures { IfOk result (λ x. x ≡ self.now) }
+    {
+        let mut copy = Replies::new(alloc);
+        for reply in &self.replies {
+            copy.push(reply.try_copy(alloc)?)?;
+        }
+        Ok(copy)
+    }
+}
