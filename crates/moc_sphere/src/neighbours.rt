@@ -7,7 +7,7 @@ ghost use Rattle.std.specs.Prelude.{◌≡◌, ℕ, ◌+◌, ◌<◌, ◌≤◌,
 
 use crate::bits::spread;
 use crate::cell::Cell;
-use crate::rising::insert_rising;
+use crate::rising::{insert_rising, sums_around};
 use crate::sides::{Place, beside};
 use smallvec::SmallVec;
 use std::alloc::Global;
@@ -51,16 +51,13 @@ impl Cell {
         ensures inline { result.capacity ≡ 8 }
     {
         let first = u64::from(face) << (2 * self.order().get());
-        let right = [spread(x - 1), spread(x), spread(x + 1)];
-        let up = [spread(y - 1), spread(y), spread(y + 1)];
-        let mut cells = SmallVec::new(alloc);
-        for near in 0usize..9 {
-            if near != 4 {
-                let index = first + right[near / 3] + 2 * up[near % 3];
-                insert_rising(&mut cells, index);
-            }
-        }
-        cells
+        let across = [
+            first + spread(x - 1),
+            first + spread(x),
+            first + spread(x + 1),
+        ];
+        let up = [2 * spread(y - 1), 2 * spread(y), 2 * spread(y + 1)];
+        SmallVec::from_buf(alloc, sums_around(across, up))
     }
 
     /// The cells that touch this one, which has this place, in whatever base pixels they lie.
