@@ -1,17 +1,16 @@
 -- The steps from a cell that has its place off the border of its base pixel.
-use Rattle.std.proofs.Common.{◌≡◌, ◌≢◌, ℕ, zero, suc, ◌+◌, ◌-◌, ◌*◌, ◌/◌, ◌%◌, ◌^◌, ◌<◌, ◌≤◌, ◌↔◌, List, [], ◌∷◌, get_or, Contains, inl, inr, refl, sym, ap, ◌∙◌, arith}
+use Rattle.std.proofs.Common.{◌≡◌, ◌≢◌, ℕ, zero, suc, ◌+◌, ◌-◌, ◌*◌, ◌/◌, ◌%◌, ◌^◌, ◌<◌, ◌≤◌, ◌↔◌, List, [], ◌∷◌, get_or, Contains, inl, refl, sym, ap, ◌∙◌, arith}
 use Rattle.std.specs.List.Sorted.{IsStrictlyIncreasing}
-use Rattle.std.proofs.lemmas.Bool.{cases_lt}
 use Rattle.moc_sphere.specs.CellNumber.{cell_count}
 use Rattle.moc_sphere.specs.Faces.{face_of, x_of, y_of, spread_of}
 use Rattle.moc_sphere.specs.Sums.{sum_at}
 use Rattle.moc_sphere.specs.Touching.{Touches}
 use Rattle.moc_sphere.proofs.CellFacts.{index_code, index_fits}
 use Rattle.moc_sphere.proofs.FaceBounds.{side_positive}
-use Rattle.moc_sphere.proofs.Places.{pow_suc}
 use Rattle.moc_sphere.proofs.Powers.{two_pow_le}
 use Rattle.moc_sphere.proofs.RingCount.{index_of, index_in_range, face_of-index, x_of-index, y_of-index}
 use Rattle.moc_sphere.proofs.Search.{one_at_step}
+use Rattle.moc_sphere.proofs.SpreadSteps.{spread_of-rises}
 use Rattle.moc_sphere.proofs.Touching.{IsAtStep, Touches-from_step, step_from_Touches}
 
 -- a step leads to the index of the place, in the same base pixel
@@ -28,14 +27,6 @@ step_inside k i f x y d j ef ex ey fb xp xl yp yl db ej =
     )
 
 -- ---- the sums of the code
-
-spread_of-rises : (k x y : ℕ) → x < y → y < 2 ^ k → spread_of k x < spread_of k y
-unfolding spread_of
-spread_of-rises zero x y lt fits = absurd (omega arith)
-spread_of-rises (suc k) x y lt fits = elim (cases_lt (x / 2) (y / 2)) [
-  | inl less ↦ let rest = spread_of-rises k (x / 2) (y / 2) less (omega (arith, pow_suc 2 k)) in omega arith
-  | inr same ↦ let e : x / 2 ≡ y / 2 = omega arith in let rest = ap (spread_of k) e in omega arith
-]
 
 -- the spread coordinates of the cell and of those beside it, and the first number of its base pixel
 pub record IsAround (k f x y first p q r s t u : ℕ) : Type 0 where
@@ -66,6 +57,9 @@ up_at p q r zero x ep eq er pos l = let e : x - 1 ≡ x + 0 - 1 = omega arith in
 up_at p q r (suc zero) x ep eq er pos l = let e : x ≡ x + 1 - 1 = omega arith in ap (λ n. 2 * n) (eq ∙ ap (spread_of 32) e)
 up_at p q r (suc (suc zero)) x ep eq er pos l = let e : x + 1 ≡ x + 2 - 1 = omega arith in ap (λ n. 2 * n) (er ∙ ap (spread_of 32) e)
 up_at p q r (suc (suc (suc a))) x ep eq er pos l = absurd (omega arith)
+
+pub in_word : (k x : ℕ) → k ≤ 29 → x + 1 < 2 ^ k → x + 1 < 2 ^ 32
+in_word k x small l = omega (arith, two_pow_le k small)
 
 -- the spread coordinate of a place beside the cell, put after the first number of the base pixel, is a number
 pub across_fits : (k f x s j v : ℕ) → j ≡ k → j ≤ 29 → v ≡ f → f < 12 → x < 2 ^ k → s ≡ spread_of 32 x → v * 2 ^ (2 * j) % 2 ^ 64 + s < 2 ^ 64

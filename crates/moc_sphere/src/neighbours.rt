@@ -5,7 +5,7 @@ ghost use Rattle.moc_sphere.specs.Touching.{Touches, touching_cells};
 ghost use Rattle.std.specs.List.Sorted.{IsStrictlyIncreasing};
 ghost use Rattle.std.specs.Prelude.{◌≡◌, ℕ, ◌+◌, ◌<◌, ◌≤◌, ◌^◌, ◌↔◌, Contains};
 
-use crate::bits::spread;
+use crate::bits::{spread, spread_after, spread_before};
 use crate::cell::Cell;
 use crate::rising::{insert_rising, sums_around};
 use crate::sides::{Place, beside};
@@ -51,12 +51,10 @@ impl Cell {
         ensures inline { result.capacity ≡ 8 }
     {
         let first = u64::from(face) << (2 * self.order().get());
-        let across = [
-            first + spread(x - 1),
-            first + spread(x),
-            first + spread(x + 1),
-        ];
-        let up = [2 * spread(y - 1), 2 * spread(y), 2 * spread(y + 1)];
+        let x = spread(x);
+        let y = spread(y);
+        let across = [first + spread_before(x), first + x, first + spread_after(x)];
+        let up = [2 * spread_before(y), 2 * y, 2 * spread_after(y)];
         SmallVec::from_buf(alloc, sums_around(across, up))
     }
 

@@ -2,32 +2,45 @@ use Rattle.std.proofs.Common.{◌≡◌, ◌<◌, ◌+◌, ◌-◌, ◌*◌, ◌
 use Rattle.moc_sphere.specs.CellNumber.{cell_count}
 use Rattle.moc_sphere.proofs.CellFacts.{spread_fits}
 use Rattle.moc_sphere.proofs.FaceBounds.{index_below}
-use Rattle.moc_sphere.proofs.Inside.{IsAround, across_fits, sums_fit, sums_apart, across_rises, up_rises, sums_touch}
+use Rattle.moc_sphere.proofs.Inside.{IsAround, in_word, across_fits, sums_fit, sums_apart, across_rises, up_rises, sums_touch}
+use Rattle.moc_sphere.proofs.SpreadSteps.{spread_of-positive, spread_of-below}
 use Rattle.moc_sphere.proofs.cell.Cell.touching_in_face.Goals as goal
+
+pub spread_before-requires : goal.spread_before-requires
+spread_before-requires c = omega (arith, spread_of-positive 32 c.args.x c.requires.x_above (omega arith))
+
+pub spread_before-requires-2 : goal.spread_before-requires-2
+spread_before-requires-2 c = omega (arith, spread_of-positive 32 c.args.y c.requires.y_above (omega arith))
+
+pub spread_after-requires : goal.spread_after-requires
+spread_after-requires c = omega (arith, spread_of-below c.args.x (in_word c.args.self.order c.args.x (omega (arith, c.get.ensures.in_range)) c.requires.x_below))
+
+pub spread_after-requires-2 : goal.spread_after-requires-2
+spread_after-requires-2 c = omega (arith, spread_of-below c.args.y (in_word c.args.self.order c.args.y (omega (arith, c.get.ensures.in_range)) c.requires.y_below))
 
 pub overflow_add-across : goal.overflow_add-across
 overflow_add-across c =
-    omega (arith, across_fits c.args.self.order c.args.face (c.args.x - 1) _ c.get.result c.from.result (c.get.ensures.value ∙ c.order.ensures) c.get.ensures.in_range c.from.ensures c.requires.face (omega arith) c.spread.ensures)
+    omega (arith, across_fits c.args.self.order c.args.face (c.args.x - 1) _ c.get.result c.from.result (c.get.ensures.value ∙ c.order.ensures) c.get.ensures.in_range c.from.ensures c.requires.face (omega arith) (c.spread_before.ensures c.args.x c.requires.x_above (omega arith) c.spread-x.ensures))
 
 pub overflow_add-across-2 : goal.overflow_add-across-2
 overflow_add-across-2 c =
-    omega (arith, across_fits c.args.self.order c.args.face c.args.x _ c.get.result c.from.result (c.get.ensures.value ∙ c.order.ensures) c.get.ensures.in_range c.from.ensures c.requires.face (omega arith) c.spread-2.ensures)
+    omega (arith, across_fits c.args.self.order c.args.face c.args.x _ c.get.result c.from.result (c.get.ensures.value ∙ c.order.ensures) c.get.ensures.in_range c.from.ensures c.requires.face (omega arith) c.spread-x.ensures)
 
 pub overflow_add-across-3 : goal.overflow_add-across-3
 overflow_add-across-3 c =
-    omega (arith, across_fits c.args.self.order c.args.face (c.args.x + 1) _ c.get.result c.from.result (c.get.ensures.value ∙ c.order.ensures) c.get.ensures.in_range c.from.ensures c.requires.face (omega arith) c.spread-3.ensures)
+    omega (arith, across_fits c.args.self.order c.args.face (c.args.x + 1) _ c.get.result c.from.result (c.get.ensures.value ∙ c.order.ensures) c.get.ensures.in_range c.from.ensures c.requires.face (omega arith) (c.spread_after.ensures c.args.x (in_word c.args.self.order c.args.x (omega (arith, c.get.ensures.in_range)) c.requires.x_below) c.spread-x.ensures))
 
 pub overflow_mul-up : goal.overflow_mul-up
-overflow_mul-up c = omega (arith, spread_fits _ (c.args.y - 1) c.spread-4.ensures)
+overflow_mul-up c = omega (arith, spread_fits _ (c.args.y - 1) (c.spread_before-2.ensures c.args.y c.requires.y_above (omega arith) c.spread-y.ensures))
 
 pub overflow_mul-up-2 : goal.overflow_mul-up-2
-overflow_mul-up-2 c = omega (arith, spread_fits _ c.args.y c.spread-5.ensures)
+overflow_mul-up-2 c = omega (arith, spread_fits _ c.args.y c.spread-y.ensures)
 
 pub overflow_mul-up-3 : goal.overflow_mul-up-3
-overflow_mul-up-3 c = omega (arith, spread_fits _ (c.args.y + 1) c.spread-6.ensures)
+overflow_mul-up-3 c = omega (arith, spread_fits _ (c.args.y + 1) (c.spread_after-2.ensures c.args.y (in_word c.args.self.order c.args.y (omega (arith, c.get.ensures.in_range)) c.requires.y_below) c.spread-y.ensures))
 
 -- the code's numbers
-around : (c : goal.After-spread-6) → IsAround c.args.self.order c.args.face c.args.x c.args.y (c.from.result * 2 ^ (2 * c.get.result) % 2 ^ 64) c.spread.result c.spread-2.result c.spread-3.result c.spread-4.result c.spread-5.result c.spread-6.result
+around : (c : goal.After-spread_after-2) → IsAround c.args.self.order c.args.face c.args.x c.args.y (c.from.result * 2 ^ (2 * c.get.result) % 2 ^ 64) c.spread_before.result c.spread-x.result c.spread_after.result c.spread_before-2.result c.spread-y.result c.spread_after-2.result
 around c =
     let level : c.get.result ≡ c.args.self.order = c.get.ensures.value ∙ c.order.ensures in
     record {
@@ -38,12 +51,12 @@ around c =
       y_above = c.requires.y_above;
       y_below = c.requires.y_below;
       is_first = λ i. c.from.ensures i * 2 ^ (2 * level i) % 2 ^ 64;
-      x_before = c.spread.ensures;
-      x_here = c.spread-2.ensures;
-      x_after = c.spread-3.ensures;
-      y_before = c.spread-4.ensures;
-      y_here = c.spread-5.ensures;
-      y_after = c.spread-6.ensures;
+      x_before = (c.spread_before.ensures c.args.x c.requires.x_above (omega arith) c.spread-x.ensures);
+      x_here = c.spread-x.ensures;
+      x_after = (c.spread_after.ensures c.args.x (in_word c.args.self.order c.args.x (omega (arith, c.get.ensures.in_range)) c.requires.x_below) c.spread-x.ensures);
+      y_before = (c.spread_before-2.ensures c.args.y c.requires.y_above (omega arith) c.spread-y.ensures);
+      y_here = c.spread-y.ensures;
+      y_after = (c.spread_after-2.ensures c.args.y (in_word c.args.self.order c.args.y (omega (arith, c.get.ensures.in_range)) c.requires.y_below) c.spread-y.ensures);
     }
 
 pub sums_around-requires-clause-across : goal.sums_around-requires-clause-across
