@@ -45,19 +45,19 @@ left_at_least (x ∷ xs) q (suc k) high = left_at_least xs q k (λ i d a b. high
 
 -- ---- parts of rising lists
 
-AllFrom-left : (xs ys : List ℕ) (low : ℕ) → AllFrom low (xs ++ ys) → AllFrom low xs
+pub AllFrom-left : (xs ys : List ℕ) (low : ℕ) → AllFrom low (xs ++ ys) → AllFrom low xs
 AllFrom-left [] ys low all = tt
 AllFrom-left (x ∷ xs) ys low all = (all.0, AllFrom-left xs ys low all.1)
 
-AllBelow-left : (xs ys : List ℕ) (high : ℕ) → AllBelow high (xs ++ ys) → AllBelow high xs
+pub AllBelow-left : (xs ys : List ℕ) (high : ℕ) → AllBelow high (xs ++ ys) → AllBelow high xs
 AllBelow-left [] ys high all = tt
 AllBelow-left (x ∷ xs) ys high all = (all.0, AllBelow-left xs ys high all.1)
 
-AllBelow-right : (xs ys : List ℕ) (high : ℕ) → AllBelow high (xs ++ ys) → AllBelow high ys
+pub AllBelow-right : (xs ys : List ℕ) (high : ℕ) → AllBelow high (xs ++ ys) → AllBelow high ys
 AllBelow-right [] ys high all = all
 AllBelow-right (x ∷ xs) ys high all = AllBelow-right xs ys high all.1
 
-IsRising-left : (xs ys : List ℕ) → IsRising (xs ++ ys) → IsRising xs
+pub IsRising-left : (xs ys : List ℕ) → IsRising (xs ++ ys) → IsRising xs
 IsRising-left [] ys up = tt
 IsRising-left (x ∷ xs) ys up = (AllFrom-left xs ys (x + 1) up.0, IsRising-left xs ys up.1)
 
@@ -86,7 +86,7 @@ end_out n x l even is =
 
 -- ---- the cut
 
-same_parity : (m n : ℕ) → m % 2 ≡ n % 2 → is_odd m ≡ is_odd n
+pub same_parity : (m n : ℕ) → m % 2 ≡ n % 2 → is_odd m ≡ is_odd n
 same_parity m n same = ap (λ r. eqb r 1) same
 
 inside_cut : (a b c f t : List ℕ) (from to q : ℕ) → from < to → AllBelow (from + 1) a → AllFrom (from + 1) b → AllBelow to b → AllFrom to c → IsEnd (length a) from f → IsEnd (length a + length b) to t

@@ -11,3 +11,4 @@ pub mod Spans
 pub mod CellRuns
 pub mod CellOrders
 pub mod Cutting
+pub mod Reaching

@@ -13,7 +13,7 @@ use crate::cells::{orders_with_cells, push_cells_of_order};
 use crate::errors::{Memory, RangesError};
 use crate::from_ranges::{check, joined, joined_cells, sorted};
 use crate::ranges::Ranges;
-use crate::sweep::{Rule, count_both, cut, keeps_some, sweep};
+use crate::sweep::{Rule, count_both, cut, keeps_some, reaching, sweep};
 use moc_sphere::{Cell, Order};
 use std::alloc::Global;
 use std::marker::Model;
@@ -117,18 +117,23 @@ impl Coverage {
         combined(alloc, Rule::UNION, &self.bounds, &other.bounds)
     }
 
-    /// The pixels that both sets have. One pass, O(n + m); refused where memory runs out.
+    /// The pixels that both sets have. One pass over the ranges of each that reach into the extent of the other, found in
+    /// O(log n + log m); refused where memory runs out.
     pub fn intersection(&self, alloc: Global, other: &Coverage) -> Result<Coverage, Memory>
         ensures { IfOk result (λ c. c ≡ set.intersection self.now other.now) }
     {
-        combined(alloc, Rule::INTERSECTION, &self.bounds, &other.bounds)
+        let mine = reaching(&self.bounds, &other.bounds);
+        let theirs = reaching(&other.bounds, mine);
+        combined(alloc, Rule::INTERSECTION, mine, theirs)
     }
 
-    /// The pixels of this set that the other lacks. One pass, O(n + m); refused where memory runs out.
+    /// The pixels of this set that the other lacks. One pass over this set and the ranges of the other that reach into its
+    /// extent, found in O(log m); refused where memory runs out.
     pub fn difference(&self, alloc: Global, other: &Coverage) -> Result<Coverage, Memory>
         ensures { IfOk result (λ c. c ≡ set.difference self.now other.now) }
     {
-        combined(alloc, Rule::DIFFERENCE, &self.bounds, &other.bounds)
+        let theirs = reaching(&other.bounds, &self.bounds);
+        combined(alloc, Rule::DIFFERENCE, &self.bounds, theirs)
     }
 
     /// The pixels that just one of the two sets has. One pass, O(n + m); refused where memory runs out.
@@ -173,17 +178,14 @@ impl Coverage {
         let _bounds = &self.bounds;
     }
 
-    /// Whether the set has a pixel in this base pixel, 0 to 11. Takes no memory.
+    /// Whether the set has a pixel in this base pixel, 0 to 11. O(log n), takes no memory.
     pub fn meets_base_pixel(&self, base_pixel: u8) -> bool
         requires { base_pixel < 12 }
         ensures { result ≡ nat_lt 0 (set.len (part_of self.now base_pixel)) }
     {
         let first = u64::from(base_pixel) * BASE_PIXEL_SIZE;
-        keeps_some(
-            Rule::INTERSECTION,
-            &self.bounds,
-            &[first, first + BASE_PIXEL_SIZE],
-        )
+        let base = [first, first + BASE_PIXEL_SIZE];
+        keeps_some(Rule::INTERSECTION, reaching(&self.bounds, &base), &base)
     }
 
     /// The set as cells of an order see it: all pixels of each cell of that order that it meets (MOC 2.0: degradation).
@@ -196,25 +198,33 @@ impl Coverage {
         Ok(Coverage { bounds })
     }
 
-    /// How many pixels of order 29 two sets have in common. One pass, O(n + m), takes no memory.
+    /// How many pixels of order 29 two sets have in common. One pass over the ranges of each that reach into the extent of
+    /// the other, found in O(log n + log m), takes no memory.
     pub fn count_common(&self, other: &Coverage) -> u64
         ensures { result ≡ set.len (set.intersection self.now other.now) }
     {
-        count_both(&self.bounds, &other.bounds)
+        let mine = reaching(&self.bounds, &other.bounds);
+        let theirs = reaching(&other.bounds, mine);
+        count_both(mine, theirs)
     }
 
-    /// Whether two sets have a pixel in common. One pass up to the first, takes no memory.
+    /// Whether two sets have a pixel in common. One pass up to the first over the ranges of each that reach into the extent
+    /// of the other, found in O(log n + log m), takes no memory.
     pub fn meets(&self, other: &Coverage) -> bool
         ensures { result ≡ meets self.now other.now }
     {
-        keeps_some(Rule::INTERSECTION, &self.bounds, &other.bounds)
+        let mine = reaching(&self.bounds, &other.bounds);
+        let theirs = reaching(&other.bounds, mine);
+        keeps_some(Rule::INTERSECTION, mine, theirs)
     }
 
-    /// Whether this set has every pixel of the other. One pass up to the first that it lacks, takes no memory.
+    /// Whether this set has every pixel of the other. One pass up to the first that it lacks over the other and the ranges of
+    /// this set that reach into its extent, found in O(log n), takes no memory.
     pub fn covers(&self, other: &Coverage) -> bool
         ensures { result ≡ set.is_subset other.now self.now }
     {
-        !keeps_some(Rule::DIFFERENCE, &other.bounds, &self.bounds)
+        let mine = reaching(&self.bounds, &other.bounds);
+        !keeps_some(Rule::DIFFERENCE, &other.bounds, mine)
     }
 
     /// Whether two sets have the same pixels. O(n), takes no memory.

@@ -67,7 +67,7 @@ module _ (n f s t g z w h u v : ℕ) (b : IsBeside n f s t h u v) where
         | inr (inr (inr (inr (inr (inr (inr (inr (x)))))))) ↦ one_west x
       ]
 
-one_at_step : (k i d j l : ℕ) → IsAtStep k i d j → IsAtStep k i d l → j ≡ l
+pub one_at_step : (k i d j l : ℕ) → IsAtStep k i d j → IsAtStep k i d l → j ≡ l
 one_at_step k i d j l (jb, a) (lb, b) =
     let e = one_beside (2 ^ k) (face_of k i) (x_of k i + d / 3) (y_of k i + d % 3) (face_of k j) (x_of k j) (y_of k j)
     (face_of k l) (x_of k l) (y_of k l) b a in

@@ -5,9 +5,9 @@ ghost use Rattle.moc_sphere.specs.Touching.{Touches, touching_cells};
 ghost use Rattle.std.specs.List.Sorted.{IsStrictlyIncreasing};
 ghost use Rattle.std.specs.Prelude.{◌≡◌, ℕ, ◌+◌, ◌<◌, ◌≤◌, ◌^◌, ◌↔◌, Contains};
 
-use crate::bits::spread;
+use crate::bits::{spread, spread_after, spread_before};
 use crate::cell::Cell;
-use crate::rising::insert_rising;
+use crate::rising::{insert_rising, sums_around};
 use crate::sides::{Place, beside};
 use smallvec::SmallVec;
 use std::alloc::Global;
@@ -51,16 +51,11 @@ impl Cell {
         ensures inline { result.capacity ≡ 8 }
     {
         let first = u64::from(face) << (2 * self.order().get());
-        let right = [spread(x - 1), spread(x), spread(x + 1)];
-        let up = [spread(y - 1), spread(y), spread(y + 1)];
-        let mut cells = SmallVec::new(alloc);
-        for near in 0usize..9 {
-            if near != 4 {
-                let index = first + right[near / 3] + 2 * up[near % 3];
-                insert_rising(&mut cells, index);
-            }
-        }
-        cells
+        let x = spread(x);
+        let y = spread(y);
+        let across = [first + spread_before(x), first + x, first + spread_after(x)];
+        let up = [2 * spread_before(y), 2 * y, 2 * spread_after(y)];
+        SmallVec::from_buf(alloc, sums_around(across, up))
     }
 
     /// The cells that touch this one, which has this place, in whatever base pixels they lie.

@@ -1,67 +1,82 @@
-use Rattle.std.proofs.Common.{◌≡◌, ◌<◌, sym, subst, arith, ◌∙◌}
+use Rattle.std.proofs.Common.{◌≡◌, ◌<◌, ◌+◌, ◌-◌, ◌*◌, ◌%◌, ◌^◌, sym, subst, arith, ◌∙◌}
 use Rattle.moc_sphere.specs.CellNumber.{cell_count}
+use Rattle.moc_sphere.proofs.CellFacts.{spread_fits}
 use Rattle.moc_sphere.proofs.FaceBounds.{index_below}
-use Rattle.moc_sphere.proofs.Inside.{step_inside, number_at_step}
-use Rattle.moc_sphere.proofs.Search.{Found, found_skip, found_some, touch_from_found}
+use Rattle.moc_sphere.proofs.Inside.{IsAround, in_word, across_fits, sums_fit, sums_apart, across_rises, up_rises, sums_touch}
+use Rattle.moc_sphere.proofs.SpreadSteps.{spread_of-positive, spread_of-below}
 use Rattle.moc_sphere.proofs.cell.Cell.touching_in_face.Goals as goal
-use Rattle.moc_sphere.proofs.cell.Cell.touching_in_face.Goals.{then-near-ne4, else-near-ne4}
 
-pub overflow_add-index : goal.overflow_add-index
-overflow_add-index c =
-    let at = number_at_step c.args.self.order c.args.face c.args.x c.args.y c.loop-near.near c.get.result c.from.result _ _ _ _ _ _
-    (c.get.ensures.value ∙ c.order.ensures) c.get.ensures.in_range c.from.ensures c.requires.face c.requires.x_above c.requires.x_below
-    c.requires.y_above c.requires.y_below c.spread.ensures c.spread-2.ensures c.spread-3.ensures c.spread-4.ensures c.spread-5.ensures
-    c.spread-6.ensures c.loop-near-test.true in
-    omega (arith, at.fits)
+pub spread_before-requires : goal.spread_before-requires
+spread_before-requires c = omega (arith, spread_of-positive 32 c.args.x c.requires.x_above (omega arith))
 
-pub overflow_mul-index : goal.overflow_mul-index
-overflow_mul-index c =
-    let at = number_at_step c.args.self.order c.args.face c.args.x c.args.y c.loop-near.near c.get.result c.from.result _ _ _ _ _ _
-    (c.get.ensures.value ∙ c.order.ensures) c.get.ensures.in_range c.from.ensures c.requires.face c.requires.x_above c.requires.x_below
-    c.requires.y_above c.requires.y_below c.spread.ensures c.spread-2.ensures c.spread-3.ensures c.spread-4.ensures c.spread-5.ensures
-    c.spread-6.ensures c.loop-near-test.true in
-    omega (arith, at.up_fits)
+pub spread_before-requires-2 : goal.spread_before-requires-2
+spread_before-requires-2 c = omega (arith, spread_of-positive 32 c.args.y c.requires.y_above (omega arith))
 
-pub overflow_add-index-then-near-ne4 : goal.overflow_add-index-then-near-ne4
-overflow_add-index-then-near-ne4 c =
-    let at = number_at_step c.args.self.order c.args.face c.args.x c.args.y c.loop-near.near c.get.result c.from.result _ _ _ _ _ _
-    (c.get.ensures.value ∙ c.order.ensures) c.get.ensures.in_range c.from.ensures c.requires.face c.requires.x_above c.requires.x_below
-    c.requires.y_above c.requires.y_below c.spread.ensures c.spread-2.ensures c.spread-3.ensures c.spread-4.ensures c.spread-5.ensures
-    c.spread-6.ensures c.loop-near-test.true in
-    omega (arith, at.fits)
+pub spread_after-requires : goal.spread_after-requires
+spread_after-requires c = omega (arith, spread_of-below c.args.x (in_word c.args.self.order c.args.x (omega (arith, c.get.ensures.in_range)) c.requires.x_below))
 
-pub loop-near-preserved : goal.loop-near-preserved
-loop-near-preserved c =
-    let k = c.args.self.order in
-    let i = c.args.self.index in
-    let d = c.loop-near.near in
-    let f = c.loop-near.invariant.found in
-    let place = c.requires.place in
-    let at = number_at_step c.args.self.order c.args.face c.args.x c.args.y c.loop-near.near c.get.result c.from.result _ _ _ _ _ _
-    (c.get.ensures.value ∙ c.order.ensures) c.get.ensures.in_range c.from.ensures c.requires.face c.requires.x_above c.requires.x_below
-    c.requires.y_above c.requires.y_below c.spread.ensures c.spread-2.ensures c.spread-3.ensures c.spread-4.ensures c.spread-5.ensures
-    c.spread-6.ensures c.loop-near-test.true in
-    let there = step_inside k i c.args.face c.args.x c.args.y d _ place.face place.right place.up c.requires.face c.requires.x_above
-    c.requires.x_below c.requires.y_above c.requires.y_below c.loop-near-test.true at.number in
-    elim c.if-near-ne4.branch [
-      | then-near-ne4 w ↦
-          rw w.cells-is (record {
-            room = w.insert_rising.ensures.capacity ∙ c.loop-near.invariant.room;
-            found = found_some k i d c.loop-near.cells.items f _ w.insert_rising.new.list.items w.if-near-ne4.true there
-                w.insert_rising.ensures.rising w.insert_rising.ensures.len w.insert_rising.ensures.has;
-          })
-      | else-near-ne4 w ↦
-          rw w.cells-is (record {
-            room = c.loop-near.invariant.room;
-            found = found_skip k i d c.loop-near.cells.items f w.if-near-ne4.false;
-          })
-    ]
+pub spread_after-requires-2 : goal.spread_after-requires-2
+spread_after-requires-2 c = omega (arith, spread_of-below c.args.y (in_word c.args.self.order c.args.y (omega (arith, c.get.ensures.in_range)) c.requires.y_below))
+
+pub overflow_add-across : goal.overflow_add-across
+overflow_add-across c =
+    omega (arith, across_fits c.args.self.order c.args.face (c.args.x - 1) _ c.get.result c.from.result (c.get.ensures.value ∙ c.order.ensures) c.get.ensures.in_range c.from.ensures c.requires.face (omega arith) (c.spread_before.ensures c.args.x c.requires.x_above (omega arith) c.spread-x.ensures))
+
+pub overflow_add-across-2 : goal.overflow_add-across-2
+overflow_add-across-2 c =
+    omega (arith, across_fits c.args.self.order c.args.face c.args.x _ c.get.result c.from.result (c.get.ensures.value ∙ c.order.ensures) c.get.ensures.in_range c.from.ensures c.requires.face (omega arith) c.spread-x.ensures)
+
+pub overflow_add-across-3 : goal.overflow_add-across-3
+overflow_add-across-3 c =
+    omega (arith, across_fits c.args.self.order c.args.face (c.args.x + 1) _ c.get.result c.from.result (c.get.ensures.value ∙ c.order.ensures) c.get.ensures.in_range c.from.ensures c.requires.face (omega arith) (c.spread_after.ensures c.args.x (in_word c.args.self.order c.args.x (omega (arith, c.get.ensures.in_range)) c.requires.x_below) c.spread-x.ensures))
+
+pub overflow_mul-up : goal.overflow_mul-up
+overflow_mul-up c = omega (arith, spread_fits _ (c.args.y - 1) (c.spread_before-2.ensures c.args.y c.requires.y_above (omega arith) c.spread-y.ensures))
+
+pub overflow_mul-up-2 : goal.overflow_mul-up-2
+overflow_mul-up-2 c = omega (arith, spread_fits _ c.args.y c.spread-y.ensures)
+
+pub overflow_mul-up-3 : goal.overflow_mul-up-3
+overflow_mul-up-3 c = omega (arith, spread_fits _ (c.args.y + 1) (c.spread_after-2.ensures c.args.y (in_word c.args.self.order c.args.y (omega (arith, c.get.ensures.in_range)) c.requires.y_below) c.spread-y.ensures))
+
+-- the code's numbers
+around : (c : goal.After-spread_after-2) → IsAround c.args.self.order c.args.face c.args.x c.args.y (c.from.result * 2 ^ (2 * c.get.result) % 2 ^ 64) c.spread_before.result c.spread-x.result c.spread_after.result c.spread_before-2.result c.spread-y.result c.spread_after-2.result
+around c =
+    let level : c.get.result ≡ c.args.self.order = c.get.ensures.value ∙ c.order.ensures in
+    record {
+      order_in_range = omega (arith, c.get.ensures.in_range);
+      face_in_range = c.requires.face;
+      x_above = c.requires.x_above;
+      x_below = c.requires.x_below;
+      y_above = c.requires.y_above;
+      y_below = c.requires.y_below;
+      is_first = λ i. c.from.ensures i * 2 ^ (2 * level i) % 2 ^ 64;
+      x_before = (c.spread_before.ensures c.args.x c.requires.x_above (omega arith) c.spread-x.ensures);
+      x_here = c.spread-x.ensures;
+      x_after = (c.spread_after.ensures c.args.x (in_word c.args.self.order c.args.x (omega (arith, c.get.ensures.in_range)) c.requires.x_below) c.spread-x.ensures);
+      y_before = (c.spread_before-2.ensures c.args.y c.requires.y_above (omega arith) c.spread-y.ensures);
+      y_here = c.spread-y.ensures;
+      y_after = (c.spread_after-2.ensures c.args.y (in_word c.args.self.order c.args.y (omega (arith, c.get.ensures.in_range)) c.requires.y_below) c.spread-y.ensures);
+    }
+
+pub sums_around-requires-clause-across : goal.sums_around-requires-clause-across
+sums_around-requires-clause-across c = across_rises _ _ _ _ _ _ _ _ _ _ _ (around c)
+
+pub sums_around-requires-clause-up : goal.sums_around-requires-clause-up
+sums_around-requires-clause-up c = up_rises _ _ _ _ _ _ _ _ _ _ _ (around c)
+
+pub sums_around-requires-clause-fits : goal.sums_around-requires-clause-fits
+sums_around-requires-clause-fits c = sums_fit _ _ _ _ _ _ _ _ _ _ _ (around c)
+
+pub sums_around-requires-clause-apart : goal.sums_around-requires-clause-apart
+sums_around-requires-clause-apart c = sums_apart _ _ _ _ _ _ _ _ _ _ _ (around c)
+
+pub returns-clause-rising : goal.returns-clause-rising
+returns-clause-rising c = rw c.from_buf.ensures.items c.sums_around.ensures.rising
 
 pub returns-clause-touch : goal.returns-clause-touch
 returns-clause-touch c =
-    let k = c.args.self.order in
-    let i = c.args.self.index in
-    let items = c.loop-near.cells.items in
-    let nine : c.loop-near.near ≡ 9 = omega arith in
-    let in_range : i < cell_count k = index_below k i (subst (λ f. f < 12) (sym c.requires.place.face) c.requires.face) in
-    touch_from_found k i items in_range (subst (λ t. Found k i t items) nine c.loop-near.invariant.found)
+    let place = c.requires.place in
+    let in_range : c.args.self.index < cell_count c.args.self.order = index_below _ _ (subst (λ f. f < 12) (sym place.face) c.requires.face) in
+    sums_touch _ _ _ _ _ _ _ _ _ _ _ (around c.before.before) c.args.self.index c.from_buf.result.items in_range place.face place.right place.up
+    (rw c.from_buf.ensures.items c.sums_around.ensures.sums)
