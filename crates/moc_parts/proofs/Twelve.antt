@@ -1,14 +1,15 @@
 -- The twelve parts of a set as a list, and what holds of the first n.
 use Rattle.std.proofs.Common.{◌≡◌, ℕ, zero, suc, ◌+◌, ◌*◌, ◌/◌, ◌<◌, Bool, true, false, ◌&&◌, ◌||◌, List, [], ◌∷◌, ◌++◌, length, get_or, nat_lt, nat_eq, inl, inr, refl, sym, ap, subst, ◌∙◌, arith, lt-ltb, length-append, get_or-append-add, div-lt_iff_lt-mul}
 use Rattle.std.proofs.lemmas.Bool.{cases_lt}
-use Rattle.std.proofs.lemmas.List.{get_or_append_left}
+use Rattle.std.proofs.lemmas.List.{ext_get_or, get_or_append_left}
 use Rattle.std.proofs.lemmas.Bool.Decides.{nat_tests}
+use Rattle.std.specs.Ordering.{nat_cmp}
 use Rattle.std.specs.FinSet as set
 use Rattle.moc_ranges.specs.Numbers.{NumberSet, same_members}
 use Rattle.moc_ranges.specs.Pixels.{pixels, pixel_count, base_pixel_size}
 use Rattle.moc_ranges.specs.Operations.{part_of, contains-part_of, contains-pixels, IsWithin}
-use Rattle.moc_parts.specs.Parts.{union_of, parts_below, AreParts}
-use Rattle.moc_parts.proofs.Members.{has-union, has-empty, and_true, both, same_test}
+use Rattle.moc_parts.specs.Parts.{union_of, parts_below, AreParts, LieInParts}
+use Rattle.moc_parts.proofs.Members.{has-union, has-empty, and_true, or_true, or_left, or_right, both, same_test, clash, in_part, of_part}
 
 -- the pixels of a set in its first n parts
 unfoldable pub first_parts : NumberSet → ℕ → NumberSet
@@ -137,3 +138,36 @@ made_union sets a e w = ap union_of e ∙ union_of-parts a w
 -- one list more
 pub made_next : (sets : List NumberSet) (a : NumberSet) (n : ℕ) → sets ≡ parts_below a n → (part : NumberSet) → part ≡ part_of a n → sets ++ (part ∷ []) ≡ parts_below a (n + 1)
 made_next sets a n e part p = (λ i. e i ++ (p i ∷ [])) ∙ sym (parts_below-next a n)
+
+-- ---- sets that lie each in its own base pixel
+
+-- a pixel of the union is in one of the sets
+one_of : (sets : List NumberSet) (q : ℕ) → set.contains (union_of sets) q ≡ true → (k : ℕ) × (k < length sets) × (set.contains (get_or sets k set.empty) q ≡ true)
+one_of [] q h = clash (set.contains {R = nat_cmp} set.empty q) h (has-empty q)
+one_of (a ∷ sets) q h = elim (or_true (set.contains a q) (set.contains (union_of sets) q) (sym (has-union a (union_of sets) q) ∙ h)) [
+  | inl here ↦ (0, omega arith, here)
+  | inr later ↦ let m = one_of sets q later in (suc m.0, omega (arith, m.1), m.2)
+]
+
+in_union : (sets : List NumberSet) (k q : ℕ) → k < length sets → set.contains (get_or sets k set.empty) q ≡ true → set.contains (union_of sets) q ≡ true
+in_union [] k q l h = absurd (omega arith)
+in_union (a ∷ sets) zero q l h = has-union a (union_of sets) q ∙ or_left (set.contains a q) (set.contains (union_of sets) q) h
+in_union (a ∷ sets) (suc k) q l h = has-union a (union_of sets) q ∙ or_right (set.contains a q) (set.contains (union_of sets) q) (in_union sets k q (omega arith) h)
+
+own_part : (sets : List NumberSet) → LieInParts sets → (b : ℕ) → b < 12 → get_or sets b set.empty ≡ part_of (union_of sets) b
+own_part sets lie b l = same_members _ _ (λ q. same_test _ _
+    (λ h. in_part (union_of sets) b q (in_union sets b q (subst (λ n. b < n) (sym lie.twelve) l) h) (at b q l h))
+    (λ h.
+    let k = of_part (union_of sets) b q h in
+    let m = one_of sets q k.0 in
+    let same : m.0 ≡ b = sym (at m.0 q (subst (λ n. m.0 < n) lie.twelve m.1) m.2) ∙ k.1 in
+    ap (λ n. set.contains (get_or sets n set.empty) q) (sym same) ∙ m.2))
+  where
+    at : (n q : ℕ) → n < 12 → set.contains (get_or sets n set.empty) q ≡ true → q / base_pixel_size ≡ n
+    at n q lt h = (of_part (get_or sets n set.empty) n q (ap (λ a. set.contains a q) (lie.own n lt) ∙ h)).1
+
+-- they are the parts of their union
+pub lying_parts : (sets : List NumberSet) → LieInParts sets → AreParts sets
+lying_parts sets lie = ext_get_or set.empty sets (parts_below (union_of sets) 12)
+    (lie.twelve ∙ sym (length-parts_below (union_of sets) 12))
+    (λ b l. let lt : b < 12 = subst (λ n. b < n) lie.twelve l in own_part sets lie b lt ∙ sym (get-parts_below (union_of sets) 12 b set.empty lt))

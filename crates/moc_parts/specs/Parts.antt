@@ -1,5 +1,5 @@
 -- A set as the list of its twelve parts.
-use Rattle.std.specs.Prelude.{◌≡◌, ℕ, zero, suc, List, [], ◌∷◌, ◌++◌}
+use Rattle.std.specs.Prelude.{◌≡◌, ℕ, zero, suc, ◌<◌, List, [], ◌∷◌, ◌++◌, length, get_or}
 use Rattle.std.specs.FinSet as set
 use Rattle.moc_ranges.specs.Numbers.{NumberSet}
 use Rattle.moc_ranges.specs.Operations.{part_of}
@@ -17,3 +17,8 @@ parts_below a (suc n) = parts_below a n ++ (part_of a n ∷ [])
 -- the sets are the twelve parts of their union
 abbrev pub AreParts : List NumberSet → Type 0
 AreParts sets = sets ≡ parts_below (union_of sets) 12
+
+-- there are twelve sets, and each lies in its own base pixel
+pub record LieInParts (sets : List NumberSet) : Type 0 where
+  pub twelve : length sets ≡ 12
+  pub own : (b : ℕ) → b < 12 → part_of (get_or sets b set.empty) b ≡ get_or sets b set.empty

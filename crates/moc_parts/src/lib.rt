@@ -15,6 +15,8 @@ mod push;
 mod reply;
 mod resolved;
 mod surroundings;
+#[cfg(test)]
+mod tests;
 
 pub use batch::{Batch, BatchError};
 pub use command::{Command, Operand};

@@ -2,7 +2,7 @@
 ghost use Rattle.std.specs.Prelude.{◌≡◌, ◌<◌, ℕ, IfOk, None, false, get_or, set as set_at};
 ghost use Rattle.std.specs.List.{list_any};
 ghost use Rattle.moc_parts.specs.Commands.{is_update};
-ghost use Rattle.moc_parts.specs.Parts.{union_of, AreParts};
+ghost use Rattle.moc_parts.specs.Parts.{union_of, LieInParts};
 ghost use Rattle.moc_parts.specs.Prepared.{found_sets, AreRepliesTo, IsPrepared};
 
 use crate::batch::Batch;
@@ -71,7 +71,7 @@ pub fn prepare(
     batch: &Batch,
     found: &[Option<&Coverage>; 12],
 ) -> Result<Prepared, Memory>
-    requires { AreParts (found_sets found.now) }
+    requires { LieInParts (found_sets found.now) }
 
     // So on every set that agrees with what was found in the footprint: its replies, and its new content there.
     ensures { IfOk result (λ p. IsPrepared batch.now (union_of (found_sets found.now)) p) }
@@ -92,7 +92,7 @@ pub fn reply_of(
     found: &[Option<&Coverage>; 12],
 ) -> Result<Replies, Memory>
     requires query { list_any is_update batch.now ≡ false }
-    requires parts { AreParts (found_sets found.now) }
+    requires parts { LieInParts (found_sets found.now) }
     ensures { IfOk result (λ r. AreRepliesTo batch.now (union_of (found_sets found.now)) r) }
 {
     let nothing = Coverage::empty(alloc);
