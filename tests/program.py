@@ -15,6 +15,12 @@ SCRIPT = (b"add 0/0 2\ncount 0/2 3\nadd 0/1\nread 0/0 1 2 3\nadd @0 29/0 ; count
           b"add 3/17 5/999-1200,29/0\nread 1/0-5")
 ANSWERS = (b"changed 576460752303423488\ntotal 288230376151711744\nchanged 288230376151711744\ncover 0/0-2\n"
            b"changed 0 ; total 576460752303423488\nfault Backwards\nchanged 0\ncover 0/0 1/4-5\n")
+CHANGES = b"add 0/0\nadd 0/0\nclaim 1/0 0/5\nread 0/5\ninvert\nread 0/0-11\n"
+CHANGED = (b"changed 288230376151711744\nchanged 0\ntaken 72057594037927936\ncover\nchanged 3458764513820540928\n"
+           b"cover 0/1-11\n")
+FAULTY = b"add 5/7-3\nhop 1\ndegrade 30\nnear 1\nnear 1 1x\nnear 0 12\ninvert now\nadd\nread\n"
+FAULTS = (b"fault Backwards\nfault UnknownWord\nfault OrderTooLarge\nfault WrongCount\nfault BadNumber\n"
+          b"fault CellTooLarge\nfault WrongCount\nchanged 0\ncover\n")
 
 
 def fronts(text):
@@ -66,6 +72,8 @@ def main():
         subprocess.run(["cc", "-O1", "-shared", "-fPIC", "-o", shim, source], check=True)
         for words, script, answers in [
             (["run"], SCRIPT, ANSWERS),
+            (["run"], CHANGES, CHANGED),
+            (["run"], FAULTY, FAULTS),
             (["ring", "1", "18"], b"", b"27\n"),
             (["near", "2", "3"], b"", b"0 1 2 4 6 8 9 12\n"),
             (["convert", "json", "uniq"], b'{"0":[3],"2":[5]}', b"7\n69\n"),

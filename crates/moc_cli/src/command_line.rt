@@ -22,9 +22,15 @@ Pixels are cells of order 29. A coverage is written as in MOC 2.0's ASCII form, 
 const SCRIPT: &str = "\
 The script is read from standard input, a command a line, on one coverage that starts empty:
   add MOC     adds the coverage, and answers how many pixels it added
+  remove MOC  removes the coverage, and answers how many pixels it removed
+  keep MOC    removes all but the coverage, and answers how many pixels it removed
+  claim MOC   adds the coverage if the map has no pixel of it, or answers how many pixels of it the map has
+  invert      takes the pixels that the map lacks, and answers how many pixels changed
+  degrade K   degrades the map to order K, and answers how many pixels it added
   count MOC   answers how many pixels of the coverage are in the map
   read MOC    answers what the coverage and the map have in common
   near K I    answers whether the map has a pixel of the cell I of order K or of a touching cell
+Behind `@K` a coverage is degraded to order K first.
 A bad line changes nothing and answers `fault` with the fault's name. Commands parted by `;` are answered on one line.
 
 Example:

@@ -80,7 +80,7 @@ fn scripts(rt: HostRuntime) {
     expect(&rt, rt.alloc(), &["run"], "", 0, "", "");
     let script = "add 0/0 2\ncount 0/2 3\nadd 1/0\nremove 0/0";
     let answers =
-        "changed 576460752303423488\ntotal 288230376151711744\nchanged 0\nfault UnknownWord\n";
+        "changed 576460752303423488\ntotal 288230376151711744\nchanged 0\nchanged 288230376151711744\n";
     expect(&rt, rt.alloc(), &["run"], script, 0, answers, "");
 }
 

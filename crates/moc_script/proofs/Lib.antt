@@ -1,4 +1,3 @@
-pub mod SetLemmas
 pub mod CoverLemmas
 pub mod NumberLemmas
 pub mod LineLemmas

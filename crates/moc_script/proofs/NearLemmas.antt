@@ -1,16 +1,15 @@
--- Cells that two fields name, and the ranges around a cell.
-use Rattle.std.proofs.Common.{◌≡◌, ℕ, List, ◌-◌, ◌*◌, ◌^◌, ◌<◌, ◌≤◌, min, Option, Some, None, Result, Ok, Err, sym, ap, ◌∙◌, arith, lit<}
+-- Cells that two fields name.
+use Rattle.std.proofs.Common.{◌≡◌, ℕ, List, ◌-◌, ◌^◌, ◌<◌, ◌≤◌, min, Option, Some, None, Result, Ok, sym, ap, ◌∙◌, arith, lit<}
 use Rattle.std.proofs.Math.Nat.{pow-le-pow_right}
-use Rattle.std.proofs.lemmas.Bool.{lt-ltb, le-leb}
 use Rattle.std.proofs.lemmas.Bool.Decides.{nat_tests}
 use Rattle.std.specs.Option.{option_map, ok_or}
 use Rattle.moc_sphere.specs.CellNumber.{CellNumber, cell_number, cell_count}
+use Rattle.moc_parts.specs.declared.command.Command.{Command}
+use Rattle.moc_parts.specs.declared.command.Command.TheVariants.{Near}
 use Rattle.moc_script.specs.Words.{number_of}
 use Rattle.moc_script.specs.Language.{near_at, near_by, ◌>>=◌}
 use Rattle.moc_script.specs.declared.fault.Fault.{Fault}
 use Rattle.moc_script.specs.declared.fault.Fault.TheVariants.{BadNumber}
-use Rattle.moc_script.specs.declared.command.Command.{Command}
-use Rattle.moc_script.specs.declared.command.Command.TheVariants.{Near}
 
 -- the answer that a cell is read
 abbrev answer_of : CellNumber → Result Command Fault

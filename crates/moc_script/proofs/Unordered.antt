@@ -1,14 +1,11 @@
 -- A line without `@` has no order in it.
-use Rattle.std.proofs.Common.{◌≡◌, ℕ, ◌||◌, Bool, true, false, cond, List, [], ◌∷◌, take, drop, length, Ok, Err, refl, sym, ap, ◌∙◌, ltb}
+use Rattle.std.proofs.Common.{◌≡◌, ℕ, ◌||◌, Bool, true, false, cond, List, [], ◌∷◌, take, drop, length, Err, refl, sym, ap, ◌∙◌, ltb}
 use Rattle.std.specs.List.{list_any, onto_first, prefix_len, position_or_len, AllByRecursion}
-use Rattle.std.specs.Prelude.{codes}
-use Rattle.std.specs.Str.{bytes_eq}
 use Rattle.std.proofs.lemmas.List.{take-append-drop}
 use Rattle.std.proofs.lemmas.List.Folds.{list_any-append}
 use Rattle.std.proofs.lemmas.List.Splits.{slice_split-cons_no, slice_split-cons_yes}
 use Rattle.moc_script.specs.Words.{is_blank, is_blank_byte, without_blanks, word_of, behind_word}
-use Rattle.moc_script.specs.Language.{plain_operand_of, operand_by, ordered_operand_of, near_of, command_named, command_by, command_of, ◌>>=◌}
-use Rattle.moc_script.specs.Replies.{text_on, set_after}
+use Rattle.moc_script.specs.Language.{plain_operand_of, operand_by, ordered_operand_of, command_at, command_by, command_of}
 use Rattle.moc_script.specs.Batches.{is_semicolon, pieces_of, piece_says, first_then, commands_of, batch_of, answer_to, after_batch}
 use Rattle.moc_script.specs.Laws.{is_at_sign, LinesWithoutOrder}
 use Rattle.moc_script.specs.declared.fault.Fault.TheVariants.{EmptyCommand, TooManyCommands}
@@ -55,7 +52,7 @@ says_plain piece none =
     let text = behind_word piece in
     let behind = (none_behind piece none).1 in
     let same = operand_by-plain (word_of text) text (none_behind text behind).0 in
-    ap (λ r. cond (bytes_eq (word_of piece) (codes "near")) (near_of text) (command_named (word_of piece) >>= (λ command. r >>= (λ operand. Ok (command operand))))) same
+    ap (λ r. command_at (λ _. r) (word_of piece) text) same
 
 commands_plain : (pieces : List (List ℕ)) → AllByRecursion (λ l. list_any is_at_sign l ≡ false) pieces → commands_of command_of pieces ≡ commands_of (command_by plain_operand_of) pieces
 commands_plain [] each = refl
@@ -68,6 +65,6 @@ batch_plain line none = ap (λ r. cond (ltb 16 (length (pieces_of line))) (Err T
 
 pub lines_without_order : LinesWithoutOrder
 lines_without_order a line none = (
-  ap (λ r. cond (is_blank line) [] (answer_to text_on set_after a r)) (batch_plain line none),
-  ap (λ r. cond (is_blank line) a (after_batch text_on set_after a r)) (batch_plain line none),
+  ap (λ r. cond (is_blank line) [] (answer_to a r)) (batch_plain line none),
+  ap (λ r. cond (is_blank line) a (after_batch a r)) (batch_plain line none),
 )

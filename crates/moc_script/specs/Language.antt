@@ -4,15 +4,15 @@ use Rattle.std.specs.Option.{ok_or}
 use Rattle.std.specs.Str.{bytes_eq}
 use Rattle.moc_sphere.specs.CellNumber.{cell_count, cell_number}
 use Rattle.moc_ranges.specs.Numbers.{NumberSet}
+use Rattle.moc_parts.specs.declared.command.Operand.{Operand}
+use Rattle.moc_parts.specs.declared.command.Command.{Command}
+use Rattle.moc_parts.specs.declared.command.Command.TheVariants.{Add, Remove, Keep, Claim, Invert, Degrade, Count, Read, Near}
 use Rattle.moc_text.specs.declared.error.TextError.{TextError}
 use Rattle.moc_text.specs.declared.error.TextError.TheVariants as text
 use Rattle.moc_text.specs.Reading.{reading_of}
 use Rattle.moc_script.specs.Words.{is_blank, word_of, behind_word, number_of}
 use Rattle.moc_script.specs.declared.fault.Fault.{Fault}
 use Rattle.moc_script.specs.declared.fault.Fault.TheVariants.{UnknownWord, WrongCount, BadNumber, OrderTooLarge, CellTooLarge, BadByte, NoOrder, Backwards, Unfinished}
-use Rattle.moc_script.specs.declared.command.Operand.{Operand}
-use Rattle.moc_script.specs.declared.command.Command.{Command}
-use Rattle.moc_script.specs.declared.command.Command.TheVariants.{Add, Count, Read, Near}
 
 infixl 10 ◌>>=◌
 -- what follows, or the fault that came first
@@ -67,13 +67,39 @@ operand_by (b ∷ field) text = if b == 64 then ordered_operand_of field (behind
 abbrev pub operand_of : List ℕ → Result Operand Fault
 operand_of text = operand_by (word_of text) text
 
--- the command of this word
+-- the command of this word, of an operand
 abbrev pub command_named : List ℕ → Result (Operand → Command) Fault
 command_named word =
     if bytes_eq word (codes "add") then Ok (λ operand. Add operand)
+    else (if bytes_eq word (codes "remove") then Ok (λ operand. Remove operand)
+    else (if bytes_eq word (codes "keep") then Ok (λ operand. Keep operand)
+    else (if bytes_eq word (codes "claim") then Ok (λ operand. Claim operand)
     else (if bytes_eq word (codes "count") then Ok (λ operand. Count operand)
     else (if bytes_eq word (codes "read") then Ok (λ operand. Read operand)
-    else Err UnknownWord))
+    else Err UnknownWord)))))
+
+-- the command of a word with an operand, which is read so
+abbrev pub command_with : (List ℕ → Result Operand Fault) → List ℕ → List ℕ → Result Command Fault
+command_with operand word text = do
+  command ← command_named word
+  operand ← operand text
+  Ok (command operand)
+
+-- what stands behind `invert`: no field
+abbrev pub invert_of : List ℕ → Result Command Fault
+invert_of text = if is_blank text then Ok Invert else Err WrongCount
+
+-- the order that a field names
+abbrev pub degrade_by : List ℕ → Result Command Fault
+degrade_by field = do
+  order ← order_of field
+  Ok (Degrade order)
+
+-- what stands behind `degrade`: just one field
+abbrev pub degrade_of : List ℕ → Result Command Fault
+degrade_of text =
+    if is_blank text then Err WrongCount
+    else (if is_blank (behind_word text) then degrade_by (word_of text) else Err WrongCount)
 
 -- a cell of an order
 abbrev pub near_at : ℕ → ℕ → Result Command Fault
@@ -94,16 +120,17 @@ near_of text =
     if is_blank rest then Err WrongCount
     else (if is_blank (behind_word rest) then near_by (word_of text) (word_of rest) else Err WrongCount)
 
--- the command of a word with an operand
-abbrev pub command_with : (List ℕ → Result Operand Fault) → List ℕ → Result Command Fault
-command_with operand piece = do
-  command ← command_named (word_of piece)
-  operand ← operand (behind_word piece)
-  Ok (command operand)
+-- the command of a word and of what stands behind it, where operands are read so
+abbrev pub command_at : (List ℕ → Result Operand Fault) → List ℕ → List ℕ → Result Command Fault
+command_at operand word text =
+    if bytes_eq word (codes "invert") then invert_of text
+    else (if bytes_eq word (codes "degrade") then degrade_of text
+    else (if bytes_eq word (codes "near") then near_of text
+    else command_with operand word text))
 
 -- the command that a piece says, where operands are read so
 abbrev pub command_by : (List ℕ → Result Operand Fault) → List ℕ → Result Command Fault
-command_by operand piece = if bytes_eq (word_of piece) (codes "near") then near_of (behind_word piece) else command_with operand piece
+command_by operand piece = command_at operand (word_of piece) (behind_word piece)
 
 -- the command that a piece says
 abbrev pub command_of : List ℕ → Result Command Fault

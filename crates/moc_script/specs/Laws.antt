@@ -2,18 +2,19 @@
 use Rattle.std.specs.Prelude.{◌≡◌, ℕ, Bool, false, ◌==◌, List, ◌++◌, ◌∷◌, [], codes, Result, Ok, Err}
 use Rattle.std.specs.List.{list_any}
 use Rattle.moc_ranges.specs.Numbers.{NumberSet}
+use Rattle.moc_parts.specs.Commands.{reply_on, set_after}
+use Rattle.moc_parts.specs.declared.command.Command.{Command}
 use Rattle.moc_script.specs.Words.{is_blank}
 use Rattle.moc_script.specs.Faults.{name_of}
 use Rattle.moc_script.specs.Language.{plain_operand_of, command_by, command_of}
-use Rattle.moc_script.specs.Replies.{text_on, set_after}
+use Rattle.moc_script.specs.Replies.{reply_text}
 use Rattle.moc_script.specs.Batches.{is_semicolon, line_answer, after_line}
 use Rattle.moc_script.specs.Scripts.{answer_on, set_after_line}
 use Rattle.moc_script.specs.declared.fault.Fault.{Fault}
-use Rattle.moc_script.specs.declared.command.Command.{Command}
 
 -- the answer to a single command
 abbrev pub single_answer : NumberSet → Result Command Fault → List ℕ
-single_answer a (Ok command) = text_on a command ++ 10 ∷ []
+single_answer a (Ok command) = reply_text (reply_on a command) ++ 10 ∷ []
 single_answer a (Err fault) = codes "fault " ++ name_of fault ++ 10 ∷ []
 
 -- what a single command leaves
@@ -35,5 +36,5 @@ is_at_sign b = b == 64
 abbrev pub LinesWithoutOrder : Type 0
 LinesWithoutOrder =
     (a : NumberSet) (line : List ℕ) → list_any is_at_sign line ≡ false
-    → (answer_on a line ≡ line_answer text_on set_after (command_by plain_operand_of) a line)
-    × (set_after_line a line ≡ after_line text_on set_after (command_by plain_operand_of) a line)
+    → (answer_on a line ≡ line_answer (command_by plain_operand_of) a line)
+    × (set_after_line a line ≡ after_line (command_by plain_operand_of) a line)

@@ -3,7 +3,6 @@ use Rattle.std.specs.Prelude.{ℕ, List, Option, Result}
 use Rattle.std.specs.FinSet as set
 use Rattle.moc_ranges.specs.Numbers.{NumberSet}
 use Rattle.moc_script.specs.Language.{command_of}
-use Rattle.moc_script.specs.Replies.{text_on, set_after}
 use Rattle.moc_script.specs.Batches.{line_answer, after_line}
 use Rattle.moc_script.specs.Answers.{script_text}
 use Rattle.moc_script.specs.Runs.{Runs, Begins}
@@ -15,11 +14,11 @@ line_limit = 1048576
 
 -- the answer to a line on a set, with its line feed
 abbrev pub answer_on : NumberSet → List ℕ → List ℕ
-answer_on = line_answer text_on set_after command_of
+answer_on = line_answer command_of
 
 -- what a line leaves of a set
 abbrev pub set_after_line : NumberSet → List ℕ → NumberSet
-set_after_line = after_line text_on set_after command_of
+set_after_line = after_line command_of
 
 -- the text that a script is answered with, by a set that starts empty
 abbrev pub answers_of : List ℕ → List ℕ

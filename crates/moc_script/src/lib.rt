@@ -1,13 +1,13 @@
 //! Scripts of commands, from the bytes of a reader to the bytes of a writer.
 #![tactic(auto)]
 
+mod answer;
+mod batch;
 mod bytes;
 mod command;
 mod fault;
 mod laws;
 mod line_reader;
-mod machine;
-mod map;
 mod reply;
 mod responder;
 mod script;

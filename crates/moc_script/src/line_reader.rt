@@ -2,7 +2,7 @@
 ghost use Rattle.std.specs.Prelude.{◌≡◌, ◌+◌, ◌<◌, ◌≤◌, ◌≢◌, ◌||◌, ◌++◌, [], ℕ, false, true, IfOk, OnOk, OnErr, IsErrOf, is_err, length, nat_lt, Contains, IsTrue, ◌↔◌, Err, Ok};
 ghost use Rattle.std.specs.List.{position_or_len, before_first, after_first};
 ghost use Rattle.std.specs.Io.KnownBytes.{Keeps, Consumes, IsAtEnd};
-ghost use Rattle.moc_script.specs.Lines.{is_line_feed};
+ghost use Rattle.moc_text.specs.Lines.{is_line_feed};
 
 use crate::bytes::first_or_len;
 use crate::source::{DeviceFault, Source};

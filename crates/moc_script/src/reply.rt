@@ -1,38 +1,53 @@
-//! Replies, and their texts.
-ghost use Rattle.std.specs.Prelude.{◌≡◌, ◌++◌, decimal, OnOk};
-ghost use Rattle.moc_script.specs.Replies.{reply_text, cover_text};
-ghost use Rattle.moc_script.specs.declared.reply.Reply.TheVariants.{Surrounds};
+//! The texts of replies.
+ghost use Rattle.std.specs.Prelude.{◌≡◌, ◌++◌, codes, decimal, OnOk, if◌then◌else◌};
+ghost use Rattle.moc_script.specs.Replies.{cover_text, replies_text, reply_text};
 
 use itoa::Buffer;
+use moc_parts::Reply;
 use moc_ranges::{Coverage, Memory};
 use moc_text::write_ascii;
 use std::alloc::Global;
 
-/// What a command is answered.
-#[derive(Drop)]
-pub enum Reply {
-    /// How many pixels changed.
-    Changed(u64),
-    /// How many pixels were counted.
-    Total(u64),
-    /// The pixels that were read.
-    Cover(Coverage),
-    /// Whether the set has a pixel in the surroundings of a cell.
-    Surrounds(bool),
+/// Adds the texts of replies, parted.
+pub(crate) fn push_replies(
+    alloc: Global,
+    replies: &[Reply],
+    text: &mut Vec<u8>,
+) -> Result<(), Memory>
+    ensures { OnOk result (text.new.items ≡ text.old.items ++ replies_text replies.now) }
+{
+    let Some((first, later)) = replies.split_first() else {
+        return Ok(());
+    };
+    push_reply(alloc, first, text)?;
+    for reply in later {
+        text.extend_from_slice(b" ; ")?;
+        push_reply(alloc, reply, text)?;
+    }
+    Ok(())
 }
 
-impl Reply {
-    /// Adds the text of the reply to a text.
-    pub(crate) fn push_to(&self, alloc: Global, text: &mut Vec<u8>) -> Result<(), Memory>
-        ensures { OnOk result (text.new.items ≡ text.old.items ++ reply_text self.now) }
-    {
-        match self {
-            Reply::Changed(pixels) => push_count(b"changed ", *pixels, text),
-            Reply::Total(pixels) => push_count(b"total ", *pixels, text),
-            Reply::Cover(set) => push_cover(alloc, set, text),
-            Reply::Surrounds(near) => push_near(*near, text),
-        }
+/// Adds the text of a reply.
+fn push_reply(alloc: Global, reply: &Reply, text: &mut Vec<u8>) -> Result<(), Memory>
+    ensures { OnOk result (text.new.items ≡ text.old.items ++ reply_text reply.now) }
+{
+    match reply {
+        Reply::Changed(pixels) => push_count(b"changed ", *pixels, text),
+        Reply::Claimed => push_words(b"claimed", text),
+        Reply::Taken(pixels) => push_count(b"taken ", *pixels, text),
+        Reply::Total(pixels) => push_count(b"total ", *pixels, text),
+        Reply::Cover(set) => push_cover(alloc, set, text),
+        Reply::Near(true) => push_words(b"near yes", text),
+        Reply::Near(false) => push_words(b"near no", text),
     }
+}
+
+/// Adds words.
+fn push_words(words: &[u8], text: &mut Vec<u8>) -> Result<(), Memory>
+    ensures { OnOk result (text.new.items ≡ text.old.items ++ words.now) }
+{
+    text.extend_from_slice(words)?;
+    Ok(())
 }
 
 /// Adds a word and a number.
@@ -58,17 +73,5 @@ fn push_cover(alloc: Global, set: &Coverage, text: &mut Vec<u8>) -> Result<(), M
     };
     text.extend_from_slice(b"cover ")?;
     text.extend_from_slice(shown.as_bytes())?;
-    Ok(())
-}
-
-/// Adds `near yes` or `near no`.
-fn push_near(near: bool, text: &mut Vec<u8>) -> Result<(), Memory>
-    ensures { OnOk result (text.new.items ≡ text.old.items ++ reply_text (Surrounds near)) }
-{
-    if near {
-        text.extend_from_slice(b"near yes")?;
-    } else {
-        text.extend_from_slice(b"near no")?;
-    }
     Ok(())
 }

@@ -5,11 +5,11 @@ ghost use Rattle.moc_script.specs.Runs.{Runs, Begins, Ended, Sends};
 ghost use Rattle.moc_script.specs.Scripts.{RunsScript, BeginsAnswers, answers_of};
 
 use crate::line_reader::{Found, LINE_LIMIT, LineFault, LineReader};
-use crate::map::Map;
 use crate::responder::Responder;
 use crate::sink::Sink;
 use crate::source::{DeviceFault, Source};
-use moc_ranges::Memory;
+use moc_parts::Map;
+use moc_ranges::{Coverage, Memory};
 use std::alloc::Global;
 use thiserror::Error;
 
@@ -37,22 +37,29 @@ const FULL: usize = 65_536;
 ///
 /// A line ends at a line feed, and bytes behind the last one are a last line. A line of blanks (space, tab, CR) alone has
 /// no answer; every other line has one, in order, ended by a line feed. A line is 1 to 16 commands parted by `;`, done in
-/// order, and its answer is theirs, parted by ` ; `. A command is a word and an operand: a coverage in the ASCII form of
-/// MOC 2.0 (the empty text is the empty set), behind `@` and an order where it is to be degraded first.
+/// order, and its answer is theirs, parted by ` ; `. A command is a word and its fields, or a word and an operand S: a
+/// coverage in the ASCII form of MOC 2.0 (the empty text is the empty set), behind `@` and an order where it is to be
+/// degraded first.
 ///
 /// | Command | Answer |
 /// |---|---|
 /// | `add S` | `changed N`: S is added, N of its pixels are new |
+/// | `remove S` | `changed N`: S is removed, N of its pixels were in the set |
+/// | `keep S` | `changed N`: what S and the set share is kept, N pixels are removed |
+/// | `claim S` | `claimed`: S is added, none of its pixels were in the set; or `taken N`: N of them were, and nothing changes |
+/// | `invert` | `changed N`: the set is complemented, N is the number of all pixels |
+/// | `degrade K` | `changed N`: the set is degraded to order K, N pixels are new |
 /// | `count S` | `total N`: the set has N of the pixels of S |
 /// | `read S` | `cover T`: T is the ASCII form of what S and the set share; `cover` alone for nothing |
+/// | `near K I` | `near yes`: the set has a pixel of the cell I of order K or of a cell that touches it; or `near no` |
 ///
 /// A bad line changes nothing, and is answered `fault NAME`, by the first bad command from the left. Answers are written
 /// before each read that may wait.
 ///
 /// Where the call ends with a fault, what is written is exactly the answers to the lines before the one that `LineTooLong`
 /// or `Memory` names, or to the whole lines that were read before `Read`; on `Write` it is as much of the answers as the
-/// writer took. After the whole text the writer is flushed, once. Each line is read and answered in one pass; an `add`
-/// takes time and memory linear in the ranges of both sets.
+/// writer took. After the whole text the writer is flushed, once. Each line is read in one pass; a command takes time and
+/// memory linear in the ranges of both sets.
 pub fn run<R: Source, W: Sink>(
     alloc: Global,
     reader: &mut R,
@@ -80,7 +87,10 @@ pub fn run<R: Source, W: Sink>(
     ensures read { IsErrOf result RunError.Read → IsTrue (R.mark reader.new) }
     ensures write { IsErrOf result RunError.Write ↔ IsTrue (W.mark writer.new) }
 {
-    run_on(alloc, &mut Map::new(alloc), reader, writer)
+    let Ok(mut map) = Map::new(alloc, Coverage::empty(alloc)) else {
+        return Err(RunError::Memory { line: 0 });
+    };
+    run_on(alloc, &mut map, reader, writer)
 }
 
 /// Answers each line that is read, and writes the answers.

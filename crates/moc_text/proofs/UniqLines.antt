@@ -2,7 +2,7 @@
 use Rattle.std.proofs.Common.{◌≡◌, ℕ, suc, ◌+◌, ◌-◌, ◌*◌, ◌^◌, ◌<◌, ◌≤◌, Bool, true, false, cond, not, ◌&&◌, ◌||◌, eqb, ltb, List, [], ◌∷◌, ◌++◌, length, map, min, Option, Some, None, refl, sym, ap, ◌∙◌, arith, length-append, append_assoc, pow-suc, lit<, inl, inr}
 use Rattle.std.specs.Prelude.{decimal}
 use Rattle.std.specs.Char.{is_ascii_digit}
-use Rattle.std.specs.List.{AllByRecursion}
+use Rattle.std.specs.List.{AllByRecursion, onto_first}
 use Rattle.std.specs.Str.{all_ascii_digits}
 use Rattle.std.specs.Str.Parse.{digits_value}
 use Rattle.std.proofs.Math.Nat.{pow-le-pow_right}
@@ -18,8 +18,9 @@ use Rattle.moc_ranges.specs.Cells.{cells_of}
 use Rattle.moc_ranges.specs.CellLaws.{cell_range, cells_are, cells_fill}
 use Rattle.moc_text.specs.Ascii.{IsNumber}
 use Rattle.moc_text.specs.Scan.{front_digits, past_digits, held_after, starts_with_digit}
-use Rattle.moc_text.specs.UniqList.{with_byte, lines_of, line_fault, or_later, fault_from, uniq_fault, numbers_on, SaysUniq, number_lines, uniq_text, WrittenUniqIsRead}
-use Rattle.moc_text.specs.Lines.{after_line, IsPart, IsLineRead, LinesSoFar, AreLinesRead}
+use Rattle.moc_text.specs.Lines.{lines_of}
+use Rattle.moc_text.specs.UniqList.{line_fault, or_later, fault_from, uniq_fault, numbers_on, SaysUniq, number_lines, uniq_text, WrittenUniqIsRead}
+use Rattle.moc_text.specs.UniqReading.{after_line, IsPart, IsLineRead, LinesSoFar, AreLinesRead}
 use Rattle.moc_text.specs.declared.uniq.UniqError.{UniqError}
 use Rattle.moc_text.specs.declared.uniq.UniqError.TheVariants.{BadByte, NotUniq}
 use Rattle.moc_text.proofs.Automaton.{both}
@@ -90,7 +91,7 @@ lines_cut : (ds rest : List ℕ) → all_ascii_digits ds ≡ true → lines_of (
 lines_cut [] rest h = refl
 lines_cut (d ∷ ds) rest h =
     let p = both (is_ascii_digit d) (all_ascii_digits ds) h in
-    rw (digit_no_end d p.0) (ap (with_byte d) (lines_cut ds rest p.1))
+    rw (digit_no_end d p.0) (ap (onto_first d) (lines_cut ds rest p.1))
 
 -- digits that the text's end ends
 lines_last : (ds : List ℕ) → 0 < length ds → all_ascii_digits ds ≡ true → lines_of ds ≡ ds ∷ []
@@ -100,7 +101,7 @@ lines_last (d ∷ []) some h =
     rw (digit_no_end d p.0) refl
 lines_last (d ∷ e ∷ ds) some h =
     let p = both (is_ascii_digit d) (all_ascii_digits (e ∷ ds)) h in
-    rw (digit_no_end d p.0) (ap (with_byte d) (lines_last (e ∷ ds) (omega arith) p.1))
+    rw (digit_no_end d p.0) (ap (onto_first d) (lines_last (e ∷ ds) (omega arith) p.1))
 
 -- what ends a line
 line_end : (b : ℕ) (more rest : List ℕ) → after_line (b ∷ more) ≡ Some rest → (b ≡ 10) × (more ≡ rest)
@@ -129,18 +130,18 @@ front_lines bytes rest some e =
 
 -- ---- a line with a byte that is no digit
 
-with_byte_is : (b : ℕ) (lines : List (List ℕ)) → (l : List ℕ) × (ls : List (List ℕ)) × (with_byte b lines ≡ (b ∷ l) ∷ ls)
-with_byte_is b [] = ([], [], refl)
-with_byte_is b (l ∷ ls) = (l, ls, refl)
+onto_first_is : (b : ℕ) (lines : List (List ℕ)) → (l : List ℕ) × (ls : List (List ℕ)) × (onto_first b lines ≡ (b ∷ l) ∷ ls)
+onto_first_is b [] = ([], [], refl)
+onto_first_is b (l ∷ ls) = (l, ls, refl)
 
 lines_bad : (ds : List ℕ) (b : ℕ) (more : List ℕ) → all_ascii_digits ds ≡ true → eqb b 10 ≡ false → (l : List ℕ) × (ls : List (List ℕ)) × (lines_of (ds ++ b ∷ more) ≡ (ds ++ b ∷ l) ∷ ls)
 lines_bad [] b more h e =
-    let f = with_byte_is b (lines_of more) in
+    let f = onto_first_is b (lines_of more) in
     (f.0, f.1, rw e f.2)
 lines_bad (d ∷ ds) b more h e =
     let p = both (is_ascii_digit d) (all_ascii_digits ds) h in
     let f = lines_bad ds b more p.1 e in
-    (f.0, f.1, rw (digit_no_end d p.0) (ap (with_byte d) f.2))
+    (f.0, f.1, rw (digit_no_end d p.0) (ap (onto_first d) f.2))
 
 not_digits : (ds : List ℕ) (b : ℕ) (l : List ℕ) → is_ascii_digit b ≡ false → all_ascii_digits (ds ++ b ∷ l) ≡ false
 not_digits [] b l e = rw e refl

@@ -4,8 +4,9 @@ pub mod Progress
 pub mod Reading
 pub mod AsciiText
 pub mod Writing
-pub mod UniqList
 pub mod Lines
+pub mod UniqList
+pub mod UniqReading
 pub mod JsonForm
 pub mod JsonScan
 pub mod JsonText

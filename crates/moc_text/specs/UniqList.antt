@@ -1,5 +1,5 @@
 -- NUNIQ lists: a text with the NUNIQ number of a cell on each line (MOC 2.0 has the numbers).
-use Rattle.std.specs.Prelude.{◌≡◌, ℕ, ◌+◌, ◌^◌, ◌||◌, ◌==◌, not, nat_lt, if◌then◌else◌, List, [], ◌∷◌, ◌++◌, map, decimal, Option, Some, None}
+use Rattle.std.specs.Prelude.{◌≡◌, ℕ, ◌+◌, ◌^◌, ◌||◌, not, nat_lt, if◌then◌else◌, List, [], ◌∷◌, ◌++◌, map, decimal, Option, Some, None}
 use Rattle.std.specs.List.{AllByRecursion}
 use Rattle.std.specs.Str.{all_ascii_digits}
 use Rattle.std.specs.Str.Parse.{digits_value}
@@ -10,20 +10,11 @@ use Rattle.moc_ranges.specs.RangeList.{set_of}
 use Rattle.moc_ranges.specs.Operations.{IsWithin}
 use Rattle.moc_ranges.specs.Cells.{cells_of}
 use Rattle.moc_ranges.specs.CellLaws.{cell_range}
+use Rattle.moc_text.specs.Lines.{lines_of}
 use Rattle.moc_text.specs.declared.uniq.UniqError.{UniqError}
 use Rattle.moc_text.specs.declared.uniq.UniqError.TheVariants.{BadByte, NotUniq}
 
 -- ---- reading
-
--- lines, the first of which begins with one more byte
-abbrev pub with_byte : ℕ → List (List ℕ) → List (List ℕ)
-with_byte b [] = (b ∷ []) ∷ []
-with_byte b (line ∷ lines) = (b ∷ line) ∷ lines
-
--- The lines of a text: each ends at LF, and the bytes after the last LF, if there are any, are a last line.
-abbrev pub lines_of : List ℕ → List (List ℕ)
-lines_of [] = []
-lines_of (b ∷ text) = if b == 10 then [] ∷ lines_of text else with_byte b (lines_of text)
 
 -- what is wrong with the line of a number, if anything; an empty line is skipped
 abbrev pub line_fault : ℕ → List ℕ → Option UniqError

@@ -4,8 +4,9 @@ ghost use Rattle.std.specs.Option.{option_copied};
 ghost use Rattle.std.specs.String.{string_bytes};
 ghost use Rattle.moc_sphere.specs.CellNumber.{uniq_of};
 ghost use Rattle.moc_ranges.specs.Numbers.{NumberSet};
-ghost use Rattle.moc_text.specs.Lines.{after_line, IsLineRead, AreLinesRead};
-ghost use Rattle.moc_text.specs.UniqList.{fault_from, lines_of, number_lines, SaysUniq, uniq_fault, uniq_text, WrittenUniqIsRead};
+ghost use Rattle.moc_text.specs.Lines.{lines_of};
+ghost use Rattle.moc_text.specs.UniqReading.{after_line, IsLineRead, AreLinesRead};
+ghost use Rattle.moc_text.specs.UniqList.{fault_from, number_lines, SaysUniq, uniq_fault, uniq_text, WrittenUniqIsRead};
 
 use crate::scan::digits;
 use crate::spans::union_of;

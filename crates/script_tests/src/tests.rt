@@ -2,6 +2,7 @@
 use crate::failing::{FailingSink, FailingSource};
 use moc_script::{LINE_LIMIT, OverReader, OverWriter, RunError, run};
 use std::alloc::{AllocError, Global};
+use std::process::Abort;
 use std::test::Fail;
 
 const PLENTY: u64 = 1 << 40;
@@ -35,64 +36,221 @@ fn run_through(
     (result, sink.taken)
 }
 
-#[test]
-fn add_count_and_read(rt: HostRuntime) {
-    let script =
-        b"add 0/0 2\ncount 0/2 3\nadd 0/1\nread 0/0 1 2 3\nadd 1/0\nadd 0/12\nadd 0/0-1\nremove 0/0\n";
-    let answers =
-        b"changed 576460752303423488\ntotal 288230376151711744\nchanged 288230376151711744\ncover 0/0-2\nchanged 0\nfault CellTooLarge\nchanged 0\nfault UnknownWord\n";
-    let (result, text) = run_through(rt.alloc(), script, PLENTY, PLENTY, true);
+// Checks the answers to a script.
+fn expect(rt: &impl Abort, alloc: Global, script: &[u8], answers: &[u8]) {
+    let (result, text) = run_through(alloc, script, PLENTY, PLENTY, true);
     assert_eq!(rt; result, Ok(()));
-    assert_eq!(rt; text.as_slice(), answers.as_slice());
+    assert_eq!(rt; text.as_slice(), answers);
 }
 
 #[test]
-fn operands_with_an_order(rt: HostRuntime) {
-    let script =
-        b"add @0 29/0\ncount @1 29/5 1/7\nread @29 1/3\nadd @8\nadd @30 1/0\nadd @ 1/0\nadd ,@8 1/0\nread @x30";
-    let answers =
-        b"changed 288230376151711744\ntotal 72057594037927936\ncover 1/3\nchanged 0\nfault OrderTooLarge\nfault BadNumber\nfault BadByte\nfault BadNumber\n";
-    let (result, text) = run_through(rt.alloc(), script, PLENTY, PLENTY, true);
-    assert_eq!(rt; result, Ok(()));
-    assert_eq!(rt; text.as_slice(), answers.as_slice());
+fn first_example(rt: HostRuntime) {
+    let script = b"\
+add 0/0 2
+count 0/2 3
+add 0/1
+read 0/0 1 2 3
+add 1/0
+add 0/12
+add 0/0-1
+remove 0/0
+";
+    let answers = b"\
+changed 576460752303423488
+total 288230376151711744
+changed 288230376151711744
+cover 0/0-2
+changed 0
+fault CellTooLarge
+changed 0
+changed 288230376151711744
+";
+    expect(&rt, rt.alloc(), script, answers);
 }
 
 #[test]
-fn batches(rt: HostRuntime) {
-    let script =
-        b"add 0/0 ; count 0/0-1 ; read 0/0\nadd 0/5 ;\nadd 0/5 ; hop\n;\nread;read;read;read;read;read;read;read;read;read;read;read;read;read;read;read\nread;read;read;read;read;read;read;read;read;read;read;read;read;read;read;read;read\nread 0/0-11";
-    let answers =
-        b"changed 288230376151711744 ; total 288230376151711744 ; cover 0/0\nfault EmptyCommand\nfault UnknownWord\nfault EmptyCommand\ncover ; cover ; cover ; cover ; cover ; cover ; cover ; cover ; cover ; cover ; cover ; cover ; cover ; cover ; cover ; cover\nfault TooManyCommands\ncover 0/0\n";
-    let (result, text) = run_through(rt.alloc(), script, PLENTY, PLENTY, true);
-    assert_eq!(rt; result, Ok(()));
-    assert_eq!(rt; text.as_slice(), answers.as_slice());
+fn claim_and_invert(rt: HostRuntime) {
+    let script = b"\
+add 0/0
+add 0/0
+claim 1/0 0/5
+read 0/5
+invert
+read 0/0-11
+";
+    let answers = b"\
+changed 288230376151711744
+changed 0
+taken 72057594037927936
+cover
+changed 3458764513820540928
+cover 0/1-11
+";
+    expect(&rt, rt.alloc(), script, answers);
+}
+
+#[test]
+fn remove_and_keep(rt: HostRuntime) {
+    let script = b"\
+add 0/0-1
+keep 1/0 0/1
+remove 1/4-7
+keep 0/0
+read 0/0-11
+keep
+remove 0/0
+";
+    let answers = b"\
+changed 576460752303423488
+changed 216172782113783808
+changed 288230376151711744
+changed 0
+cover 1/0
+changed 72057594037927936
+changed 0
+";
+    expect(&rt, rt.alloc(), script, answers);
 }
 
 #[test]
 fn near(rt: HostRuntime) {
-    let script =
-        b"add 1/35\nnear 1 0\nnear 1 1\nnear 1\nnear 1 1x\nnear 0 12\nnear 30 0\nnear @1 1 0\nnear 0 0 0\nnear\nnear 0 99999999999999999999999999999999";
+    let script = b"\
+add 1/35
+near 1 0
+near 1 1
+";
+    let answers = b"\
+changed 72057594037927936
+near yes
+near no
+";
+    expect(&rt, rt.alloc(), script, answers);
+}
+
+#[test]
+fn faults(rt: HostRuntime) {
+    let script = b"\
+add 5/7-3
+hop 1
+degrade 30
+near 1
+near 1 1x
+near 0 12
+invert now
+add
+read
+";
+    let answers = b"\
+fault Backwards
+fault UnknownWord
+fault OrderTooLarge
+fault WrongCount
+fault BadNumber
+fault CellTooLarge
+fault WrongCount
+changed 0
+cover
+";
+    expect(&rt, rt.alloc(), script, answers);
+}
+
+#[test]
+fn fields(rt: HostRuntime) {
+    let script = b"\
+near 30 0
+near 0 0 0
+near
+near 0 99999999999999999999999999999999
+degrade
+degrade 1 1
+degrade 256
+degrade 1x
+Invert
+read @x30
+";
+    let answers = b"\
+fault OrderTooLarge
+fault WrongCount
+fault WrongCount
+fault CellTooLarge
+fault WrongCount
+fault WrongCount
+fault OrderTooLarge
+fault BadNumber
+fault UnknownWord
+fault BadNumber
+";
+    expect(&rt, rt.alloc(), script, answers);
+}
+
+#[test]
+fn operands_with_an_order(rt: HostRuntime) {
+    let script = b"\
+add @0 29/0
+count @1 29/5 1/7
+read @29 1/3
+claim @0 1/47
+add @8
+add @30 1/0
+add @ 1/0
+add ,@8 1/0
+near @1 1 0
+degrade @8
+read 0/0-11
+";
+    let answers = b"\
+changed 288230376151711744
+total 72057594037927936
+cover 1/3
+claimed
+changed 0
+fault OrderTooLarge
+fault BadNumber
+fault BadByte
+fault WrongCount
+fault BadNumber
+cover 0/0 11
+";
+    expect(&rt, rt.alloc(), script, answers);
+}
+
+#[test]
+fn batches(rt: HostRuntime) {
+    let script = b"\
+add 0/0 ; count 0/0-1 ; remove 0/0
+claim 1/0;claim 1/0
+add 0/5 ;
+add 0/5 ; hop
+;
+invert;invert;invert;invert;invert;invert;invert;invert;invert;invert;invert;invert;invert;invert;invert;invert;invert
+read 0/0-11
+";
+    let answers = b"\
+changed 288230376151711744 ; total 288230376151711744 ; changed 288230376151711744
+claimed ; taken 72057594037927936
+fault EmptyCommand
+fault UnknownWord
+fault EmptyCommand
+fault TooManyCommands
+cover 1/0
+";
+    expect(&rt, rt.alloc(), script, answers);
+}
+
+#[test]
+fn sixteen_commands(rt: HostRuntime) {
+    let script = b"read;read;read;read;read;read;read;read;read;read;read;read;read;read;read;read";
     let answers =
-        b"changed 72057594037927936\nnear yes\nnear no\nfault WrongCount\nfault BadNumber\nfault CellTooLarge\nfault OrderTooLarge\nfault WrongCount\nfault WrongCount\nfault WrongCount\nfault CellTooLarge\n";
-    let (result, text) = run_through(rt.alloc(), script, PLENTY, PLENTY, true);
-    assert_eq!(rt; result, Ok(()));
-    assert_eq!(rt; text.as_slice(), answers.as_slice());
+        b"cover ; cover ; cover ; cover ; cover ; cover ; cover ; cover ; cover ; cover ; cover ; cover ; cover ; cover ; cover ; cover\n";
+    expect(&rt, rt.alloc(), script, answers);
 }
 
 #[test]
 fn no_input_and_no_last_line_feed(rt: HostRuntime) {
-    let (result, text) = run_through(rt.alloc(), b"", PLENTY, PLENTY, true);
-    assert_eq!(rt; result, Ok(()));
-    assert!(rt; text.is_empty());
-    let (result, ended) = run_through(rt.alloc(), b"add 29/0\nadd @0 29/0\n", PLENTY, PLENTY, true);
-    assert_eq!(rt; result, Ok(()));
-    assert_eq!(rt;
-        ended.as_slice(),
-        b"changed 1\nchanged 288230376151711743\n".as_slice()
-    );
-    let (result, text) = run_through(rt.alloc(), b"add 29/0\nadd @0 29/0", PLENTY, PLENTY, true);
-    assert_eq!(rt; result, Ok(()));
-    assert_eq!(rt; text.as_slice(), ended.as_slice());
+    let answers = b"changed 1\nchanged 288230376151711743\n";
+    expect(&rt, rt.alloc(), b"", b"");
+    expect(&rt, rt.alloc(), b"add 29/0\ndegrade 0\n", answers);
+    expect(&rt, rt.alloc(), b"add 29/0\ndegrade 0", answers);
 }
 
 // Runs a script over std's readers and writers.

@@ -1,7 +1,7 @@
 use Rattle.std.proofs.Common.{ap, ap₂, codes, Bool, false, ◌||◌, ◌≡◌, ◌∙◌}
 use Rattle.std.proofs.lemmas.Result.{IfOk-weaker}
-use Rattle.clap.specs.Words.{App, Shape, Text, app_of, shape_of, rule_of, new_app, with_rule, with_subcommand}
-use Rattle.clap.specs.Simple.{app_of_fields, shape_of_fields}
+use Rattle.clap.specs.Words.{App, Shape, app_of, new_app, with_rule, with_subcommand}
+use Rattle.clap.specs.Simple.{app_of_fields}
 use Rattle.clap.specs.declared.builder.command.Command.{Command}
 use Rattle.clap.specs.declared.builder.command.Command.TheOpen.{Command-F}
 use Rattle.clap.specs.declared.builder.command.Command.TheViews.{out-Command as fields_of}

@@ -1,4 +1,4 @@
-use Rattle.std.proofs.Common.{true, map}
+use Rattle.std.proofs.Common.{map}
 use Rattle.std.proofs.lemmas.Bool.{false_from_ne_true}
 use Rattle.std.proofs.lemmas.Result.{IfErr-weaker}
 use Rattle.clap.specs.Words.{app_of, takes}

@@ -1,6 +1,5 @@
-use Rattle.std.proofs.Common.{◌<◌, Ok, ap, sym, subst, ◌∙◌}
-use Rattle.moc_sphere.specs.CellNumber.{CellNumber, cell_count, cell_number}
-use Rattle.moc_script.specs.declared.command.Command.TheVariants.{Near}
+use Rattle.std.proofs.Common.{◌<◌, subst, ◌∙◌}
+use Rattle.moc_sphere.specs.CellNumber.{cell_count}
 use Rattle.moc_script.proofs.NearLemmas.{near_is, same_answer}
 use Rattle.moc_script.proofs.command.read_cell.Goals as goal
 

@@ -1,5 +1,5 @@
 use Rattle.std.proofs.Common.{length}
-use Rattle.moc_text.specs.Lines.{LinesSoFar}
+use Rattle.moc_text.specs.UniqReading.{LinesSoFar}
 use Rattle.moc_text.proofs.uniq.read_lines.Given as goal
 
 abbrev pub invariant-loop-rest : goal.invariant-loop-rest

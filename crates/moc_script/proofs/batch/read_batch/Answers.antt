@@ -1,0 +1,18 @@
+-- A line has as many pieces as semicolons, and one more.
+use Rattle.std.proofs.Common.{rules, Ok, sym, ap, ◌∙◌, arith}
+use Rattle.moc_script.specs.Language.{command_of}
+use Rattle.moc_script.proofs.Batching.{batch-many, batch-few, batch-fits, Reads-few}
+use Rattle.moc_script.proofs.batch.read_batch.Goals as goal
+
+pub returns-then-semicolons_in-ge-MOST : goal.returns-then-semicolons_in-ge-MOST
+returns-then-semicolons_in-ge-MOST c = batch-many command_of c.args.line.now c.semicolons_in.result c.semicolons_in.ensures (omega arith)
+
+pub returns-in_err-read_pieces : goal.returns-in_err-read_pieces
+returns-in_err-read_pieces c = Reads-few _ _ _ _ (batch-few command_of c.args.line.now c.semicolons_in.result c.semicolons_in.ensures (omega arith)) (search rules)
+
+pub returns-in-Ok : goal.returns-in-Ok
+returns-in-Ok c =
+    sym (batch-few command_of c.args.line.now c.semicolons_in.result c.semicolons_in.ensures (omega arith)) ∙ c.in_ok-read_pieces.ensures ∙ ap (λ l. Ok l) (sym c.in-Ok.ensures.made)
+
+pub returns-in-Err : goal.returns-in-Err
+returns-in-Err c = absurd (batch-fits command_of c.args.line.now c.semicolons_in.result _ c.semicolons_in.ensures (omega arith) c.in_ok-read_pieces.ensures c.in-Err.ensures.refused)

@@ -1,0 +1,50 @@
+//! The answers to lines, by a map.
+ghost use Rattle.std.specs.Prelude.{◌≡◌, ◌++◌, ◌∷◌, [], OnOk, codes};
+ghost use Rattle.moc_script.specs.Faults.{name_of};
+ghost use Rattle.moc_script.specs.Scripts.{answer_on, set_after_line};
+
+use crate::batch::read_batch;
+use crate::fault::{Fault, ReadError};
+use crate::reply::push_replies;
+use crate::responder::Responder;
+use crate::words::is_blank_text;
+use moc_parts::Map;
+use moc_ranges::Memory;
+use std::alloc::Global;
+
+/// Answers a fault.
+fn push_fault(fault: Fault, text: &mut Vec<u8>) -> Result<(), Memory>
+    ensures { OnOk result (text.new.items ≡ text.old.items ++ (codes "fault " ++ name_of fault ++ 10 ∷ [])) }
+{
+    text.extend_from_slice(b"fault ")?;
+    text.extend_from_slice(fault.name().as_bytes())?;
+    text.extend_from_slice(b"\n")?;
+    Ok(())
+}
+
+impl Responder for Map {
+    ghost answer = { answer_on };
+
+    ghost after = { set_after_line };
+
+    fn answer_line(
+        &mut self,
+        alloc: Global,
+        line: &[u8],
+        text: &mut Vec<u8>,
+    ) -> Result<(), Memory> {
+        if is_blank_text(line) {
+            return Ok(());
+        }
+        match read_batch(alloc, line) {
+            Ok(batch) => {
+                let replies = self.apply(alloc, &batch)?;
+                push_replies(alloc, replies.as_slice(), text)?;
+                text.extend_from_slice(b"\n")?;
+                Ok(())
+            }
+            Err(ReadError::Fault(fault)) => push_fault(fault, text),
+            Err(ReadError::Memory) => Err(Memory),
+        }
+    }
+}
