@@ -29,11 +29,11 @@ def fronts(text):
     return {b"".join(lines[:count]) for count in range(len(lines) + 1)}
 
 
-def run(words, script, refuse, shim):
+def run_program(words, script, refuse, shim):
     """The ended run, and how many growths it asked for."""
     count = shim + ".count"
     environment = dict(os.environ, REFUSE=str(refuse), COUNT=count, LD_PRELOAD=shim)
-    ended = subprocess.run([MOC] + words, input=script, capture_output=True, env=environment, timeout=60)
+    ended = subprocess.run(words, input=script, capture_output=True, env=environment, timeout=60)
     with open(count) as file:
         return ended, int(file.read())
 
@@ -47,13 +47,13 @@ def is_met(ended, answers):
 
 def refuses_in_turn(words, script, answers, shim):
     """How many refusals were met as they should, and how many not."""
-    ended, growths = run(words, script, 0, shim)
+    ended, growths = run_program([MOC] + words, script, 0, shim)
     if (ended.returncode, ended.stdout, ended.stderr) != (0, answers, b""):
         print(f"{words} with ample memory: {ended}", file=sys.stderr)
         return 0, 1
     passed, faults = 0, 0
     for refuse in range(1, growths + 1):
-        ended, _ = run(words, script, refuse, shim)
+        ended, _ = run_program([MOC] + words, script, refuse, shim)
         faults += ended.returncode == 3
         if is_met(ended, answers):
             passed += 1
@@ -62,6 +62,26 @@ def refuses_in_turn(words, script, answers, shim):
     # Each script takes memory, so some refusal shows.
     failed = growths - passed + (faults == 0)
     return passed, failed
+
+
+def map_refused_in_turn(shim):
+    """How many refusals left the twelve parts of a map as they were, or came before there was a map, and how many not."""
+    folder = os.path.join(TOP, "crates", "refused_inversion")
+    subprocess.run(["rt", "run"], cwd=folder, stdin=subprocess.DEVNULL, capture_output=True, check=True)
+    program = [os.path.join(folder, "out", "refused_inversion")]
+    ended, growths = run_program(program, b"", 0, shim)
+    if (ended.returncode, ended.stdout) != (0, b"inverted\n"):
+        print(f"{program} with ample memory: {ended}", file=sys.stderr)
+        return 0, 1
+    passed = unchanged = 0
+    for refuse in range(1, growths + 1):
+        ended, _ = run_program(program, b"", refuse, shim)
+        unchanged += ended.stdout == b"unchanged\n"
+        if (ended.returncode, ended.stdout) in [(0, b"inverted\n"), (0, b"unchanged\n"), (1, b"")]:
+            passed += 1
+        else:
+            print(f"growth {refuse} of {program}: {ended}", file=sys.stderr)
+    return passed, growths - passed + (unchanged == 0)
 
 
 def main():
@@ -81,6 +101,8 @@ def main():
         ]:
             good, bad = refuses_in_turn(words, script, answers, shim)
             passed, failed = passed + good, failed + bad
+        good, bad = map_refused_in_turn(shim)
+        passed, failed = passed + good, failed + bad
     with open("/dev/full", "wb") as full:
         ended = subprocess.run([MOC, "run"], input=SCRIPT, stdout=full, stderr=subprocess.PIPE, timeout=60)
     cases = [("a full device", ended.returncode == 3 and ended.stderr == b"fault Write\n")]

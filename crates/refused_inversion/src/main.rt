@@ -1,0 +1,34 @@
+//! Inverts a map of one base pixel, and says whether the map is as it should be: `inverted`, or `unchanged` where memory
+//! was refused. `tests/program.py` refuses each growth of it in turn.
+#![tactic(auto)]
+
+use anyhow::{Result, bail};
+use moc_parts::{Batch, Command, Map, Part};
+use moc_ranges::Coverage;
+
+/// How many pixels a base pixel has: 4^29.
+const BASE_PIXEL_SIZE: u64 = 288230376151711744;
+
+/// Whether the first part has so many pixels, and each other part so many.
+fn has_counts(map: &Map, first: u64, others: u64) -> bool {
+    let is_first = map.part(Part::of(0)).count() == first;
+    is_first && (1u8..12).all(|b| map.part(Part::of(b)).count() == others)
+}
+
+fn main(rt: HostRuntime) -> Result<()> {
+    let alloc = rt.alloc();
+    let start = Coverage::from_ranges(alloc, &[(0, BASE_PIXEL_SIZE)])?;
+    let mut map = Map::new(alloc, start)?;
+    let mut commands = Vec::new(alloc);
+    commands.push(Command::Invert)?;
+    let batch = Batch::new(commands)?;
+    let is_done = map.apply(alloc, &batch).is_ok();
+    if is_done && has_counts(&map, 0, BASE_PIXEL_SIZE) {
+        println!(rt; "inverted")?;
+    } else if !is_done && has_counts(&map, BASE_PIXEL_SIZE, 0) {
+        println!(rt; "unchanged")?;
+    } else {
+        bail!("another map");
+    }
+    Ok(())
+}
