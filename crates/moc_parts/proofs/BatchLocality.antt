@@ -97,4 +97,6 @@ prepared cs found made after p each w e s r l =
       replied = replied cs found made p.replies each w e r;
       parts = λ a v same b lt. l b lt ∙ kept_alike (footprint_of_all cs b) after (set_after_all a cs) b
           (λ f. ap (λ t. part_of t b) (s ∙ ap (λ t. set_after_all t cs) e) ∙ found_parts cs found a each wf v same b f);
+      outside = λ a v q f. untouched cs a each v q f;
+      stays = λ a v. stays_within cs a each v;
     }

@@ -6,7 +6,7 @@ use Rattle.std.specs.FinSet as set
 use Rattle.moc_ranges.specs.Numbers.{NumberSet}
 use Rattle.moc_ranges.specs.Pixels.{pixels}
 use Rattle.moc_ranges.specs.Operations.{IsWithin, part_of}
-use Rattle.moc_parts.specs.Objects.{AgreeOn}
+use Rattle.moc_parts.specs.Objects.{AgreeOn, base_pixel}
 use Rattle.moc_parts.specs.Batches.{set_after_all, replies_on, footprint_of_all}
 use Rattle.moc_parts.specs.declared.command.Command.{Command}
 use Rattle.moc_parts.specs.declared.reply.Reply.{Reply}
@@ -34,7 +34,10 @@ kept false a b = None
 abbrev pub AreRepliesTo : List Command → NumberSet → List Reply → Type 0
 AreRepliesTo cs found replies = (a : NumberSet) → IsWithin a pixels → AgreeOn (footprint_of_all cs) found a → replies ≡ replies_on a cs
 
--- for every such set: the replies, and the new contents of the footprint's parts and of no other
+-- For every such set: the replies, and the new contents of the footprint's parts and of no other. Outside of the footprint nothing
+-- changes, and a set of pixels stays one.
 pub record IsPrepared (cs : List Command) (found : NumberSet) (p : Preparation) : Type 0 where
   pub replied : AreRepliesTo cs found p.replies
   pub parts : (a : NumberSet) → IsWithin a pixels → AgreeOn (footprint_of_all cs) found a → (b : ℕ) → b < 12 → get_or p.lists b None ≡ kept (footprint_of_all cs b) (set_after_all a cs) b
+  pub outside : (a : NumberSet) → IsWithin a pixels → (q : ℕ) → footprint_of_all cs (base_pixel q) ≡ false → set.contains (set_after_all a cs) q ≡ set.contains a q
+  pub stays : (a : NumberSet) → IsWithin a pixels → IsWithin (set_after_all a cs) pixels
