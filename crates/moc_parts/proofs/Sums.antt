@@ -7,8 +7,9 @@ use Rattle.moc_ranges.specs.Pixels.{pixels, pixel_count, base_pixel_size}
 use Rattle.moc_ranges.specs.Operations.{part_of, contains-part_of, contains-pixels, meets, meets-some, IsWithin}
 use Rattle.moc_ranges.specs.Sizes.{len_parts}
 use Rattle.moc_ranges.specs.RangeList.{IsNormal, in_ranges, set_of, contains-set_of, len_bounded}
+use Rattle.std.specs.Cmp.{nat_cmp_total}
 use Rattle.std.specs.Ordering.{nat_cmp}
-use Rattle.moc_parts.proofs.Members.{has-union, has-intersection, has-difference, has-empty, and_true, both, same_test, meets_at, of_part}
+use Rattle.moc_parts.proofs.Members.{has-union, has-intersection, has-difference, has-empty, and_true, both, same_test, meets_at, in_part, of_part}
 use Rattle.moc_parts.proofs.Twelve.{first_parts, has-first_parts, first_parts-next, first_parts-all, first_parts-none, or_nothing}
 
 early : (x s : Bool) (r n : ℕ) → (((x && nat_lt r (n + 1)) && s) && (x && nat_lt r n)) ≡ ((x && nat_lt r n) && s)
@@ -160,3 +161,11 @@ meets-part a s b h = let m = meets_at (part_of a b) s h in meets-some a s m.0 (o
 -- nothing more in common
 pub union-nothing : (a b : NumberSet) → b ≡ set.empty → set.union a b ≡ a
 union-nothing a b e = same_members _ _ (λ q. has-union a b q ∙ ap (λ t. set.contains a q || set.contains t q) e ∙ ap (λ t. set.contains a q || t) (has-empty q) ∙ or_nothing (set.contains a q))
+
+-- a part is shared whole with a set that has its base pixel
+pub part-covered : (a s : NumberSet) (b : ℕ) → IsWithin a pixels → set.is_subset (part_of pixels b) s ≡ true → set.intersection (part_of a b) s ≡ part_of a b
+part-covered a s b w sub = same_members _ _ (λ q. has-intersection (part_of a b) s q ∙ same_test _ _
+    (λ h. (and_true (set.contains (part_of a b) q) (set.contains s q) h).0)
+    (λ h.
+    let k = of_part a b q h in
+    both h (set.is_subset-contains nat_cmp_total (part_of pixels b) s sub q (in_part pixels b q (w.each q k.0) k.1))))

@@ -134,6 +134,20 @@ impl<'a> Draft<'a> {
         total
     }
 
+    /// How many pixels of one part the set has in common with another.
+    fn count_common_in(&self, b: u8, other: &Coverage) -> u64
+        requires { b < 12 }
+        ensures { result ≡ set.len (set.intersection (part_of self.now.set b) other.now) }
+    {
+        self.lies_in_sky();
+        let part = self.part(b);
+        if other.covers_base_pixel(b) {
+            part.count()
+        } else {
+            part.count_common(other)
+        }
+    }
+
     /// How many pixels the set has in common with another.
     pub(crate) fn count_common(&self, other: &Coverage) -> u64
         ensures { result ≡ set.len (set.intersection self.now.set other.now) }
@@ -141,7 +155,7 @@ impl<'a> Draft<'a> {
         self.lies_in_sky();
         let mut total = 0;
         for b in 0u8..12 {
-            total += self.part(b).count_common(other);
+            total += self.count_common_in(b, other);
         }
         total
     }

@@ -188,6 +188,16 @@ impl Coverage {
         keeps_some(Rule::INTERSECTION, reaching(&self.bounds, &base), &base)
     }
 
+    /// Whether the set has every pixel of this base pixel, 0 to 11. O(log n) where it has, takes no memory.
+    pub fn covers_base_pixel(&self, base_pixel: u8) -> bool
+        requires { base_pixel < 12 }
+        ensures { result ≡ set.is_subset (part_of pixels base_pixel) self.now }
+    {
+        let first = u64::from(base_pixel) * BASE_PIXEL_SIZE;
+        let whole = [first, first + BASE_PIXEL_SIZE];
+        !keeps_some(Rule::DIFFERENCE, &whole, reaching(&self.bounds, &whole))
+    }
+
     /// The set as cells of an order see it: all pixels of each cell of that order that it meets (MOC 2.0: degradation).
     ///
     /// One pass, O(n); refused where memory runs out.

@@ -15,7 +15,7 @@ overflow_add-total c =
     let s : NumberSet = c.args.other.now in
     let bound = sum_bound a s c.loop-b.b c.lies_in_sky.ensures in
     let old : c.loop-b.total ≡ set.len (set.intersection (first_parts a c.loop-b.b) s) = c.loop-b.invariant in
-    let new : c.count_common-total.result ≡ set.len (set.intersection (part_of a c.loop-b.b) s) = c.count_common-total.ensures ∙ ap (λ p. set.len (set.intersection p s)) c.part.ensures in
+    let new : c.count_common_in-total.result ≡ set.len (set.intersection (part_of a c.loop-b.b) s) = c.count_common_in-total.ensures in
     omega (arith, old, new, bound)
 
 pub loop-b-preserved : goal.loop-b-preserved
@@ -23,7 +23,7 @@ loop-b-preserved c =
     let a : NumberSet = c.args.self.now.set in
     let s : NumberSet = c.args.other.now in
     let old : c.loop-b.total ≡ set.len (set.intersection (first_parts a c.loop-b.b) s) = c.loop-b.invariant in
-    let new : c.count_common-total.result ≡ set.len (set.intersection (part_of a c.loop-b.b) s) = c.count_common-total.ensures ∙ ap (λ p. set.len (set.intersection p s)) c.part.ensures in
+    let new : c.count_common_in-total.result ≡ set.len (set.intersection (part_of a c.loop-b.b) s) = c.count_common_in-total.ensures in
     (λ i. old i + new i) ∙ len-next a s c.loop-b.b
 
 pub returns : goal.returns

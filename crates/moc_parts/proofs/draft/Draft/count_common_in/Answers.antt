@@ -1,0 +1,8 @@
+use Rattle.std.proofs.Common.{◌≡◌, sym, ap, ◌∙◌}
+use Rattle.std.specs.FinSet as set
+use Rattle.moc_parts.proofs.Sums.{part-covered}
+use Rattle.moc_parts.proofs.draft.Draft.count_common_in.Goals as goal
+
+pub returns-then-covers_base_pixel : goal.returns-then-covers_base_pixel
+returns-then-covers_base_pixel c =
+    c.count.ensures.size ∙ ap set.len (c.part-part.ensures ∙ sym (part-covered c.args.self.now.set c.args.other.now c.args.b c.lies_in_sky.ensures (sym c.covers_base_pixel.ensures ∙ c.if-covers_base_pixel.true)))
