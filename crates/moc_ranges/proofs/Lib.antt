@@ -12,3 +12,4 @@ pub mod CellRuns
 pub mod CellOrders
 pub mod Cutting
 pub mod Reaching
+pub mod Leading

@@ -16,7 +16,7 @@ alone = record { first = true; second = false; both = false }
 
 -- ---- the extent of a list
 
-first_least : (xs : List ℕ) → IsRising xs → AllFrom (get_or xs 0 0) xs
+pub first_least : (xs : List ℕ) → IsRising xs → AllFrom (get_or xs 0 0) xs
 first_least [] up = tt
 first_least (x ∷ xs) up = (omega arith, AllFrom-less xs (x + 1) x up.0 (omega arith))
 

@@ -110,7 +110,8 @@ impl Coverage {
         Ok(Coverage { bounds })
     }
 
-    /// The pixels of either set. One pass, O(n + m); refused where memory runs out.
+    /// The pixels of either set. One pass over the ranges where their extents overlap, and a copy of the others, O(n + m);
+    /// refused where memory runs out.
     pub fn union(&self, alloc: Global, other: &Coverage) -> Result<Coverage, Memory>
         ensures { IfOk result (λ c. c ≡ set.union self.now other.now) }
     {
@@ -127,8 +128,8 @@ impl Coverage {
         combined(alloc, Rule::INTERSECTION, mine, theirs)
     }
 
-    /// The pixels of this set that the other lacks. One pass over this set and the ranges of the other that reach into its
-    /// extent, found in O(log m); refused where memory runs out.
+    /// The pixels of this set that the other lacks. One pass over the ranges where their extents overlap, found in
+    /// O(log n + log m), and a copy of the others of this set; refused where memory runs out.
     pub fn difference(&self, alloc: Global, other: &Coverage) -> Result<Coverage, Memory>
         ensures { IfOk result (λ c. c ≡ set.difference self.now other.now) }
     {
@@ -136,7 +137,8 @@ impl Coverage {
         combined(alloc, Rule::DIFFERENCE, &self.bounds, theirs)
     }
 
-    /// The pixels that just one of the two sets has. One pass, O(n + m); refused where memory runs out.
+    /// The pixels that just one of the two sets has. One pass over the ranges where their extents overlap, and a copy of the
+    /// others, O(n + m); refused where memory runs out.
     pub fn symmetric(&self, alloc: Global, other: &Coverage) -> Result<Coverage, Memory>
         ensures { IfOk result (λ c. c ≡ symmetric self.now other.now) }
     {
