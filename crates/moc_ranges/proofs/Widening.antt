@@ -8,7 +8,8 @@ use Rattle.moc_sphere.specs.CellNumber.{cell_size, cell_size-positive, cell_size
 use Rattle.moc_ranges.specs.Numbers.{NumberSet}
 use Rattle.moc_ranges.specs.Operations.{meets-some, meets-none}
 use Rattle.moc_ranges.specs.Cells.{span, degrade, contains-span, contains-degrade}
-use Rattle.moc_ranges.proofs.Joining.{Joining, joining_start, IsSortedFrom-less}
+use Rattle.moc_ranges.specs.Joining.{Joining}
+use Rattle.moc_ranges.proofs.Joining.{joining_start, IsSortedFrom-less}
 use Rattle.std.proofs.lemmas.Bool.{cases_Bool, false≢true, false_from_ne_true, eqb-true, eq-eqb, or_cases, or_left, or_right, and_parts, and_from, leb-true, ltb-true, le-leb, lt-ltb}
 use Rattle.moc_ranges.specs.Pixels.{pixel_count}
 use Rattle.moc_ranges.specs.Sorted.{IsSortedFrom}

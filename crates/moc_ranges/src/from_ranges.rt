@@ -1,11 +1,12 @@
 //! From pairs in any order to the bounds of their union, and from ranges to the cells that they meet.
-ghost use Rattle.std.specs.Prelude.{◌≡◌, ℕ, ◌*◌, ◌<◌, ◌≤◌, map, IfOk, IfErr, OnOk, None, Some};
+ghost use Rattle.std.specs.Prelude.{◌≡◌, ℕ, ◌*◌, ◌<◌, ◌≤◌, ◌++◌, ◌∷◌, [], List, map, IfOk, IfErr, OnOk, None, Some};
 ghost use Rattle.moc_ranges.specs.Faults.{first_fault};
 ghost use Rattle.moc_ranges.specs.Sorted.{IsSortedFrom};
 ghost use Rattle.moc_ranges.specs.RangeList.{in_ranges, IsNormal};
 ghost use Rattle.moc_ranges.specs.Pixels.{pixel_count};
 ghost use Rattle.moc_ranges.specs.Widen.{IsCellSize, widen};
 ghost use Rattle.moc_ranges.specs.Bounds.{IsBounds, inside};
+ghost use Rattle.moc_ranges.specs.Joining.{Joining};
 
 use crate::coverage::PIXEL_COUNT;
 use crate::errors::RangesError;
@@ -50,30 +51,61 @@ pub fn sorted(alloc: Global, pairs: &[(u64, u64)]) -> Result<Vec<(u64, u64)>, Al
     Ok(filled)
 }
 
+/// The bounds of ranges that rise by their starts, as far as they are settled, and the range behind them, which may grow.
+#[derive(Drop)]
+struct Joiner {
+    bounds: Vec<u64>,
+    from: u64,
+    to: u64,
+}
+
+impl Joiner {
+    /// Takes in the next range: it joins the open one where they overlap or touch, and else settles that.
+    #[inline]
+    fn take_in(&mut self, range: (u64, u64)) -> Result<(), AllocError>
+        ensures { OnOk result ((rest whole : List (ℕ × ℕ))
+            → Joining self.old.bounds.items self.old.from self.old.to (range ∷ rest) whole
+            → Joining self.new.bounds.items self.new.from self.new.to rest whole) }
+    {
+        let (from, to) = range;
+        if from <= self.to {
+            self.to = self.to.max(to);
+            return Ok(());
+        }
+        self.bounds.push(self.from)?;
+        self.bounds.push(self.to)?;
+        self.from = from;
+        self.to = to;
+        Ok(())
+    }
+
+    /// All bounds.
+    fn finish(self) -> Result<Vec<u64>, AllocError>
+        ensures { IfOk result (λ v. v.items ≡ (self.bounds.items ++ self.from ∷ []) ++ self.to ∷ []) }
+    {
+        let mut bounds = self.bounds;
+        bounds.push(self.from)?;
+        bounds.push(self.to)?;
+        Ok(bounds)
+    }
+}
+
 /// The bounds of what lies in any of the pairs.
 pub fn joined(alloc: Global, pairs: &[(u64, u64)]) -> Result<Vec<u64>, AllocError>
     requires { IsSortedFrom 0 pairs.now }
     ensures bounds { IfOk result (λ v. IsBounds v.items) }
     ensures set { IfOk result (λ v. (q : ℕ) → inside v.items q ≡ in_ranges pairs.now q) }
 {
-    let mut bounds = Vec::with_capacity(alloc, 2 * pairs.len())?;
+    let bounds = Vec::with_capacity(alloc, 2 * pairs.len())?;
     let Some((first, others)) = pairs.split_first() else {
         return Ok(bounds);
     };
-    let mut from = first.0;
-    let mut to = first.1;
+    let (from, to) = *first;
+    let mut joiner = Joiner { bounds, from, to };
     for pair in others {
-        if pair.0 <= to {
-            to = to.max(pair.1);
-        } else {
-            bounds.push(from)?;
-            bounds.push(to)?;
-            from = pair.0;
-            to = pair.1;
-        }
+        joiner.take_in(*pair)?;
     }
-    bounds.push(from)?;
-    bounds.push(to)?;
+    let bounds = joiner.finish()?;
     Ok(bounds)
 }
 
@@ -100,23 +132,15 @@ pub fn joined_cells(
     ensures bounds { IfOk result (λ v. IsBounds v.items) }
     ensures set { IfOk result (λ v. (q : ℕ) → inside v.items q ≡ in_ranges (map (widen size) ranges.entry) q) }
 {
-    let mut bounds = Vec::new(alloc);
+    let bounds = Vec::new(alloc);
     let Some((first, last)) = ranges.next() else {
         return Ok(bounds);
     };
-    let (mut from, mut to) = widened(size, first, last);
+    let (from, to) = widened(size, first, last);
+    let mut joiner = Joiner { bounds, from, to };
     for (first, last) in ranges {
-        let wide = widened(size, first, last);
-        if wide.0 <= to {
-            to = to.max(wide.1);
-        } else {
-            bounds.push(from)?;
-            bounds.push(to)?;
-            from = wide.0;
-            to = wide.1;
-        }
+        joiner.take_in(widened(size, first, last))?;
     }
-    bounds.push(from)?;
-    bounds.push(to)?;
+    let bounds = joiner.finish()?;
     Ok(bounds)
 }

@@ -1,7 +1,8 @@
-use Rattle.std.proofs.Common.{◌<◌, ℕ, List, [], ◌∷◌, ◌++◌, ap, sym, subst, ◌∙◌, map}
+use Rattle.std.proofs.Common.{ℕ, List, ◌∷◌, ap, sym, subst, ◌∙◌, map}
+use Rattle.moc_ranges.specs.Joining.{Joining}
 use Rattle.moc_ranges.specs.RangeList.{IsNormal}
 use Rattle.moc_ranges.specs.Widen.{widen}
-use Rattle.moc_ranges.proofs.Joining.{Joining, joining_same, joining_parts, joined_bounds, joined_set}
+use Rattle.moc_ranges.proofs.Joining.{joining_same, joined_bounds, joined_set}
 use Rattle.moc_ranges.proofs.Widening.{cells_start}
 use Rattle.moc_ranges.proofs.from_ranges.joined_cells.Goals as goal
 
@@ -21,26 +22,25 @@ loop-first-preserved c =
     let range : ℕ × ℕ = (c.in-Some-2.first, c.in-Some-2.last) in
     let w = c.args.size in
     let whole = map (widen w) c.args.ranges in
-    let bounds = c.loop-first.bounds.items in
-    let from = c.loop-first.from in
-    let to = c.loop-first.to in
+    let joiner = c.loop-first.joiner in
+    let rest = c.next-in-loop-first.new.self in
     let normal = subst (λ (rs : List (ℕ × ℕ)). IsNormal rs) c.in-Some-2.ensures.steps c.loop-first.invariant.normal in
-    let s = subst (λ (rs : List (ℕ × ℕ)). Joining bounds from to (map (widen w) rs) whole) c.in-Some-2.ensures.steps c.loop-first.invariant.joining in
-    let wide = c.widened-wide.ensures in
-    let items = c.in_ok-push-2.ensures.items ∙ ap (λ (l : List ℕ). l ++ to ∷ []) c.in_ok-push.ensures.items in
-    let past : to < (widen w range).0 = subst (λ (r : ℕ × ℕ). to < r.0) wide c.if-wide-to.false in
+    let s = subst (λ (rs : List (ℕ × ℕ)). Joining joiner.bounds.items joiner.from joiner.to (map (widen w) rs) whole) c.in-Some-2.ensures.steps c.loop-first.invariant.joining in
+    let t = subst (λ (r : ℕ × ℕ). Joining joiner.bounds.items joiner.from joiner.to (r ∷ map (widen w) rest) whole) (sym c.widened.ensures) s in
     record {
       continues = (tt, tt);
       normal = normal.3;
-      joining = joining_same _ _ _ _ _ _ _ _ items (ap (λ (r : ℕ × ℕ). r.0) wide) (ap (λ (r : ℕ × ℕ). r.1) wide) (joining_parts bounds from to (widen w range) (map (widen w) c.next-in-loop-first.new.self) whole s past);
+      joining = c.in_ok-take_in.ensures (map (widen w) rest) whole t;
     }
 
 pub returns-clause-bounds : goal.returns-clause-bounds
 returns-clause-bounds c =
-    let s = subst (λ (rest : List (ℕ × ℕ)). Joining c.loop-first.bounds.items c.loop-first.from c.loop-first.to (map (widen c.args.size) rest) (map (widen c.args.size) c.args.ranges)) c.in-None.ensures.steps.0 c.loop-first.invariant.joining in
-    rw (c.in_ok-push-4.ensures.items, c.in_ok-push-3.ensures.items) (joined_bounds _ _ _ _ s)
+    let joiner = c.loop-first.joiner in
+    let s = subst (λ (rest : List (ℕ × ℕ)). Joining joiner.bounds.items joiner.from joiner.to (map (widen c.args.size) rest) (map (widen c.args.size) c.args.ranges)) c.in-None.ensures.steps.0 c.loop-first.invariant.joining in
+    rw c.in_ok-bounds.ensures (joined_bounds _ _ _ _ s)
 
 pub returns-clause-set : goal.returns-clause-set
 returns-clause-set c = λ q.
-    let s = subst (λ (rest : List (ℕ × ℕ)). Joining c.loop-first.bounds.items c.loop-first.from c.loop-first.to (map (widen c.args.size) rest) (map (widen c.args.size) c.args.ranges)) c.in-None.ensures.steps.0 c.loop-first.invariant.joining in
-    rw (c.in_ok-push-4.ensures.items, c.in_ok-push-3.ensures.items) (joined_set _ _ _ _ s q)
+    let joiner = c.loop-first.joiner in
+    let s = subst (λ (rest : List (ℕ × ℕ)). Joining joiner.bounds.items joiner.from joiner.to (map (widen c.args.size) rest) (map (widen c.args.size) c.args.ranges)) c.in-None.ensures.steps.0 c.loop-first.invariant.joining in
+    rw c.in_ok-bounds.ensures (joined_set _ _ _ _ s q)
