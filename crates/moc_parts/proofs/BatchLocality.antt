@@ -1,5 +1,5 @@
 -- A batch is local.
-use Rattle.std.proofs.Common.{◌≡◌, ℕ, ◌/◌, ◌<◌, get_or, None, Some, Bool, true, false, inl, inr, List, [], ◌∷◌, refl, sym, ap, subst, ◌∙◌}
+use Rattle.std.proofs.Common.{◌≡◌, ℕ, ◌/◌, ◌<◌, get_or, None, Some, Bool, true, false, inl, inr, List, [], ◌∷◌, refl, sym, ap, subst, ◌∙◌, length, arith}
 use Rattle.moc_parts.specs.Prepared.{AreRepliesTo, IsPrepared, Preparation, kept}
 use Rattle.std.specs.FinSet as set
 use Rattle.std.proofs.lemmas.Bool.{cases_Bool}
@@ -100,3 +100,8 @@ prepared cs found made after p each w e s r l =
       outside = λ a v q f. untouched cs a each v q f;
       stays = λ a v. stays_within cs a each v;
     }
+
+-- a batch takes a part
+pub some_part : (cs : List Command) → 0 < length cs → AreCommands cs → (b : ℕ) × (b < 12) × (footprint_of_all cs b ≡ true)
+some_part [] some each = absurd (omega arith)
+some_part (c ∷ cs) some each = (batch_local c cs each).some

@@ -1,13 +1,14 @@
 -- A change of a set, part by part.
 use Rattle.std.proofs.Common.{◌≡◌, ℕ, ◌/◌, Bool, true, false, not, ◌&&◌, ◌||◌, nat_lt, nat_eq, inl, inr, refl, sym, ap, ◌∙◌}
+use Rattle.std.specs.Cmp.{nat_cmp_total}
 use Rattle.std.specs.FinSet as set
 use Rattle.moc_ranges.specs.Numbers.{NumberSet, same_members}
 use Rattle.moc_ranges.specs.Pixels.{pixels, pixel_count, base_pixel_size}
-use Rattle.moc_ranges.specs.Operations.{complement, part_of, contains-part_of, contains-complement, contains-pixels, IsWithin}
+use Rattle.moc_ranges.specs.Operations.{complement, part_of, contains-part_of, contains-complement, contains-pixels, meets, meets-some, IsWithin}
 use Rattle.moc_parts.specs.declared.change.Change.{Change}
 use Rattle.moc_parts.specs.declared.change.Change.TheVariants.{Join, Leave, Share, Invert, Degrade}
 use Rattle.moc_parts.specs.Changes.{changed, changed_part, IsChange}
-use Rattle.moc_parts.proofs.Members.{has-union, has-intersection, has-difference, or_true, and_true, both, clash, not_true_false, same_test, is_some, in_part, of_part}
+use Rattle.moc_parts.proofs.Members.{has-union, has-intersection, has-difference, or_true, or_left, and_true, both, clash, not_true_false, same_test, is_some}
 use Rattle.moc_parts.proofs.Twelve.{or_nothing}
 use Rattle.moc_parts.proofs.Coarse.{part-degrade, of_degrade}
 
@@ -74,7 +75,20 @@ no_member s b q none = not_true_false _ (λ h. clash _ (is_some (part_of s b) q 
 pub join_nothing : (part s : NumberSet) (b : ℕ) → nat_lt 0 (set.len (part_of s b)) ≡ false → set.union part (part_of s b) ≡ part
 join_nothing part s b none = same_members _ _ (λ q. has-union part (part_of s b) q ∙ ap (λ t. set.contains part q || t) (no_member s b q none) ∙ or_nothing (set.contains part q))
 
-pub leave_nothing : (part s : NumberSet) (b : ℕ) → part_of part b ≡ part → nat_lt 0 (set.len (part_of s b)) ≡ false → set.difference part s ≡ part
-leave_nothing part s b lies none = same_members _ _ (λ q. has-difference part s q ∙ same_test _ _
-    (λ h. (and_true (set.contains part q) (not (set.contains s q)) h).0)
-    (λ h. both h (ap not (not_true_false (set.contains s q) (λ t. clash _ (in_part s b q t (of_part part b q (ap (λ c. set.contains c q) lies ∙ h)).1) (no_member s b q none))))))
+-- nor does one that it has already
+pub join_covered : (a s : NumberSet) → set.is_subset s a ≡ true → set.union a s ≡ a
+join_covered a s sub = same_members _ _ (λ q. has-union a s q ∙ same_test _ _
+    (λ h. elim (or_true (set.contains a q) (set.contains s q) h) [ inl e ↦ e | inr e ↦ set.is_subset-contains nat_cmp_total s a sub q e ])
+    (λ h. or_left (set.contains a q) (set.contains s q) h))
+
+-- a set that it does not meet takes nothing from it
+pub leave_apart : (a s : NumberSet) → meets a s ≡ false → set.difference a s ≡ a
+leave_apart a s apart = same_members _ _ (λ q. has-difference a s q ∙ same_test _ _
+    (λ h. (and_true (set.contains a q) (not (set.contains s q)) h).0)
+    (λ h. both h (ap not (not_true_false (set.contains s q) (λ t. clash _ (meets-some a s q h t) apart)))))
+
+-- a set that has it all keeps it
+pub share_covered : (a s : NumberSet) → set.is_subset a s ≡ true → set.intersection a s ≡ a
+share_covered a s sub = same_members _ _ (λ q. has-intersection a s q ∙ same_test _ _
+    (λ h. (and_true (set.contains a q) (set.contains s q) h).0)
+    (λ h. both h (set.is_subset-contains nat_cmp_total a s sub q h)))

@@ -12,7 +12,7 @@ use std::marker::Model;
 use thiserror::Error;
 
 /// The most commands of a batch.
-const MOST: usize = 16;
+pub const MOST_COMMANDS: usize = 16;
 
 /// Why commands are no batch.
 #[derive(Clone, Copy, Debug, PartialEq, Eq, Error)]
@@ -50,29 +50,38 @@ impl Batch {
     /// The commands as a batch, if they are 1 to 16; else they are given up. Takes no memory.
     pub fn new(commands: Vec<Command>) -> Result<Batch, BatchError>
         ensures made { IfOk result (λ b. b ≡ commands.items) }
-        ensures accepted { OnOk result ((0 < length commands.items) × (length commands.items ≤ 16)) }
-        ensures empty { IfErr result (λ e. e ≡ (if nat_eq (length commands.items) 0 then BatchError.EmptyCommand else BatchError.TooManyCommands)) }
-        ensures refused { OnErr result (0 < length commands.items → 16 < length commands.items) }
+        ensures accepted { OnOk result ((0 < length commands.items) × (length commands.items ≤ MOST_COMMANDS)) }
+        ensures fault { IfErr result (λ e. e ≡ (if nat_eq (length commands.items) 0 then BatchError.EmptyCommand else BatchError.TooManyCommands)) }
+        ensures refused { OnErr result (0 < length commands.items → MOST_COMMANDS < length commands.items) }
     {
         if commands.is_empty() {
             Err(BatchError::EmptyCommand)
-        } else if commands.len() > MOST {
+        } else if commands.len() > MOST_COMMANDS {
             Err(BatchError::TooManyCommands)
         } else {
             Ok(Batch { commands })
         }
     }
 
+    /// The commands as a batch, for a caller that knows them to be 1 to 16. Takes no memory.
+    pub fn of(commands: Vec<Command>) -> Batch
+        requires some { 0 < length commands.items }
+        requires few { length commands.items ≤ MOST_COMMANDS }
+        ensures { result ≡ commands.items }
+    {
+        Batch { commands }
+    }
+
     /// The commands, in order. Takes no memory.
     pub fn commands(&self) -> &[Command]
         ensures commands { result.now ≡ self.now }
         ensures some { 0 < length self.now }
-        ensures few { length self.now ≤ 16 }
+        ensures few { length self.now ≤ MOST_COMMANDS }
 
         // What lets a caller use the laws of commands.
         ensures proper { AreCommands self.now }
     {
-        are_commands(&self.commands);
+        lie_in_sky(&self.commands);
         &self.commands
     }
 
@@ -96,11 +105,11 @@ impl Batch {
 }
 
 /// Each operand lies in the sky, and each order or cell is one. Does nothing.
-fn are_commands(commands: &[Command])
+fn lie_in_sky(commands: &[Command])
     ensures { AreCommands commands.now }
 {
     if let Some((first, rest)) = commands.split_first() {
-        first.is_command();
-        are_commands(rest);
+        first.lies_in_sky();
+        lie_in_sky(rest);
     }
 }

@@ -1,6 +1,5 @@
 //! Changes of a set that are made part by part.
 ghost use Rattle.std.specs.Prelude.{◌≡◌, ◌<◌, IfOk, unwrap_or};
-ghost use Rattle.moc_ranges.specs.Operations.{part_of};
 ghost use Rattle.moc_parts.specs.Changes.{changed_part, IsChange};
 
 use moc_ranges::{Coverage, Memory};
@@ -23,7 +22,7 @@ pub(crate) enum Change<'a> {
 }
 
 impl<'a> Change<'a> {
-    /// What the change makes of the list of one part, or `None` where it leaves it.
+    /// What the change makes of the list of one part, or `None` where it is seen to leave it (degrading is not looked through).
     pub(crate) fn part(
         &self,
         alloc: Global,
@@ -31,15 +30,21 @@ impl<'a> Change<'a> {
         b: u8,
     ) -> Result<Option<Coverage>, Memory>
         requires part { b < 12 }
-        requires list { part_of list.now b ≡ list.now }
         requires change { IsChange self.now }
         ensures { IfOk result (λ new. unwrap_or new list.now ≡ changed_part self.now list.now b) }
     {
         let new = match *self {
             Change::Join(s) if !s.meets_base_pixel(b) => return Ok(None),
-            Change::Join(s) => list.union(alloc, &s.part(alloc, b)?)?,
-            Change::Leave(s) if !s.meets_base_pixel(b) => return Ok(None),
+            Change::Join(s) => {
+                let more = s.part(alloc, b)?;
+                if list.covers(&more) {
+                    return Ok(None);
+                }
+                list.union(alloc, &more)?
+            }
+            Change::Leave(s) if !list.meets(s) => return Ok(None),
             Change::Leave(s) => list.difference(alloc, s)?,
+            Change::Share(s) if s.covers(list) => return Ok(None),
             Change::Share(s) => list.intersection(alloc, s)?,
             Change::Invert => list.complement(alloc)?.part(alloc, b)?,
             Change::Degrade(order) => list.degrade(alloc, order)?,

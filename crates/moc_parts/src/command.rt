@@ -38,7 +38,7 @@ pub enum Command {
 
 impl Operand {
     /// The set lies in the sky, and an order is one. Does nothing.
-    fn is_operand(&self)
+    fn lies_in_sky(&self)
         ensures { IsOperand self.now }
     {
         self.set.lies_in_sky();
@@ -69,8 +69,8 @@ impl Command {
         )
     }
 
-    /// The operand lies in the sky, and an order or a cell is one: what lets a caller use the laws of commands. Does nothing.
-    pub fn is_command(&self)
+    /// The operand lies in the sky, and an order or a cell is one. Does nothing.
+    pub(crate) fn lies_in_sky(&self)
         ensures { IsCommand self.now }
     {
         match self {
@@ -79,7 +79,7 @@ impl Command {
             | Command::Keep(x)
             | Command::Claim(x)
             | Command::Count(x)
-            | Command::Read(x) => x.is_operand(),
+            | Command::Read(x) => x.lies_in_sky(),
             Command::Invert => {}
             Command::Degrade(order) => {
                 order.get();

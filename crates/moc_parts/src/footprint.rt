@@ -1,5 +1,5 @@
 //! The parts that commands look at and change.
-ghost use Rattle.std.specs.Prelude.{◌≡◌, ◌<◌, ◌||◌, ℕ};
+ghost use Rattle.std.specs.Prelude.{◌≡◌, ◌<◌, ◌||◌, ℕ, true};
 ghost use Rattle.moc_parts.specs.Batches.{footprint_of_all};
 ghost use Rattle.moc_parts.specs.Commands.{footprint, parts_around, parts_met};
 ghost use Rattle.moc_parts.specs.PartSets.{has};
@@ -32,9 +32,12 @@ impl Command {
 }
 
 impl Batch {
-    /// The parts that any of the commands looks at and changes; at least one. Takes no memory.
+    /// The parts that any of the commands looks at and changes. Takes no memory.
     pub fn footprint(&self, alloc: Global) -> PartSet
-        ensures { (b : ℕ) → b < 12 → has result b ≡ footprint_of_all self.now b }
+        ensures parts { (b : ℕ) → b < 12 → has result b ≡ footprint_of_all self.now b }
+
+        // It is never empty.
+        ensures some { (b : ℕ) × (b < 12) × (has result b ≡ true) }
     {
         footprint_of_all(self.commands(), alloc)
     }

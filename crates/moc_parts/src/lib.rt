@@ -18,7 +18,7 @@ mod surroundings;
 #[cfg(test)]
 mod tests;
 
-pub use batch::{Batch, BatchError};
+pub use batch::{Batch, BatchError, MOST_COMMANDS};
 pub use command::{Command, Operand};
 pub use laws::{batches_are_local, commands_are_local, degraded_operands_meet_the_same_parts};
 pub use map::Map;

@@ -9,11 +9,8 @@ use crate::bytes::first_or_len;
 use crate::command::read_command;
 use crate::fault::{Fault, ReadError};
 use crate::words::is_blank_text;
-use moc_parts::{Batch, Command};
+use moc_parts::{Batch, Command, MOST_COMMANDS};
 use std::alloc::Global;
-
-/// The most commands of a line.
-const MOST: usize = 16;
 
 /// How many semicolons stand in a line.
 fn semicolons_in(line: &[u8]) -> usize
@@ -60,12 +57,8 @@ fn read_pieces(alloc: Global, line: &[u8]) -> Result<Vec<Command>, ReadError>
 pub(crate) fn read_batch(alloc: Global, line: &[u8]) -> Result<Batch, ReadError>
     ensures { Reads (λ batch. batch) result (batch_of command_of line.now) }
 {
-    if semicolons_in(line) >= MOST {
+    if semicolons_in(line) >= MOST_COMMANDS {
         return Err(ReadError::Fault(Fault::TooManyCommands));
     }
-    match Batch::new(read_pieces(alloc, line)?) {
-        Ok(batch) => Ok(batch),
-        // A line has a piece, and too many pieces are refused above.
-        Err(_) => Err(ReadError::Fault(Fault::TooManyCommands)),
-    }
+    Ok(Batch::of(read_pieces(alloc, line)?))
 }

@@ -17,7 +17,7 @@ returns c =
     c.commands.ensures.proper (parts_within (found_sets c.args.found.now) (lying_parts (found_sets c.args.found.now) c.requires)) (λ i. found)
     (c.in_ok-replies.ensures.set ∙ (λ i. set_after_all (c.in_ok-draft.ensures i).set (c.commands.ensures.commands i)))
     (c.in_ok-replies.ensures.replies ∙ (λ i. replies_on (c.in_ok-draft.ensures i).set (c.commands.ensures.commands i)))
-    (λ b l. c.in_ok-lists.ensures b l ∙ ap (λ t. kept t c.answer_all.new.self.set b) (c.footprint.ensures b l))
+    (λ b l. c.in_ok-lists.ensures b l ∙ ap (λ t. kept t c.answer_all.new.self.set b) (c.footprint.ensures.parts b l))
 
 pub found-requires-clause-parts : goal.found-requires-clause-parts
 found-requires-clause-parts c = lying_parts (found_sets c.args.found.now) c.requires

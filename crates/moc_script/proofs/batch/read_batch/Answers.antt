@@ -4,15 +4,18 @@ use Rattle.moc_script.specs.Language.{command_of}
 use Rattle.moc_script.proofs.Batching.{batch-many, batch-few, batch-fits, Reads-few}
 use Rattle.moc_script.proofs.batch.read_batch.Goals as goal
 
-pub returns-then-semicolons_in-ge-MOST : goal.returns-then-semicolons_in-ge-MOST
-returns-then-semicolons_in-ge-MOST c = batch-many command_of c.args.line.now c.semicolons_in.result c.semicolons_in.ensures (omega arith)
+pub returns-then-semicolons_in-ge-MOST_COMMANDS : goal.returns-then-semicolons_in-ge-MOST_COMMANDS
+returns-then-semicolons_in-ge-MOST_COMMANDS c = batch-many command_of c.args.line.now c.semicolons_in.result c.semicolons_in.ensures (omega arith)
 
 pub returns-in_err-read_pieces : goal.returns-in_err-read_pieces
 returns-in_err-read_pieces c = Reads-few _ _ _ _ (batch-few command_of c.args.line.now c.semicolons_in.result c.semicolons_in.ensures (omega arith)) (search rules)
 
-pub returns-in-Ok : goal.returns-in-Ok
-returns-in-Ok c =
-    sym (batch-few command_of c.args.line.now c.semicolons_in.result c.semicolons_in.ensures (omega arith)) ∙ c.in_ok-read_pieces.ensures ∙ ap (λ l. Ok l) (sym c.in-Ok.ensures.made)
+pub of-requires-clause-some : goal.of-requires-clause-some
+of-requires-clause-some c = (batch-fits command_of c.args.line.now c.semicolons_in.result _ c.semicolons_in.ensures (omega arith) c.in_ok-read_pieces.ensures).0
 
-pub returns-in-Err : goal.returns-in-Err
-returns-in-Err c = absurd (batch-fits command_of c.args.line.now c.semicolons_in.result _ c.semicolons_in.ensures (omega arith) c.in_ok-read_pieces.ensures c.in-Err.ensures.refused)
+pub of-requires-clause-few : goal.of-requires-clause-few
+of-requires-clause-few c = (batch-fits command_of c.args.line.now c.semicolons_in.result _ c.semicolons_in.ensures (omega arith) c.in_ok-read_pieces.ensures).1
+
+pub returns : goal.returns
+returns c =
+    sym (batch-few command_of c.args.line.now c.semicolons_in.result c.semicolons_in.ensures (omega arith)) ∙ c.in_ok-read_pieces.ensures ∙ ap (λ l. Ok l) (sym c.of.ensures)

@@ -1,4 +1,4 @@
-use Rattle.std.proofs.Common.{◌≡◌, sym, ap, ◌∙◌}
+use Rattle.std.proofs.Common.{sym, ap, ◌∙◌}
 use Rattle.std.specs.FinSet as set
 use Rattle.moc_parts.proofs.Sums.{part-covered}
 use Rattle.moc_parts.proofs.draft.Draft.count_common_in.Goals as goal
