@@ -1,8 +1,8 @@
-//! Inverts a map of one base pixel, and says whether the map is as it should be: `inverted`, or `unchanged` where memory
-//! was refused. `tests/program.py` refuses each growth of it in turn.
+//! Inverts a map of one base pixel, and says how the map is left: `inverted`, `unchanged` where memory was refused, or else
+//! `spoiled`. `tests/program.py` refuses each growth of it in turn.
 #![tactic(auto)]
 
-use anyhow::{Result, bail};
+use anyhow::Result;
 use moc_parts::{Batch, Command, Map, Part};
 use moc_ranges::Coverage;
 
@@ -23,12 +23,13 @@ fn main(rt: HostRuntime) -> Result<()> {
     commands.push(Command::Invert)?;
     let batch = Batch::new(commands)?;
     let is_done = map.apply(alloc, &batch).is_ok();
-    if is_done && has_counts(&map, 0, BASE_PIXEL_SIZE) {
-        println!(rt; "inverted")?;
+    let outcome = if is_done && has_counts(&map, 0, BASE_PIXEL_SIZE) {
+        "inverted"
     } else if !is_done && has_counts(&map, BASE_PIXEL_SIZE, 0) {
-        println!(rt; "unchanged")?;
+        "unchanged"
     } else {
-        bail!("another map");
-    }
+        "spoiled"
+    };
+    println!(rt; "{outcome}")?;
     Ok(())
 }
