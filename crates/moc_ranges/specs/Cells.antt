@@ -1,5 +1,5 @@
 -- Cells of every order, and what they have to do with a set of pixels (MOC 2.0).
-use Rattle.std.specs.Prelude.{◌≡◌, ℕ, zero, suc, ◌-◌, ◌/◌, Bool, not, ◌&&◌, ◌||◌, List, [], ◌++◌, map, nat_eq, nat_lt}
+use Rattle.std.specs.Prelude.{◌≡◌, ℕ, zero, suc, ◌-◌, ◌/◌, Bool, not, ◌&&◌, ◌||◌, List, [], ◌∷◌, ◌++◌, map, nat_eq, nat_le, nat_lt}
 use Rattle.std.specs.FinSet as set
 use Rattle.std.specs.List.{filter, range_with_len}
 use Rattle.std.proofs.Common.{◌∙◌, ap, sym}
@@ -11,6 +11,15 @@ use Rattle.moc_ranges.specs.Operations.{meets, contains-pixels}
 -- the pixels of a cell
 unfoldable pub span : ℕ → ℕ → NumberSet
 span order index = set.retain pixels (λ p. nat_eq (p / cell_size order) index)
+
+-- the pixels of the cells of an order from the first to the last, both included
+unfoldable pub spans : ℕ → ℕ → ℕ → NumberSet
+spans order first last = set.retain pixels (λ p. nat_le first (p / cell_size order) && nat_le (p / cell_size order) last)
+
+-- the pixels of cells
+unfoldable pub pixels_of : List CellNumber → NumberSet
+pixels_of [] = set.empty
+pixels_of (c ∷ cells) = set.union (span c.order c.index) (pixels_of cells)
 
 -- the pixels whose cell of that order meets the set
 unfoldable pub degrade : NumberSet → ℕ → NumberSet
@@ -40,3 +49,9 @@ unfolding degrade
 contains-degrade a order q =
     set.contains-retain pixels (λ p. meets a (span order (p / cell_size order))) q (λ x tie. ap (λ p. meets a (span order (p / cell_size order))) (sym (set.nat_cmp-IsAntisymmetric q x tie)))
     ∙ ap (λ b. b && meets a (span order (q / cell_size order))) (contains-pixels q)
+
+pub contains-spans : (order first last q : ℕ) → set.contains (spans order first last) q ≡ (nat_lt q pixel_count && (nat_le first (q / cell_size order) && nat_le (q / cell_size order) last))
+unfolding spans
+contains-spans order first last q =
+    set.contains-retain pixels (λ p. nat_le first (p / cell_size order) && nat_le (p / cell_size order) last) q (λ x tie. ap (λ p. nat_le first (p / cell_size order) && nat_le (p / cell_size order) last) (sym (set.nat_cmp-IsAntisymmetric q x tie)))
+    ∙ ap (λ b. b && (nat_le first (q / cell_size order) && nat_le (q / cell_size order) last)) (contains-pixels q)
