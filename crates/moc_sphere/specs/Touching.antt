@@ -1,21 +1,26 @@
--- The corner points of cells, and when two cells touch: a point of the sphere is named by its row and its column in it.
+-- The corner points of cells, and when two cells touch. A point of the sphere is named by its row and its column in that row.
 use Rattle.std.specs.Prelude.{◌≢◌, ℕ, ◌+◌, ◌-◌, ◌*◌, ◌/◌, ◌%◌, ◌^◌, ◌<◌, min, List, [], ◌∷◌, Contains, Bool, not, nat_le, ◌==◌, ◌&&◌, if◌then◌else◌}
 use Rattle.std.specs.List.{filter, list_any, range_with_len}
 use Rattle.moc_sphere.specs.CellNumber.{cell_count}
 use Rattle.moc_sphere.specs.Faces.{face_of, x_of, y_of}
-use Rattle.moc_sphere.specs.Rings.{row_factor, column_factor}
+use Rattle.moc_sphere.specs.Rings.{row_factor, column_at}
 
 -- The row of the corner (X, Y) of base pixel f, from 0 at the north pole to 4n at the south pole.
 unfoldable pub corner_row : ℕ → ℕ → ℕ → ℕ → ℕ
 corner_row n f X Y = row_factor f * n - X - Y
 
--- The column of a corner in the belt: `Q(f)·n + X - Y` round a circle of 8n half steps.
+-- The column of a corner in the belt, counted as that of a cell is: in half steps, of which 8n go round.
 unfoldable pub belt_column : ℕ → ℕ → ℕ → ℕ → ℕ
-belt_column n f X Y = (column_factor f * n + 8 * n + X - Y) % (8 * n)
+belt_column n f X Y = column_at n f X Y
 
--- The column of a corner m rows from a pole: `q·m + (X - Y + m) div 2` round a circle of 4m steps.
+-- How many steps a corner m rows from a pole stands to the east of the western edge of its base pixel.
+abbrev pub steps_from_edge : ℕ → ℕ → ℕ → ℕ
+steps_from_edge m X Y = (X + m - Y) / 2
+
+-- The column of a corner m rows from a pole, in whole steps. The pole itself has the column 0; else 4m steps go round, m for
+-- each of the four base pixels that meet at the pole.
 unfoldable pub polar_column : ℕ → ℕ → ℕ → ℕ → ℕ
-polar_column m f X Y = if m == 0 then 0 else ((f % 4 * m + (X + m - Y) / 2) % (4 * m))
+polar_column m f X Y = if m == 0 then 0 else ((f % 4 * m + steps_from_edge m X Y) % (4 * m))
 
 -- The column of the corner (X, Y) of base pixel f: in the belt for the rows n to 3n, else round the near pole.
 unfoldable pub corner_column : ℕ → ℕ → ℕ → ℕ → ℕ

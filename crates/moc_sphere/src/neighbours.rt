@@ -1,7 +1,7 @@
-//! The cells that touch a cell.
+//! The cells that touch a cell: HEALPix's neighbours.
 ghost use Rattle.smallvec.specs.SmallVec.{small_vec_len};
 ghost use Rattle.moc_sphere.specs.Faces.{IsAt};
-ghost use Rattle.moc_sphere.specs.Touching.{Touches, touching_cells};
+ghost use Rattle.moc_sphere.specs.Touching.{Touches};
 ghost use Rattle.std.specs.List.Sorted.{IsStrictlyIncreasing};
 ghost use Rattle.std.specs.Prelude.{◌≡◌, ℕ, ◌+◌, ◌<◌, ◌≤◌, ◌^◌, ◌↔◌, Contains};
 
@@ -12,77 +12,63 @@ use crate::sides::{Place, beside};
 use smallvec::SmallVec;
 use std::alloc::Global;
 
-impl Cell {
-    /// The numbers of the cells that share a corner point with this one, rising: 8 of them, 7 at a vertex where three
-    /// base pixels meet, and 6 at order 0. A fixed number of steps; no memory is taken.
-    pub fn touching(self, alloc: Global) -> SmallVec<u64, 8>
-        ensures rising { IsStrictlyIncreasing result.items }
-        ensures touch { (j : ℕ) → Contains result.items j ↔ Touches self.order self.index j }
+/// The cells that touch a cell, which has its place off the border of the base pixel: all lie in that one.
+pub(crate) fn touching_in_face(
+    cell: Cell,
+    face: u8,
+    x: u32,
+    y: u32,
+    alloc: Global,
+) -> SmallVec<u64, 8>
+    requires face { face < 12 }
+    requires place { IsAt cell face x y }
+    requires x_above { 0 < x }
+    requires x_below { x + 1 < 2 ^ cell.order }
+    requires y_above { 0 < y }
+    requires y_below { y + 1 < 2 ^ cell.order }
+    ensures rising { IsStrictlyIncreasing result.items }
+    ensures touch { (j : ℕ) → Contains result.items j ↔ Touches cell.order cell.index j }
+    ensures few { small_vec_len result ≤ 8 }
+    ensures inline { result.capacity ≡ 8 }
+{
+    let first = u64::from(face) << (2 * cell.order().get());
+    let x = spread(x);
+    let y = spread(y);
+    let across = [first + spread_before(x), first + x, first + spread_after(x)];
+    let up = [2 * spread_before(y), 2 * y, 2 * spread_after(y)];
+    SmallVec::from_buf(alloc, sums_around(across, up))
+}
 
-        // As a list, the one that the definition names.
-        ensures whole { result.items ≡ touching_cells self.order self.index }
-
-        // Touching is symmetric.
-        ensures back { (j : ℕ) → Contains result.items j → Touches self.order j self.index }
-
-        ensures few { small_vec_len result ≤ 8 }
-        ensures inline { result.capacity ≡ 8 }
-    {
-        let (face, x, y) = self.face_xy();
-        let last = (self.order().side() - 1) as u32;
-        if 0 < x && x < last && 0 < y && y < last {
-            self.touching_in_face(face, x, y, alloc)
-        } else {
-            self.touching_across(face, x, y, alloc)
-        }
-    }
-
-    /// The cells that touch this one, which has its place off the border of the base pixel: all lie in that one.
-    fn touching_in_face(self, face: u8, x: u32, y: u32, alloc: Global) -> SmallVec<u64, 8>
-        requires face { face < 12 }
-        requires place { IsAt self face x y }
-        requires x_above { 0 < x }
-        requires x_below { x + 1 < 2 ^ self.order }
-        requires y_above { 0 < y }
-        requires y_below { y + 1 < 2 ^ self.order }
-        ensures rising { IsStrictlyIncreasing result.items }
-        ensures touch { (j : ℕ) → Contains result.items j ↔ Touches self.order self.index j }
-        ensures few { small_vec_len result ≤ 8 }
-        ensures inline { result.capacity ≡ 8 }
-    {
-        let first = u64::from(face) << (2 * self.order().get());
-        let x = spread(x);
-        let y = spread(y);
-        let across = [first + spread_before(x), first + x, first + spread_after(x)];
-        let up = [2 * spread_before(y), 2 * y, 2 * spread_after(y)];
-        SmallVec::from_buf(alloc, sums_around(across, up))
-    }
-
-    /// The cells that touch this one, which has this place, in whatever base pixels they lie.
-    fn touching_across(self, face: u8, x: u32, y: u32, alloc: Global) -> SmallVec<u64, 8>
-        requires face { face < 12 }
-        requires place { IsAt self face x y }
-        requires x { x < 2 ^ self.order }
-        requires y { y < 2 ^ self.order }
-        ensures rising { IsStrictlyIncreasing result.items }
-        ensures touch { (j : ℕ) → Contains result.items j ↔ Touches self.order self.index j }
-        ensures few { small_vec_len result ≤ 8 }
-        ensures inline { result.capacity ≡ 8 }
-    {
-        let order = self.order();
-        let from = Place::new(u32::from(face), x, y);
-        let side = order.side() as u32;
-        let mut cells = SmallVec::new(alloc);
-        for step in 0u32..9 {
-            if step != 4 {
-                if let Some(to) = beside(side, from, step / 3, step % 3) {
-                    insert_rising(
-                        &mut cells,
-                        Cell::at_place(order, to.face as u8, to.x, to.y).index(),
-                    );
-                }
+/// The cells that touch a cell, which has this place, in whatever base pixels they lie.
+pub(crate) fn touching_across(
+    cell: Cell,
+    face: u8,
+    x: u32,
+    y: u32,
+    alloc: Global,
+) -> SmallVec<u64, 8>
+    requires face { face < 12 }
+    requires place { IsAt cell face x y }
+    requires x { x < 2 ^ cell.order }
+    requires y { y < 2 ^ cell.order }
+    ensures rising { IsStrictlyIncreasing result.items }
+    ensures touch { (j : ℕ) → Contains result.items j ↔ Touches cell.order cell.index j }
+    ensures few { small_vec_len result ≤ 8 }
+    ensures inline { result.capacity ≡ 8 }
+{
+    let order = cell.order();
+    let from = Place::new(u32::from(face), x, y);
+    let side = order.side() as u32;
+    let mut cells = SmallVec::new(alloc);
+    for step in 0u32..9 {
+        if step != 4 {
+            if let Some(to) = beside(side, from, step / 3, step % 3) {
+                insert_rising(
+                    &mut cells,
+                    Cell::at_place(order, to.face as u8, to.x, to.y).index(),
+                );
             }
         }
-        cells
     }
+    cells
 }

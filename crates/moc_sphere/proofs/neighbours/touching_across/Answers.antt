@@ -4,26 +4,26 @@ use Rattle.moc_sphere.specs.Faces.{face_of, x_of, y_of}
 use Rattle.moc_sphere.specs.declared.sides.Place.{Place}
 use Rattle.moc_sphere.proofs.Search.{Found, found_none, found_skip, found_some, at_step, not_at_step, touch_from_found}
 use Rattle.moc_sphere.proofs.FaceBounds.{index_below, placed}
-use Rattle.moc_sphere.proofs.cell.Cell.touching_across.Goals as goal
-use Rattle.moc_sphere.proofs.cell.Cell.touching_across.Goals.{then-step-ne4+in-Some, then-step-ne4+in_default, else-step-ne4}
+use Rattle.moc_sphere.proofs.neighbours.touching_across.Goals as goal
+use Rattle.moc_sphere.proofs.neighbours.touching_across.Goals.{then-step-ne4+in-Some, then-step-ne4+in_default, else-step-ne4}
 
 -- the cell's number is one of its order
-in_range : (c : goal.After-loop-step) → c.args.self.index < cell_count c.args.self.order
-in_range c = index_below c.args.self.order c.args.self.index (subst (λ f. f < 12) (sym c.requires.place.face) c.requires.face)
+in_range : (c : goal.After-loop-step) → c.args.cell.index < cell_count c.args.cell.order
+in_range c = index_below c.args.cell.order c.args.cell.index (subst (λ f. f < 12) (sym c.requires.place.face) c.requires.face)
 
-all_found : (c : goal.After-loop-step) → Found c.args.self.order c.args.self.index 9 c.loop-step.cells.items
+all_found : (c : goal.After-loop-step) → Found c.args.cell.order c.args.cell.index 9 c.loop-step.cells.items
 all_found c =
     let nine : c.loop-step.step ≡ 9 = omega arith in
-    subst (λ t. Found c.args.self.order c.args.self.index t c.loop-step.cells.items) nine c.loop-step.invariant.found
+    subst (λ t. Found c.args.cell.order c.args.cell.index t c.loop-step.cells.items) nine c.loop-step.invariant.found
 
 pub returns-clause-touch : goal.returns-clause-touch
 returns-clause-touch c =
-    touch_from_found c.args.self.order c.args.self.index c.loop-step.cells.items (in_range c) (all_found c)
+    touch_from_found c.args.cell.order c.args.cell.index c.loop-step.cells.items (in_range c) (all_found c)
 
 pub loop-step-preserved : goal.loop-step-preserved
 loop-step-preserved c =
-    let k = c.args.self.order in
-    let i = c.args.self.index in
+    let k = c.args.cell.order in
+    let i = c.args.cell.index in
     let d = c.loop-step.step in
     let p = c.new-from.result in
     let face : p.face ≡ face_of k i = ap (λ (q : Place). q.face) c.new-from.ensures ∙ c.from.ensures ∙ sym c.requires.place.face in
