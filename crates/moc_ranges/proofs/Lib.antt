@@ -13,3 +13,5 @@ pub mod CellOrders
 pub mod Cutting
 pub mod Reaching
 pub mod Leading
+pub mod Gathering
+pub mod Laws
