@@ -14,4 +14,3 @@ pub mod Cutting
 pub mod Reaching
 pub mod Leading
 pub mod Gathering
-pub mod Laws

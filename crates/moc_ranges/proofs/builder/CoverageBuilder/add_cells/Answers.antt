@@ -1,10 +1,10 @@
-use Rattle.std.proofs.Common.{◌*◌, ◌+◌, ◌∙◌, ap, arith, sym}
+use Rattle.std.proofs.Common.{◌*◌, ◌+◌, ◌∙◌, ap, arith}
 use Rattle.std.specs.FinSet as set
 use Rattle.std.proofs.lemmas.Nat.{mul-le}
 use Rattle.moc_sphere.specs.CellNumber.{cell_count, cell_size}
-use Rattle.moc_ranges.specs.RangeList.{set_of}
 use Rattle.moc_ranges.specs.Cells.{spans}
-use Rattle.moc_ranges.proofs.Gathering.{no_row, set_of-push, row_of_cells, faultless-push}
+use Rattle.moc_ranges.specs.Laws.{row_of_cells}
+use Rattle.moc_ranges.proofs.Gathering.{no_row, set_of-push, faultless-push}
 use Rattle.moc_ranges.proofs.builder.CoverageBuilder.add_cells.Goals as goal
 
 pub returns-then-first-last-clause-added : goal.returns-then-first-last-clause-added
