@@ -13,3 +13,4 @@ pub mod CellOrders
 pub mod Cutting
 pub mod Reaching
 pub mod Leading
+pub mod Gathering
