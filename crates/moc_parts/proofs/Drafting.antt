@@ -13,52 +13,52 @@ use Rattle.moc_ranges.specs.Operations.{part_of, contains-part_of, contains-pixe
 use Rattle.moc_parts.specs.declared.change.Change.{Change}
 use Rattle.moc_parts.specs.Changes.{changed, changed_part, IsChange}
 use Rattle.moc_parts.specs.Parts.{union_of, parts_below, AreParts}
-use Rattle.moc_parts.specs.Drafts.{newest, nows, with_part}
+use Rattle.moc_parts.specs.Drafts.{current_lists, sets_of, with_part}
 use Rattle.moc_parts.proofs.Members.{has-union, has-difference, and_true, or_true}
 use Rattle.moc_parts.proofs.PartLaw.{part_law}
 use Rattle.moc_parts.proofs.Twelve.{first_parts, has-first_parts, length-parts_below, get-parts_below, parts_length, get-parts, within_base, below_base}
 
 -- ---- lists
 
-pub length-newest : (found : List NumberSet) (made : List (Option NumberSet)) → length (newest found made) ≡ length found
-length-newest [] made = refl
-length-newest (part ∷ found) [] = ap suc (length-newest found [])
-length-newest (part ∷ found) (new ∷ made) = ap suc (length-newest found made)
+pub length-current_lists : (found : List NumberSet) (made : List (Option NumberSet)) → length (current_lists found made) ≡ length found
+length-current_lists [] made = refl
+length-current_lists (part ∷ found) [] = ap suc (length-current_lists found [])
+length-current_lists (part ∷ found) (new ∷ made) = ap suc (length-current_lists found made)
 
-pub newest-no : (found : List NumberSet) → newest found [] ≡ found
-newest-no [] = refl
-newest-no (part ∷ found) = ap (λ parts. part ∷ parts) (newest-no found)
+pub current_lists-no : (found : List NumberSet) → current_lists found [] ≡ found
+current_lists-no [] = refl
+current_lists-no (part ∷ found) = ap (λ parts. part ∷ parts) (current_lists-no found)
 
 -- where nothing was made, the lists are those found
-pub newest-none : (found : List NumberSet) (n : ℕ) → newest found (replicate n None) ≡ found
-newest-none [] n = refl
-newest-none (part ∷ found) zero = newest-no (part ∷ found)
-newest-none (part ∷ found) (suc n) = ap (λ parts. part ∷ parts) (newest-none found n)
+pub current_lists-none : (found : List NumberSet) (n : ℕ) → current_lists found (replicate n None) ≡ found
+current_lists-none [] n = refl
+current_lists-none (part ∷ found) zero = current_lists-no (part ∷ found)
+current_lists-none (part ∷ found) (suc n) = ap (λ parts. part ∷ parts) (current_lists-none found n)
 
-pub get-newest : (found : List NumberSet) (made : List (Option NumberSet)) (b : ℕ) (d : NumberSet) (e : Option NumberSet) → b < length found → b < length made → get_or (newest found made) b d ≡ unwrap_or (get_or made b e) (get_or found b d)
-get-newest [] made b d e l m = absurd (omega arith)
-get-newest (part ∷ found) [] b d e l m = absurd (omega arith)
-get-newest (part ∷ found) (new ∷ made) zero d e l m = refl
-get-newest (part ∷ found) (new ∷ made) (suc b) d e l m = get-newest found made b d e (omega arith) (omega arith)
+pub get-current_lists : (found : List NumberSet) (made : List (Option NumberSet)) (b : ℕ) (d : NumberSet) (e : Option NumberSet) → b < length found → b < length made → get_or (current_lists found made) b d ≡ unwrap_or (get_or made b e) (get_or found b d)
+get-current_lists [] made b d e l m = absurd (omega arith)
+get-current_lists (part ∷ found) [] b d e l m = absurd (omega arith)
+get-current_lists (part ∷ found) (new ∷ made) zero d e l m = refl
+get-current_lists (part ∷ found) (new ∷ made) (suc b) d e l m = get-current_lists found made b d e (omega arith) (omega arith)
 
-pub set-newest : (found : List NumberSet) (made : List (Option NumberSet)) (b : ℕ) (part : NumberSet) → b < length found → b < length made → newest found (set_at made b (Some part)) ≡ set_at (newest found made) b part
-set-newest [] made b part l m = absurd (omega arith)
-set-newest (one ∷ found) [] b part l m = absurd (omega arith)
-set-newest (one ∷ found) (new ∷ made) zero part l m = refl
-set-newest (one ∷ found) (new ∷ made) (suc b) part l m = ap (λ parts. unwrap_or new one ∷ parts) (set-newest found made b part (omega arith) (omega arith))
+pub set-current_lists : (found : List NumberSet) (made : List (Option NumberSet)) (b : ℕ) (part : NumberSet) → b < length found → b < length made → current_lists found (set_at made b (Some part)) ≡ set_at (current_lists found made) b part
+set-current_lists [] made b part l m = absurd (omega arith)
+set-current_lists (one ∷ found) [] b part l m = absurd (omega arith)
+set-current_lists (one ∷ found) (new ∷ made) zero part l m = refl
+set-current_lists (one ∷ found) (new ∷ made) (suc b) part l m = ap (λ parts. unwrap_or new one ∷ parts) (set-current_lists found made b part (omega arith) (omega arith))
 
 -- the next list is put into its place, or passed over
-pub newest-put : (found : List NumberSet) (made : List (Option NumberSet)) (b : ℕ) (part : NumberSet) → b < length found → b < length made → get_or made b None ≡ Some part → newest found (take (suc b) made) ≡ set_at (newest found (take b made)) b part
-newest-put [] made b part l m e = absurd (omega arith)
-newest-put (one ∷ found) [] b part l m e = absurd (omega arith)
-newest-put (one ∷ found) (new ∷ made) zero part l m e = ap (λ o. unwrap_or o one ∷ newest found []) e
-newest-put (one ∷ found) (new ∷ made) (suc b) part l m e = ap (λ parts. unwrap_or new one ∷ parts) (newest-put found made b part (omega arith) (omega arith) e)
+pub current_lists-put : (found : List NumberSet) (made : List (Option NumberSet)) (b : ℕ) (part : NumberSet) → b < length found → b < length made → get_or made b None ≡ Some part → current_lists found (take (suc b) made) ≡ set_at (current_lists found (take b made)) b part
+current_lists-put [] made b part l m e = absurd (omega arith)
+current_lists-put (one ∷ found) [] b part l m e = absurd (omega arith)
+current_lists-put (one ∷ found) (new ∷ made) zero part l m e = ap (λ o. unwrap_or o one ∷ current_lists found []) e
+current_lists-put (one ∷ found) (new ∷ made) (suc b) part l m e = ap (λ parts. unwrap_or new one ∷ parts) (current_lists-put found made b part (omega arith) (omega arith) e)
 
-pub newest-pass : (found : List NumberSet) (made : List (Option NumberSet)) (b : ℕ) → b < length found → b < length made → get_or made b None ≡ None → newest found (take (suc b) made) ≡ newest found (take b made)
-newest-pass [] made b l m e = absurd (omega arith)
-newest-pass (one ∷ found) [] b l m e = absurd (omega arith)
-newest-pass (one ∷ found) (new ∷ made) zero l m e = ap (λ o. unwrap_or o one ∷ newest found []) e
-newest-pass (one ∷ found) (new ∷ made) (suc b) l m e = ap (λ parts. unwrap_or new one ∷ parts) (newest-pass found made b (omega arith) (omega arith) e)
+pub current_lists-pass : (found : List NumberSet) (made : List (Option NumberSet)) (b : ℕ) → b < length found → b < length made → get_or made b None ≡ None → current_lists found (take (suc b) made) ≡ current_lists found (take b made)
+current_lists-pass [] made b l m e = absurd (omega arith)
+current_lists-pass (one ∷ found) [] b l m e = absurd (omega arith)
+current_lists-pass (one ∷ found) (new ∷ made) zero l m e = ap (λ o. unwrap_or o one ∷ current_lists found []) e
+current_lists-pass (one ∷ found) (new ∷ made) (suc b) l m e = ap (λ parts. unwrap_or new one ∷ parts) (current_lists-pass found made b (omega arith) (omega arith) e)
 
 -- one element more, each of which is what it should be
 pub one_more : {X : Type 0} (xs : List X) (x d : X) (n : ℕ) (is : ℕ → X) → length xs ≡ n → ((k : ℕ) → k < n → get_or xs k d ≡ is k) → x ≡ is n → (k : ℕ) → k < n + 1 → get_or (xs ++ (x ∷ [])) k d ≡ is k
@@ -124,31 +124,31 @@ set-parts a b part l lies =
 
 -- ---- a draft
 
-pub found_twelve : (found : List NumberSet) (made : List (Option NumberSet)) → AreParts (newest found made) → length found ≡ 12
-found_twelve found made e = sym (length-newest found made) ∙ parts_length (newest found made) e
+pub found_twelve : (found : List NumberSet) (made : List (Option NumberSet)) → AreParts (current_lists found made) → length found ≡ 12
+found_twelve found made e = sym (length-current_lists found made) ∙ parts_length (current_lists found made) e
 
 -- the list of one part
-pub newest_part : (found : List NumberSet) (made : List (Option NumberSet)) (b : ℕ) (d : NumberSet) (e : Option NumberSet) → AreParts (newest found made) → length made ≡ 12 → b < 12 → unwrap_or (get_or made b e) (get_or found b d) ≡ part_of (union_of (newest found made)) b
-newest_part found made b d e are twelve l =
-    sym (get-newest found made b d e (subst (λ n. b < n) (sym (found_twelve found made are)) l) (subst (λ n. b < n) (sym twelve) l)) ∙ get-parts (newest found made) b d are l
+pub current_part : (found : List NumberSet) (made : List (Option NumberSet)) (b : ℕ) (d : NumberSet) (e : Option NumberSet) → AreParts (current_lists found made) → length made ≡ 12 → b < 12 → unwrap_or (get_or made b e) (get_or found b d) ≡ part_of (union_of (current_lists found made)) b
+current_part found made b d e are twelve l =
+    sym (get-current_lists found made b d e (subst (λ n. b < n) (sym (found_twelve found made are)) l) (subst (λ n. b < n) (sym twelve) l)) ∙ get-parts (current_lists found made) b d are l
 
 -- the list that is owned where one was made or found
 pub owned_part : (found : List (Bor NumberSet)) (start made : List (Option NumberSet)) (b part : ℕ) (old : Option NumberSet) (list : Bor NumberSet)
-    → AreParts (newest (nows found) start) → length start ≡ 12 → length made ≡ 12 → b < 12 → part ≡ b → get_or made b None ≡ get_or start b None
-    → old ≡ get_or made part old → list ≡ get_or found part list → unwrap_or old list.now ≡ part_of (union_of (newest (nows found) start)) b
+    → AreParts (current_lists (sets_of found) start) → length start ≡ 12 → length made ≡ 12 → b < 12 → part ≡ b → get_or made b None ≡ get_or start b None
+    → old ≡ get_or made part old → list ≡ get_or found part list → unwrap_or old list.now ≡ part_of (union_of (current_lists (sets_of found) start)) b
 owned_part found start made b part old list are twelve whole l at same old_is list_is =
-    let many : length found ≡ 12 = sym (length-map found (λ x. x.now)) ∙ found_twelve (nows found) start are in
+    let many : length found ≡ 12 = sym (length-map found (λ x. x.now)) ∙ found_twelve (sets_of found) start are in
     let e : old ≡ get_or start b None = old_is ∙ ap (λ n. get_or made n old) at ∙ get_or_default made b old None (subst (λ n. b < n) (sym whole) l) ∙ same in
-    let f : list.now ≡ get_or (nows found) b list.now =
+    let f : list.now ≡ get_or (sets_of found) b list.now =
     ap (λ x. x.now) (list_is ∙ ap (λ n. get_or found n list) at) ∙ sym (get_or-map (λ x. x.now) found b list list.now (subst (λ n. b < n) (sym many) l)) in
-    (λ i. unwrap_or (e i) (f i)) ∙ newest_part (nows found) start b list.now None are twelve l
+    (λ i. unwrap_or (e i) (f i)) ∙ current_part (sets_of found) start b list.now None are twelve l
 
 -- one list made anew
-pub newest_set : (found : List NumberSet) (made : List (Option NumberSet)) (b : ℕ) (part : NumberSet) → AreParts (newest found made) → length made ≡ 12 → b < 12 → part_of part b ≡ part
-    → newest found (set_at made b (Some part)) ≡ parts_below (with_part (union_of (newest found made)) b part) 12
+pub newest_set : (found : List NumberSet) (made : List (Option NumberSet)) (b : ℕ) (part : NumberSet) → AreParts (current_lists found made) → length made ≡ 12 → b < 12 → part_of part b ≡ part
+    → current_lists found (set_at made b (Some part)) ≡ parts_below (with_part (union_of (current_lists found made)) b part) 12
 newest_set found made b part e twelve l lies =
-    set-newest found made b part (subst (λ n. b < n) (sym (found_twelve found made e)) l) (subst (λ n. b < n) (sym twelve) l)
-    ∙ ap (λ parts. set_at parts b part) e ∙ set-parts (union_of (newest found made)) b part l lies
+    set-current_lists found made b part (subst (λ n. b < n) (sym (found_twelve found made e)) l) (subst (λ n. b < n) (sym twelve) l)
+    ∙ ap (λ parts. set_at parts b part) e ∙ set-parts (union_of (current_lists found made)) b part l lies
 
 lying_within : (b q : ℕ) → b < 12 → nat_eq (q / base_pixel_size) b ≡ true → q / base_pixel_size < 12
 lying_within b q l e = grind (arith, nat_tests)

@@ -169,3 +169,22 @@ part-covered a s b w sub = same_members _ _ (λ q. has-intersection (part_of a b
     (λ h.
     let k = of_part a b q h in
     both h (set.is_subset-contains nat_cmp_total (part_of pixels b) s sub q (in_part pixels b q (w.each q k.0) k.1))))
+
+-- nothing is shared in a part of which the other set has no pixel
+pub part-missed : (a s : NumberSet) (b : ℕ) → nat_lt 0 (set.len (part_of s b)) ≡ false → 0 ≡ set.len (set.intersection (part_of a b) s)
+part-missed a s b missed =
+    let nothing : part_of s b ≡ set.empty = set.empty_of_len (part_of s b) (none (set.len (part_of s b)) missed) in
+    sym (ap set.len (same_members (set.intersection (part_of a b) s) set.empty (λ q. has-intersection (part_of a b) s q ∙ shifted (set.contains a q) (set.contains s q) (nat_eq (q / base_pixel_size) b) (contains-part_of a b q)
+    ∙ sym (ap (λ t. set.contains a q && t) (contains-part_of s b q)) ∙ ap (λ c. set.contains a q && set.contains c q) nothing ∙ ap (λ t. set.contains a q && t) (has-empty q) ∙ never (set.contains a q) ∙ sym (has-empty q))) ∙ set.len-empty nat_cmp)
+  where
+    none : (n : ℕ) → nat_lt 0 n ≡ false → n ≡ 0
+    none n h = grind (arith, nat_tests)
+    never : (x : Bool) → (x && false) ≡ false
+    never true = refl
+    never false = refl
+    shifted : (x y e : Bool) {t : Bool} → t ≡ (x && e) → (t && y) ≡ (x && (y && e))
+    shifted true true true h = ap (λ t. t && true) h
+    shifted true true false h = ap (λ t. t && true) h
+    shifted true false true h = ap (λ t. t && false) h
+    shifted true false false h = ap (λ t. t && false) h
+    shifted false y e h = ap (λ t. t && y) h

@@ -7,10 +7,8 @@ use Rattle.moc_sphere.specs.Faces.{face_of}
 use Rattle.moc_sphere.specs.Touching.{touching_cells}
 use Rattle.moc_ranges.specs.Numbers.{NumberSet}
 use Rattle.moc_ranges.specs.Pixels.{pixel_count, pixels}
-use Rattle.moc_ranges.specs.RangeList.{set_of}
-use Rattle.moc_ranges.specs.CellLaws.{cell_range}
 use Rattle.moc_ranges.specs.Operations.{complement, part_of, meets, IsWithin}
-use Rattle.moc_ranges.specs.Cells.{degrade}
+use Rattle.moc_ranges.specs.Cells.{degrade, pixels_of}
 use Rattle.moc_parts.specs.Objects.{Object}
 use Rattle.moc_parts.specs.declared.command.Operand.{Operand}
 use Rattle.moc_parts.specs.declared.command.Command.{Command}
@@ -33,7 +31,7 @@ cells_around c = c.index ∷ touching_cells c.order c.index
 
 -- the pixels of a cell and of the cells that touch it
 unfoldable pub surroundings : CellNumber → NumberSet
-surroundings c = set_of (map (λ index. cell_range (cell_number c.order index)) (cells_around c))
+surroundings c = pixels_of (map (cell_number c.order) (cells_around c))
 
 -- the parts that a set meets, and part 0 where it is empty
 abbrev pub parts_met : NumberSet → ℕ → Bool

@@ -8,14 +8,14 @@ use Rattle.moc_ranges.specs.Numbers.{NumberSet}
 use Rattle.moc_ranges.specs.Pixels.{base_pixel_size}
 
 -- the sets of the lists that were found
-abbrev pub nows : List (Bor NumberSet) → List NumberSet
-nows lists = map (λ list. list.now) lists
+abbrev pub sets_of : List (Bor NumberSet) → List NumberSet
+sets_of lists = map (λ list. list.now) lists
 
 -- of each part the set that was made, or else the one that was found
-abbrev pub newest : List NumberSet → List (Option NumberSet) → List NumberSet
-newest [] made = []
-newest (part ∷ found) [] = part ∷ newest found []
-newest (part ∷ found) (new ∷ made) = unwrap_or new part ∷ newest found made
+abbrev pub current_lists : List NumberSet → List (Option NumberSet) → List NumberSet
+current_lists [] made = []
+current_lists (part ∷ found) [] = part ∷ current_lists found []
+current_lists (part ∷ found) (new ∷ made) = unwrap_or new part ∷ current_lists found made
 
 -- the parts that were found, and the set now
 pub record Drafted : Type 0 where

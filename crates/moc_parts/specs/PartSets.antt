@@ -1,6 +1,46 @@
--- The sets of parts that the program handles.
-use Rattle.std.specs.Prelude.{ℕ, Bool, false, List, get_or}
+-- Sets of parts, as the program stores them: twelve flags. Only the contracts of private functions cite this file.
+use Rattle.std.specs.Prelude.{◌≡◌, ℕ, ◌<◌, Bool, false, ◌&&◌, List, length, get_or, map, nat_le, nat_lt}
+use Rattle.std.specs.List.{range_with_len}
+use Rattle.std.specs.Ordering.{nat_cmp}
+use Rattle.std.specs.FinSet as set
+use Rattle.std.proofs.Common.{sym, ap, subst, arith, ◌∙◌}
+use Rattle.std.proofs.lemmas.Bool.{lt-ltb}
+use Rattle.std.proofs.lemmas.Bool.Decides.{nat_tests}
+use Rattle.std.proofs.lemmas.List.{ext_get_or}
+use Rattle.std.proofs.lemmas.List.FromFn.{get_or-map-range_with_len, length-map-range_with_len}
+use Rattle.moc_ranges.specs.Numbers.{numbers, contains-numbers}
 
--- whether a set of parts, as the list of what it says of parts 0 to 11, has a part
-abbrev pub has : List Bool → ℕ → Bool
-has parts b = get_or parts b false
+-- the parts whose flags are set
+unfoldable pub flagged : List Bool → set.FinSet nat_cmp
+flagged flags = set.retain (numbers 0 12) (λ b. get_or flags b false)
+
+-- the flags of the twelve parts
+unfoldable pub flags_of : set.FinSet nat_cmp → List Bool
+flags_of parts = map (λ b. set.contains parts b) (range_with_len 0 12)
+
+from_none : (b : ℕ) → (nat_le 0 b && nat_lt b 12) ≡ nat_lt b 12
+from_none b = grind (arith, nat_tests)
+
+-- a number is among the flagged parts where it is below twelve and its flag is set
+pub contains-flagged : (flags : List Bool) (b : ℕ) → set.contains (flagged flags) b ≡ (nat_lt b 12 && get_or flags b false)
+unfolding flagged
+contains-flagged flags b =
+    set.contains-retain (numbers 0 12) (λ k. get_or flags k false) b (λ x tie. ap (λ k. get_or flags k false) (sym (set.nat_cmp-IsAntisymmetric b x tie)))
+    ∙ ap (λ t. t && get_or flags b false) (contains-numbers 0 12 b ∙ from_none b)
+
+pub contains-flagged_below : (flags : List Bool) (b : ℕ) → b < 12 → set.contains (flagged flags) b ≡ get_or flags b false
+contains-flagged_below flags b l = contains-flagged flags b ∙ ap (λ t. t && get_or flags b false) (lt-ltb b 12 l)
+
+length-flags_of : (parts : set.FinSet nat_cmp) → length (flags_of parts) ≡ 12
+unfolding flags_of
+length-flags_of parts = length-map-range_with_len (λ b. set.contains parts b) 0 12
+
+get-flags_of : (parts : set.FinSet nat_cmp) (b : ℕ) → b < 12 → get_or (flags_of parts) b false ≡ set.contains parts b
+unfolding flags_of
+get-flags_of parts b l = get_or-map-range_with_len (λ k. set.contains parts k) 0 12 b b false l (omega arith)
+
+-- the flags of the flagged parts are the flags
+pub flags_of-flagged : (flags : List Bool) → length flags ≡ 12 → flags_of (flagged flags) ≡ flags
+flags_of-flagged flags twelve = ext_get_or false _ flags (length-flags_of (flagged flags) ∙ sym twelve) (λ b l.
+    let below : b < 12 = subst (λ n. b < n) (length-flags_of (flagged flags)) l in
+    get-flags_of (flagged flags) b below ∙ contains-flagged_below flags b below)

@@ -1,11 +1,12 @@
 //! Commands that are done in order, as one operation.
-ghost use Rattle.std.specs.Prelude.{◌≡◌, ◌<◌, ◌≤◌, length, nat_eq, IfOk, IfErr, OnOk, OnErr, if◌then◌else◌};
+ghost use Rattle.std.specs.Prelude.{◌≡◌, ◌<◌, ◌≤◌, ℕ, true, length, nat_eq, IfOk, IfErr, OnOk, OnErr, if◌then◌else◌};
+ghost use Rattle.std.specs.FinSet as set;
 ghost use Rattle.std.specs.List.{list_any};
-ghost use Rattle.moc_parts.specs.Batches.{AreCommands};
+ghost use Rattle.moc_parts.specs.Batches.{footprint_of_all, AreCommands};
 ghost use Rattle.moc_parts.specs.Commands.{is_update};
 
 use crate::command::Command;
-use crate::push::push;
+use crate::part::PartSet;
 use moc_ranges::Memory;
 use std::alloc::Global;
 use std::marker::Model;
@@ -92,13 +93,23 @@ impl Batch {
         self.commands.iter().any(|command| command.is_update())
     }
 
+    /// The parts that any of the commands looks at and changes. Takes no memory.
+    pub fn footprint(&self, alloc: Global) -> PartSet
+        ensures parts { (b : ℕ) → b < 12 → set.contains result b ≡ footprint_of_all self.now b }
+
+        // It is never empty.
+        ensures some { (b : ℕ) × (b < 12) × (set.contains result b ≡ true) }
+    {
+        footprint_of_all(self.commands(), alloc)
+    }
+
     /// A copy. Linear in the ranges of the operands; refused where memory runs out.
     pub fn try_copy(&self, alloc: Global) -> Result<Batch, Memory>
         ensures { IfOk result (λ x. x ≡ self.now) }
     {
         let mut commands = Vec::new(alloc);
         for command in &self.commands {
-            push(&mut commands, command.try_copy(alloc)?)?;
+            commands.push(command.try_copy(alloc)?)?;
         }
         Ok(Batch { commands })
     }
@@ -111,5 +122,15 @@ fn lie_in_sky(commands: &[Command])
     if let Some((first, rest)) = commands.split_first() {
         first.lies_in_sky();
         lie_in_sky(rest);
+    }
+}
+
+/// The parts of any of the commands.
+fn footprint_of_all(commands: &[Command], alloc: Global) -> PartSet
+    ensures { (b : ℕ) → b < 12 → set.contains result b ≡ footprint_of_all commands.now b }
+{
+    match commands.split_first() {
+        Some((first, rest)) => first.footprint(alloc).union(footprint_of_all(rest, alloc)),
+        None => PartSet::none(),
     }
 }

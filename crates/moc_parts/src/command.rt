@@ -1,7 +1,12 @@
 //! What is asked of a map.
-ghost use Rattle.std.specs.Prelude.{◌≡◌, IfOk};
-ghost use Rattle.moc_parts.specs.Commands.{is_update, IsCommand, IsOperand};
+ghost use Rattle.std.specs.Prelude.{◌≡◌, ◌<◌, ℕ, IfOk, None};
+ghost use Rattle.std.specs.FinSet as set;
+ghost use Rattle.moc_parts.specs.Commands.{footprint, is_update, operand_set, IsCommand, IsOperand};
+ghost use Rattle.moc_parts.specs.Resolved.{resolved_set};
 
+use crate::footprint::{parts_around, parts_met};
+use crate::part::PartSet;
+use crate::resolved::Resolved;
 use moc_ranges::{Coverage, Memory};
 use moc_sphere::{Cell, Order};
 use std::alloc::Global;
@@ -47,6 +52,16 @@ impl Operand {
         }
     }
 
+    /// The set that the operand stands for: its own, or the degraded one where an order is given.
+    pub(crate) fn resolved(&self, alloc: Global) -> Result<Resolved<'_>, Memory>
+        ensures { IfOk result (λ r. resolved_set r ≡ operand_set self.now) }
+    {
+        match self.coarse {
+            Some(order) => Ok(Resolved::Degraded(self.set.degrade(alloc, order)?)),
+            None => Ok(Resolved::Own(&self.set)),
+        }
+    }
+
     /// A copy. O(n) for n ranges; refused where memory runs out.
     pub fn try_copy(&self, alloc: Global) -> Result<Operand, Memory>
         ensures { IfOk result (λ x. x ≡ self.now) }
@@ -55,6 +70,15 @@ impl Operand {
             set: self.set.try_copy(alloc)?,
             coarse: self.coarse,
         })
+    }
+}
+
+/// The set, not degraded.
+impl From<Coverage> for Operand {
+    ghost from_gives = { λ set x. x ≡ record { set = set; coarse = None } };
+
+    fn from(set: Coverage) -> Operand {
+        Operand { set, coarse: None }
     }
 }
 
@@ -67,6 +91,23 @@ impl Command {
             self,
             Command::Count(_) | Command::Read(_) | Command::Near(_)
         )
+    }
+
+    /// The parts that the command looks at and changes, by its operand's own set or its cell; at least one.
+    ///
+    /// O(log n) for n ranges of the operand, takes no memory.
+    pub fn footprint(&self, alloc: Global) -> PartSet
+        ensures { (b : ℕ) → b < 12 → set.contains result b ≡ footprint self.now b }
+    {
+        match self {
+            Command::Add(x)
+            | Command::Remove(x)
+            | Command::Claim(x)
+            | Command::Count(x)
+            | Command::Read(x) => parts_met(&x.set),
+            Command::Keep(_) | Command::Invert | Command::Degrade(_) => PartSet::all(),
+            Command::Near(cell) => parts_around(*cell, alloc),
+        }
     }
 
     /// The operand lies in the sky, and an order or a cell is one. Does nothing.

@@ -4,14 +4,14 @@ ghost use Rattle.std.specs.FinSet as set;
 ghost use Rattle.moc_ranges.specs.Operations.{meets, part_of, IsWithin};
 ghost use Rattle.moc_ranges.specs.Pixels.{pixels};
 ghost use Rattle.moc_parts.specs.Changes.{changed, IsChange};
-ghost use Rattle.moc_parts.specs.Drafts.{newest, nows, with_part};
+ghost use Rattle.moc_parts.specs.Drafts.{current_lists, sets_of, with_part};
 ghost use Rattle.moc_parts.specs.Parts.{union_of, parts_below, AreParts};
-ghost use Rattle.moc_parts.specs.PartSets.{has};
 ghost use Rattle.moc_parts.specs.Prepared.{found_sets, kept};
+
+mod commands;
 
 use crate::change::Change;
 use crate::part::{Part, PartSet};
-use crate::push::push;
 use moc_ranges::{Coverage, Memory};
 use std::alloc::Global;
 use std::marker::Model;
@@ -25,16 +25,16 @@ pub(crate) struct Draft<'a> {
 
 impl<'a> Model for Draft<'a> {
     ghost use Rattle.std.specs.Prelude.{◌≡◌, length};
-    ghost use Rattle.moc_parts.specs.Drafts.{Drafted, drafted_code, newest, nows};
+    ghost use Rattle.moc_parts.specs.Drafts.{Drafted, drafted_code, current_lists, sets_of};
     ghost use Rattle.moc_parts.specs.Parts.{union_of, AreParts};
 
     ghost Value = { Drafted };
 
     ghost coded = { drafted_code };
 
-    ghost view = { λ d. record { found = nows d.found.items; set = union_of (newest (nows d.found.items) d.made.items) } };
+    ghost view = { λ d. record { found = sets_of d.found.items; set = union_of (current_lists (sets_of d.found.items) d.made.items) } };
 
-    ghost invariant = { λ d. AreParts (newest (nows d.found.items) d.made.items) × (length d.made.items ≡ 12) };
+    ghost invariant = { λ d. AreParts (current_lists (sets_of d.found.items) d.made.items) × (length d.made.items ≡ 12) };
 }
 
 impl<'a> Draft<'a> {
@@ -43,15 +43,15 @@ impl<'a> Draft<'a> {
         requires { AreParts lists.now }
         ensures { IfOk result (λ d. d ≡ record { found = lists.now; set = union_of lists.now }) }
     {
-        let mut found = Vec::new(alloc);
+        let mut found = Vec::with_capacity(alloc, 12)?;
         for list in lists {
-            push(&mut found, list)?;
+            found.push(list)?;
         }
-        Draft::of(alloc, found)
+        Draft::unchanged(alloc, found)
     }
 
     /// A draft of the set in the lists that were found, with nothing in the parts that were not looked at.
-    pub(crate) fn found(
+    pub(crate) fn from_found(
         alloc: Global,
         lists: &'a [Option<&'a Coverage>; 12],
         nothing: &'a Coverage,
@@ -60,21 +60,21 @@ impl<'a> Draft<'a> {
         requires nothing { nothing.now ≡ set.empty }
         ensures { IfOk result (λ d. d ≡ record { found = found_sets lists.now; set = union_of (found_sets lists.now) }) }
     {
-        let mut found = Vec::new(alloc);
+        let mut found = Vec::with_capacity(alloc, 12)?;
         for list in lists {
-            push(&mut found, list.unwrap_or(nothing))?;
+            found.push(list.unwrap_or(nothing))?;
         }
-        Draft::of(alloc, found)
+        Draft::unchanged(alloc, found)
     }
 
     /// A draft on which nothing is done yet.
-    fn of(alloc: Global, found: Vec<&'a Coverage>) -> Result<Draft<'a>, Memory>
-        requires { AreParts (nows found.items) }
-        ensures { IfOk result (λ d. d ≡ record { found = nows found.entry.items; set = union_of (nows found.entry.items) }) }
+    fn unchanged(alloc: Global, found: Vec<&'a Coverage>) -> Result<Draft<'a>, Memory>
+        requires { AreParts (sets_of found.items) }
+        ensures { IfOk result (λ d. d ≡ record { found = sets_of found.entry.items; set = union_of (sets_of found.entry.items) }) }
     {
-        let mut made = Vec::new(alloc);
+        let mut made = Vec::with_capacity(alloc, 12)?;
         for _ in &found {
-            push(&mut made, None)?;
+            made.push(None)?;
         }
         Ok(Draft { found, made })
     }
@@ -82,19 +82,13 @@ impl<'a> Draft<'a> {
     /// The set of one part.
     fn part(&self, b: u8) -> &Coverage
         requires { b < 12 }
-        ensures { result.now ≡ part_of self.now.set b }
+        ensures list { result.now ≡ part_of self.now.set b }
+        ensures within { IsWithin self.now.set pixels }
     {
         match &self.made[b as usize] {
             Some(list) => list,
             None => self.found[b as usize],
         }
-    }
-
-    /// Nothing lies outside of the sky.
-    pub(crate) fn lies_in_sky(&self)
-        ensures { IsWithin self.now.set pixels }
-    {
-        let _made = &self.made;
     }
 
     /// Makes the list of one part anew.
@@ -113,7 +107,6 @@ impl<'a> Draft<'a> {
         ensures set { OnOk result (self.new.set ≡ changed change.now self.old.set) }
         ensures found { self.new.found ≡ self.old.found }
     {
-        self.lies_in_sky();
         for b in 0u8..12 {
             if let Some(list) = change.part(alloc, self.part(b), b)? {
                 self.put(b, list);
@@ -124,9 +117,9 @@ impl<'a> Draft<'a> {
 
     /// How many pixels the set has.
     pub(crate) fn count(&self) -> u64
-        ensures { result ≡ set.len self.now.set }
+        ensures size { result ≡ set.len self.now.set }
+        ensures within { IsWithin self.now.set pixels }
     {
-        self.lies_in_sky();
         let mut total = 0;
         for b in 0u8..12 {
             total += self.part(b).count();
@@ -137,11 +130,13 @@ impl<'a> Draft<'a> {
     /// How many pixels of one part the set has in common with another.
     fn count_common_in(&self, b: u8, other: &Coverage) -> u64
         requires { b < 12 }
-        ensures { result ≡ set.len (set.intersection (part_of self.now.set b) other.now) }
+        ensures size { result ≡ set.len (set.intersection (part_of self.now.set b) other.now) }
+        ensures within { IsWithin self.now.set pixels }
     {
-        self.lies_in_sky();
         let part = self.part(b);
-        if other.covers_base_pixel(b) {
+        if !other.meets_base_pixel(b) {
+            0
+        } else if other.covers_base_pixel(b) {
             part.count()
         } else {
             part.count_common(other)
@@ -152,7 +147,6 @@ impl<'a> Draft<'a> {
     pub(crate) fn count_common(&self, other: &Coverage) -> u64
         ensures { result ≡ set.len (set.intersection self.now.set other.now) }
     {
-        self.lies_in_sky();
         let mut total = 0;
         for b in 0u8..12 {
             total += self.count_common_in(b, other);
@@ -164,7 +158,6 @@ impl<'a> Draft<'a> {
     pub(crate) fn meets(&self, other: &Coverage) -> bool
         ensures { result ≡ meets self.now.set other.now }
     {
-        self.lies_in_sky();
         for b in 0u8..12 {
             if self.part(b).meets(other) {
                 return true;
@@ -177,7 +170,6 @@ impl<'a> Draft<'a> {
     pub(crate) fn common(&self, alloc: Global, other: &Coverage) -> Result<Coverage, Memory>
         ensures { IfOk result (λ c. c ≡ set.intersection self.now.set other.now) }
     {
-        self.lies_in_sky();
         let mut common = Coverage::empty(alloc);
         for b in 0u8..12 {
             let shared = self.part(b).intersection(alloc, other)?;
@@ -190,7 +182,7 @@ impl<'a> Draft<'a> {
 
     /// The lists that were made anew.
     pub(crate) fn into_made(self) -> Vec<Option<Coverage>>
-        ensures lists { newest self.entry.found result.items ≡ parts_below self.entry.set 12 }
+        ensures lists { current_lists self.entry.found result.items ≡ parts_below self.entry.set 12 }
         ensures within { IsWithin self.entry.set pixels }
         ensures twelve { length result.items ≡ 12 }
     {
@@ -203,25 +195,29 @@ impl<'a> Draft<'a> {
         alloc: Global,
         footprint: PartSet,
     ) -> Result<Vec<Option<Coverage>>, Memory>
-        ensures { IfOk result (λ lists. (b : ℕ) → b < 12 → get_or lists.items b None ≡ kept (has footprint b) self.entry.set b) }
+        ensures { IfOk result (λ lists. (b : ℕ) → b < 12 → get_or lists.items b None ≡ kept (set.contains footprint b) self.entry.set b) }
     {
         let Draft { found, mut made } = self;
-        let mut lists = Vec::new(alloc);
+        let mut lists = Vec::with_capacity(alloc, 12)?;
         for b in 0u8..12 {
             let list = if footprint.contains(Part::of(b)) {
                 let part = usize::from(b);
-                Some(owned(alloc, made[part].take(), found[part])?)
+                Some(made_or_copied(alloc, made[part].take(), found[part])?)
             } else {
                 None
             };
-            push(&mut lists, list)?;
+            lists.push(list)?;
         }
         Ok(lists)
     }
 }
 
 /// The list that was made anew, or else a copy of the one that was found.
-fn owned(alloc: Global, made: Option<Coverage>, found: &Coverage) -> Result<Coverage, Memory>
+fn made_or_copied(
+    alloc: Global,
+    made: Option<Coverage>,
+    found: &Coverage,
+) -> Result<Coverage, Memory>
     ensures { IfOk result (λ list. list ≡ unwrap_or made found.now) }
 {
     match made {

@@ -1,7 +1,6 @@
 //! A coverage in twelve parts, one for each base pixel, and the commands that change and query it.
 #![tactic(auto)]
 
-mod answers;
 mod batch;
 mod change;
 mod command;
@@ -11,7 +10,6 @@ mod laws;
 mod map;
 mod part;
 mod prepared;
-mod push;
 mod reply;
 mod resolved;
 mod surroundings;

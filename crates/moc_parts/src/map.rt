@@ -1,13 +1,13 @@
 //! A set of pixels in twelve parts.
 ghost use Rattle.std.specs.Prelude.{◌≡◌, IfOk, OnOk, OnErr, length};
-ghost use Rattle.moc_ranges.specs.Operations.{part_of};
+ghost use Rattle.moc_ranges.specs.Operations.{part_of, IsWithin};
+ghost use Rattle.moc_ranges.specs.Pixels.{pixels};
 ghost use Rattle.moc_parts.specs.Batches.{replies_on, set_after_all};
-ghost use Rattle.moc_parts.specs.Drafts.{newest};
+ghost use Rattle.moc_parts.specs.Drafts.{current_lists};
 
 use crate::batch::Batch;
 use crate::draft::Draft;
 use crate::part::Part;
-use crate::push::push;
 use crate::reply::Replies;
 use moc_ranges::{Coverage, Memory};
 use std::alloc::Global;
@@ -39,19 +39,32 @@ impl Map {
     pub fn new(alloc: Global, start: Coverage) -> Result<Map, Memory>
         ensures { IfOk result (λ m. m ≡ start) }
     {
-        start.lies_in_sky();
-        let mut parts = Vec::new(alloc);
+        let mut parts = Vec::with_capacity(alloc, 12)?;
         for b in 0u8..12 {
-            push(&mut parts, start.part(alloc, b)?)?;
+            parts.push(start.part(alloc, b)?)?;
         }
         Ok(Map { parts })
     }
 
     /// The pixels of one part. Takes no memory.
     pub fn part(&self, part: Part) -> &Coverage
-        ensures { result.now ≡ part_of self.now part }
+        ensures part { result.now ≡ part_of self.now part }
+
+        // What lets a caller put the map together from its parts.
+        ensures within { IsWithin self.now pixels }
     {
         &self.parts[usize::from(part.get())]
+    }
+
+    /// The pixels of all parts. A union for each part; refused where memory runs out.
+    pub fn coverage(&self, alloc: Global) -> Result<Coverage, Memory>
+        ensures { IfOk result (λ c. c ≡ self.now) }
+    {
+        let mut whole = Coverage::empty(alloc);
+        for b in 0u8..12 {
+            whole = whole.union(alloc, self.part(Part::of(b)))?;
+        }
+        Ok(whole)
     }
 
     /// Does the commands of a batch in order, and replies to each.
@@ -74,7 +87,7 @@ impl Map {
 /// Puts the lists that were made anew into their places.
 fn put_all(parts: &mut [Coverage], mut made: Vec<Option<Coverage>>)
     requires { length made.items ≡ length parts.old }
-    ensures { parts.new ≡ newest parts.old made.items }
+    ensures { parts.new ≡ current_lists parts.old made.items }
 {
     for b in 0..parts.len() {
         if let Some(list) = made[b].take() {

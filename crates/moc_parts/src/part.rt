@@ -1,6 +1,6 @@
 //! The parts of a map: one for each base pixel.
-ghost use Rattle.std.specs.Prelude.{◌≡◌, ℕ, ◌<◌, ◌||◌, nat_eq, List, Bool, true, false, SomeIff};
-ghost use Rattle.moc_parts.specs.PartSets.{has};
+ghost use Rattle.std.specs.Prelude.{◌≡◌, ℕ, ◌<◌, nat_lt, SomeIff};
+ghost use Rattle.std.specs.FinSet as set;
 
 use std::marker::Model;
 
@@ -52,48 +52,60 @@ impl Part {
 /// A set of parts.
 #[derive(Clone, Copy, Debug, PartialEq, Eq)]
 pub struct PartSet {
-    has: [bool; 12],
+    flags: [bool; 12],
 }
 
 impl Model for PartSet {
-    ghost Value = { List Bool };
+    ghost use Rattle.std.specs.Prelude.{◌≡◌, length};
+    ghost use Rattle.std.proofs.Common.{ap};
+    ghost use Rattle.std.specs.Ordering.{nat_cmp};
+    ghost use Rattle.std.specs.FinSet as set;
+    ghost use Rattle.std.specs.Coded.{coded_ℕ};
+    ghost use Rattle.moc_parts.specs.PartSets.{flagged, flags_of, flags_of-flagged};
 
-    ghost view = { λ parts. parts.has };
+    ghost Value = { set.FinSet nat_cmp };
 
-    ghost inverse = { λ has. record { has = has } };
+    ghost coded = { set.code coded_ℕ };
+
+    ghost view = { λ parts. flagged parts.flags };
+
+    ghost invariant = { λ parts. length parts.flags ≡ 12 };
+
+    ghost inverse = { λ parts. record { flags = flags_of parts } };
+
+    ghost inverse_ok = { λ parts twelve. ap (λ flags. record { flags = flags }) (flags_of-flagged parts.flags twelve) };
 }
 
 impl PartSet {
+    /// No part. Takes no memory.
+    pub fn none() -> PartSet
+        ensures { result ≡ set.empty }
+    {
+        PartSet { flags: [false; 12] }
+    }
+
     /// All twelve parts.
     pub(crate) fn all() -> PartSet
-        ensures { (b : ℕ) → b < 12 → has result b ≡ true }
+        ensures { (b : ℕ) → set.contains result b ≡ nat_lt b 12 }
     {
-        PartSet { has: [true; 12] }
+        PartSet { flags: [true; 12] }
     }
 
-    /// No part.
-    pub(crate) fn none() -> PartSet
-        ensures { (b : ℕ) → b < 12 → has result b ≡ false }
+    /// Puts a part in. O(1), takes no memory.
+    pub fn insert(&mut self, part: Part)
+        ensures { self.new ≡ set.insert self.old part }
     {
-        PartSet { has: [false; 12] }
-    }
-
-    /// Puts a part in.
-    pub(crate) fn insert(&mut self, b: u8)
-        requires { b < 12 }
-        ensures { (k : ℕ) → k < 12 → has self.new k ≡ (nat_eq b k || has self.old k) }
-    {
-        self.has[b as usize] = true;
+        self.flags[usize::from(part.number)] = true;
     }
 
     /// The parts of either set.
     pub(crate) fn union(self, other: PartSet) -> PartSet
-        ensures { (b : ℕ) → b < 12 → has result b ≡ (has self b || has other b) }
+        ensures { result ≡ set.union self other }
     {
         let mut parts = self;
         for b in 0u8..12 {
-            if other.has[b as usize] {
-                parts.insert(b);
+            if other.flags[usize::from(b)] {
+                parts.insert(Part { number: b });
             }
         }
         parts
@@ -101,8 +113,8 @@ impl PartSet {
 
     /// Whether the part is in the set. O(1), takes no memory.
     pub fn contains(self, part: Part) -> bool
-        ensures { result ≡ has self part }
+        ensures { result ≡ set.contains self part }
     {
-        self.has[part.number as usize]
+        self.flags[usize::from(part.get())]
     }
 }

@@ -1,7 +1,6 @@
 //! What a map replies.
 ghost use Rattle.std.specs.Prelude.{◌≡◌, ◌++◌, ◌∷◌, [], IfOk, OnOk};
 
-use crate::push::push;
 use moc_ranges::{Coverage, Memory};
 use std::alloc::Global;
 use std::marker::Model;
@@ -72,7 +71,8 @@ impl Replies {
     pub(crate) fn push(&mut self, reply: Reply) -> Result<(), Memory>
         ensures { OnOk result (self.new ≡ self.old ++ reply ∷ []) }
     {
-        push(&mut self.replies, reply)
+        self.replies.push(reply)?;
+        Ok(())
     }
 
     /// The replies, in the order of the commands. Takes no memory.

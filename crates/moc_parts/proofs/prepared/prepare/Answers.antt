@@ -19,5 +19,5 @@ returns c =
     (c.in_ok-replies.ensures.replies ∙ (λ i. replies_on (c.in_ok-draft.ensures i).set (c.commands.ensures.commands i)))
     (λ b l. c.in_ok-lists.ensures b l ∙ ap (λ t. kept t c.answer_all.new.self.set b) (c.footprint.ensures.parts b l))
 
-pub found-requires-clause-parts : goal.found-requires-clause-parts
-found-requires-clause-parts c = lying_parts (found_sets c.args.found.now) c.requires
+pub from_found-requires-clause-parts : goal.from_found-requires-clause-parts
+from_found-requires-clause-parts c = lying_parts (found_sets c.args.found.now) c.requires

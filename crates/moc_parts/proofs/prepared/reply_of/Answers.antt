@@ -15,5 +15,5 @@ returns c =
     replied cs found found c.in_ok-replies.replies c.commands.ensures.proper (parts_within (found_sets c.args.found.now) (lying_parts (found_sets c.args.found.now) c.requires.parts)) (λ i. found)
     (c.in_ok-replies.ensures.replies ∙ (λ i. replies_on (c.in_ok-draft.ensures i).set (c.commands.ensures.commands i)))
 
-pub found-requires-clause-parts : goal.found-requires-clause-parts
-found-requires-clause-parts c = lying_parts (found_sets c.args.found.now) c.requires.parts
+pub from_found-requires-clause-parts : goal.from_found-requires-clause-parts
+from_found-requires-clause-parts c = lying_parts (found_sets c.args.found.now) c.requires.parts

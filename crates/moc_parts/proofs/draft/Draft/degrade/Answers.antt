@@ -7,10 +7,10 @@ use Rattle.moc_parts.proofs.draft.Draft.degrade.Goals as goal
 
 pub overflow_sub-result : goal.overflow_sub-result
 overflow_sub-result c =
-    let wide : c.count.result ≡ set.len (degrade c.args.self.now.set c.args.order) = c.count.ensures ∙ ap set.len c.in_ok-change.ensures.set in
-    omega (arith, degrade_more c.args.self.now.set c.args.order c.lies_in_sky.ensures, wide, c.count-before.ensures)
+    let wide : c.count.result ≡ set.len (degrade c.args.self.now.set c.args.order) = c.count.ensures.size ∙ ap set.len c.in_ok-change.ensures.set in
+    omega (arith, degrade_more c.args.self.now.set c.args.order c.count-before.ensures.within, wide, c.count-before.ensures.size)
 
 pub returns-clause-reply : goal.returns-clause-reply
 returns-clause-reply c =
-    let wide : c.count.result ≡ set.len (degrade c.args.self.now.set c.args.order) = c.count.ensures ∙ ap set.len c.in_ok-change.ensures.set in
-    ap Changed ((λ i. wide i - c.count-before.ensures i) ∙ degrade_added c.args.self.now.set c.args.order c.lies_in_sky.ensures)
+    let wide : c.count.result ≡ set.len (degrade c.args.self.now.set c.args.order) = c.count.ensures.size ∙ ap set.len c.in_ok-change.ensures.set in
+    ap Changed ((λ i. wide i - c.count-before.ensures.size i) ∙ degrade_added c.args.self.now.set c.args.order c.count-before.ensures.within)

@@ -2,7 +2,7 @@ use Rattle.std.proofs.Common.{◌∙◌, ap, Some}
 use Rattle.std.specs.Prelude.{set as set_at}
 use Rattle.std.proofs.lemmas.List.{length-set}
 use Rattle.moc_ranges.specs.Numbers.{NumberSet}
-use Rattle.moc_parts.specs.Drafts.{newest, nows, with_part}
+use Rattle.moc_parts.specs.Drafts.{current_lists, sets_of, with_part}
 use Rattle.moc_parts.specs.Parts.{union_of}
 use Rattle.moc_parts.proofs.Twelve.{parts_within, made_parts, made_union}
 use Rattle.moc_parts.proofs.Drafting.{newest_set, with_part_within}
@@ -10,21 +10,21 @@ use Rattle.moc_parts.proofs.draft.Draft.put.Goals as goal
 
 pub invariant_of-self : goal.invariant_of-self
 invariant_of-self c =
-    let found = nows c.self.inside.found.items in
+    let found = sets_of c.self.inside.found.items in
     let made = c.self.inside.made.items in
-    let whole : NumberSet = union_of (newest found made) in (
-      made_parts (newest found (set_at made c.args.b (Some c.args.list))) (with_part whole c.args.b c.args.list)
+    let whole : NumberSet = union_of (current_lists found made) in (
+      made_parts (current_lists found (set_at made c.args.b (Some c.args.list))) (with_part whole c.args.b c.args.list)
           (newest_set found made c.args.b c.args.list c.self.invariant.0 c.self.invariant.1 c.requires.part c.requires.list)
-          (with_part_within whole c.args.b c.args.list c.requires.part (parts_within (newest found made) c.self.invariant.0) c.requires.list),
+          (with_part_within whole c.args.b c.args.list c.requires.part (parts_within (current_lists found made) c.self.invariant.0) c.requires.list),
       length-set made c.args.b (Some c.args.list) ∙ c.self.invariant.1,
     )
 
 pub returns-clause-set : goal.returns-clause-set
 returns-clause-set c =
-    let found = nows c.self.inside.found.items in
+    let found = sets_of c.self.inside.found.items in
     let made = c.self.inside.made.items in
-    let whole : NumberSet = union_of (newest found made) in
-    made_union (newest found (set_at made c.args.b (Some c.args.list))) (with_part whole c.args.b c.args.list)
+    let whole : NumberSet = union_of (current_lists found made) in
+    made_union (current_lists found (set_at made c.args.b (Some c.args.list))) (with_part whole c.args.b c.args.list)
     (newest_set found made c.args.b c.args.list c.self.invariant.0 c.self.invariant.1 c.requires.part c.requires.list)
-    (with_part_within whole c.args.b c.args.list c.requires.part (parts_within (newest found made) c.self.invariant.0) c.requires.list)
+    (with_part_within whole c.args.b c.args.list c.requires.part (parts_within (current_lists found made) c.self.invariant.0) c.requires.list)
     ∙ ap (λ d. with_part d.set c.args.b c.args.list) c.self.view_is

@@ -1,6 +1,7 @@
-use Rattle.std.proofs.Common.{◌≡◌, ◌<◌, ◌&&◌, ◌||◌, ℕ, nat_lt}
-use Rattle.moc_parts.specs.PartSets.{has}
+use Rattle.std.proofs.Common.{◌≡◌}
+use Rattle.std.specs.FinSet as set
+use Rattle.moc_parts.proofs.Flags.{flagged_until}
 use Rattle.moc_parts.proofs.part.PartSet.union.Given as goal
 
 abbrev pub invariant-loop-b : goal.invariant-loop-b
-invariant-loop-b l = (k : ℕ) → k < 12 → has l.parts k ≡ (has l.fn.self k || (nat_lt k l.b && has l.fn.other k))
+invariant-loop-b l = l.parts ≡ set.union l.fn.self (flagged_until l.other-inside.flags l.b)

@@ -86,7 +86,6 @@ impl<'a> Draft<'a> {
         ensures reply { IfOk result (λ r. r ≡ reply.Changed (set.len (set.difference (degrade self.old.set order) self.old.set))) }
         ensures found { self.new.found ≡ self.old.found }
     {
-        self.lies_in_sky();
         let before = self.count();
         self.change(alloc, &Change::Degrade(order))?;
         Ok(Reply::Changed(self.count() - before))

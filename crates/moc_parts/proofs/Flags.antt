@@ -1,0 +1,147 @@
+-- One more flag is one more part.
+use Rattle.std.proofs.Common.{◌≡◌, ◌≢◌, ℕ, ◌+◌, ◌<◌, Bool, true, false, ◌&&◌, ◌||◌, List, [], ◌∷◌, ◌++◌, length, get_or, replicate, set as set_at, nat_eq, nat_lt, inl, inr, refl, sym, ap, subst, ◌∙◌, arith}
+use Rattle.std.specs.Cmp.{nat_cmp_total}
+use Rattle.std.specs.List.{list_any}
+use Rattle.std.proofs.lemmas.List.Folds.{list_any-append}
+use Rattle.std.specs.Ordering.{nat_cmp, eq_by_cmp}
+use Rattle.std.specs.FinSet as set
+use Rattle.std.proofs.lemmas.Bool.{cases_eq, cases_lt, lt-ltb}
+use Rattle.std.proofs.lemmas.Bool.Decides.{nat_tests}
+use Rattle.std.proofs.lemmas.List.{get_or-replicate, get_or-set_same, get_or-set_other}
+use Rattle.moc_ranges.specs.Numbers.{same_members}
+use Rattle.moc_parts.specs.PartSets.{flagged, flags_of, contains-flagged, flags_of-flagged}
+
+-- one flag set is one part put in
+pub flagged-set : (flags : List Bool) (b : ℕ) → b < 12 → length flags ≡ 12 → flagged (set_at flags b true) ≡ set.insert (flagged flags) b
+flagged-set flags b l twelve = same_members _ _ (λ q.
+    contains-flagged (set_at flags b true) q
+    ∙ elim (cases_eq b q) [
+      | inl same ↦
+          ap (λ k. nat_lt k 12 && get_or (set_at flags b true) k false) (sym same)
+          ∙ ap (λ t. t && get_or (set_at flags b true) b false) (lt-ltb b 12 l)
+          ∙ get_or-set_same flags b true false (subst (λ n. b < n) (sym twelve) l)
+          ∙ sym (ap (λ t. t || set.contains (flagged flags) b) (tied b))
+          ∙ sym (set.contains-insert nat_cmp_total (flagged flags) b b)
+          ∙ ap (λ k. set.contains (set.insert (flagged flags) b) k) same
+      | inr apart ↦
+          ap (λ t. nat_lt q 12 && t) (get_or-set_other flags b q true false (λ e. apart (sym e)))
+          ∙ sym (contains-flagged flags q)
+          ∙ sym (ap (λ t. t || set.contains (flagged flags) q) (untied q b (λ e. apart (sym e))))
+          ∙ sym (set.contains-insert nat_cmp_total (flagged flags) b q)
+    ])
+  where
+    tied : (k : ℕ) → eq_by_cmp nat_cmp k k ≡ true
+    tied k = grind (arith, nat_tests)
+
+    untied : (j k : ℕ) → j ≢ k → eq_by_cmp nat_cmp j k ≡ false
+    untied j k d = grind (arith, nat_tests)
+
+-- the parts of flags that are all alike
+steady : (flags : List Bool) (v : Bool) → ((b : ℕ) → b < 12 → get_or flags b false ≡ v) → (b : ℕ) → set.contains (flagged flags) b ≡ (nat_lt b 12 && v)
+steady flags v alike b = contains-flagged flags b ∙ elim (cases_lt b 12) [
+  | inl l ↦ ap (λ t. nat_lt b 12 && t) (alike b l)
+  | inr ge ↦
+      let past : nat_lt b 12 ≡ false = grind (arith, nat_tests) in
+      ap (λ t. t && get_or flags b false) past ∙ sym (ap (λ t. t && v) past)
+]
+
+never : (b : Bool) → (b && false) ≡ false
+never true = refl
+never false = refl
+
+always : (b : Bool) → (b && true) ≡ b
+always true = refl
+always false = refl
+
+pub none_flagged : flagged (false ∷ false ∷ false ∷ false ∷ false ∷ false ∷ false ∷ false ∷ false ∷ false ∷ false ∷ false ∷ []) ≡ set.empty
+none_flagged = same_members _ _ (λ q. steady (replicate 12 false) false (λ b l. get_or-replicate 12 b false false l) q ∙ never (nat_lt q 12) ∙ sym (set.contains-empty nat_cmp q))
+
+pub all_flagged : (b : ℕ) → set.contains (flagged (true ∷ true ∷ true ∷ true ∷ true ∷ true ∷ true ∷ true ∷ true ∷ true ∷ true ∷ true ∷ [])) b ≡ nat_lt b 12
+all_flagged b = steady (replicate 12 true) true (λ k l. get_or-replicate 12 k true false l) b ∙ always (nat_lt b 12)
+
+-- the flagged parts below n
+unfoldable pub flagged_until : List Bool → ℕ → set.FinSet nat_cmp
+flagged_until flags n = set.retain (flagged flags) (λ b. nat_lt b n)
+
+contains-until : (flags : List Bool) (n q : ℕ) → set.contains (flagged_until flags n) q ≡ ((nat_lt q 12 && get_or flags q false) && nat_lt q n)
+unfolding flagged_until
+contains-until flags n q =
+    set.contains-retain (flagged flags) (λ b. nat_lt b n) q (λ x tie. ap (λ b. nat_lt b n) (sym (set.nat_cmp-IsAntisymmetric q x tie)))
+    ∙ ap (λ t. t && nat_lt q n) (contains-flagged flags q)
+
+contains-either : (a b : set.FinSet nat_cmp) (q : ℕ) → set.contains (set.union a b) q ≡ (set.contains a q || set.contains b q)
+contains-either a b q = set.contains-union nat_cmp_total a b q
+
+pub until-none : (a : set.FinSet nat_cmp) (flags : List Bool) → a ≡ set.union a (flagged_until flags 0)
+until-none a flags = same_members _ _ (λ q. sym (contains-either a (flagged_until flags 0) q ∙ ap (λ t. set.contains a q || t) (contains-until flags 0 q) ∙ nothing (set.contains a q) (nat_lt q 12 && get_or flags q false) q))
+  where
+    nothing : (x y : Bool) (q : ℕ) → (x || (y && nat_lt q 0)) ≡ x
+    nothing x y q = grind (arith, nat_tests)
+
+pub until-all : (a : set.FinSet nat_cmp) (flags : List Bool) → set.union a (flagged_until flags 12) ≡ set.union a (flagged flags)
+until-all a flags = same_members _ _ (λ q.
+    contains-either a (flagged_until flags 12) q ∙ ap (λ t. set.contains a q || t) (contains-until flags 12 q ∙ whole q (get_or flags q false) ∙ sym (contains-flagged flags q))
+    ∙ sym (contains-either a (flagged flags) q))
+  where
+    whole : (q : ℕ) (y : Bool) → ((nat_lt q 12 && y) && nat_lt q 12) ≡ (nat_lt q 12 && y)
+    whole q y = grind (arith, nat_tests)
+
+-- one part more whose flag is set, or is not
+pub until-set : (a : set.FinSet nat_cmp) (flags : List Bool) (n : ℕ) → n < 12 → get_or flags n false ≡ true → set.insert (set.union a (flagged_until flags n)) n ≡ set.union a (flagged_until flags (n + 1))
+until-set a flags n l is = same_members _ _ (λ q.
+    set.contains-insert nat_cmp_total (set.union a (flagged_until flags n)) n q
+    ∙ ap (λ t. eq_by_cmp nat_cmp q n || t) (contains-either a (flagged_until flags n) q ∙ ap (λ t. set.contains a q || t) (contains-until flags n q))
+    ∙ more q (set.contains a q) (get_or flags q false) (λ e. ap (λ k. get_or flags k false) e ∙ is)
+    ∙ sym (contains-either a (flagged_until flags (n + 1)) q ∙ ap (λ t. set.contains a q || t) (contains-until flags (n + 1) q)))
+  where
+    more : (q : ℕ) (x y : Bool) → (q ≡ n → y ≡ true) → (eq_by_cmp nat_cmp q n || (x || ((nat_lt q 12 && y) && nat_lt q n))) ≡ (x || ((nat_lt q 12 && y) && nat_lt q (n + 1)))
+    more q x y here = elim (cases_eq q n) [
+      | inl same ↦ let set_here = here same in grind (arith, nat_tests)
+      | inr apart ↦ grind (arith, nat_tests)
+    ]
+
+pub until-unset : (a : set.FinSet nat_cmp) (flags : List Bool) (n : ℕ) → get_or flags n false ≡ false → set.union a (flagged_until flags n) ≡ set.union a (flagged_until flags (n + 1))
+until-unset a flags n is = same_members _ _ (λ q.
+    contains-either a (flagged_until flags n) q ∙ ap (λ t. set.contains a q || t) (contains-until flags n q ∙ same_there q (get_or flags q false) (λ e. ap (λ k. get_or flags k false) e ∙ is) ∙ sym (contains-until flags (n + 1) q))
+    ∙ sym (contains-either a (flagged_until flags (n + 1)) q))
+  where
+    same_there : (q : ℕ) (y : Bool) → (q ≡ n → y ≡ false) → ((nat_lt q 12 && y) && nat_lt q n) ≡ ((nat_lt q 12 && y) && nat_lt q (n + 1))
+    same_there q y here = elim (cases_eq q n) [
+      | inl same ↦ let unset_here = here same in grind (arith, nat_tests)
+      | inr apart ↦ grind (arith, nat_tests)
+    ]
+
+-- flags are those of the parts that they show
+pub flags_behind : (flags : List Bool) (parts : set.FinSet nat_cmp) → flagged flags ≡ parts → length flags ≡ 12 → flags ≡ flags_of parts
+flags_behind flags parts shown twelve = sym (flags_of-flagged flags twelve) ∙ ap flags_of shown
+
+-- a part in a set that one was put into
+pub inserted : (s t : set.FinSet nat_cmp) (n k : ℕ) → t ≡ set.insert s n → set.contains t k ≡ (nat_eq n k || set.contains s k)
+inserted s t n k e = ap (λ parts. set.contains parts k) e ∙ set.contains-insert nat_cmp_total s n k ∙ ap (λ b. b || set.contains s k) (tie n k)
+  where
+    tie : (n k : ℕ) → eq_by_cmp nat_cmp k n ≡ nat_eq n k
+    tie n k = grind (arith, nat_tests)
+
+-- a part in the empty set
+pub lacking : (t : set.FinSet nat_cmp) (k : ℕ) → t ≡ set.empty → set.contains t k ≡ false
+lacking t k e = ap (λ parts. set.contains parts k) e ∙ set.contains-empty nat_cmp k
+
+-- a part in either of two sets
+pub either_has : (s t u : set.FinSet nat_cmp) (k : ℕ) → u ≡ set.union s t → set.contains u k ≡ (set.contains s k || set.contains t k)
+either_has s t u k e = ap (λ parts. set.contains parts k) e ∙ contains-either s t k
+
+or_shift : (x y z : Bool) → (x || (y || z)) ≡ (y || (z || x))
+or_shift true true z = refl
+or_shift true false true = refl
+or_shift true false false = refl
+or_shift false true z = refl
+or_shift false false true = refl
+or_shift false false false = refl
+
+-- one number more passes the test, or none does
+pub any-more : (test : ℕ → Bool) (xs : List ℕ) (n : ℕ) (h : Bool) → (test n || (h || list_any test xs)) ≡ (h || list_any test (xs ++ n ∷ []))
+any-more test xs n h = or_shift (test n) h (list_any test xs) ∙ ap (λ t. h || t) (sym (list_any-append test xs (n ∷ []) ∙ ap (λ t. list_any test xs || t) (last (test n))))
+  where
+    last : (x : Bool) → (x || false) ≡ x
+    last true = refl
+    last false = refl

@@ -1,9 +1,0 @@
-use Rattle.std.proofs.Common.{subst}
-use Rattle.moc_ranges.specs.Pixels.{pixels}
-use Rattle.moc_ranges.specs.Operations.{IsWithin}
-use Rattle.moc_parts.specs.Drafts.{newest, nows}
-use Rattle.moc_parts.proofs.Twelve.{parts_within}
-use Rattle.moc_parts.proofs.draft.Draft.lies_in_sky.Goals as goal
-
-pub returns : goal.returns
-returns c = subst (λ d. IsWithin d.set pixels) c.self.view_is (parts_within (newest (nows c.self.inside.found.items) c.self.inside.made.items) c.self.invariant.0)
