@@ -1,21 +1,22 @@
 //! Sets of pixels, and the operations on them.
-ghost use Rattle.std.specs.Prelude.{◌≡◌, ◌+◌, ◌<◌, ◌≤◌, ◌↔◌, nat_lt, IsTrue, IfOk, IfErr, OnOk, None, unwrap_or};
+ghost use Rattle.std.specs.Prelude.{◌≡◌, ◌+◌, ◌<◌, ◌≤◌, ◌↔◌, nat_lt, IsTrue, if◌then◌else◌, IfOk, IfErr, OnOk, OnErr, None, unwrap_or};
 ghost use Rattle.moc_ranges.specs.Faults.{first_fault};
 ghost use Rattle.std.specs.FinSet as set;
 ghost use Rattle.moc_ranges.specs.RangeList.{IsNormal, set_of};
 ghost use Rattle.moc_ranges.specs.Operations.{symmetric, complement, part_of, meets, IsWithin};
 ghost use Rattle.moc_ranges.specs.Pixels.{pixel_count, pixels};
 ghost use Rattle.moc_ranges.specs.Cells.{cells_of, degrade, span};
+ghost use Rattle.moc_ranges.specs.Numbers.{numbers};
 ghost use Rattle.moc_ranges.specs.Bounds.{IsBounds};
 ghost use Rattle.moc_ranges.specs.Sweep.{IsCombined};
 
 use crate::cells::{orders_with_cells, push_cells_of_order};
 use crate::errors::{Memory, RangesError};
-use crate::from_ranges::{check, joined, joined_cells, sorted};
+use crate::from_ranges::{append, check, joined, joined_cells, sorted};
 use crate::ranges::Ranges;
 use crate::sweep::{Rule, count_both, cut, keeps_some, reaching, sweep};
 use moc_sphere::{Cell, Order};
-use std::alloc::Global;
+use std::alloc::{AllocError, Global};
 use std::marker::Model;
 
 /// How many pixels the sky has: 12 * 4^29, the cells of order 29 (MOC 2.0).
@@ -105,9 +106,37 @@ impl Coverage {
         ensures refused { IfErr result (λ e. e ≡ unwrap_or (first_fault pairs.now) RangesError.Memory) }
     {
         check(pairs)?;
+        Ok(Coverage::from_faultless(alloc, pairs)?)
+    }
+
+    /// The pixels in any of the pairs, none of which is faulty.
+    pub(crate) fn from_faultless(
+        alloc: Global,
+        pairs: &[(u64, u64)],
+    ) -> Result<Coverage, AllocError>
+        requires { first_fault pairs.now ≡ None }
+        ensures { IfOk result (λ c. c ≡ set_of pairs.now) }
+    {
         let pairs = sorted(alloc, pairs)?;
         let bounds = joined(alloc, &pairs)?;
         Ok(Coverage { bounds })
+    }
+
+    /// Adds the pixels from one up to, not including, another, where they do not begin before the last range, and answers
+    /// whether it did.
+    #[inline]
+    pub(crate) fn append(&mut self, from: u64, to: u64) -> Result<bool, AllocError>
+        requires rising { from < to }
+        requires within { to ≤ pixel_count }
+        ensures added { IfOk result (λ added. self.new ≡ (if added then set.union self.old (numbers from to) else self.old)) }
+        ensures kept { OnErr result (self.new ≡ self.old) }
+    {
+        append(&mut self.bounds, from, to)
+    }
+
+    /// How many ranges the set has.
+    pub(crate) fn range_count(&self) -> usize {
+        self.bounds.len() / 2
     }
 
     /// The pixels of either set. One pass over the ranges where their extents overlap, and a copy of the others, O(n + m);
