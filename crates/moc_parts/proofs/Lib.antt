@@ -2,6 +2,7 @@ pub mod Members
 pub mod Coarse
 pub mod PartLaw
 pub mod Flags
+pub mod Queries
 pub mod Twelve
 pub mod Sums
 pub mod Counts

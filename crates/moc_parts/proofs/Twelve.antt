@@ -8,6 +8,7 @@ use Rattle.std.specs.FinSet as set
 use Rattle.moc_ranges.specs.Numbers.{NumberSet, same_members}
 use Rattle.moc_ranges.specs.Pixels.{pixels, pixel_count, base_pixel_size}
 use Rattle.moc_ranges.specs.Operations.{part_of, contains-part_of, contains-pixels, IsWithin}
+use Rattle.moc_parts.specs.Objects.{base_pixel}
 use Rattle.moc_parts.specs.Parts.{union_of, parts_below, AreParts, LieInParts}
 use Rattle.moc_parts.proofs.Members.{has-union, has-empty, and_true, or_true, or_left, or_right, both, same_test, clash, in_part, of_part}
 
@@ -171,3 +172,32 @@ pub lying_parts : (sets : List NumberSet) → LieInParts sets → AreParts sets
 lying_parts sets lie = ext_get_or set.empty sets (parts_below (union_of sets) 12)
     (lie.twelve ∙ sym (length-parts_below (union_of sets) 12))
     (λ b l. let lt : b < 12 = subst (λ n. b < n) lie.twelve l in own_part sets lie b lt ∙ sym (get-parts_below (union_of sets) 12 b set.empty lt))
+
+-- a pixel is in the union where it is in the set of its own base pixel
+pub found_by_part : (sets : List NumberSet) → LieInParts sets → (p : ℕ) → base_pixel p < 12 → set.contains (union_of sets) p ≡ set.contains (get_or sets (base_pixel p) set.empty) p
+unfolding base_pixel
+found_by_part sets lie p l =
+    let whole = union_of sets in
+    let b = p / base_pixel_size in
+    sym (ap (λ a. set.contains a p) (own_part sets lie b l) ∙ contains-part_of whole b p ∙ ap (λ t. set.contains whole p && t) (same_number b) ∙ and_yes (set.contains whole p))
+  where
+    same_number : (n : ℕ) → nat_eq n n ≡ true
+    same_number n = grind (arith, nat_tests)
+    and_yes : (x : Bool) → (x && true) ≡ x
+    and_yes true = refl
+    and_yes false = refl
+
+part_again : (a : NumberSet) (b : ℕ) → part_of (part_of a b) b ≡ part_of a b
+part_again a b = same_members _ _ (λ q. contains-part_of (part_of a b) b q ∙ ap (λ t. t && nat_eq (q / base_pixel_size) b) (contains-part_of a b q) ∙ twice (set.contains a q) (nat_eq (q / base_pixel_size) b) ∙ sym (contains-part_of a b q))
+  where
+    twice : (x e : Bool) → ((x && e) && e) ≡ (x && e)
+    twice true true = refl
+    twice true false = refl
+    twice false e = refl
+
+-- the twelve parts of a set lie each in its own base pixel
+pub parts_lie : (a : NumberSet) → IsWithin a pixels → LieInParts (parts_below a 12)
+parts_lie a w = record {
+  twelve = length-parts_below a 12;
+  own = λ b l. let at = get-parts_below a 12 b set.empty l in ap (λ s. part_of s b) at ∙ part_again a b ∙ sym at;
+}

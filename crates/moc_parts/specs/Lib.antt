@@ -8,3 +8,4 @@ pub mod Resolved
 pub mod PartSets
 pub mod Prepared
 pub mod Laws
+pub mod Codes

@@ -18,7 +18,10 @@ mod tests;
 
 pub use batch::{Batch, BatchError, MOST_COMMANDS};
 pub use command::{Command, Operand};
-pub use laws::{batches_are_local, commands_are_local, degraded_operands_meet_the_same_parts};
+pub use laws::{
+    batches_are_local, commands_are_local, degraded_operands_meet_the_same_parts,
+    queries_leave_the_set, sets_are_united_by_parts, sets_have_twelve_parts,
+};
 pub use map::Map;
 pub use part::{Part, PartSet};
 pub use prepared::{Prepared, prepare, reply_of};

@@ -146,3 +146,27 @@ fn a_batch_is_prepared_from_a_part(rt: HostRuntime) -> Result<(), Fail> {
     );
     Ok(())
 }
+
+#[test]
+fn errors_are_told(rt: HostRuntime) -> Result<(), Fail> {
+    let few = format!(in rt.alloc(); "{}", BatchError::EmptyCommand)?;
+    assert_eq!(rt; few.as_str(), "a batch has a command");
+    let many = format!(in rt.alloc(); "{}", BatchError::TooManyCommands)?;
+    assert_eq!(rt; many.as_str(), "a batch has at most 16 commands");
+    Ok(())
+}
+
+#[test]
+fn a_map_is_one_coverage(rt: HostRuntime) -> Result<(), Fail> {
+    let alloc = rt.alloc();
+    let pairs = [(BASE - 1, BASE + 1), (5 * BASE, 7 * BASE)];
+    let map = Map::new(alloc, Coverage::from_ranges(alloc, &pairs)?)?;
+    let whole = map.coverage(alloc)?;
+    let mut ranges = whole.ranges();
+    assert_eq!(rt; ranges.next(), Some((BASE - 1, BASE + 1)));
+    assert_eq!(rt; ranges.next(), Some((5 * BASE, 7 * BASE)));
+    assert_eq!(rt; ranges.next(), None);
+    let operand = Operand::from(whole);
+    assert!(rt; operand.coarse.is_none() && operand.set.count() == 2 * BASE + 2);
+    Ok(())
+}
