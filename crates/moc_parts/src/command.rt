@@ -46,7 +46,7 @@ impl Operand {
     fn lies_in_sky(&self)
         ensures { IsOperand self.now }
     {
-        self.set.lies_in_sky();
+        self.set.is_empty();
         if let Some(order) = self.coarse {
             order.get();
         }

@@ -17,7 +17,7 @@ returns-then-is_empty c b l =
     inserted c.none-parts.result c.insert.new.self c.of.result b c.insert.ensures
     ∙ ap (λ n. nat_eq n b || set.contains c.none-parts.result b) c.of.ensures
     ∙ only_zero b _ (lacking c.none-parts.result b c.none-parts.ensures)
-    ∙ sym (parts_met_empty c.args.operand.now b (c.if-is_empty.ensures.0 refl))
+    ∙ sym (parts_met_empty c.args.operand.now b (c.if-is_empty.ensures.empty.0 refl))
 
 one_met : (b k : ℕ) (x : Bool) → (b ≡ k → x ≡ true) → (nat_eq b k || (nat_lt k b && x)) ≡ (nat_lt k (b + 1) && x)
 one_met b k x here = elim (cases_eq b k) [
@@ -58,4 +58,4 @@ returns c b l =
     let twelve : c.loop-b.b ≡ 12 = (let low = c.loop-b-test.false in let high = c.loop-b.auto.b-end in omega arith) in
     c.loop-b.invariant b l
     ∙ ap (λ t. t && nat_lt 0 (set.len (part_of c.args.operand.now b))) (ap (λ n. nat_lt b n) twelve ∙ lt-ltb b 12 l)
-    ∙ sym (parts_met_some c.args.operand.now b (λ e. clash false (c.if-is_empty.ensures.1 e) refl))
+    ∙ sym (parts_met_some c.args.operand.now b (λ e. clash false (c.if-is_empty.ensures.empty.1 e) refl))

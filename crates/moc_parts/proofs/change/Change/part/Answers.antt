@@ -12,12 +12,12 @@ pub returns-then-covers : goal.returns-then-covers
 returns-then-covers c =
     let list = c.args.list.now in
     let more = c.in_ok-more-in-Join-2.more in
-    sym (ap (λ change. changed_part change list c.args.b) c.in-Join-2.is ∙ ap (λ part. set.union list part) (sym c.in_ok-more-in-Join-2.ensures.part) ∙ join_covered list more (sym c.covers.ensures ∙ c.if-covers.true))
+    sym (ap (λ change. changed_part change list c.args.b) c.in-Join-2.is ∙ ap (λ part. set.union list part) (sym c.in_ok-more-in-Join-2.ensures.part) ∙ join_covered list more (sym c.covers.ensures.all ∙ c.if-covers.true))
 
 pub returns-in-Leave : goal.returns-in-Leave
 returns-in-Leave c =
-    sym (ap (λ change. changed_part change c.args.list.now c.args.b) c.in-Leave.is ∙ leave_apart c.args.list.now c.in-Leave.s.now (sym c.if-not-meets.ensures))
+    sym (ap (λ change. changed_part change c.args.list.now c.args.b) c.in-Leave.is ∙ leave_apart c.args.list.now c.in-Leave.s.now (sym c.if-not-meets.ensures.some))
 
 pub returns-in-Share : goal.returns-in-Share
 returns-in-Share c =
-    sym (ap (λ change. changed_part change c.args.list.now c.args.b) c.in-Share.is ∙ share_covered c.args.list.now c.in-Share.s.now (sym c.if-covers-2.ensures))
+    sym (ap (λ change. changed_part change c.args.list.now c.args.b) c.in-Share.is ∙ share_covered c.args.list.now c.in-Share.s.now (sym c.if-covers-2.ensures.all))

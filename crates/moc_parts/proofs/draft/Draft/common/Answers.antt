@@ -15,10 +15,10 @@ loop-b-preserved c =
     let a : NumberSet = c.args.self.now.set in
     let s : NumberSet = c.args.other.now in
     let old : c.loop-b.common ≡ set.intersection (first_parts a c.loop-b.b) s = c.loop-b.invariant.0 in
-    let one : c.in_ok-shared.shared ≡ set.intersection (part_of a c.loop-b.b) s = c.in_ok-shared.ensures ∙ ap (λ p. set.intersection p s) c.part.ensures.list in
+    let one : c.in_ok-shared.shared ≡ set.intersection (part_of a c.loop-b.b) s = c.in_ok-shared.ensures.set ∙ ap (λ p. set.intersection p s) c.part.ensures.list in
     let more : c.if-not-is_empty.common ≡ set.union c.loop-b.common c.in_ok-shared.shared = elim c.if-not-is_empty.branch [
-      | then-not-is_empty+in_ok-common w ↦ w.common-is ∙ w.in_ok-common.ensures
-      | else-not-is_empty w ↦ w.common-is ∙ sym (union-nothing c.loop-b.common c.in_ok-shared.shared (w.if-not-is_empty.ensures.0 refl))
+      | then-not-is_empty+in_ok-common w ↦ w.common-is ∙ w.in_ok-common.ensures.set
+      | else-not-is_empty w ↦ w.common-is ∙ sym (union-nothing c.loop-b.common c.in_ok-shared.shared (w.if-not-is_empty.ensures.empty.0 refl))
     ] in
     (more ∙ (λ i. set.union (old i) (one i)) ∙ common-next a s c.loop-b.b, λ later. c.part.ensures.within)
 

@@ -8,11 +8,11 @@ pub loop-b-init : goal.loop-b-init
 loop-b-init c = (meets-none c.args.self.now.set c.args.other.now, λ later. absurd (omega arith))
 
 pub returns-then-meets : goal.returns-then-meets
-returns-then-meets c = sym (meets-part c.args.self.now.set c.args.other.now c.loop-b.b (ap (λ p. meets p c.args.other.now) (sym c.part.ensures.list) ∙ sym c.meets.ensures ∙ c.if-meets.true))
+returns-then-meets c = sym (meets-part c.args.self.now.set c.args.other.now c.loop-b.b (ap (λ p. meets p c.args.other.now) (sym c.part.ensures.list) ∙ sym c.meets.ensures.some ∙ c.if-meets.true))
 
 pub loop-b-preserved : goal.loop-b-preserved
 loop-b-preserved c = (
-  meets-next c.args.self.now.set c.args.other.now c.loop-b.b c.loop-b.invariant.0 (ap (λ p. meets p c.args.other.now) (sym c.part.ensures.list) ∙ sym c.meets.ensures ∙ c.if-meets.false),
+  meets-next c.args.self.now.set c.args.other.now c.loop-b.b c.loop-b.invariant.0 (ap (λ p. meets p c.args.other.now) (sym c.part.ensures.list) ∙ sym c.meets.ensures.some ∙ c.if-meets.false),
   λ later. c.part.ensures.within,
 )
 

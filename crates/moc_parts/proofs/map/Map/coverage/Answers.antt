@@ -10,7 +10,7 @@ loop-b-init c = (c.empty-whole.ensures ∙ sym (first_parts-none c.args.self.now
 pub loop-b-preserved : goal.loop-b-preserved
 loop-b-preserved c =
     let a = c.args.self.now in (
-      c.in_ok-whole.ensures
+      c.in_ok-whole.ensures.set
       ∙ (λ i. set.union (c.loop-b.invariant.0 i) ((c.part.ensures.part ∙ ap (part_of a) c.of.ensures) i))
       ∙ first_parts-next a c.loop-b.b,
       λ later. c.part.ensures.within,
