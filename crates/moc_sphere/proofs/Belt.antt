@@ -2,7 +2,7 @@
 use Rattle.std.proofs.Common.{◌≡◌, ℕ, ◌+◌, ◌-◌, ◌*◌, ◌/◌, ◌%◌, ◌<◌, ◌≤◌, ◌⊎◌, inl, inr, arith, refl, ap, ◌&&◌, ◌==◌, Bool, true}
 use Rattle.std.proofs.lemmas.Bool.{agree_below_at, and_parts, eqb-true}
 use Rattle.std.proofs.Math.Nat.{mul-le-mul_right}
-use Rattle.moc_sphere.specs.Sides.{Meets}
+use Rattle.moc_sphere.specs.Private.Sides.{Meets}
 use Rattle.moc_sphere.specs.Rings.{row_factor, column_factor}
 use Rattle.moc_sphere.specs.Touching.{corner_row, belt_column}
 use Rattle.moc_sphere.proofs.Lattice.{Hop, split, same_rest}

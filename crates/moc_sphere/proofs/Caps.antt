@@ -1,7 +1,7 @@
 -- The polar caps: four triangles round a pole, each m long at m rows from it.
 use Rattle.std.proofs.Common.{◌≡◌, ℕ, ◌+◌, ◌-◌, ◌*◌, ◌%◌, ◌<◌, ◌≤◌, ◌⊎◌, inl, inr, arith}
 use Rattle.std.proofs.Math.Nat.{mul-le-mul_right}
-use Rattle.moc_sphere.specs.Sides.{Meets}
+use Rattle.moc_sphere.specs.Private.Sides.{Meets}
 use Rattle.moc_sphere.proofs.Lattice.{Split, split, same_rest}
 
 -- The places s of the triangle a and t of the triangle c are one, on a circle of four.

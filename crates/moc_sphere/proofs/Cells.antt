@@ -1,6 +1,6 @@
 -- From corners to cells: two cells share a corner exactly where the one lies beside the other.
 use Rattle.std.proofs.Common.{◌≡◌, ℕ, ◌+◌, ◌-◌, ◌<◌, ◌≤◌, inl, inr, arith, refl, max}
-use Rattle.moc_sphere.specs.Sides.{Meets, IsBeside, IsBeyondNorthEast, IsBeyondSouthWest, IsBeyondNorthWest, IsBeyondSouthEast, IsBeyondNorth, IsBeyondSouth, IsBeyondEast, IsBeyondWest}
+use Rattle.moc_sphere.specs.Private.Sides.{Meets, IsBeside, IsBeyondNorthEast, IsBeyondSouthWest, IsBeyondNorthWest, IsBeyondSouthEast, IsBeyondNorth, IsBeyondSouth, IsBeyondEast, IsBeyondWest}
 use Rattle.moc_sphere.proofs.Shared.{IsCorner}
 
 -- the cell (z, w) lies beyond a side, at a place p along it that is at most one from the place u

@@ -3,7 +3,7 @@ use Rattle.std.proofs.Common.{◌≡◌, ◌≢◌, ℕ, zero, suc, ◌+◌, ◌
 use Rattle.std.specs.List.Sorted.{IsStrictlyIncreasing}
 use Rattle.moc_sphere.specs.CellNumber.{cell_count}
 use Rattle.moc_sphere.specs.Faces.{face_of, x_of, y_of, spread_of}
-use Rattle.moc_sphere.specs.Sums.{sum_at}
+use Rattle.moc_sphere.specs.Private.Sums.{sum_at}
 use Rattle.moc_sphere.specs.Touching.{Touches}
 use Rattle.moc_sphere.proofs.CellFacts.{index_code, index_fits}
 use Rattle.moc_sphere.proofs.FaceBounds.{side_positive}

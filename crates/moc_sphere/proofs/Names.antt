@@ -2,7 +2,7 @@
 use Rattle.std.proofs.Common.{◌≡◌, ℕ, ◌+◌, ◌-◌, ◌*◌, ◌%◌, ◌<◌, ◌≤◌, ◌⊎◌, inl, inr, arith, refl, ap, ◌∙◌, sym}
 use Rattle.std.proofs.lemmas.Bool.{cases_lt}
 use Rattle.std.proofs.Math.Nat.{add-mod_right}
-use Rattle.moc_sphere.specs.Sides.{Meets}
+use Rattle.moc_sphere.specs.Private.Sides.{Meets}
 use Rattle.moc_sphere.specs.Rings.{column_factor}
 use Rattle.moc_sphere.specs.Touching.{corner_row, corner_column, belt_column, polar_column}
 use Rattle.moc_sphere.proofs.Shared.{IsSamePoint}

@@ -1,7 +1,7 @@
 -- Two corners are one point of the sphere exactly where the one is a name of the other.
 use Rattle.std.proofs.Common.{◌≡◌, ℕ, ◌+◌, ◌-◌, ◌*◌, ◌<◌, ◌≤◌, ◌⊎◌, inl, inr, arith, ap, ◌∙◌, sym}
 use Rattle.std.proofs.lemmas.Bool.{cases_lt}
-use Rattle.moc_sphere.specs.Sides.{Meets}
+use Rattle.moc_sphere.specs.Private.Sides.{Meets}
 use Rattle.moc_sphere.specs.Touching.{corner_row, polar_column}
 use Rattle.moc_sphere.proofs.Shared.{IsSamePoint}
 use Rattle.moc_sphere.proofs.Belt.{Meets-belt}

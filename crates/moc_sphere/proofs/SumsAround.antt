@@ -3,7 +3,7 @@ use Rattle.std.proofs.Common.{◌≡◌, ◌≢◌, ℕ, zero, suc, ◌<◌, ◌
 use Rattle.std.specs.List.Sorted.{IsStrictlyIncreasing, IsPermutation}
 use Rattle.std.proofs.lemmas.Bool.{cases_lt}
 use Rattle.std.proofs.lemmas.List.Sorted.{IsPermutation-refl, IsPermutation-sym, IsPermutation-swap, IsPermutation-append_right, IsPermutation-trans, Contains-permutation}
-use Rattle.moc_sphere.specs.Sums.{sum_at}
+use Rattle.moc_sphere.specs.Private.Sums.{sum_at}
 
 -- ---- what the comparisons settle: of the sums beside the middle one, p and q come before it, s and t after it
 pub record IsOrdered (z p q m n s t w : ℕ) (A B C D E F b c d e : ℕ) : Type 0 where

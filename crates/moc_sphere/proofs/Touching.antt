@@ -3,7 +3,7 @@ use Rattle.std.proofs.Common.{◌≡◌, ℕ, ◌+◌, ◌*◌, ◌/◌, ◌%◌
 use Rattle.moc_sphere.specs.Faces.{face_of, x_of, y_of}
 use Rattle.moc_sphere.specs.Touching.{Touches}
 use Rattle.moc_sphere.proofs.Shared.{Touches-from_shared, shared_from_Touches}
-use Rattle.moc_sphere.specs.Sides.{IsBeside}
+use Rattle.moc_sphere.specs.Private.Sides.{IsBeside}
 use Rattle.moc_sphere.proofs.Points.{Meets-from_same_point}
 use Rattle.moc_sphere.proofs.Names.{same_point-from_Meets}
 use Rattle.moc_sphere.proofs.Cells.{Reaches, Reaches-from_corners, Shared-from_beside, apart_from_beside}

@@ -2,7 +2,7 @@
 use Rattle.std.proofs.Common.{◌≡◌, ℕ, ◌+◌, ◌-◌, MatchOption, arith, inl, inr}
 use Rattle.std.specs.Prelude.{Option, Some, None}
 use Rattle.moc_sphere.specs.declared.sides.Place.{Place}
-use Rattle.moc_sphere.specs.Sides.{IsBeside, IsBeyondNorth, IsBeyondSouth}
+use Rattle.moc_sphere.specs.Private.Sides.{IsBeside, IsBeyondNorth, IsBeyondSouth}
 
 pub beside_south : (n f s t : ℕ) (o : Option Place) → s ≡ 0 → t ≡ 0
     → MatchOption o ((g z w : ℕ) → IsBeyondSouth (n - 1) f g z w → ⊥) (λ to. IsBeyondSouth (n - 1) f to.face to.x to.y)

@@ -1,5 +1,5 @@
 use Rattle.std.proofs.Common.{◌≢◌, ℕ, ◌<◌, arith}
-use Rattle.moc_sphere.specs.Sums.{sum_at}
+use Rattle.moc_sphere.specs.Private.Sums.{sum_at}
 use Rattle.moc_sphere.proofs.SumsAround.{ordered, sums_kept, has_sums, eight_rise}
 use Rattle.moc_sphere.proofs.rising.sums_around.Goals as goal
 

@@ -1,4 +1,3 @@
--- Only the contracts of private functions cite this file.
 -- The nine sums of a number of one list of three and a number of another.
 use Rattle.std.specs.Prelude.{ℕ, ◌+◌, ◌/◌, ◌%◌, List, slice_index}
 

@@ -1,0 +1,4 @@
+-- Words that the contracts of private functions cite, and no public one.
+pub mod RingFormula
+pub mod Sides
+pub mod Sums
