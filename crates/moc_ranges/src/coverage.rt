@@ -8,8 +8,8 @@ ghost use Rattle.moc_ranges.specs.Operations.{symmetric, complement, part_of, me
 ghost use Rattle.moc_ranges.specs.Pixels.{pixel_count, pixels};
 ghost use Rattle.moc_ranges.specs.Cells.{cells_of, degrade, span};
 ghost use Rattle.moc_ranges.specs.Numbers.{numbers};
-ghost use Rattle.moc_ranges.specs.Bounds.{IsBounds};
-ghost use Rattle.moc_ranges.specs.Sweep.{IsCombined};
+ghost use Rattle.moc_ranges.specs.Private.Bounds.{IsBounds};
+ghost use Rattle.moc_ranges.specs.Private.Sweep.{IsCombined};
 
 use crate::cells::{orders_with_cells, push_cells_of_order};
 use crate::errors::{Memory, RangesError};
@@ -40,7 +40,7 @@ impl Model for Coverage {
     ghost use Rattle.std.specs.FinSet as set;
     ghost use Rattle.std.specs.Coded.{coded_ℕ};
     ghost use Rattle.moc_ranges.specs.RangeList.{set_of};
-    ghost use Rattle.moc_ranges.specs.Bounds.{IsBounds, pairs_of};
+    ghost use Rattle.moc_ranges.specs.Private.Bounds.{IsBounds, pairs_of};
 
     ghost Value = { set.FinSet nat_cmp };
 

@@ -1,12 +1,12 @@
 //! From pairs in any order to the bounds of their union, and from ranges to the cells that they meet.
 ghost use Rattle.std.specs.Prelude.{◌≡◌, ℕ, ◌*◌, ◌<◌, ◌≤◌, ◌++◌, ◌||◌, ◌&&◌, ◌∷◌, [], List, map, IfOk, IfErr, OnOk, OnErr, None, Some};
 ghost use Rattle.moc_ranges.specs.Faults.{first_fault};
-ghost use Rattle.moc_ranges.specs.Sorted.{IsSortedFrom};
+ghost use Rattle.moc_ranges.specs.Private.Sorted.{IsSortedFrom};
 ghost use Rattle.moc_ranges.specs.RangeList.{in_range, in_ranges, IsNormal};
 ghost use Rattle.moc_ranges.specs.Pixels.{pixel_count};
-ghost use Rattle.moc_ranges.specs.Widen.{IsCellSize, widen};
-ghost use Rattle.moc_ranges.specs.Bounds.{IsBounds, inside};
-ghost use Rattle.moc_ranges.specs.Joining.{Joining};
+ghost use Rattle.moc_ranges.specs.Private.Widen.{IsCellSize, widen};
+ghost use Rattle.moc_ranges.specs.Private.Bounds.{IsBounds, inside};
+ghost use Rattle.moc_ranges.specs.Private.Joining.{Joining};
 
 use crate::coverage::PIXEL_COUNT;
 use crate::errors::RangesError;

@@ -1,6 +1,6 @@
 use Rattle.std.proofs.Common.{◌++◌, ◌-◌, sym, subst, ◌∙◌, arith, add-one}
 use Rattle.moc_ranges.specs.Numbers.{NumberSet}
-use Rattle.moc_ranges.specs.CellRuns.{HasOrders, cells_at}
+use Rattle.moc_ranges.specs.Private.CellRuns.{HasOrders, cells_at}
 use Rattle.moc_ranges.proofs.CellOrders.{cells_step, cells_before, cells_after}
 use Rattle.moc_ranges.proofs.coverage.Coverage.cells.Goals as goal
 
