@@ -8,7 +8,7 @@ ghost use Rattle.moc_ranges.specs.Operations.{symmetric, complement, part_of, me
 ghost use Rattle.moc_ranges.specs.Pixels.{pixel_count, pixels};
 ghost use Rattle.moc_ranges.specs.Cells.{cells_of, degrade, span};
 ghost use Rattle.moc_ranges.specs.Numbers.{numbers};
-ghost use Rattle.moc_ranges.specs.Private.Bounds.{IsBounds};
+ghost use Rattle.moc_ranges.specs.Private.Bounds.{IsBounds, pairs_of};
 ghost use Rattle.moc_ranges.specs.Private.Sweep.{IsCombined};
 
 use crate::cells::{orders_with_cells, push_cells_of_order};
@@ -123,7 +123,7 @@ impl Coverage {
     {
         let pairs = sorted(alloc, pairs)?;
         let bounds = joined(alloc, &pairs)?;
-        Ok(Coverage { bounds })
+        Ok(Coverage::stored(bounds))
     }
 
     /// Adds the pixels from one up to, not including, another, where they do not begin before the last range, and answers
@@ -136,6 +136,19 @@ impl Coverage {
         ensures kept { OnErr result (self.new ≡ self.old) }
     {
         append(&mut self.bounds, from, to)
+    }
+
+    /// The set that these bounds store. Room that they leave free is given back where it is more than they fill.
+    #[inline]
+    fn stored(bounds: Vec<u64>) -> Coverage
+        requires { IsBounds bounds.items }
+        ensures { result ≡ set_of (pairs_of bounds.items) }
+    {
+        let mut bounds = bounds;
+        if bounds.capacity() / 2 > bounds.len() {
+            bounds.shrink_to_fit();
+        }
+        Coverage { bounds }
     }
 
     /// How many ranges the set has.
@@ -270,7 +283,7 @@ impl Coverage {
         ensures { IfOk result (λ c. c ≡ degrade self.now order) }
     {
         let bounds = joined_cells(alloc, order.cell_size(), self.ranges())?;
-        Ok(Coverage { bounds })
+        Ok(Coverage::stored(bounds))
     }
 
     /// How many pixels of order 29 two sets have in common. One pass over the ranges of each that reach into the extent of
@@ -338,7 +351,7 @@ impl Coverage {
         ensures within { IsWithin self.now pixels }
     {
         let (first, end) = orders_with_cells(self.ranges());
-        let mut cells = Vec::new(alloc);
+        let mut cells = Vec::with_capacity(alloc, self.range_count())?;
         for level in first..end {
             push_cells_of_order(&mut cells, Order::of(level), self.ranges())?;
         }
@@ -393,5 +406,5 @@ fn combined(alloc: Global, rule: Rule, xs: &[u64], ys: &[u64]) -> Result<Coverag
     ensures { IfOk result (λ c. IsCombined rule xs.now ys.now c) }
 {
     let bounds = sweep(alloc, rule, xs, ys)?;
-    Ok(Coverage { bounds })
+    Ok(Coverage::stored(bounds))
 }

@@ -156,7 +156,7 @@ pub fn joined_cells(
     ensures bounds { IfOk result (λ v. IsBounds v.items) }
     ensures set { IfOk result (λ v. (q : ℕ) → inside v.items q ≡ in_ranges (map (widen size) ranges.entry) q) }
 {
-    let bounds = Vec::new(alloc);
+    let bounds = Vec::with_capacity(alloc, ranges.size_hint().0.saturating_mul(2))?;
     let Some((first, last)) = ranges.next() else {
         return Ok(bounds);
     };

@@ -12,6 +12,6 @@ joined_cells-requires c = record {
 }
 
 pub returns : goal.returns
-returns c = view_from_members _ _ c.in_ok-bounds.ensures.bounds
+returns c = c.stored.ensures ∙ view_from_members _ _ c.in_ok-bounds.ensures.bounds
     (λ q. c.in_ok-bounds.ensures.set q ∙ ap (λ (size : ℕ). in_ranges (map (widen size) c.ranges-2.result) q) c.cell_size.ensures.size
     ∙ degraded c.args.order c.ranges-2.result c.args.self.now q c.cell_size.ensures.in_range c.ranges-2.ensures.normal c.ranges-2.ensures.set)
