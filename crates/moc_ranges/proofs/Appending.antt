@@ -10,7 +10,7 @@ use Rattle.moc_ranges.specs.Numbers.{NumberSet, numbers, contains-numbers}
 use Rattle.moc_ranges.specs.Pixels.{pixel_count}
 use Rattle.moc_ranges.specs.RangeList.{in_range, set_of}
 use Rattle.moc_ranges.proofs.Views.{view_from_members}
-use Rattle.moc_ranges.specs.Bounds.{inside, pairs_of, AllFrom, AllBelow, IsRising, IsBounds}
+use Rattle.moc_ranges.specs.Private.Bounds.{inside, pairs_of, AllFrom, AllBelow, IsRising, IsBounds}
 use Rattle.moc_ranges.proofs.Joining.{grown, inside_closed, length_closed, rising_closed, below_closed, or_false}
 
 -- bounds to which a range was added

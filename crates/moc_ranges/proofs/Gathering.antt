@@ -8,7 +8,8 @@ use Rattle.moc_sphere.specs.CellNumber.{cell_count, cell_size, cell_number, IsIn
 use Rattle.moc_ranges.specs.Numbers.{NumberSet, numbers, contains-numbers, same_members}
 use Rattle.moc_ranges.specs.Pixels.{pixel_count}
 use Rattle.moc_ranges.specs.Cells.{span, spans, contains-spans}
-use Rattle.moc_ranges.specs.Faults.{first_fault_from, fault_of, first_of_two}
+use Rattle.std.specs.Option.{option_or}
+use Rattle.moc_ranges.specs.Faults.{first_fault_from, pair_fault}
 use Rattle.moc_ranges.specs.RangeList.{set_of, contains-set_of}
 use Rattle.moc_ranges.specs.Laws.{empty-union, union-empty, union-assoc, row_of_cells}
 use Rattle.moc_ranges.proofs.Sorting.{in_ranges-push, no_fault_parts}
@@ -78,5 +79,5 @@ no_row a k first last none = same_members _ _ (λ q. sym (set.contains-union nat
 pub faultless-push : (at : ℕ) (pairs : List (ℕ × ℕ)) (pair : ℕ × ℕ) → first_fault_from at pairs ≡ None → pair.0 ≤ pair.1 → pair.1 ≤ pixel_count → first_fault_from at (pairs ++ pair ∷ []) ≡ None
 faultless-push at [] pair none rising within = grind (arith, nat_tests)
 faultless-push at (p ∷ pairs) pair none rising within =
-    let parts = no_fault_parts (fault_of at p) (first_fault_from (at + 1) pairs) none in
-    ap (λ f. first_of_two f (first_fault_from (at + 1) (pairs ++ pair ∷ []))) parts.0 ∙ faultless-push (at + 1) pairs pair parts.1 rising within
+    let parts = no_fault_parts (pair_fault at p) (first_fault_from (at + 1) pairs) none in
+    ap (λ f. option_or f (first_fault_from (at + 1) (pairs ++ pair ∷ []))) parts.0 ∙ faultless-push (at + 1) pairs pair parts.1 rising within

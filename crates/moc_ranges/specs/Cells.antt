@@ -1,9 +1,9 @@
 -- Cells of every order, and what they have to do with a set of pixels (MOC 2.0).
-use Rattle.std.specs.Prelude.{◌≡◌, ℕ, zero, suc, ◌-◌, ◌/◌, Bool, not, ◌&&◌, ◌||◌, List, [], ◌∷◌, ◌++◌, map, nat_eq, nat_le, nat_lt}
+use Rattle.std.specs.Prelude.{◌≡◌, ℕ, zero, suc, ◌+◌, ◌-◌, ◌*◌, ◌/◌, ◌≤◌, ⊤, Bool, not, ◌&&◌, ◌||◌, List, [], ◌∷◌, ◌++◌, map, nat_eq, nat_le, nat_lt}
 use Rattle.std.specs.FinSet as set
 use Rattle.std.specs.List.{filter, range_with_len}
 use Rattle.std.proofs.Common.{◌∙◌, ap, sym}
-use Rattle.moc_sphere.specs.CellNumber.{CellNumber, cell_number, cell_count, cell_size}
+use Rattle.moc_sphere.specs.CellNumber.{CellNumber, cell_number, cell_count, cell_size, uniq_of}
 use Rattle.moc_ranges.specs.Numbers.{NumberSet}
 use Rattle.moc_ranges.specs.Pixels.{pixel_count, pixels}
 use Rattle.moc_ranges.specs.Operations.{meets, contains-pixels}
@@ -14,7 +14,8 @@ span order index = set.retain pixels (λ p. nat_eq (p / cell_size order) index)
 
 -- the pixels of the cells of an order from the first to the last, both included
 unfoldable pub spans : ℕ → ℕ → ℕ → NumberSet
-spans order first last = set.retain pixels (λ p. nat_le first (p / cell_size order) && nat_le (p / cell_size order) last)
+spans order first last =
+    set.retain pixels (λ p. nat_le first (p / cell_size order) && nat_le (p / cell_size order) last)
 
 -- the pixels of cells
 unfoldable pub pixels_of : List CellNumber → NumberSet
@@ -25,11 +26,15 @@ pixels_of (c ∷ cells) = set.union (span c.order c.index) (pixels_of cells)
 unfoldable pub degrade : NumberSet → ℕ → NumberSet
 degrade a order = set.retain pixels (λ p. meets a (span order (p / cell_size order)))
 
--- whether a cell is one of a set's: its pixels are in the set, and it is of order 0 or its parent's pixels are not all in the set
+-- whether a cell is one of a set's: its pixels are in the set, and it is of order 0 or its parent's
+-- pixels are not all in the set
 unfoldable pub is_cell_of : NumberSet → CellNumber → Bool
-is_cell_of a c = set.is_subset (span c.order c.index) a && (nat_eq c.order 0 || not (set.is_subset (span (c.order - 1) (c.index / 4)) a))
+is_cell_of a c =
+    set.is_subset (span c.order c.index) a
+    && (nat_eq c.order 0 || not (set.is_subset (span (c.order - 1) (c.index / 4)) a))
 
--- the cells of the orders below `orders`, in rising NUNIQ: order after order, and within an order by rising index
+-- the cells of the orders below `orders`, in rising NUNIQ: order after order, and within an order
+-- by rising index
 unfoldable pub cells_below : ℕ → List CellNumber
 cells_below zero = []
 cells_below (suc k) = cells_below k ++ map (cell_number k) (range_with_len 0 (cell_count k))
@@ -37,6 +42,20 @@ cells_below (suc k) = cells_below k ++ map (cell_number k) (range_with_len 0 (ce
 -- the cells of a set, in rising NUNIQ (MOC 2.0: the normal form)
 unfoldable pub cells_of : NumberSet → List CellNumber
 cells_of a = filter (is_cell_of a) (cells_below 30)
+
+-- the pixels of a cell, from the first up to, not including, the one after the last
+abbrev pub cell_range : CellNumber → ℕ × ℕ
+cell_range c = (c.index * cell_size c.order, (c.index + 1) * cell_size c.order)
+
+-- each cell's NUNIQ number is at least `low`
+abbrev pub AllUniqFrom : ℕ → List CellNumber → Type 0
+AllUniqFrom low [] = ⊤
+AllUniqFrom low (c ∷ cells) = (low ≤ uniq_of c) × AllUniqFrom low cells
+
+-- each cell has a greater NUNIQ number than those before it
+abbrev pub IsRisingUniq : List CellNumber → Type 0
+IsRisingUniq [] = ⊤
+IsRisingUniq (c ∷ cells) = AllUniqFrom (uniq_of c + 1) cells × IsRisingUniq cells
 
 pub contains-span : (order index q : ℕ) → set.contains (span order index) q ≡ (nat_lt q pixel_count && nat_eq (q / cell_size order) index)
 unfolding span

@@ -3,7 +3,7 @@ use Rattle.std.specs.FinSet as set
 use Rattle.std.proofs.lemmas.Result.{IfOk-weaker}
 use Rattle.moc_ranges.specs.Numbers.{numbers}
 use Rattle.moc_ranges.specs.RangeList.{set_of, in_range}
-use Rattle.moc_ranges.specs.Bounds.{inside, pairs_of}
+use Rattle.moc_ranges.specs.Private.Bounds.{inside, pairs_of}
 use Rattle.moc_ranges.proofs.Views.{contains_view}
 use Rattle.moc_ranges.proofs.Appending.{appended_view}
 use Rattle.moc_ranges.proofs.coverage.Coverage.append.Goals as goal

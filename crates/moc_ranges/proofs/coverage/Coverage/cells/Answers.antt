@@ -1,6 +1,6 @@
 use Rattle.std.proofs.Common.{◌++◌, ◌-◌, sym, subst, ◌∙◌, arith, add-one}
 use Rattle.moc_ranges.specs.Numbers.{NumberSet}
-use Rattle.moc_ranges.specs.CellRuns.{HasOrders, cells_at}
+use Rattle.moc_ranges.specs.Private.CellRuns.{HasOrders, cells_at}
 use Rattle.moc_ranges.proofs.CellOrders.{cells_step, cells_before, cells_after}
 use Rattle.moc_ranges.proofs.coverage.Coverage.cells.Goals as goal
 
@@ -9,7 +9,7 @@ loop-level-init c =
     let first = c.orders_with_cells-first.result.0 in
     let orders = subst (λ (a : NumberSet). HasOrders a first c.orders_with_cells-first.result.1) c.ranges-2.ensures.set c.orders_with_cells-first.ensures in
     record {
-      found = c.new-cells.ensures.items ∙ sym (cells_before c.args.self.now first _ first orders (omega arith) orders.first_in_range);
+      found = c.in_ok-cells.ensures.items ∙ sym (cells_before c.args.self.now first _ first orders (omega arith) orders.first_in_range);
       within = omega arith;
     }
 

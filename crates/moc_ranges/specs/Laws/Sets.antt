@@ -1,0 +1,17 @@
+-- Laws of sets of pixels.
+use Rattle.std.specs.Prelude.{◌≡◌, Bool, true, false, not, ◌&&◌, nat_lt}
+use Rattle.std.specs.FinSet as set
+use Rattle.std.proofs.Common.{◌∙◌, ap, sym, refl}
+use Rattle.moc_ranges.specs.Numbers.{same_members, NumberSet}
+use Rattle.moc_ranges.specs.Pixels.{pixel_count, pixels}
+use Rattle.moc_ranges.specs.Operations.{complement, contains-complement, contains-pixels, IsWithin}
+
+double_not : (x a : Bool) → (a ≡ true → x ≡ true) → (x && not (x && not a)) ≡ a
+double_not true true say = refl
+double_not true false say = refl
+double_not false true say = say refl
+double_not false false say = refl
+
+-- the complement of the complement of a set of pixels is the set
+pub complement_twice : (a : NumberSet) → IsWithin a pixels → complement (complement a) ≡ a
+complement_twice a within = same_members _ _ (λ q. contains-complement (complement a) q ∙ ap (λ b. nat_lt q pixel_count && not b) (contains-complement a q) ∙ double_not (nat_lt q pixel_count) (set.contains a q) (λ has. sym (contains-pixels q) ∙ within.each q has))
