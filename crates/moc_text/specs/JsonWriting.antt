@@ -1,25 +1,22 @@
--- How far the writing of a JSON text has come. The contracts of private functions cite it; no public clause does.
+-- How far the writing of a JSON text has come. Contracts of private functions alone cite it.
 use Rattle.std.specs.Prelude.{◌≡◌, ℕ, ◌≤◌, ◌==◌, if◌then◌else◌, List, [], ◌∷◌, Option}
 use Rattle.serde_json.specs.Data.{Data, Members}
 use Rattle.moc_sphere.specs.CellNumber.{CellNumber}
 use Rattle.moc_text.specs.JsonText.{datum, data_at, members_below}
+use Rattle.moc_text.specs.Writing.{AreRising}
 
--- the cells' orders rise, from an order on
-abbrev pub AreRising : ℕ → List CellNumber → Type 0
-AreRising k [] = Unit {0}
-AreRising k (c ∷ cells) = (k ≤ c.order) × AreRising c.order cells
-
--- the numbers of the cells of an order at the front, and the cells after them
+-- the numbers of the cells of an order at the front
 abbrev pub front_data : ℕ → List CellNumber → List Data
 front_data k [] = []
 front_data k (c ∷ cells) = if c.order == k then datum c ∷ front_data k cells else []
 
+-- the cells after those of an order at the front
 abbrev pub past_order : ℕ → List CellNumber → List CellNumber
 past_order k [] = []
 past_order k (c ∷ cells) = if c.order == k then past_order k cells else c ∷ cells
 
 -- The cells of the orders below a depth are in the members, and the others are left.
-pub record MembersSoFar (cells rest : List CellNumber) (stated : Option ℕ) (depth : ℕ) (members : Members) : Type 0 where
+pub record MembersSoFar (cells rest : List CellNumber) (bare : Option ℕ) (depth : ℕ) (members : Members) : Type 0 where
   pub rising : AreRising depth rest
   pub left : (k : ℕ) → depth ≤ k → data_at k rest ≡ data_at k cells
-  pub are : members ≡ members_below cells stated depth
+  pub are : members ≡ members_below cells bare depth

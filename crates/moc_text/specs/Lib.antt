@@ -11,3 +11,7 @@ pub mod JsonForm
 pub mod JsonScan
 pub mod JsonText
 pub mod JsonWriting
+pub mod Faults
+pub use Rattle.moc_sphere.specs.CellNumber
+pub use Rattle.moc_ranges.specs.Numbers
+pub use Rattle.moc_ranges.specs.Cells
