@@ -12,8 +12,8 @@ use Rattle.moc_sphere.specs.CellNumber.{cell_number, cell_count, cell_size, cell
 use Rattle.moc_ranges.specs.RangeList.{set_of, IsNormal}
 use Rattle.moc_ranges.specs.Cells.{is_cell_of, cells_below, cells_of}
 use Rattle.moc_ranges.specs.Numbers.{NumberSet}
-use Rattle.moc_ranges.specs.CellLaws.{four_parts}
-use Rattle.moc_ranges.specs.CellRuns.{HasOrders, cells_at}
+use Rattle.moc_ranges.specs.Laws.Cells.{four_parts}
+use Rattle.moc_ranges.specs.Private.CellRuns.{HasOrders, cells_at}
 use Rattle.moc_ranges.proofs.CellRuns.{fits, fits_any, fits_from, fits_parts, is_part, part_at, is_cell_any, two_pow, filter-map, filter_none}
 
 -- both bounds of each range are multiples of n

@@ -12,10 +12,11 @@ use Rattle.std.proofs.lemmas.Nat.{div_below, le-div, div-add-mod', mod_below}
 use Rattle.std.proofs.Math.Nat.{mul-le-mul_right, div-mul-le_self, pow-succ', pow-le-pow_right}
 use Rattle.moc_sphere.specs.CellNumber.{cell_number, cell_count, cell_size, cell_size-positive, cell_size-fills}
 use Rattle.moc_ranges.specs.Pixels.{pixel_count}
-use Rattle.moc_ranges.specs.RangeList.{set_of, contains-set_of, in_ranges, IsNormal, BeginsAfter, LiesInOne, lies_in_one}
+use Rattle.moc_ranges.specs.RangeList.{set_of, contains-set_of, in_ranges, IsNormal, BeginsAfter}
+use Rattle.moc_ranges.specs.Laws.Ranges.{LiesInOne, lies_in_one}
 use Rattle.moc_ranges.specs.Cells.{span, contains-span, is_cell_of}
-use Rattle.moc_ranges.specs.CellLaws.{in_span, same_truth, four_parts, in_cell_range}
-use Rattle.moc_ranges.specs.CellRuns.{cells_at, cells_between, AreWhole}
+use Rattle.moc_ranges.specs.Laws.Cells.{in_span, same_truth, four_parts, in_cell_range}
+use Rattle.moc_ranges.specs.Private.CellRuns.{cells_at, cells_between, AreWhole}
 
 -- ---- filters of numbers in a row
 

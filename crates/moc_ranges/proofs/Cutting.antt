@@ -5,8 +5,8 @@ use Rattle.std.proofs.lemmas.List.{take-append-drop, length-take-le}
 use Rattle.std.proofs.lemmas.Bool.{cases_lt, leb-true, leb-false, ltb-true, ltb-false, le-leb, lt-leb, lt-ltb, le-ltb, and_from, and_left, and_right}
 use Rattle.std.proofs.lemmas.Bool.Decides.{nat_tests}
 use Rattle.moc_ranges.specs.declared.sweep.Rule.{Rule}
-use Rattle.moc_ranges.specs.Bounds.{is_odd, up_to, inside, AllFrom, AllBelow, IsRising}
-use Rattle.moc_ranges.specs.Sweep.{IsSwept}
+use Rattle.moc_ranges.specs.Private.Bounds.{is_odd, up_to, inside, AllFrom, AllBelow, IsRising}
+use Rattle.moc_ranges.specs.Private.Sweep.{IsSwept}
 use Rattle.moc_ranges.proofs.Counts.{up_to-append, up_to-all, up_to-none, AllBelow-more, AllBelow-append, IsRising-append}
 use Rattle.moc_ranges.proofs.Views.{inside_one, both_keeps, even_inside}
 

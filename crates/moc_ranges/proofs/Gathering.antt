@@ -1,21 +1,69 @@
--- Ranges that are gathered one after the other.
-use Rattle.std.proofs.Common.{◌≡◌, ℕ, ◌+◌, ◌<◌, ◌≤◌, Bool, true, false, ◌||◌, List, [], ◌∷◌, ◌++◌, refl, sym, ap, ◌∙◌, arith}
+-- Gathering cells: what is joined, and what waits.
+use Rattle.std.proofs.Common.{◌≡◌, ℕ, ◌+◌, ◌*◌, ◌<◌, ◌≤◌, ◌↔◌, Bool, true, false, ◌||◌, List, [], ◌∷◌, ◌++◌, length, refl, sym, ap, ◌∙◌, arith}
 use Rattle.std.specs.Prelude.{None}
 use Rattle.std.specs.FinSet as set
 use Rattle.std.specs.Cmp.{nat_cmp_total}
 use Rattle.std.proofs.lemmas.Bool.Decides.{nat_tests}
-use Rattle.moc_ranges.specs.Numbers.{NumberSet, same_members}
+use Rattle.moc_sphere.specs.CellNumber.{cell_count, cell_size, cell_number, IsInSpan}
+use Rattle.moc_ranges.specs.Numbers.{NumberSet, numbers, contains-numbers, same_members}
 use Rattle.moc_ranges.specs.Pixels.{pixel_count}
-use Rattle.moc_ranges.specs.Cells.{spans, contains-spans}
-use Rattle.moc_ranges.specs.Faults.{first_fault_from, fault_of, first_of_two}
-use Rattle.moc_ranges.specs.RangeList.{set_of, contains-set_of, in_range}
+use Rattle.moc_ranges.specs.Cells.{span, spans, contains-spans}
+use Rattle.std.specs.Option.{option_or}
+use Rattle.moc_ranges.specs.Faults.{first_fault_from, pair_fault}
+use Rattle.moc_ranges.specs.RangeList.{set_of, contains-set_of}
+use Rattle.moc_ranges.specs.Laws.{empty-union, union-empty, union-assoc, row_of_cells}
 use Rattle.moc_ranges.proofs.Sorting.{in_ranges-push, no_fault_parts}
+use Rattle.moc_ranges.proofs.Spans.{span_view}
 
-pub set_of-push : (ranges : List (ℕ × ℕ)) (range : ℕ × ℕ) (added : NumberSet) → ((q : ℕ) → in_range range q ≡ set.contains added q) → set_of (ranges ++ range ∷ []) ≡ set.union (set_of ranges) added
-set_of-push ranges range added same = same_members _ _ (λ q.
+in_union : (a b : NumberSet) (q : ℕ) → set.contains (set.union a b) q ≡ (set.contains a q || set.contains b q)
+in_union a b q = set.contains-union nat_cmp_total a b q
+
+-- nothing is gathered yet
+pub none_gathered : set.union set.empty (set_of []) ≡ set.empty
+unfolding set_of
+none_gathered = empty-union set.empty
+
+-- nothing waits
+pub none_waits : (joined : NumberSet) → set.union joined (set_of []) ≡ joined
+unfolding set_of
+none_waits joined = union-empty joined
+
+pub none_waits-length : (joined : NumberSet) (waiting : List (ℕ × ℕ)) → length waiting ≡ 0 → joined ≡ set.union joined (set_of waiting)
+none_waits-length joined [] none = sym (none_waits joined)
+none_waits-length joined (range ∷ waiting) none = absurd (omega arith)
+
+or_swap : (a b c : Bool) → ((a || b) || c) ≡ ((a || c) || b)
+or_swap true b c = refl
+or_swap false true true = refl
+or_swap false true false = refl
+or_swap false false true = refl
+or_swap false false false = refl
+
+-- a range more is joined
+pub joined_more : (joined waiting added : NumberSet) → set.union (set.union joined added) waiting ≡ set.union (set.union joined waiting) added
+joined_more joined waiting added = same_members _ _ (λ q.
+    in_union (set.union joined added) waiting q ∙ ap (λ b. b || set.contains waiting q) (in_union joined added q)
+    ∙ or_swap (set.contains joined q) (set.contains added q) (set.contains waiting q)
+    ∙ sym (in_union (set.union joined waiting) added q ∙ ap (λ b. b || set.contains added q) (in_union joined waiting q)))
+
+pub set_of-push : (ranges : List (ℕ × ℕ)) (range : ℕ × ℕ) → set_of (ranges ++ range ∷ []) ≡ set.union (set_of ranges) (numbers range.0 range.1)
+set_of-push ranges range = same_members _ _ (λ q.
     contains-set_of (ranges ++ range ∷ []) q ∙ in_ranges-push ranges range q
-    ∙ (λ i. sym (contains-set_of ranges q) i || same q i)
-    ∙ sym (set.contains-union nat_cmp_total (set_of ranges) added q))
+    ∙ (λ i. sym (contains-set_of ranges q) i || sym (contains-numbers range.0 range.1 q) i)
+    ∙ sym (in_union (set_of ranges) (numbers range.0 range.1) q))
+
+-- a range more waits
+pub waits_more : (joined : NumberSet) (waiting : List (ℕ × ℕ)) (range : ℕ × ℕ) → set.union joined (set_of (waiting ++ range ∷ [])) ≡ set.union (set.union joined (set_of waiting)) (numbers range.0 range.1)
+waits_more joined waiting range = ap (λ a. set.union joined a) (set_of-push waiting range) ∙ sym (union-assoc joined (set_of waiting) (numbers range.0 range.1))
+
+-- the pixels of a cell, as numbers in a row
+pub span_numbers : (order index from to : ℕ) → ((p : ℕ) → ((from ≤ p) × (p < to)) ↔ IsInSpan (cell_number order index) p) → to ≤ pixel_count → numbers from to ≡ span order index
+unfolding set_of
+span_numbers order index from to pixels within = sym (union-empty (numbers from to)) ∙ span_view order index from to pixels within
+
+-- the pixels of cells in a row, as numbers in a row
+pub spans_numbers : (k first last : ℕ) → k ≤ 29 → last < cell_count k → numbers (first * cell_size k) ((last + 1) * cell_size k) ≡ spans k first last
+spans_numbers k first last small fits = same_members _ _ (λ q. contains-numbers (first * cell_size k) ((last + 1) * cell_size k) q ∙ row_of_cells k first last q small fits)
 
 or_nothing : (a b : Bool) → b ≡ false → (a || b) ≡ a
 or_nothing true b none = refl
@@ -31,5 +79,5 @@ no_row a k first last none = same_members _ _ (λ q. sym (set.contains-union nat
 pub faultless-push : (at : ℕ) (pairs : List (ℕ × ℕ)) (pair : ℕ × ℕ) → first_fault_from at pairs ≡ None → pair.0 ≤ pair.1 → pair.1 ≤ pixel_count → first_fault_from at (pairs ++ pair ∷ []) ≡ None
 faultless-push at [] pair none rising within = grind (arith, nat_tests)
 faultless-push at (p ∷ pairs) pair none rising within =
-    let parts = no_fault_parts (fault_of at p) (first_fault_from (at + 1) pairs) none in
-    ap (λ f. first_of_two f (first_fault_from (at + 1) (pairs ++ pair ∷ []))) parts.0 ∙ faultless-push (at + 1) pairs pair parts.1 rising within
+    let parts = no_fault_parts (pair_fault at p) (first_fault_from (at + 1) pairs) none in
+    ap (λ f. option_or f (first_fault_from (at + 1) (pairs ++ pair ∷ []))) parts.0 ∙ faultless-push (at + 1) pairs pair parts.1 rising within

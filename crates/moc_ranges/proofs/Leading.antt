@@ -5,8 +5,8 @@ use Rattle.std.specs.Bool.{OnFalse}
 use Rattle.std.proofs.lemmas.Bool.{OnFalse_at}
 use Rattle.std.proofs.lemmas.List.{take-append-drop}
 use Rattle.moc_ranges.specs.declared.sweep.Rule.{Rule}
-use Rattle.moc_ranges.specs.Bounds.{inside, AllBelow, IsRising}
-use Rattle.moc_ranges.specs.Sweep.{keeps, Leads}
+use Rattle.moc_ranges.specs.Private.Bounds.{inside, AllBelow, IsRising}
+use Rattle.moc_ranges.specs.Private.Sweep.{keeps, Leads}
 use Rattle.moc_ranges.proofs.Cutting.{taken_below, left_at_least, AllBelow-left, IsRising-left, IsRising-drop}
 use Rattle.moc_ranges.proofs.Reaching.{first_least}
 use Rattle.moc_ranges.proofs.Sweeping.{AllFrom-zero, Progress, progress_start}

@@ -4,6 +4,7 @@ pub mod Views
 pub mod Sweeping
 pub mod Rules
 pub mod Joining
+pub mod Appending
 pub mod Sorting
 pub mod Counting
 pub mod Widening

@@ -3,10 +3,10 @@ use Rattle.std.proofs.Common.{◌≡◌, ℕ, zero, suc, ◌+◌, ◌-◌, ◌<�
 use Rattle.std.specs.List.{AllWithin}
 use Rattle.std.proofs.lemmas.List.{take-append-drop, length-take-le, length-drop}
 use Rattle.std.proofs.lemmas.Bool.{false≢true}
-use Rattle.moc_ranges.specs.Bounds.{is_odd, up_to, inside, AllFrom, AllBelow, IsRising, IsBounds}
+use Rattle.moc_ranges.specs.Private.Bounds.{is_odd, up_to, inside, AllFrom, AllBelow, IsRising, IsBounds}
 use Rattle.moc_ranges.specs.Pixels.{pixel_count}
 use Rattle.moc_ranges.specs.declared.sweep.Rule.{Rule}
-use Rattle.moc_ranges.specs.Sweep.{keeps, IsSameWithin}
+use Rattle.moc_ranges.specs.Private.Sweep.{keeps, IsSameWithin}
 use Rattle.moc_ranges.proofs.Counts.{up_to-append, up_to-all, up_to-none, AllFrom-get_or, AllFrom-less}
 use Rattle.moc_ranges.proofs.Cutting.{both, taken_up_to, left_at_least, AllBelow-left, AllBelow-right, IsRising-left, IsRising-right, same_parity}
 use Rattle.moc_ranges.proofs.Views.{even_inside, both_keeps}

@@ -8,12 +8,12 @@ use Rattle.moc_sphere.specs.CellNumber.{cell_size, cell_size-positive, cell_size
 use Rattle.moc_ranges.specs.Numbers.{NumberSet}
 use Rattle.moc_ranges.specs.Operations.{meets-some, meets-none}
 use Rattle.moc_ranges.specs.Cells.{span, degrade, contains-span, contains-degrade}
-use Rattle.moc_ranges.specs.Joining.{Joining}
+use Rattle.moc_ranges.specs.Private.Joining.{Joining}
 use Rattle.moc_ranges.proofs.Joining.{joining_start, IsSortedFrom-less}
 use Rattle.std.proofs.lemmas.Bool.{cases_Bool, false≢true, false_from_ne_true, eqb-true, eq-eqb, or_cases, or_left, or_right, and_parts, and_from, leb-true, ltb-true, le-leb, lt-ltb}
 use Rattle.moc_ranges.specs.Pixels.{pixel_count}
-use Rattle.moc_ranges.specs.Sorted.{IsSortedFrom}
-use Rattle.moc_ranges.specs.Widen.{IsCellSize, widen}
+use Rattle.moc_ranges.specs.Private.Sorted.{IsSortedFrom}
+use Rattle.moc_ranges.specs.Private.Widen.{IsCellSize, widen}
 use Rattle.std.specs.Prelude.{bit_and}
 use Rattle.std.proofs.lemmas.Nat.{pow_pos, shr_below}
 use Rattle.std.proofs.lemmas.Nat.Bits.{and_high}

@@ -1,9 +1,9 @@
 -- Cells of every order, and what they have to do with a set of pixels (MOC 2.0).
-use Rattle.std.specs.Prelude.{◌≡◌, ℕ, zero, suc, ◌-◌, ◌/◌, Bool, not, ◌&&◌, ◌||◌, List, [], ◌∷◌, ◌++◌, map, nat_eq, nat_le, nat_lt}
+use Rattle.std.specs.Prelude.{◌≡◌, ℕ, zero, suc, ◌+◌, ◌-◌, ◌*◌, ◌/◌, ◌≤◌, ⊤, Bool, not, ◌&&◌, ◌||◌, List, [], ◌∷◌, ◌++◌, map, nat_eq, nat_le, nat_lt}
 use Rattle.std.specs.FinSet as set
 use Rattle.std.specs.List.{filter, range_with_len}
 use Rattle.std.proofs.Common.{◌∙◌, ap, sym}
-use Rattle.moc_sphere.specs.CellNumber.{CellNumber, cell_number, cell_count, cell_size}
+use Rattle.moc_sphere.specs.CellNumber.{CellNumber, cell_number, cell_count, cell_size, uniq_of}
 use Rattle.moc_ranges.specs.Numbers.{NumberSet}
 use Rattle.moc_ranges.specs.Pixels.{pixel_count, pixels}
 use Rattle.moc_ranges.specs.Operations.{meets, contains-pixels}
@@ -37,6 +37,20 @@ cells_below (suc k) = cells_below k ++ map (cell_number k) (range_with_len 0 (ce
 -- the cells of a set, in rising NUNIQ (MOC 2.0: the normal form)
 unfoldable pub cells_of : NumberSet → List CellNumber
 cells_of a = filter (is_cell_of a) (cells_below 30)
+
+-- the pixels of a cell, from the first up to, not including, the one after the last
+abbrev pub cell_range : CellNumber → ℕ × ℕ
+cell_range c = (c.index * cell_size c.order, (c.index + 1) * cell_size c.order)
+
+-- each cell's NUNIQ number is at least `low`
+abbrev pub AllUniqFrom : ℕ → List CellNumber → Type 0
+AllUniqFrom low [] = ⊤
+AllUniqFrom low (c ∷ cells) = (low ≤ uniq_of c) × AllUniqFrom low cells
+
+-- each cell has a greater NUNIQ number than those before it
+abbrev pub IsRisingUniq : List CellNumber → Type 0
+IsRisingUniq [] = ⊤
+IsRisingUniq (c ∷ cells) = AllUniqFrom (uniq_of c + 1) cells × IsRisingUniq cells
 
 pub contains-span : (order index q : ℕ) → set.contains (span order index) q ≡ (nat_lt q pixel_count && nat_eq (q / cell_size order) index)
 unfolding span

@@ -1,4 +1,8 @@
 -- Laws of pixels and their cells, for the proofs of callers.
+pub mod Cells
+pub mod Ranges
+pub mod Sets
+pub mod Sizes
 use Rattle.std.proofs.Common.{◌≡◌, ℕ, ◌/◌, ◌*◌, ◌+◌, ◌<◌, ◌≤◌, Bool, true, false, ◌||◌, ◌&&◌, List, [], ◌∷◌, ◌++◌, map, refl, sym, ap, ◌∙◌, arith, inl, inr}
 use Rattle.std.specs.Prelude.{nat_le, nat_lt, nat_eq}
 use Rattle.std.specs.List.{AllByRecursion}
@@ -14,8 +18,9 @@ use Rattle.moc_ranges.specs.Pixels.{pixel_count, pixels}
 use Rattle.moc_ranges.specs.Operations.{IsWithin}
 use Rattle.moc_ranges.specs.RangeList.{set_of, in_range}
 use Rattle.moc_ranges.specs.Cells.{span, spans, pixels_of, cells_of, contains-span, contains-spans}
-use Rattle.moc_ranges.specs.CellLaws.{cell_range, cells_are}
-use Rattle.moc_ranges.specs.CellLaws as by_ranges
+use Rattle.moc_ranges.specs.Cells.{cell_range}
+use Rattle.moc_ranges.specs.Laws.Cells.{cells_are}
+use Rattle.moc_ranges.specs.Laws.Cells as by_ranges
 
 -- ---- unions
 

@@ -1,19 +1,28 @@
 //! Coverages, gathered from cells.
-ghost use Rattle.std.specs.Prelude.{◌≡◌, ◌<◌, ◌≤◌, IfOk, OnOk, OnErr};
+ghost use Rattle.std.specs.Prelude.{◌≡◌, ◌<◌, ◌≤◌, ◌*◌, ◌+◌, [], IfOk, OnOk, OnErr};
 ghost use Rattle.std.specs.FinSet as set;
 ghost use Rattle.moc_sphere.specs.CellNumber.{cell_count};
-ghost use Rattle.moc_ranges.specs.Cells.{spans};
+ghost use Rattle.moc_ranges.specs.Cells.{span, spans};
+ghost use Rattle.moc_ranges.specs.Numbers.{numbers};
+ghost use Rattle.moc_ranges.specs.Pixels.{pixel_count};
 
 use crate::coverage::Coverage;
 use crate::errors::Memory;
-use moc_sphere::Order;
+use moc_sphere::{Cell, Order};
 use std::alloc::Global;
 use std::marker::Model;
 
+/// How many ranges wait at least before they are joined.
+const FEWEST_WAITING: usize = 512;
+
 /// Gathers cells, in any order, into a coverage.
+///
+/// Cells that rise are joined as they come. The others wait, and are joined when they are as many as the ranges so far: so
+/// the memory that it takes follows the set, and n cells take O(n log n), or O(n) where they rise.
 #[derive(Debug, Drop)]
 pub struct CoverageBuilder {
-    pairs: Vec<(u64, u64)>,
+    joined: Coverage,
+    waiting: Vec<(u64, u64)>,
 }
 
 impl Model for CoverageBuilder {
@@ -28,9 +37,9 @@ impl Model for CoverageBuilder {
 
     ghost coded = { set.code coded_ℕ };
 
-    ghost view = { λ b. set_of b.pairs.items };
+    ghost view = { λ b. set.union b.joined (set_of b.waiting.items) };
 
-    ghost invariant = { λ b. first_fault b.pairs.items ≡ None };
+    ghost invariant = { λ b. first_fault b.waiting.items ≡ None };
 }
 
 impl CoverageBuilder {
@@ -39,7 +48,8 @@ impl CoverageBuilder {
         ensures { result ≡ set.empty }
     {
         Self {
-            pairs: Vec::new(alloc),
+            joined: Coverage::empty(alloc),
+            waiting: Vec::new(alloc),
         }
     }
 
@@ -55,17 +65,71 @@ impl CoverageBuilder {
             return Ok(());
         }
         let size = order.cell_size();
-        self.pairs.push((first * size, (last + 1) * size))?;
-        Ok(())
+        self.add_range(first * size, (last + 1) * size)
+    }
+
+    /// Adds one cell. Where memory runs out, what was gathered is as it was.
+    pub fn add_cell(&mut self, cell: Cell) -> Result<(), Memory>
+        ensures added { OnOk result (self.new ≡ set.union self.old (span cell.order cell.index)) }
+        ensures kept { OnErr result (self.new ≡ self.old) }
+    {
+        let (from, to) = cell.span();
+        self.add_range(from, to)
     }
 
     /// The coverage of all cells that were added; refused where memory runs out.
     pub fn build(self, alloc: Global) -> Result<Coverage, Memory>
         ensures { IfOk result (λ c. c ≡ self) }
     {
-        match Coverage::from_ranges(alloc, &self.pairs) {
-            Ok(set) => Ok(set),
-            Err(_) => Err(Memory),
+        if self.waiting.is_empty() {
+            return Ok(self.joined);
         }
+        self.gathered(alloc)
+    }
+
+    /// Adds the pixels from one up to, not including, another.
+    #[inline]
+    fn add_range(&mut self, from: u64, to: u64) -> Result<(), Memory>
+        requires rising { from < to }
+        requires within { to ≤ pixel_count }
+        ensures added { OnOk result (self.new ≡ set.union self.old (numbers from to)) }
+        ensures kept { OnErr result (self.new ≡ self.old) }
+    {
+        if self.joined.append(from, to)? {
+            return Ok(());
+        }
+        self.add_waiting(from, to)
+    }
+
+    /// Adds pixels that begin before the last range, and joins what waits where it is as much as that which is joined.
+    fn add_waiting(&mut self, from: u64, to: u64) -> Result<(), Memory>
+        requires rising { from < to }
+        requires within { to ≤ pixel_count }
+        ensures added { OnOk result (self.new ≡ set.union self.old (numbers from to)) }
+        ensures kept { OnErr result (self.new ≡ self.old) }
+    {
+        if self.waiting.len() >= self.joined.range_count().max(FEWEST_WAITING) {
+            self.join_waiting()?;
+        }
+        self.waiting.push((from, to))?;
+        Ok(())
+    }
+
+    /// Joins what waits.
+    fn join_waiting(&mut self) -> Result<(), Memory>
+        ensures { self.new ≡ self.old }
+    {
+        let alloc = *self.waiting.allocator();
+        self.joined = self.gathered(alloc)?;
+        self.waiting.clear();
+        Ok(())
+    }
+
+    /// What is joined and what waits, as one coverage.
+    fn gathered(&self, alloc: Global) -> Result<Coverage, Memory>
+        ensures { IfOk result (λ c. c ≡ self.now) }
+    {
+        let waited = Coverage::from_faultless(alloc, &self.waiting)?;
+        self.joined.union(alloc, &waited)
     }
 }

@@ -1,7 +1,7 @@
 //! From ranges to cells: order after order, and within an order range after range.
 ghost use Rattle.std.specs.Prelude.{◌≡◌, ◌++◌, ◌<◌, ◌≤◌, [], ◌∷◌, OnOk};
 ghost use Rattle.moc_sphere.specs.CellNumber.{cell_count};
-ghost use Rattle.moc_ranges.specs.CellRuns.{AreWhole, HasOrders, cells_at, cells_between};
+ghost use Rattle.moc_ranges.specs.Private.CellRuns.{AreWhole, HasOrders, cells_at, cells_between};
 ghost use Rattle.moc_ranges.specs.Pixels.{pixel_count};
 ghost use Rattle.moc_ranges.specs.RangeList.{IsNormal, set_of};
 

@@ -1,21 +1,23 @@
 //! Sets of pixels, and the operations on them.
-ghost use Rattle.std.specs.Prelude.{◌≡◌, ◌+◌, ◌<◌, ◌≤◌, ◌↔◌, nat_lt, IsTrue, IfOk, IfErr, OnOk, None, unwrap_or};
+ghost use Rattle.std.specs.Prelude.{◌≡◌, ◌+◌, ◌<◌, ◌≤◌, ◌↔◌, nat_lt, IsTrue, if◌then◌else◌, IfOk, IfErr, OnOk, OnErr, None, unwrap_or};
 ghost use Rattle.moc_ranges.specs.Faults.{first_fault};
+ghost use Rattle.std.specs.Cmp.{partial_equiv_from_equiv};
 ghost use Rattle.std.specs.FinSet as set;
 ghost use Rattle.moc_ranges.specs.RangeList.{IsNormal, set_of};
 ghost use Rattle.moc_ranges.specs.Operations.{symmetric, complement, part_of, meets, IsWithin};
 ghost use Rattle.moc_ranges.specs.Pixels.{pixel_count, pixels};
 ghost use Rattle.moc_ranges.specs.Cells.{cells_of, degrade, span};
-ghost use Rattle.moc_ranges.specs.Bounds.{IsBounds};
-ghost use Rattle.moc_ranges.specs.Sweep.{IsCombined};
+ghost use Rattle.moc_ranges.specs.Numbers.{numbers};
+ghost use Rattle.moc_ranges.specs.Private.Bounds.{IsBounds};
+ghost use Rattle.moc_ranges.specs.Private.Sweep.{IsCombined};
 
 use crate::cells::{orders_with_cells, push_cells_of_order};
 use crate::errors::{Memory, RangesError};
-use crate::from_ranges::{check, joined, joined_cells, sorted};
+use crate::from_ranges::{append, check, joined, joined_cells, sorted};
 use crate::ranges::Ranges;
 use crate::sweep::{Rule, count_both, cut, keeps_some, reaching, sweep};
 use moc_sphere::{Cell, Order};
-use std::alloc::Global;
+use std::alloc::{AllocError, Global};
 use std::marker::Model;
 
 /// How many pixels the sky has: 12 * 4^29, the cells of order 29 (MOC 2.0).
@@ -38,7 +40,7 @@ impl Model for Coverage {
     ghost use Rattle.std.specs.FinSet as set;
     ghost use Rattle.std.specs.Coded.{coded_ℕ};
     ghost use Rattle.moc_ranges.specs.RangeList.{set_of};
-    ghost use Rattle.moc_ranges.specs.Bounds.{IsBounds, pairs_of};
+    ghost use Rattle.moc_ranges.specs.Private.Bounds.{IsBounds, pairs_of};
 
     ghost Value = { set.FinSet nat_cmp };
 
@@ -68,7 +70,8 @@ impl Coverage {
 
     /// Whether the set has no pixel. O(1).
     pub fn is_empty(&self) -> bool
-        ensures { IsTrue result ↔ (self.now ≡ set.empty) }
+        ensures empty { IsTrue result ↔ (self.now ≡ set.empty) }
+        ensures within { IsWithin self.now pixels }
     {
         self.bounds.is_empty()
     }
@@ -78,6 +81,7 @@ impl Coverage {
     pub fn ranges(&self) -> Ranges<'_>
         ensures normal { IsNormal result }
         ensures set { set_of result ≡ self.now }
+        ensures within { IsWithin self.now pixels }
     {
         Ranges::new(&self.bounds)
     }
@@ -86,6 +90,7 @@ impl Coverage {
     pub fn count(&self) -> u64
         ensures size { result ≡ set.len self.now }
         ensures bounded { result ≤ pixel_count }
+        ensures within { IsWithin self.now pixels }
     {
         let mut total = 0;
         for (from, to) in self.ranges() {
@@ -105,15 +110,44 @@ impl Coverage {
         ensures refused { IfErr result (λ e. e ≡ unwrap_or (first_fault pairs.now) RangesError.Memory) }
     {
         check(pairs)?;
+        Ok(Coverage::from_faultless(alloc, pairs)?)
+    }
+
+    /// The pixels in any of the pairs, none of which is faulty.
+    pub(crate) fn from_faultless(
+        alloc: Global,
+        pairs: &[(u64, u64)],
+    ) -> Result<Coverage, AllocError>
+        requires { first_fault pairs.now ≡ None }
+        ensures { IfOk result (λ c. c ≡ set_of pairs.now) }
+    {
         let pairs = sorted(alloc, pairs)?;
         let bounds = joined(alloc, &pairs)?;
         Ok(Coverage { bounds })
     }
 
+    /// Adds the pixels from one up to, not including, another, where they do not begin before the last range, and answers
+    /// whether it did.
+    #[inline]
+    pub(crate) fn append(&mut self, from: u64, to: u64) -> Result<bool, AllocError>
+        requires rising { from < to }
+        requires within { to ≤ pixel_count }
+        ensures added { IfOk result (λ added. self.new ≡ (if added then set.union self.old (numbers from to) else self.old)) }
+        ensures kept { OnErr result (self.new ≡ self.old) }
+    {
+        append(&mut self.bounds, from, to)
+    }
+
+    /// How many ranges the set has.
+    pub(crate) fn range_count(&self) -> usize {
+        self.bounds.len() / 2
+    }
+
     /// The pixels of either set. One pass over the ranges where their extents overlap, and a copy of the others, O(n + m);
     /// refused where memory runs out.
     pub fn union(&self, alloc: Global, other: &Coverage) -> Result<Coverage, Memory>
-        ensures { IfOk result (λ c. c ≡ set.union self.now other.now) }
+        ensures set { IfOk result (λ c. c ≡ set.union self.now other.now) }
+        ensures within { IsWithin self.now pixels }
     {
         combined(alloc, Rule::UNION, &self.bounds, &other.bounds)
     }
@@ -121,7 +155,8 @@ impl Coverage {
     /// The pixels that both sets have. One pass over the ranges of each that reach into the extent of the other, found in
     /// O(log n + log m); refused where memory runs out.
     pub fn intersection(&self, alloc: Global, other: &Coverage) -> Result<Coverage, Memory>
-        ensures { IfOk result (λ c. c ≡ set.intersection self.now other.now) }
+        ensures set { IfOk result (λ c. c ≡ set.intersection self.now other.now) }
+        ensures within { IsWithin self.now pixels }
     {
         let mine = reaching(&self.bounds, &other.bounds);
         let theirs = reaching(&other.bounds, mine);
@@ -131,7 +166,8 @@ impl Coverage {
     /// The pixels of this set that the other lacks. One pass over the ranges where their extents overlap, found in
     /// O(log n + log m), and a copy of the others of this set; refused where memory runs out.
     pub fn difference(&self, alloc: Global, other: &Coverage) -> Result<Coverage, Memory>
-        ensures { IfOk result (λ c. c ≡ set.difference self.now other.now) }
+        ensures set { IfOk result (λ c. c ≡ set.difference self.now other.now) }
+        ensures within { IsWithin self.now pixels }
     {
         let theirs = reaching(&other.bounds, &self.bounds);
         combined(alloc, Rule::DIFFERENCE, &self.bounds, theirs)
@@ -140,7 +176,8 @@ impl Coverage {
     /// The pixels that just one of the two sets has. One pass over the ranges where their extents overlap, and a copy of the
     /// others, O(n + m); refused where memory runs out.
     pub fn symmetric(&self, alloc: Global, other: &Coverage) -> Result<Coverage, Memory>
-        ensures { IfOk result (λ c. c ≡ symmetric self.now other.now) }
+        ensures set { IfOk result (λ c. c ≡ symmetric self.now other.now) }
+        ensures within { IsWithin self.now pixels }
     {
         combined(alloc, Rule::SYMMETRIC, &self.bounds, &other.bounds)
     }
@@ -148,8 +185,6 @@ impl Coverage {
     /// The pixels of the sky that the set lacks. One pass, O(n); refused where memory runs out.
     pub fn complement(&self, alloc: Global) -> Result<Coverage, Memory>
         ensures set { IfOk result (λ c. c ≡ complement self.now) }
-
-        // What lets a caller take a complement back.
         ensures within { IsWithin self.now pixels }
     {
         combined(alloc, Rule::DIFFERENCE, &[0, PIXEL_COUNT], &self.bounds)
@@ -160,44 +195,72 @@ impl Coverage {
     /// O(log n), and the copy of the ranges that it answers; refused where memory runs out.
     pub fn part(&self, alloc: Global, base_pixel: u8) -> Result<Coverage, Memory>
         ensures part { IfOk result (λ c. c ≡ part_of self.now base_pixel) }
-
-        // What lets a caller put a set together from its parts.
         ensures within { IsWithin self.now pixels }
     {
-        let bounds = &self.bounds;
-        if base_pixel > 11 {
+        if self.is_empty() || base_pixel > 11 {
             return Ok(Coverage::empty(alloc));
         }
         let from = u64::from(base_pixel) * BASE_PIXEL_SIZE;
-        let bounds = cut(alloc, bounds, from, from + BASE_PIXEL_SIZE)?;
+        let bounds = cut(alloc, &self.bounds, from, from + BASE_PIXEL_SIZE)?;
         Ok(Coverage { bounds })
     }
 
-    /// Every coverage lies in the sky: what lets a caller use the laws of sets of pixels. Does nothing.
-    pub fn lies_in_sky(&self)
-        ensures { IsWithin self.now pixels }
-    {
-        let _bounds = &self.bounds;
-    }
-
-    /// Whether the set has a pixel in this base pixel, 0 to 11. O(log n), takes no memory.
+    /// Whether the set has a pixel in this base pixel; it has none above 11. O(log n), takes no memory.
     pub fn meets_base_pixel(&self, base_pixel: u8) -> bool
-        requires { base_pixel < 12 }
         ensures { result ≡ nat_lt 0 (set.len (part_of self.now base_pixel)) }
     {
-        let first = u64::from(base_pixel) * BASE_PIXEL_SIZE;
-        let base = [first, first + BASE_PIXEL_SIZE];
-        keeps_some(Rule::INTERSECTION, reaching(&self.bounds, &base), &base)
+        if self.is_empty() || base_pixel > 11 {
+            return false;
+        }
+        let from = u64::from(base_pixel) * BASE_PIXEL_SIZE;
+        self.meets_range(from, from + BASE_PIXEL_SIZE)
     }
 
-    /// Whether the set has every pixel of this base pixel, 0 to 11. O(log n) where it has, takes no memory.
+    /// Whether the set has every pixel of this base pixel; above 11 there is none. O(log n), takes no memory.
     pub fn covers_base_pixel(&self, base_pixel: u8) -> bool
-        requires { base_pixel < 12 }
         ensures { result ≡ set.is_subset (part_of pixels base_pixel) self.now }
     {
-        let first = u64::from(base_pixel) * BASE_PIXEL_SIZE;
-        let whole = [first, first + BASE_PIXEL_SIZE];
-        !keeps_some(Rule::DIFFERENCE, &whole, reaching(&self.bounds, &whole))
+        if base_pixel > 11 {
+            return true;
+        }
+        let from = u64::from(base_pixel) * BASE_PIXEL_SIZE;
+        self.covers_range(from, from + BASE_PIXEL_SIZE)
+    }
+
+    /// Whether the set has a pixel of this cell. O(log n), takes no memory.
+    pub fn meets_cell(&self, cell: Cell) -> bool
+        ensures { result ≡ meets self.now (span cell.order cell.index) }
+    {
+        let (from, to) = cell.span();
+        self.meets_range(from, to)
+    }
+
+    /// Whether the set has every pixel of this cell. O(log n), takes no memory.
+    pub fn contains_cell(&self, cell: Cell) -> bool
+        ensures { result ≡ set.is_subset (span cell.order cell.index) self.now }
+    {
+        let (from, to) = cell.span();
+        self.covers_range(from, to)
+    }
+
+    /// Whether the set has a pixel from one up to, not including, another.
+    fn meets_range(&self, from: u64, to: u64) -> bool
+        requires rising { from < to }
+        requires within { to ≤ pixel_count }
+        ensures { result ≡ meets self.now (numbers from to) }
+    {
+        let range = [from, to];
+        keeps_some(Rule::INTERSECTION, reaching(&self.bounds, &range), &range)
+    }
+
+    /// Whether the set has every pixel from one up to, not including, another.
+    fn covers_range(&self, from: u64, to: u64) -> bool
+        requires rising { from < to }
+        requires within { to ≤ pixel_count }
+        ensures { result ≡ set.is_subset (numbers from to) self.now }
+    {
+        let range = [from, to];
+        !keeps_some(Rule::DIFFERENCE, &range, reaching(&self.bounds, &range))
     }
 
     /// The set as cells of an order see it: all pixels of each cell of that order that it meets (MOC 2.0: degradation).
@@ -213,7 +276,8 @@ impl Coverage {
     /// How many pixels of order 29 two sets have in common. One pass over the ranges of each that reach into the extent of
     /// the other, found in O(log n + log m), takes no memory.
     pub fn count_common(&self, other: &Coverage) -> u64
-        ensures { result ≡ set.len (set.intersection self.now other.now) }
+        ensures size { result ≡ set.len (set.intersection self.now other.now) }
+        ensures within { IsWithin self.now pixels }
     {
         let mine = reaching(&self.bounds, &other.bounds);
         let theirs = reaching(&other.bounds, mine);
@@ -223,7 +287,8 @@ impl Coverage {
     /// Whether two sets have a pixel in common. One pass up to the first over the ranges of each that reach into the extent
     /// of the other, found in O(log n + log m), takes no memory.
     pub fn meets(&self, other: &Coverage) -> bool
-        ensures { result ≡ meets self.now other.now }
+        ensures some { result ≡ meets self.now other.now }
+        ensures within { IsWithin self.now pixels }
     {
         let mine = reaching(&self.bounds, &other.bounds);
         let theirs = reaching(&other.bounds, mine);
@@ -233,7 +298,8 @@ impl Coverage {
     /// Whether this set has every pixel of the other. One pass up to the first that it lacks over the other and the ranges of
     /// this set that reach into its extent, found in O(log n), takes no memory.
     pub fn covers(&self, other: &Coverage) -> bool
-        ensures { result ≡ set.is_subset other.now self.now }
+        ensures all { result ≡ set.is_subset other.now self.now }
+        ensures within { IsWithin self.now pixels }
     {
         let mine = reaching(&self.bounds, &other.bounds);
         !keeps_some(Rule::DIFFERENCE, &other.bounds, mine)
@@ -268,7 +334,8 @@ impl Coverage {
     ///
     /// One pass over the ranges for each order that can have cells; refused where memory runs out.
     pub fn cells(&self, alloc: Global) -> Result<Vec<Cell>, Memory>
-        ensures { IfOk result (λ v. v.items ≡ cells_of self.now) }
+        ensures cells { IfOk result (λ v. v.items ≡ cells_of self.now) }
+        ensures within { IsWithin self.now pixels }
     {
         let (first, end) = orders_with_cells(self.ranges());
         let mut cells = Vec::new(alloc);
@@ -280,10 +347,41 @@ impl Coverage {
 
     /// A copy of the set. O(n); refused where memory runs out.
     pub fn try_copy(&self, alloc: Global) -> Result<Coverage, Memory>
-        ensures { IfOk result (λ c. c ≡ self.now) }
+        ensures same { IfOk result (λ c. c ≡ self.now) }
+        ensures within { IsWithin self.now pixels }
     {
         let bounds = self.bounds.to_vec(alloc)?;
         Ok(Coverage { bounds })
+    }
+}
+
+impl PartialEq for Coverage {
+    ghost use Rattle.moc_ranges.specs.Same.{is_same, is_same-equivalence};
+
+    ghost eq = { is_same };
+
+    ghost laws = { partial_equiv_from_equiv is_same-equivalence };
+
+    fn eq(&self, other: &Coverage) -> bool {
+        self.same(other)
+    }
+}
+
+impl Eq for Coverage {
+    ghost use Rattle.moc_ranges.specs.Same.{is_same-equivalence};
+
+    ghost laws = { is_same-equivalence };
+}
+
+impl<'a> IntoIterator for &'a Coverage {
+    type Item = (u64, u64);
+
+    type IntoIter = Ranges<'a>;
+
+    ghost into_iter_gives = { λ s r. IsNormal r × (set_of r ≡ s.now) };
+
+    fn into_iter(self) -> Ranges<'a> {
+        self.ranges()
     }
 }
 

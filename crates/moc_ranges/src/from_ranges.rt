@@ -1,12 +1,12 @@
 //! From pairs in any order to the bounds of their union, and from ranges to the cells that they meet.
-ghost use Rattle.std.specs.Prelude.{◌≡◌, ℕ, ◌*◌, ◌<◌, ◌≤◌, ◌++◌, ◌∷◌, [], List, map, IfOk, IfErr, OnOk, None, Some};
+ghost use Rattle.std.specs.Prelude.{◌≡◌, ℕ, ◌*◌, ◌<◌, ◌≤◌, ◌++◌, ◌||◌, ◌&&◌, ◌∷◌, [], List, map, IfOk, IfErr, OnOk, OnErr, None, Some};
 ghost use Rattle.moc_ranges.specs.Faults.{first_fault};
-ghost use Rattle.moc_ranges.specs.Sorted.{IsSortedFrom};
-ghost use Rattle.moc_ranges.specs.RangeList.{in_ranges, IsNormal};
+ghost use Rattle.moc_ranges.specs.Private.Sorted.{IsSortedFrom};
+ghost use Rattle.moc_ranges.specs.RangeList.{in_range, in_ranges, IsNormal};
 ghost use Rattle.moc_ranges.specs.Pixels.{pixel_count};
-ghost use Rattle.moc_ranges.specs.Widen.{IsCellSize, widen};
-ghost use Rattle.moc_ranges.specs.Bounds.{IsBounds, inside};
-ghost use Rattle.moc_ranges.specs.Joining.{Joining};
+ghost use Rattle.moc_ranges.specs.Private.Widen.{IsCellSize, widen};
+ghost use Rattle.moc_ranges.specs.Private.Bounds.{IsBounds, inside};
+ghost use Rattle.moc_ranges.specs.Private.Joining.{Joining};
 
 use crate::coverage::PIXEL_COUNT;
 use crate::errors::RangesError;
@@ -107,6 +107,30 @@ pub fn joined(alloc: Global, pairs: &[(u64, u64)]) -> Result<Vec<u64>, AllocErro
     }
     let bounds = joiner.finish()?;
     Ok(bounds)
+}
+
+/// Adds a range to bounds, where it does not begin before the last of theirs, and answers whether it did.
+#[inline]
+pub fn append(bounds: &mut Vec<u64>, from: u64, to: u64) -> Result<bool, AllocError>
+    requires bounds { IsBounds bounds.old.items }
+    requires rising { from < to }
+    requires within { to ≤ pixel_count }
+    ensures bounds { IsBounds bounds.new.items }
+    ensures set { IfOk result (λ added. (q : ℕ) → inside bounds.new.items q ≡ (inside bounds.old.items q || (added && in_range (from, to) q))) }
+    ensures kept { OnErr result (bounds.new.items ≡ bounds.old.items) }
+{
+    if let [.., begin, end] = bounds.as_slice() {
+        if from < *begin {
+            return Ok(false);
+        }
+        if from <= *end {
+            let last = bounds.len() - 1;
+            bounds[last] = bounds[last].max(to);
+            return Ok(true);
+        }
+    }
+    bounds.extend_from_slice(&[from, to])?;
+    Ok(true)
 }
 
 /// A range from the start of the first cell that it meets to the end of the last, where cells have this size.

@@ -1,6 +1,6 @@
 use Rattle.std.proofs.Common.{◌++◌, ◌∷◌, [], List, ℕ, ap, sym, subst, ◌∙◌, append_assoc, append-nil}
 use Rattle.moc_ranges.specs.RangeList.{IsNormal, set_of}
-use Rattle.moc_ranges.specs.CellRuns.{cells_at}
+use Rattle.moc_ranges.specs.Private.CellRuns.{cells_at}
 use Rattle.moc_ranges.proofs.CellRuns.{cells_split, no_cells}
 use Rattle.moc_ranges.proofs.cells.push_cells_of_order.Goals as goal
 

@@ -1,6 +1,6 @@
 use Rattle.std.proofs.Common.{◌≡◌, ◌++◌}
 use Rattle.moc_ranges.specs.RangeList.{IsNormal, set_of}
-use Rattle.moc_ranges.specs.CellRuns.{cells_at}
+use Rattle.moc_ranges.specs.Private.CellRuns.{cells_at}
 use Rattle.moc_ranges.proofs.cells.push_cells_of_order.Given as goal
 
 abbrev pub invariant-loop-from : goal.invariant-loop-from

@@ -1,6 +1,6 @@
 use Rattle.std.proofs.Common.{◌++◌, ◌*◌, ap, sym, ◌∙◌, arith, append_assoc, append-nil}
 use Rattle.std.proofs.lemmas.Result.{on_ok_weaker}
-use Rattle.moc_ranges.specs.CellRuns.{cells_between}
+use Rattle.moc_ranges.specs.Private.CellRuns.{cells_between}
 use Rattle.moc_ranges.proofs.CellRuns.{run_none, run_top, run_one, run_two, parents_whole, count_bound, four_children}
 use Rattle.moc_ranges.proofs.cells.push_cells_of_range.Goals as goal
 

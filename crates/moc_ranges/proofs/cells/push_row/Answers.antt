@@ -1,6 +1,6 @@
 use Rattle.std.proofs.Common.{◌++◌, ◌∷◌, [], ap, sym, ◌∙◌, arith, append_assoc, append-nil}
 use Rattle.moc_sphere.specs.CellNumber.{cell_number}
-use Rattle.moc_ranges.specs.CellRuns.{cells_between}
+use Rattle.moc_ranges.specs.Private.CellRuns.{cells_between}
 use Rattle.moc_ranges.proofs.CellRuns.{row_more, row_none, row_whole}
 use Rattle.moc_ranges.proofs.cells.push_row.Goals as goal
 

@@ -1,5 +1,5 @@
 use Rattle.std.proofs.Common.{◌≡◌, ◌++◌, ◌≤◌, max}
-use Rattle.moc_ranges.specs.CellRuns.{cells_between}
+use Rattle.moc_ranges.specs.Private.CellRuns.{cells_between}
 use Rattle.moc_ranges.proofs.cells.push_row.Given as goal
 
 abbrev pub invariant-loop-index : goal.invariant-loop-index

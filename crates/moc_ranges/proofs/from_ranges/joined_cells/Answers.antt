@@ -1,7 +1,7 @@
 use Rattle.std.proofs.Common.{ℕ, List, ◌∷◌, ap, sym, subst, ◌∙◌, map}
-use Rattle.moc_ranges.specs.Joining.{Joining}
+use Rattle.moc_ranges.specs.Private.Joining.{Joining}
 use Rattle.moc_ranges.specs.RangeList.{IsNormal}
-use Rattle.moc_ranges.specs.Widen.{widen}
+use Rattle.moc_ranges.specs.Private.Widen.{widen}
 use Rattle.moc_ranges.proofs.Joining.{joining_same, joined_bounds, joined_set}
 use Rattle.moc_ranges.proofs.Widening.{cells_start}
 use Rattle.moc_ranges.proofs.from_ranges.joined_cells.Goals as goal

@@ -1,6 +1,6 @@
 use Rattle.std.proofs.Common.{◌++◌, ◌-◌, sym, subst, ◌∙◌, arith, add-one}
 use Rattle.moc_ranges.specs.Numbers.{NumberSet}
-use Rattle.moc_ranges.specs.CellRuns.{HasOrders, cells_at}
+use Rattle.moc_ranges.specs.Private.CellRuns.{HasOrders, cells_at}
 use Rattle.moc_ranges.proofs.CellOrders.{cells_step, cells_before, cells_after}
 use Rattle.moc_ranges.proofs.coverage.Coverage.cells.Goals as goal
 
@@ -24,11 +24,14 @@ loop-level-preserved c =
       within = omega arith;
     }
 
-pub returns : goal.returns
-returns c =
+pub returns-clause-cells : goal.returns-clause-cells
+returns-clause-cells c =
     let first = c.orders_with_cells-first.result.0 in
     let end = c.orders_with_cells-first.result.1 in
     let k = c.loop-level.level in
     let orders = subst (λ (a : NumberSet). HasOrders a first end) c.ranges-2.ensures.set c.orders_with_cells-first.ensures in
     c.loop-level.invariant.found
     ∙ cells_after c.args.self.now first end k (30 - k) orders c.loop-level-test.false (omega (arith, orders.first_in_range, orders.last_in_range))
+
+pub returns-clause-within : goal.returns-clause-within
+returns-clause-within c = c.ranges-2.ensures.within

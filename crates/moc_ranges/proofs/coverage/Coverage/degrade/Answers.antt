@@ -1,5 +1,5 @@
 use Rattle.std.proofs.Common.{ℕ, ap, ◌∙◌, map}
-use Rattle.moc_ranges.specs.Widen.{widen}
+use Rattle.moc_ranges.specs.Private.Widen.{widen}
 use Rattle.moc_ranges.specs.RangeList.{in_ranges}
 use Rattle.moc_ranges.proofs.Views.{view_from_members}
 use Rattle.moc_ranges.proofs.Widening.{degraded}

@@ -1,6 +1,6 @@
 use Rattle.std.proofs.Common.{List, ℕ, ap, ◌∙◌}
 use Rattle.moc_ranges.specs.RangeList.{set_of}
-use Rattle.moc_ranges.specs.Bounds.{pairs_of}
+use Rattle.moc_ranges.specs.Private.Bounds.{pairs_of}
 use Rattle.moc_ranges.proofs.Spans.{span_view}
 use Rattle.moc_ranges.proofs.coverage.Coverage.from_cell.Goals as goal
 

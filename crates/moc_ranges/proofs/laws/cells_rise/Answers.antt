@@ -1,0 +1,5 @@
+use Rattle.moc_ranges.specs.Laws.Cells.{cells_rise as law}
+use Rattle.moc_ranges.proofs.laws.cells_rise.Goals as goal
+
+pub returns : goal.returns
+returns c = law

@@ -1,0 +1,29 @@
+-- What the functions say that are laws.
+use Rattle.std.specs.Prelude.{◌≡◌, ℕ, List}
+use Rattle.std.specs.List.{AllByRecursion}
+use Rattle.moc_sphere.specs.CellNumber.{IsCell}
+use Rattle.moc_ranges.specs.Numbers.{NumberSet}
+use Rattle.moc_ranges.specs.Pixels.{pixels}
+use Rattle.moc_ranges.specs.Operations.{complement, IsWithin}
+use Rattle.moc_ranges.specs.RangeList.{IsNormal, set_of}
+use Rattle.moc_ranges.specs.Cells.{cells_of, pixels_of, IsRisingUniq}
+
+-- two normal range lists of one set are the same list
+abbrev pub HasOneNormalList : Type 0
+HasOneNormalList = (rs ss : List (ℕ × ℕ)) → IsNormal rs → IsNormal ss → set_of rs ≡ set_of ss → rs ≡ ss
+
+-- the cells of a set are cells: their orders are at most 29, and their indices below the count of the order
+abbrev pub CellsAreCells : Type 0
+CellsAreCells = (a : NumberSet) → AllByRecursion IsCell (cells_of a)
+
+-- the cells of a set of pixels have just the pixels of the set
+abbrev pub CellsFillTheSet : Type 0
+CellsFillTheSet = (a : NumberSet) → IsWithin a pixels → pixels_of (cells_of a) ≡ a
+
+-- the cells of a set are in rising NUNIQ
+abbrev pub CellsRise : Type 0
+CellsRise = (a : NumberSet) → IsRisingUniq (cells_of a)
+
+-- the complement of the complement of a set of pixels is the set
+abbrev pub ComplementTwiceIsTheSet : Type 0
+ComplementTwiceIsTheSet = (a : NumberSet) → IsWithin a pixels → complement (complement a) ≡ a
