@@ -5,7 +5,7 @@ use Rattle.std.proofs.lemmas.Bool.{cases_lt}
 use Rattle.moc_sphere.specs.CellNumber.{CellNumber}
 use Rattle.moc_text.specs.Ascii.{deeper}
 use Rattle.moc_text.specs.AsciiText.{HasDeeper, deepest_cell}
-use Rattle.moc_text.specs.Writing.{AreRising}
+use Rattle.moc_text.specs.Private.AsciiWriting.{AreRising}
 
 next_index : (c : CellNumber) (cells : List CellNumber) → 1 ≤ length cells → length (c ∷ cells) - 1 ≡ suc (length cells - 1)
 next_index c cells some = omega arith

@@ -3,7 +3,7 @@ use Rattle.std.proofs.Common.{◌≡◌, ℕ, List, [], ◌∷◌, ◌++◌, Opt
 use Rattle.std.specs.List.{join_with_byte}
 use Rattle.std.proofs.lemmas.List.{append-nil, take_all}
 use Rattle.moc_text.specs.AsciiText.{order_text, mark_text_of, run_text, stated_beyond, bare_words, words_of, runs_from, one, text_of_cells}
-use Rattle.moc_text.specs.Writing.{run_part, spaced, stated_part, onward}
+use Rattle.moc_text.specs.Private.AsciiWriting.{run_part, spaced, stated_part, onward}
 use Rattle.moc_sphere.specs.CellNumber.{CellNumber}
 use Rattle.moc_text.specs.declared.ascii.writing.Run.{Run}
 

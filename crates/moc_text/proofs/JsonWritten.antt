@@ -28,8 +28,8 @@ use Rattle.moc_text.specs.Ascii.{deeper, IsNumber}
 use Rattle.moc_text.specs.AsciiText.{HasDeeper, IsTooCoarse, deepest_cell, deepest_written, stated_beyond}
 use Rattle.moc_text.specs.JsonForm.{order_of_name, items_pixels, items_fault, array_pixels, name_fault, members_pixels, members_fault, deepest_name, SaysJson}
 use Rattle.moc_text.specs.JsonText.{datum, data_at, is_bare, is_name, with_order, members_below, members_of_cells, json_value}
-use Rattle.moc_text.specs.JsonWriting.{front_data, past_order, MembersSoFar}
-use Rattle.moc_text.specs.Writing.{AreRising}
+use Rattle.moc_text.specs.Private.JsonWriting.{front_data, past_order, MembersSoFar}
+use Rattle.moc_text.specs.Private.AsciiWriting.{AreRising}
 use Rattle.moc_text.proofs.Written.{IsNumber-decimal, value-decimal, not_deeper, stated_is_deepest}
 
 -- ---- the cells of a set stand by rising order

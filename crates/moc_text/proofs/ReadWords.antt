@@ -8,7 +8,7 @@ use Rattle.moc_text.specs.Ascii.{is_separator, Word, words, words_from, Shape, s
 use Rattle.moc_ranges.specs.Numbers.{NumberSet}
 use Rattle.moc_ranges.specs.Laws.{union-assoc, empty-union, union-empty}
 use Rattle.moc_text.specs.Scan.{is_end, scan_word}
-use Rattle.moc_text.specs.Progress.{Progress}
+use Rattle.moc_text.specs.Private.AsciiReading.{Progress}
 use Rattle.moc_text.specs.declared.ascii.number.Number.{Number}
 use Rattle.moc_text.specs.declared.ascii.number.Parts.{Parts}
 use Rattle.moc_text.specs.declared.ascii.error.TextError.{TextError}

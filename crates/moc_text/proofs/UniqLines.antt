@@ -22,7 +22,7 @@ use Rattle.moc_text.specs.Ascii.{IsNumber}
 use Rattle.moc_text.specs.Scan.{front_digits, past_digits, held_after, starts_with_digit}
 use Rattle.moc_text.specs.Lines.{lines_of}
 use Rattle.moc_text.specs.UniqList.{number_fault, line_fault, fault_from, uniq_fault, numbers_on, SaysUniq, number_lines, uniq_text}
-use Rattle.moc_text.specs.UniqReading.{after_line, IsPart, IsLineRead, LinesSoFar}
+use Rattle.moc_text.specs.Private.UniqReading.{after_line, IsPart, IsLineRead, LinesSoFar}
 use Rattle.moc_text.specs.declared.uniq.UniqError.{UniqError}
 use Rattle.moc_text.specs.declared.uniq.UniqError.TheVariants.{BadByte, NotUniq}
 use Rattle.moc_text.proofs.Automaton.{both}

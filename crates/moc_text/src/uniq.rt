@@ -5,7 +5,7 @@ ghost use Rattle.std.specs.String.{string_bytes};
 ghost use Rattle.moc_sphere.specs.CellNumber.{uniq_of};
 ghost use Rattle.moc_ranges.specs.Numbers.{NumberSet};
 ghost use Rattle.moc_text.specs.Lines.{lines_of};
-ghost use Rattle.moc_text.specs.UniqReading.{after_line, IsLineRead};
+ghost use Rattle.moc_text.specs.Private.UniqReading.{after_line, IsLineRead};
 ghost use Rattle.moc_text.specs.Faults.{Fails};
 ghost use Rattle.moc_text.specs.UniqList.{fault_from, number_lines, SaysUniq, uniq_fault, uniq_text};
 

@@ -4,7 +4,7 @@ ghost use Rattle.std.specs.FinSet as set;
 ghost use Rattle.moc_ranges.specs.Numbers.{NumberSet};
 ghost use Rattle.moc_text.specs.Ascii.{mark_fault, item_fault, item_pixels, order_at, deeper, Says, IsFirstFault};
 ghost use Rattle.moc_text.specs.Faults.{Fails};
-ghost use Rattle.moc_text.specs.Progress.{Progress};
+ghost use Rattle.moc_text.specs.Private.AsciiReading.{Progress};
 ghost use Rattle.moc_text.specs.Reading.{IsReadingOf, ReadingsAreTold};
 
 use crate::ascii::error::TextError;

@@ -7,7 +7,7 @@ ghost use Rattle.moc_ranges.specs.Numbers.{NumberSet};
 ghost use Rattle.moc_text.specs.Ascii.{deeper as deeper_of};
 ghost use Rattle.moc_text.specs.Faults.{Fails};
 ghost use Rattle.moc_text.specs.JsonForm.{order_of_name, whole, cell_pixels, item_fault, items_pixels, items_fault, array_pixels, name_fault, members_pixels, members_fault, deepest_name, IsJson, IsNotJson, SaysJson, IsJsonFault};
-ghost use Rattle.moc_text.specs.JsonScan.{held_order};
+ghost use Rattle.moc_text.specs.Private.JsonReading.{held_order};
 
 use crate::json::error::JsonError;
 use moc_ranges::{Coverage, CoverageBuilder};

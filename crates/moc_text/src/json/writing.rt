@@ -5,8 +5,8 @@ ghost use Rattle.serde_json.specs.View.{view, members_view};
 ghost use Rattle.moc_text.specs.AsciiText.{deepest_written, IsTooCoarse};
 ghost use Rattle.moc_text.specs.JsonForm.{SaysJson};
 ghost use Rattle.moc_text.specs.JsonText.{is_name as is_name_of, with_order, members_below, json_text};
-ghost use Rattle.moc_text.specs.JsonWriting.{front_data, past_order};
-ghost use Rattle.moc_text.specs.Writing.{AreRising};
+ghost use Rattle.moc_text.specs.Private.JsonWriting.{front_data, past_order};
+ghost use Rattle.moc_text.specs.Private.AsciiWriting.{AreRising};
 
 use crate::ascii::{beyond, deepest_of, depth_of, is_too_coarse};
 use crate::json::error::JsonError;

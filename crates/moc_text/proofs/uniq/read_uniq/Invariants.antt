@@ -1,5 +1,5 @@
 use Rattle.std.proofs.Common.{length}
-use Rattle.moc_text.specs.UniqReading.{LinesSoFar}
+use Rattle.moc_text.specs.Private.UniqReading.{LinesSoFar}
 use Rattle.moc_text.proofs.uniq.read_uniq.Given as goal
 
 abbrev pub invariant-loop-rest : goal.invariant-loop-rest

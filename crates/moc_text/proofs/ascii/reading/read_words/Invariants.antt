@@ -1,5 +1,5 @@
 use Rattle.std.proofs.Common.{length}
-use Rattle.moc_text.specs.Progress.{Progress}
+use Rattle.moc_text.specs.Private.AsciiReading.{Progress}
 use Rattle.moc_text.proofs.ascii.reading.read_words.Given as goal
 
 abbrev pub invariant-loop-rest : goal.invariant-loop-rest

@@ -1,7 +1,7 @@
 use Rattle.std.proofs.Common.{◌≡◌, ◌++◌, drop}
 use Rattle.std.specs.String.{string_bytes}
 use Rattle.moc_text.specs.AsciiText.{runs_from, text_of_cells}
-use Rattle.moc_text.specs.Writing.{onward}
+use Rattle.moc_text.specs.Private.AsciiWriting.{onward}
 use Rattle.moc_text.proofs.ascii.writing.push_all.Given as goal
 
 -- what is written so far and what is written from here on are the whole text

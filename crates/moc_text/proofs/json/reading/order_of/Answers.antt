@@ -1,5 +1,5 @@
 use Rattle.std.proofs.Common.{◌≡◌, ap, ◌∙◌, eqb, length, false}
-use Rattle.moc_text.specs.JsonScan.{held_order}
+use Rattle.moc_text.specs.Private.JsonReading.{held_order}
 use Rattle.moc_text.proofs.JsonOrders.{name_order}
 use Rattle.moc_text.proofs.json.reading.order_of.Goals as goal
 

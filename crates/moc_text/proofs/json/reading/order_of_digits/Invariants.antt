@@ -1,5 +1,5 @@
 use Rattle.std.proofs.Common.{◌≡◌, ◌≤◌, drop}
-use Rattle.moc_text.specs.JsonScan.{held_order}
+use Rattle.moc_text.specs.Private.JsonReading.{held_order}
 use Rattle.moc_text.proofs.json.reading.order_of_digits.Given as goal
 
 abbrev pub invariant-loop-digit : goal.invariant-loop-digit

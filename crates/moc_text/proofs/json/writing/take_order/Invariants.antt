@@ -1,6 +1,6 @@
 use Rattle.std.proofs.Common.{◌≡◌, ◌++◌, length, map}
 use Rattle.serde_json.specs.View.{view}
-use Rattle.moc_text.specs.JsonWriting.{front_data, past_order}
+use Rattle.moc_text.specs.Private.JsonWriting.{front_data, past_order}
 use Rattle.moc_text.proofs.json.writing.take_order.Given as goal
 
 abbrev pub invariant-loop-rest : goal.invariant-loop-rest

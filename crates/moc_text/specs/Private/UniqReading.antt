@@ -1,4 +1,4 @@
--- How far the reading of a NUNIQ list has come. Contracts of private functions alone cite it.
+-- How far the reading of a NUNIQ list has come.
 use Rattle.std.specs.Prelude.{◌≡◌, ℕ, ◌+◌, ◌<◌, ◌≤◌, List, [], ◌∷◌, ◌++◌, length, map, Option, Some, None, if◌then◌else◌}
 use Rattle.std.specs.List.{AllByRecursion}
 use Rattle.std.specs.FinSet as set

@@ -1,9 +1,9 @@
--- How far the writing of a JSON text has come. Contracts of private functions alone cite it.
+-- How far the writing of a JSON text has come.
 use Rattle.std.specs.Prelude.{◌≡◌, ℕ, ◌≤◌, ◌==◌, if◌then◌else◌, List, [], ◌∷◌, Option}
 use Rattle.serde_json.specs.Data.{Data, Members}
 use Rattle.moc_sphere.specs.CellNumber.{CellNumber}
 use Rattle.moc_text.specs.JsonText.{datum, data_at, members_below}
-use Rattle.moc_text.specs.Writing.{AreRising}
+use Rattle.moc_text.specs.Private.AsciiWriting.{AreRising}
 
 -- the numbers of the cells of an order at the front
 abbrev pub front_data : ℕ → List CellNumber → List Data
