@@ -14,7 +14,8 @@ span order index = set.retain pixels (λ p. nat_eq (p / cell_size order) index)
 
 -- the pixels of the cells of an order from the first to the last, both included
 unfoldable pub spans : ℕ → ℕ → ℕ → NumberSet
-spans order first last = set.retain pixels (λ p. nat_le first (p / cell_size order) && nat_le (p / cell_size order) last)
+spans order first last =
+    set.retain pixels (λ p. nat_le first (p / cell_size order) && nat_le (p / cell_size order) last)
 
 -- the pixels of cells
 unfoldable pub pixels_of : List CellNumber → NumberSet
@@ -25,11 +26,15 @@ pixels_of (c ∷ cells) = set.union (span c.order c.index) (pixels_of cells)
 unfoldable pub degrade : NumberSet → ℕ → NumberSet
 degrade a order = set.retain pixels (λ p. meets a (span order (p / cell_size order)))
 
--- whether a cell is one of a set's: its pixels are in the set, and it is of order 0 or its parent's pixels are not all in the set
+-- whether a cell is one of a set's: its pixels are in the set, and it is of order 0 or its parent's
+-- pixels are not all in the set
 unfoldable pub is_cell_of : NumberSet → CellNumber → Bool
-is_cell_of a c = set.is_subset (span c.order c.index) a && (nat_eq c.order 0 || not (set.is_subset (span (c.order - 1) (c.index / 4)) a))
+is_cell_of a c =
+    set.is_subset (span c.order c.index) a
+    && (nat_eq c.order 0 || not (set.is_subset (span (c.order - 1) (c.index / 4)) a))
 
--- the cells of the orders below `orders`, in rising NUNIQ: order after order, and within an order by rising index
+-- the cells of the orders below `orders`, in rising NUNIQ: order after order, and within an order
+-- by rising index
 unfoldable pub cells_below : ℕ → List CellNumber
 cells_below zero = []
 cells_below (suc k) = cells_below k ++ map (cell_number k) (range_with_len 0 (cell_count k))

@@ -10,9 +10,11 @@ use Rattle.moc_ranges.specs.Cells.{cells_of, pixels_of, IsRisingUniq}
 
 -- two normal range lists of one set are the same list
 abbrev pub HasOneNormalList : Type 0
-HasOneNormalList = (rs ss : List (ℕ × ℕ)) → IsNormal rs → IsNormal ss → set_of rs ≡ set_of ss → rs ≡ ss
+HasOneNormalList =
+    (rs ss : List (ℕ × ℕ)) → IsNormal rs → IsNormal ss → set_of rs ≡ set_of ss → rs ≡ ss
 
--- the cells of a set are cells: their orders are at most 29, and their indices below the count of the order
+-- the cells of a set are cells: their orders are at most 29, and their indices below the count of
+-- the order
 abbrev pub CellsAreCells : Type 0
 CellsAreCells = (a : NumberSet) → AllByRecursion IsCell (cells_of a)
 

@@ -17,8 +17,9 @@ const FEWEST_WAITING: usize = 512;
 
 /// Gathers cells, in any order, into a coverage.
 ///
-/// Cells that rise are joined as they come. The others wait, and are joined when they are as many as the ranges so far: so
-/// the memory that it takes follows the set, and n cells take O(n log n), or O(n) where they rise.
+/// Cells that rise are joined as they come. The others wait, and are joined when they are as many
+/// as the ranges so far: so the memory that it takes follows the set, and n cells take O(n log n),
+/// or O(n) where they rise.
 #[derive(Debug, Drop)]
 pub struct CoverageBuilder {
     joined: Coverage,
@@ -53,7 +54,8 @@ impl CoverageBuilder {
         }
     }
 
-    /// Adds the cells of an order from the first to the last, both included; none where the last is before the first.
+    /// Adds the cells of an order from the first to the last, both included; none where the last is
+    /// before the first.
     ///
     /// Where memory runs out, what was gathered is as it was.
     pub fn add_cells(&mut self, order: Order, first: u64, last: u64) -> Result<(), Memory>
@@ -84,7 +86,7 @@ impl CoverageBuilder {
         if self.waiting.is_empty() {
             return Ok(self.joined);
         }
-        self.gathered(alloc)
+        self.all_gathered(alloc)
     }
 
     /// Adds the pixels from one up to, not including, another.
@@ -101,7 +103,8 @@ impl CoverageBuilder {
         self.add_waiting(from, to)
     }
 
-    /// Adds pixels that begin before the last range, and joins what waits where it is as much as that which is joined.
+    /// Adds pixels that begin before the last range, and joins what waits where it is as much as
+    /// that which is joined.
     fn add_waiting(&mut self, from: u64, to: u64) -> Result<(), Memory>
         requires rising { from < to }
         requires within { to ≤ pixel_count }
@@ -120,13 +123,13 @@ impl CoverageBuilder {
         ensures { self.new ≡ self.old }
     {
         let alloc = *self.waiting.allocator();
-        self.joined = self.gathered(alloc)?;
+        self.joined = self.all_gathered(alloc)?;
         self.waiting.clear();
         Ok(())
     }
 
     /// What is joined and what waits, as one coverage.
-    fn gathered(&self, alloc: Global) -> Result<Coverage, Memory>
+    fn all_gathered(&self, alloc: Global) -> Result<Coverage, Memory>
         ensures { IfOk result (λ c. c ≡ self.now) }
     {
         let waited = Coverage::from_faultless(alloc, &self.waiting)?;

@@ -30,7 +30,8 @@ pub fn orders_with_cells(ranges: Ranges<'_>) -> (u8, u8)
     (29 - above as u8, 30 - below as u8)
 }
 
-/// The cells of an order that lie whole in a range: the index of the first, and the one after the last.
+/// The cells of an order that lie whole in a range: the index of the first, and the one after the
+/// last.
 #[inline]
 fn whole_cells(order: Order, from: u64, to: u64) -> (u64, u64)
     requires rising { from < to }
@@ -54,7 +55,8 @@ fn push_row(cells: &mut Vec<Cell>, order: Order, first: u64, last: u64) -> Resul
     Ok(())
 }
 
-/// Adds the cells of an order that a range has: those that lie whole in it, but for those whose parent does.
+/// Adds the cells of an order that a range has: those that lie whole in it, but for those whose
+/// parent does.
 #[inline]
 fn push_cells_of_range(
     cells: &mut Vec<Cell>,

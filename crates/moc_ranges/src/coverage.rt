@@ -8,12 +8,14 @@ ghost use Rattle.moc_ranges.specs.Operations.{symmetric, complement, part_of, me
 ghost use Rattle.moc_ranges.specs.Pixels.{pixel_count, pixels};
 ghost use Rattle.moc_ranges.specs.Cells.{cells_of, degrade, span};
 ghost use Rattle.moc_ranges.specs.Numbers.{numbers};
-ghost use Rattle.moc_ranges.specs.Private.Bounds.{IsBounds};
+ghost use Rattle.moc_ranges.specs.Private.Bounds.{IsBounds, pairs_of};
 ghost use Rattle.moc_ranges.specs.Private.Sweep.{IsCombined};
 
 use crate::cells::{orders_with_cells, push_cells_of_order};
 use crate::errors::{Memory, RangesError};
-use crate::from_ranges::{append, check, joined, joined_cells, sorted};
+use crate::from_ranges::{
+    append, bounds_of_cells, bounds_of_union, filled_by_start, refuse_faulty,
+};
 use crate::ranges::Ranges;
 use crate::sweep::{Rule, count_both, cut, keeps_some, reaching, sweep};
 use moc_sphere::{Cell, Order};
@@ -28,8 +30,9 @@ const BASE_PIXEL_SIZE: u64 = 288230376151711744;
 
 /// A set of pixels of order 29, by their nested numbers: a coverage of MOC 2.0.
 ///
-/// It holds the ends of its ranges in rising order, from, to, from, to .., 16 bytes a range. Every set has one such
-/// list, so equal sets are stored alike. Below, n and m are the numbers of ranges of the sets that a call takes.
+/// It holds the ends of its ranges in rising order, from, to, from, to .., 16 bytes a range. Every
+/// set has one such list, so equal sets are stored alike. Below, n and m are the numbers of ranges
+/// of the sets that a call takes.
 #[derive(Debug, Drop)]
 pub struct Coverage {
     bounds: Vec<u64>,
@@ -76,8 +79,8 @@ impl Coverage {
         self.bounds.is_empty()
     }
 
-    /// The ranges of the set, rising, none empty, and none touching the next: the one normal list of this set. Takes no
-    /// memory.
+    /// The ranges of the set, rising, none empty, and none touching the next: the one normal list
+    /// of this set. Takes no memory.
     pub fn ranges(&self) -> Ranges<'_>
         ensures normal { IsNormal result }
         ensures set { set_of result ≡ self.now }
@@ -99,17 +102,18 @@ impl Coverage {
         total
     }
 
-    /// The pixels in any of the pairs (from, to), `to` not included. They may come in any order, overlap or be empty.
+    /// The pixels in any of the pairs (from, to), `to` not included. They may come in any order,
+    /// overlap or be empty.
     ///
-    /// Refused with `Backwards` where `to < from`, and else with `PixelTooLarge` where `to` is above the pixel count, at
-    /// the first faulty pair; with `Memory` where no pair is faulty and memory runs out. O(n) where the pairs rise by
-    /// their starts, and else O(n log n).
+    /// Refused with `Backwards` where `to < from`, and else with `PixelTooLarge` where `to` is
+    /// above the pixel count, at the first faulty pair; with `Memory` where no pair is faulty and
+    /// memory runs out. O(n) where the pairs rise by their starts, and else O(n log n).
     pub fn from_ranges(alloc: Global, pairs: &[(u64, u64)]) -> Result<Coverage, RangesError>
         ensures union { IfOk result (λ c. c ≡ set_of pairs.now) }
         ensures accepted { OnOk result (first_fault pairs.now ≡ None) }
         ensures refused { IfErr result (λ e. e ≡ unwrap_or (first_fault pairs.now) RangesError.Memory) }
     {
-        check(pairs)?;
+        refuse_faulty(pairs)?;
         Ok(Coverage::from_faultless(alloc, pairs)?)
     }
 
@@ -121,13 +125,13 @@ impl Coverage {
         requires { first_fault pairs.now ≡ None }
         ensures { IfOk result (λ c. c ≡ set_of pairs.now) }
     {
-        let pairs = sorted(alloc, pairs)?;
-        let bounds = joined(alloc, &pairs)?;
-        Ok(Coverage { bounds })
+        let pairs = filled_by_start(alloc, pairs)?;
+        let bounds = bounds_of_union(alloc, &pairs)?;
+        Ok(Coverage::from_bounds(bounds))
     }
 
-    /// Adds the pixels from one up to, not including, another, where they do not begin before the last range, and answers
-    /// whether it did.
+    /// Adds the pixels from one up to, not including, another, where they do not begin before the
+    /// last range, and answers whether it did.
     #[inline]
     pub(crate) fn append(&mut self, from: u64, to: u64) -> Result<bool, AllocError>
         requires rising { from < to }
@@ -138,48 +142,63 @@ impl Coverage {
         append(&mut self.bounds, from, to)
     }
 
+    /// The set that these bounds store. Room that they leave free is given back where it is more
+    /// than they fill.
+    #[inline]
+    fn from_bounds(bounds: Vec<u64>) -> Coverage
+        requires { IsBounds bounds.items }
+        ensures { result ≡ set_of (pairs_of bounds.items) }
+    {
+        let mut bounds = bounds;
+        if bounds.capacity() / 2 > bounds.len() {
+            bounds.shrink_to_fit();
+        }
+        Coverage { bounds }
+    }
+
     /// How many ranges the set has.
     pub(crate) fn range_count(&self) -> usize {
         self.bounds.len() / 2
     }
 
-    /// The pixels of either set. One pass over the ranges where their extents overlap, and a copy of the others, O(n + m);
-    /// refused where memory runs out.
+    /// The pixels of either set. One pass over the ranges where their extents overlap, and a copy
+    /// of the others, O(n + m); refused where memory runs out.
     pub fn union(&self, alloc: Global, other: &Coverage) -> Result<Coverage, Memory>
         ensures set { IfOk result (λ c. c ≡ set.union self.now other.now) }
         ensures within { IsWithin self.now pixels }
     {
-        combined(alloc, Rule::UNION, &self.bounds, &other.bounds)
+        kept_by_rule(alloc, Rule::UNION, &self.bounds, &other.bounds)
     }
 
-    /// The pixels that both sets have. One pass over the ranges of each that reach into the extent of the other, found in
-    /// O(log n + log m); refused where memory runs out.
+    /// The pixels that both sets have. One pass over the ranges of each that reach into the extent
+    /// of the other, found in O(log n + log m); refused where memory runs out.
     pub fn intersection(&self, alloc: Global, other: &Coverage) -> Result<Coverage, Memory>
         ensures set { IfOk result (λ c. c ≡ set.intersection self.now other.now) }
         ensures within { IsWithin self.now pixels }
     {
         let mine = reaching(&self.bounds, &other.bounds);
         let theirs = reaching(&other.bounds, mine);
-        combined(alloc, Rule::INTERSECTION, mine, theirs)
+        kept_by_rule(alloc, Rule::INTERSECTION, mine, theirs)
     }
 
-    /// The pixels of this set that the other lacks. One pass over the ranges where their extents overlap, found in
-    /// O(log n + log m), and a copy of the others of this set; refused where memory runs out.
+    /// The pixels of this set that the other lacks. One pass over the ranges where their extents
+    /// overlap, found in O(log n + log m), and a copy of the others of this set; refused where
+    /// memory runs out.
     pub fn difference(&self, alloc: Global, other: &Coverage) -> Result<Coverage, Memory>
         ensures set { IfOk result (λ c. c ≡ set.difference self.now other.now) }
         ensures within { IsWithin self.now pixels }
     {
         let theirs = reaching(&other.bounds, &self.bounds);
-        combined(alloc, Rule::DIFFERENCE, &self.bounds, theirs)
+        kept_by_rule(alloc, Rule::DIFFERENCE, &self.bounds, theirs)
     }
 
-    /// The pixels that just one of the two sets has. One pass over the ranges where their extents overlap, and a copy of the
-    /// others, O(n + m); refused where memory runs out.
+    /// The pixels that just one of the two sets has. One pass over the ranges where their extents
+    /// overlap, and a copy of the others, O(n + m); refused where memory runs out.
     pub fn symmetric(&self, alloc: Global, other: &Coverage) -> Result<Coverage, Memory>
         ensures set { IfOk result (λ c. c ≡ symmetric self.now other.now) }
         ensures within { IsWithin self.now pixels }
     {
-        combined(alloc, Rule::SYMMETRIC, &self.bounds, &other.bounds)
+        kept_by_rule(alloc, Rule::SYMMETRIC, &self.bounds, &other.bounds)
     }
 
     /// The pixels of the sky that the set lacks. One pass, O(n); refused where memory runs out.
@@ -187,10 +206,11 @@ impl Coverage {
         ensures set { IfOk result (λ c. c ≡ complement self.now) }
         ensures within { IsWithin self.now pixels }
     {
-        combined(alloc, Rule::DIFFERENCE, &[0, PIXEL_COUNT], &self.bounds)
+        kept_by_rule(alloc, Rule::DIFFERENCE, &[0, PIXEL_COUNT], &self.bounds)
     }
 
-    /// The pixels of the set in one base pixel, 0 to 11: those p with `p / 4^29` equal to it. Above 11 it is the empty set.
+    /// The pixels of the set in one base pixel, 0 to 11: those p with `p / 4^29` equal to it. Above
+    /// 11 it is the empty set.
     ///
     /// O(log n), and the copy of the ranges that it answers; refused where memory runs out.
     pub fn part(&self, alloc: Global, base_pixel: u8) -> Result<Coverage, Memory>
@@ -205,7 +225,8 @@ impl Coverage {
         Ok(Coverage { bounds })
     }
 
-    /// Whether the set has a pixel in this base pixel; it has none above 11. O(log n), takes no memory.
+    /// Whether the set has a pixel in this base pixel; it has none above 11. O(log n), takes no
+    /// memory.
     pub fn meets_base_pixel(&self, base_pixel: u8) -> bool
         ensures { result ≡ nat_lt 0 (set.len (part_of self.now base_pixel)) }
     {
@@ -216,7 +237,8 @@ impl Coverage {
         self.meets_range(from, from + BASE_PIXEL_SIZE)
     }
 
-    /// Whether the set has every pixel of this base pixel; above 11 there is none. O(log n), takes no memory.
+    /// Whether the set has every pixel of this base pixel; above 11 there is none. O(log n), takes
+    /// no memory.
     pub fn covers_base_pixel(&self, base_pixel: u8) -> bool
         ensures { result ≡ set.is_subset (part_of pixels base_pixel) self.now }
     {
@@ -263,18 +285,19 @@ impl Coverage {
         !keeps_some(Rule::DIFFERENCE, &range, reaching(&self.bounds, &range))
     }
 
-    /// The set as cells of an order see it: all pixels of each cell of that order that it meets (MOC 2.0: degradation).
+    /// The set as cells of an order see it: all pixels of each cell of that order that it meets
+    /// (MOC 2.0: degradation).
     ///
     /// One pass, O(n); refused where memory runs out.
     pub fn degrade(&self, alloc: Global, order: Order) -> Result<Coverage, Memory>
         ensures { IfOk result (λ c. c ≡ degrade self.now order) }
     {
-        let bounds = joined_cells(alloc, order.cell_size(), self.ranges())?;
-        Ok(Coverage { bounds })
+        let bounds = bounds_of_cells(alloc, order.cell_size(), self.ranges())?;
+        Ok(Coverage::from_bounds(bounds))
     }
 
-    /// How many pixels of order 29 two sets have in common. One pass over the ranges of each that reach into the extent of
-    /// the other, found in O(log n + log m), takes no memory.
+    /// How many pixels of order 29 two sets have in common. One pass over the ranges of each that
+    /// reach into the extent of the other, found in O(log n + log m), takes no memory.
     pub fn count_common(&self, other: &Coverage) -> u64
         ensures size { result ≡ set.len (set.intersection self.now other.now) }
         ensures within { IsWithin self.now pixels }
@@ -284,8 +307,8 @@ impl Coverage {
         count_both(mine, theirs)
     }
 
-    /// Whether two sets have a pixel in common. One pass up to the first over the ranges of each that reach into the extent
-    /// of the other, found in O(log n + log m), takes no memory.
+    /// Whether two sets have a pixel in common. One pass up to the first over the ranges of each
+    /// that reach into the extent of the other, found in O(log n + log m), takes no memory.
     pub fn meets(&self, other: &Coverage) -> bool
         ensures some { result ≡ meets self.now other.now }
         ensures within { IsWithin self.now pixels }
@@ -295,8 +318,9 @@ impl Coverage {
         keeps_some(Rule::INTERSECTION, mine, theirs)
     }
 
-    /// Whether this set has every pixel of the other. One pass up to the first that it lacks over the other and the ranges of
-    /// this set that reach into its extent, found in O(log n), takes no memory.
+    /// Whether this set has every pixel of the other. One pass up to the first that it lacks over
+    /// the other and the ranges of this set that reach into its extent, found in O(log n), takes no
+    /// memory.
     pub fn covers(&self, other: &Coverage) -> bool
         ensures all { result ≡ set.is_subset other.now self.now }
         ensures within { IsWithin self.now pixels }
@@ -329,8 +353,8 @@ impl Coverage {
         Ok(Coverage { bounds })
     }
 
-    /// The cells of the set, in rising NUNIQ: those whose pixels the set has, while it lacks one of their parent's or they
-    /// are of order 0 (MOC 2.0: the normal form).
+    /// The cells of the set, in rising NUNIQ: those whose pixels the set has, while it lacks one of
+    /// their parent's or they are of order 0 (MOC 2.0: the normal form).
     ///
     /// One pass over the ranges for each order that can have cells; refused where memory runs out.
     pub fn cells(&self, alloc: Global) -> Result<Vec<Cell>, Memory>
@@ -338,7 +362,7 @@ impl Coverage {
         ensures within { IsWithin self.now pixels }
     {
         let (first, end) = orders_with_cells(self.ranges());
-        let mut cells = Vec::new(alloc);
+        let mut cells = Vec::with_capacity(alloc, self.range_count())?;
         for level in first..end {
             push_cells_of_order(&mut cells, Order::of(level), self.ranges())?;
         }
@@ -387,11 +411,11 @@ impl<'a> IntoIterator for &'a Coverage {
 
 /// What the rule keeps of two stored sets.
 #[inline]
-fn combined(alloc: Global, rule: Rule, xs: &[u64], ys: &[u64]) -> Result<Coverage, Memory>
+fn kept_by_rule(alloc: Global, rule: Rule, xs: &[u64], ys: &[u64]) -> Result<Coverage, Memory>
     requires xs { IsBounds xs.now }
     requires ys { IsBounds ys.now }
     ensures { IfOk result (λ c. IsCombined rule xs.now ys.now c) }
 {
     let bounds = sweep(alloc, rule, xs, ys)?;
-    Ok(Coverage { bounds })
+    Ok(Coverage::from_bounds(bounds))
 }

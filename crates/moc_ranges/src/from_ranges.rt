@@ -1,4 +1,5 @@
-//! From pairs in any order to the bounds of their union, and from ranges to the cells that they meet.
+//! From pairs in any order to the bounds of their union, and from ranges to the cells that they
+//! meet.
 ghost use Rattle.std.specs.Prelude.{◌≡◌, ℕ, ◌*◌, ◌<◌, ◌≤◌, ◌++◌, ◌||◌, ◌&&◌, ◌∷◌, [], List, map, IfOk, IfErr, OnOk, OnErr, None, Some};
 ghost use Rattle.moc_ranges.specs.Faults.{first_fault};
 ghost use Rattle.moc_ranges.specs.Private.Sorted.{IsSortedFrom};
@@ -14,7 +15,7 @@ use crate::ranges::Ranges;
 use std::alloc::{AllocError, Global};
 
 /// Refuses the first faulty pair.
-pub fn check(pairs: &[(u64, u64)]) -> Result<(), RangesError>
+pub fn refuse_faulty(pairs: &[(u64, u64)]) -> Result<(), RangesError>
     ensures ok { OnOk result (first_fault pairs.now ≡ None) }
     ensures err { IfErr result (λ e. first_fault pairs.now ≡ Some e) }
 {
@@ -29,8 +30,9 @@ pub fn check(pairs: &[(u64, u64)]) -> Result<(), RangesError>
     Ok(())
 }
 
-/// The pairs that are not empty, by their starts. They are sorted only where they do not rise already.
-pub fn sorted(alloc: Global, pairs: &[(u64, u64)]) -> Result<Vec<(u64, u64)>, AllocError>
+/// The pairs that are not empty, by their starts. They are sorted only where they do not rise
+/// already.
+pub fn filled_by_start(alloc: Global, pairs: &[(u64, u64)]) -> Result<Vec<(u64, u64)>, AllocError>
     requires { first_fault pairs.now ≡ None }
     ensures order { IfOk result (λ v. IsSortedFrom 0 v.items) }
     ensures set { IfOk result (λ v. (q : ℕ) → in_ranges v.items q ≡ in_ranges pairs.now q) }
@@ -51,7 +53,8 @@ pub fn sorted(alloc: Global, pairs: &[(u64, u64)]) -> Result<Vec<(u64, u64)>, Al
     Ok(filled)
 }
 
-/// The bounds of ranges that rise by their starts, as far as they are settled, and the range behind them, which may grow.
+/// The bounds of ranges that rise by their starts, as far as they are settled, and the range behind
+/// them, which may grow.
 #[derive(Drop)]
 struct Joiner {
     bounds: Vec<u64>,
@@ -60,7 +63,8 @@ struct Joiner {
 }
 
 impl Joiner {
-    /// Takes in the next range: it joins the open one where they overlap or touch, and else settles that.
+    /// Takes in the next range: it joins the open one where they overlap or touch, and else settles
+    /// that.
     #[inline]
     fn take_in(&mut self, range: (u64, u64)) -> Result<(), AllocError>
         ensures { OnOk result ((rest whole : List (ℕ × ℕ))
@@ -91,7 +95,7 @@ impl Joiner {
 }
 
 /// The bounds of what lies in any of the pairs.
-pub fn joined(alloc: Global, pairs: &[(u64, u64)]) -> Result<Vec<u64>, AllocError>
+pub fn bounds_of_union(alloc: Global, pairs: &[(u64, u64)]) -> Result<Vec<u64>, AllocError>
     requires { IsSortedFrom 0 pairs.now }
     ensures bounds { IfOk result (λ v. IsBounds v.items) }
     ensures set { IfOk result (λ v. (q : ℕ) → inside v.items q ≡ in_ranges pairs.now q) }
@@ -109,7 +113,8 @@ pub fn joined(alloc: Global, pairs: &[(u64, u64)]) -> Result<Vec<u64>, AllocErro
     Ok(bounds)
 }
 
-/// Adds a range to bounds, where it does not begin before the last of theirs, and answers whether it did.
+/// Adds a range to bounds, where it does not begin before the last of theirs, and answers whether
+/// it did.
 #[inline]
 pub fn append(bounds: &mut Vec<u64>, from: u64, to: u64) -> Result<bool, AllocError>
     requires bounds { IsBounds bounds.old.items }
@@ -133,9 +138,10 @@ pub fn append(bounds: &mut Vec<u64>, from: u64, to: u64) -> Result<bool, AllocEr
     Ok(true)
 }
 
-/// A range from the start of the first cell that it meets to the end of the last, where cells have this size.
+/// A range from the start of the first cell that it meets to the end of the last, where cells have
+/// this size.
 #[inline]
-fn widened(size: u64, from: u64, to: u64) -> (u64, u64)
+fn cells_around(size: u64, from: u64, to: u64) -> (u64, u64)
     requires size { IsCellSize size }
     requires rising { from < to }
     requires within { to ≤ pixel_count }
@@ -146,7 +152,7 @@ fn widened(size: u64, from: u64, to: u64) -> (u64, u64)
 }
 
 /// The bounds of what lies in any of the ranges, each widened to whole cells of a size.
-pub fn joined_cells(
+pub fn bounds_of_cells(
     alloc: Global,
     size: u64,
     mut ranges: Ranges<'_>,
@@ -156,14 +162,14 @@ pub fn joined_cells(
     ensures bounds { IfOk result (λ v. IsBounds v.items) }
     ensures set { IfOk result (λ v. (q : ℕ) → inside v.items q ≡ in_ranges (map (widen size) ranges.entry) q) }
 {
-    let bounds = Vec::new(alloc);
+    let bounds = Vec::with_capacity(alloc, ranges.size_hint().0.saturating_mul(2))?;
     let Some((first, last)) = ranges.next() else {
         return Ok(bounds);
     };
-    let (from, to) = widened(size, first, last);
+    let (from, to) = cells_around(size, first, last);
     let mut joiner = Joiner { bounds, from, to };
     for (first, last) in ranges {
-        joiner.take_in(widened(size, first, last))?;
+        joiner.take_in(cells_around(size, first, last))?;
     }
     let bounds = joiner.finish()?;
     Ok(bounds)

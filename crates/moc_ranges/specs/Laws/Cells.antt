@@ -1,4 +1,5 @@
--- What callers know of the cells of a set: they are cells, in rising NUNIQ, and their pixels are just the set's.
+-- What callers know of the cells of a set: they are cells, in rising NUNIQ, and their pixels are
+-- just the set's.
 use Rattle.std.proofs.Common.{◌≡◌, ℕ, zero, suc, ◌+◌, ◌-◌, ◌*◌, ◌/◌, ◌^◌, ◌<◌, ◌≤◌, Bool, true, false, cond, ◌||◌, List, [], ◌∷◌, ◌++◌, map, refl, sym, ap, subst, ◌∙◌, inl, inr, arith}
 use Rattle.std.specs.Prelude.{nat_le, nat_lt, ⊤}
 use Rattle.std.specs.FinSet as set

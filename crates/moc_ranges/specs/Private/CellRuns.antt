@@ -13,7 +13,8 @@ cells_at a k = filter (is_cell_of a) (map (cell_number k) (range_with_len 0 (cel
 abbrev pub cells_between : ℕ → ℕ → ℕ → List CellNumber
 cells_between k first last = map (cell_number k) (range_with_len first (last - first))
 
--- the cells of order k from `first` up to, not including, `last` are those that lie whole in a range
+-- the cells of order k from `first` up to, not including, `last` are those that lie whole in a
+-- range
 pub record AreWhole (k from to first last : ℕ) : Type 0 where
   pub each : (i : ℕ) → ((first ≤ i) × (i < last)) ↔ ((from ≤ i * cell_size k) × ((i + 1) * cell_size k ≤ to))
   pub in_range : last ≤ cell_count k

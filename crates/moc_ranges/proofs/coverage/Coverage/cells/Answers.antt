@@ -9,7 +9,7 @@ loop-level-init c =
     let first = c.orders_with_cells-first.result.0 in
     let orders = subst (λ (a : NumberSet). HasOrders a first c.orders_with_cells-first.result.1) c.ranges-2.ensures.set c.orders_with_cells-first.ensures in
     record {
-      found = c.new-cells.ensures.items ∙ sym (cells_before c.args.self.now first _ first orders (omega arith) orders.first_in_range);
+      found = c.in_ok-cells.ensures.items ∙ sym (cells_before c.args.self.now first _ first orders (omega arith) orders.first_in_range);
       within = omega arith;
     }
 

@@ -2,7 +2,7 @@ use Rattle.std.proofs.Common.{map}
 use Rattle.moc_ranges.specs.RangeList.{IsNormal}
 use Rattle.moc_ranges.specs.Private.Widen.{widen}
 use Rattle.moc_ranges.specs.Private.Joining.{Joining}
-use Rattle.moc_ranges.proofs.from_ranges.joined_cells.Given as goal
+use Rattle.moc_ranges.proofs.from_ranges.bounds_of_cells.Given as goal
 
 abbrev pub invariant-loop-first : goal.invariant-loop-first
 invariant-loop-first l = record {

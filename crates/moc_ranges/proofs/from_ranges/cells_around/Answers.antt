@@ -1,7 +1,7 @@
 use Rattle.std.proofs.Common.{◌-◌, ◌+◌, arith}
 use Rattle.moc_sphere.specs.CellNumber.{cell_size-positive}
 use Rattle.moc_ranges.proofs.Widening.{masked, wide_room}
-use Rattle.moc_ranges.proofs.from_ranges.widened.Goals as goal
+use Rattle.moc_ranges.proofs.from_ranges.cells_around.Goals as goal
 
 pub overflow_sub-mask : goal.overflow_sub-mask
 overflow_sub-mask c = omega (arith, c.requires.size.is, cell_size-positive c.requires.size.order)
