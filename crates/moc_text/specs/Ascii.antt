@@ -118,7 +118,8 @@ ShapeFaultAt at p (b ∷ rest) f = f ≡ BadByte (at + length p)
 
 -- The word has no shape, and this fault.
 abbrev pub HasShapeFault : Word → TextError → Type 0
-HasShapeFault w f = (p rest : List ℕ) × IsLongestBeginning p rest w.bytes × ShapeFaultAt w.at p rest f
+HasShapeFault w f =
+    (p rest : List ℕ) × IsLongestBeginning p rest w.bytes × ShapeFaultAt w.at p rest f
 
 -- ---- what a lawful word means
 
@@ -133,7 +134,8 @@ mark_at at m = number_at (at + length (prefix m.prefixed)) m.order
 -- the numbers of an item that begins at a place
 abbrev pub item_at : ℕ → Cells → Item
 item_at at (One a) = record { first = number_at at a; last = None }
-item_at at (Run a b) = record { first = number_at at a; last = Some (number_at (at + length a + 1) b) }
+item_at at (Run a b) =
+    record { first = number_at at a; last = Some (number_at (at + length a + 1) b) }
 
 -- the numbers of a word of this shape that begins at a place
 abbrev pub parts_at : ℕ → Shape → Parts
@@ -144,7 +146,8 @@ parts_at at (MarkItem m c) =
 
 -- The word is lawful, and these are its numbers.
 abbrev pub Means : Word → Parts → Type 0
-Means w n = (shape : Shape) × IsShape shape × (w.bytes ≡ shape_text shape) × (n ≡ parts_at w.at shape)
+Means w n =
+    (shape : Shape) × IsShape shape × (w.bytes ≡ shape_text shape) × (n ≡ parts_at w.at shape)
 
 -- the order in force at a mark or none, where `before` was in force before it
 abbrev pub order_at : Option ℕ → Option Number → Option ℕ
@@ -206,7 +209,9 @@ item_pixels (Some k) (Some i) = spans k i.first.value (last_of i).value
 abbrev pub pixels_said : Option ℕ → List Parts → NumberSet
 pixels_said before [] = set.empty
 pixels_said before (n ∷ ns) =
-    set.union (item_pixels (order_at before n.mark) n.item) (pixels_said (order_at before n.mark) ns)
+    set.union
+      (item_pixels (order_at before n.mark) n.item)
+      (pixels_said (order_at before n.mark) ns)
 
 -- the greater of two orders that may be none
 abbrev pub deeper : Option ℕ → Option ℕ → Option ℕ

@@ -1,4 +1,5 @@
--- Writing the ASCII form of a coverage (MOC 2.0): its cells by rising order, and within an order by rising index.
+-- Writing the ASCII form of a coverage (MOC 2.0): its cells by rising order, and within an order
+-- by rising index.
 use Rattle.std.specs.Prelude.{ℕ, ◌+◌, Bool, ◌&&◌, ◌==◌, nat_lt, ◌<◌, if◌then◌else◌, List, [], ◌∷◌, ◌++◌, Option, Some, None, decimal}
 use Rattle.std.specs.List.{Any, join_with_byte}
 use Rattle.moc_sphere.specs.CellNumber.{CellNumber}

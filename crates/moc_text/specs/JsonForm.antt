@@ -1,4 +1,5 @@
--- Reading the JSON form of a coverage (MOC 2.0): the names of an object are orders, and their arrays are cells.
+-- Reading the JSON form of a coverage (MOC 2.0): the names of an object are orders, and their
+-- arrays are cells.
 use Rattle.std.specs.Prelude.{◌≡◌, ℕ, ◌+◌, ◌&&◌, ◌==◌, not, nat_lt, if◌then◌else◌, List, Option, Some, None, option_and_then, length, IsUtf8, ◌⊎◌}
 use Rattle.std.specs.Option.{option_or}
 use Rattle.std.specs.Str.{all_ascii_digits}

@@ -1,4 +1,5 @@
--- The reading of an ASCII text as a function: the one that what a text says, and its first fault, leave.
+-- The reading of an ASCII text as a function: the one that what a text says, and its first fault,
+-- leave.
 use Rattle.std.specs.Prelude.{◌≡◌, ℕ, ◌+◌, List, [], ◌∷◌, length, Option, Some, None, Result, Ok, Err, MatchResult, ◌⊎◌}
 use Rattle.moc_ranges.specs.Numbers.{NumberSet}
 use Rattle.moc_text.specs.declared.ascii.number.Parts.{Parts}

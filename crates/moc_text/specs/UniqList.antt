@@ -13,9 +13,9 @@ use Rattle.moc_text.specs.declared.uniq.UniqError.TheVariants.{BadByte, NotUniq}
 
 -- ---- reading
 
--- what is wrong with the number on the line of a number, if anything: NUNIQ numbers begin at 4 and end before 2^62
+-- what is wrong with a number on a line, if anything: NUNIQ numbers are those from 4 to 2^62 - 1
 abbrev pub number_fault : ℕ → ℕ → Option UniqError
-number_fault number n = if nat_lt n 4 || not (nat_lt n (2 ^ 62)) then Some (NotUniq number) else None
+number_fault line n = if nat_lt n 4 || not (nat_lt n (2 ^ 62)) then Some (NotUniq line) else None
 
 -- what is wrong with the line of a number, if anything; an empty line is skipped
 abbrev pub line_fault : ℕ → List ℕ → Option UniqError
@@ -27,7 +27,8 @@ line_fault number (b ∷ line) =
 -- the fault of the first faulty line, where the lines are numbered from a number on
 abbrev pub fault_from : ℕ → List (List ℕ) → Option UniqError
 fault_from number [] = None
-fault_from number (line ∷ lines) = option_or (line_fault number line) (fault_from (number + 1) lines)
+fault_from number (line ∷ lines) =
+    option_or (line_fault number line) (fault_from (number + 1) lines)
 
 -- the fault of the first faulty line of a text
 unfoldable pub uniq_fault : List ℕ → Option UniqError

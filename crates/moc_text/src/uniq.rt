@@ -106,7 +106,8 @@ pub fn read_uniq(alloc: Global, text: &[u8]) -> Result<Coverage, UniqError>
     ensures fault { IfErr result (λ e. Fails UniqError.Memory (uniq_fault text.now) e) }
 
     // So a text that says a set is read as that set.
-    ensures reading { (a : NumberSet) → SaysUniq text.now a → MatchResult result (λ c. c ≡ a) (λ e. e ≡ UniqError.Memory) }
+    ensures reading { (a : NumberSet) → SaysUniq text.now a
+        → MatchResult result (λ c. c ≡ a) (λ e. e ≡ UniqError.Memory) }
 {
     let mut cells = CoverageBuilder::new(alloc);
     let mut line = 1;

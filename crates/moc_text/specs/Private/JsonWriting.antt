@@ -16,7 +16,8 @@ past_order k [] = []
 past_order k (c ∷ cells) = if c.order == k then past_order k cells else c ∷ cells
 
 -- The cells of the orders below a depth are in the members, and the others are left.
-pub record MembersSoFar (cells rest : List CellNumber) (bare : Option ℕ) (depth : ℕ) (members : Members) : Type 0 where
+pub record MembersSoFar (cells rest : List CellNumber) (bare : Option ℕ) (depth : ℕ)
+    (members : Members) : Type 0 where
   pub rising : AreRising depth rest
   pub left : (k : ℕ) → depth ≤ k → data_at k rest ≡ data_at k cells
   pub are : members ≡ members_below cells bare depth

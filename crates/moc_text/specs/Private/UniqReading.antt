@@ -14,14 +14,16 @@ after_line [] = Some []
 after_line (b ∷ bytes) = if is_line_feed b then Some bytes else None
 
 -- These cells were added, whose numbers are those of the lines before the rest.
-pub record IsPart (bytes : List ℕ) (old : NumberSet) (rest : List ℕ) (new : NumberSet) : Type 0 where
+pub record IsPart (bytes : List ℕ) (old : NumberSet) (rest : List ℕ) (new : NumberSet)
+    : Type 0 where
   pub cells : List CellNumber
   pub are_cells : AllByRecursion IsCell cells
   pub numbers : numbers_on (lines_of bytes) ≡ map uniq_of cells ++ numbers_on (lines_of rest)
   pub set_is : new ≡ set.union old (pixels_of cells)
 
 -- The line at the front, of this number, is read.
-pub record IsLineRead (line : ℕ) (bytes : List ℕ) (old : NumberSet) (rest : List ℕ) (new : NumberSet) : Type 0 where
+pub record IsLineRead (line : ℕ) (bytes : List ℕ) (old : NumberSet) (rest : List ℕ)
+    (new : NumberSet) : Type 0 where
   pub shorter : length rest < length bytes
   pub part : IsPart bytes old rest new
   pub fault : fault_from line (lines_of bytes) ≡ fault_from (line + 1) (lines_of rest)

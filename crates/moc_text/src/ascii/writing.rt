@@ -184,7 +184,8 @@ pub fn write_ascii(
 ) -> Result<String, TextError>
     ensures text { IfOk result (λ t. string_bytes t ≡ ascii_text set.now stated) }
     ensures fits { OnOk result (¬ IsTooCoarse set.now stated) }
-    ensures fault { IfErr result (λ e. (e ≡ TextError.Memory) ⊎ ((e ≡ TextError.TooCoarse) × IsTooCoarse set.now stated)) }
+    ensures fault { IfErr result (λ e. (e ≡ TextError.Memory)
+        ⊎ ((e ≡ TextError.TooCoarse) × IsTooCoarse set.now stated)) }
 
     // A written text says the set that was written, and the stated order, or else the deepest order written.
     ensures reads_back { IfOk result (λ t. Says (string_bytes t) set.now (deepest_written set.now stated)) }

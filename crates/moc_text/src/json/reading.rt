@@ -139,7 +139,8 @@ fn read_members(
 
 /// Reads JSON (RFC 8259) by `serde_json`.
 fn parse(alloc: Global, text: &[u8]) -> Result<Value, JsonError>
-    ensures { MatchResult result (λ v. IsJson text.now (view v)) (λ e. (e ≡ JsonError.Memory) ⊎ ((e ≡ JsonError.NotJson) × IsNotJson text.now)) }
+    ensures { MatchResult result (λ v. IsJson text.now (view v))
+        (λ e. (e ≡ JsonError.Memory) ⊎ ((e ≡ JsonError.NotJson) × IsNotJson text.now)) }
 {
     match Value::from_slice(alloc, text) {
         Ok(value) => Ok(value),

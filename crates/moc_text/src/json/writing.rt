@@ -54,7 +54,8 @@ fn put_order(
     bare: Option<u8>,
     numbers: Vec<Value>,
 ) -> Result<(), AllocError>
-    ensures { OnOk result (members_view members.new.entries ≡ with_order depth bare (map view numbers.items) (members_view members.old.entries)) }
+    ensures { OnOk result (members_view members.new.entries
+        ≡ with_order depth bare (map view numbers.items) (members_view members.old.entries)) }
 {
     if !is_name(depth, bare, &numbers) {
         return Ok(());
@@ -90,7 +91,8 @@ fn members_of(
 pub fn write_json(alloc: Global, set: &Coverage, stated: Option<Order>) -> Result<String, JsonError>
     ensures text { IfOk result (λ t. string_bytes t ≡ json_text set.now stated) }
     ensures fits { OnOk result (¬ IsTooCoarse set.now stated) }
-    ensures fault { IfErr result (λ e. (e ≡ JsonError.Memory) ⊎ ((e ≡ JsonError.TooCoarse) × IsTooCoarse set.now stated)) }
+    ensures fault { IfErr result (λ e. (e ≡ JsonError.Memory)
+        ⊎ ((e ≡ JsonError.TooCoarse) × IsTooCoarse set.now stated)) }
 
     // A written text says the set that was written, and the stated order, or else the deepest order written.
     ensures reads_back { IfOk result (λ t. SaysJson (string_bytes t) set.now (deepest_written set.now stated)) }
