@@ -4,19 +4,20 @@ use Rattle.std.specs.Char.{is_ascii_digit, digit_value}
 use Rattle.std.specs.Int.{IsInRange}
 use Rattle.std.specs.Option.{ForSome}
 use Rattle.std.proofs.lemmas.Bool.{ltb-true, ltb-false}
-use Rattle.moc_text.specs.Ascii.{order_at, last_of, mark_fault, item_fault, item_spans}
-use Rattle.moc_sphere.specs.CellNumber.{cell_count, cell_size}
-use Rattle.moc_text.specs.declared.error.TextError.{TextError}
-use Rattle.moc_text.specs.declared.error.TextError.TheVariants.{OrderTooLarge, CellTooLarge, Backwards}
+use Rattle.moc_text.specs.Ascii.{order_at, last_of, mark_fault, item_fault, item_pixels}
+use Rattle.moc_sphere.specs.CellNumber.{cell_count}
+use Rattle.moc_ranges.specs.Cells.{spans}
+use Rattle.moc_text.specs.declared.ascii.error.TextError.{TextError}
+use Rattle.moc_text.specs.declared.ascii.error.TextError.TheVariants.{OrderTooLarge, CellTooLarge, Backwards}
 use Rattle.moc_text.proofs.Powers.{cells_fit}
 use Rattle.std.specs.Str.{all_ascii_digits}
 use Rattle.std.specs.Str.Parse.{digits_value_after, digits_value}
 use Rattle.std.proofs.lemmas.Str.{digit_value_digit}
 use Rattle.std.proofs.lemmas.Bool.Decides.{nat_tests}
 use Rattle.moc_text.specs.Scan.{held_after}
-use Rattle.moc_text.specs.declared.number.Number.{Number}
-use Rattle.moc_text.specs.declared.number.Item.{Item}
-use Rattle.moc_text.specs.declared.number.Parts.{Parts}
+use Rattle.moc_text.specs.declared.ascii.number.Number.{Number}
+use Rattle.moc_text.specs.declared.ascii.number.Item.{Item}
+use Rattle.moc_text.specs.declared.ascii.number.Parts.{Parts}
 use Rattle.moc_text.proofs.Automaton.{both}
 
 is_digit : (d : ℕ) → is_ascii_digit d ≡ true → IsInRange 48 57 d
@@ -139,14 +140,14 @@ tests_pass cells first last h =
 pub item_cells : (k at : ℕ) (i : Item) → item_fault (Some k) at (Some i) ≡ None → (i.first.value < cell_count k) × ((last_of i).value < cell_count k) × (i.first.value ≤ (last_of i).value)
 item_cells k at i h = tests_pass (cell_count k) i.first (last_of i) h
 
-pub item_spans-held : (k : Option ℕ) (at : ℕ) (i : Option Item) → IsSmall k → item_fault k at i ≡ None → item_spans k (held_maybe i) ≡ item_spans k i
-item_spans-held None at i small h = refl
-item_spans-held (Some k) at None small h = refl
-item_spans-held (Some k) at (Some i) small h =
+pub item_pixels-held : (k : Option ℕ) (at : ℕ) (i : Option Item) → IsSmall k → item_fault k at i ≡ None → item_pixels k (held_maybe i) ≡ item_pixels k i
+item_pixels-held None at None small h = refl
+item_pixels-held None at (Some i) small h = refl
+item_pixels-held (Some k) at None small h = refl
+item_pixels-held (Some k) at (Some i) small h =
     let p = item_cells k at i h in
     let fit : cell_count k ≤ 2 ^ 64 - 1 = omega (arith, cells_fit k (small k refl)) in
     let x : min i.first.value (2 ^ 64 - 1) ≡ i.first.value = held_below (2 ^ 64 - 1) (cell_count k) i.first.value p.0 fit in
     let y : min (last_of i).value (2 ^ 64 - 1) ≡ (last_of i).value = held_below (2 ^ 64 - 1) (cell_count k) (last_of i).value p.1 fit in
     let z : (last_of (held_item i)).value ≡ (last_of i).value = ap (λ (n : Number). n.value) (last_of-held i) ∙ y in
-    ap (λ (f : ℕ). (f * cell_size k, ((last_of (held_item i)).value + 1) * cell_size k) ∷ []) x
-    ∙ ap (λ (l : ℕ). (i.first.value * cell_size k, (l + 1) * cell_size k) ∷ []) z
+    ap (λ (f : ℕ). spans k f (last_of (held_item i)).value) x ∙ ap (spans k i.first.value) z

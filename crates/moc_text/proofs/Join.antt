@@ -2,10 +2,10 @@
 use Rattle.std.proofs.Common.{◌≡◌, ℕ, List, [], ◌∷◌, ◌++◌, Option, Some, None, true, false, cond, ltb, refl, sym, ap, ◌∙◌, ◌-◌, ◌≤◌, length, take, drop, get_or, arith}
 use Rattle.std.specs.List.{join_with_byte}
 use Rattle.std.proofs.lemmas.List.{append-nil, take_all}
-use Rattle.moc_text.specs.AsciiText.{order_text, mark_text_of, run_text, stated_words, words_of, runs_from, one, text_of_cells}
-use Rattle.moc_text.specs.Writing.{run_part, spaced, stated_part, onward}
+use Rattle.moc_text.specs.AsciiText.{order_text, mark_text_of, run_text, stated_beyond, bare_words, words_of, runs_from, one, text_of_cells}
+use Rattle.moc_text.specs.Private.AsciiWriting.{run_part, spaced, stated_part, onward}
 use Rattle.moc_sphere.specs.CellNumber.{CellNumber}
-use Rattle.moc_text.specs.declared.writing.Run.{Run}
+use Rattle.moc_text.specs.declared.ascii.writing.Run.{Run}
 
 -- words behind a word
 abbrev behind : List (List ℕ) → List ℕ
@@ -16,12 +16,12 @@ join-cons : (w : List ℕ) (ws : List (List ℕ)) → join_with_byte 32 (w ∷ w
 join-cons w [] = sym (append-nil w)
 join-cons w (v ∷ ws) = refl
 
-stated-behind : (j : ℕ) (stated : Option ℕ) → stated_part (Some j) stated ≡ behind (stated_words (Some j) stated)
-stated-behind j None = refl
-stated-behind j (Some k) = elim (ltb j k) as (λ v. spaced (Some j) (cond v (order_text k ∷ []) []) ≡ behind (cond v (order_text k ∷ []) [])) [ true ↦ refl | false ↦ refl ]
+bare-behind : (j : ℕ) (bare : Option ℕ) → spaced (Some j) (bare_words bare) ≡ behind (bare_words bare)
+bare-behind j None = refl
+bare-behind j (Some k) = refl
 
 onward-behind : (stated : Option ℕ) (j : ℕ) (rs : List Run) → onward stated (Some j) rs ≡ behind (words_of stated (Some j) rs)
-onward-behind stated j [] = stated-behind j stated
+onward-behind stated j [] = bare-behind j (stated_beyond (Some j) stated)
 onward-behind stated j (r ∷ rs) =
     let w = mark_text_of (Some j) r.order ++ run_text r in
     ap (λ (t : List ℕ). run_part (Some j) r ++ t) (onward-behind stated r.order rs)

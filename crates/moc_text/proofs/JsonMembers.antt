@@ -1,29 +1,65 @@
--- One more member of an object.
-use Rattle.std.proofs.Common.{◌≡◌, ℕ, ◌+◌, List, ◌++◌, Option, Some, None, Result, Ok, Err, refl, sym, ap, ◌∙◌, arith, append_assoc}
-use Rattle.serde_json.specs.Data.{Data, Members, member}
+-- The members of an object, one by one.
+use Rattle.std.proofs.Common.{◌≡◌, ℕ, ◌+◌, List, Option, Some, None, refl, sym, ap, ◌∙◌, inl, inr}
+use Rattle.std.specs.Option.{option_or}
+use Rattle.std.specs.FinSet as set
+use Rattle.serde_json.specs.Data.{Data, Items, item, Members, member}
+use Rattle.serde_json.specs.Find.{as_array, as_object}
+use Rattle.serde_json.specs.Read.{read}
+use Rattle.moc_ranges.specs.Numbers.{NumberSet}
+use Rattle.moc_ranges.specs.Laws.{union-assoc}
 use Rattle.moc_text.specs.Ascii.{deeper}
-use Rattle.moc_text.specs.JsonForm.{◌>>=◌, order_of_name, cells_of_name, members_from}
-use Rattle.moc_text.specs.JsonScan.{with_front, after_members}
-use Rattle.moc_text.specs.declared.json.JsonError.{JsonError}
+use Rattle.moc_text.specs.Faults.{Fails}
+use Rattle.moc_text.specs.JsonForm.{order_of_name, whole, cell_pixels, item_fault, items_pixels, items_fault, array_pixels, name_fault, members_pixels, members_fault, object_fault, deepest_name, IsJson, SaysJson, IsJsonFault}
+use Rattle.moc_text.specs.declared.json.error.JsonError.{JsonError}
+use Rattle.moc_text.proofs.ReadWords.{deeper_assoc}
 
-deeper_assoc : (a b c : Option ℕ) → deeper (deeper a b) c ≡ deeper a (deeper b c)
-deeper_assoc None b c = refl
-deeper_assoc (Some i) None c = refl
-deeper_assoc (Some i) (Some j) None = refl
-deeper_assoc (Some i) (Some j) (Some k) = ap (λ (n : ℕ). Some n) (omega arith)
+-- a fault comes before later ones
+pub first_fails : (m e : JsonError) (f later : Option JsonError) → Fails m f e → Fails m (option_or f later) e
+first_fails m e f later (inl none) = inl none
+first_fails m e f later (inr h) = inr (rw h refl)
 
-read_step : (spans spans' : List (ℕ × ℕ)) (deepest : Option ℕ) (k : ℕ) (r : Result (List (ℕ × ℕ)) JsonError) (o : Result (List (ℕ × ℕ) × Option ℕ) JsonError) → with_front spans r ≡ Ok spans'
-    → after_members spans' (deeper deepest (Some k)) o ≡ after_members spans deepest (r >>= (λ s. o >>= (λ x. Ok (s ++ x.0, deeper (Some k) x.1))))
-read_step spans spans' deepest k (Err e) o h = absurd cc
-read_step spans spans' deepest k (Ok s) (Err e) h = refl
-read_step spans spans' deepest k (Ok s) (Ok x) h =
-    let is : spans ++ s ≡ spans' = cc in
-    ap (λ (l : List (ℕ × ℕ)). Ok (l ++ x.0, deeper (deeper deepest (Some k)) x.1)) (sym is)
-    ∙ ap (λ (l : List (ℕ × ℕ)). Ok (l, deeper (deeper deepest (Some k)) x.1)) (append_assoc spans s x.0)
-    ∙ ap (λ (n : Option ℕ). Ok (spans ++ (s ++ x.0), n)) (deeper_assoc deepest (Some k) x.1)
+-- ---- items
 
-pub member_step : (spans spans' : List (ℕ × ℕ)) (deepest : Option ℕ) (name k : ℕ) (text : List ℕ) (d : Data) (ms : Members) → order_of_name text ≡ Some k → with_front spans (cells_of_name (Some k) name d) ≡ Ok spans'
-    → after_members spans' (deeper deepest (Some k)) (members_from (name + 1) ms) ≡ after_members spans deepest (members_from name (member text d ms))
-member_step spans spans' deepest name k text d ms o h =
-    read_step spans spans' deepest k (cells_of_name (Some k) name d) (members_from (name + 1) ms) h
-    ∙ ap (λ (j : Option ℕ). after_members spans deepest (cells_of_name j name d >>= (λ s. members_from (name + 1) ms >>= (λ x. Ok (s ++ x.0, deeper j x.1))))) (sym o)
+pub item_fine : (k name place : ℕ) (d : Data) (ds : Items) → item_fault k name place (whole d) ≡ None → items_fault k name (place + 1) ds ≡ items_fault k name place (item d ds)
+item_fine k name place d ds h = sym (ap (λ f. option_or f (items_fault k name (place + 1) ds)) h)
+
+pub item_added : (k : ℕ) (old new : NumberSet) (d : Data) (ds : Items) → new ≡ set.union old (cell_pixels k (whole d)) → set.union new (items_pixels k ds) ≡ set.union old (items_pixels k (item d ds))
+item_added k old new d ds h = ap (λ (a : NumberSet). set.union a (items_pixels k ds)) h ∙ union-assoc old (cell_pixels k (whole d)) (items_pixels k ds)
+
+-- ---- members
+
+pub member_fine : (name : ℕ) (text : List ℕ) (d : Data) (ms : Members) → name_fault name (order_of_name text) (as_array d) ≡ None → members_fault (name + 1) ms ≡ members_fault name (member text d ms)
+member_fine name text d ms h = sym (ap (λ f. option_or f (members_fault (name + 1) ms)) h)
+
+pub member_added : (old new : NumberSet) (text : List ℕ) (d : Data) (ms : Members) → new ≡ set.union old (array_pixels (order_of_name text) (as_array d)) → set.union new (members_pixels ms) ≡ set.union old (members_pixels (member text d ms))
+member_added old new text d ms h = ap (λ (a : NumberSet). set.union a (members_pixels ms)) h ∙ union-assoc old (array_pixels (order_of_name text) (as_array d)) (members_pixels ms)
+
+pub member_deepest : (old new : Option ℕ) (k : ℕ) (text : List ℕ) (d : Data) (ms : Members) → order_of_name text ≡ Some k → new ≡ deeper old (Some k) → deeper new (deepest_name ms) ≡ deeper old (deepest_name (member text d ms))
+member_deepest old new k text d ms o h =
+    ap (λ (x : Option ℕ). deeper x (deepest_name ms)) h ∙ deeper_assoc old (Some k) (deepest_name ms)
+    ∙ ap (λ (x : Option ℕ). deeper old (deeper x (deepest_name ms))) (sym o)
+
+-- ---- the text
+
+-- a value is read from bytes that are no other's
+one_value : (bytes : List ℕ) (c d : Data) → IsJson bytes c → IsJson bytes d → c ≡ d
+one_value bytes c d x y = let same : Some c ≡ Some d = sym x.value ∙ y.value in cc
+
+pub one_members : (bytes : List ℕ) (a b : NumberSet) (j k : Option ℕ) → SaysJson bytes a j → SaysJson bytes b k → (a ≡ b) × (j ≡ k)
+one_members bytes a b j k x y =
+    let value = one_value bytes x.value y.value x.json y.json in
+    let found : Some x.members ≡ Some y.members = sym x.object ∙ ap as_object value ∙ y.object in
+    let members : x.members ≡ y.members = cc in
+    (x.set_is ∙ ap members_pixels members ∙ sym y.set_is, x.deepest_is ∙ ap deepest_name members ∙ sym y.deepest_is)
+
+-- a text with a fault says no set
+pub faulty_says_nothing : (bytes : List ℕ) (a : NumberSet) (k : Option ℕ) (e : JsonError) → SaysJson bytes a k → IsJsonFault bytes e → ⊥
+faulty_says_nothing bytes a k e s (inl nothing) =
+    let none : read bytes ≡ None = nothing.1 s.json.utf8 in
+    let some : read bytes ≡ Some s.value = s.json.value in
+    absurd cc
+faulty_says_nothing bytes a k e s (inr d) =
+    let value = one_value bytes s.value d.0 s.json d.1 in
+    let fault : object_fault (Some s.members) ≡ Some e = ap object_fault (sym s.object ∙ ap as_object value) ∙ d.2 in
+    let none : members_fault 0 s.members ≡ None = s.faultless in
+    absurd cc

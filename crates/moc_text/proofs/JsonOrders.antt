@@ -8,7 +8,7 @@ use Rattle.std.proofs.lemmas.Str.{digit_value_digit}
 use Rattle.std.proofs.lemmas.Bool.{ltb-false}
 use Rattle.std.proofs.lemmas.Bool.Decides.{nat_tests}
 use Rattle.moc_text.specs.JsonForm.{order_up_to_29, order_of_name}
-use Rattle.moc_text.specs.JsonScan.{held_order}
+use Rattle.moc_text.specs.Private.JsonReading.{held_order}
 
 both : (a b : Bool) → (a && b) ≡ true → (a ≡ true) × (b ≡ true)
 both true b h = (refl, h)

@@ -7,27 +7,30 @@ use Rattle.std.specs.FinSet as set
 use Rattle.std.specs.List.{filter, range_with_len, AllByRecursion}
 use Rattle.std.specs.Option.{ForSome}
 use Rattle.std.specs.Str.Parse.{digits_value}
-use Rattle.std.proofs.lemmas.Bool.{cases_order, cases_lt, eq-eqb, ne_eqb, eqb-true, lt-ltb, le-ltb}
+use Rattle.std.proofs.lemmas.Bool.{cases_order, cases_lt, eq-eqb, ne_eqb, eqb-true, lt-ltb, le-ltb, ltb-false}
 use Rattle.std.proofs.lemmas.Bool.Decides.{nat_tests}
-use Rattle.std.proofs.lemmas.List.Folds.{list_any-append}
+use Rattle.std.specs.Cmp.{nat_cmp_total}
+use Rattle.std.specs.Option.{option_or}
 use Rattle.std.proofs.lemmas.Map.Lookups.{exact_bytes}
 use Rattle.serde_json.specs.Data.{Data, array, Members, no_members, member, put, depth, items_depth, members_depth}
+use Rattle.serde_json.specs.Find.{as_array}
 use Rattle.serde_json.specs.View.{items_of}
 use Rattle.serde_json.specs.Read.{read, max_depth}
 use Rattle.serde_json.specs.Written.{has_float, items_have_float, members_have_float}
 use Rattle.moc_sphere.specs.CellNumber.{CellNumber, cell_number, cell_count, cell_size, IsCell}
 use Rattle.moc_ranges.specs.Numbers.{NumberSet, same_members}
 use Rattle.moc_ranges.specs.Pixels.{pixels}
-use Rattle.moc_ranges.specs.RangeList.{set_of, in_range, in_ranges, contains-set_of}
 use Rattle.moc_ranges.specs.Operations.{IsWithin}
-use Rattle.moc_ranges.specs.Cells.{is_cell_of, cells_below, cells_of}
-use Rattle.moc_ranges.specs.CellLaws.{cell_range, cells_are, cells_fill}
+use Rattle.moc_ranges.specs.Cells.{span, pixels_of, is_cell_of, cells_below, cells_of}
+use Rattle.moc_ranges.specs.CellLaws.{cells_are}
+use Rattle.moc_ranges.specs.Laws.{cells_fill}
 use Rattle.moc_text.specs.Ascii.{deeper, IsNumber}
-use Rattle.moc_text.specs.AsciiText.{HasDeeper, IsTooCoarse, deepest_cell, deepest_written}
-use Rattle.moc_text.specs.JsonForm.{order_of_name, cells_from, cells_of_name, members_from, SaysJson}
-use Rattle.moc_text.specs.JsonText.{datum, data_at, is_stated, is_name, with_order, members_below, json_value}
-use Rattle.moc_text.specs.JsonWriting.{AreRising, front_data, past_order, MembersSoFar}
-use Rattle.moc_text.proofs.Written.{IsNumber-decimal, value-decimal, not_deeper}
+use Rattle.moc_text.specs.AsciiText.{HasDeeper, IsTooCoarse, deepest_cell, deepest_written, stated_beyond}
+use Rattle.moc_text.specs.JsonForm.{order_of_name, items_pixels, items_fault, array_pixels, name_fault, members_pixels, members_fault, deepest_name, SaysJson}
+use Rattle.moc_text.specs.JsonText.{datum, data_at, is_bare, is_name, with_order, members_below, members_of_cells, json_value}
+use Rattle.moc_text.specs.Private.JsonWriting.{front_data, past_order, MembersSoFar}
+use Rattle.moc_text.specs.Private.AsciiWriting.{AreRising}
+use Rattle.moc_text.proofs.Written.{IsNumber-decimal, value-decimal, not_deeper, stated_is_deepest}
 
 -- ---- the cells of a set stand by rising order
 
@@ -190,27 +193,51 @@ members_flat cells n (member name d ms) h =
 
 pub no_float : (a : NumberSet) (stated : Option ℕ) → has_float (json_value a stated) ≡ false
 unfolding json_value
-no_float a stated = members_no_float (cells_of a) 30 (members_below (cells_of a) stated 30) (members_are (cells_of a) stated 30)
+no_float a stated =
+    let bare = stated_beyond (deepest_cell (cells_of a)) stated in
+    members_no_float (cells_of a) 30 (members_below (cells_of a) bare 30) (members_are (cells_of a) bare 30)
 
 pub shallow : (a : NumberSet) (stated : Option ℕ) → depth (json_value a stated) ≤ max_depth
 unfolding json_value
-shallow a stated = omega (arith, members_flat (cells_of a) 30 (members_below (cells_of a) stated 30) (members_are (cells_of a) stated 30))
+shallow a stated =
+    let bare = stated_beyond (deepest_cell (cells_of a)) stated in
+    omega (arith, members_flat (cells_of a) 30 (members_below (cells_of a) bare 30) (members_are (cells_of a) bare 30))
 
 -- ---- what the members say
 
 abbrev of_order : ℕ → List CellNumber → List CellNumber
 of_order k cells = filter (λ c. eqb c.order k) cells
 
-order_says : (k name place : ℕ) (cells : List CellNumber) → AllByRecursion IsCell cells → cells_from k name place (items_of (map datum (of_order k cells))) ≡ Ok (map cell_range (of_order k cells))
-order_says k name place [] h = refl
-order_says k name place (c ∷ cells) h =
-    elim (eqb c.order k) as (λ v. eqb c.order k ≡ v → cells_from k name place (items_of (map datum (cond v (c ∷ of_order k cells) (of_order k cells)))) ≡ Ok (map cell_range (cond v (c ∷ of_order k cells) (of_order k cells)))) [
+order_fine : (k name place : ℕ) (cells : List CellNumber) → AllByRecursion IsCell cells → items_fault k name place (items_of (map datum (of_order k cells))) ≡ None
+order_fine k name place [] h = refl
+order_fine k name place (c ∷ cells) h =
+    elim (eqb c.order k) as (λ v. eqb c.order k ≡ v → items_fault k name place (items_of (map datum (cond v (c ∷ of_order k cells) (of_order k cells)))) ≡ None) [
       | true ↦ λ e.
           let is : c.order ≡ k = eqb-true c.order k e in
           let fits : ltb c.index (cell_count k) ≡ true = lt-ltb c.index (cell_count k) (subst (λ j. c.index < cell_count j) is (h.0).index_in_range) in
-          let range : (c.index * cell_size k, (c.index + 1) * cell_size k) ≡ cell_range c = ap (λ j. (c.index * cell_size j, (c.index + 1) * cell_size j)) (sym is) in
-          rw (fits, order_says k name (place + 1) cells h.1) (ap (λ (r : ℕ × ℕ). Ok (r ∷ map cell_range (of_order k cells))) range)
-      | false ↦ λ e. order_says k name place cells h.1
+          rw fits (order_fine k name (place + 1) cells h.1)
+      | false ↦ λ e. order_fine k name place cells h.1
+    ] refl
+
+-- whether a pixel is in one of the cells
+abbrev in_cells : ℕ → List CellNumber → Bool
+in_cells q [] = false
+in_cells q (c ∷ cells) = set.contains (span c.order c.index) q || in_cells q cells
+
+contains-pixels_of : (q : ℕ) (cells : List CellNumber) → set.contains (pixels_of cells) q ≡ in_cells q cells
+unfolding pixels_of
+contains-pixels_of q [] = set.contains-empty nat_cmp q
+contains-pixels_of q (c ∷ cells) = set.contains-union nat_cmp_total (span c.order c.index) (pixels_of cells) q ∙ ap (λ b. set.contains (span c.order c.index) q || b) (contains-pixels_of q cells)
+
+order_has : (q k : ℕ) (cells : List CellNumber) → set.contains (items_pixels k (items_of (map datum (of_order k cells)))) q ≡ in_cells q (of_order k cells)
+order_has q k [] = set.contains-empty nat_cmp q
+order_has q k (c ∷ cells) =
+    elim (eqb c.order k) as (λ v. eqb c.order k ≡ v → set.contains (items_pixels k (items_of (map datum (cond v (c ∷ of_order k cells) (of_order k cells))))) q ≡ in_cells q (cond v (c ∷ of_order k cells) (of_order k cells))) [
+      | true ↦ λ e.
+          set.contains-union nat_cmp_total (span k c.index) (items_pixels k (items_of (map datum (of_order k cells)))) q
+          ∙ ap (λ b. set.contains (span k c.index) q || b) (order_has q k cells)
+          ∙ ap (λ (j : ℕ). set.contains (span j c.index) q || in_cells q (of_order k cells)) (sym (eqb-true c.order k e))
+      | false ↦ λ e. order_has q k cells
     ] refl
 
 name_is : (k : ℕ) → k < 30 → order_of_name (decimal k) ≡ Some k
@@ -220,7 +247,7 @@ name_is k lt =
     rw (some, n.1, value-decimal k (omega arith), le-ltb 29 k (omega arith)) refl
 
 abbrev has : ℕ → ℕ → List CellNumber → Bool
-has q k cells = in_ranges (map cell_range (of_order k cells)) q
+has q k cells = in_cells q (of_order k cells)
 
 -- whether a pixel is in the cells of a name
 abbrev named_has : ℕ → List CellNumber → Option ℕ → Bool
@@ -231,30 +258,27 @@ abbrev some_has : ℕ → List CellNumber → Members → Bool
 some_has q cells no_members = false
 some_has q cells (member name d ms) = named_has q cells (order_of_name name) || some_has q cells ms
 
-abbrev deepest_name : Members → Option ℕ
-deepest_name no_members = None
-deepest_name (member name d ms) = deeper (order_of_name name) (deepest_name ms)
-
 record Say (cells : List CellNumber) (ms : Members) (name : ℕ) : Type 0 where
-  spans : List (ℕ × ℕ)
-  deepest : Option ℕ
-  read : members_from name ms ≡ Ok (spans, deepest)
-  contain : (q : ℕ) → in_ranges spans q ≡ some_has q cells ms
-  deepest_is : deepest ≡ deepest_name ms
+  faultless : members_fault name ms ≡ None
+  contain : (q : ℕ) → set.contains (members_pixels ms) q ≡ some_has q cells ms
 
 members_say : (cells : List CellNumber) (n : ℕ) (ms : Members) (name : ℕ) → n ≤ 30 → AllByRecursion IsCell cells → AreMembers cells n ms → Say cells ms name
-members_say cells n no_members name le all h = record { spans = []; deepest = None; read = refl; contain = λ q. refl; deepest_is = refl }
+members_say cells n no_members name le all h = record { faultless = refl; contain = λ q. set.contains-empty nat_cmp q }
 members_say cells n (member text d ms) name le all h =
     let later = members_say cells n ms (name + 1) le all h.1 in
     let k = (h.0).order in
     let o : order_of_name text ≡ Some k = ap order_of_name (h.0).named ∙ name_is k (omega (arith, (h.0).below)) in
-    let here : cells_of_name (order_of_name text) name d ≡ Ok (map cell_range (of_order k cells)) = ap (λ (x : Option ℕ). cells_of_name x name d) o ∙ ap (cells_of_name (Some k) name) (h.0).has ∙ order_says k name 0 cells all in
+    let items : as_array d ≡ Some (items_of (data_at k cells)) = ap as_array (h.0).has in
+    let here : name_fault name (order_of_name text) (as_array d) ≡ None = rw (o, items) (order_fine k name 0 cells all) in
+    let pixels : array_pixels (order_of_name text) (as_array d) ≡ items_pixels k (items_of (data_at k cells)) = rw (o, items) refl in
     record {
-      spans = map cell_range (of_order k cells) ++ later.spans;
-      deepest = deeper (Some k) later.deepest;
-      read = rw (here, later.read) (ap (λ (x : Option ℕ). Ok (map cell_range (of_order k cells) ++ later.spans, deeper x later.deepest)) o);
-      contain = λ q. list_any-append (λ r. in_range r q) (map cell_range (of_order k cells)) later.spans ∙ ap (λ b. has q k cells || b) (later.contain q) ∙ ap (λ (x : Option ℕ). named_has q cells x || some_has q cells ms) (sym o);
-      deepest_is = ap (deeper (Some k)) later.deepest_is ∙ ap (λ (x : Option ℕ). deeper x (deepest_name ms)) (sym o);
+      faultless = ap (λ f. option_or f (members_fault (name + 1) ms)) here ∙ later.faultless;
+      contain = λ q.
+          set.contains-union nat_cmp_total (array_pixels (order_of_name text) (as_array d)) (members_pixels ms) q
+          ∙ ap (λ (a : NumberSet). set.contains a q || set.contains (members_pixels ms) q) pixels
+          ∙ ap (λ b. b || set.contains (members_pixels ms) q) (order_has q k cells)
+          ∙ ap (λ b. has q k cells || b) (later.contain q)
+          ∙ ap (λ (x : Option ℕ). named_has q cells x || some_has q cells ms) (sym o);
     }
 
 -- ---- a name among the others
@@ -294,7 +318,7 @@ put_deepest cells k d (member l e ms) lt h =
 
 -- ---- all pixels
 
-nothing_has : (q : ℕ) (cells : List CellNumber) → map datum cells ≡ [] → in_ranges (map cell_range cells) q ≡ false
+nothing_has : (q : ℕ) (cells : List CellNumber) → map datum cells ≡ [] → in_cells q cells ≡ false
 nothing_has q [] e = refl
 nothing_has q (c ∷ cells) e = absurd cc
 
@@ -310,15 +334,15 @@ with_order_has q cells stated k ms lt h =
     ] refl
 
 abbrev below_has : ℕ → ℕ → List CellNumber → Bool
-below_has q n cells = in_ranges (map cell_range (filter (λ c. ltb c.order n) cells)) q
+below_has q n cells = in_cells q (filter (λ c. ltb c.order n) cells)
 
 next_order : (q k : ℕ) (cells : List CellNumber) → (has q k cells || below_has q k cells) ≡ below_has q (suc k) cells
 next_order q k [] = refl
 next_order q k (c ∷ cells) =
     let rest = next_order q k cells in
     elim (cases_order c.order k) [
-      | inl e ↦ rw (eq-eqb c.order k e, le-ltb c.order k (omega (arith, e)), lt-ltb c.order (suc k) (omega (arith, e))) (regroup (in_range (cell_range c) q) (has q k cells) (below_has q k cells) ∙ ap (λ b. in_range (cell_range c) q || b) rest)
-      | inr (inl l) ↦ rw (ne_eqb c.order k (λ e. omega (arith, l, e)), lt-ltb c.order k l, lt-ltb c.order (suc k) (omega (arith, l))) (or_swap (has q k cells) (in_range (cell_range c) q) (below_has q k cells) ∙ ap (λ b. in_range (cell_range c) q || b) rest)
+      | inl e ↦ rw (eq-eqb c.order k e, le-ltb c.order k (omega (arith, e)), lt-ltb c.order (suc k) (omega (arith, e))) (regroup (set.contains (span c.order c.index) q) (has q k cells) (below_has q k cells) ∙ ap (λ b. set.contains (span c.order c.index) q || b) rest)
+      | inr (inl l) ↦ rw (ne_eqb c.order k (λ e. omega (arith, l, e)), lt-ltb c.order k l, lt-ltb c.order (suc k) (omega (arith, l))) (or_swap (has q k cells) (set.contains (span c.order c.index) q) (below_has q k cells) ∙ ap (λ b. set.contains (span c.order c.index) q || b) rest)
       | inr (inr l) ↦ rw (ne_eqb c.order k (λ e. omega (arith, l, e)), le-ltb c.order k (omega (arith, l)), le-ltb c.order (suc k) (omega (arith, l))) rest
     ]
   where
@@ -336,9 +360,9 @@ members_have q cells stated (suc k) le =
     with_order_has q cells stated k (members_below cells stated k) (omega arith) (members_are cells stated k)
     ∙ ap (λ b. has q k cells || b) (members_have q cells stated k (omega arith)) ∙ next_order q k cells
 
-all_below : (q : ℕ) (cells : List CellNumber) → AllByRecursion IsCell cells → below_has q 30 cells ≡ in_ranges (map cell_range cells) q
+all_below : (q : ℕ) (cells : List CellNumber) → AllByRecursion IsCell cells → below_has q 30 cells ≡ in_cells q cells
 all_below q [] h = refl
-all_below q (c ∷ cells) h = rw (lt-ltb c.order 30 (omega (arith, (h.0).order_in_range))) (ap (λ b. in_range (cell_range c) q || b) (all_below q cells h.1))
+all_below q (c ∷ cells) h = rw (lt-ltb c.order 30 (omega (arith, (h.0).order_in_range))) (ap (λ b. set.contains (span c.order c.index) q || b) (all_below q cells h.1))
 
 -- ---- the deepest name
 
@@ -391,7 +415,7 @@ no_cells : (k : ℕ) (cells : List CellNumber) → AllByRecursion (λ c. c.order
 no_cells k [] h = refl
 no_cells k (c ∷ cells) h = rw (ne_eqb c.order k (λ e. omega (arith, h.0, e))) (no_cells k cells h.1)
 
-unnamed : (k : ℕ) (stated : Option ℕ) (ds : List Data) → ds ≡ [] → is_stated k stated ≡ false → is_name k stated ds ≡ false
+unnamed : (k : ℕ) (stated : Option ℕ) (ds : List Data) → ds ≡ [] → is_bare k stated ≡ false → is_name k stated ds ≡ false
 unnamed k stated [] e s = s
 unnamed k stated (d ∷ ds) e s = absurd cc
 
@@ -463,9 +487,19 @@ deepest_unstated : (cells : List CellNumber) (x : Option ℕ) → DeepestIs cell
 deepest_unstated cells None e = deepest_stays cells None 0 30 (omega arith) (omega arith) (λ k le. unnamed k None (data_at k cells) (ap (data_at k) e) refl)
 deepest_unstated cells (Some m) d = deepest_found cells None m d.small d.named (λ k le. unnamed k None (data_at k cells) (no_cells k cells (below_all k m cells (omega arith) d.most)) refl)
 
-deepest_is : (a : NumberSet) (stated : Option ℕ) → ForSome stated (λ k. k ≤ 29) → (IsTooCoarse a stated → ⊥) → deepest_name (members_below (cells_of a) stated 30) ≡ deepest_written a stated
+deepest_beyond : (cells : List CellNumber) (s : ℕ) (x : Option ℕ) → s < 30 → DeepestIs cells x → deeper x (Some s) ≡ Some s → (HasDeeper cells (Some s) → ⊥) → deepest_name (members_below cells (stated_beyond x (Some s)) 30) ≡ Some s
+deepest_beyond cells s None lt d le fine = deepest_stated cells s lt fine
+deepest_beyond cells s (Some m) lt d le fine =
+    let most : max m s ≡ s = cc in
+    elim (ltb m s) as (λ v. ltb m s ≡ v → deepest_name (members_below cells (cond v (Some s) None) 30) ≡ Some s) [
+      | true ↦ λ e. deepest_stated cells s lt fine
+      | false ↦ λ e. deepest_unstated cells (Some m) d ∙ ap (λ (n : ℕ). Some n) (omega (arith, most, ltb-false m s e))
+    ] refl
+
+deepest_is : (a : NumberSet) (stated : Option ℕ) → ForSome stated (λ k. k ≤ 29) → (IsTooCoarse a stated → ⊥) → deepest_name (members_of_cells (cells_of a) stated) ≡ deepest_written a stated
 deepest_is a None small fine = deepest_unstated (cells_of a) (deepest_cell (cells_of a)) (deepest_of (cells_of a) (cells_are a))
-deepest_is a (Some s) small fine = deepest_stated (cells_of a) s (omega (arith, small s refl)) fine
+deepest_is a (Some s) small fine =
+    deepest_beyond (cells_of a) s (deepest_cell (cells_of a)) (omega (arith, small s refl)) (deepest_of (cells_of a) (cells_are a)) (stated_is_deepest (cells_of a) s fine) fine
 
 -- ---- the whole text
 
@@ -473,14 +507,16 @@ pub written_says : (a : NumberSet) (stated : Option ℕ) (text : List ℕ) → I
 unfolding json_value
 written_says a stated text utf8 is in_pixels small fine =
     let cells = cells_of a in
-    let say = members_say cells 30 (members_below cells stated 30) 0 (omega arith) (cells_are a) (members_are cells stated 30) in
-    let deepest : say.deepest ≡ deepest_written a stated = say.deepest_is ∙ deepest_is a stated small fine in
+    let bare = stated_beyond (deepest_cell cells) stated in
+    let say = members_say cells 30 (members_below cells bare 30) 0 (omega arith) (cells_are a) (members_are cells bare 30) in
     record {
       value = json_value a stated;
       json = record { utf8 = utf8; value = is };
-      spans = say.spans;
-      says = say.read ∙ ap (λ (k : Option ℕ). Ok (say.spans, k)) deepest;
-      set_is = same_members a (set_of say.spans) (λ q.
-          ap (λ (b : NumberSet). set.contains b q) (sym (cells_fill a in_pixels)) ∙ contains-set_of (map cell_range cells) q
-          ∙ sym (contains-set_of say.spans q ∙ say.contain q ∙ members_have q cells stated 30 (omega arith) ∙ all_below q cells (cells_are a)));
+      members = members_of_cells cells stated;
+      object = refl;
+      faultless = say.faultless;
+      set_is = same_members a (members_pixels (members_below cells bare 30)) (λ q.
+          ap (λ (b : NumberSet). set.contains b q) (sym (cells_fill a in_pixels)) ∙ contains-pixels_of q cells
+          ∙ sym (say.contain q ∙ members_have q cells bare 30 (omega arith) ∙ all_below q cells (cells_are a)));
+      deepest_is = sym (deepest_is a stated small fine);
     }

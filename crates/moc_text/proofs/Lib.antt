@@ -10,7 +10,7 @@ pub mod Told
 pub mod Join
 pub mod Written
 pub mod UniqLines
+pub mod Deepest
 pub mod JsonOrders
 pub mod JsonMembers
-pub mod JsonFine
 pub mod JsonWritten

@@ -4,13 +4,12 @@ use Rattle.std.specs.Char.{is_ascii_digit}
 use Rattle.std.specs.Str.{all_ascii_digits}
 use Rattle.std.proofs.lemmas.List.{append-nil}
 use Rattle.std.proofs.lemmas.Bool.Decides.{nat_tests}
-use Rattle.moc_text.specs.Ascii.{Word, words, IsNumber, Mark, prefix, Cells, One, Run, cells_text, AreCells, Shape, JustMark, JustItem, MarkItem, shape_text, IsShape, IsLawful, ShapeFaultAt, HasShapeFault, parts_at, Means, order_at, order_after, fault_of, AreRead, IsFault, IsFirstFault, Says, spans_of, deepest_of}
+use Rattle.moc_text.specs.Ascii.{Word, words, IsNumber, Mark, prefix, Cells, One, Run, cells_text, AreCells, Shape, JustMark, JustItem, MarkItem, shape_text, IsShape, IsLawful, ShapeFaultAt, HasShapeFault, parts_at, Means, order_at, order_after, fault_of, AreRead, IsFault, IsFirstFault, Says, pixels_said, deepest_of}
 use Rattle.moc_ranges.specs.Numbers.{NumberSet}
-use Rattle.moc_ranges.specs.RangeList.{set_of}
 use Rattle.moc_text.specs.Scan.{front_digits, past_digits, after_byte, starts_with_digit}
-use Rattle.moc_text.specs.declared.number.Parts.{Parts}
-use Rattle.moc_text.specs.declared.error.TextError.{TextError}
-use Rattle.moc_text.specs.declared.error.TextError.TheVariants.{Memory}
+use Rattle.moc_text.specs.declared.ascii.number.Parts.{Parts}
+use Rattle.moc_text.specs.declared.ascii.error.TextError.{TextError}
+use Rattle.moc_text.specs.declared.ascii.error.TextError.TheVariants.{Memory}
 use Rattle.std.specs.Result.{MatchResult, IfOk, IfErr, IsErrAnd}
 use Rattle.moc_text.proofs.Automaton.{both}
 
@@ -215,23 +214,11 @@ first_fault before (c ∷ a) (d ∷ b) v w x y (m ∷ ms) (n ∷ ns) f g e ra rb
 
 pub one_set : (text : List ℕ) (a b : NumberSet) (j k : Option ℕ) → Says text a j → Says text b k → (a ≡ b) × (j ≡ k)
 one_set text a b j k x y =
-    let e : x.0 ≡ y.0 = one_read None (words text) x.0 y.0 x.1 y.1 in
-    (x.2 ∙ ap (λ (ns : List Parts). set_of (spans_of None ns)) e ∙ sym y.2, x.3 ∙ ap deepest_of e ∙ sym y.3)
+    let e : x.numbers ≡ y.numbers = one_read None (words text) x.numbers y.numbers x.read y.read in
+    (x.set_is ∙ ap (pixels_said None) e ∙ sym y.set_is, x.deepest_is ∙ ap deepest_of e ∙ sym y.deepest_is)
 
 pub one_first_fault : (text : List ℕ) (f g : TextError) → IsFirstFault text f → IsFirstFault text g → f ≡ g
 one_first_fault text f g x y = first_fault None x.good y.good x.bad y.bad x.others y.others x.numbers y.numbers f g (sym x.parts ∙ y.parts) x.before y.before x.fault y.fault
 
 pub set_or_fault : (text : List ℕ) (a : NumberSet) (k : Option ℕ) (f : TextError) → Says text a k → IsFirstFault text f → ⊥
-set_or_fault text a k f x y = read_or_faulty None y.good y.bad y.others y.numbers x.0 f (subst (λ (ws : List Word). AreRead None ws x.0) y.parts x.1) y.before y.fault
-
--- ---- so what a text says decides the reader's answer
-
-pub answers_set : (text : List ℕ) (r : Result (NumberSet × Option ℕ) TextError) → IfOk r (λ x. Says text x.0 x.1) → IfErr r (λ e. (e ≡ Memory) ⊎ IsFirstFault text e) → (a : NumberSet) (k : Option ℕ) → Says text a k → MatchResult r (λ x. (x.0 ≡ a) × (x.1 ≡ k)) (λ e. e ≡ Memory)
-answers_set text (Ok x) ok err a k s = one_set text x.0 a x.1 k ok s
-answers_set text (Err e) ok (inl m) a k s = m
-answers_set text (Err e) ok (inr f) a k s = absurd (set_or_fault text a k e s f)
-
-pub answers_fault : (text : List ℕ) (r : Result (NumberSet × Option ℕ) TextError) → IfOk r (λ x. Says text x.0 x.1) → IfErr r (λ e. (e ≡ Memory) ⊎ IsFirstFault text e) → (f : TextError) → IsFirstFault text f → IsErrAnd r (λ e. (e ≡ Memory) ⊎ (e ≡ f))
-answers_fault text (Ok x) ok err f s = absurd (set_or_fault text x.0 x.1 f ok s)
-answers_fault text (Err e) ok (inl m) f s = inl m
-answers_fault text (Err e) ok (inr g) f s = inr (one_first_fault text e f g s)
+set_or_fault text a k f x y = read_or_faulty None y.good y.bad y.others y.numbers x.numbers f (subst (λ (ws : List Word). AreRead None ws x.numbers) y.parts x.read) y.before y.fault

@@ -1,17 +1,20 @@
 -- Reading word by word.
 use Rattle.std.proofs.Common.{◌≡◌, ℕ, ◌+◌, ◌-◌, ◌<◌, ◌≤◌, true, false, List, [], ◌∷◌, ◌++◌, length, get_or, Option, Some, None, Ok, Err, refl, sym, ap, subst, ◌∙◌, arith, length-append, append_assoc, inl, inr}
 use Rattle.std.specs.List.{take_while}
+use Rattle.std.specs.Option.{option_or}
+use Rattle.std.specs.FinSet as set
 use Rattle.std.proofs.lemmas.List.{append-nil}
-use Rattle.moc_text.specs.Ascii.{is_separator, is_word_byte, Word, words, words_from, Shape, shape_text, IsShape, parts_at, Means, order_at, order_after, mark_fault, item_fault, or_else, fault_of, item_spans, spans_of, deeper, deepest_of, AreRead, HasShapeFault, IsFirstFault, Says}
-use Rattle.moc_ranges.specs.RangeList.{set_of}
+use Rattle.moc_text.specs.Ascii.{is_separator, Word, words, words_from, Shape, shape_text, IsShape, parts_at, Means, order_at, order_after, mark_fault, item_fault, fault_of, item_pixels, pixels_said, deeper, deepest_of, AreRead, HasShapeFault, IsFirstFault, Says}
+use Rattle.moc_ranges.specs.Numbers.{NumberSet}
+use Rattle.moc_ranges.specs.Laws.{union-assoc, empty-union, union-empty}
 use Rattle.moc_text.specs.Scan.{is_end, scan_word}
-use Rattle.moc_text.specs.Progress.{Progress}
-use Rattle.moc_text.specs.declared.number.Number.{Number}
-use Rattle.moc_text.specs.declared.number.Parts.{Parts}
-use Rattle.moc_text.specs.declared.error.TextError.{TextError}
+use Rattle.moc_text.specs.Private.AsciiReading.{Progress}
+use Rattle.moc_text.specs.declared.ascii.number.Number.{Number}
+use Rattle.moc_text.specs.declared.ascii.number.Parts.{Parts}
+use Rattle.moc_text.specs.declared.ascii.error.TextError.{TextError}
 use Rattle.moc_text.proofs.Automaton.{Start, run, accepts, run-shape}
-use Rattle.moc_text.proofs.Cuts.{IsWordPart, no_separator, words_begin, words_skip, words_front}
-use Rattle.moc_text.proofs.Held.{order_small, held_maybe, mark_fault-held, order_at-held, item_fault-held, item_spans-held, IsSmall}
+use Rattle.moc_text.proofs.Cuts.{is_word_byte, IsWordPart, no_separator, past_word, words_begin, words_skip, words_front}
+use Rattle.moc_text.proofs.Held.{order_small, held_maybe, mark_fault-held, order_at-held, item_fault-held, item_pixels-held, IsSmall}
 use Rattle.moc_text.proofs.Scanning.{Scanned, WordOutcome, word_outcome}
 
 -- ---- one more word
@@ -26,11 +29,11 @@ order_after_push : (before : Option ℕ) (ns : List Parts) (n : Parts) → order
 order_after_push before [] n = refl
 order_after_push before (k ∷ ns) n = order_after_push (order_at before k.mark) ns n
 
-spans_of_push : (before : Option ℕ) (ns : List Parts) (n : Parts) → spans_of before (ns ++ n ∷ []) ≡ spans_of before ns ++ item_spans (order_at (order_after before ns) n.mark) n.item
-spans_of_push before [] n = append-nil (item_spans (order_at before n.mark) n.item)
-spans_of_push before (k ∷ ns) n =
-    ap (λ (r : List (ℕ × ℕ)). item_spans (order_at before k.mark) k.item ++ r) (spans_of_push (order_at before k.mark) ns n)
-    ∙ sym (append_assoc (item_spans (order_at before k.mark) k.item) (spans_of (order_at before k.mark) ns) _)
+pixels_said_push : (before : Option ℕ) (ns : List Parts) (n : Parts) → pixels_said before (ns ++ n ∷ []) ≡ set.union (pixels_said before ns) (item_pixels (order_at (order_after before ns) n.mark) n.item)
+pixels_said_push before [] n = union-empty (item_pixels (order_at before n.mark) n.item) ∙ sym (empty-union (item_pixels (order_at before n.mark) n.item))
+pixels_said_push before (k ∷ ns) n =
+    ap (set.union (item_pixels (order_at before k.mark) k.item)) (pixels_said_push (order_at before k.mark) ns n)
+    ∙ sym (union-assoc (item_pixels (order_at before k.mark) k.item) (pixels_said (order_at before k.mark) ns) _)
 
 pub deeper_assoc : (a b c : Option ℕ) → deeper (deeper a b) c ≡ deeper a (deeper b c)
 deeper_assoc None b c = refl
@@ -48,28 +51,28 @@ deepest_of_push (k ∷ ns) n = ap (deeper (order_at None k.mark)) (deepest_of_pu
 
 -- ---- the loop
 
-pub progress_none : (text : List ℕ) → Progress text text [] None None
+pub progress_none : (text : List ℕ) → Progress text text set.empty None None
 progress_none text = record {
   good = [];
   numbers = [];
   within = omega arith;
-  parts = ap (λ n. words_from false n text) (omega arith);
+  parts = ap (λ n. words_from n text) (omega arith);
   read = tt;
-  spans_are = refl;
+  set_is = refl;
   order_is = refl;
   deepest_is = refl;
 }
 
-pub progress_skip : (text : List ℕ) (b : ℕ) (rest : List ℕ) (spans : List (ℕ × ℕ)) (order deepest : Option ℕ) → is_separator b ≡ true → Progress text (b ∷ rest) spans order deepest → Progress text rest spans order deepest
-progress_skip text b rest spans order deepest h p =
+pub progress_skip : (text : List ℕ) (b : ℕ) (rest : List ℕ) (a : NumberSet) (order deepest : Option ℕ) → is_separator b ≡ true → Progress text (b ∷ rest) a order deepest → Progress text rest a order deepest
+progress_skip text b rest a order deepest h p =
     let place : length text - length (b ∷ rest) + 1 ≡ length text - length rest = omega (arith, p.within) in
     record {
       good = p.good;
       numbers = p.numbers;
       within = omega (arith, p.within);
-      parts = p.parts ∙ ap (λ (ws : List Word). p.good ++ ws) (words_skip b rest (length text - length (b ∷ rest)) h ∙ ap (λ n. words_from false n rest) place);
+      parts = p.parts ∙ ap (λ (ws : List Word). p.good ++ ws) (words_skip b rest (length text - length (b ∷ rest)) h ∙ ap (λ n. words_from n rest) place);
       read = p.read;
-      spans_are = p.spans_are;
+      set_is = p.set_is;
       order_is = p.order_is;
       deepest_is = p.deepest_is;
     }
@@ -90,19 +93,19 @@ after_shorter len bytes n rest s = omega (arith, ap length s.parts, length-appen
 
 -- the words, from a scanned one on
 words_scanned : (text rest : List ℕ) (n : Parts) (after : List ℕ) → length rest ≤ length text → (s : Scanned (length text) rest n after)
-    → words_from false (length text - length rest) rest ≡ record { at = length text - length rest; bytes = shape_text s.shape } ∷ words_from false (length text - length after) after
+    → words_from (length text - length rest) rest ≡ record { at = length text - length rest; bytes = shape_text s.shape } ∷ words_from (length text - length after) after
 words_scanned text rest n after le s =
     let at = length text - length rest in
     let place : at + length (shape_text s.shape) ≡ length text - length after = omega (arith, le, ap length s.parts, length-append (shape_text s.shape) after) in
-    ap (words_from false at) s.parts
+    ap (words_from at) s.parts
     ∙ words_front (shape_text s.shape) after at (shape_some s.shape s.lawful) (shape_part s.shape s.lawful) s.ends
-    ∙ ap (λ n. record { at = at; bytes = shape_text s.shape } ∷ words_from false n after) place
+    ∙ ap (λ n. record { at = at; bytes = shape_text s.shape } ∷ words_from n after) place
 
 -- the true numbers of a scanned word
 abbrev true_parts : (len : ℕ) (bytes : List ℕ) (n : Parts) (rest : List ℕ) → Scanned len bytes n rest → Parts
 true_parts len bytes n rest s = parts_at (len - length bytes) s.shape
 
-first_none : (f g : Option TextError) → or_else f g ≡ None → f ≡ None
+first_none : (f g : Option TextError) → option_or f g ≡ None → f ≡ None
 first_none None g h = refl
 first_none (Some f) g h = absurd cc
 
@@ -122,31 +125,36 @@ none_small : IsSmall None
 none_small k e = absurd cc
 
 -- the order in force is one
-pub small_in_force : (text rest : List ℕ) (spans : List (ℕ × ℕ)) (order deepest : Option ℕ) → Progress text rest spans order deepest → IsSmall order
-small_in_force text rest spans order deepest p = subst IsSmall (sym p.order_is) (order_after_small None p.good p.numbers none_small p.read)
+pub small_in_force : (text rest : List ℕ) (a : NumberSet) (order deepest : Option ℕ) → Progress text rest a order deepest → IsSmall order
+small_in_force text rest a order deepest p = subst IsSmall (sym p.order_is) (order_after_small None p.good p.numbers none_small p.read)
 
 -- where nothing is left, all words are read
-pub says_all : (text : List ℕ) (spans : List (ℕ × ℕ)) (order deepest : Option ℕ) → Progress text [] spans order deepest → Says text (set_of spans) deepest
-says_all text spans order deepest p =
+pub says_all : (text : List ℕ) (a : NumberSet) (order deepest : Option ℕ) → Progress text [] a order deepest → Says text a deepest
+says_all text a order deepest p =
     let all : p.good ≡ words text = sym (p.parts ∙ append-nil p.good) in
-    (p.numbers, subst (λ (ws : List Word). AreRead None ws p.numbers) all p.read, ap set_of p.spans_are, p.deepest_is)
+    record {
+      numbers = p.numbers;
+      read = subst (λ (ws : List Word). AreRead None ws p.numbers) all p.read;
+      set_is = p.set_is;
+      deepest_is = p.deepest_is;
+    }
 
-no_fault : (f g : Option TextError) → f ≡ None → g ≡ None → or_else f g ≡ None
+no_fault : (f g : Option TextError) → f ≡ None → g ≡ None → option_or f g ≡ None
 no_fault f g h k = rw h k
 
-pub progress_word : (text rest : List ℕ) (spans : List (ℕ × ℕ)) (order deepest : Option ℕ) (n : Parts) (after : List ℕ) (spans' : List (ℕ × ℕ)) (order' deepest' : Option ℕ)
-    → IsSmall order → Progress text rest spans order deepest → Scanned (length text) rest n after
+pub progress_word : (text rest : List ℕ) (a : NumberSet) (order deepest : Option ℕ) (n : Parts) (after : List ℕ) (a' : NumberSet) (order' deepest' : Option ℕ)
+    → IsSmall order → Progress text rest a order deepest → Scanned (length text) rest n after
     → mark_fault n.mark ≡ None → order' ≡ order_at order n.mark → deepest' ≡ deeper deepest (order_at None n.mark)
-    → item_fault order' (length text - length rest) n.item ≡ None → spans' ≡ spans ++ item_spans order' n.item
-    → Progress text after spans' order' deepest'
-progress_word text rest spans order deepest n after spans' order' deepest' small p s mf oi di if si =
+    → item_fault order' (length text - length rest) n.item ≡ None → a' ≡ set.union a (item_pixels order' n.item)
+    → Progress text after a' order' deepest'
+progress_word text rest a order deepest n after a' order' deepest' small p s mf oi di if si =
     let at = length text - length rest in
     let t = parts_at at s.shape in
     let mark : mark_fault t.mark ≡ None = sym (mark_fault-held t.mark) ∙ ap (λ (x : Parts). mark_fault x.mark) (sym s.is) ∙ mf in
     let o : order' ≡ order_at order t.mark = oi ∙ ap (λ (x : Parts). order_at order x.mark) s.is ∙ order_at-held order t.mark mark in
     let small' : IsSmall (order_at order t.mark) = small_order order t.mark small mark in
     let item : item_fault (order_at order t.mark) at t.item ≡ None = sym (item_fault-held (order_at order t.mark) at t.item small') ∙ ap (λ k. item_fault k at (held_maybe t.item)) (sym o) ∙ ap (λ (x : Parts). item_fault order' at x.item) (sym s.is) ∙ if in
-    let added : spans' ≡ spans ++ item_spans (order_at order t.mark) t.item = si ∙ ap (λ (r : List (ℕ × ℕ)). spans ++ r) (ap (λ (x : Parts). item_spans order' x.item) s.is ∙ ap (λ k. item_spans k (held_maybe t.item)) o ∙ item_spans-held (order_at order t.mark) at t.item small' item) in
+    let added : a' ≡ set.union a (item_pixels (order_at order t.mark) t.item) = si ∙ ap (set.union a) (ap (λ (x : Parts). item_pixels order' x.item) s.is ∙ ap (λ k. item_pixels k (held_maybe t.item)) o ∙ item_pixels-held (order_at order t.mark) at t.item small' item) in
     let d : deepest' ≡ deeper deepest (order_at None t.mark) = di ∙ ap (deeper deepest) (ap (λ (x : Parts). order_at None x.mark) s.is ∙ order_at-held None t.mark mark) in
     let w : Word = record { at = at; bytes = shape_text s.shape } in
     let fault : fault_of (order_after None p.numbers) at t ≡ None = ap (λ k. fault_of k at t) (sym p.order_is) ∙ no_fault (mark_fault t.mark) (item_fault (order_at order t.mark) at t.item) mark item in
@@ -154,9 +162,9 @@ progress_word text rest spans order deepest n after spans' order' deepest' small
       good = p.good ++ w ∷ [];
       numbers = p.numbers ++ t ∷ [];
       within = omega (arith, p.within, after_shorter (length text) rest n after s);
-      parts = p.parts ∙ ap (λ (ws : List Word). p.good ++ ws) (words_scanned text rest n after p.within s) ∙ sym (append_assoc p.good (w ∷ []) (words_from false (length text - length after) after));
+      parts = p.parts ∙ ap (λ (ws : List Word). p.good ++ ws) (words_scanned text rest n after p.within s) ∙ sym (append_assoc p.good (w ∷ []) (words_from (length text - length after) after));
       read = AreRead_push None p.good p.numbers w t p.read (s.shape, s.lawful, refl, refl) fault;
-      spans_are = added ∙ ap (λ (r : List (ℕ × ℕ)). r ++ item_spans (order_at order t.mark) t.item) p.spans_are ∙ ap (λ k. spans_of None p.numbers ++ item_spans (order_at k t.mark) t.item) p.order_is ∙ sym (spans_of_push None p.numbers t);
+      set_is = added ∙ ap (λ (r : NumberSet). set.union r (item_pixels (order_at order t.mark) t.item)) p.set_is ∙ ap (λ k. set.union (pixels_said None p.numbers) (item_pixels (order_at k t.mark) t.item)) p.order_is ∙ sym (pixels_said_push None p.numbers t);
       order_is = o ∙ ap (λ k. order_at k t.mark) p.order_is ∙ sym (order_after_push None p.numbers t);
       deepest_is = d ∙ ap (λ k. deeper k (order_at None t.mark)) p.deepest_is ∙ sym (deepest_of_push p.numbers t);
     }
@@ -164,54 +172,54 @@ progress_word text rest spans order deepest n after spans' order' deepest' small
 -- ---- faults
 
 -- a word of no shape
-pub fault_shape : (text : List ℕ) (b : ℕ) (rest : List ℕ) (spans : List (ℕ × ℕ)) (order deepest : Option ℕ) (f : TextError)
-    → Progress text (b ∷ rest) spans order deepest → is_separator b ≡ false
+pub fault_shape : (text : List ℕ) (b : ℕ) (rest : List ℕ) (a : NumberSet) (order deepest : Option ℕ) (f : TextError)
+    → Progress text (b ∷ rest) a order deepest → is_separator b ≡ false
     → HasShapeFault (record { at = length text - length (b ∷ rest); bytes = take_while is_word_byte (b ∷ rest) }) f → IsFirstFault text f
-fault_shape text b rest spans order deepest f p h fault = record {
+fault_shape text b rest a order deepest f p h fault = record {
   good = p.good;
   numbers = p.numbers;
   bad = record { at = length text - length (b ∷ rest); bytes = take_while is_word_byte (b ∷ rest) };
-  others = words_from true (length text - length (b ∷ rest) + 1) rest;
+  others = words_from (length text - length (b ∷ rest) + length (take_while is_word_byte (b ∷ rest))) (past_word (b ∷ rest));
   parts = p.parts ∙ ap (λ (ws : List Word). p.good ++ ws) (words_begin b rest (length text - length (b ∷ rest)) h);
   before = p.read;
   fault = inl fault;
 }
 
 -- a lawful word with a fault
-fault_parts : (text rest : List ℕ) (spans : List (ℕ × ℕ)) (order deepest : Option ℕ) (n : Parts) (after : List ℕ) (f : TextError)
-    → Progress text rest spans order deepest → (s : Scanned (length text) rest n after)
+fault_parts : (text rest : List ℕ) (a : NumberSet) (order deepest : Option ℕ) (n : Parts) (after : List ℕ) (f : TextError)
+    → Progress text rest a order deepest → (s : Scanned (length text) rest n after)
     → fault_of order (length text - length rest) (parts_at (length text - length rest) s.shape) ≡ Some f → IsFirstFault text f
-fault_parts text rest spans order deepest n after f p s fault =
+fault_parts text rest a order deepest n after f p s fault =
     let at = length text - length rest in
     let t = parts_at at s.shape in
     record {
       good = p.good;
       numbers = p.numbers;
       bad = record { at = at; bytes = shape_text s.shape };
-      others = words_from false (length text - length after) after;
+      others = words_from (length text - length after) after;
       parts = p.parts ∙ ap (λ (ws : List Word). p.good ++ ws) (words_scanned text rest n after p.within s);
       before = p.read;
       fault = inr (t, (s.shape, s.lawful, refl, refl), ap (λ k. fault_of k at t) (sym p.order_is) ∙ fault);
     }
 
-pub fault_mark : (text rest : List ℕ) (spans : List (ℕ × ℕ)) (order deepest : Option ℕ) (n : Parts) (after : List ℕ) (f : TextError)
-    → Progress text rest spans order deepest → Scanned (length text) rest n after → mark_fault n.mark ≡ Some f → IsFirstFault text f
-fault_mark text rest spans order deepest n after f p s h =
+pub fault_mark : (text rest : List ℕ) (a : NumberSet) (order deepest : Option ℕ) (n : Parts) (after : List ℕ) (f : TextError)
+    → Progress text rest a order deepest → Scanned (length text) rest n after → mark_fault n.mark ≡ Some f → IsFirstFault text f
+fault_mark text rest a order deepest n after f p s h =
     let at = length text - length rest in
     let t = parts_at at s.shape in
     let mark : mark_fault t.mark ≡ Some f = sym (mark_fault-held t.mark) ∙ ap (λ (x : Parts). mark_fault x.mark) (sym s.is) ∙ h in
-    fault_parts text rest spans order deepest n after f p s (rw mark refl)
+    fault_parts text rest a order deepest n after f p s (rw mark refl)
 
-pub fault_item : (text rest : List ℕ) (spans : List (ℕ × ℕ)) (order deepest : Option ℕ) (n : Parts) (after : List ℕ) (order' : Option ℕ) (f : TextError)
-    → IsSmall order → Progress text rest spans order deepest → Scanned (length text) rest n after → mark_fault n.mark ≡ None → order' ≡ order_at order n.mark → item_fault order' (length text - length rest) n.item ≡ Some f → IsFirstFault text f
-fault_item text rest spans order deepest n after order' f small p s mf oi h =
+pub fault_item : (text rest : List ℕ) (a : NumberSet) (order deepest : Option ℕ) (n : Parts) (after : List ℕ) (order' : Option ℕ) (f : TextError)
+    → IsSmall order → Progress text rest a order deepest → Scanned (length text) rest n after → mark_fault n.mark ≡ None → order' ≡ order_at order n.mark → item_fault order' (length text - length rest) n.item ≡ Some f → IsFirstFault text f
+fault_item text rest a order deepest n after order' f small p s mf oi h =
     let at = length text - length rest in
     let t = parts_at at s.shape in
     let mark : mark_fault t.mark ≡ None = sym (mark_fault-held t.mark) ∙ ap (λ (x : Parts). mark_fault x.mark) (sym s.is) ∙ mf in
     let o : order' ≡ order_at order t.mark = oi ∙ ap (λ (x : Parts). order_at order x.mark) s.is ∙ order_at-held order t.mark mark in
     let small' : IsSmall (order_at order t.mark) = small_order order t.mark small mark in
     let item : item_fault (order_at order t.mark) at t.item ≡ Some f = sym (item_fault-held (order_at order t.mark) at t.item small') ∙ ap (λ k. item_fault k at (held_maybe t.item)) (sym o) ∙ ap (λ (x : Parts). item_fault order' at x.item) (sym s.is) ∙ h in
-    fault_parts text rest spans order deepest n after f p s (rw mark item)
+    fault_parts text rest a order deepest n after f p s (rw mark item)
 
 -- ---- what the scanner's answer means in the loop
 
@@ -222,7 +230,7 @@ is_end-first (b ∷ rest) h = refl
 pub scanned_word : (len : ℕ) (rest : List ℕ) (n : Parts) (after : List ℕ) → length rest ≤ len → 0 < length rest → is_separator (get_or rest 0 0) ≡ false → scan_word len rest ≡ Ok (n, after) → Scanned len rest n after
 scanned_word len rest n after le some h e = subst (WordOutcome len rest) e (word_outcome len rest le (is_end-first rest some ∙ h))
 
-pub fault_scanned : (text rest : List ℕ) (spans : List (ℕ × ℕ)) (order deepest : Option ℕ) (f : TextError) → Progress text rest spans order deepest → 0 < length rest → is_separator (get_or rest 0 0) ≡ false → scan_word (length text) rest ≡ Err f → IsFirstFault text f
-fault_scanned text [] spans order deepest f p some h e = absurd (omega arith)
-fault_scanned text (b ∷ rest) spans order deepest f p some h e =
-    fault_shape text b rest spans order deepest f p h (subst (WordOutcome (length text) (b ∷ rest)) e (word_outcome (length text) (b ∷ rest) p.within h))
+pub fault_scanned : (text rest : List ℕ) (a : NumberSet) (order deepest : Option ℕ) (f : TextError) → Progress text rest a order deepest → 0 < length rest → is_separator (get_or rest 0 0) ≡ false → scan_word (length text) rest ≡ Err f → IsFirstFault text f
+fault_scanned text [] a order deepest f p some h e = absurd (omega arith)
+fault_scanned text (b ∷ rest) a order deepest f p some h e =
+    fault_shape text b rest a order deepest f p h (subst (WordOutcome (length text) (b ∷ rest)) e (word_outcome (length text) (b ∷ rest) p.within h))

@@ -1,55 +1,27 @@
 -- The reading of a text is what the text says, or its first fault.
 use Rattle.std.proofs.Common.{◌≡◌, ℕ, ◌+◌, ◌-◌, ◌*◌, ◌<◌, ◌≤◌, Bool, true, false, cond, not, ◌⊎◌, List, [], ◌∷◌, ◌++◌, length, Option, Some, None, Result, Ok, Err, refl, sym, ap, subst, ◌∙◌, arith, inl, inr}
 use Rattle.std.specs.List.{take_while, list_all, AllByRecursion}
+use Rattle.std.specs.Option.{option_or}
+use Rattle.std.specs.FinSet as set
 use Rattle.std.specs.Result.{MatchResult}
 use Rattle.std.proofs.Math.Nat.{mul-le-mul_right}
 use Rattle.std.proofs.lemmas.List.{append-nil}
 use Rattle.std.proofs.lemmas.List.Sums.{take_while-cons}
 use Rattle.std.proofs.lemmas.Bool.{le-ltb}
-use Rattle.moc_sphere.specs.CellNumber.{cell_size}
 use Rattle.moc_ranges.specs.Numbers.{NumberSet}
-use Rattle.moc_ranges.specs.Pixels.{pixel_count}
-use Rattle.moc_ranges.specs.RangeList.{set_of}
-use Rattle.moc_ranges.specs.Faults.{first_fault_from, first_fault}
-use Rattle.moc_text.specs.Ascii.{is_separator, is_word_byte, Word, words_from, words, Shape, shape_text, IsShape, parts_at, Means, HasShapeFault, IsFault, order_at, order_after, last_of, mark_fault, item_fault, or_else, fault_of, item_spans, spans_of, deeper, deepest_of, AreRead, Says, IsFirstFault}
+use Rattle.moc_text.specs.Ascii.{is_separator, Word, words, Shape, shape_text, IsShape, parts_at, Means, HasShapeFault, IsFault, order_at, order_after, last_of, mark_fault, item_fault, fault_of, item_pixels, pixels_said, deeper, deepest_of, AreRead, Says, IsFirstFault}
 use Rattle.moc_text.specs.Scan.{◌>>=◌, is_end, scan_word}
 use Rattle.moc_text.specs.Reading.{parts_of, faultless, numbers_of, reading_of, IsReadingOf, ReadingsAreTold}
-use Rattle.moc_text.specs.declared.number.Item.{Item}
-use Rattle.moc_text.specs.declared.number.Parts.{Parts}
-use Rattle.moc_text.specs.declared.error.TextError.{TextError}
-use Rattle.moc_text.specs.declared.error.TextError.TheVariants.{Memory}
+use Rattle.moc_text.specs.declared.ascii.number.Item.{Item}
+use Rattle.moc_text.specs.declared.ascii.number.Parts.{Parts}
+use Rattle.moc_text.specs.declared.ascii.error.TextError.{TextError}
+use Rattle.moc_text.specs.declared.ascii.error.TextError.TheVariants.{Memory}
 use Rattle.moc_text.proofs.Automaton.{both}
-use Rattle.moc_text.proofs.Cuts.{IsWordPart, take_while-part, take_while-more}
-use Rattle.moc_text.proofs.Powers.{span_fits}
-use Rattle.moc_text.proofs.Held.{held, held_last, held_maybe, mark_fault-held, order_at-held, item_fault-held, item_spans-held, item_cells, IsSmall}
+use Rattle.moc_text.proofs.Cuts.{is_word_byte, IsWordPart, take_while-part, IsWord, words_are}
+use Rattle.moc_text.proofs.Held.{held, held_last, held_maybe, mark_fault-held, order_at-held, item_fault-held, item_pixels-held, IsSmall}
 use Rattle.moc_text.proofs.Scanning.{WordOutcome, word_outcome}
 use Rattle.moc_text.proofs.ReadWords.{small_order}
 use Rattle.moc_text.proofs.OneReading.{one_set, one_first_fault, set_or_fault}
-
--- ---- the words of a text
-
--- a byte or more, and none of them a separator
-abbrev IsWord : Word → Type 0
-IsWord w = (0 < length w.bytes) × IsWordPart w.bytes
-
-front_is_word_part : (bytes : List ℕ) → IsWordPart (take_while is_word_byte bytes)
-front_is_word_part [] = refl
-front_is_word_part (b ∷ bytes) =
-    subst IsWordPart (sym (take_while-cons is_word_byte b bytes)) (elim (is_word_byte b) as (λ v. is_word_byte b ≡ v → IsWordPart (cond v (b ∷ take_while is_word_byte bytes) [])) [
-      | true ↦ λ e. rw e (front_is_word_part bytes)
-      | false ↦ λ e. refl
-    ] refl)
-
-words_are : (in_word : Bool) (at : ℕ) (text : List ℕ) → AllByRecursion IsWord (words_from in_word at text)
-words_are in_word at [] = tt
-words_are in_word at (b ∷ text) =
-    elim (is_separator b) as (λ v. is_separator b ≡ v → AllByRecursion IsWord (cond v (words_from false (at + 1) text) (cond in_word (words_from true (at + 1) text) (record { at = at; bytes = take_while is_word_byte (b ∷ text) } ∷ words_from true (at + 1) text)))) [
-      | true ↦ λ e. words_are false (at + 1) text
-      | false ↦ λ e. elim in_word as (λ v. AllByRecursion IsWord (cond v (words_from true (at + 1) text) (record { at = at; bytes = take_while is_word_byte (b ∷ text) } ∷ words_from true (at + 1) text))) [
-        | true ↦ words_are true (at + 1) text
-        | false ↦ ((omega (arith, ap length (take_while-more b text e)), front_is_word_part (b ∷ text)), words_are true (at + 1) text)
-      ]
-    ] refl
 
 -- ---- one word, by its own bytes
 
@@ -94,14 +66,14 @@ word_is w h = from_scan w h (scan_word (w.at + length w.bytes) w.bytes) (word_ou
 
 -- ---- held numbers have the faults of the true ones
 
-or_none : (f g : Option TextError) → or_else f g ≡ None → (f ≡ None) × (g ≡ None)
+or_none : (f g : Option TextError) → option_or f g ≡ None → (f ≡ None) × (g ≡ None)
 or_none None g h = (refl, h)
 or_none (Some f) g h = absurd cc
 
 fault_of-held : (before : Option ℕ) (at : ℕ) (t : Parts) → IsSmall before → fault_of before at (held t) ≡ fault_of before at t
 fault_of-held before at t small =
-    ap (λ f. or_else f (item_fault (order_at before (held_last t.mark)) at (held_maybe t.item))) (mark_fault-held t.mark)
-    ∙ elim (mark_fault t.mark) as (λ v. mark_fault t.mark ≡ v → or_else v (item_fault (order_at before (held_last t.mark)) at (held_maybe t.item)) ≡ or_else v (item_fault (order_at before t.mark) at t.item)) [
+    ap (λ f. option_or f (item_fault (order_at before (held_last t.mark)) at (held_maybe t.item))) (mark_fault-held t.mark)
+    ∙ elim (mark_fault t.mark) as (λ v. mark_fault t.mark ≡ v → option_or v (item_fault (order_at before (held_last t.mark)) at (held_maybe t.item)) ≡ option_or v (item_fault (order_at before t.mark) at t.item)) [
       | Some f ↦ λ e. refl
       | None ↦ λ e. ap (λ k. item_fault k at (held_maybe t.item)) (order_at-held before t.mark e) ∙ item_fault-held (order_at before t.mark) at t.item (small_order before t.mark small e)
     ] refl
@@ -118,7 +90,7 @@ record FaultIn (before : Option ℕ) (ws : List Word) (f : TextError) : Type 0 w
   fault : IsFault (order_after before numbers) bad f
 
 abbrev Outcome : Option ℕ → List Word → Result (List Parts) TextError → Type 0
-Outcome before ws (Ok ns) = (ts : List Parts) × AreRead before ws ts × (spans_of before ns ≡ spans_of before ts) × (deepest_of ns ≡ deepest_of ts)
+Outcome before ws (Ok ns) = (ts : List Parts) × AreRead before ws ts × (pixels_said before ns ≡ pixels_said before ts) × (deepest_of ns ≡ deepest_of ts)
 Outcome before ws (Err f) = FaultIn before ws f
 
 -- the words after one that is read
@@ -139,9 +111,9 @@ after_word before w ws t small means none (Ok ns) o =
     let small' : IsSmall (order_at before t.mark) = small_order before t.mark small f.0 in (
       t ∷ o.0,
       (means, none, o.1),
-      ap (λ k. item_spans k (held_maybe t.item) ++ spans_of k ns) k
-          ∙ ap (λ (s : List (ℕ × ℕ)). s ++ spans_of (order_at before t.mark) ns) (item_spans-held (order_at before t.mark) w.at t.item small' f.1)
-          ∙ ap (λ (s : List (ℕ × ℕ)). item_spans (order_at before t.mark) t.item ++ s) o.2,
+      ap (λ k. set.union (item_pixels k (held_maybe t.item)) (pixels_said k ns)) k
+          ∙ ap (λ (s : NumberSet). set.union s (pixels_said (order_at before t.mark) ns)) (item_pixels-held (order_at before t.mark) w.at t.item small' f.1)
+          ∙ ap (set.union (item_pixels (order_at before t.mark) t.item)) o.2,
       ap (λ k. deeper k (deepest_of ns)) (order_at-held None t.mark f.0) ∙ ap (deeper (order_at None t.mark)) o.3,
     )
 
@@ -178,8 +150,8 @@ numbers_are before (w ∷ ws) small h = from_word before w ws small (parts_of w)
 abbrev Told : List ℕ → Result (NumberSet × Option ℕ) TextError → Type 0
 Told text r = MatchResult r (λ read. Says text read.0 read.1) (λ fault. IsFirstFault text fault)
 
-from_numbers : (text : List ℕ) (r : Result (List Parts) TextError) → Outcome None (words text) r → Told text (r >>= (λ ns. Ok (set_of (spans_of None ns), deepest_of ns)))
-from_numbers text (Ok ns) o = (o.0, o.1, ap set_of o.2, o.3)
+from_numbers : (text : List ℕ) (r : Result (List Parts) TextError) → Outcome None (words text) r → Told text (r >>= (λ ns. Ok (pixels_said None ns, deepest_of ns)))
+from_numbers text (Ok ns) o = record { numbers = o.0; read = o.1; set_is = o.2; deepest_is = o.3 }
 from_numbers text (Err f) o = record { good = o.good; numbers = o.numbers; bad = o.bad; others = o.others; parts = o.parts; before = o.read; fault = o.fault }
 
 none_small : IsSmall None
@@ -187,7 +159,7 @@ none_small k e = absurd cc
 
 told : (text : List ℕ) → Told text (reading_of text)
 unfolding reading_of
-told text = from_numbers text (numbers_of None (words text)) (numbers_are None (words text) none_small (words_are false 0 text))
+told text = from_numbers text (numbers_of None (words text)) (numbers_are None (words text) none_small (words_are text 0))
 
 only_set : (text : List ℕ) (a : NumberSet) (k : Option ℕ) → Says text a k → (r : Result (NumberSet × Option ℕ) TextError) → Told text r → r ≡ Ok (a, k)
 only_set text a k s (Ok x) o =
@@ -214,27 +186,12 @@ pub fault_is : (text : List ℕ) (e : TextError) → (e ≡ Memory) ⊎ IsFirstF
 fault_is text e (inl m) = inl m
 fault_is text e (inr f) = inr (readings_are_told.only_fault text e f)
 
--- ---- the spans are no faulty ranges
-
-item_fine : (k : Option ℕ) (place : ℕ) (i : Option Item) → IsSmall k → item_fault k place i ≡ None → (rest : List (ℕ × ℕ)) → ((at : ℕ) → first_fault_from at rest ≡ None) → (at : ℕ) → first_fault_from at (item_spans k i ++ rest) ≡ None
-item_fine None place None small e rest h at = h at
-item_fine (Some k) place None small e rest h at = h at
-item_fine None place (Some i) small e rest h at = absurd cc
-item_fine (Some k) place (Some i) small e rest h at =
-    let p = item_cells k place i e in
-    let up : i.first.value * cell_size k ≤ ((last_of i).value + 1) * cell_size k = mul-le-mul_right (cell_size k) (omega (arith, p.2)) in
-    let fits : ((last_of i).value + 1) * cell_size k ≤ pixel_count = span_fits k ((last_of i).value + 1) (small k refl) (omega (arith, p.1)) in
-    rw (le-ltb (((last_of i).value + 1) * cell_size k) (i.first.value * cell_size k) up, le-ltb pixel_count (((last_of i).value + 1) * cell_size k) fits) (h (at + 1))
-
-spans_fine_from : (before : Option ℕ) (ws : List Word) (ns : List Parts) → IsSmall before → AreRead before ws ns → (at : ℕ) → first_fault_from at (spans_of before ns) ≡ None
-spans_fine_from before [] [] small h at = refl
-spans_fine_from before [] (n ∷ ns) small h at = absurd h
-spans_fine_from before (w ∷ ws) [] small h at = absurd h
-spans_fine_from before (w ∷ ws) (n ∷ ns) small h at =
-    let f = or_none (mark_fault n.mark) (item_fault (order_at before n.mark) w.at n.item) h.1 in
-    let small' : IsSmall (order_at before n.mark) = small_order before n.mark small f.0 in
-    item_fine (order_at before n.mark) w.at n.item small' f.1 (spans_of (order_at before n.mark) ns) (spans_fine_from (order_at before n.mark) ws ns small' h.2) at
-
--- spans of words without a fault have none
-pub spans_fine : (ws : List Word) (ns : List Parts) → AreRead None ws ns → first_fault (spans_of None ns) ≡ None
-spans_fine ws ns h = spans_fine_from None ws ns none_small h 0
+-- so what a text says is what is read
+pub read_as_said : (text : List ℕ) (r : Result (NumberSet × Option ℕ) TextError) → IsReadingOf text r → (a : NumberSet) (k : Option ℕ) → Says text a k → MatchResult r (λ x. (x.0 ≡ a) × (x.1 ≡ k)) (λ e. e ≡ Memory)
+read_as_said text (Ok x) is a k s =
+    let said : reading_of text ≡ Ok (a, k) = readings_are_told.only_set text a k s in
+    (cc, cc)
+read_as_said text (Err e) (inl m) a k s = m
+read_as_said text (Err e) (inr is) a k s =
+    let said : reading_of text ≡ Ok (a, k) = readings_are_told.only_set text a k s in
+    absurd cc

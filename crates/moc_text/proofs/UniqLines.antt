@@ -4,28 +4,29 @@ use Rattle.std.specs.Prelude.{decimal}
 use Rattle.std.specs.Char.{is_ascii_digit}
 use Rattle.std.specs.List.{AllByRecursion, onto_first}
 use Rattle.std.specs.Str.{all_ascii_digits}
+use Rattle.std.specs.Option.{option_or}
+use Rattle.std.specs.FinSet as set
 use Rattle.std.specs.Str.Parse.{digits_value}
 use Rattle.std.proofs.Math.Nat.{pow-le-pow_right}
 use Rattle.std.proofs.lemmas.Bool.{cases_lt, cases_order, eqb-true, le-ltb, lt-ltb}
 use Rattle.std.proofs.lemmas.Bool.Decides.{nat_tests}
 use Rattle.std.proofs.lemmas.List.{append-nil, map-append}
-use Rattle.moc_sphere.specs.CellNumber.{CellNumber, cell_number, cell_size, IsCell, uniq_of}
+use Rattle.moc_sphere.specs.CellNumber.{CellNumber, cell_number, IsCell, uniq_of}
 use Rattle.moc_ranges.specs.Numbers.{NumberSet}
-use Rattle.moc_ranges.specs.Pixels.{pixel_count}
-use Rattle.moc_ranges.specs.RangeList.{set_of}
-use Rattle.moc_ranges.specs.Faults.{first_fault_from, first_fault}
-use Rattle.moc_ranges.specs.Cells.{cells_of}
-use Rattle.moc_ranges.specs.CellLaws.{cell_range, cells_are, cells_fill}
+use Rattle.moc_ranges.specs.Pixels.{pixels}
+use Rattle.moc_ranges.specs.Operations.{IsWithin}
+use Rattle.moc_ranges.specs.Cells.{span, spans, pixels_of, cells_of}
+use Rattle.moc_ranges.specs.CellLaws.{cells_are}
+use Rattle.moc_ranges.specs.Laws.{spans-one, pixels_of-append, cells_fill, union-assoc, empty-union, union-empty}
 use Rattle.moc_text.specs.Ascii.{IsNumber}
 use Rattle.moc_text.specs.Scan.{front_digits, past_digits, held_after, starts_with_digit}
 use Rattle.moc_text.specs.Lines.{lines_of}
-use Rattle.moc_text.specs.UniqList.{line_fault, or_later, fault_from, uniq_fault, numbers_on, SaysUniq, number_lines, uniq_text, WrittenUniqIsRead}
-use Rattle.moc_text.specs.UniqReading.{after_line, IsPart, IsLineRead, LinesSoFar, AreLinesRead}
+use Rattle.moc_text.specs.UniqList.{number_fault, line_fault, fault_from, uniq_fault, numbers_on, SaysUniq, number_lines, uniq_text}
+use Rattle.moc_text.specs.Private.UniqReading.{after_line, IsPart, IsLineRead, LinesSoFar}
 use Rattle.moc_text.specs.declared.uniq.UniqError.{UniqError}
 use Rattle.moc_text.specs.declared.uniq.UniqError.TheVariants.{BadByte, NotUniq}
 use Rattle.moc_text.proofs.Automaton.{both}
 use Rattle.moc_text.proofs.Held.{held_is}
-use Rattle.moc_text.proofs.Powers.{span_fits}
 use Rattle.moc_text.proofs.Scanning.{digits-split, front-digits, past-digits}
 use Rattle.moc_text.proofs.Written.{IsNumber-decimal, value-decimal}
 
@@ -40,6 +41,12 @@ uniq_bounds c h =
     let two : c.order + 2 ≡ suc (suc c.order) = omega arith in
     let i = h.index_in_range in
     (omega arith, rw (one, two) (omega (arith, four c.order, four (suc c.order))))
+
+pub uniq_some : (c : CellNumber) → 0 < uniq_of c
+uniq_some c =
+    let none : 0 ≤ c.order + 1 = omega arith in
+    let low : 4 ^ 0 ≤ 4 ^ (c.order + 1) = pow-le-pow_right (lit< tt) none in
+    omega (arith, low)
 
 -- the numbers of cells are those from 4 up to 2^62
 pub uniq_range : (c : CellNumber) → IsCell c → (4 ≤ uniq_of c) × (uniq_of c < 2 ^ 62)
@@ -156,7 +163,7 @@ bad_after : (n : ℕ) (ds after : List ℕ) → all_ascii_digits ds ≡ true →
 bad_after n ds [] h stops none = absurd cc
 bad_after n ds (b ∷ more) h stops none =
     let f = lines_bad ds b more h (no_line_end b more none) in
-    ap (fault_from n) f.2 ∙ ap (λ x. or_later x (fault_from (n + 1) f.1)) (bad_byte n (ds ++ b ∷ f.0) (not_digits ds b f.0 stops))
+    ap (fault_from n) f.2 ∙ ap (λ x. option_or x (fault_from (n + 1) f.1)) (bad_byte n (ds ++ b ∷ f.0) (not_digits ds b f.0 stops))
 
 pub line_bad : (n : ℕ) (bytes : List ℕ) → after_line (past_digits bytes) ≡ None → fault_from n (lines_of bytes) ≡ Some (BadByte n)
 line_bad n bytes none = ap (λ (b : List ℕ). fault_from n (lines_of b)) (digits-split bytes) ∙ bad_after n (front_digits bytes) (past_digits bytes) (front-digits bytes) (past-digits bytes) none
@@ -171,10 +178,10 @@ numbers_cons : (l : List ℕ) (ls : List (List ℕ)) → 0 < length l → number
 numbers_cons [] ls some = absurd (omega arith)
 numbers_cons (b ∷ l) ls some = refl
 
-abbrev number_fault : ℕ → Bool → Bool → Bool → Option UniqError
-number_fault n digits low high = cond (not digits) (Some (BadByte n)) (cond (low || not high) (Some (NotUniq n)) None)
+abbrev line_test : ℕ → Bool → ℕ → Option UniqError
+line_test n digits v = cond (not digits) (Some (BadByte n)) (number_fault n v)
 
-fault_cons : (n : ℕ) (l : List ℕ) → 0 < length l → line_fault n l ≡ number_fault n (all_ascii_digits l) (ltb (digits_value 10 l) 4) (ltb (digits_value 10 l) (2 ^ 62))
+fault_cons : (n : ℕ) (l : List ℕ) → 0 < length l → line_fault n l ≡ line_test n (all_ascii_digits l) (digits_value 10 l)
 fault_cons n [] some = absurd (omega arith)
 fault_cons n (b ∷ l) some = refl
 
@@ -192,13 +199,14 @@ shorter bytes rest some e = shorter_parts (front_digits bytes) (past_digits byte
     shorter_parts ds (b ∷ more) rest some e is = omega (arith, ap length (line_end b more rest e).1, length-append ds (b ∷ more))
 
 -- an empty line
-pub line_empty : (n : ℕ) (bytes rest : List ℕ) (old : List (ℕ × ℕ)) → 0 < length bytes → after_line (past_digits bytes) ≡ Some rest → length (past_digits bytes) ≡ length bytes → IsLineRead n bytes old rest old
+pub line_empty : (n : ℕ) (bytes rest : List ℕ) (old : NumberSet) → 0 < length bytes → after_line (past_digits bytes) ≡ Some rest → length (past_digits bytes) ≡ length bytes → IsLineRead n bytes old rest old
+unfolding pixels_of
 line_empty n bytes rest old some e same =
     let none : front_digits bytes ≡ [] = no_digits (front_digits bytes) (omega (arith, same, ap length (digits-split bytes), length-append (front_digits bytes) (past_digits bytes))) in
     let lines : lines_of bytes ≡ [] ∷ lines_of rest = front_lines bytes rest some e ∙ ap (λ (l : List ℕ). l ∷ lines_of rest) none in
     record {
       shorter = shorter bytes rest some e;
-      part = record { cells = []; are_cells = tt; numbers = ap numbers_on lines; spans = sym (append-nil old) };
+      part = record { cells = []; are_cells = tt; numbers = ap numbers_on lines; set_is = sym (union-empty old) };
       fault = ap (fault_from n) lines;
     }
 
@@ -212,9 +220,10 @@ below_top : (v top n : ℕ) → n < top → min v top ≡ n → v ≡ n
 below_top v top n lt e = omega arith
 
 -- a line with the number of a cell
-pub line_cell : (n : ℕ) (bytes rest : List ℕ) (old : List (ℕ × ℕ)) (c : CellNumber) → 0 < length bytes → after_line (past_digits bytes) ≡ Some rest → (length (past_digits bytes) ≡ length bytes → ⊥) → IsCell c → uniq_of c ≡ held_after 0 (front_digits bytes)
-    → IsLineRead n bytes old rest (old ++ cell_range c ∷ [])
-line_cell n bytes rest old c some e digits is number =
+pub line_cell : (n : ℕ) (bytes rest : List ℕ) (old new : NumberSet) (c : CellNumber) → 0 < length bytes → after_line (past_digits bytes) ≡ Some rest → (length (past_digits bytes) ≡ length bytes → ⊥) → IsCell c → uniq_of c ≡ held_after 0 (front_digits bytes)
+    → new ≡ set.union old (spans c.order c.index c.index) → IsLineRead n bytes old rest new
+unfolding pixels_of
+line_cell n bytes rest old new c some e digits is number added =
     let ds = front_digits bytes in
     let h : IsNumber ds = (some_digits bytes digits, front-digits bytes) in
     let range = uniq_range c is in
@@ -226,9 +235,9 @@ line_cell n bytes rest old c some e digits is number =
         cells = c ∷ [];
         are_cells = (is, tt);
         numbers = ap numbers_on lines ∙ numbers_cons ds (lines_of rest) h.0 ∙ ap (λ v. v ∷ numbers_on (lines_of rest)) value;
-        spans = refl;
+        set_is = added ∙ ap (set.union old) (spans-one c.order c.index ∙ sym (union-empty (span c.order c.index)));
       };
-      fault = ap (fault_from n) lines ∙ ap (λ x. or_later x (fault_from (n + 1) (lines_of rest))) (line_fine n ds h (omega (arith, value, range.0)) (omega (arith, value, range.1)));
+      fault = ap (fault_from n) lines ∙ ap (λ x. option_or x (fault_from (n + 1) (lines_of rest))) (line_fine n ds h (omega (arith, value, range.0)) (omega (arith, value, range.1)));
     }
 
 wrong_number : (v top : ℕ) → 2 ^ 62 ≤ top → ((4 ≤ min v top) × (min v top < 2 ^ 62) → ⊥) → (ltb v 4 || not (ltb v (2 ^ 62))) ≡ true
@@ -249,7 +258,7 @@ line_wrong n bytes rest some e digits wrong =
     let held : held_after 0 ds ≡ min (digits_value 10 ds) (2 ^ 64 - 1) = held_is ds h.1 in
     let w : (ltb (digits_value 10 ds) 4 || not (ltb (digits_value 10 ds) (2 ^ 62))) ≡ true = wrong_number (digits_value 10 ds) (2 ^ 64 - 1) (omega arith) (λ r. wrong (omega (arith, held, r.0), omega (arith, held, r.1))) in
     let f : line_fault n ds ≡ Some (NotUniq n) = fault_cons n ds h.0 ∙ rw (h.1, w) refl in
-    ap (fault_from n) (front_lines bytes rest some e) ∙ ap (λ x. or_later x (fault_from (n + 1) (lines_of rest))) f
+    ap (fault_from n) (front_lines bytes rest some e) ∙ ap (λ x. option_or x (fault_from (n + 1) (lines_of rest))) f
 
 -- ---- all lines
 
@@ -257,22 +266,23 @@ append_all : {X : Type 0} (P : X → Type 0) (xs ys : List X) → AllByRecursion
 append_all P [] ys h k = k
 append_all P (x ∷ xs) ys h k = (h.0, append_all P xs ys h.1 k)
 
-pub part_none : (text : List ℕ) → IsPart text [] text []
-part_none text = record { cells = []; are_cells = tt; numbers = refl; spans = refl }
+pub part_none : (text : List ℕ) → IsPart text set.empty text set.empty
+unfolding pixels_of
+part_none text = record { cells = []; are_cells = tt; numbers = refl; set_is = sym (union-empty set.empty) }
 
-pub part_more : (text bytes rest : List ℕ) (old new : List (ℕ × ℕ)) → IsPart text [] bytes old → IsPart bytes old rest new → IsPart text [] rest new
+pub part_more : (text bytes rest : List ℕ) (old new : NumberSet) → IsPart text set.empty bytes old → IsPart bytes old rest new → IsPart text set.empty rest new
 part_more text bytes rest old new p q = record {
   cells = p.cells ++ q.cells;
   are_cells = append_all IsCell p.cells q.cells p.are_cells q.are_cells;
   numbers = p.numbers ∙ ap (λ (r : List ℕ). map uniq_of p.cells ++ r) q.numbers ∙ sym (append_assoc (map uniq_of p.cells) (map uniq_of q.cells) (numbers_on (lines_of rest))) ∙ ap (λ (r : List ℕ). r ++ numbers_on (lines_of rest)) (sym (map-append uniq_of p.cells q.cells));
-  spans = q.spans ∙ ap (λ (r : List (ℕ × ℕ)). r ++ map cell_range q.cells) p.spans ∙ sym (map-append cell_range p.cells q.cells);
+  set_is = q.set_is ∙ ap (λ (r : NumberSet). set.union r (pixels_of q.cells)) p.set_is ∙ union-assoc set.empty (pixels_of p.cells) (pixels_of q.cells) ∙ ap (set.union set.empty) (sym (pixels_of-append p.cells q.cells));
 }
 
-pub so_far_none : (text : List ℕ) → LinesSoFar text text 1 []
+pub so_far_none : (text : List ℕ) → LinesSoFar text text 1 set.empty
 unfolding uniq_fault
 so_far_none text = record { part = part_none text; fault = refl; within = omega arith }
 
-pub so_far_more : (text bytes rest : List ℕ) (line : ℕ) (old new : List (ℕ × ℕ)) → LinesSoFar text bytes line old → IsLineRead line bytes old rest new → LinesSoFar text rest (line + 1) new
+pub so_far_more : (text bytes rest : List ℕ) (line : ℕ) (old new : NumberSet) → LinesSoFar text bytes line old → IsLineRead line bytes old rest new → LinesSoFar text rest (line + 1) new
 so_far_more text bytes rest line old new p q = record {
   part = part_more text bytes rest old new p.part q.part;
   fault = p.fault ∙ q.fault;
@@ -281,31 +291,21 @@ so_far_more text bytes rest line old new p q = record {
 
 -- ---- the text
 
-cells_fine : (cells : List CellNumber) → AllByRecursion IsCell cells → (at : ℕ) → first_fault_from at (map cell_range cells) ≡ None
-cells_fine [] h at = refl
-cells_fine (c ∷ cells) h at =
-    let up : c.index * cell_size c.order ≤ (c.index + 1) * cell_size c.order = omega arith in
-    let fits : (c.index + 1) * cell_size c.order ≤ pixel_count = span_fits c.order (c.index + 1) (h.0).order_in_range (omega (arith, (h.0).index_in_range)) in
-    rw (le-ltb ((c.index + 1) * cell_size c.order) (c.index * cell_size c.order) up, le-ltb pixel_count ((c.index + 1) * cell_size c.order) fits) (cells_fine cells h.1 (at + 1))
-
--- the spans of cells have no fault
-pub lines_fine : (text : List ℕ) (spans : List (ℕ × ℕ)) → AreLinesRead text spans → first_fault spans ≡ None
-lines_fine text spans r = ap first_fault r.part.spans ∙ cells_fine r.part.cells r.part.are_cells 0
-
-pub lines_say : (text : List ℕ) (spans : List (ℕ × ℕ)) → AreLinesRead text spans → SaysUniq text (set_of spans)
-lines_say text spans r = record {
-  faultless = r.faultless;
+pub lines_say : (text rest : List ℕ) (line : ℕ) (a : NumberSet) → length rest ≡ 0 → LinesSoFar text rest line a → SaysUniq text a
+lines_say text (b ∷ rest) line a none r = absurd (omega arith)
+lines_say text [] line a none r = record {
+  faultless = r.fault;
   cells = r.part.cells;
   are_cells = r.part.are_cells;
   numbers = sym (r.part.numbers ∙ append-nil (map uniq_of r.part.cells));
-  pixels_are = ap set_of r.part.spans;
+  pixels_are = r.part.set_is ∙ empty-union (pixels_of r.part.cells);
 }
 
 -- a text says one set
 pub one_set : (text : List ℕ) (a b : NumberSet) → SaysUniq text a → SaysUniq text b → a ≡ b
 one_set text a b x y =
     let cells : x.cells ≡ y.cells = same_cells x.cells y.cells x.are_cells y.are_cells (x.numbers ∙ sym y.numbers) in
-    x.pixels_are ∙ ap (λ (cs : List CellNumber). set_of (map cell_range cs)) cells ∙ sym y.pixels_are
+    x.pixels_are ∙ ap pixels_of cells ∙ sym y.pixels_are
 
 -- ---- what is written is read
 
@@ -331,10 +331,10 @@ decimals_fine at (c ∷ cells) h =
     let range = uniq_range c h.0 in
     let n : IsNumber (decimal (uniq_of c)) = IsNumber-decimal (uniq_of c) (omega (arith, range.1)) in
     let value = value-decimal (uniq_of c) (omega (arith, range.1)) in
-    ap (λ x. or_later x (fault_from (at + 1) (map decimal (map uniq_of cells)))) (line_fine at (decimal (uniq_of c)) n (omega (arith, value, range.0)) (omega (arith, value, range.1)))
+    ap (λ x. option_or x (fault_from (at + 1) (map decimal (map uniq_of cells)))) (line_fine at (decimal (uniq_of c)) n (omega (arith, value, range.0)) (omega (arith, value, range.1)))
     ∙ decimals_fine (at + 1) cells h.1
 
-pub written_uniq_is_read : WrittenUniqIsRead
+pub written_uniq_is_read : (a : NumberSet) → IsWithin a pixels → SaysUniq (uniq_text a) a
 unfolding uniq_text uniq_fault
 written_uniq_is_read a in_pixels =
     let cells = cells_of a in

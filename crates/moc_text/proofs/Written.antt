@@ -1,31 +1,35 @@
 -- A written text is read as it was meant.
-use Rattle.std.proofs.Common.{◌≡◌, ℕ, suc, ◌+◌, ◌*◌, ◌^◌, ◌<◌, ◌≤◌, Bool, true, false, cond, eqb, ltb, ◌||◌, List, [], ◌∷◌, ◌++◌, length, map, max, Option, Some, None, refl, sym, ap, subst, ◌∙◌, arith, inl, inr}
+use Rattle.std.proofs.Common.{◌≡◌, ℕ, suc, ◌+◌, ◌*◌, ◌^◌, ◌<◌, ◌≤◌, Bool, true, false, cond, eqb, leb, ltb, ◌&&◌, ◌||◌, ◌/◌, List, [], ◌∷◌, ◌++◌, length, map, max, Option, Some, None, refl, sym, ap, subst, ◌∙◌, arith, inl, inr}
 use Rattle.std.specs.Prelude.{decimal}
 use Rattle.std.specs.Str.{all_ascii_digits}
 use Rattle.std.specs.Str.Parse.{digits_value, AllDigits}
-use Rattle.std.specs.Option.{ForSome}
-use Rattle.std.specs.List.{join_with_byte, list_any, AllByRecursion}
+use Rattle.std.specs.Option.{ForSome, option_or}
+use Rattle.std.specs.FinSet as set
+use Rattle.std.specs.Cmp.{nat_cmp_total}
+use Rattle.std.specs.List.{join_with_byte, AllByRecursion}
 use Rattle.std.proofs.lemmas.List.{append-nil}
 use Rattle.std.proofs.lemmas.Bool.{cases_lt, le-leb, eqb-true, lt-ltb, le-ltb, ltb-false}
 use Rattle.std.proofs.lemmas.Str.Parse.{digit_from_value}
 use Rattle.std.proofs.lemmas.Fmt.{decimal_is_IsNumeral}
-use Rattle.moc_text.specs.Ascii.{Word, words, words_from, IsNumber, Mark, mark_text, Cells, One, Run, cells_text, AreCells, Shape, JustMark, JustItem, MarkItem, shape_text, IsShape, parts_at, mark_at, item_at, order_at, last_of, mark_fault, item_fault, or_else, fault_of, item_spans, spans_of, deeper, deepest_of, AreRead}
-use Rattle.moc_text.specs.AsciiText.{one, follows, runs_from, runs_of, run_text, order_text, mark_text_of, stated_words, words_of, ascii_text, text_of_cells, HasDeeper, deepest_cell, deepest_written, WrittenIsRead}
-use Rattle.moc_text.specs.declared.number.Item.{Item}
-use Rattle.moc_text.specs.declared.number.Parts.{Parts}
-use Rattle.moc_text.specs.declared.writing.Run.{Run as CellRun}
-use Rattle.moc_text.specs.declared.error.TextError.TheVariants.{OrderTooLarge}
+use Rattle.moc_text.specs.Ascii.{Word, words, words_from, IsNumber, Mark, mark_text, Cells, One, Run, cells_text, AreCells, Shape, JustMark, JustItem, MarkItem, shape_text, IsShape, parts_at, mark_at, item_at, order_at, last_of, mark_fault, item_fault, fault_of, item_pixels, pixels_said, deeper, deepest_of, AreRead, Says}
+use Rattle.moc_text.specs.AsciiText.{one, follows, runs_from, runs_of, run_text, order_text, mark_text_of, stated_beyond, bare_words, words_of, ascii_text, text_of_cells, HasDeeper, IsTooCoarse, deepest_cell, deepest_written}
+use Rattle.moc_text.specs.declared.ascii.number.Item.{Item}
+use Rattle.moc_text.specs.declared.ascii.number.Parts.{Parts}
+use Rattle.moc_text.specs.declared.ascii.writing.Run.{Run as CellRun}
+use Rattle.moc_text.specs.declared.ascii.error.TextError.TheVariants.{OrderTooLarge}
 use Rattle.moc_text.proofs.Automaton.{both}
 use Rattle.moc_text.proofs.Cuts.{words_front, words_skip}
 use Rattle.moc_text.proofs.ReadWords.{shape_part, shape_some, deeper_assoc, deeper-None}
 use Rattle.moc_text.proofs.Powers.{cells_fit}
+use Rattle.moc_text.proofs.Held.{IsSmall}
 use Rattle.moc_sphere.specs.CellNumber.{CellNumber, IsCell, cell_count, cell_size}
 use Rattle.moc_ranges.specs.Numbers.{NumberSet, same_members}
-use Rattle.moc_ranges.specs.RangeList.{set_of, in_range, contains-set_of}
-use Rattle.moc_ranges.specs.Cells.{cells_of}
-use Rattle.moc_ranges.specs.CellLaws.{cell_range, cells_are, cells_fill}
+use Rattle.moc_ranges.specs.Pixels.{pixels, pixel_count}
+use Rattle.moc_ranges.specs.Operations.{IsWithin}
+use Rattle.moc_ranges.specs.Cells.{span, spans, pixels_of, cells_of, contains-spans}
+use Rattle.moc_ranges.specs.CellLaws.{cells_are}
+use Rattle.moc_ranges.specs.Laws.{spans-one, cells_fill, union-assoc, empty-union, union-empty}
 use Rattle.std.proofs.lemmas.Bool.Decides.{nat_tests}
-use Rattle.std.proofs.Math.Nat.{mul-le-mul_right}
 
 -- ---- decimal numbers
 
@@ -54,10 +58,10 @@ abbrev numbers : ℕ → List Shape → List Parts
 numbers at [] = []
 numbers at (s ∷ ss) = parts_at at s ∷ numbers (at + length (shape_text s) + 1) ss
 
-words-join : (at : ℕ) (ss : List Shape) → AllByRecursion IsShape ss → words_from false at (join_with_byte 32 (map shape_text ss)) ≡ placed at ss
+words-join : (at : ℕ) (ss : List Shape) → AllByRecursion IsShape ss → words_from at (join_with_byte 32 (map shape_text ss)) ≡ placed at ss
 words-join at [] h = refl
 words-join at (s ∷ []) h =
-    ap (words_from false at) (sym (append-nil (shape_text s))) ∙ words_front (shape_text s) [] at (shape_some s h.0) (shape_part s h.0) refl
+    ap (words_from at) (sym (append-nil (shape_text s))) ∙ words_front (shape_text s) [] at (shape_some s h.0) (shape_part s h.0) refl
 words-join at (s ∷ t ∷ ss) h =
     words_front (shape_text s) (32 ∷ join_with_byte 32 (map shape_text (t ∷ ss))) at (shape_some s h.0) (shape_part s h.0) refl
     ∙ ap (λ (ws : List Word). record { at = at; bytes = shape_text s } ∷ ws) (words_skip 32 (join_with_byte 32 (map shape_text (t ∷ ss))) (at + length (shape_text s)) refl ∙ words-join (at + length (shape_text s) + 1) (t ∷ ss) h.1)
@@ -74,13 +78,12 @@ abbrev run_shape : Option ℕ → CellRun → Shape
 run_shape None r = MarkItem (order_mark r.order) (run_cells r)
 run_shape (Some j) r = cond (eqb j r.order) (JustItem (run_cells r)) (MarkItem (order_mark r.order) (run_cells r))
 
-abbrev stated_shapes : Option ℕ → Option ℕ → List Shape
-stated_shapes before None = []
-stated_shapes None (Some k) = JustMark (order_mark k) ∷ []
-stated_shapes (Some j) (Some k) = cond (ltb j k) (JustMark (order_mark k) ∷ []) []
+abbrev bare_shapes : Option ℕ → List Shape
+bare_shapes None = []
+bare_shapes (Some k) = JustMark (order_mark k) ∷ []
 
 abbrev shapes_of : Option ℕ → Option ℕ → List CellRun → List Shape
-shapes_of stated before [] = stated_shapes before stated
+shapes_of stated before [] = bare_shapes (stated_beyond before stated)
 shapes_of stated before (r ∷ rs) = run_shape before r ∷ shapes_of stated (Some r.order) rs
 
 run_cells-text : (r : CellRun) → cells_text (run_cells r) ≡ run_text r
@@ -94,13 +97,12 @@ run_shape-text (Some j) r =
       | false ↦ ap (λ (t : List ℕ). order_text r.order ++ t) (run_cells-text r)
     ]
 
-stated_shapes-text : (before stated : Option ℕ) → map shape_text (stated_shapes before stated) ≡ stated_words before stated
-stated_shapes-text before None = refl
-stated_shapes-text None (Some k) = refl
-stated_shapes-text (Some j) (Some k) = elim (ltb j k) as (λ v. map shape_text (cond v (JustMark (order_mark k) ∷ []) []) ≡ cond v (order_text k ∷ []) []) [ true ↦ refl | false ↦ refl ]
+bare_shapes-text : (bare : Option ℕ) → map shape_text (bare_shapes bare) ≡ bare_words bare
+bare_shapes-text None = refl
+bare_shapes-text (Some k) = refl
 
 shapes_of-text : (stated before : Option ℕ) (rs : List CellRun) → map shape_text (shapes_of stated before rs) ≡ words_of stated before rs
-shapes_of-text stated before [] = stated_shapes-text before stated
+shapes_of-text stated before [] = bare_shapes-text (stated_beyond before stated)
 shapes_of-text stated before (r ∷ rs) =
     ap (λ (w : List ℕ). w ∷ map shape_text (shapes_of stated (Some r.order) rs)) (run_shape-text before r)
     ∙ ap (λ (ws : List (List ℕ)). (mark_text_of before r.order ++ run_text r) ∷ ws) (shapes_of-text stated (Some r.order) rs)
@@ -148,22 +150,20 @@ run_shape_is None r h = (order_number r.order h.order, run_cells_are r h)
 run_shape_is (Some j) r h =
     elim (eqb j r.order) as (λ v. IsShape (cond v (JustItem (run_cells r)) (MarkItem (order_mark r.order) (run_cells r)))) [ true ↦ run_cells_are r h | false ↦ (order_number r.order h.order, run_cells_are r h) ]
 
-abbrev IsSmall : Option ℕ → Type 0
-IsSmall k = ForSome k (λ n. n ≤ 29)
+bare_shapes_are : (bare : Option ℕ) → IsSmall bare → AllByRecursion IsShape (bare_shapes bare)
+bare_shapes_are None h = tt
+bare_shapes_are (Some k) h = (order_number k (h k refl), tt)
 
-stated_shapes_are : (before stated : Option ℕ) → IsSmall stated → AllByRecursion IsShape (stated_shapes before stated)
-stated_shapes_are before None h = tt
-stated_shapes_are None (Some k) h = (order_number k (h k refl), tt)
-stated_shapes_are (Some j) (Some k) h = elim (ltb j k) as (λ v. AllByRecursion IsShape (cond v (JustMark (order_mark k) ∷ []) [])) [ true ↦ (order_number k (h k refl), tt) | false ↦ tt ]
+small_beyond : (before stated : Option ℕ) → IsSmall stated → IsSmall (stated_beyond before stated)
+small_beyond before None h = h
+small_beyond None (Some k) h = h
+small_beyond (Some j) (Some k) h = elim (ltb j k) as (λ v. IsSmall (cond v (Some k) None)) [ true ↦ h | false ↦ λ n e. absurd cc ]
 
 shapes_are : (stated before : Option ℕ) (rs : List CellRun) → IsSmall stated → AllByRecursion IsRun rs → AllByRecursion IsShape (shapes_of stated before rs)
-shapes_are stated before [] small h = stated_shapes_are before stated small
+shapes_are stated before [] small h = bare_shapes_are (stated_beyond before stated) (small_beyond before stated small)
 shapes_are stated before (r ∷ rs) small h = (run_shape_is before r h.0, shapes_are stated (Some r.order) rs small h.1)
 
 -- ---- their numbers
-
-abbrev run_span : CellRun → ℕ × ℕ
-run_span r = (r.first * cell_size r.order, (r.last + 1) * cell_size r.order)
 
 record RunItem (r : CellRun) (i : Item) : Type 0 where
   first : i.first.value ≡ r.first
@@ -236,17 +236,12 @@ run_fault before at r n h p =
     let i : item_fault (order_at before n.mark) at n.item ≡ None = ap (λ k. item_fault k at n.item) p.order ∙ ap (item_fault (Some r.order) at) p.item_is ∙ item_ok r.order at p.item r p.values h.forwards h.last in
     rw (p.mark, i) refl
 
-stated_read : (before stated : Option ℕ) (at : ℕ) → IsSmall stated → AreRead before (placed at (stated_shapes before stated)) (numbers at (stated_shapes before stated))
-stated_read before None at h = tt
-stated_read None (Some k) at h = ((JustMark (order_mark k), order_number k (h k refl), refl, refl), ap (λ f. or_else f None) (order_mark-fault at k (h k refl)), tt)
-stated_read (Some j) (Some k) at h =
-    elim (ltb j k) as (λ v. AreRead (Some j) (placed at (cond v (JustMark (order_mark k) ∷ []) [])) (numbers at (cond v (JustMark (order_mark k) ∷ []) []))) [
-      | true ↦ ((JustMark (order_mark k), order_number k (h k refl), refl, refl), ap (λ f. or_else f None) (order_mark-fault at k (h k refl)), tt)
-      | false ↦ tt
-    ]
+bare_read : (before bare : Option ℕ) (at : ℕ) → IsSmall bare → AreRead before (placed at (bare_shapes bare)) (numbers at (bare_shapes bare))
+bare_read before None at h = tt
+bare_read before (Some k) at h = ((JustMark (order_mark k), order_number k (h k refl), refl, refl), ap (λ f. option_or f None) (order_mark-fault at k (h k refl)), tt)
 
 runs_read : (stated before : Option ℕ) (rs : List CellRun) (at : ℕ) → IsSmall stated → AllByRecursion IsRun rs → AreRead before (placed at (shapes_of stated before rs)) (numbers at (shapes_of stated before rs))
-runs_read stated before [] at small h = stated_read before stated at small
+runs_read stated before [] at small h = bare_read before (stated_beyond before stated) at (small_beyond before stated small)
 runs_read stated before (r ∷ rs) at small h =
     let p = run_parts before at r h.0 in
     let next = at + length (shape_text (run_shape before r)) + 1 in (
@@ -255,28 +250,34 @@ runs_read stated before (r ∷ rs) at small h =
       subst (λ k. AreRead k (placed next (shapes_of stated (Some r.order) rs)) (numbers next (shapes_of stated (Some r.order) rs))) (sym p.order) (runs_read stated (Some r.order) rs next small h.1),
     )
 
--- ---- their spans and their deepest order
+-- ---- their pixels and their deepest order
 
-stated_spans : (before stated : Option ℕ) (at : ℕ) → spans_of before (numbers at (stated_shapes before stated)) ≡ []
-stated_spans before None at = refl
-stated_spans None (Some k) at = refl
-stated_spans (Some j) (Some k) at = elim (ltb j k) as (λ v. spans_of (Some j) (numbers at (cond v (JustMark (order_mark k) ∷ []) [])) ≡ []) [ true ↦ refl | false ↦ refl ]
+abbrev run_pixels : CellRun → NumberSet
+run_pixels r = spans r.order r.first r.last
 
-run_spans : (before : Option ℕ) (r : CellRun) (n : Parts) → RunParts before r n → item_spans (order_at before n.mark) n.item ≡ run_span r ∷ []
-run_spans before r n p =
-    ap (λ k. item_spans k n.item) p.order ∙ ap (item_spans (Some r.order)) p.item_is
-    ∙ ap (λ (f : ℕ). (f * cell_size r.order, ((last_of p.item).value + 1) * cell_size r.order) ∷ []) p.values.first
-    ∙ ap (λ (l : ℕ). (r.first * cell_size r.order, (l + 1) * cell_size r.order) ∷ []) p.values.last
+abbrev all_pixels : List CellRun → NumberSet
+all_pixels [] = set.empty
+all_pixels (r ∷ rs) = set.union (run_pixels r) (all_pixels rs)
 
-runs_spans : (stated before : Option ℕ) (rs : List CellRun) (at : ℕ) → AllByRecursion IsRun rs → spans_of before (numbers at (shapes_of stated before rs)) ≡ map run_span rs
-runs_spans stated before [] at h = stated_spans before stated at
-runs_spans stated before (r ∷ rs) at h =
+bare_said : (before bare : Option ℕ) (at : ℕ) → pixels_said before (numbers at (bare_shapes bare)) ≡ set.empty
+bare_said before None at = refl
+bare_said before (Some k) at = empty-union set.empty
+
+run_said : (before : Option ℕ) (r : CellRun) (n : Parts) → RunParts before r n → item_pixels (order_at before n.mark) n.item ≡ run_pixels r
+run_said before r n p =
+    ap (λ k. item_pixels k n.item) p.order ∙ ap (item_pixels (Some r.order)) p.item_is
+    ∙ ap (λ (f : ℕ). spans r.order f (last_of p.item).value) p.values.first
+    ∙ ap (spans r.order r.first) p.values.last
+
+runs_said : (stated before : Option ℕ) (rs : List CellRun) (at : ℕ) → AllByRecursion IsRun rs → pixels_said before (numbers at (shapes_of stated before rs)) ≡ all_pixels rs
+runs_said stated before [] at h = bare_said before (stated_beyond before stated) at
+runs_said stated before (r ∷ rs) at h =
     let n = parts_at at (run_shape before r) in
     let p = run_parts before at r h.0 in
     let others = numbers (at + length (shape_text (run_shape before r)) + 1) (shapes_of stated (Some r.order) rs) in
-    ap (λ (x : List (ℕ × ℕ)). x ++ spans_of (order_at before n.mark) others) (run_spans before r n p)
-    ∙ ap (λ (k : Option ℕ). run_span r ∷ spans_of k others) p.order
-    ∙ ap (λ (x : List (ℕ × ℕ)). run_span r ∷ x) (runs_spans stated (Some r.order) rs (at + length (shape_text (run_shape before r)) + 1) h.1)
+    ap (λ (x : NumberSet). set.union x (pixels_said (order_at before n.mark) others)) (run_said before r n p)
+    ∙ ap (λ (k : Option ℕ). set.union (run_pixels r) (pixels_said k others)) p.order
+    ∙ ap (set.union (run_pixels r)) (runs_said stated (Some r.order) rs (at + length (shape_text (run_shape before r)) + 1) h.1)
 
 abbrev deepest_run : List CellRun → Option ℕ
 deepest_run [] = None
@@ -285,11 +286,11 @@ deepest_run (r ∷ rs) = deeper (Some r.order) (deepest_run rs)
 max_left : (j k : ℕ) → k ≤ j → j ≡ max j k
 max_left j k h = omega arith
 
-stated_deepest : (before stated : Option ℕ) (at : ℕ) → IsSmall stated → deeper before (deepest_of (numbers at (stated_shapes before stated))) ≡ deeper before stated
+stated_deepest : (before stated : Option ℕ) (at : ℕ) → IsSmall stated → deeper before (deepest_of (numbers at (bare_shapes (stated_beyond before stated)))) ≡ deeper before stated
 stated_deepest before None at h = refl
 stated_deepest None (Some k) at h = order_mark-value at k (h k refl)
 stated_deepest (Some j) (Some k) at h =
-    elim (ltb j k) as (λ v. ltb j k ≡ v → deeper (Some j) (deepest_of (numbers at (cond v (JustMark (order_mark k) ∷ []) []))) ≡ deeper (Some j) (Some k)) [
+    elim (ltb j k) as (λ v. ltb j k ≡ v → deeper (Some j) (deepest_of (numbers at (bare_shapes (cond v (Some k) None)))) ≡ deeper (Some j) (Some k)) [
       | true ↦ λ e. ap (deeper (Some j)) (order_mark-value at k (h k refl))
       | false ↦ λ e. ap (λ (n : ℕ). Some n) (max_left j k (ltb-false j k e))
     ] refl
@@ -305,53 +306,47 @@ runs_deepest stated before (r ∷ rs) at small h =
 
 -- ---- runs and their cells
 
-abbrev within : ℕ → ℕ × ℕ → Bool
-within q s = in_range s q
+one_more : (first last i : ℕ) (inside : Bool) → first ≤ last → (inside && (leb first i && leb i (last + 1))) ≡ ((inside && (leb first i && leb i last)) || (inside && (leb (last + 1) i && leb i (last + 1))))
+one_more first last i true le = grind (arith, nat_tests)
+one_more first last i false le = refl
 
--- two spans that touch
-within-join : (x y z q : ℕ) → x ≤ y → y ≤ z → within q (x, z) ≡ (within q (x, y) || within q (y, z))
-within-join x y z q h k = grind (arith, nat_tests)
-
--- spans with the same pixels have one union
-same_pixels : (ss ts : List (ℕ × ℕ)) → ((q : ℕ) → list_any (within q) ss ≡ list_any (within q) ts) → set_of ss ≡ set_of ts
-same_pixels ss ts h = same_members (set_of ss) (set_of ts) (λ q. contains-set_of ss q ∙ h q ∙ sym (contains-set_of ts q))
-
-or_regroup : (a b c : Bool) → ((a || b) || c) ≡ (a || (b || c))
-or_regroup true b c = refl
-or_regroup false b c = refl
+-- a row of cells that goes on to the next one
+row_more : (k first last : ℕ) → first ≤ last → spans k first (last + 1) ≡ set.union (spans k first last) (span k (last + 1))
+row_more k first last le = same_members _ _ (λ q.
+    contains-spans k first (last + 1) q
+    ∙ one_more first last (q / cell_size k) (ltb q pixel_count) le
+    ∙ ap (λ b. b || (ltb q pixel_count && (leb (last + 1) (q / cell_size k) && leb (q / cell_size k) (last + 1)))) (sym (contains-spans k first last q))
+    ∙ ap (λ b. set.contains (spans k first last) q || b) (sym (contains-spans k (last + 1) (last + 1) q))
+    ∙ sym (set.contains-union nat_cmp_total (spans k first last) (spans k (last + 1) (last + 1)) q)
+    ∙ ap (λ (a : NumberSet). set.contains (set.union (spans k first last) a) q) (spans-one k (last + 1)))
 
 -- a run that goes on to the next cell
-run_more : (r : CellRun) (c : CellNumber) (q : ℕ) → r.first ≤ r.last → r.last + 1 ≡ c.index → c.order ≡ r.order → within q (run_span (record r { last = c.index })) ≡ (within q (run_span r) || within q (cell_range c))
-run_more r c q le n o =
-    let w = cell_size r.order in
-    let x : r.first * w ≤ (r.last + 1) * w = mul-le-mul_right w (omega arith) in
-    let y : (r.last + 1) * w ≤ (c.index + 1) * w = mul-le-mul_right w (omega arith) in
-    within-join (r.first * w) ((r.last + 1) * w) ((c.index + 1) * w) q x y
-    ∙ ap (λ (k : ℕ). within q (run_span r) || within q (k * w, (c.index + 1) * w)) n
-    ∙ ap (λ (k : ℕ). within q (run_span r) || within q (c.index * cell_size k, (c.index + 1) * cell_size k)) (sym o)
+run_more : (r : CellRun) (c : CellNumber) → r.first ≤ r.last → r.last + 1 ≡ c.index → c.order ≡ r.order → run_pixels (record r { last = c.index }) ≡ set.union (run_pixels r) (span c.order c.index)
+run_more r c le n o =
+    ap (spans r.order r.first) (sym n) ∙ row_more r.order r.first r.last le
+    ∙ ap (λ (i : ℕ). set.union (run_pixels r) (span r.order i)) n
+    ∙ ap (λ (k : ℕ). set.union (run_pixels r) (span k c.index)) (sym o)
 
-runs_from-within : (r : CellRun) (cs : List CellNumber) (q : ℕ) → IsRun r → AllByRecursion IsCell cs → list_any (within q) (map run_span (runs_from r cs)) ≡ (within q (run_span r) || list_any (within q) (map cell_range cs))
-runs_from-within r [] q h all = refl
-runs_from-within r (c ∷ cs) q h all =
-    let k : IsCell c = all.0 in
-    elim (follows r c) as (λ v. follows r c ≡ v → list_any (within q) (map run_span (cond v (runs_from (record r { last = c.index }) cs) (r ∷ runs_from (one c) cs))) ≡ (within q (run_span r) || (within q (cell_range c) || list_any (within q) (map cell_range cs)))) [
+runs_from-pixels : (r : CellRun) (cs : List CellNumber) → r.first ≤ r.last → all_pixels (runs_from r cs) ≡ set.union (run_pixels r) (pixels_of cs)
+unfolding pixels_of
+runs_from-pixels r [] h = refl
+runs_from-pixels r (c ∷ cs) h =
+    elim (follows r c) as (λ v. follows r c ≡ v → all_pixels (cond v (runs_from (record r { last = c.index }) cs) (r ∷ runs_from (one c) cs)) ≡ set.union (run_pixels r) (set.union (span c.order c.index) (pixels_of cs))) [
       | true ↦ λ e.
           let p = both (eqb c.order r.order) (eqb (r.last + 1) c.index) e in
           let o : c.order ≡ r.order = eqb-true c.order r.order p.0 in
           let n : r.last + 1 ≡ c.index = eqb-true (r.last + 1) c.index p.1 in
-          let longer : IsRun (record r { last = c.index }) = record { order = h.order; forwards = omega (arith, h.forwards); last = subst (λ j. c.index < cell_count j) o k.index_in_range } in
-          runs_from-within (record r { last = c.index }) cs q longer all.1
-          ∙ ap (λ b. b || list_any (within q) (map cell_range cs)) (run_more r c q h.forwards n o)
-          ∙ or_regroup (within q (run_span r)) (within q (cell_range c)) (list_any (within q) (map cell_range cs))
+          runs_from-pixels (record r { last = c.index }) cs (omega arith)
+          ∙ ap (λ (a : NumberSet). set.union a (pixels_of cs)) (run_more r c h n o)
+          ∙ union-assoc (run_pixels r) (span c.order c.index) (pixels_of cs)
       | false ↦ λ e.
-          ap (λ b. within q (run_span r) || b) (runs_from-within (one c) cs q (record { order = k.order_in_range; forwards = omega arith; last = k.index_in_range }) all.1)
+          ap (set.union (run_pixels r)) (runs_from-pixels (one c) cs (omega arith) ∙ ap (λ (a : NumberSet). set.union a (pixels_of cs)) (spans-one c.order c.index))
     ] refl
 
-runs_pixels : (cells : List CellNumber) → AllByRecursion IsCell cells → set_of (map run_span (runs_of cells)) ≡ set_of (map cell_range cells)
-runs_pixels [] all = refl
-runs_pixels (c ∷ cs) all =
-    let k : IsCell c = all.0 in
-    same_pixels (map run_span (runs_from (one c) cs)) (map cell_range (c ∷ cs)) (λ q. runs_from-within (one c) cs q (record { order = k.order_in_range; forwards = omega arith; last = k.index_in_range }) all.1)
+runs_pixels : (cells : List CellNumber) → all_pixels (runs_of cells) ≡ pixels_of cells
+unfolding pixels_of
+runs_pixels [] = refl
+runs_pixels (c ∷ cs) = runs_from-pixels (one c) cs (omega arith) ∙ ap (λ (a : NumberSet). set.union a (pixels_of cs)) (spans-one c.order c.index)
 
 runs_from-deepest : (r : CellRun) (cs : List CellNumber) → deepest_run (runs_from r cs) ≡ deeper (Some r.order) (deepest_cell cs)
 runs_from-deepest r [] = refl
@@ -372,7 +367,7 @@ pub not_deeper : (c : CellNumber) (cs : List CellNumber) (k : ℕ) → (HasDeepe
 not_deeper c cs k h = elim (cases_lt k c.order) [ inl lt ↦ absurd (h (0, c, omega arith, refl, lt)) | inr le ↦ le ]
 
 -- a stated order is at least as deep as each cell
-stated_is_deepest : (cells : List CellNumber) (k : ℕ) → (HasDeeper cells (Some k) → ⊥) → deeper (deepest_cell cells) (Some k) ≡ Some k
+pub stated_is_deepest : (cells : List CellNumber) (k : ℕ) → (HasDeeper cells (Some k) → ⊥) → deeper (deepest_cell cells) (Some k) ≡ Some k
 stated_is_deepest [] k h = refl
 stated_is_deepest (c ∷ cs) k h =
     let here : c.order ≤ k = not_deeper c cs k h in
@@ -386,7 +381,7 @@ deepest_is_written a (Some k) h = stated_is_deepest (cells_of a) k h
 
 -- ---- the whole text
 
-pub written_is_read : WrittenIsRead
+pub written_is_read : (a : NumberSet) (stated : Option ℕ) → IsWithin a pixels → IsSmall stated → (IsTooCoarse a stated → ⊥) → Says (ascii_text a stated) a (deepest_written a stated)
 unfolding ascii_text
 written_is_read a stated in_pixels small fine =
     let cells = cells_of a in
@@ -395,9 +390,10 @@ written_is_read a stated in_pixels small fine =
     let runs : AllByRecursion IsRun rs = runs_of-all cells all in
     let shapes = shapes_of stated None rs in
     let text : join_with_byte 32 (map shape_text shapes) ≡ text_of_cells cells stated = ap (join_with_byte 32) (shapes_of-text stated None rs) in
-    let ws : placed 0 shapes ≡ words (text_of_cells cells stated) = sym (words-join 0 shapes (shapes_are stated None rs small runs)) ∙ ap words text in (
-      numbers 0 shapes,
-      subst (λ (w : List Word). AreRead None w (numbers 0 shapes)) ws (runs_read stated None rs 0 small runs),
-      sym (ap set_of (runs_spans stated None rs 0 runs) ∙ runs_pixels cells all ∙ cells_fill a in_pixels),
-      sym (runs_deepest stated None rs 0 small runs ∙ ap (λ k. deeper k stated) (runs_of-deepest cells) ∙ deepest_is_written a stated fine),
-    )
+    let ws : placed 0 shapes ≡ words (text_of_cells cells stated) = sym (words-join 0 shapes (shapes_are stated None rs small runs)) ∙ ap words text in
+    record {
+      numbers = numbers 0 shapes;
+      read = subst (λ (w : List Word). AreRead None w (numbers 0 shapes)) ws (runs_read stated None rs 0 small runs);
+      set_is = sym (runs_said stated None rs 0 runs ∙ runs_pixels cells ∙ cells_fill a in_pixels);
+      deepest_is = sym (runs_deepest stated None rs 0 small runs ∙ ap (λ k. deeper k stated) (runs_of-deepest cells) ∙ deepest_is_written a stated fine);
+    }

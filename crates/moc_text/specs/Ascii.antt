@@ -1,16 +1,17 @@
 -- Reading the ASCII form of a coverage (MOC 2.0): what a text says, or its first fault.
-use Rattle.std.specs.Prelude.{◌≡◌, ℕ, ◌+◌, ◌*◌, ◌<◌, ◌≤◌, Bool, true, false, not, ◌||◌, ◌==◌, nat_lt, if◌then◌else◌, List, [], ◌∷◌, ◌++◌, length, Option, Some, None, unwrap_or, ◌⊎◌, max}
-use Rattle.std.specs.List.{take_while}
+use Rattle.std.specs.Prelude.{◌≡◌, ℕ, ◌+◌, ◌<◌, ◌≤◌, Bool, true, not, ◌||◌, ◌==◌, nat_lt, if◌then◌else◌, List, [], ◌∷◌, ◌++◌, length, Option, Some, None, unwrap_or, ◌⊎◌, max}
+use Rattle.std.specs.Option.{option_or}
 use Rattle.std.specs.Str.{all_ascii_digits}
 use Rattle.std.specs.Str.Parse.{digits_value}
-use Rattle.moc_sphere.specs.CellNumber.{cell_count, cell_size}
+use Rattle.std.specs.FinSet as set
+use Rattle.moc_sphere.specs.CellNumber.{cell_count}
 use Rattle.moc_ranges.specs.Numbers.{NumberSet}
-use Rattle.moc_ranges.specs.RangeList.{set_of}
-use Rattle.moc_text.specs.declared.number.Number.{Number}
-use Rattle.moc_text.specs.declared.number.Item.{Item}
-use Rattle.moc_text.specs.declared.number.Parts.{Parts}
-use Rattle.moc_text.specs.declared.error.TextError.{TextError}
-use Rattle.moc_text.specs.declared.error.TextError.TheVariants.{BadByte, NoOrder, OrderTooLarge, CellTooLarge, Backwards, Unfinished}
+use Rattle.moc_ranges.specs.Cells.{spans}
+use Rattle.moc_text.specs.declared.ascii.number.Number.{Number}
+use Rattle.moc_text.specs.declared.ascii.number.Item.{Item}
+use Rattle.moc_text.specs.declared.ascii.number.Parts.{Parts}
+use Rattle.moc_text.specs.declared.ascii.error.TextError.{TextError}
+use Rattle.moc_text.specs.declared.ascii.error.TextError.TheVariants.{BadByte, NoOrder, OrderTooLarge, CellTooLarge, Backwards, Unfinished}
 
 -- ---- words
 
@@ -18,24 +19,28 @@ use Rattle.moc_text.specs.declared.error.TextError.TheVariants.{BadByte, NoOrder
 abbrev pub is_separator : ℕ → Bool
 is_separator b = b == 32 || b == 44 || b == 9 || b == 13 || b == 10
 
-abbrev pub is_word_byte : ℕ → Bool
-is_word_byte b = not (is_separator b)
-
 -- a longest run of bytes that are no separators, and the place of its first byte
 pub record Word : Type 0 where
   pub at : ℕ
   pub bytes : List ℕ
 
--- The words of the bytes from a place on: one begins at each byte that is no separator and has none that is no separator before it.
-abbrev pub words_from : Bool → ℕ → List ℕ → List Word
-words_from in_word at [] = []
-words_from in_word at (b ∷ bs) =
-    if is_separator b then words_from false (at + 1) bs
-    else (if in_word then words_from true (at + 1) bs
-    else record { at = at; bytes = take_while is_word_byte (b ∷ bs) } ∷ words_from true (at + 1) bs)
+-- a byte that is no separator, before words: a part of the one that begins right after it, if any
+abbrev pub onto_word : ℕ → ℕ → List Word → List Word
+onto_word at b [] = record { at = at; bytes = b ∷ [] } ∷ []
+onto_word at b (w ∷ ws) =
+    if w.at == at + 1 then record { at = at; bytes = b ∷ w.bytes } ∷ ws
+    else record { at = at; bytes = b ∷ [] } ∷ w ∷ ws
 
+-- the longest runs without separators in bytes whose first stands at a place
+abbrev pub words_from : ℕ → List ℕ → List Word
+words_from at [] = []
+words_from at (b ∷ bytes) =
+    if is_separator b then words_from (at + 1) bytes
+    else onto_word at b (words_from (at + 1) bytes)
+
+-- the words of a text, in their sequence
 abbrev pub words : List ℕ → List Word
-words text = words_from false 0 text
+words text = words_from 0 text
 
 -- ---- the three shapes
 
@@ -48,9 +53,11 @@ pub record Mark : Type 0 where
   pub prefixed : Bool
   pub order : List ℕ
 
+-- `s` or nothing
 abbrev pub prefix : Bool → List ℕ
 prefix prefixed = if prefixed then 115 ∷ [] else []
 
+-- the bytes of a mark
 abbrev pub mark_text : Mark → List ℕ
 mark_text m = prefix m.prefixed ++ m.order ++ 47 ∷ []
 
@@ -59,10 +66,12 @@ pub data Cells : Type 0 where
   One : List ℕ → Cells
   Run : List ℕ → List ℕ → Cells
 
+-- the bytes of an item
 abbrev pub cells_text : Cells → List ℕ
 cells_text (One a) = a
 cells_text (Run a b) = a ++ 45 ∷ b
 
+-- Its parts are numbers.
 abbrev pub AreCells : Cells → Type 0
 AreCells (One a) = IsNumber a
 AreCells (Run a b) = IsNumber a × IsNumber b
@@ -73,16 +82,19 @@ pub data Shape : Type 0 where
   JustItem : Cells → Shape
   MarkItem : Mark → Cells → Shape
 
+-- the bytes of a word of this shape
 abbrev pub shape_text : Shape → List ℕ
 shape_text (JustMark m) = mark_text m
 shape_text (JustItem c) = cells_text c
 shape_text (MarkItem m c) = mark_text m ++ cells_text c
 
+-- What stands for numbers are numbers.
 abbrev pub IsShape : Shape → Type 0
 IsShape (JustMark m) = IsNumber m.order
 IsShape (JustItem c) = AreCells c
 IsShape (MarkItem m c) = IsNumber m.order × AreCells c
 
+-- The bytes have one of the shapes.
 abbrev pub IsLawful : List ℕ → Type 0
 IsLawful bytes = (shape : Shape) × IsShape shape × (bytes ≡ shape_text shape)
 
@@ -92,18 +104,22 @@ IsLawful bytes = (shape : Shape) × IsShape shape × (bytes ≡ shape_text shape
 abbrev pub IsBeginning : List ℕ → Type 0
 IsBeginning p = (more : List ℕ) × IsLawful (p ++ more)
 
--- The longest beginning of the bytes that is also one of some lawful word is p, and rest comes after it.
+-- p is the longest beginning of the bytes that is also one of a lawful word, and rest comes after.
 pub record IsLongestBeginning (p rest bytes : List ℕ) : Type 0 where
   pub parts : bytes ≡ p ++ rest
   pub begins : IsBeginning p
   pub longest : (q more : List ℕ) → bytes ≡ q ++ more → IsBeginning q → length q ≤ length p
 
+-- the fault of a word that begins at a place, with this longest beginning: `Unfinished` where that
+-- is all of an unlawful word, and else `BadByte` at the byte after it
 abbrev pub ShapeFaultAt : ℕ → List ℕ → List ℕ → TextError → Type 0
 ShapeFaultAt at p [] f = (IsLawful p → ⊥) × (f ≡ Unfinished (at + length p))
 ShapeFaultAt at p (b ∷ rest) f = f ≡ BadByte (at + length p)
 
+-- The word has no shape, and this fault.
 abbrev pub HasShapeFault : Word → TextError → Type 0
-HasShapeFault w f = (p rest : List ℕ) × IsLongestBeginning p rest w.bytes × ShapeFaultAt w.at p rest f
+HasShapeFault w f =
+    (p rest : List ℕ) × IsLongestBeginning p rest w.bytes × ShapeFaultAt w.at p rest f
 
 -- ---- what a lawful word means
 
@@ -111,22 +127,27 @@ HasShapeFault w f = (p rest : List ℕ) × IsLongestBeginning p rest w.bytes × 
 abbrev pub number_at : ℕ → List ℕ → Number
 number_at at digits = record { at = at; value = digits_value 10 digits }
 
+-- the number of a mark that begins at a place
 abbrev pub mark_at : ℕ → Mark → Number
 mark_at at m = number_at (at + length (prefix m.prefixed)) m.order
 
+-- the numbers of an item that begins at a place
 abbrev pub item_at : ℕ → Cells → Item
 item_at at (One a) = record { first = number_at at a; last = None }
-item_at at (Run a b) = record { first = number_at at a; last = Some (number_at (at + length a + 1) b) }
+item_at at (Run a b) =
+    record { first = number_at at a; last = Some (number_at (at + length a + 1) b) }
 
 -- the numbers of a word of this shape that begins at a place
 abbrev pub parts_at : ℕ → Shape → Parts
 parts_at at (JustMark m) = record { mark = Some (mark_at at m); item = None }
 parts_at at (JustItem c) = record { mark = None; item = Some (item_at at c) }
-parts_at at (MarkItem m c) = record { mark = Some (mark_at at m); item = Some (item_at (at + length (mark_text m)) c) }
+parts_at at (MarkItem m c) =
+    record { mark = Some (mark_at at m); item = Some (item_at (at + length (mark_text m)) c) }
 
--- the word is lawful, and these are its numbers
+-- The word is lawful, and these are its numbers.
 abbrev pub Means : Word → Parts → Type 0
-Means w n = (shape : Shape) × IsShape shape × (w.bytes ≡ shape_text shape) × (n ≡ parts_at w.at shape)
+Means w n =
+    (shape : Shape) × IsShape shape × (w.bytes ≡ shape_text shape) × (n ≡ parts_at w.at shape)
 
 -- the order in force at a mark or none, where `before` was in force before it
 abbrev pub order_at : Option ℕ → Option Number → Option ℕ
@@ -139,11 +160,12 @@ last_of i = unwrap_or i.last i.first
 
 -- ---- faults of a lawful word
 
+-- of a mark, if there is one: an order above 29
 abbrev pub mark_fault : Option Number → Option TextError
 mark_fault None = None
 mark_fault (Some n) = if nat_lt 29 n.value then Some (OrderTooLarge n.at) else None
 
--- of an item in a word that begins at `at`, where an order is in force or none
+-- of an item, if there is one, in a word that begins at `at`, where an order is in force or none
 abbrev pub item_fault : Option ℕ → ℕ → Option Item → Option TextError
 item_fault k at None = None
 item_fault None at (Some i) = Some (NoOrder at)
@@ -152,23 +174,23 @@ item_fault (Some k) at (Some i) =
     else (if not (nat_lt (last_of i).value (cell_count k)) then Some (CellTooLarge (last_of i).at)
     else (if nat_lt (last_of i).value i.first.value then Some (Backwards i.first.at) else None))
 
-abbrev pub or_else : Option TextError → Option TextError → Option TextError
-or_else (Some f) g = Some f
-or_else None g = g
-
 -- the first fault of a lawful word's numbers, if there is one
 abbrev pub fault_of : Option ℕ → ℕ → Parts → Option TextError
-fault_of before at n = or_else (mark_fault n.mark) (item_fault (order_at before n.mark) at n.item)
+fault_of before at n =
+    option_or (mark_fault n.mark) (item_fault (order_at before n.mark) at n.item)
 
+-- The word has this fault, where an order was in force before it or none.
 abbrev pub IsFault : Option ℕ → Word → TextError → Type 0
-IsFault before w f = HasShapeFault w f ⊎ ((n : Parts) × Means w n × (fault_of before w.at n ≡ Some f))
+IsFault before w f =
+    HasShapeFault w f ⊎ ((n : Parts) × Means w n × (fault_of before w.at n ≡ Some f))
 
 -- ---- the text
 
 -- No word is faulty, and these are the numbers of each.
 abbrev pub AreRead : Option ℕ → List Word → List Parts → Type 0
 AreRead before [] [] = Unit {0}
-AreRead before (w ∷ ws) (n ∷ ns) = Means w n × (fault_of before w.at n ≡ None) × AreRead (order_at before n.mark) ws ns
+AreRead before (w ∷ ws) (n ∷ ns) =
+    Means w n × (fault_of before w.at n ≡ None) × AreRead (order_at before n.mark) ws ns
 AreRead before [] (n ∷ ns) = ⊥
 AreRead before (w ∷ ws) [] = ⊥
 
@@ -177,19 +199,19 @@ abbrev pub order_after : Option ℕ → List Parts → Option ℕ
 order_after before [] = before
 order_after before (n ∷ ns) = order_after (order_at before n.mark) ns
 
--- the first pixel of an item's cells, and the one after the last
-abbrev pub span_of : ℕ → Item → ℕ × ℕ
-span_of k i = (i.first.value * cell_size k, ((last_of i).value + 1) * cell_size k)
+-- the pixels of an item's cells, in the order in force
+abbrev pub item_pixels : Option ℕ → Option Item → NumberSet
+item_pixels k None = set.empty
+item_pixels None (Some i) = set.empty
+item_pixels (Some k) (Some i) = spans k i.first.value (last_of i).value
 
-abbrev pub item_spans : Option ℕ → Option Item → List (ℕ × ℕ)
-item_spans (Some k) (Some i) = span_of k i ∷ []
-item_spans None i = []
-item_spans (Some k) None = []
-
--- the spans of all items, in their order
-abbrev pub spans_of : Option ℕ → List Parts → List (ℕ × ℕ)
-spans_of before [] = []
-spans_of before (n ∷ ns) = item_spans (order_at before n.mark) n.item ++ spans_of (order_at before n.mark) ns
+-- the pixels of all items
+abbrev pub pixels_said : Option ℕ → List Parts → NumberSet
+pixels_said before [] = set.empty
+pixels_said before (n ∷ ns) =
+    set.union
+      (item_pixels (order_at before n.mark) n.item)
+      (pixels_said (order_at before n.mark) ns)
 
 -- the greater of two orders that may be none
 abbrev pub deeper : Option ℕ → Option ℕ → Option ℕ
@@ -203,8 +225,11 @@ deepest_of [] = None
 deepest_of (n ∷ ns) = deeper (order_at None n.mark) (deepest_of ns)
 
 -- The text says this set and this deepest order.
-abbrev pub Says : List ℕ → NumberSet → Option ℕ → Type 0
-Says text set deepest = (ns : List Parts) × AreRead None (words text) ns × (set ≡ set_of (spans_of None ns)) × (deepest ≡ deepest_of ns)
+pub record Says (text : List ℕ) (a : NumberSet) (deepest : Option ℕ) : Type 0 where
+  pub numbers : List Parts
+  pub read : AreRead None (words text) numbers
+  pub set_is : a ≡ pixels_said None numbers
+  pub deepest_is : deepest ≡ deepest_of numbers
 
 -- The text's first faulty word has this fault.
 pub record IsFirstFault (text : List ℕ) (f : TextError) : Type 0 where

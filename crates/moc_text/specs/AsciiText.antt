@@ -1,54 +1,62 @@
--- Writing the ASCII form of a coverage: its cells by rising order, and within an order by rising index.
-use Rattle.std.specs.Prelude.{ℕ, ◌+◌, Bool, ◌&&◌, ◌==◌, nat_lt, ◌<◌, ◌≤◌, if◌then◌else◌, List, [], ◌∷◌, ◌++◌, Option, Some, None, decimal}
-use Rattle.std.specs.Option.{ForSome}
+-- Writing the ASCII form of a coverage (MOC 2.0): its cells by rising order, and within an order
+-- by rising index.
+use Rattle.std.specs.Prelude.{ℕ, ◌+◌, Bool, ◌&&◌, ◌==◌, nat_lt, ◌<◌, if◌then◌else◌, List, [], ◌∷◌, ◌++◌, Option, Some, None, decimal}
 use Rattle.std.specs.List.{Any, join_with_byte}
 use Rattle.moc_sphere.specs.CellNumber.{CellNumber}
 use Rattle.moc_ranges.specs.Numbers.{NumberSet}
-use Rattle.moc_ranges.specs.Pixels.{pixels}
-use Rattle.moc_ranges.specs.Operations.{IsWithin}
 use Rattle.moc_ranges.specs.Cells.{cells_of}
-use Rattle.moc_text.specs.Ascii.{deeper, Says}
-use Rattle.moc_text.specs.declared.writing.Run.{Run}
+use Rattle.moc_text.specs.Ascii.{deeper}
+use Rattle.moc_text.specs.declared.ascii.writing.Run.{Run}
 
 -- a run of one cell
 abbrev pub one : CellNumber → Run
 one c = record { order = c.order; first = c.index; last = c.index }
 
--- the cell is the next of the run's order
+-- whether the cell is the next of the run's order
 abbrev pub follows : Run → CellNumber → Bool
 follows r c = (c.order == r.order) && (r.last + 1 == c.index)
 
 -- the longest runs of consecutive cells of one order, where the first has begun with r
 abbrev pub runs_from : Run → List CellNumber → List Run
 runs_from r [] = r ∷ []
-runs_from r (c ∷ cs) = if follows r c then runs_from (record r { last = c.index }) cs else r ∷ runs_from (one c) cs
+runs_from r (c ∷ cs) =
+    if follows r c then runs_from (record r { last = c.index }) cs else r ∷ runs_from (one c) cs
 
+-- the longest runs of consecutive cells of one order
 abbrev pub runs_of : List CellNumber → List Run
 runs_of [] = []
 runs_of (c ∷ cs) = runs_from (one c) cs
 
 -- a single cell `a`, a run of two or more `a-b`
 abbrev pub run_text : Run → List ℕ
-run_text r = if r.first == r.last then decimal r.first else decimal r.first ++ 45 ∷ decimal r.last
+run_text r =
+    if r.first == r.last then decimal r.first else decimal r.first ++ 45 ∷ decimal r.last
 
 -- `k/`
 abbrev pub order_text : ℕ → List ℕ
 order_text k = decimal k ++ 47 ∷ []
 
--- The first run of an order stands behind `k/`; `before` is the order written last.
+-- `k/` before the first run of an order, and nothing before its others; `before` was written last
 abbrev pub mark_text_of : Option ℕ → ℕ → List ℕ
 mark_text_of None k = order_text k
 mark_text_of (Some j) k = if j == k then [] else order_text k
 
--- the stated order, where it is deeper than the last that was written or none was
-abbrev pub stated_words : Option ℕ → Option ℕ → List (List ℕ)
-stated_words before None = []
-stated_words None (Some k) = order_text k ∷ []
-stated_words (Some j) (Some k) = if nat_lt j k then order_text k ∷ [] else []
+-- the stated order, where it is deeper than the last order that was written or none was
+abbrev pub stated_beyond : Option ℕ → Option ℕ → Option ℕ
+stated_beyond before None = None
+stated_beyond None (Some k) = Some k
+stated_beyond (Some j) (Some k) = if nat_lt j k then Some k else None
 
+-- the word of an order that has no cells, if there is one
+abbrev pub bare_words : Option ℕ → List (List ℕ)
+bare_words None = []
+bare_words (Some k) = order_text k ∷ []
+
+-- the words of runs, and then that of the stated order; `before` was written last
 abbrev pub words_of : Option ℕ → Option ℕ → List Run → List (List ℕ)
-words_of stated before [] = stated_words before stated
-words_of stated before (r ∷ rs) = (mark_text_of before r.order ++ run_text r) ∷ words_of stated (Some r.order) rs
+words_of stated before [] = bare_words (stated_beyond before stated)
+words_of stated before (r ∷ rs) =
+    (mark_text_of before r.order ++ run_text r) ∷ words_of stated (Some r.order) rs
 
 -- the text of cells and an optional stated order
 abbrev pub text_of_cells : List CellNumber → Option ℕ → List ℕ
@@ -58,12 +66,12 @@ text_of_cells cells stated = join_with_byte 32 (words_of stated None (runs_of ce
 unfoldable pub ascii_text : NumberSet → Option ℕ → List ℕ
 ascii_text a stated = text_of_cells (cells_of a) stated
 
--- some of the cells is of a deeper order than the stated one
+-- Some of the cells is of a deeper order than the stated one.
 abbrev pub HasDeeper : List CellNumber → Option ℕ → Type 0
 HasDeeper cells None = ⊥
 HasDeeper cells (Some k) = Any (λ c. k < c.order) cells
 
--- some cell of the set is of a deeper order than the stated one
+-- Some cell of the set is of a deeper order than the stated one.
 abbrev pub IsTooCoarse : NumberSet → Option ℕ → Type 0
 IsTooCoarse a stated = HasDeeper (cells_of a) stated
 
@@ -72,13 +80,7 @@ abbrev pub deepest_cell : List CellNumber → Option ℕ
 deepest_cell [] = None
 deepest_cell (c ∷ cs) = deeper (Some c.order) (deepest_cell cs)
 
--- the stated order, or else the deepest order written
+-- the stated order, or else the greatest order of a cell of the set
 abbrev pub deepest_written : NumberSet → Option ℕ → Option ℕ
 deepest_written a None = deepest_cell (cells_of a)
 deepest_written a (Some k) = Some k
-
--- A written text says the set that was written, and the stated order, or else the deepest order written.
-abbrev pub WrittenIsRead : Type 0
-WrittenIsRead =
-    (a : NumberSet) (stated : Option ℕ) → IsWithin a pixels → ForSome stated (λ k. k ≤ 29) → (IsTooCoarse a stated → ⊥)
-    → Says (ascii_text a stated) a (deepest_written a stated)

@@ -1,90 +1,119 @@
--- Reading the JSON form of a coverage (MOC 2.0): the names of an object are orders, and their arrays are cells.
-use Rattle.std.specs.Prelude.{◌≡◌, ℕ, ◌+◌, ◌*◌, ◌&&◌, ◌==◌, not, nat_lt, if◌then◌else◌, List, [], ◌∷◌, ◌++◌, length, Option, Some, None, option_and_then, Result, Ok, Err, IsUtf8, ◌⊎◌}
-use Rattle.moc_sphere.specs.CellNumber.{cell_count, cell_size}
-use Rattle.moc_ranges.specs.Numbers.{NumberSet}
-use Rattle.moc_ranges.specs.RangeList.{set_of}
+-- Reading the JSON form of a coverage (MOC 2.0): the names of an object are orders, and their
+-- arrays are cells.
+use Rattle.std.specs.Prelude.{◌≡◌, ℕ, ◌+◌, ◌&&◌, ◌==◌, not, nat_lt, if◌then◌else◌, List, Option, Some, None, option_and_then, length, IsUtf8, ◌⊎◌}
+use Rattle.std.specs.Option.{option_or}
 use Rattle.std.specs.Str.{all_ascii_digits}
 use Rattle.std.specs.Str.Parse.{digits_value}
+use Rattle.std.specs.FinSet as set
 use Rattle.serde_json.specs.Data.{Data, Items, no_items, item, Members, no_members, member}
 use Rattle.serde_json.specs.Find.{as_number, as_u64, as_array, as_object}
 use Rattle.serde_json.specs.Read.{read}
+use Rattle.moc_sphere.specs.CellNumber.{cell_count}
+use Rattle.moc_ranges.specs.Numbers.{NumberSet}
+use Rattle.moc_ranges.specs.Cells.{span}
 use Rattle.moc_text.specs.Ascii.{deeper}
-use Rattle.moc_text.specs.declared.json.JsonError.{JsonError}
-use Rattle.moc_text.specs.declared.json.JsonError.TheVariants.{NotJson, NotObject, BadOrder, NotArray, NotWhole, CellTooLarge}
+use Rattle.moc_text.specs.declared.json.error.JsonError.{JsonError}
+use Rattle.moc_text.specs.declared.json.error.JsonError.TheVariants.{NotJson, NotObject, BadOrder, NotArray, NotWhole, CellTooLarge}
 
-infixl 10 ◌>>=◌
-abbrev pub ◌>>=◌ : {A B : Type 0} → Result A JsonError → (A → Result B JsonError) → Result B JsonError
-(Ok x) >>= f = f x
-(Err e) >>= f = Err e
+-- ---- names and items
 
--- the number of some digits, if it is an order
+-- a number, if it is an order
 abbrev pub order_up_to_29 : ℕ → Option ℕ
 order_up_to_29 k = if nat_lt 29 k then None else Some k
 
--- the order that a name names: one digit or more, for a number up to 29
+-- the order that a name of one digit or more names, if it does
 abbrev pub order_of_name : List ℕ → Option ℕ
-order_of_name name = if not (length name == 0) && all_ascii_digits name then order_up_to_29 (digits_value 10 name) else None
+order_of_name name =
+    if not (length name == 0) && all_ascii_digits name then order_up_to_29 (digits_value 10 name)
+    else None
 
--- a whole number of 64 bits
+-- a whole number of 64 bits, if the value is one
 abbrev pub whole : Data → Option ℕ
 whole d = option_and_then as_u64 (as_number d)
 
--- the pixels of one cell
-abbrev pub cell_of : ℕ → ℕ → ℕ → Option ℕ → Result (ℕ × ℕ) JsonError
-cell_of k name place None = Err (NotWhole name place)
-cell_of k name place (Some i) =
-    if nat_lt i (cell_count k) then Ok (i * cell_size k, (i + 1) * cell_size k) else Err (CellTooLarge name place)
+-- ---- what an object says
 
--- the cells of an array, from a place on
-abbrev pub cells_from : ℕ → ℕ → ℕ → Items → Result (List (ℕ × ℕ)) JsonError
-cells_from k name place no_items = Ok []
-cells_from k name place (item d ds) = do
-  first ← cell_of k name place (whole d)
-  others ← cells_from k name (place + 1) ds
-  Ok (first ∷ others)
+-- the pixels of the cell of a number, if there is one
+abbrev pub cell_pixels : ℕ → Option ℕ → NumberSet
+cell_pixels k None = set.empty
+cell_pixels k (Some i) = span k i
 
-abbrev pub cells_of_array : ℕ → ℕ → Option Items → Result (List (ℕ × ℕ)) JsonError
-cells_of_array k name None = Err (NotArray name)
-cells_of_array k name (Some ds) = cells_from k name 0 ds
+-- the pixels of the cells whose numbers are the items
+abbrev pub items_pixels : ℕ → Items → NumberSet
+items_pixels k no_items = set.empty
+items_pixels k (item d ds) = set.union (cell_pixels k (whole d)) (items_pixels k ds)
 
--- the cells of a name's value, where the name is an order
-abbrev pub cells_of_name : Option ℕ → ℕ → Data → Result (List (ℕ × ℕ)) JsonError
-cells_of_name None name d = Err (BadOrder name)
-cells_of_name (Some k) name d = cells_of_array k name (as_array d)
+-- the pixels of the cells of a name, where it is an order and has an array
+abbrev pub array_pixels : Option ℕ → Option Items → NumberSet
+array_pixels (Some k) (Some ds) = items_pixels k ds
+array_pixels None ds = set.empty
+array_pixels (Some k) None = set.empty
 
--- the spans of all cells and the greatest name, from a name on
-abbrev pub members_from : ℕ → Members → Result (List (ℕ × ℕ) × Option ℕ) JsonError
-members_from name no_members = Ok ([], None)
-members_from name (member text d ms) = do
-  spans ← cells_of_name (order_of_name text) name d
-  others ← members_from (name + 1) ms
-  Ok (spans ++ others.0, deeper (order_of_name text) others.1)
+-- the pixels of the cells of all names
+abbrev pub members_pixels : Members → NumberSet
+members_pixels no_members = set.empty
+members_pixels (member name d ms) =
+    set.union (array_pixels (order_of_name name) (as_array d)) (members_pixels ms)
 
-abbrev pub object_read : Option Members → Result (List (ℕ × ℕ) × Option ℕ) JsonError
-object_read None = Err NotObject
-object_read (Some ms) = members_from 0 ms
+-- the greatest order that is a name
+abbrev pub deepest_name : Members → Option ℕ
+deepest_name no_members = None
+deepest_name (member name d ms) = deeper (order_of_name name) (deepest_name ms)
 
--- what a value says: spans and the deepest order, or its first fault
-abbrev pub value_read : Data → Result (List (ℕ × ℕ) × Option ℕ) JsonError
-value_read d = object_read (as_object d)
+-- ---- what is wrong with a value
 
--- the bytes are the text of this value
+-- of an item, which is a whole number or none, where k is the order: no number, or no cell
+abbrev pub item_fault : ℕ → ℕ → ℕ → Option ℕ → Option JsonError
+item_fault k name place None = Some (NotWhole name place)
+item_fault k name place (Some i) =
+    if nat_lt i (cell_count k) then None else Some (CellTooLarge name place)
+
+-- of the first faulty item, where the items are numbered from a place on
+abbrev pub items_fault : ℕ → ℕ → ℕ → Items → Option JsonError
+items_fault k name place no_items = None
+items_fault k name place (item d ds) =
+    option_or (item_fault k name place (whole d)) (items_fault k name (place + 1) ds)
+
+-- of a name, which is an order or none, and its array, if its value is one
+abbrev pub name_fault : ℕ → Option ℕ → Option Items → Option JsonError
+name_fault name None ds = Some (BadOrder name)
+name_fault name (Some k) None = Some (NotArray name)
+name_fault name (Some k) (Some ds) = items_fault k name 0 ds
+
+-- of the first faulty name, where the names are numbered from a number on
+abbrev pub members_fault : ℕ → Members → Option JsonError
+members_fault name no_members = None
+members_fault name (member text d ms) =
+    option_or (name_fault name (order_of_name text) (as_array d)) (members_fault (name + 1) ms)
+
+-- of a value that is an object or none
+abbrev pub object_fault : Option Members → Option JsonError
+object_fault None = Some NotObject
+object_fault (Some ms) = members_fault 0 ms
+
+-- ---- the text
+
+-- The bytes are the text of this value.
 pub record IsJson (bytes : List ℕ) (d : Data) : Type 0 where
   pub utf8 : IsUtf8 bytes
   pub value : read bytes ≡ Some d
 
--- the bytes are the text of no value
+-- The bytes are the text of no value.
 abbrev pub IsNotJson : List ℕ → Type 0
 IsNotJson bytes = IsUtf8 bytes → read bytes ≡ None
 
--- The bytes say this set and this deepest order.
-pub record SaysJson (bytes : List ℕ) (set : NumberSet) (deepest : Option ℕ) : Type 0 where
+-- The text is an object without a fault, which says this set and this deepest order.
+pub record SaysJson (bytes : List ℕ) (a : NumberSet) (deepest : Option ℕ) : Type 0 where
   pub value : Data
   pub json : IsJson bytes value
-  pub spans : List (ℕ × ℕ)
-  pub says : value_read value ≡ Ok (spans, deepest)
-  pub set_is : set ≡ set_of spans
+  pub members : Members
+  pub object : as_object value ≡ Some members
+  pub faultless : members_fault 0 members ≡ None
+  pub set_is : a ≡ members_pixels members
+  pub deepest_is : deepest ≡ deepest_name members
 
--- The bytes have this fault.
+-- The text has this fault.
 abbrev pub IsJsonFault : List ℕ → JsonError → Type 0
-IsJsonFault bytes e = ((e ≡ NotJson) × IsNotJson bytes) ⊎ ((d : Data) × IsJson bytes d × (value_read d ≡ Err e))
+IsJsonFault bytes e =
+    ((e ≡ NotJson) × IsNotJson bytes)
+    ⊎ ((d : Data) × IsJson bytes d × (object_fault (as_object d) ≡ Some e))

@@ -1,4 +1,5 @@
--- Writing the JSON form of a coverage (MOC 2.0): an object whose names are orders and whose arrays are cells.
+-- Writing the JSON form of a coverage (MOC 2.0): an object whose names are orders and whose arrays
+-- are cells.
 use Rattle.std.specs.Prelude.{ℕ, zero, suc, Bool, true, false, ◌==◌, if◌then◌else◌, List, [], ◌∷◌, map, Option, Some, None, decimal}
 use Rattle.std.specs.List.{filter}
 use Rattle.serde_json.specs.Data.{Data, number, unsigned, array, object, Members, no_members, put}
@@ -7,6 +8,7 @@ use Rattle.serde_json.specs.Written.{compact_text}
 use Rattle.moc_sphere.specs.CellNumber.{CellNumber}
 use Rattle.moc_ranges.specs.Numbers.{NumberSet}
 use Rattle.moc_ranges.specs.Cells.{cells_of}
+use Rattle.moc_text.specs.AsciiText.{deepest_cell, stated_beyond}
 
 -- the number of a cell as a value
 abbrev pub datum : CellNumber → Data
@@ -16,27 +18,33 @@ datum c = number (unsigned c.index)
 abbrev pub data_at : ℕ → List CellNumber → List Data
 data_at k cells = map datum (filter (λ c. c.order == k) cells)
 
-abbrev pub is_stated : ℕ → Option ℕ → Bool
-is_stated k None = false
-is_stated k (Some j) = k == j
+-- whether the order is the one without cells, if there is one
+abbrev pub is_bare : ℕ → Option ℕ → Bool
+is_bare k None = false
+is_bare k (Some j) = k == j
 
--- An order is a name where it has cells or is the stated one.
+-- whether an order is a name: it has cells, or is the one without cells
 abbrev pub is_name : ℕ → Option ℕ → List Data → Bool
-is_name k stated [] = is_stated k stated
-is_name k stated (d ∷ ds) = true
+is_name k bare [] = is_bare k bare
+is_name k bare (d ∷ ds) = true
 
 -- the members with those of an order, if it is a name; `put` keeps the names in byte order
 abbrev pub with_order : ℕ → Option ℕ → List Data → Members → Members
-with_order k stated ds members = if is_name k stated ds then put (decimal k) (array (items_of ds)) members else members
+with_order k bare ds members =
+    if is_name k bare ds then put (decimal k) (array (items_of ds)) members else members
 
 -- the members of the orders below a number
 abbrev pub members_below : List CellNumber → Option ℕ → ℕ → Members
-members_below cells stated zero = no_members
-members_below cells stated (suc k) = with_order k stated (data_at k cells) (members_below cells stated k)
+members_below cells bare zero = no_members
+members_below cells bare (suc k) = with_order k bare (data_at k cells) (members_below cells bare k)
+
+-- the members of cells and a stated order: it is a name without cells where it is deeper than these
+abbrev pub members_of_cells : List CellNumber → Option ℕ → Members
+members_of_cells cells stated = members_below cells (stated_beyond (deepest_cell cells) stated) 30
 
 -- the object of a set and an optional stated order
 unfoldable pub json_value : NumberSet → Option ℕ → Data
-json_value a stated = object (members_below (cells_of a) stated 30)
+json_value a stated = object (members_of_cells (cells_of a) stated)
 
 -- its text with no space
 unfoldable pub json_text : NumberSet → Option ℕ → List ℕ

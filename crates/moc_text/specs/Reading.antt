@@ -1,11 +1,11 @@
--- The reading of a text as a function: the one that what a text says, and its first fault, leave.
+-- The reading of an ASCII text as a function: the one that what a text says, and its first fault,
+-- leave.
 use Rattle.std.specs.Prelude.{◌≡◌, ℕ, ◌+◌, List, [], ◌∷◌, length, Option, Some, None, Result, Ok, Err, MatchResult, ◌⊎◌}
 use Rattle.moc_ranges.specs.Numbers.{NumberSet}
-use Rattle.moc_ranges.specs.RangeList.{set_of}
-use Rattle.moc_text.specs.declared.number.Parts.{Parts}
-use Rattle.moc_text.specs.declared.error.TextError.{TextError}
-use Rattle.moc_text.specs.declared.error.TextError.TheVariants.{Memory}
-use Rattle.moc_text.specs.Ascii.{Word, words, order_at, fault_of, spans_of, deepest_of, Says, IsFirstFault}
+use Rattle.moc_text.specs.declared.ascii.number.Parts.{Parts}
+use Rattle.moc_text.specs.declared.ascii.error.TextError.{TextError}
+use Rattle.moc_text.specs.declared.ascii.error.TextError.TheVariants.{Memory}
+use Rattle.moc_text.specs.Ascii.{Word, words, order_at, fault_of, pixels_said, deepest_of, Says, IsFirstFault}
 use Rattle.moc_text.specs.Scan.{◌>>=◌, scan_word}
 
 -- the numbers of a word, or the fault of its shape
@@ -14,6 +14,7 @@ parts_of w = do
   scanned ← scan_word (w.at + length w.bytes) w.bytes
   Ok scanned.0
 
+-- the numbers, or the fault that they have
 abbrev pub faultless : Option TextError → Parts → Result Parts TextError
 faultless (Some fault) n = Err fault
 faultless None n = Ok n
@@ -31,15 +32,19 @@ numbers_of before (w ∷ ws) = do
 unfoldable pub reading_of : List ℕ → Result (NumberSet × Option ℕ) TextError
 reading_of text = do
   ns ← numbers_of None (words text)
-  Ok (set_of (spans_of None ns), deepest_of ns)
+  Ok (pixels_said None ns, deepest_of ns)
 
--- what a reader returned is what the text says, or its first fault, unless memory ran out
+-- What a reader returned is what the text says, or its first fault, unless memory ran out.
 abbrev pub IsReadingOf : List ℕ → Result (NumberSet × Option ℕ) TextError → Type 0
 IsReadingOf text (Ok read) = reading_of text ≡ Ok read
 IsReadingOf text (Err e) = (e ≡ Memory) ⊎ (reading_of text ≡ Err e)
 
--- The reading of each text is what the text says, or its first fault, and a text says no other set and has no other first fault.
+-- Each text has one reading: the set and order that it says, or its first fault.
 pub record ReadingsAreTold : Type 0 where
-  pub told : (text : List ℕ) → MatchResult (reading_of text) (λ read. Says text read.0 read.1) (λ fault. IsFirstFault text fault)
-  pub only_set : (text : List ℕ) (a : NumberSet) (k : Option ℕ) → Says text a k → reading_of text ≡ Ok (a, k)
-  pub only_fault : (text : List ℕ) (fault : TextError) → IsFirstFault text fault → reading_of text ≡ Err fault
+  pub told :
+      (text : List ℕ)
+      → MatchResult (reading_of text) (λ r. Says text r.0 r.1) (λ fault. IsFirstFault text fault)
+  pub only_set :
+      (text : List ℕ) (a : NumberSet) (k : Option ℕ) → Says text a k → reading_of text ≡ Ok (a, k)
+  pub only_fault :
+      (text : List ℕ) (f : TextError) → IsFirstFault text f → reading_of text ≡ Err f

@@ -1,37 +1,34 @@
 -- NUNIQ lists: a text with the NUNIQ number of a cell on each line (MOC 2.0 has the numbers).
 use Rattle.std.specs.Prelude.{◌≡◌, ℕ, ◌+◌, ◌^◌, ◌||◌, not, nat_lt, if◌then◌else◌, List, [], ◌∷◌, ◌++◌, map, decimal, Option, Some, None}
 use Rattle.std.specs.List.{AllByRecursion}
+use Rattle.std.specs.Option.{option_or}
 use Rattle.std.specs.Str.{all_ascii_digits}
 use Rattle.std.specs.Str.Parse.{digits_value}
 use Rattle.moc_sphere.specs.CellNumber.{CellNumber, IsCell, uniq_of}
 use Rattle.moc_ranges.specs.Numbers.{NumberSet}
-use Rattle.moc_ranges.specs.Pixels.{pixels}
-use Rattle.moc_ranges.specs.RangeList.{set_of}
-use Rattle.moc_ranges.specs.Operations.{IsWithin}
-use Rattle.moc_ranges.specs.Cells.{cells_of}
-use Rattle.moc_ranges.specs.CellLaws.{cell_range}
+use Rattle.moc_ranges.specs.Cells.{cells_of, pixels_of}
 use Rattle.moc_text.specs.Lines.{lines_of}
 use Rattle.moc_text.specs.declared.uniq.UniqError.{UniqError}
 use Rattle.moc_text.specs.declared.uniq.UniqError.TheVariants.{BadByte, NotUniq}
 
 -- ---- reading
 
+-- what is wrong with a number on a line, if anything: NUNIQ numbers are those from 4 to 2^62 - 1
+abbrev pub number_fault : ℕ → ℕ → Option UniqError
+number_fault line n = if nat_lt n 4 || not (nat_lt n (2 ^ 62)) then Some (NotUniq line) else None
+
 -- what is wrong with the line of a number, if anything; an empty line is skipped
 abbrev pub line_fault : ℕ → List ℕ → Option UniqError
 line_fault number [] = None
 line_fault number (b ∷ line) =
     if not (all_ascii_digits (b ∷ line)) then Some (BadByte number)
-    else (if nat_lt (digits_value 10 (b ∷ line)) 4 || not (nat_lt (digits_value 10 (b ∷ line)) (2 ^ 62)) then Some (NotUniq number) else None)
-
--- the fault that goes before another
-abbrev pub or_later : Option UniqError → Option UniqError → Option UniqError
-or_later (Some fault) later = Some fault
-or_later None later = later
+    else number_fault number (digits_value 10 (b ∷ line))
 
 -- the fault of the first faulty line, where the lines are numbered from a number on
 abbrev pub fault_from : ℕ → List (List ℕ) → Option UniqError
 fault_from number [] = None
-fault_from number (line ∷ lines) = or_later (line_fault number line) (fault_from (number + 1) lines)
+fault_from number (line ∷ lines) =
+    option_or (line_fault number line) (fault_from (number + 1) lines)
 
 -- the fault of the first faulty line of a text
 unfoldable pub uniq_fault : List ℕ → Option UniqError
@@ -49,7 +46,7 @@ pub record SaysUniq (text : List ℕ) (a : NumberSet) : Type 0 where
   pub cells : List CellNumber
   pub are_cells : AllByRecursion IsCell cells
   pub numbers : map uniq_of cells ≡ numbers_on (lines_of text)
-  pub pixels_are : a ≡ set_of (map cell_range cells)
+  pub pixels_are : a ≡ pixels_of cells
 
 -- ---- writing
 
@@ -61,7 +58,3 @@ number_lines (n ∷ ns) = decimal n ++ 10 ∷ number_lines ns
 -- the list of a set: the numbers of its cells, rising
 unfoldable pub uniq_text : NumberSet → List ℕ
 uniq_text a = number_lines (map uniq_of (cells_of a))
-
--- A written list says the set that was written.
-abbrev pub WrittenUniqIsRead : Type 0
-WrittenUniqIsRead = (a : NumberSet) → IsWithin a pixels → SaysUniq (uniq_text a) a

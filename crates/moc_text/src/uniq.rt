@@ -1,23 +1,22 @@
 //! NUNIQ lists: the NUNIQ number of a cell on each line.
-ghost use Rattle.std.specs.Prelude.{◌≡◌, ◌++◌, ◌<◌, decimal, map, IfErr, IfOk, IsOkUnless, length, MatchResult, OnOk, Some, ◌⊎◌};
+ghost use Rattle.std.specs.Prelude.{◌≡◌, ◌++◌, ◌<◌, decimal, map, IfErr, IfOk, IsOkUnless, length, MatchResult, OnOk};
 ghost use Rattle.std.specs.Option.{option_copied};
 ghost use Rattle.std.specs.String.{string_bytes};
 ghost use Rattle.moc_sphere.specs.CellNumber.{uniq_of};
 ghost use Rattle.moc_ranges.specs.Numbers.{NumberSet};
 ghost use Rattle.moc_text.specs.Lines.{lines_of};
-ghost use Rattle.moc_text.specs.UniqReading.{after_line, IsLineRead, AreLinesRead};
-ghost use Rattle.moc_text.specs.UniqList.{fault_from, number_lines, SaysUniq, uniq_fault, uniq_text, WrittenUniqIsRead};
+ghost use Rattle.moc_text.specs.Private.UniqReading.{after_line, IsLineRead};
+ghost use Rattle.moc_text.specs.Faults.{Fails};
+ghost use Rattle.moc_text.specs.UniqList.{fault_from, number_lines, SaysUniq, uniq_fault, uniq_text};
 
-use crate::scan::digits;
-use crate::spans::union_of;
-use crate::writing::push_number;
-use moc_ranges::{Coverage, Memory as MemoryRefused};
+use crate::ascii::{digits, push_number};
+use moc_ranges::{Coverage, CoverageBuilder, Memory as MemoryRefused};
 use moc_sphere::Cell;
 use std::alloc::{AllocError, AllocFailed, Global};
 use thiserror::Error;
 
 /// A fault of a NUNIQ list, with the number of a line, counted from 1.
-#[derive(Debug, Drop, Error)]
+#[derive(Debug, Clone, Copy, PartialEq, Eq, Error)]
 pub enum UniqError {
     #[error("a byte that is no digit, in line {line}")]
     BadByte { line: usize },
@@ -71,16 +70,16 @@ fn past_line(bytes: &[u8]) -> Option<&[u8]>
     }
 }
 
-/// Adds the pixels of the cell on the line at the front, if it has one; gives what comes after the line.
-fn push_line<'a>(
-    spans: &mut Vec<(u64, u64)>,
+/// Adds the cell on the line at the front, if it has one; gives what comes after the line.
+fn read_line<'a>(
+    cells: &mut CoverageBuilder,
     line: usize,
     bytes: &'a [u8],
 ) -> Result<&'a [u8], UniqError>
     requires { 0 < length bytes.now }
     ensures { MatchResult result
-        (λ rest. IsLineRead line bytes.now spans.old.items rest.now spans.new.items)
-        (λ e. (e ≡ UniqError.Memory) ⊎ (fault_from line (lines_of bytes.now) ≡ Some e)) }
+        (λ rest. IsLineRead line bytes.now cells.old rest.now cells.new)
+        (λ e. Fails UniqError.Memory (fault_from line (lines_of bytes.now)) e) }
 {
     let (value, after) = digits(bytes);
     let Some(rest) = past_line(after) else {
@@ -92,23 +91,8 @@ fn push_line<'a>(
     let Ok(cell) = Cell::from_uniq(value) else {
         return Err(UniqError::NotUniq { line });
     };
-    spans.push(cell.span())?;
+    cells.add_cells(cell.order(), cell.index(), cell.index())?;
     Ok(rest)
-}
-
-/// Reads line by line.
-fn read_lines(alloc: Global, text: &[u8]) -> Result<Vec<(u64, u64)>, UniqError>
-    ensures read { IfOk result (λ spans. AreLinesRead text.now spans.items) }
-    ensures fault { IfErr result (λ e. (e ≡ UniqError.Memory) ⊎ (uniq_fault text.now ≡ Some e)) }
-{
-    let mut spans = Vec::new(alloc);
-    let mut line = 1;
-    let mut rest = text;
-    while !rest.is_empty() {
-        rest = push_line(&mut spans, line, rest)?;
-        line += 1;
-    }
-    Ok(spans)
 }
 
 /// Reads a NUNIQ list: the pixels of the cells whose numbers (MOC 2.0) stand on the lines, in any sequence. A
@@ -119,13 +103,20 @@ pub fn read_uniq(alloc: Global, text: &[u8]) -> Result<Coverage, UniqError>
     ensures set { IfOk result (λ c. SaysUniq text.now c) }
 
     // What is refused has its first fault, unless memory ran out.
-    ensures fault { IfErr result (λ e. (e ≡ UniqError.Memory) ⊎ (uniq_fault text.now ≡ Some e)) }
+    ensures fault { IfErr result (λ e. Fails UniqError.Memory (uniq_fault text.now) e) }
 
     // So a text that says a set is read as that set.
-    ensures reading { (a : NumberSet) → SaysUniq text.now a → MatchResult result (λ c. c ≡ a) (λ e. e ≡ UniqError.Memory) }
+    ensures reading { (a : NumberSet) → SaysUniq text.now a
+        → MatchResult result (λ c. c ≡ a) (λ e. e ≡ UniqError.Memory) }
 {
-    let spans = read_lines(alloc, text)?;
-    Ok(union_of(alloc, &spans)?)
+    let mut cells = CoverageBuilder::new(alloc);
+    let mut line = 1;
+    let mut rest = text;
+    while !rest.is_empty() {
+        rest = read_line(&mut cells, line, rest)?;
+        line += 1;
+    }
+    Ok(cells.build(alloc)?)
 }
 
 /// Writes the lines of cells.
@@ -139,20 +130,27 @@ fn push_numbers(text: &mut String, cells: &[Cell]) -> Result<(), AllocError>
     Ok(())
 }
 
+/// How many bytes the lines of rising numbers take at most.
+fn room_for(cells: &[Cell]) -> usize {
+    let Some(last) = cells.last() else {
+        return 0;
+    };
+    let digits = last.uniq().ilog10() as usize + 1;
+    cells.len().saturating_mul(digits + 1)
+}
+
 /// Writes the NUNIQ list of the set: the numbers of its cells, rising, each in decimal and followed by LF.
 /// Linear in the number of cells.
 #[tactic(auto, unfolding(crate::specs::UniqList::uniq_text))]
 pub fn write_uniq(alloc: Global, set: &Coverage) -> Result<String, UniqError>
     ensures text { IfOk result (λ t. string_bytes t ≡ uniq_text set.now) }
     ensures memory { IsOkUnless result UniqError.Memory }
+
+    // A written list says the set that was written, so it is read as that set.
+    ensures reads_back { IfOk result (λ t. SaysUniq (string_bytes t) set.now) }
 {
     let cells = set.cells(alloc)?;
-    let mut text = String::with_capacity(alloc, cells.len())?;
+    let mut text = String::with_capacity(alloc, room_for(&cells))?;
     push_numbers(&mut text, &cells)?;
     Ok(text)
 }
-
-/// The law of NUNIQ lists: the list of a set within the pixels says that set, so it is read as that set.
-pub fn written_uniq_is_read()
-    ensures { WrittenUniqIsRead }
-{}

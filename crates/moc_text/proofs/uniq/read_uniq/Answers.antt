@@ -1,8 +1,19 @@
-use Rattle.moc_text.proofs.UniqLines.{lines_fine, lines_say, one_set}
+use Rattle.std.proofs.Common.{rules, ◌≡◌, length}
+use Rattle.moc_text.proofs.UniqLines.{so_far_none, so_far_more, lines_say, one_set}
 use Rattle.moc_text.proofs.uniq.read_uniq.Goals as goal
 
-pub union_of-requires : goal.union_of-requires
-union_of-requires c = rw c.deref.ensures.value (lines_fine c.args.text.now _ c.in_ok-spans.ensures.read)
+pub loop-rest-init : goal.loop-rest-init
+loop-rest-init c = rw c.new-cells.ensures (so_far_none c.args.text.now)
+
+pub loop-rest-preserved : goal.loop-rest-preserved
+loop-rest-preserved c = so_far_more c.args.text.now c.loop-rest.rest.now c.in_ok-rest.rest.now c.loop-rest.line c.loop-rest.cells c.read_line.new.cells c.loop-rest.invariant c.in_ok-rest.ensures
+
+pub returns-clause-set : goal.returns-clause-set
+returns-clause-set c =
+    let none : length c.loop-rest.rest.now ≡ 0 = search rules in
+    rw c.in_ok-build.ensures (lines_say c.args.text.now c.loop-rest.rest.now c.loop-rest.line c.loop-rest.cells none c.loop-rest.invariant)
 
 pub returns-clause-reading : goal.returns-clause-reading
-returns-clause-reading c = λ a says. rw (c.in_ok-union_of.ensures, c.deref.ensures.value) (one_set c.args.text.now _ a (lines_say c.args.text.now _ c.in_ok-spans.ensures.read) says)
+returns-clause-reading c = λ a says.
+    let none : length c.loop-rest.rest.now ≡ 0 = search rules in
+    rw c.in_ok-build.ensures (one_set c.args.text.now c.loop-rest.cells a (lines_say c.args.text.now c.loop-rest.rest.now c.loop-rest.line c.loop-rest.cells none c.loop-rest.invariant) says)

@@ -1,0 +1,6 @@
+-- Words that contracts of private functions alone cite; no public clause does.
+pub mod AsciiReading
+pub mod AsciiWriting
+pub mod UniqReading
+pub mod JsonReading
+pub mod JsonWriting

@@ -1,0 +1,35 @@
+-- How far the reading of a NUNIQ list has come.
+use Rattle.std.specs.Prelude.{◌≡◌, ℕ, ◌+◌, ◌<◌, ◌≤◌, List, [], ◌∷◌, ◌++◌, length, map, Option, Some, None, if◌then◌else◌}
+use Rattle.std.specs.List.{AllByRecursion}
+use Rattle.std.specs.FinSet as set
+use Rattle.moc_sphere.specs.CellNumber.{CellNumber, IsCell, uniq_of}
+use Rattle.moc_ranges.specs.Numbers.{NumberSet}
+use Rattle.moc_ranges.specs.Cells.{pixels_of}
+use Rattle.moc_text.specs.Lines.{is_line_feed, lines_of}
+use Rattle.moc_text.specs.UniqList.{fault_from, numbers_on, uniq_fault}
+
+-- what comes after a line that ends where the bytes begin
+abbrev pub after_line : List ℕ → Option (List ℕ)
+after_line [] = Some []
+after_line (b ∷ bytes) = if is_line_feed b then Some bytes else None
+
+-- These cells were added, whose numbers are those of the lines before the rest.
+pub record IsPart (bytes : List ℕ) (old : NumberSet) (rest : List ℕ) (new : NumberSet)
+    : Type 0 where
+  pub cells : List CellNumber
+  pub are_cells : AllByRecursion IsCell cells
+  pub numbers : numbers_on (lines_of bytes) ≡ map uniq_of cells ++ numbers_on (lines_of rest)
+  pub set_is : new ≡ set.union old (pixels_of cells)
+
+-- The line at the front, of this number, is read.
+pub record IsLineRead (line : ℕ) (bytes : List ℕ) (old : NumberSet) (rest : List ℕ)
+    (new : NumberSet) : Type 0 where
+  pub shorter : length rest < length bytes
+  pub part : IsPart bytes old rest new
+  pub fault : fault_from line (lines_of bytes) ≡ fault_from (line + 1) (lines_of rest)
+
+-- The lines before the rest are read, and the next one has this number.
+pub record LinesSoFar (text rest : List ℕ) (line : ℕ) (a : NumberSet) : Type 0 where
+  pub part : IsPart text set.empty rest a
+  pub fault : uniq_fault text ≡ fault_from line (lines_of rest)
+  pub within : line + length rest ≤ length text + 1

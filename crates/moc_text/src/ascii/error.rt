@@ -1,0 +1,53 @@
+//! Why an ASCII text could not be read or written.
+
+ghost use Rattle.std.specs.Prelude.{◌≡◌};
+ghost use Rattle.moc_text.specs.declared.ascii.error.TextError.TheVariants.{Memory};
+
+use moc_ranges::Memory as MemoryRefused;
+use std::alloc::{AllocError, AllocFailed};
+use thiserror::Error;
+
+/// A fault of an ASCII text, with the place of a byte, counted from 0.
+#[derive(Debug, Clone, Copy, PartialEq, Eq, Error)]
+pub enum TextError {
+    #[error("a byte that no word has there, at {at}")]
+    BadByte { at: usize },
+    #[error("an item before any order, at {at}")]
+    NoOrder { at: usize },
+    #[error("an order above 29, at {at}")]
+    OrderTooLarge { at: usize },
+    #[error("no cell of the order in force, at {at}")]
+    CellTooLarge { at: usize },
+    #[error("a range that goes backwards, at {at}")]
+    Backwards { at: usize },
+    #[error("a word that is not finished, at {at}")]
+    Unfinished { at: usize },
+    #[error("out of memory")]
+    Memory,
+    #[error("a cell is deeper than the stated order")]
+    TooCoarse,
+}
+
+impl From<AllocError> for TextError {
+    ghost from_gives = { λ _ e. e ≡ Memory };
+
+    fn from(_e: AllocError) -> TextError {
+        TextError::Memory
+    }
+}
+
+impl<T: Drop> From<AllocFailed<T>> for TextError {
+    ghost from_gives = { λ _ e. e ≡ Memory };
+
+    fn from(_e: AllocFailed<T>) -> TextError {
+        TextError::Memory
+    }
+}
+
+impl From<MemoryRefused> for TextError {
+    ghost from_gives = { λ _ e. e ≡ Memory };
+
+    fn from(_e: MemoryRefused) -> TextError {
+        TextError::Memory
+    }
+}
