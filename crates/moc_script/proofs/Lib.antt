@@ -9,4 +9,5 @@ pub mod Endings
 pub mod Batching
 pub mod Single
 pub mod Unordered
+pub mod WholeScripts
 pub mod NearLemmas

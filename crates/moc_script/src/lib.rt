@@ -18,7 +18,9 @@ mod source;
 mod words;
 
 pub use device::DeviceFault;
-pub use laws::{lines_of_one_command, lines_without_order};
+pub use laws::{
+    lines_of_one_command, lines_without_order, scripts_of_single_commands, scripts_without_order,
+};
 pub use line_reader::LINE_LIMIT;
 pub use script::{RunError, run};
 pub use sink::{OverWriter, Sink, write_all};

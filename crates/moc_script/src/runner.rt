@@ -2,7 +2,7 @@
 ghost use Rattle.std.specs.Prelude.{◌≡◌, ◌≢◌, ◌++◌, ◌⊎◌, [], IfOk, IfErr, IfSome, if◌then◌else◌, IsTrue, ◌↔◌, true, false, OnOk, OnErr, IsErrOf, Err};
 ghost use Rattle.std.specs.Io.KnownBytes.{IsAtEnd, Keeps};
 ghost use Rattle.moc_script.specs.Devices.{CallsMore};
-ghost use Rattle.moc_script.specs.LineReading.{TakesLine, holds_line, run_fault};
+ghost use Rattle.moc_script.specs.LineReading.{TakesLine, fault_at, holds_line};
 ghost use Rattle.moc_script.specs.Runs.{Runs, Begins, Ended, Flushes, Sends};
 
 use crate::device::DeviceFault;
@@ -183,7 +183,7 @@ impl Runner {
 
 /// The fault of a run that finds no line of this number.
 fn fault_at(line: u64, fault: LineFault) -> RunError
-    ensures { result ≡ run_fault line fault }
+    ensures { result ≡ fault_at line fault }
 {
     match fault {
         LineFault::Read => RunError::Read,

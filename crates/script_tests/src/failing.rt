@@ -48,6 +48,7 @@ pub struct FailingSink {
     pub can_flush: bool,
     pub is_marked: bool,
     pub is_flushed: bool,
+    pub flushes: u64,
 }
 
 impl Sink for FailingSink {
@@ -56,6 +57,8 @@ impl Sink for FailingSink {
     ghost mark = { λ s. s.is_marked };
 
     ghost flushed = { λ s. s.is_flushed };
+
+    ghost flushes = { λ s. Some s.flushes };
 
     fn write(&mut self, bytes: &[u8]) -> Result<usize, DeviceFault> {
         let Some(first) = bytes.first() else {
