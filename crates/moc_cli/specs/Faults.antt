@@ -64,8 +64,8 @@ fault_of_json json.NotJson = NotJson
 fault_of_json json.NotObject = NotObject
 fault_of_json (json.BadOrder order) = BadOrder
 fault_of_json (json.NotArray order) = NotArray
-fault_of_json (json.NotWhole order) = NotWhole
-fault_of_json (json.CellTooLarge order) = CellTooLarge
+fault_of_json (json.NotWhole order place) = NotWhole
+fault_of_json (json.CellTooLarge order place) = CellTooLarge
 fault_of_json json.Memory = Memory
 fault_of_json json.TooCoarse = TooCoarse
 

@@ -1,6 +1,7 @@
 //! What the words of the command line make the program do.
 ghost use Rattle.std.specs.Prelude.{◌≡◌, ◌≢◌, ◌≤◌, ◌⊎◌, false, true, map, IfOk, IfErr, OnOk, IsErrOf, IsTrue, is_err, string_bytes};
 ghost use Rattle.std.specs.Io.KnownBytes.{Appends};
+ghost use Rattle.std.specs.IoError.{error_kind};
 ghost use Rattle.clap.specs.Words.{kind_of};
 ghost use Rattle.moc_cli.specs.Outcomes.{AreMistaken, AreRefused, IsMistake};
 ghost use Rattle.moc_cli.specs.Statuses.{end_of};
@@ -16,7 +17,7 @@ use moc_sphere::Cell;
 use std::alloc::{AllocError, Global};
 use std::convert::AsStr;
 use std::fmt::Write;
-use std::io;
+use std::io::{self, ErrorKind as IoErrorKind};
 
 /// Does what the words ask, and answers the exit status: 0 where it is done, 1 where a value, a text or a
 /// line is refused, 2 where the words are no command line, 3 where a device fails or memory is refused.
@@ -49,10 +50,10 @@ pub fn program<'a, S: AsStr, R: Source, W: Sink, E: Sink>(
 
 /// Tells why the words could not be had, and answers the exit status: 3 for want of memory, and else 2.
 pub fn refuse_words<E: Sink>(error: &io::Error, faults: &mut E) -> u8
-    ensures memory { error_kind error.now ≡ io::ErrorKind.OutOfMemory → result ≡ 3 }
-    ensures not_utf8 { error_kind error.now ≢ io::ErrorKind.OutOfMemory → result ≡ 2 }
+    ensures memory { error_kind error.now ≡ IoErrorKind.OutOfMemory → result ≡ 3 }
+    ensures not_utf8 { error_kind error.now ≢ IoErrorKind.OutOfMemory → result ≡ 2 }
 {
-    if error.kind() == io::ErrorKind::OutOfMemory {
+    if error.kind() == IoErrorKind::OutOfMemory {
         return ended(Err(Fault::Memory), faults).code();
     }
     let _ = write_all(b"error: a word of the command line is not UTF-8\n", faults);
