@@ -1,16 +1,20 @@
 #!/usr/bin/env python3
-"""Runs the built program: with each growth refused in turn, on a device that is full, and on inputs at the limit.
+"""Runs the built program: the words of its command line, devices that fail, inputs at the limit, a conversation through a
+pipe, and each growth refused in turn.
 
-A run that ends with `fault Memory` has written just the answers to the lines before, whole; one that ends well has met
-no refusal. The last line printed is `N passed, M failed`."""
+A run that ends with `fault Memory` has written just the answers to the lines before, whole; one that ends well has met no
+refusal. The program lies where the environment's MOC says. The last line printed is `N passed, M failed`."""
 import os
+import select
 import subprocess
 import sys
 import tempfile
+import time
 
 TOP = os.path.dirname(os.path.dirname(os.path.abspath(__file__)))
-MOC = os.path.join(TOP, "crates", "moc_cli", "out", "moc_cli")
+MOC = os.environ.get("MOC", os.path.join(TOP, "crates", "moc_cli", "out", "moc_cli"))
 LIMIT = 16_777_216
+SECONDS = 60
 SCRIPT = (b"add 0/0 2\ncount 0/2 3\nadd 0/1\nread 0/0 1 2 3\nadd @0 29/0 ; count 0/0-1\n\nadd 5/7-3\n"
           b"add 3/17 5/999-1200,29/0\nread 1/0-5")
 ANSWERS = (b"changed 576460752303423488\ntotal 288230376151711744\nchanged 288230376151711744\ncover 0/0-2\n"
@@ -21,6 +25,161 @@ CHANGED = (b"changed 288230376151711744\nchanged 0\ntaken 72057594037927936\ncov
 FAULTY = b"add 5/7-3\nhop 1\ndegrade 30\nnear 1\nnear 1 1x\nnear 0 12\ninvert now\nadd\nread\n"
 FAULTS = (b"fault Backwards\nfault UnknownWord\nfault OrderTooLarge\nfault WrongCount\nfault BadNumber\n"
           b"fault CellTooLarge\nfault WrongCount\nchanged 0\ncover\n")
+LONGEST_LINE = 1_048_576
+NINES = b"9" * 1000
+# Words, standard input, and what is told: each fault that a refused value or text has.
+REFUSED = [
+    (["ring", "0", "12"], b"", b"CellTooLarge"),
+    (["cell", "3"], b"", b"NotUniq"),
+    (["nest", "0", "12"], b"", b"RingTooLarge"),
+    (["convert", "ascii", "uniq"], b"0/0 x", b"BadByte"),
+    (["convert", "ascii", "uniq"], b"7", b"NoOrder"),
+    (["convert", "ascii", "uniq"], b"30/0", b"OrderTooLarge"),
+    (["convert", "ascii", "uniq"], b"0/12", b"CellTooLarge"),
+    (["convert", "ascii", "uniq"], b"5/7-3", b"Backwards"),
+    (["convert", "ascii", "uniq"], b"5/7-", b"Unfinished"),
+    (["convert", "json", "uniq"], b'{"0":[0', b"NotJson"),
+    (["convert", "json", "uniq"], b"[1]", b"NotObject"),
+    (["convert", "json", "uniq"], b'{"x":[0]}', b"BadOrder"),
+    (["convert", "json", "uniq"], b'{"0":0}', b"NotArray"),
+    (["convert", "json", "uniq"], b'{"0":["a"]}', b"NotWhole"),
+    (["convert", "json", "uniq"], b'{"0":[12]}', b"CellTooLarge"),
+    (["convert", "uniq", "ascii"], b"4\nx", b"BadByte"),
+    (["convert", "uniq", "ascii"], b"3", b"NotUniq"),
+    (["convert", "ascii", "ascii"], b" " * (LIMIT + 1), b"TooLong"),
+    (["run"], b" " * (LONGEST_LINE + 1), b"LineTooLong"),
+]
+# What works, with each growth refused in turn too.
+WORKS = [
+    (["run"], SCRIPT, ANSWERS),
+    (["run"], CHANGES, CHANGED),
+    (["run"], FAULTY, FAULTS),
+    (["ring", "1", "18"], b"", b"27\n"),
+    (["nest", "1", "27"], b"", b"18\n"),
+    (["uniq", "3", "10"], b"", b"266\n"),
+    (["cell", "266"], b"", b"3/10\n"),
+    (["near", "2", "3"], b"", b"0 1 2 4 6 8 9 12\n"),
+    (["convert", "json", "uniq"], b'{"0":[3],"2":[5]}', b"7\n69\n"),
+    (["convert", "ascii", "json"], b"2/0-3", b'{"1":[0],"2":[]}\n'),
+    (["convert", "uniq", "ascii"], b"16\n17\n\n18\n19", b"0/0\n"),
+]
+# What the program cannot take as words, and a part of what is told.
+MISTAKES = [
+    ([], b"subcommand"),
+    (["ring", "30", "0"], b"30"),
+    (["ring", "1"], b"CELL"),
+    (["fly"], b"fly"),
+    (["run", "now"], b"now"),
+    (["convert", "ascii", "fits"], b"fits"),
+    (["cell", "x"], b"x"),
+]
+# What asks for help, and a part of it.
+HELP = [
+    (["--help"], b"Sky coverages (IVOA MOC 2.0) and HEALPix cell numbers"),
+    (["-h"], b"Sky coverages (IVOA MOC 2.0) and HEALPix cell numbers"),
+    (["help"], b"Sky coverages (IVOA MOC 2.0) and HEALPix cell numbers"),
+    (["help", "ring"], b"Prints the ring number of a nested cell"),
+    (["run", "--help"], b"The script is read from standard input"),
+    (["ring", "--help"], b"Prints the ring number of a nested cell"),
+    (["convert", "--help"], b"Converts a coverage on standard input from one text form to another"),
+]
+
+
+class Tally:
+    """How many checks passed, and how many failed."""
+
+    def __init__(self):
+        self.passed = self.failed = 0
+
+    def add(self, name, is_right, seen=""):
+        """Counts a check, and shows it where it failed."""
+        if is_right:
+            self.passed += 1
+        else:
+            self.failed += 1
+            print(f"wrong: {name}: {seen}", file=sys.stderr)
+
+
+def outcome(words, given=b"", **devices):
+    """The status, the output and the fault output of the program with these words."""
+    devices = {"stdout": subprocess.PIPE, "stderr": subprocess.PIPE, **devices}
+    if "stdin" not in devices:
+        devices["input"] = given
+    ended = subprocess.run([MOC] + words, timeout=SECONDS, **devices)
+    return ended.returncode, ended.stdout, ended.stderr
+
+
+def words_are_answered(tally):
+    """Values and texts that are refused, help, and words that are no command line."""
+    for words, given, fault in REFUSED:
+        seen = outcome(words, given)
+        tally.add(f"{words} on {given[:20]}", seen == (1, b"", b"fault " + fault + b"\n"), seen)
+    for words, part in HELP:
+        status, output, faults = outcome(words)
+        tally.add(words, (status, faults) == (0, b"") and part in output, (status, output, faults))
+    for words, part in MISTAKES:
+        status, output, faults = outcome(words)
+        tally.add(words, (status, output) == (2, b"") and part in faults, (status, output, faults))
+    seen = outcome([b"ring", b"1", b"\xff"])
+    tally.add("a word that is not UTF-8", seen == (2, b"", b"error: a word of the command line is not UTF-8\n"), seen)
+
+
+def limits_are_kept(tally):
+    """Inputs and lines that are as long as they may be, and numbers of many digits."""
+    seen = outcome(["convert", "ascii", "ascii"], b" " * LIMIT)
+    tally.add("the longest input", seen == (0, b"\n", b""), seen)
+    seen = outcome(["run"], b" " * LONGEST_LINE + b"\nread")
+    tally.add("the longest line", seen == (0, b"cover\n", b""), seen)
+    lines = b"near 0 " + NINES + b"\nnear " + NINES + b" 0\nadd 0/" + NINES + b"\nadd " + NINES + b"/0\n"
+    told = b"fault CellTooLarge\nfault OrderTooLarge\nfault CellTooLarge\nfault OrderTooLarge\n"
+    seen = outcome(["run"], lines)
+    tally.add("numbers of a thousand nines", seen == (0, told, b""), seen)
+
+
+def devices_fail(tally):
+    """A full device as output, a folder as input, and fault outputs that fail."""
+    for words, given in [(["run"], SCRIPT), (["convert", "ascii", "json"], b"2/0-3"), (["ring", "1", "18"], b""),
+                         (["--help"], b"")]:
+        with open("/dev/full", "wb") as full:
+            seen = outcome(words, given, stdout=full)
+        tally.add(f"{words} on a full device", seen == (3, None, b"fault Write\n"), seen)
+    for words in [["run"], ["convert", "ascii", "json"]]:
+        folder = os.open(TOP, os.O_RDONLY)
+        seen = outcome(words, stdin=folder)
+        os.close(folder)
+        tally.add(f"{words} on a folder", seen == (3, b"", b"fault Read\n"), seen)
+    for words, status in [(["cell", "3"], 1), (["ring", "30", "0"], 2)]:
+        with open("/dev/full", "wb") as full:
+            seen = outcome(words, stderr=full)
+        tally.add(f"{words} with a fault output that fails", seen == (status, b"", None), seen)
+
+
+def line_within(pipe, deadline):
+    """The next line of a pipe, or what came of it before the deadline."""
+    line = b""
+    while not line.endswith(b"\n"):
+        ready, _, _ = select.select([pipe], [], [], max(0, deadline - time.monotonic()))
+        byte = os.read(pipe.fileno(), 1) if ready else b""
+        if not byte:
+            break
+        line += byte
+    return line
+
+
+def answers_come_at_once(tally):
+    """Each answer is read before the next line is sent."""
+    with subprocess.Popen([MOC, "run"], stdin=subprocess.PIPE, stdout=subprocess.PIPE) as talk:
+        deadline = time.monotonic() + SECONDS
+        for line, answer in zip(CHANGES.splitlines(keepends=True), CHANGED.splitlines(keepends=True)):
+            talk.stdin.write(line)
+            talk.stdin.flush()
+            seen = line_within(talk.stdout, deadline)
+            tally.add(f"the answer to {line} before the next line", seen == answer, seen)
+            if seen != answer:
+                talk.kill()
+                return
+        talk.stdin.close()
+        tally.add("the end of a conversation", talk.wait(SECONDS) == 0)
 
 
 def fronts(text):
@@ -29,11 +188,11 @@ def fronts(text):
     return {b"".join(lines[:count]) for count in range(len(lines) + 1)}
 
 
-def run_program(words, script, refuse, shim):
-    """The ended run, and how many growths it asked for."""
+def run_refusing(words, script, refuse, shim):
+    """The ended run of these words, program and all, with one growth refused, and how many growths it asked for."""
     count = shim + ".count"
     environment = dict(os.environ, REFUSE=str(refuse), COUNT=count, LD_PRELOAD=shim)
-    ended = subprocess.run(words, input=script, capture_output=True, env=environment, timeout=60)
+    ended = subprocess.run(words, input=script, capture_output=True, env=environment, timeout=SECONDS)
     with open(count) as file:
         return ended, int(file.read())
 
@@ -45,77 +204,87 @@ def is_met(ended, answers):
     return ended.returncode == 3 and ended.stderr == b"fault Memory\n" and ended.stdout in fronts(answers)
 
 
-def refuses_in_turn(words, script, answers, shim):
-    """How many refusals were met as they should, and how many not."""
-    ended, growths = run_program([MOC] + words, script, 0, shim)
-    if (ended.returncode, ended.stdout, ended.stderr) != (0, answers, b""):
-        print(f"{words} with ample memory: {ended}", file=sys.stderr)
-        return 0, 1
-    passed, faults = 0, 0
+def growths_are_refused(tally, words, script, answers, shim):
+    """Refuses each growth in turn."""
+    ended, growths = run_refusing([MOC] + words, script, 0, shim)
+    seen = (ended.returncode, ended.stdout, ended.stderr)
+    tally.add(f"{words} with ample memory", seen == (0, answers, b""), seen)
+    faults = 0
     for refuse in range(1, growths + 1):
-        ended, _ = run_program([MOC] + words, script, refuse, shim)
+        ended, _ = run_refusing([MOC] + words, script, refuse, shim)
         faults += ended.returncode == 3
-        if is_met(ended, answers):
-            passed += 1
-        else:
-            print(f"growth {refuse} of {words}: {ended}", file=sys.stderr)
-    # Each script takes memory, so some refusal shows.
-    failed = growths - passed + (faults == 0)
-    return passed, failed
+        tally.add(f"growth {refuse} of {words}", is_met(ended, answers), ended)
+    tally.add(f"{words}: some refusal shows", faults > 0)
 
 
-def map_refused_in_turn(shim):
-    """How many refusals left the twelve parts of a map as they were, or came before there was a map, and how many not."""
-    folder = os.path.join(TOP, "crates", "refused_inversion")
-    subprocess.run(["rt", "run"], cwd=folder, stdin=subprocess.DEVNULL, capture_output=True, check=True)
-    program = [os.path.join(folder, "out", "refused_inversion")]
-    ended, growths = run_program(program, b"", 0, shim)
-    if (ended.returncode, ended.stdout) != (0, b"inverted\n"):
-        print(f"{program} with ample memory: {ended}", file=sys.stderr)
-        return 0, 1
-    passed = unchanged = 0
+def help_is_refused(tally, shim):
+    """Refuses each growth of a help text in turn: what is written is all of it or nothing."""
+    _, text, _ = outcome(["--help"])
+    ended, growths = run_refusing([MOC, "--help"], b"", 0, shim)
+    tally.add("help with ample memory", (ended.returncode, ended.stdout) == (0, text), ended)
     for refuse in range(1, growths + 1):
-        ended, _ = run_program(program, b"", refuse, shim)
+        ended, _ = run_refusing([MOC, "--help"], b"", refuse, shim)
+        seen = (ended.returncode, ended.stdout, ended.stderr)
+        tally.add(f"growth {refuse} of help", seen in [(0, text, b""), (3, b"", b"fault Memory\n")], seen)
+
+
+def built(crate):
+    """The words that start a program of this repository, which is built first."""
+    folder = os.path.join(TOP, "crates", crate)
+    subprocess.run(["rt", "run"], cwd=folder, stdin=subprocess.DEVNULL, capture_output=True, check=True)
+    return [os.path.join(folder, "out", crate)]
+
+
+def map_refuses(tally, shim):
+    """Each refusal leaves the twelve parts of a map as they were, or comes before there is a map."""
+    program = built("refused_inversion")
+    ended, growths = run_refusing(program, b"", 0, shim)
+    tally.add("an inversion with ample memory", (ended.returncode, ended.stdout) == (0, b"inverted\n"), ended)
+    unchanged = 0
+    for refuse in range(1, growths + 1):
+        ended, _ = run_refusing(program, b"", refuse, shim)
         unchanged += ended.stdout == b"unchanged\n"
-        if (ended.returncode, ended.stdout) in [(0, b"inverted\n"), (0, b"unchanged\n"), (1, b"")]:
-            passed += 1
-        else:
-            print(f"growth {refuse} of {program}: {ended}", file=sys.stderr)
-    return passed, growths - passed + (unchanged == 0)
+        seen = (ended.returncode, ended.stdout)
+        tally.add(f"growth {refuse} of an inversion", seen in [(0, b"inverted\n"), (0, b"unchanged\n"), (1, b"")], ended)
+    tally.add("some refusal leaves a map unchanged", unchanged > 0)
+
+
+def refused_line_is_told(tally, shim):
+    """The line that Memory names: 0 before the first is read, and else the one behind the answers that are written.
+
+    The script's first two lines are blank, and the four others are answered."""
+    end = b"the end behind 4 answers\n"
+    refused = [b"out of memory at line %d behind %d answers\n" % (line, max(0, line - 3)) for line in range(7)]
+    program = built("refused_script")
+    ended, growths = run_refusing(program, b"", 0, shim)
+    tally.add("a script with ample memory", (ended.returncode, ended.stdout) == (0, end), ended)
+    told = set()
+    for refuse in range(1, growths + 1):
+        ended, _ = run_refusing(program, b"", refuse, shim)
+        told.add(ended.stdout)
+        seen = (ended.returncode, ended.stdout)
+        tally.add(f"growth {refuse} of a script", seen in [(0, line) for line in [end] + refused] + [(1, b"")], ended)
+    for line in [0, 1, 3, 4, 5]:
+        tally.add(f"some refusal at line {line}", refused[line] in told, told)
 
 
 def main():
-    passed = failed = 0
+    tally = Tally()
+    words_are_answered(tally)
+    limits_are_kept(tally)
+    devices_fail(tally)
+    answers_come_at_once(tally)
     with tempfile.TemporaryDirectory() as folder:
         shim = os.path.join(folder, "refuse.so")
         source = os.path.join(TOP, "tests", "refuse.c")
         subprocess.run(["cc", "-O1", "-shared", "-fPIC", "-o", shim, source], check=True)
-        for words, script, answers in [
-            (["run"], SCRIPT, ANSWERS),
-            (["run"], CHANGES, CHANGED),
-            (["run"], FAULTY, FAULTS),
-            (["ring", "1", "18"], b"", b"27\n"),
-            (["near", "2", "3"], b"", b"0 1 2 4 6 8 9 12\n"),
-            (["convert", "json", "uniq"], b'{"0":[3],"2":[5]}', b"7\n69\n"),
-            (["convert", "ascii", "json"], b"2/0-3", b'{"1":[0],"2":[]}\n'),
-        ]:
-            good, bad = refuses_in_turn(words, script, answers, shim)
-            passed, failed = passed + good, failed + bad
-        good, bad = map_refused_in_turn(shim)
-        passed, failed = passed + good, failed + bad
-    with open("/dev/full", "wb") as full:
-        ended = subprocess.run([MOC, "run"], input=SCRIPT, stdout=full, stderr=subprocess.PIPE, timeout=60)
-    cases = [("a full device", ended.returncode == 3 and ended.stderr == b"fault Write\n")]
-    for size, status, output, faults in [(LIMIT, 0, b"\n", b""), (LIMIT + 1, 1, b"", b"fault TooLong\n")]:
-        ended = subprocess.run([MOC, "convert", "ascii", "ascii"], input=b" " * size, capture_output=True, timeout=60)
-        answer = (ended.returncode, ended.stdout, ended.stderr)
-        cases.append((f"an input of {size} bytes", answer == (status, output, faults)))
-    for name, is_right in cases:
-        passed, failed = passed + is_right, failed + (not is_right)
-        if not is_right:
-            print(f"wrong: {name}", file=sys.stderr)
-    print(f"{passed} passed, {failed} failed")
-    return 1 if failed else 0
+        for words, script, answers in WORKS:
+            growths_are_refused(tally, words, script, answers, shim)
+        help_is_refused(tally, shim)
+        map_refuses(tally, shim)
+        refused_line_is_told(tally, shim)
+    print(f"{tally.passed} passed, {tally.failed} failed")
+    return 1 if tally.failed else 0
 
 
 if __name__ == "__main__":

@@ -1,7 +1,7 @@
 -- The command line of the program, as `clap` reads it.
-use Rattle.std.specs.Prelude.{◌≡◌, ℕ, pos, true, false, List, [], ◌∷◌, map, Some, codes}
+use Rattle.std.specs.Prelude.{◌≡◌, ℕ, pos, true, List, [], ◌∷◌, map, Some, codes}
 use Rattle.std.specs.Borrow.{Bor}
-use Rattle.clap.specs.Words.{App, Rule, Text, new_app, new_rule, takes, with_rule, with_subcommand}
+use Rattle.clap.specs.Words.{App, Rule, Text, new_app, new_rule, with_rule, with_subcommand}
 use Rattle.clap.specs.declared.builder.ValueParser.{ValueParser}
 use Rattle.clap.specs.declared.builder.ValueParser.TheVariants.{Signed, Unsigned, Names}
 
@@ -55,9 +55,3 @@ pub record IsCommandLine (app : App) : Type 0 where
   pub from_form : IsFormParser from
   pub to_form : IsFormParser to
   pub is : app ≡ moc_app from to
-
--- `clap` does not take the words: it refuses them, or they ask for help
-pub record AreRefused (words : List Text) : Type 0 where
-  pub app : App
-  pub line : IsCommandLine app
-  pub refused : takes app words ≡ false

@@ -1,5 +1,7 @@
 -- How the program ends.
-use Rattle.std.specs.Prelude.{ℕ}
+use Rattle.std.specs.Prelude.{ℕ, Result, Ok, Err}
+use Rattle.moc_cli.specs.declared.status.Fault.{Fault}
+use Rattle.moc_cli.specs.declared.status.Fault.TheVariants.{Read, Write, Memory}
 use Rattle.moc_cli.specs.declared.status.Status.{Status}
 use Rattle.moc_cli.specs.declared.status.Status.TheVariants.{Done, Refused, BadWords, Broken}
 
@@ -9,3 +11,15 @@ code_of Done = 0
 code_of Refused = 1
 code_of BadWords = 2
 code_of Broken = 3
+
+-- how the program ends with a fault: a device that failed and memory that was refused break it, and all else is refused
+abbrev pub status_of : Fault → Status
+status_of Read = Broken
+status_of Write = Broken
+status_of Memory = Broken
+status_of _ = Refused
+
+-- how it ends with this outcome
+abbrev pub end_of : Result (Unit {0}) Fault → Status
+end_of (Ok _) = Done
+end_of (Err fault) = status_of fault

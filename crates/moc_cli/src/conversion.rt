@@ -1,5 +1,5 @@
 //! Coverages from one text form to another.
-ghost use Rattle.std.specs.Prelude.{◌≡◌, ◌<◌, IfOk, length};
+ghost use Rattle.std.specs.Prelude.{◌≡◌, ◌≢◌, ◌<◌, ◌↔◌, Err, false, IfOk, IsErrOf, IsTrue, length};
 ghost use Rattle.std.specs.String.{string_bytes};
 ghost use Rattle.moc_cli.specs.Conversion.{BringsPiece, ConvertsAll, FormSays, IsWhole, form_text};
 
@@ -40,7 +40,8 @@ impl Form {
 
     /// Reads a text: the set, and the deepest order that the text names, where the form names orders.
     fn read(self, alloc: Global, text: &[u8]) -> Result<(Coverage, Option<Order>), Fault>
-        ensures { IfOk result (λ r. FormSays self text.now r.0 r.1) }
+        ensures device { result ≢ Err Fault.Read }
+        ensures says { IfOk result (λ r. FormSays self text.now r.0 r.1) }
     {
         Ok(match self {
             Form::Ascii => read_ascii(alloc, text)?,
@@ -51,7 +52,8 @@ impl Form {
 
     /// The text of a set with a stated order, ended by a line feed.
     fn write(self, alloc: Global, set: &Coverage, stated: Option<Order>) -> Result<String, Fault>
-        ensures { IfOk result (λ t. string_bytes t ≡ form_text self set.now stated) }
+        ensures device { result ≢ Err Fault.Read }
+        ensures text { IfOk result (λ t. string_bytes t ≡ form_text self set.now stated) }
     {
         let mut text = match self {
             Form::Ascii => write_ascii(alloc, set, stated)?,
@@ -73,8 +75,10 @@ fn room(alloc: Global) -> Result<Vec<u8>, AllocError>
 
 /// Reads one more piece behind the text, and answers whether there was one.
 fn read_piece<R: Source>(input: &mut R, room: &mut [u8], text: &mut Vec<u8>) -> Result<bool, Fault>
-    requires { 0 < length room.old }
-    ensures { IfOk result (λ some. BringsPiece (R.left input.old) text.old.items (R.left input.new) text.new.items some) }
+    requires room { 0 < length room.old }
+    requires input { R.mark input.old ≡ false }
+    ensures read { IsErrOf result Fault.Read ↔ IsTrue (R.mark input.new) }
+    ensures brings { IfOk result (λ some. BringsPiece (R.left input.old) text.old.items (R.left input.new) text.new.items some) }
 {
     let Ok(count) = input.read(room) else {
         return Err(Fault::Read);
@@ -85,7 +89,9 @@ fn read_piece<R: Source>(input: &mut R, room: &mut [u8], text: &mut Vec<u8>) -> 
 
 /// All bytes of an input of at most 16,777,216 bytes; `TooLong` for a longer one. Read in large pieces into one buffer.
 fn read_whole<R: Source>(alloc: Global, input: &mut R) -> Result<Vec<u8>, Fault>
-    ensures { IfOk result (λ v. IsWhole (R.left input.old) (R.left input.new) v.items) }
+    requires { R.mark input.old ≡ false }
+    ensures read { IsErrOf result Fault.Read ↔ IsTrue (R.mark input.new) }
+    ensures whole { IfOk result (λ v. IsWhole (R.left input.old) (R.left input.new) v.items) }
 {
     let mut room = room(alloc)?;
     let mut text = Vec::new(alloc);
@@ -104,7 +110,9 @@ pub fn converted<R: Source>(
     to: Form,
     input: &mut R,
 ) -> Result<String, Fault>
-    ensures { IfOk result (λ t. ConvertsAll from to (R.left input.old) (R.left input.new) (string_bytes t)) }
+    requires { R.mark input.old ≡ false }
+    ensures read { IsErrOf result Fault.Read ↔ IsTrue (R.mark input.new) }
+    ensures converts { IfOk result (λ t. ConvertsAll from to (R.left input.old) (R.left input.new) (string_bytes t)) }
 {
     let text = read_whole(alloc, input)?;
     let (set, deepest) = from.read(alloc, &text)?;

@@ -1,7 +1,10 @@
 //! What the words of the command line make the program do.
-ghost use Rattle.std.specs.Prelude.{◌≡◌, ◌≢◌, false, true, map, IfOk, IfErr};
+ghost use Rattle.std.specs.Prelude.{◌≡◌, ◌≢◌, ◌≤◌, ◌⊎◌, false, true, map, IfOk, IfErr, OnOk, IsErrOf, IsTrue, is_err, string_bytes};
+ghost use Rattle.std.specs.Io.KnownBytes.{Appends};
+ghost use Rattle.std.specs.IoError.{error_kind};
 ghost use Rattle.clap.specs.Words.{kind_of};
-ghost use Rattle.moc_cli.specs.CommandLine.{AreRefused};
+ghost use Rattle.moc_cli.specs.Outcomes.{AreMistaken, AreRefused, IsMistake};
+ghost use Rattle.moc_cli.specs.Statuses.{end_of};
 
 use crate::action::{Action, Number};
 use crate::command_line::command_line;
@@ -14,7 +17,7 @@ use moc_sphere::Cell;
 use std::alloc::{AllocError, Global};
 use std::convert::AsStr;
 use std::fmt::Write;
-use std::io;
+use std::io::{self, ErrorKind as IoErrorKind};
 
 /// Does what the words ask, and answers the exit status: 0 where it is done, 1 where a value, a text or a
 /// line is refused, 2 where the words are no command line, 3 where a device fails or memory is refused.
@@ -29,8 +32,14 @@ pub fn program<'a, S: AsStr, R: Source, W: Sink, E: Sink>(
     requires input { R.mark input.old ≡ false }
     requires output { W.mark output.old ≡ false }
 
-    // Only words that are no command line are refused as such.
+    // 2 comes only where the words are mistaken, and where they are nothing else but want of memory may come first.
     ensures refused { result ≡ 2 → AreRefused (map S.text words.entry.now) }
+    ensures mistaken { AreMistaken (map S.text words.entry.now) → (result ≡ 2) ⊎ (result ≡ 3) }
+
+    // A device that failed is told, and at 0 all is written and flushed.
+    ensures input { IsTrue (R.mark input.new) → result ≡ 3 }
+    ensures output { IsTrue (W.mark output.new) → result ≡ 3 }
+    ensures flushed { result ≡ 0 → IsTrue (W.flushed output.new) }
 {
     let status = match parse(alloc, words) {
         Ok(matches) => ended(act(alloc, &matches, input, output), faults),
@@ -40,8 +49,11 @@ pub fn program<'a, S: AsStr, R: Source, W: Sink, E: Sink>(
 }
 
 /// Tells why the words could not be had, and answers the exit status: 3 for want of memory, and else 2.
-pub fn refuse_words<E: Sink>(error: &io::Error, faults: &mut E) -> u8 {
-    if error.kind() == io::ErrorKind::OutOfMemory {
+pub fn refuse_words<E: Sink>(error: &io::Error, faults: &mut E) -> u8
+    ensures memory { error_kind error.now ≡ IoErrorKind.OutOfMemory → result ≡ 3 }
+    ensures not_utf8 { error_kind error.now ≢ IoErrorKind.OutOfMemory → result ≡ 2 }
+{
+    if error.kind() == IoErrorKind::OutOfMemory {
         return ended(Err(Fault::Memory), faults).code();
     }
     let _ = write_all(b"error: a word of the command line is not UTF-8\n", faults);
@@ -50,14 +62,17 @@ pub fn refuse_words<E: Sink>(error: &io::Error, faults: &mut E) -> u8 {
 
 /// Reads the words.
 fn parse<'a, S: AsStr>(alloc: Global, words: &'a [S]) -> Result<ArgMatches<'a>, Error>
-    ensures { IfErr result (λ e. kind_of e ≢ ErrorKind.OutOfMemory → AreRefused (map S.text words.entry.now)) }
+    ensures refused { IfErr result (λ e. IsMistake (kind_of e) → AreRefused (map S.text words.entry.now)) }
+    ensures taken { OnOk result (AreMistaken (map S.text words.entry.now) → ⊥) }
+    ensures mistaken { IfErr result (λ e. AreMistaken (map S.text words.entry.now)
+        → (kind_of e ≡ ErrorKind.OutOfMemory) ⊎ IsMistake (kind_of e)) }
 {
     command_line(alloc)?.try_get_matches_from(words)
 }
 
 /// How the program ends with this outcome, after it has told a fault.
 fn ended<E: Sink>(outcome: Result<(), Fault>, faults: &mut E) -> Status
-    ensures { result ≢ Status.BadWords }
+    ensures { result ≡ end_of outcome }
 {
     match outcome {
         Ok(()) => Status::Done,
@@ -70,7 +85,12 @@ fn ended<E: Sink>(outcome: Result<(), Fault>, faults: &mut E) -> Status
 
 /// Tells why there are no matches: help goes to the output, a refusal to the faults.
 fn explain<W: Sink, E: Sink>(alloc: Global, error: &Error, output: &mut W, faults: &mut E) -> Status
-    ensures { result ≡ Status.BadWords → kind_of error.now ≢ ErrorKind.OutOfMemory }
+    requires output { W.mark output.old ≡ false }
+    ensures bad_words { result ≡ Status.BadWords → IsMistake (kind_of error.now) }
+    ensures mistake { IsMistake (kind_of error.now) → (result ≡ Status.BadWords) ⊎ (result ≡ Status.Broken) }
+    ensures memory { kind_of error.now ≡ ErrorKind.OutOfMemory → result ≡ Status.Broken }
+    ensures output { IsTrue (W.mark output.new) → result ≡ Status.Broken }
+    ensures flushed { result ≡ Status.Done → IsTrue (W.flushed output.new) }
 {
     if error.kind() == ErrorKind::OutOfMemory {
         return ended(Err(Fault::Memory), faults);
@@ -94,6 +114,9 @@ fn act<R: Source, W: Sink>(
 ) -> Result<(), Fault>
     requires input { R.mark input.old ≡ false }
     requires output { W.mark output.old ≡ false }
+    ensures input { IsTrue (R.mark input.new) → IsErrOf result Fault.Read ⊎ IsErrOf result Fault.Write }
+    ensures output { IsTrue (W.mark output.new) → IsErrOf result Fault.Write }
+    ensures flushed { OnOk result (IsTrue (W.flushed output.new)) }
 {
     match Action::from_matches(matches) {
         Some(Action::Run) => Ok(run(alloc, input, output)?),
@@ -135,8 +158,14 @@ fn near_line(alloc: Global, cell: Cell) -> Result<String, AllocError> {
     Ok(line)
 }
 
-/// Writes a text, whole.
-fn print<W: Sink>(text: &String, output: &mut W) -> Result<(), Fault> {
+/// Writes a text, whole, and sends it on.
+fn print<W: Sink>(text: &String, output: &mut W) -> Result<(), Fault>
+    requires { W.mark output.old ≡ false }
+    ensures written { OnOk result (Appends (W.written output.old) (W.written output.new) (string_bytes text.now)) }
+    ensures flushed { OnOk result (IsTrue (W.flushed output.new)) }
+    ensures fault { IfErr result (λ fault. fault ≡ Fault.Write) }
+    ensures marks { W.mark output.new ≡ is_err result }
+{
     write_all(text.as_bytes(), output)?;
     Ok(output.flush()?)
 }

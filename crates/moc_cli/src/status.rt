@@ -1,6 +1,8 @@
 //! How the program ends, and what it says of that.
-ghost use Rattle.std.specs.Prelude.{◌≡◌, ◌≢◌};
-ghost use Rattle.moc_cli.specs.Statuses.{code_of};
+ghost use Rattle.std.specs.Prelude.{◌≡◌};
+ghost use Rattle.moc_cli.specs.Faults.{fault_of_cell, fault_of_json, fault_of_run, fault_of_text, fault_of_uniq, line_of};
+ghost use Rattle.moc_cli.specs.Statuses.{code_of, status_of};
+ghost use Rattle.moc_cli.specs.declared.status.Fault.TheVariants as fault;
 
 use moc_script::{DeviceFault, RunError};
 use moc_sphere::CellError;
@@ -56,7 +58,9 @@ pub enum Fault {
 
 impl Fault {
     /// The line that says it on the fault output.
-    pub fn line(self) -> &'static str {
+    pub fn line(self) -> &'static str
+        ensures { result.now ≡ line_of self }
+    {
         match self {
             Fault::CellTooLarge => "fault CellTooLarge\n",
             Fault::NotUniq => "fault NotUniq\n",
@@ -83,7 +87,7 @@ impl Fault {
 
     /// How the program ends then.
     pub fn status(self) -> Status
-        ensures { result ≢ Status.BadWords }
+        ensures { result ≡ status_of self }
     {
         match self {
             Fault::Read | Fault::Write | Fault::Memory => Status::Broken,
@@ -93,6 +97,8 @@ impl Fault {
 }
 
 impl From<CellError> for Fault {
+    ghost from_gives = { λ error f. f ≡ fault_of_cell error };
+
     fn from(error: CellError) -> Fault {
         match error {
             CellError::CellTooLarge => Fault::CellTooLarge,
@@ -104,6 +110,8 @@ impl From<CellError> for Fault {
 }
 
 impl From<TextError> for Fault {
+    ghost from_gives = { λ error f. f ≡ fault_of_text error };
+
     fn from(error: TextError) -> Fault {
         match error {
             TextError::BadByte { .. } => Fault::BadByte,
@@ -119,6 +127,8 @@ impl From<TextError> for Fault {
 }
 
 impl From<JsonError> for Fault {
+    ghost from_gives = { λ error f. f ≡ fault_of_json error };
+
     fn from(error: JsonError) -> Fault {
         match error {
             JsonError::NotJson => Fault::NotJson,
@@ -134,6 +144,8 @@ impl From<JsonError> for Fault {
 }
 
 impl From<UniqError> for Fault {
+    ghost from_gives = { λ error f. f ≡ fault_of_uniq error };
+
     fn from(error: UniqError) -> Fault {
         match error {
             UniqError::BadByte { .. } => Fault::BadByte,
@@ -144,6 +156,8 @@ impl From<UniqError> for Fault {
 }
 
 impl From<RunError> for Fault {
+    ghost from_gives = { λ error f. f ≡ fault_of_run error };
+
     fn from(error: RunError) -> Fault {
         match error {
             RunError::Read => Fault::Read,
@@ -154,13 +168,18 @@ impl From<RunError> for Fault {
     }
 }
 
+/// A fault of the output: one of the input is told where it is read.
 impl From<DeviceFault> for Fault {
+    ghost from_gives = { λ _ f. f ≡ fault.Write };
+
     fn from(_fault: DeviceFault) -> Fault {
         Fault::Write
     }
 }
 
 impl From<AllocError> for Fault {
+    ghost from_gives = { λ _ f. f ≡ fault.Memory };
+
     fn from(_error: AllocError) -> Fault {
         Fault::Memory
     }

@@ -1,8 +1,9 @@
 //! The words of the command line, over memory. Expected numbers are worked examples of the numbering, made apart from
 //! this program.
-use crate::dispatch::program;
-use moc_script::{OverReader, OverWriter};
+use crate::dispatch::{program, refuse_words};
+use moc_script::{DeviceFault, OverReader, OverWriter, Source};
 use std::alloc::Global;
+use std::io::{self, ErrorKind};
 use std::process::Abort;
 use std::test::Fail;
 
@@ -145,6 +146,12 @@ fn refused_conversions(rt: HostRuntime) {
         (["convert", "uniq", "ascii"], "4\nx", "fault BadByte\n"),
         (["convert", "uniq", "json"], "3", "fault NotUniq\n"),
         (["convert", "ascii", "json"], "5/7-3", "fault Backwards\n"),
+        (["convert", "ascii", "json"], "7", "fault NoOrder\n"),
+        (["convert", "ascii", "json"], "30/0", "fault OrderTooLarge\n"),
+        (["convert", "ascii", "json"], "5/7-", "fault Unfinished\n"),
+        (["convert", "json", "ascii"], "{\"x\":[0]}", "fault BadOrder\n"),
+        (["convert", "json", "ascii"], "{\"0\":0}", "fault NotArray\n"),
+        (["convert", "json", "ascii"], "{\"0\":[true]}", "fault NotWhole\n"),
         (["convert", "json", "ascii"], "[1]", "fault NotObject\n"),
         (["convert", "json", "ascii"], "{\"1\":[0", "fault NotJson\n"),
         (
@@ -154,5 +161,84 @@ fn refused_conversions(rt: HostRuntime) {
         ),
     ] {
         expect(&rt, rt.alloc(), &words, input, 1, "", fault);
+    }
+}
+
+#[test]
+fn words_that_are_not_utf8(rt: HostRuntime) {
+    for (kind, status, text) in [
+        (ErrorKind::InvalidData, 2, "error: a word of the command line is not UTF-8\n"),
+        (ErrorKind::OutOfMemory, 3, "fault Memory\n"),
+    ] {
+        let mut told = Vec::new(rt.alloc());
+        let answered = refuse_words(&io::Error::from(kind), &mut OverWriter::new(&mut told));
+        assert_eq!(rt; answered, status);
+        assert_eq!(rt; told.as_slice(), text.as_bytes());
+    }
+}
+
+/// A reader that fails.
+#[derive(Drop)]
+struct Broken {
+    is_marked: bool,
+}
+
+impl Source for Broken {
+    ghost use Rattle.std.specs.Prelude.{None};
+
+    ghost left = { λ _. None };
+
+    ghost mark = { λ s. s.is_marked };
+
+    fn read(&mut self, _buffer: &mut [u8]) -> Result<usize, DeviceFault> {
+        self.is_marked = true;
+        Err(DeviceFault)
+    }
+
+    fn is_marked(&self) -> bool {
+        self.is_marked
+    }
+}
+
+#[test]
+fn failing_input(rt: HostRuntime) {
+    for words in [["run"].as_slice(), ["convert", "ascii", "json"].as_slice()] {
+        let mut written = Vec::new(rt.alloc());
+        let mut told = Vec::new(rt.alloc());
+        let answered = program(
+            rt.alloc(),
+            words,
+            &mut Broken { is_marked: false },
+            &mut OverWriter::new(&mut written),
+            &mut OverWriter::new(&mut told),
+        );
+        assert_eq!(rt; answered, 3, "{words:?}");
+        assert!(rt; written.is_empty(), "{words:?}");
+        assert_eq!(rt; told.as_slice(), b"fault Read\n".as_slice(), "{words:?}");
+    }
+}
+
+#[test]
+fn help_and_mistakes(rt: HostRuntime) {
+    for (words, status) in [
+        (["--help"].as_slice(), 0),
+        (["help"].as_slice(), 0),
+        (["ring", "--help"].as_slice(), 0),
+        ([].as_slice(), 2),
+        (["ring", "30", "0"].as_slice(), 2),
+        (["fly"].as_slice(), 2),
+    ] {
+        let mut written = Vec::new(rt.alloc());
+        let mut told = Vec::new(rt.alloc());
+        let answered = program(
+            rt.alloc(),
+            words,
+            &mut OverReader::new(b"".as_slice()),
+            &mut OverWriter::new(&mut written),
+            &mut OverWriter::new(&mut told),
+        );
+        assert_eq!(rt; answered, status, "{words:?}");
+        assert_eq!(rt; written.is_empty(), status == 2, "{words:?}");
+        assert_eq!(rt; told.is_empty(), status == 0, "{words:?}");
     }
 }

@@ -2,10 +2,12 @@ pub mod CoverLemmas
 pub mod NumberLemmas
 pub mod LineLemmas
 pub mod Turns
+pub mod Calls
 pub mod Sending
 pub mod Progress
 pub mod Endings
 pub mod Batching
 pub mod Single
 pub mod Unordered
+pub mod WholeScripts
 pub mod NearLemmas

@@ -10,7 +10,7 @@ use Rattle.moc_script.specs.Batches.{is_semicolon, pieces_of, piece_says, first_
 use Rattle.moc_script.specs.Laws.{is_at_sign, LinesWithoutOrder}
 use Rattle.moc_script.specs.declared.fault.Fault.TheVariants.{EmptyCommand, TooManyCommands}
 
-neither : (a b : Bool) → a || b ≡ false → (a ≡ false) × (b ≡ false)
+pub neither : (a b : Bool) → a || b ≡ false → (a ≡ false) × (b ≡ false)
 neither true b e = cc
 neither false b e = (refl, e)
 
@@ -18,7 +18,7 @@ module _ (p : ℕ → Bool) where
   none_in_parts : (n : ℕ) (xs : List ℕ) → list_any p xs ≡ false → (list_any p (take n xs) ≡ false) × (list_any p (drop n xs) ≡ false)
   none_in_parts n xs none = neither _ _ (sym (list_any-append p (take n xs) (drop n xs)) ∙ ap (list_any p) (take-append-drop n xs) ∙ none)
 
-  onto : (x : ℕ) (parts : List (List ℕ)) → p x ≡ false → AllByRecursion (λ l. list_any p l ≡ false) parts → AllByRecursion (λ l. list_any p l ≡ false) (onto_first x parts)
+  pub onto : (x : ℕ) (parts : List (List ℕ)) → p x ≡ false → AllByRecursion (λ l. list_any p l ≡ false) parts → AllByRecursion (λ l. list_any p l ≡ false) (onto_first x parts)
   onto x [] other each = (ap (λ b. b || false) other, tt)
   onto x (part ∷ parts) other each = (ap (λ b. b || list_any p part) other ∙ each.0, each.1)
 

@@ -1,21 +1,23 @@
 -- Laws of the language.
-use Rattle.std.specs.Prelude.{◌≡◌, ℕ, Bool, false, ◌==◌, List, ◌++◌, ◌∷◌, [], codes, Result, Ok, Err}
+use Rattle.std.specs.Prelude.{◌≡◌, ℕ, Bool, false, ◌==◌, List, ◌++◌, ◌∷◌, [], if◌then◌else◌, Result, Ok, Err}
 use Rattle.std.specs.List.{list_any}
+use Rattle.std.specs.FinSet as set
 use Rattle.moc_ranges.specs.Numbers.{NumberSet}
 use Rattle.moc_parts.specs.Commands.{reply_on, set_after}
 use Rattle.moc_parts.specs.declared.command.Command.{Command}
 use Rattle.moc_script.specs.Words.{is_blank}
-use Rattle.moc_script.specs.Faults.{name_of}
+use Rattle.moc_script.specs.Faults.{fault_line}
 use Rattle.moc_script.specs.Language.{plain_operand_of, command_by, command_of}
 use Rattle.moc_script.specs.Replies.{reply_text}
 use Rattle.moc_script.specs.Batches.{is_semicolon, line_answer, after_line}
-use Rattle.moc_script.specs.Scripts.{answer_on, set_after_line}
+use Rattle.moc_script.specs.Answers.{Rules, script_text}
+use Rattle.moc_script.specs.Scripts.{line_limit, answer_on, set_after_line, answers_of}
 use Rattle.moc_script.specs.declared.fault.Fault.{Fault}
 
 -- the answer to a single command
 abbrev pub single_answer : NumberSet → Result Command Fault → List ℕ
 single_answer a (Ok command) = reply_text (reply_on a command) ++ 10 ∷ []
-single_answer a (Err fault) = codes "fault " ++ name_of fault ++ 10 ∷ []
+single_answer a (Err fault) = fault_line fault
 
 -- what a single command leaves
 abbrev pub after_single : NumberSet → Result Command Fault → NumberSet
@@ -38,3 +40,22 @@ LinesWithoutOrder =
     (a : NumberSet) (line : List ℕ) → list_any is_at_sign line ≡ false
     → (answer_on a line ≡ line_answer (command_by plain_operand_of) a line)
     × (set_after_line a line ≡ after_line (command_by plain_operand_of) a line)
+
+-- the language without batches: a line is blank, or one command
+abbrev pub single_rules : Rules NumberSet
+single_rules = record {
+  answer = λ a line. if is_blank line then [] else single_answer a (command_of line);
+  after = λ a line. if is_blank line then a else after_single a (command_of line);
+}
+
+-- A script without a semicolon is answered as in the language without batches.
+abbrev pub ScriptsOfSingleCommands : Type 0
+ScriptsOfSingleCommands = (input : List ℕ) → list_any is_semicolon input ≡ false → answers_of input ≡ script_text single_rules line_limit set.empty input
+
+-- the language without orders: an operand is a coverage alone
+abbrev pub plain_rules : Rules NumberSet
+plain_rules = record { answer = line_answer (command_by plain_operand_of); after = after_line (command_by plain_operand_of) }
+
+-- A script without `@` is answered as in the language without orders.
+abbrev pub ScriptsWithoutOrder : Type 0
+ScriptsWithoutOrder = (input : List ℕ) → list_any is_at_sign input ≡ false → answers_of input ≡ script_text plain_rules line_limit set.empty input

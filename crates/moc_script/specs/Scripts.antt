@@ -4,7 +4,7 @@ use Rattle.std.specs.FinSet as set
 use Rattle.moc_ranges.specs.Numbers.{NumberSet}
 use Rattle.moc_script.specs.Language.{command_of}
 use Rattle.moc_script.specs.Batches.{line_answer, after_line}
-use Rattle.moc_script.specs.Answers.{script_text}
+use Rattle.moc_script.specs.Answers.{Rules, script_text}
 use Rattle.moc_script.specs.Runs.{Runs, Begins}
 use Rattle.moc_script.specs.declared.script.RunError.{RunError}
 
@@ -20,14 +20,18 @@ answer_on = line_answer command_of
 abbrev pub set_after_line : NumberSet → List ℕ → NumberSet
 set_after_line = after_line command_of
 
+-- how the lines of a script are answered
+abbrev pub script_rules : Rules NumberSet
+script_rules = record { answer = answer_on; after = set_after_line }
+
 -- the text that a script is answered with, by a set that starts empty
 abbrev pub answers_of : List ℕ → List ℕ
-answers_of input = script_text line_limit answer_on set_after_line set.empty input
+answers_of input = script_text script_rules line_limit set.empty input
 
--- of an input a run took a front, and it wrote the answers that its outcome names
+-- of an input a run was given a front, and it wrote the answers that its outcome names
 abbrev pub RunsScript : List ℕ → Option (List ℕ) → Option (List ℕ) → Option (List ℕ) → Result (Unit {0}) RunError → Type 0
-RunsScript input left written written' result = Runs line_limit answer_on set_after_line set.empty input left written written' result
+RunsScript input left written written' result = Runs line_limit script_rules set.empty input left written written' result
 
 -- what was written is a beginning of the answers to the input
 abbrev pub BeginsAnswers : List ℕ → Option (List ℕ) → Option (List ℕ) → Type 0
-BeginsAnswers input written written' = Begins line_limit answer_on set_after_line set.empty input written written'
+BeginsAnswers input written written' = Begins line_limit script_rules set.empty input written written'

@@ -1,11 +1,11 @@
 //! The answers to lines, by a map.
 ghost use Rattle.std.specs.Prelude.{◌≡◌, ◌++◌, ◌∷◌, [], OnOk, codes};
-ghost use Rattle.moc_script.specs.Faults.{name_of};
-ghost use Rattle.moc_script.specs.Scripts.{answer_on, set_after_line};
+ghost use Rattle.moc_script.specs.Faults.{fault_line};
+ghost use Rattle.moc_script.specs.Scripts.{script_rules};
 
 use crate::batch::read_batch;
 use crate::fault::{Fault, ReadError};
-use crate::reply::push_replies;
+use crate::reply_text::push_replies;
 use crate::responder::Responder;
 use crate::words::is_blank_text;
 use moc_parts::Map;
@@ -14,7 +14,7 @@ use std::alloc::Global;
 
 /// Answers a fault.
 fn push_fault(fault: Fault, text: &mut Vec<u8>) -> Result<(), Memory>
-    ensures { OnOk result (text.new.items ≡ text.old.items ++ (codes "fault " ++ name_of fault ++ 10 ∷ [])) }
+    ensures { OnOk result (text.new.items ≡ text.old.items ++ fault_line fault) }
 {
     text.extend_from_slice(b"fault ")?;
     text.extend_from_slice(fault.name().as_bytes())?;
@@ -23,9 +23,7 @@ fn push_fault(fault: Fault, text: &mut Vec<u8>) -> Result<(), Memory>
 }
 
 impl Responder for Map {
-    ghost answer = { answer_on };
-
-    ghost after = { set_after_line };
+    ghost rules = { script_rules };
 
     fn answer_line(
         &mut self,

@@ -1,5 +1,5 @@
 //! Laws of the language of scripts, which the proof shows. The calls do nothing.
-ghost use Rattle.moc_script.specs.Laws.{LinesOfOneCommand, LinesWithoutOrder};
+ghost use Rattle.moc_script.specs.Laws.{LinesOfOneCommand, LinesWithoutOrder, ScriptsOfSingleCommands, ScriptsWithoutOrder};
 
 /// A line without `;` that is not blank is answered as the one command that it says, and leaves the set that this leaves.
 pub fn lines_of_one_command()
@@ -9,4 +9,14 @@ pub fn lines_of_one_command()
 /// A line without `@` is answered as in the language whose operands are coverages alone, and leaves the same set.
 pub fn lines_without_order()
     ensures { LinesWithoutOrder }
+{}
+
+/// A script without `;` is answered as in the language without batches.
+pub fn scripts_of_single_commands()
+    ensures { ScriptsOfSingleCommands }
+{}
+
+/// A script without `@` is answered as in the language without orders.
+pub fn scripts_without_order()
+    ensures { ScriptsWithoutOrder }
 {}

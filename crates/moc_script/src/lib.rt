@@ -5,18 +5,23 @@ mod answer;
 mod batch;
 mod bytes;
 mod command;
+mod device;
 mod fault;
 mod laws;
 mod line_reader;
-mod reply;
+mod reply_text;
 mod responder;
+mod runner;
 mod script;
 mod sink;
 mod source;
 mod words;
 
-pub use laws::{lines_of_one_command, lines_without_order};
+pub use device::DeviceFault;
+pub use laws::{
+    lines_of_one_command, lines_without_order, scripts_of_single_commands, scripts_without_order,
+};
 pub use line_reader::LINE_LIMIT;
-pub use script::{RunError, run, write_all};
-pub use sink::{OverWriter, Sink};
-pub use source::{DeviceFault, OverReader, Source};
+pub use script::{RunError, run};
+pub use sink::{OverWriter, Sink, write_all};
+pub use source::{OverReader, Source};

@@ -5,7 +5,8 @@ ghost use Rattle.std.specs.Io.KnownBytes.{Keeps, Consumes, IsAtEnd};
 ghost use Rattle.moc_text.specs.Lines.{is_line_feed};
 
 use crate::bytes::first_or_len;
-use crate::source::{DeviceFault, Source};
+use crate::device::DeviceFault;
+use crate::source::Source;
 use std::alloc::{AllocError, Global};
 use std::marker::Model;
 
@@ -55,7 +56,7 @@ impl Model for LineReader {
 }
 
 impl LineReader {
-    ghost use Rattle.moc_script.specs.LineReading.{Brings, TakesLine};
+    ghost use Rattle.moc_script.specs.LineReading.{Brings, TakesLine, holds_line};
 
     pub fn new(alloc: Global) -> Result<LineReader, AllocError>
         ensures { IfOk result (λ r. r.unread ≡ []) }
@@ -77,7 +78,7 @@ impl LineReader {
 
     /// Whether a whole line is at hand.
     pub fn holds_line(&self) -> bool
-        ensures { result ≡ nat_lt (position_or_len is_line_feed self.now.unread) (length self.now.unread) }
+        ensures { result ≡ holds_line self.now.unread }
     {
         let unread = &self.chunk[self.start..self.end];
         first_or_len(b'\n', unread) < unread.len()

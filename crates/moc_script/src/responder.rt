@@ -1,19 +1,17 @@
 //! What answers the lines of a script.
-ghost use Rattle.std.specs.Prelude.{◌≡◌, ◌++◌, ℕ, List, OnOk};
+ghost use Rattle.std.specs.Prelude.{◌≡◌, ◌++◌, OnOk};
+ghost use Rattle.moc_script.specs.Answers.{Rules};
 
 use moc_ranges::Memory;
 use std::alloc::Global;
 
 /// Something that answers lines.
 pub trait Responder {
-    /// The answer to a line, with its line feed, or nothing.
-    ghost answer: { Self → List ℕ → List ℕ };
-
-    /// What a line leaves.
-    ghost after: { Self → List ℕ → Self };
+    /// The answer to a line, with its line feed, or nothing; and what the line leaves.
+    ghost rules: { Rules Self };
 
     /// Does what a line says, and adds the answer to the text.
     fn answer_line(&mut self, alloc: Global, line: &[u8], text: &mut Vec<u8>) -> Result<(), Memory>
-        ensures text { OnOk result (text.new.items ≡ text.old.items ++ answer self.old line.now) }
-        ensures after { OnOk result (self.new ≡ after self.old line.now) };
+        ensures text { OnOk result (text.new.items ≡ text.old.items ++ rules.answer self.old line.now) }
+        ensures after { OnOk result (self.new ≡ rules.after self.old line.now) };
 }

@@ -2,13 +2,8 @@
 ghost use Rattle.std.specs.Prelude.{◌≡◌, ◌≤◌, ◌||◌, ℕ, Bool, List, Option, false, IfOk, is_err, length};
 ghost use Rattle.std.specs.Io.KnownBytes.{ReadConsumes};
 
+use crate::device::DeviceFault;
 use std::io::Read;
-use thiserror::Error;
-
-/// A call of a device failed.
-#[derive(Clone, Copy, Debug, PartialEq, Eq, Error)]
-#[error("a device failed")]
-pub struct DeviceFault;
 
 /// A reader of bytes that remembers a failure.
 pub trait Source {

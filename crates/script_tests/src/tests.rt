@@ -1,6 +1,8 @@
 //! What scripts are answered.
-use crate::failing::{FailingSink, FailingSource};
-use moc_script::{LINE_LIMIT, OverReader, OverWriter, RunError, run};
+use crate::failing::{FailingSink, FailingSource, FailsOnce, Failure};
+use moc_script::{
+    DeviceFault, LINE_LIMIT, OverReader, OverWriter, RunError, Sink, Source, run, write_all,
+};
 use std::alloc::{AllocError, Global};
 use std::process::Abort;
 use std::test::Fail;
@@ -12,35 +14,54 @@ const SCRIPT: &[u8] = b"add 0/0\nadd 0/0 ; count 0/0-1\n \t\r\n\nhop\nadd 5/7-3\
 const ANSWERS: &[u8] =
     b"changed 288230376151711744\nchanged 0 ; total 288230376151711744\nfault UnknownWord\nfault Backwards\ncover 0/0\n";
 
-// Runs a script through devices that fail after so many calls.
-fn run_through(
-    alloc: Global,
-    script: &[u8],
-    reads: u64,
-    writes: u64,
-    can_flush: bool,
-) -> (Result<(), RunError>, Vec<u8>) {
-    let mut source = FailingSource {
+// How a run ended, what was written, and how often the writer was flushed.
+#[derive(Drop)]
+struct Ended {
+    result: Result<(), RunError>,
+    text: Vec<u8>,
+    flushes: Option<u64>,
+}
+
+// A reader of a script that fails so often after so many calls.
+fn source_of(script: &[u8], calls: u64, failures: u64) -> FailingSource<'_> {
+    FailingSource {
         bytes: script,
-        calls: reads,
+        calls,
+        failures,
         is_marked: false,
-    };
-    let mut sink = FailingSink {
+    }
+}
+
+// A writer that fails so often after so many calls.
+fn sink_of(alloc: Global, calls: u64, failures: u64, failure: Failure) -> FailingSink {
+    FailingSink {
         taken: Vec::new(alloc),
-        calls: writes,
-        can_flush,
+        calls,
+        failures,
+        failure,
+        flushes: Some(0),
         is_marked: false,
         is_flushed: false,
-    };
+    }
+}
+
+// Runs a script through such devices.
+fn run_between(alloc: Global, mut source: FailingSource<'_>, mut sink: FailingSink) -> Ended {
     let result = run(alloc, &mut source, &mut sink);
-    (result, sink.taken)
+    Ended {
+        result,
+        text: sink.taken,
+        flushes: sink.flushes,
+    }
 }
 
 // Checks the answers to a script.
 fn expect(rt: &impl Abort, alloc: Global, script: &[u8], answers: &[u8]) {
-    let (result, text) = run_through(alloc, script, PLENTY, PLENTY, true);
-    assert_eq!(rt; result, Ok(()));
-    assert_eq!(rt; text.as_slice(), answers);
+    let sink = sink_of(alloc, PLENTY, 0, Failure::Error);
+    let ended = run_between(alloc, source_of(script, PLENTY, 0), sink);
+    assert_eq!(rt; ended.result, Ok(()));
+    assert_eq!(rt; ended.text.as_slice(), answers);
+    assert_eq!(rt; ended.flushes, Some(1));
 }
 
 #[test]
@@ -283,50 +304,169 @@ fn longest_line(rt: HostRuntime) -> Result<(), Fail> {
     Ok(())
 }
 
-// The bytes up to the last line feed.
-fn whole_lines(text: &[u8]) -> &[u8] {
-    match text.iter().rposition(|byte| *byte == b'\n') {
-        Some(at) => text.split_at(at).0,
-        None => b"",
+// The front of the answers that the whole lines of a front of the script have: the lines of SCRIPT have 27, 37, 0, 0, 18,
+// 16 and 10 bytes of them.
+fn answers_to_front(bytes: usize) -> &'static [u8] {
+    let mut answered = 0usize;
+    for (end, len) in [
+        (8usize, 27usize),
+        (30, 37),
+        (34, 0),
+        (35, 0),
+        (39, 18),
+        (49, 16),
+    ] {
+        if bytes >= end {
+            answered += len;
+        }
     }
+    ANSWERS.split_at(answered).0
 }
 
+// A reader that fails for good, and one that fails once and then goes on, end the call alike.
 #[test]
 fn failing_reads(rt: HostRuntime) {
     for reads in 0..SCRIPT.len() + 1 {
-        let (result, text) = run_through(rt.alloc(), SCRIPT, reads as u64, PLENTY, true);
-        assert_eq!(rt; result, Err(RunError::Read), "after {reads} reads");
-        let given = whole_lines(SCRIPT.split_at(reads).0);
-        let (_, expected) = run_through(rt.alloc(), given, PLENTY, PLENTY, true);
-        assert_eq!(rt; text.as_slice(), expected.as_slice(), "after {reads} reads");
+        for failures in [1, PLENTY] {
+            let source = source_of(SCRIPT, reads as u64, failures);
+            let sink = sink_of(rt.alloc(), PLENTY, 0, Failure::Error);
+            let ended = run_between(rt.alloc(), source, sink);
+            assert_eq!(rt; ended.result, Err(RunError::Read), "after {reads} reads");
+            let expected = answers_to_front(reads);
+            assert_eq!(rt; ended.text.as_slice(), expected, "after {reads} reads");
+            assert_eq!(rt; ended.flushes, Some(0), "after {reads} reads");
+        }
     }
-    let reads = SCRIPT.len() as u64 + 1;
-    let (result, text) = run_through(rt.alloc(), SCRIPT, reads, PLENTY, true);
-    assert_eq!(rt; result, Ok(()));
-    assert_eq!(rt; text.as_slice(), ANSWERS);
+    expect(&rt, rt.alloc(), SCRIPT, ANSWERS);
 }
 
+// A writer whose write is an error or takes no byte, for good or once, ends the call with the bytes before.
 #[test]
 fn failing_writes(rt: HostRuntime) {
     for writes in 0..ANSWERS.len() {
-        let (result, text) = run_through(rt.alloc(), SCRIPT, PLENTY, writes as u64, true);
-        assert_eq!(rt; result, Err(RunError::Write), "after {writes} writes");
-        assert_eq!(rt;
-            text.as_slice(),
-            ANSWERS.split_at(writes).0,
-            "after {writes} writes"
-        );
+        for failure in [Failure::Error, Failure::TakesNone] {
+            for failures in [1, PLENTY] {
+                let sink = sink_of(rt.alloc(), writes as u64, failures, failure);
+                let ended = run_between(rt.alloc(), source_of(SCRIPT, PLENTY, 0), sink);
+                assert_eq!(rt; ended.result, Err(RunError::Write), "after {writes} writes");
+                let expected = ANSWERS.split_at(writes).0;
+                assert_eq!(rt; ended.text.as_slice(), expected, "after {writes} writes");
+                assert_eq!(rt; ended.flushes, Some(0), "after {writes} writes");
+            }
+        }
     }
-    let (result, text) = run_through(rt.alloc(), SCRIPT, PLENTY, ANSWERS.len() as u64, true);
-    assert_eq!(rt; result, Ok(()));
-    assert_eq!(rt; text.as_slice(), ANSWERS);
 }
 
 #[test]
 fn failing_flush(rt: HostRuntime) {
-    let (result, text) = run_through(rt.alloc(), SCRIPT, PLENTY, PLENTY, false);
+    for failures in [1, PLENTY] {
+        let sink = sink_of(rt.alloc(), PLENTY, failures, Failure::Flush);
+        let ended = run_between(rt.alloc(), source_of(SCRIPT, PLENTY, 0), sink);
+        assert_eq!(rt; ended.result, Err(RunError::Write));
+        assert_eq!(rt; ended.text.as_slice(), ANSWERS);
+        assert_eq!(rt; ended.flushes, Some(1));
+    }
+}
+
+// A device of std that has not been called yet, and fails at its first call alone.
+fn fails_once() -> FailsOnce {
+    FailsOnce {
+        has_failed: false,
+        calls: 0,
+        flushes: 0,
+    }
+}
+
+#[test]
+fn one_call_each_over_std(rt: HostRuntime) {
+    let mut device = fails_once();
+    let mut source = OverReader::new(&mut device);
+    let mut room = [0u8; 4];
+    assert_eq!(rt; source.read(&mut room), Err(DeviceFault));
+    assert!(rt; source.is_marked());
+    assert_eq!(rt; source.read(&mut room), Ok(0));
+    assert!(rt; source.is_marked());
+    drop(source);
+    assert_eq!(rt; device.calls, 2);
+
+    let mut device = fails_once();
+    let mut sink = OverWriter::new(&mut device);
+    assert_eq!(rt; sink.write(b"ab"), Err(DeviceFault));
+    assert!(rt; sink.is_marked());
+    assert_eq!(rt; sink.write(b"ab"), Ok(2));
+    assert_eq!(rt; sink.flush(), Ok(()));
+    assert!(rt; sink.is_marked());
+    drop(sink);
+    assert_eq!(rt; (device.calls, device.flushes), (2, 1));
+
+    let mut device = fails_once();
+    let mut sink = OverWriter::new(&mut device);
+    assert_eq!(rt; sink.flush(), Err(DeviceFault));
+    assert!(rt; sink.is_marked());
+    drop(sink);
+    assert_eq!(rt; device.flushes, 1);
+}
+
+#[test]
+fn runs_over_std_that_fails_once(rt: HostRuntime) {
+    let mut device = fails_once();
+    let mut taken = Vec::new(rt.alloc());
+    let mut source = OverReader::new(&mut device);
+    let mut sink = OverWriter::new(&mut taken);
+    let result = run(rt.alloc(), &mut source, &mut sink);
+    drop(sink);
+    drop(source);
+    assert_eq!(rt; result, Err(RunError::Read));
+    assert_eq!(rt; device.calls, 1);
+    assert!(rt; taken.is_empty());
+
+    let mut device = fails_once();
+    let mut source = OverReader::new(SCRIPT);
+    let mut sink = OverWriter::new(&mut device);
+    let result = run(rt.alloc(), &mut source, &mut sink);
+    drop(sink);
     assert_eq!(rt; result, Err(RunError::Write));
-    assert_eq!(rt; text.as_slice(), ANSWERS);
+    assert_eq!(rt; (device.calls, device.flushes), (1, 0));
+
+    let mut device = fails_once();
+    let mut sink = OverWriter::new(&mut device);
+    assert_eq!(rt; write_all(b"", &mut sink), Ok(()));
+    assert_eq!(rt; write_all(b"ab", &mut sink), Err(DeviceFault));
+    drop(sink);
+    assert_eq!(rt; device.calls, 1);
+}
+
+#[test]
+fn thousands_of_lines_and_nines(rt: HostRuntime) -> Result<(), Fail> {
+    let mut script = Vec::new(rt.alloc());
+    let mut answers = Vec::new(rt.alloc());
+    for _ in 0..5000 {
+        script.extend_from_slice(b"add\n")?;
+        answers.extend_from_slice(b"changed 0\n")?;
+    }
+    script.extend_from_slice(b"near 0 ")?;
+    let all = script.len().saturating_add(1000);
+    script.resize(all, b'9')?;
+    answers.extend_from_slice(b"fault CellTooLarge\n")?;
+    expect(&rt, rt.alloc(), &script, &answers);
+    Ok(())
+}
+
+#[test]
+fn texts_of_errors(rt: HostRuntime) -> Result<(), Fail> {
+    for (error, text) in [
+        (RunError::Read, "the input could not be read"),
+        (RunError::Write, "the output could not be written"),
+        (RunError::LineTooLong { line: 3 }, "line 3 is too long"),
+        (RunError::Memory { line: 0 }, "out of memory at line 0"),
+    ] {
+        assert_eq!(rt; format!(in rt.alloc(); "{error}")?.as_str(), text);
+    }
+    assert_eq!(rt;
+        format!(in rt.alloc(); "{}", DeviceFault)?.as_str(),
+        "a device failed"
+    );
+    Ok(())
 }
 
 // The lines of a text before the one of this number, counted from 1.
@@ -360,12 +500,8 @@ fn refused_growths(rt: HostRuntime) {
     drop(sink);
     if let Err(RunError::Memory { line }) = result {
         let before = lines_before(SCRIPT, line);
-        let (ended, answers) = run_through(rt.alloc(), before, PLENTY, PLENTY, true);
-        assert_eq!(rt; ended, Ok(()));
-        assert!(rt;
-            holds(room.as_slice(), answers.as_slice()),
-            "at line {line}"
-        );
+        let answers = answers_to_front(before.len());
+        assert!(rt; holds(room.as_slice(), answers), "at line {line}");
     } else {
         assert_eq!(rt; result, Ok(()));
         assert!(rt; holds(room.as_slice(), ANSWERS));

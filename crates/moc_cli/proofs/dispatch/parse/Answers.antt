@@ -1,15 +1,14 @@
-use Rattle.std.proofs.Common.{map}
-use Rattle.std.proofs.lemmas.Bool.{false_from_ne_true}
-use Rattle.std.proofs.lemmas.Result.{IfErr-weaker}
-use Rattle.clap.specs.Words.{app_of, takes}
+-- `clap` says which words it takes, and of which kinds its refusals are.
+use Rattle.moc_cli.proofs.Parsing.{is_simple, refused, taken, mistaken}
 use Rattle.moc_cli.proofs.dispatch.parse.Goals as goal
 
 pub returns : goal.returns
 returns g c =
-    let app = app_of c.in_ok-command_line.field-0 in
-    let words = map g.S.AsStr.text c.args.words.now in
-    IfErr-weaker c.try_get_matches_from.result _ _ (λ e say kind. record {
-      app = app;
-      line = c.in_ok-command_line.ensures;
-      refused = false_from_ne_true (takes app words) (λ taken. kind (say taken));
-    }) c.try_get_matches_from.ensures.passes
+    let line = c.in_ok-command_line.ensures in
+    let parsed = c.try_get_matches_from.ensures in
+    let fails = parsed.kinds (is_simple _ line) in
+    record {
+      refused = refused _ _ line c.try_get_matches_from.result parsed.passes fails;
+      taken = taken _ _ line c.try_get_matches_from.result fails;
+      mistaken = mistaken _ _ line c.try_get_matches_from.result fails;
+    }

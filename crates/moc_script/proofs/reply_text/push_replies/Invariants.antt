@@ -2,7 +2,7 @@
 use Rattle.std.proofs.Common.{◌≡◌, ◌++◌, codes, drop}
 use Rattle.std.specs.List.{flat_map}
 use Rattle.moc_script.specs.Replies.{reply_text, replies_text}
-use Rattle.moc_script.proofs.reply.push_replies.Given as goal
+use Rattle.moc_script.proofs.reply_text.push_replies.Given as goal
 
 abbrev pub invariant-loop-reply : goal.invariant-loop-reply
 invariant-loop-reply l = l.fn.text.items ++ replies_text l.fn.replies ≡ l.text.items ++ flat_map (λ reply. codes " ; " ++ reply_text reply) (drop l.reply-index l.later)

@@ -2,7 +2,7 @@
 use Rattle.std.proofs.Common.{◌++◌, sym, ap, ◌∙◌, append_assoc, codes}
 use Rattle.std.proofs.lemmas.Bool.{false≢true}
 use Rattle.moc_script.proofs.CoverLemmas.{cover_text-empty, cover_text-some}
-use Rattle.moc_script.proofs.reply.push_cover.Goals as goal
+use Rattle.moc_script.proofs.reply_text.push_cover.Goals as goal
 
 pub returns-then-is_empty : goal.returns-then-is_empty
 returns-then-is_empty c =

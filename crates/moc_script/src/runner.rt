@@ -1,0 +1,214 @@
+//! A run under way.
+ghost use Rattle.std.specs.Prelude.{◌≡◌, ◌≢◌, ◌++◌, ◌⊎◌, [], IfOk, IfErr, IfSome, if◌then◌else◌, IsTrue, ◌↔◌, true, false, OnOk, OnErr, IsErrOf, Err};
+ghost use Rattle.std.specs.Io.KnownBytes.{IsAtEnd, Keeps};
+ghost use Rattle.moc_script.specs.Devices.{CallsMore};
+ghost use Rattle.moc_script.specs.LineReading.{TakesLine, fault_at, holds_line};
+ghost use Rattle.moc_script.specs.Runs.{Runs, Begins, Ended, Flushes, Sends};
+
+use crate::device::DeviceFault;
+use crate::line_reader::{Found, LINE_LIMIT, LineFault, LineReader};
+use crate::responder::Responder;
+use crate::script::RunError;
+use crate::sink::{Sink, write_all};
+use crate::source::Source;
+use std::alloc::{AllocError, Global};
+
+/// How many bytes of answers are kept before they are written.
+const FULL: usize = 65_536;
+
+/// The lines to come, and the answers that are not written yet.
+#[derive(Drop)]
+pub(crate) struct Runner {
+    alloc: Global,
+    lines: LineReader,
+    answer: Vec<u8>,
+    pending: Vec<u8>,
+}
+
+impl Runner {
+    pub fn new(alloc: Global) -> Result<Runner, AllocError>
+        ensures unread { IfOk result (λ r. r.lines.unread ≡ []) }
+        ensures pending { IfOk result (λ r. r.pending.items ≡ []) }
+    {
+        Ok(Runner {
+            alloc,
+            lines: LineReader::new(alloc)?,
+            answer: Vec::new(alloc),
+            pending: Vec::new(alloc),
+        })
+    }
+
+    /// Answers each line that is read, and writes the answers.
+    pub fn run<A: Responder, R: Source, W: Sink>(
+        &mut self,
+        responder: &mut A,
+        reader: &mut R,
+        writer: &mut W,
+    ) -> Result<(), RunError>
+        requires unread { self.old.lines.unread ≡ [] }
+        requires pending { self.old.pending.items ≡ [] }
+        requires reader { R.mark reader.old ≡ false }
+        requires writer { W.mark writer.old ≡ false }
+        ensures runs { IfSome (R.left reader.old) (λ input.
+            Runs LINE_LIMIT A.rules responder.old input
+            (R.left reader.new) (W.written writer.old) (W.written writer.new) result) }
+        ensures begins { IfSome (R.left reader.old) (λ input.
+            Begins LINE_LIMIT A.rules responder.old input
+            (W.written writer.old) (W.written writer.new)) }
+        ensures end { OnOk result (IsAtEnd (R.left reader.new)) }
+        ensures flushed { OnOk result (IsTrue (W.flushed writer.new)) }
+        ensures unflushed { OnErr result (IsTrue (W.flushed writer.new) → IsTrue (W.flushed writer.old)) }
+        ensures flushes { Flushes result (W.flushes writer.old) (W.flushes writer.new) }
+        ensures read { IsErrOf result RunError.Read → IsTrue (R.mark reader.new) }
+        ensures write { IsErrOf result RunError.Write ↔ IsTrue (W.mark writer.new) }
+        ensures told { IsTrue (R.mark reader.new) → IsErrOf result RunError.Read ⊎ IsErrOf result RunError.Write }
+    {
+        let outcome = self.answer_lines(responder, reader, writer);
+        if is_write(&outcome) {
+            return outcome;
+        }
+        if self.send(writer).is_err() {
+            return Err(RunError::Write);
+        }
+        if flush_if(outcome.is_ok(), writer).is_err() {
+            return Err(RunError::Write);
+        }
+        outcome
+    }
+
+    /// Answers each line, and writes what is pending before each read that may wait.
+    fn answer_lines<A: Responder, R: Source, W: Sink>(
+        &mut self,
+        responder: &mut A,
+        reader: &mut R,
+        writer: &mut W,
+    ) -> Result<(), RunError>
+        requires unread { self.old.lines.unread ≡ [] }
+        requires pending { self.old.pending.items ≡ [] }
+        requires reader { R.mark reader.old ≡ false }
+        requires writer { W.mark writer.old ≡ false }
+        ensures ended { Ended LINE_LIMIT A.rules responder.old
+            (R.left reader.old) (R.left reader.new)
+            (W.written writer.old) (W.written writer.new) self.new.pending.items result }
+        ensures read { IsErrOf result RunError.Read ↔ IsTrue (R.mark reader.new) }
+        ensures write { IsErrOf result RunError.Write ↔ IsTrue (W.mark writer.new) }
+        ensures flushed { IsTrue (W.flushed writer.new) → IsTrue (W.flushed writer.old) }
+        ensures flushes { CallsMore (W.flushes writer.old) (W.flushes writer.new) 0 }
+    {
+        for line in 1..u64::MAX {
+            if self.send_if_due(writer).is_err() {
+                return Err(RunError::Write);
+            }
+            match self.next_line(reader) {
+                Ok(Found::Line) => {
+                    let answered = self.answer_line(line, responder);
+                    if answered.is_err() {
+                        return answered;
+                    }
+                }
+                Ok(Found::LastLine) => return self.answer_line(line, responder),
+                Ok(Found::Nothing) => return Ok(()),
+                Err(fault) => return Err(fault_at(line, fault)),
+            }
+        }
+        Err(RunError::Memory { line: u64::MAX })
+    }
+
+    /// Takes the next line. A read may wait, so nothing is pending then: what was answered is written.
+    fn next_line<R: Source>(&mut self, reader: &mut R) -> Result<Found, LineFault>
+        requires written { holds_line self.old.lines.unread ≡ false → self.old.pending.items ≡ [] }
+        requires reader { R.mark reader.old ≡ false }
+        ensures takes { TakesLine LINE_LIMIT self.old.lines (R.left reader.old)
+            self.new.lines (R.left reader.new) result }
+        ensures pending { self.new.pending.items ≡ self.old.pending.items }
+        ensures read { result ≡ Err LineFault.Read ↔ IsTrue (R.mark reader.new) }
+    {
+        self.lines.next_line(reader)
+    }
+
+    /// Does what the line of this number says, which was taken last, and adds the whole answer to what is pending, or
+    /// nothing.
+    fn answer_line<A: Responder>(&mut self, number: u64, responder: &mut A) -> Result<(), RunError>
+        ensures text { OnOk result (self.new.pending.items ≡
+            self.old.pending.items ++ A.rules.answer responder.old self.old.lines.line) }
+        ensures after { OnOk result (responder.new ≡ A.rules.after responder.old self.old.lines.line) }
+        ensures memory { IfErr result (λ fault. fault ≡ RunError.Memory number) }
+        ensures err { OnErr result (self.new.pending.items ≡ self.old.pending.items) }
+        ensures lines { self.new.lines ≡ self.old.lines }
+    {
+        self.answer.clear();
+        let line = self.lines.line();
+        let answered = responder.answer_line(self.alloc, line, &mut self.answer);
+        if answered.is_err() || self.pending.extend_from_slice(&self.answer).is_err() {
+            return Err(RunError::Memory { line: number });
+        }
+        Ok(())
+    }
+
+    /// Writes what is pending, where the next line may have to be read, or much is pending.
+    fn send_if_due<W: Sink>(&mut self, writer: &mut W) -> Result<(), DeviceFault>
+        requires writer { W.mark writer.old ≡ false }
+        ensures sends { Sends self.old.pending.items (W.written writer.old)
+            self.new.pending.items (W.written writer.new) result }
+        ensures written { OnOk result (holds_line self.new.lines.unread ≡ false → self.new.pending.items ≡ []) }
+        ensures lines { self.new.lines ≡ self.old.lines }
+        ensures marks { OnErr result (IsTrue (W.mark writer.new)) }
+        ensures unmarked { OnOk result (W.mark writer.new ≡ false) }
+        ensures flushed { IsTrue (W.flushed writer.new) → IsTrue (W.flushed writer.old) }
+        ensures flushes { CallsMore (W.flushes writer.old) (W.flushes writer.new) 0 }
+    {
+        if self.lines.holds_line() && self.pending.len() < FULL {
+            return Ok(());
+        }
+        self.send(writer)
+    }
+
+    /// Writes what is pending, in as many calls as it takes.
+    fn send<W: Sink>(&mut self, writer: &mut W) -> Result<(), DeviceFault>
+        requires writer { W.mark writer.old ≡ false }
+        ensures sends { Sends self.old.pending.items (W.written writer.old)
+            self.new.pending.items (W.written writer.new) result }
+        ensures all { OnOk result (self.new.pending.items ≡ []) }
+        ensures lines { self.new.lines ≡ self.old.lines }
+        ensures marks { OnErr result (IsTrue (W.mark writer.new)) }
+        ensures unmarked { OnOk result (W.mark writer.new ≡ false) }
+        ensures flushed { IsTrue (W.flushed writer.new) → IsTrue (W.flushed writer.old) }
+        ensures flushes { CallsMore (W.flushes writer.old) (W.flushes writer.new) 0 }
+    {
+        write_all(&self.pending, writer)?;
+        self.pending.clear();
+        Ok(())
+    }
+}
+
+/// The fault of a run that finds no line of this number.
+fn fault_at(line: u64, fault: LineFault) -> RunError
+    ensures { result ≡ fault_at line fault }
+{
+    match fault {
+        LineFault::Read => RunError::Read,
+        LineFault::TooLong => RunError::LineTooLong { line },
+        LineFault::Memory => RunError::Memory { line },
+    }
+}
+
+/// Whether the writer failed.
+fn is_write(outcome: &Result<(), RunError>) -> bool
+    ensures { IsTrue result ↔ (outcome.now ≡ Err RunError.Write) }
+{
+    matches!(outcome, Err(RunError::Write))
+}
+
+/// Flushes the writer, if that is due.
+fn flush_if<W: Sink>(is_due: bool, writer: &mut W) -> Result<(), DeviceFault>
+    requires writer { W.mark writer.old ≡ false }
+    ensures bytes { Keeps (W.written writer.old) (W.written writer.new) }
+    ensures marks { OnErr result (IsTrue (W.mark writer.new)) }
+    ensures unmarked { OnOk result (W.mark writer.new ≡ false) }
+    ensures flushed { OnOk result (IsTrue is_due → IsTrue (W.flushed writer.new)) }
+    ensures unflushed { OnErr result (IsTrue (W.flushed writer.new) → IsTrue (W.flushed writer.old)) }
+    ensures not_due { is_due ≡ false → IsTrue (W.flushed writer.new) → IsTrue (W.flushed writer.old) }
+    ensures flushes { CallsMore (W.flushes writer.old) (W.flushes writer.new) (if is_due then 1 else 0) }
+{
+    if is_due { writer.flush() } else { Ok(()) }
+}
