@@ -2,10 +2,10 @@
 use Rattle.std.specs.Prelude.{ℕ, List, [], ◌∷◌, ◌++◌, codes}
 use Rattle.moc_sphere.specs.declared.cell.CellError.{CellError}
 use Rattle.moc_sphere.specs.declared.cell.CellError.TheVariants as cell
-use Rattle.moc_text.specs.declared.error.TextError.{TextError}
-use Rattle.moc_text.specs.declared.error.TextError.TheVariants as text
-use Rattle.moc_text.specs.declared.json.JsonError.{JsonError}
-use Rattle.moc_text.specs.declared.json.JsonError.TheVariants as json
+use Rattle.moc_text.specs.declared.ascii.error.TextError.{TextError}
+use Rattle.moc_text.specs.declared.ascii.error.TextError.TheVariants as text
+use Rattle.moc_text.specs.declared.json.error.JsonError.{JsonError}
+use Rattle.moc_text.specs.declared.json.error.JsonError.TheVariants as json
 use Rattle.moc_text.specs.declared.uniq.UniqError.{UniqError}
 use Rattle.moc_text.specs.declared.uniq.UniqError.TheVariants as uniq
 use Rattle.moc_script.specs.declared.script.RunError.{RunError}

@@ -8,7 +8,7 @@ use Rattle.moc_ranges.specs.Numbers.{NumberSet, same_members}
 use Rattle.moc_ranges.specs.Pixels.{pixels}
 use Rattle.moc_ranges.specs.Operations.{IsWithin, contains-pixels, meets, part_of}
 use Rattle.moc_ranges.specs.Cells.{degrade}
-use Rattle.moc_ranges.specs.Sizes.{len_parts}
+use Rattle.moc_ranges.specs.Laws.Sizes.{len_parts}
 use Rattle.moc_parts.proofs.Members.{has-intersection, and_true, both, same_test}
 use Rattle.moc_parts.proofs.Coarse.{to_degrade}
 

@@ -7,8 +7,8 @@ use Rattle.moc_ranges.specs.Numbers.{NumberSet}
 use Rattle.moc_parts.specs.declared.command.Operand.{Operand}
 use Rattle.moc_parts.specs.declared.command.Command.{Command}
 use Rattle.moc_parts.specs.declared.command.Command.TheVariants.{Add, Remove, Keep, Claim, Invert, Degrade, Count, Read, Near}
-use Rattle.moc_text.specs.declared.error.TextError.{TextError}
-use Rattle.moc_text.specs.declared.error.TextError.TheVariants as text
+use Rattle.moc_text.specs.declared.ascii.error.TextError.{TextError}
+use Rattle.moc_text.specs.declared.ascii.error.TextError.TheVariants as text
 use Rattle.moc_text.specs.Reading.{reading_of}
 use Rattle.moc_script.specs.Words.{is_blank, word_of, behind_word, number_of}
 use Rattle.moc_script.specs.declared.fault.Fault.{Fault}

@@ -1,6 +1,6 @@
 -- What a reader of pieces makes of a text that is no coverage.
-use Rattle.moc_text.specs.declared.error.TextError.{TextError}
-use Rattle.moc_text.specs.declared.error.TextError.TheVariants as text
+use Rattle.moc_text.specs.declared.ascii.error.TextError.{TextError}
+use Rattle.moc_text.specs.declared.ascii.error.TextError.TheVariants as text
 use Rattle.moc_script.specs.Language.{fault_of}
 use Rattle.moc_script.specs.declared.fault.ReadError.{ReadError}
 use Rattle.moc_script.specs.declared.fault.ReadError.TheVariants.{Fault, Memory}
