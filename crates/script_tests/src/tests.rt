@@ -22,31 +22,44 @@ struct Ended {
     flushes: Option<u64>,
 }
 
-// A reader of a script that fails so often after so many calls.
-fn source_of(script: &[u8], calls: u64, failures: u64) -> FailingSource<'_> {
-    FailingSource {
-        bytes: script,
-        calls,
-        failures,
-        is_marked: false,
+// After how many calls the reader and the writer fail, how often, and how the writer does.
+#[derive(Clone, Copy, Debug)]
+struct Devices {
+    reads: u64,
+    failed_reads: u64,
+    writes: u64,
+    failed_writes: u64,
+    failure: Failure,
+}
+
+// Devices that do not fail.
+fn sound_devices() -> Devices {
+    Devices {
+        reads: 0,
+        failed_reads: 0,
+        writes: 0,
+        failed_writes: 0,
+        failure: Failure::Error,
     }
 }
 
-// A writer that fails so often after so many calls.
-fn sink_of(alloc: Global, calls: u64, failures: u64, failure: Failure) -> FailingSink {
-    FailingSink {
+// Runs a script between such devices.
+fn run_between(alloc: Global, script: &[u8], devices: Devices) -> Ended {
+    let mut source = FailingSource {
+        bytes: script,
+        calls: devices.reads,
+        failures: devices.failed_reads,
+        is_marked: false,
+    };
+    let mut sink = FailingSink {
         taken: Vec::new(alloc),
-        calls,
-        failures,
-        failure,
+        calls: devices.writes,
+        failures: devices.failed_writes,
+        failure: devices.failure,
         flushes: Some(0),
         is_marked: false,
         is_flushed: false,
-    }
-}
-
-// Runs a script through such devices.
-fn run_between(alloc: Global, mut source: FailingSource<'_>, mut sink: FailingSink) -> Ended {
+    };
     let result = run(alloc, &mut source, &mut sink);
     Ended {
         result,
@@ -57,8 +70,7 @@ fn run_between(alloc: Global, mut source: FailingSource<'_>, mut sink: FailingSi
 
 // Checks the answers to a script.
 fn expect(rt: &impl Abort, alloc: Global, script: &[u8], answers: &[u8]) {
-    let sink = sink_of(alloc, PLENTY, 0, Failure::Error);
-    let ended = run_between(alloc, source_of(script, PLENTY, 0), sink);
+    let ended = run_between(alloc, script, sound_devices());
     assert_eq!(rt; ended.result, Ok(()));
     assert_eq!(rt; ended.text.as_slice(), answers);
     assert_eq!(rt; ended.flushes, Some(1));
@@ -317,10 +329,10 @@ fn answers_to_front(bytes: usize) -> &'static [u8] {
         (49, 16),
     ] {
         if bytes >= end {
-            answered += len;
+            answered = answered.saturating_add(len);
         }
     }
-    ANSWERS.split_at(answered).0
+    ANSWERS.split_at(answered.min(ANSWERS.len())).0
 }
 
 // A reader that fails for good, and one that fails once and then goes on, end the call alike.
@@ -328,9 +340,10 @@ fn answers_to_front(bytes: usize) -> &'static [u8] {
 fn failing_reads(rt: HostRuntime) {
     for reads in 0..SCRIPT.len() + 1 {
         for failures in [1, PLENTY] {
-            let source = source_of(SCRIPT, reads as u64, failures);
-            let sink = sink_of(rt.alloc(), PLENTY, 0, Failure::Error);
-            let ended = run_between(rt.alloc(), source, sink);
+            let mut devices = sound_devices();
+            devices.reads = reads as u64;
+            devices.failed_reads = failures;
+            let ended = run_between(rt.alloc(), SCRIPT, devices);
             assert_eq!(rt; ended.result, Err(RunError::Read), "after {reads} reads");
             let expected = answers_to_front(reads);
             assert_eq!(rt; ended.text.as_slice(), expected, "after {reads} reads");
@@ -346,8 +359,11 @@ fn failing_writes(rt: HostRuntime) {
     for writes in 0..ANSWERS.len() {
         for failure in [Failure::Error, Failure::TakesNone] {
             for failures in [1, PLENTY] {
-                let sink = sink_of(rt.alloc(), writes as u64, failures, failure);
-                let ended = run_between(rt.alloc(), source_of(SCRIPT, PLENTY, 0), sink);
+                let mut devices = sound_devices();
+                devices.writes = writes as u64;
+                devices.failed_writes = failures;
+                devices.failure = failure;
+                let ended = run_between(rt.alloc(), SCRIPT, devices);
                 assert_eq!(rt; ended.result, Err(RunError::Write), "after {writes} writes");
                 let expected = ANSWERS.split_at(writes).0;
                 assert_eq!(rt; ended.text.as_slice(), expected, "after {writes} writes");
@@ -360,8 +376,10 @@ fn failing_writes(rt: HostRuntime) {
 #[test]
 fn failing_flush(rt: HostRuntime) {
     for failures in [1, PLENTY] {
-        let sink = sink_of(rt.alloc(), PLENTY, failures, Failure::Flush);
-        let ended = run_between(rt.alloc(), source_of(SCRIPT, PLENTY, 0), sink);
+        let mut devices = sound_devices();
+        devices.failed_writes = failures;
+        devices.failure = Failure::Flush;
+        let ended = run_between(rt.alloc(), SCRIPT, devices);
         assert_eq!(rt; ended.result, Err(RunError::Write));
         assert_eq!(rt; ended.text.as_slice(), ANSWERS);
         assert_eq!(rt; ended.flushes, Some(1));
