@@ -1,6 +1,8 @@
 //! Lists of steps, and the way to the end.
 ghost use Rattle.std.specs.Prelude.{◌≡◌, ◌↔◌, IfOk, IfErr, IfSome, OnOk, OnErr, None, ℕ, true};
 ghost use Rattle.std.specs.FinMap as map;
+ghost use Rattle.moc_ranges.specs.Operations.{IsWithin};
+ghost use Rattle.moc_ranges.specs.Pixels.{pixels};
 ghost use Rattle.moc_parts.specs.Batches.{batches};
 ghost use Rattle.moc_steps.specs.Laws.{led_to, ArePlayed, HasOneOrder};
 ghost use Rattle.moc_steps.specs.Locks.{refusal};
@@ -46,7 +48,8 @@ pub fn replay(alloc: Global, start: &Coverage, steps: &[Step]) -> Result<World, 
 
 /// The world of a copy.
 fn start_of(alloc: Global, start: &Coverage) -> Result<World, Memory>
-    ensures { IfOk result (λ w. w ≡ start_world batches start.now) }
+    ensures world { IfOk result (λ w. w ≡ start_world batches start.now) }
+    ensures within { IsWithin start.now pixels }
 {
     World::new(alloc, start.try_copy(alloc)?)
 }
