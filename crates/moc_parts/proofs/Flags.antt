@@ -1,5 +1,5 @@
 -- One more flag is one more part.
-use Rattle.std.proofs.Common.{◌≡◌, ◌≢◌, ℕ, ◌+◌, ◌<◌, Bool, true, false, ◌&&◌, ◌||◌, List, [], ◌∷◌, ◌++◌, length, get_or, replicate, set as set_at, nat_eq, nat_lt, inl, inr, refl, sym, ap, subst, ◌∙◌, arith}
+use Rattle.std.proofs.Common.{◌≡◌, ◌≢◌, ℕ, zero, suc, ◌+◌, ◌<◌, Bool, true, false, ◌&&◌, ◌||◌, List, [], ◌∷◌, ◌++◌, length, get_or, replicate, set as set_at, nat_eq, nat_lt, inl, inr, refl, sym, ap, subst, ◌∙◌, arith}
 use Rattle.std.specs.Cmp.{nat_cmp_total}
 use Rattle.std.specs.List.{list_any}
 use Rattle.std.proofs.lemmas.List.Folds.{list_any-append}
@@ -9,7 +9,7 @@ use Rattle.std.proofs.lemmas.Bool.{cases_eq, cases_lt, lt-ltb}
 use Rattle.std.proofs.lemmas.Bool.Decides.{nat_tests}
 use Rattle.std.proofs.lemmas.List.{get_or-replicate, get_or-set_same, get_or-set_other}
 use Rattle.moc_ranges.specs.Numbers.{same_members}
-use Rattle.moc_parts.specs.PartSets.{flagged, flags_of, contains-flagged, flags_of-flagged}
+use Rattle.moc_parts.specs.PartSets.{flagged, flags_of, contains-flagged, contains-flagged_below, flags_of-flagged}
 
 -- one flag set is one part put in
 pub flagged-set : (flags : List Bool) (b : ℕ) → b < 12 → length flags ≡ 12 → flagged (set_at flags b true) ≡ set.insert (flagged flags) b
@@ -145,3 +145,31 @@ any-more test xs n h = or_shift (test n) h (list_any test xs) ∙ ap (λ t. h ||
     last : (x : Bool) → (x || false) ≡ x
     last true = refl
     last false = refl
+
+some_set : (flags : List Bool) → list_any (λ flag. flag) flags ≡ true → (b : ℕ) × (b < length flags) × (get_or flags b false ≡ true)
+some_set [] is = absurd (cc)
+some_set (true ∷ flags) is = (0, omega arith, refl)
+some_set (false ∷ flags) is = let later = some_set flags is in (suc later.0, omega (arith, later.1), later.2)
+
+set_at_some : (flags : List Bool) (b : ℕ) → get_or flags b false ≡ true → list_any (λ flag. flag) flags ≡ true
+set_at_some [] b is = absurd (cc)
+set_at_some (true ∷ flags) b is = refl
+set_at_some (false ∷ flags) zero is = absurd (cc)
+set_at_some (false ∷ flags) (suc b) is = set_at_some flags b is
+
+-- no flag is set just where there is no part
+pub none_set : (flags : List Bool) → length flags ≡ 12 → (list_any (λ flag. flag) flags ≡ false → flagged flags ≡ set.empty) × (flagged flags ≡ set.empty → list_any (λ flag. flag) flags ≡ false)
+none_set flags twelve = (
+  λ none. same_members _ _ (λ q. contains-flagged flags q ∙ ap (λ t. nat_lt q 12 && t) (no_flag none q (get_or flags q false) refl) ∙ never (nat_lt q 12) ∙ sym (set.contains-empty nat_cmp q)),
+  λ empty. no_part empty (list_any (λ flag. flag) flags) refl,
+)
+  where
+    no_flag : list_any (λ flag. flag) flags ≡ false → (q : ℕ) (t : Bool) → get_or flags q false ≡ t → t ≡ false
+    no_flag none q true is = absurd (let some = set_at_some flags q is in cc)
+    no_flag none q false is = refl
+
+    no_part : flagged flags ≡ set.empty → (t : Bool) → list_any (λ flag. flag) flags ≡ t → t ≡ false
+    no_part empty true is = absurd (let at = some_set flags is in
+        let has = contains-flagged_below flags at.0 (subst (λ n. at.0 < n) twelve at.1) ∙ at.2 in
+        let lacks = lacking (flagged flags) at.0 empty in cc)
+    no_part empty false is = refl

@@ -180,9 +180,11 @@ part-missed a s b missed =
   where
     none : (n : ℕ) → nat_lt 0 n ≡ false → n ≡ 0
     none n h = grind (arith, nat_tests)
+
     never : (x : Bool) → (x && false) ≡ false
     never true = refl
     never false = refl
+
     shifted : (x y e : Bool) {t : Bool} → t ≡ (x && e) → (t && y) ≡ (x && (y && e))
     shifted true true true h = ap (λ t. t && true) h
     shifted true true false h = ap (λ t. t && true) h

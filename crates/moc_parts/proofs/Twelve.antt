@@ -183,6 +183,7 @@ found_by_part sets lie p l =
   where
     same_number : (n : ℕ) → nat_eq n n ≡ true
     same_number n = grind (arith, nat_tests)
+
     and_yes : (x : Bool) → (x && true) ≡ x
     and_yes true = refl
     and_yes false = refl

@@ -1,5 +1,6 @@
 //! The parts of a map: one for each base pixel.
-ghost use Rattle.std.specs.Prelude.{◌≡◌, ℕ, ◌<◌, nat_lt, SomeIff};
+ghost use Rattle.std.specs.Prelude.{◌≡◌, ◌↔◌, ℕ, ◌<◌, nat_lt, IsTrue, SomeIff};
+ghost use Rattle.std.specs.List.{list_any};
 ghost use Rattle.std.specs.FinSet as set;
 
 use std::marker::Model;
@@ -91,6 +92,13 @@ impl PartSet {
         PartSet { flags: [true; 12] }
     }
 
+    /// Whether no part is in the set. O(1), takes no memory.
+    pub fn is_empty(self) -> bool
+        ensures { IsTrue result ↔ (self ≡ set.empty) }
+    {
+        !has_true(&self.flags)
+    }
+
     /// Puts a part in. O(1), takes no memory.
     pub fn insert(&mut self, part: Part)
         ensures { self.new ≡ set.insert self.old part }
@@ -117,4 +125,11 @@ impl PartSet {
     {
         self.flags[usize::from(part.get())]
     }
+}
+
+/// Whether some flag is set.
+fn has_true(flags: &[bool]) -> bool
+    ensures { result ≡ list_any (λ flag. flag) flags.now }
+{
+    flags.iter().any(|flag| *flag)
 }

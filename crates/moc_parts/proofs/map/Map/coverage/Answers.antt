@@ -11,8 +11,8 @@ pub loop-b-preserved : goal.loop-b-preserved
 loop-b-preserved c =
     let a = c.args.self.now in (
       c.in_ok-whole.ensures.set
-      ∙ (λ i. set.union (c.loop-b.invariant.0 i) ((c.part.ensures.part ∙ ap (part_of a) c.of.ensures) i))
-      ∙ first_parts-next a c.loop-b.b,
+          ∙ (λ i. set.union (c.loop-b.invariant.0 i) ((c.part.ensures.part ∙ ap (part_of a) c.of.ensures) i))
+          ∙ first_parts-next a c.loop-b.b,
       λ later. c.part.ensures.within,
     )
 

@@ -1,0 +1,97 @@
+-- The world that a set starts, and the set that a world makes.
+use Rattle.std.proofs.Common.{◌≡◌, ℕ, zero, suc, ◌+◌, ◌<◌, Bool, true, false, ◌||◌, List, [], ◌∷◌, ◌++◌, Option, None, Some, get_or, slice_get, take, length, option_map, refl, sym, ap, subst, ◌∙◌, arith}
+use Rattle.std.specs.Ordering.{nat_cmp}
+use Rattle.std.specs.FinSet as set
+use Rattle.std.specs.FinMap as map
+use Rattle.moc_ranges.specs.Numbers.{NumberSet}
+use Rattle.moc_ranges.specs.Pixels.{pixels}
+use Rattle.moc_ranges.specs.Operations.{IsWithin, part_of}
+use Rattle.moc_parts.specs.Batches.{batches}
+use Rattle.moc_parts.specs.Parts.{parts_below, union_of}
+use Rattle.moc_steps.specs.Laws.{IsReached}
+use Rattle.moc_steps.specs.World.{start_world}
+use Rattle.moc_steps.specs.Standing.{Standing}
+use Rattle.moc_steps.specs.Played.{World, IsKept, entries_of, world_of}
+use Rattle.moc_steps.specs.declared.step.Entry.{Entry}
+use Rattle.moc_steps.proofs.Basics.{same_set, some_same, has-union, has-empty}
+use Rattle.moc_steps.proofs.AnyObject.{start_reached}
+use Rattle.moc_steps.proofs.Loops.{twelve_nones}
+use Rattle.moc_steps.proofs.Values.{get-values, values-empty}
+use Rattle.moc_steps.proofs.Kept.{Table, clients_of, holder_nobody}
+
+pub parts_none : (a : NumberSet) → [] ≡ parts_below a 0
+unfolding parts_below
+parts_none a = refl
+
+pub parts_next : (xs ys : List NumberSet) (a x : NumberSet) (b : ℕ) → xs ≡ parts_below a b → ys ≡ xs ++ x ∷ [] → x ≡ part_of a b → ys ≡ parts_below a (b + 1)
+unfolding parts_below
+parts_next xs ys a x b h add is =
+    let e : b + 1 ≡ suc b = omega arith in
+    add ∙ (λ i. h i ++ is i ∷ []) ∙ sym (ap (λ n. parts_below a n) e)
+
+abbrev pub nobody : List (Option ℕ)
+nobody = None ∷ None ∷ None ∷ None ∷ None ∷ None ∷ None ∷ None ∷ None ∷ None ∷ None ∷ None ∷ []
+
+module _ (m : Table) (ps : List NumberSet) (es : List Entry) (start : NumberSet) (idle : m ≡ map.empty) (parts : ps ≡ parts_below start 12) (none : es ≡ []) where
+  pub starts : world_of 0 m ps es ≡ start_world batches start
+  starts = λ i. record {
+    locks = record { begun = 0; clients = (ap clients_of idle ∙ values-empty (λ (s : Standing). s.running)) i };
+    parts = parts i;
+    found = (ap (λ (t : Table). (world_of 0 t ps es).found) idle ∙ values-empty (λ (s : Standing). s.found)) i;
+    order = entries_of (none i);
+  }
+
+  not_there : {A : Type 0} (c : ℕ) (s : Standing) → map.get m c ≡ Some s → A
+  not_there c s h = let gone : map.get m c ≡ None = ap (λ (t : Table). map.get t c) idle ∙ map.get-empty nat_cmp c in absurd (cc (gone, h))
+
+  pub start_kept : IsWithin start pixels → IsKept 0 m ps nobody es
+  start_kept within = record {
+    reached = subst (λ w. IsReached batches w) (sym starts) (start_reached batches start within);
+    held = λ b l. twelve_nones b ∙ sym (holder_nobody (clients_of m) b (λ c r h. (
+        let gone : map.get (clients_of m) c ≡ None = get-values (λ (s : Standing). s.running) m c ∙ ap (option_map (λ (s : Standing). s.running)) (ap (λ (t : Table). map.get t c) idle ∙ map.get-empty nat_cmp c) in
+        absurd (cc (gone, h)))));
+    small = λ c r h. (
+        let gone : map.get (clients_of m) c ≡ None = get-values (λ (s : Standing). s.running) m c ∙ ap (option_map (λ (s : Standing). s.running)) (ap (λ (t : Table). map.get t c) idle ∙ map.get-empty nat_cmp c) in
+        absurd (cc (gone, h)));
+    placed = λ c s h. not_there c s h;
+  }
+
+-- the union of the first lists, and of one more
+pub union_none : (xs : List NumberSet) → set.empty ≡ union_of (take 0 xs)
+union_none [] = refl
+union_none (x ∷ xs) = refl
+
+or_none : (x y : Bool) → y ≡ false → (x || y) ≡ (y || x)
+or_none true true h = refl
+or_none true false h = refl
+or_none false y h = or_false y
+  where
+    or_false : (z : Bool) → z ≡ (z || false)
+    or_false true = refl
+    or_false false = refl
+
+or_again : (x y z : Bool) → (x || (y || z)) ≡ ((x || y) || z)
+or_again true y z = refl
+or_again false y z = refl
+
+union_suc : (xs : List NumberSet) (i : ℕ) (y : NumberSet) → slice_get xs i ≡ Some y → union_of (take (suc i) xs) ≡ set.union (union_of (take i xs)) y
+union_suc [] i y h = absurd (cc)
+union_suc (x ∷ xs) zero y h = same_set _ _ (λ p.
+    has-union x (union_of (take 0 xs)) p ∙ ap (λ s. set.contains x p || set.contains s p) (sym (union_none xs)) ∙ or_none (set.contains x p) (set.contains (set.empty {R = nat_cmp}) p) (has-empty p)
+    ∙ ap (λ s. set.contains (set.empty {R = nat_cmp}) p || set.contains s p) (some_same (Some x) x y refl h) ∙ sym (has-union set.empty y p))
+union_suc (x ∷ xs) (suc i) y h = ap (set.union x) (union_suc xs i y h) ∙ same_set _ _ (λ p.
+    has-union x (set.union (union_of (take i xs)) y) p ∙ ap (λ t. set.contains x p || t) (has-union (union_of (take i xs)) y p)
+    ∙ or_again (set.contains x p) (set.contains (union_of (take i xs)) p) (set.contains y p)
+    ∙ ap (λ t. t || set.contains y p) (sym (has-union x (union_of (take i xs)) p)) ∙ sym (has-union (set.union x (union_of (take i xs))) y p))
+
+pub union_next : (xs : List NumberSet) (i : ℕ) (w y v : NumberSet) → w ≡ union_of (take i xs) → slice_get xs i ≡ Some y → v ≡ set.union w y → v ≡ union_of (take (i + 1) xs)
+union_next xs i w y v h at is =
+    let e : i + 1 ≡ suc i = omega arith in
+    is ∙ ap (λ s. set.union s y) h ∙ sym (union_suc xs i y at) ∙ sym (ap (λ k. union_of (take k xs)) e)
+
+take_all : {X : Type 0} (xs : List X) → take (length xs) xs ≡ xs
+take_all [] = refl
+take_all (x ∷ xs) = ap (λ ys. x ∷ ys) (take_all xs)
+
+pub union_all : (xs : List NumberSet) (i : ℕ) (w : NumberSet) → w ≡ union_of (take i xs) → i ≡ length xs → w ≡ union_of xs
+union_all xs i w h e = h ∙ ap (λ k. union_of (take k xs)) e ∙ ap union_of (take_all xs)

@@ -1,0 +1,20 @@
+use Rattle.std.proofs.Common.{◌≡◌, Bool, true, false, not, ℕ, nat_eq, refl, sym, ap, ◌∙◌, eqb-true}
+use Rattle.std.specs.Ordering.{nat_cmp}
+use Rattle.std.specs.FinSet as set
+use Rattle.moc_steps.specs.Locks.{is_any}
+use Rattle.moc_steps.proofs.Invariant.{not_any_empty}
+use Rattle.moc_steps.proofs.midway.Midway.is_committed.Goals as goal
+
+-- a set that is not empty has a member
+some_there : (b : Bool) (s : set.FinSet nat_cmp) → (b ≡ true → s ≡ set.empty) → (s ≡ set.empty → b ≡ true) → not b ≡ is_any s
+some_there true s empty is = sym (ap is_any (empty refl) ∙ not_any_empty)
+some_there false s empty is = tested (nat_eq (set.len s) 0) refl
+  where
+    tested : (t : Bool) → nat_eq (set.len s) 0 ≡ t → true ≡ not t
+    tested true zero_long = absurd (let none = is (set.empty_of_len s (eqb-true (set.len s) 0 zero_long)) in cc)
+    tested false some = refl
+
+pub returns : goal.returns
+returns c =
+    let edited = c.self.inside.edited in
+    some_there c.is_empty.result edited c.is_empty.ensures.0 c.is_empty.ensures.1 ∙ ap (λ s. is_any s.running.edited) c.self.view_is
