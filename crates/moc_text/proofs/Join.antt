@@ -1,9 +1,9 @@
 -- The text in the order in which it is written is its words, parted by spaces.
-use Rattle.std.proofs.Common.{◌≡◌, ℕ, List, [], ◌∷◌, ◌++◌, Option, Some, None, true, false, cond, ltb, refl, sym, ap, ◌∙◌, ◌-◌, ◌≤◌, length, take, drop, get_or, arith}
+use Rattle.std.proofs.Common.{◌≡◌, ℕ, List, [], ◌∷◌, ◌++◌, Option, Some, None, refl, sym, ap, ◌∙◌, ◌-◌, ◌≤◌, length, take, drop, get_or, arith}
 use Rattle.std.specs.List.{join_with_byte}
 use Rattle.std.proofs.lemmas.List.{append-nil, take_all}
 use Rattle.moc_text.specs.AsciiText.{order_text, mark_text_of, run_text, stated_beyond, bare_words, words_of, runs_from, one, text_of_cells}
-use Rattle.moc_text.specs.Private.AsciiWriting.{run_part, spaced, stated_part, onward}
+use Rattle.moc_text.specs.Private.AsciiWriting.{run_part, spaced, onward}
 use Rattle.moc_sphere.specs.CellNumber.{CellNumber}
 use Rattle.moc_text.specs.declared.ascii.writing.Run.{Run}
 

@@ -1,5 +1,5 @@
 -- A text says one thing: one set and order, or one first fault.
-use Rattle.std.proofs.Common.{◌≡◌, ℕ, ◌≤◌, Bool, true, false, eqb, List, [], ◌∷◌, ◌++◌, length, Option, Some, None, Result, Ok, Err, refl, sym, ap, subst, ◌∙◌, arith, length-append, append_assoc, ◌⊎◌, inl, inr}
+use Rattle.std.proofs.Common.{◌≡◌, ℕ, ◌≤◌, Bool, true, false, eqb, List, [], ◌∷◌, ◌++◌, length, Option, Some, None, refl, sym, ap, subst, ◌∙◌, arith, length-append, append_assoc, inl, inr}
 use Rattle.std.specs.Char.{is_ascii_digit}
 use Rattle.std.specs.Str.{all_ascii_digits}
 use Rattle.std.proofs.lemmas.List.{append-nil}
@@ -9,8 +9,6 @@ use Rattle.moc_ranges.specs.Numbers.{NumberSet}
 use Rattle.moc_text.specs.Scan.{front_digits, past_digits, after_byte, starts_with_digit}
 use Rattle.moc_text.specs.declared.ascii.number.Parts.{Parts}
 use Rattle.moc_text.specs.declared.ascii.error.TextError.{TextError}
-use Rattle.moc_text.specs.declared.ascii.error.TextError.TheVariants.{Memory}
-use Rattle.std.specs.Result.{MatchResult, IfOk, IfErr, IsErrAnd}
 use Rattle.moc_text.proofs.Automaton.{both}
 
 -- ---- a word has one shape

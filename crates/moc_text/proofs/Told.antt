@@ -1,18 +1,14 @@
 -- The reading of a text is what the text says, or its first fault.
-use Rattle.std.proofs.Common.{◌≡◌, ℕ, ◌+◌, ◌-◌, ◌*◌, ◌<◌, ◌≤◌, Bool, true, false, cond, not, ◌⊎◌, List, [], ◌∷◌, ◌++◌, length, Option, Some, None, Result, Ok, Err, refl, sym, ap, subst, ◌∙◌, arith, inl, inr}
+use Rattle.std.proofs.Common.{◌≡◌, ℕ, ◌+◌, ◌-◌, ◌<◌, true, false, not, ◌⊎◌, List, [], ◌∷◌, ◌++◌, length, Option, Some, None, Result, Ok, Err, refl, sym, ap, subst, ◌∙◌, arith, inl, inr}
 use Rattle.std.specs.List.{take_while, list_all, AllByRecursion}
 use Rattle.std.specs.Option.{option_or}
 use Rattle.std.specs.FinSet as set
 use Rattle.std.specs.Result.{MatchResult}
-use Rattle.std.proofs.Math.Nat.{mul-le-mul_right}
 use Rattle.std.proofs.lemmas.List.{append-nil}
-use Rattle.std.proofs.lemmas.List.Sums.{take_while-cons}
-use Rattle.std.proofs.lemmas.Bool.{le-ltb}
 use Rattle.moc_ranges.specs.Numbers.{NumberSet}
-use Rattle.moc_text.specs.Ascii.{is_separator, Word, words, Shape, shape_text, IsShape, parts_at, Means, HasShapeFault, IsFault, order_at, order_after, last_of, mark_fault, item_fault, fault_of, item_pixels, pixels_said, deeper, deepest_of, AreRead, Says, IsFirstFault}
+use Rattle.moc_text.specs.Ascii.{is_separator, Word, words, Shape, shape_text, IsShape, parts_at, Means, HasShapeFault, IsFault, order_at, order_after, mark_fault, item_fault, fault_of, item_pixels, pixels_said, deeper, deepest_of, AreRead, Says, IsFirstFault}
 use Rattle.moc_text.specs.Scan.{◌>>=◌, is_end, scan_word}
 use Rattle.moc_text.specs.Reading.{parts_of, faultless, numbers_of, reading_of, IsReadingOf, ReadingsAreTold}
-use Rattle.moc_text.specs.declared.ascii.number.Item.{Item}
 use Rattle.moc_text.specs.declared.ascii.number.Parts.{Parts}
 use Rattle.moc_text.specs.declared.ascii.error.TextError.{TextError}
 use Rattle.moc_text.specs.declared.ascii.error.TextError.TheVariants.{Memory}

@@ -1,9 +1,9 @@
 -- A written text is read as it was meant.
-use Rattle.std.proofs.Common.{◌≡◌, ℕ, suc, ◌+◌, ◌*◌, ◌^◌, ◌<◌, ◌≤◌, Bool, true, false, cond, eqb, leb, ltb, ◌&&◌, ◌||◌, ◌/◌, List, [], ◌∷◌, ◌++◌, length, map, max, Option, Some, None, refl, sym, ap, subst, ◌∙◌, arith, inl, inr}
+use Rattle.std.proofs.Common.{◌≡◌, ℕ, suc, ◌+◌, ◌^◌, ◌<◌, ◌≤◌, Bool, true, false, cond, eqb, leb, ltb, ◌&&◌, ◌||◌, ◌/◌, List, [], ◌∷◌, ◌++◌, length, map, max, Option, Some, None, refl, sym, ap, subst, ◌∙◌, arith, inl, inr}
 use Rattle.std.specs.Prelude.{decimal}
 use Rattle.std.specs.Str.{all_ascii_digits}
 use Rattle.std.specs.Str.Parse.{digits_value, AllDigits}
-use Rattle.std.specs.Option.{ForSome, option_or}
+use Rattle.std.specs.Option.{option_or}
 use Rattle.std.specs.FinSet as set
 use Rattle.std.specs.Cmp.{nat_cmp_total}
 use Rattle.std.specs.List.{join_with_byte, AllByRecursion}
@@ -28,7 +28,7 @@ use Rattle.moc_ranges.specs.Pixels.{pixels, pixel_count}
 use Rattle.moc_ranges.specs.Operations.{IsWithin}
 use Rattle.moc_ranges.specs.Cells.{span, spans, pixels_of, cells_of, contains-spans}
 use Rattle.moc_ranges.specs.CellLaws.{cells_are}
-use Rattle.moc_ranges.specs.Laws.{spans-one, cells_fill, union-assoc, empty-union, union-empty}
+use Rattle.moc_ranges.specs.Laws.{spans-one, cells_fill, union-assoc, empty-union}
 use Rattle.std.proofs.lemmas.Bool.Decides.{nat_tests}
 
 -- ---- decimal numbers

@@ -210,8 +210,8 @@ abbrev pub pixels_said : Option ℕ → List Parts → NumberSet
 pixels_said before [] = set.empty
 pixels_said before (n ∷ ns) =
     set.union
-      (item_pixels (order_at before n.mark) n.item)
-      (pixels_said (order_at before n.mark) ns)
+    (item_pixels (order_at before n.mark) n.item)
+    (pixels_said (order_at before n.mark) ns)
 
 -- the greater of two orders that may be none
 abbrev pub deeper : Option ℕ → Option ℕ → Option ℕ

@@ -1,5 +1,5 @@
 -- How far the reading of a JSON text has come.
-use Rattle.std.specs.Prelude.{◌≡◌, ℕ, ◌+◌, ◌-◌, ◌*◌, min, if◌then◌else◌, List, [], ◌∷◌, Option, None}
+use Rattle.std.specs.Prelude.{ℕ, ◌+◌, ◌-◌, ◌*◌, min, if◌then◌else◌, List, [], ◌∷◌, Option, None}
 use Rattle.std.specs.Char.{is_ascii_digit}
 use Rattle.moc_text.specs.JsonForm.{order_up_to_29}
 

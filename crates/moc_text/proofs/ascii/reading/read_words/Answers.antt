@@ -1,4 +1,4 @@
-use Rattle.std.proofs.Common.{◌≡◌, ℕ, List, ◌++◌, length, get_or, ◌⊎◌, inl, inr, false, sym, ap, ◌∙◌}
+use Rattle.std.proofs.Common.{◌≡◌, length, get_or, ◌⊎◌, inl, inr, false, sym, ap, ◌∙◌}
 use Rattle.std.specs.FinSet as set
 use Rattle.std.proofs.lemmas.Result.{err_from_is_err_and}
 use Rattle.moc_ranges.specs.Numbers.{NumberSet}

@@ -1,4 +1,4 @@
-use Rattle.std.proofs.Common.{◌≡◌, ℕ, Some, ap, ◌∙◌}
+use Rattle.std.proofs.Common.{ℕ, Some, ap, ◌∙◌}
 use Rattle.moc_text.proofs.Deepest.{last_is_deepest}
 use Rattle.moc_text.proofs.ascii.writing.deepest_of.Goals as goal
 

@@ -1,4 +1,4 @@
-use Rattle.std.proofs.Common.{◌≡◌, Some, sym, ◌∙◌, lt-ltb, le-ltb, ltb-true, inl, inr}
+use Rattle.std.proofs.Common.{◌≡◌, Some, sym, ◌∙◌, lt-ltb, ltb-true, inl, inr}
 use Rattle.std.proofs.lemmas.Bool.{cases_lt}
 use Rattle.moc_text.specs.AsciiText.{deepest_cell}
 use Rattle.moc_text.proofs.Deepest.{deepest_is_deeper, none_is_deeper}

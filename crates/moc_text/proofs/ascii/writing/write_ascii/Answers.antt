@@ -1,4 +1,4 @@
-use Rattle.std.proofs.Common.{rules, ◌≡◌, ℕ, List, Option, true, false, sym, subst}
+use Rattle.std.proofs.Common.{rules, ◌≡◌, ℕ, List, true, false, sym, subst}
 use Rattle.std.specs.String.{string_bytes}
 use Rattle.moc_ranges.specs.Cells.{cells_of}
 use Rattle.moc_text.specs.Ascii.{Says}

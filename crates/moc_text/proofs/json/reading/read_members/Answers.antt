@@ -1,4 +1,4 @@
-use Rattle.std.proofs.Common.{ℕ, List, [], Option, Some, None, ◌≡◌, ◌+◌, ◌∷◌, length, arith, ap, sym, ◌∙◌}
+use Rattle.std.proofs.Common.{ℕ, List, [], Some, None, ◌≡◌, ◌∷◌, length, arith, ap, sym, ◌∙◌}
 use Rattle.std.specs.FinSet as set
 use Rattle.std.specs.Map.Iter.{deref_pair}
 use Rattle.std.specs.Prelude.{string_bytes, String}

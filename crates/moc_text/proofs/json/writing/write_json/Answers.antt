@@ -10,7 +10,6 @@ use Rattle.moc_sphere.specs.CellNumber.{CellNumber}
 use Rattle.moc_ranges.specs.Cells.{cells_of}
 use Rattle.moc_text.specs.AsciiText.{HasDeeper, deepest_cell, stated_beyond}
 use Rattle.moc_text.specs.JsonText.{json_value, json_text, members_below}
-use Rattle.moc_text.specs.Private.AsciiWriting.{AreRising}
 use Rattle.moc_text.proofs.JsonWritten.{cells_rise, no_float, shallow, written_says}
 use Rattle.moc_text.proofs.json.writing.write_json.Goals as goal
 use Rattle.moc_text.proofs.json.writing.write_json.Goals.{After-drop-cells-2}
