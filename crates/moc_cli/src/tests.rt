@@ -147,11 +147,27 @@ fn refused_conversions(rt: HostRuntime) {
         (["convert", "uniq", "json"], "3", "fault NotUniq\n"),
         (["convert", "ascii", "json"], "5/7-3", "fault Backwards\n"),
         (["convert", "ascii", "json"], "7", "fault NoOrder\n"),
-        (["convert", "ascii", "json"], "30/0", "fault OrderTooLarge\n"),
+        (
+            ["convert", "ascii", "json"],
+            "30/0",
+            "fault OrderTooLarge\n",
+        ),
         (["convert", "ascii", "json"], "5/7-", "fault Unfinished\n"),
-        (["convert", "json", "ascii"], "{\"x\":[0]}", "fault BadOrder\n"),
-        (["convert", "json", "ascii"], "{\"0\":0}", "fault NotArray\n"),
-        (["convert", "json", "ascii"], "{\"0\":[true]}", "fault NotWhole\n"),
+        (
+            ["convert", "json", "ascii"],
+            "{\"x\":[0]}",
+            "fault BadOrder\n",
+        ),
+        (
+            ["convert", "json", "ascii"],
+            "{\"0\":0}",
+            "fault NotArray\n",
+        ),
+        (
+            ["convert", "json", "ascii"],
+            "{\"0\":[true]}",
+            "fault NotWhole\n",
+        ),
         (["convert", "json", "ascii"], "[1]", "fault NotObject\n"),
         (["convert", "json", "ascii"], "{\"1\":[0", "fault NotJson\n"),
         (
@@ -167,7 +183,11 @@ fn refused_conversions(rt: HostRuntime) {
 #[test]
 fn words_that_are_not_utf8(rt: HostRuntime) {
     for (kind, status, text) in [
-        (ErrorKind::InvalidData, 2, "error: a word of the command line is not UTF-8\n"),
+        (
+            ErrorKind::InvalidData,
+            2,
+            "error: a word of the command line is not UTF-8\n",
+        ),
         (ErrorKind::OutOfMemory, 3, "fault Memory\n"),
     ] {
         let mut told = Vec::new(rt.alloc());
