@@ -229,10 +229,12 @@ def help_is_refused(tally, shim):
 
 
 def built(crate):
-    """The words that start a program of this repository, which is built first."""
+    """The words that start a program of this repository, which is built first where the gate has not built it."""
     folder = os.path.join(TOP, "crates", crate)
-    subprocess.run(["rt", "run"], cwd=folder, stdin=subprocess.DEVNULL, capture_output=True, check=True)
-    return [os.path.join(folder, "out", crate)]
+    program = os.path.join(folder, "out", crate)
+    if not os.path.exists(program):
+        subprocess.run(["rt", "run"], cwd=folder, stdin=subprocess.DEVNULL, capture_output=True, check=True)
+    return [program]
 
 
 def map_refuses(tally, shim):
