@@ -1,6 +1,6 @@
 #!/usr/bin/env bash
-# Times the library against Healpix_cxx 3.80 on the same input in one run: an operation a line, the library's line first.
-# Wants Debian's libhealpix-cxx-dev. Writes its input into bench/data (150 MB) once.
+# Times the library and the program against Healpix_cxx 3.80 and cds.moc 5.0 on the same input in one run: an operation a line, the
+# library's line first. Wants Debian's libhealpix-cxx-dev and libcds-moc-java. Writes its input into bench/data (150 MB) once.
 set -euo pipefail
 cd "$(dirname "$0")"
 [ -d data ] || python3 generate.py data > /dev/null
@@ -23,3 +23,21 @@ for operation in adds_only adds; do
     printf 'cxx     '
     ./peer data "$operation" 1
 done
+jar=/usr/share/java/cds.moc.jar
+javac -nowarn -cp "$jar" -d data PeerCds.java 2> /dev/null
+cds() { java -Xmx2g -XX:+UseSerialGC -cp "$jar:data" PeerCds data "$@"; }
+for operation in adds_only adds; do
+    printf 'cds     '
+    cds "$operation" 3
+done
+# Whole conversions by the program, and the peers' reading and writing in memory (the C++ peer's: read_a and write_json above).
+for forms in "ascii json" "json ascii" "ascii uniq" "uniq ascii"; do
+    read -r from to <<< "$forms"
+    case "$from" in ascii) file=moc_a.txt ;; json) file=moc_a.json ;; uniq) file=moc_a.uniq ;; esac
+    TIMEFORMAT="moc     $from to $to %R"
+    for _ in 1 2 3 4 5; do
+        time ../crates/moc_cli/out/moc_cli convert "$from" "$to" < "data/$file" > /dev/null
+    done
+done
+printf 'cds     '
+cds ascii_to_json 5

@@ -63,37 +63,23 @@ module _ {Op Reply : Type 0} (o : Object Op Reply) where
     pub played : ArePlayed start steps
     pub leads : led_to start steps ≡ w
 
--- The laws, of any object
-
-abbrev pub OneOrder : Type 1
-OneOrder = (Op Reply : Type 0) (o : Object Op Reply) (start : NumberSet) (steps : List (Step Op)) → ArePlayed o start steps → HasOneOrder o start steps
-
-abbrev pub NeverStuck : Type 1
-NeverStuck = (Op Reply : Type 0) (o : Object Op Reply) (start : NumberSet) (steps : List (Step Op)) → ArePlayed o start steps
-    → (c : ℕ) (r : Running Op) → running o (led_to o start steps) c ≡ Some r → CanGoOn o (led_to o start steps)
-
--- from a world that steps lead to, more steps that are neither Begins nor Quits
-abbrev pub EndsSoon : Type 1
-EndsSoon = (Op Reply : Type 0) (o : Object Op Reply) (start : NumberSet) (steps more : List (Step Op)) → ArePlayed o start steps
-    → ArePermitted o (led_to o start steps).locks more → AreProgress more → EndsWell o start steps more
-
-abbrev pub AnsweredByEntry : Type 1
-AnsweredByEntry = (Op Reply : Type 0) (o : Object Op Reply) (start : NumberSet) (steps : List (Step Op)) (step : Step Op) → ArePlayed o start steps
-    → refusal o (led_to o start steps).locks step ≡ None → RepliesByEntry o (led_to o start steps) step
-
 -- The laws, of batches
 
+-- the operations of permitted steps stand in one order
 abbrev pub StepsHaveOneOrder : Type 0
 StepsHaveOneOrder = (start : NumberSet) (steps : List (Step (List Command))) → ArePlayed batches start steps → HasOneOrder batches start steps
 
+-- where a client is midway somebody can go on
 abbrev pub WorldsAreNeverStuck : Type 0
 WorldsAreNeverStuck = (start : NumberSet) (steps : List (Step (List Command))) → ArePlayed batches start steps
     → (c : ℕ) (r : Running (List Command)) → running batches (led_to batches start steps) c ≡ Some r → CanGoOn batches (led_to batches start steps)
 
+-- from a world that permitted steps lead to, more steps that are neither Begins nor Quits
 abbrev pub WorldsEndSoon : Type 0
 WorldsEndSoon = (start : NumberSet) (steps more : List (Step (List Command))) → ArePlayed batches start steps
     → ArePermitted batches (led_to batches start steps).locks more → AreProgress more → EndsWell batches start steps more
 
+-- what a permitted step replies is in its operation's entry
 abbrev pub RepliesAreTheEntries : Type 0
 RepliesAreTheEntries = (start : NumberSet) (steps : List (Step (List Command))) (step : Step (List Command)) → ArePlayed batches start steps
     → refusal batches (led_to batches start steps).locks step ≡ None → RepliesByEntry batches (led_to batches start steps) step

@@ -34,9 +34,11 @@ pub record IsMadeOf (cs : List Command) (found : NumberSet) (m : Making) : Type 
   pub replied : m.replies ≡ replies_on found cs
   pub parts : (b : ℕ) → b < 12 → get_or m.lists b None ≡ kept (footprint_of_all cs b) (set_after_all found cs) b
 
+-- the same, from what was found in each part
 abbrev pub IsMadeFrom : List Command → List NumberSet → Making → Type 0
 IsMadeFrom cs found m = IsMadeOf cs (union_of found) m
 
+-- the same, of a client that is midway
 abbrev pub IsMade : Standing → Making → Type 0
 IsMade s m = IsMadeOf s.running.command s.found m
 
