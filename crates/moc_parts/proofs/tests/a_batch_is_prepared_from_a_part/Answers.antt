@@ -29,7 +29,7 @@ found_part whole part b is zero_is =
     ap (λ p. part_of p 0) e ∙ part_lies whole 0 ∙ sym e
 
 pub prepare-requires : goal.prepare-requires
-prepare-requires g c = first_alone c.part.result.now (found_part _ c.part.result.now c.of.result c.part.ensures c.of.ensures)
+prepare-requires g c = first_alone c.part.result.now (found_part _ c.part.result.now c.of.result c.part.ensures.part c.of.ensures)
 
 pub reply_of-requires-clause-parts : goal.reply_of-requires-clause-parts
-reply_of-requires-clause-parts g c = first_alone c.part.result.now (found_part _ c.part.result.now c.of.result c.part.ensures c.of.ensures)
+reply_of-requires-clause-parts g c = first_alone c.part.result.now (found_part _ c.part.result.now c.of.result c.part.ensures.part c.of.ensures)
