@@ -37,11 +37,13 @@ without_name a = record a { top = record a.top { no_binary_name = true } }
 abbrev pub with_word_required : App → App
 with_word_required a = record a { top = record a.top { subcommand_required = true } }
 
--- the words `run`, `ring ORDER CELL`, `nest ORDER RING`, `uniq ORDER CELL`, `near ORDER CELL`, `cell UNIQ` and `convert FROM TO`
+-- the words `run`, `play`, `ring ORDER CELL`, `nest ORDER RING`, `uniq ORDER CELL`, `near ORDER CELL`, `cell UNIQ`
+-- and `convert FROM TO`
 unfoldable pub moc_app : ValueParser → ValueParser → App
 moc_app from to =
     let with_run = with_subcommand (with_word_required (without_name (new_app (codes "moc")))) (new_app (codes "run")).top in
-    let with_ring = with_subcommand with_run (numbers_app (codes "ring") (codes "CELL")).top in
+    let with_play = with_subcommand with_run (new_app (codes "play")).top in
+    let with_ring = with_subcommand with_play (numbers_app (codes "ring") (codes "CELL")).top in
     let with_nest = with_subcommand with_ring (numbers_app (codes "nest") (codes "RING")).top in
     let with_uniq = with_subcommand with_nest (numbers_app (codes "uniq") (codes "CELL")).top in
     let with_near = with_subcommand with_uniq (numbers_app (codes "near") (codes "CELL")).top in

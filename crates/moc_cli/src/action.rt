@@ -8,6 +8,8 @@ use moc_sphere::{Cell, CellError, Order};
 pub enum Action {
     /// Run a script.
     Run,
+    /// Play a schedule.
+    Play,
     /// Convert a number.
     Number(Number),
     /// Convert a coverage from one text form to another.
@@ -35,6 +37,7 @@ impl Action {
         let (name, values) = matches.subcommand()?;
         match name {
             "run" => Some(Action::Run),
+            "play" => Some(Action::Play),
             "ring" => Some(Action::Number(Number::Ring(order(values)?, index(values, "CELL")?))),
             "nest" => Some(Action::Number(Number::Nest(order(values)?, index(values, "RING")?))),
             "uniq" => Some(Action::Number(Number::Uniq(order(values)?, index(values, "CELL")?))),

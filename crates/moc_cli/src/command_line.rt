@@ -38,6 +38,34 @@ Example:
 answers
   changed 23643898043695104 ; total 23643898043695104";
 
+/// What `moc play --help` says below the usage.
+const SCHEDULE: &str = "\
+The schedule is read from standard input, a step a line, on one coverage that starts empty:
+  begin C BATCH  client C begins a batch of commands, written as in `moc run`
+  take C         takes the next part that its batch looks at or changes (parts are the base pixels, 0 to 11, rising)
+  edit C B       changes part B, once all are taken
+  give C B       gives part B back
+  quit C         gives the batch up, before any part is changed
+  end C          ends, and answers what the batch answers
+A step that the parts of others do not permit is answered `refused` with the cause, a bad line `fault` with the fault's
+name, and neither changes anything. Behind the last line come `order`, with the lines that began the batches in the order
+in which they stand, and the coverage, or how many clients are midway.
+
+Example:
+  begin 1 add 0/3
+  take 1
+  edit 1 3
+  give 1 3
+  end 1
+answers
+  ok
+  ok
+  ok
+  ok
+  changed 288230376151711744
+  order 1
+  cover 0/3";
+
 /// The words of the text forms.
 static FORMS: [&str; 3] = ["ascii", "json", "uniq"];
 
@@ -48,6 +76,9 @@ pub fn command_line<'a>(alloc: Global) -> Result<Command<'a>, AllocError>
     let run = Command::new(alloc, "run")
         .about("Runs a script of commands on one coverage")
         .after_help(SCRIPT);
+    let play = Command::new(alloc, "play")
+        .about("Plays a schedule of steps that clients take on one coverage")
+        .after_help(SCHEDULE);
     let ring = numbers(alloc, "ring", "CELL")?.about("Prints the ring number of a nested cell");
     let nest = numbers(alloc, "nest", "RING")?.about("Prints the nested number of a ring number");
     let uniq = numbers(alloc, "uniq", "CELL")?.about("Prints the NUNIQ number of a nested cell");
@@ -66,6 +97,7 @@ pub fn command_line<'a>(alloc: Global) -> Result<Command<'a>, AllocError>
         .no_binary_name(true)
         .subcommand_required(true)
         .subcommand(run)?
+        .subcommand(play)?
         .subcommand(ring)?
         .subcommand(nest)?
         .subcommand(uniq)?

@@ -12,7 +12,7 @@ use crate::conversion::converted;
 use crate::status::{Fault, Status};
 use clap::error::ErrorKind;
 use clap::{ArgMatches, Error};
-use moc_script::{Sink, Source, run, write_all};
+use moc_script::{Sink, Source, play, run, write_all};
 use moc_sphere::Cell;
 use std::alloc::{AllocError, Global};
 use std::convert::AsStr;
@@ -120,6 +120,7 @@ fn act<R: Source, W: Sink>(
 {
     match Action::from_matches(matches) {
         Some(Action::Run) => Ok(run(alloc, input, output)?),
+        Some(Action::Play) => Ok(play(alloc, input, output)?),
         Some(Action::Number(number)) => print(&number_line(alloc, number)?, output),
         Some(Action::Convert(from, to)) => print(&converted(alloc, from, to, input)?, output),
         // `clap` requires the word and its values, so none is missing.

@@ -11,3 +11,4 @@ pub mod Single
 pub mod Unordered
 pub mod WholeScripts
 pub mod NearLemmas
+pub mod Beginnings

@@ -5,7 +5,7 @@ use Rattle.std.specs.FinSet as set
 use Rattle.std.proofs.lemmas.List.Sums.{take_while-cons}
 use Rattle.moc_text.specs.Lines.{is_line_feed, lines_of}
 use Rattle.moc_ranges.specs.Numbers.{NumberSet}
-use Rattle.moc_script.specs.Answers.{Rules, answers_to}
+use Rattle.moc_script.specs.Answers.{Rules, is_within, answers_to, closing_text}
 use Rattle.moc_script.specs.Words.{is_blank}
 use Rattle.moc_script.specs.Batches.{is_semicolon}
 use Rattle.moc_script.specs.Language.{command_of}
@@ -59,10 +59,12 @@ single_line a line none =
 
 pub scripts_of_single_commands : ScriptsOfSingleCommands
 scripts_of_single_commands input none =
-    same_answers script_rules single_rules (λ l. list_any is_semicolon l ≡ false) single_line set.empty _
-    (each-take_while _ (λ line. leb (length line) line_limit) (lines_of input) (none_in_lines is_semicolon input none))
+    ap (λ text. text ++ closing_text script_rules line_limit set.empty (lines_of input))
+    (same_answers script_rules single_rules (λ l. list_any is_semicolon l ≡ false) single_line set.empty _
+    (each-take_while _ (is_within line_limit) (lines_of input) (none_in_lines is_semicolon input none)))
 
 pub scripts_without_order : ScriptsWithoutOrder
 scripts_without_order input none =
-    same_answers script_rules plain_rules (λ l. list_any is_at_sign l ≡ false) lines_without_order set.empty _
-    (each-take_while _ (λ line. leb (length line) line_limit) (lines_of input) (none_in_lines is_at_sign input none))
+    ap (λ text. text ++ closing_text script_rules line_limit set.empty (lines_of input))
+    (same_answers script_rules plain_rules (λ l. list_any is_at_sign l ≡ false) lines_without_order set.empty _
+    (each-take_while _ (is_within line_limit) (lines_of input) (none_in_lines is_at_sign input none)))

@@ -46,6 +46,7 @@ abbrev pub single_rules : Rules NumberSet
 single_rules = record {
   answer = λ a line. if is_blank line then [] else single_answer a (command_of line);
   after = λ a line. if is_blank line then a else after_single a (command_of line);
+  closing = λ _. [];
 }
 
 -- A script without a semicolon is answered as in the language without batches.
@@ -54,7 +55,11 @@ ScriptsOfSingleCommands = (input : List ℕ) → list_any is_semicolon input ≡
 
 -- the language without orders: an operand is a coverage alone
 abbrev pub plain_rules : Rules NumberSet
-plain_rules = record { answer = line_answer (command_by plain_operand_of); after = after_line (command_by plain_operand_of) }
+plain_rules = record {
+  answer = line_answer (command_by plain_operand_of);
+  after = after_line (command_by plain_operand_of);
+  closing = λ _. [];
+}
 
 -- A script without `@` is answered as in the language without orders.
 abbrev pub ScriptsWithoutOrder : Type 0

@@ -12,4 +12,8 @@ pub mod Answers
 pub mod Batches
 pub mod Runs
 pub mod Scripts
+pub mod Steps
+pub mod Refusals
+pub mod Schedules
+pub mod Codes
 pub mod Laws

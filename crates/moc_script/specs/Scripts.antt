@@ -1,5 +1,5 @@
 -- Scripts of commands on a set of pixels.
-use Rattle.std.specs.Prelude.{ℕ, List, Option, Result}
+use Rattle.std.specs.Prelude.{ℕ, List, [], Option, Result}
 use Rattle.std.specs.FinSet as set
 use Rattle.moc_ranges.specs.Numbers.{NumberSet}
 use Rattle.moc_script.specs.Language.{command_of}
@@ -20,9 +20,9 @@ answer_on = line_answer command_of
 abbrev pub set_after_line : NumberSet → List ℕ → NumberSet
 set_after_line = after_line command_of
 
--- how the lines of a script are answered
+-- how the lines of a script are answered; nothing is said behind the last
 abbrev pub script_rules : Rules NumberSet
-script_rules = record { answer = answer_on; after = set_after_line }
+script_rules = record { answer = answer_on; after = set_after_line; closing = λ _. [] }
 
 -- the text that a script is answered with, by a set that starts empty
 abbrev pub answers_of : List ℕ → List ℕ

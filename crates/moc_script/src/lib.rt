@@ -1,4 +1,4 @@
-//! Scripts of commands, from the bytes of a reader to the bytes of a writer.
+//! Scripts of commands and schedules of steps, from the bytes of a reader to the bytes of a writer.
 #![tactic(auto)]
 
 mod answer;
@@ -9,12 +9,15 @@ mod device;
 mod fault;
 mod laws;
 mod line_reader;
+mod player;
 mod reply_text;
 mod responder;
 mod runner;
+mod schedule;
 mod script;
 mod sink;
 mod source;
+mod step;
 mod words;
 
 pub use device::DeviceFault;
@@ -22,6 +25,7 @@ pub use laws::{
     lines_of_one_command, lines_without_order, scripts_of_single_commands, scripts_without_order,
 };
 pub use line_reader::LINE_LIMIT;
+pub use schedule::play;
 pub use script::{RunError, run};
 pub use sink::{OverWriter, Sink, write_all};
 pub use source::{OverReader, Source};

@@ -106,8 +106,14 @@ impl Runner {
                         return answered;
                     }
                 }
-                Ok(Found::LastLine) => return self.answer_line(line, responder),
-                Ok(Found::Nothing) => return Ok(()),
+                Ok(Found::LastLine) => {
+                    let answered = self.answer_line(line, responder);
+                    if answered.is_err() {
+                        return answered;
+                    }
+                    return self.close(line + 1, responder);
+                }
+                Ok(Found::Nothing) => return self.close(line, responder),
                 Err(fault) => return Err(fault_at(line, fault)),
             }
         }
@@ -140,6 +146,24 @@ impl Runner {
         let line = self.lines.line();
         let answered = responder.answer_line(self.alloc, line, &mut self.answer);
         if answered.is_err() || self.pending.extend_from_slice(&self.answer).is_err() {
+            return Err(RunError::Memory { line: number });
+        }
+        Ok(())
+    }
+
+    /// Adds what is said behind the last line to what is pending, the whole of it or nothing. The number is that of the
+    /// line behind the last.
+    fn close<A: Responder>(&mut self, number: u64, responder: &A) -> Result<(), RunError>
+        ensures text { OnOk result (self.new.pending.items ≡
+            self.old.pending.items ++ A.rules.closing responder.now) }
+        ensures memory { IfErr result (λ fault. fault ≡ RunError.Memory number) }
+        ensures some { OnErr result (A.rules.closing responder.now ≢ []) }
+        ensures err { OnErr result (self.new.pending.items ≡ self.old.pending.items) }
+        ensures lines { self.new.lines ≡ self.old.lines }
+    {
+        self.answer.clear();
+        let closed = responder.close(self.alloc, &mut self.answer);
+        if closed.is_err() || self.pending.extend_from_slice(&self.answer).is_err() {
             return Err(RunError::Memory { line: number });
         }
         Ok(())

@@ -1,0 +1,21 @@
+-- The names of refused steps.
+use Rattle.std.specs.Prelude.{ℕ, List, ◌++◌, codes}
+use Rattle.moc_steps.specs.declared.error.StepError.{StepError}
+use Rattle.moc_steps.specs.declared.error.StepError.TheVariants.{NotIdle, Idle, PartHeld, AllTaken, NotAllTaken, NotHeld, AlreadyEdited, NotEdited, BegunEditing, StillHolding, NothingDone, Quitting, Memory, TooMany}
+
+-- the name of a refusal, without its numbers
+abbrev pub refusal_name : StepError → List ℕ
+refusal_name NotIdle = codes "NotIdle"
+refusal_name Idle = codes "Idle"
+refusal_name (PartHeld part by) = codes "PartHeld"
+refusal_name AllTaken = codes "AllTaken"
+refusal_name NotAllTaken = codes "NotAllTaken"
+refusal_name NotHeld = codes "NotHeld"
+refusal_name AlreadyEdited = codes "AlreadyEdited"
+refusal_name NotEdited = codes "NotEdited"
+refusal_name BegunEditing = codes "BegunEditing"
+refusal_name StillHolding = codes "StillHolding"
+refusal_name NothingDone = codes "NothingDone"
+refusal_name Quitting = codes "Quitting"
+refusal_name Memory = codes "Memory"
+refusal_name TooMany = codes "TooMany"

@@ -1,0 +1,90 @@
+-- The language of schedules: what a line says.
+use Rattle.std.specs.Prelude.{ℕ, nat_lt, List, codes, Result, Ok, Err, if◌then◌else◌}
+use Rattle.std.specs.Option.{ok_or}
+use Rattle.std.specs.Str.{bytes_eq}
+use Rattle.moc_parts.specs.declared.command.Command.{Command}
+use Rattle.moc_steps.specs.Locks.{Step}
+use Rattle.moc_steps.specs.Locks.Step.{Begin, Take, Edit, Give, Quit, End}
+use Rattle.moc_script.specs.Words.{is_blank, word_of, behind_word, number_of}
+use Rattle.moc_script.specs.Language.{◌>>=◌, command_of}
+use Rattle.moc_script.specs.Batches.{batch_of}
+use Rattle.moc_script.specs.declared.fault.Fault.{Fault}
+use Rattle.moc_script.specs.declared.fault.Fault.TheVariants.{UnknownWord, WrongCount, BadNumber, ClientTooLarge, PartTooLarge}
+
+-- a step by a client's batch of commands
+abbrev pub BatchStep : Type 0
+BatchStep = Step (List Command)
+
+-- the client of this number: it has 32 bits
+abbrev pub client_at : ℕ → Result ℕ Fault
+client_at n = if nat_lt 4294967295 n then Err ClientTooLarge else Ok n
+
+-- the part of this number: one of twelve
+abbrev pub part_at : ℕ → Result ℕ Fault
+part_at n = if nat_lt 11 n then Err PartTooLarge else Ok n
+
+-- the client that a field names
+abbrev pub client_by : List ℕ → Result ℕ Fault
+client_by field = do
+  n ← ok_or (number_of field) BadNumber
+  client_at n
+
+-- the client and the part that two fields name
+abbrev pub place_by : List ℕ → List ℕ → Result (ℕ × ℕ) Fault
+place_by client part = do
+  n ← ok_or (number_of client) BadNumber
+  b ← ok_or (number_of part) BadNumber
+  c ← client_at n
+  p ← part_at b
+  Ok (c, p)
+
+-- the client that a text names: it has just one field
+abbrev pub client_of : List ℕ → Result ℕ Fault
+client_of text =
+    if is_blank text then Err WrongCount
+    else (if is_blank (behind_word text) then client_by (word_of text) else Err WrongCount)
+
+-- the client and the part that a text names: it has just two fields
+abbrev pub place_of : List ℕ → Result (ℕ × ℕ) Fault
+place_of text =
+    let rest = behind_word text in
+    if is_blank rest then Err WrongCount
+    else (if is_blank (behind_word rest) then place_by (word_of text) (word_of rest) else Err WrongCount)
+
+-- what stands behind `begin`: a client, and its batch of commands
+abbrev pub begin_by : List ℕ → List ℕ → Result BatchStep Fault
+begin_by client line = do
+  c ← client_by client
+  commands ← batch_of command_of line
+  Ok (Begin c commands)
+
+-- what stands behind `begin`, with a word behind the client
+abbrev pub begin_of : List ℕ → Result BatchStep Fault
+begin_of text = if is_blank (behind_word text) then Err WrongCount else begin_by (word_of text) (behind_word text)
+
+-- a step of a client, which the text names
+abbrev pub step_by : (ℕ → BatchStep) → List ℕ → Result BatchStep Fault
+step_by step text = do
+  c ← client_of text
+  Ok (step c)
+
+-- a step of a client at a part, which the text names
+abbrev pub step_at : (ℕ → ℕ → BatchStep) → List ℕ → Result BatchStep Fault
+step_at step text = do
+  place ← place_of text
+  Ok (step place.0 place.1)
+
+-- the step of a word, and of what stands behind it
+abbrev pub step_named : List ℕ → List ℕ → Result BatchStep Fault
+step_named word text =
+    if bytes_eq word (codes "begin") then begin_of text
+    else (if bytes_eq word (codes "take") then step_by (λ c. Take c) text
+    else (if bytes_eq word (codes "edit") then step_at (λ c b. Edit c b) text
+    else (if bytes_eq word (codes "give") then step_at (λ c b. Give c b) text
+    else (if bytes_eq word (codes "quit") then step_by (λ c. Quit c) text
+    else (if bytes_eq word (codes "end") then step_by (λ c. End c) text
+    else Err UnknownWord)))))
+
+-- the step that a line says
+abbrev pub said_step : List ℕ → Result BatchStep Fault
+said_step line = step_named (word_of line) (behind_word line)

@@ -1,0 +1,172 @@
+//! The answers to lines, by the step machine.
+ghost use Rattle.std.specs.Prelude.{◌≡◌, ◌++◌, ◌∷◌, [], IfOk, Ok, OnOk, codes, get_or};
+ghost use Rattle.moc_steps.specs.Locks.{refusal};
+ghost use Rattle.moc_steps.specs.Played.{entries_of, step_of};
+ghost use Rattle.moc_parts.specs.Batches.{batches};
+ghost use Rattle.moc_script.specs.Refusals.{refusal_name};
+ghost use Rattle.moc_script.specs.Schedules.{after_step, answer_to_step, begin_lines, done_text, end_text, schedule_rules, start_schedule};
+
+use crate::answer::push_fault;
+use crate::fault::ReadError;
+use crate::reply_text::{push_count, push_cover, push_replies, push_words};
+use crate::responder::Responder;
+use crate::step::read_step;
+use crate::words::is_blank_text;
+use moc_parts::Replies;
+use moc_ranges::{Coverage, Memory};
+use moc_steps::{CoverError, Entry, Step, StepError, World};
+use std::alloc::Global;
+use std::marker::Model;
+
+/// The step machine, how many lines were read, and for each operation the line that began it.
+#[derive(Drop)]
+pub(crate) struct Player {
+    world: World,
+    lines: u64,
+    begins: Vec<u64>,
+}
+
+impl Model for Player {
+    ghost use Rattle.moc_script.specs.Codes.{schedule_code};
+    ghost use Rattle.moc_script.specs.Schedules.{Schedule};
+
+    ghost Value = { Schedule };
+
+    ghost coded = { schedule_code };
+
+    ghost view = { λ p. record { world = p.world; lines = p.lines; begins = p.begins.items } };
+}
+
+impl Player {
+    /// A machine whose set is empty, before the first line.
+    pub fn new(alloc: Global) -> Result<Player, Memory>
+        ensures { IfOk result (λ player. player ≡ start_schedule) }
+    {
+        Ok(Player {
+            world: World::new(alloc, Coverage::empty(alloc))?,
+            lines: 0,
+            begins: Vec::new(alloc),
+        })
+    }
+
+    /// Takes the step that the last line says, if it is permitted, and adds the answer.
+    fn take(&mut self, alloc: Global, step: Step, text: &mut Vec<u8>) -> Result<(), Memory>
+        ensures text { OnOk result (text.new.items ≡ text.old.items ++ answer_to_step self.old (Ok (step_of step))) }
+        ensures after { OnOk result (self.new ≡
+            after_step (refusal batches self.old.world.locks (step_of step)) self.old (step_of step)) }
+    {
+        let is_begin = matches!(step, Step::Begin { .. });
+        match self.world.step(step) {
+            Ok(replies) => {
+                if is_begin {
+                    self.begins.push(self.lines)?;
+                }
+                push_done(alloc, replies, text)
+            }
+            Err(StepError::Memory) => Err(Memory),
+            Err(why) => push_refused(why, text),
+        }
+    }
+}
+
+impl Responder for Player {
+    ghost rules = { schedule_rules };
+
+    fn answer_line(
+        &mut self,
+        alloc: Global,
+        line: &[u8],
+        text: &mut Vec<u8>,
+    ) -> Result<(), Memory> {
+        self.lines = self.lines.checked_add(1).ok_or(Memory)?;
+        if is_blank_text(line) {
+            return Ok(());
+        }
+        match read_step(alloc, line) {
+            Ok(step) => self.take(alloc, step, text),
+            Err(ReadError::Fault(fault)) => push_fault(fault, text),
+            Err(ReadError::Memory) => Err(Memory),
+        }
+    }
+
+    fn close(&self, alloc: Global, text: &mut Vec<u8>) -> Result<(), Memory> {
+        push_words(b"order", text)?;
+        push_order(self.world.order(), &self.begins, text)?;
+        push_words(b"\n", text)?;
+        push_end(alloc, &self.world, text)?;
+        push_words(b"\n", text)
+    }
+}
+
+/// Adds what is said of a permitted step.
+fn push_done(alloc: Global, replies: Option<Replies>, text: &mut Vec<u8>) -> Result<(), Memory>
+    ensures { OnOk result (text.new.items ≡ text.old.items ++ (done_text replies ++ 10 ∷ [])) }
+{
+    match replies {
+        None => push_words(b"ok", text)?,
+        Some(replies) => push_replies(alloc, replies.as_slice(), text)?,
+    }
+    push_words(b"\n", text)
+}
+
+/// Adds what is said of a refused step.
+fn push_refused(why: StepError, text: &mut Vec<u8>) -> Result<(), Memory>
+    ensures { OnOk result (text.new.items ≡ text.old.items ++ (codes "refused " ++ refusal_name why ++ 10 ∷ [])) }
+{
+    push_words(b"refused ", text)?;
+    push_words(name_of_refusal(why).as_bytes(), text)?;
+    push_words(b"\n", text)
+}
+
+/// The name of a refusal, without its numbers.
+fn name_of_refusal(why: StepError) -> &'static str
+    ensures { result.now ≡ refusal_name why }
+{
+    match why {
+        StepError::NotIdle => "NotIdle",
+        StepError::Idle => "Idle",
+        StepError::PartHeld { .. } => "PartHeld",
+        StepError::AllTaken => "AllTaken",
+        StepError::NotAllTaken => "NotAllTaken",
+        StepError::NotHeld => "NotHeld",
+        StepError::AlreadyEdited => "AlreadyEdited",
+        StepError::NotEdited => "NotEdited",
+        StepError::BegunEditing => "BegunEditing",
+        StepError::StillHolding => "StillHolding",
+        StepError::NothingDone => "NothingDone",
+        StepError::Quitting => "Quitting",
+        StepError::Memory => "Memory",
+        StepError::TooMany => "TooMany",
+    }
+}
+
+/// Adds for each entry a space and the line that began its operation.
+fn push_order(order: &[Entry], begins: &[u64], text: &mut Vec<u8>) -> Result<(), Memory>
+    ensures { OnOk result (text.new.items ≡ text.old.items ++ begin_lines begins.now (entries_of order.now)) }
+{
+    for entry in order {
+        push_count(b" ", begin_line(entry.begin, begins), text)?;
+    }
+    Ok(())
+}
+
+/// The line that began this operation; 0 where there is none.
+fn begin_line(operation: u64, begins: &[u64]) -> u64
+    ensures { result ≡ get_or begins.now operation 0 }
+{
+    match usize::try_from(operation) {
+        Ok(place) => begins.get(place).copied().unwrap_or(0),
+        Err(_) => 0,
+    }
+}
+
+/// Adds the set of the twelve parts, or how many clients are midway.
+fn push_end(alloc: Global, world: &World, text: &mut Vec<u8>) -> Result<(), Memory>
+    ensures { OnOk result (text.new.items ≡ text.old.items ++ end_text world.now) }
+{
+    match world.coverage() {
+        Ok(set) => push_cover(alloc, &set, text),
+        Err(CoverError::Midway { n }) => push_count(b"midway ", n as u64, text),
+        Err(CoverError::Memory) => Err(Memory),
+    }
+}

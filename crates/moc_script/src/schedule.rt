@@ -1,0 +1,71 @@
+//! Schedules of steps, played from a reader to a writer.
+ghost use Rattle.std.specs.Prelude.{◌≡◌, ◌⊎◌, IfSome, IsTrue, ◌↔◌, false, OnOk, OnErr, IsErrOf};
+ghost use Rattle.std.specs.Io.KnownBytes.{Appends, IsAtEnd};
+ghost use Rattle.moc_script.specs.Runs.{Flushes};
+ghost use Rattle.moc_script.specs.Schedules.{RunsSchedule, BeginsSchedule, schedule_text};
+
+use crate::player::Player;
+use crate::runner::Runner;
+use crate::script::RunError;
+use crate::sink::Sink;
+use crate::source::Source;
+use std::alloc::Global;
+
+/// Plays a schedule: clients take, change and give back parts of one set of pixels of order 29, which starts empty, a step
+/// a line, on the step machine of `moc_steps`.
+///
+/// Lines are those of [`run`](crate::run). A client C is a number of 32 bits, a part B a base pixel, 0 to 11.
+///
+/// | Line | Step |
+/// |---|---|
+/// | `begin C BATCH` | the client begins a batch of commands, which is written as a line of a script |
+/// | `take C` | it takes the next part of the batch's footprint |
+/// | `edit C B` | it changes a part that it holds; at the first one the batch is committed |
+/// | `give C B` | it gives a part back |
+/// | `quit C` | it gives the batch up, before it has changed a part |
+/// | `end C` | it is idle again |
+///
+/// A permitted step is answered `ok`, or, where it ends a batch that was not given up, as the batch is answered by `run`. A
+/// step that is not permitted changes nothing, and is answered `refused NAME`; a bad line is no step, and is answered `fault
+/// NAME`. Behind the last line come two more: `order`, with the number of the line that began each committed batch, in the
+/// order in which they stand; and the set as `read` shows it, or `midway N` where N clients are midway.
+///
+/// Faults end the call as those of `run` do; what is written then is exactly the answers to the lines before. The two last
+/// lines are made before either is written: where memory is refused for them, `Memory` names the line behind the last.
+pub fn play<R: Source, W: Sink>(
+    alloc: Global,
+    reader: &mut R,
+    writer: &mut W,
+) -> Result<(), RunError>
+    requires reader { R.mark reader.old ≡ false }
+    requires writer { W.mark writer.old ≡ false }
+
+    // What is written is the defined answers to what was read, as far as the outcome says.
+    ensures plays { IfSome (R.left reader.old) (λ input.
+        RunsSchedule input (R.left reader.new) (W.written writer.old) (W.written writer.new) result) }
+
+    // So it is a beginning of the answers to the whole input, and all of them where no fault comes.
+    ensures begins { IfSome (R.left reader.old) (λ input.
+        BeginsSchedule input (W.written writer.old) (W.written writer.new)) }
+    ensures answers { OnOk result (IfSome (R.left reader.old) (λ input.
+        Appends (W.written writer.old) (W.written writer.new) (schedule_text input))) }
+
+    // Only the reader's end ends it without a fault, and then all is flushed, at once.
+    ensures end { OnOk result (IsAtEnd (R.left reader.new)) }
+    ensures flushed { OnOk result (IsTrue (W.flushed writer.new)) }
+    ensures unflushed { OnErr result (IsTrue (W.flushed writer.new) → IsTrue (W.flushed writer.old)) }
+    ensures flushes { Flushes result (W.flushes writer.old) (W.flushes writer.new) }
+
+    // The devices' faults are theirs, and a device that failed is told.
+    ensures read { IsErrOf result RunError.Read → IsTrue (R.mark reader.new) }
+    ensures write { IsErrOf result RunError.Write ↔ IsTrue (W.mark writer.new) }
+    ensures told { IsTrue (R.mark reader.new) → IsErrOf result RunError.Read ⊎ IsErrOf result RunError.Write }
+{
+    let Ok(mut player) = Player::new(alloc) else {
+        return Err(RunError::Memory { line: 0 });
+    };
+    let Ok(mut runner) = Runner::new(alloc) else {
+        return Err(RunError::Memory { line: 0 });
+    };
+    runner.run(&mut player, reader, writer)
+}

@@ -1,0 +1,124 @@
+//! The steps that lines of a schedule say.
+ghost use Rattle.std.specs.Prelude.{◌≤◌, SomeIff};
+ghost use Rattle.moc_steps.specs.Played.{step_of};
+ghost use Rattle.moc_script.specs.Readings.{Reads};
+ghost use Rattle.moc_script.specs.Steps.{begin_by, begin_of, client_by, client_of, place_by, place_of, said_step};
+
+use crate::batch::read_batch;
+use crate::fault::{Fault, ReadError};
+use crate::words::{is_blank_text, number_in, split_word};
+use moc_parts::Part;
+use moc_steps::Step;
+use std::alloc::Global;
+
+/// The client of this number, or `None` where the number has more than 32 bits.
+fn client_of_number(number: u64) -> Option<u32>
+    ensures { SomeIff result (number ≤ 4294967295) number }
+{
+    u32::try_from(number).ok()
+}
+
+/// The part of this number, or `None` above 11.
+fn part_of_number(number: u64) -> Option<Part>
+    ensures { SomeIff result (number ≤ 11) number }
+{
+    Part::new(u8::try_from(number).ok()?)
+}
+
+/// The client that a field names.
+fn read_client(field: &[u8]) -> Result<u32, ReadError>
+    ensures { Reads (λ client. client) result (client_by field.now) }
+{
+    let Some(number) = number_in(field) else {
+        return Err(ReadError::Fault(Fault::BadNumber));
+    };
+    client_of_number(number).ok_or(ReadError::Fault(Fault::ClientTooLarge))
+}
+
+/// The client and the part that two fields name.
+fn read_place(client: &[u8], part: &[u8]) -> Result<(u32, Part), ReadError>
+    ensures { Reads (λ place. place) result (place_by client.now part.now) }
+{
+    let Some(client) = number_in(client) else {
+        return Err(ReadError::Fault(Fault::BadNumber));
+    };
+    let Some(part) = number_in(part) else {
+        return Err(ReadError::Fault(Fault::BadNumber));
+    };
+    let Some(client) = client_of_number(client) else {
+        return Err(ReadError::Fault(Fault::ClientTooLarge));
+    };
+    match part_of_number(part) {
+        Some(part) => Ok((client, part)),
+        None => Err(ReadError::Fault(Fault::PartTooLarge)),
+    }
+}
+
+/// The client that a text names: it has just one field.
+fn only_client(text: &[u8]) -> Result<u32, ReadError>
+    ensures { Reads (λ client. client) result (client_of text.now) }
+{
+    if is_blank_text(text) {
+        return Err(ReadError::Fault(Fault::WrongCount));
+    }
+    let (client, rest) = split_word(text);
+    if !is_blank_text(rest) {
+        return Err(ReadError::Fault(Fault::WrongCount));
+    }
+    read_client(client)
+}
+
+/// The client and the part that a text names: it has just two fields.
+fn only_place(text: &[u8]) -> Result<(u32, Part), ReadError>
+    ensures { Reads (λ place. place) result (place_of text.now) }
+{
+    let (client, rest) = split_word(text);
+    if is_blank_text(rest) {
+        return Err(ReadError::Fault(Fault::WrongCount));
+    }
+    let (part, behind) = split_word(rest);
+    if !is_blank_text(behind) {
+        return Err(ReadError::Fault(Fault::WrongCount));
+    }
+    read_place(client, part)
+}
+
+/// What stands behind `begin`: a client, and a batch of commands.
+fn read_begin(alloc: Global, text: &[u8]) -> Result<Step, ReadError>
+    ensures { Reads step_of result (begin_of text.now) }
+{
+    let (field, line) = split_word(text);
+    if is_blank_text(line) {
+        return Err(ReadError::Fault(Fault::WrongCount));
+    }
+    let client = read_client(field)?;
+    let batch = read_batch(alloc, line)?;
+    Ok(Step::Begin { client, batch })
+}
+
+/// The step that a line says.
+pub(crate) fn read_step(alloc: Global, line: &[u8]) -> Result<Step, ReadError>
+    ensures { Reads step_of result (said_step line.now) }
+{
+    let (word, text) = split_word(line);
+    if word == b"begin".as_slice() {
+        read_begin(alloc, text)
+    } else if word == b"take".as_slice() {
+        let client = only_client(text)?;
+        Ok(Step::Take { client })
+    } else if word == b"edit".as_slice() {
+        let (client, part) = only_place(text)?;
+        Ok(Step::Edit { client, part })
+    } else if word == b"give".as_slice() {
+        let (client, part) = only_place(text)?;
+        Ok(Step::Give { client, part })
+    } else if word == b"quit".as_slice() {
+        let client = only_client(text)?;
+        Ok(Step::Quit { client })
+    } else if word == b"end".as_slice() {
+        let client = only_client(text)?;
+        Ok(Step::End { client })
+    } else {
+        Err(ReadError::Fault(Fault::UnknownWord))
+    }
+}
