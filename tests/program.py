@@ -25,6 +25,11 @@ CHANGED = (b"changed 288230376151711744\nchanged 0\ntaken 72057594037927936\ncov
 FAULTY = b"add 5/7-3\nhop 1\ndegrade 30\nnear 1\nnear 1 1x\nnear 0 12\ninvert now\nadd\nread\n"
 FAULTS = (b"fault Backwards\nfault UnknownWord\nfault OrderTooLarge\nfault WrongCount\nfault BadNumber\n"
           b"fault CellTooLarge\nfault WrongCount\nchanged 0\ncover\n")
+SCHEDULE = (b"begin 1 add 0/0-1\nbegin 2 count 0/0-1\ntake 1\ntake 1\nedit 1 0\ngive 1 0\ntake 2\ntake 2\nedit 1 1\n"
+            b"give 1 1\ntake 2\nend 1\nhop\n\nedit 2 0\nedit 2 1\ngive 2 0\ngive 2 1\nend 2\n")
+PLAYED = (b"ok\n" * 7 + b"refused PartHeld\n" + b"ok\n" * 3 + b"changed 576460752303423488\nfault UnknownWord\n"
+          + b"ok\n" * 4 + b"total 576460752303423488\n")
+LAST_LINES = b"order 1 2\ncover 0/0-1\n"
 LONGEST_LINE = 1_048_576
 NINES = b"9" * 1000
 # Words, standard input, and what is told: each fault that a refused value or text has.
@@ -48,6 +53,7 @@ REFUSED = [
     (["convert", "uniq", "ascii"], b"3", b"NotUniq"),
     (["convert", "ascii", "ascii"], b" " * (LIMIT + 1), b"TooLong"),
     (["run"], b" " * (LONGEST_LINE + 1), b"LineTooLong"),
+    (["play"], b" " * (LONGEST_LINE + 1), b"LineTooLong"),
 ]
 # What works, with each growth refused in turn too.
 WORKS = [
@@ -70,6 +76,7 @@ MISTAKES = [
     (["ring", "1"], b"CELL"),
     (["fly"], b"fly"),
     (["run", "now"], b"now"),
+    (["play", "now"], b"now"),
     (["convert", "ascii", "fits"], b"fits"),
     (["cell", "x"], b"x"),
 ]
@@ -80,6 +87,7 @@ HELP = [
     (["help"], b"Sky coverages (IVOA MOC 2.0) and HEALPix cell numbers"),
     (["help", "ring"], b"Prints the ring number of a nested cell"),
     (["run", "--help"], b"The script is read from standard input"),
+    (["play", "--help"], b"The schedule is read from standard input"),
     (["ring", "--help"], b"Prints the ring number of a nested cell"),
     (["convert", "--help"], b"Converts a coverage on standard input from one text form to another"),
 ]
@@ -138,12 +146,12 @@ def limits_are_kept(tally):
 
 def devices_fail(tally):
     """A full device as output, a folder as input, and fault outputs that fail."""
-    for words, given in [(["run"], SCRIPT), (["convert", "ascii", "json"], b"2/0-3"), (["ring", "1", "18"], b""),
-                         (["--help"], b"")]:
+    for words, given in [(["run"], SCRIPT), (["play"], SCHEDULE), (["convert", "ascii", "json"], b"2/0-3"),
+                         (["ring", "1", "18"], b""), (["--help"], b"")]:
         with open("/dev/full", "wb") as full:
             seen = outcome(words, given, stdout=full)
         tally.add(f"{words} on a full device", seen == (3, None, b"fault Write\n"), seen)
-    for words in [["run"], ["convert", "ascii", "json"]]:
+    for words in [["run"], ["play"], ["convert", "ascii", "json"]]:
         folder = os.open(TOP, os.O_RDONLY)
         seen = outcome(words, stdin=folder)
         os.close(folder)
@@ -197,23 +205,23 @@ def run_refusing(words, script, refuse, shim):
         return ended, int(file.read())
 
 
-def is_met(ended, answers):
+def is_met(ended, answers, closing):
     """Whether the run met a refusal as it should, or did without what it was refused."""
     if ended.returncode == 0:
-        return ended.stdout == answers and not ended.stderr
+        return ended.stdout == answers + closing and not ended.stderr
     return ended.returncode == 3 and ended.stderr == b"fault Memory\n" and ended.stdout in fronts(answers)
 
 
-def growths_are_refused(tally, words, script, answers, shim):
-    """Refuses each growth in turn."""
+def growths_are_refused(tally, words, script, answers, shim, closing=b""):
+    """Refuses each growth in turn. The closing text behind the answers is written whole, or not at all."""
     ended, growths = run_refusing([MOC] + words, script, 0, shim)
     seen = (ended.returncode, ended.stdout, ended.stderr)
-    tally.add(f"{words} with ample memory", seen == (0, answers, b""), seen)
+    tally.add(f"{words} with ample memory", seen == (0, answers + closing, b""), seen)
     faults = 0
     for refuse in range(1, growths + 1):
         ended, _ = run_refusing([MOC] + words, script, refuse, shim)
         faults += ended.returncode == 3
-        tally.add(f"growth {refuse} of {words}", is_met(ended, answers), ended)
+        tally.add(f"growth {refuse} of {words}", is_met(ended, answers, closing), ended)
     tally.add(f"{words}: some refusal shows", faults > 0)
 
 
@@ -282,6 +290,7 @@ def main():
         subprocess.run(["cc", "-O1", "-shared", "-fPIC", "-o", shim, source], check=True)
         for words, script, answers in WORKS:
             growths_are_refused(tally, words, script, answers, shim)
+        growths_are_refused(tally, ["play"], SCHEDULE, PLAYED, shim, LAST_LINES)
         help_is_refused(tally, shim)
         map_refuses(tally, shim)
         refused_line_is_told(tally, shim)

@@ -19,7 +19,9 @@ numbers_app word name = with_rule (with_rule (new_app word) order_rule) (number_
 
 -- a parser that takes the words of the text forms, and no other
 abbrev pub IsFormParser : ValueParser → Type 0
-IsFormParser parser = (words : Bor (List (Bor (List ℕ)))) × (parser ≡ Names words) × (map (λ word. word.now) words.now ≡ codes "ascii" ∷ codes "json" ∷ codes "uniq" ∷ [])
+IsFormParser parser =
+    (words : Bor (List (Bor (List ℕ)))) × (parser ≡ Names words)
+    × (map (λ word. word.now) words.now ≡ codes "ascii" ∷ codes "json" ∷ codes "uniq" ∷ [])
 
 -- a required text form
 abbrev pub form_rule : ValueParser → Text → Rule
@@ -27,7 +29,8 @@ form_rule parser name = record (new_rule name) { required = true; parser = Some 
 
 -- the word `convert FROM TO`
 abbrev pub convert_app : ValueParser → ValueParser → App
-convert_app from to = with_rule (with_rule (new_app (codes "convert")) (form_rule from (codes "FROM"))) (form_rule to (codes "TO"))
+convert_app from to =
+    with_rule (with_rule (new_app (codes "convert")) (form_rule from (codes "FROM"))) (form_rule to (codes "TO"))
 
 -- its first word is no program's name
 abbrev pub without_name : App → App
@@ -41,7 +44,8 @@ with_word_required a = record a { top = record a.top { subcommand_required = tru
 -- and `convert FROM TO`
 unfoldable pub moc_app : ValueParser → ValueParser → App
 moc_app from to =
-    let with_run = with_subcommand (with_word_required (without_name (new_app (codes "moc")))) (new_app (codes "run")).top in
+    let bare = with_word_required (without_name (new_app (codes "moc"))) in
+    let with_run = with_subcommand bare (new_app (codes "run")).top in
     let with_play = with_subcommand with_run (new_app (codes "play")).top in
     let with_ring = with_subcommand with_play (numbers_app (codes "ring") (codes "CELL")).top in
     let with_nest = with_subcommand with_ring (numbers_app (codes "nest") (codes "RING")).top in

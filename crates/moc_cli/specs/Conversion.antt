@@ -23,7 +23,8 @@ form_text Json a stated = json_text a stated ++ 10 ∷ []
 form_text Uniq a stated = uniq_text a
 
 -- a piece came from a reader behind a text, where there was one; there is none only at the end
-pub record BringsPiece (left : Option (List ℕ)) (old : List ℕ) (left' : Option (List ℕ)) (new : List ℕ) (some : Bool) : Type 0 where
+pub record BringsPiece (left : Option (List ℕ)) (old : List ℕ) (left' : Option (List ℕ)) (new : List ℕ) (some : Bool)
+    : Type 0 where
   pub came : List ℕ
   pub consumed : Consumes left left' came
   pub text : new ≡ old ++ came
@@ -36,7 +37,8 @@ pub record IsWhole (left left' : Option (List ℕ)) (text : List ℕ) : Type 0 w
   pub end : IsAtEnd left'
   pub within : length text ≤ 16777216
 
--- all that was left was read, and the other text is that of the set which it says, with the deepest order that it names stated
+-- all that was left was read, and the other text is that of the set which it says, with the deepest order that it names
+-- stated
 pub record ConvertsAll (from to : Form) (left left' : Option (List ℕ)) (text : List ℕ) : Type 0 where
   pub given : List ℕ
   pub whole : IsWhole left left' given

@@ -78,7 +78,8 @@ fn read_piece<R: Source>(input: &mut R, room: &mut [u8], text: &mut Vec<u8>) -> 
     requires room { 0 < length room.old }
     requires input { R.mark input.old ≡ false }
     ensures read { IsErrOf result Fault.Read ↔ IsTrue (R.mark input.new) }
-    ensures brings { IfOk result (λ some. BringsPiece (R.left input.old) text.old.items (R.left input.new) text.new.items some) }
+    ensures brings { IfOk result (λ some.
+        BringsPiece (R.left input.old) text.old.items (R.left input.new) text.new.items some) }
 {
     let Ok(count) = input.read(room) else {
         return Err(Fault::Read);
@@ -103,7 +104,7 @@ fn read_whole<R: Source>(alloc: Global, input: &mut R) -> Result<Vec<u8>, Fault>
     Err(Fault::TooLong)
 }
 
-/// The text in one form of the coverage that the input has in another. The deepest order that the input names is stated.
+/// The text in one form of the coverage that the input has in another. The deepest order that it names is stated.
 pub fn converted<R: Source>(
     alloc: Global,
     from: Form,

@@ -31,6 +31,7 @@ fault_of (text.Unfinished at) = Unfinished
 fault_of text.Memory = Unfinished
 fault_of text.TooCoarse = Unfinished
 
+-- the set that was read, or the fault without its place
 abbrev pub coverage_or_fault : Result (NumberSet × Option ℕ) TextError → Result NumberSet Fault
 coverage_or_fault (Ok read) = Ok read.0
 coverage_or_fault (Err error) = Err (fault_of error)
@@ -104,7 +105,8 @@ degrade_of text =
 -- a cell of an order
 abbrev pub near_at : ℕ → ℕ → Result Command Fault
 near_at order index =
-    if nat_lt 29 order then Err OrderTooLarge else (if nat_lt index (cell_count order) then Ok (Near (cell_number order index)) else Err CellTooLarge)
+    if nat_lt 29 order then Err OrderTooLarge
+    else (if nat_lt index (cell_count order) then Ok (Near (cell_number order index)) else Err CellTooLarge)
 
 -- the cell that two fields name, an order and a number
 abbrev pub near_by : List ℕ → List ℕ → Result Command Fault

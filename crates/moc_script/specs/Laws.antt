@@ -24,11 +24,12 @@ abbrev pub after_single : NumberSet → Result Command Fault → NumberSet
 after_single a (Ok command) = set_after a command
 after_single a (Err fault) = a
 
--- A line without a semicolon that is not blank is answered as the one command that it says, and leaves what that leaves.
+-- A line without a semicolon that is not blank is answered as the one command that it says, and leaves what it leaves.
 abbrev pub LinesOfOneCommand : Type 0
 LinesOfOneCommand =
     (a : NumberSet) (line : List ℕ) → list_any is_semicolon line ≡ false → is_blank line ≡ false
-    → (answer_on a line ≡ single_answer a (command_of line)) × (set_after_line a line ≡ after_single a (command_of line))
+    → (answer_on a line ≡ single_answer a (command_of line))
+    × (set_after_line a line ≡ after_single a (command_of line))
 
 -- `@`
 abbrev pub is_at_sign : ℕ → Bool
@@ -51,7 +52,9 @@ single_rules = record {
 
 -- A script without a semicolon is answered as in the language without batches.
 abbrev pub ScriptsOfSingleCommands : Type 0
-ScriptsOfSingleCommands = (input : List ℕ) → list_any is_semicolon input ≡ false → answers_of input ≡ script_text single_rules line_limit set.empty input
+ScriptsOfSingleCommands =
+    (input : List ℕ) → list_any is_semicolon input ≡ false
+    → answers_of input ≡ script_text single_rules line_limit set.empty input
 
 -- the language without orders: an operand is a coverage alone
 abbrev pub plain_rules : Rules NumberSet
@@ -63,4 +66,6 @@ plain_rules = record {
 
 -- A script without `@` is answered as in the language without orders.
 abbrev pub ScriptsWithoutOrder : Type 0
-ScriptsWithoutOrder = (input : List ℕ) → list_any is_at_sign input ≡ false → answers_of input ≡ script_text plain_rules line_limit set.empty input
+ScriptsWithoutOrder =
+    (input : List ℕ) → list_any is_at_sign input ≡ false
+    → answers_of input ≡ script_text plain_rules line_limit set.empty input

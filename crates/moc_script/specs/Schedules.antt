@@ -99,7 +99,8 @@ abbrev pub schedule_text : List ℕ → List ℕ
 schedule_text input = script_text schedule_rules line_limit start_schedule input
 
 -- of an input a run was given a front, and it wrote the answers that its outcome names
-abbrev pub RunsSchedule : List ℕ → Option (List ℕ) → Option (List ℕ) → Option (List ℕ) → Result (Unit {0}) RunError → Type 0
+abbrev pub RunsSchedule : List ℕ → Option (List ℕ) → Option (List ℕ) → Option (List ℕ) → Result (Unit {0}) RunError
+    → Type 0
 RunsSchedule input left written written' result =
     Runs line_limit schedule_rules start_schedule input left written written' result
 

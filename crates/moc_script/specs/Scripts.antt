@@ -29,8 +29,10 @@ abbrev pub answers_of : List ℕ → List ℕ
 answers_of input = script_text script_rules line_limit set.empty input
 
 -- of an input a run was given a front, and it wrote the answers that its outcome names
-abbrev pub RunsScript : List ℕ → Option (List ℕ) → Option (List ℕ) → Option (List ℕ) → Result (Unit {0}) RunError → Type 0
-RunsScript input left written written' result = Runs line_limit script_rules set.empty input left written written' result
+abbrev pub RunsScript : List ℕ → Option (List ℕ) → Option (List ℕ) → Option (List ℕ) → Result (Unit {0}) RunError
+    → Type 0
+RunsScript input left written written' result =
+    Runs line_limit script_rules set.empty input left written written' result
 
 -- what was written is a beginning of the answers to the input
 abbrev pub BeginsAnswers : List ℕ → Option (List ℕ) → Option (List ℕ) → Type 0

@@ -26,4 +26,5 @@ behind_word text = drop (length (word_of text)) (without_blanks text)
 
 -- the number that a field spells: one digit or more, in base ten
 abbrev pub number_of : List ℕ → Option ℕ
-number_of field = if nat_lt 0 (length field) && list_all is_ascii_digit field then Some (digits_value 10 field) else None
+number_of field =
+    if nat_lt 0 (length field) && list_all is_ascii_digit field then Some (digits_value 10 field) else None

@@ -87,11 +87,13 @@ impl LineReader {
     /// Moves what is at hand before the first line feed to the end of the line, and drops that line feed.
     fn take_part(&mut self) -> Result<bool, LineFault>
         requires { length self.old.line ≤ LINE_LIMIT }
-        ensures found { IfOk result (λ found. found ≡ nat_lt (position_or_len is_line_feed self.old.unread) (length self.old.unread)) }
+        ensures found { IfOk result (λ found.
+            found ≡ nat_lt (position_or_len is_line_feed self.old.unread) (length self.old.unread)) }
         ensures line { OnOk result (self.new.line ≡ self.old.line ++ before_first is_line_feed self.old.unread) }
         ensures unread { OnOk result (self.new.unread ≡ after_first is_line_feed self.old.unread) }
         ensures within { OnOk result (length self.new.line ≤ LINE_LIMIT) }
-        ensures too_long { IsErrOf result LineFault.TooLong → LINE_LIMIT < length self.old.line + position_or_len is_line_feed self.old.unread }
+        ensures too_long { IsErrOf result LineFault.TooLong
+            → LINE_LIMIT < length self.old.line + position_or_len is_line_feed self.old.unread }
         ensures read { result ≢ Err LineFault.Read }
     {
         let unread = &self.chunk[self.start..self.end];

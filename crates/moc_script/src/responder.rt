@@ -7,7 +7,7 @@ use std::alloc::Global;
 
 /// Something that answers lines.
 pub trait Responder {
-    /// The answer to a line, with its line feed, or nothing; what the line leaves; and what is said behind the last line.
+    /// The answer to a line, with its line feed, or nothing; what the line leaves; what is said behind the last line.
     ghost rules: { Rules Self };
 
     /// Does what a line says, and adds the answer to the text.

@@ -151,12 +151,12 @@ impl Runner {
         Ok(())
     }
 
-    /// Adds what is said behind the last line to what is pending, the whole of it or nothing. The number is that of the
-    /// line behind the last.
-    fn close<A: Responder>(&mut self, number: u64, responder: &A) -> Result<(), RunError>
+    /// Adds what is said behind the last line to what is pending, the whole of it or nothing. `behind` is the number of
+    /// the line behind the last.
+    fn close<A: Responder>(&mut self, behind: u64, responder: &A) -> Result<(), RunError>
         ensures text { OnOk result (self.new.pending.items ≡
             self.old.pending.items ++ A.rules.closing responder.now) }
-        ensures memory { IfErr result (λ fault. fault ≡ RunError.Memory number) }
+        ensures memory { IfErr result (λ fault. fault ≡ RunError.Memory behind) }
         ensures some { OnErr result (A.rules.closing responder.now ≢ []) }
         ensures err { OnErr result (self.new.pending.items ≡ self.old.pending.items) }
         ensures lines { self.new.lines ≡ self.old.lines }
@@ -164,7 +164,7 @@ impl Runner {
         self.answer.clear();
         let closed = responder.close(self.alloc, &mut self.answer);
         if closed.is_err() || self.pending.extend_from_slice(&self.answer).is_err() {
-            return Err(RunError::Memory { line: number });
+            return Err(RunError::Memory { line: behind });
         }
         Ok(())
     }

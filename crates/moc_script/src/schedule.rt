@@ -11,8 +11,8 @@ use crate::sink::Sink;
 use crate::source::Source;
 use std::alloc::Global;
 
-/// Plays a schedule: clients take, change and give back parts of one set of pixels of order 29, which starts empty, a step
-/// a line, on the step machine of `moc_steps`.
+/// Plays a schedule: clients take, change and give back parts of one set of pixels of order 29, which starts empty, a
+/// step a line, on the step machine of `moc_steps`.
 ///
 /// Lines are those of [`run`](crate::run). A client C is a number of 32 bits, a part B a base pixel, 0 to 11.
 ///
@@ -25,13 +25,15 @@ use std::alloc::Global;
 /// | `quit C` | it gives the batch up, before it has changed a part |
 /// | `end C` | it is idle again |
 ///
-/// A permitted step is answered `ok`, or, where it ends a batch that was not given up, as the batch is answered by `run`. A
-/// step that is not permitted changes nothing, and is answered `refused NAME`; a bad line is no step, and is answered `fault
-/// NAME`. Behind the last line come two more: `order`, with the number of the line that began each committed batch, in the
-/// order in which they stand; and the set as `read` shows it, or `midway N` where N clients are midway.
+/// A permitted step is answered `ok`, or, where it ends a batch that was not given up, as the batch is answered by
+/// `run`. A step that is not permitted changes nothing, and is answered `refused NAME`; a bad line is no step, and is
+/// answered `fault NAME`. Behind the last line come two more: `order`, with the number of the line that began each
+/// committed batch, in the order in which they stand; and the set as `read` shows it, or `midway N` where N clients
+/// are midway.
 ///
-/// Faults end the call as those of `run` do; what is written then is exactly the answers to the lines before. The two last
-/// lines are made before either is written: where memory is refused for them, `Memory` names the line behind the last.
+/// Faults end the call as those of `run` do; what is written then is exactly the answers to the lines before. The two
+/// last lines are made before either is written: where memory is refused for them, `Memory` names the line behind the
+/// last.
 pub fn play<R: Source, W: Sink>(
     alloc: Global,
     reader: &mut R,

@@ -31,11 +31,11 @@ pub enum RunError {
 
 /// Answers a script: one client asks and changes one set of pixels of order 29, which starts empty.
 ///
-/// A line ends at a line feed, and bytes behind the last one are a last line. A line of blanks (space, tab, CR) alone has
-/// no answer; every other line has one, in order, ended by a line feed. A line is 1 to 16 commands parted by `;`, done in
-/// order, and its answer is theirs, parted by ` ; `. A command is a word and its fields, or a word and an operand S: a
-/// coverage in the ASCII form of MOC 2.0 (the empty text is the empty set), behind `@` and an order where it is to be
-/// degraded first.
+/// A line ends at a line feed, and bytes behind the last one are a last line. A line of blanks (space, tab, CR) alone
+/// has no answer; every other line has one, in order, ended by a line feed. A line is 1 to 16 commands parted by `;`,
+/// done in order, and its answer is theirs, parted by ` ; `. A command is a word and its fields, or a word and an
+/// operand S: a coverage in the ASCII form of MOC 2.0 (the empty text is the empty set), behind `@` and an order where
+/// it is to be degraded first.
 ///
 /// | Command | Answer |
 /// |---|---|
@@ -49,13 +49,13 @@ pub enum RunError {
 /// | `read S` | `cover T`: T is the ASCII form of what S and the set share; `cover` alone for nothing |
 /// | `near K I` | `near yes`: the set has a pixel of the cell I of order K or of a cell that touches it; or `near no` |
 ///
-/// A bad line changes nothing, and is answered `fault NAME`, by the first bad command from the left. Answers are written
-/// before each read that may wait.
+/// A bad line changes nothing, and is answered `fault NAME`, by the first bad command from the left. Answers are
+/// written before each read that may wait.
 ///
-/// Where the call ends with a fault, what is written is exactly the answers to the lines before the one that `LineTooLong`
-/// or `Memory` names, or to the whole lines that were read before `Read`; on `Write` it is as much of the answers as the
-/// writer took. After the whole text the writer is flushed, once. Each line is read in one pass; a command takes time and
-/// memory linear in the ranges of both sets.
+/// Where the call ends with a fault, what is written is exactly the answers to the lines before the one that
+/// `LineTooLong` or `Memory` names, or to the whole lines that were read before `Read`; on `Write` it is as much of
+/// the answers as the writer took. After the whole text the writer is flushed, once. Each line is read in one pass; a
+/// command takes time and memory linear in the ranges of both sets.
 pub fn run<R: Source, W: Sink>(
     alloc: Global,
     reader: &mut R,

@@ -1,5 +1,6 @@
 //! What scripts are answered.
-use crate::failing::{FailingSink, FailingSource, FailsOnce, Failure};
+use crate::between::{Devices, Ended, Language, PLENTY, between, expect_answers, sound_devices};
+use crate::failing::{FailsOnce, Failure};
 use moc_script::{
     DeviceFault, LINE_LIMIT, OverReader, OverWriter, RunError, Sink, Source, run, write_all,
 };
@@ -7,73 +8,19 @@ use std::alloc::{AllocError, Global};
 use std::process::Abort;
 use std::test::Fail;
 
-const PLENTY: u64 = 1 << 40;
-
 const SCRIPT: &[u8] = b"add 0/0\nadd 0/0 ; count 0/0-1\n \t\r\n\nhop\nadd 5/7-3\nread 0/0-1 5";
 
 const ANSWERS: &[u8] =
     b"changed 288230376151711744\nchanged 0 ; total 288230376151711744\nfault UnknownWord\nfault Backwards\ncover 0/0\n";
 
-// How a run ended, what was written, and how often the writer was flushed.
-#[derive(Drop)]
-struct Ended {
-    result: Result<(), RunError>,
-    text: Vec<u8>,
-    flushes: Option<u64>,
-}
-
-// After how many calls the reader and the writer fail, how often, and how the writer does.
-#[derive(Clone, Copy, Debug)]
-struct Devices {
-    reads: u64,
-    failed_reads: u64,
-    writes: u64,
-    failed_writes: u64,
-    failure: Failure,
-}
-
-// Devices that do not fail.
-fn sound_devices() -> Devices {
-    Devices {
-        reads: 0,
-        failed_reads: 0,
-        writes: 0,
-        failed_writes: 0,
-        failure: Failure::Error,
-    }
-}
-
 // Runs a script between such devices.
 fn run_between(alloc: Global, script: &[u8], devices: Devices) -> Ended {
-    let mut source = FailingSource {
-        bytes: script,
-        calls: devices.reads,
-        failures: devices.failed_reads,
-        is_marked: false,
-    };
-    let mut sink = FailingSink {
-        taken: Vec::new(alloc),
-        calls: devices.writes,
-        failures: devices.failed_writes,
-        failure: devices.failure,
-        flushes: Some(0),
-        is_marked: false,
-        is_flushed: false,
-    };
-    let result = run(alloc, &mut source, &mut sink);
-    Ended {
-        result,
-        text: sink.taken,
-        flushes: sink.flushes,
-    }
+    between(alloc, Language::Script, script, devices)
 }
 
 // Checks the answers to a script.
 fn expect(rt: &impl Abort, alloc: Global, script: &[u8], answers: &[u8]) {
-    let ended = run_between(alloc, script, sound_devices());
-    assert_eq!(rt; ended.result, Ok(()));
-    assert_eq!(rt; ended.text.as_slice(), answers);
-    assert_eq!(rt; ended.flushes, Some(1));
+    expect_answers(rt, alloc, Language::Script, script, answers);
 }
 
 #[test]

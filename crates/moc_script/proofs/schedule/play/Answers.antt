@@ -15,5 +15,5 @@ returns-clause-begins g c = rw (c.in-Ok.ensures) at c.run.ensures.begins
 pub returns-clause-answers : goal.returns-clause-answers
 returns-clause-answers g c =
     subst (λ (s : Schedule). OnOk c.run.result (IfSome (g.R.Source.left c.args.reader.now) (λ input.
-        Appends (g.W.Sink.written c.args.writer.now) (g.W.Sink.written c.run.new.writer) (script_text schedule_rules line_limit s input))))
+    Appends (g.W.Sink.written c.args.writer.now) (g.W.Sink.written c.run.new.writer) (script_text schedule_rules line_limit s input))))
     c.in-Ok.ensures (answers-ok _ _ _ _ _ _ _ c.run.result c.run.ensures.runs)

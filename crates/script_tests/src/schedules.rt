@@ -1,0 +1,449 @@
+//! What schedules are answered.
+use crate::between::{Ended, Language, PLENTY, between, expect_answers, sound_devices};
+use crate::failing::Failure;
+use moc_script::{OverReader, OverWriter, RunError, play};
+use std::alloc::{AllocError, Global};
+use std::process::Abort;
+use std::test::Fail;
+
+// Two clients on the same two parts. The first edits and gives one of its parts before the other takes it.
+const SCHEDULE: &[u8] = b"\
+begin 1 add 0/0-1
+begin 2 count 0/0-1
+take 1
+take 1
+edit 1 0
+give 1 0
+take 2
+take 2
+edit 1 1
+give 1 1
+take 2
+end 1
+edit 2 0
+edit 2 1
+give 2 0
+give 2 1
+end 2
+";
+
+const ANSWERS: &[u8] = b"\
+ok
+ok
+ok
+ok
+ok
+ok
+ok
+refused PartHeld
+ok
+ok
+ok
+changed 576460752303423488
+ok
+ok
+ok
+ok
+total 576460752303423488
+order 1 2
+cover 0/0-1
+";
+
+// Checks the answers to a schedule.
+fn expect(rt: &impl Abort, alloc: Global, schedule: &[u8], answers: &[u8]) {
+    expect_answers(rt, alloc, Language::Schedule, schedule, answers);
+}
+
+// Plays the schedule between such devices.
+fn after(alloc: Global, reads: u64, writes: u64, failure: Failure, of_reader: bool) -> Ended {
+    let mut devices = sound_devices();
+    devices.reads = reads;
+    devices.writes = writes;
+    devices.failure = failure;
+    if of_reader {
+        devices.failed_reads = PLENTY;
+    } else {
+        devices.failed_writes = PLENTY;
+    }
+    between(alloc, Language::Schedule, SCHEDULE, devices)
+}
+
+#[test]
+fn two_clients(rt: HostRuntime) {
+    expect(&rt, rt.alloc(), SCHEDULE, ANSWERS);
+}
+
+#[test]
+fn schedule_that_ends_midway(rt: HostRuntime) {
+    let schedule = b"\
+begin 1 add 0/0-1
+begin 2 count 0/0-1
+take 1
+take 1
+edit 1 0
+give 1 0
+take 2
+take 2";
+    let answers = b"ok\nok\nok\nok\nok\nok\nok\nrefused PartHeld\norder 1\nmidway 2\n";
+    expect(&rt, rt.alloc(), schedule, answers);
+}
+
+#[test]
+fn refusals_of_one_client(rt: HostRuntime) {
+    let schedule = b"\
+take 7
+begin 7 invert
+edit 7 0
+give 7 0
+end 7
+take 7
+end 7
+give 7 0
+quit 7
+take 7
+give 7 0
+end 7
+";
+    let answers = b"\
+refused Idle
+ok
+refused NotAllTaken
+refused NotHeld
+refused NothingDone
+ok
+refused StillHolding
+refused NotEdited
+ok
+refused Quitting
+ok
+ok
+order
+cover
+";
+    expect(&rt, rt.alloc(), schedule, answers);
+}
+
+#[test]
+fn refusals_of_two_clients(rt: HostRuntime) {
+    let schedule = b"\
+begin 1 add
+take 1
+begin 2 read 0/0
+begin 2 invert
+take 2
+quit 1
+give 1 0
+end 1
+take 2
+take 2
+edit 2 0
+edit 2 0
+quit 2
+give 2 0
+end 2
+";
+    let answers = b"\
+ok
+ok
+ok
+refused NotIdle
+refused PartHeld
+ok
+ok
+ok
+ok
+refused AllTaken
+ok
+refused AlreadyEdited
+refused BegunEditing
+ok
+cover
+order 3
+cover
+";
+    expect(&rt, rt.alloc(), schedule, answers);
+}
+
+// The second to begin is the first to edit, and so stands first; blank lines are counted, and have no answer.
+#[test]
+fn order_by_first_edits(rt: HostRuntime) {
+    let schedule = b"\
+begin 1 count 0/0
+begin 2 add 0/0
+take 2
+edit 2 0
+give 2 0
+take 1
+edit 1 0
+give 1 0
+end 1
+end 2
+";
+    let answers = b"\
+ok
+ok
+ok
+ok
+ok
+ok
+ok
+ok
+total 288230376151711744
+changed 288230376151711744
+order 2 1
+cover 0/0
+";
+    expect(&rt, rt.alloc(), schedule, answers);
+    let blanks = b"\n \t\r\nbegin 1 add\n\ntake 1\nedit 1 0";
+    expect(&rt, rt.alloc(), blanks, b"ok\nok\nok\norder 3\nmidway 1\n");
+}
+
+#[test]
+fn batches(rt: HostRuntime) {
+    let schedule = b"begin 1 add 0/0 ; remove 0/0\ntake 1\nedit 1 0\ngive 1 0\nend 1\n";
+    let answers = b"\
+ok
+ok
+ok
+ok
+changed 288230376151711744 ; changed 288230376151711744
+order 1
+cover
+";
+    expect(&rt, rt.alloc(), schedule, answers);
+}
+
+// A client that has taken all parts of a footprint holds just those.
+#[test]
+fn footprints(rt: HostRuntime) -> Result<(), Fail> {
+    for (command, takes, held) in [
+        (
+            "add",
+            1u8,
+            [
+                true, false, false, false, false, false, false, false, false, false, false, false,
+            ],
+        ),
+        (
+            "count 0/3 1/23",
+            2,
+            [
+                false, false, false, true, false, true, false, false, false, false, false, false,
+            ],
+        ),
+        (
+            "near 0 4",
+            7,
+            [
+                true, false, false, true, true, true, false, true, true, false, false, true,
+            ],
+        ),
+        (
+            "near 1 0",
+            4,
+            [
+                true, false, false, false, true, true, false, false, true, false, false, false,
+            ],
+        ),
+        (
+            "near 1 3",
+            4,
+            [
+                true, true, true, true, false, false, false, false, false, false, false, false,
+            ],
+        ),
+        (
+            "keep 0/3",
+            12,
+            [
+                true, true, true, true, true, true, true, true, true, true, true, true,
+            ],
+        ),
+        (
+            "add 0/3 ; add",
+            2,
+            [
+                true, false, false, true, false, false, false, false, false, false, false, false,
+            ],
+        ),
+    ] {
+        let (schedule, answers) = taken_and_tried(rt.alloc(), command, takes, &held)?;
+        expect(&rt, rt.alloc(), schedule.as_bytes(), answers.as_bytes());
+    }
+    Ok(())
+}
+
+// A schedule in which a client takes so many parts, and may take no more, and tries to give each part; and its answers.
+fn taken_and_tried(
+    alloc: Global,
+    command: &str,
+    takes: u8,
+    held: &[bool; 12],
+) -> Result<(String, String), AllocError> {
+    let mut schedule = format!(in alloc; "begin 5 {command}\n")?;
+    let mut answers = String::from_str(alloc, "ok\n")?;
+    for _ in 0..takes {
+        schedule.push_str("take 5\n")?;
+        answers.push_str("ok\n")?;
+    }
+    schedule.push_str("take 5\n")?;
+    answers.push_str("refused AllTaken\n")?;
+    for (part, is_held) in held.iter().enumerate() {
+        schedule.push_str(format!(in alloc; "give 5 {part}\n")?.as_str())?;
+        answers.push_str(if *is_held {
+            "refused NotEdited\n"
+        } else {
+            "refused NotHeld\n"
+        })?;
+    }
+    answers.push_str("order\nmidway 1\n")?;
+    Ok((schedule, answers))
+}
+
+#[test]
+fn faulty_lines(rt: HostRuntime) {
+    let schedule = b"\
+hop
+take 1 2
+begin 1
+take x
+take 4294967296
+edit 1 12
+begin 1 hop
+begin 1 add 0/12
+take 4294967295
+";
+    let answers = b"\
+fault UnknownWord
+fault WrongCount
+fault WrongCount
+fault BadNumber
+fault ClientTooLarge
+fault PartTooLarge
+fault UnknownWord
+fault CellTooLarge
+refused Idle
+order
+cover
+";
+    expect(&rt, rt.alloc(), schedule, answers);
+}
+
+// Which fault comes first, and what parts a line.
+#[test]
+fn first_fault_of_a_line(rt: HostRuntime) {
+    let schedule = b"\
+begin
+begin 1;add 0/0
+begin x hop
+begin 4294967296 hop
+begin 1 ;
+begin 1 add ; hop
+take
+edit 4294967296 12x
+edit 4294967296 12
+edit 00000000000000000000000000000001 000
+give 1
+quit 1 ; quit 1
+end 1 1
+Take 1
+";
+    let answers = b"\
+fault WrongCount
+fault BadNumber
+fault BadNumber
+fault ClientTooLarge
+fault EmptyCommand
+fault UnknownWord
+fault WrongCount
+fault BadNumber
+fault ClientTooLarge
+refused Idle
+fault WrongCount
+fault WrongCount
+fault WrongCount
+fault UnknownWord
+order
+cover
+";
+    expect(&rt, rt.alloc(), schedule, answers);
+}
+
+#[test]
+fn empty_schedule(rt: HostRuntime) {
+    expect(&rt, rt.alloc(), b"", b"order\ncover\n");
+    expect(&rt, rt.alloc(), b"\n", b"order\ncover\n");
+}
+
+// The front of the answers to so many lines. Each line of the schedule has one.
+fn first_lines(text: &[u8], count: usize) -> &[u8] {
+    let mut lines = 0usize;
+    for (at, byte) in text.iter().enumerate() {
+        if lines >= count {
+            return text.split_at(at).0;
+        }
+        if *byte == b'\n' {
+            lines = lines.saturating_add(1);
+        }
+    }
+    text
+}
+
+// How many lines of a text are whole.
+fn whole_lines(text: &[u8]) -> usize {
+    text.iter().filter(|byte| **byte == b'\n').count()
+}
+
+#[test]
+fn failing_reads(rt: HostRuntime) {
+    for reads in 0..SCHEDULE.len() + 1 {
+        let ended = after(rt.alloc(), reads as u64, 0, Failure::Error, true);
+        let given = SCHEDULE.split_at(reads.min(SCHEDULE.len())).0;
+        assert_eq!(rt; ended.result, Err(RunError::Read), "after {reads} reads");
+        let expected = first_lines(ANSWERS, whole_lines(given));
+        assert_eq!(rt; ended.text.as_slice(), expected, "after {reads} reads");
+        assert_eq!(rt; ended.flushes, Some(0), "after {reads} reads");
+    }
+}
+
+#[test]
+fn failing_writes(rt: HostRuntime) {
+    for writes in 0..ANSWERS.len() {
+        for failure in [Failure::Error, Failure::TakesNone] {
+            let ended = after(rt.alloc(), 0, writes as u64, failure, false);
+            assert_eq!(rt; ended.result, Err(RunError::Write), "after {writes} writes");
+            let expected = ANSWERS.split_at(writes).0;
+            assert_eq!(rt; ended.text.as_slice(), expected, "after {writes} writes");
+            assert_eq!(rt; ended.flushes, Some(0), "after {writes} writes");
+        }
+    }
+    let ended = after(rt.alloc(), 0, 0, Failure::Flush, false);
+    assert_eq!(rt; ended.result, Err(RunError::Write));
+    assert_eq!(rt; ended.text.as_slice(), ANSWERS);
+}
+
+// Whether a text stands at the front of a room, and nothing behind it.
+fn holds(room: &[u8], text: &[u8]) -> bool {
+    let (front, rest) = room.split_at(text.len().min(room.len()));
+    front == text && rest.iter().all(|byte| *byte == 0)
+}
+
+// With ample memory all is answered. Where one growth is refused, just the lines before the one that is named are, and the
+// last two lines not at all.
+#[test]
+fn refused_growths(rt: HostRuntime) {
+    let mut room = [0u8; 256];
+    let mut source = OverReader::new(SCHEDULE);
+    let mut sink = OverWriter::new(room.as_mut_slice());
+    let result = play(rt.alloc(), &mut source, &mut sink);
+    drop(sink);
+    if let Err(RunError::Memory { line }) = result {
+        assert!(rt; line <= 18, "at line {line}");
+        let before = usize::try_from(line.saturating_sub(1)).unwrap_or(0);
+        let answers = first_lines(ANSWERS, before);
+        assert!(rt; holds(room.as_slice(), answers), "at line {line}");
+    } else {
+        assert_eq!(rt; result, Ok(()));
+        assert!(rt; holds(room.as_slice(), ANSWERS));
+    }
+}
