@@ -57,20 +57,28 @@ abbrev pub IsRisingUniq : List CellNumber → Type 0
 IsRisingUniq [] = ⊤
 IsRisingUniq (c ∷ cells) = AllUniqFrom (uniq_of c + 1) cells × IsRisingUniq cells
 
-pub contains-span : (order index q : ℕ) → set.contains (span order index) q ≡ (nat_lt q pixel_count && nat_eq (q / cell_size order) index)
+pub contains-span : (order index q : ℕ)
+    → set.contains (span order index) q ≡ (nat_lt q pixel_count && nat_eq (q / cell_size order) index)
 unfolding span
 contains-span order index q =
-    set.contains-retain pixels (λ p. nat_eq (p / cell_size order) index) q (λ x tie. ap (λ p. nat_eq (p / cell_size order) index) (sym (set.nat_cmp-IsAntisymmetric q x tie)))
+    set.contains-retain pixels (λ p. nat_eq (p / cell_size order) index) q (λ x tie.
+    ap (λ p. nat_eq (p / cell_size order) index) (sym (set.nat_cmp-IsAntisymmetric q x tie)))
     ∙ ap (λ b. b && nat_eq (q / cell_size order) index) (contains-pixels q)
 
-pub contains-degrade : (a : NumberSet) (order q : ℕ) → set.contains (degrade a order) q ≡ (nat_lt q pixel_count && meets a (span order (q / cell_size order)))
+pub contains-degrade : (a : NumberSet) (order q : ℕ)
+    → set.contains (degrade a order) q ≡ (nat_lt q pixel_count && meets a (span order (q / cell_size order)))
 unfolding degrade
 contains-degrade a order q =
-    set.contains-retain pixels (λ p. meets a (span order (p / cell_size order))) q (λ x tie. ap (λ p. meets a (span order (p / cell_size order))) (sym (set.nat_cmp-IsAntisymmetric q x tie)))
+    set.contains-retain pixels (λ p. meets a (span order (p / cell_size order))) q (λ x tie.
+    ap (λ p. meets a (span order (p / cell_size order))) (sym (set.nat_cmp-IsAntisymmetric q x tie)))
     ∙ ap (λ b. b && meets a (span order (q / cell_size order))) (contains-pixels q)
 
-pub contains-spans : (order first last q : ℕ) → set.contains (spans order first last) q ≡ (nat_lt q pixel_count && (nat_le first (q / cell_size order) && nat_le (q / cell_size order) last))
+pub contains-spans : (order first last q : ℕ)
+    → set.contains (spans order first last) q
+    ≡ (nat_lt q pixel_count && (nat_le first (q / cell_size order) && nat_le (q / cell_size order) last))
 unfolding spans
 contains-spans order first last q =
-    set.contains-retain pixels (λ p. nat_le first (p / cell_size order) && nat_le (p / cell_size order) last) q (λ x tie. ap (λ p. nat_le first (p / cell_size order) && nat_le (p / cell_size order) last) (sym (set.nat_cmp-IsAntisymmetric q x tie)))
+    set.contains-retain pixels (λ p. nat_le first (p / cell_size order) && nat_le (p / cell_size order) last) q
+    (λ x tie. ap (λ p. nat_le first (p / cell_size order) && nat_le (p / cell_size order) last)
+    (sym (set.nat_cmp-IsAntisymmetric q x tie)))
     ∙ ap (λ b. b && (nat_le first (q / cell_size order) && nat_le (q / cell_size order) last)) (contains-pixels q)

@@ -136,7 +136,8 @@ impl Coverage {
     pub(crate) fn append(&mut self, from: u64, to: u64) -> Result<bool, AllocError>
         requires rising { from < to }
         requires within { to ≤ pixel_count }
-        ensures added { IfOk result (λ added. self.new ≡ (if added then set.union self.old (numbers from to) else self.old)) }
+        ensures added { IfOk result (λ added.
+            self.new ≡ (if added then set.union self.old (numbers from to) else self.old)) }
         ensures kept { OnErr result (self.new ≡ self.old) }
     {
         append(&mut self.bounds, from, to)

@@ -12,8 +12,9 @@ use Rattle.moc_steps.specs.Locks.{Running, holds, holds_now, refusal, is_any, en
 use Rattle.moc_steps.specs.World as machine
 use Rattle.moc_steps.specs.World.{world_after, running, answered, completed, replied, reply_to, ended_reply, found_by}
 use Rattle.moc_steps.specs.Explains.{names, times, is_committed}
-use Rattle.moc_steps.specs.Standing.{Standing}
-use Rattle.moc_steps.specs.Played.{World, HasPlace, IsKept, entry_of, entries_of, world_of}
+use Rattle.moc_steps.specs.Private.Standing.{Standing}
+use Rattle.moc_steps.specs.Played.{World, entry_of, entries_of}
+use Rattle.moc_steps.specs.Private.Worlds.{HasPlace, IsKept, world_of}
 use Rattle.moc_steps.specs.declared.step.Entry.{Entry}
 use Rattle.moc_steps.proofs.Basics.{clash, some_same, none_or_some, true_or_false, not_true_false, not_of_false, is_some_of, and_true, both, same_or, count-append, get-remove_same, get-remove_other}
 use Rattle.moc_steps.proofs.Taking.{in_twelve, taken_footprint, took_one}

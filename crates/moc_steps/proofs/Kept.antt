@@ -14,8 +14,9 @@ use Rattle.moc_steps.specs.World as machine
 use Rattle.moc_steps.specs.World.{world_after, running}
 use Rattle.moc_steps.specs.Explains.{names}
 use Rattle.moc_steps.specs.Laws.{IsReached}
-use Rattle.moc_steps.specs.Standing.{Standing}
-use Rattle.moc_steps.specs.Played.{World, HasPlace, IsKept, entries_of, values_by, world_of}
+use Rattle.moc_steps.specs.Private.Standing.{Standing}
+use Rattle.moc_steps.specs.Played.{World, entries_of}
+use Rattle.moc_steps.specs.Private.Worlds.{HasPlace, IsKept, values_by, world_of}
 use Rattle.moc_steps.specs.declared.step.Entry.{Entry}
 use Rattle.moc_steps.proofs.Basics.{clash, some_same, none_or_some, true_or_false, not_true_false, same_or, get-insert_same, get-insert_other, get_set_same, get_set_other, get-remove_same, get-remove_other}
 use Rattle.moc_steps.proofs.Headline.{locks_are}

@@ -6,11 +6,12 @@ use Rattle.moc_parts.specs.Batches.{batches}
 use Rattle.moc_steps.specs.Locks as locks
 use Rattle.moc_steps.specs.Locks.{refusal, edit_refusal}
 use Rattle.moc_steps.specs.World.{world_after}
-use Rattle.moc_steps.specs.Standing.{Standing}
-use Rattle.moc_steps.specs.Changes.{changed, IsChangeOf}
+use Rattle.moc_steps.specs.Private.Standing.{Standing}
+use Rattle.moc_steps.specs.Private.Changes.{changed, IsChangeOf}
 use Rattle.moc_steps.specs.declared.table.Change.TheVariants.{Commit, Edit}
 use Rattle.moc_steps.specs.declared.step.Entry.{Entry}
-use Rattle.moc_steps.specs.Played.{World, world_of}
+use Rattle.moc_steps.specs.Played.{World}
+use Rattle.moc_steps.specs.Private.Worlds.{world_of}
 use Rattle.moc_steps.proofs.Basics.{is_some_of}
 use Rattle.moc_steps.proofs.AnyObject.{reached_explained}
 use Rattle.moc_steps.proofs.KeptSteps.{Goes, first_edit_goes, edit_footprint, committed_at, table_twice, kept_list, kept_some, changed_there, is_midway}

@@ -9,10 +9,11 @@ use Rattle.moc_steps.specs.Locks as locks
 use Rattle.moc_steps.specs.Locks.{refusal, edit_refusal, is_any}
 use Rattle.moc_steps.specs.World as machine
 use Rattle.moc_steps.specs.World.{world_after}
-use Rattle.moc_steps.specs.Standing.{Standing}
-use Rattle.moc_steps.specs.Changes.{changed, IsChangeOf}
+use Rattle.moc_steps.specs.Private.Standing.{Standing}
+use Rattle.moc_steps.specs.Private.Changes.{changed, IsChangeOf}
 use Rattle.moc_steps.specs.declared.table.Change.TheVariants.{Edit}
-use Rattle.moc_steps.specs.Played.{World, entries_of, world_of}
+use Rattle.moc_steps.specs.Played.{World, entries_of}
+use Rattle.moc_steps.specs.Private.Worlds.{world_of}
 use Rattle.moc_steps.proofs.Basics.{some_same}
 use Rattle.moc_steps.proofs.Invariant.{Explained}
 use Rattle.moc_steps.proofs.AnyObject.{reached_explained}

@@ -3,7 +3,7 @@ use Rattle.std.specs.Option.{option_copied, is_some}
 use Rattle.std.specs.FinMap as map
 use Rattle.moc_parts.specs.Batches.{batches}
 use Rattle.moc_steps.specs.World.{running}
-use Rattle.moc_steps.specs.Standing.{Standing}
+use Rattle.moc_steps.specs.Private.Standing.{Standing}
 use Rattle.moc_steps.specs.Played.{World}
 use Rattle.moc_steps.proofs.Basics.{clash}
 use Rattle.moc_steps.proofs.Taking.{holder_holds}

@@ -43,7 +43,8 @@ abbrev pub IsMade : Standing → Making → Type 0
 IsMade s m = IsMadeOf s.running.command s.found m
 
 -- what a midway client keeps beside its flags
-pub record KeepsNotes (cs : List Command) (edited : set.FinSet nat_cmp) (parts : List ℕ) (found : List (Option NumberSet)) (made : Option Making) : Type 0 where
+pub record KeepsNotes (cs : List Command) (edited : set.FinSet nat_cmp) (parts : List ℕ)
+    (found : List (Option NumberSet)) (made : Option Making) : Type 0 where
   pub rising : parts ≡ parts_of batches cs
   pub own : LieInParts (notes found)
   pub ready : IfSome made (λ m. IsMadeFrom cs (notes found) m)
