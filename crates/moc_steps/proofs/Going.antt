@@ -30,7 +30,6 @@ unfolding IsStrictlySortedBy
 len_none [] h = len-entries_of [] tt
 len_none (e ∷ es) h = let clash : false ≡ true = h (omega arith) in absurd (cc (clash))
 
-
 none_of : (test : ℕ → Bool) (bs : List ℕ) → ((b : ℕ) → is_in b bs ≡ true → test b ≡ false) → list_any test bs ≡ false
 none_of test [] h = refl
 none_of test (x ∷ bs) h = ap (λ t. t || list_any test bs) (h x (or_left (nat_eq x x) (is_in x bs) (eq-eqb x x refl))) ∙ none_of test bs (λ b i. h b (or_right (nat_eq x b) (is_in b bs) i))
