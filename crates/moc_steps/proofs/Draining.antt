@@ -1,5 +1,5 @@
 -- The way to the end of a world, step by step.
-use Rattle.std.proofs.Common.{◌≡◌, ℕ, zero, suc, ◌+◌, ◌-◌, ◌*◌, ◌^◌, ◌<◌, ◌≤◌, Bool, true, false, cond, ◌&&◌, T, List, [], ◌∷◌, ◌++◌, map as map_list, length, Option, None, Some, is_some, nat_eq, nat_lt, inl, inr, ne_eqb, sum_by, count_by, zero-add, refl, sym, ap, subst, ◌∙◌, arith, eq-eqb}
+use Rattle.std.proofs.Common.{◌≡◌, ℕ, suc, ◌+◌, ◌*◌, ◌^◌, ◌<◌, ◌≤◌, Bool, true, false, cond, ◌&&◌, T, List, [], ◌∷◌, ◌++◌, length, Option, None, Some, nat_eq, nat_lt, inl, inr, ne_eqb, sum_by, count_by, refl, sym, ap, subst, ◌∙◌, arith, eq-eqb}
 use Rattle.std.proofs.lemmas.List.Sums.{sum_by-cons}
 use Rattle.std.specs.Ordering.{nat_cmp, is_lt}
 use Rattle.std.specs.FinMap as map
@@ -11,7 +11,7 @@ use Rattle.moc_steps.specs.Locks as locks
 use Rattle.moc_steps.specs.Locks.{Running, Clients, ArePermitted, refusal, twelve}
 use Rattle.moc_steps.specs.World as machine
 use Rattle.moc_steps.specs.World.{world_after}
-use Rattle.moc_steps.specs.Laws.{IsReached, ArePlayed, EndsWell, led_to}
+use Rattle.moc_steps.specs.Laws.{IsReached}
 use Rattle.moc_steps.specs.Operations.{operations}
 use Rattle.moc_steps.specs.Progress.{AreProgress, is_progress, steps_of, steps_left}
 use Rattle.moc_steps.specs.Played.{World, LeadsOn}

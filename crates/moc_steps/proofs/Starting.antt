@@ -1,5 +1,5 @@
 -- The world that a set starts, and the set that a world makes.
-use Rattle.std.proofs.Common.{◌≡◌, ℕ, zero, suc, ◌+◌, ◌<◌, Bool, true, false, ◌||◌, List, [], ◌∷◌, ◌++◌, Option, None, Some, get_or, slice_get, take, length, option_map, refl, sym, ap, subst, ◌∙◌, arith}
+use Rattle.std.proofs.Common.{◌≡◌, ℕ, zero, suc, ◌+◌, ◌||◌, List, [], ◌∷◌, ◌++◌, Option, None, Some, slice_get, take, length, option_map, refl, sym, ap, subst, ◌∙◌, arith}
 use Rattle.std.specs.Ordering.{nat_cmp}
 use Rattle.std.specs.FinSet as set
 use Rattle.std.specs.FinMap as map
@@ -11,7 +11,7 @@ use Rattle.moc_parts.specs.Parts.{parts_below, union_of}
 use Rattle.moc_steps.specs.Laws.{IsReached}
 use Rattle.moc_steps.specs.World.{start_world}
 use Rattle.moc_steps.specs.Private.Standing.{Standing}
-use Rattle.moc_steps.specs.Played.{World, entries_of}
+use Rattle.moc_steps.specs.Played.{entries_of}
 use Rattle.moc_steps.specs.Private.Worlds.{IsKept, world_of}
 use Rattle.moc_steps.specs.declared.step.Entry.{Entry}
 use Rattle.moc_steps.proofs.Basics.{same_set, some_same, has-union, has-empty, or_false, or_again}

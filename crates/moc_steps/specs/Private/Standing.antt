@@ -1,17 +1,14 @@
 -- How far a midway client has come.
-use Rattle.std.specs.Prelude.{◌≡◌, ℕ, suc, ◌<◌, Bool, true, false, List, Option, None, Some, IfSome, IsSome, get_or, map as map_list}
-use Rattle.std.specs.List.{filter}
+use Rattle.std.specs.Prelude.{◌≡◌, ℕ, ◌<◌, true, List, Option, None, IfSome, IsSome, get_or, map as map_list}
 use Rattle.std.specs.Ordering.{nat_cmp}
 use Rattle.std.specs.FinSet as set
-use Rattle.std.specs.FinMap as map
 use Rattle.moc_ranges.specs.Numbers.{NumberSet}
-use Rattle.moc_ranges.specs.Operations.{part_of}
 use Rattle.moc_parts.specs.Batches.{batches, footprint_of_all, set_after_all, replies_on}
 use Rattle.moc_parts.specs.Parts.{union_of, LieInParts}
 use Rattle.moc_parts.specs.Prepared.{found_in, kept}
 use Rattle.moc_parts.specs.declared.command.Command.{Command}
 use Rattle.moc_parts.specs.declared.reply.Reply.{Reply}
-use Rattle.moc_steps.specs.Locks.{Running, parts_of, twelve, is_any}
+use Rattle.moc_steps.specs.Locks.{Running, parts_of, is_any}
 
 -- a midway client, what it found in the parts that it took, and the place of its entry once it is committed
 pub record Standing : Type 0 where

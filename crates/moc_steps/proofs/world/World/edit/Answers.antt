@@ -1,4 +1,4 @@
-use Rattle.std.proofs.Common.{◌≡◌, ◌<◌, ℕ, rules, false, true, None, Some, List, ◌++◌, ◌∷◌, [], IfSome, is_some, length, slice_set, set as set_at, refl, sym, ap, subst, ◌∙◌}
+use Rattle.std.proofs.Common.{◌≡◌, ◌<◌, ℕ, rules, None, Some, ◌++◌, ◌∷◌, [], IfSome, is_some, length, slice_set, set as set_at, refl, sym, ap, subst, ◌∙◌}
 use Rattle.std.specs.Option.{option_copied}
 use Rattle.std.specs.FinMap as map
 use Rattle.moc_ranges.specs.Numbers.{NumberSet}
@@ -7,7 +7,7 @@ use Rattle.moc_steps.specs.Locks as locks
 use Rattle.moc_steps.specs.Locks.{refusal, edit_refusal}
 use Rattle.moc_steps.specs.World.{world_after}
 use Rattle.moc_steps.specs.Private.Standing.{Standing}
-use Rattle.moc_steps.specs.Private.Changes.{changed, IsChangeOf}
+use Rattle.moc_steps.specs.Private.Changes.{IsChangeOf}
 use Rattle.moc_steps.specs.declared.table.Change.TheVariants.{Commit, Edit}
 use Rattle.moc_steps.specs.declared.step.Entry.{Entry}
 use Rattle.moc_steps.specs.Played.{World}

@@ -1,5 +1,4 @@
-use Rattle.std.proofs.Common.{rules, ◌≡◌, ◌<◌, ℕ, None, Some, length, is_some, slice_set, refl, sym, ap, subst, ◌∙◌}
-use Rattle.std.specs.FinMap as map
+use Rattle.std.proofs.Common.{rules, ◌<◌, length, is_some, slice_set, sym, ap, subst, ◌∙◌}
 use Rattle.moc_parts.specs.Batches.{batches, replies_on}
 use Rattle.moc_steps.specs.Locks as locks
 use Rattle.moc_steps.specs.Locks.{refusal, end_refusal}
