@@ -5,7 +5,7 @@ use Rattle.std.proofs.lemmas.List.{ext_get_or, get_or_append_left}
 use Rattle.std.proofs.lemmas.Bool.Decides.{nat_tests}
 use Rattle.std.specs.Ordering.{nat_cmp}
 use Rattle.std.specs.FinSet as set
-use Rattle.moc_ranges.specs.Numbers.{NumberSet, same_members}
+use Rattle.moc_ranges.specs.Numbers.{NumberSet, same_members, contains-kept}
 use Rattle.moc_ranges.specs.Laws.{in_base_pixels, is_pixel}
 use Rattle.moc_ranges.specs.Pixels.{pixels, pixel_count, base_pixel_size}
 use Rattle.moc_ranges.specs.Operations.{part_of, contains-part_of, contains-pixels, IsWithin}
@@ -43,7 +43,7 @@ get-parts_below a (suc n) b d l = elim (cases_lt b n) [
 
 pub has-first_parts : (a : NumberSet) (n q : ℕ) → set.contains (first_parts a n) q ≡ (set.contains a q && nat_lt (q / base_pixel_size) n)
 unfolding first_parts
-has-first_parts a n q = set.contains-retain a (λ p. nat_lt (p / base_pixel_size) n) q (λ x tie. ap (λ p. nat_lt (p / base_pixel_size) n) (sym (set.nat_cmp-IsAntisymmetric q x tie)))
+has-first_parts a n q = contains-kept a (λ p. nat_lt (p / base_pixel_size) n) q
 
 pub or_nothing : (x : Bool) → (x || false) ≡ x
 or_nothing true = refl

@@ -166,7 +166,6 @@ impl Coverage {
     /// of the others, O(n + m); refused where memory runs out.
     pub fn union(&self, alloc: Global, other: &Coverage) -> Result<Coverage, Memory>
         ensures set { IfOk result (λ c. c ≡ set.union self.now other.now) }
-        ensures within { IsWithin self.now pixels }
     {
         kept_by_rule(alloc, Rule::UNION, &self.bounds, &other.bounds)
     }
@@ -175,7 +174,6 @@ impl Coverage {
     /// of the other, found in O(log n + log m); refused where memory runs out.
     pub fn intersection(&self, alloc: Global, other: &Coverage) -> Result<Coverage, Memory>
         ensures set { IfOk result (λ c. c ≡ set.intersection self.now other.now) }
-        ensures within { IsWithin self.now pixels }
     {
         let mine = reaching(&self.bounds, &other.bounds);
         let theirs = reaching(&other.bounds, mine);
@@ -187,7 +185,6 @@ impl Coverage {
     /// memory runs out.
     pub fn difference(&self, alloc: Global, other: &Coverage) -> Result<Coverage, Memory>
         ensures set { IfOk result (λ c. c ≡ set.difference self.now other.now) }
-        ensures within { IsWithin self.now pixels }
     {
         let theirs = reaching(&other.bounds, &self.bounds);
         kept_by_rule(alloc, Rule::DIFFERENCE, &self.bounds, theirs)
@@ -197,7 +194,6 @@ impl Coverage {
     /// overlap, and a copy of the others, O(n + m); refused where memory runs out.
     pub fn symmetric(&self, alloc: Global, other: &Coverage) -> Result<Coverage, Memory>
         ensures set { IfOk result (λ c. c ≡ symmetric self.now other.now) }
-        ensures within { IsWithin self.now pixels }
     {
         kept_by_rule(alloc, Rule::SYMMETRIC, &self.bounds, &other.bounds)
     }
@@ -301,7 +297,6 @@ impl Coverage {
     /// reach into the extent of the other, found in O(log n + log m), takes no memory.
     pub fn count_common(&self, other: &Coverage) -> u64
         ensures size { result ≡ set.len (set.intersection self.now other.now) }
-        ensures within { IsWithin self.now pixels }
     {
         let mine = reaching(&self.bounds, &other.bounds);
         let theirs = reaching(&other.bounds, mine);
@@ -312,7 +307,6 @@ impl Coverage {
     /// that reach into the extent of the other, found in O(log n + log m), takes no memory.
     pub fn meets(&self, other: &Coverage) -> bool
         ensures some { result ≡ meets self.now other.now }
-        ensures within { IsWithin self.now pixels }
     {
         let mine = reaching(&self.bounds, &other.bounds);
         let theirs = reaching(&other.bounds, mine);
@@ -324,7 +318,6 @@ impl Coverage {
     /// memory.
     pub fn covers(&self, other: &Coverage) -> bool
         ensures all { result ≡ set.is_subset other.now self.now }
-        ensures within { IsWithin self.now pixels }
     {
         let mine = reaching(&self.bounds, &other.bounds);
         !keeps_some(Rule::DIFFERENCE, &other.bounds, mine)

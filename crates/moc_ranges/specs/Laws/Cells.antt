@@ -67,6 +67,7 @@ in_cell_range i w q pos is =
     let high : q < (i + 1) * w = omega arith in
     and_from _ _ (le-leb (i * w) q low) (lt-ltb q ((i + 1) * w) high)
 
+-- and only those
 pub of_cell_range : (i w q : ℕ) → 0 < w → in_range (i * w, (i + 1) * w) q ≡ true → q / w ≡ i
 of_cell_range i w q pos has =
     let parts = and_parts _ _ has in
@@ -82,11 +83,13 @@ four_parts k small =
     let deeper : 29 - k ≡ suc (29 - suc k) = omega arith in
     ap (λ n. 4 ^ n) deeper ∙ pow-succ' 4 (29 - suc k) ∙ omega arith
 
+-- the cell of a pixel has the parent that is its cell of the order before
 pub parent_of_pixel : (k q : ℕ) → k < 29 → q / cell_size (suc k) / 4 ≡ q / cell_size k
 parent_of_pixel k q small = div-div-eq-div-mul q (cell_size (suc k)) 4 ∙ ap (λ w. q / w) (sym (four_parts k small))
 
 -- ---- what the cells of a set have is in the set
 
+-- the numbers of a cell are the pixels of its span
 pub in_span : (k i q : ℕ) → k ≤ 29 → i < cell_count k → in_range (cell_range (cell_number k i)) q ≡ true
     → set.contains (span k i) q ≡ true
 in_span k i q small fits has =
