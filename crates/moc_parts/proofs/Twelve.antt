@@ -1,5 +1,5 @@
 -- The twelve parts of a set as a list, and what holds of the first n.
-use Rattle.std.proofs.Common.{◌≡◌, ℕ, zero, suc, ◌+◌, ◌*◌, ◌/◌, ◌<◌, Bool, true, false, ◌&&◌, ◌||◌, List, [], ◌∷◌, ◌++◌, length, get_or, nat_lt, nat_eq, inl, inr, refl, sym, ap, subst, ◌∙◌, arith, lt-ltb, length-append, get_or-append-add, div-lt_iff_lt-mul}
+use Rattle.std.proofs.Common.{◌≡◌, ℕ, zero, suc, ◌+◌, ◌/◌, ◌<◌, Bool, true, false, ◌&&◌, ◌||◌, List, [], ◌∷◌, ◌++◌, length, get_or, nat_lt, nat_eq, inl, inr, refl, sym, ap, subst, ◌∙◌, arith, lt-ltb, length-append, get_or-append-add}
 use Rattle.std.proofs.lemmas.Bool.{cases_lt}
 use Rattle.std.proofs.lemmas.List.{ext_get_or, get_or_append_left}
 use Rattle.std.proofs.lemmas.Bool.Decides.{nat_tests}
@@ -7,7 +7,7 @@ use Rattle.std.specs.Ordering.{nat_cmp}
 use Rattle.std.specs.FinSet as set
 use Rattle.moc_ranges.specs.Numbers.{NumberSet, same_members, contains-kept}
 use Rattle.moc_ranges.specs.Laws.{in_base_pixels, is_pixel}
-use Rattle.moc_ranges.specs.Pixels.{pixels, pixel_count, base_pixel_size}
+use Rattle.moc_ranges.specs.Pixels.{pixels, base_pixel_size}
 use Rattle.moc_ranges.specs.Operations.{part_of, contains-part_of, contains-pixels, IsWithin}
 use Rattle.moc_parts.specs.Objects.{base_pixel}
 use Rattle.moc_parts.specs.Parts.{union_of, parts_below, AreParts, LieInParts}
