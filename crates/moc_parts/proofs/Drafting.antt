@@ -7,7 +7,8 @@ use Rattle.std.specs.FinSet as set
 use Rattle.std.proofs.lemmas.Bool.Decides.{nat_tests}
 use Rattle.std.proofs.lemmas.Bool.{cases_eq, cases_lt, lt-ltb}
 use Rattle.std.proofs.lemmas.List.{ext_get_or, get_or_default, get_or_append_left, get_or-map, length-map, length-set, get_or-set_same, get_or-set_other}
-use Rattle.moc_ranges.specs.Numbers.{NumberSet, same_members}
+use Rattle.moc_ranges.specs.Numbers.{NumberSet, same_members, contains-kept}
+use Rattle.moc_ranges.specs.Laws.{is_pixel}
 use Rattle.moc_ranges.specs.Pixels.{pixels, base_pixel_size}
 use Rattle.moc_ranges.specs.Operations.{part_of, contains-part_of, contains-pixels, IsWithin}
 use Rattle.moc_parts.specs.declared.change.Change.{Change}
@@ -16,7 +17,7 @@ use Rattle.moc_parts.specs.Parts.{union_of, parts_below, AreParts}
 use Rattle.moc_parts.specs.Drafts.{current_lists, sets_of, with_part}
 use Rattle.moc_parts.proofs.Members.{has-union, has-difference, and_true, or_true}
 use Rattle.moc_parts.proofs.PartLaw.{part_law}
-use Rattle.moc_parts.proofs.Twelve.{first_parts, has-first_parts, length-parts_below, get-parts_below, parts_length, get-parts, within_base, below_base}
+use Rattle.moc_parts.proofs.Twelve.{first_parts, has-first_parts, length-parts_below, get-parts_below, parts_length, get-parts, within_base}
 
 -- ---- lists
 
@@ -75,7 +76,7 @@ one_more xs x d n is many each last k l = elim (cases_lt k n) [
 has-with_part : (a : NumberSet) (b : ℕ) (part : NumberSet) (q : ℕ) → set.contains (with_part a b part) q ≡ ((set.contains a q && not (nat_eq (q / base_pixel_size) b)) || set.contains part q)
 unfolding with_part
 has-with_part a b part q = has-union (set.retain a (λ p. not (nat_eq (p / base_pixel_size) b))) part q
-    ∙ ap (λ t. t || set.contains part q) (set.contains-retain a (λ p. not (nat_eq (p / base_pixel_size) b)) q (λ x tie. ap (λ p. not (nat_eq (p / base_pixel_size) b)) (sym (set.nat_cmp-IsAntisymmetric q x tie))))
+    ∙ ap (λ t. t || set.contains part q) (contains-kept a (λ p. not (nat_eq (p / base_pixel_size) b)) q)
 
 -- the pixels of a set that lies in part b are there
 has-lying : (part : NumberSet) (b q : ℕ) → part_of part b ≡ part → set.contains part q ≡ (set.contains part q && nat_eq (q / base_pixel_size) b)
@@ -157,7 +158,7 @@ pub with_part_within : (a : NumberSet) (b : ℕ) (part : NumberSet) → b < 12 �
 with_part_within a b part l w lies = record {
   each = λ q h. elim (or_true (set.contains a q && not (nat_eq (q / base_pixel_size) b)) (set.contains part q) (sym (has-with_part a b part q) ∙ h)) [
     | inl old ↦ w.each q (and_true (set.contains a q) (not (nat_eq (q / base_pixel_size) b)) old).0
-    | inr new ↦ contains-pixels q ∙ below_base q (lying_within b q l (and_true (set.contains part q) (nat_eq (q / base_pixel_size) b) (sym (has-lying part b q lies) ∙ new)).1)
+    | inr new ↦ contains-pixels q ∙ is_pixel q (lying_within b q l (and_true (set.contains part q) (nat_eq (q / base_pixel_size) b) (sym (has-lying part b q lies) ∙ new)).1)
   ];
 }
 

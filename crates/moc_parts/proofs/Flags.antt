@@ -8,7 +8,7 @@ use Rattle.std.specs.FinSet as set
 use Rattle.std.proofs.lemmas.Bool.{cases_eq, cases_lt, lt-ltb}
 use Rattle.std.proofs.lemmas.Bool.Decides.{nat_tests}
 use Rattle.std.proofs.lemmas.List.{get_or-replicate, get_or-set_same, get_or-set_other}
-use Rattle.moc_ranges.specs.Numbers.{same_members}
+use Rattle.moc_ranges.specs.Numbers.{same_members, contains-kept}
 use Rattle.moc_parts.specs.PartSets.{flagged, flags_of, contains-flagged, contains-flagged_below, flags_of-flagged}
 
 -- one flag set is one part put in
@@ -66,7 +66,7 @@ flagged_until flags n = set.retain (flagged flags) (λ b. nat_lt b n)
 contains-until : (flags : List Bool) (n q : ℕ) → set.contains (flagged_until flags n) q ≡ ((nat_lt q 12 && get_or flags q false) && nat_lt q n)
 unfolding flagged_until
 contains-until flags n q =
-    set.contains-retain (flagged flags) (λ b. nat_lt b n) q (λ x tie. ap (λ b. nat_lt b n) (sym (set.nat_cmp-IsAntisymmetric q x tie)))
+    contains-kept (flagged flags) (λ b. nat_lt b n) q
     ∙ ap (λ t. t && nat_lt q n) (contains-flagged flags q)
 
 contains-either : (a b : set.FinSet nat_cmp) (q : ℕ) → set.contains (set.union a b) q ≡ (set.contains a q || set.contains b q)

@@ -1,12 +1,13 @@
 -- The twelve parts of a set as a list, and what holds of the first n.
-use Rattle.std.proofs.Common.{◌≡◌, ℕ, zero, suc, ◌+◌, ◌*◌, ◌/◌, ◌<◌, Bool, true, false, ◌&&◌, ◌||◌, List, [], ◌∷◌, ◌++◌, length, get_or, nat_lt, nat_eq, inl, inr, refl, sym, ap, subst, ◌∙◌, arith, lt-ltb, length-append, get_or-append-add, div-lt_iff_lt-mul}
+use Rattle.std.proofs.Common.{◌≡◌, ℕ, zero, suc, ◌+◌, ◌/◌, ◌<◌, Bool, true, false, ◌&&◌, ◌||◌, List, [], ◌∷◌, ◌++◌, length, get_or, nat_lt, nat_eq, inl, inr, refl, sym, ap, subst, ◌∙◌, arith, lt-ltb, length-append, get_or-append-add}
 use Rattle.std.proofs.lemmas.Bool.{cases_lt}
 use Rattle.std.proofs.lemmas.List.{ext_get_or, get_or_append_left}
 use Rattle.std.proofs.lemmas.Bool.Decides.{nat_tests}
 use Rattle.std.specs.Ordering.{nat_cmp}
 use Rattle.std.specs.FinSet as set
-use Rattle.moc_ranges.specs.Numbers.{NumberSet, same_members}
-use Rattle.moc_ranges.specs.Pixels.{pixels, pixel_count, base_pixel_size}
+use Rattle.moc_ranges.specs.Numbers.{NumberSet, same_members, contains-kept}
+use Rattle.moc_ranges.specs.Laws.{in_base_pixels, is_pixel}
+use Rattle.moc_ranges.specs.Pixels.{pixels, base_pixel_size}
 use Rattle.moc_ranges.specs.Operations.{part_of, contains-part_of, contains-pixels, IsWithin}
 use Rattle.moc_parts.specs.Objects.{base_pixel}
 use Rattle.moc_parts.specs.Parts.{union_of, parts_below, AreParts, LieInParts}
@@ -42,7 +43,7 @@ get-parts_below a (suc n) b d l = elim (cases_lt b n) [
 
 pub has-first_parts : (a : NumberSet) (n q : ℕ) → set.contains (first_parts a n) q ≡ (set.contains a q && nat_lt (q / base_pixel_size) n)
 unfolding first_parts
-has-first_parts a n q = set.contains-retain a (λ p. nat_lt (p / base_pixel_size) n) q (λ x tie. ap (λ p. nat_lt (p / base_pixel_size) n) (sym (set.nat_cmp-IsAntisymmetric q x tie)))
+has-first_parts a n q = contains-kept a (λ p. nat_lt (p / base_pixel_size) n) q
 
 pub or_nothing : (x : Bool) → (x || false) ≡ x
 or_nothing true = refl
@@ -87,17 +88,8 @@ union_of-parts_below a (suc n) =
     ∙ ap (λ s. set.contains s q) (first_parts-next a n)
     ∙ ap (λ m. set.contains (first_parts a m) q) (sym e))
 
-twelve_parts : pixel_count ≡ 12 * base_pixel_size
-twelve_parts = refl
-
-pub base_below : (p : ℕ) → nat_lt p pixel_count ≡ true → p / base_pixel_size < 12
-base_below p h = (div-lt_iff_lt-mul {k = base_pixel_size} {x = p} {y = 12} (omega arith)).1 (grind (arith, nat_tests))
-
-pub below_base : (p : ℕ) → p / base_pixel_size < 12 → nat_lt p pixel_count ≡ true
-below_base p h = let k = (div-lt_iff_lt-mul {k = base_pixel_size} {x = p} {y = 12} (omega arith)).0 h in lt-ltb p pixel_count (omega arith)
-
 pub within_base : (a : NumberSet) → IsWithin a pixels → (p : ℕ) → set.contains a p ≡ true → p / base_pixel_size < 12
-within_base a w p h = base_below p (sym (contains-pixels p) ∙ w.each p h)
+within_base a w p h = in_base_pixels p (sym (contains-pixels p) ∙ w.each p h)
 
 -- all twelve parts are the set
 pub first_parts-all : (a : NumberSet) → IsWithin a pixels → first_parts a 12 ≡ a
@@ -118,7 +110,7 @@ parts_within sets e = record {
   each = λ q h.
       let k : set.contains (first_parts (union_of sets) 12) q ≡ true = ap (λ s. set.contains s q) (sym (union_of-parts_below (union_of sets) 12)) ∙ ap (λ xs. set.contains (union_of xs) q) (sym e) ∙ h in
       let m = and_true _ _ (sym (has-first_parts (union_of sets) 12 q) ∙ k) in
-      contains-pixels q ∙ below_base q (ltb_lt (q / base_pixel_size) m.1);
+      contains-pixels q ∙ is_pixel q (ltb_lt (q / base_pixel_size) m.1);
 }
   where
     ltb_lt : (n : ℕ) → nat_lt n 12 ≡ true → n < 12

@@ -70,7 +70,8 @@ abbrev pub reply_on : NumberSet → Command → Reply
 reply_on a (Add x) = reply.Changed (set.len (set.difference (operand_set x) a))
 reply_on a (Remove x) = reply.Changed (set.len (set.intersection a (operand_set x)))
 reply_on a (Keep x) = reply.Changed (set.len (set.difference a (operand_set x)))
-reply_on a (Claim x) = if meets a (operand_set x) then reply.Taken (set.len (set.intersection a (operand_set x))) else reply.Claimed
+reply_on a (Claim x) =
+    if meets a (operand_set x) then reply.Taken (set.len (set.intersection a (operand_set x))) else reply.Claimed
 reply_on a Invert = reply.Changed pixel_count
 reply_on a (Degrade order) = reply.Changed (set.len (set.difference (degrade a order) a))
 reply_on a (Count x) = reply.Total (set.len (set.intersection a (operand_set x)))

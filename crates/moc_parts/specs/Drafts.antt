@@ -25,7 +25,8 @@ pub record Drafted : Type 0 where
 -- a draft is stored as the pair of its fields
 abbrev pub drafted_code : Coded Drafted
 drafted_code =
-    code_by (List NumberSet × NumberSet) (coded× (coded_list (set.code coded_ℕ)) (set.code coded_ℕ)) (λ d. (d.found, d.set)) (λ p. record { found = p.0; set = p.1 }) (λ _. refl)
+    code_by (List NumberSet × NumberSet) (coded× (coded_list (set.code coded_ℕ)) (set.code coded_ℕ))
+    (λ d. (d.found, d.set)) (λ p. record { found = p.0; set = p.1 }) (λ _. refl)
 
 -- a set whose part b is another
 unfoldable pub with_part : NumberSet → ℕ → NumberSet → NumberSet

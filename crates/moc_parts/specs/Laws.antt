@@ -28,16 +28,16 @@ AreMetDegraded = (x : Operand) → IsOperand x → (b : ℕ) → parts_met (oper
 abbrev pub LeaveTheSet : Type 0
 LeaveTheSet = (cs : List Command) → list_any is_update cs ≡ false → (a : NumberSet) → set_after_all a cs ≡ a
 
--- Twelve sets that lie each in its own base pixel are the parts of their union, which lies in the sky; a pixel is in the union
--- where it is in the set of its own base pixel.
+-- Twelve sets that lie each in its own base pixel are the parts of their union, which lies in the sky; a pixel is in
+-- the union where it is in the set of its own base pixel.
 pub record AreUnitedByParts : Type 0 where
   pub parts : (sets : List NumberSet) → LieInParts sets → AreParts sets
   pub within : (sets : List NumberSet) → LieInParts sets → IsWithin (union_of sets) pixels
   pub found : (sets : List NumberSet) → LieInParts sets → (p : ℕ) → base_pixel p < 12
       → set.contains (union_of sets) p ≡ set.contains (get_or sets (base_pixel p) set.empty) p
 
--- There are n parts below n, and each is the part of its number; the twelve parts of a set of pixels lie each in its own base
--- pixel, and together they are the set.
+-- There are n parts below n, and each is the part of its number; the twelve parts of a set of pixels lie each in its
+-- own base pixel, and together they are the set.
 pub record ArePartsOfSets : Type 0 where
   pub many : (a : NumberSet) (n : ℕ) → length (parts_below a n) ≡ n
   pub each : (a : NumberSet) (n b : ℕ) → b < n → get_or (parts_below a n) b set.empty ≡ part_of a b

@@ -9,6 +9,7 @@ use Rattle.moc_ranges.specs.Operations.{IsWithin}
 unfoldable pub base_pixel : ℕ → ℕ
 base_pixel p = p / base_pixel_size
 
+-- what an operation does on one set of pixels, and the parts that it takes
 pub record Object (Op Reply : Type 0) : Type 0 where
   -- the parts that an operation takes
   pub footprint : Op → ℕ → Bool
@@ -19,10 +20,14 @@ pub record Object (Op Reply : Type 0) : Type 0 where
 abbrev pub AgreeOn : (ℕ → Bool) → NumberSet → NumberSet → Type 0
 AgreeOn parts a b = (p : ℕ) → parts (base_pixel p) ≡ true → set.contains a p ≡ set.contains b p
 
--- An operation is local: its footprint, which has a part, is all that it looks at and all that it changes; and sets of pixels stay such sets.
+-- An operation is local: its footprint, which has a part, is all that it looks at and all that it changes; and sets of
+-- pixels stay such sets.
 pub record IsLocal {Op Reply : Type 0} (o : Object Op Reply) (op : Op) : Type 0 where
   pub some : (b : ℕ) × (b < 12) × (o.footprint op b ≡ true)
-  pub reply : (a b : NumberSet) → IsWithin a pixels → IsWithin b pixels → AgreeOn (o.footprint op) a b → (o.answer a op).1 ≡ (o.answer b op).1
-  pub inside : (a b : NumberSet) → IsWithin a pixels → IsWithin b pixels → AgreeOn (o.footprint op) a b → AgreeOn (o.footprint op) (o.answer a op).0 (o.answer b op).0
-  pub outside : (a : NumberSet) → IsWithin a pixels → (p : ℕ) → o.footprint op (base_pixel p) ≡ false → set.contains (o.answer a op).0 p ≡ set.contains a p
+  pub reply : (a b : NumberSet) → IsWithin a pixels → IsWithin b pixels → AgreeOn (o.footprint op) a b
+      → (o.answer a op).1 ≡ (o.answer b op).1
+  pub inside : (a b : NumberSet) → IsWithin a pixels → IsWithin b pixels → AgreeOn (o.footprint op) a b
+      → AgreeOn (o.footprint op) (o.answer a op).0 (o.answer b op).0
+  pub outside : (a : NumberSet) → IsWithin a pixels → (p : ℕ) → o.footprint op (base_pixel p) ≡ false
+      → set.contains (o.answer a op).0 p ≡ set.contains a p
   pub stays : (a : NumberSet) → IsWithin a pixels → IsWithin (o.answer a op).0 pixels

@@ -8,7 +8,7 @@ use Rattle.std.proofs.lemmas.Bool.{lt-ltb}
 use Rattle.std.proofs.lemmas.Bool.Decides.{nat_tests}
 use Rattle.std.proofs.lemmas.List.{ext_get_or}
 use Rattle.std.proofs.lemmas.List.FromFn.{get_or-map-range_with_len, length-map-range_with_len}
-use Rattle.moc_ranges.specs.Numbers.{numbers, contains-numbers}
+use Rattle.moc_ranges.specs.Numbers.{numbers, contains-numbers, contains-kept}
 
 -- the parts whose flags are set
 unfoldable pub flagged : List Bool → set.FinSet nat_cmp
@@ -22,13 +22,16 @@ from_none : (b : ℕ) → (nat_le 0 b && nat_lt b 12) ≡ nat_lt b 12
 from_none b = grind (arith, nat_tests)
 
 -- a number is among the flagged parts where it is below twelve and its flag is set
-pub contains-flagged : (flags : List Bool) (b : ℕ) → set.contains (flagged flags) b ≡ (nat_lt b 12 && get_or flags b false)
+pub contains-flagged : (flags : List Bool) (b : ℕ)
+    → set.contains (flagged flags) b ≡ (nat_lt b 12 && get_or flags b false)
 unfolding flagged
 contains-flagged flags b =
-    set.contains-retain (numbers 0 12) (λ k. get_or flags k false) b (λ x tie. ap (λ k. get_or flags k false) (sym (set.nat_cmp-IsAntisymmetric b x tie)))
+    contains-kept (numbers 0 12) (λ k. get_or flags k false) b
     ∙ ap (λ t. t && get_or flags b false) (contains-numbers 0 12 b ∙ from_none b)
 
-pub contains-flagged_below : (flags : List Bool) (b : ℕ) → b < 12 → set.contains (flagged flags) b ≡ get_or flags b false
+-- below twelve it is among them where its flag is set
+pub contains-flagged_below : (flags : List Bool) (b : ℕ) → b < 12
+    → set.contains (flagged flags) b ≡ get_or flags b false
 contains-flagged_below flags b l = contains-flagged flags b ∙ ap (λ t. t && get_or flags b false) (lt-ltb b 12 l)
 
 length-flags_of : (parts : set.FinSet nat_cmp) → length (flags_of parts) ≡ 12

@@ -32,12 +32,15 @@ kept false a b = None
 
 -- the replies are those on every set that agrees in the footprint with what was found
 abbrev pub AreRepliesTo : List Command → NumberSet → List Reply → Type 0
-AreRepliesTo cs found replies = (a : NumberSet) → IsWithin a pixels → AgreeOn (footprint_of_all cs) found a → replies ≡ replies_on a cs
+AreRepliesTo cs found replies =
+    (a : NumberSet) → IsWithin a pixels → AgreeOn (footprint_of_all cs) found a → replies ≡ replies_on a cs
 
--- For every such set: the replies, and the new contents of the footprint's parts and of no other. Outside of the footprint nothing
--- changes, and a set of pixels stays one.
+-- For every such set: the replies, and the new contents of the footprint's parts and of no other. Outside of the
+-- footprint nothing changes, and a set of pixels stays one.
 pub record IsPrepared (cs : List Command) (found : NumberSet) (p : Preparation) : Type 0 where
   pub replied : AreRepliesTo cs found p.replies
-  pub parts : (a : NumberSet) → IsWithin a pixels → AgreeOn (footprint_of_all cs) found a → (b : ℕ) → b < 12 → get_or p.lists b None ≡ kept (footprint_of_all cs b) (set_after_all a cs) b
-  pub outside : (a : NumberSet) → IsWithin a pixels → (q : ℕ) → footprint_of_all cs (base_pixel q) ≡ false → set.contains (set_after_all a cs) q ≡ set.contains a q
+  pub parts : (a : NumberSet) → IsWithin a pixels → AgreeOn (footprint_of_all cs) found a → (b : ℕ) → b < 12
+      → get_or p.lists b None ≡ kept (footprint_of_all cs b) (set_after_all a cs) b
+  pub outside : (a : NumberSet) → IsWithin a pixels → (q : ℕ) → footprint_of_all cs (base_pixel q) ≡ false
+      → set.contains (set_after_all a cs) q ≡ set.contains a q
   pub stays : (a : NumberSet) → IsWithin a pixels → IsWithin (set_after_all a cs) pixels

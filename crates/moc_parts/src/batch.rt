@@ -52,7 +52,8 @@ impl Batch {
     pub fn new(commands: Vec<Command>) -> Result<Batch, BatchError>
         ensures made { IfOk result (λ b. b ≡ commands.items) }
         ensures accepted { OnOk result ((0 < length commands.items) × (length commands.items ≤ MOST_COMMANDS)) }
-        ensures fault { IfErr result (λ e. e ≡ (if nat_eq (length commands.items) 0 then BatchError.EmptyCommand else BatchError.TooManyCommands)) }
+        ensures fault { IfErr result (λ e.
+            e ≡ (if nat_eq (length commands.items) 0 then BatchError.EmptyCommand else BatchError.TooManyCommands)) }
         ensures refused { OnErr result (0 < length commands.items → MOST_COMMANDS < length commands.items) }
     {
         if commands.is_empty() {

@@ -22,7 +22,8 @@ pub(crate) enum Change<'a> {
 }
 
 impl<'a> Change<'a> {
-    /// What the change makes of the list of one part, or `None` where it is seen to leave it (degrading is not looked through).
+    /// What the change makes of the list of one part, or `None` where it is seen to leave it (degrading is not looked
+    /// through).
     pub(crate) fn part(
         &self,
         alloc: Global,

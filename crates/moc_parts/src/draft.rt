@@ -32,9 +32,13 @@ impl<'a> Model for Draft<'a> {
 
     ghost coded = { drafted_code };
 
-    ghost view = { λ d. record { found = sets_of d.found.items; set = union_of (current_lists (sets_of d.found.items) d.made.items) } };
+    ghost view = { λ d. record {
+      found = sets_of d.found.items;
+      set = union_of (current_lists (sets_of d.found.items) d.made.items);
+    } };
 
-    ghost invariant = { λ d. AreParts (current_lists (sets_of d.found.items) d.made.items) × (length d.made.items ≡ 12) };
+    ghost invariant = { λ d. AreParts (current_lists (sets_of d.found.items) d.made.items)
+        × (length d.made.items ≡ 12) };
 }
 
 impl<'a> Draft<'a> {
@@ -58,7 +62,8 @@ impl<'a> Draft<'a> {
     ) -> Result<Draft<'a>, Memory>
         requires parts { AreParts (found_sets lists.now) }
         requires nothing { nothing.now ≡ set.empty }
-        ensures { IfOk result (λ d. d ≡ record { found = found_sets lists.now; set = union_of (found_sets lists.now) }) }
+        ensures { IfOk result (λ d.
+            d ≡ record { found = found_sets lists.now; set = union_of (found_sets lists.now) }) }
     {
         let mut found = Vec::with_capacity(alloc, 12)?;
         for list in lists {
@@ -70,7 +75,8 @@ impl<'a> Draft<'a> {
     /// A draft on which nothing is done yet.
     fn unchanged(alloc: Global, found: Vec<&'a Coverage>) -> Result<Draft<'a>, Memory>
         requires { AreParts (sets_of found.items) }
-        ensures { IfOk result (λ d. d ≡ record { found = sets_of found.entry.items; set = union_of (sets_of found.entry.items) }) }
+        ensures { IfOk result (λ d.
+            d ≡ record { found = sets_of found.entry.items; set = union_of (sets_of found.entry.items) }) }
     {
         let mut made = Vec::with_capacity(alloc, 12)?;
         for _ in &found {
@@ -195,7 +201,8 @@ impl<'a> Draft<'a> {
         alloc: Global,
         footprint: PartSet,
     ) -> Result<Vec<Option<Coverage>>, Memory>
-        ensures { IfOk result (λ lists. (b : ℕ) → b < 12 → get_or lists.items b None ≡ kept (set.contains footprint b) self.entry.set b) }
+        ensures { IfOk result (λ lists.
+            (b : ℕ) → b < 12 → get_or lists.items b None ≡ kept (set.contains footprint b) self.entry.set b) }
     {
         let Draft { found, mut made } = self;
         let mut lists = Vec::with_capacity(alloc, 12)?;

@@ -11,7 +11,8 @@ pub fn batches_are_local()
     ensures { AreBatchesLocal }
 {}
 
-/// An operand's own set meets the parts that its degraded set meets, so that a footprint is told from the set as it was given.
+/// An operand's own set meets the parts that its degraded set meets, so that a footprint is told from the set as it was
+/// given.
 pub fn degraded_operands_meet_the_same_parts()
     ensures { AreMetDegraded }
 {}
@@ -21,13 +22,14 @@ pub fn queries_leave_the_set()
     ensures { LeaveTheSet }
 {}
 
-/// Twelve sets that lie each in its own base pixel are the parts of their union, which lies in the sky; a pixel is in the union
-/// where it is in the set of its own base pixel.
+/// Twelve sets that lie each in its own base pixel are the parts of their union, which lies in the sky; a pixel is in
+/// the union where it is in the set of its own base pixel.
 pub fn sets_are_united_by_parts()
     ensures { AreUnitedByParts }
 {}
 
-/// The twelve parts of a set of pixels are told by their numbers, lie each in its own base pixel, and together are the set.
+/// The twelve parts of a set of pixels are told by their numbers, lie each in its own base pixel, and together are the
+/// set.
 pub fn sets_have_twelve_parts()
     ensures { ArePartsOfSets }
 {}

@@ -69,8 +69,8 @@ impl Map {
 
     /// Does the commands of a batch in order, and replies to each.
     ///
-    /// A list that changes is made anew, in one pass; one that does not change is not copied, but where the map is degraded.
-    /// Refused where memory runs out; the map then is as it was.
+    /// A list that changes is made anew, in one pass; one that does not change is not copied, but where the map is
+    /// degraded. Refused where memory runs out; the map then is as it was.
     pub fn apply(&mut self, alloc: Global, batch: &Batch) -> Result<Replies, Memory>
         ensures set { OnOk result (self.new ≡ set_after_all self.old batch.now) }
         ensures replies { IfOk result (λ r. r ≡ replies_on self.old batch.now) }

@@ -64,8 +64,8 @@ impl Prepared {
 
 /// The new lists of the parts in the footprint of a batch, and its replies, from the lists that were found there.
 ///
-/// Each part that is found lies in its own base pixel. What was found outside of the footprint has no say in it. Lists that do
-/// not change are copied. Refused where memory runs out.
+/// Each part that is found lies in its own base pixel. What was found outside of the footprint has no say in it. Lists
+/// that do not change are copied. Refused where memory runs out.
 pub fn prepare(
     alloc: Global,
     batch: &Batch,

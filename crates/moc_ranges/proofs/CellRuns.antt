@@ -15,7 +15,8 @@ use Rattle.moc_ranges.specs.Pixels.{pixel_count}
 use Rattle.moc_ranges.specs.RangeList.{set_of, contains-set_of, in_ranges, IsNormal, BeginsAfter}
 use Rattle.moc_ranges.specs.Laws.Ranges.{LiesInOne, lies_in_one}
 use Rattle.moc_ranges.specs.Cells.{span, contains-span, is_cell_of}
-use Rattle.moc_ranges.specs.Laws.Cells.{in_span, same_truth, four_parts, in_cell_range}
+use Rattle.moc_ranges.specs.Laws.Cells.{in_span, four_parts, in_cell_range}
+use Rattle.moc_ranges.specs.Same.{same_truth}
 use Rattle.moc_ranges.specs.Private.CellRuns.{cells_at, cells_between, AreWhole}
 
 -- ---- filters of numbers in a row

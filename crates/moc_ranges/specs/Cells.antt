@@ -2,9 +2,9 @@
 use Rattle.std.specs.Prelude.{◌≡◌, ℕ, zero, suc, ◌+◌, ◌-◌, ◌*◌, ◌/◌, ◌≤◌, ⊤, Bool, not, ◌&&◌, ◌||◌, List, [], ◌∷◌, ◌++◌, map, nat_eq, nat_le, nat_lt}
 use Rattle.std.specs.FinSet as set
 use Rattle.std.specs.List.{filter, range_with_len}
-use Rattle.std.proofs.Common.{◌∙◌, ap, sym}
+use Rattle.std.proofs.Common.{◌∙◌, ap}
 use Rattle.moc_sphere.specs.CellNumber.{CellNumber, cell_number, cell_count, cell_size, uniq_of}
-use Rattle.moc_ranges.specs.Numbers.{NumberSet}
+use Rattle.moc_ranges.specs.Numbers.{NumberSet, contains-kept}
 use Rattle.moc_ranges.specs.Pixels.{pixel_count, pixels}
 use Rattle.moc_ranges.specs.Operations.{meets, contains-pixels}
 
@@ -57,20 +57,27 @@ abbrev pub IsRisingUniq : List CellNumber → Type 0
 IsRisingUniq [] = ⊤
 IsRisingUniq (c ∷ cells) = AllUniqFrom (uniq_of c + 1) cells × IsRisingUniq cells
 
-pub contains-span : (order index q : ℕ) → set.contains (span order index) q ≡ (nat_lt q pixel_count && nat_eq (q / cell_size order) index)
+-- the members of a span: the pixels whose cell it is
+pub contains-span : (order index q : ℕ)
+    → set.contains (span order index) q ≡ (nat_lt q pixel_count && nat_eq (q / cell_size order) index)
 unfolding span
 contains-span order index q =
-    set.contains-retain pixels (λ p. nat_eq (p / cell_size order) index) q (λ x tie. ap (λ p. nat_eq (p / cell_size order) index) (sym (set.nat_cmp-IsAntisymmetric q x tie)))
+    contains-kept pixels (λ p. nat_eq (p / cell_size order) index) q
     ∙ ap (λ b. b && nat_eq (q / cell_size order) index) (contains-pixels q)
 
-pub contains-degrade : (a : NumberSet) (order q : ℕ) → set.contains (degrade a order) q ≡ (nat_lt q pixel_count && meets a (span order (q / cell_size order)))
+-- the members of a degraded set: the pixels whose cell meets it
+pub contains-degrade : (a : NumberSet) (order q : ℕ)
+    → set.contains (degrade a order) q ≡ (nat_lt q pixel_count && meets a (span order (q / cell_size order)))
 unfolding degrade
 contains-degrade a order q =
-    set.contains-retain pixels (λ p. meets a (span order (p / cell_size order))) q (λ x tie. ap (λ p. meets a (span order (p / cell_size order))) (sym (set.nat_cmp-IsAntisymmetric q x tie)))
+    contains-kept pixels (λ p. meets a (span order (p / cell_size order))) q
     ∙ ap (λ b. b && meets a (span order (q / cell_size order))) (contains-pixels q)
 
-pub contains-spans : (order first last q : ℕ) → set.contains (spans order first last) q ≡ (nat_lt q pixel_count && (nat_le first (q / cell_size order) && nat_le (q / cell_size order) last))
+-- the members of a row of spans: the pixels whose cell is one of them
+pub contains-spans : (order first last q : ℕ)
+    → set.contains (spans order first last) q
+    ≡ (nat_lt q pixel_count && (nat_le first (q / cell_size order) && nat_le (q / cell_size order) last))
 unfolding spans
 contains-spans order first last q =
-    set.contains-retain pixels (λ p. nat_le first (p / cell_size order) && nat_le (p / cell_size order) last) q (λ x tie. ap (λ p. nat_le first (p / cell_size order) && nat_le (p / cell_size order) last) (sym (set.nat_cmp-IsAntisymmetric q x tie)))
+    contains-kept pixels (λ p. nat_le first (p / cell_size order) && nat_le (p / cell_size order) last) q
     ∙ ap (λ b. b && (nat_le first (q / cell_size order) && nat_le (q / cell_size order) last)) (contains-pixels q)

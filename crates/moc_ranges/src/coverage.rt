@@ -136,7 +136,8 @@ impl Coverage {
     pub(crate) fn append(&mut self, from: u64, to: u64) -> Result<bool, AllocError>
         requires rising { from < to }
         requires within { to ≤ pixel_count }
-        ensures added { IfOk result (λ added. self.new ≡ (if added then set.union self.old (numbers from to) else self.old)) }
+        ensures added { IfOk result (λ added.
+            self.new ≡ (if added then set.union self.old (numbers from to) else self.old)) }
         ensures kept { OnErr result (self.new ≡ self.old) }
     {
         append(&mut self.bounds, from, to)
@@ -165,7 +166,6 @@ impl Coverage {
     /// of the others, O(n + m); refused where memory runs out.
     pub fn union(&self, alloc: Global, other: &Coverage) -> Result<Coverage, Memory>
         ensures set { IfOk result (λ c. c ≡ set.union self.now other.now) }
-        ensures within { IsWithin self.now pixels }
     {
         kept_by_rule(alloc, Rule::UNION, &self.bounds, &other.bounds)
     }
@@ -174,7 +174,6 @@ impl Coverage {
     /// of the other, found in O(log n + log m); refused where memory runs out.
     pub fn intersection(&self, alloc: Global, other: &Coverage) -> Result<Coverage, Memory>
         ensures set { IfOk result (λ c. c ≡ set.intersection self.now other.now) }
-        ensures within { IsWithin self.now pixels }
     {
         let mine = reaching(&self.bounds, &other.bounds);
         let theirs = reaching(&other.bounds, mine);
@@ -186,7 +185,6 @@ impl Coverage {
     /// memory runs out.
     pub fn difference(&self, alloc: Global, other: &Coverage) -> Result<Coverage, Memory>
         ensures set { IfOk result (λ c. c ≡ set.difference self.now other.now) }
-        ensures within { IsWithin self.now pixels }
     {
         let theirs = reaching(&other.bounds, &self.bounds);
         kept_by_rule(alloc, Rule::DIFFERENCE, &self.bounds, theirs)
@@ -196,7 +194,6 @@ impl Coverage {
     /// overlap, and a copy of the others, O(n + m); refused where memory runs out.
     pub fn symmetric(&self, alloc: Global, other: &Coverage) -> Result<Coverage, Memory>
         ensures set { IfOk result (λ c. c ≡ symmetric self.now other.now) }
-        ensures within { IsWithin self.now pixels }
     {
         kept_by_rule(alloc, Rule::SYMMETRIC, &self.bounds, &other.bounds)
     }
@@ -300,7 +297,6 @@ impl Coverage {
     /// reach into the extent of the other, found in O(log n + log m), takes no memory.
     pub fn count_common(&self, other: &Coverage) -> u64
         ensures size { result ≡ set.len (set.intersection self.now other.now) }
-        ensures within { IsWithin self.now pixels }
     {
         let mine = reaching(&self.bounds, &other.bounds);
         let theirs = reaching(&other.bounds, mine);
@@ -311,7 +307,6 @@ impl Coverage {
     /// that reach into the extent of the other, found in O(log n + log m), takes no memory.
     pub fn meets(&self, other: &Coverage) -> bool
         ensures some { result ≡ meets self.now other.now }
-        ensures within { IsWithin self.now pixels }
     {
         let mine = reaching(&self.bounds, &other.bounds);
         let theirs = reaching(&other.bounds, mine);
@@ -323,7 +318,6 @@ impl Coverage {
     /// memory.
     pub fn covers(&self, other: &Coverage) -> bool
         ensures all { result ≡ set.is_subset other.now self.now }
-        ensures within { IsWithin self.now pixels }
     {
         let mine = reaching(&self.bounds, &other.bounds);
         !keeps_some(Rule::DIFFERENCE, &other.bounds, mine)

@@ -121,7 +121,8 @@ pub fn append(bounds: &mut Vec<u64>, from: u64, to: u64) -> Result<bool, AllocEr
     requires rising { from < to }
     requires within { to ≤ pixel_count }
     ensures bounds { IsBounds bounds.new.items }
-    ensures set { IfOk result (λ added. (q : ℕ) → inside bounds.new.items q ≡ (inside bounds.old.items q || (added && in_range (from, to) q))) }
+    ensures set { IfOk result (λ added.
+        (q : ℕ) → inside bounds.new.items q ≡ (inside bounds.old.items q || (added && in_range (from, to) q))) }
     ensures kept { OnErr result (bounds.new.items ≡ bounds.old.items) }
 {
     if let [.., begin, end] = bounds.as_slice() {

@@ -1,4 +1,5 @@
--- The corner points of cells, and when two cells touch. A point of the sphere is named by its row and its column in that row.
+-- The corner points of cells, and when two cells touch. A point of the sphere is named by its row and its column in
+-- that row.
 use Rattle.std.specs.Prelude.{◌≢◌, ℕ, ◌+◌, ◌-◌, ◌*◌, ◌/◌, ◌%◌, ◌^◌, ◌<◌, min, List, [], ◌∷◌, Contains, Bool, not, nat_le, ◌==◌, ◌&&◌, if◌then◌else◌}
 use Rattle.std.specs.List.{filter, list_any, range_with_len}
 use Rattle.moc_sphere.specs.CellNumber.{cell_count}
@@ -17,8 +18,8 @@ belt_column n f X Y = column_at n f X Y
 abbrev pub steps_from_edge : ℕ → ℕ → ℕ → ℕ
 steps_from_edge m X Y = (X + m - Y) / 2
 
--- The column of a corner m rows from a pole, in whole steps. The pole itself has the column 0; else 4m steps go round, m for
--- each of the four base pixels that meet at the pole.
+-- The column of a corner m rows from a pole, in whole steps. The pole itself has the column 0; else 4m steps go round,
+-- m for each of the four base pixels that meet at the pole.
 unfoldable pub polar_column : ℕ → ℕ → ℕ → ℕ → ℕ
 polar_column m f X Y = if m == 0 then 0 else ((f % 4 * m + steps_from_edge m X Y) % (4 * m))
 
@@ -44,7 +45,8 @@ corner_points k i =
     let f = face_of k i in
     let x = x_of k i in
     let y = y_of k i in
-    corner_point n f x y ∷ corner_point n f (x + 1) y ∷ corner_point n f x (y + 1) ∷ corner_point n f (x + 1) (y + 1) ∷ []
+    corner_point n f x y ∷ corner_point n f (x + 1) y ∷ corner_point n f x (y + 1) ∷ corner_point n f (x + 1) (y + 1)
+    ∷ []
 
 -- Two cells i and j of order k touch: they differ, and share a corner point.
 pub record Touches (k i j : ℕ) : Type 0 where

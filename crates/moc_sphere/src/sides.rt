@@ -74,7 +74,9 @@ fn beyond_south_east(last: u32, face: u32, along: u32) -> Place
 
 fn beyond_north(last: u32, face: u32) -> Option<Place>
     requires { face < 12 }
-    ensures { MatchOption result ((g z w : ℕ) → IsBeyondNorth last face g z w → ⊥) (λ to. IsBeyondNorth last face to.face to.x to.y) }
+    ensures { MatchOption result
+        ((g z w : ℕ) → IsBeyondNorth last face g z w → ⊥)
+        (λ to. IsBeyondNorth last face to.face to.x to.y) }
 {
     if face < 4 {
         Some(Place::new((face + 2) % 4, last, last))
@@ -87,7 +89,9 @@ fn beyond_north(last: u32, face: u32) -> Option<Place>
 
 fn beyond_south(last: u32, face: u32) -> Option<Place>
     requires { face < 12 }
-    ensures { MatchOption result ((g z w : ℕ) → IsBeyondSouth last face g z w → ⊥) (λ to. IsBeyondSouth last face to.face to.x to.y) }
+    ensures { MatchOption result
+        ((g z w : ℕ) → IsBeyondSouth last face g z w → ⊥)
+        (λ to. IsBeyondSouth last face to.face to.x to.y) }
 {
     if face < 4 {
         Some(Place::new(face + 8, last, last))
@@ -100,7 +104,9 @@ fn beyond_south(last: u32, face: u32) -> Option<Place>
 
 fn beyond_east(last: u32, face: u32) -> Option<Place>
     requires { face < 12 }
-    ensures { MatchOption result ((g z w : ℕ) → IsBeyondEast last face g z w → ⊥) (λ to. IsBeyondEast last face to.face to.x to.y) }
+    ensures { MatchOption result
+        ((g z w : ℕ) → IsBeyondEast last face g z w → ⊥)
+        (λ to. IsBeyondEast last face to.face to.x to.y) }
 {
     if 4 <= face && face < 8 {
         Some(Place::new(4 + (face + 1) % 4, 0, last))
@@ -111,7 +117,9 @@ fn beyond_east(last: u32, face: u32) -> Option<Place>
 
 fn beyond_west(last: u32, face: u32) -> Option<Place>
     requires { face < 12 }
-    ensures { MatchOption result ((g z w : ℕ) → IsBeyondWest last face g z w → ⊥) (λ to. IsBeyondWest last face to.face to.x to.y) }
+    ensures { MatchOption result
+        ((g z w : ℕ) → IsBeyondWest last face g z w → ⊥)
+        (λ to. IsBeyondWest last face to.face to.x to.y) }
 {
     if 4 <= face && face < 8 {
         Some(Place::new(4 + (face + 3) % 4, last, 0))

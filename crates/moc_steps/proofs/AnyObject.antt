@@ -3,8 +3,8 @@ use Rattle.std.proofs.Common.{◌≡◌, ℕ, List, [], ◌∷◌, ◌++◌, cou
 use Rattle.moc_ranges.specs.Numbers.{NumberSet}
 use Rattle.moc_ranges.specs.Pixels.{pixels}
 use Rattle.moc_ranges.specs.Operations.{IsWithin}
-use Rattle.moc_parts.specs.Objects.{Object, IsLocal}
-use Rattle.moc_steps.specs.Locks.{Step, Running, AreLocal, ArePermitted, all_idle, refusal}
+use Rattle.moc_parts.specs.Objects.{Object}
+use Rattle.moc_steps.specs.Locks.{Step, Running, AreLocal, ArePermitted, refusal}
 use Rattle.moc_steps.specs.Operations.{operations, operations_from, is_midway}
 use Rattle.moc_steps.specs.World.{World, start_world, run, running, world_after}
 use Rattle.moc_steps.specs.Progress.{AreProgress}

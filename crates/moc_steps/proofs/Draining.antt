@@ -1,6 +1,6 @@
 -- The way to the end of a world, step by step.
-use Rattle.std.proofs.Common.{◌≡◌, ℕ, zero, suc, ◌+◌, ◌-◌, ◌*◌, ◌^◌, ◌<◌, ◌≤◌, Bool, true, false, cond, ◌&&◌, T, List, [], ◌∷◌, ◌++◌, map as map_list, length, Option, None, Some, is_some, nat_eq, nat_lt, inl, inr, ne_eqb, sum_by, count_by, zero-add, refl, sym, ap, subst, ◌∙◌, arith, eq-eqb}
-use Rattle.std.proofs.lemmas.List.Sums.{sum_by-append}
+use Rattle.std.proofs.Common.{◌≡◌, ℕ, suc, ◌+◌, ◌*◌, ◌^◌, ◌<◌, ◌≤◌, Bool, true, false, cond, ◌&&◌, T, List, [], ◌∷◌, ◌++◌, length, Option, None, Some, nat_eq, nat_lt, inl, inr, ne_eqb, sum_by, count_by, refl, sym, ap, subst, ◌∙◌, arith, eq-eqb}
+use Rattle.std.proofs.lemmas.List.Sums.{sum_by-cons}
 use Rattle.std.specs.Ordering.{nat_cmp, is_lt}
 use Rattle.std.specs.FinMap as map
 use Rattle.std.specs.FinMap.{find, is_sorted}
@@ -11,7 +11,7 @@ use Rattle.moc_steps.specs.Locks as locks
 use Rattle.moc_steps.specs.Locks.{Running, Clients, ArePermitted, refusal, twelve}
 use Rattle.moc_steps.specs.World as machine
 use Rattle.moc_steps.specs.World.{world_after}
-use Rattle.moc_steps.specs.Laws.{IsReached, ArePlayed, EndsWell, led_to}
+use Rattle.moc_steps.specs.Laws.{IsReached}
 use Rattle.moc_steps.specs.Operations.{operations}
 use Rattle.moc_steps.specs.Progress.{AreProgress, is_progress, steps_of, steps_left}
 use Rattle.moc_steps.specs.Played.{World, LeadsOn}
@@ -60,15 +60,12 @@ next_on old world new n step reached h permitted progress is =
 
 -- The way to the end is short: at most 37 steps a client
 
-sum_next : {A : Type 0} (f : A → ℕ) (x : A) (xs : List A) → sum_by f (x ∷ xs) ≡ f x + sum_by f xs
-sum_next f x xs = sum_by-append f (x ∷ []) xs ∙ ap (λ k. k + sum_by f xs) (zero-add (f x))
-
 sum_short : {A : Type 0} (f : A → ℕ) (n : ℕ) → ((x : A) → f x ≤ n) → (xs : List A) → sum_by f xs ≤ n * length xs
 sum_short f n each [] = omega arith
 sum_short f n each (x ∷ xs) =
     let here : f x ≤ n = each x in
     let rest : sum_by f xs ≤ n * length xs = sum_short f n each xs in
-    let whole : sum_by f (x ∷ xs) ≡ f x + sum_by f xs = sum_next f x xs in
+    let whole : sum_by f (x ∷ xs) ≡ f x + sum_by f xs = sum_by-cons f x xs in
     let times : n * suc (length xs) ≡ n + n * length xs = omega arith in
     omega arith
 

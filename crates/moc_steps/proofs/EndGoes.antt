@@ -1,6 +1,5 @@
 -- An End of a world of the program is the machine's.
-use Rattle.std.proofs.Common.{◌≡◌, ◌≢◌, ℕ, zero, suc, ◌+◌, ◌<◌, Bool, true, false, cond, inl, inr, List, [], ◌∷◌, map as map_list, length, Option, None, Some, IfSome, is_some, nat_eq, nat_lt, slice_get, get_or, set as set_at, option_map, refl, sym, ap, subst, ◌∙◌, arith, eq-eqb, ne_eqb}
-use Rattle.std.specs.Ordering.{nat_cmp}
+use Rattle.std.proofs.Common.{◌≡◌, ℕ, zero, suc, ◌+◌, ◌<◌, true, false, cond, inl, inr, List, [], ◌∷◌, map as map_list, length, Option, None, Some, IfSome, is_some, nat_eq, slice_get, get_or, set as set_at, option_map, refl, sym, ap, subst, ◌∙◌, arith, eq-eqb}
 use Rattle.std.specs.FinSet as set
 use Rattle.std.specs.FinMap as map
 use Rattle.moc_ranges.specs.Numbers.{NumberSet}
@@ -9,20 +8,20 @@ use Rattle.moc_parts.specs.declared.command.Command.{Command}
 use Rattle.moc_parts.specs.declared.reply.Reply.{Reply}
 use Rattle.moc_steps.specs.Locks as locks
 use Rattle.moc_steps.specs.Locks.{Running, holds, holds_now, refusal, is_any, end_refusal, has_taken}
-use Rattle.moc_steps.specs.World as machine
-use Rattle.moc_steps.specs.World.{world_after, running, answered, completed, replied, reply_to, ended_reply, found_by}
+use Rattle.moc_steps.specs.World.{world_after, running, answered, completed, replied, reply_to, ended_reply}
 use Rattle.moc_steps.specs.Explains.{names, times, is_committed}
-use Rattle.moc_steps.specs.Standing.{Standing}
-use Rattle.moc_steps.specs.Played.{World, HasPlace, IsKept, entry_of, entries_of, world_of}
+use Rattle.moc_steps.specs.Private.Standing.{Standing}
+use Rattle.moc_steps.specs.Played.{World, entry_of, entries_of}
+use Rattle.moc_steps.specs.Private.Worlds.{HasPlace, IsKept, world_of}
 use Rattle.moc_steps.specs.declared.step.Entry.{Entry}
-use Rattle.moc_steps.proofs.Basics.{clash, some_same, none_or_some, true_or_false, not_true_false, not_of_false, is_some_of, and_true, both, same_or, count-append, get-remove_same, get-remove_other}
+use Rattle.moc_steps.proofs.Basics.{clash, some_same, true_or_false, not_true_false, not_of_false, both, same_or, count-append, get-remove_same, get-remove_other}
 use Rattle.moc_steps.proofs.Taking.{in_twelve, taken_footprint, took_one}
 use Rattle.moc_steps.proofs.Invariant.{is_any_of}
 use Rattle.moc_steps.proofs.Permitted.{midway_of, end_permitted, end_taken}
-use Rattle.moc_steps.proofs.EndStep.{replied_begin, names_map, completed_done}
+use Rattle.moc_steps.proofs.EndStep.{replied_begin, names_map}
 use Rattle.moc_steps.proofs.AnyObject.{reached_explained}
 use Rattle.moc_steps.proofs.Values.{get-values, values-remove}
-use Rattle.moc_steps.proofs.Kept.{Table, clients_of, founds_of, holder_same, kept_on}
+use Rattle.moc_steps.proofs.Kept.{Table, holder_same, kept_on}
 use Rattle.moc_steps.proofs.KeptSteps.{Goes, runs, found_is}
 
 -- an entry that is answered

@@ -1,5 +1,5 @@
 -- The next step of a world in which a client is midway.
-use Rattle.std.proofs.Common.{◌≡◌, ℕ, zero, suc, ◌<◌, Bool, true, false, cond, not, ◌&&◌, ◌||◌, ◌⊎◌, inl, inr, List, [], ◌∷◌, length, Option, None, Some, IfSome, is_some, nat_eq, nat_lt, option_map, refl, sym, ap, ◌∙◌, arith, eq-eqb, ne_eqb}
+use Rattle.std.proofs.Common.{◌≡◌, ℕ, ◌<◌, Bool, true, false, not, ◌&&◌, ◌||◌, ◌⊎◌, inl, inr, List, [], ◌∷◌, length, Option, None, Some, IfSome, is_some, nat_eq, nat_lt, option_map, refl, sym, ap, ◌∙◌, arith, eq-eqb}
 use Rattle.std.proofs.lemmas.Bool.Decides.{nat_tests}
 use Rattle.std.specs.List.{list_any}
 use Rattle.std.specs.List.Sorted.{IsStrictlySortedBy}
@@ -13,12 +13,13 @@ use Rattle.moc_steps.specs.Locks.{Running, refusal, holds, holds_some, holder, n
 use Rattle.moc_steps.specs.World.{running}
 use Rattle.moc_steps.specs.Laws.{IsReached}
 use Rattle.moc_steps.specs.Progress.{is_progress, client_of}
-use Rattle.moc_steps.specs.Played.{World, IsFree, IsHighest, step_of}
+use Rattle.moc_steps.specs.Played.{World, step_of}
+use Rattle.moc_steps.specs.Private.Worlds.{IsFree, IsHighest}
 use Rattle.moc_steps.specs.declared.step.Step.{Step}
 use Rattle.std.specs.FinMap.{find}
 use Rattle.moc_steps.proofs.Permitted.{midway_of}
 use Rattle.moc_steps.specs.declared.error.StepError.TheVariants.{PartHeld}
-use Rattle.moc_steps.proofs.Basics.{clash, some_same, none_or_some, and_true, or_left, or_right, not_of_true}
+use Rattle.moc_steps.proofs.Basics.{clash, some_same, none_or_some, and_true, or_left, or_right, not_of_true, cond_else}
 use Rattle.moc_steps.proofs.Taking.{of_twelve, has_all, taken_alike, nothing_taken, taken_below, next_footprint, nobody_holds, holder_holds}
 use Rattle.moc_steps.proofs.AnyObject.{reached_explained}
 use Rattle.moc_steps.proofs.Values.{len-entries_of}
@@ -28,9 +29,6 @@ pub len_none : {X : Type 0} (es : List (ℕ × X)) → (0 < length es → false 
 unfolding IsStrictlySortedBy
 len_none [] h = len-entries_of [] tt
 len_none (e ∷ es) h = let clash : false ≡ true = h (omega arith) in absurd (cc (clash))
-
-skip : {A : Type 0} (b : Bool) (x y : A) → b ≡ false → cond b x y ≡ y
-skip b x y e = ap (λ t. cond t x y) e
 
 none_of : (test : ℕ → Bool) (bs : List ℕ) → ((b : ℕ) → is_in b bs ≡ true → test b ≡ false) → list_any test bs ≡ false
 none_of test [] h = refl
@@ -45,7 +43,7 @@ module _ (w : World) (c : ℕ) (r : Running (List Command)) (was : running batch
 
   takes : (q : ℕ) → next_part batches r ≡ Some q → r.quits ≡ false → holder batches w.locks.clients q ≡ None → refusal batches w.locks (locks.Step.Take c) ≡ None
   takes q next stays free =
-      ap (λ x. unless_idle batches x (take_refusal batches w.locks)) was ∙ skip _ _ _ stays ∙ ap (next_refusal batches w.locks) next ∙ ap (option_map (PartHeld q)) free
+      ap (λ x. unless_idle batches x (take_refusal batches w.locks)) was ∙ cond_else _ _ _ stays ∙ ap (next_refusal batches w.locks) next ∙ ap (option_map (PartHeld q)) free
 
   pub highest_takes : (b : ℕ) → IsHighest w c b → is_some (next_part batches r) ≡ true → r.quits ≡ false → refusal batches w.locks (locks.Step.Take c) ≡ None
   highest_takes b h some stays = elim (none_or_some (next_part batches r)) [
@@ -55,11 +53,11 @@ module _ (w : World) (c : ℕ) (r : Running (List Command)) (was : running batch
 
   pub highest_edits : (b : ℕ) → IsHighest w c b → r.quits ≡ false → is_some (next_part batches r) ≡ false → set.contains r.edited b ≡ false → refusal batches w.locks (locks.Step.Edit c b) ≡ None
   highest_edits b h stays all unedited =
-      ap (λ x. unless_idle batches x (λ t. edit_refusal batches t b)) was ∙ skip _ _ _ stays ∙ skip _ _ _ all ∙ skip _ _ _ (not_of_true (holder_has b h)) ∙ skip _ _ _ unedited
+      ap (λ x. unless_idle batches x (λ t. edit_refusal batches t b)) was ∙ cond_else _ _ _ stays ∙ cond_else _ _ _ all ∙ cond_else _ _ _ (not_of_true (holder_has b h)) ∙ cond_else _ _ _ unedited
 
   pub highest_gives : (b : ℕ) → IsHighest w c b → (set.contains r.edited b ≡ true) ⊎ (r.quits ≡ true) → refusal batches w.locks (locks.Step.Give c b) ≡ None
   highest_gives b h done =
-      ap (λ x. unless_idle batches x (λ t. give_refusal batches t b)) was ∙ skip _ _ _ (not_of_true (holder_has b h)) ∙ skip _ _ _ (may (set.contains r.edited b) r.quits done)
+      ap (λ x. unless_idle batches x (λ t. give_refusal batches t b)) was ∙ cond_else _ _ _ (not_of_true (holder_has b h)) ∙ cond_else _ _ _ (may (set.contains r.edited b) r.quits done)
     where
       may : (x y : Bool) → (x ≡ true) ⊎ (y ≡ true) → (not x && not y) ≡ false
       may true y d = refl
@@ -71,8 +69,8 @@ module _ (w : World) (c : ℕ) (r : Running (List Command)) (was : running batch
   pub free_ends : IsFree w → (r.quits ≡ true) ⊎ (nat_lt 0 r.taken ≡ true) → refusal batches w.locks (locks.Step.End c) ≡ None
   free_ends free done =
       ap (λ x. unless_idle batches x (end_refusal batches)) was
-      ∙ skip _ _ _ (none_of (holds batches r) twelve (λ b i. nobody_holds batches w.locks.clients b c r (free b (of_twelve b i)) was))
-      ∙ skip _ _ _ (may r.quits r.taken done)
+      ∙ cond_else _ _ _ (none_of (holds batches r) twelve (λ b i. nobody_holds batches w.locks.clients b c r (free b (of_twelve b i)) was))
+      ∙ cond_else _ _ _ (may r.quits r.taken done)
     where
       may : (x : Bool) (k : ℕ) → (x ≡ true) ⊎ (nat_lt 0 k ≡ true) → (not x && nat_eq k 0) ≡ false
       may true k d = refl

@@ -1,28 +1,25 @@
 -- What a world of the program keeps, step by step.
-use Rattle.std.proofs.Common.{◌≡◌, ◌≢◌, ℕ, zero, suc, ◌+◌, ◌<◌, ◌^◌, Bool, true, false, cond, inl, inr, List, [], ◌∷◌, ◌++◌, length, Option, None, Some, nat_eq, slice_get, get_or, set as set_at, option_map, refl, sym, ap, subst, ◌∙◌, arith}
+use Rattle.std.proofs.Common.{◌≡◌, ◌≢◌, ℕ, suc, ◌<◌, ◌^◌, true, false, inl, inr, List, [], ◌∷◌, Option, None, Some, get_or, option_map, refl, sym, ap, subst, ◌∙◌}
 use Rattle.std.specs.Ordering.{nat_cmp}
 use Rattle.std.specs.FinSet as set
 use Rattle.std.specs.FinMap as map
 use Rattle.moc_ranges.specs.Numbers.{NumberSet}
-use Rattle.moc_parts.specs.Objects.{IsLocal}
 use Rattle.moc_parts.specs.Batches.{batches}
 use Rattle.moc_parts.specs.declared.command.Command.{Command}
-use Rattle.moc_parts.specs.declared.reply.Reply.{Reply}
 use Rattle.moc_steps.specs.Locks as locks
 use Rattle.moc_steps.specs.Locks.{Running, Locks, Clients, AreLocal, begins, changed, change, holds, holds_now, holder, is_any, refusal}
-use Rattle.moc_steps.specs.World as machine
 use Rattle.moc_steps.specs.World.{world_after, running}
 use Rattle.moc_steps.specs.Explains.{names}
 use Rattle.moc_steps.specs.Laws.{IsReached}
-use Rattle.moc_steps.specs.Standing.{Standing}
-use Rattle.moc_steps.specs.Played.{World, HasPlace, IsKept, entries_of, values_by, world_of}
+use Rattle.moc_steps.specs.Private.Standing.{Standing}
+use Rattle.moc_steps.specs.Played.{World, entries_of}
+use Rattle.moc_steps.specs.Private.Worlds.{HasPlace, IsKept, values_by, world_of}
 use Rattle.moc_steps.specs.declared.step.Entry.{Entry}
-use Rattle.moc_steps.proofs.Basics.{clash, some_same, none_or_some, true_or_false, not_true_false, same_or, get-insert_same, get-insert_other, get_set_same, get_set_other, get-remove_same, get-remove_other}
+use Rattle.moc_steps.proofs.Basics.{clash, some_same, none_or_some, not_true_false, same_or, get-insert_same, get-insert_other, get-remove_same, get-remove_other}
 use Rattle.moc_steps.proofs.Headline.{locks_are}
 use Rattle.moc_steps.proofs.Taking.{nobody_holds, holder_holds}
-use Rattle.moc_steps.proofs.Invariant.{Explained}
 use Rattle.moc_steps.proofs.AnyObject.{reached_explained, step_reached}
-use Rattle.moc_steps.proofs.Values.{get-values, values-insert, values-remove, insert_again}
+use Rattle.moc_steps.proofs.Values.{get-values, values-insert, insert_again}
 
 abbrev pub Table : Type 0
 Table = map.FinMap nat_cmp Standing

@@ -1,5 +1,5 @@
 -- Each step of a world of the program is the machine's, and what it keeps stays.
-use Rattle.std.proofs.Common.{◌≡◌, ◌≢◌, ℕ, zero, suc, ◌+◌, ◌<◌, ◌^◌, ◌⊎◌, Bool, true, false, cond, not, ◌&&◌, ◌||◌, inl, inr, List, [], ◌∷◌, ◌++◌, map as map_list, length, Option, None, Some, IfSome, is_some, nat_eq, slice_get, get_or, set as set_at, option_map, refl, sym, ap, subst, ◌∙◌, arith, eq-eqb, eqb-true, ne_eqb}
+use Rattle.std.proofs.Common.{◌≡◌, ℕ, suc, ◌<◌, ◌^◌, Bool, true, false, cond, not, ◌&&◌, ◌||◌, inl, inr, List, [], ◌∷◌, ◌++◌, length, Option, None, Some, IfSome, is_some, nat_eq, slice_get, get_or, set as set_at, option_map, refl, sym, ap, subst, ◌∙◌, arith, eq-eqb, eqb-true, ne_eqb}
 use Rattle.std.specs.Option.{unwrap_or}
 use Rattle.std.specs.Ordering.{nat_cmp}
 use Rattle.std.specs.FinSet as set
@@ -7,35 +7,33 @@ use Rattle.std.specs.FinMap as map
 use Rattle.moc_ranges.specs.Numbers.{NumberSet}
 use Rattle.moc_ranges.specs.Operations.{part_of}
 use Rattle.moc_parts.specs.Objects.{IsLocal, base_pixel}
-use Rattle.moc_parts.specs.Batches.{batches, set_after_all, replies_on, footprint_of_all}
+use Rattle.moc_parts.specs.Batches.{batches, set_after_all, footprint_of_all}
 use Rattle.moc_parts.specs.declared.command.Command.{Command}
-use Rattle.moc_parts.specs.declared.reply.Reply.{Reply}
 use Rattle.moc_parts.specs.Prepared.{kept as kept_part}
 use Rattle.moc_steps.specs.Locks as locks
 use Rattle.moc_steps.specs.Locks.{Running, Locks, Clients, AreLocal, begins, holds, holds_now, holder, is_any, refusal, has_taken, next_part, twelve, unless_idle, take_refusal, edit_refusal, give_refusal, quit_refusal, end_refusal}
-use Rattle.moc_steps.specs.World as machine
 use Rattle.moc_steps.specs.World.{world_after, running, found_by, part_at, found_next, edited_parts, appended}
 use Rattle.moc_steps.specs.Explains.{names}
-use Rattle.moc_steps.specs.Laws.{IsReached}
-use Rattle.moc_steps.specs.Standing.{Standing}
-use Rattle.moc_steps.specs.Changes.{IsChangeOf, changed, changed_at, changed_table}
+use Rattle.moc_steps.specs.Private.Standing.{Standing}
+use Rattle.moc_steps.specs.Private.Changes.{IsChangeOf, changed, changed_at, changed_table}
 use Rattle.moc_steps.specs.declared.error.StepError.{StepError}
 use Rattle.moc_steps.specs.declared.error.StepError.TheVariants.{Idle}
 use Rattle.moc_steps.specs.declared.step.Step.{Step}
 use Rattle.moc_steps.specs.declared.step.Step.TheVariants as step
 use Rattle.moc_steps.specs.Progress.{client_of}
 use Rattle.moc_steps.specs.declared.table.Change.{Change}
-use Rattle.moc_steps.specs.declared.table.Change.TheVariants.{Take, Commit, Edit, Give, Quit}
-use Rattle.moc_steps.specs.Played.{World, HasPlace, IsKept, entry_of, entries_of, values_by, step_of, world_of}
+use Rattle.moc_steps.specs.declared.table.Change.TheVariants.{Take, Give, Quit}
+use Rattle.moc_steps.specs.Played.{World, entry_of, entries_of, step_of}
+use Rattle.moc_steps.specs.Private.Worlds.{HasPlace, IsKept, world_of}
 use Rattle.moc_steps.specs.declared.step.Entry.{Entry}
-use Rattle.moc_steps.proofs.Basics.{clash, some_same, none_or_some, true_or_false, not_true_false, not_of_true, not_of_false, is_some_of, or_left, or_right, and_true, both, same_or, same_set, has-empty, map_some_from, get_front, get_last, get-insert_same, get-insert_other, get_set_same, get_set_other, get-remove_same, get-remove_other, has-insert_same, has-insert_other}
-use Rattle.moc_steps.proofs.Taking.{nobody_holds, holder_holds, taken_alike, taken_footprint, taken-next, taken_below, next_footprint, nothing_taken, in_twelve}
-use Rattle.moc_steps.proofs.Invariant.{Explained, is_any_of, not_any_empty}
+use Rattle.moc_steps.proofs.Basics.{clash, some_same, true_or_false, not_true_false, not_of_false, is_some_of, or_false, or_right, and_true, both, same_or, same_set, has-empty, map_some_from, get_front, get_last, get-insert_same, get-insert_other, get_set_same, get_set_other, has-insert_same, has-insert_other}
+use Rattle.moc_steps.proofs.Taking.{taken_alike, taken_footprint, taken-next, taken_below, next_footprint, nothing_taken}
+use Rattle.moc_steps.proofs.Invariant.{is_any_of, not_any_empty}
 use Rattle.moc_steps.proofs.Beginning.{idle_of}
-use Rattle.moc_steps.proofs.Permitted.{midway_of, take_permitted, edit_permitted, give_permitted, quit_permitted, end_permitted}
+use Rattle.moc_steps.proofs.Permitted.{midway_of, take_permitted, edit_permitted, give_permitted}
 use Rattle.moc_steps.proofs.EditStep.{has_part, names_push}
 use Rattle.moc_steps.proofs.AnyObject.{reached_explained}
-use Rattle.moc_steps.proofs.Values.{get-values, values-insert, values-remove, insert_again, insert_twice}
+use Rattle.moc_steps.proofs.Values.{get-values, values-insert, insert_twice}
 use Rattle.moc_steps.proofs.Kept.{Table, clients_of, founds_of, clients_changed, founds_same, holder_of, holder_nobody, holder_same, same_on, kept_on, at_each}
 
 -- a step from one world to the next, which keeps what the first kept
@@ -181,14 +179,10 @@ module _ (n : ℕ) (m : Table) (ps : List NumberSet) (hs : List (Option ℕ)) (e
                   (get-values (λ (s : Standing). s.running) (map.insert m c s') c ∙ ap (option_map (λ (s : Standing). s.running)) (get-insert_same m c s'))
                   (both (taken-next batches r q q next ∙ or_right (has_taken batches r q) _ (eq-eqb q q refl)) (not_of_false ungiven)))
               | inr e ↦ get_set_other hs q d (Some c) None e ∙ kept.held d l ∙ sym (holder_same (world_of n m ps es) (world_of n (map.insert m c s') ps es) reached d
-                  (same_on n n m ps ps es es c d s s' has (ap (λ x. x && not (set.contains r.given d)) (taken-next batches r q d next ∙ ap (λ x. has_taken batches r d || x) (ne_eqb q d (λ x. e (sym x))) ∙ or_false_right (has_taken batches r d)))))
+                  (same_on n n m ps ps es es c d s s' has (ap (λ x. x && not (set.contains r.given d)) (taken-next batches r q d next ∙ ap (λ x. has_taken batches r d || x) (ne_eqb q d (λ x. e (sym x))) ∙ or_false (has_taken batches r d)))))
             ])
             (at_each m c s' (λ q z. HasPlace (names (entries_of es)) z.running z.place) (kept.placed c s has) (λ q z d g. kept.placed q z g)),
       )
-    where
-      or_false_right : (x : Bool) → (x || false) ≡ x
-      or_false_right true = refl
-      or_false_right false = refl
 
   pub edit_goes : (c b : ℕ) (s s' : Standing) (list : NumberSet) (es' : List Entry) → map.get m c ≡ Some s → s'.running ≡ record s.running { edited = set.insert s.running.edited b } → s'.found ≡ s.found
       → list ≡ part_of (set_after_all s.found s.running.command) b → entries_of es' ≡ appended batches (entries_of es) c (Some s.running)

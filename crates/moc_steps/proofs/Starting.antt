@@ -1,5 +1,5 @@
 -- The world that a set starts, and the set that a world makes.
-use Rattle.std.proofs.Common.{◌≡◌, ℕ, zero, suc, ◌+◌, ◌<◌, Bool, true, false, ◌||◌, List, [], ◌∷◌, ◌++◌, Option, None, Some, get_or, slice_get, take, length, option_map, refl, sym, ap, subst, ◌∙◌, arith}
+use Rattle.std.proofs.Common.{◌≡◌, ℕ, zero, suc, ◌+◌, ◌||◌, List, [], ◌∷◌, ◌++◌, Option, None, Some, slice_get, take, length, option_map, refl, sym, ap, subst, ◌∙◌, arith}
 use Rattle.std.specs.Ordering.{nat_cmp}
 use Rattle.std.specs.FinSet as set
 use Rattle.std.specs.FinMap as map
@@ -10,10 +10,11 @@ use Rattle.moc_parts.specs.Batches.{batches}
 use Rattle.moc_parts.specs.Parts.{parts_below, union_of}
 use Rattle.moc_steps.specs.Laws.{IsReached}
 use Rattle.moc_steps.specs.World.{start_world}
-use Rattle.moc_steps.specs.Standing.{Standing}
-use Rattle.moc_steps.specs.Played.{World, IsKept, entries_of, world_of}
+use Rattle.moc_steps.specs.Private.Standing.{Standing}
+use Rattle.moc_steps.specs.Played.{entries_of}
+use Rattle.moc_steps.specs.Private.Worlds.{IsKept, world_of}
 use Rattle.moc_steps.specs.declared.step.Entry.{Entry}
-use Rattle.moc_steps.proofs.Basics.{same_set, some_same, has-union, has-empty}
+use Rattle.moc_steps.proofs.Basics.{same_set, some_same, has-union, has-empty, or_false, or_again}
 use Rattle.moc_steps.proofs.AnyObject.{start_reached}
 use Rattle.moc_steps.proofs.Loops.{twelve_nones}
 use Rattle.moc_steps.proofs.Values.{get-values, values-empty}
@@ -61,23 +62,11 @@ pub union_none : (xs : List NumberSet) → set.empty ≡ union_of (take 0 xs)
 union_none [] = refl
 union_none (x ∷ xs) = refl
 
-or_none : (x y : Bool) → y ≡ false → (x || y) ≡ (y || x)
-or_none true true h = refl
-or_none true false h = refl
-or_none false y h = or_false y
-  where
-    or_false : (z : Bool) → z ≡ (z || false)
-    or_false true = refl
-    or_false false = refl
-
-or_again : (x y z : Bool) → (x || (y || z)) ≡ ((x || y) || z)
-or_again true y z = refl
-or_again false y z = refl
-
 union_suc : (xs : List NumberSet) (i : ℕ) (y : NumberSet) → slice_get xs i ≡ Some y → union_of (take (suc i) xs) ≡ set.union (union_of (take i xs)) y
 union_suc [] i y h = absurd (cc)
 union_suc (x ∷ xs) zero y h = same_set _ _ (λ p.
-    has-union x (union_of (take 0 xs)) p ∙ ap (λ s. set.contains x p || set.contains s p) (sym (union_none xs)) ∙ or_none (set.contains x p) (set.contains (set.empty {R = nat_cmp}) p) (has-empty p)
+    has-union x (union_of (take 0 xs)) p ∙ ap (λ s. set.contains x p || set.contains s p) (sym (union_none xs)) ∙ ap (λ b. set.contains x p || b) (has-empty p) ∙ or_false (set.contains x p)
+    ∙ sym (ap (λ b. b || set.contains x p) (has-empty p))
     ∙ ap (λ s. set.contains (set.empty {R = nat_cmp}) p || set.contains s p) (some_same (Some x) x y refl h) ∙ sym (has-union set.empty y p))
 union_suc (x ∷ xs) (suc i) y h = ap (set.union x) (union_suc xs i y h) ∙ same_set _ _ (λ p.
     has-union x (set.union (union_of (take i xs)) y) p ∙ ap (λ t. set.contains x p || t) (has-union (union_of (take i xs)) y p)

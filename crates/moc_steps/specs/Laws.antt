@@ -37,14 +37,16 @@ module _ {Op Reply : Type 0} (o : Object Op Reply) where
 
   -- a permitted step of a midway client that is neither a Begin nor a Quit
   abbrev pub CanGoOn : World Op Reply → Type 0
-  CanGoOn w = (step : Step Op) × (refusal o w.locks step ≡ None) × (is_progress step ≡ true) × (r : Running Op) × (running o w (client_of step) ≡ Some r)
+  CanGoOn w = (step : Step Op) × (refusal o w.locks step ≡ None) × (is_progress step ≡ true)
+      × (r : Running Op) × (running o w (client_of step) ≡ Some r)
 
   -- more steps are bounded, keep the order, and add to it what was to come
   pub record EndsWell (start : NumberSet) (steps more : List (Step Op)) : Type 0 where
     pub bounded : length more ≤ steps_left o (led_to start steps).locks.clients
     pub kept : (new : List ℕ) × (names (led_to start (steps ++ more)).order ≡ names (led_to start steps).order ++ new)
     pub added : midway (steps ++ more) ≡ 0 → (n : ℕ)
-        → times n (names (led_to start (steps ++ more)).order) ≡ times n (names (led_to start steps).order) + (if is_to_come (slice_get (operations steps) n) then 1 else 0)
+        → times n (names (led_to start (steps ++ more)).order)
+        ≡ times n (names (led_to start steps).order) + (if is_to_come (slice_get (operations steps) n) then 1 else 0)
 
   -- what stands for operation n in the order has this reply
   abbrev pub HasReply : ℕ → Reply → List (Entry Reply) → Type 0
@@ -54,7 +56,9 @@ module _ {Op Reply : Type 0} (o : Object Op Reply) where
   -- the reply that a step gives is the one in the entry of its client's operation
   abbrev pub RepliesByEntry : World Op Reply → Step Op → Type 0
   RepliesByEntry w step = (y : Reply) → reply_to o w step ≡ Some y
-      → (r : Running Op) × (running o w (client_of step) ≡ Some r) × (times r.operation (names (world_after o w step).order) ≡ 1) × HasReply r.operation y (world_after o w step).order
+      → (r : Running Op) × (running o w (client_of step) ≡ Some r)
+      × (times r.operation (names (world_after o w step).order) ≡ 1)
+      × HasReply r.operation y (world_after o w step).order
 
   -- permitted steps lead to the world
   pub record IsReached (w : World Op Reply) : Type 0 where
@@ -67,19 +71,23 @@ module _ {Op Reply : Type 0} (o : Object Op Reply) where
 
 -- the operations of permitted steps stand in one order
 abbrev pub StepsHaveOneOrder : Type 0
-StepsHaveOneOrder = (start : NumberSet) (steps : List (Step (List Command))) → ArePlayed batches start steps → HasOneOrder batches start steps
+StepsHaveOneOrder = (start : NumberSet) (steps : List (Step (List Command))) → ArePlayed batches start steps
+    → HasOneOrder batches start steps
 
 -- where a client is midway somebody can go on
 abbrev pub WorldsAreNeverStuck : Type 0
 WorldsAreNeverStuck = (start : NumberSet) (steps : List (Step (List Command))) → ArePlayed batches start steps
-    → (c : ℕ) (r : Running (List Command)) → running batches (led_to batches start steps) c ≡ Some r → CanGoOn batches (led_to batches start steps)
+    → (c : ℕ) (r : Running (List Command)) → running batches (led_to batches start steps) c ≡ Some r
+    → CanGoOn batches (led_to batches start steps)
 
 -- from a world that permitted steps lead to, more steps that are neither Begins nor Quits
 abbrev pub WorldsEndSoon : Type 0
 WorldsEndSoon = (start : NumberSet) (steps more : List (Step (List Command))) → ArePlayed batches start steps
-    → ArePermitted batches (led_to batches start steps).locks more → AreProgress more → EndsWell batches start steps more
+    → ArePermitted batches (led_to batches start steps).locks more → AreProgress more
+    → EndsWell batches start steps more
 
 -- what a permitted step replies is in its operation's entry
 abbrev pub RepliesAreTheEntries : Type 0
-RepliesAreTheEntries = (start : NumberSet) (steps : List (Step (List Command))) (step : Step (List Command)) → ArePlayed batches start steps
-    → refusal batches (led_to batches start steps).locks step ≡ None → RepliesByEntry batches (led_to batches start steps) step
+RepliesAreTheEntries = (start : NumberSet) (steps : List (Step (List Command))) (step : Step (List Command))
+    → ArePlayed batches start steps → refusal batches (led_to batches start steps).locks step ≡ None
+    → RepliesByEntry batches (led_to batches start steps) step

@@ -1,9 +1,9 @@
 //! Laws of the step machine, over all lists of permitted steps. The calls do nothing.
 ghost use Rattle.moc_steps.specs.Laws.{RepliesAreTheEntries, StepsHaveOneOrder, WorldsAreNeverStuck, WorldsEndSoon};
 
-/// The operations of permitted steps that have begun to edit stand in one order, which keeps what ended before another began, in
-/// which each finished one replied as one single set replies. Each part lies in its base pixel; where no client is midway, the
-/// twelve parts together are that set.
+/// The operations of permitted steps that have begun to edit stand in one order, which keeps what ended before another
+/// began, in which each finished one replied as one single set replies. Each part lies in its base pixel; where no
+/// client is midway, the twelve parts together are that set.
 pub fn steps_have_one_order()
     ensures { StepsHaveOneOrder }
 {}
@@ -13,8 +13,8 @@ pub fn worlds_are_never_stuck()
     ensures { WorldsAreNeverStuck }
 {}
 
-/// Steps that are neither Begins nor Quits are few, keep the order, and add to it just the operations that were midway, did not
-/// quit and had not begun to edit.
+/// Steps that are neither Begins nor Quits are few, keep the order, and add to it just the operations that were midway,
+/// did not quit and had not begun to edit.
 pub fn worlds_end_soon()
     ensures { WorldsEndSoon }
 {}

@@ -7,7 +7,7 @@ ghost use Rattle.moc_ranges.specs.Operations.{part_of};
 ghost use Rattle.moc_parts.specs.Batches.{batches, footprint_of_all, set_after_all, replies_on};
 ghost use Rattle.moc_steps.specs.Locks as locks;
 ghost use Rattle.moc_steps.specs.Locks.{begins, holds, holds_some, edit_refusal, give_refusal, quit_refusal, end_refusal};
-ghost use Rattle.moc_steps.specs.Standing.{IsMade};
+ghost use Rattle.moc_steps.specs.Private.Standing.{IsMade};
 
 use crate::error::StepError;
 use crate::made::{Made, no_lists};
@@ -38,14 +38,25 @@ pub(crate) struct Midway {
 impl Model for Midway {
     ghost use Rattle.std.specs.Prelude.{option_map};
     ghost use Rattle.moc_parts.specs.Parts.{union_of};
-    ghost use Rattle.moc_steps.specs.Standing.{Standing, KeepsNotes, notes};
-    ghost use Rattle.moc_steps.specs.Codes.{standing_code};
+    ghost use Rattle.moc_steps.specs.Private.Standing.{Standing, KeepsNotes, notes};
+    ghost use Rattle.moc_steps.specs.Private.Codes.{standing_code};
 
     ghost Value = { Standing };
 
     ghost coded = { standing_code };
 
-    ghost view = { λ m. record { running = record { operation = m.operation; command = m.batch; taken = m.taken; edited = m.edited; given = m.given; quits = m.quits }; found = union_of (notes m.found); place = option_map (λ x. x.place) m.made } };
+    ghost view = { λ m. record {
+      running = record {
+        operation = m.operation;
+        command = m.batch;
+        taken = m.taken;
+        edited = m.edited;
+        given = m.given;
+        quits = m.quits;
+      };
+      found = union_of (notes m.found);
+      place = option_map (λ x. x.place) m.made;
+    } };
 
     ghost invariant = { λ m. KeepsNotes m.batch m.edited m.parts.items m.found m.made };
 }
@@ -53,7 +64,8 @@ impl Model for Midway {
 impl Midway {
     /// A client that begins.
     pub(crate) fn new(alloc: Global, operation: u64, batch: Batch) -> Result<Midway, Memory>
-        ensures { IfOk result (λ m. m ≡ record { running = begins batches operation batch; found = set.empty; place = None }) }
+        ensures { IfOk result (λ m.
+            m ≡ record { running = begins batches operation batch; found = set.empty; place = None }) }
     {
         let parts = parts_of(alloc, &batch)?;
         Ok(Midway {
@@ -222,7 +234,10 @@ impl Midway {
         requires own { part_of list part ≡ list }
         requires fresh { part_of self.old.found part ≡ set.empty }
         requires first { self.old.place ≡ None }
-        ensures { self.new ≡ record { running = record self.old.running { taken = suc self.old.running.taken }; found = set.union self.old.found list; place = self.old.place } }
+        ensures { self.new ≡ record self.old {
+          running = record self.old.running { taken = suc self.old.running.taken };
+          found = set.union self.old.found list;
+        } }
     {
         self.found[usize::from(part.get())] = Some(list);
         self.taken += 1;
@@ -239,28 +254,34 @@ impl Midway {
     /// Has edited a part.
     pub(crate) fn edit(&mut self, part: Part)
         requires { IsSome self.old.place }
-        ensures { self.new ≡ record { running = record self.old.running { edited = set.insert self.old.running.edited part }; found = self.old.found; place = self.old.place } }
+        ensures { self.new ≡ record self.old {
+          running = record self.old.running { edited = set.insert self.old.running.edited part };
+        } }
     {
         self.edited.insert(part);
     }
 
     /// Has given a part back.
     pub(crate) fn give(&mut self, part: Part)
-        ensures { self.new ≡ record { running = record self.old.running { given = set.insert self.old.running.given part }; found = self.old.found; place = self.old.place } }
+        ensures { self.new ≡ record self.old {
+          running = record self.old.running { given = set.insert self.old.running.given part };
+        } }
     {
         self.given.insert(part);
     }
 
     /// Quits.
     pub(crate) fn quit(&mut self)
-        ensures { self.new ≡ record { running = record self.old.running { quits = true }; found = self.old.found; place = self.old.place } }
+        ensures { self.new ≡ record self.old { running = record self.old.running { quits = true } } }
     {
         self.quits = true;
     }
 
     /// Its replies and a copy of them, if it is committed.
     pub(crate) fn into_replies(self) -> Option<(Replies, Replies)>
-        ensures { result ≡ option_map (λ place. (replies_on self.found self.running.command, replies_on self.found self.running.command)) self.place }
+        ensures { result ≡ option_map
+            (λ place. (replies_on self.found self.running.command, replies_on self.found self.running.command))
+            self.place }
     {
         let Midway { made, .. } = self;
         match made {

@@ -54,11 +54,14 @@ fn start_of(alloc: Global, start: &Coverage) -> Result<World, Memory>
     World::new(alloc, start.try_copy(alloc)?)
 }
 
-/// A permitted step of a midway client, never a Quit or a Begin; `None` exactly where no client is midway. Takes no memory.
+/// A permitted step of a midway client, never a Quit or a Begin; `None` exactly where no client is midway. Takes no
+/// memory.
 ///
-/// It is a step of the client that holds the highest part that is held; where no part is held, of the first client midway.
+/// It is a step of the client that holds the highest part that is held; where no part is held, of the first client
+/// midway.
 pub fn next_step(world: &World) -> Option<Step>
-    ensures some { IfSome result (λ s. (refusal batches world.now.locks (step_of s) ≡ None) × (is_progress (step_of s) ≡ true)) }
+    ensures some { IfSome result (λ s.
+        (refusal batches world.now.locks (step_of s) ≡ None) × (is_progress (step_of s) ≡ true)) }
     ensures none { (result ≡ None) ↔ (map.len world.now.locks.clients ≡ 0) }
 {
     world.next()
@@ -66,8 +69,8 @@ pub fn next_step(world: &World) -> Option<Step>
 
 /// Takes the steps that `next_step` names until no client is midway, and answers how many.
 ///
-/// They are at most three for each part of the footprints of the clients that were midway, and one for each. Where memory runs
-/// out the world is where the steps so far left it.
+/// They are at most three for each part of the footprints of the clients that were midway, and one for each. Where
+/// memory runs out the world is where the steps so far left it.
 pub fn drain(world: &mut World) -> Result<u64, Memory>
     ensures drained { IfOk result (λ n. LeadsOn world.old n world.new) }
     ensures ended { OnOk result (map.len world.new.locks.clients ≡ 0) }

@@ -9,8 +9,9 @@ ghost use Rattle.moc_steps.specs.World.{part_at, reply_to, running, start_world,
 ghost use Rattle.moc_steps.specs.Laws.{IsReached, RepliesByEntry};
 ghost use Rattle.moc_steps.specs.Progress.{is_progress, steps_left};
 ghost use Rattle.moc_parts.specs.Parts.{union_of};
-ghost use Rattle.moc_steps.specs.Played.{entries_of, step_of, IsCoverFault, IsFree, IsHighest, IsRefused};
-ghost use Rattle.moc_steps.specs.Standing.{Standing};
+ghost use Rattle.moc_steps.specs.Played.{entries_of, step_of, IsCoverFault, IsRefused};
+ghost use Rattle.moc_steps.specs.Private.Worlds.{IsFree, IsHighest};
+ghost use Rattle.moc_steps.specs.Private.Standing.{Standing};
 
 use crate::error::{CoverError, StepError};
 use crate::midway::Midway;
@@ -36,7 +37,8 @@ pub struct World {
 
 impl Model for World {
     ghost use Rattle.moc_steps.specs.Codes.{world_code};
-    ghost use Rattle.moc_steps.specs.Played.{World as Played, world_of, IsKept};
+    ghost use Rattle.moc_steps.specs.Played.{World as Played};
+    ghost use Rattle.moc_steps.specs.Private.Worlds.{world_of, IsKept};
 
     ghost Value = { Played };
 
@@ -104,7 +106,8 @@ impl World {
 
     /// Why a Begin is refused.
     fn begin_refusal(&self, client: Option<&Midway>) -> Option<StepError>
-        ensures { result ≡ begin_refusal batches self.now.locks (option_map (λ (s : Standing). s.running) (option_copied client.entry)) }
+        ensures { result ≡ begin_refusal batches self.now.locks
+            (option_map (λ (s : Standing). s.running) (option_copied client.entry)) }
     {
         if client.is_some() {
             Some(StepError::NotIdle)
@@ -152,7 +155,8 @@ impl World {
         }
     }
 
-    /// Whether a step is permitted, and why not. O(log n) for n clients midway; takes no memory, and never answers `Memory`.
+    /// Whether a step is permitted, and why not. O(log n) for n clients midway; takes no memory, and never answers
+    /// `Memory`.
     pub fn permits(&self, step: &Step) -> Result<(), StepError>
         ensures permitted { OnOk result (refusal batches self.now.locks (step_of step.now) ≡ None) }
         ensures refused { IfErr result (λ why. refusal batches self.now.locks (step_of step.now) ≡ Some why) }
@@ -165,8 +169,8 @@ impl World {
 
     /// Takes a step, if it is permitted. An End that did not quit is answered by the replies of its operation.
     ///
-    /// Besides the batch's own work at its first Edit, O(log n) for n clients midway. A refused step changes nothing, and is given
-    /// up; `Memory` comes only from a Begin, a Take or an Edit that is permitted.
+    /// Besides the batch's own work at its first Edit, O(log n) for n clients midway. A refused step changes nothing,
+    /// and is given up; `Memory` comes only from a Begin, a Take or an Edit that is permitted.
     pub fn step(&mut self, step: Step) -> Result<Option<Replies>, StepError>
         ensures permitted { OnOk result (refusal batches self.old.locks (step_of step) ≡ None) }
         ensures after { OnOk result (self.new ≡ world_after batches self.old (step_of step)) }
@@ -174,7 +178,8 @@ impl World {
 
         // What an End replies is what stands in the entry of its operation.
         ensures entry { OnOk result (RepliesByEntry batches self.old (step_of step)) }
-        ensures refused { IfErr result (λ why. IsRefused (refusal batches self.old.locks (step_of step)) (step_of step) why) }
+        ensures refused { IfErr result (λ why.
+            IsRefused (refusal batches self.old.locks (step_of step)) (step_of step) why) }
         ensures unchanged { OnErr result (self.new ≡ self.old) }
     {
         self.permits(&step)?;
@@ -305,7 +310,8 @@ impl World {
     pub(crate) fn play(&mut self, step: &Step) -> Result<(), StepError>
         ensures permitted { OnOk result (refusal batches self.old.locks (step_of step.now) ≡ None) }
         ensures after { OnOk result (self.new ≡ world_after batches self.old (step_of step.now)) }
-        ensures refused { IfErr result (λ why. IsRefused (refusal batches self.old.locks (step_of step.now)) (step_of step.now) why) }
+        ensures refused { IfErr result (λ why.
+            IsRefused (refusal batches self.old.locks (step_of step.now)) (step_of step.now) why) }
         ensures unchanged { OnErr result (self.new ≡ self.old) }
     {
         self.permits(step)?;
@@ -324,7 +330,8 @@ impl World {
 
     /// A permitted step of a midway client, neither a Quit nor a Begin, where a client is midway.
     pub(crate) fn next(&self) -> Option<Step>
-        ensures some { IfSome result (λ s. (refusal batches self.now.locks (step_of s) ≡ None) × (is_progress (step_of s) ≡ true)) }
+        ensures some { IfSome result (λ s.
+            (refusal batches self.now.locks (step_of s) ≡ None) × (is_progress (step_of s) ≡ true)) }
         ensures none { result ≡ None → map.len self.now.locks.clients ≡ 0 }
     {
         for above in 0u8..12 {
@@ -339,7 +346,8 @@ impl World {
     /// The next step of the client that holds the highest part that is held.
     fn step_of_holder(&self, client: u32, part: Part) -> Option<Step>
         requires { IsHighest self.now client part }
-        ensures step { IfSome result (λ s. (refusal batches self.now.locks (step_of s) ≡ None) × (is_progress (step_of s) ≡ true)) }
+        ensures step { IfSome result (λ s.
+            (refusal batches self.now.locks (step_of s) ≡ None) × (is_progress (step_of s) ≡ true)) }
         ensures is { IsSome result }
     {
         let midway = self.clients.get(client)?;
@@ -355,7 +363,8 @@ impl World {
     /// The next step of the first midway client, where no part is held.
     fn step_of_first(&self) -> Option<Step>
         requires { IsFree self.now }
-        ensures some { IfSome result (λ s. (refusal batches self.now.locks (step_of s) ≡ None) × (is_progress (step_of s) ≡ true)) }
+        ensures some { IfSome result (λ s.
+            (refusal batches self.now.locks (step_of s) ≡ None) × (is_progress (step_of s) ≡ true)) }
         ensures none { result ≡ None → map.len self.now.locks.clients ≡ 0 }
     {
         let client = self.clients.first()?;

@@ -22,7 +22,7 @@ use Rattle.moc_ranges.specs.Numbers.{NumberSet, same_members}
 use Rattle.moc_ranges.specs.Pixels.{pixels}
 use Rattle.moc_ranges.specs.Operations.{IsWithin}
 use Rattle.moc_ranges.specs.Cells.{span, pixels_of, is_cell_of, cells_below, cells_of}
-use Rattle.moc_ranges.specs.CellLaws.{cells_are}
+use Rattle.moc_ranges.specs.Laws.Cells.{cells_are}
 use Rattle.moc_ranges.specs.Laws.{cells_fill}
 use Rattle.moc_text.specs.Ascii.{deeper, IsNumber}
 use Rattle.moc_text.specs.AsciiText.{HasDeeper, IsTooCoarse, deepest_cell, deepest_written, stated_beyond}

@@ -27,7 +27,7 @@ use Rattle.moc_ranges.specs.Numbers.{NumberSet, same_members}
 use Rattle.moc_ranges.specs.Pixels.{pixels, pixel_count}
 use Rattle.moc_ranges.specs.Operations.{IsWithin}
 use Rattle.moc_ranges.specs.Cells.{span, spans, pixels_of, cells_of, contains-spans}
-use Rattle.moc_ranges.specs.CellLaws.{cells_are}
+use Rattle.moc_ranges.specs.Laws.Cells.{cells_are}
 use Rattle.moc_ranges.specs.Laws.{spans-one, cells_fill, union-assoc, empty-union}
 use Rattle.std.proofs.lemmas.Bool.Decides.{nat_tests}
 

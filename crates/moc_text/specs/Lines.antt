@@ -2,6 +2,7 @@
 use Rattle.std.specs.Prelude.{ℕ, Bool, ◌==◌, List, [], ◌∷◌, if◌then◌else◌}
 use Rattle.std.specs.List.{onto_first}
 
+-- a line feed ends a line
 abbrev pub is_line_feed : ℕ → Bool
 is_line_feed b = b == 10
 

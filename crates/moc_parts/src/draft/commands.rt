@@ -57,8 +57,11 @@ impl<'a> Draft<'a> {
     /// Adds a set if nothing of it is there.
     fn claim(&mut self, alloc: Global, other: &Coverage) -> Result<Reply, Memory>
         requires { IsWithin other.now pixels }
-        ensures set { OnOk result (self.new.set ≡ (if meets self.old.set other.now then self.old.set else set.union self.old.set other.now)) }
-        ensures reply { IfOk result (λ r. r ≡ (if meets self.old.set other.now then reply.Taken (set.len (set.intersection self.old.set other.now)) else reply.Claimed)) }
+        ensures set { OnOk result (self.new.set
+            ≡ (if meets self.old.set other.now then self.old.set else set.union self.old.set other.now)) }
+        ensures reply { IfOk result (λ r. r ≡ (if meets self.old.set other.now
+            then reply.Taken (set.len (set.intersection self.old.set other.now))
+            else reply.Claimed)) }
         ensures found { self.new.found ≡ self.old.found }
     {
         let common = self.count_common(other);
@@ -83,7 +86,8 @@ impl<'a> Draft<'a> {
     fn degrade(&mut self, alloc: Global, order: Order) -> Result<Reply, Memory>
         requires { order ≤ 29 }
         ensures set { OnOk result (self.new.set ≡ degrade self.old.set order) }
-        ensures reply { IfOk result (λ r. r ≡ reply.Changed (set.len (set.difference (degrade self.old.set order) self.old.set))) }
+        ensures reply { IfOk result (λ r.
+            r ≡ reply.Changed (set.len (set.difference (degrade self.old.set order) self.old.set))) }
         ensures found { self.new.found ≡ self.old.found }
     {
         let before = self.count();

@@ -16,28 +16,38 @@ use Rattle.moc_ranges.specs.Numbers.{NumberSet, same_members}
 use Rattle.moc_ranges.specs.Pixels.{pixel_count, pixels}
 use Rattle.moc_ranges.specs.Operations.{IsWithin, contains-pixels}
 use Rattle.moc_ranges.specs.RangeList.{set_of, contains-set_of, in_range, in_ranges}
+use Rattle.moc_ranges.specs.Same.{same_truth}
 use Rattle.moc_ranges.specs.Cells.{span, contains-span, is_cell_of, cells_below, cells_of, cell_range, AllUniqFrom, IsRisingUniq}
 
 -- ---- cells
 
-AllByRecursion-append : {X : Type 0} (P : X → Type 0) (xs ys : List X) → AllByRecursion P xs → AllByRecursion P ys → AllByRecursion P (xs ++ ys)
+AllByRecursion-append : {X : Type 0} (P : X → Type 0) (xs ys : List X) → AllByRecursion P xs → AllByRecursion P ys
+    → AllByRecursion P (xs ++ ys)
 AllByRecursion-append P [] ys all more = more
 AllByRecursion-append P (x ∷ xs) ys all more = (all.0, AllByRecursion-append P xs ys all.1 more)
 
-AllByRecursion-filter : {X : Type 0} (P : X → Type 0) (p : X → Bool) (xs : List X) → AllByRecursion P xs → AllByRecursion P (filter p xs)
+AllByRecursion-filter : {X : Type 0} (P : X → Type 0) (p : X → Bool) (xs : List X) → AllByRecursion P xs
+    → AllByRecursion P (filter p xs)
 AllByRecursion-filter P p [] all = tt
 AllByRecursion-filter P p (x ∷ xs) all =
     let rest = AllByRecursion-filter P p xs all.1 in
-    elim (p x) as (λ b. AllByRecursion P (cond b (x ∷ filter p xs) (filter p xs))) [ true ↦ (all.0, rest) | false ↦ rest ]
+    elim (p x) as (λ b. AllByRecursion P (cond b (x ∷ filter p xs) (filter p xs))) [
+      | true ↦ (all.0, rest)
+      | false ↦ rest
+    ]
 
-cells_of_order : (k from n : ℕ) → k ≤ 29 → from + n ≤ cell_count k → AllByRecursion IsCell (map (cell_number k) (range_with_len from n))
+cells_of_order : (k from n : ℕ) → k ≤ 29 → from + n ≤ cell_count k
+    → AllByRecursion IsCell (map (cell_number k) (range_with_len from n))
 cells_of_order k from zero small fits = tt
-cells_of_order k from (suc n) small fits = (record { order_in_range = small; index_in_range = omega arith }, cells_of_order k (from + 1) n small (omega arith))
+cells_of_order k from (suc n) small fits =
+    (record { order_in_range = small; index_in_range = omega arith }, cells_of_order k (from + 1) n small (omega arith))
 
 cells_below-are : (orders : ℕ) → orders ≤ 30 → AllByRecursion IsCell (cells_below orders)
 unfolding cells_below
 cells_below-are zero small = tt
-cells_below-are (suc k) small = AllByRecursion-append IsCell (cells_below k) _ (cells_below-are k (omega arith)) (cells_of_order k 0 (cell_count k) (omega arith) (omega arith))
+cells_below-are (suc k) small =
+    AllByRecursion-append IsCell (cells_below k) _ (cells_below-are k (omega arith))
+    (cells_of_order k 0 (cell_count k) (omega arith) (omega arith))
 
 -- the cells of a set are cells
 pub cells_are : (a : NumberSet) → AllByRecursion IsCell (cells_of a)
@@ -57,6 +67,7 @@ in_cell_range i w q pos is =
     let high : q < (i + 1) * w = omega arith in
     and_from _ _ (le-leb (i * w) q low) (lt-ltb q ((i + 1) * w) high)
 
+-- and only those
 pub of_cell_range : (i w q : ℕ) → 0 < w → in_range (i * w, (i + 1) * w) q ≡ true → q / w ≡ i
 of_cell_range i w q pos has =
     let parts = and_parts _ _ has in
@@ -72,36 +83,52 @@ four_parts k small =
     let deeper : 29 - k ≡ suc (29 - suc k) = omega arith in
     ap (λ n. 4 ^ n) deeper ∙ pow-succ' 4 (29 - suc k) ∙ omega arith
 
+-- the cell of a pixel has the parent that is its cell of the order before
 pub parent_of_pixel : (k q : ℕ) → k < 29 → q / cell_size (suc k) / 4 ≡ q / cell_size k
 parent_of_pixel k q small = div-div-eq-div-mul q (cell_size (suc k)) 4 ∙ ap (λ w. q / w) (sym (four_parts k small))
 
 -- ---- what the cells of a set have is in the set
 
-pub in_span : (k i q : ℕ) → k ≤ 29 → i < cell_count k → in_range (cell_range (cell_number k i)) q ≡ true → set.contains (span k i) q ≡ true
+-- the numbers of a cell are the pixels of its span
+pub in_span : (k i q : ℕ) → k ≤ 29 → i < cell_count k → in_range (cell_range (cell_number k i)) q ≡ true
+    → set.contains (span k i) q ≡ true
 in_span k i q small fits has =
     let of_it : q / cell_size k ≡ i = of_cell_range i (cell_size k) q (cell_size-positive k) has in
-    let high : q < (i + 1) * cell_size k = ltb-true q ((i + 1) * cell_size k) (and_parts (nat_le (i * cell_size k) q) (nat_lt q ((i + 1) * cell_size k)) has).1 in
-    let whole : (i + 1) * cell_size k ≤ cell_count k * cell_size k = mul-le (i + 1) (cell_size k) (cell_count k) (cell_size k) (omega arith) (omega arith) in
+    let high : q < (i + 1) * cell_size k =
+    ltb-true q ((i + 1) * cell_size k)
+    (and_parts (nat_le (i * cell_size k) q) (nat_lt q ((i + 1) * cell_size k)) has).1 in
+    let whole : (i + 1) * cell_size k ≤ cell_count k * cell_size k =
+    mul-le (i + 1) (cell_size k) (cell_count k) (cell_size k) (omega arith) (omega arith) in
     let fills = cell_size-fills k small in
     let last : q < pixel_count = omega arith in
     contains-span k i q ∙ and_from _ _ (lt-ltb q pixel_count last) (eq-eqb (q / cell_size k) i of_it)
 
-cell_inside : (a : NumberSet) (c : CellNumber) (q : ℕ) → IsCell c → is_cell_of a c ≡ true → in_range (cell_range c) q ≡ true → set.contains a q ≡ true
+cell_inside : (a : NumberSet) (c : CellNumber) (q : ℕ) → IsCell c → is_cell_of a c ≡ true
+    → in_range (cell_range c) q ≡ true → set.contains a q ≡ true
 unfolding is_cell_of
 cell_inside a c q is of_a has =
     let sub = (and_parts _ _ of_a).0 in
-    set.is_subset-contains nat_cmp_total (span c.order c.index) a sub q (in_span c.order c.index q is.order_in_range is.index_in_range has)
+    set.is_subset-contains nat_cmp_total (span c.order c.index) a sub q
+    (in_span c.order c.index q is.order_in_range is.index_in_range has)
 
-cells_inside : (a : NumberSet) (cells : List CellNumber) (q : ℕ) → AllByRecursion IsCell cells → in_ranges (map cell_range (filter (is_cell_of a) cells)) q ≡ true → set.contains a q ≡ true
+cells_inside : (a : NumberSet) (cells : List CellNumber) (q : ℕ) → AllByRecursion IsCell cells
+    → in_ranges (map cell_range (filter (is_cell_of a) cells)) q ≡ true → set.contains a q ≡ true
 cells_inside a [] q are has = absurd (false≢true has)
 cells_inside a (c ∷ cells) q are has = elim (cases_Bool (is_cell_of a c)) [
   | inl of_a ↦
-      let at = subst (λ (b : Bool). in_ranges (map cell_range (cond b (c ∷ filter (is_cell_of a) cells) (filter (is_cell_of a) cells))) q ≡ true) of_a has in
+      let at =
+      subst (λ (b : Bool).
+      in_ranges (map cell_range (cond b (c ∷ filter (is_cell_of a) cells) (filter (is_cell_of a) cells))) q
+      ≡ true) of_a has in
       elim (or_cases _ _ at) [
         | inl here ↦ cell_inside a c q are.0 of_a here
         | inr later ↦ cells_inside a cells q are.1 later
       ]
-  | inr other ↦ cells_inside a cells q are.1 (subst (λ (b : Bool). in_ranges (map cell_range (cond b (c ∷ filter (is_cell_of a) cells) (filter (is_cell_of a) cells))) q ≡ true) other has)
+  | inr other ↦
+      cells_inside a cells q are.1
+      (subst (λ (b : Bool).
+      in_ranges (map cell_range (cond b (c ∷ filter (is_cell_of a) cells) (filter (is_cell_of a) cells))) q
+      ≡ true) other has)
 ]
 
 -- ---- what is in the set is in one of its cells
@@ -119,7 +146,8 @@ largest_cell a q (suc k) small sub = elim (cases_Bool (set.is_subset (span k (q 
   | inl whole ↦ largest_cell a q k (omega arith) whole
   | inr partly ↦
       let before : suc k - 1 ≡ k = omega arith in
-      let parent : set.is_subset (span (suc k - 1) (q / cell_size (suc k) / 4)) a ≡ false = (λ i. set.is_subset (span (before i) (parent_of_pixel k q (omega arith) i)) a) ∙ partly in
+      let parent : set.is_subset (span (suc k - 1) (q / cell_size (suc k) / 4)) a ≡ false =
+      (λ i. set.is_subset (span (before i) (parent_of_pixel k q (omega arith) i)) a) ∙ partly in
       record { order = suc k; order_in_range = small; is = and_from _ _ sub (or_right _ _ (not_from_false _ parent)) }
 ]
 
@@ -137,24 +165,34 @@ pixel_inside a q has = set.contains-is_subset nat_cmp_total (span 29 (q / cell_s
     let same : p ≡ q = sym (div_one p) ∙ eqb-true _ _ both.1 ∙ div_one q in
     ap (set.contains a) same ∙ has)
 
-kept_range : (p : CellNumber → Bool) (k i from n q : ℕ) → from ≤ i → i < from + n → p (cell_number k i) ≡ true → in_range (cell_range (cell_number k i)) q ≡ true → in_ranges (map cell_range (filter p (map (cell_number k) (range_with_len from n)))) q ≡ true
+kept_range : (p : CellNumber → Bool) (k i from n q : ℕ) → from ≤ i → i < from + n → p (cell_number k i) ≡ true
+    → in_range (cell_range (cell_number k i)) q ≡ true
+    → in_ranges (map cell_range (filter p (map (cell_number k) (range_with_len from n)))) q ≡ true
 kept_range p k i from zero q low high is has = absurd (omega arith)
 kept_range p k i from (suc n) q low high is has =
     let rest = filter p (map (cell_number k) (range_with_len (from + 1) n)) in
     elim (cases_eq from i) [
       | inl same ↦
           let kept : p (cell_number k from) ≡ true = ap (λ j. p (cell_number k j)) same ∙ is in
-          let here : in_range (cell_range (cell_number k from)) q ≡ true = ap (λ j. in_range (cell_range (cell_number k j)) q) same ∙ has in
-          ap (λ (b : Bool). in_ranges (map cell_range (cond b (cell_number k from ∷ rest) rest)) q) kept ∙ or_left _ _ here
+          let here : in_range (cell_range (cell_number k from)) q ≡ true =
+          ap (λ j. in_range (cell_range (cell_number k j)) q) same ∙ has in
+          ap (λ (b : Bool). in_ranges (map cell_range (cond b (cell_number k from ∷ rest) rest)) q) kept
+          ∙ or_left _ _ here
       | inr other ↦
           let later = kept_range p k i (from + 1) n q (omega arith) (omega arith) is has in
-          elim (p (cell_number k from)) as (λ b. in_ranges (map cell_range (cond b (cell_number k from ∷ rest) rest)) q ≡ true) [ true ↦ or_right _ _ later | false ↦ later ]
+          elim (p (cell_number k from)) as (λ b.
+          in_ranges (map cell_range (cond b (cell_number k from ∷ rest) rest)) q ≡ true) [
+            | true ↦ or_right _ _ later
+            | false ↦ later
+          ]
     ]
 
 in_ranges-append : (rs ss : List (ℕ × ℕ)) (q : ℕ) → in_ranges (rs ++ ss) q ≡ (in_ranges rs q || in_ranges ss q)
 in_ranges-append rs ss q = list_any-append (λ range. in_range range q) rs ss
 
-kept_below : (p : CellNumber → Bool) (k i orders q : ℕ) → k < orders → i < cell_count k → p (cell_number k i) ≡ true → in_range (cell_range (cell_number k i)) q ≡ true → in_ranges (map cell_range (filter p (cells_below orders))) q ≡ true
+kept_below : (p : CellNumber → Bool) (k i orders q : ℕ) → k < orders → i < cell_count k → p (cell_number k i) ≡ true
+    → in_range (cell_range (cell_number k i)) q ≡ true
+    → in_ranges (map cell_range (filter p (cells_below orders))) q ≡ true
 unfolding cells_below
 kept_below p k i zero q lt fits is has = absurd (omega arith)
 kept_below p k i (suc orders) q lt fits is has =
@@ -163,34 +201,36 @@ kept_below p k i (suc orders) q lt fits is has =
     ∙ ap (λ rs. in_ranges rs q) (map-append cell_range (filter p (cells_below orders)) (filter p here))
     ∙ in_ranges-append (map cell_range (filter p (cells_below orders))) (map cell_range (filter p here)) q
     ∙ elim (cases_eq k orders) [
-      | inl same ↦ or_right _ _ (subst (λ (o : ℕ). in_ranges (map cell_range (filter p (map (cell_number o) (range_with_len 0 (cell_count o))))) q ≡ true) same (kept_range p k i 0 (cell_count k) q (omega arith) (omega arith) is has))
+      | inl same ↦
+          or_right _ _ (subst (λ (o : ℕ).
+          in_ranges (map cell_range (filter p (map (cell_number o) (range_with_len 0 (cell_count o))))) q ≡ true)
+          same (kept_range p k i 0 (cell_count k) q (omega arith) (omega arith) is has))
       | inr other ↦ or_left _ _ (kept_below p k i orders q (omega arith) fits is has)
     ]
 
 index_fits : (k q : ℕ) → k ≤ 29 → q < pixel_count → q / cell_size k < cell_count k
-index_fits k q small lt = div_below q (cell_size k) (cell_count k) (cell_size-positive k) (omega (arith, cell_size-fills k small))
+index_fits k q small lt =
+    div_below q (cell_size k) (cell_count k) (cell_size-positive k) (omega (arith, cell_size-fills k small))
 
-has_cell : (a : NumberSet) (q : ℕ) → q < pixel_count → set.contains a q ≡ true → in_ranges (map cell_range (cells_of a)) q ≡ true
+has_cell : (a : NumberSet) (q : ℕ) → q < pixel_count → set.contains a q ≡ true
+    → in_ranges (map cell_range (cells_of a)) q ≡ true
 unfolding cells_of
 has_cell a q lt has =
     let c = largest_cell a q 29 (omega arith) (pixel_inside a q has) in
-    kept_below (is_cell_of a) c.order (q / cell_size c.order) 30 q (omega (arith, c.order_in_range)) (index_fits c.order q c.order_in_range lt) c.is
+    kept_below (is_cell_of a) c.order (q / cell_size c.order) 30 q (omega (arith, c.order_in_range))
+    (index_fits c.order q c.order_in_range lt) c.is
     (in_cell_range (q / cell_size c.order) (cell_size c.order) q (cell_size-positive c.order) refl)
 
 inside_only : (a : NumberSet) (q : ℕ) → in_ranges (map cell_range (cells_of a)) q ≡ true → set.contains a q ≡ true
 unfolding cells_of
 inside_only a q has = cells_inside a (cells_below 30) q (cells_below-are 30 (omega arith)) has
 
-pub same_truth : (x y : Bool) → (x ≡ true → y ≡ true) → (y ≡ true → x ≡ true) → x ≡ y
-same_truth true y there back = sym (there refl)
-same_truth false true there back = back refl
-same_truth false false there back = refl
-
 -- the pixels of the cells of a set are the set's
 pub cells_fill : (a : NumberSet) → IsWithin a pixels → set_of (map cell_range (cells_of a)) ≡ a
 cells_fill a within = same_members _ a (λ q.
     contains-set_of (map cell_range (cells_of a)) q
-    ∙ same_truth _ _ (inside_only a q) (λ has. has_cell a q (ltb-true q pixel_count (sym (contains-pixels q) ∙ within.each q has)) has))
+    ∙ same_truth _ _ (inside_only a q)
+    (λ has. has_cell a q (ltb-true q pixel_count (sym (contains-pixels q) ∙ within.each q has)) has))
 
 -- ---- the order of cells
 
@@ -198,7 +238,8 @@ abbrev AllUniqBelow : ℕ → List CellNumber → Type 0
 AllUniqBelow high [] = ⊤
 AllUniqBelow high (c ∷ cells) = (uniq_of c < high) × AllUniqBelow high cells
 
-AllUniqFrom-append : (low : ℕ) (xs ys : List CellNumber) → AllUniqFrom low xs → AllUniqFrom low ys → AllUniqFrom low (xs ++ ys)
+AllUniqFrom-append : (low : ℕ) (xs ys : List CellNumber) → AllUniqFrom low xs → AllUniqFrom low ys
+    → AllUniqFrom low (xs ++ ys)
 AllUniqFrom-append low [] ys all more = more
 AllUniqFrom-append low (x ∷ xs) ys all more = (all.0, AllUniqFrom-append low xs ys all.1 more)
 
@@ -206,47 +247,63 @@ AllUniqFrom-less : (low lower : ℕ) (xs : List CellNumber) → lower ≤ low �
 AllUniqFrom-less low lower [] le all = tt
 AllUniqFrom-less low lower (x ∷ xs) le all = (omega arith, AllUniqFrom-less low lower xs le all.1)
 
-AllUniqFrom-filter : (low : ℕ) (p : CellNumber → Bool) (xs : List CellNumber) → AllUniqFrom low xs → AllUniqFrom low (filter p xs)
+AllUniqFrom-filter : (low : ℕ) (p : CellNumber → Bool) (xs : List CellNumber) → AllUniqFrom low xs
+    → AllUniqFrom low (filter p xs)
 AllUniqFrom-filter low p [] all = tt
 AllUniqFrom-filter low p (x ∷ xs) all =
     let rest = AllUniqFrom-filter low p xs all.1 in
-    elim (p x) as (λ b. AllUniqFrom low (cond b (x ∷ filter p xs) (filter p xs))) [ true ↦ (all.0, rest) | false ↦ rest ]
+    elim (p x) as (λ b. AllUniqFrom low (cond b (x ∷ filter p xs) (filter p xs))) [
+      | true ↦ (all.0, rest)
+      | false ↦ rest
+    ]
 
-AllUniqBelow-append : (high : ℕ) (xs ys : List CellNumber) → AllUniqBelow high xs → AllUniqBelow high ys → AllUniqBelow high (xs ++ ys)
+AllUniqBelow-append : (high : ℕ) (xs ys : List CellNumber) → AllUniqBelow high xs → AllUniqBelow high ys
+    → AllUniqBelow high (xs ++ ys)
 AllUniqBelow-append high [] ys all more = more
 AllUniqBelow-append high (x ∷ xs) ys all more = (all.0, AllUniqBelow-append high xs ys all.1 more)
 
-AllUniqBelow-more : (high higher : ℕ) (xs : List CellNumber) → high ≤ higher → AllUniqBelow high xs → AllUniqBelow higher xs
+AllUniqBelow-more : (high higher : ℕ) (xs : List CellNumber) → high ≤ higher → AllUniqBelow high xs
+    → AllUniqBelow higher xs
 AllUniqBelow-more high higher [] le all = tt
 AllUniqBelow-more high higher (x ∷ xs) le all = (omega arith, AllUniqBelow-more high higher xs le all.1)
 
-IsRisingUniq-append : (middle : ℕ) (xs ys : List CellNumber) → IsRisingUniq xs → AllUniqBelow middle xs → IsRisingUniq ys → AllUniqFrom middle ys → IsRisingUniq (xs ++ ys)
+IsRisingUniq-append : (middle : ℕ) (xs ys : List CellNumber) → IsRisingUniq xs → AllUniqBelow middle xs
+    → IsRisingUniq ys → AllUniqFrom middle ys → IsRisingUniq (xs ++ ys)
 IsRisingUniq-append middle [] ys up below more from = more
-IsRisingUniq-append middle (x ∷ xs) ys up below more from =
-    (AllUniqFrom-append (uniq_of x + 1) xs ys up.0 (AllUniqFrom-less middle (uniq_of x + 1) ys (omega arith) from), IsRisingUniq-append middle xs ys up.1 below.1 more from)
+IsRisingUniq-append middle (x ∷ xs) ys up below more from = (
+  AllUniqFrom-append (uniq_of x + 1) xs ys up.0 (AllUniqFrom-less middle (uniq_of x + 1) ys (omega arith) from),
+  IsRisingUniq-append middle xs ys up.1 below.1 more from,
+)
 
 IsRisingUniq-filter : (p : CellNumber → Bool) (xs : List CellNumber) → IsRisingUniq xs → IsRisingUniq (filter p xs)
 IsRisingUniq-filter p [] up = tt
 IsRisingUniq-filter p (x ∷ xs) up =
     let rest = IsRisingUniq-filter p xs up.1 in
-    elim (p x) as (λ b. IsRisingUniq (cond b (x ∷ filter p xs) (filter p xs))) [ true ↦ (AllUniqFrom-filter (uniq_of x + 1) p xs up.0, rest) | false ↦ rest ]
+    elim (p x) as (λ b. IsRisingUniq (cond b (x ∷ filter p xs) (filter p xs))) [
+      | true ↦ (AllUniqFrom-filter (uniq_of x + 1) p xs up.0, rest)
+      | false ↦ rest
+    ]
 
-order_from : (k low from n : ℕ) → low ≤ 4 ^ (k + 1) + from → AllUniqFrom low (map (cell_number k) (range_with_len from n))
+order_from : (k low from n : ℕ) → low ≤ 4 ^ (k + 1) + from
+    → AllUniqFrom low (map (cell_number k) (range_with_len from n))
 order_from k low from zero le = tt
 order_from k low from (suc n) le = (le, order_from k low (from + 1) n (omega arith))
 
 order_rising : (k from n : ℕ) → IsRisingUniq (map (cell_number k) (range_with_len from n))
 order_rising k from zero = tt
-order_rising k from (suc n) = (order_from k (4 ^ (k + 1) + from + 1) (from + 1) n (omega arith), order_rising k (from + 1) n)
+order_rising k from (suc n) =
+    (order_from k (4 ^ (k + 1) + from + 1) (from + 1) n (omega arith), order_rising k (from + 1) n)
 
-order_below : (k from n high : ℕ) → 4 ^ (k + 1) + (from + n) ≤ high → AllUniqBelow high (map (cell_number k) (range_with_len from n))
+order_below : (k from n high : ℕ) → 4 ^ (k + 1) + (from + n) ≤ high
+    → AllUniqBelow high (map (cell_number k) (range_with_len from n))
 order_below k from zero high le = tt
 order_below k from (suc n) high le = (omega arith, order_below k (from + 1) n high (omega arith))
 
 next_power : (k : ℕ) → 4 ^ (k + 1) ≡ 4 * 4 ^ k
 next_power k = let one : k + 1 ≡ suc k = omega arith in ap (λ e. 4 ^ e) one ∙ pow-succ' 4 k
 
-cells_below-rise : (orders : ℕ) → IsRisingUniq (cells_below orders) × AllUniqBelow (4 ^ (orders + 1)) (cells_below orders)
+cells_below-rise : (orders : ℕ)
+    → IsRisingUniq (cells_below orders) × AllUniqBelow (4 ^ (orders + 1)) (cells_below orders)
 unfolding cells_below
 cells_below-rise zero = (tt, tt)
 cells_below-rise (suc k) =
@@ -255,8 +312,11 @@ cells_below-rise (suc k) =
     let same : suc k ≡ k + 1 = omega arith in
     let next : 4 ^ (suc k + 1) ≡ 4 * 4 ^ (k + 1) = next_power (suc k) ∙ ap (λ e. 4 * 4 ^ e) same in
     let last = next_power k in (
-      IsRisingUniq-append (4 ^ (k + 1)) (cells_below k) here before.0 before.1 (order_rising k 0 (cell_count k)) (order_from k (4 ^ (k + 1)) 0 (cell_count k) (omega arith)),
-      AllUniqBelow-append (4 ^ (suc k + 1)) (cells_below k) here (AllUniqBelow-more (4 ^ (k + 1)) (4 ^ (suc k + 1)) (cells_below k) (omega arith) before.1) (order_below k 0 (cell_count k) (4 ^ (suc k + 1)) (omega arith)),
+      IsRisingUniq-append (4 ^ (k + 1)) (cells_below k) here before.0 before.1 (order_rising k 0 (cell_count k))
+          (order_from k (4 ^ (k + 1)) 0 (cell_count k) (omega arith)),
+      AllUniqBelow-append (4 ^ (suc k + 1)) (cells_below k) here
+          (AllUniqBelow-more (4 ^ (k + 1)) (4 ^ (suc k + 1)) (cells_below k) (omega arith) before.1)
+          (order_below k 0 (cell_count k) (4 ^ (suc k + 1)) (omega arith)),
     )
 
 -- the cells of a set are in rising NUNIQ

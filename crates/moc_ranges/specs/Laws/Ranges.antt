@@ -13,14 +13,18 @@ use Rattle.moc_ranges.specs.Pixels.{pixel_count}
 use Rattle.moc_ranges.specs.RangeList.{set_of, contains-set_of, BeginsAfter, IsNormal, in_ranges}
 
 -- no number up to the end of a normal list's first range is in a later one
-later_only : (x q : ℕ) (ranges : List (ℕ × ℕ)) → IsNormal ranges → BeginsAfter x ranges → q ≤ x → in_ranges ranges q ≡ false
+later_only : (x q : ℕ) (ranges : List (ℕ × ℕ)) → IsNormal ranges → BeginsAfter x ranges → q ≤ x
+    → in_ranges ranges q ≡ false
 later_only x q [] normal after le = refl
-later_only x q (range ∷ ranges) normal after le = let rest = later_only range.1 q ranges normal.3 normal.2 (omega arith) in grind (arith, nat_tests)
+later_only x q (range ∷ ranges) normal after le =
+    let rest = later_only range.1 q ranges normal.3 normal.2 (omega arith) in grind (arith, nat_tests)
 
 none_more : (from q : ℕ) (b : Bool) → ((nat_le from q && nat_lt q (from + 0)) || b) ≡ b
 none_more from q b = grind (arith, nat_tests)
 
-one_more : (from n q : ℕ) (b : Bool) → ((nat_le from q && nat_lt q (from + suc n)) || b) ≡ (eq_by_cmp nat_cmp q from || ((nat_le (from + 1) q && nat_lt q (from + 1 + n)) || b))
+one_more : (from n q : ℕ) (b : Bool)
+    → ((nat_le from q && nat_lt q (from + suc n)) || b)
+    ≡ (eq_by_cmp nat_cmp q from || ((nat_le (from + 1) q && nat_lt q (from + 1 + n)) || b))
 one_more from n q b = grind (arith, nat_tests)
 
 len_nothing : set.len (set_of []) ≡ 0
@@ -28,9 +32,14 @@ unfolding set_of
 len_nothing = set.len-empty nat_cmp
 
 -- a set grows by n where n numbers that it lacks are added
-len-more : (from n : ℕ) (a : NumberSet) → ((q : ℕ) → from ≤ q → q < from + n → set.contains a q ≡ false) → set.len (set.union (numbers from (from + n)) a) ≡ n + set.len a
+len-more : (from n : ℕ) (a : NumberSet) → ((q : ℕ) → from ≤ q → q < from + n → set.contains a q ≡ false)
+    → set.len (set.union (numbers from (from + n)) a) ≡ n + set.len a
 len-more from zero a none =
-    let same : set.union (numbers from (from + 0)) a ≡ a = same_members _ _ (λ q. set.contains-union nat_cmp_total (numbers from (from + 0)) a q ∙ ap (λ b. b || set.contains a q) (contains-numbers from (from + 0) q) ∙ none_more from q (set.contains a q)) in
+    let same : set.union (numbers from (from + 0)) a ≡ a =
+    same_members _ _ (λ q.
+    set.contains-union nat_cmp_total (numbers from (from + 0)) a q
+    ∙ ap (λ b. b || set.contains a q) (contains-numbers from (from + 0) q)
+    ∙ none_more from q (set.contains a q)) in
     ap set.len same ∙ omega arith
 len-more from (suc n) a none =
     let rest = set.union (numbers (from + 1) (from + 1 + n)) a in
@@ -38,56 +47,98 @@ len-more from (suc n) a none =
     set.contains-union nat_cmp_total (numbers from (from + suc n)) a q
     ∙ ap (λ b. b || set.contains a q) (contains-numbers from (from + suc n) q)
     ∙ one_more from n q (set.contains a q)
-    ∙ (λ i. eq_by_cmp nat_cmp q from || sym (set.contains-union nat_cmp_total (numbers (from + 1) (from + 1 + n)) a q ∙ ap (λ b. b || set.contains a q) (contains-numbers (from + 1) (from + 1 + n) q)) i)
+    ∙ (λ i.
+    eq_by_cmp nat_cmp q from
+    || sym (set.contains-union nat_cmp_total (numbers (from + 1) (from + 1 + n)) a q
+    ∙ ap (λ b. b || set.contains a q) (contains-numbers (from + 1) (from + 1 + n) q)) i)
     ∙ sym (set.contains-insert nat_cmp_total rest from q)) in
-    let lacks : set.contains rest from ≡ false = set.contains-union nat_cmp_total (numbers (from + 1) (from + 1 + n)) a from ∙ (λ i. contains-numbers (from + 1) (from + 1 + n) from i || none from (omega arith) (omega arith) i) ∙ grind (arith, nat_tests) in
+    let lacks : set.contains rest from ≡ false =
+    set.contains-union nat_cmp_total (numbers (from + 1) (from + 1 + n)) a from
+    ∙ (λ i. contains-numbers (from + 1) (from + 1 + n) from i || none from (omega arith) (omega arith) i)
+    ∙ grind (arith, nat_tests) in
     let fewer = len-more (from + 1) n a (λ q low high. none q (omega arith) (omega arith)) in
-    ap set.len same ∙ set.len-insert nat_cmp_total rest from ∙ ap (λ b. cond b (set.len rest) (set.len rest + 1)) lacks ∙ omega arith
+    ap set.len same
+    ∙ set.len-insert nat_cmp_total rest from
+    ∙ ap (λ b. cond b (set.len rest) (set.len rest + 1)) lacks
+    ∙ omega arith
 
 -- the size of a normal list's set, range by range
-pub len-set_of_cons : (range : ℕ × ℕ) (ranges : List (ℕ × ℕ)) → IsNormal (range ∷ ranges) → set.len (set_of (range ∷ ranges)) ≡ (range.1 - range.0) + set.len (set_of ranges)
+pub len-set_of_cons : (range : ℕ × ℕ) (ranges : List (ℕ × ℕ)) → IsNormal (range ∷ ranges)
+    → set.len (set_of (range ∷ ranges)) ≡ (range.1 - range.0) + set.len (set_of ranges)
 unfolding set_of
 len-set_of_cons range ranges normal =
     let width : range.0 + (range.1 - range.0) ≡ range.1 = omega arith in
     ap (λ (to : ℕ). set.len (set.union (numbers range.0 to) (set_of ranges))) (sym width)
-    ∙ len-more range.0 (range.1 - range.0) (set_of ranges) (λ q low high. contains-set_of ranges q ∙ later_only range.1 q ranges normal.3 normal.2 (omega arith))
+    ∙ len-more range.0 (range.1 - range.0) (set_of ranges) (λ q low high.
+    contains-set_of ranges q ∙ later_only range.1 q ranges normal.3 normal.2 (omega arith))
 
 -- the size of a normal list's set is the sum of the widths
-pub len-set_of : (ranges : List (ℕ × ℕ)) → IsNormal ranges → set.len (set_of ranges) ≡ sum_by (λ range. range.1 - range.0) ranges
+pub len-set_of : (ranges : List (ℕ × ℕ)) → IsNormal ranges
+    → set.len (set_of ranges) ≡ sum_by (λ range. range.1 - range.0) ranges
 len-set_of [] normal = len_nothing
-len-set_of (range ∷ ranges) normal = len-set_of_cons range ranges normal ∙ ap (λ n. (range.1 - range.0) + n) (len-set_of ranges normal.3) ∙ sym (sum_by-cons (λ range. range.1 - range.0) range ranges)
+len-set_of (range ∷ ranges) normal =
+    len-set_of_cons range ranges normal
+    ∙ ap (λ n. (range.1 - range.0) + n) (len-set_of ranges normal.3)
+    ∙ sym (sum_by-cons (λ range. range.1 - range.0) range ranges)
 
-room : (low : ℕ) (ranges : List (ℕ × ℕ)) → low ≤ pixel_count → IsNormal ranges → BeginsAfter low ranges → low + set.len (set_of ranges) ≤ pixel_count
+room : (low : ℕ) (ranges : List (ℕ × ℕ)) → low ≤ pixel_count → IsNormal ranges → BeginsAfter low ranges
+    → low + set.len (set_of ranges) ≤ pixel_count
 room low [] le normal after = omega (arith, len_nothing)
-room low (range ∷ ranges) le normal after = omega (arith, len-set_of_cons range ranges normal, room range.1 ranges normal.1 normal.3 normal.2)
+room low (range ∷ ranges) le normal after =
+    omega (arith, len-set_of_cons range ranges normal, room range.1 ranges normal.1 normal.3 normal.2)
 
 -- no normal list has more numbers than there are pixels
 pub len_bounded : (ranges : List (ℕ × ℕ)) → IsNormal ranges → set.len (set_of ranges) ≤ pixel_count
 len_bounded [] normal = omega (arith, len_nothing)
-len_bounded (range ∷ ranges) normal = omega (arith, len-set_of_cons range ranges normal, room range.1 ranges normal.1 normal.3 normal.2)
+len_bounded (range ∷ ranges) normal =
+    omega (arith, len-set_of_cons range ranges normal, room range.1 ranges normal.1 normal.3 normal.2)
 
-in_first : (range : ℕ × ℕ) (ranges : List (ℕ × ℕ)) (q : ℕ) → range.0 ≤ q → q < range.1 → in_ranges (range ∷ ranges) q ≡ true
+in_first : (range : ℕ × ℕ) (ranges : List (ℕ × ℕ)) (q : ℕ) → range.0 ≤ q → q < range.1
+    → in_ranges (range ∷ ranges) q ≡ true
 in_first range ranges q from to = grind (arith, nat_tests)
 
-not_before : (range : ℕ × ℕ) (ranges : List (ℕ × ℕ)) → IsNormal (range ∷ ranges) → (q : ℕ) → q < range.0 → in_ranges (range ∷ ranges) q ≡ false
-not_before range ranges normal q lt = let rest = later_only range.1 q ranges normal.3 normal.2 (omega arith) in grind (arith, nat_tests)
+not_before : (range : ℕ × ℕ) (ranges : List (ℕ × ℕ)) → IsNormal (range ∷ ranges) → (q : ℕ) → q < range.0
+    → in_ranges (range ∷ ranges) q ≡ false
+not_before range ranges normal q lt =
+    let rest = later_only range.1 q ranges normal.3 normal.2 (omega arith) in grind (arith, nat_tests)
 
-at_end : (range : ℕ × ℕ) (ranges : List (ℕ × ℕ)) → IsNormal (range ∷ ranges) → in_ranges (range ∷ ranges) range.1 ≡ false
-at_end range ranges normal = let rest = later_only range.1 range.1 ranges normal.3 normal.2 (omega arith) in grind (arith, nat_tests)
+at_end : (range : ℕ × ℕ) (ranges : List (ℕ × ℕ)) → IsNormal (range ∷ ranges)
+    → in_ranges (range ∷ ranges) range.1 ≡ false
+at_end range ranges normal =
+    let rest = later_only range.1 range.1 ranges normal.3 normal.2 (omega arith) in grind (arith, nat_tests)
 
-without_first : (range : ℕ × ℕ) (ranges : List (ℕ × ℕ)) (q : ℕ) → range.1 ≤ q → in_ranges (range ∷ ranges) q ≡ in_ranges ranges q
+without_first : (range : ℕ × ℕ) (ranges : List (ℕ × ℕ)) (q : ℕ) → range.1 ≤ q
+    → in_ranges (range ∷ ranges) q ≡ in_ranges ranges q
 without_first range ranges q le = grind (arith, nat_tests)
 
 same_ranges : (rs ss : List (ℕ × ℕ)) → IsNormal rs → IsNormal ss → ((q : ℕ) → in_ranges rs q ≡ in_ranges ss q) → rs ≡ ss
 same_ranges [] [] n m same = refl
-same_ranges [] (s ∷ ss) n m same = absurd (let a = same s.0 in let b = in_first s ss s.0 (omega arith) (omega arith) in cc)
-same_ranges (r ∷ rs) [] n m same = absurd (let a = same r.0 in let b = in_first r rs r.0 (omega arith) (omega arith) in cc)
+same_ranges [] (s ∷ ss) n m same =
+    absurd (let a = same s.0 in let b = in_first s ss s.0 (omega arith) (omega arith) in cc)
+same_ranges (r ∷ rs) [] n m same =
+    absurd (let a = same r.0 in let b = in_first r rs r.0 (omega arith) (omega arith) in cc)
 same_ranges (r ∷ rs) (s ∷ ss) n m same =
-    let low : (r.0 < s.0) → ⊥ = λ lt. let a = same r.0 in let b = in_first r rs r.0 (omega arith) (omega arith) in let d = not_before s ss m r.0 lt in cc in
-    let high : (s.0 < r.0) → ⊥ = λ lt. let a = same s.0 in let b = in_first s ss s.0 (omega arith) (omega arith) in let d = not_before r rs n s.0 lt in cc in
+    let low : (r.0 < s.0) → ⊥ = λ lt.
+    let a = same r.0 in
+    let b = in_first r rs r.0 (omega arith) (omega arith) in
+    let d = not_before s ss m r.0 lt in
+    cc in
+    let high : (s.0 < r.0) → ⊥ = λ lt.
+    let a = same s.0 in
+    let b = in_first s ss s.0 (omega arith) (omega arith) in
+    let d = not_before r rs n s.0 lt in
+    cc in
     let from : r.0 ≡ s.0 = omega arith in
-    let short : (r.1 < s.1) → ⊥ = λ lt. let a = same r.1 in let b = in_first s ss r.1 (omega arith) (omega arith) in let d = at_end r rs n in cc in
-    let long : (s.1 < r.1) → ⊥ = λ lt. let a = same s.1 in let b = in_first r rs s.1 (omega arith) (omega arith) in let d = at_end s ss m in cc in
+    let short : (r.1 < s.1) → ⊥ = λ lt.
+    let a = same r.1 in
+    let b = in_first s ss r.1 (omega arith) (omega arith) in
+    let d = at_end r rs n in
+    cc in
+    let long : (s.1 < r.1) → ⊥ = λ lt.
+    let a = same s.1 in
+    let b = in_first r rs s.1 (omega arith) (omega arith) in
+    let d = at_end s ss m in
+    cc in
     let to : r.1 ≡ s.1 = omega arith in
     let rest : (q : ℕ) → in_ranges rs q ≡ in_ranges ss q = λ q. elim (cases_lt q r.1) [
       | inl lt ↦ later_only r.1 q rs n.3 n.2 (omega arith) ∙ sym (later_only s.1 q ss m.3 m.2 (omega arith))
@@ -97,7 +148,8 @@ same_ranges (r ∷ rs) (s ∷ ss) n m same =
 
 -- a set has at most one normal range list
 pub same_normal : (rs ss : List (ℕ × ℕ)) → IsNormal rs → IsNormal ss → set_of rs ≡ set_of ss → rs ≡ ss
-same_normal rs ss n m same = same_ranges rs ss n m (λ q. sym (contains-set_of rs q) ∙ ap (λ a. set.contains a q) same ∙ contains-set_of ss q)
+same_normal rs ss n m same =
+    same_ranges rs ss n m (λ q. sym (contains-set_of rs q) ∙ ap (λ a. set.contains a q) same ∙ contains-set_of ss q)
 
 -- numbers in a row lie in one range of the list
 abbrev pub LiesInOne : ℕ → ℕ → List (ℕ × ℕ) → Type 0
@@ -105,12 +157,17 @@ LiesInOne low high [] = ⊥
 LiesInOne low high (range ∷ ranges) = ((range.0 ≤ low) × (high ≤ range.1)) ⊎ LiesInOne low high ranges
 
 -- numbers in a row that are all in a normal list's set lie in one of its ranges
-pub lies_in_one : (low high : ℕ) (ranges : List (ℕ × ℕ)) → low < high → IsNormal ranges → ((q : ℕ) → low ≤ q → q < high → in_ranges ranges q ≡ true) → LiesInOne low high ranges
+pub lies_in_one : (low high : ℕ) (ranges : List (ℕ × ℕ)) → low < high → IsNormal ranges
+    → ((q : ℕ) → low ≤ q → q < high → in_ranges ranges q ≡ true) → LiesInOne low high ranges
 lies_in_one low high [] lt normal all = absurd (let here = all low (omega arith) lt in cc)
 lies_in_one low high (range ∷ ranges) lt normal all = elim (cases_lt low range.1) [
   | inl before ↦
-      let begun : (low < range.0) → ⊥ = λ early. let a = all low (omega arith) lt in let b = not_before range ranges normal low early in cc in
-      let whole : (range.1 < high) → ⊥ = λ past. let a = all range.1 (omega arith) past in let b = at_end range ranges normal in cc in
+      let begun : (low < range.0) → ⊥ =
+      λ early. let a = all low (omega arith) lt in let b = not_before range ranges normal low early in cc in
+      let whole : (range.1 < high) → ⊥ =
+      λ past. let a = all range.1 (omega arith) past in let b = at_end range ranges normal in cc in
       inl (omega arith, omega arith)
-  | inr past ↦ inr (lies_in_one low high ranges lt normal.3 (λ q from to. sym (without_first range ranges q (omega arith)) ∙ all q from to))
+  | inr past ↦
+      inr (lies_in_one low high ranges lt normal.3 (λ q from to.
+      sym (without_first range ranges q (omega arith)) ∙ all q from to))
 ]

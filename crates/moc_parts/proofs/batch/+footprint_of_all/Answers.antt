@@ -1,6 +1,5 @@
-use Rattle.std.proofs.Common.{rules, ◌≡◌, ◌||◌, ℕ, false, List, [], ◌∷◌, length, refl, ap, arith, ◌∙◌}
+use Rattle.std.proofs.Common.{rules, ◌≡◌, ◌||◌, ℕ, false, List, [], ◌∷◌, length, refl, arith, ◌∙◌}
 use Rattle.moc_parts.specs.declared.command.Command.{Command}
-use Rattle.std.specs.FinSet as set
 use Rattle.moc_parts.specs.Batches.{footprint_of_all}
 use Rattle.moc_parts.proofs.Flags.{either_has, lacking}
 use Rattle.moc_parts.proofs.batch.+footprint_of_all.Goals as goal

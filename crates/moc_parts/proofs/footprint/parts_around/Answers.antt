@@ -2,10 +2,9 @@ use Rattle.std.proofs.Common.{◌<◌, ℕ, List, get_or, sym, subst}
 use Rattle.std.specs.Prelude.{Contains}
 use Rattle.std.proofs.lemmas.List.Elements.{Contains-get_or}
 use Rattle.moc_sphere.specs.CellNumber.{cell_count}
-use Rattle.std.proofs.Common.{◌≡◌, ◌||◌, Bool, ◌∷◌, false, ℕ, nat_eq, take, ap, sym, ◌∙◌}
+use Rattle.std.proofs.Common.{◌≡◌, ◌||◌, Bool, ℕ, nat_eq, take, ap, sym, ◌∙◌}
 use Rattle.std.specs.List.{list_any}
 use Rattle.std.proofs.lemmas.List.{take_more}
-use Rattle.std.specs.FinSet as set
 use Rattle.moc_sphere.specs.Faces.{face_of}
 use Rattle.moc_parts.proofs.Flags.{inserted, lacking, any-more}
 use Rattle.moc_parts.proofs.footprint.parts_around.Goals as goal

@@ -1,4 +1,4 @@
-use Rattle.std.proofs.Common.{◌≡◌, ◌<◌, ◌≤◌, ℕ, ◌+◌, ◌∷◌, [], ◌++◌, List, length, get_or, take, map, sym, ap, subst, ◌∙◌, arith}
+use Rattle.std.proofs.Common.{◌≡◌, ◌<◌, ℕ, ◌∷◌, List, get_or, take, map, sym, ap, subst, ◌∙◌}
 use Rattle.std.specs.FinSet as set
 use Rattle.std.specs.Prelude.{Contains, IfOk, Result, Ok, Err}
 use Rattle.std.proofs.lemmas.List.Elements.{Contains-get_or}
@@ -6,7 +6,7 @@ use Rattle.std.proofs.lemmas.List.{take_all, take_more}
 use Rattle.moc_sphere.specs.CellNumber.{cell_count, cell_number}
 use Rattle.moc_ranges.specs.Numbers.{NumberSet}
 use Rattle.moc_ranges.specs.Cells.{spans, pixels_of}
-use Rattle.moc_parts.specs.Commands.{surroundings, cells_around}
+use Rattle.moc_parts.specs.Commands.{surroundings}
 use Rattle.moc_parts.proofs.Around.{one_cell, one_cell_more}
 use Rattle.moc_parts.proofs.surroundings.surroundings_of.Goals as goal
 

@@ -1,4 +1,4 @@
-use Rattle.std.proofs.Common.{◌≡◌, ◌≤◌, ℕ, Bool, true, List, [], ◌∷◌, ◌++◌, Vec, Global, sym, ap, ◌∙◌, arith}
+use Rattle.std.proofs.Common.{◌≡◌, ℕ, Bool, [], ◌∷◌, ◌++◌, Vec, Global, sym, ap, ◌∙◌, arith}
 use Rattle.moc_parts.specs.declared.part.Part.{Part}
 use Rattle.moc_parts.specs.Batches.{footprint_of_all}
 use Rattle.std.specs.FinSet as set

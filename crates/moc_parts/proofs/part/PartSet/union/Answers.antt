@@ -1,4 +1,4 @@
-use Rattle.std.proofs.Common.{◌≡◌, ◌≤◌, ℕ, true, false, get_or, set as set_at, sym, ap, ◌∙◌, arith}
+use Rattle.std.proofs.Common.{◌≡◌, ℕ, true, false, get_or, sym, ap, ◌∙◌, arith}
 use Rattle.std.specs.FinSet as set
 use Rattle.moc_parts.proofs.Flags.{flagged_until, until-none, until-all, until-set, until-unset}
 use Rattle.moc_parts.proofs.part.PartSet.union.Goals as goal

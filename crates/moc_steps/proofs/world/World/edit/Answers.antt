@@ -1,4 +1,4 @@
-use Rattle.std.proofs.Common.{◌≡◌, ◌<◌, ℕ, rules, false, true, None, Some, List, ◌++◌, ◌∷◌, [], IfSome, is_some, length, slice_set, set as set_at, refl, sym, ap, subst, ◌∙◌}
+use Rattle.std.proofs.Common.{◌≡◌, ◌<◌, ℕ, rules, None, Some, ◌++◌, ◌∷◌, [], IfSome, is_some, length, slice_set, set as set_at, refl, sym, ap, subst, ◌∙◌}
 use Rattle.std.specs.Option.{option_copied}
 use Rattle.std.specs.FinMap as map
 use Rattle.moc_ranges.specs.Numbers.{NumberSet}
@@ -6,11 +6,12 @@ use Rattle.moc_parts.specs.Batches.{batches}
 use Rattle.moc_steps.specs.Locks as locks
 use Rattle.moc_steps.specs.Locks.{refusal, edit_refusal}
 use Rattle.moc_steps.specs.World.{world_after}
-use Rattle.moc_steps.specs.Standing.{Standing}
-use Rattle.moc_steps.specs.Changes.{changed, IsChangeOf}
+use Rattle.moc_steps.specs.Private.Standing.{Standing}
+use Rattle.moc_steps.specs.Private.Changes.{IsChangeOf}
 use Rattle.moc_steps.specs.declared.table.Change.TheVariants.{Commit, Edit}
 use Rattle.moc_steps.specs.declared.step.Entry.{Entry}
-use Rattle.moc_steps.specs.Played.{World, world_of}
+use Rattle.moc_steps.specs.Played.{World}
+use Rattle.moc_steps.specs.Private.Worlds.{world_of}
 use Rattle.moc_steps.proofs.Basics.{is_some_of}
 use Rattle.moc_steps.proofs.AnyObject.{reached_explained}
 use Rattle.moc_steps.proofs.KeptSteps.{Goes, first_edit_goes, edit_footprint, committed_at, table_twice, kept_list, kept_some, changed_there, is_midway}

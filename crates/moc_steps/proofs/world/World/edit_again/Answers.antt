@@ -1,20 +1,17 @@
-use Rattle.std.proofs.Common.{◌≡◌, ◌<◌, ℕ, cond, Bool, List, ◌++◌, ◌∷◌, [], true, None, Some, Option, rules, IfSome, IsSome, is_some, length, slice_set, set as set_at, refl, sym, ap, subst, ◌∙◌}
+use Rattle.std.proofs.Common.{◌≡◌, ◌<◌, cond, Bool, ◌++◌, ◌∷◌, [], true, None, Some, Option, rules, IfSome, IsSome, is_some, length, slice_set, set as set_at, refl, sym, ap, subst, ◌∙◌}
 use Rattle.std.specs.Option.{option_copied}
 use Rattle.std.specs.FinMap as map
-use Rattle.moc_ranges.specs.Numbers.{NumberSet}
 use Rattle.moc_ranges.specs.Operations.{part_of}
 use Rattle.moc_parts.specs.Batches.{batches, set_after_all}
-use Rattle.moc_parts.specs.declared.reply.Reply.{Reply}
 use Rattle.moc_steps.specs.Locks as locks
 use Rattle.moc_steps.specs.Locks.{refusal, edit_refusal, is_any}
-use Rattle.moc_steps.specs.World as machine
 use Rattle.moc_steps.specs.World.{world_after}
-use Rattle.moc_steps.specs.Standing.{Standing}
-use Rattle.moc_steps.specs.Changes.{changed, IsChangeOf}
+use Rattle.moc_steps.specs.Private.Standing.{Standing}
+use Rattle.moc_steps.specs.Private.Changes.{changed, IsChangeOf}
 use Rattle.moc_steps.specs.declared.table.Change.TheVariants.{Edit}
-use Rattle.moc_steps.specs.Played.{World, entries_of, world_of}
+use Rattle.moc_steps.specs.Played.{World, entries_of}
+use Rattle.moc_steps.specs.Private.Worlds.{world_of}
 use Rattle.moc_steps.proofs.Basics.{some_same}
-use Rattle.moc_steps.proofs.Invariant.{Explained}
 use Rattle.moc_steps.proofs.AnyObject.{reached_explained}
 use Rattle.moc_steps.proofs.KeptSteps.{Goes, edit_goes, edit_footprint, has_place, any_edited, edited_place, is_midway, table_is}
 use Rattle.moc_steps.proofs.world.World.edit_again.Goals as goal

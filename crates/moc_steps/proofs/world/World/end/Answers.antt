@@ -1,5 +1,4 @@
-use Rattle.std.proofs.Common.{rules, ◌≡◌, ◌<◌, ℕ, None, Some, length, is_some, slice_set, refl, sym, ap, subst, ◌∙◌}
-use Rattle.std.specs.FinMap as map
+use Rattle.std.proofs.Common.{rules, ◌<◌, length, is_some, slice_set, sym, ap, subst, ◌∙◌}
 use Rattle.moc_parts.specs.Batches.{batches, replies_on}
 use Rattle.moc_steps.specs.Locks as locks
 use Rattle.moc_steps.specs.Locks.{refusal, end_refusal}
@@ -9,7 +8,7 @@ use Rattle.moc_steps.proofs.KeptSteps.{Goes, is_midway}
 use Rattle.moc_steps.proofs.EndGoes.{answers, pair_of, read_at, quit_ends, quit_silent, entry_place, done_ends, done_tells}
 use Rattle.moc_steps.specs.Laws.{RepliesByEntry}
 use Rattle.moc_steps.proofs.AnyObject.{reached_replies}
-use Rattle.moc_steps.specs.Played.{world_of}
+use Rattle.moc_steps.specs.Private.Worlds.{world_of}
 use Rattle.moc_steps.proofs.world.World.end.Goals as goal
 
 pub invariant_of-self : goal.invariant_of-self

@@ -1,4 +1,4 @@
-use Rattle.std.proofs.Common.{◌≡◌, ℕ, ap, sym, ◌∙◌, arith}
+use Rattle.std.proofs.Common.{◌≡◌, ap, ◌∙◌, arith}
 use Rattle.moc_parts.specs.Parts.{parts_below}
 use Rattle.moc_steps.proofs.Starting.{parts_none, parts_next, starts, start_kept}
 use Rattle.moc_steps.proofs.world.World.new.Goals as goal

@@ -1,4 +1,4 @@
-use Rattle.std.proofs.Common.{◌≡◌, ℕ, ◌+◌, ◌-◌, ◌≤◌, ◌<◌, None, Some, Option, get_or, inl, inr, sym, ap, ◌∙◌, arith}
+use Rattle.std.proofs.Common.{◌≡◌, ℕ, ◌-◌, ◌<◌, None, get_or, inl, inr, sym, ap, ◌∙◌, arith}
 use Rattle.moc_parts.specs.Batches.{batches}
 use Rattle.moc_steps.specs.Locks.{holder}
 use Rattle.moc_steps.specs.Played.{World}

@@ -2,7 +2,8 @@ use Rattle.std.proofs.Common.{◌≡◌, ◌<◌, rules, length, get_or, subst, 
 use Rattle.std.specs.FinSet as set
 use Rattle.moc_parts.specs.Batches.{batches}
 use Rattle.moc_steps.specs.World.{part_at}
-use Rattle.moc_steps.specs.Played.{World, world_of}
+use Rattle.moc_steps.specs.Played.{World}
+use Rattle.moc_steps.specs.Private.Worlds.{world_of}
 use Rattle.moc_steps.proofs.AnyObject.{reached_explained}
 use Rattle.moc_steps.proofs.Notes.{same_default}
 use Rattle.moc_steps.proofs.world.World.part.Goals as goal

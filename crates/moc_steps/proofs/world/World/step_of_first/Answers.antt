@@ -1,9 +1,9 @@
-use Rattle.std.proofs.Common.{◌≡◌, true, Some, inl, inr, refl, sym, ap, subst, ◌∙◌}
+use Rattle.std.proofs.Common.{◌≡◌, Some, inl, inr, refl, sym, ap, subst, ◌∙◌}
 use Rattle.std.specs.FinMap as map
 use Rattle.moc_parts.specs.Batches.{batches}
 use Rattle.moc_steps.specs.World.{running}
 use Rattle.moc_steps.specs.Laws.{IsReached}
-use Rattle.moc_steps.specs.Standing.{Standing}
+use Rattle.moc_steps.specs.Private.Standing.{Standing}
 use Rattle.moc_steps.specs.Played.{World}
 use Rattle.moc_steps.proofs.Values.{len-values}
 use Rattle.moc_steps.proofs.KeptSteps.{seen_as}

@@ -1,10 +1,7 @@
-use Rattle.std.proofs.Common.{◌≡◌, Bool, true, false, not, Some, None, inl, inr, refl, sym, ap, subst, ◌∙◌}
-use Rattle.std.specs.Option.{option_copied, is_some}
-use Rattle.std.specs.FinMap as map
+use Rattle.std.proofs.Common.{◌≡◌, Some, None, inl, inr, refl, sym, ap, ◌∙◌}
+use Rattle.std.specs.Option.{is_some}
 use Rattle.moc_parts.specs.Batches.{batches}
 use Rattle.moc_steps.specs.World.{running}
-use Rattle.moc_steps.specs.Standing.{Standing}
-use Rattle.moc_steps.specs.Played.{World}
 use Rattle.moc_steps.proofs.Basics.{clash}
 use Rattle.moc_steps.proofs.Taking.{holder_holds}
 use Rattle.moc_steps.proofs.KeptSteps.{seen_as}

@@ -1,16 +1,15 @@
-use Rattle.std.proofs.Common.{◌≡◌, ◌<◌, ℕ, rules, IfSome, None, Some, length, get_or, slice_set, sym, ap, subst, ◌∙◌}
+use Rattle.std.proofs.Common.{◌≡◌, ◌<◌, ℕ, rules, IfSome, Some, length, get_or, slice_set, sym, ap, subst, ◌∙◌}
 use Rattle.std.specs.Option.{option_copied}
-use Rattle.std.specs.FinMap as map
 use Rattle.std.specs.FinSet as set
-use Rattle.moc_ranges.specs.Numbers.{NumberSet}
 use Rattle.moc_parts.specs.Batches.{batches}
 use Rattle.moc_steps.specs.Locks as locks
 use Rattle.moc_steps.specs.Locks.{refusal, take_refusal, next_part}
 use Rattle.moc_steps.specs.World.{world_after}
-use Rattle.moc_steps.specs.Standing.{Standing}
-use Rattle.moc_steps.specs.Changes.{IsChangeOf}
+use Rattle.moc_steps.specs.Private.Standing.{Standing}
+use Rattle.moc_steps.specs.Private.Changes.{IsChangeOf}
 use Rattle.moc_steps.specs.declared.table.Change.TheVariants.{Take}
-use Rattle.moc_steps.specs.Played.{World, world_of}
+use Rattle.moc_steps.specs.Played.{World}
+use Rattle.moc_steps.specs.Private.Worlds.{world_of}
 use Rattle.moc_steps.proofs.AnyObject.{reached_explained}
 use Rattle.moc_steps.proofs.Notes.{same_default}
 use Rattle.moc_steps.proofs.KeptSteps.{Goes, take_goes, take_asks, is_midway, takes_some}

@@ -1,17 +1,14 @@
 -- How far a midway client has come.
-use Rattle.std.specs.Prelude.{◌≡◌, ℕ, suc, ◌<◌, Bool, true, false, List, Option, None, Some, IfSome, IsSome, get_or, map as map_list}
-use Rattle.std.specs.List.{filter}
+use Rattle.std.specs.Prelude.{◌≡◌, ℕ, ◌<◌, true, List, Option, None, IfSome, IsSome, get_or, map as map_list}
 use Rattle.std.specs.Ordering.{nat_cmp}
 use Rattle.std.specs.FinSet as set
-use Rattle.std.specs.FinMap as map
 use Rattle.moc_ranges.specs.Numbers.{NumberSet}
-use Rattle.moc_ranges.specs.Operations.{part_of}
 use Rattle.moc_parts.specs.Batches.{batches, footprint_of_all, set_after_all, replies_on}
 use Rattle.moc_parts.specs.Parts.{union_of, LieInParts}
 use Rattle.moc_parts.specs.Prepared.{found_in, kept}
 use Rattle.moc_parts.specs.declared.command.Command.{Command}
 use Rattle.moc_parts.specs.declared.reply.Reply.{Reply}
-use Rattle.moc_steps.specs.Locks.{Running, parts_of, twelve, is_any}
+use Rattle.moc_steps.specs.Locks.{Running, parts_of, is_any}
 
 -- a midway client, what it found in the parts that it took, and the place of its entry once it is committed
 pub record Standing : Type 0 where
@@ -43,7 +40,8 @@ abbrev pub IsMade : Standing → Making → Type 0
 IsMade s m = IsMadeOf s.running.command s.found m
 
 -- what a midway client keeps beside its flags
-pub record KeepsNotes (cs : List Command) (edited : set.FinSet nat_cmp) (parts : List ℕ) (found : List (Option NumberSet)) (made : Option Making) : Type 0 where
+pub record KeepsNotes (cs : List Command) (edited : set.FinSet nat_cmp) (parts : List ℕ)
+    (found : List (Option NumberSet)) (made : Option Making) : Type 0 where
   pub rising : parts ≡ parts_of batches cs
   pub own : LieInParts (notes found)
   pub ready : IfSome made (λ m. IsMadeFrom cs (notes found) m)
