@@ -1,0 +1,88 @@
+-- A map that is made: its slots, and its clients.
+use Rattle.std.proofs.Common.{◌≡◌, ◌⊎◌, ℕ, zero, suc, ◌+◌, ◌-◌, ◌<◌, List, [], ◌∷◌, ◌++◌, map, length, get_or, refl, sym, ap, ◌∙◌, subst, inl, inr, ⊎_elim, arith, length-append, Option, Some}
+use Rattle.std.specs.Prelude.{slice_index}
+use mathlib.Core.Option.{some, some-ne-none, some-injective}
+use mathlib.Core.Logic.{dite}
+use native.Mathlib.Decide.{ℕ_discrete}
+use lib.ListN.{get_elem?}
+use Rattle.std.proofs.lemmas.List.{get_or_push, get_or_append_left}
+use Rattle.atomic_table.specs.Table.{opening}
+use Rattle.atomic_table.specs.Seated.{TableId}
+use Rattle.std.specs.Arc.{arc_value}
+use Rattle.moc_ranges.specs.Numbers.{NumberSet}
+use Rattle.moc_ranges.specs.Operations.{part_of}
+use Rattle.moc_parts.specs.declared.command.Command.{Command}
+use Rattle.moc_parts.specs.declared.reply.Reply.{Reply}
+use Rattle.moc_shared.specs.declared.locks.About.{About}
+use Rattle.moc_shared.specs.declared.client.Client.{Client}
+use Rattle.moc_shared.specs.History.{StandsFor, newcomer}
+use Rattle.moc_shared.specs.Rule.{Kept}
+use Rattle.moc_shared.specs.Opening.{seat_for, newcomers, first_view, rest_view}
+use Rattle.moc_shared.specs.Plays.{first_alone}
+use Rattle.moc_shared.specs.Slots.{Pointer, Sight, content, part, answer, IsProper}
+use Rattle.moc_shared.specs.Starts.{StandFor}
+use Rattle.moc_shared.specs.Clients.{IsNewClient, AreNewClients}
+use Rattle.moc_shared.proofs.Begins.{begins, stood_same}
+
+unmapped : (xs : List (Option Pointer)) (b : ℕ) (x : Option Pointer) → get_elem? (map some xs) b ≡ some (some x) → get_elem? xs b ≡ some x
+unmapped [] b x e = absurd (some-ne-none (some x) (sym e))
+unmapped (y ∷ ys) zero x e = some-injective (some y) (some x) e
+unmapped (y ∷ ys) (suc b) x e = unmapped ys b x e
+
+pub made : (words : List ℕ) (start : NumberSet) (slots : List (Option Pointer)) (clients : ℕ) → length words ≡ 12 → ((b : ℕ) → slice_index words b ≡ 0) → StandFor start slots 12 → IsProper start
+    → Kept 12 content part answer IsProper start clients (opening words slots (first_view start clients))
+made words start slots clients wide zeros stand within =
+    begins 12 content part answer IsProper start clients words slots wide stand.0 zeros (λ b x e. stand.1 b x (unmapped slots b x e)) within
+
+last_one : (xs : List (Option Pointer)) (x y : Option Pointer) (b : ℕ) → get_elem? (xs ++ x ∷ []) b ≡ some y → (get_elem? xs b ≡ some y) ⊎ ((b ≡ length xs) × (x ≡ y))
+last_one [] x y zero e = inr (refl, some-injective x y e)
+last_one [] x y (suc b) e = absurd (some-ne-none y (sym e))
+last_one (z ∷ zs) x y zero e = inl e
+last_one (z ∷ zs) x y (suc b) e = ⊎_elim (λ l. inl l) (λ t. inr (ap suc t.0, t.1)) (last_one zs x y b e)
+
+pub one_slot : (a : NumberSet) (slots after : List (Option Pointer)) (b : ℕ) (x : Option Pointer) → after ≡ slots ++ x ∷ [] → content x ≡ part b a → StandFor a slots b → StandFor a after (b + 1)
+one_slot a slots after b x is new before = (
+  ap (λ (l : List (Option Pointer)). length l) is ∙ length-append slots (x ∷ []) ∙ (let e = before.0 in omega arith),
+  λ k y e. ⊎_elim (λ o. before.1 k y o) (λ t. ap content (sym t.1) ∙ new ∙ ap (λ (j : ℕ). part j a) (sym (t.0 ∙ before.0))) (last_one slots x y k (subst (λ (l : List (Option Pointer)). get_elem? l k ≡ some y) is e)),
+)
+
+dealing : (start : NumberSet) (n c : ℕ) (v : Sight) → v ≡ seat_for start n (newcomers c (n - c)) → c < n → v ≡ seat_for start n (newcomer c ∷ newcomers (suc c) (n - (c + 1)))
+dealing start n c v is l = is ∙ ap (λ (k : ℕ). let w : Sight = seat_for start n (newcomers c k) in w) (let e : n - c ≡ suc (n - (c + 1)) = omega arith in e)
+
+pub stands_new : (start : NumberSet) (n c : ℕ) (v : Sight) → v ≡ seat_for start n (newcomers c (n - c)) → c < n → StandsFor v.mine v.mine.number
+stands_new start n c v is l = subst (λ (w : Sight). StandsFor w.mine w.mine.number) (sym (dealing start n c v is l)) (let e = stood_same (List Command) (List Reply) c in omega arith)
+
+pub rest_new : (start : NumberSet) (n c : ℕ) (v w : Sight) → v ≡ seat_for start n (newcomers c (n - c)) → c < n → w ≡ rest_view v → w ≡ seat_for start n (newcomers (c + 1) (n - (c + 1)))
+rest_new start n c v w is l e = e ∙ ap (λ (x : Sight). rest_view x) (dealing start n c v is l) ∙ ap (λ (d : ℕ). let w : Sight = seat_for start n (newcomers d (n - (c + 1))) in w) (let e : suc c ≡ c + 1 = omega arith in e)
+
+new_client : (id : TableId) (about : About) (n c : ℕ) (v : Sight) (d : Client) → n ≡ about.clients → v ≡ seat_for about.start n (newcomers c (n - c)) → c < n → d.seat.table_id ≡ id → d.seat.me.0 ≡ first_alone v → d.seat.me.1 ≡ [] → d.number ≡ c → IsNewClient id about c d
+new_client id about n c v d count is l table view no_slot number =
+    let now : d.seat.me.0 ≡ first_alone (seat_for about.start n (newcomer c ∷ newcomers (suc c) (n - (c + 1)))) = view ∙ ap (λ (x : Sight). first_alone x) (dealing about.start n c v is l) in
+    record {
+      of_map = record {
+        table = table;
+        one = ((λ i. (now i).others), subst (λ (w : Sight). StandsFor w.mine w.mine.number) (sym now) (let e = stood_same (List Command) (List Reply) c in omega arith));
+        number = number ∙ sym (λ i. (now i).mine.number);
+        no_slot = no_slot;
+        no_part = λ i. (now i).holds;
+        start = λ i. (now i).start;
+        clients = (λ i. (now i).clients) ∙ count;
+      };
+      number = number;
+      fresh = λ i. (now i).mine;
+    }
+
+pub one_more : (id : TableId) (about : About) (n c : ℕ) (v : Sight) (all after : List Client) (d : Client) → n ≡ about.clients → v ≡ seat_for about.start n (newcomers c (n - c)) → c < n → d.seat.table_id ≡ id → d.seat.me.0 ≡ first_alone v → d.seat.me.1 ≡ [] → d.number ≡ c
+    → after ≡ all ++ d ∷ [] → AreNewClients id about all c → AreNewClients id about after (c + 1)
+one_more id about n c v all after d count is l table view no_slot number pushed before =
+    let new = new_client id about n c v d count is l table view no_slot number in
+    let long = before.0 in (
+      ap (λ (x : List Client). length x) pushed ∙ (let e = length-append all (d ∷ []) in omega arith),
+      λ k z less. subst (λ (x : List Client). IsNewClient id about k (get_or x k z)) (sym pushed) (dite (ℕ_discrete k c)
+          (λ same. subst (λ (x : ℕ × Client). IsNewClient id about x.0 x.1) (λ i. (sym same i, sym (get_or_push all d z k (before.0 ∙ sym same)) i)) new)
+          (λ other. subst (λ (x : Client). IsNewClient id about k x) (sym (get_or_append_left all (d ∷ []) z k (omega (arith, before.0, less, other)))) (before.1 k z (omega (arith, less, other))))),
+    )
+
+pub part_shared : (p : Pointer) (a : NumberSet) (b : ℕ) → arc_value p ≡ part_of a b → content (Some p) ≡ part b a
+unfolding part
+part_shared p a b e = ap (λ (s : NumberSet). Some s) e
