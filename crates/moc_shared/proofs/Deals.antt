@@ -7,21 +7,21 @@ use native.Mathlib.Decide.{ℕ_discrete}
 use lib.ListN.{get_elem?}
 use Rattle.std.proofs.lemmas.List.{get_or_push, get_or_append_left}
 use Rattle.atomic_table.specs.Table.{opening}
-use Rattle.atomic_table.specs.Seated.{TableId}
 use Rattle.std.specs.Arc.{arc_value}
 use Rattle.moc_ranges.specs.Numbers.{NumberSet}
 use Rattle.moc_ranges.specs.Operations.{part_of}
 use Rattle.moc_parts.specs.declared.command.Command.{Command}
 use Rattle.moc_parts.specs.declared.reply.Reply.{Reply}
-use Rattle.moc_shared.specs.declared.locks.About.{About}
+use Rattle.moc_shared.specs.declared.map.SharedMap.{SharedMap}
 use Rattle.moc_shared.specs.declared.client.Client.{Client}
 use Rattle.moc_shared.specs.History.{StandsFor, newcomer}
-use Rattle.moc_shared.specs.Rule.{Kept}
-use Rattle.moc_shared.specs.Opening.{seat_for, newcomers, first_view, rest_view}
-use Rattle.moc_shared.specs.Plays.{first_alone}
-use Rattle.moc_shared.specs.Slots.{Pointer, Sight, content, part, answer, IsProper}
-use Rattle.moc_shared.specs.Starts.{StandFor}
-use Rattle.moc_shared.specs.Clients.{IsNewClient, AreNewClients}
+use Rattle.moc_shared.specs.Private.Rule.{Kept}
+use Rattle.moc_shared.specs.Private.Opening.{seat_for, newcomers, first_view, rest_view}
+use Rattle.moc_shared.specs.Private.Plays.{first_alone}
+use Rattle.moc_shared.specs.Batches.{answer}
+use Rattle.moc_shared.specs.Private.Slots.{Pointer, Sight, content, part, IsProper}
+use Rattle.moc_shared.specs.Private.Starts.{StandFor}
+use Rattle.moc_shared.specs.Clients.{start_of, clients_of, IsNewClient, AreNewClients}
 use Rattle.moc_shared.proofs.Begins.{begins, stood_same}
 
 unmapped : (xs : List (Option Pointer)) (b : ℕ) (x : Option Pointer) → get_elem? (map some xs) b ≡ some (some x) → get_elem? xs b ≡ some x
@@ -55,9 +55,9 @@ stands_new start n c v is l = subst (λ (w : Sight). StandsFor w.mine w.mine.num
 pub rest_new : (start : NumberSet) (n c : ℕ) (v w : Sight) → v ≡ seat_for start n (newcomers c (n - c)) → c < n → w ≡ rest_view v → w ≡ seat_for start n (newcomers (c + 1) (n - (c + 1)))
 rest_new start n c v w is l e = e ∙ ap (λ (x : Sight). rest_view x) (dealing start n c v is l) ∙ ap (λ (d : ℕ). let w : Sight = seat_for start n (newcomers d (n - (c + 1))) in w) (let e : suc c ≡ c + 1 = omega arith in e)
 
-new_client : (id : TableId) (about : About) (n c : ℕ) (v : Sight) (d : Client) → n ≡ about.clients → v ≡ seat_for about.start n (newcomers c (n - c)) → c < n → d.seat.table_id ≡ id → d.seat.me.0 ≡ first_alone v → d.seat.me.1 ≡ [] → d.number ≡ c → IsNewClient id about c d
-new_client id about n c v d count is l table view no_slot number =
-    let now : d.seat.me.0 ≡ first_alone (seat_for about.start n (newcomer c ∷ newcomers (suc c) (n - (c + 1)))) = view ∙ ap (λ (x : Sight). first_alone x) (dealing about.start n c v is l) in
+new_client : (the : SharedMap) (n c : ℕ) (v : Sight) (d : Client) → n ≡ clients_of the → v ≡ seat_for (start_of the) n (newcomers c (n - c)) → c < n → d.seat.table_id ≡ the.table.shared.table_id → d.seat.me.0 ≡ first_alone v → d.seat.me.1 ≡ [] → d.number ≡ c → IsNewClient the c d
+new_client the n c v d count is l table view no_slot number =
+    let now : d.seat.me.0 ≡ first_alone (seat_for (start_of the) n (newcomer c ∷ newcomers (suc c) (n - (c + 1)))) = view ∙ ap (λ (x : Sight). first_alone x) (dealing (start_of the) n c v is l) in
     record {
       of_map = record {
         table = table;
@@ -72,15 +72,15 @@ new_client id about n c v d count is l table view no_slot number =
       fresh = λ i. (now i).mine;
     }
 
-pub one_more : (id : TableId) (about : About) (n c : ℕ) (v : Sight) (all after : List Client) (d : Client) → n ≡ about.clients → v ≡ seat_for about.start n (newcomers c (n - c)) → c < n → d.seat.table_id ≡ id → d.seat.me.0 ≡ first_alone v → d.seat.me.1 ≡ [] → d.number ≡ c
-    → after ≡ all ++ d ∷ [] → AreNewClients id about all c → AreNewClients id about after (c + 1)
-one_more id about n c v all after d count is l table view no_slot number pushed before =
-    let new = new_client id about n c v d count is l table view no_slot number in
+pub one_more : (the : SharedMap) (n c : ℕ) (v : Sight) (all after : List Client) (d : Client) → n ≡ clients_of the → v ≡ seat_for (start_of the) n (newcomers c (n - c)) → c < n → d.seat.table_id ≡ the.table.shared.table_id → d.seat.me.0 ≡ first_alone v → d.seat.me.1 ≡ [] → d.number ≡ c
+    → after ≡ all ++ d ∷ [] → AreNewClients the all c → AreNewClients the after (c + 1)
+one_more the n c v all after d count is l table view no_slot number pushed before =
+    let new = new_client the n c v d count is l table view no_slot number in
     let long = before.0 in (
       ap (λ (x : List Client). length x) pushed ∙ (let e = length-append all (d ∷ []) in omega arith),
-      λ k z less. subst (λ (x : List Client). IsNewClient id about k (get_or x k z)) (sym pushed) (dite (ℕ_discrete k c)
-          (λ same. subst (λ (x : ℕ × Client). IsNewClient id about x.0 x.1) (λ i. (sym same i, sym (get_or_push all d z k (before.0 ∙ sym same)) i)) new)
-          (λ other. subst (λ (x : Client). IsNewClient id about k x) (sym (get_or_append_left all (d ∷ []) z k (omega (arith, before.0, less, other)))) (before.1 k z (omega (arith, less, other))))),
+      λ k z less. subst (λ (x : List Client). IsNewClient the k (get_or x k z)) (sym pushed) (dite (ℕ_discrete k c)
+          (λ same. subst (λ (x : ℕ × Client). IsNewClient the x.0 x.1) (λ i. (sym same i, sym (get_or_push all d z k (before.0 ∙ sym same)) i)) new)
+          (λ other. subst (λ (x : Client). IsNewClient the k x) (sym (get_or_append_left all (d ∷ []) z k (omega (arith, before.0, less, other)))) (before.1 k z (omega (arith, less, other))))),
     )
 
 pub part_shared : (p : Pointer) (a : NumberSet) (b : ℕ) → arc_value p ≡ part_of a b → content (Some p) ≡ part b a

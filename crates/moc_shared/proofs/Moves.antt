@@ -17,8 +17,8 @@ use Rattle.moc_shared.specs.declared.record.Record.{Record}
 use Rattle.moc_shared.specs.declared.record.Note.{Note}
 use Rattle.moc_shared.specs.declared.record.View.{View}
 use Rattle.moc_shared.specs.History.{entry, Fits, StandsFor, stood, result, IsLegal}
-use Rattle.moc_shared.specs.Rule.{note, records, Present, stood_in, IsFree, IsHeld, Holding, ViewFits, Kept, parts_of, Answers, IsOne}
-use Rattle.moc_shared.specs.Plays.{with_part, with_miss, with_holds, with_entry, behind_first, Took, Gave, Ended, EndsCall, IsCarried}
+use Rattle.moc_shared.specs.Private.Rule.{note, records, Present, stood_in, IsFree, IsHeld, Holding, ViewFits, Kept, parts_of, Answers, IsOne}
+use Rattle.moc_shared.specs.Private.Plays.{with_part, with_miss, with_holds, with_entry, behind_first, Took, Gave, Ended, EndsCall, IsCarried}
 use Rattle.moc_shared.proofs.Basics.{here, there, none_in, only, cons_cases, sum_set_same, stands_by, stood_with_call, fits_longer, fits_with_call, starts_itself, result_with, legal_with}
 use Rattle.moc_shared.proofs.Apart.{stood_of, one_view, one_record, present_cases}
 

@@ -4,10 +4,11 @@ use mathlib.Core.Logic.{dite}
 use native.Mathlib.Decide.{ℕ_discrete}
 use Rattle.moc_ranges.specs.Numbers.{NumberSet}
 use Rattle.moc_parts.specs.declared.command.Command.{Command}
-use Rattle.moc_shared.specs.Rule.{note, parts_of}
-use Rattle.moc_shared.specs.Slots.{Pointer, PartNote, Sight, content, shared, note_if, at_place, notes_below, touches}
+use Rattle.moc_shared.specs.Private.Rule.{note, parts_of}
+use Rattle.moc_parts.specs.Batches.{footprint_of_all}
+use Rattle.moc_shared.specs.Private.Slots.{Pointer, PartNote, Sight, content, shared, note_if, at_place, notes_below}
 use Rattle.atomic_table.specs.Table.{Me}
-use Rattle.moc_shared.specs.Plays.{with_holds, with_miss, with_part, with_parts, behind_first, IsCarried}
+use Rattle.moc_shared.specs.Private.Plays.{with_holds, with_miss, with_part, with_parts, behind_first, IsCarried}
 use Rattle.moc_shared.specs.History.{StandsFor}
 use Rattle.moc_shared.proofs.Carried.{none_carried}
 use Rattle.moc_shared.proofs.Basics.{here, there, none_in, cons_cases}
@@ -85,14 +86,14 @@ took_part init v w found after b c x is up took put long =
 pub left_out : (init v : Sight) (found : List (Option Pointer)) (b c : ℕ) → v ≡ with_parts init (notes_below found b) → c ≡ suc b → at_place found b ≡ None → v ≡ with_parts init (notes_below found c)
 left_out init v found b c is up none = is ∙ ap (with_parts init) (sym (ap (notes_below found) up ∙ notes_without found b none))
 
-pub touched_so_far : (op : List Command) (found after : List (Option Pointer)) (b c : ℕ) (x : Pointer) → ((k : ℕ) → k < b → is_some (at_place found k) ≡ touches op k) → c ≡ suc b → touches op b ≡ true → after ≡ set found b (Some x) → b < length found → (k : ℕ) → k < c → is_some (at_place after k) ≡ touches op k
+pub touched_so_far : (op : List Command) (found after : List (Option Pointer)) (b c : ℕ) (x : Pointer) → ((k : ℕ) → k < b → is_some (at_place found k) ≡ footprint_of_all op k) → c ≡ suc b → footprint_of_all op b ≡ true → after ≡ set found b (Some x) → b < length found → (k : ℕ) → k < c → is_some (at_place after k) ≡ footprint_of_all op k
 touched_so_far op found after b c x so_far up touched put long k l = dite (ℕ_discrete k b)
-    (λ e. ap (λ (z : List (Option Pointer)). is_some (at_place z k)) put ∙ ap (λ (j : ℕ). is_some (at_place (set found b (Some x)) j)) e ∙ ap (λ (o : Option Pointer). is_some o) (place_set_same found b (Some x) long) ∙ sym touched ∙ ap (touches op) (sym e))
+    (λ e. ap (λ (z : List (Option Pointer)). is_some (at_place z k)) put ∙ ap (λ (j : ℕ). is_some (at_place (set found b (Some x)) j)) e ∙ ap (λ (o : Option Pointer). is_some o) (place_set_same found b (Some x) long) ∙ sym touched ∙ ap (footprint_of_all op) (sym e))
     (λ ne. ap (λ (z : List (Option Pointer)). is_some (at_place z k)) put ∙ ap (λ (o : Option Pointer). is_some o) (place_set_other found b k (Some x) ne) ∙ so_far k (omega arith))
 
-pub untouched_so_far : (op : List Command) (found : List (Option Pointer)) (b c : ℕ) → ((k : ℕ) → k < b → is_some (at_place found k) ≡ touches op k) → c ≡ suc b → touches op b ≡ false → at_place found b ≡ None → (k : ℕ) → k < c → is_some (at_place found k) ≡ touches op k
+pub untouched_so_far : (op : List Command) (found : List (Option Pointer)) (b c : ℕ) → ((k : ℕ) → k < b → is_some (at_place found k) ≡ footprint_of_all op k) → c ≡ suc b → footprint_of_all op b ≡ false → at_place found b ≡ None → (k : ℕ) → k < c → is_some (at_place found k) ≡ footprint_of_all op k
 untouched_so_far op found b c so_far up untouched none k l = dite (ℕ_discrete k b)
-    (λ e. ap (λ (j : ℕ). is_some (at_place found j)) e ∙ ap (λ (o : Option Pointer). is_some o) none ∙ sym untouched ∙ ap (touches op) (sym e))
+    (λ e. ap (λ (j : ℕ). is_some (at_place found j)) e ∙ ap (λ (o : Option Pointer). is_some o) none ∙ sym untouched ∙ ap (footprint_of_all op) (sym e))
     (λ ne. so_far k (omega arith))
 
 pub still_beyond : (found after : List (Option Pointer)) (b c : ℕ) (x : Pointer) → ((k : ℕ) → b ≤ k → at_place found k ≡ None) → c ≡ suc b → after ≡ set found b (Some x) → (k : ℕ) → c ≤ k → at_place after k ≡ None
@@ -121,7 +122,7 @@ place_note found (suc b) p x l e = dite (ℕ_discrete p b)
     (λ ne. subst (λ (l : List (PartNote)). Contains l (note p (shared x))) (sym (notes_next found b)) (note_there b (at_place found b) (notes_below found b) (note p (shared x)) (place_note found b p x (omega arith) e)))
 
 -- each note is of a part of the footprint
-pub noted_touched : (op : List Command) (found : List (Option Pointer)) (n p : ℕ) (y : Option NumberSet) → ((k : ℕ) → k < n → is_some (at_place found k) ≡ touches op k) → Contains (notes_below found n) (note p y) → touches op p ≡ true
+pub noted_touched : (op : List Command) (found : List (Option Pointer)) (n p : ℕ) (y : Option NumberSet) → ((k : ℕ) → k < n → is_some (at_place found k) ≡ footprint_of_all op k) → Contains (notes_below found n) (note p y) → footprint_of_all op p ≡ true
 noted_touched op found n p y so_far h = let q = note_place found n p y h in sym (so_far p (notes_below_lt found n p y h)) ∙ ap (λ (o : Option Pointer). is_some o) q.1
 
 pub holds_upto : (init v w : Sight) (found : List (Option Pointer)) (b h : ℕ) → v ≡ with_parts init (notes_below found b) → w ≡ with_miss v h b → b < 12 → ((k : ℕ) → b ≤ k → at_place found k ≡ None) → w.holds ≡ notes_below found 12

@@ -17,8 +17,9 @@ use Rattle.moc_parts.specs.Prepared.{IsPrepared, AreRepliesTo, Preparation, kept
 use Rattle.moc_parts.specs.declared.command.Command.{Command}
 use Rattle.moc_parts.specs.declared.command.Command.TheVariants.{Add, Remove, Keep, Claim, Invert, Degrade, Count, Read, Near}
 use Rattle.moc_parts.specs.declared.reply.Reply.{Reply}
-use Rattle.moc_shared.specs.Rule.{note, parts_of, Answers}
-use Rattle.moc_shared.specs.Slots.{Pointer, PartNote, content, shared, part, answer, IsProper, touches, at_place, note_if, notes_below, list_of, lists_of, IsOwn, AreOwn, IsFootprint, AreCopies, Edits, replies_to}
+use Rattle.moc_shared.specs.Private.Rule.{note, parts_of, Answers}
+use Rattle.moc_shared.specs.Batches.{answer}
+use Rattle.moc_shared.specs.Private.Slots.{Pointer, PartNote, content, shared, part, IsProper, at_place, note_if, notes_below, list_of, lists_of, IsOwn, AreOwn, IsFootprint, AreCopies, Edits, replies_to}
 use Rattle.moc_shared.proofs.Basics.{here, none_in}
 use Rattle.moc_shared.proofs.Places.{notes_none, notes_next, notes_some, notes_without, notes_upto, note_place, place_note, notes_below_lt, part_note}
 use Rattle.moc_shared.proofs.Unions.{union_at, union_within, in_sky, get_beyond, and_true}

@@ -13,7 +13,7 @@ use Rattle.moc_ranges.specs.Pixels.{base_pixel_size, pixel_count, pixels}
 use Rattle.moc_ranges.specs.Operations.{part_of, contains-part_of, contains-pixels, IsWithin}
 use Rattle.moc_parts.specs.Parts.{union_of, LieInParts}
 use Rattle.moc_shared.proofs.Owned.{part_again, own_none}
-use Rattle.moc_shared.specs.Slots.{Pointer, content, part, at_place, list_of, lists_of, IsOwn, AreOwn}
+use Rattle.moc_shared.specs.Private.Slots.{Pointer, content, part, at_place, list_of, lists_of, IsOwn, AreOwn}
 
 and_false : (x : Bool) → (x && false) ≡ false
 and_false true = refl

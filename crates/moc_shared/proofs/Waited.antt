@@ -3,12 +3,13 @@ use Rattle.std.proofs.Common.{◌≡◌, ◌≢◌, ◌⊎◌, ℕ, suc, ◌+◌
 use Rattle.std.proofs.lemmas.List.Elements.{Contains-append_cases}
 use Rattle.moc_ranges.specs.Numbers.{NumberSet}
 use Rattle.moc_parts.specs.declared.command.Command.{Command}
-use Rattle.moc_shared.specs.declared.locks.About.{About}
+use Rattle.moc_shared.specs.declared.map.SharedMap.{SharedMap}
 use Rattle.moc_shared.specs.History.{entry, StandsFor}
-use Rattle.moc_shared.specs.Rule.{note}
-use Rattle.moc_shared.specs.Plays.{with_part, with_parts, with_miss, with_misses}
-use Rattle.moc_shared.specs.Slots.{Pointer, Sight, shared, notes_below, touches, touched_by, just, AreWaits, at_place}
-use Rattle.moc_shared.specs.Clients.{Waits}
+use Rattle.moc_shared.specs.Private.Rule.{note}
+use Rattle.moc_shared.specs.Private.Plays.{with_part, with_parts, with_miss, with_misses}
+use Rattle.moc_parts.specs.Batches.{footprint_of_all}
+use Rattle.moc_shared.specs.Private.Slots.{Pointer, Sight, shared, notes_below, touched_by, just, AreWaits, at_place}
+use Rattle.moc_shared.specs.Clients.{start_of, clients_of, Waits}
 use Rattle.moc_shared.proofs.Basics.{none_in, cons_cases, here}
 use Rattle.moc_shared.proofs.Places.{took_part, start_parts}
 use Rattle.moc_shared.proofs.Promises.{Stays}
@@ -34,7 +35,7 @@ one_wait init v w b h waits is each missed below apart = (
 -- the part was taken after these waits
 pub took_after : (cs : List Command) (init v w : Sight) (found after : List (Option Pointer)) (b c : ℕ) (x : Pointer) (waits more : List (ℕ × ℕ))
     → v ≡ with_parts (with_misses init waits) (notes_below found b) → AreWaits (touched_by cs) init waits → w ≡ with_part (with_misses v more) b (shared x) → AreWaits (just b) v more
-    → touches cs b ≡ true → c ≡ suc b → after ≡ set found b (Some x) → b < length found
+    → footprint_of_all cs b ≡ true → c ≡ suc b → after ≡ set found b (Some x) → b < length found
     → (all : List (ℕ × ℕ)) × (w ≡ with_parts (with_misses init all) (notes_below after c)) × AreWaits (touched_by cs) init all
 took_after cs init v w found after b c x waits more is each took new touched up put long =
     let all : List (ℕ × ℕ) = more ++ waits in
@@ -47,7 +48,7 @@ took_after cs init v w found after b c x waits more is each took new touched up 
           let n = new h d m in
           let same : b ≡ d = n.0 in
           let known = subst (λ (u : Sight). (h < u.clients) × ¬ StandsFor u.mine h) is (n.1, n.2) in
-          (subst (λ (k : ℕ). touches cs k ≡ true) same touched, known.0, known.1))
+          (subst (λ (k : ℕ). footprint_of_all cs k ≡ true) same touched, known.0, known.1))
           (λ (t : Contains waits (h, d)). each h d t)
           (Contains-append_cases more waits (h, d) i),
     )
@@ -55,8 +56,8 @@ took_after cs init v w found after b c x waits more is each took new touched up 
     with_all : with_misses (with_misses init waits) more ≡ with_misses init (more ++ waits)
     with_all = λ i. record { start = init.start; clients = init.clients; mine = record { number = init.mine.number; seen = init.mine.seen; own = init.mine.own; marks = init.mine.marks; misses = sym (append_assoc more waits init.mine.misses) i }; others = init.others; holds = init.holds }
 
-pub waits_from : (about : About) (cs : List Command) (v : Sight) (waits : List (ℕ × ℕ)) → v.clients ≡ about.clients → AreWaits (touched_by cs) v waits → Waits about cs v.mine (with_misses v waits).mine
-waits_from about cs v waits clients each = (waits, refl, λ h b i. let w = each h b i in (w.0, subst (λ (n : ℕ). h < n) clients w.1, w.2))
+pub waits_from : (the : SharedMap) (cs : List Command) (v : Sight) (waits : List (ℕ × ℕ)) → v.clients ≡ clients_of the → AreWaits (touched_by cs) v waits → Waits the cs v.mine (with_misses v waits).mine
+waits_from the cs v waits clients each = (waits, refl, λ h b i. let w = each h b i in (w.0, subst (λ (n : ℕ). h < n) clients w.1, w.2))
 
 pub stays_waited : (v w : Sight) (waits : List (ℕ × ℕ)) → Stays (with_misses v waits) w → Stays v w
 stays_waited v w waits t = record { others = t.others; no_part = t.no_part; start = t.start; clients = t.clients; number = t.number; stands = t.stands }

@@ -1,7 +1,4 @@
 pub mod History
-pub mod Rule
-pub mod Plays
-pub mod Slots
-pub mod Opening
+pub mod Batches
 pub mod Clients
-pub mod Starts
+pub mod Private

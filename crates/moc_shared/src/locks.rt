@@ -32,9 +32,10 @@ pub type Words = Shared<Option<Pointer>, Sight, About, Locks>;
 pub struct Locks;
 
 impl TableRule<Option<Pointer>, Sight, About> for Locks {
-    ghost use Rattle.moc_shared.specs.Slots.{content, part, answer, IsProper};
-    ghost use Rattle.moc_shared.specs.Rule.{Kept};
-    ghost use Rattle.moc_shared.specs.Opening.{first_view};
+    ghost use Rattle.moc_shared.specs.Batches.{answer};
+    ghost use Rattle.moc_shared.specs.Private.Slots.{content, part, IsProper};
+    ghost use Rattle.moc_shared.specs.Private.Rule.{Kept};
+    ghost use Rattle.moc_shared.specs.Private.Opening.{first_view};
 
     ghost holds = { λ about s. Kept 12 content part answer IsProper about.start about.clients s };
 
@@ -45,8 +46,8 @@ impl TableRule<Option<Pointer>, Sight, About> for Locks {
 pub(crate) struct Take;
 
 impl Play<Option<Pointer>, Sight> for Take {
-    ghost use Rattle.moc_shared.specs.Slots.{content, part};
-    ghost use Rattle.moc_shared.specs.Plays.{Took};
+    ghost use Rattle.moc_shared.specs.Private.Slots.{content, part};
+    ghost use Rattle.moc_shared.specs.Private.Plays.{Took};
 
     ghost then = { Took content part };
 }
@@ -55,7 +56,7 @@ impl Play<Option<Pointer>, Sight> for Take {
 pub(crate) struct Give;
 
 impl Play<Option<Pointer>, Sight> for Give {
-    ghost use Rattle.moc_shared.specs.Plays.{Gave};
+    ghost use Rattle.moc_shared.specs.Private.Plays.{Gave};
 
     ghost then = { Gave };
 }
@@ -63,7 +64,8 @@ impl Play<Option<Pointer>, Sight> for Give {
 /// The call that a first give-back ends, and what is noted of the parts that are still held.
 pub trait Closing {
     ghost use Rattle.std.specs.Prelude.{List};
-    ghost use Rattle.moc_shared.specs.Slots.{BatchEntry, PartNote};
+    ghost use Rattle.moc_shared.specs.Batches.{BatchEntry};
+    ghost use Rattle.moc_shared.specs.Private.Slots.{PartNote};
 
     ghost call: { BatchEntry };
 
@@ -72,7 +74,7 @@ pub trait Closing {
 
 impl Closing for Brand {
     ghost use Rattle.std.specs.Prelude.{[]};
-    ghost use Rattle.moc_shared.specs.Slots.{no_call};
+    ghost use Rattle.moc_shared.specs.Private.Slots.{no_call};
 
     ghost call = { no_call };
 
@@ -85,8 +87,8 @@ pub(crate) struct End<C> {
 }
 
 impl<C: Closing> Play<Option<Pointer>, Sight> for End<C> {
-    ghost use Rattle.moc_shared.specs.Slots.{answer};
-    ghost use Rattle.moc_shared.specs.Plays.{Ended};
+    ghost use Rattle.moc_shared.specs.Batches.{answer};
+    ghost use Rattle.moc_shared.specs.Private.Plays.{Ended};
 
     ghost then = { Ended answer C.call C.notes };
 }
@@ -95,7 +97,7 @@ impl<C: Closing> Play<Option<Pointer>, Sight> for End<C> {
 pub(crate) struct Look;
 
 impl Play<Option<Pointer>, Sight> for Look {
-    ghost use Rattle.moc_shared.specs.Plays.{Looked};
+    ghost use Rattle.moc_shared.specs.Private.Plays.{Looked};
 
     ghost then = { Looked };
 }
@@ -104,7 +106,7 @@ impl Play<Option<Pointer>, Sight> for Look {
 pub(crate) struct Gather;
 
 impl Play<Option<Pointer>, Sight> for Gather {
-    ghost use Rattle.moc_shared.specs.Plays.{Gathered};
+    ghost use Rattle.moc_shared.specs.Private.Plays.{Gathered};
 
     ghost then = { Gathered };
 }
@@ -113,8 +115,8 @@ impl Play<Option<Pointer>, Sight> for Gather {
 pub(crate) struct Cut;
 
 impl Split<Sight> for Cut {
-    ghost use Rattle.moc_shared.specs.Plays.{first_alone};
-    ghost use Rattle.moc_shared.specs.Opening.{rest_view};
+    ghost use Rattle.moc_shared.specs.Private.Plays.{first_alone};
+    ghost use Rattle.moc_shared.specs.Private.Opening.{rest_view};
 
     ghost left = { first_alone };
 
@@ -126,8 +128,8 @@ pub(crate) struct Glue;
 
 impl Join<Sight> for Glue {
     ghost use Rattle.std.specs.FinSet as set;
-    ghost use Rattle.moc_shared.specs.Plays.{both_views};
-    ghost use Rattle.moc_shared.specs.Opening.{idle_view};
+    ghost use Rattle.moc_shared.specs.Private.Plays.{both_views};
+    ghost use Rattle.moc_shared.specs.Private.Opening.{idle_view};
 
     ghost both = { both_views };
 

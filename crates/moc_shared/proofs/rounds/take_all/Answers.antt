@@ -1,9 +1,10 @@
 use Rattle.std.specs.FinSet as set_of
 use Rattle.std.proofs.Common.{rules, ◌≡◌, ℕ, suc, ◌+◌, ◌<◌, List, refl, sym, ap, ◌∙◌, subst, arith, Contains, map, set, length, length-set, get_or, Option, Some, is_some, true, false}
 use Rattle.moc_ranges.specs.Numbers.{NumberSet}
-use Rattle.moc_shared.specs.Slots.{Pointer, PartNote, Sight, notes_below, at_place, touches, IsOwn, IsRefused}
-use Rattle.moc_shared.specs.Plays.{with_parts}
-use Rattle.moc_shared.specs.Rule.{note, parts_of}
+use Rattle.moc_parts.specs.Batches.{footprint_of_all}
+use Rattle.moc_shared.specs.Private.Slots.{Pointer, PartNote, Sight, notes_below, at_place, IsOwn, IsRefused}
+use Rattle.moc_shared.specs.Private.Plays.{with_parts}
+use Rattle.moc_shared.specs.Private.Rule.{note, parts_of}
 use Rattle.moc_shared.proofs.Owned.{own_none, own_set}
 use Rattle.moc_shared.proofs.Places.{start_parts, took_part, left_out, touched_so_far, untouched_so_far, still_beyond, not_below, noted_touched, holds_upto, refused_view, known_through}
 use Rattle.moc_shared.proofs.rounds.take_all.Goals as goal
@@ -31,7 +32,7 @@ returns-in-Err-clause-err c =
     let init = c.args.seat.now.me.0 in
     let known = known_through init c.loop-b.seat.me.0 (notes_below c.loop-b.found c.loop-b.b) c.in-Err.holder c.loop-b.invariant.view c.in-Err.ensures.err.1 c.in-Err.ensures.err.2 in
     let is : c.of-part.result ≡ c.loop-b.b = c.of-part.ensures in
-    let touched : touches c.args.batch.now c.loop-b.b ≡ true = sym (c.footprint-footprint.ensures.parts c.loop-b.b c.loop-b-test.true) ∙ ap (λ (k : ℕ). set_of.contains c.footprint-footprint.result k) (sym is) ∙ sym c.contains.ensures ∙ c.if-contains.true in
+    let touched : footprint_of_all c.args.batch.now c.loop-b.b ≡ true = sym (c.footprint-footprint.ensures.parts c.loop-b.b c.loop-b-test.true) ∙ ap (λ (k : ℕ). set_of.contains c.footprint-footprint.result k) (sym is) ∙ sym c.contains.ensures ∙ c.if-contains.true in
     let refused : IsRefused c.args.batch.now c.loop-b.b c.in-Err.holder init c.give_all.new.seat.me.0 = (
       notes_below c.loop-b.found c.loop-b.b,
       refused_view init c.loop-b.seat.me.0 c.take_slot.new.seat.me.0 c.give_all.new.seat.me.0 c.loop-b.found c.loop-b.b c.in-Err.holder c.loop-b.invariant.view c.in-Err.ensures.err.0 (λ i. (c.give_all.ensures.gave i).0),
@@ -48,7 +49,7 @@ loop-b-preserved c =
     let up : c.loop-b.b + 1 ≡ suc c.loop-b.b = omega arith in
     let inv = c.loop-b.invariant in
     let is : c.of-part.result ≡ c.loop-b.b = c.of-part.ensures in
-    let tested : touches c.args.batch.now c.loop-b.b ≡ c.contains.result = sym (c.footprint-footprint.ensures.parts c.loop-b.b c.loop-b-test.true) ∙ ap (λ (k : ℕ). set_of.contains c.footprint-footprint.result k) (sym is) ∙ sym c.contains.ensures in
+    let tested : footprint_of_all c.args.batch.now c.loop-b.b ≡ c.contains.result = sym (c.footprint-footprint.ensures.parts c.loop-b.b c.loop-b-test.true) ∙ ap (λ (k : ℕ). set_of.contains c.footprint-footprint.result k) (sym is) ∙ sym c.contains.ensures in
     elim c.if-contains.branch [
       | then-contains+in-Ok w ↦ let put : c.if-contains.found ≡ set c.loop-b.found c.loop-b.b (Some w.in-Ok.pointer) = w.found-is ∙ w.put_at.ensures in let wide : c.loop-b.b < length c.loop-b.found = omega (arith, inv.long, c.loop-b-test.true) in record {
         same = ((λ i. (w.seat-is i).table_id) ∙ w.take_slot.ensures.same.0 ∙ inv.same.0, (λ i. (w.seat-is i).id) ∙ w.take_slot.ensures.same.1 ∙ inv.same.1);

@@ -1,8 +1,9 @@
 use Rattle.std.specs.FinSet as set_of
 use Rattle.std.proofs.Common.{rules, ◌≡◌, ℕ, suc, ◌+◌, ◌<◌, List, [], refl, sym, ap, ◌∙◌, subst, arith, Contains, map, set, length, length-set, get_or, Option, Some, is_some, true, false}
-use Rattle.moc_shared.specs.Slots.{Pointer, PartNote, Sight, notes_below, at_place, touches, touched_by, IsOwn}
-use Rattle.moc_shared.specs.Plays.{with_parts, with_misses}
-use Rattle.moc_shared.specs.Rule.{note, parts_of}
+use Rattle.moc_parts.specs.Batches.{footprint_of_all}
+use Rattle.moc_shared.specs.Private.Slots.{Pointer, PartNote, Sight, notes_below, at_place, touched_by, IsOwn}
+use Rattle.moc_shared.specs.Private.Plays.{with_parts, with_misses}
+use Rattle.moc_shared.specs.Private.Rule.{note, parts_of}
 use Rattle.moc_shared.proofs.Owned.{own_none, own_set}
 use Rattle.moc_shared.proofs.Places.{start_parts, left_out, touched_so_far, untouched_so_far, still_beyond, not_below}
 use Rattle.moc_shared.proofs.Waited.{no_wait, took_after}
@@ -28,7 +29,7 @@ loop-b-preserved g c =
     let up : c.loop-b.b + 1 ≡ suc c.loop-b.b = omega arith in
     let inv = c.loop-b.invariant in
     let is : c.of.result ≡ c.loop-b.b = c.of.ensures in
-    let tested : touches c.args.batch.now c.loop-b.b ≡ c.contains.result = sym (c.footprint-footprint.ensures.parts c.loop-b.b c.loop-b-test.true) ∙ ap (λ (k : ℕ). set_of.contains c.footprint-footprint.result k) (sym is) ∙ sym c.contains.ensures in
+    let tested : footprint_of_all c.args.batch.now c.loop-b.b ≡ c.contains.result = sym (c.footprint-footprint.ensures.parts c.loop-b.b c.loop-b-test.true) ∙ ap (λ (k : ℕ). set_of.contains c.footprint-footprint.result k) (sym is) ∙ sym c.contains.ensures in
     let init = c.args.seat.now.me.0 in
     let v = inv.view in
     elim c.if-contains.branch [
