@@ -1,10 +1,11 @@
 -- A map that is made: its slots, and its clients.
-use Rattle.std.proofs.Common.{◌≡◌, ◌⊎◌, ℕ, zero, suc, ◌+◌, ◌-◌, ◌<◌, List, [], ◌∷◌, ◌++◌, map, length, get_or, refl, sym, ap, ◌∙◌, subst, inl, inr, ⊎_elim, arith, length-append, Option, Some}
+use Rattle.std.proofs.Common.{All, rules, ◌≡◌, ◌⊎◌, ℕ, zero, suc, ◌+◌, ◌-◌, ◌<◌, List, [], ◌∷◌, ◌++◌, map, length, get_or, refl, sym, ap, ◌∙◌, subst, inl, inr, ⊎_elim, arith, length-append, Option, Some}
 use Rattle.std.specs.Prelude.{slice_index}
 use mathlib.Core.Option.{some, some-ne-none, some-injective}
 use mathlib.Core.Logic.{dite}
 use native.Mathlib.Decide.{ℕ_discrete}
 use lib.ListN.{get_elem?}
+use Rattle.std.proofs.lemmas.List.Elements.{All-from_get_or}
 use Rattle.std.proofs.lemmas.List.{get_or_push, get_or_append_left}
 use Rattle.atomic_table.specs.Table.{opening}
 use Rattle.std.specs.Arc.{arc_value}
@@ -21,7 +22,7 @@ use Rattle.moc_shared.specs.Private.Plays.{first_alone}
 use Rattle.moc_shared.specs.Batches.{answer}
 use Rattle.moc_shared.specs.Private.Slots.{Pointer, Sight, content, part, IsProper}
 use Rattle.moc_shared.specs.Private.Starts.{StandFor}
-use Rattle.moc_shared.specs.Clients.{start_of, clients_of, IsNewClient, AreNewClients}
+use Rattle.moc_shared.specs.Clients.{start_of, clients_of, IsClientOf, IsNewClient, AreNewClients}
 use Rattle.moc_shared.proofs.Begins.{begins, stood_same}
 
 unmapped : (xs : List (Option Pointer)) (b : ℕ) (x : Option Pointer) → get_elem? (map some xs) b ≡ some (some x) → get_elem? xs b ≡ some x
@@ -82,6 +83,12 @@ one_more the n c v all after d count is l table view no_slot number pushed befor
           (λ same. subst (λ (x : ℕ × Client). IsNewClient the x.0 x.1) (λ i. (sym same i, sym (get_or_push all d z k (before.0 ∙ sym same)) i)) new)
           (λ other. subst (λ (x : Client). IsNewClient the k x) (sym (get_or_append_left all (d ∷ []) z k (omega (arith, before.0, less, other)))) (before.1 k z (omega (arith, less, other))))),
     )
+
+-- each new client is one of the map
+pub each_of_map : (the : SharedMap) (clients : List Client) (n : ℕ) → AreNewClients the clients n → All (λ c. IsClientOf the c) clients
+each_of_map the [] n new = search rules
+each_of_map the (c ∷ cs) n new =
+    All-from_get_or (λ d. IsClientOf the d) (c ∷ cs) c (λ i l. (new.1 i c (subst (λ k. i < k) new.0 l)).of_map)
 
 pub part_shared : (p : Pointer) (a : NumberSet) (b : ℕ) → arc_value p ≡ part_of a b → content (Some p) ≡ part b a
 unfolding part

@@ -1,6 +1,6 @@
 //! How a map is made, with its clients.
-ghost use Rattle.std.specs.Prelude.{◌≡◌, ◌⊎◌, ◌<◌, ◌↔◌, [], IfOk, IsErrOf};
-ghost use Rattle.moc_shared.specs.Clients.{start_of, clients_of, AreNewClients};
+ghost use Rattle.std.specs.Prelude.{◌≡◌, ◌⊎◌, ◌<◌, ◌↔◌, [], All, IfOk, IsErrOf};
+ghost use Rattle.moc_shared.specs.Clients.{start_of, clients_of, IsClientOf, AreNewClients};
 ghost use Rattle.moc_shared.specs.Private.Opening.{first_view};
 ghost use Rattle.moc_shared.specs.Private.Starts.{StandFor};
 
@@ -34,7 +34,8 @@ fn deal(map: &SharedMap, first: Token, clients: u8) -> Result<Vec<Client>, Memor
     requires place { first.table_id ≡ map.now.table.shared.table_id }
     requires first { (first.me.0 ≡ first_view (start_of map.now) clients) × (first.me.1 ≡ []) }
     requires count { clients ≡ clients_of map.now }
-    ensures { IfOk result (λ v. AreNewClients map.now v.items clients) }
+    ensures new { IfOk result (λ v. AreNewClients map.now v.items clients) }
+    ensures of_map { IfOk result (λ v. All (λ c. IsClientOf map.now c) v.items) }
 {
     let SharedMap { table, alloc } = map;
     let mut all = Vec::new(*alloc);
@@ -53,7 +54,7 @@ fn deal(map: &SharedMap, first: Token, clients: u8) -> Result<Vec<Client>, Memor
 impl SharedMap {
     /// A map that begins with a set, and its clients, numbered from 0.
     ///
-    /// Refused where there is no client or more than 64, and where memory runs out.
+    /// Refused with `BadCount` where there is no client or more than 64, and where memory runs out. O(n) for n ranges.
     pub fn new(
         alloc: Global,
         start: Coverage,
@@ -61,11 +62,13 @@ impl SharedMap {
     ) -> Result<(SharedMap, Vec<Client>), NewError>
         ensures begins { IfOk result (λ r. (start_of r.0 ≡ start) × (clients_of r.0 ≡ clients)) }
         ensures clients { IfOk result (λ r. AreNewClients r.0 r.1.items clients) }
+        ensures of_map { IfOk result (λ r. All (λ c. IsClientOf r.0 c) r.1.items) }
         ensures bad_count { IsErrOf result NewError.BadCount ↔ ((clients ≡ 0) ⊎ (64 < clients)) }
     {
         if clients == 0 || clients > 64 {
             return Err(NewError::BadCount);
         }
+        // A coverage lies in the sky, as `is_empty` tells.
         start.is_empty();
         let slots = fill(alloc, &start)?;
         let about = About {
