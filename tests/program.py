@@ -25,6 +25,12 @@ CHANGED = (b"changed 288230376151711744\nchanged 0\ntaken 72057594037927936\ncov
 FAULTY = b"add 5/7-3\nhop 1\ndegrade 30\nnear 1\nnear 1 1x\nnear 0 12\ninvert now\nadd\nread\n"
 FAULTS = (b"fault Backwards\nfault UnknownWord\nfault OrderTooLarge\nfault WrongCount\nfault BadNumber\n"
           b"fault CellTooLarge\nfault WrongCount\nchanged 0\ncover\n")
+CREW = b"add 0/0\nadd 0/1\ncount 0/0\ncount 0/1\n"
+CREWED = (b"changed 288230376151711744\nchanged 288230376151711744\ntotal 288230376151711744\n"
+          b"total 288230376151711744\ncover 0/0-1\n")
+CLAIMS = b"claim 0/4\nhop\n\nclaim 1/17"
+CLAIMED = [b"claimed\nfault UnknownWord\ntaken 72057594037927936\ncover 0/4\n",
+           b"taken 72057594037927936\nfault UnknownWord\nclaimed\ncover 1/17\n"]
 LONGEST_LINE = 1_048_576
 NINES = b"9" * 1000
 # Words, standard input, and what is told: each fault that a refused value or text has.
@@ -48,6 +54,7 @@ REFUSED = [
     (["convert", "uniq", "ascii"], b"3", b"NotUniq"),
     (["convert", "ascii", "ascii"], b" " * (LIMIT + 1), b"TooLong"),
     (["run"], b" " * (LONGEST_LINE + 1), b"LineTooLong"),
+    (["crew", "2"], b"add 0/0\n" + b" " * (LONGEST_LINE + 1), b"LineTooLong"),
 ]
 # What works, with each growth refused in turn too.
 WORKS = [
@@ -70,6 +77,9 @@ MISTAKES = [
     (["ring", "1"], b"CELL"),
     (["fly"], b"fly"),
     (["run", "now"], b"now"),
+    (["crew"], b"N"),
+    (["crew", "0"], b"0"),
+    (["crew", "65"], b"65"),
     (["convert", "ascii", "fits"], b"fits"),
     (["cell", "x"], b"x"),
 ]
@@ -80,6 +90,7 @@ HELP = [
     (["help"], b"Sky coverages (IVOA MOC 2.0) and HEALPix cell numbers"),
     (["help", "ring"], b"Prints the ring number of a nested cell"),
     (["run", "--help"], b"The script is read from standard input"),
+    (["crew", "--help"], b"Its lines that are not blank go to N threads in turn"),
     (["ring", "--help"], b"Prints the ring number of a nested cell"),
     (["convert", "--help"], b"Converts a coverage on standard input from one text form to another"),
 ]
@@ -124,6 +135,21 @@ def words_are_answered(tally):
     tally.add("a word that is not UTF-8", seen == (2, b"", b"error: a word of the command line is not UTF-8\n"), seen)
 
 
+def crews_answer(tally):
+    """One lane answers as `run`, with the cover behind; two lanes on parts of their own; three lanes, in either order."""
+    for script, answers, cover in [(SCRIPT, ANSWERS, b"cover 0/0-2\n"), (FAULTY, FAULTS, b"cover\n"),
+                                   (b"", b"", b"cover\n")]:
+        seen = outcome(["crew", "1"], script)
+        tally.add("a crew of one lane", seen == (0, answers + cover, b""), seen)
+    for lanes in ["1", "2"]:
+        seen = outcome(["crew", lanes], CREW)
+        tally.add(f"a crew of {lanes} lanes", seen == (0, CREWED, b""), seen)
+    seen = outcome(["crew", "64"], CREW)
+    tally.add("a crew of 64 lanes", (seen[0], seen[2]) == (0, b"") and seen[1].endswith(b"\ncover 0/0-1\n"), seen)
+    seen = outcome(["crew", "3"], CLAIMS)
+    tally.add("a crew of three lanes", (seen[0], seen[2]) == (0, b"") and seen[1] in CLAIMED, seen)
+
+
 def limits_are_kept(tally):
     """Inputs and lines that are as long as they may be, and numbers of many digits."""
     seen = outcome(["convert", "ascii", "ascii"], b" " * LIMIT)
@@ -138,12 +164,12 @@ def limits_are_kept(tally):
 
 def devices_fail(tally):
     """A full device as output, a folder as input, and fault outputs that fail."""
-    for words, given in [(["run"], SCRIPT), (["convert", "ascii", "json"], b"2/0-3"), (["ring", "1", "18"], b""),
-                         (["--help"], b"")]:
+    for words, given in [(["run"], SCRIPT), (["crew", "2"], CREW), (["convert", "ascii", "json"], b"2/0-3"),
+                         (["ring", "1", "18"], b""), (["--help"], b"")]:
         with open("/dev/full", "wb") as full:
             seen = outcome(words, given, stdout=full)
         tally.add(f"{words} on a full device", seen == (3, None, b"fault Write\n"), seen)
-    for words in [["run"], ["convert", "ascii", "json"]]:
+    for words in [["run"], ["crew", "2"], ["convert", "ascii", "json"]]:
         folder = os.open(TOP, os.O_RDONLY)
         seen = outcome(words, stdin=folder)
         os.close(folder)
@@ -273,6 +299,7 @@ def refused_line_is_told(tally, shim):
 def main():
     tally = Tally()
     words_are_answered(tally)
+    crews_answer(tally)
     limits_are_kept(tally)
     devices_fail(tally)
     answers_come_at_once(tally)

@@ -1,6 +1,7 @@
 //! What the words of the command line ask for.
 use crate::conversion::Form;
 use clap::ArgMatches;
+use moc_script::Lanes;
 use moc_sphere::{Cell, CellError, Order};
 
 /// What the words ask for.
@@ -8,6 +9,8 @@ use moc_sphere::{Cell, CellError, Order};
 pub enum Action {
     /// Run a script.
     Run,
+    /// Run a script on so many threads.
+    Crew(Lanes),
     /// Convert a number.
     Number(Number),
     /// Convert a coverage from one text form to another.
@@ -35,6 +38,7 @@ impl Action {
         let (name, values) = matches.subcommand()?;
         match name {
             "run" => Some(Action::Run),
+            "crew" => Some(Action::Crew(lanes(values)?)),
             "ring" => Some(Action::Number(Number::Ring(order(values)?, index(values, "CELL")?))),
             "nest" => Some(Action::Number(Number::Nest(order(values)?, index(values, "RING")?))),
             "uniq" => Some(Action::Number(Number::Uniq(order(values)?, index(values, "CELL")?))),
@@ -48,6 +52,10 @@ impl Action {
 
 fn form(values: &ArgMatches<'_>, id: &str) -> Option<Form> {
     Form::named(values.get_str(id)?)
+}
+
+fn lanes(values: &ArgMatches<'_>) -> Option<Lanes> {
+    Lanes::new(values.get_one::<u8>("N")?)
 }
 
 fn order(values: &ArgMatches<'_>) -> Option<Order> {

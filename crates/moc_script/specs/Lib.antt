@@ -12,4 +12,7 @@ pub mod Answers
 pub mod Batches
 pub mod Runs
 pub mod Scripts
+pub mod Merges
+pub mod Crews
+pub mod Private
 pub mod Laws

@@ -13,7 +13,7 @@ use moc_ranges::Memory;
 use std::alloc::Global;
 
 /// Answers a fault.
-fn push_fault(fault: Fault, text: &mut Vec<u8>) -> Result<(), Memory>
+pub(crate) fn push_fault(fault: Fault, text: &mut Vec<u8>) -> Result<(), Memory>
     ensures { OnOk result (text.new.items ≡ text.old.items ++ fault_line fault) }
 {
     text.extend_from_slice(b"fault ")?;

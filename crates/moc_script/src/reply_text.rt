@@ -61,7 +61,7 @@ fn push_count(word: &[u8], count: u64, text: &mut Vec<u8>) -> Result<(), Memory>
 }
 
 /// Adds `cover` and the ASCII form of a set that is not empty.
-fn push_cover(alloc: Global, set: &Coverage, text: &mut Vec<u8>) -> Result<(), Memory>
+pub(crate) fn push_cover(alloc: Global, set: &Coverage, text: &mut Vec<u8>) -> Result<(), Memory>
     ensures { OnOk result (text.new.items ≡ text.old.items ++ cover_text set.now) }
 {
     if set.is_empty() {
