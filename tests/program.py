@@ -30,6 +30,12 @@ SCHEDULE = (b"begin 1 add 0/0-1\nbegin 2 count 0/0-1\ntake 1\ntake 1\nedit 1 0\n
 PLAYED = (b"ok\n" * 7 + b"refused PartHeld\n" + b"ok\n" * 3 + b"changed 576460752303423488\nfault UnknownWord\n"
           + b"ok\n" * 4 + b"total 576460752303423488\n")
 LAST_LINES = b"order 1 2\ncover 0/0-1\n"
+CREW = b"add 0/0\nadd 0/1\ncount 0/0\ncount 0/1\n"
+CREWED = (b"changed 288230376151711744\nchanged 288230376151711744\ntotal 288230376151711744\n"
+          b"total 288230376151711744\ncover 0/0-1\n")
+CLAIMS = b"claim 0/4\nhop\n\nclaim 1/17"
+CLAIMED = [b"claimed\nfault UnknownWord\ntaken 72057594037927936\ncover 0/4\n",
+           b"taken 72057594037927936\nfault UnknownWord\nclaimed\ncover 1/17\n"]
 LONGEST_LINE = 1_048_576
 NINES = b"9" * 1000
 # Words, standard input, and what is told: each fault that a refused value or text has.
@@ -54,6 +60,7 @@ REFUSED = [
     (["convert", "ascii", "ascii"], b" " * (LIMIT + 1), b"TooLong"),
     (["run"], b" " * (LONGEST_LINE + 1), b"LineTooLong"),
     (["play"], b" " * (LONGEST_LINE + 1), b"LineTooLong"),
+    (["crew", "2"], b"add 0/0\n" + b" " * (LONGEST_LINE + 1), b"LineTooLong"),
 ]
 # What works, with each growth refused in turn too.
 WORKS = [
@@ -77,6 +84,9 @@ MISTAKES = [
     (["fly"], b"fly"),
     (["run", "now"], b"now"),
     (["play", "now"], b"now"),
+    (["crew"], b"N"),
+    (["crew", "0"], b"0"),
+    (["crew", "65"], b"65"),
     (["convert", "ascii", "fits"], b"fits"),
     (["cell", "x"], b"x"),
 ]
@@ -88,6 +98,7 @@ HELP = [
     (["help", "ring"], b"Prints the ring number of a nested cell"),
     (["run", "--help"], b"The script is read from standard input"),
     (["play", "--help"], b"The schedule is read from standard input"),
+    (["crew", "--help"], b"Its lines that are not blank go to N threads in turn"),
     (["ring", "--help"], b"Prints the ring number of a nested cell"),
     (["convert", "--help"], b"Converts a coverage on standard input from one text form to another"),
 ]
@@ -132,6 +143,21 @@ def words_are_answered(tally):
     tally.add("a word that is not UTF-8", seen == (2, b"", b"error: a word of the command line is not UTF-8\n"), seen)
 
 
+def crews_answer(tally):
+    """One lane answers as `run`, with the cover behind; two lanes on parts of their own; three lanes, in either order."""
+    for script, answers, cover in [(SCRIPT, ANSWERS, b"cover 0/0-2\n"), (FAULTY, FAULTS, b"cover\n"),
+                                   (b"", b"", b"cover\n")]:
+        seen = outcome(["crew", "1"], script)
+        tally.add("a crew of one lane", seen == (0, answers + cover, b""), seen)
+    for lanes in ["1", "2"]:
+        seen = outcome(["crew", lanes], CREW)
+        tally.add(f"a crew of {lanes} lanes", seen == (0, CREWED, b""), seen)
+    seen = outcome(["crew", "64"], CREW)
+    tally.add("a crew of 64 lanes", (seen[0], seen[2]) == (0, b"") and seen[1].endswith(b"\ncover 0/0-1\n"), seen)
+    seen = outcome(["crew", "3"], CLAIMS)
+    tally.add("a crew of three lanes", (seen[0], seen[2]) == (0, b"") and seen[1] in CLAIMED, seen)
+
+
 def limits_are_kept(tally):
     """Inputs and lines that are as long as they may be, and numbers of many digits."""
     seen = outcome(["convert", "ascii", "ascii"], b" " * LIMIT)
@@ -146,12 +172,13 @@ def limits_are_kept(tally):
 
 def devices_fail(tally):
     """A full device as output, a folder as input, and fault outputs that fail."""
-    for words, given in [(["run"], SCRIPT), (["play"], SCHEDULE), (["convert", "ascii", "json"], b"2/0-3"),
+    for words, given in [(["run"], SCRIPT), (["play"], SCHEDULE), (["crew", "2"], CREW),
+                         (["convert", "ascii", "json"], b"2/0-3"),
                          (["ring", "1", "18"], b""), (["--help"], b"")]:
         with open("/dev/full", "wb") as full:
             seen = outcome(words, given, stdout=full)
         tally.add(f"{words} on a full device", seen == (3, None, b"fault Write\n"), seen)
-    for words in [["run"], ["play"], ["convert", "ascii", "json"]]:
+    for words in [["run"], ["play"], ["crew", "2"], ["convert", "ascii", "json"]]:
         folder = os.open(TOP, os.O_RDONLY)
         seen = outcome(words, stdin=folder)
         os.close(folder)
@@ -281,6 +308,7 @@ def refused_line_is_told(tally, shim):
 def main():
     tally = Tally()
     words_are_answered(tally)
+    crews_answer(tally)
     limits_are_kept(tally)
     devices_fail(tally)
     answers_come_at_once(tally)

@@ -2,7 +2,7 @@
 use Rattle.std.proofs.Common.{◌≡◌, ℕ, Result, Ok, Err, refl, sym, ap, ◌∙◌, arith}
 use Rattle.moc_cli.specs.Statuses.{code_of, status_of, end_of}
 use Rattle.moc_cli.specs.declared.status.Fault.{Fault}
-use Rattle.moc_cli.specs.declared.status.Fault.TheVariants.{CellTooLarge, NotUniq, OutOfFace, RingTooLarge, BadByte, NoOrder, OrderTooLarge, Backwards, Unfinished, NotJson, NotObject, BadOrder, NotArray, NotWhole, TooCoarse, LineTooLong, TooLong, Read, Write, Memory}
+use Rattle.moc_cli.specs.declared.status.Fault.TheVariants.{CellTooLarge, NotUniq, OutOfFace, RingTooLarge, BadByte, NoOrder, OrderTooLarge, Backwards, Unfinished, NotJson, NotObject, BadOrder, NotArray, NotWhole, TooCoarse, LineTooLong, TooLong, Read, Write, Memory, Spawn}
 use Rattle.moc_cli.specs.declared.status.Status.{Status}
 use Rattle.moc_cli.specs.declared.status.Status.TheVariants.{Done, Refused, BadWords, Broken}
 
@@ -38,6 +38,7 @@ no_fault TooLong e = cc
 no_fault Read e = cc
 no_fault Write e = cc
 no_fault Memory e = cc
+no_fault Spawn e = cc
 
 pub no_outcome : (outcome : Result (Unit {0}) Fault) → end_of outcome ≡ BadWords → ⊥
 no_outcome (Ok u) e = cc

@@ -9,6 +9,10 @@ use Rattle.clap.specs.declared.builder.ValueParser.TheVariants.{Signed, Unsigned
 abbrev pub order_rule : Rule
 order_rule = record (new_rule (codes "ORDER")) { required = true; parser = Some (Signed (pos 0) (pos 29)) }
 
+-- a required number of threads, 1 to 64
+abbrev pub lanes_rule : Rule
+lanes_rule = record (new_rule (codes "N")) { required = true; parser = Some (Signed (pos 1) (pos 64)) }
+
 -- a required number of 64 bits
 abbrev pub number_rule : Text → Rule
 number_rule name = record (new_rule name) { required = true; parser = Some (Unsigned 0 18446744073709551615) }
@@ -40,14 +44,15 @@ without_name a = record a { top = record a.top { no_binary_name = true } }
 abbrev pub with_word_required : App → App
 with_word_required a = record a { top = record a.top { subcommand_required = true } }
 
--- the words `run`, `play`, `ring ORDER CELL`, `nest ORDER RING`, `uniq ORDER CELL`, `near ORDER CELL`, `cell UNIQ`
--- and `convert FROM TO`
+-- the words `run`, `play`, `crew N`, `ring ORDER CELL`, `nest ORDER RING`, `uniq ORDER CELL`, `near ORDER CELL`,
+-- `cell UNIQ` and `convert FROM TO`
 unfoldable pub moc_app : ValueParser → ValueParser → App
 moc_app from to =
     let bare = with_word_required (without_name (new_app (codes "moc"))) in
     let with_run = with_subcommand bare (new_app (codes "run")).top in
     let with_play = with_subcommand with_run (new_app (codes "play")).top in
-    let with_ring = with_subcommand with_play (numbers_app (codes "ring") (codes "CELL")).top in
+    let with_crew = with_subcommand with_play (with_rule (new_app (codes "crew")) lanes_rule).top in
+    let with_ring = with_subcommand with_crew (numbers_app (codes "ring") (codes "CELL")).top in
     let with_nest = with_subcommand with_ring (numbers_app (codes "nest") (codes "RING")).top in
     let with_uniq = with_subcommand with_nest (numbers_app (codes "uniq") (codes "CELL")).top in
     let with_near = with_subcommand with_uniq (numbers_app (codes "near") (codes "CELL")).top in

@@ -11,7 +11,7 @@ use Rattle.moc_text.specs.declared.uniq.UniqError.TheVariants as uniq
 use Rattle.moc_script.specs.declared.script.RunError.{RunError}
 use Rattle.moc_script.specs.declared.script.RunError.TheVariants as run
 use Rattle.moc_cli.specs.declared.status.Fault.{Fault}
-use Rattle.moc_cli.specs.declared.status.Fault.TheVariants.{CellTooLarge, NotUniq, OutOfFace, RingTooLarge, BadByte, NoOrder, OrderTooLarge, Backwards, Unfinished, NotJson, NotObject, BadOrder, NotArray, NotWhole, TooCoarse, LineTooLong, TooLong, Read, Write, Memory}
+use Rattle.moc_cli.specs.declared.status.Fault.TheVariants.{CellTooLarge, NotUniq, OutOfFace, RingTooLarge, BadByte, NoOrder, OrderTooLarge, Backwards, Unfinished, NotJson, NotObject, BadOrder, NotArray, NotWhole, TooCoarse, LineTooLong, TooLong, Read, Write, Memory, Spawn}
 
 -- the name of a fault
 abbrev pub name_of : Fault → List ℕ
@@ -35,6 +35,7 @@ name_of TooLong = codes "TooLong"
 name_of Read = codes "Read"
 name_of Write = codes "Write"
 name_of Memory = codes "Memory"
+name_of Spawn = codes "Spawn"
 
 -- the line that tells a fault
 abbrev pub line_of : Fault → List ℕ
@@ -81,3 +82,4 @@ fault_of_run run.Read = Read
 fault_of_run run.Write = Write
 fault_of_run (run.LineTooLong line) = LineTooLong
 fault_of_run (run.Memory line) = Memory
+fault_of_run run.Spawn = Spawn

@@ -1,6 +1,7 @@
 //! What the words of the command line ask for.
 use crate::conversion::Form;
 use clap::ArgMatches;
+use moc_script::Lanes;
 use moc_sphere::{Cell, CellError, Order};
 
 /// What the words ask for.
@@ -10,6 +11,8 @@ pub enum Action {
     Run,
     /// Play a schedule.
     Play,
+    /// Run a script on so many threads.
+    Crew(Lanes),
     /// Convert a number.
     Number(Number),
     /// Convert a coverage from one text form to another.
@@ -38,6 +41,7 @@ impl Action {
         match name {
             "run" => Some(Action::Run),
             "play" => Some(Action::Play),
+            "crew" => Some(Action::Crew(lanes(values)?)),
             "ring" => Some(Action::Number(Number::Ring(order(values)?, index(values, "CELL")?))),
             "nest" => Some(Action::Number(Number::Nest(order(values)?, index(values, "RING")?))),
             "uniq" => Some(Action::Number(Number::Uniq(order(values)?, index(values, "CELL")?))),
@@ -51,6 +55,10 @@ impl Action {
 
 fn form(values: &ArgMatches<'_>, id: &str) -> Option<Form> {
     Form::named(values.get_str(id)?)
+}
+
+fn lanes(values: &ArgMatches<'_>) -> Option<Lanes> {
+    Lanes::new(values.get_one::<u8>("N")?)
 }
 
 fn order(values: &ArgMatches<'_>) -> Option<Order> {

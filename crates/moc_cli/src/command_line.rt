@@ -2,7 +2,7 @@
 ghost use Rattle.std.specs.Prelude.{◌≡◌, IfOk, false};
 ghost use Rattle.clap.specs.Words.{app_of, rule_of};
 ghost use Rattle.clap.specs.declared.builder.command.Command.TheViews.{out-Command as fields_of};
-ghost use Rattle.moc_cli.specs.CommandLine.{IsCommandLine, IsFormParser, form_rule, number_rule, numbers_app, order_rule};
+ghost use Rattle.moc_cli.specs.CommandLine.{IsCommandLine, IsFormParser, form_rule, lanes_rule, number_rule, numbers_app, order_rule};
 
 use clap::{Arg, Command, value_parser};
 use std::alloc::{AllocError, Global};
@@ -66,6 +66,19 @@ answers
   order 1
   cover 0/3";
 
+/// What `moc crew --help` says below the usage.
+const LANES: &str = "\
+The script is one of `run`. Its lines that are not blank go to N threads in turn, 1 to 64, which work on one coverage at
+the same time. Each thread keeps the order of its own lines; which of two threads comes first is not told.
+The answers stand in the order of the lines, and behind them the cover of the coverage.
+
+Example:
+  printf 'add 0/0\\nadd 0/1\\n' | moc crew 2
+answers
+  changed 288230376151711744
+  changed 288230376151711744
+  cover 0/0-1";
+
 /// The words of the text forms.
 static FORMS: [&str; 3] = ["ascii", "json", "uniq"];
 
@@ -79,6 +92,10 @@ pub fn command_line<'a>(alloc: Global) -> Result<Command<'a>, AllocError>
     let play = Command::new(alloc, "play")
         .about("Plays a schedule of steps that clients take on one coverage")
         .after_help(SCHEDULE);
+    let crew = Command::new(alloc, "crew")
+        .about("Runs a script of commands on one coverage by N threads")
+        .after_help(LANES)
+        .arg(lanes(alloc))?;
     let ring = numbers(alloc, "ring", "CELL")?.about("Prints the ring number of a nested cell");
     let nest = numbers(alloc, "nest", "RING")?.about("Prints the nested number of a ring number");
     let uniq = numbers(alloc, "uniq", "CELL")?.about("Prints the NUNIQ number of a nested cell");
@@ -98,6 +115,7 @@ pub fn command_line<'a>(alloc: Global) -> Result<Command<'a>, AllocError>
         .subcommand_required(true)
         .subcommand(run)?
         .subcommand(play)?
+        .subcommand(crew)?
         .subcommand(ring)?
         .subcommand(nest)?
         .subcommand(uniq)?
@@ -114,6 +132,16 @@ fn numbers<'a>(alloc: Global, word: &'a str, name: &'a str) -> Result<Command<'a
     Command::new(alloc, word)
         .arg(order(alloc))?
         .arg(number(alloc, name))
+}
+
+/// A required number of threads, 1 to 64.
+fn lanes<'a>(alloc: Global) -> Arg<'a>
+    ensures rule { rule_of result ≡ lanes_rule }
+    ensures local { result.global ≡ false }
+{
+    Arg::new(alloc, "N")
+        .required(true)
+        .value_parser(value_parser!(u8).range(1..=64))
 }
 
 /// A required order, 0 to 29.

@@ -12,17 +12,22 @@ use crate::conversion::converted;
 use crate::status::{Fault, Status};
 use clap::error::ErrorKind;
 use clap::{ArgMatches, Error};
-use moc_script::{Sink, Source, play, run, write_all};
+use moc_script::{OpenGate, Sink, Source, crew, play, run, write_all};
 use moc_sphere::Cell;
 use std::alloc::{AllocError, Global};
 use std::convert::AsStr;
 use std::fmt::Write;
 use std::io::{self, ErrorKind as IoErrorKind};
+use std::marker::Sync;
+use std::sync::Wait;
+use std::thread::Threads;
 
 /// Does what the words ask, and answers the exit status: 0 where it is done, 1 where a value, a text or a
 /// line is refused, 2 where the words are no command line, 3 where a device fails or memory is refused.
-/// What went wrong is said on `faults`; whether that can be written changes nothing.
-pub fn program<'a, S: AsStr, R: Source, W: Sink, E: Sink>(
+/// What went wrong is said on `faults`; whether that can be written changes nothing. Threads are started, and waited for,
+/// by the word `crew` alone.
+pub fn program<'a, T: Threads + Wait + Sync, S: AsStr, R: Source, W: Sink, E: Sink>(
+    rt: &T,
     alloc: Global,
     words: &'a [S],
     input: &mut R,
@@ -42,7 +47,7 @@ pub fn program<'a, S: AsStr, R: Source, W: Sink, E: Sink>(
     ensures flushed { result ≡ 0 → IsTrue (W.flushed output.new) }
 {
     let status = match parse(alloc, words) {
-        Ok(matches) => ended(act(alloc, &matches, input, output), faults),
+        Ok(matches) => ended(act(rt, alloc, &matches, input, output), faults),
         Err(error) => explain(alloc, &error, output, faults),
     };
     status.code()
@@ -106,7 +111,8 @@ fn explain<W: Sink, E: Sink>(alloc: Global, error: &Error, output: &mut W, fault
 }
 
 /// Does what the matches ask.
-fn act<R: Source, W: Sink>(
+fn act<T: Threads + Wait + Sync, R: Source, W: Sink>(
+    rt: &T,
     alloc: Global,
     matches: &ArgMatches<'_>,
     input: &mut R,
@@ -121,6 +127,7 @@ fn act<R: Source, W: Sink>(
     match Action::from_matches(matches) {
         Some(Action::Run) => Ok(run(alloc, input, output)?),
         Some(Action::Play) => Ok(play(alloc, input, output)?),
+        Some(Action::Crew(lanes)) => Ok(crew(rt, alloc, input, output, lanes, &OpenGate)?),
         Some(Action::Number(number)) => print(&number_line(alloc, number)?, output),
         Some(Action::Convert(from, to)) => print(&converted(alloc, from, to, input)?, output),
         // `clap` requires the word and its values, so none is missing.

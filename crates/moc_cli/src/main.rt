@@ -20,6 +20,7 @@ fn main(rt: HostRuntime) -> ExitCode {
     let mut faults = OverWriter::new(rt.stderr());
     let status = match words(&rt) {
         Ok(words) => program(
+            &rt,
             rt.alloc(),
             words.as_slice(),
             &mut input,

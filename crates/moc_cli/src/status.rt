@@ -18,7 +18,7 @@ pub enum Status {
     Refused = 1,
     /// The words are no command line.
     BadWords = 2,
-    /// A device failed, or memory was refused.
+    /// A device failed, or memory or a thread was refused.
     Broken = 3,
 }
 
@@ -54,6 +54,7 @@ pub enum Fault {
     Read,
     Write,
     Memory,
+    Spawn,
 }
 
 impl Fault {
@@ -82,6 +83,7 @@ impl Fault {
             Fault::Read => "fault Read\n",
             Fault::Write => "fault Write\n",
             Fault::Memory => "fault Memory\n",
+            Fault::Spawn => "fault Spawn\n",
         }
     }
 
@@ -90,7 +92,7 @@ impl Fault {
         ensures { result ≡ status_of self }
     {
         match self {
-            Fault::Read | Fault::Write | Fault::Memory => Status::Broken,
+            Fault::Read | Fault::Write | Fault::Memory | Fault::Spawn => Status::Broken,
             _ => Status::Refused,
         }
     }
@@ -164,6 +166,7 @@ impl From<RunError> for Fault {
             RunError::Write => Fault::Write,
             RunError::LineTooLong { .. } => Fault::LineTooLong,
             RunError::Memory { .. } => Fault::Memory,
+            RunError::Spawn => Fault::Spawn,
         }
     }
 }

@@ -4,12 +4,15 @@ use crate::dispatch::{program, refuse_words};
 use moc_script::{DeviceFault, OverReader, OverWriter, Source};
 use std::alloc::Global;
 use std::io::{self, ErrorKind};
+use std::marker::Sync;
 use std::process::Abort;
+use std::sync::Wait;
 use std::test::Fail;
+use std::thread::Threads;
 
 /// Checks the status, the output and the fault output of the words on an input.
-fn expect(
-    rt: &impl Abort,
+fn expect<T: Abort + Threads + Wait + Sync>(
+    rt: &T,
     alloc: Global,
     words: &[&str],
     input: &str,
@@ -20,6 +23,7 @@ fn expect(
     let mut written = Vec::new(alloc);
     let mut told = Vec::new(alloc);
     let answered = program(
+        rt,
         alloc,
         words,
         &mut OverReader::new(input.as_bytes()),
@@ -83,6 +87,29 @@ fn scripts(rt: HostRuntime) {
     let answers =
         "changed 576460752303423488\ntotal 288230376151711744\nchanged 0\nchanged 288230376151711744\n";
     expect(&rt, rt.alloc(), &["run"], script, 0, answers, "");
+}
+
+#[test]
+fn crews(rt: HostRuntime) {
+    let script = "add 0/0\nadd 0/1\n\ncount 0/0\nhop";
+    let answers =
+        "changed 288230376151711744\nchanged 288230376151711744\ntotal 288230376151711744\nfault UnknownWord\n";
+    for lanes in ["1", "+1"] {
+        expect(&rt, rt.alloc(), &["crew", lanes], "", 0, "cover\n", "");
+        let Ok(whole) = format!(in rt.alloc(); "{answers}cover 0/0-1\n") else {
+            panic!(rt; "no memory")
+        };
+        expect(
+            &rt,
+            rt.alloc(),
+            &["crew", lanes],
+            script,
+            0,
+            whole.as_str(),
+            "",
+        );
+    }
+    expect(&rt, rt.alloc(), &["crew", "64"], "", 0, "cover\n", "");
 }
 
 #[test]
@@ -215,10 +242,15 @@ impl Source for Broken {
 
 #[test]
 fn failing_input(rt: HostRuntime) {
-    for words in [["run"].as_slice(), ["convert", "ascii", "json"].as_slice()] {
+    for words in [
+        ["run"].as_slice(),
+        ["crew", "2"].as_slice(),
+        ["convert", "ascii", "json"].as_slice(),
+    ] {
         let mut written = Vec::new(rt.alloc());
         let mut told = Vec::new(rt.alloc());
         let answered = program(
+            &rt,
             rt.alloc(),
             words,
             &mut Broken { is_marked: false },
@@ -240,10 +272,15 @@ fn help_and_mistakes(rt: HostRuntime) {
         ([].as_slice(), 2),
         (["ring", "30", "0"].as_slice(), 2),
         (["fly"].as_slice(), 2),
+        (["crew", "--help"].as_slice(), 0),
+        (["crew"].as_slice(), 2),
+        (["crew", "0"].as_slice(), 2),
+        (["crew", "65"].as_slice(), 2),
     ] {
         let mut written = Vec::new(rt.alloc());
         let mut told = Vec::new(rt.alloc());
         let answered = program(
+            &rt,
             rt.alloc(),
             words,
             &mut OverReader::new(b"".as_slice()),

@@ -12,3 +12,12 @@ pub mod Unordered
 pub mod WholeScripts
 pub mod NearLemmas
 pub mod Beginnings
+pub mod TextLemmas
+pub mod LaneLists
+pub mod Weaving
+pub mod LaneLemmas
+pub mod Dealings
+pub mod Reading
+pub mod Gathered
+pub mod Crewing
+pub mod AllAnswered

@@ -5,6 +5,7 @@ mod answer;
 mod batch;
 mod bytes;
 mod command;
+mod crews;
 mod device;
 mod fault;
 mod laws;
@@ -20,6 +21,7 @@ mod source;
 mod step;
 mod words;
 
+pub use crews::{Gate, Lanes, OpenGate, crew, crews_answer_each_line};
 pub use device::DeviceFault;
 pub use laws::{
     lines_of_one_command, lines_without_order, scripts_of_single_commands, scripts_without_order,

@@ -27,6 +27,9 @@ pub enum RunError {
     /// A growth was refused while this line was read or answered, or before the first line, at 0.
     #[error("out of memory at line {line}")]
     Memory { line: u64 },
+    /// A thread could not be started; of `crew` alone.
+    #[error("a thread could not be started")]
+    Spawn,
 }
 
 /// Answers a script: one client asks and changes one set of pixels of order 29, which starts empty.

@@ -424,6 +424,7 @@ fn texts_of_errors(rt: HostRuntime) -> Result<(), Fail> {
         (RunError::Write, "the output could not be written"),
         (RunError::LineTooLong { line: 3 }, "line 3 is too long"),
         (RunError::Memory { line: 0 }, "out of memory at line 0"),
+        (RunError::Spawn, "a thread could not be started"),
     ] {
         assert_eq!(rt; format!(in rt.alloc(); "{error}")?.as_str(), text);
     }

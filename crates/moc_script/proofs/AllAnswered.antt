@@ -1,0 +1,38 @@
+-- A crew's lines and its answers are as many.
+use Rattle.std.proofs.Common.{◌≡◌, ◌⊎◌, inl, inr, ℕ, suc, ◌%◌, ◌<◌, ◌≤◌, ◌==◌, Bool, true, false, if◌then◌else◌, List, [], ◌∷◌, length, refl, sym, ap, ◌∙◌, arith}
+use Rattle.std.specs.FinSet as set
+use Rattle.std.proofs.lemmas.Bool.{cases_lt}
+use Rattle.moc_script.specs.Answers.{Rules}
+use Rattle.moc_script.specs.Scripts.{script_rules}
+use Rattle.moc_script.specs.Merges.{InLane, in_lane, dealt}
+use Rattle.moc_script.specs.Crews.{answers_in, AreAllAnswered}
+use Rattle.moc_script.proofs.LaneLists.{next_left}
+
+module _ {S : Type 0} (rules : Rules S) where
+  -- lines that are done in some order have as many answers in each lane
+  as_many_in : (lane : ℕ) (s : S) (order : List (InLane (List ℕ))) → length (in_lane lane (answers_in rules s order)) ≡ length (in_lane lane order)
+  as_many_in lane s [] = refl
+  as_many_in lane s (x ∷ xs) = by (x.lane == lane) (as_many_in lane (rules.after s x.it) xs)
+    where
+      tail : List (InLane (List ℕ))
+      tail = answers_in rules (rules.after s x.it) xs
+
+      by : (b : Bool) → length (in_lane lane tail) ≡ length (in_lane lane xs)
+          → length (if b then rules.answer s x.it ∷ in_lane lane tail else in_lane lane tail) ≡ length (if b then x.it ∷ in_lane lane xs else in_lane lane xs)
+      by true rest = ap suc rest
+      by false rest = rest
+
+-- a list that has as much in each lane is no shorter
+no_shorter : {A B : Type 0} (lanes : ℕ) (xs : List A) (ys : List B) → ((lane : ℕ) → length (in_lane lane (dealt lanes xs)) ≡ length (in_lane lane (dealt lanes ys))) → length ys ≤ length xs
+no_shorter lanes xs ys same = elim (cases_lt (length xs) (length ys)) [
+  | inl low ↦ absurd (let more = next_left lanes (length xs % lanes) xs ys low refl in let here = same (length xs % lanes) in omega (arith, more, here))
+  | inr high ↦ high
+]
+
+pub all_answered : AreAllAnswered
+all_answered lanes lines text some told =
+    let same : (lane : ℕ) → length (in_lane lane (dealt lanes told.answers)) ≡ length (in_lane lane (dealt lanes lines)) =
+    λ lane. sym (ap length (told.answered lane)) ∙ as_many_in script_rules lane set.empty told.order ∙ ap length (told.merged lane) in
+    let a = no_shorter lanes told.answers lines same in
+    let b = no_shorter lanes lines told.answers (λ lane. sym (same lane)) in
+    omega (arith, a, b)

@@ -1,0 +1,47 @@
+-- The lanes' ends, put together.
+use Rattle.std.proofs.Common.{◌≡◌, ◌⊎◌, inl, inr, ℕ, suc, ◌+◌, ◌<◌, ◌≤◌, List, [], ◌∷◌, ◌++◌, length, map, get_or, Contains, Option, Some, None, Ok, refl, sym, ap, ◌∙◌, subst, arith, below_more}
+use Rattle.std.proofs.lemmas.List.Elements.{Contains-append_left, Contains-append_right}
+use Rattle.std.proofs.lemmas.List.{get_or_push, get_or_append_left}
+use Rattle.moc_script.specs.declared.crews.lane.LaneEnd.{LaneEnd}
+use Rattle.moc_shared.specs.declared.client.Client.{Client}
+use Rattle.moc_shared.specs.declared.map.SharedMap.{SharedMap}
+use Rattle.moc_shared.specs.Batches.{BatchRecord}
+use Rattle.moc_shared.specs.Clients.{record_of, IsClientOf, TakesIn}
+use Rattle.moc_script.specs.Private.LaneEnds.{IsLaneEnd}
+use Rattle.moc_script.specs.Private.Gathering.{CallsMade, HasBoth, HasLane, HasLanes, IsGathered}
+
+pub has_both : (a b r : BatchRecord) → TakesIn a b r → (q : CallsMade) → (Contains a.own q → Contains r.own q) × (Contains b.own q → Contains r.own q)
+has_both a b r taken q =
+    let own : r.own ≡ a.own ++ b.own = ap (λ x. x.own) taken.1 in (
+      (λ h. subst (λ (l : List CallsMade). Contains l q) (sym own) (Contains-append_left a.own b.own q h)),
+      (λ h. subst (λ (l : List CallsMade). Contains l q) (sym own) (Contains-append_right a.own b.own q h)),
+    )
+
+-- the lane of the client itself
+pub lane_of_end : (map : SharedMap) (lane : ℕ) (lines : List (List ℕ)) (end : LaneEnd) → IsLaneEnd map lane lines (Ok end)
+    → HasLane (record_of end.client) lane lines end.answers
+lane_of_end map lane lines end is =
+    let m = is.2 in (m.0, subst (λ (l : List CallsMade). Contains l (record { client = lane; made = m.0 })) (sym m.1) (0, omega arith, refl), m.2)
+
+abbrev Texts : Type 0
+Texts = List (List ℕ)
+
+-- one more lane
+pub gather_more : (map : SharedMap) (lanes answers : List Texts) (k : ℕ) (all : Option Client) (next both : Client) (texts : Texts)
+    → length answers ≡ k → IsGathered map k lanes answers all → IsClientOf map both → HasBoth all next both
+    → HasLane (record_of next) k (get_or lanes k []) texts
+    → IsGathered map (k + 1) lanes (answers ++ texts ∷ []) (Some both)
+gather_more map lanes answers k all next both texts long was of_map has here = (
+  of_map,
+  λ lane low. below_more (λ (m : ℕ). HasLane (record_of both) m (get_or lanes m []) (get_or (answers ++ texts ∷ []) m [])) k
+      (λ m less. subst (λ (q : Texts). HasLane (record_of both) m (get_or lanes m []) q) (sym (get_or_append_left answers (texts ∷ []) [] m (rw long less))) (old all was has m less))
+      (subst (λ (q : Texts). HasLane (record_of both) k (get_or lanes k []) q) (sym (get_or_push answers texts [] k long)) (new all has)) lane low,
+)
+  where
+    old : (o : Option Client) → IsGathered map k lanes answers o → HasBoth o next both → (m : ℕ) → m < k → HasLane (record_of both) m (get_or lanes m []) (get_or answers m [])
+    old None none h m less = absurd (omega arith)
+    old (Some c) gathered h m less = let l = gathered.1 m less in (l.0, (h (record { client = m; made = l.0 })).0 l.1, l.2)
+
+    new : (o : Option Client) → HasBoth o next both → HasLane (record_of both) k (get_or lanes k []) texts
+    new None h = subst (λ (c : Client). HasLane (record_of c) k (get_or lanes k []) texts) (sym h) here
+    new (Some c) h = let l = here in (l.0, (h (record { client = k; made = l.0 })).1 l.1, l.2)

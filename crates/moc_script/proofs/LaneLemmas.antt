@@ -1,0 +1,78 @@
+-- What a line of a lane asks and is answered, and lines one after another.
+use Rattle.std.proofs.Common.{◌≡◌, ◌⊎◌, inl, inr, ℕ, ◌+◌, ◌<◌, length, take, get_or, eq-eqb, Bool, true, false, if◌then◌else◌, List, [], ◌∷◌, ◌++◌, Result, Ok, Err, refl, sym, ap, ◌∙◌, subst, append-nil}
+use Rattle.std.proofs.lemmas.List.{take_more, map-append}
+use Rattle.moc_ranges.specs.Numbers.{NumberSet}
+use Rattle.moc_parts.specs.Batches.{replies_on, set_after_all}
+use Rattle.moc_parts.specs.declared.command.Command.{Command}
+use Rattle.moc_script.specs.Words.{is_blank}
+use Rattle.moc_script.specs.Language.{command_of}
+use Rattle.moc_script.specs.Faults.{fault_line}
+use Rattle.moc_script.specs.Replies.{replies_text}
+use Rattle.moc_script.specs.Batches.{batch_of, answer_to, after_batch, line_answer, after_line}
+use Rattle.moc_script.specs.Answers.{Rules}
+use Rattle.moc_script.specs.Scripts.{script_rules}
+use Rattle.moc_script.specs.declared.fault.Fault.{Fault}
+use Rattle.moc_shared.specs.declared.record.Entry.{Entry}
+use Rattle.moc_shared.specs.History.{own_with}
+use Rattle.moc_script.specs.Private.LaneWork.{IsQuiet, Asks, DoesLine, Does}
+use Rattle.moc_script.specs.Private.LaneEnds.{Made, Answers}
+use Rattle.moc_shared.specs.declared.map.SharedMap.{SharedMap}
+use Rattle.moc_shared.specs.Clients.{EndsWaiting}
+use Rattle.moc_shared.specs.Batches.{BatchEntry, BatchRecord, answer as object}
+
+module _ (says : List ℕ → Result Command Fault) where
+  -- a line that is not blank is answered as what it says
+  says_line : (a : NumberSet) (line : List ℕ) (r : Result (List Command) Fault) → is_blank line ≡ false → batch_of says line ≡ r
+      → (line_answer says a line ≡ answer_to a r) × (after_line says a line ≡ after_batch a r)
+  says_line a line r said is = (
+    ap (λ (b : Bool). if b then [] else answer_to a (batch_of says line)) said ∙ ap (answer_to a) is,
+    ap (λ (b : Bool). if b then a else after_batch a (batch_of says line)) said ∙ ap (after_batch a) is,
+  )
+
+  -- a bad line changes nothing
+  quiet_line : (line : List ℕ) (fault : Fault) → is_blank line ≡ false → batch_of says line ≡ Err fault → (a : NumberSet)
+      → (line_answer says a line ≡ fault_line fault) × (after_line says a line ≡ a)
+  quiet_line line fault said is a = says_line a line (Err fault) said is
+
+  -- a blank line has no answer, and changes nothing
+  blank_line : (line : List ℕ) → is_blank line ≡ true → (a : NumberSet) → (line_answer says a line ≡ []) × (after_line says a line ≡ a)
+  blank_line line blank a = (
+    ap (λ (b : Bool). if b then [] else answer_to a (batch_of says line)) blank,
+    ap (λ (b : Bool). if b then a else after_batch a (batch_of says line)) blank,
+  )
+
+-- a line that says commands asks for them
+pub asks_line : (line : List ℕ) (e : BatchEntry) (text : List ℕ) → is_blank line ≡ false → batch_of command_of line ≡ Ok e.operation
+    → text ≡ replies_text e.reply ++ 10 ∷ [] → Asks object script_rules line e text
+unfolding object
+asks_line line e text said is text_is s =
+    let h = says_line command_of s line (Ok e.operation) said is in
+    (h.1, λ reply. h.0 ∙ ap (λ r. replies_text r ++ 10 ∷ []) (sym reply) ∙ sym text_is)
+
+-- a line without a call
+pub no_call : (client : ℕ) (old new : BatchRecord) (line text : List ℕ) → new ≡ old → IsQuiet object script_rules line text → Answers client line old new text
+no_call client old new line text same quiet = ([], inl (refl, quiet), λ made was. ap (λ (r : BatchRecord). r.own) same ∙ was ∙ ap (λ l. record { client = client; made = l } ∷ []) (sym (append-nil made)))
+
+-- a call that ended after waits is one more of the own calls
+pub waited_own : (map : SharedMap) (e : BatchEntry) (old new : BatchRecord) → EndsWaiting map e old new → new.own ≡ own_with e old.own
+waited_own map e old new (mid, waited, ends) = ends.own ∙ ap (λ (r : BatchRecord). own_with e r.own) waited.1
+
+-- one more call of the record's own client
+pub call_made : (client : ℕ) (e : BatchEntry) (old new : BatchRecord) → e.client ≡ client → new.own ≡ own_with e old.own → (made : List BatchEntry)
+    → Made client made old → Made client (made ++ e ∷ []) new
+call_made client e old new mine own made was =
+    own ∙ ap (own_with e) was ∙ ap (λ (b : Bool). record { client = client; made = if b then made ++ e ∷ [] else made } ∷ []) (eq-eqb client e.client (sym mine))
+
+module _ {S O R : Type 0} (object : S → O → S × R) (rules : Rules S) where
+  -- one more line
+  pub Does-push : (lines : List (List ℕ)) (line : List ℕ) (calls more : List (Entry O R)) (texts : List (List ℕ)) (text : List ℕ)
+      → Does object rules lines calls texts → DoesLine object rules line more text
+      → Does object rules (lines ++ line ∷ []) (calls ++ more) (texts ++ text ∷ [])
+  Does-push [] line calls more texts text (none, empty) (inl (no_call, quiet)) =
+      (text, [], ap (λ l. l ++ text ∷ []) empty, inl (quiet, (ap (λ l. l ++ more) none ∙ no_call, refl)))
+  Does-push [] line calls more texts text (none, empty) (inr (e, one, asks)) =
+      (text, [], ap (λ l. l ++ text ∷ []) empty, inr (e, [], ap (λ l. l ++ more) none ∙ one, asks, (refl, refl)))
+  Does-push (first ∷ lines) line calls more texts text (t, rest, is, inl (quiet, does)) last =
+      (t, rest ++ text ∷ [], ap (λ l. l ++ text ∷ []) is, inl (quiet, Does-push lines line calls more rest text does last))
+  Does-push (first ∷ lines) line calls more texts text (t, rest, is, inr (e, later, calls_are, asks, does)) last =
+      (t, rest ++ text ∷ [], ap (λ l. l ++ text ∷ []) is, inr (e, later ++ more, ap (λ l. l ++ more) calls_are, asks, Does-push lines line later more rest text does last))

@@ -1,0 +1,105 @@
+-- Elements that are dealt to lanes.
+use Rattle.std.proofs.Common.{◌≡◌, ◌≢◌, ◌⊎◌, ℕ, zero, suc, ◌+◌, ◌%◌, ◌<◌, ◌≤◌, ◌==◌, eq-eqb, ne_eqb, Bool, true, false, if◌then◌else◌, List, [], ◌∷◌, ◌++◌, length, refl, sym, ap, ◌∙◌, subst, arith, append-nil, append_assoc, length-append, take, drop, length-take, length-drop}
+use Rattle.std.proofs.lemmas.List.{take-append-drop}
+use native.Mathlib.Decide.{ℕ_discrete}
+use Rattle.moc_script.specs.Merges.{InLane, placed, in_lane, dealt_from, dealt}
+
+module _ {A : Type 0} where
+  pub in_lane-append : (lane : ℕ) (xs ys : List (InLane A)) → in_lane lane (xs ++ ys) ≡ in_lane lane xs ++ in_lane lane ys
+  in_lane-append lane [] ys = refl
+  in_lane-append lane (x ∷ xs) ys = by (x.lane == lane) (in_lane-append lane xs ys)
+    where
+      by : (b : Bool) → in_lane lane (xs ++ ys) ≡ in_lane lane xs ++ in_lane lane ys
+          → (if b then x.it ∷ in_lane lane (xs ++ ys) else in_lane lane (xs ++ ys)) ≡ (if b then x.it ∷ in_lane lane xs else in_lane lane xs) ++ in_lane lane ys
+      by true rest = ap (λ l. x.it ∷ l) rest
+      by false rest = rest
+
+  dealt_from-push : (lanes j : ℕ) (xs : List A) (x : A) → dealt_from lanes j (xs ++ x ∷ []) ≡ dealt_from lanes j xs ++ placed ((j + length xs) % lanes) x ∷ []
+  dealt_from-push lanes j [] x = let same : j ≡ j + 0 = omega arith in ap (λ (n : ℕ). placed (n % lanes) x ∷ []) same
+  dealt_from-push lanes j (y ∷ xs) x =
+      let same : suc j + length xs ≡ j + length (y ∷ xs) = omega arith in
+      ap (λ l. placed (j % lanes) y ∷ l) (dealt_from-push lanes (suc j) xs x ∙ ap (λ (n : ℕ). dealt_from lanes (suc j) xs ++ placed (n % lanes) x ∷ []) same)
+
+  -- one more element goes to the next lane
+  pub dealt-push : (lanes : ℕ) (xs : List A) (x : A) → dealt lanes (xs ++ x ∷ []) ≡ dealt lanes xs ++ placed (length xs % lanes) x ∷ []
+  dealt-push lanes xs x = let same : 0 + length xs ≡ length xs = omega arith in dealt_from-push lanes 0 xs x ∙ ap (λ (n : ℕ). dealt lanes xs ++ placed (n % lanes) x ∷ []) same
+
+  pub in_lane-one : (lane : ℕ) (x : A) → in_lane lane (placed lane x ∷ []) ≡ x ∷ []
+  in_lane-one lane x = ap (λ (b : Bool). if b then x ∷ [] else []) (eq-eqb lane lane refl)
+
+  pub in_lane-other : (lane d : ℕ) (x : A) → d ≢ lane → in_lane d (placed lane x ∷ []) ≡ []
+  in_lane-other lane d x other = ap (λ (b : Bool). if b then x ∷ [] else []) (ne_eqb lane d (λ e. other (sym e)))
+
+  pub dealt-here : (lanes lane : ℕ) (xs : List A) (x : A) → length xs % lanes ≡ lane → in_lane lane (dealt lanes (xs ++ x ∷ [])) ≡ in_lane lane (dealt lanes xs) ++ x ∷ []
+  dealt-here lanes lane xs x is =
+      ap (in_lane lane) (dealt-push lanes xs x ∙ ap (λ (n : ℕ). dealt lanes xs ++ placed n x ∷ []) is) ∙ in_lane-append lane (dealt lanes xs) (placed lane x ∷ [])
+      ∙ ap (λ l. in_lane lane (dealt lanes xs) ++ l) (in_lane-one lane x)
+
+  pub dealt-else : (lanes lane : ℕ) (xs : List A) (x : A) → lane ≢ length xs % lanes → in_lane lane (dealt lanes (xs ++ x ∷ [])) ≡ in_lane lane (dealt lanes xs)
+  dealt-else lanes lane xs x other =
+      ap (in_lane lane) (dealt-push lanes xs x) ∙ in_lane-append lane (dealt lanes xs) (placed (length xs % lanes) x ∷ [])
+      ∙ ap (λ l. in_lane lane (dealt lanes xs) ++ l) (in_lane-other (length xs % lanes) lane x other) ∙ append-nil (in_lane lane (dealt lanes xs))
+
+  none_from : (lanes j lane : ℕ) (xs : List A) → 0 < lanes → lanes ≤ lane → in_lane lane (dealt_from lanes j xs) ≡ []
+  none_from lanes j lane [] some high = refl
+  none_from lanes j lane (x ∷ xs) some high =
+      let other : j % lanes ≢ lane = λ e. absurd (omega arith) in
+      ap (λ (b : Bool). if b then x ∷ in_lane lane (dealt_from lanes (suc j) xs) else in_lane lane (dealt_from lanes (suc j) xs)) (ne_eqb (j % lanes) lane other)
+      ∙ none_from lanes (suc j) lane xs some high
+
+  -- nothing goes to a lane that there is not
+  pub none_above : (lanes lane : ℕ) (xs : List A) → 0 < lanes → lanes ≤ lane → in_lane lane (dealt lanes xs) ≡ []
+  none_above lanes lane xs some high = none_from lanes 0 lane xs some high
+
+module _ {A B : Type 0} where
+  as_long_from : (lanes j lane : ℕ) (xs : List A) (ys : List B) → length xs ≡ length ys → length (in_lane lane (dealt_from lanes j xs)) ≡ length (in_lane lane (dealt_from lanes j ys))
+  as_long_from lanes j lane [] [] same = refl
+  as_long_from lanes j lane [] (y ∷ ys) same = absurd (omega arith)
+  as_long_from lanes j lane (x ∷ xs) [] same = absurd (omega arith)
+  as_long_from lanes j lane (x ∷ xs) (y ∷ ys) same = by ((j % lanes) == lane) (as_long_from lanes (suc j) lane xs ys (omega arith))
+    where
+      by : (b : Bool) → length (in_lane lane (dealt_from lanes (suc j) xs)) ≡ length (in_lane lane (dealt_from lanes (suc j) ys))
+          → length (if b then x ∷ in_lane lane (dealt_from lanes (suc j) xs) else in_lane lane (dealt_from lanes (suc j) xs)) ≡ length (if b then y ∷ in_lane lane (dealt_from lanes (suc j) ys) else in_lane lane (dealt_from lanes (suc j) ys))
+      by true rest = ap suc rest
+      by false rest = rest
+
+  -- lists of one length leave lanes of one length
+  pub as_long : (lanes lane : ℕ) (xs : List A) (ys : List B) → length xs ≡ length ys → length (in_lane lane (dealt lanes xs)) ≡ length (in_lane lane (dealt lanes ys))
+  as_long lanes lane xs ys same = as_long_from lanes 0 lane xs ys same
+
+module _ {A : Type 0} where
+  grows_from : (lanes j lane : ℕ) (xs more : List A) → length (in_lane lane (dealt_from lanes j xs)) ≤ length (in_lane lane (dealt_from lanes j (xs ++ more)))
+  grows_from lanes j lane [] more = omega arith
+  grows_from lanes j lane (x ∷ xs) more = by ((j % lanes) == lane) (grows_from lanes (suc j) lane xs more)
+    where
+      by : (b : Bool) → length (in_lane lane (dealt_from lanes (suc j) xs)) ≤ length (in_lane lane (dealt_from lanes (suc j) (xs ++ more)))
+          → length (if b then x ∷ in_lane lane (dealt_from lanes (suc j) xs) else in_lane lane (dealt_from lanes (suc j) xs)) ≤ length (if b then x ∷ in_lane lane (dealt_from lanes (suc j) (xs ++ more)) else in_lane lane (dealt_from lanes (suc j) (xs ++ more)))
+      by true rest = omega arith
+      by false rest = rest
+
+  -- while there are more elements, the next lane has more of them
+  pub more_left : (lanes lane : ℕ) (front back : List A) (x : A) → length front % lanes ≡ lane → length (in_lane lane (dealt lanes front)) < length (in_lane lane (dealt lanes (front ++ x ∷ back)))
+  more_left lanes lane front back x is =
+      let longer = ap length (dealt-here lanes lane front x is) ∙ length-append (in_lane lane (dealt lanes front)) (x ∷ []) in
+      let whole = ap (λ l. length (in_lane lane (dealt lanes l))) (append_assoc front (x ∷ []) back) in
+      let less = grows_from lanes 0 lane (front ++ x ∷ []) back in
+      omega (arith, longer, whole, less)
+
+  -- the same, where the lists are known by their lengths
+  pub next_left : {B : Type 0} (lanes lane : ℕ) (done : List B) (all : List A) → length done < length all → length done % lanes ≡ lane → length (in_lane lane (dealt lanes done)) < length (in_lane lane (dealt lanes all))
+  next_left lanes lane done all less is = by (drop (length done) all) refl
+    where
+      front : List A
+      front = take (length done) all
+
+      long : length front ≡ length done
+      long = omega (arith, length-take (length done) all)
+
+      by : (back : List A) → drop (length done) all ≡ back → length (in_lane lane (dealt lanes done)) < length (in_lane lane (dealt lanes all))
+      by [] none = absurd (omega (arith, ap length none, length-drop (length done) all))
+      by (x ∷ back) some =
+          let whole : front ++ x ∷ back ≡ all = ap (λ l. front ++ l) (sym some) ∙ take-append-drop (length done) all in
+          let more = more_left lanes lane front back x (ap (λ (n : ℕ). n % lanes) long ∙ is) in
+          let same = as_long lanes lane front done long in
+          let full = ap (λ l. length (in_lane lane (dealt lanes l))) whole in
+          omega (arith, more, same, full)

@@ -1,0 +1,73 @@
+-- What a crew of lanes may answer, and what it has written when it ends.
+use Rattle.std.specs.Prelude.{◌≡◌, ◌<◌, ℕ, List, [], ◌∷◌, ◌++◌, length, Option, Result, Ok, Err, if◌then◌else◌}
+use Rattle.std.specs.FinSet as set
+use Rattle.std.specs.Io.KnownBytes.{Appends, Keeps}
+use Rattle.moc_ranges.specs.Numbers.{NumberSet}
+use Rattle.moc_text.specs.Lines.{lines_of}
+use Rattle.moc_script.specs.Words.{is_blank}
+use Rattle.moc_script.specs.Replies.{cover_text}
+use Rattle.moc_script.specs.Answers.{Rules}
+use Rattle.moc_script.specs.Runs.{AreWithin, IsTooLong}
+use Rattle.moc_script.specs.Scripts.{line_limit, script_rules}
+use Rattle.moc_script.specs.Merges.{InLane, placed, dealt, IsMerge}
+use Rattle.moc_script.specs.declared.script.RunError.{RunError}
+use Rattle.moc_script.specs.declared.script.RunError.TheVariants.{Read, Write, LineTooLong, Memory, Spawn}
+
+-- the lines that are not blank
+abbrev pub said_lines : List (List ℕ) → List (List ℕ)
+said_lines [] = []
+said_lines (line ∷ lines) = if is_blank line then said_lines lines else line ∷ said_lines lines
+
+-- texts one after another
+abbrev pub joined : List (List ℕ) → List ℕ
+joined [] = []
+joined (text ∷ texts) = text ++ joined texts
+
+module _ {S : Type 0} (rules : Rules S) where
+  -- the answers to lines that are done in this order, each on what those before it leave
+  abbrev pub answers_in : S → List (InLane (List ℕ)) → List (InLane (List ℕ))
+  answers_in s [] = []
+  answers_in s (x ∷ xs) = placed x.lane (rules.answer s x.it) ∷ answers_in (rules.after s x.it) xs
+
+  -- what lines leave that are done in this order
+  abbrev pub left_by : S → List (InLane (List ℕ)) → S
+  left_by s [] = s
+  left_by s (x ∷ xs) = left_by (rules.after s x.it) xs
+
+-- the line that ends a crew's text: the cover of the set
+abbrev pub cover_line : NumberSet → List ℕ
+cover_line a = cover_text a ++ 10 ∷ []
+
+-- A text that so many lanes may answer these lines with. In one order of all lines, which keeps each lane's order, each is
+-- done on what those before it leave of a set that starts empty. The text is their answers, in the order of the lines, and
+-- the cover of the set after them.
+pub record IsCrewText (lanes : ℕ) (lines : List (List ℕ)) (text : List ℕ) : Type 0 where
+  pub order : List (InLane (List ℕ))
+  pub answers : List (List ℕ)
+  pub merged : IsMerge order (dealt lanes lines)
+  pub answered : IsMerge (answers_in script_rules set.empty order) (dealt lanes answers)
+  pub text_is : text ≡ joined answers ++ cover_line (left_by script_rules set.empty order)
+
+-- a beginning of such a text
+abbrev pub BeginsCrewText : ℕ → List (List ℕ) → List ℕ → Type 0
+BeginsCrewText lanes lines text = (rest : List ℕ) × IsCrewText lanes lines (text ++ rest)
+
+-- What a crew has written when it ends, of a whole input: such a text; or a beginning of one where the writer failed; or
+-- nothing.
+abbrev pub CrewEnds : ℕ → List ℕ → Option (List ℕ) → Option (List ℕ) → Result (Unit {0}) RunError → Type 0
+CrewEnds lanes input written written' (Ok _) =
+    AreWithin line_limit (lines_of input)
+    × ((text : List ℕ) × Appends written written' text × IsCrewText lanes (said_lines (lines_of input)) text)
+CrewEnds lanes input written written' (Err Write) =
+    (text : List ℕ) × Appends written written' text × BeginsCrewText lanes (said_lines (lines_of input)) text
+CrewEnds lanes input written written' (Err (LineTooLong line)) =
+    Keeps written written' × ((given more : List ℕ) × (input ≡ given ++ more) × IsTooLong line_limit (lines_of given) line)
+CrewEnds lanes input written written' (Err Read) = Keeps written written'
+CrewEnds lanes input written written' (Err (Memory line)) = Keeps written written'
+CrewEnds lanes input written written' (Err Spawn) = Keeps written written'
+
+-- lines that are not blank have as many answers, whatever the order was
+abbrev pub AreAllAnswered : Type 0
+AreAllAnswered =
+    (lanes : ℕ) (lines : List (List ℕ)) (text : List ℕ) → 0 < lanes → (told : IsCrewText lanes lines text)
+    → length told.answers ≡ length lines

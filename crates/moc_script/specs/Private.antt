@@ -1,0 +1,8 @@
+-- Words of private contracts.
+pub mod Texts
+pub mod LaneWork
+pub mod LaneEnds
+pub mod Dealing
+pub mod Gathering
+pub mod Joining
+pub mod Promises

@@ -1,0 +1,34 @@
+-- What a lane has done.
+use Rattle.std.specs.Prelude.{◌≡◌, ◌<◌, ℕ, List, [], ◌∷◌, ◌++◌, length, slice_index_or, Result, Ok, Err}
+use Rattle.moc_shared.specs.declared.client.Client.{Client}
+use Rattle.moc_shared.specs.declared.map.SharedMap.{SharedMap}
+use Rattle.moc_shared.specs.Batches.{BatchEntry, BatchRecord, answer as object}
+use Rattle.moc_shared.specs.Clients.{number_of, record_of, IsClientOf}
+use Rattle.moc_script.specs.Scripts.{script_rules}
+use Rattle.moc_script.specs.Private.LaneWork.{DoesLine, Does}
+use Rattle.moc_script.specs.declared.crews.lane.LaneEnd.{LaneEnd}
+use Rattle.moc_script.specs.declared.crews.lane.Refused.{Refused}
+
+-- the record stands for this client alone, which made these calls
+abbrev pub Made : ℕ → List BatchEntry → BatchRecord → Type 0
+Made client calls r = r.own ≡ record { client = client; made = calls } ∷ []
+
+-- the line made these calls, behind the former ones, and has this answer
+abbrev pub Answers : ℕ → List ℕ → BatchRecord → BatchRecord → List ℕ → Type 0
+Answers client line old new text =
+    (calls : List BatchEntry) × DoesLine object script_rules line calls text
+    × ((made : List BatchEntry) → Made client made old → Made client (made ++ calls) new)
+
+-- the lane of this number has done these lines, by calls of its client, and has their answers; or memory was refused
+abbrev pub IsLaneEnd : SharedMap → ℕ → List (List ℕ) → Result LaneEnd Refused → Type 0
+IsLaneEnd map lane lines (Ok end) =
+    IsClientOf map end.client × (number_of end.client ≡ lane)
+    × ((made : List BatchEntry) × Made lane made (record_of end.client) × Does object script_rules lines made end.answers)
+IsLaneEnd map lane lines (Err e) = Unit {0}
+
+-- each lane has done its lines, or memory was refused
+abbrev pub AreLaneEnds : SharedMap → List (List (List ℕ)) → List (Result LaneEnd Refused) → Type 0
+AreLaneEnds map lanes ends =
+    (length ends ≡ length lanes)
+    × ((lane : ℕ) (d : Result LaneEnd Refused) → lane < length lanes
+    → IsLaneEnd map lane (slice_index_or lanes lane []) (slice_index_or ends lane d))

@@ -1,0 +1,134 @@
+//! Scripts that several threads answer.
+ghost use Rattle.std.specs.Prelude.{◌≡◌, ◌⊎◌, ◌<◌, ◌≤◌, ◌↔◌, ℕ, List, false, IfOk, IfSome, OnOk, OnErr, IsErrOf, IsTrue, length};
+ghost use Rattle.std.specs.Io.KnownBytes.{IsAtEnd};
+ghost use Rattle.moc_script.specs.Runs.{Flushes};
+ghost use Rattle.moc_script.specs.Crews.{IsCrewText, CrewEnds};
+ghost use Rattle.moc_script.specs.Private.Dealing.{HasDealt, IsDealt};
+
+mod dealing;
+mod gate;
+mod gathering;
+mod joining;
+mod lane;
+mod lanes;
+mod laws;
+mod texts;
+mod threads;
+
+use crate::reply_text::push_cover;
+use crate::script::RunError;
+use crate::sink::{Sink, write_all};
+use crate::source::Source;
+use dealing::{Dealt, ReadFault, read_dealt};
+pub use gate::{Gate, OpenGate};
+use gathering::{all_done, take_in_all};
+use joining::join_answers;
+pub use lanes::Lanes;
+pub use laws::crews_answer_each_line;
+use moc_ranges::{Coverage, Memory};
+use moc_shared::{CloseError, NewError, SharedMap};
+use std::alloc::Global;
+use std::marker::Sync;
+use std::sync::Wait;
+use std::thread::Threads;
+use threads::{LanesError, run_lanes};
+
+/// The answers to the lines, and the cover of the set after them.
+fn answer_all<R: Threads + Wait + Sync, G: Gate + Sync>(
+    rt: &R,
+    alloc: Global,
+    gate: &G,
+    dealt: &Dealt,
+) -> Result<Vec<u8>, LanesError>
+    requires some { 0 < length dealt.now.lanes.items }
+    requires few { length dealt.now.lanes.items ≤ 64 }
+    requires dealt { IsDealt dealt.now }
+    ensures { IfOk result (λ text. (said : List (List ℕ))
+        → HasDealt (length dealt.now.lanes.items) said dealt.now
+        → IsCrewText (length dealt.now.lanes.items) said text.items) }
+{
+    let start = Coverage::empty(alloc);
+    let (map, clients) = match SharedMap::new(alloc, start, dealt.lanes.len() as u8) {
+        Ok((map, clients)) => (map, clients),
+        Err(NewError::BadCount) => unreachable!(),
+        Err(NewError::Memory) => return Err(LanesError::Memory { line: 0 }),
+    };
+    let ends = run_lanes(rt, alloc, gate, &map, &dealt.lanes, clients)?;
+    let last = dealt.read.saturating_add(1);
+    let done = match all_done(alloc, ends, last) {
+        Ok(done) => done,
+        Err(line) => return Err(LanesError::Memory { line }),
+    };
+    let Ok((client, answers)) = take_in_all(alloc, &map, &dealt.lanes, done) else {
+        return Err(LanesError::Memory { line: last });
+    };
+    let set = match map.close(client) {
+        Ok(set) => set,
+        Err(CloseError::Midway { part: _ }) => unreachable!(),
+        Err(CloseError::Memory) => return Err(LanesError::Memory { line: last }),
+    };
+    let Ok(mut text) = join_answers(alloc, &answers, dealt.count) else {
+        return Err(LanesError::Memory { line: last });
+    };
+    let Ok(()) = push_cover(alloc, &set, &mut text) else {
+        return Err(LanesError::Memory { line: last });
+    };
+    let Ok(()) = text.extend_from_slice(b"\n") else {
+        return Err(LanesError::Memory { line: last });
+    };
+    Ok(text)
+}
+
+/// Answers a script by so many lanes, each a thread with a client of one map, which starts empty.
+///
+/// All lines are read first. The lines that are not blank go to the lanes in turn, the first to lane 0. Lines and answers
+/// are those of `run`. The answers are those of the lines in one order, which keeps each lane's order; they are written in
+/// the order of the lines, and behind them, as `read` of the whole sky would answer, the cover of the set.
+///
+/// A lane tells the gate of each line before it begins it, and once it has the answer. Nothing is written before all lanes
+/// have ended. Where the call ends with a fault, nothing is written, and on `Write` as much of the text as the writer took.
+/// `Memory` names the line that was read or answered, of several lanes' lines the least; 0 is before any, and one more than
+/// the lines that were read is after all. `Spawn` goes before the lanes' `Memory`. After the whole text the writer is
+/// flushed, once. Takes memory linear in the script and its answers. May wait for parts that other lanes hold.
+pub fn crew<R: Source, W: Sink, G: Gate + Sync, T: Threads + Wait + Sync>(
+    rt: &T,
+    alloc: Global,
+    reader: &mut R,
+    writer: &mut W,
+    lanes: Lanes,
+    gate: &G,
+) -> Result<(), RunError>
+    requires reader { R.mark reader.old ≡ false }
+    requires writer { W.mark writer.old ≡ false }
+
+    // What is written is a text that so many lanes may answer the input with, as far as the outcome says.
+    ensures ends { IfSome (R.left reader.old) (λ input.
+        CrewEnds lanes.number input (W.written writer.old) (W.written writer.new) result) }
+
+    // Only the reader's end ends a crew without a fault, and then all is flushed, at once.
+    ensures end { OnOk result (IsAtEnd (R.left reader.new)) }
+    ensures flushed { OnOk result (IsTrue (W.flushed writer.new)) }
+    ensures unflushed { OnErr result (IsTrue (W.flushed writer.new) → IsTrue (W.flushed writer.old)) }
+    ensures flushes { Flushes result (W.flushes writer.old) (W.flushes writer.new) }
+
+    // The devices' faults are theirs, and a device that failed is told.
+    ensures read { IsErrOf result RunError.Read → IsTrue (R.mark reader.new) }
+    ensures write { IsErrOf result RunError.Write ↔ IsTrue (W.mark writer.new) }
+    ensures told { IsTrue (R.mark reader.new) → IsErrOf result RunError.Read }
+{
+    let dealt = match read_dealt(alloc, lanes.get(), reader) {
+        Ok(dealt) => dealt,
+        Err(ReadFault::Read) => return Err(RunError::Read),
+        Err(ReadFault::TooLong { line }) => return Err(RunError::LineTooLong { line }),
+        Err(ReadFault::Memory { line }) => return Err(RunError::Memory { line }),
+    };
+    let text = match answer_all(rt, alloc, gate, &dealt) {
+        Ok(text) => text,
+        Err(LanesError::Spawn) => return Err(RunError::Spawn),
+        Err(LanesError::Memory { line }) => return Err(RunError::Memory { line }),
+    };
+    if write_all(&text, writer).is_err() || writer.flush().is_err() {
+        return Err(RunError::Write);
+    }
+    Ok(())
+}

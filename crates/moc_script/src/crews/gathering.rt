@@ -1,0 +1,96 @@
+//! The lanes' ends, put together.
+ghost use Rattle.std.specs.Prelude.{◌≡◌, ◌<◌, List, ℕ, IfOk, IfSome, length};
+ghost use Rattle.moc_shared.specs.declared.map.SharedMap.{SharedMap};
+ghost use Rattle.moc_shared.specs.Clients.{IsClientOf};
+ghost use Rattle.moc_script.specs.Private.LaneEnds.{AreLaneEnds};
+ghost use Rattle.moc_script.specs.Private.Gathering.{AreDone, HasBoth, HasLanes};
+
+use crate::crews::lane::{LaneEnd, Refused};
+use crate::crews::texts::Texts;
+use moc_ranges::Memory;
+use moc_shared::{Client, SharedMap};
+use std::alloc::Global;
+
+/// The least line at which a lane was refused memory.
+fn least_refused(ends: &[Result<LaneEnd, Refused>]) -> Option<u64> {
+    let mut least = None;
+    for end in ends {
+        if let Err(refused) = end {
+            least = match least {
+                Some(line) if line < refused.line => Some(line),
+                _ => Some(refused.line),
+            };
+        }
+    }
+    least
+}
+
+/// The lanes' ends, if all went well; or the least line at which a lane was refused memory, and the last line where the
+/// list of the ends is refused.
+pub fn all_done(
+    alloc: Global,
+    ends: Vec<Result<LaneEnd, Refused>>,
+    last: u64,
+) -> Result<Vec<LaneEnd>, u64>
+    ensures { IfOk result (λ done. (map : SharedMap) (lanes : List (List (List ℕ)))
+        → AreLaneEnds map lanes ends.items → AreDone map lanes done.items) }
+{
+    let line = least_refused(&ends).unwrap_or(last);
+    let mut done = Vec::new(alloc);
+    for end in ends {
+        let Ok(end) = end else {
+            return Err(line);
+        };
+        let Ok(()) = done.push(end) else {
+            return Err(line);
+        };
+    }
+    Ok(done)
+}
+
+/// The client that has the records of both, where there are two.
+fn both(map: &SharedMap, first: Option<Client>, second: Client) -> Client
+    requires first { IfSome first (λ c. IsClientOf map.now c) }
+    requires second { IsClientOf map.now second }
+    ensures map { IsClientOf map.now result }
+    ensures both { HasBoth first second result }
+{
+    match first {
+        Some(mut client) => {
+            map.take_in(&mut client, second);
+            client
+        }
+        None => second,
+    }
+}
+
+/// One client with the records of all, and the answers of the lanes in order.
+pub fn take_in_all(
+    alloc: Global,
+    map: &SharedMap,
+    lanes: &[Texts],
+    done: Vec<LaneEnd>,
+) -> Result<(Client, Vec<Texts>), Memory>
+    requires some { 0 < length lanes.now }
+    requires done { AreDone map.now lanes.now done.items }
+    ensures map { IfOk result (λ r. IsClientOf map.now r.0) }
+    ensures wide { IfOk result (λ r. length r.1.items ≡ length lanes.now) }
+    ensures lanes { IfOk result (λ r. HasLanes (length lanes.now) lanes.now r.1.items r.0) }
+{
+    let mut all = None;
+    let mut answers = Vec::new(alloc);
+    for end in done {
+        let LaneEnd {
+            client,
+            answers: texts,
+        } = end;
+        all = Some(both(map, all, client));
+        let Ok(()) = answers.push(texts) else {
+            return Err(Memory);
+        };
+    }
+    match all {
+        Some(client) => Ok((client, answers)),
+        None => unreachable!(),
+    }
+}

@@ -1,0 +1,91 @@
+//! One lane of a crew: a thread with a client of its own.
+ghost use Rattle.std.specs.Prelude.{◌≡◌, [], OnOk};
+ghost use Rattle.moc_shared.specs.Clients.{IsClientOf, number_of, record_of};
+ghost use Rattle.moc_script.specs.Private.LaneEnds.{Made, Answers, IsLaneEnd};
+
+use crate::answer::push_fault;
+use crate::batch::read_batch;
+use crate::crews::gate::Gate;
+use crate::crews::texts::Texts;
+use crate::fault::ReadError;
+use crate::reply_text::push_replies;
+use crate::words::is_blank_text;
+use moc_ranges::Memory;
+use moc_shared::{Client, SharedMap};
+use std::alloc::Global;
+use std::sync::Wait;
+
+/// What a lane has when its lines are done: its client, and its answers in order.
+#[derive(Drop)]
+pub struct LaneEnd {
+    pub client: Client,
+    pub answers: Texts,
+}
+
+/// Memory was refused while this line was done.
+#[derive(Clone, Copy, Debug, PartialEq, Eq)]
+pub struct Refused {
+    pub line: u64,
+}
+
+/// Does what a line says, and puts its answer in the place of the text.
+fn answer_line<R: Wait>(
+    rt: &R,
+    alloc: Global,
+    map: &SharedMap,
+    client: &mut Client,
+    line: &[u8],
+    text: &mut Vec<u8>,
+) -> Result<(), Memory>
+    requires map { IsClientOf map.now client.old }
+    ensures map { IsClientOf map.now client.new }
+    ensures number { number_of client.new ≡ number_of client.old }
+    ensures answers { OnOk result
+        (Answers (number_of client.old) line.now (record_of client.old) (record_of client.new) text.new.items) }
+{
+    text.clear();
+    if is_blank_text(line) {
+        return Ok(());
+    }
+    match read_batch(alloc, line) {
+        Ok(batch) => {
+            let replies = map.apply(rt, client, &batch)?;
+            push_replies(alloc, replies.as_slice(), text)?;
+            text.extend_from_slice(b"\n")?;
+            Ok(())
+        }
+        Err(ReadError::Fault(fault)) => push_fault(fault, text),
+        Err(ReadError::Memory) => Err(Memory),
+    }
+}
+
+/// Does the lines in order.
+pub fn work<R: Wait, G: Gate>(
+    rt: &R,
+    alloc: Global,
+    gate: &G,
+    map: &SharedMap,
+    lines: &Texts,
+    client: Client,
+) -> Result<LaneEnd, Refused>
+    requires map { IsClientOf map.now client }
+    requires fresh { Made (number_of client) [] (record_of client) }
+    ensures { IsLaneEnd map.now (number_of client) lines.now result }
+{
+    let mut client = client;
+    let lane = client.number();
+    let mut text = Vec::new(alloc);
+    let mut answers = Texts::new(alloc);
+    let mut left = lines.walk();
+    while let Some((number, line)) = left.next_text() {
+        gate.pass(lane, number);
+        let Ok(()) = answer_line(rt, alloc, map, &mut client, line, &mut text) else {
+            return Err(Refused { line: number });
+        };
+        let Ok(()) = answers.push(number, &text) else {
+            return Err(Refused { line: number });
+        };
+        gate.done(lane, number);
+    }
+    Ok(LaneEnd { client, answers })
+}

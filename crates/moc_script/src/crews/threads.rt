@@ -1,0 +1,95 @@
+//! The lanes' threads.
+ghost use Rattle.std.specs.Prelude.{◌≡◌, IfOk, length};
+ghost use Rattle.moc_shared.specs.Clients.{AreNewClients};
+ghost use Rattle.moc_script.specs.Private.LaneEnds.{IsLaneEnd, AreLaneEnds};
+ghost use Rattle.moc_script.specs.Private.Promises.{ArePromised};
+
+use crate::crews::gate::Gate;
+use crate::crews::lane::{LaneEnd, Refused, work};
+use crate::crews::texts::Texts;
+use moc_shared::{Client, SharedMap};
+use std::alloc::Global;
+use std::marker::{Send, Sync};
+use std::sync::Wait;
+use std::thread;
+use std::thread::{Promise, PromisedHandle, Scope, Threads};
+
+/// Why the lanes have no answers.
+#[derive(Clone, Copy, Debug, PartialEq, Eq)]
+pub enum LanesError {
+    /// A thread could not be started.
+    Spawn,
+    /// Memory was refused at this line.
+    Memory { line: u64 },
+}
+
+/// What a lane is given: its lines and its number.
+#[derive(Clone, Copy)]
+pub struct Task<'a> {
+    pub map: &'a SharedMap,
+    pub lines: &'a Texts,
+    pub lane: u8,
+}
+
+impl<'a> Promise<Result<LaneEnd, Refused>> for Task<'a> {
+    ghost kept_by = { λ task end. IsLaneEnd task.map.now task.lane task.lines.now end };
+}
+
+/// Starts a thread for each client.
+fn start<'s, E, R: Wait + Sync, G: Gate + Sync>(
+    rt: &'s R,
+    alloc: Global,
+    gate: &'s G,
+    scope: &Scope<'s, E>,
+    map: &'s SharedMap,
+    lanes: &'s [Texts],
+    clients: Vec<Client>,
+) -> Result<Vec<PromisedHandle<Result<LaneEnd, Refused>, Task<'s>>>, LanesError>
+    requires clients { AreNewClients map.now clients.items (length lanes.now) }
+    ensures { IfOk result (λ handles. ArePromised map.now lanes.now handles.items) }
+{
+    let Ok(mut handles) = Vec::with_capacity(alloc, lanes.len()) else {
+        return Err(LanesError::Memory { line: 0 });
+    };
+    for client in clients {
+        let lane = client.number();
+        let lines = &lanes[usize::from(lane)];
+        let task = Task { map, lines, lane };
+        let Ok(handle) = scope.spawn_with(task, move || work(rt, alloc, gate, map, lines, client))
+        else {
+            return Err(LanesError::Spawn);
+        };
+        let Ok(()) = handles.push(handle) else {
+            return Err(LanesError::Memory { line: 0 });
+        };
+    }
+    Ok(handles)
+}
+
+/// Runs each lane in a thread of its own, and waits until all have ended.
+pub fn run_lanes<R: Threads + Wait + Sync, G: Gate + Sync>(
+    rt: &R,
+    alloc: Global,
+    gate: &G,
+    map: &SharedMap,
+    lanes: &[Texts],
+    clients: Vec<Client>,
+) -> Result<Vec<Result<LaneEnd, Refused>>, LanesError>
+    requires clients { AreNewClients map.now clients.items (length lanes.now) }
+    ensures { IfOk result (λ ends. AreLaneEnds map.now lanes.now ends.items) }
+{
+    thread::scope(
+        thread::scope_env(),
+        rt,
+        |scope| -> Result<Vec<Result<LaneEnd, Refused>>, LanesError>
+            requires { AreNewClients map.now clients.items (length lanes.now) }
+            ensures { IfOk result (λ ends. AreLaneEnds map.entry.now lanes.entry.now ends.items) }
+        {
+            let handles = start(rt, alloc, gate, scope, map, lanes, clients)?;
+            match thread::join_promised(rt, handles) {
+                Ok(ends) => Ok(ends),
+                Err(_) => Err(LanesError::Memory { line: 0 }),
+            }
+        },
+    )
+}

@@ -1,0 +1,176 @@
+-- The union of sets that lie each in its own base pixel.
+use Rattle.std.proofs.Common.{◌≡◌, ◌≢◌, ℕ, zero, suc, ◌+◌, ◌*◌, ◌%◌, ◌<◌, ◌≤◌, ◌/◌, ◌&&◌, ◌||◌, Bool, true, false, true≢false, nat_eq, nat_lt, List, [], ◌∷◌, map, length, drop, refl, sym, ap, ◌∙◌, subst, ⊎_elim, inl, inr, arith, Option, Some, None, get_or, add-zero, div-add-mod', eq-eqb, ne_eqb, lt-ltb}
+use mathlib.Core.Logic.{dite}
+use native.Mathlib.Decide.{ℕ_discrete}
+use Rattle.std.proofs.Math.Nat.{mod-lt}
+use Rattle.std.proofs.lemmas.Bool.{cases_lt, cases_Bool, ltb-true}
+use Rattle.std.specs.Cmp.{nat_cmp_total}
+use Rattle.std.specs.Ordering.{nat_cmp}
+use Rattle.std.specs.FinSet as finset
+use Rattle.std.specs.Arc.{arc_value}
+use Rattle.moc_ranges.specs.Numbers.{NumberSet, same_members}
+use Rattle.moc_ranges.specs.Pixels.{base_pixel_size, pixel_count, pixels}
+use Rattle.moc_ranges.specs.Operations.{part_of, contains-part_of, contains-pixels, IsWithin}
+use Rattle.moc_parts.specs.Parts.{union_of, LieInParts}
+use Rattle.moc_shared.proofs.Owned.{part_again, own_none}
+use Rattle.moc_shared.specs.Private.Slots.{Pointer, content, part, at_place, list_of, lists_of, IsOwn, AreOwn}
+
+and_false : (x : Bool) → (x && false) ≡ false
+and_false true = refl
+and_false false = refl
+
+pub and_true : (x : Bool) → (x && true) ≡ x
+and_true true = refl
+and_true false = refl
+
+or_false : (x : Bool) → (x || false) ≡ x
+or_false true = refl
+or_false false = refl
+
+-- the base pixel of a pixel
+abbrev base : ℕ → ℕ
+base q = q / base_pixel_size
+
+-- a set in one base pixel has no pixel of another
+pub elsewhere : (a : NumberSet) (k q : ℕ) → part_of a k ≡ a → q / base_pixel_size ≢ k → finset.contains a q ≡ false
+elsewhere a k q own ne = ap (λ (s : NumberSet). finset.contains s q) (sym own) ∙ contains-part_of a k q ∙ ap (λ (t : Bool). finset.contains a q && t) (ne_eqb (q / base_pixel_size) k ne) ∙ and_false (finset.contains a q)
+
+-- the sets lie in the base pixels from k on
+abbrev OwnFrom : ℕ → List NumberSet → Type 0
+OwnFrom k [] = Unit {0}
+OwnFrom k (a ∷ sets) = (part_of a k ≡ a) × OwnFrom (suc k) sets
+
+own_from : (k : ℕ) (slots : List (Option Pointer)) → ((b : ℕ) → IsOwn (k + b) (at_place slots b)) → OwnFrom k (lists_of slots)
+own_from k [] own = tt
+own_from k (s ∷ ss) own = (subst (λ (j : ℕ). IsOwn j s) (add-zero k) (own 0), own_from (suc k) ss (λ b. subst (λ (j : ℕ). IsOwn j (at_place ss b)) (let e : k + suc b ≡ suc k + b = omega arith in e) (own (suc b))))
+
+union_before : (sets : List NumberSet) (k q : ℕ) → OwnFrom k sets → q / base_pixel_size < k → finset.contains (union_of sets) q ≡ false
+union_before [] k q own l = finset.contains-empty nat_cmp q
+union_before (a ∷ sets) k q own l =
+    finset.contains-union nat_cmp_total a (union_of sets) q
+    ∙ (λ i. elsewhere a k q own.0 (λ e. omega arith) i || union_before sets (suc k) q own.1 (omega arith) i)
+
+union_in : (sets : List NumberSet) (k q d : ℕ) → OwnFrom k sets → q / base_pixel_size ≡ k + d → finset.contains (union_of sets) q ≡ finset.contains (get_or sets d finset.empty) q
+union_in [] k q d own e = refl
+union_in (a ∷ sets) k q zero own e =
+    finset.contains-union nat_cmp_total a (union_of sets) q
+    ∙ ap (λ (t : Bool). finset.contains a q || t) (union_before sets (suc k) q own.1 (omega arith)) ∙ or_false (finset.contains a q)
+union_in (a ∷ sets) k q (suc d) own e =
+    finset.contains-union nat_cmp_total a (union_of sets) q
+    ∙ ap (λ (t : Bool). t || finset.contains (union_of sets) q) (elsewhere a k q own.0 (λ s. omega arith)) ∙ union_in sets (suc k) q d own.1 (omega arith)
+
+pub list_at : (slots : List (Option Pointer)) (b : ℕ) → get_or (lists_of slots) b finset.empty ≡ list_of (at_place slots b)
+list_at [] b = refl
+list_at (s ∷ ss) zero = refl
+list_at (s ∷ ss) (suc b) = list_at ss b
+
+-- a pixel is in the union where it is in the set of its base pixel
+pub union_at : (slots : List (Option Pointer)) (q : ℕ) → AreOwn slots → finset.contains (union_of (lists_of slots)) q ≡ finset.contains (list_of (at_place slots (q / base_pixel_size))) q
+union_at slots q own =
+    union_in (lists_of slots) 0 q (q / base_pixel_size) (own_from 0 slots (λ b. subst (λ (j : ℕ). IsOwn j (at_place slots b)) (let e : b ≡ 0 + b = omega arith in e) (own b))) (let e : q / base_pixel_size ≡ 0 + q / base_pixel_size = omega arith in e)
+    ∙ ap (λ (a : NumberSet). finset.contains a q) (list_at slots (q / base_pixel_size))
+
+lists_long : (slots : List (Option Pointer)) → length (lists_of slots) ≡ length slots
+lists_long [] = refl
+lists_long (s ∷ ss) = ap suc (lists_long ss)
+
+pub lie_in_parts : (slots : List (Option Pointer)) → length slots ≡ 12 → AreOwn slots → LieInParts (lists_of slots)
+lie_in_parts slots long own = record {
+  twelve = lists_long slots ∙ long;
+  own = λ b l. subst (λ (a : NumberSet). part_of a b ≡ a) (sym (list_at slots b)) (own b);
+}
+
+-- a pixel of the sky is in one of twelve base pixels, and the other way round
+sky_base : (q : ℕ) → q < pixel_count → q / base_pixel_size < 12
+sky_base q l =
+    let x : ℕ = q / base_pixel_size in
+    let r : ℕ = q % base_pixel_size in
+    let e : x * 288230376151711744 + r ≡ q = div-add-mod' q base_pixel_size in
+    let z : x < 12 = omega arith in z
+
+-- pixels of a set in the sky are in one of twelve base pixels
+pub in_sky : (a : NumberSet) (q : ℕ) → IsWithin a pixels → 12 ≤ q / base_pixel_size → finset.contains a q ≡ false
+in_sky a q within far = elim (cases_Bool (finset.contains a q)) [
+  | inl t ↦ let l = sky_base q (ltb-true q pixel_count (sym (contains-pixels q) ∙ within.each q t)) in absurd (omega arith)
+  | inr f ↦ f
+]
+
+pub get_beyond : (slots : List (Option Pointer)) (b : ℕ) → length slots ≤ b → at_place slots b ≡ None
+get_beyond [] b l = refl
+get_beyond (s ∷ ss) zero l = absurd (omega arith)
+get_beyond (s ∷ ss) (suc b) l = get_beyond ss b (omega arith)
+
+pub union_within : (slots : List (Option Pointer)) → length slots ≡ 12 → AreOwn slots → IsWithin (union_of (lists_of slots)) pixels
+union_within slots long own = record { each = λ q has. contains-pixels q ∙ lt-ltb q pixel_count (below q has) }
+  where
+    rest_small : (q : ℕ) → q % base_pixel_size < 288230376151711744
+    rest_small q = mod-lt q {m = base_pixel_size} (omega arith)
+
+    base_sky : (q : ℕ) → q / base_pixel_size < 12 → q < pixel_count
+    base_sky q l =
+        let x : ℕ = q / base_pixel_size in
+        let r : ℕ = q % base_pixel_size in
+        let e : x * 288230376151711744 + r ≡ q = div-add-mod' q base_pixel_size in
+        let s : r < 288230376151711744 = rest_small q in
+        let z : q < 3458764513820540928 = omega arith in z
+
+    below : (q : ℕ) → finset.contains (union_of (lists_of slots)) q ≡ true → q < pixel_count
+    below q has = elim (cases_lt (q / base_pixel_size) 12) [
+      | inl l ↦ base_sky q l
+      | inr far ↦
+          let none : at_place slots (q / base_pixel_size) ≡ None = get_beyond slots (q / base_pixel_size) (omega (arith, long, far)) in
+          absurd (true≢false (sym has ∙ union_at slots q own ∙ ap (λ (s : Option Pointer). finset.contains (list_of s) q) none ∙ finset.contains-empty nat_cmp q))
+    ]
+
+drop_next : {A : Type 0} (xs : List A) (k : ℕ) (d : A) → k < length xs → drop k xs ≡ get_or xs k d ∷ drop (suc k) xs
+drop_next [] k d l = absurd (omega arith)
+drop_next (x ∷ xs) zero d l = refl
+drop_next (x ∷ xs) (suc k) d l = drop_next xs k d (omega arith)
+
+-- the union of the lists from place c on
+pub union_next : (slots : List (Option Pointer)) (c : ℕ) → c < length slots → union_of (lists_of (drop c slots)) ≡ finset.union (list_of (at_place slots c)) (union_of (lists_of (drop (suc c) slots)))
+union_next slots c l = ap (λ (xs : List (Option Pointer)). union_of (lists_of xs)) (drop_next slots c None l)
+
+pub union_nothing : (a : NumberSet) → finset.union finset.empty a ≡ a
+union_nothing a = same_members _ _ (λ q. finset.contains-union nat_cmp_total finset.empty a q ∙ ap (λ (t : Bool). t || finset.contains a q) (finset.contains-empty nat_cmp q))
+
+some_set : (a b : NumberSet) → Some a ≡ Some b → a ≡ b
+some_set a b e = cc
+
+slot_list : (s : Option Pointer) (b : ℕ) (a : NumberSet) → content s ≡ part b a → list_of s ≡ part_of a b
+unfolding part
+slot_list (Some p) b a e = some_set _ (part_of a b) e
+slot_list None b a e = absurd (cc)
+
+-- slots that stand for the parts of a set of pixels are that set together
+pub union_whole : (slots : List (Option Pointer)) (a : NumberSet) → length slots ≡ 12 → IsWithin a pixels → ((b : ℕ) → b < 12 → content (at_place slots b) ≡ part b a) → union_of (lists_of slots) ≡ a
+union_whole slots a long within each = same_members _ _ (λ q. union_at slots q own ∙ one q)
+  where
+    own : AreOwn slots
+    own b = elim (cases_lt b 12) [
+      | inl l ↦ subst (λ (s : NumberSet). part_of s b ≡ s) (sym (slot_list (at_place slots b) b a (each b l))) (part_again a b)
+      | inr far ↦ subst (λ (s : Option Pointer). IsOwn b s) (sym (get_beyond slots b (omega (arith, long, far)))) (own_none b)
+    ]
+
+    one : (q : ℕ) → finset.contains (list_of (at_place slots (q / base_pixel_size))) q ≡ finset.contains a q
+    one q = elim (cases_lt (q / base_pixel_size) 12) [
+      | inl l ↦
+          let b : ℕ = q / base_pixel_size in
+          ap (λ (s : NumberSet). finset.contains s q) (slot_list (at_place slots b) b a (each b l)) ∙ contains-part_of a b q ∙ ap (λ (t : Bool). finset.contains a q && t) (eq-eqb b b refl) ∙ and_true (finset.contains a q)
+      | inr far ↦
+          let b : ℕ = q / base_pixel_size in
+          ap (λ (s : Option Pointer). finset.contains (list_of s) q) (get_beyond slots b (omega (arith, long, far))) ∙ finset.contains-empty nat_cmp q ∙ sym (in_sky a q within far)
+    ]
+
+pub none_next : (slots : List (Option Pointer)) (b c : ℕ) (d : Option Pointer) → b ≡ suc c → c < length slots → get_or slots c d ≡ None → union_of (lists_of (drop b slots)) ≡ union_of (lists_of (drop c slots))
+none_next slots b c d up l none =
+    ap (λ (k : ℕ). union_of (lists_of (drop k slots))) up
+    ∙ sym (union_nothing (union_of (lists_of (drop (suc c) slots))))
+    ∙ sym (ap (λ (s : Option Pointer). finset.union (list_of s) (union_of (lists_of (drop (suc c) slots)))) none)
+    ∙ sym (ap (λ (xs : List (Option Pointer)). union_of (lists_of xs)) (drop_next slots c d l))
+
+pub some_next : (slots : List (Option Pointer)) (b c : ℕ) (d : Option Pointer) (p : Pointer) → b ≡ suc c → c < length slots → get_or slots c d ≡ Some p → finset.union (arc_value p) (union_of (lists_of (drop b slots))) ≡ union_of (lists_of (drop c slots))
+some_next slots b c d p up l some =
+    ap (λ (k : ℕ). finset.union (arc_value p) (union_of (lists_of (drop k slots)))) up
+    ∙ sym (ap (λ (s : Option Pointer). finset.union (list_of s) (union_of (lists_of (drop (suc c) slots)))) some)
+    ∙ sym (ap (λ (xs : List (Option Pointer)). union_of (lists_of xs)) (drop_next slots c d l))

@@ -1,0 +1,20 @@
+-- Calls of batches, and what they answer.
+use Rattle.std.specs.Prelude.{List}
+use Rattle.moc_ranges.specs.Numbers.{NumberSet}
+use Rattle.moc_parts.specs.Batches.{set_after_all, replies_on}
+use Rattle.moc_parts.specs.declared.command.Command.{Command}
+use Rattle.moc_parts.specs.declared.reply.Reply.{Reply}
+use Rattle.moc_shared.specs.declared.record.Entry.{Entry}
+use Rattle.moc_shared.specs.declared.record.Record.{Record}
+
+-- a call of a batch, with its replies
+abbrev pub BatchEntry : Type 0
+BatchEntry = Entry (List Command) (List Reply)
+
+-- what a client has seen and done
+abbrev pub BatchRecord : Type 0
+BatchRecord = Record (List Command) (List Reply)
+
+-- the set that a batch leaves, and its replies
+unfoldable pub answer : NumberSet → List Command → NumberSet × List Reply
+answer a cs = (set_after_all a cs, replies_on a cs)

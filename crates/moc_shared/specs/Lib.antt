@@ -1,0 +1,4 @@
+pub mod History
+pub mod Batches
+pub mod Clients
+pub mod Private

@@ -1,0 +1,16 @@
+//! The shared map: a table of words and slots, one of each for each part.
+ghost use Rattle.std.specs.Prelude.{◌≡◌, ◌≤◌};
+
+use crate::locks::{About, Locks, Pointer, Sight};
+use atomic_table::Table;
+use std::alloc::Global;
+
+/// A map of twelve parts that up to 64 clients change and query at the same time.
+#[derive(Drop)]
+pub struct SharedMap {
+    pub(crate) table: Table<Option<Pointer>, Sight, About, Locks, Global>,
+    pub(crate) alloc: Global,
+    ghost wide: { table.shared.table_id.words ≡ 12 },
+    ghost deep: { table.shared.table_id.slots ≡ 12 },
+    ghost few: { table.shared.key.clients ≤ 64 },
+}

@@ -1,0 +1,279 @@
+//! What crews are answered: real threads, held up by their gate.
+use crate::failing::{FailingSink, FailingSource, Failure};
+use moc_script::{Gate, LINE_LIMIT, Lanes, OpenGate, OverReader, OverWriter, RunError, crew};
+use std::alloc::Global;
+use std::marker::Sync;
+use std::process::Abort;
+use std::sync::Wait;
+use std::sync::atomic::{AtomicU64, Ordering};
+use std::test::Fail;
+use std::thread;
+use std::thread::Threads;
+
+const MOST_TURNS: u64 = 1_000_000;
+
+const SCRIPT: &[u8] = b"add 0/0\nadd 0/1\ncount 0/0\ncount 0/1\n";
+
+const ANSWERS: &[u8] =
+    b"changed 288230376151711744\nchanged 288230376151711744\ntotal 288230376151711744\ntotal 288230376151711744\ncover 0/0-1\n";
+
+const CLAIMS: &[u8] = b"claim 0/4\nhop\n\nclaim 1/17";
+
+// How a crew ended, what was written, and how often the writer was flushed.
+#[derive(Drop)]
+struct Ended {
+    result: Result<(), RunError>,
+    text: Vec<u8>,
+    flushes: Option<u64>,
+}
+
+// A crew over a reader that fails after so many calls, if it is to fail, and a writer likewise.
+fn crew_between<T: Abort + Threads + Wait + Sync, G: Gate + Sync>(
+    rt: &T,
+    alloc: Global,
+    script: &[u8],
+    count: u8,
+    gate: &G,
+    reads: Option<u64>,
+    writes: Option<u64>,
+) -> Ended {
+    let Some(lanes) = Lanes::new(count) else {
+        panic!(rt; "no lanes")
+    };
+    let mut source = FailingSource {
+        bytes: script,
+        calls: reads.unwrap_or(0),
+        failures: u64::from(reads.is_some()),
+        is_marked: false,
+    };
+    let mut sink = FailingSink {
+        taken: Vec::new(alloc),
+        calls: writes.unwrap_or(0),
+        failures: u64::from(writes.is_some()),
+        failure: Failure::Error,
+        flushes: Some(0),
+        is_marked: false,
+        is_flushed: false,
+    };
+    let result = crew(rt, alloc, &mut source, &mut sink, lanes, gate);
+    Ended {
+        result,
+        text: sink.taken,
+        flushes: sink.flushes,
+    }
+}
+
+// Checks the text of a crew.
+fn expect<T: Abort + Threads + Wait + Sync, G: Gate + Sync>(
+    rt: &T,
+    alloc: Global,
+    script: &[u8],
+    count: u8,
+    gate: &G,
+    text: &[u8],
+) {
+    let ended = crew_between(rt, alloc, script, count, gate, None, None);
+    assert_eq!(rt; ended.result, Ok(()));
+    assert_eq!(rt; ended.text.as_slice(), text);
+    assert_eq!(rt; ended.flushes, Some(1));
+}
+
+#[test]
+fn one_lane_or_two(rt: HostRuntime) {
+    expect(&rt, rt.alloc(), SCRIPT, 1, &OpenGate, ANSWERS);
+    expect(&rt, rt.alloc(), SCRIPT, 2, &OpenGate, ANSWERS);
+    expect(&rt, rt.alloc(), b" \n\n\t", 2, &OpenGate, b"cover\n");
+    expect(&rt, rt.alloc(), b"", 64, &OpenGate, b"cover\n");
+}
+
+#[test]
+fn claims_in_three_lanes(rt: HostRuntime) {
+    let ended = crew_between(&rt, rt.alloc(), CLAIMS, 3, &OpenGate, None, None);
+    assert_eq!(rt; ended.result, Ok(()));
+    let first = b"claimed\nfault UnknownWord\ntaken 72057594037927936\ncover 0/4\n";
+    let second = b"taken 72057594037927936\nfault UnknownWord\nclaimed\ncover 1/17\n";
+    assert!(rt;
+        ended.text.as_slice() == first.as_slice() || ended.text.as_slice() == second.as_slice()
+    );
+}
+
+#[test]
+fn numbers_of_lanes(rt: HostRuntime) {
+    assert!(rt; Lanes::new(0).is_none());
+    assert!(rt; Lanes::new(65).is_none());
+    for count in [1u8, 64] {
+        let Some(lanes) = Lanes::new(count) else {
+            panic!(rt; "{count} lanes")
+        };
+        assert_eq!(rt; lanes.get(), count);
+    }
+}
+
+// Keeps each lane in its first pass until both lanes are in theirs.
+#[derive(Drop)]
+struct Both {
+    first: AtomicU64,
+    second: AtomicU64,
+    gave_up: AtomicU64,
+}
+
+impl Gate for Both {
+    fn pass(&self, lane: u8, _line: u64) {
+        let (mine, other) = if lane == 0 {
+            (&self.first, &self.second)
+        } else {
+            (&self.second, &self.first)
+        };
+        mine.store(1, Ordering::SeqCst);
+        for _ in 0..MOST_TURNS {
+            if other.load(Ordering::SeqCst) == 1 {
+                return;
+            }
+            thread::yield_now();
+        }
+        self.gave_up.store(1, Ordering::SeqCst);
+    }
+
+    fn done(&self, _lane: u8, _line: u64) {}
+}
+
+// Both lanes are in their first pass at one time, which one thread cannot do.
+#[test]
+fn two_lanes_at_once(rt: HostRuntime) {
+    let gate = Both {
+        first: AtomicU64::new(0),
+        second: AtomicU64::new(0),
+        gave_up: AtomicU64::new(0),
+    };
+    let text = b"changed 288230376151711744\nchanged 288230376151711744\ncover 0/0-1\n";
+    expect(&rt, rt.alloc(), b"add 0/0\nadd 0/1\n", 2, &gate, text);
+    assert!(rt; gate.gave_up.load(Ordering::SeqCst) == 0);
+}
+
+// Keeps lane 0 in its first pass until lane 1 has done a line.
+#[derive(Drop)]
+struct SecondFirst {
+    is_done: AtomicU64,
+    gave_up: AtomicU64,
+}
+
+impl Gate for SecondFirst {
+    fn pass(&self, lane: u8, _line: u64) {
+        if lane != 0 {
+            return;
+        }
+        for _ in 0..MOST_TURNS {
+            if self.is_done.load(Ordering::SeqCst) == 1 {
+                return;
+            }
+            thread::yield_now();
+        }
+        self.gave_up.store(1, Ordering::SeqCst);
+    }
+
+    fn done(&self, lane: u8, _line: u64) {
+        if lane == 1 {
+            self.is_done.store(1, Ordering::SeqCst);
+        }
+    }
+}
+
+// Lane 1 is done before lane 0 begins: the claim of the second line goes first.
+#[test]
+fn second_lane_first(rt: HostRuntime) {
+    let gate = SecondFirst {
+        is_done: AtomicU64::new(0),
+        gave_up: AtomicU64::new(0),
+    };
+    let text = b"taken 72057594037927936\nclaimed\ncover 1/17\n";
+    expect(&rt, rt.alloc(), b"claim 0/4\nclaim 1/17", 2, &gate, text);
+    assert!(rt; gate.gave_up.load(Ordering::SeqCst) == 0);
+}
+
+// Adds up what it is told: 100 times the lane and the line.
+#[derive(Drop)]
+struct Told {
+    passed: AtomicU64,
+    done: AtomicU64,
+}
+
+impl Gate for Told {
+    fn pass(&self, lane: u8, line: u64) {
+        let _ = self
+            .passed
+            .fetch_add(u64::from(lane) * 100 + line % 100, Ordering::SeqCst);
+    }
+
+    fn done(&self, lane: u8, line: u64) {
+        let _ = self
+            .done
+            .fetch_add(u64::from(lane) * 100 + line % 100, Ordering::SeqCst);
+    }
+}
+
+// The gate is told of the lines 1, 2 and 4, the bad one too, in the lanes 0, 1 and 2.
+#[test]
+fn lines_are_told(rt: HostRuntime) {
+    let gate = Told {
+        passed: AtomicU64::new(0),
+        done: AtomicU64::new(0),
+    };
+    let ended = crew_between(&rt, rt.alloc(), CLAIMS, 3, &gate, None, None);
+    assert_eq!(rt; ended.result, Ok(()));
+    assert_eq!(rt; gate.passed.load(Ordering::SeqCst), 307);
+    assert_eq!(rt; gate.done.load(Ordering::SeqCst), 307);
+}
+
+#[test]
+fn readers_that_fail(rt: HostRuntime) {
+    for reads in 0..SCRIPT.len() as u64 {
+        let ended = crew_between(&rt, rt.alloc(), SCRIPT, 2, &OpenGate, Some(reads), None);
+        assert_eq!(rt; ended.result, Err(RunError::Read));
+        assert!(rt; ended.text.is_empty());
+        assert_eq!(rt; ended.flushes, Some(0));
+    }
+}
+
+#[test]
+fn writers_that_fail(rt: HostRuntime) {
+    for writes in 0..ANSWERS.len() {
+        let ended = crew_between(
+            &rt,
+            rt.alloc(),
+            SCRIPT,
+            2,
+            &OpenGate,
+            None,
+            Some(writes as u64),
+        );
+        assert_eq!(rt; ended.result, Err(RunError::Write));
+        assert_eq!(rt; ended.text.as_slice(), &ANSWERS[..writes]);
+    }
+}
+
+// A line over the limit is found before any lane begins.
+#[test]
+fn too_long_a_line(rt: HostRuntime) -> Result<(), Fail> {
+    let mut script = Vec::from_slice(rt.alloc(), b"add 0/0\n")?;
+    script.resize(LINE_LIMIT + 9, b' ')?;
+    let gate = Told {
+        passed: AtomicU64::new(0),
+        done: AtomicU64::new(0),
+    };
+    let Some(lanes) = Lanes::new(2) else {
+        panic!(rt; "no lanes")
+    };
+    let mut taken = Vec::new(rt.alloc());
+    let result = crew(
+        &rt,
+        rt.alloc(),
+        &mut OverReader::new(script.as_slice()),
+        &mut OverWriter::new(&mut taken),
+        lanes,
+        &gate,
+    );
+    assert_eq!(rt; result, Err(RunError::LineTooLong { line: 2 }));
+    assert!(rt; taken.is_empty());
+    assert_eq!(rt; gate.passed.load(Ordering::SeqCst), 0);
+    Ok(())
+}
