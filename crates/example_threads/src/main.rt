@@ -1,16 +1,19 @@
 //! Two threads on one map: each call of `moc_shared`, with what it promises. No proof file stands beside it.
+//!
+//! What it prints is the same whatever the schedule: the threads change parts of their own, and different pixels of a common part.
 #![tactic(auto)]
 
-ghost use Rattle.std.specs.Prelude.{All, IfSome, IfOk};
+ghost use Rattle.std.specs.Prelude.{All, IfOk, IfSome};
 ghost use Rattle.moc_shared.specs.Clients.{IsClientOf, IsHoldingOf};
 
 use anyhow::{Result, bail};
 use moc_parts::{Batch, Command, Operand, Replies, Reply};
 use moc_ranges::Coverage;
-use moc_shared::{Client, CloseError, SharedMap, SnapshotError, TryError};
+use moc_shared::{Busy, Client, CloseError, Holding, SharedMap, Snapshot, SnapshotError, TryError};
 use std::alloc::Global;
+use std::marker::Sync;
 use std::sync::Wait;
-use std::thread;
+use std::thread::{self, Threads};
 
 /// How many pixels a cell of order 5 has: 4^24.
 const CELL: u64 = 281_474_976_710_656;
@@ -18,11 +21,9 @@ const CELL: u64 = 281_474_976_710_656;
 /// How many cells of order 5 a base pixel has.
 const CELLS: u64 = 1024;
 
-/// A cell of order 5, by its number.
-fn cell(alloc: Global, index: u64) -> Result<Operand>
-    requires { index < 12288 }
-{
-    let from = index * CELL;
+/// The first cell of order 5 in a base pixel.
+fn cell(alloc: Global, base_pixel: u8) -> Result<Operand> {
+    let from = u64::from(base_pixel % 12) * CELLS * CELL;
     let set = Coverage::from_ranges(alloc, &[(from, from + CELL)])?;
     Ok(Operand { set, coarse: None })
 }
@@ -34,46 +35,197 @@ fn batch(alloc: Global, command: Command) -> Result<Batch> {
     Ok(Batch::new(commands)?)
 }
 
-/// The number that the first reply has.
-fn count(replies: &Replies) -> Option<u64> {
-    match replies.as_slice().first() {
-        Some(Reply::Changed(pixels) | Reply::Total(pixels) | Reply::Taken(pixels)) => Some(*pixels),
+/// How many pixels the first reply tells of.
+fn pixels(replies: &Replies) -> Option<u64> {
+    match replies.as_slice().first()? {
+        Reply::Changed(pixels) | Reply::Total(pixels) => Some(*pixels),
+        Reply::Cover(set) => Some(set.count()),
         _ => None,
     }
 }
 
 /// The last of the clients that are left.
 fn next(map: &SharedMap, clients: &mut Vec<Client>) -> Option<Client>
-    requires { All (λ c. IsClientOf map.now c) clients.old.items }
-    ensures left { All (λ c. IsClientOf map.now c) clients.new.items }
-    ensures next { IfSome result (λ c. IsClientOf map.now c) }
+    requires { All (IsClientOf map.now) clients.old.items }
+    ensures left { All (IsClientOf map.now) clients.new.items }
+    ensures next { IfSome result (IsClientOf map.now) }
 {
     let _map = map;
-    clients.pop()
+    match clients.pop() {
+        Some(client) => Some(client),
+        None => None,
+    }
 }
 
-/// Adds a cell of its own part with each of its first cells, and one of the part that all share.
-fn add_cells<R: Wait>(
-    rt: &R,
-    alloc: Global,
-    map: &SharedMap,
-    client: &mut Client,
-) -> Result<u64>
+/// A thread's work: a cell of a part of its own, and then, waiting where it must, one pixel of a common part.
+fn work<R: Wait>(rt: &R, alloc: Global, map: &SharedMap, client: &mut Client) -> Result<u64>
     requires { IsClientOf map.now client.old }
     ensures { IsClientOf map.now client.new }
 {
-    let number = u64::from(client.number());
-    let own = batch(alloc, Command::Add(cell(alloc, CELLS * (number % 11))?))?;
-    let common = batch(alloc, Command::Add(cell(alloc, 11 * CELLS + number)?))?;
-    let Some(first) = count(&map.try_apply(client, &own)?) else {
-        bail!("no count")
-    };
-    let Some(second) = count(&map.apply(rt, client, &common)?) else {
-        bail!("no count")
-    };
-    Ok(first.saturating_add(second))
+    let number = client.number();
+    let own = batch(alloc, Command::Add(cell(alloc, number)?))?;
+    let pixel = 11 * CELLS * CELL + u64::from(number);
+    let set = Coverage::from_ranges(alloc, &[(pixel, pixel + 1)])?;
+    let common = batch(alloc, Command::Add(Operand { set, coarse: None }))?;
+    let first = map.try_apply(client, &own)?;
+    let second = map.apply(rt, client, &common)?;
+    match (pixels(&first), pixels(&second)) {
+        (Some(first), Some(second)) => Ok(first.saturating_add(second)),
+        _ => bail!("no count"),
+    }
+}
+
+/// A thread: its client comes back with what it counted, if all went well.
+fn run<R: Wait>(rt: &R, alloc: Global, map: &SharedMap, client: Client) -> (Client, Option<u64>)
+    requires { IsClientOf map.now client }
+    ensures { IsClientOf map.now result.0 }
+{
+    let mut client = client;
+    let done = work(rt, alloc, map, &mut client).ok();
+    (client, done)
+}
+
+/// Whom another client finds at a part that is held.
+fn found_busy(map: &SharedMap, client: &mut Client, batch: &Batch) -> Option<Busy>
+    requires { IsClientOf map.now client.old }
+    ensures { IsClientOf map.now client.new }
+{
+    match map.try_apply(client, batch).err()? {
+        TryError::Busy(busy) => Some(busy),
+        TryError::Memory => None,
+    }
+}
+
+/// What a query saw, with its client. A holding of an update is let go.
+fn seen(map: &SharedMap, holding: Holding) -> (Client, Option<Snapshot>)
+    requires { IsHoldingOf map.now holding }
+    ensures { IsClientOf map.now result.0 }
+{
+    match map.snapshot(holding) {
+        Ok((client, snapshot)) => (client, Some(snapshot)),
+        Err(SnapshotError::NotQuery(holding)) => (map.let_go(holding), None),
+        Err(SnapshotError::Memory(client)) => (client, None),
+    }
+}
+
+/// Both clients work at once, each on a thread of its own, and come back.
+fn run_both<R: Threads + Wait + Sync>(
+    rt: &R,
+    alloc: Global,
+    map: &SharedMap,
+    a: Client,
+    b: Client,
+) -> ((Client, Option<u64>), (Client, Option<u64>))
+    requires { IsClientOf map.now a × IsClientOf map.now b }
+    ensures { IsClientOf map.now result.0.0 × IsClientOf map.now result.1.0 }
+{
+    thread::join(
+        rt,
+        move || -> (Client, Option<u64>)
+            requires { IsClientOf map.now a }
+            ensures { IsClientOf map.entry.now result.0 }
+        { run(rt, alloc, map, a) },
+        move || -> (Client, Option<u64>)
+            requires { IsClientOf map.now b }
+            ensures { IsClientOf map.entry.now result.0 }
+        { run(rt, alloc, map, b) },
+    )
+}
+
+/// A client holds a batch and does it, and another meets it there: whom it found, and what the batch replied.
+fn meet_busy(
+    map: &SharedMap,
+    a: Client,
+    b: &mut Client,
+    batch: Batch,
+    other: &Batch,
+) -> (Client, Option<Busy>, Option<u64>)
+    requires { IsClientOf map.now a × IsClientOf map.now b.old }
+    ensures { IsClientOf map.now result.0 × IsClientOf map.now b.new }
+{
+    match map.hold(a, batch) {
+        Ok(holding) => {
+            let busy = found_busy(map, b, other);
+            let (a, done) = map.finish(holding);
+            match done {
+                Ok(replies) => (a, busy, pixels(&replies)),
+                Err(_) => (a, busy, None),
+            }
+        }
+        Err((a, _, busy)) => (a, Some(busy), None),
+    }
+}
+
+/// A client takes a snapshot of a batch.
+fn look(map: &SharedMap, a: Client, batch: Batch) -> (Client, Option<Snapshot>)
+    requires { IsClientOf map.now a }
+    ensures { IsClientOf map.now result.0 }
+{
+    match map.hold(a, batch) {
+        Ok(holding) => seen(map, holding),
+        Err((a, _, _)) => (a, None),
+    }
+}
+
+/// A client holds a batch for good; then another closes the map.
+fn close_midway(map: SharedMap, a: Client, b: Client, batch: Batch) -> Option<CloseError>
+    requires { IsClientOf map a × IsClientOf map b }
+{
+    match map.hold(a, batch) {
+        Ok(holding) => holding.abandon(),
+        Err(_) => return None,
+    }
+    map.close(b).err()
+}
+
+/// A map that begins with the first cell of base pixel 7, and its two clients.
+fn open(alloc: Global) -> Result<(SharedMap, Client, Client)>
+    ensures { IfOk result (λ r. IsClientOf r.0 r.1 × IsClientOf r.0 r.2) }
+{
+    let (map, mut clients) = SharedMap::new(alloc, cell(alloc, 7)?.set, 2)?;
+    match (next(&map, &mut clients), next(&map, &mut clients)) {
+        (Some(b), Some(a)) => Ok((map, a, b)),
+        _ => bail!("two clients"),
+    }
 }
 
 fn main(rt: HostRuntime) -> Result<()> {
+    let alloc = rt.alloc();
+    let (map, a, b) = open(alloc)?;
+    let ((mut a, first), (mut b, second)) = run_both(&rt, alloc, &map, a, b);
+    println!(rt; "the threads changed {first:?} and {second:?}")?;
+
+    map.meet(&mut a, &mut b);
+    let add = batch(alloc, Command::Add(cell(alloc, 3)?))?;
+    let count = batch(alloc, Command::Count(cell(alloc, 3)?))?;
+    let (a, busy, done) = meet_busy(&map, a, &mut b, add, &count);
+    if let Some(busy) = busy {
+        println!(rt;
+            "part {} was held by client {}",
+            busy.part.get(),
+            busy.holder
+        )?;
+    }
+    println!(rt; "client 0 changed {done:?}")?;
+
+    let (a, snapshot) = look(&map, a, batch(alloc, Command::Read(cell(alloc, 3)?))?);
+    let remove = batch(alloc, Command::Remove(cell(alloc, 3)?))?;
+    println!(rt;
+        "client 1 removed {:?}",
+        pixels(&map.try_apply(&mut b, &remove)?)
+    )?;
+    if let Some(snapshot) = snapshot {
+        println!(rt; "client 0 saw {:?}", pixels(&snapshot.answer(alloc)?))?;
+    }
+    let (mut a, none) = look(&map, a, remove);
+    println!(rt; "an update gives a snapshot: {}", none.is_some())?;
+
+    map.take_in(&mut a, b);
+    println!(rt; "{} pixels at the end", map.close(a)?.count())?;
+
+    let (map, a, b) = open(alloc)?;
+    if let Some(error) = close_midway(map, a, b, batch(alloc, Command::Invert)?) {
+        println!(rt; "not closed: {error}")?;
+    }
     Ok(())
 }
