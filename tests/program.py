@@ -305,6 +305,26 @@ def refused_line_is_told(tally, shim):
         tally.add(f"some refusal at line {line}", refused[line] in told, told)
 
 
+def refused_crew_is_told(tally, shim):
+    """The line that a crew's Memory names, or that no thread could be started; and nothing is written.
+
+    The script's third line is blank, and two lanes answer the four others; 6 is behind all five."""
+    end = b"the end behind 5 lines\n"
+    refused = [b"out of memory at line %d behind 0 lines\n" % line for line in range(7)]
+    spawn = b"a thread could not be started behind 0 lines\n"
+    program = built("refused_crew")
+    ended, growths = run_refusing(program, b"", 0, shim)
+    tally.add("a crew with ample memory", (ended.returncode, ended.stdout) == (0, end), ended)
+    told = set()
+    for refuse in range(1, growths + 1):
+        ended, _ = run_refusing(program, b"", refuse, shim)
+        told.add(ended.stdout)
+        seen = (ended.returncode, ended.stdout)
+        tally.add(f"growth {refuse} of a crew", seen in [(0, line) for line in [end, spawn] + refused] + [(1, b"")], ended)
+    for line in [0, 1, 2, 4, 5, 6]:
+        tally.add(f"some refusal of a crew at line {line}", refused[line] in told, told)
+
+
 def main():
     tally = Tally()
     words_are_answered(tally)
@@ -322,6 +342,7 @@ def main():
         help_is_refused(tally, shim)
         map_refuses(tally, shim)
         refused_line_is_told(tally, shim)
+        refused_crew_is_told(tally, shim)
     print(f"{tally.passed} passed, {tally.failed} failed")
     return 1 if tally.failed else 0
 

@@ -1,5 +1,6 @@
 /* Refuses one growth of the program that it is loaded into: the one whose number is in REFUSE, counted from 1. At the end
-   it writes how many growths were asked for into the file that COUNT names. Built and loaded by program.py. */
+   it writes how many growths were asked for into the file that COUNT names. Several threads may ask. Built and loaded by
+   program.py. */
 #include <stddef.h>
 #include <stdio.h>
 #include <stdlib.h>
@@ -15,7 +16,7 @@ static int refused(void)
         const char *text = getenv("REFUSE");
         wanted = text ? atol(text) : 0;
     }
-    return ++count == wanted;
+    return __atomic_add_fetch(&count, 1, __ATOMIC_SEQ_CST) == wanted;
 }
 
 void *malloc(size_t size)
