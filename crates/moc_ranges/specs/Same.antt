@@ -33,6 +33,7 @@ is_same-equal a b same =
 pub equal-is_same : (a b : NumberSet) → a ≡ b → is_same a b ≡ true
 equal-is_same a b same = ap (is_same a) (sym same) ∙ is_same-refl a
 
+-- the test is an equivalence
 pub is_same-equivalence : IsEquivalence is_same
 is_same-equivalence = record {
   refl = is_same-refl;
