@@ -21,20 +21,20 @@ abbrev pub ◌>>=◌ : {A B : Type 0} → Result A Fault → (A → Result B Fau
 (Err fault) >>= f = Err fault
 
 -- the fault of a text that is no coverage, without its place (a text has neither of the last two)
-abbrev pub fault_of : TextError → Fault
-fault_of (text.BadByte at) = BadByte
-fault_of (text.NoOrder at) = NoOrder
-fault_of (text.OrderTooLarge at) = OrderTooLarge
-fault_of (text.CellTooLarge at) = CellTooLarge
-fault_of (text.Backwards at) = Backwards
-fault_of (text.Unfinished at) = Unfinished
-fault_of text.Memory = Unfinished
-fault_of text.TooCoarse = Unfinished
+abbrev pub fault_without_place : TextError → Fault
+fault_without_place (text.BadByte at) = BadByte
+fault_without_place (text.NoOrder at) = NoOrder
+fault_without_place (text.OrderTooLarge at) = OrderTooLarge
+fault_without_place (text.CellTooLarge at) = CellTooLarge
+fault_without_place (text.Backwards at) = Backwards
+fault_without_place (text.Unfinished at) = Unfinished
+fault_without_place text.Memory = Unfinished
+fault_without_place text.TooCoarse = Unfinished
 
 -- the set that was read, or the fault without its place
 abbrev pub coverage_or_fault : Result (NumberSet × Option ℕ) TextError → Result NumberSet Fault
 coverage_or_fault (Ok read) = Ok read.0
-coverage_or_fault (Err error) = Err (fault_of error)
+coverage_or_fault (Err error) = Err (fault_without_place error)
 
 -- the set that a text says in the ASCII form of MOC 2.0
 abbrev pub coverage_of : List ℕ → Result NumberSet Fault
