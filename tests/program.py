@@ -252,6 +252,20 @@ def growths_are_refused(tally, words, script, answers, shim, closing=b""):
     tally.add(f"{words}: some refusal shows", faults > 0)
 
 
+def crew_growths_are_refused(tally, shim):
+    """Refuses each growth of a crew in turn: what is written is all of it or nothing."""
+    ended, growths = run_refusing([MOC, "crew", "2"], CREW, 0, shim)
+    tally.add("the word crew with ample memory", (ended.returncode, ended.stdout) == (0, CREWED), ended)
+    outcomes = [(0, CREWED, b""), (3, b"", b"fault Memory\n"), (3, b"", b"fault Spawn\n")]
+    met = set()
+    for refuse in range(1, growths + 1):
+        ended, _ = run_refusing([MOC, "crew", "2"], CREW, refuse, shim)
+        seen = (ended.returncode, ended.stdout, ended.stderr)
+        met.add(seen)
+        tally.add(f"growth {refuse} of the word crew", seen in outcomes, ended)
+    tally.add("some refusal of the word crew shows", outcomes[1] in met, met)
+
+
 def help_is_refused(tally, shim):
     """Refuses each growth of a help text in turn: what is written is all of it or nothing."""
     _, text, _ = outcome(["--help"])
@@ -339,6 +353,7 @@ def main():
         for words, script, answers in WORKS:
             growths_are_refused(tally, words, script, answers, shim)
         growths_are_refused(tally, ["play"], SCHEDULE, PLAYED, shim, LAST_LINES)
+        crew_growths_are_refused(tally, shim)
         help_is_refused(tally, shim)
         map_refuses(tally, shim)
         refused_line_is_told(tally, shim)

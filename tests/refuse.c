@@ -4,6 +4,8 @@
 #include <stddef.h>
 #include <stdio.h>
 #include <stdlib.h>
+#include <sys/syscall.h>
+#include <unistd.h>
 
 extern void *__libc_malloc(size_t);
 extern void *__libc_realloc(void *, size_t);
@@ -38,4 +40,12 @@ __attribute__((destructor)) static void tell(void)
         fprintf(file, "%ld", asked);
         fclose(file);
     }
+}
+
+/* A program that may start threads ends by this call, and not by `exit`. */
+void _exit(int status)
+{
+    tell();
+    for (;;)
+        syscall(SYS_exit_group, status);
 }

@@ -44,15 +44,19 @@ without_name a = record a { top = record a.top { no_binary_name = true } }
 abbrev pub with_word_required : App → App
 with_word_required a = record a { top = record a.top { subcommand_required = true } }
 
--- the words `run`, `play`, `crew N`, `ring ORDER CELL`, `nest ORDER RING`, `uniq ORDER CELL`, `near ORDER CELL`,
--- `cell UNIQ` and `convert FROM TO`
-unfoldable pub moc_app : ValueParser → ValueParser → App
-moc_app from to =
+-- the program with the words `run`, `play` and `crew N`
+unfoldable pub lines_app : App
+lines_app =
     let bare = with_word_required (without_name (new_app (codes "moc"))) in
     let with_run = with_subcommand bare (new_app (codes "run")).top in
     let with_play = with_subcommand with_run (new_app (codes "play")).top in
-    let with_crew = with_subcommand with_play (with_rule (new_app (codes "crew")) lanes_rule).top in
-    let with_ring = with_subcommand with_crew (numbers_app (codes "ring") (codes "CELL")).top in
+    with_subcommand with_play (with_rule (new_app (codes "crew")) lanes_rule).top
+
+-- these words, and `ring ORDER CELL`, `nest ORDER RING`, `uniq ORDER CELL`, `near ORDER CELL`, `cell UNIQ` and
+-- `convert FROM TO`
+unfoldable pub moc_app : ValueParser → ValueParser → App
+moc_app from to =
+    let with_ring = with_subcommand lines_app (numbers_app (codes "ring") (codes "CELL")).top in
     let with_nest = with_subcommand with_ring (numbers_app (codes "nest") (codes "RING")).top in
     let with_uniq = with_subcommand with_nest (numbers_app (codes "uniq") (codes "CELL")).top in
     let with_near = with_subcommand with_uniq (numbers_app (codes "near") (codes "CELL")).top in

@@ -2,7 +2,7 @@
 ghost use Rattle.std.specs.Prelude.{◌≡◌, IfOk, false};
 ghost use Rattle.clap.specs.Words.{app_of, rule_of};
 ghost use Rattle.clap.specs.declared.builder.command.Command.TheViews.{out-Command as fields_of};
-ghost use Rattle.moc_cli.specs.CommandLine.{IsCommandLine, IsFormParser, form_rule, lanes_rule, number_rule, numbers_app, order_rule};
+ghost use Rattle.moc_cli.specs.CommandLine.{IsCommandLine, IsFormParser, form_rule, lanes_rule, number_rule, numbers_app, order_rule, lines_app};
 
 use clap::{Arg, Command, value_parser};
 use std::alloc::{AllocError, Global};
@@ -86,16 +86,6 @@ static FORMS: [&str; 3] = ["ascii", "json", "uniq"];
 pub fn command_line<'a>(alloc: Global) -> Result<Command<'a>, AllocError>
     ensures { IfOk result (λ c. IsCommandLine (app_of c)) }
 {
-    let run = Command::new(alloc, "run")
-        .about("Runs a script of commands on one coverage")
-        .after_help(SCRIPT);
-    let play = Command::new(alloc, "play")
-        .about("Plays a schedule of steps that clients take on one coverage")
-        .after_help(SCHEDULE);
-    let crew = Command::new(alloc, "crew")
-        .about("Runs a script of commands on one coverage by N threads")
-        .after_help(LANES)
-        .arg(lanes(alloc))?;
     let ring = numbers(alloc, "ring", "CELL")?.about("Prints the ring number of a nested cell");
     let nest = numbers(alloc, "nest", "RING")?.about("Prints the nested number of a ring number");
     let uniq = numbers(alloc, "uniq", "CELL")?.about("Prints the NUNIQ number of a nested cell");
@@ -107,6 +97,29 @@ pub fn command_line<'a>(alloc: Global) -> Result<Command<'a>, AllocError>
         .about("Converts a coverage on standard input from one text form to another")
         .arg(form(alloc, "FROM"))?
         .arg(form(alloc, "TO"))?;
+    lines(alloc)?
+        .subcommand(ring)?
+        .subcommand(nest)?
+        .subcommand(uniq)?
+        .subcommand(near)?
+        .subcommand(cell)?
+        .subcommand(convert)
+}
+
+/// The program, and the words that answer lines.
+fn lines<'a>(alloc: Global) -> Result<Command<'a>, AllocError>
+    ensures { IfOk result (λ c. app_of c ≡ lines_app) }
+{
+    let run = Command::new(alloc, "run")
+        .about("Runs a script of commands on one coverage")
+        .after_help(SCRIPT);
+    let play = Command::new(alloc, "play")
+        .about("Plays a schedule of steps that clients take on one coverage")
+        .after_help(SCHEDULE);
+    let crew = Command::new(alloc, "crew")
+        .about("Runs a script of commands on one coverage by N threads")
+        .after_help(LANES)
+        .arg(lanes(alloc))?;
     Command::new(alloc, "moc")
         .about("Sky coverages (IVOA MOC 2.0) and HEALPix cell numbers")
         .after_help(EXAMPLE)
@@ -115,13 +128,7 @@ pub fn command_line<'a>(alloc: Global) -> Result<Command<'a>, AllocError>
         .subcommand_required(true)
         .subcommand(run)?
         .subcommand(play)?
-        .subcommand(crew)?
-        .subcommand(ring)?
-        .subcommand(nest)?
-        .subcommand(uniq)?
-        .subcommand(near)?
-        .subcommand(cell)?
-        .subcommand(convert)
+        .subcommand(crew)
 }
 
 /// A word with an order and a number.

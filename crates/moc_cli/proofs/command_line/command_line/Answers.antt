@@ -5,7 +5,7 @@ use Rattle.clap.specs.Simple.{app_of_fields}
 use Rattle.clap.specs.declared.builder.command.Command.{Command}
 use Rattle.clap.specs.declared.builder.command.Command.TheOpen.{Command-F}
 use Rattle.clap.specs.declared.builder.command.Command.TheViews.{out-Command as fields_of}
-use Rattle.moc_cli.specs.CommandLine.{without_name, with_word_required, convert_app, moc_app, lanes_rule, number_rule, numbers_app}
+use Rattle.moc_cli.specs.CommandLine.{convert_app, moc_app, number_rule, numbers_app}
 use Rattle.moc_cli.proofs.command_line.command_line.Goals as goal
 
 abbrev top_of : App → Shape
@@ -17,34 +17,23 @@ has_globals fields = fields.has_globals
 pub returns : goal.returns
 unfolding moc_app
 returns c =
-    let run : app_of c.after_help-run.result ≡ new_app (codes "run") = ap app_of_fields c.after_help-run.ensures ∙ ap app_of_fields c.about.ensures ∙ c.new.ensures.app in
-    let play : app_of c.after_help-play.result ≡ new_app (codes "play") = ap app_of_fields c.after_help-play.ensures ∙ ap app_of_fields c.about-2.ensures ∙ c.new-2.ensures.app in
-    let crew : app_of c.in_ok-crew.crew ≡ with_rule (new_app (codes "crew")) lanes_rule =
-    c.in_ok-crew.ensures.shape c.lanes.ensures.local ∙ ap₂ with_rule (ap app_of_fields c.after_help.ensures ∙ ap app_of_fields c.about-3.ensures ∙ c.new-3.ensures.app) c.lanes.ensures.rule in
     let ring : app_of c.about-ring.result ≡ numbers_app (codes "ring") (codes "CELL") = ap app_of_fields c.about-ring.ensures ∙ c.in_ok-numbers.ensures.app in
     let nest : app_of c.about-nest.result ≡ numbers_app (codes "nest") (codes "RING") = ap app_of_fields c.about-nest.ensures ∙ c.in_ok-numbers-2.ensures.app in
     let uniq : app_of c.about-uniq.result ≡ numbers_app (codes "uniq") (codes "CELL") = ap app_of_fields c.about-uniq.ensures ∙ c.in_ok-numbers-3.ensures.app in
     let near : app_of c.about-near.result ≡ numbers_app (codes "near") (codes "CELL") = ap app_of_fields c.about-near.ensures ∙ c.in_ok-numbers-4.ensures.app in
     let cell : app_of c.in_ok-cell.cell ≡ with_rule (new_app (codes "cell")) (number_rule (codes "UNIQ")) =
-    c.in_ok-cell.ensures.shape c.number.ensures.local ∙ ap₂ with_rule (ap app_of_fields c.about-4.ensures ∙ c.new-4.ensures.app) c.number.ensures.rule in
+    c.in_ok-cell.ensures.shape c.number.ensures.local ∙ ap₂ with_rule (ap app_of_fields c.about.ensures ∙ c.new.ensures.app) c.number.ensures.rule in
     let from = c.form.ensures.rule in
     let to = c.form-2.ensures.rule in
     let convert : app_of c.in_ok-convert.convert ≡ convert_app from.0 to.0 =
-    c.in_ok-convert.ensures.shape c.form-2.ensures.local ∙ ap₂ with_rule (c.in_ok-arg.ensures.shape c.form.ensures.local ∙ ap₂ with_rule (ap app_of_fields c.about-5.ensures ∙ c.new-5.ensures.app) from.2) to.2 in
-    let bare : app_of c.subcommand_required.result ≡ with_word_required (without_name (new_app (codes "moc"))) =
-    ap app_of_fields c.subcommand_required.ensures ∙ ap with_word_required (ap app_of_fields c.no_binary_name.ensures ∙ ap without_name (ap app_of_fields c.in_ok-bin_name.ensures.0 ∙ ap app_of_fields c.after_help-2.ensures ∙ ap app_of_fields c.about-6.ensures ∙ c.new-6.ensures.app)) in
-    let with_run = c.in_ok-subcommand.ensures.shape (ap has_globals c.after_help-run.ensures ∙ ap has_globals c.about.ensures ∙ c.new.ensures.local) ∙ ap₂ with_subcommand bare (ap top_of run) in
-    let with_play = c.in_ok-subcommand-2.ensures.shape (ap has_globals c.after_help-play.ensures ∙ ap has_globals c.about-2.ensures ∙ c.new-2.ensures.local) ∙ ap₂ with_subcommand with_run (ap top_of play) in
-    let crew_local : (fields_of c.in_ok-crew.crew).has_globals ≡ false =
-    c.in_ok-crew.ensures.globals ∙ ap₂ (λ a b. a || b) (ap has_globals c.after_help.ensures ∙ ap has_globals c.about-3.ensures ∙ c.new-3.ensures.local) c.lanes.ensures.local in
-    let with_crew = c.in_ok-subcommand-3.ensures.shape crew_local ∙ ap₂ with_subcommand with_play (ap top_of crew) in
-    let with_ring = c.in_ok-subcommand-4.ensures.shape (ap has_globals c.about-ring.ensures ∙ c.in_ok-numbers.ensures.local) ∙ ap₂ with_subcommand with_crew (ap top_of ring) in
-    let with_nest = c.in_ok-subcommand-5.ensures.shape (ap has_globals c.about-nest.ensures ∙ c.in_ok-numbers-2.ensures.local) ∙ ap₂ with_subcommand with_ring (ap top_of nest) in
-    let with_uniq = c.in_ok-subcommand-6.ensures.shape (ap has_globals c.about-uniq.ensures ∙ c.in_ok-numbers-3.ensures.local) ∙ ap₂ with_subcommand with_nest (ap top_of uniq) in
-    let with_near = c.in_ok-subcommand-7.ensures.shape (ap has_globals c.about-near.ensures ∙ c.in_ok-numbers-4.ensures.local) ∙ ap₂ with_subcommand with_uniq (ap top_of near) in
+    c.in_ok-convert.ensures.shape c.form-2.ensures.local ∙ ap₂ with_rule (c.in_ok-arg.ensures.shape c.form.ensures.local ∙ ap₂ with_rule (ap app_of_fields c.about-2.ensures ∙ c.new-2.ensures.app) from.2) to.2 in
+    let with_ring = c.in_ok-subcommand.ensures.shape (ap has_globals c.about-ring.ensures ∙ c.in_ok-numbers.ensures.local) ∙ ap₂ with_subcommand c.in_ok-lines.ensures (ap top_of ring) in
+    let with_nest = c.in_ok-subcommand-2.ensures.shape (ap has_globals c.about-nest.ensures ∙ c.in_ok-numbers-2.ensures.local) ∙ ap₂ with_subcommand with_ring (ap top_of nest) in
+    let with_uniq = c.in_ok-subcommand-3.ensures.shape (ap has_globals c.about-uniq.ensures ∙ c.in_ok-numbers-3.ensures.local) ∙ ap₂ with_subcommand with_nest (ap top_of uniq) in
+    let with_near = c.in_ok-subcommand-4.ensures.shape (ap has_globals c.about-near.ensures ∙ c.in_ok-numbers-4.ensures.local) ∙ ap₂ with_subcommand with_uniq (ap top_of near) in
     let cell_local : (fields_of c.in_ok-cell.cell).has_globals ≡ false =
-    c.in_ok-cell.ensures.globals ∙ ap₂ (λ a b. a || b) (ap has_globals c.about-4.ensures ∙ c.new-4.ensures.local) c.number.ensures.local in
-    let with_cell = c.in_ok-subcommand-8.ensures.shape cell_local ∙ ap₂ with_subcommand with_near (ap top_of cell) in
+    c.in_ok-cell.ensures.globals ∙ ap₂ (λ a b. a || b) (ap has_globals c.about.ensures ∙ c.new.ensures.local) c.number.ensures.local in
+    let with_cell = c.in_ok-subcommand-5.ensures.shape cell_local ∙ ap₂ with_subcommand with_near (ap top_of cell) in
     let local : (fields_of c.in_ok-convert.convert).has_globals ≡ false =
-    c.in_ok-convert.ensures.globals ∙ ap₂ (λ a b. a || b) (c.in_ok-arg.ensures.globals ∙ ap₂ (λ a b. a || b) (ap has_globals c.about-5.ensures ∙ c.new-5.ensures.local) c.form.ensures.local) c.form-2.ensures.local in
-    IfOk-weaker c.subcommand-9.result _ _ (λ r h. record { from = from.0; to = to.0; from_form = from.1; to_form = to.1; is = h.shape local ∙ ap₂ with_subcommand with_cell (ap top_of convert) }) c.subcommand-9.ensures
+    c.in_ok-convert.ensures.globals ∙ ap₂ (λ a b. a || b) (c.in_ok-arg.ensures.globals ∙ ap₂ (λ a b. a || b) (ap has_globals c.about-2.ensures ∙ c.new-2.ensures.local) c.form.ensures.local) c.form-2.ensures.local in
+    IfOk-weaker c.subcommand-6.result _ _ (λ r h. record { from = from.0; to = to.0; from_form = from.1; to_form = to.1; is = h.shape local ∙ ap₂ with_subcommand with_cell (ap top_of convert) }) c.subcommand-6.ensures
