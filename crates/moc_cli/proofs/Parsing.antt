@@ -12,7 +12,7 @@ use Rattle.moc_cli.specs.Outcomes.{AreMistaken, AreRefused, IsMistake}
 
 -- the command line is one whose faults `clap` names
 pub simple : (from to : ValueParser) → is_simple_and_free (moc_app from to) ≡ true
-unfolding moc_app, lines_app
+unfolding moc_app lines_app
 simple from to = refl
 
 pub is_simple : (app : App) → IsCommandLine app → is_simple_and_free app ≡ true
