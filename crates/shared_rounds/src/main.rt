@@ -1,5 +1,5 @@
-//! Twelve clients of one map, each on a thread of its own and on a part of its own: 10,000 times each adds a cell and removes it.
-//! None of them is ever refused, since none holds another's part.
+//! Twelve clients of one map, each on a thread of its own and on a part of its own: 10,000 times each adds a cell and
+//! removes it. None of them is ever refused, since none holds another's part.
 #![tactic(auto)]
 
 ghost use Rattle.std.specs.Prelude.{All, IfSome};
