@@ -1,6 +1,7 @@
 //! Two threads on one map: each call of `moc_shared`, with what it promises. No proof file stands beside it.
 //!
-//! What it prints is the same whatever the schedule: the threads change parts of their own, and different pixels of a common part.
+//! What it prints is the same whatever the schedule: the threads change parts of their own, and different pixels of a
+//! common part.
 #![tactic(auto)]
 
 ghost use Rattle.std.specs.Prelude.{All, IfOk, IfSome};

@@ -1,5 +1,5 @@
-//! Twelve clients of one map, each on a thread of its own and on a part of its own: 10,000 times each adds a cell and removes it.
-//! None of them is ever refused, since none holds another's part.
+//! Twelve clients of one map, each on a thread of its own and on a part of its own: 10,000 times each adds a cell and
+//! removes it. None of them is ever refused, since none holds another's part.
 #![tactic(auto)]
 
 ghost use Rattle.std.specs.Prelude.{All, IfSome};
@@ -120,14 +120,21 @@ fn main(rt: HostRuntime) -> Result<()> {
     let (map, clients) = SharedMap::new(alloc, Coverage::empty(alloc), CLIENTS)?;
     let started = AtomicU64::new(0);
     let (shared, count) = (&map, &started);
-    let ended = thread::map_vec(&rt, clients, &|client: Client| -> (Client, u64)
-        requires { IsClientOf shared.now client }
-        ensures { IsClientOf shared.entry.now result.0 }
-    { work(alloc, shared, count, client) })?;
+    let ended = thread::map_vec(
+        &rt,
+        clients,
+        &|client: Client| -> (Client, u64)
+            requires { IsClientOf shared.now client }
+            ensures { IsClientOf shared.entry.now result.0 }
+        { work(alloc, shared, count, client) },
+    )?;
     let Some((first, good)) = gather(&map, ended) else {
         bail!("no client")
     };
-    println!(rt; "{good} of {} calls changed a cell", 2 * ROUNDS * u64::from(CLIENTS))?;
+    println!(rt;
+        "{good} of {} calls changed a cell",
+        2 * ROUNDS * u64::from(CLIENTS)
+    )?;
     println!(rt; "{} pixels at the end", map.close(first)?.count())?;
     Ok(())
 }

@@ -1,10 +1,10 @@
 //! What clients of one map are answered.
-ghost use Rattle.std.specs.Prelude.{◌≤◌, ◌×◌, All, IfOk, IfSome};
+ghost use Rattle.std.specs.Prelude.{◌≤◌, All, IfOk, IfSome};
 ghost use Rattle.moc_shared.specs.Clients.{IsClientOf, IsHoldingOf};
 
 use moc_parts::{Batch, Command, Operand, Replies, Reply};
 use moc_ranges::Coverage;
-use moc_shared::{Client, CloseError, Holding, NewError, SharedMap, Snapshot, SnapshotError, TryError};
+use moc_shared::{Client, CloseError, Holding, SharedMap, Snapshot, SnapshotError, TryError};
 use std::alloc::Global;
 use std::sync::Wait;
 use std::test::Fail;
@@ -78,9 +78,9 @@ fn total(done: Result<Replies, TryError>) -> Option<u64> {
 
 /// Which part was held, and by whom.
 fn refused(done: Result<Replies, TryError>) -> Option<(u8, u8)> {
-    match done {
-        Err(TryError::Busy(busy)) => Some((busy.part.get(), busy.holder)),
-        _ => None,
+    match done.err()? {
+        TryError::Busy(busy) => Some((busy.part.get(), busy.holder)),
+        TryError::Memory => None,
     }
 }
 
@@ -109,7 +109,13 @@ fn a_held_part_is_busy_and_the_others_are_not(rt: HostRuntime) -> Result<(), Fai
     let three = batch(&rt, Command::Add(base(&rt, 3, 4)?))?;
     let ends = set(&rt, &[(2 * BASE, 4 * BASE), (5 * BASE, 6 * BASE)])?;
     let all = ends.try_copy(alloc)?;
-    let all = batch(&rt, Command::Count(Operand { set: all, coarse: None }))?;
+    let all = batch(
+        &rt,
+        Command::Count(Operand {
+            set: all,
+            coarse: None,
+        }),
+    )?;
     let Ok(holding) = map.hold(c0, three) else {
         panic!(rt; "held")
     };
@@ -194,7 +200,13 @@ fn a_snapshot_answers_what_was_there(rt: HostRuntime) -> Result<(), Fail> {
     let add = batch(&rt, Command::Add(base(&rt, 3, 4)?))?;
     assert_eq!(rt; changed(map.try_apply(&mut b, &add)), Some(BASE));
     let both = set(&rt, &[(3 * BASE, 4 * BASE), (5 * BASE, 6 * BASE)])?;
-    let read = batch(&rt, Command::Read(Operand { set: both, coarse: None }))?;
+    let read = batch(
+        &rt,
+        Command::Read(Operand {
+            set: both,
+            coarse: None,
+        }),
+    )?;
     let (a, snapshot) = look(&map, a, read);
     let snapshot = snapshot.ok_or("a snapshot")?;
     let remove = batch(&rt, Command::Remove(base(&rt, 3, 4)?))?;
@@ -216,16 +228,22 @@ fn a_snapshot_answers_what_was_there(rt: HostRuntime) -> Result<(), Fail> {
     Ok(())
 }
 
-#[test]
-fn a_map_has_1_to_64_clients(rt: HostRuntime) -> Result<(), Fail> {
-    let alloc = rt.alloc();
-    for (clients, is_good) in [(0u8, false), (1, true), (64, true), (65, false), (255, false)] {
-        match SharedMap::new(alloc, Coverage::empty(alloc), clients) {
-            Ok((_, all)) => assert!(rt; is_good && all.len() == usize::from(clients)),
-            Err(error) => assert!(rt; !is_good && matches!(error, NewError::BadCount)),
-        }
+/// How many clients a map of so many has.
+fn made(alloc: Global, clients: u8) -> Option<usize> {
+    match SharedMap::new(alloc, Coverage::empty(alloc), clients) {
+        Ok((_, all)) => Some(all.len()),
+        Err(_) => None,
     }
-    Ok(())
+}
+
+#[test]
+fn a_map_has_1_to_64_clients(rt: HostRuntime) {
+    let alloc = rt.alloc();
+    assert_eq!(rt; made(alloc, 0), None);
+    assert_eq!(rt; made(alloc, 1), Some(1));
+    assert_eq!(rt; made(alloc, 64), Some(64));
+    assert_eq!(rt; made(alloc, 65), None);
+    assert_eq!(rt; made(alloc, 255), None);
 }
 
 /// The batch that adds one cell of order 5.
@@ -233,7 +251,9 @@ fn add_cell(alloc: Global, index: u64) -> Option<Batch> {
     let from = (index % 12288) * CELL;
     let set = Coverage::from_ranges(alloc, &[(from, from + CELL)]).ok()?;
     let mut commands = Vec::new(alloc);
-    commands.push(Command::Add(Operand { set, coarse: None })).ok()?;
+    commands
+        .push(Command::Add(Operand { set, coarse: None }))
+        .ok()?;
     Batch::new(commands).ok()
 }
 
@@ -294,10 +314,14 @@ fn eight_clients_add_in_threads(rt: HostRuntime) -> Result<(), Fail> {
     let alloc = rt.alloc();
     let (map, clients) = SharedMap::new(alloc, Coverage::empty(alloc), 8)?;
     let shared = &map;
-    let ended = thread::map_vec(&rt, clients, &|client: Client| -> (Client, u64)
-        requires { IsClientOf shared.now client }
-        ensures { IsClientOf shared.entry.now result.0 }
-    { add_cells(alloc, shared, client) })?;
+    let ended = thread::map_vec(
+        &rt,
+        clients,
+        &|client: Client| -> (Client, u64)
+            requires { IsClientOf shared.now client }
+            ensures { IsClientOf shared.entry.now result.0 }
+        { add_cells(alloc, shared, client) },
+    )?;
     let (first, good) = gather(&map, ended).ok_or("a client")?;
     assert_eq!(rt; good, 800);
     assert_eq!(rt; map.close(first)?.count(), 225179981368524800);
@@ -305,7 +329,13 @@ fn eight_clients_add_in_threads(rt: HostRuntime) -> Result<(), Fail> {
 }
 
 /// Adds and removes a set a thousand times, waiting for its parts.
-fn come_and_go<R: Wait>(rt: &R, map: &SharedMap, client: Client, add: &Batch, remove: &Batch) -> (Client, bool)
+fn come_and_go<R: Wait>(
+    rt: &R,
+    map: &SharedMap,
+    client: Client,
+    add: &Batch,
+    remove: &Batch,
+) -> (Client, bool)
     requires { IsClientOf map.now client }
     ensures { IsClientOf map.now result.0 }
 {
