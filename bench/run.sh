@@ -41,3 +41,5 @@ for forms in "ascii json" "json ascii" "ascii uniq" "uniq ascii"; do
 done
 printf 'cds     '
 cds ascii_to_json 5
+# Schedules through the program.
+./schedules.py
