@@ -41,5 +41,10 @@ for forms in "ascii json" "json ascii" "ascii uniq" "uniq ascii"; do
 done
 printf 'cds     '
 cds ascii_to_json 5
-# Schedules through the program.
+# Schedules in memory and through the program, and crews.
+for operation in turns rounds10 rounds1000 rounds100000; do
+    printf 'moc     '
+    ../crates/moc_bench/out/moc_bench "$operation" 9 < /dev/null
+done
 ./schedules.py
+./crews.py

@@ -232,49 +232,41 @@ def run_refusing(words, script, refuse, shim):
         return ended, int(file.read())
 
 
-def is_met(ended, answers, closing):
-    """Whether the run met a refusal as it should, or did without what it was refused."""
-    if ended.returncode == 0:
-        return ended.stdout == answers + closing and not ended.stderr
-    return ended.returncode == 3 and ended.stderr == b"fault Memory\n" and ended.stdout in fronts(answers)
+def refuse_each(tally, name, words, given, whole, refused, shim):
+    """The outcomes of a program with each growth refused in turn: the whole one, or one of the refused ones.
+
+    Outcomes are a status, an output and a fault output, and are compared as far as the whole one goes."""
+    ended, growths = run_refusing(words, given, 0, shim)
+    seen = (ended.returncode, ended.stdout, ended.stderr)[:len(whole)]
+    tally.add(f"{name} with ample memory", seen == whole, ended)
+    met = set()
+    for refuse in range(1, growths + 1):
+        ended, _ = run_refusing(words, given, refuse, shim)
+        seen = (ended.returncode, ended.stdout, ended.stderr)[:len(whole)]
+        met.add(seen)
+        tally.add(f"growth {refuse} of {name}", seen == whole or seen in refused, ended)
+    return met
 
 
 def growths_are_refused(tally, words, script, answers, shim, closing=b""):
     """Refuses each growth in turn. The closing text behind the answers is written whole, or not at all."""
-    ended, growths = run_refusing([MOC] + words, script, 0, shim)
-    seen = (ended.returncode, ended.stdout, ended.stderr)
-    tally.add(f"{words} with ample memory", seen == (0, answers + closing, b""), seen)
-    faults = 0
-    for refuse in range(1, growths + 1):
-        ended, _ = run_refusing([MOC] + words, script, refuse, shim)
-        faults += ended.returncode == 3
-        tally.add(f"growth {refuse} of {words}", is_met(ended, answers, closing), ended)
-    tally.add(f"{words}: some refusal shows", faults > 0)
+    whole = (0, answers + closing, b"")
+    refused = {(3, front, b"fault Memory\n") for front in fronts(answers)}
+    met = refuse_each(tally, f"{words}", [MOC] + words, script, whole, refused, shim)
+    tally.add(f"{words}: some refusal shows", not met.isdisjoint(refused), met)
 
 
 def crew_growths_are_refused(tally, shim):
     """Refuses each growth of a crew in turn: what is written is all of it or nothing."""
-    ended, growths = run_refusing([MOC, "crew", "2"], CREW, 0, shim)
-    tally.add("the word crew with ample memory", (ended.returncode, ended.stdout) == (0, CREWED), ended)
-    outcomes = [(0, CREWED, b""), (3, b"", b"fault Memory\n"), (3, b"", b"fault Spawn\n")]
-    met = set()
-    for refuse in range(1, growths + 1):
-        ended, _ = run_refusing([MOC, "crew", "2"], CREW, refuse, shim)
-        seen = (ended.returncode, ended.stdout, ended.stderr)
-        met.add(seen)
-        tally.add(f"growth {refuse} of the word crew", seen in outcomes, ended)
-    tally.add("some refusal of the word crew shows", outcomes[1] in met, met)
+    memory, spawn = (3, b"", b"fault Memory\n"), (3, b"", b"fault Spawn\n")
+    met = refuse_each(tally, "the word crew", [MOC, "crew", "2"], CREW, (0, CREWED, b""), {memory, spawn}, shim)
+    tally.add("some refusal of the word crew shows", memory in met, met)
 
 
 def help_is_refused(tally, shim):
     """Refuses each growth of a help text in turn: what is written is all of it or nothing."""
     _, text, _ = outcome(["--help"])
-    ended, growths = run_refusing([MOC, "--help"], b"", 0, shim)
-    tally.add("help with ample memory", (ended.returncode, ended.stdout) == (0, text), ended)
-    for refuse in range(1, growths + 1):
-        ended, _ = run_refusing([MOC, "--help"], b"", refuse, shim)
-        seen = (ended.returncode, ended.stdout, ended.stderr)
-        tally.add(f"growth {refuse} of help", seen in [(0, text, b""), (3, b"", b"fault Memory\n")], seen)
+    refuse_each(tally, "help", [MOC, "--help"], b"", (0, text, b""), {(3, b"", b"fault Memory\n")}, shim)
 
 
 def built(crate):
@@ -288,55 +280,32 @@ def built(crate):
 
 def map_refuses(tally, shim):
     """Each refusal leaves the twelve parts of a map as they were, or comes before there is a map."""
-    program = built("refused_inversion")
-    ended, growths = run_refusing(program, b"", 0, shim)
-    tally.add("an inversion with ample memory", (ended.returncode, ended.stdout) == (0, b"inverted\n"), ended)
-    unchanged = 0
-    for refuse in range(1, growths + 1):
-        ended, _ = run_refusing(program, b"", refuse, shim)
-        unchanged += ended.stdout == b"unchanged\n"
-        seen = (ended.returncode, ended.stdout)
-        tally.add(f"growth {refuse} of an inversion", seen in [(0, b"inverted\n"), (0, b"unchanged\n"), (1, b"")], ended)
-    tally.add("some refusal leaves a map unchanged", unchanged > 0)
+    unchanged, no_map = (0, b"unchanged\n"), (1, b"")
+    met = refuse_each(tally, "an inversion", built("refused_inversion"), b"", (0, b"inverted\n"), {unchanged, no_map}, shim)
+    tally.add("some refusal leaves a map unchanged", unchanged in met, met)
 
 
 def refused_line_is_told(tally, shim):
     """The line that Memory names: 0 before the first is read, and else the one behind the answers that are written.
 
     The script's first two lines are blank, and the four others are answered."""
-    end = b"the end behind 4 answers\n"
-    refused = [b"out of memory at line %d behind %d answers\n" % (line, max(0, line - 3)) for line in range(7)]
-    program = built("refused_script")
-    ended, growths = run_refusing(program, b"", 0, shim)
-    tally.add("a script with ample memory", (ended.returncode, ended.stdout) == (0, end), ended)
-    told = set()
-    for refuse in range(1, growths + 1):
-        ended, _ = run_refusing(program, b"", refuse, shim)
-        told.add(ended.stdout)
-        seen = (ended.returncode, ended.stdout)
-        tally.add(f"growth {refuse} of a script", seen in [(0, line) for line in [end] + refused] + [(1, b"")], ended)
+    end = (0, b"the end behind 4 answers\n")
+    refused = [(0, b"out of memory at line %d behind %d answers\n" % (line, max(0, line - 3))) for line in range(7)]
+    met = refuse_each(tally, "a script", built("refused_script"), b"", end, {*refused, (1, b"")}, shim)
     for line in [0, 1, 3, 4, 5]:
-        tally.add(f"some refusal at line {line}", refused[line] in told, told)
+        tally.add(f"some refusal at line {line}", refused[line] in met, met)
 
 
 def refused_crew_is_told(tally, shim):
     """The line that a crew's Memory names, or that no thread could be started; and nothing is written.
 
     The script's third line is blank, and two lanes answer the four others; 6 is behind all five."""
-    end = b"the end behind 5 lines\n"
-    refused = [b"out of memory at line %d behind 0 lines\n" % line for line in range(7)]
-    spawn = b"a thread could not be started behind 0 lines\n"
-    program = built("refused_crew")
-    ended, growths = run_refusing(program, b"", 0, shim)
-    tally.add("a crew with ample memory", (ended.returncode, ended.stdout) == (0, end), ended)
-    told = set()
-    for refuse in range(1, growths + 1):
-        ended, _ = run_refusing(program, b"", refuse, shim)
-        told.add(ended.stdout)
-        seen = (ended.returncode, ended.stdout)
-        tally.add(f"growth {refuse} of a crew", seen in [(0, line) for line in [end, spawn] + refused] + [(1, b"")], ended)
+    end = (0, b"the end behind 5 lines\n")
+    spawn = (0, b"a thread could not be started behind 0 lines\n")
+    refused = [(0, b"out of memory at line %d behind 0 lines\n" % line) for line in range(7)]
+    met = refuse_each(tally, "a crew", built("refused_crew"), b"", end, {*refused, spawn, (1, b"")}, shim)
     for line in [0, 1, 2, 4, 5, 6]:
-        tally.add(f"some refusal of a crew at line {line}", refused[line] in told, told)
+        tally.add(f"some refusal of a crew at line {line}", refused[line] in met, met)
 
 
 def main():

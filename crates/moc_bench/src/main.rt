@@ -1,12 +1,14 @@
-//! `moc_bench OP REPEATS`: the time of one operation of the library, as a line `OP median first least checksum`, in seconds.
-//! Standard input has one coverage in ASCII a line: the first, and for an operation on two sets the second.
+//! `moc_bench OP REPEATS`: the time of one operation of the library, as a line `OP median first least checksum`, in
+//! seconds. Standard input has one coverage in ASCII a line: the first, and for an operation on two sets the second.
+//! Operations on numbers and schedules make their own input.
 #![tactic(auto)]
 
 mod operation;
+mod random;
+mod schedule;
 
-use crate::operation::{Operation, answer};
+use crate::operation::{Input, Operation, answer};
 use anyhow::{Result, bail};
-use moc_text::read_ascii;
 use std::fmt;
 use std::io::Read;
 use std::time::Instant;
@@ -21,18 +23,14 @@ fn main(rt: HostRuntime) -> Result<()> {
         bail!("no operation {word}");
     };
     let repeats: u32 = repeats.as_str().parse()?;
-    let mut input = Vec::new(rt.alloc());
-    rt.stdin().read_to_end(&mut input)?;
-    let mut lines = input.split(|byte| *byte == b'\n');
-    let first = lines.next().unwrap_or(&[]);
-    let (a, _) = read_ascii(rt.alloc(), first)?;
-    let (b, _) = read_ascii(rt.alloc(), lines.next().unwrap_or(&[]))?;
-    let cells = operation.cells(rt.alloc())?;
+    let mut text = Vec::new(rt.alloc());
+    rt.stdin().read_to_end(&mut text)?;
+    let input = Input::new(rt.alloc(), operation, &text)?;
     let mut times = Vec::new(rt.alloc());
     let mut sum = 0;
     for _ in 0..repeats {
         let start = Instant::now(&rt)?;
-        sum = answer(rt.alloc(), operation, first, &a, &b, &cells)?;
+        sum = answer(rt.alloc(), operation, &input)?;
         let micros = start.elapsed(&rt)?.as_micros();
         times.push(u64::try_from(micros).unwrap_or(u64::MAX))?;
     }

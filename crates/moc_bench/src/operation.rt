@@ -1,7 +1,10 @@
 //! The operations that are timed.
+use crate::random::Random;
+use crate::schedule::{in_rounds, in_turn};
 use anyhow::Result;
 use moc_ranges::Coverage;
 use moc_sphere::{Cell, Order};
+use moc_steps::{Step, replay};
 use moc_text::{read_ascii, write_ascii, write_json};
 use std::alloc::{AllocError, Global};
 
@@ -20,6 +23,37 @@ pub enum Operation {
     Ring(u8),
     Nest(u8),
     Near(u8),
+    /// A million steps by clients one after another.
+    Turns,
+    /// A million steps in rounds of so many clients.
+    Rounds(u32),
+}
+
+/// What operations work on.
+#[derive(Drop)]
+pub struct Input<'a> {
+    text: &'a [u8],
+    a: Coverage,
+    b: Coverage,
+    cells: Vec<u64>,
+    steps: Vec<Step>,
+}
+
+impl<'a> Input<'a> {
+    /// The coverages that the first two lines say, and what else the operation wants.
+    pub fn new(alloc: Global, operation: Operation, text: &'a [u8]) -> Result<Input<'a>> {
+        let mut lines = text.split(|byte| *byte == b'\n');
+        let text = lines.next().unwrap_or(&[]);
+        let (a, _) = read_ascii(alloc, text)?;
+        let (b, _) = read_ascii(alloc, lines.next().unwrap_or(&[]))?;
+        Ok(Input {
+            text,
+            a,
+            b,
+            cells: operation.cells(alloc)?,
+            steps: operation.steps(alloc)?,
+        })
+    }
 }
 
 impl Operation {
@@ -41,12 +75,16 @@ impl Operation {
             "nest29" => Some(Operation::Nest(29)),
             "near13" => Some(Operation::Near(13)),
             "near29" => Some(Operation::Near(29)),
+            "turns" => Some(Operation::Turns),
+            "rounds10" => Some(Operation::Rounds(10)),
+            "rounds1000" => Some(Operation::Rounds(1_000)),
+            "rounds100000" => Some(Operation::Rounds(100_000)),
             _ => None,
         }
     }
 
     /// Ten million numbers of the order for an operation on numbers, a million for touching cells.
-    pub fn cells(self, alloc: Global) -> Result<Vec<u64>, AllocError> {
+    fn cells(self, alloc: Global) -> Result<Vec<u64>, AllocError> {
         match self {
             Operation::Ring(order) | Operation::Nest(order) => {
                 random_cells(alloc, order, 10_000_000)
@@ -55,34 +93,40 @@ impl Operation {
             _ => Ok(Vec::new(alloc)),
         }
     }
+
+    /// The steps of a schedule.
+    fn steps(self, alloc: Global) -> Result<Vec<Step>> {
+        match self {
+            Operation::Turns => in_turn(alloc),
+            Operation::Rounds(clients) => in_rounds(alloc, clients),
+            _ => Ok(Vec::new(alloc)),
+        }
+    }
 }
 
-/// Numbers below the count of an order's cells, by splitmix64 with the seed 42.
+/// Numbers below the count of an order's cells.
 fn random_cells(alloc: Global, order: u8, count: usize) -> Result<Vec<u64>, AllocError> {
     let mut cells = Vec::new(alloc);
     let Some(order) = Order::new(order) else {
         return Ok(cells);
     };
-    let all = order.cell_count().max(1);
-    let mut state = 42u64;
+    let all = order.cell_count();
+    let mut random = Random::new();
     for _ in 0..count {
-        state = state.wrapping_add(0x9E37_79B9_7F4A_7C15);
-        let z = (state ^ (state >> 30)).wrapping_mul(0xBF58_476D_1CE4_E5B9);
-        let z = (z ^ (z >> 27)).wrapping_mul(0x94D0_49BB_1331_11EB);
-        cells.push((z ^ (z >> 31)) % all)?;
+        cells.push(random.below(all))?;
     }
     Ok(cells)
 }
 
 /// Does the operation once, and answers its checksum.
-pub fn answer(
-    alloc: Global,
-    operation: Operation,
-    text: &[u8],
-    a: &Coverage,
-    b: &Coverage,
-    cells: &[u64],
-) -> Result<u64> {
+pub fn answer(alloc: Global, operation: Operation, input: &Input<'_>) -> Result<u64> {
+    let Input {
+        text,
+        a,
+        b,
+        cells,
+        steps,
+    } = input;
     Ok(match operation {
         Operation::ReadAscii => read_ascii(alloc, text)?.0.count(),
         Operation::Count => a.count(),
@@ -99,6 +143,10 @@ pub fn answer(
         Operation::Ring(order) => rings(order, cells),
         Operation::Nest(order) => nests(order, cells),
         Operation::Near(order) => touching(alloc, order, cells),
+        Operation::Turns | Operation::Rounds(_) => {
+            let world = replay(alloc, &Coverage::empty(alloc), steps)?;
+            world.order().len() as u64
+        }
     })
 }
 

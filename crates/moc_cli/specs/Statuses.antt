@@ -12,7 +12,8 @@ code_of Refused = 1
 code_of BadWords = 2
 code_of Broken = 3
 
--- how the program ends with a fault: a device that failed, and memory or a thread that was refused, break it, and all else is refused
+-- how the program ends with a fault: a device that failed, and memory or a thread that was refused, break it, and all
+-- else is refused
 abbrev pub status_of : Fault → Status
 status_of Read = Broken
 status_of Write = Broken

@@ -38,9 +38,9 @@ module _ {S : Type 0} (rules : Rules S) where
 abbrev pub cover_line : NumberSet → List ℕ
 cover_line a = cover_text a ++ 10 ∷ []
 
--- A text that so many lanes may answer these lines with. In one order of all lines, which keeps each lane's order, each is
--- done on what those before it leave of a set that starts empty. The text is their answers, in the order of the lines, and
--- the cover of the set after them.
+-- A text that so many lanes may answer these lines with. In one order of all lines, which keeps each lane's order, each
+-- is done on what those before it leave of a set that starts empty. The text is their answers, in the order of the
+-- lines, and the cover of the set after them.
 pub record IsCrewText (lanes : ℕ) (lines : List (List ℕ)) (text : List ℕ) : Type 0 where
   pub order : List (InLane (List ℕ))
   pub answers : List (List ℕ)
@@ -52,8 +52,8 @@ pub record IsCrewText (lanes : ℕ) (lines : List (List ℕ)) (text : List ℕ) 
 abbrev pub BeginsCrewText : ℕ → List (List ℕ) → List ℕ → Type 0
 BeginsCrewText lanes lines text = (rest : List ℕ) × IsCrewText lanes lines (text ++ rest)
 
--- What a crew has written when it ends, of a whole input: such a text; or a beginning of one where the writer failed; or
--- nothing.
+-- What a crew has written when it ends, of a whole input: such a text; or a beginning of one where the writer failed;
+-- or nothing.
 abbrev pub CrewEnds : ℕ → List ℕ → Option (List ℕ) → Option (List ℕ) → Result (Unit {0}) RunError → Type 0
 CrewEnds lanes input written written' (Ok _) =
     AreWithin line_limit (lines_of input)
@@ -61,7 +61,8 @@ CrewEnds lanes input written written' (Ok _) =
 CrewEnds lanes input written written' (Err Write) =
     (text : List ℕ) × Appends written written' text × BeginsCrewText lanes (said_lines (lines_of input)) text
 CrewEnds lanes input written written' (Err (LineTooLong line)) =
-    Keeps written written' × ((given more : List ℕ) × (input ≡ given ++ more) × IsTooLong line_limit (lines_of given) line)
+    Keeps written written'
+    × ((given more : List ℕ) × (input ≡ given ++ more) × IsTooLong line_limit (lines_of given) line)
 CrewEnds lanes input written written' (Err Read) = Keeps written written'
 CrewEnds lanes input written written' (Err (Memory line)) = Keeps written written'
 CrewEnds lanes input written written' (Err Spawn) = Keeps written written'

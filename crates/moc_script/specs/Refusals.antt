@@ -3,7 +3,7 @@ use Rattle.std.specs.Prelude.{ℕ, List, ◌++◌, codes}
 use Rattle.moc_steps.specs.declared.error.StepError.{StepError}
 use Rattle.moc_steps.specs.declared.error.StepError.TheVariants.{NotIdle, Idle, PartHeld, AllTaken, NotAllTaken, NotHeld, AlreadyEdited, NotEdited, BegunEditing, StillHolding, NothingDone, Quitting, Memory, TooMany}
 
--- the name of a refusal, without its numbers
+-- the name of a refusal, without its numbers; Memory is never answered as a refusal, since it ends the schedule
 abbrev pub refusal_name : StepError → List ℕ
 refusal_name NotIdle = codes "NotIdle"
 refusal_name Idle = codes "Idle"

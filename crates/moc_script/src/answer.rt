@@ -5,7 +5,7 @@ ghost use Rattle.moc_script.specs.Scripts.{script_rules};
 
 use crate::batch::read_batch;
 use crate::fault::{Fault, ReadError};
-use crate::reply_text::push_replies;
+use crate::reply_text::push_reply_line;
 use crate::responder::Responder;
 use crate::words::is_blank_text;
 use moc_parts::Map;
@@ -37,9 +37,7 @@ impl Responder for Map {
         match read_batch(alloc, line) {
             Ok(batch) => {
                 let replies = self.apply(alloc, &batch)?;
-                push_replies(alloc, replies.as_slice(), text)?;
-                text.extend_from_slice(b"\n")?;
-                Ok(())
+                push_reply_line(alloc, replies.as_slice(), text)
             }
             Err(ReadError::Fault(fault)) => push_fault(fault, text),
             Err(ReadError::Memory) => Err(Memory),

@@ -81,15 +81,16 @@ fn answer_all<R: Threads + Wait + Sync, G: Gate + Sync>(
 
 /// Answers a script by so many lanes, each a thread with a client of one map, which starts empty.
 ///
-/// All lines are read first. The lines that are not blank go to the lanes in turn, the first to lane 0. Lines and answers
-/// are those of `run`. The answers are those of the lines in one order, which keeps each lane's order; they are written in
-/// the order of the lines, and behind them, as `read` of the whole sky would answer, the cover of the set.
+/// All lines are read first. The lines that are not blank go to the lanes in turn, the first to lane 0. Lines and
+/// answers are those of `run`. The answers are those of the lines in one order, which keeps each lane's order; they are
+/// written in the order of the lines, and behind them, as `read` of the whole sky would answer, the cover of the set.
 ///
-/// A lane tells the gate of each line before it begins it, and once it has the answer. Nothing is written before all lanes
-/// have ended. Where the call ends with a fault, nothing is written, and on `Write` as much of the text as the writer took.
-/// `Memory` names the line that was read or answered, of several lanes' lines the least; 0 is before any, and one more than
-/// the lines that were read is after all. `Spawn` goes before the lanes' `Memory`. After the whole text the writer is
-/// flushed, once. Takes memory linear in the script and its answers. May wait for parts that other lanes hold.
+/// A lane tells the gate of each line before it begins it, and once it has the answer. Nothing is written before all
+/// lanes have ended. Where the call ends with a fault, nothing is written, and on `Write` as much of the text as the
+/// writer took. `Memory` names the line that was read or answered, of several lanes' lines the least; 0 is before any,
+/// and one more than the lines that were read is after all. `Spawn` goes before the lanes' `Memory`. After the whole
+/// text the writer is flushed, once. Takes memory linear in the script and its answers. May wait for parts that other
+/// lanes hold.
 pub fn crew<R: Source, W: Sink, G: Gate + Sync, T: Threads + Wait + Sync>(
     rt: &T,
     alloc: Global,

@@ -8,7 +8,7 @@ ghost use Rattle.moc_script.specs.Schedules.{after_step, answer_to_step, begin_l
 
 use crate::answer::push_fault;
 use crate::fault::ReadError;
-use crate::reply_text::{push_count, push_cover, push_replies, push_words};
+use crate::reply_text::{push_count, push_cover, push_reply_line, push_words};
 use crate::responder::Responder;
 use crate::step::read_step;
 use crate::words::is_blank_text;
@@ -103,10 +103,9 @@ fn push_done(alloc: Global, replies: Option<Replies>, text: &mut Vec<u8>) -> Res
     ensures { OnOk result (text.new.items ≡ text.old.items ++ (done_text replies ++ 10 ∷ [])) }
 {
     match replies {
-        None => push_words(b"ok", text)?,
-        Some(replies) => push_replies(alloc, replies.as_slice(), text)?,
+        None => push_words(b"ok\n", text),
+        Some(replies) => push_reply_line(alloc, replies.as_slice(), text),
     }
-    push_words(b"\n", text)
 }
 
 /// Adds what is said of a refused step.

@@ -1,5 +1,5 @@
 //! The texts of replies.
-ghost use Rattle.std.specs.Prelude.{◌≡◌, ◌++◌, codes, decimal, OnOk, if◌then◌else◌};
+ghost use Rattle.std.specs.Prelude.{◌≡◌, ◌++◌, ◌∷◌, [], codes, decimal, OnOk, if◌then◌else◌};
 ghost use Rattle.moc_script.specs.Replies.{cover_text, replies_text, reply_text};
 
 use itoa::Buffer;
@@ -9,11 +9,7 @@ use moc_text::write_ascii;
 use std::alloc::Global;
 
 /// Adds the texts of replies, parted.
-pub(crate) fn push_replies(
-    alloc: Global,
-    replies: &[Reply],
-    text: &mut Vec<u8>,
-) -> Result<(), Memory>
+fn push_replies(alloc: Global, replies: &[Reply], text: &mut Vec<u8>) -> Result<(), Memory>
     ensures { OnOk result (text.new.items ≡ text.old.items ++ replies_text replies.now) }
 {
     let Some((first, later)) = replies.split_first() else {
@@ -24,6 +20,19 @@ pub(crate) fn push_replies(
         text.extend_from_slice(b" ; ")?;
         push_reply(alloc, reply, text)?;
     }
+    Ok(())
+}
+
+/// Adds the line of replies: their texts, parted, and a line feed.
+pub(crate) fn push_reply_line(
+    alloc: Global,
+    replies: &[Reply],
+    text: &mut Vec<u8>,
+) -> Result<(), Memory>
+    ensures { OnOk result (text.new.items ≡ text.old.items ++ (replies_text replies.now ++ 10 ∷ [])) }
+{
+    push_replies(alloc, replies, text)?;
+    text.extend_from_slice(b"\n")?;
     Ok(())
 }
 

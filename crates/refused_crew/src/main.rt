@@ -1,5 +1,5 @@
-//! Answers a script of four lines by two lanes, and says how the crew ended and how many lines it wrote. `tests/program.py`
-//! refuses each growth of it in turn.
+//! Answers a script of four lines by two lanes, and says how the crew ended and how many lines it wrote.
+//! `tests/program.py` refuses each growth of it in turn.
 #![tactic(auto)]
 
 use anyhow::{Result, bail};

@@ -1,5 +1,5 @@
-//! Inverts a map of one base pixel, and says how the map is left: `inverted`, `unchanged` where memory was refused, or else
-//! `spoiled`. `tests/program.py` refuses each growth of it in turn.
+//! Inverts a map of one base pixel, and says how the map is left: `inverted`, `unchanged` where memory was refused, or
+//! else `spoiled`. `tests/program.py` refuses each growth of it in turn.
 #![tactic(auto)]
 
 use anyhow::Result;

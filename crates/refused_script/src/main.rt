@@ -1,5 +1,5 @@
-//! Runs a script of six lines, and says how the run ended and how many answers it wrote. `tests/program.py` refuses each
-//! growth of it in turn.
+//! Runs a script of six lines, and says how the run ended and how many answers it wrote. `tests/program.py` refuses
+//! each growth of it in turn.
 #![tactic(auto)]
 
 use anyhow::Result;

@@ -428,8 +428,8 @@ fn holds(room: &[u8], text: &[u8]) -> bool {
     front == text && rest.iter().all(|byte| *byte == 0)
 }
 
-// With ample memory all is answered. Where one growth is refused, just the lines before the one that is named are, and the
-// last two lines not at all.
+// With ample memory all is answered. Where one growth is refused, just the lines before the one that is named are, and
+// the last two lines not at all.
 #[test]
 fn refused_growths(rt: HostRuntime) {
     let mut room = [0u8; 256];

@@ -263,8 +263,8 @@ fn longest_line(rt: HostRuntime) -> Result<(), Fail> {
     Ok(())
 }
 
-// The front of the answers that the whole lines of a front of the script have: the lines of SCRIPT have 27, 37, 0, 0, 18,
-// 16 and 10 bytes of them.
+// The front of the answers that the whole lines of a front of the script have: the lines of SCRIPT have 27, 37, 0, 0,
+// 18, 16 and 10 bytes of them.
 fn answers_to_front(bytes: usize) -> &'static [u8] {
     let mut answered = 0usize;
     for (end, len) in [

@@ -1,5 +1,5 @@
-//! Compares ring numbers with a table that an independent HEALPix library made: a line `order nested ring` for each cell
-//! of orders 0 to 4, on standard input; a line that begins with `#` is a comment. Both directions are compared.
+//! Compares ring numbers with a table that an independent HEALPix library made: a line `order nested ring` for each
+//! cell of orders 0 to 4, on standard input; a line that begins with `#` is a comment. Both directions are compared.
 #![tactic(auto)]
 
 use anyhow::{Result, bail};

@@ -34,5 +34,6 @@ DealsAll lanes left left' d =
 -- the line that is told is over the limit
 abbrev pub ReadFails : Option (List ℕ) → Option (List ℕ) → ReadFault → Type 0
 ReadFails left left' Read = Unit {0}
-ReadFails left left' (TooLong line) = (given : List ℕ) × Consumes left left' given × IsTooLong line_limit (lines_of given) line
+ReadFails left left' (TooLong line) =
+    (given : List ℕ) × Consumes left left' given × IsTooLong line_limit (lines_of given) line
 ReadFails left left' (Memory line) = Unit {0}

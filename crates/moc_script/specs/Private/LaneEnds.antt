@@ -23,7 +23,8 @@ Answers client line old new text =
 abbrev pub IsLaneEnd : SharedMap → ℕ → List (List ℕ) → Result LaneEnd Refused → Type 0
 IsLaneEnd map lane lines (Ok end) =
     IsClientOf map end.client × (number_of end.client ≡ lane)
-    × ((made : List BatchEntry) × Made lane made (record_of end.client) × Does object script_rules lines made end.answers)
+    × ((made : List BatchEntry) × Made lane made (record_of end.client)
+    × Does object script_rules lines made end.answers)
 IsLaneEnd map lane lines (Err e) = Unit {0}
 
 -- each lane has done its lines, or memory was refused

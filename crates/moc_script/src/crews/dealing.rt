@@ -37,11 +37,8 @@ impl Dealt {
         ensures { IfOk result (λ d. HasDealt lanes [] d) }
     {
         let mut all = Vec::new(alloc);
-        for lane in 0..lanes {
-            let _ = lane;
-            if all.push(Texts::new(alloc)).is_err() {
-                return Err(Memory);
-            }
+        for _ in 0..lanes {
+            all.push(Texts::new(alloc))?;
         }
         Ok(Dealt {
             lanes: all,

@@ -8,7 +8,7 @@ use crate::batch::read_batch;
 use crate::crews::gate::Gate;
 use crate::crews::texts::Texts;
 use crate::fault::ReadError;
-use crate::reply_text::push_replies;
+use crate::reply_text::push_reply_line;
 use crate::words::is_blank_text;
 use moc_ranges::Memory;
 use moc_shared::{Client, SharedMap};
@@ -50,9 +50,7 @@ fn answer_line<R: Wait>(
     match read_batch(alloc, line) {
         Ok(batch) => {
             let replies = map.apply(rt, client, &batch)?;
-            push_replies(alloc, replies.as_slice(), text)?;
-            text.extend_from_slice(b"\n")?;
-            Ok(())
+            push_reply_line(alloc, replies.as_slice(), text)
         }
         Err(ReadError::Fault(fault)) => push_fault(fault, text),
         Err(ReadError::Memory) => Err(Memory),

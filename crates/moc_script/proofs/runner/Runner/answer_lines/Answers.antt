@@ -3,7 +3,7 @@ use Rattle.std.proofs.Common.{◌≡◌, ◌∙◌, sym, refl, ap, arith}
 use Rattle.std.proofs.KnownBytes.{Consumes-nil}
 use Rattle.moc_script.proofs.Calls.{CallsMore-none, CallsMore-later}
 use Rattle.moc_script.proofs.Sending.{at_ok, unmarked}
-use Rattle.moc_script.proofs.Progress.{at_found, Progress-start, Progress-sent, Progress-line, Answered-nothing, Answered-last, Ended-fault, Ended-refused, Ended-uncounted, Ended-closed, Ended-write}
+use Rattle.moc_script.proofs.Progress.{at_found, Progress-start, Progress-sent, Progress-line, ReachedEnd-nothing, ReachedEnd-last, Ended-fault, Ended-refused, Ended-uncounted, Ended-closed, Ended-write}
 use Rattle.moc_script.proofs.runner.Runner.answer_lines.Goals as goal
 
 pub loop-line-init : goal.loop-line-init
@@ -27,7 +27,7 @@ pub returns-in-Ok-Nothing-clause-ended : goal.returns-in-Ok-Nothing-clause-ended
 returns-in-Ok-Nothing-clause-ended g c =
     let sent = Progress-sent _ _ _ _ _ _ _ _ _ c.loop-line.self.lines c.send_if_due.new.self.lines _ _ _ _ c.send_if_due.result c.loop-line.invariant.progress (sym c.is_err.ensures.value ∙ c.if-is_err.false) c.send_if_due.ensures.sends c.send_if_due.ensures.lines c.next_line.ensures.pending in
     let takes = at_found 1048576 c.send_if_due.new.self.lines c.next_line.new.self.lines _ _ _ _ c.in-Ok-Nothing.field-0-is c.in-Ok-Nothing.ensures.takes in
-    let answered = Answered-nothing _ _ _ _ _ _ _ _ _ c.send_if_due.new.self.lines c.next_line.new.self.lines _ _ sent takes in
+    let answered = ReachedEnd-nothing _ _ _ _ _ _ _ _ _ c.send_if_due.new.self.lines c.next_line.new.self.lines _ _ sent takes in
     let close = c.close-in-Ok-Nothing in
     Ended-closed _ _ _ _ _ _ _ _ _ _ _ close.result answered close.ensures.text close.ensures.memory close.ensures.err close.ensures.some
 
@@ -37,7 +37,7 @@ returns-in-Ok-LastLine-clause-ended g c =
     let takes = at_found 1048576 c.send_if_due.new.self.lines c.next_line.new.self.lines _ _ _ _ c.in-Ok-LastLine.field-0-is c.in-Ok-LastLine.ensures.takes in
     let line = c.answer_line-answered-in-Ok-LastLine in
     let ok = sym c.is_err-in-Ok-LastLine.ensures.value ∙ c.if-is_err-3.false in
-    let answered = Answered-last _ _ _ _ _ _ _ _ _ c.send_if_due.new.self.lines c.next_line.new.self.lines _ _ sent takes _ _ (at_ok line.result ok line.ensures.text) (at_ok line.result ok line.ensures.after) in
+    let answered = ReachedEnd-last _ _ _ _ _ _ _ _ _ c.send_if_due.new.self.lines c.next_line.new.self.lines _ _ sent takes _ _ (at_ok line.result ok line.ensures.text) (at_ok line.result ok line.ensures.after) in
     Ended-closed _ _ _ _ _ _ _ _ _ _ _ c.close.result answered c.close.ensures.text c.close.ensures.memory c.close.ensures.err c.close.ensures.some
 
 pub returns-then-is_err-2-clause-ended : goal.returns-then-is_err-2-clause-ended

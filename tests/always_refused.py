@@ -1,0 +1,69 @@
+#!/usr/bin/env python3
+"""Shows that tests expect answers. A body that always answers want of memory meets its contract, since memory may always be
+refused; so each call below is given such a body in a copy of the crates, and some test of it must fail.
+
+No part of the gate: it takes some ten minutes. The last line printed is `N passed, M failed`."""
+import os
+import re
+import shutil
+import subprocess
+import sys
+import tempfile
+
+TOP = os.path.dirname(os.path.dirname(os.path.abspath(__file__)))
+# The crate, the file and the call; what it always answers; and the crate whose tests must show it.
+PLANTS = [
+    ("moc_text", "ascii/reading", "read_ascii", "Err(TextError::Memory)", "moc_text"),
+    ("moc_text", "json/reading", "read_json", "Err(JsonError::Memory)", "moc_text"),
+    ("moc_text", "uniq", "read_uniq", "Err(UniqError::Memory)", "moc_text"),
+    ("moc_text", "ascii/writing", "write_ascii", "Err(TextError::Memory)", "moc_text"),
+    ("moc_text", "json/writing", "write_json", "Err(JsonError::Memory)", "moc_text"),
+    ("moc_text", "uniq", "write_uniq", "Err(UniqError::Memory)", "moc_text"),
+    ("moc_steps", "schedule", "replay", "Err(ReplayError { at: 0, why: StepError::Memory })", "moc_steps"),
+    ("moc_steps", "world", "step", "Err(StepError::Memory)", "moc_steps"),
+    ("moc_steps", "schedule", "drain", "Err(Memory)", "moc_steps"),
+    ("moc_shared", "map", "try_apply", "Err(TryApplyError::Memory)", "shared_tests"),
+    ("moc_script", "script", "run", "Err(RunError::Memory { line: 0 })", "script_tests"),
+    ("moc_script", "schedule", "play", "Err(RunError::Memory { line: 0 })", "script_tests"),
+    ("moc_script", "crews", "crew", "Err(RunError::Memory { line: 0 })", "script_tests"),
+    ("moc_script", "crews", "crew", "Err(RunError::Spawn)", "script_tests"),
+]
+
+
+def planted(text, call, answer):
+    """The source with a body of this public call that answers before all else."""
+    begin = re.search(rf"^( *)pub fn {call}\b.*?^\1\{{\n", text, re.MULTILINE | re.DOTALL)
+    return f"{text[:begin.end()]}if true {{ return {answer}; }}\n{text[begin.end():]}"
+
+
+def failing_tests(folder, crate):
+    """The tests of a crate that fail, and whether they ran."""
+    ended = subprocess.run(["rt", "try", "--test"], cwd=os.path.join(folder, "crates", crate), stdin=subprocess.DEVNULL,
+                           capture_output=True, text=True)
+    told = ended.stdout + ended.stderr
+    return re.findall(r"^test (\S+) \.\.\. FAILED", told, re.MULTILINE), "test result:" in told
+
+
+def main():
+    passed = failed = 0
+    with tempfile.TemporaryDirectory() as folder:
+        shutil.copy(os.path.join(TOP, "crates.txt"), folder)
+        shutil.copy(os.path.join(TOP, "HANDLES"), folder)
+        shutil.copytree(os.path.join(TOP, "crates"), os.path.join(folder, "crates"), ignore=shutil.ignore_patterns("must-fail"))
+        for crate, source, call, answer, tests in PLANTS:
+            path = os.path.join(folder, "crates", crate, "src", f"{source}.rt")
+            with open(path) as file:
+                text = file.read()
+            with open(path, "w") as file:
+                file.write(planted(text, call, answer))
+            names, ran = failing_tests(folder, tests)
+            with open(path, "w") as file:
+                file.write(text)
+            passed, failed = (passed + 1, failed) if names and ran else (passed, failed + 1)
+            print(f"{call} answers {answer}: " + (", ".join(names) if ran else "the tests did not run"), flush=True)
+    print(f"{passed} passed, {failed} failed")
+    return 1 if failed else 0
+
+
+if __name__ == "__main__":
+    sys.exit(main())
