@@ -1,6 +1,7 @@
 //! Random numbers.
 
 /// Numbers by splitmix64, with the seed 42.
+#[derive(Drop)]
 pub struct Random(u64);
 
 impl Random {
