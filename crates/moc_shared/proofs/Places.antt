@@ -6,7 +6,7 @@ use Rattle.moc_ranges.specs.Numbers.{NumberSet}
 use Rattle.moc_parts.specs.declared.command.Command.{Command}
 use Rattle.moc_shared.specs.Private.Rule.{note, parts_of}
 use Rattle.moc_parts.specs.Batches.{footprint_of_all}
-use Rattle.moc_shared.specs.Private.Slots.{Pointer, PartNote, Sight, content, shared, note_if, at_place, notes_below}
+use Rattle.moc_shared.specs.Private.Slots.{Pointer, PartNote, Sight, shared, note_if, at_place, notes_below}
 use Rattle.atomic_table.specs.Table.{Me}
 use Rattle.moc_shared.specs.Private.Plays.{with_holds, with_miss, with_part, with_parts, behind_first, IsCarried}
 use Rattle.moc_shared.specs.History.{StandsFor}

@@ -1,10 +1,8 @@
 -- From what the steps did to a view to what a call promises of the record.
-use Rattle.std.proofs.Common.{◌≡◌, ◌⊎◌, ℕ, ◌<◌, List, [], ◌∷◌, ◌++◌, map, refl, sym, ap, ◌∙◌, subst, inl, inr, ⊎_elim, Contains, IsTrue, Option, ◌+◌, cond, eqb, arith, false, Result, Ok, Err, IfOk, OnErr}
+use Rattle.std.proofs.Common.{◌≡◌, ℕ, ◌<◌, List, [], ◌∷◌, ◌++◌, map, refl, sym, ap, ◌∙◌, subst, inl, inr, ⊎_elim, Contains, IsTrue, Option, ◌+◌, cond, eqb, arith, Result, Ok, Err, IfOk, OnErr}
 use Rattle.std.proofs.lemmas.List.Sums.{sum_by-append}
-use Rattle.std.specs.List.{list_any}
 use Rattle.atomic_table.specs.Table.{Me}
 use Rattle.moc_ranges.specs.Numbers.{NumberSet}
-use Rattle.moc_parts.specs.Commands.{is_update}
 use Rattle.moc_parts.specs.declared.command.Command.{Command}
 use Rattle.moc_parts.specs.declared.reply.Reply.{Reply}
 use Rattle.moc_shared.specs.declared.client.Client.{Client}

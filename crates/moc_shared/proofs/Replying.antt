@@ -1,6 +1,5 @@
 -- What `prepare` makes, and what a query leaves, answer a batch.
-use Rattle.std.proofs.Common.{◌≡◌, ◌≢◌, ℕ, zero, suc, ◌+◌, ◌<◌, ◌≤◌, ◌/◌, ◌&&◌, ◌||◌, Bool, true, false, true≢false, nat_eq, List, [], ◌∷◌, map, length, refl, sym, ap, ◌∙◌, subst, ⊎_elim, inl, inr, arith, Option, Some, None, is_some, get_or, eq-eqb, ne_eqb, Contains}
-use mathlib.Core.Logic.{dite}
+use Rattle.std.proofs.Common.{◌≡◌, ℕ, zero, suc, ◌<◌, ◌/◌, ◌&&◌, ◌||◌, Bool, true, false, true≢false, nat_eq, List, [], ◌∷◌, length, refl, sym, ap, ◌∙◌, subst, inl, inr, arith, Option, Some, None, is_some, get_or, eq-eqb, ne_eqb, Contains}
 use native.Mathlib.Decide.{ℕ_discrete}
 use Rattle.std.proofs.lemmas.Bool.{cases_lt, cases_Bool}
 use Rattle.std.specs.List.{list_any}
@@ -11,17 +10,17 @@ use Rattle.moc_ranges.specs.Operations.{part_of, contains-part_of, IsWithin}
 use Rattle.moc_parts.specs.Objects.{IsLocal, AgreeOn, base_pixel}
 use Rattle.moc_parts.specs.Parts.{union_of}
 use Rattle.moc_parts.specs.Commands.{is_update, set_after}
-use Rattle.moc_parts.specs.Batches.{batches, footprint_of_all, set_after_all, replies_on, AreCommands}
+use Rattle.moc_parts.specs.Batches.{batches, footprint_of_all, set_after_all, AreCommands}
 use Rattle.moc_parts.specs.Laws.{AreBatchesLocal}
 use Rattle.moc_parts.specs.Prepared.{IsPrepared, AreRepliesTo, Preparation, kept, found_in}
 use Rattle.moc_parts.specs.declared.command.Command.{Command}
 use Rattle.moc_parts.specs.declared.command.Command.TheVariants.{Add, Remove, Keep, Claim, Invert, Degrade, Count, Read, Near}
 use Rattle.moc_parts.specs.declared.reply.Reply.{Reply}
-use Rattle.moc_shared.specs.Private.Rule.{note, parts_of, Answers}
+use Rattle.moc_shared.specs.Private.Rule.{note, parts_of}
 use Rattle.moc_shared.specs.Batches.{answer}
-use Rattle.moc_shared.specs.Private.Slots.{Pointer, PartNote, content, shared, part, IsProper, at_place, note_if, notes_below, list_of, lists_of, IsOwn, AreOwn, IsFootprint, AreCopies, Edits, replies_to}
-use Rattle.moc_shared.proofs.Basics.{here, none_in}
-use Rattle.moc_shared.proofs.Places.{notes_none, notes_next, notes_some, notes_without, notes_upto, note_place, place_note, notes_below_lt, part_note}
+use Rattle.moc_shared.specs.Private.Slots.{Pointer, PartNote, content, shared, part, IsProper, at_place, note_if, notes_below, list_of, lists_of, AreOwn, IsFootprint, AreCopies, Edits, replies_to}
+use Rattle.moc_shared.proofs.Basics.{none_in}
+use Rattle.moc_shared.proofs.Places.{notes_none, notes_next, notes_upto, note_place, place_note, notes_below_lt, part_note}
 use Rattle.moc_shared.proofs.Unions.{union_at, union_within, in_sky, get_beyond, and_true}
 
 pub some_is : (o : Option Pointer) → is_some o ≡ true → (x : Pointer) × (o ≡ Some x)
@@ -208,3 +207,8 @@ never_none found edited b l some same none =
 pub local_batch : (cs : List Command) → AreBatchesLocal → 0 < length cs → AreCommands cs → IsLocal batches cs
 local_batch [] law some proper = absurd (omega arith)
 local_batch (c ∷ cs) law some proper = law c cs proper
+
+-- some part was found, since a footprint is never empty
+pub some_found : (cs : List Command) (found : List (Option Pointer)) → IsFootprint cs found → IsLocal batches cs
+    → (b : ℕ) × (b < 12) × (is_some (at_place found b) ≡ true)
+some_found cs found whole local = let s = local.some in (s.0, s.1, whole s.0 s.1 ∙ s.2)

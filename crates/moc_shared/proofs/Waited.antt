@@ -1,17 +1,15 @@
 -- The views of a client that waits.
-use Rattle.std.proofs.Common.{◌≡◌, ◌≢◌, ◌⊎◌, ℕ, suc, ◌+◌, ◌<◌, List, [], ◌∷◌, ◌++◌, set, length, refl, sym, ap, ◌∙◌, subst, inl, inr, ⊎_elim, arith, Contains, IsTrue, nat_eq, Option, Some, append_assoc, Bool, true}
+use Rattle.std.proofs.Common.{◌≡◌, ℕ, suc, ◌<◌, List, [], ◌∷◌, ◌++◌, set, length, refl, sym, ap, ◌∙◌, subst, ⊎_elim, Contains, Option, Some, append_assoc, true}
 use Rattle.std.proofs.lemmas.List.Elements.{Contains-append_cases}
-use Rattle.moc_ranges.specs.Numbers.{NumberSet}
 use Rattle.moc_parts.specs.declared.command.Command.{Command}
 use Rattle.moc_shared.specs.declared.map.SharedMap.{SharedMap}
-use Rattle.moc_shared.specs.History.{entry, StandsFor}
-use Rattle.moc_shared.specs.Private.Rule.{note}
+use Rattle.moc_shared.specs.History.{StandsFor}
 use Rattle.moc_shared.specs.Private.Plays.{with_part, with_parts, with_miss, with_misses}
 use Rattle.moc_parts.specs.Batches.{footprint_of_all}
-use Rattle.moc_shared.specs.Private.Slots.{Pointer, Sight, shared, notes_below, touched_by, just, AreWaits, at_place}
-use Rattle.moc_shared.specs.Clients.{start_of, clients_of, Waits}
-use Rattle.moc_shared.proofs.Basics.{none_in, cons_cases, here}
-use Rattle.moc_shared.proofs.Places.{took_part, start_parts}
+use Rattle.moc_shared.specs.Private.Slots.{Pointer, Sight, shared, notes_below, touched_by, just, AreWaits}
+use Rattle.moc_shared.specs.Clients.{clients_of, Waits}
+use Rattle.moc_shared.proofs.Basics.{none_in, cons_cases}
+use Rattle.moc_shared.proofs.Places.{took_part}
 use Rattle.moc_shared.proofs.Promises.{Stays}
 
 pub no_wait : (parts : ℕ → Type 0) (v : Sight) → AreWaits parts v []

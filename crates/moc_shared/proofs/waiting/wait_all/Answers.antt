@@ -1,10 +1,10 @@
 use Rattle.std.specs.FinSet as set_of
-use Rattle.std.proofs.Common.{rules, ◌≡◌, ℕ, suc, ◌+◌, ◌<◌, List, [], refl, sym, ap, ◌∙◌, subst, arith, Contains, map, set, length, length-set, get_or, Option, Some, is_some, true, false}
+use Rattle.std.proofs.Common.{rules, ◌≡◌, ℕ, suc, ◌+◌, ◌<◌, List, [], refl, sym, ap, ◌∙◌, subst, arith, Contains, map, set, length, length-set, Option, Some, is_some}
 use Rattle.moc_parts.specs.Batches.{footprint_of_all}
 use Rattle.moc_shared.specs.Private.Slots.{Pointer, PartNote, Sight, notes_below, at_place, touched_by, IsOwn}
 use Rattle.moc_shared.specs.Private.Plays.{with_parts, with_misses}
 use Rattle.moc_shared.specs.Private.Rule.{note, parts_of}
-use Rattle.moc_shared.proofs.Owned.{own_none, own_set}
+use Rattle.moc_shared.proofs.Owned.{own_set}
 use Rattle.moc_shared.proofs.Places.{start_parts, left_out, touched_so_far, untouched_so_far, still_beyond, not_below}
 use Rattle.moc_shared.proofs.Waited.{no_wait, took_after}
 use Rattle.moc_shared.proofs.waiting.wait_all.Goals as goal
@@ -17,8 +17,8 @@ loop-b-init g c = record {
   view = ([], start_parts c.args.seat.now.me.0 c.args.seat.now.me.0 c.no_slots-found.result refl c.requires.idle.0, no_wait (touched_by c.args.batch.now) c.args.seat.now.me.0);
   long = search rules;
   so_far = λ k l. absurd (omega arith);
-  beyond = λ k l. c.no_slots-found.ensures k;
-  own = λ k. subst (λ (s : Option Pointer). IsOwn k s) (sym (c.no_slots-found.ensures k)) (own_none k);
+  beyond = λ k l. c.no_slots-found.ensures.none k;
+  own = c.no_slots-found.ensures.own;
 }
 
 pub wait_slot-requires-clause-other : goal.wait_slot-requires-clause-other
