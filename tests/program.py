@@ -36,6 +36,9 @@ CREWED = (b"changed 288230376151711744\nchanged 288230376151711744\ntotal 288230
 CLAIMS = b"claim 0/4\nhop\n\nclaim 1/17"
 CLAIMED = [b"claimed\nfault UnknownWord\ntaken 72057594037927936\ncover 0/4\n",
            b"taken 72057594037927936\nfault UnknownWord\nclaimed\ncover 1/17\n"]
+# The calls of a running map that `refused_calls` makes, in order.
+CALLS = [b"new", b"try_apply of an update", b"try_apply of a query", b"apply of an update", b"apply of a query",
+         b"finish of an update", b"finish of a query", b"answer", b"close"]
 LONGEST_LINE = 1_048_576
 NINES = b"9" * 1000
 # Words, standard input, and what is told: each fault that a refused value or text has.
@@ -308,6 +311,18 @@ def refused_crew_is_told(tally, shim):
         tally.add(f"some refusal of a crew at line {line}", refused[line] in met, met)
 
 
+def shared_calls_refuse(tally, shim):
+    """A refused growth of a call of the running map leaves all as it was, and all other calls work.
+
+    A run that ends with 1 met the refusal outside of the calls that it tells of, after a front of them."""
+    done = b"".join(b"%s: done\n" % call for call in CALLS)
+    refused = {call: (0, done.replace(b"%s: done" % call, b"%s: refused" % call)) for call in CALLS}
+    ended = {(1, front) for front in fronts(done)}
+    met = refuse_each(tally, "shared calls", built("refused_calls"), b"", (0, done), {*refused.values(), *ended}, shim)
+    for call, told in refused.items():
+        tally.add(f"some refusal of {call} shows", told in met, met)
+
+
 def main():
     tally = Tally()
     words_are_answered(tally)
@@ -327,6 +342,7 @@ def main():
         map_refuses(tally, shim)
         refused_line_is_told(tally, shim)
         refused_crew_is_told(tally, shim)
+        shared_calls_refuse(tally, shim)
     print(f"{tally.passed} passed, {tally.failed} failed")
     return 1 if tally.failed else 0
 

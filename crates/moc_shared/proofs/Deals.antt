@@ -1,5 +1,6 @@
 -- A map that is made: its slots, and its clients.
-use Rattle.std.proofs.Common.{All, rules, ◌≡◌, ◌⊎◌, ℕ, zero, suc, ◌+◌, ◌-◌, ◌<◌, List, [], ◌∷◌, ◌++◌, map, length, get_or, refl, sym, ap, ◌∙◌, subst, inl, inr, ⊎_elim, arith, length-append, Option, Some}
+use Rattle.std.proofs.Common.{All, rules, ◌≡◌, ◌⊎◌, ℕ, zero, suc, ◌+◌, ◌-◌, ◌<◌, List, [], ◌∷◌, ◌++◌, map, length}
+use Rattle.std.proofs.Common.{get_or, refl, sym, ap, ◌∙◌, subst, inl, inr, ⊎_elim, arith, length-append, Option, Some}
 use Rattle.std.specs.Prelude.{slice_index}
 use mathlib.Core.Option.{some, some-ne-none, some-injective}
 use mathlib.Core.Logic.{dite}
@@ -25,44 +26,67 @@ use Rattle.moc_shared.specs.Private.Starts.{StandFor}
 use Rattle.moc_shared.specs.Clients.{start_of, clients_of, IsClientOf, IsNewClient, AreNewClients}
 use Rattle.moc_shared.proofs.Begins.{begins, stood_same}
 
-unmapped : (xs : List (Option Pointer)) (b : ℕ) (x : Option Pointer) → get_elem? (map some xs) b ≡ some (some x) → get_elem? xs b ≡ some x
+unmapped : (xs : List (Option Pointer)) (b : ℕ) (x : Option Pointer) → get_elem? (map some xs) b ≡ some (some x)
+    → get_elem? xs b ≡ some x
 unmapped [] b x e = absurd (some-ne-none (some x) (sym e))
 unmapped (y ∷ ys) zero x e = some-injective (some y) (some x) e
 unmapped (y ∷ ys) (suc b) x e = unmapped ys b x e
 
-pub made : (words : List ℕ) (start : NumberSet) (slots : List (Option Pointer)) (clients : ℕ) → length words ≡ 12 → ((b : ℕ) → slice_index words b ≡ 0) → StandFor start slots 12 → IsProper start
+pub made : (words : List ℕ) (start : NumberSet) (slots : List (Option Pointer)) (clients : ℕ) → length words ≡ 12
+    → ((b : ℕ) → slice_index words b ≡ 0) → StandFor start slots 12 → IsProper start
     → Kept 12 content part answer IsProper start clients (opening words slots (first_view start clients))
 made words start slots clients wide zeros stand within =
-    begins 12 content part answer IsProper start clients words slots wide stand.0 zeros (λ b x e. stand.1 b x (unmapped slots b x e)) within
+    begins 12 content part answer IsProper start clients words slots wide stand.0 zeros
+    (λ b x e. stand.1 b x (unmapped slots b x e)) within
 
-last_one : (xs : List (Option Pointer)) (x y : Option Pointer) (b : ℕ) → get_elem? (xs ++ x ∷ []) b ≡ some y → (get_elem? xs b ≡ some y) ⊎ ((b ≡ length xs) × (x ≡ y))
+last_one : (xs : List (Option Pointer)) (x y : Option Pointer) (b : ℕ) → get_elem? (xs ++ x ∷ []) b ≡ some y
+    → (get_elem? xs b ≡ some y) ⊎ ((b ≡ length xs) × (x ≡ y))
 last_one [] x y zero e = inr (refl, some-injective x y e)
 last_one [] x y (suc b) e = absurd (some-ne-none y (sym e))
 last_one (z ∷ zs) x y zero e = inl e
 last_one (z ∷ zs) x y (suc b) e = ⊎_elim (λ l. inl l) (λ t. inr (ap suc t.0, t.1)) (last_one zs x y b e)
 
-pub one_slot : (a : NumberSet) (slots after : List (Option Pointer)) (b : ℕ) (x : Option Pointer) → after ≡ slots ++ x ∷ [] → content x ≡ part b a → StandFor a slots b → StandFor a after (b + 1)
+pub one_slot : (a : NumberSet) (slots after : List (Option Pointer)) (b : ℕ) (x : Option Pointer)
+    → after ≡ slots ++ x ∷ [] → content x ≡ part b a → StandFor a slots b → StandFor a after (b + 1)
 one_slot a slots after b x is new before = (
   ap (λ (l : List (Option Pointer)). length l) is ∙ length-append slots (x ∷ []) ∙ (let e = before.0 in omega arith),
-  λ k y e. ⊎_elim (λ o. before.1 k y o) (λ t. ap content (sym t.1) ∙ new ∙ ap (λ (j : ℕ). part j a) (sym (t.0 ∙ before.0))) (last_one slots x y k (subst (λ (l : List (Option Pointer)). get_elem? l k ≡ some y) is e)),
+  λ k y e. ⊎_elim (λ o. before.1 k y o)
+      (λ t. ap content (sym t.1) ∙ new ∙ ap (λ (j : ℕ). part j a) (sym (t.0 ∙ before.0)))
+      (last_one slots x y k (subst (λ (l : List (Option Pointer)). get_elem? l k ≡ some y) is e)),
 )
 
-dealing : (start : NumberSet) (n c : ℕ) (v : Sight) → v ≡ seat_for start n (newcomers c (n - c)) → c < n → v ≡ seat_for start n (newcomer c ∷ newcomers (suc c) (n - (c + 1)))
-dealing start n c v is l = is ∙ ap (λ (k : ℕ). let w : Sight = seat_for start n (newcomers c k) in w) (let e : n - c ≡ suc (n - (c + 1)) = omega arith in e)
+dealing : (start : NumberSet) (n c : ℕ) (v : Sight) → v ≡ seat_for start n (newcomers c (n - c)) → c < n
+    → v ≡ seat_for start n (newcomer c ∷ newcomers (suc c) (n - (c + 1)))
+dealing start n c v is l = is
+    ∙ ap (λ (k : ℕ). let w : Sight = seat_for start n (newcomers c k) in w)
+    (let e : n - c ≡ suc (n - (c + 1)) = omega arith in e)
 
-pub stands_new : (start : NumberSet) (n c : ℕ) (v : Sight) → v ≡ seat_for start n (newcomers c (n - c)) → c < n → StandsFor v.mine v.mine.number
-stands_new start n c v is l = subst (λ (w : Sight). StandsFor w.mine w.mine.number) (sym (dealing start n c v is l)) (let e = stood_same (List Command) (List Reply) c in omega arith)
+pub stands_new : (start : NumberSet) (n c : ℕ) (v : Sight) → v ≡ seat_for start n (newcomers c (n - c)) → c < n
+    → StandsFor v.mine v.mine.number
+stands_new start n c v is l =
+    subst (λ (w : Sight). StandsFor w.mine w.mine.number) (sym (dealing start n c v is l))
+    (let e = stood_same (List Command) (List Reply) c in omega arith)
 
-pub rest_new : (start : NumberSet) (n c : ℕ) (v w : Sight) → v ≡ seat_for start n (newcomers c (n - c)) → c < n → w ≡ rest_view v → w ≡ seat_for start n (newcomers (c + 1) (n - (c + 1)))
-rest_new start n c v w is l e = e ∙ ap (λ (x : Sight). rest_view x) (dealing start n c v is l) ∙ ap (λ (d : ℕ). let w : Sight = seat_for start n (newcomers d (n - (c + 1))) in w) (let e : suc c ≡ c + 1 = omega arith in e)
+pub rest_new : (start : NumberSet) (n c : ℕ) (v w : Sight) → v ≡ seat_for start n (newcomers c (n - c)) → c < n
+    → w ≡ rest_view v → w ≡ seat_for start n (newcomers (c + 1) (n - (c + 1)))
+rest_new start n c v w is l e = e ∙ ap (λ (x : Sight). rest_view x) (dealing start n c v is l)
+    ∙ ap (λ (d : ℕ). let w : Sight = seat_for start n (newcomers d (n - (c + 1))) in w)
+    (let e : suc c ≡ c + 1 = omega arith in e)
 
-new_client : (the : SharedMap) (n c : ℕ) (v : Sight) (d : Client) → n ≡ clients_of the → v ≡ seat_for (start_of the) n (newcomers c (n - c)) → c < n → d.seat.table_id ≡ the.table.shared.table_id → d.seat.me.0 ≡ first_alone v → d.seat.me.1 ≡ [] → d.number ≡ c → IsNewClient the c d
+new_client : (the : SharedMap) (n c : ℕ) (v : Sight) (d : Client) → n ≡ clients_of the
+    → v ≡ seat_for (start_of the) n (newcomers c (n - c)) → c < n → d.seat.table_id ≡ the.table.shared.table_id
+    → d.seat.me.0 ≡ first_alone v → d.seat.me.1 ≡ [] → d.number ≡ c → IsNewClient the c d
 new_client the n c v d count is l table view no_slot number =
-    let now : d.seat.me.0 ≡ first_alone (seat_for (start_of the) n (newcomer c ∷ newcomers (suc c) (n - (c + 1)))) = view ∙ ap (λ (x : Sight). first_alone x) (dealing (start_of the) n c v is l) in
+    let now : d.seat.me.0 ≡ first_alone (seat_for (start_of the) n (newcomer c ∷ newcomers (suc c) (n - (c + 1)))) =
+    view ∙ ap (λ (x : Sight). first_alone x) (dealing (start_of the) n c v is l) in
     record {
       of_map = record {
         table = table;
-        one = ((λ i. (now i).others), subst (λ (w : Sight). StandsFor w.mine w.mine.number) (sym now) (let e = stood_same (List Command) (List Reply) c in omega arith));
+        one = (
+          (λ i. (now i).others),
+          subst (λ (w : Sight). StandsFor w.mine w.mine.number) (sym now)
+              (let e = stood_same (List Command) (List Reply) c in omega arith),
+        );
         number = number ∙ sym (λ i. (now i).mine.number);
         no_slot = no_slot;
         no_part = λ i. (now i).holds;
@@ -73,19 +97,25 @@ new_client the n c v d count is l table view no_slot number =
       fresh = λ i. (now i).mine;
     }
 
-pub one_more : (the : SharedMap) (n c : ℕ) (v : Sight) (all after : List Client) (d : Client) → n ≡ clients_of the → v ≡ seat_for (start_of the) n (newcomers c (n - c)) → c < n → d.seat.table_id ≡ the.table.shared.table_id → d.seat.me.0 ≡ first_alone v → d.seat.me.1 ≡ [] → d.number ≡ c
+pub one_more : (the : SharedMap) (n c : ℕ) (v : Sight) (all after : List Client) (d : Client) → n ≡ clients_of the
+    → v ≡ seat_for (start_of the) n (newcomers c (n - c)) → c < n → d.seat.table_id ≡ the.table.shared.table_id
+    → d.seat.me.0 ≡ first_alone v → d.seat.me.1 ≡ [] → d.number ≡ c
     → after ≡ all ++ d ∷ [] → AreNewClients the all c → AreNewClients the after (c + 1)
 one_more the n c v all after d count is l table view no_slot number pushed before =
     let new = new_client the n c v d count is l table view no_slot number in
     let long = before.0 in (
       ap (λ (x : List Client). length x) pushed ∙ (let e = length-append all (d ∷ []) in omega arith),
       λ k z less. subst (λ (x : List Client). IsNewClient the k (get_or x k z)) (sym pushed) (dite (ℕ_discrete k c)
-          (λ same. subst (λ (x : ℕ × Client). IsNewClient the x.0 x.1) (λ i. (sym same i, sym (get_or_push all d z k (before.0 ∙ sym same)) i)) new)
-          (λ other. subst (λ (x : Client). IsNewClient the k x) (sym (get_or_append_left all (d ∷ []) z k (omega (arith, before.0, less, other)))) (before.1 k z (omega (arith, less, other))))),
+          (λ same. subst (λ (x : ℕ × Client). IsNewClient the x.0 x.1)
+          (λ i. (sym same i, sym (get_or_push all d z k (before.0 ∙ sym same)) i)) new)
+          (λ other. subst (λ (x : Client). IsNewClient the k x)
+          (sym (get_or_append_left all (d ∷ []) z k (omega (arith, before.0, less, other))))
+          (before.1 k z (omega (arith, less, other))))),
     )
 
 -- each new client is one of the map
-pub each_of_map : (the : SharedMap) (clients : List Client) (n : ℕ) → AreNewClients the clients n → All (λ c. IsClientOf the c) clients
+pub each_of_map : (the : SharedMap) (clients : List Client) (n : ℕ) → AreNewClients the clients n
+    → All (λ c. IsClientOf the c) clients
 each_of_map the [] n new = search rules
 each_of_map the (c ∷ cs) n new =
     All-from_get_or (λ d. IsClientOf the d) (c ∷ cs) c (λ i l. (new.1 i c (subst (λ k. i < k) new.0 l)).of_map)

@@ -12,18 +12,23 @@ use Rattle.moc_shared.specs.Private.Rule.{note, IsFree, IsHeld, Kept}
 use Rattle.moc_shared.proofs.Basics.{here, none_in}
 use Rattle.moc_shared.proofs.Apart.{stood_of, one_view}
 
-module _ {S X O R Y : Type 0} (n : ℕ) (content : S → Y) (part : ℕ → X → Y) (answer : X → O → X × R) (proper : X → Type 0) (start : X) (clients : ℕ) where
+module _ {S X O R Y : Type 0} (n : ℕ) (content : S → Y) (part : ℕ → X → Y) (answer : X → O → X × R)
+    (proper : X → Type 0) (start : X) (clients : ℕ) where
   abbrev V : Type 0
   V = View X O R Y
 
-  -- a legal history of calls of the clients, which the client's record fits, and after it each part whose word is 0; no word is another where the client stands for all
+  -- a legal history of calls of the clients, which the client's record fits, and after it each part whose word is 0;
+  -- no word is another where the client stands for all
   abbrev pub Ended_with : List ℕ → List S → V → Type 0
   Ended_with words xs v =
-      (log : List (Entry O R)) × IsLegal answer start log × ((e : Entry O R) → Contains log e → e.client < clients) × Fits log v.mine × proper (result answer start log)
-      × ((b : ℕ) (x : S) → b < n → slice_index words b ≡ 0 → get_elem? xs b ≡ some x → content x ≡ part b (result answer start log))
+      (log : List (Entry O R)) × IsLegal answer start log × ((e : Entry O R) → Contains log e → e.client < clients)
+      × Fits log v.mine × proper (result answer start log)
+      × ((b : ℕ) (x : S) → b < n → slice_index words b ≡ 0 → get_elem? xs b ≡ some x
+      → content x ≡ part b (result answer start log))
       × ((b : ℕ) → b < n → slice_index words b ≢ 0 → ((c : ℕ) → c < clients → StandsFor v.mine c) → ⊥)
 
-  pub closes : (words : List ℕ) (xs : List S) (id : ℕ) (v : V) → v.holds ≡ [] → Final (Seen (λ s. Kept n content part answer proper start clients s) id v) words xs → Ended_with words xs v
+  pub closes : (words : List ℕ) (xs : List S) (id : ℕ) (v : V) → v.holds ≡ []
+      → Final (Seen (λ s. Kept n content part answer proper start clients s) id v) words xs → Ended_with words xs v
   closes words xs id v idle (s, (k, at), same_words, long, values) =
       let A = result answer start k.log in (
         k.log,
@@ -32,10 +37,13 @@ module _ {S X O R Y : Type 0} (n : ℕ) (content : S → Y) (part : ℕ → X �
         ((k.each_view id v at).fits v.mine (here v.mine v.others)).0,
         k.whole,
         (λ b x l z e. let z' : slice_index s.words b ≡ 0 = ap (λ (w : List ℕ). slice_index w b) same_words ∙ z in ⊎_elim
-            (λ (f : IsFree content part A s.words s.homes b). let q : f.1.0 ≡ x = some-injective f.1.0 x (sym (values b f.1.0 f.1.1) ∙ e) in sym (ap content q) ∙ f.1.2)
-            (λ (h : IsHeld s.views b). let w = ((k.each_view h.0 h.1 h.3).holding b h.2 h.4).word_is in absurd (omega arith))
+            (λ (f : IsFree content part A s.words s.homes b). let q : f.1.0 ≡ x = some-injective f.1.0 x
+            (sym (values b f.1.0 f.1.1) ∙ e) in sym (ap content q) ∙ f.1.2)
+            (λ (h : IsHeld s.views b). let w = ((k.each_view h.0 h.1 h.3).holding b h.2 h.4).word_is in
+            absurd (omega arith))
             (k.each_part b l)),
-        (λ b l nz all. let nz' : slice_index s.words b ≢ 0 = (λ z. nz (sym (ap (λ (w : List ℕ). slice_index w b) same_words) ∙ z)) in ⊎_elim
+        (λ b l nz all. let nz' : slice_index s.words b ≢ 0 =
+            (λ z. nz (sym (ap (λ (w : List ℕ). slice_index w b) same_words) ∙ z)) in ⊎_elim
             (λ (f : IsFree content part A s.words s.homes b). absurd (nz' f.0))
             (λ (h : IsHeld s.views b).
             let u = h.1 in
@@ -46,7 +54,10 @@ module _ {S X O R Y : Type 0} (n : ℕ) (content : S → Y) (part : ℕ → X �
             let z = stood_of c u u.mine (here u.mine u.others) in
             let st = d.stands in
             let same : h.0 ≡ id = one_view c s.views id h.0 v u (k.alone c) at h.3 (omega arith) (omega arith) in
-            let one : u ≡ v = some-injective u v (sym h.3 ∙ subst (λ (j : ℕ). get_elem? s.views j ≡ some v) (sym same) at) in
-            none_in (note b h.2) (subst (λ (y : List (Note Y)). Contains y (note b h.2)) idle (subst (λ (y : V). Contains y.holds (note b h.2)) one h.4)))
+            let one : u ≡ v =
+            some-injective u v (sym h.3 ∙ subst (λ (j : ℕ). get_elem? s.views j ≡ some v) (sym same) at) in
+            none_in (note b h.2)
+            (subst (λ (y : List (Note Y)). Contains y (note b h.2)) idle
+            (subst (λ (y : V). Contains y.holds (note b h.2)) one h.4)))
             (k.each_part b l)),
       )

@@ -1,5 +1,7 @@
 -- Each step keeps the rule.
-use Rattle.std.proofs.Common.{◌≡◌, ◌≢◌, ◌⊎◌, ℕ, zero, suc, ◌+◌, ◌<◌, ◌≤◌, List, [], ◌∷◌, ◌++◌, map, length, set, refl, sym, ap, ◌∙◌, subst, inl, inr, ⊎_elim, arith, eq-eqb, ne_eqb, eqb, Bool, ◌-◌, fold, Contains, get_or-set_same, get_or-set_other}
+use Rattle.std.proofs.Common.{◌≡◌, ◌≢◌, ◌⊎◌, ℕ, zero, suc, ◌+◌, ◌<◌, ◌≤◌, List, [], ◌∷◌, ◌++◌, map, length, set, refl}
+use Rattle.std.proofs.Common.{sym, ap, ◌∙◌, subst, inl, inr, ⊎_elim, arith, eq-eqb, ne_eqb, eqb, Bool, ◌-◌, fold}
+use Rattle.std.proofs.Common.{Contains, get_or-set_same, get_or-set_other}
 use Rattle.std.specs.Prelude.{slice_index}
 use mathlib.Core.Option.{Option, none, some, some-ne-none, some-injective}
 use mathlib.Core.Logic.{dite}
@@ -17,12 +19,16 @@ use Rattle.moc_shared.specs.declared.record.Record.{Record}
 use Rattle.moc_shared.specs.declared.record.Note.{Note}
 use Rattle.moc_shared.specs.declared.record.View.{View}
 use Rattle.moc_shared.specs.History.{entry, Fits, StandsFor, stood, result, IsLegal}
-use Rattle.moc_shared.specs.Private.Rule.{note, records, Present, stood_in, IsFree, IsHeld, Holding, ViewFits, Kept, parts_of, Answers, IsOne}
-use Rattle.moc_shared.specs.Private.Plays.{with_part, with_miss, with_holds, with_entry, behind_first, Took, Gave, Ended, EndsCall, IsCarried}
-use Rattle.moc_shared.proofs.Basics.{here, there, none_in, only, cons_cases, sum_set_same, stands_by, stood_with_call, fits_longer, fits_with_call, starts_itself, result_with, legal_with}
+use Rattle.moc_shared.specs.Private.Rule.{note, records, Present, stood_in, IsFree, IsHeld, Holding, ViewFits, Kept}
+use Rattle.moc_shared.specs.Private.Rule.{parts_of, Answers, IsOne}
+use Rattle.moc_shared.specs.Private.Plays.{with_part, with_miss, with_holds, with_entry, behind_first, Took, Gave}
+use Rattle.moc_shared.specs.Private.Plays.{Ended, EndsCall, IsCarried}
+use Rattle.moc_shared.proofs.Basics.{here, there, none_in, only, cons_cases, sum_set_same, stands_by, stood_with_call}
+use Rattle.moc_shared.proofs.Basics.{fits_longer, fits_with_call, starts_itself, result_with, legal_with}
 use Rattle.moc_shared.proofs.Apart.{stood_of, one_view, one_record, present_cases}
 
-module _ {S X O R Y : Type 0} (n : ℕ) (content : S → Y) (part : ℕ → X → Y) (answer : X → O → X × R) (proper : X → Type 0) (start : X) (clients : ℕ) where
+module _ {S X O R Y : Type 0} (n : ℕ) (content : S → Y) (part : ℕ → X → Y) (answer : X → O → X × R)
+    (proper : X → Type 0) (start : X) (clients : ℕ) where
   abbrev V : Type 0
   V = View X O R Y
 
@@ -41,16 +47,19 @@ module _ {S X O R Y : Type 0} (n : ℕ) (content : S → Y) (part : ℕ → X �
       (r' : Record O R) → Contains (records w) r' → (r : Record O R) × Contains (records v) r
       × ((h b : ℕ) → Contains r.marks (h, b) → Contains r'.marks (h, b))
       × ((c : ℕ) → StandsFor r' c → StandsFor r c)
-      × ((h b : ℕ) → Contains r'.misses (h, b) → Contains r.misses (h, b) ⊎ ((q : Record O R) → Present views q → StandsFor q h → Contains q.marks (h, b)))
+      × ((h b : ℕ) → Contains r'.misses (h, b) → Contains r.misses (h, b)
+      ⊎ ((q : Record O R) → Present views q → StandsFor q h → Contains q.marks (h, b)))
 
   -- each record after the step, with the one that it was
   abbrev Was : List V → Record O R → Type 0
   Was views r' = (r : Record O R) × Present views r
       × ((h b : ℕ) → Contains r.marks (h, b) → Contains r'.marks (h, b))
       × ((c : ℕ) → StandsFor r' c → StandsFor r c)
-      × ((h b : ℕ) → Contains r'.misses (h, b) → Contains r.misses (h, b) ⊎ ((q : Record O R) → Present views q → StandsFor q h → Contains q.marks (h, b)))
+      × ((h b : ℕ) → Contains r'.misses (h, b) → Contains r.misses (h, b)
+      ⊎ ((q : Record O R) → Present views q → StandsFor q h → Contains q.marks (h, b)))
 
-  was : (views : List V) (id : ℕ) (v w : V) → get_elem? views id ≡ some v → Grows views v w → (r' : Record O R) → Present (set views id w) r' → Was views r'
+  was : (views : List V) (id : ℕ) (v w : V) → get_elem? views id ≡ some v → Grows views v w → (r' : Record O R)
+      → Present (set views id w) r' → Was views r'
   was views id v w at grows r' p =
       ⊎_elim
       (λ (h : Contains (records w) r'). let g = grows r' h in (g.0, (id, v, at, g.1), g.2, g.3, g.4))
@@ -87,7 +96,9 @@ module _ {S X O R Y : Type 0} (n : ℕ) (content : S → Y) (part : ℕ → X �
     missed = λ r q pr pq h b m st.
         let a = was s.views id v w at grows r pr in
         let z = was s.views id v w at grows q pq in
-        z.2 h b (⊎_elim (λ (x : Contains a.0.misses (h, b)). k.missed a.0 z.0 a.1 z.1 h b x (z.3 h st)) (λ (f : (y : Record O R) → Present s.views y → StandsFor y h → Contains y.marks (h, b)). f z.0 z.1 (z.3 h st)) (a.4 h b m));
+        z.2 h b (⊎_elim (λ (x : Contains a.0.misses (h, b)). k.missed a.0 z.0 a.1 z.1 h b x (z.3 h st))
+        (λ (f : (y : Record O R) → Present s.views y → StandsFor y h → Contains y.marks (h, b)). f z.0 z.1
+        (z.3 h st)) (a.4 h b m));
     alone = λ c. subst (λ (m : ℕ). m ≤ 1) (sym (sum_set_same (stood_in c) s.views id v w at (same c))) (k.alone c);
   }
 
@@ -95,7 +106,8 @@ module _ {S X O R Y : Type 0} (n : ℕ) (content : S → Y) (part : ℕ → X �
   abbrev Free_of : V → ℕ → Type 0
   Free_of v b = (b' : ℕ) (y : Y) → Contains v.holds (note b' y) → b' ≢ b
 
-  held_apart : (set_is : X) (words : List ℕ) (homes : List (Option S)) (u : V) (b x : ℕ) (h : Option S) (b' : ℕ) (y : Y) → Held set_is words homes u b' y → b' ≢ b → Held set_is (set words b x) (set homes b h) u b' y
+  held_apart : (set_is : X) (words : List ℕ) (homes : List (Option S)) (u : V) (b x : ℕ) (h : Option S) (b' : ℕ) (y : Y)
+      → Held set_is words homes u b' y → b' ≢ b → Held set_is (set words b x) (set homes b h) u b' y
   held_apart set_is words homes u b x h b' y k ne = record {
     within = k.within;
     word_is = get_or-set_other words b b' x 0 ne ∙ k.word_is;
@@ -105,7 +117,8 @@ module _ {S X O R Y : Type 0} (n : ℕ) (content : S → Y) (part : ℕ → X �
     stands = k.stands;
   }
 
-  fits_apart : (log : List (Entry O R)) (words : List ℕ) (homes : List (Option S)) (u : V) (b x : ℕ) (h : Option S) → FitsIn log words homes u → Free_of u b → FitsIn log (set words b x) (set homes b h) u
+  fits_apart : (log : List (Entry O R)) (words : List ℕ) (homes : List (Option S)) (u : V) (b x : ℕ) (h : Option S)
+      → FitsIn log words homes u → Free_of u b → FitsIn log (set words b x) (set homes b h) u
   fits_apart log words homes u b x h f apart = record {
     same_map = f.same_map;
     fits = f.fits;
@@ -113,8 +126,10 @@ module _ {S X O R Y : Type 0} (n : ℕ) (content : S → Y) (part : ℕ → X �
     holding = λ b' y i. held_apart (result answer start log) words homes u b x h b' y (f.holding b' y i) (apart b' y i);
   }
 
-  free_apart : (set_is : X) (words : List ℕ) (homes : List (Option S)) (b x : ℕ) (h : Option S) (b' : ℕ) → b' ≢ b → IsFree content part set_is words homes b' → IsFree content part set_is (set words b x) (set homes b h) b'
-  free_apart set_is words homes b x h b' ne f = (get_or-set_other words b b' x 0 ne ∙ f.0, (f.1.0, set_else homes b b' h ne ∙ f.1.1, f.1.2))
+  free_apart : (set_is : X) (words : List ℕ) (homes : List (Option S)) (b x : ℕ) (h : Option S) (b' : ℕ) → b' ≢ b
+      → IsFree content part set_is words homes b' → IsFree content part set_is (set words b x) (set homes b h) b'
+  free_apart set_is words homes b x h b' ne f =
+      (get_or-set_other words b b' x 0 ne ∙ f.0, (f.1.0, set_else homes b b' h ne ∙ f.1.1, f.1.2))
 
   at_new : (views : List V) (id : ℕ) (v w : V) → get_elem? views id ≡ some v → get_elem? (set views id w) id ≡ some w
   at_new [] id v w e = absurd (some-ne-none v (sym e))
@@ -122,9 +137,12 @@ module _ {S X O R Y : Type 0} (n : ℕ) (content : S → Y) (part : ℕ → X �
   at_new (x ∷ xs) (suc id) v w e = at_new xs id v w e
 
   -- a part that was held still is, where the new view holds what the old one held of it
-  still_held : (views : List V) (id : ℕ) (v w : V) (b : ℕ) → get_elem? views id ≡ some v → ((y : Y) → Contains v.holds (note b y) → (z : Y) × Contains w.holds (note b z)) → IsHeld views b → IsHeld (set views id w) b
+  still_held : (views : List V) (id : ℕ) (v w : V) (b : ℕ) → get_elem? views id ≡ some v
+      → ((y : Y) → Contains v.holds (note b y) → (z : Y) × Contains w.holds (note b z)) → IsHeld views b
+      → IsHeld (set views id w) b
   still_held views id v w b at keep (i, u, y, e, h) = dite (ℕ_discrete i id)
-      (λ same. let one : u ≡ v = some-injective u v (sym e ∙ subst (λ (k : ℕ). get_elem? views k ≡ some v) (sym same) at) in
+      (λ same. let one : u ≡ v = some-injective u v
+      (sym e ∙ subst (λ (k : ℕ). get_elem? views k ≡ some v) (sym same) at) in
       let z = keep y (subst (λ (x : V). Contains x.holds (note b y)) one h) in
       (id, w, z.0, at_new views id v w at, z.1))
       (λ other. (i, u, y, set_else views id i w other ∙ e, h))
@@ -133,26 +151,38 @@ module _ {S X O R Y : Type 0} (n : ℕ) (content : S → Y) (part : ℕ → X �
   only_mine v r alone h = only v.mine r (subst (λ (l : List (Record O R)). Contains (v.mine ∷ l) r) alone h)
 
   -- a record that has seen all is still there, where the new view's records have seen what the old one's had
-  still_shown : (s : State S V) (k : Rule s) (id : ℕ) (v w : V) → get_elem? s.views id ≡ some v → ((r : Record O R) → Contains (records v) r → (q : Record O R) × Contains (records w) q × (q.seen ≡ r.seen)) → (r : Record O R) × Present (set s.views id w) r × (r.seen ≡ k.log)
+  still_shown : (s : State S V) (k : Rule s) (id : ℕ) (v w : V) → get_elem? s.views id ≡ some v
+      → ((r : Record O R) → Contains (records v) r → (q : Record O R) × Contains (records w) q × (q.seen ≡ r.seen))
+      → (r : Record O R) × Present (set s.views id w) r × (r.seen ≡ k.log)
   still_shown s k id v w at keep = go k.shown.0 k.shown.1 k.shown.2
     where
-      go : (r : Record O R) → Present s.views r → r.seen ≡ k.log → (q : Record O R) × Present (set s.views id w) q × (q.seen ≡ k.log)
+      go : (r : Record O R) → Present s.views r → r.seen ≡ k.log → (q : Record O R) × Present (set s.views id w) q
+          × (q.seen ≡ k.log)
       go r (i, u, e, h) all = dite (ℕ_discrete i id)
-          (λ same. let one : u ≡ v = some-injective u v (sym e ∙ subst (λ (j : ℕ). get_elem? s.views j ≡ some v) (sym same) at) in
+          (λ same. let one : u ≡ v = some-injective u v
+          (sym e ∙ subst (λ (j : ℕ). get_elem? s.views j ≡ some v) (sym same) at) in
           let q = keep r (subst (λ (x : V). Contains (records x) r) one h) in
           (q.0, (id, w, at_new s.views id v w at, q.1), q.2 ∙ all))
           (λ other. (r, (i, u, set_else s.views id i w other ∙ e, h), all))
 
   -- the same for views of one record, which has seen as much
-  one_shown : (s : State S V) (k : Rule s) (id : ℕ) (v w : V) → get_elem? s.views id ≡ some v → v.others ≡ [] → w.mine.seen ≡ v.mine.seen → (r : Record O R) × Present (set s.views id w) r × (r.seen ≡ k.log)
-  one_shown s k id v w at alone same = still_shown s k id v w at (λ r h. (w.mine, here w.mine w.others, same ∙ ap (λ (q : Record O R). q.seen) (only_mine v r alone h)))
+  one_shown : (s : State S V) (k : Rule s) (id : ℕ) (v w : V) → get_elem? s.views id ≡ some v → v.others ≡ []
+      → w.mine.seen ≡ v.mine.seen → (r : Record O R) × Present (set s.views id w) r × (r.seen ≡ k.log)
+  one_shown s k id v w at alone same =
+      still_shown s k id v w at
+      (λ r h. (w.mine, here w.mine w.others, same ∙ ap (λ (q : Record O R). q.seen) (only_mine v r alone h)))
 
   -- the word of a part that is held is not 0
-  never_zero : (set_is : X) (words : List ℕ) (homes : List (Option S)) (u : V) (b b' : ℕ) (y : Y) → slice_index words b ≡ 0 → Held set_is words homes u b' y → b' ≢ b
-  never_zero set_is words homes u b b' y z k e = let w = k.word_is in let s : slice_index words b' ≡ slice_index words b = ap (λ (j : ℕ). slice_index words j) e in absurd (omega arith)
+  never_zero : (set_is : X) (words : List ℕ) (homes : List (Option S)) (u : V) (b b' : ℕ) (y : Y)
+      → slice_index words b ≡ 0 → Held set_is words homes u b' y → b' ≢ b
+  never_zero set_is words homes u b b' y z k e = let w = k.word_is in
+      let s : slice_index words b' ≡ slice_index words b = ap (λ (j : ℕ). slice_index words j) e in absurd (omega arith)
 
-  took_kept : (s : State S V) (k : Rule s) (id : ℕ) (v : V) (b : ℕ) (x : S) (mark : ℕ) → get_elem? s.views id ≡ some v → v.others ≡ [] → StandsFor v.mine v.mine.number → mark ≡ suc v.mine.number → b < n → slice_index s.words b ≡ 0 → get_elem? s.homes b ≡ some (some x) → content x ≡ part b (result answer start k.log)
-      → Rule record { words = set s.words b mark; homes = set s.homes b none; views = set s.views id (with_part v b (content x)) }
+  took_kept : (s : State S V) (k : Rule s) (id : ℕ) (v : V) (b : ℕ) (x : S) (mark : ℕ) → get_elem? s.views id ≡ some v
+      → v.others ≡ [] → StandsFor v.mine v.mine.number → mark ≡ suc v.mine.number → b < n → slice_index s.words b ≡ 0
+      → get_elem? s.homes b ≡ some (some x) → content x ≡ part b (result answer start k.log)
+      → Rule record
+      { words = set s.words b mark; homes = set s.homes b none; views = set s.views id (with_part v b (content x)) }
   took_kept s k id v b x mark at alone stands mark_is within zero_is home is =
       let w = with_part v b (content x) in
       let log = k.log in
@@ -168,33 +198,71 @@ module _ {S X O R Y : Type 0} (n : ℕ) (content : S → Y) (part : ℕ → X �
         marked = here (v.mine.number, b) v.mine.marks;
         stands = stands;
       } in
-      let older = λ (b' : ℕ) (y : Y) (h : Contains v.holds (note b' y)). let o = old.holding b' y h in let m : Held A (set s.words b mark) (set s.homes b none) v b' y = held_apart A s.words s.homes v b mark none b' y o (never_zero A s.words s.homes v b b' y zero_is o) in m in
-      one_moved s k id v w at (set s.words b mark) (set s.homes b none) log k.legal (one_shown s k id v w at alone refl) k.whole k.named (length-set s.words b mark ∙ wide) (length-set s.homes b none ∙ deep)
+      let older = λ (b' : ℕ) (y : Y) (h : Contains v.holds (note b' y)). let o = old.holding b' y h in
+      let m : Held A (set s.words b mark) (set s.homes b none) v b' y =
+      held_apart A s.words s.homes v b mark none b' y o (never_zero A s.words s.homes v b b' y zero_is o) in m in
+      one_moved s k id v w at (set s.words b mark) (set s.homes b none) log k.legal (one_shown s k id v w at alone refl)
+      k.whole k.named (length-set s.words b mark ∙ wide) (length-set s.homes b none ∙ deep)
       (λ b' l. dite (ℕ_discrete b' b)
-      (λ e. inr (id, w, content x, at_new s.views id v w at, subst (λ (j : ℕ). Contains w.holds (note j (content x))) (sym e) (here (note b (content x)) v.holds)))
-      (λ ne. ⊎_elim (λ f. inl (free_apart A s.words s.homes b mark none b' ne f)) (λ h. inr (still_held s.views id v w b' at (λ y c. (y, there (note b (content x)) v.holds (note b' y) c)) h)) (k.each_part b' l)))
+      (λ e. inr (
+        id,
+        w,
+        content x,
+        at_new s.views id v w at,
+        subst (λ (j : ℕ). Contains w.holds (note j (content x))) (sym e)
+            (here (note b (content x)) v.holds),
+      ))
+      (λ ne. ⊎_elim (λ f. inl (free_apart A s.words s.homes b mark none b' ne f))
+      (λ h. inr (still_held s.views id v w b' at (λ y c. (y, there (note b (content x)) v.holds (note b' y) c)) h))
+      (k.each_part b' l)))
       record {
         same_map = old.same_map;
-        fits = λ r h. subst (λ (q : Record O R). Fits log q × Fits q.seen q) (only_mine w r alone h) (old.fits v.mine (here v.mine v.others));
-        known = λ r h c st. old.known v.mine (here v.mine v.others) c (subst (λ (q : Record O R). StandsFor q c) (sym (only_mine w r alone h)) st);
+        fits = λ r h. subst (λ (q : Record O R). Fits log q × Fits q.seen q) (only_mine w r alone h)
+            (old.fits v.mine (here v.mine v.others));
+        known = λ r h c st. old.known v.mine (here v.mine v.others) c
+            (subst (λ (q : Record O R). StandsFor q c) (sym (only_mine w r alone h)) st);
         holding = λ b' y h. ⊎_elim
-            (λ (e : note b (content x) ≡ note b' y). subst (λ (t : Note Y). Held A (set s.words b mark) (set s.homes b none) w t.part t.content) e new)
-            (λ (c : Contains v.holds (note b' y)). let m = older b' y c in record { within = m.within; word_is = m.word_is; out = m.out; noted = m.noted; marked = there (v.mine.number, b) v.mine.marks (v.mine.number, b') m.marked; stands = m.stands })
+            (λ (e : note b (content x) ≡ note b' y). subst
+            (λ (t : Note Y). Held A (set s.words b mark) (set s.homes b none) w t.part t.content) e new)
+            (λ (c : Contains v.holds (note b' y)). let m = older b' y c in
+            record {
+              within = m.within;
+              word_is = m.word_is;
+              out = m.out;
+              noted = m.noted;
+              marked = there (v.mine.number, b) v.mine.marks (v.mine.number, b') m.marked;
+              stands = m.stands;
+            })
             (cons_cases (note b (content x)) v.holds (note b' y) h);
       }
-      (λ j u ne e. let f = k.each_view j u e in fits_apart log s.words s.homes u b mark none f (λ b' y h. never_zero A s.words s.homes u b b' y zero_is (f.holding b' y h)))
-      (λ r h. (v.mine, here v.mine v.others, (λ g d m. subst (λ (q : Record O R). Contains q.marks (g, d)) (only_mine w r alone h) (there (v.mine.number, b) v.mine.marks (g, d) m)), (λ c st. subst (λ (q : Record O R). StandsFor q c) (sym (only_mine w r alone h)) st), (λ g d m. inl (subst (λ (q : Record O R). Contains q.misses (g, d)) (sym (only_mine w r alone h)) m))))
+      (λ j u ne e. let f = k.each_view j u e in
+      fits_apart log s.words s.homes u b mark none f
+      (λ b' y h. never_zero A s.words s.homes u b b' y zero_is (f.holding b' y h)))
+      (λ r h. (
+        v.mine,
+        here v.mine v.others,
+        (λ g d m. subst (λ (q : Record O R). Contains q.marks (g, d)) (only_mine w r alone h)
+            (there (v.mine.number, b) v.mine.marks (g, d) m)),
+        (λ c st. subst (λ (q : Record O R). StandsFor q c) (sym (only_mine w r alone h)) st),
+        (λ g d m. inl (subst (λ (q : Record O R). Contains q.misses (g, d)) (sym (only_mine w r alone h)) m)),
+      ))
       (λ c. refl)
 
   -- who holds a part
-  holder : (s : State S V) (k : Rule s) (b h : ℕ) → b < n → slice_index s.words b ≡ suc h → (i : ℕ) × (u : V) × (y : Y) × (get_elem? s.views i ≡ some u) × Contains u.holds (note b y) × (h ≡ u.mine.number) × Held (result answer start k.log) s.words s.homes u b y
+  holder : (s : State S V) (k : Rule s) (b h : ℕ) → b < n → slice_index s.words b ≡ suc h → (i : ℕ) × (u : V) × (y : Y)
+      × (get_elem? s.views i ≡ some u) × Contains u.holds (note b y) × (h ≡ u.mine.number)
+      × Held (result answer start k.log) s.words s.homes u b y
   holder s k b h within is = ⊎_elim
       (λ (f : IsFree content part (result answer start k.log) s.words s.homes b). let z = f.0 in absurd (omega arith))
-      (λ (t : IsHeld s.views b). let d = (k.each_view t.0 t.1 t.3).holding b t.2 t.4 in let w = d.word_is in (t.0, t.1, t.2, t.3, t.4, omega arith, d))
+      (λ (t : IsHeld s.views b). let d = (k.each_view t.0 t.1 t.3).holding b t.2 t.4 in let w = d.word_is in
+      (t.0, t.1, t.2, t.3, t.4, omega arith, d))
       (k.each_part b within)
 
-  missed_kept : (s : State S V) (k : Rule s) (id : ℕ) (v : V) (b h : ℕ) → get_elem? s.views id ≡ some v → v.others ≡ [] → b < n → slice_index s.words b ≡ suc h → ((y : Y) → ¬ Contains v.holds (note b y))
-      → Rule record { words = set s.words b (slice_index s.words b); homes = s.homes; views = set s.views id (with_miss v h b) } × (h < clients) × ¬ StandsFor v.mine h
+  missed_kept : (s : State S V) (k : Rule s) (id : ℕ) (v : V) (b h : ℕ) → get_elem? s.views id ≡ some v → v.others ≡ []
+      → b < n → slice_index s.words b ≡ suc h → ((y : Y) → ¬ Contains v.holds (note b y))
+      → Rule record
+      { words = set s.words b (slice_index s.words b); homes = s.homes; views = set s.views id (with_miss v h b) }
+      × (h < clients) × ¬ StandsFor v.mine h
   missed_kept s k id v b h at alone within is apart =
       let w = with_miss v h b in
       let log = k.log in
@@ -204,7 +272,8 @@ module _ {S X O R Y : Type 0} (n : ℕ) (content : S → Y) (part : ℕ → X �
       let u = o.1 in
       let stands : StandsFor u.mine h = subst (λ (c : ℕ). StandsFor u.mine c) (sym o.5) o.6.stands in
       let there_stands : Present s.views u.mine = (o.0, u, o.3, here u.mine u.others) in
-      let marked : Contains u.mine.marks (h, b) = subst (λ (c : ℕ). Contains u.mine.marks (c, b)) (sym o.5) o.6.marked in
+      let marked : Contains u.mine.marks (h, b) =
+      subst (λ (c : ℕ). Contains u.mine.marks (c, b)) (sym o.5) o.6.marked in
       let not_mine : StandsFor v.mine h → ⊥ = λ st.
       let a = stood_of h v v.mine (here v.mine v.others) in
       let z = stood_of h u u.mine (here u.mine u.others) in
@@ -213,13 +282,25 @@ module _ {S X O R Y : Type 0} (n : ℕ) (content : S → Y) (part : ℕ → X �
       apart o.2 (subst (λ (x : V). Contains x.holds (note b o.2)) one o.4) in
       let still : set s.words b (slice_index s.words b) ≡ s.words = set-get_or s.words b 0 in (
         subst (λ (l : List ℕ). Rule record { words = l; homes = s.homes; views = set s.views id w }) (sym still)
-            (one_moved s k id v w at s.words s.homes log k.legal (one_shown s k id v w at alone refl) k.whole k.named k.wide k.deep
-            (λ b' l. ⊎_elim (λ f. inl f) (λ g. inr (still_held s.views id v w b' at (λ y c. (y, c)) g)) (k.each_part b' l))
+            (one_moved s k id v w at s.words s.homes log k.legal (one_shown s k id v w at alone refl) k.whole k.named
+            k.wide k.deep
+            (λ b' l. ⊎_elim (λ f. inl f) (λ g. inr (still_held s.views id v w b' at (λ y c. (y, c)) g))
+            (k.each_part b' l))
             record {
               same_map = old.same_map;
-              fits = λ r g. subst (λ (q : Record O R). Fits log q × Fits q.seen q) (only_mine w r alone g) (old.fits v.mine (here v.mine v.others));
-              known = λ r g c st. old.known v.mine (here v.mine v.others) c (subst (λ (q : Record O R). StandsFor q c) (sym (only_mine w r alone g)) st);
-              holding = λ b' y g. let m = old.holding b' y g in record { within = m.within; word_is = m.word_is; out = m.out; noted = m.noted; marked = m.marked; stands = m.stands };
+              fits = λ r g. subst (λ (q : Record O R). Fits log q × Fits q.seen q) (only_mine w r alone g)
+                  (old.fits v.mine (here v.mine v.others));
+              known = λ r g c st. old.known v.mine (here v.mine v.others) c
+                  (subst (λ (q : Record O R). StandsFor q c) (sym (only_mine w r alone g)) st);
+              holding = λ b' y g. let m = old.holding b' y g in
+                  record {
+                    within = m.within;
+                    word_is = m.word_is;
+                    out = m.out;
+                    noted = m.noted;
+                    marked = m.marked;
+                    stands = m.stands;
+                  };
             }
             (λ j x ne e. k.each_view j x e)
             (λ r g. (
@@ -228,9 +309,14 @@ module _ {S X O R Y : Type 0} (n : ℕ) (content : S → Y) (part : ℕ → X �
               (λ c d m. subst (λ (q : Record O R). Contains q.marks (c, d)) (only_mine w r alone g) m),
               (λ c st. subst (λ (q : Record O R). StandsFor q c) (sym (only_mine w r alone g)) st),
               (λ c d m. ⊎_elim
-                  (λ (e : (h, b) ≡ (c, d)). inr (λ q p st. subst (λ (z : ℕ × ℕ). Contains q.marks (z.0, z.1)) e (subst (λ (z : Record O R). Contains z.marks (h, b)) (one_record h s.views u.mine q (k.alone h) there_stands p stands (subst (λ (z : ℕ × ℕ). StandsFor q z.0) (sym e) st)) marked)))
+                  (λ (e : (h, b) ≡ (c, d)). inr
+                  (λ q p st. subst (λ (z : ℕ × ℕ). Contains q.marks (z.0, z.1)) e
+                  (subst (λ (z : Record O R). Contains z.marks (h, b))
+                  (one_record h s.views u.mine q (k.alone h) there_stands p stands
+                  (subst (λ (z : ℕ × ℕ). StandsFor q z.0) (sym e) st)) marked)))
                   (λ (t : Contains v.mine.misses (c, d)). inl t)
-                  (cons_cases (h, b) v.mine.misses (c, d) (subst (λ (q : Record O R). Contains q.misses (c, d)) (sym (only_mine w r alone g)) m))),
+                  (cons_cases (h, b) v.mine.misses (c, d)
+                  (subst (λ (q : Record O R). Contains q.misses (c, d)) (sym (only_mine w r alone g)) m))),
             ))
             (λ c. refl)),
         (k.each_view o.0 u o.3).known u.mine (here u.mine u.others) h stands,
@@ -238,7 +324,8 @@ module _ {S X O R Y : Type 0} (n : ℕ) (content : S → Y) (part : ℕ → X �
       )
 
   -- two views do not hold one part
-  not_both : (s : State S V) (k : Rule s) (id j : ℕ) (v u : V) (b : ℕ) (y z : Y) → get_elem? s.views id ≡ some v → get_elem? s.views j ≡ some u → j ≢ id → Contains v.holds (note b y) → Contains u.holds (note b z) → ⊥
+  not_both : (s : State S V) (k : Rule s) (id j : ℕ) (v u : V) (b : ℕ) (y z : Y) → get_elem? s.views id ≡ some v
+      → get_elem? s.views j ≡ some u → j ≢ id → Contains v.holds (note b y) → Contains u.holds (note b z) → ⊥
   not_both s k id j v u b y z at e ne hv hu =
       let dv = (k.each_view id v at).holding b y hv in
       let du = (k.each_view j u e).holding b z hu in
@@ -252,8 +339,11 @@ module _ {S X O R Y : Type 0} (n : ℕ) (content : S → Y) (part : ℕ → X �
       let pu = stood_of c u u.mine (here u.mine u.others) in
       ne (one_view c s.views id j v u (k.alone c) at e (omega arith) (omega arith))
 
-  gave_kept : (s : State S V) (k : Rule s) (id : ℕ) (v : V) (b : ℕ) (x : S) (notes : List (Note Y)) → get_elem? s.views id ≡ some v → v.others ≡ [] → v.holds ≡ note b (content x) ∷ notes → ((y : Y) → ¬ Contains notes (note b y))
-      → Rule record { words = set s.words b 0; homes = set s.homes b (some x); views = set s.views id (with_holds v notes) }
+  gave_kept : (s : State S V) (k : Rule s) (id : ℕ) (v : V) (b : ℕ) (x : S) (notes : List (Note Y))
+      → get_elem? s.views id ≡ some v → v.others ≡ [] → v.holds ≡ note b (content x) ∷ notes
+      → ((y : Y) → ¬ Contains notes (note b y))
+      → Rule record
+      { words = set s.words b 0; homes = set s.homes b (some x); views = set s.views id (with_holds v notes) }
   gave_kept s k id v b x notes at alone held apart =
       let w = with_holds v notes in
       let log = k.log in
@@ -261,32 +351,56 @@ module _ {S X O R Y : Type 0} (n : ℕ) (content : S → Y) (part : ℕ → X �
       let old = k.each_view id v at in
       let wide = k.wide in
       let deep = k.deep in
-      let in_old = λ (t : Note Y) (h : Contains notes t). subst (λ (l : List (Note Y)). Contains l t) (sym held) (there (note b (content x)) notes t h) in
-      let had : Contains v.holds (note b (content x)) = subst (λ (l : List (Note Y)). Contains l (note b (content x))) (sym held) (here (note b (content x)) notes) in
+      let in_old =
+      λ (t : Note Y) (h : Contains notes t). subst (λ (l : List (Note Y)). Contains l t) (sym held)
+      (there (note b (content x)) notes t h) in
+      let had : Contains v.holds (note b (content x)) =
+      subst (λ (l : List (Note Y)). Contains l (note b (content x))) (sym held) (here (note b (content x)) notes) in
       let now = old.holding b (content x) had in
       let within = now.within in
-      let others_apart = λ (b' : ℕ) (y : Y) (h : Contains notes (note b' y)). let m : b' ≢ b = (λ e. apart y (subst (λ (j : ℕ). Contains notes (note j y)) e h)) in m in
-      one_moved s k id v w at (set s.words b 0) (set s.homes b (some x)) log k.legal (one_shown s k id v w at alone refl) k.whole k.named (length-set s.words b 0 ∙ wide) (length-set s.homes b (some x) ∙ deep)
+      let others_apart = λ (b' : ℕ) (y : Y) (h : Contains notes (note b' y)). let m : b' ≢ b =
+      (λ e. apart y (subst (λ (j : ℕ). Contains notes (note j y)) e h)) in m in
+      one_moved s k id v w at (set s.words b 0) (set s.homes b (some x)) log k.legal
+      (one_shown s k id v w at alone refl) k.whole k.named (length-set s.words b 0 ∙ wide)
+      (length-set s.homes b (some x) ∙ deep)
       (λ b' l. dite (ℕ_discrete b' b)
-      (λ e. inl (subst (λ (j : ℕ). IsFree content part A (set s.words b 0) (set s.homes b (some x)) j) (sym e) (get_or-set_same s.words b 0 0 (omega arith), (x, set_here s.homes b (some x) (omega arith), now.noted))))
+      (λ e. inl
+      (subst (λ (j : ℕ). IsFree content part A (set s.words b 0) (set s.homes b (some x)) j) (sym e)
+      (get_or-set_same s.words b 0 0 (omega arith), (x, set_here s.homes b (some x) (omega arith), now.noted))))
       (λ ne. ⊎_elim (λ f. inl (free_apart A s.words s.homes b 0 (some x) b' ne f))
       (λ h. inr (still_held s.views id v w b' at
-      (λ y c. ⊎_elim (λ (e : note b (content x) ≡ note b' y). absurd (ne (sym (ap (λ (t : Note Y). t.part) e)))) (λ (t : Contains notes (note b' y)). (y, t)) (cons_cases (note b (content x)) notes (note b' y) (subst (λ (l : List (Note Y)). Contains l (note b' y)) held c))) h))
+      (λ y c. ⊎_elim (λ (e : note b (content x) ≡ note b' y). absurd (ne (sym (ap (λ (t : Note Y). t.part) e))))
+      (λ (t : Contains notes (note b' y)). (y, t))
+      (cons_cases (note b (content x)) notes (note b' y)
+      (subst (λ (l : List (Note Y)). Contains l (note b' y)) held c))) h))
       (k.each_part b' l)))
       record {
         same_map = old.same_map;
         fits = old.fits;
         known = old.known;
-        holding = λ b' y h. let m = held_apart A s.words s.homes v b 0 (some x) b' y (old.holding b' y (in_old (note b' y) h)) (others_apart b' y h) in record { within = m.within; word_is = m.word_is; out = m.out; noted = m.noted; marked = m.marked; stands = m.stands };
+        holding = λ b' y h. let m =
+            held_apart A s.words s.homes v b 0 (some x) b' y (old.holding b' y (in_old (note b' y) h))
+            (others_apart b' y h) in
+            record {
+              within = m.within;
+              word_is = m.word_is;
+              out = m.out;
+              noted = m.noted;
+              marked = m.marked;
+              stands = m.stands;
+            };
       }
-      (λ j u ne e. fits_apart log s.words s.homes u b 0 (some x) (k.each_view j u e) (λ b' y h same. not_both s k id j v u b (content x) y at e ne had (subst (λ (i : ℕ). Contains u.holds (note i y)) same h)))
+      (λ j u ne e. fits_apart log s.words s.homes u b 0 (some x) (k.each_view j u e)
+      (λ b' y h same. not_both s k id j v u b (content x) y at e ne had
+      (subst (λ (i : ℕ). Contains u.holds (note i y)) same h)))
       (λ r h. (r, h, (λ g d m. m), (λ c st. st), (λ g d m. inl m)))
       (λ c. refl)
 
   part_in : (ts : List (Note Y)) (b : ℕ) (y : Y) → Contains ts (note b y) → Contains (parts_of ts) b
   part_in [] b y h = absurd (none_in (note b y) h)
   part_in (t ∷ ts) b y h = ⊎_elim
-      (λ (e : t ≡ note b y). subst (λ (c : ℕ). Contains (parts_of (t ∷ ts)) c) (ap (λ (z : Note Y). z.part) e) (here t.part (parts_of ts)))
+      (λ (e : t ≡ note b y). subst (λ (c : ℕ). Contains (parts_of (t ∷ ts)) c) (ap (λ (z : Note Y). z.part) e)
+      (here t.part (parts_of ts)))
       (λ (c : Contains ts (note b y)). there t.part (parts_of ts) b (part_in ts b y c))
       (cons_cases t ts (note b y) h)
 
@@ -297,9 +411,15 @@ module _ {S X O R Y : Type 0} (n : ℕ) (content : S → Y) (part : ℕ → X �
       (λ (c : Contains (parts_of ts) b). let r = note_in ts b c in (r.0, there t ts (note b r.0) r.1))
       (cons_cases t.part (parts_of ts) b h)
 
-  ended_kept : (s : State S V) (k : Rule s) (id : ℕ) (v : V) (b : ℕ) (x : S) (notes : List (Note Y)) (op : O) (reply : R) → get_elem? s.views id ≡ some v → v.others ≡ [] → StandsFor v.mine v.mine.number
-      → parts_of v.holds ≡ b ∷ parts_of notes → ¬ Contains (parts_of notes) b → Answers part answer proper op reply v.holds (note b (content x) ∷ notes)
-      → Rule record { words = set s.words b 0; homes = set s.homes b (some x); views = set s.views id (with_entry v k.log (entry v.mine.number op reply) notes) }
+  ended_kept : (s : State S V) (k : Rule s) (id : ℕ) (v : V) (b : ℕ) (x : S) (notes : List (Note Y)) (op : O)
+      (reply : R) → get_elem? s.views id ≡ some v → v.others ≡ [] → StandsFor v.mine v.mine.number
+      → parts_of v.holds ≡ b ∷ parts_of notes → ¬ Contains (parts_of notes) b
+      → Answers part answer proper op reply v.holds (note b (content x) ∷ notes)
+      → Rule record {
+        words = set s.words b 0;
+        homes = set s.homes b (some x);
+        views = set s.views id (with_entry v k.log (entry v.mine.number op reply) notes);
+      }
   ended_kept s k id v b x notes op reply at alone stands same_parts apart done =
       let e : Entry O R = entry v.mine.number op reply in
       let log = k.log in
@@ -311,49 +431,103 @@ module _ {S X O R Y : Type 0} (n : ℕ) (content : S → Y) (part : ℕ → X �
       let deep = k.deep in
       let did = done A k.whole (λ c y h. (old.holding c y h).noted) in
       let set_is : result answer start log' ≡ (answer A op).0 = result_with answer start log e in
-      let in_old = λ (c : ℕ) (h : Contains (b ∷ parts_of notes) c). let r : (y : Y) × Contains v.holds (note c y) = note_in v.holds c (subst (λ (l : List ℕ). Contains l c) (sym same_parts) h) in r in
-      let in_new = λ (c : ℕ) (y : Y) (h : Contains v.holds (note c y)). let r : Contains (b ∷ parts_of notes) c = subst (λ (l : List ℕ). Contains l c) same_parts (part_in v.holds c y h) in r in
+      let in_old = λ (c : ℕ) (h : Contains (b ∷ parts_of notes) c). let r : (y : Y) × Contains v.holds (note c y) =
+      note_in v.holds c (subst (λ (l : List ℕ). Contains l c) (sym same_parts) h) in r in
+      let in_new = λ (c : ℕ) (y : Y) (h : Contains v.holds (note c y)). let r : Contains (b ∷ parts_of notes) c =
+      subst (λ (l : List ℕ). Contains l c) same_parts (part_in v.holds c y h) in r in
       let had = in_old b (here b (parts_of notes)) in
       let now = old.holding b had.0 had.1 in
       let within = now.within in
-      let unheld = λ (c : ℕ) (z : slice_index s.words c ≡ 0). let r : ¬ Contains (parts_of v.holds) c = (λ h. let q = note_in v.holds c h in let d = (old.holding c q.0 q.1).word_is in absurd (omega arith)) in r in
+      let unheld = λ (c : ℕ) (z : slice_index s.words c ≡ 0). let r : ¬ Contains (parts_of v.holds) c =
+      (λ h. let q = note_in v.holds c h in let d = (old.holding c q.0 q.1).word_is in absurd (omega arith)) in r in
       one_moved s k id v w at (set s.words b 0) (set s.homes b (some x)) log'
       (legal_with answer start log e k.legal (sym did.0))
       (w.mine, (id, w, at_new s.views id v w at, here w.mine w.others), refl)
       (subst proper (sym set_is) did.3)
-      (λ q h. ⊎_elim (λ (o : Contains log q). k.named q o) (λ (t : e ≡ q). subst (λ (z : Entry O R). z.client < clients) t (old.known v.mine (here v.mine v.others) v.mine.number stands)) (Contains-push_cases log e q h))
+      (λ q h. ⊎_elim (λ (o : Contains log q). k.named q o)
+      (λ (t : e ≡ q). subst (λ (z : Entry O R). z.client < clients) t
+      (old.known v.mine (here v.mine v.others) v.mine.number stands)) (Contains-push_cases log e q h))
       (length-set s.words b 0 ∙ wide) (length-set s.homes b (some x) ∙ deep)
-      (λ c l. subst (λ (a : X). IsFree content part a (set s.words b 0) (set s.homes b (some x)) c ⊎ IsHeld (set s.views id w) c) (sym set_is) (dite (ℕ_discrete c b)
-      (λ q. inl (subst (λ (j : ℕ). IsFree content part (answer A op).0 (set s.words b 0) (set s.homes b (some x)) j) (sym q) (get_or-set_same s.words b 0 0 (omega arith), (x, set_here s.homes b (some x) (omega arith), did.1 b (content x) (here (note b (content x)) notes)))))
+      (λ c l. subst
+      (λ (a : X). IsFree content part a (set s.words b 0) (set s.homes b (some x)) c ⊎ IsHeld (set s.views id w) c)
+      (sym set_is) (dite (ℕ_discrete c b)
+      (λ q. inl
+      (subst (λ (j : ℕ). IsFree content part (answer A op).0 (set s.words b 0) (set s.homes b (some x)) j) (sym q) (
+        get_or-set_same s.words b 0 0 (omega arith),
+        (x, set_here s.homes b (some x) (omega arith), did.1 b (content x) (here (note b (content x)) notes)),
+      )))
       (λ ne. ⊎_elim
-      (λ (f : IsFree content part A s.words s.homes c). let g = free_apart A s.words s.homes b 0 (some x) c ne f in inl (g.0, (g.1.0, g.1.1, g.1.2 ∙ sym (did.2 c (unheld c f.0)))))
+      (λ (f : IsFree content part A s.words s.homes c). let g = free_apart A s.words s.homes b 0 (some x) c ne f in
+      inl (g.0, (g.1.0, g.1.1, g.1.2 ∙ sym (did.2 c (unheld c f.0)))))
       (λ (h : IsHeld s.views c). inr (still_held s.views id v w c at
-      (λ y i. ⊎_elim (λ (q : b ≡ c). absurd (ne (sym q))) (λ (t : Contains (parts_of notes) c). note_in notes c t) (cons_cases b (parts_of notes) c (in_new c y i))) h))
+      (λ y i. ⊎_elim (λ (q : b ≡ c). absurd (ne (sym q))) (λ (t : Contains (parts_of notes) c). note_in notes c t)
+      (cons_cases b (parts_of notes) c (in_new c y i))) h))
       (k.each_part c l))))
       record {
         same_map = λ c p. old.same_map c (subst (λ (m : ℕ). 0 < m) (same_sums c) p);
-        fits = λ r h. subst (λ (q : Record O R). Fits log' q × Fits q.seen q) (only_mine w r alone h) (let f : Fits log' w.mine = fits_with_call log e v.mine w.mine refl (starts_itself log') (old.fits v.mine (here v.mine v.others)).0 in (f, f));
-        known = λ r h c st. old.known v.mine (here v.mine v.others) c (subst (λ (m : ℕ). 0 < m) (stood_with_call e v.mine log' c) (subst (λ (q : Record O R). StandsFor q c) (sym (only_mine w r alone h)) st));
+        fits = λ r h. subst (λ (q : Record O R). Fits log' q × Fits q.seen q) (only_mine w r alone h)
+            (let f : Fits log' w.mine = fits_with_call log e v.mine w.mine refl (starts_itself log')
+            (old.fits v.mine (here v.mine v.others)).0 in (f, f));
+        known = λ r h c st. old.known v.mine (here v.mine v.others) c
+            (subst (λ (m : ℕ). 0 < m) (stood_with_call e v.mine log' c)
+            (subst (λ (q : Record O R). StandsFor q c) (sym (only_mine w r alone h)) st));
         holding = λ c y h.
             let i : Contains (parts_of notes) c = part_in notes c y h in
             let z = in_old c (there b (parts_of notes) c i) in
-            let m = held_apart A s.words s.homes v b 0 (some x) c z.0 (old.holding c z.0 z.1) (λ q. apart (subst (λ (j : ℕ). Contains (parts_of notes) j) q i)) in
-            record { within = m.within; word_is = m.word_is; out = m.out; noted = did.1 c y (there (note b (content x)) notes (note c y) h) ∙ ap (part c) (sym set_is); marked = m.marked; stands = subst (λ (j : ℕ). 0 < j) (sym (stood_with_call e v.mine log' v.mine.number)) m.stands };
+            let m = held_apart A s.words s.homes v b 0 (some x) c z.0 (old.holding c z.0 z.1)
+            (λ q. apart (subst (λ (j : ℕ). Contains (parts_of notes) j) q i)) in
+            record {
+              within = m.within;
+              word_is = m.word_is;
+              out = m.out;
+              noted = did.1 c y (there (note b (content x)) notes (note c y) h) ∙ ap (part c) (sym set_is);
+              marked =
+                  m.marked;
+              stands =
+                  subst (λ (j : ℕ). 0 < j) (sym (stood_with_call e v.mine log' v.mine.number)) m.stands;
+            };
       }
       (λ j u ne q.
       let f = k.each_view j u q in
-      let g = fits_apart log s.words s.homes u b 0 (some x) f (λ c y h same. not_both s k id j v u b had.0 y at q ne had.1 (subst (λ (i : ℕ). Contains u.holds (note i y)) same h)) in
+      let g = fits_apart log s.words s.homes u b 0 (some x) f
+      (λ c y h same. not_both s k id j v u b had.0 y at q ne had.1
+      (subst (λ (i : ℕ). Contains u.holds (note i y)) same h)) in
       record {
         same_map = f.same_map;
-        fits = λ r h. let o = f.fits r h in (fits_longer log e r (λ d i same. let st : StandsFor r v.mine.number = subst (λ (c : ℕ). StandsFor r c) same (stands_by r d i) in let a = stood_of v.mine.number u r h in let z = stood_of v.mine.number v v.mine (here v.mine v.others) in ne (one_view v.mine.number s.views id j v u (k.alone v.mine.number) at q (omega arith) (omega arith))) o.0, o.1);
+        fits = λ r h. let o = f.fits r h in (
+          fits_longer log e r
+              (λ d i same. let st : StandsFor r v.mine.number = subst (λ (c : ℕ). StandsFor r c) same (stands_by r d i) in
+              let a = stood_of v.mine.number u r h in let z = stood_of v.mine.number v v.mine (here v.mine v.others) in
+              ne (one_view v.mine.number s.views id j v u (k.alone v.mine.number) at q (omega arith) (omega arith))) o.0,
+          o.1,
+        );
         known = f.known;
-        holding = λ c y h. let m = g.holding c y h in record { within = m.within; word_is = m.word_is; out = m.out; noted = m.noted ∙ sym (did.2 c (λ i. let z = note_in v.holds c i in not_both s k id j v u c z.0 y at q ne z.1 h)) ∙ ap (part c) (sym set_is); marked = m.marked; stands = m.stands };
+        holding = λ c y h. let m = g.holding c y h in
+            record {
+              within = m.within;
+              word_is = m.word_is;
+              out = m.out;
+              noted = m.noted
+                  ∙ sym (did.2 c (λ i. let z = note_in v.holds c i in not_both s k id j v u c z.0 y at q ne z.1 h))
+                  ∙ ap (part c) (sym set_is);
+              marked = m.marked;
+              stands = m.stands;
+            };
       })
-      (λ r h. (v.mine, here v.mine v.others, (λ g d m. subst (λ (q : Record O R). Contains q.marks (g, d)) (only_mine w r alone h) m), (λ c st. subst (λ (m : ℕ). 0 < m) (stood_with_call e v.mine log' c) (subst (λ (q : Record O R). StandsFor q c) (sym (only_mine w r alone h)) st)), (λ g d m. inl (subst (λ (q : Record O R). Contains q.misses (g, d)) (sym (only_mine w r alone h)) m))))
+      (λ r h. (
+        v.mine,
+        here v.mine v.others,
+        (λ g d m. subst (λ (q : Record O R). Contains q.marks (g, d)) (only_mine w r alone h) m),
+        (λ c st. subst (λ (m : ℕ). 0 < m) (stood_with_call e v.mine log' c)
+            (subst (λ (q : Record O R). StandsFor q c) (sym (only_mine w r alone h)) st)),
+        (λ g d m. inl (subst (λ (q : Record O R). Contains q.misses (g, d)) (sym (only_mine w r alone h)) m)),
+      ))
       (λ c. same_sums c)
     where
       same_sums : (c : ℕ) → stood_in c (with_entry v k.log (entry v.mine.number op reply) notes) ≡ stood_in c v
-      same_sums c = ap (λ (m : ℕ). fold (λ (a : ℕ) (r : Record O R). a + stood c r) (0 + m) v.others) (stood_with_call (entry v.mine.number op reply) v.mine [] c)
+      same_sums c =
+          ap (λ (m : ℕ). fold (λ (a : ℕ) (r : Record O R). a + stood c r) (0 + m) v.others)
+          (stood_with_call (entry v.mine.number op reply) v.mine [] c)
 
   abbrev M : Type 0
   M = Me S V
@@ -366,9 +540,11 @@ module _ {S X O R Y : Type 0} (n : ℕ) (content : S → Y) (part : ℕ → X �
 
   -- what a refused seat is told
   abbrev Refused : M → ℕ → ℕ → V → Type 0
-  Refused me b h w = let new : M = (w, me.1) in let missed : M = (with_miss me.0 h b, me.1) in (new ≡ missed) × (h < me.0.clients) × ¬ StandsFor me.0.mine h
+  Refused me b h w = let new : M = (w, me.1) in let missed : M = (with_miss me.0 h b, me.1) in (new ≡ missed)
+      × (h < me.0.clients) × ¬ StandsFor me.0.mine h
 
-  pub takes_part : (slots id : ℕ) (me : M) (b mark : ℕ) → b < n → IsOne me.0 → mark ≡ suc me.0.mine.number → ((y : Y) → ¬ Contains me.0.holds (note b y))
+  pub takes_part : (slots id : ℕ) (me : M) (b mark : ℕ) → b < n → IsOne me.0 → mark ≡ suc me.0.mine.number
+      → ((y : Y) → ¬ Contains me.0.holds (note b y))
       → Allows Rule slots id me b (λ x. either (eqb x 0) mark x) (Took content part (step slots b 0 mark none) me)
   takes_part slots id me b mark within one mark_is apart s k deep at small =
       let v : V = me.0 in
@@ -381,7 +557,8 @@ module _ {S X O R Y : Type 0} (n : ℕ) (content : S → Y) (part : ℕ → X �
         w,
         takes b x,
         f.1.1,
-        subst (λ (t : Bool). Rule (stepped s b (either t mark word) id me.1 w (takes b x))) (sym (eq-eqb word 0 hit)) (took_kept s k id v b x mark at one.0 one.1 mark_is within hit f.1.1 f.1.2),
+        subst (λ (t : Bool). Rule (stepped s b (either t mark word) id me.1 w (takes b x))) (sym (eq-eqb word 0 hit))
+            (took_kept s k id v b x mark at one.0 one.1 mark_is within hit f.1.1 f.1.2),
         ((λ e. (x, result answer start k.log, f.1.2, refl)), (λ h e. absurd (omega arith))),
       ))
       (λ (t : IsHeld s.views b). let d = ((k.each_view t.0 t.1 t.3).holding b t.2 t.4).word_is in absurd (omega arith))
@@ -395,10 +572,20 @@ module _ {S X O R Y : Type 0} (n : ℕ) (content : S → Y) (part : ℕ → X �
         keeps,
         tt,
         subst (λ (t : Bool). Rule (stepped s b (either t mark word) id me.1 w keeps)) (sym (ne_eqb word 0 miss)) m.0,
-        ((λ e. absurd (miss e)), (λ g e. let same : h ≡ g = omega arith in subst (λ (j : ℕ). Refused me b j w) same (refl, subst (λ (c : ℕ). h < c) (sym ((k.each_view id v at).same_map v.mine.number (stands_in v one.1)).1) m.1, m.2))),
+        (
+          (λ e. absurd (miss e)),
+          (λ g e. let same : h ≡ g = omega arith in
+              subst (λ (j : ℕ). Refused me b j w) same (
+                refl,
+                subst (λ (c : ℕ). h < c) (sym ((k.each_view id v at).same_map v.mine.number (stands_in v one.1)).1)
+                    m.1,
+                m.2,
+              )),
+        ),
       ))
 
-  pub gives_part : (slots id : ℕ) (me : M) (b : ℕ) (x : S) (cs : List (ℕ × S)) (notes : Notes) → IsOne me.0 → me.1 ≡ (b, x) ∷ cs → me.0.holds ≡ note b (content x) ∷ notes → ((y : Y) → ¬ Contains notes (note b y))
+  pub gives_part : (slots id : ℕ) (me : M) (b : ℕ) (x : S) (cs : List (ℕ × S)) (notes : Notes) → IsOne me.0
+      → me.1 ≡ (b, x) ∷ cs → me.0.holds ≡ note b (content x) ∷ notes → ((y : Y) → ¬ Contains notes (note b y))
       → Allows Rule slots id me b (λ _. 0) (λ _. Gave (step slots b 0 0 none) me 0)
   gives_part slots id me b x cs notes one carried held apart s k deep at small =
       let v : V = me.0 in
@@ -407,49 +594,81 @@ module _ {S X O R Y : Type 0} (n : ℕ) (content : S → Y) (part : ℕ → X �
         w,
         gives,
         tt,
-        subst (λ (l : List (ℕ × S)). Rule (stepped s b 0 id l w gives)) (sym carried) (subst (λ (l : Notes). Rule record { words = set s.words b 0; homes = set s.homes b (some x); views = set s.views id (with_holds v l) }) same (gave_kept s k id v b x notes at one.0 held apart)),
+        subst (λ (l : List (ℕ × S)). Rule (stepped s b 0 id l w gives)) (sym carried)
+            (subst (λ (l : Notes). Rule record
+            { words = set s.words b 0; homes = set s.homes b (some x); views = set s.views id (with_holds v l) }) same
+            (gave_kept s k id v b x notes at one.0 held apart)),
         refl,
       )
 
-  pub ends_call : (slots id : ℕ) (me : M) (b : ℕ) (x : S) (cs : List (ℕ × S)) (e : Entry O R) (notes : Notes) → IsOne me.0 → e.client ≡ me.0.mine.number → me.1 ≡ (b, x) ∷ cs → parts_of me.0.holds ≡ b ∷ parts_of notes → ¬ Contains (parts_of notes) b
+  pub ends_call : (slots id : ℕ) (me : M) (b : ℕ) (x : S) (cs : List (ℕ × S)) (e : Entry O R) (notes : Notes)
+      → IsOne me.0 → e.client ≡ me.0.mine.number → me.1 ≡ (b, x) ∷ cs → parts_of me.0.holds ≡ b ∷ parts_of notes
+      → ¬ Contains (parts_of notes) b
       → Answers part answer proper e.operation e.reply me.0.holds (note b (content x) ∷ notes)
       → Allows Rule slots id me b (λ _. 0) (λ _. Ended answer e notes (step slots b 0 0 none) me 0)
   ends_call slots id me b x cs e notes one by carried same apart done s k deep at small =
       let v : V = me.0 in
-      let own : entry v.mine.number e.operation e.reply ≡ e = (λ i. record { client = sym by i; operation = e.operation; reply = e.reply }) in
+      let own : entry v.mine.number e.operation e.reply ≡ e =
+      (λ i. record { client = sym by i; operation = e.operation; reply = e.reply }) in
       let log = k.log in
       let old = k.each_view id v at in
       let w : V = with_entry v log e notes in
       let new : Rule record { words = set s.words b 0; homes = set s.homes b (some x); views = set s.views id w } =
-      subst (λ (d : Entry O R). Rule record { words = set s.words b 0; homes = set s.homes b (some x); views = set s.views id (with_entry v log d notes) }) own (ended_kept s k id v b x notes e.operation e.reply at one.0 one.1 same apart done) in
-      let kept : Rule (stepped s b 0 id me.1 w gives) = subst (λ (l : List (ℕ × S)). Rule (stepped s b 0 id l w gives)) (sym carried) new in
+      subst (λ (d : Entry O R). Rule record {
+        words = set s.words b 0;
+        homes = set s.homes b (some x);
+        views = set s.views id (with_entry v log d notes);
+      }) own
+      (ended_kept s k id v b x notes e.operation e.reply at one.0 one.1 same apart done) in
+      let kept : Rule (stepped s b 0 id me.1 w gives) =
+      subst (λ (l : List (ℕ × S)). Rule (stepped s b 0 id l w gives)) (sym carried) new in
       let mine = (kept.each_view id w (at_new s.views id v w at)).fits w.mine (here w.mine w.others) in (
         w,
         gives,
         tt,
         kept,
-        (log, refl, (old.fits v.mine (here v.mine v.others)).0.0, subst (λ (a : X). IsLegal answer a (log ++ e ∷ [])) (sym (old.same_map v.mine.number (stands_in v one.1)).0) (legal_with answer start log e k.legal (sym (done (result answer start log) k.whole (λ c y h. (old.holding c y h).noted)).0)), mine.1),
+        (
+          log,
+          refl,
+          (old.fits v.mine (here v.mine v.others)).0.0,
+          subst (λ (a : X). IsLegal answer a (log ++ e ∷ []))
+              (sym (old.same_map v.mine.number (stands_in v one.1)).0)
+              (legal_with answer start log e k.legal
+              (sym (done (result answer start log) k.whole (λ c y h. (old.holding c y h).noted)).0)),
+          mine.1,
+        ),
       )
 
   -- the same, at a seat that is known
-  pub gives_part_as : (slots id : ℕ) (me : M) (v : V) (b : ℕ) (x : S) (cs : List (ℕ × S)) (notes : Notes) → (let now : M = (v, (b, x) ∷ cs) in me ≡ now) → IsOne v → v.holds ≡ note b (content x) ∷ notes → ((y : Y) → ¬ Contains notes (note b y))
+  pub gives_part_as : (slots id : ℕ) (me : M) (v : V) (b : ℕ) (x : S) (cs : List (ℕ × S)) (notes : Notes)
+      → (let now : M = (v, (b, x) ∷ cs) in me ≡ now) → IsOne v → v.holds ≡ note b (content x) ∷ notes
+      → ((y : Y) → ¬ Contains notes (note b y))
       → Allows Rule slots id me b (λ _. 0) (λ _. Gave (step slots b 0 0 none) me 0)
   gives_part_as slots id me v b x cs notes is one held apart =
-      subst (λ (m : M). Allows Rule slots id m b (λ _. 0) (λ _. Gave (step slots b 0 0 none) m 0)) (sym is) (gives_part slots id (v, (b, x) ∷ cs) b x cs notes one refl held apart)
+      subst (λ (m : M). Allows Rule slots id m b (λ _. 0) (λ _. Gave (step slots b 0 0 none) m 0)) (sym is)
+      (gives_part slots id (v, (b, x) ∷ cs) b x cs notes one refl held apart)
 
-  pub ends_call_as : (slots id : ℕ) (me : M) (v : V) (b : ℕ) (x : S) (cs : List (ℕ × S)) (e e' : Entry O R) (notes notes' : Notes) → e' ≡ e → notes' ≡ notes → (let now : M = (v, (b, x) ∷ cs) in me ≡ now) → IsOne v → e.client ≡ v.mine.number → parts_of v.holds ≡ b ∷ parts_of notes → ¬ Contains (parts_of notes) b
+  pub ends_call_as : (slots id : ℕ) (me : M) (v : V) (b : ℕ) (x : S) (cs : List (ℕ × S)) (e e' : Entry O R)
+      (notes notes' : Notes) → e' ≡ e → notes' ≡ notes → (let now : M = (v, (b, x) ∷ cs) in me ≡ now) → IsOne v
+      → e.client ≡ v.mine.number → parts_of v.holds ≡ b ∷ parts_of notes → ¬ Contains (parts_of notes) b
       → Answers part answer proper e.operation e.reply v.holds (note b (content x) ∷ notes)
       → Allows Rule slots id me b (λ _. 0) (λ _. Ended answer e' notes' (step slots b 0 0 none) me 0)
   ends_call_as slots id me v b x cs e e' notes notes' same_e same_notes is one by same apart done =
-      subst (λ (z : M × Entry O R × Notes). Allows Rule slots id z.0 b (λ _. 0) (λ _. Ended answer z.1 z.2 (step slots b 0 0 none) z.0 0)) (λ i. (sym is i, sym same_e i, sym same_notes i))
+      subst (λ (z : M × Entry O R × Notes). Allows Rule slots id z.0 b (λ _. 0)
+      (λ _. Ended answer z.1 z.2 (step slots b 0 0 none) z.0 0)) (λ i. (sym is i, sym same_e i, sym same_notes i))
       (ends_call slots id (v, (b, x) ∷ cs) b x cs e notes one by refl same apart done)
 
   -- what the step tells, at a seat, a call and notes that are known
-  pub ended_is : (slots b : ℕ) (me me' : M) (v : V) (x : S) (cs : List (ℕ × S)) (e e' : Entry O R) (notes notes' : Notes) → e' ≡ e → notes' ≡ notes → (let now : M = (v, (b, x) ∷ cs) in me ≡ now) → map (λ c. c.0) cs ≡ parts_of notes
-      → Ended answer e' notes' (step {S = S} slots b 0 0 none) me 0 me' → IsCarried me' × EndsCall answer e notes v me'.0
+  pub ended_is : (slots b : ℕ) (me me' : M) (v : V) (x : S) (cs : List (ℕ × S)) (e e' : Entry O R)
+      (notes notes' : Notes) → e' ≡ e → notes' ≡ notes → (let now : M = (v, (b, x) ∷ cs) in me ≡ now)
+      → map (λ c. c.0) cs ≡ parts_of notes
+      → Ended answer e' notes' (step {S = S} slots b 0 0 none) me 0 me' → IsCarried me'
+      × EndsCall answer e notes v me'.0
   ended_is slots b me me' v x cs e e' notes notes' same_e same_notes is carried told =
       let now : M = (v, (b, x) ∷ cs) in
-      let t : Ended answer e notes (step {S = S} slots b 0 0 none) now 0 me' = subst (λ (z : M × Entry O R × Notes). Ended answer z.1 z.2 (step {S = S} slots b 0 0 none) z.0 0 me') (λ i. (is i, same_e i, same_notes i)) told in (
+      let t : Ended answer e notes (step {S = S} slots b 0 0 none) now 0 me' =
+      subst (λ (z : M × Entry O R × Notes). Ended answer z.1 z.2 (step {S = S} slots b 0 0 none) z.0 0 me')
+      (λ i. (is i, same_e i, same_notes i)) told in (
         subst (λ (m : M). IsCarried m) (sym t.1) carried,
         (t.0, (λ i. (t.1 i).0), t.2, t.3, t.4),
       )

@@ -1,12 +1,14 @@
 -- Slots by place, and the notes of them.
-use Rattle.std.proofs.Common.{◌≡◌, ◌≢◌, ℕ, zero, suc, ◌+◌, ◌<◌, ◌≤◌, List, [], ◌∷◌, length, set, refl, sym, ap, ◌∙◌, subst, ⊎_elim, arith, Contains, Option, Some, None, get_or-set_same, get_or-set_other, le_refl, add-zero, ◌-◌, is_some, true, false}
+use Rattle.std.proofs.Common.{◌≡◌, ◌≢◌, ℕ, zero, suc, ◌+◌, ◌<◌, ◌≤◌, List, [], ◌∷◌, length, set, refl, sym, ap, ◌∙◌}
+use Rattle.std.proofs.Common.{subst, ⊎_elim, arith, Contains, Option, Some, None, get_or-set_same, get_or-set_other}
+use Rattle.std.proofs.Common.{le_refl, add-zero, ◌-◌, is_some, true, false}
 use mathlib.Core.Logic.{dite}
 use native.Mathlib.Decide.{ℕ_discrete}
 use Rattle.moc_ranges.specs.Numbers.{NumberSet}
 use Rattle.moc_parts.specs.declared.command.Command.{Command}
 use Rattle.moc_shared.specs.Private.Rule.{note, parts_of}
 use Rattle.moc_parts.specs.Batches.{footprint_of_all}
-use Rattle.moc_shared.specs.Private.Slots.{Pointer, PartNote, Sight, content, shared, note_if, at_place, notes_below}
+use Rattle.moc_shared.specs.Private.Slots.{Pointer, PartNote, Sight, shared, note_if, at_place, notes_below}
 use Rattle.atomic_table.specs.Table.{Me}
 use Rattle.moc_shared.specs.Private.Plays.{with_holds, with_miss, with_part, with_parts, behind_first, IsCarried}
 use Rattle.moc_shared.specs.History.{StandsFor}
@@ -17,123 +19,205 @@ pub notes_none : (found : List (Option Pointer)) → notes_below found 0 ≡ []
 unfolding notes_below
 notes_none found = refl
 
-pub notes_next : (found : List (Option Pointer)) (b : ℕ) → notes_below found (suc b) ≡ note_if b (at_place found b) (notes_below found b)
+pub notes_next : (found : List (Option Pointer)) (b : ℕ)
+    → notes_below found (suc b) ≡ note_if b (at_place found b) (notes_below found b)
 unfolding notes_below
 notes_next found b = refl
 
-pub place_set_other : (found : List (Option Pointer)) (b k : ℕ) (y : Option Pointer) → k ≢ b → at_place (set found b y) k ≡ at_place found k
+pub place_set_other : (found : List (Option Pointer)) (b k : ℕ) (y : Option Pointer) → k ≢ b
+    → at_place (set found b y) k ≡ at_place found k
 place_set_other found b k y ne = get_or-set_other found b k y None ne
 
-pub place_set_same : (found : List (Option Pointer)) (b : ℕ) (y : Option Pointer) → b < length found → at_place (set found b y) b ≡ y
+pub place_set_same : (found : List (Option Pointer)) (b : ℕ) (y : Option Pointer) → b < length found
+    → at_place (set found b y) b ≡ y
 place_set_same found b y h = get_or-set_same found b y None h
 
 -- a write at b or above changes no note below b
-pub notes_set : (found : List (Option Pointer)) (b k : ℕ) (y : Option Pointer) → k ≤ b → notes_below (set found b y) k ≡ notes_below found k
+pub notes_set : (found : List (Option Pointer)) (b k : ℕ) (y : Option Pointer) → k ≤ b
+    → notes_below (set found b y) k ≡ notes_below found k
 notes_set found b zero y le = notes_none (set found b y) ∙ sym (notes_none found)
-notes_set found b (suc k) y le = notes_next (set found b y) k ∙ (λ i. note_if k (place_set_other found b k y (λ e. omega arith) i) (notes_set found b k y (omega arith) i)) ∙ sym (notes_next found k)
+notes_set found b (suc k) y le = notes_next (set found b y) k
+    ∙ (λ i. note_if k (place_set_other found b k y (λ e. omega arith) i) (notes_set found b k y (omega arith) i))
+    ∙ sym (notes_next found k)
 
-lt_if : (b p : ℕ) (y : Option NumberSet) (o : Option Pointer) (notes : List (PartNote)) → (Contains notes (note p y) → p < b) → Contains (note_if b o notes) (note p y) → p < suc b
+lt_if : (b p : ℕ) (y : Option NumberSet) (o : Option Pointer) (notes : List (PartNote))
+    → (Contains notes (note p y) → p < b) → Contains (note_if b o notes) (note p y) → p < suc b
 lt_if b p y None notes below c = let l = below c in omega arith
-lt_if b p y (Some x) notes below c = ⊎_elim (λ (e : note b (shared x) ≡ note p y). let s : b ≡ p = ap (λ (t : PartNote). t.part) e in omega arith) (λ (t : Contains notes (note p y)). let l = below t in omega arith) (cons_cases (note b (shared x)) notes (note p y) c)
+lt_if b p y (Some x) notes below c =
+    ⊎_elim (λ (e : note b (shared x) ≡ note p y). let s : b ≡ p = ap (λ (t : PartNote). t.part) e in omega arith)
+    (λ (t : Contains notes (note p y)). let l = below t in omega arith)
+    (cons_cases (note b (shared x)) notes (note p y) c)
 
 -- the notes below b are of parts below b
-pub notes_below_lt : (found : List (Option Pointer)) (b p : ℕ) (y : Option NumberSet) → Contains (notes_below found b) (note p y) → p < b
-notes_below_lt found zero p y h = absurd (none_in (note p y) (subst (λ (l : List (PartNote)). Contains l (note p y)) (notes_none found) h))
-notes_below_lt found (suc b) p y h = lt_if b p y (at_place found b) (notes_below found b) (notes_below_lt found b p y) (subst (λ (l : List (PartNote)). Contains l (note p y)) (notes_next found b) h)
+pub notes_below_lt : (found : List (Option Pointer)) (b p : ℕ) (y : Option NumberSet)
+    → Contains (notes_below found b) (note p y) → p < b
+notes_below_lt found zero p y h =
+    absurd (none_in (note p y) (subst (λ (l : List (PartNote)). Contains l (note p y)) (notes_none found) h))
+notes_below_lt found (suc b) p y h =
+    lt_if b p y (at_place found b) (notes_below found b) (notes_below_lt found b p y)
+    (subst (λ (l : List (PartNote)). Contains l (note p y)) (notes_next found b) h)
 
-pub not_below : (found : List (Option Pointer)) (b : ℕ) (y : Option NumberSet) → ¬ Contains (notes_below found b) (note b y)
+pub not_below : (found : List (Option Pointer)) (b : ℕ) (y : Option NumberSet)
+    → ¬ Contains (notes_below found b) (note b y)
 not_below found b y h = let l = notes_below_lt found b b y h in omega arith
 
 -- where there is a content at b, the notes below b + 1 begin with it
-pub notes_some : (found : List (Option Pointer)) (b : ℕ) (x : Pointer) → at_place found b ≡ Some x → notes_below found (suc b) ≡ note b (shared x) ∷ notes_below found b
+pub notes_some : (found : List (Option Pointer)) (b : ℕ) (x : Pointer) → at_place found b ≡ Some x
+    → notes_below found (suc b) ≡ note b (shared x) ∷ notes_below found b
 notes_some found b x e = notes_next found b ∙ ap (λ (o : Option Pointer). note_if b o (notes_below found b)) e
 
-pub notes_without : (found : List (Option Pointer)) (b : ℕ) → at_place found b ≡ None → notes_below found (suc b) ≡ notes_below found b
+pub notes_without : (found : List (Option Pointer)) (b : ℕ) → at_place found b ≡ None
+    → notes_below found (suc b) ≡ notes_below found b
 notes_without found b e = notes_next found b ∙ ap (λ (o : Option Pointer). note_if b o (notes_below found b)) e
 
-pub next_note : (init v : Sight) (contents : List (Option Pointer)) (b c : ℕ) (x : Pointer) → v ≡ with_holds init (notes_below contents b) → b ≡ suc c → at_place contents c ≡ Some x → v.holds ≡ note c (shared x) ∷ notes_below contents c
-next_note init v contents b c x is up some = (λ i. (is i).holds) ∙ ap (notes_below contents) up ∙ notes_some contents c x some
+pub next_note : (init v : Sight) (contents : List (Option Pointer)) (b c : ℕ) (x : Pointer)
+    → v ≡ with_holds init (notes_below contents b) → b ≡ suc c → at_place contents c ≡ Some x
+    → v.holds ≡ note c (shared x) ∷ notes_below contents c
+next_note init v contents b c x is up some = (λ i. (is i).holds) ∙ ap (notes_below contents) up
+    ∙ notes_some contents c x some
 
-pub given_back : (init v w : Sight) (contents after : List (Option Pointer)) (b c : ℕ) (x : Pointer) → v ≡ with_holds init (notes_below contents b) → b ≡ suc c → at_place contents c ≡ Some x → after ≡ set contents c None → w ≡ with_holds v (behind_first v.holds) → w ≡ with_holds init (notes_below after c)
+pub given_back : (init v w : Sight) (contents after : List (Option Pointer)) (b c : ℕ) (x : Pointer)
+    → v ≡ with_holds init (notes_below contents b) → b ≡ suc c → at_place contents c ≡ Some x
+    → after ≡ set contents c None → w ≡ with_holds v (behind_first v.holds) → w ≡ with_holds init (notes_below after c)
 given_back init v w contents after b c x is up some taken gave =
-    let left : behind_first v.holds ≡ notes_below after c = ap (behind_first {A = PartNote}) (next_note init v contents b c x is up some) ∙ sym (notes_set contents c c None (le_refl c)) ∙ ap (λ (l : List (Option Pointer)). notes_below l c) (sym taken) in
+    let left : behind_first v.holds ≡ notes_below after c =
+    ap (behind_first {A = PartNote}) (next_note init v contents b c x is up some)
+    ∙ sym (notes_set contents c c None (le_refl c))
+    ∙ ap (λ (l : List (Option Pointer)). notes_below l c) (sym taken) in
     gave ∙ (λ i. with_holds (is i) (left i))
 
-pub passed_over : (init v : Sight) (contents after : List (Option Pointer)) (b c : ℕ) → v ≡ with_holds init (notes_below contents b) → b ≡ suc c → at_place contents c ≡ None → after ≡ set contents c None → v ≡ with_holds init (notes_below after c)
-passed_over init v contents after b c is up none taken = is ∙ ap (with_holds init) (ap (notes_below contents) up ∙ notes_without contents c none ∙ sym (notes_set contents c c None (le_refl c)) ∙ ap (λ (l : List (Option Pointer)). notes_below l c) (sym taken))
+pub passed_over : (init v : Sight) (contents after : List (Option Pointer)) (b c : ℕ)
+    → v ≡ with_holds init (notes_below contents b) → b ≡ suc c → at_place contents c ≡ None
+    → after ≡ set contents c None → v ≡ with_holds init (notes_below after c)
+passed_over init v contents after b c is up none taken = is
+    ∙ ap (with_holds init)
+    (ap (notes_below contents) up ∙ notes_without contents c none ∙ sym (notes_set contents c c None (le_refl c))
+    ∙ ap (λ (l : List (Option Pointer)). notes_below l c) (sym taken))
 
-pub all_given : (init : Sight) (me : Me (Option Pointer) Sight) (contents : List (Option Pointer)) (b : ℕ) → me.0 ≡ with_holds init (notes_below contents b) → b ≤ 0 → IsCarried me → (let none : Me (Option Pointer) Sight = (with_holds init [], []) in me ≡ none)
+pub all_given : (init : Sight) (me : Me (Option Pointer) Sight) (contents : List (Option Pointer)) (b : ℕ)
+    → me.0 ≡ with_holds init (notes_below contents b) → b ≤ 0 → IsCarried me
+    → (let none : Me (Option Pointer) Sight = (with_holds init [], []) in me ≡ none)
 all_given init me contents b is low carried =
     let zero_is : b ≡ 0 = omega arith in
-    let now : me.0 ≡ with_holds init [] = is ∙ ap (with_holds init) (ap (notes_below contents) zero_is ∙ notes_none contents) in
+    let now : me.0 ≡ with_holds init [] = is
+    ∙ ap (with_holds init) (ap (notes_below contents) zero_is ∙ notes_none contents) in
     let none : me.1 ≡ [] = none_carried me.1 (carried ∙ ap (λ (v : Sight). parts_of v.holds) now) in
     λ i. (now i, none i)
 
 -- no content from b on: the notes are those below b
-pub notes_upto : (found : List (Option Pointer)) (b d : ℕ) → ((k : ℕ) → b ≤ k → at_place found k ≡ None) → notes_below found (b + d) ≡ notes_below found b
+pub notes_upto : (found : List (Option Pointer)) (b d : ℕ) → ((k : ℕ) → b ≤ k → at_place found k ≡ None)
+    → notes_below found (b + d) ≡ notes_below found b
 notes_upto found b zero none = ap (notes_below found) (add-zero b)
-notes_upto found b (suc d) none = let up : b + suc d ≡ suc (b + d) = omega arith in ap (notes_below found) up ∙ notes_without found (b + d) (none (b + d) (omega arith)) ∙ notes_upto found b d none
+notes_upto found b (suc d) none = let up : b + suc d ≡ suc (b + d) = omega arith in ap (notes_below found) up
+    ∙ notes_without found (b + d) (none (b + d) (omega arith)) ∙ notes_upto found b d none
 
-pub start_parts : (v w : Sight) (found : List (Option Pointer)) → w ≡ v → v.holds ≡ [] → w ≡ with_parts v (notes_below found 0)
-start_parts v w found same idle = same ∙ (λ i. record { start = v.start; clients = v.clients; mine = v.mine; others = v.others; holds = idle i }) ∙ ap (with_parts v) (sym (notes_none found))
+pub start_parts : (v w : Sight) (found : List (Option Pointer)) → w ≡ v → v.holds ≡ []
+    → w ≡ with_parts v (notes_below found 0)
+start_parts v w found same idle = same
+    ∙ (λ i. record { start = v.start; clients = v.clients; mine = v.mine; others = v.others; holds = idle i })
+    ∙ ap (with_parts v) (sym (notes_none found))
 
-pub took_part : (init v w : Sight) (found after : List (Option Pointer)) (b c : ℕ) (x : Pointer) → v ≡ with_parts init (notes_below found b) → c ≡ suc b → w ≡ with_part v b (shared x) → after ≡ set found b (Some x) → b < length found → w ≡ with_parts init (notes_below after c)
+pub took_part : (init v w : Sight) (found after : List (Option Pointer)) (b c : ℕ) (x : Pointer)
+    → v ≡ with_parts init (notes_below found b) → c ≡ suc b → w ≡ with_part v b (shared x)
+    → after ≡ set found b (Some x) → b < length found → w ≡ with_parts init (notes_below after c)
 took_part init v w found after b c x is up took put long =
     let same : notes_below after c ≡ note b (shared x) ∷ notes_below found b =
-    (λ i. notes_below (put i) (up i)) ∙ notes_some (set found b (Some x)) b x (place_set_same found b (Some x) long) ∙ ap (λ (l : List (PartNote)). note b (shared x) ∷ l) (notes_set found b b (Some x) (le_refl b)) in
+    (λ i. notes_below (put i) (up i)) ∙ notes_some (set found b (Some x)) b x (place_set_same found b (Some x) long)
+    ∙ ap (λ (l : List (PartNote)). note b (shared x) ∷ l) (notes_set found b b (Some x) (le_refl b)) in
     took ∙ ap (λ (u : Sight). with_part u b (shared x)) is ∙ ap (with_parts init) (sym same)
 
-pub left_out : (init v : Sight) (found : List (Option Pointer)) (b c : ℕ) → v ≡ with_parts init (notes_below found b) → c ≡ suc b → at_place found b ≡ None → v ≡ with_parts init (notes_below found c)
-left_out init v found b c is up none = is ∙ ap (with_parts init) (sym (ap (notes_below found) up ∙ notes_without found b none))
+pub left_out : (init v : Sight) (found : List (Option Pointer)) (b c : ℕ) → v ≡ with_parts init (notes_below found b)
+    → c ≡ suc b → at_place found b ≡ None → v ≡ with_parts init (notes_below found c)
+left_out init v found b c is up none = is
+    ∙ ap (with_parts init) (sym (ap (notes_below found) up ∙ notes_without found b none))
 
-pub touched_so_far : (op : List Command) (found after : List (Option Pointer)) (b c : ℕ) (x : Pointer) → ((k : ℕ) → k < b → is_some (at_place found k) ≡ footprint_of_all op k) → c ≡ suc b → footprint_of_all op b ≡ true → after ≡ set found b (Some x) → b < length found → (k : ℕ) → k < c → is_some (at_place after k) ≡ footprint_of_all op k
+pub touched_so_far : (op : List Command) (found after : List (Option Pointer)) (b c : ℕ) (x : Pointer)
+    → ((k : ℕ) → k < b → is_some (at_place found k) ≡ footprint_of_all op k) → c ≡ suc b → footprint_of_all op b ≡ true
+    → after ≡ set found b (Some x) → b < length found → (k : ℕ) → k < c
+    → is_some (at_place after k) ≡ footprint_of_all op k
 touched_so_far op found after b c x so_far up touched put long k l = dite (ℕ_discrete k b)
-    (λ e. ap (λ (z : List (Option Pointer)). is_some (at_place z k)) put ∙ ap (λ (j : ℕ). is_some (at_place (set found b (Some x)) j)) e ∙ ap (λ (o : Option Pointer). is_some o) (place_set_same found b (Some x) long) ∙ sym touched ∙ ap (footprint_of_all op) (sym e))
-    (λ ne. ap (λ (z : List (Option Pointer)). is_some (at_place z k)) put ∙ ap (λ (o : Option Pointer). is_some o) (place_set_other found b k (Some x) ne) ∙ so_far k (omega arith))
+    (λ e. ap (λ (z : List (Option Pointer)). is_some (at_place z k)) put
+    ∙ ap (λ (j : ℕ). is_some (at_place (set found b (Some x)) j)) e
+    ∙ ap (λ (o : Option Pointer). is_some o) (place_set_same found b (Some x) long) ∙ sym touched
+    ∙ ap (footprint_of_all op) (sym e))
+    (λ ne. ap (λ (z : List (Option Pointer)). is_some (at_place z k)) put
+    ∙ ap (λ (o : Option Pointer). is_some o) (place_set_other found b k (Some x) ne) ∙ so_far k (omega arith))
 
-pub untouched_so_far : (op : List Command) (found : List (Option Pointer)) (b c : ℕ) → ((k : ℕ) → k < b → is_some (at_place found k) ≡ footprint_of_all op k) → c ≡ suc b → footprint_of_all op b ≡ false → at_place found b ≡ None → (k : ℕ) → k < c → is_some (at_place found k) ≡ footprint_of_all op k
+pub untouched_so_far : (op : List Command) (found : List (Option Pointer)) (b c : ℕ)
+    → ((k : ℕ) → k < b → is_some (at_place found k) ≡ footprint_of_all op k) → c ≡ suc b → footprint_of_all op b ≡ false
+    → at_place found b ≡ None → (k : ℕ) → k < c → is_some (at_place found k) ≡ footprint_of_all op k
 untouched_so_far op found b c so_far up untouched none k l = dite (ℕ_discrete k b)
-    (λ e. ap (λ (j : ℕ). is_some (at_place found j)) e ∙ ap (λ (o : Option Pointer). is_some o) none ∙ sym untouched ∙ ap (footprint_of_all op) (sym e))
+    (λ e. ap (λ (j : ℕ). is_some (at_place found j)) e ∙ ap (λ (o : Option Pointer). is_some o) none ∙ sym untouched
+    ∙ ap (footprint_of_all op) (sym e))
     (λ ne. so_far k (omega arith))
 
-pub still_beyond : (found after : List (Option Pointer)) (b c : ℕ) (x : Pointer) → ((k : ℕ) → b ≤ k → at_place found k ≡ None) → c ≡ suc b → after ≡ set found b (Some x) → (k : ℕ) → c ≤ k → at_place after k ≡ None
-still_beyond found after b c x beyond up put k l = ap (λ (z : List (Option Pointer)). at_place z k) put ∙ place_set_other found b k (Some x) (λ e. omega arith) ∙ beyond k (omega arith)
+pub still_beyond : (found after : List (Option Pointer)) (b c : ℕ) (x : Pointer)
+    → ((k : ℕ) → b ≤ k → at_place found k ≡ None) → c ≡ suc b → after ≡ set found b (Some x) → (k : ℕ) → c ≤ k
+    → at_place after k ≡ None
+still_beyond found after b c x beyond up put k l = ap (λ (z : List (Option Pointer)). at_place z k) put
+    ∙ place_set_other found b k (Some x) (λ e. omega arith) ∙ beyond k (omega arith)
 
-place_if : (found : List (Option Pointer)) (b p : ℕ) (y : Option NumberSet) (o : Option Pointer) → at_place found b ≡ o → (Contains (notes_below found b) (note p y) → (x : Pointer) × (at_place found p ≡ Some x) × (shared x ≡ y)) → Contains (note_if b o (notes_below found b)) (note p y) → (x : Pointer) × (at_place found p ≡ Some x) × (shared x ≡ y)
+place_if : (found : List (Option Pointer)) (b p : ℕ) (y : Option NumberSet) (o : Option Pointer) → at_place found b ≡ o
+    → (Contains (notes_below found b) (note p y) → (x : Pointer) × (at_place found p ≡ Some x) × (shared x ≡ y))
+    → Contains (note_if b o (notes_below found b)) (note p y) → (x : Pointer) × (at_place found p ≡ Some x)
+    × (shared x ≡ y)
 place_if found b p y None e below h = below h
 place_if found b p y (Some x) e below h = ⊎_elim
-    (λ (s : note b (shared x) ≡ note p y). (x, ap (at_place found) (sym (ap (λ (t : PartNote). t.part) s)) ∙ e, ap (λ (t : PartNote). t.content) s))
+    (λ (s : note b (shared x) ≡ note p y).
+    (x, ap (at_place found) (sym (ap (λ (t : PartNote). t.part) s)) ∙ e, ap (λ (t : PartNote). t.content) s))
     (λ (t : Contains (notes_below found b) (note p y)). below t)
     (cons_cases (note b (shared x)) (notes_below found b) (note p y) h)
 
-note_there : (b : ℕ) (o : Option Pointer) (notes : List (PartNote)) (t : PartNote) → Contains notes t → Contains (note_if b o notes) t
+note_there : (b : ℕ) (o : Option Pointer) (notes : List (PartNote)) (t : PartNote) → Contains notes t
+    → Contains (note_if b o notes) t
 note_there b None notes t h = h
 note_there b (Some x) notes t h = there (note b (shared x)) notes t h
 
 -- a note is of a content
-pub note_place : (found : List (Option Pointer)) (n p : ℕ) (y : Option NumberSet) → Contains (notes_below found n) (note p y) → (x : Pointer) × (at_place found p ≡ Some x) × (shared x ≡ y)
-note_place found zero p y h = absurd (none_in (note p y) (subst (λ (l : List (PartNote)). Contains l (note p y)) (notes_none found) h))
-note_place found (suc b) p y h = place_if found b p y (at_place found b) refl (note_place found b p y) (subst (λ (l : List (PartNote)). Contains l (note p y)) (notes_next found b) h)
+pub note_place : (found : List (Option Pointer)) (n p : ℕ) (y : Option NumberSet)
+    → Contains (notes_below found n) (note p y) → (x : Pointer) × (at_place found p ≡ Some x) × (shared x ≡ y)
+note_place found zero p y h =
+    absurd (none_in (note p y) (subst (λ (l : List (PartNote)). Contains l (note p y)) (notes_none found) h))
+note_place found (suc b) p y h =
+    place_if found b p y (at_place found b) refl (note_place found b p y)
+    (subst (λ (l : List (PartNote)). Contains l (note p y)) (notes_next found b) h)
 
-pub place_note : (found : List (Option Pointer)) (n p : ℕ) (x : Pointer) → p < n → at_place found p ≡ Some x → Contains (notes_below found n) (note p (shared x))
+pub place_note : (found : List (Option Pointer)) (n p : ℕ) (x : Pointer) → p < n → at_place found p ≡ Some x
+    → Contains (notes_below found n) (note p (shared x))
 place_note found zero p x l e = absurd (omega arith)
 place_note found (suc b) p x l e = dite (ℕ_discrete p b)
-    (λ same. subst (λ (l : List (PartNote)). Contains l (note p (shared x))) (sym (notes_some found b x (ap (at_place found) (sym same) ∙ e))) (subst (λ (j : ℕ). Contains (note b (shared x) ∷ notes_below found b) (note j (shared x))) (sym same) (here (note b (shared x)) (notes_below found b))))
-    (λ ne. subst (λ (l : List (PartNote)). Contains l (note p (shared x))) (sym (notes_next found b)) (note_there b (at_place found b) (notes_below found b) (note p (shared x)) (place_note found b p x (omega arith) e)))
+    (λ same. subst (λ (l : List (PartNote)). Contains l (note p (shared x)))
+    (sym (notes_some found b x (ap (at_place found) (sym same) ∙ e)))
+    (subst (λ (j : ℕ). Contains (note b (shared x) ∷ notes_below found b) (note j (shared x))) (sym same)
+    (here (note b (shared x)) (notes_below found b))))
+    (λ ne. subst (λ (l : List (PartNote)). Contains l (note p (shared x))) (sym (notes_next found b))
+    (note_there b (at_place found b) (notes_below found b) (note p (shared x))
+    (place_note found b p x (omega arith) e)))
 
 -- each note is of a part of the footprint
-pub noted_touched : (op : List Command) (found : List (Option Pointer)) (n p : ℕ) (y : Option NumberSet) → ((k : ℕ) → k < n → is_some (at_place found k) ≡ footprint_of_all op k) → Contains (notes_below found n) (note p y) → footprint_of_all op p ≡ true
-noted_touched op found n p y so_far h = let q = note_place found n p y h in sym (so_far p (notes_below_lt found n p y h)) ∙ ap (λ (o : Option Pointer). is_some o) q.1
+pub noted_touched : (op : List Command) (found : List (Option Pointer)) (n p : ℕ) (y : Option NumberSet)
+    → ((k : ℕ) → k < n → is_some (at_place found k) ≡ footprint_of_all op k) → Contains (notes_below found n) (note p y)
+    → footprint_of_all op p ≡ true
+noted_touched op found n p y so_far h = let q = note_place found n p y h in
+    sym (so_far p (notes_below_lt found n p y h)) ∙ ap (λ (o : Option Pointer). is_some o) q.1
 
-pub holds_upto : (init v w : Sight) (found : List (Option Pointer)) (b h : ℕ) → v ≡ with_parts init (notes_below found b) → w ≡ with_miss v h b → b < 12 → ((k : ℕ) → b ≤ k → at_place found k ≡ None) → w.holds ≡ notes_below found 12
+pub holds_upto : (init v w : Sight) (found : List (Option Pointer)) (b h : ℕ)
+    → v ≡ with_parts init (notes_below found b) → w ≡ with_miss v h b → b < 12
+    → ((k : ℕ) → b ≤ k → at_place found k ≡ None) → w.holds ≡ notes_below found 12
 holds_upto init v w found b h is missed within beyond =
-    (λ i. (missed i).holds) ∙ (λ i. (is i).holds) ∙ sym (notes_upto found b (12 - b) beyond) ∙ ap (notes_below found) (let e : b + (12 - b) ≡ 12 = omega arith in e)
+    (λ i. (missed i).holds) ∙ (λ i. (is i).holds) ∙ sym (notes_upto found b (12 - b) beyond)
+    ∙ ap (notes_below found) (let e : b + (12 - b) ≡ 12 = omega arith in e)
 
-pub refused_view : (init v w u : Sight) (found : List (Option Pointer)) (b h : ℕ) → v ≡ with_parts init (notes_below found b) → w ≡ with_miss v h b → u ≡ with_holds w [] → u ≡ with_holds (with_miss (with_parts init (notes_below found b)) h b) []
-refused_view init v w u found b h is missed gave = gave ∙ ap (λ (x : Sight). with_holds x []) (missed ∙ ap (λ (x : Sight). with_miss x h b) is)
+pub refused_view : (init v w u : Sight) (found : List (Option Pointer)) (b h : ℕ)
+    → v ≡ with_parts init (notes_below found b) → w ≡ with_miss v h b → u ≡ with_holds w []
+    → u ≡ with_holds (with_miss (with_parts init (notes_below found b)) h b) []
+refused_view init v w u found b h is missed gave = gave
+    ∙ ap (λ (x : Sight). with_holds x []) (missed ∙ ap (λ (x : Sight). with_miss x h b) is)
 
-pub known_through : (init v : Sight) (notes : List (PartNote)) (h : ℕ) → v ≡ with_parts init notes → (h < v.clients) → ¬ StandsFor v.mine h → (h < init.clients) × ¬ StandsFor init.mine h
-known_through init v notes h is below apart = subst (λ (x : Sight). (h < x.clients) × ¬ StandsFor x.mine h) is (below, apart)
+pub known_through : (init v : Sight) (notes : List (PartNote)) (h : ℕ) → v ≡ with_parts init notes → (h < v.clients)
+    → ¬ StandsFor v.mine h → (h < init.clients) × ¬ StandsFor init.mine h
+known_through init v notes h is below apart =
+    subst (λ (x : Sight). (h < x.clients) × ¬ StandsFor x.mine h) is (below, apart)
 
 note_of : (ts : List (PartNote)) (b : ℕ) → Contains (parts_of ts) b → (y : Option NumberSet) × Contains ts (note b y)
 note_of [] b h = absurd (none_in b h)
@@ -143,23 +227,32 @@ note_of (t ∷ ts) b h = ⊎_elim
     (cons_cases t.part (parts_of ts) b h)
 
 -- the content of the highest place is noted first
-pub top_note : (contents after : List (Option Pointer)) (b : ℕ) (x : Pointer) → b < 12 → b < length contents → ((k : ℕ) → b < k → at_place contents k ≡ None) → at_place contents b ≡ Some x → after ≡ set contents b None
+pub top_note : (contents after : List (Option Pointer)) (b : ℕ) (x : Pointer) → b < 12 → b < length contents
+    → ((k : ℕ) → b < k → at_place contents k ≡ None) → at_place contents b ≡ Some x → after ≡ set contents b None
     → notes_below contents 12 ≡ note b (shared x) ∷ notes_below after 12
 top_note contents after b x within wide behind some taken =
-    let none : (k : ℕ) → b ≤ k → at_place after k ≡ None = (λ k l. ap (λ (z : List (Option Pointer)). at_place z k) taken ∙ off k l (ℕ_discrete k b)) in
-    let rest : notes_below after 12 ≡ notes_below contents b = sym (ap (notes_below after) (let e : b + (12 - b) ≡ 12 = omega arith in e)) ∙ notes_upto after b (12 - b) none ∙ ap (λ (z : List (Option Pointer)). notes_below z b) taken ∙ notes_set contents b b None (le_refl b) in
-    sym (ap (notes_below contents) (let e : suc b + (11 - b) ≡ 12 = omega arith in e)) ∙ notes_upto contents (suc b) (11 - b) (λ k l. behind k l) ∙ notes_some contents b x some ∙ ap (λ (l : List (PartNote)). note b (shared x) ∷ l) (sym rest)
+    let none : (k : ℕ) → b ≤ k → at_place after k ≡ None =
+    (λ k l. ap (λ (z : List (Option Pointer)). at_place z k) taken ∙ off k l (ℕ_discrete k b)) in
+    let rest : notes_below after 12 ≡ notes_below contents b =
+    sym (ap (notes_below after) (let e : b + (12 - b) ≡ 12 = omega arith in e)) ∙ notes_upto after b (12 - b) none
+    ∙ ap (λ (z : List (Option Pointer)). notes_below z b) taken ∙ notes_set contents b b None (le_refl b) in
+    sym (ap (notes_below contents) (let e : suc b + (11 - b) ≡ 12 = omega arith in e))
+    ∙ notes_upto contents (suc b) (11 - b) (λ k l. behind k l) ∙ notes_some contents b x some
+    ∙ ap (λ (l : List (PartNote)). note b (shared x) ∷ l) (sym rest)
   where
     off : (k : ℕ) → b ≤ k → Dec (k ≡ b) → at_place (set contents b None) k ≡ None
     off k l (yes e) = ap (at_place (set contents b None)) e ∙ place_set_same contents b None wide
     off k l (no ne) = place_set_other contents b k None ne ∙ behind k (omega arith)
 
-pub apart_top : (after : List (Option Pointer)) (n b : ℕ) → at_place after b ≡ None → Contains (parts_of (notes_below after n)) b → ⊥
-apart_top after n b none h = let q = note_of (notes_below after n) b h in let p = note_place after n b q.0 q.1 in let clash : Some p.0 ≡ None = sym p.1 ∙ none in absurd (cc)
+pub apart_top : (after : List (Option Pointer)) (n b : ℕ) → at_place after b ≡ None
+    → Contains (parts_of (notes_below after n)) b → ⊥
+apart_top after n b none h = let q = note_of (notes_below after n) b h in let p = note_place after n b q.0 q.1 in
+    let clash : Some p.0 ≡ None = sym p.1 ∙ none in absurd (cc)
 
 pub part_note : (ts : List PartNote) (b : ℕ) (y : Option NumberSet) → Contains ts (note b y) → Contains (parts_of ts) b
 part_note [] b y h = absurd (none_in (note b y) h)
 part_note (t ∷ ts) b y h = ⊎_elim
-    (λ (e : t ≡ note b y). subst (λ (c : ℕ). Contains (parts_of (t ∷ ts)) c) (ap (λ (z : PartNote). z.part) e) (here t.part (parts_of ts)))
+    (λ (e : t ≡ note b y). subst (λ (c : ℕ). Contains (parts_of (t ∷ ts)) c) (ap (λ (z : PartNote). z.part) e)
+    (here t.part (parts_of ts)))
     (λ (c : Contains ts (note b y)). there t.part (parts_of ts) b (part_note ts b y c))
     (cons_cases t ts (note b y) h)

@@ -1,5 +1,6 @@
 -- Steps that regroup records: a look at the history, a join and a split.
-use Rattle.std.proofs.Common.{◌≡◌, ◌≢◌, ◌⊎◌, ℕ, zero, suc, ◌+◌, ◌<◌, ◌≤◌, List, [], ◌∷◌, ◌++◌, map, length, set, refl, sym, ap, ◌∙◌, subst, inl, inr, ⊎_elim, arith, zero-add, sum_by, eqb, cond, Contains}
+use Rattle.std.proofs.Common.{◌≡◌, ◌≢◌, ◌⊎◌, ℕ, zero, suc, ◌+◌, ◌<◌, ◌≤◌, List, [], ◌∷◌, ◌++◌, map, length, set, refl}
+use Rattle.std.proofs.Common.{sym, ap, ◌∙◌, subst, inl, inr, ⊎_elim, arith, zero-add, sum_by, eqb, cond, Contains}
 use mathlib.Core.Option.{Option, none, some, some-ne-none, some-injective}
 use mathlib.Core.Logic.{dite}
 use native.Mathlib.Decide.{ℕ_discrete}
@@ -19,11 +20,13 @@ use Rattle.moc_shared.specs.History.{StartsWith, Fits, StandsFor, stood}
 use Rattle.moc_shared.specs.Private.Rule.{note, records, Present, stood_in, stood_by, IsHeld, ViewFits, Kept}
 use Rattle.moc_shared.specs.Private.Opening.{nobody, idle_view, seat_for}
 use Rattle.moc_shared.specs.History.{MissesMarked}
-use Rattle.moc_shared.specs.Private.Plays.{seen_to, both_of, with_history, gathered, both_views, first_alone, Looked, Gathered, GatheredWith}
+use Rattle.moc_shared.specs.Private.Plays.{seen_to, both_of, with_history, gathered, both_views, first_alone, Looked}
+use Rattle.moc_shared.specs.Private.Plays.{Gathered, GatheredWith}
 use Rattle.moc_shared.proofs.Basics.{here, there, none_in, only, cons_cases, sum_set, sum_set_same, starts_itself}
 use Rattle.moc_shared.proofs.Apart.{stood_of, present_cases}
 
-module _ {S X O R Y : Type 0} (n : ℕ) (content : S → Y) (part : ℕ → X → Y) (answer : X → O → X × R) (proper : X → Type 0) (start : X) (clients : ℕ) where
+module _ {S X O R Y : Type 0} (n : ℕ) (content : S → Y) (part : ℕ → X → Y) (answer : X → O → X × R)
+    (proper : X → Type 0) (start : X) (clients : ℕ) where
   abbrev V : Type 0
   V = View X O R Y
 
@@ -35,13 +38,18 @@ module _ {S X O R Y : Type 0} (n : ℕ) (content : S → Y) (part : ℕ → X �
 
   -- each record that stands for h has the marks of one that did
   abbrev MarksStay : List V → List V → Type 0
-  MarksStay views views' = (r : Record O R) (h : ℕ) → Present views' r → StandsFor r h → (q : Record O R) × Present views q × StandsFor q h × ((b : ℕ) → Contains q.marks (h, b) → Contains r.marks (h, b))
+  MarksStay views views' = (r : Record O R) (h : ℕ) → Present views' r → StandsFor r h → (q : Record O R)
+      × Present views q × StandsFor q h × ((b : ℕ) → Contains q.marks (h, b) → Contains r.marks (h, b))
 
   abbrev MissesStay : List V → List V → Type 0
-  MissesStay views views' = (r : Record O R) (h b : ℕ) → Present views' r → Contains r.misses (h, b) → (q : Record O R) × Present views q × Contains q.misses (h, b)
+  MissesStay views views' = (r : Record O R) (h b : ℕ) → Present views' r → Contains r.misses (h, b) → (q : Record O R)
+      × Present views q × Contains q.misses (h, b)
 
-  regrouped : (s : State S V) (k : Rule s) (views : List V) → ((b : ℕ) → IsHeld s.views b → IsHeld views b) → ((j : ℕ) (u : V) → get_elem? views j ≡ some u → FitsIn k.log s.words s.homes u)
-      → MarksStay s.views views → MissesStay s.views views → ((c : ℕ) → stood_by c views ≤ stood_by c s.views) → ((r : Record O R) × Present views r × (r.seen ≡ k.log)) → Rule record { words = s.words; homes = s.homes; views = views }
+  regrouped : (s : State S V) (k : Rule s) (views : List V) → ((b : ℕ) → IsHeld s.views b → IsHeld views b)
+      → ((j : ℕ) (u : V) → get_elem? views j ≡ some u → FitsIn k.log s.words s.homes u)
+      → MarksStay s.views views → MissesStay s.views views → ((c : ℕ) → stood_by c views ≤ stood_by c s.views)
+      → ((r : Record O R) × Present views r × (r.seen ≡ k.log))
+      → Rule record { words = s.words; homes = s.homes; views = views }
   regrouped s k views parts fits marks misses sums shown = record {
     log = k.log;
     legal = k.legal;
@@ -65,44 +73,78 @@ module _ {S X O R Y : Type 0} (n : ℕ) (content : S → Y) (part : ℕ → X �
   at_new (x ∷ xs) (suc id) v w e = at_new xs id v w e
 
   -- a part that was held still is, where the new view holds what the old one held
-  still_held : (views : List V) (id : ℕ) (v w : V) (b : ℕ) → get_elem? views id ≡ some v → w.holds ≡ v.holds → IsHeld views b → IsHeld (set views id w) b
+  still_held : (views : List V) (id : ℕ) (v w : V) (b : ℕ) → get_elem? views id ≡ some v → w.holds ≡ v.holds
+      → IsHeld views b → IsHeld (set views id w) b
   still_held views id v w b at same (i, u, y, e, h) = dite (ℕ_discrete i id)
-      (λ here. let one : u ≡ v = some-injective u v (sym e ∙ subst (λ (k : ℕ). get_elem? views k ≡ some v) (sym here) at) in
-      (id, w, y, at_new views id v w at, subst (λ (l : List (Note Y)). Contains l (note b y)) (sym same) (subst (λ (x : V). Contains x.holds (note b y)) one h)))
+      (λ here. let one : u ≡ v = some-injective u v
+      (sym e ∙ subst (λ (k : ℕ). get_elem? views k ≡ some v) (sym here) at) in (
+        id,
+        w,
+        y,
+        at_new views id v w at,
+        subst (λ (l : List (Note Y)). Contains l (note b y)) (sym same)
+            (subst (λ (x : V). Contains x.holds (note b y)) one h),
+      ))
       (λ other. (i, u, y, set_else views id i w other ∙ e, h))
 
-  seen_cases : (log : List (Entry O R)) (rs : List (Record O R)) (r : Record O R) → Contains (map (seen_to log) rs) r → (q : Record O R) × Contains rs q × (seen_to log q ≡ r)
+  seen_cases : (log : List (Entry O R)) (rs : List (Record O R)) (r : Record O R) → Contains (map (seen_to log) rs) r
+      → (q : Record O R) × Contains rs q × (seen_to log q ≡ r)
   seen_cases log [] r h = absurd (none_in r h)
-  seen_cases log (x ∷ xs) r h = ⊎_elim (λ (e : seen_to log x ≡ r). (x, here x xs, e)) (λ (t : Contains (map (seen_to log) xs) r). let u = seen_cases log xs r t in (u.0, there x xs u.0 u.1, u.2)) (cons_cases (seen_to log x) (map (seen_to log) xs) r h)
+  seen_cases log (x ∷ xs) r h =
+      ⊎_elim (λ (e : seen_to log x ≡ r). (x, here x xs, e))
+      (λ (t : Contains (map (seen_to log) xs) r). let u = seen_cases log xs r t in (u.0, there x xs u.0 u.1, u.2))
+      (cons_cases (seen_to log x) (map (seen_to log) xs) r h)
 
-  seen_stood : (log : List (Entry O R)) (c : ℕ) (rs : List (Record O R)) → sum_by (stood c) (map (seen_to log) rs) ≡ sum_by (stood c) rs
+  seen_stood : (log : List (Entry O R)) (c : ℕ) (rs : List (Record O R))
+      → sum_by (stood c) (map (seen_to log) rs) ≡ sum_by (stood c) rs
   seen_stood log c [] = refl
-  seen_stood log c (x ∷ xs) = sum_by-cons (stood c) (seen_to log x) (map (seen_to log) xs) ∙ ap (λ (m : ℕ). stood c x + m) (seen_stood log c xs) ∙ sym (sum_by-cons (stood c) x xs)
+  seen_stood log c (x ∷ xs) = sum_by-cons (stood c) (seen_to log x) (map (seen_to log) xs)
+      ∙ ap (λ (m : ℕ). stood c x + m) (seen_stood log c xs) ∙ sym (sum_by-cons (stood c) x xs)
 
-  looked_kept : (s : State S V) (k : Rule s) (id : ℕ) (v : V) → get_elem? s.views id ≡ some v → Rule record { words = s.words; homes = s.homes; views = set s.views id (with_history v k.log) }
+  looked_kept : (s : State S V) (k : Rule s) (id : ℕ) (v : V) → get_elem? s.views id ≡ some v
+      → Rule record { words = s.words; homes = s.homes; views = set s.views id (with_history v k.log) }
   looked_kept s k id v at =
       let w = with_history v k.log in
       let log = k.log in
       let old = k.each_view id v at in
-      let was = λ (r : Record O R) (h : Contains (records w) r). let q : (q : Record O R) × Contains (records v) q × (seen_to log q ≡ r) = seen_cases log (records v) r h in q in
+      let was = λ (r : Record O R) (h : Contains (records w) r). let q : (q : Record O R) × Contains (records v) q
+      × (seen_to log q ≡ r) = seen_cases log (records v) r h in q in
       let same_sums : (c : ℕ) → stood_in c w ≡ stood_in c v = (λ c. seen_stood log c (records v)) in
       regrouped s k (set s.views id w)
       (λ b h. still_held s.views id v w b at refl h)
       (λ j u e. ⊎_elim
       (λ (t : (j ≡ id) × (w ≡ u)). subst (FitsIn log s.words s.homes) t.1 record {
         same_map = λ c p. old.same_map c (subst (λ (m : ℕ). 0 < m) (same_sums c) p);
-        fits = λ r h. let q = was r h in let f = (old.fits q.0 q.1).0 in subst (λ (x : Record O R). Fits log x × Fits x.seen x) q.2 ((starts_itself log, f.1), (starts_itself log, f.1));
-        known = λ r h c st. let q = was r h in old.known q.0 q.1 c (subst (λ (x : Record O R). StandsFor x c) (sym q.2) st);
-        holding = λ b y h. let m = old.holding b y h in record { within = m.within; word_is = m.word_is; out = m.out; noted = m.noted; marked = m.marked; stands = m.stands };
+        fits = λ r h. let q = was r h in let f = (old.fits q.0 q.1).0 in
+            subst (λ (x : Record O R). Fits log x × Fits x.seen x) q.2
+            ((starts_itself log, f.1), (starts_itself log, f.1));
+        known = λ r h c st. let q = was r h in
+            old.known q.0 q.1 c (subst (λ (x : Record O R). StandsFor x c) (sym q.2) st);
+        holding = λ b y h. let m = old.holding b y h in
+            record {
+              within = m.within;
+              word_is = m.word_is;
+              out = m.out;
+              noted = m.noted;
+              marked = m.marked;
+              stands = m.stands;
+            };
       })
       (λ (t : (j ≢ id) × (get_elem? s.views j ≡ some u)). k.each_view j u t.1)
       (at_set s.views id j w u e))
       (λ r h p st. ⊎_elim
-      (λ (i : Contains (records w) r). let q = was r i in (q.0, (id, v, at, q.1), subst (λ (x : Record O R). StandsFor x h) (sym q.2) st, λ b m. subst (λ (x : Record O R). Contains x.marks (h, b)) q.2 m))
+      (λ (i : Contains (records w) r). let q = was r i in (
+        q.0,
+        (id, v, at, q.1),
+        subst (λ (x : Record O R). StandsFor x h) (sym q.2) st,
+        λ b m. subst
+            (λ (x : Record O R). Contains x.marks (h, b)) q.2 m,
+      ))
       (λ (o : Present s.views r). (r, o, st, λ b m. m))
       (present_cases s.views id w r p))
       (λ r h b p m. ⊎_elim
-      (λ (i : Contains (records w) r). let q = was r i in (q.0, (id, v, at, q.1), subst (λ (x : Record O R). Contains x.misses (h, b)) (sym q.2) m))
+      (λ (i : Contains (records w) r). let q = was r i in
+      (q.0, (id, v, at, q.1), subst (λ (x : Record O R). Contains x.misses (h, b)) (sym q.2) m))
       (λ (o : Present s.views r). (r, o, m))
       (present_cases s.views id w r p))
       (λ c. let e = sum_set_same (stood_in c) s.views id v w at (same_sums c) in omega arith)
@@ -112,64 +154,117 @@ module _ {S X O R Y : Type 0} (n : ℕ) (content : S → Y) (part : ℕ → X �
   stood_both c r q log = sum_by-append (λ (k : Calls O R). cond (eqb k.client c) 1 0) r.own q.own
 
   stood_two : (c : ℕ) (v : V) (q : Record O R) → v.others ≡ q ∷ [] → stood_in c v ≡ stood c v.mine + stood c q
-  stood_two c v q two = ap (λ (l : List (Record O R)). sum_by (stood c) (v.mine ∷ l)) two ∙ sum_by-cons (stood c) v.mine (q ∷ []) ∙ ap (λ (m : ℕ). stood c v.mine + m) (zero-add (stood c q))
+  stood_two c v q two = ap (λ (l : List (Record O R)). sum_by (stood c) (v.mine ∷ l)) two
+      ∙ sum_by-cons (stood c) v.mine (q ∷ []) ∙ ap (λ (m : ℕ). stood c v.mine + m) (zero-add (stood c q))
 
-  gathered_kept : (s : State S V) (k : Rule s) (id : ℕ) (v : V) (q : Record O R) → get_elem? s.views id ≡ some v → v.others ≡ q ∷ []
-      → Rule record { words = s.words; homes = s.homes; views = set s.views id (gathered v q k.log) } × StartsWith k.log v.mine.seen × StartsWith k.log q.seen × Fits k.log (both_of v.mine q k.log) × MissesMarked (both_of v.mine q k.log)
+  gathered_kept : (s : State S V) (k : Rule s) (id : ℕ) (v : V) (q : Record O R) → get_elem? s.views id ≡ some v
+      → v.others ≡ q ∷ []
+      → Rule record { words = s.words; homes = s.homes; views = set s.views id (gathered v q k.log) }
+      × StartsWith k.log v.mine.seen × StartsWith k.log q.seen × Fits k.log (both_of v.mine q k.log)
+      × MissesMarked (both_of v.mine q k.log)
   gathered_kept s k id v q at two =
       let w = gathered v q k.log in
       let log = k.log in
       let old = k.each_view id v at in
       let first = here v.mine v.others in
-      let second : Contains (records v) q = subst (λ (l : List (Record O R)). Contains (v.mine ∷ l) q) (sym two) (there v.mine (q ∷ []) q (here q [])) in
+      let second : Contains (records v) q =
+      subst (λ (l : List (Record O R)). Contains (v.mine ∷ l) q) (sym two) (there v.mine (q ∷ []) q (here q [])) in
       let f = (old.fits v.mine first).0 in
       let g = (old.fits q second).0 in
-      let fit : Fits log w.mine = (starts_itself log, λ c i. ⊎_elim (λ (t : Contains v.mine.own c). f.1 c t) (λ (t : Contains q.own c). g.1 c t) (Contains-append_cases v.mine.own q.own c i)) in
-      let same_sums : (c : ℕ) → stood_in c w ≡ stood_in c v = (λ c. zero-add (stood c w.mine) ∙ stood_both c v.mine q log ∙ sym (stood_two c v q two)) in
+      let fit : Fits log w.mine = (
+        starts_itself log,
+        λ c i. ⊎_elim (λ (t : Contains v.mine.own c). f.1 c t) (λ (t : Contains q.own c). g.1 c t)
+            (Contains-append_cases v.mine.own q.own c i),
+      ) in
+      let same_sums : (c : ℕ) → stood_in c w ≡ stood_in c v =
+      (λ c. zero-add (stood c w.mine) ∙ stood_both c v.mine q log ∙ sym (stood_two c v q two)) in
       let one = λ (r : Record O R) (h : Contains (records w) r). let e : w.mine ≡ r = only w.mine r h in e in
       let marks : MarksStay s.views (set s.views id w) = (λ r h p st. ⊎_elim
-      (λ (i : Contains (records w) r). let e = one r i in let st' : StandsFor w.mine h = subst (λ (x : Record O R). StandsFor x h) (sym e) st in let sum = stood_both h v.mine q log in pick h r e st' sum)
+      (λ (i : Contains (records w) r). let e = one r i in
+      let st' : StandsFor w.mine h = subst (λ (x : Record O R). StandsFor x h) (sym e) st in let sum =
+      stood_both h v.mine q log in pick h r e st' sum)
       (λ (o : Present s.views r). (r, o, st, λ b m. m))
       (present_cases s.views id w r p)) in
       let misses : MissesStay s.views (set s.views id w) = (λ r h b p m. ⊎_elim
-      (λ (i : Contains (records w) r). ⊎_elim (λ (t : Contains v.mine.misses (h, b)). (v.mine, (id, v, at, first), t)) (λ (t : Contains q.misses (h, b)). (q, (id, v, at, second), t)) (Contains-append_cases v.mine.misses q.misses (h, b) (subst (λ (x : Record O R). Contains x.misses (h, b)) (sym (one r i)) m)))
+      (λ (i : Contains (records w) r). ⊎_elim (λ (t : Contains v.mine.misses (h, b)). (v.mine, (id, v, at, first), t))
+      (λ (t : Contains q.misses (h, b)). (q, (id, v, at, second), t))
+      (Contains-append_cases v.mine.misses q.misses (h, b)
+      (subst (λ (x : Record O R). Contains x.misses (h, b)) (sym (one r i)) m)))
       (λ (o : Present s.views r). (r, o, m))
       (present_cases s.views id w r p)) in
-      let kept : Rule record { words = s.words; homes = s.homes; views = set s.views id w } = regrouped s k (set s.views id w)
+      let kept : Rule record { words = s.words; homes = s.homes; views = set s.views id w } =
+      regrouped s k (set s.views id w)
       (λ b h. still_held s.views id v w b at refl h)
       (λ j u e. ⊎_elim
       (λ (t : (j ≡ id) × (w ≡ u)). subst (FitsIn log s.words s.homes) t.1 record {
         same_map = λ c p. old.same_map c (subst (λ (m : ℕ). 0 < m) (same_sums c) p);
         fits = λ r h. subst (λ (x : Record O R). Fits log x × Fits x.seen x) (one r h) (fit, fit);
         known = λ r h c st. known_one c (subst (λ (x : Record O R). StandsFor x c) (sym (one r h)) st);
-        holding = λ b y h. let m = old.holding b y h in let st = m.stands in let sum = stood_both v.mine.number v.mine q log in record { within = m.within; word_is = m.word_is; out = m.out; noted = m.noted; marked = Contains-append_left v.mine.marks q.marks (v.mine.number, b) m.marked; stands = subst (λ (x : ℕ). 0 < x) (sym sum) (omega arith) };
+        holding = λ b y h. let m = old.holding b y h in let st = m.stands in let sum =
+            stood_both v.mine.number v.mine q log in
+            record {
+              within = m.within;
+              word_is = m.word_is;
+              out = m.out;
+              noted = m.noted;
+              marked = Contains-append_left v.mine.marks q.marks (v.mine.number, b) m.marked;
+              stands =
+                  subst (λ (x : ℕ). 0 < x) (sym sum) (omega arith);
+            };
       })
       (λ (t : (j ≢ id) × (get_elem? s.views j ≡ some u)). k.each_view j u t.1)
       (at_set s.views id j w u e))
       marks
       misses
       (λ c. let e = sum_set_same (stood_in c) s.views id v w at (same_sums c) in omega arith)
-      (w.mine, (id, w, at_new s.views id v w at, here w.mine w.others), refl) in
-      (kept, f.0, g.0, fit, λ h b m st. kept.missed w.mine w.mine (id, w, at_new s.views id v w at, here w.mine w.others) (id, w, at_new s.views id v w at, here w.mine w.others) h b m st)
+      (w.mine, (id, w, at_new s.views id v w at, here w.mine w.others), refl) in (
+        kept,
+        f.0,
+        g.0,
+        fit,
+        λ h b m st. kept.missed w.mine w.mine
+            (id, w, at_new s.views id v w at, here w.mine w.others)
+            (id, w, at_new s.views id v w at, here w.mine w.others) h b m st,
+      )
     where
       second' : Contains (records v) q
-      second' = subst (λ (l : List (Record O R)). Contains (v.mine ∷ l) q) (sym two) (there v.mine (q ∷ []) q (here q []))
+      second' =
+          subst (λ (l : List (Record O R)). Contains (v.mine ∷ l) q) (sym two) (there v.mine (q ∷ []) q (here q []))
 
       known_one : (c : ℕ) → StandsFor (both_of v.mine q k.log) c → c < clients
       known_one c st = dite (ℕ_discrete (stood c v.mine) 0)
-          (λ z. (k.each_view id v at).known q second' c (let sum = stood_both c v.mine q k.log in let z' : stood c v.mine ≡ 0 = z in omega arith))
-          (λ nz. (k.each_view id v at).known v.mine (here v.mine v.others) c (let z' : stood c v.mine ≢ 0 = nz in omega arith))
+          (λ z. (k.each_view id v at).known q second' c
+          (let sum = stood_both c v.mine q k.log in let z' : stood c v.mine ≡ 0 = z in omega arith))
+          (λ nz. (k.each_view id v at).known v.mine (here v.mine v.others) c
+          (let z' : stood c v.mine ≢ 0 = nz in omega arith))
 
-      pick : (h : ℕ) (r : Record O R) → both_of v.mine q k.log ≡ r → StandsFor (both_of v.mine q k.log) h → stood h (both_of v.mine q k.log) ≡ stood h v.mine + stood h q
-          → (x : Record O R) × Present s.views x × StandsFor x h × ((b : ℕ) → Contains x.marks (h, b) → Contains r.marks (h, b))
+      pick : (h : ℕ) (r : Record O R) → both_of v.mine q k.log ≡ r → StandsFor (both_of v.mine q k.log) h
+          → stood h (both_of v.mine q k.log) ≡ stood h v.mine + stood h q
+          → (x : Record O R) × Present s.views x × StandsFor x h
+          × ((b : ℕ) → Contains x.marks (h, b) → Contains r.marks (h, b))
       pick h r e st sum = dite (ℕ_discrete (stood h v.mine) 0)
-          (λ z. (q, (id, v, at, second'), (let z' : stood h v.mine ≡ 0 = z in omega arith), λ b m. subst (λ (x : Record O R). Contains x.marks (h, b)) e (Contains-append_right v.mine.marks q.marks (h, b) m)))
-          (λ nz. (v.mine, (id, v, at, here v.mine v.others), (let z' : stood h v.mine ≢ 0 = nz in omega arith), λ b m. subst (λ (x : Record O R). Contains x.marks (h, b)) e (Contains-append_left v.mine.marks q.marks (h, b) m)))
+          (λ z. (
+            q,
+            (id, v, at, second'),
+            (let z' : stood h v.mine ≡ 0 = z in omega arith),
+            λ b m. subst
+                (λ (x : Record O R). Contains x.marks (h, b)) e (Contains-append_right v.mine.marks q.marks (h, b) m),
+          ))
+          (λ nz. (
+            v.mine,
+            (id, v, at, here v.mine v.others),
+            (let z' : stood h v.mine ≢ 0 = nz in omega arith),
+            λ b m.
+                subst (λ (x : Record O R). Contains x.marks (h, b)) e
+                (Contains-append_left v.mine.marks q.marks (h, b) m),
+          ))
 
   none_stood : (c : ℕ) → StandsFor (nobody {O = O} {R = R}) c → ⊥
   none_stood c st = omega arith
 
-  joined_kept : (s : State S V) (k : Rule s) (id : ℕ) (v : V) (other : ℕ) (w spent : V) → StandsFor v.mine v.mine.number → spent.mine ≡ nobody → spent.others ≡ [] → spent.holds ≡ [] → w.holds ≡ [] → get_elem? s.views id ≡ some v → other ≢ id → get_elem? s.views other ≡ some w
+  joined_kept : (s : State S V) (k : Rule s) (id : ℕ) (v : V) (other : ℕ) (w spent : V) → StandsFor v.mine v.mine.number
+      → spent.mine ≡ nobody → spent.others ≡ [] → spent.holds ≡ [] → w.holds ≡ [] → get_elem? s.views id ≡ some v
+      → other ≢ id → get_elem? s.views other ≡ some w
       → Rule record { words = s.words; homes = s.homes; views = set (set s.views id (both_views v w)) other spent }
   joined_kept s k id v other w spent stands blank lone empty free at apart there_is =
       let u = both_views v w in
@@ -178,58 +273,139 @@ module _ {S X O R Y : Type 0} (n : ℕ) (content : S → Y) (part : ℕ → X �
       let and = k.each_view other w there_is in
       let mid = set s.views id u in
       let at_mid : get_elem? mid other ≡ some w = set_else s.views id other u apart ∙ there_is in
-      let from = λ (r : Record O R) (h : Contains (records u) r). let t : Contains (records v) r ⊎ Contains (records w) r = Contains-append_cases (records v) (records w) r h in t in
-      let spent_is : (r : Record O R) → Contains (records spent) r → nobody ≡ r = (λ r h. sym blank ∙ only spent.mine r (subst (λ (l : List (Record O R)). Contains (spent.mine ∷ l) r) lone h)) in
+      let from = λ (r : Record O R) (h : Contains (records u) r). let t : Contains (records v) r
+      ⊎ Contains (records w) r = Contains-append_cases (records v) (records w) r h in t in
+      let spent_is : (r : Record O R) → Contains (records spent) r → nobody ≡ r =
+      (λ r h. sym blank ∙ only spent.mine r (subst (λ (l : List (Record O R)). Contains (spent.mine ∷ l) r) lone h))
+      in
       let was : (r : Record O R) → Present (set mid other spent) r → (nobody ≡ r) ⊎ Present s.views r = (λ r p. ⊎_elim
       (λ (h : Contains (records spent) r). inl (spent_is r h))
-      (λ (m : Present mid r). ⊎_elim (λ (h : Contains (records u) r). ⊎_elim (λ (a : Contains (records v) r). inr (id, v, at, a)) (λ (b : Contains (records w) r). inr (other, w, there_is, b)) (from r h)) (λ (o : Present s.views r). inr o) (present_cases s.views id u r m))
+      (λ (m : Present mid r). ⊎_elim
+      (λ (h : Contains (records u) r). ⊎_elim (λ (a : Contains (records v) r). inr (id, v, at, a))
+      (λ (b : Contains (records w) r). inr (other, w, there_is, b)) (from r h)) (λ (o : Present s.views r). inr o)
+      (present_cases s.views id u r m))
       (present_cases mid other spent r p)) in
-      let sum_u : (c : ℕ) → stood_in c u ≡ stood_in c v + stood_in c w = (λ c. sum_by-append (stood c) (records v) (records w)) in
-      let sum_spent : (c : ℕ) → stood_in c spent ≡ 0 = (λ c. ap (λ (l : List (Record O R)). sum_by (stood c) (spent.mine ∷ l)) lone ∙ ap (λ (r : Record O R). 0 + stood c r) blank) in
+      let sum_u : (c : ℕ) → stood_in c u ≡ stood_in c v + stood_in c w =
+      (λ c. sum_by-append (stood c) (records v) (records w)) in
+      let sum_spent : (c : ℕ) → stood_in c spent ≡ 0 =
+      (λ c. ap (λ (l : List (Record O R)). sum_by (stood c) (spent.mine ∷ l)) lone
+      ∙ ap (λ (r : Record O R). 0 + stood c r) blank) in
       regrouped s k (set mid other spent)
       (λ b h. goes b h)
       (λ j x e. ⊎_elim
       (λ (t : (j ≡ other) × (spent ≡ x)). subst (FitsIn log s.words s.homes) t.1 record {
         same_map = λ c p. let z = sum_spent c in absurd (omega arith);
-        fits = λ r h. subst (λ (q : Record O R). Fits log q × Fits q.seen q) (spent_is r h) (((log, refl), λ c i. absurd (none_in c i)), (([], refl), λ c i. absurd (none_in c i)));
+        fits = λ r h. subst (λ (q : Record O R). Fits log q × Fits q.seen q) (spent_is r h)
+            (((log, refl), λ c i. absurd (none_in c i)), (([], refl), λ c i. absurd (none_in c i)));
         known = λ r h c st. absurd (none_stood c (subst (λ (q : Record O R). StandsFor q c) (sym (spent_is r h)) st));
         holding = λ b y h. absurd (none_in (note b y) (subst (λ (l : List (Note Y)). Contains l (note b y)) empty h));
       })
       (λ (t : (j ≢ other) × (get_elem? mid j ≡ some x)). ⊎_elim
       (λ (q : (j ≡ id) × (u ≡ x)). subst (FitsIn log s.words s.homes) q.1 record {
-        same_map = λ c p. old.same_map v.mine.number (let a = stood_of v.mine.number v v.mine (here v.mine v.others) in omega arith);
-        fits = λ r h. ⊎_elim (λ (a : Contains (records v) r). old.fits r a) (λ (b : Contains (records w) r). and.fits r b) (from r h);
-        known = λ r h c st. ⊎_elim (λ (a : Contains (records v) r). old.known r a c st) (λ (b : Contains (records w) r). and.known r b c st) (from r h);
-        holding = λ b y h. let m = old.holding b y h in record { within = m.within; word_is = m.word_is; out = m.out; noted = m.noted; marked = m.marked; stands = m.stands };
+        same_map =
+            λ c p. old.same_map v.mine.number
+            (let a = stood_of v.mine.number v v.mine (here v.mine v.others) in omega arith);
+        fits = λ r h. ⊎_elim (λ (a : Contains (records v) r). old.fits r a)
+            (λ (b : Contains (records w) r). and.fits r b) (from r h);
+        known = λ r h c st. ⊎_elim (λ (a : Contains (records v) r). old.known r a c st)
+            (λ (b : Contains (records w) r). and.known r b c st) (from r h);
+        holding = λ b y h. let m = old.holding b y h in
+            record {
+              within = m.within;
+              word_is = m.word_is;
+              out = m.out;
+              noted = m.noted;
+              marked = m.marked;
+              stands = m.stands;
+            };
       })
       (λ (q : (j ≢ id) × (get_elem? s.views j ≡ some x)). k.each_view j x q.1)
       (at_set s.views id j u x t.1))
       (at_set mid other j spent x e))
-      (λ r h p st. ⊎_elim (λ (z : nobody ≡ r). absurd (none_stood h (subst (λ (q : Record O R). StandsFor q h) (sym z) st))) (λ (o : Present s.views r). (r, o, st, λ b m. m)) (was r p))
-      (λ r h b p m. ⊎_elim (λ (z : nobody ≡ r). absurd (none_in (h, b) (subst (λ (q : Record O R). Contains q.misses (h, b)) (sym z) m))) (λ (o : Present s.views r). (r, o, m)) (was r p))
-      (λ c. let a = sum_set (stood_in c) s.views id v u at in let b = sum_set (stood_in c) mid other w spent at_mid in let d = sum_u c in let e = sum_spent c in omega arith)
+      (λ r h p st. ⊎_elim
+      (λ (z : nobody ≡ r). absurd (none_stood h (subst (λ (q : Record O R). StandsFor q h) (sym z) st)))
+      (λ (o : Present s.views r). (r, o, st, λ b m. m)) (was r p))
+      (λ r h b p m. ⊎_elim
+      (λ (z : nobody ≡ r). absurd (none_in (h, b) (subst (λ (q : Record O R). Contains q.misses (h, b)) (sym z) m)))
+      (λ (o : Present s.views r). (r, o, m)) (was r p))
+      (λ c. let a = sum_set (stood_in c) s.views id v u at in let b = sum_set (stood_in c) mid other w spent at_mid in
+      let d = sum_u c in let e = sum_spent c in omega arith)
       (seen_by k.shown.0 k.shown.1 k.shown.2)
     where
-      seen_by : (r : Record O R) → Present s.views r → r.seen ≡ k.log → (q : Record O R) × Present (set (set s.views id (both_views v w)) other spent) q × (q.seen ≡ k.log)
+      seen_by : (r : Record O R) → Present s.views r → r.seen ≡ k.log → (q : Record O R)
+          × Present (set (set s.views id (both_views v w)) other spent) q × (q.seen ≡ k.log)
       seen_by r (i, x, e, h) all = dite (ℕ_discrete i other)
-          (λ z. let one : x ≡ w = some-injective x w (sym e ∙ subst (λ (j : ℕ). get_elem? s.views j ≡ some w) (sym z) there_is) in
-          (r, (id, both_views v w, set_else (set s.views id (both_views v w)) other id spent (λ q. apart (sym q)) ∙ at_new s.views id v (both_views v w) at, Contains-append_right (records v) (records w) r (subst (λ (q : V). Contains (records q) r) one h)), all))
+          (λ z. let one : x ≡ w = some-injective x w
+          (sym e ∙ subst (λ (j : ℕ). get_elem? s.views j ≡ some w) (sym z) there_is) in (
+            r,
+            (
+              id,
+              both_views v w,
+              set_else (set s.views id (both_views v w)) other id spent (λ q. apart (sym q))
+                  ∙ at_new s.views id v (both_views v w) at,
+              Contains-append_right (records v) (records w) r
+                  (subst (λ (q : V). Contains (records q) r) one h),
+            ),
+            all,
+          ))
           (λ ne. dite (ℕ_discrete i id)
-          (λ z. let one : x ≡ v = some-injective x v (sym e ∙ subst (λ (j : ℕ). get_elem? s.views j ≡ some v) (sym z) at) in
-          (r, (id, both_views v w, set_else (set s.views id (both_views v w)) other id spent (λ q. apart (sym q)) ∙ at_new s.views id v (both_views v w) at, Contains-append_left (records v) (records w) r (subst (λ (q : V). Contains (records q) r) one h)), all))
-          (λ nz. (r, (i, x, set_else (set s.views id (both_views v w)) other i spent ne ∙ set_else s.views id i (both_views v w) nz ∙ e, h), all)))
+          (λ z. let one : x ≡ v = some-injective x v
+          (sym e ∙ subst (λ (j : ℕ). get_elem? s.views j ≡ some v) (sym z) at) in (
+            r,
+            (
+              id,
+              both_views v w,
+              set_else (set s.views id (both_views v w)) other id spent (λ q. apart (sym q))
+                  ∙ at_new s.views id v (both_views v w) at,
+              Contains-append_left (records v) (records w) r
+                  (subst (λ (q : V). Contains (records q) r) one h),
+            ),
+            all,
+          ))
+          (λ nz. (
+            r,
+            (
+              i,
+              x,
+              set_else (set s.views id (both_views v w)) other i spent ne
+                  ∙ set_else s.views id i (both_views v w) nz ∙ e,
+              h,
+            ),
+            all,
+          )))
 
       -- the parts that were held still are
       goes : (b : ℕ) → IsHeld s.views b → IsHeld (set (set s.views id (both_views v w)) other spent) b
       goes b (i, x, y, e, h) = dite (ℕ_discrete i other)
-          (λ z. let one : x ≡ w = some-injective x w (sym e ∙ subst (λ (j : ℕ). get_elem? s.views j ≡ some w) (sym z) there_is) in absurd (none_in (note b y) (subst (λ (l : List (Note Y)). Contains l (note b y)) free (subst (λ (q : V). Contains q.holds (note b y)) one h))))
+          (λ z. let one : x ≡ w = some-injective x w
+          (sym e ∙ subst (λ (j : ℕ). get_elem? s.views j ≡ some w) (sym z) there_is) in
+          absurd (none_in (note b y)
+          (subst (λ (l : List (Note Y)). Contains l (note b y)) free
+          (subst (λ (q : V). Contains q.holds (note b y)) one h))))
           (λ ne. dite (ℕ_discrete i id)
-          (λ z. let one : x ≡ v = some-injective x v (sym e ∙ subst (λ (j : ℕ). get_elem? s.views j ≡ some v) (sym z) at) in
-          (id, both_views v w, y, set_else (set s.views id (both_views v w)) other id spent (λ q. apart (sym q)) ∙ at_new s.views id v (both_views v w) at, subst (λ (q : V). Contains q.holds (note b y)) one h))
-          (λ nz. (i, x, y, set_else (set s.views id (both_views v w)) other i spent ne ∙ set_else s.views id i (both_views v w) nz ∙ e, h)))
+          (λ z. let one : x ≡ v = some-injective x v
+          (sym e ∙ subst (λ (j : ℕ). get_elem? s.views j ≡ some v) (sym z) at) in (
+            id,
+            both_views v w,
+            y,
+            set_else (set s.views id (both_views v w)) other id spent (λ q. apart (sym q))
+                ∙ at_new s.views id v (both_views v w) at,
+            subst (λ (q : V). Contains q.holds (note b y)) one h,
+          ))
+          (λ nz. (
+            i,
+            x,
+            y,
+            set_else (set s.views id (both_views v w)) other i spent ne
+                ∙ set_else s.views id i (both_views v w) nz ∙ e,
+            h,
+          )))
 
-  cut_kept : (s : State S V) (k : Rule s) (id : ℕ) (v right : V) → StandsFor v.mine v.mine.number → get_elem? s.views id ≡ some v → right.start ≡ v.start → right.clients ≡ v.clients → right.holds ≡ []
-      → ((r : Record O R) → Contains (records right) r → (nobody ≡ r) ⊎ Contains v.others r) → ((r : Record O R) → Contains v.others r → Contains (records right) r) → ((c : ℕ) → stood_in c right ≡ sum_by (stood c) v.others)
+  cut_kept : (s : State S V) (k : Rule s) (id : ℕ) (v right : V) → StandsFor v.mine v.mine.number
+      → get_elem? s.views id ≡ some v → right.start ≡ v.start → right.clients ≡ v.clients → right.holds ≡ []
+      → ((r : Record O R) → Contains (records right) r → (nobody ≡ r) ⊎ Contains v.others r)
+      → ((r : Record O R) → Contains v.others r → Contains (records right) r)
+      → ((c : ℕ) → stood_in c right ≡ sum_by (stood c) v.others)
       → Rule record { words = s.words; homes = s.homes; views = set s.views id (first_alone v) ++ right ∷ [] }
   cut_kept s k id v right stands at same_start same_clients empty theirs keep sums =
       let left = first_alone v in
@@ -238,38 +414,63 @@ module _ {S X O R Y : Type 0} (n : ℕ) (content : S → Y) (part : ℕ → X �
       let mid = set s.views id left in
       let first = here v.mine v.others in
       let map_of = old.same_map v.mine.number (let a = stood_of v.mine.number v v.mine first in omega arith) in
-      let two : (c : ℕ) → stood_in c v ≡ stood c v.mine + sum_by (stood c) v.others = (λ c. sum_by-cons (stood c) v.mine v.others) in
-      let in_old = λ (r : Record O R) (h : Contains v.others r). let t : Present s.views r = (id, v, at, there v.mine v.others r h) in t in
-      let right_was = λ (r : Record O R) (h : Contains (records right) r). let t : (nobody ≡ r) ⊎ Present s.views r = ⊎_elim (λ z. inl z) (λ o. inr (in_old r o)) (theirs r h) in t in
+      let two : (c : ℕ) → stood_in c v ≡ stood c v.mine + sum_by (stood c) v.others =
+      (λ c. sum_by-cons (stood c) v.mine v.others) in
+      let in_old = λ (r : Record O R) (h : Contains v.others r). let t : Present s.views r =
+      (id, v, at, there v.mine v.others r h) in t in
+      let right_was = λ (r : Record O R) (h : Contains (records right) r). let t : (nobody ≡ r) ⊎ Present s.views r =
+      ⊎_elim (λ z. inl z) (λ o. inr (in_old r o)) (theirs r h) in t in
       let was : (r : Record O R) → Present (mid ++ right ∷ []) r → (nobody ≡ r) ⊎ Present s.views r = (λ r p. ⊎_elim
       (λ (e : get_elem? mid p.0 ≡ some p.1). ⊎_elim
-      (λ (h : Contains (records left) r). inr (id, v, at, subst (λ (q : Record O R). Contains (records v) q) (only v.mine r h) first))
+      (λ (h : Contains (records left) r). inr
+      (id, v, at, subst (λ (q : Record O R). Contains (records v) q) (only v.mine r h) first))
       (λ (o : Present s.views r). inr o)
       (present_cases s.views id left r (p.0, p.1, e, p.3)))
       (λ (e : right ≡ p.1). right_was r (subst (λ (q : V). Contains (records q) r) (sym e) p.3))
       (at_snoc mid right p.1 p.0 p.2)) in
       regrouped s k (mid ++ right ∷ [])
-      (λ b h. let t = still_held s.views id v left b at refl h in (t.0, t.1, t.2, at_longer mid (right ∷ []) t.0 t.1 t.3, t.4))
+      (λ b h. let t = still_held s.views id v left b at refl h in
+      (t.0, t.1, t.2, at_longer mid (right ∷ []) t.0 t.1 t.3, t.4))
       (λ j x e. ⊎_elim
       (λ (m : get_elem? mid j ≡ some x). ⊎_elim
       (λ (q : (j ≡ id) × (left ≡ x)). subst (FitsIn log s.words s.homes) q.1 record {
         same_map = λ c p. map_of;
         fits = λ r h. subst (λ (y : Record O R). Fits log y × Fits y.seen y) (only v.mine r h) (old.fits v.mine first);
-        known = λ r h c st. old.known v.mine first c (subst (λ (y : Record O R). StandsFor y c) (sym (only v.mine r h)) st);
-        holding = λ b y h. let d = old.holding b y h in record { within = d.within; word_is = d.word_is; out = d.out; noted = d.noted; marked = d.marked; stands = d.stands };
+        known = λ r h c st. old.known v.mine first c
+            (subst (λ (y : Record O R). StandsFor y c) (sym (only v.mine r h)) st);
+        holding = λ b y h. let d = old.holding b y h in
+            record {
+              within = d.within;
+              word_is = d.word_is;
+              out = d.out;
+              noted = d.noted;
+              marked = d.marked;
+              stands = d.stands;
+            };
       })
       (λ (q : (j ≢ id) × (get_elem? s.views j ≡ some x)). k.each_view j x q.1)
       (at_set s.views id j left x m))
       (λ (q : right ≡ x). subst (FitsIn log s.words s.homes) q record {
         same_map = λ c p. (same_start ∙ map_of.0, same_clients ∙ map_of.1);
-        fits = λ r h. ⊎_elim (λ (z : nobody ≡ r). subst (λ (y : Record O R). Fits log y × Fits y.seen y) z (((log, refl), λ c i. absurd (none_in c i)), (([], refl), λ c i. absurd (none_in c i)))) (λ (o : Contains v.others r). old.fits r (there v.mine v.others r o)) (theirs r h);
-        known = λ r h c st. ⊎_elim (λ (z : nobody ≡ r). absurd (none_stood c (subst (λ (y : Record O R). StandsFor y c) (sym z) st))) (λ (o : Contains v.others r). old.known r (there v.mine v.others r o) c st) (theirs r h);
+        fits = λ r h. ⊎_elim
+            (λ (z : nobody ≡ r). subst (λ (y : Record O R). Fits log y × Fits y.seen y) z
+            (((log, refl), λ c i. absurd (none_in c i)), (([], refl), λ c i. absurd (none_in c i))))
+            (λ (o : Contains v.others r). old.fits r (there v.mine v.others r o)) (theirs r h);
+        known = λ r h c st. ⊎_elim
+            (λ (z : nobody ≡ r). absurd (none_stood c (subst (λ (y : Record O R). StandsFor y c) (sym z) st)))
+            (λ (o : Contains v.others r). old.known r (there v.mine v.others r o) c st) (theirs r h);
         holding = λ b y h. absurd (none_in (note b y) (subst (λ (l : List (Note Y)). Contains l (note b y)) empty h));
       })
       (at_snoc mid right x j e))
-      (λ r h p st. ⊎_elim (λ (z : nobody ≡ r). absurd (none_stood h (subst (λ (q : Record O R). StandsFor q h) (sym z) st))) (λ (o : Present s.views r). (r, o, st, λ b m. m)) (was r p))
-      (λ r h b p m. ⊎_elim (λ (z : nobody ≡ r). absurd (none_in (h, b) (subst (λ (q : Record O R). Contains q.misses (h, b)) (sym z) m))) (λ (o : Present s.views r). (r, o, m)) (was r p))
-      (λ c. let a = sum_set (stood_in c) s.views id v left at in let b = sum_by_push (stood_in c) mid right in let d = two c in let e = sums c in let f : stood_in c left ≡ stood c v.mine = zero-add (stood c v.mine) in omega arith)
+      (λ r h p st. ⊎_elim
+      (λ (z : nobody ≡ r). absurd (none_stood h (subst (λ (q : Record O R). StandsFor q h) (sym z) st)))
+      (λ (o : Present s.views r). (r, o, st, λ b m. m)) (was r p))
+      (λ r h b p m. ⊎_elim
+      (λ (z : nobody ≡ r). absurd (none_in (h, b) (subst (λ (q : Record O R). Contains q.misses (h, b)) (sym z) m)))
+      (λ (o : Present s.views r). (r, o, m)) (was r p))
+      (λ c. let a = sum_set (stood_in c) s.views id v left at in let b = sum_by_push (stood_in c) mid right in
+      let d = two c in let e = sums c in let f : stood_in c left ≡ stood c v.mine = zero-add (stood c v.mine) in
+      omega arith)
       (seen_by k.shown.0 k.shown.1 k.shown.2)
     where
       two_views : List V
@@ -278,21 +479,61 @@ module _ {S X O R Y : Type 0} (n : ℕ) (content : S → Y) (part : ℕ → X �
       at_right : get_elem? two_views (length (set s.views id (first_alone v))) ≡ some right
       at_right = at_last (set s.views id (first_alone v)) right (length (set s.views id (first_alone v))) refl
 
-      seen_by : (r : Record O R) → Present s.views r → r.seen ≡ k.log → (q : Record O R) × Present two_views q × (q.seen ≡ k.log)
+      seen_by : (r : Record O R) → Present s.views r → r.seen ≡ k.log → (q : Record O R) × Present two_views q
+          × (q.seen ≡ k.log)
       seen_by r (i, x, e, h) all = dite (ℕ_discrete i id)
-          (λ z. let one : x ≡ v = some-injective x v (sym e ∙ subst (λ (j : ℕ). get_elem? s.views j ≡ some v) (sym z) at) in
+          (λ z. let one : x ≡ v = some-injective x v
+          (sym e ∙ subst (λ (j : ℕ). get_elem? s.views j ≡ some v) (sym z) at) in
           ⊎_elim
-          (λ (m : v.mine ≡ r). (r, (id, first_alone v, at_longer (set s.views id (first_alone v)) (right ∷ []) id (first_alone v) (at_new s.views id v (first_alone v) at), subst (λ (q : Record O R). Contains (records (first_alone v)) q) m (here v.mine [])), all))
+          (λ (m : v.mine ≡ r). (
+            r,
+            (
+              id,
+              first_alone v,
+              at_longer (set s.views id (first_alone v)) (right ∷ []) id (first_alone v)
+                  (at_new s.views id v (first_alone v) at),
+              subst (λ (q : Record O R). Contains (records (first_alone v)) q)
+                  m (here v.mine []),
+            ),
+            all,
+          ))
           (λ (o : Contains v.others r). (r, (length (set s.views id (first_alone v)), right, at_right, keep r o), all))
           (cons_cases v.mine v.others r (subst (λ (q : V). Contains (records q) r) one h)))
-          (λ nz. (r, (i, x, at_longer (set s.views id (first_alone v)) (right ∷ []) i x (set_else s.views id i (first_alone v) nz ∙ e), h), all))
+          (λ nz. (
+            r,
+            (
+              i,
+              x,
+              at_longer (set s.views id (first_alone v)) (right ∷ []) i x
+                  (set_else s.views id i (first_alone v) nz ∙ e),
+              h,
+            ),
+            all,
+          ))
 
-  split_kept : (s : State S V) (k : Rule s) (id : ℕ) (v : V) → StandsFor v.mine v.mine.number → get_elem? s.views id ≡ some v → Rule record { words = s.words; homes = s.homes; views = set s.views id (first_alone v) ++ seat_for v.start v.clients v.others ∷ [] }
+  split_kept : (s : State S V) (k : Rule s) (id : ℕ) (v : V) → StandsFor v.mine v.mine.number
+      → get_elem? s.views id ≡ some v
+      → Rule record {
+        words = s.words;
+        homes = s.homes;
+        views = set s.views id (first_alone v) ++ seat_for v.start v.clients v.others ∷ [];
+      }
   split_kept s k id v stands at = cut v.others refl
     where
-      cut : (rs : List (Record O R)) → v.others ≡ rs → Rule record { words = s.words; homes = s.homes; views = set s.views id (first_alone v) ++ seat_for v.start v.clients rs ∷ [] }
-      cut [] e = cut_kept s k id v (idle_view v.start v.clients) stands at refl refl refl (λ r h. inl (only nobody r h)) (λ r h. absurd (none_in r (subst (λ (l : List (Record O R)). Contains l r) e h))) (λ c. sym (ap (sum_by (stood c)) e))
-      cut (r ∷ rs) e = cut_kept s k id v (seat_for v.start v.clients (r ∷ rs)) stands at refl refl refl (λ q h. inr (subst (λ (l : List (Record O R)). Contains l q) (sym e) h)) (λ q h. subst (λ (l : List (Record O R)). Contains l q) e h) (λ c. sym (ap (sum_by (stood c)) e))
+      cut : (rs : List (Record O R)) → v.others ≡ rs
+          → Rule record {
+            words = s.words;
+            homes = s.homes;
+            views = set s.views id (first_alone v) ++ seat_for v.start v.clients rs ∷ [];
+          }
+      cut [] e =
+          cut_kept s k id v (idle_view v.start v.clients) stands at refl refl refl (λ r h. inl (only nobody r h))
+          (λ r h. absurd (none_in r (subst (λ (l : List (Record O R)). Contains l r) e h)))
+          (λ c. sym (ap (sum_by (stood c)) e))
+      cut (r ∷ rs) e =
+          cut_kept s k id v (seat_for v.start v.clients (r ∷ rs)) stands at refl refl refl
+          (λ q h. inr (subst (λ (l : List (Record O R)). Contains l q) (sym e) h))
+          (λ q h. subst (λ (l : List (Record O R)). Contains l q) e h) (λ c. sym (ap (sum_by (stood c)) e))
 
   abbrev M : Type 0
   M = Me S V
@@ -305,24 +546,33 @@ module _ {S X O R Y : Type 0} (n : ℕ) (content : S → Y) (part : ℕ → X �
         with_history v k.log,
         keeps,
         tt,
-        subst (λ (l : List ℕ). Rule record { words = l; homes = s.homes; views = set s.views id (with_history v k.log) }) (sym (set-get_or s.words b 0)) (looked_kept s k id v at),
+        subst (λ (l : List ℕ). Rule record
+            { words = l; homes = s.homes; views = set s.views id (with_history v k.log) })
+            (sym (set-get_or s.words b 0)) (looked_kept s k id v at),
         (k.log, refl, λ r h. let f = (old.fits r h).0 in (f.0, f)),
       )
 
-  pub gathers : (slots id : ℕ) (me : M) (b : ℕ) (q : Record O R) → me.0.others ≡ q ∷ [] → Allows Rule slots id me b (λ x. x) (Gathered (step slots b 0 0 none) me)
+  pub gathers : (slots id : ℕ) (me : M) (b : ℕ) (q : Record O R) → me.0.others ≡ q ∷ []
+      → Allows Rule slots id me b (λ x. x) (Gathered (step slots b 0 0 none) me)
   gathers slots id me b q two s k deep at small =
       let v : V = me.0 in
       let g = gathered_kept s k id v q at two in (
         gathered v q k.log,
         keeps,
         tt,
-        subst (λ (l : List ℕ). Rule record { words = l; homes = s.homes; views = set s.views id (gathered v q k.log) }) (sym (set-get_or s.words b 0)) g.0,
-        λ q' two'. let same : q ≡ q' = cc in subst (λ (x : Record O R). GatheredWith x me (gathered v q k.log, me.1)) same (k.log, refl, g.1, g.2, g.3, g.4),
+        subst (λ (l : List ℕ). Rule record { words = l; homes = s.homes; views = set s.views id (gathered v q k.log) })
+            (sym (set-get_or s.words b 0)) g.0,
+        λ q' two'. let same : q ≡ q' = cc in
+            subst (λ (x : Record O R). GatheredWith x me (gathered v q k.log, me.1)) same
+            (k.log, refl, g.1, g.2, g.3, g.4),
       )
 
-  pub joins : (id : ℕ) (v : V) (other : ℕ) (w spent : V) → StandsFor v.mine v.mine.number → spent.mine ≡ nobody → spent.others ≡ [] → spent.holds ≡ [] → w.holds ≡ [] → Joins Rule id v other w (both_views v w) spent
+  pub joins : (id : ℕ) (v : V) (other : ℕ) (w spent : V) → StandsFor v.mine v.mine.number → spent.mine ≡ nobody
+      → spent.others ≡ [] → spent.holds ≡ [] → w.holds ≡ [] → Joins Rule id v other w (both_views v w) spent
   joins id v other w spent stands blank lone empty free s k at apart there_is =
-      joined_kept s k id v other w spent stands blank lone empty free at apart (sym (set_else s.views id other (both_views v w) apart) ∙ there_is)
+      joined_kept s k id v other w spent stands blank lone empty free at apart
+      (sym (set_else s.views id other (both_views v w) apart) ∙ there_is)
 
-  pub splits : (id : ℕ) (v : V) → StandsFor v.mine v.mine.number → Splits Rule id v (first_alone v) (seat_for v.start v.clients v.others)
+  pub splits : (id : ℕ) (v : V) → StandsFor v.mine v.mine.number
+      → Splits Rule id v (first_alone v) (seat_for v.start v.clients v.others)
   splits id v stands s k at = split_kept s k id v stands at

@@ -1,6 +1,7 @@
 -- What `prepare` makes, and what a query leaves, answer a batch.
-use Rattle.std.proofs.Common.{◌≡◌, ◌≢◌, ℕ, zero, suc, ◌+◌, ◌<◌, ◌≤◌, ◌/◌, ◌&&◌, ◌||◌, Bool, true, false, true≢false, nat_eq, List, [], ◌∷◌, map, length, refl, sym, ap, ◌∙◌, subst, ⊎_elim, inl, inr, arith, Option, Some, None, is_some, get_or, eq-eqb, ne_eqb, Contains}
-use mathlib.Core.Logic.{dite}
+use Rattle.std.proofs.Common.{◌≡◌, ℕ, zero, suc, ◌<◌, ◌/◌, ◌&&◌, ◌||◌, Bool, true, false, true≢false, nat_eq, List, []}
+use Rattle.std.proofs.Common.{◌∷◌, length, refl, sym, ap, ◌∙◌, subst, inl, inr, arith, Option, Some, None, is_some}
+use Rattle.std.proofs.Common.{get_or, eq-eqb, ne_eqb, Contains}
 use native.Mathlib.Decide.{ℕ_discrete}
 use Rattle.std.proofs.lemmas.Bool.{cases_lt, cases_Bool}
 use Rattle.std.specs.List.{list_any}
@@ -11,17 +12,21 @@ use Rattle.moc_ranges.specs.Operations.{part_of, contains-part_of, IsWithin}
 use Rattle.moc_parts.specs.Objects.{IsLocal, AgreeOn, base_pixel}
 use Rattle.moc_parts.specs.Parts.{union_of}
 use Rattle.moc_parts.specs.Commands.{is_update, set_after}
-use Rattle.moc_parts.specs.Batches.{batches, footprint_of_all, set_after_all, replies_on, AreCommands}
+use Rattle.moc_parts.specs.Batches.{batches, footprint_of_all, set_after_all, AreCommands}
 use Rattle.moc_parts.specs.Laws.{AreBatchesLocal}
 use Rattle.moc_parts.specs.Prepared.{IsPrepared, AreRepliesTo, Preparation, kept, found_in}
 use Rattle.moc_parts.specs.declared.command.Command.{Command}
-use Rattle.moc_parts.specs.declared.command.Command.TheVariants.{Add, Remove, Keep, Claim, Invert, Degrade, Count, Read, Near}
+use Rattle.moc_parts.specs.declared.command.Command.TheVariants.{Add, Remove, Keep, Claim, Invert, Degrade, Count, Read}
+use Rattle.moc_parts.specs.declared.command.Command.TheVariants.{Near}
 use Rattle.moc_parts.specs.declared.reply.Reply.{Reply}
-use Rattle.moc_shared.specs.Private.Rule.{note, parts_of, Answers}
+use Rattle.moc_shared.specs.Private.Rule.{note, parts_of}
 use Rattle.moc_shared.specs.Batches.{answer}
-use Rattle.moc_shared.specs.Private.Slots.{Pointer, PartNote, content, shared, part, IsProper, at_place, note_if, notes_below, list_of, lists_of, IsOwn, AreOwn, IsFootprint, AreCopies, Edits, replies_to}
-use Rattle.moc_shared.proofs.Basics.{here, none_in}
-use Rattle.moc_shared.proofs.Places.{notes_none, notes_next, notes_some, notes_without, notes_upto, note_place, place_note, notes_below_lt, part_note}
+use Rattle.moc_shared.specs.Private.Slots.{Pointer, PartNote, content, shared, part, IsProper, at_place, note_if}
+use Rattle.moc_shared.specs.Private.Slots.{notes_below, list_of, lists_of, AreOwn, IsFootprint, AreCopies, Edits}
+use Rattle.moc_shared.specs.Private.Slots.{replies_to}
+use Rattle.moc_shared.proofs.Basics.{none_in}
+use Rattle.moc_shared.proofs.Places.{notes_none, notes_next, notes_upto, note_place, place_note, notes_below_lt}
+use Rattle.moc_shared.proofs.Places.{part_note}
 use Rattle.moc_shared.proofs.Unions.{union_at, union_within, in_sky, get_beyond, and_true}
 
 pub some_is : (o : Option Pointer) → is_some o ≡ true → (x : Pointer) × (o ≡ Some x)
@@ -37,20 +42,25 @@ some_content (Some p) = refl
 some_content None = refl
 
 -- rows of slots with pointers at the same places are noted with the same parts
-step_parts : (n : ℕ) (o u : Option Pointer) (xs ys : List PartNote) → is_some o ≡ is_some u → parts_of xs ≡ parts_of ys → parts_of (note_if n o xs) ≡ parts_of (note_if n u ys)
+step_parts : (n : ℕ) (o u : Option Pointer) (xs ys : List PartNote) → is_some o ≡ is_some u → parts_of xs ≡ parts_of ys
+    → parts_of (note_if n o xs) ≡ parts_of (note_if n u ys)
 step_parts n (Some x) (Some y) xs ys same below = ap (λ (l : List ℕ). n ∷ l) below
 step_parts n (Some x) None xs ys same below = absurd (true≢false same)
 step_parts n None (Some y) xs ys same below = absurd (true≢false (sym same))
 step_parts n None None xs ys same below = below
 
-pub parts_same : (xs ys : List (Option Pointer)) (n : ℕ) → ((b : ℕ) → b < n → is_some (at_place xs b) ≡ is_some (at_place ys b)) → parts_of (notes_below xs n) ≡ parts_of (notes_below ys n)
+pub parts_same : (xs ys : List (Option Pointer)) (n : ℕ)
+    → ((b : ℕ) → b < n → is_some (at_place xs b) ≡ is_some (at_place ys b))
+    → parts_of (notes_below xs n) ≡ parts_of (notes_below ys n)
 parts_same xs ys zero each = ap (λ (l : List PartNote). parts_of l) (notes_none xs ∙ sym (notes_none ys))
 parts_same xs ys (suc n) each =
     ap (λ (l : List PartNote). parts_of l) (notes_next xs n)
-    ∙ step_parts n (at_place xs n) (at_place ys n) (notes_below xs n) (notes_below ys n) (each n (omega arith)) (parts_same xs ys n (λ b l. each b (omega arith)))
+    ∙ step_parts n (at_place xs n) (at_place ys n) (notes_below xs n) (notes_below ys n) (each n (omega arith))
+    (parts_same xs ys n (λ b l. each b (omega arith)))
     ∙ sym (ap (λ (l : List PartNote). parts_of l) (notes_next ys n))
 
-step_notes : (n : ℕ) (o u : Option Pointer) (xs ys : List PartNote) → content o ≡ content u → xs ≡ ys → note_if n o xs ≡ note_if n u ys
+step_notes : (n : ℕ) (o u : Option Pointer) (xs ys : List PartNote) → content o ≡ content u → xs ≡ ys
+    → note_if n o xs ≡ note_if n u ys
 step_notes n (Some x) (Some y) xs ys same below = λ i. note n (same i) ∷ below i
 step_notes n (Some x) None xs ys same below = absurd (cc)
 step_notes n None (Some y) xs ys same below = absurd (cc)
@@ -59,13 +69,17 @@ step_notes n None None xs ys same below = below
 -- copies are noted as what they copy
 pub notes_same : (xs ys : List (Option Pointer)) (n : ℕ) → AreCopies xs ys → notes_below ys n ≡ notes_below xs n
 notes_same xs ys zero each = notes_none ys ∙ sym (notes_none xs)
-notes_same xs ys (suc n) each = notes_next ys n ∙ step_notes n (at_place ys n) (at_place xs n) (notes_below ys n) (notes_below xs n) (each n) (notes_same xs ys n each) ∙ sym (notes_next xs n)
+notes_same xs ys (suc n) each = notes_next ys n
+    ∙ step_notes n (at_place ys n) (at_place xs n) (notes_below ys n) (notes_below xs n) (each n)
+    (notes_same xs ys n each) ∙ sym (notes_next xs n)
 
 some_inside : (a b : NumberSet) → Some a ≡ Some b → a ≡ b
 some_inside a b e = cc
 
 -- the set that a slot shares, where it is noted
-noted_list : (slots : List (Option Pointer)) (b : ℕ) (a : NumberSet) → b < 12 → is_some (at_place slots b) ≡ true → ((c : ℕ) (y : Option NumberSet) → Contains (notes_below slots 12) (note c y) → y ≡ part c a) → list_of (at_place slots b) ≡ part_of a b
+noted_list : (slots : List (Option Pointer)) (b : ℕ) (a : NumberSet) → b < 12 → is_some (at_place slots b) ≡ true
+    → ((c : ℕ) (y : Option NumberSet) → Contains (notes_below slots 12) (note c y) → y ≡ part c a)
+    → list_of (at_place slots b) ≡ part_of a b
 unfolding part
 noted_list slots b a l some noted =
     let s = some_is (at_place slots b) some in
@@ -73,15 +87,18 @@ noted_list slots b a l some noted =
     ap list_of s.1 ∙ some_inside _ (part_of a b) e
 
 -- in the footprint, a set agrees with what was found, where the notes say so
-pub agrees : (cs : List Command) (slots : List (Option Pointer)) (a : NumberSet) → length slots ≡ 12 → AreOwn slots → IsFootprint cs slots → IsProper a
-    → ((b : ℕ) (y : Option NumberSet) → Contains (notes_below slots 12) (note b y) → y ≡ part b a) → AgreeOn (footprint_of_all cs) (union_of (lists_of slots)) a
+pub agrees : (cs : List Command) (slots : List (Option Pointer)) (a : NumberSet) → length slots ≡ 12 → AreOwn slots
+    → IsFootprint cs slots → IsProper a
+    → ((b : ℕ) (y : Option NumberSet) → Contains (notes_below slots 12) (note b y) → y ≡ part b a)
+    → AgreeOn (footprint_of_all cs) (union_of (lists_of slots)) a
 unfolding base_pixel
 agrees cs slots a long own whole within noted q touched = elim (cases_lt (q / base_pixel_size) 12) [
   | inl l ↦
       let b : ℕ = q / base_pixel_size in
       union_at slots q own
       ∙ ap (λ (s : NumberSet). finset.contains s q) (noted_list slots b a l (whole b l ∙ touched) noted)
-      ∙ contains-part_of a b q ∙ ap (λ (t : Bool). finset.contains a q && t) (eq-eqb b b refl) ∙ and_true (finset.contains a q)
+      ∙ contains-part_of a b q ∙ ap (λ (t : Bool). finset.contains a q && t) (eq-eqb b b refl)
+      ∙ and_true (finset.contains a q)
   | inr far ↦
       let b : ℕ = q / base_pixel_size in
       union_at slots q own
@@ -90,10 +107,15 @@ agrees cs slots a long own whole within noted q touched = elim (cases_lt (q / ba
 ]
 
 -- where two sets of the sky have the same pixels outside of the footprint, they have the same parts there
-pub same_part : (cs : List Command) (slots : List (Option Pointer)) (a b : NumberSet) → IsFootprint cs slots → IsWithin a pixels → IsWithin b pixels → ((q : ℕ) → footprint_of_all cs (base_pixel q) ≡ false → finset.contains b q ≡ finset.contains a q)
+pub same_part : (cs : List Command) (slots : List (Option Pointer)) (a b : NumberSet) → IsFootprint cs slots
+    → IsWithin a pixels → IsWithin b pixels
+    → ((q : ℕ) → footprint_of_all cs (base_pixel q) ≡ false → finset.contains b q ≡ finset.contains a q)
     → (k : ℕ) → ¬ Contains (parts_of (notes_below slots 12)) k → part k b ≡ part k a
 unfolding base_pixel part
-same_part cs slots a b whole v w out k none = ap (λ (s : NumberSet). Some s) (same_members _ _ (λ q. contains-part_of b k q ∙ one q (ℕ_discrete (q / base_pixel_size) k) ∙ sym (contains-part_of a k q)))
+same_part cs slots a b whole v w out k none =
+    ap (λ (s : NumberSet). Some s)
+    (same_members _ _
+    (λ q. contains-part_of b k q ∙ one q (ℕ_discrete (q / base_pixel_size) k) ∙ sym (contains-part_of a k q)))
   where
     untouched : k < 12 → footprint_of_all cs k ≡ false
     untouched l = elim (cases_Bool (footprint_of_all cs k)) [
@@ -107,19 +129,25 @@ same_part cs slots a b whole v w out k none = ap (λ (s : NumberSet). Some s) (s
     and_none true = refl
     and_none false = refl
 
-    one : (q : ℕ) → Dec (q / base_pixel_size ≡ k) → (finset.contains b q && nat_eq (q / base_pixel_size) k) ≡ (finset.contains a q && nat_eq (q / base_pixel_size) k)
+    one : (q : ℕ) → Dec (q / base_pixel_size ≡ k)
+        → (finset.contains b q && nat_eq (q / base_pixel_size) k) ≡ (finset.contains a q && nat_eq (q / base_pixel_size)
+        k)
     one q (yes e) = ap (λ (t : Bool). t && nat_eq (q / base_pixel_size) k) (elim (cases_lt k 12) [
       | inl l ↦ out q (ap (footprint_of_all cs) e ∙ untouched l)
       | inr far ↦ in_sky b q w (omega arith) ∙ sym (in_sky a q v (omega arith))
     ])
-    one q (no ne) = ap (λ (t : Bool). finset.contains b q && t) (ne_eqb (q / base_pixel_size) k ne) ∙ and_none (finset.contains b q) ∙ sym (and_none (finset.contains a q)) ∙ sym (ap (λ (t : Bool). finset.contains a q && t) (ne_eqb (q / base_pixel_size) k ne))
+    one q (no ne) = ap (λ (t : Bool). finset.contains b q && t) (ne_eqb (q / base_pixel_size) k ne)
+        ∙ and_none (finset.contains b q) ∙ sym (and_none (finset.contains a q))
+        ∙ sym (ap (λ (t : Bool). finset.contains a q && t) (ne_eqb (q / base_pixel_size) k ne))
 
 itself : (cs : List Command) (a : NumberSet) → AgreeOn (footprint_of_all cs) a a
 itself cs a q touched = refl
 
-pub replies_same : (cs : List Command) (slots : List (Option Pointer)) (r : List Reply) → length slots ≡ 12 → AreOwn slots → AreRepliesTo cs (union_of (lists_of slots)) r → r ≡ replies_to slots cs
+pub replies_same : (cs : List Command) (slots : List (Option Pointer)) (r : List Reply) → length slots ≡ 12
+    → AreOwn slots → AreRepliesTo cs (union_of (lists_of slots)) r → r ≡ replies_to slots cs
 unfolding replies_to
-replies_same cs slots r long own each = each (union_of (lists_of slots)) (union_within slots long own) (itself cs (union_of (lists_of slots)))
+replies_same cs slots r long own each =
+    each (union_of (lists_of slots)) (union_within slots long own) (itself cs (union_of (lists_of slots)))
 
 kept_some : (t : Bool) (a : NumberSet) (b : ℕ) (y : Option NumberSet) → is_some y ≡ true → y ≡ kept t a b → y ≡ part b a
 unfolding part
@@ -131,23 +159,34 @@ some_kept true a b = refl
 some_kept false a b = refl
 
 -- what was prepared answers the batch
-pub edits_from : (cs : List Command) (found edited : List (Option Pointer)) (p : Preparation) → length found ≡ 12 → AreOwn found → IsFootprint cs found → IsPrepared cs (union_of (lists_of found)) p
+pub edits_from : (cs : List Command) (found edited : List (Option Pointer)) (p : Preparation) → length found ≡ 12
+    → AreOwn found → IsFootprint cs found → IsPrepared cs (union_of (lists_of found)) p
     → ((b : ℕ) → b < 12 → content (at_place edited b) ≡ get_or p.lists b None) → Edits cs found edited
 unfolding answer replies_to
 edits_from cs found edited p long own whole prepared each =
     let u : NumberSet = union_of (lists_of found) in
     let u_within = union_within found long own in
-    let now = λ (a : NumberSet) (v : IsWithin a pixels) (agree : AgreeOn (footprint_of_all cs) u a) (b : ℕ) (l : b < 12). let e : content (at_place edited b) ≡ kept (footprint_of_all cs b) (set_after_all a cs) b = each b l ∙ prepared.parts a v agree b l in e in
+    let now =
+    λ (a : NumberSet) (v : IsWithin a pixels) (agree : AgreeOn (footprint_of_all cs) u a) (b : ℕ) (l : b < 12).
+    let e : content (at_place edited b) ≡ kept (footprint_of_all cs b) (set_after_all a cs) b = each b l
+    ∙ prepared.parts a v agree b l in e in
     record {
-      same_parts = parts_same edited found 12 (λ b l. sym (some_content (at_place edited b)) ∙ ap (λ (o : Option NumberSet). is_some o) (now u u_within (itself cs u) b l) ∙ some_kept (footprint_of_all cs b) (set_after_all u cs) b ∙ sym (whole b l));
+      same_parts =
+          parts_same edited found 12
+          (λ b l. sym (some_content (at_place edited b))
+          ∙ ap (λ (o : Option NumberSet). is_some o) (now u u_within (itself cs u) b l)
+          ∙ some_kept (footprint_of_all cs b) (set_after_all u cs) b ∙ sym (whole b l));
       answers = λ a v noted.
           let agree = agrees cs found a long own whole v noted in (
             sym (prepared.replied a v agree) ∙ prepared.replied u u_within (itself cs u),
             (λ b y h.
                 let q = note_place edited 12 b y h in
                 let l = notes_below_lt edited 12 b y h in
-                kept_some (footprint_of_all cs b) (set_after_all a cs) b y (ap (λ (o : Option NumberSet). is_some o) (sym q.2)) (sym q.2 ∙ ap content (sym q.1) ∙ now a v agree b l)),
-            (λ k none. same_part cs found a (set_after_all a cs) whole v (prepared.stays a v) (prepared.outside a v) k none),
+                kept_some (footprint_of_all cs b) (set_after_all a cs) b y
+                (ap (λ (o : Option NumberSet). is_some o) (sym q.2))
+                (sym q.2 ∙ ap content (sym q.1) ∙ now a v agree b l)),
+            (λ k none. same_part cs found a (set_after_all a cs) whole v (prepared.stays a v) (prepared.outside a v) k
+                none),
             prepared.stays a v,
           );
     }
@@ -170,16 +209,22 @@ or_none false y e = (refl, e)
 -- a query changes nothing
 pub unchanged : (cs : List Command) (a : NumberSet) → list_any is_update cs ≡ false → set_after_all a cs ≡ a
 unchanged [] a q = refl
-unchanged (c ∷ cs) a q = let both = or_none (is_update c) (list_any is_update cs) q in ap (λ (s : NumberSet). set_after_all s cs) (unchanged_by c a both.0) ∙ unchanged cs a both.1
+unchanged (c ∷ cs) a q = let both = or_none (is_update c) (list_any is_update cs) q in
+    ap (λ (s : NumberSet). set_after_all s cs) (unchanged_by c a both.0) ∙ unchanged cs a both.1
 
 pub own_copies : (found copies : List (Option Pointer)) → AreCopies found copies → AreOwn found → AreOwn copies
-own_copies found copies same own b = subst (λ (o : Option NumberSet). part_of (found_in o) b ≡ found_in o) (sym (same b)) (own b)
+own_copies found copies same own b =
+    subst (λ (o : Option NumberSet). part_of (found_in o) b ≡ found_in o) (sym (same b)) (own b)
 
-pub footprint_copies : (cs : List Command) (found copies : List (Option Pointer)) → AreCopies found copies → IsFootprint cs found → IsFootprint cs copies
-footprint_copies cs found copies same whole b l = sym (some_content (at_place copies b)) ∙ ap (λ (o : Option NumberSet). is_some o) (same b) ∙ some_content (at_place found b) ∙ whole b l
+pub footprint_copies : (cs : List Command) (found copies : List (Option Pointer)) → AreCopies found copies
+    → IsFootprint cs found → IsFootprint cs copies
+footprint_copies cs found copies same whole b l = sym (some_content (at_place copies b))
+    ∙ ap (λ (o : Option NumberSet). is_some o) (same b) ∙ some_content (at_place found b) ∙ whole b l
 
 -- a query leaves what was found, and answers by the copies
-pub leaves : (cs : List Command) (found copies : List (Option Pointer)) → length copies ≡ 12 → AreOwn found → IsFootprint cs found → AreCopies found copies → list_any is_update cs ≡ false → IsLocal batches cs → Edits cs copies found
+pub leaves : (cs : List Command) (found copies : List (Option Pointer)) → length copies ≡ 12 → AreOwn found
+    → IsFootprint cs found → AreCopies found copies → list_any is_update cs ≡ false → IsLocal batches cs
+    → Edits cs copies found
 unfolding answer replies_to
 leaves cs found copies long own_found whole_found same query local =
     let own = own_copies found copies same own_found in
@@ -190,21 +235,33 @@ leaves cs found copies long own_found whole_found same query local =
       same_parts = ap (λ (l : List PartNote). parts_of l) (sym (notes_same found copies 12 same));
       answers = λ a v noted. (
         local.reply a u v u_within (λ q t. sym (agrees cs copies a long own whole v noted q t)),
-        (λ b y h. noted b y (subst (λ (l : List PartNote). Contains l (note b y)) (sym (notes_same found copies 12 same)) h) ∙ ap (part b) (sym (unchanged cs a query))),
+        (λ b y h. noted b y
+            (subst (λ (l : List PartNote). Contains l (note b y)) (sym (notes_same found copies 12 same)) h)
+            ∙ ap (part b) (sym (unchanged cs a query))),
         (λ k none. ap (part k) (unchanged cs a query)),
         local.stays a v,
       );
     }
 
-pub noted_at : (slots : List (Option Pointer)) (b : ℕ) → b < 12 → is_some (at_place slots b) ≡ true → Contains (parts_of (notes_below slots 12)) b
-noted_at slots b l some = let s = some_is (at_place slots b) some in part_note (notes_below slots 12) b (shared s.0) (place_note slots 12 b s.0 l s.1)
+pub noted_at : (slots : List (Option Pointer)) (b : ℕ) → b < 12 → is_some (at_place slots b) ≡ true
+    → Contains (parts_of (notes_below slots 12)) b
+noted_at slots b l some = let s = some_is (at_place slots b) some in
+    part_note (notes_below slots 12) b (shared s.0) (place_note slots 12 b s.0 l s.1)
 
 -- a footprint is not empty, and neither is what is made of it
-pub never_none : (found edited : List (Option Pointer)) (b : ℕ) → b < 12 → is_some (at_place found b) ≡ true → parts_of (notes_below edited 12) ≡ parts_of (notes_below found 12) → ((k : ℕ) → at_place edited k ≡ None) → ⊥
+pub never_none : (found edited : List (Option Pointer)) (b : ℕ) → b < 12 → is_some (at_place found b) ≡ true
+    → parts_of (notes_below edited 12) ≡ parts_of (notes_below found 12) → ((k : ℕ) → at_place edited k ≡ None) → ⊥
 never_none found edited b l some same none =
     let empty : notes_below edited 12 ≡ [] = notes_upto edited 0 12 (λ k l. none k) ∙ notes_none edited in
-    none_in b (subst (λ (l : List ℕ). Contains l b) (sym same ∙ ap (λ (l : List PartNote). parts_of l) empty) (noted_at found b l some))
+    none_in b
+    (subst (λ (l : List ℕ). Contains l b) (sym same ∙ ap (λ (l : List PartNote). parts_of l) empty)
+    (noted_at found b l some))
 
 pub local_batch : (cs : List Command) → AreBatchesLocal → 0 < length cs → AreCommands cs → IsLocal batches cs
 local_batch [] law some proper = absurd (omega arith)
 local_batch (c ∷ cs) law some proper = law c cs proper
+
+-- some part was found, since a footprint is never empty
+pub some_found : (cs : List Command) (found : List (Option Pointer)) → IsFootprint cs found → IsLocal batches cs
+    → (b : ℕ) × (b < 12) × (is_some (at_place found b) ≡ true)
+some_found cs found whole local = let s = local.some in (s.0, s.1, whole s.0 s.1 ∙ s.2)

@@ -1,7 +1,7 @@
 -- The union of sets that lie each in its own base pixel.
-use Rattle.std.proofs.Common.{◌≡◌, ◌≢◌, ℕ, zero, suc, ◌+◌, ◌*◌, ◌%◌, ◌<◌, ◌≤◌, ◌/◌, ◌&&◌, ◌||◌, Bool, true, false, true≢false, nat_eq, nat_lt, List, [], ◌∷◌, map, length, drop, refl, sym, ap, ◌∙◌, subst, ⊎_elim, inl, inr, arith, Option, Some, None, get_or, add-zero, div-add-mod', eq-eqb, ne_eqb, lt-ltb}
-use mathlib.Core.Logic.{dite}
-use native.Mathlib.Decide.{ℕ_discrete}
+use Rattle.std.proofs.Common.{◌≡◌, ◌≢◌, ℕ, zero, suc, ◌+◌, ◌*◌, ◌%◌, ◌<◌, ◌≤◌, ◌/◌, ◌&&◌, ◌||◌, Bool, true, false}
+use Rattle.std.proofs.Common.{true≢false, List, [], ◌∷◌, length, drop, refl, sym, ap, ◌∙◌, subst, inl, inr, arith}
+use Rattle.std.proofs.Common.{Option, Some, None, get_or, add-zero, div-add-mod', eq-eqb, ne_eqb, lt-ltb}
 use Rattle.std.proofs.Math.Nat.{mod-lt}
 use Rattle.std.proofs.lemmas.Bool.{cases_lt, cases_Bool, ltb-true}
 use Rattle.std.specs.Cmp.{nat_cmp_total}
@@ -33,41 +33,56 @@ base q = q / base_pixel_size
 
 -- a set in one base pixel has no pixel of another
 pub elsewhere : (a : NumberSet) (k q : ℕ) → part_of a k ≡ a → q / base_pixel_size ≢ k → finset.contains a q ≡ false
-elsewhere a k q own ne = ap (λ (s : NumberSet). finset.contains s q) (sym own) ∙ contains-part_of a k q ∙ ap (λ (t : Bool). finset.contains a q && t) (ne_eqb (q / base_pixel_size) k ne) ∙ and_false (finset.contains a q)
+elsewhere a k q own ne = ap (λ (s : NumberSet). finset.contains s q) (sym own) ∙ contains-part_of a k q
+    ∙ ap (λ (t : Bool). finset.contains a q && t) (ne_eqb (q / base_pixel_size) k ne) ∙ and_false (finset.contains a q)
 
 -- the sets lie in the base pixels from k on
 abbrev OwnFrom : ℕ → List NumberSet → Type 0
 OwnFrom k [] = Unit {0}
 OwnFrom k (a ∷ sets) = (part_of a k ≡ a) × OwnFrom (suc k) sets
 
-own_from : (k : ℕ) (slots : List (Option Pointer)) → ((b : ℕ) → IsOwn (k + b) (at_place slots b)) → OwnFrom k (lists_of slots)
+own_from : (k : ℕ) (slots : List (Option Pointer)) → ((b : ℕ) → IsOwn (k + b) (at_place slots b))
+    → OwnFrom k (lists_of slots)
 own_from k [] own = tt
-own_from k (s ∷ ss) own = (subst (λ (j : ℕ). IsOwn j s) (add-zero k) (own 0), own_from (suc k) ss (λ b. subst (λ (j : ℕ). IsOwn j (at_place ss b)) (let e : k + suc b ≡ suc k + b = omega arith in e) (own (suc b))))
+own_from k (s ∷ ss) own = (
+  subst (λ (j : ℕ). IsOwn j s) (add-zero k) (own 0),
+  own_from (suc k) ss
+      (λ b. subst (λ (j : ℕ). IsOwn j (at_place ss b)) (let e : k + suc b ≡ suc k + b = omega arith in e) (own (suc b))),
+)
 
-union_before : (sets : List NumberSet) (k q : ℕ) → OwnFrom k sets → q / base_pixel_size < k → finset.contains (union_of sets) q ≡ false
+union_before : (sets : List NumberSet) (k q : ℕ) → OwnFrom k sets → q / base_pixel_size < k
+    → finset.contains (union_of sets) q ≡ false
 union_before [] k q own l = finset.contains-empty nat_cmp q
 union_before (a ∷ sets) k q own l =
     finset.contains-union nat_cmp_total a (union_of sets) q
     ∙ (λ i. elsewhere a k q own.0 (λ e. omega arith) i || union_before sets (suc k) q own.1 (omega arith) i)
 
-union_in : (sets : List NumberSet) (k q d : ℕ) → OwnFrom k sets → q / base_pixel_size ≡ k + d → finset.contains (union_of sets) q ≡ finset.contains (get_or sets d finset.empty) q
+union_in : (sets : List NumberSet) (k q d : ℕ) → OwnFrom k sets → q / base_pixel_size ≡ k + d
+    → finset.contains (union_of sets) q ≡ finset.contains (get_or sets d finset.empty) q
 union_in [] k q d own e = refl
 union_in (a ∷ sets) k q zero own e =
     finset.contains-union nat_cmp_total a (union_of sets) q
-    ∙ ap (λ (t : Bool). finset.contains a q || t) (union_before sets (suc k) q own.1 (omega arith)) ∙ or_false (finset.contains a q)
+    ∙ ap (λ (t : Bool). finset.contains a q || t) (union_before sets (suc k) q own.1 (omega arith))
+    ∙ or_false (finset.contains a q)
 union_in (a ∷ sets) k q (suc d) own e =
     finset.contains-union nat_cmp_total a (union_of sets) q
-    ∙ ap (λ (t : Bool). t || finset.contains (union_of sets) q) (elsewhere a k q own.0 (λ s. omega arith)) ∙ union_in sets (suc k) q d own.1 (omega arith)
+    ∙ ap (λ (t : Bool). t || finset.contains (union_of sets) q) (elsewhere a k q own.0 (λ s. omega arith))
+    ∙ union_in sets (suc k) q d own.1 (omega arith)
 
-pub list_at : (slots : List (Option Pointer)) (b : ℕ) → get_or (lists_of slots) b finset.empty ≡ list_of (at_place slots b)
+pub list_at : (slots : List (Option Pointer)) (b : ℕ)
+    → get_or (lists_of slots) b finset.empty ≡ list_of (at_place slots b)
 list_at [] b = refl
 list_at (s ∷ ss) zero = refl
 list_at (s ∷ ss) (suc b) = list_at ss b
 
 -- a pixel is in the union where it is in the set of its base pixel
-pub union_at : (slots : List (Option Pointer)) (q : ℕ) → AreOwn slots → finset.contains (union_of (lists_of slots)) q ≡ finset.contains (list_of (at_place slots (q / base_pixel_size))) q
+pub union_at : (slots : List (Option Pointer)) (q : ℕ) → AreOwn slots
+    → finset.contains (union_of (lists_of slots)) q ≡ finset.contains (list_of (at_place slots (q / base_pixel_size))) q
 union_at slots q own =
-    union_in (lists_of slots) 0 q (q / base_pixel_size) (own_from 0 slots (λ b. subst (λ (j : ℕ). IsOwn j (at_place slots b)) (let e : b ≡ 0 + b = omega arith in e) (own b))) (let e : q / base_pixel_size ≡ 0 + q / base_pixel_size = omega arith in e)
+    union_in (lists_of slots) 0 q (q / base_pixel_size)
+    (own_from 0 slots
+    (λ b. subst (λ (j : ℕ). IsOwn j (at_place slots b)) (let e : b ≡ 0 + b = omega arith in e) (own b)))
+    (let e : q / base_pixel_size ≡ 0 + q / base_pixel_size = omega arith in e)
     ∙ ap (λ (a : NumberSet). finset.contains a q) (list_at slots (q / base_pixel_size))
 
 lists_long : (slots : List (Option Pointer)) → length (lists_of slots) ≡ length slots
@@ -91,7 +106,8 @@ sky_base q l =
 -- pixels of a set in the sky are in one of twelve base pixels
 pub in_sky : (a : NumberSet) (q : ℕ) → IsWithin a pixels → 12 ≤ q / base_pixel_size → finset.contains a q ≡ false
 in_sky a q within far = elim (cases_Bool (finset.contains a q)) [
-  | inl t ↦ let l = sky_base q (ltb-true q pixel_count (sym (contains-pixels q) ∙ within.each q t)) in absurd (omega arith)
+  | inl t ↦ let l = sky_base q (ltb-true q pixel_count (sym (contains-pixels q) ∙ within.each q t)) in
+      absurd (omega arith)
   | inr f ↦ f
 ]
 
@@ -100,7 +116,8 @@ get_beyond [] b l = refl
 get_beyond (s ∷ ss) zero l = absurd (omega arith)
 get_beyond (s ∷ ss) (suc b) l = get_beyond ss b (omega arith)
 
-pub union_within : (slots : List (Option Pointer)) → length slots ≡ 12 → AreOwn slots → IsWithin (union_of (lists_of slots)) pixels
+pub union_within : (slots : List (Option Pointer)) → length slots ≡ 12 → AreOwn slots
+    → IsWithin (union_of (lists_of slots)) pixels
 union_within slots long own = record { each = λ q has. contains-pixels q ∙ lt-ltb q pixel_count (below q has) }
   where
     rest_small : (q : ℕ) → q % base_pixel_size < 288230376151711744
@@ -118,8 +135,11 @@ union_within slots long own = record { each = λ q has. contains-pixels q ∙ lt
     below q has = elim (cases_lt (q / base_pixel_size) 12) [
       | inl l ↦ base_sky q l
       | inr far ↦
-          let none : at_place slots (q / base_pixel_size) ≡ None = get_beyond slots (q / base_pixel_size) (omega (arith, long, far)) in
-          absurd (true≢false (sym has ∙ union_at slots q own ∙ ap (λ (s : Option Pointer). finset.contains (list_of s) q) none ∙ finset.contains-empty nat_cmp q))
+          let none : at_place slots (q / base_pixel_size) ≡ None =
+          get_beyond slots (q / base_pixel_size) (omega (arith, long, far)) in
+          absurd (true≢false
+          (sym has ∙ union_at slots q own ∙ ap (λ (s : Option Pointer). finset.contains (list_of s) q) none
+          ∙ finset.contains-empty nat_cmp q))
     ]
 
 drop_next : {A : Type 0} (xs : List A) (k : ℕ) (d : A) → k < length xs → drop k xs ≡ get_or xs k d ∷ drop (suc k) xs
@@ -128,11 +148,16 @@ drop_next (x ∷ xs) zero d l = refl
 drop_next (x ∷ xs) (suc k) d l = drop_next xs k d (omega arith)
 
 -- the union of the lists from place c on
-pub union_next : (slots : List (Option Pointer)) (c : ℕ) → c < length slots → union_of (lists_of (drop c slots)) ≡ finset.union (list_of (at_place slots c)) (union_of (lists_of (drop (suc c) slots)))
+pub union_next : (slots : List (Option Pointer)) (c : ℕ) → c < length slots
+    → union_of (lists_of (drop c slots)) ≡ finset.union (list_of (at_place slots c))
+    (union_of (lists_of (drop (suc c) slots)))
 union_next slots c l = ap (λ (xs : List (Option Pointer)). union_of (lists_of xs)) (drop_next slots c None l)
 
 pub union_nothing : (a : NumberSet) → finset.union finset.empty a ≡ a
-union_nothing a = same_members _ _ (λ q. finset.contains-union nat_cmp_total finset.empty a q ∙ ap (λ (t : Bool). t || finset.contains a q) (finset.contains-empty nat_cmp q))
+union_nothing a =
+    same_members _ _
+    (λ q. finset.contains-union nat_cmp_total finset.empty a q
+    ∙ ap (λ (t : Bool). t || finset.contains a q) (finset.contains-empty nat_cmp q))
 
 some_set : (a b : NumberSet) → Some a ≡ Some b → a ≡ b
 some_set a b e = cc
@@ -143,33 +168,42 @@ slot_list (Some p) b a e = some_set _ (part_of a b) e
 slot_list None b a e = absurd (cc)
 
 -- slots that stand for the parts of a set of pixels are that set together
-pub union_whole : (slots : List (Option Pointer)) (a : NumberSet) → length slots ≡ 12 → IsWithin a pixels → ((b : ℕ) → b < 12 → content (at_place slots b) ≡ part b a) → union_of (lists_of slots) ≡ a
+pub union_whole : (slots : List (Option Pointer)) (a : NumberSet) → length slots ≡ 12 → IsWithin a pixels
+    → ((b : ℕ) → b < 12 → content (at_place slots b) ≡ part b a) → union_of (lists_of slots) ≡ a
 union_whole slots a long within each = same_members _ _ (λ q. union_at slots q own ∙ one q)
   where
     own : AreOwn slots
     own b = elim (cases_lt b 12) [
-      | inl l ↦ subst (λ (s : NumberSet). part_of s b ≡ s) (sym (slot_list (at_place slots b) b a (each b l))) (part_again a b)
-      | inr far ↦ subst (λ (s : Option Pointer). IsOwn b s) (sym (get_beyond slots b (omega (arith, long, far)))) (own_none b)
+      | inl l ↦ subst (λ (s : NumberSet). part_of s b ≡ s) (sym (slot_list (at_place slots b) b a (each b l)))
+          (part_again a b)
+      | inr far ↦ subst (λ (s : Option Pointer). IsOwn b s) (sym (get_beyond slots b (omega (arith, long, far))))
+          (own_none b)
     ]
 
     one : (q : ℕ) → finset.contains (list_of (at_place slots (q / base_pixel_size))) q ≡ finset.contains a q
     one q = elim (cases_lt (q / base_pixel_size) 12) [
       | inl l ↦
           let b : ℕ = q / base_pixel_size in
-          ap (λ (s : NumberSet). finset.contains s q) (slot_list (at_place slots b) b a (each b l)) ∙ contains-part_of a b q ∙ ap (λ (t : Bool). finset.contains a q && t) (eq-eqb b b refl) ∙ and_true (finset.contains a q)
+          ap (λ (s : NumberSet). finset.contains s q) (slot_list (at_place slots b) b a (each b l))
+          ∙ contains-part_of a b q ∙ ap (λ (t : Bool). finset.contains a q && t) (eq-eqb b b refl)
+          ∙ and_true (finset.contains a q)
       | inr far ↦
           let b : ℕ = q / base_pixel_size in
-          ap (λ (s : Option Pointer). finset.contains (list_of s) q) (get_beyond slots b (omega (arith, long, far))) ∙ finset.contains-empty nat_cmp q ∙ sym (in_sky a q within far)
+          ap (λ (s : Option Pointer). finset.contains (list_of s) q) (get_beyond slots b (omega (arith, long, far)))
+          ∙ finset.contains-empty nat_cmp q ∙ sym (in_sky a q within far)
     ]
 
-pub none_next : (slots : List (Option Pointer)) (b c : ℕ) (d : Option Pointer) → b ≡ suc c → c < length slots → get_or slots c d ≡ None → union_of (lists_of (drop b slots)) ≡ union_of (lists_of (drop c slots))
+pub none_next : (slots : List (Option Pointer)) (b c : ℕ) (d : Option Pointer) → b ≡ suc c → c < length slots
+    → get_or slots c d ≡ None → union_of (lists_of (drop b slots)) ≡ union_of (lists_of (drop c slots))
 none_next slots b c d up l none =
     ap (λ (k : ℕ). union_of (lists_of (drop k slots))) up
     ∙ sym (union_nothing (union_of (lists_of (drop (suc c) slots))))
     ∙ sym (ap (λ (s : Option Pointer). finset.union (list_of s) (union_of (lists_of (drop (suc c) slots)))) none)
     ∙ sym (ap (λ (xs : List (Option Pointer)). union_of (lists_of xs)) (drop_next slots c d l))
 
-pub some_next : (slots : List (Option Pointer)) (b c : ℕ) (d : Option Pointer) (p : Pointer) → b ≡ suc c → c < length slots → get_or slots c d ≡ Some p → finset.union (arc_value p) (union_of (lists_of (drop b slots))) ≡ union_of (lists_of (drop c slots))
+pub some_next : (slots : List (Option Pointer)) (b c : ℕ) (d : Option Pointer) (p : Pointer) → b ≡ suc c
+    → c < length slots → get_or slots c d ≡ Some p
+    → finset.union (arc_value p) (union_of (lists_of (drop b slots))) ≡ union_of (lists_of (drop c slots))
 some_next slots b c d p up l some =
     ap (λ (k : ℕ). finset.union (arc_value p) (union_of (lists_of (drop k slots)))) up
     ∙ sym (ap (λ (s : Option Pointer). finset.union (list_of s) (union_of (lists_of (drop (suc c) slots)))) some)

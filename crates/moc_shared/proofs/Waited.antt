@@ -1,17 +1,16 @@
 -- The views of a client that waits.
-use Rattle.std.proofs.Common.{◌≡◌, ◌≢◌, ◌⊎◌, ℕ, suc, ◌+◌, ◌<◌, List, [], ◌∷◌, ◌++◌, set, length, refl, sym, ap, ◌∙◌, subst, inl, inr, ⊎_elim, arith, Contains, IsTrue, nat_eq, Option, Some, append_assoc, Bool, true}
+use Rattle.std.proofs.Common.{◌≡◌, ℕ, suc, ◌<◌, List, [], ◌∷◌, ◌++◌, set, length, refl, sym, ap, ◌∙◌, subst, ⊎_elim}
+use Rattle.std.proofs.Common.{Contains, Option, Some, append_assoc, true}
 use Rattle.std.proofs.lemmas.List.Elements.{Contains-append_cases}
-use Rattle.moc_ranges.specs.Numbers.{NumberSet}
 use Rattle.moc_parts.specs.declared.command.Command.{Command}
 use Rattle.moc_shared.specs.declared.map.SharedMap.{SharedMap}
-use Rattle.moc_shared.specs.History.{entry, StandsFor}
-use Rattle.moc_shared.specs.Private.Rule.{note}
+use Rattle.moc_shared.specs.History.{StandsFor}
 use Rattle.moc_shared.specs.Private.Plays.{with_part, with_parts, with_miss, with_misses}
 use Rattle.moc_parts.specs.Batches.{footprint_of_all}
-use Rattle.moc_shared.specs.Private.Slots.{Pointer, Sight, shared, notes_below, touched_by, just, AreWaits, at_place}
-use Rattle.moc_shared.specs.Clients.{start_of, clients_of, Waits}
-use Rattle.moc_shared.proofs.Basics.{none_in, cons_cases, here}
-use Rattle.moc_shared.proofs.Places.{took_part, start_parts}
+use Rattle.moc_shared.specs.Private.Slots.{Pointer, Sight, shared, notes_below, touched_by, just, AreWaits}
+use Rattle.moc_shared.specs.Clients.{clients_of, Waits}
+use Rattle.moc_shared.proofs.Basics.{none_in, cons_cases}
+use Rattle.moc_shared.proofs.Places.{took_part}
 use Rattle.moc_shared.proofs.Promises.{Stays}
 
 pub no_wait : (parts : ℕ → Type 0) (v : Sight) → AreWaits parts v []
@@ -21,26 +20,34 @@ abbrev Pair : ℕ × ℕ → ℕ × ℕ → Type 0
 Pair x y = x ≡ y
 
 -- one wait more
-pub one_wait : (init v w : Sight) (b h : ℕ) (waits : List (ℕ × ℕ)) → v ≡ with_misses init waits → AreWaits (just b) init waits → w ≡ with_miss v h b → h < v.clients → ¬ StandsFor v.mine h
+pub one_wait : (init v w : Sight) (b h : ℕ) (waits : List (ℕ × ℕ)) → v ≡ with_misses init waits
+    → AreWaits (just b) init waits → w ≡ with_miss v h b → h < v.clients → ¬ StandsFor v.mine h
     → (more : List (ℕ × ℕ)) × (w ≡ with_misses init more) × AreWaits (just b) init more
 one_wait init v w b h waits is each missed below apart = (
   (h, b) ∷ waits,
   missed ∙ ap (λ (x : Sight). with_miss x h b) is,
   λ g c i. ⊎_elim
-      (λ (e : Pair (h, b) (g, c)). let known = subst (λ (x : Sight). (h < x.clients) × ¬ StandsFor x.mine h) is (below, apart) in subst (λ (z : ℕ × ℕ). just b z.1 × (z.0 < init.clients) × ¬ StandsFor init.mine z.0) e (refl, known.0, known.1))
+      (λ (e : Pair (h, b) (g, c)). let known = subst (λ (x : Sight). (h < x.clients) × ¬ StandsFor x.mine h) is
+      (below, apart) in
+      subst (λ (z : ℕ × ℕ). just b z.1 × (z.0 < init.clients) × ¬ StandsFor init.mine z.0) e
+      (refl, known.0, known.1))
       (λ (t : Contains waits (g, c)). each g c t)
       (cons_cases (h, b) waits (g, c) i),
 )
 
 -- the part was taken after these waits
-pub took_after : (cs : List Command) (init v w : Sight) (found after : List (Option Pointer)) (b c : ℕ) (x : Pointer) (waits more : List (ℕ × ℕ))
-    → v ≡ with_parts (with_misses init waits) (notes_below found b) → AreWaits (touched_by cs) init waits → w ≡ with_part (with_misses v more) b (shared x) → AreWaits (just b) v more
+pub took_after : (cs : List Command) (init v w : Sight) (found after : List (Option Pointer)) (b c : ℕ) (x : Pointer)
+    (waits more : List (ℕ × ℕ))
+    → v ≡ with_parts (with_misses init waits) (notes_below found b) → AreWaits (touched_by cs) init waits
+    → w ≡ with_part (with_misses v more) b (shared x) → AreWaits (just b) v more
     → footprint_of_all cs b ≡ true → c ≡ suc b → after ≡ set found b (Some x) → b < length found
-    → (all : List (ℕ × ℕ)) × (w ≡ with_parts (with_misses init all) (notes_below after c)) × AreWaits (touched_by cs) init all
+    → (all : List (ℕ × ℕ)) × (w ≡ with_parts (with_misses init all) (notes_below after c))
+    × AreWaits (touched_by cs) init all
 took_after cs init v w found after b c x waits more is each took new touched up put long =
     let all : List (ℕ × ℕ) = more ++ waits in
     let v' : Sight = with_misses v more in
-    let joined : v' ≡ with_parts (with_misses init all) (notes_below found b) = ap (λ (u : Sight). with_misses u more) is ∙ (λ i. with_parts (with_all i) (notes_below found b)) in (
+    let joined : v' ≡ with_parts (with_misses init all) (notes_below found b) =
+    ap (λ (u : Sight). with_misses u more) is ∙ (λ i. with_parts (with_all i) (notes_below found b)) in (
       all,
       took_part (with_misses init all) v' w found after b c x joined up took put long,
       λ h d i. ⊎_elim
@@ -54,10 +61,33 @@ took_after cs init v w found after b c x waits more is each took new touched up 
     )
   where
     with_all : with_misses (with_misses init waits) more ≡ with_misses init (more ++ waits)
-    with_all = λ i. record { start = init.start; clients = init.clients; mine = record { number = init.mine.number; seen = init.mine.seen; own = init.mine.own; marks = init.mine.marks; misses = sym (append_assoc more waits init.mine.misses) i }; others = init.others; holds = init.holds }
+    with_all =
+        λ i. record {
+          start = init.start;
+          clients = init.clients;
+          mine = record {
+            number = init.mine.number;
+            seen = init.mine.seen;
+            own = init.mine.own;
+            marks = init.mine.marks;
+            misses = sym (append_assoc more waits init.mine.misses) i;
+          };
+          others = init.others;
+          holds = init.holds;
+        }
 
-pub waits_from : (the : SharedMap) (cs : List Command) (v : Sight) (waits : List (ℕ × ℕ)) → v.clients ≡ clients_of the → AreWaits (touched_by cs) v waits → Waits the cs v.mine (with_misses v waits).mine
-waits_from the cs v waits clients each = (waits, refl, λ h b i. let w = each h b i in (w.0, subst (λ (n : ℕ). h < n) clients w.1, w.2))
+pub waits_from : (the : SharedMap) (cs : List Command) (v : Sight) (waits : List (ℕ × ℕ)) → v.clients ≡ clients_of the
+    → AreWaits (touched_by cs) v waits → Waits the cs v.mine (with_misses v waits).mine
+waits_from the cs v waits clients each =
+    (waits, refl, λ h b i. let w = each h b i in (w.0, subst (λ (n : ℕ). h < n) clients w.1, w.2))
 
 pub stays_waited : (v w : Sight) (waits : List (ℕ × ℕ)) → Stays (with_misses v waits) w → Stays v w
-stays_waited v w waits t = record { others = t.others; no_part = t.no_part; start = t.start; clients = t.clients; number = t.number; stands = t.stands }
+stays_waited v w waits t =
+    record {
+      others = t.others;
+      no_part = t.no_part;
+      start = t.start;
+      clients = t.clients;
+      number = t.number;
+      stands = t.stands;
+    }

@@ -12,7 +12,7 @@ use crate::map::SharedMap;
 use crate::slots::share;
 use atomic_table::Table;
 use moc_ranges::{Coverage, Memory};
-use std::alloc::{AllocError, Global};
+use std::alloc::Global;
 
 /// A slot for each part of a set.
 fn fill(alloc: Global, start: &Coverage) -> Result<Vec<Option<Pointer>>, Memory>
@@ -21,10 +21,7 @@ fn fill(alloc: Global, start: &Coverage) -> Result<Vec<Option<Pointer>>, Memory>
     let mut slots = Vec::new(alloc);
     for b in 0u8..12 {
         let pointer = share(alloc, start.part(alloc, b)?)?;
-        match slots.push(Some(pointer)) {
-            Ok(()) => {}
-            Err(refused) => return Err(AllocError::from(refused).into()),
-        }
+        slots.push(Some(pointer))?;
     }
     Ok(slots)
 }
@@ -42,10 +39,7 @@ fn deal(map: &SharedMap, first: Token, clients: u8) -> Result<Vec<Client>, Memor
     let mut seat = first;
     for number in 0..clients {
         let rest = split(&table.shared, &mut seat);
-        match all.push(Client { number, seat }) {
-            Ok(()) => {}
-            Err(refused) => return Err(AllocError::from(refused).into()),
-        }
+        all.push(Client { number, seat })?;
         seat = rest;
     }
     Ok(all)

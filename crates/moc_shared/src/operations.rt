@@ -19,7 +19,8 @@ use moc_ranges::Memory;
 use std::sync::Wait;
 
 impl SharedMap {
-    /// Takes the parts of the batch in rising order, once each, does it and gives them back; or gives back all that it took.
+    /// Takes the parts of the batch in rising order, once each, does it and gives them back; or gives back all that it
+    /// took.
     ///
     /// Waits for nobody. Refused where a part is held by another client, and where memory runs out.
     pub fn try_apply(&self, client: &mut Client, batch: &Batch) -> Result<Replies, TryError>
@@ -99,7 +100,8 @@ impl SharedMap {
         ensures map { IsClientOf self.now result.0 }
         ensures number { number_of result.0 ≡ number_of (holder_of holding) }
         ensures done { MatchResult result.1
-            (λ r. Ends self.now (call_of (holder_of holding) (batch_of holding) r) (record_of (holder_of holding)) (record_of result.0))
+            (λ r. Ends self.now (call_of (holder_of holding) (batch_of holding) r)
+            (record_of (holder_of holding)) (record_of result.0))
             (λ _. FailsHolding self.now (batch_of holding) (record_of (holder_of holding)) (record_of result.0)) }
         ensures marks { (record_of result.0).marks ≡ (record_of (holder_of holding)).marks }
     {
@@ -145,7 +147,8 @@ impl SharedMap {
         ensures number { IfOk result (λ r. number_of r.0 ≡ number_of (holder_of holding)) }
         ensures query { IfOk result (λ _. list_any is_update (batch_of holding) ≡ false) }
         ensures ok { IfOk result
-            (λ r. Ends self.now (call_of (holder_of holding) (batch_of holding) r.1) (record_of (holder_of holding)) (record_of r.0)) }
+            (λ r. Ends self.now (call_of (holder_of holding) (batch_of holding) r.1)
+            (record_of (holder_of holding)) (record_of r.0)) }
         ensures marks { IfOk result (λ r. (record_of r.0).marks ≡ (record_of (holder_of holding)).marks) }
         ensures err { IfErr result (λ e. AfterSnapshot self.now holding e) }
     {
@@ -160,7 +163,6 @@ impl SharedMap {
         let mut copies = no_slots();
         match observe(
             &self.table.shared,
-            self.alloc,
             &mut client.seat,
             &batch,
             found,

@@ -32,7 +32,8 @@ module _ {O R : Type 0} where
 
   -- the record of two, once this history was seen
   abbrev pub both_of : Record O R → Record O R → List (Entry O R) → Record O R
-  both_of r q log = record r { seen = log; own = r.own ++ q.own; marks = r.marks ++ q.marks; misses = r.misses ++ q.misses }
+  both_of r q log =
+      record r { seen = log; own = r.own ++ q.own; marks = r.marks ++ q.marks; misses = r.misses ++ q.misses }
 
 module _ {X O R Y : Type 0} where
   -- the part is held, with what was found, and the client's mark is on it
@@ -41,7 +42,9 @@ module _ {X O R Y : Type 0} where
 
   -- these parts are held, with the client's mark on each
   abbrev pub with_parts : View X O R Y → List (Note Y) → View X O R Y
-  with_parts v notes = record v { mine = record v.mine { marks = map (λ t. (v.mine.number, t.part)) notes ++ v.mine.marks }; holds = notes }
+  with_parts v notes =
+      let marks = map (λ t. (v.mine.number, t.part)) notes ++ v.mine.marks in
+      record v { mine = record v.mine { marks = marks }; holds = notes }
 
   -- the holder h of part b refused it
   abbrev pub with_miss : View X O R Y → ℕ → ℕ → View X O R Y
@@ -76,17 +79,18 @@ module _ {X O R Y : Type 0} where
   first_alone v = record v { others = [] }
 
 module _ {S X O R Y : Type 0} (content : S → Y) (part : ℕ → X → Y) where
-  -- The part was free, and is held now, with that part of some set; or another client of the map, for which the seat does not
-  -- stand, holds it.
+  -- The part was free, and is held now, with that part of some set; or another client of the map, for which the seat
+  -- does not stand, holds it.
   abbrev pub Took : Step S → Me S (View X O R Y) → ℕ → Me S (View X O R Y) → Type 0
   Took st m found m' =
       (found ≡ 0
-      → (x : S) × (set : X) × (content x ≡ part st.word set) × (m' ≡ (with_part m.0 st.word (content x), (st.word, x) ∷ m.1)))
+      → (x : S) × (set : X) × (content x ≡ part st.word set)
+      × (m' ≡ (with_part m.0 st.word (content x), (st.word, x) ∷ m.1)))
       × ((h : ℕ) → found ≡ suc h → (m' ≡ (with_miss m.0 h st.word, m.1)) × (h < m.0.clients) × ¬ StandsFor m.0.mine h)
 
 module _ {X O R Y : Type 0} where
-  -- The view after the call e: a legal history that begins with all that was seen and ends with the call has been seen, in which
-  -- the client's calls are the former ones and this one. The notes are of the parts that are still held.
+  -- The view after the call e: a legal history that begins with all that was seen and ends with the call has been seen,
+  -- in which the client's calls are the former ones and this one. The notes are of the parts that are still held.
   abbrev pub EndsCall : (X → O → X × R) → Entry O R → List (Note Y) → View X O R Y → View X O R Y → Type 0
   EndsCall answer e notes v w =
       (log : List (Entry O R)) × (w ≡ with_entry v log e notes) × StartsWith log v.mine.seen
@@ -101,9 +105,10 @@ module _ {S X O R Y : Type 0} where
   abbrev pub Gave : Step S → Me S (View X O R Y) → ℕ → Me S (View X O R Y) → Type 0
   Gave st m found m' = m' ≡ (with_holds m.0 (behind_first m.0.holds), rest m.1)
 
-  -- The same, and the call e stands at the end of a legal history, which begins with all that was seen; the notes are of the parts
-  -- that are still held.
-  abbrev pub Ended : (X → O → X × R) → Entry O R → List (Note Y) → Step S → Me S (View X O R Y) → ℕ → Me S (View X O R Y) → Type 0
+  -- The same, and the call e stands at the end of a legal history, which begins with all that was seen; the notes are
+  -- of the parts that are still held.
+  abbrev pub Ended : (X → O → X × R) → Entry O R → List (Note Y)
+      → Step S → Me S (View X O R Y) → ℕ → Me S (View X O R Y) → Type 0
   Ended answer e notes st m found m' =
       (log : List (Entry O R)) × (m' ≡ (with_entry m.0 log e notes, rest m.1)) × StartsWith log m.0.mine.seen
       × IsLegal answer m.0.start (log ++ e ∷ []) × Fits m'.0.mine.seen m'.0.mine

@@ -19,4 +19,6 @@ zeros (suc (suc (suc (suc (suc (suc (suc (suc (suc (suc (suc zero))))))))))) = r
 zeros (suc (suc (suc (suc (suc (suc (suc (suc (suc (suc (suc (suc b)))))))))))) = refl
 
 pub new-made-requires : goal.new-made-requires
-new-made-requires c = made _ c.args.start c.in_ok-slots.slots.items c.from.result refl zeros c.in_ok-slots.ensures c.is_empty.ensures.within
+new-made-requires c =
+    made _ c.args.start c.in_ok-slots.slots.items c.from.result refl zeros c.in_ok-slots.ensures
+    c.is_empty.ensures.within

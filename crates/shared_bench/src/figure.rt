@@ -1,0 +1,58 @@
+//! What a work comes to.
+use anyhow::Result;
+use std::time::{Clock, Instant};
+
+/// How many calls changed just a cell, how many readings were answered beside them, and the time of the slowest thread.
+#[derive(Clone, Copy)]
+pub struct Figure {
+    pub good: u64,
+    pub reads: u64,
+    pub micros: u64,
+}
+
+impl Figure {
+    /// Nothing was done.
+    pub fn nothing() -> Figure {
+        Figure {
+            good: 0,
+            reads: 0,
+            micros: 0,
+        }
+    }
+
+    /// So many readings, which are not timed.
+    pub fn of_reads(reads: u64) -> Figure {
+        Figure {
+            good: 0,
+            reads,
+            micros: 0,
+        }
+    }
+
+    /// So many good calls since then.
+    pub fn since<R: Clock>(rt: &R, start: &Instant, good: u64) -> Result<Figure> {
+        let micros = u64::try_from(start.elapsed(rt)?.as_micros()).unwrap_or(u64::MAX);
+        Ok(Figure {
+            good,
+            reads: 0,
+            micros,
+        })
+    }
+
+    /// Both, done at the same time.
+    pub fn with(self, other: Figure) -> Figure {
+        Figure {
+            good: self.good.saturating_add(other.good),
+            reads: self.reads.saturating_add(other.reads),
+            micros: self.micros.max(other.micros),
+        }
+    }
+
+    /// The faster one, if there are two.
+    pub fn or_faster(self, other: Option<Figure>) -> Figure {
+        match other {
+            Some(other) if other.micros < self.micros => other,
+            _ => self,
+        }
+    }
+}

@@ -1,0 +1,199 @@
+//! `shared_bench CALLS`: how long works on a running map take, of so many calls a thread. A line a work has its name, how many
+//! calls changed just a cell, the least time in microseconds, and how many readings were answered beside them. Without a
+//! number it makes a few calls, and tells no time. `bench/README.md` has what it measured.
+#![tactic(auto)]
+
+ghost use Rattle.std.specs.Prelude.{All, IfSome};
+ghost use Rattle.moc_shared.specs.Clients.{IsClientOf};
+
+mod figure;
+mod threads;
+
+use crate::figure::Figure;
+use crate::threads::{CELLS, Job, Plan, batch, cell, changed_a_cell, work};
+use anyhow::{Result, bail};
+use moc_parts::{Batch, Command, Map};
+use moc_ranges::Coverage;
+use moc_shared::{Client, SharedMap};
+use std::alloc::Global;
+use std::marker::Sync;
+use std::sync::Wait;
+use std::sync::atomic::AtomicU64;
+use std::thread::{self, Threads};
+use std::time::{Clock, Instant};
+
+/// How often each work is timed.
+const REPEATS: u32 = 7;
+
+/// How many calls are made where nothing is timed.
+const FEW: u64 = 24;
+
+/// How many cells, no two side by side, base pixel 0 has where it is read.
+const READ_CELLS: u64 = 1000;
+
+/// What is timed.
+#[derive(Clone, Copy)]
+enum Work {
+    /// Adds of one cell each to a map that one user has.
+    Map,
+    /// The same adds by the one client of a running map, by `try_apply`.
+    OneClient,
+    /// So many clients, each on a thread of its own.
+    Together(Job, u8),
+}
+
+/// Batches that add one cell each, spread over the sky.
+fn adds(alloc: Global, calls: u64) -> Result<Vec<Batch>> {
+    let apart = CELLS / calls.max(1);
+    let mut batches = Vec::new(alloc);
+    for index in 0..calls {
+        let operand = cell(alloc, index.saturating_mul(apart))?;
+        batches.push(batch(alloc, Command::Add(operand))?)?;
+    }
+    Ok(batches)
+}
+
+/// The set that a map begins with: what is to be read, where something is.
+fn start(alloc: Global, work: Work) -> Result<Coverage> {
+    let mut set = Coverage::empty(alloc);
+    if let Work::Together(Job::Readers, _) = work {
+        for index in 0..READ_CELLS {
+            set = set.union(alloc, &cell(alloc, 2 * index + 100)?.set)?;
+        }
+    }
+    Ok(set)
+}
+
+/// The adds on a map that one user has.
+fn on_a_map<R: Clock>(rt: &R, alloc: Global, calls: u64) -> Result<Figure> {
+    let mut map = Map::new(alloc, Coverage::empty(alloc))?;
+    let batches = adds(alloc, calls)?;
+    let start = Instant::now(rt)?;
+    let mut good = 0u64;
+    for batch in &batches {
+        good = good.saturating_add(u64::from(changed_a_cell(&map.apply(alloc, batch)?)));
+    }
+    Figure::since(rt, &start, good)
+}
+
+/// The last of the clients that are left.
+fn next(map: &SharedMap, clients: &mut Vec<Client>) -> Option<Client>
+    requires { All (IsClientOf map.now) clients.old.items }
+    ensures { IfSome result (IsClientOf map.now) }
+{
+    let _map = map;
+    match clients.pop() {
+        Some(client) => Some(client),
+        None => None,
+    }
+}
+
+/// The adds by one client of a running map.
+fn by_one_client<R: Clock>(rt: &R, alloc: Global, calls: u64) -> Result<Figure> {
+    let (map, mut clients) = SharedMap::new(alloc, Coverage::empty(alloc), 1)?;
+    let Some(mut client) = next(&map, &mut clients) else {
+        bail!("a client")
+    };
+    let batches = adds(alloc, calls)?;
+    let start = Instant::now(rt)?;
+    let mut good = 0u64;
+    for batch in &batches {
+        let replies = map.try_apply(&mut client, batch)?;
+        good = good.saturating_add(u64::from(changed_a_cell(&replies)));
+    }
+    Figure::since(rt, &start, good)
+}
+
+/// What clients of one map do, each on a thread of its own.
+fn by_threads<R: Threads + Wait + Clock + Sync>(
+    rt: &R,
+    alloc: Global,
+    start: Coverage,
+    job: Job,
+    threads: u8,
+    rounds: u64,
+) -> Result<Figure> {
+    let (map, clients) = SharedMap::new(alloc, start, threads)?;
+    let plan = Plan {
+        job,
+        rounds,
+        threads: u64::from(threads),
+        started: AtomicU64::new(0),
+        ended: AtomicU64::new(0),
+    };
+    let (map, plan) = (&map, &plan);
+    let ended = thread::map_vec(
+        rt,
+        clients,
+        &|client: Client| -> Figure
+            requires { IsClientOf map.now client }
+        { work(rt, alloc, map, plan, client) },
+    )?;
+    let mut all = Figure::nothing();
+    for figure in ended {
+        all = all.with(figure);
+    }
+    Ok(all)
+}
+
+/// What the work comes to, once.
+fn once<R: Threads + Wait + Clock + Sync>(
+    rt: &R,
+    alloc: Global,
+    work: Work,
+    calls: u64,
+) -> Result<Figure> {
+    match work {
+        Work::Map => on_a_map(rt, alloc, calls),
+        Work::OneClient => by_one_client(rt, alloc, calls),
+        Work::Together(job, threads) => {
+            by_threads(rt, alloc, start(alloc, work)?, job, threads, calls / 2)
+        }
+    }
+}
+
+fn main(rt: HostRuntime) -> Result<()> {
+    let words: Vec<String> = std::env::args(&rt)?.collect(rt.alloc())?;
+    let (calls, repeats) = match words.as_slice() {
+        [_] => (FEW, 1),
+        [_, calls] => (calls.as_str().parse()?, REPEATS),
+        _ => bail!("shared_bench [CALLS]"),
+    };
+    let works = [
+        ("a map", Work::Map),
+        ("one client", Work::OneClient),
+        ("1 thread", Work::Together(Job::OwnParts, 1)),
+        (
+            "2 threads on parts of their own",
+            Work::Together(Job::OwnParts, 2),
+        ),
+        (
+            "3 threads on parts of their own",
+            Work::Together(Job::OwnParts, 3),
+        ),
+        (
+            "4 threads on parts of their own",
+            Work::Together(Job::OwnParts, 4),
+        ),
+        ("12 threads on one part", Work::Together(Job::OnePart, 12)),
+        ("a writer", Work::Together(Job::Readers, 1)),
+        ("a writer beside 1 reader", Work::Together(Job::Readers, 2)),
+        ("a writer beside 3 readers", Work::Together(Job::Readers, 4)),
+    ];
+    for (name, work) in works {
+        let mut least = None;
+        for _ in 0..repeats {
+            least = Some(once(&rt, rt.alloc(), work, calls)?.or_faster(least));
+        }
+        let figure = least.unwrap_or(Figure::nothing());
+        if repeats > 1 {
+            println!(rt;
+                "{name}: {} good, {} us, {} readings",
+                figure.good, figure.micros, figure.reads
+            )?;
+        } else {
+            println!(rt; "{name}: {} good", figure.good)?;
+        }
+    }
+    Ok(())
+}

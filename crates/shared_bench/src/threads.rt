@@ -1,0 +1,206 @@
+//! What clients do, each on a thread of its own.
+ghost use Rattle.std.specs.Prelude.{All, IfSome};
+ghost use Rattle.moc_shared.specs.Clients.{IsClientOf, IsHoldingOf};
+
+use crate::figure::Figure;
+use anyhow::Result;
+use moc_parts::{Batch, Command, Operand, Replies, Reply};
+use moc_ranges::Coverage;
+use moc_shared::{Client, Holding, SharedMap, Snapshot, SnapshotError};
+use std::alloc::Global;
+use std::sync::Wait;
+use std::sync::atomic::{AtomicU64, Ordering};
+use std::thread;
+use std::time::{Clock, Instant};
+
+/// How many pixels a base pixel has: 4^29.
+const BASE: u64 = 288_230_376_151_711_744;
+
+/// How many pixels a cell of order 13 has: 4^16.
+const CELL: u64 = 4_294_967_296;
+
+/// How many cells of order 13 the sky has: 12·4^13.
+pub const CELLS: u64 = 805_306_368;
+
+/// How many of them a base pixel has.
+const BASE_CELLS: u64 = 67_108_864;
+
+/// How often a thread looks whether the others have started.
+const TURNS: u64 = 1_000_000;
+
+/// What the threads do.
+#[derive(Clone, Copy)]
+pub enum Job {
+    /// Each adds a cell in a base pixel of its own, and removes it.
+    OwnParts,
+    /// Each adds a cell of its own in base pixel 0, and removes it.
+    OnePart,
+    /// Client 0 does so, and the others read base pixel 0 by snapshots until it is done.
+    Readers,
+}
+
+/// What threads know of one another.
+#[derive(Drop)]
+pub struct Plan {
+    pub job: Job,
+    pub rounds: u64,
+    pub threads: u64,
+    pub started: AtomicU64,
+    pub ended: AtomicU64,
+}
+
+/// A cell of order 13.
+pub fn cell(alloc: Global, index: u64) -> Result<Operand> {
+    let from = (index % CELLS) * CELL;
+    let set = Coverage::from_ranges(alloc, &[(from, from + CELL)])?;
+    Ok(Operand { set, coarse: None })
+}
+
+/// The batch of one command.
+pub fn batch(alloc: Global, command: Command) -> Result<Batch> {
+    let mut commands = Vec::new(alloc);
+    commands.push(command)?;
+    Ok(Batch::new(commands)?)
+}
+
+/// Whether the one reply is that just a cell changed.
+pub fn changed_a_cell(replies: &Replies) -> bool {
+    matches!(replies.as_slice().first(), Some(Reply::Changed(CELL)))
+}
+
+/// Whether all threads have started. It yields to them, and gives up after so many turns.
+fn have_started(plan: &Plan) -> bool {
+    plan.started.fetch_add(1, Ordering::SeqCst);
+    for _ in 0..TURNS {
+        if plan.started.load(Ordering::SeqCst) >= plan.threads {
+            return true;
+        }
+        thread::yield_now();
+    }
+    false
+}
+
+/// A thread's work, once all threads have started. Nothing is good where memory or the clock is refused.
+pub fn work<R: Wait + Clock>(
+    rt: &R,
+    alloc: Global,
+    map: &SharedMap,
+    plan: &Plan,
+    client: Client,
+) -> Figure
+    requires { IsClientOf map.now client }
+{
+    let is_reader = matches!(plan.job, Job::Readers) && client.number() > 0;
+    let all = have_started(plan);
+    let done = if !all {
+        None
+    } else if is_reader {
+        read(alloc, map, plan, client)
+    } else {
+        change(rt, alloc, map, plan, client)
+    };
+    plan.ended.fetch_add(1, Ordering::SeqCst);
+    done.unwrap_or(Figure::nothing())
+}
+
+/// Adds a cell and removes it, in all rounds.
+fn change<R: Wait + Clock>(
+    rt: &R,
+    alloc: Global,
+    map: &SharedMap,
+    plan: &Plan,
+    client: Client,
+) -> Option<Figure>
+    requires { IsClientOf map.now client }
+{
+    let mut client = client;
+    let number = u64::from(client.number());
+    let index = match plan.job {
+        Job::OwnParts => number * BASE_CELLS,
+        Job::OnePart | Job::Readers => number,
+    };
+    let add = batch(alloc, Command::Add(cell(alloc, index).ok()?)).ok()?;
+    let remove = batch(alloc, Command::Remove(cell(alloc, index).ok()?)).ok()?;
+    let start = Instant::now(rt).ok()?;
+    let good = come_and_go(rt, map, &mut client, &add, &remove, plan.rounds);
+    Figure::since(rt, &start, good).ok()
+}
+
+/// Adds a set and removes it in turn, waiting for the part: how many of the calls changed just a cell.
+fn come_and_go<R: Wait>(
+    rt: &R,
+    map: &SharedMap,
+    client: &mut Client,
+    add: &Batch,
+    remove: &Batch,
+    rounds: u64,
+) -> u64
+    requires { IsClientOf map.now client.old }
+    ensures { IsClientOf map.now client.new }
+{
+    let mut good = 0u64;
+    for _ in 0..rounds {
+        let added = changes_a_cell(rt, map, client, add);
+        let removed = changes_a_cell(rt, map, client, remove);
+        good = good.saturating_add(u64::from(added) + u64::from(removed));
+    }
+    good
+}
+
+/// Whether the batch changes just a cell, once its part is free.
+fn changes_a_cell<R: Wait>(rt: &R, map: &SharedMap, client: &mut Client, batch: &Batch) -> bool
+    requires { IsClientOf map.now client.old }
+    ensures { IsClientOf map.now client.new }
+{
+    match map.apply(rt, client, batch) {
+        Ok(replies) => changed_a_cell(&replies),
+        Err(_) => false,
+    }
+}
+
+/// Reads base pixel 0 until some other thread has ended: how many readings were answered.
+fn read(alloc: Global, map: &SharedMap, plan: &Plan, client: Client) -> Option<Figure>
+    requires { IsClientOf map.now client }
+{
+    let mut client = client;
+    let set = Coverage::from_ranges(alloc, &[(0, BASE)]).ok()?;
+    let read = batch(alloc, Command::Read(Operand { set, coarse: None })).ok()?;
+    let mut reads = 0u64;
+    for _ in 0..u64::MAX {
+        if plan.ended.load(Ordering::SeqCst) > 0 {
+            break;
+        }
+        let (back, snapshot) = look(map, client, read.try_copy(alloc).ok()?);
+        client = back;
+        match snapshot {
+            Some(snapshot) => reads = reads.saturating_add(u64::from(
+                snapshot.answer(alloc).is_ok(),
+            )),
+            None => thread::yield_now(),
+        }
+    }
+    Some(Figure::of_reads(reads))
+}
+
+/// What a query sees, with its client; nothing where a part is held.
+fn look(map: &SharedMap, client: Client, batch: Batch) -> (Client, Option<Snapshot>)
+    requires { IsClientOf map.now client }
+    ensures { IsClientOf map.now result.0 }
+{
+    match map.hold(client, batch) {
+        Ok(holding) => seen(map, holding),
+        Err((client, _, _)) => (client, None),
+    }
+}
+
+/// What the query of a holding sees, with its client.
+fn seen(map: &SharedMap, holding: Holding) -> (Client, Option<Snapshot>)
+    requires { IsHoldingOf map.now holding }
+    ensures { IsClientOf map.now result.0 }
+{
+    match map.snapshot(holding) {
+        Ok((client, snapshot)) => (client, Some(snapshot)),
+        Err(SnapshotError::NotQuery(holding)) => (map.let_go(holding), None),
+        Err(SnapshotError::Memory(client)) => (client, None),
+    }
+}
