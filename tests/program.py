@@ -315,12 +315,15 @@ def shared_calls_refuse(tally, shim):
     """A refused growth of a call of the running map leaves all as it was, and all other calls work.
 
     A run that ends with 1 met the refusal outside of the calls that it tells of, after a front of them."""
-    done = b"".join(b"%s: done\n" % call for call in CALLS)
-    refused = {call: (0, done.replace(b"%s: done" % call, b"%s: refused" % call)) for call in CALLS}
+    def told(refused):
+        return b"".join(b"%s: %s\n" % (call, b"refused" if call == refused else b"done") for call in CALLS)
+
+    done = told(None)
+    refused = {call: (0, told(call)) for call in CALLS}
     ended = {(1, front) for front in fronts(done)}
     met = refuse_each(tally, "shared calls", built("refused_calls"), b"", (0, done), {*refused.values(), *ended}, shim)
-    for call, told in refused.items():
-        tally.add(f"some refusal of {call} shows", told in met, met)
+    for call, seen in refused.items():
+        tally.add(f"some refusal of {call} shows", seen in met, met)
 
 
 def main():
