@@ -43,3 +43,6 @@ printf 'cds     '
 cds ascii_to_json 5
 # Schedules through the program.
 ./schedules.py
+# Calls of the running map, by one client and by several threads.
+(cd ../crates/shared_bench && rt run < /dev/null > /dev/null 2>&1)
+../crates/shared_bench/out/shared_bench 20000
