@@ -48,3 +48,6 @@ for operation in turns rounds10 rounds1000 rounds100000; do
 done
 ./schedules.py
 ./crews.py
+# Calls of the running map, by one client and by several threads.
+(cd ../crates/shared_bench && rt run < /dev/null > /dev/null 2>&1)
+../crates/shared_bench/out/shared_bench 20000

@@ -2,12 +2,12 @@
 use anyhow::Result;
 use std::time::{Clock, Instant};
 
-/// How many calls changed just a cell, how many readings were answered beside them, and the time of the slowest thread.
-#[derive(Clone, Copy)]
+/// The time of the slowest thread, how many calls changed just a cell, and how many readings were answered beside them.
+#[derive(Clone, Copy, PartialEq, Eq, PartialOrd, Ord)]
 pub struct Figure {
+    pub micros: u64,
     pub good: u64,
     pub reads: u64,
-    pub micros: u64,
 }
 
 impl Figure {
@@ -45,14 +45,6 @@ impl Figure {
             good: self.good.saturating_add(other.good),
             reads: self.reads.saturating_add(other.reads),
             micros: self.micros.max(other.micros),
-        }
-    }
-
-    /// The faster one, if there are two.
-    pub fn or_faster(self, other: Option<Figure>) -> Figure {
-        match other {
-            Some(other) if other.micros < self.micros => other,
-            _ => self,
         }
     }
 }

@@ -1,5 +1,5 @@
 //! `shared_bench CALLS`: how long works on a running map take, of so many calls a thread. A line a work has its name, how many
-//! calls changed just a cell, the least time in microseconds, and how many readings were answered beside them. Without a
+//! calls changed just a cell, the least and the median time, and how many readings were answered beside the latter. Without a
 //! number it makes a few calls, and tells no time. `bench/README.md` has what it measured.
 #![tactic(auto)]
 
@@ -23,7 +23,7 @@ use std::thread::{self, Threads};
 use std::time::{Clock, Instant};
 
 /// How often each work is timed.
-const REPEATS: u32 = 7;
+const REPEATS: u32 = 25;
 
 /// How many calls are made where nothing is timed.
 const FEW: u64 = 24;
@@ -152,6 +152,29 @@ fn once<R: Threads + Wait + Clock + Sync>(
     }
 }
 
+/// The works, by name.
+const WORKS: [(&str, Work); 10] = [
+    ("a map", Work::Map),
+    ("one client", Work::OneClient),
+    ("1 thread", Work::Together(Job::OwnParts, 1)),
+    (
+        "2 threads on parts of their own",
+        Work::Together(Job::OwnParts, 2),
+    ),
+    (
+        "3 threads on parts of their own",
+        Work::Together(Job::OwnParts, 3),
+    ),
+    (
+        "4 threads on parts of their own",
+        Work::Together(Job::OwnParts, 4),
+    ),
+    ("12 threads on one part", Work::Together(Job::OnePart, 12)),
+    ("a writer", Work::Together(Job::Readers, 1)),
+    ("a writer beside 1 reader", Work::Together(Job::Readers, 2)),
+    ("a writer beside 3 readers", Work::Together(Job::Readers, 4)),
+];
+
 fn main(rt: HostRuntime) -> Result<()> {
     let words: Vec<String> = std::env::args(&rt)?.collect(rt.alloc())?;
     let (calls, repeats) = match words.as_slice() {
@@ -159,40 +182,27 @@ fn main(rt: HostRuntime) -> Result<()> {
         [_, calls] => (calls.as_str().parse()?, REPEATS),
         _ => bail!("shared_bench [CALLS]"),
     };
-    let works = [
-        ("a map", Work::Map),
-        ("one client", Work::OneClient),
-        ("1 thread", Work::Together(Job::OwnParts, 1)),
-        (
-            "2 threads on parts of their own",
-            Work::Together(Job::OwnParts, 2),
-        ),
-        (
-            "3 threads on parts of their own",
-            Work::Together(Job::OwnParts, 3),
-        ),
-        (
-            "4 threads on parts of their own",
-            Work::Together(Job::OwnParts, 4),
-        ),
-        ("12 threads on one part", Work::Together(Job::OnePart, 12)),
-        ("a writer", Work::Together(Job::Readers, 1)),
-        ("a writer beside 1 reader", Work::Together(Job::Readers, 2)),
-        ("a writer beside 3 readers", Work::Together(Job::Readers, 4)),
-    ];
-    for (name, work) in works {
-        let mut least = None;
-        for _ in 0..repeats {
-            least = Some(once(&rt, rt.alloc(), work, calls)?.or_faster(least));
+    let mut rows = Vec::new(rt.alloc());
+    for _ in WORKS {
+        rows.push(Vec::new(rt.alloc()))?;
+    }
+    // In turn, so that what else the machine does falls on all works alike.
+    for _ in 0..repeats {
+        for (row, (_, work)) in rows.iter_mut().zip(WORKS) {
+            row.push(once(&rt, rt.alloc(), work, calls)?)?;
         }
-        let figure = least.unwrap_or(Figure::nothing());
+    }
+    for (row, (name, _)) in rows.iter_mut().zip(WORKS) {
+        row.sort_unstable();
+        let least = row.first().copied().unwrap_or(Figure::nothing());
+        let median = row.get(row.len() / 2).copied().unwrap_or(least);
         if repeats > 1 {
             println!(rt;
-                "{name}: {} good, {} us, {} readings",
-                figure.good, figure.micros, figure.reads
+                "{name}: {} good, least {} us, median {} us beside {} readings",
+                median.good, least.micros, median.micros, median.reads
             )?;
         } else {
-            println!(rt; "{name}: {} good", figure.good)?;
+            println!(rt; "{name}: {} good", median.good)?;
         }
     }
     Ok(())
