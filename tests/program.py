@@ -103,6 +103,14 @@ HELP = [
     (["play", "--help"], b"The schedule is read from standard input"),
     (["crew", "--help"], b"Its lines that are not blank go to N threads in turn"),
     (["ring", "--help"], b"Prints the ring number of a nested cell"),
+    (["ring", "--help"], b"Order of the cell, 0 to 29"),
+    (["help", "near"], b"Number of the cell in the nested scheme, below 12 times 4^ORDER"),
+    (["near", "--help"], b"Prints the nested cells that share a corner point with a cell"),
+    (["nest", "--help"], b"Number of the cell in the ring scheme, from the north, below 12 times 4^ORDER"),
+    (["cell", "--help"], b"NUNIQ number of the cell, which is 4^(ORDER+1) + CELL"),
+    (["crew", "--help"], b"How many threads, 1 to 64"),
+    (["--version"], b"moc 0.1.0\n"),
+    (["-V"], b"moc 0.1.0\n"),
     (["convert", "--help"], b"Converts a coverage on standard input from one text form to another"),
 ]
 

@@ -44,10 +44,14 @@ without_name a = record a { top = record a.top { no_binary_name = true } }
 abbrev pub with_word_required : App → App
 with_word_required a = record a { top = record a.top { subcommand_required = true } }
 
+-- it knows its version
+abbrev pub with_version : App → App
+with_version a = record a { top = record a.top { has_version = true } }
+
 -- the program with the words `run`, `play` and `crew N`
 unfoldable pub lines_app : App
 lines_app =
-    let bare = with_word_required (without_name (new_app (codes "moc"))) in
+    let bare = with_word_required (without_name (with_version (new_app (codes "moc")))) in
     let with_run = with_subcommand bare (new_app (codes "run")).top in
     let with_play = with_subcommand with_run (new_app (codes "play")).top in
     with_subcommand with_play (with_rule (new_app (codes "crew")) lanes_rule).top

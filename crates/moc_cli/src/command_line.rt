@@ -79,6 +79,15 @@ answers
   changed 288230376151711744
   cover 0/0-1";
 
+/// What help says of a nested number.
+const NESTED: &str = "Number of the cell in the nested scheme, below 12 times 4^ORDER";
+
+/// What help says of a ring number.
+const RING: &str = "Number of the cell in the ring scheme, from the north, below 12 times 4^ORDER";
+
+/// What help says of a NUNIQ number.
+const UNIQ: &str = "NUNIQ number of the cell, which is 4^(ORDER+1) + CELL";
+
 /// The words of the text forms.
 static FORMS: [&str; 3] = ["ascii", "json", "uniq"];
 
@@ -86,13 +95,21 @@ static FORMS: [&str; 3] = ["ascii", "json", "uniq"];
 pub fn command_line<'a>(alloc: Global) -> Result<Command<'a>, AllocError>
     ensures { IfOk result (λ c. IsCommandLine (app_of c)) }
 {
-    let ring = numbers(alloc, "ring", "CELL")?.about("Prints the ring number of a nested cell");
-    let nest = numbers(alloc, "nest", "RING")?.about("Prints the nested number of a ring number");
-    let uniq = numbers(alloc, "uniq", "CELL")?.about("Prints the NUNIQ number of a nested cell");
-    let near = numbers(alloc, "near", "CELL")?.about("Prints the nested cells that touch a cell");
+    let ring = numbers(alloc, "ring", "CELL", NESTED)?.about(
+        "Prints the ring number of a nested cell",
+    );
+    let nest = numbers(alloc, "nest", "RING", RING)?.about(
+        "Prints the nested number of a ring number",
+    );
+    let uniq = numbers(alloc, "uniq", "CELL", NESTED)?.about(
+        "Prints the NUNIQ number of a nested cell",
+    );
+    let near = numbers(alloc, "near", "CELL", NESTED)?.about(
+        "Prints the nested cells that share a corner point with a cell",
+    );
     let cell = Command::new(alloc, "cell")
         .about("Prints the order and the nested number of a NUNIQ number")
-        .arg(number(alloc, "UNIQ"))?;
+        .arg(number(alloc, "UNIQ", UNIQ))?;
     let convert = Command::new(alloc, "convert")
         .about("Converts a coverage on standard input from one text form to another")
         .arg(form(alloc, "FROM"))?
@@ -122,6 +139,7 @@ fn lines<'a>(alloc: Global) -> Result<Command<'a>, AllocError>
         .arg(lanes(alloc))?;
     Command::new(alloc, "moc")
         .about("Sky coverages (IVOA MOC 2.0) and HEALPix cell numbers")
+        .version("0.1.0")
         .after_help(EXAMPLE)
         .bin_name("moc")?
         .no_binary_name(true)
@@ -131,14 +149,19 @@ fn lines<'a>(alloc: Global) -> Result<Command<'a>, AllocError>
         .subcommand(crew)
 }
 
-/// A word with an order and a number.
-fn numbers<'a>(alloc: Global, word: &'a str, name: &'a str) -> Result<Command<'a>, AllocError>
+/// A word with an order and a number, which help tells.
+fn numbers<'a>(
+    alloc: Global,
+    word: &'a str,
+    name: &'a str,
+    help: &'a str,
+) -> Result<Command<'a>, AllocError>
     ensures app { IfOk result (λ c. app_of c ≡ numbers_app word.entry.now name.entry.now) }
     ensures local { IfOk result (λ c. (fields_of c).has_globals ≡ false) }
 {
     Command::new(alloc, word)
         .arg(order(alloc))?
-        .arg(number(alloc, name))
+        .arg(number(alloc, name, help))
 }
 
 /// A required number of threads, 1 to 64.
@@ -147,6 +170,7 @@ fn lanes<'a>(alloc: Global) -> Arg<'a>
     ensures local { result.global ≡ false }
 {
     Arg::new(alloc, "N")
+        .help("How many threads, 1 to 64")
         .required(true)
         .value_parser(value_parser!(u8).range(1..=64))
 }
@@ -157,16 +181,20 @@ fn order<'a>(alloc: Global) -> Arg<'a>
     ensures local { result.global ≡ false }
 {
     Arg::new(alloc, "ORDER")
+        .help(
+            "Order of the cell, 0 to 29; order k has 12 times 4^k cells",
+        )
         .required(true)
         .value_parser(value_parser!(u8).range(0..=29))
 }
 
-/// A required number of 64 bits.
-fn number<'a>(alloc: Global, name: &'a str) -> Arg<'a>
+/// A required number of 64 bits, which help tells.
+fn number<'a>(alloc: Global, name: &'a str, help: &'a str) -> Arg<'a>
     ensures rule { rule_of result ≡ number_rule name.entry.now }
     ensures local { result.global ≡ false }
 {
     Arg::new(alloc, name)
+        .help(help)
         .required(true)
         .value_parser(value_parser!(u64))
 }

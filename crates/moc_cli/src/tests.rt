@@ -90,6 +90,16 @@ fn scripts(rt: HostRuntime) {
 }
 
 #[test]
+fn plays(rt: HostRuntime) {
+    expect(&rt, rt.alloc(), &["play"], "", 0, "order\ncover\n", "");
+    let schedule =
+        "begin 1 add 0/3\ntake 1\nedit 1 3\ntake 2\ngive 1 3\n\nhop\nend 1\nbegin 2 count 0/3";
+    let answers =
+        "ok\nok\nok\nrefused Idle\nok\nfault UnknownWord\nchanged 288230376151711744\nok\norder 1\nmidway 1\n";
+    expect(&rt, rt.alloc(), &["play"], schedule, 0, answers, "");
+}
+
+#[test]
 fn crews(rt: HostRuntime) {
     let script = "add 0/0\nadd 0/1\n\ncount 0/0\nhop";
     let answers =
@@ -244,6 +254,7 @@ impl Source for Broken {
 fn failing_input(rt: HostRuntime) {
     for words in [
         ["run"].as_slice(),
+        ["play"].as_slice(),
         ["crew", "2"].as_slice(),
         ["convert", "ascii", "json"].as_slice(),
     ] {
@@ -269,6 +280,7 @@ fn help_and_mistakes(rt: HostRuntime) {
         (["--help"].as_slice(), 0),
         (["help"].as_slice(), 0),
         (["ring", "--help"].as_slice(), 0),
+        (["--version"].as_slice(), 0),
         ([].as_slice(), 2),
         (["ring", "30", "0"].as_slice(), 2),
         (["fly"].as_slice(), 2),

@@ -1,5 +1,5 @@
 //! Commands that are done in order, as one operation.
-ghost use Rattle.std.specs.Prelude.{◌≡◌, ◌<◌, ◌≤◌, ℕ, true, length, nat_eq, IfOk, IfErr, OnOk, OnErr, if◌then◌else◌};
+ghost use Rattle.std.specs.Prelude.{◌≡◌, [], ◌∷◌, ◌<◌, ◌≤◌, ℕ, true, length, nat_eq, IfOk, IfErr, OnOk, OnErr, if◌then◌else◌};
 ghost use Rattle.std.specs.FinSet as set;
 ghost use Rattle.std.specs.List.{list_any};
 ghost use Rattle.moc_parts.specs.Batches.{footprint_of_all, AreCommands};
@@ -63,6 +63,15 @@ impl Batch {
         } else {
             Ok(Batch { commands })
         }
+    }
+
+    /// The batch of one command. Refused where memory runs out; the command is then given up.
+    pub fn one(alloc: Global, command: Command) -> Result<Batch, Memory>
+        ensures { IfOk result (λ b. b ≡ command ∷ []) }
+    {
+        let mut commands = Vec::new(alloc);
+        commands.push(command)?;
+        Ok(Batch { commands })
     }
 
     /// The commands as a batch, for a caller that knows them to be 1 to 16. Takes no memory.

@@ -21,13 +21,6 @@ fn near(order: u8, index: u64) -> Result<Command, Fail> {
     Ok(Command::Near(Cell::new(order, index)?))
 }
 
-/// The batch of one command.
-fn batch(rt: &HostRuntime, command: Command) -> Result<Batch, Fail> {
-    let mut commands = Vec::new(rt.alloc());
-    commands.push(command)?;
-    Ok(Batch::new(commands)?)
-}
-
 /// The footprint has just these parts.
 fn has_just(footprint: PartSet, parts: &[u8]) -> bool {
     (0u8..12).all(|b| footprint.contains(Part::of(b)) == parts.contains(&b))
@@ -112,7 +105,7 @@ fn changed(replies: &Replies) -> Option<u64> {
 fn a_map_does_commands(rt: HostRuntime) -> Result<(), Fail> {
     let alloc = rt.alloc();
     let mut map = Map::new(alloc, Coverage::from_ranges(alloc, &[(0, BASE)])?)?;
-    let replies = map.apply(alloc, &batch(&rt, Command::Invert)?)?;
+    let replies = map.apply(alloc, &Batch::one(alloc, Command::Invert)?)?;
     assert_eq!(rt; changed(&replies.try_copy(alloc)?), Some(12 * BASE));
     assert!(rt; map.part(Part::of(0)).is_empty());
     assert_eq!(rt; map.part(Part::of(11)).count(), BASE);
@@ -127,7 +120,7 @@ fn a_batch_is_prepared_from_a_part(rt: HostRuntime) -> Result<(), Fail> {
     let found = [
         part, None, None, None, None, None, None, None, None, None, None, None,
     ];
-    let removal = batch(&rt, Command::Remove(ranges(&rt, &[(5, BASE)])?))?;
+    let removal = Batch::one(alloc, Command::Remove(ranges(&rt, &[(5, BASE)])?))?;
     let mut prepared = prepare(alloc, &removal, &found)?;
     assert_eq!(rt; changed(prepared.reply()), Some(BASE - 5));
     let list = prepared.take(Part::of(0)).ok_or("no list")?;
@@ -135,7 +128,7 @@ fn a_batch_is_prepared_from_a_part(rt: HostRuntime) -> Result<(), Fail> {
     assert!(rt; prepared.take(Part::of(0)).is_none());
     assert!(rt; prepared.take(Part::of(1)).is_none());
     assert_eq!(rt; prepared.into_reply().as_slice().len(), 1);
-    let count = batch(&rt, Command::Count(ranges(&rt, &[(5, BASE)])?))?;
+    let count = Batch::one(alloc, Command::Count(ranges(&rt, &[(5, BASE)])?))?;
     assert!(rt; !count.is_update());
     let replies = reply_of(alloc, &count, &found)?;
     assert!(rt;

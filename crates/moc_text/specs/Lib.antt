@@ -7,6 +7,7 @@ pub mod UniqList
 pub mod JsonForm
 pub mod JsonText
 pub mod Faults
+pub mod Places
 pub mod Private
 pub use Rattle.moc_sphere.specs.CellNumber
 pub use Rattle.moc_ranges.specs.Numbers

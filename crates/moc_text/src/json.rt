@@ -4,6 +4,6 @@ mod error;
 mod reading;
 mod writing;
 
-pub use error::JsonError;
+pub use error::{JsonError, JsonPlace};
 pub use reading::read_json;
 pub use writing::write_json;

@@ -1,5 +1,5 @@
 //! NUNIQ lists: the NUNIQ number of a cell on each line.
-ghost use Rattle.std.specs.Prelude.{◌≡◌, ◌++◌, ◌<◌, decimal, map, IfErr, IfOk, IsOkUnless, length, MatchResult, OnOk};
+ghost use Rattle.std.specs.Prelude.{◌≡◌, ◌++◌, ◌<◌, ◌⊎◌, decimal, map, IfErr, IfOk, IsOkUnless, length, MatchOption, MatchResult, OnOk};
 ghost use Rattle.std.specs.Option.{option_copied};
 ghost use Rattle.std.specs.String.{string_bytes};
 ghost use Rattle.moc_sphere.specs.CellNumber.{uniq_of};
@@ -7,6 +7,7 @@ ghost use Rattle.moc_ranges.specs.Numbers.{NumberSet};
 ghost use Rattle.moc_text.specs.Lines.{lines_of};
 ghost use Rattle.moc_text.specs.Private.UniqReading.{after_line, IsLineRead};
 ghost use Rattle.moc_text.specs.Faults.{Fails};
+ghost use Rattle.moc_text.specs.declared.uniq.UniqError.TheVariants.{BadByte, Memory, NotUniq};
 ghost use Rattle.moc_text.specs.UniqList.{fault_from, number_lines, SaysUniq, uniq_fault, uniq_text};
 
 use crate::ascii::{digits, push_number};
@@ -24,6 +25,18 @@ pub enum UniqError {
     NotUniq { line: usize },
     #[error("out of memory")]
     Memory,
+}
+
+impl UniqError {
+    /// The number of the line that is at fault, counted from 1; `None` for `Memory`.
+    pub fn line(self) -> Option<usize>
+        ensures { MatchOption result (self ≡ Memory) (λ line. (self ≡ BadByte line) ⊎ (self ≡ NotUniq line)) }
+    {
+        match self {
+            UniqError::BadByte { line } | UniqError::NotUniq { line } => Some(line),
+            UniqError::Memory => None,
+        }
+    }
 }
 
 impl From<AllocError> for UniqError {

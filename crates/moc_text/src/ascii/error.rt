@@ -1,7 +1,8 @@
 //! Why an ASCII text could not be read or written.
 
-ghost use Rattle.std.specs.Prelude.{◌≡◌};
-ghost use Rattle.moc_text.specs.declared.ascii.error.TextError.TheVariants.{Memory};
+ghost use Rattle.std.specs.Prelude.{◌≡◌, ◌⊎◌, MatchOption};
+ghost use Rattle.moc_text.specs.Places.{IsFaultAt};
+ghost use Rattle.moc_text.specs.declared.ascii.error.TextError.TheVariants.{Memory, TooCoarse};
 
 use moc_ranges::Memory as MemoryRefused;
 use std::alloc::{AllocError, AllocFailed};
@@ -26,6 +27,24 @@ pub enum TextError {
     Memory,
     #[error("a cell is deeper than the stated order")]
     TooCoarse,
+}
+
+impl TextError {
+    /// The place of the byte at which the text is at fault, counted from 0; `None` for what is no fault of a text:
+    /// `Memory`, and the writer's `TooCoarse`.
+    pub fn place(self) -> Option<usize>
+        ensures { MatchOption result ((self ≡ Memory) ⊎ (self ≡ TooCoarse)) (λ at. IsFaultAt at self) }
+    {
+        match self {
+            TextError::BadByte { at }
+            | TextError::NoOrder { at }
+            | TextError::OrderTooLarge { at }
+            | TextError::CellTooLarge { at }
+            | TextError::Backwards { at }
+            | TextError::Unfinished { at } => Some(at),
+            TextError::Memory | TextError::TooCoarse => None,
+        }
+    }
 }
 
 impl From<AllocError> for TextError {

@@ -1,7 +1,8 @@
 //! Why a JSON text could not be read or written.
 
-ghost use Rattle.std.specs.Prelude.{◌≡◌};
-ghost use Rattle.moc_text.specs.declared.json.error.JsonError.TheVariants.{Memory};
+ghost use Rattle.std.specs.Prelude.{◌≡◌, ◌⊎◌, MatchOption};
+ghost use Rattle.moc_text.specs.Places.{IsJsonFaultAt};
+ghost use Rattle.moc_text.specs.declared.json.error.JsonError.TheVariants.{Memory, NotJson, NotObject, TooCoarse};
 
 use moc_ranges::Memory as MemoryRefused;
 use std::alloc::{AllocError, AllocFailed};
@@ -26,6 +27,38 @@ pub enum JsonError {
     Memory,
     #[error("a cell is deeper than the stated order")]
     TooCoarse,
+}
+
+/// Where a JSON text is at fault: a name of its object, counted from 0 in byte order, and an item of the name's array,
+/// counted from 0, where one of them is at fault.
+#[derive(Debug, Clone, Copy, PartialEq, Eq)]
+pub struct JsonPlace {
+    pub name: usize,
+    pub item: Option<usize>,
+}
+
+impl JsonError {
+    /// The place at which the text is at fault; `None` for what is no fault at a place: `NotJson` and `NotObject`,
+    /// `Memory`, and the writer's `TooCoarse`.
+    pub fn place(self) -> Option<JsonPlace>
+        ensures { MatchOption result
+            ((self ≡ NotJson) ⊎ (self ≡ NotObject) ⊎ (self ≡ Memory) ⊎ (self ≡ TooCoarse))
+            (λ place. IsJsonFaultAt place.name place.item self) }
+    {
+        match self {
+            JsonError::BadOrder { name } | JsonError::NotArray { name } => {
+                Some(JsonPlace { name, item: None })
+            }
+            JsonError::NotWhole { name, place } | JsonError::CellTooLarge { name, place } => {
+                Some(JsonPlace {
+                    name,
+                    item: Some(place),
+                })
+            }
+            JsonError::NotJson | JsonError::NotObject | JsonError::Memory | JsonError::TooCoarse =>
+                None,
+        }
+    }
 }
 
 impl From<AllocError> for JsonError {

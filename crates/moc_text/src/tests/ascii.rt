@@ -113,6 +113,24 @@ fn faults(rt: HostRuntime) {
 }
 
 #[test]
+fn places(rt: HostRuntime) {
+    let alloc = rt.alloc();
+    for (text, place) in [
+        ("5/7x", 3),
+        ("7 5/1", 0),
+        ("s30/0", 1),
+        ("1/5-999", 4),
+        ("5/7-3", 2),
+        ("5/7-", 4),
+    ] {
+        let seen = fault(alloc, text.as_bytes()).and_then(|fault| fault.place());
+        assert_eq!(rt; seen, Some(place), "{text}");
+    }
+    assert_eq!(rt; TextError::Memory.place(), None);
+    assert_eq!(rt; TextError::TooCoarse.place(), None);
+}
+
+#[test]
 fn cut_texts(rt: HostRuntime) {
     let alloc = rt.alloc();
     for (text, wanted) in [

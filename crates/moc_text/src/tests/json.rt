@@ -1,5 +1,5 @@
 use super::{Q1, Q2, every_second, repeated};
-use crate::{JsonError, read_ascii, read_json, write_json};
+use crate::{JsonError, JsonPlace, read_ascii, read_json, write_json};
 use moc_ranges::Coverage;
 use moc_sphere::Order;
 use std::alloc::Global;
@@ -39,6 +39,28 @@ fn objects(rt: HostRuntime) -> Result<(), Fail> {
     assert!(rt; is_read(alloc, b"{\"01\":[0]}", &[(0, Q1)], Some(1))?);
     assert!(rt; is_read(alloc, b"{}", &[], None)?);
     Ok(())
+}
+
+#[test]
+fn places(rt: HostRuntime) {
+    let alloc = rt.alloc();
+    for (text, name, item) in [
+        ("{\"1\":[],\"30\":[0]}", 1, None),
+        ("{\"2\":5,\"10\":[]}", 1, None),
+        ("{\"2\":[0,1.5]}", 0, Some(1)),
+        ("{\"1\":[0,48]}", 0, Some(1)),
+    ] {
+        let seen = fault(alloc, text.as_bytes()).and_then(|fault| fault.place());
+        assert_eq!(rt; seen, Some(JsonPlace { name, item }), "{text}");
+    }
+    for error in [
+        JsonError::NotJson,
+        JsonError::NotObject,
+        JsonError::Memory,
+        JsonError::TooCoarse,
+    ] {
+        assert_eq!(rt; error.place(), None);
+    }
 }
 
 // Names stand in byte order, so "10" is name 0 where "2" is name 1.

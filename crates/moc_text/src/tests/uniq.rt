@@ -34,6 +34,9 @@ fn faults(rt: HostRuntime) {
     ] {
         assert_eq!(rt; fault(alloc, text.as_bytes()), Some(wanted));
     }
+    assert_eq!(rt; UniqError::BadByte { line: 2 }.line(), Some(2));
+    assert_eq!(rt; UniqError::NotUniq { line: 1 }.line(), Some(1));
+    assert_eq!(rt; UniqError::Memory.line(), None);
 }
 
 #[test]

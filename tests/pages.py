@@ -1,0 +1,116 @@
+#!/usr/bin/env python3
+"""Runs what the pages show, and compares what comes back with what they say.
+
+In a block `console` each line that begins with `$` is a command of bash, and the lines up to the next one are all that
+it writes, faults too; the commands of the blocks under one heading run in turn in one shell and one folder. A block
+`python` is a program, and the block `text` behind it is all that it writes. The program `moc` lies where the
+environment's MOC says. The last line printed is `N passed, M failed`."""
+import os
+import re
+import subprocess
+import sys
+import tempfile
+
+TOP = os.path.dirname(os.path.dirname(os.path.abspath(__file__)))
+MOC = os.environ.get("MOC", os.path.join(TOP, "crates", "moc_cli", "out", "moc_cli"))
+PAGES = ["docs/RECIPES.md", "docs/FORMATS.md"]
+SECONDS = 60
+END = "--- the end of what this command writes ---"
+
+
+def blocks(page):
+    """The code blocks of a page, each with its section's heading, its language and its lines."""
+    heading, language, lines = "", None, []
+    for line in page.splitlines():
+        if language is None and line.startswith("#"):
+            heading = line
+        elif language is None and re.fullmatch("```[a-z]+", line):
+            language, lines = line[3:], []
+        elif language is not None and line == "```":
+            yield heading, language, lines
+            language = None
+        elif language is not None:
+            lines.append(line)
+    assert language is None, f"a block under {heading} has no end"
+
+
+def commands(lines):
+    """The commands of a console, each with what it writes."""
+    told = []
+    for line in lines:
+        if line.startswith("$ "):
+            told.append((line[2:], []))
+        else:
+            told[-1][1].append(line)
+    return told
+
+
+def outputs(folder, script):
+    """What each of the commands writes, run in turn by one shell."""
+    text = "".join(f"{command}\nprintf '%s\\n' '{END}'\n" for command in script)
+    path = os.path.join(folder, "bin") + os.pathsep + os.environ["PATH"]
+    ended = subprocess.run(["bash", "-c", text], cwd=folder, env=dict(os.environ, PATH=path), timeout=SECONDS,
+                           stdin=subprocess.DEVNULL, stdout=subprocess.PIPE, stderr=subprocess.STDOUT, text=True)
+    return ended.stdout.split(END + "\n")[:-1]
+
+
+def folder_with_moc(folder):
+    """Puts the program under its name into a folder `bin` of this one."""
+    os.mkdir(os.path.join(folder, "bin"))
+    os.symlink(MOC, os.path.join(folder, "bin", "moc"))
+    return folder
+
+
+def compare(name, seen, told):
+    """Whether a command wrote what the page says."""
+    if seen == told:
+        return True
+    print(f"{name}\n  the page says {told!r}\n  it writes {seen!r}", file=sys.stderr)
+    return False
+
+
+def consoles(page):
+    """Of each section with consoles: its heading, and its commands with what they write."""
+    sections = {}
+    for heading, language, lines in blocks(page):
+        if language == "console":
+            sections.setdefault(heading, []).extend(commands(lines))
+    return sections.items()
+
+
+def programs(page):
+    """Each Python program, and what it writes."""
+    shown = list(blocks(page))
+    for (heading, language, lines), (_, behind, told) in zip(shown, shown[1:]):
+        if language == "python":
+            assert behind == "text", f"nothing says what the program under {heading} writes"
+            yield "\n".join(lines), "".join(line + "\n" for line in told)
+
+
+def checked(page):
+    """What came of each command and program of a page."""
+    for heading, script in consoles(page):
+        with tempfile.TemporaryDirectory() as folder:
+            seen = outputs(folder_with_moc(folder), [command for command, _ in script])
+        for place, (command, told) in enumerate(script):
+            text = "".join(line + "\n" for line in told)
+            yield compare(f"{heading}: {command}", seen[place] if place < len(seen) else None, text)
+    for program, told in programs(page):
+        with tempfile.TemporaryDirectory() as folder:
+            seen = outputs(folder_with_moc(folder), [f"python3 - <<'EOF'\n{program}\nEOF"])
+        yield compare("the program", seen[0], told)
+
+
+def main():
+    results = []
+    for name in PAGES:
+        with open(os.path.join(TOP, name), encoding="utf-8") as page:
+            found = list(checked(page.read()))
+        assert found, f"nothing is run on {name}"
+        results += found
+    print(f"{sum(results)} passed, {len(results) - sum(results)} failed")
+    return 0 if all(results) else 1
+
+
+if __name__ == "__main__":
+    sys.exit(main())
