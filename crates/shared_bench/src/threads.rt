@@ -1,5 +1,4 @@
 //! What clients do, each on a thread of its own.
-ghost use Rattle.std.specs.Prelude.{All, IfSome};
 ghost use Rattle.moc_shared.specs.Clients.{IsClientOf, IsHoldingOf};
 
 use crate::figure::Figure;
