@@ -181,9 +181,7 @@ fn order<'a>(alloc: Global) -> Arg<'a>
     ensures local { result.global ≡ false }
 {
     Arg::new(alloc, "ORDER")
-        .help(
-            "Order of the cell, 0 to 29; order k has 12 times 4^k cells",
-        )
+        .help("Order of the cell, 0 to 29; order k has 12 times 4^k cells")
         .required(true)
         .value_parser(value_parser!(u8).range(0..=29))
 }

@@ -1,0 +1,57 @@
+//! A first program over the library: it reads texts, compares and counts sets, grows one by neighbours, asks a map, and
+//! writes. No proof file stands beside it.
+#![tactic(auto)]
+
+use anyhow::Result;
+use moc_parts::{Batch, Command, Map, Operand, Reply};
+use moc_ranges::{Coverage, CoverageBuilder, Memory, PIXEL_COUNT};
+use moc_sphere::{Cell, Order};
+use moc_text::{read_ascii, read_json, write_ascii, write_json};
+use std::alloc::Global;
+
+/// The pixels of a cell and of the cells that touch it.
+fn around(alloc: Global, cell: Cell) -> Result<Coverage, Memory> {
+    let mut cells = CoverageBuilder::new(alloc);
+    cells.add_cell(cell)?;
+    for near in cell.touching_cells(alloc).as_slice() {
+        cells.add_cell(*near)?;
+    }
+    cells.build(alloc)
+}
+
+/// Two texts as sets, what they have in common, and how much of the sky the first has.
+fn compare(rt: &HostRuntime) -> Result<()> {
+    let alloc = rt.alloc();
+    let (ours, _) = read_ascii(alloc, b"0/0 1/4-5")?;
+    let (theirs, _) = read_json(alloc, b"{\"1\":[3,4,6,7],\"2\":[20,32]}")?;
+    let common = ours.intersection(alloc, &theirs)?;
+    println!(rt;
+        "in common: {}",
+        write_ascii(alloc, &common, None)?.as_str()
+    )?;
+    println!(rt; "{} of {PIXEL_COUNT} pixels", ours.count())?;
+    println!(rt;
+        "a pixel of the last cell: {}",
+        ours.contains(PIXEL_COUNT - 1)
+    )?;
+
+    // A map does commands, alone or in batches, and replies.
+    let mut map = Map::new(alloc, ours)?;
+    let claim = Batch::one(alloc, Command::Claim(Operand::from(theirs)))?;
+    if let Some(Reply::Taken(pixels)) = map.apply(alloc, &claim)?.as_slice().first() {
+        println!(rt; "taken: {pixels} pixels")?;
+    }
+    Ok(())
+}
+
+fn main(rt: HostRuntime) -> Result<()> {
+    let alloc = rt.alloc();
+    compare(&rt)?;
+    let order = Order::new(2).unwrap_or_default();
+    let grown = around(alloc, Cell::new(order, 3)?)?;
+    println!(rt; "{}", write_json(alloc, &grown, None)?.as_str())?;
+    if let Err(error) = read_ascii(alloc, b"1/1-2 4 2/12-14x") {
+        println!(rt; "{error}, so at {:?}", error.place())?;
+    }
+    Ok(())
+}
