@@ -1,9 +1,9 @@
-//! Calls of a running map, each on a map of its own that begins with base pixel 0, and how each came out: `done`, `refused`
-//! where it answered want of memory and left all as it was, or else `spoiled`. `tests/program.py` refuses each growth of it
-//! in turn.
+//! Calls of a running map, each on a map of its own that begins with base pixel 0, and how each came out: `done`,
+//! `refused` where it answered want of memory and left all as it was, or else `spoiled`. `tests/program.py` refuses
+//! each growth of it in turn.
 //!
-//! What is left is looked at by every other call: the client counts and reads all twelve parts, the other client fills them,
-//! the two meet, one takes in the other, and the map is closed.
+//! What is left is looked at by every other call: the client counts and reads all twelve parts, the other client fills
+//! them, the two meet, one takes in the other, and the map is closed.
 #![tactic(auto)]
 
 ghost use Rattle.std.specs.Prelude.{All, IfOk, IfSome};

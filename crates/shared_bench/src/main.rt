@@ -1,6 +1,6 @@
-//! `shared_bench CALLS`: how long works on a running map take, of so many calls a thread. A line a work has its name, how many
-//! calls changed just a cell, the least and the median time, and how many readings were answered beside the latter. Without a
-//! number it makes a few calls, and tells no time. `bench/README.md` has what it measured.
+//! `shared_bench CALLS`: how long works on a running map take, of so many calls a thread. A line a work has its name,
+//! how many calls changed just a cell, the least and the median time, and how many readings were answered beside the
+//! latter. Without a number it makes a few calls, and tells no time. `bench/README.md` has what it measured.
 #![tactic(auto)]
 
 ghost use Rattle.std.specs.Prelude.{All, IfSome};
