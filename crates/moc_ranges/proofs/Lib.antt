@@ -14,4 +14,5 @@ pub mod CellOrders
 pub mod Cutting
 pub mod Reaching
 pub mod Leading
+pub mod Next
 pub mod Gathering

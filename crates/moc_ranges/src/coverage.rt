@@ -1,5 +1,5 @@
 //! Sets of pixels, and the operations on them.
-ghost use Rattle.std.specs.Prelude.{◌≡◌, ◌+◌, ◌<◌, ◌≤◌, ◌↔◌, nat_lt, IsTrue, if◌then◌else◌, IfOk, IfErr, OnOk, OnErr, None, unwrap_or};
+ghost use Rattle.std.specs.Prelude.{◌≡◌, ◌+◌, ◌<◌, ◌≤◌, ◌↔◌, nat_lt, IsTrue, true, if◌then◌else◌, IfOk, IfErr, OnOk, OnErr, IfSome, MatchOption, ℕ, None, unwrap_or};
 ghost use Rattle.moc_ranges.specs.Faults.{first_fault};
 ghost use Rattle.std.specs.Cmp.{partial_equiv_from_equiv};
 ghost use Rattle.std.specs.FinSet as set;
@@ -244,6 +244,33 @@ impl Coverage {
         }
         let from = u64::from(base_pixel) * BASE_PIXEL_SIZE;
         self.covers_range(from, from + BASE_PIXEL_SIZE)
+    }
+
+    /// The first pixel of the set from this one on, if there is one. O(log n), takes no memory.
+    pub fn next_pixel(&self, from: u64) -> Option<u64>
+        ensures found { IfSome result (λ p. (from ≤ p) × (p < pixel_count) × (set.contains self.now p ≡ true)) }
+        ensures first { (q : ℕ) → from ≤ q → set.contains self.now q ≡ true → MatchOption result ⊥ (λ p. p ≤ q) }
+    {
+        let passed = self.bounds.partition_point(|bound| *bound <= from);
+        if passed % 2 == 1 {
+            return Some(from);
+        }
+        match &self.bounds[passed..] {
+            [next, ..] => Some(*next),
+            [] => None,
+        }
+    }
+
+    /// The first base pixel from this one on that the set has a pixel in, if there is one; there is none above 11.
+    /// O(log n), takes no memory.
+    pub fn next_base_pixel(&self, from: u8) -> Option<u8>
+        ensures found { IfSome result (λ b.
+            (from ≤ b) × (b < 12) × (nat_lt 0 (set.len (part_of self.now b)) ≡ true)) }
+        ensures first { (b : ℕ) → from ≤ b → nat_lt 0 (set.len (part_of self.now b)) ≡ true
+            → MatchOption result ⊥ (λ c. c ≤ b) }
+    {
+        let pixel = self.next_pixel(u64::from(from.min(12)) * BASE_PIXEL_SIZE)?;
+        Some((pixel / BASE_PIXEL_SIZE) as u8)
     }
 
     /// Whether the set has a pixel of this cell. O(log n), takes no memory.
