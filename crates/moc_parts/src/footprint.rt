@@ -18,10 +18,10 @@ pub(crate) fn parts_met(operand: &Coverage) -> PartSet
         parts.insert(Part::of(0));
         return parts;
     }
-    for b in 0u8..12 {
-        if operand.meets_base_pixel(b) {
-            parts.insert(Part::of(b));
-        }
+    let mut from = 0;
+    while let Some(b) = operand.next_base_pixel(from) {
+        parts.insert(Part::of(b));
+        from = b + 1;
     }
     parts
 }
