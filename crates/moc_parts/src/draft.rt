@@ -136,17 +136,13 @@ impl<'a> Draft<'a> {
         total
     }
 
-    /// How many pixels of one part the set has in common with another, which has pixels in these parts alone.
-    fn count_common_in(&self, b: u8, met: PartSet, other: &Coverage) -> u64
-        requires part { b < 12 }
-        requires met { (b : ℕ) → b < 12 → set.contains met b ≡ parts_met other.now b }
-        ensures size { result ≡ set.len (set.intersection (part_of self.now.set b) other.now) }
-        ensures within { IsWithin self.now.set pixels }
+    /// How many pixels of one part the set has in common with another.
+    fn count_common_in(&self, b: u8, other: &Coverage) -> u64
+        requires { b < 12 }
+        ensures { result ≡ set.len (set.intersection (part_of self.now.set b) other.now) }
     {
         let part = self.part(b);
-        if !met.contains(Part::of(b)) {
-            0
-        } else if other.covers_base_pixel(b) {
+        if other.covers_base_pixel(b) {
             part.count()
         } else {
             part.count_common(other)
@@ -160,7 +156,9 @@ impl<'a> Draft<'a> {
         let met = parts_met(other);
         let mut total = 0;
         for b in 0u8..12 {
-            total += self.count_common_in(b, met, other);
+            if met.contains(Part::of(b)) {
+                total += self.count_common_in(b, other);
+            }
         }
         total
     }

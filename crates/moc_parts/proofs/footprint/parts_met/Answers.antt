@@ -11,8 +11,8 @@ use Rattle.moc_parts.proofs.footprint.parts_met.Goals as goal
 only_zero : (b : ℕ) (t : Bool) → t ≡ false → (nat_eq 0 b || t) ≡ nat_eq b 0
 only_zero b t e = grind (arith, nat_tests)
 
-pub returns-then-is_empty : goal.returns-then-is_empty
-returns-then-is_empty c b l =
+pub returns-then-is_empty-clause-parts : goal.returns-then-is_empty-clause-parts
+returns-then-is_empty-clause-parts c b l =
     inserted c.none-parts.result c.insert.new.self c.of.result b c.insert.ensures
     ∙ ap (λ n. nat_eq n b || set.contains c.none-parts.result b) c.of.ensures
     ∙ only_zero b _ (lacking c.none-parts.result b c.none-parts.ensures)
@@ -56,8 +56,8 @@ loop-b-preserved c =
           ∙ hop c.loop-b.from b k (has k) found.0 (λ e. ap has (sym e) ∙ found.2) (c.in-Some.ensures.first k),
     )
 
-pub returns : goal.returns
-returns c b l =
+pub returns-clause-parts : goal.returns-clause-parts
+returns-clause-parts c b l =
     c.loop-b.invariant.1 b l
     ∙ last_hop c.loop-b.from b _ (c.in_default.ensures.first b)
     ∙ sym (parts_met_some c.args.operand.now b (λ e. clash false (c.if-is_empty.ensures.empty.1 e) refl))

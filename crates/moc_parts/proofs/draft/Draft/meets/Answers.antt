@@ -23,7 +23,7 @@ loop-b-preserved c =
       | else-contains-via-then-contains+else-meets w ↦
           ap (λ p. meets p s) (sym c.part-part.ensures.list) ∙ sym w.meets.ensures.some ∙ w.if-meets.false
       | else-contains-via-else-contains w ↦
-          let missed = not_met s b (sym (c.parts_met-met.ensures b c.loop-b-test.true) ∙ ap (set.contains c.parts_met-met.result) (sym c.of.ensures) ∙ sym c.contains.ensures ∙ w.if-contains.false) in
+          let missed = not_met s b (sym (c.parts_met-met.ensures.parts b c.loop-b-test.true) ∙ ap (set.contains c.parts_met-met.result) (sym c.of.ensures) ∙ sym c.contains.ensures ∙ w.if-contains.false) in
           meets_no_common (part_of a b) s 0 (part-missed a s b missed) (omega arith)
     ] in
     (meets-next a s b c.loop-b.invariant.0 apart, λ later. c.part-part.ensures.within)
