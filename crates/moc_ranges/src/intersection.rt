@@ -1,0 +1,63 @@
+//! Intersection of lists in blocks.
+ghost use Rattle.std.specs.FinSet as set;
+ghost use Rattle.std.specs.Prelude.{◌≡◌, ◌<◌, ◌≤◌, ◌||◌, ℕ, min, max, IfOk, OnOk};
+ghost use Rattle.moc_ranges.specs.Pixels.{pixel_count};
+ghost use Rattle.moc_ranges.specs.RangeList.{IsNormal, in_range, in_ranges, set_of};
+ghost use Rattle.moc_ranges.specs.Private.Built.{kept_of, IsBuilt, EndsBelow};
+
+use crate::coverage::Coverage;
+use crate::list_builder::ListBuilder;
+use crate::ranges::Ranges;
+use std::alloc::{AllocError, Global};
+
+/// Adds what two ranges have in common, where that is something; it begins behind what is built.
+#[inline]
+fn push_common(
+    alloc: Global,
+    x: (u64, u64),
+    y: (u64, u64),
+    built: &mut ListBuilder,
+) -> Result<(), AllocError>
+    requires built { IsBuilt built.old.nodes.items built.old.blocks.items built.old.ranges.items }
+    requires within { x.1 ≤ pixel_count }
+    requires after { EndsBelow (max x.0 y.0) (kept_of built.old.nodes.items built.old.blocks.items built.old.ranges.items) }
+    ensures built { OnOk result (IsBuilt built.new.nodes.items built.new.blocks.items built.new.ranges.items) }
+    ensures below { OnOk result ((f : ℕ) → max x.0 y.0 ≤ f → min x.1 y.1 < f → EndsBelow f (kept_of built.new.nodes.items built.new.blocks.items built.new.ranges.items)) }
+    ensures same { OnOk result ((q : ℕ) → in_ranges (kept_of built.new.nodes.items built.new.blocks.items built.new.ranges.items) q ≡ (in_ranges (kept_of built.old.nodes.items built.old.blocks.items built.old.ranges.items) q || in_range (max x.0 y.0, min x.1 y.1) q)) }
+{
+    let from = x.0.max(y.0);
+    let to = x.1.min(y.1);
+    if to <= from {
+        return Ok(());
+    }
+    built.push(alloc, from, to)?;
+    Ok(())
+}
+
+/// The pixels that the ranges of both lists have.
+pub fn intersect(
+    alloc: Global,
+    mut xs: Ranges<'_>,
+    mut ys: Ranges<'_>,
+) -> Result<Coverage, AllocError>
+    requires xs { IsNormal xs }
+    requires ys { IsNormal ys }
+    ensures { IfOk result (λ c. c ≡ set.intersection (set_of xs.entry) (set_of ys.entry)) }
+{
+    let mut built = ListBuilder::new(alloc, xs.room() + ys.room())?;
+    let mut first = xs.next();
+    let mut second = ys.next();
+    while let Some(x) = first {
+        let Some(y) = second else {
+            return built.finish(alloc);
+        };
+        push_common(alloc, x, y, &mut built)?;
+        if x.1 <= y.1 {
+            first = xs.next();
+        } else {
+            second = ys.next();
+        }
+    }
+    built.finish(alloc)
+}
+
