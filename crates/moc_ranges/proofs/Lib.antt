@@ -13,3 +13,4 @@ pub mod CellRuns
 pub mod CellOrders
 pub mod Gathering
 pub mod Stored
+pub mod Passing

@@ -1,0 +1,118 @@
+-- Going past the first runs of a list of ranges.
+use Rattle.std.proofs.Common.{◌≡◌, ℕ, zero, suc, ◌+◌, ◌-◌, ◌<◌, ◌≤◌, List, [], ◌∷◌, ◌++◌, length, get_or, take, drop, min, max, refl, sym, ap, subst, ◌∙◌, arith, append_assoc, length-append}
+use Rattle.std.proofs.lemmas.List.{take_more, take-append-drop, take_all}
+use Rattle.std.proofs.lemmas.List.Sums.{sum_by-cons}
+use Rattle.moc_ranges.specs.Pixels.{pixel_count}
+use Rattle.moc_ranges.specs.RangeList.{IsNormal, BeginsAfter}
+use Rattle.moc_ranges.specs.Private.Blocks.{joining, first_of, last_of, width_of, rest_of}
+use Rattle.moc_ranges.specs.Private.Walks.{joined, EndsBy, overlap_of, Passes}
+use Rattle.moc_ranges.proofs.Blocking.{IsNormal-prefix, IsNormal-suffix, width_bounded, last_of-append, split_first, begun_node, begun_block, nothing_more}
+
+pub joined-append : {T : Type 0} (f : T → List (ℕ × ℕ)) (xs ys : List T) → joined f (xs ++ ys) ≡ joined f xs ++ joined f ys
+joined-append {T} f [] ys = refl
+joined-append {T} f (x ∷ xs) ys = ap (λ (l : List (ℕ × ℕ)). f x ++ l) (joined-append f xs ys) ∙ sym (append_assoc (f x) (joined f xs) (joined f ys))
+
+pub joined-parts : {T : Type 0} (f : T → List (ℕ × ℕ)) (xs : List T) (k : ℕ) → joined f xs ≡ joined f (take k xs) ++ joined f (drop k xs)
+joined-parts {T} f xs k = ap (joined f) (sym (take-append-drop k xs)) ∙ joined-append f (take k xs) (drop k xs)
+
+pub joined_split : {T : Type 0} (f : T → List (ℕ × ℕ)) (xs : List T) (x : T) → 1 ≤ length xs → x ≡ get_or xs 0 x → joined f xs ≡ f x ++ joined f (take (length xs - 1) (drop 1 xs))
+joined_split {T} f xs x some is = ap (joined f) (split_first xs x some is)
+
+joined_taken : {T : Type 0} (f : T → List (ℕ × ℕ)) (xs : List T) (i : ℕ) (x : T) → i < length xs → x ≡ get_or xs i x → joined f (take (i + 1) xs) ≡ joined f (take i xs) ++ f x
+joined_taken {T} f xs i x lt is =
+    ap (joined f) (take_more xs i x lt)
+    ∙ joined-append f (take i xs) (get_or xs i x ∷ [])
+    ∙ ap (λ (l : List (ℕ × ℕ)). joined f (take i xs) ++ l) (nothing_more (f (get_or xs i x)))
+    ∙ ap (λ (y : T). joined f (take i xs) ++ f y) (sym is)
+
+-- a list ends by where its last range ends
+pub ends_by_last : (limit : ℕ) (rs : List (ℕ × ℕ)) → IsNormal rs → last_of rs ≤ limit → EndsBy limit rs
+ends_by_last limit [] normal le = tt
+ends_by_last limit (r ∷ []) normal le = (le, tt)
+ends_by_last limit (r ∷ (s ∷ rs)) normal le =
+    let rest = ends_by_last limit (s ∷ rs) normal.3 le in
+    (omega (arith, rest.0, normal.2, normal.3.0), rest)
+
+pub ends_by-append : (limit : ℕ) (rs ss : List (ℕ × ℕ)) → EndsBy limit rs → EndsBy limit ss → EndsBy limit (rs ++ ss)
+ends_by-append limit [] ss r s = s
+ends_by-append limit (x ∷ rs) ss r s = (r.0, ends_by-append limit rs ss r.1 s)
+
+pub ends_by_more : (low high : ℕ) (rs : List (ℕ × ℕ)) → low ≤ high → EndsBy low rs → EndsBy high rs
+ends_by_more low high [] le e = tt
+ends_by_more low high (r ∷ rs) le e = (omega (arith, e.0), ends_by_more low high rs le e.1)
+
+-- all runs up to one that ends by the limit end by it
+pub ended_more : {T : Type 0} (f : T → List (ℕ × ℕ)) (xs : List T) (i limit : ℕ) (x : T) → IsNormal (joined f xs) → i < length xs → x ≡ get_or xs i x → 0 < length (f x) → last_of (f x) ≤ limit → EndsBy limit (joined f (take (i + 1) xs))
+ended_more {T} f xs i limit x normal lt is some le =
+    let same = joined_taken f xs i x lt is in
+    let whole : IsNormal (joined f (take (i + 1) xs)) = IsNormal-prefix (joined f (take (i + 1) xs)) (joined f (drop (i + 1) xs)) (subst IsNormal (joined-parts f xs (i + 1)) normal) in
+    let ends : last_of (joined f (take (i + 1) xs)) ≤ limit = omega (arith, ap last_of same ∙ last_of-append (joined f (take i xs)) (f x) some, le) in
+    ends_by_last limit _ whole ends
+
+-- what the search keeps: the runs before `low` have ended
+pub record IsSkipping (ended : List (ℕ × ℕ)) (limit low high len : ℕ) : Type 0 where
+  pub ordered : low ≤ high
+  pub within : high ≤ len
+  pub before : EndsBy limit ended
+
+pub overlap_of-append : (range : ℕ × ℕ) (rs ss : List (ℕ × ℕ)) → overlap_of range (rs ++ ss) ≡ overlap_of range rs + overlap_of range ss
+overlap_of-append range [] ss = omega arith
+overlap_of-append range (r ∷ rs) ss = omega (arith, overlap_of-append range rs ss)
+
+overlap_none : (range : ℕ × ℕ) (rs : List (ℕ × ℕ)) → EndsBy range.0 rs → 0 ≡ overlap_of range rs
+overlap_none range [] e = refl
+overlap_none range (r ∷ rs) e = omega (arith, e.0, overlap_none range rs e.1)
+
+overlap_width : (range : ℕ × ℕ) (rs : List (ℕ × ℕ)) → overlap_of range rs ≤ width_of rs
+overlap_width range [] = omega arith
+overlap_width range (r ∷ rs) = omega (arith, overlap_width range rs, sum_by-cons (λ (range : ℕ × ℕ). range.1 - range.0) r rs)
+
+overlap_all : (range : ℕ × ℕ) (rs : List (ℕ × ℕ)) → IsNormal rs → range.0 ≤ first_of rs → EndsBy range.1 rs → overlap_of range rs ≡ width_of rs
+overlap_all range [] normal from e = refl
+overlap_all range (r ∷ []) normal from e = omega (arith, e.0, sum_by-cons (λ (range : ℕ × ℕ). range.1 - range.0) r [])
+overlap_all range (r ∷ (s ∷ rs)) normal from e =
+    omega (arith, e.0, sum_by-cons (λ (range : ℕ × ℕ). range.1 - range.0) r (s ∷ rs), overlap_all range (s ∷ rs) normal.3 (omega (arith, normal.0, normal.2)) e.1)
+
+-- ---- passing
+
+pub pass_start : {T : Type 0} (f : T → List (ℕ × ℕ)) (range : ℕ × ℕ) (xs : List T) (k : ℕ) → range.0 ≤ range.1 → EndsBy range.0 (joined f (take k xs)) → Passes range (joined f xs) (joined f (drop k xs)) 0
+pass_start {T} f range xs k le ended = record {
+  gone = joined f (take k xs);
+  parts = joined-parts f xs k;
+  ended = ends_by_more range.0 range.1 _ le ended;
+  counted = overlap_none range _ ended;
+}
+
+pub passes_none : (range : ℕ × ℕ) (s : List (ℕ × ℕ)) → Passes range s s 0
+passes_none range s = record { gone = []; parts = refl; ended = tt; counted = refl }
+
+pub passes_more : (range : ℕ × ℕ) (s t u : List (ℕ × ℕ)) (m n : ℕ) → Passes range s t m → Passes range t u n → Passes range s u (m + n)
+passes_more range s t u m n p q = record {
+  gone = p.gone ++ q.gone;
+  parts = p.parts ∙ ap (λ (l : List (ℕ × ℕ)). p.gone ++ l) q.parts ∙ sym (append_assoc p.gone q.gone u);
+  ended = ends_by-append range.1 p.gone q.gone p.ended q.ended;
+  counted = omega (arith, p.counted, q.counted, overlap_of-append range p.gone q.gone);
+}
+
+pub passes_before : (range : ℕ × ℕ) (s t u : List (ℕ × ℕ)) (m : ℕ) → Passes range s t m → Passes range (s ++ u) (t ++ u) m
+passes_before range s t u m p = record {
+  gone = p.gone;
+  parts = ap (λ (l : List (ℕ × ℕ)). l ++ u) p.parts ∙ append_assoc p.gone t u;
+  ended = p.ended;
+  counted = p.counted;
+}
+
+pub passes_normal : (range : ℕ × ℕ) (s t : List (ℕ × ℕ)) (m : ℕ) → IsNormal s → Passes range s t m → IsNormal t
+passes_normal range s t m normal p = IsNormal-suffix p.gone t (subst IsNormal p.parts normal)
+
+pub passes_bounded : (range : ℕ × ℕ) (s t : List (ℕ × ℕ)) (m : ℕ) → IsNormal s → Passes range s t m → m ≤ pixel_count
+passes_bounded range s t m normal p =
+    let gone = IsNormal-prefix p.gone t (subst IsNormal p.parts normal) in
+    omega (arith, p.counted, overlap_width range p.gone, width_bounded p.gone gone)
+
+-- a run that lies in the range
+pub pass_run : (range : ℕ × ℕ) (run s t u : List (ℕ × ℕ)) (m w : ℕ) → IsNormal s → Passes range s t m → t ≡ run ++ u → range.0 ≤ first_of run → last_of run ≤ range.1 → w ≡ width_of run → Passes range s u (m + w)
+pass_run range run s t u m w normal p split from to is =
+    let whole : IsNormal run = IsNormal-prefix run u (subst IsNormal split (passes_normal range s t m normal p)) in
+    let ended = ends_by_last range.1 run whole to in
+    passes_more range s t u m w p (record { gone = run; parts = split; ended = ended; counted = is ∙ sym (overlap_all range run whole from ended) })
