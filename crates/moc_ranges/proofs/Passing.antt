@@ -1,6 +1,6 @@
 -- Going past the first runs of a list of ranges.
 use Rattle.std.proofs.Common.{◌≡◌, ℕ, zero, suc, ◌+◌, ◌-◌, ◌<◌, ◌≤◌, List, [], ◌∷◌, ◌++◌, length, get_or, take, drop, min, max, refl, sym, ap, subst, ◌∙◌, arith, append_assoc, length-append}
-use Rattle.std.proofs.lemmas.List.{take_more, take-append-drop, take_all}
+use Rattle.std.proofs.lemmas.List.{take_more, drop_more, take_rest, take-append-drop}
 use Rattle.std.proofs.lemmas.List.Sums.{sum_by-cons}
 use Rattle.moc_ranges.specs.Pixels.{pixel_count}
 use Rattle.moc_ranges.specs.RangeList.{IsNormal, BeginsAfter}
@@ -15,8 +15,9 @@ joined-append {T} f (x ∷ xs) ys = ap (λ (l : List (ℕ × ℕ)). f x ++ l) (j
 pub joined-parts : {T : Type 0} (f : T → List (ℕ × ℕ)) (xs : List T) (k : ℕ) → joined f xs ≡ joined f (take k xs) ++ joined f (drop k xs)
 joined-parts {T} f xs k = ap (joined f) (sym (take-append-drop k xs)) ∙ joined-append f (take k xs) (drop k xs)
 
-pub joined_split : {T : Type 0} (f : T → List (ℕ × ℕ)) (xs : List T) (x : T) → 1 ≤ length xs → x ≡ get_or xs 0 x → joined f xs ≡ f x ++ joined f (take (length xs - 1) (drop 1 xs))
-joined_split {T} f xs x some is = ap (joined f) (split_first xs x some is)
+pub joined_left : {T : Type 0} (f : T → List (ℕ × ℕ)) (xs : List T) (i : ℕ) (x : T) → i < length xs → x ≡ get_or xs i x → joined f (drop i xs) ≡ f x ++ joined f (drop (i + 1) xs)
+joined_left {T} f xs i x lt is =
+    ap (joined f) (drop_more xs i x lt) ∙ ap (λ (y : T). f y ++ joined f (drop (i + 1) xs)) (sym is)
 
 joined_taken : {T : Type 0} (f : T → List (ℕ × ℕ)) (xs : List T) (i : ℕ) (x : T) → i < length xs → x ≡ get_or xs i x → joined f (take (i + 1) xs) ≡ joined f (take i xs) ++ f x
 joined_taken {T} f xs i x lt is =
@@ -116,3 +117,20 @@ pass_run range run s t u m w normal p split from to is =
     let whole : IsNormal run = IsNormal-prefix run u (subst IsNormal split (passes_normal range s t m normal p)) in
     let ended = ends_by_last range.1 run whole to in
     passes_more range s t u m w p (record { gone = run; parts = split; ended = ended; counted = is ∙ sym (overlap_all range run whole from ended) })
+
+-- what the walk past runs keeps
+pub record IsPassing (range : ℕ × ℕ) (whole rest : List (ℕ × ℕ)) (common place len : ℕ) : Type 0 where
+  pub within : place ≤ len
+  pub passed : Passes range whole rest common
+
+pub pass_one : {T : Type 0} (f : T → List (ℕ × ℕ)) (range : ℕ × ℕ) (xs : List T) (i m w : ℕ) (x : T) → IsNormal (joined f xs) → IsPassing range (joined f xs) (joined f (drop i xs)) m i (length xs) → i < length xs → x ≡ get_or xs i x → range.0 ≤ first_of (f x) → last_of (f x) ≤ range.1 → w ≡ width_of (f x) → Passes range (joined f xs) (joined f (drop (i + 1) xs)) (m + w)
+pass_one {T} f range xs i m w x normal p lt is from to width =
+    pass_run range (f x) (joined f xs) (joined f (drop i xs)) (joined f (drop (i + 1) xs)) m w normal p.passed (joined_left f xs i x lt is) from to width
+
+pub run_normal : {T : Type 0} (f : T → List (ℕ × ℕ)) (xs : List T) (i : ℕ) (x : T) → IsNormal (joined f xs) → i < length xs → x ≡ get_or xs i x → IsNormal (f x)
+run_normal {T} f xs i x normal lt is =
+    let left = IsNormal-suffix (joined f (take i xs)) (joined f (drop i xs)) (subst IsNormal (joined-parts f xs i) normal) in
+    IsNormal-prefix (f x) (joined f (drop (i + 1) xs)) (subst IsNormal (joined_left f xs i x lt is) left)
+
+pub pass_done : {T : Type 0} (f : T → List (ℕ × ℕ)) (range : ℕ × ℕ) (xs : List T) (i m : ℕ) → IsPassing range (joined f xs) (joined f (drop i xs)) m i (length xs) → Passes range (joined f xs) (joined f (take (length xs - i) (drop i xs))) m
+pass_done {T} f range xs i m p = subst (λ (l : List T). Passes range (joined f xs) (joined f l) m) (sym (take_rest xs i)) p.passed

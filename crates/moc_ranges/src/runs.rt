@@ -124,16 +124,20 @@ fn pass_runs<T: Run>(runs: &[T], range: (u64, u64)) -> Passed<'_, T>
     requires rising { range.0 ≤ range.1 }
     ensures { Passes range (joined T.ranges runs.entry.now) (joined T.ranges result.rest.now) result.common }
 {
-    let mut rest = &runs[count_ended(runs, range.0)..];
+    let mut place = count_ended(runs, range.0);
     let mut common = 0;
-    while let [run, more @ ..] = rest {
+    while place < runs.len() {
+        let run = &runs[place];
         if run.start() < range.0 || run.end() > range.1 {
             break;
         }
         common += run.width();
-        rest = more;
+        place += 1;
     }
-    Passed { common, rest }
+    Passed {
+        common,
+        rest: &runs[place..],
+    }
 }
 
 /// How many pixels were passed, and the blocks and nodes behind them.
