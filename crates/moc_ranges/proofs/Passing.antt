@@ -6,7 +6,7 @@ use Rattle.moc_ranges.specs.Pixels.{pixel_count}
 use Rattle.moc_ranges.specs.RangeList.{IsNormal, BeginsAfter}
 use Rattle.moc_ranges.specs.Private.Blocks.{joining, first_of, last_of, width_of, rest_of}
 use Rattle.moc_ranges.specs.Private.Walks.{joined, EndsBy, overlap_of, Passes}
-use Rattle.moc_ranges.proofs.Blocking.{IsNormal-prefix, IsNormal-suffix, width_bounded, last_of-append, split_first, begun_node, begun_block, nothing_more}
+use Rattle.moc_ranges.proofs.Blocking.{IsNormal-prefix, IsNormal-suffix, width_bounded, last_of-append, joining-append, none_there, nothing_more}
 
 pub joined-append : {T : Type 0} (f : T → List (ℕ × ℕ)) (xs ys : List T) → joined f (xs ++ ys) ≡ joined f xs ++ joined f ys
 joined-append {T} f [] ys = refl
@@ -134,3 +134,63 @@ run_normal {T} f xs i x normal lt is =
 
 pub pass_done : {T : Type 0} (f : T → List (ℕ × ℕ)) (range : ℕ × ℕ) (xs : List T) (i m : ℕ) → IsPassing range (joined f xs) (joined f (drop i xs)) m i (length xs) → Passes range (joined f xs) (joined f (take (length xs - i) (drop i xs))) m
 pass_done {T} f range xs i m p = subst (λ (l : List T). Passes range (joined f xs) (joined f l) m) (sym (take_rest xs i)) p.passed
+
+-- ---- ranges, blocks and nodes as runs
+
+pub joined-ranges : (rs : List (ℕ × ℕ)) → joined (λ (r : ℕ × ℕ). r ∷ []) rs ≡ rs
+joined-ranges [] = refl
+joined-ranges (r ∷ rs) = ap (λ (l : List (ℕ × ℕ)). r ∷ l) (joined-ranges rs)
+
+pub joined-blocks : (bs : List (List (ℕ × ℕ))) → joined (λ (b : List (ℕ × ℕ)). b) bs ≡ joining bs
+joined-blocks [] = refl
+joined-blocks (b ∷ bs) = ap (λ (l : List (ℕ × ℕ)). b ++ l) (joined-blocks bs)
+
+pub joined-nodes : (ns : List (List (List (ℕ × ℕ)))) → joined (λ (n : List (List (ℕ × ℕ))). joining n) ns ≡ joining (joining ns)
+joined-nodes [] = refl
+joined-nodes (n ∷ ns) = ap (λ (l : List (ℕ × ℕ)). joining n ++ l) (joined-nodes ns) ∙ sym (joining-append n (joining ns))
+
+pub normal_blocks : (bs : List (List (ℕ × ℕ))) (ns : List (List (List (ℕ × ℕ)))) → IsNormal (rest_of [] bs ns) → IsNormal (joined (λ (b : List (ℕ × ℕ)). b) bs)
+normal_blocks bs ns normal = subst IsNormal (sym (joined-blocks bs)) (IsNormal-prefix (joining bs) (joining (joining ns)) normal)
+
+pub normal_nodes : (bs : List (List (ℕ × ℕ))) (ns : List (List (List (ℕ × ℕ)))) → IsNormal (rest_of [] bs ns) → IsNormal (joined (λ (n : List (List (ℕ × ℕ))). joining n) ns)
+normal_nodes bs ns normal = subst IsNormal (sym (joined-nodes ns)) (IsNormal-suffix (joining bs) (joining (joining ns)) normal)
+
+pub normal_begun : (rs : List (ℕ × ℕ)) (bs : List (List (ℕ × ℕ))) (ns : List (List (List (ℕ × ℕ)))) → IsNormal (rest_of rs bs ns) → IsNormal (joined (λ (r : ℕ × ℕ). r ∷ []) rs)
+normal_begun rs bs ns normal = subst IsNormal (sym (joined-ranges rs)) (IsNormal-prefix rs (joining bs ++ joining (joining ns)) normal)
+
+pub pass_in_blocks : (range : ℕ × ℕ) (bs bs' : List (List (ℕ × ℕ))) (ns : List (List (List (ℕ × ℕ)))) (m : ℕ) → Passes range (joined (λ (b : List (ℕ × ℕ)). b) bs) (joined (λ (b : List (ℕ × ℕ)). b) bs') m → Passes range (rest_of [] bs ns) (rest_of [] bs' ns) m
+pass_in_blocks range bs bs' ns m p =
+    let q : Passes range (joining bs) (joining bs') m = subst (λ (l : List (ℕ × ℕ)). Passes range l (joining bs') m) (joined-blocks bs) (subst (λ (l : List (ℕ × ℕ)). Passes range (joined (λ (b : List (ℕ × ℕ)). b) bs) l m) (joined-blocks bs') p) in
+    passes_before range (joining bs) (joining bs') (joining (joining ns)) m q
+
+pass_in_nodes : (range : ℕ × ℕ) (ns ns' : List (List (List (ℕ × ℕ)))) (m : ℕ) → Passes range (joined (λ (n : List (List (ℕ × ℕ))). joining n) ns) (joined (λ (n : List (List (ℕ × ℕ))). joining n) ns') m → Passes range (rest_of [] [] ns) (rest_of [] [] ns') m
+pass_in_nodes range ns ns' m p = subst (λ (l : List (ℕ × ℕ)). Passes range l (joining (joining ns')) m) (joined-nodes ns) (subst (λ (l : List (ℕ × ℕ)). Passes range (joined (λ (n : List (List (ℕ × ℕ))). joining n) ns) l m) (joined-nodes ns') p)
+
+pub pass_in_ranges : (range : ℕ × ℕ) (rs rs' : List (ℕ × ℕ)) (bs : List (List (ℕ × ℕ))) (ns : List (List (List (ℕ × ℕ)))) (m : ℕ) → Passes range (joined (λ (r : ℕ × ℕ). r ∷ []) rs) (joined (λ (r : ℕ × ℕ). r ∷ []) rs') m → Passes range (rest_of rs bs ns) (rest_of rs' bs ns) m
+pass_in_ranges range rs rs' bs ns m p =
+    let q : Passes range rs rs' m = subst (λ (l : List (ℕ × ℕ)). Passes range l rs' m) (joined-ranges rs) (subst (λ (l : List (ℕ × ℕ)). Passes range (joined (λ (r : ℕ × ℕ). r ∷ []) rs) l m) (joined-ranges rs') p) in
+    passes_before range rs rs' (joining bs ++ joining (joining ns)) m q
+
+-- all blocks that were begun, then nodes
+pub pass_nodes : (range : ℕ × ℕ) (bs bs' : List (List (ℕ × ℕ))) (ns ns' : List (List (List (ℕ × ℕ)))) (m n : ℕ) → Passes range (joined (λ (b : List (ℕ × ℕ)). b) bs) (joined (λ (b : List (ℕ × ℕ)). b) bs') m → length bs' < 1 → Passes range (joined (λ (n : List (List (ℕ × ℕ))). joining n) ns) (joined (λ (n : List (List (ℕ × ℕ))). joining n) ns') n → Passes range (rest_of [] bs ns) (rest_of [] [] ns') (m + n)
+pass_nodes range bs bs' ns ns' m n p none q =
+    let e : bs' ≡ [] = none_there bs' (omega arith) in
+    let first = subst (λ (l : List (List (ℕ × ℕ))). Passes range (rest_of [] bs ns) (rest_of [] l ns) m) e (pass_in_blocks range bs bs' ns m p) in
+    passes_more range (rest_of [] bs ns) (rest_of [] [] ns) (rest_of [] [] ns') m n first (pass_in_nodes range ns ns' n q)
+
+-- and then blocks of the next node
+pub pass_next : (range : ℕ × ℕ) (s t : List (ℕ × ℕ)) (bs bs' : List (List (ℕ × ℕ))) (ns : List (List (List (ℕ × ℕ)))) (m n : ℕ) → Passes range s t m → rest_of [] bs ns ≡ t → Passes range (joined (λ (b : List (ℕ × ℕ)). b) bs) (joined (λ (b : List (ℕ × ℕ)). b) bs') n → Passes range s (rest_of [] bs' ns) (m + n)
+pass_next range s t bs bs' ns m n p e q =
+    passes_more range s t (rest_of [] bs' ns) m n p (subst (λ (l : List (ℕ × ℕ)). Passes range l (rest_of [] bs' ns) n) e (pass_in_blocks range bs bs' ns n q))
+
+-- all ranges of the block that was begun, and then blocks
+pub pass_block : (range : ℕ × ℕ) (rs rs' : List (ℕ × ℕ)) (bs bs' : List (List (ℕ × ℕ))) (ns ns' : List (List (List (ℕ × ℕ)))) (m n : ℕ) → Passes range (joined (λ (r : ℕ × ℕ). r ∷ []) rs) (joined (λ (r : ℕ × ℕ). r ∷ []) rs') m → length rs' < 1 → Passes range (rest_of [] bs ns) (rest_of [] bs' ns') n → Passes range (rest_of rs bs ns) (rest_of [] bs' ns') (m + n)
+pass_block range rs rs' bs bs' ns ns' m n p none q =
+    let e : rs' ≡ [] = none_there rs' (omega arith) in
+    let first = subst (λ (l : List (ℕ × ℕ)). Passes range (rest_of rs bs ns) (rest_of l bs ns) m) e (pass_in_ranges range rs rs' bs ns m p) in
+    passes_more range (rest_of rs bs ns) (rest_of [] bs ns) (rest_of [] bs' ns') m n first q
+
+-- and then ranges of the next block
+pub pass_begun : (range : ℕ × ℕ) (s : List (ℕ × ℕ)) (block rs : List (ℕ × ℕ)) (bs bs' : List (List (ℕ × ℕ))) (ns : List (List (List (ℕ × ℕ)))) (m n : ℕ) → Passes range s (rest_of [] bs ns) m → rest_of [] bs ns ≡ block ++ rest_of [] bs' ns → Passes range (joined (λ (r : ℕ × ℕ). r ∷ []) block) (joined (λ (r : ℕ × ℕ). r ∷ []) rs) n → Passes range s (rest_of rs bs' ns) (m + n)
+pass_begun range s block rs bs bs' ns m n p e q =
+    passes_more range s (rest_of block bs' ns) (rest_of rs bs' ns) m n (subst (λ (l : List (ℕ × ℕ)). Passes range s l m) e p) (pass_in_ranges range block rs bs' ns n q)
