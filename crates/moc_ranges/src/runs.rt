@@ -180,13 +180,13 @@ fn pass_blocks(ahead: Ahead<'_>, range: (u64, u64)) -> PassedBlocks<'_>
 
 /// How many pixels were passed, and what is behind them.
 #[derive(Clone, Copy)]
-struct PassedRanges<'a> {
-    common: u64,
-    begun: Begun<'a>,
+pub(crate) struct PassedRanges<'a> {
+    pub common: u64,
+    pub begun: Begun<'a>,
 }
 
 /// The same as `pass_runs`, over the rest of a block that is begun and what is behind it.
-fn pass_ranges(begun: Begun<'_>, range: (u64, u64)) -> PassedRanges<'_>
+pub(crate) fn pass_ranges(begun: Begun<'_>, range: (u64, u64)) -> PassedRanges<'_>
     requires normal { IsNormal (rest_of begun.ranges.now begun.ahead.blocks.now begun.ahead.nodes.now) }
     requires rising { range.0 ≤ range.1 }
     ensures { Passes range (rest_of begun.entry.ranges.now begun.entry.ahead.blocks.now begun.entry.ahead.nodes.now) (rest_of result.begun.ranges.now result.begun.ahead.blocks.now result.begun.ahead.nodes.now) result.common }
@@ -229,17 +229,6 @@ pub(crate) struct Advance {
 }
 
 impl<'a> Ranges<'a> {
-    /// Leaves out the ranges that end where the range begins, and those after them that lie in it,
-    /// and answers how many pixels these have. O(log n), and the nodes, blocks and ranges in it.
-    pub(crate) fn pass(&mut self, range: (u64, u64)) -> u64
-        requires { range.0 ≤ range.1 }
-        ensures { Passes range self.old self.new result }
-    {
-        let passed = pass_ranges(self.begun(), range);
-        self.resume(passed.begun.ranges, passed.begun.ahead);
-        passed.common
-    }
-
     /// The next range, in a block that is begun. Where none is, it is the next one behind those
     /// that `pass` leaves out.
     #[inline]
