@@ -12,4 +12,3 @@ pub mod Spans
 pub mod CellRuns
 pub mod CellOrders
 pub mod Gathering
-pub mod Stored

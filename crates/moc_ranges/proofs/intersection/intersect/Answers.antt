@@ -1,5 +1,4 @@
 use Rattle.std.proofs.Common.{◌≡◌, ◌+◌, ◌<◌, ◌≤◌, List, ℕ, max, arith}
-use Rattle.moc_ranges.specs.Private.Blocks.{joining}
 use Rattle.moc_ranges.specs.Private.Walks.{begun}
 use Rattle.moc_ranges.proofs.Walking.{at_both}
 use Rattle.moc_ranges.proofs.Meeting.{IsMeeting, meeting_first, meeting_second}
@@ -7,10 +6,10 @@ use Rattle.moc_ranges.proofs.intersection.intersect.Goals as goal
 
 pub loop-first-preserved-then-x-y : goal.loop-first-preserved-then-x-y
 loop-first-preserved-then-x-y c =
-    let s = at_both c.loop-first.first c.loop-first.second c.in-Some.x c.in-Some-second.y c.loop-first.xs c.loop-first.ys (λ xs ys. IsMeeting c.loop-first.built.nodes.items c.loop-first.built.blocks.items c.loop-first.built.ranges.items xs ys (joining (joining c.args.xs.now)) (joining (joining c.args.ys.now))) c.in-Some.is c.in-Some-second.is c.loop-first.invariant in
+    let s = at_both c.loop-first.first c.loop-first.second c.in-Some.x c.in-Some-second.y c.loop-first.xs c.loop-first.ys (λ xs ys. IsMeeting c.loop-first.built.nodes.items c.loop-first.built.blocks.items c.loop-first.built.ranges.items xs ys c.args.xs c.args.ys) c.in-Some.is c.in-Some-second.is c.loop-first.invariant in
     meeting_first _ _ _ _ _ _ _ _ _ _ _ _ _ _ s (omega arith) c.in_ok-push_common.ensures.built c.in_ok-push_common.ensures.below c.in_ok-push_common.ensures.same c.next-first-then-x-y.ensures.steps
 
 pub loop-first-preserved : goal.loop-first-preserved
 loop-first-preserved c =
-    let s = at_both c.loop-first.first c.loop-first.second c.in-Some.x c.in-Some-second.y c.loop-first.xs c.loop-first.ys (λ xs ys. IsMeeting c.loop-first.built.nodes.items c.loop-first.built.blocks.items c.loop-first.built.ranges.items xs ys (joining (joining c.args.xs.now)) (joining (joining c.args.ys.now))) c.in-Some.is c.in-Some-second.is c.loop-first.invariant in
+    let s = at_both c.loop-first.first c.loop-first.second c.in-Some.x c.in-Some-second.y c.loop-first.xs c.loop-first.ys (λ xs ys. IsMeeting c.loop-first.built.nodes.items c.loop-first.built.blocks.items c.loop-first.built.ranges.items xs ys c.args.xs c.args.ys) c.in-Some.is c.in-Some-second.is c.loop-first.invariant in
     meeting_second _ _ _ _ _ _ _ _ _ _ _ _ _ _ s (omega arith) c.in_ok-push_common.ensures.built c.in_ok-push_common.ensures.below c.in_ok-push_common.ensures.same c.next-second-else-x-y.ensures.steps
