@@ -1,7 +1,7 @@
 -- Ranges, and their blocks and nodes.
 use Rattle.std.proofs.Common.{◌≡◌, ℕ, zero, suc, ◌+◌, ◌-◌, ◌<◌, ◌≤◌, List, [], ◌∷◌, ◌++◌, length, get_or, take, drop, refl, sym, ap, subst, ◌∙◌, arith, append_assoc, length-append}
 use Rattle.std.proofs.lemmas.List.{take_more, take-append-drop, take_all}
-use Rattle.std.proofs.lemmas.List.Sums.{sum_by-append}
+use Rattle.std.proofs.lemmas.List.Sums.{sum_by-append, sum_by-cons}
 use Rattle.std.specs.FinSet as set
 use Rattle.moc_ranges.specs.Pixels.{pixel_count}
 use Rattle.moc_ranges.specs.RangeList.{IsNormal, BeginsAfter, set_of}
@@ -162,3 +162,46 @@ node_step ns i n normal lt is =
 
 pub nodes_done : (ns : List (List (List (ℕ × ℕ)))) (i : ℕ) → length ns ≤ i → width_of (joining (joining (take i ns))) ≡ width_of (joining (joining ns))
 nodes_done ns i le = ap (λ (l : List (List (List (ℕ × ℕ)))). width_of (joining (joining l))) (take_all i ns le)
+
+-- how many ranges there are
+length_bounded : (rs : List (ℕ × ℕ)) → IsNormal rs → length rs ≤ width_of rs
+length_bounded [] normal = omega arith
+length_bounded (r ∷ rs) normal = omega (arith, length_bounded rs normal.3, normal.0, sum_by-cons (λ (range : ℕ × ℕ). range.1 - range.0) r rs)
+
+pub few_ranges : (rs : List (ℕ × ℕ)) → IsNormal rs → length rs ≤ pixel_count
+few_ranges rs normal = omega (arith, length_bounded rs normal, width_bounded rs normal)
+
+pub length_step : (bs : List (List (ℕ × ℕ))) (i : ℕ) (b : List (ℕ × ℕ)) → IsNormal (joining bs) → i < length bs → b ≡ get_or bs i b → (length (joining (take (i + 1) bs)) ≡ length (joining (take i bs)) + length b) × (length (joining (take i bs)) + length b ≤ pixel_count)
+length_step bs i b normal lt is =
+    let more : length (joining (take (i + 1) bs)) ≡ length (joining (take i bs)) + length b =
+      ap (λ (l : List (List (ℕ × ℕ))). length (joining l)) (take_more bs i b lt)
+      ∙ ap length (joining-last (take i bs) (get_or bs i b))
+      ∙ length-append (joining (take i bs)) (get_or bs i b)
+      ∙ ap (λ (l : List (ℕ × ℕ)). length (joining (take i bs)) + length l) (sym is) in
+    let parts : length (joining (take (i + 1) bs)) + length (joining (drop (i + 1) bs)) ≡ length (joining bs) =
+      sym (length-append (joining (take (i + 1) bs)) (joining (drop (i + 1) bs))) ∙ ap length (sym (joining-append (take (i + 1) bs) (drop (i + 1) bs))) ∙ ap (λ (l : List (List (ℕ × ℕ))). length (joining l)) (take-append-drop (i + 1) bs) in
+    (more, omega (arith, more, parts, few_ranges (joining bs) normal))
+
+pub length_done : (bs : List (List (ℕ × ℕ))) (i : ℕ) → length bs ≤ i → length (joining (take i bs)) ≡ length (joining bs)
+length_done bs i le = ap (λ (l : List (List (ℕ × ℕ))). length (joining l)) (take_all i bs le)
+
+pub length_node_step : (ns : List (List (List (ℕ × ℕ)))) (i : ℕ) (n : List (List (ℕ × ℕ))) → IsNormal (joining (joining ns)) → i < length ns → n ≡ get_or ns i n → (length (joining (joining (take (i + 1) ns))) ≡ length (joining (joining (take i ns))) + length (joining n)) × (length (joining (joining (take i ns))) + length (joining n) ≤ pixel_count)
+length_node_step ns i n normal lt is =
+    let more = ap length (all_taken ns i n lt is) ∙ length-append (joining (joining (take i ns))) (joining n) in
+    let parts : joining (joining (take (i + 1) ns)) ++ joining (joining (drop (i + 1) ns)) ≡ joining (joining ns) =
+      sym (joining-append (joining (take (i + 1) ns)) (joining (drop (i + 1) ns))) ∙ ap joining (sym (joining-append (take (i + 1) ns) (drop (i + 1) ns))) ∙ ap (λ (l : List (List (List (ℕ × ℕ)))). joining (joining l)) (take-append-drop (i + 1) ns) in
+    let whole = length-append (joining (joining (take (i + 1) ns))) (joining (joining (drop (i + 1) ns))) in
+    (more, omega (arith, more, whole, ap length parts, few_ranges (joining (joining ns)) normal))
+
+pub length_nodes_done : (ns : List (List (List (ℕ × ℕ)))) (i : ℕ) → length ns ≤ i → length (joining (joining (take i ns))) ≡ length (joining (joining ns))
+length_nodes_done ns i le = ap (λ (l : List (List (List (ℕ × ℕ)))). length (joining (joining l))) (take_all i ns le)
+
+-- the parts of what a walk still has to go
+pub rest_blocks : (rs : List (ℕ × ℕ)) (bs : List (List (ℕ × ℕ))) (ns : List (List (List (ℕ × ℕ)))) → IsNormal (rest_of rs bs ns) → IsNormal (joining bs)
+rest_blocks rs bs ns normal = IsNormal-prefix (joining bs) (joining (joining ns)) (IsNormal-suffix rs (joining bs ++ joining (joining ns)) normal)
+
+pub rest_nodes : (rs : List (ℕ × ℕ)) (bs : List (List (ℕ × ℕ))) (ns : List (List (List (ℕ × ℕ)))) → IsNormal (rest_of rs bs ns) → IsNormal (joining (joining ns))
+rest_nodes rs bs ns normal = IsNormal-suffix (joining bs) (joining (joining ns)) (IsNormal-suffix rs (joining bs ++ joining (joining ns)) normal)
+
+pub length-rest : (rs : List (ℕ × ℕ)) (bs : List (List (ℕ × ℕ))) (ns : List (List (List (ℕ × ℕ)))) → length (rest_of rs bs ns) ≡ length rs + (length (joining bs) + length (joining (joining ns)))
+length-rest rs bs ns = omega (arith, length-append rs (joining bs ++ joining (joining ns)), length-append (joining bs) (joining (joining ns)))

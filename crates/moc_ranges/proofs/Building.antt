@@ -4,7 +4,9 @@ use Rattle.std.proofs.lemmas.Bool.Decides.{nat_tests}
 use Rattle.std.proofs.lemmas.Bool.{ltb-true, ltb-false}
 use Rattle.std.specs.Bool.{OnTrue, OnFalse}
 use Rattle.std.specs.Prelude.{nat_lt}
-use Rattle.std.proofs.lemmas.List.{take_more, take-append-drop}
+use Rattle.std.proofs.lemmas.List.{take_more, take-append-drop, take_all, take_more_set}
+use Rattle.std.proofs.Math.ListN.{set}
+use Rattle.std.proofs.lemmas.List.{length-set}
 use Rattle.moc_ranges.specs.Pixels.{pixel_count}
 use Rattle.moc_ranges.specs.RangeList.{IsNormal, BeginsAfter, in_range, in_ranges}
 use Rattle.moc_ranges.specs.Private.Blocks.{joining, first_of, last_of, AreBlocks, NeedsBoth, next_of}
@@ -307,3 +309,29 @@ open_next ns ns' bs bs' rs rs' last range opened built' kept apart filled within
 pub open_next-same : (kept kept' : List (ℕ × ℕ)) (last range : ℕ × ℕ) (q : ℕ) → kept' ≡ kept ++ last ∷ [] → in_ranges (kept' ++ range ∷ []) q ≡ (in_ranges (kept ++ last ∷ []) q || in_range range q)
 open_next-same kept kept' last range q is =
     in_ranges-append kept' (range ∷ []) q ∙ (λ i. in_ranges (is i) q || or_false (in_range range q) i)
+
+-- the last range of some, made longer in its place
+pub last_split : (rs : List (ℕ × ℕ)) (i : ℕ) (last : ℕ × ℕ) → i + 1 ≡ length rs → last ≡ get_or rs i last → rs ≡ take i rs ++ last ∷ []
+last_split rs i last at is =
+    sym (take_all (i + 1) rs (omega arith)) ∙ take_more rs i last (omega arith) ∙ ap (λ (r : ℕ × ℕ). take i rs ++ r ∷ []) (sym is)
+
+pub last_set : (rs : List (ℕ × ℕ)) (i : ℕ) (last : ℕ × ℕ) → i + 1 ≡ length rs → set rs i last ≡ take i rs ++ last ∷ []
+last_set rs i last at =
+    sym (take_all (i + 1) (set rs i last) (omega (arith, length-set rs i last))) ∙ take_more_set rs i last (omega arith)
+
+pub lengthened_normal : (rs : List (ℕ × ℕ)) (i : ℕ) (last : ℕ × ℕ) (to end : ℕ) → IsNormal rs → i + 1 ≡ length rs → last ≡ get_or rs i last → end ≡ max last.1 to → to ≤ pixel_count → IsNormal (set rs i (last.0, end))
+lengthened_normal rs i last to end normal at is longer within =
+    let whole = subst IsNormal (last_split rs i last at is) normal in
+    let parts = IsNormal-suffix (take i rs) (last ∷ []) whole in
+    subst IsNormal (sym (last_set rs i (last.0, end) at)) (longer_normal (take i rs) last end whole (omega arith) (omega (arith, parts.1)))
+
+pub lengthened_same : (rs : List (ℕ × ℕ)) (i : ℕ) (last : ℕ × ℕ) (from to end : ℕ) → IsNormal rs → i + 1 ≡ length rs → last ≡ get_or rs i last → end ≡ max last.1 to → last.0 ≤ from → from ≤ last_of rs → from < to → (q : ℕ) → in_ranges (set rs i (last.0, end)) q ≡ (in_ranges rs q || in_range (from, to) q)
+lengthened_same rs i last from to end normal at is longer begins reached filled q =
+    let split = last_split rs i last at is in
+    let b : from ≤ last.1 = omega (arith, ap last_of split ∙ last_of-last (take i rs) last) in
+    let ab : last.0 < last.1 = last_filled (take i rs) last (subst IsNormal split normal) in
+    ap (λ (l : List (ℕ × ℕ)). in_ranges l q) (last_set rs i (last.0, end) at)
+    ∙ in_ranges-append (take i rs) ((last.0, end) ∷ []) q
+    ∙ ap (λ e. in_ranges (take i rs) q || in_ranges ((last.0, e) ∷ []) q) longer
+    ∙ longer_range last.0 last.1 from to q (in_ranges (take i rs) q) begins b ab filled
+    ∙ ap (λ x. x || in_range (from, to) q) (sym (in_ranges-append (take i rs) (last ∷ []) q) ∙ ap (λ (l : List (ℕ × ℕ)). in_ranges l q) (sym split))

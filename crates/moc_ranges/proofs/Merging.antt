@@ -223,3 +223,42 @@ growing_more ns ns' bs bs' rs rs' pairs i pair d s lt is built' same can =
       can = can;
       same = λ q. same q ∙ (λ t. s.same q t || sym (or_false (in_range pair q)) t) ∙ sym (in_ranges-append (take i pairs) (pair ∷ []) q) ∙ ap (λ (l : List (ℕ × ℕ)). in_ranges l q) (sym more);
     }
+
+-- how far ranges are joined, of which some are still to come
+pub record IsJoined (ns : List (List (List (ℕ × ℕ)))) (bs : List (List (ℕ × ℕ))) (rs rest whole : List (ℕ × ℕ)) : Type 0 where
+  pub built : IsBuilt ns bs rs
+  pub low : ℕ
+  pub sorted : IsSortedFrom low rest
+  pub can : CanJoin ns bs rs low
+  pub same : (q : ℕ) → (in_ranges (kept_of ns bs rs) q || in_ranges rest q) ≡ in_ranges whole q
+
+pub joined_start : (ns : List (List (List (ℕ × ℕ)))) (bs : List (List (ℕ × ℕ))) (rs whole : List (ℕ × ℕ)) → ns ≡ [] → bs ≡ [] → rs ≡ [] → IsSortedFrom 0 whole → IsJoined ns bs rs whole whole
+joined_start ns bs rs whole n b r sorted =
+    let start : IsJoined [] [] [] whole whole = record {
+      built = record { sized = tt; fits = omega arith; normal = tt };
+      low = 0;
+      sorted = sorted;
+      can = record { before = tt; begun = tt };
+      same = λ q. refl;
+    } in
+    rw (n, b, r) start
+
+or_next : (a b c : Bool) → ((a || b) || c) ≡ (a || (b || c))
+or_next true b c = refl
+or_next false b c = refl
+
+pub joined_more : (ns ns' : List (List (List (ℕ × ℕ)))) (bs bs' : List (List (ℕ × ℕ))) (rs rs' rest whole : List (ℕ × ℕ)) (range : ℕ × ℕ) → IsJoined ns bs rs (range ∷ rest) whole → IsBuilt ns' bs' rs' → ((q : ℕ) → in_ranges (kept_of ns' bs' rs') q ≡ (in_ranges (kept_of ns bs rs) q || in_range range q)) → CanJoin ns' bs' rs' range.0 → IsJoined ns' bs' rs' rest whole
+joined_more ns ns' bs bs' rs rs' rest whole range s built' same can = record {
+  built = built';
+  low = range.0;
+  sorted = s.sorted.3;
+  can = can;
+  same = λ q. ap (λ b. b || in_ranges rest q) (same q) ∙ or_next (in_ranges (kept_of ns bs rs) q) (in_range range q) (in_ranges rest q) ∙ s.same q;
+}
+
+pub joined_can : (ns : List (List (List (ℕ × ℕ)))) (bs : List (List (ℕ × ℕ))) (rs rest whole : List (ℕ × ℕ)) (range : ℕ × ℕ) → IsJoined ns bs rs (range ∷ rest) whole → CanJoin ns bs rs range.0
+joined_can ns bs rs rest whole range s = CanJoin-more ns bs rs s.low range.0 s.can s.sorted.0
+
+pub joined_all : (ns : List (List (List (ℕ × ℕ)))) (bs : List (List (ℕ × ℕ))) (rs rest whole : List (ℕ × ℕ)) → IsJoined ns bs rs rest whole → rest ≡ [] → (q : ℕ) → in_ranges (kept_of ns bs rs) q ≡ in_ranges whole q
+joined_all ns bs rs rest whole s none q =
+    sym (or_false (in_ranges (kept_of ns bs rs) q)) ∙ ap (λ (l : List (ℕ × ℕ)). in_ranges (kept_of ns bs rs) q || in_ranges l q) (sym none) ∙ s.same q

@@ -1,8 +1,9 @@
 //! From pairs in any order to the set that they make, and from ranges to the cells that they meet.
-ghost use Rattle.std.specs.Prelude.{◌≡◌, ℕ, ◌*◌, ◌<◌, ◌≤◌, List, map, if◌then◌else◌, IfOk, IfErr, OnOk, OnErr, None, Some};
+ghost use Rattle.std.specs.Prelude.{◌≡◌, ℕ, ◌*◌, ◌<◌, ◌≤◌, List, length, map, if◌then◌else◌, IfOk, IfErr, OnOk, OnErr, None, Some};
 ghost use Rattle.moc_ranges.specs.Faults.{first_fault};
 ghost use Rattle.moc_ranges.specs.Private.Sorted.{IsSortedFrom};
 ghost use Rattle.moc_ranges.specs.RangeList.{in_ranges, IsNormal, set_of};
+ghost use Rattle.moc_ranges.specs.Private.Blocks.{last_of};
 ghost use Rattle.moc_ranges.specs.Numbers.{numbers};
 ghost use Rattle.moc_ranges.specs.Pixels.{pixel_count};
 ghost use Rattle.std.specs.FinSet as set;
@@ -10,7 +11,7 @@ ghost use Rattle.moc_ranges.specs.Private.Widen.{IsCellSize, widen};
 
 use crate::coverage::{Coverage, PIXEL_COUNT};
 use crate::errors::RangesError;
-use crate::list_builder::ListBuilder;
+use crate::list_builder::{ListBuilder, end_below};
 use crate::ranges::Ranges;
 use std::alloc::{AllocError, Global};
 
@@ -78,19 +79,34 @@ pub fn append(ranges: &mut Vec<(u64, u64)>, from: u64, to: u64) -> Result<bool, 
         ≡ (if added then set.union (set_of ranges.old.items) (numbers from to) else set_of ranges.old.items)) }
     ensures kept { OnErr result (ranges.new.items ≡ ranges.old.items) }
 {
-    if let [.., (begin, end)] = ranges.as_slice() {
-        if from < *begin {
-            return Ok(false);
-        }
-        if from <= *end {
-            let joined = (*begin, to.max(*end));
-            let last = ranges.len() - 1;
-            ranges[last] = joined;
-            return Ok(true);
-        }
+    if end_below(ranges, from) {
+        ranges.push((from, to))?;
+        return Ok(true);
     }
-    ranges.push((from, to))?;
-    Ok(true)
+    Ok(lengthen_last(ranges, from, to))
+}
+
+/// Lengthens the last range by one that begins within it or at its end; not where it begins before,
+/// and answers whether it did.
+#[inline]
+fn lengthen_last(ranges: &mut Vec<(u64, u64)>, from: u64, to: u64) -> bool
+    requires normal { IsNormal ranges.old.items }
+    requires some { 0 < length ranges.old.items }
+    requires reached { from ≤ last_of ranges.old.items }
+    requires rising { from < to }
+    requires within { to ≤ pixel_count }
+    ensures normal { IsNormal ranges.new.items }
+    ensures set {
+        set_of ranges.new.items
+        ≡ (if result then set.union (set_of ranges.old.items) (numbers from to) else set_of ranges.old.items) }
+{
+    let last = ranges.len() - 1;
+    let (begin, end) = ranges[last];
+    if from < begin {
+        return false;
+    }
+    ranges[last] = (begin, end.max(to));
+    true
 }
 
 /// A range from the start of the first cell that it meets to the end of the last, where cells have

@@ -316,7 +316,8 @@ fn taken(
 }
 
 /// Whether ranges all end below f.
-fn end_below(ranges: &[(u64, u64)], f: u64) -> bool
+#[inline]
+pub fn end_below(ranges: &[(u64, u64)], f: u64) -> bool
     requires { IsNormal ranges.now }
     ensures below { OnTrue result (EndsBelow f ranges.now) }
     ensures some { OnFalse result (0 < length ranges.now) }

@@ -1,3 +1,5 @@
+use Rattle.std.proofs.lemmas.Result.{IfOk-weaker}
+use Rattle.moc_ranges.proofs.Views.{same_view}
 use Rattle.std.proofs.Common.{◌≡◌, ◌∙◌, ◌∷◌, drop, take, List, ℕ, ap, sym, subst, arith, get_or, refl}
 use Rattle.std.proofs.lemmas.List.{take_all}
 use Rattle.moc_ranges.specs.RangeList.{in_ranges}
@@ -16,5 +18,8 @@ join-requires-clause-can c = CanJoin-more _ _ _ c.loop-pair.invariant.low _ c.lo
 pub loop-pair-preserved : goal.loop-pair-preserved
 loop-pair-preserved c = growing_more _ _ _ _ _ _ c.args.pairs.now c.loop-pair.pair-index (get_or c.args.pairs.now c.loop-pair.pair-index (0, 0)) (0, 0) c.loop-pair.invariant c.loop-pair-test.true refl c.in_ok-join.ensures.built c.in_ok-join.ensures.same c.in_ok-join.ensures.can
 
-pub returns-clause-same : goal.returns-clause-same
-returns-clause-same c = λ q. ap (λ (l : List (ℕ × ℕ)). in_ranges l q) c.in_ok-nodes.ensures.kept ∙ c.loop-pair.invariant.same q ∙ ap (λ (l : List (ℕ × ℕ)). in_ranges l q) (take_all c.loop-pair.pair-index c.args.pairs.now c.loop-pair-test.false)
+pub returns : goal.returns
+returns c =
+    IfOk-weaker c.finish.result _ _
+    (λ made is. is ∙ same_view _ c.args.pairs.now (λ q. c.loop-pair.invariant.same q ∙ ap (λ (l : List (ℕ × ℕ)). in_ranges l q) (take_all c.loop-pair.pair-index c.args.pairs.now c.loop-pair-test.false)))
+    c.finish.ensures

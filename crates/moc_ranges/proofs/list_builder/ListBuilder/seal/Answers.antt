@@ -6,4 +6,4 @@ use Rattle.moc_ranges.proofs.Merging.{normal_ranges}
 use Rattle.moc_ranges.proofs.list_builder.ListBuilder.seal.Goals as goal
 
 pub new-requires-clause-normal : goal.new-requires-clause-normal
-new-requires-clause-normal c = subst IsNormal (sym (c.in_ok-ranges.ensures ∙ c.deref.ensures.value)) (normal_ranges _ _ _ c.requires.built)
+new-requires-clause-normal c = subst IsNormal (sym c.in_ok-ranges.ensures.taken) (normal_ranges _ _ _ c.requires.built)
