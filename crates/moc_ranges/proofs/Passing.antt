@@ -60,7 +60,7 @@ pub overlap_of-append : (range : ℕ × ℕ) (rs ss : List (ℕ × ℕ)) → ove
 overlap_of-append range [] ss = omega arith
 overlap_of-append range (r ∷ rs) ss = omega (arith, overlap_of-append range rs ss)
 
-overlap_none : (range : ℕ × ℕ) (rs : List (ℕ × ℕ)) → EndsBy range.0 rs → 0 ≡ overlap_of range rs
+pub overlap_none : (range : ℕ × ℕ) (rs : List (ℕ × ℕ)) → EndsBy range.0 rs → 0 ≡ overlap_of range rs
 overlap_none range [] e = refl
 overlap_none range (r ∷ rs) e = omega (arith, e.0, overlap_none range rs e.1)
 
