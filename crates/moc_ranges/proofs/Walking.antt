@@ -345,3 +345,20 @@ shares_none n e = ap (λ m. nat_lt 0 m) e
 
 pub counting_same : (total w : ℕ) (xs ys whole_xs whole_ys : List (ℕ × ℕ)) → IsCounting (total + w) xs ys whole_xs whole_ys → w ≡ 0 → IsCounting total xs ys whole_xs whole_ys
 counting_same total w xs ys whole_xs whole_ys s none = let e : total + w ≡ total = omega arith in subst (λ n. IsCounting n xs ys whole_xs whole_ys) e s
+
+-- a range that ends by where the other begins shares nothing
+pub sharing_first : (n : ℕ) (x y : ℕ × ℕ) (xs ys t whole_xs whole_ys : List (ℕ × ℕ)) (r : Option (ℕ × ℕ)) → IsCounting 0 (x ∷ xs) (y ∷ ys) whole_xs whole_ys → x.1 ≤ y.0 → Advances (y.0, y.0) xs t r n → IsCounting 0 (begun r t) (y ∷ ys) whole_xs whole_ys
+sharing_first n x y xs ys t whole_xs whole_ys r s le a =
+    let filled = s.second_normal.0 in
+    counting_first 0 0 0 x y xs ys t whole_xs whole_ys r s (omega arith) (omega arith) (advances_past y xs t r n (omega arith) a)
+
+pub sharing_second : (n : ℕ) (x y : ℕ × ℕ) (xs ys t whole_xs whole_ys : List (ℕ × ℕ)) (r : Option (ℕ × ℕ)) → IsCounting 0 (x ∷ xs) (y ∷ ys) whole_xs whole_ys → y.1 ≤ x.0 → Advances (x.0, x.0) ys t r n → IsCounting 0 (x ∷ xs) (begun r t) whole_xs whole_ys
+sharing_second n x y xs ys t whole_xs whole_ys r s le a =
+    let filled = s.first_normal.0 in
+    counting_second 0 0 0 x y xs ys t whole_xs whole_ys r s (omega arith) (omega arith) (advances_past x ys t r n (omega arith) a)
+
+pub shares : (x y : ℕ × ℕ) (xs ys whole_xs whole_ys : List (ℕ × ℕ)) → IsCounting 0 (x ∷ xs) (y ∷ ys) whole_xs whole_ys → y.0 < x.1 → x.0 < y.1 → true ≡ nat_lt 0 (common_of whole_xs whole_ys)
+shares x y xs ys whole_xs whole_ys s lt gt =
+    let first = s.first_normal.0 in
+    let second = s.second_normal.0 in
+    shares_some (min x.1 y.1 - max x.0 y.0) x y xs ys whole_xs whole_ys s refl (omega arith)
