@@ -197,3 +197,21 @@ no_parts a low b first le some =
     let p : ℕ = (b + 1) * base_pixel_size in
     let past : p / base_pixel_size ≤ b = first_part a low p b (λ q from has. absurd (first q from has)) le some in
     omega arith
+
+pub next_same : (limit : ℕ) (a b : NumberSet) (range : ℕ × ℕ) → a ≡ b → IsNextRange limit a range → IsNextRange limit b range
+next_same limit a b range e n = subst (λ (s : NumberSet). IsNextRange limit s range) e n
+
+pub none_same : (limit : ℕ) (a b : NumberSet) → a ≡ b → HasNoneFrom limit a → HasNoneFrom limit b
+none_same limit a b e n = subst (HasNoneFrom limit) e n
+
+pub nothing_in : (rs : List (ℕ × ℕ)) (a : NumberSet) → set_of rs ≡ a → rs ≡ [] → a ≡ set.empty
+nothing_in rs a is none = sym is ∙ same_members _ _ (λ q. contains-set_of rs q ∙ ap (λ (l : List (ℕ × ℕ)). in_ranges l q) none ∙ sym (set.contains-empty nat_cmp q))
+
+starts_in : (range : ℕ × ℕ) (rest : List (ℕ × ℕ)) → range.0 < range.1 → in_ranges (range ∷ rest) range.0 ≡ true
+starts_in range rest lt = grind (arith, nat_tests)
+
+pub something_in : (range : ℕ × ℕ) (rs rest : List (ℕ × ℕ)) (a : NumberSet) → set_of rs ≡ a → IsNormal rs → rs ≡ range ∷ rest → a ≡ set.empty → ⊥
+something_in range rs rest a is normal e none =
+    let left : IsNormal (range ∷ rest) = subst IsNormal e normal in
+    let here = contains-set_of rs range.0 ∙ ap (λ (l : List (ℕ × ℕ)). in_ranges l range.0) e ∙ starts_in range rest left.0 in
+    false≢true (sym (ap (λ s. set.contains s range.0) (is ∙ none) ∙ set.contains-empty nat_cmp range.0) ∙ here)
