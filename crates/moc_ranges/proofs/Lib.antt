@@ -15,3 +15,4 @@ pub mod Gathering
 pub mod Stored
 pub mod Passing
 pub mod Looking
+pub mod Stepping
