@@ -3,11 +3,14 @@ use Rattle.std.proofs.Common.{◌≡◌, ℕ, zero, suc, ◌+◌, ◌-◌, ◌*�
 use Rattle.std.proofs.lemmas.Bool.Decides.{nat_tests}
 use Rattle.std.proofs.lemmas.List.{take_more, drop_more, take-append-drop, take_all}
 use Rattle.std.proofs.lemmas.List.Sums.{sum_by-cons}
+use Rattle.std.specs.FinSet as set
+use Rattle.moc_ranges.specs.Numbers.{NumberSet}
+use Rattle.moc_ranges.specs.Blocks.{IsSearchOf}
 use Rattle.moc_ranges.specs.Pixels.{pixel_count}
-use Rattle.moc_ranges.specs.RangeList.{IsNormal, BeginsAfter, in_range, in_ranges}
-use Rattle.moc_ranges.specs.Private.Blocks.{joining, first_of, last_of, width_of, AreBlocks, AreStored}
+use Rattle.moc_ranges.specs.RangeList.{IsNormal, BeginsAfter, in_range, in_ranges, set_of, contains-set_of}
+use Rattle.moc_ranges.specs.Private.Blocks.{joining, first_of, last_of, width_of, rest_of, AreBlocks, AreStored, IsStored}
 use Rattle.moc_ranges.specs.Private.Walks.{EndsBy}
-use Rattle.moc_ranges.proofs.Blocking.{IsNormal-prefix, IsNormal-suffix, joining-append, joining-last, first_of-append, last_of-append, width_bounded, width-append}
+use Rattle.moc_ranges.proofs.Blocking.{nothing_more, IsNormal-prefix, IsNormal-suffix, joining-append, joining-last, first_of-append, last_of-append, width_bounded, width-append}
 use Rattle.moc_ranges.proofs.Merging.{in_ranges-append}
 use Rattle.moc_ranges.proofs.Passing.{ends_by_last}
 use Rattle.moc_ranges.proofs.Looking.{none_ended}
@@ -230,3 +233,36 @@ block_found ns i left place n b lt is at inside same =
 
 pub blocks_done : (ns : List (List (List (ℕ × ℕ)))) (i : ℕ) → length ns ≤ i → length (joining (take i ns)) ≡ length (joining ns)
 blocks_done ns i le = ap (λ (l : List (List (List (ℕ × ℕ)))). length (joining l)) (take_all i ns le)
+
+-- ---- sets
+
+none_few : (few : List (ℕ × ℕ)) (nodes : List (List (List (ℕ × ℕ)))) → length few ≡ 0 → rest_of few [] nodes ≡ joining (joining nodes)
+none_few [] nodes e = refl
+none_few (r ∷ few) nodes e = absurd (omega arith)
+
+pub found_nodes : (few : List (ℕ × ℕ)) (nodes : List (List (List (ℕ × ℕ)))) (a : NumberSet) (q : ℕ) → set_of (rest_of few [] nodes) ≡ a → length few ≡ 0 → in_ranges (joining (joining nodes)) q ≡ set.contains a q
+found_nodes few nodes a q is none =
+    sym (contains-set_of (joining (joining nodes)) q) ∙ ap (λ (l : List (ℕ × ℕ)). set.contains (set_of l) q) (sym (none_few few nodes none)) ∙ ap (λ s. set.contains s q) is
+
+few_alone : (few : List (ℕ × ℕ)) (nodes : List (List (List (ℕ × ℕ)))) → IsStored few nodes → 0 < length few → rest_of few [] nodes ≡ few
+few_alone few nodes s some = ap (λ (l : List (List (List (ℕ × ℕ)))). rest_of few [] l) (s.alone some) ∙ nothing_more few
+
+pub found_few : (few : List (ℕ × ℕ)) (nodes : List (List (List (ℕ × ℕ)))) (a : NumberSet) (q : ℕ) → set_of (rest_of few [] nodes) ≡ a → IsStored few nodes → 0 < length few → in_ranges few q ≡ set.contains a q
+found_few few nodes a q is s some =
+    sym (contains-set_of few q) ∙ ap (λ (l : List (ℕ × ℕ)). set.contains (set_of l) q) (sym (few_alone few nodes s some)) ∙ ap (λ s. set.contains s q) is
+
+pub cost_few : (few : List (ℕ × ℕ)) (nodes : List (List (List (ℕ × ℕ)))) (a : NumberSet) (old new : ℕ) → set_of (rest_of few [] nodes) ≡ a → IsStored few nodes → 0 < length few → ((d : ℕ) → length few < 2 ^ d → new ≤ old + d) → IsSearchOf a old new
+cost_few few nodes a old new is s some cost =
+    let alone = few_alone few nodes s some in
+    let fits = s.fits in
+    let small : length few < 2 ^ 8 = omega arith in
+    let most = cost 8 small in
+    record {
+      blocks = few ∷ [];
+      kept = record {
+          sized = (some, s.fits, tt, tt);
+          normal = subst IsNormal (alone ∙ sym (nothing_more few)) s.normal;
+          set = ap set_of (nothing_more few ∙ sym alone) ∙ is;
+        };
+      cost = λ digits lt. omega (arith, most);
+    }
