@@ -12,3 +12,5 @@ pub mod Spans
 pub mod CellRuns
 pub mod CellOrders
 pub mod Gathering
+pub mod Stored
+pub mod Passing

@@ -11,7 +11,9 @@ use Rattle.moc_ranges.specs.Pixels.{pixel_count}
 use Rattle.moc_ranges.specs.Laws.Sizes.{len_parts}
 use Rattle.moc_ranges.specs.RangeList.{IsNormal, BeginsAfter, in_range, in_ranges, set_of, contains-set_of}
 use Rattle.moc_ranges.specs.Laws.Ranges.{len_bounded}
-use Rattle.moc_ranges.specs.Private.Walks.{common_of, has_all, begun}
+use Rattle.moc_ranges.specs.Private.Walks.{common_of, has_all, begun, overlap_of, EndsBy, Advances}
+use Rattle.moc_ranges.proofs.Blocking.{IsNormal-suffix}
+use Rattle.moc_ranges.proofs.Passing.{ends_by_more, overlap_none}
 
 -- no number up to the end of a normal list's first range is in a later one
 pub later_only : (x q : ℕ) (ranges : List (ℕ × ℕ)) → IsNormal ranges → BeginsAfter x ranges → q ≤ x → in_ranges ranges q ≡ false
@@ -126,23 +128,57 @@ pub at_both : (f s : Option (ℕ × ℕ)) (x y : ℕ × ℕ) (xs ys : List (ℕ 
 at_both f s x y xs ys P e g p =
     subst (λ (o : Option (ℕ × ℕ)). P (begun o xs) (y ∷ ys)) e (subst (λ (o : Option (ℕ × ℕ)). P (begun f xs) (begun o ys)) g p)
 
-pub counting_first : (total w : ℕ) (x y : ℕ × ℕ) (xs ys t whole_xs whole_ys : List (ℕ × ℕ)) (r : Option (ℕ × ℕ)) → IsCounting total (x ∷ xs) (y ∷ ys) whole_xs whole_ys → w ≡ min x.1 y.1 - max x.0 y.0 → x.1 ≤ y.1 → Steps xs r t → IsCounting (total + w) (begun r t) (y ∷ ys) whole_xs whole_ys
-counting_first total w x y xs ys t whole_xs whole_ys r s is le e =
-    let b = begun_is xs r t e in
-    record {
-      first_normal = subst IsNormal (sym b) s.first_normal.3;
-      second_normal = s.second_normal;
-      sum = ap (λ (l : List (ℕ × ℕ)). total + w + common_of l (y ∷ ys)) b ∙ omega (arith, common_step x y xs ys s.first_normal s.second_normal le, s.sum, is);
-    }
+-- what was passed has in common with the other list just what it has with its first range
+common_passed : (y : ℕ × ℕ) (gone rest ys : List (ℕ × ℕ)) → IsNormal (gone ++ rest) → IsNormal (y ∷ ys) → EndsBy y.1 gone → common_of (gone ++ rest) (y ∷ ys) ≡ overlap_of y gone + common_of rest (y ∷ ys)
+common_passed y [] rest ys nx ny e = omega arith
+common_passed y (x ∷ gone) rest ys nx ny e =
+    omega (arith, common_step x y (gone ++ rest) ys nx ny e.0, common_passed y gone rest ys nx.3 ny e.1)
 
-pub counting_second : (total w : ℕ) (x y : ℕ × ℕ) (xs ys t whole_xs whole_ys : List (ℕ × ℕ)) (r : Option (ℕ × ℕ)) → IsCounting total (x ∷ xs) (y ∷ ys) whole_xs whole_ys → w ≡ min x.1 y.1 - max x.0 y.0 → y.1 < x.1 → Steps ys r t → IsCounting (total + w) (x ∷ xs) (begun r t) whole_xs whole_ys
-counting_second total w x y xs ys t whole_xs whole_ys r s is lt e =
-    let b = begun_is ys r t e in
-    record {
-      first_normal = s.first_normal;
-      second_normal = subst IsNormal (sym b) s.second_normal.3;
-      sum = ap (λ (l : List (ℕ × ℕ)). total + w + common_of (x ∷ xs) l) b ∙ omega (arith, common_step_back x y xs ys s.first_normal s.second_normal (omega arith), s.sum, is);
-    }
+-- what is left after an advance is normal
+pub advanced_normal : (range : ℕ × ℕ) (xs t : List (ℕ × ℕ)) (r : Option (ℕ × ℕ)) (c : ℕ) → IsNormal xs → Advances range xs t r c → IsNormal (begun r t)
+advanced_normal range xs t r c normal a = subst IsNormal (sym (begun_is a.rest r t a.step)) (IsNormal-suffix a.passed.gone a.rest (subst IsNormal a.passed.parts normal))
+
+common_advanced : (y : ℕ × ℕ) (xs t ys : List (ℕ × ℕ)) (r : Option (ℕ × ℕ)) (c : ℕ) → IsNormal xs → IsNormal (y ∷ ys) → Advances y xs t r c → common_of xs (y ∷ ys) ≡ c + common_of (begun r t) (y ∷ ys)
+common_advanced y xs t ys r c nx ny a =
+    let n = subst IsNormal a.passed.parts nx in
+    let passed = common_passed y a.passed.gone a.rest ys n ny a.passed.ended in
+    let parts = ap (λ (l : List (ℕ × ℕ)). common_of l (y ∷ ys)) a.passed.parts in
+    let left = ap (λ (l : List (ℕ × ℕ)). common_of l (y ∷ ys)) (begun_is a.rest r t a.step) in
+    omega (arith, passed, parts, left, a.passed.counted)
+
+pub counting_first : (total w c : ℕ) (x y : ℕ × ℕ) (xs ys t whole_xs whole_ys : List (ℕ × ℕ)) (r : Option (ℕ × ℕ)) → IsCounting total (x ∷ xs) (y ∷ ys) whole_xs whole_ys → w ≡ min x.1 y.1 - max x.0 y.0 → x.1 ≤ y.1 → Advances y xs t r c → IsCounting (total + w + c) (begun r t) (y ∷ ys) whole_xs whole_ys
+counting_first total w c x y xs ys t whole_xs whole_ys r s is le a = record {
+  first_normal = advanced_normal y xs t r c s.first_normal.3 a;
+  second_normal = s.second_normal;
+  sum = omega (arith, common_step x y xs ys s.first_normal s.second_normal le, common_advanced y xs t ys r c s.first_normal.3 s.second_normal a, s.sum, is);
+}
+
+counting_swap : (total : ℕ) (xs ys whole_xs whole_ys : List (ℕ × ℕ)) → IsCounting total xs ys whole_xs whole_ys → IsCounting total ys xs whole_ys whole_xs
+counting_swap total xs ys whole_xs whole_ys s = record {
+  first_normal = s.second_normal;
+  second_normal = s.first_normal;
+  sum = ap (λ n. total + n) (common_swap ys xs) ∙ s.sum ∙ common_swap whole_xs whole_ys;
+}
+
+pub counting_second : (total w c : ℕ) (x y : ℕ × ℕ) (xs ys t whole_xs whole_ys : List (ℕ × ℕ)) (r : Option (ℕ × ℕ)) → IsCounting total (x ∷ xs) (y ∷ ys) whole_xs whole_ys → w ≡ min x.1 y.1 - max x.0 y.0 → y.1 ≤ x.1 → Advances x ys t r c → IsCounting (total + w + c) (x ∷ xs) (begun r t) whole_xs whole_ys
+counting_second total w c x y xs ys t whole_xs whole_ys r s is le a =
+    counting_swap _ _ _ _ _ (counting_first total w c y x ys xs t whole_ys whole_xs r (counting_swap _ _ _ _ _ s) (omega (arith, is)) le a)
+
+pub counted_within : (total : ℕ) (xs ys whole_xs whole_ys : List (ℕ × ℕ)) → IsCounting total xs ys whole_xs whole_ys → total ≤ common_of whole_xs whole_ys
+counted_within total xs ys whole_xs whole_ys s = omega (arith, s.sum)
+
+-- what ends where a range begins has nothing of it
+pub advances_past : (y : ℕ × ℕ) (xs t : List (ℕ × ℕ)) (r : Option (ℕ × ℕ)) (n : ℕ) → y.0 ≤ y.1 → Advances (y.0, y.0) xs t r n → Advances y xs t r 0
+advances_past y xs t r n le a = record {
+  rest = a.rest;
+  passed = record {
+      gone = a.passed.gone;
+      parts = a.passed.parts;
+      ended = ends_by_more y.0 y.1 a.passed.gone le a.passed.ended;
+      counted = overlap_none y a.passed.gone a.passed.ended;
+    };
+  step = a.step;
+}
 
 -- what two first ranges have in common is counted at most once
 pub counting_room : (total w : ℕ) (x y : ℕ × ℕ) (xs ys whole_xs whole_ys : List (ℕ × ℕ)) → IsCounting total (x ∷ xs) (y ∷ ys) whole_xs whole_ys → w ≡ min x.1 y.1 - max x.0 y.0 → total + w ≤ common_of whole_xs whole_ys
@@ -222,22 +258,40 @@ hold_fail x y xs ys nx ny lt = false_from_ne_true (has_all (x ∷ xs) (y ∷ ys)
 hold_none : (y : ℕ × ℕ) (ys : List (ℕ × ℕ)) → IsNormal (y ∷ ys) → has_all [] (y ∷ ys) ≡ false
 hold_none y ys ny = false_from_ne_true (has_all [] (y ∷ ys)) (λ all. false≢true (all_in [] (y ∷ ys) all y.0 (first_in y ys ny.0)))
 
-pub holding_skips : (x y : ℕ × ℕ) (xs ys t whole_xs whole_ys : List (ℕ × ℕ)) (r : Option (ℕ × ℕ)) → IsHolding (x ∷ xs) (y ∷ ys) whole_xs whole_ys → x.1 < y.1 → Steps xs r t → IsHolding (begun r t) (y ∷ ys) whole_xs whole_ys
-holding_skips x y xs ys t whole_xs whole_ys r s lt e =
-    let b = begun_is xs r t e in
+hold_skip_all : (y : ℕ × ℕ) (gone rest ys : List (ℕ × ℕ)) → IsNormal (gone ++ rest) → IsNormal (y ∷ ys) → EndsBy y.0 gone → has_all (gone ++ rest) (y ∷ ys) ≡ has_all rest (y ∷ ys)
+hold_skip_all y [] rest ys nx ny e = refl
+hold_skip_all y (x ∷ gone) rest ys nx ny e =
+    hold_skip x y (gone ++ rest) ys nx ny (omega (arith, e.0, ny.0)) ∙ hold_skip_all y gone rest ys nx.3 ny e.1
+
+hold_take_all : (x : ℕ × ℕ) (b : ℕ) (xs gone rest : List (ℕ × ℕ)) → IsNormal (gone ++ rest) → BeginsAfter b (gone ++ rest) → x.0 ≤ b → EndsBy x.1 gone → has_all (x ∷ xs) (gone ++ rest) ≡ has_all (x ∷ xs) rest
+hold_take_all x b xs [] rest normal after le e = refl
+hold_take_all x b xs (y ∷ gone) rest normal after le e =
+    hold_take x y xs (gone ++ rest) e.0 (omega arith)
+    ∙ hold_take_all x y.1 xs gone rest normal.3 normal.2 (omega (arith, normal.0)) e.1
+
+pub holding_skips : (n : ℕ) (x y : ℕ × ℕ) (xs ys t whole_xs whole_ys : List (ℕ × ℕ)) (r : Option (ℕ × ℕ)) → IsHolding (x ∷ xs) (y ∷ ys) whole_xs whole_ys → x.1 < y.1 → Advances (y.0, y.0) xs t r n → IsHolding (begun r t) (y ∷ ys) whole_xs whole_ys
+holding_skips n x y xs ys t whole_xs whole_ys r s lt a =
+    let nx = s.first_normal.3 in
     record {
-      first_normal = subst IsNormal (sym b) s.first_normal.3;
+      first_normal = advanced_normal (y.0, y.0) xs t r n nx a;
       second_normal = s.second_normal;
-      same = ap (λ (l : List (ℕ × ℕ)). has_all l (y ∷ ys)) b ∙ sym (hold_skip x y xs ys s.first_normal s.second_normal lt) ∙ s.same;
+      same = ap (λ (l : List (ℕ × ℕ)). has_all l (y ∷ ys)) (begun_is a.rest r t a.step)
+          ∙ sym (hold_skip_all y a.passed.gone a.rest ys (subst IsNormal a.passed.parts nx) s.second_normal a.passed.ended)
+          ∙ ap (λ (l : List (ℕ × ℕ)). has_all l (y ∷ ys)) (sym a.passed.parts)
+          ∙ sym (hold_skip x y xs ys s.first_normal s.second_normal lt) ∙ s.same;
     }
 
-pub holding_takes : (x y : ℕ × ℕ) (xs ys t whole_xs whole_ys : List (ℕ × ℕ)) (r : Option (ℕ × ℕ)) → IsHolding (x ∷ xs) (y ∷ ys) whole_xs whole_ys → y.1 ≤ x.1 → x.0 ≤ y.0 → Steps ys r t → IsHolding (x ∷ xs) (begun r t) whole_xs whole_ys
-holding_takes x y xs ys t whole_xs whole_ys r s ends begins e =
-    let b = begun_is ys r t e in
+pub holding_takes : (n : ℕ) (x y : ℕ × ℕ) (xs ys t whole_xs whole_ys : List (ℕ × ℕ)) (r : Option (ℕ × ℕ)) → IsHolding (x ∷ xs) (y ∷ ys) whole_xs whole_ys → y.1 ≤ x.1 → x.0 ≤ y.0 → Advances (x.1, x.1) ys t r n → IsHolding (x ∷ xs) (begun r t) whole_xs whole_ys
+holding_takes n x y xs ys t whole_xs whole_ys r s ends begins a =
+    let ny = s.second_normal.3 in
+    let after : BeginsAfter y.1 (a.passed.gone ++ a.rest) = subst (BeginsAfter y.1) a.passed.parts s.second_normal.2 in
     record {
       first_normal = s.first_normal;
-      second_normal = subst IsNormal (sym b) s.second_normal.3;
-      same = ap (λ (l : List (ℕ × ℕ)). has_all (x ∷ xs) l) b ∙ sym (hold_take x y xs ys ends begins) ∙ s.same;
+      second_normal = advanced_normal (x.1, x.1) ys t r n ny a;
+      same = ap (λ (l : List (ℕ × ℕ)). has_all (x ∷ xs) l) (begun_is a.rest r t a.step)
+          ∙ sym (hold_take_all x y.1 xs a.passed.gone a.rest (subst IsNormal a.passed.parts ny) after (omega (arith, begins, s.second_normal.0)) a.passed.ended)
+          ∙ ap (λ (l : List (ℕ × ℕ)). has_all (x ∷ xs) l) (sym a.passed.parts)
+          ∙ sym (hold_take x y xs ys ends begins) ∙ s.same;
     }
 
 pub holding_fails : (x y : ℕ × ℕ) (xs ys whole_xs whole_ys : List (ℕ × ℕ)) → IsHolding (x ∷ xs) (y ∷ ys) whole_xs whole_ys → y.0 < x.0 → false ≡ has_all whole_xs whole_ys
@@ -291,3 +345,20 @@ shares_none n e = ap (λ m. nat_lt 0 m) e
 
 pub counting_same : (total w : ℕ) (xs ys whole_xs whole_ys : List (ℕ × ℕ)) → IsCounting (total + w) xs ys whole_xs whole_ys → w ≡ 0 → IsCounting total xs ys whole_xs whole_ys
 counting_same total w xs ys whole_xs whole_ys s none = let e : total + w ≡ total = omega arith in subst (λ n. IsCounting n xs ys whole_xs whole_ys) e s
+
+-- a range that ends by where the other begins shares nothing
+pub sharing_first : (n : ℕ) (x y : ℕ × ℕ) (xs ys t whole_xs whole_ys : List (ℕ × ℕ)) (r : Option (ℕ × ℕ)) → IsCounting 0 (x ∷ xs) (y ∷ ys) whole_xs whole_ys → x.1 ≤ y.0 → Advances (y.0, y.0) xs t r n → IsCounting 0 (begun r t) (y ∷ ys) whole_xs whole_ys
+sharing_first n x y xs ys t whole_xs whole_ys r s le a =
+    let filled = s.second_normal.0 in
+    counting_first 0 0 0 x y xs ys t whole_xs whole_ys r s (omega arith) (omega arith) (advances_past y xs t r n (omega arith) a)
+
+pub sharing_second : (n : ℕ) (x y : ℕ × ℕ) (xs ys t whole_xs whole_ys : List (ℕ × ℕ)) (r : Option (ℕ × ℕ)) → IsCounting 0 (x ∷ xs) (y ∷ ys) whole_xs whole_ys → y.1 ≤ x.0 → Advances (x.0, x.0) ys t r n → IsCounting 0 (x ∷ xs) (begun r t) whole_xs whole_ys
+sharing_second n x y xs ys t whole_xs whole_ys r s le a =
+    let filled = s.first_normal.0 in
+    counting_second 0 0 0 x y xs ys t whole_xs whole_ys r s (omega arith) (omega arith) (advances_past x ys t r n (omega arith) a)
+
+pub shares : (x y : ℕ × ℕ) (xs ys whole_xs whole_ys : List (ℕ × ℕ)) → IsCounting 0 (x ∷ xs) (y ∷ ys) whole_xs whole_ys → y.0 < x.1 → x.0 < y.1 → true ≡ nat_lt 0 (common_of whole_xs whole_ys)
+shares x y xs ys whole_xs whole_ys s lt gt =
+    let first = s.first_normal.0 in
+    let second = s.second_normal.0 in
+    shares_some (min x.1 y.1 - max x.0 y.0) x y xs ys whole_xs whole_ys s refl (omega arith)

@@ -26,12 +26,15 @@ pub fn count_both(mut xs: Ranges<'_>, mut ys: Ranges<'_>) -> u64
         let Some(y) = second else {
             return total;
         };
-        let common = overlap(x, y);
-        total += common;
+        total += overlap(x, y);
         if x.1 <= y.1 {
-            first = xs.next();
+            let ahead = xs.advance(y);
+            total += ahead.common;
+            first = ahead.next;
         } else {
-            second = ys.next();
+            let ahead = ys.advance(x);
+            total += ahead.common;
+            second = ahead.next;
         }
     }
     total
@@ -49,14 +52,12 @@ pub fn share_some(mut xs: Ranges<'_>, mut ys: Ranges<'_>) -> bool
         let Some(y) = second else {
             return false;
         };
-        let common = overlap(x, y);
-        if common > 0 {
-            return true;
-        }
-        if x.1 <= y.1 {
-            first = xs.next();
+        if x.1 <= y.0 {
+            first = xs.next_past(y.0);
+        } else if y.1 <= x.0 {
+            second = ys.next_past(x.0);
         } else {
-            second = ys.next();
+            return true;
         }
     }
     false
@@ -75,9 +76,9 @@ pub fn holds_all(mut xs: Ranges<'_>, mut ys: Ranges<'_>) -> bool
             return false;
         };
         if x.1 < y.1 {
-            first = xs.next();
+            first = xs.next_past(y.0);
         } else if x.0 <= y.0 {
-            second = ys.next();
+            second = ys.next_past(x.1);
         } else {
             return false;
         }

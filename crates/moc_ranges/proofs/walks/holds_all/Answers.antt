@@ -9,12 +9,12 @@ returns-in_default-first c = holding_lacks c.loop-second.first c.loop-second.sec
 pub loop-second-preserved-then-x-y : goal.loop-second-preserved-then-x-y
 loop-second-preserved-then-x-y c =
     let s = at_both c.loop-second.first c.loop-second.second c.in-Some-first.x c.in-Some.y c.loop-second.xs c.loop-second.ys (λ xs ys. IsHolding xs ys c.args.xs c.args.ys) c.in-Some-first.is c.in-Some.is c.loop-second.invariant in
-    holding_skips _ _ _ _ _ _ _ _ s (omega arith) c.next-first-then-x-y.ensures.steps
+    holding_skips c.next_past-first.ensures.0 _ _ _ _ _ _ _ _ s c.if-x-y.true c.next_past-first.ensures.1
 
 pub loop-second-preserved : goal.loop-second-preserved
 loop-second-preserved c =
     let s = at_both c.loop-second.first c.loop-second.second c.in-Some-first.x c.in-Some.y c.loop-second.xs c.loop-second.ys (λ xs ys. IsHolding xs ys c.args.xs c.args.ys) c.in-Some-first.is c.in-Some.is c.loop-second.invariant in
-    holding_takes _ _ _ _ _ _ _ _ s (omega arith) (omega arith) c.next-second-then-x-y-2.ensures.steps
+    holding_takes c.next_past-second.ensures.0 _ _ _ _ _ _ _ _ s (omega arith) (omega arith) c.next_past-second.ensures.1
 
 pub returns-else-x-y-2 : goal.returns-else-x-y-2
 returns-else-x-y-2 c =
