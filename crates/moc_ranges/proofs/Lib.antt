@@ -14,3 +14,4 @@ pub mod CellOrders
 pub mod Gathering
 pub mod Stored
 pub mod Passing
+pub mod Carrying

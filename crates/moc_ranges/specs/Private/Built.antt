@@ -49,6 +49,15 @@ pub record TakesOver (xs xs' : List (ℕ × ℕ)) (limit : ℕ) (nodes nodes' : 
   pub can_next : CanJoin nodes' blocks' ranges' (next_of xs')
   pub can_limit : CanJoin nodes' blocks' ranges' limit
 
+-- ranges were taken off a list that all end below a limit, and stand behind what is built
+pub record Carries (xs xs' : List (ℕ × ℕ)) (limit : ℕ) (nodes nodes' : List (List (List (ℕ × ℕ))))
+    (blocks blocks' : List (List (ℕ × ℕ))) (ranges ranges' : List (ℕ × ℕ)) : Type 0 where
+  pub gone : List (ℕ × ℕ)
+  pub parts : xs ≡ gone ++ xs'
+  pub below : EndsBelow limit gone
+  pub built : IsBuilt nodes' blocks' ranges'
+  pub kept : kept_of nodes' blocks' ranges' ≡ kept_of nodes blocks ranges ++ gone
+
 -- a range was taken off one of two lists, which begins first of both
 pub record IsTurn (xs ys : List (ℕ × ℕ)) (range : ℕ × ℕ) (xs' ys' : List (ℕ × ℕ)) : Type 0 where
   pub first_normal : IsNormal xs'
