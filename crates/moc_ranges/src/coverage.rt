@@ -1,5 +1,5 @@
 //! Sets of pixels, and the operations on them.
-ghost use Rattle.std.specs.Prelude.{◌≡◌, [], ◌∷◌, ◌+◌, ◌<◌, ◌≤◌, ◌↔◌, nat_lt, IsTrue, if◌then◌else◌, IfOk, IfErr, OnOk, OnErr, None, unwrap_or};
+ghost use Rattle.std.specs.Prelude.{◌≡◌, [], ◌∷◌, ℕ, true, IfSome, MatchOption, ◌+◌, ◌<◌, ◌≤◌, ◌↔◌, nat_lt, IsTrue, if◌then◌else◌, IfOk, IfErr, OnOk, OnErr, None, unwrap_or};
 ghost use Rattle.moc_ranges.specs.Faults.{first_fault};
 ghost use Rattle.std.specs.Cmp.{partial_equiv_from_equiv};
 ghost use Rattle.std.specs.FinSet as set;
@@ -19,6 +19,7 @@ use crate::block::{LONGEST, measure_ranges};
 use crate::list_builder::trimmed;
 use crate::node::{Node, measure_nodes, share_nodes};
 use crate::ranges::Ranges;
+use crate::search::first_past;
 use crate::union::unite;
 use crate::walks::{are_same, count_both, holds_all, share_some};
 use moc_sphere::{Cell, Order};
@@ -76,7 +77,10 @@ impl Coverage {
     pub fn contains(&self, pixel: u64) -> bool
         ensures { result ≡ set.contains self.now pixel }
     {
-        self.meets_range(pixel, pixel + 1)
+        match first_past(self.ranges(), pixel) {
+            Some((from, _)) => from <= pixel,
+            None => false,
+        }
     }
 
     /// Whether the set has no pixel. O(1).
@@ -84,7 +88,7 @@ impl Coverage {
         ensures empty { IsTrue result ↔ (self.now ≡ set.empty) }
         ensures within { IsWithin self.now pixels }
     {
-        self.few.is_empty() && self.nodes.is_empty()
+        self.ranges().next().is_none()
     }
 
     /// The ranges of the set, rising, none empty, and none touching the next: the one normal list
@@ -248,6 +252,27 @@ impl Coverage {
         self.covers_range(from, from + BASE_PIXEL_SIZE)
     }
 
+    /// The first pixel of the set from this one on, if there is one. O(log n), takes no memory.
+    pub fn next_pixel(&self, from: u64) -> Option<u64>
+        ensures found { IfSome result (λ p. (from ≤ p) × (p < pixel_count) × (set.contains self.now p ≡ true)) }
+        ensures first { (q : ℕ) → from ≤ q → set.contains self.now q ≡ true → MatchOption result ⊥ (λ p. p ≤ q) }
+    {
+        let (start, _) = first_past(self.ranges(), from)?;
+        Some(start.max(from))
+    }
+
+    /// The first base pixel from this one on that the set has a pixel in, if there is one; there is none above 11.
+    /// O(log n), takes no memory.
+    pub fn next_base_pixel(&self, from: u8) -> Option<u8>
+        ensures found { IfSome result (λ b.
+            (from ≤ b) × (b < 12) × (nat_lt 0 (set.len (part_of self.now b)) ≡ true)) }
+        ensures first { (b : ℕ) → from ≤ b → nat_lt 0 (set.len (part_of self.now b)) ≡ true
+            → MatchOption result ⊥ (λ c. c ≤ b) }
+    {
+        let pixel = self.next_pixel(u64::from(from.min(12)) * BASE_PIXEL_SIZE)?;
+        Some((pixel / BASE_PIXEL_SIZE) as u8)
+    }
+
     /// Whether the set has a pixel of this cell. O(log n), takes no memory.
     pub fn meets_cell(&self, cell: Cell) -> bool
         ensures { result ≡ meets self.now (span cell.order cell.index) }
@@ -270,8 +295,10 @@ impl Coverage {
         requires within { to ≤ pixel_count }
         ensures { result ≡ meets self.now (numbers from to) }
     {
-        let range = [(from, to)];
-        share_some(self.ranges(), Ranges::of(&range))
+        match first_past(self.ranges(), from) {
+            Some((start, _)) => start < to,
+            None => false,
+        }
     }
 
     /// Whether the set has every pixel from one up to, not including, another.
@@ -280,8 +307,10 @@ impl Coverage {
         requires within { to ≤ pixel_count }
         ensures { result ≡ set.is_subset (numbers from to) self.now }
     {
-        let range = [(from, to)];
-        holds_all(self.ranges(), Ranges::of(&range))
+        match first_past(self.ranges(), from) {
+            Some((start, end)) => start <= from && to <= end,
+            None => false,
+        }
     }
 
     /// The set as cells of an order see it: all pixels of each cell of that order that it meets
