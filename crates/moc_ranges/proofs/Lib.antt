@@ -14,8 +14,5 @@ pub mod CellOrders
 pub mod Gathering
 pub mod Stored
 pub mod Passing
-<<<<<<< HEAD
-pub mod Carrying
-=======
+pub mod CarriedOver
 pub mod Looking
->>>>>>> 3f1ccad559500ca5ff8abfe2b5a2979060d5944d

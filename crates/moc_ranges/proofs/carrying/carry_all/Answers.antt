@@ -1,5 +1,5 @@
-use Rattle.moc_ranges.proofs.Carrying.{carrying_start, carrying_more}
-use Rattle.moc_ranges.proofs.difference.carry_all.Goals as goal
+use Rattle.moc_ranges.proofs.CarriedOver.{carrying_start, carrying_more}
+use Rattle.moc_ranges.proofs.carrying.carry_all.Goals as goal
 
 pub loop-carried-init : goal.loop-carried-init
 loop-carried-init c = carrying_start _ _ _ _ c.args.limit c.requires.normal c.requires.built c.requires.after

@@ -1,6 +1,6 @@
 use Rattle.std.proofs.Common.{length}
-use Rattle.moc_ranges.proofs.Carrying.{IsCarrying}
-use Rattle.moc_ranges.proofs.difference.carry_all.Given as goal
+use Rattle.moc_ranges.proofs.CarriedOver.{IsCarrying}
+use Rattle.moc_ranges.proofs.carrying.carry_all.Given as goal
 
 abbrev pub invariant-loop-carried : goal.invariant-loop-carried
 invariant-loop-carried l =

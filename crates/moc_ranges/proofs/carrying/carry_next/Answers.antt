@@ -1,7 +1,7 @@
 use Rattle.std.proofs.Common.{◌++◌, ◌∙◌, sym}
 use Rattle.moc_ranges.specs.Private.Blocks.{joining}
-use Rattle.moc_ranges.proofs.Carrying.{carry_room, carries_one}
-use Rattle.moc_ranges.proofs.difference.carry_next.Goals as goal
+use Rattle.moc_ranges.proofs.CarriedOver.{carry_room, carries_one}
+use Rattle.moc_ranges.proofs.carrying.carry_next.Goals as goal
 
 pub carry_node-requires-clause-normal : goal.carry_node-requires-clause-normal
 carry_node-requires-clause-normal c =
