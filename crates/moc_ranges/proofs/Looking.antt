@@ -2,6 +2,8 @@
 use Rattle.std.proofs.Common.{◌≡◌, ℕ, ◌+◌, ◌<◌, ◌≤◌, ◌*◌, ◌/◌, Bool, true, false, not, ◌&&◌, ◌||◌, ◌⊎◌, List, [], ◌∷◌, ◌++◌, nat_eq, nat_le, nat_lt, max, Option, None, Some, MatchOption, inl, inr, refl, sym, ap, subst, ◌∙◌, arith}
 use Rattle.std.proofs.lemmas.Bool.{cases_lt, cases_Bool, false≢true, false_from_ne_true, and_parts, leb-true, ltb-true, lt-ltb}
 use Rattle.std.proofs.lemmas.Bool.Decides.{nat_tests}
+use Rattle.std.specs.Option.{is_some}
+use Rattle.std.specs.Prelude.{IsTrue}
 use Rattle.std.specs.FinSet as set
 use Rattle.std.specs.Ordering.{nat_cmp}
 use Rattle.std.specs.Cmp.{nat_cmp_total}
@@ -215,3 +217,9 @@ something_in range rs rest a is normal e none =
     let left : IsNormal (range ∷ rest) = subst IsNormal e normal in
     let here = contains-set_of rs range.0 ∙ ap (λ (l : List (ℕ × ℕ)). in_ranges l range.0) e ∙ starts_in range rest left.0 in
     false≢true (sym (ap (λ s. set.contains s range.0) (is ∙ none) ∙ set.contains-empty nat_cmp range.0) ∙ here)
+
+pub empty_seen : (r : Option (ℕ × ℕ)) (b : Bool) (s t : List (ℕ × ℕ)) (a : NumberSet) → set_of s ≡ a → IsNormal s → MatchOption r ((s ≡ []) × (t ≡ [])) (λ x. s ≡ x ∷ t) → is_some r ≡ not b → (IsTrue b → a ≡ set.empty) × (a ≡ set.empty → IsTrue b)
+empty_seen None true s t a is normal e same = ((λ yes. nothing_in s a is e.0), (λ none. refl))
+empty_seen None false s t a is normal e same = absurd (false≢true same)
+empty_seen (Some x) true s t a is normal e same = absurd (false≢true (sym same))
+empty_seen (Some x) false s t a is normal e same = ((λ yes. absurd (false≢true yes)), (λ none. absurd (something_in x s t a is normal e none)))

@@ -8,8 +8,10 @@ ghost use Rattle.moc_ranges.specs.Operations.{symmetric, complement, part_of, me
 ghost use Rattle.moc_ranges.specs.Pixels.{pixel_count, pixels};
 ghost use Rattle.moc_ranges.specs.Cells.{cells_of, degrade, span};
 ghost use Rattle.moc_ranges.specs.Numbers.{numbers};
+ghost use Rattle.moc_ranges.specs.Blocks.{joining, AreBlocks, IsSearchOf};
 ghost use Rattle.moc_ranges.specs.Private.Blocks.{IsStored, rest_of};
 
+use crate::chunks::Chunks;
 use crate::cells::{orders_with_cells, push_cells_of_order};
 use crate::errors::{Memory, RangesError};
 use crate::difference::subtract;
@@ -20,6 +22,7 @@ use crate::list_builder::trimmed;
 use crate::node::{Node, measure_nodes, share_nodes};
 use crate::ranges::Ranges;
 use crate::search::first_past;
+use crate::steps::{Steps, find_block, find_range};
 use crate::union::unite;
 use crate::walks::{are_same, count_both, holds_all, share_some};
 use moc_sphere::{Cell, Order};
@@ -81,6 +84,30 @@ impl Coverage {
             Some((from, _)) => from <= pixel,
             None => false,
         }
+    }
+
+    /// The same as `contains`, and counts each comparison of the pixel with the bounds of a range or
+    /// a chunk: at most the binary digits of the number of chunks, and 8.
+    pub fn contains_counting(&self, pixel: u64, steps: &mut Steps) -> bool
+        requires { steps.old < 9223372036854775808 }
+        ensures found { result ≡ set.contains self.now pixel }
+        ensures cost { IsSearchOf self.now steps.old steps.new }
+    {
+        if self.few.is_empty() {
+            find_block(&self.nodes, pixel, steps)
+        } else {
+            find_range(&self.few, pixel, steps)
+        }
+    }
+
+    /// The ranges of the set as it keeps them, in chunks of 1 to 128, of which two side by side have
+    /// together more than 128. One after the other they are what `ranges` gives. Takes no memory.
+    pub fn chunks(&self) -> Chunks<'_>
+        ensures normal { IsNormal (joining result) }
+        ensures set { set_of (joining result) ≡ self.now }
+        ensures sized { AreBlocks result }
+    {
+        Chunks::new(&self.few, &self.nodes)
     }
 
     /// Whether the set has no pixel. O(1).

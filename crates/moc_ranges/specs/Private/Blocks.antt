@@ -1,21 +1,7 @@
 -- Lists of ranges that are kept in blocks, and blocks in nodes.
 use Rattle.std.specs.Prelude.{◌≡◌, ℕ, ◌+◌, ◌-◌, ◌<◌, ◌≤◌, List, [], ◌∷◌, ◌++◌, length, sum_by, ⊤}
 use Rattle.moc_ranges.specs.RangeList.{IsNormal}
-
--- lists, one after the other
-abbrev pub joining : {X : Type 0} → List (List X) → List X
-joining [] = []
-joining (xs ∷ more) = xs ++ joining more
-
--- with the block that follows, if one does, it has more ranges than a block may have
-abbrev pub NeedsBoth : List (ℕ × ℕ) → List (List (ℕ × ℕ)) → Type 0
-NeedsBoth block [] = ⊤
-NeedsBoth block (next ∷ blocks) = 128 < length block + length next
-
--- each block has 1 to 128 ranges, and two side by side have together more than 128
-abbrev pub AreBlocks : List (List (ℕ × ℕ)) → Type 0
-AreBlocks [] = ⊤
-AreBlocks (block ∷ blocks) = (0 < length block) × (length block ≤ 128) × NeedsBoth block blocks × AreBlocks blocks
+pub use Rattle.moc_ranges.specs.Blocks.{joining, NeedsBoth, AreBlocks}
 
 -- the sum of the widths of ranges
 abbrev pub width_of : List (ℕ × ℕ) → ℕ
@@ -68,3 +54,13 @@ pub record IsStored (few : List (ℕ × ℕ)) (nodes : List (List (List (ℕ × 
   pub fits : length few ≤ 128
   pub sized : AreBlocks (joining nodes)
   pub normal : IsNormal (rest_of few [] nodes)
+
+-- blocks whose ranges, one block after the other, are a normal range list
+pub record AreStored (blocks : List (List (ℕ × ℕ))) : Type 0 where
+  pub sized : AreBlocks blocks
+  pub normal : IsNormal (joining blocks)
+
+-- the blocks of a set: its few ranges as one, and those of a node that is begun and of the nodes
+abbrev pub chunks_of : List (ℕ × ℕ) → List (List (ℕ × ℕ)) → List (List (List (ℕ × ℕ))) → List (List (ℕ × ℕ))
+chunks_of [] blocks nodes = blocks ++ joining nodes
+chunks_of (range ∷ few) blocks nodes = (range ∷ few) ∷ (blocks ++ joining nodes)
