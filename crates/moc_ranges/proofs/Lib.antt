@@ -14,5 +14,6 @@ pub mod CellOrders
 pub mod Gathering
 pub mod Stored
 pub mod Passing
+pub mod CarriedOver
 pub mod Looking
 pub mod Stepping

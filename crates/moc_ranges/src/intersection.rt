@@ -3,8 +3,11 @@ ghost use Rattle.std.specs.FinSet as set;
 ghost use Rattle.std.specs.Prelude.{◌≡◌, ◌<◌, ◌≤◌, ◌||◌, ℕ, min, max, IfOk, OnOk};
 ghost use Rattle.moc_ranges.specs.Pixels.{pixel_count};
 ghost use Rattle.moc_ranges.specs.RangeList.{IsNormal, in_range, in_ranges, set_of};
-ghost use Rattle.moc_ranges.specs.Private.Built.{kept_of, IsBuilt, EndsBelow};
+ghost use Rattle.moc_ranges.specs.Private.Blocks.{next_of};
+ghost use Rattle.moc_ranges.specs.Private.Walks.{begun};
+ghost use Rattle.moc_ranges.specs.Private.Built.{kept_of, IsBuilt, EndsBelow, TakesCommon};
 
+use crate::carrying::next_carrying;
 use crate::coverage::Coverage;
 use crate::list_builder::ListBuilder;
 use crate::ranges::Ranges;
@@ -34,6 +37,34 @@ fn push_common(
     Ok(())
 }
 
+/// The next range behind one that ended at `end`, where the other list has come to a range. Those that
+/// end before that are left out, and nodes and blocks that lie in it are carried over.
+#[inline]
+fn next_meeting(
+    alloc: Global,
+    xs: &mut Ranges<'_>,
+    end: u64,
+    other: (u64, u64),
+    built: &mut ListBuilder,
+) -> Result<Option<(u64, u64)>, AllocError>
+    requires normal { IsNormal xs.old }
+    requires behind { end ≤ next_of xs.old }
+    requires rising { other.0 < other.1 }
+    requires within { other.1 ≤ pixel_count }
+    requires built { IsBuilt built.old.nodes.items built.old.blocks.items built.old.ranges.items }
+    requires after {
+        EndsBelow (max (next_of xs.old) other.0)
+            (kept_of built.old.nodes.items built.old.blocks.items built.old.ranges.items) }
+    ensures { IfOk result (λ next. TakesCommon xs.old (begun next xs.new) other
+        built.old.nodes.items built.new.nodes.items built.old.blocks.items built.new.blocks.items
+        built.old.ranges.items built.new.ranges.items) }
+{
+    if end <= other.0 {
+        return Ok(xs.next_past(other.0));
+    }
+    next_carrying(alloc, xs, other.1 + 1, built)
+}
+
 /// The pixels that the ranges of both lists have.
 pub fn intersect(
     alloc: Global,
@@ -53,11 +84,10 @@ pub fn intersect(
         };
         push_common(alloc, x, y, &mut built)?;
         if x.1 <= y.1 {
-            first = xs.next();
+            first = next_meeting(alloc, &mut xs, x.1, y, &mut built)?;
         } else {
-            second = ys.next();
+            second = next_meeting(alloc, &mut ys, y.1, x, &mut built)?;
         }
     }
     built.finish(alloc)
 }
-

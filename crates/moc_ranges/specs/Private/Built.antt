@@ -1,7 +1,8 @@
 -- A list of ranges in blocks while it grows at its end.
-use Rattle.std.specs.Prelude.{◌≡◌, ℕ, ◌+◌, ◌<◌, ◌≤◌, ◌||◌, List, [], ◌∷◌, ◌++◌, length, ⊤}
+use Rattle.std.specs.Prelude.{◌≡◌, ℕ, ◌+◌, ◌<◌, ◌≤◌, ◌||◌, ◌&&◌, max, List, [], ◌∷◌, ◌++◌, length, ⊤}
 use Rattle.moc_ranges.specs.Pixels.{pixel_count}
 use Rattle.moc_ranges.specs.RangeList.{IsNormal, in_ranges, in_range}
+use Rattle.moc_ranges.specs.Private.Walks.{EndsBy}
 use Rattle.moc_ranges.specs.Private.Blocks.{joining, AreBlocks, next_of}
 
 -- all ranges: those of finished nodes, of blocks that are not yet a node, and those that are not yet a block
@@ -48,6 +49,26 @@ pub record TakesOver (xs xs' : List (ℕ × ℕ)) (limit : ℕ) (nodes nodes' : 
   pub same : (q : ℕ) → in_ranges (kept_of nodes' blocks' ranges') q ≡ (in_ranges (kept_of nodes blocks ranges) q || in_ranges gone q)
   pub can_next : CanJoin nodes' blocks' ranges' (next_of xs')
   pub can_limit : CanJoin nodes' blocks' ranges' limit
+
+-- ranges were taken off a list that all end below a limit, and stand behind what is built
+pub record Carries (xs xs' : List (ℕ × ℕ)) (limit : ℕ) (nodes nodes' : List (List (List (ℕ × ℕ))))
+    (blocks blocks' : List (List (ℕ × ℕ))) (ranges ranges' : List (ℕ × ℕ)) : Type 0 where
+  pub gone : List (ℕ × ℕ)
+  pub parts : xs ≡ gone ++ xs'
+  pub below : EndsBelow limit gone
+  pub built : IsBuilt nodes' blocks' ranges'
+  pub kept : kept_of nodes' blocks' ranges' ≡ kept_of nodes blocks ranges ++ gone
+
+-- ranges were taken off a list that end no later than a range, and what they have in common with it
+-- stands behind what is built
+pub record TakesCommon (xs xs' : List (ℕ × ℕ)) (range : ℕ × ℕ) (nodes nodes' : List (List (List (ℕ × ℕ))))
+    (blocks blocks' : List (List (ℕ × ℕ))) (ranges ranges' : List (ℕ × ℕ)) : Type 0 where
+  pub gone : List (ℕ × ℕ)
+  pub parts : xs ≡ gone ++ xs'
+  pub ended : EndsBy range.1 gone
+  pub built : IsBuilt nodes' blocks' ranges'
+  pub below : EndsBelow (max (next_of xs') range.0) (kept_of nodes' blocks' ranges')
+  pub same : (q : ℕ) → in_ranges (kept_of nodes' blocks' ranges') q ≡ (in_ranges (kept_of nodes blocks ranges) q || (in_ranges gone q && in_range range q))
 
 -- a range was taken off one of two lists, which begins first of both
 pub record IsTurn (xs ys : List (ℕ × ℕ)) (range : ℕ × ℕ) (xs' ys' : List (ℕ × ℕ)) : Type 0 where

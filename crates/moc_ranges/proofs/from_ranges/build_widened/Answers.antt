@@ -1,4 +1,4 @@
-use Rattle.std.proofs.Common.{ℕ, List, ◌∷◌, ap, sym, subst, ◌∙◌, map}
+use Rattle.std.proofs.Common.{◌≡◌, ℕ, List, ◌∷◌, ap, sym, subst, ◌∙◌, map}
 use Rattle.std.proofs.lemmas.Result.{IfOk-weaker}
 use Rattle.moc_ranges.specs.RangeList.{IsNormal}
 use Rattle.moc_ranges.specs.Private.Widen.{widen}
@@ -19,14 +19,17 @@ loop-first-init c =
           (joined_start _ _ _ (map (widen w) c.args.ranges) c.in_ok-built.ensures.nodes c.in_ok-built.ensures.blocks c.in_ok-built.ensures.ranges (size_sorted w c.args.ranges c.requires.size c.requires.ranges));
     }
 
-begun : (c : goal.After-cells_around-from) → IsJoined c.loop-first.built.nodes.items c.loop-first.built.blocks.items c.loop-first.built.ranges.items (c.cells_around-from.result ∷ map (widen c.args.size) c.next.new.self) (map (widen c.args.size) c.args.ranges)
-begun c =
-    let w = c.args.size in
-    let s = subst (λ (rs : List (ℕ × ℕ)). IsJoined c.loop-first.built.nodes.items c.loop-first.built.blocks.items c.loop-first.built.ranges.items (map (widen w) rs) (map (widen w) c.args.ranges)) c.in-Some.ensures.steps c.loop-first.invariant.joined in
-    subst (λ (r : ℕ × ℕ). IsJoined c.loop-first.built.nodes.items c.loop-first.built.blocks.items c.loop-first.built.ranges.items (r ∷ map (widen w) c.next.new.self) (map (widen w) c.args.ranges)) (sym c.cells_around-from.ensures) s
+-- the next range comes widened
+come : (ns : List (List (List (ℕ × ℕ)))) (bs : List (List (ℕ × ℕ))) (rs xs rest whole : List (ℕ × ℕ)) (range wide : ℕ × ℕ) (size : ℕ)
+    → IsJoined ns bs rs (map (widen size) xs) whole → xs ≡ range ∷ rest → wide ≡ widen size range → IsJoined ns bs rs (wide ∷ map (widen size) rest) whole
+come ns bs rs xs rest whole range wide size s steps is =
+    subst (λ (r : ℕ × ℕ). IsJoined ns bs rs (r ∷ map (widen size) rest) whole) (sym is)
+    (subst (λ (l : List (ℕ × ℕ)). IsJoined ns bs rs (map (widen size) l) whole) steps s)
 
 pub join-requires-clause-can : goal.join-requires-clause-can
-join-requires-clause-can c = joined_can _ _ _ (map (widen c.args.size) c.next.new.self) (map (widen c.args.size) c.args.ranges) c.cells_around-from.result (begun c)
+join-requires-clause-can c =
+    joined_can _ _ _ (map (widen c.args.size) c.next.new.self) (map (widen c.args.size) c.args.ranges) c.cells_around-from.result
+    (come _ _ _ _ _ _ _ _ c.args.size c.loop-first.invariant.joined c.in-Some.ensures.steps c.cells_around-from.ensures)
 
 pub loop-first-preserved : goal.loop-first-preserved
 loop-first-preserved c =
@@ -34,7 +37,9 @@ loop-first-preserved c =
     record {
       continues = (tt, tt);
       normal = normal.3;
-      joined = joined_more _ _ _ _ _ _ (map (widen c.args.size) c.next.new.self) (map (widen c.args.size) c.args.ranges) c.cells_around-from.result (begun c) c.in_ok-join.ensures.built c.in_ok-join.ensures.same c.in_ok-join.ensures.can;
+      joined = joined_more _ _ _ _ _ _ (map (widen c.args.size) c.next.new.self) (map (widen c.args.size) c.args.ranges) c.cells_around-from.result
+          (come _ _ _ _ _ _ _ _ c.args.size c.loop-first.invariant.joined c.in-Some.ensures.steps c.cells_around-from.ensures)
+          c.in_ok-join.ensures.built c.in_ok-join.ensures.same c.in_ok-join.ensures.can;
     }
 
 pub returns : goal.returns

@@ -3,18 +3,28 @@ use Rattle.std.proofs.Common.{◌∙◌, ◌≡◌, ◌+◌, ◌<◌, ◌≤◌,
 use Rattle.moc_ranges.specs.Private.Walks.{begun}
 use Rattle.moc_ranges.proofs.Walking.{at_both}
 use Rattle.moc_ranges.proofs.Views.{common_view}
-use Rattle.moc_ranges.proofs.Meeting.{IsMeeting, met_first, met_second, meeting_first, meeting_second}
+use Rattle.moc_ranges.proofs.Meeting.{IsMeeting, met_first, met_second, meeting_kept, meeting_kept_back, meeting_taken, meeting_swap}
 use Rattle.moc_ranges.proofs.intersection.intersect.Goals as goal
+
+pub next_meeting-requires-clause-after : goal.next_meeting-requires-clause-after
+next_meeting-requires-clause-after c =
+    let s = at_both c.loop-first.first c.loop-first.second c.in-Some.x c.in-Some-second.y c.loop-first.xs c.loop-first.ys (λ xs ys. IsMeeting c.loop-first.built.nodes.items c.loop-first.built.blocks.items c.loop-first.built.ranges.items xs ys c.args.xs c.args.ys) c.in-Some.is c.in-Some-second.is c.loop-first.invariant in
+    (meeting_kept _ _ _ _ _ _ _ _ _ _ c.in-Some.x c.in-Some-second.y s (omega arith) c.in_ok-push_common.ensures.built c.in_ok-push_common.ensures.below c.in_ok-push_common.ensures.same).below
+
+pub next_meeting-requires-else-x-y-clause-after : goal.next_meeting-requires-else-x-y-clause-after
+next_meeting-requires-else-x-y-clause-after c =
+    let s = at_both c.loop-first.first c.loop-first.second c.in-Some.x c.in-Some-second.y c.loop-first.xs c.loop-first.ys (λ xs ys. IsMeeting c.loop-first.built.nodes.items c.loop-first.built.blocks.items c.loop-first.built.ranges.items xs ys c.args.xs c.args.ys) c.in-Some.is c.in-Some-second.is c.loop-first.invariant in
+    (meeting_kept_back _ _ _ _ _ _ _ _ _ _ c.in-Some.x c.in-Some-second.y s (omega arith) c.in_ok-push_common.ensures.built c.in_ok-push_common.ensures.below c.in_ok-push_common.ensures.same).below
 
 pub loop-first-preserved-then-x-y : goal.loop-first-preserved-then-x-y
 loop-first-preserved-then-x-y c =
     let s = at_both c.loop-first.first c.loop-first.second c.in-Some.x c.in-Some-second.y c.loop-first.xs c.loop-first.ys (λ xs ys. IsMeeting c.loop-first.built.nodes.items c.loop-first.built.blocks.items c.loop-first.built.ranges.items xs ys c.args.xs c.args.ys) c.in-Some.is c.in-Some-second.is c.loop-first.invariant in
-    meeting_first _ _ _ _ _ _ _ _ _ _ _ _ _ _ s (omega arith) c.in_ok-push_common.ensures.built c.in_ok-push_common.ensures.below c.in_ok-push_common.ensures.same c.next-first-then-x-y.ensures.steps
+    meeting_taken _ _ _ _ _ _ _ _ _ _ _ c.in-Some-second.y (meeting_kept _ _ _ _ _ _ _ _ _ _ c.in-Some.x c.in-Some-second.y s (omega arith) c.in_ok-push_common.ensures.built c.in_ok-push_common.ensures.below c.in_ok-push_common.ensures.same) c.in_ok-first.ensures
 
 pub loop-first-preserved : goal.loop-first-preserved
 loop-first-preserved c =
     let s = at_both c.loop-first.first c.loop-first.second c.in-Some.x c.in-Some-second.y c.loop-first.xs c.loop-first.ys (λ xs ys. IsMeeting c.loop-first.built.nodes.items c.loop-first.built.blocks.items c.loop-first.built.ranges.items xs ys c.args.xs c.args.ys) c.in-Some.is c.in-Some-second.is c.loop-first.invariant in
-    meeting_second _ _ _ _ _ _ _ _ _ _ _ _ _ _ s (omega arith) c.in_ok-push_common.ensures.built c.in_ok-push_common.ensures.below c.in_ok-push_common.ensures.same c.next-second-else-x-y.ensures.steps
+    meeting_swap _ _ _ _ _ _ _ (meeting_taken _ _ _ _ _ _ _ _ _ _ _ c.in-Some.x (meeting_kept_back _ _ _ _ _ _ _ _ _ _ c.in-Some.x c.in-Some-second.y s (omega arith) c.in_ok-push_common.ensures.built c.in_ok-push_common.ensures.below c.in_ok-push_common.ensures.same) c.in_ok-second.ensures)
 
 pub returns-in_default-second : goal.returns-in_default-second
 returns-in_default-second c =

@@ -1,0 +1,8 @@
+use Rattle.std.proofs.Common.{◌∙◌}
+use Rattle.moc_ranges.proofs.Spans.{span_view}
+use Rattle.moc_ranges.proofs.coverage.Coverage.from_cell.Goals as goal
+
+pub returns : goal.returns
+returns c =
+    c.in_ok-of_range.ensures
+    ∙ span_view c.args.cell.order c.args.cell.index c.span-from.result.0 c.span-from.result.1 c.span-from.ensures.pixels c.span-from.ensures.in_range
