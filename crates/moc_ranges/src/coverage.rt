@@ -349,16 +349,17 @@ impl Coverage {
         Ok(build_widened(alloc, order.cell_size(), self.ranges())?)
     }
 
-    /// How many pixels of order 29 two sets have in common. One pass over the ranges of each that
-    /// reach into the extent of the other, found in O(log n + log m), takes no memory.
+    /// How many pixels of order 29 two sets have in common. One pass over both that skips blocks and
+    /// nodes which the next range of the other does not reach or covers: a set of m ranges and one of
+    /// n take O(m log n), and never more than O(n + m). Takes no memory.
     pub fn count_common(&self, other: &Coverage) -> u64
         ensures size { result ≡ set.len (set.intersection self.now other.now) }
     {
         count_both(self.ranges(), other.ranges())
     }
 
-    /// Whether two sets have a pixel in common. One pass up to the first over the ranges of each
-    /// that reach into the extent of the other, found in O(log n + log m), takes no memory.
+    /// Whether two sets have a pixel in common. One pass up to the first over both that skips what
+    /// ends before the next range of the other: O(m log n) and O(n + m). Takes no memory.
     pub fn meets(&self, other: &Coverage) -> bool
         ensures some { result ≡ meets self.now other.now }
     {
@@ -366,8 +367,8 @@ impl Coverage {
     }
 
     /// Whether this set has every pixel of the other. One pass up to the first that it lacks over
-    /// the other and the ranges of this set that reach into its extent, found in O(log n), takes no
-    /// memory.
+    /// both that skips what ends before the next range of the other, or lies in one range of this
+    /// set: O(m log n) and O(n + m). Takes no memory.
     pub fn covers(&self, other: &Coverage) -> bool
         ensures all { result ≡ set.is_subset other.now self.now }
     {
