@@ -16,3 +16,4 @@ pub mod Stored
 pub mod Passing
 pub mod CarriedOver
 pub mod Looking
+pub mod Stepping

@@ -184,11 +184,11 @@ pass_next range s t bs bs' ns m n p e q =
     passes_more range s t (rest_of [] bs' ns) m n p (subst (λ (l : List (ℕ × ℕ)). Passes range l (rest_of [] bs' ns) n) e (pass_in_blocks range bs bs' ns n q))
 
 -- all ranges of the block that was begun, and then blocks
-pub pass_block : (range : ℕ × ℕ) (rs rs' : List (ℕ × ℕ)) (bs bs' : List (List (ℕ × ℕ))) (ns ns' : List (List (List (ℕ × ℕ)))) (m n : ℕ) → Passes range (joined (λ (r : ℕ × ℕ). r ∷ []) rs) (joined (λ (r : ℕ × ℕ). r ∷ []) rs') m → length rs' < 1 → Passes range (rest_of [] bs ns) (rest_of [] bs' ns') n → Passes range (rest_of rs bs ns) (rest_of [] bs' ns') (m + n)
-pass_block range rs rs' bs bs' ns ns' m n p none q =
+pub pass_block : (range : ℕ × ℕ) (rs rs' : List (ℕ × ℕ)) (bs : List (List (ℕ × ℕ))) (ns : List (List (List (ℕ × ℕ)))) (left : List (ℕ × ℕ)) (m n : ℕ) → Passes range (joined (λ (r : ℕ × ℕ). r ∷ []) rs) (joined (λ (r : ℕ × ℕ). r ∷ []) rs') m → length rs' < 1 → Passes range (rest_of [] bs ns) left n → Passes range (rest_of rs bs ns) left (m + n)
+pass_block range rs rs' bs ns left m n p none q =
     let e : rs' ≡ [] = none_there rs' (omega arith) in
     let first = subst (λ (l : List (ℕ × ℕ)). Passes range (rest_of rs bs ns) (rest_of l bs ns) m) e (pass_in_ranges range rs rs' bs ns m p) in
-    passes_more range (rest_of rs bs ns) (rest_of [] bs ns) (rest_of [] bs' ns') m n first q
+    passes_more range (rest_of rs bs ns) (rest_of [] bs ns) left m n first q
 
 -- and then ranges of the next block
 pub pass_begun : (range : ℕ × ℕ) (s : List (ℕ × ℕ)) (block rs : List (ℕ × ℕ)) (bs bs' : List (List (ℕ × ℕ))) (ns : List (List (List (ℕ × ℕ)))) (m n : ℕ) → Passes range s (rest_of [] bs ns) m → rest_of [] bs ns ≡ block ++ rest_of [] bs' ns → Passes range (joined (λ (r : ℕ × ℕ). r ∷ []) block) (joined (λ (r : ℕ × ℕ). r ∷ []) rs) n → Passes range s (rest_of rs bs' ns) (m + n)

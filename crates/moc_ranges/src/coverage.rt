@@ -93,10 +93,9 @@ impl Coverage {
         ensures found { result ≡ set.contains self.now pixel }
         ensures cost { IsSearchOf self.now steps.old steps.new }
     {
-        if self.few.is_empty() {
-            find_block(&self.nodes, pixel, steps)
-        } else {
-            find_range(&self.few, pixel, steps)
+        match &self.few[..] {
+            [] => find_block(&self.nodes, pixel, steps),
+            few => find_range(few, pixel, steps),
         }
     }
 

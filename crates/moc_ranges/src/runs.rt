@@ -185,7 +185,34 @@ pub(crate) struct PassedRanges<'a> {
     pub begun: Begun<'a>,
 }
 
+/// The same as `pass_runs`, over blocks and nodes and the ranges of the first block behind.
+fn pass_behind(ahead: Ahead<'_>, range: (u64, u64)) -> PassedRanges<'_>
+    requires normal { IsNormal (rest_of [] ahead.blocks.now ahead.nodes.now) }
+    requires rising { range.0 ≤ range.1 }
+    ensures { Passes range (rest_of [] ahead.entry.blocks.now ahead.entry.nodes.now) (rest_of result.begun.ranges.now result.begun.ahead.blocks.now result.begun.ahead.nodes.now) result.common }
+{
+    let PassedBlocks { common, ahead } = pass_blocks(ahead, range);
+    let [block, blocks @ ..] = ahead.blocks else {
+        return PassedRanges {
+            common,
+            begun: Begun { ranges: &[], ahead },
+        };
+    };
+    let there = pass_runs(block.ranges(), range);
+    PassedRanges {
+        common: common + there.common,
+        begun: Begun {
+            ranges: there.rest,
+            ahead: Ahead {
+                blocks,
+                nodes: ahead.nodes,
+            },
+        },
+    }
+}
+
 /// The same as `pass_runs`, over the rest of a block that is begun and what is behind it.
+#[inline]
 pub(crate) fn pass_ranges(begun: Begun<'_>, range: (u64, u64)) -> PassedRanges<'_>
     requires normal { IsNormal (rest_of begun.ranges.now begun.ahead.blocks.now begun.ahead.nodes.now) }
     requires rising { range.0 ≤ range.1 }
@@ -201,23 +228,10 @@ pub(crate) fn pass_ranges(begun: Begun<'_>, range: (u64, u64)) -> PassedRanges<'
             },
         };
     };
-    let PassedBlocks { common, ahead } = pass_blocks(begun.ahead, range);
-    let [block, blocks @ ..] = ahead.blocks else {
-        return PassedRanges {
-            common: here.common + common,
-            begun: Begun { ranges: &[], ahead },
-        };
-    };
-    let there = pass_runs(block.ranges(), range);
+    let behind = pass_behind(begun.ahead, range);
     PassedRanges {
-        common: here.common + common + there.common,
-        begun: Begun {
-            ranges: there.rest,
-            ahead: Ahead {
-                blocks,
-                nodes: ahead.nodes,
-            },
-        },
+        common: here.common + behind.common,
+        begun: behind.begun,
     }
 }
 

@@ -6,6 +6,7 @@ ghost use Rattle.moc_ranges.specs.Private.Walks.{IsNextRange, HasNoneFrom};
 use crate::ranges::Ranges;
 
 /// The first range that ends after the limit. O(log n).
+#[inline]
 pub fn first_past(mut ranges: Ranges<'_>, limit: u64) -> Option<(u64, u64)>
     ensures { MatchOption result (HasNoneFrom limit (set_of ranges.entry)) (IsNextRange limit (set_of ranges.entry)) }
 {
