@@ -8,6 +8,7 @@ use Rattle.std.proofs.lemmas.List.{take_more, take-append-drop, take_all, take_m
 use Rattle.std.proofs.Math.ListN.{set}
 use Rattle.std.proofs.lemmas.List.{length-set}
 use Rattle.moc_ranges.specs.Pixels.{pixel_count}
+use Rattle.moc_ranges.specs.Private.Sorted.{IsSortedFrom}
 use Rattle.moc_ranges.specs.RangeList.{IsNormal, BeginsAfter, in_range, in_ranges}
 use Rattle.moc_ranges.specs.Private.Blocks.{joining, first_of, last_of, AreBlocks, NeedsBoth, next_of}
 use Rattle.moc_ranges.specs.Private.Built.{IsBuilt, IsOpen, CanJoin, EndsBelow, BeginsBy, kept_of, first_length, last_length}
@@ -335,3 +336,44 @@ lengthened_same rs i last from to end normal at is longer begins reached filled 
     ∙ ap (λ e. in_ranges (take i rs) q || in_ranges ((last.0, e) ∷ []) q) longer
     ∙ longer_range last.0 last.1 from to q (in_ranges (take i rs) q) begins b ab filled
     ∙ ap (λ x. x || in_range (from, to) q) (sym (in_ranges-append (take i rs) (last ∷ []) q) ∙ ap (λ (l : List (ℕ × ℕ)). in_ranges l q) (sym split))
+
+-- how far ranges are joined behind what is built, of which some are still to come
+pub record IsLengthened (ns : List (List (List (ℕ × ℕ)))) (bs : List (List (ℕ × ℕ))) (rs : List (ℕ × ℕ)) (last : ℕ × ℕ) (rest whole : List (ℕ × ℕ)) : Type 0 where
+  pub opened : IsOpen ns bs rs last
+  pub sorted : IsSortedFrom last.0 rest
+  pub same : (q : ℕ) → (in_ranges (kept_of ns bs rs ++ last ∷ []) q || in_ranges rest q) ≡ in_ranges whole q
+
+pub lengthened_start : (ns : List (List (List (ℕ × ℕ)))) (bs : List (List (ℕ × ℕ))) (rs rest whole : List (ℕ × ℕ)) (last : ℕ × ℕ) → ns ≡ [] → bs ≡ [] → rs ≡ [] → IsSortedFrom 0 whole → whole ≡ last ∷ rest → IsLengthened ns bs rs last rest whole
+lengthened_start ns bs rs rest whole last n b r sorted is =
+    let parts = subst (λ (l : List (ℕ × ℕ)). IsSortedFrom 0 l) is sorted in
+    let start : IsLengthened [] [] [] last rest whole = record {
+      opened = record { built = record { sized = tt; fits = omega arith; normal = tt }; normal = (parts.1, parts.2, tt, tt) };
+      sorted = parts.3;
+      same = λ q. ap (λ b. b || in_ranges rest q) (or_false (in_range last q)) ∙ ap (λ (l : List (ℕ × ℕ)). in_ranges l q) (sym is);
+    } in
+    rw (n, b, r) start
+
+or_behind : (a b c : Bool) → ((a || b) || c) ≡ (a || (b || c))
+or_behind true b c = refl
+or_behind false b c = refl
+
+sorted_less : (low lower : ℕ) (rest : List (ℕ × ℕ)) → lower ≤ low → IsSortedFrom low rest → IsSortedFrom lower rest
+sorted_less low lower [] le s = tt
+sorted_less low lower (pair ∷ rest) le s = (omega arith, s.1, s.2, s.3)
+
+pub lengthened_more : (ns ns' : List (List (List (ℕ × ℕ)))) (bs bs' : List (List (ℕ × ℕ))) (rs rs' rest rest' whole : List (ℕ × ℕ)) (last last' range : ℕ × ℕ) → IsLengthened ns bs rs last rest whole → rest ≡ range ∷ rest' → IsOpen ns' bs' rs' last' → last'.0 ≤ range.0 → ((q : ℕ) → in_ranges (kept_of ns' bs' rs' ++ last' ∷ []) q ≡ (in_ranges (kept_of ns bs rs ++ last ∷ []) q || in_range range q)) → IsLengthened ns' bs' rs' last' rest' whole
+lengthened_more ns ns' bs bs' rs rs' rest rest' whole last last' range s is opened later same = record {
+  opened = opened;
+  sorted = sorted_less range.0 last'.0 rest' later (subst (λ (l : List (ℕ × ℕ)). IsSortedFrom last.0 l) is s.sorted).3;
+  same = λ q. ap (λ b. b || in_ranges rest' q) (same q)
+    ∙ or_behind (in_ranges (kept_of ns bs rs ++ last ∷ []) q) (in_range range q) (in_ranges rest' q)
+    ∙ ap (λ (l : List (ℕ × ℕ)). in_ranges (kept_of ns bs rs ++ last ∷ []) q || in_ranges l q) (sym is) ∙ s.same q;
+}
+
+pub lengthened_next : (last range : ℕ × ℕ) (rest rest' : List (ℕ × ℕ)) → IsSortedFrom last.0 rest → rest ≡ range ∷ rest' → (last.0 ≤ range.0) × (range.0 < range.1) × (range.1 ≤ pixel_count)
+lengthened_next last range rest rest' sorted is = let p = subst (λ (l : List (ℕ × ℕ)). IsSortedFrom last.0 l) is sorted in (p.0, p.1, p.2)
+
+pub lengthened_all : (ns : List (List (List (ℕ × ℕ)))) (bs : List (List (ℕ × ℕ))) (rs rest whole kept : List (ℕ × ℕ)) (last : ℕ × ℕ) → IsLengthened ns bs rs last rest whole → rest ≡ [] → kept ≡ kept_of ns bs rs ++ last ∷ [] → (q : ℕ) → in_ranges kept q ≡ in_ranges whole q
+lengthened_all ns bs rs rest whole kept last s none is q =
+    ap (λ (l : List (ℕ × ℕ)). in_ranges l q) is ∙ sym (or_false (in_ranges (kept_of ns bs rs ++ last ∷ []) q))
+    ∙ ap (λ (l : List (ℕ × ℕ)). in_ranges (kept_of ns bs rs ++ last ∷ []) q || in_ranges l q) (sym none) ∙ s.same q

@@ -64,19 +64,6 @@ pub record IsLacking (ns : List (List (List (ℕ × ℕ)))) (bs : List (List (�
   pub below : EndsBelow (next_of xs) (kept_of ns bs rs)
   pub same : (q : ℕ) → (in_ranges (kept_of ns bs rs) q || (in_ranges xs q && not (in_ranges ys q))) ≡ (in_ranges whole_xs q && not (in_ranges whole_ys q))
 
-pub lacking_start : (ns : List (List (List (ℕ × ℕ)))) (bs : List (List (ℕ × ℕ))) (rs xs ys t u : List (ℕ × ℕ)) (r s : Option (ℕ × ℕ)) → ns ≡ [] → bs ≡ [] → rs ≡ [] → IsNormal xs → IsNormal ys → Steps xs r t → Steps ys s u → IsLacking ns bs rs (begun r t) (begun s u) xs ys
-lacking_start ns bs rs xs ys t u r s n b e nx ny rt su =
-    let bx = begun_is xs r t rt in
-    let by = begun_is ys s u su in
-    let start : IsLacking [] [] [] xs ys xs ys = record {
-      built = record { sized = tt; fits = omega arith; normal = tt };
-      first_normal = nx; second_normal = ny;
-      below = tt;
-      same = λ q. refl;
-    } in
-    subst (λ (l : List (ℕ × ℕ)). IsLacking ns bs rs l (begun s u) xs ys) (sym bx)
-    (subst (λ (l : List (ℕ × ℕ)). IsLacking ns bs rs xs l xs ys) (sym by) (rw (n, b, e) start))
-
 pub lacking_begin : (ns : List (List (List (ℕ × ℕ)))) (bs : List (List (ℕ × ℕ))) (rs xs ys u : List (ℕ × ℕ)) (s : Option (ℕ × ℕ)) → ns ≡ [] → bs ≡ [] → rs ≡ [] → IsNormal xs → IsNormal ys → Steps ys s u → IsLacking ns bs rs xs (begun s u) xs ys
 lacking_begin ns bs rs xs ys u s n b e nx ny su =
     let by = begun_is ys s u su in
@@ -87,40 +74,6 @@ lacking_begin ns bs rs xs ys u s n b e nx ny su =
       same = λ q. refl;
     } in
     subst (λ (l : List (ℕ × ℕ)). IsLacking ns bs rs xs l xs ys) (sym by) (rw (n, b, e) start)
-
--- the second list has no more
-pub lacking_whole : (ns ns' : List (List (List (ℕ × ℕ)))) (bs bs' : List (List (ℕ × ℕ))) (rs rs' xs ys t whole_xs whole_ys : List (ℕ × ℕ)) (x : ℕ × ℕ) (s r : Option (ℕ × ℕ)) → IsLacking ns bs rs (x ∷ xs) (begun s ys) whole_xs whole_ys → s ≡ None → IsBuilt ns' bs' rs' → ((f : ℕ) → x.0 ≤ f → x.1 < f → EndsBelow f (kept_of ns' bs' rs')) → ((q : ℕ) → in_ranges (kept_of ns' bs' rs') q ≡ (in_ranges (kept_of ns bs rs) q || in_range (x.0, x.1) q)) → Steps xs r t → IsLacking ns' bs' rs' (begun r t) (begun s ys) whole_xs whole_ys
-lacking_whole ns ns' bs bs' rs rs' xs ys t whole_xs whole_ys x s r l none built below same e =
-    let b = begun_is xs r t e in
-    let next : x.1 < next_of xs = (ends_next (x ∷ []) xs l.first_normal).0 in
-    let filled : x.0 < x.1 = l.first_normal.0 in
-    let empty : begun s ys ≡ [] = ap (λ o. begun o ys) none in
-    subst (λ (k : List (ℕ × ℕ)). IsLacking ns' bs' rs' k (begun s ys) whole_xs whole_ys) (sym b) (record {
-      built = built;
-      first_normal = l.first_normal.3;
-      second_normal = l.second_normal;
-      below = below (next_of xs) (omega arith) next;
-      same = λ q. ap (λ k. k || (in_ranges xs q && not (in_ranges (begun s ys) q))) (same q)
-        ∙ or_first (in_ranges (kept_of ns bs rs) q) (in_range (x.0, x.1) q) (in_ranges xs q && not (in_ranges (begun s ys) q))
-        ∙ ap (λ k. in_ranges (kept_of ns bs rs) q || k)
-          (ap (λ (m : List (ℕ × ℕ)). in_range (x.0, x.1) q || (in_ranges xs q && not (in_ranges m q))) empty
-          ∙ sym (whole (in_range x q) (in_ranges xs q))
-          ∙ ap (λ (m : List (ℕ × ℕ)). in_ranges (x ∷ xs) q && not (in_ranges m q)) (sym empty))
-        ∙ l.same q;
-    })
-
-pub lacking_past : (ns : List (List (List (ℕ × ℕ)))) (bs : List (List (ℕ × ℕ))) (rs xs ys t whole_xs whole_ys : List (ℕ × ℕ)) (x y : ℕ × ℕ) (f r : Option (ℕ × ℕ)) → IsLacking ns bs rs (x ∷ xs) (y ∷ ys) whole_xs whole_ys → f ≡ Some x → y.1 ≤ x.0 → Steps ys r t → IsLacking ns bs rs (begun f xs) (begun r t) whole_xs whole_ys
-lacking_past ns bs rs xs ys t whole_xs whole_ys x y f r l is le e =
-    let b = begun_is ys r t e in
-    let c : begun f xs ≡ x ∷ xs = ap (λ o. begun o xs) is in
-    subst (λ (k : List (ℕ × ℕ)). IsLacking ns bs rs k (begun r t) whole_xs whole_ys) (sym c)
-    (subst (λ (k : List (ℕ × ℕ)). IsLacking ns bs rs (x ∷ xs) k whole_xs whole_ys) (sym b) (record {
-      built = l.built;
-      first_normal = l.first_normal;
-      second_normal = l.second_normal.3;
-      below = l.below;
-      same = λ q. ap (λ k. in_ranges (kept_of ns bs rs) q || k) (sym (past x y xs ys q l.first_normal le)) ∙ l.same q;
-    }))
 
 pub lacking_trim : (ns ns' : List (List (List (ℕ × ℕ)))) (bs bs' : List (List (ℕ × ℕ))) (rs rs' xs ys t whole_xs whole_ys : List (ℕ × ℕ)) (x y : ℕ × ℕ) (to : ℕ) (r : Option (ℕ × ℕ)) → IsLacking ns bs rs (x ∷ xs) (y ∷ ys) whole_xs whole_ys → x.0 < y.1 → y.1 < x.1 → to ≡ min x.1 y.0 → IsBuilt ns' bs' rs' → ((f : ℕ) → x.0 ≤ f → to < f → EndsBelow f (kept_of ns' bs' rs')) → ((q : ℕ) → in_ranges (kept_of ns' bs' rs') q ≡ (in_ranges (kept_of ns bs rs) q || in_range (x.0, to) q)) → Steps ys r t → IsLacking ns' bs' rs' ((y.1, x.1) ∷ xs) (begun r t) whole_xs whole_ys
 lacking_trim ns ns' bs bs' rs rs' xs ys t whole_xs whole_ys x y to r l reach ends is built below same e =
@@ -136,24 +89,6 @@ lacking_trim ns ns' bs bs' rs rs' xs ys t whole_xs whole_ys x y to r l reach end
         ∙ ap (λ k. in_ranges (kept_of ns bs rs) q || k) (sym (trim x y xs ys to q l.first_normal l.second_normal reach ends is))
         ∙ l.same q;
     })
-
-pub lacking_gone : (ns ns' : List (List (List (ℕ × ℕ)))) (bs bs' : List (List (ℕ × ℕ))) (rs rs' xs ys t whole_xs whole_ys : List (ℕ × ℕ)) (x y : ℕ × ℕ) (to : ℕ) (s r : Option (ℕ × ℕ)) → IsLacking ns bs rs (x ∷ xs) (y ∷ ys) whole_xs whole_ys → s ≡ Some y → x.1 ≤ y.1 → to ≡ min x.1 y.0 → IsBuilt ns' bs' rs' → ((f : ℕ) → x.0 ≤ f → to < f → EndsBelow f (kept_of ns' bs' rs')) → ((q : ℕ) → in_ranges (kept_of ns' bs' rs') q ≡ (in_ranges (kept_of ns bs rs) q || in_range (x.0, to) q)) → Steps xs r t → IsLacking ns' bs' rs' (begun r t) (begun s ys) whole_xs whole_ys
-lacking_gone ns ns' bs bs' rs rs' xs ys t whole_xs whole_ys x y to s r l at ends is built below same e =
-    let b = begun_is xs r t e in
-    let c : begun s ys ≡ y ∷ ys = ap (λ o. begun o ys) at in
-    let next : x.1 < next_of xs = (ends_next (x ∷ []) xs l.first_normal).0 in
-    let filled : x.0 < x.1 = l.first_normal.0 in
-    subst (λ (k : List (ℕ × ℕ)). IsLacking ns' bs' rs' (begun r t) k whole_xs whole_ys) (sym c)
-    (subst (λ (k : List (ℕ × ℕ)). IsLacking ns' bs' rs' k (y ∷ ys) whole_xs whole_ys) (sym b) (record {
-      built = built;
-      first_normal = l.first_normal.3;
-      second_normal = l.second_normal;
-      below = below (next_of xs) (omega arith) (omega (arith, is));
-      same = λ q. ap (λ k. k || (in_ranges xs q && not (in_ranges (y ∷ ys) q))) (same q)
-        ∙ or_first (in_ranges (kept_of ns bs rs) q) (in_range (x.0, to) q) (in_ranges xs q && not (in_ranges (y ∷ ys) q))
-        ∙ ap (λ k. in_ranges (kept_of ns bs rs) q || k) (sym (gone x y xs ys to q l.first_normal l.second_normal ends is))
-        ∙ l.same q;
-    }))
 
 range_from : (r : ℕ × ℕ) (q : ℕ) → in_range r q ≡ true → (r.0 ≤ q) × (q < r.1)
 range_from r q e = let parts = and_parts (nat_le r.0 q) (nat_lt q r.1) e in (leb-true r.0 q parts.0, ltb-true q r.1 parts.1)

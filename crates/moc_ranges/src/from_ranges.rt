@@ -11,7 +11,7 @@ ghost use Rattle.moc_ranges.specs.Private.Widen.{IsCellSize, widen};
 
 use crate::coverage::{Coverage, PIXEL_COUNT};
 use crate::errors::RangesError;
-use crate::list_builder::{ListBuilder, end_below};
+use crate::list_builder::{ListBuilder, end_below, lengthen};
 use crate::ranges::Ranges;
 use std::alloc::{AllocError, Global};
 
@@ -60,9 +60,14 @@ pub fn build(alloc: Global, pairs: &[(u64, u64)]) -> Result<Coverage, AllocError
     ensures { IfOk result (λ c. c ≡ set_of pairs.now) }
 {
     let mut built = ListBuilder::new(alloc, pairs.len())?;
-    for pair in pairs {
-        built.join(alloc, pair.0, pair.1)?;
+    let [first, others @ ..] = pairs else {
+        return built.finish(alloc);
+    };
+    let mut last = *first;
+    for pair in others {
+        last = lengthen(alloc, last, *pair, &mut built)?;
     }
+    built.push(alloc, last.0, last.1)?;
     built.finish(alloc)
 }
 
@@ -126,16 +131,21 @@ fn cells_around(size: u64, from: u64, to: u64) -> (u64, u64)
 pub fn build_widened(
     alloc: Global,
     size: u64,
-    ranges: Ranges<'_>,
+    mut ranges: Ranges<'_>,
 ) -> Result<Coverage, AllocError>
     requires size { IsCellSize size }
     requires ranges { IsNormal ranges }
     ensures { IfOk result (λ c. c ≡ set_of (map (widen size) ranges.entry)) }
 {
     let mut built = ListBuilder::new(alloc, ranges.room())?;
-    for (first, last) in ranges {
-        let (from, to) = cells_around(size, first, last);
-        built.join(alloc, from, to)?;
+    let Some((from, to)) = ranges.next() else {
+        return built.finish(alloc);
+    };
+    let mut last = cells_around(size, from, to);
+    for (from, to) in ranges {
+        let next = cells_around(size, from, to);
+        last = lengthen(alloc, last, next, &mut built)?;
     }
+    built.push(alloc, last.0, last.1)?;
     built.finish(alloc)
 }

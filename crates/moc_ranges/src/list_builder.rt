@@ -4,7 +4,7 @@ ghost use Rattle.std.specs.Bool.{OnTrue, OnFalse};
 ghost use Rattle.moc_ranges.specs.Pixels.{pixel_count};
 ghost use Rattle.moc_ranges.specs.RangeList.{IsNormal, in_ranges, in_range, set_of};
 ghost use Rattle.moc_ranges.specs.Private.Blocks.{joining, AreBlocks, last_of};
-ghost use Rattle.moc_ranges.specs.Private.Built.{IsBuilt, kept_of, first_length, last_length, EndsBelow, CanJoin};
+ghost use Rattle.moc_ranges.specs.Private.Built.{IsBuilt, IsOpen, kept_of, first_length, last_length, EndsBelow, CanJoin};
 
 use crate::block::{Block, LONGEST};
 use crate::coverage::Coverage;
@@ -283,6 +283,29 @@ impl ListBuilder {
         let ListBuilder { nodes, .. } = self;
         Ok(Coverage::from_stored(Vec::new(alloc), nodes))
     }
+}
+
+/// Joins a range to an open one behind what is built, or adds that and opens this.
+#[inline]
+pub fn lengthen(
+    alloc: Global,
+    last: (u64, u64),
+    range: (u64, u64),
+    built: &mut ListBuilder,
+) -> Result<(u64, u64), AllocError>
+    requires opened { IsOpen built.old.nodes.items built.old.blocks.items built.old.ranges.items last }
+    requires filled { range.0 < range.1 }
+    requires within { range.1 ≤ pixel_count }
+    requires later { last.0 ≤ range.0 }
+    ensures opened { IfOk result (λ o. IsOpen built.new.nodes.items built.new.blocks.items built.new.ranges.items o) }
+    ensures later { IfOk result (λ o. o.0 ≤ range.0) }
+    ensures same { IfOk result (λ o. (q : ℕ) → in_ranges (kept_of built.new.nodes.items built.new.blocks.items built.new.ranges.items ++ o ∷ []) q ≡ (in_ranges (kept_of built.old.nodes.items built.old.blocks.items built.old.ranges.items ++ last ∷ []) q || in_range range q)) }
+{
+    if range.0 <= last.1 {
+        return Ok((last.0, last.1.max(range.1)));
+    }
+    built.push(alloc, last.0, last.1)?;
+    Ok(range)
 }
 
 /// The same ranges. Room that they leave free is given back where it is more than they fill.

@@ -7,7 +7,7 @@ ghost use Rattle.moc_ranges.specs.Private.Blocks.{next_of, rest_of};
 ghost use Rattle.moc_ranges.specs.Private.Built.{kept_of, IsBuilt, EndsBelow, CanJoin, TakesOver, IsTurn, IsOpen, IsJoining, TakesBoth};
 
 use crate::coverage::Coverage;
-use crate::list_builder::ListBuilder;
+use crate::list_builder::{ListBuilder, lengthen};
 use crate::ranges::{Begun, Ranges};
 use std::alloc::{AllocError, Global};
 
@@ -119,29 +119,6 @@ fn next_turn<'a, 'b>(xs: &'a [(u64, u64)], ys: &'b [(u64, u64)]) -> Option<Turn<
             ys: more_ys,
         })
     }
-}
-
-/// Joins a range to an open one behind what is built, or adds that and opens this.
-#[inline]
-fn lengthen(
-    alloc: Global,
-    last: (u64, u64),
-    range: (u64, u64),
-    built: &mut ListBuilder,
-) -> Result<(u64, u64), AllocError>
-    requires opened { IsOpen built.old.nodes.items built.old.blocks.items built.old.ranges.items last }
-    requires filled { range.0 < range.1 }
-    requires within { range.1 ≤ pixel_count }
-    requires later { last.0 ≤ range.0 }
-    ensures opened { IfOk result (λ o. IsOpen built.new.nodes.items built.new.blocks.items built.new.ranges.items o) }
-    ensures later { IfOk result (λ o. o.0 ≤ range.0) }
-    ensures same { IfOk result (λ o. (q : ℕ) → in_ranges (kept_of built.new.nodes.items built.new.blocks.items built.new.ranges.items ++ o ∷ []) q ≡ (in_ranges (kept_of built.old.nodes.items built.old.blocks.items built.old.ranges.items ++ last ∷ []) q || in_range range q)) }
-{
-    if range.0 <= last.1 {
-        return Ok((last.0, last.1.max(range.1)));
-    }
-    built.push(alloc, last.0, last.1)?;
-    Ok(range)
 }
 
 /// What is left of two begun blocks, and the range that is open.

@@ -1,7 +1,7 @@
 use Rattle.std.proofs.Common.{◌≡◌, ◌+◌, ◌<◌, ◌≤◌, ◌||◌, ◌++◌, ◌∷◌, [], List, ℕ, length, arith, sym, ap}
 use Rattle.moc_ranges.specs.Private.Built.{kept_of, IsOpen}
 use Rattle.moc_ranges.proofs.Building.{open_longer, open_longer-same, open_filled, open_within, open_after, open_next, open_next-same}
-use Rattle.moc_ranges.proofs.union.lengthen.Goals as goal
+use Rattle.moc_ranges.proofs.list_builder.lengthen.Goals as goal
 
 pub returns-then-range-last-clause-opened : goal.returns-then-range-last-clause-opened
 returns-then-range-last-clause-opened c = open_longer _ _ _ c.args.last c.args.range.1 _ c.requires.opened c.requires.within c.max.ensures
