@@ -11,6 +11,7 @@ use Rattle.moc_ranges.specs.Cells.{span, spans, contains-spans}
 use Rattle.std.specs.Option.{option_or}
 use Rattle.moc_ranges.specs.Faults.{first_fault_from, pair_fault}
 use Rattle.moc_ranges.specs.RangeList.{set_of, contains-set_of}
+use Rattle.moc_ranges.specs.Private.Gathered.{gathered}
 use Rattle.moc_ranges.specs.Laws.{empty-union, union-empty, union-assoc, row_of_cells}
 use Rattle.moc_ranges.proofs.Sorting.{in_ranges-push, no_fault_parts}
 use Rattle.moc_ranges.proofs.Spans.{span_view}
@@ -51,6 +52,24 @@ set_of-push ranges range = same_members _ _ (λ q.
     contains-set_of (ranges ++ range ∷ []) q ∙ in_ranges-push ranges range q
     ∙ (λ i. sym (contains-set_of ranges q) i || sym (contains-numbers range.0 range.1 q) i)
     ∙ sym (in_union (set_of ranges) (numbers range.0 range.1) q))
+
+-- nothing is gathered yet, or all of it is joined
+pub gathered_joined : (joined : NumberSet) (rising waiting : List (ℕ × ℕ)) → rising ≡ [] → waiting ≡ [] → gathered joined rising waiting ≡ joined
+gathered_joined joined rising waiting none_rose none_wait =
+    (λ i. gathered joined (none_rose i) (none_wait i)) ∙ none_waits (set.union joined (set_of [])) ∙ none_waits joined
+
+-- all of it rose
+pub gathered_rising : (joined : NumberSet) (rising waiting : List (ℕ × ℕ)) → joined ≡ set.empty → length waiting ≡ 0 → gathered joined rising waiting ≡ set_of rising
+gathered_rising joined rising waiting none none_wait =
+    sym (none_waits-length (set.union joined (set_of rising)) waiting none_wait)
+    ∙ ap (λ (a : NumberSet). set.union a (set_of rising)) none ∙ empty-union (set_of rising)
+
+-- a range more rose
+pub gathered_risen : (joined : NumberSet) (rising rising' waiting : List (ℕ × ℕ)) (added : NumberSet) → set_of rising' ≡ set.union (set_of rising) added → gathered joined rising' waiting ≡ set.union (gathered joined rising waiting) added
+gathered_risen joined rising rising' waiting added is =
+    ap (λ (a : NumberSet). set.union (set.union joined a) (set_of waiting)) is
+    ∙ ap (λ (a : NumberSet). set.union a (set_of waiting)) (sym (union-assoc joined (set_of rising) added))
+    ∙ joined_more (set.union joined (set_of rising)) (set_of waiting) added
 
 -- a range more waits
 pub waits_more : (joined : NumberSet) (waiting : List (ℕ × ℕ)) (range : ℕ × ℕ) → set.union joined (set_of (waiting ++ range ∷ [])) ≡ set.union (set.union joined (set_of waiting)) (numbers range.0 range.1)

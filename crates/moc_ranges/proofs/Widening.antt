@@ -8,8 +8,7 @@ use Rattle.moc_sphere.specs.CellNumber.{cell_size, cell_size-positive, cell_size
 use Rattle.moc_ranges.specs.Numbers.{NumberSet}
 use Rattle.moc_ranges.specs.Operations.{meets-some, meets-none}
 use Rattle.moc_ranges.specs.Cells.{span, degrade, contains-span, contains-degrade}
-use Rattle.moc_ranges.specs.Private.Joining.{Joining}
-use Rattle.moc_ranges.proofs.Joining.{joining_start, IsSortedFrom-less}
+use Rattle.moc_ranges.proofs.Sorting.{IsSortedFrom-less}
 use Rattle.std.proofs.lemmas.Bool.{cases_Bool, false≢true, false_from_ne_true, eqb-true, eq-eqb, or_cases, or_left, or_right, and_parts, and_from, leb-true, ltb-true, le-leb, lt-ltb}
 use Rattle.moc_ranges.specs.Pixels.{pixel_count}
 use Rattle.moc_ranges.specs.Private.Sorted.{IsSortedFrom}
@@ -176,9 +175,5 @@ wide_room size p is lt =
     let room : (p / size + 1) * size ≤ 12 * 4 ^ order * size = mul-le-mul_right size (omega arith) in
     omega arith
 
-size_sorted : (size : ℕ) (rs : List (ℕ × ℕ)) → IsCellSize size → IsNormal rs → IsSortedFrom 0 (map (widen size) rs)
+pub size_sorted : (size : ℕ) (rs : List (ℕ × ℕ)) → IsCellSize size → IsNormal rs → IsSortedFrom 0 (map (widen size) rs)
 size_sorted size rs is normal = subst (λ (w : ℕ). IsSortedFrom 0 (map (widen w) rs)) (sym is.is) (widened_sorted is.order rs is.order_in_range normal)
-
--- the first widened range is open
-pub cells_start : (size : ℕ) (range : ℕ × ℕ) (rest rs : List (ℕ × ℕ)) → IsCellSize size → IsNormal rs → rs ≡ range ∷ rest → Joining [] (widen size range).0 (widen size range).1 (map (widen size) rest) (map (widen size) rs)
-cells_start size range rest rs is normal e = joining_start (widen size range) (map (widen size) rest) (map (widen size) rs) (ap (map (widen size)) e) (size_sorted size rs is normal)

@@ -1,7 +1,8 @@
 -- What serves the contracts of private functions alone.
-pub mod Bounds
-pub mod Sweep
-pub mod Joining
 pub mod Sorted
 pub mod Widen
 pub mod CellRuns
+pub mod Blocks
+pub mod Built
+pub mod Walks
+pub mod Gathered

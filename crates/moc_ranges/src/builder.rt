@@ -8,6 +8,7 @@ ghost use Rattle.moc_ranges.specs.Pixels.{pixel_count};
 
 use crate::coverage::Coverage;
 use crate::errors::Memory;
+use crate::from_ranges::{append, build};
 use moc_sphere::{Cell, Order};
 use std::alloc::Global;
 use std::marker::Model;
@@ -23,24 +24,24 @@ const FEWEST_WAITING: usize = 512;
 #[derive(Debug, Drop)]
 pub struct CoverageBuilder {
     joined: Coverage,
+    /// Ranges that rise and do not touch.
+    rising: Vec<(u64, u64)>,
     waiting: Vec<(u64, u64)>,
 }
 
 impl Model for CoverageBuilder {
-    ghost use Rattle.std.specs.Prelude.{◌≡◌, None};
     ghost use Rattle.std.specs.Ordering.{nat_cmp};
     ghost use Rattle.std.specs.FinSet as set;
     ghost use Rattle.std.specs.Coded.{coded_ℕ};
-    ghost use Rattle.moc_ranges.specs.Faults.{first_fault};
-    ghost use Rattle.moc_ranges.specs.RangeList.{set_of};
+    ghost use Rattle.moc_ranges.specs.Private.Gathered.{IsGathered, gathered};
 
     ghost Value = { set.FinSet nat_cmp };
 
     ghost coded = { set.code coded_ℕ };
 
-    ghost view = { λ b. set.union b.joined (set_of b.waiting.items) };
+    ghost view = { λ b. gathered b.joined b.rising.items b.waiting.items };
 
-    ghost invariant = { λ b. first_fault b.waiting.items ≡ None };
+    ghost invariant = { λ b. IsGathered b.rising.items b.waiting.items };
 }
 
 impl CoverageBuilder {
@@ -50,6 +51,7 @@ impl CoverageBuilder {
     {
         Self {
             joined: Coverage::empty(alloc),
+            rising: Vec::new(alloc),
             waiting: Vec::new(alloc),
         }
     }
@@ -83,8 +85,8 @@ impl CoverageBuilder {
     pub fn build(self, alloc: Global) -> Result<Coverage, Memory>
         ensures { IfOk result (λ c. c ≡ self) }
     {
-        if self.waiting.is_empty() {
-            return Ok(self.joined);
+        if self.waiting.is_empty() && self.joined.is_empty() {
+            return Ok(Coverage::from_normal(alloc, self.rising)?);
         }
         self.all_gathered(alloc)
     }
@@ -97,7 +99,7 @@ impl CoverageBuilder {
         ensures added { OnOk result (self.new ≡ set.union self.old (numbers from to)) }
         ensures kept { OnErr result (self.new ≡ self.old) }
     {
-        if self.joined.append(from, to)? {
+        if append(&mut self.rising, from, to)? {
             return Ok(());
         }
         self.add_waiting(from, to)
@@ -111,7 +113,7 @@ impl CoverageBuilder {
         ensures added { OnOk result (self.new ≡ set.union self.old (numbers from to)) }
         ensures kept { OnErr result (self.new ≡ self.old) }
     {
-        if self.waiting.len() >= self.joined.range_count().max(FEWEST_WAITING) {
+        if self.waiting.len() >= self.limit() {
             self.join_waiting()?;
         }
         self.waiting.push((from, to))?;
@@ -124,15 +126,25 @@ impl CoverageBuilder {
     {
         let alloc = *self.waiting.allocator();
         self.joined = self.all_gathered(alloc)?;
+        self.rising.clear();
         self.waiting.clear();
         Ok(())
+    }
+
+    /// How many ranges may wait.
+    fn limit(&self) -> usize {
+        self.rising
+            .len()
+            .max(self.joined.range_count())
+            .max(FEWEST_WAITING)
     }
 
     /// What is joined and what waits, as one coverage.
     fn all_gathered(&self, alloc: Global) -> Result<Coverage, Memory>
         ensures { IfOk result (λ c. c ≡ self.now) }
     {
+        let risen = build(alloc, &self.rising)?;
         let waited = Coverage::from_faultless(alloc, &self.waiting)?;
-        self.joined.union(alloc, &waited)
+        self.joined.union(alloc, &risen)?.union(alloc, &waited)
     }
 }

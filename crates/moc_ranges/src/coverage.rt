@@ -1,5 +1,5 @@
 //! Sets of pixels, and the operations on them.
-ghost use Rattle.std.specs.Prelude.{◌≡◌, ◌+◌, ◌<◌, ◌≤◌, ◌↔◌, nat_lt, IsTrue, true, if◌then◌else◌, IfOk, IfErr, OnOk, OnErr, IfSome, MatchOption, ℕ, None, unwrap_or};
+ghost use Rattle.std.specs.Prelude.{◌≡◌, [], ◌∷◌, ℕ, true, IfSome, MatchOption, ◌+◌, ◌<◌, ◌≤◌, ◌↔◌, nat_lt, IsTrue, if◌then◌else◌, IfOk, IfErr, OnOk, OnErr, None, unwrap_or};
 ghost use Rattle.moc_ranges.specs.Faults.{first_fault};
 ghost use Rattle.std.specs.Cmp.{partial_equiv_from_equiv};
 ghost use Rattle.std.specs.FinSet as set;
@@ -8,16 +8,23 @@ ghost use Rattle.moc_ranges.specs.Operations.{symmetric, complement, part_of, me
 ghost use Rattle.moc_ranges.specs.Pixels.{pixel_count, pixels};
 ghost use Rattle.moc_ranges.specs.Cells.{cells_of, degrade, span};
 ghost use Rattle.moc_ranges.specs.Numbers.{numbers};
-ghost use Rattle.moc_ranges.specs.Private.Bounds.{IsBounds, pairs_of};
-ghost use Rattle.moc_ranges.specs.Private.Sweep.{IsCombined};
+ghost use Rattle.moc_ranges.specs.Blocks.{joining, AreBlocks, IsSearchOf};
+ghost use Rattle.moc_ranges.specs.Private.Blocks.{IsStored, rest_of};
 
+use crate::block::{LONGEST, measure_ranges};
 use crate::cells::{orders_with_cells, push_cells_of_order};
+use crate::chunks::Chunks;
+use crate::difference::subtract;
 use crate::errors::{Memory, RangesError};
-use crate::from_ranges::{
-    append, bounds_of_cells, bounds_of_union, filled_by_start, refuse_faulty,
-};
+use crate::from_ranges::{build, build_widened, filled_by_start, refuse_faulty};
+use crate::intersection::intersect;
+use crate::list_builder::trimmed;
+use crate::node::{Node, measure_nodes, share_nodes};
 use crate::ranges::Ranges;
-use crate::sweep::{Rule, count_both, cut, keeps_some, reaching, sweep};
+use crate::search::first_past;
+use crate::steps::{Steps, find_block, find_range};
+use crate::union::unite;
+use crate::walks::{are_same, count_both, holds_all, share_some};
 use moc_sphere::{Cell, Order};
 use std::alloc::{AllocError, Global};
 use std::marker::Model;
@@ -30,28 +37,32 @@ const BASE_PIXEL_SIZE: u64 = 288230376151711744;
 
 /// A set of pixels of order 29, by their nested numbers: a coverage of MOC 2.0.
 ///
-/// It holds the ends of its ranges in rising order, from, to, from, to .., 16 bytes a range. Every
-/// set has one such list, so equal sets are stored alike. Below, n and m are the numbers of ranges
-/// of the sets that a call takes.
+/// It holds its ranges (from, to) in rising order, none touching the next: up to 128 in one list,
+/// and more in blocks of 1 to 128, of which two side by side have together more than 128. Up to 64
+/// blocks make a node. Copies and results share the blocks that they have in common. Below, n and m
+/// are the numbers of ranges of the sets that a call takes.
 #[derive(Debug, Drop)]
 pub struct Coverage {
-    bounds: Vec<u64>,
+    /// The ranges of a set that has no nodes.
+    few: Vec<(u64, u64)>,
+    nodes: Vec<Node>,
 }
 
 impl Model for Coverage {
     ghost use Rattle.std.specs.Ordering.{nat_cmp};
     ghost use Rattle.std.specs.FinSet as set;
     ghost use Rattle.std.specs.Coded.{coded_ℕ};
+    ghost use Rattle.std.specs.Prelude.{[]};
     ghost use Rattle.moc_ranges.specs.RangeList.{set_of};
-    ghost use Rattle.moc_ranges.specs.Private.Bounds.{IsBounds, pairs_of};
+    ghost use Rattle.moc_ranges.specs.Private.Blocks.{IsStored, rest_of};
 
     ghost Value = { set.FinSet nat_cmp };
 
     ghost coded = { set.code coded_ℕ };
 
-    ghost view = { λ c. set_of (pairs_of c.bounds.items) };
+    ghost view = { λ c. set_of (rest_of c.few.items [] c.nodes.items) };
 
-    ghost invariant = { λ c. IsBounds c.bounds.items };
+    ghost invariant = { λ c. IsStored c.few.items c.nodes.items };
 }
 
 impl Coverage {
@@ -60,7 +71,8 @@ impl Coverage {
         ensures { result ≡ set.empty }
     {
         Self {
-            bounds: Vec::new(alloc),
+            few: Vec::new(alloc),
+            nodes: Vec::new(alloc),
         }
     }
 
@@ -68,7 +80,33 @@ impl Coverage {
     pub fn contains(&self, pixel: u64) -> bool
         ensures { result ≡ set.contains self.now pixel }
     {
-        self.bounds.partition_point(|bound| *bound <= pixel) % 2 == 1
+        match first_past(self.ranges(), pixel) {
+            Some((from, _)) => from <= pixel,
+            None => false,
+        }
+    }
+
+    /// The same as `contains`, and counts each comparison of the pixel with the bounds of a range or
+    /// a chunk: at most the binary digits of the number of chunks, and 8.
+    pub fn contains_counting(&self, pixel: u64, steps: &mut Steps) -> bool
+        requires { steps.old < 9223372036854775808 }
+        ensures found { result ≡ set.contains self.now pixel }
+        ensures cost { IsSearchOf self.now steps.old steps.new }
+    {
+        match &self.few[..] {
+            [] => find_block(&self.nodes, pixel, steps),
+            few => find_range(few, pixel, steps),
+        }
+    }
+
+    /// The ranges of the set as it keeps them, in chunks of 1 to 128, of which two side by side have
+    /// together more than 128. One after the other they are what `ranges` gives. Takes no memory.
+    pub fn chunks(&self) -> Chunks<'_>
+        ensures normal { IsNormal (joining result) }
+        ensures set { set_of (joining result) ≡ self.now }
+        ensures sized { AreBlocks result }
+    {
+        Chunks::new(&self.few, &self.nodes)
     }
 
     /// Whether the set has no pixel. O(1).
@@ -76,7 +114,7 @@ impl Coverage {
         ensures empty { IsTrue result ↔ (self.now ≡ set.empty) }
         ensures within { IsWithin self.now pixels }
     {
-        self.bounds.is_empty()
+        self.ranges().next().is_none()
     }
 
     /// The ranges of the set, rising, none empty, and none touching the next: the one normal list
@@ -86,7 +124,7 @@ impl Coverage {
         ensures set { set_of result ≡ self.now }
         ensures within { IsWithin self.now pixels }
     {
-        Ranges::new(&self.bounds)
+        Ranges::new(&self.few, &self.nodes)
     }
 
     /// How many pixels of order 29 the set has. O(n), takes no memory.
@@ -95,11 +133,7 @@ impl Coverage {
         ensures bounded { result ≤ pixel_count }
         ensures within { IsWithin self.now pixels }
     {
-        let mut total = 0;
-        for (from, to) in self.ranges() {
-            total += to - from;
-        }
-        total
+        measure_ranges(&self.few) + measure_nodes(&self.nodes)
     }
 
     /// The pixels in any of the pairs (from, to), `to` not included. They may come in any order,
@@ -126,40 +160,38 @@ impl Coverage {
         ensures { IfOk result (λ c. c ≡ set_of pairs.now) }
     {
         let pairs = filled_by_start(alloc, pairs)?;
-        let bounds = bounds_of_union(alloc, &pairs)?;
-        Ok(Coverage::from_bounds(bounds))
+        build(alloc, &pairs)
     }
 
-    /// Adds the pixels from one up to, not including, another, where they do not begin before the
-    /// last range, and answers whether it did.
+    /// The set whose ranges are kept in this way.
     #[inline]
-    pub(crate) fn append(&mut self, from: u64, to: u64) -> Result<bool, AllocError>
-        requires rising { from < to }
-        requires within { to ≤ pixel_count }
-        ensures added { IfOk result (λ added.
-            self.new ≡ (if added then set.union self.old (numbers from to) else self.old)) }
-        ensures kept { OnErr result (self.new ≡ self.old) }
+    pub(crate) fn from_stored(few: Vec<(u64, u64)>, nodes: Vec<Node>) -> Coverage
+        requires { IsStored few.items nodes.items }
+        ensures { result ≡ set_of (rest_of few.items [] nodes.items) }
     {
-        append(&mut self.bounds, from, to)
+        Coverage { few, nodes }
     }
 
-    /// The set that these bounds store. Room that they leave free is given back where it is more
-    /// than they fill.
-    #[inline]
-    fn from_bounds(bounds: Vec<u64>) -> Coverage
-        requires { IsBounds bounds.items }
-        ensures { result ≡ set_of (pairs_of bounds.items) }
+    /// The pixels in normal ranges. Up to 128 of them are kept as they are.
+    pub(crate) fn from_normal(
+        alloc: Global,
+        ranges: Vec<(u64, u64)>,
+    ) -> Result<Coverage, AllocError>
+        requires { IsNormal ranges.items }
+        ensures { IfOk result (λ c. c ≡ set_of ranges.items) }
     {
-        let mut bounds = bounds;
-        if bounds.capacity() / 2 > bounds.len() {
-            bounds.shrink_to_fit();
+        if ranges.len() > LONGEST {
+            return build(alloc, &ranges);
         }
-        Coverage { bounds }
+        Ok(Coverage {
+            few: trimmed(ranges),
+            nodes: Vec::new(alloc),
+        })
     }
 
     /// How many ranges the set has.
     pub(crate) fn range_count(&self) -> usize {
-        self.bounds.len() / 2
+        self.ranges().size_hint().0
     }
 
     /// The pixels of either set. One pass over the ranges where their extents overlap, and a copy
@@ -167,7 +199,7 @@ impl Coverage {
     pub fn union(&self, alloc: Global, other: &Coverage) -> Result<Coverage, Memory>
         ensures set { IfOk result (λ c. c ≡ set.union self.now other.now) }
     {
-        kept_by_rule(alloc, Rule::UNION, &self.bounds, &other.bounds)
+        Ok(unite(alloc, self.ranges(), other.ranges())?)
     }
 
     /// The pixels that both sets have. One pass over the ranges of each that reach into the extent
@@ -175,9 +207,7 @@ impl Coverage {
     pub fn intersection(&self, alloc: Global, other: &Coverage) -> Result<Coverage, Memory>
         ensures set { IfOk result (λ c. c ≡ set.intersection self.now other.now) }
     {
-        let mine = reaching(&self.bounds, &other.bounds);
-        let theirs = reaching(&other.bounds, mine);
-        kept_by_rule(alloc, Rule::INTERSECTION, mine, theirs)
+        Ok(intersect(alloc, self.ranges(), other.ranges())?)
     }
 
     /// The pixels of this set that the other lacks. One pass over the ranges where their extents
@@ -186,8 +216,7 @@ impl Coverage {
     pub fn difference(&self, alloc: Global, other: &Coverage) -> Result<Coverage, Memory>
         ensures set { IfOk result (λ c. c ≡ set.difference self.now other.now) }
     {
-        let theirs = reaching(&other.bounds, &self.bounds);
-        kept_by_rule(alloc, Rule::DIFFERENCE, &self.bounds, theirs)
+        Ok(subtract(alloc, self.ranges(), other.ranges())?)
     }
 
     /// The pixels that just one of the two sets has. One pass over the ranges where their extents
@@ -195,7 +224,9 @@ impl Coverage {
     pub fn symmetric(&self, alloc: Global, other: &Coverage) -> Result<Coverage, Memory>
         ensures set { IfOk result (λ c. c ≡ symmetric self.now other.now) }
     {
-        kept_by_rule(alloc, Rule::SYMMETRIC, &self.bounds, &other.bounds)
+        let mine = self.difference(alloc, other)?;
+        let theirs = other.difference(alloc, self)?;
+        mine.union(alloc, &theirs)
     }
 
     /// The pixels of the sky that the set lacks. One pass, O(n); refused where memory runs out.
@@ -203,7 +234,8 @@ impl Coverage {
         ensures set { IfOk result (λ c. c ≡ complement self.now) }
         ensures within { IsWithin self.now pixels }
     {
-        kept_by_rule(alloc, Rule::DIFFERENCE, &[0, PIXEL_COUNT], &self.bounds)
+        let sky = [(0, PIXEL_COUNT)];
+        Ok(subtract(alloc, Ranges::of(&sky), self.ranges())?)
     }
 
     /// The pixels of the set in one base pixel, 0 to 11: those p with `p / 4^29` equal to it. Above
@@ -218,8 +250,8 @@ impl Coverage {
             return Ok(Coverage::empty(alloc));
         }
         let from = u64::from(base_pixel) * BASE_PIXEL_SIZE;
-        let bounds = cut(alloc, &self.bounds, from, from + BASE_PIXEL_SIZE)?;
-        Ok(Coverage { bounds })
+        let whole = [(from, from + BASE_PIXEL_SIZE)];
+        Ok(intersect(alloc, self.ranges(), Ranges::of(&whole))?)
     }
 
     /// Whether the set has a pixel in this base pixel; it has none above 11. O(log n), takes no
@@ -251,14 +283,8 @@ impl Coverage {
         ensures found { IfSome result (λ p. (from ≤ p) × (p < pixel_count) × (set.contains self.now p ≡ true)) }
         ensures first { (q : ℕ) → from ≤ q → set.contains self.now q ≡ true → MatchOption result ⊥ (λ p. p ≤ q) }
     {
-        let passed = self.bounds.partition_point(|bound| *bound <= from);
-        if passed % 2 == 1 {
-            return Some(from);
-        }
-        match &self.bounds[passed..] {
-            [next, ..] => Some(*next),
-            [] => None,
-        }
+        let (start, _) = first_past(self.ranges(), from)?;
+        Some(start.max(from))
     }
 
     /// The first base pixel from this one on that the set has a pixel in, if there is one; there is none above 11.
@@ -295,8 +321,10 @@ impl Coverage {
         requires within { to ≤ pixel_count }
         ensures { result ≡ meets self.now (numbers from to) }
     {
-        let range = [from, to];
-        keeps_some(Rule::INTERSECTION, reaching(&self.bounds, &range), &range)
+        match first_past(self.ranges(), from) {
+            Some((start, _)) => start < to,
+            None => false,
+        }
     }
 
     /// Whether the set has every pixel from one up to, not including, another.
@@ -305,8 +333,10 @@ impl Coverage {
         requires within { to ≤ pixel_count }
         ensures { result ≡ set.is_subset (numbers from to) self.now }
     {
-        let range = [from, to];
-        !keeps_some(Rule::DIFFERENCE, &range, reaching(&self.bounds, &range))
+        match first_past(self.ranges(), from) {
+            Some((start, end)) => start <= from && to <= end,
+            None => false,
+        }
     }
 
     /// The set as cells of an order see it: all pixels of each cell of that order that it meets
@@ -316,53 +346,47 @@ impl Coverage {
     pub fn degrade(&self, alloc: Global, order: Order) -> Result<Coverage, Memory>
         ensures { IfOk result (λ c. c ≡ degrade self.now order) }
     {
-        let bounds = bounds_of_cells(alloc, order.cell_size(), self.ranges())?;
-        Ok(Coverage::from_bounds(bounds))
+        Ok(build_widened(alloc, order.cell_size(), self.ranges())?)
     }
 
-    /// How many pixels of order 29 two sets have in common. One pass over the ranges of each that
-    /// reach into the extent of the other, found in O(log n + log m), takes no memory.
+    /// How many pixels of order 29 two sets have in common. One pass over both that skips blocks and
+    /// nodes which the next range of the other does not reach or covers: a set of m ranges and one of
+    /// n take O(m log n), and never more than O(n + m). Takes no memory.
     pub fn count_common(&self, other: &Coverage) -> u64
         ensures size { result ≡ set.len (set.intersection self.now other.now) }
     {
-        let mine = reaching(&self.bounds, &other.bounds);
-        let theirs = reaching(&other.bounds, mine);
-        count_both(mine, theirs)
+        count_both(self.ranges(), other.ranges())
     }
 
-    /// Whether two sets have a pixel in common. One pass up to the first over the ranges of each
-    /// that reach into the extent of the other, found in O(log n + log m), takes no memory.
+    /// Whether two sets have a pixel in common. One pass up to the first over both that skips what
+    /// ends before the next range of the other: O(m log n) and O(n + m). Takes no memory.
     pub fn meets(&self, other: &Coverage) -> bool
         ensures some { result ≡ meets self.now other.now }
     {
-        let mine = reaching(&self.bounds, &other.bounds);
-        let theirs = reaching(&other.bounds, mine);
-        keeps_some(Rule::INTERSECTION, mine, theirs)
+        share_some(self.ranges(), other.ranges())
     }
 
     /// Whether this set has every pixel of the other. One pass up to the first that it lacks over
-    /// the other and the ranges of this set that reach into its extent, found in O(log n), takes no
-    /// memory.
+    /// both that skips what ends before the next range of the other, or lies in one range of this
+    /// set: O(m log n) and O(n + m). Takes no memory.
     pub fn covers(&self, other: &Coverage) -> bool
         ensures all { result ≡ set.is_subset other.now self.now }
     {
-        let mine = reaching(&self.bounds, &other.bounds);
-        !keeps_some(Rule::DIFFERENCE, &other.bounds, mine)
+        holds_all(self.ranges(), other.ranges())
     }
 
     /// Whether two sets have the same pixels. O(n), takes no memory.
     pub fn same(&self, other: &Coverage) -> bool
         ensures { IsTrue result ↔ (self.now ≡ other.now) }
     {
-        self.bounds == other.bounds
+        are_same(self.ranges(), other.ranges())
     }
 
     /// The set of all pixels of the sky; refused where memory runs out.
     pub fn full(alloc: Global) -> Result<Coverage, Memory>
         ensures { IfOk result (λ c. c ≡ pixels) }
     {
-        let bounds = [0, PIXEL_COUNT].to_vec(alloc)?;
-        Ok(Coverage { bounds })
+        Ok(Coverage::of_range(alloc, 0, PIXEL_COUNT)?)
     }
 
     /// The pixels of order 29 in one cell; refused where memory runs out.
@@ -370,8 +394,20 @@ impl Coverage {
         ensures { IfOk result (λ c. c ≡ span cell.order cell.index) }
     {
         let (from, to) = cell.span();
-        let bounds = [from, to].to_vec(alloc)?;
-        Ok(Coverage { bounds })
+        Ok(Coverage::of_range(alloc, from, to)?)
+    }
+
+    /// The pixels from one up to, not including, another.
+    fn of_range(alloc: Global, from: u64, to: u64) -> Result<Coverage, AllocError>
+        requires rising { from < to }
+        requires within { to ≤ pixel_count }
+        ensures { IfOk result (λ c. c ≡ set_of ((from, to) ∷ [])) }
+    {
+        let few = [(from, to)].to_vec(alloc)?;
+        Ok(Coverage {
+            few,
+            nodes: Vec::new(alloc),
+        })
     }
 
     /// The cells of the set, in rising NUNIQ: those whose pixels the set has, while it lacks one of
@@ -395,8 +431,9 @@ impl Coverage {
         ensures same { IfOk result (λ c. c ≡ self.now) }
         ensures within { IsWithin self.now pixels }
     {
-        let bounds = self.bounds.to_vec(alloc)?;
-        Ok(Coverage { bounds })
+        let few = self.few.to_vec(alloc)?;
+        let nodes = share_nodes(alloc, &self.nodes)?;
+        Ok(Coverage { few, nodes })
     }
 }
 
@@ -428,15 +465,4 @@ impl<'a> IntoIterator for &'a Coverage {
     fn into_iter(self) -> Ranges<'a> {
         self.ranges()
     }
-}
-
-/// What the rule keeps of two stored sets.
-#[inline]
-fn kept_by_rule(alloc: Global, rule: Rule, xs: &[u64], ys: &[u64]) -> Result<Coverage, Memory>
-    requires xs { IsBounds xs.now }
-    requires ys { IsBounds ys.now }
-    ensures { IfOk result (λ c. IsCombined rule xs.now ys.now c) }
-{
-    let bounds = sweep(alloc, rule, xs, ys)?;
-    Ok(Coverage::from_bounds(bounds))
 }

@@ -1,16 +1,17 @@
-//! From pairs in any order to the bounds of their union, and from ranges to the cells that they
-//! meet.
-ghost use Rattle.std.specs.Prelude.{◌≡◌, ℕ, ◌*◌, ◌<◌, ◌≤◌, ◌++◌, ◌||◌, ◌&&◌, ◌∷◌, [], List, map, IfOk, IfErr, OnOk, OnErr, None, Some};
+//! From pairs in any order to the set that they make, and from ranges to the cells that they meet.
+ghost use Rattle.std.specs.Prelude.{◌≡◌, ℕ, ◌*◌, ◌<◌, ◌≤◌, List, length, map, if◌then◌else◌, IfOk, IfErr, OnOk, OnErr, None, Some};
 ghost use Rattle.moc_ranges.specs.Faults.{first_fault};
 ghost use Rattle.moc_ranges.specs.Private.Sorted.{IsSortedFrom};
-ghost use Rattle.moc_ranges.specs.RangeList.{in_range, in_ranges, IsNormal};
+ghost use Rattle.moc_ranges.specs.RangeList.{in_ranges, IsNormal, set_of};
+ghost use Rattle.moc_ranges.specs.Private.Blocks.{last_of};
+ghost use Rattle.moc_ranges.specs.Numbers.{numbers};
 ghost use Rattle.moc_ranges.specs.Pixels.{pixel_count};
+ghost use Rattle.std.specs.FinSet as set;
 ghost use Rattle.moc_ranges.specs.Private.Widen.{IsCellSize, widen};
-ghost use Rattle.moc_ranges.specs.Private.Bounds.{IsBounds, inside};
-ghost use Rattle.moc_ranges.specs.Private.Joining.{Joining};
 
-use crate::coverage::PIXEL_COUNT;
+use crate::coverage::{Coverage, PIXEL_COUNT};
 use crate::errors::RangesError;
+use crate::list_builder::{ListBuilder, end_below, lengthen};
 use crate::ranges::Ranges;
 use std::alloc::{AllocError, Global};
 
@@ -53,90 +54,63 @@ pub fn filled_by_start(alloc: Global, pairs: &[(u64, u64)]) -> Result<Vec<(u64, 
     Ok(filled)
 }
 
-/// The bounds of ranges that rise by their starts, as far as they are settled, and the range behind
-/// them, which may grow.
-#[derive(Drop)]
-struct Joiner {
-    bounds: Vec<u64>,
-    from: u64,
-    to: u64,
-}
-
-impl Joiner {
-    /// Takes in the next range: it joins the open one where they overlap or touch, and else settles
-    /// that.
-    #[inline]
-    fn take_in(&mut self, range: (u64, u64)) -> Result<(), AllocError>
-        ensures { OnOk result ((rest whole : List (ℕ × ℕ))
-            → Joining self.old.bounds.items self.old.from self.old.to (range ∷ rest) whole
-            → Joining self.new.bounds.items self.new.from self.new.to rest whole) }
-    {
-        let (from, to) = range;
-        if from <= self.to {
-            self.to = self.to.max(to);
-            return Ok(());
-        }
-        self.bounds.push(self.from)?;
-        self.bounds.push(self.to)?;
-        self.from = from;
-        self.to = to;
-        Ok(())
-    }
-
-    /// All bounds.
-    fn finish(self) -> Result<Vec<u64>, AllocError>
-        ensures { IfOk result (λ v. v.items ≡ (self.bounds.items ++ self.from ∷ []) ++ self.to ∷ []) }
-    {
-        let mut bounds = self.bounds;
-        bounds.push(self.from)?;
-        bounds.push(self.to)?;
-        Ok(bounds)
-    }
-}
-
-/// The bounds of what lies in any of the pairs.
-pub fn bounds_of_union(alloc: Global, pairs: &[(u64, u64)]) -> Result<Vec<u64>, AllocError>
+/// The pixels in any of the pairs, which rise by their starts.
+pub fn build(alloc: Global, pairs: &[(u64, u64)]) -> Result<Coverage, AllocError>
     requires { IsSortedFrom 0 pairs.now }
-    ensures bounds { IfOk result (λ v. IsBounds v.items) }
-    ensures set { IfOk result (λ v. (q : ℕ) → inside v.items q ≡ in_ranges pairs.now q) }
+    ensures { IfOk result (λ c. c ≡ set_of pairs.now) }
 {
-    let bounds = Vec::with_capacity(alloc, 2 * pairs.len())?;
-    let Some((first, others)) = pairs.split_first() else {
-        return Ok(bounds);
+    let mut built = ListBuilder::new(alloc, pairs.len())?;
+    let [first, others @ ..] = pairs else {
+        return built.finish(alloc);
     };
-    let (from, to) = *first;
-    let mut joiner = Joiner { bounds, from, to };
+    let mut last = *first;
     for pair in others {
-        joiner.take_in(*pair)?;
+        last = lengthen(alloc, last, *pair, &mut built)?;
     }
-    let bounds = joiner.finish()?;
-    Ok(bounds)
+    built.push(alloc, last.0, last.1)?;
+    built.finish(alloc)
 }
 
-/// Adds a range to bounds, where it does not begin before the last of theirs, and answers whether
+/// Adds a range to others, where it does not begin before the last of theirs, and answers whether
 /// it did.
 #[inline]
-pub fn append(bounds: &mut Vec<u64>, from: u64, to: u64) -> Result<bool, AllocError>
-    requires bounds { IsBounds bounds.old.items }
+pub fn append(ranges: &mut Vec<(u64, u64)>, from: u64, to: u64) -> Result<bool, AllocError>
+    requires normal { IsNormal ranges.old.items }
     requires rising { from < to }
     requires within { to ≤ pixel_count }
-    ensures bounds { IsBounds bounds.new.items }
+    ensures normal { IsNormal ranges.new.items }
     ensures set { IfOk result (λ added.
-        (q : ℕ) → inside bounds.new.items q ≡ (inside bounds.old.items q || (added && in_range (from, to) q))) }
-    ensures kept { OnErr result (bounds.new.items ≡ bounds.old.items) }
+        set_of ranges.new.items
+        ≡ (if added then set.union (set_of ranges.old.items) (numbers from to) else set_of ranges.old.items)) }
+    ensures kept { OnErr result (ranges.new.items ≡ ranges.old.items) }
 {
-    if let [.., begin, end] = bounds.as_slice() {
-        if from < *begin {
-            return Ok(false);
-        }
-        if from <= *end {
-            let last = bounds.len() - 1;
-            bounds[last] = bounds[last].max(to);
-            return Ok(true);
-        }
+    if end_below(ranges, from) {
+        ranges.push((from, to))?;
+        return Ok(true);
     }
-    bounds.extend_from_slice(&[from, to])?;
-    Ok(true)
+    Ok(lengthen_last(ranges, from, to))
+}
+
+/// Lengthens the last range by one that begins within it or at its end; not where it begins before,
+/// and answers whether it did.
+#[inline]
+fn lengthen_last(ranges: &mut Vec<(u64, u64)>, from: u64, to: u64) -> bool
+    requires normal { IsNormal ranges.old.items }
+    requires some { 0 < length ranges.old.items }
+    requires reached { from ≤ last_of ranges.old.items }
+    requires rising { from < to }
+    requires within { to ≤ pixel_count }
+    ensures normal { IsNormal ranges.new.items }
+    ensures set { set_of ranges.new.items
+        ≡ (if result then set.union (set_of ranges.old.items) (numbers from to) else set_of ranges.old.items) }
+{
+    let last = ranges.len() - 1;
+    let (begin, end) = ranges[last];
+    if from < begin {
+        return false;
+    }
+    ranges[last] = (begin, end.max(to));
+    true
 }
 
 /// A range from the start of the first cell that it meets to the end of the last, where cells have
@@ -152,26 +126,25 @@ fn cells_around(size: u64, from: u64, to: u64) -> (u64, u64)
     (from & mask, ((to - 1) & mask) + size)
 }
 
-/// The bounds of what lies in any of the ranges, each widened to whole cells of a size.
-pub fn bounds_of_cells(
+/// The pixels in any of the ranges, each widened to whole cells of a size.
+pub fn build_widened(
     alloc: Global,
     size: u64,
     mut ranges: Ranges<'_>,
-) -> Result<Vec<u64>, AllocError>
+) -> Result<Coverage, AllocError>
     requires size { IsCellSize size }
     requires ranges { IsNormal ranges }
-    ensures bounds { IfOk result (λ v. IsBounds v.items) }
-    ensures set { IfOk result (λ v. (q : ℕ) → inside v.items q ≡ in_ranges (map (widen size) ranges.entry) q) }
+    ensures { IfOk result (λ c. c ≡ set_of (map (widen size) ranges.entry)) }
 {
-    let bounds = Vec::with_capacity(alloc, ranges.size_hint().0.saturating_mul(2))?;
-    let Some((first, last)) = ranges.next() else {
-        return Ok(bounds);
+    let mut built = ListBuilder::new(alloc, ranges.room())?;
+    let Some((from, to)) = ranges.next() else {
+        return built.finish(alloc);
     };
-    let (from, to) = cells_around(size, first, last);
-    let mut joiner = Joiner { bounds, from, to };
-    for (first, last) in ranges {
-        joiner.take_in(cells_around(size, first, last))?;
+    let mut last = cells_around(size, from, to);
+    for (from, to) in ranges {
+        let next = cells_around(size, from, to);
+        last = lengthen(alloc, last, next, &mut built)?;
     }
-    let bounds = joiner.finish()?;
-    Ok(bounds)
+    built.push(alloc, last.0, last.1)?;
+    built.finish(alloc)
 }

@@ -1,8 +1,6 @@
 use Rattle.std.proofs.Common.{◌∙◌}
-use Rattle.std.specs.FinSet as set
-use Rattle.moc_ranges.specs.RangeList.{set_of}
-use Rattle.moc_ranges.proofs.Gathering.{none_gathered}
+use Rattle.moc_ranges.proofs.Gathering.{gathered_joined}
 use Rattle.moc_ranges.proofs.builder.CoverageBuilder.new.Goals as goal
 
 pub returns : goal.returns
-returns c = (λ i. set.union (c.empty.ensures i) (set_of (c.new.ensures.items i))) ∙ none_gathered
+returns c = gathered_joined c.empty.result c.new.result.items c.new-2.result.items c.new.ensures.items c.new-2.ensures.items ∙ c.empty.ensures

@@ -4,7 +4,7 @@ use Rattle.moc_ranges.specs.Numbers.{same_members}
 use Rattle.moc_ranges.specs.Pixels.{pixels}
 use Rattle.moc_ranges.specs.Operations.{part_of}
 use Rattle.moc_ranges.proofs.Views.{part_past, all_of_none}
-use Rattle.moc_ranges.proofs.Rules.{base_members}
+use Rattle.moc_ranges.proofs.Looking.{base_members}
 use Rattle.moc_ranges.proofs.coverage.Coverage.covers_base_pixel.Goals as goal
 
 pub returns : goal.returns

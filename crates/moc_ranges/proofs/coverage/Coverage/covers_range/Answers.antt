@@ -1,18 +1,19 @@
-use Rattle.std.proofs.Common.{◌∙◌, [], ◌∷◌, refl, sym}
-use Rattle.moc_ranges.specs.Numbers.{numbers, contains-numbers}
-use Rattle.moc_ranges.proofs.Views.{contains_view, inside_one}
-use Rattle.moc_ranges.proofs.Rules.{covers_decided, some_alike, none_alike}
-use Rattle.moc_ranges.proofs.Reaching.{same_within, alone_reaching}
+use Rattle.std.proofs.Common.{sym, ◌∙◌, arith}
+use Rattle.std.proofs.lemmas.Bool.Decides.{nat_tests}
+use Rattle.moc_ranges.proofs.Looking.{covers_next, covers_none_left, next_same, none_same}
 use Rattle.moc_ranges.proofs.coverage.Coverage.covers_range.Goals as goal
 
-pub returns : goal.returns
-returns c =
-    let a = c.args.self.now in
-    let ys = c.self.inside.bounds.items in
-    let xs = c.args.from ∷ (c.args.to ∷ []) in
-    let reached = c.reaching.result.now in
-    let alike = alone_reaching xs ys reached (same_within _ _ xs ys reached refl c.deref.ensures.value c.reaching.ensures) in
-    covers_decided (numbers c.args.from c.args.to) a xs ys c.keeps_some.result
-    (λ q. contains-numbers c.args.from c.args.to q ∙ sym (inside_one c.args.from c.args.to q c.requires.rising))
-    (contains_view ys a c.self.view_is c.self.invariant)
-    (some_alike c.keeps_some.result _ _ alike c.keeps_some.ensures.some) (none_alike c.keeps_some.result _ _ alike c.keeps_some.ensures.none)
+pub returns-then-start-from : goal.returns-then-start-from
+returns-then-start-from c =
+    let all = covers_next c.args.self.now c.args.from c.args.to _ (next_same _ _ _ _ c.ranges-2.ensures.set c.in-Some.ensures) c.requires.rising in
+    let begun = c.if-start-from.true in
+    grind (arith, nat_tests)
+
+pub returns-else-start-from : goal.returns-else-start-from
+returns-else-start-from c =
+    let all = covers_next c.args.self.now c.args.from c.args.to _ (next_same _ _ _ _ c.ranges-2.ensures.set c.in-Some.ensures) c.requires.rising in
+    let begun = c.if-start-from.false in
+    grind (arith, nat_tests)
+
+pub returns-in-None : goal.returns-in-None
+returns-in-None c = sym (covers_none_left c.args.self.now c.args.from c.args.to (none_same _ _ _ c.ranges-2.ensures.set c.in-None.ensures) c.requires.rising)

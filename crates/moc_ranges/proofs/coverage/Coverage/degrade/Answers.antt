@@ -1,17 +1,15 @@
-use Rattle.std.proofs.Common.{ℕ, ap, ◌∙◌, map}
+use Rattle.std.proofs.Common.{ℕ, ap, ◌∙◌, sym, map}
 use Rattle.moc_ranges.specs.Private.Widen.{widen}
-use Rattle.moc_ranges.specs.RangeList.{in_ranges}
-use Rattle.moc_ranges.proofs.Views.{view_from_members}
+use Rattle.moc_ranges.specs.Numbers.{same_members}
+use Rattle.moc_ranges.specs.RangeList.{in_ranges, set_of, contains-set_of}
 use Rattle.moc_ranges.proofs.Widening.{degraded}
 use Rattle.moc_ranges.proofs.coverage.Coverage.degrade.Goals as goal
 
-pub bounds_of_cells-requires : goal.bounds_of_cells-requires
-bounds_of_cells-requires c = record {
-  size = record { order = c.args.order; order_in_range = c.cell_size.ensures.in_range; is = c.cell_size.ensures.size };
-  ranges = c.ranges-2.ensures.normal;
-}
+pub build_widened-requires-clause-size : goal.build_widened-requires-clause-size
+build_widened-requires-clause-size c = record { order = c.args.order; order_in_range = c.cell_size.ensures.in_range; is = c.cell_size.ensures.size }
 
 pub returns : goal.returns
-returns c = c.from_bounds.ensures ∙ view_from_members _ _ c.in_ok-bounds.ensures.bounds
-    (λ q. c.in_ok-bounds.ensures.set q ∙ ap (λ (size : ℕ). in_ranges (map (widen size) c.ranges-2.result) q) c.cell_size.ensures.size
+returns c = c.in_ok-build_widened.ensures ∙ same_members _ _ (λ q.
+    contains-set_of (map (widen c.cell_size.result) c.ranges-2.result) q
+    ∙ ap (λ (size : ℕ). in_ranges (map (widen size) c.ranges-2.result) q) c.cell_size.ensures.size
     ∙ degraded c.args.order c.ranges-2.result c.args.self.now q c.cell_size.ensures.in_range c.ranges-2.ensures.normal c.ranges-2.ensures.set)

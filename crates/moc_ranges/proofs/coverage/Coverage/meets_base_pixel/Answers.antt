@@ -1,6 +1,6 @@
 use Rattle.std.proofs.Common.{◌∙◌, inl, inr}
 use Rattle.moc_ranges.proofs.Views.{no_part, none_in_part}
-use Rattle.moc_ranges.proofs.Rules.{meets_base}
+use Rattle.moc_ranges.proofs.Looking.{meets_base}
 use Rattle.moc_ranges.proofs.coverage.Coverage.meets_base_pixel.Goals as goal
 use Rattle.moc_ranges.proofs.coverage.Coverage.meets_base_pixel.Goals.{then-is_empty-via-then-is_empty, then-is_empty-via-else-is_empty+then-base_pixel-gt11}
 

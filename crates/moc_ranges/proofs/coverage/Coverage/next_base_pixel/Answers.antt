@@ -1,5 +1,5 @@
 use Rattle.std.proofs.Common.{◌≡◌, ◌≤◌, ◌<◌, ℕ, min, ◌∙◌, arith}
-use Rattle.moc_ranges.proofs.Next.{some_in_part, first_part, no_parts}
+use Rattle.moc_ranges.proofs.Looking.{some_in_part, first_part, no_parts}
 use Rattle.moc_ranges.proofs.coverage.Coverage.next_base_pixel.Goals as goal
 
 low_is : (low from : ℕ) → low ≡ min from 12 → (low ≤ from) × (low ≤ 12) × (low < 12 → low ≡ from)

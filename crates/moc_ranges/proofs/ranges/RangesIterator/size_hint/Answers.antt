@@ -1,15 +1,18 @@
-use Rattle.std.proofs.Common.{◌≡◌, ℕ, ◌/◌, ◌∙◌, Some, ap, sym, length, arith}
-use Rattle.moc_ranges.proofs.Pairs.{length-pairs}
+use Rattle.std.proofs.Common.{arith}
+use Rattle.moc_ranges.specs.Private.Blocks.{rest_of}
+use Rattle.moc_ranges.proofs.Blocking.{rest_blocks, rest_nodes, length-rest, few_ranges}
 use Rattle.moc_ranges.proofs.ranges.RangesIterator.size_hint.Goals as goal
 
-counted : (c : goal.After-self) → length c.self.inside.bounds.now / 2 ≡ length c.args.self.now
-counted c = sym (length-pairs c.self.inside.bounds.now) ∙ ap length c.self.view_is
+pub count_in_blocks-requires : goal.count_in_blocks-requires
+count_in_blocks-requires c = rest_blocks c.self.inside.ranges.now c.self.inside.ahead.blocks.now c.self.inside.ahead.nodes.now c.self.invariant
 
-pub returns-clause-exact : goal.returns-clause-exact
-returns-clause-exact c = ap (λ (n : ℕ). (n, Some n)) (counted c)
+pub count_in_nodes-requires : goal.count_in_nodes-requires
+count_in_nodes-requires c = rest_nodes c.self.inside.ranges.now c.self.inside.ahead.blocks.now c.self.inside.ahead.nodes.now c.self.invariant
 
-pub returns-clause-lower : goal.returns-clause-lower
-returns-clause-lower c = λ _. omega (arith, counted c)
+pub overflow_add-ahead : goal.overflow_add-ahead
+overflow_add-ahead c =
+    omega (arith, few_ranges (rest_of c.self.inside.ranges.now c.self.inside.ahead.blocks.now c.self.inside.ahead.nodes.now) c.self.invariant, length-rest c.self.inside.ranges.now c.self.inside.ahead.blocks.now c.self.inside.ahead.nodes.now, c.count_in_blocks.ensures, c.count_in_nodes.ensures)
 
-pub returns-clause-upper : goal.returns-clause-upper
-returns-clause-upper c = (tt, omega (arith, counted c))
+pub overflow_add-count : goal.overflow_add-count
+overflow_add-count c =
+    omega (arith, few_ranges (rest_of c.self.inside.ranges.now c.self.inside.ahead.blocks.now c.self.inside.ahead.nodes.now) c.self.invariant, length-rest c.self.inside.ranges.now c.self.inside.ahead.blocks.now c.self.inside.ahead.nodes.now, c.count_in_blocks.ensures, c.count_in_nodes.ensures)

@@ -1,0 +1,225 @@
+-- What look-ups in a set find.
+use Rattle.std.proofs.Common.{◌≡◌, ℕ, ◌+◌, ◌<◌, ◌≤◌, ◌*◌, ◌/◌, Bool, true, false, not, ◌&&◌, ◌||◌, ◌⊎◌, List, [], ◌∷◌, ◌++◌, nat_eq, nat_le, nat_lt, max, Option, None, Some, MatchOption, inl, inr, refl, sym, ap, subst, ◌∙◌, arith}
+use Rattle.std.proofs.lemmas.Bool.{cases_lt, cases_Bool, false≢true, false_from_ne_true, and_parts, leb-true, ltb-true, lt-ltb}
+use Rattle.std.proofs.lemmas.Bool.Decides.{nat_tests}
+use Rattle.std.specs.Option.{is_some}
+use Rattle.std.specs.Prelude.{IsTrue}
+use Rattle.std.specs.FinSet as set
+use Rattle.std.specs.Ordering.{nat_cmp}
+use Rattle.std.specs.Cmp.{nat_cmp_total}
+use Rattle.moc_ranges.specs.Numbers.{NumberSet, numbers, contains-numbers, same_members}
+use Rattle.moc_ranges.specs.Pixels.{base_pixel_size, pixel_count, pixels}
+use Rattle.moc_ranges.specs.Operations.{meets, meets-some, meets-none, part_of, contains-part_of, contains-pixels}
+use Rattle.moc_ranges.specs.RangeList.{IsNormal, in_range, in_ranges, set_of, contains-set_of}
+use Rattle.moc_ranges.specs.Private.Walks.{EndsBy, Passes, IsNextRange, HasNoneFrom}
+use Rattle.moc_ranges.proofs.Blocking.{IsNormal-suffix}
+use Rattle.moc_ranges.proofs.Merging.{in_ranges-append}
+use Rattle.moc_ranges.proofs.Passing.{ends_by-append}
+use Rattle.moc_ranges.proofs.Walking.{later_only}
+use Rattle.moc_ranges.proofs.Views.{and_no, none_in_part}
+
+-- the ranges that a search has passed
+pub record IsSearching (limit : ℕ) (rest whole : List (ℕ × ℕ)) : Type 0 where
+  pub gone : List (ℕ × ℕ)
+  pub parts : whole ≡ gone ++ rest
+  pub ended : EndsBy limit gone
+  pub normal : IsNormal whole
+
+pub search_start : (limit n : ℕ) (rest whole : List (ℕ × ℕ)) → IsNormal whole → Passes (limit, limit) whole rest n → IsSearching limit rest whole
+search_start limit n rest whole normal p = record { gone = p.gone; parts = p.parts; ended = p.ended; normal = normal }
+
+append_one : (xs ys : List (ℕ × ℕ)) (x : ℕ × ℕ) → xs ++ (x ∷ ys) ≡ (xs ++ (x ∷ [])) ++ ys
+append_one [] ys x = refl
+append_one (z ∷ xs) ys x = ap (λ (l : List (ℕ × ℕ)). z ∷ l) (append_one xs ys x)
+
+pub search_more : (limit : ℕ) (range : ℕ × ℕ) (s rest whole : List (ℕ × ℕ)) → IsSearching limit s whole → s ≡ range ∷ rest → range.1 ≤ limit → IsSearching limit rest whole
+search_more limit range s rest whole i e le = record {
+  gone = i.gone ++ (range ∷ []);
+  parts = i.parts ∙ ap (λ (l : List (ℕ × ℕ)). i.gone ++ l) e ∙ append_one i.gone rest range;
+  ended = ends_by-append limit i.gone (range ∷ []) i.ended (le, tt);
+  normal = i.normal;
+}
+
+pub none_ended : (limit q : ℕ) (rs : List (ℕ × ℕ)) → EndsBy limit rs → limit ≤ q → in_ranges rs q ≡ false
+none_ended limit q [] e le = refl
+none_ended limit q (r ∷ rs) e le = let rest = none_ended limit q rs e.1 le in let here = e.0 in grind (arith, nat_tests)
+
+left_in : (limit q : ℕ) (rest whole : List (ℕ × ℕ)) → IsSearching limit rest whole → limit ≤ q → in_ranges whole q ≡ in_ranges rest q
+left_in limit q rest whole i le =
+    ap (λ (l : List (ℕ × ℕ)). in_ranges l q) i.parts ∙ in_ranges-append i.gone rest q
+    ∙ ap (λ b. b || in_ranges rest q) (none_ended limit q i.gone i.ended le)
+
+pub search_none : (limit : ℕ) (rest whole : List (ℕ × ℕ)) → IsSearching limit rest whole → rest ≡ [] → HasNoneFrom limit (set_of whole)
+search_none limit rest whole i none = record {
+  none = λ q le. contains-set_of whole q ∙ left_in limit q rest whole i le ∙ ap (λ (l : List (ℕ × ℕ)). in_ranges l q) none;
+}
+
+first_has : (range : ℕ × ℕ) (rest : List (ℕ × ℕ)) (q : ℕ) → IsNormal (range ∷ rest) → q < range.1 → in_ranges (range ∷ rest) q ≡ nat_le range.0 q
+first_has range rest q normal lt = let later = later_only range.1 q rest normal.3 normal.2 (omega arith) in grind (arith, nat_tests)
+
+first_ends : (range : ℕ × ℕ) (rest : List (ℕ × ℕ)) → IsNormal (range ∷ rest) → in_ranges (range ∷ rest) range.1 ≡ false
+first_ends range rest normal = let later = later_only range.1 range.1 rest normal.3 normal.2 (omega arith) in grind (arith, nat_tests)
+
+pub search_some : (limit : ℕ) (range : ℕ × ℕ) (s rest whole : List (ℕ × ℕ)) → IsSearching limit s whole → s ≡ range ∷ rest → limit < range.1 → IsNextRange limit (set_of whole) range
+search_some limit range s rest whole i e lt =
+    let left : IsNormal (range ∷ rest) = subst IsNormal e (IsNormal-suffix i.gone s (subst IsNormal i.parts i.normal)) in
+    record {
+      past = lt;
+      filled = left.0;
+      within = left.1;
+      has = λ q low high. contains-set_of whole q ∙ left_in limit q s whole i low ∙ ap (λ (l : List (ℕ × ℕ)). in_ranges l q) e ∙ first_has range rest q left high;
+      ends = contains-set_of whole range.1 ∙ left_in limit range.1 s whole i (omega arith) ∙ ap (λ (l : List (ℕ × ℕ)). in_ranges l range.1) e ∙ first_ends range rest left;
+    }
+
+-- ---- what the next range says of a set
+
+next_has : (limit q : ℕ) (a : NumberSet) (range : ℕ × ℕ) → IsNextRange limit a range → limit ≤ q → range.0 ≤ q → q < range.1 → set.contains a q ≡ true
+next_has limit q a range n low from to = n.has q low to ∙ grind (arith, nat_tests)
+
+next_lacks : (limit q : ℕ) (a : NumberSet) (range : ℕ × ℕ) → IsNextRange limit a range → limit ≤ q → q < range.0 → set.contains a q ≡ false
+next_lacks limit q a range n low lt = n.has q low (omega (arith, n.filled)) ∙ grind (arith, nat_tests)
+
+in_numbers : (from to q : ℕ) → from ≤ q → q < to → set.contains (numbers from to) q ≡ true
+in_numbers from to q low high = contains-numbers from to q ∙ grind (arith, nat_tests)
+
+from_numbers : (from to q : ℕ) → set.contains (numbers from to) q ≡ true → (from ≤ q) × (q < to)
+from_numbers from to q has =
+    let parts = and_parts (nat_le from q) (nat_lt q to) (sym (contains-numbers from to q) ∙ has) in
+    (leb-true from q parts.0, ltb-true q to parts.1)
+
+-- numbers in a row, of which the set has none
+and_false : (b : Bool) → (b && false) ≡ false
+and_false true = refl
+and_false false = refl
+
+meets_no : (a : NumberSet) (from to : ℕ) → ((q : ℕ) → from ≤ q → q < to → set.contains a q ≡ false) → meets a (numbers from to) ≡ false
+meets_no a from to none = meets-none a (numbers from to) (λ q. elim (cases_Bool (set.contains (numbers from to) q)) [
+  | inl here ↦ let parts = from_numbers from to q here in ap (λ b. b && set.contains (numbers from to) q) (none q parts.0 parts.1)
+  | inr out ↦ ap (λ b. set.contains a q && b) out ∙ and_false (set.contains a q)
+])
+
+pub meets_next : (a : NumberSet) (from to : ℕ) (range : ℕ × ℕ) → IsNextRange from a range → from < to → meets a (numbers from to) ≡ nat_lt range.0 to
+meets_next a from to range n rising = elim (cases_lt range.0 to) [
+  | inl lt ↦
+      let q : ℕ = max from range.0 in
+      let filled = n.filled in
+      let past = n.past in
+      meets-some a (numbers from to) q (next_has from q a range n (omega arith) (omega arith) (omega arith)) (in_numbers from to q (omega arith) (omega arith)) ∙ sym (lt-ltb range.0 to lt)
+  | inr ge ↦ meets_no a from to (λ q low high. next_lacks from q a range n low (omega arith)) ∙ grind (arith, nat_tests)
+]
+
+pub meets_none_left : (a : NumberSet) (from to : ℕ) → HasNoneFrom from a → meets a (numbers from to) ≡ false
+meets_none_left a from to n = meets_no a from to (λ q low high. n.none q low)
+
+pub covers_next : (a : NumberSet) (from to : ℕ) (range : ℕ × ℕ) → IsNextRange from a range → from < to → set.is_subset (numbers from to) a ≡ (nat_le range.0 from && nat_le to range.1)
+covers_next a from to range n rising = elim (cases_lt from range.0) [
+  | inl before ↦
+      false_from_ne_true _ (λ all. false≢true (sym (next_lacks from from a range n (omega arith) before) ∙ set.is_subset-contains nat_cmp_total (numbers from to) a all from (in_numbers from to from (omega arith) rising)))
+      ∙ grind (arith, nat_tests)
+  | inr begun ↦ elim (cases_lt range.1 to) [
+    | inl short ↦
+        let past = n.past in
+        false_from_ne_true _ (λ all. false≢true (sym n.ends ∙ set.is_subset-contains nat_cmp_total (numbers from to) a all range.1 (in_numbers from to range.1 (omega arith) short)))
+        ∙ grind (arith, nat_tests)
+    | inr whole ↦
+        set.contains-is_subset nat_cmp_total (numbers from to) a (λ q here. let parts = from_numbers from to q here in next_has from q a range n parts.0 (omega (arith, parts.0)) (omega (arith, parts.1)))
+        ∙ grind (arith, nat_tests)
+  ]
+]
+
+pub covers_none_left : (a : NumberSet) (from to : ℕ) → HasNoneFrom from a → from < to → set.is_subset (numbers from to) a ≡ false
+covers_none_left a from to n rising =
+    false_from_ne_true _ (λ all. false≢true (sym (n.none from (omega arith)) ∙ set.is_subset-contains nat_cmp_total (numbers from to) a all from (in_numbers from to from (omega arith) rising)))
+
+-- the first pixel from one on
+pub found_next : (a : NumberSet) (from p : ℕ) (range : ℕ × ℕ) → IsNextRange from a range → p ≡ max from range.0 → (from ≤ p) × (p < pixel_count) × (set.contains a p ≡ true)
+found_next a from p range n is =
+    let filled = n.filled in
+    let past = n.past in
+    let within = n.within in
+    (omega arith, omega arith, next_has from p a range n (omega arith) (omega arith) (omega arith))
+
+pub first_next : (a : NumberSet) (from p : ℕ) (range : ℕ × ℕ) → IsNextRange from a range → p ≡ max from range.0 → (q : ℕ) → from ≤ q → set.contains a q ≡ true → p ≤ q
+first_next a from p range n is q low has = elim (cases_lt q p) [
+  | inl lt ↦ absurd (false≢true (sym (next_lacks from q a range n low (omega arith)) ∙ has))
+  | inr ge ↦ ge
+]
+
+-- ---- base pixels
+
+in_base : (b q : ℕ) → nat_eq (q / base_pixel_size) b ≡ (nat_le (b * base_pixel_size) q && nat_lt q (b * base_pixel_size + base_pixel_size))
+in_base b q = grind (arith, nat_tests)
+
+-- a set has a pixel of a base pixel where it meets that base pixel's numbers
+pub meets_base : (a : NumberSet) (b : ℕ) → meets a (numbers (b * base_pixel_size) (b * base_pixel_size + base_pixel_size)) ≡ nat_lt 0 (set.len (part_of a b))
+unfolding meets
+meets_base a b = ap (λ c. nat_lt 0 (set.len c)) (same_members _ _ (λ q.
+    set.contains-intersection nat_cmp_total a (numbers (b * base_pixel_size) (b * base_pixel_size + base_pixel_size)) q
+    ∙ ap (λ t. set.contains a q && t) (contains-numbers _ _ q ∙ sym (in_base b q)) ∙ sym (contains-part_of a b q)))
+
+below_twelve : (b q : ℕ) → b < 12 → (nat_lt q pixel_count && (nat_le (b * base_pixel_size) q && nat_lt q (b * base_pixel_size + base_pixel_size))) ≡ (nat_le (b * base_pixel_size) q && nat_lt q (b * base_pixel_size + base_pixel_size))
+below_twelve b q l = grind (arith, nat_tests)
+
+-- the pixels of a base pixel
+pub base_members : (b q : ℕ) → b < 12 → set.contains (part_of pixels b) q ≡ set.contains (numbers (b * base_pixel_size) (b * base_pixel_size + base_pixel_size)) q
+base_members b q l = contains-part_of pixels b q ∙ (λ i. contains-pixels q i && in_base b q i) ∙ below_twelve b q l ∙ sym (contains-numbers (b * base_pixel_size) (b * base_pixel_size + base_pixel_size) q)
+
+same_part : (b : ℕ) → nat_eq b b ≡ true
+same_part b = grind (arith, nat_tests)
+
+-- a pixel that a set has lies in a part that is not empty
+pub some_in_part : (a : NumberSet) (p : ℕ) → set.contains a p ≡ true → nat_lt 0 (set.len (part_of a (p / base_pixel_size))) ≡ true
+some_in_part a p has = elim (cases_lt 0 (set.len (part_of a (p / base_pixel_size)))) [
+  | inl lt ↦ lt-ltb 0 _ lt
+  | inr none ↦
+      let here : set.contains (part_of a (p / base_pixel_size)) p ≡ true = contains-part_of a (p / base_pixel_size) p ∙ ap (λ t. t && nat_eq (p / base_pixel_size) (p / base_pixel_size)) has ∙ same_part (p / base_pixel_size) in
+      absurd (false≢true (sym (ap (λ s. set.contains s p) (set.empty_of_len (part_of a (p / base_pixel_size)) (omega arith)) ∙ set.contains-empty nat_cmp p) ∙ here))
+]
+
+apart : (m n : ℕ) → (m < n) ⊎ (n < m) → nat_eq m n ≡ false
+apart m n cases = elim cases [ inl lt ↦ grind (arith, nat_tests) | inr gt ↦ grind (arith, nat_tests) ]
+
+-- the part of the first pixel from a base pixel on is the first that is not empty
+pub first_part : (a : NumberSet) (low p b : ℕ) → ((q : ℕ) → low * base_pixel_size ≤ q → set.contains a q ≡ true → p ≤ q) → low ≤ b → nat_lt 0 (set.len (part_of a b)) ≡ true → p / base_pixel_size ≤ b
+first_part a low p b first le some = elim (cases_lt b (p / base_pixel_size)) [
+  | inl lt ↦
+      let none : part_of a b ≡ set.empty = same_members _ _ (λ q. contains-part_of a b q
+      ∙ and_no (set.contains a q) (nat_eq (q / base_pixel_size) b) (λ has. elim (cases_lt q (low * base_pixel_size)) [
+        | inl before ↦ apart (q / base_pixel_size) b (inl (omega arith))
+        | inr from ↦ let later = first q from has in apart (q / base_pixel_size) b (inr (omega arith))
+      ])
+      ∙ sym (set.contains-empty nat_cmp q)) in
+      absurd (false≢true (none_in_part a b none ∙ some))
+  | inr ge ↦ ge
+]
+
+-- and all are empty where there is no such pixel
+pub no_parts : (a : NumberSet) (low b : ℕ) → ((q : ℕ) → low * base_pixel_size ≤ q → set.contains a q ≡ true → ⊥) → low ≤ b → nat_lt 0 (set.len (part_of a b)) ≡ true → ⊥
+no_parts a low b first le some =
+    let p : ℕ = (b + 1) * base_pixel_size in
+    let past : p / base_pixel_size ≤ b = first_part a low p b (λ q from has. absurd (first q from has)) le some in
+    omega arith
+
+pub next_same : (limit : ℕ) (a b : NumberSet) (range : ℕ × ℕ) → a ≡ b → IsNextRange limit a range → IsNextRange limit b range
+next_same limit a b range e n = subst (λ (s : NumberSet). IsNextRange limit s range) e n
+
+pub none_same : (limit : ℕ) (a b : NumberSet) → a ≡ b → HasNoneFrom limit a → HasNoneFrom limit b
+none_same limit a b e n = subst (HasNoneFrom limit) e n
+
+pub nothing_in : (rs : List (ℕ × ℕ)) (a : NumberSet) → set_of rs ≡ a → rs ≡ [] → a ≡ set.empty
+nothing_in rs a is none = sym is ∙ same_members _ _ (λ q. contains-set_of rs q ∙ ap (λ (l : List (ℕ × ℕ)). in_ranges l q) none ∙ sym (set.contains-empty nat_cmp q))
+
+starts_in : (range : ℕ × ℕ) (rest : List (ℕ × ℕ)) → range.0 < range.1 → in_ranges (range ∷ rest) range.0 ≡ true
+starts_in range rest lt = grind (arith, nat_tests)
+
+pub something_in : (range : ℕ × ℕ) (rs rest : List (ℕ × ℕ)) (a : NumberSet) → set_of rs ≡ a → IsNormal rs → rs ≡ range ∷ rest → a ≡ set.empty → ⊥
+something_in range rs rest a is normal e none =
+    let left : IsNormal (range ∷ rest) = subst IsNormal e normal in
+    let here = contains-set_of rs range.0 ∙ ap (λ (l : List (ℕ × ℕ)). in_ranges l range.0) e ∙ starts_in range rest left.0 in
+    false≢true (sym (ap (λ s. set.contains s range.0) (is ∙ none) ∙ set.contains-empty nat_cmp range.0) ∙ here)
+
+pub empty_seen : (r : Option (ℕ × ℕ)) (b : Bool) (s t : List (ℕ × ℕ)) (a : NumberSet) → set_of s ≡ a → IsNormal s → MatchOption r ((s ≡ []) × (t ≡ [])) (λ x. s ≡ x ∷ t) → is_some r ≡ not b → (IsTrue b → a ≡ set.empty) × (a ≡ set.empty → IsTrue b)
+empty_seen None true s t a is normal e same = ((λ yes. nothing_in s a is e.0), (λ none. refl))
+empty_seen None false s t a is normal e same = absurd (false≢true same)
+empty_seen (Some x) true s t a is normal e same = absurd (false≢true (sym same))
+empty_seen (Some x) false s t a is normal e same = ((λ yes. absurd (false≢true yes)), (λ none. absurd (something_in x s t a is normal e none)))

@@ -1,0 +1,218 @@
+-- What two lists of ranges have in common, range by range.
+use Rattle.std.proofs.Common.{◌≡◌, ℕ, zero, suc, ◌+◌, ◌-◌, ◌<◌, ◌≤◌, Bool, true, false, ◌||◌, ◌&&◌, List, [], ◌∷◌, ◌++◌, length, min, max, refl, sym, ap, subst, ◌∙◌, arith, inl, inr, Option, None, Some}
+use Rattle.std.specs.Prelude.{nat_le, nat_lt}
+use Rattle.std.proofs.lemmas.Bool.{cases_lt, or_cases, and_parts, leb-true, ltb-true}
+use Rattle.std.proofs.lemmas.Bool.Decides.{nat_tests}
+use Rattle.moc_ranges.specs.Pixels.{pixel_count}
+use Rattle.moc_ranges.specs.RangeList.{IsNormal, in_range, in_ranges}
+use Rattle.moc_ranges.specs.Private.Blocks.{joining, next_of}
+use Rattle.moc_ranges.specs.Private.Built.{IsBuilt, EndsBelow, Carries, TakesCommon, kept_of}
+use Rattle.moc_ranges.specs.Private.Walks.{begun, EndsBy, Advances, Passes}
+use Rattle.moc_ranges.proofs.Merging.{next_later, ends_next, in_ranges-append, or_false, EndsBelow-append, EndsBelow-more}
+use Rattle.moc_ranges.proofs.Blocking.{IsNormal-suffix}
+use Rattle.moc_ranges.proofs.CarriedOver.{carried_after}
+use Rattle.moc_ranges.proofs.Turning.{or_first}
+use Rattle.moc_ranges.proofs.Walking.{later_only, and_swap, Steps, begun_is}
+
+inside : (a b c d from to q : ℕ) (later more : Bool) → b ≤ d → from ≡ max a c → to ≡ min b d → q < b → more ≡ false → (((nat_le a q && nat_lt q b) || later) && ((nat_le c q && nat_lt q d) || more)) ≡ ((nat_le from q && nat_lt q to) || (later && ((nat_le c q && nat_lt q d) || more)))
+inside a b c d from to q later more ends f w lt none = grind (arith, nat_tests)
+
+outside : (a b c d from to q : ℕ) (later more : Bool) → b ≤ d → from ≡ max a c → to ≡ min b d → b ≤ q → (((nat_le a q && nat_lt q b) || later) && ((nat_le c q && nat_lt q d) || more)) ≡ ((nat_le from q && nat_lt q to) || (later && ((nat_le c q && nat_lt q d) || more)))
+outside a b c d from to q later more ends f w ge = grind (arith, nat_tests)
+
+nothing_in : (from to q : ℕ) (k : Bool) → to ≤ from → k ≡ (k || (nat_le from q && nat_lt q to))
+nothing_in from to q k le = grind (arith, nat_tests)
+
+pieces : (x y : ℕ × ℕ) (xs ys : List (ℕ × ℕ)) (from to q : ℕ) → IsNormal (y ∷ ys) → x.1 ≤ y.1 → from ≡ max x.0 y.0 → to ≡ min x.1 y.1 → (in_ranges (x ∷ xs) q && in_ranges (y ∷ ys) q) ≡ (in_range (from, to) q || (in_ranges xs q && in_ranges (y ∷ ys) q))
+pieces x y xs ys from to q ny ends f t = elim (cases_lt q x.1) [
+  | inl lt ↦ inside x.0 x.1 y.0 y.1 from to q (in_ranges xs q) (in_ranges ys q) ends f t lt (later_only y.1 q ys ny.3 ny.2 (omega arith))
+  | inr ge ↦ outside x.0 x.1 y.0 y.1 from to q (in_ranges xs q) (in_ranges ys q) ends f t ge
+]
+
+pieces_back : (x y : ℕ × ℕ) (xs ys : List (ℕ × ℕ)) (from to q : ℕ) → IsNormal (x ∷ xs) → y.1 ≤ x.1 → from ≡ max x.0 y.0 → to ≡ min x.1 y.1 → (in_ranges (x ∷ xs) q && in_ranges (y ∷ ys) q) ≡ (in_range (from, to) q || (in_ranges (x ∷ xs) q && in_ranges ys q))
+pieces_back x y xs ys from to q nx ends f t =
+    and_swap (in_ranges (x ∷ xs) q) (in_ranges (y ∷ ys) q)
+    ∙ pieces y x ys xs from to q nx ends (omega (arith, f)) (omega (arith, t))
+    ∙ ap (λ b. in_range (from, to) q || b) (and_swap (in_ranges ys q) (in_ranges (x ∷ xs) q))
+
+-- how far an intersection has come
+pub record IsMeeting (ns : List (List (List (ℕ × ℕ)))) (bs : List (List (ℕ × ℕ))) (rs xs ys whole_xs whole_ys : List (ℕ × ℕ)) : Type 0 where
+  pub built : IsBuilt ns bs rs
+  pub first_normal : IsNormal xs
+  pub second_normal : IsNormal ys
+  pub below : EndsBelow (max (next_of xs) (next_of ys)) (kept_of ns bs rs)
+  pub same : (q : ℕ) → (in_ranges (kept_of ns bs rs) q || (in_ranges xs q && in_ranges ys q)) ≡ (in_ranges whole_xs q && in_ranges whole_ys q)
+
+pub meeting_start : (ns : List (List (List (ℕ × ℕ)))) (bs : List (List (ℕ × ℕ))) (rs xs ys t u : List (ℕ × ℕ)) (r s : Option (ℕ × ℕ)) → ns ≡ [] → bs ≡ [] → rs ≡ [] → IsNormal xs → IsNormal ys → Steps xs r t → Steps ys s u → IsMeeting ns bs rs (begun r t) (begun s u) xs ys
+meeting_start ns bs rs xs ys t u r s n b e nx ny rt su =
+    let bx = begun_is xs r t rt in
+    let by = begun_is ys s u su in
+    let start : IsMeeting [] [] [] xs ys xs ys = record {
+      built = record { sized = tt; fits = omega arith; normal = tt };
+      first_normal = nx;
+      second_normal = ny;
+      below = tt;
+      same = λ q. refl;
+    } in
+    subst (λ (l : List (ℕ × ℕ)). IsMeeting ns bs rs l (begun s u) xs ys) (sym bx)
+    (subst (λ (l : List (ℕ × ℕ)). IsMeeting ns bs rs xs l xs ys) (sym by) (rw (n, b, e) start))
+
+-- the first list's next range gave what it has in common with the second's
+pub meeting_kept : (ns ns' : List (List (List (ℕ × ℕ)))) (bs bs' : List (List (ℕ × ℕ))) (rs rs' xs ys whole_xs whole_ys : List (ℕ × ℕ)) (x y : ℕ × ℕ) → IsMeeting ns bs rs (x ∷ xs) (y ∷ ys) whole_xs whole_ys → x.1 ≤ y.1 → IsBuilt ns' bs' rs' → ((f : ℕ) → max x.0 y.0 ≤ f → min x.1 y.1 < f → EndsBelow f (kept_of ns' bs' rs')) → ((q : ℕ) → in_ranges (kept_of ns' bs' rs') q ≡ (in_ranges (kept_of ns bs rs) q || in_range (max x.0 y.0, min x.1 y.1) q)) → IsMeeting ns' bs' rs' xs (y ∷ ys) whole_xs whole_ys
+meeting_kept ns ns' bs bs' rs rs' xs ys whole_xs whole_ys x y s ends built below same =
+    let next : x.1 < next_of xs = (ends_next (x ∷ []) xs s.first_normal).0 in
+    let filled : x.0 < x.1 = s.first_normal.0 in
+    record {
+      built = built;
+      first_normal = s.first_normal.3;
+      second_normal = s.second_normal;
+      below = below (max (next_of xs) y.0) (omega arith) (omega arith);
+      same = λ q. ap (λ k. k || (in_ranges xs q && in_ranges (y ∷ ys) q)) (same q)
+          ∙ or_first (in_ranges (kept_of ns bs rs) q) (in_range (max x.0 y.0, min x.1 y.1) q) (in_ranges xs q && in_ranges (y ∷ ys) q)
+          ∙ ap (λ k. in_ranges (kept_of ns bs rs) q || k) (sym (pieces x y xs ys (max x.0 y.0) (min x.1 y.1) q s.second_normal ends refl refl))
+          ∙ s.same q;
+    }
+
+pub meeting_swap : (ns : List (List (List (ℕ × ℕ)))) (bs : List (List (ℕ × ℕ))) (rs xs ys whole_xs whole_ys : List (ℕ × ℕ)) → IsMeeting ns bs rs xs ys whole_xs whole_ys → IsMeeting ns bs rs ys xs whole_ys whole_xs
+meeting_swap ns bs rs xs ys whole_xs whole_ys s = record {
+  built = s.built;
+  first_normal = s.second_normal;
+  second_normal = s.first_normal;
+  below = EndsBelow-more (max (next_of xs) (next_of ys)) (max (next_of ys) (next_of xs)) (kept_of ns bs rs) s.below (omega arith);
+  same = λ q. ap (λ k. in_ranges (kept_of ns bs rs) q || k) (and_swap (in_ranges ys q) (in_ranges xs q)) ∙ s.same q ∙ and_swap (in_ranges whole_xs q) (in_ranges whole_ys q);
+}
+
+-- the second list's next range gave what it has in common with the first's
+pub meeting_kept_back : (ns ns' : List (List (List (ℕ × ℕ)))) (bs bs' : List (List (ℕ × ℕ))) (rs rs' xs ys whole_xs whole_ys : List (ℕ × ℕ)) (x y : ℕ × ℕ) → IsMeeting ns bs rs (x ∷ xs) (y ∷ ys) whole_xs whole_ys → y.1 ≤ x.1 → IsBuilt ns' bs' rs' → ((f : ℕ) → max x.0 y.0 ≤ f → min x.1 y.1 < f → EndsBelow f (kept_of ns' bs' rs')) → ((q : ℕ) → in_ranges (kept_of ns' bs' rs') q ≡ (in_ranges (kept_of ns bs rs) q || in_range (max x.0 y.0, min x.1 y.1) q)) → IsMeeting ns' bs' rs' ys (x ∷ xs) whole_ys whole_xs
+meeting_kept_back ns ns' bs bs' rs rs' xs ys whole_xs whole_ys x y s ends built below same =
+    let from : max x.0 y.0 ≡ max y.0 x.0 = omega arith in
+    let to : min x.1 y.1 ≡ min y.1 x.1 = omega arith in
+    meeting_kept ns ns' bs bs' rs rs' ys xs whole_ys whole_xs y x (meeting_swap ns bs rs (x ∷ xs) (y ∷ ys) whole_xs whole_ys s) ends built
+    (λ f le lt. below f (omega arith) (omega arith)) (λ q. same q ∙ (λ i. in_ranges (kept_of ns bs rs) q || in_range (from i, to i) q))
+
+ends_by_in : (limit : ℕ) (rs : List (ℕ × ℕ)) (q : ℕ) → EndsBy limit rs → in_ranges rs q ≡ true → q < limit
+ends_by_in limit [] q ended e = absurd (cc)
+ends_by_in limit (r ∷ rs) q ended e = elim (or_cases (in_range r q) (in_ranges rs q) e) [
+  | inl here ↦ let parts = and_parts (nat_le r.0 q) (nat_lt q r.1) here in let lt : q < r.1 = ltb-true q r.1 parts.1 in omega (arith, ended.0)
+  | inr later ↦ ends_by_in limit rs q ended.1 later
+]
+
+taken_bool : (g x y m : Bool) → (g ≡ true → m ≡ false) → ((g || x) && (y || m)) ≡ ((g && y) || (x && (y || m)))
+taken_bool false x y m none = refl
+taken_bool true x true m none = refl
+taken_bool true true false m none = refl
+taken_bool true false false m none = none refl
+
+common_parts : (gone xs ys : List (ℕ × ℕ)) (y : ℕ × ℕ) (q : ℕ) → IsNormal (y ∷ ys) → EndsBy y.1 gone → (in_ranges (gone ++ xs) q && in_ranges (y ∷ ys) q) ≡ ((in_ranges gone q && in_range y q) || (in_ranges xs q && in_ranges (y ∷ ys) q))
+common_parts gone xs ys y q normal ended =
+    ap (λ b. b && in_ranges (y ∷ ys) q) (in_ranges-append gone xs q)
+    ∙ taken_bool (in_ranges gone q) (in_ranges xs q) (in_range y q) (in_ranges ys q)
+    (λ here. let lt : q < y.1 = ends_by_in y.1 gone q ended here in later_only y.1 q ys normal.3 normal.2 (omega arith))
+
+-- more ranges of the first list gave what they have in common with the second's next range
+pub meeting_taken : (ns ns' : List (List (List (ℕ × ℕ)))) (bs bs' : List (List (ℕ × ℕ))) (rs rs' xs xs' ys whole_xs whole_ys : List (ℕ × ℕ)) (y : ℕ × ℕ) → IsMeeting ns bs rs xs (y ∷ ys) whole_xs whole_ys → TakesCommon xs xs' y ns ns' bs bs' rs rs' → IsMeeting ns' bs' rs' xs' (y ∷ ys) whole_xs whole_ys
+meeting_taken ns ns' bs bs' rs rs' xs xs' ys whole_xs whole_ys y s t = record {
+  built = t.built;
+  first_normal = IsNormal-suffix t.gone xs' (subst IsNormal t.parts s.first_normal);
+  second_normal = s.second_normal;
+  below = t.below;
+  same = λ q. ap (λ k. k || (in_ranges xs' q && in_ranges (y ∷ ys) q)) (t.same q)
+      ∙ or_first (in_ranges (kept_of ns bs rs) q) (in_ranges t.gone q && in_range y q) (in_ranges xs' q && in_ranges (y ∷ ys) q)
+      ∙ ap (λ k. in_ranges (kept_of ns bs rs) q || k) (sym (common_parts t.gone xs' ys y q s.second_normal t.ended) ∙ ap (λ (l : List (ℕ × ℕ)). in_ranges l q && in_ranges (y ∷ ys) q) (sym t.parts))
+      ∙ s.same q;
+}
+
+-- ranges that end before a range have nothing in common with it
+ended_bool : (k g y : Bool) → (g ≡ true → y ≡ false) → k ≡ (k || (g && y))
+ended_bool true g y none = refl
+ended_bool false true y none = sym (none refl)
+ended_bool false false y none = refl
+
+before_range : (y : ℕ × ℕ) (q : ℕ) → q < y.0 → in_range y q ≡ false
+before_range y q lt = grind (arith, nat_tests)
+
+EndsBy-more : (low high : ℕ) (rs : List (ℕ × ℕ)) → low ≤ high → EndsBy low rs → EndsBy high rs
+EndsBy-more low high [] le ended = tt
+EndsBy-more low high (r ∷ rs) le ended = (omega (arith, ended.0), EndsBy-more low high rs le ended.1)
+
+ends_by-below : (limit : ℕ) (rs : List (ℕ × ℕ)) → EndsBelow (limit + 1) rs → EndsBy limit rs
+ends_by-below limit [] below = tt
+ends_by-below limit (r ∷ rs) below = (omega (arith, below.0), ends_by-below limit rs below.1)
+
+pub taken_past : (ns : List (List (List (ℕ × ℕ)))) (bs : List (List (ℕ × ℕ))) (rs xs t : List (ℕ × ℕ)) (y : ℕ × ℕ) (r : Option (ℕ × ℕ)) (n : ℕ) → IsNormal xs → y.0 ≤ y.1 → IsBuilt ns bs rs → EndsBelow (max (next_of xs) y.0) (kept_of ns bs rs) → Advances (y.0, y.0) xs t r n → TakesCommon xs (begun r t) y ns ns bs bs rs rs
+taken_past ns bs rs xs t y r n normal rises built after a =
+    let parts = a.passed.parts ∙ ap (λ (l : List (ℕ × ℕ)). a.passed.gone ++ l) (sym (begun_is a.rest r t a.step)) in
+    let whole = subst IsNormal parts normal in
+    record {
+      gone = a.passed.gone;
+      parts = parts;
+      ended = EndsBy-more y.0 y.1 a.passed.gone rises a.passed.ended;
+      built = built;
+      below = EndsBelow-more (max (next_of xs) y.0) (max (next_of (begun r t)) y.0) (kept_of ns bs rs) after
+          (omega (arith, ap next_of parts, next_later a.passed.gone (begun r t) whole));
+      same = λ q. ended_bool (in_ranges (kept_of ns bs rs) q) (in_ranges a.passed.gone q) (in_range y q) (λ here. before_range y q (ends_by_in y.0 a.passed.gone q a.passed.ended here));
+    }
+
+inside_bool : (k g y : Bool) → (g ≡ true → y ≡ true) → (k || g) ≡ (k || (g && y))
+inside_bool true g y all = refl
+inside_bool false true y all = sym (all refl)
+inside_bool false false y all = refl
+
+normal_from : (rs ss : List (ℕ × ℕ)) (q : ℕ) → IsNormal (rs ++ ss) → in_ranges rs q ≡ true → next_of (rs ++ ss) ≤ q
+normal_from [] ss q normal e = absurd (cc)
+normal_from (r ∷ rs) ss q normal e = elim (or_cases (in_range r q) (in_ranges rs q) e) [
+  | inl here ↦ let parts = and_parts (nat_le r.0 q) (nat_lt q r.1) here in leb-true r.0 q parts.0
+  | inr later ↦
+      let next : r.1 < next_of (rs ++ ss) = (ends_next (r ∷ []) (rs ++ ss) normal).0 in
+      let low = normal_from rs ss q normal.3 later in
+      omega (arith, normal.0)
+]
+
+range_holds : (y : ℕ × ℕ) (q : ℕ) → y.0 ≤ q → q < y.1 → in_range y q ≡ true
+range_holds y q low high = grind (arith, nat_tests)
+
+pub taken_carried : (ns ns' : List (List (List (ℕ × ℕ)))) (bs bs' : List (List (ℕ × ℕ))) (rs rs' xs xs' : List (ℕ × ℕ)) (y : ℕ × ℕ) (limit : ℕ) → IsNormal xs → y.0 ≤ next_of xs → limit ≡ y.1 + 1 → EndsBelow (next_of xs) (kept_of ns bs rs) → Carries xs xs' limit ns ns' bs bs' rs rs' → TakesCommon xs xs' y ns ns' bs bs' rs rs'
+taken_carried ns ns' bs bs' rs rs' xs xs' y limit normal from is after c =
+    let whole = subst IsNormal c.parts normal in
+    let ended = ends_by-below y.1 c.gone (subst (λ n. EndsBelow n c.gone) is c.below) in
+    record {
+      gone = c.gone;
+      parts = c.parts;
+      ended = ended;
+      built = c.built;
+      below = EndsBelow-more (next_of xs') (max (next_of xs') y.0) (kept_of ns' bs' rs') (carried_after ns ns' bs bs' rs rs' xs xs' limit normal after c) (omega arith);
+      same = λ q. ap (λ (l : List (ℕ × ℕ)). in_ranges l q) c.kept ∙ in_ranges-append (kept_of ns bs rs) c.gone q
+          ∙ inside_bool (in_ranges (kept_of ns bs rs) q) (in_ranges c.gone q) (in_range y q)
+          (λ here. range_holds y q (omega (arith, from, ap next_of c.parts, normal_from c.gone xs' q whole here)) (ends_by_in y.1 c.gone q ended here));
+    }
+
+and_none : (a : Bool) → (a && false) ≡ false
+and_none true = refl
+and_none false = refl
+
+pub met_first : (ns : List (List (List (ℕ × ℕ)))) (bs : List (List (ℕ × ℕ))) (rs xs ys whole_xs whole_ys : List (ℕ × ℕ)) (f : Option (ℕ × ℕ)) → IsMeeting ns bs rs (begun f xs) ys whole_xs whole_ys → f ≡ None → (q : ℕ) → in_ranges (kept_of ns bs rs) q ≡ (in_ranges whole_xs q && in_ranges whole_ys q)
+met_first ns bs rs xs ys whole_xs whole_ys f s none q =
+    sym (or_false (in_ranges (kept_of ns bs rs) q))
+    ∙ (λ i. in_ranges (kept_of ns bs rs) q || (in_ranges (begun (sym none i) xs) q && in_ranges ys q)) ∙ s.same q
+
+pub met_second : (ns : List (List (List (ℕ × ℕ)))) (bs : List (List (ℕ × ℕ))) (rs xs ys whole_xs whole_ys : List (ℕ × ℕ)) (f : Option (ℕ × ℕ)) → IsMeeting ns bs rs xs (begun f ys) whole_xs whole_ys → f ≡ None → (q : ℕ) → in_ranges (kept_of ns bs rs) q ≡ (in_ranges whole_xs q && in_ranges whole_ys q)
+met_second ns bs rs xs ys whole_xs whole_ys f s none q =
+    sym (or_false (in_ranges (kept_of ns bs rs) q))
+    ∙ ap (λ k. in_ranges (kept_of ns bs rs) q || k) (sym (and_none (in_ranges xs q)))
+    ∙ (λ i. in_ranges (kept_of ns bs rs) q || (in_ranges xs q && in_ranges (begun (sym none i) ys) q)) ∙ s.same q
+
+-- what is built after two ranges gave what they have in common
+pub common_after : (kept : List (ℕ × ℕ)) (from from' : ℕ) → EndsBelow from kept → from' ≡ from → EndsBelow from' kept
+common_after kept from from' below is = subst (λ (n : ℕ). EndsBelow n kept) (sym is) below
+
+pub common_below : (kept kept' : List (ℕ × ℕ)) (from to from' to' f : ℕ) → EndsBelow from kept → kept' ≡ kept ++ (from', to') ∷ [] → from' ≡ from → to' ≡ to → from ≤ f → to < f → EndsBelow f kept'
+common_below kept kept' from to from' to' f below is ef et le lt =
+    subst (λ (l : List (ℕ × ℕ)). EndsBelow f l) (sym is) (EndsBelow-append f kept ((from', to') ∷ []) (EndsBelow-more from f kept below le) (omega arith, tt))
+
+pub common_same : (kept kept' : List (ℕ × ℕ)) (from to from' to' q : ℕ) → kept' ≡ kept ++ (from', to') ∷ [] → from' ≡ from → to' ≡ to → in_ranges kept' q ≡ (in_ranges kept q || in_range (from, to) q)
+common_same kept kept' from to from' to' q is ef et =
+    ap (λ (l : List (ℕ × ℕ)). in_ranges l q) is ∙ in_ranges-append kept ((from', to') ∷ []) q ∙ ap (λ b. in_ranges kept q || b) (or_false (in_range (from', to') q))
+    ∙ (λ i. in_ranges kept q || in_range (ef i, et i) q)
+
+pub common_nothing : (kept : List (ℕ × ℕ)) (from to from' to' q : ℕ) → from' ≡ from → to' ≡ to → to' ≤ from' → in_ranges kept q ≡ (in_ranges kept q || in_range (from, to) q)
+common_nothing kept from to from' to' q f t le = nothing_in from to q (in_ranges kept q) (omega arith)

@@ -1,0 +1,192 @@
+-- Joining lists of ranges at their ends, block by block.
+use Rattle.std.proofs.Common.{◌≡◌, ℕ, zero, suc, ◌+◌, ◌-◌, ◌<◌, ◌≤◌, Bool, true, false, ◌||◌, List, [], ◌∷◌, ◌++◌, length, get_or, take, drop, refl, sym, ap, subst, ◌∙◌, arith, append_assoc, length-append, inl, inr}
+use Rattle.std.proofs.lemmas.List.Folds.{list_any-append}
+use Rattle.std.proofs.lemmas.List.{take_more, drop_more, take_all}
+use Rattle.moc_ranges.specs.Private.Sorted.{IsSortedFrom}
+use Rattle.moc_ranges.specs.Pixels.{pixel_count}
+use Rattle.moc_ranges.specs.RangeList.{IsNormal, BeginsAfter, in_range, in_ranges}
+use Rattle.moc_ranges.specs.Private.Blocks.{joining, first_of, last_of, AreBlocks, NeedsBoth, next_of}
+use Rattle.moc_ranges.specs.Private.Built.{IsBuilt, CanJoin, TakesOver, EndsBelow, BeginsBy, kept_of, last_length}
+use Rattle.moc_ranges.proofs.Blocking.{IsNormal-prefix, IsNormal-suffix, nothing_more, joining-append, joining-last}
+
+pub in_ranges-append : (rs ss : List (ℕ × ℕ)) (q : ℕ) → in_ranges (rs ++ ss) q ≡ (in_ranges rs q || in_ranges ss q)
+in_ranges-append rs ss q = list_any-append (λ range. in_range range q) rs ss
+
+pub EndsBelow-more : (f g : ℕ) (rs : List (ℕ × ℕ)) → EndsBelow f rs → f ≤ g → EndsBelow g rs
+EndsBelow-more f g [] all le = tt
+EndsBelow-more f g (r ∷ rs) all le = (omega arith, EndsBelow-more f g rs all.1 le)
+
+pub BeginsBy-more : (f g : ℕ) (rs : List (ℕ × ℕ)) → BeginsBy f rs → f ≤ g → BeginsBy g rs
+BeginsBy-more f g [] all le = tt
+BeginsBy-more f g (r ∷ rs) all le = (omega arith, BeginsBy-more f g rs all.1 le)
+
+pub EndsBelow-append : (f : ℕ) (rs ss : List (ℕ × ℕ)) → EndsBelow f rs → EndsBelow f ss → EndsBelow f (rs ++ ss)
+EndsBelow-append f [] ss all more = more
+EndsBelow-append f (r ∷ rs) ss all more = (all.0, EndsBelow-append f rs ss all.1 more)
+
+pub EndsBelow-first : (f : ℕ) (rs ss : List (ℕ × ℕ)) → EndsBelow f (rs ++ ss) → EndsBelow f rs
+EndsBelow-first f [] ss all = tt
+EndsBelow-first f (r ∷ rs) ss all = (all.0, EndsBelow-first f rs ss all.1)
+
+first_le_last : (r : ℕ × ℕ) (rs : List (ℕ × ℕ)) → IsNormal (r ∷ rs) → r.1 ≤ last_of (r ∷ rs)
+first_le_last r [] normal = omega arith
+first_le_last r (s ∷ rs) normal = let rest = first_le_last s rs normal.3 in omega arith
+
+-- where the last range ends below f, each does
+pub ends_by_last : (f : ℕ) (rs : List (ℕ × ℕ)) → IsNormal rs → last_of rs < f → EndsBelow f rs
+ends_by_last f [] normal lt = tt
+ends_by_last f (r ∷ []) normal lt = (lt, tt)
+ends_by_last f (r ∷ (s ∷ rs)) normal lt = let rest = first_le_last s rs normal.3 in (omega arith, ends_by_last f (s ∷ rs) normal.3 lt)
+
+-- ranges end below where the next begins
+pub ends_next : (rs ss : List (ℕ × ℕ)) → IsNormal (rs ++ ss) → EndsBelow (next_of ss) rs
+ends_next [] ss normal = tt
+ends_next (r ∷ []) [] normal = (omega arith, tt)
+ends_next (r ∷ []) (s ∷ ss) normal = (normal.2, tt)
+ends_next (r ∷ (r' ∷ rs)) ss normal = let rest = ends_next (r' ∷ rs) ss normal.3 in (omega arith, rest)
+
+-- two normal lists, of which the first ends before the second begins
+pub normal_append : (rs ss : List (ℕ × ℕ)) → IsNormal rs → IsNormal ss → EndsBelow (next_of ss) rs → IsNormal (rs ++ ss)
+normal_append [] ss nr ns below = ns
+normal_append (r ∷ []) [] nr ns below = nr
+normal_append (r ∷ []) (s ∷ ss) nr ns below = (nr.0, nr.1, below.0, ns)
+normal_append (r ∷ (r' ∷ rs)) ss nr ns below = (nr.0, nr.1, nr.2, normal_append (r' ∷ rs) ss nr.3 ns below.1)
+
+pub next_later : (rs ss : List (ℕ × ℕ)) → IsNormal (rs ++ ss) → next_of (rs ++ ss) ≤ next_of ss
+next_later [] ss normal = omega arith
+next_later (r ∷ []) [] normal = omega arith
+next_later (r ∷ []) (s ∷ ss) normal = omega arith
+next_later (r ∷ (r' ∷ rs)) ss normal = let rest = next_later (r' ∷ rs) ss normal.3 in omega arith
+
+pub next_append : (rs ss : List (ℕ × ℕ)) → 0 < length rs → next_of (rs ++ ss) ≡ next_of rs
+next_append [] ss some = absurd (omega arith)
+next_append (r ∷ rs) ss some = refl
+
+pub none_next : (rs : List (ℕ × ℕ)) → IsNormal rs → 18446744073709551615 ≤ next_of rs → rs ≡ []
+none_next [] normal le = refl
+none_next (r ∷ rs) normal le = absurd (omega arith)
+
+pub some_next : (rs : List (ℕ × ℕ)) → next_of rs < 18446744073709551615 → 0 < length rs
+some_next [] lt = absurd (omega arith)
+some_next (r ∷ rs) lt = omega arith
+
+pub CanJoin-more : (ns : List (List (List (ℕ × ℕ)))) (bs : List (List (ℕ × ℕ))) (rs : List (ℕ × ℕ)) (f g : ℕ) → CanJoin ns bs rs f → f ≤ g → CanJoin ns bs rs g
+CanJoin-more ns bs rs f g can le = record { before = EndsBelow-more f g (joining (joining ns ++ bs)) can.before le; begun = BeginsBy-more f g rs can.begun le }
+
+pub normal_ranges : (ns : List (List (List (ℕ × ℕ)))) (bs : List (List (ℕ × ℕ))) (rs : List (ℕ × ℕ)) → IsBuilt ns bs rs → IsNormal rs
+normal_ranges ns bs rs built = IsNormal-suffix (joining (joining ns ++ bs)) rs built.normal
+
+-- a block of a list can be carried behind what is built
+pub carried_normal : (ns : List (List (List (ℕ × ℕ)))) (bs : List (List (ℕ × ℕ))) (rs xs block xs' : List (ℕ × ℕ)) → IsBuilt ns bs rs → IsNormal xs → xs ≡ block ++ xs' → 0 < length block → CanJoin ns bs rs (next_of xs) → EndsBelow (next_of xs) rs → IsNormal (kept_of ns bs rs ++ block)
+carried_normal ns bs rs xs block xs' built normal parts some can apart =
+    let whole = subst IsNormal parts normal in
+    let first : next_of xs ≡ next_of block = ap next_of parts ∙ next_append block xs' some in
+    let below = EndsBelow-append (next_of xs) (joining (joining ns ++ bs)) rs can.before apart in
+    normal_append (kept_of ns bs rs) block built.normal (IsNormal-prefix block xs' whole) (subst (λ f. EndsBelow f (kept_of ns bs rs)) first below)
+
+-- a block was carried
+pub carried : (ns ns' : List (List (List (ℕ × ℕ)))) (bs bs' : List (List (ℕ × ℕ))) (rs rs' xs block xs' : List (ℕ × ℕ)) (limit : ℕ) → IsBuilt ns bs rs → IsNormal xs → xs ≡ block ++ xs' → 0 < length block → CanJoin ns bs rs (next_of xs) → EndsBelow (next_of xs) rs → next_of xs ≤ limit → last_of block < limit → IsBuilt ns' bs' rs' → kept_of ns' bs' rs' ≡ kept_of ns bs rs ++ block → rs' ≡ [] → TakesOver xs xs' limit ns ns' bs bs' rs rs'
+carried ns ns' bs bs' rs rs' xs block xs' limit built normal parts some can apart first last built' kept none =
+    let whole = subst IsNormal parts normal in
+    let below = EndsBelow-append (next_of xs) (joining (joining ns ++ bs)) rs can.before apart in
+    let onward : next_of xs ≤ next_of xs' = subst (λ (l : List (ℕ × ℕ)). next_of l ≤ next_of xs') (sym parts) (next_later block xs' whole) in
+    let stack : joining (joining ns' ++ bs') ++ [] ≡ kept_of ns bs rs ++ block = ap (λ (l : List (ℕ × ℕ)). joining (joining ns' ++ bs') ++ l) (sym none) ∙ kept in
+    let begun : (f : ℕ) → BeginsBy f rs' = λ f. subst (λ (l : List (ℕ × ℕ)). BeginsBy f l) (sym none) tt in
+    let ends : (f : ℕ) → EndsBelow f (kept_of ns bs rs ++ block) → EndsBelow f (joining (joining ns' ++ bs')) = λ f all. EndsBelow-first f (joining (joining ns' ++ bs')) [] (subst (λ (l : List (ℕ × ℕ)). EndsBelow f l) (sym stack) all) in
+    record {
+      gone = block;
+      parts = parts;
+      some = some;
+      built = built';
+      same = λ q. ap (λ (l : List (ℕ × ℕ)). in_ranges l q) kept ∙ in_ranges-append (kept_of ns bs rs) block q;
+      can_next = record { before = ends (next_of xs') (EndsBelow-append (next_of xs') (kept_of ns bs rs) block (EndsBelow-more (next_of xs) (next_of xs') (kept_of ns bs rs) below onward) (ends_next block xs' whole)); begun = begun (next_of xs') };
+      can_limit = record { before = ends limit (EndsBelow-append limit (kept_of ns bs rs) block (EndsBelow-more (next_of xs) limit (kept_of ns bs rs) below first) (ends_by_last limit block (IsNormal-prefix block xs' whole) last)); begun = begun limit };
+    }
+
+pub or_false : (b : Bool) → (b || false) ≡ b
+or_false true = refl
+or_false false = refl
+
+-- a range was joined
+pub joined_over : (ns ns' : List (List (List (ℕ × ℕ)))) (bs bs' : List (List (ℕ × ℕ))) (rs rs' xs xs' : List (ℕ × ℕ)) (range : ℕ × ℕ) (limit : ℕ) → IsNormal xs → xs ≡ range ∷ xs' → next_of xs ≤ limit → IsBuilt ns' bs' rs' → ((q : ℕ) → in_ranges (kept_of ns' bs' rs') q ≡ (in_ranges (kept_of ns bs rs) q || in_range range q)) → CanJoin ns' bs' rs' range.0 → TakesOver xs xs' limit ns ns' bs bs' rs rs'
+joined_over ns ns' bs bs' rs rs' xs xs' range limit normal parts first built' same can =
+    let whole = subst IsNormal parts normal in
+    let begins : next_of xs ≡ range.0 = ap next_of parts in
+    let later = next_later (range ∷ []) xs' whole in
+    record {
+      gone = range ∷ [];
+      parts = parts;
+      some = omega arith;
+      built = built';
+      same = λ q. same q ∙ ap (λ b. in_ranges (kept_of ns bs rs) q || b) (sym (or_false (in_range range q)));
+      can_next = CanJoin-more ns' bs' rs' range.0 (next_of xs') can later;
+      can_limit = CanJoin-more ns' bs' rs' range.0 limit can (omega arith);
+    }
+
+-- how far a union has come
+pub record IsUniting (ns : List (List (List (ℕ × ℕ)))) (bs : List (List (ℕ × ℕ))) (rs xs ys whole_xs whole_ys : List (ℕ × ℕ)) : Type 0 where
+  pub built : IsBuilt ns bs rs
+  pub first_normal : IsNormal xs
+  pub second_normal : IsNormal ys
+  pub can_first : CanJoin ns bs rs (next_of xs)
+  pub can_second : CanJoin ns bs rs (next_of ys)
+  pub same : (q : ℕ) → (in_ranges (kept_of ns bs rs) q || (in_ranges xs q || in_ranges ys q)) ≡ (in_ranges whole_xs q || in_ranges whole_ys q)
+
+pub uniting_start : (ns : List (List (List (ℕ × ℕ)))) (bs : List (List (ℕ × ℕ))) (rs xs ys : List (ℕ × ℕ)) → ns ≡ [] → bs ≡ [] → rs ≡ [] → IsNormal xs → IsNormal ys → IsUniting ns bs rs xs ys xs ys
+uniting_start ns bs rs xs ys n b r nx ny =
+    let start : IsUniting [] [] [] xs ys xs ys = record {
+      built = record { sized = tt; fits = omega arith; normal = tt };
+      first_normal = nx;
+      second_normal = ny;
+      can_first = record { before = tt; begun = tt };
+      can_second = record { before = tt; begun = tt };
+      same = λ q. refl;
+    } in
+    rw (n, b, r) start
+
+or_assoc : (a b c : Bool) → (a || (b || c)) ≡ ((a || b) || c)
+or_assoc true b c = refl
+or_assoc false b c = refl
+
+or_moves : (k g x y : Bool) → ((k || g) || (x || y)) ≡ (k || ((g || x) || y))
+or_moves true g x y = refl
+or_moves false g x y = or_assoc g x y
+
+or_swaps : (k g x y : Bool) → ((k || g) || (x || y)) ≡ (k || (x || (g || y)))
+or_swaps true g x y = refl
+or_swaps false true true y = refl
+or_swaps false true false y = refl
+or_swaps false false x y = refl
+
+pub uniting_first : (ns ns' : List (List (List (ℕ × ℕ)))) (bs bs' : List (List (ℕ × ℕ))) (rs rs' xs xs' ys whole_xs whole_ys : List (ℕ × ℕ)) (limit : ℕ) → IsUniting ns bs rs xs ys whole_xs whole_ys → limit ≡ next_of ys → TakesOver xs xs' limit ns ns' bs bs' rs rs' → IsUniting ns' bs' rs' xs' ys whole_xs whole_ys
+uniting_first ns ns' bs bs' rs rs' xs xs' ys whole_xs whole_ys limit s is t = record {
+  built = t.built;
+  first_normal = IsNormal-suffix t.gone xs' (subst IsNormal t.parts s.first_normal);
+  second_normal = s.second_normal;
+  can_first = t.can_next;
+  can_second = subst (λ f. CanJoin ns' bs' rs' f) is t.can_limit;
+  same = λ q. ap (λ b. b || (in_ranges xs' q || in_ranges ys q)) (t.same q)
+      ∙ or_moves (in_ranges (kept_of ns bs rs) q) (in_ranges t.gone q) (in_ranges xs' q) (in_ranges ys q)
+      ∙ ap (λ b. in_ranges (kept_of ns bs rs) q || (b || in_ranges ys q)) (sym (in_ranges-append t.gone xs' q) ∙ ap (λ (l : List (ℕ × ℕ)). in_ranges l q) (sym t.parts))
+      ∙ s.same q;
+}
+
+pub uniting_second : (ns ns' : List (List (List (ℕ × ℕ)))) (bs bs' : List (List (ℕ × ℕ))) (rs rs' xs ys ys' whole_xs whole_ys : List (ℕ × ℕ)) (limit : ℕ) → IsUniting ns bs rs xs ys whole_xs whole_ys → limit ≡ next_of xs → TakesOver ys ys' limit ns ns' bs bs' rs rs' → IsUniting ns' bs' rs' xs ys' whole_xs whole_ys
+uniting_second ns ns' bs bs' rs rs' xs ys ys' whole_xs whole_ys limit s is t = record {
+  built = t.built;
+  first_normal = s.first_normal;
+  second_normal = IsNormal-suffix t.gone ys' (subst IsNormal t.parts s.second_normal);
+  can_first = subst (λ f. CanJoin ns' bs' rs' f) is t.can_limit;
+  can_second = t.can_next;
+  same = λ q. ap (λ b. b || (in_ranges xs q || in_ranges ys' q)) (t.same q)
+      ∙ or_swaps (in_ranges (kept_of ns bs rs) q) (in_ranges t.gone q) (in_ranges xs q) (in_ranges ys' q)
+      ∙ ap (λ b. in_ranges (kept_of ns bs rs) q || (in_ranges xs q || b)) (sym (in_ranges-append t.gone ys' q) ∙ ap (λ (l : List (ℕ × ℕ)). in_ranges l q) (sym t.parts))
+      ∙ s.same q;
+}
+
+pub taken_onward : (xs xs' : List (ℕ × ℕ)) (limit : ℕ) (ns ns' : List (List (List (ℕ × ℕ)))) (bs bs' : List (List (ℕ × ℕ))) (rs rs' : List (ℕ × ℕ)) → TakesOver xs xs' limit ns ns' bs bs' rs rs' → length xs' < length xs
+taken_onward xs xs' limit ns ns' bs bs' rs rs' t = omega (arith, ap length t.parts, length-append t.gone xs', t.some)
+
+pub united : (ns : List (List (List (ℕ × ℕ)))) (bs : List (List (ℕ × ℕ))) (rs xs ys whole_xs whole_ys : List (ℕ × ℕ)) → IsUniting ns bs rs xs ys whole_xs whole_ys → xs ≡ [] → ys ≡ [] → (q : ℕ) → in_ranges (kept_of ns bs rs) q ≡ (in_ranges whole_xs q || in_ranges whole_ys q)
+united ns bs rs xs ys whole_xs whole_ys s x y q =
+    sym (or_false (in_ranges (kept_of ns bs rs) q)) ∙ (λ i. in_ranges (kept_of ns bs rs) q || (in_ranges (sym x i) q || in_ranges (sym y i) q)) ∙ s.same q

@@ -1,0 +1,33 @@
+use Rattle.std.proofs.Common.{◌≡◌, ◌∙◌, ◌-◌, [], List, ℕ, take, drop, length, get_or, arith}
+use Rattle.std.proofs.lemmas.Result.{IfOk-weaker}
+use Rattle.std.proofs.lemmas.List.{drop_more, drop_all}
+use Rattle.moc_ranges.proofs.Building.{open_filled, open_within, open_after, lengthened_start, lengthened_more, lengthened_all}
+use Rattle.moc_ranges.proofs.Turning.{first_item}
+use Rattle.moc_ranges.proofs.Views.{same_view}
+use Rattle.moc_ranges.proofs.from_ranges.build.Goals as goal
+
+pub loop-pair-init : goal.loop-pair-init
+loop-pair-init c =
+    lengthened_start _ _ _ _ c.args.pairs.now _ c.in_ok-built.ensures.nodes c.in_ok-built.ensures.blocks c.in_ok-built.ensures.ranges c.requires (first_item c.args.pairs.now (0, 0) c.in-len1-up.len_at_least)
+
+pub loop-pair-preserved : goal.loop-pair-preserved
+loop-pair-preserved c =
+    let others = take (length c.args.pairs.now - 1) (drop 1 c.args.pairs.now) in
+    lengthened_more _ _ _ _ _ _ _ _ _ _ _ (get_or others c.loop-pair.pair-index (0, 0)) c.loop-pair.invariant (drop_more others c.loop-pair.pair-index (0, 0) c.loop-pair-test.true) c.in_ok-last.ensures.opened c.in_ok-last.ensures.later c.in_ok-last.ensures.same
+
+pub push-requires-clause-filled : goal.push-requires-clause-filled
+push-requires-clause-filled c = open_filled _ c.loop-pair.last c.loop-pair.invariant.opened.normal
+
+pub push-requires-clause-within : goal.push-requires-clause-within
+push-requires-clause-within c = open_within _ c.loop-pair.last c.loop-pair.invariant.opened.normal
+
+pub push-requires-clause-after : goal.push-requires-clause-after
+push-requires-clause-after c = open_after _ c.loop-pair.last c.loop-pair.invariant.opened.normal
+
+pub returns : goal.returns
+returns c =
+    let others = take (length c.args.pairs.now - 1) (drop 1 c.args.pairs.now) in
+    IfOk-weaker c.finish-2.result _ _
+    (λ made is. is ∙ same_view _ c.args.pairs.now
+    (lengthened_all _ _ _ _ _ _ c.loop-pair.last c.loop-pair.invariant (drop_all c.loop-pair.pair-index others c.loop-pair-test.false) c.in_ok-push.ensures.kept))
+    c.finish-2.ensures

@@ -1,0 +1,8 @@
+use Rattle.std.proofs.Common.{◌≡◌, ◌+◌, ◌-◌, ◌<◌, ◌≤◌, ◌++◌, ◌∷◌, ◌||◌, [], List, ℕ, length, take, arith, ap, sym, subst, refl, ◌∙◌, append_assoc}
+use Rattle.moc_ranges.specs.Private.Blocks.{joining, AreBlocks, next_of}
+use Rattle.moc_ranges.specs.Private.Built.{kept_of, IsBuilt, last_length, EndsBelow}
+use Rattle.moc_ranges.specs.RangeList.{IsNormal, in_ranges}
+use Rattle.moc_ranges.proofs.list_builder.ListBuilder.carry_each.Given as goal
+
+abbrev pub invariant-loop-block : goal.invariant-loop-block
+invariant-loop-block l = AreBlocks (joining l.self.nodes.items ++ l.self.blocks.items) × (joining (joining l.self.nodes.items ++ l.self.blocks.items) ≡ joining (joining l.initial.self.nodes.items ++ l.initial.self.blocks.items) ++ joining (take l.block-index l.blocks)) × (l.self.ranges.items ≡ l.initial.self.ranges.items)

@@ -1,0 +1,10 @@
+use Rattle.std.proofs.Common.{◌≡◌, ◌+◌, ◌-◌, ◌<◌, ◌≤◌, ◌++◌, ◌∷◌, ◌||◌, [], List, ℕ, length, arith, ap, sym, subst, refl, ◌∙◌, append_assoc}
+use Rattle.moc_ranges.specs.Private.Blocks.{joining, AreBlocks, next_of}
+use Rattle.moc_ranges.specs.Private.Built.{kept_of, IsBuilt, last_length, EndsBelow}
+use Rattle.moc_ranges.specs.RangeList.{IsNormal, in_ranges}
+use Rattle.moc_ranges.proofs.Building.{reopened}
+use Rattle.moc_ranges.proofs.Blocking.{none_there}
+use Rattle.moc_ranges.proofs.list_builder.ListBuilder.reopen.Goals as goal
+
+pub returns-in_ok-self-clause-blocks : goal.returns-in_ok-self-clause-blocks
+returns-in_ok-self-clause-blocks c = reopened c.args.self.now.nodes.items c.pop.new.self.items c.in-Some.node c.args.self.now.blocks.items c.in_ok-self.field-0.items c.in-Some.ensures.items (c.in_ok-self.ensures ∙ c.blocks-in-Some.ensures.value) (none_there _ (omega arith))

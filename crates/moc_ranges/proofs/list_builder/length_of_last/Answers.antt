@@ -1,0 +1,9 @@
+use Rattle.std.proofs.Common.{◌≡◌, ◌+◌, ◌-◌, ◌<◌, ◌≤◌, ◌++◌, ◌∷◌, ◌||◌, [], List, ℕ, length, arith, ap, sym, subst, refl, ◌∙◌, append_assoc}
+use Rattle.moc_ranges.specs.Private.Blocks.{joining, AreBlocks, next_of}
+use Rattle.moc_ranges.specs.Private.Built.{kept_of, IsBuilt, last_length, EndsBelow}
+use Rattle.moc_ranges.specs.RangeList.{IsNormal, in_ranges}
+use Rattle.moc_ranges.proofs.Building.{last_length-append}
+use Rattle.moc_ranges.proofs.list_builder.length_of_last.Goals as goal
+
+pub returns-in_default : goal.returns-in_default
+returns-in_default c = c.length_of_block.ensures ∙ sym (last_length-append (joining c.args.nodes.now) c.args.blocks.now (omega (arith, c.in_default.len_at_least)))

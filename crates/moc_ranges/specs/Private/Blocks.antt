@@ -1,0 +1,66 @@
+-- Lists of ranges that are kept in blocks, and blocks in nodes.
+use Rattle.std.specs.Prelude.{◌≡◌, ℕ, ◌+◌, ◌-◌, ◌<◌, ◌≤◌, List, [], ◌∷◌, ◌++◌, length, sum_by, ⊤}
+use Rattle.moc_ranges.specs.RangeList.{IsNormal}
+pub use Rattle.moc_ranges.specs.Blocks.{joining, NeedsBoth, AreBlocks}
+
+-- the sum of the widths of ranges
+abbrev pub width_of : List (ℕ × ℕ) → ℕ
+width_of ranges = sum_by (λ range. range.1 - range.0) ranges
+
+-- where the first range begins
+abbrev pub first_of : List (ℕ × ℕ) → ℕ
+first_of [] = 0
+first_of (range ∷ ranges) = range.0
+
+-- where the last range ends
+abbrev pub last_of : List (ℕ × ℕ) → ℕ
+last_of [] = 0
+last_of (range ∷ []) = range.1
+last_of (range ∷ (next ∷ ranges)) = last_of (next ∷ ranges)
+
+-- what is kept beside ranges: where they begin and end, and how many numbers they have
+pub record IsSummary (from to size : ℕ) (ranges : List (ℕ × ℕ)) : Type 0 where
+  pub some : 0 < length ranges
+  pub first : from ≡ first_of ranges
+  pub last : to ≡ last_of ranges
+  pub measured : size ≡ width_of ranges
+
+-- what is kept beside a block, which has at most 128 ranges
+pub record IsBlock (from to size : ℕ) (ranges : List (ℕ × ℕ)) : Type 0 where
+  pub summary : IsSummary from to size ranges
+  pub fits : length ranges ≤ 128
+
+-- what is kept beside a node: where its blocks begin and end, how many numbers they have, and how
+-- many ranges
+pub record IsNode (from to size count : ℕ) (blocks : List (List (ℕ × ℕ))) : Type 0 where
+  pub summary : IsSummary from to size (joining blocks)
+  pub counted : count ≡ length (joining blocks)
+  pub sized : AreBlocks blocks
+
+-- the ranges that a walk still has to go: of a block that is begun, of a node that is begun, of the
+-- nodes
+abbrev pub rest_of : List (ℕ × ℕ) → List (List (ℕ × ℕ)) → List (List (List (ℕ × ℕ))) → List (ℕ × ℕ)
+rest_of ranges blocks nodes = ranges ++ (joining blocks ++ joining (joining nodes))
+
+-- where the first of some ranges begins, or the largest u64 if there is none
+abbrev pub next_of : List (ℕ × ℕ) → ℕ
+next_of [] = 18446744073709551615
+next_of (range ∷ ranges) = range.0
+
+-- how a set is kept: at most 128 ranges by themselves, or nodes of blocks; all ranges together are a
+-- normal range list
+pub record IsStored (few : List (ℕ × ℕ)) (nodes : List (List (List (ℕ × ℕ)))) : Type 0 where
+  pub alone : 0 < length few → nodes ≡ []
+  pub fits : length few ≤ 128
+  pub sized : AreBlocks (joining nodes)
+  pub normal : IsNormal (rest_of few [] nodes)
+
+-- blocks whose ranges, one block after the other, are a normal range list
+pub record AreStored (blocks : List (List (ℕ × ℕ))) : Type 0 where
+  pub sized : AreBlocks blocks
+  pub normal : IsNormal (joining blocks)
+
+-- the blocks of a set: its few ranges as one, and those of a node that is begun and of the nodes
+abbrev pub chunks_of : List (ℕ × ℕ) → List (List (ℕ × ℕ)) → List (List (List (ℕ × ℕ))) → List (List (ℕ × ℕ))
+chunks_of [] blocks nodes = blocks ++ joining nodes
+chunks_of (range ∷ few) blocks nodes = (range ∷ few) ∷ (blocks ++ joining nodes)

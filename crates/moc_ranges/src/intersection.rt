@@ -1,0 +1,92 @@
+//! Intersection of lists in blocks.
+ghost use Rattle.std.specs.FinSet as set;
+ghost use Rattle.std.specs.Prelude.{◌≡◌, ◌<◌, ◌≤◌, ◌||◌, ℕ, min, max, IfOk, OnOk};
+ghost use Rattle.moc_ranges.specs.Pixels.{pixel_count};
+ghost use Rattle.moc_ranges.specs.RangeList.{IsNormal, in_range, in_ranges, set_of};
+ghost use Rattle.moc_ranges.specs.Private.Blocks.{next_of};
+ghost use Rattle.moc_ranges.specs.Private.Walks.{begun};
+ghost use Rattle.moc_ranges.specs.Private.Built.{kept_of, IsBuilt, EndsBelow, TakesCommon};
+
+use crate::carrying::next_carrying;
+use crate::coverage::Coverage;
+use crate::list_builder::ListBuilder;
+use crate::ranges::Ranges;
+use std::alloc::{AllocError, Global};
+
+/// Adds what two ranges have in common, where that is something; it begins behind what is built.
+#[inline]
+fn push_common(
+    alloc: Global,
+    x: (u64, u64),
+    y: (u64, u64),
+    built: &mut ListBuilder,
+) -> Result<(), AllocError>
+    requires built { IsBuilt built.old.nodes.items built.old.blocks.items built.old.ranges.items }
+    requires within { x.1 ≤ pixel_count }
+    requires after { EndsBelow (max x.0 y.0) (kept_of built.old.nodes.items built.old.blocks.items built.old.ranges.items) }
+    ensures built { OnOk result (IsBuilt built.new.nodes.items built.new.blocks.items built.new.ranges.items) }
+    ensures below { OnOk result ((f : ℕ) → max x.0 y.0 ≤ f → min x.1 y.1 < f → EndsBelow f (kept_of built.new.nodes.items built.new.blocks.items built.new.ranges.items)) }
+    ensures same { OnOk result ((q : ℕ) → in_ranges (kept_of built.new.nodes.items built.new.blocks.items built.new.ranges.items) q ≡ (in_ranges (kept_of built.old.nodes.items built.old.blocks.items built.old.ranges.items) q || in_range (max x.0 y.0, min x.1 y.1) q)) }
+{
+    let from = x.0.max(y.0);
+    let to = x.1.min(y.1);
+    if to <= from {
+        return Ok(());
+    }
+    built.push(alloc, from, to)?;
+    Ok(())
+}
+
+/// The next range behind one that ended at `end`, where the other list has come to a range. Those that
+/// end before that are left out, and nodes and blocks that lie in it are carried over.
+#[inline]
+fn next_meeting(
+    alloc: Global,
+    xs: &mut Ranges<'_>,
+    end: u64,
+    other: (u64, u64),
+    built: &mut ListBuilder,
+) -> Result<Option<(u64, u64)>, AllocError>
+    requires normal { IsNormal xs.old }
+    requires behind { end ≤ next_of xs.old }
+    requires rising { other.0 < other.1 }
+    requires within { other.1 ≤ pixel_count }
+    requires built { IsBuilt built.old.nodes.items built.old.blocks.items built.old.ranges.items }
+    requires after { EndsBelow (max (next_of xs.old) other.0)
+        (kept_of built.old.nodes.items built.old.blocks.items built.old.ranges.items) }
+    ensures { IfOk result (λ next. TakesCommon xs.old (begun next xs.new) other
+        built.old.nodes.items built.new.nodes.items built.old.blocks.items built.new.blocks.items
+        built.old.ranges.items built.new.ranges.items) }
+{
+    if end <= other.0 {
+        return Ok(xs.next_past(other.0));
+    }
+    next_carrying(alloc, xs, other.1 + 1, built)
+}
+
+/// The pixels that the ranges of both lists have.
+pub fn intersect(
+    alloc: Global,
+    mut xs: Ranges<'_>,
+    mut ys: Ranges<'_>,
+) -> Result<Coverage, AllocError>
+    requires xs { IsNormal xs }
+    requires ys { IsNormal ys }
+    ensures { IfOk result (λ c. c ≡ set.intersection (set_of xs.entry) (set_of ys.entry)) }
+{
+    let mut built = ListBuilder::new(alloc, xs.room() + ys.room())?;
+    let mut first = xs.next();
+    let mut second = ys.next();
+    while let Some(x) = first {
+        let Some(y) = second else {
+            return built.finish(alloc);
+        };
+        push_common(alloc, x, y, &mut built)?;
+        if x.1 <= y.1 {
+            first = next_meeting(alloc, &mut xs, x.1, y, &mut built)?;
+        } else {
+            second = next_meeting(alloc, &mut ys, y.1, x, &mut built)?;
+        }
+    }
+    built.finish(alloc)
+}

@@ -1,0 +1,271 @@
+//! Going on in a list of ranges, past those that end early or lie whole in a range.
+ghost use Rattle.std.specs.Prelude.{◌≡◌, ◌+◌, ◌<◌, ◌≤◌, List, ℕ, [], ◌∷◌, length, take};
+ghost use Rattle.moc_ranges.specs.RangeList.{IsNormal};
+ghost use Rattle.moc_ranges.specs.Private.Blocks.{joining, first_of, last_of, width_of, rest_of};
+ghost use Rattle.moc_ranges.specs.Private.Walks.{joined, EndsBy, Passes, Advances};
+
+use crate::block::Block;
+use crate::node::Node;
+use crate::ranges::{Ahead, Begun, Ranges, begin_node};
+
+/// What has one or more ranges in rising order: a range, a block, a node.
+trait Run {
+    ghost ranges: { Self → List (ℕ × ℕ) };
+
+    /// Where its first range begins.
+    fn start(&self) -> u64
+        ensures value { result ≡ first_of (ranges self.now) }
+        ensures some { 0 < length (ranges self.now) };
+
+    /// Where its last range ends.
+    fn end(&self) -> u64
+        ensures value { result ≡ last_of (ranges self.now) }
+        ensures some { 0 < length (ranges self.now) };
+
+    /// How many pixels it has.
+    fn width(&self) -> u64
+        requires { IsNormal (ranges self.now) }
+        ensures value { result ≡ width_of (ranges self.now) }
+        ensures some { 0 < length (ranges self.now) };
+}
+
+impl Run for (u64, u64) {
+    ghost use Rattle.std.specs.Prelude.{[], ◌∷◌};
+
+    ghost ranges = { λ range. range ∷ [] };
+
+    #[inline]
+    fn start(&self) -> u64 {
+        self.0
+    }
+
+    #[inline]
+    fn end(&self) -> u64 {
+        self.1
+    }
+
+    #[inline]
+    fn width(&self) -> u64 {
+        self.1 - self.0
+    }
+}
+
+impl Run for Block {
+    ghost ranges = { λ block. block };
+
+    #[inline]
+    fn start(&self) -> u64 {
+        Block::from(self)
+    }
+
+    #[inline]
+    fn end(&self) -> u64 {
+        Block::to(self)
+    }
+
+    #[inline]
+    fn width(&self) -> u64 {
+        Block::size(self)
+    }
+}
+
+impl Run for Node {
+    ghost use Rattle.moc_ranges.specs.Private.Blocks.{joining};
+
+    ghost ranges = { λ node. joining node };
+
+    #[inline]
+    fn start(&self) -> u64 {
+        Node::from(self)
+    }
+
+    #[inline]
+    fn end(&self) -> u64 {
+        Node::to(self)
+    }
+
+    #[inline]
+    fn width(&self) -> u64 {
+        Node::size(self)
+    }
+}
+
+/// How many of the runs end by a number. O(log n).
+#[inline]
+fn count_ended<T: Run>(runs: &[T], limit: u64) -> usize
+    requires { IsNormal (joined T.ranges runs.now) }
+    ensures bound { result ≤ length runs.now }
+    ensures ended { EndsBy limit (joined T.ranges (take result runs.now)) }
+{
+    let mut low = 0;
+    let mut high = runs.len();
+    while low < high {
+        let middle = low + (high - low) / 2;
+        if runs[middle].end() <= limit {
+            low = middle + 1;
+        } else {
+            high = middle;
+        }
+    }
+    low
+}
+
+/// How many pixels were passed, and the runs behind them.
+#[derive(Clone, Copy)]
+struct Passed<'a, T> {
+    common: u64,
+    rest: &'a [T],
+}
+
+/// Goes past the runs that end where the range begins, and past those after them that lie in it.
+#[inline]
+fn pass_runs<T: Run>(runs: &[T], range: (u64, u64)) -> Passed<'_, T>
+    requires normal { IsNormal (joined T.ranges runs.now) }
+    requires rising { range.0 ≤ range.1 }
+    ensures { Passes range (joined T.ranges runs.entry.now) (joined T.ranges result.rest.now) result.common }
+{
+    let mut place = count_ended(runs, range.0);
+    let mut common = 0;
+    while place < runs.len() {
+        let run = &runs[place];
+        if run.start() < range.0 || run.end() > range.1 {
+            break;
+        }
+        common += run.width();
+        place += 1;
+    }
+    Passed {
+        common,
+        rest: &runs[place..],
+    }
+}
+
+/// How many pixels were passed, and the blocks and nodes behind them.
+#[derive(Clone, Copy)]
+struct PassedBlocks<'a> {
+    common: u64,
+    ahead: Ahead<'a>,
+}
+
+/// The same as `pass_runs`, over blocks and the nodes behind them.
+fn pass_blocks(ahead: Ahead<'_>, range: (u64, u64)) -> PassedBlocks<'_>
+    requires normal { IsNormal (rest_of [] ahead.blocks.now ahead.nodes.now) }
+    requires rising { range.0 ≤ range.1 }
+    ensures { Passes range (rest_of [] ahead.entry.blocks.now ahead.entry.nodes.now) (rest_of [] result.ahead.blocks.now result.ahead.nodes.now) result.common }
+{
+    let begun = pass_runs(ahead.blocks, range);
+    let [] = begun.rest else {
+        return PassedBlocks {
+            common: begun.common,
+            ahead: Ahead {
+                blocks: begun.rest,
+                nodes: ahead.nodes,
+            },
+        };
+    };
+    let nodes = pass_runs(ahead.nodes, range);
+    let next = begin_node(Ahead {
+        blocks: &[],
+        nodes: nodes.rest,
+    });
+    let blocks = pass_runs(next.blocks, range);
+    PassedBlocks {
+        common: begun.common + nodes.common + blocks.common,
+        ahead: Ahead {
+            blocks: blocks.rest,
+            nodes: next.nodes,
+        },
+    }
+}
+
+/// How many pixels were passed, and what is behind them.
+#[derive(Clone, Copy)]
+pub(crate) struct PassedRanges<'a> {
+    pub common: u64,
+    pub begun: Begun<'a>,
+}
+
+/// The same as `pass_runs`, over blocks and nodes and the ranges of the first block behind.
+fn pass_behind(ahead: Ahead<'_>, range: (u64, u64)) -> PassedRanges<'_>
+    requires normal { IsNormal (rest_of [] ahead.blocks.now ahead.nodes.now) }
+    requires rising { range.0 ≤ range.1 }
+    ensures { Passes range (rest_of [] ahead.entry.blocks.now ahead.entry.nodes.now) (rest_of result.begun.ranges.now result.begun.ahead.blocks.now result.begun.ahead.nodes.now) result.common }
+{
+    let PassedBlocks { common, ahead } = pass_blocks(ahead, range);
+    let [block, blocks @ ..] = ahead.blocks else {
+        return PassedRanges {
+            common,
+            begun: Begun { ranges: &[], ahead },
+        };
+    };
+    let there = pass_runs(block.ranges(), range);
+    PassedRanges {
+        common: common + there.common,
+        begun: Begun {
+            ranges: there.rest,
+            ahead: Ahead {
+                blocks,
+                nodes: ahead.nodes,
+            },
+        },
+    }
+}
+
+/// The same as `pass_runs`, over the rest of a block that is begun and what is behind it.
+#[inline]
+pub(crate) fn pass_ranges(begun: Begun<'_>, range: (u64, u64)) -> PassedRanges<'_>
+    requires normal { IsNormal (rest_of begun.ranges.now begun.ahead.blocks.now begun.ahead.nodes.now) }
+    requires rising { range.0 ≤ range.1 }
+    ensures { Passes range (rest_of begun.entry.ranges.now begun.entry.ahead.blocks.now begun.entry.ahead.nodes.now) (rest_of result.begun.ranges.now result.begun.ahead.blocks.now result.begun.ahead.nodes.now) result.common }
+{
+    let here = pass_runs(begun.ranges, range);
+    let [] = here.rest else {
+        return PassedRanges {
+            common: here.common,
+            begun: Begun {
+                ranges: here.rest,
+                ahead: begun.ahead,
+            },
+        };
+    };
+    let behind = pass_behind(begun.ahead, range);
+    PassedRanges {
+        common: here.common + behind.common,
+        begun: behind.begun,
+    }
+}
+
+/// How many pixels were passed, and the next range.
+#[derive(Clone, Copy)]
+pub(crate) struct Advance {
+    pub common: u64,
+    pub next: Option<(u64, u64)>,
+}
+
+impl<'a> Ranges<'a> {
+    /// The next range, in a block that is begun. Where none is, it is the next one behind those
+    /// that `pass` leaves out.
+    #[inline]
+    pub(crate) fn advance(&mut self, range: (u64, u64)) -> Advance
+        requires { range.0 ≤ range.1 }
+        ensures { Advances range self.old self.new result.next result.common }
+    {
+        let mut common = 0;
+        if !self.is_in_block() {
+            common = self.pass(range);
+        }
+        Advance {
+            common,
+            next: self.next(),
+        }
+    }
+
+    /// The next range, in a block that is begun. Where none is, it is the next one that ends after
+    /// the limit.
+    #[inline]
+    pub(crate) fn next_past(&mut self, limit: u64) -> Option<(u64, u64)>
+        ensures { ((n : ℕ) × Advances (limit, limit) self.old self.new result n) }
+    {
+        self.advance((limit, limit)).next
+    }
+}

@@ -1,0 +1,208 @@
+//! Union of lists in blocks, which carries over the blocks that the other list does not meet.
+ghost use Rattle.std.specs.FinSet as set;
+ghost use Rattle.std.specs.Prelude.{◌≡◌, ◌+◌, ◌<◌, ◌≤◌, ◌||◌, ◌&&◌, not, ◌++◌, ◌∷◌, [], List, ℕ, length, min, max, IfOk, IfSome, OnOk};
+ghost use Rattle.moc_ranges.specs.Pixels.{pixel_count};
+ghost use Rattle.moc_ranges.specs.RangeList.{IsNormal, in_range, in_ranges, set_of};
+ghost use Rattle.moc_ranges.specs.Private.Blocks.{next_of, rest_of};
+ghost use Rattle.moc_ranges.specs.Private.Built.{kept_of, IsBuilt, EndsBelow, CanJoin, TakesOver, IsTurn, IsOpen, IsJoining, TakesBoth};
+
+use crate::coverage::Coverage;
+use crate::list_builder::{ListBuilder, lengthen};
+use crate::ranges::{Begun, Ranges};
+use std::alloc::{AllocError, Global};
+
+/// Takes the next range of a list over into what is built; the limit bounds where it begins.
+#[inline]
+fn join_next(
+    alloc: Global,
+    xs: &mut Ranges<'_>,
+    limit: u64,
+    built: &mut ListBuilder,
+) -> Result<(), AllocError>
+    requires some { 0 < length xs.old }
+    requires normal { IsNormal xs.old }
+    requires first { next_of xs.old ≤ limit }
+    requires built { IsBuilt built.old.nodes.items built.old.blocks.items built.old.ranges.items }
+    requires can { CanJoin built.old.nodes.items built.old.blocks.items built.old.ranges.items (next_of xs.old) }
+    ensures { OnOk result (TakesOver xs.old xs.new limit built.old.nodes.items built.new.nodes.items built.old.blocks.items built.new.blocks.items built.old.ranges.items built.new.ranges.items) }
+{
+    if let Some(range) = xs.next() {
+        built.join(alloc, range.0, range.1)?;
+    }
+    Ok(())
+}
+
+/// Takes the next range of a list, or the next block where it ends below the limit, over into what is built.
+fn take_block_over(
+    alloc: Global,
+    xs: &mut Ranges<'_>,
+    limit: u64,
+    built: &mut ListBuilder,
+) -> Result<(), AllocError>
+    requires some { 0 < length xs.old }
+    requires normal { IsNormal xs.old }
+    requires first { next_of xs.old ≤ limit }
+    requires built { IsBuilt built.old.nodes.items built.old.blocks.items built.old.ranges.items }
+    requires can { CanJoin built.old.nodes.items built.old.blocks.items built.old.ranges.items (next_of xs.old) }
+    ensures { OnOk result (TakesOver xs.old xs.new limit built.old.nodes.items built.new.nodes.items built.old.blocks.items built.new.blocks.items built.old.ranges.items built.new.ranges.items) }
+{
+    let first = xs.next_from();
+    let bound = built.carry_limit(first, limit);
+    if let Some(block) = xs.take_block_below(bound) {
+        built.carry(alloc, block)?;
+        return Ok(());
+    }
+    join_next(alloc, xs, limit, built)?;
+    Ok(())
+}
+
+/// Takes the next range of a list, or the next blocks where they end below the limit, over into what is built.
+#[inline]
+fn take_over(
+    alloc: Global,
+    xs: &mut Ranges<'_>,
+    limit: u64,
+    built: &mut ListBuilder,
+) -> Result<(), AllocError>
+    requires some { 0 < length xs.old }
+    requires normal { IsNormal xs.old }
+    requires first { next_of xs.old ≤ limit }
+    requires built { IsBuilt built.old.nodes.items built.old.blocks.items built.old.ranges.items }
+    requires can { CanJoin built.old.nodes.items built.old.blocks.items built.old.ranges.items (next_of xs.old) }
+    ensures { OnOk result (TakesOver xs.old xs.new limit built.old.nodes.items built.new.nodes.items built.old.blocks.items built.new.blocks.items built.old.ranges.items built.new.ranges.items) }
+{
+    if xs.is_in_block() {
+        join_next(alloc, xs, limit, built)?;
+        return Ok(());
+    }
+    let first = xs.next_from();
+    let bound = built.carry_limit(first, limit);
+    if let Some(node) = xs.take_node_below(bound) {
+        built.carry_node(alloc, node)?;
+        return Ok(());
+    }
+    take_block_over(alloc, xs, limit, built)?;
+    Ok(())
+}
+
+/// A range, and what is left of two begun blocks behind it.
+#[derive(Clone, Copy)]
+struct Turn<'a, 'b> {
+    range: (u64, u64),
+    xs: &'a [(u64, u64)],
+    ys: &'b [(u64, u64)],
+}
+
+/// The range of two begun blocks that begins first, where both have one.
+#[inline]
+fn next_turn<'a, 'b>(xs: &'a [(u64, u64)], ys: &'b [(u64, u64)]) -> Option<Turn<'a, 'b>>
+    ensures { IfSome result (λ t. (behind_xs behind_ys : List (ℕ × ℕ)) → IsNormal (xs.entry.now ++ behind_xs) → IsNormal (ys.entry.now ++ behind_ys) → IsTurn (xs.entry.now ++ behind_xs) (ys.entry.now ++ behind_ys) t.range (t.xs.now ++ behind_xs) (t.ys.now ++ behind_ys)) }
+{
+    let [x, more_xs @ ..] = xs else {
+        return None;
+    };
+    let [y, more_ys @ ..] = ys else {
+        return None;
+    };
+    let x = *x;
+    let y = *y;
+    if x.0 <= y.0 {
+        Some(Turn {
+            range: x,
+            xs: more_xs,
+            ys,
+        })
+    } else {
+        Some(Turn {
+            range: y,
+            xs,
+            ys: more_ys,
+        })
+    }
+}
+
+/// What is left of two begun blocks, and the range that is open.
+#[derive(Clone, Copy)]
+struct Left<'a, 'b> {
+    last: (u64, u64),
+    xs: &'a [(u64, u64)],
+    ys: &'b [(u64, u64)],
+}
+
+/// Joins the ranges of two begun blocks until one has no more.
+#[inline]
+fn join_begun<'a, 'b>(
+    alloc: Global,
+    last: (u64, u64),
+    first: Begun<'a>,
+    second: Begun<'b>,
+    built: &mut ListBuilder,
+) -> Result<Left<'a, 'b>, AllocError>
+    requires opened { IsOpen built.old.nodes.items built.old.blocks.items built.old.ranges.items last }
+    requires first_normal { IsNormal (rest_of first.ranges.now first.ahead.blocks.now first.ahead.nodes.now) }
+    requires second_normal { IsNormal (rest_of second.ranges.now second.ahead.blocks.now second.ahead.nodes.now) }
+    requires first_later { last.0 ≤ next_of (rest_of first.ranges.now first.ahead.blocks.now first.ahead.nodes.now) }
+    requires second_later { last.0 ≤ next_of (rest_of second.ranges.now second.ahead.blocks.now second.ahead.nodes.now) }
+    ensures { IfOk result (λ l. IsJoining built.new.nodes.items built.new.blocks.items built.new.ranges.items l.last (rest_of l.xs.now first.entry.ahead.blocks.now first.entry.ahead.nodes.now) (rest_of l.ys.now second.entry.ahead.blocks.now second.entry.ahead.nodes.now) (kept_of built.old.nodes.items built.old.blocks.items built.old.ranges.items ++ last ∷ []) (rest_of first.entry.ranges.now first.entry.ahead.blocks.now first.entry.ahead.nodes.now) (rest_of second.entry.ranges.now second.entry.ahead.blocks.now second.entry.ahead.nodes.now)) }
+{
+    let mut last = last;
+    let mut xs = first.ranges;
+    let mut ys = second.ranges;
+    while let Some(turn) = next_turn(xs, ys) {
+        last = lengthen(alloc, last, turn.range, built)?;
+        xs = turn.xs;
+        ys = turn.ys;
+    }
+    Ok(Left { last, xs, ys })
+}
+
+/// Joins the ranges of two lists that both have a begun block until one has none.
+fn join_both(
+    alloc: Global,
+    xs: &mut Ranges<'_>,
+    ys: &mut Ranges<'_>,
+    built: &mut ListBuilder,
+) -> Result<(), AllocError>
+    requires first_normal { IsNormal xs.old }
+    requires second_normal { IsNormal ys.old }
+    requires built { IsBuilt built.old.nodes.items built.old.blocks.items built.old.ranges.items }
+    requires can_first { CanJoin built.old.nodes.items built.old.blocks.items built.old.ranges.items (next_of xs.old) }
+    requires can_second { CanJoin built.old.nodes.items built.old.blocks.items built.old.ranges.items (next_of ys.old) }
+    ensures { OnOk result (TakesBoth xs.old xs.new ys.old ys.new built.old.nodes.items built.new.nodes.items built.old.blocks.items built.new.blocks.items built.old.ranges.items built.new.ranges.items) }
+{
+    if !xs.is_in_block() || !ys.is_in_block() {
+        return Ok(());
+    }
+    let Some(last) = built.ranges.pop() else {
+        return Ok(());
+    };
+    let first = xs.begun();
+    let second = ys.begun();
+    let left = join_begun(alloc, last, first, second, built)?;
+    xs.resume(left.xs, first.ahead);
+    ys.resume(left.ys, second.ahead);
+    built.push(alloc, left.last.0, left.last.1)?;
+    Ok(())
+}
+
+/// The pixels in the ranges of either list.
+pub fn unite(alloc: Global, mut xs: Ranges<'_>, mut ys: Ranges<'_>) -> Result<Coverage, AllocError>
+    requires xs { IsNormal xs }
+    requires ys { IsNormal ys }
+    ensures { IfOk result (λ c. c ≡ set.union (set_of xs.entry) (set_of ys.entry)) }
+{
+    let mut built = ListBuilder::new(alloc, xs.room() + ys.room())?;
+    loop {
+        join_both(alloc, &mut xs, &mut ys, &mut built)?;
+        let x = xs.next_from();
+        let y = ys.next_from();
+        if x <= y {
+            if x == u64::MAX {
+                return built.finish(alloc);
+            }
+            take_over(alloc, &mut xs, y, &mut built)?;
+        } else {
+            take_over(alloc, &mut ys, x, &mut built)?;
+        }
+    }
+}
