@@ -76,7 +76,6 @@ halved : (w w' e : ℕ) → w < 2 ^ e → 0 < w → w' ≤ w / 2 → (f : ℕ) �
 halved w w' zero lt some le = absurd (omega arith)
 halved w w' (suc e) lt some le = (e, (half_lt w w' (2 ^ e) (omega (arith, power e, lt)) le, omega arith))
 
-
 -- one step of the search
 pub spend : (len start steps w w' : ℕ) → ((d : ℕ) → len < 2 ^ d → (e : ℕ) × ((w < 2 ^ e) × (steps + e ≤ start + d))) → 0 < w → w' ≤ w / 2 → (d : ℕ) → len < 2 ^ d → (e : ℕ) × ((w' < 2 ^ e) × (steps + 1 + e ≤ start + d))
 spend len start steps w w' spent some le d lt =
@@ -224,12 +223,13 @@ nodes_taken ns i n lt is =
 
 pub block_found : (ns : List (List (List (ℕ × ℕ)))) (i left place : ℕ) (n : List (List (ℕ × ℕ))) (b : List (ℕ × ℕ)) → i < length ns → n ≡ get_or ns i n → place ≡ length (joining (take i ns)) + left → left < length n → b ≡ get_or n left b → (place < length (joining ns)) × (b ≡ get_or (joining ns) place b)
 block_found ns i left place n b lt is at inside same =
-    let room = nodes_taken ns i n lt is in
-    ( omega (arith, room.1)
-    , same ∙ sym (ap (λ (l : List (List (ℕ × ℕ))). get_or l place b) (nodes_at ns i n lt is)
-      ∙ ap (λ k. get_or (joining (take i ns) ++ (n ++ joining (drop (i + 1) ns))) k b) at
-      ∙ get_past (joining (take i ns)) (n ++ joining (drop (i + 1) ns)) left b
-      ∙ get_first n (joining (drop (i + 1) ns)) left b inside) )
+    let room = nodes_taken ns i n lt is in (
+      omega (arith, room.1),
+      same ∙ sym (ap (λ (l : List (List (ℕ × ℕ))). get_or l place b) (nodes_at ns i n lt is)
+          ∙ ap (λ k. get_or (joining (take i ns) ++ (n ++ joining (drop (i + 1) ns))) k b) at
+          ∙ get_past (joining (take i ns)) (n ++ joining (drop (i + 1) ns)) left b
+          ∙ get_first n (joining (drop (i + 1) ns)) left b inside),
+    )
 
 pub blocks_done : (ns : List (List (List (ℕ × ℕ)))) (i : ℕ) → length ns ≤ i → length (joining (take i ns)) ≡ length (joining ns)
 blocks_done ns i le = ap (λ (l : List (List (List (ℕ × ℕ)))). length (joining l)) (take_all i ns le)
@@ -260,9 +260,9 @@ cost_few few nodes a old new is s some cost =
     record {
       blocks = few ∷ [];
       kept = record {
-          sized = (some, s.fits, tt, tt);
-          normal = subst IsNormal (alone ∙ sym (nothing_more few)) s.normal;
-          set = ap set_of (nothing_more few ∙ sym alone) ∙ is;
-        };
+        sized = (some, s.fits, tt, tt);
+        normal = subst IsNormal (alone ∙ sym (nothing_more few)) s.normal;
+        set = ap set_of (nothing_more few ∙ sym alone) ∙ is;
+      };
       cost = λ digits lt. omega (arith, most);
     }

@@ -63,13 +63,13 @@ common_step x y xs ys nx ny ends =
     let n : ℕ = min x.1 y.1 - max x.0 y.0 in
     let rest : NumberSet = set.intersection (set_of xs) (set_of (y ∷ ys)) in
     let same : set.intersection (set_of (x ∷ xs)) (set_of (y ∷ ys)) ≡ set.union (numbers from (from + n)) rest = same_members _ _ (λ q.
-      contains_both (x ∷ xs) (y ∷ ys) q
-      ∙ elim (cases_lt q x.1) [
-        | inl lt ↦ inside_piece x.0 x.1 y.0 y.1 from n q (in_ranges xs q) (in_ranges ys q) ends refl refl lt (later_only y.1 q ys ny.3 ny.2 (omega arith))
-        | inr ge ↦ outside_piece x.0 x.1 y.0 y.1 from n q (in_ranges xs q) (in_ranges ys q) ends refl refl ge
-      ]
-      ∙ (λ i. sym (contains-numbers from (from + n) q) i || sym (contains_both xs (y ∷ ys) q) i)
-      ∙ sym (set.contains-union nat_cmp_total (numbers from (from + n)) rest q)) in
+    contains_both (x ∷ xs) (y ∷ ys) q
+    ∙ elim (cases_lt q x.1) [
+      | inl lt ↦ inside_piece x.0 x.1 y.0 y.1 from n q (in_ranges xs q) (in_ranges ys q) ends refl refl lt (later_only y.1 q ys ny.3 ny.2 (omega arith))
+      | inr ge ↦ outside_piece x.0 x.1 y.0 y.1 from n q (in_ranges xs q) (in_ranges ys q) ends refl refl ge
+    ]
+    ∙ (λ i. sym (contains-numbers from (from + n) q) i || sym (contains_both xs (y ∷ ys) q) i)
+    ∙ sym (set.contains-union nat_cmp_total (numbers from (from + n)) rest q)) in
     ap set.len same
     ∙ len-more from n rest (λ q low high. contains_both xs (y ∷ ys) q ∙ ap (λ b. b && in_ranges (y ∷ ys) q) (later_only x.1 q xs nx.3 nx.2 (omega (arith, below_end x.1 y.1 from n q ends refl low high))))
 
@@ -172,11 +172,11 @@ pub advances_past : (y : ℕ × ℕ) (xs t : List (ℕ × ℕ)) (r : Option (ℕ
 advances_past y xs t r n le a = record {
   rest = a.rest;
   passed = record {
-      gone = a.passed.gone;
-      parts = a.passed.parts;
-      ended = ends_by_more y.0 y.1 a.passed.gone le a.passed.ended;
-      counted = overlap_none y a.passed.gone a.passed.ended;
-    };
+    gone = a.passed.gone;
+    parts = a.passed.parts;
+    ended = ends_by_more y.0 y.1 a.passed.gone le a.passed.ended;
+    counted = overlap_none y a.passed.gone a.passed.ended;
+  };
   step = a.step;
 }
 

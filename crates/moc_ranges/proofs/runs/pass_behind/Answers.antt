@@ -5,7 +5,6 @@ use Rattle.moc_ranges.proofs.Passing.{pass_begun, passes_normal, passes_bounded,
 use Rattle.moc_ranges.proofs.runs.pass_behind.Goals as goal
 
 pub pass_runs-there-requires-clause-normal : goal.pass_runs-there-requires-clause-normal
-
 pass_runs-there-requires-clause-normal c =
     let ahead = c.pass_blocks-common.result.ahead in
     let split = block_split ahead.blocks.now ahead.nodes.now c.block-item.result c.in-len1-up.len_at_least c.block-item.is in
