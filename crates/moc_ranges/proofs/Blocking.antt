@@ -60,7 +60,7 @@ width_taken bs i b lt is =
 width_part : (bs : List (List (ℕ × ℕ))) (i : ℕ) → width_of (joining (take i bs)) ≤ width_of (joining bs)
 width_part bs i =
     let parts : width_of (joining (take i bs)) + width_of (joining (drop i bs)) ≡ width_of (joining bs) =
-      sym (width-append (joining (take i bs)) (joining (drop i bs))) ∙ ap width_of (sym (joining-append (take i bs) (drop i bs))) ∙ ap (λ (l : List (List (ℕ × ℕ))). width_of (joining l)) (take-append-drop i bs) in
+    sym (width-append (joining (take i bs)) (joining (drop i bs))) ∙ ap width_of (sym (joining-append (take i bs) (drop i bs))) ∙ ap (λ (l : List (List (ℕ × ℕ))). width_of (joining l)) (take-append-drop i bs) in
     omega arith
 
 pub count_step : (bs : List (List (ℕ × ℕ))) (i : ℕ) (b : List (ℕ × ℕ)) → IsNormal (joining bs) → i < length bs → b ≡ get_or bs i b → (width_of (joining (take (i + 1) bs)) ≡ width_of (joining (take i bs)) + width_of b) × (width_of (joining (take i bs)) + width_of b ≤ pixel_count)
@@ -111,7 +111,6 @@ last_of-joining (b ∷ []) d (suc i) e filled = absurd (omega arith)
 last_of-joining (b ∷ (b' ∷ bs)) d zero e filled = absurd (omega arith)
 last_of-joining (b ∷ (b' ∷ bs)) d (suc i) e filled = last_of-append b (joining (b' ∷ bs)) (length_last (b' ∷ bs) d i (omega arith) filled) ∙ last_of-joining (b' ∷ bs) d i (omega arith) filled
 
-
 pub some_joined : (bs : List (List (ℕ × ℕ))) → 0 < length (joining bs) → length bs < 1 → ⊥
 some_joined [] some none = omega arith
 some_joined (b ∷ bs) some none = omega arith
@@ -155,7 +154,7 @@ pub node_step : (ns : List (List (List (ℕ × ℕ)))) (i : ℕ) (n : List (List
 node_step ns i n normal lt is =
     let more = ap width_of (all_taken ns i n lt is) ∙ width-append (joining (joining (take i ns))) (joining n) in
     let parts : joining (joining (take (i + 1) ns)) ++ joining (joining (drop (i + 1) ns)) ≡ joining (joining ns) =
-      sym (joining-append (joining (take (i + 1) ns)) (joining (drop (i + 1) ns))) ∙ ap joining (sym (joining-append (take (i + 1) ns) (drop (i + 1) ns))) ∙ ap (λ (l : List (List (List (ℕ × ℕ)))). joining (joining l)) (take-append-drop (i + 1) ns) in
+    sym (joining-append (joining (take (i + 1) ns)) (joining (drop (i + 1) ns))) ∙ ap joining (sym (joining-append (take (i + 1) ns) (drop (i + 1) ns))) ∙ ap (λ (l : List (List (List (ℕ × ℕ)))). joining (joining l)) (take-append-drop (i + 1) ns) in
     let whole = width-append (joining (joining (take (i + 1) ns))) (joining (joining (drop (i + 1) ns))) in
     let all = width_bounded (joining (joining ns)) normal in
     (more, omega (arith, more, whole, ap width_of parts, all))
@@ -174,12 +173,12 @@ few_ranges rs normal = omega (arith, length_bounded rs normal, width_bounded rs 
 pub length_step : (bs : List (List (ℕ × ℕ))) (i : ℕ) (b : List (ℕ × ℕ)) → IsNormal (joining bs) → i < length bs → b ≡ get_or bs i b → (length (joining (take (i + 1) bs)) ≡ length (joining (take i bs)) + length b) × (length (joining (take i bs)) + length b ≤ pixel_count)
 length_step bs i b normal lt is =
     let more : length (joining (take (i + 1) bs)) ≡ length (joining (take i bs)) + length b =
-      ap (λ (l : List (List (ℕ × ℕ))). length (joining l)) (take_more bs i b lt)
-      ∙ ap length (joining-last (take i bs) (get_or bs i b))
-      ∙ length-append (joining (take i bs)) (get_or bs i b)
-      ∙ ap (λ (l : List (ℕ × ℕ)). length (joining (take i bs)) + length l) (sym is) in
+    ap (λ (l : List (List (ℕ × ℕ))). length (joining l)) (take_more bs i b lt)
+    ∙ ap length (joining-last (take i bs) (get_or bs i b))
+    ∙ length-append (joining (take i bs)) (get_or bs i b)
+    ∙ ap (λ (l : List (ℕ × ℕ)). length (joining (take i bs)) + length l) (sym is) in
     let parts : length (joining (take (i + 1) bs)) + length (joining (drop (i + 1) bs)) ≡ length (joining bs) =
-      sym (length-append (joining (take (i + 1) bs)) (joining (drop (i + 1) bs))) ∙ ap length (sym (joining-append (take (i + 1) bs) (drop (i + 1) bs))) ∙ ap (λ (l : List (List (ℕ × ℕ))). length (joining l)) (take-append-drop (i + 1) bs) in
+    sym (length-append (joining (take (i + 1) bs)) (joining (drop (i + 1) bs))) ∙ ap length (sym (joining-append (take (i + 1) bs) (drop (i + 1) bs))) ∙ ap (λ (l : List (List (ℕ × ℕ))). length (joining l)) (take-append-drop (i + 1) bs) in
     (more, omega (arith, more, parts, few_ranges (joining bs) normal))
 
 pub length_done : (bs : List (List (ℕ × ℕ))) (i : ℕ) → length bs ≤ i → length (joining (take i bs)) ≡ length (joining bs)
@@ -189,7 +188,7 @@ pub length_node_step : (ns : List (List (List (ℕ × ℕ)))) (i : ℕ) (n : Lis
 length_node_step ns i n normal lt is =
     let more = ap length (all_taken ns i n lt is) ∙ length-append (joining (joining (take i ns))) (joining n) in
     let parts : joining (joining (take (i + 1) ns)) ++ joining (joining (drop (i + 1) ns)) ≡ joining (joining ns) =
-      sym (joining-append (joining (take (i + 1) ns)) (joining (drop (i + 1) ns))) ∙ ap joining (sym (joining-append (take (i + 1) ns) (drop (i + 1) ns))) ∙ ap (λ (l : List (List (List (ℕ × ℕ)))). joining (joining l)) (take-append-drop (i + 1) ns) in
+    sym (joining-append (joining (take (i + 1) ns)) (joining (drop (i + 1) ns))) ∙ ap joining (sym (joining-append (take (i + 1) ns) (drop (i + 1) ns))) ∙ ap (λ (l : List (List (List (ℕ × ℕ)))). joining (joining l)) (take-append-drop (i + 1) ns) in
     let whole = length-append (joining (joining (take (i + 1) ns))) (joining (joining (drop (i + 1) ns))) in
     (more, omega (arith, more, whole, ap length parts, few_ranges (joining (joining ns)) normal))
 

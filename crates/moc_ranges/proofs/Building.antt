@@ -242,7 +242,7 @@ pub each_normal : (blocks : List (List (ℕ × ℕ))) (i : ℕ) (b : List (ℕ �
 each_normal blocks i b all now lt is before normal =
     let next = each_more blocks i b all now (now ++ b) lt is before refl in
     let whole : all ++ joining blocks ≡ (all ++ joining (take (i + 1) blocks)) ++ joining (drop (i + 1) blocks) =
-      ap (λ (l : List (ℕ × ℕ)). all ++ l) (ap joining (sym (take-append-drop (i + 1) blocks)) ∙ joining-append (take (i + 1) blocks) (drop (i + 1) blocks)) ∙ sym (append_assoc all (joining (take (i + 1) blocks)) (joining (drop (i + 1) blocks))) in
+    ap (λ (l : List (ℕ × ℕ)). all ++ l) (ap joining (sym (take-append-drop (i + 1) blocks)) ∙ joining-append (take (i + 1) blocks) (drop (i + 1) blocks)) ∙ sym (append_assoc all (joining (take (i + 1) blocks)) (joining (drop (i + 1) blocks))) in
     subst IsNormal (sym next) (IsNormal-prefix (all ++ joining (take (i + 1) blocks)) (joining (drop (i + 1) blocks)) (subst IsNormal whole normal))
 
 -- blocks that became a node
@@ -366,8 +366,8 @@ lengthened_more ns ns' bs bs' rs rs' rest rest' whole last last' range s is open
   opened = opened;
   sorted = sorted_less range.0 last'.0 rest' later (subst (λ (l : List (ℕ × ℕ)). IsSortedFrom last.0 l) is s.sorted).3;
   same = λ q. ap (λ b. b || in_ranges rest' q) (same q)
-    ∙ or_behind (in_ranges (kept_of ns bs rs ++ last ∷ []) q) (in_range range q) (in_ranges rest' q)
-    ∙ ap (λ (l : List (ℕ × ℕ)). in_ranges (kept_of ns bs rs ++ last ∷ []) q || in_ranges l q) (sym is) ∙ s.same q;
+      ∙ or_behind (in_ranges (kept_of ns bs rs ++ last ∷ []) q) (in_range range q) (in_ranges rest' q)
+      ∙ ap (λ (l : List (ℕ × ℕ)). in_ranges (kept_of ns bs rs ++ last ∷ []) q || in_ranges l q) (sym is) ∙ s.same q;
 }
 
 pub lengthened_next : (last range : ℕ × ℕ) (rest rest' : List (ℕ × ℕ)) → IsSortedFrom last.0 rest → rest ≡ range ∷ rest' → (last.0 ≤ range.0) × (range.0 < range.1) × (range.1 ≤ pixel_count)

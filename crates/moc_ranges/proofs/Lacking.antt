@@ -69,7 +69,8 @@ lacking_begin ns bs rs xs ys u s n b e nx ny su =
     let by = begun_is ys s u su in
     let start : IsLacking [] [] [] xs ys xs ys = record {
       built = record { sized = tt; fits = omega arith; normal = tt };
-      first_normal = nx; second_normal = ny;
+      first_normal = nx;
+      second_normal = ny;
       below = tt;
       same = λ q. refl;
     } in
@@ -85,9 +86,9 @@ lacking_trim ns ns' bs bs' rs rs' xs ys t whole_xs whole_ys x y to r l reach end
       second_normal = l.second_normal.3;
       below = below y.1 (omega arith) (omega (arith, is));
       same = λ q. ap (λ k. k || (in_ranges ((y.1, x.1) ∷ xs) q && not (in_ranges ys q))) (same q)
-        ∙ or_first (in_ranges (kept_of ns bs rs) q) (in_range (x.0, to) q) (in_ranges ((y.1, x.1) ∷ xs) q && not (in_ranges ys q))
-        ∙ ap (λ k. in_ranges (kept_of ns bs rs) q || k) (sym (trim x y xs ys to q l.first_normal l.second_normal reach ends is))
-        ∙ l.same q;
+          ∙ or_first (in_ranges (kept_of ns bs rs) q) (in_range (x.0, to) q) (in_ranges ((y.1, x.1) ∷ xs) q && not (in_ranges ys q))
+          ∙ ap (λ k. in_ranges (kept_of ns bs rs) q || k) (sym (trim x y xs ys to q l.first_normal l.second_normal reach ends is))
+          ∙ l.same q;
     })
 
 range_from : (r : ℕ × ℕ) (q : ℕ) → in_range r q ≡ true → (r.0 ≤ q) × (q < r.1)
@@ -139,11 +140,11 @@ lacking_carried ns ns' bs bs' rs rs' xs xs' ys whole_xs whole_ys limit l is c =
           (EndsBelow-append (next_of xs') (kept_of ns bs rs) c.gone
           (EndsBelow-more (next_of xs) (next_of xs') (kept_of ns bs rs) l.below (omega (arith, ap next_of c.parts, later))) (ends_next c.gone xs' normal));
       same = λ q. ap (λ k. k || (in_ranges xs' q && not (in_ranges ys q))) (ap (λ (k : List (ℕ × ℕ)). in_ranges k q) c.kept ∙ in_ranges-append (kept_of ns bs rs) c.gone q)
-        ∙ or_first (in_ranges (kept_of ns bs rs) q) (in_ranges c.gone q) (in_ranges xs' q && not (in_ranges ys q))
-        ∙ ap (λ k. in_ranges (kept_of ns bs rs) q || k)
+          ∙ or_first (in_ranges (kept_of ns bs rs) q) (in_ranges c.gone q) (in_ranges xs' q && not (in_ranges ys q))
+          ∙ ap (λ k. in_ranges (kept_of ns bs rs) q || k)
           (sym (carried_has c.gone xs' ys q normal l.second_normal (subst (λ f. EndsBelow f c.gone) is c.below))
           ∙ ap (λ (k : List (ℕ × ℕ)). in_ranges k q && not (in_ranges ys q)) (sym c.parts))
-        ∙ l.same q;
+          ∙ l.same q;
     }
 
 -- ranges of the first list that lie in the second's next range were passed
@@ -154,7 +155,7 @@ passed_has (r ∷ gone) xs y ys q normal ended later =
     let next : r.1 < next_of (gone ++ xs) = (ends_next (r ∷ []) (gone ++ xs) normal).0 in
     let rest = passed_has gone xs y ys q normal.3 ended.1 (omega (arith, normal.0, later, next)) in
     let inside : in_range r q ≡ true → in_range y q ≡ true = λ here.
-      let at = range_from r q here in range_is y q (omega (arith, at.0, later)) (omega (arith, at.1, ended.0)) in
+    let at = range_from r q here in range_is y q (omega (arith, at.0, later)) (omega (arith, at.1, ended.0)) in
     passed_bool (in_range r q) (in_ranges xs q) (in_range y q) (in_ranges ys q) (in_ranges (gone ++ xs) q) rest inside
 
 pub lacking_passed : (ns : List (List (List (ℕ × ℕ)))) (bs : List (List (ℕ × ℕ))) (rs xs ys t whole_xs whole_ys : List (ℕ × ℕ)) (y : ℕ × ℕ) (r : Option (ℕ × ℕ)) (n : ℕ) → IsLacking ns bs rs xs (y ∷ ys) whole_xs whole_ys → y.0 ≤ next_of xs → Advances y xs t r n → IsLacking ns bs rs (begun r t) (y ∷ ys) whole_xs whole_ys
@@ -171,7 +172,7 @@ lacking_passed ns bs rs xs ys t whole_xs whole_ys y r n l from a =
       same = λ q. ap (λ k. in_ranges (kept_of ns bs rs) q || k)
           (passed_has a.passed.gone a.rest y ys q normal a.passed.ended (omega (arith, from, ap next_of parts))
           ∙ ap (λ (k : List (ℕ × ℕ)). in_ranges k q && not (in_ranges (y ∷ ys) q)) (sym parts))
-        ∙ l.same q;
+          ∙ l.same q;
     })
 
 -- ranges of the second list that end before the first's next range were passed
@@ -208,9 +209,9 @@ lacking_kept ns ns' bs bs' rs rs' xs ys whole_xs whole_ys x y to l ends is built
       second_normal = l.second_normal;
       below = below (next_of xs) (omega arith) (omega (arith, is));
       same = λ q. ap (λ k. k || (in_ranges xs q && not (in_ranges (y ∷ ys) q))) (same q)
-        ∙ or_first (in_ranges (kept_of ns bs rs) q) (in_range (x.0, to) q) (in_ranges xs q && not (in_ranges (y ∷ ys) q))
-        ∙ ap (λ k. in_ranges (kept_of ns bs rs) q || k) (sym (gone x y xs ys to q l.first_normal l.second_normal ends is))
-        ∙ l.same q;
+          ∙ or_first (in_ranges (kept_of ns bs rs) q) (in_range (x.0, to) q) (in_ranges xs q && not (in_ranges (y ∷ ys) q))
+          ∙ ap (λ k. in_ranges (kept_of ns bs rs) q || k) (sym (gone x y xs ys to q l.first_normal l.second_normal ends is))
+          ∙ l.same q;
     }
 
 -- the second list has no more
@@ -226,9 +227,9 @@ lacking_all ns ns' bs bs' rs rs' xs ys whole_xs whole_ys x s from none built bel
       second_normal = tt;
       below = below (next_of xs) (omega arith) next;
       same = λ q. ap (λ k. k || (in_ranges xs q && not (in_ranges [] q))) (same q)
-        ∙ or_first (in_ranges (kept_of ns bs rs) q) (in_range (x.0, x.1) q) (in_ranges xs q && not (in_ranges [] q))
-        ∙ ap (λ k. in_ranges (kept_of ns bs rs) q || k) (sym (whole (in_range x q) (in_ranges xs q)))
-        ∙ l.same q;
+          ∙ or_first (in_ranges (kept_of ns bs rs) q) (in_range (x.0, x.1) q) (in_ranges xs q && not (in_ranges [] q))
+          ∙ ap (λ k. in_ranges (kept_of ns bs rs) q || k) (sym (whole (in_range x q) (in_ranges xs q)))
+          ∙ l.same q;
     }
 
 pub lacked : (ns : List (List (List (ℕ × ℕ)))) (bs : List (List (ℕ × ℕ))) (rs xs ys whole_xs whole_ys : List (ℕ × ℕ)) (f : Option (ℕ × ℕ)) → IsLacking ns bs rs (begun f xs) ys whole_xs whole_ys → f ≡ None → (q : ℕ) → in_ranges (kept_of ns bs rs) q ≡ (in_ranges whole_xs q && not (in_ranges whole_ys q))

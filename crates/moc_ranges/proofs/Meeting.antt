@@ -49,7 +49,8 @@ meeting_start ns bs rs xs ys t u r s n b e nx ny rt su =
     let by = begun_is ys s u su in
     let start : IsMeeting [] [] [] xs ys xs ys = record {
       built = record { sized = tt; fits = omega arith; normal = tt };
-      first_normal = nx; second_normal = ny;
+      first_normal = nx;
+      second_normal = ny;
       below = tt;
       same = λ q. refl;
     } in
@@ -67,9 +68,9 @@ meeting_kept ns ns' bs bs' rs rs' xs ys whole_xs whole_ys x y s ends built below
       second_normal = s.second_normal;
       below = below (max (next_of xs) y.0) (omega arith) (omega arith);
       same = λ q. ap (λ k. k || (in_ranges xs q && in_ranges (y ∷ ys) q)) (same q)
-        ∙ or_first (in_ranges (kept_of ns bs rs) q) (in_range (max x.0 y.0, min x.1 y.1) q) (in_ranges xs q && in_ranges (y ∷ ys) q)
-        ∙ ap (λ k. in_ranges (kept_of ns bs rs) q || k) (sym (pieces x y xs ys (max x.0 y.0) (min x.1 y.1) q s.second_normal ends refl refl))
-        ∙ s.same q;
+          ∙ or_first (in_ranges (kept_of ns bs rs) q) (in_range (max x.0 y.0, min x.1 y.1) q) (in_ranges xs q && in_ranges (y ∷ ys) q)
+          ∙ ap (λ k. in_ranges (kept_of ns bs rs) q || k) (sym (pieces x y xs ys (max x.0 y.0) (min x.1 y.1) q s.second_normal ends refl refl))
+          ∙ s.same q;
     }
 
 pub meeting_swap : (ns : List (List (List (ℕ × ℕ)))) (bs : List (List (ℕ × ℕ))) (rs xs ys whole_xs whole_ys : List (ℕ × ℕ)) → IsMeeting ns bs rs xs ys whole_xs whole_ys → IsMeeting ns bs rs ys xs whole_ys whole_xs
@@ -116,9 +117,9 @@ meeting_taken ns ns' bs bs' rs rs' xs xs' ys whole_xs whole_ys y s t = record {
   second_normal = s.second_normal;
   below = t.below;
   same = λ q. ap (λ k. k || (in_ranges xs' q && in_ranges (y ∷ ys) q)) (t.same q)
-    ∙ or_first (in_ranges (kept_of ns bs rs) q) (in_ranges t.gone q && in_range y q) (in_ranges xs' q && in_ranges (y ∷ ys) q)
-    ∙ ap (λ k. in_ranges (kept_of ns bs rs) q || k) (sym (common_parts t.gone xs' ys y q s.second_normal t.ended) ∙ ap (λ (l : List (ℕ × ℕ)). in_ranges l q && in_ranges (y ∷ ys) q) (sym t.parts))
-    ∙ s.same q;
+      ∙ or_first (in_ranges (kept_of ns bs rs) q) (in_ranges t.gone q && in_range y q) (in_ranges xs' q && in_ranges (y ∷ ys) q)
+      ∙ ap (λ k. in_ranges (kept_of ns bs rs) q || k) (sym (common_parts t.gone xs' ys y q s.second_normal t.ended) ∙ ap (λ (l : List (ℕ × ℕ)). in_ranges l q && in_ranges (y ∷ ys) q) (sym t.parts))
+      ∙ s.same q;
 }
 
 -- ranges that end before a range have nothing in common with it
@@ -181,7 +182,7 @@ taken_carried ns ns' bs bs' rs rs' xs xs' y limit normal from is after c =
       built = c.built;
       below = EndsBelow-more (next_of xs') (max (next_of xs') y.0) (kept_of ns' bs' rs') (carried_after ns ns' bs bs' rs rs' xs xs' limit normal after c) (omega arith);
       same = λ q. ap (λ (l : List (ℕ × ℕ)). in_ranges l q) c.kept ∙ in_ranges-append (kept_of ns bs rs) c.gone q
-        ∙ inside_bool (in_ranges (kept_of ns bs rs) q) (in_ranges c.gone q) (in_range y q)
+          ∙ inside_bool (in_ranges (kept_of ns bs rs) q) (in_ranges c.gone q) (in_range y q)
           (λ here. range_holds y q (omega (arith, from, ap next_of c.parts, normal_from c.gone xs' q whole here)) (ends_by_in y.1 c.gone q ended here));
     }
 

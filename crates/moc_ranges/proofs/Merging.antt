@@ -136,7 +136,8 @@ pub uniting_start : (ns : List (List (List (ℕ × ℕ)))) (bs : List (List (ℕ
 uniting_start ns bs rs xs ys n b r nx ny =
     let start : IsUniting [] [] [] xs ys xs ys = record {
       built = record { sized = tt; fits = omega arith; normal = tt };
-      first_normal = nx; second_normal = ny;
+      first_normal = nx;
+      second_normal = ny;
       can_first = record { before = tt; begun = tt };
       can_second = record { before = tt; begun = tt };
       same = λ q. refl;
@@ -165,9 +166,9 @@ uniting_first ns ns' bs bs' rs rs' xs xs' ys whole_xs whole_ys limit s is t = re
   can_first = t.can_next;
   can_second = subst (λ f. CanJoin ns' bs' rs' f) is t.can_limit;
   same = λ q. ap (λ b. b || (in_ranges xs' q || in_ranges ys q)) (t.same q)
-    ∙ or_moves (in_ranges (kept_of ns bs rs) q) (in_ranges t.gone q) (in_ranges xs' q) (in_ranges ys q)
-    ∙ ap (λ b. in_ranges (kept_of ns bs rs) q || (b || in_ranges ys q)) (sym (in_ranges-append t.gone xs' q) ∙ ap (λ (l : List (ℕ × ℕ)). in_ranges l q) (sym t.parts))
-    ∙ s.same q;
+      ∙ or_moves (in_ranges (kept_of ns bs rs) q) (in_ranges t.gone q) (in_ranges xs' q) (in_ranges ys q)
+      ∙ ap (λ b. in_ranges (kept_of ns bs rs) q || (b || in_ranges ys q)) (sym (in_ranges-append t.gone xs' q) ∙ ap (λ (l : List (ℕ × ℕ)). in_ranges l q) (sym t.parts))
+      ∙ s.same q;
 }
 
 pub uniting_second : (ns ns' : List (List (List (ℕ × ℕ)))) (bs bs' : List (List (ℕ × ℕ))) (rs rs' xs ys ys' whole_xs whole_ys : List (ℕ × ℕ)) (limit : ℕ) → IsUniting ns bs rs xs ys whole_xs whole_ys → limit ≡ next_of xs → TakesOver ys ys' limit ns ns' bs bs' rs rs' → IsUniting ns' bs' rs' xs ys' whole_xs whole_ys
@@ -178,9 +179,9 @@ uniting_second ns ns' bs bs' rs rs' xs ys ys' whole_xs whole_ys limit s is t = r
   can_first = subst (λ f. CanJoin ns' bs' rs' f) is t.can_limit;
   can_second = t.can_next;
   same = λ q. ap (λ b. b || (in_ranges xs q || in_ranges ys' q)) (t.same q)
-    ∙ or_swaps (in_ranges (kept_of ns bs rs) q) (in_ranges t.gone q) (in_ranges xs q) (in_ranges ys' q)
-    ∙ ap (λ b. in_ranges (kept_of ns bs rs) q || (in_ranges xs q || b)) (sym (in_ranges-append t.gone ys' q) ∙ ap (λ (l : List (ℕ × ℕ)). in_ranges l q) (sym t.parts))
-    ∙ s.same q;
+      ∙ or_swaps (in_ranges (kept_of ns bs rs) q) (in_ranges t.gone q) (in_ranges xs q) (in_ranges ys' q)
+      ∙ ap (λ b. in_ranges (kept_of ns bs rs) q || (in_ranges xs q || b)) (sym (in_ranges-append t.gone ys' q) ∙ ap (λ (l : List (ℕ × ℕ)). in_ranges l q) (sym t.parts))
+      ∙ s.same q;
 }
 
 pub taken_onward : (xs xs' : List (ℕ × ℕ)) (limit : ℕ) (ns ns' : List (List (List (ℕ × ℕ)))) (bs bs' : List (List (ℕ × ℕ))) (rs rs' : List (ℕ × ℕ)) → TakesOver xs xs' limit ns ns' bs bs' rs rs' → length xs' < length xs

@@ -29,8 +29,12 @@ turn_at : (x : ℕ × ℕ) (xs ys : List (ℕ × ℕ)) → IsNormal (x ∷ xs) �
 turn_at x xs ys n m le =
     let later : x.0 ≤ next_of xs = next_later (x ∷ []) xs n in
     record {
-      first_normal = n.3; second_normal = m; filled = n.0; within = n.1;
-      first_later = later; second_later = le;
+      first_normal = n.3;
+      second_normal = m;
+      filled = n.0;
+      within = n.1;
+      first_later = later;
+      second_later = le;
       lower = λ low a b. a;
       same = λ q. or_first (in_range x q) (in_ranges xs q) (in_ranges ys q);
       onward = omega arith;
@@ -40,8 +44,12 @@ turn_other : (y : ℕ × ℕ) (xs ys : List (ℕ × ℕ)) → IsNormal xs → Is
 turn_other y xs ys n m le =
     let later : y.0 ≤ next_of ys = next_later (y ∷ []) ys m in
     record {
-      first_normal = n; second_normal = m.3; filled = m.0; within = m.1;
-      first_later = le; second_later = later;
+      first_normal = n;
+      second_normal = m.3;
+      filled = m.0;
+      within = m.1;
+      first_later = le;
+      second_later = later;
       lower = λ low a b. b;
       same = λ q. or_second (in_ranges xs q) (in_range y q) (in_ranges ys q);
       onward = omega arith;
@@ -51,29 +59,36 @@ pub turn_first : (xs ys more more' bx by : List (ℕ × ℕ)) (x y : ℕ × ℕ)
 turn_first xs ys more more' bx by x y ex ey le n m =
     let head : next_of (ys ++ by) ≡ y.0 = ap (λ (l : List (ℕ × ℕ)). next_of (l ++ by)) ey in
     subst (λ (l : List (ℕ × ℕ)). IsTurn (l ++ bx) (ys ++ by) x (more ++ bx) (ys ++ by)) (sym ex)
-      (turn_at x (more ++ bx) (ys ++ by) (subst (λ (l : List (ℕ × ℕ)). IsNormal (l ++ bx)) ex n) m (omega arith))
+    (turn_at x (more ++ bx) (ys ++ by) (subst (λ (l : List (ℕ × ℕ)). IsNormal (l ++ bx)) ex n) m (omega arith))
 
 pub turn_second : (xs ys more more' bx by : List (ℕ × ℕ)) (x y : ℕ × ℕ) → xs ≡ x ∷ more → ys ≡ y ∷ more' → y.0 ≤ x.0 → IsNormal (xs ++ bx) → IsNormal (ys ++ by) → IsTurn (xs ++ bx) (ys ++ by) y (xs ++ bx) (more' ++ by)
 turn_second xs ys more more' bx by x y ex ey le n m =
     let head : next_of (xs ++ bx) ≡ x.0 = ap (λ (l : List (ℕ × ℕ)). next_of (l ++ bx)) ex in
     subst (λ (l : List (ℕ × ℕ)). IsTurn (xs ++ bx) (l ++ by) y (xs ++ bx) (more' ++ by)) (sym ey)
-      (turn_other y (xs ++ bx) (more' ++ by) n (subst (λ (l : List (ℕ × ℕ)). IsNormal (l ++ by)) ey m) (omega arith))
+    (turn_other y (xs ++ bx) (more' ++ by) n (subst (λ (l : List (ℕ × ℕ)). IsNormal (l ++ by)) ey m) (omega arith))
 
 pub joining_start : (ns : List (List (List (ℕ × ℕ)))) (bs : List (List (ℕ × ℕ))) (rs xs ys : List (ℕ × ℕ)) (last : ℕ × ℕ) → IsOpen ns bs rs last → IsNormal xs → IsNormal ys → last.0 ≤ next_of xs → last.0 ≤ next_of ys → IsJoining ns bs rs last xs ys (kept_of ns bs rs ++ last ∷ []) xs ys
 joining_start ns bs rs xs ys last opened n m a b = record {
-  opened = opened; first_normal = n; second_normal = m; first_later = a; second_later = b;
-  same = λ q. refl; fewer = omega arith;
+  opened = opened;
+  first_normal = n;
+  second_normal = m;
+  first_later = a;
+  second_later = b;
+  same = λ q. refl;
+  fewer = omega arith;
 }
 
 pub joining_step : (ns ns' : List (List (List (ℕ × ℕ)))) (bs bs' : List (List (ℕ × ℕ))) (rs rs' xs xs' ys ys' whole whole_xs whole_ys : List (ℕ × ℕ)) (last last' range : ℕ × ℕ) → IsJoining ns bs rs last xs ys whole whole_xs whole_ys → IsTurn xs ys range xs' ys' → IsOpen ns' bs' rs' last' → last'.0 ≤ range.0 → ((q : ℕ) → in_ranges (kept_of ns' bs' rs' ++ last' ∷ []) q ≡ (in_ranges (kept_of ns bs rs ++ last ∷ []) q || in_range range q)) → IsJoining ns' bs' rs' last' xs' ys' whole whole_xs whole_ys
 joining_step ns ns' bs bs' rs rs' xs xs' ys ys' whole whole_xs whole_ys last last' range s t opened later same = record {
-  opened = opened; first_normal = t.first_normal; second_normal = t.second_normal;
+  opened = opened;
+  first_normal = t.first_normal;
+  second_normal = t.second_normal;
   first_later = let a = t.first_later in omega arith;
   second_later = let a = t.second_later in omega arith;
   same = λ q. ap (λ b. b || (in_ranges xs' q || in_ranges ys' q)) (same q)
-    ∙ or_first (in_ranges (kept_of ns bs rs ++ last ∷ []) q) (in_range range q) (in_ranges xs' q || in_ranges ys' q)
-    ∙ ap (λ b. in_ranges (kept_of ns bs rs ++ last ∷ []) q || b) (sym (t.same q))
-    ∙ s.same q;
+      ∙ or_first (in_ranges (kept_of ns bs rs ++ last ∷ []) q) (in_range range q) (in_ranges xs' q || in_ranges ys' q)
+      ∙ ap (λ b. in_ranges (kept_of ns bs rs ++ last ∷ []) q || b) (sym (t.same q))
+      ∙ s.same q;
   fewer = omega (arith, s.fewer, t.onward);
 }
 
@@ -85,15 +100,22 @@ popped_later ns bs rs rs' last f can old = last_begins f rs' last (subst (λ (l 
 
 pub takes_none : (ns : List (List (List (ℕ × ℕ)))) (bs : List (List (ℕ × ℕ))) (rs xs ys : List (ℕ × ℕ)) → IsBuilt ns bs rs → IsNormal xs → IsNormal ys → CanJoin ns bs rs (next_of xs) → CanJoin ns bs rs (next_of ys) → TakesBoth xs xs ys ys ns ns bs bs rs rs
 takes_none ns bs rs xs ys built n m a b = record {
-  built = built; first_normal = n; second_normal = m; can_first = a; can_second = b;
-  same = λ q. refl; fewer = omega arith;
+  built = built;
+  first_normal = n;
+  second_normal = m;
+  can_first = a;
+  can_second = b;
+  same = λ q. refl;
+  fewer = omega arith;
 }
 
 pub takes_both : (ns ns' ns'' : List (List (List (ℕ × ℕ)))) (bs bs' bs'' : List (List (ℕ × ℕ))) (rs rs' rs'' xs xs' ys ys' whole init : List (ℕ × ℕ)) (last : ℕ × ℕ) → IsJoining ns' bs' rs' last xs' ys' whole xs ys → kept_of ns bs rs ≡ whole → IsBuilt ns'' bs'' rs'' → kept_of ns'' bs'' rs'' ≡ kept_of ns' bs' rs' ++ last ∷ [] → rs'' ≡ init ++ last ∷ [] → TakesBoth xs xs' ys ys' ns ns'' bs bs'' rs rs''
 takes_both ns ns' ns'' bs bs' bs'' rs rs' rs'' xs xs' ys ys' whole init last s is built kept end =
     let can = pushed_can ns'' bs'' rs'' init last built end in
     record {
-      built = built; first_normal = s.first_normal; second_normal = s.second_normal;
+      built = built;
+      first_normal = s.first_normal;
+      second_normal = s.second_normal;
       can_first = CanJoin-more ns'' bs'' rs'' last.0 (next_of xs') can s.first_later;
       can_second = CanJoin-more ns'' bs'' rs'' last.0 (next_of ys') can s.second_later;
       same = λ q. ap (λ (l : List (ℕ × ℕ)). in_ranges l q || (in_ranges xs' q || in_ranges ys' q)) kept ∙ s.same q ∙ ap (λ (l : List (ℕ × ℕ)). in_ranges l q || (in_ranges xs q || in_ranges ys q)) (sym is);
@@ -102,8 +124,11 @@ takes_both ns ns' ns'' bs bs' bs'' rs rs' rs'' xs xs' ys ys' whole init last s i
 
 pub uniting_both : (ns ns' : List (List (List (ℕ × ℕ)))) (bs bs' : List (List (ℕ × ℕ))) (rs rs' xs xs' ys ys' whole_xs whole_ys : List (ℕ × ℕ)) → IsUniting ns bs rs xs ys whole_xs whole_ys → TakesBoth xs xs' ys ys' ns ns' bs bs' rs rs' → IsUniting ns' bs' rs' xs' ys' whole_xs whole_ys
 uniting_both ns ns' bs bs' rs rs' xs xs' ys ys' whole_xs whole_ys s t = record {
-  built = t.built; first_normal = t.first_normal; second_normal = t.second_normal;
-  can_first = t.can_first; can_second = t.can_second;
+  built = t.built;
+  first_normal = t.first_normal;
+  second_normal = t.second_normal;
+  can_first = t.can_first;
+  can_second = t.can_second;
   same = λ q. t.same q ∙ s.same q;
 }
 

@@ -133,7 +133,10 @@ impl CoverageBuilder {
 
     /// How many ranges may wait.
     fn limit(&self) -> usize {
-        self.rising.len().max(self.joined.range_count()).max(FEWEST_WAITING)
+        self.rising
+            .len()
+            .max(self.joined.range_count())
+            .max(FEWEST_WAITING)
     }
 
     /// What is joined and what waits, as one coverage.

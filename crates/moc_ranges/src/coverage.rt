@@ -11,13 +11,13 @@ ghost use Rattle.moc_ranges.specs.Numbers.{numbers};
 ghost use Rattle.moc_ranges.specs.Blocks.{joining, AreBlocks, IsSearchOf};
 ghost use Rattle.moc_ranges.specs.Private.Blocks.{IsStored, rest_of};
 
-use crate::chunks::Chunks;
+use crate::block::{LONGEST, measure_ranges};
 use crate::cells::{orders_with_cells, push_cells_of_order};
-use crate::errors::{Memory, RangesError};
+use crate::chunks::Chunks;
 use crate::difference::subtract;
+use crate::errors::{Memory, RangesError};
 use crate::from_ranges::{build, build_widened, filled_by_start, refuse_faulty};
 use crate::intersection::intersect;
-use crate::block::{LONGEST, measure_ranges};
 use crate::list_builder::trimmed;
 use crate::node::{Node, measure_nodes, share_nodes};
 use crate::ranges::Ranges;

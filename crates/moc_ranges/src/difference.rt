@@ -15,12 +15,7 @@ use std::alloc::{AllocError, Global};
 
 /// Adds a range, where it is not empty, behind what is built.
 #[inline]
-fn push_part(
-    alloc: Global,
-    from: u64,
-    to: u64,
-    built: &mut ListBuilder,
-) -> Result<(), AllocError>
+fn push_part(alloc: Global, from: u64, to: u64, built: &mut ListBuilder) -> Result<(), AllocError>
     requires built { IsBuilt built.old.nodes.items built.old.blocks.items built.old.ranges.items }
     requires within { to ≤ pixel_count }
     requires after { EndsBelow from (kept_of built.old.nodes.items built.old.blocks.items built.old.ranges.items) }

@@ -101,8 +101,7 @@ fn lengthen_last(ranges: &mut Vec<(u64, u64)>, from: u64, to: u64) -> bool
     requires rising { from < to }
     requires within { to ≤ pixel_count }
     ensures normal { IsNormal ranges.new.items }
-    ensures set {
-        set_of ranges.new.items
+    ensures set { set_of ranges.new.items
         ≡ (if result then set.union (set_of ranges.old.items) (numbers from to) else set_of ranges.old.items) }
 {
     let last = ranges.len() - 1;

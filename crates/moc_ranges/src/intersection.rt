@@ -52,9 +52,8 @@ fn next_meeting(
     requires rising { other.0 < other.1 }
     requires within { other.1 ≤ pixel_count }
     requires built { IsBuilt built.old.nodes.items built.old.blocks.items built.old.ranges.items }
-    requires after {
-        EndsBelow (max (next_of xs.old) other.0)
-            (kept_of built.old.nodes.items built.old.blocks.items built.old.ranges.items) }
+    requires after { EndsBelow (max (next_of xs.old) other.0)
+        (kept_of built.old.nodes.items built.old.blocks.items built.old.ranges.items) }
     ensures { IfOk result (λ next. TakesCommon xs.old (begun next xs.new) other
         built.old.nodes.items built.new.nodes.items built.old.blocks.items built.new.blocks.items
         built.old.ranges.items built.new.ranges.items) }

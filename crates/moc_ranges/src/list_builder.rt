@@ -322,10 +322,7 @@ pub fn trimmed(ranges: Vec<(u64, u64)>) -> Vec<(u64, u64)>
 
 /// Takes ranges for a block, with no room left free: these ones where they fill theirs, and else a
 /// copy.
-fn taken(
-    alloc: Global,
-    ranges: &mut Vec<(u64, u64)>,
-) -> Result<Vec<(u64, u64)>, AllocError>
+fn taken(alloc: Global, ranges: &mut Vec<(u64, u64)>) -> Result<Vec<(u64, u64)>, AllocError>
     ensures taken { IfOk result (λ v. v.items ≡ ranges.old.items) }
     ensures none { OnOk result (ranges.new.items ≡ []) }
 {

@@ -186,11 +186,7 @@ fn join_both(
 }
 
 /// The pixels in the ranges of either list.
-pub fn unite(
-    alloc: Global,
-    mut xs: Ranges<'_>,
-    mut ys: Ranges<'_>,
-) -> Result<Coverage, AllocError>
+pub fn unite(alloc: Global, mut xs: Ranges<'_>, mut ys: Ranges<'_>) -> Result<Coverage, AllocError>
     requires xs { IsNormal xs }
     requires ys { IsNormal ys }
     ensures { IfOk result (λ c. c ≡ set.union (set_of xs.entry) (set_of ys.entry)) }
@@ -210,4 +206,3 @@ pub fn unite(
         }
     }
 }
-

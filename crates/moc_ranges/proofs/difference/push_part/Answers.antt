@@ -10,8 +10,6 @@ returns-then-to-from-clause-below c = λ f le lt. EndsBelow-more _ f _ c.require
 pub returns-then-to-from-clause-same : goal.returns-then-to-from-clause-same
 returns-then-to-from-clause-same c = λ q. common_nothing _ _ _ c.args.from c.args.to q refl refl (omega arith)
 
-
-
 pub returns-clause-below : goal.returns-clause-below
 returns-clause-below c = λ f le lt. common_below _ _ _ _ _ _ f c.requires.after c.in_ok-push.ensures.kept refl refl le lt
 

@@ -10,7 +10,7 @@ pub followed_by-requires-clause-normal : goal.followed_by-requires-clause-normal
 followed_by-requires-clause-normal c =
     let bs = c.pop.new.self.items in
     let parts : joining c.args.blocks.now.items ++ c.args.block ≡ joining bs ++ (c.in-Some.last ++ c.args.block) =
-      ap (λ (l : List (ℕ × ℕ)). l ++ c.args.block) (ap joining c.in-Some.ensures.items ∙ joining-last bs c.in-Some.last) ∙ append_assoc (joining bs) c.in-Some.last c.args.block in
+    ap (λ (l : List (ℕ × ℕ)). l ++ c.args.block) (ap joining c.in-Some.ensures.items ∙ joining-last bs c.in-Some.last) ∙ append_assoc (joining bs) c.in-Some.last c.args.block in
     IsNormal-suffix (joining bs) (c.in-Some.last ++ c.args.block) (subst IsNormal parts c.requires.normal)
 
 pub followed_by-requires-clause-room : goal.followed_by-requires-clause-room
