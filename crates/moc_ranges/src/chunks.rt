@@ -35,7 +35,8 @@ struct NextBlock<'a> {
 
 /// The first block of nodes, if there is one.
 fn first_block(nodes: &[Node]) -> Option<NextBlock<'_>>
-    ensures { MatchOption result (joining nodes.entry.now ≡ []) (λ n. joining nodes.entry.now ≡ n.block.now ∷ (n.ahead.blocks.now ++ joining n.ahead.nodes.now)) }
+    ensures { MatchOption result (joining nodes.entry.now ≡ []) (λ n.
+        joining nodes.entry.now ≡ n.block.now ∷ (n.ahead.blocks.now ++ joining n.ahead.nodes.now)) }
 {
     let [node, nodes @ ..] = nodes else {
         return None;
@@ -51,7 +52,9 @@ fn first_block(nodes: &[Node]) -> Option<NextBlock<'_>>
 
 /// The next block, if there is one.
 fn next_block(ahead: Ahead<'_>) -> Option<NextBlock<'_>>
-    ensures { MatchOption result (ahead.entry.blocks.now ++ joining ahead.entry.nodes.now ≡ []) (λ n. ahead.entry.blocks.now ++ joining ahead.entry.nodes.now ≡ n.block.now ∷ (n.ahead.blocks.now ++ joining n.ahead.nodes.now)) }
+    ensures { MatchOption result (ahead.entry.blocks.now ++ joining ahead.entry.nodes.now ≡ []) (λ n.
+        ahead.entry.blocks.now ++ joining ahead.entry.nodes.now
+        ≡ n.block.now ∷ (n.ahead.blocks.now ++ joining n.ahead.nodes.now)) }
 {
     let [block, blocks @ ..] = ahead.blocks else {
         return first_block(ahead.nodes);

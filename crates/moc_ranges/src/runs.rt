@@ -151,7 +151,10 @@ struct PassedBlocks<'a> {
 fn pass_blocks(ahead: Ahead<'_>, range: (u64, u64)) -> PassedBlocks<'_>
     requires normal { IsNormal (rest_of [] ahead.blocks.now ahead.nodes.now) }
     requires rising { range.0 ≤ range.1 }
-    ensures { Passes range (rest_of [] ahead.entry.blocks.now ahead.entry.nodes.now) (rest_of [] result.ahead.blocks.now result.ahead.nodes.now) result.common }
+    ensures { Passes range
+        (rest_of [] ahead.entry.blocks.now ahead.entry.nodes.now)
+        (rest_of [] result.ahead.blocks.now result.ahead.nodes.now)
+        result.common }
 {
     let begun = pass_runs(ahead.blocks, range);
     let [] = begun.rest else {
@@ -189,7 +192,10 @@ pub(crate) struct PassedRanges<'a> {
 fn pass_behind(ahead: Ahead<'_>, range: (u64, u64)) -> PassedRanges<'_>
     requires normal { IsNormal (rest_of [] ahead.blocks.now ahead.nodes.now) }
     requires rising { range.0 ≤ range.1 }
-    ensures { Passes range (rest_of [] ahead.entry.blocks.now ahead.entry.nodes.now) (rest_of result.begun.ranges.now result.begun.ahead.blocks.now result.begun.ahead.nodes.now) result.common }
+    ensures { Passes range
+        (rest_of [] ahead.entry.blocks.now ahead.entry.nodes.now)
+        (rest_of result.begun.ranges.now result.begun.ahead.blocks.now result.begun.ahead.nodes.now)
+        result.common }
 {
     let PassedBlocks { common, ahead } = pass_blocks(ahead, range);
     let [block, blocks @ ..] = ahead.blocks else {
@@ -216,7 +222,10 @@ fn pass_behind(ahead: Ahead<'_>, range: (u64, u64)) -> PassedRanges<'_>
 pub(crate) fn pass_ranges(begun: Begun<'_>, range: (u64, u64)) -> PassedRanges<'_>
     requires normal { IsNormal (rest_of begun.ranges.now begun.ahead.blocks.now begun.ahead.nodes.now) }
     requires rising { range.0 ≤ range.1 }
-    ensures { Passes range (rest_of begun.entry.ranges.now begun.entry.ahead.blocks.now begun.entry.ahead.nodes.now) (rest_of result.begun.ranges.now result.begun.ahead.blocks.now result.begun.ahead.nodes.now) result.common }
+    ensures { Passes range
+        (rest_of begun.entry.ranges.now begun.entry.ahead.blocks.now begun.entry.ahead.nodes.now)
+        (rest_of result.begun.ranges.now result.begun.ahead.blocks.now result.begun.ahead.nodes.now)
+        result.common }
 {
     let here = pass_runs(begun.ranges, range);
     let [] = here.rest else {

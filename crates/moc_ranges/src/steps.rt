@@ -86,7 +86,8 @@ fn count_blocks(nodes: &[Node]) -> usize
 
 /// The block of nodes at this place, if there is one.
 fn block_at(nodes: &[Node], place: usize) -> Option<&Block>
-    ensures { MatchOption result (length (joining nodes.entry.now) ≤ place) (λ b. (place < length (joining nodes.entry.now)) × (b.now ≡ get_or (joining nodes.entry.now) place b.now)) }
+    ensures { MatchOption result (length (joining nodes.entry.now) ≤ place) (λ b.
+        (place < length (joining nodes.entry.now)) × (b.now ≡ get_or (joining nodes.entry.now) place b.now)) }
 {
     let mut left = place;
     for node in nodes {
