@@ -17,12 +17,12 @@ abbrev pub share_of : ℕ → ℕ
 share_of count = count * 1000000000000 / pixel_count
 
 -- the last digits of a number, as many as are asked for
-abbrev pub last_digits : ℕ → ℕ → List ℕ
+unfoldable pub last_digits : ℕ → ℕ → List ℕ
 last_digits zero number = []
 last_digits (suc count) number = last_digits count (number / 10) ++ (48 + number % 10) ∷ []
 
 -- the line of the share: one digit, a point, and twelve digits
-abbrev pub share_text : ℕ → List ℕ
+unfoldable pub share_text : ℕ → List ℕ
 share_text count =
     codes "share " ++ last_digits 1 (share_of count / 1000000000000) ++ 46 ∷ last_digits 12 (share_of count) ++ 10 ∷ []
 
@@ -36,7 +36,7 @@ order_line k zero = []
 order_line k (suc n) = (codes "order " ++ decimal k) ++ (32 ∷ decimal (suc n) ++ 10 ∷ [])
 
 -- the lines of the orders below a number that have cells
-abbrev pub order_lines_below : List CellNumber → ℕ → List ℕ
+unfoldable pub order_lines_below : List CellNumber → ℕ → List ℕ
 order_lines_below cells zero = []
 order_lines_below cells (suc k) = order_lines_below cells k ++ order_line k (count_at k cells)
 

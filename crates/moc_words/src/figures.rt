@@ -27,7 +27,7 @@ pub fn describe(alloc: Global, set: &Coverage, deepest: Option<Order>) -> Result
     push_deepest(&mut text, deepest)?;
     push_line(&mut text, "pixels ", pixels)?;
     push_share(&mut text, pixels)?;
-    push_line(&mut text, "ranges ", set.ranges().count() as u64)?;
+    push_line(&mut text, "ranges ", set.ranges().size_hint().0 as u64)?;
     push_line(&mut text, "cells ", cells.len() as u64)?;
     push_orders(&mut text, &cells)?;
     Ok(text)
@@ -54,6 +54,7 @@ fn share(pixels: u64) -> u64
 }
 
 /// Adds the line of the share of the sky.
+#[tactic(auto, unfolding(crate::specs::Describing::share_text))]
 fn push_share(text: &mut String, pixels: u64) -> Result<(), AllocError>
     requires { pixels ≤ pixel_count }
     ensures { OnOk result (string_bytes text.new ≡ string_bytes text.old ++ share_text pixels) }
@@ -67,6 +68,7 @@ fn push_share(text: &mut String, pixels: u64) -> Result<(), AllocError>
 }
 
 /// Adds the last digits of a number, as many as are asked for.
+#[tactic(auto, unfolding(crate::specs::Describing::last_digits))]
 fn push_digits(text: &mut String, count: u8, number: u64) -> Result<(), AllocError>
     ensures { OnOk result (string_bytes text.new ≡ string_bytes text.old ++ last_digits count number) }
 {
@@ -91,6 +93,7 @@ fn count_of_order(cells: &[Cell], order: u8) -> u64
 }
 
 /// Adds a line for each order that has cells.
+#[tactic(auto, unfolding(crate::specs::Describing::order_lines_below))]
 fn push_orders(text: &mut String, cells: &[Cell]) -> Result<(), AllocError>
     ensures { OnOk result (string_bytes text.new ≡ string_bytes text.old ++ order_lines_below cells.now 30) }
 {
