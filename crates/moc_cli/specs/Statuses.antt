@@ -1,5 +1,5 @@
 -- How the program ends.
-use Rattle.std.specs.Prelude.{◌≡◌, ◌⊎◌, ⊥, ℕ, Result, Ok, Err}
+use Rattle.std.specs.Prelude.{◌≡◌, ◌⊎◌, ℕ, Result, Ok, Err}
 use Rattle.moc_cli.specs.declared.status.Complaint.{Complaint}
 use Rattle.moc_cli.specs.declared.status.Fault.{Fault}
 use Rattle.moc_cli.specs.declared.status.Fault.TheVariants.{Read, Write, Memory, Spawn}

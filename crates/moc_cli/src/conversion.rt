@@ -1,8 +1,8 @@
 //! Coverages from one text form to another.
-ghost use Rattle.std.specs.Prelude.{◌≡◌, ◌≢◌, ◌<◌, ◌↔◌, Err, false, IfOk, IsErrOf, IsTrue, length};
+ghost use Rattle.std.specs.Prelude.{◌≡◌, ◌≢◌, ◌<◌, ◌↔◌, ◌⊎◌, Err, false, IfErr, IfOk, IsErrOf, IsTrue, length};
 ghost use Rattle.std.specs.String.{string_bytes};
 ghost use Rattle.moc_words.specs.Forms.{FormSays, form_text};
-ghost use Rattle.moc_cli.specs.Conversion.{BringsPiece, ChecksAll, ConvertsAll, DescribesAll, IsPlaceLine, IsReadFault, IsWhole};
+ghost use Rattle.moc_cli.specs.Conversion.{BringsPiece, ChecksAll, ConvertsAll, DescribesAll, IsOfInput, IsPlaceLine, IsReadFault, IsWhole};
 
 use crate::status::{Complaint, Fault};
 use moc_ranges::Coverage;
@@ -29,6 +29,7 @@ fn read_piece<R: Source>(input: &mut R, room: &mut [u8], text: &mut Vec<u8>) -> 
     requires room { 0 < length room.old }
     requires input { R.mark input.old ≡ false }
     ensures read { IsErrOf result Fault.Read ↔ IsTrue (R.mark input.new) }
+    ensures fault { IfErr result (λ f. (f ≡ Fault.Read) ⊎ (f ≡ Fault.Memory)) }
     ensures brings { IfOk result (λ some.
         BringsPiece (R.left input.old) text.old.items (R.left input.new) text.new.items some) }
 {
@@ -43,6 +44,7 @@ fn read_piece<R: Source>(input: &mut R, room: &mut [u8], text: &mut Vec<u8>) -> 
 fn read_whole<R: Source>(alloc: Global, input: &mut R) -> Result<Vec<u8>, Fault>
     requires { R.mark input.old ≡ false }
     ensures read { IsErrOf result Fault.Read ↔ IsTrue (R.mark input.new) }
+    ensures fault { IfErr result (λ f. IsOfInput f) }
     ensures whole { IfOk result (λ v. IsWhole (R.left input.old) (R.left input.new) v.items) }
 {
     let mut room = room(alloc)?;
