@@ -66,7 +66,12 @@ fn said(alloc: Global, form: Form, text: &[u8]) -> Result<(Coverage, Option<Orde
 }
 
 /// The text of a set in a form.
-fn text_of(alloc: Global, form: Form, set: &Coverage, stated: Option<Order>) -> Result<String, Fault>
+fn text_of(
+    alloc: Global,
+    form: Form,
+    set: &Coverage,
+    stated: Option<Order>,
+) -> Result<String, Fault>
     ensures device { result ≢ Err Fault.Read }
     ensures text { IfOk result (λ t. string_bytes t ≡ form_text form set.now stated) }
 {

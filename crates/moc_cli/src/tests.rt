@@ -265,7 +265,15 @@ fn figures(rt: HostRuntime) {
         expect(&rt, rt.alloc(), &words, input, 0, lines, "");
     }
     let words = ["describe", "ascii"];
-    expect(&rt, rt.alloc(), &words, "0/12", 1, "", "fault CellTooLarge\n");
+    expect(
+        &rt,
+        rt.alloc(),
+        &words,
+        "0/12",
+        1,
+        "",
+        "fault CellTooLarge\n",
+    );
 }
 
 /// A reader that fails.

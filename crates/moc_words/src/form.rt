@@ -6,7 +6,8 @@ ghost use Rattle.moc_words.specs.Forms.{FormFails, FormSays, IsUnwritten, form_t
 use moc_ranges::{Coverage, Memory as MemoryRefused};
 use moc_sphere::Order;
 use moc_text::{
-    JsonError, TextError, UniqError, read_ascii, read_json, read_uniq, write_ascii, write_json, write_uniq,
+    JsonError, TextError, UniqError, read_ascii, read_json, read_uniq, write_ascii, write_json,
+    write_uniq,
 };
 use std::alloc::{AllocError, Global};
 use thiserror::Error;
@@ -119,7 +120,12 @@ impl Form {
     ///
     /// Linear in the number of cells. Refused with the form's error: `TooCoarse` where a cell is deeper than the stated
     /// order, which a list never states, or want of memory.
-    pub fn write(self, alloc: Global, set: &Coverage, stated: Option<Order>) -> Result<String, FormError>
+    pub fn write(
+        self,
+        alloc: Global,
+        set: &Coverage,
+        stated: Option<Order>,
+    ) -> Result<String, FormError>
         ensures text { IfOk result (λ t. string_bytes t ≡ form_text self set.now stated) }
         ensures fault { IfErr result (λ e. IsUnwritten self set.now stated e) }
     {

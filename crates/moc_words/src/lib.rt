@@ -6,9 +6,9 @@ mod checking;
 mod figures;
 mod form;
 mod place;
-mod texts;
 #[cfg(test)]
 mod tests;
+mod texts;
 
 pub use checking::{Refusal, check};
 pub use figures::describe;

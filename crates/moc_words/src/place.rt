@@ -11,17 +11,27 @@ use std::alloc::AllocError;
 #[derive(Clone, Copy, Debug, PartialEq, Eq)]
 pub enum Place {
     /// A byte of an ASCII text: its place in the text, its line, and how many bytes of the line stand before it.
-    Byte { at: usize, line: usize, column: usize },
+    Byte {
+        at: usize,
+        line: usize,
+        column: usize,
+    },
     /// A line of a NUNIQ list.
     Line(usize),
     /// Where `serde_json` stops reading.
-    Stop { line: usize, column: usize },
+    Stop {
+        line: usize,
+        column: usize,
+    },
     /// A name of a JSON object that is no order, in byte order.
     Name(usize),
     /// An order of a JSON object.
     Order(Order),
     /// A number in the array of an order of a JSON object.
-    Number { order: Order, number: usize },
+    Number {
+        order: Order,
+        number: usize,
+    },
 }
 
 impl Place {

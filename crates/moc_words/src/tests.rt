@@ -56,7 +56,7 @@ fn places_in_json(rt: HostRuntime) -> Result<(), Fail> {
     Ok(())
 }
 
-/// `serde_json` of Rust, in its version 1.0, tells the same lines and columns.
+/// Lines and columns are those of the byte at which `serde_json` gives up; an empty text has no column.
 #[test]
 fn places_of_no_json(rt: HostRuntime) -> Result<(), Fail> {
     for (text, place) in [
@@ -83,9 +83,17 @@ fn places_in_lists(rt: HostRuntime) -> Result<(), Fail> {
 fn errors(rt: HostRuntime) {
     let alloc = rt.alloc();
     for (form, text, error) in [
-        (Form::Ascii, "5", FormError::Ascii(TextError::NoOrder { at: 0 })),
+        (
+            Form::Ascii,
+            "5",
+            FormError::Ascii(TextError::NoOrder { at: 0 }),
+        ),
         (Form::Json, "[]", FormError::Json(JsonError::NotObject)),
-        (Form::Uniq, "3", FormError::Uniq(UniqError::NotUniq { line: 1 })),
+        (
+            Form::Uniq,
+            "3",
+            FormError::Uniq(UniqError::NotUniq { line: 1 }),
+        ),
     ] {
         match check(alloc, form, text.as_bytes()) {
             Ok(()) => panic!(&rt; "{text:?} is taken"),
@@ -97,7 +105,11 @@ fn errors(rt: HostRuntime) {
 #[test]
 fn forms(rt: HostRuntime) -> Result<(), Fail> {
     let alloc = rt.alloc();
-    for (word, text) in [("ascii", "1/0 2/\n"), ("json", "{\"1\":[0],\"2\":[]}\n"), ("uniq", "16\n")] {
+    for (word, text) in [
+        ("ascii", "1/0 2/\n"),
+        ("json", "{\"1\":[0],\"2\":[]}\n"),
+        ("uniq", "16\n"),
+    ] {
         let Some(form) = Form::named(word) else {
             panic!(&rt; "{word} is no form")
         };
@@ -134,7 +146,8 @@ fn figures_of_sets(rt: HostRuntime) -> Result<(), Fail> {
         assert_eq!(&rt; seen.as_str(), lines, "{text:?}");
     }
     let seen = figures(alloc, Form::Uniq, "4\n")?;
-    let lines = "deepest none\npixels 288230376151711744\nshare 0.083333333333\nranges 1\ncells 1\norder 0 1\n";
+    let lines =
+        "deepest none\npixels 288230376151711744\nshare 0.083333333333\nranges 1\ncells 1\norder 0 1\n";
     assert_eq!(&rt; seen.as_str(), lines);
     Ok(())
 }

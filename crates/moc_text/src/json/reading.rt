@@ -211,7 +211,10 @@ pub fn json_stop(alloc: Global, text: &[u8]) -> Option<(usize, usize)>
     ensures { IfSome result (λ _. IsNotJson text.now) }
 {
     match Value::from_slice(alloc, text) {
-        Err(error) if !error.is_memory() && error.line() > 0 => Some((error.line(), error.column())),
+        Err(error) if !error.is_memory() && error.line() > 0 => Some((
+            error.line(),
+            error.column(),
+        )),
         _ => None,
     }
 }
