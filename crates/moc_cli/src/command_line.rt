@@ -81,9 +81,9 @@ answers
 
 /// What `moc check --help` says below the usage.
 const CHECK: &str = "\
-Answers `ok`. A text that is no coverage is told on standard error, by the fault's name and a line that says where: the byte,
-its line and the byte of that line (ascii), the line (uniq), or the order and the number in its array (json). Lines are
-counted from 1, bytes and numbers from 0.
+Answers `ok`. A text that is no coverage is told on standard error, by the fault's name and a line that says where: the
+byte, its line and the byte of that line (ascii), the line (uniq), or the order and the number in its array (json).
+Lines are counted from 1, bytes and numbers from 0.
 
 Example:
   printf '1/0-3\n2/7-5' | moc check ascii

@@ -72,7 +72,8 @@ IsPlace bytes error.Memory found = found ≡ None
 -- a place in words
 abbrev pub place_text : Place → List ℕ
 place_text (Byte at line column) =
-    (codes "byte " ++ decimal at) ++ (codes ", line " ++ decimal line) ++ (codes ", byte " ++ decimal column) ++ codes " of it"
+    (codes "byte " ++ decimal at) ++ (codes ", line " ++ decimal line) ++ (codes ", byte " ++ decimal column)
+    ++ codes " of it"
 place_text (Line line) = codes "line " ++ decimal line
 place_text (Stop line column) = (codes "line " ++ decimal line) ++ (codes ", column " ++ decimal column)
 place_text (Name name) = codes "name " ++ decimal name

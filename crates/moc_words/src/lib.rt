@@ -1,5 +1,5 @@
-//! What can be said of a coverage in any of its text forms: whether a text is one and else where it is at fault, and what
-//! a set of pixels is like in figures.
+//! What can be said of a coverage in any of its text forms: whether a text is one and else where it is at fault, and
+//! what a set of pixels is like in figures.
 #![tactic(auto)]
 
 mod checking;
