@@ -140,6 +140,14 @@ fn pass_runs<T: Run>(runs: &[T], range: (u64, u64)) -> Passed<'_, T>
     }
 }
 
+impl Ahead<'_> {
+    /// Whether there are no blocks and no nodes.
+    #[inline]
+    fn is_empty(&self) -> bool {
+        self.blocks.is_empty() && self.nodes.is_empty()
+    }
+}
+
 /// How many pixels were passed, and the blocks and nodes behind them.
 #[derive(Clone, Copy)]
 struct PassedBlocks<'a> {
@@ -228,15 +236,19 @@ pub(crate) fn pass_ranges(begun: Begun<'_>, range: (u64, u64)) -> PassedRanges<'
         result.common }
 {
     let here = pass_runs(begun.ranges, range);
-    let [] = here.rest else {
-        return PassedRanges {
-            common: here.common,
-            begun: Begun {
-                ranges: here.rest,
-                ahead: begun.ahead,
-            },
-        };
+    let passed = PassedRanges {
+        common: here.common,
+        begun: Begun {
+            ranges: here.rest,
+            ahead: begun.ahead,
+        },
     };
+    let [] = here.rest else {
+        return passed;
+    };
+    if begun.ahead.is_empty() {
+        return passed;
+    }
     let behind = pass_behind(begun.ahead, range);
     PassedRanges {
         common: here.common + behind.common,

@@ -75,12 +75,13 @@ pub fn holds_all(mut xs: Ranges<'_>, mut ys: Ranges<'_>) -> bool
         let Some(x) = first else {
             return false;
         };
+        if y.0 < x.0 {
+            return false;
+        }
         if x.1 < y.1 {
             first = xs.next_past(y.0);
-        } else if x.0 <= y.0 {
-            second = ys.next_past(x.1);
         } else {
-            return false;
+            second = ys.next_past(x.1);
         }
     }
     true

@@ -20,3 +20,6 @@ overflow_add-result c =
 pub returns : goal.returns
 returns c =
     pass_block c.args.range c.args.begun.ranges.now _ c.args.begun.ahead.blocks.now c.args.begun.ahead.nodes.now _ _ _ c.pass_runs-here.ensures c.in-empty.len_below c.pass_behind-behind.ensures
+
+pub returns-then-is_empty : goal.returns-then-is_empty
+returns-then-is_empty c = pass_in_ranges c.args.range c.args.begun.ranges.now c.pass_runs-here.result.rest.now c.args.begun.ahead.blocks.now c.args.begun.ahead.nodes.now _ c.pass_runs-here.ensures

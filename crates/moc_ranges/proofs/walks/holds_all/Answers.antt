@@ -15,8 +15,8 @@ loop-second-preserved c =
     let s = at_both c.loop-second.first c.loop-second.second c.in-Some-first.x c.in-Some.y c.loop-second.xs c.loop-second.ys (λ xs ys. IsHolding xs ys c.args.xs c.args.ys) c.in-Some-first.is c.in-Some.is c.loop-second.invariant in
     holding_takes c.next_past-second.ensures.0 _ _ _ _ _ _ _ _ s (omega arith) (omega arith) c.next_past-second.ensures.1
 
-pub returns-else-x-y-2 : goal.returns-else-x-y-2
-returns-else-x-y-2 c =
+pub returns-then-y-x : goal.returns-then-y-x
+returns-then-y-x c =
     let s = at_both c.loop-second.first c.loop-second.second c.in-Some-first.x c.in-Some.y c.loop-second.xs c.loop-second.ys (λ xs ys. IsHolding xs ys c.args.xs c.args.ys) c.in-Some-first.is c.in-Some.is c.loop-second.invariant in
     holding_fails _ _ _ _ _ _ s (omega arith)
 
