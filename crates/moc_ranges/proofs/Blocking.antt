@@ -1,12 +1,11 @@
 -- Ranges, and their blocks and nodes.
-use Rattle.std.proofs.Common.{◌≡◌, ℕ, zero, suc, ◌+◌, ◌-◌, ◌<◌, ◌≤◌, List, [], ◌∷◌, ◌++◌, length, get_or, take, drop, refl, sym, ap, subst, ◌∙◌, arith, append_assoc, length-append}
+use Rattle.std.proofs.Common.{◌≡◌, ℕ, zero, suc, ◌+◌, ◌-◌, ◌<◌, ◌≤◌, List, [], ◌∷◌, ◌++◌, length, get_or, take, drop, refl, sym, ap, ◌∙◌, arith, append_assoc, length-append}
 use Rattle.std.proofs.lemmas.List.{take_more, take-append-drop, take_all}
 use Rattle.std.proofs.lemmas.List.Sums.{sum_by-append, sum_by-cons}
-use Rattle.std.specs.FinSet as set
 use Rattle.moc_ranges.specs.Pixels.{pixel_count}
-use Rattle.moc_ranges.specs.RangeList.{IsNormal, BeginsAfter, set_of}
+use Rattle.moc_ranges.specs.RangeList.{IsNormal, BeginsAfter}
 use Rattle.moc_ranges.specs.Laws.Ranges.{len_bounded, len-set_of}
-use Rattle.moc_ranges.specs.Private.Blocks.{joining, first_of, last_of, AreBlocks, NeedsBoth, width_of, rest_of, next_of}
+use Rattle.moc_ranges.specs.Private.Blocks.{joining, first_of, last_of, width_of, rest_of}
 
 pub joining-append : {X : Type 0} (xs ys : List (List X)) → joining (xs ++ ys) ≡ joining xs ++ joining ys
 joining-append {X} [] ys = refl

@@ -12,7 +12,6 @@ pub mod Spans
 pub mod CellRuns
 pub mod CellOrders
 pub mod Gathering
-pub mod Stored
 pub mod Passing
 pub mod CarriedOver
 pub mod Looking

@@ -10,7 +10,7 @@ use Rattle.std.specs.Cmp.{nat_cmp_total}
 use Rattle.moc_ranges.specs.Numbers.{NumberSet, numbers, contains-numbers, same_members}
 use Rattle.moc_ranges.specs.Pixels.{base_pixel_size, pixel_count, pixels}
 use Rattle.moc_ranges.specs.Operations.{meets, meets-some, meets-none, part_of, contains-part_of, contains-pixels}
-use Rattle.moc_ranges.specs.RangeList.{IsNormal, in_range, in_ranges, set_of, contains-set_of}
+use Rattle.moc_ranges.specs.RangeList.{IsNormal, in_ranges, set_of, contains-set_of}
 use Rattle.moc_ranges.specs.Private.Walks.{EndsBy, Passes, IsNextRange, HasNoneFrom}
 use Rattle.moc_ranges.proofs.Blocking.{IsNormal-suffix}
 use Rattle.moc_ranges.proofs.Merging.{in_ranges-append}

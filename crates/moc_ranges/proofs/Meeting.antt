@@ -1,13 +1,12 @@
 -- What two lists of ranges have in common, range by range.
-use Rattle.std.proofs.Common.{◌≡◌, ℕ, zero, suc, ◌+◌, ◌-◌, ◌<◌, ◌≤◌, Bool, true, false, ◌||◌, ◌&&◌, List, [], ◌∷◌, ◌++◌, length, min, max, refl, sym, ap, subst, ◌∙◌, arith, inl, inr, Option, None, Some}
+use Rattle.std.proofs.Common.{◌≡◌, ℕ, ◌+◌, ◌<◌, ◌≤◌, Bool, true, false, ◌||◌, ◌&&◌, List, [], ◌∷◌, ◌++◌, min, max, refl, sym, ap, subst, ◌∙◌, arith, inl, inr, Option, None}
 use Rattle.std.specs.Prelude.{nat_le, nat_lt}
 use Rattle.std.proofs.lemmas.Bool.{cases_lt, or_cases, and_parts, leb-true, ltb-true}
 use Rattle.std.proofs.lemmas.Bool.Decides.{nat_tests}
-use Rattle.moc_ranges.specs.Pixels.{pixel_count}
 use Rattle.moc_ranges.specs.RangeList.{IsNormal, in_range, in_ranges}
-use Rattle.moc_ranges.specs.Private.Blocks.{joining, next_of}
+use Rattle.moc_ranges.specs.Private.Blocks.{next_of}
 use Rattle.moc_ranges.specs.Private.Built.{IsBuilt, EndsBelow, Carries, TakesCommon, kept_of}
-use Rattle.moc_ranges.specs.Private.Walks.{begun, EndsBy, Advances, Passes}
+use Rattle.moc_ranges.specs.Private.Walks.{begun, EndsBy, Advances}
 use Rattle.moc_ranges.proofs.Merging.{next_later, ends_next, in_ranges-append, or_false, EndsBelow-append, EndsBelow-more}
 use Rattle.moc_ranges.proofs.Blocking.{IsNormal-suffix}
 use Rattle.moc_ranges.proofs.CarriedOver.{carried_after}

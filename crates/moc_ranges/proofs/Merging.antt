@@ -1,13 +1,10 @@
 -- Joining lists of ranges at their ends, block by block.
-use Rattle.std.proofs.Common.{◌≡◌, ℕ, zero, suc, ◌+◌, ◌-◌, ◌<◌, ◌≤◌, Bool, true, false, ◌||◌, List, [], ◌∷◌, ◌++◌, length, get_or, take, drop, refl, sym, ap, subst, ◌∙◌, arith, append_assoc, length-append, inl, inr}
+use Rattle.std.proofs.Common.{◌≡◌, ℕ, ◌<◌, ◌≤◌, Bool, true, false, ◌||◌, List, [], ◌∷◌, ◌++◌, length, refl, sym, ap, subst, ◌∙◌, arith, length-append}
 use Rattle.std.proofs.lemmas.List.Folds.{list_any-append}
-use Rattle.std.proofs.lemmas.List.{take_more, drop_more, take_all}
-use Rattle.moc_ranges.specs.Private.Sorted.{IsSortedFrom}
-use Rattle.moc_ranges.specs.Pixels.{pixel_count}
-use Rattle.moc_ranges.specs.RangeList.{IsNormal, BeginsAfter, in_range, in_ranges}
-use Rattle.moc_ranges.specs.Private.Blocks.{joining, first_of, last_of, AreBlocks, NeedsBoth, next_of}
-use Rattle.moc_ranges.specs.Private.Built.{IsBuilt, CanJoin, TakesOver, EndsBelow, BeginsBy, kept_of, last_length}
-use Rattle.moc_ranges.proofs.Blocking.{IsNormal-prefix, IsNormal-suffix, nothing_more, joining-append, joining-last}
+use Rattle.moc_ranges.specs.RangeList.{IsNormal, in_range, in_ranges}
+use Rattle.moc_ranges.specs.Private.Blocks.{joining, last_of, next_of}
+use Rattle.moc_ranges.specs.Private.Built.{IsBuilt, CanJoin, TakesOver, EndsBelow, BeginsBy, kept_of}
+use Rattle.moc_ranges.proofs.Blocking.{IsNormal-prefix, IsNormal-suffix}
 
 pub in_ranges-append : (rs ss : List (ℕ × ℕ)) (q : ℕ) → in_ranges (rs ++ ss) q ≡ (in_ranges rs q || in_ranges ss q)
 in_ranges-append rs ss q = list_any-append (λ range. in_range range q) rs ss

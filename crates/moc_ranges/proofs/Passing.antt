@@ -1,9 +1,9 @@
 -- Going past the first runs of a list of ranges.
-use Rattle.std.proofs.Common.{◌≡◌, ℕ, zero, suc, ◌+◌, ◌-◌, ◌<◌, ◌≤◌, List, [], ◌∷◌, ◌++◌, length, get_or, take, drop, min, max, refl, sym, ap, subst, ◌∙◌, arith, append_assoc, length-append}
+use Rattle.std.proofs.Common.{◌≡◌, ℕ, ◌+◌, ◌-◌, ◌<◌, ◌≤◌, List, [], ◌∷◌, ◌++◌, length, get_or, take, drop, refl, sym, ap, subst, ◌∙◌, arith, append_assoc}
 use Rattle.std.proofs.lemmas.List.{take_more, drop_more, take_rest, take-append-drop}
 use Rattle.std.proofs.lemmas.List.Sums.{sum_by-cons}
 use Rattle.moc_ranges.specs.Pixels.{pixel_count}
-use Rattle.moc_ranges.specs.RangeList.{IsNormal, BeginsAfter}
+use Rattle.moc_ranges.specs.RangeList.{IsNormal}
 use Rattle.moc_ranges.specs.Private.Blocks.{joining, first_of, last_of, width_of, rest_of}
 use Rattle.moc_ranges.specs.Private.Walks.{joined, EndsBy, overlap_of, Passes}
 use Rattle.moc_ranges.proofs.Blocking.{IsNormal-prefix, IsNormal-suffix, width_bounded, last_of-append, joining-append, none_there, nothing_more}

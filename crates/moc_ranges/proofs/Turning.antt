@@ -1,12 +1,11 @@
 -- Joining the ranges of two begun blocks.
-use Rattle.std.proofs.Common.{◌≡◌, ℕ, zero, suc, ◌+◌, ◌-◌, ◌<◌, ◌≤◌, Bool, true, false, ◌||◌, List, [], ◌∷◌, ◌++◌, length, get_or, take, drop, refl, sym, ap, subst, ◌∙◌, arith, append_assoc, length-append}
+use Rattle.std.proofs.Common.{◌≡◌, ℕ, suc, ◌-◌, ◌≤◌, Bool, true, false, ◌||◌, List, [], ◌∷◌, ◌++◌, length, get_or, take, drop, refl, sym, ap, subst, ◌∙◌, arith, append_assoc, length-append}
 use Rattle.std.proofs.lemmas.List.{take_all}
-use Rattle.moc_ranges.specs.Pixels.{pixel_count}
 use Rattle.moc_ranges.specs.RangeList.{IsNormal, in_range, in_ranges}
 use Rattle.moc_ranges.specs.Private.Blocks.{joining, next_of}
-use Rattle.moc_ranges.specs.Private.Built.{IsBuilt, IsOpen, IsTurn, IsJoining, TakesBoth, CanJoin, EndsBelow, BeginsBy, kept_of}
+use Rattle.moc_ranges.specs.Private.Built.{IsBuilt, IsOpen, IsTurn, IsJoining, TakesBoth, CanJoin, BeginsBy, kept_of}
 use Rattle.moc_ranges.proofs.Blocking.{IsNormal-prefix}
-use Rattle.moc_ranges.proofs.Merging.{next_later, in_ranges-append, CanJoin-more, IsUniting}
+use Rattle.moc_ranges.proofs.Merging.{next_later, CanJoin-more, IsUniting}
 use Rattle.moc_ranges.proofs.Building.{last_begins, pushed_can}
 
 pub first_item : (xs : List (ℕ × ℕ)) (d : ℕ × ℕ) → 1 ≤ length xs → xs ≡ get_or xs 0 d ∷ take (length xs - 1) (drop 1 xs)

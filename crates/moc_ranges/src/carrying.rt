@@ -20,7 +20,8 @@ fn carry_next(
 ) -> Result<bool, AllocError>
     requires normal { IsNormal xs.old }
     requires built { IsBuilt built.old.nodes.items built.old.blocks.items built.old.ranges.items }
-    requires after { EndsBelow (next_of xs.old) (kept_of built.old.nodes.items built.old.blocks.items built.old.ranges.items) }
+    requires after { EndsBelow (next_of xs.old) (kept_of built.old.nodes.items built.old.blocks.items
+        built.old.ranges.items) }
     ensures carried { OnOk result (Carries xs.old xs.new limit
         built.old.nodes.items built.new.nodes.items built.old.blocks.items built.new.blocks.items
         built.old.ranges.items built.new.ranges.items) }
@@ -46,7 +47,8 @@ fn carry_all(
 ) -> Result<(), AllocError>
     requires normal { IsNormal xs.old }
     requires built { IsBuilt built.old.nodes.items built.old.blocks.items built.old.ranges.items }
-    requires after { EndsBelow (next_of xs.old) (kept_of built.old.nodes.items built.old.blocks.items built.old.ranges.items) }
+    requires after { EndsBelow (next_of xs.old) (kept_of built.old.nodes.items built.old.blocks.items
+        built.old.ranges.items) }
     ensures { OnOk result (Carries xs.old xs.new limit
         built.old.nodes.items built.new.nodes.items built.old.blocks.items built.new.blocks.items
         built.old.ranges.items built.new.ranges.items) }
@@ -69,7 +71,8 @@ fn carry_below(
 ) -> Result<(), AllocError>
     requires normal { IsNormal xs.old }
     requires built { IsBuilt built.old.nodes.items built.old.blocks.items built.old.ranges.items }
-    requires after { EndsBelow (next_of xs.old) (kept_of built.old.nodes.items built.old.blocks.items built.old.ranges.items) }
+    requires after { EndsBelow (next_of xs.old) (kept_of built.old.nodes.items built.old.blocks.items
+        built.old.ranges.items) }
     ensures { OnOk result (Carries xs.old xs.new limit
         built.old.nodes.items built.new.nodes.items built.old.blocks.items built.new.blocks.items
         built.old.ranges.items built.new.ranges.items) }
@@ -91,7 +94,8 @@ pub fn next_carrying(
 ) -> Result<Option<(u64, u64)>, AllocError>
     requires normal { IsNormal xs.old }
     requires built { IsBuilt built.old.nodes.items built.old.blocks.items built.old.ranges.items }
-    requires after { EndsBelow (next_of xs.old) (kept_of built.old.nodes.items built.old.blocks.items built.old.ranges.items) }
+    requires after { EndsBelow (next_of xs.old) (kept_of built.old.nodes.items built.old.blocks.items
+        built.old.ranges.items) }
     ensures { IfOk result (λ next. Carries xs.old (begun next xs.new) limit
         built.old.nodes.items built.new.nodes.items built.old.blocks.items built.new.blocks.items
         built.old.ranges.items built.new.ranges.items) }

@@ -20,8 +20,11 @@ fn push_part(alloc: Global, from: u64, to: u64, built: &mut ListBuilder) -> Resu
     requires within { to ≤ pixel_count }
     requires after { EndsBelow from (kept_of built.old.nodes.items built.old.blocks.items built.old.ranges.items) }
     ensures built { OnOk result (IsBuilt built.new.nodes.items built.new.blocks.items built.new.ranges.items) }
-    ensures below { OnOk result ((f : ℕ) → from ≤ f → to < f → EndsBelow f (kept_of built.new.nodes.items built.new.blocks.items built.new.ranges.items)) }
-    ensures same { OnOk result ((q : ℕ) → in_ranges (kept_of built.new.nodes.items built.new.blocks.items built.new.ranges.items) q ≡ (in_ranges (kept_of built.old.nodes.items built.old.blocks.items built.old.ranges.items) q || in_range (from, to) q)) }
+    ensures below { OnOk result ((f : ℕ) → from ≤ f → to < f → EndsBelow f (kept_of built.new.nodes.items
+        built.new.blocks.items built.new.ranges.items)) }
+    ensures same { OnOk result ((q : ℕ) → in_ranges (kept_of built.new.nodes.items built.new.blocks.items
+        built.new.ranges.items) q ≡ (in_ranges (kept_of built.old.nodes.items built.old.blocks.items
+        built.old.ranges.items) q || in_range (from, to) q)) }
 {
     if to <= from {
         return Ok(());

@@ -23,10 +23,14 @@ fn push_common(
 ) -> Result<(), AllocError>
     requires built { IsBuilt built.old.nodes.items built.old.blocks.items built.old.ranges.items }
     requires within { x.1 ≤ pixel_count }
-    requires after { EndsBelow (max x.0 y.0) (kept_of built.old.nodes.items built.old.blocks.items built.old.ranges.items) }
+    requires after { EndsBelow (max x.0 y.0) (kept_of built.old.nodes.items built.old.blocks.items
+        built.old.ranges.items) }
     ensures built { OnOk result (IsBuilt built.new.nodes.items built.new.blocks.items built.new.ranges.items) }
-    ensures below { OnOk result ((f : ℕ) → max x.0 y.0 ≤ f → min x.1 y.1 < f → EndsBelow f (kept_of built.new.nodes.items built.new.blocks.items built.new.ranges.items)) }
-    ensures same { OnOk result ((q : ℕ) → in_ranges (kept_of built.new.nodes.items built.new.blocks.items built.new.ranges.items) q ≡ (in_ranges (kept_of built.old.nodes.items built.old.blocks.items built.old.ranges.items) q || in_range (max x.0 y.0, min x.1 y.1) q)) }
+    ensures below { OnOk result ((f : ℕ) → max x.0 y.0 ≤ f → min x.1 y.1 < f → EndsBelow f (kept_of
+        built.new.nodes.items built.new.blocks.items built.new.ranges.items)) }
+    ensures same { OnOk result ((q : ℕ) → in_ranges (kept_of built.new.nodes.items built.new.blocks.items
+        built.new.ranges.items) q ≡ (in_ranges (kept_of built.old.nodes.items built.old.blocks.items
+        built.old.ranges.items) q || in_range (max x.0 y.0, min x.1 y.1) q)) }
 {
     let from = x.0.max(y.0);
     let to = x.1.min(y.1);

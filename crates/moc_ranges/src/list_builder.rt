@@ -42,7 +42,8 @@ impl ListBuilder {
         requires within { to ≤ pixel_count }
         requires after { EndsBelow from (kept_of self.old.nodes.items self.old.blocks.items self.old.ranges.items) }
         ensures built { OnOk result (IsBuilt self.new.nodes.items self.new.blocks.items self.new.ranges.items) }
-        ensures kept { OnOk result (kept_of self.new.nodes.items self.new.blocks.items self.new.ranges.items ≡ kept_of self.old.nodes.items self.old.blocks.items self.old.ranges.items ++ (from, to) ∷ []) }
+        ensures kept { OnOk result (kept_of self.new.nodes.items self.new.blocks.items self.new.ranges.items ≡
+            kept_of self.old.nodes.items self.old.blocks.items self.old.ranges.items ++ (from, to) ∷ []) }
         ensures last { OnOk result ((init : List (ℕ × ℕ)) × (self.new.ranges.items ≡ init ++ (from, to) ∷ [])) }
     {
         self.make_range_room(alloc)?;
@@ -55,7 +56,8 @@ impl ListBuilder {
     fn make_range_room(&mut self, alloc: Global) -> Result<(), AllocError>
         requires built { IsBuilt self.old.nodes.items self.old.blocks.items self.old.ranges.items }
         ensures built { OnOk result (IsBuilt self.new.nodes.items self.new.blocks.items self.new.ranges.items) }
-        ensures kept { OnOk result (kept_of self.new.nodes.items self.new.blocks.items self.new.ranges.items ≡ kept_of self.old.nodes.items self.old.blocks.items self.old.ranges.items) }
+        ensures kept { OnOk result (kept_of self.new.nodes.items self.new.blocks.items self.new.ranges.items ≡
+            kept_of self.old.nodes.items self.old.blocks.items self.old.ranges.items) }
         ensures room { OnOk result (length self.new.ranges.items < LONGEST) }
     {
         if self.ranges.len() < LONGEST {
@@ -69,7 +71,8 @@ impl ListBuilder {
     pub fn seal(&mut self, alloc: Global) -> Result<(), AllocError>
         requires built { IsBuilt self.old.nodes.items self.old.blocks.items self.old.ranges.items }
         ensures built { OnOk result (IsBuilt self.new.nodes.items self.new.blocks.items self.new.ranges.items) }
-        ensures kept { OnOk result (kept_of self.new.nodes.items self.new.blocks.items self.new.ranges.items ≡ kept_of self.old.nodes.items self.old.blocks.items self.old.ranges.items) }
+        ensures kept { OnOk result (kept_of self.new.nodes.items self.new.blocks.items self.new.ranges.items ≡
+            kept_of self.old.nodes.items self.old.blocks.items self.old.ranges.items) }
         ensures none { OnOk result (self.new.ranges.items ≡ []) }
     {
         if self.ranges.is_empty() {
@@ -84,9 +87,11 @@ impl ListBuilder {
     /// Whether a block with so many ranges joins the last.
     fn joins(&self, count: usize) -> bool
         requires { count ≤ LONGEST }
-        ensures fits { OnTrue result (last_length (joining self.now.nodes.items ++ self.now.blocks.items) + count ≤ LONGEST) }
+        ensures fits { OnTrue result (last_length (joining self.now.nodes.items ++ self.now.blocks.items) + count ≤
+            LONGEST) }
         ensures some { OnTrue result (0 < last_length (joining self.now.nodes.items ++ self.now.blocks.items)) }
-        ensures apart { OnFalse result (0 < last_length (joining self.now.nodes.items ++ self.now.blocks.items) → LONGEST < last_length (joining self.now.nodes.items ++ self.now.blocks.items) + count) }
+        ensures apart { OnFalse result (0 < last_length (joining self.now.nodes.items ++ self.now.blocks.items) →
+            LONGEST < last_length (joining self.now.nodes.items ++ self.now.blocks.items) + count) }
     {
         let last = length_of_last(&self.nodes, &self.blocks);
         last > 0 && last <= LONGEST - count
@@ -96,7 +101,8 @@ impl ListBuilder {
     fn make_room(&mut self, alloc: Global) -> Result<(), AllocError>
         requires sized { AreBlocks (joining self.old.nodes.items ++ self.old.blocks.items) }
         requires normal { IsNormal (joining (joining self.old.nodes.items ++ self.old.blocks.items)) }
-        ensures blocks { OnOk result (joining self.new.nodes.items ++ self.new.blocks.items ≡ joining self.old.nodes.items ++ self.old.blocks.items) }
+        ensures blocks { OnOk result (joining self.new.nodes.items ++ self.new.blocks.items ≡ joining
+            self.old.nodes.items ++ self.old.blocks.items) }
         ensures ranges { self.new.ranges.items ≡ self.old.ranges.items }
     {
         if self.blocks.len() < WIDEST {
@@ -108,9 +114,11 @@ impl ListBuilder {
 
     /// Makes blocks of the last node where there are none behind it.
     fn reopen(&mut self, alloc: Global) -> Result<(), AllocError>
-        ensures blocks { OnOk result (joining self.new.nodes.items ++ self.new.blocks.items ≡ joining self.old.nodes.items ++ self.old.blocks.items) }
+        ensures blocks { OnOk result (joining self.new.nodes.items ++ self.new.blocks.items ≡ joining
+            self.old.nodes.items ++ self.old.blocks.items) }
         ensures ranges { self.new.ranges.items ≡ self.old.ranges.items }
-        ensures some { OnOk result (0 < last_length (joining self.old.nodes.items ++ self.old.blocks.items) → 0 < length self.new.blocks.items) }
+        ensures some { OnOk result (0 < last_length (joining self.old.nodes.items ++ self.old.blocks.items) → 0 <
+            length self.new.blocks.items) }
     {
         if self.blocks.len() > 0 {
             return Ok(());
@@ -128,7 +136,8 @@ impl ListBuilder {
         requires fits { length block ≤ LONGEST }
         requires normal { IsNormal (joining (joining self.old.nodes.items ++ self.old.blocks.items) ++ block) }
         ensures sized { OnOk result (AreBlocks (joining self.new.nodes.items ++ self.new.blocks.items)) }
-        ensures joining { OnOk result (joining (joining self.new.nodes.items ++ self.new.blocks.items) ≡ joining (joining self.old.nodes.items ++ self.old.blocks.items) ++ block) }
+        ensures joining { OnOk result (joining (joining self.new.nodes.items ++ self.new.blocks.items) ≡ joining
+            (joining self.old.nodes.items ++ self.old.blocks.items) ++ block) }
         ensures ranges { self.new.ranges.items ≡ self.old.ranges.items }
     {
         if self.joins(block.ranges().len()) {
@@ -145,7 +154,8 @@ impl ListBuilder {
     fn seal_node(&mut self, alloc: Global) -> Result<(), AllocError>
         requires sized { AreBlocks (joining self.old.nodes.items ++ self.old.blocks.items) }
         requires normal { IsNormal (joining (joining self.old.nodes.items ++ self.old.blocks.items)) }
-        ensures blocks { OnOk result (joining self.new.nodes.items ++ self.new.blocks.items ≡ joining self.old.nodes.items ++ self.old.blocks.items) }
+        ensures blocks { OnOk result (joining self.new.nodes.items ++ self.new.blocks.items ≡ joining
+            self.old.nodes.items ++ self.old.blocks.items) }
         ensures ranges { self.new.ranges.items ≡ self.old.ranges.items }
         ensures none { OnOk result (self.new.blocks.items ≡ []) }
     {
@@ -164,9 +174,11 @@ impl ListBuilder {
         requires built { IsBuilt self.old.nodes.items self.old.blocks.items self.old.ranges.items }
         requires some { 0 < length block.now }
         requires fits { length block.now ≤ LONGEST }
-        requires normal { IsNormal (kept_of self.old.nodes.items self.old.blocks.items self.old.ranges.items ++ block.now) }
+        requires normal { IsNormal (kept_of self.old.nodes.items self.old.blocks.items self.old.ranges.items ++
+            block.now) }
         ensures built { OnOk result (IsBuilt self.new.nodes.items self.new.blocks.items self.new.ranges.items) }
-        ensures kept { OnOk result (kept_of self.new.nodes.items self.new.blocks.items self.new.ranges.items ≡ kept_of self.old.nodes.items self.old.blocks.items self.old.ranges.items ++ block.now) }
+        ensures kept { OnOk result (kept_of self.new.nodes.items self.new.blocks.items self.new.ranges.items ≡
+            kept_of self.old.nodes.items self.old.blocks.items self.old.ranges.items ++ block.now) }
         ensures none { OnOk result (self.new.ranges.items ≡ []) }
     {
         self.seal(alloc)?;
@@ -175,9 +187,11 @@ impl ListBuilder {
         Ok(())
     }
 
-    /// Whether a node can stand behind the blocks as it is: its first block joins none, and its blocks do not fit beside others.
+    /// Whether a node can stand behind the blocks as it is: its first block joins none, and its
+    /// blocks do not fit beside others.
     fn takes_whole(&self, node: &Node) -> bool
-        ensures { OnTrue result (0 < last_length (joining self.now.nodes.items ++ self.now.blocks.items) → LONGEST < last_length (joining self.now.nodes.items ++ self.now.blocks.items) + first_length node.now) }
+        ensures { OnTrue result (0 < last_length (joining self.now.nodes.items ++ self.now.blocks.items) → LONGEST <
+            last_length (joining self.now.nodes.items ++ self.now.blocks.items) + first_length node.now) }
     {
         if self.joins(length_of_first(node.blocks())) {
             return false;
@@ -189,9 +203,11 @@ impl ListBuilder {
     /// Adds blocks behind the others, each for itself.
     fn carry_each(&mut self, alloc: Global, blocks: &[Block]) -> Result<(), AllocError>
         requires sized { AreBlocks (joining self.old.nodes.items ++ self.old.blocks.items) }
-        requires normal { IsNormal (joining (joining self.old.nodes.items ++ self.old.blocks.items) ++ joining blocks.now) }
+        requires normal { IsNormal (joining (joining self.old.nodes.items ++ self.old.blocks.items) ++ joining
+            blocks.now) }
         ensures sized { OnOk result (AreBlocks (joining self.new.nodes.items ++ self.new.blocks.items)) }
-        ensures joining { OnOk result (joining (joining self.new.nodes.items ++ self.new.blocks.items) ≡ joining (joining self.old.nodes.items ++ self.old.blocks.items) ++ joining blocks.now) }
+        ensures joining { OnOk result (joining (joining self.new.nodes.items ++ self.new.blocks.items) ≡ joining
+            (joining self.old.nodes.items ++ self.old.blocks.items) ++ joining blocks.now) }
         ensures ranges { OnOk result (self.new.ranges.items ≡ self.old.ranges.items) }
     {
         for block in blocks {
@@ -204,9 +220,11 @@ impl ListBuilder {
     /// Adds the blocks of a node behind all ranges.
     pub fn carry_node(&mut self, alloc: Global, node: &Node) -> Result<(), AllocError>
         requires built { IsBuilt self.old.nodes.items self.old.blocks.items self.old.ranges.items }
-        requires normal { IsNormal (kept_of self.old.nodes.items self.old.blocks.items self.old.ranges.items ++ joining node.now) }
+        requires normal { IsNormal (kept_of self.old.nodes.items self.old.blocks.items self.old.ranges.items ++
+            joining node.now) }
         ensures built { OnOk result (IsBuilt self.new.nodes.items self.new.blocks.items self.new.ranges.items) }
-        ensures kept { OnOk result (kept_of self.new.nodes.items self.new.blocks.items self.new.ranges.items ≡ kept_of self.old.nodes.items self.old.blocks.items self.old.ranges.items ++ joining node.now) }
+        ensures kept { OnOk result (kept_of self.new.nodes.items self.new.blocks.items self.new.ranges.items ≡
+            kept_of self.old.nodes.items self.old.blocks.items self.old.ranges.items ++ joining node.now) }
         ensures none { OnOk result (self.new.ranges.items ≡ []) }
     {
         self.seal(alloc)?;
@@ -247,7 +265,9 @@ impl ListBuilder {
         requires within { to ≤ pixel_count }
         requires can { CanJoin self.old.nodes.items self.old.blocks.items self.old.ranges.items from }
         ensures built { OnOk result (IsBuilt self.new.nodes.items self.new.blocks.items self.new.ranges.items) }
-        ensures same { OnOk result ((q : ℕ) → in_ranges (kept_of self.new.nodes.items self.new.blocks.items self.new.ranges.items) q ≡ (in_ranges (kept_of self.old.nodes.items self.old.blocks.items self.old.ranges.items) q || in_range (from, to) q)) }
+        ensures same { OnOk result ((q : ℕ) → in_ranges (kept_of self.new.nodes.items self.new.blocks.items
+            self.new.ranges.items) q ≡ (in_ranges (kept_of self.old.nodes.items self.old.blocks.items
+            self.old.ranges.items) q || in_range (from, to) q)) }
         ensures can { OnOk result (CanJoin self.new.nodes.items self.new.blocks.items self.new.ranges.items from) }
     {
         if self.is_apart(from) {
@@ -299,7 +319,9 @@ pub fn lengthen(
     requires later { last.0 ≤ range.0 }
     ensures opened { IfOk result (λ o. IsOpen built.new.nodes.items built.new.blocks.items built.new.ranges.items o) }
     ensures later { IfOk result (λ o. o.0 ≤ range.0) }
-    ensures same { IfOk result (λ o. (q : ℕ) → in_ranges (kept_of built.new.nodes.items built.new.blocks.items built.new.ranges.items ++ o ∷ []) q ≡ (in_ranges (kept_of built.old.nodes.items built.old.blocks.items built.old.ranges.items ++ last ∷ []) q || in_range range q)) }
+    ensures same { IfOk result (λ o. (q : ℕ) → in_ranges (kept_of built.new.nodes.items built.new.blocks.items
+        built.new.ranges.items ++ o ∷ []) q ≡ (in_ranges (kept_of built.old.nodes.items built.old.blocks.items
+        built.old.ranges.items ++ last ∷ []) q || in_range range q)) }
 {
     if range.0 <= last.1 {
         return Ok((last.0, last.1.max(range.1)));
@@ -395,7 +417,8 @@ fn join_last(alloc: Global, blocks: &mut Vec<Block>, block: Block) -> Result<(),
     requires normal { IsNormal (joining blocks.old.items ++ block) }
     requires room { last_length blocks.old.items + length block ≤ LONGEST }
     requires some { 0 < length blocks.old.items }
-    ensures joined { OnOk result ((init : List (List (ℕ × ℕ))) × (last : List (ℕ × ℕ)) × (blocks.old.items ≡ init ++ last ∷ []) × (blocks.new.items ≡ init ++ (last ++ block) ∷ [])) }
+    ensures joined { OnOk result ((init : List (List (ℕ × ℕ))) × (last : List (ℕ × ℕ)) × (blocks.old.items ≡ init ++
+        last ∷ []) × (blocks.new.items ≡ init ++ (last ++ block) ∷ [])) }
 {
     if let Some(last) = blocks.pop() {
         let both = last.followed_by(alloc, &block)?;

@@ -24,7 +24,8 @@ fn join_next(
     requires first { next_of xs.old ≤ limit }
     requires built { IsBuilt built.old.nodes.items built.old.blocks.items built.old.ranges.items }
     requires can { CanJoin built.old.nodes.items built.old.blocks.items built.old.ranges.items (next_of xs.old) }
-    ensures { OnOk result (TakesOver xs.old xs.new limit built.old.nodes.items built.new.nodes.items built.old.blocks.items built.new.blocks.items built.old.ranges.items built.new.ranges.items) }
+    ensures { OnOk result (TakesOver xs.old xs.new limit built.old.nodes.items built.new.nodes.items
+        built.old.blocks.items built.new.blocks.items built.old.ranges.items built.new.ranges.items) }
 {
     if let Some(range) = xs.next() {
         built.join(alloc, range.0, range.1)?;
@@ -44,7 +45,8 @@ fn take_block_over(
     requires first { next_of xs.old ≤ limit }
     requires built { IsBuilt built.old.nodes.items built.old.blocks.items built.old.ranges.items }
     requires can { CanJoin built.old.nodes.items built.old.blocks.items built.old.ranges.items (next_of xs.old) }
-    ensures { OnOk result (TakesOver xs.old xs.new limit built.old.nodes.items built.new.nodes.items built.old.blocks.items built.new.blocks.items built.old.ranges.items built.new.ranges.items) }
+    ensures { OnOk result (TakesOver xs.old xs.new limit built.old.nodes.items built.new.nodes.items
+        built.old.blocks.items built.new.blocks.items built.old.ranges.items built.new.ranges.items) }
 {
     let first = xs.next_from();
     let bound = built.carry_limit(first, limit);
@@ -69,7 +71,8 @@ fn take_over(
     requires first { next_of xs.old ≤ limit }
     requires built { IsBuilt built.old.nodes.items built.old.blocks.items built.old.ranges.items }
     requires can { CanJoin built.old.nodes.items built.old.blocks.items built.old.ranges.items (next_of xs.old) }
-    ensures { OnOk result (TakesOver xs.old xs.new limit built.old.nodes.items built.new.nodes.items built.old.blocks.items built.new.blocks.items built.old.ranges.items built.new.ranges.items) }
+    ensures { OnOk result (TakesOver xs.old xs.new limit built.old.nodes.items built.new.nodes.items
+        built.old.blocks.items built.new.blocks.items built.old.ranges.items built.new.ranges.items) }
 {
     if xs.is_in_block() {
         join_next(alloc, xs, limit, built)?;
@@ -96,7 +99,9 @@ struct Turn<'a, 'b> {
 /// The range of two begun blocks that begins first, where both have one.
 #[inline]
 fn next_turn<'a, 'b>(xs: &'a [(u64, u64)], ys: &'b [(u64, u64)]) -> Option<Turn<'a, 'b>>
-    ensures { IfSome result (λ t. (behind_xs behind_ys : List (ℕ × ℕ)) → IsNormal (xs.entry.now ++ behind_xs) → IsNormal (ys.entry.now ++ behind_ys) → IsTurn (xs.entry.now ++ behind_xs) (ys.entry.now ++ behind_ys) t.range (t.xs.now ++ behind_xs) (t.ys.now ++ behind_ys)) }
+    ensures { IfSome result (λ t. (behind_xs behind_ys : List (ℕ × ℕ)) → IsNormal (xs.entry.now ++ behind_xs) →
+        IsNormal (ys.entry.now ++ behind_ys) → IsTurn (xs.entry.now ++ behind_xs) (ys.entry.now ++ behind_ys)
+        t.range (t.xs.now ++ behind_xs) (t.ys.now ++ behind_ys)) }
 {
     let [x, more_xs @ ..] = xs else {
         return None;
@@ -142,8 +147,14 @@ fn join_begun<'a, 'b>(
     requires first_normal { IsNormal (rest_of first.ranges.now first.ahead.blocks.now first.ahead.nodes.now) }
     requires second_normal { IsNormal (rest_of second.ranges.now second.ahead.blocks.now second.ahead.nodes.now) }
     requires first_later { last.0 ≤ next_of (rest_of first.ranges.now first.ahead.blocks.now first.ahead.nodes.now) }
-    requires second_later { last.0 ≤ next_of (rest_of second.ranges.now second.ahead.blocks.now second.ahead.nodes.now) }
-    ensures { IfOk result (λ l. IsJoining built.new.nodes.items built.new.blocks.items built.new.ranges.items l.last (rest_of l.xs.now first.entry.ahead.blocks.now first.entry.ahead.nodes.now) (rest_of l.ys.now second.entry.ahead.blocks.now second.entry.ahead.nodes.now) (kept_of built.old.nodes.items built.old.blocks.items built.old.ranges.items ++ last ∷ []) (rest_of first.entry.ranges.now first.entry.ahead.blocks.now first.entry.ahead.nodes.now) (rest_of second.entry.ranges.now second.entry.ahead.blocks.now second.entry.ahead.nodes.now)) }
+    requires second_later { last.0 ≤ next_of (rest_of second.ranges.now second.ahead.blocks.now
+        second.ahead.nodes.now) }
+    ensures { IfOk result (λ l. IsJoining built.new.nodes.items built.new.blocks.items built.new.ranges.items l.last
+        (rest_of l.xs.now first.entry.ahead.blocks.now first.entry.ahead.nodes.now) (rest_of l.ys.now
+        second.entry.ahead.blocks.now second.entry.ahead.nodes.now) (kept_of built.old.nodes.items
+        built.old.blocks.items built.old.ranges.items ++ last ∷ []) (rest_of first.entry.ranges.now
+        first.entry.ahead.blocks.now first.entry.ahead.nodes.now) (rest_of second.entry.ranges.now
+        second.entry.ahead.blocks.now second.entry.ahead.nodes.now)) }
 {
     let mut last = last;
     let mut xs = first.ranges;
@@ -168,7 +179,8 @@ fn join_both(
     requires built { IsBuilt built.old.nodes.items built.old.blocks.items built.old.ranges.items }
     requires can_first { CanJoin built.old.nodes.items built.old.blocks.items built.old.ranges.items (next_of xs.old) }
     requires can_second { CanJoin built.old.nodes.items built.old.blocks.items built.old.ranges.items (next_of ys.old) }
-    ensures { OnOk result (TakesBoth xs.old xs.new ys.old ys.new built.old.nodes.items built.new.nodes.items built.old.blocks.items built.new.blocks.items built.old.ranges.items built.new.ranges.items) }
+    ensures { OnOk result (TakesBoth xs.old xs.new ys.old ys.new built.old.nodes.items built.new.nodes.items
+        built.old.blocks.items built.new.blocks.items built.old.ranges.items built.new.ranges.items) }
 {
     if !xs.is_in_block() || !ys.is_in_block() {
         return Ok(());

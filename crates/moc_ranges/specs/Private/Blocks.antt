@@ -1,5 +1,5 @@
 -- Lists of ranges that are kept in blocks, and blocks in nodes.
-use Rattle.std.specs.Prelude.{◌≡◌, ℕ, ◌+◌, ◌-◌, ◌<◌, ◌≤◌, List, [], ◌∷◌, ◌++◌, length, sum_by, ⊤}
+use Rattle.std.specs.Prelude.{◌≡◌, ℕ, ◌-◌, ◌<◌, ◌≤◌, List, [], ◌∷◌, ◌++◌, length, sum_by}
 use Rattle.moc_ranges.specs.RangeList.{IsNormal}
 pub use Rattle.moc_ranges.specs.Blocks.{joining, NeedsBoth, AreBlocks}
 

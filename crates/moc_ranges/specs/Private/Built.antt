@@ -9,7 +9,8 @@ use Rattle.moc_ranges.specs.Private.Blocks.{joining, AreBlocks, next_of}
 abbrev pub kept_of : List (List (List (ℕ × ℕ))) → List (List (ℕ × ℕ)) → List (ℕ × ℕ) → List (ℕ × ℕ)
 kept_of nodes blocks ranges = joining (joining nodes ++ blocks) ++ ranges
 
-pub record IsBuilt (nodes : List (List (List (ℕ × ℕ)))) (blocks : List (List (ℕ × ℕ))) (ranges : List (ℕ × ℕ)) : Type 0 where
+pub record IsBuilt (nodes : List (List (List (ℕ × ℕ)))) (blocks : List (List (ℕ × ℕ))) (ranges : List (ℕ × ℕ)) :
+    Type 0 where
   pub sized : AreBlocks (joining nodes ++ blocks)
   pub fits : length ranges ≤ 128
   pub normal : IsNormal (kept_of nodes blocks ranges)
@@ -35,18 +36,22 @@ abbrev pub BeginsBy : ℕ → List (ℕ × ℕ) → Type 0
 BeginsBy f [] = ⊤
 BeginsBy f (range ∷ ranges) = (range.0 ≤ f) × BeginsBy f ranges
 
--- a range that begins at f can be joined to what is built: what is in blocks ends before, and what is not begins no later
-pub record CanJoin (nodes : List (List (List (ℕ × ℕ)))) (blocks : List (List (ℕ × ℕ))) (ranges : List (ℕ × ℕ)) (f : ℕ) : Type 0 where
+-- a range that begins at f can be joined to what is built: what is in blocks ends before, and what
+-- is not begins no later
+pub record CanJoin (nodes : List (List (List (ℕ × ℕ)))) (blocks : List (List (ℕ × ℕ))) (ranges : List (ℕ × ℕ)) (f :
+    ℕ) : Type 0 where
   pub before : EndsBelow f (joining (joining nodes ++ blocks))
   pub begun : BeginsBy f ranges
 
 -- ranges were taken off a list and joined to what is built
-pub record TakesOver (xs xs' : List (ℕ × ℕ)) (limit : ℕ) (nodes nodes' : List (List (List (ℕ × ℕ)))) (blocks blocks' : List (List (ℕ × ℕ))) (ranges ranges' : List (ℕ × ℕ)) : Type 0 where
+pub record TakesOver (xs xs' : List (ℕ × ℕ)) (limit : ℕ) (nodes nodes' : List (List (List (ℕ × ℕ)))) (blocks blocks'
+    : List (List (ℕ × ℕ))) (ranges ranges' : List (ℕ × ℕ)) : Type 0 where
   pub gone : List (ℕ × ℕ)
   pub parts : xs ≡ gone ++ xs'
   pub some : 0 < length gone
   pub built : IsBuilt nodes' blocks' ranges'
-  pub same : (q : ℕ) → in_ranges (kept_of nodes' blocks' ranges') q ≡ (in_ranges (kept_of nodes blocks ranges) q || in_ranges gone q)
+  pub same : (q : ℕ) → in_ranges (kept_of nodes' blocks' ranges') q ≡ (in_ranges (kept_of nodes blocks ranges) q ||
+      in_ranges gone q)
   pub can_next : CanJoin nodes' blocks' ranges' (next_of xs')
   pub can_limit : CanJoin nodes' blocks' ranges' limit
 
@@ -68,7 +73,8 @@ pub record TakesCommon (xs xs' : List (ℕ × ℕ)) (range : ℕ × ℕ) (nodes 
   pub ended : EndsBy range.1 gone
   pub built : IsBuilt nodes' blocks' ranges'
   pub below : EndsBelow (max (next_of xs') range.0) (kept_of nodes' blocks' ranges')
-  pub same : (q : ℕ) → in_ranges (kept_of nodes' blocks' ranges') q ≡ (in_ranges (kept_of nodes blocks ranges) q || (in_ranges gone q && in_range range q))
+  pub same : (q : ℕ) → in_ranges (kept_of nodes' blocks' ranges') q ≡ (in_ranges (kept_of nodes blocks ranges) q ||
+      (in_ranges gone q && in_range range q))
 
 -- a range was taken off one of two lists, which begins first of both
 pub record IsTurn (xs ys : List (ℕ × ℕ)) (range : ℕ × ℕ) (xs' ys' : List (ℕ × ℕ)) : Type 0 where
@@ -83,26 +89,31 @@ pub record IsTurn (xs ys : List (ℕ × ℕ)) (range : ℕ × ℕ) (xs' ys' : Li
   pub onward : length xs' + length ys' < length xs + length ys
 
 -- an open range stands behind what is built
-pub record IsOpen (nodes : List (List (List (ℕ × ℕ)))) (blocks : List (List (ℕ × ℕ))) (ranges : List (ℕ × ℕ)) (last : ℕ × ℕ) : Type 0 where
+pub record IsOpen (nodes : List (List (List (ℕ × ℕ)))) (blocks : List (List (ℕ × ℕ))) (ranges : List (ℕ × ℕ)) (last
+    : ℕ × ℕ) : Type 0 where
   pub built : IsBuilt nodes blocks ranges
   pub normal : IsNormal (kept_of nodes blocks ranges ++ last ∷ [])
 
 -- how far two lists are joined to what is built behind an open range
-pub record IsJoining (nodes : List (List (List (ℕ × ℕ)))) (blocks : List (List (ℕ × ℕ))) (ranges : List (ℕ × ℕ)) (last : ℕ × ℕ) (xs ys whole whole_xs whole_ys : List (ℕ × ℕ)) : Type 0 where
+pub record IsJoining (nodes : List (List (List (ℕ × ℕ)))) (blocks : List (List (ℕ × ℕ))) (ranges : List (ℕ × ℕ))
+    (last : ℕ × ℕ) (xs ys whole whole_xs whole_ys : List (ℕ × ℕ)) : Type 0 where
   pub opened : IsOpen nodes blocks ranges last
   pub first_normal : IsNormal xs
   pub second_normal : IsNormal ys
   pub first_later : last.0 ≤ next_of xs
   pub second_later : last.0 ≤ next_of ys
-  pub same : (q : ℕ) → (in_ranges (kept_of nodes blocks ranges ++ last ∷ []) q || (in_ranges xs q || in_ranges ys q)) ≡ (in_ranges whole q || (in_ranges whole_xs q || in_ranges whole_ys q))
+  pub same : (q : ℕ) → (in_ranges (kept_of nodes blocks ranges ++ last ∷ []) q || (in_ranges xs q || in_ranges ys
+      q)) ≡ (in_ranges whole q || (in_ranges whole_xs q || in_ranges whole_ys q))
   pub fewer : length xs + length ys ≤ length whole_xs + length whole_ys
 
 -- ranges were taken off two lists and joined to what is built
-pub record TakesBoth (xs xs' ys ys' : List (ℕ × ℕ)) (nodes nodes' : List (List (List (ℕ × ℕ)))) (blocks blocks' : List (List (ℕ × ℕ))) (ranges ranges' : List (ℕ × ℕ)) : Type 0 where
+pub record TakesBoth (xs xs' ys ys' : List (ℕ × ℕ)) (nodes nodes' : List (List (List (ℕ × ℕ)))) (blocks blocks' :
+    List (List (ℕ × ℕ))) (ranges ranges' : List (ℕ × ℕ)) : Type 0 where
   pub built : IsBuilt nodes' blocks' ranges'
   pub first_normal : IsNormal xs'
   pub second_normal : IsNormal ys'
   pub can_first : CanJoin nodes' blocks' ranges' (next_of xs')
   pub can_second : CanJoin nodes' blocks' ranges' (next_of ys')
-  pub same : (q : ℕ) → (in_ranges (kept_of nodes' blocks' ranges') q || (in_ranges xs' q || in_ranges ys' q)) ≡ (in_ranges (kept_of nodes blocks ranges) q || (in_ranges xs q || in_ranges ys q))
+  pub same : (q : ℕ) → (in_ranges (kept_of nodes' blocks' ranges') q || (in_ranges xs' q || in_ranges ys' q)) ≡
+      (in_ranges (kept_of nodes blocks ranges) q || (in_ranges xs q || in_ranges ys q))
   pub fewer : length xs' + length ys' ≤ length xs + length ys

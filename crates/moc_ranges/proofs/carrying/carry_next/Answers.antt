@@ -1,4 +1,4 @@
-use Rattle.std.proofs.Common.{◌++◌, ◌∙◌, sym}
+use Rattle.std.proofs.Common.{◌∙◌, sym}
 use Rattle.moc_ranges.specs.Private.Blocks.{joining}
 use Rattle.moc_ranges.proofs.CarriedOver.{carry_room, carries_one}
 use Rattle.moc_ranges.proofs.carrying.carry_next.Goals as goal

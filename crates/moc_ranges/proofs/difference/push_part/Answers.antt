@@ -1,7 +1,6 @@
-use Rattle.std.proofs.Common.{◌≡◌, ◌+◌, ◌<◌, ◌≤◌, ◌++◌, ◌∷◌, [], List, ℕ, min, max, arith, sym, ap, ◌∙◌, subst, refl}
-use Rattle.moc_ranges.specs.Private.Built.{kept_of, EndsBelow}
+use Rattle.std.proofs.Common.{arith, refl}
 use Rattle.moc_ranges.proofs.Merging.{EndsBelow-more}
-use Rattle.moc_ranges.proofs.Meeting.{common_after, common_below, common_same, common_nothing}
+use Rattle.moc_ranges.proofs.Meeting.{common_below, common_same, common_nothing}
 use Rattle.moc_ranges.proofs.difference.push_part.Goals as goal
 
 pub returns-then-to-from-clause-below : goal.returns-then-to-from-clause-below

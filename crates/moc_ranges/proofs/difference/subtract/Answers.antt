@@ -1,5 +1,5 @@
 use Rattle.std.proofs.lemmas.Result.{IfOk-weaker}
-use Rattle.std.proofs.Common.{◌∙◌, ◌∷◌, [], ◌≡◌, ◌+◌, ◌<◌, ◌≤◌, List, ℕ, ap, arith, refl, subst, sym, Option, Some}
+use Rattle.std.proofs.Common.{◌∙◌, ◌∷◌, [], ◌<◌, List, ℕ, ap, arith, refl, subst, sym, Option, Some}
 use Rattle.moc_ranges.specs.Private.Walks.{begun}
 use Rattle.moc_ranges.specs.Private.Blocks.{next_of}
 use Rattle.moc_ranges.proofs.Merging.{ends_next}

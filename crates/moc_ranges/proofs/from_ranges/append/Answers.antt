@@ -1,4 +1,4 @@
-use Rattle.std.proofs.Common.{◌∙◌, ◌++◌, ◌∷◌, [], List, ℕ, ap, sym, subst}
+use Rattle.std.proofs.Common.{◌∙◌, List, ℕ, ap, sym, subst}
 use Rattle.moc_ranges.specs.RangeList.{IsNormal, set_of}
 use Rattle.moc_ranges.specs.Private.Built.{EndsBelow}
 use Rattle.moc_ranges.proofs.Building.{pushed_normal}

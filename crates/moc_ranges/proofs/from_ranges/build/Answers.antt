@@ -1,4 +1,4 @@
-use Rattle.std.proofs.Common.{◌≡◌, ◌∙◌, ◌-◌, [], List, ℕ, take, drop, length, get_or, arith}
+use Rattle.std.proofs.Common.{◌∙◌, ◌-◌, take, drop, length, get_or}
 use Rattle.std.proofs.lemmas.Result.{IfOk-weaker}
 use Rattle.std.proofs.lemmas.List.{drop_more, drop_all}
 use Rattle.moc_ranges.proofs.Building.{open_filled, open_within, open_after, lengthened_start, lengthened_more, lengthened_all}

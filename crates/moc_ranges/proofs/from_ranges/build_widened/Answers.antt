@@ -2,7 +2,7 @@ use Rattle.std.proofs.Common.{◌≡◌, ◌∙◌, ◌∷◌, List, ℕ, ap, sy
 use Rattle.std.proofs.lemmas.Result.{IfOk-weaker}
 use Rattle.moc_ranges.specs.RangeList.{IsNormal}
 use Rattle.moc_ranges.specs.Private.Widen.{widen}
-use Rattle.moc_ranges.proofs.Building.{IsLengthened, open_filled, open_within, open_after, lengthened_start, lengthened_more, lengthened_all}
+use Rattle.moc_ranges.proofs.Building.{open_filled, open_within, open_after, lengthened_start, lengthened_more, lengthened_all}
 use Rattle.moc_ranges.proofs.Views.{same_view}
 use Rattle.moc_ranges.proofs.Widening.{size_sorted}
 use Rattle.moc_ranges.proofs.from_ranges.build_widened.Goals as goal

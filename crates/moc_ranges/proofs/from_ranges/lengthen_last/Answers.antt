@@ -1,4 +1,4 @@
-use Rattle.std.proofs.Common.{◌≡◌, ◌+◌, ◌-◌, ◌≤◌, arith, get_or, length, ℕ}
+use Rattle.std.proofs.Common.{◌≡◌, ◌+◌, ◌-◌, arith, length, ℕ}
 use Rattle.std.proofs.lemmas.List.{get_or_read}
 use Rattle.moc_ranges.proofs.Building.{lengthened_normal, lengthened_same}
 use Rattle.moc_ranges.proofs.Views.{added_view}

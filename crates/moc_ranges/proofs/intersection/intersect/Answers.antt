@@ -1,6 +1,5 @@
 use Rattle.std.proofs.lemmas.Result.{IfOk-weaker}
-use Rattle.std.proofs.Common.{◌∙◌, ◌≡◌, ◌+◌, ◌<◌, ◌≤◌, List, ℕ, max, arith}
-use Rattle.moc_ranges.specs.Private.Walks.{begun}
+use Rattle.std.proofs.Common.{◌∙◌, arith}
 use Rattle.moc_ranges.proofs.Walking.{at_both}
 use Rattle.moc_ranges.proofs.Views.{common_view}
 use Rattle.moc_ranges.proofs.Meeting.{IsMeeting, met_first, met_second, meeting_kept, meeting_kept_back, meeting_taken, meeting_swap}

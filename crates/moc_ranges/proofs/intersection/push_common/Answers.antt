@@ -1,5 +1,4 @@
-use Rattle.std.proofs.Common.{◌≡◌, ◌+◌, ◌<◌, ◌≤◌, ◌++◌, ◌∷◌, [], List, ℕ, min, max, arith, sym, ap, ◌∙◌, subst}
-use Rattle.moc_ranges.specs.Private.Built.{kept_of, EndsBelow}
+use Rattle.std.proofs.Common.{arith}
 use Rattle.moc_ranges.proofs.Merging.{EndsBelow-more}
 use Rattle.moc_ranges.proofs.Meeting.{common_after, common_below, common_same, common_nothing}
 use Rattle.moc_ranges.proofs.intersection.push_common.Goals as goal

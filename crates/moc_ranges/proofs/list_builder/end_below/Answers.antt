@@ -1,4 +1,4 @@
-use Rattle.std.proofs.Common.{◌≡◌, ◌+◌, ◌-◌, ◌<◌, ◌≤◌, ◌++◌, ◌∷◌, ◌||◌, [], List, ℕ, length, arith, ap, sym, subst, refl, ◌∙◌, append_assoc}
+use Rattle.std.proofs.Common.{◌-◌, length, arith}
 use Rattle.moc_ranges.proofs.Building.{test_below, test_reached}
 use Rattle.moc_ranges.proofs.list_builder.end_below.Goals as goal
 

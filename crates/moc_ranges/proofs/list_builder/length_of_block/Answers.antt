@@ -1,4 +1,4 @@
-use Rattle.std.proofs.Common.{◌≡◌, ◌+◌, ◌-◌, ◌<◌, ◌≤◌, ◌++◌, ◌∷◌, ◌||◌, [], List, ℕ, length, arith, ap, sym, subst, refl, ◌∙◌, append_assoc}
+use Rattle.std.proofs.Common.{◌-◌, length, arith, ap, ◌∙◌}
 use Rattle.moc_ranges.proofs.Building.{length_read}
 use Rattle.moc_ranges.proofs.list_builder.length_of_block.Goals as goal
 

@@ -1,5 +1,4 @@
-use Rattle.std.proofs.Common.{◌≡◌, ◌+◌, ◌<◌, ◌≤◌, ◌||◌, ◌++◌, ◌∷◌, [], List, ℕ, length, arith, sym, ap}
-use Rattle.moc_ranges.specs.Private.Built.{kept_of, IsOpen}
+use Rattle.std.proofs.Common.{arith}
 use Rattle.moc_ranges.proofs.Building.{open_longer, open_longer-same, open_filled, open_within, open_after, open_next, open_next-same}
 use Rattle.moc_ranges.proofs.list_builder.lengthen.Goals as goal
 

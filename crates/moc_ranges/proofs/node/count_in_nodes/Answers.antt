@@ -1,4 +1,4 @@
-use Rattle.std.proofs.Common.{arith, ◌∙◌, ap, length}
+use Rattle.std.proofs.Common.{arith, ◌∙◌}
 use Rattle.moc_ranges.proofs.Blocking.{length_node_step, length_nodes_done}
 use Rattle.moc_ranges.proofs.node.count_in_nodes.Goals as goal
 

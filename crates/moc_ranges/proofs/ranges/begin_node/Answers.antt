@@ -1,5 +1,5 @@
-use Rattle.std.proofs.Common.{◌≡◌, ◌<◌, ◌++◌, ◌-◌, [], ◌∷◌, length, ap, sym, ◌∙◌, arith, List, ℕ, take, drop}
-use Rattle.moc_ranges.specs.Private.Blocks.{joining, rest_of}
+use Rattle.std.proofs.Common.{◌≡◌, ◌++◌, ◌-◌, [], length, ap, sym, ◌∙◌, arith, List, ℕ, take, drop}
+use Rattle.moc_ranges.specs.Private.Blocks.{joining}
 use Rattle.moc_ranges.proofs.Blocking.{node_split, none_there}
 use Rattle.moc_ranges.proofs.ranges.begin_node.Goals as goal
 

@@ -1,5 +1,5 @@
-use Rattle.std.proofs.Common.{◌≡◌, ◌++◌, [], ap, sym, ◌∙◌, arith, List, ℕ}
-use Rattle.moc_ranges.specs.Private.Blocks.{joining, rest_of}
+use Rattle.std.proofs.Common.{◌≡◌, [], ap, ◌∙◌, arith, List, ℕ}
+use Rattle.moc_ranges.specs.Private.Blocks.{rest_of}
 use Rattle.moc_ranges.proofs.Blocking.{node_split, none_there}
 use Rattle.moc_ranges.proofs.ranges.node_below.Goals as goal
 

@@ -1,4 +1,4 @@
-use Rattle.std.proofs.Common.{◌+◌, ◌-◌, length, take, drop, arith, subst, sym}
+use Rattle.std.proofs.Common.{◌-◌, length, take, drop, arith, subst, sym}
 use Rattle.moc_ranges.specs.RangeList.{IsNormal}
 use Rattle.moc_ranges.proofs.Blocking.{block_split, IsNormal-prefix}
 use Rattle.moc_ranges.proofs.Passing.{pass_begun, passes_normal, passes_bounded, joined-ranges}

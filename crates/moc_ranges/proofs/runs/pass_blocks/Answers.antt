@@ -1,6 +1,6 @@
-use Rattle.std.proofs.Common.{◌+◌, arith, subst, sym}
+use Rattle.std.proofs.Common.{arith, subst, sym}
 use Rattle.moc_ranges.specs.RangeList.{IsNormal}
-use Rattle.moc_ranges.proofs.Passing.{normal_blocks, normal_nodes, pass_nodes, pass_next, pass_in_blocks, passes_normal, passes_bounded}
+use Rattle.moc_ranges.proofs.Passing.{normal_blocks, normal_nodes, pass_nodes, pass_next, passes_normal, passes_bounded}
 use Rattle.moc_ranges.proofs.runs.pass_blocks.Goals as goal
 
 pub pass_runs-begun-requires-clause-normal : goal.pass_runs-begun-requires-clause-normal

@@ -1,4 +1,4 @@
-use Rattle.std.proofs.Common.{◌+◌, arith}
+use Rattle.std.proofs.Common.{arith}
 use Rattle.moc_ranges.proofs.Blocking.{IsNormal-suffix}
 use Rattle.moc_ranges.proofs.Passing.{normal_begun, pass_in_ranges, pass_block, passes_bounded}
 use Rattle.moc_ranges.proofs.runs.pass_ranges.Goals as goal

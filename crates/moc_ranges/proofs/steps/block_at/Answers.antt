@@ -1,4 +1,4 @@
-use Rattle.std.proofs.Common.{◌<◌, ◌∙◌, ap, arith, length, subst, sym, get_or, List, ℕ}
+use Rattle.std.proofs.Common.{◌∙◌, ap, arith, length, get_or, List, ℕ}
 use Rattle.moc_ranges.proofs.Stepping.{nodes_taken, block_found}
 use Rattle.moc_ranges.proofs.steps.block_at.Goals as goal
 

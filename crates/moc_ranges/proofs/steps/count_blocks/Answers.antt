@@ -1,4 +1,4 @@
-use Rattle.std.proofs.Common.{◌∙◌, ap, arith, length}
+use Rattle.std.proofs.Common.{ap, arith, length}
 use Rattle.moc_ranges.specs.Private.Blocks.{joining}
 use Rattle.moc_ranges.proofs.Stepping.{nodes_taken, few_blocks}
 use Rattle.moc_ranges.proofs.steps.count_blocks.Goals as goal

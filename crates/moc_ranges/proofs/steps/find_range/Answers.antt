@@ -1,4 +1,4 @@
-use Rattle.std.proofs.Common.{◌+◌, ◌-◌, ◌/◌, arith, sym, length}
+use Rattle.std.proofs.Common.{◌+◌, ◌-◌, ◌/◌, arith, sym}
 use Rattle.moc_ranges.proofs.Stepping.{narrow_left, narrow_right, range_left, range_right, range_here, found_none, spent_within}
 use Rattle.moc_ranges.proofs.steps.find_range.Goals as goal
 

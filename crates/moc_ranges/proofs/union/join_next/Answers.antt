@@ -1,8 +1,4 @@
-use Rattle.std.proofs.Common.{◌≡◌, ◌+◌, ◌-◌, ◌<◌, ◌≤◌, ◌++◌, ◌∷◌, ◌||◌, [], List, ℕ, length, arith, ap, sym, subst, refl, ◌∙◌}
-use Rattle.moc_ranges.specs.Private.Blocks.{joining, AreBlocks, next_of}
-use Rattle.moc_ranges.specs.Private.Built.{kept_of, IsBuilt, last_length, EndsBelow}
-use Rattle.moc_ranges.specs.RangeList.{IsNormal, in_ranges}
-use Rattle.moc_ranges.proofs.Merging.{normal_ranges, carried_normal, carried, joined_over}
+use Rattle.moc_ranges.proofs.Merging.{joined_over}
 use Rattle.moc_ranges.proofs.union.join_next.Goals as goal
 
 pub returns-in_ok-join : goal.returns-in_ok-join

@@ -1,4 +1,4 @@
-use Rattle.std.proofs.Common.{◌≡◌, ◌++◌, List, ℕ, get_or, arith}
+use Rattle.std.proofs.Common.{get_or, arith}
 use Rattle.moc_ranges.proofs.Turning.{first_item, turn_first, turn_second}
 use Rattle.moc_ranges.proofs.union.next_turn.Goals as goal
 

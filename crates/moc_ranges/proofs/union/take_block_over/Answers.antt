@@ -1,8 +1,6 @@
-use Rattle.std.proofs.Common.{◌≡◌, ◌+◌, ◌-◌, ◌<◌, ◌≤◌, ◌++◌, ◌∷◌, ◌||◌, [], List, ℕ, length, arith, ap, sym, subst, refl, ◌∙◌}
-use Rattle.moc_ranges.specs.Private.Blocks.{joining, AreBlocks, next_of}
-use Rattle.moc_ranges.specs.Private.Built.{kept_of, IsBuilt, last_length, EndsBelow}
-use Rattle.moc_ranges.specs.RangeList.{IsNormal, in_ranges}
-use Rattle.moc_ranges.proofs.Merging.{normal_ranges, carried_normal, carried, joined_over}
+use Rattle.std.proofs.Common.{arith, subst}
+use Rattle.moc_ranges.specs.Private.Built.{EndsBelow}
+use Rattle.moc_ranges.proofs.Merging.{normal_ranges, carried_normal, carried}
 use Rattle.moc_ranges.proofs.union.take_block_over.Goals as goal
 
 pub carry_limit-bound-requires : goal.carry_limit-bound-requires

@@ -1,4 +1,3 @@
-use Rattle.std.proofs.Common.{◌≡◌, ◌++◌, List, ℕ}
 use Rattle.moc_ranges.proofs.Walking.{AreSameFrom}
 use Rattle.moc_ranges.proofs.walks.are_same.Given as goal
 

@@ -1,4 +1,4 @@
-use Rattle.std.proofs.Common.{◌≡◌, ◌+◌, ◌-◌, arith, List, ℕ, sym, ◌∙◌}
+use Rattle.std.proofs.Common.{arith}
 use Rattle.moc_ranges.specs.Private.Walks.{begun}
 use Rattle.moc_ranges.proofs.Walking.{IsCounting, at_both, counting_first, counting_second, counting_room, counted_first, counted_second, counted_within, common_bounded}
 use Rattle.moc_ranges.proofs.walks.count_both.Goals as goal

@@ -1,5 +1,4 @@
-use Rattle.std.proofs.Common.{◌≡◌, ◌+◌, ◌-◌, arith, List, ℕ, sym, ◌∙◌}
-use Rattle.moc_ranges.specs.Private.Walks.{begun}
+use Rattle.std.proofs.Common.{arith}
 use Rattle.moc_ranges.proofs.Walking.{IsHolding, at_both, holding_skips, holding_takes, holding_fails, holding_lacks, holding_ends}
 use Rattle.moc_ranges.proofs.walks.holds_all.Goals as goal
 

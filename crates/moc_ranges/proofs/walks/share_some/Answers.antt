@@ -1,4 +1,3 @@
-use Rattle.std.proofs.Common.{◌≡◌, ◌+◌, ◌-◌, arith, List, ℕ, sym, ◌∙◌}
 use Rattle.moc_ranges.specs.Private.Walks.{begun}
 use Rattle.moc_ranges.proofs.Walking.{IsCounting, at_both, sharing_first, sharing_second, shares, counted_first, counted_second, shares_none}
 use Rattle.moc_ranges.proofs.walks.share_some.Goals as goal

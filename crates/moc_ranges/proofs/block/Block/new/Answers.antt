@@ -1,4 +1,4 @@
-use Rattle.std.proofs.Common.{◌≡◌, arith, ap, sym, ◌∙◌, ◌-◌, length, List, ℕ, subst}
+use Rattle.std.proofs.Common.{◌≡◌, arith, ap, sym, ◌∙◌, List, ℕ, subst}
 use Rattle.std.proofs.lemmas.List.{get_or_read}
 use Rattle.std.specs.Arc.{arc_value}
 use Rattle.moc_ranges.specs.Private.Blocks.{width_of}

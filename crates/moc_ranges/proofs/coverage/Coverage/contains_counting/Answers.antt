@@ -1,4 +1,4 @@
-use Rattle.std.proofs.Common.{◌∙◌, ◌^◌, ◌<◌, ◌≤◌, ◌+◌, ap, arith, sym, length, List, ℕ}
+use Rattle.std.proofs.Common.{◌∙◌, ap, arith, length, List, ℕ}
 use Rattle.moc_ranges.specs.RangeList.{in_ranges}
 use Rattle.moc_ranges.specs.Private.Blocks.{joining}
 use Rattle.moc_ranges.proofs.Stepping.{found_nodes, found_few, cost_few}

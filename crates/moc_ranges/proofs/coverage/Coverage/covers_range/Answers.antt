@@ -1,4 +1,4 @@
-use Rattle.std.proofs.Common.{sym, ◌∙◌, arith}
+use Rattle.std.proofs.Common.{sym, arith}
 use Rattle.std.proofs.lemmas.Bool.Decides.{nat_tests}
 use Rattle.moc_ranges.proofs.Looking.{covers_next, covers_none_left, next_same, none_same}
 use Rattle.moc_ranges.proofs.coverage.Coverage.covers_range.Goals as goal

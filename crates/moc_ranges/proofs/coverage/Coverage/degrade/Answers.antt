@@ -1,7 +1,7 @@
-use Rattle.std.proofs.Common.{ℕ, ap, ◌∙◌, sym, map}
+use Rattle.std.proofs.Common.{ℕ, ap, ◌∙◌, map}
 use Rattle.moc_ranges.specs.Private.Widen.{widen}
 use Rattle.moc_ranges.specs.Numbers.{same_members}
-use Rattle.moc_ranges.specs.RangeList.{in_ranges, set_of, contains-set_of}
+use Rattle.moc_ranges.specs.RangeList.{in_ranges, contains-set_of}
 use Rattle.moc_ranges.proofs.Widening.{degraded}
 use Rattle.moc_ranges.proofs.coverage.Coverage.degrade.Goals as goal
 

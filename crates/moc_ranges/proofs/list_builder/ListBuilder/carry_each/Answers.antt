@@ -1,7 +1,6 @@
-use Rattle.std.proofs.Common.{◌≡◌, ◌+◌, ◌-◌, ◌<◌, ◌≤◌, ◌++◌, ◌∷◌, ◌||◌, ◌↔◌, [], List, ℕ, length, take, arith, ap, sym, subst, refl, ◌∙◌, append_assoc}
-use Rattle.moc_ranges.specs.Private.Blocks.{joining, AreBlocks, next_of}
-use Rattle.moc_ranges.specs.Private.Built.{kept_of, IsBuilt, last_length, EndsBelow}
-use Rattle.moc_ranges.specs.RangeList.{IsNormal, in_ranges}
+use Rattle.std.proofs.Common.{◌++◌, List, ℕ, ap, sym, subst, ◌∙◌}
+use Rattle.moc_ranges.specs.Private.Blocks.{joining}
+use Rattle.moc_ranges.specs.RangeList.{IsNormal}
 use Rattle.moc_ranges.proofs.Building.{each_normal, each_more}
 use Rattle.moc_ranges.proofs.list_builder.ListBuilder.carry_each.Goals as goal
 

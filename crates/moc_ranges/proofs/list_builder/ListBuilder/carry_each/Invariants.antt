@@ -1,7 +1,5 @@
-use Rattle.std.proofs.Common.{◌≡◌, ◌+◌, ◌-◌, ◌<◌, ◌≤◌, ◌++◌, ◌∷◌, ◌||◌, [], List, ℕ, length, take, arith, ap, sym, subst, refl, ◌∙◌, append_assoc}
-use Rattle.moc_ranges.specs.Private.Blocks.{joining, AreBlocks, next_of}
-use Rattle.moc_ranges.specs.Private.Built.{kept_of, IsBuilt, last_length, EndsBelow}
-use Rattle.moc_ranges.specs.RangeList.{IsNormal, in_ranges}
+use Rattle.std.proofs.Common.{◌≡◌, ◌++◌, take}
+use Rattle.moc_ranges.specs.Private.Blocks.{joining, AreBlocks}
 use Rattle.moc_ranges.proofs.list_builder.ListBuilder.carry_each.Given as goal
 
 abbrev pub invariant-loop-block : goal.invariant-loop-block

@@ -1,7 +1,6 @@
-use Rattle.std.proofs.Common.{◌≡◌, ◌+◌, ◌-◌, ◌<◌, ◌≤◌, ◌++◌, ◌∷◌, ◌||◌, ◌↔◌, [], List, ℕ, length, take, arith, ap, sym, subst, refl, ◌∙◌, append_assoc}
-use Rattle.moc_ranges.specs.Private.Blocks.{joining, AreBlocks, next_of}
-use Rattle.moc_ranges.specs.Private.Built.{kept_of, IsBuilt, last_length, EndsBelow}
-use Rattle.moc_ranges.specs.RangeList.{IsNormal, in_ranges}
+use Rattle.std.proofs.Common.{◌++◌, ◌∷◌, [], List, ℕ, ap, ◌∙◌}
+use Rattle.moc_ranges.specs.Private.Blocks.{joining}
+use Rattle.moc_ranges.specs.Private.Built.{kept_of}
 use Rattle.moc_ranges.proofs.Building.{stack_noded, node_kept, node_built, sealed_all}
 use Rattle.moc_ranges.proofs.list_builder.ListBuilder.carry_node.Goals as goal
 

@@ -1,7 +1,5 @@
-use Rattle.std.proofs.Common.{◌≡◌, ◌+◌, ◌-◌, ◌<◌, ◌≤◌, ◌++◌, ◌∷◌, ◌||◌, [], List, ℕ, length, arith, ap, sym, subst, refl, ◌∙◌, append_assoc}
-use Rattle.moc_ranges.specs.Private.Blocks.{joining, AreBlocks, next_of}
-use Rattle.moc_ranges.specs.Private.Built.{kept_of, IsBuilt, last_length, EndsBelow}
-use Rattle.moc_ranges.specs.RangeList.{IsNormal, in_ranges}
+use Rattle.std.proofs.Common.{◌++◌, length, arith, ap, sym, subst, ◌∙◌}
+use Rattle.moc_ranges.specs.Private.Blocks.{joining, AreBlocks}
 use Rattle.moc_ranges.proofs.Building.{joined_sized, joined_all, suffix_normal, last_length-suffix, AreBlocks-add, pushed_all}
 use Rattle.moc_ranges.proofs.Blocking.{joining-last, IsNormal-prefix}
 use Rattle.moc_ranges.proofs.list_builder.ListBuilder.push_block.Goals as goal

@@ -1,7 +1,6 @@
-use Rattle.std.proofs.Common.{◌≡◌, ◌+◌, ◌-◌, ◌<◌, ◌≤◌, ◌++◌, ◌∷◌, ◌||◌, [], List, ℕ, length, arith, ap, sym, subst, refl, ◌∙◌, append_assoc}
-use Rattle.moc_ranges.specs.Private.Blocks.{joining, AreBlocks, next_of}
-use Rattle.moc_ranges.specs.Private.Built.{kept_of, IsBuilt, last_length, EndsBelow}
-use Rattle.moc_ranges.specs.RangeList.{IsNormal, in_ranges}
+use Rattle.std.proofs.Common.{List, ℕ, ap, sym, subst, ◌∙◌}
+use Rattle.moc_ranges.specs.Private.Blocks.{joining, AreBlocks}
+use Rattle.moc_ranges.specs.RangeList.{IsNormal}
 use Rattle.moc_ranges.proofs.Building.{noded, AreBlocks-suffix}
 use Rattle.moc_ranges.proofs.Blocking.{IsNormal-suffix, joining-append}
 use Rattle.moc_ranges.proofs.list_builder.ListBuilder.seal_node.Goals as goal
