@@ -3,14 +3,13 @@
 
     bench/sizes.py [PROGRAM]
 
-Each row is a kind of text, how it ends, and for each size the least seconds of three runs of the whole program and its
-peak in MiB. The program reads the text whole, so a peak has the text in it."""
+Each row is a kind of text, how it ends, and for each size the least processor time of three runs of the whole program, in
+seconds, and its peak in MiB. The program reads the text whole, so a peak has the text in it."""
 import os
 import random
 import subprocess
 import sys
 import tempfile
-import time
 
 TOP = os.path.dirname(os.path.dirname(os.path.abspath(__file__)))
 MOC = sys.argv[1] if len(sys.argv) > 1 else os.path.join(TOP, "crates", "moc_cli", "out", "moc_cli")
@@ -79,16 +78,14 @@ def write_text(path, made, size):
 
 
 def run_once(form, text):
-    """The seconds, the peak in MiB and the outcome of one run."""
+    """The processor time in seconds, the peak in MiB and the outcome of one run."""
     with open(text, "rb") as given, tempfile.TemporaryFile() as faults:
-        begun = time.monotonic()
         moc = subprocess.Popen([MOC, "convert", form, "uniq"], stdin=given, stdout=subprocess.DEVNULL, stderr=faults)
         _, status, usage = os.wait4(moc.pid, 0)
-        seconds = time.monotonic() - begun
         moc.returncode = os.waitstatus_to_exitcode(status)
         faults.seek(0)
         said = faults.read().decode().strip()
-    return seconds, usage.ru_maxrss / 1024, said or "read"
+    return usage.ru_utime + usage.ru_stime, usage.ru_maxrss / 1024, said or "read"
 
 
 def main():

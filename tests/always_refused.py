@@ -63,7 +63,10 @@ def main():
             names, ran = failing_tests(folder, tests)
             with open(path, "w") as file:
                 file.write(text)
-            passed, failed = (passed + 1, failed) if names and ran else (passed, failed + 1)
+            if names and ran:
+                passed += 1
+            else:
+                failed += 1
             print(f"{call} answers {answer}: " + (", ".join(names) if ran else "the tests did not run"), flush=True)
     print(f"{passed} passed, {failed} failed")
     return 1 if failed else 0

@@ -39,6 +39,7 @@ CLAIMED = [b"claimed\nfault UnknownWord\ntaken 72057594037927936\ncover 0/4\n",
 # The calls of a running map that `refused_calls` makes, in order.
 CALLS = [b"new", b"try_apply of an update", b"try_apply of a query", b"apply of an update", b"apply of a query",
          b"finish of an update", b"finish of a query", b"answer", b"close"]
+FIGURES = b"deepest 2\npixels 306244774661193728\nshare 0.088541666666\nranges 2\ncells 2\norder 0 1\norder 2 1\n"
 LONGEST_LINE = 1_048_576
 NINES = b"9" * 1000
 # Words, standard input, and what is told: each fault that a refused value or text has.
@@ -61,6 +62,24 @@ REFUSED = [
     (["convert", "uniq", "ascii"], b"4\nx", b"BadByte"),
     (["convert", "uniq", "ascii"], b"3", b"NotUniq"),
     (["convert", "ascii", "ascii"], b" " * (LIMIT + 1), b"TooLong"),
+    (["describe", "ascii"], b"0/12", b"CellTooLarge"),
+    (["describe", "json"], b"[1]", b"NotObject"),
+    (["describe", "uniq"], b" " * (LIMIT + 1), b"TooLong"),
+    (["check", "json"], b"[1]", b"NotObject"),
+    (["check", "ascii"], b" " * (LIMIT + 1), b"TooLong"),
+    (["check", "ascii"], b"0/0\n1/5 x7", b"BadByte\nbyte 8, line 2, byte 4 of it"),
+    (["check", "ascii"], b"7", b"NoOrder\nbyte 0, line 1, byte 0 of it"),
+    (["check", "ascii"], b"1/0\n\n\n30/0", b"OrderTooLarge\nbyte 6, line 4, byte 0 of it"),
+    (["check", "ascii"], b"0/12", b"CellTooLarge\nbyte 2, line 1, byte 2 of it"),
+    (["check", "ascii"], b"1/0-3\n2/7-5", b"Backwards\nbyte 8, line 2, byte 2 of it"),
+    (["check", "ascii"], b"1/0\n5-", b"Unfinished\nbyte 6, line 2, byte 2 of it"),
+    (["check", "json"], b'{\n"0":[0', b"NotJson\nline 2, column 6"),
+    (["check", "json"], b'{"0":[],"x":[0]}', b"BadOrder\nname 1"),
+    (["check", "json"], b'{"1":[],"007":0}', b"NotArray\norder 7"),
+    (["check", "json"], b'{"9":[0,1,true]}', b"NotWhole\norder 9, number 2"),
+    (["check", "json"], b'{"10":[],"2":[0,192]}', b"CellTooLarge\norder 2, number 1"),
+    (["check", "uniq"], b"4\nx", b"BadByte\nline 2"),
+    (["check", "uniq"], b"4\n\n3", b"NotUniq\nline 3"),
     (["run"], b" " * (LONGEST_LINE + 1), b"LineTooLong"),
     (["play"], b" " * (LONGEST_LINE + 1), b"LineTooLong"),
     (["crew", "2"], b"add 0/0\n" + b" " * (LONGEST_LINE + 1), b"LineTooLong"),
@@ -78,6 +97,8 @@ WORKS = [
     (["convert", "json", "uniq"], b'{"0":[3],"2":[5]}', b"7\n69\n"),
     (["convert", "ascii", "json"], b"2/0-3", b'{"1":[0],"2":[]}\n'),
     (["convert", "uniq", "ascii"], b"16\n17\n\n18\n19", b"0/0\n"),
+    (["check", "json"], b'{"0":[3],"2":[5]}', b"ok\n"),
+    (["describe", "ascii"], b"1/0-3 2/20", FIGURES),
 ]
 # What the program cannot take as words, and a part of what is told.
 MISTAKES = [
@@ -92,6 +113,9 @@ MISTAKES = [
     (["crew", "65"], b"65"),
     (["convert", "ascii", "fits"], b"fits"),
     (["cell", "x"], b"x"),
+    (["check"], b"FORM"),
+    (["check", "fits"], b"fits"),
+    (["describe", "ascii", "json"], b"json"),
 ]
 # What asks for help, and a part of it.
 HELP = [
@@ -112,6 +136,8 @@ HELP = [
     (["--version"], b"moc 0.1.0\n"),
     (["-V"], b"moc 0.1.0\n"),
     (["convert", "--help"], b"Converts a coverage on standard input from one text form to another"),
+    (["check", "--help"], b"Tells whether standard input is a coverage, and else where it is at fault"),
+    (["describe", "--help"], b"Prints the figures of a coverage on standard input"),
 ]
 
 
@@ -184,12 +210,13 @@ def limits_are_kept(tally):
 def devices_fail(tally):
     """A full device as output, a folder as input, and fault outputs that fail."""
     for words, given in [(["run"], SCRIPT), (["play"], SCHEDULE), (["crew", "2"], CREW),
-                         (["convert", "ascii", "json"], b"2/0-3"),
-                         (["ring", "1", "18"], b""), (["--help"], b"")]:
+                         (["convert", "ascii", "json"], b"2/0-3"), (["check", "ascii"], b"2/0-3"),
+                         (["describe", "ascii"], b"2/0-3"), (["ring", "1", "18"], b""), (["--help"], b"")]:
         with open("/dev/full", "wb") as full:
             seen = outcome(words, given, stdout=full)
         tally.add(f"{words} on a full device", seen == (3, None, b"fault Write\n"), seen)
-    for words in [["run"], ["play"], ["crew", "2"], ["convert", "ascii", "json"]]:
+    for words in [["run"], ["play"], ["crew", "2"], ["convert", "ascii", "json"], ["check", "ascii"],
+                  ["describe", "ascii"]]:
         folder = os.open(TOP, os.O_RDONLY)
         seen = outcome(words, stdin=folder)
         os.close(folder)
@@ -274,6 +301,14 @@ def crew_growths_are_refused(tally, shim):
     tally.add("some refusal of the word crew shows", memory in met, met)
 
 
+def check_growths_are_refused(tally, shim):
+    """Refuses each growth of a check that finds a fault in turn: both lines are told, or want of memory."""
+    whole = (1, b"", b"fault CellTooLarge\norder 2, number 1\n")
+    memory = (3, b"", b"fault Memory\n")
+    met = refuse_each(tally, "a check", [MOC, "check", "json"], b'{"10":[],"2":[0,192]}', whole, {memory}, shim)
+    tally.add("some refusal of a check shows", memory in met, met)
+
+
 def help_is_refused(tally, shim):
     """Refuses each growth of a help text in turn: what is written is all of it or nothing."""
     _, text, _ = outcome(["--help"])
@@ -349,6 +384,7 @@ def main():
             growths_are_refused(tally, words, script, answers, shim)
         growths_are_refused(tally, ["play"], SCHEDULE, PLAYED, shim, LAST_LINES)
         crew_growths_are_refused(tally, shim)
+        check_growths_are_refused(tally, shim)
         help_is_refused(tally, shim)
         map_refuses(tally, shim)
         refused_line_is_told(tally, shim)

@@ -29,13 +29,6 @@ fn cell(alloc: Global, base_pixel: u8) -> Result<Operand> {
     Ok(Operand { set, coarse: None })
 }
 
-/// The batch of one command.
-fn batch(alloc: Global, command: Command) -> Result<Batch> {
-    let mut commands = Vec::new(alloc);
-    commands.push(command)?;
-    Ok(Batch::new(commands)?)
-}
-
 /// How many pixels the first reply tells of.
 fn pixels(replies: &Replies) -> Option<u64> {
     match replies.as_slice().first()? {
@@ -64,10 +57,10 @@ fn work<R: Wait>(rt: &R, alloc: Global, map: &SharedMap, client: &mut Client) ->
     ensures { IsClientOf map.now client.new }
 {
     let number = client.number();
-    let own = batch(alloc, Command::Add(cell(alloc, number)?))?;
+    let own = Batch::one(alloc, Command::Add(cell(alloc, number)?))?;
     let pixel = 11 * CELLS * CELL + u64::from(number);
     let set = Coverage::from_ranges(alloc, &[(pixel, pixel + 1)])?;
-    let common = batch(alloc, Command::Add(Operand { set, coarse: None }))?;
+    let common = Batch::one(alloc, Command::Add(Operand { set, coarse: None }))?;
     let first = map.try_apply(client, &own)?;
     let second = map.apply(rt, client, &common)?;
     match (pixels(&first), pixels(&second)) {
@@ -197,8 +190,8 @@ fn main(rt: HostRuntime) -> Result<()> {
     println!(rt; "the threads changed {first:?} and {second:?}")?;
 
     map.meet(&mut a, &mut b);
-    let add = batch(alloc, Command::Add(cell(alloc, 3)?))?;
-    let count = batch(alloc, Command::Count(cell(alloc, 3)?))?;
+    let add = Batch::one(alloc, Command::Add(cell(alloc, 3)?))?;
+    let count = Batch::one(alloc, Command::Count(cell(alloc, 3)?))?;
     let (a, busy, done) = meet_busy(&map, a, &mut b, add, &count);
     if let Some(busy) = busy {
         println!(rt;
@@ -209,8 +202,8 @@ fn main(rt: HostRuntime) -> Result<()> {
     }
     println!(rt; "client 0 changed {done:?}")?;
 
-    let (a, snapshot) = look(&map, a, batch(alloc, Command::Read(cell(alloc, 3)?))?);
-    let remove = batch(alloc, Command::Remove(cell(alloc, 3)?))?;
+    let (a, snapshot) = look(&map, a, Batch::one(alloc, Command::Read(cell(alloc, 3)?))?);
+    let remove = Batch::one(alloc, Command::Remove(cell(alloc, 3)?))?;
     println!(rt;
         "client 1 removed {:?}",
         pixels(&map.try_apply(&mut b, &remove)?)
@@ -225,7 +218,7 @@ fn main(rt: HostRuntime) -> Result<()> {
     println!(rt; "{} pixels at the end", map.close(a)?.count())?;
 
     let (map, a, b) = open(alloc)?;
-    if let Some(error) = close_midway(map, a, b, batch(alloc, Command::Invert)?) {
+    if let Some(error) = close_midway(map, a, b, Batch::one(alloc, Command::Invert)?) {
         println!(rt; "not closed: {error}")?;
     }
     Ok(())

@@ -69,9 +69,7 @@ fn push_begin(
         0 => Command::Add(operand),
         _ => Command::Count(operand),
     };
-    let mut commands = Vec::new(alloc);
-    commands.push(command)?;
-    let batch = Batch::new(commands)?;
+    let batch = Batch::one(alloc, command)?;
     steps.push(Step::Begin { client, batch })?;
     let Some(part) = Part::new((number / CELLS) as u8) else {
         bail!("no part");

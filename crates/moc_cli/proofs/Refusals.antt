@@ -1,6 +1,7 @@
 -- Which status has the number 2.
 use Rattle.std.proofs.Common.{◌≡◌, ℕ, Result, Ok, Err, refl, sym, ap, ◌∙◌, arith}
 use Rattle.moc_cli.specs.Statuses.{code_of, status_of, end_of}
+use Rattle.moc_cli.specs.declared.status.Complaint.{Complaint}
 use Rattle.moc_cli.specs.declared.status.Fault.{Fault}
 use Rattle.moc_cli.specs.declared.status.Fault.TheVariants.{CellTooLarge, NotUniq, OutOfFace, RingTooLarge, BadByte, NoOrder, OrderTooLarge, Backwards, Unfinished, NotJson, NotObject, BadOrder, NotArray, NotWhole, TooCoarse, LineTooLong, TooLong, Read, Write, Memory, Spawn}
 use Rattle.moc_cli.specs.declared.status.Status.{Status}
@@ -40,6 +41,6 @@ no_fault Write e = cc
 no_fault Memory e = cc
 no_fault Spawn e = cc
 
-pub no_outcome : (outcome : Result (Unit {0}) Fault) → end_of outcome ≡ BadWords → ⊥
+pub no_outcome : (outcome : Result (Unit {0}) Complaint) → end_of outcome ≡ BadWords → ⊥
 no_outcome (Ok u) e = cc
-no_outcome (Err fault) e = no_fault fault e
+no_outcome (Err complaint) e = no_fault complaint.fault e

@@ -36,6 +36,10 @@ abbrev pub convert_app : ValueParser → ValueParser → App
 convert_app from to =
     with_rule (with_rule (new_app (codes "convert")) (form_rule from (codes "FROM"))) (form_rule to (codes "TO"))
 
+-- a word with a text form
+abbrev pub form_app : Text → ValueParser → App
+form_app word parser = with_rule (new_app word) (form_rule parser (codes "FORM"))
+
 -- its first word is no program's name
 abbrev pub without_name : App → App
 without_name a = record a { top = record a.top { no_binary_name = true } }
@@ -56,21 +60,38 @@ lines_app =
     let with_play = with_subcommand with_run (new_app (codes "play")).top in
     with_subcommand with_play (with_rule (new_app (codes "crew")) lanes_rule).top
 
--- these words, and `ring ORDER CELL`, `nest ORDER RING`, `uniq ORDER CELL`, `near ORDER CELL`, `cell UNIQ` and
--- `convert FROM TO`
-unfoldable pub moc_app : ValueParser → ValueParser → App
-moc_app from to =
+-- these words, and `ring ORDER CELL`, `nest ORDER RING`, `uniq ORDER CELL`, `near ORDER CELL` and `cell UNIQ`
+unfoldable pub numbered_app : App
+numbered_app =
     let with_ring = with_subcommand lines_app (numbers_app (codes "ring") (codes "CELL")).top in
     let with_nest = with_subcommand with_ring (numbers_app (codes "nest") (codes "RING")).top in
     let with_uniq = with_subcommand with_nest (numbers_app (codes "uniq") (codes "CELL")).top in
     let with_near = with_subcommand with_uniq (numbers_app (codes "near") (codes "CELL")).top in
-    let with_cell = with_subcommand with_near (with_rule (new_app (codes "cell")) (number_rule (codes "UNIQ"))).top in
-    with_subcommand with_cell (convert_app from to).top
+    with_subcommand with_near (with_rule (new_app (codes "cell")) (number_rule (codes "UNIQ"))).top
+
+-- the parsers of the text forms of the command line
+pub record Forms : Type 0 where
+  pub from : ValueParser
+  pub to : ValueParser
+  pub check : ValueParser
+  pub describe : ValueParser
+
+-- these words, and `convert FROM TO`, `check FORM` and `describe FORM`
+unfoldable pub moc_app : Forms → App
+moc_app forms =
+    let with_convert = with_subcommand numbered_app (convert_app forms.from forms.to).top in
+    let with_check = with_subcommand with_convert (form_app (codes "check") forms.check).top in
+    with_subcommand with_check (form_app (codes "describe") forms.describe).top
+
+-- each takes the words of the text forms
+pub record AreFormParsers (forms : Forms) : Type 0 where
+  pub from : IsFormParser forms.from
+  pub to : IsFormParser forms.to
+  pub check : IsFormParser forms.check
+  pub describe : IsFormParser forms.describe
 
 -- the command line of the program
 pub record IsCommandLine (app : App) : Type 0 where
-  pub from : ValueParser
-  pub to : ValueParser
-  pub from_form : IsFormParser from
-  pub to_form : IsFormParser to
-  pub is : app ≡ moc_app from to
+  pub forms : Forms
+  pub are_forms : AreFormParsers forms
+  pub is : app ≡ moc_app forms

@@ -1,26 +1,18 @@
--- Coverages from one text form to another.
-use Rattle.std.specs.Prelude.{◌≡◌, ℕ, ◌<◌, ◌≤◌, Bool, true, false, List, [], ◌∷◌, ◌++◌, length, Option, None}
+-- Texts of coverages, from the input: converted, described, checked.
+use Rattle.std.specs.Prelude.{◌≡◌, ℕ, ◌<◌, ◌≤◌, ◌⊎◌, Bool, true, false, List, [], ◌∷◌, ◌++◌, length, Option, None, Some, Result, Ok, Err, String, string_bytes}
 use Rattle.std.specs.Io.KnownBytes.{Consumes, IsAtEnd}
+use Rattle.std.specs.declared.alloc.Global.{Global}
 use Rattle.moc_ranges.specs.Numbers.{NumberSet}
-use Rattle.moc_text.specs.Ascii.{Says}
-use Rattle.moc_text.specs.AsciiText.{ascii_text}
-use Rattle.moc_text.specs.JsonForm.{SaysJson}
-use Rattle.moc_text.specs.JsonText.{json_text}
-use Rattle.moc_text.specs.UniqList.{SaysUniq, uniq_text}
-use Rattle.moc_cli.specs.declared.conversion.Form.{Form}
-use Rattle.moc_cli.specs.declared.conversion.Form.TheVariants.{Ascii, Json, Uniq}
-
--- what a text in a form says: a set and the deepest order that it names; a NUNIQ list names none
-abbrev pub FormSays : Form → List ℕ → NumberSet → Option ℕ → Type 0
-FormSays Ascii text a deepest = Says text a deepest
-FormSays Json text a deepest = SaysJson text a deepest
-FormSays Uniq text a deepest = SaysUniq text a × (deepest ≡ None)
-
--- the text of a set in a form, with its last line feed
-abbrev pub form_text : Form → NumberSet → Option ℕ → List ℕ
-form_text Ascii a stated = ascii_text a stated ++ 10 ∷ []
-form_text Json a stated = json_text a stated ++ 10 ∷ []
-form_text Uniq a stated = uniq_text a
+use Rattle.moc_words.specs.Describing.{Describes}
+use Rattle.moc_words.specs.Forms.{FormSays, IsFormFault, form_text}
+use Rattle.moc_words.specs.Places.{IsPlace, place_text}
+use Rattle.moc_words.specs.declared.form.Form.{Form}
+use Rattle.moc_words.specs.declared.form.FormError.{FormError}
+use Rattle.moc_words.specs.declared.place.Place.{Place}
+use Rattle.moc_cli.specs.Faults.{fault_of_form}
+use Rattle.moc_cli.specs.declared.status.Complaint.{Complaint}
+use Rattle.moc_cli.specs.declared.status.Fault.{Fault}
+use Rattle.moc_cli.specs.declared.status.Fault.TheVariants.{TooLong, Read, Memory}
 
 -- a piece came from a reader behind a text, where there was one; there is none only at the end
 pub record BringsPiece (left : Option (List ℕ)) (old : List ℕ) (left' : Option (List ℕ)) (new : List ℕ) (some : Bool)
@@ -46,3 +38,52 @@ pub record ConvertsAll (from to : Form) (left left' : Option (List ℕ)) (text :
   pub deepest : Option ℕ
   pub says : FormSays from given set deepest
   pub written : text ≡ form_text to set deepest
+
+-- all that was left was read, and the text has the figures of the set which it says
+pub record DescribesAll (form : Form) (left left' : Option (List ℕ)) (text : List ℕ) : Type 0 where
+  pub given : List ℕ
+  pub whole : IsWhole left left' given
+  pub set : NumberSet
+  pub deepest : Option ℕ
+  pub says : FormSays form given set deepest
+  pub written : Describes set deepest text
+
+-- the line of a place, if there is one
+abbrev pub IsPlaceLine : Option Place → Option (String Global) → Type 0
+IsPlaceLine None None = Unit {0}
+IsPlaceLine None (Some line) = ⊥
+IsPlaceLine (Some place) None = ⊥
+IsPlaceLine (Some place) (Some line) = string_bytes line ≡ place_text place ++ 10 ∷ []
+
+-- all that was left was read, and says a set
+pub record IsSaid (form : Form) (left left' : Option (List ℕ)) : Type 0 where
+  pub given : List ℕ
+  pub whole : IsWhole left left' given
+  pub set : NumberSet
+  pub deepest : Option ℕ
+  pub says : FormSays form given set deepest
+
+-- all that was left was read, and the complaint tells its first fault, and where it is
+pub record IsFaulty (form : Form) (left left' : Option (List ℕ)) (c : Complaint) : Type 0 where
+  pub given : List ℕ
+  pub whole : IsWhole left left' given
+  pub error : FormError
+  pub is_fault : IsFormFault form given error
+  pub told : c.fault ≡ fault_of_form error
+  pub place : Option Place
+  pub is_place : IsPlace given error place
+  pub line : IsPlaceLine place c.place
+
+-- the reader failed, or the input is too long, or memory was refused
+abbrev pub IsOfInput : Fault → Type 0
+IsOfInput fault = (fault ≡ Read) ⊎ (fault ≡ TooLong) ⊎ (fault ≡ Memory)
+
+-- the input was checked: it says a set, or has the fault that is told, where it could be had
+abbrev pub ChecksAll : Form → Option (List ℕ) → Option (List ℕ) → Result (Unit {0}) Complaint → Type 0
+ChecksAll form left left' (Ok _) = IsSaid form left left'
+ChecksAll form left left' (Err c) = IsOfInput c.fault ⊎ IsFaulty form left left' c
+
+-- the complaint is that the reader failed
+abbrev pub IsReadFault : Result (Unit {0}) Complaint → Type 0
+IsReadFault (Ok _) = ⊥
+IsReadFault (Err c) = c.fault ≡ Read

@@ -1,5 +1,6 @@
 -- The faults of the program: their names, and which refusal of a lower layer each tells.
-use Rattle.std.specs.Prelude.{ℕ, List, [], ◌∷◌, ◌++◌, codes}
+use Rattle.std.specs.Prelude.{ℕ, List, [], ◌∷◌, ◌++◌, Option, None, Some, String, string_bytes, codes}
+use Rattle.std.specs.declared.alloc.Global.{Global}
 use Rattle.moc_sphere.specs.declared.cell.CellError.{CellError}
 use Rattle.moc_sphere.specs.declared.cell.CellError.TheVariants as cell
 use Rattle.moc_text.specs.declared.ascii.error.TextError.{TextError}
@@ -8,8 +9,11 @@ use Rattle.moc_text.specs.declared.json.error.JsonError.{JsonError}
 use Rattle.moc_text.specs.declared.json.error.JsonError.TheVariants as json
 use Rattle.moc_text.specs.declared.uniq.UniqError.{UniqError}
 use Rattle.moc_text.specs.declared.uniq.UniqError.TheVariants as uniq
+use Rattle.moc_words.specs.declared.form.FormError.{FormError}
+use Rattle.moc_words.specs.declared.form.FormError.TheVariants as form
 use Rattle.moc_script.specs.declared.script.RunError.{RunError}
 use Rattle.moc_script.specs.declared.script.RunError.TheVariants as run
+use Rattle.moc_cli.specs.declared.status.Complaint.{Complaint}
 use Rattle.moc_cli.specs.declared.status.Fault.{Fault}
 use Rattle.moc_cli.specs.declared.status.Fault.TheVariants.{CellTooLarge, NotUniq, OutOfFace, RingTooLarge, BadByte, NoOrder, OrderTooLarge, Backwards, Unfinished, NotJson, NotObject, BadOrder, NotArray, NotWhole, TooCoarse, LineTooLong, TooLong, Read, Write, Memory, Spawn}
 
@@ -76,6 +80,13 @@ fault_of_uniq (uniq.BadByte at) = BadByte
 fault_of_uniq (uniq.NotUniq at) = NotUniq
 fault_of_uniq uniq.Memory = Memory
 
+-- the fault of a text in some form
+abbrev pub fault_of_form : FormError → Fault
+fault_of_form (form.Ascii e) = fault_of_text e
+fault_of_form (form.Json e) = fault_of_json e
+fault_of_form (form.Uniq e) = fault_of_uniq e
+fault_of_form form.Memory = Memory
+
 -- the fault of a run that ended early
 abbrev pub fault_of_run : RunError → Fault
 fault_of_run run.Read = Read
@@ -83,3 +94,12 @@ fault_of_run run.Write = Write
 fault_of_run (run.LineTooLong line) = LineTooLong
 fault_of_run (run.Memory line) = Memory
 fault_of_run run.Spawn = Spawn
+
+-- the bytes of a line, if there is one
+abbrev pub bytes_of : Option (String Global) → List ℕ
+bytes_of None = []
+bytes_of (Some line) = string_bytes line
+
+-- what tells a complaint: the line of its fault, and behind it the line of the place, if there is one
+abbrev pub complaint_text : Complaint → List ℕ
+complaint_text c = line_of c.fault ++ bytes_of c.place

@@ -1,5 +1,6 @@
 -- How the program ends.
-use Rattle.std.specs.Prelude.{ℕ, Result, Ok, Err}
+use Rattle.std.specs.Prelude.{◌≡◌, ◌⊎◌, ℕ, Result, Ok, Err}
+use Rattle.moc_cli.specs.declared.status.Complaint.{Complaint}
 use Rattle.moc_cli.specs.declared.status.Fault.{Fault}
 use Rattle.moc_cli.specs.declared.status.Fault.TheVariants.{Read, Write, Memory, Spawn}
 use Rattle.moc_cli.specs.declared.status.Status.{Status}
@@ -22,6 +23,11 @@ status_of Spawn = Broken
 status_of _ = Refused
 
 -- how it ends with this outcome
-abbrev pub end_of : Result (Unit {0}) Fault → Status
+abbrev pub end_of : Result (Unit {0}) Complaint → Status
 end_of (Ok _) = Done
-end_of (Err fault) = status_of fault
+end_of (Err complaint) = status_of complaint.fault
+
+-- a device failed
+abbrev pub IsDeviceFault : Result (Unit {0}) Complaint → Type 0
+IsDeviceFault (Ok _) = ⊥
+IsDeviceFault (Err complaint) = (complaint.fault ≡ Read) ⊎ (complaint.fault ≡ Write)

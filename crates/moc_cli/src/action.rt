@@ -1,8 +1,8 @@
 //! What the words of the command line ask for.
-use crate::conversion::Form;
 use clap::ArgMatches;
 use moc_script::Lanes;
-use moc_sphere::{Cell, CellError, Order};
+use moc_sphere::Order;
+use moc_words::Form;
 
 /// What the words ask for.
 #[derive(Clone, Copy, Debug, PartialEq, Eq)]
@@ -17,6 +17,10 @@ pub enum Action {
     Number(Number),
     /// Convert a coverage from one text form to another.
     Convert(Form, Form),
+    /// Tell whether a text is a coverage, and else where it is at fault.
+    Check(Form),
+    /// Tell the figures of a coverage.
+    Describe(Form),
 }
 
 /// A number to convert.
@@ -48,6 +52,8 @@ impl Action {
             "near" => Some(Action::Number(Number::Near(order(values)?, index(values, "CELL")?))),
             "cell" => Some(Action::Number(Number::Cell(index(values, "UNIQ")?))),
             "convert" => Some(Action::Convert(form(values, "FROM")?, form(values, "TO")?)),
+            "check" => Some(Action::Check(form(values, "FORM")?)),
+            "describe" => Some(Action::Describe(form(values, "FORM")?)),
             _ => None,
         }
     }

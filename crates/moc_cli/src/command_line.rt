@@ -2,7 +2,7 @@
 ghost use Rattle.std.specs.Prelude.{◌≡◌, IfOk, false};
 ghost use Rattle.clap.specs.Words.{app_of, rule_of};
 ghost use Rattle.clap.specs.declared.builder.command.Command.TheViews.{out-Command as fields_of};
-ghost use Rattle.moc_cli.specs.CommandLine.{IsCommandLine, IsFormParser, form_rule, lanes_rule, number_rule, numbers_app, order_rule, lines_app};
+ghost use Rattle.moc_cli.specs.CommandLine.{IsCommandLine, IsFormParser, form_rule, lanes_rule, form_app, number_rule, numbered_app, numbers_app, order_rule, lines_app};
 
 use clap::{Arg, Command, value_parser};
 use std::alloc::{AllocError, Global};
@@ -79,6 +79,34 @@ answers
   changed 288230376151711744
   cover 0/0-1";
 
+/// What `moc check --help` says below the usage.
+const CHECK: &str = "\
+Answers `ok`. A text that is no coverage is told on standard error, by the fault's name and a line that says where: the
+byte, its line and the byte of that line (ascii), the line (uniq), or the order and the number in its array (json).
+Lines are counted from 1, bytes and numbers from 0.
+
+Example:
+  printf '1/0-3\n2/7-5' | moc check ascii
+tells
+  fault Backwards
+  byte 8, line 2, byte 2 of it";
+
+/// What `moc describe --help` says below the usage.
+const FIGURES: &str = "\
+Prints a line each for the deepest order that the text names, the number of pixels, which are cells of order 29, their
+share of the sky with twelve digits, the number of ranges of pixels and of cells, and the number of cells of each order.
+
+Example:
+  echo '1/0-3 2/20' | moc describe ascii
+prints
+  deepest 2
+  pixels 306244774661193728
+  share 0.088541666666
+  ranges 2
+  cells 2
+  order 0 1
+  order 2 1";
+
 /// What help says of a nested number.
 const NESTED: &str = "Number of the cell in the nested scheme, below 12 times 4^ORDER";
 
@@ -95,6 +123,26 @@ static FORMS: [&str; 3] = ["ascii", "json", "uniq"];
 pub fn command_line<'a>(alloc: Global) -> Result<Command<'a>, AllocError>
     ensures { IfOk result (λ c. IsCommandLine (app_of c)) }
 {
+    let convert = Command::new(alloc, "convert")
+        .about("Converts a coverage on standard input from one text form to another")
+        .arg(form(alloc, "FROM"))?
+        .arg(form(alloc, "TO"))?;
+    let check = of_form(alloc, "check")?
+        .about("Tells whether standard input is a coverage, and else where it is at fault")
+        .after_help(CHECK);
+    let describe = of_form(alloc, "describe")?
+        .about("Prints the figures of a coverage on standard input")
+        .after_help(FIGURES);
+    numbered(alloc)?
+        .subcommand(convert)?
+        .subcommand(check)?
+        .subcommand(describe)
+}
+
+/// The program, the words that answer lines, and those that convert numbers.
+fn numbered<'a>(alloc: Global) -> Result<Command<'a>, AllocError>
+    ensures { IfOk result (λ c. app_of c ≡ numbered_app) }
+{
     let ring = numbers(alloc, "ring", "CELL", NESTED)?.about(
         "Prints the ring number of a nested cell",
     );
@@ -110,17 +158,12 @@ pub fn command_line<'a>(alloc: Global) -> Result<Command<'a>, AllocError>
     let cell = Command::new(alloc, "cell")
         .about("Prints the order and the nested number of a NUNIQ number")
         .arg(number(alloc, "UNIQ", UNIQ))?;
-    let convert = Command::new(alloc, "convert")
-        .about("Converts a coverage on standard input from one text form to another")
-        .arg(form(alloc, "FROM"))?
-        .arg(form(alloc, "TO"))?;
     lines(alloc)?
         .subcommand(ring)?
         .subcommand(nest)?
         .subcommand(uniq)?
         .subcommand(near)?
-        .subcommand(cell)?
-        .subcommand(convert)
+        .subcommand(cell)
 }
 
 /// The program, and the words that answer lines.
@@ -162,6 +205,14 @@ fn numbers<'a>(
     Command::new(alloc, word)
         .arg(order(alloc))?
         .arg(number(alloc, name, help))
+}
+
+/// A word with a text form.
+fn of_form<'a>(alloc: Global, word: &'a str) -> Result<Command<'a>, AllocError>
+    ensures app { IfOk result (λ c. (parser : _) × IsFormParser parser × (app_of c ≡ form_app word.entry.now parser)) }
+    ensures local { IfOk result (λ c. (fields_of c).has_globals ≡ false) }
+{
+    Command::new(alloc, word).arg(form(alloc, "FORM"))
 }
 
 /// A required number of threads, 1 to 64.

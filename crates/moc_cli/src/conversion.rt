@@ -1,13 +1,14 @@
 //! Coverages from one text form to another.
-ghost use Rattle.std.specs.Prelude.{◌≡◌, ◌≢◌, ◌<◌, ◌↔◌, Err, false, IfOk, IsErrOf, IsTrue, length};
+ghost use Rattle.std.specs.Prelude.{◌≡◌, ◌≢◌, ◌<◌, ◌↔◌, ◌⊎◌, Err, false, IfErr, IfOk, IsErrOf, IsTrue, length};
 ghost use Rattle.std.specs.String.{string_bytes};
-ghost use Rattle.moc_cli.specs.Conversion.{BringsPiece, ConvertsAll, FormSays, IsWhole, form_text};
+ghost use Rattle.moc_words.specs.Forms.{FormSays, form_text};
+ghost use Rattle.moc_cli.specs.Conversion.{BringsPiece, ChecksAll, ConvertsAll, DescribesAll, IsOfInput, IsPlaceLine, IsReadFault, IsWhole};
 
-use crate::status::Fault;
+use crate::status::{Complaint, Fault};
 use moc_ranges::Coverage;
 use moc_script::Source;
 use moc_sphere::Order;
-use moc_text::{read_ascii, read_json, read_uniq, write_ascii, write_json, write_uniq};
+use moc_words::{Form, Place, check, describe};
 use std::alloc::{AllocError, Global};
 
 /// The most bytes of an input.
@@ -15,56 +16,6 @@ pub const INPUT_LIMIT: usize = 16_777_216;
 
 /// How many bytes are read at a time.
 const PIECE: usize = 65_536;
-
-/// A text form.
-#[derive(Clone, Copy, Debug, PartialEq, Eq)]
-pub enum Form {
-    /// The ASCII form of MOC 2.0.
-    Ascii,
-    /// The JSON form of MOC 2.0.
-    Json,
-    /// A NUNIQ number a line.
-    Uniq,
-}
-
-impl Form {
-    /// The form of a word.
-    pub fn named(word: &str) -> Option<Form> {
-        match word {
-            "ascii" => Some(Form::Ascii),
-            "json" => Some(Form::Json),
-            "uniq" => Some(Form::Uniq),
-            _ => None,
-        }
-    }
-
-    /// Reads a text: the set, and the deepest order that the text names, where the form names orders.
-    fn read(self, alloc: Global, text: &[u8]) -> Result<(Coverage, Option<Order>), Fault>
-        ensures device { result ≢ Err Fault.Read }
-        ensures says { IfOk result (λ r. FormSays self text.now r.0 r.1) }
-    {
-        Ok(match self {
-            Form::Ascii => read_ascii(alloc, text)?,
-            Form::Json => read_json(alloc, text)?,
-            Form::Uniq => (read_uniq(alloc, text)?, None),
-        })
-    }
-
-    /// The text of a set with a stated order, ended by a line feed.
-    fn write(self, alloc: Global, set: &Coverage, stated: Option<Order>) -> Result<String, Fault>
-        ensures device { result ≢ Err Fault.Read }
-        ensures text { IfOk result (λ t. string_bytes t ≡ form_text self set.now stated) }
-    {
-        let mut text = match self {
-            Form::Ascii => write_ascii(alloc, set, stated)?,
-            Form::Json => write_json(alloc, set, stated)?,
-            // Each line of a list has its line feed.
-            Form::Uniq => return Ok(write_uniq(alloc, set)?),
-        };
-        text.push('\n')?;
-        Ok(text)
-    }
-}
 
 /// Room for one piece.
 fn room(alloc: Global) -> Result<Vec<u8>, AllocError>
@@ -78,6 +29,7 @@ fn read_piece<R: Source>(input: &mut R, room: &mut [u8], text: &mut Vec<u8>) -> 
     requires room { 0 < length room.old }
     requires input { R.mark input.old ≡ false }
     ensures read { IsErrOf result Fault.Read ↔ IsTrue (R.mark input.new) }
+    ensures fault { IfErr result (λ f. (f ≡ Fault.Read) ⊎ (f ≡ Fault.Memory)) }
     ensures brings { IfOk result (λ some.
         BringsPiece (R.left input.old) text.old.items (R.left input.new) text.new.items some) }
 {
@@ -92,6 +44,7 @@ fn read_piece<R: Source>(input: &mut R, room: &mut [u8], text: &mut Vec<u8>) -> 
 fn read_whole<R: Source>(alloc: Global, input: &mut R) -> Result<Vec<u8>, Fault>
     requires { R.mark input.old ≡ false }
     ensures read { IsErrOf result Fault.Read ↔ IsTrue (R.mark input.new) }
+    ensures fault { IfErr result (λ f. IsOfInput f) }
     ensures whole { IfOk result (λ v. IsWhole (R.left input.old) (R.left input.new) v.items) }
 {
     let mut room = room(alloc)?;
@@ -102,6 +55,27 @@ fn read_whole<R: Source>(alloc: Global, input: &mut R) -> Result<Vec<u8>, Fault>
         }
     }
     Err(Fault::TooLong)
+}
+
+/// What a text in a form says.
+fn said(alloc: Global, form: Form, text: &[u8]) -> Result<(Coverage, Option<Order>), Fault>
+    ensures device { result ≢ Err Fault.Read }
+    ensures says { IfOk result (λ r. FormSays form text.now r.0 r.1) }
+{
+    Ok(form.read(alloc, text)?)
+}
+
+/// The text of a set in a form.
+fn text_of(
+    alloc: Global,
+    form: Form,
+    set: &Coverage,
+    stated: Option<Order>,
+) -> Result<String, Fault>
+    ensures device { result ≢ Err Fault.Read }
+    ensures text { IfOk result (λ t. string_bytes t ≡ form_text form set.now stated) }
+{
+    Ok(form.write(alloc, set, stated)?)
 }
 
 /// The text in one form of the coverage that the input has in another. The deepest order that it names is stated.
@@ -116,6 +90,47 @@ pub fn converted<R: Source>(
     ensures converts { IfOk result (λ t. ConvertsAll from to (R.left input.old) (R.left input.new) (string_bytes t)) }
 {
     let text = read_whole(alloc, input)?;
-    let (set, deepest) = from.read(alloc, &text)?;
-    to.write(alloc, &set, deepest)
+    let (set, deepest) = said(alloc, from, &text)?;
+    text_of(alloc, to, &set, deepest)
+}
+
+/// The figures of the coverage that the input has.
+pub fn described<R: Source>(alloc: Global, form: Form, input: &mut R) -> Result<String, Fault>
+    requires { R.mark input.old ≡ false }
+    ensures read { IsErrOf result Fault.Read ↔ IsTrue (R.mark input.new) }
+    ensures describes { IfOk result (λ t. DescribesAll form (R.left input.old) (R.left input.new) (string_bytes t)) }
+{
+    let text = read_whole(alloc, input)?;
+    let (set, deepest) = said(alloc, form, &text)?;
+    Ok(describe(alloc, &set, deepest)?)
+}
+
+/// Whether the input is a coverage in a form; else its first fault and, in words, where it is.
+pub fn checked<R: Source>(alloc: Global, form: Form, input: &mut R) -> Result<(), Complaint>
+    requires { R.mark input.old ≡ false }
+    ensures read { IsReadFault result ↔ IsTrue (R.mark input.new) }
+    ensures checks { ChecksAll form (R.left input.old) (R.left input.new) result }
+{
+    let text = read_whole(alloc, input)?;
+    let Err(refusal) = check(alloc, form, &text) else {
+        return Ok(());
+    };
+    let place = place_line(alloc, refusal.place)?;
+    Err(Complaint {
+        fault: Fault::from(refusal.error),
+        place,
+    })
+}
+
+/// The line of a place, if there is one.
+fn place_line(alloc: Global, place: Option<Place>) -> Result<Option<String>, AllocError>
+    ensures { IfOk result (λ line. IsPlaceLine place line) }
+{
+    let Some(place) = place else {
+        return Ok(None);
+    };
+    let mut line = String::new(alloc);
+    place.push_to(&mut line)?;
+    line.push('\n')?;
+    Ok(Some(line))
 }

@@ -1,18 +1,19 @@
 //! What the words of the command line make the program do.
-ghost use Rattle.std.specs.Prelude.{◌≡◌, ◌≢◌, ◌≤◌, ◌⊎◌, false, true, map, IfOk, IfErr, OnOk, IsErrOf, IsTrue, is_err, string_bytes};
+ghost use Rattle.std.specs.Prelude.{◌≡◌, ◌≢◌, ◌≤◌, ◌⊎◌, false, true, map, IfOk, IfErr, OnOk, IsErrOf, IsTrue, is_err};
 ghost use Rattle.std.specs.Io.KnownBytes.{Appends};
 ghost use Rattle.std.specs.IoError.{error_kind};
 ghost use Rattle.clap.specs.Words.{kind_of};
+ghost use Rattle.moc_cli.specs.Faults.{complaint_text};
 ghost use Rattle.moc_cli.specs.Outcomes.{AreMistaken, AreRefused, IsMistake};
-ghost use Rattle.moc_cli.specs.Statuses.{end_of};
+ghost use Rattle.moc_cli.specs.Statuses.{IsDeviceFault, end_of};
 
 use crate::action::{Action, Number};
 use crate::command_line::command_line;
-use crate::conversion::converted;
-use crate::status::{Fault, Status};
+use crate::conversion::{checked, converted, described};
+use crate::status::{Complaint, Fault, Status};
 use clap::error::ErrorKind;
 use clap::{ArgMatches, Error};
-use moc_script::{OpenGate, Sink, Source, crew, play, run, write_all};
+use moc_script::{DeviceFault, OpenGate, Sink, Source, crew, play, run, write_all};
 use moc_sphere::Cell;
 use std::alloc::{AllocError, Global};
 use std::convert::AsStr;
@@ -59,7 +60,7 @@ pub fn refuse_words<E: Sink>(error: &io::Error, faults: &mut E) -> u8
     ensures not_utf8 { error_kind error.now ≢ IoErrorKind.OutOfMemory → result ≡ 2 }
 {
     if error.kind() == IoErrorKind::OutOfMemory {
-        return ended(Err(Fault::Memory), faults).code();
+        return ended(Err(Complaint::from(Fault::Memory)), faults).code();
     }
     let _ = write_all(b"error: a word of the command line is not UTF-8\n", faults);
     Status::BadWords.code()
@@ -76,15 +77,24 @@ fn parse<'a, S: AsStr>(alloc: Global, words: &'a [S]) -> Result<ArgMatches<'a>, 
 }
 
 /// How the program ends with this outcome, after it has told a fault.
-fn ended<E: Sink>(outcome: Result<(), Fault>, faults: &mut E) -> Status
+fn ended<E: Sink>(outcome: Result<(), Complaint>, faults: &mut E) -> Status
     ensures { result ≡ end_of outcome }
 {
-    match outcome {
-        Ok(()) => Status::Done,
-        Err(fault) => {
-            let _ = write_all(fault.line().as_bytes(), faults);
-            fault.status()
-        }
+    let Err(complaint) = outcome else {
+        return Status::Done;
+    };
+    let _ = tell(&complaint, faults);
+    complaint.fault.status()
+}
+
+/// Tells a fault, and behind it where it is.
+fn tell<E: Sink>(complaint: &Complaint, faults: &mut E) -> Result<(), DeviceFault>
+    ensures { OnOk result (E.mark faults.old ≡ false → Appends (E.written faults.old) (E.written faults.new) (complaint_text complaint.now)) }
+{
+    write_all(complaint.fault.line().as_bytes(), faults)?;
+    match &complaint.place {
+        Some(place) => write_all(place.as_bytes(), faults),
+        None => Ok(()),
     }
 }
 
@@ -98,16 +108,16 @@ fn explain<W: Sink, E: Sink>(alloc: Global, error: &Error, output: &mut W, fault
     ensures flushed { result ≡ Status.Done → IsTrue (W.flushed output.new) }
 {
     if error.kind() == ErrorKind::OutOfMemory {
-        return ended(Err(Fault::Memory), faults);
+        return ended(Err(Complaint::from(Fault::Memory)), faults);
     }
     let Ok(text) = format!(in alloc; "{error}") else {
-        return ended(Err(Fault::Memory), faults);
+        return ended(Err(Complaint::from(Fault::Memory)), faults);
     };
     if error.use_stderr() {
         let _ = write_all(text.as_bytes(), faults);
         return Status::BadWords;
     }
-    ended(print(&text, output), faults)
+    ended(printed(text.as_str(), output), faults)
 }
 
 /// Does what the matches ask.
@@ -117,21 +127,28 @@ fn act<T: Threads + Wait + Sync, R: Source, W: Sink>(
     matches: &ArgMatches<'_>,
     input: &mut R,
     output: &mut W,
-) -> Result<(), Fault>
+) -> Result<(), Complaint>
     requires input { R.mark input.old ≡ false }
     requires output { W.mark output.old ≡ false }
-    ensures input { IsTrue (R.mark input.new) → IsErrOf result Fault.Read ⊎ IsErrOf result Fault.Write }
-    ensures output { IsTrue (W.mark output.new) → IsErrOf result Fault.Write }
+    ensures input { IsTrue (R.mark input.new) → IsDeviceFault result }
+    ensures output { IsTrue (W.mark output.new) → IsDeviceFault result }
     ensures flushed { OnOk result (IsTrue (W.flushed output.new)) }
 {
     match Action::from_matches(matches) {
         Some(Action::Run) => Ok(run(alloc, input, output)?),
         Some(Action::Play) => Ok(play(alloc, input, output)?),
         Some(Action::Crew(lanes)) => Ok(crew(rt, alloc, input, output, lanes, &OpenGate)?),
-        Some(Action::Number(number)) => print(&number_line(alloc, number)?, output),
-        Some(Action::Convert(from, to)) => print(&converted(alloc, from, to, input)?, output),
+        Some(Action::Number(number)) => printed(number_line(alloc, number)?.as_str(), output),
+        Some(Action::Convert(from, to)) => {
+            printed(converted(alloc, from, to, input)?.as_str(), output)
+        }
+        Some(Action::Check(form)) => {
+            checked(alloc, form, input)?;
+            printed("ok\n", output)
+        }
+        Some(Action::Describe(form)) => printed(described(alloc, form, input)?.as_str(), output),
         // `clap` requires the word and its values, so none is missing.
-        None => Err(Fault::Memory),
+        None => Err(Complaint::from(Fault::Memory)),
     }
 }
 
@@ -166,10 +183,21 @@ fn near_line(alloc: Global, cell: Cell) -> Result<String, AllocError> {
     Ok(line)
 }
 
-/// Writes a text, whole, and sends it on.
-fn print<W: Sink>(text: &String, output: &mut W) -> Result<(), Fault>
+/// Writes a text, whole, and sends it on; else complains of the output.
+fn printed<W: Sink>(text: &str, output: &mut W) -> Result<(), Complaint>
     requires { W.mark output.old ≡ false }
-    ensures written { OnOk result (Appends (W.written output.old) (W.written output.new) (string_bytes text.now)) }
+    ensures written { OnOk result (Appends (W.written output.old) (W.written output.new) text.now) }
+    ensures flushed { OnOk result (IsTrue (W.flushed output.new)) }
+    ensures fault { IfErr result (λ c. c.fault ≡ Fault.Write) }
+    ensures marks { W.mark output.new ≡ is_err result }
+{
+    Ok(print(text, output)?)
+}
+
+/// Writes a text, whole, and sends it on.
+fn print<W: Sink>(text: &str, output: &mut W) -> Result<(), Fault>
+    requires { W.mark output.old ≡ false }
+    ensures written { OnOk result (Appends (W.written output.old) (W.written output.new) text.now) }
     ensures flushed { OnOk result (IsTrue (W.flushed output.new)) }
     ensures fault { IfErr result (λ fault. fault ≡ Fault.Write) }
     ensures marks { W.mark output.new ≡ is_err result }

@@ -1,12 +1,14 @@
 //! How the program ends, and what it says of that.
-ghost use Rattle.std.specs.Prelude.{◌≡◌};
-ghost use Rattle.moc_cli.specs.Faults.{fault_of_cell, fault_of_json, fault_of_run, fault_of_text, fault_of_uniq, line_of};
+ghost use Rattle.std.specs.Prelude.{◌≡◌, None};
+ghost use Rattle.moc_cli.specs.Faults.{fault_of_cell, fault_of_form, fault_of_json, fault_of_run, fault_of_text, fault_of_uniq, line_of};
 ghost use Rattle.moc_cli.specs.Statuses.{code_of, status_of};
 ghost use Rattle.moc_cli.specs.declared.status.Fault.TheVariants as fault;
 
+use moc_ranges::Memory as MemoryRefused;
 use moc_script::{DeviceFault, RunError};
 use moc_sphere::CellError;
 use moc_text::{JsonError, TextError, UniqError};
+use moc_words::FormError;
 use std::alloc::AllocError;
 
 /// How the program ends: its exit status.
@@ -157,6 +159,19 @@ impl From<UniqError> for Fault {
     }
 }
 
+impl From<FormError> for Fault {
+    ghost from_gives = { λ error f. f ≡ fault_of_form error };
+
+    fn from(error: FormError) -> Fault {
+        match error {
+            FormError::Ascii(error) => Fault::from(error),
+            FormError::Json(error) => Fault::from(error),
+            FormError::Uniq(error) => Fault::from(error),
+            FormError::Memory => Fault::Memory,
+        }
+    }
+}
+
 impl From<RunError> for Fault {
     ghost from_gives = { λ error f. f ≡ fault_of_run error };
 
@@ -185,5 +200,44 @@ impl From<AllocError> for Fault {
 
     fn from(_error: AllocError) -> Fault {
         Fault::Memory
+    }
+}
+
+impl From<MemoryRefused> for Fault {
+    ghost from_gives = { λ _ f. f ≡ fault.Memory };
+
+    fn from(_error: MemoryRefused) -> Fault {
+        Fault::Memory
+    }
+}
+
+/// A fault, and where it is told a line that says where it is.
+#[derive(Debug, Drop)]
+pub struct Complaint {
+    pub fault: Fault,
+    pub place: Option<String>,
+}
+
+impl From<Fault> for Complaint {
+    ghost from_gives = { λ f c. (c.fault ≡ f) × (c.place ≡ None) };
+
+    fn from(fault: Fault) -> Complaint {
+        Complaint { fault, place: None }
+    }
+}
+
+impl From<RunError> for Complaint {
+    ghost from_gives = { λ error c. (c.fault ≡ fault_of_run error) × (c.place ≡ None) };
+
+    fn from(error: RunError) -> Complaint {
+        Complaint::from(Fault::from(error))
+    }
+}
+
+impl From<AllocError> for Complaint {
+    ghost from_gives = { λ _ c. (c.fault ≡ fault.Memory) × (c.place ≡ None) };
+
+    fn from(_error: AllocError) -> Complaint {
+        Complaint::from(Fault::Memory)
     }
 }

@@ -227,6 +227,55 @@ fn words_that_are_not_utf8(rt: HostRuntime) {
     }
 }
 
+#[test]
+fn checks(rt: HostRuntime) {
+    for (words, input) in [
+        (["check", "ascii"], "1/1-2 4 2/12-14"),
+        (["check", "json"], "{}"),
+        (["check", "uniq"], "4\n\n5"),
+    ] {
+        expect(&rt, rt.alloc(), &words, input, 0, "ok\n", "");
+    }
+    for (words, input, told) in [
+        (
+            ["check", "ascii"],
+            "1/0-3\n2/7-5",
+            "fault Backwards\nbyte 8, line 2, byte 2 of it\n",
+        ),
+        (
+            ["check", "json"],
+            "{\"9\":[0,1,true]}",
+            "fault NotWhole\norder 9, number 2\n",
+        ),
+        (["check", "json"], "[1]", "fault NotObject\n"),
+        (["check", "uniq"], "4\n5\n3", "fault NotUniq\nline 3\n"),
+    ] {
+        expect(&rt, rt.alloc(), &words, input, 1, "", told);
+    }
+}
+
+#[test]
+fn figures(rt: HostRuntime) {
+    let lines =
+        "deepest 2\npixels 306244774661193728\nshare 0.088541666666\nranges 2\ncells 2\norder 0 1\norder 2 1\n";
+    for (words, input) in [
+        (["describe", "ascii"], "1/0-3 2/20"),
+        (["describe", "json"], "{\"0\":[0],\"2\":[20]}"),
+    ] {
+        expect(&rt, rt.alloc(), &words, input, 0, lines, "");
+    }
+    let words = ["describe", "ascii"];
+    expect(
+        &rt,
+        rt.alloc(),
+        &words,
+        "0/12",
+        1,
+        "",
+        "fault CellTooLarge\n",
+    );
+}
+
 /// A reader that fails.
 #[derive(Drop)]
 struct Broken {
@@ -257,6 +306,8 @@ fn failing_input(rt: HostRuntime) {
         ["play"].as_slice(),
         ["crew", "2"].as_slice(),
         ["convert", "ascii", "json"].as_slice(),
+        ["check", "ascii"].as_slice(),
+        ["describe", "uniq"].as_slice(),
     ] {
         let mut written = Vec::new(rt.alloc());
         let mut told = Vec::new(rt.alloc());
@@ -288,6 +339,8 @@ fn help_and_mistakes(rt: HostRuntime) {
         (["crew"].as_slice(), 2),
         (["crew", "0"].as_slice(), 2),
         (["crew", "65"].as_slice(), 2),
+        (["check"].as_slice(), 2),
+        (["describe", "fits"].as_slice(), 2),
     ] {
         let mut written = Vec::new(rt.alloc());
         let mut told = Vec::new(rt.alloc());

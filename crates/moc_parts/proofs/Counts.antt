@@ -1,12 +1,12 @@
 -- What the replies count.
-use Rattle.std.proofs.Common.{◌≡◌, ℕ, ◌-◌, ◌<◌, ◌≤◌, true, false, nat_lt, nat_eq, cond, inl, inr, refl, sym, ap, ◌∙◌, arith, lt-ltb, eqb-true}
+use Rattle.std.proofs.Common.{◌≡◌, ℕ, ◌-◌, ◌<◌, ◌≤◌, ◌/◌, ◌&&◌, true, false, nat_lt, nat_eq, cond, inl, inr, refl, sym, ap, ◌∙◌, arith, lt-ltb, eqb-true}
 use Rattle.std.specs.Ordering.{nat_cmp}
 use Rattle.std.proofs.lemmas.Bool.{cases_Bool}
 use Rattle.moc_parts.specs.Commands.{parts_met}
 use Rattle.std.specs.FinSet as set
 use Rattle.moc_ranges.specs.Numbers.{NumberSet, same_members}
-use Rattle.moc_ranges.specs.Pixels.{pixels}
-use Rattle.moc_ranges.specs.Operations.{IsWithin, contains-pixels, meets, part_of}
+use Rattle.moc_ranges.specs.Pixels.{pixels, base_pixel_size}
+use Rattle.moc_ranges.specs.Operations.{IsWithin, contains-pixels, meets, part_of, contains-part_of}
 use Rattle.moc_ranges.specs.Cells.{degrade}
 use Rattle.moc_ranges.specs.Laws.Sizes.{len_parts}
 use Rattle.moc_parts.proofs.Members.{has-intersection, and_true, both, same_test}
@@ -45,4 +45,15 @@ pub parts_met_some : (a : NumberSet) (b : ℕ) → (a ≡ set.empty → ⊥) →
 parts_met_some a b not_empty = elim (cases_Bool (nat_eq (set.len a) 0)) [
   | inl t ↦ absurd (not_empty (set.empty_of_len a (eqb-true (set.len a) 0 t)))
   | inr f ↦ ap (λ t. cond t (nat_eq b 0) (nat_lt 0 (set.len (part_of a b)))) f
+]
+
+-- a part that is not met has nothing of the set
+pub not_met : (a : NumberSet) (b : ℕ) → parts_met a b ≡ false → nat_lt 0 (set.len (part_of a b)) ≡ false
+not_met a b none = elim (cases_Bool (nat_eq (set.len a) 0)) [
+  | inl t ↦
+      let empty : part_of a b ≡ set.empty = same_members _ _ (λ q. contains-part_of a b q
+      ∙ ap (λ s. set.contains s q && nat_eq (q / base_pixel_size) b) (set.empty_of_len a (eqb-true (set.len a) 0 t))
+      ∙ ap (λ x. x && nat_eq (q / base_pixel_size) b) (set.contains-empty nat_cmp q) ∙ sym (set.contains-empty nat_cmp q)) in
+      ap (λ s. nat_lt 0 (set.len s)) empty ∙ ap (λ n. nat_lt 0 n) (set.len-empty nat_cmp)
+  | inr f ↦ sym (ap (λ t. cond t (nat_eq b 0) (nat_lt 0 (set.len (part_of a b)))) f) ∙ none
 ]

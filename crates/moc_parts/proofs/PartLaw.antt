@@ -8,7 +8,7 @@ use Rattle.moc_ranges.specs.Operations.{complement, part_of, contains-part_of, c
 use Rattle.moc_parts.specs.declared.change.Change.{Change}
 use Rattle.moc_parts.specs.declared.change.Change.TheVariants.{Join, Leave, Share, Invert, Degrade}
 use Rattle.moc_parts.specs.Changes.{changed, changed_part, IsChange}
-use Rattle.moc_parts.proofs.Members.{has-union, has-intersection, has-difference, or_true, or_left, and_true, both, clash, not_true_false, same_test, is_some}
+use Rattle.moc_parts.proofs.Members.{has-union, has-intersection, has-difference, or_true, or_left, and_true, both, clash, not_true_false, same_test, is_some, in_part, of_part}
 use Rattle.moc_parts.proofs.Twelve.{or_nothing}
 use Rattle.moc_parts.proofs.Coarse.{part-degrade, of_degrade}
 
@@ -74,6 +74,14 @@ no_member s b q none = not_true_false _ (λ h. clash _ (is_some (part_of s b) q 
 
 pub join_nothing : (part s : NumberSet) (b : ℕ) → nat_lt 0 (set.len (part_of s b)) ≡ false → set.union part (part_of s b) ≡ part
 join_nothing part s b none = same_members _ _ (λ q. has-union part (part_of s b) q ∙ ap (λ t. set.contains part q || t) (no_member s b q none) ∙ or_nothing (set.contains part q))
+
+-- nor does it take any from it
+pub leave_nothing : (part s : NumberSet) (b : ℕ) → part_of part b ≡ part → nat_lt 0 (set.len (part_of s b)) ≡ false → set.difference part s ≡ part
+leave_nothing part s b lies none = same_members _ _ (λ q. has-difference part s q ∙ same_test _ _
+    (λ h. (and_true (set.contains part q) (not (set.contains s q)) h).0)
+    (λ h. both h (ap not (not_true_false (set.contains s q) (λ t.
+    let k = of_part part b q (ap (λ a. set.contains a q) lies ∙ h) in
+    clash _ (in_part s b q t k.1) (no_member s b q none))))))
 
 -- nor does one that it has already
 pub join_covered : (a s : NumberSet) → set.is_subset s a ≡ true → set.union a s ≡ a

@@ -1,5 +1,6 @@
 -- Sizes, part by part.
 use Rattle.std.proofs.Common.{◌≡◌, ℕ, ◌+◌, ◌-◌, ◌/◌, ◌≤◌, Bool, true, false, not, ◌&&◌, ◌||◌, nat_lt, nat_eq, [], ◌∷◌, refl, sym, ap, subst, ◌∙◌, arith}
+use Rattle.std.proofs.lemmas.Bool.{lt-ltb}
 use Rattle.std.proofs.lemmas.Bool.Decides.{nat_tests}
 use Rattle.std.specs.FinSet as set
 use Rattle.moc_ranges.specs.Numbers.{NumberSet, same_members}
@@ -11,7 +12,7 @@ use Rattle.moc_ranges.specs.Laws.Ranges.{len_bounded}
 use Rattle.std.specs.Cmp.{nat_cmp_total}
 use Rattle.std.specs.Ordering.{nat_cmp}
 use Rattle.moc_parts.proofs.Members.{has-union, has-intersection, has-difference, has-empty, and_true, both, same_test, meets_at, in_part, of_part}
-use Rattle.moc_parts.proofs.Twelve.{first_parts, has-first_parts, first_parts-next, first_parts-all, first_parts-none, or_nothing}
+use Rattle.moc_parts.proofs.Twelve.{first_parts, has-first_parts, first_parts-next, first_parts-all, first_parts-none, or_nothing, within_base}
 
 early : (x s : Bool) (r n : ℕ) → (((x && nat_lt r (n + 1)) && s) && (x && nat_lt r n)) ≡ ((x && nat_lt r n) && s)
 early true true r n = grind (arith, nat_tests)
@@ -76,6 +77,20 @@ len_none a s = sym (ap set.len (common-none a s) ∙ set.len-empty nat_cmp)
 
 pub common-all : (a s : NumberSet) → IsWithin a pixels → set.intersection (first_parts a 12) s ≡ set.intersection a s
 common-all a s w = ap (λ t. set.intersection t s) (first_parts-all a w)
+
+-- the same where it is the other set that has no more than pixels
+common_within : (a s : NumberSet) → IsWithin s pixels → IsWithin (set.intersection a s) pixels
+common_within a s w = record { each = λ q h. w.each q (and_true _ _ (sym (has-intersection a s q) ∙ h)).1 }
+
+pub added_bound : (a s : NumberSet) (n : ℕ) → IsWithin s pixels → set.len (set.intersection (first_parts a n) s) + set.len (set.intersection (part_of a n) s) ≤ pixel_count
+added_bound a s n w = let next = len-next a s n in let bound = len_within _ (common_within (first_parts a (n + 1)) s w) in omega arith
+
+pub common-met : (a s : NumberSet) → IsWithin s pixels → set.intersection (first_parts a 12) s ≡ set.intersection a s
+common-met a s w = same_members _ _ (λ q. has-intersection (first_parts a 12) s q ∙ same_test _ _
+    (λ h. let k = and_true _ _ h in has-intersection a s q ∙ both (and_true _ _ (sym (has-first_parts a 12 q) ∙ k.0)).0 k.1)
+    (λ h.
+    let k = and_true _ _ (sym (has-intersection a s q) ∙ h) in
+    both (has-first_parts a 12 q ∙ both k.0 (lt-ltb (q / base_pixel_size) 12 (within_base s w q k.1))) k.1))
 
 or_and : (x y e : Bool) → ((x && e) || (y && e)) ≡ ((x || y) && e)
 or_and true y true = refl

@@ -1,5 +1,5 @@
 -- What a change makes of a set, and of one of its parts.
-use Rattle.std.specs.Prelude.{ℕ, ◌≤◌}
+use Rattle.std.specs.Prelude.{◌≡◌, ℕ, ◌≤◌, ◌<◌, false}
 use Rattle.std.specs.FinSet as set
 use Rattle.moc_ranges.specs.Numbers.{NumberSet}
 use Rattle.moc_ranges.specs.Pixels.{pixels}
@@ -31,3 +31,9 @@ IsChange (Leave s) = IsWithin s.now pixels
 IsChange (Share s) = IsWithin s.now pixels
 IsChange Invert = Unit {0}
 IsChange (Degrade order) = order ≤ 29
+
+-- a change leaves each part as it is that is not among these
+abbrev pub LeavesOthers : Change → NumberSet → Type 0
+LeavesOthers change parts =
+    (b : ℕ) → b < 12 → set.contains parts b ≡ false
+    → (part : NumberSet) → part_of part b ≡ part → changed_part change part b ≡ part

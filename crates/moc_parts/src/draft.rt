@@ -4,6 +4,7 @@ ghost use Rattle.std.specs.FinSet as set;
 ghost use Rattle.moc_ranges.specs.Operations.{meets, part_of, IsWithin};
 ghost use Rattle.moc_ranges.specs.Pixels.{pixels};
 ghost use Rattle.moc_parts.specs.Changes.{changed, IsChange};
+ghost use Rattle.moc_parts.specs.Commands.{parts_met};
 ghost use Rattle.moc_parts.specs.Drafts.{current_lists, sets_of, with_part};
 ghost use Rattle.moc_parts.specs.Parts.{union_of, parts_below, AreParts};
 ghost use Rattle.moc_parts.specs.Prepared.{found_sets, kept};
@@ -11,6 +12,7 @@ ghost use Rattle.moc_parts.specs.Prepared.{found_sets, kept};
 mod commands;
 
 use crate::change::Change;
+use crate::footprint::parts_met;
 use crate::part::{Part, PartSet};
 use moc_ranges::{Coverage, Memory};
 use std::alloc::Global;
@@ -113,8 +115,9 @@ impl<'a> Draft<'a> {
         ensures set { OnOk result (self.new.set ≡ changed change.now self.old.set) }
         ensures found { self.new.found ≡ self.old.found }
     {
+        let parts = change.parts();
         for b in 0u8..12 {
-            if let Some(list) = change.part(alloc, self.part(b), b)? {
+            if let Some(list) = change.part(alloc, parts, self.part(b), b)? {
                 self.put(b, list);
             }
         }
@@ -136,13 +139,10 @@ impl<'a> Draft<'a> {
     /// How many pixels of one part the set has in common with another.
     fn count_common_in(&self, b: u8, other: &Coverage) -> u64
         requires { b < 12 }
-        ensures size { result ≡ set.len (set.intersection (part_of self.now.set b) other.now) }
-        ensures within { IsWithin self.now.set pixels }
+        ensures { result ≡ set.len (set.intersection (part_of self.now.set b) other.now) }
     {
         let part = self.part(b);
-        if !other.meets_base_pixel(b) {
-            0
-        } else if other.covers_base_pixel(b) {
+        if other.covers_base_pixel(b) {
             part.count()
         } else {
             part.count_common(other)
@@ -153,9 +153,12 @@ impl<'a> Draft<'a> {
     pub(crate) fn count_common(&self, other: &Coverage) -> u64
         ensures { result ≡ set.len (set.intersection self.now.set other.now) }
     {
+        let met = parts_met(other);
         let mut total = 0;
         for b in 0u8..12 {
-            total += self.count_common_in(b, other);
+            if met.contains(Part::of(b)) {
+                total += self.count_common_in(b, other);
+            }
         }
         total
     }
@@ -164,8 +167,10 @@ impl<'a> Draft<'a> {
     pub(crate) fn meets(&self, other: &Coverage) -> bool
         ensures { result ≡ meets self.now.set other.now }
     {
+        let met = parts_met(other);
         for b in 0u8..12 {
-            if self.part(b).meets(other) {
+            let part = self.part(b);
+            if met.contains(Part::of(b)) && part.meets(other) {
                 return true;
             }
         }

@@ -2,6 +2,8 @@
 ghost use Rattle.std.specs.Prelude.{◌≡◌, ◌<◌, ℕ};
 ghost use Rattle.std.specs.FinSet as set;
 ghost use Rattle.moc_parts.specs.Commands.{parts_around, parts_met};
+ghost use Rattle.moc_ranges.specs.Operations.{IsWithin};
+ghost use Rattle.moc_ranges.specs.Pixels.{pixels};
 ghost use Rattle.moc_sphere.specs.Faces.{face_of};
 
 use crate::part::{Part, PartSet};
@@ -11,17 +13,18 @@ use std::alloc::Global;
 
 /// The parts that a set meets, and part 0 where it is empty.
 pub(crate) fn parts_met(operand: &Coverage) -> PartSet
-    ensures { (b : ℕ) → b < 12 → set.contains result b ≡ parts_met operand.now b }
+    ensures parts { (b : ℕ) → b < 12 → set.contains result b ≡ parts_met operand.now b }
+    ensures within { IsWithin operand.now pixels }
 {
     let mut parts = PartSet::none();
     if operand.is_empty() {
         parts.insert(Part::of(0));
         return parts;
     }
-    for b in 0u8..12 {
-        if operand.meets_base_pixel(b) {
-            parts.insert(Part::of(b));
-        }
+    let mut from = 0;
+    while let Some(b) = operand.next_base_pixel(from) {
+        parts.insert(Part::of(b));
+        from = b + 1;
     }
     parts
 }

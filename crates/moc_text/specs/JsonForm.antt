@@ -1,6 +1,6 @@
 -- Reading the JSON form of a coverage (MOC 2.0): the names of an object are orders, and their
 -- arrays are cells.
-use Rattle.std.specs.Prelude.{◌≡◌, ℕ, ◌+◌, ◌&&◌, ◌==◌, not, nat_lt, if◌then◌else◌, List, Option, Some, None, option_and_then, length, IsUtf8, ◌⊎◌}
+use Rattle.std.specs.Prelude.{◌≡◌, ℕ, zero, suc, ◌+◌, ◌&&◌, ◌==◌, not, nat_lt, if◌then◌else◌, List, Option, Some, None, option_and_then, length, IsUtf8, ◌⊎◌}
 use Rattle.std.specs.Option.{option_or}
 use Rattle.std.specs.Str.{all_ascii_digits}
 use Rattle.std.specs.Str.Parse.{digits_value}
@@ -60,6 +60,16 @@ abbrev pub deepest_name : Members → Option ℕ
 deepest_name no_members = None
 deepest_name (member name d ms) = deeper (order_of_name name) (deepest_name ms)
 
+-- the order that the name of this number names, if there is such a name, and it does
+abbrev pub order_at : ℕ → Members → Option ℕ
+order_at number no_members = None
+order_at zero (member name d ms) = order_of_name name
+order_at (suc number) (member name d ms) = order_at number ms
+
+-- the order that the name of this number names, where the value is an object
+abbrev pub object_order : ℕ → Data → Option ℕ
+object_order number d = option_and_then (order_at number) (as_object d)
+
 -- ---- what is wrong with a value
 
 -- of an item, which is a whole number or none, where k is the order: no number, or no cell
@@ -101,6 +111,10 @@ pub record IsJson (bytes : List ℕ) (d : Data) : Type 0 where
 -- The bytes are the text of no value.
 abbrev pub IsNotJson : List ℕ → Type 0
 IsNotJson bytes = IsUtf8 bytes → read bytes ≡ None
+
+-- In the text the name of this number, counted from 0 in byte order, names this order, or none.
+abbrev pub NamesOrder : List ℕ → ℕ → Option ℕ → Type 0
+NamesOrder bytes number k = (d : Data) × IsJson bytes d × (k ≡ object_order number d)
 
 -- The text is an object without a fault, which says this set and this deepest order.
 pub record SaysJson (bytes : List ℕ) (a : NumberSet) (deepest : Option ℕ) : Type 0 where

@@ -11,7 +11,7 @@ ghost use Rattle.moc_shared.specs.Clients.{IsClientOf, IsHoldingOf};
 
 use anyhow::{Result, bail};
 use moc_parts::{Batch, Command, Operand, Replies, Reply};
-use moc_ranges::{Coverage, Memory};
+use moc_ranges::{Coverage, Memory, PIXEL_COUNT};
 use moc_shared::{
     Client, CloseError, Holding, NewError, SharedMap, Snapshot, SnapshotError, TryError,
 };
@@ -21,9 +21,6 @@ use std::sync::Wait;
 
 /// How many pixels a base pixel has: 4^29.
 const BASE: u64 = 288_230_376_151_711_744;
-
-/// How many pixels the sky has: 12·4^29.
-const SKY: u64 = 3_458_764_513_820_540_928;
 
 /// A call that does a batch.
 #[derive(Clone, Copy)]
@@ -65,13 +62,6 @@ impl fmt::Display for Outcome {
 fn operand(alloc: Global, from: u64, to: u64) -> Result<Operand> {
     let set = Coverage::from_ranges(alloc, &[(from, to)])?;
     Ok(Operand { set, coarse: None })
-}
-
-/// The batch of one command.
-fn batch(alloc: Global, command: Command) -> Result<Batch> {
-    let mut commands = Vec::new(alloc);
-    commands.push(command)?;
-    Ok(Batch::new(commands)?)
 }
 
 /// The last of the clients that are left.
@@ -179,19 +169,19 @@ fn stands(alloc: Global, map: SharedMap, a: Client, b: Client, set: &Coverage) -
     requires { IsClientOf map a × IsClientOf map b }
 {
     let (mut a, mut b) = (a, b);
-    let count = batch(alloc, Command::Count(operand(alloc, 0, SKY)?))?;
+    let count = Batch::one(alloc, Command::Count(operand(alloc, 0, PIXEL_COUNT)?))?;
     let counted = pixels(&map.try_apply(&mut a, &count)?) == Some(set.count());
-    let read = batch(alloc, Command::Read(operand(alloc, 0, SKY)?))?;
+    let read = Batch::one(alloc, Command::Read(operand(alloc, 0, PIXEL_COUNT)?))?;
     let (mut a, snapshot) = look(&map, a, read);
     let Some(snapshot) = snapshot else {
         return Ok(false);
     };
     let shown = is_cover(&snapshot.answer(alloc)?, set);
-    let fill = batch(alloc, Command::Add(operand(alloc, 0, SKY)?))?;
-    let filled = pixels(&map.try_apply(&mut b, &fill)?) == Some(SKY - set.count());
+    let fill = Batch::one(alloc, Command::Add(operand(alloc, 0, PIXEL_COUNT)?))?;
+    let filled = pixels(&map.try_apply(&mut b, &fill)?) == Some(PIXEL_COUNT - set.count());
     map.meet(&mut a, &mut b);
     map.take_in(&mut a, b);
-    Ok(counted && shown && filled && map.close(a)?.count() == SKY)
+    Ok(counted && shown && filled && map.close(a)?.count() == PIXEL_COUNT)
 }
 
 /// The outcome, if what was left stands. After a refusal nothing else is refused.
@@ -208,14 +198,14 @@ fn settled(outcome: Outcome, stands: Result<bool>) -> Result<Outcome> {
 /// How an inversion by this call comes out.
 fn invert<R: Wait>(rt: &R, alloc: Global, call: Call) -> Result<Outcome> {
     let (map, a, b) = open(alloc)?;
-    let (a, answer) = ask(rt, &map, call, a, batch(alloc, Command::Invert)?);
+    let (a, answer) = ask(rt, &map, call, a, Batch::one(alloc, Command::Invert)?);
     let outcome = match &answer {
-        Ok(replies) if pixels(replies) == Some(SKY) => Outcome::Done,
+        Ok(replies) if pixels(replies) == Some(PIXEL_COUNT) => Outcome::Done,
         Err(TryError::Memory) => Outcome::Refused,
         _ => Outcome::Spoiled,
     };
     let left = match outcome {
-        Outcome::Done => (BASE, SKY),
+        Outcome::Done => (BASE, PIXEL_COUNT),
         Outcome::Refused | Outcome::Spoiled => (0, BASE),
     };
     let set = Coverage::from_ranges(alloc, &[left])?;
@@ -226,7 +216,7 @@ fn invert<R: Wait>(rt: &R, alloc: Global, call: Call) -> Result<Outcome> {
 fn read<R: Wait>(rt: &R, alloc: Global, call: Call) -> Result<Outcome> {
     let set = Coverage::from_ranges(alloc, &[(0, BASE)])?;
     let (map, a, b) = open(alloc)?;
-    let read = batch(alloc, Command::Read(operand(alloc, 0, BASE)?))?;
+    let read = Batch::one(alloc, Command::Read(operand(alloc, 0, BASE)?))?;
     let (a, answer) = ask(rt, &map, call, a, read);
     let outcome = match &answer {
         Ok(replies) if is_cover(replies, &set) => Outcome::Done,
@@ -249,7 +239,7 @@ fn shown(answer: &Result<Replies, Memory>, set: &Coverage) -> Outcome {
 fn answer_twice(alloc: Global) -> Result<Outcome> {
     let set = Coverage::from_ranges(alloc, &[(0, BASE)])?;
     let (map, a, b) = open(alloc)?;
-    let read = batch(alloc, Command::Read(operand(alloc, 0, BASE)?))?;
+    let read = Batch::one(alloc, Command::Read(operand(alloc, 0, BASE)?))?;
     let (a, snapshot) = look(&map, a, read);
     let Some(snapshot) = snapshot else {
         return Ok(Outcome::Spoiled);

@@ -19,9 +19,7 @@ fn main(rt: HostRuntime) -> Result<()> {
     let alloc = rt.alloc();
     let start = Coverage::from_ranges(alloc, &[(0, BASE_PIXEL_SIZE)])?;
     let mut map = Map::new(alloc, start)?;
-    let mut commands = Vec::new(alloc);
-    commands.push(Command::Invert)?;
-    let batch = Batch::new(commands)?;
+    let batch = Batch::one(alloc, Command::Invert)?;
     let is_done = map.apply(alloc, &batch).is_ok();
     let outcome = if is_done && has_counts(&map, 0, BASE_PIXEL_SIZE) {
         "inverted"

@@ -10,7 +10,7 @@ mod figure;
 mod threads;
 
 use crate::figure::Figure;
-use crate::threads::{CELLS, Job, Plan, batch, cell, changed_a_cell, work};
+use crate::threads::{CELLS, Job, Plan, cell, changed_a_cell, work};
 use anyhow::{Result, bail};
 use moc_parts::{Batch, Command, Map};
 use moc_ranges::Coverage;
@@ -48,7 +48,7 @@ fn adds(alloc: Global, calls: u64) -> Result<Vec<Batch>> {
     let mut batches = Vec::new(alloc);
     for index in 0..calls {
         let operand = cell(alloc, index.saturating_mul(apart))?;
-        batches.push(batch(alloc, Command::Add(operand))?)?;
+        batches.push(Batch::one(alloc, Command::Add(operand))?)?;
     }
     Ok(batches)
 }

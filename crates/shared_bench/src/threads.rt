@@ -55,13 +55,6 @@ pub fn cell(alloc: Global, index: u64) -> Result<Operand> {
     Ok(Operand { set, coarse: None })
 }
 
-/// The batch of one command.
-pub fn batch(alloc: Global, command: Command) -> Result<Batch> {
-    let mut commands = Vec::new(alloc);
-    commands.push(command)?;
-    Ok(Batch::new(commands)?)
-}
-
 /// Whether the one reply is that just a cell changed.
 pub fn changed_a_cell(replies: &Replies) -> bool {
     matches!(replies.as_slice().first(), Some(Reply::Changed(CELL)))
@@ -118,8 +111,8 @@ fn change<R: Wait + Clock>(
         Job::OwnParts => number * BASE_CELLS,
         Job::OnePart | Job::Readers => number,
     };
-    let add = batch(alloc, Command::Add(cell(alloc, index).ok()?)).ok()?;
-    let remove = batch(alloc, Command::Remove(cell(alloc, index).ok()?)).ok()?;
+    let add = Batch::one(alloc, Command::Add(cell(alloc, index).ok()?)).ok()?;
+    let remove = Batch::one(alloc, Command::Remove(cell(alloc, index).ok()?)).ok()?;
     let start = Instant::now(rt).ok()?;
     let good = come_and_go(rt, map, &mut client, &add, &remove, plan.rounds);
     Figure::since(rt, &start, good).ok()
@@ -163,7 +156,7 @@ fn read(alloc: Global, map: &SharedMap, plan: &Plan, client: Client) -> Option<F
 {
     let mut client = client;
     let set = Coverage::from_ranges(alloc, &[(0, BASE)]).ok()?;
-    let read = batch(alloc, Command::Read(Operand { set, coarse: None })).ok()?;
+    let read = Batch::one(alloc, Command::Read(Operand { set, coarse: None })).ok()?;
     let mut reads = 0u64;
     for _ in 0..u64::MAX {
         if plan.ended.load(Ordering::SeqCst) > 0 {

@@ -35,13 +35,6 @@ fn cell(alloc: Global, base_pixel: u8) -> Option<Operand> {
     Some(Operand { set, coarse: None })
 }
 
-/// The batch of one command.
-fn batch(alloc: Global, command: Command) -> Option<Batch> {
-    let mut commands = Vec::new(alloc);
-    commands.push(command).ok()?;
-    Batch::new(commands).ok()
-}
-
 /// Whether all threads have started. It yields to them, and gives up after so many turns.
 fn have_started(started: &AtomicU64) -> bool {
     started.fetch_add(1, Ordering::SeqCst);
@@ -87,8 +80,8 @@ fn work(alloc: Global, map: &SharedMap, started: &AtomicU64, client: Client) -> 
     let mut client = client;
     let number = client.number();
     let all = have_started(started);
-    let add = cell(alloc, number).and_then(|cell| batch(alloc, Command::Add(cell)));
-    let remove = cell(alloc, number).and_then(|cell| batch(alloc, Command::Remove(cell)));
+    let add = cell(alloc, number).and_then(|cell| Batch::one(alloc, Command::Add(cell)).ok());
+    let remove = cell(alloc, number).and_then(|cell| Batch::one(alloc, Command::Remove(cell)).ok());
     let good = match (add, remove) {
         (Some(add), Some(remove)) if all => make_rounds(map, &mut client, &add, &remove),
         _ => 0,

@@ -29,13 +29,6 @@ fn base(rt: &HostRuntime, from: u64, to: u64) -> Result<Operand, Fail>
     Ok(Operand { set, coarse: None })
 }
 
-/// The batch of one command.
-fn batch(rt: &HostRuntime, command: Command) -> Result<Batch, Fail> {
-    let mut commands = Vec::new(rt.alloc());
-    commands.push(command)?;
-    Ok(Batch::new(commands)?)
-}
-
 /// The last of the clients that are left.
 fn next(map: &SharedMap, clients: &mut Vec<Client>) -> Option<Client>
     requires { All (IsClientOf map.now) clients.old.items }
@@ -103,14 +96,14 @@ fn a_held_part_is_busy_and_the_others_are_not(rt: HostRuntime) -> Result<(), Fai
     let mut c2 = next(&map, &mut clients).ok_or("a client")?;
     let mut c1 = next(&map, &mut clients).ok_or("a client")?;
     let c0 = next(&map, &mut clients).ok_or("a client")?;
-    let five = batch(&rt, Command::Add(base(&rt, 5, 6)?))?;
-    let count = batch(&rt, Command::Count(base(&rt, 2, 4)?))?;
-    let two = batch(&rt, Command::Add(base(&rt, 2, 3)?))?;
-    let three = batch(&rt, Command::Add(base(&rt, 3, 4)?))?;
+    let five = Batch::one(rt.alloc(), Command::Add(base(&rt, 5, 6)?))?;
+    let count = Batch::one(rt.alloc(), Command::Count(base(&rt, 2, 4)?))?;
+    let two = Batch::one(rt.alloc(), Command::Add(base(&rt, 2, 3)?))?;
+    let three = Batch::one(rt.alloc(), Command::Add(base(&rt, 3, 4)?))?;
     let ends = set(&rt, &[(2 * BASE, 4 * BASE), (5 * BASE, 6 * BASE)])?;
     let all = ends.try_copy(alloc)?;
-    let all = batch(
-        &rt,
+    let all = Batch::one(
+        rt.alloc(),
         Command::Count(Operand {
             set: all,
             coarse: None,
@@ -133,13 +126,13 @@ fn a_held_part_is_busy_and_the_others_are_not(rt: HostRuntime) -> Result<(), Fai
 fn two_clients_meet_and_one_takes_in_the_other(rt: HostRuntime) -> Result<(), Fail> {
     let alloc = rt.alloc();
     let (map, mut a, mut b) = two(&rt, Coverage::empty(alloc))?;
-    let claim = batch(&rt, Command::Claim(base(&rt, 4, 5)?))?;
+    let claim = Batch::one(rt.alloc(), Command::Claim(base(&rt, 4, 5)?))?;
     let first = map.try_apply(&mut a, &claim)?;
     assert!(rt; matches!(first.as_slice().first(), Some(Reply::Claimed)));
     let second = map.try_apply(&mut b, &claim)?;
     assert!(rt; matches!(second.as_slice().first(), Some(Reply::Taken(BASE))));
     map.meet(&mut a, &mut b);
-    let nothing = batch(&rt, Command::Add(base(&rt, 0, 0)?))?;
+    let nothing = Batch::one(rt.alloc(), Command::Add(base(&rt, 0, 0)?))?;
     assert_eq!(rt; changed(map.try_apply(&mut b, &nothing)), Some(0));
     map.take_in(&mut a, b);
     assert!(rt; map.close(a)?.same(&set(&rt, &[(4 * BASE, 5 * BASE)])?));
@@ -163,9 +156,9 @@ fn midway(map: SharedMap, a: Client, b: Client, batch: Batch) -> Option<u8>
 #[test]
 fn a_part_that_stays_held_is_midway(rt: HostRuntime) -> Result<(), Fail> {
     let (map, a, mut b) = two(&rt, set(&rt, &[(7 * BASE, 8 * BASE)])?)?;
-    let count = batch(&rt, Command::Count(base(&rt, 6, 8)?))?;
+    let count = Batch::one(rt.alloc(), Command::Count(base(&rt, 6, 8)?))?;
     assert_eq!(rt; total(map.try_apply(&mut b, &count)), Some(BASE));
-    let add = batch(&rt, Command::Add(base(&rt, 3, 4)?))?;
+    let add = Batch::one(rt.alloc(), Command::Add(base(&rt, 3, 4)?))?;
     assert_eq!(rt; midway(map, a, b, add), Some(3));
     Ok(())
 }
@@ -197,11 +190,11 @@ fn look(map: &SharedMap, client: Client, batch: Batch) -> (Client, Option<Snapsh
 fn a_snapshot_answers_what_was_there(rt: HostRuntime) -> Result<(), Fail> {
     let alloc = rt.alloc();
     let (map, a, mut b) = two(&rt, Coverage::empty(alloc))?;
-    let add = batch(&rt, Command::Add(base(&rt, 3, 4)?))?;
+    let add = Batch::one(rt.alloc(), Command::Add(base(&rt, 3, 4)?))?;
     assert_eq!(rt; changed(map.try_apply(&mut b, &add)), Some(BASE));
     let both = set(&rt, &[(3 * BASE, 4 * BASE), (5 * BASE, 6 * BASE)])?;
-    let read = batch(
-        &rt,
+    let read = Batch::one(
+        rt.alloc(),
         Command::Read(Operand {
             set: both,
             coarse: None,
@@ -209,7 +202,7 @@ fn a_snapshot_answers_what_was_there(rt: HostRuntime) -> Result<(), Fail> {
     )?;
     let (a, snapshot) = look(&map, a, read);
     let snapshot = snapshot.ok_or("a snapshot")?;
-    let remove = batch(&rt, Command::Remove(base(&rt, 3, 4)?))?;
+    let remove = Batch::one(rt.alloc(), Command::Remove(base(&rt, 3, 4)?))?;
     assert_eq!(rt; changed(map.try_apply(&mut b, &remove)), Some(BASE));
     for _ in 0u8..2 {
         let seen = snapshot.answer(alloc)?;
@@ -219,9 +212,9 @@ fn a_snapshot_answers_what_was_there(rt: HostRuntime) -> Result<(), Fail> {
         assert!(rt; cover.same(&set(&rt, &[(3 * BASE, 4 * BASE)])?));
     }
     let mut a = a;
-    let count = batch(&rt, Command::Count(base(&rt, 3, 4)?))?;
+    let count = Batch::one(rt.alloc(), Command::Count(base(&rt, 3, 4)?))?;
     assert_eq!(rt; total(map.try_apply(&mut a, &count)), Some(0));
-    let five = batch(&rt, Command::Add(base(&rt, 5, 6)?))?;
+    let five = Batch::one(rt.alloc(), Command::Add(base(&rt, 5, 6)?))?;
     let (a, none) = look(&map, a, five);
     assert!(rt; none.is_none());
     assert!(rt; map.close(a)?.is_empty());
@@ -250,11 +243,7 @@ fn a_map_has_1_to_64_clients(rt: HostRuntime) {
 fn add_cell(alloc: Global, index: u64) -> Option<Batch> {
     let from = (index % 12288) * CELL;
     let set = Coverage::from_ranges(alloc, &[(from, from + CELL)]).ok()?;
-    let mut commands = Vec::new(alloc);
-    commands
-        .push(Command::Add(Operand { set, coarse: None }))
-        .ok()?;
-    Batch::new(commands).ok()
+    Batch::one(alloc, Command::Add(Operand { set, coarse: None })).ok()
 }
 
 /// Does a batch, again while one of its parts is held, at most a million times: how many pixels it changed.
@@ -371,9 +360,9 @@ fn count_often<R: Wait>(rt: &R, map: &SharedMap, client: Client, count: &Batch) 
 fn clients_wait_for_a_part(rt: HostRuntime) -> Result<(), Fail> {
     let alloc = rt.alloc();
     let (map, a, b) = two(&rt, Coverage::empty(alloc))?;
-    let add = batch(&rt, Command::Add(base(&rt, 3, 4)?))?;
-    let remove = batch(&rt, Command::Remove(base(&rt, 3, 4)?))?;
-    let count = batch(&rt, Command::Count(base(&rt, 2, 5)?))?;
+    let add = Batch::one(rt.alloc(), Command::Add(base(&rt, 3, 4)?))?;
+    let remove = Batch::one(rt.alloc(), Command::Remove(base(&rt, 3, 4)?))?;
+    let count = Batch::one(rt.alloc(), Command::Count(base(&rt, 2, 5)?))?;
     let host = &rt;
     let shared = &map;
     let (add, remove, count) = (&add, &remove, &count);

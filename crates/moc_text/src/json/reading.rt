@@ -1,12 +1,12 @@
 //! Reading the JSON form.
-ghost use Rattle.std.specs.Prelude.{◌≡◌, ℕ, IfErr, IfOk, MatchResult, None, Option, Some, ◌⊎◌};
+ghost use Rattle.std.specs.Prelude.{◌≡◌, ℕ, IfErr, IfOk, IfSome, MatchResult, None, Option, Some, ◌⊎◌};
 ghost use Rattle.std.specs.FinSet as set;
 ghost use Rattle.serde_json.specs.Find.{as_array};
 ghost use Rattle.serde_json.specs.View.{view, items_view, members_view};
 ghost use Rattle.moc_ranges.specs.Numbers.{NumberSet};
 ghost use Rattle.moc_text.specs.Ascii.{deeper as deeper_of};
 ghost use Rattle.moc_text.specs.Faults.{Fails};
-ghost use Rattle.moc_text.specs.JsonForm.{order_of_name, whole, cell_pixels, item_fault, items_pixels, items_fault, array_pixels, name_fault, members_pixels, members_fault, deepest_name, IsJson, IsNotJson, SaysJson, IsJsonFault};
+ghost use Rattle.moc_text.specs.JsonForm.{order_of_name, whole, cell_pixels, item_fault, items_pixels, items_fault, array_pixels, name_fault, members_pixels, members_fault, deepest_name, order_at, IsJson, IsNotJson, NamesOrder, SaysJson, IsJsonFault};
 ghost use Rattle.moc_text.specs.Private.JsonReading.{held_order};
 
 use crate::json::error::JsonError;
@@ -174,4 +174,47 @@ pub fn read_json(alloc: Global, text: &[u8]) -> Result<(Coverage, Option<Order>)
     let deepest = read_members(&mut cells, members)?;
     let set = cells.build(alloc)?;
     Ok((set, deepest))
+}
+
+/// The order that the name of this number names, counted from 0 in byte order; `None` where there is no such name.
+fn order_of_member(members: &Map<String, Value>, name: usize) -> Option<Order>
+    ensures { result ≡ order_at name (members_view members.now.entries) }
+{
+    let mut before = name;
+    for (text, _) in members.iter() {
+        if before == 0 {
+            return order_of(text.as_str());
+        }
+        before -= 1;
+    }
+    None
+}
+
+/// The order that a name of a JSON text names, by the number of the name, which a fault tells: counted from 0 in byte
+/// order. `None` where the text is no object, has no such name, or the name is no order.
+///
+/// Refused with `NotJson` and `Memory` as `read_json`, whose first pass it makes again.
+pub fn json_order(alloc: Global, text: &[u8], name: usize) -> Result<Option<Order>, JsonError>
+    ensures order { IfOk result (λ k. NamesOrder text.now name k) }
+    ensures fault { IfErr result (λ e. (e ≡ JsonError.Memory) ⊎ ((e ≡ JsonError.NotJson) × IsNotJson text.now)) }
+{
+    let value = parse(alloc, text)?;
+    let Some(members) = value.as_object() else {
+        return Ok(None);
+    };
+    Ok(order_of_member(members, name))
+}
+
+/// The line, counted from 1, and the column at which `serde_json` stops reading a text that is no JSON. `None` where the
+/// text is JSON, where memory was refused, or where `serde_json` tells no place.
+pub fn json_stop(alloc: Global, text: &[u8]) -> Option<(usize, usize)>
+    ensures { IfSome result (λ _. IsNotJson text.now) }
+{
+    match Value::from_slice(alloc, text) {
+        Err(error) if !error.is_memory() && error.line() > 0 => Some((
+            error.line(),
+            error.column(),
+        )),
+        _ => None,
+    }
 }

@@ -5,7 +5,7 @@ use Rattle.clap.specs.Simple.{app_of_fields}
 use Rattle.clap.specs.declared.builder.command.Command.{Command}
 use Rattle.clap.specs.declared.builder.command.Command.TheOpen.{Command-F}
 use Rattle.clap.specs.declared.builder.command.Command.TheViews.{out-Command as fields_of}
-use Rattle.moc_cli.specs.CommandLine.{convert_app, moc_app, number_rule, numbers_app}
+use Rattle.moc_cli.specs.CommandLine.{convert_app, form_app, moc_app, numbered_app}
 use Rattle.moc_cli.proofs.command_line.command_line.Goals as goal
 
 abbrev top_of : App → Shape
@@ -17,23 +17,21 @@ has_globals fields = fields.has_globals
 pub returns : goal.returns
 unfolding moc_app
 returns c =
-    let ring : app_of c.about-ring.result ≡ numbers_app (codes "ring") (codes "CELL") = ap app_of_fields c.about-ring.ensures ∙ c.in_ok-numbers.ensures.app in
-    let nest : app_of c.about-nest.result ≡ numbers_app (codes "nest") (codes "RING") = ap app_of_fields c.about-nest.ensures ∙ c.in_ok-numbers-2.ensures.app in
-    let uniq : app_of c.about-uniq.result ≡ numbers_app (codes "uniq") (codes "CELL") = ap app_of_fields c.about-uniq.ensures ∙ c.in_ok-numbers-3.ensures.app in
-    let near : app_of c.about-near.result ≡ numbers_app (codes "near") (codes "CELL") = ap app_of_fields c.about-near.ensures ∙ c.in_ok-numbers-4.ensures.app in
-    let cell : app_of c.in_ok-cell.cell ≡ with_rule (new_app (codes "cell")) (number_rule (codes "UNIQ")) =
-    c.in_ok-cell.ensures.shape c.number.ensures.local ∙ ap₂ with_rule (ap app_of_fields c.about.ensures ∙ c.new.ensures.app) c.number.ensures.rule in
     let from = c.form.ensures.rule in
     let to = c.form-2.ensures.rule in
     let convert : app_of c.in_ok-convert.convert ≡ convert_app from.0 to.0 =
-    c.in_ok-convert.ensures.shape c.form-2.ensures.local ∙ ap₂ with_rule (c.in_ok-arg.ensures.shape c.form.ensures.local ∙ ap₂ with_rule (ap app_of_fields c.about-2.ensures ∙ c.new-2.ensures.app) from.2) to.2 in
-    let with_ring = c.in_ok-subcommand.ensures.shape (ap has_globals c.about-ring.ensures ∙ c.in_ok-numbers.ensures.local) ∙ ap₂ with_subcommand c.in_ok-lines.ensures (ap top_of ring) in
-    let with_nest = c.in_ok-subcommand-2.ensures.shape (ap has_globals c.about-nest.ensures ∙ c.in_ok-numbers-2.ensures.local) ∙ ap₂ with_subcommand with_ring (ap top_of nest) in
-    let with_uniq = c.in_ok-subcommand-3.ensures.shape (ap has_globals c.about-uniq.ensures ∙ c.in_ok-numbers-3.ensures.local) ∙ ap₂ with_subcommand with_nest (ap top_of uniq) in
-    let with_near = c.in_ok-subcommand-4.ensures.shape (ap has_globals c.about-near.ensures ∙ c.in_ok-numbers-4.ensures.local) ∙ ap₂ with_subcommand with_uniq (ap top_of near) in
-    let cell_local : (fields_of c.in_ok-cell.cell).has_globals ≡ false =
-    c.in_ok-cell.ensures.globals ∙ ap₂ (λ a b. a || b) (ap has_globals c.about.ensures ∙ c.new.ensures.local) c.number.ensures.local in
-    let with_cell = c.in_ok-subcommand-5.ensures.shape cell_local ∙ ap₂ with_subcommand with_near (ap top_of cell) in
+    c.in_ok-convert.ensures.shape c.form-2.ensures.local ∙ ap₂ with_rule (c.in_ok-arg.ensures.shape c.form.ensures.local ∙ ap₂ with_rule (ap app_of_fields c.about.ensures ∙ c.new.ensures.app) from.2) to.2 in
     let local : (fields_of c.in_ok-convert.convert).has_globals ≡ false =
-    c.in_ok-convert.ensures.globals ∙ ap₂ (λ a b. a || b) (c.in_ok-arg.ensures.globals ∙ ap₂ (λ a b. a || b) (ap has_globals c.about-2.ensures ∙ c.new-2.ensures.local) c.form.ensures.local) c.form-2.ensures.local in
-    IfOk-weaker c.subcommand-6.result _ _ (λ r h. record { from = from.0; to = to.0; from_form = from.1; to_form = to.1; is = h.shape local ∙ ap₂ with_subcommand with_cell (ap top_of convert) }) c.subcommand-6.ensures
+    c.in_ok-convert.ensures.globals ∙ ap₂ (λ a b. a || b) (c.in_ok-arg.ensures.globals ∙ ap₂ (λ a b. a || b) (ap has_globals c.about.ensures ∙ c.new.ensures.local) c.form.ensures.local) c.form-2.ensures.local in
+    let with_convert = c.in_ok-subcommand.ensures.shape local ∙ ap₂ with_subcommand c.in_ok-numbered.ensures (ap top_of convert) in
+    let checked = c.in_ok-of_form.ensures.app in
+    let check : app_of c.after_help-check.result ≡ form_app (codes "check") checked.0 = ap app_of_fields c.after_help-check.ensures ∙ ap app_of_fields c.about-2.ensures ∙ checked.2 in
+    let with_check = c.in_ok-subcommand-2.ensures.shape (ap has_globals c.after_help-check.ensures ∙ ap has_globals c.about-2.ensures ∙ c.in_ok-of_form.ensures.local) ∙ ap₂ with_subcommand with_convert (ap top_of check) in
+    let described = c.in_ok-of_form-2.ensures.app in
+    let describe : app_of c.after_help-describe.result ≡ form_app (codes "describe") described.0 = ap app_of_fields c.after_help-describe.ensures ∙ ap app_of_fields c.about-3.ensures ∙ described.2 in
+    let describe_local = ap has_globals c.after_help-describe.ensures ∙ ap has_globals c.about-3.ensures ∙ c.in_ok-of_form-2.ensures.local in
+    IfOk-weaker c.subcommand-3.result _ _ (λ r h. record {
+      forms = record { from = from.0; to = to.0; check = checked.0; describe = described.0 };
+      are_forms = record { from = from.1; to = to.1; check = checked.1; describe = described.1 };
+      is = h.shape describe_local ∙ ap₂ with_subcommand with_check (ap top_of describe);
+    }) c.subcommand-3.ensures

@@ -14,6 +14,10 @@ use Rattle.moc_parts.proofs.draft.Draft.change.Goals.{in-Some, in_default}
 pub loop-b-init : goal.loop-b-init
 loop-b-init c = (sym (half-none (changed c.args.change.now c.args.self.now.set) c.args.self.now.set), (λ i. c.args.self.now.found), λ later. absurd (omega arith))
 
+pub part-requires-in-loop-b-clause-list : goal.part-requires-in-loop-b-clause-list
+part-requires-in-loop-b-clause-list c =
+    ap (λ p. part_of p c.loop-b.b) c.part.ensures.list ∙ part_lies c.loop-b.self.set c.loop-b.b ∙ sym c.part.ensures.list
+
 pub put-requires-clause-list : goal.put-requires-clause-list
 put-requires-clause-list c =
     let old : NumberSet = c.args.self.now.set in
