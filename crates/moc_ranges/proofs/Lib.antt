@@ -17,3 +17,4 @@ pub mod CarriedOver
 pub mod Looking
 pub mod Stepping
 pub mod Slices
+pub mod Differing

@@ -11,7 +11,7 @@ use std::alloc::{AllocError, Global};
 
 /// Adds a range, where it is not empty, behind those that are kept.
 #[inline]
-fn keep(kept: &mut Vec<(u64, u64)>, from: u64, to: u64) -> Result<(), AllocError>
+pub fn keep(kept: &mut Vec<(u64, u64)>, from: u64, to: u64) -> Result<(), AllocError>
     requires normal { IsNormal kept.old.items }
     requires within { to ≤ pixel_count }
     requires after { EndsBelow from kept.old.items }
@@ -51,7 +51,7 @@ fn settle(
 }
 
 /// The pixels in those that are kept, a range behind them and the rest behind that.
-fn finish(
+pub fn finish(
     alloc: Global,
     mut kept: Vec<(u64, u64)>,
     range: (u64, u64),
@@ -66,7 +66,7 @@ fn finish(
 }
 
 /// The pixels in some ranges.
-fn copied(alloc: Global, ranges: &[(u64, u64)]) -> Result<Coverage, AllocError>
+pub fn copied(alloc: Global, ranges: &[(u64, u64)]) -> Result<Coverage, AllocError>
     requires { IsNormal ranges.now }
     ensures { IfOk result (λ c. c ≡ set_of ranges.now) }
 {

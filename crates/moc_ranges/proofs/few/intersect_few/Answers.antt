@@ -1,4 +1,4 @@
-use Rattle.std.proofs.Common.{◌∙◌, ◌∷◌, arith, refl, sym, get_or}
+use Rattle.std.proofs.Common.{◌∙◌, arith, refl, sym, get_or}
 use Rattle.std.proofs.lemmas.Result.{IfOk-weaker}
 use Rattle.moc_ranges.proofs.Blocking.{none_there}
 use Rattle.moc_ranges.proofs.Turning.{first_item}

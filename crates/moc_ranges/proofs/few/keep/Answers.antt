@@ -1,4 +1,4 @@
-use Rattle.std.proofs.Common.{arith, refl, subst, sym, List, ℕ}
+use Rattle.std.proofs.Common.{arith, refl, subst, sym}
 use Rattle.moc_ranges.specs.RangeList.{IsNormal}
 use Rattle.moc_ranges.proofs.Merging.{EndsBelow-more}
 use Rattle.moc_ranges.proofs.Building.{pushed_normal}
