@@ -24,6 +24,7 @@ use crate::node::{Node, measure_nodes, share_nodes};
 use crate::ranges::Ranges;
 use crate::search::{range_of_nodes_past, range_past};
 use crate::steps::{Steps, find_block, find_range};
+use crate::symmetric::differ_few;
 use crate::union::unite;
 use crate::walks::{are_same, count_both, holds_all, share_some};
 use moc_sphere::{Cell, Order};
@@ -225,6 +226,11 @@ impl Coverage {
     pub fn symmetric(&self, alloc: Global, other: &Coverage) -> Result<Coverage, Memory>
         ensures set { IfOk result (λ c. c ≡ symmetric self.now other.now) }
     {
+        if let Some(few) = self.ranges().few() {
+            if let Some(others) = other.ranges().few() {
+                return Ok(differ_few(alloc, few, others)?);
+            }
+        }
         let mine = self.difference(alloc, other)?;
         let theirs = other.difference(alloc, self)?;
         mine.union(alloc, &theirs)
