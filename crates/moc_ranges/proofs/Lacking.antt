@@ -19,7 +19,7 @@ past_early a b c d q later more lt none = grind (arith, nat_tests)
 past_late : (a b c d q : ℕ) (later more : Bool) → d ≤ a → a ≤ q → (((nat_le a q && nat_lt q b) || later) && not ((nat_le c q && nat_lt q d) || more)) ≡ (((nat_le a q && nat_lt q b) || later) && not more)
 past_late a b c d q later more le ge = grind (arith, nat_tests)
 
-past : (x y : ℕ × ℕ) (xs ys : List (ℕ × ℕ)) (q : ℕ) → IsNormal (x ∷ xs) → y.1 ≤ x.0 → (in_ranges (x ∷ xs) q && not (in_ranges (y ∷ ys) q)) ≡ (in_ranges (x ∷ xs) q && not (in_ranges ys q))
+pub past : (x y : ℕ × ℕ) (xs ys : List (ℕ × ℕ)) (q : ℕ) → IsNormal (x ∷ xs) → y.1 ≤ x.0 → (in_ranges (x ∷ xs) q && not (in_ranges (y ∷ ys) q)) ≡ (in_ranges (x ∷ xs) q && not (in_ranges ys q))
 past x y xs ys q nx le = elim (cases_lt q x.0) [
   | inl lt ↦ past_early x.0 x.1 y.0 y.1 q (in_ranges xs q) (in_ranges ys q) lt (later_only x.1 q xs nx.3 nx.2 (omega (arith, nx.0)))
   | inr ge ↦ past_late x.0 x.1 y.0 y.1 q (in_ranges xs q) (in_ranges ys q) le ge
@@ -32,7 +32,7 @@ trim_early a b c d to q later more db cd is lt nl nm = grind (arith, nat_tests)
 trim_late : (a b c d to q : ℕ) (later more : Bool) → a < d → c < d → to ≡ min b c → d ≤ q → (((nat_le a q && nat_lt q b) || later) && not ((nat_le c q && nat_lt q d) || more)) ≡ ((nat_le a q && nat_lt q to) || (((nat_le d q && nat_lt q b) || later) && not more))
 trim_late a b c d to q later more ad cd is ge = grind (arith, nat_tests)
 
-trim : (x y : ℕ × ℕ) (xs ys : List (ℕ × ℕ)) (to q : ℕ) → IsNormal (x ∷ xs) → IsNormal (y ∷ ys) → x.0 < y.1 → y.1 < x.1 → to ≡ min x.1 y.0 → (in_ranges (x ∷ xs) q && not (in_ranges (y ∷ ys) q)) ≡ (in_range (x.0, to) q || (in_ranges ((y.1, x.1) ∷ xs) q && not (in_ranges ys q)))
+pub trim : (x y : ℕ × ℕ) (xs ys : List (ℕ × ℕ)) (to q : ℕ) → IsNormal (x ∷ xs) → IsNormal (y ∷ ys) → x.0 < y.1 → y.1 < x.1 → to ≡ min x.1 y.0 → (in_ranges (x ∷ xs) q && not (in_ranges (y ∷ ys) q)) ≡ (in_range (x.0, to) q || (in_ranges ((y.1, x.1) ∷ xs) q && not (in_ranges ys q)))
 trim x y xs ys to q nx ny reach ends is = elim (cases_lt q y.1) [
   | inl lt ↦ trim_early x.0 x.1 y.0 y.1 to q (in_ranges xs q) (in_ranges ys q) ends ny.0 is lt (later_only x.1 q xs nx.3 nx.2 (omega arith)) (later_only y.1 q ys ny.3 ny.2 (omega arith))
   | inr ge ↦ trim_late x.0 x.1 y.0 y.1 to q (in_ranges xs q) (in_ranges ys q) reach ny.0 is ge
@@ -45,7 +45,7 @@ gone_early a b c d to q later more bd is lt nl nm = grind (arith, nat_tests)
 gone_late : (a b c d to q : ℕ) (later more : Bool) → to ≡ min b c → b ≤ q → (((nat_le a q && nat_lt q b) || later) && not ((nat_le c q && nat_lt q d) || more)) ≡ ((nat_le a q && nat_lt q to) || (later && not ((nat_le c q && nat_lt q d) || more)))
 gone_late a b c d to q later more is ge = grind (arith, nat_tests)
 
-gone : (x y : ℕ × ℕ) (xs ys : List (ℕ × ℕ)) (to q : ℕ) → IsNormal (x ∷ xs) → IsNormal (y ∷ ys) → x.1 ≤ y.1 → to ≡ min x.1 y.0 → (in_ranges (x ∷ xs) q && not (in_ranges (y ∷ ys) q)) ≡ (in_range (x.0, to) q || (in_ranges xs q && not (in_ranges (y ∷ ys) q)))
+pub gone : (x y : ℕ × ℕ) (xs ys : List (ℕ × ℕ)) (to q : ℕ) → IsNormal (x ∷ xs) → IsNormal (y ∷ ys) → x.1 ≤ y.1 → to ≡ min x.1 y.0 → (in_ranges (x ∷ xs) q && not (in_ranges (y ∷ ys) q)) ≡ (in_range (x.0, to) q || (in_ranges xs q && not (in_ranges (y ∷ ys) q)))
 gone x y xs ys to q nx ny ends is = elim (cases_lt q x.1) [
   | inl lt ↦ gone_early x.0 x.1 y.0 y.1 to q (in_ranges xs q) (in_ranges ys q) ends is lt (later_only x.1 q xs nx.3 nx.2 (omega arith)) (later_only y.1 q ys ny.3 ny.2 (omega arith))
   | inr ge ↦ gone_late x.0 x.1 y.0 y.1 to q (in_ranges xs q) (in_ranges ys q) is ge

@@ -16,3 +16,5 @@ pub mod Passing
 pub mod CarriedOver
 pub mod Looking
 pub mod Stepping
+pub mod Slices
+pub mod Differing

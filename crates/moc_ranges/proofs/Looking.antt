@@ -1,5 +1,5 @@
 -- What look-ups in a set find.
-use Rattle.std.proofs.Common.{◌≡◌, ℕ, ◌+◌, ◌<◌, ◌≤◌, ◌*◌, ◌/◌, Bool, true, false, not, ◌&&◌, ◌||◌, ◌⊎◌, List, [], ◌∷◌, ◌++◌, nat_eq, nat_le, nat_lt, max, Option, None, Some, MatchOption, inl, inr, refl, sym, ap, subst, ◌∙◌, arith}
+use Rattle.std.proofs.Common.{◌≡◌, ℕ, ◌+◌, ◌<◌, ◌≤◌, ◌*◌, ◌/◌, Bool, true, false, not, ◌&&◌, ◌||◌, ◌⊎◌, List, [], ◌∷◌, ◌++◌, length, nat_eq, nat_le, nat_lt, max, Option, None, Some, MatchOption, inl, inr, refl, sym, ap, subst, ◌∙◌, arith}
 use Rattle.std.proofs.lemmas.Bool.{cases_lt, cases_Bool, false≢true, false_from_ne_true, and_parts, leb-true, ltb-true, lt-ltb}
 use Rattle.std.proofs.lemmas.Bool.Decides.{nat_tests}
 use Rattle.std.specs.Option.{is_some}
@@ -11,8 +11,9 @@ use Rattle.moc_ranges.specs.Numbers.{NumberSet, numbers, contains-numbers, same_
 use Rattle.moc_ranges.specs.Pixels.{base_pixel_size, pixel_count, pixels}
 use Rattle.moc_ranges.specs.Operations.{meets, meets-some, meets-none, part_of, contains-part_of, contains-pixels}
 use Rattle.moc_ranges.specs.RangeList.{IsNormal, in_ranges, set_of, contains-set_of}
-use Rattle.moc_ranges.specs.Private.Walks.{EndsBy, Passes, IsNextRange, HasNoneFrom}
-use Rattle.moc_ranges.proofs.Blocking.{IsNormal-suffix}
+use Rattle.moc_ranges.specs.Private.Blocks.{joining, rest_of, IsStored}
+use Rattle.moc_ranges.specs.Private.Walks.{EndsBy, IsFirstPast, IsNextRange, HasNoneFrom}
+use Rattle.moc_ranges.proofs.Blocking.{IsNormal-suffix, nothing_more}
 use Rattle.moc_ranges.proofs.Merging.{in_ranges-append}
 use Rattle.moc_ranges.proofs.Passing.{ends_by-append}
 use Rattle.moc_ranges.proofs.Walking.{later_only}
@@ -25,21 +26,6 @@ pub record IsSearching (limit : ℕ) (rest whole : List (ℕ × ℕ)) : Type 0 w
   pub ended : EndsBy limit gone
   pub normal : IsNormal whole
 
-pub search_start : (limit n : ℕ) (rest whole : List (ℕ × ℕ)) → IsNormal whole → Passes (limit, limit) whole rest n → IsSearching limit rest whole
-search_start limit n rest whole normal p = record { gone = p.gone; parts = p.parts; ended = p.ended; normal = normal }
-
-append_one : (xs ys : List (ℕ × ℕ)) (x : ℕ × ℕ) → xs ++ (x ∷ ys) ≡ (xs ++ (x ∷ [])) ++ ys
-append_one [] ys x = refl
-append_one (z ∷ xs) ys x = ap (λ (l : List (ℕ × ℕ)). z ∷ l) (append_one xs ys x)
-
-pub search_more : (limit : ℕ) (range : ℕ × ℕ) (s rest whole : List (ℕ × ℕ)) → IsSearching limit s whole → s ≡ range ∷ rest → range.1 ≤ limit → IsSearching limit rest whole
-search_more limit range s rest whole i e le = record {
-  gone = i.gone ++ (range ∷ []);
-  parts = i.parts ∙ ap (λ (l : List (ℕ × ℕ)). i.gone ++ l) e ∙ append_one i.gone rest range;
-  ended = ends_by-append limit i.gone (range ∷ []) i.ended (le, tt);
-  normal = i.normal;
-}
-
 pub none_ended : (limit q : ℕ) (rs : List (ℕ × ℕ)) → EndsBy limit rs → limit ≤ q → in_ranges rs q ≡ false
 none_ended limit q [] e le = refl
 none_ended limit q (r ∷ rs) e le = let rest = none_ended limit q rs e.1 le in let here = e.0 in grind (arith, nat_tests)
@@ -49,10 +35,8 @@ left_in limit q rest whole i le =
     ap (λ (l : List (ℕ × ℕ)). in_ranges l q) i.parts ∙ in_ranges-append i.gone rest q
     ∙ ap (λ b. b || in_ranges rest q) (none_ended limit q i.gone i.ended le)
 
-pub search_none : (limit : ℕ) (rest whole : List (ℕ × ℕ)) → IsSearching limit rest whole → rest ≡ [] → HasNoneFrom limit (set_of whole)
-search_none limit rest whole i none = record {
-  none = λ q le. contains-set_of whole q ∙ left_in limit q rest whole i le ∙ ap (λ (l : List (ℕ × ℕ)). in_ranges l q) none;
-}
+pub search_none : (limit : ℕ) (whole : List (ℕ × ℕ)) → EndsBy limit whole → HasNoneFrom limit (set_of whole)
+search_none limit whole ended = record { none = λ q le. contains-set_of whole q ∙ none_ended limit q whole ended le }
 
 first_has : (range : ℕ × ℕ) (rest : List (ℕ × ℕ)) (q : ℕ) → IsNormal (range ∷ rest) → q < range.1 → in_ranges (range ∷ rest) q ≡ nat_le range.0 q
 first_has range rest q normal lt = let later = later_only range.1 q rest normal.3 normal.2 (omega arith) in grind (arith, nat_tests)
@@ -60,7 +44,7 @@ first_has range rest q normal lt = let later = later_only range.1 q rest normal.
 first_ends : (range : ℕ × ℕ) (rest : List (ℕ × ℕ)) → IsNormal (range ∷ rest) → in_ranges (range ∷ rest) range.1 ≡ false
 first_ends range rest normal = let later = later_only range.1 range.1 rest normal.3 normal.2 (omega arith) in grind (arith, nat_tests)
 
-pub search_some : (limit : ℕ) (range : ℕ × ℕ) (s rest whole : List (ℕ × ℕ)) → IsSearching limit s whole → s ≡ range ∷ rest → limit < range.1 → IsNextRange limit (set_of whole) range
+search_some : (limit : ℕ) (range : ℕ × ℕ) (s rest whole : List (ℕ × ℕ)) → IsSearching limit s whole → s ≡ range ∷ rest → limit < range.1 → IsNextRange limit (set_of whole) range
 search_some limit range s rest whole i e lt =
     let left : IsNormal (range ∷ rest) = subst IsNormal e (IsNormal-suffix i.gone s (subst IsNormal i.parts i.normal)) in
     record {
@@ -70,6 +54,16 @@ search_some limit range s rest whole i e lt =
       has = λ q low high. contains-set_of whole q ∙ left_in limit q s whole i low ∙ ap (λ (l : List (ℕ × ℕ)). in_ranges l q) e ∙ first_has range rest q left high;
       ends = contains-set_of whole range.1 ∙ left_in limit range.1 s whole i (omega arith) ∙ ap (λ (l : List (ℕ × ℕ)). in_ranges l range.1) e ∙ first_ends range rest left;
     }
+
+-- the first range that ends after the limit, of a normal list
+pub search_found : (limit : ℕ) (range : ℕ × ℕ) (whole : List (ℕ × ℕ)) → IsNormal whole → IsFirstPast limit (range ∷ []) whole → IsNextRange limit (set_of whole) range
+search_found limit range whole normal f =
+    search_some limit range (range ∷ f.later) f.later whole (record { gone = f.gone; parts = f.parts; ended = f.ended; normal = normal }) refl f.past
+
+-- the same for the set of a list
+pub search_set : (limit : ℕ) (range : Option (ℕ × ℕ)) (found whole : List (ℕ × ℕ)) (a : NumberSet) → set_of whole ≡ a → IsNormal whole → whole ≡ found → MatchOption range (EndsBy limit found) (λ (r : ℕ × ℕ). IsFirstPast limit (r ∷ []) found) → MatchOption range (HasNoneFrom limit a) (IsNextRange limit a)
+search_set limit None found whole a is normal e f = subst (HasNoneFrom limit) is (search_none limit whole (subst (EndsBy limit) (sym e) f))
+search_set limit (Some r) found whole a is normal e f = subst (λ (s : NumberSet). IsNextRange limit s r) is (search_found limit r whole normal (subst (λ (l : List (ℕ × ℕ)). IsFirstPast limit (r ∷ []) l) (sym e) f))
 
 -- ---- what the next range says of a set
 
@@ -200,12 +194,6 @@ no_parts a low b first le some =
     let past : p / base_pixel_size ≤ b = first_part a low p b (λ q from has. absurd (first q from has)) le some in
     omega arith
 
-pub next_same : (limit : ℕ) (a b : NumberSet) (range : ℕ × ℕ) → a ≡ b → IsNextRange limit a range → IsNextRange limit b range
-next_same limit a b range e n = subst (λ (s : NumberSet). IsNextRange limit s range) e n
-
-pub none_same : (limit : ℕ) (a b : NumberSet) → a ≡ b → HasNoneFrom limit a → HasNoneFrom limit b
-none_same limit a b e n = subst (HasNoneFrom limit) e n
-
 pub nothing_in : (rs : List (ℕ × ℕ)) (a : NumberSet) → set_of rs ≡ a → rs ≡ [] → a ≡ set.empty
 nothing_in rs a is none = sym is ∙ same_members _ _ (λ q. contains-set_of rs q ∙ ap (λ (l : List (ℕ × ℕ)). in_ranges l q) none ∙ sym (set.contains-empty nat_cmp q))
 
@@ -223,3 +211,12 @@ empty_seen None true s t a is normal e same = ((λ yes. nothing_in s a is e.0), 
 empty_seen None false s t a is normal e same = absurd (false≢true same)
 empty_seen (Some x) true s t a is normal e same = absurd (false≢true (sym same))
 empty_seen (Some x) false s t a is normal e same = ((λ yes. absurd (false≢true yes)), (λ none. absurd (something_in x s t a is normal e none)))
+
+-- the ranges of a set with nodes, and of one without
+pub without_nodes : (few : List (ℕ × ℕ)) (nodes : List (List (List (ℕ × ℕ)))) → length nodes ≡ 0 → rest_of few [] nodes ≡ few
+without_nodes few [] none = nothing_more few
+without_nodes few (n ∷ nodes) none = absurd (omega arith)
+
+pub with_nodes : (few : List (ℕ × ℕ)) (nodes : List (List (List (ℕ × ℕ)))) → IsStored few nodes → 0 < length nodes → rest_of few [] nodes ≡ joining (joining nodes)
+with_nodes [] nodes s some = refl
+with_nodes (r ∷ few) nodes s some = absurd (let none = s.alone (omega arith) in omega (arith, some, ap length none))

@@ -22,7 +22,7 @@ outside a b c d from to q later more ends f w ge = grind (arith, nat_tests)
 nothing_in : (from to q : ℕ) (k : Bool) → to ≤ from → k ≡ (k || (nat_le from q && nat_lt q to))
 nothing_in from to q k le = grind (arith, nat_tests)
 
-pieces : (x y : ℕ × ℕ) (xs ys : List (ℕ × ℕ)) (from to q : ℕ) → IsNormal (y ∷ ys) → x.1 ≤ y.1 → from ≡ max x.0 y.0 → to ≡ min x.1 y.1 → (in_ranges (x ∷ xs) q && in_ranges (y ∷ ys) q) ≡ (in_range (from, to) q || (in_ranges xs q && in_ranges (y ∷ ys) q))
+pub pieces : (x y : ℕ × ℕ) (xs ys : List (ℕ × ℕ)) (from to q : ℕ) → IsNormal (y ∷ ys) → x.1 ≤ y.1 → from ≡ max x.0 y.0 → to ≡ min x.1 y.1 → (in_ranges (x ∷ xs) q && in_ranges (y ∷ ys) q) ≡ (in_range (from, to) q || (in_ranges xs q && in_ranges (y ∷ ys) q))
 pieces x y xs ys from to q ny ends f t = elim (cases_lt q x.1) [
   | inl lt ↦ inside x.0 x.1 y.0 y.1 from to q (in_ranges xs q) (in_ranges ys q) ends f t lt (later_only y.1 q ys ny.3 ny.2 (omega arith))
   | inr ge ↦ outside x.0 x.1 y.0 y.1 from to q (in_ranges xs q) (in_ranges ys q) ends f t ge

@@ -1,11 +1,14 @@
 -- Going past the first runs of a list of ranges.
-use Rattle.std.proofs.Common.{◌≡◌, ℕ, ◌+◌, ◌-◌, ◌<◌, ◌≤◌, List, [], ◌∷◌, ◌++◌, length, get_or, take, drop, refl, sym, ap, subst, ◌∙◌, arith, append_assoc}
-use Rattle.std.proofs.lemmas.List.{take_more, drop_more, take_rest, take-append-drop}
+use Rattle.std.proofs.Common.{◌≡◌, ℕ, zero, suc, ◌/◌, inl, inr, Option, None, Some, MatchOption, Bor, ◌+◌, ◌-◌, ◌<◌, ◌≤◌, List, [], ◌∷◌, ◌++◌, length, get_or, take, drop, refl, sym, ap, subst, ◌∙◌, arith, append_assoc}
+use Rattle.std.proofs.lemmas.Bool.{cases_lt}
+use Rattle.std.proofs.lemmas.List.{take_more, drop_more, take_rest, take-append-drop, take_all, get_or_default}
 use Rattle.std.proofs.lemmas.List.Sums.{sum_by-cons}
+use Rattle.std.specs.Slice.{IsItemAt}
+use Rattle.std.specs.Option.{option_copied}
 use Rattle.moc_ranges.specs.Pixels.{pixel_count}
 use Rattle.moc_ranges.specs.RangeList.{IsNormal}
 use Rattle.moc_ranges.specs.Private.Blocks.{joining, first_of, last_of, width_of, rest_of}
-use Rattle.moc_ranges.specs.Private.Walks.{joined, EndsBy, overlap_of, Passes}
+use Rattle.moc_ranges.specs.Private.Walks.{joined, EndsBy, overlap_of, Passes, IsPastAt, IsFirstPast}
 use Rattle.moc_ranges.proofs.Blocking.{IsNormal-prefix, IsNormal-suffix, width_bounded, last_of-append, joining-append, none_there, nothing_more}
 
 pub joined-append : {T : Type 0} (f : T → List (ℕ × ℕ)) (xs ys : List T) → joined f (xs ++ ys) ≡ joined f xs ++ joined f ys
@@ -50,11 +53,104 @@ ended_more {T} f xs i limit x normal lt is some le =
     let ends : last_of (joined f (take (i + 1) xs)) ≤ limit = omega (arith, ap last_of same ∙ last_of-append (joined f (take i xs)) (f x) some, le) in
     ends_by_last limit _ whole ends
 
--- what the search keeps: the runs before `low` have ended
-pub record IsSkipping (ended : List (ℕ × ℕ)) (limit low high len : ℕ) : Type 0 where
-  pub ordered : low ≤ high
-  pub within : high ≤ len
-  pub before : EndsBy limit ended
+ends_by-left : (limit : ℕ) (rs ss : List (ℕ × ℕ)) → EndsBy limit (rs ++ ss) → EndsBy limit rs
+ends_by-left limit [] ss e = tt
+ends_by-left limit (r ∷ rs) ss e = (e.0, ends_by-left limit rs ss e.1)
+
+ends_by-right : (limit : ℕ) (rs ss : List (ℕ × ℕ)) → EndsBy limit (rs ++ ss) → EndsBy limit ss
+ends_by-right limit [] ss e = e
+ends_by-right limit (r ∷ rs) ss e = ends_by-right limit rs ss e.1
+
+pub last_ended : (limit : ℕ) (rs : List (ℕ × ℕ)) → EndsBy limit rs → last_of rs ≤ limit
+last_ended limit [] e = omega arith
+last_ended limit (r ∷ []) e = e.0
+last_ended limit (r ∷ (s ∷ rs)) e = last_ended limit (s ∷ rs) e.1
+
+-- each run among the first that have ended ends by the limit
+ended_at : {T : Type 0} (f : T → List (ℕ × ℕ)) (xs : List T) (n k limit : ℕ) (d : T) → k < n → k < length xs → EndsBy limit (joined f (take n xs)) → last_of (f (get_or xs k d)) ≤ limit
+ended_at {T} f [] n k limit d lt inside e = absurd (omega arith)
+ended_at {T} f (x ∷ xs) zero k limit d lt inside e = absurd (omega arith)
+ended_at {T} f (x ∷ xs) (suc n) zero limit d lt inside e = last_ended limit (f x) (ends_by-left limit (f x) (joined f (take n xs)) e)
+ended_at {T} f (x ∷ xs) (suc n) (suc k) limit d lt inside e = ended_at f xs n k limit d (omega arith) (omega arith) (ends_by-right limit (f x) (joined f (take n xs)) e)
+
+-- what the search keeps: the runs before `low` have ended, and one up to `low + size` ends after
+-- the limit, if there are so many
+pub record IsSkipping {T : Type 0} (f : T → List (ℕ × ℕ)) (xs : List T) (limit low size : ℕ) : Type 0 where
+  pub within : low + size ≤ length xs
+  pub before : EndsBy limit (joined f (take low xs))
+  pub place : ℕ
+  pub near : place ≤ low + size
+  pub past : IsPastAt f xs limit place
+
+pub skip_start : {T : Type 0} (f : T → List (ℕ × ℕ)) (xs : List T) (limit : ℕ) → IsSkipping f xs limit 0 (length xs)
+skip_start {T} f xs limit = record { within = omega arith; before = tt; place = length xs; near = omega arith; past = λ run lt. absurd (omega (arith, lt)) }
+
+pub skip_right : {T : Type 0} (f : T → List (ℕ × ℕ)) (xs : List T) (limit low size : ℕ) (x : T) → IsNormal (joined f xs) → IsSkipping f xs limit low size → 1 < size → x ≡ get_or xs (low + size / 2) x → 0 < length (f x) → last_of (f x) ≤ limit → IsSkipping f xs limit (low + size / 2) (size - size / 2)
+skip_right {T} f xs limit low size x normal s more is some le =
+    let middle : ℕ = low + size / 2 in
+    let within = s.within in
+    let near = s.near in
+    let inside : middle < length xs = omega arith in
+    let ended = ended_more f xs middle limit x normal inside is some le in
+    record {
+      within = omega arith;
+      before = ends_by-left limit (joined f (take middle xs)) (f x) (subst (EndsBy limit) (joined_taken f xs middle x inside is) ended);
+      place = s.place;
+      near = omega arith;
+      past = s.past;
+    }
+
+pub past_here : {T : Type 0} (f : T → List (ℕ × ℕ)) (xs : List T) (limit i : ℕ) (x : T) → x ≡ get_or xs i x → limit < last_of (f x) → IsPastAt f xs limit i
+past_here {T} f xs limit i x is lt = λ run inside. let same : x ≡ get_or xs i run = is ∙ get_or_default xs i x run inside in omega (arith, lt, ap (λ (y : T). last_of (f y)) same)
+
+pub skip_left : {T : Type 0} (f : T → List (ℕ × ℕ)) (xs : List T) (limit low size : ℕ) (x : T) → IsSkipping f xs limit low size → 1 < size → x ≡ get_or xs (low + size / 2) x → limit < last_of (f x) → IsSkipping f xs limit low (size - size / 2)
+skip_left {T} f xs limit low size x s more is lt =
+    let within = s.within in
+    record {
+      within = omega arith;
+      before = s.before;
+      place = low + size / 2;
+      near = omega arith;
+      past = past_here f xs limit (low + size / 2) x is lt;
+    }
+
+-- where all runs before a place have ended, and one up to it ends after the limit, that is the one
+pub past_there : {T : Type 0} (f : T → List (ℕ × ℕ)) (xs : List T) (limit place n : ℕ) → EndsBy limit (joined f (take n xs)) → place ≤ n → IsPastAt f xs limit place → IsPastAt f xs limit n
+past_there {T} f xs limit place n ended near past = λ run inside. elim (cases_lt place n) [
+  | inl before ↦ absurd (let le = ended_at f xs n place limit run before (omega arith) ended in let gt = past run (omega arith) in omega arith)
+  | inr here ↦ let same : place ≡ n = omega arith in subst (λ (k : ℕ). IsPastAt f xs limit k) same past run inside
+]
+
+-- what a read at that place gives
+pub first_past_read : {T : Type 0} (f : T → List (ℕ × ℕ)) (xs : List T) (limit i : ℕ) (r : Option (Bor T)) → IsItemAt xs i r → EndsBy limit (joined f (take i xs)) → IsPastAt f xs limit i → MatchOption r (EndsBy limit (joined f xs)) (λ run. IsFirstPast limit (f run.now) (joined f xs))
+first_past_read {T} f xs limit i None item ended past = subst (λ (l : List T). EndsBy limit (joined f l)) (take_all i xs item.3) ended
+first_past_read {T} f xs limit i (Some run) item ended past = let inside = item.3.0 in let is : run.now ≡ get_or xs i run.now = item.1 in record {
+  gone = joined f (take i xs);
+  later = joined f (drop (i + 1) xs);
+  parts = joined-parts f xs i ∙ ap (λ (l : List (ℕ × ℕ)). joined f (take i xs) ++ l) (joined_left f xs i run.now inside is);
+  ended = ended;
+  past = omega (arith, past run.now inside, ap (λ (y : T). last_of (f y)) is);
+}
+
+-- the first in the first
+pub first_past_in : (limit : ℕ) (run middle whole : List (ℕ × ℕ)) → IsFirstPast limit middle whole → IsFirstPast limit run middle → IsFirstPast limit run whole
+first_past_in limit run middle whole outer inner = record {
+  gone = outer.gone ++ inner.gone;
+  later = inner.later ++ outer.later;
+  parts = outer.parts
+      ∙ ap (λ (l : List (ℕ × ℕ)). outer.gone ++ (l ++ outer.later)) inner.parts
+      ∙ ap (λ (l : List (ℕ × ℕ)). outer.gone ++ l) (append_assoc inner.gone (run ++ inner.later) outer.later ∙ ap (λ (l : List (ℕ × ℕ)). inner.gone ++ l) (append_assoc run inner.later outer.later))
+      ∙ sym (append_assoc outer.gone inner.gone (run ++ (inner.later ++ outer.later)));
+  ended = ends_by-append limit outer.gone inner.gone outer.ended inner.ended;
+  past = inner.past;
+}
+
+-- a run that ends after the limit has a range that does
+pub first_past_some : (limit : ℕ) (run whole : List (ℕ × ℕ)) → IsFirstPast limit run whole → EndsBy limit run → ⊥
+first_past_some limit run whole f ended = let le = last_ended limit run ended in let gt = f.past in omega arith
+
+pub first_past_normal : (limit : ℕ) (run whole : List (ℕ × ℕ)) → IsNormal whole → IsFirstPast limit run whole → IsNormal run
+first_past_normal limit run whole normal f = IsNormal-prefix run f.later (IsNormal-suffix f.gone (run ++ f.later) (subst IsNormal f.parts normal))
 
 pub overlap_of-append : (range : ℕ × ℕ) (rs ss : List (ℕ × ℕ)) → overlap_of range (rs ++ ss) ≡ overlap_of range rs + overlap_of range ss
 overlap_of-append range [] ss = omega arith
@@ -194,3 +290,41 @@ pass_block range rs rs' bs ns left m n p none q =
 pub pass_begun : (range : ℕ × ℕ) (s : List (ℕ × ℕ)) (block rs : List (ℕ × ℕ)) (bs bs' : List (List (ℕ × ℕ))) (ns : List (List (List (ℕ × ℕ)))) (m n : ℕ) → Passes range s (rest_of [] bs ns) m → rest_of [] bs ns ≡ block ++ rest_of [] bs' ns → Passes range (joined (λ (r : ℕ × ℕ). r ∷ []) block) (joined (λ (r : ℕ × ℕ). r ∷ []) rs) n → Passes range s (rest_of rs bs' ns) (m + n)
 pass_begun range s block rs bs bs' ns m n p e q =
     passes_more range s (rest_of block bs' ns) (rest_of rs bs' ns) m n (subst (λ (l : List (ℕ × ℕ)). Passes range s l m) e p) (pass_in_ranges range block rs bs' ns n q)
+
+-- ---- the first range that ends after a limit
+
+ranges_past : (limit : ℕ) (run rs : List (ℕ × ℕ)) → IsFirstPast limit run (joined (λ (r : ℕ × ℕ). r ∷ []) rs) → IsFirstPast limit run rs
+ranges_past limit run rs f = subst (λ (l : List (ℕ × ℕ)). IsFirstPast limit run l) (joined-ranges rs) f
+
+pub normal_ranges : (rs : List (ℕ × ℕ)) → IsNormal rs → IsNormal (joined (λ (r : ℕ × ℕ). r ∷ []) rs)
+normal_ranges rs normal = subst IsNormal (sym (joined-ranges rs)) normal
+
+read_there : (limit : ℕ) (rs : List (ℕ × ℕ)) (lent : Option (Bor (ℕ × ℕ))) → MatchOption lent (EndsBy limit (joined (λ (r : ℕ × ℕ). r ∷ []) rs)) (λ (x : Bor (ℕ × ℕ)). IsFirstPast limit (x.now ∷ []) (joined (λ (r : ℕ × ℕ). r ∷ []) rs)) → MatchOption (option_copied lent) (EndsBy limit rs) (λ (r : ℕ × ℕ). IsFirstPast limit (r ∷ []) rs)
+read_there limit rs None found = subst (EndsBy limit) (joined-ranges rs) found
+read_there limit rs (Some x) found = ranges_past limit (x.now ∷ []) rs found
+
+pub range_read : (limit : ℕ) (rs : List (ℕ × ℕ)) (lent : Option (Bor (ℕ × ℕ))) (range : Option (ℕ × ℕ)) → MatchOption lent (EndsBy limit (joined (λ (r : ℕ × ℕ). r ∷ []) rs)) (λ (x : Bor (ℕ × ℕ)). IsFirstPast limit (x.now ∷ []) (joined (λ (r : ℕ × ℕ). r ∷ []) rs)) → range ≡ option_copied lent → MatchOption range (EndsBy limit rs) (λ (r : ℕ × ℕ). IsFirstPast limit (r ∷ []) rs)
+range_read limit rs lent range found e =
+    subst (λ (r : Option (ℕ × ℕ)). MatchOption r (EndsBy limit rs) (λ (r : ℕ × ℕ). IsFirstPast limit (r ∷ []) rs)) (sym e) (read_there limit rs lent found)
+
+-- the node, of all nodes
+pub node_past : (limit : ℕ) (node : List (List (ℕ × ℕ))) (nodes : List (List (List (ℕ × ℕ)))) → IsFirstPast limit (joining node) (joined (λ (n : List (List (ℕ × ℕ))). joining n) nodes) → IsFirstPast limit (joining node) (joining (joining nodes))
+node_past limit node nodes f = subst (λ (l : List (ℕ × ℕ)). IsFirstPast limit (joining node) l) (joined-nodes nodes) f
+
+pub no_node_past : (limit : ℕ) (nodes : List (List (List (ℕ × ℕ)))) (range : Option (ℕ × ℕ)) → range ≡ None → EndsBy limit (joined (λ (n : List (List (ℕ × ℕ))). joining n) nodes) → MatchOption range (EndsBy limit (joining (joining nodes))) (λ (r : ℕ × ℕ). IsFirstPast limit (r ∷ []) (joining (joining nodes)))
+no_node_past limit nodes range none ended =
+    subst (λ (r : Option (ℕ × ℕ)). MatchOption r (EndsBy limit (joining (joining nodes))) (λ (r : ℕ × ℕ). IsFirstPast limit (r ∷ []) (joining (joining nodes)))) (sym none) (subst (EndsBy limit) (joined-nodes nodes) ended)
+
+-- and the block, of its blocks
+pub block_past : (limit : ℕ) (block : List (ℕ × ℕ)) (blocks node : List (List (ℕ × ℕ))) (nodes : List (List (List (ℕ × ℕ)))) → IsFirstPast limit (joining node) (joining (joining nodes)) → blocks ≡ node → IsFirstPast limit block (joined (λ (b : List (ℕ × ℕ)). b) blocks) → IsFirstPast limit block (joining (joining nodes))
+block_past limit block blocks node nodes outer same f =
+    first_past_in limit block (joining node) (joining (joining nodes)) outer (subst (λ (l : List (ℕ × ℕ)). IsFirstPast limit block l) (joined-blocks blocks ∙ ap joining same) f)
+
+pub no_block_past : (limit : ℕ) (blocks node : List (List (ℕ × ℕ))) (nodes : List (List (List (ℕ × ℕ)))) → IsFirstPast limit (joining node) (joining (joining nodes)) → blocks ≡ node → EndsBy limit (joined (λ (b : List (ℕ × ℕ)). b) blocks) → ⊥
+no_block_past limit blocks node nodes outer same ended =
+    first_past_some limit (joining node) (joining (joining nodes)) outer (subst (EndsBy limit) (joined-blocks blocks ∙ ap joining same) ended)
+
+-- and the range, of its ranges
+pub range_in_block_past : (limit : ℕ) (ranges block whole : List (ℕ × ℕ)) (range : Option (ℕ × ℕ)) → IsFirstPast limit block whole → ranges ≡ block → MatchOption range (EndsBy limit ranges) (λ (r : ℕ × ℕ). IsFirstPast limit (r ∷ []) ranges) → MatchOption range (EndsBy limit whole) (λ (r : ℕ × ℕ). IsFirstPast limit (r ∷ []) whole)
+range_in_block_past limit ranges block whole None outer same found = absurd (first_past_some limit block whole outer (subst (EndsBy limit) same found))
+range_in_block_past limit ranges block whole (Some r) outer same found = first_past_in limit (r ∷ []) block whole outer (subst (λ (l : List (ℕ × ℕ)). IsFirstPast limit (r ∷ []) l) same found)

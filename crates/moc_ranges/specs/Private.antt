@@ -6,3 +6,4 @@ pub mod Blocks
 pub mod Built
 pub mod Walks
 pub mod Gathered
+pub mod Few

@@ -10,6 +10,7 @@ ghost use Rattle.moc_ranges.specs.Cells.{cells_of, degrade, span};
 ghost use Rattle.moc_ranges.specs.Numbers.{numbers};
 ghost use Rattle.moc_ranges.specs.Blocks.{joining, AreBlocks, IsSearchOf};
 ghost use Rattle.moc_ranges.specs.Private.Blocks.{IsStored, rest_of};
+ghost use Rattle.moc_ranges.specs.Private.Walks.{IsNextRange, HasNoneFrom};
 
 use crate::block::{LONGEST, measure_ranges};
 use crate::cells::{orders_with_cells, push_cells_of_order};
@@ -21,8 +22,9 @@ use crate::intersection::intersect;
 use crate::list_builder::trimmed;
 use crate::node::{Node, measure_nodes, share_nodes};
 use crate::ranges::Ranges;
-use crate::search::first_past;
+use crate::search::{range_of_nodes_past, range_past};
 use crate::steps::{Steps, find_block, find_range};
+use crate::symmetric::differ_few;
 use crate::union::unite;
 use crate::walks::{are_same, count_both, holds_all, share_some};
 use moc_sphere::{Cell, Order};
@@ -80,7 +82,7 @@ impl Coverage {
     pub fn contains(&self, pixel: u64) -> bool
         ensures { result ≡ set.contains self.now pixel }
     {
-        match first_past(self.ranges(), pixel) {
+        match self.first_past(pixel) {
             Some((from, _)) => from <= pixel,
             None => false,
         }
@@ -224,6 +226,11 @@ impl Coverage {
     pub fn symmetric(&self, alloc: Global, other: &Coverage) -> Result<Coverage, Memory>
         ensures set { IfOk result (λ c. c ≡ symmetric self.now other.now) }
     {
+        if let Some(few) = self.ranges().few() {
+            if let Some(others) = other.ranges().few() {
+                return Ok(differ_few(alloc, few, others)?);
+            }
+        }
         let mine = self.difference(alloc, other)?;
         let theirs = other.difference(alloc, self)?;
         mine.union(alloc, &theirs)
@@ -283,7 +290,7 @@ impl Coverage {
         ensures found { IfSome result (λ p. (from ≤ p) × (p < pixel_count) × (set.contains self.now p ≡ true)) }
         ensures first { (q : ℕ) → from ≤ q → set.contains self.now q ≡ true → MatchOption result ⊥ (λ p. p ≤ q) }
     {
-        let (start, _) = first_past(self.ranges(), from)?;
+        let (start, _) = self.first_past(from)?;
         Some(start.max(from))
     }
 
@@ -315,13 +322,24 @@ impl Coverage {
         self.covers_range(from, to)
     }
 
+    /// The first range of the set that ends after the limit, if there is one.
+    #[inline]
+    fn first_past(&self, limit: u64) -> Option<(u64, u64)>
+        ensures { MatchOption result (HasNoneFrom limit self.now) (IsNextRange limit self.now) }
+    {
+        match &self.nodes[..] {
+            [] => range_past(&self.few, limit),
+            nodes => range_of_nodes_past(nodes, limit),
+        }
+    }
+
     /// Whether the set has a pixel from one up to, not including, another.
     fn meets_range(&self, from: u64, to: u64) -> bool
         requires rising { from < to }
         requires within { to ≤ pixel_count }
         ensures { result ≡ meets self.now (numbers from to) }
     {
-        match first_past(self.ranges(), from) {
+        match self.first_past(from) {
             Some((start, _)) => start < to,
             None => false,
         }
@@ -333,7 +351,7 @@ impl Coverage {
         requires within { to ≤ pixel_count }
         ensures { result ≡ set.is_subset (numbers from to) self.now }
     {
-        match first_past(self.ranges(), from) {
+        match self.first_past(from) {
             Some((start, end)) => start <= from && to <= end,
             None => false,
         }

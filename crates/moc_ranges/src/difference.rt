@@ -9,6 +9,7 @@ ghost use Rattle.moc_ranges.specs.Private.Built.{kept_of, IsBuilt, EndsBelow};
 
 use crate::carrying::next_carrying;
 use crate::coverage::Coverage;
+use crate::few::subtract_few;
 use crate::list_builder::ListBuilder;
 use crate::ranges::Ranges;
 use std::alloc::{AllocError, Global};
@@ -54,6 +55,11 @@ pub fn subtract(
     requires ys { IsNormal ys }
     ensures { IfOk result (λ c. c ≡ set.difference (set_of xs.entry) (set_of ys.entry)) }
 {
+    if let Some(few) = xs.few() {
+        if let Some(others) = ys.few() {
+            return subtract_few(alloc, few, others);
+        }
+    }
     let mut built = ListBuilder::new(alloc, xs.room() + ys.room())?;
     let mut second = ys.next();
     let mut first = next_carrying(alloc, &mut xs, start_of(second), &mut built)?;

@@ -9,6 +9,7 @@ ghost use Rattle.moc_ranges.specs.Private.Built.{kept_of, IsBuilt, EndsBelow, Ta
 
 use crate::carrying::next_carrying;
 use crate::coverage::Coverage;
+use crate::few::intersect_few;
 use crate::list_builder::ListBuilder;
 use crate::ranges::Ranges;
 use std::alloc::{AllocError, Global};
@@ -78,6 +79,11 @@ pub fn intersect(
     requires ys { IsNormal ys }
     ensures { IfOk result (λ c. c ≡ set.intersection (set_of xs.entry) (set_of ys.entry)) }
 {
+    if let Some(few) = xs.few() {
+        if let Some(others) = ys.few() {
+            return intersect_few(alloc, few, others);
+        }
+    }
     let mut built = ListBuilder::new(alloc, xs.room() + ys.room())?;
     let mut first = xs.next();
     let mut second = ys.next();

@@ -1,15 +1,15 @@
 //! Going on in a list of ranges, past those that end early or lie whole in a range.
-ghost use Rattle.std.specs.Prelude.{◌≡◌, ◌+◌, ◌<◌, ◌≤◌, List, ℕ, [], ◌∷◌, length, take};
+ghost use Rattle.std.specs.Prelude.{◌≡◌, ◌+◌, ◌<◌, ◌≤◌, List, ℕ, [], ◌∷◌, length, take, MatchOption};
 ghost use Rattle.moc_ranges.specs.RangeList.{IsNormal};
 ghost use Rattle.moc_ranges.specs.Private.Blocks.{joining, first_of, last_of, width_of, rest_of};
-ghost use Rattle.moc_ranges.specs.Private.Walks.{joined, EndsBy, Passes, Advances};
+ghost use Rattle.moc_ranges.specs.Private.Walks.{joined, EndsBy, Passes, Advances, IsPastAt, IsFirstPast};
 
 use crate::block::Block;
 use crate::node::Node;
 use crate::ranges::{Ahead, Begun, Ranges, begin_node};
 
 /// What has one or more ranges in rising order: a range, a block, a node.
-trait Run {
+pub(crate) trait Run {
     ghost ranges: { Self → List (ℕ × ℕ) };
 
     /// Where its first range begins.
@@ -96,18 +96,32 @@ fn count_ended<T: Run>(runs: &[T], limit: u64) -> usize
     requires { IsNormal (joined T.ranges runs.now) }
     ensures bound { result ≤ length runs.now }
     ensures ended { EndsBy limit (joined T.ranges (take result runs.now)) }
+    ensures past { IsPastAt T.ranges runs.now limit result }
 {
     let mut low = 0;
-    let mut high = runs.len();
-    while low < high {
-        let middle = low + (high - low) / 2;
-        if runs[middle].end() <= limit {
-            low = middle + 1;
-        } else {
-            high = middle;
+    let mut size = runs.len();
+    while size > 1 {
+        let half = size / 2;
+        if runs[low + half].end() <= limit {
+            low += half;
         }
+        size -= half;
+    }
+    if size > 0 && runs[low].end() <= limit {
+        low += 1;
     }
     low
+}
+
+/// The first of the runs that ends after a number, if there is one. O(log n).
+#[inline]
+pub(crate) fn first_past<T: Run>(runs: &[T], limit: u64) -> Option<&T>
+    requires { IsNormal (joined T.ranges runs.now) }
+    ensures { MatchOption result
+        (EndsBy limit (joined T.ranges runs.entry.now))
+        (λ run. IsFirstPast limit (T.ranges run.now) (joined T.ranges runs.entry.now)) }
+{
+    runs.get(count_ended(runs, limit))
 }
 
 /// How many pixels were passed, and the runs behind them.

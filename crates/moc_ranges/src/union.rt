@@ -7,6 +7,7 @@ ghost use Rattle.moc_ranges.specs.Private.Blocks.{next_of, rest_of};
 ghost use Rattle.moc_ranges.specs.Private.Built.{kept_of, IsBuilt, EndsBelow, CanJoin, TakesOver, IsTurn, IsOpen, IsJoining, TakesBoth};
 
 use crate::coverage::Coverage;
+use crate::few::unite_few;
 use crate::list_builder::{ListBuilder, lengthen};
 use crate::ranges::{Begun, Ranges};
 use std::alloc::{AllocError, Global};
@@ -203,6 +204,11 @@ pub fn unite(alloc: Global, mut xs: Ranges<'_>, mut ys: Ranges<'_>) -> Result<Co
     requires ys { IsNormal ys }
     ensures { IfOk result (λ c. c ≡ set.union (set_of xs.entry) (set_of ys.entry)) }
 {
+    if let Some(few) = xs.few() {
+        if let Some(others) = ys.few() {
+            return unite_few(alloc, few, others);
+        }
+    }
     let mut built = ListBuilder::new(alloc, xs.room() + ys.room())?;
     loop {
         join_both(alloc, &mut xs, &mut ys, &mut built)?;

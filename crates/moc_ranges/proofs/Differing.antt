@@ -1,0 +1,186 @@
+-- What just one of two lists of ranges has, range by range.
+use Rattle.std.proofs.Common.{◌≡◌, ℕ, ◌<◌, ◌≤◌, Bool, true, false, ◌||◌, ◌&&◌, List, [], ◌∷◌, ◌++◌, min, max, refl, sym, ap, subst, ◌∙◌, arith, inl, inr}
+use Rattle.std.specs.Prelude.{nat_le, nat_lt}
+use Rattle.std.proofs.lemmas.Bool.{cases_lt}
+use Rattle.std.proofs.lemmas.Bool.Decides.{nat_tests}
+use Rattle.moc_ranges.specs.Pixels.{pixel_count}
+use Rattle.moc_ranges.specs.Numbers.{same_members}
+use Rattle.moc_ranges.specs.Operations.{symmetric, contains-symmetric}
+use Rattle.moc_ranges.specs.RangeList.{IsNormal, BeginsAfter, in_range, in_ranges, set_of, contains-set_of}
+use Rattle.moc_ranges.specs.Private.Blocks.{next_of}
+use Rattle.moc_ranges.specs.Private.Built.{EndsBelow}
+use Rattle.moc_ranges.specs.Private.Few.{differs, IsParted}
+use Rattle.moc_ranges.proofs.Merging.{normal_append, ends_next, or_false, in_ranges-append, EndsBelow-append, EndsBelow-more}
+use Rattle.moc_ranges.proofs.Building.{pushed_normal}
+use Rattle.moc_ranges.proofs.Turning.{or_first}
+use Rattle.moc_ranges.proofs.Walking.{later_only}
+
+pub differs_view : (xs ys zs : List (ℕ × ℕ)) → ((q : ℕ) → in_ranges zs q ≡ differs (in_ranges xs q) (in_ranges ys q)) → set_of zs ≡ symmetric (set_of xs) (set_of ys)
+differs_view xs ys zs each = same_members _ _ (λ q.
+    contains-set_of zs q ∙ each q ∙ (λ i. differs (sym (contains-set_of xs q) i) (sym (contains-set_of ys q) i))
+    ∙ sym (contains-symmetric (set_of xs) (set_of ys) q))
+
+pub differs_swap : (a b : Bool) → differs a b ≡ differs b a
+differs_swap true true = refl
+differs_swap true false = refl
+differs_swap false true = refl
+differs_swap false false = refl
+
+-- a range that ends before the other begins
+apart_early : (a b c d q : ℕ) (xs ys : Bool) → b < c → q < b → xs ≡ false → ys ≡ false → differs ((nat_le a q && nat_lt q b) || xs) ((nat_le c q && nat_lt q d) || ys) ≡ ((nat_le a q && nat_lt q b) || differs xs ((nat_le c q && nat_lt q d) || ys))
+apart_early a b c d q xs ys bc lt no_xs no_ys = grind (arith, nat_tests)
+
+apart_late : (a b q : ℕ) (xs ys : Bool) → b ≤ q → differs ((nat_le a q && nat_lt q b) || xs) ys ≡ ((nat_le a q && nat_lt q b) || differs xs ys)
+apart_late a b q xs ys ge = grind (arith, nat_tests)
+
+-- a range that ends where the other begins
+touch_early : (a b c d q : ℕ) (xs ys : Bool) → b ≡ c → c < d → q < b → xs ≡ false → ys ≡ false → differs ((nat_le a q && nat_lt q b) || xs) ((nat_le c q && nat_lt q d) || ys) ≡ differs xs ((nat_le a q && nat_lt q d) || ys)
+touch_early a b c d q xs ys bc cd lt no_xs no_ys = grind (arith, nat_tests)
+
+touch_late : (a b c d q : ℕ) (xs ys : Bool) → a < b → b ≡ c → b ≤ q → differs ((nat_le a q && nat_lt q b) || xs) ((nat_le c q && nat_lt q d) || ys) ≡ differs xs ((nat_le a q && nat_lt q d) || ys)
+touch_late a b c d q xs ys ab bc ge = grind (arith, nat_tests)
+
+-- a range that ends within the other
+over_early : (a b c d from to q : ℕ) (xs ys : Bool) → a < b → c < b → b ≤ d → from ≡ min a c → to ≡ max a c → q < b → xs ≡ false → ys ≡ false → differs ((nat_le a q && nat_lt q b) || xs) ((nat_le c q && nat_lt q d) || ys) ≡ ((nat_le from q && nat_lt q to) || differs xs ((nat_le b q && nat_lt q d) || ys))
+over_early a b c d from to q xs ys ab cb bd f t lt no_xs no_ys = grind (arith, nat_tests)
+
+over_late : (a b c d from to q : ℕ) (xs ys : Bool) → a < b → c < b → from ≡ min a c → to ≡ max a c → b ≤ q → differs ((nat_le a q && nat_lt q b) || xs) ((nat_le c q && nat_lt q d) || ys) ≡ ((nat_le from q && nat_lt q to) || differs xs ((nat_le b q && nat_lt q d) || ys))
+over_late a b c d from to q xs ys ab cb f t ge = grind (arith, nat_tests)
+
+none_in : (b q : ℕ) (k : Bool) → ((nat_le b q && nat_lt q b) || k) ≡ k
+none_in b q k = grind (arith, nat_tests)
+
+-- what just one has, where the first range ends before the second's begins
+apart : (x y : ℕ × ℕ) (xs ys : List (ℕ × ℕ)) (q : ℕ) → IsNormal (x ∷ xs) → IsNormal (y ∷ ys) → x.1 < y.0 → differs (in_ranges (x ∷ xs) q) (in_ranges (y ∷ ys) q) ≡ (in_range x q || differs (in_ranges xs q) (in_ranges (y ∷ ys) q))
+apart x y xs ys q nx ny lt = elim (cases_lt q x.1) [
+  | inl low ↦ apart_early x.0 x.1 y.0 y.1 q (in_ranges xs q) (in_ranges ys q) lt low (later_only x.1 q xs nx.3 nx.2 (omega arith)) (later_only y.1 q ys ny.3 ny.2 (omega (arith, ny.0)))
+  | inr ge ↦ apart_late x.0 x.1 q (in_ranges xs q) (in_ranges (y ∷ ys) q) ge
+]
+
+touch : (x y : ℕ × ℕ) (xs ys : List (ℕ × ℕ)) (q : ℕ) → IsNormal (x ∷ xs) → IsNormal (y ∷ ys) → x.1 ≡ y.0 → differs (in_ranges (x ∷ xs) q) (in_ranges (y ∷ ys) q) ≡ differs (in_ranges xs q) (in_ranges ((x.0, y.1) ∷ ys) q)
+touch x y xs ys q nx ny at = elim (cases_lt q x.1) [
+  | inl low ↦ touch_early x.0 x.1 y.0 y.1 q (in_ranges xs q) (in_ranges ys q) at ny.0 low (later_only x.1 q xs nx.3 nx.2 (omega arith)) (later_only y.1 q ys ny.3 ny.2 (omega (arith, ny.0)))
+  | inr ge ↦ touch_late x.0 x.1 y.0 y.1 q (in_ranges xs q) (in_ranges ys q) nx.0 at ge
+]
+
+over : (x y : ℕ × ℕ) (xs ys : List (ℕ × ℕ)) (from to q : ℕ) → IsNormal (x ∷ xs) → IsNormal (y ∷ ys) → y.0 < x.1 → x.1 ≤ y.1 → from ≡ min x.0 y.0 → to ≡ max x.0 y.0 → differs (in_ranges (x ∷ xs) q) (in_ranges (y ∷ ys) q) ≡ (in_range (from, to) q || differs (in_ranges xs q) (in_ranges ((x.1, y.1) ∷ ys) q))
+over x y xs ys from to q nx ny reach ends f t = elim (cases_lt q x.1) [
+  | inl low ↦ over_early x.0 x.1 y.0 y.1 from to q (in_ranges xs q) (in_ranges ys q) nx.0 reach ends f t low (later_only x.1 q xs nx.3 nx.2 (omega arith)) (later_only y.1 q ys ny.3 ny.2 (omega arith))
+  | inr ge ↦ over_late x.0 x.1 y.0 y.1 from to q (in_ranges xs q) (in_ranges ys q) nx.0 reach f t ge
+]
+
+over_both : (x y : ℕ × ℕ) (xs ys : List (ℕ × ℕ)) (from to q : ℕ) → IsNormal (x ∷ xs) → IsNormal (y ∷ ys) → x.1 ≡ y.1 → from ≡ min x.0 y.0 → to ≡ max x.0 y.0 → differs (in_ranges (x ∷ xs) q) (in_ranges (y ∷ ys) q) ≡ (in_range (from, to) q || differs (in_ranges xs q) (in_ranges ys q))
+over_both x y xs ys from to q nx ny at f t =
+    over x y xs ys from to q nx ny (omega (arith, ny.0)) (omega arith) f t
+    ∙ ap (λ n. in_range (from, to) q || differs (in_ranges xs q) (in_ranges ((x.1, n) ∷ ys) q)) (sym at)
+    ∙ ap (λ b. in_range (from, to) q || differs (in_ranges xs q) b) (none_in x.1 q (in_ranges ys q))
+
+pub parted_apart : (x y : ℕ × ℕ) (kept kept' : List (ℕ × ℕ)) → IsNormal kept → x.0 < x.1 → y.0 < y.1 → x.1 ≤ pixel_count → EndsBelow (min x.0 y.0) kept → x.1 < y.0 → kept' ≡ kept ++ x ∷ [] → IsParted x y y kept kept'
+parted_apart x y kept kept' normal filled other within after lt is =
+    let first = EndsBelow-more (min x.0 y.0) x.0 kept after (omega arith) in
+    subst (λ (k : List (ℕ × ℕ)). IsParted x y y kept k) (sym is) (record {
+      normal = pushed_normal kept x normal filled within first;
+      end = refl;
+      filled = other;
+      below = λ f low. EndsBelow-append (min f y.0) kept (x ∷ []) (EndsBelow-more x.0 (min f y.0) kept first (omega arith)) (omega arith, tt);
+      same = λ xs ys q nx ny. ap (λ b. b || differs (in_ranges xs q) (in_ranges (y ∷ ys) q)) (in_ranges-append kept (x ∷ []) q ∙ ap (λ b. in_ranges kept q || b) (or_false (in_range x q)))
+          ∙ or_first (in_ranges kept q) (in_range x q) (differs (in_ranges xs q) (in_ranges (y ∷ ys) q))
+          ∙ ap (λ b. in_ranges kept q || b) (sym (apart x y xs ys q nx ny lt));
+    })
+
+pub parted_touch : (x y : ℕ × ℕ) (kept : List (ℕ × ℕ)) → IsNormal kept → x.0 < x.1 → x.1 < y.1 → EndsBelow (min x.0 y.0) kept → x.1 ≡ y.0 → IsParted x y (x.0, y.1) kept kept
+parted_touch x y kept normal filled ends after at = record {
+  normal = normal;
+  end = refl;
+  filled = omega arith;
+  below = λ f low. EndsBelow-more (min x.0 y.0) (min f x.0) kept after (omega arith);
+  same = λ xs ys q nx ny. ap (λ b. in_ranges kept q || b) (sym (touch x y xs ys q nx ny at));
+}
+
+pub parted_over : (x y : ℕ × ℕ) (from to : ℕ) (kept kept' : List (ℕ × ℕ)) → x.0 < x.1 → x.1 < y.1 → y.0 < x.1 → from ≡ min x.0 y.0 → to ≡ max x.0 y.0 → IsNormal kept' → ((f : ℕ) → from ≤ f → to < f → EndsBelow f kept') → ((q : ℕ) → in_ranges kept' q ≡ (in_ranges kept q || in_range (from, to) q)) → IsParted x y (x.1, y.1) kept kept'
+parted_over x y from to kept kept' filled ends reach f t normal below same = record {
+  normal = normal;
+  end = refl;
+  filled = ends;
+  below = λ g low. below (min g x.1) (omega arith) (omega arith);
+  same = λ xs ys q nx ny. ap (λ b. b || differs (in_ranges xs q) (in_ranges ((x.1, y.1) ∷ ys) q)) (same q)
+      ∙ or_first (in_ranges kept q) (in_range (from, to) q) (differs (in_ranges xs q) (in_ranges ((x.1, y.1) ∷ ys) q))
+      ∙ ap (λ b. in_ranges kept q || b) (sym (over x y xs ys from to q nx ny reach (omega arith) f t));
+}
+
+-- how far a symmetric difference of two slices has come
+pub record IsDiffering (kept xs ys whole_xs whole_ys : List (ℕ × ℕ)) : Type 0 where
+  pub normal : IsNormal kept
+  pub first_normal : IsNormal xs
+  pub second_normal : IsNormal ys
+  pub below : EndsBelow (min (next_of xs) (next_of ys)) kept
+  pub same : (q : ℕ) → (in_ranges kept q || differs (in_ranges xs q) (in_ranges ys q)) ≡ differs (in_ranges whole_xs q) (in_ranges whole_ys q)
+
+pub differing_start : (kept xs ys whole_xs whole_ys : List (ℕ × ℕ)) → kept ≡ [] → whole_xs ≡ xs → whole_ys ≡ ys → IsNormal whole_xs → IsNormal whole_ys → IsDiffering kept xs ys whole_xs whole_ys
+differing_start kept xs ys whole_xs whole_ys none ex ey nx ny = subst (λ (k : List (ℕ × ℕ)). IsDiffering k xs ys whole_xs whole_ys) (sym none) (record {
+  normal = tt;
+  first_normal = subst IsNormal ex nx;
+  second_normal = subst IsNormal ey ny;
+  below = tt;
+  same = λ q. sym (λ i. differs (in_ranges (ex i) q) (in_ranges (ey i) q));
+})
+
+pub differing_swap : (kept xs ys whole_xs whole_ys : List (ℕ × ℕ)) → IsDiffering kept xs ys whole_xs whole_ys → IsDiffering kept ys xs whole_ys whole_xs
+differing_swap kept xs ys whole_xs whole_ys s = record {
+  normal = s.normal;
+  first_normal = s.second_normal;
+  second_normal = s.first_normal;
+  below = EndsBelow-more (min (next_of xs) (next_of ys)) (min (next_of ys) (next_of xs)) kept s.below (omega arith);
+  same = λ q. ap (λ b. in_ranges kept q || b) (differs_swap (in_ranges ys q) (in_ranges xs q)) ∙ s.same q ∙ differs_swap (in_ranges whole_xs q) (in_ranges whole_ys q);
+}
+
+pub differing_at : (kept xs xs' ys ys' whole_xs whole_ys : List (ℕ × ℕ)) → IsDiffering kept xs ys whole_xs whole_ys → xs ≡ xs' → ys ≡ ys' → IsDiffering kept xs' ys' whole_xs whole_ys
+differing_at kept xs xs' ys ys' whole_xs whole_ys s ex ey =
+    subst (λ (l : List (ℕ × ℕ)). IsDiffering kept l ys' whole_xs whole_ys) ex (subst (λ (l : List (ℕ × ℕ)). IsDiffering kept xs l whole_xs whole_ys) ey s)
+
+-- the range that ends first was parted
+pub differing_parted : (kept kept' xs ys whole_xs whole_ys : List (ℕ × ℕ)) (x y z : ℕ × ℕ) → IsDiffering kept (x ∷ xs) (y ∷ ys) whole_xs whole_ys → IsParted x y z kept kept' → IsDiffering kept' xs (z ∷ ys) whole_xs whole_ys
+differing_parted kept kept' xs ys whole_xs whole_ys x y z s t =
+    let next : x.1 < next_of xs = (ends_next (x ∷ []) xs s.first_normal).0 in
+    record {
+      normal = t.normal;
+      first_normal = s.first_normal.3;
+      second_normal = (t.filled, omega (arith, t.end, s.second_normal.1), subst (λ n. BeginsAfter n ys) (sym t.end) s.second_normal.2, s.second_normal.3);
+      below = t.below (next_of xs) next;
+      same = λ q. t.same xs ys q s.first_normal s.second_normal ∙ s.same q;
+    }
+
+-- both ranges end at one place
+pub differing_both : (kept kept' xs ys whole_xs whole_ys : List (ℕ × ℕ)) (x y : ℕ × ℕ) (from to : ℕ) → IsDiffering kept (x ∷ xs) (y ∷ ys) whole_xs whole_ys → x.1 ≡ y.1 → from ≡ min x.0 y.0 → to ≡ max x.0 y.0 → IsNormal kept' → ((f : ℕ) → from ≤ f → to < f → EndsBelow f kept') → ((q : ℕ) → in_ranges kept' q ≡ (in_ranges kept q || in_range (from, to) q)) → IsDiffering kept' xs ys whole_xs whole_ys
+differing_both kept kept' xs ys whole_xs whole_ys x y from to s at f t normal below same =
+    let next : x.1 < next_of xs = (ends_next (x ∷ []) xs s.first_normal).0 in
+    let next_y : y.1 < next_of ys = (ends_next (y ∷ []) ys s.second_normal).0 in
+    let filled : x.0 < x.1 = s.first_normal.0 in
+    let filled_y : y.0 < y.1 = s.second_normal.0 in
+    record {
+      normal = normal;
+      first_normal = s.first_normal.3;
+      second_normal = s.second_normal.3;
+      below = below (min (next_of xs) (next_of ys)) (omega arith) (omega arith);
+      same = λ q. ap (λ b. b || differs (in_ranges xs q) (in_ranges ys q)) (same q)
+          ∙ or_first (in_ranges kept q) (in_range (from, to) q) (differs (in_ranges xs q) (in_ranges ys q))
+          ∙ ap (λ b. in_ranges kept q || b) (sym (over_both x y xs ys from to q s.first_normal s.second_normal at f t))
+          ∙ s.same q;
+    }
+
+-- the first slice has no more
+pub differed_normal : (kept xs ys whole_xs whole_ys : List (ℕ × ℕ)) → IsDiffering kept xs ys whole_xs whole_ys → xs ≡ [] → IsNormal (kept ++ ys)
+differed_normal kept xs ys whole_xs whole_ys s none =
+    normal_append kept ys s.normal s.second_normal (EndsBelow-more (min (next_of xs) (next_of ys)) (next_of ys) kept s.below (omega arith))
+
+differs_none : (b : Bool) → b ≡ differs false b
+differs_none true = refl
+differs_none false = refl
+
+pub differed : (kept xs ys whole_xs whole_ys : List (ℕ × ℕ)) → IsDiffering kept xs ys whole_xs whole_ys → xs ≡ [] → (q : ℕ) → in_ranges (kept ++ ys) q ≡ differs (in_ranges whole_xs q) (in_ranges whole_ys q)
+differed kept xs ys whole_xs whole_ys s none q =
+    in_ranges-append kept ys q ∙ ap (λ b. in_ranges kept q || b) (differs_none (in_ranges ys q))
+    ∙ ap (λ (l : List (ℕ × ℕ)). in_ranges kept q || differs (in_ranges l q) (in_ranges ys q)) (sym none) ∙ s.same q
+
+pub differ_first : (xs ys : List (ℕ × ℕ)) → xs ≡ [] → (q : ℕ) → in_ranges ys q ≡ differs (in_ranges xs q) (in_ranges ys q)
+differ_first xs ys none q = differs_none (in_ranges ys q) ∙ ap (λ (l : List (ℕ × ℕ)). differs (in_ranges l q) (in_ranges ys q)) (sym none)
