@@ -15,7 +15,6 @@ use Rattle.moc_ranges.specs.Private.Blocks.{joining, rest_of, IsStored}
 use Rattle.moc_ranges.specs.Private.Walks.{EndsBy, IsFirstPast, IsNextRange, HasNoneFrom}
 use Rattle.moc_ranges.proofs.Blocking.{IsNormal-suffix, nothing_more}
 use Rattle.moc_ranges.proofs.Merging.{in_ranges-append}
-use Rattle.moc_ranges.proofs.Passing.{ends_by-append}
 use Rattle.moc_ranges.proofs.Walking.{later_only}
 use Rattle.moc_ranges.proofs.Views.{and_no, none_in_part}
 
