@@ -281,13 +281,13 @@ fn combinations(rt: HostRuntime) {
     for (words, input, output) in [
         (
             ["combine", "union", "ascii"],
-            "0/0 1/4-5 ; 1/3-4 6-7 2/20 32",
-            "0/0-1 2/32\n",
+            "0/0 1/4-5 ; 1/3 2/32",
+            "0/0 1/4-5 2/32\n",
         ),
         (
             ["combine", "intersection", "ascii"],
-            "0/0 1/4-5;1/3-4 6-7 2/20 32",
-            "1/3-4 2/20\n",
+            "0/0 8/;1/3 4",
+            "1/3 8/\n",
         ),
         (
             ["combine", "difference", "ascii"],
@@ -296,12 +296,18 @@ fn combinations(rt: HostRuntime) {
         ),
         (
             ["combine", "symmetric", "ascii"],
-            "0/0-1 ; 0/1-2 ; 0/1",
+            "0/0-1;0/1-2;0/1",
             "0/0-2\n",
         ),
-        (["combine", "union", "ascii"], "2/0-3", "1/0 2/\n"),
         (["combine", "union", "ascii"], "", "\n"),
-        (["combine", "intersection", "ascii"], "0/0 8/;", "8/\n"),
+    ] {
+        expect(&rt, rt.alloc(), &words, input, 0, output, "");
+    }
+}
+
+#[test]
+fn combinations_in_other_forms(rt: HostRuntime) {
+    for (words, input, output) in [
         (["combine", "union", "uniq"], "4\n;\n6\n;5", "4\n5\n6\n"),
         (
             ["combine", "difference", "json"],
@@ -311,6 +317,10 @@ fn combinations(rt: HostRuntime) {
     ] {
         expect(&rt, rt.alloc(), &words, input, 0, output, "");
     }
+}
+
+#[test]
+fn refused_combinations(rt: HostRuntime) {
     for (words, input, told) in [
         (
             ["combine", "union", "ascii"],
