@@ -65,6 +65,12 @@ REFUSED = [
     (["describe", "ascii"], b"0/12", b"CellTooLarge"),
     (["describe", "json"], b"[1]", b"NotObject"),
     (["describe", "uniq"], b" " * (LIMIT + 1), b"TooLong"),
+    (["combine", "union", "ascii"], b"0/0 ; 0/12", b"CellTooLarge"),
+    (["combine", "difference", "ascii"], b"5/7-3 ; 0/12", b"Backwards"),
+    (["combine", "symmetric", "json"], b'{"0":[0]};', b"NotJson"),
+    (["combine", "intersection", "uniq"], b"4;5\n;3", b"NotUniq"),
+    (["combine", "union", "ascii"], b"0/0;" + b" " * (LIMIT + 1), b"TooLong"),
+    (["combine", "union", "ascii"], b" " * (LIMIT + 1) + b";0/12", b"TooLong"),
     (["check", "json"], b"[1]", b"NotObject"),
     (["check", "ascii"], b" " * (LIMIT + 1), b"TooLong"),
     (["check", "ascii"], b"0/0\n1/5 x7", b"BadByte\nbyte 8, line 2, byte 4 of it"),
@@ -99,6 +105,10 @@ WORKS = [
     (["convert", "uniq", "ascii"], b"16\n17\n\n18\n19", b"0/0\n"),
     (["check", "json"], b'{"0":[3],"2":[5]}', b"ok\n"),
     (["describe", "ascii"], b"1/0-3 2/20", FIGURES),
+    (["combine", "union", "ascii"], b"0/0 1/4-5;1/3-4 6-7 2/20 32", b"0/0-1 2/32\n"),
+    (["combine", "intersection", "uniq"], b"4\n;16\n5\n", b"16\n"),
+    (["combine", "difference", "json"], b'{"0":[0]};{"1":[3]};{"2":[]}', b'{"1":[0,1,2],"2":[]}\n'),
+    (["combine", "symmetric", "ascii"], b"0/0-1 ; 0/1-2 ; 0/1", b"0/0-2\n"),
 ]
 # What the program cannot take as words, and a part of what is told.
 MISTAKES = [
@@ -116,6 +126,9 @@ MISTAKES = [
     (["check"], b"FORM"),
     (["check", "fits"], b"fits"),
     (["describe", "ascii", "json"], b"json"),
+    (["combine", "ascii"], b"ascii"),
+    (["combine", "union"], b"FORM"),
+    (["combine", "minus", "ascii"], b"minus"),
 ]
 # What asks for help, and a part of it.
 HELP = [
@@ -138,6 +151,7 @@ HELP = [
     (["convert", "--help"], b"Converts a coverage on standard input from one text form to another"),
     (["check", "--help"], b"Tells whether standard input is a coverage, and else where it is at fault"),
     (["describe", "--help"], b"Prints the figures of a coverage on standard input"),
+    (["combine", "--help"], b"Combines coverages on standard input by an operation of sets"),
 ]
 
 
@@ -199,6 +213,11 @@ def limits_are_kept(tally):
     """Inputs and lines that are as long as they may be, and numbers of many digits."""
     seen = outcome(["convert", "ascii", "ascii"], b" " * LIMIT)
     tally.add("the longest input", seen == (0, b"\n", b""), seen)
+    longest = b" " * (LIMIT - 3)
+    seen = outcome(["combine", "union", "ascii"], longest + b"0/1;" + longest + b"0/0;0/2")
+    tally.add("two of the longest texts", seen == (0, b"0/0-2\n", b""), seen)
+    seen = outcome(["combine", "symmetric", "ascii"], b";" * LONGEST_LINE + b"0/3")
+    tally.add("a million empty texts", seen == (0, b"0/3\n", b""), seen)
     seen = outcome(["run"], b" " * LONGEST_LINE + b"\nread")
     tally.add("the longest line", seen == (0, b"cover\n", b""), seen)
     lines = b"near 0 " + NINES + b"\nnear " + NINES + b" 0\nadd 0/" + NINES + b"\nadd " + NINES + b"/0\n"
@@ -211,12 +230,13 @@ def devices_fail(tally):
     """A full device as output, a folder as input, and fault outputs that fail."""
     for words, given in [(["run"], SCRIPT), (["play"], SCHEDULE), (["crew", "2"], CREW),
                          (["convert", "ascii", "json"], b"2/0-3"), (["check", "ascii"], b"2/0-3"),
-                         (["describe", "ascii"], b"2/0-3"), (["ring", "1", "18"], b""), (["--help"], b"")]:
+                         (["describe", "ascii"], b"2/0-3"), (["combine", "union", "ascii"], b"2/0-3;0/1"),
+                         (["ring", "1", "18"], b""), (["--help"], b"")]:
         with open("/dev/full", "wb") as full:
             seen = outcome(words, given, stdout=full)
         tally.add(f"{words} on a full device", seen == (3, None, b"fault Write\n"), seen)
     for words in [["run"], ["play"], ["crew", "2"], ["convert", "ascii", "json"], ["check", "ascii"],
-                  ["describe", "ascii"]]:
+                  ["describe", "ascii"], ["combine", "union", "ascii"]]:
         folder = os.open(TOP, os.O_RDONLY)
         seen = outcome(words, stdin=folder)
         os.close(folder)

@@ -31,6 +31,17 @@ IsFormParser parser =
 abbrev pub form_rule : ValueParser → Text → Rule
 form_rule parser name = record (new_rule name) { required = true; parser = Some parser }
 
+-- a parser that takes the words of the operations, and no other
+abbrev pub IsOperationParser : ValueParser → Type 0
+IsOperationParser parser =
+    (words : Bor (List (Bor (List ℕ)))) × (parser ≡ Names words)
+    × (map (λ word. word.now) words.now
+    ≡ codes "union" ∷ codes "intersection" ∷ codes "difference" ∷ codes "symmetric" ∷ [])
+
+-- a required operation
+abbrev pub operation_rule : ValueParser → Rule
+operation_rule parser = record (new_rule (codes "OP")) { required = true; parser = Some parser }
+
 -- the word `convert FROM TO`
 abbrev pub convert_app : ValueParser → ValueParser → App
 convert_app from to =
@@ -39,6 +50,11 @@ convert_app from to =
 -- a word with a text form
 abbrev pub form_app : Text → ValueParser → App
 form_app word parser = with_rule (new_app word) (form_rule parser (codes "FORM"))
+
+-- the word `combine OP FORM`
+abbrev pub combine_app : ValueParser → ValueParser → App
+combine_app operation form =
+    with_rule (with_rule (new_app (codes "combine")) (operation_rule operation)) (form_rule form (codes "FORM"))
 
 -- its first word is no program's name
 abbrev pub without_name : App → App
@@ -69,26 +85,31 @@ numbered_app =
     let with_near = with_subcommand with_uniq (numbers_app (codes "near") (codes "CELL")).top in
     with_subcommand with_near (with_rule (new_app (codes "cell")) (number_rule (codes "UNIQ"))).top
 
--- the parsers of the text forms of the command line
+-- the parsers of the text forms and of the operation of the command line
 pub record Forms : Type 0 where
   pub from : ValueParser
   pub to : ValueParser
   pub check : ValueParser
   pub describe : ValueParser
+  pub operation : ValueParser
+  pub combine : ValueParser
 
--- these words, and `convert FROM TO`, `check FORM` and `describe FORM`
+-- these words, and `convert FROM TO`, `check FORM`, `describe FORM` and `combine OP FORM`
 unfoldable pub moc_app : Forms → App
 moc_app forms =
     let with_convert = with_subcommand numbered_app (convert_app forms.from forms.to).top in
     let with_check = with_subcommand with_convert (form_app (codes "check") forms.check).top in
-    with_subcommand with_check (form_app (codes "describe") forms.describe).top
+    let with_describe = with_subcommand with_check (form_app (codes "describe") forms.describe).top in
+    with_subcommand with_describe (combine_app forms.operation forms.combine).top
 
--- each takes the words of the text forms
+-- each takes the words of the text forms, and one those of the operations
 pub record AreFormParsers (forms : Forms) : Type 0 where
   pub from : IsFormParser forms.from
   pub to : IsFormParser forms.to
   pub check : IsFormParser forms.check
   pub describe : IsFormParser forms.describe
+  pub operation : IsOperationParser forms.operation
+  pub combine : IsFormParser forms.combine
 
 -- the command line of the program
 pub record IsCommandLine (app : App) : Type 0 where

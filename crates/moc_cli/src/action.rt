@@ -2,7 +2,7 @@
 use clap::ArgMatches;
 use moc_script::Lanes;
 use moc_sphere::Order;
-use moc_words::Form;
+use moc_words::{Form, Operation};
 
 /// What the words ask for.
 #[derive(Clone, Copy, Debug, PartialEq, Eq)]
@@ -21,6 +21,8 @@ pub enum Action {
     Check(Form),
     /// Tell the figures of a coverage.
     Describe(Form),
+    /// Combine coverages.
+    Combine(Operation, Form),
 }
 
 /// A number to convert.
@@ -54,6 +56,7 @@ impl Action {
             "convert" => Some(Action::Convert(form(values, "FROM")?, form(values, "TO")?)),
             "check" => Some(Action::Check(form(values, "FORM")?)),
             "describe" => Some(Action::Describe(form(values, "FORM")?)),
+            "combine" => Some(Action::Combine(operation(values)?, form(values, "FORM")?)),
             _ => None,
         }
     }
@@ -61,6 +64,10 @@ impl Action {
 
 fn form(values: &ArgMatches<'_>, id: &str) -> Option<Form> {
     Form::named(values.get_str(id)?)
+}
+
+fn operation(values: &ArgMatches<'_>) -> Option<Operation> {
+    Operation::named(values.get_str("OP")?)
 }
 
 fn lanes(values: &ArgMatches<'_>) -> Option<Lanes> {

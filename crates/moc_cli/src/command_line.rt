@@ -2,7 +2,7 @@
 ghost use Rattle.std.specs.Prelude.{◌≡◌, IfOk, false};
 ghost use Rattle.clap.specs.Words.{app_of, rule_of};
 ghost use Rattle.clap.specs.declared.builder.command.Command.TheViews.{out-Command as fields_of};
-ghost use Rattle.moc_cli.specs.CommandLine.{IsCommandLine, IsFormParser, form_rule, lanes_rule, form_app, number_rule, numbered_app, numbers_app, order_rule, lines_app};
+ghost use Rattle.moc_cli.specs.CommandLine.{IsCommandLine, IsFormParser, IsOperationParser, form_rule, lanes_rule, form_app, number_rule, operation_rule, numbered_app, numbers_app, order_rule, lines_app};
 
 use clap::{Arg, Command, value_parser};
 use std::alloc::{AllocError, Global};
@@ -107,6 +107,20 @@ prints
   order 0 1
   order 2 1";
 
+/// What `moc combine --help` says below the usage.
+const COMBINATION: &str = "\
+The input is one text or more, parted by `;` and taken from the left; each has at most 16,777,216 bytes. Prints the
+result, with the deepest order that one of them names.
+  union         the pixels that any text has
+  intersection  the pixels that all texts have
+  difference    the pixels that the first text has and the others lack
+  symmetric     the pixels that an odd number of texts has
+
+Example:
+  echo '0/0 1/4-5 ; 1/3-4 2/20 32' | moc combine intersection ascii
+prints
+  1/3-4 2/20";
+
 /// What help says of a nested number.
 const NESTED: &str = "Number of the cell in the nested scheme, below 12 times 4^ORDER";
 
@@ -118,6 +132,9 @@ const UNIQ: &str = "NUNIQ number of the cell, which is 4^(ORDER+1) + CELL";
 
 /// The words of the text forms.
 static FORMS: [&str; 3] = ["ascii", "json", "uniq"];
+
+/// The words of the operations.
+static OPERATIONS: [&str; 4] = ["union", "intersection", "difference", "symmetric"];
 
 /// The words that the program knows.
 pub fn command_line<'a>(alloc: Global) -> Result<Command<'a>, AllocError>
@@ -133,10 +150,16 @@ pub fn command_line<'a>(alloc: Global) -> Result<Command<'a>, AllocError>
     let describe = of_form(alloc, "describe")?
         .about("Prints the figures of a coverage on standard input")
         .after_help(FIGURES);
+    let combine = Command::new(alloc, "combine")
+        .about("Combines coverages on standard input by an operation of sets")
+        .after_help(COMBINATION)
+        .arg(operation(alloc))?
+        .arg(form(alloc, "FORM"))?;
     numbered(alloc)?
         .subcommand(convert)?
         .subcommand(check)?
-        .subcommand(describe)
+        .subcommand(describe)?
+        .subcommand(combine)
 }
 
 /// The program, the words that answer lines, and those that convert numbers.
@@ -246,6 +269,16 @@ fn number<'a>(alloc: Global, name: &'a str, help: &'a str) -> Arg<'a>
         .help(help)
         .required(true)
         .value_parser(value_parser!(u64))
+}
+
+/// A required operation.
+fn operation<'a>(alloc: Global) -> Arg<'a>
+    ensures rule { (parser : _) × IsOperationParser parser × (rule_of result ≡ operation_rule parser) }
+    ensures local { result.global ≡ false }
+{
+    Arg::new(alloc, "OP")
+        .required(true)
+        .value_parser(OPERATIONS.as_slice())
 }
 
 /// A required text form.

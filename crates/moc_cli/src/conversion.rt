@@ -18,14 +18,18 @@ pub const INPUT_LIMIT: usize = 16_777_216;
 const PIECE: usize = 65_536;
 
 /// Room for one piece.
-fn room(alloc: Global) -> Result<Vec<u8>, AllocError>
+pub fn room(alloc: Global) -> Result<Vec<u8>, AllocError>
     ensures { IfOk result (λ v. 0 < length v.items) }
 {
     vec![in alloc; 0u8; PIECE]
 }
 
 /// Reads one more piece behind the text, and answers whether there was one.
-fn read_piece<R: Source>(input: &mut R, room: &mut [u8], text: &mut Vec<u8>) -> Result<bool, Fault>
+pub fn read_piece<R: Source>(
+    input: &mut R,
+    room: &mut [u8],
+    text: &mut Vec<u8>,
+) -> Result<bool, Fault>
     requires room { 0 < length room.old }
     requires input { R.mark input.old ≡ false }
     ensures read { IsErrOf result Fault.Read ↔ IsTrue (R.mark input.new) }
@@ -58,7 +62,7 @@ fn read_whole<R: Source>(alloc: Global, input: &mut R) -> Result<Vec<u8>, Fault>
 }
 
 /// What a text in a form says.
-fn said(alloc: Global, form: Form, text: &[u8]) -> Result<(Coverage, Option<Order>), Fault>
+pub fn said(alloc: Global, form: Form, text: &[u8]) -> Result<(Coverage, Option<Order>), Fault>
     ensures device { result ≢ Err Fault.Read }
     ensures says { IfOk result (λ r. FormSays form text.now r.0 r.1) }
 {
@@ -66,7 +70,7 @@ fn said(alloc: Global, form: Form, text: &[u8]) -> Result<(Coverage, Option<Orde
 }
 
 /// The text of a set in a form.
-fn text_of(
+pub fn text_of(
     alloc: Global,
     form: Form,
     set: &Coverage,

@@ -8,6 +8,7 @@ ghost use Rattle.moc_cli.specs.Outcomes.{AreMistaken, AreRefused, IsMistake};
 ghost use Rattle.moc_cli.specs.Statuses.{IsDeviceFault, end_of};
 
 use crate::action::{Action, Number};
+use crate::combination::combined;
 use crate::command_line::command_line;
 use crate::conversion::{checked, converted, described};
 use crate::status::{Complaint, Fault, Status};
@@ -147,6 +148,9 @@ fn act<T: Threads + Wait + Sync, R: Source, W: Sink>(
             printed("ok\n", output)
         }
         Some(Action::Describe(form)) => printed(described(alloc, form, input)?.as_str(), output),
+        Some(Action::Combine(operation, form)) => {
+            printed(combined(alloc, operation, form, input)?.as_str(), output)
+        }
         // `clap` requires the word and its values, so none is missing.
         None => Err(Complaint::from(Fault::Memory)),
     }

@@ -2,6 +2,7 @@
 #![tactic(auto)]
 
 mod action;
+mod combination;
 mod command_line;
 mod conversion;
 mod dispatch;

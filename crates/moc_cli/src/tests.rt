@@ -276,6 +276,73 @@ fn figures(rt: HostRuntime) {
     );
 }
 
+#[test]
+fn combinations(rt: HostRuntime) {
+    for (words, input, output) in [
+        (
+            ["combine", "union", "ascii"],
+            "0/0 1/4-5 ; 1/3 2/32",
+            "0/0 1/4-5 2/32\n",
+        ),
+        (
+            ["combine", "intersection", "ascii"],
+            "0/0 8/;1/3 4",
+            "1/3 8/\n",
+        ),
+        (
+            ["combine", "difference", "ascii"],
+            "0/0-2 ; 0/0 ; 0/2",
+            "0/1\n",
+        ),
+        (
+            ["combine", "symmetric", "ascii"],
+            "0/0-1;0/1-2;0/1",
+            "0/0-2\n",
+        ),
+        (["combine", "union", "ascii"], "", "\n"),
+    ] {
+        expect(&rt, rt.alloc(), &words, input, 0, output, "");
+    }
+}
+
+#[test]
+fn combinations_in_other_forms(rt: HostRuntime) {
+    for (words, input, output) in [
+        (["combine", "union", "uniq"], "4\n;\n6\n;5", "4\n5\n6\n"),
+        (
+            ["combine", "difference", "json"],
+            "{\"0\":[0]};{\"1\":[3]}",
+            "{\"1\":[0,1,2]}\n",
+        ),
+    ] {
+        expect(&rt, rt.alloc(), &words, input, 0, output, "");
+    }
+}
+
+#[test]
+fn refused_combinations(rt: HostRuntime) {
+    for (words, input, told) in [
+        (
+            ["combine", "union", "ascii"],
+            "0/0 ; 0/12",
+            "fault CellTooLarge\n",
+        ),
+        (
+            ["combine", "union", "ascii"],
+            "5/7-3 ; 0/12",
+            "fault Backwards\n",
+        ),
+        (
+            ["combine", "union", "json"],
+            "{\"0\":[0]};",
+            "fault NotJson\n",
+        ),
+        (["combine", "union", "uniq"], "4\n;5;3", "fault NotUniq\n"),
+    ] {
+        expect(&rt, rt.alloc(), &words, input, 1, "", told);
+    }
+}
+
 /// A reader that fails.
 #[derive(Drop)]
 struct Broken {
@@ -308,6 +375,7 @@ fn failing_input(rt: HostRuntime) {
         ["convert", "ascii", "json"].as_slice(),
         ["check", "ascii"].as_slice(),
         ["describe", "uniq"].as_slice(),
+        ["combine", "union", "uniq"].as_slice(),
     ] {
         let mut written = Vec::new(rt.alloc());
         let mut told = Vec::new(rt.alloc());
@@ -341,6 +409,9 @@ fn help_and_mistakes(rt: HostRuntime) {
         (["crew", "65"].as_slice(), 2),
         (["check"].as_slice(), 2),
         (["describe", "fits"].as_slice(), 2),
+        (["combine", "union"].as_slice(), 2),
+        (["combine", "minus", "ascii"].as_slice(), 2),
+        (["combine", "--help"].as_slice(), 0),
     ] {
         let mut written = Vec::new(rt.alloc());
         let mut told = Vec::new(rt.alloc());

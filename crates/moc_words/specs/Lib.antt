@@ -1,3 +1,4 @@
+pub mod Combining
 pub mod Describing
 pub mod Forms
 pub mod Places

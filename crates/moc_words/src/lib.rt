@@ -1,8 +1,9 @@
-//! What can be said of a coverage in any of its text forms: whether a text is one and else where it is at fault, and
-//! what a set of pixels is like in figures.
+//! What can be said of coverages in any of their text forms: whether a text is one and else where it is at fault, what
+//! several say together, and what a set of pixels is like in figures.
 #![tactic(auto)]
 
 mod checking;
+mod combining;
 mod figures;
 mod form;
 mod place;
@@ -11,6 +12,7 @@ mod tests;
 mod texts;
 
 pub use checking::{Refusal, check};
+pub use combining::Operation;
 pub use figures::describe;
 pub use form::{Form, FormError};
 pub use place::Place;

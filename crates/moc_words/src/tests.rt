@@ -1,5 +1,5 @@
 //! What is told of texts. Expected lines are worked out by hand from the texts.
-use crate::{Form, FormError, Place, check, describe};
+use crate::{Form, FormError, Operation, Place, check, describe};
 use moc_sphere::Order;
 use moc_text::{JsonError, TextError, UniqError};
 use std::alloc::Global;
@@ -149,5 +149,42 @@ fn figures_of_sets(rt: HostRuntime) -> Result<(), Fail> {
     let lines =
         "deepest none\npixels 288230376151711744\nshare 0.083333333333\nranges 1\ncells 1\norder 0 1\n";
     assert_eq!(&rt; seen.as_str(), lines);
+    Ok(())
+}
+
+/// The text of two texts that are joined by an operation.
+fn joined(alloc: Global, operation: &str, first: &str, second: &str) -> Result<String, Fail> {
+    let Some(operation) = Operation::named(operation) else {
+        return Ok(String::new(alloc));
+    };
+    let (set, deepest) = Form::Ascii.read(alloc, first.as_bytes())?;
+    let before = operation.join(alloc, None, set, deepest)?;
+    let (set, deepest) = Form::Ascii.read(alloc, second.as_bytes())?;
+    let (set, deepest) = operation.join(alloc, Some(before), set, deepest)?;
+    Ok(Form::Ascii.write(alloc, &set, deepest)?)
+}
+
+#[test]
+fn operations(rt: HostRuntime) -> Result<(), Fail> {
+    let alloc = rt.alloc();
+    for (operation, text) in [
+        ("union", "0/0-1 2/32\n"),
+        ("intersection", "1/3-4 2/20\n"),
+        ("difference", "1/0-2 2/21-23\n"),
+        ("symmetric", "1/0-2 6-7 2/21-23 32\n"),
+        ("minus", ""),
+    ] {
+        let seen = joined(alloc, operation, "0/0 1/4-5", "1/3-4 6-7 2/20 32")?;
+        assert_eq!(&rt; seen.as_str(), text, "{operation}");
+    }
+    for (first, second, text) in [
+        ("", "", "\n"),
+        ("5/", "", "5/\n"),
+        ("", "5/", "5/\n"),
+        ("7/", "5/", "7/\n"),
+    ] {
+        let seen = joined(alloc, "union", first, second)?;
+        assert_eq!(&rt; seen.as_str(), text, "{first} and {second}");
+    }
     Ok(())
 }

@@ -5,7 +5,7 @@ use Rattle.clap.specs.Simple.{app_of_fields}
 use Rattle.clap.specs.declared.builder.command.Command.{Command}
 use Rattle.clap.specs.declared.builder.command.Command.TheOpen.{Command-F}
 use Rattle.clap.specs.declared.builder.command.Command.TheViews.{out-Command as fields_of}
-use Rattle.moc_cli.specs.CommandLine.{convert_app, form_app, moc_app, numbered_app}
+use Rattle.moc_cli.specs.CommandLine.{combine_app, convert_app, form_app, moc_app, numbered_app}
 use Rattle.moc_cli.proofs.command_line.command_line.Goals as goal
 
 abbrev top_of : App → Shape
@@ -30,8 +30,15 @@ returns c =
     let described = c.in_ok-of_form-2.ensures.app in
     let describe : app_of c.after_help-describe.result ≡ form_app (codes "describe") described.0 = ap app_of_fields c.after_help-describe.ensures ∙ ap app_of_fields c.about-3.ensures ∙ described.2 in
     let describe_local = ap has_globals c.after_help-describe.ensures ∙ ap has_globals c.about-3.ensures ∙ c.in_ok-of_form-2.ensures.local in
-    IfOk-weaker c.subcommand-3.result _ _ (λ r h. record {
-      forms = record { from = from.0; to = to.0; check = checked.0; describe = described.0 };
-      are_forms = record { from = from.1; to = to.1; check = checked.1; describe = described.1 };
-      is = h.shape describe_local ∙ ap₂ with_subcommand with_check (ap top_of describe);
-    }) c.subcommand-3.ensures
+    let with_describe = c.in_ok-subcommand-3.ensures.shape describe_local ∙ ap₂ with_subcommand with_check (ap top_of describe) in
+    let op = c.operation.ensures.rule in
+    let of = c.form-3.ensures.rule in
+    let combine : app_of c.in_ok-combine.combine ≡ combine_app op.0 of.0 =
+    c.in_ok-combine.ensures.shape c.form-3.ensures.local ∙ ap₂ with_rule (c.in_ok-arg-2.ensures.shape c.operation.ensures.local ∙ ap₂ with_rule (ap app_of_fields c.after_help.ensures ∙ ap app_of_fields c.about-4.ensures ∙ c.new-2.ensures.app) op.2) of.2 in
+    let combine_local : (fields_of c.in_ok-combine.combine).has_globals ≡ false =
+    c.in_ok-combine.ensures.globals ∙ ap₂ (λ a b. a || b) (c.in_ok-arg-2.ensures.globals ∙ ap₂ (λ a b. a || b) (ap has_globals c.after_help.ensures ∙ ap has_globals c.about-4.ensures ∙ c.new-2.ensures.local) c.operation.ensures.local) c.form-3.ensures.local in
+    IfOk-weaker c.subcommand-4.result _ _ (λ r h. record {
+      forms = record { from = from.0; to = to.0; check = checked.0; describe = described.0; operation = op.0; combine = of.0 };
+      are_forms = record { from = from.1; to = to.1; check = checked.1; describe = described.1; operation = op.1; combine = of.1 };
+      is = h.shape combine_local ∙ ap₂ with_subcommand with_describe (ap top_of combine);
+    }) c.subcommand-4.ensures
