@@ -8,6 +8,9 @@ use crate::block::Block;
 use crate::node::Node;
 use crate::ranges::{Ahead, Begun, Ranges, begin_node};
 
+/// How many ranges are gone over one by one before a search.
+const NEAR: usize = 3;
+
 /// What has one or more ranges in rising order: a range, a block, a node.
 pub(crate) trait Run {
     ghost ranges: { Self → List (ℕ × ℕ) };
@@ -278,15 +281,25 @@ pub(crate) struct Advance {
 }
 
 impl<'a> Ranges<'a> {
-    /// The next range, in a block that is begun. Where none is, it is the next one behind those
-    /// that `pass` leaves out.
+    /// Whether one of the next few ranges of the block that is begun ends after the limit: to go on
+    /// one by one then costs less than a search.
+    #[inline]
+    fn is_near(&self, limit: u64) -> bool {
+        match self.begun().ranges.get(NEAR) {
+            Some(range) => limit < range.1,
+            None => self.is_in_block(),
+        }
+    }
+
+    /// The next range in the block that is begun, where one near it ends after the beginning of the
+    /// range given. Else it is the next one behind those that `pass` leaves out.
     #[inline]
     pub(crate) fn advance(&mut self, range: (u64, u64)) -> Advance
         requires { range.0 ≤ range.1 }
         ensures { Advances range self.old self.new result.next result.common }
     {
         let mut common = 0;
-        if !self.is_in_block() {
+        if !self.is_near(range.0) {
             common = self.pass(range);
         }
         Advance {
@@ -295,7 +308,7 @@ impl<'a> Ranges<'a> {
         }
     }
 
-    /// The next range, in a block that is begun. Where none is, it is the next one that ends after
+    /// The same as `advance` to where a range without pixels begins: a range behind some that end by
     /// the limit.
     #[inline]
     pub(crate) fn next_past(&mut self, limit: u64) -> Option<(u64, u64)>
