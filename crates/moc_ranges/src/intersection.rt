@@ -44,7 +44,7 @@ fn push_common(
 
 /// The next range behind one that ended at `end`, where the other list has come to a range. Those that
 /// end before that are left out, and nodes and blocks that lie in it are carried over.
-#[inline]
+#[inline(always)]
 fn next_meeting(
     alloc: Global,
     xs: &mut Ranges<'_>,

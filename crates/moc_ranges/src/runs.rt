@@ -283,7 +283,7 @@ pub(crate) struct Advance {
 impl<'a> Ranges<'a> {
     /// Whether one of the next few ranges of the block that is begun ends after the limit: to go on
     /// one by one then costs less than a search.
-    #[inline]
+    #[inline(always)]
     fn is_near(&self, limit: u64) -> bool {
         match self.begun().ranges.get(NEAR) {
             Some(range) => limit < range.1,
@@ -293,7 +293,7 @@ impl<'a> Ranges<'a> {
 
     /// The next range in the block that is begun, where one near it ends after the beginning of the
     /// range given. Else it is the next one behind those that `pass` leaves out.
-    #[inline]
+    #[inline(always)]
     pub(crate) fn advance(&mut self, range: (u64, u64)) -> Advance
         requires { range.0 ≤ range.1 }
         ensures { Advances range self.old self.new result.next result.common }
@@ -310,7 +310,7 @@ impl<'a> Ranges<'a> {
 
     /// The same as `advance` to where a range without pixels begins: a range behind some that end by
     /// the limit.
-    #[inline]
+    #[inline(always)]
     pub(crate) fn next_past(&mut self, limit: u64) -> Option<(u64, u64)>
         ensures { ((n : ℕ) × Advances (limit, limit) self.old self.new result n) }
     {
