@@ -40,8 +40,36 @@ CLAIMED = [b"claimed\nfault UnknownWord\ntaken 72057594037927936\ncover 0/4\n",
 CALLS = [b"new", b"try_apply of an update", b"try_apply of a query", b"apply of an update", b"apply of a query",
          b"finish of an update", b"finish of a query", b"answer", b"close"]
 FIGURES = b"deepest 2\npixels 306244774661193728\nshare 0.088541666666\nranges 2\ncells 2\norder 0 1\norder 2 1\n"
+RINGS = b"13\n0\nfault CellTooLarge\n27\nfault WrongCount\nfault BadNumber\n35\n"
 LONGEST_LINE = 1_048_576
 NINES = b"9" * 1000
+# The rows and columns of the twelve base pixels' middles in HEALPix's plane.
+BASE_PIXELS = [(1, 1), (1, 3), (1, 5), (1, 7), (2, 0), (2, 2), (2, 4), (2, 6), (3, 1), (3, 3), (3, 5), (3, 7)]
+
+
+def diamonds(half, row, column):
+    """The diamond of a cell's place, and the second one of a cell at the left edge."""
+    return "".join(f"M{x} {(row - 1) * half}l{half} {half}-{half} {half}-{half}-{half}z"
+                   for x in [column * half] + [1024] * (column == 0))
+
+
+def picture(shades):
+    """The picture with these diamonds in the four shades."""
+    paths = [f'<path fill="{colour}" d="{shade}"/>' for colour, shade
+             in zip(["#bdd7e7", "#6baed6", "#3182bd", "#08519c"], shades)]
+    outlines = "".join(diamonds(128, row, column) for row, column in BASE_PIXELS)
+    labels = [f'<text x="{x}" y="{row * 128 + 8}">{number}</text>' for number, (row, column) in enumerate(BASE_PIXELS)
+              for x in ([column * 128] if column else [16, 1008])]
+    lines = ['<svg xmlns="http://www.w3.org/2000/svg" viewBox="0 0 1024 512">', "<title>Sky coverage</title>",
+             '<rect width="1024" height="512" fill="#fff"/>', '<g shape-rendering="crispEdges">', *paths, "</g>",
+             f'<path fill="none" stroke="#888" d="{outlines}"/>',
+             '<g font-family="sans-serif" font-size="24" text-anchor="middle" paint-order="stroke" stroke="#fff" '
+             'stroke-width="4">', *labels, "</g>", "</svg>"]
+    return "".join(f"{line}\n" for line in lines).encode()
+
+
+# Base pixel 4, the northern quarter of base pixel 0, and three quarters of cell 0 of order 7.
+PICTURE = picture(["", "", diamonds(1, 255, 128), diamonds(128, 2, 0) + diamonds(64, 1, 2)])
 # Words, standard input, and what is told: each fault that a refused value or text has.
 REFUSED = [
     (["ring", "0", "12"], b"", b"CellTooLarge"),
@@ -71,6 +99,10 @@ REFUSED = [
     (["combine", "intersection", "uniq"], b"4;5\n;3", b"NotUniq"),
     (["combine", "union", "ascii"], b"0/0;" + b" " * (LIMIT + 1), b"TooLong"),
     (["combine", "union", "ascii"], b" " * (LIMIT + 1) + b";0/12", b"TooLong"),
+    (["draw", "ascii"], b"0/12", b"CellTooLarge"),
+    (["draw", "json"], b"[1]", b"NotObject"),
+    (["draw", "uniq"], b" " * (LIMIT + 1), b"TooLong"),
+    (["renumber", "nest", "ring", "0"], b" " * (LONGEST_LINE + 1), b"LineTooLong"),
     (["check", "json"], b"[1]", b"NotObject"),
     (["check", "ascii"], b" " * (LIMIT + 1), b"TooLong"),
     (["check", "ascii"], b"0/0\n1/5 x7", b"BadByte\nbyte 8, line 2, byte 4 of it"),
@@ -109,6 +141,10 @@ WORKS = [
     (["combine", "intersection", "uniq"], b"4\n;16\n5\n", b"16\n"),
     (["combine", "difference", "json"], b'{"0":[0]};{"1":[3]};{"2":[]}', b'{"1":[0,1,2],"2":[]}\n'),
     (["combine", "symmetric", "ascii"], b"0/0-1 ; 0/1-2 ; 0/1", b"0/0-2\n"),
+    (["draw", "ascii"], b"0/4 1/3 8/0-2", PICTURE),
+    (["renumber", "nest", "ring", "1"], b"0\n3\n48\n\n\t18 \r\n1 2\n-1\n47", RINGS),
+    (["renumber", "uniq", "nest", "3"], b"266\n63\n3\n", b"10\nfault OtherOrder\nfault NotUniq\n"),
+    (["renumber", "ring", "uniq", "1"], b"0\n27\n48", b"19\n34\nfault RingTooLarge\n"),
 ]
 # What the program cannot take as words, and a part of what is told.
 MISTAKES = [
@@ -126,6 +162,11 @@ MISTAKES = [
     (["check"], b"FORM"),
     (["check", "fits"], b"fits"),
     (["describe", "ascii", "json"], b"json"),
+    (["draw"], b"FORM"),
+    (["draw", "ascii", "svg"], b"svg"),
+    (["renumber", "nest", "ring"], b"ORDER"),
+    (["renumber", "nest", "rang", "1"], b"rang"),
+    (["renumber", "nest", "ring", "30"], b"30"),
     (["combine", "ascii"], b"ascii"),
     (["combine", "union"], b"FORM"),
     (["combine", "minus", "ascii"], b"minus"),
@@ -152,6 +193,8 @@ HELP = [
     (["check", "--help"], b"Tells whether standard input is a coverage, and else where it is at fault"),
     (["describe", "--help"], b"Prints the figures of a coverage on standard input"),
     (["combine", "--help"], b"Combines coverages on standard input by an operation of sets"),
+    (["draw", "--help"], b"Draws a coverage on standard input as an SVG picture"),
+    (["renumber", "--help"], b"Converts numbers of cells on standard input from one numbering to another"),
 ]
 
 
@@ -231,12 +274,14 @@ def devices_fail(tally):
     for words, given in [(["run"], SCRIPT), (["play"], SCHEDULE), (["crew", "2"], CREW),
                          (["convert", "ascii", "json"], b"2/0-3"), (["check", "ascii"], b"2/0-3"),
                          (["describe", "ascii"], b"2/0-3"), (["combine", "union", "ascii"], b"2/0-3;0/1"),
+                         (["draw", "ascii"], b"2/0-3"), (["renumber", "nest", "ring", "1"], b"0"),
                          (["ring", "1", "18"], b""), (["--help"], b"")]:
         with open("/dev/full", "wb") as full:
             seen = outcome(words, given, stdout=full)
         tally.add(f"{words} on a full device", seen == (3, None, b"fault Write\n"), seen)
     for words in [["run"], ["play"], ["crew", "2"], ["convert", "ascii", "json"], ["check", "ascii"],
-                  ["describe", "ascii"], ["combine", "union", "ascii"]]:
+                  ["describe", "ascii"], ["combine", "union", "ascii"], ["draw", "ascii"],
+                  ["renumber", "nest", "ring", "1"]]:
         folder = os.open(TOP, os.O_RDONLY)
         seen = outcome(words, stdin=folder)
         os.close(folder)

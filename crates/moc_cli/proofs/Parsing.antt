@@ -1,21 +1,21 @@
 -- What the parse of words says of them.
-use Rattle.std.proofs.Common.{◌≡◌, ◌≢◌, ◌⊎◌, inl, inr, Bool, true, false, List, [], Result, Ok, Err, refl}
+use Rattle.std.proofs.Common.{◌≡◌, ◌⊎◌, inl, inr, true, List, Result, Ok, Err, refl}
 use Rattle.std.specs.Result.{IfErr, OnOk}
 use Rattle.std.proofs.lemmas.Bool.{false_from_ne_true}
-use Rattle.clap.specs.Words.{App, Text, takes, fault_of, kind_of, is_simple_and_free, FailsBy, IsAmong}
+use Rattle.clap.specs.Words.{App, Text, takes, fault_of, kind_of, is_simple_and_free, FailsBy}
 use Rattle.clap.specs.declared.error.Error.{Error}
-use Rattle.clap.specs.declared.error.kind.ErrorKind.{ErrorKind}
+use Rattle.clap.specs.declared.error.kind.ErrorKind.{}
 use Rattle.clap.specs.declared.error.kind.ErrorKind.TheVariants.{OutOfMemory}
-use Rattle.moc_cli.specs.CommandLine.{Forms, IsCommandLine, lines_app, moc_app, numbered_app}
+use Rattle.moc_cli.specs.CommandLine.{IsCommandLine, Parsers, lines_app, moc_app, numbered_app, shown_app}
 use Rattle.moc_cli.specs.Outcomes.{AreMistaken, AreRefused, IsMistake}
 
 -- the command line is one whose faults `clap` names
-pub simple : (forms : Forms) → is_simple_and_free (moc_app forms) ≡ true
-unfolding moc_app numbered_app lines_app
-simple forms = refl
+pub simple : (parsers : Parsers) → is_simple_and_free (moc_app parsers) ≡ true
+unfolding moc_app shown_app numbered_app lines_app
+simple parsers = refl
 
 pub is_simple : (app : App) → IsCommandLine app → is_simple_and_free app ≡ true
-is_simple app line = rw line.is (simple line.forms)
+is_simple app line = rw line.is (simple line.parsers)
 
 module _ {M : Type 0} (app : App) (words : List Text) (line : IsCommandLine app) where
   pub refused : (r : Result M Error) → IfErr r (λ e. takes app words ≡ true → kind_of e ≡ OutOfMemory) → FailsBy (fault_of app words) r

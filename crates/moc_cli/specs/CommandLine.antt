@@ -27,9 +27,9 @@ IsFormParser parser =
     (words : Bor (List (Bor (List ℕ)))) × (parser ≡ Names words)
     × (map (λ word. word.now) words.now ≡ codes "ascii" ∷ codes "json" ∷ codes "uniq" ∷ [])
 
--- a required text form
-abbrev pub form_rule : ValueParser → Text → Rule
-form_rule parser name = record (new_rule name) { required = true; parser = Some parser }
+-- a required value that is one of a parser's words
+abbrev pub word_rule : ValueParser → Text → Rule
+word_rule parser name = record (new_rule name) { required = true; parser = Some parser }
 
 -- a parser that takes the words of the operations, and no other
 abbrev pub IsOperationParser : ValueParser → Type 0
@@ -38,23 +38,31 @@ IsOperationParser parser =
     × (map (λ word. word.now) words.now
     ≡ codes "union" ∷ codes "intersection" ∷ codes "difference" ∷ codes "symmetric" ∷ [])
 
--- a required operation
-abbrev pub operation_rule : ValueParser → Rule
-operation_rule parser = record (new_rule (codes "OP")) { required = true; parser = Some parser }
+-- a parser that takes the words of the numberings, and no other
+abbrev pub IsNumberingParser : ValueParser → Type 0
+IsNumberingParser parser =
+    (words : Bor (List (Bor (List ℕ)))) × (parser ≡ Names words)
+    × (map (λ word. word.now) words.now ≡ codes "nest" ∷ codes "ring" ∷ codes "uniq" ∷ [])
 
 -- the word `convert FROM TO`
 abbrev pub convert_app : ValueParser → ValueParser → App
 convert_app from to =
-    with_rule (with_rule (new_app (codes "convert")) (form_rule from (codes "FROM"))) (form_rule to (codes "TO"))
+    with_rule (with_rule (new_app (codes "convert")) (word_rule from (codes "FROM"))) (word_rule to (codes "TO"))
 
 -- a word with a text form
 abbrev pub form_app : Text → ValueParser → App
-form_app word parser = with_rule (new_app word) (form_rule parser (codes "FORM"))
+form_app word parser = with_rule (new_app word) (word_rule parser (codes "FORM"))
 
 -- the word `combine OP FORM`
 abbrev pub combine_app : ValueParser → ValueParser → App
 combine_app operation form =
-    with_rule (with_rule (new_app (codes "combine")) (operation_rule operation)) (form_rule form (codes "FORM"))
+    with_rule (with_rule (new_app (codes "combine")) (word_rule operation (codes "OP"))) (word_rule form (codes "FORM"))
+
+-- the word `renumber FROM TO ORDER`
+abbrev pub renumber_app : ValueParser → ValueParser → App
+renumber_app from to =
+    let bare = new_app (codes "renumber") in
+    with_rule (with_rule (with_rule bare (word_rule from (codes "FROM"))) (word_rule to (codes "TO"))) order_rule
 
 -- its first word is no program's name
 abbrev pub without_name : App → App
@@ -85,34 +93,60 @@ numbered_app =
     let with_near = with_subcommand with_uniq (numbers_app (codes "near") (codes "CELL")).top in
     with_subcommand with_near (with_rule (new_app (codes "cell")) (number_rule (codes "UNIQ"))).top
 
--- the parsers of the text forms and of the operation of the command line
-pub record Forms : Type 0 where
-  pub from : ValueParser
-  pub to : ValueParser
+-- the parsers of the words that show one coverage
+pub record Shown : Type 0 where
   pub check : ValueParser
   pub describe : ValueParser
+  pub draw : ValueParser
+
+-- these words, and `check FORM`, `describe FORM` and `draw FORM`
+unfoldable pub shown_app : Shown → App
+shown_app parsers =
+    let with_check = with_subcommand numbered_app (form_app (codes "check") parsers.check).top in
+    let with_describe = with_subcommand with_check (form_app (codes "describe") parsers.describe).top in
+    with_subcommand with_describe (form_app (codes "draw") parsers.draw).top
+
+-- each takes the words of the text forms
+pub record AreFormParsers (parsers : Shown) : Type 0 where
+  pub check : IsFormParser parsers.check
+  pub describe : IsFormParser parsers.describe
+  pub draw : IsFormParser parsers.draw
+
+-- the command line up to the words that show one coverage
+pub record IsShown (app : App) : Type 0 where
+  pub parsers : Shown
+  pub forms : AreFormParsers parsers
+  pub is : app ≡ shown_app parsers
+
+-- the parsers of the whole command line
+pub record Parsers : Type 0 where
+  pub shown : Shown
+  pub from : ValueParser
+  pub to : ValueParser
   pub operation : ValueParser
   pub combine : ValueParser
+  pub numbering : ValueParser
+  pub other : ValueParser
 
--- these words, and `convert FROM TO`, `check FORM`, `describe FORM` and `combine OP FORM`
-unfoldable pub moc_app : Forms → App
-moc_app forms =
-    let with_convert = with_subcommand numbered_app (convert_app forms.from forms.to).top in
-    let with_check = with_subcommand with_convert (form_app (codes "check") forms.check).top in
-    let with_describe = with_subcommand with_check (form_app (codes "describe") forms.describe).top in
-    with_subcommand with_describe (combine_app forms.operation forms.combine).top
+-- these words, and `convert FROM TO`, `combine OP FORM` and `renumber FROM TO ORDER`
+unfoldable pub moc_app : Parsers → App
+moc_app parsers =
+    let with_convert = with_subcommand (shown_app parsers.shown) (convert_app parsers.from parsers.to).top in
+    let with_combine = with_subcommand with_convert (combine_app parsers.operation parsers.combine).top in
+    with_subcommand with_combine (renumber_app parsers.numbering parsers.other).top
 
--- each takes the words of the text forms, and one those of the operations
-pub record AreFormParsers (forms : Forms) : Type 0 where
-  pub from : IsFormParser forms.from
-  pub to : IsFormParser forms.to
-  pub check : IsFormParser forms.check
-  pub describe : IsFormParser forms.describe
-  pub operation : IsOperationParser forms.operation
-  pub combine : IsFormParser forms.combine
+-- each takes the words of the text forms, of the operations or of the numberings
+pub record TakeWords (parsers : Parsers) : Type 0 where
+  pub shown : AreFormParsers parsers.shown
+  pub from : IsFormParser parsers.from
+  pub to : IsFormParser parsers.to
+  pub operation : IsOperationParser parsers.operation
+  pub combine : IsFormParser parsers.combine
+  pub numbering : IsNumberingParser parsers.numbering
+  pub other : IsNumberingParser parsers.other
 
 -- the command line of the program
 pub record IsCommandLine (app : App) : Type 0 where
-  pub forms : Forms
-  pub are_forms : AreFormParsers forms
-  pub is : app ≡ moc_app forms
+  pub parsers : Parsers
+  pub words : TakeWords parsers
+  pub is : app ≡ moc_app parsers

@@ -1,9 +1,11 @@
--- Texts of coverages, from the input: converted, described, checked.
-use Rattle.std.specs.Prelude.{◌≡◌, ℕ, ◌<◌, ◌≤◌, ◌⊎◌, Bool, true, false, List, [], ◌∷◌, ◌++◌, length, Option, None, Some, Result, Ok, Err, String, string_bytes}
+-- Texts of coverages, from the input: converted, described, drawn, checked.
+use Rattle.std.specs.Prelude.{◌≡◌, ℕ, ◌<◌, ◌≤◌, ◌⊎◌, Bool, true, false, List, [], ◌∷◌, ◌++◌, length, Option, None, Some}
+use Rattle.std.specs.Prelude.{Result, Ok, Err, String, string_bytes}
 use Rattle.std.specs.Io.KnownBytes.{Consumes, IsAtEnd}
 use Rattle.std.specs.declared.alloc.Global.{Global}
 use Rattle.moc_ranges.specs.Numbers.{NumberSet}
 use Rattle.moc_words.specs.Describing.{Describes}
+use Rattle.moc_words.specs.Drawing.{picture_of}
 use Rattle.moc_words.specs.Forms.{FormSays, IsFormFault, form_text}
 use Rattle.moc_words.specs.Places.{IsPlace, place_text}
 use Rattle.moc_words.specs.declared.form.Form.{Form}
@@ -47,6 +49,15 @@ pub record DescribesAll (form : Form) (left left' : Option (List ℕ)) (text : L
   pub deepest : Option ℕ
   pub says : FormSays form given set deepest
   pub written : Describes set deepest text
+
+-- all that was left was read, and the text is the picture of the set which it says
+pub record DrawsAll (form : Form) (left left' : Option (List ℕ)) (text : List ℕ) : Type 0 where
+  pub given : List ℕ
+  pub whole : IsWhole left left' given
+  pub set : NumberSet
+  pub deepest : Option ℕ
+  pub says : FormSays form given set deepest
+  pub written : text ≡ picture_of set
 
 -- the line of a place, if there is one
 abbrev pub IsPlaceLine : Option Place → Option (String Global) → Type 0

@@ -15,7 +15,10 @@ use Rattle.moc_script.specs.declared.script.RunError.{RunError}
 use Rattle.moc_script.specs.declared.script.RunError.TheVariants as run
 use Rattle.moc_cli.specs.declared.status.Complaint.{Complaint}
 use Rattle.moc_cli.specs.declared.status.Fault.{Fault}
-use Rattle.moc_cli.specs.declared.status.Fault.TheVariants.{CellTooLarge, NotUniq, OutOfFace, RingTooLarge, BadByte, NoOrder, OrderTooLarge, Backwards, Unfinished, NotJson, NotObject, BadOrder, NotArray, NotWhole, TooCoarse, LineTooLong, TooLong, Read, Write, Memory, Spawn}
+use Rattle.moc_cli.specs.declared.status.Fault.TheVariants.{CellTooLarge, NotUniq, OutOfFace, RingTooLarge, BadByte}
+use Rattle.moc_cli.specs.declared.status.Fault.TheVariants.{NoOrder, OrderTooLarge, Backwards, Unfinished, NotJson}
+use Rattle.moc_cli.specs.declared.status.Fault.TheVariants.{NotObject, BadOrder, NotArray, NotWhole, TooCoarse}
+use Rattle.moc_cli.specs.declared.status.Fault.TheVariants.{LineTooLong, TooLong, Read, Write, Memory, Spawn}
 
 -- the name of a fault
 abbrev pub name_of : Fault → List ℕ

@@ -1,6 +1,6 @@
 //! What the words of the command line ask for.
 use clap::ArgMatches;
-use moc_script::Lanes;
+use moc_script::{Lanes, Numbering, Renumbering};
 use moc_sphere::Order;
 use moc_words::{Form, Operation};
 
@@ -15,12 +15,16 @@ pub enum Action {
     Crew(Lanes),
     /// Convert a number.
     Number(Number),
+    /// Convert the number of a cell of an order a line, from one numbering to another.
+    Renumber(Renumbering),
     /// Convert a coverage from one text form to another.
     Convert(Form, Form),
     /// Tell whether a text is a coverage, and else where it is at fault.
     Check(Form),
     /// Tell the figures of a coverage.
     Describe(Form),
+    /// Draw a coverage.
+    Draw(Form),
     /// Combine coverages.
     Combine(Operation, Form),
 }
@@ -53,9 +57,11 @@ impl Action {
             "uniq" => Some(Action::Number(Number::Uniq(order(values)?, index(values, "CELL")?))),
             "near" => Some(Action::Number(Number::Near(order(values)?, index(values, "CELL")?))),
             "cell" => Some(Action::Number(Number::Cell(index(values, "UNIQ")?))),
+            "renumber" => Some(Action::Renumber(renumbering(values)?)),
             "convert" => Some(Action::Convert(form(values, "FROM")?, form(values, "TO")?)),
             "check" => Some(Action::Check(form(values, "FORM")?)),
             "describe" => Some(Action::Describe(form(values, "FORM")?)),
+            "draw" => Some(Action::Draw(form(values, "FORM")?)),
             "combine" => Some(Action::Combine(operation(values)?, form(values, "FORM")?)),
             _ => None,
         }
@@ -68,6 +74,18 @@ fn form(values: &ArgMatches<'_>, id: &str) -> Option<Form> {
 
 fn operation(values: &ArgMatches<'_>) -> Option<Operation> {
     Operation::named(values.get_str("OP")?)
+}
+
+fn renumbering(values: &ArgMatches<'_>) -> Option<Renumbering> {
+    Some(Renumbering {
+        from: numbering(values, "FROM")?,
+        to: numbering(values, "TO")?,
+        order: order(values)?,
+    })
+}
+
+fn numbering(values: &ArgMatches<'_>, id: &str) -> Option<Numbering> {
+    Numbering::named(values.get_str(id)?)
 }
 
 fn lanes(values: &ArgMatches<'_>) -> Option<Lanes> {

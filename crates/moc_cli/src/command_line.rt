@@ -1,8 +1,10 @@
 //! The command line: one level of subcommands, all arguments positional and required.
-ghost use Rattle.std.specs.Prelude.{◌≡◌, IfOk, false};
+ghost use Rattle.std.specs.Prelude.{◌≡◌, IfOk, codes, false};
 ghost use Rattle.clap.specs.Words.{app_of, rule_of};
 ghost use Rattle.clap.specs.declared.builder.command.Command.TheViews.{out-Command as fields_of};
-ghost use Rattle.moc_cli.specs.CommandLine.{IsCommandLine, IsFormParser, IsOperationParser, form_rule, lanes_rule, form_app, number_rule, operation_rule, numbered_app, numbers_app, order_rule, lines_app};
+ghost use Rattle.moc_cli.specs.CommandLine.{IsCommandLine, IsFormParser, IsNumberingParser, IsOperationParser, IsShown};
+ghost use Rattle.moc_cli.specs.CommandLine.{form_app, lanes_rule, number_rule, numbered_app, numbers_app, word_rule};
+ghost use Rattle.moc_cli.specs.CommandLine.{order_rule, lines_app};
 
 use clap::{Arg, Command, value_parser};
 use std::alloc::{AllocError, Global};
@@ -48,8 +50,8 @@ The schedule is read from standard input, a step a line, on one coverage that st
   quit C         gives the batch up, before any part is changed
   end C          ends, and answers what the batch answers
 A step that the parts of others do not permit is answered `refused` with the cause, a bad line `fault` with the fault's
-name, and neither changes anything. Behind the last line come `order`, with the lines that began the batches in the order
-in which they stand, and the coverage, or how many clients are midway.
+name, and neither changes anything. Behind the last line come `order`, with the lines that began the batches in the
+order in which they stand, and the coverage, or how many clients are midway.
 
 Example:
   begin 1 add 0/3
@@ -121,6 +123,30 @@ Example:
 prints
   1/3-4 2/20";
 
+/// What `moc draw --help` says below the usage.
+const PICTURE: &str = "\
+Prints an SVG picture in HEALPix's plane, 1024 wide and 512 high: the sky goes round from left to right, the north pole
+is up. The base pixels are outlined and numbered. Cells of order 7 and coarser are drawn whole; what is deeper shows as
+its cell of order 7, in one of four shades by how much of that cell it fills.
+
+Example:
+  echo '1/0-3 2/20' | moc draw ascii > sky.svg";
+
+/// What `moc renumber --help` says below the usage.
+const RENUMBERING: &str = "\
+Standard input has a line for each cell of order ORDER, its number in the scheme FROM; answered is its number in the
+scheme TO. A line that has no such number is answered `fault` with the fault's name; a blank line has no answer.
+  nest  the number in the nested scheme, below 12 times 4^ORDER
+  ring  the number in the ring scheme, from the north, below 12 times 4^ORDER
+  uniq  the NUNIQ number, which is 4^(ORDER+1) and the number in the nested scheme
+
+Example:
+  printf '0\n3\n48\n' | moc renumber nest ring 1
+answers
+  13
+  0
+  fault CellTooLarge";
+
 /// What help says of a nested number.
 const NESTED: &str = "Number of the cell in the nested scheme, below 12 times 4^ORDER";
 
@@ -136,6 +162,9 @@ static FORMS: [&str; 3] = ["ascii", "json", "uniq"];
 /// The words of the operations.
 static OPERATIONS: [&str; 4] = ["union", "intersection", "difference", "symmetric"];
 
+/// The words of the numberings.
+static NUMBERINGS: [&str; 3] = ["nest", "ring", "uniq"];
+
 /// The words that the program knows.
 pub fn command_line<'a>(alloc: Global) -> Result<Command<'a>, AllocError>
     ensures { IfOk result (λ c. IsCommandLine (app_of c)) }
@@ -144,22 +173,40 @@ pub fn command_line<'a>(alloc: Global) -> Result<Command<'a>, AllocError>
         .about("Converts a coverage on standard input from one text form to another")
         .arg(form(alloc, "FROM"))?
         .arg(form(alloc, "TO"))?;
+    let combine = Command::new(alloc, "combine")
+        .about("Combines coverages on standard input by an operation of sets")
+        .after_help(COMBINATION)
+        .arg(operation(alloc))?
+        .arg(form(alloc, "FORM"))?;
+    let renumber = Command::new(alloc, "renumber")
+        .about("Converts numbers of cells on standard input from one numbering to another")
+        .after_help(RENUMBERING)
+        .arg(numbering(alloc, "FROM"))?
+        .arg(numbering(alloc, "TO"))?
+        .arg(order(alloc))?;
+    shown(alloc)?
+        .subcommand(convert)?
+        .subcommand(combine)?
+        .subcommand(renumber)
+}
+
+/// The program, the words that answer lines or convert numbers, and those that show one coverage.
+fn shown<'a>(alloc: Global) -> Result<Command<'a>, AllocError>
+    ensures { IfOk result (λ c. IsShown (app_of c)) }
+{
     let check = of_form(alloc, "check")?
         .about("Tells whether standard input is a coverage, and else where it is at fault")
         .after_help(CHECK);
     let describe = of_form(alloc, "describe")?
         .about("Prints the figures of a coverage on standard input")
         .after_help(FIGURES);
-    let combine = Command::new(alloc, "combine")
-        .about("Combines coverages on standard input by an operation of sets")
-        .after_help(COMBINATION)
-        .arg(operation(alloc))?
-        .arg(form(alloc, "FORM"))?;
+    let draw = of_form(alloc, "draw")?
+        .about("Draws a coverage on standard input as an SVG picture")
+        .after_help(PICTURE);
     numbered(alloc)?
-        .subcommand(convert)?
         .subcommand(check)?
         .subcommand(describe)?
-        .subcommand(combine)
+        .subcommand(draw)
 }
 
 /// The program, the words that answer lines, and those that convert numbers.
@@ -273,7 +320,7 @@ fn number<'a>(alloc: Global, name: &'a str, help: &'a str) -> Arg<'a>
 
 /// A required operation.
 fn operation<'a>(alloc: Global) -> Arg<'a>
-    ensures rule { (parser : _) × IsOperationParser parser × (rule_of result ≡ operation_rule parser) }
+    ensures rule { (parser : _) × IsOperationParser parser × (rule_of result ≡ word_rule parser (codes "OP")) }
     ensures local { result.global ≡ false }
 {
     Arg::new(alloc, "OP")
@@ -283,10 +330,20 @@ fn operation<'a>(alloc: Global) -> Arg<'a>
 
 /// A required text form.
 fn form<'a>(alloc: Global, name: &'a str) -> Arg<'a>
-    ensures rule { (parser : _) × IsFormParser parser × (rule_of result ≡ form_rule parser name.entry.now) }
+    ensures rule { (parser : _) × IsFormParser parser × (rule_of result ≡ word_rule parser name.entry.now) }
     ensures local { result.global ≡ false }
 {
     Arg::new(alloc, name)
         .required(true)
         .value_parser(FORMS.as_slice())
+}
+
+/// A required numbering.
+fn numbering<'a>(alloc: Global, name: &'a str) -> Arg<'a>
+    ensures rule { (parser : _) × IsNumberingParser parser × (rule_of result ≡ word_rule parser name.entry.now) }
+    ensures local { result.global ≡ false }
+{
+    Arg::new(alloc, name)
+        .required(true)
+        .value_parser(NUMBERINGS.as_slice())
 }

@@ -1,14 +1,15 @@
-//! Coverages from one text form to another.
+//! Texts of coverages, from the input: converted, described, drawn, checked.
 ghost use Rattle.std.specs.Prelude.{◌≡◌, ◌≢◌, ◌<◌, ◌↔◌, ◌⊎◌, Err, false, IfErr, IfOk, IsErrOf, IsTrue, length};
 ghost use Rattle.std.specs.String.{string_bytes};
 ghost use Rattle.moc_words.specs.Forms.{FormSays, form_text};
-ghost use Rattle.moc_cli.specs.Conversion.{BringsPiece, ChecksAll, ConvertsAll, DescribesAll, IsOfInput, IsPlaceLine, IsReadFault, IsWhole};
+ghost use Rattle.moc_cli.specs.Conversion.{BringsPiece, ChecksAll, ConvertsAll, DescribesAll, DrawsAll, IsOfInput};
+ghost use Rattle.moc_cli.specs.Conversion.{IsPlaceLine, IsReadFault, IsWhole};
 
 use crate::status::{Complaint, Fault};
 use moc_ranges::Coverage;
 use moc_script::Source;
 use moc_sphere::Order;
-use moc_words::{Form, Place, check, describe};
+use moc_words::{Form, Place, check, describe, draw};
 use std::alloc::{AllocError, Global};
 
 /// The most bytes of an input.
@@ -107,6 +108,17 @@ pub fn described<R: Source>(alloc: Global, form: Form, input: &mut R) -> Result<
     let text = read_whole(alloc, input)?;
     let (set, deepest) = said(alloc, form, &text)?;
     Ok(describe(alloc, &set, deepest)?)
+}
+
+/// The picture of the coverage that the input has.
+pub fn drawn<R: Source>(alloc: Global, form: Form, input: &mut R) -> Result<String, Fault>
+    requires { R.mark input.old ≡ false }
+    ensures read { IsErrOf result Fault.Read ↔ IsTrue (R.mark input.new) }
+    ensures draws { IfOk result (λ t. DrawsAll form (R.left input.old) (R.left input.new) (string_bytes t)) }
+{
+    let text = read_whole(alloc, input)?;
+    let (set, _) = said(alloc, form, &text)?;
+    Ok(draw(alloc, &set)?)
 }
 
 /// Whether the input is a coverage in a form; else its first fault and, in words, where it is.

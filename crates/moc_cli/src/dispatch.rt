@@ -10,11 +10,11 @@ ghost use Rattle.moc_cli.specs.Statuses.{IsDeviceFault, end_of};
 use crate::action::{Action, Number};
 use crate::combination::combined;
 use crate::command_line::command_line;
-use crate::conversion::{checked, converted, described};
+use crate::conversion::{checked, converted, described, drawn};
 use crate::status::{Complaint, Fault, Status};
 use clap::error::ErrorKind;
 use clap::{ArgMatches, Error};
-use moc_script::{DeviceFault, OpenGate, Sink, Source, crew, play, run, write_all};
+use moc_script::{DeviceFault, OpenGate, Sink, Source, crew, play, renumber, run, write_all};
 use moc_sphere::Cell;
 use std::alloc::{AllocError, Global};
 use std::convert::AsStr;
@@ -90,7 +90,8 @@ fn ended<E: Sink>(outcome: Result<(), Complaint>, faults: &mut E) -> Status
 
 /// Tells a fault, and behind it where it is.
 fn tell<E: Sink>(complaint: &Complaint, faults: &mut E) -> Result<(), DeviceFault>
-    ensures { OnOk result (E.mark faults.old ≡ false → Appends (E.written faults.old) (E.written faults.new) (complaint_text complaint.now)) }
+    ensures { OnOk result (E.mark faults.old ≡ false →
+        Appends (E.written faults.old) (E.written faults.new) (complaint_text complaint.now)) }
 {
     write_all(complaint.fault.line().as_bytes(), faults)?;
     match &complaint.place {
@@ -140,6 +141,7 @@ fn act<T: Threads + Wait + Sync, R: Source, W: Sink>(
         Some(Action::Play) => Ok(play(alloc, input, output)?),
         Some(Action::Crew(lanes)) => Ok(crew(rt, alloc, input, output, lanes, &OpenGate)?),
         Some(Action::Number(number)) => printed(number_line(alloc, number)?.as_str(), output),
+        Some(Action::Renumber(renumbering)) => Ok(renumber(alloc, input, output, renumbering)?),
         Some(Action::Convert(from, to)) => {
             printed(converted(alloc, from, to, input)?.as_str(), output)
         }
@@ -148,6 +150,7 @@ fn act<T: Threads + Wait + Sync, R: Source, W: Sink>(
             printed("ok\n", output)
         }
         Some(Action::Describe(form)) => printed(described(alloc, form, input)?.as_str(), output),
+        Some(Action::Draw(form)) => printed(drawn(alloc, form, input)?.as_str(), output),
         Some(Action::Combine(operation, form)) => {
             printed(combined(alloc, operation, form, input)?.as_str(), output)
         }

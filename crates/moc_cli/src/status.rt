@@ -1,6 +1,7 @@
 //! How the program ends, and what it says of that.
 ghost use Rattle.std.specs.Prelude.{◌≡◌, None};
-ghost use Rattle.moc_cli.specs.Faults.{fault_of_cell, fault_of_form, fault_of_json, fault_of_run, fault_of_text, fault_of_uniq, line_of};
+ghost use Rattle.moc_cli.specs.Faults.{fault_of_cell, fault_of_form, fault_of_json, fault_of_run, fault_of_text};
+ghost use Rattle.moc_cli.specs.Faults.{fault_of_uniq, line_of};
 ghost use Rattle.moc_cli.specs.Statuses.{code_of, status_of};
 ghost use Rattle.moc_cli.specs.declared.status.Fault.TheVariants as fault;
 

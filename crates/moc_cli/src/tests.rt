@@ -277,6 +277,78 @@ fn figures(rt: HostRuntime) {
 }
 
 #[test]
+fn renumbered_lines(rt: HostRuntime) {
+    for (words, input, output) in [
+        (
+            ["renumber", "nest", "ring", "1"].as_slice(),
+            "0\n3\n\n16\n48\n18",
+            "13\n0\n28\nfault CellTooLarge\n27\n",
+        ),
+        (
+            ["renumber", "ring", "nest", "1"].as_slice(),
+            "13\n27\r\n48\n",
+            "0\n18\nfault RingTooLarge\n",
+        ),
+        (
+            ["renumber", "uniq", "nest", "3"].as_slice(),
+            "266\n63\n3\n",
+            "10\nfault OtherOrder\nfault NotUniq\n",
+        ),
+        (
+            ["renumber", "nest", "uniq", "3"].as_slice(),
+            " 10\nten\n1 0",
+            "266\nfault BadNumber\nfault WrongCount\n",
+        ),
+    ] {
+        expect(&rt, rt.alloc(), words, input, 0, output, "");
+    }
+}
+
+/// The picture of a text in a form.
+fn picture<T: Abort + Threads + Wait + Sync>(
+    rt: &T,
+    alloc: Global,
+    form: &str,
+    input: &str,
+) -> Vec<u8> {
+    let mut written = Vec::new(alloc);
+    let mut told = Vec::new(alloc);
+    let answered = program(
+        rt,
+        alloc,
+        &["draw", form],
+        &mut OverReader::new(input.as_bytes()),
+        &mut OverWriter::new(&mut written),
+        &mut OverWriter::new(&mut told),
+    );
+    assert_eq!(rt; answered, 0, "{form}");
+    assert!(rt; told.is_empty(), "{form}");
+    written
+}
+
+#[test]
+fn pictures(rt: HostRuntime) {
+    let ascii = picture(&rt, rt.alloc(), "ascii", "0/0 1/4-5");
+    let json = picture(&rt, rt.alloc(), "json", "{\"0\":[0],\"1\":[4,5]}");
+    let uniq = picture(&rt, rt.alloc(), "uniq", "4\n20\n21\n");
+    let other = picture(&rt, rt.alloc(), "ascii", "0/1");
+    assert!(rt; ascii.as_slice().ends_with(b"</svg>\n".as_slice()));
+    assert_eq!(rt; json.as_slice(), ascii.as_slice());
+    assert_eq!(rt; uniq.as_slice(), ascii.as_slice());
+    assert!(rt; other.as_slice() != ascii.as_slice());
+    let words = ["draw", "ascii"].as_slice();
+    expect(
+        &rt,
+        rt.alloc(),
+        words,
+        "0/12",
+        1,
+        "",
+        "fault CellTooLarge\n",
+    );
+}
+
+#[test]
 fn combinations(rt: HostRuntime) {
     for (words, input, output) in [
         (
@@ -376,6 +448,8 @@ fn failing_input(rt: HostRuntime) {
         ["check", "ascii"].as_slice(),
         ["describe", "uniq"].as_slice(),
         ["combine", "union", "uniq"].as_slice(),
+        ["draw", "json"].as_slice(),
+        ["renumber", "nest", "uniq", "3"].as_slice(),
     ] {
         let mut written = Vec::new(rt.alloc());
         let mut told = Vec::new(rt.alloc());
@@ -412,6 +486,9 @@ fn help_and_mistakes(rt: HostRuntime) {
         (["combine", "union"].as_slice(), 2),
         (["combine", "minus", "ascii"].as_slice(), 2),
         (["combine", "--help"].as_slice(), 0),
+        (["draw"].as_slice(), 2),
+        (["renumber", "nest", "cell", "1"].as_slice(), 2),
+        (["renumber", "--help"].as_slice(), 0),
     ] {
         let mut written = Vec::new(rt.alloc());
         let mut told = Vec::new(rt.alloc());

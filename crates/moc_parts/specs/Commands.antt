@@ -1,5 +1,6 @@
 -- The commands on one set of pixels, and their footprints.
-use Rattle.std.specs.Prelude.{ℕ, ◌≤◌, Bool, true, false, nat_lt, nat_eq, Option, None, Some, IfSome, List, ◌∷◌, map, if◌then◌else◌}
+use Rattle.std.specs.Prelude.{ℕ, ◌≤◌, Bool, true, false, nat_lt, nat_eq, Option, None, Some, IfSome, List, ◌∷◌, map}
+use Rattle.std.specs.Prelude.{if◌then◌else◌}
 use Rattle.std.specs.List.{list_any}
 use Rattle.std.specs.FinSet as set
 use Rattle.moc_sphere.specs.CellNumber.{CellNumber, cell_number, IsCell}
@@ -12,7 +13,8 @@ use Rattle.moc_ranges.specs.Cells.{degrade, pixels_of}
 use Rattle.moc_parts.specs.Objects.{Object}
 use Rattle.moc_parts.specs.declared.command.Operand.{Operand}
 use Rattle.moc_parts.specs.declared.command.Command.{Command}
-use Rattle.moc_parts.specs.declared.command.Command.TheVariants.{Add, Remove, Keep, Claim, Invert, Degrade, Count, Read, Near}
+use Rattle.moc_parts.specs.declared.command.Command.TheVariants.{Add, Remove, Keep, Claim, Invert, Degrade, Count, Read}
+use Rattle.moc_parts.specs.declared.command.Command.TheVariants.{Near}
 use Rattle.moc_parts.specs.declared.reply.Reply.{Reply}
 use Rattle.moc_parts.specs.declared.reply.Reply.TheVariants as reply
 

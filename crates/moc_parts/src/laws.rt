@@ -1,5 +1,6 @@
 //! Laws of the commands, and of the parts of sets. The calls do nothing.
-ghost use Rattle.moc_parts.specs.Laws.{AreBatchesLocal, AreLocal, AreMetDegraded, ArePartsOfSets, AreUnitedByParts, LeaveTheSet};
+ghost use Rattle.moc_parts.specs.Laws.{AreBatchesLocal, AreLocal, AreMetDegraded, ArePartsOfSets, AreUnitedByParts};
+ghost use Rattle.moc_parts.specs.Laws.{LeaveTheSet};
 
 /// The footprint of a command is all that it looks at and all that it changes.
 pub fn commands_are_local()

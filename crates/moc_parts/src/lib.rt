@@ -13,8 +13,6 @@ mod prepared;
 mod reply;
 mod resolved;
 mod surroundings;
-#[cfg(test)]
-mod tests;
 
 pub use batch::{Batch, BatchError, MOST_COMMANDS};
 pub use command::{Command, Operand};

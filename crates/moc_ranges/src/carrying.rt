@@ -39,6 +39,7 @@ fn carry_next(
 }
 
 /// Carries over the next nodes and blocks that end below the limit, where none is begun.
+#[inline(never)]
 fn carry_all(
     alloc: Global,
     xs: &mut Ranges<'_>,
@@ -62,7 +63,7 @@ fn carry_all(
 }
 
 /// The same as `carry_all`.
-#[inline]
+#[inline(always)]
 fn carry_below(
     alloc: Global,
     xs: &mut Ranges<'_>,
@@ -85,7 +86,7 @@ fn carry_below(
 
 /// The next range behind the nodes and blocks that are carried over: those that end below the
 /// limit, where none is begun.
-#[inline]
+#[inline(always)]
 pub fn next_carrying(
     alloc: Global,
     xs: &mut Ranges<'_>,

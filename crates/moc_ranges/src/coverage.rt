@@ -1,5 +1,6 @@
 //! Sets of pixels, and the operations on them.
-ghost use Rattle.std.specs.Prelude.{◌≡◌, [], ◌∷◌, ℕ, true, IfSome, MatchOption, ◌+◌, ◌<◌, ◌≤◌, ◌↔◌, nat_lt, IsTrue, if◌then◌else◌, IfOk, IfErr, OnOk, OnErr, None, unwrap_or};
+ghost use Rattle.std.specs.Prelude.{◌≡◌, [], ◌∷◌, ℕ, true, IfSome, MatchOption, ◌+◌, ◌<◌, ◌≤◌, ◌↔◌, nat_lt, IsTrue};
+ghost use Rattle.std.specs.Prelude.{if◌then◌else◌, IfOk, IfErr, OnOk, OnErr, None, unwrap_or};
 ghost use Rattle.moc_ranges.specs.Faults.{first_fault};
 ghost use Rattle.std.specs.Cmp.{partial_equiv_from_equiv};
 ghost use Rattle.std.specs.FinSet as set;
@@ -129,7 +130,8 @@ impl Coverage {
         Ranges::new(&self.few, &self.nodes)
     }
 
-    /// How many pixels of order 29 the set has. O(n), takes no memory.
+    /// How many pixels of order 29 the set has. The sizes that nodes keep are added up, each of up to
+    /// 8,192 ranges, or up to 128 ranges where the set has no more. Takes no memory.
     pub fn count(&self) -> u64
         ensures size { result ≡ set.len self.now }
         ensures bounded { result ≤ pixel_count }
@@ -196,33 +198,35 @@ impl Coverage {
         self.ranges().size_hint().0
     }
 
-    /// The pixels of either set. One pass over the ranges where their extents overlap, and a copy
-    /// of the others, O(n + m); refused where memory runs out.
+    /// The pixels of either set. One pass, O(n + m), in which blocks and nodes of one set that end
+    /// before the next range of the other are shared, not copied: a set of m ranges and one of n take
+    /// O(m + n / 128). Refused where memory runs out.
     pub fn union(&self, alloc: Global, other: &Coverage) -> Result<Coverage, Memory>
         ensures set { IfOk result (λ c. c ≡ set.union self.now other.now) }
     {
         Ok(unite(alloc, self.ranges(), other.ranges())?)
     }
 
-    /// The pixels that both sets have. One pass over the ranges of each that reach into the extent
-    /// of the other, found in O(log n + log m); refused where memory runs out.
+    /// The pixels that both sets have. One pass, O(n + m), in which blocks and nodes that the other
+    /// set does not reach are skipped by searching, and those that one range of it covers are shared:
+    /// a set of m ranges and one of n take O(m log n). Refused where memory runs out.
     pub fn intersection(&self, alloc: Global, other: &Coverage) -> Result<Coverage, Memory>
         ensures set { IfOk result (λ c. c ≡ set.intersection self.now other.now) }
     {
         Ok(intersect(alloc, self.ranges(), other.ranges())?)
     }
 
-    /// The pixels of this set that the other lacks. One pass over the ranges where their extents
-    /// overlap, found in O(log n + log m), and a copy of the others of this set; refused where
-    /// memory runs out.
+    /// The pixels of this set that the other lacks. One pass, O(n + m), in which blocks and nodes of
+    /// this set that the other does not reach are shared, and those of the other that this set does
+    /// not reach are skipped. Refused where memory runs out.
     pub fn difference(&self, alloc: Global, other: &Coverage) -> Result<Coverage, Memory>
         ensures set { IfOk result (λ c. c ≡ set.difference self.now other.now) }
     {
         Ok(subtract(alloc, self.ranges(), other.ranges())?)
     }
 
-    /// The pixels that just one of the two sets has. One pass over the ranges where their extents
-    /// overlap, and a copy of the others, O(n + m); refused where memory runs out.
+    /// The pixels that just one of the two sets has. One pass, O(n + m), where both have up to 128
+    /// ranges, and else two differences and their union; refused where memory runs out.
     pub fn symmetric(&self, alloc: Global, other: &Coverage) -> Result<Coverage, Memory>
         ensures set { IfOk result (λ c. c ≡ symmetric self.now other.now) }
     {
@@ -248,7 +252,8 @@ impl Coverage {
     /// The pixels of the set in one base pixel, 0 to 11: those p with `p / 4^29` equal to it. Above
     /// 11 it is the empty set.
     ///
-    /// O(log n), and the copy of the ranges that it answers; refused where memory runs out.
+    /// O(log n), and a copy of the ranges that it answers, of which whole blocks and nodes are shared;
+    /// refused where memory runs out.
     pub fn part(&self, alloc: Global, base_pixel: u8) -> Result<Coverage, Memory>
         ensures part { IfOk result (λ c. c ≡ part_of self.now base_pixel) }
         ensures within { IsWithin self.now pixels }
@@ -444,7 +449,8 @@ impl Coverage {
         Ok(cells)
     }
 
-    /// A copy of the set. O(n); refused where memory runs out.
+    /// A copy of the set, which shares its blocks: O(n) for up to 128 ranges, and else for its nodes
+    /// alone. Refused where memory runs out.
     pub fn try_copy(&self, alloc: Global) -> Result<Coverage, Memory>
         ensures same { IfOk result (λ c. c ≡ self.now) }
         ensures within { IsWithin self.now pixels }

@@ -12,6 +12,7 @@ use crate::coverage::Coverage;
 use crate::few::subtract_few;
 use crate::list_builder::ListBuilder;
 use crate::ranges::Ranges;
+use crate::runs::{FAR, NEAR, are_even};
 use std::alloc::{AllocError, Global};
 
 /// Adds a range, where it is not empty, behind what is built.
@@ -45,21 +46,19 @@ fn start_of(range: Option<(u64, u64)>) -> u64
     }
 }
 
-/// The pixels in the ranges of the first list that the second lacks.
-pub fn subtract(
+/// The pixels in the ranges of the first list that the second lacks, where a walk that goes on looks `reach`
+/// ranges ahead.
+#[inline(always)]
+fn subtract_lists(
     alloc: Global,
     mut xs: Ranges<'_>,
     mut ys: Ranges<'_>,
+    reach: usize,
 ) -> Result<Coverage, AllocError>
     requires xs { IsNormal xs }
     requires ys { IsNormal ys }
     ensures { IfOk result (λ c. c ≡ set.difference (set_of xs.entry) (set_of ys.entry)) }
 {
-    if let Some(few) = xs.few() {
-        if let Some(others) = ys.few() {
-            return subtract_few(alloc, few, others);
-        }
-    }
     let mut built = ListBuilder::new(alloc, xs.room() + ys.room())?;
     let mut second = ys.next();
     let mut first = next_carrying(alloc, &mut xs, start_of(second), &mut built)?;
@@ -70,7 +69,7 @@ pub fn subtract(
             continue;
         };
         if y.1 <= x.0 {
-            second = ys.next_past(x.0);
+            second = ys.next_past(x.0, reach);
             continue;
         }
         push_part(alloc, x.0, x.1.min(y.0), &mut built)?;
@@ -80,8 +79,25 @@ pub fn subtract(
         } else if x.1 <= y.0 {
             first = next_carrying(alloc, &mut xs, y.0, &mut built)?;
         } else {
-            first = xs.advance(y).next;
+            first = xs.advance(y, reach).next;
         }
     }
     built.finish(alloc)
+}
+
+/// The pixels in the ranges of the first list that the second lacks.
+pub fn subtract(alloc: Global, xs: Ranges<'_>, ys: Ranges<'_>) -> Result<Coverage, AllocError>
+    requires xs { IsNormal xs }
+    requires ys { IsNormal ys }
+    ensures { IfOk result (λ c. c ≡ set.difference (set_of xs.entry) (set_of ys.entry)) }
+{
+    if let Some(few) = xs.few() {
+        if let Some(others) = ys.few() {
+            return subtract_few(alloc, few, others);
+        }
+    }
+    if are_even(&xs, &ys) {
+        return subtract_lists(alloc, xs, ys, FAR);
+    }
+    subtract_lists(alloc, xs, ys, NEAR)
 }

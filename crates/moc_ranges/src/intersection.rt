@@ -12,6 +12,7 @@ use crate::coverage::Coverage;
 use crate::few::intersect_few;
 use crate::list_builder::ListBuilder;
 use crate::ranges::Ranges;
+use crate::runs::{FAR, NEAR, are_even};
 use std::alloc::{AllocError, Global};
 
 /// Adds what two ranges have in common, where that is something; it begins behind what is built.
@@ -42,14 +43,15 @@ fn push_common(
     Ok(())
 }
 
-/// The next range behind one that ended at `end`, where the other list has come to a range. Those that
-/// end before that are left out, and nodes and blocks that lie in it are carried over.
+/// The next range behind one that ended at `end`, where the other list has come to a range and a walk that goes
+/// on looks `reach` ranges ahead. Those that end before that range are left out, and nodes and blocks that lie in it are carried over.
 #[inline(always)]
 fn next_meeting(
     alloc: Global,
     xs: &mut Ranges<'_>,
     end: u64,
     other: (u64, u64),
+    reach: usize,
     built: &mut ListBuilder,
 ) -> Result<Option<(u64, u64)>, AllocError>
     requires normal { IsNormal xs.old }
@@ -64,26 +66,23 @@ fn next_meeting(
         built.old.ranges.items built.new.ranges.items) }
 {
     if end <= other.0 {
-        return Ok(xs.next_past(other.0));
+        return Ok(xs.next_past(other.0, reach));
     }
     next_carrying(alloc, xs, other.1 + 1, built)
 }
 
-/// The pixels that the ranges of both lists have.
-pub fn intersect(
+/// The pixels that the ranges of both lists have, where a walk that goes on looks `reach` ranges ahead.
+#[inline(always)]
+fn intersect_lists(
     alloc: Global,
     mut xs: Ranges<'_>,
     mut ys: Ranges<'_>,
+    reach: usize,
 ) -> Result<Coverage, AllocError>
     requires xs { IsNormal xs }
     requires ys { IsNormal ys }
     ensures { IfOk result (λ c. c ≡ set.intersection (set_of xs.entry) (set_of ys.entry)) }
 {
-    if let Some(few) = xs.few() {
-        if let Some(others) = ys.few() {
-            return intersect_few(alloc, few, others);
-        }
-    }
     let mut built = ListBuilder::new(alloc, xs.room() + ys.room())?;
     let mut first = xs.next();
     let mut second = ys.next();
@@ -93,10 +92,27 @@ pub fn intersect(
         };
         push_common(alloc, x, y, &mut built)?;
         if x.1 <= y.1 {
-            first = next_meeting(alloc, &mut xs, x.1, y, &mut built)?;
+            first = next_meeting(alloc, &mut xs, x.1, y, reach, &mut built)?;
         } else {
-            second = next_meeting(alloc, &mut ys, y.1, x, &mut built)?;
+            second = next_meeting(alloc, &mut ys, y.1, x, reach, &mut built)?;
         }
     }
     built.finish(alloc)
+}
+
+/// The pixels that the ranges of both lists have.
+pub fn intersect(alloc: Global, xs: Ranges<'_>, ys: Ranges<'_>) -> Result<Coverage, AllocError>
+    requires xs { IsNormal xs }
+    requires ys { IsNormal ys }
+    ensures { IfOk result (λ c. c ≡ set.intersection (set_of xs.entry) (set_of ys.entry)) }
+{
+    if let Some(few) = xs.few() {
+        if let Some(others) = ys.few() {
+            return intersect_few(alloc, few, others);
+        }
+    }
+    if are_even(&xs, &ys) {
+        return intersect_lists(alloc, xs, ys, FAR);
+    }
+    intersect_lists(alloc, xs, ys, NEAR)
 }

@@ -1,5 +1,6 @@
 //! Laws of coverages and their cells. Each function does nothing: its contract is the law.
-ghost use Rattle.moc_ranges.specs.Theorems.{HasOneNormalList, CellsAreCells, CellsFillTheSet, CellsRise, ComplementTwiceIsTheSet};
+ghost use Rattle.moc_ranges.specs.Theorems.{HasOneNormalList, CellsAreCells, CellsFillTheSet, CellsRise};
+ghost use Rattle.moc_ranges.specs.Theorems.{ComplementTwiceIsTheSet};
 
 /// A set has at most one normal list of ranges.
 pub fn normal_list_is_one()

@@ -4,7 +4,8 @@ ghost use Rattle.std.specs.Bool.{OnTrue, OnFalse};
 ghost use Rattle.moc_ranges.specs.Pixels.{pixel_count};
 ghost use Rattle.moc_ranges.specs.RangeList.{IsNormal, in_ranges, in_range, set_of};
 ghost use Rattle.moc_ranges.specs.Private.Blocks.{joining, AreBlocks, last_of};
-ghost use Rattle.moc_ranges.specs.Private.Built.{IsBuilt, IsOpen, kept_of, first_length, last_length, EndsBelow, CanJoin};
+ghost use Rattle.moc_ranges.specs.Private.Built.{IsBuilt, IsOpen, kept_of, first_length, last_length, EndsBelow};
+ghost use Rattle.moc_ranges.specs.Private.Built.{CanJoin};
 
 use crate::block::{Block, LONGEST};
 use crate::coverage::Coverage;

@@ -8,8 +8,12 @@ use crate::block::Block;
 use crate::node::Node;
 use crate::ranges::{Ahead, Begun, Ranges, begin_node};
 
-/// How many ranges are gone over one by one before a search.
-const NEAR: usize = 3;
+/// How many ranges ahead a walk looks before it searches, where a list has many times as many as the other.
+pub(crate) const NEAR: usize = 3;
+
+/// How many where the lists are even: a search is seldom of use there, and a look ahead that mostly finds
+/// the same costs little.
+pub(crate) const FAR: usize = 32;
 
 /// What has one or more ranges in rising order: a range, a block, a node.
 pub(crate) trait Run {
@@ -280,26 +284,40 @@ pub(crate) struct Advance {
     pub next: Option<(u64, u64)>,
 }
 
+/// How many times as many ranges a list has as another where the two are not even.
+const UNEVEN: usize = 8;
+
+/// Whether two lists are both in blocks, and neither has many times as many ranges as the other.
+#[inline]
+pub(crate) fn are_even(xs: &Ranges<'_>, ys: &Ranges<'_>) -> bool {
+    if xs.few().is_some() || ys.few().is_some() {
+        return false;
+    }
+    let first = xs.size_hint().0;
+    let second = ys.size_hint().0;
+    first / UNEVEN <= second && second / UNEVEN <= first
+}
+
 impl<'a> Ranges<'a> {
-    /// Whether one of the next few ranges of the block that is begun ends after the limit: to go on
-    /// one by one then costs less than a search.
+    /// Whether the range that stands `reach` ahead in the block that is begun ends after the limit: to go on one
+    /// by one then costs less than a search.
     #[inline(always)]
-    fn is_near(&self, limit: u64) -> bool {
-        match self.begun().ranges.get(NEAR) {
+    fn is_near(&self, limit: u64, reach: usize) -> bool {
+        match self.begun().ranges.get(reach) {
             Some(range) => limit < range.1,
             None => self.is_in_block(),
         }
     }
 
-    /// The next range in the block that is begun, where one near it ends after the beginning of the
-    /// range given. Else it is the next one behind those that `pass` leaves out.
+    /// The next range in the block that is begun, where the one `reach` ahead of it ends after the beginning of
+    /// the range given. Else it is the next one behind those that `pass` leaves out.
     #[inline(always)]
-    pub(crate) fn advance(&mut self, range: (u64, u64)) -> Advance
+    pub(crate) fn advance(&mut self, range: (u64, u64), reach: usize) -> Advance
         requires { range.0 ≤ range.1 }
         ensures { Advances range self.old self.new result.next result.common }
     {
         let mut common = 0;
-        if !self.is_near(range.0) {
+        if !self.is_near(range.0, reach) {
             common = self.pass(range);
         }
         Advance {
@@ -311,9 +329,9 @@ impl<'a> Ranges<'a> {
     /// The same as `advance` to where a range without pixels begins: a range behind some that end by
     /// the limit.
     #[inline(always)]
-    pub(crate) fn next_past(&mut self, limit: u64) -> Option<(u64, u64)>
+    pub(crate) fn next_past(&mut self, limit: u64, reach: usize) -> Option<(u64, u64)>
         ensures { ((n : ℕ) × Advances (limit, limit) self.old self.new result n) }
     {
-        self.advance((limit, limit)).next
+        self.advance((limit, limit), reach).next
     }
 }

@@ -4,6 +4,7 @@ ghost use Rattle.moc_ranges.specs.RangeList.{IsNormal};
 ghost use Rattle.moc_ranges.specs.Private.Walks.{common_of, has_all};
 
 use crate::ranges::Ranges;
+use crate::runs::NEAR;
 
 /// How many pixels two ranges have in common.
 #[inline]
@@ -28,11 +29,11 @@ pub fn count_both(mut xs: Ranges<'_>, mut ys: Ranges<'_>) -> u64
         };
         total += overlap(x, y);
         if x.1 <= y.1 {
-            let ahead = xs.advance(y);
+            let ahead = xs.advance(y, NEAR);
             total += ahead.common;
             first = ahead.next;
         } else {
-            let ahead = ys.advance(x);
+            let ahead = ys.advance(x, NEAR);
             total += ahead.common;
             second = ahead.next;
         }
@@ -53,9 +54,9 @@ pub fn share_some(mut xs: Ranges<'_>, mut ys: Ranges<'_>) -> bool
             return false;
         };
         if x.1 <= y.0 {
-            first = xs.next_past(y.0);
+            first = xs.next_past(y.0, NEAR);
         } else if y.1 <= x.0 {
-            second = ys.next_past(x.0);
+            second = ys.next_past(x.0, NEAR);
         } else {
             return true;
         }
@@ -79,9 +80,9 @@ pub fn holds_all(mut xs: Ranges<'_>, mut ys: Ranges<'_>) -> bool
             return false;
         }
         if x.1 < y.1 {
-            first = xs.next_past(y.0);
+            first = xs.next_past(y.0, NEAR);
         } else {
-            second = ys.next_past(x.1);
+            second = ys.next_past(x.1, NEAR);
         }
     }
     true

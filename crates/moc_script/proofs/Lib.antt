@@ -21,3 +21,4 @@ pub mod Reading
 pub mod Gathered
 pub mod Crewing
 pub mod AllAnswered
+pub mod NumberingLemmas

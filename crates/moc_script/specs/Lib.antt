@@ -16,6 +16,7 @@ pub mod Steps
 pub mod Refusals
 pub mod Schedules
 pub mod Codes
+pub mod Numberings
 pub mod Merges
 pub mod Crews
 pub mod Private

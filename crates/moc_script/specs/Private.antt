@@ -6,3 +6,4 @@ pub mod Dealing
 pub mod Gathering
 pub mod Joining
 pub mod Promises
+pub mod Finding

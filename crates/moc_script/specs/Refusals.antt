@@ -1,7 +1,9 @@
 -- The names of refused steps.
 use Rattle.std.specs.Prelude.{ℕ, List, ◌++◌, codes}
 use Rattle.moc_steps.specs.declared.error.StepError.{StepError}
-use Rattle.moc_steps.specs.declared.error.StepError.TheVariants.{NotIdle, Idle, PartHeld, AllTaken, NotAllTaken, NotHeld, AlreadyEdited, NotEdited, BegunEditing, StillHolding, NothingDone, Quitting, Memory, TooMany}
+use Rattle.moc_steps.specs.declared.error.StepError.TheVariants.{NotIdle, Idle, PartHeld, AllTaken, NotAllTaken}
+use Rattle.moc_steps.specs.declared.error.StepError.TheVariants.{NotHeld, AlreadyEdited, NotEdited, BegunEditing}
+use Rattle.moc_steps.specs.declared.error.StepError.TheVariants.{StillHolding, NothingDone, Quitting, Memory, TooMany}
 
 -- the name of a refusal, without its numbers; Memory is never answered as a refusal, since it ends the schedule
 abbrev pub refusal_name : StepError → List ℕ

@@ -9,7 +9,8 @@ use Rattle.moc_script.specs.Words.{is_blank, word_of, behind_word, number_of}
 use Rattle.moc_script.specs.Language.{◌>>=◌, command_of}
 use Rattle.moc_script.specs.Batches.{batch_of}
 use Rattle.moc_script.specs.declared.fault.Fault.{Fault}
-use Rattle.moc_script.specs.declared.fault.Fault.TheVariants.{UnknownWord, WrongCount, BadNumber, ClientTooLarge, PartTooLarge}
+use Rattle.moc_script.specs.declared.fault.Fault.TheVariants.{UnknownWord, WrongCount, BadNumber, ClientTooLarge}
+use Rattle.moc_script.specs.declared.fault.Fault.TheVariants.{PartTooLarge}
 
 -- a step by a client's batch of commands
 abbrev pub BatchStep : Type 0

@@ -1,5 +1,6 @@
 //! Scripts that several threads answer.
-ghost use Rattle.std.specs.Prelude.{◌≡◌, ◌⊎◌, ◌<◌, ◌≤◌, ◌↔◌, ℕ, List, false, IfOk, IfSome, OnOk, OnErr, IsErrOf, IsTrue, length};
+ghost use Rattle.std.specs.Prelude.{◌≡◌, ◌⊎◌, ◌<◌, ◌≤◌, ◌↔◌, ℕ, List, false, IfOk, IfSome, OnOk, OnErr, IsErrOf};
+ghost use Rattle.std.specs.Prelude.{IsTrue, length};
 ghost use Rattle.std.specs.Io.KnownBytes.{IsAtEnd};
 ghost use Rattle.moc_script.specs.Runs.{Flushes};
 ghost use Rattle.moc_script.specs.Crews.{IsCrewText, CrewEnds};

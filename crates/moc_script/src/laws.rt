@@ -1,5 +1,6 @@
 //! Laws of the language of scripts, which the proof shows. The calls do nothing.
-ghost use Rattle.moc_script.specs.Laws.{LinesOfOneCommand, LinesWithoutOrder, ScriptsOfSingleCommands, ScriptsWithoutOrder};
+ghost use Rattle.moc_script.specs.Laws.{LinesOfOneCommand, LinesWithoutOrder, ScriptsOfSingleCommands};
+ghost use Rattle.moc_script.specs.Laws.{ScriptsWithoutOrder};
 
 /// A line without `;` that is not blank is answered as the one command that it says, and leaves the set that it leaves.
 pub fn lines_of_one_command()

@@ -1,4 +1,4 @@
-//! Scripts of commands and schedules of steps, from the bytes of a reader to the bytes of a writer.
+//! Scripts of commands, schedules of steps and numbers of cells, from the bytes of a reader to the bytes of a writer.
 #![tactic(auto)]
 
 mod answer;
@@ -10,7 +10,9 @@ mod device;
 mod fault;
 mod laws;
 mod line_reader;
+mod numbering;
 mod player;
+mod renumbering;
 mod reply_text;
 mod responder;
 mod runner;
@@ -27,6 +29,8 @@ pub use laws::{
     lines_of_one_command, lines_without_order, scripts_of_single_commands, scripts_without_order,
 };
 pub use line_reader::LINE_LIMIT;
+pub use numbering::Numbering;
+pub use renumbering::{Renumbering, renumber};
 pub use schedule::play;
 pub use script::{RunError, run};
 pub use sink::{OverWriter, Sink, write_all};

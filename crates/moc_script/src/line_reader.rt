@@ -1,5 +1,6 @@
 //! The lines of a reader, one at a time.
-ghost use Rattle.std.specs.Prelude.{◌≡◌, ◌+◌, ◌<◌, ◌≤◌, ◌≢◌, ◌||◌, ◌++◌, [], ℕ, false, true, IfOk, OnOk, OnErr, IsErrOf, is_err, length, nat_lt, Contains, IsTrue, ◌↔◌, Err, Ok};
+ghost use Rattle.std.specs.Prelude.{◌≡◌, ◌+◌, ◌<◌, ◌≤◌, ◌≢◌, ◌||◌, ◌++◌, [], ℕ, false, true, IfOk, OnOk, OnErr};
+ghost use Rattle.std.specs.Prelude.{IsErrOf, is_err, length, nat_lt, Contains, IsTrue, ◌↔◌, Err, Ok};
 ghost use Rattle.std.specs.List.{position_or_len, before_first, after_first};
 ghost use Rattle.std.specs.Io.KnownBytes.{Keeps, Consumes, IsAtEnd};
 ghost use Rattle.moc_text.specs.Lines.{is_line_feed};

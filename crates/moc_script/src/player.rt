@@ -4,7 +4,8 @@ ghost use Rattle.moc_steps.specs.Locks.{refusal};
 ghost use Rattle.moc_steps.specs.Played.{entries_of, step_of};
 ghost use Rattle.moc_parts.specs.Batches.{batches};
 ghost use Rattle.moc_script.specs.Refusals.{refusal_name};
-ghost use Rattle.moc_script.specs.Schedules.{after_step, answer_to_step, begin_lines, done_text, end_text, schedule_rules, start_schedule};
+ghost use Rattle.moc_script.specs.Schedules.{after_step, answer_to_step, begin_lines, done_text, end_text};
+ghost use Rattle.moc_script.specs.Schedules.{schedule_rules, start_schedule};
 
 use crate::answer::push_fault;
 use crate::fault::ReadError;

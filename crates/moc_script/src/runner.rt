@@ -1,5 +1,6 @@
 //! A run under way.
-ghost use Rattle.std.specs.Prelude.{◌≡◌, ◌≢◌, ◌++◌, ◌⊎◌, [], IfOk, IfErr, IfSome, if◌then◌else◌, IsTrue, ◌↔◌, true, false, OnOk, OnErr, IsErrOf, Err};
+ghost use Rattle.std.specs.Prelude.{◌≡◌, ◌≢◌, ◌++◌, ◌⊎◌, [], IfOk, IfErr, IfSome, if◌then◌else◌, IsTrue, ◌↔◌, true};
+ghost use Rattle.std.specs.Prelude.{false, OnOk, OnErr, IsErrOf, Err};
 ghost use Rattle.std.specs.Io.KnownBytes.{IsAtEnd, Keeps};
 ghost use Rattle.moc_script.specs.Devices.{CallsMore};
 ghost use Rattle.moc_script.specs.LineReading.{TakesLine, fault_at, holds_line};

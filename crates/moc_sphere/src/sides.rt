@@ -1,7 +1,9 @@
 //! What lies beyond the sides and vertices of a base pixel: the north cap's are numbered 0 to 3, the equator's
 //! 4 to 7, the south cap's 8 to 11, each four from west to east. `last` is the greatest coordinate.
 
-ghost use Rattle.moc_sphere.specs.Private.Sides.{IsBeside, IsBeyondEast, IsBeyondNorth, IsBeyondNorthEast, IsBeyondNorthWest, IsBeyondSouth, IsBeyondSouthEast, IsBeyondSouthWest, IsBeyondWest};
+ghost use Rattle.moc_sphere.specs.Private.Sides.{IsBeside, IsBeyondEast, IsBeyondNorth, IsBeyondNorthEast};
+ghost use Rattle.moc_sphere.specs.Private.Sides.{IsBeyondNorthWest, IsBeyondSouth, IsBeyondSouthEast};
+ghost use Rattle.moc_sphere.specs.Private.Sides.{IsBeyondSouthWest, IsBeyondWest};
 ghost use Rattle.std.specs.Prelude.{◌≡◌, ℕ, ◌+◌, ◌<◌, ◌≤◌, ◌^◌, MatchOption};
 
 /// A base pixel, and the place (x, y) of a cell in it.

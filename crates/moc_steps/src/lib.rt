@@ -9,8 +9,6 @@ mod schedule;
 mod share;
 mod step;
 mod table;
-#[cfg(test)]
-mod tests;
 mod world;
 
 pub use error::{CoverError, ReplayError, StepError};

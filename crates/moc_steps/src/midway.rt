@@ -1,12 +1,14 @@
 //! Clients that are midway.
-ghost use Rattle.std.specs.Prelude.{◌≡◌, ◌<◌, ◌+◌, ℕ, true, suc, IfOk, IfSome, IsSome, None, Some, take, slice_get, nat_eq, nat_lt, option_map};
+ghost use Rattle.std.specs.Prelude.{◌≡◌, ◌<◌, ◌+◌, ℕ, true, suc, IfOk, IfSome, IsSome, None, Some, take, slice_get};
+ghost use Rattle.std.specs.Prelude.{nat_eq, nat_lt, option_map};
 ghost use Rattle.std.specs.List.{list_any};
 ghost use Rattle.std.specs.Option.{option_copied};
 ghost use Rattle.std.specs.FinSet as set;
 ghost use Rattle.moc_ranges.specs.Operations.{part_of};
 ghost use Rattle.moc_parts.specs.Batches.{batches, footprint_of_all, set_after_all, replies_on};
 ghost use Rattle.moc_steps.specs.Locks as locks;
-ghost use Rattle.moc_steps.specs.Locks.{begins, holds, holds_some, edit_refusal, give_refusal, quit_refusal, end_refusal};
+ghost use Rattle.moc_steps.specs.Locks.{begins, holds, holds_some, edit_refusal, give_refusal, quit_refusal};
+ghost use Rattle.moc_steps.specs.Locks.{end_refusal};
 ghost use Rattle.moc_steps.specs.Private.Standing.{IsMade};
 
 use crate::error::StepError;

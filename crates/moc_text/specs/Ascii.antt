@@ -1,5 +1,6 @@
 -- Reading the ASCII form of a coverage (MOC 2.0): what a text says, or its first fault.
-use Rattle.std.specs.Prelude.{◌≡◌, ℕ, ◌+◌, ◌<◌, ◌≤◌, Bool, true, not, ◌||◌, ◌==◌, nat_lt, if◌then◌else◌, List, [], ◌∷◌, ◌++◌, length, Option, Some, None, unwrap_or, ◌⊎◌, max}
+use Rattle.std.specs.Prelude.{◌≡◌, ℕ, ◌+◌, ◌<◌, ◌≤◌, Bool, true, not, ◌||◌, ◌==◌, nat_lt, if◌then◌else◌, List, [], ◌∷◌}
+use Rattle.std.specs.Prelude.{◌++◌, length, Option, Some, None, unwrap_or, ◌⊎◌, max}
 use Rattle.std.specs.Option.{option_or}
 use Rattle.std.specs.Str.{all_ascii_digits}
 use Rattle.std.specs.Str.Parse.{digits_value}
@@ -11,7 +12,8 @@ use Rattle.moc_text.specs.declared.ascii.number.Number.{Number}
 use Rattle.moc_text.specs.declared.ascii.number.Item.{Item}
 use Rattle.moc_text.specs.declared.ascii.number.Parts.{Parts}
 use Rattle.moc_text.specs.declared.ascii.error.TextError.{TextError}
-use Rattle.moc_text.specs.declared.ascii.error.TextError.TheVariants.{BadByte, NoOrder, OrderTooLarge, CellTooLarge, Backwards, Unfinished}
+use Rattle.moc_text.specs.declared.ascii.error.TextError.TheVariants.{BadByte, NoOrder, OrderTooLarge, CellTooLarge}
+use Rattle.moc_text.specs.declared.ascii.error.TextError.TheVariants.{Backwards, Unfinished}
 
 -- ---- words
 

@@ -1,6 +1,7 @@
 -- Reading the JSON form of a coverage (MOC 2.0): the names of an object are orders, and their
 -- arrays are cells.
-use Rattle.std.specs.Prelude.{◌≡◌, ℕ, zero, suc, ◌+◌, ◌&&◌, ◌==◌, not, nat_lt, if◌then◌else◌, List, Option, Some, None, option_and_then, length, IsUtf8, ◌⊎◌}
+use Rattle.std.specs.Prelude.{◌≡◌, ℕ, zero, suc, ◌+◌, ◌&&◌, ◌==◌, not, nat_lt, if◌then◌else◌, List, Option, Some, None}
+use Rattle.std.specs.Prelude.{option_and_then, length, IsUtf8, ◌⊎◌}
 use Rattle.std.specs.Option.{option_or}
 use Rattle.std.specs.Str.{all_ascii_digits}
 use Rattle.std.specs.Str.Parse.{digits_value}
@@ -13,7 +14,8 @@ use Rattle.moc_ranges.specs.Numbers.{NumberSet}
 use Rattle.moc_ranges.specs.Cells.{span}
 use Rattle.moc_text.specs.Ascii.{deeper}
 use Rattle.moc_text.specs.declared.json.error.JsonError.{JsonError}
-use Rattle.moc_text.specs.declared.json.error.JsonError.TheVariants.{NotJson, NotObject, BadOrder, NotArray, NotWhole, CellTooLarge}
+use Rattle.moc_text.specs.declared.json.error.JsonError.TheVariants.{NotJson, NotObject, BadOrder, NotArray, NotWhole}
+use Rattle.moc_text.specs.declared.json.error.JsonError.TheVariants.{CellTooLarge}
 
 -- ---- names and items
 

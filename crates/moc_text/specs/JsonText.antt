@@ -1,6 +1,7 @@
 -- Writing the JSON form of a coverage (MOC 2.0): an object whose names are orders and whose arrays
 -- are cells.
-use Rattle.std.specs.Prelude.{ℕ, zero, suc, Bool, true, false, ◌==◌, if◌then◌else◌, List, [], ◌∷◌, map, Option, Some, None, decimal}
+use Rattle.std.specs.Prelude.{ℕ, zero, suc, Bool, true, false, ◌==◌, if◌then◌else◌, List, [], ◌∷◌, map, Option, Some}
+use Rattle.std.specs.Prelude.{None, decimal}
 use Rattle.std.specs.List.{filter}
 use Rattle.serde_json.specs.Data.{Data, number, unsigned, array, object, Members, no_members, put}
 use Rattle.serde_json.specs.View.{items_of}

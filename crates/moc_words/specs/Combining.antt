@@ -1,5 +1,5 @@
 -- Texts that are parted by semicolons, combined from the left.
-use Rattle.std.specs.Prelude.{◌≡◌, ℕ, Bool, ◌==◌, List, [], ◌∷◌, Option, None, Some}
+use Rattle.std.specs.Prelude.{◌≡◌, ℕ, Bool, ◌==◌, List, [], ◌∷◌, codes, Option, None, Some}
 use Rattle.std.specs.FinSet as set
 use Rattle.std.specs.List.{slice_split}
 use Rattle.moc_ranges.specs.Numbers.{NumberSet}
@@ -9,6 +9,13 @@ use Rattle.moc_words.specs.Forms.{FormSays}
 use Rattle.moc_words.specs.declared.combining.Operation.{Operation}
 use Rattle.moc_words.specs.declared.combining.Operation.TheVariants.{Union, Intersection, Difference, Symmetric}
 use Rattle.moc_words.specs.declared.form.Form.{Form}
+
+-- the word for an operation
+abbrev pub operation_name : Operation → List ℕ
+operation_name Union = codes "union"
+operation_name Intersection = codes "intersection"
+operation_name Difference = codes "difference"
+operation_name Symmetric = codes "symmetric"
 
 -- what an operation makes of two sets
 abbrev pub combined : Operation → NumberSet → NumberSet → NumberSet

@@ -1,9 +1,8 @@
 -- The text forms of a coverage.
-use Rattle.std.specs.Prelude.{◌≡◌, ℕ, List, [], ◌∷◌, ◌++◌, ◌⊎◌, Option, None, Some, codes}
+use Rattle.std.specs.Prelude.{◌≡◌, ℕ, List, [], ◌∷◌, ◌++◌, codes, ◌⊎◌, Option, None, Some}
 use Rattle.moc_ranges.specs.Numbers.{NumberSet}
 use Rattle.moc_text.specs.Ascii.{Says, IsFirstFault}
 use Rattle.moc_text.specs.AsciiText.{ascii_text, IsTooCoarse}
-use Rattle.moc_text.specs.Faults.{Fails}
 use Rattle.moc_text.specs.JsonForm.{SaysJson, IsJsonFault}
 use Rattle.moc_text.specs.JsonText.{json_text}
 use Rattle.moc_text.specs.UniqList.{SaysUniq, uniq_fault, uniq_text}
@@ -17,6 +16,12 @@ use Rattle.moc_words.specs.declared.form.Form.{Form}
 use Rattle.moc_words.specs.declared.form.Form.TheVariants.{Ascii, Json, Uniq}
 use Rattle.moc_words.specs.declared.form.FormError.{FormError}
 use Rattle.moc_words.specs.declared.form.FormError.TheVariants as error
+
+-- the word for a form
+abbrev pub form_name : Form → List ℕ
+form_name Ascii = codes "ascii"
+form_name Json = codes "json"
+form_name Uniq = codes "uniq"
 
 -- what a text in a form says: a set and the deepest order that it names; a NUNIQ list names none
 abbrev pub FormSays : Form → List ℕ → NumberSet → Option ℕ → Type 0

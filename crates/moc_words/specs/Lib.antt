@@ -1,4 +1,5 @@
 pub mod Combining
 pub mod Describing
+pub mod Drawing
 pub mod Forms
 pub mod Places

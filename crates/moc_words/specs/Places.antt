@@ -1,5 +1,6 @@
 -- Where a text is at fault.
-use Rattle.std.specs.Prelude.{◌≡◌, ℕ, ◌+◌, List, [], ◌∷◌, ◌++◌, ◌⊎◌, if◌then◌else◌, take, Option, None, Some, option_map, decimal, codes, count_by}
+use Rattle.std.specs.Prelude.{◌≡◌, ℕ, ◌+◌, List, [], ◌∷◌, ◌++◌, ◌⊎◌, if◌then◌else◌, take, Option, None, Some}
+use Rattle.std.specs.Prelude.{option_map, decimal, codes, count_by}
 use Rattle.moc_text.specs.JsonForm.{NamesOrder}
 use Rattle.moc_text.specs.Lines.{is_line_feed}
 use Rattle.moc_text.specs.declared.ascii.error.TextError.{TextError}

@@ -1,7 +1,7 @@
 //! Operations on what texts say.
-ghost use Rattle.std.specs.Prelude.{◌≡◌, IfOk};
+ghost use Rattle.std.specs.Prelude.{◌≡◌, IfOk, IfSome, Some};
 ghost use Rattle.moc_text.specs.Ascii.{deeper as deeper_of};
-ghost use Rattle.moc_words.specs.Combining.{combined, joined};
+ghost use Rattle.moc_words.specs.Combining.{combined, joined, operation_name};
 
 use moc_ranges::{Coverage, Memory};
 use moc_sphere::Order;
@@ -22,7 +22,10 @@ pub enum Operation {
 
 impl Operation {
     /// The operation that the command line calls `union`, `intersection`, `difference` or `symmetric`.
-    pub fn named(word: &str) -> Option<Operation> {
+    pub fn named(word: &str) -> Option<Operation>
+        ensures name { IfSome result (λ operation. word.now ≡ operation_name operation) }
+        ensures each { (operation : Operation) → word.now ≡ operation_name operation → result ≡ Some operation }
+    {
         match word {
             "union" => Some(Operation::Union),
             "intersection" => Some(Operation::Intersection),

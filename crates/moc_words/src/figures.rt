@@ -3,7 +3,8 @@ ghost use Rattle.std.specs.Prelude.{◌≡◌, ◌++◌, ◌<◌, ◌≤◌, ◌
 ghost use Rattle.std.specs.FinSet as set;
 ghost use Rattle.std.specs.String.{string_bytes};
 ghost use Rattle.moc_ranges.specs.Pixels.{pixel_count};
-ghost use Rattle.moc_words.specs.Describing.{Describes, count_at, deepest_line, last_digits, order_line, order_lines_below, share_of, share_text};
+ghost use Rattle.moc_words.specs.Describing.{Describes, count_at, deepest_line, last_digits, order_line};
+ghost use Rattle.moc_words.specs.Describing.{order_lines_below, share_of, share_text};
 
 use crate::texts::{push_count, push_line};
 use moc_ranges::{Coverage, Memory, PIXEL_COUNT};

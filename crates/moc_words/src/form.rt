@@ -1,7 +1,7 @@
 //! The text forms of a coverage as one type.
-ghost use Rattle.std.specs.Prelude.{◌≡◌, IfErr, IfOk, OnOk};
+ghost use Rattle.std.specs.Prelude.{◌≡◌, IfErr, IfOk, IfSome, OnOk, Some};
 ghost use Rattle.std.specs.String.{string_bytes};
-ghost use Rattle.moc_words.specs.Forms.{FormFails, FormSays, IsUnwritten, form_text};
+ghost use Rattle.moc_words.specs.Forms.{FormFails, FormSays, IsUnwritten, form_name, form_text};
 
 use moc_ranges::{Coverage, Memory as MemoryRefused};
 use moc_sphere::Order;
@@ -93,7 +93,10 @@ impl From<MemoryRefused> for FormError {
 
 impl Form {
     /// The form that the command line calls `ascii`, `json` or `uniq`.
-    pub fn named(word: &str) -> Option<Form> {
+    pub fn named(word: &str) -> Option<Form>
+        ensures name { IfSome result (λ form. word.now ≡ form_name form) }
+        ensures each { (form : Form) → word.now ≡ form_name form → result ≡ Some form }
+    {
         match word {
             "ascii" => Some(Form::Ascii),
             "json" => Some(Form::Json),

@@ -1,18 +1,19 @@
 //! What can be said of coverages in any of their text forms: whether a text is one and else where it is at fault, what
-//! several say together, and what a set of pixels is like in figures.
+//! several say together, and what a set of pixels is like in figures and as a picture.
 #![tactic(auto)]
 
 mod checking;
 mod combining;
+mod drawing;
 mod figures;
 mod form;
+mod marks;
 mod place;
-#[cfg(test)]
-mod tests;
 mod texts;
 
 pub use checking::{Refusal, check};
 pub use combining::Operation;
+pub use drawing::draw;
 pub use figures::describe;
 pub use form::{Form, FormError};
 pub use place::Place;

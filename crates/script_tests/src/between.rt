@@ -1,6 +1,6 @@
-//! Scripts and schedules between devices that move one byte a call.
+//! Scripts, schedules and numbers between devices that move one byte a call.
 use crate::failing::{FailingSink, FailingSource, Failure};
-use moc_script::{RunError, play, run};
+use moc_script::{Renumbering, RunError, play, renumber, run};
 use std::alloc::Global;
 use std::process::Abort;
 
@@ -12,6 +12,7 @@ pub const PLENTY: u64 = 1 << 40;
 pub enum Language {
     Script,
     Schedule,
+    Numbers(Renumbering),
 }
 
 /// How a call ended, what was written, and how often the writer was flushed.
@@ -63,6 +64,7 @@ pub fn between(alloc: Global, language: Language, text: &[u8], devices: Devices)
     let result = match language {
         Language::Script => run(alloc, &mut source, &mut sink),
         Language::Schedule => play(alloc, &mut source, &mut sink),
+        Language::Numbers(renumbering) => renumber(alloc, &mut source, &mut sink, renumbering),
     };
     Ended {
         result,

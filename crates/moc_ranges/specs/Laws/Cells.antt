@@ -1,23 +1,27 @@
 -- What callers know of the cells of a set: they are cells, in rising NUNIQ, and their pixels are
 -- just the set's.
-use Rattle.std.proofs.Common.{◌≡◌, ℕ, zero, suc, ◌+◌, ◌-◌, ◌*◌, ◌/◌, ◌^◌, ◌<◌, ◌≤◌, Bool, true, false, cond, ◌||◌, List, [], ◌∷◌, ◌++◌, map, refl, sym, ap, subst, ◌∙◌, inl, inr, arith}
+use Rattle.std.proofs.Common.{◌≡◌, ℕ, zero, suc, ◌+◌, ◌-◌, ◌*◌, ◌/◌, ◌^◌, ◌<◌, ◌≤◌, Bool, true, false, cond, ◌||◌, List}
+use Rattle.std.proofs.Common.{[], ◌∷◌, ◌++◌, map, refl, sym, ap, subst, ◌∙◌, inl, inr, arith}
 use Rattle.std.specs.Prelude.{nat_le, nat_lt, ⊤}
 use Rattle.std.specs.FinSet as set
 use Rattle.std.specs.Cmp.{nat_cmp_total}
 use Rattle.std.specs.List.{AllByRecursion, filter, range_with_len}
-use Rattle.std.proofs.lemmas.Bool.{cases_Bool, cases_eq, and_parts, and_from, or_cases, or_left, or_right, lt-ltb, ltb-true, le-leb, leb-true, eq-eqb, eqb-true, not_from_false, false≢true}
+use Rattle.std.proofs.lemmas.Bool.{cases_Bool, cases_eq, and_parts, and_from, or_cases, or_left, or_right, lt-ltb}
+use Rattle.std.proofs.lemmas.Bool.{ltb-true, le-leb, leb-true, eq-eqb, eqb-true, not_from_false, false≢true}
 use Rattle.std.proofs.lemmas.List.{map-append}
 use Rattle.std.proofs.lemmas.List.Elements.{filter-append}
 use Rattle.std.proofs.lemmas.List.Folds.{list_any-append}
 use Rattle.std.proofs.lemmas.Nat.{div_below, div-mul-add, div-add-mod', mod_below, mul-le}
 use Rattle.std.proofs.Math.Nat.{div-div-eq-div-mul, pow-succ'}
-use Rattle.moc_sphere.specs.CellNumber.{CellNumber, cell_number, cell_count, cell_size, cell_size-positive, cell_size-fills, IsCell, uniq_of}
+use Rattle.moc_sphere.specs.CellNumber.{CellNumber, cell_number, cell_count, cell_size, cell_size-positive}
+use Rattle.moc_sphere.specs.CellNumber.{cell_size-fills, IsCell, uniq_of}
 use Rattle.moc_ranges.specs.Numbers.{NumberSet, same_members}
 use Rattle.moc_ranges.specs.Pixels.{pixel_count, pixels}
 use Rattle.moc_ranges.specs.Operations.{IsWithin, contains-pixels}
 use Rattle.moc_ranges.specs.RangeList.{set_of, contains-set_of, in_range, in_ranges}
 use Rattle.moc_ranges.specs.Same.{same_truth}
-use Rattle.moc_ranges.specs.Cells.{span, contains-span, is_cell_of, cells_below, cells_of, cell_range, AllUniqFrom, IsRisingUniq}
+use Rattle.moc_ranges.specs.Cells.{span, contains-span, is_cell_of, cells_below, cells_of, cell_range, AllUniqFrom}
+use Rattle.moc_ranges.specs.Cells.{IsRisingUniq}
 
 -- ---- cells
 

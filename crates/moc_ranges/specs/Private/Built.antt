@@ -9,7 +9,8 @@ use Rattle.moc_ranges.specs.Private.Blocks.{joining, AreBlocks, next_of}
 abbrev pub kept_of : List (List (List (ℕ × ℕ))) → List (List (ℕ × ℕ)) → List (ℕ × ℕ) → List (ℕ × ℕ)
 kept_of nodes blocks ranges = joining (joining nodes ++ blocks) ++ ranges
 
--- what is built so far: blocks by the two rules of lengths, at most 128 ranges behind them, all together a normal range list
+-- what is built so far: blocks by the two rules of lengths, at most 128 ranges behind them, all together a normal
+-- range list
 pub record IsBuilt (nodes : List (List (List (ℕ × ℕ)))) (blocks : List (List (ℕ × ℕ))) (ranges : List (ℕ × ℕ)) :
     Type 0 where
   pub sized : AreBlocks (joining nodes ++ blocks)

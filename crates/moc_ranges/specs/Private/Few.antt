@@ -23,4 +23,5 @@ pub record IsParted (x y z : ℕ × ℕ) (kept kept' : List (ℕ × ℕ)) : Type
   pub filled : z.0 < z.1
   pub below : (f : ℕ) → x.1 < f → EndsBelow (min f z.0) kept'
   pub same : (xs ys : List (ℕ × ℕ)) (q : ℕ) → IsNormal (x ∷ xs) → IsNormal (y ∷ ys) →
-      (in_ranges kept' q || differs (in_ranges xs q) (in_ranges (z ∷ ys) q)) ≡ (in_ranges kept q || differs (in_ranges (x ∷ xs) q) (in_ranges (y ∷ ys) q))
+      (in_ranges kept' q || differs (in_ranges xs q) (in_ranges (z ∷ ys) q))
+      ≡ (in_ranges kept q || differs (in_ranges (x ∷ xs) q) (in_ranges (y ∷ ys) q))

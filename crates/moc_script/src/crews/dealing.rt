@@ -1,5 +1,6 @@
 //! The lines of a script, read whole and dealt to lanes.
-ghost use Rattle.std.specs.Prelude.{◌≡◌, ◌<◌, ◌≤◌, ◌+◌, ◌^◌, ◌↔◌, [], ℕ, List, false, IfOk, IfErr, OnOk, IsErrOf, IsTrue, length};
+ghost use Rattle.std.specs.Prelude.{◌≡◌, ◌<◌, ◌≤◌, ◌+◌, ◌^◌, ◌↔◌, [], ℕ, List, false, IfOk, IfErr, OnOk, IsErrOf};
+ghost use Rattle.std.specs.Prelude.{IsTrue, length};
 ghost use Rattle.moc_script.specs.Private.Dealing.{HasDealt, with_said, DealsAll, ReadFails};
 
 use crate::crews::texts::Texts;

@@ -3,7 +3,8 @@ ghost use Rattle.std.specs.Prelude.{◌≡◌, ◌++◌, ◌≤◌, decimal, IfE
 ghost use Rattle.std.specs.Option.{ForSome};
 ghost use Rattle.std.specs.String.{string_bytes};
 ghost use Rattle.moc_text.specs.Ascii.{Says};
-ghost use Rattle.moc_text.specs.AsciiText.{ascii_text, deepest_cell, deepest_written, follows, HasDeeper, IsTooCoarse, mark_text_of, one, order_text, run_text, stated_beyond, text_of_cells};
+ghost use Rattle.moc_text.specs.AsciiText.{ascii_text, deepest_cell, deepest_written, follows, HasDeeper, IsTooCoarse};
+ghost use Rattle.moc_text.specs.AsciiText.{mark_text_of, one, order_text, run_text, stated_beyond, text_of_cells};
 ghost use Rattle.moc_text.specs.Private.AsciiWriting.{AreRising, gap, run_part, stated_part};
 
 use crate::ascii::error::TextError;

@@ -6,7 +6,9 @@ ghost use Rattle.serde_json.specs.View.{view, items_view, members_view};
 ghost use Rattle.moc_ranges.specs.Numbers.{NumberSet};
 ghost use Rattle.moc_text.specs.Ascii.{deeper as deeper_of};
 ghost use Rattle.moc_text.specs.Faults.{Fails};
-ghost use Rattle.moc_text.specs.JsonForm.{order_of_name, whole, cell_pixels, item_fault, items_pixels, items_fault, array_pixels, name_fault, members_pixels, members_fault, deepest_name, order_at, IsJson, IsNotJson, NamesOrder, SaysJson, IsJsonFault};
+ghost use Rattle.moc_text.specs.JsonForm.{order_of_name, whole, cell_pixels, item_fault, items_pixels, items_fault};
+ghost use Rattle.moc_text.specs.JsonForm.{array_pixels, name_fault, members_pixels, members_fault, deepest_name};
+ghost use Rattle.moc_text.specs.JsonForm.{order_at, IsJson, IsNotJson, NamesOrder, SaysJson, IsJsonFault};
 ghost use Rattle.moc_text.specs.Private.JsonReading.{held_order};
 
 use crate::json::error::JsonError;
@@ -205,8 +207,8 @@ pub fn json_order(alloc: Global, text: &[u8], name: usize) -> Result<Option<Orde
     Ok(order_of_member(members, name))
 }
 
-/// The line, counted from 1, and the column at which `serde_json` stops reading a text that is no JSON. `None` where the
-/// text is JSON, where memory was refused, or where `serde_json` tells no place.
+/// The line, counted from 1, and the column at which `serde_json` stops reading a text that is no JSON. `None` where
+/// the text is JSON, where memory was refused, or where `serde_json` tells no place.
 pub fn json_stop(alloc: Global, text: &[u8]) -> Option<(usize, usize)>
     ensures { IfSome result (λ _. IsNotJson text.now) }
 {

@@ -1,0 +1,70 @@
+//! The numberings of the cells of an order.
+ghost use Rattle.std.specs.Prelude.{◌≡◌, IfSome, Some};
+ghost use Rattle.moc_script.specs.Numberings.{number_under, numbering_name};
+ghost use Rattle.moc_script.specs.Private.Finding.{FindsCell};
+
+use crate::fault::Fault;
+use moc_sphere::{Cell, Order};
+
+/// A numbering of the cells of an order.
+#[derive(Clone, Copy, Debug, PartialEq, Eq)]
+pub enum Numbering {
+    /// HEALPix's nested numbering scheme: from 0, base pixel by base pixel, and in each quarter by quarter.
+    Nest,
+    /// HEALPix's ring numbering scheme: from 0, row by row from the north pole, and eastward in a row.
+    Ring,
+    /// NUNIQ numbers (MOC 2.0): the nested ones and 4^(order + 1).
+    Uniq,
+}
+
+impl Numbering {
+    /// The numbering that the command line calls `nest`, `ring` or `uniq`.
+    pub fn named(word: &str) -> Option<Numbering>
+        ensures name { IfSome result (λ numbering. word.now ≡ numbering_name numbering) }
+        ensures each { (n : Numbering) → word.now ≡ numbering_name n → result ≡ Some n }
+    {
+        match word {
+            "nest" => Some(Numbering::Nest),
+            "ring" => Some(Numbering::Ring),
+            "uniq" => Some(Numbering::Uniq),
+            _ => None,
+        }
+    }
+
+    /// The number of a cell.
+    pub(crate) fn number(self, cell: Cell) -> u64
+        ensures { result ≡ number_under self cell.order cell.index }
+    {
+        match self {
+            Numbering::Nest => cell.index(),
+            Numbering::Ring => cell.ring(),
+            Numbering::Uniq => cell.uniq(),
+        }
+    }
+
+    /// The cell of the order that has this number, or the fault.
+    pub(crate) fn cell(self, order: Order, number: u64) -> Result<Cell, Fault>
+        ensures { FindsCell self order number result }
+    {
+        match self {
+            Numbering::Nest => Cell::new(order, number).or(Err(Fault::CellTooLarge)),
+            Numbering::Ring => Cell::from_ring(order, number).or(Err(Fault::RingTooLarge)),
+            Numbering::Uniq => cell_of_uniq(order, number),
+        }
+    }
+}
+
+/// The cell of the order that has this NUNIQ number, or the fault.
+fn cell_of_uniq(order: Order, uniq: u64) -> Result<Cell, Fault>
+    ensures { FindsCell Numbering.Uniq order uniq result }
+{
+    let depth = order.get();
+    let Ok(cell) = Cell::from_uniq(uniq) else {
+        return Err(Fault::NotUniq);
+    };
+    if cell.order().get() == depth {
+        Ok(cell)
+    } else {
+        Err(Fault::OtherOrder)
+    }
+}

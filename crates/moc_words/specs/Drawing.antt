@@ -1,0 +1,132 @@
+-- A picture of a set: an SVG text that shows HEALPix's plane (Górski and others 2005), 1024 half steps of order 7
+-- wide and 512 high, with x eastward and y from the north pole.
+use Rattle.std.specs.Prelude.{ℕ, zero, suc, ◌+◌, ◌-◌, ◌*◌, ◌/◌, ◌^◌, ◌==◌, Bool, not, ◌&&◌, nat_le, if◌then◌else◌}
+use Rattle.std.specs.Prelude.{List, [], ◌∷◌, ◌++◌, decimal, codes}
+use Rattle.std.specs.FinSet as set
+use Rattle.moc_sphere.specs.CellNumber.{CellNumber, cell_number, cell_count}
+use Rattle.moc_sphere.specs.Rings.{row_of, column_of}
+use Rattle.moc_ranges.specs.Cells.{cells_of, span}
+use Rattle.moc_ranges.specs.Numbers.{NumberSet}
+use Rattle.moc_ranges.specs.Operations.{meets}
+
+-- ---- which cells are drawn, and how dark
+
+-- a cell that is drawn, and its shade: 1, the lightest, to 4, the darkest
+abbrev pub Mark : Type 0
+Mark = CellNumber × ℕ
+
+-- the marks of the cells whose order is at most 7: they are drawn whole, in the darkest shade
+unfoldable pub whole_marks : List CellNumber → List Mark
+whole_marks [] = []
+whole_marks (c ∷ cells) = (if nat_le c.order 7 then (c, 4) ∷ [] else []) ++ whole_marks cells
+
+-- whether a set has some of the pixels of the cell i of order 7, but not all
+unfoldable pub is_partial : NumberSet → ℕ → Bool
+is_partial a i = meets a (span 7 i) && not (set.is_subset (span 7 i) a)
+
+-- the shade of such a cell: 1 where the set has up to a quarter of its 4^22 pixels, 2 up to half of them, 3 up to three
+-- quarters, and else 4
+unfoldable pub shade_of : NumberSet → ℕ → ℕ
+shade_of a i = 1 + (set.len (set.intersection a (span 7 i)) - 1) / 4398046511104
+
+-- its mark, if it is one
+abbrev pub partial_mark : NumberSet → ℕ → List Mark
+partial_mark a i = if is_partial a i then (cell_number 7 i, shade_of a i) ∷ [] else []
+
+-- the marks of such cells below a number
+unfoldable pub partial_below : NumberSet → ℕ → List Mark
+partial_below a zero = []
+partial_below a (suc i) = partial_below a i ++ partial_mark a i
+
+-- the marks of a set: of its own cells of order 7 or less, and of the cells of order 7 that its deeper cells fill in
+-- part
+unfoldable pub marks_of : NumberSet → List Mark
+marks_of a = whole_marks (cells_of a) ++ partial_below a (cell_count 7)
+
+-- ---- diamonds
+
+-- the diamond that goes h to each side of a middle: from its northern corner by the eastern, the southern and the
+-- western
+unfoldable pub diamond : ℕ → ℕ → ℕ → List ℕ
+diamond h x y =
+    (codes "M" ++ decimal x) ++ (codes " " ++ decimal (y - h)) ++ (codes "l" ++ decimal h) ++ (codes " " ++ decimal h)
+    ++ (codes "-" ++ decimal h) ++ (codes " " ++ decimal h) ++ (codes "-" ++ decimal h) ++ (codes "-" ++ decimal h)
+    ++ codes "z"
+
+-- the diamond of a cell with half steps of h; where its column is 0, half of it leaves the left edge, and so it is
+-- drawn at the right edge as well
+unfoldable pub diamonds_at : ℕ → ℕ → ℕ → List ℕ
+diamonds_at h row column =
+    diamond h (column * h) (row * h) ++ (if column == 0 then diamond h 1024 (row * h) else [])
+
+-- the diamonds of a cell of order 7 or less
+unfoldable pub cell_diamonds : CellNumber → List ℕ
+cell_diamonds c = diamonds_at (2 ^ (7 - c.order)) (row_of c.order c.index) (column_of c.order c.index)
+
+-- the diamonds of the marks of a shade
+unfoldable pub shade_diamonds : ℕ → List Mark → List ℕ
+shade_diamonds shade [] = []
+shade_diamonds shade (m ∷ marks) = (if m.1 == shade then cell_diamonds m.0 else []) ++ shade_diamonds shade marks
+
+-- the diamonds of the base pixels below a number
+unfoldable pub base_diamonds_below : ℕ → List ℕ
+base_diamonds_below zero = []
+base_diamonds_below (suc f) = base_diamonds_below f ++ cell_diamonds (cell_number 0 f)
+
+-- ---- the text
+
+-- the path of a shade in its colour
+unfoldable pub shade_path : List Mark → ℕ → List ℕ → List ℕ
+shade_path marks shade colour =
+    codes "<path fill=\"" ++ colour ++ codes "\" d=\"" ++ shade_diamonds shade marks ++ codes "\"/>\n"
+
+-- the outlines of the twelve base pixels
+unfoldable pub outlines : List ℕ
+outlines = codes "<path fill=\"none\" stroke=\"#888\" d=\"" ++ base_diamonds_below 12 ++ codes "\"/>\n"
+
+-- a number, at a place
+unfoldable pub label : ℕ → ℕ → ℕ → List ℕ
+label number x y =
+    (codes "<text x=\"" ++ decimal x) ++ (codes "\" y=\"" ++ decimal y) ++ (codes "\">" ++ decimal number)
+    ++ codes "</text>\n"
+
+-- the number of a base pixel whose middle is in a row and a column: at the middle, 8 lower for the digits' height;
+-- where the column is 0, the middle lies on both edges, and the number stands 16 from each
+unfoldable pub labels_at : ℕ → ℕ → ℕ → List ℕ
+labels_at f row column =
+    if column == 0
+    then label f 16 (row * 128 + 8) ++ label f 1008 (row * 128 + 8)
+    else label f (column * 128) (row * 128 + 8)
+
+-- the numbers of the base pixels below a number
+unfoldable pub labels_below : ℕ → List ℕ
+labels_below zero = []
+labels_below (suc f) = labels_below f ++ labels_at f (row_of 0 f) (column_of 0 f)
+
+-- what stands before the shades: the plane, a title, a white ground
+abbrev pub head : List ℕ
+head =
+    codes "<svg xmlns=\"http://www.w3.org/2000/svg\" viewBox=\"0 0 1024 512\">\n<title>Sky coverage</title>\n"
+    ++ codes "<rect width=\"1024\" height=\"512\" fill=\"#fff\"/>\n"
+
+-- the marks in four shades of blue, with sharp edges so that no gap shows between neighbours
+unfoldable pub shades : List Mark → List ℕ
+shades marks =
+    codes "<g shape-rendering=\"crispEdges\">\n"
+    ++ shade_path marks 1 (codes "#bdd7e7")
+    ++ shade_path marks 2 (codes "#6baed6")
+    ++ shade_path marks 3 (codes "#3182bd")
+    ++ shade_path marks 4 (codes "#08519c")
+    ++ codes "</g>\n"
+
+-- the numbers of the twelve base pixels, with a white rim so that they are read on any shade
+unfoldable pub labels : List ℕ
+labels =
+    codes "<g font-family=\"sans-serif\" font-size=\"24\" text-anchor=\"middle\" "
+    ++ codes "paint-order=\"stroke\" stroke=\"#fff\" stroke-width=\"4\">\n"
+    ++ labels_below 12
+    ++ codes "</g>\n"
+
+-- the picture of a set of pixels
+abbrev pub picture_of : NumberSet → List ℕ
+picture_of a = head ++ shades (marks_of a) ++ outlines ++ labels ++ codes "</svg>\n"

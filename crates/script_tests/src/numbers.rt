@@ -1,0 +1,193 @@
+//! What lines of numbers are answered.
+use crate::between::{Language, expect_answers as expect};
+use moc_script::{LINE_LIMIT, Numbering, OverReader, OverWriter, Renumbering, RunError, renumber};
+use moc_sphere::Order;
+use std::alloc::{AllocError, Global};
+use std::test::Fail;
+
+// The names of the numberings.
+const NAMES: [&str; 3] = ["nest", "ring", "uniq"];
+
+// The ring numbers of the cells of order 1, by their nested numbers.
+const RINGS: [u64; 48] = [
+    13, 5, 4, 0, 15, 7, 6, 1, 17, 9, 8, 2, 19, 11, 10, 3, 28, 20, 27, 12, 30, 22, 21, 14, 32, 24,
+    23, 16, 34, 26, 25, 18, 44, 37, 36, 29, 45, 39, 38, 31, 46, 41, 40, 33, 47, 43, 42, 35,
+];
+
+// Numbers of an order, by the names of two numberings.
+fn numbers(from: &str, to: &str, order: u8) -> Result<Language, Fail> {
+    Ok(Language::Numbers(Renumbering {
+        from: Numbering::named(from).ok_or("from")?,
+        to: Numbering::named(to).ok_or("to")?,
+        order: Order::new(order).ok_or("order")?,
+    }))
+}
+
+// The numbers of the cells of order 1 in this numbering, by their nested numbers, a line each.
+fn cells_of_order_1(alloc: Global, name: &str) -> Result<String, AllocError> {
+    let mut lines = String::new(alloc);
+    for (index, ring) in RINGS.iter().enumerate() {
+        let number = match name {
+            "nest" => index as u64,
+            "ring" => *ring,
+            _ => (index as u64).saturating_add(16),
+        };
+        lines.push_str(format!(in alloc; "{number}\n")?.as_str())?;
+    }
+    Ok(lines)
+}
+
+#[test]
+fn all_cells_of_order_1(rt: HostRuntime) -> Result<(), Fail> {
+    for from in NAMES {
+        for to in NAMES {
+            let lines = cells_of_order_1(rt.alloc(), from)?;
+            let answers = cells_of_order_1(rt.alloc(), to)?;
+            let language = numbers(from, to, 1)?;
+            expect(
+                &rt,
+                rt.alloc(),
+                language,
+                lines.as_bytes(),
+                answers.as_bytes(),
+            );
+        }
+    }
+    assert!(rt; Numbering::named("nested").is_none());
+    Ok(())
+}
+
+// Cells of the least and of the greatest order: the first and the last in some numbering.
+#[test]
+fn ends_of_orders(rt: HostRuntime) -> Result<(), Fail> {
+    for (order, lines) in [
+        (0, ["0\n11\n", "0\n11\n", "4\n15\n"]),
+        (
+            29,
+            [
+                "0\n288230376151711743\n3458764513820540927\n3170534137668829184\n",
+                "1729382253957480448\n0\n1729382259863060480\n3458764513820540927\n",
+                "1152921504606846976\n1441151880758558719\n4611686018427387903\n4323455642275676160\n",
+            ],
+        ),
+    ] {
+        for (from, given) in NAMES.iter().zip(lines.iter()) {
+            for (to, answers) in NAMES.iter().zip(lines.iter()) {
+                let language = numbers(from, to, order)?;
+                expect(
+                    &rt,
+                    rt.alloc(),
+                    language,
+                    given.as_bytes(),
+                    answers.as_bytes(),
+                );
+            }
+        }
+    }
+    Ok(())
+}
+
+// Faults of fields are those of any numbering. A number of more than 64 bits is too large, as one of 64 bits is.
+#[test]
+fn faulty_lines(rt: HostRuntime) -> Result<(), Fail> {
+    let fields = b"1 2\nx 2\n2 x\nx\n-1\n+1\n1x\n1;2\n0x1\n1.0\n";
+    let told = b"\
+fault WrongCount
+fault WrongCount
+fault WrongCount
+fault BadNumber
+fault BadNumber
+fault BadNumber
+fault BadNumber
+fault BadNumber
+fault BadNumber
+fault BadNumber
+";
+    for from in NAMES {
+        expect(&rt, rt.alloc(), numbers(from, "ring", 3)?, fields, told);
+    }
+    for (from, lines, answers) in [
+        (
+            "nest",
+            "12\n11\n18446744073709551615\n18446744073709551616\n340282366920938463463374607431768211456\n",
+            "fault CellTooLarge\n15\nfault CellTooLarge\nfault CellTooLarge\nfault CellTooLarge\n",
+        ),
+        (
+            "ring",
+            "12\n11\n18446744073709551615\n18446744073709551616\n18446744073709551627\n",
+            "fault RingTooLarge\n15\nfault RingTooLarge\nfault RingTooLarge\nfault RingTooLarge\n",
+        ),
+        (
+            "uniq",
+            "3\n4\n15\n16\n4611686018427387903\n4611686018427387904\n18446744073709551620\n",
+            "fault NotUniq\n4\n15\nfault OtherOrder\nfault OtherOrder\nfault NotUniq\nfault NotUniq\n",
+        ),
+    ] {
+        let language = numbers(from, "uniq", 0)?;
+        expect(
+            &rt,
+            rt.alloc(),
+            language,
+            lines.as_bytes(),
+            answers.as_bytes(),
+        );
+    }
+    expect(
+        &rt,
+        rt.alloc(),
+        numbers("uniq", "nest", 1)?,
+        b"15\n16\n63\n64\n",
+        b"fault OtherOrder\n0\n47\nfault OtherOrder\n",
+    );
+    Ok(())
+}
+
+// Blank lines have no answer; blanks round a number and zeros before it are skipped; a last line needs no line feed.
+#[test]
+fn blanks_and_line_ends(rt: HostRuntime) -> Result<(), Fail> {
+    for blanks in ["", "\n \t\r\n\r\n  "] {
+        let language = numbers("nest", "ring", 1)?;
+        expect(&rt, rt.alloc(), language, blanks.as_bytes(), b"");
+    }
+    let language = numbers("nest", "ring", 1)?;
+    let lines = b"0\r\n\n \t1 \t\r\n\r\n00000000000000000000002\nx\n\n3";
+    expect(
+        &rt,
+        rt.alloc(),
+        language,
+        lines,
+        b"13\n5\n4\nfault BadNumber\n0\n",
+    );
+    Ok(())
+}
+
+// A number, a line of so many zeros, and a number more, from the nested numbers of order 1 to the ring numbers.
+fn over_zeros(alloc: Global, zeros: usize) -> Result<(Result<(), RunError>, Vec<u8>), Fail> {
+    let mut lines = Vec::from_slice(alloc, b"1\n")?;
+    let end = lines.len().saturating_add(zeros);
+    lines.resize(end, b'0')?;
+    lines.extend_from_slice(b"\n2\n")?;
+    let mut text = Vec::new(alloc);
+    let result = renumber(
+        alloc,
+        &mut OverReader::new(lines.as_slice()),
+        &mut OverWriter::new(&mut text),
+        Renumbering {
+            from: Numbering::Nest,
+            to: Numbering::Ring,
+            order: Order::new(1).ok_or("order")?,
+        },
+    );
+    Ok((result, text))
+}
+
+#[test]
+fn longest_line(rt: HostRuntime) -> Result<(), Fail> {
+    let (result, text) = over_zeros(rt.alloc(), LINE_LIMIT)?;
+    assert_eq!(rt; result, Ok(()));
+    assert_eq!(rt; text.as_slice(), b"5\n13\n4\n".as_slice());
+    let (result, text) = over_zeros(rt.alloc(), LINE_LIMIT.saturating_add(1))?;
+    assert_eq!(rt; result, Err(RunError::LineTooLong { line: 2 }));
+    assert_eq!(rt; text.as_slice(), b"5\n".as_slice());
+    Ok(())
+}

@@ -1,0 +1,5 @@
+//! Schedules of lock steps that were worked by hand.
+#![tactic(auto)]
+
+#[cfg(test)]
+mod tests;

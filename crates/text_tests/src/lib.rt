@@ -1,0 +1,5 @@
+//! Rows of the three forms of text.
+#![tactic(auto)]
+
+#[cfg(test)]
+mod tests;

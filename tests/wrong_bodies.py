@@ -1,0 +1,359 @@
+#!/usr/bin/env python3
+"""Tries the wrong bodies, crates/*/wrong-bodies/*.edit: the prover must refuse each.
+
+An edit is a file in the form of the toolchain's must-fail edits: a line `file: src/NAME.rt`, then pairs of lines `old: TEXT` and
+`new: TEXT`, each old text standing once in that file.
+
+`rt must-fail` checks a crate once for each edit. Here a check takes one edit of each function, of as many functions as there are:
+a function is proved from its body and the contracts of those it calls, so wrong bodies of several functions do not meet. An edit is
+refused where the check tells of an error in the function that it edits. An error in any other function shows that edits did meet,
+and none of that check counts. What is edited outside a function, a constant say, has a check of its own.
+
+usage: tests/wrong_bodies.py [--jobs N] [CRATE | CRATE/EDIT]..
+
+All is done in copies, over what `out` folders hold of proved crates. The last line is `N passed, M failed`."""
+import argparse
+import os
+import re
+import shutil
+import subprocess
+import sys
+import tempfile
+import threading
+
+TOP = os.path.dirname(os.path.dirname(os.path.abspath(__file__)))
+PARTS = ("src", "specs", "proofs")
+# What a name stands for that went with the edited text: such an error says little of the contract.
+NAME_GONE = re.compile(r"has no field|is not in scope|has no `|was not admitted")
+
+
+def crates_of(top):
+    """The crates in the order of crates.txt, each with the libraries of the repository that it stands on."""
+    lines = {}
+    with open(os.path.join(top, "crates.txt")) as file:
+        for line in file:
+            name, colon, libraries = line.partition(":")
+            if colon:
+                lines[name.split()[0]] = libraries.split()
+    below = {}
+
+    def all_below(name):
+        if name not in below:
+            own = [it for it in lines[name] if it in lines]
+            below[name] = list(dict.fromkeys(it for one in own for it in [*all_below(one), one]))
+        return below[name]
+
+    return {name: all_below(name) for name in lines}
+
+
+def blanked(text):
+    """The source with blanks for comments, strings and characters, every place kept."""
+    quiet = r"//[^\n]*|\"(?:\\.|[^\"\\])*\"|'(?:\\.[^']*|[^\\'])'"
+    return re.sub(quiet, lambda it: re.sub(r"[^\n]", " ", it[0]), text, flags=re.DOTALL)
+
+
+def block_end(text, at):
+    """Where the braces end that open at a place."""
+    depth = 0
+    for place in range(at, len(text)):
+        depth += {"{": 1, "}": -1}.get(text[place], 0)
+        if depth == 0:
+            return place + 1
+    return len(text)
+
+
+def body_start(text, at):
+    """Where the body begins of the function whose name ends at a place, behind its clauses; None where it has none."""
+    depth = 0
+    while at < len(text):
+        depth += {"(": 1, "[": 1, ")": -1, "]": -1}.get(text[at], 0)
+        if depth == 0 and text[at] == ";":
+            return None
+        if depth == 0 and text[at] == "{":
+            line = text[text.rfind("\n", 0, at) + 1:at]
+            if not re.match(r"\s*(requires|ensures|ghost|decreases)\b", line):
+                return at
+            at = block_end(text, at)
+            continue
+        at += 1
+    return None
+
+
+class Function:
+    """A function of a crate: its file, the type whose impl it stands in, its name, and its first and last line."""
+
+    def __init__(self, file, owner, name, first, last):
+        self.key = (file, owner, name)
+        self.first, self.last = first, last
+        module = re.sub(r"^src/|\.rt$", "", file)
+        # A method's proof lies in the module of its type, wherever the impl stands.
+        inside = r"(?:\w+/)*" if owner else "" if module in ("lib", "main") else f"{module}/"
+        own = rf"(?:Ref|RefMut)?{owner}\w*/{name}" if owner else name
+        self.path = re.compile(rf"{inside}({own}|fn/{own}/.*)$")
+
+    def has(self, place):
+        """Whether an error is one of this function: a line of its source, or a folder of its proof."""
+        if isinstance(place, tuple):
+            file, line = place
+            return file == self.key[0] and self.first <= line <= self.last
+        return bool(self.path.match(place))
+
+
+def function_at(file, text, begin, end):
+    """The innermost function that has these places of a source, or None."""
+    blank = blanked(text)
+    owners = []
+    for it in re.finditer(r"^impl\b(?:<[^{]*?>)?\s+(?:[^{;]*?\bfor\s+)?&?(?:'\w+\s+)?(\w+)[^{;]*\{", blank, re.MULTILINE):
+        owners.append((it.start(), block_end(blank, it.end() - 1), it[1]))
+    found = None
+    for it in re.finditer(r"\bfn\s+(\w+)", blank):
+        body = body_start(blank, it.end())
+        if body is None:
+            continue
+        header, last = blank.rfind("\n", 0, it.start()) + 1, block_end(blank, body)
+        if header <= begin and end <= last:
+            owner = next((name for first, behind, name in owners if first <= begin < behind), "")
+            above = re.search(r"(?:^[ \t]*(?:#\[|//).*\n)*\Z", text[:header], re.MULTILINE)
+            first = text.count("\n", 0, above.start() if above else header) + 1
+            found = Function(file, owner, it[1], first, text.count("\n", 0, last) + 1)
+    return found
+
+
+class Edit:
+    """A wrong body: the texts that it changes, and the function that it lies in."""
+
+    def __init__(self, crate, name):
+        self.label = f"{crate}/{name}"
+        self.pairs, self.function, self.why = [], None, None
+        folder = os.path.join(TOP, "crates", crate)
+        functions, texts, file, old = [], {}, None, None
+        with open(os.path.join(folder, "wrong-bodies", name)) as lines:
+            for line in lines.read().split("\n"):
+                if line.startswith("file: "):
+                    file = line[6:].strip()
+                    if file not in texts:
+                        with open(os.path.join(folder, file)) as source:
+                            texts[file] = source.read()
+                elif line.startswith("old: "):
+                    old = line[5:]
+                elif line.startswith("new:"):
+                    new = line[5:]
+                    if texts[file].count(old) != 1:
+                        self.why = f"its old text stands in {file} {texts[file].count(old)} times, and not once"
+                        return
+                    begin = texts[file].index(old)
+                    functions.append(function_at(file, texts[file], begin, begin + len(old)))
+                    texts[file] = texts[file].replace(old, new)
+                    self.pairs.append((file, old, new))
+        if len({it and it.key for it in functions}) == 1:
+            self.function = functions[0]
+
+    def apply(self, texts):
+        """Makes the edit in these texts, or returns False where another stands in its way."""
+        made = dict(texts)
+        for file, old, new in self.pairs:
+            if made[file].count(old) != 1:
+                return False
+            made[file] = made[file].replace(old, new)
+        texts.update(made)
+        return True
+
+
+def errors_of(told):
+    """The errors of a check: where each is, a line of a source or a path of a proof, and what it says."""
+    found = []
+    for line in told.split("\n"):
+        source = re.match(r"(?:note: )?(?:\./)?(src/\S+?):(\d+):\d+: (.*)", line)
+        proof = re.match(r"(?:note: )?(?:\./)?proofs/(\S+?)(?:/\w+)?\.antt:\d+:\d+: (error.*)", line)
+        ended = re.match(r"fn \w+::(\S+): (?:not proved$|no proof: expected answers)", line)
+        if source and re.match(r"error|it is not proved", source[3]):
+            found.append(((source[1], int(source[2])), line))
+        elif proof:
+            found.append((proof[1], line))
+        elif ended:
+            found.append((ended[1].replace("::", "/"), line))
+    return found
+
+
+class Trial:
+    """The wrong bodies of a crate, and a copy of it and of the libraries below it to try them in."""
+
+    def __init__(self, crate, below, edits, rooms):
+        self.crate, self.below, self.edits, self.rooms = crate, below, edits, rooms
+        self.room = os.path.join(rooms, crate)
+        self.folder = os.path.join(self.room, "crates", crate)
+
+    def copy(self):
+        """Copies the crate with the work that its checks kept, and the libraries below it as they were built in their rooms."""
+        names = [*self.below, self.crate]
+        with open(os.path.join(TOP, "crates.txt")) as file:
+            lines = [it for it in file if it.partition(":")[0].strip() in names]
+        os.makedirs(os.path.join(self.room, "crates"))
+        with open(os.path.join(self.room, "crates.txt"), "w") as file:
+            file.writelines(lines)
+        shutil.copy(os.path.join(TOP, "HANDLES"), self.room)
+        for name in names:
+            for part in PARTS:
+                shutil.copytree(os.path.join(TOP, "crates", name, part), os.path.join(self.room, "crates", name, part))
+        for name in self.below:
+            built = os.path.join(self.rooms, name, "crates", name, "out", "rlib")
+            shutil.copytree(built, os.path.join(self.room, "crates", name, "out", "rlib"), copy_function=os.link)
+        for kept in ("incremental", "rlib"):
+            if os.path.isdir(os.path.join(TOP, "crates", self.crate, "out", kept)):
+                shutil.copytree(os.path.join(TOP, "crates", self.crate, "out", kept), os.path.join(self.folder, "out", kept))
+
+    def rt(self, *words):
+        """Runs rt in the copied crate."""
+        return subprocess.run(["rt", *words], cwd=self.folder, stdin=subprocess.DEVNULL, capture_output=True, text=True)
+
+    def prove(self):
+        """Proves the copy as it stands, a library for the crates above it."""
+        verb = "lib" if os.path.exists(os.path.join(self.folder, "src", "lib.rt")) else "check"
+        return self.rt(verb, "--jobs", "2").returncode == 0
+
+    def check(self, edits):
+        """What a check tells of the crate with these edits."""
+        files = {file for edit in edits for file, _, _ in edit.pairs}
+        sources = {file: open(os.path.join(self.folder, file)).read() for file in files}
+        texts = dict(sources)
+        for edit in edits:
+            edit.apply(texts)
+        self.write(texts)
+        ended = self.rt("check", "--jobs", "1")
+        self.write(sources)
+        return ended.stdout
+
+    def write(self, texts):
+        for file, text in texts.items():
+            with open(os.path.join(self.folder, file), "w") as it:
+                it.write(text)
+
+    def rounds(self):
+        """The edits that are checked together: of each function one, and none whose texts meet."""
+        rounds = []
+        for edit in self.edits:
+            room = None if edit.function is None else next((it for it in rounds if it.takes(edit)), None)
+            if room is None:
+                room = Round(self.folder)
+                rounds.append(room)
+            room.add(edit)
+        return rounds
+
+
+class Round:
+    """Edits of several functions that are checked together, or one that lies in no function."""
+
+    def __init__(self, folder):
+        self.folder, self.edits, self.texts = folder, [], {}
+
+    def takes(self, edit):
+        keys = [it.function and it.function.key for it in self.edits]
+        return None not in keys and edit.function.key not in keys and edit.apply(self.read(edit))
+
+    def read(self, edit):
+        """The texts that the edit changes, as the edits of the round before it leave them."""
+        texts = {}
+        for file, _, _ in edit.pairs:
+            if file not in self.texts:
+                with open(os.path.join(self.folder, file)) as source:
+                    self.texts[file] = source.read()
+            texts[file] = self.texts[file]
+        return texts
+
+    def add(self, edit):
+        texts = self.read(edit)
+        edit.apply(texts)
+        self.texts.update(texts)
+        self.edits.append(edit)
+
+    def judge(self, told):
+        """Says of each edit what the check told of it, and whether it was refused."""
+        verdict = re.findall(r"^logic=(\S+)", told, re.MULTILINE)[-1:]
+        errors = errors_of(told)
+        if verdict != ["not-proved"] or not errors:
+            unread = re.search(r"^.*\berror\b.*", told, re.MULTILINE)
+            why = "NOT REFUSED: the crate is still proved" if verdict == ["proved"] else f"BAD EDIT: {(unread or [told])[0][:160]}"
+            return [(edit, False, why) for edit in self.edits]
+        if self.edits[0].function is None:
+            return [(self.edits[0], True, errors[0][1])]
+        strays = [line for place, line in errors if not any(edit.function.has(place) for edit in self.edits)]
+        if strays:
+            return [(edit, False, f"MET: an error lies in no function that is edited: {strays[0][:160]}") for edit in self.edits]
+        found = []
+        for edit in self.edits:
+            own = [line for place, line in errors if edit.function.has(place)]
+            values = [line for line in own if not NAME_GONE.search(line)]
+            if not own:
+                found.append((edit, False, "NOT REFUSED: the function is still proved"))
+            else:
+                found.append((edit, True, (values or [f"only for a name that went: {own[0]}"])[0]))
+        return found
+
+
+def main():
+    words = argparse.ArgumentParser(description="Tries the wrong bodies.")
+    words.add_argument("--jobs", type=int, default=len(os.sched_getaffinity(0)))
+    words.add_argument("names", nargs="*", metavar="CRATE or CRATE/EDIT")
+    given = words.parse_args()
+    crates = crates_of(TOP)
+    edits, bad = {}, []
+    for crate in crates:
+        folder = os.path.join(TOP, "crates", crate, "wrong-bodies")
+        for name in sorted(os.listdir(folder)) if os.path.isdir(folder) else []:
+            label = f"{crate}/{name}"
+            if not given.names or crate in given.names or label in given.names or label.removesuffix(".edit") in given.names:
+                edit = Edit(crate, name)
+                edits.setdefault(crate, []).append(edit)
+                if edit.why:
+                    bad.append(f"{label}: BAD EDIT: {edit.why}")
+    if bad or not edits:
+        print("\n".join(bad) or "no such edit")
+        print(f"0 passed, {max(len(bad), 1)} failed")
+        return 1
+    wanted = [it for it in crates if it in edits or any(it in crates[name] for name in edits)]
+    places, printing = threading.Semaphore(given.jobs), threading.Lock()
+    ended = {it: threading.Event() for it in wanted}
+    proved, refused = set(), set()
+
+    def tell(label, said):
+        with printing:
+            print(f"{label}: {said[:200]}", flush=True)
+
+    def prove(trial):
+        for name in trial.below:
+            ended[name].wait()
+        with places:
+            if proved.issuperset(trial.below):
+                trial.copy()
+                if trial.prove():
+                    proved.add(trial.crate)
+
+    def work(trial):
+        try:
+            prove(trial)
+        finally:
+            ended[trial.crate].set()
+        if trial.crate not in proved:
+            tell(trial.crate, "NOT PROVED as it stands")
+            return
+        for one in trial.rounds():
+            with places:
+                told = trial.check(one.edits)
+            for edit, is_refused, said in one.judge(told):
+                tell(edit.label, f"{'refused, as it must be: ' * is_refused}{said}")
+                if is_refused:
+                    refused.add(edit.label)
+
+    with tempfile.TemporaryDirectory(prefix="wrong-bodies-") as rooms:
+        workers = [threading.Thread(target=work, args=(Trial(it, crates[it], edits.get(it, []), rooms),)) for it in wanted]
+        for it in workers:
+            it.start()
+        for it in workers:
+            it.join()
+    failed = sum(map(len, edits.values())) - len(refused)
+    print(f"{len(refused)} passed, {failed} failed")
+    return 1 if failed else 0
+
+
+if __name__ == "__main__":
+    sys.exit(main())
