@@ -23,6 +23,8 @@ import threading
 
 TOP = os.path.dirname(os.path.dirname(os.path.abspath(__file__)))
 PARTS = ("src", "specs", "proofs")
+# How many jobs a check has: the last ones have cores to themselves.
+JOBS = "2"
 # What a name stands for that went with the edited text: such an error says little of the contract.
 NAME_GONE = re.compile(r"has no field|is not in scope|has no `|was not admitted")
 
@@ -44,6 +46,16 @@ def crates_of(top):
         return below[name]
 
     return {name: all_below(name) for name in lines}
+
+
+def rt(folder, verb):
+    """Runs rt in a crate."""
+    return subprocess.run(["rt", verb, "--jobs", JOBS], cwd=folder, stdin=subprocess.DEVNULL, capture_output=True, text=True)
+
+
+def copy_or_link(source, to):
+    """Copies a file; a built library is not written to, so its files may be shared."""
+    (os.link if "/out/rlib/" in source else shutil.copy2)(source, to)
 
 
 def blanked(text):
@@ -197,36 +209,27 @@ class Trial:
                 shutil.copytree(os.path.join(TOP, "crates", name, part), os.path.join(self.room, "crates", name, part))
         for name in self.below:
             built = os.path.join(self.rooms, name, "crates", name, "out", "rlib")
-            shutil.copytree(built, os.path.join(self.room, "crates", name, "out", "rlib"), copy_function=os.link)
+            shutil.copytree(built, os.path.join(self.room, "crates", name, "out", "rlib"), copy_function=copy_or_link)
         for kept in ("incremental", "rlib"):
             if os.path.isdir(os.path.join(TOP, "crates", self.crate, "out", kept)):
                 shutil.copytree(os.path.join(TOP, "crates", self.crate, "out", kept), os.path.join(self.folder, "out", kept))
 
-    def rt(self, *words):
-        """Runs rt in the copied crate."""
-        return subprocess.run(["rt", *words], cwd=self.folder, stdin=subprocess.DEVNULL, capture_output=True, text=True)
-
     def prove(self):
         """Proves the copy as it stands, a library for the crates above it."""
         verb = "lib" if os.path.exists(os.path.join(self.folder, "src", "lib.rt")) else "check"
-        return self.rt(verb, "--jobs", "2").returncode == 0
+        return rt(self.folder, verb).returncode == 0
 
-    def check(self, edits):
-        """What a check tells of the crate with these edits."""
-        files = {file for edit in edits for file, _, _ in edit.pairs}
-        sources = {file: open(os.path.join(self.folder, file)).read() for file in files}
-        texts = dict(sources)
-        for edit in edits:
-            edit.apply(texts)
-        self.write(texts)
-        ended = self.rt("check", "--jobs", "1")
-        self.write(sources)
-        return ended.stdout
-
-    def write(self, texts):
+    def check(self, number, texts):
+        """What a check tells of the crate with these texts of its sources, in one more copy."""
+        room = f"{self.room}-{number}"
+        shutil.copytree(self.room, room, copy_function=copy_or_link)
+        folder = os.path.join(room, "crates", self.crate)
         for file, text in texts.items():
-            with open(os.path.join(self.folder, file), "w") as it:
-                it.write(text)
+            with open(os.path.join(folder, file), "w") as source:
+                source.write(text)
+        told = rt(folder, "check").stdout
+        shutil.rmtree(room)
+        return told
 
     def rounds(self):
         """The edits that are checked together: of each function one, and none whose texts meet."""
@@ -290,6 +293,13 @@ class Round:
         return found
 
 
+def run_all(threads):
+    for it in threads:
+        it.start()
+    for it in threads:
+        it.join()
+
+
 def main():
     words = argparse.ArgumentParser(description="Tries the wrong bodies.")
     words.add_argument("--jobs", type=int, default=len(os.sched_getaffinity(0)))
@@ -328,6 +338,14 @@ def main():
                 if trial.prove():
                     proved.add(trial.crate)
 
+    def try_round(trial, number, one):
+        with places:
+            told = trial.check(number, one.texts)
+        for edit, is_refused, said in one.judge(told):
+            tell(edit.label, f"{'refused, as it must be: ' * is_refused}{said}")
+            if is_refused:
+                refused.add(edit.label)
+
     def work(trial):
         try:
             prove(trial)
@@ -336,20 +354,11 @@ def main():
         if trial.crate not in proved:
             tell(trial.crate, "NOT PROVED as it stands")
             return
-        for one in trial.rounds():
-            with places:
-                told = trial.check(one.edits)
-            for edit, is_refused, said in one.judge(told):
-                tell(edit.label, f"{'refused, as it must be: ' * is_refused}{said}")
-                if is_refused:
-                    refused.add(edit.label)
+        rounds = [threading.Thread(target=try_round, args=(trial, number, one)) for number, one in enumerate(trial.rounds())]
+        run_all(rounds)
 
     with tempfile.TemporaryDirectory(prefix="wrong-bodies-") as rooms:
-        workers = [threading.Thread(target=work, args=(Trial(it, crates[it], edits.get(it, []), rooms),)) for it in wanted]
-        for it in workers:
-            it.start()
-        for it in workers:
-            it.join()
+        run_all([threading.Thread(target=work, args=(Trial(it, crates[it], edits.get(it, []), rooms),)) for it in wanted])
     failed = sum(map(len, edits.values())) - len(refused)
     print(f"{len(refused)} passed, {failed} failed")
     return 1 if failed else 0

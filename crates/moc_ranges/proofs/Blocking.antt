@@ -1,5 +1,5 @@
 -- Ranges, and their blocks and nodes.
-use Rattle.std.proofs.Common.{◌≡◌, ℕ, zero, suc, ◌+◌, ◌-◌, ◌<◌, ◌≤◌, List, [], ◌∷◌, ◌++◌, length, get_or, take, drop, refl, sym, ap, ◌∙◌, arith, append_assoc, length-append}
+use Rattle.std.proofs.Common.{◌≡◌, ℕ, zero, suc, ◌+◌, ◌-◌, ◌<◌, ◌≤◌, List, [], ◌∷◌, ◌++◌, length, get_or, take, drop, refl, sym, ap, subst, ◌∙◌, arith, append_assoc, length-append}
 use Rattle.std.proofs.lemmas.List.{take_more, take-append-drop, take_all}
 use Rattle.std.proofs.lemmas.List.Sums.{sum_by-append, sum_by-cons}
 use Rattle.moc_ranges.specs.Pixels.{pixel_count}
@@ -36,6 +36,11 @@ IsNormal-prefix (r ∷ rs) ss normal = (normal.0, normal.1, begins_prefix r.1 rs
 pub IsNormal-suffix : (rs ss : List (ℕ × ℕ)) → IsNormal (rs ++ ss) → IsNormal ss
 IsNormal-suffix [] ss normal = normal
 IsNormal-suffix (r ∷ rs) ss normal = IsNormal-suffix rs ss normal.3
+
+-- the rest of a block that is begun, and what is behind it
+pub IsNormal-rest : (whole first rest behind : List (ℕ × ℕ)) → whole ≡ first ++ rest → IsNormal (whole ++ behind) → IsNormal (rest ++ behind)
+IsNormal-rest whole first rest behind parts normal =
+    IsNormal-suffix first (rest ++ behind) (subst IsNormal (ap (λ (l : List (ℕ × ℕ)). l ++ behind) parts ∙ append_assoc first rest behind) normal)
 
 -- sizes
 pub range_at : (rs : List (ℕ × ℕ)) (i : ℕ) (d : ℕ × ℕ) → IsNormal rs → i < length rs → (get_or rs i d).0 < (get_or rs i d).1

@@ -6,14 +6,14 @@ use Rattle.std.specs.Bool.{OnTrue, OnFalse}
 use Rattle.std.specs.Prelude.{nat_lt}
 use Rattle.std.proofs.lemmas.List.{take_more, take-append-drop, take_all, take_more_set}
 use Rattle.std.proofs.Math.ListN.{set}
-use Rattle.std.proofs.lemmas.List.{length-set}
+use Rattle.std.proofs.lemmas.List.{length-set, length-take}
 use Rattle.moc_ranges.specs.Pixels.{pixel_count}
 use Rattle.moc_ranges.specs.Private.Sorted.{IsSortedFrom}
 use Rattle.moc_ranges.specs.RangeList.{IsNormal, in_range, in_ranges}
 use Rattle.moc_ranges.specs.Private.Blocks.{joining, last_of, AreBlocks}
 use Rattle.moc_ranges.specs.Private.Built.{IsBuilt, IsOpen, CanJoin, EndsBelow, BeginsBy, kept_of, first_length, last_length}
 use Rattle.moc_ranges.proofs.Blocking.{IsNormal-prefix, IsNormal-suffix, nothing_more, joining-append, joining-last, last_of-get}
-use Rattle.moc_ranges.proofs.Merging.{ends_by_last, normal_append, in_ranges-append, EndsBelow-append, EndsBelow-first, EndsBelow-more, ends_next, or_false}
+use Rattle.moc_ranges.proofs.Merging.{ends_by_last, normal_append, in_ranges-append, EndsBelow-append, EndsBelow-first, EndsBelow-more, ends_second, begins_of_ends, ends_next, or_false}
 
 pub last_length-get : (bs : List (List (ℕ × ℕ))) (d : List (ℕ × ℕ)) (i : ℕ) → i + 1 ≡ length bs → last_length bs ≡ length (get_or bs i d)
 last_length-get [] d i e = absurd (omega arith)
@@ -156,17 +156,9 @@ longer_can ns bs rs rs' init last to f can old new = record {
   begun = subst (λ (l : List (ℕ × ℕ)). BeginsBy f l) (sym new) (longer_begins f init last to (subst (λ (l : List (ℕ × ℕ)). BeginsBy f l) old can.begun));
 }
 
-begins_of_ends : (f : ℕ) (rs : List (ℕ × ℕ)) → IsNormal rs → EndsBelow f rs → BeginsBy f rs
-begins_of_ends f [] normal all = tt
-begins_of_ends f (r ∷ rs) normal all = (omega (arith, normal.0, all.0), begins_of_ends f rs normal.3 all.1)
-
 begins_append : (f : ℕ) (rs ss : List (ℕ × ℕ)) → BeginsBy f rs → BeginsBy f ss → BeginsBy f (rs ++ ss)
 begins_append f [] ss all more = more
 begins_append f (r ∷ rs) ss all more = (all.0, begins_append f rs ss all.1 more)
-
-ends_second : (f : ℕ) (rs ss : List (ℕ × ℕ)) → EndsBelow f (rs ++ ss) → EndsBelow f ss
-ends_second f [] ss all = all
-ends_second f (r ∷ rs) ss all = ends_second f rs ss all.1
 
 -- what a range that was pushed lets be joined
 pub pushed_can : (ns : List (List (List (ℕ × ℕ)))) (bs : List (List (ℕ × ℕ))) (rs init : List (ℕ × ℕ)) (range : ℕ × ℕ) → IsBuilt ns bs rs → rs ≡ init ++ range ∷ [] → CanJoin ns bs rs range.0
@@ -179,6 +171,18 @@ pushed_can ns bs rs init range built is =
     record {
       before = EndsBelow-first range.0 all init below;
       begun = subst (λ (l : List (ℕ × ℕ)). BeginsBy range.0 l) (sym is) (begins_append range.0 init (range ∷ []) (begins_of_ends range.0 init inner (ends_second range.0 all init below)) (omega arith, tt));
+    }
+
+-- the first k of some ranges were put behind those in no block, where there was room for k
+pub filled_built : (ns : List (List (List (ℕ × ℕ)))) (bs : List (List (ℕ × ℕ))) (rs rs' kept ranges : List (ℕ × ℕ)) (k : ℕ) → IsBuilt ns bs rs → kept_of ns bs rs ≡ kept → rs' ≡ rs ++ take k ranges → length rs + k ≤ 128 → IsNormal (kept ++ ranges) → IsBuilt ns bs rs'
+filled_built ns bs rs rs' kept ranges k built same new room normal =
+    let all : List (ℕ × ℕ) = joining (joining ns ++ bs) in
+    let made : kept_of ns bs rs' ≡ kept ++ take k ranges = ap (λ (l : List (ℕ × ℕ)). all ++ l) new ∙ sym (append_assoc all rs (take k ranges)) ∙ ap (λ (l : List (ℕ × ℕ)). l ++ take k ranges) same in
+    let parts : kept ++ ranges ≡ (kept ++ take k ranges) ++ drop k ranges = ap (λ (l : List (ℕ × ℕ)). kept ++ l) (sym (take-append-drop k ranges)) ∙ sym (append_assoc kept (take k ranges) (drop k ranges)) in
+    record {
+      sized = built.sized;
+      fits = omega (arith, ap length new, length-append rs (take k ranges), length-take k ranges);
+      normal = subst IsNormal (sym made) (IsNormal-prefix (kept ++ take k ranges) (drop k ranges) (subst IsNormal parts normal));
     }
 
 -- a range was pushed where there was room

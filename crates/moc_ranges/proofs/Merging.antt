@@ -29,6 +29,14 @@ first_le_last : (r : ℕ × ℕ) (rs : List (ℕ × ℕ)) → IsNormal (r ∷ rs
 first_le_last r [] normal = omega arith
 first_le_last r (s ∷ rs) normal = let rest = first_le_last s rs normal.3 in omega arith
 
+pub ends_second : (f : ℕ) (rs ss : List (ℕ × ℕ)) → EndsBelow f (rs ++ ss) → EndsBelow f ss
+ends_second f [] ss all = all
+ends_second f (r ∷ rs) ss all = ends_second f rs ss all.1
+
+pub begins_of_ends : (f : ℕ) (rs : List (ℕ × ℕ)) → IsNormal rs → EndsBelow f rs → BeginsBy f rs
+begins_of_ends f [] normal all = tt
+begins_of_ends f (r ∷ rs) normal all = (omega (arith, normal.0, all.0), begins_of_ends f rs normal.3 all.1)
+
 -- where the last range ends below f, each does
 pub ends_by_last : (f : ℕ) (rs : List (ℕ × ℕ)) → IsNormal rs → last_of rs < f → EndsBelow f rs
 ends_by_last f [] normal lt = tt
@@ -81,23 +89,29 @@ carried_normal ns bs rs xs block xs' built normal parts some can apart =
     let below = EndsBelow-append (next_of xs) (joining (joining ns ++ bs)) rs can.before apart in
     normal_append (kept_of ns bs rs) block built.normal (IsNormal-prefix block xs' whole) (subst (λ f. EndsBelow f (kept_of ns bs rs)) first below)
 
--- a block was carried
-pub carried : (ns ns' : List (List (List (ℕ × ℕ)))) (bs bs' : List (List (ℕ × ℕ))) (rs rs' xs block xs' : List (ℕ × ℕ)) (limit : ℕ) → IsBuilt ns bs rs → IsNormal xs → xs ≡ block ++ xs' → 0 < length block → CanJoin ns bs rs (next_of xs) → EndsBelow (next_of xs) rs → next_of xs ≤ limit → last_of block < limit → IsBuilt ns' bs' rs' → kept_of ns' bs' rs' ≡ kept_of ns bs rs ++ block → rs' ≡ [] → TakesOver xs xs' limit ns ns' bs bs' rs rs'
-carried ns ns' bs bs' rs rs' xs block xs' limit built normal parts some can apart first last built' kept none =
+-- what ends below f lets a range be joined that begins there
+can_of_ends : (ns : List (List (List (ℕ × ℕ)))) (bs : List (List (ℕ × ℕ))) (rs : List (ℕ × ℕ)) (f : ℕ) → IsBuilt ns bs rs → EndsBelow f (kept_of ns bs rs) → CanJoin ns bs rs f
+can_of_ends ns bs rs f built ends = record {
+  before = EndsBelow-first f (joining (joining ns ++ bs)) rs ends;
+  begun = begins_of_ends f rs (normal_ranges ns bs rs built) (ends_second f (joining (joining ns ++ bs)) rs ends);
+}
+
+-- ranges of a list were put behind what is built
+pub carried : (ns ns' : List (List (List (ℕ × ℕ)))) (bs bs' : List (List (ℕ × ℕ))) (rs rs' xs block xs' : List (ℕ × ℕ)) (limit : ℕ) → IsNormal xs → xs ≡ block ++ xs' → 0 < length block → CanJoin ns bs rs (next_of xs) → EndsBelow (next_of xs) rs → next_of xs ≤ limit → last_of block < limit → IsBuilt ns' bs' rs' → kept_of ns' bs' rs' ≡ kept_of ns bs rs ++ block → TakesOver xs xs' limit ns ns' bs bs' rs rs'
+carried ns ns' bs bs' rs rs' xs block xs' limit normal parts some can apart first last built' kept =
     let whole = subst IsNormal parts normal in
     let below = EndsBelow-append (next_of xs) (joining (joining ns ++ bs)) rs can.before apart in
     let onward : next_of xs ≤ next_of xs' = subst (λ (l : List (ℕ × ℕ)). next_of l ≤ next_of xs') (sym parts) (next_later block xs' whole) in
-    let stack : joining (joining ns' ++ bs') ++ [] ≡ kept_of ns bs rs ++ block = ap (λ (l : List (ℕ × ℕ)). joining (joining ns' ++ bs') ++ l) (sym none) ∙ kept in
-    let begun : (f : ℕ) → BeginsBy f rs' = λ f. subst (λ (l : List (ℕ × ℕ)). BeginsBy f l) (sym none) tt in
-    let ends : (f : ℕ) → EndsBelow f (kept_of ns bs rs ++ block) → EndsBelow f (joining (joining ns' ++ bs')) = λ f all. EndsBelow-first f (joining (joining ns' ++ bs')) [] (subst (λ (l : List (ℕ × ℕ)). EndsBelow f l) (sym stack) all) in
+    let can_at : (f : ℕ) → next_of xs ≤ f → EndsBelow f block → CanJoin ns' bs' rs' f = λ f le ends.
+    can_of_ends ns' bs' rs' f built' (subst (λ (l : List (ℕ × ℕ)). EndsBelow f l) (sym kept) (EndsBelow-append f (kept_of ns bs rs) block (EndsBelow-more (next_of xs) f (kept_of ns bs rs) below le) ends)) in
     record {
       gone = block;
       parts = parts;
       some = some;
       built = built';
       same = λ q. ap (λ (l : List (ℕ × ℕ)). in_ranges l q) kept ∙ in_ranges-append (kept_of ns bs rs) block q;
-      can_next = record { before = ends (next_of xs') (EndsBelow-append (next_of xs') (kept_of ns bs rs) block (EndsBelow-more (next_of xs) (next_of xs') (kept_of ns bs rs) below onward) (ends_next block xs' whole)); begun = begun (next_of xs') };
-      can_limit = record { before = ends limit (EndsBelow-append limit (kept_of ns bs rs) block (EndsBelow-more (next_of xs) limit (kept_of ns bs rs) below first) (ends_by_last limit block (IsNormal-prefix block xs' whole) last)); begun = begun limit };
+      can_next = can_at (next_of xs') onward (ends_next block xs' whole);
+      can_limit = can_at limit first (ends_by_last limit block (IsNormal-prefix block xs' whole) last);
     }
 
 pub or_false : (b : Bool) → (b || false) ≡ b

@@ -52,6 +52,44 @@ impl ListBuilder {
         Ok(())
     }
 
+    /// Adds as many ranges of a set behind all others as fit into a block, and answers the rest.
+    fn fill<'a>(
+        &mut self,
+        alloc: Global,
+        ranges: &'a [(u64, u64)],
+    ) -> Result<&'a [(u64, u64)], AllocError>
+        requires built { IsBuilt self.old.nodes.items self.old.blocks.items self.old.ranges.items }
+        requires normal { IsNormal (kept_of self.old.nodes.items self.old.blocks.items self.old.ranges.items ++
+            ranges.now) }
+        requires some { 0 < length ranges.now }
+        ensures built { OnOk result (IsBuilt self.new.nodes.items self.new.blocks.items self.new.ranges.items) }
+        ensures kept { IfOk result (λ rest. kept_of self.new.nodes.items self.new.blocks.items self.new.ranges.items ++
+            rest.now ≡ kept_of self.old.nodes.items self.old.blocks.items self.old.ranges.items ++
+            ranges.entry.now) }
+        ensures fewer { IfOk result (λ rest. length rest.now < length ranges.entry.now) }
+    {
+        self.make_range_room(alloc)?;
+        let count = ranges.len().min(LONGEST - self.ranges.len());
+        self.ranges.extend_from_slice(&ranges[..count])?;
+        Ok(&ranges[count..])
+    }
+
+    /// Adds ranges of a set behind all others.
+    pub fn push_all(&mut self, alloc: Global, ranges: &[(u64, u64)]) -> Result<(), AllocError>
+        requires built { IsBuilt self.old.nodes.items self.old.blocks.items self.old.ranges.items }
+        requires normal { IsNormal (kept_of self.old.nodes.items self.old.blocks.items self.old.ranges.items ++
+            ranges.now) }
+        ensures built { OnOk result (IsBuilt self.new.nodes.items self.new.blocks.items self.new.ranges.items) }
+        ensures kept { OnOk result (kept_of self.new.nodes.items self.new.blocks.items self.new.ranges.items ≡
+            kept_of self.old.nodes.items self.old.blocks.items self.old.ranges.items ++ ranges.entry.now) }
+    {
+        let mut rest = ranges;
+        while !rest.is_empty() {
+            rest = self.fill(alloc, rest)?;
+        }
+        Ok(())
+    }
+
     /// Makes a block of the ranges that are in none, where they are as many as a block may have.
     #[inline]
     fn make_range_room(&mut self, alloc: Global) -> Result<(), AllocError>

@@ -10,7 +10,7 @@ use std::marker::Model;
 use std::sync::Arc;
 
 /// The most blocks that a node has.
-pub const WIDEST: usize = 64;
+pub const WIDEST: usize = 16;
 
 /// One or more blocks in rising order.
 #[derive(Debug, Drop)]

@@ -1,5 +1,5 @@
 //! Going on in a list of ranges, past those that end early or lie whole in a range.
-ghost use Rattle.std.specs.Prelude.{◌≡◌, ◌+◌, ◌<◌, ◌≤◌, List, ℕ, [], ◌∷◌, length, take, MatchOption};
+ghost use Rattle.std.specs.Prelude.{◌≡◌, ◌+◌, ◌<◌, ◌≤◌, List, ℕ, [], ◌∷◌, ◌++◌, length, take, IfSome, MatchOption};
 ghost use Rattle.moc_ranges.specs.RangeList.{IsNormal};
 ghost use Rattle.moc_ranges.specs.Private.Blocks.{joining, first_of, last_of, width_of, rest_of};
 ghost use Rattle.moc_ranges.specs.Private.Walks.{joined, EndsBy, Passes, Advances, IsPastAt, IsFirstPast};
@@ -129,6 +129,34 @@ pub(crate) fn first_past<T: Run>(runs: &[T], limit: u64) -> Option<&T>
         (λ run. IsFirstPast limit (T.ranges run.now) (joined T.ranges runs.entry.now)) }
 {
     runs.get(count_ended(runs, limit))
+}
+
+/// Ranges that come first, and those behind them.
+#[derive(Clone, Copy)]
+pub(crate) struct Leading<'a> {
+    pub first: &'a [(u64, u64)],
+    pub rest: &'a [(u64, u64)],
+}
+
+/// Parts the ranges that end below a limit from the others, where there are some. O(log n).
+#[inline]
+pub(crate) fn leading_below(ranges: &[(u64, u64)], limit: u64) -> Option<Leading<'_>>
+    requires { IsNormal ranges.now }
+    ensures parts { IfSome result (λ l. ranges.entry.now ≡ l.first.now ++ l.rest.now) }
+    ensures below { IfSome result (λ l. last_of l.first.now < limit) }
+    ensures some { IfSome result (λ l. 0 < length l.first.now) }
+{
+    let [range, ..] = ranges else {
+        return None;
+    };
+    if limit <= range.1 {
+        return None;
+    }
+    let count = count_ended(ranges, limit - 1);
+    Some(Leading {
+        first: &ranges[..count],
+        rest: &ranges[count..],
+    })
 }
 
 /// How many pixels were passed, and the runs behind them.
@@ -287,15 +315,18 @@ pub(crate) struct Advance {
 /// How many times as many ranges a list has as another where the two are not even.
 const UNEVEN: usize = 8;
 
+/// Whether one of two lists has many times as many ranges as the other.
+#[inline]
+pub(crate) fn are_uneven(xs: &Ranges<'_>, ys: &Ranges<'_>) -> bool {
+    let first = xs.size_hint().0;
+    let second = ys.size_hint().0;
+    first / UNEVEN > second || second / UNEVEN > first
+}
+
 /// Whether two lists are both in blocks, and neither has many times as many ranges as the other.
 #[inline]
 pub(crate) fn are_even(xs: &Ranges<'_>, ys: &Ranges<'_>) -> bool {
-    if xs.few().is_some() || ys.few().is_some() {
-        return false;
-    }
-    let first = xs.size_hint().0;
-    let second = ys.size_hint().0;
-    first / UNEVEN <= second && second / UNEVEN <= first
+    xs.few().is_none() && ys.few().is_none() && !are_uneven(xs, ys)
 }
 
 impl<'a> Ranges<'a> {

@@ -12,6 +12,7 @@ use crate::coverage::Coverage;
 use crate::few::unite_few;
 use crate::list_builder::{ListBuilder, lengthen};
 use crate::ranges::{Begun, Ranges};
+use crate::runs::are_uneven;
 use std::alloc::{AllocError, Global};
 
 /// Takes the next range of a list over into what is built; the limit bounds where it begins.
@@ -33,6 +34,32 @@ fn join_next(
     if let Some(range) = xs.next() {
         built.join(alloc, range.0, range.1)?;
     }
+    Ok(())
+}
+
+/// Takes the next ranges of a list that end below the limit in the block that is begun, or just the next range, over
+/// into what is built.
+fn take_ranges_over(
+    alloc: Global,
+    xs: &mut Ranges<'_>,
+    limit: u64,
+    built: &mut ListBuilder,
+) -> Result<(), AllocError>
+    requires some { 0 < length xs.old }
+    requires normal { IsNormal xs.old }
+    requires first { next_of xs.old ≤ limit }
+    requires built { IsBuilt built.old.nodes.items built.old.blocks.items built.old.ranges.items }
+    requires can { CanJoin built.old.nodes.items built.old.blocks.items built.old.ranges.items (next_of xs.old) }
+    ensures { OnOk result (TakesOver xs.old xs.new limit built.old.nodes.items built.new.nodes.items
+        built.old.blocks.items built.new.blocks.items built.old.ranges.items built.new.ranges.items) }
+{
+    let first = xs.next_from();
+    let bound = built.carry_limit(first, limit);
+    if let Some(ranges) = xs.take_ranges_below(bound) {
+        built.push_all(alloc, ranges)?;
+        return Ok(());
+    }
+    join_next(alloc, xs, limit, built)?;
     Ok(())
 }
 
@@ -61,7 +88,7 @@ fn take_block_over(
     Ok(())
 }
 
-/// Takes the next range of a list, or the next blocks where they end below the limit, over into what is built.
+/// Takes the next range of a list, or the next ranges or blocks where they end below the limit, over into what is built.
 #[inline]
 fn take_over(
     alloc: Global,
@@ -78,7 +105,7 @@ fn take_over(
         built.old.blocks.items built.new.blocks.items built.old.ranges.items built.new.ranges.items) }
 {
     if xs.is_in_block() {
-        join_next(alloc, xs, limit, built)?;
+        take_ranges_over(alloc, xs, limit, built)?;
         return Ok(());
     }
     let first = xs.next_from();
@@ -170,11 +197,12 @@ fn join_begun<'a, 'b>(
     Ok(Left { last, xs, ys })
 }
 
-/// Joins the ranges of two lists that both have a begun block until one has none.
+/// Joins the ranges of two lists that both have a begun block until one has none, where they are taken turn by turn.
 fn join_both(
     alloc: Global,
     xs: &mut Ranges<'_>,
     ys: &mut Ranges<'_>,
+    turns: bool,
     built: &mut ListBuilder,
 ) -> Result<(), AllocError>
     requires first_normal { IsNormal xs.old }
@@ -185,7 +213,7 @@ fn join_both(
     ensures { OnOk result (TakesBoth xs.old xs.new ys.old ys.new built.old.nodes.items built.new.nodes.items
         built.old.blocks.items built.new.blocks.items built.old.ranges.items built.new.ranges.items) }
 {
-    if !xs.is_in_block() || !ys.is_in_block() {
+    if !turns || !xs.is_in_block() || !ys.is_in_block() {
         return Ok(());
     }
     let Some(last) = built.ranges.pop() else {
@@ -200,20 +228,20 @@ fn join_both(
     Ok(())
 }
 
-/// The pixels in the ranges of either list.
-pub fn unite(alloc: Global, mut xs: Ranges<'_>, mut ys: Ranges<'_>) -> Result<Coverage, AllocError>
+/// The pixels in the ranges of either list, which may be taken turn by turn.
+fn unite_lists(
+    alloc: Global,
+    mut xs: Ranges<'_>,
+    mut ys: Ranges<'_>,
+    turns: bool,
+) -> Result<Coverage, AllocError>
     requires xs { IsNormal xs }
     requires ys { IsNormal ys }
     ensures { IfOk result (λ c. c ≡ set.union (set_of xs.entry) (set_of ys.entry)) }
 {
-    if let Some(few) = xs.few() {
-        if let Some(others) = ys.few() {
-            return unite_few(alloc, few, others);
-        }
-    }
     let mut built = ListBuilder::new(alloc, xs.room() + ys.room())?;
     loop {
-        join_both(alloc, &mut xs, &mut ys, &mut built)?;
+        join_both(alloc, &mut xs, &mut ys, turns, &mut built)?;
         let x = xs.next_from();
         let y = ys.next_from();
         if x <= y {
@@ -225,4 +253,19 @@ pub fn unite(alloc: Global, mut xs: Ranges<'_>, mut ys: Ranges<'_>) -> Result<Co
             take_over(alloc, &mut ys, x, &mut built)?;
         }
     }
+}
+
+/// The pixels in the ranges of either list.
+pub fn unite(alloc: Global, xs: Ranges<'_>, ys: Ranges<'_>) -> Result<Coverage, AllocError>
+    requires xs { IsNormal xs }
+    requires ys { IsNormal ys }
+    ensures { IfOk result (λ c. c ≡ set.union (set_of xs.entry) (set_of ys.entry)) }
+{
+    if let Some(few) = xs.few() {
+        if let Some(others) = ys.few() {
+            return unite_few(alloc, few, others);
+        }
+    }
+    let turns = !are_uneven(&xs, &ys);
+    unite_lists(alloc, xs, ys, turns)
 }

@@ -14,4 +14,4 @@ carry-requires-clause-normal c =
 pub returns-in-Some : goal.returns-in-Some
 returns-in-Some c =
     let apart = c.carry_limit-bound.ensures.apart (omega (arith, c.in-Some.ensures.below)) in
-    carried _ _ _ _ _ _ c.args.xs.now c.in-Some.block.now c.take_block_below.new.self c.args.limit c.requires.built c.requires.normal c.in-Some.ensures.parts c.in-Some.ensures.some c.requires.can (subst (λ f. EndsBelow f c.args.built.now.ranges.items) c.next_from-first.ensures apart) c.requires.first (omega (arith, c.in-Some.ensures.below, c.carry_limit-bound.ensures.limit)) c.in_ok-carry.ensures.built c.in_ok-carry.ensures.kept c.in_ok-carry.ensures.none
+    carried _ _ _ _ _ _ c.args.xs.now c.in-Some.block.now c.take_block_below.new.self c.args.limit c.requires.normal c.in-Some.ensures.parts c.in-Some.ensures.some c.requires.can (subst (λ f. EndsBelow f c.args.built.now.ranges.items) c.next_from-first.ensures apart) c.requires.first (omega (arith, c.in-Some.ensures.below, c.carry_limit-bound.ensures.limit)) c.in_ok-carry.ensures.built c.in_ok-carry.ensures.kept

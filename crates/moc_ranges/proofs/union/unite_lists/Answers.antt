@@ -3,7 +3,7 @@ use Rattle.std.proofs.lemmas.Result.{IfOk-weaker}
 use Rattle.moc_ranges.proofs.Merging.{none_next, united, uniting_first, uniting_second}
 use Rattle.moc_ranges.proofs.Turning.{uniting_both}
 use Rattle.moc_ranges.proofs.Views.{union_view}
-use Rattle.moc_ranges.proofs.union.unite.Goals as goal
+use Rattle.moc_ranges.proofs.union.unite_lists.Goals as goal
 
 pub returns-then-x : goal.returns-then-x
 returns-then-x c =
