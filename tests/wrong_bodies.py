@@ -23,7 +23,7 @@ import threading
 
 TOP = os.path.dirname(os.path.dirname(os.path.abspath(__file__)))
 PARTS = ("src", "specs", "proofs")
-# How many jobs a check has: the last ones have cores to themselves.
+# How many jobs a check has: two, since the last checks have the cores to themselves.
 JOBS = "2"
 # What a name stands for that went with the edited text: such an error says little of the contract.
 NAME_GONE = re.compile(r"has no field|is not in scope|has no `|was not admitted")

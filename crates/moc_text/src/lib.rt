@@ -8,4 +8,3 @@ mod uniq;
 pub use ascii::{TextError, read_ascii, readings_are_told, write_ascii};
 pub use json::{JsonError, JsonPlace, json_order, json_stop, read_json, write_json};
 pub use uniq::{UniqError, read_uniq, write_uniq};
-
