@@ -5,8 +5,8 @@ An edit is a file in the form of the toolchain's must-fail edits: a line `file: 
 `new: TEXT`, each old text standing once in that file.
 
 `rt must-fail` checks a crate once for each edit. Here a check takes one edit of each function, of as many functions as there are:
-a function is proved from its body and the contracts of those it calls, so wrong bodies of several functions do not meet. An edit is
-refused where the check tells of an error in the function that it edits. An error in any other function shows that edits did meet,
+a function is proved from its body and the contracts of those it calls, so wrong bodies of several functions do not meet. An edit
+is refused where the check tells of an error in the function that it edits. An error in any other function shows that edits did meet,
 and none of that check counts. What is edited outside a function, a constant say, has a check of its own.
 
 usage: tests/wrong_bodies.py [--jobs N] [CRATE | CRATE/EDIT]..
@@ -204,15 +204,14 @@ class Trial:
         with open(os.path.join(self.room, "crates.txt"), "w") as file:
             file.writelines(lines)
         shutil.copy(os.path.join(TOP, "HANDLES"), self.room)
-        for name in names:
-            for part in PARTS:
-                shutil.copytree(os.path.join(TOP, "crates", name, part), os.path.join(self.room, "crates", name, part))
         for name in self.below:
-            built = os.path.join(self.rooms, name, "crates", name, "out", "rlib")
-            shutil.copytree(built, os.path.join(self.room, "crates", name, "out", "rlib"), copy_function=copy_or_link)
-        for kept in ("incremental", "rlib"):
-            if os.path.isdir(os.path.join(TOP, "crates", self.crate, "out", kept)):
-                shutil.copytree(os.path.join(TOP, "crates", self.crate, "out", kept), os.path.join(self.folder, "out", kept))
+            built = os.path.join(self.rooms, name, "crates", name)
+            shutil.copytree(built, os.path.join(self.room, "crates", name), copy_function=copy_or_link,
+                            ignore=shutil.ignore_patterns("incremental"))
+        for part in (*PARTS, "out/incremental", "out/rlib"):
+            own = os.path.join(TOP, "crates", self.crate, part)
+            if os.path.isdir(own):
+                shutil.copytree(own, os.path.join(self.folder, part))
 
     def prove(self):
         """Proves the copy as it stands, a library for the crates above it."""
@@ -235,11 +234,11 @@ class Trial:
         """The edits that are checked together: of each function one, and none whose texts meet."""
         rounds = []
         for edit in self.edits:
-            room = None if edit.function is None else next((it for it in rounds if it.takes(edit)), None)
-            if room is None:
-                room = Round(self.folder)
-                rounds.append(room)
-            room.add(edit)
+            one = None if edit.function is None else next((it for it in rounds if it.takes(edit)), None)
+            if one is None:
+                one = Round(self.folder)
+                rounds.append(one)
+            one.add(edit)
         return rounds
 
 
@@ -275,7 +274,9 @@ class Round:
         errors = errors_of(told)
         if verdict != ["not-proved"] or not errors:
             unread = re.search(r"^.*\berror\b.*", told, re.MULTILINE)
-            why = "NOT REFUSED: the crate is still proved" if verdict == ["proved"] else f"BAD EDIT: {(unread or [told])[0][:160]}"
+            why = f"BAD EDIT: {(unread or [told])[0][:160]}"
+            if verdict == ["proved"]:
+                why = "NOT REFUSED: the crate is still proved"
             return [(edit, False, why) for edit in self.edits]
         if self.edits[0].function is None:
             return [(self.edits[0], True, errors[0][1])]

@@ -131,7 +131,7 @@ impl Coverage {
     }
 
     /// How many pixels of order 29 the set has. The sizes that nodes keep are added up, each of up to
-    /// 8,192 ranges, or up to 128 ranges where the set has no more. Takes no memory.
+    /// 2,048 ranges, or up to 128 ranges where the set has no more. Takes no memory.
     pub fn count(&self) -> u64
         ensures size { result ≡ set.len self.now }
         ensures bounded { result ≤ pixel_count }

@@ -44,7 +44,8 @@ fn push_common(
 }
 
 /// The next range behind one that ended at `end`, where the other list has come to a range and a walk that goes
-/// on looks `reach` ranges ahead. Those that end before that range are left out, and nodes and blocks that lie in it are carried over.
+/// on looks `reach` ranges ahead. Those that end before that range are left out, and nodes and blocks that lie in
+/// it are carried over.
 #[inline(always)]
 fn next_meeting(
     alloc: Global,

@@ -88,7 +88,8 @@ fn take_block_over(
     Ok(())
 }
 
-/// Takes the next range of a list, or the next ranges or blocks where they end below the limit, over into what is built.
+/// Takes the next range of a list, or the next ranges or blocks where they end below the limit, over into what is
+/// built.
 #[inline]
 fn take_over(
     alloc: Global,
