@@ -398,11 +398,21 @@ impl Coverage {
         holds_all(self.ranges(), other.ranges())
     }
 
-    /// Whether two sets have the same pixels. O(n), takes no memory.
+    /// Whether two sets have the same pixels. O(n), and less where they differ in their sizes; takes no memory.
     pub fn same(&self, other: &Coverage) -> bool
         ensures { IsTrue result ↔ (self.now ≡ other.now) }
     {
-        are_same(self.ranges(), other.ranges())
+        self.is_as_large(other) && are_same(self.ranges(), other.ranges())
+    }
+
+    /// Whether two sets have as many ranges, or as many pixels where one of them is in blocks. O(n / 2048).
+    fn is_as_large(&self, other: &Coverage) -> bool
+        ensures { self.now ≡ other.now → IsTrue result }
+    {
+        match (self.ranges().few(), other.ranges().few()) {
+            (Some(few), Some(others)) => few.len() == others.len(),
+            _ => self.count() == other.count(),
+        }
     }
 
     /// The set of all pixels of the sky; refused where memory runs out.
