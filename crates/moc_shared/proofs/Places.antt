@@ -1,12 +1,12 @@
 -- Slots by place, and the notes of them.
-use Rattle.std.proofs.Common.{◌≡◌, ◌≢◌, ℕ, zero, suc, ◌+◌, ◌<◌, ◌≤◌, List, [], ◌∷◌, length, set, refl, sym, ap, ◌∙◌}
+use Rattle.std.proofs.Common.{◌≡◌, ◌≢◌, ℕ, zero, suc, ◌+◌, ◌<◌, ◌≤◌, List, [], ◌∷◌, length, map, set, refl, sym, ap, ◌∙◌}
 use Rattle.std.proofs.Common.{subst, ⊎_elim, arith, Contains, Option, Some, None, get_or-set_same, get_or-set_other}
 use Rattle.std.proofs.Common.{le_refl, add-zero, ◌-◌, is_some, true, false}
 use mathlib.Core.Logic.{dite}
 use native.Mathlib.Decide.{ℕ_discrete}
 use Rattle.moc_ranges.specs.Numbers.{NumberSet}
 use Rattle.moc_parts.specs.declared.command.Command.{Command}
-use Rattle.moc_shared.specs.Private.Rule.{note, parts_of}
+use Rattle.moc_shared.specs.Private.Rule.{index, note, parts_of}
 use Rattle.moc_parts.specs.Batches.{footprint_of_all}
 use Rattle.moc_shared.specs.Private.Slots.{Pointer, PartNote, Sight, shared, note_if, at_place, notes_below}
 use Rattle.atomic_table.specs.Table.{Me}
@@ -101,7 +101,7 @@ all_given init me contents b is low carried =
     let zero_is : b ≡ 0 = omega arith in
     let now : me.0 ≡ with_holds init [] = is
     ∙ ap (with_holds init) (ap (notes_below contents) zero_is ∙ notes_none contents) in
-    let none : me.1 ≡ [] = none_carried me.1 (carried ∙ ap (λ (v : Sight). parts_of v.holds) now) in
+    let none : me.1 ≡ [] = none_carried me.1 (carried ∙ ap (λ (v : Sight). map index (parts_of v.holds)) now) in
     λ i. (now i, none i)
 
 -- no content from b on: the notes are those below b

@@ -2,6 +2,7 @@
 ghost use Rattle.std.specs.Prelude.{◌≡◌, ◌⊎◌, ◌<◌, ◌↔◌, [], All, IfOk, IsErrOf};
 ghost use Rattle.moc_shared.specs.Clients.{start_of, clients_of, IsClientOf, AreNewClients};
 ghost use Rattle.moc_shared.specs.Private.Opening.{first_view};
+ghost use Rattle.moc_shared.specs.Private.Rule.{index};
 ghost use Rattle.moc_shared.specs.Private.Starts.{StandFor};
 
 use crate::client::Client;
@@ -14,14 +15,18 @@ use atomic_table::Table;
 use moc_ranges::{Coverage, Memory};
 use std::alloc::Global;
 
-/// A slot for each part of a set.
+/// The slots of a map that begins with a set: one in eight has a part of it, the others are empty.
 fn fill(alloc: Global, start: &Coverage) -> Result<Vec<Option<Pointer>>, Memory>
-    ensures { IfOk result (λ v. StandFor start.now v.items 12) }
+    ensures { IfOk result (λ v. StandFor start.now v.items (index 12)) }
 {
     let mut slots = Vec::new(alloc);
-    for b in 0u8..12 {
-        let pointer = share(alloc, start.part(alloc, b)?)?;
-        slots.push(Some(pointer))?;
+    for k in 0u8..96 {
+        let slot = if k % 8 == 0 {
+            Some(share(alloc, start.part(alloc, k / 8)?)?)
+        } else {
+            None
+        };
+        slots.push(slot)?;
     }
     Ok(slots)
 }
@@ -69,7 +74,7 @@ impl SharedMap {
             start,
             clients: u64::from(clients),
         };
-        let made = Table::new(alloc, &[0, 0, 0, 0, 0, 0, 0, 0, 0, 0, 0, 0], slots, &about);
+        let made = Table::new(alloc, &[0; 96], slots, &about);
         match made {
             Ok((table, seat)) => {
                 let map = SharedMap { table, alloc };

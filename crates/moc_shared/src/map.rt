@@ -1,5 +1,6 @@
 //! The shared map: a table of words and slots, one of each for each part.
 ghost use Rattle.std.specs.Prelude.{◌≡◌, ◌≤◌};
+ghost use Rattle.moc_shared.specs.Private.Rule.{index};
 
 use crate::locks::{About, Locks, Pointer, Sight};
 use atomic_table::Table;
@@ -10,7 +11,7 @@ use std::alloc::Global;
 pub struct SharedMap {
     pub(crate) table: Table<Option<Pointer>, Sight, About, Locks, Global>,
     pub(crate) alloc: Global,
-    ghost wide: { table.shared.table_id.words ≡ 12 },
-    ghost deep: { table.shared.table_id.slots ≡ 12 },
+    ghost wide: { table.shared.table_id.words ≡ index 12 },
+    ghost deep: { table.shared.table_id.slots ≡ index 12 },
     ghost few: { table.shared.key.clients ≤ 64 },
 }

@@ -6,7 +6,7 @@ use Rattle.moc_shared.specs.declared.record.Record.{Record}
 use Rattle.moc_shared.specs.declared.record.Note.{Note}
 use Rattle.moc_shared.specs.declared.record.View.{View}
 use Rattle.moc_shared.specs.History.{StartsWith, Fits, StandsFor, MissesMarked, own_with, IsLegal}
-use Rattle.moc_shared.specs.Private.Rule.{note, records, parts_of}
+use Rattle.moc_shared.specs.Private.Rule.{index, note, records, parts_of}
 
 -- all but the first
 abbrev pub behind_first : {A : Type 0} → List A → List A
@@ -79,14 +79,17 @@ module _ {X O R Y : Type 0} where
   first_alone v = record v { others = [] }
 
 module _ {S X O R Y : Type 0} (content : S → Y) (part : ℕ → X → Y) where
-  -- The part was free, and is held now, with that part of some set; or another client of the map, for which the seat
-  -- does not stand, holds it.
-  abbrev pub Took : Step S → Me S (View X O R Y) → ℕ → Me S (View X O R Y) → Type 0
-  Took st m found m' =
+  -- Part b was free, and is held now, with that part of some set; or another client of the map, for which the seat does
+  -- not stand, holds it.
+  abbrev pub TookPart : ℕ → Me S (View X O R Y) → ℕ → Me S (View X O R Y) → Type 0
+  TookPart b m found m' =
       (found ≡ 0
-      → (x : S) × (set : X) × (content x ≡ part st.word set)
-      × (m' ≡ (with_part m.0 st.word (content x), (st.word, x) ∷ m.1)))
-      × ((h : ℕ) → found ≡ suc h → (m' ≡ (with_miss m.0 h st.word, m.1)) × (h < m.0.clients) × ¬ StandsFor m.0.mine h)
+      → (x : S) × (set : X) × (content x ≡ part b set) × (m' ≡ (with_part m.0 b (content x), (index b, x) ∷ m.1)))
+      × ((h : ℕ) → found ≡ suc h → (m' ≡ (with_miss m.0 h b, m.1)) × (h < m.0.clients) × ¬ StandsFor m.0.mine h)
+
+  -- the same of the part whose word it is
+  abbrev pub Took : Step S → Me S (View X O R Y) → ℕ → Me S (View X O R Y) → Type 0
+  Took st m found m' = (b : ℕ) → st.word ≡ index b → TookPart b m found m'
 
 module _ {X O R Y : Type 0} where
   -- The view after the call e: a legal history that begins with all that was seen and ends with the call has been seen,
@@ -99,7 +102,7 @@ module _ {X O R Y : Type 0} where
 module _ {S X O R Y : Type 0} where
   -- the slots that the seat has are the parts that its view holds
   abbrev pub IsCarried : Me S (View X O R Y) → Type 0
-  IsCarried m = map (λ c. c.0) m.1 ≡ parts_of m.0.holds
+  IsCarried m = map (λ c. c.0) m.1 ≡ map index (parts_of m.0.holds)
 
   -- the slot that was taken last is at home again
   abbrev pub Gave : Step S → Me S (View X O R Y) → ℕ → Me S (View X O R Y) → Type 0

@@ -3,9 +3,10 @@ use Rattle.std.specs.Prelude.{◌≡◌, ℕ, List, length, Option}
 use mathlib.Core.Option.{some}
 use lib.ListN.{get_elem?}
 use Rattle.moc_ranges.specs.Numbers.{NumberSet}
+use Rattle.moc_shared.specs.Private.Rule.{index}
 use Rattle.moc_shared.specs.Private.Slots.{Pointer, content, part}
 
--- the slots stand for the first n parts of a set
+-- there are n slots, and those of parts stand for the parts of a set
 abbrev pub StandFor : NumberSet → List (Option Pointer) → ℕ → Type 0
 StandFor a slots n =
-    (length slots ≡ n) × ((b : ℕ) (x : Option Pointer) → get_elem? slots b ≡ some x → content x ≡ part b a)
+    (length slots ≡ n) × ((b : ℕ) (x : Option Pointer) → get_elem? slots (index b) ≡ some x → content x ≡ part b a)
