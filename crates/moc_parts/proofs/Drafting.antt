@@ -1,5 +1,5 @@
 -- The lists of a draft, one of them made anew.
-use Rattle.std.proofs.Common.{◌≡◌, ℕ, zero, suc, ◌+◌, ◌/◌, ◌<◌, Bool, true, false, not, ◌&&◌, ◌||◌, List, [], ◌∷◌, ◌++◌, Option, None, Some, length, get_or, replicate, take, nat_lt, nat_eq, inl, inr, get_or-append-add, refl, sym, ap, subst, ◌∙◌, arith}
+use Rattle.std.proofs.Common.{◌≡◌, ℕ, zero, suc, ◌+◌, ◌/◌, ◌<◌, ◌≤◌, Bool, true, false, not, ◌&&◌, ◌||◌, List, [], ◌∷◌, ◌++◌, Option, None, Some, is_some, length, get_or, replicate, take, nat_lt, nat_eq, inl, inr, get_or-append-add, refl, sym, ap, subst, ◌∙◌, arith}
 use Rattle.std.specs.Prelude.{set as set_at}
 use Rattle.std.specs.Borrow.{Bor}
 use Rattle.std.specs.Option.{unwrap_or}
@@ -133,6 +133,38 @@ pub current_part : (found : List NumberSet) (made : List (Option NumberSet)) (b 
 current_part found made b d e are twelve l =
     sym (get-current_lists found made b d e (subst (λ n. b < n) (sym (found_twelve found made are)) l) (subst (λ n. b < n) (sym twelve) l)) ∙ get-parts (current_lists found made) b d are l
 
+-- the lists below b are what they should be, and the others as they were
+abbrev pub AreDoneBelow : List (Option NumberSet) → List (Option NumberSet) → (ℕ → Option NumberSet) → ℕ → Type 0
+AreDoneBelow made lists is b =
+    (length lists ≡ 12) × ((k : ℕ) → k < b → get_or lists k None ≡ is k) × ((k : ℕ) → b ≤ k → get_or lists k None ≡ get_or made k None)
+
+pub one_done : (made lists after : List (Option NumberSet)) (is : ℕ → Option NumberSet) (b : ℕ) (x : Option NumberSet) → b < 12 → after ≡ set_at lists b x
+    → x ≡ is b → AreDoneBelow made lists is b → AreDoneBelow made after is (b + 1)
+one_done made lists after is b x l put right below = (
+  ap length put ∙ length-set lists b x ∙ below.0,
+  λ k lt. elim (cases_lt k b) [
+    | inl before ↦ ap (λ xs. get_or xs k None) put ∙ get_or-set_other lists b k x None (λ e. omega arith) ∙ below.1 k before
+    | inr past ↦
+        let at : k ≡ b = omega arith in
+        ap (λ xs. get_or xs k None) put ∙ ap (λ n. get_or (set_at lists b x) n None) at
+        ∙ get_or-set_same lists b x None (subst (λ n. b < n) (sym below.0) l) ∙ right ∙ ap is (sym at)
+  ],
+  λ k le. ap (λ xs. get_or xs k None) put ∙ get_or-set_other lists b k x None (λ e. omega arith) ∙ below.2 k (omega arith),
+)
+
+pub none_done : (made lists after : List (Option NumberSet)) (is : ℕ → Option NumberSet) (b : ℕ) → after ≡ lists → get_or lists b None ≡ is b
+    → AreDoneBelow made lists is b → AreDoneBelow made after is (b + 1)
+none_done made lists after is b same right below = (
+  ap length same ∙ below.0,
+  λ k lt. elim (cases_lt k b) [
+    | inl before ↦ ap (λ xs. get_or xs k None) same ∙ below.1 k before
+    | inr past ↦
+        let at : k ≡ b = omega arith in
+        ap (λ xs. get_or xs k None) same ∙ ap (λ n. get_or lists n None) at ∙ right ∙ ap is (sym at)
+  ],
+  λ k le. ap (λ xs. get_or xs k None) same ∙ below.2 k (omega arith),
+)
+
 -- the list that is owned where one was made or found
 pub owned_part : (found : List (Bor NumberSet)) (start made : List (Option NumberSet)) (b part : ℕ) (old : Option NumberSet) (list : Bor NumberSet)
     → AreParts (current_lists (sets_of found) start) → length start ≡ 12 → length made ≡ 12 → b < 12 → part ≡ b → get_or made b None ≡ get_or start b None
@@ -143,6 +175,25 @@ owned_part found start made b part old list are twelve whole l at same old_is li
     let f : list.now ≡ get_or (sets_of found) b list.now =
     ap (λ x. x.now) (list_is ∙ ap (λ n. get_or found n list) at) ∙ sym (get_or-map (λ x. x.now) found b list list.now (subst (λ n. b < n) (sym many) l)) in
     (λ i. unwrap_or (e i) (f i)) ∙ current_part (sets_of found) start b list.now None are twelve l
+
+-- where no list was made, the one that was found is that part
+pub found_part : (found : List (Bor NumberSet)) (made lists : List (Option NumberSet)) (b : ℕ) (item : Option NumberSet) (list : Bor NumberSet)
+    → AreParts (current_lists (sets_of found) made) → length made ≡ 12 → length lists ≡ 12 → b < 12 → get_or lists b None ≡ get_or made b None
+    → item ≡ get_or lists b item → is_some item ≡ false → list ≡ get_or found b list → list.now ≡ part_of (union_of (current_lists (sets_of found) made)) b
+found_part found made lists b None list are twelve whole l same item_is none list_is =
+    owned_part found made lists b b None list are twelve whole l refl same item_is list_is
+found_part found made lists b (Some x) list are twelve whole l same item_is none list_is = absurd (cc)
+
+-- a list that was made is that part
+pub own_part : (found : List NumberSet) (made lists : List (Option NumberSet)) (b : ℕ) (item : Option NumberSet) → AreParts (current_lists found made) → length made ≡ 12
+    → length lists ≡ 12 → b < 12 → get_or lists b None ≡ get_or made b None → item ≡ get_or lists b item → is_some item ≡ true
+    → get_or lists b None ≡ Some (part_of (union_of (current_lists found made)) b)
+own_part found made lists b None are twelve whole l same item_is some = absurd (cc)
+own_part found made lists b (Some x) are twelve whole l same item_is some =
+    let is : get_or lists b None ≡ Some x = sym (get_or_default lists b (Some x) None (subst (λ n. b < n) (sym whole) l)) ∙ sym item_is in
+    let part : x ≡ part_of (union_of (current_lists found made)) b =
+    ap (λ o. unwrap_or o (get_or found b set.empty)) (sym is ∙ same) ∙ current_part found made b set.empty None are twelve l in
+    is ∙ ap Some part
 
 -- one list made anew
 pub newest_set : (found : List NumberSet) (made : List (Option NumberSet)) (b : ℕ) (part : NumberSet) → AreParts (current_lists found made) → length made ≡ 12 → b < 12 → part_of part b ≡ part

@@ -1,5 +1,5 @@
 //! A set in twelve parts while a batch is done on it.
-ghost use Rattle.std.specs.Prelude.{◌≡◌, ◌<◌, ◌++◌, ◌∷◌, [], ℕ, IfOk, OnOk, None, get_or, map, length, unwrap_or};
+ghost use Rattle.std.specs.Prelude.{◌≡◌, ◌<◌, ℕ, IfOk, OnOk, None, get_or, length};
 ghost use Rattle.std.specs.FinSet as set;
 ghost use Rattle.moc_ranges.specs.Operations.{meets, part_of, IsWithin};
 ghost use Rattle.moc_ranges.specs.Pixels.{pixels};
@@ -209,31 +209,15 @@ impl<'a> Draft<'a> {
         ensures { IfOk result (λ lists.
             (b : ℕ) → b < 12 → get_or lists.items b None ≡ kept (set.contains footprint b) self.entry.set b) }
     {
-        let Draft { found, mut made } = self;
-        let mut lists = Vec::with_capacity(alloc, 12)?;
-        for b in 0u8..12 {
-            let list = if footprint.contains(Part::of(b)) {
-                let part = usize::from(b);
-                Some(made_or_copied(alloc, made[part].take(), found[part])?)
-            } else {
-                None
-            };
-            lists.push(list)?;
+        let Draft { found, made } = self;
+        let mut lists = made;
+        for b in 0..12usize {
+            if !footprint.contains(Part::of(b as u8)) {
+                lists[b] = None;
+            } else if lists[b].is_none() {
+                lists[b] = Some(found[b].try_copy(alloc)?);
+            }
         }
         Ok(lists)
-    }
-}
-
-/// The list that was made anew, or else a copy of the one that was found.
-fn made_or_copied(
-    alloc: Global,
-    made: Option<Coverage>,
-    found: &Coverage,
-) -> Result<Coverage, Memory>
-    ensures { IfOk result (λ list. list ≡ unwrap_or made found.now) }
-{
-    match made {
-        Some(list) => Ok(list),
-        None => found.try_copy(alloc),
     }
 }

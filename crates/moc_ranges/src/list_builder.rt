@@ -369,13 +369,13 @@ pub fn lengthen(
     Ok(range)
 }
 
-/// The same ranges. Room that they leave free is given back where it is more than they fill.
+/// The same ranges. Room that they leave free is given back where it is more than they fill, and for more than two ranges.
 #[inline]
 pub fn trimmed(ranges: Vec<(u64, u64)>) -> Vec<(u64, u64)>
     ensures { result.items ≡ ranges.items }
 {
     let mut ranges = ranges;
-    if ranges.capacity() / 2 > ranges.len() {
+    if ranges.capacity() / 2 > ranges.len().max(2) {
         ranges.shrink_to_fit();
     }
     ranges

@@ -6,6 +6,7 @@ mod client;
 mod errors;
 mod groups;
 mod last;
+mod layout;
 mod lists;
 mod locks;
 mod making;

@@ -8,6 +8,7 @@ ghost use Rattle.moc_shared.specs.Private.Starts.{StandFor};
 use crate::client::Client;
 use crate::errors::NewError;
 use crate::groups::split;
+use crate::layout::{APART, PLACES};
 use crate::locks::{About, Pointer, Token};
 use crate::map::SharedMap;
 use crate::slots::share;
@@ -15,14 +16,14 @@ use atomic_table::Table;
 use moc_ranges::{Coverage, Memory};
 use std::alloc::Global;
 
-/// The slots of a map that begins with a set: one in eight has a part of it, the others are empty.
+/// The slots of a map that begins with a set: those of parts have its parts, the others are empty.
 fn fill(alloc: Global, start: &Coverage) -> Result<Vec<Option<Pointer>>, Memory>
     ensures { IfOk result (λ v. StandFor start.now v.items (index 12)) }
 {
     let mut slots = Vec::new(alloc);
-    for k in 0u8..96 {
-        let slot = if k % 8 == 0 {
-            Some(share(alloc, start.part(alloc, k / 8)?)?)
+    for k in 0..PLACES {
+        let slot = if k % APART == 0 {
+            Some(share(alloc, start.part(alloc, (k / APART) as u8)?)?)
         } else {
             None
         };
@@ -74,7 +75,7 @@ impl SharedMap {
             start,
             clients: u64::from(clients),
         };
-        let made = Table::new(alloc, &[0; 96], slots, &about);
+        let made = Table::new(alloc, &[0; PLACES], slots, &about);
         match made {
             Ok((table, seat)) => {
                 let map = SharedMap { table, alloc };
