@@ -39,8 +39,17 @@ impl Figure {
         })
     }
 
+    /// All of these, done at the same time.
+    pub fn of_all(figures: Vec<Figure>) -> Figure {
+        let mut all = Figure::nothing();
+        for figure in figures {
+            all = all.with(figure);
+        }
+        all
+    }
+
     /// Both, done at the same time.
-    pub fn with(self, other: Figure) -> Figure {
+    fn with(self, other: Figure) -> Figure {
         Figure {
             good: self.good.saturating_add(other.good),
             reads: self.reads.saturating_add(other.reads),

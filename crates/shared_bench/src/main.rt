@@ -18,7 +18,6 @@ use moc_shared::{Client, SharedMap};
 use std::alloc::Global;
 use std::marker::Sync;
 use std::sync::Wait;
-use std::sync::atomic::AtomicU64;
 use std::thread::{self, Threads};
 use std::time::{Clock, Instant};
 
@@ -38,8 +37,10 @@ enum Work {
     Map,
     /// The same adds by the one client of a running map, by `try_apply`.
     OneClient,
-    /// So many clients, each on a thread of its own.
+    /// So many clients of one map, each on a thread of its own.
     Together(Job, u8),
+    /// So many threads that share nothing: each has a map of its own, with one client.
+    Apart(u8),
 }
 
 /// Batches that add one cell each, spread over the sky.
@@ -114,13 +115,7 @@ fn by_threads<R: Threads + Wait + Clock + Sync>(
     rounds: u64,
 ) -> Result<Figure> {
     let (map, clients) = SharedMap::new(alloc, start, threads)?;
-    let plan = Plan {
-        job,
-        rounds,
-        threads: u64::from(threads),
-        started: AtomicU64::new(0),
-        ended: AtomicU64::new(0),
-    };
+    let plan = Plan::new(job, threads, rounds);
     let (map, plan) = (&map, &plan);
     let ended = thread::map_vec(
         rt,
@@ -129,11 +124,35 @@ fn by_threads<R: Threads + Wait + Clock + Sync>(
             requires { IsClientOf map.now client }
         { work(rt, alloc, map, plan, client) },
     )?;
-    let mut all = Figure::nothing();
-    for figure in ended {
-        all = all.with(figure);
+    Ok(Figure::of_all(ended))
+}
+
+/// What a thread does on a map of its own. Nothing is good where memory is refused.
+fn alone<R: Wait + Clock>(rt: &R, alloc: Global, plan: &Plan) -> Figure {
+    let Ok((map, mut clients)) = SharedMap::new(alloc, Coverage::empty(alloc), 1) else {
+        return Figure::nothing();
+    };
+    match next(&map, &mut clients) {
+        Some(client) => work(rt, alloc, &map, plan, client),
+        None => Figure::nothing(),
     }
-    Ok(all)
+}
+
+/// What threads do that share nothing.
+fn by_threads_apart<R: Threads + Wait + Clock + Sync>(
+    rt: &R,
+    alloc: Global,
+    threads: u8,
+    rounds: u64,
+) -> Result<Figure> {
+    let mut numbers = Vec::new(alloc);
+    for number in 0..threads {
+        numbers.push(number)?;
+    }
+    let plan = Plan::new(Job::OwnParts, threads, rounds);
+    let plan = &plan;
+    let ended = thread::map_vec(rt, numbers, &|_: u8| -> Figure { alone(rt, alloc, plan) })?;
+    Ok(Figure::of_all(ended))
 }
 
 /// What the work comes to, once.
@@ -149,11 +168,12 @@ fn once<R: Threads + Wait + Clock + Sync>(
         Work::Together(job, threads) => {
             by_threads(rt, alloc, start(alloc, work)?, job, threads, calls / 2)
         }
+        Work::Apart(threads) => by_threads_apart(rt, alloc, threads, calls / 2),
     }
 }
 
 /// The works, by name.
-const WORKS: [(&str, Work); 10] = [
+const WORKS: [(&str, Work); 13] = [
     ("a map", Work::Map),
     ("one client", Work::OneClient),
     ("1 thread", Work::Together(Job::OwnParts, 1)),
@@ -169,6 +189,9 @@ const WORKS: [(&str, Work); 10] = [
         "4 threads on parts of their own",
         Work::Together(Job::OwnParts, 4),
     ),
+    ("2 threads on maps of their own", Work::Apart(2)),
+    ("3 threads on maps of their own", Work::Apart(3)),
+    ("4 threads on maps of their own", Work::Apart(4)),
     ("12 threads on one part", Work::Together(Job::OnePart, 12)),
     ("a writer", Work::Together(Job::Readers, 1)),
     ("a writer beside 1 reader", Work::Together(Job::Readers, 2)),

@@ -48,6 +48,19 @@ pub struct Plan {
     pub ended: AtomicU64,
 }
 
+impl Plan {
+    /// So many threads do so many rounds of a job.
+    pub fn new(job: Job, threads: u8, rounds: u64) -> Plan {
+        Plan {
+            job,
+            rounds,
+            threads: u64::from(threads),
+            started: AtomicU64::new(0),
+            ended: AtomicU64::new(0),
+        }
+    }
+}
+
 /// A cell of order 13.
 pub fn cell(alloc: Global, index: u64) -> Result<Operand> {
     let from = (index % CELLS) * CELL;
