@@ -369,7 +369,7 @@ pub fn lengthen(
     Ok(range)
 }
 
-/// The same ranges. Room that they leave free is given back where it is more than they fill, and for more than two ranges.
+/// The same ranges. Where they fill less than half of their room, the rest is given back; room for five is kept.
 #[inline]
 pub fn trimmed(ranges: Vec<(u64, u64)>) -> Vec<(u64, u64)>
     ensures { result.items ≡ ranges.items }
