@@ -230,13 +230,19 @@ module _ (n : ℕ) (m : Table) (ps : List NumberSet) (hs : List (Option ℕ)) (e
             (at_each m c s' (λ q z. HasPlace (names (entries_of es)) z.running z.place) (not_any_empty, tt) (λ q z d g. kept.placed q z g)),
       )
 
-  -- the client of a permitted Edit holds the part
-  pub edit_footprint : (c b : ℕ) (s : Standing) → map.get m c ≡ Some s → refusal batches (world_of n m ps es).locks (locks.Step.Edit c b) ≡ None → (b < 12) × (footprint_of_all s.running.command b ≡ true)
-  edit_footprint c b s has h =
+  edit_allowed : (c b : ℕ) (s : Standing) → map.get m c ≡ Some s → refusal batches (world_of n m ps es).locks (locks.Step.Edit c b) ≡ None → edit_refusal batches s.running b ≡ None
+  edit_allowed c b s has h =
       let k = midway_of batches (running batches (world_of n m ps es) c) (λ r. edit_refusal batches r b) h in
       let r_is : k.0 ≡ s.running = some_same (running batches (world_of n m ps es) c) k.0 s.running k.1 (runs c s has) in
-      let e = edit_permitted batches s.running b (ap (λ r. edit_refusal batches r b) (sym r_is) ∙ k.2) in
-      taken_footprint batches s.running b (and_true _ _ e.2).0
+      ap (λ r. edit_refusal batches r b) (sym r_is) ∙ k.2
+
+  -- the client of a permitted Edit holds the part
+  pub edit_footprint : (c b : ℕ) (s : Standing) → map.get m c ≡ Some s → refusal batches (world_of n m ps es).locks (locks.Step.Edit c b) ≡ None → (b < 12) × (footprint_of_all s.running.command b ≡ true)
+  edit_footprint c b s has h = taken_footprint batches s.running b (and_true _ _ (edit_permitted batches s.running b (edit_allowed c b s has h)).2).0
+
+  -- and has taken all its parts
+  pub edit_all : (c b : ℕ) (s : Standing) → map.get m c ≡ Some s → refusal batches (world_of n m ps es).locks (locks.Step.Edit c b) ≡ None → next_part batches s.running ≡ None
+  edit_all c b s has h = (edit_permitted batches s.running b (edit_allowed c b s has h)).1
 
   -- one that is committed has a place
   pub has_place : (c : ℕ) (s : Standing) → map.get m c ≡ Some s → is_any s.running.edited ≡ true → is_some s.place ≡ true

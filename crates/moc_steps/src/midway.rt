@@ -60,7 +60,7 @@ impl Model for Midway {
       place = option_map (λ x. x.place) m.made;
     } };
 
-    ghost invariant = { λ m. KeepsNotes m.batch m.edited m.parts.items m.found m.made };
+    ghost invariant = { λ m. KeepsNotes m.batch m.taken m.edited m.parts.items m.found m.made };
 }
 
 impl Midway {
@@ -202,6 +202,7 @@ impl Midway {
 
     /// What its first Edit makes, for an entry at this place.
     pub(crate) fn make(&self, alloc: Global, place: usize) -> Result<Made, Memory>
+        requires all { locks.next_part batches self.now.running ≡ None }
         ensures place { IfOk result (λ m. m.place ≡ place) }
         ensures made { IfOk result (λ m. IsMade self.now m) }
     {

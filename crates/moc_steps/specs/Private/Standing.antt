@@ -1,5 +1,6 @@
 -- How far a midway client has come.
-use Rattle.std.specs.Prelude.{◌≡◌, ℕ, ◌<◌, true, List, Option, None, IfSome, IsSome, get_or, map as map_list}
+use Rattle.std.specs.Prelude.{◌≡◌, ℕ, ◌<◌, true, List, Option, None, IfSome, IsSome, is_some, get_or, take}
+use Rattle.std.specs.Prelude.{map as map_list}
 use Rattle.std.specs.Ordering.{nat_cmp}
 use Rattle.std.specs.FinSet as set
 use Rattle.moc_ranges.specs.Numbers.{NumberSet}
@@ -8,7 +9,7 @@ use Rattle.moc_parts.specs.Parts.{union_of, LieInParts}
 use Rattle.moc_parts.specs.Prepared.{found_in, kept}
 use Rattle.moc_parts.specs.declared.command.Command.{Command}
 use Rattle.moc_parts.specs.declared.reply.Reply.{Reply}
-use Rattle.moc_steps.specs.Locks.{Running, parts_of, is_any}
+use Rattle.moc_steps.specs.Locks.{Running, parts_of, is_any, is_in}
 
 -- a midway client, what it found in the parts that it took, and the place of its entry once it is committed
 pub record Standing : Type 0 where
@@ -40,9 +41,11 @@ abbrev pub IsMade : Standing → Making → Type 0
 IsMade s m = IsMadeOf s.running.command s.found m
 
 -- what a midway client keeps beside its flags
-pub record KeepsNotes (cs : List Command) (edited : set.FinSet nat_cmp) (parts : List ℕ)
+pub record KeepsNotes (cs : List Command) (taken : ℕ) (edited : set.FinSet nat_cmp) (parts : List ℕ)
     (found : List (Option NumberSet)) (made : Option Making) : Type 0 where
   pub rising : parts ≡ parts_of batches cs
+  -- it has a list for each part that it took, and for no other
+  pub filled : (b : ℕ) → b < 12 → is_some (get_or found b None) ≡ is_in b (take taken parts)
   pub own : LieInParts (notes found)
   pub ready : IfSome made (λ m. IsMadeFrom cs (notes found) m)
   pub committed : is_any edited ≡ true → IsSome made

@@ -14,7 +14,7 @@ use Rattle.moc_steps.specs.Played.{World}
 use Rattle.moc_steps.specs.Private.Worlds.{world_of}
 use Rattle.moc_steps.proofs.Basics.{is_some_of}
 use Rattle.moc_steps.proofs.AnyObject.{reached_explained}
-use Rattle.moc_steps.proofs.KeptSteps.{Goes, first_edit_goes, edit_footprint, committed_at, table_twice, kept_list, kept_some, changed_there, is_midway}
+use Rattle.moc_steps.proofs.KeptSteps.{Goes, first_edit_goes, edit_footprint, edit_all, committed_at, table_twice, kept_list, kept_some, changed_there, is_midway}
 use Rattle.moc_steps.proofs.world.World.edit.Goals as goal
 
 pub returns-in_default-clause-after : goal.returns-in_default-clause-after
@@ -29,6 +29,14 @@ edit_again-requires-clause-committed c =
     let i = c.self.inside in
     committed_at i.begun i.clients i.parts.items i.holders i.order.items c.self.invariant c.args.client c.in-Some.midway.now c.args.self.now (sym c.in-Some.ensures) c.self.view_is
     (ap is_some (sym c.place.ensures) ∙ sym c.is_some.ensures ∙ c.if-is_some.true)
+
+pub make-requires : goal.make-requires
+make-requires c =
+    let i = c.self.inside in
+    record {
+      all = edit_all i.begun i.clients i.parts.items i.holders i.order.items c.self.invariant c.args.client c.args.part c.in-Some.midway.now (sym c.in-Some.ensures)
+          (ap (λ (w : World). refusal batches w.locks (locks.Step.Edit c.args.client c.args.part)) c.self.view_is ∙ c.requires);
+    }
 
 pub change-requires : goal.change-requires
 change-requires c = subst (λ x. IfSome x (λ s. IsChangeOf s (Commit c.in_ok-made.made))) c.in-Some.ensures c.in_ok-made.ensures.made
