@@ -1,5 +1,5 @@
 -- A batch is local.
-use Rattle.std.proofs.Common.{◌≡◌, ℕ, ◌/◌, ◌<◌, get_or, None, Some, Bool, true, false, inl, inr, List, [], ◌∷◌, refl, sym, ap, subst, ◌∙◌, length, arith}
+use Rattle.std.proofs.Common.{◌≡◌, ℕ, ◌/◌, ◌<◌, get_or, None, Bool, true, false, inl, inr, List, [], ◌∷◌, refl, sym, ap, subst, ◌∙◌, length, arith}
 use Rattle.moc_parts.specs.Prepared.{AreRepliesTo, IsPrepared, Preparation, kept}
 use Rattle.std.specs.FinSet as set
 use Rattle.std.proofs.lemmas.Bool.{cases_Bool}
@@ -79,24 +79,20 @@ found_parts cs a b each v w same n f = same_members _ _ (λ p. same_test _ _
     alike : (p : ℕ) → p / base_pixel_size ≡ n → set.contains (set_after_all a cs) p ≡ set.contains (set_after_all b cs) p
     alike p e = let g : footprint_of_all cs (base_pixel p) ≡ true = ap (footprint_of_all cs) e ∙ f in sets_alike cs a b each v w p (same p g) same
 
-kept_alike : (t : Bool) (a b : NumberSet) (n : ℕ) → (t ≡ true → part_of a n ≡ part_of b n) → kept t a n ≡ kept t b n
-kept_alike true a b n h = ap Some (h refl)
-kept_alike false a b n h = refl
-
 -- the replies to what was found are those to every set that agrees with it
 pub replied : (cs : List Command) (found made : NumberSet) (replies : List Reply) → AreCommands cs → IsWithin made pixels → made ≡ found → replies ≡ replies_on made cs → AreRepliesTo cs found replies
 replied cs found made replies each w e r a v same =
     r ∙ ap (λ t. replies_on t cs) e ∙ found_replies cs found a each (subst (λ t. IsWithin t pixels) e w) v same
 
 -- the answer on what was found is what is to be prepared
-pub prepared : (cs : List Command) (found made after : NumberSet) (p : Preparation) → AreCommands cs → IsWithin made pixels → made ≡ found
-    → after ≡ set_after_all made cs → p.replies ≡ replies_on made cs → ((b : ℕ) → b < 12 → get_or p.lists b None ≡ kept (footprint_of_all cs b) after b) → IsPrepared cs found p
-prepared cs found made after p each w e s r l =
-    let wf : IsWithin found pixels = subst (λ t. IsWithin t pixels) e w in
+pub prepared : (cs : List Command) (given : ℕ → Bool) (found made after : NumberSet) (p : Preparation) → AreCommands cs → IsWithin made pixels → made ≡ found
+    → after ≡ set_after_all made cs → p.replies ≡ replies_on made cs → ((b : ℕ) → b < 12 → get_or p.lists b None ≡ kept (given b) after b) → IsPrepared cs given found p
+prepared cs given found made after p each w e s r l =
+    let after_is : after ≡ set_after_all found cs = s ∙ ap (λ t. set_after_all t cs) e in
     record {
       replied = replied cs found made p.replies each w e r;
-      parts = λ a v same b lt. l b lt ∙ kept_alike (footprint_of_all cs b) after (set_after_all a cs) b
-          (λ f. ap (λ t. part_of t b) (s ∙ ap (λ t. set_after_all t cs) e) ∙ found_parts cs found a each wf v same b f);
+      parts = λ b lt. l b lt ∙ ap (λ t. kept (given b) t b) after_is;
+      inside = λ a v same b f. found_parts cs found a each (subst (λ t. IsWithin t pixels) e w) v same b f;
       outside = λ a v q f. untouched cs a each v q f;
       stays = λ a v. stays_within cs a each v;
     }

@@ -1,12 +1,12 @@
 -- The lists of a draft, one of them made anew.
-use Rattle.std.proofs.Common.{◌≡◌, ℕ, zero, suc, ◌+◌, ◌/◌, ◌<◌, ◌≤◌, Bool, true, false, not, ◌&&◌, ◌||◌, List, [], ◌∷◌, ◌++◌, Option, None, Some, is_some, length, get_or, replicate, take, nat_lt, nat_eq, inl, inr, get_or-append-add, refl, sym, ap, subst, ◌∙◌, arith}
+use Rattle.std.proofs.Common.{◌≡◌, ℕ, zero, suc, ◌+◌, ◌/◌, ◌<◌, ◌≤◌, Bool, true, false, not, ◌&&◌, ◌||◌, List, [], ◌∷◌, Option, None, Some, is_some, length, get_or, replicate, take, nat_lt, nat_eq, inl, inr, refl, sym, ap, subst, ◌∙◌, arith}
 use Rattle.std.specs.Prelude.{set as set_at}
 use Rattle.std.specs.Borrow.{Bor}
 use Rattle.std.specs.Option.{unwrap_or}
 use Rattle.std.specs.FinSet as set
 use Rattle.std.proofs.lemmas.Bool.Decides.{nat_tests}
 use Rattle.std.proofs.lemmas.Bool.{cases_eq, cases_lt, lt-ltb}
-use Rattle.std.proofs.lemmas.List.{ext_get_or, get_or_default, get_or_append_left, get_or-map, length-map, length-set, get_or-set_same, get_or-set_other}
+use Rattle.std.proofs.lemmas.List.{ext_get_or, get_or_default, get_or-map, length-map, length-set, get_or-set_same, get_or-set_other}
 use Rattle.moc_ranges.specs.Numbers.{NumberSet, same_members, contains-kept}
 use Rattle.moc_ranges.specs.Laws.{is_pixel}
 use Rattle.moc_ranges.specs.Pixels.{pixels, base_pixel_size}
@@ -60,16 +60,6 @@ current_lists-pass [] made b l m e = absurd (omega arith)
 current_lists-pass (one ∷ found) [] b l m e = absurd (omega arith)
 current_lists-pass (one ∷ found) (new ∷ made) zero l m e = ap (λ o. unwrap_or o one ∷ current_lists found []) e
 current_lists-pass (one ∷ found) (new ∷ made) (suc b) l m e = ap (λ parts. unwrap_or new one ∷ parts) (current_lists-pass found made b (omega arith) (omega arith) e)
-
--- one element more, each of which is what it should be
-pub one_more : {X : Type 0} (xs : List X) (x d : X) (n : ℕ) (is : ℕ → X) → length xs ≡ n → ((k : ℕ) → k < n → get_or xs k d ≡ is k) → x ≡ is n → (k : ℕ) → k < n + 1 → get_or (xs ++ (x ∷ [])) k d ≡ is k
-one_more xs x d n is many each last k l = elim (cases_lt k n) [
-  | inl before ↦ get_or_append_left xs (x ∷ []) d k (subst (λ m. k < m) (sym many) before) ∙ each k before
-  | inr past ↦
-      let at : k ≡ n = omega arith in
-      let end : k ≡ length xs + 0 = at ∙ sym many ∙ omega arith in
-      ap (λ m. get_or (xs ++ (x ∷ [])) m d) end ∙ get_or-append-add xs (x ∷ []) 0 d ∙ last ∙ ap is (sym at)
-]
 
 -- ---- a set whose part b is another
 
@@ -165,23 +155,15 @@ none_done made lists after is b same right below = (
   λ k le. ap (λ xs. get_or xs k None) same ∙ below.2 k (omega arith),
 )
 
--- the list that is owned where one was made or found
-pub owned_part : (found : List (Bor NumberSet)) (start made : List (Option NumberSet)) (b part : ℕ) (old : Option NumberSet) (list : Bor NumberSet)
-    → AreParts (current_lists (sets_of found) start) → length start ≡ 12 → length made ≡ 12 → b < 12 → part ≡ b → get_or made b None ≡ get_or start b None
-    → old ≡ get_or made part old → list ≡ get_or found part list → unwrap_or old list.now ≡ part_of (union_of (current_lists (sets_of found) start)) b
-owned_part found start made b part old list are twelve whole l at same old_is list_is =
-    let many : length found ≡ 12 = sym (length-map found (λ x. x.now)) ∙ found_twelve (sets_of found) start are in
-    let e : old ≡ get_or start b None = old_is ∙ ap (λ n. get_or made n old) at ∙ get_or_default made b old None (subst (λ n. b < n) (sym whole) l) ∙ same in
-    let f : list.now ≡ get_or (sets_of found) b list.now =
-    ap (λ x. x.now) (list_is ∙ ap (λ n. get_or found n list) at) ∙ sym (get_or-map (λ x. x.now) found b list list.now (subst (λ n. b < n) (sym many) l)) in
-    (λ i. unwrap_or (e i) (f i)) ∙ current_part (sets_of found) start b list.now None are twelve l
-
 -- where no list was made, the one that was found is that part
 pub found_part : (found : List (Bor NumberSet)) (made lists : List (Option NumberSet)) (b : ℕ) (item : Option NumberSet) (list : Bor NumberSet)
     → AreParts (current_lists (sets_of found) made) → length made ≡ 12 → length lists ≡ 12 → b < 12 → get_or lists b None ≡ get_or made b None
     → item ≡ get_or lists b item → is_some item ≡ false → list ≡ get_or found b list → list.now ≡ part_of (union_of (current_lists (sets_of found) made)) b
 found_part found made lists b None list are twelve whole l same item_is none list_is =
-    owned_part found made lists b b None list are twelve whole l refl same item_is list_is
+    let many : length found ≡ 12 = sym (length-map found (λ x. x.now)) ∙ found_twelve (sets_of found) made are in
+    let found_is : list.now ≡ get_or (sets_of found) b list.now =
+    ap (λ x. x.now) list_is ∙ sym (get_or-map (λ x. x.now) found b list list.now (subst (λ n. b < n) (sym many) l)) in
+    (λ i. unwrap_or ((item_is ∙ same) i) (found_is i)) ∙ current_part (sets_of found) made b list.now None are twelve l
 found_part found made lists b (Some x) list are twelve whole l same item_is none list_is = absurd (cc)
 
 -- a list that was made is that part

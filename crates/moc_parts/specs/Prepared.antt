@@ -1,5 +1,5 @@
 -- What is prepared from what was found in the footprint.
-use Rattle.std.specs.Prelude.{◌≡◌, ◌<◌, ℕ, Bool, true, false, get_or, Option, None, Some, List, map}
+use Rattle.std.specs.Prelude.{◌≡◌, ◌<◌, ℕ, Bool, true, false, get_or, Option, None, Some, is_some, List, map}
 use Rattle.std.specs.Borrow.{Bor}
 use Rattle.std.specs.Option.{option_copied}
 use Rattle.std.specs.FinSet as set
@@ -20,6 +20,10 @@ found_in (Some part) = part
 abbrev pub found_sets : List (Option (Bor NumberSet)) → List NumberSet
 found_sets found = map (λ part. found_in (option_copied part)) found
 
+-- whether a part is given
+abbrev pub is_given : List (Option (Bor NumberSet)) → ℕ → Bool
+is_given found b = is_some (get_or found b None)
+
 -- the new contents that are left to take, by part, and the replies
 pub record Preparation : Type 0 where
   pub lists : List (Option NumberSet)
@@ -35,12 +39,13 @@ abbrev pub AreRepliesTo : List Command → NumberSet → List Reply → Type 0
 AreRepliesTo cs found replies =
     (a : NumberSet) → IsWithin a pixels → AgreeOn (footprint_of_all cs) found a → replies ≡ replies_on a cs
 
--- For every such set: the replies, and the new contents of the footprint's parts and of no other. Outside of the
--- footprint nothing changes, and a set of pixels stays one.
-pub record IsPrepared (cs : List Command) (found : NumberSet) (p : Preparation) : Type 0 where
+-- The replies, and the new contents of the parts that were given and of no other. In the footprint every set that agrees
+-- there with what was found has the same new contents; outside of it nothing changes, and a set of pixels stays one.
+pub record IsPrepared (cs : List Command) (given : ℕ → Bool) (found : NumberSet) (p : Preparation) : Type 0 where
   pub replied : AreRepliesTo cs found p.replies
-  pub parts : (a : NumberSet) → IsWithin a pixels → AgreeOn (footprint_of_all cs) found a → (b : ℕ) → b < 12
-      → get_or p.lists b None ≡ kept (footprint_of_all cs b) (set_after_all a cs) b
+  pub parts : (b : ℕ) → b < 12 → get_or p.lists b None ≡ kept (given b) (set_after_all found cs) b
+  pub inside : (a : NumberSet) → IsWithin a pixels → AgreeOn (footprint_of_all cs) found a → (b : ℕ) → footprint_of_all cs b ≡ true
+      → part_of (set_after_all found cs) b ≡ part_of (set_after_all a cs) b
   pub outside : (a : NumberSet) → IsWithin a pixels → (q : ℕ) → footprint_of_all cs (base_pixel q) ≡ false
       → set.contains (set_after_all a cs) q ≡ set.contains a q
   pub stays : (a : NumberSet) → IsWithin a pixels → IsWithin (set_after_all a cs) pixels

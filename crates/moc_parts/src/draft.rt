@@ -7,13 +7,13 @@ ghost use Rattle.moc_parts.specs.Changes.{changed, IsChange};
 ghost use Rattle.moc_parts.specs.Commands.{parts_met};
 ghost use Rattle.moc_parts.specs.Drafts.{current_lists, sets_of, with_part};
 ghost use Rattle.moc_parts.specs.Parts.{union_of, parts_below, AreParts};
-ghost use Rattle.moc_parts.specs.Prepared.{found_sets, kept};
+ghost use Rattle.moc_parts.specs.Prepared.{found_sets, is_given, kept};
 
 mod commands;
 
 use crate::change::Change;
 use crate::footprint::parts_met;
-use crate::part::{Part, PartSet};
+use crate::part::Part;
 use moc_ranges::{Coverage, Memory};
 use std::alloc::Global;
 use std::marker::Model;
@@ -200,19 +200,19 @@ impl<'a> Draft<'a> {
         self.made
     }
 
-    /// The lists of the parts of a footprint, with copies of those that were not made anew.
+    /// The lists of the parts that were given, with copies of those that were not made anew.
     pub(crate) fn into_lists(
         self,
         alloc: Global,
-        footprint: PartSet,
+        given: &[Option<&Coverage>; 12],
     ) -> Result<Vec<Option<Coverage>>, Memory>
         ensures { IfOk result (λ lists.
-            (b : ℕ) → b < 12 → get_or lists.items b None ≡ kept (set.contains footprint b) self.entry.set b) }
+            (b : ℕ) → b < 12 → get_or lists.items b None ≡ kept (is_given given.now b) self.entry.set b) }
     {
         let Draft { found, made } = self;
         let mut lists = made;
         for b in 0..12usize {
-            if !footprint.contains(Part::of(b as u8)) {
+            if given[b].is_none() {
                 lists[b] = None;
             } else if lists[b].is_none() {
                 lists[b] = Some(found[b].try_copy(alloc)?);

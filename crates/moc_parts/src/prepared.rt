@@ -3,7 +3,7 @@ ghost use Rattle.std.specs.Prelude.{◌≡◌, ◌<◌, ℕ, IfOk, None, false, 
 ghost use Rattle.std.specs.List.{list_any};
 ghost use Rattle.moc_parts.specs.Commands.{is_update};
 ghost use Rattle.moc_parts.specs.Parts.{union_of, LieInParts};
-ghost use Rattle.moc_parts.specs.Prepared.{found_sets, AreRepliesTo, IsPrepared};
+ghost use Rattle.moc_parts.specs.Prepared.{found_sets, is_given, AreRepliesTo, IsPrepared};
 
 use crate::batch::Batch;
 use crate::draft::Draft;
@@ -13,7 +13,7 @@ use moc_ranges::{Coverage, Memory};
 use std::alloc::Global;
 use std::marker::Model;
 
-/// The new list of each part in the footprint of a batch, and the replies to its commands.
+/// The new list of each part that was given, and the replies to the commands of a batch.
 #[derive(Debug, Drop)]
 pub struct Prepared {
     lists: Vec<Option<Coverage>>,
@@ -42,7 +42,7 @@ impl Prepared {
         &self.replies
     }
 
-    /// The new list of a part: `None` outside of the footprint, and where it was taken before. Takes no memory.
+    /// The new list of a part: `None` where it was not given, and where it was taken before. Takes no memory.
     pub fn take(&mut self, part: Part) -> Option<Coverage>
         ensures taken { result ≡ get_or self.old.lists part None }
         ensures left { self.new.lists ≡ set_at self.old.lists part None }
@@ -64,8 +64,8 @@ impl Prepared {
 
 /// The new lists of the parts in the footprint of a batch, and its replies, from the lists that were found there.
 ///
-/// Each part that is found lies in its own base pixel. What was found outside of the footprint has no say in it. Lists
-/// that do not change are copied. Refused where memory runs out.
+/// The parts of the footprint are given, each in its own base pixel. What is given outside of the footprint has no say in
+/// it, and is handed on as it was found. Lists that do not change are copied. Refused where memory runs out.
 pub fn prepare(
     alloc: Global,
     batch: &Batch,
@@ -74,12 +74,12 @@ pub fn prepare(
     requires { LieInParts (found_sets found.now) }
 
     // So on every set that agrees with what was found in the footprint: its replies, and its new content there.
-    ensures { IfOk result (λ p. IsPrepared batch.now (union_of (found_sets found.now)) p) }
+    ensures { IfOk result (λ p. IsPrepared batch.now (is_given found.now) (union_of (found_sets found.now)) p) }
 {
     let nothing = Coverage::empty(alloc);
     let mut draft = Draft::from_found(alloc, found, &nothing)?;
     let replies = draft.answer_all(alloc, batch.commands())?;
-    let lists = draft.into_lists(alloc, batch.footprint(alloc))?;
+    let lists = draft.into_lists(alloc, found)?;
     Ok(Prepared { lists, replies })
 }
 
