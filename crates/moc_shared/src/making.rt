@@ -8,7 +8,7 @@ ghost use Rattle.moc_shared.specs.Private.Starts.{StandFor};
 use crate::client::Client;
 use crate::errors::NewError;
 use crate::groups::split;
-use crate::layout::{APART, PLACES};
+use crate::layout::{PLACES, part_at};
 use crate::locks::{About, Pointer, Token};
 use crate::map::SharedMap;
 use crate::slots::share;
@@ -22,10 +22,9 @@ fn fill(alloc: Global, start: &Coverage) -> Result<Vec<Option<Pointer>>, Memory>
 {
     let mut slots = Vec::new(alloc);
     for k in 0..PLACES {
-        let slot = if k % APART == 0 {
-            Some(share(alloc, start.part(alloc, (k / APART) as u8)?)?)
-        } else {
-            None
+        let slot = match part_at(k) {
+            Some(b) => Some(share(alloc, start.part(alloc, b as u8)?)?),
+            None => None,
         };
         slots.push(slot)?;
     }
