@@ -158,18 +158,25 @@ some_kept : (t : Bool) (a : NumberSet) (b : ℕ) → is_some (kept t a b) ≡ t
 some_kept true a b = refl
 some_kept false a b = refl
 
+kept_alike : (t : Bool) (a b : NumberSet) (n : ℕ) → (t ≡ true → part_of a n ≡ part_of b n) → kept t a n ≡ kept t b n
+kept_alike true a b n same = ap Some (same refl)
+kept_alike false a b n same = refl
+
 -- what was prepared answers the batch
-pub edits_from : (cs : List Command) (found edited : List (Option Pointer)) (p : Preparation) → length found ≡ 12
-    → AreOwn found → IsFootprint cs found → IsPrepared cs (union_of (lists_of found)) p
+pub edits_from : (cs : List Command) (given : ℕ → Bool) (found edited : List (Option Pointer)) (p : Preparation)
+    → length found ≡ 12 → AreOwn found → IsFootprint cs found → ((b : ℕ) → given b ≡ is_some (at_place found b))
+    → IsPrepared cs given (union_of (lists_of found)) p
     → ((b : ℕ) → b < 12 → content (at_place edited b) ≡ get_or p.lists b None) → Edits cs found edited
 unfolding answer replies_to
-edits_from cs found edited p long own whole prepared each =
+edits_from cs given found edited p long own whole filled prepared each =
     let u : NumberSet = union_of (lists_of found) in
     let u_within = union_within found long own in
     let now =
     λ (a : NumberSet) (v : IsWithin a pixels) (agree : AgreeOn (footprint_of_all cs) u a) (b : ℕ) (l : b < 12).
     let e : content (at_place edited b) ≡ kept (footprint_of_all cs b) (set_after_all a cs) b = each b l
-    ∙ prepared.parts a v agree b l in e in
+    ∙ prepared.parts b l ∙ ap (λ (t : Bool). kept t (set_after_all u cs) b) (filled b ∙ whole b l)
+    ∙ kept_alike (footprint_of_all cs b) (set_after_all u cs) (set_after_all a cs) b (prepared.inside a v agree b) in
+    e in
     record {
       same_parts =
           parts_same edited found 12
