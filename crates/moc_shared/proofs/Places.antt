@@ -111,6 +111,14 @@ notes_upto found b zero none = ap (notes_below found) (add-zero b)
 notes_upto found b (suc d) none = let up : b + suc d ≡ suc (b + d) = omega arith in ap (notes_below found) up
     ∙ notes_without found (b + d) (none (b + d) (omega arith)) ∙ notes_upto found b d none
 
+-- what is held is noted below the end of the pointers
+pub held_upto : (v : Sight) (slots : List (Option Pointer)) (b : ℕ) → v.holds ≡ notes_below slots 12 → b ≤ 12
+    → ((k : ℕ) → b ≤ k → at_place slots k ≡ None) → v ≡ with_holds v (notes_below slots b)
+held_upto v slots b is within none =
+    let below : v.holds ≡ notes_below slots b = is
+    ∙ sym (ap (notes_below slots) (let e : b + (12 - b) ≡ 12 = omega arith in e)) ∙ notes_upto slots b (12 - b) none in
+    λ i. with_holds v (below i)
+
 pub start_parts : (v w : Sight) (found : List (Option Pointer)) → w ≡ v → v.holds ≡ []
     → w ≡ with_parts v (notes_below found 0)
 start_parts v w found same idle = same
