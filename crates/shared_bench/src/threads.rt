@@ -36,6 +36,8 @@ pub enum Job {
     OnePart,
     /// Client 0 does so, and the others read base pixel 0 by snapshots until it is done.
     Readers,
+    /// Client 0 does so, and the others take base pixel 0 and give it back until it is done.
+    Takers,
 }
 
 /// What threads know of one another.
@@ -95,7 +97,7 @@ pub fn work<R: Wait + Clock>(
 ) -> Figure
     requires { IsClientOf map.now client }
 {
-    let is_reader = matches!(plan.job, Job::Readers) && client.number() > 0;
+    let is_reader = matches!(plan.job, Job::Readers | Job::Takers) && client.number() > 0;
     let all = have_started(plan);
     let done = if !all {
         None
@@ -122,7 +124,7 @@ fn change<R: Wait + Clock>(
     let number = u64::from(client.number());
     let index = match plan.job {
         Job::OwnParts => number * BASE_CELLS,
-        Job::OnePart | Job::Readers => number,
+        Job::OnePart | Job::Readers | Job::Takers => number,
     };
     let add = Batch::one(alloc, Command::Add(cell(alloc, index).ok()?)).ok()?;
     let remove = Batch::one(alloc, Command::Remove(cell(alloc, index).ok()?)).ok()?;
@@ -163,7 +165,8 @@ fn changes_a_cell<R: Wait>(rt: &R, map: &SharedMap, client: &mut Client, batch: 
     }
 }
 
-/// Reads base pixel 0 until some other thread has ended: how many readings were answered.
+/// Reads base pixel 0, or just takes it, until some other thread has ended: how many readings were answered, or how often
+/// it was taken.
 fn read(alloc: Global, map: &SharedMap, plan: &Plan, client: Client) -> Option<Figure>
     requires { IsClientOf map.now client }
 {
@@ -175,16 +178,42 @@ fn read(alloc: Global, map: &SharedMap, plan: &Plan, client: Client) -> Option<F
         if plan.ended.load(Ordering::SeqCst) > 0 {
             break;
         }
-        let (back, snapshot) = look(map, client, read.try_copy(alloc).ok()?);
+        let batch = read.try_copy(alloc).ok()?;
+        let (back, good) = match plan.job {
+            Job::Takers => touch(map, client, batch),
+            _ => read_once(alloc, map, client, batch),
+        };
         client = back;
-        match snapshot {
-            Some(snapshot) => reads = reads.saturating_add(u64::from(
-                snapshot.answer(alloc).is_ok(),
-            )),
-            None => thread::yield_now(),
+        reads = reads.saturating_add(u64::from(good));
+        if !good {
+            thread::yield_now();
         }
     }
     Some(Figure::of_reads(reads))
+}
+
+/// Whether a query was answered, with its client.
+fn read_once(alloc: Global, map: &SharedMap, client: Client, batch: Batch) -> (Client, bool)
+    requires { IsClientOf map.now client }
+    ensures { IsClientOf map.now result.0 }
+{
+    let (client, snapshot) = look(map, client, batch);
+    let is_answered = match snapshot {
+        Some(snapshot) => snapshot.answer(alloc).is_ok(),
+        None => false,
+    };
+    (client, is_answered)
+}
+
+/// Takes the parts of a batch and gives them back: whether that was so, with the client.
+fn touch(map: &SharedMap, client: Client, batch: Batch) -> (Client, bool)
+    requires { IsClientOf map.now client }
+    ensures { IsClientOf map.now result.0 }
+{
+    match map.hold(client, batch) {
+        Ok(holding) => (map.let_go(holding), true),
+        Err((client, _, _)) => (client, false),
+    }
 }
 
 /// What a query sees, with its client; nothing where a part is held.
