@@ -178,6 +178,9 @@ meets-part a s b h = let m = meets_at (part_of a b) s h in meets-some a s m.0 (o
 pub union-nothing : (a b : NumberSet) → b ≡ set.empty → set.union a b ≡ a
 union-nothing a b e = same_members _ _ (λ q. has-union a b q ∙ ap (λ t. set.contains a q || set.contains t q) e ∙ ap (λ t. set.contains a q || t) (has-empty q) ∙ or_nothing (set.contains a q))
 
+pub nothing-union : (a b : NumberSet) → a ≡ set.empty → set.union a b ≡ b
+nothing-union a b e = same_members _ _ (λ q. has-union a b q ∙ ap (λ t. set.contains t q || set.contains b q) e ∙ ap (λ t. t || set.contains b q) (has-empty q))
+
 -- a part is shared whole with a set that has its base pixel
 pub part-covered : (a s : NumberSet) (b : ℕ) → IsWithin a pixels → set.is_subset (part_of pixels b) s ≡ true → set.intersection (part_of a b) s ≡ part_of a b
 part-covered a s b w sub = same_members _ _ (λ q. has-intersection (part_of a b) s q ∙ same_test _ _

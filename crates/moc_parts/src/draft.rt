@@ -177,16 +177,27 @@ impl<'a> Draft<'a> {
         false
     }
 
+    /// The pixels of one part that the set has in common with another. A part that the other covers is copied whole.
+    fn common_in(&self, alloc: Global, b: u8, other: &Coverage) -> Result<Coverage, Memory>
+        requires { b < 12 }
+        ensures common { IfOk result (λ c. c ≡ set.intersection (part_of self.now.set b) other.now) }
+        ensures within { IsWithin self.now.set pixels }
+    {
+        let part = self.part(b);
+        if other.covers_base_pixel(b) {
+            Ok(part.try_copy(alloc)?)
+        } else {
+            Ok(part.intersection(alloc, other)?)
+        }
+    }
+
     /// The pixels that the set has in common with another.
     pub(crate) fn common(&self, alloc: Global, other: &Coverage) -> Result<Coverage, Memory>
         ensures { IfOk result (λ c. c ≡ set.intersection self.now.set other.now) }
     {
         let mut common = Coverage::empty(alloc);
         for b in 0u8..12 {
-            let shared = self.part(b).intersection(alloc, other)?;
-            if !shared.is_empty() {
-                common = common.union(alloc, &shared)?;
-            }
+            common = joined(alloc, common, self.common_in(alloc, b, other)?)?;
         }
         Ok(common)
     }
@@ -219,5 +230,18 @@ impl<'a> Draft<'a> {
             }
         }
         Ok(lists)
+    }
+}
+
+/// What is in either set. Where one has no pixel, it is the other as it stands.
+fn joined(alloc: Global, a: Coverage, b: Coverage) -> Result<Coverage, Memory>
+    ensures { IfOk result (λ c. c ≡ set.union a b) }
+{
+    if b.is_empty() {
+        Ok(a)
+    } else if a.is_empty() {
+        Ok(b)
+    } else {
+        Ok(a.union(alloc, &b)?)
     }
 }
