@@ -13,6 +13,7 @@ usage: tests/wrong_bodies.py [--jobs N] [CRATE | CRATE/EDIT]..
 
 All is done in copies, over what `out` folders hold of proved crates. The last line is `N passed, M failed`."""
 import argparse
+import contextlib
 import os
 import re
 import shutil
@@ -294,6 +295,28 @@ class Round:
         return found
 
 
+class Places:
+    """So many checks run at once. The proof of a crate, which other crates wait for, goes before the wrong bodies."""
+
+    def __init__(self, number):
+        self.free, self.proofs, self.turn = number, 0, threading.Condition()
+
+    @contextlib.contextmanager
+    def taken(self, is_proof=False):
+        with self.turn:
+            self.proofs += is_proof
+            self.turn.wait_for(lambda: self.free > 0 and (is_proof or self.proofs == 0))
+            self.proofs -= is_proof
+            self.free -= 1
+            self.turn.notify_all()
+        try:
+            yield
+        finally:
+            with self.turn:
+                self.free += 1
+                self.turn.notify_all()
+
+
 def run_all(threads):
     for it in threads:
         it.start()
@@ -322,7 +345,7 @@ def main():
         print(f"0 passed, {max(len(bad), 1)} failed")
         return 1
     wanted = [it for it in crates if it in edits or any(it in crates[name] for name in edits)]
-    places, printing = threading.Semaphore(given.jobs), threading.Lock()
+    places, printing = Places(given.jobs), threading.Lock()
     ended = {it: threading.Event() for it in wanted}
     proved, refused = set(), set()
 
@@ -333,14 +356,14 @@ def main():
     def prove(trial):
         for name in trial.below:
             ended[name].wait()
-        with places:
+        with places.taken(is_proof=True):
             if proved.issuperset(trial.below):
                 trial.copy()
                 if trial.prove():
                     proved.add(trial.crate)
 
     def try_round(trial, number, one):
-        with places:
+        with places.taken():
             told = trial.check(number, one.texts)
         for edit, is_refused, said in one.judge(told):
             tell(edit.label, f"{'refused, as it must be: ' * is_refused}{said}")
