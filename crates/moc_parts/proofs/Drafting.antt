@@ -2,11 +2,11 @@
 use Rattle.std.proofs.Common.{◌≡◌, ℕ, zero, suc, ◌+◌, ◌/◌, ◌<◌, ◌≤◌, Bool, true, false, not, ◌&&◌, ◌||◌, List, [], ◌∷◌, Option, None, Some, is_some, length, get_or, replicate, take, nat_lt, nat_eq, inl, inr, refl, sym, ap, subst, ◌∙◌, arith}
 use Rattle.std.specs.Prelude.{set as set_at}
 use Rattle.std.specs.Borrow.{Bor}
-use Rattle.std.specs.Option.{unwrap_or}
+use Rattle.std.specs.Option.{unwrap_or, option_copied}
 use Rattle.std.specs.FinSet as set
 use Rattle.std.proofs.lemmas.Bool.Decides.{nat_tests}
 use Rattle.std.proofs.lemmas.Bool.{cases_eq, cases_lt, lt-ltb}
-use Rattle.std.proofs.lemmas.List.{ext_get_or, get_or_default, get_or-map, length-map, length-set, get_or-set_same, get_or-set_other}
+use Rattle.std.proofs.lemmas.List.{ext_get_or, get_or-map, length-map, length-set, get_or-set_same, get_or-set_other}
 use Rattle.moc_ranges.specs.Numbers.{NumberSet, same_members, contains-kept}
 use Rattle.moc_ranges.specs.Laws.{is_pixel}
 use Rattle.moc_ranges.specs.Pixels.{pixels, base_pixel_size}
@@ -156,26 +156,26 @@ none_done made lists after is b same right below = (
 )
 
 -- where no list was made, the one that was found is that part
-pub found_part : (found : List (Bor NumberSet)) (made lists : List (Option NumberSet)) (b : ℕ) (item : Option NumberSet) (list : Bor NumberSet)
-    → AreParts (current_lists (sets_of found) made) → length made ≡ 12 → length lists ≡ 12 → b < 12 → get_or lists b None ≡ get_or made b None
-    → item ≡ get_or lists b item → is_some item ≡ false → list ≡ get_or found b list → list.now ≡ part_of (union_of (current_lists (sets_of found) made)) b
-found_part found made lists b None list are twelve whole l same item_is none list_is =
+pub found_part : (found : List (Bor NumberSet)) (made : List (Option NumberSet)) (b : ℕ) (item : Option NumberSet) (list : Bor NumberSet)
+    → AreParts (current_lists (sets_of found) made) → length made ≡ 12 → b < 12 → item ≡ get_or made b None → is_some item ≡ false
+    → list ≡ get_or found b list → list.now ≡ part_of (union_of (current_lists (sets_of found) made)) b
+found_part found made b None list are twelve l item_is none list_is =
     let many : length found ≡ 12 = sym (length-map found (λ x. x.now)) ∙ found_twelve (sets_of found) made are in
     let found_is : list.now ≡ get_or (sets_of found) b list.now =
     ap (λ x. x.now) list_is ∙ sym (get_or-map (λ x. x.now) found b list list.now (subst (λ n. b < n) (sym many) l)) in
-    (λ i. unwrap_or ((item_is ∙ same) i) (found_is i)) ∙ current_part (sets_of found) made b list.now None are twelve l
-found_part found made lists b (Some x) list are twelve whole l same item_is none list_is = absurd (cc)
+    (λ i. unwrap_or (item_is i) (found_is i)) ∙ current_part (sets_of found) made b list.now None are twelve l
+found_part found made b (Some x) list are twelve l item_is none list_is = absurd (cc)
 
 -- a list that was made is that part
-pub own_part : (found : List NumberSet) (made lists : List (Option NumberSet)) (b : ℕ) (item : Option NumberSet) → AreParts (current_lists found made) → length made ≡ 12
-    → length lists ≡ 12 → b < 12 → get_or lists b None ≡ get_or made b None → item ≡ get_or lists b item → is_some item ≡ true
-    → get_or lists b None ≡ Some (part_of (union_of (current_lists found made)) b)
-own_part found made lists b None are twelve whole l same item_is some = absurd (cc)
-own_part found made lists b (Some x) are twelve whole l same item_is some =
-    let is : get_or lists b None ≡ Some x = sym (get_or_default lists b (Some x) None (subst (λ n. b < n) (sym whole) l)) ∙ sym item_is in
-    let part : x ≡ part_of (union_of (current_lists found made)) b =
-    ap (λ o. unwrap_or o (get_or found b set.empty)) (sym is ∙ same) ∙ current_part found made b set.empty None are twelve l in
-    is ∙ ap Some part
+pub own_part : (found : List NumberSet) (made : List (Option NumberSet)) (b : ℕ) (item : Option NumberSet) → AreParts (current_lists found made) → length made ≡ 12
+    → b < 12 → item ≡ get_or made b None → is_some item ≡ true → item ≡ Some (part_of (union_of (current_lists found made)) b)
+own_part found made b None are twelve l item_is some = absurd (cc)
+own_part found made b (Some x) are twelve l item_is some =
+    ap Some (ap (λ o. unwrap_or o (get_or found b set.empty)) item_is ∙ current_part found made b set.empty None are twelve l)
+
+pub some_copied : (item : Option (Bor NumberSet)) → is_some (option_copied item) ≡ is_some item
+some_copied None = refl
+some_copied (Some x) = refl
 
 -- one list made anew
 pub newest_set : (found : List NumberSet) (made : List (Option NumberSet)) (b : ℕ) (part : NumberSet) → AreParts (current_lists found made) → length made ≡ 12 → b < 12 → part_of part b ≡ part

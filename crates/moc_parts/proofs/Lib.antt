@@ -11,3 +11,4 @@ pub mod Locality
 pub mod BatchLocality
 pub mod InOrder
 pub mod Drafting
+pub mod Placing

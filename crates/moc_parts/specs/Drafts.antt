@@ -1,5 +1,6 @@
 -- A set in twelve parts while a batch is done on it: the lists that were found, and those that were made anew.
-use Rattle.std.specs.Prelude.{ℕ, ◌/◌, List, [], ◌∷◌, Option, map, not, nat_eq, refl}
+use Rattle.std.specs.Prelude.{ℕ, suc, ◌/◌, List, [], ◌∷◌, Option, None, Some, map, not, nat_eq, refl, if◌then◌else◌}
+use Rattle.std.specs.List.{range_with_len}
 use Rattle.std.specs.Coded.{Coded, code_by, coded×, coded_list, coded_ℕ}
 use Rattle.std.specs.FinSet as set
 use Rattle.std.specs.Borrow.{Bor}
@@ -31,3 +32,17 @@ drafted_code =
 -- a set whose part b is another
 unfoldable pub with_part : NumberSet → ℕ → NumberSet → NumberSet
 with_part a b part = set.union (set.retain a (λ p. not (nat_eq (p / base_pixel_size) b))) part
+
+-- the list of part b: that of the first entry with this part
+abbrev pub list_in : List (ℕ × Option NumberSet) → ℕ → Option NumberSet
+list_in [] b = None
+list_in (entry ∷ lists) b = if nat_eq entry.0 b then entry.1 else list_in lists b
+
+-- the lists of all twelve parts
+unfoldable pub twelve_lists : List (ℕ × Option NumberSet) → List (Option NumberSet)
+twelve_lists lists = map (list_in lists) (range_with_len 0 12)
+
+-- where the first entry of part b is, counted from n
+abbrev pub place_from : ℕ → List (ℕ × Option NumberSet) → ℕ → Option ℕ
+place_from n [] b = None
+place_from n (entry ∷ lists) b = if nat_eq entry.0 b then Some n else place_from (suc n) lists b

@@ -13,6 +13,7 @@ mod commands;
 
 use crate::change::Change;
 use crate::footprint::parts_met;
+use crate::lists::Lists;
 use crate::part::Part;
 use moc_ranges::{Coverage, Memory};
 use std::alloc::Global;
@@ -22,7 +23,7 @@ use std::marker::Model;
 #[derive(Drop)]
 pub(crate) struct Draft<'a> {
     found: Vec<&'a Coverage>,
-    made: Vec<Option<Coverage>>,
+    made: Lists,
 }
 
 impl<'a> Model for Draft<'a> {
@@ -36,11 +37,11 @@ impl<'a> Model for Draft<'a> {
 
     ghost view = { λ d. record {
       found = sets_of d.found.items;
-      set = union_of (current_lists (sets_of d.found.items) d.made.items);
+      set = union_of (current_lists (sets_of d.found.items) d.made);
     } };
 
-    ghost invariant = { λ d. AreParts (current_lists (sets_of d.found.items) d.made.items)
-        × (length d.made.items ≡ 12) };
+    ghost invariant = { λ d. AreParts (current_lists (sets_of d.found.items) d.made)
+        × (length d.made ≡ 12) };
 }
 
 impl<'a> Draft<'a> {
@@ -53,7 +54,7 @@ impl<'a> Draft<'a> {
         for list in lists {
             found.push(list)?;
         }
-        Draft::unchanged(alloc, found)
+        Ok(Draft::unchanged(alloc, found))
     }
 
     /// A draft of the set in the lists that were found, with nothing in the parts that were not looked at.
@@ -71,20 +72,18 @@ impl<'a> Draft<'a> {
         for list in lists {
             found.push(list.unwrap_or(nothing))?;
         }
-        Draft::unchanged(alloc, found)
+        Ok(Draft::unchanged(alloc, found))
     }
 
     /// A draft on which nothing is done yet.
-    fn unchanged(alloc: Global, found: Vec<&'a Coverage>) -> Result<Draft<'a>, Memory>
+    fn unchanged(alloc: Global, found: Vec<&'a Coverage>) -> Draft<'a>
         requires { AreParts (sets_of found.items) }
-        ensures { IfOk result (λ d.
-            d ≡ record { found = sets_of found.entry.items; set = union_of (sets_of found.entry.items) }) }
+        ensures { result ≡ record { found = sets_of found.entry.items; set = union_of (sets_of found.entry.items) } }
     {
-        let mut made = Vec::with_capacity(alloc, 12)?;
-        for _ in &found {
-            made.push(None)?;
+        Draft {
+            found,
+            made: Lists::new(alloc),
         }
-        Ok(Draft { found, made })
     }
 
     /// The set of one part.
@@ -93,20 +92,21 @@ impl<'a> Draft<'a> {
         ensures list { result.now ≡ part_of self.now.set b }
         ensures within { IsWithin self.now.set pixels }
     {
-        match &self.made[b as usize] {
+        match self.made.get(b) {
             Some(list) => list,
             None => self.found[b as usize],
         }
     }
 
-    /// Makes the list of one part anew.
-    fn put(&mut self, b: u8, list: Coverage)
+    /// Makes the list of one part anew. Refused where memory runs out.
+    fn put(&mut self, b: u8, list: Coverage) -> Result<(), Memory>
         requires part { b < 12 }
         requires list { part_of list b ≡ list }
-        ensures set { self.new.set ≡ with_part self.old.set b list }
+        ensures set { OnOk result (self.new.set ≡ with_part self.old.set b list) }
         ensures found { self.new.found ≡ self.old.found }
     {
-        self.made[b as usize] = Some(list);
+        self.made.put(b, list)?;
+        Ok(())
     }
 
     /// Changes the set.
@@ -118,7 +118,7 @@ impl<'a> Draft<'a> {
         let parts = change.parts();
         for b in 0u8..12 {
             if let Some(list) = change.part(alloc, parts, self.part(b), b)? {
-                self.put(b, list);
+                self.put(b, list)?;
             }
         }
         Ok(())
@@ -203,10 +203,10 @@ impl<'a> Draft<'a> {
     }
 
     /// The lists that were made anew.
-    pub(crate) fn into_made(self) -> Vec<Option<Coverage>>
-        ensures lists { current_lists self.entry.found result.items ≡ parts_below self.entry.set 12 }
+    pub(crate) fn into_made(self) -> Lists
+        ensures lists { current_lists self.entry.found result ≡ parts_below self.entry.set 12 }
         ensures within { IsWithin self.entry.set pixels }
-        ensures twelve { length result.items ≡ 12 }
+        ensures twelve { length result ≡ 12 }
     {
         self.made
     }
@@ -216,17 +216,17 @@ impl<'a> Draft<'a> {
         self,
         alloc: Global,
         given: &[Option<&Coverage>; 12],
-    ) -> Result<Vec<Option<Coverage>>, Memory>
+    ) -> Result<Lists, Memory>
         ensures { IfOk result (λ lists.
-            (b : ℕ) → b < 12 → get_or lists.items b None ≡ kept (is_given given.now b) self.entry.set b) }
+            (b : ℕ) → b < 12 → get_or lists b None ≡ kept (is_given given.now b) self.entry.set b) }
     {
         let Draft { found, made } = self;
         let mut lists = made;
-        for b in 0..12usize {
-            if given[b].is_none() {
-                lists[b] = None;
-            } else if lists[b].is_none() {
-                lists[b] = Some(found[b].try_copy(alloc)?);
+        for b in 0u8..12 {
+            if given[b as usize].is_none() {
+                lists.take(b);
+            } else if lists.get(b).is_none() {
+                lists.put(b, found[b as usize].try_copy(alloc)?)?;
             }
         }
         Ok(lists)

@@ -7,6 +7,7 @@ mod command;
 mod draft;
 mod footprint;
 mod laws;
+mod lists;
 mod map;
 mod part;
 mod prepared;

@@ -7,6 +7,7 @@ ghost use Rattle.moc_parts.specs.Drafts.{current_lists};
 
 use crate::batch::Batch;
 use crate::draft::Draft;
+use crate::lists::Lists;
 use crate::part::Part;
 use crate::reply::Replies;
 use moc_ranges::{Coverage, Memory};
@@ -85,13 +86,14 @@ impl Map {
 }
 
 /// Puts the lists that were made anew into their places.
-fn put_all(parts: &mut [Coverage], mut made: Vec<Option<Coverage>>)
-    requires { length made.items ≡ length parts.old }
-    ensures { parts.new ≡ current_lists parts.old made.items }
+fn put_all(parts: &mut [Coverage], mut made: Lists)
+    requires twelve { length parts.old ≡ 12 }
+    requires places { length made ≡ 12 }
+    ensures { parts.new ≡ current_lists parts.old made }
 {
-    for b in 0..parts.len() {
-        if let Some(list) = made[b].take() {
-            parts[b] = list;
+    for b in 0u8..12 {
+        if let Some(list) = made.take(b) {
+            parts[b as usize] = list;
         }
     }
 }

@@ -7,6 +7,7 @@ ghost use Rattle.moc_parts.specs.Prepared.{found_sets, is_given, AreRepliesTo, I
 
 use crate::batch::Batch;
 use crate::draft::Draft;
+use crate::lists::Lists;
 use crate::part::Part;
 use crate::reply::Replies;
 use moc_ranges::{Coverage, Memory};
@@ -16,7 +17,7 @@ use std::marker::Model;
 /// The new list of each part that was given, and the replies to the commands of a batch.
 #[derive(Debug, Drop)]
 pub struct Prepared {
-    lists: Vec<Option<Coverage>>,
+    lists: Lists,
     replies: Replies,
 }
 
@@ -31,7 +32,7 @@ impl Model for Prepared {
 
     ghost coded = { Prim.hlevel (codes, coverage.the_row.coded, set.code {R = nat_cmp} coded_ℕ) };
 
-    ghost view = { λ p. record { lists = p.lists.items; replies = p.replies } };
+    ghost view = { λ p. record { lists = p.lists; replies = p.replies } };
 }
 
 impl Prepared {
@@ -48,10 +49,7 @@ impl Prepared {
         ensures left { self.new.lists ≡ set_at self.old.lists part None }
         ensures replies { self.new.replies ≡ self.old.replies }
     {
-        match self.lists.get_mut(usize::from(part.get())) {
-            Some(list) => list.take(),
-            None => None,
-        }
+        self.lists.take(part.get())
     }
 
     /// The replies alone; the lists that were not taken are given up. Takes no memory.

@@ -13,7 +13,7 @@ returns c =
     let cs : List Command = c.args.batch.now in
     let found : NumberSet = union_of (found_sets c.args.found.now) in
     prepared cs (is_given c.args.found.now) found found c.answer_all.new.self.set
-    (record { lists = c.in_ok-lists.lists.items; replies = c.in_ok-replies.replies })
+    (record { lists = c.in_ok-lists.lists; replies = c.in_ok-replies.replies })
     c.commands.ensures.proper (parts_within (found_sets c.args.found.now) (lying_parts (found_sets c.args.found.now) c.requires)) (λ i. found)
     (c.in_ok-replies.ensures.set ∙ (λ i. set_after_all (c.in_ok-draft.ensures i).set (c.commands.ensures.commands i)))
     (c.in_ok-replies.ensures.replies ∙ (λ i. replies_on (c.in_ok-draft.ensures i).set (c.commands.ensures.commands i)))

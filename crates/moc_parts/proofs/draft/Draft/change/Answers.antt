@@ -9,7 +9,7 @@ use Rattle.moc_parts.specs.Drafts.{with_part}
 use Rattle.moc_parts.proofs.PartLaw.{changed_within}
 use Rattle.moc_parts.proofs.Drafting.{half_changed, half-none, half-all, with_next, with_own, part_lies, made_part}
 use Rattle.moc_parts.proofs.draft.Draft.change.Goals as goal
-use Rattle.moc_parts.proofs.draft.Draft.change.Goals.{in-Some, in_default}
+use Rattle.moc_parts.proofs.draft.Draft.change.Goals.{in-Some+in_ok-put, in_default}
 
 pub loop-b-init : goal.loop-b-init
 loop-b-init c = (sym (half-none (changed c.args.change.now c.args.self.now.set) c.args.self.now.set), (λ i. c.args.self.now.found), λ later. absurd (omega arith))
@@ -44,10 +44,10 @@ loop-b-preserved c =
           subst (λ a. IsWithin a pixels) (half ∙ ap (half_changed new old) none ∙ half-none new old) c.part.ensures.within
     ] in
     elim c.match-branch-2.branch [
-      | in-Some w ↦
+      | in-Some+in_ok-put w ↦
           let list : w.in-Some.list ≡ part_of new b = ap (λ o. unwrap_or o c.part.result.now) (sym w.in-Some.is) ∙ made in (
-            ap (λ d. d.set) w.self-is ∙ w.put.ensures.set ∙ (λ i. with_part (half i) b (list i)) ∙ with_next new old b,
-            ap (λ d. d.found) w.self-is ∙ w.put.ensures.found ∙ c.loop-b.invariant.1,
+            ap (λ d. d.set) w.self-is ∙ w.in_ok-put.ensures.set ∙ (λ i. with_part (half i) b (list i)) ∙ with_next new old b,
+            ap (λ d. d.found) w.self-is ∙ w.in_ok-put.ensures.found ∙ c.loop-b.invariant.1,
             within,
           )
       | in_default w ↦

@@ -3,4 +3,4 @@ use Rattle.moc_parts.proofs.Drafting.{AreDoneBelow}
 use Rattle.moc_parts.proofs.draft.Draft.into_lists.Given as goal
 
 abbrev pub invariant-loop-b : goal.invariant-loop-b
-invariant-loop-b l = AreDoneBelow l.initial.lists.items l.lists.items (λ k. kept (is_given l.given k) l.fn.self.set k) l.b
+invariant-loop-b l = AreDoneBelow l.initial.lists l.lists (λ k. kept (is_given l.given k) l.fn.self.set k) l.b

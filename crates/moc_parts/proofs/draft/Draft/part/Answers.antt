@@ -1,5 +1,5 @@
-use Rattle.std.proofs.Common.{◌≡◌, ◌<◌, get_or, length, sym, ap, subst, ◌∙◌, rules}
-use Rattle.std.specs.Option.{unwrap_or}
+use Rattle.std.proofs.Common.{◌≡◌, ◌<◌, None, get_or, length, sym, ap, subst, ◌∙◌, rules}
+use Rattle.std.specs.Option.{unwrap_or, option_copied}
 use Rattle.std.proofs.lemmas.List.{length-map, get_or-map}
 use Rattle.moc_ranges.specs.Operations.{part_of, IsWithin}
 use Rattle.moc_ranges.specs.Pixels.{pixels}
@@ -8,20 +8,20 @@ use Rattle.moc_parts.proofs.Twelve.{parts_within}
 use Rattle.moc_parts.proofs.Drafting.{found_twelve, current_part}
 use Rattle.moc_parts.proofs.draft.Draft.part.Goals as goal
 
-pub index-requires-in-None : goal.index-requires-in-None
-index-requires-in-None c =
+pub index-requires : goal.index-requires
+index-requires c =
     let found = c.self.inside.found.items in
-    let twelve : length found ≡ 12 = sym (length-map found (λ l. l.now)) ∙ found_twelve (sets_of found) c.self.inside.made.items c.self.invariant.0 in
+    let twelve : length found ≡ 12 = sym (length-map found (λ l. l.now)) ∙ found_twelve (sets_of found) c.self.inside.made c.self.invariant.0 in
     search rules
 
 pub returns-in-Some : goal.returns-in-Some
 returns-in-Some c =
     let found = sets_of c.self.inside.found.items in
-    let made = c.self.inside.made.items in
-    let else_found = get_or found c.args.b c.in-Some.list in
+    let made = c.self.inside.made in
+    let list = c.in-Some.list in
     record {
-      list = ap (λ list. unwrap_or list else_found) (sym c.in-Some.is ∙ c.index.ensures)
-          ∙ current_part found made c.args.b c.in-Some.list c.index.result.now c.self.invariant.0 c.self.invariant.1 c.requires
+      list = ap (λ l. unwrap_or l (get_or found c.args.b list.now)) (ap option_copied (sym c.in-Some.is) ∙ c.get.ensures)
+          ∙ current_part found made c.args.b list.now None c.self.invariant.0 c.self.invariant.1 c.requires
           ∙ ap (λ d. part_of d.set c.args.b) c.self.view_is;
       within = subst (λ d. IsWithin d.set pixels) c.self.view_is (parts_within _ c.self.invariant.0);
     }
@@ -29,13 +29,13 @@ returns-in-Some c =
 pub returns-in-None : goal.returns-in-None
 returns-in-None c =
     let lists = c.self.inside.found.items in
-    let made = c.self.inside.made.items in
-    let list = c.index-in-None.result.now in
+    let made = c.self.inside.made in
+    let list = c.index.result.now in
     let twelve : length lists ≡ 12 = sym (length-map lists (λ l. l.now)) ∙ found_twelve (sets_of lists) made c.self.invariant.0 in
     record {
-      list = ap (λ l. l.now) c.index-in-None.ensures ∙ sym (get_or-map (λ l. l.now) lists c.args.b list list.now (subst (λ n. c.args.b < n) (sym twelve) c.requires))
-          ∙ ap (λ l. unwrap_or l (get_or (sets_of lists) c.args.b list.now)) (sym c.in-None.is ∙ c.index.ensures)
-          ∙ current_part (sets_of lists) made c.args.b list.now c.index.result.now c.self.invariant.0 c.self.invariant.1 c.requires
+      list = ap (λ l. l.now) c.index.ensures ∙ sym (get_or-map (λ l. l.now) lists c.args.b list list.now (subst (λ n. c.args.b < n) (sym twelve) c.requires))
+          ∙ ap (λ l. unwrap_or l (get_or (sets_of lists) c.args.b list.now)) (ap option_copied (sym c.in-None.is) ∙ c.get.ensures)
+          ∙ current_part (sets_of lists) made c.args.b list.now None c.self.invariant.0 c.self.invariant.1 c.requires
           ∙ ap (λ d. part_of d.set c.args.b) c.self.view_is;
       within = subst (λ d. IsWithin d.set pixels) c.self.view_is (parts_within _ c.self.invariant.0);
     }

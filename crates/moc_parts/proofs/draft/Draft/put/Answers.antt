@@ -1,18 +1,19 @@
-use Rattle.std.proofs.Common.{◌∙◌, ap, Some}
+use Rattle.std.proofs.Common.{◌≡◌, ◌∙◌, ap, sym, subst, length, Some}
 use Rattle.std.specs.Prelude.{set as set_at}
 use Rattle.std.proofs.lemmas.List.{length-set}
 use Rattle.moc_ranges.specs.Numbers.{NumberSet}
 use Rattle.moc_parts.specs.Drafts.{current_lists, sets_of, with_part}
-use Rattle.moc_parts.specs.Parts.{union_of}
+use Rattle.moc_parts.specs.Parts.{union_of, AreParts}
 use Rattle.moc_parts.proofs.Twelve.{parts_within, made_parts, made_union}
 use Rattle.moc_parts.proofs.Drafting.{newest_set, with_part_within}
 use Rattle.moc_parts.proofs.draft.Draft.put.Goals as goal
 
-pub invariant_of-self : goal.invariant_of-self
-invariant_of-self c =
+pub invariant_of-self-2 : goal.invariant_of-self-2
+invariant_of-self-2 c =
     let found = sets_of c.self.inside.found.items in
-    let made = c.self.inside.made.items in
-    let whole : NumberSet = union_of (current_lists found made) in (
+    let made = c.self.inside.made in
+    let whole : NumberSet = union_of (current_lists found made) in
+    subst (λ lists. AreParts (current_lists found lists) × (length lists ≡ 12)) (sym c.in_ok-put.ensures.put) (
       made_parts (current_lists found (set_at made c.args.b (Some c.args.list))) (with_part whole c.args.b c.args.list)
           (newest_set found made c.args.b c.args.list c.self.invariant.0 c.self.invariant.1 c.requires.part c.requires.list)
           (with_part_within whole c.args.b c.args.list c.requires.part (parts_within (current_lists found made) c.self.invariant.0) c.requires.list),
@@ -22,9 +23,10 @@ invariant_of-self c =
 pub returns-clause-set : goal.returns-clause-set
 returns-clause-set c =
     let found = sets_of c.self.inside.found.items in
-    let made = c.self.inside.made.items in
+    let made = c.self.inside.made in
     let whole : NumberSet = union_of (current_lists found made) in
-    made_union (current_lists found (set_at made c.args.b (Some c.args.list))) (with_part whole c.args.b c.args.list)
+    ap (λ lists. union_of (current_lists found lists)) c.in_ok-put.ensures.put
+    ∙ made_union (current_lists found (set_at made c.args.b (Some c.args.list))) (with_part whole c.args.b c.args.list)
     (newest_set found made c.args.b c.args.list c.self.invariant.0 c.self.invariant.1 c.requires.part c.requires.list)
     (with_part_within whole c.args.b c.args.list c.requires.part (parts_within (current_lists found made) c.self.invariant.0) c.requires.list)
     ∙ ap (λ d. with_part d.set c.args.b c.args.list) c.self.view_is
