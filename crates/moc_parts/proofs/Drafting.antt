@@ -15,6 +15,7 @@ use Rattle.moc_parts.specs.declared.change.Change.{Change}
 use Rattle.moc_parts.specs.Changes.{changed, changed_part, IsChange}
 use Rattle.moc_parts.specs.Parts.{union_of, parts_below, AreParts}
 use Rattle.moc_parts.specs.Drafts.{current_lists, sets_of, with_part}
+use Rattle.moc_parts.specs.Prepared.{found_in}
 use Rattle.moc_parts.proofs.Members.{has-union, has-difference, and_true, or_true}
 use Rattle.moc_parts.proofs.PartLaw.{part_law}
 use Rattle.moc_parts.proofs.Twelve.{first_parts, has-first_parts, length-parts_below, get-parts_below, parts_length, get-parts, within_base}
@@ -112,6 +113,40 @@ set-parts a b part l lies =
       | inr other ↦ get_or-set_other (parts_below a 12) b k part set.empty other ∙ get-parts_below a 12 k set.empty small
           ∙ sym (part-with_other a b part k other lies) ∙ sym (get-parts_below (with_part a b part) 12 k set.empty small)
     ])
+
+-- ---- what was found
+
+-- the first lists are found
+abbrev pub IsFilled : List NumberSet → List (Bor NumberSet) → ℕ → Type 0
+IsFilled lists found b = (length found ≡ 12) × ((k : ℕ) → k < b → get_or (sets_of found) k set.empty ≡ get_or lists k set.empty)
+
+pub filled_next : (lists : List NumberSet) (found : List (Bor NumberSet)) (b : ℕ) (list : Bor NumberSet) → b < 12 → list.now ≡ get_or lists b set.empty
+    → IsFilled lists found b → IsFilled lists (set_at found b list) (b + 1)
+filled_next lists found b list l is below =
+    let many : length (set_at found b list) ≡ 12 = length-set found b list ∙ below.0 in
+    let here : (k : ℕ) → k < 12 → get_or (sets_of (set_at found b list)) k set.empty ≡ (get_or (set_at found b list) k list).now =
+    λ k lt. get_or-map (λ x. x.now) (set_at found b list) k list set.empty (subst (λ n. k < n) (sym many) lt) in (
+      many,
+      λ k lt. elim (cases_lt k b) [
+        | inl before ↦
+            here k (omega arith) ∙ ap (λ x. x.now) (get_or-set_other found b k list list (λ e. omega arith))
+            ∙ sym (get_or-map (λ x. x.now) found k list set.empty (subst (λ n. k < n) (sym below.0) (omega arith))) ∙ below.1 k before
+        | inr past ↦
+            let at : k ≡ b = omega arith in
+            here k (omega arith) ∙ ap (λ n. (get_or (set_at found b list) n list).now) at
+            ∙ ap (λ x. x.now) (get_or-set_same found b list list (subst (λ n. b < n) (sym below.0) l)) ∙ is ∙ ap (λ n. get_or lists n set.empty) (sym at)
+      ],
+    )
+
+pub filled_all : (lists : List NumberSet) (found : List (Bor NumberSet)) (b : ℕ) → length lists ≡ 12 → 12 ≤ b → IsFilled lists found b → sets_of found ≡ lists
+filled_all lists found b twelve all filled =
+    let many : length (sets_of found) ≡ 12 = length-map found (λ x. x.now) ∙ filled.0 in
+    ext_get_or set.empty (sets_of found) lists (many ∙ sym twelve) (λ k lt. let small : k < 12 = subst (λ n. k < n) many lt in filled.1 k (omega arith))
+
+-- what was found in a part, or else nothing
+pub found_of : (part : Option (Bor NumberSet)) (nothing : Bor NumberSet) → nothing.now ≡ set.empty → (unwrap_or part nothing).now ≡ found_in (option_copied part)
+found_of None nothing e = e
+found_of (Some list) nothing e = refl
 
 -- ---- a draft
 

@@ -22,7 +22,7 @@ use std::marker::Model;
 /// The lists that were found in the twelve parts, and those that were made anew since.
 #[derive(Drop)]
 pub(crate) struct Draft<'a> {
-    found: Vec<&'a Coverage>,
+    found: [&'a Coverage; 12],
     made: Lists,
 }
 
@@ -36,25 +36,25 @@ impl<'a> Model for Draft<'a> {
     ghost coded = { drafted_code };
 
     ghost view = { λ d. record {
-      found = sets_of d.found.items;
-      set = union_of (current_lists (sets_of d.found.items) d.made);
+      found = sets_of d.found;
+      set = union_of (current_lists (sets_of d.found) d.made);
     } };
 
-    ghost invariant = { λ d. AreParts (current_lists (sets_of d.found.items) d.made)
+    ghost invariant = { λ d. AreParts (current_lists (sets_of d.found) d.made)
         × (length d.made ≡ 12) };
 }
 
 impl<'a> Draft<'a> {
-    /// A draft of the set in these twelve lists.
-    pub(crate) fn new(alloc: Global, lists: &'a [Coverage]) -> Result<Draft<'a>, Memory>
+    /// A draft of the set in these twelve lists. Takes no memory.
+    pub(crate) fn new(alloc: Global, lists: &'a [Coverage]) -> Draft<'a>
         requires { AreParts lists.now }
-        ensures { IfOk result (λ d. d ≡ record { found = lists.now; set = union_of lists.now }) }
+        ensures { result ≡ record { found = lists.now; set = union_of lists.now } }
     {
-        let mut found = Vec::with_capacity(alloc, 12)?;
-        for list in lists {
-            found.push(list)?;
+        let mut found = [&lists[0]; 12];
+        for b in 0usize..12 {
+            found[b] = &lists[b];
         }
-        Ok(Draft::unchanged(alloc, found))
+        Draft::unchanged(alloc, found)
     }
 
     /// A draft of the set in the lists that were found, with nothing in the parts that were not looked at.
@@ -62,23 +62,22 @@ impl<'a> Draft<'a> {
         alloc: Global,
         lists: &'a [Option<&'a Coverage>; 12],
         nothing: &'a Coverage,
-    ) -> Result<Draft<'a>, Memory>
+    ) -> Draft<'a>
         requires parts { AreParts (found_sets lists.now) }
         requires nothing { nothing.now ≡ set.empty }
-        ensures { IfOk result (λ d.
-            d ≡ record { found = found_sets lists.now; set = union_of (found_sets lists.now) }) }
+        ensures { result ≡ record { found = found_sets lists.now; set = union_of (found_sets lists.now) } }
     {
-        let mut found = Vec::with_capacity(alloc, 12)?;
-        for list in lists {
-            found.push(list.unwrap_or(nothing))?;
+        let mut found = [nothing; 12];
+        for b in 0usize..12 {
+            found[b] = lists[b].unwrap_or(nothing);
         }
-        Ok(Draft::unchanged(alloc, found))
+        Draft::unchanged(alloc, found)
     }
 
     /// A draft on which nothing is done yet.
-    fn unchanged(alloc: Global, found: Vec<&'a Coverage>) -> Draft<'a>
-        requires { AreParts (sets_of found.items) }
-        ensures { result ≡ record { found = sets_of found.entry.items; set = union_of (sets_of found.entry.items) } }
+    fn unchanged(alloc: Global, found: [&'a Coverage; 12]) -> Draft<'a>
+        requires { AreParts (sets_of found) }
+        ensures { result ≡ record { found = sets_of found.entry; set = union_of (sets_of found.entry) } }
     {
         Draft {
             found,
@@ -94,7 +93,10 @@ impl<'a> Draft<'a> {
     {
         match self.made.get(b) {
             Some(list) => list,
-            None => self.found[b as usize],
+            None => {
+                let found = &self.found[..];
+                found[b as usize]
+            }
         }
     }
 

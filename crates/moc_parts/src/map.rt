@@ -77,7 +77,7 @@ impl Map {
         ensures replies { IfOk result (λ r. r ≡ replies_on self.old batch.now) }
         ensures unchanged { OnErr result (self.new ≡ self.old) }
     {
-        let mut draft = Draft::new(alloc, &self.parts)?;
+        let mut draft = Draft::new(alloc, &self.parts);
         let replies = draft.answer_all(alloc, batch.commands())?;
         let made = draft.into_made();
         put_all(&mut self.parts, made);

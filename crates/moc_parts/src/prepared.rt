@@ -75,7 +75,7 @@ pub fn prepare(
     ensures { IfOk result (λ p. IsPrepared batch.now (is_given found.now) (union_of (found_sets found.now)) p) }
 {
     let nothing = Coverage::empty(alloc);
-    let mut draft = Draft::from_found(alloc, found, &nothing)?;
+    let mut draft = Draft::from_found(alloc, found, &nothing);
     let replies = draft.answer_all(alloc, batch.commands())?;
     let lists = draft.into_lists(alloc, found)?;
     Ok(Prepared { lists, replies })
@@ -94,7 +94,7 @@ pub fn reply_of(
     ensures { IfOk result (λ r. AreRepliesTo batch.now (union_of (found_sets found.now)) r) }
 {
     let nothing = Coverage::empty(alloc);
-    let mut draft = Draft::from_found(alloc, found, &nothing)?;
+    let mut draft = Draft::from_found(alloc, found, &nothing);
     let replies = draft.answer_all(alloc, batch.commands())?;
     Ok(replies)
 }

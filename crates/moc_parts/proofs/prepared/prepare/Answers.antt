@@ -15,9 +15,9 @@ returns c =
     prepared cs (is_given c.args.found.now) found found c.answer_all.new.self.set
     (record { lists = c.in_ok-lists.lists; replies = c.in_ok-replies.replies })
     c.commands.ensures.proper (parts_within (found_sets c.args.found.now) (lying_parts (found_sets c.args.found.now) c.requires)) (λ i. found)
-    (c.in_ok-replies.ensures.set ∙ (λ i. set_after_all (c.in_ok-draft.ensures i).set (c.commands.ensures.commands i)))
-    (c.in_ok-replies.ensures.replies ∙ (λ i. replies_on (c.in_ok-draft.ensures i).set (c.commands.ensures.commands i)))
+    (c.in_ok-replies.ensures.set ∙ (λ i. set_after_all (c.from_found-draft.ensures i).set (c.commands.ensures.commands i)))
+    (c.in_ok-replies.ensures.replies ∙ (λ i. replies_on (c.from_found-draft.ensures i).set (c.commands.ensures.commands i)))
     c.in_ok-lists.ensures
 
-pub from_found-requires-clause-parts : goal.from_found-requires-clause-parts
-from_found-requires-clause-parts c = lying_parts (found_sets c.args.found.now) c.requires
+pub from_found-draft-requires-clause-parts : goal.from_found-draft-requires-clause-parts
+from_found-draft-requires-clause-parts c = lying_parts (found_sets c.args.found.now) c.requires

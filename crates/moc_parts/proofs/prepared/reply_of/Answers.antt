@@ -13,7 +13,7 @@ returns c =
     let cs : List Command = c.args.batch.now in
     let found : NumberSet = union_of (found_sets c.args.found.now) in
     replied cs found found c.in_ok-replies.replies c.commands.ensures.proper (parts_within (found_sets c.args.found.now) (lying_parts (found_sets c.args.found.now) c.requires.parts)) (λ i. found)
-    (c.in_ok-replies.ensures.replies ∙ (λ i. replies_on (c.in_ok-draft.ensures i).set (c.commands.ensures.commands i)))
+    (c.in_ok-replies.ensures.replies ∙ (λ i. replies_on (c.from_found-draft.ensures i).set (c.commands.ensures.commands i)))
 
-pub from_found-requires-clause-parts : goal.from_found-requires-clause-parts
-from_found-requires-clause-parts c = lying_parts (found_sets c.args.found.now) c.requires.parts
+pub from_found-draft-requires-clause-parts : goal.from_found-draft-requires-clause-parts
+from_found-draft-requires-clause-parts c = lying_parts (found_sets c.args.found.now) c.requires.parts

@@ -1,4 +1,4 @@
-use Rattle.std.proofs.Common.{◌≡◌, ◌+◌, ℕ, List, true, Option, None, Some, is_some, not, length, ◌<◌, subst, sym, ap, ◌∙◌, refl, arith, rules}
+use Rattle.std.proofs.Common.{◌≡◌, ◌+◌, ℕ, List, true, Option, None, Some, is_some, get_or, not, length, ◌<◌, subst, sym, ap, ◌∙◌, refl, arith}
 use Rattle.std.specs.Prelude.{set as set_at}
 use Rattle.std.specs.Borrow.{Bor}
 use Rattle.std.specs.Option.{option_copied}
@@ -16,12 +16,6 @@ use Rattle.moc_parts.proofs.draft.Draft.into_lists.Goals.{
   else-is_none+else-is_none-2,
 }
 
-pub index-requires : goal.index-requires
-index-requires c =
-    let found = c.self.inside.found.items in
-    let twelve : length found ≡ 12 = sym (length-map found (λ l. l.now)) ∙ found_twelve (sets_of found) c.self.inside.made c.self.invariant.0 in
-    search rules
-
 pub loop-b-init : goal.loop-b-init
 loop-b-init c = (c.self.invariant.1, λ k lt. absurd (omega arith), λ k le. refl)
 
@@ -29,7 +23,7 @@ pub loop-b-preserved : goal.loop-b-preserved
 loop-b-preserved c =
     let b : ℕ = c.loop-b.b in
     let given = c.args.given.now in
-    let found : List (Bor NumberSet) = c.self.inside.found.items in
+    let found : List (Bor NumberSet) = c.self.inside.found in
     let made : List (Option NumberSet) = c.self.inside.made in
     let lists : List (Option NumberSet) = c.loop-b.lists in
     let set_now : NumberSet = c.args.self.set in
@@ -45,10 +39,12 @@ loop-b-preserved c =
       | then-is_none+in-Some-1 w ↦ left_out (w.lists-is ∙ w.take.ensures.left) w.if-is_none.true
       | then-is_none+in-None-1 w ↦ left_out (w.lists-is ∙ w.take.ensures.left) w.if-is_none.true
       | else-is_none+then-is_none-2+in_ok-try_copy+in_ok-put w ↦
+          let list : Bor NumberSet = get_or found b w.index-found-b.result in
+          let many : length found ≡ 12 = sym (length-map found (λ l. l.now)) ∙ found_twelve (sets_of found) made c.self.invariant.0 in
           let copied : w.in_ok-try_copy.field-0 ≡ part_of set_now b =
           w.in_ok-try_copy.ensures.same
-          ∙ found_part found made b (option_copied w.get.result) w.index.result.now c.self.invariant.0 c.self.invariant.1 c.loop-b-test.true (w.get.ensures ∙ same)
-          (some_copied w.get.result ∙ w.is_none-else-is_none.ensures ∙ ap not w.if-is_none-2.true) w.index.ensures
+          ∙ found_part found made b (option_copied w.get.result) list c.self.invariant.0 c.self.invariant.1 c.loop-b-test.true (w.get.ensures ∙ same)
+          (some_copied w.get.result ∙ w.is_none-else-is_none.ensures ∙ ap not w.if-is_none-2.true) (get_or_default found b w.index-found-b.result list (subst (λ n. b < n) (sym many) c.loop-b-test.true))
           ∙ ap (λ d. part_of d.set b) c.self.view_is in
           one_done made lists next is b (Some w.in_ok-try_copy.field-0) c.loop-b-test.true (w.lists-is ∙ w.in_ok-put.ensures.put)
           (ap Some copied ∙ sym (ap (λ t. kept t set_now b) (given_is ∙ ap not w.if-is_none.false))) inv

@@ -6,4 +6,4 @@ use Rattle.moc_parts.proofs.Twelve.{parts_within}
 use Rattle.moc_parts.proofs.draft.Draft.into_made.Goals as goal
 
 pub returns-clause-within : goal.returns-clause-within
-returns-clause-within c = subst (λ d. IsWithin d.set pixels) c.self.view_is (parts_within (current_lists (sets_of c.self.inside.found.items) c.self.inside.made) c.self.invariant.0)
+returns-clause-within c = subst (λ d. IsWithin d.set pixels) c.self.view_is (parts_within (current_lists (sets_of c.self.inside.found) c.self.inside.made) c.self.invariant.0)

@@ -10,7 +10,7 @@ use Rattle.moc_parts.proofs.draft.Draft.put.Goals as goal
 
 pub invariant_of-self-2 : goal.invariant_of-self-2
 invariant_of-self-2 c =
-    let found = sets_of c.self.inside.found.items in
+    let found = sets_of c.self.inside.found in
     let made = c.self.inside.made in
     let whole : NumberSet = union_of (current_lists found made) in
     subst (λ lists. AreParts (current_lists found lists) × (length lists ≡ 12)) (sym c.in_ok-put.ensures.put) (
@@ -22,7 +22,7 @@ invariant_of-self-2 c =
 
 pub returns-clause-set : goal.returns-clause-set
 returns-clause-set c =
-    let found = sets_of c.self.inside.found.items in
+    let found = sets_of c.self.inside.found in
     let made = c.self.inside.made in
     let whole : NumberSet = union_of (current_lists found made) in
     ap (λ lists. union_of (current_lists found lists)) c.in_ok-put.ensures.put

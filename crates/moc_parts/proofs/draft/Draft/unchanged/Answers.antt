@@ -8,12 +8,12 @@ use Rattle.moc_parts.proofs.draft.Draft.unchanged.Goals as goal
 
 pub invariant_of-result : goal.invariant_of-result
 invariant_of-result c =
-    let found : List NumberSet = sets_of c.args.found.items in
+    let found : List NumberSet = sets_of c.args.found in
     let as_found : current_lists found c.new.result ≡ found = ap (current_lists found) c.new.ensures ∙ current_lists-none found 12 in
     (subst AreParts (sym as_found) c.requires, ap length c.new.ensures)
 
 pub returns : goal.returns
 returns c =
-    let found : List NumberSet = sets_of c.args.found.items in
+    let found : List NumberSet = sets_of c.args.found in
     let as_found : current_lists found c.new.result ≡ found = ap (current_lists found) c.new.ensures ∙ current_lists-none found 12 in
     λ i. record { found = found; set = union_of (as_found i) }
