@@ -45,7 +45,7 @@ pub enum RunError {
 /// | `add S` | `changed N`: S is added, N of its pixels are new |
 /// | `remove S` | `changed N`: S is removed, N of its pixels were in the set |
 /// | `keep S` | `changed N`: what S and the set share is kept, N pixels are removed |
-/// | `claim S` | `claimed`: S is added, none of its pixels were in the set; or `taken N`: N of them were, and nothing changes |
+/// | `claim S` | `claimed`: S is added, no pixel of it was in the set; or `taken N`: N were, and nothing changes |
 /// | `invert` | `changed N`: the set is complemented, N is the number of all pixels |
 /// | `degrade K` | `changed N`: the set is degraded to order K, N pixels are new |
 /// | `count S` | `total N`: the set has N of the pixels of S |
@@ -57,8 +57,11 @@ pub enum RunError {
 ///
 /// Where the call ends with a fault, what is written is exactly the answers to the lines before the one that
 /// `LineTooLong` or `Memory` names, or to the whole lines that were read before `Read`; on `Write` it is as much of
-/// the answers as the writer took. After the whole text the writer is flushed, once. Each line is read in one pass; a
-/// command takes time and memory linear in the ranges of both sets.
+/// the answers as the writer took. After the whole text the writer is flushed, once.
+///
+/// Each line is searched for its end, copied and parsed, each in one pass over its bytes. A command takes O(n log n)
+/// time for the n cells of its operand, O(n) where they rise, and besides time and memory at most linear in the ranges
+/// of both sets.
 pub fn run<R: Source, W: Sink>(
     alloc: Global,
     reader: &mut R,
