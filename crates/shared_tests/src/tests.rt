@@ -2,9 +2,11 @@
 ghost use Rattle.std.specs.Prelude.{◌≤◌, All, IfOk, IfSome};
 ghost use Rattle.moc_shared.specs.Clients.{IsClientOf, IsHoldingOf};
 
-use moc_parts::{Batch, Command, Operand, Replies, Reply};
+use moc_parts::{Batch, Command, Operand, Part, Replies, Reply};
 use moc_ranges::Coverage;
-use moc_shared::{Client, CloseError, Holding, SharedMap, Snapshot, SnapshotError, TryError};
+use moc_shared::{
+    Busy, Client, CloseError, Holding, NewError, SharedMap, Snapshot, SnapshotError, TryError,
+};
 use std::alloc::Global;
 use std::sync::Wait;
 use std::test::Fail;
@@ -379,5 +381,32 @@ fn clients_wait_for_a_part(rt: HostRuntime) -> Result<(), Fail> {
     );
     assert!(rt; x && y);
     assert!(rt; map.close(a)?.is_empty());
+    Ok(())
+}
+
+#[test]
+fn texts_of_errors(rt: HostRuntime) -> Result<(), Fail> {
+    let part = Part::of(3);
+    let busy = Busy { part, holder: 7 };
+    for (error, text) in [
+        (NewError::BadCount, "a map has 1 to 64 clients"),
+        (NewError::Memory, "out of memory"),
+    ] {
+        assert_eq!(rt; format!(in rt.alloc(); "{error}")?.as_str(), text);
+    }
+    let text = format!(in rt.alloc(); "{busy}")?;
+    assert_eq!(rt; text.as_str(), "client 7 holds the part");
+    for (error, text) in [
+        (TryError::Busy(busy), "another client holds a part"),
+        (TryError::Memory, "out of memory"),
+    ] {
+        assert_eq!(rt; format!(in rt.alloc(); "{error}")?.as_str(), text);
+    }
+    for (error, text) in [
+        (CloseError::Midway { part }, "a part is held"),
+        (CloseError::Memory, "out of memory"),
+    ] {
+        assert_eq!(rt; format!(in rt.alloc(); "{error}")?.as_str(), text);
+    }
     Ok(())
 }

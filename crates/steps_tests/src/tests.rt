@@ -3,7 +3,7 @@ ghost use Rattle.std.specs.Prelude.{◌<◌, ◌≤◌};
 
 use moc_parts::{Batch, Command, Operand, Part, Replies, Reply};
 use moc_ranges::Coverage;
-use moc_steps::{CoverError, Entry, Step, StepError, World, drain, next_step, replay};
+use moc_steps::{CoverError, Entry, ReplayError, Step, StepError, World, drain, next_step, replay};
 use std::test::Fail;
 
 /// How many pixels a base pixel has: 4^29.
@@ -229,5 +229,42 @@ fn refused_lists(rt: HostRuntime) -> Result<(), Fail> {
     assert!(rt; refusal.at == 4 && refusal.why == StepError::AllTaken);
     let world = replay(alloc, &empty, &steps[..3])?;
     assert!(rt; matches!(world.coverage(), Err(CoverError::Midway { n: 1 })));
+    Ok(())
+}
+
+#[test]
+fn texts_of_errors(rt: HostRuntime) -> Result<(), Fail> {
+    let part = Part::of(3);
+    for (error, text) in [
+        (StepError::NotIdle, "the client is not idle"),
+        (StepError::Idle, "the client is idle"),
+        (
+            StepError::PartHeld { part, by: 7 },
+            "the part is held by client 7",
+        ),
+        (StepError::AllTaken, "all parts are taken"),
+        (StepError::NotAllTaken, "not all parts are taken"),
+        (StepError::NotHeld, "the part is not held"),
+        (StepError::AlreadyEdited, "the part is edited"),
+        (StepError::NotEdited, "the part is not edited"),
+        (StepError::BegunEditing, "the client has begun to edit"),
+        (StepError::StillHolding, "the client holds a part"),
+        (StepError::NothingDone, "the client has taken nothing"),
+        (StepError::Quitting, "the client quits"),
+        (StepError::Memory, "out of memory"),
+        (StepError::TooMany, "too many operations"),
+    ] {
+        assert_eq!(rt; format!(in rt.alloc(); "{error}")?.as_str(), text);
+    }
+    for (error, text) in [
+        (CoverError::Midway { n: 2 }, "2 clients are midway"),
+        (CoverError::Memory, "out of memory"),
+    ] {
+        assert_eq!(rt; format!(in rt.alloc(); "{error}")?.as_str(), text);
+    }
+    let why = StepError::AllTaken;
+    let refusal = ReplayError { at: 4, why };
+    let text = format!(in rt.alloc(); "{refusal}")?;
+    assert_eq!(rt; text.as_str(), "step 4 is refused: all parts are taken");
     Ok(())
 }

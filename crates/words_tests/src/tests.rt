@@ -304,3 +304,76 @@ fn pictures(rt: HostRuntime) -> Result<(), Fail> {
     }
     Ok(())
 }
+
+/// They are those of the text that is read, or of want of memory.
+#[test]
+fn texts_of_errors(rt: HostRuntime) -> Result<(), Fail> {
+    let too_large = JsonError::CellTooLarge { name: 1, place: 2 };
+    for (error, text) in [
+        (
+            FormError::Ascii(TextError::BadByte { at: 7 }),
+            "a byte that no word has there, at 7",
+        ),
+        (
+            FormError::Ascii(TextError::NoOrder { at: 7 }),
+            "an item before any order, at 7",
+        ),
+        (
+            FormError::Ascii(TextError::OrderTooLarge { at: 7 }),
+            "an order above 29, at 7",
+        ),
+        (
+            FormError::Ascii(TextError::CellTooLarge { at: 7 }),
+            "no cell of the order in force, at 7",
+        ),
+        (
+            FormError::Ascii(TextError::Backwards { at: 7 }),
+            "a range that goes backwards, at 7",
+        ),
+        (
+            FormError::Ascii(TextError::Unfinished { at: 7 }),
+            "a word that is not finished, at 7",
+        ),
+        (FormError::Ascii(TextError::Memory), "out of memory"),
+        (
+            FormError::Ascii(TextError::TooCoarse),
+            "a cell is deeper than the stated order",
+        ),
+        (FormError::Json(JsonError::NotJson), "no JSON"),
+        (FormError::Json(JsonError::NotObject), "no object"),
+        (
+            FormError::Json(JsonError::BadOrder { name: 1 }),
+            "name 1 is no order",
+        ),
+        (
+            FormError::Json(JsonError::NotArray { name: 1 }),
+            "name 1 has no array",
+        ),
+        (
+            FormError::Json(JsonError::NotWhole { name: 1, place: 2 }),
+            "name 1, item 2 is no whole number",
+        ),
+        (
+            FormError::Json(too_large),
+            "name 1, item 2 is no cell of its order",
+        ),
+        (FormError::Json(JsonError::Memory), "out of memory"),
+        (
+            FormError::Json(JsonError::TooCoarse),
+            "a cell is deeper than the stated order",
+        ),
+        (
+            FormError::Uniq(UniqError::BadByte { line: 3 }),
+            "a byte that is no digit, in line 3",
+        ),
+        (
+            FormError::Uniq(UniqError::NotUniq { line: 3 }),
+            "a number that is no NUNIQ number, in line 3",
+        ),
+        (FormError::Uniq(UniqError::Memory), "out of memory"),
+        (FormError::Memory, "out of memory"),
+    ] {
+        assert_eq!(rt; format!(in rt.alloc(); "{error}")?.as_str(), text);
+    }
+    Ok(())
+}
