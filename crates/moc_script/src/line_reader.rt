@@ -115,7 +115,7 @@ impl LineReader {
     }
 
     /// Sees to it that bytes are at hand, by a read where there are none. There are none only at the end.
-    fn bring<R: Source>(&mut self, reader: &mut R) -> Result<bool, DeviceFault>
+    fn fill_chunk<R: Source>(&mut self, reader: &mut R) -> Result<bool, DeviceFault>
         ensures brings { Brings self.old (R.left reader.old) self.new (R.left reader.new) }
         ensures some { IfOk result (λ some. some ≡ nat_lt 0 (length self.new.unread)) }
         ensures end { IfOk result (λ some. some ≡ false → IsAtEnd (R.left reader.new)) }
@@ -138,7 +138,7 @@ impl LineReader {
     {
         self.line.clear();
         loop {
-            match self.bring(reader) {
+            match self.fill_chunk(reader) {
                 Ok(true) => {}
                 Ok(false) if self.line.is_empty() => return Ok(Found::Nothing),
                 Ok(false) => return Ok(Found::LastLine),
