@@ -1,6 +1,6 @@
 -- A batch is local.
 use Rattle.std.proofs.Common.{◌≡◌, ℕ, ◌/◌, ◌<◌, get_or, None, Bool, true, false, inl, inr, List, [], ◌∷◌, refl, sym, ap, subst, ◌∙◌, length, arith}
-use Rattle.moc_parts.specs.Prepared.{AreRepliesTo, IsPrepared, Preparation, kept}
+use Rattle.moc_parts.specs.Prepared.{AreRepliesTo, IsToldBy}
 use Rattle.std.specs.FinSet as set
 use Rattle.std.proofs.lemmas.Bool.{cases_Bool}
 use Rattle.moc_ranges.specs.Numbers.{NumberSet, same_members}
@@ -84,18 +84,14 @@ pub replied : (cs : List Command) (found made : NumberSet) (replies : List Reply
 replied cs found made replies each w e r a v same =
     r ∙ ap (λ t. replies_on t cs) e ∙ found_replies cs found a each (subst (λ t. IsWithin t pixels) e w) v same
 
--- the answer on what was found is what is to be prepared
-pub prepared : (cs : List Command) (given : ℕ → Bool) (found made after : NumberSet) (p : Preparation) → AreCommands cs → IsWithin made pixels → made ≡ found
-    → after ≡ set_after_all made cs → p.replies ≡ replies_on made cs → ((b : ℕ) → b < 12 → get_or p.lists b None ≡ kept (given b) after b) → IsPrepared cs given found p
-prepared cs given found made after p each w e s r l =
-    let after_is : after ≡ set_after_all found cs = s ∙ ap (λ t. set_after_all t cs) e in
-    record {
-      replied = replied cs found made p.replies each w e r;
-      parts = λ b lt. l b lt ∙ ap (λ t. kept (given b) t b) after_is;
-      inside = λ a v same b f. found_parts cs found a each (subst (λ t. IsWithin t pixels) e w) v same b f;
-      outside = λ a v q f. untouched cs a each v q f;
-      stays = λ a v. stays_within cs a each v;
-    }
+-- what was found tells all of the batch
+pub told : (cs : List Command) (found made : NumberSet) (replies : List Reply) → AreCommands cs → IsWithin made pixels → made ≡ found → replies ≡ replies_on made cs → IsToldBy cs found replies
+told cs found made replies each w e r = record {
+  replied = replied cs found made replies each w e r;
+  inside = λ a v same b f. found_parts cs found a each (subst (λ t. IsWithin t pixels) e w) v same b f;
+  outside = λ a v q f. untouched cs a each v q f;
+  stays = λ a v. stays_within cs a each v;
+}
 
 -- a batch takes a part
 pub some_part : (cs : List Command) → 0 < length cs → AreCommands cs → (b : ℕ) × (b < 12) × (footprint_of_all cs b ≡ true)

@@ -158,6 +158,15 @@ pub current_part : (found : List NumberSet) (made : List (Option NumberSet)) (b 
 current_part found made b d e are twelve l =
     sym (get-current_lists found made b d e (subst (λ n. b < n) (sym (found_twelve found made are)) l) (subst (λ n. b < n) (sym twelve) l)) ∙ get-parts (current_lists found made) b d are l
 
+-- of each part the list that was made, or else what was found, is that part of the set
+pub changed_part_is : (sets : List NumberSet) (made : List (Option NumberSet)) (after : NumberSet) (b : ℕ) → AreParts sets → length made ≡ 12 → current_lists sets made ≡ parts_below after 12 → b < 12
+    → unwrap_or (get_or made b None) (part_of (union_of sets) b) ≡ part_of after b
+changed_part_is sets made after b are twelve lists l =
+    let found : get_or sets b set.empty ≡ part_of (union_of sets) b = ap (λ s. get_or s b set.empty) are ∙ get-parts_below (union_of sets) 12 b set.empty l in
+    ap (λ d. unwrap_or (get_or made b None) d) (sym found)
+    ∙ sym (get-current_lists sets made b set.empty None (subst (λ n. b < n) (sym (parts_length sets are)) l) (subst (λ n. b < n) (sym twelve) l))
+    ∙ ap (λ s. get_or s b set.empty) lists ∙ get-parts_below after 12 b set.empty l
+
 -- the lists below b are what they should be, and the others as they were
 abbrev pub AreDoneBelow : List (Option NumberSet) → List (Option NumberSet) → (ℕ → Option NumberSet) → ℕ → Type 0
 AreDoneBelow made lists is b =

@@ -1,7 +1,7 @@
 -- What is prepared from what was found in the footprint.
 use Rattle.std.specs.Prelude.{◌≡◌, ◌<◌, ℕ, Bool, true, false, get_or, Option, None, Some, is_some, List, map}
 use Rattle.std.specs.Borrow.{Bor}
-use Rattle.std.specs.Option.{option_copied}
+use Rattle.std.specs.Option.{option_copied, unwrap_or}
 use Rattle.std.specs.FinSet as set
 use Rattle.moc_ranges.specs.Numbers.{NumberSet}
 use Rattle.moc_ranges.specs.Pixels.{pixels}
@@ -39,13 +39,23 @@ abbrev pub AreRepliesTo : List Command → NumberSet → List Reply → Type 0
 AreRepliesTo cs found replies =
     (a : NumberSet) → IsWithin a pixels → AgreeOn (footprint_of_all cs) found a → replies ≡ replies_on a cs
 
--- The replies, and the new contents of the parts that were given and of no other. In the footprint every set that agrees
--- there with what was found has the same new contents; outside of it nothing changes, and a set of pixels stays one.
-pub record IsPrepared (cs : List Command) (given : ℕ → Bool) (found : NumberSet) (p : Preparation) : Type 0 where
-  pub replied : AreRepliesTo cs found p.replies
-  pub parts : (b : ℕ) → b < 12 → get_or p.lists b None ≡ kept (given b) (set_after_all found cs) b
-  pub inside : (a : NumberSet) → IsWithin a pixels → AgreeOn (footprint_of_all cs) found a → (b : ℕ) → footprint_of_all cs b ≡ true
-      → part_of (set_after_all found cs) b ≡ part_of (set_after_all a cs) b
+-- What was found in the footprint tells all of the batch: every set that agrees there has these replies, and the same new
+-- contents there; outside of it nothing changes, and a set of pixels stays one.
+pub record IsToldBy (cs : List Command) (found : NumberSet) (replies : List Reply) : Type 0 where
+  pub replied : AreRepliesTo cs found replies
+  pub inside : (a : NumberSet) → IsWithin a pixels → AgreeOn (footprint_of_all cs) found a
+      → (b : ℕ) → footprint_of_all cs b ≡ true → part_of (set_after_all found cs) b ≡ part_of (set_after_all a cs) b
   pub outside : (a : NumberSet) → IsWithin a pixels → (q : ℕ) → footprint_of_all cs (base_pixel q) ≡ false
       → set.contains (set_after_all a cs) q ≡ set.contains a q
   pub stays : (a : NumberSet) → IsWithin a pixels → IsWithin (set_after_all a cs) pixels
+
+-- the replies, and the new contents of the parts that were given and of no other
+pub record IsPrepared (cs : List Command) (given : ℕ → Bool) (found : NumberSet) (p : Preparation) : Type 0 where
+  pub told : IsToldBy cs found p.replies
+  pub parts : (b : ℕ) → b < 12 → get_or p.lists b None ≡ kept (given b) (set_after_all found cs) b
+
+-- the replies, and the new contents of parts; a part without one is left as it was found
+pub record AreChanges (cs : List Command) (found : NumberSet) (p : Preparation) : Type 0 where
+  pub told : IsToldBy cs found p.replies
+  pub parts : (b : ℕ) → b < 12
+      → unwrap_or (get_or p.lists b None) (part_of found b) ≡ part_of (set_after_all found cs) b

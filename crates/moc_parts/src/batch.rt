@@ -141,6 +141,7 @@ fn footprint_of_all(commands: &[Command], alloc: Global) -> PartSet
     ensures { (b : ℕ) → b < 12 → set.contains result b ≡ footprint_of_all commands.now b }
 {
     match commands.split_first() {
+        Some((only, rest)) if rest.is_empty() => only.footprint(alloc),
         Some((first, rest)) => first.footprint(alloc).union(footprint_of_all(rest, alloc)),
         None => PartSet::none(),
     }

@@ -226,7 +226,7 @@ impl<'a> Draft<'a> {
         let mut lists = made;
         for b in 0u8..12 {
             if given[b as usize].is_none() {
-                lists.take(b);
+                lists.clear(b);
             } else if lists.get(b).is_none() {
                 lists.put(b, found[b as usize].try_copy(alloc)?)?;
             }

@@ -23,5 +23,5 @@ pub use laws::{
 };
 pub use map::Map;
 pub use part::{Part, PartSet};
-pub use prepared::{Prepared, prepare, reply_of};
+pub use prepared::{Prepared, prepare, prepare_changes, reply_of};
 pub use reply::{Replies, Reply};

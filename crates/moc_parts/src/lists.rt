@@ -66,6 +66,16 @@ impl Lists {
         }
     }
 
+    /// Leaves the place of a part empty. Takes no memory.
+    pub(crate) fn clear(&mut self, b: u8)
+        requires { b < 12 }
+        ensures { self.new ≡ set_at self.old b None }
+    {
+        if let Some(i) = place_of(&self.lists, b) {
+            self.lists[i].1 = None;
+        }
+    }
+
     /// Takes the list of a part out of its place. Takes no memory.
     pub(crate) fn take(&mut self, b: u8) -> Option<Coverage>
         requires { b < 12 }

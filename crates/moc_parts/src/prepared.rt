@@ -3,7 +3,7 @@ ghost use Rattle.std.specs.Prelude.{◌≡◌, ◌<◌, ℕ, IfOk, None, false, 
 ghost use Rattle.std.specs.List.{list_any};
 ghost use Rattle.moc_parts.specs.Commands.{is_update};
 ghost use Rattle.moc_parts.specs.Parts.{union_of, LieInParts};
-ghost use Rattle.moc_parts.specs.Prepared.{found_sets, is_given, AreRepliesTo, IsPrepared};
+ghost use Rattle.moc_parts.specs.Prepared.{found_sets, is_given, AreChanges, AreRepliesTo, IsPrepared};
 
 use crate::batch::Batch;
 use crate::draft::Draft;
@@ -14,7 +14,7 @@ use moc_ranges::{Coverage, Memory};
 use std::alloc::Global;
 use std::marker::Model;
 
-/// The new list of each part that was given, and the replies to the commands of a batch.
+/// The new lists of parts that were given, and the replies to the commands of a batch.
 #[derive(Debug, Drop)]
 pub struct Prepared {
     lists: Lists,
@@ -43,7 +43,7 @@ impl Prepared {
         &self.replies
     }
 
-    /// The new list of a part: `None` where it was not given, and where it was taken before. Takes no memory.
+    /// The new list of a part: `None` where there is none, and where it was taken before. Takes no memory.
     pub fn take(&mut self, part: Part) -> Option<Coverage>
         ensures taken { result ≡ get_or self.old.lists part None }
         ensures left { self.new.lists ≡ set_at self.old.lists part None }
@@ -78,6 +78,22 @@ pub fn prepare(
     let mut draft = Draft::from_found(alloc, found, &nothing);
     let replies = draft.answer_all(alloc, batch.commands())?;
     let lists = draft.into_lists(alloc, found)?;
+    Ok(Prepared { lists, replies })
+}
+
+/// As `prepare`, without the lists that the batch is seen to leave: of such a part there is none. Copies no list.
+pub fn prepare_changes(
+    alloc: Global,
+    batch: &Batch,
+    found: &[Option<&Coverage>; 12],
+) -> Result<Prepared, Memory>
+    requires { LieInParts (found_sets found.now) }
+    ensures { IfOk result (λ p. AreChanges batch.now (union_of (found_sets found.now)) p) }
+{
+    let nothing = Coverage::empty(alloc);
+    let mut draft = Draft::from_found(alloc, found, &nothing);
+    let replies = draft.answer_all(alloc, batch.commands())?;
+    let lists = draft.into_made();
     Ok(Prepared { lists, replies })
 }
 

@@ -1,6 +1,7 @@
 //! Each call that takes memory once with ample memory, and the footprints of small operands.
 use moc_parts::{
-    Batch, BatchError, Command, Map, Operand, Part, PartSet, Replies, Reply, prepare, reply_of,
+    Batch, BatchError, Command, Map, Operand, Part, PartSet, Replies, Reply, prepare,
+    prepare_changes, reply_of,
 };
 use moc_ranges::Coverage;
 use moc_sphere::{Cell, Order};
@@ -137,6 +138,24 @@ fn a_batch_is_prepared_from_a_part(rt: HostRuntime) -> Result<(), Fail> {
             Some(Reply::Total(288230376151711739))
         )
     );
+    Ok(())
+}
+
+#[test]
+fn a_part_that_is_left_has_no_change(rt: HostRuntime) -> Result<(), Fail> {
+    let alloc = rt.alloc();
+    let map = Map::new(alloc, Coverage::from_ranges(alloc, &[(0, BASE + 5)])?)?;
+    let (first, second) = (Some(map.part(Part::of(0))), Some(map.part(Part::of(1))));
+    let found = [
+        first, second, None, None, None, None, None, None, None, None, None, None,
+    ];
+    let addition = Batch::one(alloc, Command::Add(ranges(&rt, &[(3, BASE + 8)])?))?;
+    let mut changes = prepare_changes(alloc, &addition, &found)?;
+    assert_eq!(rt; changed(changes.reply()), Some(3));
+    assert!(rt; changes.take(Part::of(0)).is_none());
+    let list = changes.take(Part::of(1)).ok_or("no list")?;
+    assert_eq!(rt; list.count(), 8);
+    assert!(rt; changes.take(Part::of(2)).is_none());
     Ok(())
 }
 

@@ -10,8 +10,7 @@ use Rattle.moc_parts.specs.Prepared.{is_given, kept}
 use Rattle.moc_parts.proofs.Drafting.{AreDoneBelow, found_twelve, found_part, own_part, some_copied, one_done, none_done}
 use Rattle.moc_parts.proofs.draft.Draft.into_lists.Goals as goal
 use Rattle.moc_parts.proofs.draft.Draft.into_lists.Goals.{
-  then-is_none+in-Some-1,
-  then-is_none+in-None-1,
+  then-is_none,
   else-is_none+then-is_none-2+in_ok-try_copy+in_ok-put,
   else-is_none+else-is_none-2,
 }
@@ -36,8 +35,7 @@ loop-b-preserved c =
     let left_out : next ≡ set_at lists b None → c.is_none.result ≡ true → AreDoneBelow made next is (b + 1) =
     λ put none. one_done made lists next is b None c.loop-b-test.true put (sym (ap (λ t. kept t set_now b) (given_is ∙ ap not none))) inv in
     elim c.if-is_none.branch [
-      | then-is_none+in-Some-1 w ↦ left_out (w.lists-is ∙ w.take.ensures.left) w.if-is_none.true
-      | then-is_none+in-None-1 w ↦ left_out (w.lists-is ∙ w.take.ensures.left) w.if-is_none.true
+      | then-is_none w ↦ left_out (w.lists-is ∙ w.clear.ensures) w.if-is_none.true
       | else-is_none+then-is_none-2+in_ok-try_copy+in_ok-put w ↦
           let list : Bor NumberSet = get_or found b w.index-found-b.result in
           let many : length found ≡ 12 = sym (length-map found (λ l. l.now)) ∙ found_twelve (sets_of found) made c.self.invariant.0 in
