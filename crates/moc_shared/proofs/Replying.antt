@@ -5,6 +5,7 @@ use Rattle.std.proofs.Common.{get_or, eq-eqb, ne_eqb, Contains}
 use native.Mathlib.Decide.{ℕ_discrete}
 use Rattle.std.proofs.lemmas.Bool.{cases_lt, cases_Bool}
 use Rattle.std.specs.List.{list_any}
+use Rattle.std.specs.Option.{unwrap_or}
 use Rattle.std.specs.FinSet as finset
 use Rattle.moc_ranges.specs.Numbers.{NumberSet, same_members}
 use Rattle.moc_ranges.specs.Pixels.{base_pixel_size, pixels}
@@ -14,15 +15,15 @@ use Rattle.moc_parts.specs.Parts.{union_of}
 use Rattle.moc_parts.specs.Commands.{is_update, set_after}
 use Rattle.moc_parts.specs.Batches.{batches, footprint_of_all, set_after_all, AreCommands}
 use Rattle.moc_parts.specs.Laws.{AreBatchesLocal}
-use Rattle.moc_parts.specs.Prepared.{IsPrepared, AreRepliesTo, Preparation, kept, found_in}
+use Rattle.moc_parts.specs.Prepared.{AreChanges, AreRepliesTo, Preparation, kept, found_in}
 use Rattle.moc_parts.specs.declared.command.Command.{Command}
 use Rattle.moc_parts.specs.declared.command.Command.TheVariants.{Add, Remove, Keep, Claim, Invert, Degrade, Count, Read}
 use Rattle.moc_parts.specs.declared.command.Command.TheVariants.{Near}
 use Rattle.moc_parts.specs.declared.reply.Reply.{Reply}
 use Rattle.moc_shared.specs.Private.Rule.{note, parts_of}
 use Rattle.moc_shared.specs.Batches.{answer}
-use Rattle.moc_shared.specs.Private.Slots.{Pointer, PartNote, content, shared, part, IsProper, at_place, note_if}
-use Rattle.moc_shared.specs.Private.Slots.{notes_below, list_of, lists_of, AreOwn, IsFootprint, AreCopies, Edits}
+use Rattle.moc_shared.specs.Private.Slots.{Pointer, PartNote, changed_content, content, shared, part, IsProper, at_place}
+use Rattle.moc_shared.specs.Private.Slots.{note_if, notes_below, list_of, lists_of, AreOwn, IsFootprint, AreCopies, Edits}
 use Rattle.moc_shared.specs.Private.Slots.{replies_to}
 use Rattle.moc_shared.proofs.Basics.{none_in}
 use Rattle.moc_shared.proofs.Places.{notes_none, notes_next, notes_upto, note_place, place_note, notes_below_lt}
@@ -106,6 +107,10 @@ agrees cs slots a long own whole within noted q touched = elim (cases_lt (q / ba
       ∙ finset.contains-empty _ q ∙ sym (in_sky a q within far)
 ]
 
+and_none : (x : Bool) → (x && false) ≡ false
+and_none true = refl
+and_none false = refl
+
 -- where two sets of the sky have the same pixels outside of the footprint, they have the same parts there
 pub same_part : (cs : List Command) (slots : List (Option Pointer)) (a b : NumberSet) → IsFootprint cs slots
     → IsWithin a pixels → IsWithin b pixels
@@ -124,10 +129,6 @@ same_part cs slots a b whole v w out k none =
           absurd (none (part_note (notes_below slots 12) k (shared s.0) (place_note slots 12 k s.0 l s.1)))
       | inr f ↦ f
     ]
-
-    and_none : (x : Bool) → (x && false) ≡ false
-    and_none true = refl
-    and_none false = refl
 
     one : (q : ℕ) → Dec (q / base_pixel_size ≡ k)
         → (finset.contains b q && nat_eq (q / base_pixel_size) k) ≡ (finset.contains a q && nat_eq (q / base_pixel_size)
@@ -162,20 +163,55 @@ kept_alike : (t : Bool) (a b : NumberSet) (n : ℕ) → (t ≡ true → part_of 
 kept_alike true a b n same = ap Some (same refl)
 kept_alike false a b n same = refl
 
--- what was prepared answers the batch
-pub edits_from : (cs : List Command) (given : ℕ → Bool) (found edited : List (Option Pointer)) (p : Preparation)
-    → length found ≡ 12 → AreOwn found → IsFootprint cs found → ((b : ℕ) → given b ≡ is_some (at_place found b))
-    → IsPrepared cs given (union_of (lists_of found)) p
-    → ((b : ℕ) → b < 12 → content (at_place edited b) ≡ get_or p.lists b None) → Edits cs found edited
+-- the set of a slot is its part of all
+part_found : (slots : List (Option Pointer)) (b : ℕ) → AreOwn slots
+    → part_of (union_of (lists_of slots)) b ≡ list_of (at_place slots b)
+part_found slots b own =
+    same_members _ _ (λ q. contains-part_of whole b q ∙ one q (ℕ_discrete (q / base_pixel_size) b))
+  where
+    whole : NumberSet
+    whole = union_of (lists_of slots)
+
+    here : NumberSet
+    here = list_of (at_place slots b)
+
+    one : (q : ℕ) → Dec (q / base_pixel_size ≡ b)
+        → (finset.contains whole q && nat_eq (q / base_pixel_size) b) ≡ finset.contains here q
+    one q (yes e) = ap (λ (t : Bool). finset.contains whole q && t) (eq-eqb (q / base_pixel_size) b e)
+        ∙ and_true (finset.contains whole q) ∙ union_at slots q own
+        ∙ ap (λ (k : ℕ). finset.contains (list_of (at_place slots k)) q) e
+    one q (no ne) =
+        let no : nat_eq (q / base_pixel_size) b ≡ false = ne_eqb (q / base_pixel_size) b ne in
+        ap (λ (t : Bool). finset.contains whole q && t) no ∙ and_none (finset.contains whole q)
+        ∙ sym (and_none (finset.contains here q)) ∙ sym (ap (λ (t : Bool). finset.contains here q && t) no)
+        ∙ sym (contains-part_of here b q) ∙ ap (λ (a : NumberSet). finset.contains a q) (own b)
+
+-- what a part that was found becomes
+changed_is : (s : Option Pointer) (new : Option NumberSet) (found after : NumberSet) (b : ℕ) (t : Bool)
+    → list_of s ≡ found → is_some s ≡ t → unwrap_or new found ≡ part_of after b
+    → changed_content new (content s) ≡ kept t after b
+changed_is (Some p) new found after b true same some is = ap (λ (a : NumberSet). Some (unwrap_or new a)) same ∙ ap Some is
+changed_is (Some p) new found after b false same some is = absurd (true≢false some)
+changed_is None new found after b true same some is = absurd (true≢false (sym some))
+changed_is None new found after b false same some is = refl
+
+-- what the changes make of what was found answers the batch
+pub edits_from : (cs : List Command) (found edited : List (Option Pointer)) (p : Preparation)
+    → length found ≡ 12 → AreOwn found → IsFootprint cs found → AreChanges cs (union_of (lists_of found)) p
+    → ((b : ℕ) → b < 12
+    → content (at_place edited b) ≡ changed_content (get_or p.lists b None) (content (at_place found b)))
+    → Edits cs found edited
 unfolding answer replies_to
-edits_from cs given found edited p long own whole filled prepared each =
+edits_from cs found edited p long own whole changes each =
     let u : NumberSet = union_of (lists_of found) in
     let u_within = union_within found long own in
+    let told = changes.told in
     let now =
     λ (a : NumberSet) (v : IsWithin a pixels) (agree : AgreeOn (footprint_of_all cs) u a) (b : ℕ) (l : b < 12).
     let e : content (at_place edited b) ≡ kept (footprint_of_all cs b) (set_after_all a cs) b = each b l
-    ∙ prepared.parts b l ∙ ap (λ (t : Bool). kept t (set_after_all u cs) b) (filled b ∙ whole b l)
-    ∙ kept_alike (footprint_of_all cs b) (set_after_all u cs) (set_after_all a cs) b (prepared.inside a v agree b) in
+    ∙ changed_is (at_place found b) (get_or p.lists b None) (part_of u b) (set_after_all u cs) b (footprint_of_all cs b)
+    (sym (part_found found b own)) (whole b l) (changes.parts b l)
+    ∙ kept_alike (footprint_of_all cs b) (set_after_all u cs) (set_after_all a cs) b (told.inside a v agree b) in
     e in
     record {
       same_parts =
@@ -185,16 +221,16 @@ edits_from cs given found edited p long own whole filled prepared each =
           ∙ some_kept (footprint_of_all cs b) (set_after_all u cs) b ∙ sym (whole b l));
       answers = λ a v noted.
           let agree = agrees cs found a long own whole v noted in (
-            sym (prepared.replied a v agree) ∙ prepared.replied u u_within (itself cs u),
+            sym (told.replied a v agree) ∙ told.replied u u_within (itself cs u),
             (λ b y h.
                 let q = note_place edited 12 b y h in
                 let l = notes_below_lt edited 12 b y h in
                 kept_some (footprint_of_all cs b) (set_after_all a cs) b y
                 (ap (λ (o : Option NumberSet). is_some o) (sym q.2))
                 (sym q.2 ∙ ap content (sym q.1) ∙ now a v agree b l)),
-            (λ k none. same_part cs found a (set_after_all a cs) whole v (prepared.stays a v) (prepared.outside a v) k
+            (λ k none. same_part cs found a (set_after_all a cs) whole v (told.stays a v) (told.outside a v) k
                 none),
-            prepared.stays a v,
+            told.stays a v,
           );
     }
 

@@ -1,4 +1,5 @@
 pub mod History
 pub mod Batches
 pub mod Clients
+pub mod Abandoned
 pub mod Private

@@ -6,6 +6,7 @@ mod client;
 mod errors;
 mod groups;
 mod last;
+mod laws;
 mod layout;
 mod lists;
 mod locks;
@@ -22,6 +23,7 @@ mod waiting;
 
 pub use client::{Client, Holding};
 pub use errors::{Busy, CloseError, NewError, SnapshotError, TryError};
+pub use laws::abandoned_parts_stay_held;
 pub use map::SharedMap;
 pub use record::{Calls, Entry, Record};
 pub use snapshot::Snapshot;

@@ -132,9 +132,9 @@ impl SharedMap {
         let Holding {
             mut client,
             batch: _,
-            found,
+            mut found,
         } = holding;
-        give_all(&self.table.shared, &mut client.seat, found);
+        give_all(&self.table.shared, &mut client.seat, &mut found);
         client
     }
 
@@ -158,14 +158,14 @@ impl SharedMap {
         let Holding {
             mut client,
             batch,
-            found,
+            mut found,
         } = holding;
         let mut copies = no_slots();
         match observe(
             &self.table.shared,
             &mut client.seat,
             &batch,
-            found,
+            &mut found,
             &mut copies,
         ) {
             Ok(()) => Ok((

@@ -1,0 +1,38 @@
+-- What becomes of the parts of a client whose seat nobody has any more.
+use Rattle.std.specs.Prelude.{◌≡◌, ℕ, suc, List, [], ◌∷◌, ◌++◌, Contains, Option, slice_index, slice_set}
+use mathlib.Core.Option.{none, some}
+use lib.ListN.{get_elem?}
+use Rattle.atomic_table.specs.Table.{Act, State, stepped}
+use Rattle.moc_ranges.specs.Numbers.{NumberSet}
+use Rattle.moc_shared.specs.Batches.{answer}
+use Rattle.moc_shared.specs.Private.Rule.{index, note, Kept}
+use Rattle.moc_shared.specs.Private.Slots.{Pointer, Sight, content, part, IsProper}
+
+-- the words, slots and views of a map's table
+abbrev pub Table : Type 0
+Table = State (Option Pointer) Sight
+
+-- what holds of the table of a map between any two steps
+abbrev pub IsKept : NumberSet → ℕ → Table → Type 0
+IsKept start clients table = Kept 12 content part answer IsProper start clients table
+
+-- the seat has the view
+abbrev pub HasView : List Sight → ℕ → Sight → Type 0
+HasView views seat v = get_elem? views seat ≡ some v
+
+-- the word of the part has the mark of the view's client, and its slot is out
+abbrev pub IsMarked : Table → Sight → ℕ → Type 0
+IsMarked table v b = (slice_index table.words (index b) ≡ suc v.mine.number) × (get_elem? table.homes (index b) ≡ some none)
+
+-- A part that a view notes as held is marked, in each table that keeps the rule. No step, join or split of other seats
+-- changes the view, and only who has a seat can step with it. So the parts of a holding that is abandoned stay held.
+pub record StayHeld : Type 0 where
+  pub marked : (start : NumberSet) (clients : ℕ) (table : Table) (seat : ℕ) (v : Sight) (b : ℕ) (y : Option NumberSet)
+      → IsKept start clients table → HasView table.views seat v → Contains v.holds (note b y) → IsMarked table v b
+  pub steps : (table : Table) (seat other : ℕ) (v w : Sight) (word number : ℕ) (carried : List (ℕ × Option Pointer))
+      (act : Act (Option Pointer)) → HasView table.views seat v → ¬ (seat ≡ other)
+      → HasView (stepped table word number other carried w act).views seat v
+  pub joins : (views : List Sight) (seat first second : ℕ) (v both spent : Sight) → HasView views seat v
+      → ¬ (seat ≡ first) → ¬ (seat ≡ second) → HasView (slice_set (slice_set views first both) second spent) seat v
+  pub splits : (views : List Sight) (seat other : ℕ) (v left right : Sight) → HasView views seat v → ¬ (seat ≡ other)
+      → HasView (slice_set views other left ++ right ∷ []) seat v
