@@ -6,7 +6,7 @@ use Rattle.std.proofs.lemmas.List.{map-append, get_or-set_same, get_or-set_other
 use Rattle.moc_script.specs.Merges.{in_lane, dealt}
 use Rattle.moc_script.specs.Crews.{joined}
 use Rattle.moc_script.specs.Private.Joining.{AreForLines, IsJoined}
-use Rattle.moc_script.proofs.LaneLists.{dealt-here, dealt-else, as_long, next_left}
+use Rattle.moc_script.proofs.LaneLists.{dealt-alone, dealt-here, dealt-else, as_long, next_left}
 
 abbrev Texts : Type 0
 Texts = List (List ℕ)
@@ -76,3 +76,19 @@ some_left lanes lane count turn all left old text (lines, many, shared) was less
     let same = none_in (get_or all lane []) (in_lane lane (dealt lanes was.done)) (get_or left lane []) (was.parts lane low) here in
     let more = next_left lanes lane was.done lines (omega (arith, was.count_is, many)) (ap (λ n. n % lanes) was.count_is ∙ at) in
     omega (arith, same, shared lane low, more)
+
+-- the texts of a lane that is alone are joined as they stand
+pub join_alone : (texts : Texts) (text : List ℕ) (count : ℕ) (all : List Texts) → all ≡ texts ∷ [] → AreForLines 1 all count
+    → text ≡ joined texts → IsJoined 1 all ([] ∷ []) count text
+join_alone texts text count all alone (lines, many, shared) is =
+    let here : get_or all 0 [] ≡ texts = ap (λ l. get_or l 0 []) alone in
+    record {
+      done = texts;
+      text_is = is;
+      count_is = sym (ap length here) ∙ shared 0 (omega arith) ∙ ap length (dealt-alone 0 lines) ∙ many;
+      wide = refl;
+      parts = λ m inside.
+          let first : 0 ≡ m = omega arith in
+          subst (λ (n : ℕ). get_or all n [] ≡ in_lane n (dealt 1 texts) ++ get_or ([] ∷ []) n []) first
+          (here ∙ sym (append-nil (in_lane 0 (dealt 1 texts)) ∙ dealt-alone 0 texts));
+    }

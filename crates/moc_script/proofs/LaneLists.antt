@@ -1,5 +1,6 @@
 -- Elements that are dealt to lanes.
 use Rattle.std.proofs.Common.{◌≡◌, ◌≢◌, ◌⊎◌, ℕ, zero, suc, ◌+◌, ◌%◌, ◌<◌, ◌≤◌, ◌==◌, eq-eqb, ne_eqb, Bool, true, false, if◌then◌else◌, List, [], ◌∷◌, ◌++◌, length, refl, sym, ap, ◌∙◌, subst, arith, append-nil, append_assoc, length-append, take, drop, length-take, length-drop}
+use Rattle.std.proofs.Math.Nat.{mod-one}
 use Rattle.std.proofs.lemmas.List.{take-append-drop}
 use native.Mathlib.Decide.{ℕ_discrete}
 use Rattle.moc_script.specs.Merges.{InLane, placed, in_lane, dealt_from, dealt}
@@ -23,6 +24,13 @@ module _ {A : Type 0} where
   -- one more element goes to the next lane
   pub dealt-push : (lanes : ℕ) (xs : List A) (x : A) → dealt lanes (xs ++ x ∷ []) ≡ dealt lanes xs ++ placed (length xs % lanes) x ∷ []
   dealt-push lanes xs x = let same : 0 + length xs ≡ length xs = omega arith in dealt_from-push lanes 0 xs x ∙ ap (λ (n : ℕ). dealt lanes xs ++ placed (n % lanes) x ∷ []) same
+
+  -- a lane that is alone has all
+  pub dealt-alone : (j : ℕ) (xs : List A) → in_lane 0 (dealt_from 1 j xs) ≡ xs
+  dealt-alone j [] = refl
+  dealt-alone j (x ∷ xs) =
+      ap (λ (lane : ℕ). if lane == 0 then x ∷ in_lane 0 (dealt_from 1 (suc j) xs) else in_lane 0 (dealt_from 1 (suc j) xs)) (mod-one j)
+      ∙ ap (λ l. x ∷ l) (dealt-alone (suc j) xs)
 
   pub in_lane-one : (lane : ℕ) (x : A) → in_lane lane (placed lane x ∷ []) ≡ x ∷ []
   in_lane-one lane x = ap (λ (b : Bool). if b then x ∷ [] else []) (eq-eqb lane lane refl)

@@ -68,7 +68,7 @@ fn answer_all<R: Threads + Wait + Sync, G: Gate + Sync>(
         Err(CloseError::Midway { part: _ }) => unreachable!(),
         Err(CloseError::Memory) => return Err(LanesError::Memory { line: last }),
     };
-    let Ok(mut text) = join_answers(alloc, &answers, dealt.count) else {
+    let Ok(mut text) = join_answers(alloc, answers, dealt.count) else {
         return Err(LanesError::Memory { line: last });
     };
     let Ok(()) = push_cover(alloc, &set, &mut text) else {

@@ -20,7 +20,7 @@ fn walks_of(alloc: Global, answers: &[Texts]) -> Result<Vec<Walk<'_>>, Memory>
 }
 
 /// So many answers, one from each lane in turn.
-pub fn join_answers(alloc: Global, answers: &[Texts], count: u64) -> Result<Vec<u8>, Memory>
+fn join_lanes(alloc: Global, answers: &[Texts], count: u64) -> Result<Vec<u8>, Memory>
     requires some { 0 < length answers.now }
     requires lines { AreForLines (length answers.now) answers.now count }
     ensures { IfOk result (λ text. (left : List (List (List ℕ)))
@@ -36,4 +36,20 @@ pub fn join_answers(alloc: Global, answers: &[Texts], count: u64) -> Result<Vec<
         text.extend_from_slice(answer)?;
     }
     Ok(text)
+}
+
+/// So many answers, one from each lane in turn. Those of a lane that is alone are the text as they stand.
+pub fn join_answers(alloc: Global, answers: Vec<Texts>, count: u64) -> Result<Vec<u8>, Memory>
+    requires some { 0 < length answers.items }
+    requires lines { AreForLines (length answers.items) answers.items count }
+    ensures { IfOk result (λ text. (left : List (List (List ℕ)))
+        × IsJoined (length answers.items) answers.items left count text.items) }
+{
+    let mut answers = answers;
+    if answers.len() == 1 {
+        if let Some(only) = answers.pop() {
+            return Ok(only.into_bytes());
+        }
+    }
+    join_lanes(alloc, &answers, count)
 }

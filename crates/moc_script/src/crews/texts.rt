@@ -1,5 +1,6 @@
 //! Many texts in one buffer.
 ghost use Rattle.std.specs.Prelude.{◌≡◌, ◌++◌, ◌∷◌, [], None, IfSome, OnOk, List, ℕ};
+ghost use Rattle.moc_script.specs.Crews.{joined};
 
 use moc_ranges::Memory;
 use std::alloc::Global;
@@ -53,6 +54,13 @@ impl Texts {
             return Err(Memory);
         };
         Ok(())
+    }
+
+    /// The texts, one after another, as they lie in the buffer.
+    pub fn into_bytes(self) -> Vec<u8>
+        ensures { result.items ≡ joined self }
+    {
+        self.bytes
     }
 
     /// The texts, from the first.

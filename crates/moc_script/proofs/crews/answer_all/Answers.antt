@@ -49,9 +49,7 @@ join_answers-requires-clause-lines g c =
     let gathered : HasLanes n dealt.lanes.items answers.items client =
     subst (λ (l : List (List (List ℕ))). HasLanes (length l) l answers.items client) c.deref-2.ensures.value c.in-Ok-take_in_all.ensures.lanes in
     let long : length answers.items ≡ n = c.in-Ok-take_in_all.ensures.wide ∙ ap length c.deref-2.ensures.value in
-    let counted : AreForLines (length answers.items) answers.items dealt.count =
-    subst (λ (m : ℕ). AreForLines m answers.items dealt.count) (sym long) (as_answers n c.requires.dealt.0 dealt answers.items client c.requires.dealt.1 gathered) in
-    subst (λ (l : List (List (List ℕ))). AreForLines (length l) l dealt.count) (sym c.deref-3.ensures.value) counted
+    subst (λ (m : ℕ). AreForLines m answers.items dealt.count) (sym long) (as_answers n c.requires.dealt.0 dealt answers.items client c.requires.dealt.1 gathered)
 
 pub returns : goal.returns
 returns g c said was =
@@ -71,7 +69,6 @@ returns g c said was =
     c.in-Ok-extend_from_slice.ensures.items ∙ ap (λ l. l ++ 10 ∷ []) c.in-Ok-push_cover.ensures ∙ append_assoc front (cover_text end) (10 ∷ []) in
     let all = c.in-Ok-join_answers.ensures in
     let joined : IsJoined n answers.items all.0 dealt.count front =
-    subst (λ (m : ℕ). IsJoined m answers.items all.0 dealt.count front) long
-    (subst (λ (l : List (List (List ℕ))). IsJoined (length l) l all.0 dealt.count front) c.deref-3.ensures.value all.1) in
+    subst (λ (m : ℕ). IsJoined m answers.items all.0 dealt.count front) long all.1 in
     subst (IsCrewText n said) (sym text_is)
     (crew_of_lanes map n said dealt answers.items all.0 client end front c.requires.some was gathered joined start many c.in-Ok-close.ensures)

@@ -1,20 +1,20 @@
--- One more answer.
-use Rattle.std.proofs.Common.{◌≡◌, ◌∙◌, refl, sym, ap, ◌%◌, ◌<◌, arith, ◌++◌, ◌∷◌, length, ℕ, Option, None}
-use Rattle.std.specs.Prelude.{vec_items}
-use Rattle.moc_script.proofs.Dealings.{join_more, some_left}
+-- One lane has all answers.
+use Rattle.std.proofs.Common.{◌≡◌, ◌++◌, ◌∷◌, ℕ, List, [], length, sym, ap, subst, arith, length-append}
+use Rattle.moc_script.specs.Private.Joining.{AreForLines, IsJoined}
+use Rattle.moc_script.proofs.Dealings.{join_alone}
 use Rattle.moc_script.proofs.crews.joining.join_answers.Goals as goal
 
-pub unreachable-requires : goal.unreachable-requires
-unreachable-requires c =
-    let answers = c.args.answers.now in
-    let lanes = length answers in
-    some_left lanes (c.loop-turn.turn % lanes) c.args.count c.loop-turn.turn answers (vec_items c.loop-turn.walks) c.index_mut.result.now (vec_items c.loop-turn.text)
-    c.requires.lines c.loop-turn.invariant c.loop-turn-test.true (omega (arith, c.requires.some)) refl c.index_mut.ensures.value (c.next_text.ensures.none c.in_default.is)
+only_one : {A : Type 0} (xs ys : List A) (x : A) → xs ≡ ys ++ x ∷ [] → length xs ≡ 1 → xs ≡ x ∷ []
+only_one xs [] x is one = is
+only_one xs (y ∷ ys) x is one = absurd (omega (arith, ap length is, length-append ys (x ∷ []), one))
 
-pub loop-turn-preserved : goal.loop-turn-preserved
-loop-turn-preserved c =
-    let answers = c.args.answers.now in
-    let lanes = length answers in
-    join_more lanes (c.loop-turn.turn % lanes) c.loop-turn.turn answers (vec_items c.loop-turn.walks) _ c.index_mut.result.now c.next_text.new.self
-    (vec_items c.loop-turn.text) (vec_items c.extend_from_slice.new.self) c.in-Some.answer.now c.loop-turn.invariant (omega (arith, c.requires.some)) refl
-    c.index_mut.ensures.value c.in-Some.ensures.some refl c.in_ok-extend_from_slice.ensures.items
+pub returns-in-Some : goal.returns-in-Some
+returns-in-Some c =
+    let all = c.args.answers in
+    let one : length all.items ≡ 1 = omega (arith, c.len.ensures, c.if-len-eq1.true, all.ok) in
+    let alone = only_one all.items c.pop.new.self.items c.in-Some.only c.in-Some.ensures.items one in (
+      [] ∷ [],
+      subst (λ (n : ℕ). IsJoined n all.items ([] ∷ []) c.args.count c.into_bytes.result.items) (sym one)
+          (join_alone c.in-Some.only c.into_bytes.result.items c.args.count all.items alone
+          (subst (λ (n : ℕ). AreForLines n all.items c.args.count) one c.requires.lines) c.into_bytes.ensures),
+    )
