@@ -39,8 +39,8 @@ abbrev pub AreRepliesTo : List Command → NumberSet → List Reply → Type 0
 AreRepliesTo cs found replies =
     (a : NumberSet) → IsWithin a pixels → AgreeOn (footprint_of_all cs) found a → replies ≡ replies_on a cs
 
--- What was found in the footprint tells all of the batch: every set that agrees there has these replies, and the same new
--- contents there; outside of it nothing changes, and a set of pixels stays one.
+-- What was found in the footprint tells all of the batch: every set that agrees there has these replies, and the same
+-- new contents there; outside of it nothing changes, and a set of pixels stays one.
 pub record IsToldBy (cs : List Command) (found : NumberSet) (replies : List Reply) : Type 0 where
   pub replied : AreRepliesTo cs found replies
   pub inside : (a : NumberSet) → IsWithin a pixels → AgreeOn (footprint_of_all cs) found a

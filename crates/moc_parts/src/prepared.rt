@@ -62,8 +62,8 @@ impl Prepared {
 
 /// The new lists of the parts in the footprint of a batch, and its replies, from the lists that were found there.
 ///
-/// The parts of the footprint are given, each in its own base pixel. What is given outside of the footprint has no say in
-/// it, and is handed on as it was found. Lists that do not change are copied. Refused where memory runs out.
+/// The parts of the footprint are given, each in its own base pixel. What is given outside of the footprint has no say
+/// in it, and is handed on as it was found. Lists that do not change are copied. Refused where memory runs out.
 pub fn prepare(
     alloc: Global,
     batch: &Batch,
@@ -81,7 +81,8 @@ pub fn prepare(
     Ok(Prepared { lists, replies })
 }
 
-/// As `prepare`, without the lists that the batch is seen to leave: of such a part there is none. Copies no list.
+/// As `prepare`, but without a list for a part that the batch is seen to leave, so that no list is copied (degrading is
+/// not looked through, and makes each list anew). Refused where memory runs out.
 pub fn prepare_changes(
     alloc: Global,
     batch: &Batch,

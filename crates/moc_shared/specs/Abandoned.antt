@@ -22,7 +22,8 @@ HasView views seat v = get_elem? views seat ≡ some v
 
 -- the word of the part has the mark of the view's client, and its slot is out
 abbrev pub IsMarked : Table → Sight → ℕ → Type 0
-IsMarked table v b = (slice_index table.words (index b) ≡ suc v.mine.number) × (get_elem? table.homes (index b) ≡ some none)
+IsMarked table v b =
+    (slice_index table.words (index b) ≡ suc v.mine.number) × (get_elem? table.homes (index b) ≡ some none)
 
 -- A part that a view notes as held is marked, in each table that keeps the rule. No step, join or split of other seats
 -- changes the view, and only who has a seat can step with it. So the parts of a holding that is abandoned stay held.
