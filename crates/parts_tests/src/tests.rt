@@ -144,18 +144,15 @@ fn a_batch_is_prepared_from_a_part(rt: HostRuntime) -> Result<(), Fail> {
 #[test]
 fn a_part_that_is_left_has_no_change(rt: HostRuntime) -> Result<(), Fail> {
     let alloc = rt.alloc();
-    let map = Map::new(alloc, Coverage::from_ranges(alloc, &[(0, BASE + 5)])?)?;
-    let (first, second) = (Some(map.part(Part::of(0))), Some(map.part(Part::of(1))));
+    let map = Map::new(alloc, Coverage::from_ranges(alloc, &[(0, 5)])?)?;
+    let part = Some(map.part(Part::of(0)));
     let found = [
-        first, second, None, None, None, None, None, None, None, None, None, None,
+        part, None, None, None, None, None, None, None, None, None, None, None,
     ];
-    let addition = Batch::one(alloc, Command::Add(ranges(&rt, &[(3, BASE + 8)])?))?;
+    let addition = Batch::one(alloc, Command::Add(ranges(&rt, &[(2, 4)])?))?;
     let mut changes = prepare_changes(alloc, &addition, &found)?;
-    assert_eq!(rt; changed(changes.reply()), Some(3));
+    assert_eq!(rt; changed(changes.reply()), Some(0));
     assert!(rt; changes.take(Part::of(0)).is_none());
-    let list = changes.take(Part::of(1)).ok_or("no list")?;
-    assert_eq!(rt; list.count(), 8);
-    assert!(rt; changes.take(Part::of(2)).is_none());
     Ok(())
 }
 

@@ -1,32 +1,5 @@
-use Rattle.std.proofs.Common.{◌≡◌, ℕ, zero, suc, ◌<◌, ◌/◌, ◌&&◌, List, ◌∷◌, [], get_or, replicate, nat_eq, refl, sym, ap, ◌∙◌, arith}
-use Rattle.std.specs.FinSet as set
-use Rattle.std.proofs.lemmas.List.{get_or-replicate}
-use Rattle.moc_ranges.specs.Numbers.{NumberSet, same_members}
-use Rattle.moc_ranges.specs.Pixels.{base_pixel_size}
-use Rattle.moc_ranges.specs.Operations.{part_of, contains-part_of}
-use Rattle.moc_parts.specs.Parts.{LieInParts}
-use Rattle.moc_parts.proofs.Members.{has-empty}
-use Rattle.moc_parts.proofs.Drafting.{part_lies}
+use Rattle.parts_tests.proofs.Alone.{first_alone, found_part}
 use Rattle.parts_tests.proofs.tests.a_batch_is_prepared_from_a_part.Goals as goal
-
-part-empty : (b : ℕ) → part_of set.empty b ≡ set.empty
-part-empty b = same_members _ _ (λ q. contains-part_of set.empty b q ∙ ap (λ t. t && nat_eq (q / base_pixel_size) b) (has-empty q) ∙ sym (has-empty q))
-
--- a list of part 0, and nothing in the others
-first_alone : (a : NumberSet) → part_of a 0 ≡ a → LieInParts (a ∷ replicate 11 set.empty)
-first_alone a lies = record { twelve = refl; own = go }
-  where
-    go : (b : ℕ) → b < 12 → part_of (get_or (a ∷ replicate 11 set.empty) b set.empty) b ≡ get_or (a ∷ replicate 11 set.empty) b set.empty
-    go zero l = lies
-    go (suc b) l =
-        let none : get_or (replicate 11 set.empty) b set.empty ≡ set.empty = get_or-replicate 11 b set.empty set.empty (omega arith) in
-        ap (λ s. part_of s (suc b)) none ∙ part-empty (suc b) ∙ sym none
-
--- part 0 of a set lies in its base pixel
-found_part : (whole part : NumberSet) (b : ℕ) → part ≡ part_of whole b → b ≡ 0 → part_of part 0 ≡ part
-found_part whole part b is zero_is =
-    let e : part ≡ part_of whole 0 = is ∙ ap (λ n. part_of whole n) zero_is in
-    ap (λ p. part_of p 0) e ∙ part_lies whole 0 ∙ sym e
 
 pub prepare-requires : goal.prepare-requires
 prepare-requires g c = first_alone c.part.result.now (found_part _ c.part.result.now c.of.result c.part.ensures.part c.of.ensures)
