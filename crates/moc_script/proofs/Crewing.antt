@@ -96,8 +96,8 @@ pub crew_of_lanes : (map : SharedMap) (n : ℕ) (said : List (List ℕ)) (d : De
     → IsCrewText n said (text ++ cover_line end)
 crew_of_lanes map n said d answers left c end text some was lanes all start many closes =
     subst (λ (t : List ℕ). IsCrewText n said (t ++ cover_line end)) (sym all.text_is)
-    (crew_text n said all.done closes.0 end some (subst (λ (s : NumberSet). IsLegal object s closes.0) start closes.1) (λ e i. subst (λ (m : ℕ). e.client < m) many (closes.2 e i))
-    (closes.4 ∙ ap (λ (s : NumberSet). result object s closes.0) start) does)
+    (crew_text n said all.done closes.0 end some (subst (λ (s : NumberSet). IsLegal object s closes.0) start closes.1.0) (λ e i. subst (λ (m : ℕ). e.client < m) many (closes.1.1 e i))
+    (closes.3 ∙ ap (λ (s : NumberSet). result object s closes.0) start) does)
   where
     as_many : length said ≡ length all.done
     as_many = sym was.count ∙ sym all.count_is
@@ -105,7 +105,7 @@ crew_of_lanes map n said d answers left c end text some was lanes all start many
     does : (lane : ℕ) → lane < n → Does object script_rules (in_lane lane (dealt n said)) (calls_of lane closes.0) (in_lane lane (dealt n all.done))
     does lane low =
         let has = lanes lane low in
-        let calls : calls_of lane closes.0 ≡ has.0 = closes.3.1 (record { client = lane; made = has.0 }) has.1 in
+        let calls : calls_of lane closes.0 ≡ has.0 = closes.2.1 (record { client = lane; made = has.0 }) has.1 in
         let lines = was.lines lane low in
         let parts = all.parts lane low in
         let long_texts = Does-length (get_or d.lanes.items lane []) has.0 (get_or answers lane []) has.2 in

@@ -10,8 +10,8 @@ use Rattle.moc_shared.specs.Clients.{record_of, IsClientOf, TakesIn}
 use Rattle.moc_script.specs.Private.LaneEnds.{IsLaneEnd}
 use Rattle.moc_script.specs.Private.Gathering.{CallsMade, HasBoth, HasLane, HasLanes, IsGathered}
 
-pub has_both : (a b r : BatchRecord) → TakesIn a b r → (q : CallsMade) → (Contains a.own q → Contains r.own q) × (Contains b.own q → Contains r.own q)
-has_both a b r taken q =
+pub has_both : (map : SharedMap) (a b r : BatchRecord) → TakesIn map a b r → (q : CallsMade) → (Contains a.own q → Contains r.own q) × (Contains b.own q → Contains r.own q)
+has_both map a b r taken q =
     let own : r.own ≡ a.own ++ b.own = ap (λ x. x.own) taken.1 in (
       (λ h. subst (λ (l : List CallsMade). Contains l q) (sym own) (Contains-append_left a.own b.own q h)),
       (λ h. subst (λ (l : List CallsMade). Contains l q) (sym own) (Contains-append_right a.own b.own q h)),

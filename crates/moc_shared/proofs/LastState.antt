@@ -7,7 +7,7 @@ use Rattle.atomic_table.specs.Table.{Final, Seen}
 use Rattle.moc_shared.specs.declared.record.Entry.{Entry}
 use Rattle.moc_shared.specs.declared.record.Note.{Note}
 use Rattle.moc_shared.specs.declared.record.View.{View}
-use Rattle.moc_shared.specs.History.{Fits, StandsFor, result, IsLegal}
+use Rattle.moc_shared.specs.History.{Fits, StandsFor, result, IsHistory}
 use Rattle.moc_shared.specs.Private.Rule.{index, note, IsFree, IsHeld, Kept}
 use Rattle.moc_shared.proofs.Basics.{here, none_in}
 use Rattle.moc_shared.proofs.Apart.{stood_of, one_view}
@@ -21,8 +21,7 @@ module _ {S X O R Y : Type 0} (n : ℕ) (content : S → Y) (part : ℕ → X �
   -- no word is another where the client stands for all
   abbrev pub Ended_with : List ℕ → List S → V → Type 0
   Ended_with words xs v =
-      (log : List (Entry O R)) × IsLegal answer start log × ((e : Entry O R) → Contains log e → e.client < clients)
-      × Fits log v.mine × proper (result answer start log)
+      (log : List (Entry O R)) × IsHistory answer start clients log × Fits log v.mine × proper (result answer start log)
       × ((b : ℕ) (x : S) → b < n → slice_index words (index b) ≡ 0 → get_elem? xs (index b) ≡ some x
       → content x ≡ part b (result answer start log))
       × ((b : ℕ) → b < n → slice_index words (index b) ≢ 0 → ((c : ℕ) → c < clients → StandsFor v.mine c) → ⊥)
@@ -32,8 +31,7 @@ module _ {S X O R Y : Type 0} (n : ℕ) (content : S → Y) (part : ℕ → X �
   closes words xs id v idle (s, (k, at), same_words, long, values) =
       let A = result answer start k.log in (
         k.log,
-        k.legal,
-        k.named,
+        (k.legal, k.named),
         ((k.each_view id v at).fits v.mine (here v.mine v.others)).0,
         k.whole,
         (λ b x l z e. let z' : slice_index s.words (index b) ≡ 0 = ap (λ (w : List ℕ). slice_index w (index b)) same_words ∙ z in ⊎_elim

@@ -18,7 +18,7 @@ use Rattle.moc_shared.specs.declared.record.Entry.{Entry}
 use Rattle.moc_shared.specs.declared.record.Record.{Record}
 use Rattle.moc_shared.specs.declared.record.Note.{Note}
 use Rattle.moc_shared.specs.declared.record.View.{View}
-use Rattle.moc_shared.specs.History.{entry, Fits, StandsFor, stood, result, IsLegal}
+use Rattle.moc_shared.specs.History.{entry, Fits, StandsFor, stood, result, IsLegal, IsHistory}
 use Rattle.moc_shared.specs.Private.Rule.{index, note, records, Present, stood_in, IsFree, IsHeld, Holding, ViewFits, Kept}
 use Rattle.moc_shared.specs.Private.Rule.{parts_of, Answers, IsOne}
 use Rattle.moc_shared.specs.Private.Plays.{with_part, with_miss, with_holds, with_entry, behind_first}
@@ -643,7 +643,12 @@ module _ {S X O R Y : Type 0} (n : ℕ) (content : S → Y) (part : ℕ → X �
       (ended_kept s k id v b x notes e.operation e.reply at one.0 one.1 same apart done) in
       let kept : Rule (stepped s (index b) 0 id me.1 w gives) =
       subst (λ (l : List (ℕ × S)). Rule (stepped s (index b) 0 id l w gives)) (sym carried) new in
-      let mine = (kept.each_view id w (at_new s.views id v w at)).fits w.mine (here w.mine w.others) in (
+      let mine = (kept.each_view id w (at_new s.views id v w at)).fits w.mine (here w.mine w.others) in
+      let known = λ (q : Entry O R) (h : Contains (log ++ e ∷ []) q). let r : q.client < clients =
+      ⊎_elim (λ (o : Contains log q). k.named q o)
+      (λ (t : e ≡ q). subst (λ (z : Entry O R). z.client < clients) t
+      (subst (λ (m : ℕ). m < clients) (sym by) (old.known v.mine (here v.mine v.others) v.mine.number one.1)))
+      (Contains-push_cases log e q h) in r in (
         w,
         gives,
         tt,
@@ -652,10 +657,15 @@ module _ {S X O R Y : Type 0} (n : ℕ) (content : S → Y) (part : ℕ → X �
           log,
           refl,
           (old.fits v.mine (here v.mine v.others)).0.0,
-          subst (λ (a : X). IsLegal answer a (log ++ e ∷ []))
-              (sym (old.same_map v.mine.number (stands_in v one.1)).0)
-              (legal_with answer start log e k.legal
-              (sym (done (result answer start log) k.whole (λ c y h. (old.holding c y h).noted)).0)),
+          subst (λ (m : X × ℕ). IsHistory answer m.0 m.1 (log ++ e ∷ []))
+              (λ i. (
+                sym (old.same_map v.mine.number (stands_in v one.1)).0 i,
+                sym (old.same_map v.mine.number (stands_in v one.1)).1 i,
+              )) (
+                legal_with answer start log e k.legal
+                    (sym (done (result answer start log) k.whole (λ c y h. (old.holding c y h).noted)).0),
+                known,
+              ),
           mine.1,
         ),
       )

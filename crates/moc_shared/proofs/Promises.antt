@@ -1,7 +1,6 @@
 -- From what the steps did to a view to what a call promises of the record.
 use Rattle.std.proofs.Common.{◌≡◌, ℕ, ◌<◌, List, [], ◌∷◌, ◌++◌, map, refl, sym, ap, ◌∙◌, subst, inl, inr, ⊎_elim}
-use Rattle.std.proofs.Common.{Contains, IsTrue, Option, ◌+◌, cond, eqb, arith, Result, Ok, Err, IfOk, OnErr}
-use Rattle.std.proofs.lemmas.List.Sums.{sum_by-append}
+use Rattle.std.proofs.Common.{Contains, IsTrue, Option, Result, Ok, Err, IfOk, OnErr}
 use Rattle.atomic_table.specs.Table.{Me}
 use Rattle.moc_ranges.specs.Numbers.{NumberSet}
 use Rattle.moc_parts.specs.declared.command.Command.{Command}
@@ -10,17 +9,16 @@ use Rattle.moc_shared.specs.declared.client.Client.{Client}
 use Rattle.moc_shared.specs.declared.client.Holding.{Holding}
 use Rattle.moc_shared.specs.declared.map.SharedMap.{SharedMap}
 use Rattle.moc_shared.specs.declared.errors.Busy.{Busy}
-use Rattle.moc_shared.specs.declared.record.Calls.{Calls}
 use Rattle.moc_shared.specs.Private.Opening.{rest_view}
-use Rattle.moc_shared.specs.History.{entry, StartsWith, Fits, StandsFor, stood, IsLegal}
+use Rattle.moc_shared.specs.History.{entry, StartsWith, Fits, StandsFor, IsHistory}
 use Rattle.moc_shared.specs.Private.Rule.{note, records, IsOne}
 use Rattle.moc_shared.specs.History.{MissesMarked}
-use Rattle.moc_shared.specs.Private.Plays.{IsCarried, first_alone, both_views, with_history, seen_to, both_of, gathered}
+use Rattle.moc_shared.specs.Private.Plays.{IsCarried, first_alone, both_views, with_history, seen_to, both_of}
 use Rattle.moc_shared.specs.Private.Plays.{GatheredWith, EndsCall, with_entry, with_parts, with_holds, with_miss}
 use Rattle.moc_parts.specs.Batches.{footprint_of_all}
 use Rattle.moc_shared.specs.Batches.{BatchEntry, BatchRecord, answer}
 use Rattle.moc_shared.specs.Private.Slots.{GivesUp, Pointer, PartNote, Sight, notes_below, AreOwn, IsFootprint}
-use Rattle.moc_shared.specs.Private.Slots.{IsRefused}
+use Rattle.moc_shared.specs.Private.Slots.{IsRefused, EndsBatch}
 use Rattle.moc_shared.specs.Clients.{start_of, clients_of, record_of, IsClientOf, IsHoldingOf, Meets, TakesIn}
 use Rattle.moc_shared.specs.Clients.{AddsMarks, Ends, Refuses, Undone, Fails, FailsHolding}
 use Rattle.moc_shared.proofs.Basics.{here, there, none_in, cons_cases, starts_itself, stood_with_call}
@@ -57,10 +55,10 @@ adds op v notes touched = (
 )
 
 pub ends_from : (the : SharedMap) (op : List Command) (reply : List Reply) (number : ℕ) (v u w : Sight)
-    (found : List (Option Pointer)) → IsFootprint op found → v.start ≡ start_of the → number ≡ v.mine.number
-    → u ≡ with_parts v (notes_below found 12)
+    (found : List (Option Pointer)) → IsFootprint op found → v.start ≡ start_of the → v.clients ≡ clients_of the
+    → number ≡ v.mine.number → u ≡ with_parts v (notes_below found 12)
     → EndsCall answer (entry u.mine.number op reply) [] u w → Ends the (entry number op reply) v.mine w.mine
-ends_from the op reply number v u w found whole start number_is held told =
+ends_from the op reply number v u w found whole start clients number_is held told =
     let notes = notes_below found 12 in
     let e : BatchEntry = entry v.mine.number op reply in
     let now : Sight = with_parts v notes in
@@ -72,7 +70,8 @@ ends_from the op reply number v u w found whole start number_is held told =
       number = refl;
       between = t.2.0;
       seen = ap (λ (l : List BatchEntry). l ++ e ∷ []) t.2.1;
-      legal = subst (λ (a : NumberSet). IsLegal answer a (log ++ e ∷ [])) start t.3;
+      history = subst (λ (m : NumberSet × ℕ). IsHistory answer m.0 m.1 (log ++ e ∷ []))
+          (λ i. (start i, clients i)) t.3;
       own = refl;
       fits = subst (λ (r : BatchRecord). Fits r.seen r) is t.4;
       marks = adds op v notes (λ p y h. noted_touched op found 12 p y whole h);
@@ -110,10 +109,10 @@ refuses_from the op b v w clients (notes, is, touched, part_touched, within, kno
 -- two clients meet: b's seat takes in a's, sees the history, and gives a's record to a new seat
 pub met_from : (the : SharedMap) (a a' b b' : Client) (b1 b2 b3 : Sight) → IsClientOf the a → IsClientOf the b
     → b1 ≡ first_alone b.seat.me.0 → b2 ≡ both_views b1 a.seat.me.0
-    → (looked : (log : List BatchEntry) × (b3 ≡ with_history b2 log)
+    → (looked : (log : List BatchEntry) × (b3 ≡ with_history b2 log) × IsHistory answer b2.start b2.clients log
     × ((r : BatchRecord) → Contains (records b2) r → StartsWith log r.seen × Fits log r))
     → b'.seat.me.0 ≡ first_alone b3 → a'.seat.me.0 ≡ rest_view b3
-    → Meets (record_of a) (record_of a') (record_of b) (record_of b')
+    → Meets the (record_of a) (record_of a') (record_of b) (record_of b')
 met_from the a a' b b' b1 b2 b3 of_a of_b e1 e2 looked e4 e5 =
     let va = a.seat.me.0 in
     let vb = b.seat.me.0 in
@@ -121,33 +120,31 @@ met_from the a a' b b' b1 b2 b3 of_a of_b e1 e2 looked e4 e5 =
     let two : Sight = both_views (first_alone vb) va in
     let is2 : b2 ≡ two = e2 ∙ ap (λ (x : Sight). both_views x va) e1 in
     let is3 : b3 ≡ with_history two log = looked.1 ∙ ap (λ (x : Sight). with_history x log) is2 in
-    let fa = looked.2 va.mine
+    let fa = looked.3 va.mine
     (subst (λ (x : Sight). Contains (records x) va.mine) (sym is2)
     (there vb.mine (va.mine ∷ va.others) va.mine (here va.mine va.others))) in
-    let fb = looked.2 vb.mine
+    let fb = looked.3 vb.mine
     (subst (λ (x : Sight). Contains (records x) vb.mine) (sym is2) (here vb.mine (va.mine ∷ va.others))) in
     let is_a : record_of a' ≡ seen_to log va.mine = (λ i. (e5 i).mine) ∙ ap (λ (x : Sight). (rest_view x).mine) is3 in
     let is_b : record_of b' ≡ seen_to log vb.mine = (λ i. (e4 i).mine) ∙ ap (λ (x : Sight). x.mine) is3 in (
       log,
       is_a,
       is_b,
+      subst (λ (m : NumberSet × ℕ). IsHistory answer m.0 m.1 log)
+          (λ i. (((λ j. (is2 j).start) ∙ of_b.start) i, ((λ j. (is2 j).clients) ∙ of_b.clients) i)) looked.2,
       fa.0,
       fb.0,
       subst (λ (r : BatchRecord). Fits log r) (sym is_a) (starts_itself log, fa.1.1),
       subst (λ (r : BatchRecord). Fits log r) (sym is_b) (starts_itself log, fb.1.1),
     )
 
-stands_both : (r q : BatchRecord) (log : List BatchEntry) (c : ℕ) → StandsFor r c → StandsFor (both_of r q log) c
-stands_both r q log c st = let s : stood c (both_of r q log) ≡ stood c r + stood c q =
-    sum_by-append (λ (k : Calls (List Command) (List Reply)). cond (eqb k.client c) 1 0) r.own q.own in omega arith
-
 pub one_other : (the : SharedMap) (a b : Client) (a1 : Sight) → IsClientOf the a → IsClientOf the b
     → a1 ≡ both_views a.seat.me.0 b.seat.me.0 → a1.others ≡ record_of b ∷ []
 one_other the a b a1 of_a of_b e = (λ i. (e i).others) ∙ (λ i. of_a.one.0 i ++ b.seat.me.0.mine ∷ of_b.one.0 i)
 
 pub taken_from : (the : SharedMap) (a b : Client) (a1 : Sight) (m m' : Me (Option Pointer) Sight) → IsClientOf the a
-    → IsClientOf the b → a1 ≡ both_views a.seat.me.0 b.seat.me.0 → m.0 ≡ a1 → GatheredWith (record_of b) m m'
-    → TakesIn (record_of a) (record_of b) m'.0.mine
+    → IsClientOf the b → a1 ≡ both_views a.seat.me.0 b.seat.me.0 → m.0 ≡ a1 → GatheredWith answer (record_of b) m m'
+    → TakesIn the (record_of a) (record_of b) m'.0.mine
 taken_from the a b a1 m m' of_a of_b e same told =
     let mine : m.0.mine ≡ record_of a = (λ i. (same i).mine) ∙ (λ i. (e i).mine) in
     let log = told.0 in
@@ -156,36 +153,20 @@ taken_from the a b a1 m m' of_a of_b e same told =
     let facts : StartsWith log (record_of a).seen × Fits log (both_of (record_of a) (record_of b) log)
     × MissesMarked (both_of (record_of a) (record_of b) log) =
     subst (λ (r : BatchRecord). StartsWith log r.seen × Fits log (both_of r (record_of b) log)
-    × MissesMarked (both_of r (record_of b) log)) mine (told.2, told.4, told.5) in (
+    × MissesMarked (both_of r (record_of b) log)) mine (told.3, told.5, told.6) in (
       log,
       is,
+      subst (λ (m : NumberSet × ℕ). IsHistory answer m.0 m.1 log)
+          (λ i. (
+            ((λ j. (same j).start) ∙ (λ j. (e j).start) ∙ of_a.start) i,
+            ((λ j. (same j).clients) ∙ (λ j. (e j).clients) ∙ of_a.clients) i,
+          ))
+          told.2,
       facts.0,
-      told.3,
+      told.4,
       subst (λ (r : BatchRecord). Fits log r) (sym is) facts.1,
       subst (λ (r : BatchRecord). MissesMarked r) (sym is) facts.2,
     )
-
-pub still_client : (the : SharedMap) (a a' b : Client) (m m' : Me (Option Pointer) Sight) → IsClientOf the a
-    → (let both : Me (Option Pointer) Sight = (both_views a.seat.me.0 b.seat.me.0, a.seat.me.1) in m ≡ both)
-    → GatheredWith (record_of b) m m' → a'.number ≡ a.number → a'.seat.table_id ≡ the.table.shared.table_id
-    → a'.seat.me ≡ m' → IsClientOf the a'
-still_client the a a' b m m' of_a joined told number table me =
-    let log = told.0 in
-    let v : Sight = gathered m.0 (record_of b) log in
-    let w : Sight = gathered (both_views a.seat.me.0 b.seat.me.0) (record_of b) log in
-    let is0 : a'.seat.me.0 ≡ w = (λ i. (me i).0) ∙ (λ i. (told.1 i).0)
-    ∙ (λ i. gathered (joined i).0 (record_of b) log) in
-    let is1 : a'.seat.me.1 ≡ [] = (λ i. (me i).1) ∙ (λ i. (told.1 i).1) ∙ (λ i. (joined i).1) ∙ of_a.no_slot in
-    record {
-      table = table;
-      one = subst (λ (x : Sight). IsOne x) (sym is0)
-          (refl, stands_both (record_of a) (record_of b) log (record_of a).number of_a.one.1);
-      number = number ∙ of_a.number ∙ sym (λ i. (is0 i).mine.number);
-      no_slot = is1;
-      no_part = (λ i. (is0 i).holds) ∙ of_a.no_part;
-      start = (λ i. (is0 i).start) ∙ of_a.start;
-      clients = (λ i. (is0 i).clients) ∙ of_a.clients;
-    }
 
 nothing_added : (op : List Command) (r : BatchRecord) (marks : List (ℕ × ℕ)) → (extra : List (ℕ × ℕ))
     × (marks ≡ extra ++ marks) × ((c b : ℕ) → Contains extra (c, b) → (c ≡ r.number) × IsTrue (footprint_of_all op b))
@@ -193,9 +174,9 @@ nothing_added op r marks = ([], refl, λ c b h. let x : ℕ × ℕ = (c, b) in a
 
 -- the same, where nothing was taken in this call
 pub ends_now : (the : SharedMap) (op : List Command) (reply : List Reply) (number : ℕ) (v w : Sight)
-    → v.start ≡ start_of the → number ≡ v.mine.number → EndsCall answer (entry v.mine.number op reply) [] v w
-    → Ends the (entry number op reply) v.mine w.mine
-ends_now the op reply number v w start number_is t =
+    → v.start ≡ start_of the → v.clients ≡ clients_of the → number ≡ v.mine.number
+    → EndsCall answer (entry v.mine.number op reply) [] v w → Ends the (entry number op reply) v.mine w.mine
+ends_now the op reply number v w start clients number_is t =
     let e : BatchEntry = entry v.mine.number op reply in
     let log : List BatchEntry = t.0 in
     let is : w.mine ≡ (with_entry v log e []).mine = (λ i. (t.1 i).mine) in
@@ -203,7 +184,8 @@ ends_now the op reply number v w start number_is t =
       number = refl;
       between = t.2.0;
       seen = ap (λ (l : List BatchEntry). l ++ e ∷ []) t.2.1;
-      legal = subst (λ (a : NumberSet). IsLegal answer a (log ++ e ∷ [])) start t.3;
+      history = subst (λ (m : NumberSet × ℕ). IsHistory answer m.0 m.1 (log ++ e ∷ []))
+          (λ i. (start i, clients i)) t.3;
       own = refl;
       fits = subst (λ (r : BatchRecord). Fits r.seen r) is t.4;
       marks = nothing_added op v.mine v.mine.marks;
@@ -322,18 +304,18 @@ idle_again the h a' of_h s number table no_slot = record {
 }
 
 pub fails_from : (the : SharedMap) (op : List Command) (v u w : Sight) (found : List (Option Pointer))
-    → IsFootprint op found → v.start ≡ start_of the → u ≡ with_parts v (notes_below found 12) → GivesUp op u w
-    → Fails the op v.mine w.mine
-fails_from the op v u w found whole start held g = ⊎_elim
+    → IsFootprint op found → v.start ≡ start_of the → v.clients ≡ clients_of the
+    → u ≡ with_parts v (notes_below found 12) → GivesUp op u w → Fails the op v.mine w.mine
+fails_from the op v u w found whole start clients held g = ⊎_elim
     (λ e. inl (undone_from op v u w found whole held e))
-    (λ t. inr (t.0, (t.1.0, ends_from the op t.1.0 v.mine.number v u w found whole start refl held t.1.1)))
+    (λ t. inr (t.0, (t.1.0, ends_from the op t.1.0 v.mine.number v u w found whole start clients refl held t.1.1)))
     g
 
-pub fails_held : (the : SharedMap) (op : List Command) (v w : Sight) → v.start ≡ start_of the → GivesUp op v w
-    → FailsHolding the op v.mine w.mine
-fails_held the op v w start g = ⊎_elim
+pub fails_held : (the : SharedMap) (op : List Command) (v w : Sight) → v.start ≡ start_of the
+    → v.clients ≡ clients_of the → GivesUp op v w → FailsHolding the op v.mine w.mine
+fails_held the op v w start clients g = ⊎_elim
     (λ e. inl (λ i. (e i).mine))
-    (λ t. inr (t.0, (t.1.0, ends_now the op t.1.0 v.mine.number v w start refl t.1.1)))
+    (λ t. inr (t.0, (t.1.0, ends_now the op t.1.0 v.mine.number v w start clients refl t.1.1)))
     g
 
 -- a call that gives all parts back adds no marks
@@ -351,3 +333,9 @@ pub stays_done : {E : Type 0} (cs : List Command) (v w : Sight) (r : Result (Lis
     → IfOk r (λ x. EndsCall answer (entry v.mine.number cs x) [] v w) → OnErr r (GivesUp cs v w) → Stays v w
 stays_done cs v w (Ok x) ok err = stays_ended (entry v.mine.number cs x) v w ok
 stays_done cs v w (Err e) ok err = stays_up cs v w err
+
+-- a query whose replies are computed afterwards
+pub ends_replied : {E : Type 0} (cs : List Command) (v w : Sight) (replies : List Reply) (r : Result (List Reply) E)
+    → EndsBatch cs replies [] v w → IfOk r (λ x. x ≡ replies) → IfOk r (λ x. EndsBatch cs x [] v w)
+ends_replied cs v w replies (Ok x) ends is = subst (λ (l : List Reply). EndsBatch cs l [] v w) (sym is) ends
+ends_replied cs v w replies (Err e) ends is = tt

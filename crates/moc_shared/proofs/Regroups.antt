@@ -16,7 +16,7 @@ use Rattle.moc_shared.specs.declared.record.Calls.{Calls}
 use Rattle.moc_shared.specs.declared.record.Record.{Record}
 use Rattle.moc_shared.specs.declared.record.Note.{Note}
 use Rattle.moc_shared.specs.declared.record.View.{View}
-use Rattle.moc_shared.specs.History.{StartsWith, Fits, StandsFor, stood}
+use Rattle.moc_shared.specs.History.{StartsWith, Fits, StandsFor, stood, IsLegal, IsHistory}
 use Rattle.moc_shared.specs.Private.Rule.{note, records, Present, stood_in, stood_by, IsHeld, ViewFits, Kept}
 use Rattle.moc_shared.specs.Private.Opening.{nobody, idle_view, seat_for}
 use Rattle.moc_shared.specs.History.{MissesMarked}
@@ -539,8 +539,19 @@ module _ {S X O R Y : Type 0} (n : ℕ) (content : S → Y) (part : ℕ → X �
   M = Me S V
 
   -- what the table's calls ask
-  pub looks : (slots id : ℕ) (me : M) (b : ℕ) → Allows Rule slots id me b (λ x. x) (Looked (step slots b 0 0 none) me)
-  looks slots id me b s k deep at small =
+  -- the rule's history is one of the map that the view of a client knows
+  history_of : (s : State S V) (k : Rule s) (id : ℕ) (v : V) → get_elem? s.views id ≡ some v
+      → StandsFor v.mine v.mine.number → IsHistory answer v.start v.clients k.log
+  history_of s k id v at stands =
+      let sum = stood_of v.mine.number v v.mine (here v.mine v.others) in
+      let same = (k.each_view id v at).same_map v.mine.number (omega arith) in (
+        subst (λ (x : X). IsLegal answer x k.log) (sym same.0) k.legal,
+        λ e c. subst (λ (m : ℕ). e.client < m) (sym same.1) (k.named e c),
+      )
+
+  pub looks : (slots id : ℕ) (me : M) (b : ℕ) → StandsFor me.0.mine me.0.mine.number
+      → Allows Rule slots id me b (λ x. x) (Looked answer (step slots b 0 0 none) me)
+  looks slots id me b stands s k deep at small =
       let v : V = me.0 in
       let old = k.each_view id v at in (
         with_history v k.log,
@@ -549,12 +560,12 @@ module _ {S X O R Y : Type 0} (n : ℕ) (content : S → Y) (part : ℕ → X �
         subst (λ (l : List ℕ). Rule record
             { words = l; homes = s.homes; views = set s.views id (with_history v k.log) })
             (sym (set-get_or s.words b 0)) (looked_kept s k id v at),
-        (k.log, refl, λ r h. let f = (old.fits r h).0 in (f.0, f)),
+        (k.log, refl, history_of s k id v at stands, λ r h. let f = (old.fits r h).0 in (f.0, f)),
       )
 
-  pub gathers : (slots id : ℕ) (me : M) (b : ℕ) (q : Record O R) → me.0.others ≡ q ∷ []
-      → Allows Rule slots id me b (λ x. x) (Gathered (step slots b 0 0 none) me)
-  gathers slots id me b q two s k deep at small =
+  pub gathers : (slots id : ℕ) (me : M) (b : ℕ) (q : Record O R) → StandsFor me.0.mine me.0.mine.number
+      → me.0.others ≡ q ∷ [] → Allows Rule slots id me b (λ x. x) (Gathered answer (step slots b 0 0 none) me)
+  gathers slots id me b q stands two s k deep at small =
       let v : V = me.0 in
       let g = gathered_kept s k id v q at two in (
         gathered v q k.log,
@@ -563,8 +574,8 @@ module _ {S X O R Y : Type 0} (n : ℕ) (content : S → Y) (part : ℕ → X �
         subst (λ (l : List ℕ). Rule record { words = l; homes = s.homes; views = set s.views id (gathered v q k.log) })
             (sym (set-get_or s.words b 0)) g.0,
         λ q' two'. let same : q ≡ q' = cc in
-            subst (λ (x : Record O R). GatheredWith x me (gathered v q k.log, me.1)) same
-            (k.log, refl, g.1, g.2, g.3, g.4),
+            subst (λ (x : Record O R). GatheredWith answer x me (gathered v q k.log, me.1)) same
+            (k.log, refl, history_of s k id v at stands, g.1, g.2, g.3, g.4),
       )
 
   pub joins : (id : ℕ) (v : V) (other : ℕ) (w spent : V) → StandsFor v.mine v.mine.number → spent.mine ≡ nobody

@@ -7,7 +7,6 @@ use Rattle.std.proofs.lemmas.Bool.{cases_lt, cases_Bool, ltb-true}
 use Rattle.std.specs.Cmp.{nat_cmp_total}
 use Rattle.std.specs.Ordering.{nat_cmp}
 use Rattle.std.specs.FinSet as finset
-use Rattle.std.specs.Arc.{arc_value}
 use Rattle.moc_ranges.specs.Numbers.{NumberSet, same_members}
 use Rattle.moc_ranges.specs.Pixels.{base_pixel_size, pixel_count, pixels}
 use Rattle.moc_ranges.specs.Operations.{part_of, contains-part_of, contains-pixels, IsWithin}
@@ -26,10 +25,6 @@ and_true false = refl
 or_false : (x : Bool) → (x || false) ≡ x
 or_false true = refl
 or_false false = refl
-
--- the base pixel of a pixel
-abbrev base : ℕ → ℕ
-base q = q / base_pixel_size
 
 -- a set in one base pixel has no pixel of another
 pub elsewhere : (a : NumberSet) (k q : ℕ) → part_of a k ≡ a → q / base_pixel_size ≢ k → finset.contains a q ≡ false
@@ -148,11 +143,6 @@ drop_next (x ∷ xs) zero d l = refl
 drop_next (x ∷ xs) (suc k) d l = drop_next xs k d (omega arith)
 
 -- the union of the lists from place c on
-pub union_next : (slots : List (Option Pointer)) (c : ℕ) → c < length slots
-    → union_of (lists_of (drop c slots)) ≡ finset.union (list_of (at_place slots c))
-    (union_of (lists_of (drop (suc c) slots)))
-union_next slots c l = ap (λ (xs : List (Option Pointer)). union_of (lists_of xs)) (drop_next slots c None l)
-
 pub union_nothing : (a : NumberSet) → finset.union finset.empty a ≡ a
 union_nothing a =
     same_members _ _
@@ -199,12 +189,4 @@ none_next slots b c d up l none =
     ap (λ (k : ℕ). union_of (lists_of (drop k slots))) up
     ∙ sym (union_nothing (union_of (lists_of (drop (suc c) slots))))
     ∙ sym (ap (λ (s : Option Pointer). finset.union (list_of s) (union_of (lists_of (drop (suc c) slots)))) none)
-    ∙ sym (ap (λ (xs : List (Option Pointer)). union_of (lists_of xs)) (drop_next slots c d l))
-
-pub some_next : (slots : List (Option Pointer)) (b c : ℕ) (d : Option Pointer) (p : Pointer) → b ≡ suc c
-    → c < length slots → get_or slots c d ≡ Some p
-    → finset.union (arc_value p) (union_of (lists_of (drop b slots))) ≡ union_of (lists_of (drop c slots))
-some_next slots b c d p up l some =
-    ap (λ (k : ℕ). finset.union (arc_value p) (union_of (lists_of (drop k slots)))) up
-    ∙ sym (ap (λ (s : Option Pointer). finset.union (list_of s) (union_of (lists_of (drop (suc c) slots)))) some)
     ∙ sym (ap (λ (xs : List (Option Pointer)). union_of (lists_of xs)) (drop_next slots c d l))

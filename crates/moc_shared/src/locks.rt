@@ -97,18 +97,20 @@ impl<C: Closing> Play<Option<Pointer>, Sight> for End<C> {
 pub(crate) struct Look;
 
 impl Play<Option<Pointer>, Sight> for Look {
+    ghost use Rattle.moc_shared.specs.Batches.{answer};
     ghost use Rattle.moc_shared.specs.Private.Plays.{Looked};
 
-    ghost then = { Looked };
+    ghost then = { Looked answer };
 }
 
 /// Makes one record of two.
 pub(crate) struct Gather;
 
 impl Play<Option<Pointer>, Sight> for Gather {
+    ghost use Rattle.moc_shared.specs.Batches.{answer};
     ghost use Rattle.moc_shared.specs.Private.Plays.{Gathered};
 
-    ghost then = { Gathered };
+    ghost then = { Gathered answer };
 }
 
 /// Cuts off all records but the first.

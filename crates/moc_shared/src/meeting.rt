@@ -16,7 +16,7 @@ impl SharedMap {
         requires second { IsClientOf self.now b.old }
         ensures first { IsClientOf self.now a.new × (number_of a.new ≡ number_of a.old) }
         ensures second { IsClientOf self.now b.new × (number_of b.new ≡ number_of b.old) }
-        ensures met { Meets (record_of a.old) (record_of a.new) (record_of b.old) (record_of b.new) }
+        ensures met { Meets self.now (record_of a.old) (record_of a.new) (record_of b.old) (record_of b.new) }
     {
         let table = &self.table.shared;
         let idle = split(table, &mut b.seat);
@@ -31,7 +31,7 @@ impl SharedMap {
         requires first { IsClientOf self.now a.old }
         requires second { IsClientOf self.now b }
         ensures first { IsClientOf self.now a.new × (number_of a.new ≡ number_of a.old) }
-        ensures taken { TakesIn (record_of a.old) (record_of b) (record_of a.new) }
+        ensures taken { TakesIn self.now (record_of a.old) (record_of b) (record_of a.new) }
     {
         let Client { number: _, seat } = b;
         join(&self.table.shared, &mut a.seat, seat);

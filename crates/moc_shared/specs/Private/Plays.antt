@@ -5,7 +5,7 @@ use Rattle.moc_shared.specs.declared.record.Entry.{Entry}
 use Rattle.moc_shared.specs.declared.record.Record.{Record}
 use Rattle.moc_shared.specs.declared.record.Note.{Note}
 use Rattle.moc_shared.specs.declared.record.View.{View}
-use Rattle.moc_shared.specs.History.{StartsWith, Fits, StandsFor, MissesMarked, own_with, IsLegal}
+use Rattle.moc_shared.specs.History.{StartsWith, Fits, StandsFor, MissesMarked, own_with, IsHistory}
 use Rattle.moc_shared.specs.Private.Rule.{index, note, records, parts_of}
 
 -- all but the first
@@ -92,12 +92,13 @@ module _ {S X O R Y : Type 0} (content : S → Y) (part : ℕ → X → Y) where
   Took st m found m' = (b : ℕ) → st.word ≡ index b → TookPart b m found m'
 
 module _ {X O R Y : Type 0} where
-  -- The view after the call e: a legal history that begins with all that was seen and ends with the call has been seen,
-  -- in which the client's calls are the former ones and this one. The notes are of the parts that are still held.
+  -- The view after the call e: a legal history of the map's clients that begins with all that was seen and ends with
+  -- the call has been seen, in which the client's calls are the former ones and this one. The notes are of the parts
+  -- that are still held.
   abbrev pub EndsCall : (X → O → X × R) → Entry O R → List (Note Y) → View X O R Y → View X O R Y → Type 0
   EndsCall answer e notes v w =
       (log : List (Entry O R)) × (w ≡ with_entry v log e notes) × StartsWith log v.mine.seen
-      × IsLegal answer v.start (log ++ e ∷ []) × Fits w.mine.seen w.mine
+      × IsHistory answer v.start v.clients (log ++ e ∷ []) × Fits w.mine.seen w.mine
 
 module _ {S X O R Y : Type 0} where
   -- the slots that the seat has are the parts that its view holds
@@ -108,26 +109,33 @@ module _ {S X O R Y : Type 0} where
   abbrev pub Gave : Step S → Me S (View X O R Y) → ℕ → Me S (View X O R Y) → Type 0
   Gave st m found m' = m' ≡ (with_holds m.0 (behind_first m.0.holds), rest m.1)
 
-  -- The same, and the call e stands at the end of a legal history, which begins with all that was seen; the notes are
-  -- of the parts that are still held.
+  -- The slot that was taken last is at home again, and the call e stands at the end of a legal history of the map's
+  -- clients, which begins with all that was seen; the notes are of the parts that are still held.
   abbrev pub Ended : (X → O → X × R) → Entry O R → List (Note Y)
       → Step S → Me S (View X O R Y) → ℕ → Me S (View X O R Y) → Type 0
   Ended answer e notes st m found m' =
       (log : List (Entry O R)) × (m' ≡ (with_entry m.0 log e notes, rest m.1)) × StartsWith log m.0.mine.seen
-      × IsLegal answer m.0.start (log ++ e ∷ []) × Fits m'.0.mine.seen m'.0.mine
+      × IsHistory answer m.0.start m.0.clients (log ++ e ∷ []) × Fits m'.0.mine.seen m'.0.mine
 
-  -- the whole history was seen
-  abbrev pub Looked : Step S → Me S (View X O R Y) → ℕ → Me S (View X O R Y) → Type 0
-  Looked st m found m' =
-      (log : List (Entry O R)) × (m' ≡ (with_history m.0 log, m.1))
+  -- The whole history was seen: a legal one of the map's clients, which begins with what each record of the view had
+  -- seen, and which each of them fits.
+  abbrev pub SeesAll : (X → O → X × R) → Me S (View X O R Y) → Me S (View X O R Y) → Type 0
+  SeesAll answer m m' =
+      (log : List (Entry O R)) × (m' ≡ (with_history m.0 log, m.1)) × IsHistory answer m.0.start m.0.clients log
       × ((r : Record O R) → Contains (records m.0) r → StartsWith log r.seen × Fits log r)
 
-  -- the same, and the view's own record and q became one
-  abbrev pub GatheredWith : Record O R → Me S (View X O R Y) → Me S (View X O R Y) → Type 0
-  GatheredWith q m m' =
-      (log : List (Entry O R)) × (m' ≡ (gathered m.0 q log, m.1)) × StartsWith log m.0.mine.seen × StartsWith log q.seen
+  -- a look at the whole history
+  abbrev pub Looked : (X → O → X × R) → Step S → Me S (View X O R Y) → ℕ → Me S (View X O R Y) → Type 0
+  Looked answer st m found m' = SeesAll answer m m'
+
+  -- The whole history was seen, a legal one of the map's clients, and the view's own record and q became one: the
+  -- history begins with what each had seen, the record of both fits it, and its misses of its own clients are marked.
+  abbrev pub GatheredWith : (X → O → X × R) → Record O R → Me S (View X O R Y) → Me S (View X O R Y) → Type 0
+  GatheredWith answer q m m' =
+      (log : List (Entry O R)) × (m' ≡ (gathered m.0 q log, m.1)) × IsHistory answer m.0.start m.0.clients log
+      × StartsWith log m.0.mine.seen × StartsWith log q.seen
       × Fits log (both_of m.0.mine q log) × MissesMarked (both_of m.0.mine q log)
 
-  -- the same, with the one other record
-  abbrev pub Gathered : Step S → Me S (View X O R Y) → ℕ → Me S (View X O R Y) → Type 0
-  Gathered st m found m' = (q : Record O R) → m.0.others ≡ q ∷ [] → GatheredWith q m m'
+  -- a look at the whole history that makes one record of the view's own and of the one other
+  abbrev pub Gathered : (X → O → X × R) → Step S → Me S (View X O R Y) → ℕ → Me S (View X O R Y) → Type 0
+  Gathered answer st m found m' = (q : Record O R) → m.0.others ≡ q ∷ [] → GatheredWith answer q m m'

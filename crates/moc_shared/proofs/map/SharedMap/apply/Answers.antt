@@ -14,7 +14,7 @@ returns-in-Ok-clause-ok g c =
       waits_from c.args.self.now c.args.batch.now c.args.client.now.seat.me.0 t.0 c.requires.map.clients t.2,
       ends_from c.args.self.now c.args.batch.now c.in-Ok.replies c.args.client.now.number v
           c.wait_all-found.new.seat.me.0 c.go_through.new.seat.me.0 c.wait_all-found.result f.0 c.requires.map.start
-          c.requires.map.number t.1 c.in-Ok.ensures.ok,
+          c.requires.map.clients c.requires.map.number t.1 c.in-Ok.ensures.ok,
     )
 
 pub returns-in-Err-clause-map : goal.returns-in-Err-clause-map
@@ -38,5 +38,5 @@ returns-in-Err-clause-err g c =
       v.mine,
       waits_from c.args.self.now c.args.batch.now c.args.client.now.seat.me.0 t.0 c.requires.map.clients t.2,
       fails_from c.args.self.now c.args.batch.now v c.wait_all-found.new.seat.me.0 c.go_through.new.seat.me.0
-          c.wait_all-found.result f.0 c.requires.map.start t.1 c.in-Err.ensures.err,
+          c.wait_all-found.result f.0 c.requires.map.start c.requires.map.clients t.1 c.in-Err.ensures.err,
     )
