@@ -1,7 +1,7 @@
 -- What a crew of lanes may answer, and what it has written when it ends.
-use Rattle.std.specs.Prelude.{◌≡◌, ◌<◌, ℕ, List, [], ◌∷◌, ◌++◌, length, Option, Result, Ok, Err, if◌then◌else◌}
+use Rattle.std.specs.Prelude.{◌≡◌, ◌<◌, ℕ, List, [], ◌∷◌, ◌++◌, length, Option, Some, Result, Ok, Err, if◌then◌else◌}
 use Rattle.std.specs.FinSet as set
-use Rattle.std.specs.Io.KnownBytes.{Appends, Keeps}
+use Rattle.std.specs.Io.KnownBytes.{Appends, Consumes, Keeps}
 use Rattle.moc_ranges.specs.Numbers.{NumberSet}
 use Rattle.moc_text.specs.Lines.{lines_of}
 use Rattle.moc_script.specs.Words.{is_blank}
@@ -52,20 +52,21 @@ pub record IsCrewText (lanes : ℕ) (lines : List (List ℕ)) (text : List ℕ) 
 abbrev pub BeginsCrewText : ℕ → List (List ℕ) → List ℕ → Type 0
 BeginsCrewText lanes lines text = (rest : List ℕ) × IsCrewText lanes lines (text ++ rest)
 
--- What a crew has written when it ends, of a whole input: such a text; or a beginning of one where the writer failed;
--- or nothing.
-abbrev pub CrewEnds : ℕ → List ℕ → Option (List ℕ) → Option (List ℕ) → Result (Unit {0}) RunError → Type 0
-CrewEnds lanes input written written' (Ok _) =
+-- What a crew has written when it ends, of a whole input of which this is left: such a text; or a beginning of one
+-- where the writer failed; or nothing. A line that is told as too long is one of what was read.
+abbrev pub CrewEnds :
+    ℕ → List ℕ → Option (List ℕ) → Option (List ℕ) → Option (List ℕ) → Result (Unit {0}) RunError → Type 0
+CrewEnds lanes input left' written written' (Ok _) =
     AreWithin line_limit (lines_of input)
     × ((text : List ℕ) × Appends written written' text × IsCrewText lanes (said_lines (lines_of input)) text)
-CrewEnds lanes input written written' (Err Write) =
+CrewEnds lanes input left' written written' (Err Write) =
     (text : List ℕ) × Appends written written' text × BeginsCrewText lanes (said_lines (lines_of input)) text
-CrewEnds lanes input written written' (Err (LineTooLong line)) =
+CrewEnds lanes input left' written written' (Err (LineTooLong line)) =
     Keeps written written'
-    × ((given more : List ℕ) × (input ≡ given ++ more) × IsTooLong line_limit (lines_of given) line)
-CrewEnds lanes input written written' (Err Read) = Keeps written written'
-CrewEnds lanes input written written' (Err (Memory line)) = Keeps written written'
-CrewEnds lanes input written written' (Err Spawn) = Keeps written written'
+    × ((given : List ℕ) × Consumes (Some input) left' given × IsTooLong line_limit (lines_of given) line)
+CrewEnds lanes input left' written written' (Err Read) = Keeps written written'
+CrewEnds lanes input left' written written' (Err (Memory line)) = Keeps written written'
+CrewEnds lanes input left' written written' (Err Spawn) = Keeps written written'
 
 -- lines that are not blank have as many answers, whatever the order was
 abbrev pub AreAllAnswered : Type 0

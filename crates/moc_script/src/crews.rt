@@ -105,7 +105,7 @@ pub fn crew<R: Source, W: Sink, G: Gate + Sync, T: Threads + Wait + Sync>(
 
     // What is written is a text that so many lanes may answer the input with, as far as the outcome says.
     ensures ends { IfSome (R.left reader.old) (λ input.
-        CrewEnds lanes.number input (W.written writer.old) (W.written writer.new) result) }
+        CrewEnds lanes.number input (R.left reader.new) (W.written writer.old) (W.written writer.new) result) }
 
     // Only the reader's end ends a crew without a fault, and then all is flushed, at once.
     ensures end { OnOk result (IsAtEnd (R.left reader.new)) }
