@@ -4,6 +4,7 @@ use native.Mathlib.Decide.{ℕ_discrete}
 use Rattle.std.specs.FinSet as set
 use Rattle.std.proofs.lemmas.Bool.{cases_lt}
 use Rattle.std.proofs.lemmas.List.Sums.{sum_by-cons}
+use Rattle.moc_ranges.specs.Blocks.{joining}
 use Rattle.moc_ranges.specs.Numbers.{NumberSet}
 use Rattle.moc_script.specs.Replies.{cover_text}
 use Rattle.moc_script.specs.Scripts.{script_rules}
@@ -14,7 +15,7 @@ use Rattle.moc_shared.specs.Batches.{BatchEntry, answer as object}
 use Rattle.moc_shared.specs.Clients.{record_of, start_of, clients_of, StandsForAll, Closes}
 use Rattle.moc_shared.specs.declared.map.SharedMap.{SharedMap}
 use Rattle.moc_shared.specs.declared.record.Calls.{Calls}
-use Rattle.moc_script.specs.Crews.{joined, cover_line, IsCrewText}
+use Rattle.moc_script.specs.Crews.{cover_line, IsCrewText}
 use Rattle.moc_script.specs.declared.crews.dealing.Dealt.{Dealt}
 use Rattle.moc_shared.specs.declared.client.Client.{Client}
 use Rattle.moc_script.specs.Private.Dealing.{HasDealt}
@@ -36,7 +37,7 @@ calls_of-none n lane (e ∷ log) named high =
 pub crew_text : (n : ℕ) (said answers : List (List ℕ)) (log : List BatchEntry) (end : NumberSet) → 0 < n → IsLegal object set.empty log
     → ((e : BatchEntry) → Contains log e → e.client < n) → end ≡ result object set.empty log
     → ((lane : ℕ) → lane < n → Does object script_rules (in_lane lane (dealt n said)) (calls_of lane log) (in_lane lane (dealt n answers)))
-    → IsCrewText n said (joined answers ++ cover_line end)
+    → IsCrewText n said (joining answers ++ cover_line end)
 crew_text n said answers log end some legal named end_is does =
     let all : (lane : ℕ) → Does object script_rules (in_lane lane (dealt n said)) (calls_of lane log) (in_lane lane (dealt n answers)) =
     λ lane. elim (cases_lt lane n) [ inl low ↦ does lane low | inr high ↦ rw (none_above n lane said some high, calls_of-none n lane log named high, none_above n lane answers some high) (refl, refl) ] in
@@ -46,7 +47,7 @@ crew_text n said answers log end some legal named end_is does =
       answers = answers;
       merged = w.merged;
       answered = w.answered;
-      text_is = ap (λ s. joined answers ++ cover_line s) (end_is ∙ sym w.left);
+      text_is = ap (λ s. joining answers ++ cover_line s) (end_is ∙ sym w.left);
     }
 
 Does-length : (lines : List (List ℕ)) (calls : List BatchEntry) (texts : List (List ℕ)) → Does object script_rules lines calls texts → length texts ≡ length lines

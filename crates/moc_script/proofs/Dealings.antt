@@ -4,7 +4,7 @@ use native.Mathlib.Decide.{ℕ_discrete}
 use Rattle.std.specs.Option.{IfSome, option_to_list}
 use Rattle.std.proofs.lemmas.List.{map-append, get_or-set_same, get_or-set_other, get_or_default}
 use Rattle.moc_script.specs.Merges.{in_lane, dealt}
-use Rattle.moc_script.specs.Crews.{joined}
+use Rattle.moc_ranges.specs.Blocks.{joining}
 use Rattle.moc_script.specs.Private.Joining.{AreForLines, IsJoined}
 use Rattle.moc_script.proofs.LaneLists.{dealt-alone, dealt-here, dealt-else, as_long, next_left}
 
@@ -26,13 +26,9 @@ deals lanes lane said all old new line wide low turn old_is new_is was m inside 
     cases (no other) =
         get_or-set_other all lane m new [] other ∙ was m inside ∙ sym (dealt-else lanes m said line (λ q. other (q ∙ turn)))
 
-joined-push : (texts : List (List ℕ)) (text : List ℕ) → joined (texts ++ text ∷ []) ≡ joined texts ++ text
-joined-push [] text = append-nil text
-joined-push (t ∷ texts) text = ap (λ l. t ++ l) (joined-push texts text) ∙ sym (append_assoc t (joined texts) text)
-
--- nothing is joined yet
-pub join_none : (lanes : ℕ) (all : List Texts) → length all ≡ lanes → IsJoined lanes all all 0 []
-join_none lanes all wide = record { done = []; text_is = refl; count_is = refl; wide = wide; parts = λ m inside. refl }
+joining-push : (texts : List (List ℕ)) (text : List ℕ) → joining (texts ++ text ∷ []) ≡ joining texts ++ text
+joining-push [] text = append-nil text
+joining-push (t ∷ texts) text = ap (λ l. t ++ l) (joining-push texts text) ∙ sym (append_assoc t (joining texts) text)
 
 -- one more answer
 pub join_more : (lanes lane count : ℕ) (all left left' : List Texts) (old new : Texts) (text text' answer : List ℕ) → IsJoined lanes all left count text → lane < lanes
@@ -40,7 +36,7 @@ pub join_more : (lanes lane count : ℕ) (all left left' : List Texts) (old new 
     → IsJoined lanes all left' (count + 1) text'
 join_more lanes lane count all left left' old new text text' answer was low turn old_is first new_is text_is = record {
   done = was.done ++ answer ∷ [];
-  text_is = text_is ∙ ap (λ l. l ++ answer) was.text_is ∙ sym (joined-push was.done answer);
+  text_is = text_is ∙ ap (λ l. l ++ answer) was.text_is ∙ sym (joining-push was.done answer);
   count_is = length-append was.done (answer ∷ []) ∙ ap (λ n. n + 1) was.count_is;
   wide = ap length new_is ∙ length-set left lane new ∙ was.wide;
   parts = λ m inside. cases m inside (ℕ_discrete m lane);
@@ -79,7 +75,7 @@ some_left lanes lane count turn all left old text (lines, many, shared) was less
 
 -- the texts of a lane that is alone are joined as they stand
 pub join_alone : (texts : Texts) (text : List ℕ) (count : ℕ) (all : List Texts) → all ≡ texts ∷ [] → AreForLines 1 all count
-    → text ≡ joined texts → IsJoined 1 all ([] ∷ []) count text
+    → text ≡ joining texts → IsJoined 1 all ([] ∷ []) count text
 join_alone texts text count all alone (lines, many, shared) is =
     let here : get_or all 0 [] ≡ texts = ap (λ l. get_or l 0 []) alone in
     record {

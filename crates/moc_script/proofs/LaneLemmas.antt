@@ -1,12 +1,11 @@
 -- What a line of a lane asks and is answered, and lines one after another.
-use Rattle.std.proofs.Common.{◌≡◌, ◌⊎◌, inl, inr, ℕ, ◌+◌, ◌<◌, length, take, get_or, eq-eqb, Bool, true, false, if◌then◌else◌, List, [], ◌∷◌, ◌++◌, Result, Ok, Err, refl, sym, ap, ◌∙◌, subst, append-nil}
+use Rattle.std.proofs.Common.{◌≡◌, ◌⊎◌, inl, inr, ℕ, ◌+◌, ◌<◌, length, take, get_or, eq-eqb, Bool, false, if◌then◌else◌, List, [], ◌∷◌, ◌++◌, Result, Ok, refl, sym, ap, ◌∙◌, subst, append-nil}
 use Rattle.std.proofs.lemmas.List.{take_more, map-append}
 use Rattle.moc_ranges.specs.Numbers.{NumberSet}
 use Rattle.moc_parts.specs.Batches.{replies_on, set_after_all}
 use Rattle.moc_parts.specs.declared.command.Command.{Command}
 use Rattle.moc_script.specs.Words.{is_blank}
 use Rattle.moc_script.specs.Language.{command_of}
-use Rattle.moc_script.specs.Faults.{fault_line}
 use Rattle.moc_script.specs.Replies.{replies_text}
 use Rattle.moc_script.specs.Batches.{batch_of, answer_to, after_batch, line_answer, after_line}
 use Rattle.moc_script.specs.Answers.{Rules}
@@ -27,18 +26,6 @@ module _ (says : List ℕ → Result Command Fault) where
   says_line a line r said is = (
     ap (λ (b : Bool). if b then [] else answer_to a (batch_of says line)) said ∙ ap (answer_to a) is,
     ap (λ (b : Bool). if b then a else after_batch a (batch_of says line)) said ∙ ap (after_batch a) is,
-  )
-
-  -- a bad line changes nothing
-  quiet_line : (line : List ℕ) (fault : Fault) → is_blank line ≡ false → batch_of says line ≡ Err fault → (a : NumberSet)
-      → (line_answer says a line ≡ fault_line fault) × (after_line says a line ≡ a)
-  quiet_line line fault said is a = says_line a line (Err fault) said is
-
-  -- a blank line has no answer, and changes nothing
-  blank_line : (line : List ℕ) → is_blank line ≡ true → (a : NumberSet) → (line_answer says a line ≡ []) × (after_line says a line ≡ a)
-  blank_line line blank a = (
-    ap (λ (b : Bool). if b then [] else answer_to a (batch_of says line)) blank,
-    ap (λ (b : Bool). if b then a else after_batch a (batch_of says line)) blank,
   )
 
 -- a line that says commands asks for them

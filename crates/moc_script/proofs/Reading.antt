@@ -1,7 +1,7 @@
 -- Lines that are read one after another.
 use Rattle.std.proofs.Common.{◌≡◌, ℕ, suc, ◌+◌, ◌-◌, ◌<◌, ◌≤◌, Bool, true, false, if◌then◌else◌, List, [], ◌∷◌, ◌++◌, length, get_or, Option, Some, None, Result, Ok, Err, refl, sym, ap, ◌∙◌, arith, append_assoc, append-nil, length-append, subst}
 use Rattle.std.specs.Io.KnownBytes.{Consumes, IsAtEnd}
-use Rattle.std.proofs.KnownBytes.{Consumes-nil, Consumes-trans}
+use Rattle.std.proofs.KnownBytes.{Consumes-trans}
 use Rattle.std.proofs.lemmas.List.{get_or-append-add}
 use Rattle.moc_text.specs.Lines.{lines_of}
 use Rattle.moc_script.specs.Words.{is_blank}
@@ -39,9 +39,6 @@ pub record Reads (limit : ℕ) (left left' : Option (List ℕ)) (unread : List �
   pub within : AreWithin limit lines
   pub said_is : said ≡ said_lines lines
   pub count : number ≡ length lines + 1
-
-pub Reads-start : (limit : ℕ) (a : Option (List ℕ)) (unread : List ℕ) → unread ≡ [] → Reads limit a a unread [] 1
-Reads-start limit a unread none = record { given = []; lines = []; consumed = Consumes-nil a; front = λ more. ap (λ l. lines_of (l ++ more)) (sym none); within = tt; said_is = refl; count = refl }
 
 module _ (limit : ℕ) (a b c : Option (List ℕ)) (held held' : Held) (said : List (List ℕ)) (number : ℕ) (r : Reads limit a b held.unread said number) where
   came_in : (came more : List ℕ) → lines_of ((r.given ++ came) ++ more) ≡ r.lines ++ lines_of ((held.unread ++ came) ++ more)

@@ -1,7 +1,7 @@
 -- Texts that lie in one buffer.
 use Rattle.std.proofs.Common.{◌≡◌, ℕ, ◌+◌, ◌-◌, ◌≤◌, List, [], ◌∷◌, ◌++◌, length, take, drop, refl, sym, ap, ◌∙◌, arith, length-append, length-drop}
 use Rattle.std.proofs.lemmas.List.{take-append-le, take-append-drop, drop-append-le, take_all}
-use Rattle.moc_script.specs.Crews.{joined}
+use Rattle.moc_ranges.specs.Blocks.{joining}
 use Rattle.moc_script.specs.Private.Texts.{cut, total}
 use Rattle.moc_script.specs.declared.crews.texts.Piece.{Piece}
 
@@ -21,9 +21,9 @@ total-push [] piece = omega arith
 total-push (first ∷ pieces) piece = omega (arith, total-push pieces piece)
 
 -- texts that are cut out of bytes are the bytes, one after another
-pub joined-cut : (pieces : List Piece) (bytes : List ℕ) → total pieces ≡ length bytes → joined (cut pieces bytes) ≡ bytes
-joined-cut [] [] sum = refl
-joined-cut [] (b ∷ bytes) sum = absurd (omega arith)
-joined-cut (first ∷ pieces) bytes sum =
+pub joining-cut : (pieces : List Piece) (bytes : List ℕ) → total pieces ≡ length bytes → joining (cut pieces bytes) ≡ bytes
+joining-cut [] [] sum = refl
+joining-cut [] (b ∷ bytes) sum = absurd (omega arith)
+joining-cut (first ∷ pieces) bytes sum =
     let rest : total pieces ≡ length (drop first.len bytes) = omega (arith, sum, length-drop first.len bytes) in
-    ap (λ l. take first.len bytes ++ l) (joined-cut pieces (drop first.len bytes) rest) ∙ take-append-drop first.len bytes
+    ap (λ l. take first.len bytes ++ l) (joining-cut pieces (drop first.len bytes) rest) ∙ take-append-drop first.len bytes

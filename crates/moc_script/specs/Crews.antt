@@ -2,6 +2,7 @@
 use Rattle.std.specs.Prelude.{◌≡◌, ◌<◌, ℕ, List, [], ◌∷◌, ◌++◌, length, Option, Some, Result, Ok, Err, if◌then◌else◌}
 use Rattle.std.specs.FinSet as set
 use Rattle.std.specs.Io.KnownBytes.{Appends, Consumes, Keeps}
+use Rattle.moc_ranges.specs.Blocks.{joining}
 use Rattle.moc_ranges.specs.Numbers.{NumberSet}
 use Rattle.moc_text.specs.Lines.{lines_of}
 use Rattle.moc_script.specs.Words.{is_blank}
@@ -17,11 +18,6 @@ use Rattle.moc_script.specs.declared.script.RunError.TheVariants.{Read, Write, L
 abbrev pub said_lines : List (List ℕ) → List (List ℕ)
 said_lines [] = []
 said_lines (line ∷ lines) = if is_blank line then said_lines lines else line ∷ said_lines lines
-
--- texts one after another
-abbrev pub joined : List (List ℕ) → List ℕ
-joined [] = []
-joined (text ∷ texts) = text ++ joined texts
 
 module _ {S : Type 0} (rules : Rules S) where
   -- the answers to lines that are done in this order, each on what those before it leave
@@ -46,7 +42,7 @@ pub record IsCrewText (lanes : ℕ) (lines : List (List ℕ)) (text : List ℕ) 
   pub answers : List (List ℕ)
   pub merged : IsMerge order (dealt lanes lines)
   pub answered : IsMerge (answers_in script_rules set.empty order) (dealt lanes answers)
-  pub text_is : text ≡ joined answers ++ cover_line (left_by script_rules set.empty order)
+  pub text_is : text ≡ joining answers ++ cover_line (left_by script_rules set.empty order)
 
 -- a beginning of such a text
 abbrev pub BeginsCrewText : ℕ → List (List ℕ) → List ℕ → Type 0

@@ -88,10 +88,10 @@ fn answer_all<R: Threads + Wait + Sync, G: Gate + Sync>(
 ///
 /// A lane tells the gate of each line before it begins it, and once it has the answer. Nothing is written before all
 /// lanes have ended. Where the call ends with a fault, nothing is written, and on `Write` as much of the text as the
-/// writer took. `Memory` names the line that was read or answered, of several lanes' lines the least; 0 is before any,
-/// and one more than the lines that were read is after all. `Spawn` goes before the lanes' `Memory`. After the whole
-/// text the writer is flushed, once. Takes memory linear in the script and its answers. May wait for parts that other
-/// lanes hold.
+/// writer took. `Memory` names the line that was read or answered, of several lanes' lines the least; 0 is before any
+/// line is read, and for the map and the threads, and one more than the lines that were read is after all. `Spawn` goes
+/// before the lanes' `Memory`. After the whole text the writer is flushed, once. Takes memory linear in the script and
+/// its answers. May wait for parts that other lanes hold.
 pub fn crew<R: Source, W: Sink, G: Gate + Sync, T: Threads + Wait + Sync>(
     rt: &T,
     alloc: Global,

@@ -24,7 +24,8 @@ pub enum RunError {
     /// A line is over the limit. Lines are counted from 1.
     #[error("line {line} is too long")]
     LineTooLong { line: u64 },
-    /// A growth was refused while this line was read or answered, or before the first line, at 0.
+    /// A growth was refused while this line was read or answered; before the first line, and of `crew` for the map and
+    /// the threads too, at 0; once all lines are answered, at one more than the lines.
     #[error("out of memory at line {line}")]
     Memory { line: u64 },
     /// A thread could not be started; of `crew` alone.
@@ -59,9 +60,9 @@ pub enum RunError {
 /// `LineTooLong` or `Memory` names, or to the whole lines that were read before `Read`; on `Write` it is as much of
 /// the answers as the writer took. After the whole text the writer is flushed, once.
 ///
-/// Each line is searched for its end, copied and parsed, each in one pass over its bytes. A command takes O(n log n)
-/// time for the n cells of its operand, O(n) where they rise, and besides time and memory at most linear in the ranges
-/// of both sets.
+/// A line's end is looked for twice, once to know whether a read may wait; then the line is copied and parsed. Each is
+/// one pass over its bytes. A command takes O(n log n) time for the n cells of its operand, O(n) where they rise, and
+/// besides time and memory at most linear in the ranges of both sets.
 pub fn run<R: Source, W: Sink>(
     alloc: Global,
     reader: &mut R,

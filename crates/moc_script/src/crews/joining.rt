@@ -12,9 +12,7 @@ fn walks_of(alloc: Global, answers: &[Texts]) -> Result<Vec<Walk<'_>>, Memory>
 {
     let mut walks = Vec::with_capacity(alloc, answers.len())?;
     for texts in answers {
-        let Ok(()) = walks.push(texts.walk()) else {
-            return Err(Memory);
-        };
+        walks.push_reserved(texts.walk());
     }
     Ok(walks)
 }

@@ -44,6 +44,7 @@ fn answer_line<R: Wait>(
         (Answers (number_of client.old) line.now (record_of client.old) (record_of client.new) text.new.items) }
 {
     text.clear();
+    // Dealing leaves blank lines out; the answer to one is defined all the same.
     if is_blank_text(line) {
         return Ok(());
     }

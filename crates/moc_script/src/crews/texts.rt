@@ -1,6 +1,6 @@
 //! Many texts in one buffer.
 ghost use Rattle.std.specs.Prelude.{◌≡◌, ◌++◌, ◌∷◌, [], None, IfSome, OnOk, List, ℕ};
-ghost use Rattle.moc_script.specs.Crews.{joined};
+ghost use Rattle.moc_ranges.specs.Blocks.{joining};
 
 use moc_ranges::Memory;
 use std::alloc::Global;
@@ -58,7 +58,7 @@ impl Texts {
 
     /// The texts, one after another, as they lie in the buffer.
     pub fn into_bytes(self) -> Vec<u8>
-        ensures { result.items ≡ joined self }
+        ensures { result.items ≡ joining self }
     {
         self.bytes
     }

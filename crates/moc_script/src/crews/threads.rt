@@ -23,7 +23,7 @@ pub enum LanesError {
     Memory { line: u64 },
 }
 
-/// What a lane is given: its lines and its number.
+/// What a lane is given: the map, its lines and its number.
 #[derive(Clone, Copy)]
 pub struct Task<'a> {
     pub map: &'a SharedMap,
@@ -59,9 +59,7 @@ fn start<'s, E, R: Wait + Sync, G: Gate + Sync>(
         else {
             return Err(LanesError::Spawn);
         };
-        let Ok(()) = handles.push(handle) else {
-            return Err(LanesError::Memory { line: 0 });
-        };
+        handles.push_reserved(handle);
     }
     Ok(handles)
 }
