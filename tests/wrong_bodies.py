@@ -6,8 +6,9 @@ An edit is a file in the form of the toolchain's must-fail edits: a line `file: 
 
 `rt must-fail` checks a crate once for each edit. Here a check takes one edit of each function, of as many functions as there are:
 a function is proved from its body and the contracts of those it calls, so wrong bodies of several functions do not meet. An edit
-is refused where the check tells of an error in the function that it edits. An error in any other function shows that edits did meet,
-and none of that check counts. What is edited outside a function, a constant say, has a check of its own.
+is refused where the check tells of an error in the function that it edits, and not only of a name that went with the old text. An error
+in any other function shows that edits did meet, and none of that check counts. What is edited outside a function, a constant say, has
+a check of its own.
 
 usage: tests/wrong_bodies.py [--jobs N] [CRATE | CRATE/EDIT]..
 
@@ -26,7 +27,7 @@ TOP = os.path.dirname(os.path.dirname(os.path.abspath(__file__)))
 PARTS = ("src", "specs", "proofs")
 # How many jobs a check has: two, since the last checks have the cores to themselves.
 JOBS = "2"
-# What a name stands for that went with the edited text: such an error says little of the contract.
+# What a name stands for that went with the edited text: such an error shows nothing of the contract.
 NAME_GONE = re.compile(r"has no field|is not in scope|has no `|was not admitted")
 
 
@@ -269,6 +270,16 @@ class Round:
         self.texts.update(texts)
         self.edits.append(edit)
 
+    @staticmethod
+    def said_of(edit, errors):
+        """The edit, whether these errors refuse it, of which one must be of a value and not of a name, and what to say."""
+        if not errors:
+            return (edit, False, "NOT REFUSED: the function is still proved")
+        values = [line for line in errors if not NAME_GONE.search(line)]
+        if not values:
+            return (edit, False, f"REFUSED FOR A NAME ALONE: {errors[0]}")
+        return (edit, True, values[0])
+
     def judge(self, told):
         """Says of each edit what the check told of it, and whether it was refused."""
         verdict = re.findall(r"^logic=(\S+)", told, re.MULTILINE)[-1:]
@@ -280,18 +291,14 @@ class Round:
                 why = "NOT REFUSED: the crate is still proved"
             return [(edit, False, why) for edit in self.edits]
         if self.edits[0].function is None:
-            return [(self.edits[0], True, errors[0][1])]
+            return [self.said_of(self.edits[0], [line for _, line in errors])]
         strays = [line for place, line in errors if not any(edit.function.has(place) for edit in self.edits)]
         if strays:
             return [(edit, False, f"MET: an error lies in no function that is edited: {strays[0][:160]}") for edit in self.edits]
         found = []
         for edit in self.edits:
             own = [line for place, line in errors if edit.function.has(place)]
-            values = [line for line in own if not NAME_GONE.search(line)]
-            if not own:
-                found.append((edit, False, "NOT REFUSED: the function is still proved"))
-            else:
-                found.append((edit, True, (values or [f"only for a name that went: {own[0]}"])[0]))
+            found.append(self.said_of(edit, own))
         return found
 
 
