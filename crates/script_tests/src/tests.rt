@@ -10,8 +10,13 @@ use std::test::Fail;
 
 const SCRIPT: &[u8] = b"add 0/0\nadd 0/0 ; count 0/0-1\n \t\r\n\nhop\nadd 5/7-3\nread 0/0-1 5";
 
-const ANSWERS: &[u8] =
-    b"changed 288230376151711744\nchanged 0 ; total 288230376151711744\nfault UnknownWord\nfault Backwards\ncover 0/0\n";
+const ANSWERS: &[u8] = b"\
+changed 288230376151711744
+changed 0 ; total 288230376151711744
+fault UnknownWord
+fault Backwards
+cover 0/0
+";
 
 // Runs a script between such devices.
 fn run_between(alloc: Global, script: &[u8], devices: Devices) -> Ended {
@@ -220,8 +225,10 @@ cover 1/0
 #[test]
 fn sixteen_commands(rt: HostRuntime) {
     let script = b"read;read;read;read;read;read;read;read;read;read;read;read;read;read;read;read";
-    let answers =
-        b"cover ; cover ; cover ; cover ; cover ; cover ; cover ; cover ; cover ; cover ; cover ; cover ; cover ; cover ; cover ; cover\n";
+    let answers = b"\
+cover ; cover ; cover ; cover ; cover ; cover ; cover ; cover ; \
+cover ; cover ; cover ; cover ; cover ; cover ; cover ; cover
+";
     expect(&rt, rt.alloc(), script, answers);
 }
 
