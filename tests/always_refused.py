@@ -2,6 +2,8 @@
 """Shows that tests expect answers. A body that always answers want of memory meets its contract, since memory may always be
 refused; so each call below is given such a body in a copy of the crates, and some test of it must fail.
 
+usage: tests/always_refused.py [CRATE/CALL]..
+
 No part of the gate: it takes some ten minutes. The last line printed is `N passed, M failed`."""
 import os
 import re
@@ -20,12 +22,19 @@ PLANTS = [
     ("moc_text", "json/writing", "write_json", "Err(JsonError::Memory)", "text_tests"),
     ("moc_text", "uniq", "write_uniq", "Err(UniqError::Memory)", "text_tests"),
     ("moc_steps", "schedule", "replay", "Err(ReplayError { at: 0, why: StepError::Memory })", "steps_tests"),
+    ("moc_steps", "world", "new", "Err(Memory)", "steps_tests"),
     ("moc_steps", "world", "step", "Err(StepError::Memory)", "steps_tests"),
     ("moc_steps", "schedule", "drain", "Err(Memory)", "steps_tests"),
+    ("moc_shared", "making", "new", "Err(NewError::Memory)", "shared_tests"),
     ("moc_shared", "operations", "try_apply", "Err(TryError::Memory)", "shared_tests"),
+    ("moc_shared", "operations", "try_apply", "Err(TryError::Busy(Busy { part: moc_parts::Part::of(0), holder: 0 }))", "shared_tests"),
     ("moc_shared", "operations", "apply", "Err(Memory)", "shared_tests"),
     ("moc_shared", "operations", "finish", "(self.let_go(holding), Err(Memory))", "shared_tests"),
+    ("moc_shared", "operations", "snapshot", "Err(SnapshotError::Memory(self.let_go(holding)))", "shared_tests"),
     ("moc_shared", "snapshot", "answer", "Err(Memory)", "shared_tests"),
+    ("moc_shared", "meeting", "close", "Err(CloseError::Memory)", "shared_tests"),
+    ("moc_shared", "meeting", "close", "Err(CloseError::Midway { part: moc_parts::Part::of(0) })", "shared_tests"),
+    ("moc_parts", "batch", "one", "Err(Memory)", "parts_tests"),
     ("moc_parts", "map", "apply", "Err(Memory)", "parts_tests"),
     ("moc_parts", "prepared", "prepare", "Err(Memory)", "parts_tests"),
     ("moc_parts", "prepared", "prepare_changes", "Err(Memory)", "parts_tests"),
@@ -63,6 +72,8 @@ def main():
         shutil.copy(os.path.join(TOP, "HANDLES"), folder)
         shutil.copytree(os.path.join(TOP, "crates"), os.path.join(folder, "crates"), ignore=shutil.ignore_patterns("wrong-bodies"))
         for crate, source, call, answer, tests in PLANTS:
+            if sys.argv[1:] and f"{crate}/{call}" not in sys.argv[1:]:
+                continue
             path = os.path.join(folder, "crates", crate, "src", f"{source}.rt")
             with open(path) as file:
                 text = file.read()
