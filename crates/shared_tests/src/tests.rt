@@ -217,14 +217,8 @@ fn a_snapshot_answers_what_was_there(rt: HostRuntime) -> Result<(), Fail> {
     let count = Batch::one(rt.alloc(), Command::Count(base(&rt, 3, 4)?))?;
     assert_eq!(rt; total(map.try_apply(&mut a, &count)), Some(0));
     let five = Batch::one(rt.alloc(), Command::Add(base(&rt, 5, 6)?))?;
-    let Ok(holding) = map.hold(a, five) else {
-        panic!(rt; "held")
-    };
-    let a = match map.snapshot(holding) {
-        Err(SnapshotError::NotQuery(holding)) => map.let_go(holding),
-        Ok(_) => panic!(rt; "a snapshot of an update"),
-        Err(SnapshotError::Memory(_)) => panic!(rt; "out of memory"),
-    };
+    let (a, none) = look(&map, a, five);
+    assert!(rt; none.is_none());
     assert!(rt; map.close(a)?.is_empty());
     Ok(())
 }

@@ -33,7 +33,7 @@ loop-client-preserved g c =
           subst (λ (n : ℕ). IsNewClient map n (get_or (into_iter_items left) k d)) place
           (subst (IsNewClient map (done + (k + 1))) (sym shifted) (was.1 (k + 1) d (search rules)))),
       (λ k d below. below_more (λ i. IsTaskOf c.args.map.now c.args.lanes.now i (get_or all i d).promise) done
-          (λ i low. let e = ap (λ l. get_or l i d) c.push_reserved.ensures.items ∙ get_or_append_left (vec_items c.loop-client.handles) _ d i (omega (arith, low, c.loop-client.handles.ok)) in subst (λ h. IsTaskOf c.args.map.now c.args.lanes.now i h.promise) (sym e) (was.2.0 i d low))
+          (λ i low. let e = ap (λ l. get_or l i d) c.push_reserved.ensures.items ∙ get_or_append_left (vec_items c.loop-client.handles) _ d i (omega (arith, low, c.loop-client.handles.ok)) in subst (λ h. IsTaskOf c.args.map.now c.args.lanes.now i h.promise) (sym e) (was.2 i d low))
           (subst (λ h. IsTaskOf c.args.map.now c.args.lanes.now done h.promise) (sym (ap (λ l. get_or l done d) c.push_reserved.ensures.items ∙ pushed_here (vec_items c.loop-client.handles) _ d done (omega (arith, c.loop-client.handles.ok))))
           (let told = c.in-Ok-spawn_with.ensures.ok in
           let inside : done < length c.args.lanes.now = omega arith in
@@ -45,5 +45,5 @@ loop-client-preserved g c =
                 ∙ (c.index-lanes-from.is ∙ ap (λ n. get_or c.args.lanes.now n c.index-lanes-from.result) place ∙ get_or_default c.args.lanes.now done c.index-lanes-from.result [] inside);
           }))
           k (omega arith)),
-      rw c.push_reserved.ensures.capacity was.2.1,
+      rw c.push_reserved.ensures.capacity was.3,
     )
