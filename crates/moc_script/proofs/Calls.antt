@@ -1,5 +1,5 @@
 -- How often a device was called.
-use Rattle.std.proofs.Common.{◌≡◌, ℕ, ◌+◌, Option, Some, None, arith}
+use Rattle.std.proofs.Common.{ℕ, Option, Some, None, arith}
 use Rattle.moc_script.specs.Devices.{CallsMore}
 
 pub CallsMore-none : (a : Option ℕ) → CallsMore a a 0

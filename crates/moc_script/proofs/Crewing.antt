@@ -1,28 +1,32 @@
 -- The text of a crew, from what its lanes did and what the closed map tells.
-use Rattle.std.proofs.Common.{◌≡◌, ◌≢◌, ◌⊎◌, inl, inr, ℕ, zero, suc, ◌+◌, ◌<◌, ◌≤◌, ◌==◌, eq-eqb, ne_eqb, Bool, true, cond, count_by, List, [], ◌∷◌, ◌++◌, Contains, refl, sym, ap, ◌∙◌, subst, arith, length, length-append, append-nil, get_or}
-use native.Mathlib.Decide.{ℕ_discrete}
+use Rattle.std.proofs.Common.{◌≡◌, ◌≢◌, inl, inr, ℕ, zero, suc, ◌<◌, ◌≤◌, ◌==◌, eq-eqb, ne_eqb, Bool, cond, count_by, List, [], ◌∷◌, ◌++◌, Contains, refl, sym, ap, ◌∙◌, subst, arith, length, length-append, append-nil, get_or, Option, Some, None, Result, Ok, Err}
+use Rattle.std.specs.Option.{IfSome}
 use Rattle.std.specs.FinSet as set
 use Rattle.std.proofs.lemmas.Bool.{cases_lt}
 use Rattle.std.proofs.lemmas.List.Sums.{sum_by-cons}
 use Rattle.moc_ranges.specs.Blocks.{joining}
 use Rattle.moc_ranges.specs.Numbers.{NumberSet}
-use Rattle.moc_script.specs.Replies.{cover_text}
 use Rattle.moc_script.specs.Scripts.{script_rules}
-use Rattle.moc_script.specs.Merges.{InLane, in_lane, dealt}
+use Rattle.moc_script.specs.Merges.{in_lane, dealt}
 use Rattle.moc_shared.specs.History.{calls_of, result, IsLegal}
 use Rattle.moc_script.specs.Private.LaneWork.{Does}
 use Rattle.moc_shared.specs.Batches.{BatchEntry, answer as object}
 use Rattle.moc_shared.specs.Clients.{record_of, start_of, clients_of, StandsForAll, Closes}
 use Rattle.moc_shared.specs.declared.map.SharedMap.{SharedMap}
 use Rattle.moc_shared.specs.declared.record.Calls.{Calls}
-use Rattle.moc_script.specs.Crews.{cover_line, IsCrewText}
-use Rattle.moc_script.specs.declared.crews.dealing.Dealt.{Dealt}
+use Rattle.std.specs.Io.KnownBytes.{Appends, Consumes, IsAtEnd, Keeps}
+use Rattle.moc_script.specs.Crews.{cover_line, said_lines, IsCrewText, CrewEnds}
+use Rattle.moc_script.specs.Runs.{AreWithin}
+use Rattle.moc_script.specs.Scripts.{line_limit}
+use Rattle.moc_script.specs.declared.script.RunError.TheVariants as run
+use Rattle.moc_script.proofs.Sending.{Sends-all}
 use Rattle.moc_shared.specs.declared.client.Client.{Client}
-use Rattle.moc_script.specs.Private.Dealing.{HasDealt}
+use Rattle.moc_text.specs.Lines.{lines_of}
+use Rattle.moc_script.specs.Private.Input.{lane_lines}
 use Rattle.moc_script.specs.Private.Gathering.{HasLanes}
-use Rattle.moc_script.specs.Private.Joining.{AreForLines, IsJoined}
+use Rattle.moc_script.specs.Private.Joining.{AreForLines, IsJoined, IsTold, JoinsTo}
 use Rattle.moc_script.proofs.LaneLists.{none_above, as_long}
-use Rattle.moc_script.proofs.Weaving.{weave, Woven}
+use Rattle.moc_script.proofs.Weaving.{weave}
 
 -- a history has no calls of clients that there are not
 calls_of-none : (n lane : ℕ) (log : List BatchEntry) → ((e : BatchEntry) → Contains log e → e.client < n) → n ≤ lane → calls_of lane log ≡ []
@@ -78,41 +82,87 @@ module _ {O R : Type 0} where
       omega arith
 
 -- the client stands for all
-pub stands_for_all : (map : SharedMap) (n : ℕ) (lanes answers : List Texts) (c : Client) → clients_of map ≡ n → HasLanes n lanes answers c → StandsForAll map (record_of c)
-stands_for_all map n lanes answers c many has lane low =
+pub stands_for_all : (map : SharedMap) (n : ℕ) (input : List ℕ) (answers : List Texts) (c : Client) → clients_of map ≡ n → HasLanes n n input answers c → StandsForAll map (record_of c)
+stands_for_all map n input answers c many has lane low =
     let h = has lane (subst (λ (m : ℕ). lane < m) many low) in stands_by (record_of c).own (record { client = lane; made = h.0 }) h.1
 
 -- a lane's answers are as many as its lines
-pub as_answers : (n : ℕ) (said : List (List ℕ)) (d : Dealt) (answers : List Texts) (c : Client) → HasDealt n said d → HasLanes n d.lanes.items answers c → AreForLines n answers d.count
-as_answers n said d answers c was lanes = (
-  said,
-  sym was.count,
-  λ lane low. let has = lanes lane low in Does-length (get_or d.lanes.items lane []) has.0 (get_or answers lane []) has.2 ∙ ap length (was.lines lane low),
+pub as_answers : (n : ℕ) (input : List ℕ) (answers : List Texts) (c : Client) → HasLanes n n input answers c → AreForLines n answers (length (said_lines (lines_of input)))
+as_answers n input answers c lanes = (
+  said_lines (lines_of input),
+  refl,
+  λ lane low. let has = lanes lane low in Does-length (lane_lines n input lane) has.0 (get_or answers lane []) has.2,
 )
 
 -- the text, from the lanes that are gathered and joined
-pub crew_of_lanes : (map : SharedMap) (n : ℕ) (said : List (List ℕ)) (d : Dealt) (answers left : List Texts) (c : Client) (end : NumberSet) (text : List ℕ) → 0 < n
-    → HasDealt n said d → HasLanes n d.lanes.items answers c → IsJoined n answers left d.count text → start_of map ≡ set.empty → clients_of map ≡ n
+pub crew_of_lanes : (map : SharedMap) (n : ℕ) (input : List ℕ) (answers left : List Texts) (c : Client) (end : NumberSet) (text : List ℕ) → 0 < n
+    → HasLanes n n input answers c → IsJoined n answers left (length (said_lines (lines_of input))) text → start_of map ≡ set.empty → clients_of map ≡ n
     → Closes map (record_of c) end
-    → IsCrewText n said (text ++ cover_line end)
-crew_of_lanes map n said d answers left c end text some was lanes all start many closes =
+    → IsCrewText n (said_lines (lines_of input)) (text ++ cover_line end)
+crew_of_lanes map n input answers left c end text some lanes all start many closes =
     subst (λ (t : List ℕ). IsCrewText n said (t ++ cover_line end)) (sym all.text_is)
     (crew_text n said all.done closes.0 end some (subst (λ (s : NumberSet). IsLegal object s closes.0) start closes.1.0) (λ e i. subst (λ (m : ℕ). e.client < m) many (closes.1.1 e i))
     (closes.3 ∙ ap (λ (s : NumberSet). result object s closes.0) start) does)
   where
+    said : List (List ℕ)
+    said = said_lines (lines_of input)
+
     as_many : length said ≡ length all.done
-    as_many = sym was.count ∙ sym all.count_is
+    as_many = sym all.count_is
 
     does : (lane : ℕ) → lane < n → Does object script_rules (in_lane lane (dealt n said)) (calls_of lane closes.0) (in_lane lane (dealt n all.done))
     does lane low =
         let has = lanes lane low in
         let calls : calls_of lane closes.0 ≡ has.0 = closes.2.1 (record { client = lane; made = has.0 }) has.1 in
-        let lines = was.lines lane low in
         let parts = all.parts lane low in
-        let long_texts = Does-length (get_or d.lanes.items lane []) has.0 (get_or answers lane []) has.2 in
+        let long_texts = Does-length (lane_lines n input lane) has.0 (get_or answers lane []) has.2 in
         let none : get_or left lane [] ≡ [] =
-        none_left (in_lane lane (dealt n all.done)) (get_or left lane []) (sym (ap length parts) ∙ long_texts ∙ ap length lines ∙ as_long n lane said all.done as_many) in
+        none_left (in_lane lane (dealt n all.done)) (get_or left lane []) (sym (ap length parts) ∙ long_texts ∙ as_long n lane said all.done as_many) in
         let whole : get_or answers lane [] ≡ in_lane lane (dealt n all.done) = parts ∙ ap (λ l. in_lane lane (dealt n all.done) ++ l) none ∙ append-nil (in_lane lane (dealt n all.done)) in
-        subst (λ (l : List (List ℕ)). Does object script_rules l (calls_of lane closes.0) (in_lane lane (dealt n all.done))) lines
-        (subst (λ (l : List BatchEntry). Does object script_rules (get_or d.lanes.items lane []) l (in_lane lane (dealt n all.done))) (sym calls)
-        (subst (λ (l : List (List ℕ)). Does object script_rules (get_or d.lanes.items lane []) has.0 l) whole has.2))
+        subst (λ (l : List BatchEntry). Does object script_rules (lane_lines n input lane) l (in_lane lane (dealt n all.done))) (sym calls)
+        (subst (λ (l : List (List ℕ)). Does object script_rules (lane_lines n input lane) has.0 l) whole has.2)
+
+whole_input : (xs items : List ℕ) (b : Option (List ℕ)) → Consumes (Some xs) b items → IsAtEnd b → items ≡ xs
+whole_input xs items None consumed end = absurd consumed
+whole_input xs items (Some ys) consumed end = sym (consumed ∙ ap (λ l. items ++ l) end ∙ append-nil items)
+
+Appends-kept : (a b c : Option (List ℕ)) (bs : List ℕ) → Appends a b bs → Keeps b c → Appends a c bs
+Appends-kept None b c bs p q = tt
+Appends-kept (Some x) None c bs p q = absurd p
+Appends-kept (Some x) (Some y) None bs p q = absurd q
+Appends-kept (Some x) (Some y) (Some z) bs p q = q ∙ p
+
+module _ (lanes : ℕ) (items cover : List ℕ) (answers : List Texts) (told : IsTold lanes (said_lines (lines_of items)) answers cover) (b w0 w1 w2 : Option (List ℕ)) (end : IsAtEnd b) where
+  for : AreForLines (length answers) answers (length (said_lines (lines_of items)))
+  for = subst (λ (n : ℕ). AreForLines n answers (length (said_lines (lines_of items)))) (sym told.wide) told.for_lines
+
+  -- the writer failed on the way
+  pub crew_failed : {E : Type 0} (a : Option (List ℕ)) (r : Result (Unit {0}) E) → Consumes a b items → JoinsTo {E = E} answers cover w0 w1 r
+      → IfSome a (λ input. CrewEnds lanes input b w0 w1 (Err run.Write))
+  crew_failed None r consumed joins = tt
+  crew_failed (Some xs) r consumed joins =
+      let h = joins (length (said_lines (lines_of items))) for in
+      subst (λ (input : List ℕ). CrewEnds lanes input b w0 w1 (Err run.Write)) (whole_input xs items b consumed end)
+      (h.2.sent, h.2.appended, (h.2.rest, subst (IsCrewText lanes (said_lines (lines_of items))) h.2.parts (told.text h.0 h.1)))
+
+  all_written : {E : Type 0} → JoinsTo {E = E} answers cover w0 w1 (Ok tt) → Keeps w1 w2
+      → (text : List ℕ) × Appends w0 w2 text × IsCrewText lanes (said_lines (lines_of items)) text
+  all_written joins kept =
+      let h = joins (length (said_lines (lines_of items))) for in
+      (h.0 ++ cover, Appends-kept w0 w1 w2 (h.0 ++ cover) (Sends-all (h.0 ++ cover) [] w0 w1 h.2 refl) kept, told.text h.0 h.1)
+
+  -- the writer failed at its flush
+  pub crew_unflushed : {E : Type 0} (a : Option (List ℕ)) → Consumes a b items → JoinsTo {E = E} answers cover w0 w1 (Ok tt) → Keeps w1 w2
+      → IfSome a (λ input. CrewEnds lanes input b w0 w2 (Err run.Write))
+  crew_unflushed None consumed joins kept = tt
+  crew_unflushed (Some xs) consumed joins kept =
+      let h = all_written joins kept in
+      subst (λ (input : List ℕ). CrewEnds lanes input b w0 w2 (Err run.Write)) (whole_input xs items b consumed end)
+      (h.0, h.1, ([], subst (IsCrewText lanes (said_lines (lines_of items))) (sym (append-nil h.0)) h.2))
+
+  -- all is written and flushed
+  pub crew_done : {E : Type 0} (a : Option (List ℕ)) → Consumes a b items → AreWithin line_limit (lines_of items) → JoinsTo {E = E} answers cover w0 w1 (Ok tt) → Keeps w1 w2
+      → IfSome a (λ input. CrewEnds lanes input b w0 w2 (Ok tt))
+  crew_done None consumed within joins kept = tt
+  crew_done (Some xs) consumed within joins kept =
+      subst (λ (input : List ℕ). CrewEnds lanes input b w0 w2 (Ok tt)) (whole_input xs items b consumed end) (within, all_written joins kept)

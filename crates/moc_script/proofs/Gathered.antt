@@ -1,5 +1,5 @@
 -- The lanes' ends, put together.
-use Rattle.std.proofs.Common.{◌≡◌, ◌⊎◌, inl, inr, ℕ, suc, ◌+◌, ◌<◌, ◌≤◌, List, [], ◌∷◌, ◌++◌, length, map, get_or, Contains, Option, Some, None, Ok, refl, sym, ap, ◌∙◌, subst, arith, below_more}
+use Rattle.std.proofs.Common.{◌≡◌, ℕ, ◌+◌, ◌<◌, List, [], ◌∷◌, ◌++◌, length, map, get_or, Contains, Option, Some, None, Ok, refl, sym, ap, subst, arith, below_more}
 use Rattle.std.proofs.lemmas.List.Elements.{Contains-append_left, Contains-append_right}
 use Rattle.std.proofs.lemmas.List.{get_or_push, get_or_append_left}
 use Rattle.moc_script.specs.declared.crews.lane.LaneEnd.{LaneEnd}
@@ -7,8 +7,9 @@ use Rattle.moc_shared.specs.declared.client.Client.{Client}
 use Rattle.moc_shared.specs.declared.map.SharedMap.{SharedMap}
 use Rattle.moc_shared.specs.Batches.{BatchRecord}
 use Rattle.moc_shared.specs.Clients.{record_of, IsClientOf, TakesIn}
+use Rattle.moc_script.specs.Private.Input.{lane_lines}
 use Rattle.moc_script.specs.Private.LaneEnds.{IsLaneEnd}
-use Rattle.moc_script.specs.Private.Gathering.{CallsMade, HasBoth, HasLane, HasLanes, IsGathered}
+use Rattle.moc_script.specs.Private.Gathering.{CallsMade, HasBoth, HasLane, IsGathered}
 
 pub has_both : (map : SharedMap) (a b r : BatchRecord) → TakesIn map a b r → (q : CallsMade) → (Contains a.own q → Contains r.own q) × (Contains b.own q → Contains r.own q)
 has_both map a b r taken q =
@@ -27,21 +28,21 @@ abbrev Texts : Type 0
 Texts = List (List ℕ)
 
 -- one more lane
-pub gather_more : (map : SharedMap) (lanes answers : List Texts) (k : ℕ) (all : Option Client) (next both : Client) (texts : Texts)
-    → length answers ≡ k → IsGathered map k lanes answers all → IsClientOf map both → HasBoth all next both
-    → HasLane (record_of next) k (get_or lanes k []) texts
-    → IsGathered map (k + 1) lanes (answers ++ texts ∷ []) (Some both)
-gather_more map lanes answers k all next both texts long was of_map has here = (
+pub gather_more : (map : SharedMap) (lanes : ℕ) (input : List ℕ) (answers : List Texts) (k : ℕ) (all : Option Client) (next both : Client) (texts : Texts)
+    → length answers ≡ k → IsGathered map k lanes input answers all → IsClientOf map both → HasBoth all next both
+    → HasLane (record_of next) k (lane_lines lanes input k) texts
+    → IsGathered map (k + 1) lanes input (answers ++ texts ∷ []) (Some both)
+gather_more map lanes input answers k all next both texts long was of_map has here = (
   of_map,
-  λ lane low. below_more (λ (m : ℕ). HasLane (record_of both) m (get_or lanes m []) (get_or (answers ++ texts ∷ []) m [])) k
-      (λ m less. subst (λ (q : Texts). HasLane (record_of both) m (get_or lanes m []) q) (sym (get_or_append_left answers (texts ∷ []) [] m (rw long less))) (old all was has m less))
-      (subst (λ (q : Texts). HasLane (record_of both) k (get_or lanes k []) q) (sym (get_or_push answers texts [] k long)) (new all has)) lane low,
+  λ lane low. below_more (λ (m : ℕ). HasLane (record_of both) m (lane_lines lanes input m) (get_or (answers ++ texts ∷ []) m [])) k
+      (λ m less. subst (λ (q : Texts). HasLane (record_of both) m (lane_lines lanes input m) q) (sym (get_or_append_left answers (texts ∷ []) [] m (rw long less))) (old all was has m less))
+      (subst (λ (q : Texts). HasLane (record_of both) k (lane_lines lanes input k) q) (sym (get_or_push answers texts [] k long)) (new all has)) lane low,
 )
   where
-    old : (o : Option Client) → IsGathered map k lanes answers o → HasBoth o next both → (m : ℕ) → m < k → HasLane (record_of both) m (get_or lanes m []) (get_or answers m [])
+    old : (o : Option Client) → IsGathered map k lanes input answers o → HasBoth o next both → (m : ℕ) → m < k → HasLane (record_of both) m (lane_lines lanes input m) (get_or answers m [])
     old None none h m less = absurd (omega arith)
     old (Some c) gathered h m less = let l = gathered.1 m less in (l.0, (h (record { client = m; made = l.0 })).0 l.1, l.2)
 
-    new : (o : Option Client) → HasBoth o next both → HasLane (record_of both) k (get_or lanes k []) texts
-    new None h = subst (λ (c : Client). HasLane (record_of c) k (get_or lanes k []) texts) (sym h) here
+    new : (o : Option Client) → HasBoth o next both → HasLane (record_of both) k (lane_lines lanes input k) texts
+    new None h = subst (λ (c : Client). HasLane (record_of c) k (lane_lines lanes input k) texts) (sym h) here
     new (Some c) h = let l = here in (l.0, (h (record { client = k; made = l.0 })).1 l.1, l.2)

@@ -1,8 +1,6 @@
 -- What a line of a lane asks and is answered, and lines one after another.
-use Rattle.std.proofs.Common.{◌≡◌, ◌⊎◌, inl, inr, ℕ, ◌+◌, ◌<◌, length, take, get_or, eq-eqb, Bool, false, if◌then◌else◌, List, [], ◌∷◌, ◌++◌, Result, Ok, refl, sym, ap, ◌∙◌, subst, append-nil}
-use Rattle.std.proofs.lemmas.List.{take_more, map-append}
+use Rattle.std.proofs.Common.{◌≡◌, inl, inr, ℕ, eq-eqb, Bool, false, if◌then◌else◌, List, [], ◌∷◌, ◌++◌, Result, Ok, refl, sym, ap, ◌∙◌, append-nil}
 use Rattle.moc_ranges.specs.Numbers.{NumberSet}
-use Rattle.moc_parts.specs.Batches.{replies_on, set_after_all}
 use Rattle.moc_parts.specs.declared.command.Command.{Command}
 use Rattle.moc_script.specs.Words.{is_blank}
 use Rattle.moc_script.specs.Language.{command_of}

@@ -1,9 +1,19 @@
 -- Elements that are dealt to lanes.
-use Rattle.std.proofs.Common.{◌≡◌, ◌≢◌, ◌⊎◌, ℕ, zero, suc, ◌+◌, ◌%◌, ◌<◌, ◌≤◌, ◌==◌, eq-eqb, ne_eqb, Bool, true, false, if◌then◌else◌, List, [], ◌∷◌, ◌++◌, length, refl, sym, ap, ◌∙◌, subst, arith, append-nil, append_assoc, length-append, take, drop, length-take, length-drop}
-use Rattle.std.proofs.Math.Nat.{mod-one}
+use Rattle.std.proofs.Common.{◌≡◌, ◌≢◌, ◌⊎◌, inl, inr, ℕ, zero, suc, ◌+◌, ◌-◌, ◌%◌, ◌<◌, ◌≤◌, ◌==◌, eq-eqb, ne_eqb, Bool, true, false, if◌then◌else◌, List, [], ◌∷◌, ◌++◌, length, refl, sym, ap, ◌∙◌, arith, append-nil, append_assoc, length-append, take, drop, length-take, length-drop, add-one}
+use Rattle.std.proofs.lemmas.Bool.{cases_lt}
+use Rattle.std.proofs.Math.Nat.{mod-one, mod-lt, mod-eq_of_lt, mod_self, suc-mod}
 use Rattle.std.proofs.lemmas.List.{take-append-drop}
-use native.Mathlib.Decide.{ℕ_discrete}
 use Rattle.moc_script.specs.Merges.{InLane, placed, in_lane, dealt_from, dealt}
+use Rattle.moc_script.specs.Private.Input.{in_turn}
+
+-- the next number's rest is one more, or 0 behind the greatest
+pub next_rest : (n j : ℕ) → 0 < n → ((j % n + 1 < n) × (suc j % n ≡ j % n + 1)) ⊎ ((j % n + 1 ≡ n) × (suc j % n ≡ 0))
+next_rest n j some =
+    let low : j % n < n = mod-lt j some in
+    elim (cases_lt (suc (j % n)) n) [
+      | inl inside ↦ inl (omega arith, suc-mod j n ∙ mod-eq_of_lt inside ∙ sym (add-one (j % n)))
+      | inr past ↦ let last : suc (j % n) ≡ n = omega arith in inr (omega arith, suc-mod j n ∙ ap (λ m. m % n) last ∙ mod_self n)
+    ]
 
 module _ {A : Type 0} where
   pub in_lane-append : (lane : ℕ) (xs ys : List (InLane A)) → in_lane lane (xs ++ ys) ≡ in_lane lane xs ++ in_lane lane ys
@@ -111,3 +121,42 @@ module _ {A : Type 0} where
           let same = as_long lanes lane front done long in
           let full = ap (λ l. length (in_lane lane (dealt lanes l))) whole in
           omega (arith, more, same, full)
+
+module _ {A : Type 0} where
+  turns_from : (others j lane turn : ℕ) (xs : List A) → turn ≤ others → lane ≤ others
+      → (j % suc others + turn ≡ lane) ⊎ (j % suc others + turn ≡ lane + suc others)
+      → in_turn others turn xs ≡ in_lane lane (dealt_from (suc others) j xs)
+  turns_from others j lane turn [] few low at = refl
+  turns_from others j lane zero (x ∷ xs) few low at =
+      let inside : j % suc others < suc others = mod-lt j (omega arith) in
+      let here : j % suc others ≡ lane = elim at [ inl e ↦ omega arith | inr e ↦ absurd (omega arith) ] in
+      let next : (suc j % suc others + others ≡ lane) ⊎ (suc j % suc others + others ≡ lane + suc others) =
+      elim (next_rest (suc others) j (omega arith)) [ inl n ↦ inr (omega (arith, n.1)) | inr n ↦ inl (omega (arith, n.0, n.1)) ] in
+      ap (λ l. x ∷ l) (turns_from others (suc j) lane others xs (omega arith) low next)
+      ∙ ap (λ (b : Bool). if b then x ∷ in_lane lane (dealt_from (suc others) (suc j) xs) else in_lane lane (dealt_from (suc others) (suc j) xs)) (sym (eq-eqb (j % suc others) lane here))
+  turns_from others j lane (suc turn) (x ∷ xs) few low at =
+      let inside : j % suc others < suc others = mod-lt j (omega arith) in
+      let other : j % suc others ≢ lane = λ e. elim at [ inl f ↦ absurd (omega arith) | inr f ↦ absurd (omega arith) ] in
+      let next : (suc j % suc others + turn ≡ lane) ⊎ (suc j % suc others + turn ≡ lane + suc others) =
+      elim (next_rest (suc others) j (omega arith)) [
+        | inl n ↦ elim at [ inl f ↦ inl (omega (arith, n.1)) | inr f ↦ inr (omega (arith, n.1)) ]
+        | inr n ↦ elim at [ inl f ↦ absurd (omega (arith, n.0)) | inr f ↦ inl (omega (arith, n.0, n.1)) ]
+      ] in
+      turns_from others (suc j) lane turn xs (omega arith) low next
+      ∙ ap (λ (b : Bool). if b then x ∷ in_lane lane (dealt_from (suc others) (suc j) xs) else in_lane lane (dealt_from (suc others) (suc j) xs)) (sym (ne_eqb (j % suc others) lane other))
+
+  -- the first is the lane's
+  pub turn_now : (others turn : ℕ) (x : A) (xs : List A) → turn ≡ 0 → in_turn others turn (x ∷ xs) ≡ x ∷ in_turn others others xs
+  turn_now others turn x xs now = ap (λ (n : ℕ). in_turn others n (x ∷ xs)) now
+
+  -- the first is another lane's
+  pub turn_later : (others turn : ℕ) (x : A) (xs : List A) → 0 < turn → in_turn others turn (x ∷ xs) ≡ in_turn others (turn - 1) xs
+  turn_later others zero x xs later = absurd (omega arith)
+  turn_later others (suc turn) x xs later = let same : turn ≡ suc turn - 1 = omega arith in ap (λ (n : ℕ). in_turn others n xs) same
+
+  -- what is dealt to a lane comes once the lanes before it have had one, and then each time all others have
+  pub turns_of_lane : (lanes lane : ℕ) (xs : List A) → lane < lanes → in_turn (lanes - 1) lane xs ≡ in_lane lane (dealt lanes xs)
+  turns_of_lane lanes lane xs low =
+      let all : suc (lanes - 1) ≡ lanes = omega arith in
+      turns_from (lanes - 1) 0 lane lane xs (omega arith) (omega arith) (inl (ap (λ n. n + lane) (mod-eq_of_lt {n = 0} {m = suc (lanes - 1)} (omega arith)) ∙ omega arith))
+      ∙ ap (λ (n : ℕ). in_lane lane (dealt n xs)) all

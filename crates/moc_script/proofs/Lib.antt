@@ -16,7 +16,7 @@ pub mod TextLemmas
 pub mod LaneLists
 pub mod Weaving
 pub mod LaneLemmas
-pub mod Dealings
+pub mod Joinings
 pub mod Reading
 pub mod Gathered
 pub mod Crewing

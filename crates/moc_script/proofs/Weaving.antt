@@ -1,12 +1,12 @@
 -- A legal history whose calls are those of the lanes' lines is a merge of the lanes, lines without a call among them.
-use Rattle.std.proofs.Common.{◌≡◌, ◌≢◌, ◌⊎◌, inl, inr, ℕ, zero, suc, ◌+◌, ◌<◌, ◌≤◌, ◌==◌, eq-eqb, ne_eqb, Bool, true, false, cond, if◌then◌else◌, List, [], ◌∷◌, ◌++◌, Contains, refl, sym, ap, ◌∙◌, subst, arith}
+use Rattle.std.proofs.Common.{◌≡◌, ◌≢◌, inl, inr, ℕ, zero, suc, ◌<◌, ◌≤◌, ◌==◌, eq-eqb, ne_eqb, Bool, cond, if◌then◌else◌, List, [], ◌∷◌, Contains, refl, sym, ap, ◌∙◌, subst, arith}
 use native.Mathlib.Decide.{ℕ_discrete}
 use Rattle.moc_shared.specs.declared.record.Entry.{Entry}
 use Rattle.moc_shared.specs.History.{calls_of, result, IsLegal}
 use Rattle.moc_script.specs.Answers.{Rules}
 use Rattle.moc_script.specs.Merges.{InLane, placed, in_lane}
 use Rattle.moc_script.specs.Crews.{answers_in, left_by}
-use Rattle.moc_script.specs.Private.LaneWork.{IsQuiet, Asks, Does}
+use Rattle.moc_script.specs.Private.LaneWork.{Asks, Does}
 
 module _ {A : Type 0} where
   -- the list of one lane in the place of its former one

@@ -2,7 +2,7 @@
 pub mod Texts
 pub mod LaneWork
 pub mod LaneEnds
-pub mod Dealing
+pub mod Input
 pub mod Gathering
 pub mod Joining
 pub mod Promises

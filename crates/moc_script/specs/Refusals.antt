@@ -1,5 +1,5 @@
 -- The names of refused steps.
-use Rattle.std.specs.Prelude.{ℕ, List, ◌++◌, codes}
+use Rattle.std.specs.Prelude.{ℕ, List, codes}
 use Rattle.moc_steps.specs.declared.error.StepError.{StepError}
 use Rattle.moc_steps.specs.declared.error.StepError.TheVariants.{NotIdle, Idle, PartHeld, AllTaken, NotAllTaken}
 use Rattle.moc_steps.specs.declared.error.StepError.TheVariants.{NotHeld, AlreadyEdited, NotEdited, BegunEditing}

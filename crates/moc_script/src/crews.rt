@@ -3,81 +3,85 @@ ghost use Rattle.std.specs.Prelude.{◌≡◌, ◌⊎◌, ◌<◌, ◌≤◌, �
 ghost use Rattle.std.specs.Prelude.{IsTrue, length};
 ghost use Rattle.std.specs.Io.KnownBytes.{IsAtEnd};
 ghost use Rattle.moc_script.specs.Runs.{Flushes};
-ghost use Rattle.moc_script.specs.Crews.{IsCrewText, CrewEnds};
-ghost use Rattle.moc_script.specs.Private.Dealing.{HasDealt, IsDealt};
+ghost use Rattle.moc_text.specs.Lines.{lines_of};
+ghost use Rattle.moc_script.specs.Crews.{CrewEnds, said_lines};
+ghost use Rattle.moc_script.specs.Private.Joining.{IsTold};
 
-mod dealing;
 mod gate;
 mod gathering;
 mod joining;
 mod lane;
 mod lanes;
 mod laws;
+mod lines;
+mod reading;
 mod texts;
 mod threads;
 
 use crate::reply_text::push_cover;
 use crate::script::RunError;
-use crate::sink::{Sink, write_all};
+use crate::sink::Sink;
 use crate::source::Source;
-use dealing::{Dealt, ReadFault, read_dealt};
 pub use gate::{Gate, OpenGate};
 use gathering::{all_done, take_in_all};
-use joining::join_answers;
+use joining::{JoinError, write_joined};
 pub use lanes::Lanes;
 pub use laws::crews_answer_each_line;
-use moc_ranges::{Coverage, Memory};
+use moc_ranges::Coverage;
 use moc_shared::{CloseError, NewError, SharedMap};
+use reading::{ReadFault, line_behind, read_all};
 use std::alloc::Global;
 use std::marker::Sync;
 use std::sync::Wait;
 use std::thread::Threads;
+use texts::Texts;
 use threads::{LanesError, run_lanes};
+
+/// What a crew answers.
+#[derive(Drop)]
+struct Told {
+    /// The answers of each lane, in order.
+    answers: Vec<Texts>,
+    /// The line behind them: the cover of the set after all lines.
+    cover: Vec<u8>,
+}
 
 /// The answers to the lines, and the cover of the set after them.
 fn answer_all<R: Threads + Wait + Sync, G: Gate + Sync>(
     rt: &R,
     alloc: Global,
     gate: &G,
-    dealt: &Dealt,
-) -> Result<Vec<u8>, LanesError>
-    requires some { 0 < length dealt.now.lanes.items }
-    requires few { length dealt.now.lanes.items ≤ 64 }
-    requires dealt { IsDealt dealt.now }
-    ensures { IfOk result (λ text. (said : List (List ℕ))
-        → HasDealt (length dealt.now.lanes.items) said dealt.now
-        → IsCrewText (length dealt.now.lanes.items) said text.items) }
+    input: &[u8],
+    lanes: Lanes,
+) -> Result<Told, LanesError>
+    ensures { IfOk result (λ told.
+        IsTold lanes.number (said_lines (lines_of input.now)) told.answers.items told.cover.items) }
 {
     let start = Coverage::empty(alloc);
-    let (map, clients) = match SharedMap::new(alloc, start, dealt.lanes.len() as u8) {
+    let lanes = lanes.get();
+    let (map, clients) = match SharedMap::new(alloc, start, lanes) {
         Ok((map, clients)) => (map, clients),
         Err(NewError::BadCount) => unreachable!(),
         Err(NewError::Memory) => return Err(LanesError::Memory { line: 0 }),
     };
-    let ends = run_lanes(rt, alloc, gate, &map, &dealt.lanes, clients)?;
-    let last = dealt.read.saturating_add(1);
-    let done = match all_done(alloc, ends, last) {
-        Ok(done) => done,
-        Err(line) => return Err(LanesError::Memory { line }),
-    };
-    let Ok((client, answers)) = take_in_all(alloc, &map, &dealt.lanes, done) else {
-        return Err(LanesError::Memory { line: last });
+    let ends = run_lanes(rt, alloc, gate, &map, input, lanes, clients)?;
+    let done = all_done(alloc, ends)?;
+    let Ok((client, answers)) = take_in_all(alloc, &map, input, lanes, done) else {
+        return Err(LanesError::MemoryBehind);
     };
     let set = match map.close(client) {
         Ok(set) => set,
         Err(CloseError::Midway { part: _ }) => unreachable!(),
-        Err(CloseError::Memory) => return Err(LanesError::Memory { line: last }),
+        Err(CloseError::Memory) => return Err(LanesError::MemoryBehind),
     };
-    let Ok(mut text) = join_answers(alloc, answers, dealt.count) else {
-        return Err(LanesError::Memory { line: last });
+    let mut cover = Vec::new(alloc);
+    let Ok(()) = push_cover(alloc, &set, &mut cover) else {
+        return Err(LanesError::MemoryBehind);
     };
-    let Ok(()) = push_cover(alloc, &set, &mut text) else {
-        return Err(LanesError::Memory { line: last });
+    let Ok(()) = cover.push(b'\n') else {
+        return Err(LanesError::MemoryBehind);
     };
-    let Ok(()) = text.extend_from_slice(b"\n") else {
-        return Err(LanesError::Memory { line: last });
-    };
-    Ok(text)
+    Ok(Told { answers, cover })
 }
 
 /// Answers a script by so many lanes, each a thread with a client of one map, which starts empty.
@@ -118,18 +122,30 @@ pub fn crew<R: Source, W: Sink, G: Gate + Sync, T: Threads + Wait + Sync>(
     ensures write { IsErrOf result RunError.Write ↔ IsTrue (W.mark writer.new) }
     ensures told { IsTrue (R.mark reader.new) → IsErrOf result RunError.Read }
 {
-    let dealt = match read_dealt(alloc, lanes.get(), reader) {
-        Ok(dealt) => dealt,
+    let input = match read_all(alloc, reader) {
+        Ok(input) => input,
         Err(ReadFault::Read) => return Err(RunError::Read),
         Err(ReadFault::TooLong { line }) => return Err(RunError::LineTooLong { line }),
         Err(ReadFault::Memory { line }) => return Err(RunError::Memory { line }),
     };
-    let text = match answer_all(rt, alloc, gate, &dealt) {
-        Ok(text) => text,
+    let told = match answer_all(rt, alloc, gate, &input, lanes) {
+        Ok(told) => told,
         Err(LanesError::Spawn) => return Err(RunError::Spawn),
         Err(LanesError::Memory { line }) => return Err(RunError::Memory { line }),
+        Err(LanesError::MemoryBehind) => {
+            let line = line_behind(&input);
+            return Err(RunError::Memory { line });
+        }
     };
-    if write_all(&text, writer).is_err() || writer.flush().is_err() {
+    match write_joined(alloc, &told.answers, &told.cover, writer) {
+        Ok(()) => {}
+        Err(JoinError::Memory) => {
+            let line = line_behind(&input);
+            return Err(RunError::Memory { line });
+        }
+        Err(JoinError::Write) => return Err(RunError::Write),
+    }
+    if writer.flush().is_err() {
         return Err(RunError::Write);
     }
     Ok(())

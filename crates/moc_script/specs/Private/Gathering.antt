@@ -1,5 +1,5 @@
 -- The lanes' ends, put together.
-use Rattle.std.specs.Prelude.{◌≡◌, ◌<◌, ℕ, List, [], ◌∷◌, length, slice_index_or, Option, Some, None, Contains, Ok}
+use Rattle.std.specs.Prelude.{◌≡◌, ◌<◌, ℕ, List, [], length, slice_index_or, Option, Some, None, Contains, Ok}
 use Rattle.moc_parts.specs.declared.command.Command.{Command}
 use Rattle.moc_parts.specs.declared.reply.Reply.{Reply}
 use Rattle.moc_shared.specs.declared.client.Client.{Client}
@@ -8,16 +8,17 @@ use Rattle.moc_shared.specs.declared.record.Calls.{Calls}
 use Rattle.moc_shared.specs.Batches.{BatchEntry, BatchRecord, answer as object}
 use Rattle.moc_shared.specs.Clients.{record_of, IsClientOf}
 use Rattle.moc_script.specs.Scripts.{script_rules}
+use Rattle.moc_script.specs.Private.Input.{lane_lines}
 use Rattle.moc_script.specs.Private.LaneWork.{Does}
 use Rattle.moc_script.specs.Private.LaneEnds.{IsLaneEnd}
 use Rattle.moc_script.specs.declared.crews.lane.LaneEnd.{LaneEnd}
 
--- each lane has done its lines, and none was refused
-abbrev pub AreDone : SharedMap → List (List (List ℕ)) → List LaneEnd → Type 0
-AreDone map lanes done =
-    (length done ≡ length lanes)
-    × ((lane : ℕ) (d : LaneEnd) → lane < length lanes
-    → IsLaneEnd map lane (slice_index_or lanes lane []) (Ok (slice_index_or done lane d)))
+-- each of so many lanes has done its lines of a script, and none was refused
+abbrev pub AreDone : SharedMap → ℕ → List ℕ → List LaneEnd → Type 0
+AreDone map lanes input done =
+    (length done ≡ lanes)
+    × ((lane : ℕ) (d : LaneEnd) → lane < lanes
+    → IsLaneEnd map lane (lane_lines lanes input lane) (Ok (slice_index_or done lane d)))
 
 -- a client's recorded calls
 abbrev pub CallsMade : Type 0
@@ -36,12 +37,13 @@ HasBoth (Some first) second both =
     (q : CallsMade) → (Contains (record_of first).own q → Contains (record_of both).own q)
     × (Contains (record_of second).own q → Contains (record_of both).own q)
 
--- the client has what the lanes below k did
-abbrev pub HasLanes : ℕ → List (List (List ℕ)) → List (List (List ℕ)) → Client → Type 0
-HasLanes k lanes answers c =
-    (lane : ℕ) → lane < k → HasLane (record_of c) lane (slice_index_or lanes lane []) (slice_index_or answers lane [])
+-- the client has what the lanes below k did, of so many that a script is dealt to
+abbrev pub HasLanes : ℕ → ℕ → List ℕ → List (List (List ℕ)) → Client → Type 0
+HasLanes k lanes input answers c =
+    (lane : ℕ) → lane < k
+    → HasLane (record_of c) lane (lane_lines lanes input lane) (slice_index_or answers lane [])
 
 -- the same of a client that there is once there is a lane
-abbrev pub IsGathered : SharedMap → ℕ → List (List (List ℕ)) → List (List (List ℕ)) → Option Client → Type 0
-IsGathered map k lanes answers None = k ≡ 0
-IsGathered map k lanes answers (Some c) = IsClientOf map c × HasLanes k lanes answers c
+abbrev pub IsGathered : SharedMap → ℕ → ℕ → List ℕ → List (List (List ℕ)) → Option Client → Type 0
+IsGathered map k lanes input answers None = k ≡ 0
+IsGathered map k lanes input answers (Some c) = IsClientOf map c × HasLanes k lanes input answers c

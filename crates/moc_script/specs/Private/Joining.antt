@@ -1,7 +1,10 @@
 -- The answers of the lanes in the order of the lines.
-use Rattle.std.specs.Prelude.{◌≡◌, ◌<◌, ◌++◌, ◌∷◌, ℕ, List, [], length, slice_index_or, slice_set, Option, IfSome, None}
+use Rattle.std.specs.Prelude.{◌≡◌, ◌<◌, ◌++◌, ℕ, List, [], length, slice_index_or, Option, Result, OnOk}
+use Rattle.std.specs.Io.KnownBytes.{Appends}
 use Rattle.moc_ranges.specs.Blocks.{joining}
 use Rattle.moc_script.specs.Merges.{in_lane, dealt}
+use Rattle.moc_script.specs.Runs.{Sends}
+use Rattle.moc_script.specs.Crews.{IsCrewText}
 
 -- each lane has as many answers as it has lines, of so many lines
 abbrev pub AreForLines : ℕ → List (List (List ℕ)) → ℕ → Type 0
@@ -17,3 +20,29 @@ pub record IsJoined (lanes : ℕ) (all left : List (List (List ℕ))) (count : �
   pub wide : length left ≡ lanes
   pub parts : (lane : ℕ) → lane < lanes
       → slice_index_or all lane [] ≡ in_lane lane (dealt lanes done) ++ slice_index_or left lane []
+
+-- the answers to all lines, in turn
+pub record AreJoined (all : List (List (List ℕ))) (count : ℕ) (text : List ℕ) : Type 0 where
+  pub left : List (List (List ℕ))
+  pub joined : IsJoined (length all) all left count text
+
+-- the answers in turn are written but for what is pending, or a beginning of them where the writer failed
+pub record SendsTurns {E : Type 0} (all : List (List (List ℕ))) (written : Option (List ℕ)) (pending : List ℕ)
+    (written' : Option (List ℕ)) (result : Result (Unit {0}) E) : Type 0 where
+  pub sent : List ℕ
+  pub appended : Appends written written' sent
+  pub whole : (count : ℕ) → AreForLines (length all) all count
+      → (rest : List ℕ) × AreJoined all count (sent ++ rest) × OnOk result (rest ≡ pending)
+
+-- the answers in turn and the text behind them are written, or a beginning of both where the writer failed
+abbrev pub JoinsTo : {E : Type 0} → List (List (List ℕ)) → List ℕ → Option (List ℕ) → Option (List ℕ)
+    → Result (Unit {0}) E → Type 0
+JoinsTo all behind written written' result =
+    (count : ℕ) → AreForLines (length all) all count
+    → (text : List ℕ) × AreJoined all count text × Sends (text ++ behind) written [] written' result
+
+-- so many lanes have these answers, which in turn, with the text behind them, may answer the lines
+pub record IsTold (lanes : ℕ) (said : List (List ℕ)) (answers : List (List (List ℕ))) (behind : List ℕ) : Type 0 where
+  pub wide : length answers ≡ lanes
+  pub for_lines : AreForLines lanes answers (length said)
+  pub text : (front : List ℕ) → AreJoined answers (length said) front → IsCrewText lanes said (front ++ behind)

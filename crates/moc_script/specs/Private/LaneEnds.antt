@@ -1,10 +1,10 @@
 -- What a lane has done.
 use Rattle.std.specs.Prelude.{◌≡◌, ◌<◌, ℕ, List, [], ◌∷◌, ◌++◌, length, slice_index_or, Result, Ok, Err}
-use Rattle.moc_shared.specs.declared.client.Client.{Client}
 use Rattle.moc_shared.specs.declared.map.SharedMap.{SharedMap}
 use Rattle.moc_shared.specs.Batches.{BatchEntry, BatchRecord, answer as object}
 use Rattle.moc_shared.specs.Clients.{number_of, record_of, IsClientOf}
 use Rattle.moc_script.specs.Scripts.{script_rules}
+use Rattle.moc_script.specs.Private.Input.{lane_lines}
 use Rattle.moc_script.specs.Private.LaneWork.{DoesLine, Does}
 use Rattle.moc_script.specs.declared.crews.lane.LaneEnd.{LaneEnd}
 use Rattle.moc_script.specs.declared.crews.lane.Refused.{Refused}
@@ -27,9 +27,9 @@ IsLaneEnd map lane lines (Ok end) =
     × Does object script_rules lines made end.answers)
 IsLaneEnd map lane lines (Err e) = Unit {0}
 
--- each lane has done its lines, or memory was refused
-abbrev pub AreLaneEnds : SharedMap → List (List (List ℕ)) → List (Result LaneEnd Refused) → Type 0
-AreLaneEnds map lanes ends =
-    (length ends ≡ length lanes)
-    × ((lane : ℕ) (d : Result LaneEnd Refused) → lane < length lanes
-    → IsLaneEnd map lane (slice_index_or lanes lane []) (slice_index_or ends lane d))
+-- each of so many lanes has done its lines of a script, or memory was refused
+abbrev pub AreLaneEnds : SharedMap → ℕ → List ℕ → List (Result LaneEnd Refused) → Type 0
+AreLaneEnds map lanes input ends =
+    (length ends ≡ lanes)
+    × ((lane : ℕ) (d : Result LaneEnd Refused) → lane < lanes
+    → IsLaneEnd map lane (lane_lines lanes input lane) (slice_index_or ends lane d))

@@ -7,6 +7,7 @@ ghost use Rattle.moc_script.specs.Private.Gathering.{AreDone, HasBoth, HasLanes}
 
 use crate::crews::lane::{LaneEnd, Refused};
 use crate::crews::texts::Texts;
+use crate::crews::threads::LanesError;
 use moc_ranges::Memory;
 use moc_shared::{Client, SharedMap};
 use std::alloc::Global;
@@ -25,24 +26,25 @@ fn least_refused(ends: &[Result<LaneEnd, Refused>]) -> Option<u64> {
     least
 }
 
-/// The lanes' ends, if all went well; or the least line at which a lane was refused memory, and the last line where the
-/// list of the ends is refused.
+/// The lanes' ends, if all went well; or the least line at which a lane was refused memory.
 pub fn all_done(
     alloc: Global,
     ends: Vec<Result<LaneEnd, Refused>>,
-    last: u64,
-) -> Result<Vec<LaneEnd>, u64>
-    ensures { IfOk result (λ done. (map : SharedMap) (lanes : List (List (List ℕ)))
-        → AreLaneEnds map lanes ends.items → AreDone map lanes done.items) }
+) -> Result<Vec<LaneEnd>, LanesError>
+    ensures { IfOk result (λ done. (map : SharedMap) (lanes : ℕ) (input : List ℕ)
+        → AreLaneEnds map lanes input ends.items → AreDone map lanes input done.items) }
 {
-    let line = least_refused(&ends).unwrap_or(last);
+    let refused = match least_refused(&ends) {
+        Some(line) => LanesError::Memory { line },
+        None => LanesError::MemoryBehind,
+    };
     let mut done = Vec::new(alloc);
     for end in ends {
         let Ok(end) = end else {
-            return Err(line);
+            return Err(refused);
         };
         let Ok(()) = done.push(end) else {
-            return Err(line);
+            return Err(refused);
         };
     }
     Ok(done)
@@ -68,14 +70,15 @@ fn both(map: &SharedMap, first: Option<Client>, second: Client) -> Client
 pub fn take_in_all(
     alloc: Global,
     map: &SharedMap,
-    lanes: &[Texts],
+    input: &[u8],
+    lanes: u8,
     done: Vec<LaneEnd>,
 ) -> Result<(Client, Vec<Texts>), Memory>
-    requires some { 0 < length lanes.now }
-    requires done { AreDone map.now lanes.now done.items }
+    requires some { 0 < lanes }
+    requires done { AreDone map.now lanes input.now done.items }
     ensures map { IfOk result (λ r. IsClientOf map.now r.0) }
-    ensures wide { IfOk result (λ r. length r.1.items ≡ length lanes.now) }
-    ensures lanes { IfOk result (λ r. HasLanes (length lanes.now) lanes.now r.1.items r.0) }
+    ensures wide { IfOk result (λ r. length r.1.items ≡ lanes) }
+    ensures lanes { IfOk result (λ r. HasLanes lanes lanes input.now r.1.items r.0) }
 {
     let mut all = None;
     let mut answers = Vec::new(alloc);

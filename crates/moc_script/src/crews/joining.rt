@@ -1,53 +1,167 @@
 //! The answers in the order of the lines.
-ghost use Rattle.std.specs.Prelude.{◌≡◌, ◌<◌, [], List, ℕ, IfOk, OnOk, length, vec_len};
-ghost use Rattle.moc_script.specs.Private.Joining.{AreForLines, IsJoined};
+ghost use Rattle.std.specs.Prelude.{◌≡◌, ◌≢◌, ◌<◌, ◌++◌, ◌↔◌, [], Err, IfOk, OnOk, OnErr, IsErrOf, IsTrue, false, length};
+ghost use Rattle.std.specs.Prelude.{◌≤◌, ◌+◌, vec_len, vec_capacity};
+ghost use Rattle.std.specs.Io.KnownBytes.{Keeps};
+ghost use Rattle.moc_script.specs.Devices.{CallsMore};
+ghost use Rattle.moc_script.specs.Runs.{Sends};
+ghost use Rattle.moc_script.specs.Private.Joining.{JoinsTo, SendsTurns};
 
 use crate::crews::texts::{Texts, Walk};
+use crate::device::DeviceFault;
+use crate::sink::{Sink, write_all};
 use moc_ranges::Memory;
 use std::alloc::Global;
 
-/// The answers of each lane, from its first.
-fn walks_of(alloc: Global, answers: &[Texts]) -> Result<Vec<Walk<'_>>, Memory>
-    ensures { IfOk result (λ walks. walks.items ≡ answers.now) }
-{
-    let mut walks = Vec::with_capacity(alloc, answers.len())?;
-    for texts in answers {
-        walks.push_reserved(texts.walk());
-    }
-    Ok(walks)
+/// Why the answers were not all written.
+#[derive(Clone, Copy, Debug, PartialEq, Eq)]
+pub enum JoinError {
+    /// Memory was refused, and nothing is written.
+    Memory,
+    /// The writer failed.
+    Write,
 }
 
-/// So many answers, one from each lane in turn.
-fn join_lanes(alloc: Global, answers: &[Texts], count: u64) -> Result<Vec<u8>, Memory>
-    requires some { 0 < length answers.now }
-    requires lines { AreForLines (length answers.now) answers.now count }
-    ensures { IfOk result (λ text. (left : List (List (List ℕ)))
-        × IsJoined (length answers.now) answers.now left count text.items) }
-{
-    let mut walks = walks_of(alloc, answers)?;
-    let mut text = Vec::new(alloc);
-    for turn in 0..count {
-        let lane = (turn % answers.len() as u64) as usize;
-        let Some((_, answer)) = walks[lane].next_text() else {
-            unreachable!()
-        };
-        text.extend_from_slice(answer)?;
-    }
-    Ok(text)
+/// How many bytes of joined answers are kept before they are written.
+const ROOM: usize = 65_536;
+
+/// The lanes' answers that are to come, and those that are joined and not written yet.
+#[derive(Drop)]
+struct Joiner<'a> {
+    walks: Vec<Walk<'a>>,
+    pending: Vec<u8>,
 }
 
-/// So many answers, one from each lane in turn. Those of a lane that is alone are the text as they stand.
-pub fn join_answers(alloc: Global, answers: Vec<Texts>, count: u64) -> Result<Vec<u8>, Memory>
-    requires some { 0 < length answers.items }
-    requires lines { AreForLines (length answers.items) answers.items count }
-    ensures { IfOk result (λ text. (left : List (List (List ℕ)))
-        × IsJoined (length answers.items) answers.items left count text.items) }
-{
-    let mut answers = answers;
-    if answers.len() == 1 {
-        if let Some(only) = answers.pop() {
-            return Ok(only.into_bytes());
+impl<'a> Joiner<'a> {
+    /// All answers of each lane. Refused where memory runs out; nothing that is written takes any.
+    fn new(alloc: Global, answers: &'a [Texts]) -> Result<Joiner<'a>, Memory>
+        ensures walks { IfOk result (λ j. j.walks.items ≡ answers.now) }
+        ensures none { IfOk result (λ j. j.pending.items ≡ []) }
+    {
+        let mut walks = Vec::with_capacity(alloc, answers.len())?;
+        for texts in answers {
+            walks.push_reserved(texts.walk());
         }
+        Ok(Joiner {
+            walks,
+            pending: Vec::with_capacity(alloc, ROOM)?,
+        })
     }
-    join_lanes(alloc, &answers, count)
+
+    /// Writes one answer from each lane in turn, until the next lane has none, and then the text behind them.
+    fn write<W: Sink>(mut self, behind: &[u8], writer: &mut W) -> Result<(), DeviceFault>
+        requires some { 0 < length self.walks.items }
+        requires none { self.pending.items ≡ [] }
+        requires writer { W.mark writer.old ≡ false }
+        ensures sends { JoinsTo self.entry.walks.items behind.now (W.written writer.old) (W.written writer.new) result }
+        ensures marks { OnErr result (IsTrue (W.mark writer.new)) }
+        ensures unmarked { OnOk result (W.mark writer.new ≡ false) }
+        ensures flushed { IsTrue (W.flushed writer.new) → IsTrue (W.flushed writer.old) }
+        ensures flushes { CallsMore (W.flushes writer.old) (W.flushes writer.new) 0 }
+    {
+        self.write_turns(writer)?;
+        send(behind, &mut self.pending, writer)?;
+        write_all(&self.pending, writer)
+    }
+
+    /// Writes one answer from each lane in turn, but for what is pending, until the next lane has none.
+    fn write_turns<W: Sink>(&mut self, writer: &mut W) -> Result<(), DeviceFault>
+        requires some { 0 < length self.old.walks.items }
+        requires none { self.old.pending.items ≡ [] }
+        requires writer { W.mark writer.old ≡ false }
+        ensures sends { SendsTurns self.old.walks.items (W.written writer.old)
+            self.new.pending.items (W.written writer.new) result }
+        ensures marks { OnErr result (IsTrue (W.mark writer.new)) }
+        ensures unmarked { OnOk result (W.mark writer.new ≡ false) }
+        ensures flushed { IsTrue (W.flushed writer.new) → IsTrue (W.flushed writer.old) }
+        ensures flushes { CallsMore (W.flushes writer.old) (W.flushes writer.new) 0 }
+    {
+        let mut turn = 0;
+        while let Some(answer) = self.walks[turn].next_text() {
+            send(answer, &mut self.pending, writer)?;
+            turn += 1;
+            if turn == self.walks.len() {
+                turn = 0;
+            }
+        }
+        Ok(())
+    }
+}
+
+/// Puts a text behind what is pending. Where there is no room for it, what is pending is written first, and a text that is
+/// longer than all room at once.
+fn send<W: Sink>(text: &[u8], pending: &mut Vec<u8>, writer: &mut W) -> Result<(), DeviceFault>
+    requires writer { W.mark writer.old ≡ false }
+    ensures sends { Sends (pending.old.items ++ text.now) (W.written writer.old)
+        pending.new.items (W.written writer.new) result }
+    ensures marks { OnErr result (IsTrue (W.mark writer.new)) }
+    ensures unmarked { OnOk result (W.mark writer.new ≡ false) }
+    ensures flushed { IsTrue (W.flushed writer.new) → IsTrue (W.flushed writer.old) }
+    ensures flushes { CallsMore (W.flushes writer.old) (W.flushes writer.new) 0 }
+{
+    if text.len() <= pending.capacity() - pending.len() {
+        put(text, pending);
+        return Ok(());
+    }
+    write_all(pending, writer)?;
+    pending.clear();
+    if text.len() > pending.capacity() {
+        return write_all(text, writer);
+    }
+    put(text, pending);
+    Ok(())
+}
+
+/// Puts a text behind what is pending, where there is room for it.
+fn put(text: &[u8], pending: &mut Vec<u8>)
+    requires { vec_len pending.old + length text.now ≤ vec_capacity pending.old }
+    ensures { pending.new.items ≡ pending.old.items ++ text.now }
+{
+    let Ok(()) = pending.extend_from_slice(text) else {
+        unreachable!()
+    };
+}
+
+/// Writes the answers of the lines in order, one from each lane in turn, and the text behind them. The answers of a lane
+/// that is alone stand so already. All memory is had before the first byte is written.
+pub fn write_joined<W: Sink>(
+    alloc: Global,
+    answers: &[Texts],
+    behind: &[u8],
+    writer: &mut W,
+) -> Result<(), JoinError>
+    requires some { 0 < length answers.now }
+    requires writer { W.mark writer.old ≡ false }
+    ensures sends { result ≢ Err JoinError.Memory
+        → JoinsTo answers.now behind.now (W.written writer.old) (W.written writer.new) result }
+    ensures kept { result ≡ Err JoinError.Memory → Keeps (W.written writer.old) (W.written writer.new) }
+    ensures write { IsErrOf result JoinError.Write ↔ IsTrue (W.mark writer.new) }
+    ensures flushed { IsTrue (W.flushed writer.new) → IsTrue (W.flushed writer.old) }
+    ensures flushes { CallsMore (W.flushes writer.old) (W.flushes writer.new) 0 }
+{
+    if answers.len() == 1 {
+        return match write_both(answers[0].as_bytes(), behind, writer) {
+            Ok(()) => Ok(()),
+            Err(DeviceFault) => Err(JoinError::Write),
+        };
+    }
+    let Ok(joiner) = Joiner::new(alloc, answers) else {
+        return Err(JoinError::Memory);
+    };
+    match joiner.write(behind, writer) {
+        Ok(()) => Ok(()),
+        Err(DeviceFault) => Err(JoinError::Write),
+    }
+}
+
+/// Writes a text and one behind it.
+fn write_both<W: Sink>(text: &[u8], behind: &[u8], writer: &mut W) -> Result<(), DeviceFault>
+    requires writer { W.mark writer.old ≡ false }
+    ensures sends { Sends (text.now ++ behind.now) (W.written writer.old) [] (W.written writer.new) result }
+    ensures marks { OnErr result (IsTrue (W.mark writer.new)) }
+    ensures unmarked { OnOk result (W.mark writer.new ≡ false) }
+    ensures flushed { IsTrue (W.flushed writer.new) → IsTrue (W.flushed writer.old) }
+    ensures flushes { CallsMore (W.flushes writer.old) (W.flushes writer.new) 0 }
+{
+    write_all(text, writer)?;
+    write_all(behind, writer)
 }

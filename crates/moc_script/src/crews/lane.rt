@@ -1,15 +1,17 @@
 //! One lane of a crew: a thread with a client of its own.
-ghost use Rattle.std.specs.Prelude.{◌≡◌, [], OnOk};
+ghost use Rattle.std.specs.Prelude.{◌≡◌, ◌<◌, [], false, OnOk};
 ghost use Rattle.moc_shared.specs.Clients.{IsClientOf, number_of, record_of};
+ghost use Rattle.moc_script.specs.Words.{is_blank};
+ghost use Rattle.moc_script.specs.Private.Input.{lane_lines};
 ghost use Rattle.moc_script.specs.Private.LaneEnds.{Made, Answers, IsLaneEnd};
 
 use crate::answer::push_fault;
 use crate::batch::read_batch;
 use crate::crews::gate::Gate;
+use crate::crews::lines::LaneLines;
 use crate::crews::texts::Texts;
 use crate::fault::ReadError;
 use crate::reply_text::push_reply_line;
-use crate::words::is_blank_text;
 use moc_ranges::Memory;
 use moc_shared::{Client, SharedMap};
 use std::alloc::Global;
@@ -28,7 +30,7 @@ pub struct Refused {
     pub line: u64,
 }
 
-/// Does what a line says, and puts its answer in the place of the text.
+/// Does what a line says that is not blank, and puts its answer in the place of the text.
 fn answer_line<R: Wait>(
     rt: &R,
     alloc: Global,
@@ -38,16 +40,13 @@ fn answer_line<R: Wait>(
     text: &mut Vec<u8>,
 ) -> Result<(), Memory>
     requires map { IsClientOf map.now client.old }
+    requires said { is_blank line.now ≡ false }
     ensures map { IsClientOf map.now client.new }
     ensures number { number_of client.new ≡ number_of client.old }
     ensures answers { OnOk result
         (Answers (number_of client.old) line.now (record_of client.old) (record_of client.new) text.new.items) }
 {
     text.clear();
-    // Dealing leaves blank lines out; the answer to one is defined all the same.
-    if is_blank_text(line) {
-        return Ok(());
-    }
     match read_batch(alloc, line) {
         Ok(batch) => {
             let replies = map.apply(rt, client, &batch)?;
@@ -58,30 +57,32 @@ fn answer_line<R: Wait>(
     }
 }
 
-/// Does the lines in order.
+/// Does the lines of the client's lane, of so many, in order.
 pub fn work<R: Wait, G: Gate>(
     rt: &R,
     alloc: Global,
     gate: &G,
     map: &SharedMap,
-    lines: &Texts,
+    input: &[u8],
+    lanes: u8,
     client: Client,
 ) -> Result<LaneEnd, Refused>
     requires map { IsClientOf map.now client }
+    requires lane { number_of client < lanes }
     requires fresh { Made (number_of client) [] (record_of client) }
-    ensures { IsLaneEnd map.now (number_of client) lines.now result }
+    ensures { IsLaneEnd map.now (number_of client) (lane_lines lanes input.now (number_of client)) result }
 {
     let mut client = client;
     let lane = client.number();
+    let mut left = LaneLines::new(input, lanes, lane);
     let mut text = Vec::new(alloc);
     let mut answers = Texts::new(alloc);
-    let mut left = lines.walk();
-    while let Some((number, line)) = left.next_text() {
+    while let Some((number, line)) = left.next_line() {
         gate.pass(lane, number);
         let Ok(()) = answer_line(rt, alloc, map, &mut client, line, &mut text) else {
             return Err(Refused { line: number });
         };
-        let Ok(()) = answers.push(number, &text) else {
+        let Ok(()) = answers.push(&text) else {
             return Err(Refused { line: number });
         };
         gate.done(lane, number);

@@ -6,17 +6,10 @@ use moc_ranges::Memory;
 use std::alloc::Global;
 use std::marker::Model;
 
-/// How long a text of the buffer is, and the line that it belongs to.
-#[derive(Clone, Copy, Debug, PartialEq, Eq)]
-pub struct Piece {
-    pub line: u64,
-    pub len: usize,
-}
-
-/// Texts one behind another in one buffer, each with the number of its line.
+/// Texts one behind another in one buffer, and how long each is.
 #[derive(Drop)]
 pub struct Texts {
-    pieces: Vec<Piece>,
+    lens: Vec<usize>,
     bytes: Vec<u8>,
 }
 
@@ -26,9 +19,9 @@ impl Model for Texts {
 
     ghost Value = { List (List ℕ) };
 
-    ghost view = { λ t. cut t.pieces.items t.bytes.items };
+    ghost view = { λ t. cut t.lens.items t.bytes.items };
 
-    ghost invariant = { λ t. total t.pieces.items ≡ length t.bytes.items };
+    ghost invariant = { λ t. total t.lens.items ≡ length t.bytes.items };
 }
 
 impl Texts {
@@ -37,19 +30,18 @@ impl Texts {
         ensures { result ≡ [] }
     {
         Texts {
-            pieces: Vec::new(alloc),
+            lens: Vec::new(alloc),
             bytes: Vec::new(alloc),
         }
     }
 
-    /// Puts the text of a line behind the others.
-    pub fn push(&mut self, line: u64, text: &[u8]) -> Result<(), Memory>
+    /// Puts a text behind the others.
+    pub fn push(&mut self, text: &[u8]) -> Result<(), Memory>
         ensures { OnOk result (self.new ≡ self.old ++ text.now ∷ []) }
     {
         let before = self.bytes.len();
         self.bytes.extend_from_slice(text)?;
-        let len = text.len();
-        let Ok(()) = self.pieces.push(Piece { line, len }) else {
+        let Ok(()) = self.lens.push(text.len()) else {
             self.bytes.truncate(before);
             return Err(Memory);
         };
@@ -57,10 +49,10 @@ impl Texts {
     }
 
     /// The texts, one after another, as they lie in the buffer.
-    pub fn into_bytes(self) -> Vec<u8>
-        ensures { result.items ≡ joining self }
+    pub fn as_bytes(&self) -> &[u8]
+        ensures { result.now ≡ joining self.now }
     {
-        self.bytes
+        &self.bytes
     }
 
     /// The texts, from the first.
@@ -68,7 +60,7 @@ impl Texts {
         ensures { result ≡ self.now }
     {
         Walk {
-            pieces: &self.pieces,
+            lens: &self.lens,
             bytes: &self.bytes,
         }
     }
@@ -77,7 +69,7 @@ impl Texts {
 /// Texts to come.
 #[derive(Drop)]
 pub struct Walk<'a> {
-    pieces: &'a [Piece],
+    lens: &'a [usize],
     bytes: &'a [u8],
 }
 
@@ -87,21 +79,21 @@ impl<'a> Model for Walk<'a> {
 
     ghost Value = { List (List ℕ) };
 
-    ghost view = { λ w. cut w.pieces.now w.bytes.now };
+    ghost view = { λ w. cut w.lens.now w.bytes.now };
 
-    ghost invariant = { λ w. total w.pieces.now ≡ length w.bytes.now };
+    ghost invariant = { λ w. total w.lens.now ≡ length w.bytes.now };
 }
 
 impl<'a> Walk<'a> {
-    /// The next text, with the number of its line.
-    pub fn next_text(&mut self) -> Option<(u64, &'a [u8])>
-        ensures some { IfSome result (λ next. self.old ≡ next.1.now ∷ self.new) }
+    /// The next text.
+    pub fn next_text(&mut self) -> Option<&'a [u8]>
+        ensures some { IfSome result (λ text. self.old ≡ text.now ∷ self.new) }
         ensures none { result ≡ None → self.old ≡ [] }
     {
-        let (piece, pieces) = self.pieces.split_first()?;
-        let (text, bytes) = self.bytes.split_at(piece.len);
-        self.pieces = pieces;
+        let (len, lens) = self.lens.split_first()?;
+        let (text, bytes) = self.bytes.split_at(*len);
+        self.lens = lens;
         self.bytes = bytes;
-        Some((piece.line, text))
+        Some(text)
     }
 }

@@ -1,12 +1,12 @@
 //! The lanes' threads.
-ghost use Rattle.std.specs.Prelude.{◌≡◌, IfOk, length};
+ghost use Rattle.std.specs.Prelude.{◌≡◌, IfOk};
 ghost use Rattle.moc_shared.specs.Clients.{AreNewClients};
+ghost use Rattle.moc_script.specs.Private.Input.{lane_lines};
 ghost use Rattle.moc_script.specs.Private.LaneEnds.{IsLaneEnd, AreLaneEnds};
 ghost use Rattle.moc_script.specs.Private.Promises.{ArePromised};
 
 use crate::crews::gate::Gate;
 use crate::crews::lane::{LaneEnd, Refused, work};
-use crate::crews::texts::Texts;
 use moc_shared::{Client, SharedMap};
 use std::alloc::Global;
 use std::marker::{Send, Sync};
@@ -21,18 +21,22 @@ pub enum LanesError {
     Spawn,
     /// Memory was refused at this line.
     Memory { line: u64 },
+    /// Memory was refused behind the last line.
+    MemoryBehind,
 }
 
-/// What a lane is given: the map, its lines and its number.
+/// What a lane is given: the map, the script, how many lanes answer it, and its own number.
 #[derive(Clone, Copy)]
 pub struct Task<'a> {
     pub map: &'a SharedMap,
-    pub lines: &'a Texts,
+    pub input: &'a [u8],
+    pub lanes: u8,
     pub lane: u8,
 }
 
 impl<'a> Promise<Result<LaneEnd, Refused>> for Task<'a> {
-    ghost kept_by = { λ task end. IsLaneEnd task.map.now task.lane task.lines.now end };
+    ghost kept_by = { λ task end.
+        IsLaneEnd task.map.now task.lane (lane_lines task.lanes task.input.now task.lane) end };
 }
 
 /// Starts a thread for each client.
@@ -42,21 +46,27 @@ fn start<'s, E, R: Wait + Sync, G: Gate + Sync>(
     gate: &'s G,
     scope: &Scope<'s, E>,
     map: &'s SharedMap,
-    lanes: &'s [Texts],
+    input: &'s [u8],
+    lanes: u8,
     clients: Vec<Client>,
 ) -> Result<Vec<PromisedHandle<Result<LaneEnd, Refused>, Task<'s>>>, LanesError>
-    requires clients { AreNewClients map.now clients.items (length lanes.now) }
-    ensures { IfOk result (λ handles. ArePromised map.now lanes.now handles.items) }
+    requires clients { AreNewClients map.now clients.items lanes }
+    ensures { IfOk result (λ handles. ArePromised map.now lanes input.now handles.items) }
 {
-    let Ok(mut handles) = Vec::with_capacity(alloc, lanes.len()) else {
+    let Ok(mut handles) = Vec::with_capacity(alloc, usize::from(lanes)) else {
         return Err(LanesError::Memory { line: 0 });
     };
     for client in clients {
         let lane = client.number();
-        let lines = &lanes[usize::from(lane)];
-        let task = Task { map, lines, lane };
-        let Ok(handle) = scope.spawn_with(task, move || work(rt, alloc, gate, map, lines, client))
-        else {
+        let task = Task {
+            map,
+            input,
+            lanes,
+            lane,
+        };
+        let Ok(handle) = scope.spawn_with(task, move || {
+            work(rt, alloc, gate, map, input, lanes, client)
+        }) else {
             return Err(LanesError::Spawn);
         };
         handles.push_reserved(handle);
@@ -70,20 +80,21 @@ pub fn run_lanes<R: Threads + Wait + Sync, G: Gate + Sync>(
     alloc: Global,
     gate: &G,
     map: &SharedMap,
-    lanes: &[Texts],
+    input: &[u8],
+    lanes: u8,
     clients: Vec<Client>,
 ) -> Result<Vec<Result<LaneEnd, Refused>>, LanesError>
-    requires clients { AreNewClients map.now clients.items (length lanes.now) }
-    ensures { IfOk result (λ ends. AreLaneEnds map.now lanes.now ends.items) }
+    requires clients { AreNewClients map.now clients.items lanes }
+    ensures { IfOk result (λ ends. AreLaneEnds map.now lanes input.now ends.items) }
 {
     thread::scope(
         thread::scope_env(),
         rt,
         |scope| -> Result<Vec<Result<LaneEnd, Refused>>, LanesError>
-            requires { AreNewClients map.now clients.items (length lanes.now) }
-            ensures { IfOk result (λ ends. AreLaneEnds map.entry.now lanes.entry.now ends.items) }
+            requires { AreNewClients map.now clients.items lanes }
+            ensures { IfOk result (λ ends. AreLaneEnds map.entry.now lanes input.entry.now ends.items) }
         {
-            let handles = start(rt, alloc, gate, scope, map, lanes, clients)?;
+            let handles = start(rt, alloc, gate, scope, map, input, lanes, clients)?;
             match thread::join_promised(rt, handles) {
                 Ok(ends) => Ok(ends),
                 Err(_) => Err(LanesError::Memory { line: 0 }),

@@ -1,10 +1,9 @@
 -- One more end, and all of them.
-use Rattle.std.specs.Prelude.{◌≡◌, ℕ, ◌+◌, ◌<◌, get_or, vec_items, vec_len, List, [], length, Ok, Result}
+use Rattle.std.specs.Prelude.{◌≡◌, ◌+◌, ◌<◌, get_or, vec_items, vec_len, length, Ok}
 use Rattle.std.specs.Vec.Iter.{into_iter_items, into_iter_len}
 use Rattle.std.proofs.Common.{rules, arith, below_more, ap, ◌∙◌, sym, subst}
 use Rattle.std.proofs.lemmas.List.{get_or_default}
-use Rattle.moc_script.specs.declared.crews.lane.LaneEnd.{LaneEnd}
-use Rattle.moc_script.specs.declared.crews.lane.Refused.{Refused}
+use Rattle.moc_script.specs.Private.Input.{lane_lines}
 use Rattle.moc_script.specs.Private.LaneEnds.{IsLaneEnd}
 use Rattle.moc_script.proofs.crews.gathering.all_done.Goals as goal
 
@@ -18,9 +17,9 @@ loop-end-preserved c =
     let ends = vec_items c.args.ends in
     let some : 0 < into_iter_len rest = search rules in
     let grown : vec_len c.push.new.self ≡ done + 1 = search rules in
-    let first : get_or (into_iter_items rest) 0 c.in-Some.end ≡ c.in-Some.end = grind rules in
+    let first : get_or (into_iter_items rest) 0 c.in-Some-end.end ≡ c.in-Some-end.end = grind rules in
     let zero_more : done + 0 ≡ done = omega arith in
-    let found : get_or ends done c.in-Some.end ≡ Ok c.in-Ok.end = ap (λ n. get_or ends n c.in-Some.end) (sym zero_more) ∙ sym (was.1 0 c.in-Some.end some) ∙ first ∙ c.in-Ok.is in
+    let found : get_or ends done c.in-Some-end.end ≡ Ok c.in-Ok.end = ap (λ n. get_or ends n c.in-Some-end.end) (sym zero_more) ∙ sym (was.1 0 c.in-Some-end.end some) ∙ first ∙ c.in-Ok.is in
     let inside : done < length ends = omega (arith, was.0, c.args.ends.ok) in (
       search rules,
       (λ k d below.
@@ -29,17 +28,17 @@ loop-end-preserved c =
           shifted ∙ was.1 (k + 1) d (search rules) ∙ ap (λ n. get_or ends n d) place),
       λ k d e below. below_more (λ i. get_or ends i e ≡ Ok (get_or all i d)) done
           (λ i low. was.2 i d e low ∙ ap Ok (sym (c.in-Ok-push.ensures.by_index.0 i d low)))
-          (get_or_default ends done e c.in-Some.end inside ∙ found ∙ ap Ok (sym (c.in-Ok-push.ensures.by_index.1 d (search rules)))) k (omega arith),
+          (get_or_default ends done e c.in-Some-end.end inside ∙ found ∙ ap Ok (sym (c.in-Ok-push.ensures.by_index.1 d (search rules)))) k (omega arith),
     )
 
 pub returns : goal.returns
-returns c map lanes ends =
+returns c map lanes input ends =
     let was = c.loop-end.invariant in
     let done = vec_len c.loop-end.done in
     let none : into_iter_len c.loop-end.end-iterator ≡ 0 = search rules in
-    let all : length c.loop-end.done.items ≡ length lanes = omega (arith, was.0, none, ends.0, c.args.ends.ok, c.loop-end.done.ok) in (
+    let all : length c.loop-end.done.items ≡ lanes = omega (arith, was.0, none, ends.0, c.args.ends.ok, c.loop-end.done.ok) in (
       all,
       λ lane d low.
           let inside : lane < done = omega (arith, c.loop-end.done.ok) in
-          subst (IsLaneEnd map lane (get_or lanes lane [])) (was.2 lane d (Ok d) inside) (ends.1 lane (Ok d) low),
+          subst (IsLaneEnd map lane (lane_lines lanes input lane)) (was.2 lane d (Ok d) inside) (ends.1 lane (Ok d) low),
     )

@@ -1,5 +1,5 @@
 -- The line asks for the commands that it says.
-use Rattle.std.proofs.Common.{◌≡◌, ◌∙◌, refl, sym, ap, inr, [], ◌∷◌, ◌++◌}
+use Rattle.std.proofs.Common.{◌≡◌, ◌∙◌, refl, ap, inr, [], ◌∷◌, ◌++◌}
 use Rattle.moc_script.specs.Replies.{replies_text}
 use Rattle.moc_shared.specs.Batches.{BatchEntry}
 use Rattle.moc_shared.specs.History.{entry}
@@ -14,6 +14,6 @@ returns-in_ok-replies-in-Ok-clause-answers g c =
     let text : c.push_reply_line.new.text.items ≡ replies_text e.reply ++ 10 ∷ [] =
     told ∙ ap (λ l. l ++ (replies_text c.as_slice.result.now ++ 10 ∷ [])) c.clear.ensures.items ∙ ap (λ l. replies_text l ++ 10 ∷ []) c.as_slice.ensures in (
       e ∷ [],
-      inr (e, refl, asks_line c.args.line.now e c.push_reply_line.new.text.items (sym c.is_blank_text.ensures ∙ c.if-is_blank_text.false) c.in-Ok.ensures text),
+      inr (e, refl, asks_line c.args.line.now e c.push_reply_line.new.text.items c.requires.said c.in-Ok.ensures text),
       λ made was. call_made c.args.client.now.number e c.args.client.now.seat.me.0.mine c.apply.new.client.seat.me.0.mine refl (waited_own c.args.map.now e c.args.client.now.seat.me.0.mine c.apply.new.client.seat.me.0.mine c.in_ok-replies-in-Ok.ensures.ok) made was,
     )) c.push_reply_line.ensures

@@ -3,6 +3,7 @@ use Rattle.std.proofs.Common.{◌≡◌, ◌++◌, ℕ, List, length}
 use Rattle.moc_shared.specs.Batches.{BatchEntry, answer as object}
 use Rattle.moc_shared.specs.Clients.{number_of, record_of, IsClientOf}
 use Rattle.moc_script.specs.Scripts.{script_rules}
+use Rattle.moc_script.specs.Private.Input.{lane_lines, lines_left}
 use Rattle.moc_script.specs.Private.LaneWork.{Does}
 use Rattle.moc_script.specs.Private.LaneEnds.{Made}
 use Rattle.moc_script.proofs.crews.lane.work.Given as goal
@@ -11,9 +12,9 @@ abbrev pub invariant-loop-number : goal.invariant-loop-number
 invariant-loop-number g l = record {
   of_map : IsClientOf l.map l.client;
   number : number_of l.client ≡ l.lane;
-  done : (lines : List (List ℕ)) × (made : List BatchEntry) × (l.lines ≡ lines ++ l.left) × Made l.lane made (record_of l.client)
+  done : (lines : List (List ℕ)) × (made : List BatchEntry) × (lane_lines l.lanes l.input l.lane ≡ lines ++ lines_left l.left) × Made l.lane made (record_of l.client)
       × Does object script_rules lines made l.answers;
 }
 
 abbrev pub decreases-loop-number : goal.decreases-loop-number
-decreases-loop-number g l = length l.left
+decreases-loop-number g l = length (lines_left l.left)

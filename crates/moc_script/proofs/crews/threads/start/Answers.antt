@@ -1,9 +1,8 @@
 -- One more thread.
-use Rattle.std.specs.Prelude.{◌≡◌, ℕ, ◌+◌, ◌-◌, ◌*◌, ◌<◌, get_or, vec_items, vec_len, List, [], ◌∷◌, ◌++◌, length}
+use Rattle.std.specs.Prelude.{◌≡◌, ℕ, ◌+◌, ◌-◌, ◌<◌, get_or, vec_items, vec_len, List, [], ◌∷◌, ◌++◌, length}
 use Rattle.std.specs.Vec.Iter.{into_iter_items, into_iter_len}
 use Rattle.std.proofs.Common.{rules, arith, below_more, ap, ◌∙◌, sym, subst}
-use Rattle.std.proofs.lemmas.List.{get_or_default, get_or_append_left, get_or-append_right}
-use Rattle.moc_shared.specs.declared.client.Client.{Client}
+use Rattle.std.proofs.lemmas.List.{get_or_append_left, get_or-append_right}
 use Rattle.moc_shared.specs.Clients.{IsNewClient}
 use Rattle.moc_script.specs.Private.Promises.{IsTaskOf}
 use Rattle.moc_script.proofs.crews.threads.start.Goals as goal
@@ -32,17 +31,15 @@ loop-client-preserved g c =
           let place : done + (k + 1) ≡ vec_len c.push_reserved.new.self + k = omega arith in
           subst (λ (n : ℕ). IsNewClient map n (get_or (into_iter_items left) k d)) place
           (subst (IsNewClient map (done + (k + 1))) (sym shifted) (was.1 (k + 1) d (search rules)))),
-      (λ k d below. below_more (λ i. IsTaskOf c.args.map.now c.args.lanes.now i (get_or all i d).promise) done
-          (λ i low. let e = ap (λ l. get_or l i d) c.push_reserved.ensures.items ∙ get_or_append_left (vec_items c.loop-client.handles) _ d i (omega (arith, low, c.loop-client.handles.ok)) in subst (λ h. IsTaskOf c.args.map.now c.args.lanes.now i h.promise) (sym e) (was.2 i d low))
-          (subst (λ h. IsTaskOf c.args.map.now c.args.lanes.now done h.promise) (sym (ap (λ l. get_or l done d) c.push_reserved.ensures.items ∙ pushed_here (vec_items c.loop-client.handles) _ d done (omega (arith, c.loop-client.handles.ok))))
+      (λ k d below. below_more (λ i. IsTaskOf c.args.map.now c.args.lanes c.args.input.now i (get_or all i d).promise) done
+          (λ i low. let e = ap (λ l. get_or l i d) c.push_reserved.ensures.items ∙ get_or_append_left (vec_items c.loop-client.handles) _ d i (omega (arith, low, c.loop-client.handles.ok)) in subst (λ h. IsTaskOf c.args.map.now c.args.lanes c.args.input.now i h.promise) (sym e) (was.2 i d low))
+          (subst (λ h. IsTaskOf c.args.map.now c.args.lanes c.args.input.now done h.promise) (sym (ap (λ l. get_or l done d) c.push_reserved.ensures.items ∙ pushed_here (vec_items c.loop-client.handles) _ d done (omega (arith, c.loop-client.handles.ok))))
           (let told = c.in-Ok-spawn_with.ensures.ok in
-          let inside : done < length c.args.lanes.now = omega arith in
-          let place : c.from.result ≡ done = c.from.ensures ∙ lane_is in
           record {
             map_is = ap (λ t. t.map.now) told;
+            input_is = ap (λ t. t.input.now) told;
+            lanes_are = ap (λ t. t.lanes) told;
             lane_is = ap (λ t. t.lane) told ∙ lane_is;
-            lines_are = ap (λ t. t.lines.now) told
-                ∙ (c.index-lanes-from.is ∙ ap (λ n. get_or c.args.lanes.now n c.index-lanes-from.result) place ∙ get_or_default c.args.lanes.now done c.index-lanes-from.result [] inside);
           }))
           k (omega arith)),
       rw c.push_reserved.ensures.capacity was.3,

@@ -1,5 +1,5 @@
 -- Each turn of the loop, and each way out of it.
-use Rattle.std.proofs.Common.{◌≡◌, ◌∙◌, sym, refl, ap, arith}
+use Rattle.std.proofs.Common.{◌≡◌, ◌∙◌, sym, refl, arith}
 use Rattle.std.proofs.KnownBytes.{Consumes-nil}
 use Rattle.moc_script.proofs.Calls.{CallsMore-none, CallsMore-later}
 use Rattle.moc_script.proofs.Sending.{at_ok, unmarked}

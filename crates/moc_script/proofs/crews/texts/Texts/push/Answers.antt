@@ -1,20 +1,20 @@
 -- One more text.
-use Rattle.std.proofs.Common.{◌≡◌, ◌∙◌, ◌+◌, ◌++◌, ◌∷◌, [], length, sym, ap, refl, length-append}
+use Rattle.std.proofs.Common.{◌∙◌, ◌+◌, ◌++◌, ◌∷◌, [], length, sym, ap, length-append}
 use Rattle.moc_script.specs.Private.Texts.{cut, total}
 use Rattle.moc_script.proofs.TextLemmas.{cut-push, total-push}
 use Rattle.moc_script.proofs.crews.texts.Texts.push.Goals as goal
 
 pub invariant_of-self-in-Ok : goal.invariant_of-self-in-Ok
 invariant_of-self-in-Ok c =
-    let pieces = c.self.inside.pieces.items in
+    let lens = c.self.inside.lens.items in
     let bytes = c.self.inside.bytes.items in
-    ap total c.in-Ok.ensures.items ∙ total-push pieces _ ∙ ap (λ n. n + length c.args.text.now) c.self.invariant
+    ap total c.in-Ok.ensures.items ∙ total-push lens _ ∙ ap (λ n. n + length c.args.text.now) c.self.invariant
     ∙ sym (ap length c.in_ok-extend_from_slice.ensures.items ∙ length-append bytes c.args.text.now)
 
 pub returns : goal.returns
 returns c =
-    let pieces = c.self.inside.pieces.items in
+    let lens = c.self.inside.lens.items in
     let bytes = c.self.inside.bytes.items in
     ap (λ l. cut l c.extend_from_slice.new.self.items) c.in-Ok.ensures.items
-    ∙ ap (cut (pieces ++ _ ∷ [])) c.in_ok-extend_from_slice.ensures.items
-    ∙ cut-push pieces bytes c.args.text.now _ c.self.invariant refl ∙ ap (λ l. l ++ c.args.text.now ∷ []) c.self.view_is
+    ∙ ap (cut (lens ++ _ ∷ [])) c.in_ok-extend_from_slice.ensures.items
+    ∙ cut-push lens bytes c.args.text.now c.self.invariant ∙ ap (λ l. l ++ c.args.text.now ∷ []) c.self.view_is

@@ -1,7 +1,7 @@
 -- The lanes so far each have their answers, and there is room for the others.
 use Rattle.std.proofs.Common.{◌≡◌, ◌≤◌, length, take}
 use Rattle.std.specs.Prelude.{vec_items, vec_len, vec_capacity}
-use Rattle.moc_script.proofs.crews.joining.walks_of.Given as goal
+use Rattle.moc_script.proofs.crews.joining.Joiner.new.Given as goal
 
 abbrev pub invariant-loop-texts : goal.invariant-loop-texts
 invariant-loop-texts l =

@@ -1,0 +1,220 @@
+-- The answers of the lanes, joined in turn.
+use Rattle.std.proofs.Common.{◌≡◌, ◌⊎◌, inl, inr, ℕ, zero, suc, ◌+◌, ◌-◌, ◌%◌, ◌<◌, ◌≤◌, List, [], ◌∷◌, ◌++◌, length, set, get_or, Option, Result, Ok, Err, refl, sym, ap, ◌∙◌, subst, arith, append_assoc, append-nil, length-append, length-set, add-one}
+use native.Mathlib.Decide.{ℕ_discrete}
+use Rattle.std.proofs.Math.Nat.{mod-lt, mod-eq_of_lt}
+use Rattle.std.proofs.lemmas.Bool.{cases_lt}
+use Rattle.std.proofs.lemmas.List.{get_or-set_same, get_or-set_other}
+use Rattle.std.specs.Io.KnownBytes.{Appends}
+use Rattle.std.specs.Result.{IsErr}
+use Rattle.std.proofs.lemmas.List.{get_or_default}
+use Rattle.moc_script.specs.Merges.{in_lane, dealt}
+use Rattle.moc_ranges.specs.Blocks.{joining}
+use Rattle.moc_script.specs.Runs.{Sends}
+use Rattle.moc_script.specs.Private.Joining.{AreForLines, IsJoined, SendsTurns, JoinsTo}
+use Rattle.moc_script.proofs.LaneLists.{dealt-alone, dealt-here, dealt-else, next_left, next_rest}
+use Rattle.moc_script.proofs.Sending.{Appends-none, Appends-both, Sends-front, Sends-fault, Sends-ok, on_err}
+
+abbrev Texts : Type 0
+Texts = List (List ℕ)
+
+joining-push : (texts : List (List ℕ)) (text : List ℕ) → joining (texts ++ text ∷ []) ≡ joining texts ++ text
+joining-push [] text = append-nil text
+joining-push (t ∷ texts) text = ap (λ l. t ++ l) (joining-push texts text) ∙ sym (append_assoc t (joining texts) text)
+
+-- one more answer
+pub join_more : (lanes lane count : ℕ) (all left : List Texts) (new : Texts) (text answer : List ℕ) → IsJoined lanes all left count text → lane < lanes
+    → count % lanes ≡ lane → get_or left lane [] ≡ answer ∷ new → IsJoined lanes all (set left lane new) (count + 1) (text ++ answer)
+join_more lanes lane count all left new text answer was low turn here = record {
+  done = was.done ++ answer ∷ [];
+  text_is = ap (λ l. l ++ answer) was.text_is ∙ sym (joining-push was.done answer);
+  count_is = length-append was.done (answer ∷ []) ∙ ap (λ n. n + 1) was.count_is;
+  wide = length-set left lane new ∙ was.wide;
+  parts = λ m inside. cases m inside (ℕ_discrete m lane);
+}
+  where
+    at : length was.done % lanes ≡ lane
+    at = ap (λ n. n % lanes) was.count_is ∙ turn
+
+    cases : (m : ℕ) → m < lanes → Dec (m ≡ lane) → get_or all m [] ≡ in_lane m (dealt lanes (was.done ++ answer ∷ [])) ++ get_or (set left lane new) m []
+    cases m inside (yes is) =
+        subst (λ (n : ℕ). get_or all n [] ≡ in_lane n (dealt lanes (was.done ++ answer ∷ [])) ++ get_or (set left lane new) n []) (sym is)
+        (was.parts lane low ∙ ap (λ l. in_lane lane (dealt lanes was.done) ++ l) here
+        ∙ sym (append_assoc (in_lane lane (dealt lanes was.done)) (answer ∷ []) new)
+        ∙ ap (λ l. l ++ new) (sym (dealt-here lanes lane was.done answer at))
+        ∙ ap (λ (q : Texts). in_lane lane (dealt lanes (was.done ++ answer ∷ [])) ++ q) (sym (get_or-set_same left lane new [] (rw was.wide low))))
+    cases m inside (no other) =
+        was.parts m inside ∙ ap (λ l. l ++ get_or left m []) (sym (dealt-else lanes m was.done answer (λ q. other (q ∙ at))))
+        ∙ ap (λ (q : Texts). in_lane m (dealt lanes (was.done ++ answer ∷ [])) ++ q) (sym (get_or-set_other left lane m new [] other))
+
+module _ (lanes count turn : ℕ) (all left : List Texts) (text : List ℕ) (some : 0 < lanes) (for : AreForLines lanes all count) (was : IsJoined lanes all left turn text) where
+  long : (lane : ℕ) → lane < lanes → length (get_or all lane []) ≡ length (in_lane lane (dealt lanes was.done)) + length (get_or left lane [])
+  long lane low = ap length (was.parts lane low) ∙ length-append (in_lane lane (dealt lanes was.done)) (get_or left lane [])
+
+  -- no more answers are joined than there are lines
+  pub not_more : turn ≤ count
+  not_more = elim (cases_lt count turn) [
+    | inl more ↦ let lane : ℕ = count % lanes in let low : lane < lanes = mod-lt count some in
+        let less = next_left lanes lane for.0 was.done (omega (arith, for.1, was.count_is)) (ap (λ n. n % lanes) for.1) in absurd (omega (arith, less, long lane low, for.2 lane low))
+    | inr few ↦ few
+  ]
+
+  -- while answers are to come, the next lane has one
+  pub some_left : turn < count → get_or left (turn % lanes) [] ≡ [] → ⊥
+  some_left less none =
+      let lane : ℕ = turn % lanes in
+      let low : lane < lanes = mod-lt turn some in
+      let more = next_left lanes lane was.done for.0 (omega (arith, was.count_is, for.1)) (ap (λ n. n % lanes) was.count_is) in
+      omega (arith, long lane low, ap length none, for.2 lane low, more)
+
+  -- where the next lane has none left, all are joined
+  pub all_joined : get_or left (turn % lanes) [] ≡ [] → turn ≡ count
+  all_joined none = elim (cases_lt turn count) [ inl less ↦ absurd (some_left less none) | inr past ↦ let few = not_more in omega (arith, few) ]
+
+-- the answers that are still to come
+pub rest_of : (k lanes count turn : ℕ) (all left : List Texts) (text : List ℕ) → 0 < lanes → AreForLines lanes all count → IsJoined lanes all left turn text → turn + k ≡ count
+    → (rest : List ℕ) × (left' : List Texts) × IsJoined lanes all left' count (text ++ rest)
+rest_of zero lanes count turn all left text some for was sum =
+    let same : turn ≡ count = omega arith in
+    ([], left, subst (λ (n : ℕ). IsJoined lanes all left n (text ++ [])) same (subst (λ (t : List ℕ). IsJoined lanes all left turn t) (sym (append-nil text)) was))
+rest_of (suc k) lanes count turn all left text some for was sum =
+    by (get_or left (turn % lanes) []) refl (λ answer new is.
+    let more = join_more lanes (turn % lanes) turn all left new text answer was (mod-lt turn some) refl is in
+    let rest = rest_of k lanes count (turn + 1) all (set left (turn % lanes) new) (text ++ answer) some for more (omega arith) in
+    (answer ++ rest.0, rest.1, subst (λ (t : List ℕ). IsJoined lanes all rest.1 count t) (append_assoc text answer rest.0) rest.2))
+  where
+    Rest : Type 0
+    Rest = (rest : List ℕ) × (left' : List Texts) × IsJoined lanes all left' count (text ++ rest)
+
+    by : (here : Texts) → get_or left (turn % lanes) [] ≡ here → ((answer : List ℕ) (new : Texts) → get_or left (turn % lanes) [] ≡ answer ∷ new → Rest) → Rest
+    by [] none next = absurd (some_left lanes count turn all left text some for was (omega arith) none)
+    by (answer ∷ new) is next = next answer new is
+
+-- what is joined so far, is written but for what is pending
+pub record Turns (all walks : List Texts) (turn : ℕ) (written written' : Option (List ℕ)) (pending : List ℕ) : Type 0 where
+  pub count : ℕ
+  pub text : List ℕ
+  pub sent : List ℕ
+  pub joined : IsJoined (length all) all walks count text
+  pub at : count % length all ≡ turn
+  pub appended : Appends written written' sent
+  pub parts : text ≡ sent ++ pending
+
+-- nothing is joined yet
+pub Turns-start : (all : List Texts) (written : Option (List ℕ)) → 0 < length all → Turns all all 0 written written []
+Turns-start all written some = record {
+  count = 0;
+  text = [];
+  sent = [];
+  joined = record { done = []; text_is = refl; count_is = refl; wide = refl; parts = λ lane low. refl };
+  at = mod-eq_of_lt some;
+  appended = Appends-none written;
+  parts = refl;
+}
+
+module _ (all walks : List Texts) (turn : ℕ) (w0 w w' : Option (List ℕ)) (pending : List ℕ) (t : Turns all walks turn w0 w pending) where
+  -- one more answer is sent
+  pub Turns-more : {E : Type 0} (turn' : ℕ) (pending' answer : List ℕ) (new : Texts) → turn < length all → get_or walks turn [] ≡ answer ∷ new
+      → Sends {E = E} (pending ++ answer) w pending' w' (Ok tt) → ((turn + 1 < length all) × (turn' ≡ turn + 1)) ⊎ ((turn + 1 ≡ length all) × (turn' ≡ 0))
+      → Turns all (set walks turn new) turn' w0 w' pending'
+  Turns-more turn' pending' answer new low here s next = record {
+    count = t.count + 1;
+    text = t.text ++ answer;
+    sent = t.sent ++ s.sent;
+    joined = join_more (length all) turn t.count all walks new t.text answer t.joined low t.at here;
+    at = ap (λ n. n % length all) (add-one t.count) ∙ elim (next_rest (length all) t.count (omega arith)) [
+      | inl n ↦ elim next [ inl f ↦ omega (arith, n.1, f.1, t.at) | inr f ↦ absurd (omega (arith, n.0, f.0, t.at)) ]
+      | inr n ↦ elim next [ inl f ↦ absurd (omega (arith, n.0, f.0, t.at)) | inr f ↦ n.1 ∙ sym f.1 ]
+    ];
+    appended = Appends-both w0 w w' t.sent s.sent t.appended s.appended;
+    parts = ap (λ l. l ++ answer) t.parts ∙ append_assoc t.sent pending answer ∙ ap (λ l. t.sent ++ l) (s.parts ∙ ap (λ l. s.sent ++ l) (sym s.pending)) ∙ sym (append_assoc t.sent s.sent pending');
+  }
+
+  -- all answers are sent
+  pub Turns-end : {E : Type 0} → 0 < length all → get_or walks turn [] ≡ [] → SendsTurns {E = E} all w0 pending w (Ok tt)
+  Turns-end some none = record {
+    sent = t.sent;
+    appended = t.appended;
+    whole = λ count for.
+        let same : t.count ≡ count = all_joined (length all) count t.count all walks t.text some for t.joined (ap (λ n. get_or walks n []) t.at ∙ none) in (
+          pending,
+          record { left = walks; joined = subst (λ (n : ℕ). IsJoined (length all) all walks n (t.sent ++ pending)) same (subst (λ (x : List ℕ). IsJoined (length all) all walks t.count x) t.parts t.joined) },
+          refl,
+        );
+  }
+
+  -- the writer failed
+  pub Turns-fail : {E F : Type 0} (pending' pending'' answer : List ℕ) (new : Texts) (r : Result (Unit {0}) E) (r' : Result (Unit {0}) F) → IsErr r' → turn < length all → get_or walks turn [] ≡ answer ∷ new
+      → Sends {E = E} (pending ++ answer) w pending' w' r → SendsTurns {E = F} all w0 pending'' w' r'
+  Turns-fail pending' pending'' answer new r r' is low here s = record {
+    sent = t.sent ++ s.sent;
+    appended = Appends-both w0 w w' t.sent s.sent t.appended s.appended;
+    whole = λ count for.
+        let some : 0 < length all = omega arith in
+        let more = join_more (length all) turn t.count all walks new t.text answer t.joined low t.at here in
+        let few = not_more (length all) count (t.count + 1) all (set walks turn new) (t.text ++ answer) some for more in
+        let rest = rest_of (count - (t.count + 1)) (length all) count (t.count + 1) all (set walks turn new) (t.text ++ answer) some for more (omega (arith, few)) in
+        let whole : (t.text ++ answer) ++ rest.0 ≡ (t.sent ++ s.sent) ++ (s.rest ++ rest.0) =
+        ap (λ l. (l ++ answer) ++ rest.0) t.parts ∙ ap (λ l. l ++ rest.0) (append_assoc t.sent pending answer ∙ ap (λ l. t.sent ++ l) s.parts ∙ sym (append_assoc t.sent s.sent s.rest))
+        ∙ append_assoc (t.sent ++ s.sent) s.rest rest.0 in
+        (s.rest ++ rest.0, record { left = rest.1; joined = subst (λ (x : List ℕ). IsJoined (length all) all rest.1 count x) whole rest.2 }, on_err _ r' is);
+  }
+
+-- the writer failed before the text behind the answers
+pub joins_fail : {E F : Type 0} (all : List Texts) (behind pending : List ℕ) (w w' : Option (List ℕ)) (r : Result (Unit {0}) E) (r' : Result (Unit {0}) F) → IsErr r' → SendsTurns {E = E} all w pending w' r → JoinsTo {E = F} all behind w w' r'
+joins_fail all behind pending w w' r r' is turns count for =
+    let h = turns.whole count for in
+    (turns.sent ++ h.0, h.1, record { sent = turns.sent; rest = h.0 ++ behind; parts = append_assoc turns.sent h.0 behind; appended = turns.appended; pending = on_err _ r' is })
+
+-- the text behind the answers is sent, with what is pending of them
+pub joins_then : {E F : Type 0} (all : List Texts) (behind pending : List ℕ) (a b c : Option (List ℕ)) (r : Result (Unit {0}) F) → SendsTurns {E = E} all a pending b (Ok tt)
+    → Sends {E = F} (pending ++ behind) b [] c r → JoinsTo {E = F} all behind a c r
+joins_then all behind pending a b c r turns sends count for =
+    let h = turns.whole count for in
+    let whole : turns.sent ++ (pending ++ behind) ≡ (turns.sent ++ h.0) ++ behind = ap (λ l. turns.sent ++ (l ++ behind)) (sym h.2) ∙ sym (append_assoc turns.sent h.0 behind) in
+    (turns.sent ++ h.0, h.1, subst (λ (l : List ℕ). Sends l a [] c r) whole (Sends-front turns.sent (pending ++ behind) [] a b c r turns.appended sends))
+
+-- the texts of a lane that is alone are joined as they stand
+pub join_alone : (texts : Texts) (text : List ℕ) (count : ℕ) (all : List Texts) → all ≡ texts ∷ [] → AreForLines 1 all count → text ≡ joining texts → IsJoined 1 all ([] ∷ []) count text
+join_alone texts text count all alone (lines, many, shared) is =
+    let here : get_or all 0 [] ≡ texts = ap (λ l. get_or l 0 []) alone in
+    record {
+      done = texts;
+      text_is = is;
+      count_is = sym (ap length here) ∙ shared 0 (omega arith) ∙ ap length (dealt-alone 0 lines) ∙ many;
+      wide = refl;
+      parts = λ m inside.
+          let first : 0 ≡ m = omega arith in
+          subst (λ (n : ℕ). get_or all n [] ≡ in_lane n (dealt 1 texts) ++ get_or ([] ∷ []) n []) first
+          (here ∙ sym (append-nil (in_lane 0 (dealt 1 texts)) ∙ dealt-alone 0 texts));
+    }
+
+only_one : {A : Type 0} (xs : List A) (d : A) → length xs ≡ 1 → xs ≡ get_or xs 0 d ∷ []
+only_one [] d one = absurd (omega arith)
+only_one (x ∷ []) d one = refl
+only_one (x ∷ y ∷ xs) d one = absurd (omega arith)
+
+-- the same, written with the text behind them
+pub joins_alone : {E : Type 0} (all : List Texts) (text behind : List ℕ) (a b : Option (List ℕ)) (r : Result (Unit {0}) E) → length all ≡ 1 → text ≡ joining (get_or all 0 [])
+    → Sends {E = E} (text ++ behind) a [] b r → JoinsTo {E = E} all behind a b r
+joins_alone all text behind a b r one is sends count for = (
+  text,
+  record {
+    left = [] ∷ [];
+    joined = subst (λ (n : ℕ). IsJoined n all ([] ∷ []) count text) (sym one) (join_alone (get_or all 0 []) text count all (only_one all [] one) (subst (λ (n : ℕ). AreForLines n all count) one for) is);
+  },
+  sends,
+)
+
+-- the same outcome, whatever its fault is called
+pub joins_ok : {E F : Type 0} (all : List Texts) (behind : List ℕ) (a b : Option (List ℕ)) → JoinsTo {E = E} all behind a b (Ok tt) → JoinsTo {E = F} all behind a b (Ok tt)
+joins_ok all behind a b joins count for = let h = joins count for in (h.0, h.1, Sends-ok (h.0 ++ behind) [] a b h.2)
+
+pub joins_fault : {E F : Type 0} (all : List Texts) (behind : List ℕ) (a b : Option (List ℕ)) (e : E) (f : F) → JoinsTo {E = E} all behind a b (Err e) → JoinsTo {E = F} all behind a b (Err f)
+joins_fault all behind a b e f joins count for = let h = joins count for in (h.0, h.1, Sends-fault (h.0 ++ behind) [] [] a b (Err e) (Err f) refl h.2)
+
+-- what the next lane has
+pub next_has : (walks : List Texts) (turn : ℕ) (old new : Texts) (answer : List ℕ) → turn < length walks → old ≡ get_or walks turn old → old ≡ answer ∷ new → get_or walks turn [] ≡ answer ∷ new
+next_has walks turn old new answer low here some = sym (here ∙ get_or_default walks turn old [] low) ∙ some
+
+pub next_none : (walks : List Texts) (turn : ℕ) (old : Texts) → turn < length walks → old ≡ get_or walks turn old → old ≡ [] → get_or walks turn [] ≡ []
+next_none walks turn old low here none = sym (here ∙ get_or_default walks turn old [] low) ∙ none

@@ -1,0 +1,24 @@
+-- The ways in which the writing ends.
+use Rattle.std.proofs.Common.{List, ℕ, [], ◌++◌, subst}
+use Rattle.moc_script.specs.Runs.{Sends}
+use Rattle.moc_script.proofs.Sending.{Sends-fault, Sends-then}
+use Rattle.moc_script.proofs.Joinings.{joins_fail, joins_then}
+use Rattle.moc_script.proofs.crews.joining.Joiner.write.Goals as goal
+
+pub returns-in_err-write_turns-clause-sends : goal.returns-in_err-write_turns-clause-sends
+returns-in_err-write_turns-clause-sends g c =
+    joins_fail c.args.self.walks.items c.args.behind.now c.write_turns.new.self.pending.items _ _ c.write_turns.result c.from_residual.result c.from_residual.ensures.0 c.write_turns.ensures.sends
+
+pub returns-in_err-send-clause-sends : goal.returns-in_err-send-clause-sends
+returns-in_err-send-clause-sends g c =
+    let pending = c.write_turns.new.self.pending.items in
+    joins_then c.args.self.walks.items c.args.behind.now pending _ _ _ c.from_residual-in_err-send.result c.in_ok-write_turns.ensures.sends
+    (Sends-fault (pending ++ c.args.behind.now) c.send.new.pending.items [] _ _ c.send.result c.from_residual-in_err-send.result c.from_residual-in_err-send.ensures.0 c.send.ensures.sends)
+
+pub returns-clause-sends : goal.returns-clause-sends
+returns-clause-sends g c =
+    let pending = c.write_turns.new.self.pending.items in
+    let last = c.send.new.pending.items in
+    joins_then c.args.self.walks.items c.args.behind.now pending _ _ _ c.write_all.result c.in_ok-write_turns.ensures.sends
+    (Sends-then (pending ++ c.args.behind.now) last [] (g.W.Sink.written c.write_turns.new.writer) (g.W.Sink.written c.send.new.writer) (g.W.Sink.written c.write_all.new.writer) c.write_all.result c.in_ok-send.ensures.sends
+    (subst (λ (l : List ℕ). Sends l (g.W.Sink.written c.send.new.writer) [] (g.W.Sink.written c.write_all.new.writer) c.write_all.result) c.deref.ensures.value c.write_all.ensures.sends))

@@ -1,0 +1,40 @@
+-- The line that is begun is too long, goes on, or ends.
+use Rattle.std.proofs.Common.{◌≡◌, ◌∙◌, ◌+◌, ◌++◌, ℕ, List, length, sym, ap, subst, arith, length-drop}
+use Rattle.std.specs.List.{count_by, position_or_len}
+use Rattle.moc_text.specs.Lines.{is_line_feed}
+use Rattle.moc_script.specs.Private.Input.{IsHeld}
+use Rattle.moc_script.proofs.Reading.{held_long, held_lines, held_more, some_line_feed}
+use Rattle.moc_script.proofs.crews.reading.Script.add.Goals as goal
+
+pub returns-then-first-before-clause-fails : goal.returns-then-first-before-clause-fails
+returns-then-first-before-clause-fails c =
+    let bytes = c.args.self.now.bytes in
+    let start : ℕ = c.args.self.now.start in
+    let place : c.first_or_len-first.result ≡ position_or_len is_line_feed c.args.chunk.now = c.first_or_len-first.ensures.value in
+    held_long bytes.items c.args.chunk.now start c.requires.held
+    (omega (arith, c.if-first-before.true, length-drop start bytes.items, c.len-before.ensures, bytes.ok, place, c.requires.held.inside)) (omega (arith, place, c.first_or_len-first.ensures.within))
+    (c.line_feeds.result + 1) (ap (λ n. n + 1) (c.line_feeds.ensures.count ∙ ap (count_by is_line_feed) c.deref.ensures.value))
+
+pub behind_last-requires : goal.behind_last-requires
+behind_last-requires c =
+    let place : c.first_or_len-first.result ≡ position_or_len is_line_feed c.args.chunk.now = c.first_or_len-first.ensures.value in
+    record { some = some_line_feed c.args.chunk.now (omega (arith, place, c.if-first-chunk.true)) }
+
+pub returns-then-first-chunk-clause-held : goal.returns-then-first-chunk-clause-held
+returns-then-first-chunk-clause-held c =
+    let bytes = c.args.self.now.bytes in
+    let start : ℕ = c.args.self.now.start in
+    let place : c.first_or_len-first.result ≡ position_or_len is_line_feed c.args.chunk.now = c.first_or_len-first.ensures.value in
+    let long : length bytes.items + c.behind_last.result ≡ c.len-before.result + c.behind_last.result = omega (arith, c.len-before.ensures, bytes.ok) in
+    subst (λ (b : List ℕ). IsHeld b (c.len-before.result + c.behind_last.result)) (sym c.in-Ok.ensures.items)
+    (subst (λ (n : ℕ). IsHeld (bytes.items ++ c.args.chunk.now) n) long (held_lines bytes.items c.args.chunk.now start c.requires.held c.behind_last.result c.behind_last.ensures
+    (omega (arith, c.if-first-before.false, length-drop start bytes.items, c.len-before.ensures, bytes.ok, place, c.requires.held.inside, c.requires.held.short)) c.requires.short))
+
+pub returns-else-first-chunk-clause-held : goal.returns-else-first-chunk-clause-held
+returns-else-first-chunk-clause-held c =
+    let bytes = c.args.self.now.bytes in
+    let start : ℕ = c.args.self.now.start in
+    let place : c.first_or_len-first.result ≡ position_or_len is_line_feed c.args.chunk.now = c.first_or_len-first.ensures.value in
+    subst (λ (b : List ℕ). IsHeld b start) (sym c.in-Ok.ensures.items)
+    (held_more bytes.items c.args.chunk.now start c.requires.held (omega (arith, c.if-first-chunk.false, place))
+    (omega (arith, c.if-first-before.false, length-drop start bytes.items, c.len-before.ensures, bytes.ok, place, c.requires.held.inside, c.requires.held.short)))

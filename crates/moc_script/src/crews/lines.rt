@@ -1,0 +1,71 @@
+//! The lines of a lane.
+ghost use Rattle.std.specs.Prelude.{◌≡◌, ◌<◌, ◌∷◌, [], None, IfSome, false, length};
+ghost use Rattle.moc_text.specs.Lines.{lines_of};
+ghost use Rattle.moc_script.specs.Words.{is_blank};
+ghost use Rattle.moc_script.specs.Private.Input.{lane_lines, lines_left};
+
+use crate::bytes::first_or_len;
+use crate::words::is_blank_text;
+
+/// The lines of a lane that are to come: of those that are not blank, each that comes once all other lanes have had one.
+#[derive(Drop)]
+pub struct LaneLines<'a> {
+    /// The lines of all lanes that were not passed yet.
+    bytes: &'a [u8],
+    /// How many lines were passed.
+    passed: u64,
+    /// How many lanes have a line before this one has its next.
+    turn: u8,
+    /// How many other lanes there are.
+    others: u8,
+}
+
+impl<'a> LaneLines<'a> {
+    /// The lines of a lane, of so many.
+    pub fn new(input: &'a [u8], lanes: u8, lane: u8) -> LaneLines<'a>
+        requires { lane < lanes }
+        ensures { lines_left result ≡ lane_lines lanes input.now lane }
+    {
+        LaneLines {
+            bytes: input,
+            passed: 0,
+            turn: lane,
+            others: lanes - 1,
+        }
+    }
+
+    /// The next line of the lane, with its number.
+    pub fn next_line(&mut self) -> Option<(u64, &'a [u8])>
+        ensures some { IfSome result (λ next. lines_left self.old ≡ next.1.now ∷ lines_left self.new) }
+        ensures said { IfSome result (λ next. is_blank next.1.now ≡ false) }
+        ensures none { result ≡ None → lines_left self.old ≡ [] }
+    {
+        while !self.bytes.is_empty() {
+            let (line, rest) = split_line(self.bytes);
+            self.bytes = rest;
+            self.passed = self.passed.saturating_add(1);
+            if is_blank_text(line) {
+                continue;
+            }
+            if self.turn == 0 {
+                self.turn = self.others;
+                return Some((self.passed, line));
+            }
+            self.turn -= 1;
+        }
+        None
+    }
+}
+
+/// The first line of a text that has one, and what stands behind its line feed.
+fn split_line(text: &[u8]) -> (&[u8], &[u8])
+    requires { 0 < length text.now }
+    ensures lines { lines_of text.now ≡ result.0.now ∷ lines_of result.1.now }
+    ensures less { length result.1.now < length text.now }
+{
+    let (line, behind) = text.split_at(first_or_len(b'\n', text));
+    match behind.split_first() {
+        Some((_, rest)) => (line, rest),
+        None => (line, behind),
+    }
+}

@@ -1,0 +1,130 @@
+//! A script that is read whole.
+ghost use Rattle.std.specs.Prelude.{◌≡◌, ◌≢◌, ◌<◌, ◌≤◌, ◌+◌, ◌++◌, ◌↔◌, [], false, IfOk, IfErr, OnOk, IsErrOf, Err, IsTrue, length};
+ghost use Rattle.std.specs.List.{count_by};
+ghost use Rattle.moc_text.specs.Lines.{is_line_feed};
+ghost use Rattle.moc_script.specs.Private.Input.{IsBehindLast, IsHeld, ReadFails, ReadsAll, fails_on};
+
+use crate::bytes::first_or_len;
+use crate::device::DeviceFault;
+use crate::line_reader::LINE_LIMIT;
+use crate::source::Source;
+use memchr::memrchr;
+use std::alloc::Global;
+
+/// How many bytes are read at a time.
+const CHUNK: usize = 65_536;
+
+/// The bytes of a script so far.
+#[derive(Drop)]
+struct Script {
+    bytes: Vec<u8>,
+    /// Where the line begins that no line feed ends yet.
+    start: usize,
+}
+
+/// Why a script was not read to its end.
+#[derive(Clone, Copy, Debug, PartialEq, Eq)]
+pub enum ReadFault {
+    /// The reader failed.
+    Read,
+    /// A line is over the limit.
+    TooLong { line: u64 },
+    /// Memory was refused.
+    Memory { line: u64 },
+}
+
+impl Script {
+    /// Nothing yet.
+    fn new(alloc: Global) -> Script
+        ensures { (result.bytes.items ≡ []) × (result.start ≡ 0) }
+    {
+        Script {
+            bytes: Vec::new(alloc),
+            start: 0,
+        }
+    }
+
+    /// Puts bytes behind the others, unless the line that is begun goes over the limit with them.
+    fn add(&mut self, chunk: &[u8]) -> Result<(), ReadFault>
+        requires held { IsHeld self.old.bytes.items self.old.start }
+        requires short { length chunk.now ≤ CHUNK }
+        ensures held { OnOk result (IsHeld self.new.bytes.items self.new.start) }
+        ensures bytes { OnOk result (self.new.bytes.items ≡ self.old.bytes.items ++ chunk.now) }
+        ensures fails { IfErr result (λ e. fails_on (self.old.bytes.items ++ chunk.now) e) }
+        ensures read { result ≢ Err ReadFault.Read }
+    {
+        let before = self.bytes.len();
+        let first = first_or_len(b'\n', chunk);
+        if first > LINE_LIMIT - (before - self.start) {
+            return Err(ReadFault::TooLong {
+                line: line_feeds(&self.bytes) + 1,
+            });
+        }
+        let Ok(()) = self.bytes.extend_from_slice(chunk) else {
+            return Err(ReadFault::Memory {
+                line: line_feeds(&self.bytes) + 1,
+            });
+        };
+        if first < chunk.len() {
+            self.start = before + behind_last(chunk);
+        }
+        Ok(())
+    }
+}
+
+/// How many line feeds bytes have.
+fn line_feeds(bytes: &[u8]) -> u64
+    ensures count { result ≡ count_by is_line_feed bytes.now }
+    ensures few { result ≤ length bytes.now }
+{
+    let mut count = 0;
+    for byte in bytes {
+        if *byte == b'\n' {
+            count += 1;
+        }
+    }
+    count
+}
+
+/// The number of the line behind the last.
+pub fn line_behind(input: &[u8]) -> u64 {
+    let whole = line_feeds(input);
+    match input.last() {
+        Some(last) if *last != b'\n' => whole + 2,
+        _ => whole + 1,
+    }
+}
+
+/// The place behind the last line feed, of which there is one.
+fn behind_last(chunk: &[u8]) -> usize
+    requires some { 0 < count_by is_line_feed chunk.now }
+    ensures { IsBehindLast chunk.now result }
+{
+    match memrchr(b'\n', chunk) {
+        Some(at) => at + 1,
+        None => unreachable!(),
+    }
+}
+
+/// Reads all lines.
+pub fn read_all<R: Source>(alloc: Global, reader: &mut R) -> Result<Vec<u8>, ReadFault>
+    requires reader { R.mark reader.old ≡ false }
+    ensures all { IfOk result (λ input. ReadsAll (R.left reader.old) (R.left reader.new) input.items) }
+    ensures fails { IfErr result (λ e. ReadFails (R.left reader.old) (R.left reader.new) e) }
+    ensures read { IsErrOf result ReadFault.Read ↔ IsTrue (R.mark reader.new) }
+{
+    let Ok(mut chunk) = vec![in alloc; 0u8; CHUNK] else {
+        return Err(ReadFault::Memory { line: 0 });
+    };
+    let mut script = Script::new(alloc);
+    loop {
+        match reader.read(&mut chunk) {
+            Ok(0) => return Ok(script.bytes),
+            Ok(count) => match script.add(&chunk[..count]) {
+                Ok(()) => {}
+                Err(fault) => return Err(fault),
+            },
+            Err(DeviceFault) => return Err(ReadFault::Read),
+        }
+    }
+}
