@@ -19,6 +19,11 @@ Answers client line old new text =
     (calls : List BatchEntry) × DoesLine object script_rules line calls text
     × ((made : List BatchEntry) → Made client made old → Made client (made ++ calls) new)
 
+-- the same, where the answer stands behind others
+abbrev pub AddsAnswer : ℕ → List ℕ → BatchRecord → BatchRecord → List ℕ → List ℕ → Type 0
+AddsAnswer client line old new before after =
+    (text : List ℕ) × (after ≡ before ++ text) × Answers client line old new text
+
 -- the lane of this number has done these lines, by calls of its client, and has their answers; or memory was refused
 abbrev pub IsLaneEnd : SharedMap → ℕ → List (List ℕ) → Result LaneEnd Refused → Type 0
 IsLaneEnd map lane lines (Ok end) =

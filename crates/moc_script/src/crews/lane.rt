@@ -3,7 +3,7 @@ ghost use Rattle.std.specs.Prelude.{◌≡◌, ◌<◌, [], false, OnOk};
 ghost use Rattle.moc_shared.specs.Clients.{IsClientOf, number_of, record_of};
 ghost use Rattle.moc_script.specs.Words.{is_blank};
 ghost use Rattle.moc_script.specs.Private.Input.{lane_lines};
-ghost use Rattle.moc_script.specs.Private.LaneEnds.{Made, Answers, IsLaneEnd};
+ghost use Rattle.moc_script.specs.Private.LaneEnds.{Made, AddsAnswer, IsLaneEnd};
 
 use crate::answer::push_fault;
 use crate::batch::read_batch;
@@ -30,29 +30,28 @@ pub struct Refused {
     pub line: u64,
 }
 
-/// Does what a line says that is not blank, and puts its answer in the place of the text.
+/// Does what a line says that is not blank, and puts its answer behind the others.
 fn answer_line<R: Wait>(
     rt: &R,
     alloc: Global,
     map: &SharedMap,
     client: &mut Client,
     line: &[u8],
-    text: &mut Vec<u8>,
+    answers: &mut Vec<u8>,
 ) -> Result<(), Memory>
     requires map { IsClientOf map.now client.old }
     requires said { is_blank line.now ≡ false }
     ensures map { IsClientOf map.now client.new }
     ensures number { number_of client.new ≡ number_of client.old }
-    ensures answers { OnOk result
-        (Answers (number_of client.old) line.now (record_of client.old) (record_of client.new) text.new.items) }
+    ensures answers { OnOk result (AddsAnswer (number_of client.old) line.now (record_of client.old) (record_of client.new)
+        answers.old.items answers.new.items) }
 {
-    text.clear();
     match read_batch(alloc, line) {
         Ok(batch) => {
             let replies = map.apply(rt, client, &batch)?;
-            push_reply_line(alloc, replies.as_slice(), text)
+            push_reply_line(alloc, replies.as_slice(), answers)
         }
-        Err(ReadError::Fault(fault)) => push_fault(fault, text),
+        Err(ReadError::Fault(fault)) => push_fault(fault, answers),
         Err(ReadError::Memory) => Err(Memory),
     }
 }
@@ -75,17 +74,19 @@ pub fn work<R: Wait, G: Gate>(
     let mut client = client;
     let lane = client.number();
     let mut left = LaneLines::new(input, lanes, lane);
-    let mut text = Vec::new(alloc);
-    let mut answers = Texts::new(alloc);
+    let mut lens = Vec::new(alloc);
+    let mut bytes = Vec::new(alloc);
     while let Some((number, line)) = left.next_line() {
         gate.pass(lane, number);
-        let Ok(()) = answer_line(rt, alloc, map, &mut client, line, &mut text) else {
+        let before = bytes.len();
+        let Ok(()) = answer_line(rt, alloc, map, &mut client, line, &mut bytes) else {
             return Err(Refused { line: number });
         };
-        let Ok(()) = answers.push(&text) else {
+        let Ok(()) = lens.push(bytes.len() - before) else {
             return Err(Refused { line: number });
         };
         gate.done(lane, number);
     }
+    let answers = Texts::new(lens, bytes);
     Ok(LaneEnd { client, answers })
 }

@@ -1,9 +1,8 @@
 //! Many texts in one buffer.
-ghost use Rattle.std.specs.Prelude.{◌≡◌, ◌++◌, ◌∷◌, [], None, IfSome, OnOk, List, ℕ};
+ghost use Rattle.std.specs.Prelude.{◌≡◌, ◌∷◌, [], None, IfSome, length};
 ghost use Rattle.moc_ranges.specs.Blocks.{joining};
+ghost use Rattle.moc_script.specs.Private.Texts.{cut, total};
 
-use moc_ranges::Memory;
-use std::alloc::Global;
 use std::marker::Model;
 
 /// Texts one behind another in one buffer, and how long each is.
@@ -25,27 +24,12 @@ impl Model for Texts {
 }
 
 impl Texts {
-    /// No text.
-    pub fn new(alloc: Global) -> Texts
-        ensures { result ≡ [] }
+    /// The texts of these lengths that lie in these bytes.
+    pub fn new(lens: Vec<usize>, bytes: Vec<u8>) -> Texts
+        requires { total lens.items ≡ length bytes.items }
+        ensures { result ≡ cut lens.items bytes.items }
     {
-        Texts {
-            lens: Vec::new(alloc),
-            bytes: Vec::new(alloc),
-        }
-    }
-
-    /// Puts a text behind the others.
-    pub fn push(&mut self, text: &[u8]) -> Result<(), Memory>
-        ensures { OnOk result (self.new ≡ self.old ++ text.now ∷ []) }
-    {
-        let before = self.bytes.len();
-        self.bytes.extend_from_slice(text)?;
-        let Ok(()) = self.lens.push(text.len()) else {
-            self.bytes.truncate(before);
-            return Err(Memory);
-        };
-        Ok(())
+        Texts { lens, bytes }
     }
 
     /// The texts, one after another, as they lie in the buffer.

@@ -10,10 +10,12 @@ use Rattle.moc_script.proofs.crews.lane.answer_line.Goals as goal
 pub returns-in_ok-replies-in-Ok-clause-answers : goal.returns-in_ok-replies-in-Ok-clause-answers
 returns-in_ok-replies-in-Ok-clause-answers g c =
     let e : BatchEntry = entry c.args.client.now.number c.in-Ok.batch c.in_ok-replies-in-Ok.replies in
-    on_ok c.push_reply_line.result (λ (told : c.push_reply_line.new.text.items ≡ c.clear.new.self.items ++ (replies_text c.as_slice.result.now ++ 10 ∷ [])).
-    let text : c.push_reply_line.new.text.items ≡ replies_text e.reply ++ 10 ∷ [] =
-    told ∙ ap (λ l. l ++ (replies_text c.as_slice.result.now ++ 10 ∷ [])) c.clear.ensures.items ∙ ap (λ l. replies_text l ++ 10 ∷ []) c.as_slice.ensures in (
-      e ∷ [],
-      inr (e, refl, asks_line c.args.line.now e c.push_reply_line.new.text.items c.requires.said c.in-Ok.ensures text),
-      λ made was. call_made c.args.client.now.number e c.args.client.now.seat.me.0.mine c.apply.new.client.seat.me.0.mine refl (waited_own c.args.map.now e c.args.client.now.seat.me.0.mine c.apply.new.client.seat.me.0.mine c.in_ok-replies-in-Ok.ensures.ok) made was,
+    on_ok c.push_reply_line.result (λ (told : c.push_reply_line.new.text.items ≡ c.args.answers.now.items ++ (replies_text c.as_slice.result.now ++ 10 ∷ [])). (
+      replies_text e.reply ++ 10 ∷ [],
+      told ∙ ap (λ l. c.args.answers.now.items ++ (replies_text l ++ 10 ∷ [])) c.as_slice.ensures,
+      (
+        e ∷ [],
+        inr (e, refl, asks_line c.args.line.now e (replies_text e.reply ++ 10 ∷ []) c.requires.said c.in-Ok.ensures refl),
+        λ made was. call_made c.args.client.now.number e c.args.client.now.seat.me.0.mine c.apply.new.client.seat.me.0.mine refl (waited_own c.args.map.now e c.args.client.now.seat.me.0.mine c.apply.new.client.seat.me.0.mine c.in_ok-replies-in-Ok.ensures.ok) made was,
+      ),
     )) c.push_reply_line.ensures

@@ -1,10 +1,13 @@
 -- One more line.
-use Rattle.std.proofs.Common.{◌≡◌, ◌∙◌, ℕ, [], ◌∷◌, ◌++◌, sym, ap, subst, append_assoc}
+use Rattle.std.proofs.Common.{◌≡◌, ◌∙◌, ℕ, ◌+◌, ◌-◌, [], ◌∷◌, ◌++◌, length, sym, ap, subst, arith, append_assoc, length-append}
 use Rattle.moc_shared.specs.Batches.{answer as object}
 use Rattle.moc_script.specs.Scripts.{script_rules}
 use Rattle.moc_script.specs.Private.Input.{lines_left}
-use Rattle.moc_script.specs.Private.LaneEnds.{Answers}
+use Rattle.moc_script.specs.Private.LaneEnds.{AddsAnswer}
+use Rattle.moc_script.specs.Private.LaneWork.{Does}
+use Rattle.moc_script.specs.Private.Texts.{cut, total}
 use Rattle.moc_script.proofs.LaneLemmas.{Does-push}
+use Rattle.moc_script.proofs.TextLemmas.{cut-push, total-push}
 use Rattle.moc_script.proofs.crews.lane.work.Goals as goal
 
 pub loop-number-preserved : goal.loop-number-preserved
@@ -13,20 +16,26 @@ loop-number-preserved g c =
     let line = c.in-Some.line.now in
     let old = c.loop-number.client.seat.me.0.mine in
     let new = c.answer_line.new.client.seat.me.0.mine in
-    let text = c.answer_line.new.text.items in
+    let lens = c.loop-number.lens.items in
+    let bytes = c.loop-number.bytes.items in
     let first : lines_left c.loop-number.left ≡ line ∷ lines_left c.next_line.new.self = c.in-Some.ensures.some in
-    let said : Answers c.number-lane.result line old new text =
-    subst (λ (n : ℕ). Answers n line old new text) c.loop-number.invariant.number c.in-Ok.ensures.answers in
-    let pushed : c.push.new.self ≡ c.loop-number.answers ++ text ∷ [] =
-    c.in-Ok-push.ensures ∙ ap (λ l. c.loop-number.answers ++ l ∷ []) c.deref.ensures.value in
+    let said : AddsAnswer c.number-lane.result line old new bytes c.answer_line.new.answers.items =
+    subst (λ (n : ℕ). AddsAnswer n line old new bytes c.answer_line.new.answers.items) c.loop-number.invariant.number c.in-Ok.ensures.answers in
+    let text = said.0 in
+    let more : length c.answer_line.new.answers.items ≡ length bytes + length text = ap length said.1 ∙ length-append bytes text in
+    let len : c.len.result - c.len-before.result ≡ length text = omega (arith, more, c.len.ensures, c.len-before.ensures, c.loop-number.bytes.ok, c.answer_line.new.answers.ok) in
+    let pushed : c.push.new.self.items ≡ lens ++ length text ∷ [] = c.in-Ok-push.ensures.items ∙ ap (λ (n : ℕ). lens ++ n ∷ []) len in
+    let told : cut c.push.new.self.items c.answer_line.new.answers.items ≡ cut lens bytes ++ text ∷ [] =
+    ap (λ l. cut l c.answer_line.new.answers.items) pushed ∙ ap (cut (lens ++ length text ∷ [])) said.1 ∙ cut-push lens bytes text c.loop-number.invariant.sum in
     record {
       of_map = c.answer_line.ensures.map;
       number = c.answer_line.ensures.number ∙ c.loop-number.invariant.number;
+      sum = ap total pushed ∙ total-push lens (length text) ∙ ap (λ n. n + length text) c.loop-number.invariant.sum ∙ sym more;
       done = (
         was.0 ++ line ∷ [],
-        was.1 ++ said.0,
+        was.1 ++ said.2.0,
         was.2 ∙ ap (λ l. was.0 ++ l) first ∙ sym (append_assoc was.0 (line ∷ []) (lines_left c.next_line.new.self)),
-        said.2 was.1 was.3,
-        rw pushed (Does-push object script_rules was.0 line was.1 said.0 c.loop-number.answers text was.4 said.1),
+        said.2.2 was.1 was.3,
+        subst (Does object script_rules (was.0 ++ line ∷ []) (was.1 ++ said.2.0)) (sym told) (Does-push object script_rules was.0 line was.1 said.2.0 (cut lens bytes) text was.4 said.2.1),
       );
     }

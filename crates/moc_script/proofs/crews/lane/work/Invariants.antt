@@ -6,14 +6,16 @@ use Rattle.moc_script.specs.Scripts.{script_rules}
 use Rattle.moc_script.specs.Private.Input.{lane_lines, lines_left}
 use Rattle.moc_script.specs.Private.LaneWork.{Does}
 use Rattle.moc_script.specs.Private.LaneEnds.{Made}
+use Rattle.moc_script.specs.Private.Texts.{cut, total}
 use Rattle.moc_script.proofs.crews.lane.work.Given as goal
 
 abbrev pub invariant-loop-number : goal.invariant-loop-number
 invariant-loop-number g l = record {
   of_map : IsClientOf l.map l.client;
   number : number_of l.client ≡ l.lane;
+  sum : total l.lens.items ≡ length l.bytes.items;
   done : (lines : List (List ℕ)) × (made : List BatchEntry) × (lane_lines l.lanes l.input l.lane ≡ lines ++ lines_left l.left) × Made l.lane made (record_of l.client)
-      × Does object script_rules lines made l.answers;
+      × Does object script_rules lines made (cut l.lens.items l.bytes.items);
 }
 
 abbrev pub decreases-loop-number : goal.decreases-loop-number
