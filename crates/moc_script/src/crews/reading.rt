@@ -44,6 +44,13 @@ impl Script {
         }
     }
 
+    /// The number of the line that no line feed ends yet.
+    fn begun(&self) -> u64
+        ensures { result ≡ count_by is_line_feed self.now.bytes.items + 1 }
+    {
+        line_feeds(&self.bytes) + 1
+    }
+
     /// Puts bytes behind the others, unless the line that is begun goes over the limit with them.
     fn add(&mut self, chunk: &[u8]) -> Result<(), ReadFault>
         requires held { IsHeld self.old.bytes.items self.old.start }
@@ -56,14 +63,10 @@ impl Script {
         let before = self.bytes.len();
         let first = first_or_len(b'\n', chunk);
         if first > LINE_LIMIT - (before - self.start) {
-            return Err(ReadFault::TooLong {
-                line: line_feeds(&self.bytes) + 1,
-            });
+            return Err(ReadFault::TooLong { line: self.begun() });
         }
         let Ok(()) = self.bytes.extend_from_slice(chunk) else {
-            return Err(ReadFault::Memory {
-                line: line_feeds(&self.bytes) + 1,
-            });
+            return Err(ReadFault::Memory { line: self.begun() });
         };
         if first < chunk.len() {
             self.start = before + behind_last(chunk);

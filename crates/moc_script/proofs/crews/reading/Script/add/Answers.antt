@@ -1,6 +1,6 @@
 -- The line that is begun is too long, goes on, or ends.
 use Rattle.std.proofs.Common.{◌≡◌, ◌∙◌, ◌+◌, ◌++◌, ℕ, List, length, sym, ap, subst, arith, length-drop}
-use Rattle.std.specs.List.{count_by, position_or_len}
+use Rattle.std.specs.List.{position_or_len}
 use Rattle.moc_text.specs.Lines.{is_line_feed}
 use Rattle.moc_script.specs.Private.Input.{IsHeld}
 use Rattle.moc_script.proofs.Reading.{held_long, held_lines, held_more, some_line_feed}
@@ -13,7 +13,7 @@ returns-then-first-before-clause-fails c =
     let place : c.first_or_len-first.result ≡ position_or_len is_line_feed c.args.chunk.now = c.first_or_len-first.ensures.value in
     held_long bytes.items c.args.chunk.now start c.requires.held
     (omega (arith, c.if-first-before.true, length-drop start bytes.items, c.len-before.ensures, bytes.ok, place, c.requires.held.inside)) (omega (arith, place, c.first_or_len-first.ensures.within))
-    (c.line_feeds.result + 1) (ap (λ n. n + 1) (c.line_feeds.ensures.count ∙ ap (count_by is_line_feed) c.deref.ensures.value))
+    c.begun.result c.begun.ensures
 
 pub behind_last-requires : goal.behind_last-requires
 behind_last-requires c =
