@@ -95,7 +95,7 @@ fn answer_all<R: Threads + Wait + Sync, G: Gate + Sync>(
 /// writer took. `Memory` names the line that was read or answered, of several lanes' lines the least; 0 is before any
 /// line is read, and for the map and the threads, and one more than the lines that were read is after all. `Spawn` goes
 /// before the lanes' `Memory`. After the whole text the writer is flushed, once. Takes memory linear in the script and
-/// its answers. May wait for parts that other lanes hold.
+/// its answers. Each lane passes over all lines and parses its own. May wait for parts that other lanes hold.
 pub fn crew<R: Source, W: Sink, G: Gate + Sync, T: Threads + Wait + Sync>(
     rt: &T,
     alloc: Global,

@@ -54,10 +54,18 @@ fn adds(alloc: Global, calls: u64) -> Result<Vec<Batch>> {
     Ok(batches)
 }
 
+/// Whether clients look at what another changes.
+fn has_readers(work: Work) -> bool {
+    match work {
+        Work::Together(job, _) => job.has_readers(),
+        _ => false,
+    }
+}
+
 /// The set that a map begins with: what is to be read, where something is.
 fn start(alloc: Global, work: Work) -> Result<Coverage> {
     let mut set = Coverage::empty(alloc);
-    if let Work::Together(Job::Readers | Job::Takers, _) = work {
+    if has_readers(work) {
         for index in 0..READ_CELLS {
             set = set.union(alloc, &cell(alloc, 2 * index + 100)?.set)?;
         }
@@ -173,7 +181,7 @@ fn once<R: Threads + Wait + Clock + Sync>(
 }
 
 /// The works, by name.
-const WORKS: [(&str, Work); 15] = [
+const WORKS: [(&str, Work); 17] = [
     ("a map", Work::Map),
     ("one client", Work::OneClient),
     ("1 thread", Work::Together(Job::OwnParts, 1)),
@@ -196,6 +204,14 @@ const WORKS: [(&str, Work); 15] = [
     ("a writer", Work::Together(Job::Readers, 1)),
     ("a writer beside 1 reader", Work::Together(Job::Readers, 2)),
     ("a writer beside 3 readers", Work::Together(Job::Readers, 4)),
+    (
+        "a writer beside 1 reader that makes texts",
+        Work::Together(Job::Printers, 2),
+    ),
+    (
+        "a writer beside 3 readers that make texts",
+        Work::Together(Job::Printers, 4),
+    ),
     (
         "a writer beside 1 that takes its part",
         Work::Together(Job::Takers, 2),

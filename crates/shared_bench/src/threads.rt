@@ -6,6 +6,7 @@ use anyhow::Result;
 use moc_parts::{Batch, Command, Operand, Replies, Reply};
 use moc_ranges::Coverage;
 use moc_shared::{Client, Holding, SharedMap, Snapshot, SnapshotError};
+use moc_text::write_ascii;
 use std::alloc::Global;
 use std::sync::Wait;
 use std::sync::atomic::{AtomicU64, Ordering};
@@ -36,8 +37,17 @@ pub enum Job {
     OnePart,
     /// Client 0 does so, and the others read base pixel 0 by snapshots until it is done.
     Readers,
+    /// Client 0 does so, and the others make the ASCII text of what they read so until it is done.
+    Printers,
     /// Client 0 does so, and the others take base pixel 0 and give it back until it is done.
     Takers,
+}
+
+impl Job {
+    /// Whether all but client 0 look at what it changes.
+    pub fn has_readers(self) -> bool {
+        matches!(self, Job::Readers | Job::Printers | Job::Takers)
+    }
 }
 
 /// What threads know of one another.
@@ -97,7 +107,7 @@ pub fn work<R: Wait + Clock>(
 ) -> Figure
     requires { IsClientOf map.now client }
 {
-    let is_reader = matches!(plan.job, Job::Readers | Job::Takers) && client.number() > 0;
+    let is_reader = plan.job.has_readers() && client.number() > 0;
     let all = have_started(plan);
     let done = if !all {
         None
@@ -124,7 +134,7 @@ fn change<R: Wait + Clock>(
     let number = u64::from(client.number());
     let index = match plan.job {
         Job::OwnParts => number * BASE_CELLS,
-        Job::OnePart | Job::Readers | Job::Takers => number,
+        Job::OnePart | Job::Readers | Job::Printers | Job::Takers => number,
     };
     let add = Batch::one(alloc, Command::Add(cell(alloc, index).ok()?)).ok()?;
     let remove = Batch::one(alloc, Command::Remove(cell(alloc, index).ok()?)).ok()?;
@@ -181,6 +191,7 @@ fn read(alloc: Global, map: &SharedMap, plan: &Plan, client: Client) -> Option<F
         let batch = read.try_copy(alloc).ok()?;
         let (back, good) = match plan.job {
             Job::Takers => touch(map, client, batch),
+            Job::Printers => print_once(alloc, map, client, batch),
             _ => read_once(alloc, map, client, batch),
         };
         client = back;
@@ -203,6 +214,30 @@ fn read_once(alloc: Global, map: &SharedMap, client: Client, batch: Batch) -> (C
         None => false,
     };
     (client, is_answered)
+}
+
+/// Whether a query was answered and the text of what it read was made, with its client.
+fn print_once(alloc: Global, map: &SharedMap, client: Client, batch: Batch) -> (Client, bool)
+    requires { IsClientOf map.now client }
+    ensures { IsClientOf map.now result.0 }
+{
+    let (client, snapshot) = look(map, client, batch);
+    let is_printed = match snapshot {
+        Some(snapshot) => is_text_made(alloc, &snapshot),
+        None => false,
+    };
+    (client, is_printed)
+}
+
+/// Whether the ASCII text of what a snapshot read could be made.
+fn is_text_made(alloc: Global, snapshot: &Snapshot) -> bool {
+    let Ok(replies) = snapshot.answer(alloc) else {
+        return false;
+    };
+    match replies.as_slice().first() {
+        Some(Reply::Cover(set)) => write_ascii(alloc, set, None).is_ok(),
+        _ => false,
+    }
 }
 
 /// Takes the parts of a batch and gives them back: whether that was so, with the client.
