@@ -145,15 +145,6 @@ module _ {A : Type 0} where
       turns_from others (suc j) lane turn xs (omega arith) low next
       ∙ ap (λ (b : Bool). if b then x ∷ in_lane lane (dealt_from (suc others) (suc j) xs) else in_lane lane (dealt_from (suc others) (suc j) xs)) (sym (ne_eqb (j % suc others) lane other))
 
-  -- the first is the lane's
-  pub turn_now : (others turn : ℕ) (x : A) (xs : List A) → turn ≡ 0 → in_turn others turn (x ∷ xs) ≡ x ∷ in_turn others others xs
-  turn_now others turn x xs now = ap (λ (n : ℕ). in_turn others n (x ∷ xs)) now
-
-  -- the first is another lane's
-  pub turn_later : (others turn : ℕ) (x : A) (xs : List A) → 0 < turn → in_turn others turn (x ∷ xs) ≡ in_turn others (turn - 1) xs
-  turn_later others zero x xs later = absurd (omega arith)
-  turn_later others (suc turn) x xs later = let same : turn ≡ suc turn - 1 = omega arith in ap (λ (n : ℕ). in_turn others n xs) same
-
   -- what is dealt to a lane comes once the lanes before it have had one, and then each time all others have
   pub turns_of_lane : (lanes lane : ℕ) (xs : List A) → lane < lanes → in_turn (lanes - 1) lane xs ≡ in_lane lane (dealt lanes xs)
   turns_of_lane lanes lane xs low =

@@ -1,6 +1,6 @@
 //! The answers in the order of the lines.
-ghost use Rattle.std.specs.Prelude.{◌≡◌, ◌≢◌, ◌<◌, ◌++◌, ◌↔◌, [], Err, IfOk, OnOk, OnErr, IsErrOf, IsTrue, false, length};
-ghost use Rattle.std.specs.Prelude.{◌≤◌, ◌+◌, vec_len, vec_capacity};
+ghost use Rattle.std.specs.Prelude.{◌≡◌, ◌≢◌, ◌<◌, ◌≤◌, ◌+◌, ◌++◌, ◌↔◌, [], Err, false, length};
+ghost use Rattle.std.specs.Prelude.{IfOk, OnOk, OnErr, IsErrOf, IsTrue, vec_len, vec_capacity};
 ghost use Rattle.std.specs.Io.KnownBytes.{Keeps};
 ghost use Rattle.moc_script.specs.Devices.{CallsMore};
 ghost use Rattle.moc_script.specs.Runs.{Sends};
@@ -87,8 +87,8 @@ impl<'a> Joiner<'a> {
     }
 }
 
-/// Puts a text behind what is pending. Where there is no room for it, what is pending is written first, and a text that is
-/// longer than all room at once.
+/// Puts a text behind what is pending. Where there is no room for it, what is pending is written first, and a text that
+/// is longer than all room at once.
 fn send<W: Sink>(text: &[u8], pending: &mut Vec<u8>, writer: &mut W) -> Result<(), DeviceFault>
     requires writer { W.mark writer.old ≡ false }
     ensures sends { Sends (pending.old.items ++ text.now) (W.written writer.old)
@@ -121,8 +121,8 @@ fn put(text: &[u8], pending: &mut Vec<u8>)
     };
 }
 
-/// Writes the answers of the lines in order, one from each lane in turn, and the text behind them. The answers of a lane
-/// that is alone stand so already. All memory is had before the first byte is written.
+/// Writes the answers of the lines in order, one from each lane in turn, and the text behind them. The answers of a
+/// lane that is alone stand so already. All memory is had before the first byte is written.
 pub fn write_joined<W: Sink>(
     alloc: Global,
     answers: &[Texts],

@@ -43,7 +43,8 @@ fn answer_line<R: Wait>(
     requires said { is_blank line.now ≡ false }
     ensures map { IsClientOf map.now client.new }
     ensures number { number_of client.new ≡ number_of client.old }
-    ensures answers { OnOk result (AddsAnswer (number_of client.old) line.now (record_of client.old) (record_of client.new)
+    ensures answers { OnOk result
+        (AddsAnswer (number_of client.old) line.now (record_of client.old) (record_of client.new)
         answers.old.items answers.new.items) }
 {
     match read_batch(alloc, line) {

@@ -7,7 +7,8 @@ ghost use Rattle.moc_script.specs.Private.Input.{lane_lines, lines_left};
 use crate::bytes::first_or_len;
 use crate::words::is_blank_text;
 
-/// The lines of a lane that are to come: of those that are not blank, each that comes once all other lanes have had one.
+/// The lines of a lane that are to come: of those that are not blank, each that comes once all other lanes have had
+/// one.
 #[derive(Drop)]
 pub struct LaneLines<'a> {
     /// The lines of all lanes that were not passed yet.

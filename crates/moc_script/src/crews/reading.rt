@@ -1,5 +1,6 @@
 //! A script that is read whole.
-ghost use Rattle.std.specs.Prelude.{◌≡◌, ◌≢◌, ◌<◌, ◌≤◌, ◌+◌, ◌++◌, ◌↔◌, [], false, IfOk, IfErr, OnOk, IsErrOf, Err, IsTrue, length};
+ghost use Rattle.std.specs.Prelude.{◌≡◌, ◌≢◌, ◌<◌, ◌≤◌, ◌+◌, ◌++◌, ◌↔◌, [], false, length};
+ghost use Rattle.std.specs.Prelude.{IfOk, IfErr, OnOk, IsErrOf, Err, IsTrue};
 ghost use Rattle.std.specs.List.{count_by};
 ghost use Rattle.moc_text.specs.Lines.{is_line_feed};
 ghost use Rattle.moc_script.specs.Private.Input.{IsBehindLast, IsHeld, ReadFails, ReadsAll, fails_on};

@@ -1,5 +1,5 @@
 -- The line that is begun is too long, goes on, or ends.
-use Rattle.std.proofs.Common.{◌≡◌, ◌∙◌, ◌+◌, ◌++◌, ℕ, List, length, sym, ap, subst, arith, length-drop}
+use Rattle.std.proofs.Common.{◌≡◌, ◌+◌, ◌++◌, ℕ, List, length, sym, subst, arith, length-drop}
 use Rattle.std.specs.List.{position_or_len}
 use Rattle.moc_text.specs.Lines.{is_line_feed}
 use Rattle.moc_script.specs.Private.Input.{IsHeld}
