@@ -234,23 +234,29 @@ note_of (t ∷ ts) b h = ⊎_elim
     (λ (c : Contains (parts_of ts) b). let r = note_of ts b c in (r.0, there t ts (note b r.0) r.1))
     (cons_cases t.part (parts_of ts) b h)
 
+-- once the last pointer is taken out, there is none from its place on
+pub none_from : (contents after : List (Option Pointer)) (b : ℕ) → b < length contents
+    → ((k : ℕ) → b < k → at_place contents k ≡ None) → after ≡ set contents b None → (k : ℕ) → b ≤ k
+    → at_place after k ≡ None
+none_from contents after b wide behind taken k l =
+    ap (λ (z : List (Option Pointer)). at_place z k) taken ∙ off (ℕ_discrete k b)
+  where
+    off : Dec (k ≡ b) → at_place (set contents b None) k ≡ None
+    off (yes e) = ap (at_place (set contents b None)) e ∙ place_set_same contents b None wide
+    off (no ne) = place_set_other contents b k None ne ∙ behind k (omega arith)
+
 -- the content of the highest place is noted first
 pub top_note : (contents after : List (Option Pointer)) (b : ℕ) (x : Pointer) → b < 12 → b < length contents
     → ((k : ℕ) → b < k → at_place contents k ≡ None) → at_place contents b ≡ Some x → after ≡ set contents b None
     → notes_below contents 12 ≡ note b (shared x) ∷ notes_below after 12
 top_note contents after b x within wide behind some taken =
-    let none : (k : ℕ) → b ≤ k → at_place after k ≡ None =
-    (λ k l. ap (λ (z : List (Option Pointer)). at_place z k) taken ∙ off k l (ℕ_discrete k b)) in
     let rest : notes_below after 12 ≡ notes_below contents b =
-    sym (ap (notes_below after) (let e : b + (12 - b) ≡ 12 = omega arith in e)) ∙ notes_upto after b (12 - b) none
+    sym (ap (notes_below after) (let e : b + (12 - b) ≡ 12 = omega arith in e))
+    ∙ notes_upto after b (12 - b) (none_from contents after b wide behind taken)
     ∙ ap (λ (z : List (Option Pointer)). notes_below z b) taken ∙ notes_set contents b b None (le_refl b) in
     sym (ap (notes_below contents) (let e : suc b + (11 - b) ≡ 12 = omega arith in e))
     ∙ notes_upto contents (suc b) (11 - b) (λ k l. behind k l) ∙ notes_some contents b x some
     ∙ ap (λ (l : List (PartNote)). note b (shared x) ∷ l) (sym rest)
-  where
-    off : (k : ℕ) → b ≤ k → Dec (k ≡ b) → at_place (set contents b None) k ≡ None
-    off k l (yes e) = ap (at_place (set contents b None)) e ∙ place_set_same contents b None wide
-    off k l (no ne) = place_set_other contents b k None ne ∙ behind k (omega arith)
 
 pub apart_top : (after : List (Option Pointer)) (n b : ℕ) → at_place after b ≡ None
     → Contains (parts_of (notes_below after n)) b → ⊥

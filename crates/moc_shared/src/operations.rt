@@ -35,7 +35,13 @@ impl SharedMap {
         let mark = u64::from(client.number) + 1;
         let table = &self.table.shared;
         match take_all(table, self.alloc, &mut client.seat, mark, batch) {
-            Ok(found) => match go_through(table, self.alloc, &mut client.seat, batch, found) {
+            Ok(mut found) => match go_through(
+                table,
+                self.alloc,
+                &mut client.seat,
+                batch,
+                &mut found,
+            ) {
                 Ok(replies) => Ok(replies),
                 Err(Memory) => Err(TryError::Memory),
             },
@@ -59,8 +65,17 @@ impl SharedMap {
     {
         let mark = u64::from(client.number) + 1;
         let table = &self.table.shared;
-        let found = wait_all(rt, table, self.alloc, &mut client.seat, mark, batch);
-        match go_through(table, self.alloc, &mut client.seat, batch, found) {
+        let mut found = no_slots();
+        wait_all(
+            rt,
+            table,
+            self.alloc,
+            &mut client.seat,
+            mark,
+            batch,
+            &mut found,
+        );
+        match go_through(table, self.alloc, &mut client.seat, batch, &mut found) {
             Ok(replies) => Ok(replies),
             Err(memory) => Err(memory),
         }
@@ -108,14 +123,14 @@ impl SharedMap {
         let Holding {
             mut client,
             batch,
-            found,
+            mut found,
         } = holding;
         match go_through(
             &self.table.shared,
             self.alloc,
             &mut client.seat,
             &batch,
-            found,
+            &mut found,
         ) {
             Ok(replies) => (client, Ok(replies)),
             Err(memory) => (client, Err(memory)),
