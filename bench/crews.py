@@ -1,16 +1,21 @@
 #!/usr/bin/env python3
 """Times scripts through `moc crew`: lanes on parts of their own beside one lane and beside as many processes that share
-nothing, and one lane beside `moc run`. Prints seconds, the least of nine of each, in turn in one run."""
+nothing, and one lane beside `moc run`. Prints milliseconds, the least and the median of so many of each, in turn in one run.
+
+    bench/crews.py [REPEATS]"""
 import os
 import random
+import statistics
 import subprocess
+import sys
 import tempfile
 import time
 
 TOP = os.path.dirname(os.path.dirname(os.path.abspath(__file__)))
 MOC = os.environ.get("MOC", os.path.join(TOP, "crates", "moc_cli", "out", "moc_cli"))
-REPEATS = 9
+REPEATS = int(sys.argv[1]) if len(sys.argv) > 1 else 15
 LINES = 60_000
+MANY = 64
 
 
 def small(part, rng):
@@ -45,13 +50,13 @@ def seconds(runs):
     return time.monotonic() - start
 
 
-def least(kinds):
-    """The least times of these kinds of runs, in turn."""
+def in_turn(kinds):
+    """The times of these kinds of runs, in turn."""
     times = {name: [] for name, _ in kinds}
     for _ in range(REPEATS):
         for name, runs in kinds:
             times[name].append(seconds(runs))
-    return {name: min(all_times) for name, all_times in times.items()}
+    return times
 
 
 def main():
@@ -64,10 +69,12 @@ def main():
             path = script(folder, f"small{lanes}", [small(at % lanes, rng) for at in range(lanes * LINES)])
             kinds.append((f"crew {lanes}, as many lines a lane", [(["crew", str(lanes)], path)]))
             kinds.append((f"{lanes} processes of crew 1", [(["crew", "1"], one)] * lanes))
+        many = script(folder, "many", [small(at % 12, rng) for at in range(processors * LINES)])
+        kinds.append((f"crew {MANY}, as many lines together", [(["crew", str(MANY)], many)]))
         wide = script(folder, "large", [large(rng) for _ in range(2_000)])
         kinds += [("crew 1, large lines", [(["crew", "1"], wide)]), ("run of the same large lines", [(["run"], wide)])]
-        for name, least_time in least(kinds).items():
-            print(f"{name:32} {least_time:.3f}")
+        for name, times in in_turn(kinds).items():
+            print(f"{name:36} {1000 * min(times):7.1f} {1000 * statistics.median(times):7.1f}")
 
 
 if __name__ == "__main__":
