@@ -11,9 +11,9 @@ and none of that check counts. What is edited outside a function, a constant say
 
 usage: tests/wrong_bodies.py [--jobs N] [CRATE | CRATE/EDIT]..
 
-All is done in copies, over what `out` folders hold of proved crates. The last line is `N passed, M failed`."""
+All is done in rooms, over what the crates' `out` folders hold of their proofs, which `tools/build.py` brings up to date first: what is kept
+can make no refusal false, since an edited function is checked anew. The last line is `N passed, M failed`."""
 import argparse
-import contextlib
 import os
 import re
 import shutil
@@ -21,42 +21,18 @@ import subprocess
 import sys
 import tempfile
 import threading
+from concurrent.futures import ThreadPoolExecutor
 
 TOP = os.path.dirname(os.path.dirname(os.path.abspath(__file__)))
-PARTS = ("src", "specs", "proofs")
+sys.path.insert(0, os.path.join(TOP, "tools"))
+from crates import crates_of, folder_of, libraries_below, make_room  # noqa: E402
+
 # How many jobs a check has: two, since the last checks have the cores to themselves.
 JOBS = "2"
+# Where the rooms lie: on one disk with the crates, so that files can be linked.
+ROOMS = os.path.join(folder_of("moc_cli"), "out", "edits")
 # What a name stands for that went with the edited text: such an error says little of the contract.
 NAME_GONE = re.compile(r"has no field|is not in scope|has no `|was not admitted")
-
-
-def crates_of(top):
-    """The crates in the order of crates.txt, each with the libraries of the repository that it stands on."""
-    lines = {}
-    with open(os.path.join(top, "crates.txt")) as file:
-        for line in file:
-            name, colon, libraries = line.partition(":")
-            if colon:
-                lines[name.split()[0]] = libraries.split()
-    below = {}
-
-    def all_below(name):
-        if name not in below:
-            own = [it for it in lines[name] if it in lines]
-            below[name] = list(dict.fromkeys(it for one in own for it in [*all_below(one), one]))
-        return below[name]
-
-    return {name: all_below(name) for name in lines}
-
-
-def rt(folder, verb):
-    """Runs rt in a crate."""
-    return subprocess.run(["rt", verb, "--jobs", JOBS], cwd=folder, stdin=subprocess.DEVNULL, capture_output=True, text=True)
-
-
-def copy_or_link(source, to):
-    """Copies a file; a built library is not written to, so its files may be shared."""
-    (os.link if "/out/rlib/" in source else shutil.copy2)(source, to)
 
 
 def blanked(text):
@@ -138,7 +114,7 @@ class Edit:
     def __init__(self, crate, name):
         self.label = f"{crate}/{name}"
         self.pairs, self.function, self.why = [], None, None
-        folder = os.path.join(TOP, "crates", crate)
+        folder = folder_of(crate)
         functions, texts, file, old = [], {}, None, None
         with open(os.path.join(folder, "wrong-bodies", name)) as lines:
             for line in lines.read().split("\n"):
@@ -188,66 +164,11 @@ def errors_of(told):
     return found
 
 
-class Trial:
-    """The wrong bodies of a crate, and a copy of it and of the libraries below it to try them in."""
-
-    def __init__(self, crate, below, edits, rooms):
-        self.crate, self.below, self.edits, self.rooms = crate, below, edits, rooms
-        self.room = os.path.join(rooms, crate)
-        self.folder = os.path.join(self.room, "crates", crate)
-
-    def copy(self):
-        """Copies the crate with the work that its checks kept, and the libraries below it as they were built in their rooms."""
-        names = [*self.below, self.crate]
-        with open(os.path.join(TOP, "crates.txt")) as file:
-            lines = [it for it in file if it.partition(":")[0].strip() in names]
-        os.makedirs(os.path.join(self.room, "crates"))
-        with open(os.path.join(self.room, "crates.txt"), "w") as file:
-            file.writelines(lines)
-        shutil.copy(os.path.join(TOP, "HANDLES"), self.room)
-        for name in self.below:
-            built = os.path.join(self.rooms, name, "crates", name)
-            shutil.copytree(built, os.path.join(self.room, "crates", name), copy_function=copy_or_link,
-                            ignore=shutil.ignore_patterns("incremental"))
-        for part in (*PARTS, "out/incremental", "out/rlib"):
-            own = os.path.join(TOP, "crates", self.crate, part)
-            if os.path.isdir(own):
-                shutil.copytree(own, os.path.join(self.folder, part))
-
-    def prove(self):
-        """Proves the copy as it stands, a library for the crates above it."""
-        verb = "lib" if os.path.exists(os.path.join(self.folder, "src", "lib.rt")) else "check"
-        return rt(self.folder, verb).returncode == 0
-
-    def check(self, number, texts):
-        """What a check tells of the crate with these texts of its sources, in one more copy."""
-        room = f"{self.room}-{number}"
-        shutil.copytree(self.room, room, copy_function=copy_or_link)
-        folder = os.path.join(room, "crates", self.crate)
-        for file, text in texts.items():
-            with open(os.path.join(folder, file), "w") as source:
-                source.write(text)
-        told = rt(folder, "check").stdout
-        shutil.rmtree(room)
-        return told
-
-    def rounds(self):
-        """The edits that are checked together: of each function one, and none whose texts meet."""
-        rounds = []
-        for edit in self.edits:
-            one = None if edit.function is None else next((it for it in rounds if it.takes(edit)), None)
-            if one is None:
-                one = Round(self.folder)
-                rounds.append(one)
-            one.add(edit)
-        return rounds
-
-
 class Round:
-    """Edits of several functions that are checked together, or one that lies in no function."""
+    """Edits of several functions of a crate that are checked together, or one that lies in no function."""
 
-    def __init__(self, folder):
-        self.folder, self.edits, self.texts = folder, [], {}
+    def __init__(self, crate):
+        self.crate, self.edits, self.texts = crate, [], {}
 
     def takes(self, edit):
         keys = [it.function and it.function.key for it in self.edits]
@@ -258,7 +179,7 @@ class Round:
         texts = {}
         for file, _, _ in edit.pairs:
             if file not in self.texts:
-                with open(os.path.join(self.folder, file)) as source:
+                with open(os.path.join(folder_of(self.crate), file)) as source:
                     self.texts[file] = source.read()
             texts[file] = self.texts[file]
         return texts
@@ -268,6 +189,16 @@ class Round:
         edit.apply(texts)
         self.texts.update(texts)
         self.edits.append(edit)
+
+    def check(self, below):
+        """What a check tells of the crate with these texts of its sources."""
+        with tempfile.TemporaryDirectory(prefix="edits-", dir=ROOMS) as place:
+            folder = make_room(os.path.join(place, "room"), self.crate, below)
+            for file, text in self.texts.items():
+                with open(os.path.join(folder, file), "w") as source:
+                    source.write(text)
+            words = ["rt", "check", "--jobs", JOBS]
+            return subprocess.run(words, cwd=folder, stdin=subprocess.DEVNULL, capture_output=True, text=True).stdout
 
     def judge(self, told):
         """Says of each edit what the check told of it, and whether it was refused."""
@@ -295,33 +226,16 @@ class Round:
         return found
 
 
-class Places:
-    """So many checks run at once. The proof of a crate, which other crates wait for, goes before the wrong bodies."""
-
-    def __init__(self, number):
-        self.free, self.proofs, self.turn = number, 0, threading.Condition()
-
-    @contextlib.contextmanager
-    def taken(self, is_proof=False):
-        with self.turn:
-            self.proofs += is_proof
-            self.turn.wait_for(lambda: self.free > 0 and (is_proof or self.proofs == 0))
-            self.proofs -= is_proof
-            self.free -= 1
-            self.turn.notify_all()
-        try:
-            yield
-        finally:
-            with self.turn:
-                self.free += 1
-                self.turn.notify_all()
-
-
-def run_all(threads):
-    for it in threads:
-        it.start()
-    for it in threads:
-        it.join()
+def rounds_of(crate, edits):
+    """The edits that are checked together: of each function one, and none whose texts meet."""
+    rounds = []
+    for edit in edits:
+        one = None if edit.function is None else next((it for it in rounds if it.takes(edit)), None)
+        if one is None:
+            one = Round(crate)
+            rounds.append(one)
+        one.add(edit)
+    return rounds
 
 
 def main():
@@ -329,10 +243,10 @@ def main():
     words.add_argument("--jobs", type=int, default=len(os.sched_getaffinity(0)))
     words.add_argument("names", nargs="*", metavar="CRATE or CRATE/EDIT")
     given = words.parse_args()
-    crates = crates_of(TOP)
+    below = libraries_below(crates_of())
     edits, bad = {}, []
-    for crate in crates:
-        folder = os.path.join(TOP, "crates", crate, "wrong-bodies")
+    for crate in below:
+        folder = os.path.join(folder_of(crate), "wrong-bodies")
         for name in sorted(os.listdir(folder)) if os.path.isdir(folder) else []:
             label = f"{crate}/{name}"
             if not given.names or crate in given.names or label in given.names or label.removesuffix(".edit") in given.names:
@@ -344,45 +258,24 @@ def main():
         print("\n".join(bad) or "no such edit")
         print(f"0 passed, {max(len(bad), 1)} failed")
         return 1
-    wanted = [it for it in crates if it in edits or any(it in crates[name] for name in edits)]
-    places, printing = Places(given.jobs), threading.Lock()
-    ended = {it: threading.Event() for it in wanted}
-    proved, refused = set(), set()
+    if subprocess.run([os.path.join(TOP, "tools", "build.py"), "--libraries"], stdout=sys.stderr).returncode:
+        print("the crates are not proved as they stand")
+        print(f"0 passed, {sum(map(len, edits.values()))} failed")
+        return 1
+    printing, refused = threading.Lock(), set()
 
-    def tell(label, said):
-        with printing:
-            print(f"{label}: {said[:200]}", flush=True)
+    def try_round(one):
+        for edit, is_refused, said in one.judge(one.check(below[one.crate])):
+            text = f"refused, as it must be: {said}" if is_refused else said
+            with printing:
+                print(f"{edit.label}: {text[:200]}", flush=True)
+                refused.update([edit.label] * is_refused)
 
-    def prove(trial):
-        for name in trial.below:
-            ended[name].wait()
-        with places.taken(is_proof=True):
-            if proved.issuperset(trial.below):
-                trial.copy()
-                if trial.prove():
-                    proved.add(trial.crate)
-
-    def try_round(trial, number, one):
-        with places.taken():
-            told = trial.check(number, one.texts)
-        for edit, is_refused, said in one.judge(told):
-            tell(edit.label, f"{'refused, as it must be: ' * is_refused}{said}")
-            if is_refused:
-                refused.add(edit.label)
-
-    def work(trial):
-        try:
-            prove(trial)
-        finally:
-            ended[trial.crate].set()
-        if trial.crate not in proved:
-            tell(trial.crate, "NOT PROVED as it stands")
-            return
-        rounds = [threading.Thread(target=try_round, args=(trial, number, one)) for number, one in enumerate(trial.rounds())]
-        run_all(rounds)
-
-    with tempfile.TemporaryDirectory(prefix="wrong-bodies-") as rooms:
-        run_all([threading.Thread(target=work, args=(Trial(it, crates[it], edits.get(it, []), rooms),)) for it in wanted])
+    # The checks with the most edits take the longest, and begin first.
+    rounds = sorted((one for crate, own in edits.items() for one in rounds_of(crate, own)), key=lambda one: -len(one.edits))
+    os.makedirs(ROOMS, exist_ok=True)
+    with ThreadPoolExecutor(given.jobs) as pool:
+        list(pool.map(try_round, rounds))
     failed = sum(map(len, edits.values())) - len(refused)
     print(f"{len(refused)} passed, {failed} failed")
     return 1 if failed else 0

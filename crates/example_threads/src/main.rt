@@ -183,16 +183,20 @@ fn open(alloc: Global) -> Result<(SharedMap, Client, Client)>
     }
 }
 
-fn main(rt: HostRuntime) -> Result<()> {
-    let alloc = rt.alloc();
-    let (map, a, b) = open(alloc)?;
-    let ((mut a, first), (mut b, second)) = run_both(&rt, alloc, &map, a, b);
-    println!(rt; "the threads changed {first:?} and {second:?}")?;
-
+/// The clients meet; then one holds a part, and the other meets it there.
+fn meet_and_hold(
+    rt: &HostRuntime,
+    map: &SharedMap,
+    mut a: Client,
+    mut b: Client,
+) -> Result<(Client, Client)>
+    requires { IsClientOf map.now a × IsClientOf map.now b }
+    ensures { IfOk result (λ r. IsClientOf map.now r.0 × IsClientOf map.now r.1) }
+{
     map.meet(&mut a, &mut b);
-    let add = Batch::one(alloc, Command::Add(cell(alloc, 3)?))?;
-    let count = Batch::one(alloc, Command::Count(cell(alloc, 3)?))?;
-    let (a, busy, done) = meet_busy(&map, a, &mut b, add, &count);
+    let add = Batch::one(rt.alloc(), Command::Add(cell(rt.alloc(), 3)?))?;
+    let count = Batch::one(rt.alloc(), Command::Count(cell(rt.alloc(), 3)?))?;
+    let (a, busy, done) = meet_busy(map, a, &mut b, add, &count);
     if let Some(busy) = busy {
         println!(rt;
             "part {} was held by client {}",
@@ -201,25 +205,69 @@ fn main(rt: HostRuntime) -> Result<()> {
         )?;
     }
     println!(rt; "client 0 changed {done:?}")?;
+    Ok((a, b))
+}
 
-    let (a, snapshot) = look(&map, a, Batch::one(alloc, Command::Read(cell(alloc, 3)?))?);
-    let remove = Batch::one(alloc, Command::Remove(cell(alloc, 3)?))?;
-    println!(rt;
-        "client 1 removed {:?}",
-        pixels(&map.try_apply(&mut b, &remove)?)
-    )?;
+/// A client looks at a part, the other changes it, and the first tells what it saw.
+fn look_and_change(
+    rt: &HostRuntime,
+    map: &SharedMap,
+    a: Client,
+    mut b: Client,
+) -> Result<(Client, Client)>
+    requires { IsClientOf map.now a × IsClientOf map.now b }
+    ensures { IfOk result (λ r. IsClientOf map.now r.0 × IsClientOf map.now r.1) }
+{
+    let read = Batch::one(rt.alloc(), Command::Read(cell(rt.alloc(), 3)?))?;
+    let (a, snapshot) = look(map, a, read);
+    remove(rt, map, &mut b)?;
     if let Some(snapshot) = snapshot {
-        println!(rt; "client 0 saw {:?}", pixels(&snapshot.answer(alloc)?))?;
+        let seen = snapshot.answer(rt.alloc())?;
+        println!(rt; "client 0 saw {:?}", pixels(&seen))?;
     }
+    Ok((a, b))
+}
+
+/// A client removes a cell.
+fn remove(rt: &HostRuntime, map: &SharedMap, client: &mut Client) -> Result<()>
+    requires { IsClientOf map.now client.old }
+    ensures { IsClientOf map.now client.new }
+{
+    let remove = Batch::one(rt.alloc(), Command::Remove(cell(rt.alloc(), 3)?))?;
+    let removed = map.try_apply(client, &remove)?;
+    println!(rt; "client 1 removed {:?}", pixels(&removed))?;
+    Ok(())
+}
+
+/// One client takes in the other, and closes the map.
+fn close(rt: &HostRuntime, map: SharedMap, a: Client, b: Client) -> Result<()>
+    requires { IsClientOf map a × IsClientOf map b }
+{
+    let remove = Batch::one(rt.alloc(), Command::Remove(cell(rt.alloc(), 3)?))?;
     let (mut a, none) = look(&map, a, remove);
     println!(rt; "an update gives a snapshot: {}", none.is_some())?;
-
     map.take_in(&mut a, b);
     println!(rt; "{} pixels at the end", map.close(a)?.count())?;
+    Ok(())
+}
 
-    let (map, a, b) = open(alloc)?;
-    if let Some(error) = close_midway(map, a, b, Batch::one(alloc, Command::Invert)?) {
+/// A map is not closed while a client holds a batch for good.
+fn hold_for_good(rt: &HostRuntime) -> Result<()> {
+    let (map, a, b) = open(rt.alloc())?;
+    let batch = Batch::one(rt.alloc(), Command::Invert)?;
+    if let Some(error) = close_midway(map, a, b, batch) {
         println!(rt; "not closed: {error}")?;
     }
     Ok(())
+}
+
+fn main(rt: HostRuntime) -> Result<()> {
+    let alloc = rt.alloc();
+    let (map, a, b) = open(alloc)?;
+    let ((a, first), (b, second)) = run_both(&rt, alloc, &map, a, b);
+    println!(rt; "the threads changed {first:?} and {second:?}")?;
+    let (a, b) = meet_and_hold(&rt, &map, a, b)?;
+    let (a, b) = look_and_change(&rt, &map, a, b)?;
+    close(&rt, map, a, b)?;
+    hold_for_good(&rt)
 }

@@ -19,27 +19,42 @@ fn main(rt: HostRuntime) -> Result<()> {
         println!(rt; "moc_bench OP REPEATS")?;
         return Ok(());
     };
-    let Some(operation) = Operation::named(word.as_str()) else {
+    time(&rt, word.as_str(), repeats.as_str().parse()?)
+}
+
+/// Times an operation on the input so often, and prints its line.
+fn time(rt: &HostRuntime, word: &str, repeats: u32) -> Result<()> {
+    let Some(operation) = Operation::named(word) else {
         bail!("no operation {word}");
     };
-    let repeats: u32 = repeats.as_str().parse()?;
     let mut text = Vec::new(rt.alloc());
     rt.stdin().read_to_end(&mut text)?;
     let input = Input::new(rt.alloc(), operation, &text)?;
-    let mut times = Vec::new(rt.alloc());
-    let mut sum = 0;
-    for _ in 0..repeats {
-        let start = Instant::now(&rt)?;
-        sum = answer(rt.alloc(), operation, &input)?;
-        let micros = start.elapsed(&rt)?.as_micros();
-        times.push(u64::try_from(micros).unwrap_or(u64::MAX))?;
-    }
+    let (mut times, sum) = times_of(rt, operation, &input, repeats)?;
     let first = in_seconds(times.first());
     times.sort_unstable();
     let median = in_seconds(times.get(times.len() / 2));
     let least = in_seconds(times.first());
     println!(rt; "{word} {median} {first} {least} {sum}")?;
     Ok(())
+}
+
+/// The microseconds that each turn takes, and the operation's checksum.
+fn times_of(
+    rt: &HostRuntime,
+    operation: Operation,
+    input: &Input<'_>,
+    repeats: u32,
+) -> Result<(Vec<u64>, u64)> {
+    let mut times = Vec::new(rt.alloc());
+    let mut sum = 0;
+    for _ in 0..repeats {
+        let start = Instant::now(rt)?;
+        sum = answer(rt.alloc(), operation, input)?;
+        let micros = start.elapsed(rt)?.as_micros();
+        times.push(u64::try_from(micros).unwrap_or(u64::MAX))?;
+    }
+    Ok((times, sum))
 }
 
 /// A time of so many microseconds.

@@ -5,21 +5,36 @@ use moc_parts::{
 };
 use moc_ranges::Coverage;
 use moc_sphere::{Cell, Order};
-use std::test::Fail;
+use std::alloc::Global;
+use std::process::Abort;
 
 /// How many pixels a base pixel has: 4^29.
 const BASE: u64 = 288230376151711744;
 
 /// The operand of these ranges.
-fn ranges(rt: &HostRuntime, pairs: &[(u64, u64)]) -> Result<Operand, Fail> {
-    let set = Coverage::from_ranges(rt.alloc(), pairs)?;
-    Ok(Operand { set, coarse: None })
+fn ranges(rt: &impl Abort, alloc: Global, pairs: &[(u64, u64)]) -> Operand {
+    Operand::from(set(rt, alloc, pairs))
+}
+
+/// The set of these ranges.
+fn set(rt: &impl Abort, alloc: Global, pairs: &[(u64, u64)]) -> Coverage {
+    Coverage::from_ranges(alloc, pairs).expect(rt, "ranges")
+}
+
+/// The map of these ranges.
+fn map_of(rt: &impl Abort, alloc: Global, pairs: &[(u64, u64)]) -> Map {
+    Map::new(alloc, set(rt, alloc, pairs)).expect(rt, "memory")
+}
+
+/// The batch of one command.
+fn one(rt: &impl Abort, alloc: Global, command: Command) -> Batch {
+    Batch::one(alloc, command).expect(rt, "memory")
 }
 
 /// The command `near` of a cell.
-fn near(order: u8, index: u64) -> Result<Command, Fail> {
-    let order = Order::new(order).ok_or("order")?;
-    Ok(Command::Near(Cell::new(order, index)?))
+fn near(rt: &impl Abort, order: u8, index: u64) -> Command {
+    let order = Order::new(order).expect(rt, "an order");
+    Command::Near(Cell::new(order, index).expect(rt, "a cell"))
 }
 
 /// The footprint has just these parts.
@@ -28,43 +43,44 @@ fn has_just(footprint: PartSet, parts: &[u8]) -> bool {
 }
 
 #[test]
-fn footprints(rt: HostRuntime) -> Result<(), Fail> {
+fn footprints(rt: HostRuntime) {
     let alloc = rt.alloc();
-    let empty = Command::Add(ranges(&rt, &[])?);
+    let empty = Command::Add(ranges(&rt, alloc, &[]));
     assert!(rt; has_just(empty.footprint(alloc), &[0]));
-    let two = Command::Count(ranges(
-        &rt,
-        &[(3 * BASE, 4 * BASE), (5 * BASE + 3 * (BASE / 4), 6 * BASE)],
-    )?);
+    let pairs = [(3 * BASE, 4 * BASE), (5 * BASE + 3 * (BASE / 4), 6 * BASE)];
+    let two = Command::Count(ranges(&rt, alloc, &pairs));
     assert!(rt; has_just(two.footprint(alloc), &[3, 5]));
-    assert!(rt; has_just(near(0, 4)?.footprint(alloc), &[0, 3, 4, 5, 7, 8, 11]));
-    assert!(rt; has_just(near(1, 0)?.footprint(alloc), &[0, 4, 5, 8]));
-    assert!(rt; has_just(near(1, 3)?.footprint(alloc), &[0, 1, 2, 3]));
-    let keep = Command::Keep(ranges(&rt, &[(3 * BASE, 4 * BASE)])?);
+    assert!(rt; has_just(near(&rt, 0, 4).footprint(alloc), &[0, 3, 4, 5, 7, 8, 11]));
+    assert!(rt; has_just(near(&rt, 1, 0).footprint(alloc), &[0, 4, 5, 8]));
+    assert!(rt; has_just(near(&rt, 1, 3).footprint(alloc), &[0, 1, 2, 3]));
+    let keep = Command::Keep(ranges(&rt, alloc, &[(3 * BASE, 4 * BASE)]));
     assert!(rt;
         has_just(
             keep.footprint(alloc),
             &[0, 1, 2, 3, 4, 5, 6, 7, 8, 9, 10, 11]
         )
     );
-    Ok(())
 }
 
 #[test]
-fn a_batch_has_the_parts_of_its_commands(rt: HostRuntime) -> Result<(), Fail> {
-    let mut commands = Vec::new(rt.alloc());
-    commands.push(Command::Add(ranges(&rt, &[(3 * BASE, 4 * BASE)])?))?;
-    commands.push(Command::Add(ranges(&rt, &[])?))?;
-    let batch = Batch::new(commands)?;
-    assert!(rt; has_just(batch.footprint(rt.alloc()), &[0, 3]));
+fn a_batch_has_the_parts_of_its_commands(rt: HostRuntime) {
+    let alloc = rt.alloc();
+    let mut commands = Vec::new(alloc);
+    commands
+        .push(Command::Add(ranges(&rt, alloc, &[(3 * BASE, 4 * BASE)])))
+        .expect(&rt, "memory");
+    commands
+        .push(Command::Add(ranges(&rt, alloc, &[])))
+        .expect(&rt, "memory");
+    let batch = Batch::new(commands).expect(&rt, "memory");
+    assert!(rt; has_just(batch.footprint(alloc), &[0, 3]));
     assert!(rt; batch.is_update());
-    let copy = batch.try_copy(rt.alloc())?;
+    let copy = batch.try_copy(alloc).expect(&rt, "memory");
     assert!(rt; copy.commands().len() == 2);
-    Ok(())
 }
 
 #[test]
-fn batches_of_none_and_of_seventeen(rt: HostRuntime) -> Result<(), Fail> {
+fn batches_of_none_and_of_seventeen(rt: HostRuntime) {
     let mut commands = Vec::new(rt.alloc());
     assert!(rt;
         matches!(
@@ -73,25 +89,24 @@ fn batches_of_none_and_of_seventeen(rt: HostRuntime) -> Result<(), Fail> {
         )
     );
     for _ in 0u8..17 {
-        commands.push(Command::Invert)?;
+        commands.push(Command::Invert).expect(&rt, "memory");
     }
     assert!(rt; matches!(Batch::new(commands), Err(BatchError::TooManyCommands)));
-    Ok(())
 }
 
 #[test]
-fn copies(rt: HostRuntime) -> Result<(), Fail> {
-    let third = ranges(&rt, &[(3 * BASE, 4 * BASE)])?;
-    let reply = Reply::Cover(third.set.try_copy(rt.alloc())?);
-    let Reply::Cover(cover) = reply.try_copy(rt.alloc())? else {
-        return Err("another reply".into());
+fn copies(rt: HostRuntime) {
+    let alloc = rt.alloc();
+    let third = ranges(&rt, alloc, &[(3 * BASE, 4 * BASE)]);
+    let reply = Reply::Cover(third.set.try_copy(alloc).expect(&rt, "memory"));
+    let Reply::Cover(cover) = reply.try_copy(alloc).expect(&rt, "memory") else {
+        panic!(rt; "another reply")
     };
     assert!(rt; cover.same(&third.set));
-    let Command::Keep(kept) = Command::Keep(third).try_copy(rt.alloc())? else {
-        return Err("another command".into());
+    let Command::Keep(kept) = Command::Keep(third).try_copy(alloc).expect(&rt, "memory") else {
+        panic!(rt; "another command")
     };
     assert!(rt; kept.set.same(&cover));
-    Ok(())
 }
 
 /// The pixels that the first reply says have changed.
@@ -103,79 +118,83 @@ fn changed(replies: &Replies) -> Option<u64> {
 }
 
 #[test]
-fn a_map_does_commands(rt: HostRuntime) -> Result<(), Fail> {
+fn a_map_does_commands(rt: HostRuntime) {
     let alloc = rt.alloc();
-    let mut map = Map::new(alloc, Coverage::from_ranges(alloc, &[(0, BASE)])?)?;
-    let replies = map.apply(alloc, &Batch::one(alloc, Command::Invert)?)?;
-    assert_eq!(rt; changed(&replies.try_copy(alloc)?), Some(12 * BASE));
+    let mut map = map_of(&rt, alloc, &[(0, BASE)]);
+    let replies = map
+        .apply(alloc, &one(&rt, alloc, Command::Invert))
+        .expect(&rt, "memory");
+    assert_eq!(rt;
+        changed(&replies.try_copy(alloc).expect(&rt, "memory")),
+        Some(12 * BASE)
+    );
     assert!(rt; map.part(Part::of(0)).is_empty());
     assert_eq!(rt; map.part(Part::of(11)).count(), BASE);
-    Ok(())
 }
 
 #[test]
-fn a_batch_is_prepared_from_a_part(rt: HostRuntime) -> Result<(), Fail> {
+fn a_batch_is_prepared_from_a_part(rt: HostRuntime) {
     let alloc = rt.alloc();
-    let map = Map::new(alloc, Coverage::from_ranges(alloc, &[(0, 3 * BASE)])?)?;
+    let map = map_of(&rt, alloc, &[(0, 3 * BASE)]);
     let part = Some(map.part(Part::of(0)));
     let found = [
         part, None, None, None, None, None, None, None, None, None, None, None,
     ];
-    let removal = Batch::one(alloc, Command::Remove(ranges(&rt, &[(5, BASE)])?))?;
-    let mut prepared = prepare(alloc, &removal, &found)?;
+    let removal = one(
+        &rt,
+        alloc,
+        Command::Remove(ranges(&rt, alloc, &[(5, BASE)])),
+    );
+    let mut prepared = prepare(alloc, &removal, &found).expect(&rt, "memory");
     assert_eq!(rt; changed(prepared.reply()), Some(BASE - 5));
-    let list = prepared.take(Part::of(0)).ok_or("no list")?;
+    let list = prepared.take(Part::of(0)).expect(&rt, "no list");
     assert_eq!(rt; list.count(), 5);
     assert!(rt; prepared.take(Part::of(0)).is_none());
     assert!(rt; prepared.take(Part::of(1)).is_none());
     assert_eq!(rt; prepared.into_reply().as_slice().len(), 1);
-    let count = Batch::one(alloc, Command::Count(ranges(&rt, &[(5, BASE)])?))?;
+    let count = one(&rt, alloc, Command::Count(ranges(&rt, alloc, &[(5, BASE)])));
     assert!(rt; !count.is_update());
-    let replies = reply_of(alloc, &count, &found)?;
+    let replies = reply_of(alloc, &count, &found).expect(&rt, "memory");
     assert!(rt;
         matches!(
             replies.as_slice().first(),
             Some(Reply::Total(288230376151711739))
         )
     );
-    Ok(())
 }
 
 #[test]
-fn a_part_that_is_left_has_no_change(rt: HostRuntime) -> Result<(), Fail> {
+fn a_part_that_is_left_has_no_change(rt: HostRuntime) {
     let alloc = rt.alloc();
-    let map = Map::new(alloc, Coverage::from_ranges(alloc, &[(0, 5)])?)?;
+    let map = map_of(&rt, alloc, &[(0, 5)]);
     let part = Some(map.part(Part::of(0)));
     let found = [
         part, None, None, None, None, None, None, None, None, None, None, None,
     ];
-    let addition = Batch::one(alloc, Command::Add(ranges(&rt, &[(2, 4)])?))?;
-    let mut changes = prepare_changes(alloc, &addition, &found)?;
+    let addition = one(&rt, alloc, Command::Add(ranges(&rt, alloc, &[(2, 4)])));
+    let mut changes = prepare_changes(alloc, &addition, &found).expect(&rt, "memory");
     assert_eq!(rt; changed(changes.reply()), Some(0));
     assert!(rt; changes.take(Part::of(0)).is_none());
-    Ok(())
 }
 
 #[test]
-fn errors_are_told(rt: HostRuntime) -> Result<(), Fail> {
-    let few = format!(in rt.alloc(); "{}", BatchError::EmptyCommand)?;
+fn errors_are_told(rt: HostRuntime) {
+    let few = format!(in rt.alloc(); "{}", BatchError::EmptyCommand).expect(&rt, "memory");
     assert_eq!(rt; few.as_str(), "a batch has a command");
-    let many = format!(in rt.alloc(); "{}", BatchError::TooManyCommands)?;
+    let many = format!(in rt.alloc(); "{}", BatchError::TooManyCommands).expect(&rt, "memory");
     assert_eq!(rt; many.as_str(), "a batch has at most 16 commands");
-    Ok(())
 }
 
 #[test]
-fn a_map_is_one_coverage(rt: HostRuntime) -> Result<(), Fail> {
+fn a_map_is_one_coverage(rt: HostRuntime) {
     let alloc = rt.alloc();
     let pairs = [(BASE - 1, BASE + 1), (5 * BASE, 7 * BASE)];
-    let map = Map::new(alloc, Coverage::from_ranges(alloc, &pairs)?)?;
-    let whole = map.coverage(alloc)?;
+    let map = map_of(&rt, alloc, &pairs);
+    let whole = map.coverage(alloc).expect(&rt, "memory");
     let mut ranges = whole.ranges();
     assert_eq!(rt; ranges.next(), Some((BASE - 1, BASE + 1)));
     assert_eq!(rt; ranges.next(), Some((5 * BASE, 7 * BASE)));
     assert_eq!(rt; ranges.next(), None);
     let operand = Operand::from(whole);
     assert!(rt; operand.coarse.is_none() && operand.set.count() == 2 * BASE + 2);
-    Ok(())
 }

@@ -164,21 +164,46 @@ fn pixels(replies: &Replies) -> Option<u64> {
     }
 }
 
+/// How many pixels a client counts in the whole sky.
+fn count(alloc: Global, map: &SharedMap, client: &mut Client) -> Result<Option<u64>>
+    requires { IsClientOf map.now client.old }
+    ensures { IsClientOf map.now client.new }
+{
+    let count = Batch::one(alloc, Command::Count(operand(alloc, 0, PIXEL_COUNT)?))?;
+    Ok(pixels(&map.try_apply(client, &count)?))
+}
+
+/// How many pixels change where a client fills the whole sky.
+fn fill(alloc: Global, map: &SharedMap, client: &mut Client) -> Result<Option<u64>>
+    requires { IsClientOf map.now client.old }
+    ensures { IsClientOf map.now client.new }
+{
+    let fill = Batch::one(alloc, Command::Add(operand(alloc, 0, PIXEL_COUNT)?))?;
+    Ok(pixels(&map.try_apply(client, &fill)?))
+}
+
+/// Whether a client reads just this set in the whole sky.
+fn reads(alloc: Global, map: &SharedMap, client: Client, set: &Coverage) -> Result<(Client, bool)>
+    requires { IsClientOf map.now client }
+    ensures { IfOk result (λ r. IsClientOf map.now r.0) }
+{
+    let read = Batch::one(alloc, Command::Read(operand(alloc, 0, PIXEL_COUNT)?))?;
+    let (client, snapshot) = look(map, client, read);
+    let shown = match snapshot {
+        Some(snapshot) => is_cover(&snapshot.answer(alloc)?, set),
+        None => false,
+    };
+    Ok((client, shown))
+}
+
 /// Whether the map has just this set, no part of it is held, and each call of its two clients works.
 fn stands(alloc: Global, map: SharedMap, a: Client, b: Client, set: &Coverage) -> Result<bool>
     requires { IsClientOf map a × IsClientOf map b }
 {
     let (mut a, mut b) = (a, b);
-    let count = Batch::one(alloc, Command::Count(operand(alloc, 0, PIXEL_COUNT)?))?;
-    let counted = pixels(&map.try_apply(&mut a, &count)?) == Some(set.count());
-    let read = Batch::one(alloc, Command::Read(operand(alloc, 0, PIXEL_COUNT)?))?;
-    let (mut a, snapshot) = look(&map, a, read);
-    let Some(snapshot) = snapshot else {
-        return Ok(false);
-    };
-    let shown = is_cover(&snapshot.answer(alloc)?, set);
-    let fill = Batch::one(alloc, Command::Add(operand(alloc, 0, PIXEL_COUNT)?))?;
-    let filled = pixels(&map.try_apply(&mut b, &fill)?) == Some(PIXEL_COUNT - set.count());
+    let counted = count(alloc, &map, &mut a)? == Some(set.count());
+    let (mut a, shown) = reads(alloc, &map, a, set)?;
+    let filled = fill(alloc, &map, &mut b)? == Some(PIXEL_COUNT - set.count());
     map.meet(&mut a, &mut b);
     map.take_in(&mut a, b);
     Ok(counted && shown && filled && map.close(a)?.count() == PIXEL_COUNT)

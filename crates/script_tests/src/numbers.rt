@@ -3,7 +3,6 @@ use crate::between::{Language, expect_answers as expect};
 use moc_script::{LINE_LIMIT, Numbering, OverReader, OverWriter, Renumbering, RunError, renumber};
 use moc_sphere::Order;
 use std::alloc::{AllocError, Global};
-use std::test::Fail;
 
 // The names of the numberings.
 const NAMES: [&str; 3] = ["nest", "ring", "uniq"];
@@ -15,11 +14,11 @@ const RINGS: [u64; 48] = [
 ];
 
 // Numbers of an order, by the names of two numberings.
-fn numbers(from: &str, to: &str, order: u8) -> Result<Language, Fail> {
-    Ok(Language::Numbers(Renumbering {
-        from: Numbering::named(from).ok_or("from")?,
-        to: Numbering::named(to).ok_or("to")?,
-        order: Order::new(order).ok_or("order")?,
+fn numbers(from: &str, to: &str, order: u8) -> Option<Language> {
+    Some(Language::Numbers(Renumbering {
+        from: Numbering::named(from)?,
+        to: Numbering::named(to)?,
+        order: Order::new(order)?,
     }))
 }
 
@@ -38,12 +37,12 @@ fn cells_of_order_1(alloc: Global, name: &str) -> Result<String, AllocError> {
 }
 
 #[test]
-fn all_cells_of_order_1(rt: HostRuntime) -> Result<(), Fail> {
+fn all_cells_of_order_1(rt: HostRuntime) {
     for from in NAMES {
         for to in NAMES {
-            let lines = cells_of_order_1(rt.alloc(), from)?;
-            let answers = cells_of_order_1(rt.alloc(), to)?;
-            let language = numbers(from, to, 1)?;
+            let lines = cells_of_order_1(rt.alloc(), from).expect(&rt, "memory");
+            let answers = cells_of_order_1(rt.alloc(), to).expect(&rt, "memory");
+            let language = numbers(from, to, 1).expect(&rt, "numberings");
             expect(
                 &rt,
                 rt.alloc(),
@@ -54,12 +53,11 @@ fn all_cells_of_order_1(rt: HostRuntime) -> Result<(), Fail> {
         }
     }
     assert!(rt; Numbering::named("nested").is_none());
-    Ok(())
 }
 
 // Cells of the least and of the greatest order: the first and the last in some numbering.
 #[test]
-fn ends_of_orders(rt: HostRuntime) -> Result<(), Fail> {
+fn ends_of_orders(rt: HostRuntime) {
     for (order, lines) in [
         (0, ["0\n11\n", "0\n11\n", "4\n15\n"]),
         (
@@ -73,7 +71,7 @@ fn ends_of_orders(rt: HostRuntime) -> Result<(), Fail> {
     ] {
         for (from, given) in NAMES.iter().zip(lines.iter()) {
             for (to, answers) in NAMES.iter().zip(lines.iter()) {
-                let language = numbers(from, to, order)?;
+                let language = numbers(from, to, order).expect(&rt, "numberings");
                 expect(
                     &rt,
                     rt.alloc(),
@@ -84,12 +82,11 @@ fn ends_of_orders(rt: HostRuntime) -> Result<(), Fail> {
             }
         }
     }
-    Ok(())
 }
 
 // Faults of fields are those of any numbering. A number of more than 64 bits is too large, as one of 64 bits is.
 #[test]
-fn faulty_lines(rt: HostRuntime) -> Result<(), Fail> {
+fn faulty_lines(rt: HostRuntime) {
     let fields = b"1 2\nx 2\n2 x\nx\n-1\n+1\n1x\n1;2\n0x1\n1.0\n";
     let told = b"\
 fault WrongCount
@@ -104,7 +101,13 @@ fault BadNumber
 fault BadNumber
 ";
     for from in NAMES {
-        expect(&rt, rt.alloc(), numbers(from, "ring", 3)?, fields, told);
+        expect(
+            &rt,
+            rt.alloc(),
+            numbers(from, "ring", 3).expect(&rt, "numberings"),
+            fields,
+            told,
+        );
     }
     for (from, lines, answers) in [
         (
@@ -123,7 +126,7 @@ fault BadNumber
             "fault NotUniq\n4\n15\nfault OtherOrder\nfault OtherOrder\nfault NotUniq\nfault NotUniq\n",
         ),
     ] {
-        let language = numbers(from, "uniq", 0)?;
+        let language = numbers(from, "uniq", 0).expect(&rt, "numberings");
         expect(
             &rt,
             rt.alloc(),
@@ -135,21 +138,20 @@ fault BadNumber
     expect(
         &rt,
         rt.alloc(),
-        numbers("uniq", "nest", 1)?,
+        numbers("uniq", "nest", 1).expect(&rt, "numberings"),
         b"15\n16\n63\n64\n",
         b"fault OtherOrder\n0\n47\nfault OtherOrder\n",
     );
-    Ok(())
 }
 
 // Blank lines have no answer; blanks round a number and zeros before it are skipped; a last line needs no line feed.
 #[test]
-fn blanks_and_line_ends(rt: HostRuntime) -> Result<(), Fail> {
+fn blanks_and_line_ends(rt: HostRuntime) {
     for blanks in ["", "\n \t\r\n\r\n  "] {
-        let language = numbers("nest", "ring", 1)?;
+        let language = numbers("nest", "ring", 1).expect(&rt, "numberings");
         expect(&rt, rt.alloc(), language, blanks.as_bytes(), b"");
     }
-    let language = numbers("nest", "ring", 1)?;
+    let language = numbers("nest", "ring", 1).expect(&rt, "numberings");
     let lines = b"0\r\n\n \t1 \t\r\n\r\n00000000000000000000002\nx\n\n3";
     expect(
         &rt,
@@ -158,11 +160,10 @@ fn blanks_and_line_ends(rt: HostRuntime) -> Result<(), Fail> {
         lines,
         b"13\n5\n4\nfault BadNumber\n0\n",
     );
-    Ok(())
 }
 
 // A number, a line of so many zeros, and a number more, from the nested numbers of order 1 to the ring numbers.
-fn over_zeros(alloc: Global, zeros: usize) -> Result<(Result<(), RunError>, Vec<u8>), Fail> {
+fn over_zeros(alloc: Global, zeros: usize) -> Result<(Result<(), RunError>, Vec<u8>), AllocError> {
     let mut lines = Vec::from_slice(alloc, b"1\n")?;
     let end = lines.len().saturating_add(zeros);
     lines.resize(end, b'0')?;
@@ -175,19 +176,18 @@ fn over_zeros(alloc: Global, zeros: usize) -> Result<(Result<(), RunError>, Vec<
         Renumbering {
             from: Numbering::Nest,
             to: Numbering::Ring,
-            order: Order::new(1).ok_or("order")?,
+            order: Order::of(1),
         },
     );
     Ok((result, text))
 }
 
 #[test]
-fn longest_line(rt: HostRuntime) -> Result<(), Fail> {
-    let (result, text) = over_zeros(rt.alloc(), LINE_LIMIT)?;
+fn longest_line(rt: HostRuntime) {
+    let (result, text) = over_zeros(rt.alloc(), LINE_LIMIT).expect(&rt, "memory");
     assert_eq!(rt; result, Ok(()));
     assert_eq!(rt; text.as_slice(), b"5\n13\n4\n".as_slice());
-    let (result, text) = over_zeros(rt.alloc(), LINE_LIMIT.saturating_add(1))?;
+    let (result, text) = over_zeros(rt.alloc(), LINE_LIMIT.saturating_add(1)).expect(&rt, "memory");
     assert_eq!(rt; result, Err(RunError::LineTooLong { line: 2 }));
     assert_eq!(rt; text.as_slice(), b"5\n".as_slice());
-    Ok(())
 }

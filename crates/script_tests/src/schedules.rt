@@ -4,7 +4,6 @@ use crate::failing::Failure;
 use moc_script::{OverReader, OverWriter, RunError, play};
 use std::alloc::{AllocError, Global};
 use std::process::Abort;
-use std::test::Fail;
 
 // Two clients on the same two parts. The first edits and gives one of its parts before the other takes it.
 const SCHEDULE: &[u8] = b"\
@@ -215,7 +214,7 @@ cover
 
 // A client that has taken all parts of a footprint holds just those.
 #[test]
-fn footprints(rt: HostRuntime) -> Result<(), Fail> {
+fn footprints(rt: HostRuntime) {
     for (command, takes, held) in [
         (
             "add",
@@ -267,10 +266,11 @@ fn footprints(rt: HostRuntime) -> Result<(), Fail> {
             ],
         ),
     ] {
-        let (schedule, answers) = taken_and_tried(rt.alloc(), command, takes, &held)?;
+        let (schedule, answers) = taken_and_tried(rt.alloc(), command, takes, &held).expect(
+            &rt, "memory",
+        );
         expect(&rt, rt.alloc(), schedule.as_bytes(), answers.as_bytes());
     }
-    Ok(())
 }
 
 // A schedule in which a client takes so many parts, and may take no more, and tries to give each part; and its answers.

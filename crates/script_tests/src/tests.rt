@@ -6,7 +6,6 @@ use moc_script::{
 };
 use std::alloc::{AllocError, Global};
 use std::process::Abort;
-use std::test::Fail;
 
 const SCRIPT: &[u8] = b"add 0/0\nadd 0/0 ; count 0/0-1\n \t\r\n\nhop\nadd 5/7-3\nread 0/0-1 5";
 
@@ -251,16 +250,15 @@ fn add_and_spaces(alloc: Global, len: usize) -> Result<Vec<u8>, AllocError> {
 }
 
 #[test]
-fn longest_line(rt: HostRuntime) -> Result<(), Fail> {
-    let mut line = add_and_spaces(rt.alloc(), LINE_LIMIT)?;
+fn longest_line(rt: HostRuntime) {
+    let mut line = add_and_spaces(rt.alloc(), LINE_LIMIT).expect(&rt, "memory");
     let (result, text) = run_over(rt.alloc(), &line);
     assert_eq!(rt; result, Ok(()));
     assert_eq!(rt; text.as_slice(), b"changed 0\n".as_slice());
-    line.push(b' ')?;
+    line.push(b' ').expect(&rt, "memory");
     let (result, text) = run_over(rt.alloc(), &line);
     assert_eq!(rt; result, Err(RunError::LineTooLong { line: 1 }));
     assert!(rt; text.is_empty());
-    Ok(())
 }
 
 // The front of the answers that the whole lines of a front of the script have: the lines of SCRIPT have 27, 37, 0, 0,
@@ -402,23 +400,26 @@ fn runs_over_std_that_fails_once(rt: HostRuntime) {
 }
 
 #[test]
-fn thousands_of_lines_and_nines(rt: HostRuntime) -> Result<(), Fail> {
+fn thousands_of_lines_and_nines(rt: HostRuntime) {
     let mut script = Vec::new(rt.alloc());
     let mut answers = Vec::new(rt.alloc());
     for _ in 0..5000 {
-        script.extend_from_slice(b"add\n")?;
-        answers.extend_from_slice(b"changed 0\n")?;
+        script.extend_from_slice(b"add\n").expect(&rt, "memory");
+        answers
+            .extend_from_slice(b"changed 0\n")
+            .expect(&rt, "memory");
     }
-    script.extend_from_slice(b"near 0 ")?;
+    script.extend_from_slice(b"near 0 ").expect(&rt, "memory");
     let all = script.len().saturating_add(1000);
-    script.resize(all, b'9')?;
-    answers.extend_from_slice(b"fault CellTooLarge\n")?;
+    script.resize(all, b'9').expect(&rt, "memory");
+    answers
+        .extend_from_slice(b"fault CellTooLarge\n")
+        .expect(&rt, "memory");
     expect(&rt, rt.alloc(), &script, &answers);
-    Ok(())
 }
 
 #[test]
-fn texts_of_errors(rt: HostRuntime) -> Result<(), Fail> {
+fn texts_of_errors(rt: HostRuntime) {
     for (error, text) in [
         (RunError::Read, "the input could not be read"),
         (RunError::Write, "the output could not be written"),
@@ -426,13 +427,19 @@ fn texts_of_errors(rt: HostRuntime) -> Result<(), Fail> {
         (RunError::Memory { line: 0 }, "out of memory at line 0"),
         (RunError::Spawn, "a thread could not be started"),
     ] {
-        assert_eq!(rt; format!(in rt.alloc(); "{error}")?.as_str(), text);
+        assert_eq!(rt;
+            format!(in rt.alloc(); "{error}")
+                .expect(&rt, "memory")
+                .as_str(),
+            text
+        );
     }
     assert_eq!(rt;
-        format!(in rt.alloc(); "{}", DeviceFault)?.as_str(),
+        format!(in rt.alloc(); "{}", DeviceFault)
+            .expect(&rt, "memory")
+            .as_str(),
         "a device failed"
     );
-    Ok(())
 }
 
 // The lines of a text before the one of this number, counted from 1.

@@ -222,6 +222,41 @@ const WORKS: [(&str, Work); 17] = [
     ),
 ];
 
+/// How often each work is timed, and how it came out, each in turn, so that what else the machine does falls on all alike.
+fn in_turns<R: Threads + Wait + Clock + Sync>(
+    rt: &R,
+    alloc: Global,
+    calls: u64,
+    repeats: u32,
+) -> Result<Vec<Vec<Figure>>> {
+    let mut rows = Vec::new(alloc);
+    for _ in WORKS {
+        rows.push(Vec::new(alloc))?;
+    }
+    for _ in 0..repeats {
+        for (row, (_, work)) in rows.iter_mut().zip(WORKS) {
+            row.push(once(rt, alloc, work, calls)?)?;
+        }
+    }
+    Ok(rows)
+}
+
+/// Prints the line of a work.
+fn print_row(rt: &HostRuntime, name: &str, row: &mut Vec<Figure>) -> Result<()> {
+    row.sort_unstable();
+    let least = row.first().copied().unwrap_or(Figure::nothing());
+    let median = row.get(row.len() / 2).copied().unwrap_or(least);
+    if row.len() > 1 {
+        println!(rt;
+            "{name}: {} good, least {} us, median {} us beside {} readings",
+            median.good, least.micros, median.micros, median.reads
+        )?;
+    } else {
+        println!(rt; "{name}: {} good", median.good)?;
+    }
+    Ok(())
+}
+
 fn main(rt: HostRuntime) -> Result<()> {
     let words: Vec<String> = std::env::args(&rt)?.collect(rt.alloc())?;
     let (calls, repeats) = match words.as_slice() {
@@ -229,28 +264,9 @@ fn main(rt: HostRuntime) -> Result<()> {
         [_, calls] => (calls.as_str().parse()?, REPEATS),
         _ => bail!("shared_bench [CALLS]"),
     };
-    let mut rows = Vec::new(rt.alloc());
-    for _ in WORKS {
-        rows.push(Vec::new(rt.alloc()))?;
-    }
-    // In turn, so that what else the machine does falls on all works alike.
-    for _ in 0..repeats {
-        for (row, (_, work)) in rows.iter_mut().zip(WORKS) {
-            row.push(once(&rt, rt.alloc(), work, calls)?)?;
-        }
-    }
+    let mut rows = in_turns(&rt, rt.alloc(), calls, repeats)?;
     for (row, (name, _)) in rows.iter_mut().zip(WORKS) {
-        row.sort_unstable();
-        let least = row.first().copied().unwrap_or(Figure::nothing());
-        let median = row.get(row.len() / 2).copied().unwrap_or(least);
-        if repeats > 1 {
-            println!(rt;
-                "{name}: {} good, least {} us, median {} us beside {} readings",
-                median.good, least.micros, median.micros, median.reads
-            )?;
-        } else {
-            println!(rt; "{name}: {} good", median.good)?;
-        }
+        print_row(&rt, name, row)?;
     }
     Ok(())
 }

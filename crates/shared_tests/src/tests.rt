@@ -8,8 +8,9 @@ use moc_shared::{
     Busy, Client, CloseError, Holding, NewError, SharedMap, Snapshot, SnapshotError, TryError,
 };
 use std::alloc::Global;
+use std::fmt::Display;
+use std::process::Abort;
 use std::sync::Wait;
-use std::test::Fail;
 use std::thread;
 
 /// How many pixels a base pixel has: 4^29.
@@ -19,40 +20,40 @@ const BASE: u64 = 288230376151711744;
 const CELL: u64 = 281474976710656;
 
 /// The set of these ranges.
-fn set(rt: &HostRuntime, pairs: &[(u64, u64)]) -> Result<Coverage, Fail> {
-    Ok(Coverage::from_ranges(rt.alloc(), pairs)?)
+fn set(rt: &impl Abort, alloc: Global, pairs: &[(u64, u64)]) -> Coverage {
+    Coverage::from_ranges(alloc, pairs).expect(rt, "ranges")
 }
 
 /// The set of base pixels from a first up to, not including, a last.
-fn base(rt: &HostRuntime, from: u64, to: u64) -> Result<Operand, Fail>
+fn base(rt: &impl Abort, alloc: Global, from: u64, to: u64) -> Operand
     requires { (from ≤ 12) × (to ≤ 12) }
 {
-    let set = set(rt, &[(from * BASE, to * BASE)])?;
-    Ok(Operand { set, coarse: None })
+    Operand::from(set(rt, alloc, &[(from * BASE, to * BASE)]))
+}
+
+/// The batch of one command.
+fn one(rt: &impl Abort, alloc: Global, command: Command) -> Batch {
+    Batch::one(alloc, command).expect(rt, "a batch")
 }
 
 /// The last of the clients that are left.
-fn next(map: &SharedMap, clients: &mut Vec<Client>) -> Option<Client>
+fn next(rt: &impl Abort, map: &SharedMap, clients: &mut Vec<Client>) -> Client
     requires { All (IsClientOf map.now) clients.old.items }
     ensures left { All (IsClientOf map.now) clients.new.items }
-    ensures next { IfSome result (IsClientOf map.now) }
+    ensures next { IsClientOf map.now result }
 {
     let _map = map;
-    match clients.pop() {
-        Some(client) => Some(client),
-        None => None,
-    }
+    clients.pop().expect(rt, "a client")
 }
 
 /// A map of two clients.
-fn two(rt: &HostRuntime, start: Coverage) -> Result<(SharedMap, Client, Client), Fail>
-    ensures { IfOk result (λ r. IsClientOf r.0 r.1 × IsClientOf r.0 r.2) }
+fn two(rt: &impl Abort, alloc: Global, start: Coverage) -> (SharedMap, Client, Client)
+    ensures { IsClientOf result.0 result.1 × IsClientOf result.0 result.2 }
 {
-    let (map, mut clients) = SharedMap::new(rt.alloc(), start, 2)?;
-    match (next(&map, &mut clients), next(&map, &mut clients)) {
-        (Some(b), Some(a)) => Ok((map, a, b)),
-        _ => Err("two clients".into()),
-    }
+    let (map, mut clients) = SharedMap::new(alloc, start, 2).expect(rt, "a map");
+    let b = next(rt, &map, &mut clients);
+    let a = next(rt, &map, &mut clients);
+    (map, a, b)
 }
 
 /// How many pixels changed.
@@ -92,53 +93,45 @@ fn finished(map: &SharedMap, holding: Holding) -> (Client, Option<u64>)
 }
 
 #[test]
-fn a_held_part_is_busy_and_the_others_are_not(rt: HostRuntime) -> Result<(), Fail> {
+fn a_held_part_is_busy_and_the_others_are_not(rt: HostRuntime) {
     let alloc = rt.alloc();
-    let (map, mut clients) = SharedMap::new(alloc, Coverage::empty(alloc), 3)?;
-    let mut c2 = next(&map, &mut clients).ok_or("a client")?;
-    let mut c1 = next(&map, &mut clients).ok_or("a client")?;
-    let c0 = next(&map, &mut clients).ok_or("a client")?;
-    let five = Batch::one(rt.alloc(), Command::Add(base(&rt, 5, 6)?))?;
-    let count = Batch::one(rt.alloc(), Command::Count(base(&rt, 2, 4)?))?;
-    let two = Batch::one(rt.alloc(), Command::Add(base(&rt, 2, 3)?))?;
-    let three = Batch::one(rt.alloc(), Command::Add(base(&rt, 3, 4)?))?;
-    let ends = set(&rt, &[(2 * BASE, 4 * BASE), (5 * BASE, 6 * BASE)])?;
-    let all = ends.try_copy(alloc)?;
-    let all = Batch::one(
-        rt.alloc(),
-        Command::Count(Operand {
-            set: all,
-            coarse: None,
-        }),
-    )?;
-    let Ok(holding) = map.hold(c0, three) else {
+    let (map, mut clients) = SharedMap::new(alloc, Coverage::empty(alloc), 3).expect(&rt, "a map");
+    let mut c2 = next(&rt, &map, &mut clients);
+    let mut c1 = next(&rt, &map, &mut clients);
+    let c0 = next(&rt, &map, &mut clients);
+    let Ok(holding) = map.hold(c0, one(&rt, alloc, Command::Add(base(&rt, alloc, 3, 4)))) else {
         panic!(rt; "held")
     };
+    let five = one(&rt, alloc, Command::Add(base(&rt, alloc, 5, 6)));
     assert_eq!(rt; changed(map.try_apply(&mut c1, &five)), Some(BASE));
+    let count = one(&rt, alloc, Command::Count(base(&rt, alloc, 2, 4)));
     assert_eq!(rt; refused(map.try_apply(&mut c1, &count)), Some((3, 0)));
+    let two = one(&rt, alloc, Command::Add(base(&rt, alloc, 2, 3)));
     assert_eq!(rt; changed(map.try_apply(&mut c2, &two)), Some(BASE));
     let (c0, done) = finished(&map, holding);
     assert_eq!(rt; done, Some(BASE));
+    let ends = set(&rt, alloc, &[(2 * BASE, 4 * BASE), (5 * BASE, 6 * BASE)]);
+    let all = ends.try_copy(alloc).expect(&rt, "a copy");
+    let all = one(&rt, alloc, Command::Count(Operand::from(all)));
     assert_eq!(rt; total(map.try_apply(&mut c1, &all)), Some(3 * BASE));
-    assert!(rt; map.close(c0)?.same(&ends));
-    Ok(())
+    assert!(rt; map.close(c0).expect(&rt, "the set").same(&ends));
 }
 
 #[test]
-fn two_clients_meet_and_one_takes_in_the_other(rt: HostRuntime) -> Result<(), Fail> {
+fn two_clients_meet_and_one_takes_in_the_other(rt: HostRuntime) {
     let alloc = rt.alloc();
-    let (map, mut a, mut b) = two(&rt, Coverage::empty(alloc))?;
-    let claim = Batch::one(rt.alloc(), Command::Claim(base(&rt, 4, 5)?))?;
-    let first = map.try_apply(&mut a, &claim)?;
+    let (map, mut a, mut b) = two(&rt, alloc, Coverage::empty(alloc));
+    let claim = one(&rt, alloc, Command::Claim(base(&rt, alloc, 4, 5)));
+    let first = map.try_apply(&mut a, &claim).expect(&rt, "an answer");
     assert!(rt; matches!(first.as_slice().first(), Some(Reply::Claimed)));
-    let second = map.try_apply(&mut b, &claim)?;
+    let second = map.try_apply(&mut b, &claim).expect(&rt, "an answer");
     assert!(rt; matches!(second.as_slice().first(), Some(Reply::Taken(BASE))));
     map.meet(&mut a, &mut b);
-    let nothing = Batch::one(rt.alloc(), Command::Add(base(&rt, 0, 0)?))?;
+    let nothing = one(&rt, alloc, Command::Add(base(&rt, alloc, 0, 0)));
     assert_eq!(rt; changed(map.try_apply(&mut b, &nothing)), Some(0));
     map.take_in(&mut a, b);
-    assert!(rt; map.close(a)?.same(&set(&rt, &[(4 * BASE, 5 * BASE)])?));
-    Ok(())
+    let set = set(&rt, alloc, &[(4 * BASE, 5 * BASE)]);
+    assert!(rt; map.close(a).expect(&rt, "the set").same(&set));
 }
 
 /// The part at which a map was not closed, while a client holds a batch for good.
@@ -156,13 +149,13 @@ fn midway(map: SharedMap, a: Client, b: Client, batch: Batch) -> Option<u8>
 }
 
 #[test]
-fn a_part_that_stays_held_is_midway(rt: HostRuntime) -> Result<(), Fail> {
-    let (map, a, mut b) = two(&rt, set(&rt, &[(7 * BASE, 8 * BASE)])?)?;
-    let count = Batch::one(rt.alloc(), Command::Count(base(&rt, 6, 8)?))?;
+fn a_part_that_stays_held_is_midway(rt: HostRuntime) {
+    let alloc = rt.alloc();
+    let (map, a, mut b) = two(&rt, alloc, set(&rt, alloc, &[(7 * BASE, 8 * BASE)]));
+    let count = one(&rt, alloc, Command::Count(base(&rt, alloc, 6, 8)));
     assert_eq!(rt; total(map.try_apply(&mut b, &count)), Some(BASE));
-    let add = Batch::one(rt.alloc(), Command::Add(base(&rt, 3, 4)?))?;
+    let add = one(&rt, alloc, Command::Add(base(&rt, alloc, 3, 4)));
     assert_eq!(rt; midway(map, a, b, add), Some(3));
-    Ok(())
 }
 
 /// What a query saw, with its client; nothing of an update, whose holding is let go.
@@ -189,38 +182,34 @@ fn look(map: &SharedMap, client: Client, batch: Batch) -> (Client, Option<Snapsh
 }
 
 #[test]
-fn a_snapshot_answers_what_was_there(rt: HostRuntime) -> Result<(), Fail> {
+fn a_snapshot_answers_what_was_there(rt: HostRuntime) {
     let alloc = rt.alloc();
-    let (map, a, mut b) = two(&rt, Coverage::empty(alloc))?;
-    let add = Batch::one(rt.alloc(), Command::Add(base(&rt, 3, 4)?))?;
+    let (map, a, mut b) = two(&rt, alloc, Coverage::empty(alloc));
+    let add = one(&rt, alloc, Command::Add(base(&rt, alloc, 3, 4)));
     assert_eq!(rt; changed(map.try_apply(&mut b, &add)), Some(BASE));
-    let both = set(&rt, &[(3 * BASE, 4 * BASE), (5 * BASE, 6 * BASE)])?;
-    let read = Batch::one(
-        rt.alloc(),
-        Command::Read(Operand {
-            set: both,
-            coarse: None,
-        }),
-    )?;
-    let (a, snapshot) = look(&map, a, read);
-    let snapshot = snapshot.ok_or("a snapshot")?;
-    let remove = Batch::one(rt.alloc(), Command::Remove(base(&rt, 3, 4)?))?;
+    let both = set(&rt, alloc, &[(3 * BASE, 4 * BASE), (5 * BASE, 6 * BASE)]);
+    let read = one(&rt, alloc, Command::Read(Operand::from(both)));
+    let (mut a, snapshot) = look(&map, a, read);
+    let snapshot = snapshot.expect(&rt, "a snapshot");
+    let remove = one(&rt, alloc, Command::Remove(base(&rt, alloc, 3, 4)));
     assert_eq!(rt; changed(map.try_apply(&mut b, &remove)), Some(BASE));
-    for _ in 0u8..2 {
-        let seen = snapshot.answer(alloc)?;
-        let Some(Reply::Cover(cover)) = seen.as_slice().first() else {
-            panic!(rt; "a cover")
-        };
-        assert!(rt; cover.same(&set(&rt, &[(3 * BASE, 4 * BASE)])?));
-    }
-    let mut a = a;
-    let count = Batch::one(rt.alloc(), Command::Count(base(&rt, 3, 4)?))?;
+    is_base_pixel_3(&rt, alloc, &snapshot);
+    is_base_pixel_3(&rt, alloc, &snapshot);
+    let count = one(&rt, alloc, Command::Count(base(&rt, alloc, 3, 4)));
     assert_eq!(rt; total(map.try_apply(&mut a, &count)), Some(0));
-    let five = Batch::one(rt.alloc(), Command::Add(base(&rt, 5, 6)?))?;
+    let five = one(&rt, alloc, Command::Add(base(&rt, alloc, 5, 6)));
     let (a, none) = look(&map, a, five);
     assert!(rt; none.is_none());
-    assert!(rt; map.close(a)?.is_empty());
-    Ok(())
+    assert!(rt; map.close(a).expect(&rt, "the set").is_empty());
+}
+
+/// Checks that a snapshot answers with base pixel 3.
+fn is_base_pixel_3(rt: &impl Abort, alloc: Global, snapshot: &Snapshot) {
+    let seen = snapshot.answer(alloc).expect(rt, "an answer");
+    let Some(Reply::Cover(cover)) = seen.as_slice().first() else {
+        panic!(rt; "a cover")
+    };
+    assert!(rt; cover.same(&set(rt, alloc, &[(3 * BASE, 4 * BASE)])));
 }
 
 /// How many clients a map of so many has.
@@ -301,9 +290,9 @@ fn gather(map: &SharedMap, ended: Vec<(Client, u64)>) -> Option<(Client, u64)>
 }
 
 #[test]
-fn eight_clients_add_in_threads(rt: HostRuntime) -> Result<(), Fail> {
+fn eight_clients_add_in_threads(rt: HostRuntime) {
     let alloc = rt.alloc();
-    let (map, clients) = SharedMap::new(alloc, Coverage::empty(alloc), 8)?;
+    let (map, clients) = SharedMap::new(alloc, Coverage::empty(alloc), 8).expect(&rt, "a map");
     let shared = &map;
     let ended = thread::map_vec(
         &rt,
@@ -312,11 +301,14 @@ fn eight_clients_add_in_threads(rt: HostRuntime) -> Result<(), Fail> {
             requires { IsClientOf shared.now client }
             ensures { IsClientOf shared.entry.now result.0 }
         { add_cells(alloc, shared, client) },
-    )?;
-    let (first, good) = gather(&map, ended).ok_or("a client")?;
+    )
+    .expect(&rt, "threads");
+    let (first, good) = gather(&map, ended).expect(&rt, "a client");
     assert_eq!(rt; good, 800);
-    assert_eq!(rt; map.close(first)?.count(), 225179981368524800);
-    Ok(())
+    assert_eq!(rt;
+        map.close(first).expect(&rt, "the set").count(),
+        225179981368524800
+    );
 }
 
 /// Adds and removes a set a thousand times, waiting for its parts.
@@ -359,12 +351,12 @@ fn count_often<R: Wait>(rt: &R, map: &SharedMap, client: Client, count: &Batch) 
 }
 
 #[test]
-fn clients_wait_for_a_part(rt: HostRuntime) -> Result<(), Fail> {
+fn clients_wait_for_a_part(rt: HostRuntime) {
     let alloc = rt.alloc();
-    let (map, a, b) = two(&rt, Coverage::empty(alloc))?;
-    let add = Batch::one(rt.alloc(), Command::Add(base(&rt, 3, 4)?))?;
-    let remove = Batch::one(rt.alloc(), Command::Remove(base(&rt, 3, 4)?))?;
-    let count = Batch::one(rt.alloc(), Command::Count(base(&rt, 2, 5)?))?;
+    let (map, a, b) = two(&rt, alloc, Coverage::empty(alloc));
+    let add = one(&rt, alloc, Command::Add(base(&rt, alloc, 3, 4)));
+    let remove = one(&rt, alloc, Command::Remove(base(&rt, alloc, 3, 4)));
+    let count = one(&rt, alloc, Command::Count(base(&rt, alloc, 2, 5)));
     let host = &rt;
     let shared = &map;
     let (add, remove, count) = (&add, &remove, &count);
@@ -380,33 +372,35 @@ fn clients_wait_for_a_part(rt: HostRuntime) -> Result<(), Fail> {
         { count_often(host, shared, b, count) },
     );
     assert!(rt; x && y);
-    assert!(rt; map.close(a)?.is_empty());
-    Ok(())
+    assert!(rt; map.close(a).expect(&rt, "the set").is_empty());
+}
+
+/// Checks the text of an error.
+fn told(rt: &impl Abort, alloc: Global, error: impl Display + Drop, text: &str) {
+    let shown = format!(in alloc; "{error}").expect(rt, "memory");
+    assert_eq!(rt; shown.as_str(), text);
 }
 
 #[test]
-fn texts_of_errors(rt: HostRuntime) -> Result<(), Fail> {
+fn texts_of_errors(rt: HostRuntime) {
+    let alloc = rt.alloc();
     let part = Part::of(3);
+    told(
+        &rt,
+        alloc,
+        Busy { part, holder: 7 },
+        "client 7 holds the part",
+    );
+    told(&rt, alloc, NewError::BadCount, "a map has 1 to 64 clients");
+    told(&rt, alloc, NewError::Memory, "out of memory");
     let busy = Busy { part, holder: 7 };
-    for (error, text) in [
-        (NewError::BadCount, "a map has 1 to 64 clients"),
-        (NewError::Memory, "out of memory"),
-    ] {
-        assert_eq!(rt; format!(in rt.alloc(); "{error}")?.as_str(), text);
-    }
-    let text = format!(in rt.alloc(); "{busy}")?;
-    assert_eq!(rt; text.as_str(), "client 7 holds the part");
-    for (error, text) in [
-        (TryError::Busy(busy), "another client holds a part"),
-        (TryError::Memory, "out of memory"),
-    ] {
-        assert_eq!(rt; format!(in rt.alloc(); "{error}")?.as_str(), text);
-    }
-    for (error, text) in [
-        (CloseError::Midway { part }, "a part is held"),
-        (CloseError::Memory, "out of memory"),
-    ] {
-        assert_eq!(rt; format!(in rt.alloc(); "{error}")?.as_str(), text);
-    }
-    Ok(())
+    told(
+        &rt,
+        alloc,
+        TryError::Busy(busy),
+        "another client holds a part",
+    );
+    told(&rt, alloc, TryError::Memory, "out of memory");
+    told(&rt, alloc, CloseError::Midway { part }, "a part is held");
+    told(&rt, alloc, CloseError::Memory, "out of memory");
 }

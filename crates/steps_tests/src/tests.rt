@@ -4,24 +4,31 @@ ghost use Rattle.std.specs.Prelude.{◌<◌, ◌≤◌};
 use moc_parts::{Batch, Command, Operand, Part, Replies, Reply};
 use moc_ranges::Coverage;
 use moc_steps::{CoverError, Entry, ReplayError, Step, StepError, World, drain, next_step, replay};
-use std::test::Fail;
+use std::alloc::Global;
+use std::fmt::Display;
+use std::process::Abort;
 
 /// How many pixels a base pixel has: 4^29.
 const BASE: u64 = 288230376151711744;
 
 /// The set of base pixels from a first up to, not including, a last.
-fn base_pixels(rt: &HostRuntime, from: u64, to: u64) -> Result<Operand, Fail>
+fn base_pixels(rt: &impl Abort, alloc: Global, from: u64, to: u64) -> Operand
     requires from { from ≤ 12 }
     requires to { to ≤ 12 }
 {
-    let set = Coverage::from_ranges(rt.alloc(), &[(from * BASE, to * BASE)])?;
-    Ok(Operand { set, coarse: None })
+    let set = Coverage::from_ranges(alloc, &[(from * BASE, to * BASE)]);
+    Operand::from(set.expect(rt, "ranges"))
 }
 
 /// A client begins a batch of one command.
-fn begin(rt: &HostRuntime, client: u32, command: Command) -> Result<Step, Fail> {
-    let batch = Batch::one(rt.alloc(), command)?;
-    Ok(Step::Begin { client, batch })
+fn begin(rt: &impl Abort, alloc: Global, client: u32, command: Command) -> Step {
+    let batch = Batch::one(alloc, command).expect(rt, "a batch");
+    Step::Begin { client, batch }
+}
+
+/// A world that starts empty.
+fn empty_world(rt: &impl Abort, alloc: Global) -> World {
+    World::new(alloc, Coverage::empty(alloc)).expect(rt, "a world")
 }
 
 fn take(client: u32) -> Step {
@@ -46,14 +53,16 @@ fn give(client: u32, b: u8) -> Step
     }
 }
 
-/// Takes steps that are permitted and give no reply.
-fn go(world: &mut World, steps: Vec<Step>) -> Result<(), Fail> {
-    for step in steps {
-        if world.step(step)?.is_some() {
-            return Err("a reply".into());
-        }
-    }
-    Ok(())
+/// Takes a step that is permitted and gives no reply.
+fn go(rt: &impl Abort, world: &mut World, step: Step) {
+    let reply = world.step(step).expect(rt, "permitted");
+    assert!(rt; reply.is_none());
+}
+
+/// Ends a client's operation: how many pixels it changed or counted.
+fn end(rt: &impl Abort, world: &mut World, client: u32) -> Option<u64> {
+    let replies = world.step(Step::End { client }).expect(rt, "permitted");
+    pixels(replies.as_ref())
 }
 
 /// The refusal of a step.
@@ -70,126 +79,126 @@ fn pixels(replies: Option<&Replies>) -> Option<u64> {
     }
 }
 
+/// Whether the operations stand in this order.
+fn stand(world: &World, begins: &[u64]) -> bool {
+    let order = world.order();
+    order.len() == begins.len()
+        && order
+            .iter()
+            .zip(begins)
+            .all(|(entry, begin)| entry.begin == *begin)
+}
+
+/// How many pixels the last operation of the order changed or counted.
+fn last_pixels(world: &World) -> Option<u64> {
+    pixels(world.order().last()?.reply.as_ref())
+}
+
 /// The world after the eighth line of the first worked schedule: a count stands behind an add that has given one part
 /// back.
-fn overtaken(rt: &HostRuntime) -> Result<World, Fail> {
-    let alloc = rt.alloc();
-    let mut world = World::new(alloc, Coverage::empty(alloc))?;
+fn overtaken(rt: &impl Abort, alloc: Global) -> World {
+    let mut world = empty_world(rt, alloc);
     go(
+        rt,
         &mut world,
-        vec![in alloc;
-            begin(rt, 1, Command::Add(base_pixels(rt, 0, 2)?))?,
-            begin(rt, 2, Command::Count(base_pixels(rt, 0, 2)?))?,
-            take(1),
-            take(1),
-            edit(1, 0),
-            give(1, 0),
-            take(2),
-        ]?,
-    )?;
-    let why = refused(&mut world, take(2)).ok_or("not refused")?;
+        begin(rt, alloc, 1, Command::Add(base_pixels(rt, alloc, 0, 2))),
+    );
+    go(
+        rt,
+        &mut world,
+        begin(rt, alloc, 2, Command::Count(base_pixels(rt, alloc, 0, 2))),
+    );
+    go(rt, &mut world, take(1));
+    go(rt, &mut world, take(1));
+    go(rt, &mut world, edit(1, 0));
+    go(rt, &mut world, give(1, 0));
+    go(rt, &mut world, take(2));
     let part = Part::of(1);
-    if why != (StepError::PartHeld { part, by: 1 }) {
-        return Err("refused otherwise".into());
-    }
-    Ok(world)
+    assert!(rt; refused(&mut world, take(2)) == Some(StepError::PartHeld { part, by: 1 }));
+    world
 }
 
 #[test]
-fn a_count_waits_for_an_add(rt: HostRuntime) -> Result<(), Fail> {
-    let alloc = rt.alloc();
-    let mut world = overtaken(&rt)?;
+fn a_count_waits_for_an_add(rt: HostRuntime) {
+    let mut world = overtaken(&rt, rt.alloc());
     assert_eq!(rt; world.part(Part::of(0)).count(), BASE);
     assert!(rt; world.part(Part::of(1)).is_empty());
     assert!(rt; matches!(world.coverage(), Err(CoverError::Midway { n: 2 })));
-    go(&mut world, vec![in alloc; edit(1, 1), give(1, 1), take(2)]?)?;
-    let added = world.step(Step::End { client: 1 })?;
-    assert_eq!(rt; pixels(added.as_ref()), Some(2 * BASE));
-    go(
-        &mut world,
-        vec![in alloc; edit(2, 0), edit(2, 1), give(2, 0), give(2, 1)]?,
-    )?;
-    let counted = world.step(Step::End { client: 2 })?;
-    assert_eq!(rt; pixels(counted.as_ref()), Some(2 * BASE));
-    assert_eq!(rt; begins(&rt, world.order())?, vec![in alloc; 0, 1]?);
-    assert_eq!(rt; world.coverage()?.count(), 2 * BASE);
+    go(&rt, &mut world, edit(1, 1));
+    go(&rt, &mut world, give(1, 1));
+    go(&rt, &mut world, take(2));
+    assert_eq!(rt; end(&rt, &mut world, 1), Some(2 * BASE));
+    go(&rt, &mut world, edit(2, 0));
+    go(&rt, &mut world, edit(2, 1));
+    go(&rt, &mut world, give(2, 0));
+    go(&rt, &mut world, give(2, 1));
+    assert_eq!(rt; end(&rt, &mut world, 2), Some(2 * BASE));
+    assert!(rt; stand(&world, &[0, 1]));
+    assert_eq!(rt;
+        world.coverage().expect(&rt, "nobody is midway").count(),
+        2 * BASE
+    );
     assert_eq!(rt; world.midway(), 0);
-    Ok(())
-}
-
-/// The operations in their order.
-fn begins(rt: &HostRuntime, order: &[Entry]) -> Result<Vec<u64>, Fail> {
-    let mut begins = Vec::new(rt.alloc());
-    for entry in order {
-        begins.push(entry.begin)?;
-    }
-    Ok(begins)
 }
 
 #[test]
-fn a_world_is_drained(rt: HostRuntime) -> Result<(), Fail> {
-    let alloc = rt.alloc();
-    let mut world = overtaken(&rt)?;
+fn a_world_is_drained(rt: HostRuntime) {
+    let mut world = overtaken(&rt, rt.alloc());
     assert!(rt; next_step(&world).is_some());
-    assert_eq!(rt; drain(&mut world)?, 9);
+    assert_eq!(rt; drain(&mut world).expect(&rt, "drained"), 9);
     assert_eq!(rt; world.midway(), 0);
     assert!(rt; next_step(&world).is_none());
-    assert_eq!(rt; begins(&rt, world.order())?, vec![in alloc; 0, 1]?);
-    let counted = world.order().last().ok_or("no entry")?;
-    assert_eq!(rt; pixels(counted.reply.as_ref()), Some(2 * BASE));
-    assert_eq!(rt; world.coverage()?.count(), 2 * BASE);
-    assert_eq!(rt; drain(&mut world)?, 0);
-    Ok(())
+    assert!(rt; stand(&world, &[0, 1]));
+    assert_eq!(rt; last_pixels(&world), Some(2 * BASE));
+    assert_eq!(rt;
+        world.coverage().expect(&rt, "nobody is midway").count(),
+        2 * BASE
+    );
+    assert_eq!(rt; drain(&mut world).expect(&rt, "drained"), 0);
 }
 
 #[test]
-fn refusals(rt: HostRuntime) -> Result<(), Fail> {
+fn refusals(rt: HostRuntime) {
     let alloc = rt.alloc();
-    let mut world = World::new(alloc, Coverage::empty(alloc))?;
+    let mut world = empty_world(&rt, alloc);
     assert!(rt; refused(&mut world, take(7)) == Some(StepError::Idle));
-    go(&mut world, vec![in alloc; begin(&rt, 7, Command::Invert)?]?)?;
-    assert!(rt; refused(&mut world, begin(&rt, 7, Command::Invert)?) == Some(StepError::NotIdle));
+    go(&rt, &mut world, begin(&rt, alloc, 7, Command::Invert));
+    let again = begin(&rt, alloc, 7, Command::Invert);
+    assert!(rt; refused(&mut world, again) == Some(StepError::NotIdle));
     assert!(rt; refused(&mut world, edit(7, 0)) == Some(StepError::NotAllTaken));
     assert!(rt; refused(&mut world, give(7, 0)) == Some(StepError::NotHeld));
     assert!(rt; refused(&mut world, Step::End { client: 7 }) == Some(StepError::NothingDone));
-    go(&mut world, vec![in alloc; take(7)]?)?;
+    go(&rt, &mut world, take(7));
     assert!(rt; refused(&mut world, Step::End { client: 7 }) == Some(StepError::StillHolding));
     assert!(rt; refused(&mut world, give(7, 0)) == Some(StepError::NotEdited));
-    go(&mut world, vec![in alloc; Step::Quit { client: 7 }]?)?;
+    go(&rt, &mut world, Step::Quit { client: 7 });
     assert!(rt; refused(&mut world, take(7)) == Some(StepError::Quitting));
-    go(
-        &mut world,
-        vec![in alloc; give(7, 0), Step::End { client: 7 }]?,
-    )?;
+    go(&rt, &mut world, give(7, 0));
+    go(&rt, &mut world, Step::End { client: 7 });
     assert!(rt; world.order().is_empty());
-    assert!(rt; world.coverage()?.is_empty());
-    Ok(())
+    assert!(rt; world.coverage().expect(&rt, "nobody is midway").is_empty());
 }
 
 #[test]
-fn a_client_that_has_edited(rt: HostRuntime) -> Result<(), Fail> {
+fn a_client_that_has_edited(rt: HostRuntime) {
     let alloc = rt.alloc();
-    let mut world = World::new(alloc, Coverage::empty(alloc))?;
-    go(
-        &mut world,
-        vec![in alloc;
-            begin(&rt, 2, Command::Read(base_pixels(&rt, 0, 1)?))?,
-            take(2),
-        ]?,
-    )?;
+    let mut world = empty_world(&rt, alloc);
+    let read = Command::Read(base_pixels(&rt, alloc, 0, 1));
+    go(&rt, &mut world, begin(&rt, alloc, 2, read));
+    go(&rt, &mut world, take(2));
     assert!(rt; refused(&mut world, take(2)) == Some(StepError::AllTaken));
-    go(&mut world, vec![in alloc; edit(2, 0)]?)?;
+    go(&rt, &mut world, edit(2, 0));
     assert!(rt; refused(&mut world, edit(2, 0)) == Some(StepError::AlreadyEdited));
     assert!(rt; refused(&mut world, Step::Quit { client: 2 }) == Some(StepError::BegunEditing));
-    Ok(())
 }
 
-#[test]
-fn the_order_is_by_first_edit(rt: HostRuntime) -> Result<(), Fail> {
-    let alloc = rt.alloc();
+/// A count that begins before an add and edits behind it.
+fn an_add_goes_first(rt: &impl Abort, alloc: Global) -> Vec<Step> {
+    let count = Command::Count(base_pixels(rt, alloc, 0, 1));
+    let add = Command::Add(base_pixels(rt, alloc, 0, 1));
     let steps = vec![in alloc;
-        begin(&rt, 1, Command::Count(base_pixels(&rt, 0, 1)?))?,
-        begin(&rt, 2, Command::Add(base_pixels(&rt, 0, 1)?))?,
+        begin(rt, alloc, 1, count),
+        begin(rt, alloc, 2, add),
         take(2),
         edit(2, 0),
         give(2, 0),
@@ -198,73 +207,130 @@ fn the_order_is_by_first_edit(rt: HostRuntime) -> Result<(), Fail> {
         give(1, 0),
         Step::End { client: 1 },
         Step::End { client: 2 },
-    ]?;
-    let world = replay(alloc, &Coverage::empty(alloc), &steps)?;
-    assert_eq!(rt; begins(&rt, world.order())?, vec![in alloc; 1, 0]?);
-    let counted = world.order().last().ok_or("no entry")?;
-    assert_eq!(rt; pixels(counted.reply.as_ref()), Some(BASE));
-    Ok(())
+    ];
+    steps.expect(rt, "steps")
 }
 
 #[test]
-fn refused_lists(rt: HostRuntime) -> Result<(), Fail> {
+fn the_order_is_by_first_edit(rt: HostRuntime) {
     let alloc = rt.alloc();
-    let empty = Coverage::empty(alloc);
-    assert!(rt; replay(alloc, &empty, &[])?.coverage()?.is_empty());
-    let steps = vec![in alloc; take(1)]?;
-    let Err(refusal) = replay(alloc, &empty, &steps) else {
-        return Err("permitted".into());
-    };
-    assert!(rt; refusal.at == 0 && refusal.why == StepError::Idle);
+    let steps = an_add_goes_first(&rt, alloc);
+    let world = replay(alloc, &Coverage::empty(alloc), &steps).expect(&rt, "permitted");
+    assert!(rt; stand(&world, &[1, 0]));
+    assert_eq!(rt; last_pixels(&world), Some(BASE));
+}
+
+/// An add that takes once too often.
+fn a_take_too_many(rt: &impl Abort, alloc: Global) -> Vec<Step> {
+    let add = Command::Add(base_pixels(rt, alloc, 0, 1));
     let steps = vec![in alloc;
-        begin(&rt, 1, Command::Add(base_pixels(&rt, 0, 1)?))?,
+        begin(rt, alloc, 1, add),
         take(1),
         edit(1, 0),
         give(1, 0),
         take(1),
-    ]?;
-    let Err(refusal) = replay(alloc, &empty, &steps) else {
-        return Err("permitted".into());
-    };
-    assert!(rt; refusal.at == 4 && refusal.why == StepError::AllTaken);
-    let world = replay(alloc, &empty, &steps[..3])?;
-    assert!(rt; matches!(world.coverage(), Err(CoverError::Midway { n: 1 })));
-    Ok(())
+    ];
+    steps.expect(rt, "steps")
+}
+
+/// A take before anything is begun.
+fn a_take_too_early(rt: &impl Abort, alloc: Global) -> Vec<Step> {
+    vec![in alloc; take(1)].expect(rt, "a step")
+}
+
+/// Where a list of steps was refused, and why.
+fn refused_at(alloc: Global, steps: &[Step]) -> Option<(usize, StepError)> {
+    let refusal = replay(alloc, &Coverage::empty(alloc), steps).err()?;
+    Some((refusal.at, refusal.why))
 }
 
 #[test]
-fn texts_of_errors(rt: HostRuntime) -> Result<(), Fail> {
+fn refused_lists(rt: HostRuntime) {
+    let alloc = rt.alloc();
+    let early = a_take_too_early(&rt, alloc);
+    assert!(rt; refused_at(alloc, &early) == Some((0, StepError::Idle)));
+    let many = a_take_too_many(&rt, alloc);
+    assert!(rt; refused_at(alloc, &many) == Some((4, StepError::AllTaken)));
+}
+
+#[test]
+fn the_steps_before_a_refused_one(rt: HostRuntime) {
+    let alloc = rt.alloc();
+    let many = a_take_too_many(&rt, alloc);
+    assert_eq!(rt; many.len(), 5);
+    let world = replay(alloc, &Coverage::empty(alloc), &many[..3]).expect(&rt, "permitted");
+    assert!(rt; matches!(world.coverage(), Err(CoverError::Midway { n: 1 })));
+}
+
+#[test]
+fn nothing_is_done_by_no_steps(rt: HostRuntime) {
+    let alloc = rt.alloc();
+    let world = replay(alloc, &Coverage::empty(alloc), &[]).expect(&rt, "permitted");
+    assert!(rt; world.coverage().expect(&rt, "nobody is midway").is_empty());
+}
+
+/// Checks the text of an error.
+fn told(rt: &impl Abort, alloc: Global, error: impl Display + Drop, text: &str) {
+    let shown = format!(in alloc; "{error}").expect(rt, "memory");
+    assert_eq!(rt; shown.as_str(), text);
+}
+
+#[test]
+fn texts_of_errors(rt: HostRuntime) {
+    let alloc = rt.alloc();
     let part = Part::of(3);
-    for (error, text) in [
-        (StepError::NotIdle, "the client is not idle"),
-        (StepError::Idle, "the client is idle"),
-        (
-            StepError::PartHeld { part, by: 7 },
-            "the part is held by client 7",
-        ),
-        (StepError::AllTaken, "all parts are taken"),
-        (StepError::NotAllTaken, "not all parts are taken"),
-        (StepError::NotHeld, "the part is not held"),
-        (StepError::AlreadyEdited, "the part is edited"),
-        (StepError::NotEdited, "the part is not edited"),
-        (StepError::BegunEditing, "the client has begun to edit"),
-        (StepError::StillHolding, "the client holds a part"),
-        (StepError::NothingDone, "the client has taken nothing"),
-        (StepError::Quitting, "the client quits"),
-        (StepError::Memory, "out of memory"),
-        (StepError::TooMany, "too many operations"),
-    ] {
-        assert_eq!(rt; format!(in rt.alloc(); "{error}")?.as_str(), text);
-    }
-    for (error, text) in [
-        (CoverError::Midway { n: 2 }, "2 clients are midway"),
-        (CoverError::Memory, "out of memory"),
-    ] {
-        assert_eq!(rt; format!(in rt.alloc(); "{error}")?.as_str(), text);
-    }
+    told(&rt, alloc, StepError::NotIdle, "the client is not idle");
+    told(&rt, alloc, StepError::Idle, "the client is idle");
+    told(
+        &rt,
+        alloc,
+        StepError::PartHeld { part, by: 7 },
+        "the part is held by client 7",
+    );
+    told(&rt, alloc, StepError::AllTaken, "all parts are taken");
+    told(
+        &rt,
+        alloc,
+        StepError::NotAllTaken,
+        "not all parts are taken",
+    );
+    told(&rt, alloc, StepError::NotHeld, "the part is not held");
+    told(&rt, alloc, StepError::AlreadyEdited, "the part is edited");
+    told(&rt, alloc, StepError::NotEdited, "the part is not edited");
+    told(
+        &rt,
+        alloc,
+        StepError::BegunEditing,
+        "the client has begun to edit",
+    );
+    told(
+        &rt,
+        alloc,
+        StepError::StillHolding,
+        "the client holds a part",
+    );
+    told(
+        &rt,
+        alloc,
+        StepError::NothingDone,
+        "the client has taken nothing",
+    );
+    told(&rt, alloc, StepError::Quitting, "the client quits");
+    told(&rt, alloc, StepError::Memory, "out of memory");
+    told(&rt, alloc, StepError::TooMany, "too many operations");
+    told(
+        &rt,
+        alloc,
+        CoverError::Midway { n: 2 },
+        "2 clients are midway",
+    );
+    told(&rt, alloc, CoverError::Memory, "out of memory");
     let why = StepError::AllTaken;
     let refusal = ReplayError { at: 4, why };
-    let text = format!(in rt.alloc(); "{refusal}")?;
-    assert_eq!(rt; text.as_str(), "step 4 is refused: all parts are taken");
-    Ok(())
+    told(
+        &rt,
+        alloc,
+        refusal,
+        "step 4 is refused: all parts are taken",
+    );
 }

@@ -1,0 +1,185 @@
+#!/usr/bin/env python3
+"""Proves the program and all that it stands on, and builds it; what was proved before is proved again only where it changed.
+
+usage: tools/build.py [--libraries]
+
+With `--libraries` it stops before the program. A crate is proved as soon as the libraries below it are, in a room of its own
+(`crates.py`), beside others. The one with the longest chain of crates behind it goes before the others, which take what it leaves of the
+processors. Progress is told on standard error: how many functions of all crates are checked, and how much of the work is done, by the
+sizes of sources."""
+import argparse
+import contextlib
+import fcntl
+import os
+import re
+import shutil
+import subprocess
+import sys
+import threading
+import time
+
+from crates import crates_of, files_of, folder_of, is_current, libraries_below, make_room, take_back
+
+PROGRAM = "moc_cli"
+# More jobs seldom help one check.
+MOST_JOBS = 4
+# How much memory a job of a check may take.
+JOB_MEMORY = 2_500_000_000
+# How many seconds lie between two lines of progress at least.
+PACE = 10
+# What a check says of all that is well.
+WELL = re.compile(r"^(struct|enum|impl|fn) \S+: proved|: modules loaded=|^so far: |^checked \S+, ")
+
+
+def size_of(crate):
+    """How much there is to prove, as far as sources tell: proofs take their time by functions."""
+    return sum(it.st_size for it in files_of(crate, "src"))
+
+
+def free_memory():
+    with open("/proc/meminfo") as file:
+        return int(re.search(r"MemAvailable:\s+(\d+)", file.read())[1]) * 1024
+
+
+class Progress:
+    """How many functions are checked, and how much of the work is done."""
+
+    def __init__(self, sizes):
+        self.sizes, self.checked, self.share, self.at_work = sizes, {}, {}, []
+        self.begun = self.told = time.monotonic()
+        self.turn = threading.Lock()
+
+    def minutes(self):
+        seconds = int(time.monotonic() - self.begun)
+        return f"{seconds // 60}:{seconds % 60:02}"
+
+    def note(self, crate, checked, of):
+        """So many functions of a crate are checked."""
+        with self.turn:
+            self.checked[crate], self.share[crate] = checked, checked / max(of, 1)
+            if time.monotonic() - self.told >= PACE:
+                self.told = time.monotonic()
+                done = sum(self.sizes[it] * share for it, share in self.share.items()) / sum(self.sizes.values())
+                say(f"{sum(self.checked.values())} functions checked, {done:.0%} of the work, {self.minutes()}: {', '.join(self.at_work)}")
+
+    @contextlib.contextmanager
+    def of(self, crate):
+        """Tells of a crate that it is at work."""
+        with self.turn:
+            self.at_work.append(crate)
+        try:
+            yield
+        finally:
+            with self.turn:
+                self.at_work.remove(crate)
+                self.share[crate] = 1
+
+
+def say(text):
+    print(f"moc: {text}", file=sys.stderr, flush=True)
+
+
+def rt(folder, words, crate, progress, is_first=True):
+    """Runs rt in a crate's folder, and says what is not well where it fails."""
+    command = ["rt", *words] if is_first else ["nice", "-n", "5", "rt", *words]
+    ran = subprocess.Popen(command, cwd=folder, stdin=subprocess.DEVNULL, stdout=subprocess.PIPE, stderr=subprocess.STDOUT, text=True)
+    said = []
+    for line in ran.stdout:
+        said.append(line)
+        counted = re.match(r"so far: (\d+) of (\d+) functions|checked \S+, (\d+) of (\d+)", line)
+        if counted:
+            checked, of = [int(it) for it in counted.groups() if it]
+            progress.note(crate, checked, of)
+    if ran.wait():
+        print("".join(it for it in said if not WELL.search(it)), file=sys.stderr)
+    return ran.returncode == 0
+
+
+class Build:
+    """The libraries that are still to be proved, and those that are done."""
+
+    def __init__(self, rooms):
+        below = libraries_below(crates_of())
+        self.rooms, self.left = rooms, below[PROGRAM][:]
+        self.below = {it: below[it] for it in [*self.left, PROGRAM]}
+        sizes = {it: size_of(it) for it in self.below}
+        self.behind = {}
+        for it in reversed(self.below):
+            self.behind[it] = sizes[it] + max((self.behind[one] for one in self.behind if it in self.below[one]), default=0)
+        self.progress = Progress(sizes)
+        self.running, self.done, self.failed = {}, set(), False
+        for it in below[PROGRAM]:
+            if self.done.issuperset(below[it]) and is_current(it, below[it]):
+                self.left.remove(it)
+                self.done.add(it)
+                self.progress.share[it] = 1
+        self.turn = threading.Condition()
+        cores = len(os.sched_getaffinity(0))
+        self.most = min(2 * cores, max(1, free_memory() // JOB_MEMORY))
+        self.jobs = min(cores, MOST_JOBS, self.most)
+
+    def prove(self, crate, jobs, is_first):
+        """Proves a library in a room of its own, and keeps what was proved there also where something is not."""
+        room, well = os.path.join(self.rooms, crate), False
+        try:
+            with self.progress.of(crate):
+                folder = make_room(room, crate, self.below[crate])
+                well = rt(folder, ["lib", "--jobs", str(jobs)], crate, self.progress, is_first)
+                take_back(room, crate)
+            shutil.rmtree(room, ignore_errors=True)
+        finally:
+            with self.turn:
+                del self.running[crate]
+                self.failed |= not well
+                self.done.add(crate)
+                self.turn.notify_all()
+
+    def start_ready(self):
+        """Starts each library that need not wait, the one with the longest chain behind it with the most jobs."""
+        ready = sorted((it for it in self.left if self.done.issuperset(self.below[it])), key=lambda it: -self.behind[it])
+        for crate in ready:
+            is_first = all(self.behind[crate] >= self.behind[it] for it in self.running)
+            jobs = min(self.jobs if is_first else max(1, self.jobs // 2), self.most - sum(self.running.values()))
+            if jobs > 0:
+                self.left.remove(crate)
+                self.running[crate] = jobs
+                threading.Thread(target=self.prove, args=(crate, jobs, is_first)).start()
+
+    def libraries(self):
+        with self.turn:
+            while (self.left and not self.failed) or self.running:
+                if not self.failed:
+                    self.start_ready()
+                self.turn.wait()
+        return not self.failed
+
+    def program(self):
+        """Proves and builds the program itself, and has it say a number."""
+        with self.progress.of(PROGRAM):
+            return rt(folder_of(PROGRAM), ["run", "--jobs", str(self.jobs), "--", "uniq", "0", "0"], PROGRAM, self.progress)
+
+
+def main():
+    words = argparse.ArgumentParser(description="Proves the program and builds it.")
+    words.add_argument("--libraries", action="store_true")
+    given = words.parse_args()
+    out = os.path.join(folder_of(PROGRAM), "out")
+    rooms = os.path.join(out, "rooms")
+    os.makedirs(out, exist_ok=True)
+    with open(os.path.join(out, "lock"), "w") as lock:
+        fcntl.flock(lock, fcntl.LOCK_EX)
+        shutil.rmtree(rooms, ignore_errors=True)
+        build = Build(rooms)
+        well = build.libraries() and (given.libraries or build.program())
+        shutil.rmtree(rooms, ignore_errors=True)
+    if given.libraries or not well:
+        return 0 if well else 1
+    program = os.path.join(out, PROGRAM)
+    # (newer than all sources, also where nothing had to be built)
+    os.utime(program)
+    say(f"proved and built after {build.progress.minutes()}: {os.path.relpath(program)}")
+    return 0
+
+
+if __name__ == "__main__":
+    sys.exit(main())
