@@ -1,16 +1,7 @@
 //! The program `moc`: sky coverages (IVOA MOC 2.0) on the command line.
 #![tactic(auto)]
 
-mod action;
-mod combination;
-mod command_line;
-mod conversion;
-mod dispatch;
-mod status;
-#[cfg(test)]
-mod tests;
-
-use crate::dispatch::{program, refuse_words};
+use moc_program::{program, refuse_words};
 use moc_script::{OverReader, OverWriter};
 use std::io;
 use std::process::ExitCode;

@@ -1,0 +1,8 @@
+//! The command line of the program `moc`: its words, what follows each, and what help says of them.
+#![tactic(auto)]
+
+mod commands;
+mod help;
+mod words;
+
+pub use commands::command_line;

@@ -1,0 +1,41 @@
+-- What the parse of words says of them.
+use Rattle.std.proofs.Common.{◌≡◌, ◌⊎◌, inl, inr, true, List, Result, Ok, Err, refl}
+use Rattle.std.specs.Result.{IfErr, OnOk}
+use Rattle.std.proofs.lemmas.Bool.{false_from_ne_true}
+use Rattle.clap.specs.Words.{App, Text, takes, fault_of, kind_of, is_simple_and_free, FailsBy}
+use Rattle.clap.specs.declared.error.Error.{Error}
+use Rattle.clap.specs.declared.error.kind.ErrorKind.{}
+use Rattle.clap.specs.declared.error.kind.ErrorKind.TheVariants.{OutOfMemory}
+use Rattle.moc_command_line.specs.CommandLine.{IsCommandLine, Parsers, moc_app}
+use Rattle.moc_program.specs.Outcomes.{AreMistaken, AreRefused, IsMistake}
+
+-- the command line is one whose faults `clap` names
+pub simple : (parsers : Parsers) → is_simple_and_free (moc_app parsers) ≡ true
+unfolding moc_app
+simple parsers = refl
+
+pub is_simple : (app : App) → IsCommandLine app → is_simple_and_free app ≡ true
+is_simple app line = rw line.is (simple line.parsers)
+
+module _ {M : Type 0} (app : App) (words : List Text) (line : IsCommandLine app) where
+  pub refused : (r : Result M Error) → IfErr r (λ e. takes app words ≡ true → kind_of e ≡ OutOfMemory) → FailsBy (fault_of app words) r
+      → IfErr r (λ e. IsMistake (kind_of e) → AreRefused words)
+  refused (Ok m) passes fails = tt
+  refused (Err e) passes (inl memory) = λ mistake. absurd (mistake.words memory)
+  refused (Err e) passes (inr among) = λ mistake. record {
+    app = app;
+    line = line;
+    refused = false_from_ne_true (takes app words) (λ taken. mistake.words (passes taken));
+    kind = kind_of e;
+    among = among;
+    mistake = mistake;
+  }
+
+  pub taken : (r : Result M Error) → FailsBy (fault_of app words) r → OnOk r (AreMistaken words → ⊥)
+  taken (Ok m) fails = λ mistaken. mistaken.some app line fails
+  taken (Err e) fails = tt
+
+  pub mistaken : (r : Result M Error) → FailsBy (fault_of app words) r → IfErr r (λ e. AreMistaken words → (kind_of e ≡ OutOfMemory) ⊎ IsMistake (kind_of e))
+  mistaken (Ok m) fails = tt
+  mistaken (Err e) (inl memory) = λ are. inl memory
+  mistaken (Err e) (inr among) = λ are. inr (are.all app line (kind_of e) among)

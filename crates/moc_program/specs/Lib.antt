@@ -1,0 +1,6 @@
+pub mod Combining
+pub mod Conversion
+pub mod Faults
+pub mod Outcomes
+pub mod Running
+pub mod Statuses

@@ -1,0 +1,113 @@
+//! What the words of the command line ask for.
+use clap::ArgMatches;
+use moc_script::{Lanes, Numbering, Renumbering};
+use moc_sphere::Order;
+use moc_words::{Form, Operation};
+
+/// What the words ask for.
+#[derive(Clone, Copy, Debug, PartialEq, Eq)]
+pub enum Action {
+    /// Run a script.
+    Run,
+    /// Play a schedule.
+    Play,
+    /// Run a script on so many threads.
+    Crew(Lanes),
+    /// Convert a number.
+    Number(Number),
+    /// Convert the number of a cell of an order a line, from one numbering to another.
+    Renumber(Renumbering),
+    /// Convert a coverage from one text form to another.
+    Convert(Form, Form),
+    /// Tell whether a text is a coverage, and else where it is at fault.
+    Check(Form),
+    /// Tell the figures of a coverage.
+    Describe(Form),
+    /// Draw a coverage.
+    Draw(Form),
+    /// Combine coverages.
+    Combine(Operation, Form),
+}
+
+/// A number to convert.
+#[derive(Clone, Copy, Debug, PartialEq, Eq)]
+pub enum Number {
+    /// A nested number to its ring number.
+    Ring(Order, u64),
+    /// A ring number to its nested number.
+    Nest(Order, u64),
+    /// A nested number to its NUNIQ number.
+    Uniq(Order, u64),
+    /// A NUNIQ number to its order and nested number.
+    Cell(u64),
+    /// A nested number to those of the touching cells.
+    Near(Order, u64),
+}
+
+impl Action {
+    /// What these matches ask for; `None` where they lack a word or a value, which `clap` requires.
+    pub fn from_matches(matches: &ArgMatches<'_>) -> Option<Action> {
+        let (name, values) = matches.subcommand()?;
+        match name {
+            "run" => Some(Action::Run),
+            "play" => Some(Action::Play),
+            "crew" => Some(Action::Crew(lanes(values)?)),
+            "renumber" => Some(Action::Renumber(renumbering(values)?)),
+            "convert" => Some(Action::Convert(form(values, "FROM")?, form(values, "TO")?)),
+            "check" => Some(Action::Check(form(values, "FORM")?)),
+            "describe" => Some(Action::Describe(form(values, "FORM")?)),
+            "draw" => Some(Action::Draw(form(values, "FORM")?)),
+            "combine" => Some(Action::Combine(operation(values)?, form(values, "FORM")?)),
+            _ => Some(Action::Number(Number::from_matches(name, values)?)),
+        }
+    }
+}
+
+impl Number {
+    /// What a word and its values ask for; `None` where it is no word that converts a number, or lacks a value.
+    fn from_matches(word: &str, values: &ArgMatches<'_>) -> Option<Number> {
+        if word == "cell" {
+            return Some(Number::Cell(index(values, "UNIQ")?));
+        }
+        let order = order(values)?;
+        match word {
+            "ring" => Some(Number::Ring(order, index(values, "CELL")?)),
+            "nest" => Some(Number::Nest(order, index(values, "RING")?)),
+            "uniq" => Some(Number::Uniq(order, index(values, "CELL")?)),
+            "near" => Some(Number::Near(order, index(values, "CELL")?)),
+            _ => None,
+        }
+    }
+}
+
+fn form(values: &ArgMatches<'_>, id: &str) -> Option<Form> {
+    Form::named(values.get_str(id)?)
+}
+
+fn operation(values: &ArgMatches<'_>) -> Option<Operation> {
+    Operation::named(values.get_str("OP")?)
+}
+
+fn renumbering(values: &ArgMatches<'_>) -> Option<Renumbering> {
+    Some(Renumbering {
+        from: numbering(values, "FROM")?,
+        to: numbering(values, "TO")?,
+        order: order(values)?,
+    })
+}
+
+fn numbering(values: &ArgMatches<'_>, id: &str) -> Option<Numbering> {
+    Numbering::named(values.get_str(id)?)
+}
+
+fn lanes(values: &ArgMatches<'_>) -> Option<Lanes> {
+    Lanes::new(values.get_one::<u8>("N")?)
+}
+
+fn order(values: &ArgMatches<'_>) -> Option<Order> {
+    Order::new(values.get_one::<u8>("ORDER")?)
+}
+
+fn index(values: &ArgMatches<'_>, id: &str) -> Option<u64> {
+    values.get_one::<u64>(id)
+}

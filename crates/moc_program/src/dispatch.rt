@@ -1,0 +1,214 @@
+//! What the words of the command line make the program do.
+ghost use Rattle.std.specs.Prelude.{◌≡◌, ◌≢◌, ◌≤◌, ◌⊎◌, false, true, map, IfOk, IfErr, OnOk, IsErrOf, IsTrue, is_err};
+ghost use Rattle.std.specs.Io.KnownBytes.{Appends};
+ghost use Rattle.std.specs.IoError.{error_kind};
+ghost use Rattle.clap.specs.Words.{kind_of};
+ghost use Rattle.moc_program.specs.Faults.{complaint_text};
+ghost use Rattle.moc_program.specs.Outcomes.{AreMistaken, AreRefused, IsMistake};
+ghost use Rattle.moc_program.specs.Statuses.{IsDeviceFault, end_of};
+
+use crate::action::{Action, Number};
+use crate::combination::combined;
+use crate::conversion::{checked, converted, described, drawn};
+use crate::status::{Complaint, Fault, Status};
+use clap::error::ErrorKind;
+use clap::{ArgMatches, Error};
+use moc_command_line::command_line;
+use moc_script::{DeviceFault, OpenGate, Sink, Source, crew, play, renumber, run, write_all};
+use moc_sphere::Cell;
+use std::alloc::{AllocError, Global};
+use std::convert::AsStr;
+use std::fmt::Write;
+use std::io::{self, ErrorKind as IoErrorKind};
+use std::marker::Sync;
+use std::sync::Wait;
+use std::thread::Threads;
+
+/// Does what the words ask, and answers the exit status: 0 where it is done, 1 where a value, a text or a line is
+/// refused, 2 where the words are no command line, 3 where a device fails or memory is refused. What went wrong is said
+/// on `faults`; whether that can be written changes nothing. Threads are started, and waited for, by the word `crew`
+/// alone.
+pub fn program<'a, T: Threads + Wait + Sync, S: AsStr, R: Source, W: Sink, E: Sink>(
+    rt: &T,
+    alloc: Global,
+    words: &'a [S],
+    input: &mut R,
+    output: &mut W,
+    faults: &mut E,
+) -> u8
+    requires input { R.mark input.old ≡ false }
+    requires output { W.mark output.old ≡ false }
+
+    // 2 comes only where the words are mistaken, and where they are nothing else but want of memory may come first.
+    ensures refused { result ≡ 2 → AreRefused (map S.text words.entry.now) }
+    ensures mistaken { AreMistaken (map S.text words.entry.now) → (result ≡ 2) ⊎ (result ≡ 3) }
+
+    // A device that failed is told, and at 0 all is written and flushed.
+    ensures input { IsTrue (R.mark input.new) → result ≡ 3 }
+    ensures output { IsTrue (W.mark output.new) → result ≡ 3 }
+    ensures flushed { result ≡ 0 → IsTrue (W.flushed output.new) }
+{
+    let status = match parse(alloc, words) {
+        Ok(matches) => ended(act(rt, alloc, &matches, input, output), faults),
+        Err(error) => explain(alloc, &error, output, faults),
+    };
+    status.code()
+}
+
+/// Tells why the words could not be had, and answers the exit status: 3 for want of memory, and else 2.
+pub fn refuse_words<E: Sink>(error: &io::Error, faults: &mut E) -> u8
+    ensures memory { error_kind error.now ≡ IoErrorKind.OutOfMemory → result ≡ 3 }
+    ensures not_utf8 { error_kind error.now ≢ IoErrorKind.OutOfMemory → result ≡ 2 }
+{
+    if error.kind() == IoErrorKind::OutOfMemory {
+        return ended(Err(Complaint::from(Fault::Memory)), faults).code();
+    }
+    let _ = write_all(b"error: a word of the command line is not UTF-8\n", faults);
+    Status::BadWords.code()
+}
+
+/// Reads the words.
+fn parse<'a, S: AsStr>(alloc: Global, words: &'a [S]) -> Result<ArgMatches<'a>, Error>
+    ensures refused { IfErr result (λ e. IsMistake (kind_of e) → AreRefused (map S.text words.entry.now)) }
+    ensures taken { OnOk result (AreMistaken (map S.text words.entry.now) → ⊥) }
+    ensures mistaken { IfErr result (λ e. AreMistaken (map S.text words.entry.now)
+        → (kind_of e ≡ ErrorKind.OutOfMemory) ⊎ IsMistake (kind_of e)) }
+{
+    command_line(alloc)?.try_get_matches_from(words)
+}
+
+/// How the program ends with this outcome, after it has told a fault.
+fn ended<E: Sink>(outcome: Result<(), Complaint>, faults: &mut E) -> Status
+    ensures { result ≡ end_of outcome }
+{
+    let Err(complaint) = outcome else {
+        return Status::Done;
+    };
+    let _ = tell(&complaint, faults);
+    complaint.fault.status()
+}
+
+/// Tells a fault, and behind it where it is.
+fn tell<E: Sink>(complaint: &Complaint, faults: &mut E) -> Result<(), DeviceFault>
+    ensures { OnOk result (E.mark faults.old ≡ false →
+        Appends (E.written faults.old) (E.written faults.new) (complaint_text complaint.now)) }
+{
+    write_all(complaint.fault.line().as_bytes(), faults)?;
+    match &complaint.place {
+        Some(place) => write_all(place.as_bytes(), faults),
+        None => Ok(()),
+    }
+}
+
+/// Tells why there are no matches: help goes to the output, a refusal to the faults.
+fn explain<W: Sink, E: Sink>(alloc: Global, error: &Error, output: &mut W, faults: &mut E) -> Status
+    requires output { W.mark output.old ≡ false }
+    ensures bad_words { result ≡ Status.BadWords → IsMistake (kind_of error.now) }
+    ensures mistake { IsMistake (kind_of error.now) → (result ≡ Status.BadWords) ⊎ (result ≡ Status.Broken) }
+    ensures memory { kind_of error.now ≡ ErrorKind.OutOfMemory → result ≡ Status.Broken }
+    ensures output { IsTrue (W.mark output.new) → result ≡ Status.Broken }
+    ensures flushed { result ≡ Status.Done → IsTrue (W.flushed output.new) }
+{
+    if error.kind() == ErrorKind::OutOfMemory {
+        return ended(Err(Complaint::from(Fault::Memory)), faults);
+    }
+    let Ok(text) = format!(in alloc; "{error}") else {
+        return ended(Err(Complaint::from(Fault::Memory)), faults);
+    };
+    if error.use_stderr() {
+        let _ = write_all(text.as_bytes(), faults);
+        return Status::BadWords;
+    }
+    ended(printed(text.as_str(), output), faults)
+}
+
+/// Does what the matches ask.
+fn act<T: Threads + Wait + Sync, R: Source, W: Sink>(
+    rt: &T,
+    alloc: Global,
+    matches: &ArgMatches<'_>,
+    input: &mut R,
+    output: &mut W,
+) -> Result<(), Complaint>
+    requires input { R.mark input.old ≡ false }
+    requires output { W.mark output.old ≡ false }
+    ensures input { IsTrue (R.mark input.new) → IsDeviceFault result }
+    ensures output { IsTrue (W.mark output.new) → IsDeviceFault result }
+    ensures flushed { OnOk result (IsTrue (W.flushed output.new)) }
+{
+    match Action::from_matches(matches) {
+        Some(Action::Run) => Ok(run(alloc, input, output)?),
+        Some(Action::Play) => Ok(play(alloc, input, output)?),
+        Some(Action::Crew(lanes)) => Ok(crew(rt, alloc, input, output, lanes, &OpenGate)?),
+        Some(Action::Number(number)) => printed(number_line(alloc, number)?.as_str(), output),
+        Some(Action::Renumber(renumbering)) => Ok(renumber(alloc, input, output, renumbering)?),
+        Some(Action::Convert(from, to)) => {
+            printed(converted(alloc, from, to, input)?.as_str(), output)
+        }
+        Some(Action::Check(form)) => {
+            checked(alloc, form, input)?;
+            printed("ok\n", output)
+        }
+        Some(Action::Describe(form)) => printed(described(alloc, form, input)?.as_str(), output),
+        Some(Action::Draw(form)) => printed(drawn(alloc, form, input)?.as_str(), output),
+        Some(Action::Combine(operation, form)) => {
+            printed(combined(alloc, operation, form, input)?.as_str(), output)
+        }
+        // `clap` requires the word and its values, so none is missing.
+        None => Err(Complaint::from(Fault::Memory)),
+    }
+}
+
+/// The line of a converted number.
+fn number_line(alloc: Global, number: Number) -> Result<String, Fault> {
+    let text = match number {
+        Number::Ring(order, index) => format!(in alloc; "{}\n", Cell::new(order, index)?.ring()),
+        Number::Nest(order, ring) => format!(in alloc;
+            "{}\n",
+            Cell::from_ring(order, ring)?.index()
+        ),
+        Number::Uniq(order, index) => format!(in alloc; "{}\n", Cell::new(order, index)?.uniq()),
+        Number::Near(order, index) => return Ok(near_line(alloc, Cell::new(order, index)?)?),
+        Number::Cell(uniq) => {
+            let cell = Cell::from_uniq(uniq)?;
+            format!(in alloc; "{}/{}\n", cell.order().get(), cell.index())
+        }
+    };
+    Ok(text?)
+}
+
+/// The line of the cells that touch a cell.
+fn near_line(alloc: Global, cell: Cell) -> Result<String, AllocError> {
+    let mut line = String::new(alloc);
+    for (place, index) in cell.touching(alloc).as_slice().iter().enumerate() {
+        if place > 0 {
+            line.push(' ')?;
+        }
+        write!(line, "{index}")?;
+    }
+    line.push('\n')?;
+    Ok(line)
+}
+
+/// Writes a text, whole, and sends it on; else complains of the output.
+fn printed<W: Sink>(text: &str, output: &mut W) -> Result<(), Complaint>
+    requires { W.mark output.old ≡ false }
+    ensures written { OnOk result (Appends (W.written output.old) (W.written output.new) text.now) }
+    ensures flushed { OnOk result (IsTrue (W.flushed output.new)) }
+    ensures fault { IfErr result (λ c. c.fault ≡ Fault.Write) }
+    ensures marks { W.mark output.new ≡ is_err result }
+{
+    Ok(print(text, output)?)
+}
+
+/// Writes a text, whole, and sends it on.
+fn print<W: Sink>(text: &str, output: &mut W) -> Result<(), Fault>
+    requires { W.mark output.old ≡ false }
+    ensures written { OnOk result (Appends (W.written output.old) (W.written output.new) text.now) }
+    ensures flushed { OnOk result (IsTrue (W.flushed output.new)) }
+    ensures fault { IfErr result (λ fault. fault ≡ Fault.Write) }
+    ensures marks { W.mark output.new ≡ is_err result }
+{
+    write_all(text.as_bytes(), output)?;
+    Ok(output.flush()?)
+}

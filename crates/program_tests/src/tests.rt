@@ -1,0 +1,507 @@
+//! The words of the command line, over memory. Expected numbers are worked examples of the numbering, made apart from
+//! this program.
+use moc_program::{program, refuse_words};
+use moc_script::{DeviceFault, OverReader, OverWriter, Source};
+use std::alloc::Global;
+use std::io::{self, ErrorKind};
+use std::marker::Sync;
+use std::process::Abort;
+use std::sync::Wait;
+use std::test::Fail;
+use std::thread::Threads;
+
+/// Checks the status, the output and the fault output of the words on an input.
+fn expect<T: Abort + Threads + Wait + Sync>(
+    rt: &T,
+    alloc: Global,
+    words: &[&str],
+    input: &str,
+    status: u8,
+    output: &str,
+    faults: &str,
+) {
+    let mut written = Vec::new(alloc);
+    let mut told = Vec::new(alloc);
+    let answered = program(
+        rt,
+        alloc,
+        words,
+        &mut OverReader::new(input.as_bytes()),
+        &mut OverWriter::new(&mut written),
+        &mut OverWriter::new(&mut told),
+    );
+    assert_eq!(rt; answered, status, "{words:?}");
+    assert_eq!(rt; written.as_slice(), output.as_bytes(), "{words:?}");
+    assert_eq!(rt; told.as_slice(), faults.as_bytes(), "{words:?}");
+}
+
+#[test]
+fn numbers(rt: HostRuntime) {
+    for (words, output) in [
+        (["ring", "1", "18"], "27\n"),
+        (["ring", "2", "64"], "136\n"),
+        (["ring", "29", "0"], "1729382253957480448\n"),
+        (["nest", "1", "27"], "18\n"),
+        (
+            ["nest", "29", "3458764513820540927"],
+            "3170534137668829184\n",
+        ),
+        (["uniq", "3", "10"], "266\n"),
+        (
+            ["uniq", "29", "3458764513820540927"],
+            "4611686018427387903\n",
+        ),
+    ] {
+        expect(&rt, rt.alloc(), &words, "", 0, output, "");
+    }
+    expect(&rt, rt.alloc(), &["cell", "266"], "", 0, "3/10\n", "");
+    expect(&rt, rt.alloc(), &["cell", "15"], "", 0, "0/11\n", "");
+}
+
+#[test]
+fn refused_numbers(rt: HostRuntime) {
+    for (words, fault) in [
+        (["ring", "0", "12"], "fault CellTooLarge\n"),
+        (["nest", "0", "12"], "fault RingTooLarge\n"),
+        (["uniq", "0", "12"], "fault CellTooLarge\n"),
+    ] {
+        expect(&rt, rt.alloc(), &words, "", 1, "", fault);
+    }
+    for uniq in ["3", "4611686018427387904"] {
+        expect(
+            &rt,
+            rt.alloc(),
+            &["cell", uniq],
+            "",
+            1,
+            "",
+            "fault NotUniq\n",
+        );
+    }
+}
+
+#[test]
+fn scripts(rt: HostRuntime) {
+    expect(&rt, rt.alloc(), &["run"], "", 0, "", "");
+    let script = "add 0/0 2\ncount 0/2 3\nadd 1/0\nremove 0/0";
+    let answers =
+        "changed 576460752303423488\ntotal 288230376151711744\nchanged 0\nchanged 288230376151711744\n";
+    expect(&rt, rt.alloc(), &["run"], script, 0, answers, "");
+}
+
+#[test]
+fn plays(rt: HostRuntime) {
+    expect(&rt, rt.alloc(), &["play"], "", 0, "order\ncover\n", "");
+    let schedule =
+        "begin 1 add 0/3\ntake 1\nedit 1 3\ntake 2\ngive 1 3\n\nhop\nend 1\nbegin 2 count 0/3";
+    let answers =
+        "ok\nok\nok\nrefused Idle\nok\nfault UnknownWord\nchanged 288230376151711744\nok\norder 1\nmidway 1\n";
+    expect(&rt, rt.alloc(), &["play"], schedule, 0, answers, "");
+}
+
+#[test]
+fn crews(rt: HostRuntime) {
+    let script = "add 0/0\nadd 0/1\n\ncount 0/0\nhop";
+    let answers =
+        "changed 288230376151711744\nchanged 288230376151711744\ntotal 288230376151711744\nfault UnknownWord\n";
+    for lanes in ["1", "+1"] {
+        expect(&rt, rt.alloc(), &["crew", lanes], "", 0, "cover\n", "");
+        let Ok(whole) = format!(in rt.alloc(); "{answers}cover 0/0-1\n") else {
+            panic!(rt; "no memory")
+        };
+        expect(
+            &rt,
+            rt.alloc(),
+            &["crew", lanes],
+            script,
+            0,
+            whole.as_str(),
+            "",
+        );
+    }
+    expect(&rt, rt.alloc(), &["crew", "64"], "", 0, "cover\n", "");
+}
+
+#[test]
+fn near(rt: HostRuntime) {
+    for (words, output) in [
+        (["near", "0", "0"], "1 2 3 4 5 8\n"),
+        (["near", "0", "4"], "0 3 5 7 8 11\n"),
+        (["near", "1", "0"], "1 2 3 17 19 22 23 35\n"),
+        (["near", "1", "1"], "0 2 3 6 7 22 23\n"),
+        (["near", "1", "3"], "0 1 2 6 7 11 13 15\n"),
+        (["near", "2", "3"], "0 1 2 4 6 8 9 12\n"),
+    ] {
+        expect(&rt, rt.alloc(), &words, "", 0, output, "");
+    }
+    expect(
+        &rt,
+        rt.alloc(),
+        &["near", "0", "12"],
+        "",
+        1,
+        "",
+        "fault CellTooLarge\n",
+    );
+}
+
+#[test]
+fn conversions(rt: HostRuntime) {
+    let list = "16\n17\n\n18\n19";
+    let text = "1/1-2 4 2/12-14 21 23 25 8/";
+    for (words, input, output) in [
+        (["convert", "uniq", "ascii"], list, "0/0\n"),
+        (["convert", "uniq", "json"], list, "{\"0\":[0]}\n"),
+        (["convert", "ascii", "ascii"], "2/0-3", "1/0 2/\n"),
+        (["convert", "json", "ascii"], "{\"01\":[0]}", "1/0\n"),
+        (["convert", "ascii", "json"], "8/", "{\"8\":[]}\n"),
+        (["convert", "ascii", "json"], "", "{}\n"),
+        (["convert", "uniq", "uniq"], "", ""),
+        (
+            ["convert", "ascii", "uniq"],
+            text,
+            "17\n18\n20\n76\n77\n78\n85\n87\n89\n",
+        ),
+    ] {
+        expect(&rt, rt.alloc(), &words, input, 0, output, "");
+    }
+    let json = "{\"1\":[1,2,4],\"2\":[12,13,14,21,23,25],\"8\":[]}\n";
+    expect(
+        &rt,
+        rt.alloc(),
+        &["convert", "ascii", "json"],
+        text,
+        0,
+        json,
+        "",
+    );
+}
+
+#[test]
+fn refused_texts(rt: HostRuntime) {
+    for (words, input, fault) in [
+        (["convert", "uniq", "ascii"], "4\nx", "fault BadByte\n"),
+        (["convert", "uniq", "json"], "3", "fault NotUniq\n"),
+        (["convert", "ascii", "json"], "5/7-3", "fault Backwards\n"),
+        (["convert", "ascii", "json"], "7", "fault NoOrder\n"),
+        (
+            ["convert", "ascii", "json"],
+            "30/0",
+            "fault OrderTooLarge\n",
+        ),
+        (["convert", "ascii", "json"], "5/7-", "fault Unfinished\n"),
+    ] {
+        expect(&rt, rt.alloc(), &words, input, 1, "", fault);
+    }
+}
+
+#[test]
+fn refused_json(rt: HostRuntime) {
+    for (input, fault) in [
+        ("{\"x\":[0]}", "fault BadOrder\n"),
+        ("{\"0\":0}", "fault NotArray\n"),
+        ("{\"0\":[true]}", "fault NotWhole\n"),
+        ("[1]", "fault NotObject\n"),
+        ("{\"1\":[0", "fault NotJson\n"),
+        ("{\"1\":[0,48]}", "fault CellTooLarge\n"),
+    ] {
+        let words = ["convert", "json", "ascii"];
+        expect(&rt, rt.alloc(), &words, input, 1, "", fault);
+    }
+}
+
+#[test]
+fn words_that_are_not_utf8(rt: HostRuntime) {
+    for (kind, status, text) in [
+        (
+            ErrorKind::InvalidData,
+            2,
+            "error: a word of the command line is not UTF-8\n",
+        ),
+        (ErrorKind::OutOfMemory, 3, "fault Memory\n"),
+    ] {
+        let mut told = Vec::new(rt.alloc());
+        let answered = refuse_words(&io::Error::from(kind), &mut OverWriter::new(&mut told));
+        assert_eq!(rt; answered, status);
+        assert_eq!(rt; told.as_slice(), text.as_bytes());
+    }
+}
+
+#[test]
+fn checks(rt: HostRuntime) {
+    for (words, input) in [
+        (["check", "ascii"], "1/1-2 4 2/12-14"),
+        (["check", "json"], "{}"),
+        (["check", "uniq"], "4\n\n5"),
+    ] {
+        expect(&rt, rt.alloc(), &words, input, 0, "ok\n", "");
+    }
+    for (words, input, told) in [
+        (
+            ["check", "ascii"],
+            "1/0-3\n2/7-5",
+            "fault Backwards\nbyte 8, line 2, byte 2 of it\n",
+        ),
+        (
+            ["check", "json"],
+            "{\"9\":[0,1,true]}",
+            "fault NotWhole\norder 9, number 2\n",
+        ),
+        (["check", "json"], "[1]", "fault NotObject\n"),
+        (["check", "uniq"], "4\n5\n3", "fault NotUniq\nline 3\n"),
+    ] {
+        expect(&rt, rt.alloc(), &words, input, 1, "", told);
+    }
+}
+
+#[test]
+fn figures(rt: HostRuntime) {
+    let lines =
+        "deepest 2\npixels 306244774661193728\nshare 0.088541666666\nranges 2\ncells 2\norder 0 1\norder 2 1\n";
+    for (words, input) in [
+        (["describe", "ascii"], "1/0-3 2/20"),
+        (["describe", "json"], "{\"0\":[0],\"2\":[20]}"),
+    ] {
+        expect(&rt, rt.alloc(), &words, input, 0, lines, "");
+    }
+    let words = ["describe", "ascii"];
+    expect(
+        &rt,
+        rt.alloc(),
+        &words,
+        "0/12",
+        1,
+        "",
+        "fault CellTooLarge\n",
+    );
+}
+
+#[test]
+fn renumbered_lines(rt: HostRuntime) {
+    for (words, input, output) in [
+        (
+            ["renumber", "nest", "ring", "1"].as_slice(),
+            "0\n3\n\n16\n48\n18",
+            "13\n0\n28\nfault CellTooLarge\n27\n",
+        ),
+        (
+            ["renumber", "ring", "nest", "1"].as_slice(),
+            "13\n27\r\n48\n",
+            "0\n18\nfault RingTooLarge\n",
+        ),
+        (
+            ["renumber", "uniq", "nest", "3"].as_slice(),
+            "266\n63\n3\n",
+            "10\nfault OtherOrder\nfault NotUniq\n",
+        ),
+        (
+            ["renumber", "nest", "uniq", "3"].as_slice(),
+            " 10\nten\n1 0",
+            "266\nfault BadNumber\nfault WrongCount\n",
+        ),
+    ] {
+        expect(&rt, rt.alloc(), words, input, 0, output, "");
+    }
+}
+
+/// The picture of a text in a form.
+fn picture<T: Abort + Threads + Wait + Sync>(
+    rt: &T,
+    alloc: Global,
+    form: &str,
+    input: &str,
+) -> Vec<u8> {
+    let mut written = Vec::new(alloc);
+    let mut told = Vec::new(alloc);
+    let answered = program(
+        rt,
+        alloc,
+        &["draw", form],
+        &mut OverReader::new(input.as_bytes()),
+        &mut OverWriter::new(&mut written),
+        &mut OverWriter::new(&mut told),
+    );
+    assert_eq!(rt; answered, 0, "{form}");
+    assert!(rt; told.is_empty(), "{form}");
+    written
+}
+
+#[test]
+fn pictures(rt: HostRuntime) {
+    let ascii = picture(&rt, rt.alloc(), "ascii", "0/0 1/4-5");
+    let json = picture(&rt, rt.alloc(), "json", "{\"0\":[0],\"1\":[4,5]}");
+    let uniq = picture(&rt, rt.alloc(), "uniq", "4\n20\n21\n");
+    let other = picture(&rt, rt.alloc(), "ascii", "0/1");
+    assert!(rt; ascii.as_slice().ends_with(b"</svg>\n".as_slice()));
+    assert_eq!(rt; json.as_slice(), ascii.as_slice());
+    assert_eq!(rt; uniq.as_slice(), ascii.as_slice());
+    assert!(rt; other.as_slice() != ascii.as_slice());
+    let words = ["draw", "ascii"].as_slice();
+    expect(
+        &rt,
+        rt.alloc(),
+        words,
+        "0/12",
+        1,
+        "",
+        "fault CellTooLarge\n",
+    );
+}
+
+#[test]
+fn combinations(rt: HostRuntime) {
+    for (words, input, output) in [
+        (
+            ["combine", "union", "ascii"],
+            "0/0 1/4-5 ; 1/3 2/32",
+            "0/0 1/4-5 2/32\n",
+        ),
+        (
+            ["combine", "intersection", "ascii"],
+            "0/0 8/;1/3 4",
+            "1/3 8/\n",
+        ),
+        (
+            ["combine", "difference", "ascii"],
+            "0/0-2 ; 0/0 ; 0/2",
+            "0/1\n",
+        ),
+        (
+            ["combine", "symmetric", "ascii"],
+            "0/0-1;0/1-2;0/1",
+            "0/0-2\n",
+        ),
+        (["combine", "union", "ascii"], "", "\n"),
+    ] {
+        expect(&rt, rt.alloc(), &words, input, 0, output, "");
+    }
+}
+
+#[test]
+fn combinations_in_other_forms(rt: HostRuntime) {
+    for (words, input, output) in [
+        (["combine", "union", "uniq"], "4\n;\n6\n;5", "4\n5\n6\n"),
+        (
+            ["combine", "difference", "json"],
+            "{\"0\":[0]};{\"1\":[3]}",
+            "{\"1\":[0,1,2]}\n",
+        ),
+    ] {
+        expect(&rt, rt.alloc(), &words, input, 0, output, "");
+    }
+}
+
+#[test]
+fn refused_combinations(rt: HostRuntime) {
+    for (words, input, told) in [
+        (
+            ["combine", "union", "ascii"],
+            "0/0 ; 0/12",
+            "fault CellTooLarge\n",
+        ),
+        (
+            ["combine", "union", "ascii"],
+            "5/7-3 ; 0/12",
+            "fault Backwards\n",
+        ),
+        (
+            ["combine", "union", "json"],
+            "{\"0\":[0]};",
+            "fault NotJson\n",
+        ),
+        (["combine", "union", "uniq"], "4\n;5;3", "fault NotUniq\n"),
+    ] {
+        expect(&rt, rt.alloc(), &words, input, 1, "", told);
+    }
+}
+
+/// A reader that fails.
+#[derive(Drop)]
+struct Broken {
+    is_marked: bool,
+}
+
+impl Source for Broken {
+    ghost use Rattle.std.specs.Prelude.{None};
+
+    ghost left = { λ _. None };
+
+    ghost mark = { λ s. s.is_marked };
+
+    fn read(&mut self, _buffer: &mut [u8]) -> Result<usize, DeviceFault> {
+        self.is_marked = true;
+        Err(DeviceFault)
+    }
+
+    fn is_marked(&self) -> bool {
+        self.is_marked
+    }
+}
+
+#[test]
+fn failing_input(rt: HostRuntime) {
+    for words in [
+        ["run"].as_slice(),
+        ["play"].as_slice(),
+        ["crew", "2"].as_slice(),
+        ["convert", "ascii", "json"].as_slice(),
+        ["check", "ascii"].as_slice(),
+        ["describe", "uniq"].as_slice(),
+        ["combine", "union", "uniq"].as_slice(),
+        ["draw", "json"].as_slice(),
+        ["renumber", "nest", "uniq", "3"].as_slice(),
+    ] {
+        let mut written = Vec::new(rt.alloc());
+        let mut told = Vec::new(rt.alloc());
+        let answered = program(
+            &rt,
+            rt.alloc(),
+            words,
+            &mut Broken { is_marked: false },
+            &mut OverWriter::new(&mut written),
+            &mut OverWriter::new(&mut told),
+        );
+        assert_eq!(rt; answered, 3, "{words:?}");
+        assert!(rt; written.is_empty(), "{words:?}");
+        assert_eq!(rt; told.as_slice(), b"fault Read\n".as_slice(), "{words:?}");
+    }
+}
+
+#[test]
+fn help_and_mistakes(rt: HostRuntime) {
+    for (words, status) in [
+        (["--help"].as_slice(), 0),
+        (["help"].as_slice(), 0),
+        (["ring", "--help"].as_slice(), 0),
+        (["--version"].as_slice(), 0),
+        ([].as_slice(), 2),
+        (["ring", "30", "0"].as_slice(), 2),
+        (["fly"].as_slice(), 2),
+        (["crew", "--help"].as_slice(), 0),
+        (["crew"].as_slice(), 2),
+        (["crew", "0"].as_slice(), 2),
+        (["crew", "65"].as_slice(), 2),
+        (["check"].as_slice(), 2),
+        (["describe", "fits"].as_slice(), 2),
+        (["combine", "union"].as_slice(), 2),
+        (["combine", "minus", "ascii"].as_slice(), 2),
+        (["combine", "--help"].as_slice(), 0),
+        (["draw"].as_slice(), 2),
+        (["renumber", "nest", "cell", "1"].as_slice(), 2),
+        (["renumber", "--help"].as_slice(), 0),
+    ] {
+        let mut written = Vec::new(rt.alloc());
+        let mut told = Vec::new(rt.alloc());
+        let answered = program(
+            &rt,
+            rt.alloc(),
+            words,
+            &mut OverReader::new(b"".as_slice()),
+            &mut OverWriter::new(&mut written),
+            &mut OverWriter::new(&mut told),
+        );
+        assert_eq!(rt; answered, status, "{words:?}");
+        assert_eq!(rt; written.is_empty(), status == 2, "{words:?}");
+        assert_eq!(rt; told.is_empty(), status == 0, "{words:?}");
+    }
+}
