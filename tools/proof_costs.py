@@ -21,7 +21,7 @@ from crates import PARTS as SOURCES, crates_of, folder_of, libraries_below
 # The modules of a function, or of a derived impl, behind its own name.
 PARTS = re.compile(
     r"^(Lts|Proof|Met|Goals|Answers|Tie|Statement|Code|Key|Carried|Kinds|Invariants|Named|Reads|Given|View|Mir|Symbol"
-    r"|The\w+|Layout|Derivation|Open|Facts)")
+    r"|The\w+|Layout|Derivation|Open|Facts|decls)")
 # What is told apart of a function's cost; the rest is one figure.
 TOLD = ("Lts", "Proof", "Answers")
 

@@ -9,10 +9,11 @@ use Rattle.std.specs.Result.{IsErr}
 use Rattle.std.proofs.lemmas.List.{get_or_default}
 use Rattle.moc_script.specs.Merges.{in_lane, dealt}
 use Rattle.moc_ranges.specs.Blocks.{joining}
-use Rattle.moc_script.specs.Runs.{Sends}
+use Rattle.std.proofs.KnownBytes.{Appends-nil, Appends-trans}
+use Rattle.moc_devices.specs.Devices.{Sends}
 use Rattle.moc_script.specs.Private.Joining.{AreForLines, IsJoined, SendsTurns, JoinsTo}
 use Rattle.moc_script.proofs.LaneLists.{dealt-alone, dealt-here, dealt-else, next_left, next_rest}
-use Rattle.moc_script.proofs.Sending.{Appends-none, Appends-both, Sends-front, Sends-fault, Sends-ok, on_err}
+use Rattle.moc_script.proofs.Sending.{Sends-front, Sends-fault, Sends-ok, on_err}
 
 abbrev Texts : Type 0
 Texts = List (List ℕ)
@@ -107,7 +108,7 @@ Turns-start all written some = record {
   sent = [];
   joined = record { done = []; text_is = refl; count_is = refl; wide = refl; parts = λ lane low. refl };
   at = mod-eq_of_lt some;
-  appended = Appends-none written;
+  appended = Appends-nil written;
   parts = refl;
 }
 
@@ -125,7 +126,7 @@ module _ (all walks : List Texts) (turn : ℕ) (w0 w w' : Option (List ℕ)) (pe
       | inl n ↦ elim next [ inl f ↦ omega (arith, n.1, f.1, t.at) | inr f ↦ absurd (omega (arith, n.0, f.0, t.at)) ]
       | inr n ↦ elim next [ inl f ↦ absurd (omega (arith, n.0, f.0, t.at)) | inr f ↦ n.1 ∙ sym f.1 ]
     ];
-    appended = Appends-both w0 w w' t.sent s.sent t.appended s.appended;
+    appended = Appends-trans w0 w w' t.sent s.sent t.appended s.appended;
     parts = ap (λ l. l ++ answer) t.parts ∙ append_assoc t.sent pending answer ∙ ap (λ l. t.sent ++ l) (s.parts ∙ ap (λ l. s.sent ++ l) (sym s.pending)) ∙ sym (append_assoc t.sent s.sent pending');
   }
 
@@ -147,7 +148,7 @@ module _ (all walks : List Texts) (turn : ℕ) (w0 w w' : Option (List ℕ)) (pe
       → Sends {E = E} (pending ++ answer) w pending' w' r → SendsTurns {E = F} all w0 pending'' w' r'
   Turns-fail pending' pending'' answer new r r' is low here s = record {
     sent = t.sent ++ s.sent;
-    appended = Appends-both w0 w w' t.sent s.sent t.appended s.appended;
+    appended = Appends-trans w0 w w' t.sent s.sent t.appended s.appended;
     whole = λ count for.
         let some : 0 < length all = omega arith in
         let more = join_more (length all) turn t.count all walks new t.text answer t.joined low t.at here in

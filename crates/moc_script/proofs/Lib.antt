@@ -2,7 +2,6 @@ pub mod CoverLemmas
 pub mod NumberLemmas
 pub mod LineLemmas
 pub mod Turns
-pub mod Calls
 pub mod Sending
 pub mod Progress
 pub mod Endings

@@ -4,7 +4,7 @@ pub mod Readings
 pub mod Language
 pub mod ReadErrors
 pub mod Replies
-pub mod Devices
+pub use Rattle.moc_devices.specs.Devices
 pub mod Lines
 pub mod Held
 pub mod LineReading

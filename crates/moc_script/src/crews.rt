@@ -20,13 +20,12 @@ mod threads;
 
 use crate::reply_text::push_cover;
 use crate::script::RunError;
-use crate::sink::Sink;
-use crate::source::Source;
 pub use gate::{Gate, OpenGate};
 use gathering::{all_done, take_in_all};
 use joining::{JoinError, write_joined};
 pub use lanes::Lanes;
 pub use laws::crews_answer_each_line;
+use moc_devices::{Sink, Source};
 use moc_ranges::Coverage;
 use moc_shared::{CloseError, NewError, SharedMap};
 use reading::{ReadFault, line_behind, read_all};

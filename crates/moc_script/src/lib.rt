@@ -6,7 +6,6 @@ mod batch;
 mod bytes;
 mod command;
 mod crews;
-mod device;
 mod fault;
 mod laws;
 mod line_reader;
@@ -18,20 +17,16 @@ mod responder;
 mod runner;
 mod schedule;
 mod script;
-mod sink;
-mod source;
 mod step;
 mod words;
 
 pub use crews::{Gate, Lanes, OpenGate, crew, crews_answer_each_line};
-pub use device::DeviceFault;
 pub use laws::{
     lines_of_one_command, lines_without_order, scripts_of_single_commands, scripts_without_order,
 };
 pub use line_reader::LINE_LIMIT;
+pub use moc_devices::{DeviceFault, OverReader, OverWriter, Sink, Source, write_all};
 pub use numbering::Numbering;
 pub use renumbering::{Renumbering, renumber};
 pub use schedule::play;
 pub use script::{RunError, run};
-pub use sink::{OverWriter, Sink, write_all};
-pub use source::{OverReader, Source};

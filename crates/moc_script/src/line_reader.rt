@@ -6,8 +6,7 @@ ghost use Rattle.std.specs.Io.KnownBytes.{Keeps, Consumes, IsAtEnd};
 ghost use Rattle.moc_text.specs.Lines.{is_line_feed};
 
 use crate::bytes::first_or_len;
-use crate::device::DeviceFault;
-use crate::source::Source;
+use moc_devices::{DeviceFault, Source};
 use std::alloc::{AllocError, Global};
 use std::marker::Model;
 

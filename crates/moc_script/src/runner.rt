@@ -2,16 +2,14 @@
 ghost use Rattle.std.specs.Prelude.{◌≡◌, ◌≢◌, ◌++◌, ◌⊎◌, [], IfOk, IfErr, IfSome, if◌then◌else◌, IsTrue, ◌↔◌, true};
 ghost use Rattle.std.specs.Prelude.{false, OnOk, OnErr, IsErrOf, Err};
 ghost use Rattle.std.specs.Io.KnownBytes.{IsAtEnd, Keeps};
-ghost use Rattle.moc_script.specs.Devices.{CallsMore};
+ghost use Rattle.moc_devices.specs.Devices.{CallsMore, Sends};
 ghost use Rattle.moc_script.specs.LineReading.{TakesLine, fault_at, holds_line};
-ghost use Rattle.moc_script.specs.Runs.{Runs, Begins, Ended, Flushes, Sends};
+ghost use Rattle.moc_script.specs.Runs.{Runs, Begins, Ended, Flushes};
 
-use crate::device::DeviceFault;
 use crate::line_reader::{Found, LINE_LIMIT, LineFault, LineReader};
 use crate::responder::Responder;
 use crate::script::RunError;
-use crate::sink::{Sink, write_all};
-use crate::source::Source;
+use moc_devices::{DeviceFault, Sink, Source, write_all};
 use std::alloc::{AllocError, Global};
 
 /// How many bytes of answers are kept before they are written.

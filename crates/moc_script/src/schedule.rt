@@ -7,8 +7,7 @@ ghost use Rattle.moc_script.specs.Schedules.{RunsSchedule, BeginsSchedule, sched
 use crate::player::Player;
 use crate::runner::Runner;
 use crate::script::RunError;
-use crate::sink::Sink;
-use crate::source::Source;
+use moc_devices::{Sink, Source};
 use std::alloc::Global;
 
 /// Plays a schedule: clients take, change and give back parts of one set of pixels of order 29, which starts empty, a

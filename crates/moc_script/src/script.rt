@@ -5,8 +5,7 @@ ghost use Rattle.moc_script.specs.Runs.{Flushes};
 ghost use Rattle.moc_script.specs.Scripts.{RunsScript, BeginsAnswers, answers_of};
 
 use crate::runner::Runner;
-use crate::sink::Sink;
-use crate::source::Source;
+use moc_devices::{Sink, Source};
 use moc_parts::Map;
 use moc_ranges::Coverage;
 use std::alloc::Global;

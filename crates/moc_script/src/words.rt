@@ -23,7 +23,14 @@ fn blanks_in_front(text: &[u8]) -> usize
     ensures count { result ≡ prefix_len is_blank_byte text.now }
     ensures within { result ≤ length text.now }
 {
-    text.iter().take_while(|byte| is_blank_at(**byte)).count()
+    let mut count = 0;
+    for byte in text {
+        if !is_blank_at(*byte) {
+            break;
+        }
+        count += 1;
+    }
+    count
 }
 
 /// How many bytes stand before the first blank of a text.
@@ -31,7 +38,14 @@ fn bytes_before_blank(text: &[u8]) -> usize
     ensures count { result ≡ position_or_len is_blank_byte text.now }
     ensures within { result ≤ length text.now }
 {
-    text.iter().take_while(|byte| !is_blank_at(**byte)).count()
+    let mut count = 0;
+    for byte in text {
+        if is_blank_at(*byte) {
+            break;
+        }
+        count += 1;
+    }
+    count
 }
 
 /// The first word of a text, blanks before it skipped, and what stands behind that word.

@@ -3,7 +3,7 @@ use Rattle.std.specs.Prelude.{◌≡◌, ◌<◌, ◌++◌, ℕ, List, [], lengt
 use Rattle.std.specs.Io.KnownBytes.{Appends}
 use Rattle.moc_ranges.specs.Blocks.{joining}
 use Rattle.moc_script.specs.Merges.{in_lane, dealt}
-use Rattle.moc_script.specs.Runs.{Sends}
+use Rattle.moc_devices.specs.Devices.{Sends}
 use Rattle.moc_script.specs.Crews.{IsCrewText}
 
 -- each lane has as many answers as it has lines, of so many lines

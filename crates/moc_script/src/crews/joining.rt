@@ -2,13 +2,11 @@
 ghost use Rattle.std.specs.Prelude.{◌≡◌, ◌≢◌, ◌<◌, ◌≤◌, ◌+◌, ◌++◌, ◌↔◌, [], Err, false, length};
 ghost use Rattle.std.specs.Prelude.{IfOk, OnOk, OnErr, IsErrOf, IsTrue, vec_len, vec_capacity};
 ghost use Rattle.std.specs.Io.KnownBytes.{Keeps};
-ghost use Rattle.moc_script.specs.Devices.{CallsMore};
-ghost use Rattle.moc_script.specs.Runs.{Sends};
+ghost use Rattle.moc_devices.specs.Devices.{CallsMore, Sends};
 ghost use Rattle.moc_script.specs.Private.Joining.{JoinsTo, SendsTurns};
 
 use crate::crews::texts::{Texts, Walk};
-use crate::device::DeviceFault;
-use crate::sink::{Sink, write_all};
+use moc_devices::{DeviceFault, Sink, write_all};
 use moc_ranges::Memory;
 use std::alloc::Global;
 

@@ -6,10 +6,9 @@ ghost use Rattle.moc_text.specs.Lines.{is_line_feed};
 ghost use Rattle.moc_script.specs.Private.Input.{IsBehindLast, IsHeld, ReadFails, ReadsAll, fails_on};
 
 use crate::bytes::first_or_len;
-use crate::device::DeviceFault;
 use crate::line_reader::LINE_LIMIT;
-use crate::source::Source;
 use memchr::memrchr;
+use moc_devices::{DeviceFault, Source};
 use std::alloc::Global;
 
 /// How many bytes are read at a time.

@@ -1,7 +1,7 @@
 -- What was pending is written before the text.
 use Rattle.std.proofs.Common.{List, ℕ, [], ◌++◌, sym, subst}
 use Rattle.std.specs.Io.KnownBytes.{Appends}
-use Rattle.moc_script.specs.Runs.{Sends}
+use Rattle.moc_devices.specs.Devices.{Sends}
 use Rattle.moc_script.proofs.Sending.{Sends-front}
 use Rattle.moc_script.proofs.crews.joining.send.Goals as goal
 

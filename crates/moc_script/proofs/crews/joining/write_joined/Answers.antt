@@ -3,7 +3,7 @@ use Rattle.std.proofs.Common.{◌∙◌, List, ℕ, [], Ok, Err, ap, subst, arit
 use Rattle.std.proofs.lemmas.List.{get_or_default}
 use Rattle.moc_ranges.specs.Blocks.{joining}
 use Rattle.moc_script.specs.Private.Joining.{JoinsTo}
-use Rattle.moc_script.specs.declared.device.DeviceFault.{DeviceFault}
+use Rattle.moc_devices.specs.declared.device.DeviceFault.{DeviceFault}
 use Rattle.moc_script.specs.declared.crews.joining.JoinError.TheVariants.{Write}
 use Rattle.moc_script.proofs.Joinings.{joins_alone, joins_ok, joins_fault}
 use Rattle.moc_script.proofs.crews.joining.write_joined.Goals as goal

@@ -1,7 +1,7 @@
 -- The lines so far are answered, and nothing has failed.
 use Rattle.std.proofs.Common.{◌≡◌, false}
 use Rattle.std.specs.Bool.{IsTrue}
-use Rattle.moc_script.specs.Devices.{CallsMore}
+use Rattle.moc_devices.specs.Devices.{CallsMore}
 use Rattle.moc_script.proofs.Progress.{Progress}
 use Rattle.moc_script.proofs.runner.Runner.answer_lines.Given as goal
 

@@ -1,6 +1,6 @@
 -- The ways in which the writing ends.
 use Rattle.std.proofs.Common.{List, ℕ, [], ◌++◌, subst}
-use Rattle.moc_script.specs.Runs.{Sends}
+use Rattle.moc_devices.specs.Devices.{Sends}
 use Rattle.moc_script.proofs.Sending.{Sends-fault, Sends-then}
 use Rattle.moc_script.proofs.Joinings.{joins_fail, joins_then}
 use Rattle.moc_script.proofs.crews.joining.Joiner.write.Goals as goal

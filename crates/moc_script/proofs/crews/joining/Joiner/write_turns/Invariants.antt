@@ -2,7 +2,7 @@
 use Rattle.std.proofs.Common.{◌≡◌, ◌<◌, ℕ, List, false, length}
 use Rattle.std.specs.Bool.{IsTrue}
 use Rattle.std.specs.List.{sum_by}
-use Rattle.moc_script.specs.Devices.{CallsMore}
+use Rattle.moc_devices.specs.Devices.{CallsMore}
 use Rattle.moc_script.proofs.Joinings.{Turns}
 use Rattle.moc_script.proofs.crews.joining.Joiner.write_turns.Given as goal
 

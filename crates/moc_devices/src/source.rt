@@ -1,4 +1,4 @@
-//! Where a script's bytes come from.
+//! Where bytes come from.
 ghost use Rattle.std.specs.Prelude.{◌≡◌, ◌≤◌, ◌||◌, ℕ, Bool, List, Option, false, IfOk, is_err, length};
 ghost use Rattle.std.specs.Io.KnownBytes.{ReadConsumes};
 

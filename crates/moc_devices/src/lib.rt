@@ -1,0 +1,10 @@
+//! Where bytes come from and go to: readers and writers that remember a failure.
+#![tactic(auto)]
+
+mod device;
+mod sink;
+mod source;
+
+pub use device::DeviceFault;
+pub use sink::{OverWriter, Sink, write_all};
+pub use source::{OverReader, Source};
