@@ -1,5 +1,5 @@
 -- Lists of ranges that a step of a walk made shorter.
-use Rattle.std.proofs.Common.{◌≡◌, ℕ, ◌+◌, ◌<◌, ◌≤◌, List, ◌∷◌, length, ap, arith, length-append, Option, Some}
+use Rattle.std.proofs.Common.{◌≡◌, ℕ, ◌+◌, ◌<◌, ◌≤◌, List, ◌++◌, length, ap, arith, length-append, Option, Some}
 use Rattle.moc_ranges.specs.Private.Built.{Carries, TakesCommon, TakesOver}
 use Rattle.moc_ranges.specs.Private.Walks.{begun, Advances}
 use Rattle.moc_ranges.proofs.Walking.{begun_is}
@@ -19,3 +19,6 @@ taken_shorter {xs' = xs'} t = omega (arith, ap length t.parts, length-append t.g
 
 pub over_shorter : {ns ns' : List (List (List (ℕ × ℕ)))} {bs bs' : List (List (ℕ × ℕ))} {rs rs' xs xs' : List (ℕ × ℕ)} {limit : ℕ} → TakesOver xs xs' limit ns ns' bs bs' rs rs' → length xs' < length xs
 over_shorter {xs' = xs'} t = omega (arith, ap length t.parts, length-append t.gone xs', t.some)
+
+pub part_shorter : (xs part xs' : List (ℕ × ℕ)) → xs ≡ part ++ xs' → 0 < length part → length xs' < length xs
+part_shorter xs part xs' parts some = omega (arith, ap length parts, length-append part xs')
