@@ -17,4 +17,5 @@ pub mod CarriedOver
 pub mod Looking
 pub mod Stepping
 pub mod Slices
+pub mod Shortening
 pub mod Differing

@@ -6,6 +6,7 @@ use Rattle.moc_ranges.proofs.Merging.{ends_next}
 use Rattle.moc_ranges.proofs.Walking.{at_both}
 use Rattle.moc_ranges.proofs.Views.{first_only_view}
 use Rattle.moc_ranges.proofs.Lacking.{IsLacking, lacked, lacking_begin, lacking_carried, lacking_all, lacking_skipped, lacking_trim, lacking_kept, lacking_passed}
+use Rattle.moc_ranges.proofs.Shortening.{length_begun, advanced_shorter, carried_shorter}
 use Rattle.moc_ranges.proofs.difference.subtract_lists.Goals as goal
 
 pub loop-first-init : goal.loop-first-init
@@ -59,3 +60,15 @@ returns c =
     IfOk-weaker c.finish.result _ _
     (λ made is. is ∙ first_only_view c.args.xs c.args.ys _ (lacked _ _ _ c.loop-first.xs _ _ _ c.loop-first.first c.loop-first.invariant c.in_default.is))
     c.finish.ensures
+
+pub loop-first-smaller-in_default-second : goal.loop-first-smaller-in_default-second
+loop-first-smaller-in_default-second c = omega (arith, length_begun _ _ c.loop-first.xs c.in-Some.is, carried_shorter c.in_ok-first-2.ensures)
+
+pub loop-first-smaller-then-y-x : goal.loop-first-smaller-then-y-x
+loop-first-smaller-then-y-x c = omega (arith, length_begun _ _ c.loop-first.xs c.in-Some.is, length_begun _ _ c.loop-first.ys c.in-Some-second.is, advanced_shorter _ _ _ _ _ c.next_past-second.ensures.1)
+
+pub loop-first-smaller-then-x-y : goal.loop-first-smaller-then-x-y
+loop-first-smaller-then-x-y c = omega (arith, length_begun _ _ c.loop-first.xs c.in-Some.is, length_begun _ _ c.loop-first.ys c.in-Some-second.is, carried_shorter c.in_ok-first-3.ensures)
+
+pub loop-first-smaller : goal.loop-first-smaller
+loop-first-smaller c = omega (arith, length_begun _ _ c.loop-first.xs c.in-Some.is, length_begun _ _ c.loop-first.ys c.in-Some-second.is, advanced_shorter _ _ _ _ _ c.advance-first.ensures)

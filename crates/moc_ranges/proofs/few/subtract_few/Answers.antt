@@ -3,7 +3,7 @@ use Rattle.std.proofs.lemmas.Result.{IfOk-weaker}
 use Rattle.moc_ranges.proofs.Blocking.{none_there}
 use Rattle.moc_ranges.proofs.Turning.{first_item}
 use Rattle.moc_ranges.proofs.Views.{first_only_view}
-use Rattle.moc_ranges.proofs.Slices.{lacking_few_at, lacking_few_cut, lacking_few_kept, lacked_few, lacked_few_rest, lacked_few_normal, none_lacked}
+use Rattle.moc_ranges.proofs.Slices.{lacking_few_at, lacking_few_cut, lacking_few_kept, lacked_few, lacked_few_rest, lacked_few_normal, none_lacked, lacking_few_start}
 use Rattle.moc_ranges.proofs.few.subtract_few.Goals as goal
 
 pub returns-in_default : goal.returns-in_default
@@ -39,3 +39,6 @@ loop-rest_ys-preserved c =
     let second = first_item c.loop-rest_ys.rest_ys.now (0, 0) c.in-len1-up-rest_ys.len_at_least in
     let first = first_item c.loop-rest_ys.rest_xs.now (0, 0) c.in-len1-up-rest_xs.len_at_least in
     lacking_few_at _ _ _ _ _ _ (lacking_few_kept _ _ _ _ _ _ _ c.loop-rest_ys.x y c.min.result c.loop-rest_ys.invariant second (omega (arith, c.if-y-x.false)) c.min.ensures c.in_ok-keep.ensures.normal c.in_ok-keep.ensures.below c.in_ok-keep.ensures.same) first
+
+pub loop-rest_ys-init : goal.loop-rest_ys-init
+loop-rest_ys-init c = lacking_few_start _ _ _ _ c.in_ok-kept.ensures.items (first_item c.args.xs.now (0, 0) c.in-len1-up.len_at_least) c.requires.xs c.requires.ys

@@ -4,7 +4,7 @@ use Rattle.moc_ranges.specs.RangeList.{in_ranges}
 use Rattle.moc_ranges.proofs.Blocking.{none_there}
 use Rattle.moc_ranges.proofs.Turning.{first_item}
 use Rattle.moc_ranges.proofs.Views.{union_view}
-use Rattle.moc_ranges.proofs.Slices.{or_swap, uniting_few_swap, uniting_few_settled, uniting_few_at, united_few_normal, united_few, none_joined, joined_none}
+use Rattle.moc_ranges.proofs.Slices.{or_swap, uniting_few_swap, uniting_few_settled, uniting_few_at, united_few_normal, united_few, none_joined, joined_none, uniting_few_start}
 use Rattle.moc_ranges.proofs.few.unite_few.Goals as goal
 
 pub returns-in_default : goal.returns-in_default
@@ -46,3 +46,6 @@ returns-in_default-rest_ys c =
 pub loop-x-preserved : goal.loop-x-preserved
 loop-x-preserved c =
     uniting_few_swap _ _ _ _ _ (uniting_few_at _ _ _ _ _ _ (uniting_few_settled _ _ _ _ _ _ c.loop-x.y c.loop-x.x c.in_ok-x.x (uniting_few_swap _ _ _ _ _ c.loop-x.invariant) c.in_ok-x.ensures) (first_item c.loop-x.rest_ys.now (0, 0) c.in-len1-up-rest_ys.len_at_least))
+
+pub loop-x-init : goal.loop-x-init
+loop-x-init c = uniting_few_start _ _ _ _ _ c.in_ok-kept.ensures.items (first_item c.args.xs.now (0, 0) c.in-len1-up.len_at_least) (first_item c.args.ys.now (0, 0) c.in-len1-up-ys.len_at_least) c.requires.xs c.requires.ys

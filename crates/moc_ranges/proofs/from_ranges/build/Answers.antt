@@ -1,9 +1,12 @@
-use Rattle.std.proofs.Common.{◌∙◌, ◌-◌, take, drop, length, get_or}
+use Rattle.std.proofs.Common.{◌∙◌, ◌-◌, take, drop, length, get_or, ap, sym, arith}
 use Rattle.std.proofs.lemmas.Result.{IfOk-weaker}
 use Rattle.std.proofs.lemmas.List.{drop_more, drop_all}
-use Rattle.moc_ranges.proofs.Building.{open_filled, open_within, open_after, lengthened_start, lengthened_more, lengthened_all}
+use Rattle.moc_ranges.proofs.Building.{open_filled, open_within, open_after, lengthened_start, lengthened_more, lengthened_all, lengthened_next}
 use Rattle.moc_ranges.proofs.Turning.{first_item}
 use Rattle.moc_ranges.proofs.Views.{same_view}
+use Rattle.moc_ranges.specs.RangeList.{set_of}
+use Rattle.moc_ranges.specs.Private.Built.{kept_of}
+use Rattle.moc_ranges.proofs.Blocking.{none_there}
 use Rattle.moc_ranges.proofs.from_ranges.build.Goals as goal
 
 pub loop-pair-init : goal.loop-pair-init
@@ -31,3 +34,25 @@ returns c =
     (λ made is. is ∙ same_view _ c.args.pairs.now
     (lengthened_all _ _ _ _ _ _ c.loop-pair.last c.loop-pair.invariant (drop_all c.loop-pair.pair-index others c.loop-pair-test.false) c.in_ok-push.ensures.kept))
     c.finish-2.ensures
+
+pub returns-in_default : goal.returns-in_default
+returns-in_default c =
+    let none = none_there c.args.pairs.now (omega (arith, c.in_default.len_below)) in
+    IfOk-weaker c.finish.result _ _
+    (λ made is. is ∙ (λ i. set_of (kept_of (c.in_ok-built.ensures.nodes i) (c.in_ok-built.ensures.blocks i) (c.in_ok-built.ensures.ranges i))) ∙ ap set_of (sym none))
+    c.finish.ensures
+
+pub lengthen-requires-clause-filled : goal.lengthen-requires-clause-filled
+lengthen-requires-clause-filled c =
+    let others = take (length c.args.pairs.now - 1) (drop 1 c.args.pairs.now) in
+    (lengthened_next c.loop-pair.last _ _ _ c.loop-pair.invariant.sorted (drop_more others c.loop-pair.pair-index (0, 0) c.loop-pair-test.true)).1
+
+pub lengthen-requires-clause-within : goal.lengthen-requires-clause-within
+lengthen-requires-clause-within c =
+    let others = take (length c.args.pairs.now - 1) (drop 1 c.args.pairs.now) in
+    (lengthened_next c.loop-pair.last _ _ _ c.loop-pair.invariant.sorted (drop_more others c.loop-pair.pair-index (0, 0) c.loop-pair-test.true)).2
+
+pub lengthen-requires-clause-later : goal.lengthen-requires-clause-later
+lengthen-requires-clause-later c =
+    let others = take (length c.args.pairs.now - 1) (drop 1 c.args.pairs.now) in
+    (lengthened_next c.loop-pair.last _ _ _ c.loop-pair.invariant.sorted (drop_more others c.loop-pair.pair-index (0, 0) c.loop-pair-test.true)).0

@@ -3,6 +3,7 @@ use Rattle.std.proofs.Common.{◌∙◌, arith}
 use Rattle.moc_ranges.proofs.Walking.{at_both}
 use Rattle.moc_ranges.proofs.Views.{common_view}
 use Rattle.moc_ranges.proofs.Meeting.{IsMeeting, met_first, met_second, meeting_kept, meeting_kept_back, meeting_taken, meeting_swap}
+use Rattle.moc_ranges.proofs.Shortening.{length_begun, taken_shorter}
 use Rattle.moc_ranges.proofs.intersection.intersect_lists.Goals as goal
 
 pub next_meeting-requires-clause-after : goal.next_meeting-requires-clause-after
@@ -36,3 +37,9 @@ returns c =
     IfOk-weaker c.finish-2.result _ _
     (λ made is. is ∙ common_view c.args.xs c.args.ys _ (met_first _ _ _ c.loop-first.xs _ _ _ c.loop-first.first c.loop-first.invariant c.in_default.is))
     c.finish-2.ensures
+
+pub loop-first-smaller-then-x-y : goal.loop-first-smaller-then-x-y
+loop-first-smaller-then-x-y c = omega (arith, length_begun _ _ c.loop-first.xs c.in-Some.is, length_begun _ _ c.loop-first.ys c.in-Some-second.is, taken_shorter c.in_ok-first.ensures)
+
+pub loop-first-smaller : goal.loop-first-smaller
+loop-first-smaller c = omega (arith, length_begun _ _ c.loop-first.xs c.in-Some.is, length_begun _ _ c.loop-first.ys c.in-Some-second.is, taken_shorter c.in_ok-second.ensures)

@@ -3,7 +3,7 @@ use Rattle.std.proofs.lemmas.Result.{IfOk-weaker}
 use Rattle.moc_ranges.specs.RangeList.{in_ranges}
 use Rattle.moc_ranges.proofs.Blocking.{none_there}
 use Rattle.moc_ranges.proofs.Turning.{first_item}
-use Rattle.moc_ranges.proofs.Differing.{differs_view, differs_swap, differing_swap, differing_at, differing_parted, differing_both, differed_normal, differed, differ_first}
+use Rattle.moc_ranges.proofs.Differing.{differs_view, differs_swap, differing_swap, differing_at, differing_parted, differing_both, differed_normal, differed, differ_first, differing_start}
 use Rattle.moc_ranges.proofs.symmetric.differ_few.Goals as goal
 
 pub returns-in_default : goal.returns-in_default
@@ -72,3 +72,6 @@ pub loop-x-preserved : goal.loop-x-preserved
 loop-x-preserved c =
     let s = differing_both _ _ _ _ _ _ c.loop-x.x c.loop-x.y c.min.result c.max.result c.loop-x.invariant (omega (arith, c.if-x-y.false, c.if-y-x.false)) c.min.ensures c.max.ensures c.in_ok-keep.ensures.normal c.in_ok-keep.ensures.below c.in_ok-keep.ensures.same in
     differing_at _ _ _ _ _ _ _ s (first_item c.loop-x.rest_xs.now (0, 0) c.in-len1-up-rest_xs-2.len_at_least) (first_item c.loop-x.rest_ys.now (0, 0) c.in-len1-up-rest_ys-2.len_at_least)
+
+pub loop-x-init : goal.loop-x-init
+loop-x-init c = differing_start _ _ _ _ _ c.in_ok-kept.ensures.items (first_item c.args.xs.now (0, 0) c.in-len1-up.len_at_least) (first_item c.args.ys.now (0, 0) c.in-len1-up-ys.len_at_least) c.requires.xs c.requires.ys

@@ -3,6 +3,7 @@ use Rattle.std.proofs.lemmas.Result.{IfOk-weaker}
 use Rattle.moc_ranges.proofs.Merging.{none_next, united, uniting_first, uniting_second}
 use Rattle.moc_ranges.proofs.Turning.{uniting_both}
 use Rattle.moc_ranges.proofs.Views.{union_view}
+use Rattle.moc_ranges.proofs.Shortening.{over_shorter}
 use Rattle.moc_ranges.proofs.union.unite_lists.Goals as goal
 
 pub returns-then-x : goal.returns-then-x
@@ -22,3 +23,9 @@ pub loop-built-preserved : goal.loop-built-preserved
 loop-built-preserved c =
     uniting_second _ _ _ _ _ _ _ _ _ _ _ _
     (uniting_both _ _ _ _ _ _ _ _ _ _ _ _ c.loop-built.invariant c.in_ok-join_both.ensures) c.next_from-x.ensures c.in_ok-take_over-2.ensures
+
+pub loop-built-smaller-in-Continue-branch-3 : goal.loop-built-smaller-in-Continue-branch-3
+loop-built-smaller-in-Continue-branch-3 c = omega (arith, c.in_ok-join_both.ensures.fewer, over_shorter c.in_ok-take_over.ensures)
+
+pub loop-built-smaller : goal.loop-built-smaller
+loop-built-smaller c = omega (arith, c.in_ok-join_both.ensures.fewer, over_shorter c.in_ok-take_over-2.ensures)

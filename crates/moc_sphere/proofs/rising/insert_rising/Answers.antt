@@ -1,5 +1,6 @@
-use Rattle.std.proofs.Common.{◌≡◌, ◌≤◌, length, rules}
+use Rattle.std.proofs.Common.{◌≡◌, ◌≤◌, length, rules, arith}
 use Rattle.moc_sphere.proofs.Inserted.{from_inserted, to_inserted}
+use Rattle.std.proofs.lemmas.Grind.{common_steps}
 use Rattle.moc_sphere.proofs.rising.insert_rising.Goals as goal
 
 pub returns-clause-has : goal.returns-clause-has
@@ -7,3 +8,12 @@ returns-clause-has c =
     let e : c.insert.new.self.items ≡ _ = c.in-Ok.ensures.ok in
     let within : c.first_at_least-at.result ≤ length c.args.list.now.items = search rules in
     rw e (λ j. (from_inserted c.args.list.now.items _ c.args.value j within, to_inserted c.args.list.now.items _ c.args.value j within))
+
+pub returns-then-at-len-clause-rising : goal.returns-then-at-len-clause-rising
+returns-then-at-len-clause-rising c = grind (arith, common_steps)
+
+pub returns-then-at-len-clause-has : goal.returns-then-at-len-clause-has
+returns-then-at-len-clause-has c = grind (arith, common_steps)
+
+pub returns-then-at-len-clause-len : goal.returns-then-at-len-clause-len
+returns-then-at-len-clause-len c = grind (arith, common_steps)

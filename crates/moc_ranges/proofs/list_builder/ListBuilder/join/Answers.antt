@@ -1,7 +1,8 @@
-use Rattle.std.proofs.Common.{◌++◌, ◌∷◌, [], ap, ◌∙◌}
+use Rattle.std.proofs.Common.{◌++◌, ◌∷◌, [], ap, ◌∙◌, refl}
 use Rattle.moc_ranges.specs.Private.Blocks.{joining}
 use Rattle.moc_ranges.proofs.Merging.{normal_ranges, EndsBelow-append}
 use Rattle.moc_ranges.proofs.Building.{longer_same, longer_built, longer_can, pushed_can}
+use Rattle.moc_ranges.proofs.Meeting.{common_same}
 use Rattle.moc_ranges.proofs.list_builder.ListBuilder.join.Goals as goal
 
 pub is_apart-requires : goal.is_apart-requires
@@ -21,3 +22,6 @@ returns-in_ok-push-2-clause-same c = longer_same (joining (joining c.args.self.n
 
 pub returns-in_ok-push-2-clause-can : goal.returns-in_ok-push-2-clause-can
 returns-in_ok-push-2-clause-can c = longer_can _ _ c.args.self.now.ranges.items _ c.pop.new.self.items c.in-Some.last _ c.args.from c.requires.can c.in-Some.ensures.items c.in_ok-push-2.ensures.items
+
+pub returns-then-is_apart-clause-same : goal.returns-then-is_apart-clause-same
+returns-then-is_apart-clause-same c = λ q. common_same _ _ c.args.from c.args.to _ _ q c.in_ok-push.ensures.kept refl refl

@@ -1,7 +1,19 @@
-use Rattle.std.proofs.Common.{arith, ◌∙◌}
+use Rattle.std.proofs.Common.{arith, ◌∙◌, ap, length, ℕ, ◌<◌, List, [], ◌∷◌}
+use Rattle.moc_ranges.specs.Private.Blocks.{joining}
 use Rattle.moc_ranges.proofs.Building.{reopened}
 use Rattle.moc_ranges.proofs.Blocking.{none_there}
+use Rattle.std.proofs.lemmas.Grind.{common_steps}
 use Rattle.moc_ranges.proofs.list_builder.ListBuilder.reopen.Goals as goal
 
 pub returns-in_ok-self-clause-blocks : goal.returns-in_ok-self-clause-blocks
 returns-in_ok-self-clause-blocks c = reopened c.args.self.now.nodes.items c.pop.new.self.items c.in-Some.node c.args.self.now.blocks.items c.in_ok-self.field-0.items c.in-Some.ensures.items (c.in_ok-self.ensures ∙ c.blocks-in-Some.ensures.value) (none_there _ (omega arith))
+
+some_blocks : (bs : List (List (ℕ × ℕ))) → 0 < length (joining bs) → 0 < length bs
+some_blocks [] some = some
+some_blocks (b ∷ bs) some = omega arith
+
+pub returns-in_ok-self-clause-some : goal.returns-in_ok-self-clause-some
+returns-in_ok-self-clause-some c = λ some. omega (arith, ap length (c.in_ok-self.ensures ∙ c.blocks-in-Some.ensures.value), some_blocks c.in-Some.node c.blocks-in-Some.ensures.some)
+
+pub returns-in_default-clause-some : goal.returns-in_default-clause-some
+returns-in_default-clause-some c = grind (arith, common_steps)
