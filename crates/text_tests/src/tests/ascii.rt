@@ -1,20 +1,22 @@
-use super::{Q0, Q1, Q2, every_second, repeated};
+use super::{Q0, Q1, Q2, every_second, repeated, told};
 use moc_ranges::Coverage;
 use moc_sphere::Order;
 use moc_text::{TextError, read_ascii, write_ascii};
 use std::alloc::Global;
-use std::test::Fail;
+use std::process::Abort;
 
-/// Whether the text is read as these ranges of pixels and this deepest order.
+/// Checks that the text is read as these ranges of pixels and this deepest order.
 fn is_read(
+    rt: &impl Abort,
     alloc: Global,
     text: &[u8],
     ranges: &[(u64, u64)],
     deepest: Option<u8>,
-) -> Result<bool, Fail> {
-    let (set, found) = read_ascii(alloc, text)?;
-    let wanted = Coverage::from_ranges(alloc, ranges)?;
-    Ok(set.same(&wanted) && found.map(|order| order.get()) == deepest)
+) {
+    let (set, found) = read_ascii(alloc, text).expect(rt, "a set");
+    let wanted = Coverage::from_ranges(alloc, ranges).expect(rt, "ranges");
+    assert!(rt; set.same(&wanted));
+    assert_eq!(rt; found.map(|order| order.get()), deepest);
 }
 
 /// The fault of a text, if it has one.
@@ -25,6 +27,12 @@ fn fault(alloc: Global, text: &[u8]) -> Option<TextError> {
     }
 }
 
+/// Checks the text of what a text says.
+fn is_rewritten(rt: &impl Abort, alloc: Global, text: &[u8], stated: Option<u8>, wanted: &str) {
+    let written = rewritten(alloc, text, stated).expect(rt, "a text");
+    assert_eq!(rt; written.as_str(), wanted);
+}
+
 /// The text of what a text says.
 fn rewritten(alloc: Global, text: &[u8], stated: Option<u8>) -> Result<String, TextError> {
     let (set, _) = read_ascii(alloc, text)?;
@@ -32,59 +40,54 @@ fn rewritten(alloc: Global, text: &[u8], stated: Option<u8>) -> Result<String, T
 }
 
 #[test]
-fn empty_texts(rt: HostRuntime) -> Result<(), Fail> {
+fn empty_texts(rt: HostRuntime) {
     let alloc = rt.alloc();
-    assert!(rt; is_read(alloc, b"", &[], None)?);
-    assert!(rt; is_read(alloc, b" \r\n\t,", &[], None)?);
-    assert!(rt; is_read(alloc, b"1/", &[], Some(1))?);
-    Ok(())
+    is_read(&rt, alloc, b"", &[], None);
+    is_read(&rt, alloc, b" \r\n\t,", &[], None);
+    is_read(&rt, alloc, b"1/", &[], Some(1));
 }
 
 #[test]
-fn marks_and_runs(rt: HostRuntime) -> Result<(), Fail> {
+fn marks_and_runs(rt: HostRuntime) {
     let alloc = rt.alloc();
     let one_to_4 = [(Q1, 3 * Q1), (4 * Q1, 5 * Q1)];
-    assert!(rt; is_read(alloc, b"1/1-2 4 2", &one_to_4, Some(1))?);
-    assert!(rt; is_read(alloc, b"2/0-3,1/1 1/2,3", &[(0, Q0)], Some(2))?);
-    assert!(rt;
-        is_read(
-            alloc,
-            b"1/4 2/12-14 8/",
-            &[(4 * Q1, 5 * Q1), (12 * Q2, 15 * Q2)],
-            Some(8)
-        )?
+    is_read(&rt, alloc, b"1/1-2 4 2", &one_to_4, Some(1));
+    is_read(&rt, alloc, b"2/0-3,1/1 1/2,3", &[(0, Q0)], Some(2));
+    is_read(
+        &rt,
+        alloc,
+        b"1/4 2/12-14 8/",
+        &[(4 * Q1, 5 * Q1), (12 * Q2, 15 * Q2)],
+        Some(8),
     );
-    Ok(())
 }
 
 #[test]
-fn last_cells(rt: HostRuntime) -> Result<(), Fail> {
+fn last_cells(rt: HostRuntime) {
     let alloc = rt.alloc();
     let last = [(3458764513820540927, 3458764513820540928)];
-    assert!(rt; is_read(alloc, b"s29/3458764513820540927", &last, Some(29))?);
+    is_read(&rt, alloc, b"s29/3458764513820540927", &last, Some(29));
     assert_eq!(rt;
         fault(alloc, b"s29/3458764513820540928"),
         Some(TextError::CellTooLarge { at: 4 })
     );
-    Ok(())
 }
 
 #[test]
-fn long_numbers(rt: HostRuntime) -> Result<(), Fail> {
+fn long_numbers(rt: HostRuntime) {
     let alloc = rt.alloc();
-    let zeros = repeated(alloc, b"0/", b'0', b"5")?;
-    assert!(rt; is_read(alloc, &zeros, &[(5 * Q0, 6 * Q0)], Some(0))?);
-    let nines = repeated(alloc, b"0/", b'9', b"")?;
+    let zeros = repeated(alloc, b"0/", b'0', b"5").expect(&rt, "memory");
+    is_read(&rt, alloc, &zeros, &[(5 * Q0, 6 * Q0)], Some(0));
+    let nines = repeated(alloc, b"0/", b'9', b"").expect(&rt, "memory");
     assert_eq!(rt;
         fault(alloc, &nines),
         Some(TextError::CellTooLarge { at: 2 })
     );
-    let order = repeated(alloc, b"s", b'9', b"/0")?;
+    let order = repeated(alloc, b"s", b'9', b"/0").expect(&rt, "memory");
     assert_eq!(rt;
         fault(alloc, &order),
         Some(TextError::OrderTooLarge { at: 1 })
     );
-    Ok(())
 }
 
 #[test]
@@ -144,98 +147,114 @@ fn cut_texts(rt: HostRuntime) {
 }
 
 #[test]
-fn written_texts(rt: HostRuntime) -> Result<(), Fail> {
+fn written_texts(rt: HostRuntime) {
     let alloc = rt.alloc();
     let text = "1/1-2 4 2/12-14 21 23 25 8/";
-    assert_eq!(rt; rewritten(alloc, text.as_bytes(), Some(8))?.as_str(), text);
+    is_rewritten(&rt, alloc, text.as_bytes(), Some(8), text);
     let lines = b"1/1 2 4\n2/12-14 21 23 25 \n8/";
-    assert_eq!(rt; rewritten(alloc, lines, Some(8))?.as_str(), text);
+    is_rewritten(&rt, alloc, lines, Some(8), text);
     assert!(rt; matches!(rewritten(alloc, lines, Some(1)), Err(TextError::TooCoarse)));
-    Ok(())
 }
 
 #[test]
-fn stated_orders(rt: HostRuntime) -> Result<(), Fail> {
+fn stated_orders(rt: HostRuntime) {
     let alloc = rt.alloc();
-    assert_eq!(rt; rewritten(alloc, b"", None)?.as_str(), "");
-    assert_eq!(rt; rewritten(alloc, b"", Some(8))?.as_str(), "8/");
+    is_rewritten(&rt, alloc, b"", None, "");
+    is_rewritten(&rt, alloc, b"", Some(8), "8/");
     let cells = b"2/0-3,1/1 1/2,3";
-    assert_eq!(rt; rewritten(alloc, cells, None)?.as_str(), "0/0");
-    assert_eq!(rt; rewritten(alloc, cells, Some(0))?.as_str(), "0/0");
-    assert_eq!(rt; rewritten(alloc, cells, Some(2))?.as_str(), "0/0 2/");
-    Ok(())
+    is_rewritten(&rt, alloc, cells, None, "0/0");
+    is_rewritten(&rt, alloc, cells, Some(0), "0/0");
+    is_rewritten(&rt, alloc, cells, Some(2), "0/0 2/");
 }
 
 #[test]
-fn written_ranges(rt: HostRuntime) -> Result<(), Fail> {
+fn written_ranges(rt: HostRuntime) {
     let alloc = rt.alloc();
-    let set = Coverage::from_ranges(alloc, &[(4, 8), (8, 9), (0, 4)])?;
-    assert_eq!(rt; write_ascii(alloc, &set, None)?.as_str(), "28/0-1 29/8");
-    Ok(())
+    let set = Coverage::from_ranges(alloc, &[(4, 8), (8, 9), (0, 4)]).expect(&rt, "memory");
+    assert_eq!(rt;
+        write_ascii(alloc, &set, None)
+            .expect(&rt, "a text")
+            .as_str(),
+        "28/0-1 29/8"
+    );
 }
 
 // No two of these cells touch, so each is an item of its own, and the set has as many pixels.
 #[test]
-fn many_items(rt: HostRuntime) -> Result<(), Fail> {
+fn many_items(rt: HostRuntime) {
     let alloc = rt.alloc();
-    let text = every_second(alloc, "29/", 0, " ", "")?;
-    let (set, _) = read_ascii(alloc, text.as_bytes())?;
+    let text = every_second(&rt, alloc, "29/", 0, " ", "");
+    let (set, _) = read_ascii(alloc, text.as_bytes()).expect(&rt, "a set");
     assert_eq!(rt; set.count(), 1500);
     assert!(rt; set.contains(0) && set.contains(2998));
     assert!(rt; !set.contains(1) && !set.contains(2999));
-    assert_eq!(rt; write_ascii(alloc, &set, None)?.as_str(), text.as_str());
-    Ok(())
+    assert_eq!(rt;
+        write_ascii(alloc, &set, None)
+            .expect(&rt, "a text")
+            .as_str(),
+        text.as_str()
+    );
 }
 
 // The second half stands before the first, and both are read twice.
 #[test]
-fn many_items_in_any_sequence(rt: HostRuntime) -> Result<(), Fail> {
+fn many_items_in_any_sequence(rt: HostRuntime) {
     let alloc = rt.alloc();
-    let mut text = every_second(alloc, "29/", 3000, ",", " ")?;
-    text.push_str(every_second(alloc, "", 0, ",", "\n")?.as_str())?;
-    text.push_str(every_second(alloc, "", 3000, ",", "")?.as_str())?;
-    let (set, _) = read_ascii(alloc, text.as_bytes())?;
+    let mut text = every_second(&rt, alloc, "29/", 3000, ",", " ");
+    text.push_str(every_second(&rt, alloc, "", 0, ",", "\n").as_str())
+        .expect(&rt, "memory");
+    text.push_str(every_second(&rt, alloc, "", 3000, ",", "").as_str())
+        .expect(&rt, "memory");
+    let (set, _) = read_ascii(alloc, text.as_bytes()).expect(&rt, "a set");
     assert_eq!(rt; set.count(), 3000);
     assert!(rt; set.contains(0) && set.contains(3000) && set.contains(5998));
     assert!(rt; !set.contains(2999) && !set.contains(5999));
-    Ok(())
 }
 
 #[test]
-fn errors_in_words(rt: HostRuntime) -> Result<(), Fail> {
+fn errors_in_words(rt: HostRuntime) {
     let alloc = rt.alloc();
-    for (error, wanted) in [
-        (
-            TextError::BadByte { at: 3 },
-            "a byte that no word has there, at 3",
-        ),
-        (
-            TextError::NoOrder { at: 0 },
-            "an item before any order, at 0",
-        ),
-        (
-            TextError::OrderTooLarge { at: 1 },
-            "an order above 29, at 1",
-        ),
-        (
-            TextError::CellTooLarge { at: 4 },
-            "no cell of the order in force, at 4",
-        ),
-        (
-            TextError::Backwards { at: 2 },
-            "a range that goes backwards, at 2",
-        ),
-        (
-            TextError::Unfinished { at: 4 },
-            "a word that is not finished, at 4",
-        ),
-        (TextError::Memory, "out of memory"),
-        (
-            TextError::TooCoarse,
-            "a cell is deeper than the stated order",
-        ),
-    ] {
-        assert_eq!(rt; format!(in alloc; "{error}")?.as_str(), wanted);
-    }
-    Ok(())
+    told(
+        &rt,
+        alloc,
+        TextError::BadByte { at: 3 },
+        "a byte that no word has there, at 3",
+    );
+    told(
+        &rt,
+        alloc,
+        TextError::NoOrder { at: 0 },
+        "an item before any order, at 0",
+    );
+    told(
+        &rt,
+        alloc,
+        TextError::OrderTooLarge { at: 1 },
+        "an order above 29, at 1",
+    );
+    told(
+        &rt,
+        alloc,
+        TextError::CellTooLarge { at: 4 },
+        "no cell of the order in force, at 4",
+    );
+    told(
+        &rt,
+        alloc,
+        TextError::Backwards { at: 2 },
+        "a range that goes backwards, at 2",
+    );
+    told(
+        &rt,
+        alloc,
+        TextError::Unfinished { at: 4 },
+        "a word that is not finished, at 4",
+    );
+    told(&rt, alloc, TextError::Memory, "out of memory");
+    told(
+        &rt,
+        alloc,
+        TextError::TooCoarse,
+        "a cell is deeper than the stated order",
+    );
 }

@@ -1,20 +1,22 @@
-use super::{Q1, Q2, every_second, repeated};
+use super::{Q1, Q2, every_second, repeated, told};
 use moc_ranges::Coverage;
 use moc_sphere::Order;
 use moc_text::{JsonError, JsonPlace, read_ascii, read_json, write_json};
 use std::alloc::Global;
-use std::test::Fail;
+use std::process::Abort;
 
-/// Whether the text is read as these ranges of pixels and this deepest order.
+/// Checks that the text is read as these ranges of pixels and this deepest order.
 fn is_read(
+    rt: &impl Abort,
     alloc: Global,
     text: &[u8],
     ranges: &[(u64, u64)],
     deepest: Option<u8>,
-) -> Result<bool, Fail> {
-    let (set, found) = read_json(alloc, text)?;
-    let wanted = Coverage::from_ranges(alloc, ranges)?;
-    Ok(set.same(&wanted) && found.map(|order| order.get()) == deepest)
+) {
+    let (set, found) = read_json(alloc, text).expect(rt, "a set");
+    let wanted = Coverage::from_ranges(alloc, ranges).expect(rt, "ranges");
+    assert!(rt; set.same(&wanted));
+    assert_eq!(rt; found.map(|order| order.get()), deepest);
 }
 
 /// The fault of a text, if it has one.
@@ -25,20 +27,26 @@ fn fault(alloc: Global, text: &[u8]) -> Option<JsonError> {
     }
 }
 
-/// The text of what a text says, with the deepest order that it names.
-fn rewritten(alloc: Global, text: &[u8]) -> Result<String, JsonError> {
-    let (set, deepest) = read_json(alloc, text)?;
-    write_json(alloc, &set, deepest)
+/// Checks the text of what a text says, with the deepest order that it names.
+fn is_rewritten(rt: &impl Abort, alloc: Global, text: &str, wanted: &str) {
+    let (set, deepest) = read_json(alloc, text.as_bytes()).expect(rt, "a set");
+    let written = write_json(alloc, &set, deepest).expect(rt, "a text");
+    assert_eq!(rt; written.as_str(), wanted);
 }
 
 #[test]
-fn objects(rt: HostRuntime) -> Result<(), Fail> {
+fn objects(rt: HostRuntime) {
     let alloc = rt.alloc();
     let text = b"{\"10\":[],\"2\":[5],\"1\":[1]}";
-    assert!(rt; is_read(alloc, text, &[(Q1, 2 * Q1), (5 * Q2, 6 * Q2)], Some(10))?);
-    assert!(rt; is_read(alloc, b"{\"01\":[0]}", &[(0, Q1)], Some(1))?);
-    assert!(rt; is_read(alloc, b"{}", &[], None)?);
-    Ok(())
+    is_read(
+        &rt,
+        alloc,
+        text,
+        &[(Q1, 2 * Q1), (5 * Q2, 6 * Q2)],
+        Some(10),
+    );
+    is_read(&rt, alloc, b"{\"01\":[0]}", &[(0, Q1)], Some(1));
+    is_read(&rt, alloc, b"{}", &[], None);
 }
 
 #[test]
@@ -90,17 +98,16 @@ fn faults(rt: HostRuntime) {
 }
 
 #[test]
-fn not_json(rt: HostRuntime) -> Result<(), Fail> {
+fn not_json(rt: HostRuntime) {
     let alloc = rt.alloc();
     assert_eq!(rt; fault(alloc, b"{\"1\":[0"), Some(JsonError::NotJson));
     assert_eq!(rt; fault(alloc, b"{\"1\":[0]}\xff"), Some(JsonError::NotJson));
-    let brackets = repeated(alloc, b"", b'[', b"")?;
+    let brackets = repeated(alloc, b"", b'[', b"").expect(&rt, "memory");
     assert_eq!(rt; fault(alloc, &brackets), Some(JsonError::NotJson));
-    Ok(())
 }
 
 #[test]
-fn written_again(rt: HostRuntime) -> Result<(), Fail> {
+fn written_again(rt: HostRuntime) {
     let alloc = rt.alloc();
     for (text, wanted) in [
         ("{\"10\":[],\"2\":[5],\"1\":[1]}", "{\"1\":[1],\"10\":[]}"),
@@ -108,17 +115,18 @@ fn written_again(rt: HostRuntime) -> Result<(), Fail> {
         ("{\"8\":[]}", "{\"8\":[]}"),
         ("{\"1\":[0]}", "{\"1\":[0]}"),
     ] {
-        assert_eq!(rt; rewritten(alloc, text.as_bytes())?.as_str(), wanted);
+        is_rewritten(&rt, alloc, text, wanted);
     }
-    Ok(())
 }
 
 #[test]
-fn written_orders(rt: HostRuntime) -> Result<(), Fail> {
+fn written_orders(rt: HostRuntime) {
     let alloc = rt.alloc();
-    let (set, deepest) = read_ascii(alloc, b"1/1-2 4 2/12-14 21 23 25 8/")?;
+    let (set, deepest) = read_ascii(alloc, b"1/1-2 4 2/12-14 21 23 25 8/").expect(&rt, "a set");
     assert_eq!(rt;
-        write_json(alloc, &set, deepest)?.as_str(),
+        write_json(alloc, &set, deepest)
+            .expect(&rt, "a text")
+            .as_str(),
         "{\"1\":[1,2,4],\"2\":[12,13,14,21,23,25],\"8\":[]}"
     );
     assert!(rt;
@@ -127,43 +135,55 @@ fn written_orders(rt: HostRuntime) -> Result<(), Fail> {
             Err(JsonError::TooCoarse)
         )
     );
-    Ok(())
 }
 
 #[test]
-fn many_items(rt: HostRuntime) -> Result<(), Fail> {
+fn many_items(rt: HostRuntime) {
     let alloc = rt.alloc();
-    let text = every_second(alloc, "{\"29\":[", 0, ",", "]}")?;
-    let (set, _) = read_json(alloc, text.as_bytes())?;
+    let text = every_second(&rt, alloc, "{\"29\":[", 0, ",", "]}");
+    let (set, _) = read_json(alloc, text.as_bytes()).expect(&rt, "a set");
     assert_eq!(rt; set.count(), 1500);
     assert!(rt; set.contains(0) && set.contains(2998) && !set.contains(1));
-    assert_eq!(rt; write_json(alloc, &set, None)?.as_str(), text.as_str());
-    Ok(())
+    assert_eq!(rt;
+        write_json(alloc, &set, None).expect(&rt, "a text").as_str(),
+        text.as_str()
+    );
 }
 
 #[test]
-fn errors_in_words(rt: HostRuntime) -> Result<(), Fail> {
+fn errors_in_words(rt: HostRuntime) {
     let alloc = rt.alloc();
-    for (error, wanted) in [
-        (JsonError::NotJson, "no JSON"),
-        (JsonError::NotObject, "no object"),
-        (JsonError::BadOrder { name: 1 }, "name 1 is no order"),
-        (JsonError::NotArray { name: 0 }, "name 0 has no array"),
-        (
-            JsonError::NotWhole { name: 0, place: 2 },
-            "name 0, item 2 is no whole number",
-        ),
-        (
-            JsonError::CellTooLarge { name: 3, place: 1 },
-            "name 3, item 1 is no cell of its order",
-        ),
-        (JsonError::Memory, "out of memory"),
-        (
-            JsonError::TooCoarse,
-            "a cell is deeper than the stated order",
-        ),
-    ] {
-        assert_eq!(rt; format!(in alloc; "{error}")?.as_str(), wanted);
-    }
-    Ok(())
+    told(&rt, alloc, JsonError::NotJson, "no JSON");
+    told(&rt, alloc, JsonError::NotObject, "no object");
+    told(
+        &rt,
+        alloc,
+        JsonError::BadOrder { name: 1 },
+        "name 1 is no order",
+    );
+    told(
+        &rt,
+        alloc,
+        JsonError::NotArray { name: 0 },
+        "name 0 has no array",
+    );
+    told(
+        &rt,
+        alloc,
+        JsonError::NotWhole { name: 0, place: 2 },
+        "name 0, item 2 is no whole number",
+    );
+    told(
+        &rt,
+        alloc,
+        JsonError::CellTooLarge { name: 3, place: 1 },
+        "name 3, item 1 is no cell of its order",
+    );
+    told(&rt, alloc, JsonError::Memory, "out of memory");
+    told(
+        &rt,
+        alloc,
+        JsonError::TooCoarse,
+        "a cell is deeper than the stated order",
+    );
 }

@@ -1,8 +1,7 @@
-use super::{Q0, every_second};
+use super::{Q0, every_second, told};
 use moc_ranges::Coverage;
 use moc_text::{UniqError, read_ascii, read_uniq, write_uniq};
 use std::alloc::Global;
-use std::test::Fail;
 
 /// The fault of a text, if it has one.
 fn fault(alloc: Global, text: &[u8]) -> Option<UniqError> {
@@ -13,14 +12,23 @@ fn fault(alloc: Global, text: &[u8]) -> Option<UniqError> {
 }
 
 #[test]
-fn lists(rt: HostRuntime) -> Result<(), Fail> {
+fn lists(rt: HostRuntime) {
     let alloc = rt.alloc();
-    let base = Coverage::from_ranges(alloc, &[(0, Q0)])?;
-    assert!(rt; read_uniq(alloc, b"16\n17\n\n18\n19")?.same(&base));
-    assert!(rt; read_uniq(alloc, b"")?.is_empty());
-    let last = Coverage::from_ranges(alloc, &[(3458764513820540927, 3458764513820540928)])?;
-    assert!(rt; read_uniq(alloc, b"4611686018427387903\n")?.same(&last));
-    Ok(())
+    let base = Coverage::from_ranges(alloc, &[(0, Q0)]).expect(&rt, "memory");
+    assert!(rt;
+        read_uniq(alloc, b"16\n17\n\n18\n19")
+            .expect(&rt, "a set")
+            .same(&base)
+    );
+    assert!(rt; read_uniq(alloc, b"").expect(&rt, "a set").is_empty());
+    let last = Coverage::from_ranges(alloc, &[(3458764513820540927, 3458764513820540928)]).expect(
+        &rt, "memory",
+    );
+    assert!(rt;
+        read_uniq(alloc, b"4611686018427387903\n")
+            .expect(&rt, "a set")
+            .same(&last)
+    );
 }
 
 #[test]
@@ -40,44 +48,49 @@ fn faults(rt: HostRuntime) {
 }
 
 #[test]
-fn written_lists(rt: HostRuntime) -> Result<(), Fail> {
+fn written_lists(rt: HostRuntime) {
     let alloc = rt.alloc();
-    let (set, _) = read_ascii(alloc, b"1/1-2 4 2/12-14 21 23 25 8/")?;
+    let (set, _) = read_ascii(alloc, b"1/1-2 4 2/12-14 21 23 25 8/").expect(&rt, "a set");
     assert_eq!(rt;
-        write_uniq(alloc, &set)?.as_str(),
+        write_uniq(alloc, &set).expect(&rt, "a text").as_str(),
         "17\n18\n20\n76\n77\n78\n85\n87\n89\n"
     );
-    assert_eq!(rt; write_uniq(alloc, &Coverage::empty(alloc))?.as_str(), "");
-    Ok(())
+    assert_eq!(rt;
+        write_uniq(alloc, &Coverage::empty(alloc))
+            .expect(&rt, "a text")
+            .as_str(),
+        ""
+    );
 }
 
 // 4^30 is the NUNIQ number of the first cell of order 29.
 #[test]
-fn many_lines(rt: HostRuntime) -> Result<(), Fail> {
+fn many_lines(rt: HostRuntime) {
     let alloc = rt.alloc();
-    let text = every_second(alloc, "", 1152921504606846976, "\n", "\n")?;
-    let set = read_uniq(alloc, text.as_bytes())?;
+    let text = every_second(&rt, alloc, "", 1152921504606846976, "\n", "\n");
+    let set = read_uniq(alloc, text.as_bytes()).expect(&rt, "a set");
     assert_eq!(rt; set.count(), 1500);
     assert!(rt; set.contains(0) && set.contains(2998) && !set.contains(1));
-    assert_eq!(rt; write_uniq(alloc, &set)?.as_str(), text.as_str());
-    Ok(())
+    assert_eq!(rt;
+        write_uniq(alloc, &set).expect(&rt, "a text").as_str(),
+        text.as_str()
+    );
 }
 
 #[test]
-fn errors_in_words(rt: HostRuntime) -> Result<(), Fail> {
+fn errors_in_words(rt: HostRuntime) {
     let alloc = rt.alloc();
-    for (error, wanted) in [
-        (
-            UniqError::BadByte { line: 1 },
-            "a byte that is no digit, in line 1",
-        ),
-        (
-            UniqError::NotUniq { line: 2 },
-            "a number that is no NUNIQ number, in line 2",
-        ),
-        (UniqError::Memory, "out of memory"),
-    ] {
-        assert_eq!(rt; format!(in alloc; "{error}")?.as_str(), wanted);
-    }
-    Ok(())
+    told(
+        &rt,
+        alloc,
+        UniqError::BadByte { line: 1 },
+        "a byte that is no digit, in line 1",
+    );
+    told(
+        &rt,
+        alloc,
+        UniqError::NotUniq { line: 2 },
+        "a number that is no NUNIQ number, in line 2",
+    );
+    told(&rt, alloc, UniqError::Memory, "out of memory");
 }
