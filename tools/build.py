@@ -27,8 +27,10 @@ MOST_JOBS = 4
 JOB_MEMORY = 2_500_000_000
 # How many seconds lie between two lines of progress at least.
 PACE = 10
+# The file that a check leaves for the proof of a function.
+FUNCTION = re.compile(r"(?<!\.TheImpl)\.Proof\.oantt$")
 # What a check says of all that is well.
-WELL = re.compile(r"^(struct|enum|impl|fn) \S+: proved|: modules loaded=|^so far: |^checked \S+, ")
+WELL = re.compile(r"^(struct|enum|impl|fn) \S+: proved|: modules loaded=|^so far: ")
 
 
 def size_of(crate):
@@ -45,34 +47,60 @@ class Progress:
     """How many functions are checked, and how much of the work is done."""
 
     def __init__(self, sizes):
-        self.sizes, self.checked, self.share, self.at_work = sizes, {}, {}, []
-        self.begun = self.told = time.monotonic()
+        self.sizes, self.numbers, self.checked, self.at_work = sizes, {}, {}, {}
+        self.begun = time.monotonic()
         self.turn = threading.Lock()
 
     def minutes(self):
         seconds = int(time.monotonic() - self.begun)
         return f"{seconds // 60}:{seconds % 60:02}"
 
-    def note(self, crate, checked, of):
-        """So many functions of a crate are checked."""
-        with self.turn:
-            self.checked[crate], self.share[crate] = checked, checked / max(of, 1)
-            if time.monotonic() - self.told >= PACE:
-                self.told = time.monotonic()
-                done = sum(self.sizes[it] * share for it, share in self.share.items()) / sum(self.sizes.values())
-                say(f"{sum(self.checked.values())} functions checked, {done:.0%} of the work, {self.minutes()}: {', '.join(self.at_work)}")
-
     @contextlib.contextmanager
-    def of(self, crate):
-        """Tells of a crate that it is at work."""
+    def of(self, crate, folder):
+        """Tells of a crate that it is at work, in this folder."""
         with self.turn:
-            self.at_work.append(crate)
+            self.at_work[crate] = os.path.join(folder, "out", "incremental")
         try:
             yield
         finally:
             with self.turn:
-                self.at_work.remove(crate)
-                self.share[crate] = 1
+                self.look()
+                del self.at_work[crate]
+                self.numbers[crate] = self.checked[crate]
+
+    def look(self):
+        """Counts what the checks at work have left: a file for each function."""
+        for crate, kept in self.at_work.items():
+            self.checked[crate] = sum(
+                bool(FUNCTION.search(it)) for _, _, files in os.walk(kept) for it in files)
+
+    def share(self, crate):
+        """How much of a crate is done."""
+        checked, number = self.checked.get(crate, 0), self.numbers.get(crate)
+        return 0 if number is None else 1 if checked >= number else checked / number
+
+    def tell(self):
+        with self.turn:
+            self.look()
+            done = sum(size * self.share(crate) for crate, size in self.sizes.items()) / sum(self.sizes.values())
+            say(f"{sum(self.checked.values())} functions checked, {done:.0%} of the work, {self.minutes()}: {', '.join(self.at_work)}")
+
+    @contextlib.contextmanager
+    def told(self):
+        """Tells it every few seconds."""
+        ended = threading.Event()
+
+        def tell_often():
+            while not ended.wait(PACE):
+                self.tell()
+
+        teller = threading.Thread(target=tell_often)
+        teller.start()
+        try:
+            yield
+        finally:
+            ended.set()
+            teller.join()
 
 
 def say(text):
@@ -86,10 +114,9 @@ def rt(folder, words, crate, progress, is_first=True):
     said = []
     for line in ran.stdout:
         said.append(line)
-        counted = re.match(r"so far: (\d+) of (\d+) functions|checked \S+, (\d+) of (\d+)", line)
+        counted = re.match(r"so far: \d+ of (\d+) functions", line)
         if counted:
-            checked, of = [int(it) for it in counted.groups() if it]
-            progress.note(crate, checked, of)
+            progress.numbers[crate] = int(counted[1])
     if ran.wait():
         print("".join(it for it in said if not WELL.search(it)), file=sys.stderr)
     return ran.returncode == 0
@@ -112,7 +139,7 @@ class Build:
             if self.done.issuperset(below[it]) and is_current(it, below[it]):
                 self.left.remove(it)
                 self.done.add(it)
-                self.progress.share[it] = 1
+                self.progress.numbers[it] = 0
         self.turn = threading.Condition()
         cores = len(os.sched_getaffinity(0))
         self.most = min(2 * cores, max(1, free_memory() // JOB_MEMORY))
@@ -122,10 +149,10 @@ class Build:
         """Proves a library in a room of its own, and keeps what was proved there also where something is not."""
         room, well = os.path.join(self.rooms, crate), False
         try:
-            with self.progress.of(crate):
-                folder = make_room(room, crate, self.below[crate])
+            folder = make_room(room, crate, self.below[crate])
+            with self.progress.of(crate, folder):
                 well = rt(folder, ["lib", "--jobs", str(jobs)], crate, self.progress, is_first)
-                take_back(room, crate)
+            take_back(room, crate)
             shutil.rmtree(room, ignore_errors=True)
         finally:
             with self.turn:
@@ -155,8 +182,9 @@ class Build:
 
     def program(self):
         """Proves and builds the program itself, and has it say a number."""
-        with self.progress.of(PROGRAM):
-            return rt(folder_of(PROGRAM), ["run", "--jobs", str(self.jobs), "--", "uniq", "0", "0"], PROGRAM, self.progress)
+        folder = folder_of(PROGRAM)
+        with self.progress.of(PROGRAM, folder):
+            return rt(folder, ["run", "--jobs", str(self.jobs), "--", "uniq", "0", "0"], PROGRAM, self.progress)
 
 
 def main():
@@ -170,7 +198,8 @@ def main():
         fcntl.flock(lock, fcntl.LOCK_EX)
         shutil.rmtree(rooms, ignore_errors=True)
         build = Build(rooms)
-        well = build.libraries() and (given.libraries or build.program())
+        with build.progress.told():
+            well = build.libraries() and (given.libraries or build.program())
         shutil.rmtree(rooms, ignore_errors=True)
     if given.libraries or not well:
         return 0 if well else 1
