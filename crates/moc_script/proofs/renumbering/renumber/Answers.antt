@@ -2,5 +2,16 @@
 use Rattle.moc_script.proofs.Endings.{answers-ok}
 use Rattle.moc_script.proofs.renumbering.renumber.Goals as goal
 
-pub returns-clause-answers : goal.returns-clause-answers
-returns-clause-answers g c = answers-ok _ _ _ _ _ _ _ c.run.result c.run.ensures.runs
+pub returns : goal.returns
+returns g c = record {
+  renumbers = c.run.ensures.runs;
+  begins = c.run.ensures.begins;
+  answers = answers-ok _ _ _ _ _ _ _ c.run.result c.run.ensures.runs;
+  end = c.run.ensures.end;
+  flushed = c.run.ensures.flushed;
+  unflushed = c.run.ensures.unflushed;
+  flushes = c.run.ensures.flushes;
+  read = c.run.ensures.read;
+  write = c.run.ensures.write;
+  told = c.run.ensures.told;
+}

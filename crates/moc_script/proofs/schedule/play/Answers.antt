@@ -9,11 +9,18 @@ use Rattle.moc_script.specs.Scripts.{line_limit}
 use Rattle.moc_script.proofs.Endings.{answers-ok}
 use Rattle.moc_script.proofs.schedule.play.Goals as goal
 
-pub returns-clause-begins : goal.returns-clause-begins
-returns-clause-begins g c = rw (c.in-Ok.ensures) at c.run.ensures.begins
-
-pub returns-clause-answers : goal.returns-clause-answers
-returns-clause-answers g c =
-    subst (λ (s : Schedule). OnOk c.run.result (IfSome (g.R.Source.left c.args.reader.now) (λ input.
-    Appends (g.W.Sink.written c.args.writer.now) (g.W.Sink.written c.run.new.writer) (script_text schedule_rules line_limit s input))))
-    c.in-Ok.ensures (answers-ok _ _ _ _ _ _ _ c.run.result c.run.ensures.runs)
+pub returns : goal.returns
+returns g c = record {
+  plays = rw (c.in-Ok.ensures) at c.run.ensures.runs;
+  begins = rw (c.in-Ok.ensures) at c.run.ensures.begins;
+  answers = subst (λ (s : Schedule). OnOk c.run.result (IfSome (g.R.Source.left c.args.reader.now) (λ input.
+      Appends (g.W.Sink.written c.args.writer.now) (g.W.Sink.written c.run.new.writer) (script_text schedule_rules line_limit s input))))
+      c.in-Ok.ensures (answers-ok _ _ _ _ _ _ _ c.run.result c.run.ensures.runs);
+  end = c.run.ensures.end;
+  flushed = c.run.ensures.flushed;
+  unflushed = c.run.ensures.unflushed;
+  flushes = c.run.ensures.flushes;
+  read = c.run.ensures.read;
+  write = c.run.ensures.write;
+  told = c.run.ensures.told;
+}

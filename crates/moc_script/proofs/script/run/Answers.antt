@@ -2,8 +2,16 @@
 use Rattle.moc_script.proofs.Endings.{answers-ok}
 use Rattle.moc_script.proofs.script.run.Goals as goal
 
-pub returns-clause-begins : goal.returns-clause-begins
-returns-clause-begins g c = rw (c.in-Ok.ensures, c.empty.ensures) at c.run.ensures.begins
-
-pub returns-clause-answers : goal.returns-clause-answers
-returns-clause-answers g c = rw (c.in-Ok.ensures, c.empty.ensures) at (answers-ok _ _ _ _ _ _ _ c.run.result c.run.ensures.runs)
+pub returns : goal.returns
+returns g c = record {
+  runs = rw (c.in-Ok.ensures, c.empty.ensures) at c.run.ensures.runs;
+  begins = rw (c.in-Ok.ensures, c.empty.ensures) at c.run.ensures.begins;
+  answers = rw (c.in-Ok.ensures, c.empty.ensures) at (answers-ok _ _ _ _ _ _ _ c.run.result c.run.ensures.runs);
+  end = c.run.ensures.end;
+  flushed = c.run.ensures.flushed;
+  unflushed = c.run.ensures.unflushed;
+  flushes = c.run.ensures.flushes;
+  read = c.run.ensures.read;
+  write = c.run.ensures.write;
+  told = c.run.ensures.told;
+}
