@@ -2,68 +2,81 @@
 ghost use Rattle.std.specs.Prelude.{◌≡◌, ◌≤◌, IfOk, OnOk, if◌then◌else◌};
 ghost use Rattle.std.specs.FinSet as set;
 ghost use Rattle.moc_ranges.specs.Cells.{degrade};
-ghost use Rattle.moc_ranges.specs.Operations.{complement, meets, IsWithin};
-ghost use Rattle.moc_ranges.specs.Pixels.{pixel_count, pixels};
+ghost use Rattle.moc_ranges.specs.Operations.{complement, meets};
+ghost use Rattle.moc_ranges.specs.Pixels.{pixel_count};
 ghost use Rattle.moc_parts.specs.Batches.{replies_on, set_after_all, AreCommands};
-ghost use Rattle.moc_parts.specs.Commands.{reply_on, set_after, surroundings, IsCommand};
+ghost use Rattle.moc_parts.specs.Commands.{operand_set, reply_on, set_after, surroundings, IsCommand, IsOperand};
 ghost use Rattle.moc_parts.specs.declared.reply.Reply.TheVariants as reply;
 
 use crate::change::Change;
-use crate::command::Command;
+use crate::command::{Command, Operand};
 use crate::draft::Draft;
 use crate::reply::{Replies, Reply};
 use crate::surroundings::surroundings_of;
-use moc_ranges::{Coverage, Memory, PIXEL_COUNT};
+use moc_ranges::{Memory, PIXEL_COUNT};
 use moc_sphere::{Cell, Order};
 use std::alloc::Global;
 
 impl<'a> Draft<'a> {
-    /// Adds a set.
-    fn add(&mut self, alloc: Global, other: &Coverage) -> Result<Reply, Memory>
-        requires { IsWithin other.now pixels }
-        ensures set { OnOk result (self.new.set ≡ set.union self.old.set other.now) }
-        ensures reply { IfOk result (λ r. r ≡ reply.Changed (set.len (set.difference other.now self.old.set))) }
+    /// Adds the set of an operand.
+    fn add(&mut self, alloc: Global, operand: &Operand) -> Result<Reply, Memory>
+        requires { IsOperand operand.now }
+        ensures set { OnOk result (self.new.set ≡ set.union self.old.set (operand_set operand.now)) }
+        ensures reply { IfOk result (λ r.
+            r ≡ reply.Changed (set.len (set.difference (operand_set operand.now) self.old.set))) }
         ensures found { self.new.found ≡ self.old.found }
     {
+        let resolved = operand.resolved(alloc)?;
+        let other = resolved.set();
         let lacking = other.count() - self.count_common(other);
         self.change(alloc, &Change::Join(other))?;
         Ok(Reply::Changed(lacking))
     }
 
-    /// Removes a set.
-    fn remove(&mut self, alloc: Global, other: &Coverage) -> Result<Reply, Memory>
-        requires { IsWithin other.now pixels }
-        ensures set { OnOk result (self.new.set ≡ set.difference self.old.set other.now) }
-        ensures reply { IfOk result (λ r. r ≡ reply.Changed (set.len (set.intersection self.old.set other.now))) }
+    /// Removes the set of an operand.
+    fn remove(&mut self, alloc: Global, operand: &Operand) -> Result<Reply, Memory>
+        requires { IsOperand operand.now }
+        ensures set { OnOk result (self.new.set ≡ set.difference self.old.set (operand_set operand.now)) }
+        ensures reply { IfOk result (λ r.
+            r ≡ reply.Changed (set.len (set.intersection self.old.set (operand_set operand.now)))) }
         ensures found { self.new.found ≡ self.old.found }
     {
+        let resolved = operand.resolved(alloc)?;
+        let other = resolved.set();
         let common = self.count_common(other);
         self.change(alloc, &Change::Leave(other))?;
         Ok(Reply::Changed(common))
     }
 
-    /// Keeps what a set has.
-    fn keep(&mut self, alloc: Global, other: &Coverage) -> Result<Reply, Memory>
-        requires { IsWithin other.now pixels }
-        ensures set { OnOk result (self.new.set ≡ set.intersection self.old.set other.now) }
-        ensures reply { IfOk result (λ r. r ≡ reply.Changed (set.len (set.difference self.old.set other.now))) }
+    /// Keeps what the set of an operand has.
+    fn keep(&mut self, alloc: Global, operand: &Operand) -> Result<Reply, Memory>
+        requires { IsOperand operand.now }
+        ensures set { OnOk result (self.new.set ≡ set.intersection self.old.set (operand_set operand.now)) }
+        ensures reply { IfOk result (λ r.
+            r ≡ reply.Changed (set.len (set.difference self.old.set (operand_set operand.now)))) }
         ensures found { self.new.found ≡ self.old.found }
     {
+        let resolved = operand.resolved(alloc)?;
+        let other = resolved.set();
         let dropped = self.count() - self.count_common(other);
         self.change(alloc, &Change::Share(other))?;
         Ok(Reply::Changed(dropped))
     }
 
-    /// Adds a set if nothing of it is there.
-    fn claim(&mut self, alloc: Global, other: &Coverage) -> Result<Reply, Memory>
-        requires { IsWithin other.now pixels }
+    /// Adds the set of an operand if nothing of it is there.
+    fn claim(&mut self, alloc: Global, operand: &Operand) -> Result<Reply, Memory>
+        requires { IsOperand operand.now }
         ensures set { OnOk result (self.new.set
-            ≡ (if meets self.old.set other.now then self.old.set else set.union self.old.set other.now)) }
-        ensures reply { IfOk result (λ r. r ≡ (if meets self.old.set other.now
-            then reply.Taken (set.len (set.intersection self.old.set other.now))
+            ≡ (if meets self.old.set (operand_set operand.now)
+            then self.old.set
+            else set.union self.old.set (operand_set operand.now))) }
+        ensures reply { IfOk result (λ r. r ≡ (if meets self.old.set (operand_set operand.now)
+            then reply.Taken (set.len (set.intersection self.old.set (operand_set operand.now)))
             else reply.Claimed)) }
         ensures found { self.new.found ≡ self.old.found }
     {
+        let resolved = operand.resolved(alloc)?;
+        let other = resolved.set();
         let common = self.count_common(other);
         if common > 0 {
             return Ok(Reply::Taken(common));
@@ -95,6 +108,23 @@ impl<'a> Draft<'a> {
         Ok(Reply::Changed(self.count() - before))
     }
 
+    /// Counts the pixels of an operand's set that are there.
+    fn total(&self, alloc: Global, operand: &Operand) -> Result<Reply, Memory>
+        ensures { IfOk result (λ r.
+            r ≡ reply.Total (set.len (set.intersection self.now.set (operand_set operand.now)))) }
+    {
+        let resolved = operand.resolved(alloc)?;
+        Ok(Reply::Total(self.count_common(resolved.set())))
+    }
+
+    /// Reads the pixels of an operand's set that are there.
+    fn read(&self, alloc: Global, operand: &Operand) -> Result<Reply, Memory>
+        ensures { IfOk result (λ r. r ≡ reply.Cover (set.intersection self.now.set (operand_set operand.now))) }
+    {
+        let resolved = operand.resolved(alloc)?;
+        Ok(Reply::Cover(self.common(alloc, resolved.set())?))
+    }
+
     /// Whether a pixel of a cell or of a touching cell is there.
     fn near(&self, alloc: Global, cell: Cell) -> Result<Reply, Memory>
         ensures { IfOk result (λ r. r ≡ reply.Near (meets self.now.set (surroundings cell))) }
@@ -111,14 +141,14 @@ impl<'a> Draft<'a> {
         ensures found { self.new.found ≡ self.old.found }
     {
         match command {
-            Command::Add(x) => self.add(alloc, x.resolved(alloc)?.set()),
-            Command::Remove(x) => self.remove(alloc, x.resolved(alloc)?.set()),
-            Command::Keep(x) => self.keep(alloc, x.resolved(alloc)?.set()),
-            Command::Claim(x) => self.claim(alloc, x.resolved(alloc)?.set()),
+            Command::Add(x) => self.add(alloc, x),
+            Command::Remove(x) => self.remove(alloc, x),
+            Command::Keep(x) => self.keep(alloc, x),
+            Command::Claim(x) => self.claim(alloc, x),
             Command::Invert => self.invert(alloc),
             Command::Degrade(order) => self.degrade(alloc, *order),
-            Command::Count(x) => Ok(Reply::Total(self.count_common(x.resolved(alloc)?.set()))),
-            Command::Read(x) => Ok(Reply::Cover(self.common(alloc, x.resolved(alloc)?.set())?)),
+            Command::Count(x) => self.total(alloc, x),
+            Command::Read(x) => self.read(alloc, x),
             Command::Near(cell) => self.near(alloc, *cell),
         }
     }
