@@ -6,7 +6,10 @@ usage: tools/build.py [--libraries]
 With `--libraries` it stops before the program. A crate is proved as soon as the libraries below it are, in a room of its own
 (`crates.py`), beside others. The one with the longest chain of crates behind it goes before the others, which take what it leaves of the
 processors. Progress is told on standard error: how many functions of all crates are checked, and how much of the work is done, by the
-sizes of sources."""
+sizes of sources.
+
+MOC_JOBS in the environment is how many jobs all checks have together at most; without it, twice as many as there are processors, as far
+as memory goes."""
 import argparse
 import contextlib
 import fcntl
@@ -23,6 +26,8 @@ from crates import crates_of, files_of, folder_of, is_current, libraries_below, 
 PROGRAM = "moc_cli"
 # More jobs seldom help one check.
 MOST_JOBS = 4
+# How far a process may give way to others.
+MOST_NICE = 19
 # How much memory a job of a check may take.
 JOB_MEMORY = 2_500_000_000
 # How many seconds lie between two lines of progress at least.
@@ -107,10 +112,10 @@ def say(text):
     print(f"moc: {text}", file=sys.stderr, flush=True)
 
 
-def rt(folder, words, crate, progress, is_first=True):
+def rt(folder, words, crate, progress, niceness=0):
     """Runs rt in a crate's folder, and says what is not well where it fails."""
-    command = ["rt", *words] if is_first else ["nice", "-n", "5", "rt", *words]
-    ran = subprocess.Popen(command, cwd=folder, stdin=subprocess.DEVNULL, stdout=subprocess.PIPE, stderr=subprocess.STDOUT, text=True)
+    ran = subprocess.Popen(["nice", "-n", str(niceness), "rt", *words], cwd=folder, stdin=subprocess.DEVNULL,
+                           stdout=subprocess.PIPE, stderr=subprocess.STDOUT, text=True)
     said = []
     for line in ran.stdout:
         said.append(line)
@@ -142,16 +147,16 @@ class Build:
                 self.progress.numbers[it] = 0
         self.turn = threading.Condition()
         cores = len(os.sched_getaffinity(0))
-        self.most = min(2 * cores, max(1, free_memory() // JOB_MEMORY))
+        self.most = int(os.environ.get("MOC_JOBS") or min(2 * cores, max(1, free_memory() // JOB_MEMORY)))
         self.jobs = min(cores, MOST_JOBS, self.most)
 
-    def prove(self, crate, jobs, is_first):
+    def prove(self, crate, jobs, niceness):
         """Proves a library in a room of its own, and keeps what was proved there also where something is not."""
         room, well = os.path.join(self.rooms, crate), False
         try:
             folder = make_room(room, crate, self.below[crate])
             with self.progress.of(crate, folder):
-                well = rt(folder, ["lib", "--jobs", str(jobs)], crate, self.progress, is_first)
+                well = rt(folder, ["lib", "--jobs", str(jobs)], crate, self.progress, niceness)
             take_back(room, crate)
             shutil.rmtree(room, ignore_errors=True)
         finally:
@@ -162,15 +167,18 @@ class Build:
                 self.turn.notify_all()
 
     def start_ready(self):
-        """Starts each library that need not wait, the one with the longest chain behind it with the most jobs."""
+        """Starts each library that need not wait. The one with the longest chain behind it has the most jobs, and the less stands
+        behind another the more it gives way."""
         ready = sorted((it for it in self.left if self.done.issuperset(self.below[it])), key=lambda it: -self.behind[it])
         for crate in ready:
-            is_first = all(self.behind[crate] >= self.behind[it] for it in self.running)
+            most = max(self.behind[it] for it in (crate, *self.running))
+            is_first = self.behind[crate] == most
             jobs = min(self.jobs if is_first else max(1, self.jobs // 2), self.most - sum(self.running.values()))
             if jobs > 0:
                 self.left.remove(crate)
                 self.running[crate] = jobs
-                threading.Thread(target=self.prove, args=(crate, jobs, is_first)).start()
+                niceness = round(MOST_NICE * (1 - self.behind[crate] / most))
+                threading.Thread(target=self.prove, args=(crate, jobs, niceness)).start()
 
     def libraries(self):
         with self.turn:
