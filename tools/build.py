@@ -5,11 +5,11 @@ usage: tools/build.py [--libraries]
 
 With `--libraries` it stops before the program. A crate is proved as soon as the libraries below it are, in a room of its own
 (`crates.py`), beside others. The one with the longest chain of crates behind it goes before the others, which take what it leaves of the
-processors. Progress is told on standard error: how many functions of all crates are checked, and how much of the work is done, by the
-sizes of sources.
+processors: with more jobs than processors, checks take up to twice the time of processors. Progress is told on standard error: how many functions of all crates are checked, and how much of the work is done, by the
+sizes of files.
 
-MOC_JOBS in the environment is how many jobs all checks have together at most; without it, twice as many as there are processors, as far
-as memory goes."""
+MOC_JOBS in the environment is how many jobs all checks have together at most; without it, as many as there are processors, as far as
+memory goes."""
 import argparse
 import contextlib
 import fcntl
@@ -21,7 +21,7 @@ import sys
 import threading
 import time
 
-from crates import crates_of, files_of, folder_of, is_current, libraries_below, make_room, take_back
+from crates import PARTS, crates_of, files_of, folder_of, is_current, libraries_below, make_room, take_back
 
 PROGRAM = "moc_cli"
 # More jobs seldom help one check.
@@ -39,8 +39,8 @@ WELL = re.compile(r"^(struct|enum|impl|fn) \S+: proved|: modules loaded=|^so far
 
 
 def size_of(crate):
-    """How much there is to prove, as far as sources tell: proofs take their time by functions."""
-    return sum(it.st_size for it in files_of(crate, "src"))
+    """How much there is to prove, as far as the sizes of files tell."""
+    return sum(it.st_size for it in files_of(crate, *PARTS))
 
 
 def free_memory():
@@ -147,8 +147,7 @@ class Build:
                 self.progress.numbers[it] = 0
         self.turn = threading.Condition()
         cores = len(os.sched_getaffinity(0))
-        self.most = int(os.environ.get("MOC_JOBS") or min(2 * cores, max(1, free_memory() // JOB_MEMORY)))
-        self.jobs = min(cores, MOST_JOBS, self.most)
+        self.most = int(os.environ.get("MOC_JOBS") or min(cores, max(1, free_memory() // JOB_MEMORY)))
 
     def prove(self, crate, jobs, niceness):
         """Proves a library in a room of its own, and keeps what was proved there also where something is not."""
@@ -167,18 +166,19 @@ class Build:
                 self.turn.notify_all()
 
     def start_ready(self):
-        """Starts each library that need not wait. The one with the longest chain behind it has the most jobs, and the less stands
-        behind another the more it gives way."""
+        """Starts libraries that need not wait. The one with the longest chain behind it has the jobs that one for each of the others
+        leaves, and the less stands behind another the more it gives way."""
         ready = sorted((it for it in self.left if self.done.issuperset(self.below[it])), key=lambda it: -self.behind[it])
-        for crate in ready:
+        for at, crate in enumerate(ready):
+            idle = self.most - sum(self.running.values())
+            if idle == 0:
+                break
             most = max(self.behind[it] for it in (crate, *self.running))
-            is_first = self.behind[crate] == most
-            jobs = min(self.jobs if is_first else max(1, self.jobs // 2), self.most - sum(self.running.values()))
-            if jobs > 0:
-                self.left.remove(crate)
-                self.running[crate] = jobs
-                niceness = round(MOST_NICE * (1 - self.behind[crate] / most))
-                threading.Thread(target=self.prove, args=(crate, jobs, niceness)).start()
+            jobs = max(1, min(MOST_JOBS, idle - len(ready[at + 1:]))) if self.behind[crate] == most else 1
+            self.left.remove(crate)
+            self.running[crate] = jobs
+            niceness = round(MOST_NICE * (1 - self.behind[crate] / most))
+            threading.Thread(target=self.prove, args=(crate, jobs, niceness)).start()
 
     def libraries(self):
         with self.turn:
@@ -192,7 +192,7 @@ class Build:
         """Proves and builds the program itself, and has it say a number."""
         folder = folder_of(PROGRAM)
         with self.progress.of(PROGRAM, folder):
-            return rt(folder, ["run", "--jobs", str(self.jobs), "--", "uniq", "0", "0"], PROGRAM, self.progress)
+            return rt(folder, ["run", "--jobs", str(min(MOST_JOBS, self.most)), "--", "uniq", "0", "0"], PROGRAM, self.progress)
 
 
 def main():
