@@ -13,7 +13,7 @@ import tempfile
 
 TOP = os.path.dirname(os.path.dirname(os.path.abspath(__file__)))
 MOC = os.environ.get("MOC", os.path.join(TOP, "crates", "moc_cli", "out", "moc_cli"))
-PAGES = ["docs/RECIPES.md", "docs/FORMATS.md"]
+PAGES = ["README.md", "docs/RECIPES.md", "docs/FORMATS.md"]
 SECONDS = 60
 END = "--- the end of what this command writes ---"
 

@@ -36,7 +36,7 @@ CREWED = (b"changed 288230376151711744\nchanged 288230376151711744\ntotal 288230
 CLAIMS = b"claim 0/4\nhop\n\nclaim 1/17"
 CLAIMED = [b"claimed\nfault UnknownWord\ntaken 72057594037927936\ncover 0/4\n",
            b"taken 72057594037927936\nfault UnknownWord\nclaimed\ncover 1/17\n"]
-# The calls of a running map that `refused_calls` makes, in order.
+# The calls of a running map that `refusals calls` makes, in order.
 CALLS = [b"new", b"try_apply of an update", b"try_apply of a query", b"apply of an update", b"apply of a query",
          b"finish of an update", b"finish of a query", b"answer", b"close"]
 FIGURES = b"deepest 2\npixels 306244774661193728\nshare 0.088541666666\nranges 2\ncells 2\norder 0 1\norder 2 1\n"
@@ -380,19 +380,19 @@ def help_is_refused(tally, shim):
     refuse_each(tally, "help", [MOC, "--help"], b"", (0, text, b""), {(3, b"", b"fault Memory\n")}, shim)
 
 
-def built(crate):
+def built(crate, *words):
     """The words that start a program of this repository, which is built first where the gate has not built it."""
     folder = os.path.join(TOP, "crates", crate)
     program = os.path.join(folder, "out", crate)
     if not os.path.exists(program):
         subprocess.run(["rt", "run"], cwd=folder, stdin=subprocess.DEVNULL, capture_output=True, check=True)
-    return [program]
+    return [program, *words]
 
 
 def map_refuses(tally, shim):
     """Each refusal leaves the twelve parts of a map as they were, or comes before there is a map."""
     unchanged, no_map = (0, b"unchanged\n"), (1, b"")
-    met = refuse_each(tally, "an inversion", built("refused_inversion"), b"", (0, b"inverted\n"), {unchanged, no_map}, shim)
+    met = refuse_each(tally, "an inversion", built("refusals", "inversion"), b"", (0, b"inverted\n"), {unchanged, no_map}, shim)
     tally.add("some refusal leaves a map unchanged", unchanged in met, met)
 
 
@@ -402,7 +402,7 @@ def refused_line_is_told(tally, shim):
     The script's first two lines are blank, and the four others are answered."""
     end = (0, b"the end behind 4 answers\n")
     refused = [(0, b"out of memory at line %d behind %d answers\n" % (line, max(0, line - 3))) for line in range(7)]
-    met = refuse_each(tally, "a script", built("refused_script"), b"", end, {*refused, (1, b"")}, shim)
+    met = refuse_each(tally, "a script", built("refusals", "script"), b"", end, {*refused, (1, b"")}, shim)
     for line in [0, 1, 3, 4, 5]:
         tally.add(f"some refusal at line {line}", refused[line] in met, met)
 
@@ -414,7 +414,7 @@ def refused_crew_is_told(tally, shim):
     end = (0, b"the end behind 5 lines\n")
     spawn = (0, b"a thread could not be started behind 0 lines\n")
     refused = [(0, b"out of memory at line %d behind 0 lines\n" % line) for line in range(7)]
-    met = refuse_each(tally, "a crew", built("refused_crew"), b"", end, {*refused, spawn, (1, b"")}, shim)
+    met = refuse_each(tally, "a crew", built("refusals", "crew"), b"", end, {*refused, spawn, (1, b"")}, shim)
     for line in [0, 1, 2, 4, 5, 6]:
         tally.add(f"some refusal of a crew at line {line}", refused[line] in met, met)
 
@@ -429,7 +429,7 @@ def shared_calls_refuse(tally, shim):
     done = told(None)
     refused = {call: (0, told(call)) for call in CALLS}
     ended = {(1, front) for front in fronts(done)}
-    met = refuse_each(tally, "shared calls", built("refused_calls"), b"", (0, done), {*refused.values(), *ended}, shim)
+    met = refuse_each(tally, "shared calls", built("refusals", "calls"), b"", (0, done), {*refused.values(), *ended}, shim)
     for call, seen in refused.items():
         tally.add(f"some refusal of {call} shows", seen in met, met)
 

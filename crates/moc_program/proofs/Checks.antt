@@ -1,10 +1,10 @@
 -- What a check that ends with a complaint says.
 use Rattle.std.proofs.Common.{◌≡◌, ◌∙◌, ℕ, List, Option, Err, ap, inl, inr}
-use Rattle.moc_words.specs.Forms.{FormFails, IsWant}
-use Rattle.moc_words.specs.Places.{IsPlace}
-use Rattle.moc_words.specs.declared.form.Form.{Form}
-use Rattle.moc_words.specs.declared.form.FormError.{FormError}
-use Rattle.moc_words.specs.declared.place.Place.{Place}
+use Rattle.moc_forms.specs.Forms.{FormFails, IsWant}
+use Rattle.moc_forms.specs.Places.{IsPlace}
+use Rattle.moc_forms.specs.declared.form.Form.{Form}
+use Rattle.moc_forms.specs.declared.form.FormError.{FormError}
+use Rattle.moc_forms.specs.declared.place.Place.{Place}
 use Rattle.moc_program.specs.Conversion.{ChecksAll, IsOfInput, IsPlaceLine, IsWhole}
 use Rattle.moc_program.specs.Faults.{fault_of_form}
 use Rattle.moc_program.specs.declared.status.Complaint.{Complaint}

@@ -4,10 +4,10 @@ use Rattle.std.proofs.lemmas.List.Splits.{slice_split_at, slice_split_none}
 use Rattle.std.proofs.KnownBytes.{Consumes-trans}
 use Rattle.std.specs.Io.KnownBytes.{Consumes, IsAtEnd}
 use Rattle.moc_script.specs.Runs.{AreWithin}
-use Rattle.moc_words.specs.Combining.{CombinesTexts, Said, is_semicolon, joined, texts_of}
-use Rattle.moc_words.specs.Forms.{FormSays}
-use Rattle.moc_words.specs.declared.combining.Operation.{Operation}
-use Rattle.moc_words.specs.declared.form.Form.{Form}
+use Rattle.moc_forms.specs.Combining.{CombinesTexts, Said, is_semicolon, joined, texts_of}
+use Rattle.moc_forms.specs.Forms.{FormSays}
+use Rattle.moc_forms.specs.declared.combining.Operation.{Operation}
+use Rattle.moc_forms.specs.declared.form.Form.{Form}
 use Rattle.moc_program.specs.Combining.{SaysTogether}
 use Rattle.moc_program.specs.Conversion.{BringsPiece}
 use Rattle.moc_program.specs.Running.{Begins, Ends, IsOpen, LacksSemicolons, Leads, SaysMore, RunsTo, TextsSay, semicolon}

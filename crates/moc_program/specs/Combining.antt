@@ -3,10 +3,10 @@ use Rattle.std.specs.Prelude.{◌≡◌, ℕ, List, Option}
 use Rattle.std.specs.Io.KnownBytes.{Consumes, IsAtEnd}
 use Rattle.moc_ranges.specs.Numbers.{NumberSet}
 use Rattle.moc_script.specs.Runs.{AreWithin}
-use Rattle.moc_words.specs.Combining.{Combines, texts_of}
-use Rattle.moc_words.specs.Forms.{form_text}
-use Rattle.moc_words.specs.declared.combining.Operation.{Operation}
-use Rattle.moc_words.specs.declared.form.Form.{Form}
+use Rattle.moc_forms.specs.Combining.{Combines, texts_of}
+use Rattle.moc_forms.specs.Forms.{form_text}
+use Rattle.moc_forms.specs.declared.combining.Operation.{Operation}
+use Rattle.moc_forms.specs.declared.form.Form.{Form}
 
 -- all that was left was read; none of its texts is too long, and together they say a set and this deepest order
 pub record SaysTogether

@@ -4,13 +4,13 @@ use Rattle.std.specs.Prelude.{Result, Ok, Err, String, string_bytes}
 use Rattle.std.specs.Io.KnownBytes.{Consumes, IsAtEnd}
 use Rattle.std.specs.declared.alloc.Global.{Global}
 use Rattle.moc_ranges.specs.Numbers.{NumberSet}
-use Rattle.moc_words.specs.Describing.{Describes}
-use Rattle.moc_words.specs.Drawing.{picture_of}
-use Rattle.moc_words.specs.Forms.{FormSays, IsFormFault, form_text}
-use Rattle.moc_words.specs.Places.{IsPlace, place_text}
-use Rattle.moc_words.specs.declared.form.Form.{Form}
-use Rattle.moc_words.specs.declared.form.FormError.{FormError}
-use Rattle.moc_words.specs.declared.place.Place.{Place}
+use Rattle.moc_forms.specs.Describing.{Describes}
+use Rattle.moc_forms.specs.Drawing.{picture_of}
+use Rattle.moc_forms.specs.Forms.{FormSays, IsFormFault, form_text}
+use Rattle.moc_forms.specs.Places.{IsPlace, place_text}
+use Rattle.moc_forms.specs.declared.form.Form.{Form}
+use Rattle.moc_forms.specs.declared.form.FormError.{FormError}
+use Rattle.moc_forms.specs.declared.place.Place.{Place}
 use Rattle.moc_program.specs.Faults.{fault_of_form}
 use Rattle.moc_program.specs.declared.status.Complaint.{Complaint}
 use Rattle.moc_program.specs.declared.status.Fault.{Fault}

@@ -9,8 +9,8 @@ use Rattle.moc_text.specs.declared.json.error.JsonError.{JsonError}
 use Rattle.moc_text.specs.declared.json.error.JsonError.TheVariants as json
 use Rattle.moc_text.specs.declared.uniq.UniqError.{UniqError}
 use Rattle.moc_text.specs.declared.uniq.UniqError.TheVariants as uniq
-use Rattle.moc_words.specs.declared.form.FormError.{FormError}
-use Rattle.moc_words.specs.declared.form.FormError.TheVariants as form
+use Rattle.moc_forms.specs.declared.form.FormError.{FormError}
+use Rattle.moc_forms.specs.declared.form.FormError.TheVariants as form
 use Rattle.moc_script.specs.declared.script.RunError.{RunError}
 use Rattle.moc_script.specs.declared.script.RunError.TheVariants as run
 use Rattle.moc_program.specs.declared.status.Complaint.{Complaint}

@@ -4,10 +4,10 @@ use Rattle.std.specs.Borrow.{Bor}
 use Rattle.std.specs.List.{All}
 use Rattle.std.specs.Io.KnownBytes.{Consumes}
 use Rattle.moc_script.specs.Runs.{AreWithin}
-use Rattle.moc_words.specs.Combining.{CombinesTexts, Said, is_semicolon, joined, texts_of}
-use Rattle.moc_words.specs.Forms.{FormSays}
-use Rattle.moc_words.specs.declared.combining.Operation.{Operation}
-use Rattle.moc_words.specs.declared.form.Form.{Form}
+use Rattle.moc_forms.specs.Combining.{CombinesTexts, Said, is_semicolon, joined, texts_of}
+use Rattle.moc_forms.specs.Forms.{FormSays}
+use Rattle.moc_forms.specs.declared.combining.Operation.{Operation}
+use Rattle.moc_forms.specs.declared.form.Form.{Form}
 use Rattle.moc_program.specs.declared.combination.Combination.{Combination}
 
 -- no byte is a semicolon

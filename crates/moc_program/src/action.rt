@@ -1,8 +1,8 @@
 //! What the words of the command line ask for.
 use clap::ArgMatches;
+use moc_forms::{Form, Operation};
 use moc_script::{Lanes, Numbering, Renumbering};
 use moc_sphere::Order;
-use moc_words::{Form, Operation};
 
 /// What the words ask for.
 #[derive(Clone, Copy, Debug, PartialEq, Eq)]

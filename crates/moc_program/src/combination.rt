@@ -7,10 +7,10 @@ ghost use Rattle.moc_program.specs.Running.{Begins, IsOpen, IsParted, LacksSemic
 use crate::conversion::{INPUT_LIMIT, read_piece, room, said, text_of};
 use crate::status::Fault;
 use memchr::memchr;
+use moc_forms::{Form, Operation};
 use moc_ranges::Coverage;
 use moc_script::Source;
 use moc_sphere::Order;
-use moc_words::{Form, Operation};
 use std::alloc::Global;
 
 /// Texts of a form, as their bytes come, and what those that have ended say together.

@@ -1,15 +1,15 @@
 //! Texts of coverages, from the input: converted, described, drawn, checked.
 ghost use Rattle.std.specs.Prelude.{◌≡◌, ◌≢◌, ◌<◌, ◌↔◌, ◌⊎◌, Err, false, IfErr, IfOk, IsErrOf, IsTrue, length};
 ghost use Rattle.std.specs.String.{string_bytes};
-ghost use Rattle.moc_words.specs.Forms.{FormSays, form_text};
+ghost use Rattle.moc_forms.specs.Forms.{FormSays, form_text};
 ghost use Rattle.moc_program.specs.Conversion.{BringsPiece, ChecksAll, ConvertsAll, DescribesAll, DrawsAll, IsOfInput};
 ghost use Rattle.moc_program.specs.Conversion.{IsPlaceLine, IsReadFault, IsWhole};
 
 use crate::status::{Complaint, Fault};
+use moc_forms::{Form, Place, check, describe, draw};
 use moc_ranges::Coverage;
 use moc_script::Source;
 use moc_sphere::Order;
-use moc_words::{Form, Place, check, describe, draw};
 use std::alloc::{AllocError, Global};
 
 /// The most bytes of an input.

@@ -43,7 +43,7 @@ pub fn program<'a, T: Threads + Wait + Sync, S: AsStr, R: Source, W: Sink, E: Si
     ensures refused { result ≡ 2 → AreRefused (map S.text words.entry.now) }
     ensures mistaken { AreMistaken (map S.text words.entry.now) → (result ≡ 2) ⊎ (result ≡ 3) }
 
-    // A device that failed is told, and at 0 all is written and flushed.
+    // A device that failed is told, and at 0 all that was written is flushed.
     ensures input { IsTrue (R.mark input.new) → result ≡ 3 }
     ensures output { IsTrue (W.mark output.new) → result ≡ 3 }
     ensures flushed { result ≡ 0 → IsTrue (W.flushed output.new) }

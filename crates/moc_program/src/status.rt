@@ -5,11 +5,11 @@ ghost use Rattle.moc_program.specs.Faults.{fault_of_uniq, line_of};
 ghost use Rattle.moc_program.specs.Statuses.{code_of, status_of};
 ghost use Rattle.moc_program.specs.declared.status.Fault.TheVariants as fault;
 
+use moc_forms::FormError;
 use moc_ranges::Memory as MemoryRefused;
 use moc_script::{DeviceFault, RunError};
 use moc_sphere::CellError;
 use moc_text::{JsonError, TextError, UniqError};
-use moc_words::FormError;
 use std::alloc::AllocError;
 
 /// How the program ends: its exit status.

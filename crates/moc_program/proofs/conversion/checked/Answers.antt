@@ -1,7 +1,7 @@
 use Rattle.std.proofs.Common.{ℕ, List, subst}
 use Rattle.std.proofs.lemmas.Result.{err_from_is_err_and}
-use Rattle.moc_words.specs.Forms.{FormFails, FormSays}
-use Rattle.moc_words.specs.Places.{IsPlace}
+use Rattle.moc_forms.specs.Forms.{FormFails, FormSays}
+use Rattle.moc_forms.specs.Places.{IsPlace}
 use Rattle.moc_program.proofs.Checks.{faulty, unread}
 use Rattle.moc_program.proofs.conversion.checked.Goals as goal
 

@@ -1,6 +1,6 @@
 use Rattle.std.proofs.Common.{ℕ, List, subst}
 use Rattle.std.proofs.lemmas.Result.{IfOk-weaker}
-use Rattle.moc_words.specs.Forms.{FormSays}
+use Rattle.moc_forms.specs.Forms.{FormSays}
 use Rattle.moc_program.proofs.conversion.converted.Goals as goal
 
 pub returns-clause-converts : goal.returns-clause-converts

@@ -1,5 +1,5 @@
 use Rattle.std.proofs.Common.{ℕ, List, subst}
-use Rattle.moc_words.specs.Forms.{FormSays}
+use Rattle.moc_forms.specs.Forms.{FormSays}
 use Rattle.moc_program.proofs.conversion.drawn.Goals as goal
 
 pub returns-clause-draws : goal.returns-clause-draws

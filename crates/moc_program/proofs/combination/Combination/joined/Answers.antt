@@ -1,6 +1,6 @@
 use Rattle.std.proofs.Common.{◌∙◌, ℕ, List, ap, subst}
-use Rattle.moc_words.specs.Combining.{joined}
-use Rattle.moc_words.specs.Forms.{FormSays}
+use Rattle.moc_forms.specs.Combining.{joined}
+use Rattle.moc_forms.specs.Forms.{FormSays}
 use Rattle.moc_program.proofs.combination.Combination.joined.Goals as goal
 
 pub returns-clause-says : goal.returns-clause-says

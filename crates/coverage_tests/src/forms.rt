@@ -1,0 +1,379 @@
+//! What is told of texts. Expected lines are worked out by hand from the texts.
+use moc_forms::{Form, FormError, Operation, Place, check, describe, draw};
+use moc_sphere::Order;
+use moc_text::{JsonError, TextError, UniqError};
+use std::alloc::Global;
+use std::test::Fail;
+
+/// What is told of the place of a text's fault; nothing where it has none.
+fn told(alloc: Global, form: Form, text: &str) -> Result<String, Fail> {
+    let mut line = String::new(alloc);
+    if let Err(refusal) = check(alloc, form, text.as_bytes())
+        && let Some(place) = refusal.place
+    {
+        place.push_to(&mut line)?;
+    }
+    Ok(line)
+}
+
+/// The figures of a text.
+fn figures(alloc: Global, form: Form, text: &str) -> Result<String, Fail> {
+    let (set, deepest) = form.read(alloc, text.as_bytes())?;
+    Ok(describe(alloc, &set, deepest)?)
+}
+
+#[test]
+fn places_in_ascii(rt: HostRuntime) -> Result<(), Fail> {
+    for (text, place) in [
+        ("1/0-3", ""),
+        ("", ""),
+        ("x", "byte 0, line 1, byte 0 of it"),
+        ("1/0-3\n2/7-5", "byte 8, line 2, byte 2 of it"),
+        ("1/0\n\n\n5", ""),
+        ("1/0\n\n\n99", "byte 6, line 4, byte 0 of it"),
+        ("1/0 30/", "byte 4, line 1, byte 4 of it"),
+        ("1/0\n5-", "byte 6, line 2, byte 2 of it"),
+    ] {
+        let seen = told(rt.alloc(), Form::Ascii, text)?;
+        assert_eq!(&rt; seen.as_str(), place, "{text:?}");
+    }
+    Ok(())
+}
+
+#[test]
+fn places_in_json(rt: HostRuntime) -> Result<(), Fail> {
+    for (text, place) in [
+        ("{\"1\":[0]}", ""),
+        ("{\"9\":[0,1,true],\"1\":[]}", "order 9, number 2"),
+        ("{\"1\":[],\"10\":[5],\"2\":[0,192]}", "order 2, number 1"),
+        ("{\"1\":[],\"007\":1}", "order 7"),
+        ("{\"0\":[],\"x\":[]}", "name 1"),
+        ("[]", ""),
+    ] {
+        let seen = told(rt.alloc(), Form::Json, text)?;
+        assert_eq!(&rt; seen.as_str(), place, "{text:?}");
+    }
+    Ok(())
+}
+
+/// Lines and columns are those of the byte at which `serde_json` gives up; an empty text has no column.
+#[test]
+fn places_of_no_json(rt: HostRuntime) -> Result<(), Fail> {
+    for (text, place) in [
+        ("{\"1\":[0,]}", "line 1, column 9"),
+        ("{\n\"1\":[0", "line 2, column 6"),
+        ("", "line 1, column 0"),
+    ] {
+        let seen = told(rt.alloc(), Form::Json, text)?;
+        assert_eq!(&rt; seen.as_str(), place, "{text:?}");
+    }
+    Ok(())
+}
+
+#[test]
+fn places_in_lists(rt: HostRuntime) -> Result<(), Fail> {
+    for (text, place) in [("4\n\n5", ""), ("4\n\n3\n", "line 3"), ("4\nx", "line 2")] {
+        let seen = told(rt.alloc(), Form::Uniq, text)?;
+        assert_eq!(&rt; seen.as_str(), place, "{text:?}");
+    }
+    Ok(())
+}
+
+#[test]
+fn errors(rt: HostRuntime) {
+    let alloc = rt.alloc();
+    for (form, text, error) in [
+        (
+            Form::Ascii,
+            "5",
+            FormError::Ascii(TextError::NoOrder { at: 0 }),
+        ),
+        (Form::Json, "[]", FormError::Json(JsonError::NotObject)),
+        (
+            Form::Uniq,
+            "3",
+            FormError::Uniq(UniqError::NotUniq { line: 1 }),
+        ),
+    ] {
+        match check(alloc, form, text.as_bytes()) {
+            Ok(()) => panic!(&rt; "{text:?} is taken"),
+            Err(refusal) => assert_eq!(&rt; refusal.error, error),
+        }
+    }
+}
+
+#[test]
+fn forms(rt: HostRuntime) -> Result<(), Fail> {
+    let alloc = rt.alloc();
+    for (word, text) in [
+        ("ascii", "1/0 2/\n"),
+        ("json", "{\"1\":[0],\"2\":[]}\n"),
+        ("uniq", "16\n"),
+    ] {
+        let Some(form) = Form::named(word) else {
+            panic!(&rt; "{word} is no form")
+        };
+        let (set, _) = form.read(alloc, text.as_bytes())?;
+        let written = form.write(alloc, &set, Order::new(2))?;
+        assert_eq!(&rt; written.as_str(), text);
+    }
+    assert!(&rt; Form::named("fits").is_none());
+    Ok(())
+}
+
+#[test]
+fn figures_of_sets(rt: HostRuntime) -> Result<(), Fail> {
+    let alloc = rt.alloc();
+    for (text, lines) in [
+        (
+            "",
+            "deepest none\npixels 0\nshare 0.000000000000\nranges 0\ncells 0\n",
+        ),
+        (
+            "0/0-11",
+            "deepest 0\npixels 3458764513820540928\nshare 1.000000000000\nranges 1\ncells 12\norder 0 12\n",
+        ),
+        (
+            "1/0-3 2/20 29/",
+            "deepest 29\npixels 306244774661193728\nshare 0.088541666666\nranges 2\ncells 2\norder 0 1\norder 2 1\n",
+        ),
+        (
+            "29/7",
+            "deepest 29\npixels 1\nshare 0.000000000000\nranges 1\ncells 1\norder 29 1\n",
+        ),
+    ] {
+        let seen = figures(alloc, Form::Ascii, text)?;
+        assert_eq!(&rt; seen.as_str(), lines, "{text:?}");
+    }
+    let seen = figures(alloc, Form::Uniq, "4\n")?;
+    let lines =
+        "deepest none\npixels 288230376151711744\nshare 0.083333333333\nranges 1\ncells 1\norder 0 1\n";
+    assert_eq!(&rt; seen.as_str(), lines);
+    Ok(())
+}
+
+/// The text of two texts that are joined by an operation.
+fn joined(alloc: Global, operation: &str, first: &str, second: &str) -> Result<String, Fail> {
+    let Some(operation) = Operation::named(operation) else {
+        return Ok(String::new(alloc));
+    };
+    let (set, deepest) = Form::Ascii.read(alloc, first.as_bytes())?;
+    let before = operation.join(alloc, None, set, deepest)?;
+    let (set, deepest) = Form::Ascii.read(alloc, second.as_bytes())?;
+    let (set, deepest) = operation.join(alloc, Some(before), set, deepest)?;
+    Ok(Form::Ascii.write(alloc, &set, deepest)?)
+}
+
+#[test]
+fn operations(rt: HostRuntime) -> Result<(), Fail> {
+    let alloc = rt.alloc();
+    for (operation, text) in [
+        ("union", "0/0-1 2/32\n"),
+        ("intersection", "1/3-4 2/20\n"),
+        ("difference", "1/0-2 2/21-23\n"),
+        ("symmetric", "1/0-2 6-7 2/21-23 32\n"),
+        ("minus", ""),
+    ] {
+        let seen = joined(alloc, operation, "0/0 1/4-5", "1/3-4 6-7 2/20 32")?;
+        assert_eq!(&rt; seen.as_str(), text, "{operation}");
+    }
+    for (first, second, text) in [
+        ("", "", "\n"),
+        ("5/", "", "5/\n"),
+        ("", "5/", "5/\n"),
+        ("7/", "5/", "7/\n"),
+    ] {
+        let seen = joined(alloc, "union", first, second)?;
+        assert_eq!(&rt; seen.as_str(), text, "{first} and {second}");
+    }
+    Ok(())
+}
+
+/// What stands before the four paths of every picture.
+const BEFORE: &str = "<svg xmlns=\"http://www.w3.org/2000/svg\" viewBox=\"0 0 1024 512\">
+<title>Sky coverage</title>
+<rect width=\"1024\" height=\"512\" fill=\"#fff\"/>
+<g shape-rendering=\"crispEdges\">
+";
+
+/// What stands behind them: base pixel 4 is outlined at both edges, and its number stands at both.
+const BEHIND: &str = "</g>
+<path fill=\"none\" stroke=\"#888\" d=\"M128 0l128 128-128 128-128-128zM384 0l128 128-128 128-128-128z\
+M640 0l128 128-128 128-128-128zM896 0l128 128-128 128-128-128z\
+M0 128l128 128-128 128-128-128zM1024 128l128 128-128 128-128-128zM256 128l128 128-128 128-128-128z\
+M512 128l128 128-128 128-128-128zM768 128l128 128-128 128-128-128z\
+M128 256l128 128-128 128-128-128zM384 256l128 128-128 128-128-128z\
+M640 256l128 128-128 128-128-128zM896 256l128 128-128 128-128-128z\"/>
+<g font-family=\"sans-serif\" font-size=\"24\" text-anchor=\"middle\" \
+paint-order=\"stroke\" stroke=\"#fff\" stroke-width=\"4\">
+<text x=\"128\" y=\"136\">0</text>
+<text x=\"384\" y=\"136\">1</text>
+<text x=\"640\" y=\"136\">2</text>
+<text x=\"896\" y=\"136\">3</text>
+<text x=\"16\" y=\"264\">4</text>
+<text x=\"1008\" y=\"264\">4</text>
+<text x=\"256\" y=\"264\">5</text>
+<text x=\"512\" y=\"264\">6</text>
+<text x=\"768\" y=\"264\">7</text>
+<text x=\"128\" y=\"392\">8</text>
+<text x=\"384\" y=\"392\">9</text>
+<text x=\"640\" y=\"392\">10</text>
+<text x=\"896\" y=\"392\">11</text>
+</g>
+</svg>
+";
+
+/// The picture whose four shades, from the lightest, have these diamonds.
+fn picture(alloc: Global, shades: [&str; 4]) -> Result<String, Fail> {
+    let [first, second, third, fourth] = shades;
+    let mut text = String::new(alloc);
+    text.push_str(BEFORE)?;
+    for (colour, diamonds) in [
+        ("#bdd7e7", first),
+        ("#6baed6", second),
+        ("#3182bd", third),
+        ("#08519c", fourth),
+    ] {
+        text.push_str("<path fill=\"")?;
+        text.push_str(colour)?;
+        text.push_str("\" d=\"")?;
+        text.push_str(diamonds)?;
+        text.push_str("\"/>\n")?;
+    }
+    text.push_str(BEHIND)?;
+    Ok(text)
+}
+
+/// The diamonds are worked out by hand from the rows and columns of the cells.
+#[test]
+fn pictures(rt: HostRuntime) -> Result<(), Fail> {
+    for (text, shades) in [
+        ("", ["", "", "", ""]),
+        ("0/5", ["", "", "", "M256 128l128 128-128 128-128-128z"]),
+        // A cell of order 1 at the seam is drawn at both edges.
+        (
+            "1/16",
+            [
+                "",
+                "",
+                "",
+                "M0 256l64 64-64 64-64-64zM1024 256l64 64-64 64-64-64z",
+            ],
+        ),
+        // A pixel is drawn as its cell of order 7.
+        ("29/0", ["M128 254l1 1-1 1-1-1z", "", "", ""]),
+        // So is one at the seam, in base pixel 4.
+        (
+            "29/1152921504606846976",
+            ["M0 382l1 1-1 1-1-1zM1024 382l1 1-1 1-1-1z", "", "", ""],
+        ),
+        // One, two and three quarters of a cell, and a pixel more, up to the next cell.
+        (
+            "8/0 4-5 8-10",
+            [
+                "M128 254l1 1-1 1-1-1z",
+                "M129 253l1 1-1 1-1-1z",
+                "M127 253l1 1-1 1-1-1z",
+                "",
+            ],
+        ),
+        (
+            "8/0 4-5 8-10 29/4398046511104 26388279066624 48378511622144",
+            [
+                "",
+                "M128 254l1 1-1 1-1-1z",
+                "M129 253l1 1-1 1-1-1z",
+                "M127 253l1 1-1 1-1-1z",
+            ],
+        ),
+        // Cells of order 7 or less come before those that are filled in part.
+        (
+            "0/11 7/5 8/12-14 9/60",
+            [
+                "",
+                "",
+                "",
+                "M896 256l128 128-128 128-128-128zM131 251l1 1-1 1-1-1zM128 252l1 1-1 1-1-1z",
+            ],
+        ),
+    ] {
+        let (set, _) = Form::Ascii.read(rt.alloc(), text.as_bytes())?;
+        let seen = draw(rt.alloc(), &set)?;
+        let wanted = picture(rt.alloc(), shades)?;
+        assert_eq!(&rt; seen.as_str(), wanted.as_str(), "{text:?}");
+    }
+    Ok(())
+}
+
+/// They are those of the text that is read, or of want of memory.
+#[test]
+fn texts_of_errors(rt: HostRuntime) -> Result<(), Fail> {
+    let too_large = JsonError::CellTooLarge { name: 1, place: 2 };
+    for (error, text) in [
+        (
+            FormError::Ascii(TextError::BadByte { at: 7 }),
+            "a byte that no word has there, at 7",
+        ),
+        (
+            FormError::Ascii(TextError::NoOrder { at: 7 }),
+            "an item before any order, at 7",
+        ),
+        (
+            FormError::Ascii(TextError::OrderTooLarge { at: 7 }),
+            "an order above 29, at 7",
+        ),
+        (
+            FormError::Ascii(TextError::CellTooLarge { at: 7 }),
+            "no cell of the order in force, at 7",
+        ),
+        (
+            FormError::Ascii(TextError::Backwards { at: 7 }),
+            "a range that goes backwards, at 7",
+        ),
+        (
+            FormError::Ascii(TextError::Unfinished { at: 7 }),
+            "a word that is not finished, at 7",
+        ),
+        (FormError::Ascii(TextError::Memory), "out of memory"),
+        (
+            FormError::Ascii(TextError::TooCoarse),
+            "a cell is deeper than the stated order",
+        ),
+        (FormError::Json(JsonError::NotJson), "no JSON"),
+        (FormError::Json(JsonError::NotObject), "no object"),
+        (
+            FormError::Json(JsonError::BadOrder { name: 1 }),
+            "name 1 is no order",
+        ),
+        (
+            FormError::Json(JsonError::NotArray { name: 1 }),
+            "name 1 has no array",
+        ),
+        (
+            FormError::Json(JsonError::NotWhole { name: 1, place: 2 }),
+            "name 1, item 2 is no whole number",
+        ),
+        (
+            FormError::Json(too_large),
+            "name 1, item 2 is no cell of its order",
+        ),
+        (FormError::Json(JsonError::Memory), "out of memory"),
+        (
+            FormError::Json(JsonError::TooCoarse),
+            "a cell is deeper than the stated order",
+        ),
+        (
+            FormError::Uniq(UniqError::BadByte { line: 3 }),
+            "a byte that is no digit, in line 3",
+        ),
+        (
+            FormError::Uniq(UniqError::NotUniq { line: 3 }),
+            "a number that is no NUNIQ number, in line 3",
+        ),
+        (FormError::Uniq(UniqError::Memory), "out of memory"),
+        (FormError::Memory, "out of memory"),
+    ] {
+        assert_eq!(rt; format!(in rt.alloc(); "{error}")?.as_str(), text);
+    }
+    Ok(())
+}

@@ -1,0 +1,11 @@
+//! Tests of cells, of coverages, of their texts, and of what is told of texts.
+#![tactic(auto)]
+
+#[cfg(test)]
+mod forms;
+#[cfg(test)]
+mod ranges;
+#[cfg(test)]
+mod sphere;
+#[cfg(test)]
+mod text;

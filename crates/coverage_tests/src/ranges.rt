@@ -1,0 +1,285 @@
+//! Coverages of few ranges and of many, each call that takes memory once.
+use moc_ranges::{Coverage, CoverageBuilder, Memory, RangesError, Steps};
+use moc_sphere::{Cell, Order};
+use std::alloc::Global;
+use std::process::Abort;
+
+/// The set of these pairs.
+fn set_of(rt: &impl Abort, alloc: Global, pairs: &[(u64, u64)]) -> Coverage {
+    Coverage::from_ranges(alloc, pairs).expect(rt, "pairs")
+}
+
+#[test]
+fn pairs_in_any_order(rt: HostRuntime) {
+    let set = set_of(&rt, rt.alloc(), &[(4, 8), (8, 9), (0, 4)]);
+    let mut ranges = set.ranges();
+    assert_eq!(rt; ranges.next(), Some((0, 9)));
+    assert_eq!(rt; ranges.next(), None);
+    assert_eq!(rt; set.count(), 9);
+    assert!(rt; set.contains(8) && !set.contains(9));
+}
+
+#[test]
+fn an_empty_pair(rt: HostRuntime) {
+    let none = set_of(&rt, rt.alloc(), &[(7, 7)]);
+    assert!(rt; none.is_empty());
+    assert!(rt; none.same(&Coverage::empty(rt.alloc())));
+    assert_eq!(rt; none.cells(rt.alloc()).expect(&rt, "memory").len(), 0);
+}
+
+#[test]
+fn faults(rt: HostRuntime) {
+    let backwards = Coverage::from_ranges(rt.alloc(), &[(5, 4)]);
+    assert_eq!(rt; backwards.err(), Some(RangesError::Backwards { at: 0 }));
+    let large = Coverage::from_ranges(rt.alloc(), &[(0, 1), (0, 3458764513820540929)]);
+    assert!(rt; matches!(large, Err(RangesError::PixelTooLarge { at: 1 })));
+}
+
+#[test]
+fn the_sky_without_a_pixel(rt: HostRuntime) {
+    let pixel = set_of(&rt, rt.alloc(), &[(0, 1)]);
+    let rest = pixel.complement(rt.alloc()).expect(&rt, "memory");
+    let cells = rest.cells(rt.alloc()).expect(&rt, "memory");
+    assert_eq!(rt; cells.len(), 98);
+    let first = cells.first().expect(&rt, "first");
+    assert_eq!(rt; (first.order().get(), first.index()), (0, 1));
+    let last = cells.last().expect(&rt, "last");
+    assert_eq!(rt; (last.order().get(), last.index()), (29, 3));
+}
+
+#[test]
+fn cells_of_one_range(rt: HostRuntime) {
+    let set = set_of(&rt, rt.alloc(), &[(3, 9)]);
+    let cells = set.cells(rt.alloc()).expect(&rt, "memory");
+    let mut cells = cells.iter();
+    for (order, index) in [(28, 1), (29, 3), (29, 8)] {
+        let cell = cells.next().expect(&rt, "a cell");
+        assert_eq!(rt; (cell.order().get(), cell.index()), (order, index));
+    }
+    assert!(rt; cells.next().is_none());
+}
+
+#[test]
+fn one_of_two_sets(rt: HostRuntime) {
+    let a = set_of(&rt, rt.alloc(), &[(0, 8)]);
+    let b = set_of(&rt, rt.alloc(), &[(4, 12)]);
+    let one = a.symmetric(rt.alloc(), &b).expect(&rt, "memory");
+    let mut ranges = one.ranges();
+    assert_eq!(rt; ranges.next(), Some((0, 4)));
+    assert_eq!(rt; ranges.next(), Some((8, 12)));
+    assert_eq!(rt; ranges.next(), None);
+}
+
+#[test]
+fn two_sets(rt: HostRuntime) {
+    let a = set_of(&rt, rt.alloc(), &[(0, 8)]);
+    let b = set_of(&rt, rt.alloc(), &[(4, 12)]);
+    let either = a.union(rt.alloc(), &b).expect(&rt, "memory");
+    assert_eq!(rt; either.ranges().next(), Some((0, 12)));
+    let both = a.intersection(rt.alloc(), &b).expect(&rt, "memory");
+    assert_eq!(rt; both.ranges().next(), Some((4, 8)));
+    let first = a.difference(rt.alloc(), &b).expect(&rt, "memory");
+    assert_eq!(rt; first.ranges().next(), Some((0, 4)));
+    assert_eq!(rt; a.count_common(&b), 4);
+    assert!(rt; a.meets(&b) && either.covers(&a) && !a.covers(&either));
+}
+
+#[test]
+fn degraded_by_one_order(rt: HostRuntime) {
+    let pixel = set_of(&rt, rt.alloc(), &[(3, 4)]);
+    let order = Order::new(28).expect(&rt, "order");
+    let wide = pixel.degrade(rt.alloc(), order).expect(&rt, "memory");
+    let mut ranges = wide.ranges();
+    assert_eq!(rt; ranges.next(), Some((0, 4)));
+    assert_eq!(rt; ranges.next(), None);
+}
+
+#[test]
+fn parts_of_the_sky(rt: HostRuntime) {
+    let sky = Coverage::full(rt.alloc()).expect(&rt, "memory");
+    let third = sky.part(rt.alloc(), 3).expect(&rt, "memory");
+    assert_eq!(rt;
+        third.ranges().next(),
+        Some((864691128455135232, 1152921504606846976))
+    );
+    let none = sky.part(rt.alloc(), 12).expect(&rt, "memory");
+    assert!(rt; none.is_empty());
+    assert!(rt; third.meets_base_pixel(3) && third.covers_base_pixel(3));
+    assert!(rt; !third.meets_base_pixel(2) && !third.covers_base_pixel(2));
+    assert!(rt; !sky.meets_base_pixel(12) && sky.covers_base_pixel(12));
+}
+
+#[test]
+fn one_cell(rt: HostRuntime) {
+    let order = Order::new(1).expect(&rt, "order");
+    let set = Coverage::from_cell(rt.alloc(), Cell::new(order, 47).expect(&rt, "memory")).expect(
+        &rt, "memory",
+    );
+    assert_eq!(rt;
+        set.ranges().next(),
+        Some((3386706919782612992, 3458764513820540928))
+    );
+    assert!(rt; set.try_copy(rt.alloc()).expect(&rt, "memory").same(&set));
+}
+
+#[test]
+fn cells_and_sets(rt: HostRuntime) {
+    let set = set_of(&rt, rt.alloc(), &[(3, 8)]);
+    let order = Order::new(28).expect(&rt, "order");
+    let (first, second, third) = (Cell::of(order, 0), Cell::of(order, 1), Cell::of(order, 2));
+    assert!(rt; set.meets_cell(first) && !set.contains_cell(first));
+    assert!(rt; set.meets_cell(second) && set.contains_cell(second));
+    assert!(rt; !set.meets_cell(third) && !set.contains_cell(third));
+}
+
+#[test]
+fn a_set_as_a_value(rt: HostRuntime) {
+    let set = set_of(&rt, rt.alloc(), &[(3, 8), (12, 13)]);
+    assert!(rt; set == set.try_copy(rt.alloc()).expect(&rt, "memory"));
+    assert!(rt; set != Coverage::empty(rt.alloc()));
+    let mut pixels = 0u64;
+    for (from, to) in &set {
+        pixels = pixels.saturating_add(to.saturating_sub(from));
+    }
+    assert_eq!(rt; pixels, 6);
+    assert_eq!(rt; set.ranges().size_hint(), (2, Some(2)));
+}
+
+#[test]
+fn gathered_cells(rt: HostRuntime) {
+    let deepest = Order::new(29).expect(&rt, "order");
+    let mut builder = CoverageBuilder::new(rt.alloc());
+    builder.add_cells(deepest, 8, 9).expect(&rt, "memory");
+    builder.add_cells(deepest, 12, 11).expect(&rt, "memory");
+    builder
+        .add_cell(Cell::new(Order::of(28), 0).expect(&rt, "memory"))
+        .expect(&rt, "memory");
+    builder.add_cells(deepest, 9, 10).expect(&rt, "memory");
+    let set = builder.build(rt.alloc()).expect(&rt, "memory");
+    let mut ranges = set.ranges();
+    assert_eq!(rt; ranges.next(), Some((0, 4)));
+    assert_eq!(rt; ranges.next(), Some((8, 11)));
+    assert_eq!(rt; ranges.next(), None);
+}
+
+// Every third of 6,000 pixels, in an order that jumps back and forth: 7 and 6,000 have no common
+// divisor, so that i * 7 comes to every number below 6,000 once.
+#[test]
+fn many_cells_in_mixed_order(rt: HostRuntime) {
+    let deepest = Order::new(29).expect(&rt, "order");
+    let mut builder = CoverageBuilder::new(rt.alloc());
+    let mut pairs = Vec::new(rt.alloc());
+    for i in 0..6000u64 {
+        let pixel = i * 7 % 6000;
+        if pixel % 3 == 0 {
+            builder
+                .add_cells(deepest, pixel, pixel)
+                .expect(&rt, "memory");
+            pairs.push((pixel, pixel + 1)).expect(&rt, "memory");
+        }
+    }
+    let set = builder.build(rt.alloc()).expect(&rt, "memory");
+    assert_eq!(rt; set.count(), 2000);
+    let mut next = 0u64;
+    for (from, to) in set.ranges() {
+        assert_eq!(rt; (from, to), (next, next.saturating_add(1)));
+        next = next.saturating_add(3);
+    }
+    assert_eq!(rt; next, 6000);
+    assert!(rt; set_of(&rt, rt.alloc(), &pairs).same(&set));
+}
+
+#[test]
+fn errors_in_words(rt: HostRuntime) {
+    let memory = format!(in rt.alloc(); "{}", Memory).expect(&rt, "memory");
+    assert_eq!(rt; memory.as_str(), "out of memory");
+    let backwards = format!(in rt.alloc(); "{}", RangesError::Backwards { at: 2 }).expect(
+        &rt, "memory",
+    );
+    assert_eq!(rt; backwards.as_str(), "the pair 2 ends before it begins");
+    let large = format!(in rt.alloc(); "{}", RangesError::PixelTooLarge { at: 0 }).expect(
+        &rt, "memory",
+    );
+    assert_eq!(rt; large.as_str(), "the pair 0 passes the last pixel");
+    let refused = format!(in rt.alloc(); "{}", RangesError::Memory).expect(&rt, "memory");
+    assert_eq!(rt; refused.as_str(), "out of memory");
+}
+
+/// Every second of the first pixels: the ranges (2j, 2j + 1) for each j below a number.
+fn dots(rt: &impl Abort, alloc: Global, count: u16) -> Coverage {
+    let mut pairs = Vec::new(alloc);
+    for j in 0..count {
+        let from = 2 * u64::from(j);
+        pairs.push((from, from + 1)).expect(rt, "memory");
+    }
+    set_of(rt, alloc, &pairs)
+}
+
+fn number_of_chunks(set: &Coverage) -> usize {
+    let mut count = 0usize;
+    for _ in set.chunks() {
+        count = count.saturating_add(1);
+    }
+    count
+}
+
+#[test]
+fn numbers_of_chunks(rt: HostRuntime) {
+    for (count, chunks) in [(0u16, 0usize), (1, 1), (128, 1), (129, 2), (12800, 100)] {
+        let set = dots(&rt, rt.alloc(), count);
+        assert_eq!(rt; number_of_chunks(&set), chunks);
+    }
+    let sky = set_of(&rt, rt.alloc(), &[(0, 25600)]);
+    let whole = dots(&rt, rt.alloc(), 12800)
+        .union(rt.alloc(), &sky)
+        .expect(&rt, "memory");
+    assert_eq!(rt; whole.ranges().next(), Some((0, 25600)));
+    assert_eq!(rt; whole.ranges().size_hint(), (1, Some(1)));
+    assert_eq!(rt; number_of_chunks(&whole), 1);
+}
+
+#[test]
+fn a_chunk_of_127(rt: HostRuntime) {
+    let set = dots(&rt, rt.alloc(), 256);
+    let first = set_of(&rt, rt.alloc(), &[(0, 1)]);
+    let rest = set.difference(rt.alloc(), &first).expect(&rt, "memory");
+    for (set, length) in [(&set, 128usize), (&rest, 127)] {
+        let mut chunks = set.chunks();
+        assert_eq!(rt; chunks.next().expect(&rt, "a chunk").len(), length);
+        assert_eq!(rt; chunks.next().expect(&rt, "a chunk").len(), 128);
+        assert!(rt; chunks.next().is_none());
+    }
+}
+
+#[test]
+fn steps_of_look_ups(rt: HostRuntime) {
+    for (count, most) in [(0u16, 0u64), (1, 9), (128, 9), (129, 10), (12800, 15)] {
+        let set = dots(&rt, rt.alloc(), count);
+        for pixel in [0u64, 1, 2, 254, 256, 12800, 12801, 25598, 25599, 25600] {
+            let mut steps = Steps::new();
+            let found = set.contains_counting(pixel, &mut steps);
+            assert_eq!(rt; found, set.contains(pixel));
+            assert!(rt; steps.get() <= most);
+        }
+    }
+}
+
+#[test]
+fn looking_at_many_blocks(rt: HostRuntime) {
+    let set = dots(&rt, rt.alloc(), 12800);
+    let row = set_of(&rt, rt.alloc(), &[(4001, 9001), (25599, 25600)]);
+    assert_eq!(rt;
+        (set.count_common(&row), row.count_common(&set)),
+        (2500, 2500)
+    );
+    assert!(rt; set.meets(&row) && row.meets(&set) && !set.covers(&row) && !row.covers(&set));
+    let few = set_of(&rt, rt.alloc(), &[(0, 1), (12800, 12801), (25598, 25599)]);
+    assert!(rt; set.covers(&few) && !few.covers(&set) && !few.same(&set));
+    let gaps = set_of(&rt, rt.alloc(), &[(1, 2), (12801, 12802), (25599, 25700)]);
+    assert!(rt; !set.meets(&gaps) && !gaps.meets(&set) && set.count_common(&gaps) == 0);
+    assert!(rt; set.same(&set.try_copy(rt.alloc()).expect(&rt, "memory")) && !set.is_empty());
+    assert_eq!(rt;
+        (set.next_pixel(12801), set.next_pixel(25599)),
+        (Some(12802), None)
+    );
+}

@@ -1,0 +1,137 @@
+//! Numbers of cells: rows worked by hand, and every cell of the small orders.
+use moc_sphere::{Cell, CellError, Order};
+use std::test::Fail;
+
+fn at(order: u8, index: u64) -> Result<Cell, Fail> {
+    let order = Order::new(order).ok_or("order")?;
+    Ok(Cell::new(order, index)?)
+}
+
+#[test]
+fn uniq_rows(rt: HostRuntime) -> Result<(), Fail> {
+    for (order, index, uniq) in [
+        (0, 11, 15),
+        (3, 10, 266),
+        (29, 3458764513820540927, 4611686018427387903),
+    ] {
+        assert_eq!(rt; at(order, index)?.uniq(), uniq);
+        assert!(rt; Cell::from_uniq(uniq)? == at(order, index)?);
+    }
+    assert!(rt; Cell::from_uniq(3) == Err(CellError::NotUniq));
+    assert!(rt; Cell::from_uniq(4611686018427387904) == Err(CellError::NotUniq));
+    Ok(())
+}
+
+#[test]
+fn ring_rows(rt: HostRuntime) -> Result<(), Fail> {
+    for (order, index, ring) in [
+        (1, 0, 13),
+        (1, 1, 5),
+        (1, 2, 4),
+        (1, 3, 0),
+        (1, 16, 28),
+        (1, 18, 27),
+        (2, 64, 136),
+        (29, 0, 1729382253957480448),
+        (29, 288230376151711743, 0),
+        (29, 3458764513820540927, 1729382259863060480),
+        (29, 3170534137668829184, 3458764513820540927),
+    ] {
+        let cell = at(order, index)?;
+        assert_eq!(rt; cell.ring(), ring, "order {order} index {index}");
+        assert!(rt;
+            Cell::from_ring(cell.order(), ring)? == cell,
+            "order {order} ring {ring}"
+        );
+    }
+    for index in 0..12 {
+        assert_eq!(rt; at(0, index)?.ring(), index);
+    }
+    Ok(())
+}
+
+#[test]
+fn plane_rows(rt: HostRuntime) -> Result<(), Fail> {
+    for (order, index, row, column) in [
+        (0, 0, 1, 1),
+        (0, 4, 2, 0),
+        (0, 11, 3, 7),
+        (1, 18, 4, 15),
+        (29, 0, 1073741823, 536870912),
+        (29, 3458764513820540927, 1073741825, 3758096384),
+    ] {
+        assert!(rt;
+            at(order, index)?.row_column() == (row, column),
+            "order {order} index {index}"
+        );
+    }
+    Ok(())
+}
+
+#[test]
+fn touching_rows(rt: HostRuntime) -> Result<(), Fail> {
+    for (order, index, touching) in [
+        (0, 4, [0, 3, 5, 7, 8, 11].as_slice()),
+        (1, 0, [1, 2, 3, 17, 19, 22, 23, 35].as_slice()),
+        (1, 1, [0, 2, 3, 6, 7, 22, 23].as_slice()),
+    ] {
+        let cells = at(order, index)?.touching_cells(rt.alloc());
+        assert_eq!(rt; cells.len(), touching.len());
+        for (cell, index) in cells.as_slice().iter().zip(touching) {
+            assert!(rt; *cell == at(order, *index)?, "order {order} index {index}");
+        }
+    }
+    Ok(())
+}
+
+#[test]
+fn refusals_and_spans(rt: HostRuntime) -> Result<(), Fail> {
+    assert!(rt; Order::new(30).is_none());
+    let order = Order::new(1).ok_or("order")?;
+    assert!(rt; Cell::new(order, 48) == Err(CellError::CellTooLarge));
+    assert!(rt; Cell::from_ring(order, 48) == Err(CellError::RingTooLarge));
+    assert!(rt; Cell::from_face_xy(order, 12, 0, 0) == Err(CellError::OutOfFace));
+    assert!(rt; Cell::from_face_xy(order, 0, 2, 0) == Err(CellError::OutOfFace));
+    assert!(rt; Cell::from_face_xy(order, 0, 0, 2) == Err(CellError::OutOfFace));
+    let last = at(1, 47)?;
+    assert_eq!(rt; last.span(), (3386706919782612992, 3458764513820540928));
+    assert!(rt; last.parent() == Some(at(0, 11)?));
+    assert!(rt; at(0, 11)?.parent().is_none());
+    Ok(())
+}
+
+#[test]
+fn cells_are_ordered_and_shown(rt: HostRuntime) -> Result<(), Fail> {
+    assert!(rt; at(0, 11)? < at(1, 0)? && at(1, 0)? < at(1, 1)?);
+    assert_eq!(rt; at(29, 17)?.to_string(rt.alloc())?.as_str(), "29/17");
+    assert_eq!(rt; Order::MAX.get(), 29);
+    for (error, text) in [
+        (
+            CellError::CellTooLarge,
+            "the order has no cell of that index",
+        ),
+        (CellError::NotUniq, "no cell has that NUNIQ number"),
+        (CellError::OutOfFace, "the base pixel has no such place"),
+        (
+            CellError::RingTooLarge,
+            "the order has no cell of that ring number",
+        ),
+    ] {
+        assert_eq!(rt; format!(in rt.alloc(); "{error}")?.as_str(), text);
+    }
+    Ok(())
+}
+
+#[test]
+fn all_cells_of_small_orders(rt: HostRuntime) -> Result<(), Fail> {
+    for level in 0..5 {
+        let order = Order::new(level).ok_or("order")?;
+        for index in 0..order.cell_count() {
+            let cell = Cell::new(order, index)?;
+            let (face, x, y) = cell.face_xy();
+            assert!(rt; Cell::from_face_xy(order, face, x, y)? == cell);
+            assert!(rt; Cell::from_ring(order, cell.ring())? == cell);
+        }
+    }
+    Ok(())
+}

@@ -1,0 +1,9 @@
+//! Tests of the twelve parts, of the step machine, and of the running map.
+#![tactic(auto)]
+
+#[cfg(test)]
+mod parts;
+#[cfg(test)]
+mod shared;
+#[cfg(test)]
+mod steps;

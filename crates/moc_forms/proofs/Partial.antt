@@ -1,0 +1,73 @@
+-- Going from one cell of order 7 that a set meets to the next passes none that it fills in part.
+use Rattle.std.proofs.Common.{◌≡◌, ℕ, zero, suc, ◌+◌, ◌*◌, ◌/◌, ◌<◌, ◌≤◌, Bool, true, false, List, [], ◌∷◌, ◌++◌}
+use Rattle.std.proofs.Common.{refl, sym, ap, ◌∙◌, arith, inl, inr, append-nil, add-one}
+use Rattle.std.specs.Prelude.{◌&&◌, not, nat_lt, nat_eq, if◌then◌else◌}
+use Rattle.std.specs.FinSet as set
+use Rattle.std.proofs.lemmas.Bool.{cases_lt, and_parts, eqb-true}
+use Rattle.moc_sphere.specs.CellNumber.{cell_number, cell_size}
+use Rattle.moc_ranges.specs.Cells.{span, contains-span}
+use Rattle.moc_ranges.specs.Numbers.{NumberSet}
+use Rattle.moc_ranges.specs.Operations.{meets-none}
+use Rattle.moc_ranges.specs.Pixels.{pixel_count}
+use Rattle.moc_forms.specs.Drawing.{Mark, is_partial, partial_below, partial_mark, shade_of}
+
+-- a cell of order 7 has 4^22 pixels
+size : cell_size 7 ≡ 17592186044416
+unfolding cell_size
+size = refl
+
+-- the pixels of a cell of order 7 stand in a row
+in_cell : (i q : ℕ) → set.contains (span 7 i) q ≡ true → (i * 17592186044416 ≤ q) × (q < (i + 1) * 17592186044416)
+in_cell i q in_span =
+    let tests : (nat_lt q pixel_count && nat_eq (q / cell_size 7) i) ≡ true = sym (contains-span 7 i q) ∙ in_span in
+    let cell : q / cell_size 7 ≡ i =
+    eqb-true (q / cell_size 7) i (and_parts (nat_lt q pixel_count) (nat_eq (q / cell_size 7) i) tests).1 in
+    let here : q / 17592186044416 ≡ i = ap (λ w. q / w) (sym size) ∙ cell in
+    (omega arith, omega arith)
+
+both : (x y : Bool) → (x ≡ true → y ≡ true → ⊥) → (x && y) ≡ false
+both true true not_both = absurd (not_both refl refl)
+both true false not_both = refl
+both false y not_both = refl
+
+-- no number of a set is in a row
+abbrev pub HasNone : NumberSet → ℕ → ℕ → Type 0
+HasNone a from to = (q : ℕ) → from ≤ q → q < to → set.contains a q ≡ true → ⊥
+
+-- a set does not fill a cell in part of which it has no pixel
+not_partial : (a : NumberSet) (i : ℕ) → HasNone a (i * 17592186044416) ((i + 1) * 17592186044416)
+    → is_partial a i ≡ false
+unfolding is_partial
+not_partial a i none =
+    ap (λ b. b && not (set.is_subset (span 7 i) a)) (meets-none a (span 7 i) (λ q.
+    both (set.contains a q) (set.contains (span 7 i) q) (λ has in_span.
+    let row = in_cell i q in_span in
+    none q row.0 row.1 has)))
+
+no_mark : (a : NumberSet) (i : ℕ) → is_partial a i ≡ false → partial_mark a i ≡ []
+no_mark a i lacks = ap (λ (b : Bool). if b then (cell_number 7 i, shade_of a i) ∷ [] else []) lacks
+
+-- between two cells with no pixel of the set between them there is no mark
+pub no_marks_between : (a : NumberSet) (i j : ℕ) → i ≤ j → HasNone a (i * 17592186044416) (j * 17592186044416)
+    → partial_below a j ≡ partial_below a i
+unfolding partial_below
+no_marks_between a i zero le none = let is : i ≡ 0 = omega arith in ap (partial_below a) (sym is)
+no_marks_between a i (suc j) le none = elim (cases_lt i (suc j)) [
+  | inl lt ↦
+      let le : i ≤ j = omega arith in
+      let here : is_partial a j ≡ false = not_partial a j (λ q from to. none q (omega arith) (omega arith)) in
+      ap (λ (marks : List Mark). partial_below a j ++ marks) (no_mark a j here)
+      ∙ append-nil (partial_below a j)
+      ∙ no_marks_between a i j le (λ q from to. none q from (omega arith))
+  | inr ge ↦ let is : i ≡ suc j = omega arith in ap (partial_below a) (sym is)
+]
+
+-- below the first cell there is no mark
+pub partial_none : (a : NumberSet) → partial_below a 0 ≡ []
+unfolding partial_below
+partial_none a = refl
+
+-- the marks below the next cell
+pub partial_next : (a : NumberSet) (i : ℕ) → partial_below a (i + 1) ≡ partial_below a i ++ partial_mark a i
+unfolding partial_below
+partial_next a i = rw add-one refl

@@ -1,0 +1,7 @@
+use Rattle.std.proofs.Common.{◌≡◌, ◌++◌}
+use Rattle.std.specs.String.{string_bytes}
+use Rattle.moc_forms.specs.Drawing.{base_diamonds_below}
+use Rattle.moc_forms.proofs.drawing.push_base_pixels.Given as goal
+
+abbrev pub invariant-loop-face : goal.invariant-loop-face
+invariant-loop-face l = string_bytes l.text ≡ string_bytes l.fn.text ++ base_diamonds_below l.face

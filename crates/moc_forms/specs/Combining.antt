@@ -1,0 +1,55 @@
+-- Texts that are parted by semicolons, combined from the left.
+use Rattle.std.specs.Prelude.{◌≡◌, ℕ, Bool, ◌==◌, List, [], ◌∷◌, codes, Option, None, Some}
+use Rattle.std.specs.FinSet as set
+use Rattle.std.specs.List.{slice_split}
+use Rattle.moc_ranges.specs.Numbers.{NumberSet}
+use Rattle.moc_ranges.specs.Operations.{symmetric}
+use Rattle.moc_text.specs.Ascii.{deeper}
+use Rattle.moc_forms.specs.Forms.{FormSays}
+use Rattle.moc_forms.specs.declared.combining.Operation.{Operation}
+use Rattle.moc_forms.specs.declared.combining.Operation.TheVariants.{Union, Intersection, Difference, Symmetric}
+use Rattle.moc_forms.specs.declared.form.Form.{Form}
+
+-- the word for an operation
+abbrev pub operation_name : Operation → List ℕ
+operation_name Union = codes "union"
+operation_name Intersection = codes "intersection"
+operation_name Difference = codes "difference"
+operation_name Symmetric = codes "symmetric"
+
+-- what an operation makes of two sets
+abbrev pub combined : Operation → NumberSet → NumberSet → NumberSet
+combined Union a b = set.union a b
+combined Intersection a b = set.intersection a b
+combined Difference a b = set.difference a b
+combined Symmetric a b = symmetric a b
+
+-- a set, and the deepest order that is named with it
+abbrev pub Said : Type 0
+Said = NumberSet × Option ℕ
+
+-- what is said after one more text: just what it says, if it is the first, and else the operation of the sets with the
+-- deeper of the orders
+abbrev pub joined : Operation → Option Said → Said → Said
+joined operation None said = said
+joined operation (Some before) said = (combined operation before.0 said.0, deeper before.1 said.1)
+
+-- `;`
+abbrev pub is_semicolon : ℕ → Bool
+is_semicolon b = b == 59
+
+-- the texts of an input: its bytes, parted at the semicolons
+abbrev pub texts_of : List ℕ → List (List ℕ)
+texts_of bytes = slice_split is_semicolon bytes
+
+-- what is said before texts of a form, and after them, where they are taken from the left
+abbrev pub CombinesTexts : Operation → Form → Option Said → List (List ℕ) → Option Said → Type 0
+CombinesTexts operation form before [] after = after ≡ before
+CombinesTexts operation form before (text ∷ texts) after =
+    (said : Said) × FormSays form text said.0 said.1
+    × CombinesTexts operation form (Some (joined operation before said)) texts after
+
+-- the texts of an input say together a set and the deepest order that one of them names
+abbrev pub Combines : Operation → Form → List ℕ → NumberSet → Option ℕ → Type 0
+Combines operation form input a deepest =
+    CombinesTexts operation form None (texts_of input) (Some (a, deepest))

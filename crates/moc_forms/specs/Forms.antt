@@ -1,0 +1,57 @@
+-- The text forms of a coverage.
+use Rattle.std.specs.Prelude.{◌≡◌, ℕ, List, [], ◌∷◌, ◌++◌, codes, ◌⊎◌, Option, None, Some}
+use Rattle.moc_ranges.specs.Numbers.{NumberSet}
+use Rattle.moc_text.specs.Ascii.{Says, IsFirstFault}
+use Rattle.moc_text.specs.AsciiText.{ascii_text, IsTooCoarse}
+use Rattle.moc_text.specs.JsonForm.{SaysJson, IsJsonFault}
+use Rattle.moc_text.specs.JsonText.{json_text}
+use Rattle.moc_text.specs.UniqList.{SaysUniq, uniq_fault, uniq_text}
+use Rattle.moc_text.specs.declared.ascii.error.TextError.{TextError}
+use Rattle.moc_text.specs.declared.ascii.error.TextError.TheVariants as text
+use Rattle.moc_text.specs.declared.json.error.JsonError.{JsonError}
+use Rattle.moc_text.specs.declared.json.error.JsonError.TheVariants as json
+use Rattle.moc_text.specs.declared.uniq.UniqError.{UniqError}
+use Rattle.moc_text.specs.declared.uniq.UniqError.TheVariants as uniq
+use Rattle.moc_forms.specs.declared.form.Form.{Form}
+use Rattle.moc_forms.specs.declared.form.Form.TheVariants.{Ascii, Json, Uniq}
+use Rattle.moc_forms.specs.declared.form.FormError.{FormError}
+use Rattle.moc_forms.specs.declared.form.FormError.TheVariants as error
+
+-- the word for a form
+abbrev pub form_name : Form → List ℕ
+form_name Ascii = codes "ascii"
+form_name Json = codes "json"
+form_name Uniq = codes "uniq"
+
+-- what a text in a form says: a set and the deepest order that it names; a NUNIQ list names none
+abbrev pub FormSays : Form → List ℕ → NumberSet → Option ℕ → Type 0
+FormSays Ascii text a deepest = Says text a deepest
+FormSays Json text a deepest = SaysJson text a deepest
+FormSays Uniq text a deepest = SaysUniq text a × (deepest ≡ None)
+
+-- the first fault of a text in a form
+abbrev pub IsFormFault : Form → List ℕ → FormError → Type 0
+IsFormFault Ascii text e = (fault : TextError) × (e ≡ error.Ascii fault) × IsFirstFault text fault
+IsFormFault Json text e = (fault : JsonError) × (e ≡ error.Json fault) × IsJsonFault text fault
+IsFormFault Uniq text e = (fault : UniqError) × (e ≡ error.Uniq fault) × (uniq_fault text ≡ Some fault)
+
+-- memory was refused
+abbrev pub IsWant : FormError → Type 0
+IsWant e =
+    (e ≡ error.Memory) ⊎ (e ≡ error.Ascii text.Memory) ⊎ (e ≡ error.Json json.Memory) ⊎ (e ≡ error.Uniq uniq.Memory)
+
+-- the error is that no memory was left, or the first fault of the text
+abbrev pub FormFails : Form → List ℕ → FormError → Type 0
+FormFails form text e = IsWant e ⊎ IsFormFault form text e
+
+-- the text of a set in a form, with its last line feed
+abbrev pub form_text : Form → NumberSet → Option ℕ → List ℕ
+form_text Ascii a stated = ascii_text a stated ++ 10 ∷ []
+form_text Json a stated = json_text a stated ++ 10 ∷ []
+form_text Uniq a stated = uniq_text a
+
+-- the error is that no memory was left, or that a cell of the set is deeper than the stated order
+abbrev pub IsUnwritten : Form → NumberSet → Option ℕ → FormError → Type 0
+IsUnwritten Ascii a stated e = IsWant e ⊎ ((e ≡ error.Ascii text.TooCoarse) × IsTooCoarse a stated)
+IsUnwritten Json a stated e = IsWant e ⊎ ((e ≡ error.Json json.TooCoarse) × IsTooCoarse a stated)
+IsUnwritten Uniq a stated e = IsWant e

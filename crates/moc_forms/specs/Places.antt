@@ -1,0 +1,82 @@
+-- Where a text is at fault.
+use Rattle.std.specs.Prelude.{◌≡◌, ℕ, ◌+◌, List, [], ◌∷◌, ◌++◌, ◌⊎◌, if◌then◌else◌, take, Option, None, Some}
+use Rattle.std.specs.Prelude.{option_map, decimal, codes, count_by}
+use Rattle.moc_text.specs.JsonForm.{NamesOrder}
+use Rattle.moc_text.specs.Lines.{is_line_feed}
+use Rattle.moc_text.specs.declared.ascii.error.TextError.{TextError}
+use Rattle.moc_text.specs.declared.ascii.error.TextError.TheVariants as text
+use Rattle.moc_text.specs.declared.json.error.JsonError.{JsonError}
+use Rattle.moc_text.specs.declared.json.error.JsonError.TheVariants as json
+use Rattle.moc_text.specs.declared.uniq.UniqError.{UniqError}
+use Rattle.moc_text.specs.declared.uniq.UniqError.TheVariants as uniq
+use Rattle.moc_forms.specs.declared.form.FormError.{FormError}
+use Rattle.moc_forms.specs.declared.form.FormError.TheVariants as error
+use Rattle.moc_forms.specs.declared.place.Place.{Place}
+use Rattle.moc_forms.specs.declared.place.Place.TheVariants.{Byte, Line, Stop, Name, Order, Number}
+
+-- ---- of a byte
+
+-- how many bytes stand behind the last line feed, where `before` stand before these
+abbrev pub behind_feed : ℕ → List ℕ → ℕ
+behind_feed before [] = before
+behind_feed before (b ∷ bytes) =
+    if is_line_feed b then behind_feed 0 bytes else behind_feed (before + 1) bytes
+
+-- the place of a byte: its line, counted from 1, has one number more than there are line feeds before it
+abbrev pub byte_place : List ℕ → ℕ → Place
+byte_place bytes at =
+    Byte at (1 + count_by is_line_feed (take at bytes)) (behind_feed 0 (take at bytes))
+
+-- ---- of an error
+
+-- the place of a fault of an ASCII text
+abbrev pub ascii_place : List ℕ → TextError → Option Place
+ascii_place bytes (text.BadByte at) = Some (byte_place bytes at)
+ascii_place bytes (text.NoOrder at) = Some (byte_place bytes at)
+ascii_place bytes (text.OrderTooLarge at) = Some (byte_place bytes at)
+ascii_place bytes (text.CellTooLarge at) = Some (byte_place bytes at)
+ascii_place bytes (text.Backwards at) = Some (byte_place bytes at)
+ascii_place bytes (text.Unfinished at) = Some (byte_place bytes at)
+ascii_place bytes text.Memory = None
+ascii_place bytes text.TooCoarse = None
+
+-- the place of a fault of a NUNIQ list
+abbrev pub uniq_place : UniqError → Option Place
+uniq_place (uniq.BadByte line) = Some (Line line)
+uniq_place (uniq.NotUniq line) = Some (Line line)
+uniq_place uniq.Memory = None
+
+-- what is made of the order that a name names, by the number of the name, in a JSON text
+abbrev pub IsOfOrder : List ℕ → ℕ → (ℕ → Place) → Option Place → Type 0
+IsOfOrder bytes name place found = (k : Option ℕ) × NamesOrder bytes name k × (found ≡ option_map place k)
+
+-- the place of a fault of a JSON text; where no JSON ends is told by `serde_json`, if it is
+abbrev pub IsJsonPlace : List ℕ → JsonError → Option Place → Type 0
+IsJsonPlace bytes json.NotJson found = (found ≡ None) ⊎ ((line column : ℕ) × (found ≡ Some (Stop line column)))
+IsJsonPlace bytes json.NotObject found = found ≡ None
+IsJsonPlace bytes (json.BadOrder name) found = found ≡ Some (Name name)
+IsJsonPlace bytes (json.NotArray name) found = IsOfOrder bytes name (λ k. Order k) found
+IsJsonPlace bytes (json.NotWhole name number) found = IsOfOrder bytes name (λ k. Number k number) found
+IsJsonPlace bytes (json.CellTooLarge name number) found = IsOfOrder bytes name (λ k. Number k number) found
+IsJsonPlace bytes json.Memory found = found ≡ None
+IsJsonPlace bytes json.TooCoarse found = found ≡ None
+
+-- the place of a fault of a text in a form
+abbrev pub IsPlace : List ℕ → FormError → Option Place → Type 0
+IsPlace bytes (error.Ascii e) found = found ≡ ascii_place bytes e
+IsPlace bytes (error.Json e) found = IsJsonPlace bytes e found
+IsPlace bytes (error.Uniq e) found = found ≡ uniq_place e
+IsPlace bytes error.Memory found = found ≡ None
+
+-- ---- what is said
+
+-- a place in words
+abbrev pub place_text : Place → List ℕ
+place_text (Byte at line column) =
+    (codes "byte " ++ decimal at) ++ (codes ", line " ++ decimal line) ++ (codes ", byte " ++ decimal column)
+    ++ codes " of it"
+place_text (Line line) = codes "line " ++ decimal line
+place_text (Stop line column) = (codes "line " ++ decimal line) ++ (codes ", column " ++ decimal column)
+place_text (Name name) = codes "name " ++ decimal name
+place_text (Order order) = codes "order " ++ decimal order
+place_text (Number order number) = (codes "order " ++ decimal order) ++ (codes ", number " ++ decimal number)

@@ -1,0 +1,106 @@
+//! Whether a text is a coverage, and else where it is at fault.
+ghost use Rattle.std.specs.Prelude.{◌≡◌, ◌⊎◌, ℕ, IfErr, IfOk, OnOk, Option};
+ghost use Rattle.moc_ranges.specs.Numbers.{NumberSet};
+ghost use Rattle.moc_forms.specs.Forms.{FormFails, FormSays};
+ghost use Rattle.moc_forms.specs.Places.{IsJsonPlace, IsPlace, ascii_place, uniq_place};
+
+use crate::form::{Form, FormError};
+use crate::place::Place;
+use moc_text::{JsonError, TextError, UniqError, json_order, json_stop};
+use std::alloc::Global;
+
+/// Why a text is refused, and where it is at fault.
+#[derive(Clone, Copy, Debug, PartialEq, Eq)]
+pub struct Refusal {
+    pub error: FormError,
+    /// `None` for `NotObject`, for want of memory, and for `NotJson` where `serde_json` tells no place.
+    pub place: Option<Place>,
+}
+
+/// Tells whether a text is a coverage in a form, and else its first fault with its place.
+///
+/// One pass over the bytes, as reading takes; at a fault of an ASCII text another over the bytes before it, and at one
+/// of a JSON text a second parse. Memory follows the set, and of a JSON text the text.
+pub fn check(alloc: Global, form: Form, text: &[u8]) -> Result<(), Refusal>
+    ensures says { OnOk result ((a : NumberSet) × (k : Option ℕ) × FormSays form text.now a k) }
+    ensures fault { IfErr result (λ r. FormFails form text.now r.error) }
+    ensures place { IfErr result (λ r. IsPlace text.now r.error r.place) }
+{
+    match form.read(alloc, text) {
+        Ok(_) => Ok(()),
+        Err(error) => Err(placed(alloc, text, error)),
+    }
+}
+
+/// The refusal of a text with this error; of want of memory where memory is refused while its place is sought.
+fn placed(alloc: Global, text: &[u8], error: FormError) -> Refusal
+    ensures error { (result.error ≡ error) ⊎ (result.error ≡ FormError.Memory) }
+    ensures place { IsPlace text.now result.error result.place }
+{
+    match place_of(alloc, text, error) {
+        Ok(place) => Refusal { error, place },
+        Err(_) => Refusal {
+            error: FormError::Memory,
+            place: None,
+        },
+    }
+}
+
+/// The place of a fault.
+fn place_of(alloc: Global, text: &[u8], error: FormError) -> Result<Option<Place>, JsonError>
+    ensures { IfOk result (λ place. IsPlace text.now error place) }
+{
+    match error {
+        FormError::Ascii(fault) => Ok(place_in_ascii(text, fault)),
+        FormError::Json(fault) => place_in_json(alloc, text, fault),
+        FormError::Uniq(fault) => Ok(place_in_list(fault)),
+        FormError::Memory => Ok(None),
+    }
+}
+
+/// The place of a fault of an ASCII text.
+fn place_in_ascii(text: &[u8], fault: TextError) -> Option<Place>
+    ensures { result ≡ ascii_place text.now fault }
+{
+    match fault.place() {
+        Some(at) => Some(Place::of_byte(text, at)),
+        None => None,
+    }
+}
+
+/// The place of a fault of a NUNIQ list.
+fn place_in_list(fault: UniqError) -> Option<Place>
+    ensures { result ≡ uniq_place fault }
+{
+    match fault.line() {
+        Some(line) => Some(Place::Line(line)),
+        None => None,
+    }
+}
+
+/// The place of a fault of a JSON text, whose faulty order is read once more.
+fn place_in_json(alloc: Global, text: &[u8], fault: JsonError) -> Result<Option<Place>, JsonError>
+    ensures { IfOk result (λ place. IsJsonPlace text.now fault place) }
+{
+    Ok(match fault {
+        JsonError::NotJson => match json_stop(alloc, text) {
+            Some((line, column)) => Some(Place::Stop { line, column }),
+            None => None,
+        },
+        JsonError::BadOrder { name } => Some(Place::Name(name)),
+        JsonError::NotArray { name } => match json_order(alloc, text, name)? {
+            Some(order) => Some(Place::Order(order)),
+            None => None,
+        },
+        JsonError::NotWhole { name, place } | JsonError::CellTooLarge { name, place } => {
+            match json_order(alloc, text, name)? {
+                Some(order) => Some(Place::Number {
+                    order,
+                    number: place,
+                }),
+                None => None,
+            }
+        }
+        JsonError::NotObject | JsonError::Memory | JsonError::TooCoarse => None,
+    })
+}

@@ -1,0 +1,81 @@
+//! Operations on what texts say.
+ghost use Rattle.std.specs.Prelude.{◌≡◌, IfOk, IfSome, Some};
+ghost use Rattle.moc_text.specs.Ascii.{deeper as deeper_of};
+ghost use Rattle.moc_forms.specs.Combining.{combined, joined, operation_name};
+
+use moc_ranges::{Coverage, Memory};
+use moc_sphere::Order;
+use std::alloc::Global;
+
+/// An operation on two sets of pixels.
+#[derive(Clone, Copy, Debug, PartialEq, Eq)]
+pub enum Operation {
+    /// The pixels that any of the two has.
+    Union,
+    /// The pixels that both have.
+    Intersection,
+    /// The pixels that the first has and the second lacks.
+    Difference,
+    /// The pixels that just one of the two has.
+    Symmetric,
+}
+
+impl Operation {
+    /// The operation that the command line calls `union`, `intersection`, `difference` or `symmetric`.
+    pub fn named(word: &str) -> Option<Operation>
+        ensures name { IfSome result (λ operation. word.now ≡ operation_name operation) }
+        ensures each { (operation : Operation) → word.now ≡ operation_name operation → result ≡ Some operation }
+    {
+        match word {
+            "union" => Some(Operation::Union),
+            "intersection" => Some(Operation::Intersection),
+            "difference" => Some(Operation::Difference),
+            "symmetric" => Some(Operation::Symmetric),
+            _ => None,
+        }
+    }
+
+    /// What the operation makes of two sets. One pass over their ranges at most; refused where memory runs out.
+    pub fn of(self, alloc: Global, first: &Coverage, second: &Coverage) -> Result<Coverage, Memory>
+        ensures set { IfOk result (λ c. c ≡ combined self first.now second.now) }
+    {
+        match self {
+            Operation::Union => first.union(alloc, second),
+            Operation::Intersection => first.intersection(alloc, second),
+            Operation::Difference => first.difference(alloc, second),
+            Operation::Symmetric => first.symmetric(alloc, second),
+        }
+    }
+
+    /// What texts say together with one more: the operation of the sets, and the deeper of the orders that they name.
+    /// Before the first text there is nothing, and it stands for itself.
+    ///
+    /// One pass over the ranges at most; refused where memory runs out.
+    pub fn join(
+        self,
+        alloc: Global,
+        before: Option<(Coverage, Option<Order>)>,
+        set: Coverage,
+        deepest: Option<Order>,
+    ) -> Result<(Coverage, Option<Order>), Memory>
+        ensures joined { IfOk result (λ after. after ≡ joined self before (set, deepest)) }
+    {
+        match before {
+            None => Ok((set, deepest)),
+            Some((earlier, order)) => {
+                Ok((self.of(alloc, &earlier, &set)?, deeper(order, deepest)))
+            }
+        }
+    }
+}
+
+/// The deeper of two orders that may be none.
+fn deeper(first: Option<Order>, second: Option<Order>) -> Option<Order>
+    ensures { result ≡ deeper_of first second }
+{
+    match (first, second) {
+        (Some(first), Some(second)) => Some(first.max(second)),
+        (Some(first), None) => Some(first),
+        (None, _) => second,
+    }
+}

@@ -1,0 +1,194 @@
+//! A set of pixels as a picture.
+ghost use Rattle.std.specs.Prelude.{◌≡◌, ◌++◌, ◌<◌, ◌≤◌, ◌*◌, ◌^◌, IfOk, OnOk};
+ghost use Rattle.std.specs.String.{string_bytes};
+ghost use Rattle.moc_sphere.specs.CellNumber.{cell_number};
+ghost use Rattle.moc_forms.specs.Drawing.{base_diamonds_below, cell_diamonds, diamond, diamonds_at, label, labels};
+ghost use Rattle.moc_forms.specs.Drawing.{labels_at, labels_below, outlines, picture_of, shade_diamonds};
+ghost use Rattle.moc_forms.specs.Drawing.{shade_path, shades};
+
+use crate::marks::marks;
+use crate::texts::push_count;
+use moc_ranges::{Coverage, Memory};
+use moc_sphere::{Cell, Order};
+use std::alloc::{AllocError, Global};
+
+/// The width of the sky in half steps of order 7.
+const WIDTH: u64 = 1024;
+
+/// A picture of a set, as SVG: HEALPix's plane, 1024 half steps of order 7 wide and 512 high, north up and east to the
+/// right. Each cell of the set of order 7 or less is a diamond of the darkest of four shades of blue; a cell of order 7
+/// that deeper cells of the set fill in part has a shade by quarters of its pixels. The twelve base pixels are outlined
+/// and have their numbers. What leaves the left edge is drawn at the right edge as well.
+///
+/// Takes the memory of the set's cells, goes over them once, and looks each cell of order 7 that the set meets up in
+/// O(log n); refused where memory runs out.
+pub fn draw(alloc: Global, set: &Coverage) -> Result<String, Memory>
+    ensures { IfOk result (λ t. string_bytes t ≡ picture_of set.now) }
+{
+    let marks = marks(alloc, set)?;
+    let mut text = String::new(alloc);
+    text.push_str(
+        "<svg xmlns=\"http://www.w3.org/2000/svg\" viewBox=\"0 0 1024 512\">\n<title>Sky coverage</title>\n",
+    )?;
+    text.push_str("<rect width=\"1024\" height=\"512\" fill=\"#fff\"/>\n")?;
+    push_shades(&mut text, &marks)?;
+    push_outlines(&mut text)?;
+    push_labels(&mut text)?;
+    text.push_str("</svg>\n")?;
+    Ok(text)
+}
+
+/// Adds the marks in their shades.
+#[tactic(auto, unfolding(crate::specs::Drawing::shades))]
+fn push_shades(text: &mut String, marks: &[(Cell, u64)]) -> Result<(), AllocError>
+    ensures { OnOk result (string_bytes text.new ≡ string_bytes text.old ++ shades marks.now) }
+{
+    text.push_str("<g shape-rendering=\"crispEdges\">\n")?;
+    push_shade(text, marks, 1, "#bdd7e7")?;
+    push_shade(text, marks, 2, "#6baed6")?;
+    push_shade(text, marks, 3, "#3182bd")?;
+    push_shade(text, marks, 4, "#08519c")?;
+    text.push_str("</g>\n")?;
+    Ok(())
+}
+
+/// Adds the path of a shade in its colour.
+fn push_shade(
+    text: &mut String,
+    marks: &[(Cell, u64)],
+    shade: u64,
+    colour: &str,
+) -> Result<(), AllocError>
+    ensures { OnOk result (string_bytes text.new ≡ string_bytes text.old ++ shade_path marks.now shade colour.now) }
+{
+    text.push_str("<path fill=\"")?;
+    text.push_str(colour)?;
+    text.push_str("\" d=\"")?;
+    push_marks(text, marks, shade)?;
+    text.push_str("\"/>\n")?;
+    Ok(())
+}
+
+/// Adds the diamonds of the marks of a shade.
+#[tactic(auto, unfolding(crate::specs::Drawing::shade_diamonds))]
+fn push_marks(text: &mut String, marks: &[(Cell, u64)], shade: u64) -> Result<(), AllocError>
+    ensures { OnOk result (string_bytes text.new ≡ string_bytes text.old ++ shade_diamonds shade marks.now) }
+{
+    for (cell, dark) in marks {
+        if *dark == shade {
+            push_cell(text, *cell)?;
+        }
+    }
+    Ok(())
+}
+
+/// Adds the outlines of the base pixels.
+fn push_outlines(text: &mut String) -> Result<(), AllocError>
+    ensures { OnOk result (string_bytes text.new ≡ string_bytes text.old ++ outlines) }
+{
+    text.push_str("<path fill=\"none\" stroke=\"#888\" d=\"")?;
+    push_base_pixels(text)?;
+    text.push_str("\"/>\n")?;
+    Ok(())
+}
+
+/// Adds the diamonds of the base pixels.
+fn push_base_pixels(text: &mut String) -> Result<(), AllocError>
+    ensures { OnOk result (string_bytes text.new ≡ string_bytes text.old ++ base_diamonds_below 12) }
+{
+    for face in 0..12 {
+        push_cell(text, Cell::of(Order::of(0), face))?;
+    }
+    Ok(())
+}
+
+/// Adds the diamonds of a cell of order 7 or less.
+#[tactic(auto, unfolding(crate::specs::Drawing::cell_diamonds))]
+fn push_cell(text: &mut String, cell: Cell) -> Result<(), AllocError>
+    ensures { OnOk result (string_bytes text.new ≡ string_bytes text.old ++ cell_diamonds cell) }
+{
+    let (row, column) = cell.row_column();
+    let half = 1 << 7u8.saturating_sub(cell.order().get());
+    push_diamonds(text, half, row, column)
+}
+
+/// Adds the diamonds of a place that is a row and a column, in steps of half a diamond's width.
+#[tactic(auto, unfolding(crate::specs::Drawing::diamonds_at))]
+fn push_diamonds(text: &mut String, half: u64, row: u64, column: u64) -> Result<(), AllocError>
+    requires half { half ≤ 128 }
+    requires row { 0 < row × row < 4 * 2 ^ 29 }
+    requires column { column < 8 * 2 ^ 29 }
+    ensures { OnOk result (string_bytes text.new ≡ string_bytes text.old ++ diamonds_at half row column) }
+{
+    push_diamond(text, half, column * half, row * half)?;
+    if column == 0 {
+        push_diamond(text, half, WIDTH, row * half)?;
+    }
+    Ok(())
+}
+
+/// Adds a diamond round a middle.
+#[tactic(auto, unfolding(crate::specs::Drawing::diamond))]
+fn push_diamond(text: &mut String, half: u64, x: u64, y: u64) -> Result<(), AllocError>
+    requires { half ≤ y }
+    ensures { OnOk result (string_bytes text.new ≡ string_bytes text.old ++ diamond half x y) }
+{
+    push_count(text, "M", x)?;
+    push_count(text, " ", y - half)?;
+    push_count(text, "l", half)?;
+    push_count(text, " ", half)?;
+    push_count(text, "-", half)?;
+    push_count(text, " ", half)?;
+    push_count(text, "-", half)?;
+    push_count(text, "-", half)?;
+    text.push('z')
+}
+
+/// Adds the numbers of the base pixels.
+fn push_labels(text: &mut String) -> Result<(), AllocError>
+    ensures { OnOk result (string_bytes text.new ≡ string_bytes text.old ++ labels) }
+{
+    text.push_str("<g font-family=\"sans-serif\" font-size=\"24\" text-anchor=\"middle\" ")?;
+    text.push_str("paint-order=\"stroke\" stroke=\"#fff\" stroke-width=\"4\">\n")?;
+    push_numbers(text)?;
+    text.push_str("</g>\n")?;
+    Ok(())
+}
+
+/// Adds a text for each base pixel.
+fn push_numbers(text: &mut String) -> Result<(), AllocError>
+    ensures { OnOk result (string_bytes text.new ≡ string_bytes text.old ++ labels_below 12) }
+{
+    for face in 0..12 {
+        let (row, column) = Cell::of(Order::of(0), face).row_column();
+        push_labels_at(text, face, row, column)?;
+    }
+    Ok(())
+}
+
+/// Adds the number of a base pixel in a row and a column.
+#[tactic(auto, unfolding(crate::specs::Drawing::labels_at))]
+fn push_labels_at(text: &mut String, face: u64, row: u64, column: u64) -> Result<(), AllocError>
+    requires row { row < 4 }
+    requires column { column < 8 }
+    ensures { OnOk result (string_bytes text.new ≡ string_bytes text.old ++ labels_at face row column) }
+{
+    let y = row * 128 + 8;
+    if column == 0 {
+        push_label(text, face, 16, y)?;
+        push_label(text, face, WIDTH - 16, y)
+    } else {
+        push_label(text, face, column * 128, y)
+    }
+}
+
+/// Adds a number at a place.
+#[tactic(auto, unfolding(crate::specs::Drawing::label))]
+fn push_label(text: &mut String, number: u64, x: u64, y: u64) -> Result<(), AllocError>
+    ensures { OnOk result (string_bytes text.new ≡ string_bytes text.old ++ label number x y) }
+{
+    push_count(text, "<text x=\"", x)?;
+    push_count(text, "\" y=\"", y)?;
+    push_count(text, "\">", number)?;
+    text.push_str("</text>\n")
+}

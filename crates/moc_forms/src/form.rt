@@ -1,0 +1,144 @@
+//! The text forms of a coverage as one type.
+ghost use Rattle.std.specs.Prelude.{◌≡◌, IfErr, IfOk, IfSome, OnOk, Some};
+ghost use Rattle.std.specs.String.{string_bytes};
+ghost use Rattle.moc_forms.specs.Forms.{FormFails, FormSays, IsUnwritten, form_name, form_text};
+
+use moc_ranges::{Coverage, Memory as MemoryRefused};
+use moc_sphere::Order;
+use moc_text::{
+    JsonError, TextError, UniqError, read_ascii, read_json, read_uniq, write_ascii, write_json,
+    write_uniq,
+};
+use std::alloc::{AllocError, Global};
+use thiserror::Error;
+
+/// A text form.
+#[derive(Clone, Copy, Debug, PartialEq, Eq)]
+pub enum Form {
+    /// The ASCII form of MOC 2.0.
+    Ascii,
+    /// The JSON form of MOC 2.0.
+    Json,
+    /// A NUNIQ number a line.
+    Uniq,
+}
+
+/// Why a text in some form could not be read or written.
+#[derive(Debug, Clone, Copy, PartialEq, Eq, Error)]
+pub enum FormError {
+    #[error("{0}")]
+    Ascii(TextError),
+    #[error("{0}")]
+    Json(JsonError),
+    #[error("{0}")]
+    Uniq(UniqError),
+    #[error("out of memory")]
+    Memory,
+}
+
+impl From<TextError> for FormError {
+    ghost use Rattle.std.specs.Prelude.{◌≡◌};
+    ghost use Rattle.moc_forms.specs.declared.form.FormError.TheVariants as error;
+
+    ghost from_gives = { λ e f. f ≡ error.Ascii e };
+
+    fn from(error: TextError) -> FormError {
+        FormError::Ascii(error)
+    }
+}
+
+impl From<JsonError> for FormError {
+    ghost use Rattle.std.specs.Prelude.{◌≡◌};
+    ghost use Rattle.moc_forms.specs.declared.form.FormError.TheVariants as error;
+
+    ghost from_gives = { λ e f. f ≡ error.Json e };
+
+    fn from(error: JsonError) -> FormError {
+        FormError::Json(error)
+    }
+}
+
+impl From<UniqError> for FormError {
+    ghost use Rattle.std.specs.Prelude.{◌≡◌};
+    ghost use Rattle.moc_forms.specs.declared.form.FormError.TheVariants as error;
+
+    ghost from_gives = { λ e f. f ≡ error.Uniq e };
+
+    fn from(error: UniqError) -> FormError {
+        FormError::Uniq(error)
+    }
+}
+
+impl From<AllocError> for FormError {
+    ghost use Rattle.std.specs.Prelude.{◌≡◌};
+    ghost use Rattle.moc_forms.specs.declared.form.FormError.TheVariants as error;
+
+    ghost from_gives = { λ _ f. f ≡ error.Memory };
+
+    fn from(_error: AllocError) -> FormError {
+        FormError::Memory
+    }
+}
+
+impl From<MemoryRefused> for FormError {
+    ghost use Rattle.std.specs.Prelude.{◌≡◌};
+    ghost use Rattle.moc_forms.specs.declared.form.FormError.TheVariants as error;
+
+    ghost from_gives = { λ _ f. f ≡ error.Memory };
+
+    fn from(_error: MemoryRefused) -> FormError {
+        FormError::Memory
+    }
+}
+
+impl Form {
+    /// The form that the command line calls `ascii`, `json` or `uniq`.
+    pub fn named(word: &str) -> Option<Form>
+        ensures name { IfSome result (λ form. word.now ≡ form_name form) }
+        ensures each { (form : Form) → word.now ≡ form_name form → result ≡ Some form }
+    {
+        match word {
+            "ascii" => Some(Form::Ascii),
+            "json" => Some(Form::Json),
+            "uniq" => Some(Form::Uniq),
+            _ => None,
+        }
+    }
+
+    /// Reads a text: the set, and the deepest order that the text names. A NUNIQ list names none.
+    ///
+    /// One pass over the bytes. Refused with the form's error: the first fault of the text, or want of memory.
+    pub fn read(self, alloc: Global, text: &[u8]) -> Result<(Coverage, Option<Order>), FormError>
+        ensures says { IfOk result (λ r. FormSays self text.now r.0 r.1) }
+        ensures fault { IfErr result (λ e. FormFails self text.now e) }
+    {
+        Ok(match self {
+            Form::Ascii => read_ascii(alloc, text)?,
+            Form::Json => read_json(alloc, text)?,
+            Form::Uniq => (read_uniq(alloc, text)?, None),
+        })
+    }
+
+    /// The text of a set with a stated order, ended by a line feed.
+    ///
+    /// Linear in the number of cells. Refused with the form's error: `TooCoarse` where a cell is deeper than the stated
+    /// order, which a list never states, or want of memory.
+    pub fn write(
+        self,
+        alloc: Global,
+        set: &Coverage,
+        stated: Option<Order>,
+    ) -> Result<String, FormError>
+        ensures text { IfOk result (λ t. string_bytes t ≡ form_text self set.now stated) }
+        ensures fault { IfErr result (λ e. IsUnwritten self set.now stated e) }
+    {
+        let mut text = match self {
+            Form::Ascii => write_ascii(alloc, set, stated)?,
+            Form::Json => write_json(alloc, set, stated)?,
+            // Each line of a list has its line feed.
+            Form::Uniq => return Ok(write_uniq(alloc, set)?),
+        };
+        text.push('\n')?;
+        Ok(text)
+    }
+}

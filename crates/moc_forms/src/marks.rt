@@ -1,0 +1,96 @@
+//! Which cells of a set are drawn, and how dark.
+ghost use Rattle.std.specs.Prelude.{◌≡◌, ◌++◌, ◌<◌, true, IfOk, OnOk};
+ghost use Rattle.moc_sphere.specs.CellNumber.{cell_count};
+ghost use Rattle.moc_ranges.specs.Cells.{span};
+ghost use Rattle.moc_ranges.specs.Operations.{meets};
+ghost use Rattle.moc_forms.specs.Drawing.{marks_of, partial_below, partial_mark, shade_of, whole_marks};
+
+use moc_ranges::{Coverage, Memory};
+use moc_sphere::{Cell, Order};
+use std::alloc::{AllocError, Global};
+
+/// The deepest order whose cells are drawn.
+const DEEPEST: u8 = 7;
+
+/// How many pixels of order 29 a cell of it has: 4^22.
+const CELL_SIZE: u64 = 17592186044416;
+
+/// A quarter of them.
+const QUARTER: u64 = 4398046511104;
+
+/// The darkest shade.
+const DARKEST: u64 = 4;
+
+/// The cells that are drawn, with their shades from 1 to 4: those of the set of order 7 or less, and the cells of order
+/// 7 that its deeper cells fill in part.
+#[tactic(auto, unfolding(crate::specs::Drawing::marks_of))]
+pub fn marks(alloc: Global, set: &Coverage) -> Result<Vec<(Cell, u64)>, Memory>
+    ensures { IfOk result (λ v. v.items ≡ marks_of set.now) }
+{
+    let cells = set.cells(alloc)?;
+    let mut marks = Vec::new(alloc);
+    push_whole(&mut marks, &cells)?;
+    push_all_partial(alloc, &mut marks, set)?;
+    Ok(marks)
+}
+
+/// Adds the cells of order 7 or less, whole.
+#[tactic(auto, unfolding(crate::specs::Drawing::whole_marks))]
+fn push_whole(marks: &mut Vec<(Cell, u64)>, cells: &[Cell]) -> Result<(), AllocError>
+    ensures { OnOk result (marks.new.items ≡ marks.old.items ++ whole_marks cells.now) }
+{
+    for cell in cells {
+        if cell.order().get() <= DEEPEST {
+            marks.push((*cell, DARKEST))?;
+        }
+    }
+    Ok(())
+}
+
+/// Adds the cells of order 7 that the set fills in part, by rising index: goes from each that it meets to the next.
+fn push_all_partial(
+    alloc: Global,
+    marks: &mut Vec<(Cell, u64)>,
+    set: &Coverage,
+) -> Result<(), Memory>
+    ensures { OnOk result (marks.new.items ≡ marks.old.items ++ partial_below set.now (cell_count 7)) }
+{
+    let mut index = 0;
+    while let Some(pixel) = set.next_pixel(index * CELL_SIZE) {
+        index = pixel / CELL_SIZE;
+        push_partial(alloc, marks, set, index)?;
+        index += 1;
+    }
+    Ok(())
+}
+
+/// Adds a cell of order 7 if the set fills it in part.
+#[tactic(auto, unfolding(crate::specs::Drawing::is_partial))]
+fn push_partial(
+    alloc: Global,
+    marks: &mut Vec<(Cell, u64)>,
+    set: &Coverage,
+    index: u64,
+) -> Result<(), Memory>
+    requires { index < cell_count 7 }
+    ensures { OnOk result (marks.new.items ≡ marks.old.items ++ partial_mark set.now index) }
+{
+    let cell = Cell::of(Order::of(DEEPEST), index);
+    if set.meets_cell(cell) && !set.contains_cell(cell) {
+        let shade = shade(alloc, set, cell)?;
+        marks.push((cell, shade))?;
+    }
+    Ok(())
+}
+
+/// The shade of a cell of order 7 that the set meets.
+#[tactic(auto, unfolding(crate::specs::Drawing::shade_of, moc_ranges::specs::Operations::meets))]
+fn shade(alloc: Global, set: &Coverage, cell: Cell) -> Result<u64, Memory>
+    requires order { cell.order ≡ 7 }
+    requires met { meets set.now (span cell.order cell.index) ≡ true }
+    ensures { IfOk result (λ s. s ≡ shade_of set.now cell.index) }
+{
+    let pixels = Coverage::from_cell(alloc, cell)?;
+    let count = set.count_common(&pixels);
+    Ok(1 + (count - 1) / QUARTER)
+}

@@ -1,0 +1,79 @@
+//! Where a text is at fault.
+ghost use Rattle.std.specs.Prelude.{◌≡◌, ◌++◌, OnOk};
+ghost use Rattle.std.specs.String.{string_bytes};
+ghost use Rattle.moc_forms.specs.Places.{byte_place, place_text};
+
+use crate::texts::push_count;
+use moc_sphere::Order;
+use std::alloc::AllocError;
+
+/// Where a text is at fault. Lines are counted from 1, and so is a column; all else from 0.
+#[derive(Clone, Copy, Debug, PartialEq, Eq)]
+pub enum Place {
+    /// A byte of an ASCII text: its place in the text, its line, and how many bytes of the line stand before it.
+    Byte {
+        at: usize,
+        line: usize,
+        column: usize,
+    },
+    /// A line of a NUNIQ list.
+    Line(usize),
+    /// Where `serde_json` stops reading.
+    Stop {
+        line: usize,
+        column: usize,
+    },
+    /// A name of a JSON object that is no order, in byte order.
+    Name(usize),
+    /// An order of a JSON object.
+    Order(Order),
+    /// A number in the array of an order of a JSON object.
+    Number {
+        order: Order,
+        number: usize,
+    },
+}
+
+impl Place {
+    /// The place of a byte, or of the end where the text has no such byte. Linear in the bytes before it.
+    pub fn of_byte(text: &[u8], at: usize) -> Place
+        ensures { result ≡ byte_place text.now at }
+    {
+        let mut line = 1;
+        let mut column = 0;
+        for byte in &text[..at.min(text.len())] {
+            if *byte == b'\n' {
+                line += 1;
+                column = 0;
+            } else {
+                column += 1;
+            }
+        }
+        Place::Byte { at, line, column }
+    }
+
+    /// Adds what `moc check` says of a place, without a line feed.
+    pub fn push_to(self, text: &mut String) -> Result<(), AllocError>
+        ensures { OnOk result (string_bytes text.new ≡ string_bytes text.old ++ place_text self) }
+    {
+        match self {
+            Place::Byte { at, line, column } => {
+                push_count(text, "byte ", at as u64)?;
+                push_count(text, ", line ", line as u64)?;
+                push_count(text, ", byte ", column as u64)?;
+                text.push_str(" of it")
+            }
+            Place::Line(line) => push_count(text, "line ", line as u64),
+            Place::Stop { line, column } => {
+                push_count(text, "line ", line as u64)?;
+                push_count(text, ", column ", column as u64)
+            }
+            Place::Name(name) => push_count(text, "name ", name as u64),
+            Place::Order(order) => push_count(text, "order ", u64::from(order.get())),
+            Place::Number { order, number } => {
+                push_count(text, "order ", u64::from(order.get()))?;
+                push_count(text, ", number ", number as u64)
+            }
+        }
+    }
+}

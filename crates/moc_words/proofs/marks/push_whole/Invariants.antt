@@ -1,7 +1,0 @@
-use Rattle.std.proofs.Common.{◌≡◌, ◌++◌, drop}
-use Rattle.moc_words.specs.Drawing.{whole_marks}
-use Rattle.moc_words.proofs.marks.push_whole.Given as goal
-
-abbrev pub invariant-loop-cell : goal.invariant-loop-cell
-invariant-loop-cell l =
-    l.marks.items ++ whole_marks (drop l.cell-index l.cells) ≡ l.fn.marks.items ++ whole_marks l.cells

@@ -1,0 +1,25 @@
+//! Answers a script of four lines by two lanes, and says how the crew ended and how many lines it wrote.
+
+use anyhow::{Result, bail};
+use moc_script::{Lanes, OpenGate, OverReader, OverWriter, crew};
+
+/// A blank line, and four that are answered, two by each lane.
+const SCRIPT: &[u8] = b"add 0/0\nadd 0/1\n\ncount 0/0\ncount 0/1\n";
+
+/// Tells how the crew ends.
+pub fn tell(rt: &HostRuntime) -> Result<()> {
+    let Some(lanes) = Lanes::new(2) else {
+        bail!("no lanes");
+    };
+    let mut room = [0u8; 256];
+    let mut source = OverReader::new(SCRIPT);
+    let mut sink = OverWriter::new(room.as_mut_slice());
+    let result = crew(rt, rt.alloc(), &mut source, &mut sink, lanes, &OpenGate);
+    drop(sink);
+    let lines = room.iter().filter(|byte| **byte == b'\n').count();
+    match result {
+        Ok(()) => println!(rt; "the end behind {lines} lines")?,
+        Err(error) => println!(rt; "{error} behind {lines} lines")?,
+    }
+    Ok(())
+}

@@ -1,0 +1,33 @@
+//! Inverts a map of one base pixel, and says how the map is left: `inverted`, `unchanged` where memory was refused, or
+//! else `spoiled`.
+
+use anyhow::Result;
+use moc_parts::{Batch, Command, Map, Part};
+use moc_ranges::Coverage;
+
+/// How many pixels a base pixel has: 4^29.
+const BASE_PIXEL_SIZE: u64 = 288230376151711744;
+
+/// Whether the first part has so many pixels, and each other part so many.
+fn has_counts(map: &Map, first: u64, others: u64) -> bool {
+    let is_first = map.part(Part::of(0)).count() == first;
+    is_first && (1u8..12).all(|b| map.part(Part::of(b)).count() == others)
+}
+
+/// Tells how the inversion comes out.
+pub fn tell(rt: &HostRuntime) -> Result<()> {
+    let alloc = rt.alloc();
+    let start = Coverage::from_ranges(alloc, &[(0, BASE_PIXEL_SIZE)])?;
+    let mut map = Map::new(alloc, start)?;
+    let batch = Batch::one(alloc, Command::Invert)?;
+    let is_done = map.apply(alloc, &batch).is_ok();
+    let outcome = if is_done && has_counts(&map, 0, BASE_PIXEL_SIZE) {
+        "inverted"
+    } else if !is_done && has_counts(&map, BASE_PIXEL_SIZE, 0) {
+        "unchanged"
+    } else {
+        "spoiled"
+    };
+    println!(rt; "{outcome}")?;
+    Ok(())
+}

@@ -1,5 +1,0 @@
-use Rattle.moc_shared.specs.Clients.{IsClientOf}
-use Rattle.shared_tests.proofs.tests.add_cells.Given as goal
-
-abbrev pub invariant-loop-j : goal.invariant-loop-j
-invariant-loop-j l = IsClientOf l.map l.client

@@ -1,5 +1,0 @@
-use Rattle.moc_shared.specs.Clients.{IsClientOf}
-use Rattle.shared_tests.proofs.tests.come_and_go.Given as goal
-
-abbrev pub invariant-loop : goal.invariant-loop
-invariant-loop g l = IsClientOf l.map l.client

@@ -1,5 +1,0 @@
-//! Rows of the three forms of text.
-#![tactic(auto)]
-
-#[cfg(test)]
-mod tests;

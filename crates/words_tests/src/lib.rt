@@ -1,5 +1,0 @@
-//! What is told of texts, and their pictures.
-#![tactic(auto)]
-
-#[cfg(test)]
-mod tests;
