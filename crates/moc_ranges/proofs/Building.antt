@@ -11,22 +11,10 @@ use Rattle.moc_ranges.specs.Pixels.{pixel_count}
 use Rattle.moc_ranges.specs.Private.Sorted.{IsSortedFrom}
 use Rattle.moc_ranges.specs.RangeList.{IsNormal, in_range, in_ranges}
 use Rattle.moc_ranges.specs.Private.Blocks.{joining, last_of, AreBlocks}
-use Rattle.moc_ranges.specs.Private.Built.{IsBuilt, IsOpen, CanJoin, EndsBelow, BeginsBy, kept_of, first_length, last_length}
+use Rattle.moc_ranges.specs.Private.Built.{IsBuilt, IsOpen, AreNodes, CanJoin, EndsBelow, BeginsBy, kept_of, first_length, last_length}
+use Rattle.moc_ranges.proofs.Filling.{last_length-append, filled_longer, filled_append, some_blocks, no_nodes}
 use Rattle.moc_ranges.proofs.Blocking.{IsNormal-prefix, IsNormal-suffix, nothing_more, joining-append, joining-last, last_of-get}
 use Rattle.moc_ranges.proofs.Merging.{ends_by_last, normal_append, in_ranges-append, EndsBelow-append, EndsBelow-first, EndsBelow-more, ends_second, begins_of_ends, ends_next, or_false}
-
-pub last_length-get : (bs : List (List (ℕ × ℕ))) (d : List (ℕ × ℕ)) (i : ℕ) → i + 1 ≡ length bs → last_length bs ≡ length (get_or bs i d)
-last_length-get [] d i e = absurd (omega arith)
-last_length-get (b ∷ []) d zero e = refl
-last_length-get (b ∷ []) d (suc i) e = absurd (omega arith)
-last_length-get (b ∷ (c ∷ bs)) d zero e = absurd (omega arith)
-last_length-get (b ∷ (c ∷ bs)) d (suc i) e = last_length-get (c ∷ bs) d i (omega arith)
-
-pub last_length-append : (bs cs : List (List (ℕ × ℕ))) → 0 < length cs → last_length (bs ++ cs) ≡ last_length cs
-last_length-append [] cs some = refl
-last_length-append (b ∷ []) [] some = absurd (omega arith)
-last_length-append (b ∷ []) (c ∷ cs) some = refl
-last_length-append (b ∷ (b' ∷ bs)) cs some = last_length-append (b' ∷ bs) cs some
 
 length_in : (ns : List (List (List (ℕ × ℕ)))) (d : List (List (ℕ × ℕ))) (i : ℕ) → i < length ns → 0 < length (get_or ns i d) → 0 < length (joining ns)
 length_in [] d i lt filled = absurd (omega arith)
@@ -40,28 +28,11 @@ last_length-nodes (n ∷ []) d (suc i) e filled = absurd (omega arith)
 last_length-nodes (n ∷ (m ∷ ns)) d zero e filled = absurd (omega arith)
 last_length-nodes (n ∷ (m ∷ ns)) d (suc i) e filled = last_length-append n (joining (m ∷ ns)) (length_in (m ∷ ns) d i (omega arith) filled) ∙ last_length-nodes (m ∷ ns) d i (omega arith) filled
 
-pub last_fits : (bs : List (List (ℕ × ℕ))) → AreBlocks bs → last_length bs ≤ 128
-last_fits [] ok = omega arith
-last_fits (b ∷ []) ok = ok.1
-last_fits (b ∷ (c ∷ bs)) ok = last_fits (c ∷ bs) ok.3
-
 pub reached_by_read : (f : ℕ) (rs : List (ℕ × ℕ)) (last : ℕ × ℕ) (i : ℕ) → i + 1 ≡ length rs → last ≡ get_or rs i last → f ≤ last.1 → f ≤ last_of rs
 reached_by_read f rs last i e is le = omega (arith, last_of-get rs last i e, ap (λ p. p.1) is)
 
 pub ends_by_read : (f : ℕ) (rs : List (ℕ × ℕ)) (last : ℕ × ℕ) (i : ℕ) → IsNormal rs → i + 1 ≡ length rs → last ≡ get_or rs i last → last.1 < f → EndsBelow f rs
 ends_by_read f rs last i normal e is lt = ends_by_last f rs normal (omega (arith, last_of-get rs last i e, ap (λ p. p.1) is))
-
--- a block more at the end
-pub AreBlocks-add : (bs : List (List (ℕ × ℕ))) (block : List (ℕ × ℕ)) → AreBlocks bs → (0 < last_length bs → 128 < last_length bs + length block) → 0 < length block → length block ≤ 128 → AreBlocks (bs ++ block ∷ [])
-AreBlocks-add [] block ok apart some le = (some, le, tt, tt)
-AreBlocks-add (a ∷ []) block ok apart some le = (ok.0, ok.1, apart ok.0, (some, le, tt, tt))
-AreBlocks-add (a ∷ (b ∷ bs)) block ok apart some le = (ok.0, ok.1, ok.2, AreBlocks-add (b ∷ bs) block ok.3 apart some le)
-
--- a longer block in place of the last
-pub AreBlocks-longer : (bs : List (List (ℕ × ℕ))) (last longer : List (ℕ × ℕ)) → AreBlocks (bs ++ last ∷ []) → length last ≤ length longer → length longer ≤ 128 → AreBlocks (bs ++ longer ∷ [])
-AreBlocks-longer [] last longer ok more le = (omega arith, le, tt, tt)
-AreBlocks-longer (a ∷ []) last longer ok more le = (ok.0, ok.1, omega arith, (omega arith, le, tt, tt))
-AreBlocks-longer (a ∷ (b ∷ bs)) last longer ok more le = (ok.0, ok.1, ok.2, AreBlocks-longer (b ∷ bs) last longer ok.3 more le)
 
 -- the last block was joined with another
 pub joined_sized : (node init bs bs' : List (List (ℕ × ℕ))) (stack : List (List (ℕ × ℕ))) (last block : List (ℕ × ℕ)) → node ++ bs ≡ stack → AreBlocks stack → bs ≡ init ++ last ∷ [] → bs' ≡ init ++ (last ++ block) ∷ [] → last_length stack + length block ≤ 128 → AreBlocks (node ++ bs')
@@ -69,7 +40,7 @@ joined_sized node init bs bs' stack last block same ok old new room =
     let whole : stack ≡ (node ++ init) ++ last ∷ [] = sym same ∙ ap (λ (l : List (List (ℕ × ℕ))). node ++ l) old ∙ sym (append_assoc node init (last ∷ [])) in
     let len : last_length stack ≡ length last = ap last_length whole ∙ last_length-append (node ++ init) (last ∷ []) (omega arith) in
     let made : node ++ bs' ≡ (node ++ init) ++ (last ++ block) ∷ [] = ap (λ (l : List (List (ℕ × ℕ))). node ++ l) new ∙ sym (append_assoc node init ((last ++ block) ∷ [])) in
-    subst AreBlocks (sym made) (AreBlocks-longer (node ++ init) last (last ++ block) (subst AreBlocks whole ok) (omega (arith, length-append last block)) (omega (arith, length-append last block)))
+    subst AreBlocks (sym made) (filled_longer 128 (node ++ init) last (last ++ block) (subst AreBlocks whole ok) (omega (arith, length-append last block)) (omega (arith, length-append last block)))
 
 pub joined_all : (node init bs bs' : List (List (ℕ × ℕ))) (stack : List (List (ℕ × ℕ))) (last block : List (ℕ × ℕ)) → node ++ bs ≡ stack → bs ≡ init ++ last ∷ [] → bs' ≡ init ++ (last ++ block) ∷ [] → joining (node ++ bs') ≡ joining stack ++ block
 joined_all node init bs bs' stack last block same old new =
@@ -146,6 +117,7 @@ longer_built ns bs rs rs' init last to built old new within =
     let end : last.1 ≤ pixel_count = (IsNormal-suffix (all ++ init) (last ∷ []) normal).1 in
     record {
       sized = built.sized;
+      wide = built.wide;
       fits = omega (arith, built.fits, ap length old, ap length new, length-append init (last ∷ []), length-append init ((last.0, max last.1 to) ∷ []));
       normal = subst IsNormal (sym made) (longer_normal (all ++ init) last (max last.1 to) normal (omega arith) (omega arith));
     }
@@ -181,6 +153,7 @@ filled_built ns bs rs rs' kept ranges k built same new room normal =
     let parts : kept ++ ranges ≡ (kept ++ take k ranges) ++ drop k ranges = ap (λ (l : List (ℕ × ℕ)). kept ++ l) (sym (take-append-drop k ranges)) ∙ sym (append_assoc kept (take k ranges) (drop k ranges)) in
     record {
       sized = built.sized;
+      wide = built.wide;
       fits = omega (arith, ap length new, length-append rs (take k ranges), length-take k ranges);
       normal = subst IsNormal (sym made) (IsNormal-prefix (kept ++ take k ranges) (drop k ranges) (subst IsNormal parts normal));
     }
@@ -191,19 +164,10 @@ pushed_built ns bs rs rs' kept range built same room new filled within below =
     let made : kept_of ns bs rs' ≡ kept_of ns bs rs ++ range ∷ [] = ap (λ (l : List (ℕ × ℕ)). joining (joining ns ++ bs) ++ l) new ∙ sym (append_assoc (joining (joining ns ++ bs)) rs (range ∷ [])) in
     record {
       sized = built.sized;
+      wide = built.wide;
       fits = omega (arith, ap length new, length-append rs (range ∷ []));
       normal = subst IsNormal (sym made) (pushed_normal (kept_of ns bs rs) range built.normal filled within (subst (λ (l : List (ℕ × ℕ)). EndsBelow range.0 l) (sym same) below));
     }
-
-pub AreBlocks-suffix : (bs cs : List (List (ℕ × ℕ))) → AreBlocks (bs ++ cs) → AreBlocks cs
-AreBlocks-suffix [] cs ok = ok
-AreBlocks-suffix (b ∷ bs) cs ok = AreBlocks-suffix bs cs ok.3
-
-pub AreBlocks-append : (bs cs : List (List (ℕ × ℕ))) → AreBlocks bs → AreBlocks cs → (0 < last_length bs → 128 < last_length bs + first_length cs) → AreBlocks (bs ++ cs)
-AreBlocks-append [] cs ok more seam = more
-AreBlocks-append (b ∷ []) [] ok more seam = ok
-AreBlocks-append (b ∷ []) (c ∷ cs) ok more seam = (ok.0, ok.1, seam ok.0, more)
-AreBlocks-append (b ∷ (b' ∷ bs)) cs ok more seam = (ok.0, ok.1, ok.2, AreBlocks-append (b' ∷ bs) cs ok.3 more seam)
 
 -- a node was put behind
 pub stack_noded : (ns ns' : List (List (List (ℕ × ℕ)))) (node bs stack : List (List (ℕ × ℕ))) → joining ns ++ bs ≡ stack → bs ≡ [] → ns' ≡ ns ++ node ∷ [] → joining ns' ++ bs ≡ stack ++ node
@@ -215,9 +179,10 @@ pub node_kept : (ns : List (List (List (ℕ × ℕ)))) (bs stack node : List (Li
 node_kept ns bs stack node rs kept same none is =
     (λ i. joining (same i) ++ none i) ∙ nothing_more (joining (stack ++ node)) ∙ joining-append stack node ∙ ap (λ (l : List (ℕ × ℕ)). l ++ joining node) is
 
-pub node_built : (ns : List (List (List (ℕ × ℕ)))) (bs stack node : List (List (ℕ × ℕ))) (rs kept : List (ℕ × ℕ)) → joining ns ++ bs ≡ stack ++ node → rs ≡ [] → joining stack ≡ kept → AreBlocks stack → AreBlocks node → (0 < last_length stack → 128 < last_length stack + first_length node) → IsNormal (kept ++ joining node) → IsBuilt ns bs rs
-node_built ns bs stack node rs kept same none is ok more seam normal = record {
-  sized = subst AreBlocks (sym same) (AreBlocks-append stack node ok more seam);
+pub node_built : (ns : List (List (List (ℕ × ℕ)))) (bs stack node : List (List (ℕ × ℕ))) (rs kept : List (ℕ × ℕ)) → joining ns ++ bs ≡ stack ++ node → rs ≡ [] → joining stack ≡ kept → AreBlocks stack → AreBlocks node → (0 < last_length stack → 128 < last_length stack + first_length node) → AreNodes ns bs → IsNormal (kept ++ joining node) → IsBuilt ns bs rs
+node_built ns bs stack node rs kept same none is ok more seam wide normal = record {
+  wide = wide;
+  sized = subst AreBlocks (sym same) (filled_append 128 stack node ok more seam);
   fits = omega (arith, ap length none);
   normal = subst IsNormal (sym (node_kept ns bs stack node rs kept same none is)) normal;
 }
@@ -226,8 +191,9 @@ node_built ns bs stack node rs kept same none is ok more seam normal = record {
 pub sealed_all : (all rs kept : List (ℕ × ℕ)) → all ++ rs ≡ kept → rs ≡ [] → all ≡ kept
 sealed_all all rs kept same none = sym (nothing_more all) ∙ ap (λ (l : List (ℕ × ℕ)). all ++ l) (sym none) ∙ same
 
-pub each_built : (ns : List (List (List (ℕ × ℕ)))) (bs : List (List (ℕ × ℕ))) (rs kept node : List (ℕ × ℕ)) → AreBlocks (joining ns ++ bs) → joining (joining ns ++ bs) ≡ kept ++ node → rs ≡ [] → IsNormal (kept ++ node) → IsBuilt ns bs rs
-each_built ns bs rs kept node ok same none normal = record {
+pub each_built : (ns : List (List (List (ℕ × ℕ)))) (bs : List (List (ℕ × ℕ))) (rs kept node : List (ℕ × ℕ)) → AreBlocks (joining ns ++ bs) → AreNodes ns bs → joining (joining ns ++ bs) ≡ kept ++ node → rs ≡ [] → IsNormal (kept ++ node) → IsBuilt ns bs rs
+each_built ns bs rs kept node ok wide same none normal = record {
+  wide = wide;
   sized = ok;
   fits = omega (arith, ap length none);
   normal = subst IsNormal (sym ((λ i. same i ++ none i) ∙ nothing_more (kept ++ node))) normal;
@@ -272,13 +238,6 @@ test_reached f rs d i e =
       | true ↦ λ t. tt
       | false ↦ λ t. let ge = ltb-false (get_or rs i d).1 f t in omega (arith, last_of-get rs d i e)
     ] refl
-
-pub length_read : (bs : List (List (ℕ × ℕ))) (last : List (ℕ × ℕ)) (i : ℕ) → i + 1 ≡ length bs → last ≡ get_or bs i last → length last ≡ last_length bs
-length_read bs last i e is = ap length is ∙ sym (last_length-get bs last i e)
-
-pub some_blocks : (bs : List (List (ℕ × ℕ))) → 0 < length (joining bs) → 0 < length bs
-some_blocks [] some = absurd (omega arith)
-some_blocks (b ∷ bs) some = omega arith
 
 pub node_read : (ns : List (List (List (ℕ × ℕ)))) (last : List (List (ℕ × ℕ))) (i : ℕ) → i + 1 ≡ length ns → last ≡ get_or ns i last → 0 < length (joining last) → last_length last ≡ last_length (joining ns)
 node_read ns last i e is some = ap last_length is ∙ sym (last_length-nodes ns last i e (subst (λ (l : List (List (ℕ × ℕ))). 0 < length l) is (some_blocks last some)))
@@ -351,7 +310,7 @@ pub lengthened_start : (ns : List (List (List (ℕ × ℕ)))) (bs : List (List (
 lengthened_start ns bs rs rest whole last n b r sorted is =
     let parts = subst (λ (l : List (ℕ × ℕ)). IsSortedFrom 0 l) is sorted in
     let start : IsLengthened [] [] [] last rest whole = record {
-      opened = record { built = record { sized = tt; fits = omega arith; normal = tt }; normal = (parts.1, parts.2, tt, tt) };
+      opened = record { built = record { sized = tt; wide = no_nodes; fits = omega arith; normal = tt }; normal = (parts.1, parts.2, tt, tt) };
       sorted = parts.3;
       same = λ q. ap (λ b. b || in_ranges rest q) (or_false (in_range last q)) ∙ ap (λ (l : List (ℕ × ℕ)). in_ranges l q) (sym is);
     } in

@@ -8,6 +8,7 @@ use Rattle.moc_ranges.specs.Private.Blocks.{next_of}
 use Rattle.moc_ranges.specs.Private.Built.{IsBuilt, EndsBelow, Carries, kept_of}
 use Rattle.moc_ranges.specs.Private.Walks.{begun, EndsBy, Advances}
 use Rattle.moc_ranges.proofs.Merging.{ends_next, or_false, next_later, in_ranges-append, EndsBelow-append, EndsBelow-more}
+use Rattle.moc_ranges.proofs.Filling.{no_nodes}
 use Rattle.moc_ranges.proofs.Blocking.{IsNormal-suffix}
 use Rattle.moc_ranges.proofs.Turning.{or_first}
 use Rattle.moc_ranges.proofs.Walking.{later_only, Steps, begun_is}
@@ -67,7 +68,7 @@ pub lacking_begin : (ns : List (List (List (ℕ × ℕ)))) (bs : List (List (ℕ
 lacking_begin ns bs rs xs ys u s n b e nx ny su =
     let by = begun_is ys s u su in
     let start : IsLacking [] [] [] xs ys xs ys = record {
-      built = record { sized = tt; fits = omega arith; normal = tt };
+      built = record { sized = tt; wide = no_nodes; fits = omega arith; normal = tt };
       first_normal = nx;
       second_normal = ny;
       below = tt;

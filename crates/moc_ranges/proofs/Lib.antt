@@ -1,5 +1,6 @@
 pub mod Views
 pub mod Blocking
+pub mod Filling
 pub mod Building
 pub mod Merging
 pub mod Turning

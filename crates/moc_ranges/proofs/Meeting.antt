@@ -8,6 +8,7 @@ use Rattle.moc_ranges.specs.Private.Blocks.{next_of}
 use Rattle.moc_ranges.specs.Private.Built.{IsBuilt, EndsBelow, Carries, TakesCommon, kept_of}
 use Rattle.moc_ranges.specs.Private.Walks.{begun, EndsBy, Advances}
 use Rattle.moc_ranges.proofs.Merging.{next_later, ends_next, in_ranges-append, or_false, EndsBelow-append, EndsBelow-more}
+use Rattle.moc_ranges.proofs.Filling.{no_nodes}
 use Rattle.moc_ranges.proofs.Blocking.{IsNormal-suffix}
 use Rattle.moc_ranges.proofs.CarriedOver.{carried_after}
 use Rattle.moc_ranges.proofs.Turning.{or_first}
@@ -47,7 +48,7 @@ meeting_start ns bs rs xs ys t u r s n b e nx ny rt su =
     let bx = begun_is xs r t rt in
     let by = begun_is ys s u su in
     let start : IsMeeting [] [] [] xs ys xs ys = record {
-      built = record { sized = tt; fits = omega arith; normal = tt };
+      built = record { sized = tt; wide = no_nodes; fits = omega arith; normal = tt };
       first_normal = nx;
       second_normal = ny;
       below = tt;

@@ -4,6 +4,7 @@ use Rattle.std.proofs.lemmas.List.Folds.{list_any-append}
 use Rattle.moc_ranges.specs.RangeList.{IsNormal, in_range, in_ranges}
 use Rattle.moc_ranges.specs.Private.Blocks.{joining, last_of, next_of}
 use Rattle.moc_ranges.specs.Private.Built.{IsBuilt, CanJoin, TakesOver, EndsBelow, BeginsBy, kept_of}
+use Rattle.moc_ranges.proofs.Filling.{no_nodes}
 use Rattle.moc_ranges.proofs.Blocking.{IsNormal-prefix, IsNormal-suffix}
 
 pub in_ranges-append : (rs ss : List (ℕ × ℕ)) (q : ℕ) → in_ranges (rs ++ ss) q ≡ (in_ranges rs q || in_ranges ss q)
@@ -146,7 +147,7 @@ pub record IsUniting (ns : List (List (List (ℕ × ℕ)))) (bs : List (List (�
 pub uniting_start : (ns : List (List (List (ℕ × ℕ)))) (bs : List (List (ℕ × ℕ))) (rs xs ys : List (ℕ × ℕ)) → ns ≡ [] → bs ≡ [] → rs ≡ [] → IsNormal xs → IsNormal ys → IsUniting ns bs rs xs ys xs ys
 uniting_start ns bs rs xs ys n b r nx ny =
     let start : IsUniting [] [] [] xs ys xs ys = record {
-      built = record { sized = tt; fits = omega arith; normal = tt };
+      built = record { sized = tt; wide = no_nodes; fits = omega arith; normal = tt };
       first_normal = nx;
       second_normal = ny;
       can_first = record { before = tt; begun = tt };

@@ -141,6 +141,7 @@ takes_as ns ns' bs bs' rs rs' xs xs' ys ys' us us' vs vs' a b c d t =
 prefix_built : (ns : List (List (List (ℕ × ℕ)))) (bs : List (List (ℕ × ℕ))) (rs rs' : List (ℕ × ℕ)) (last : ℕ × ℕ) → IsBuilt ns bs rs → rs ≡ rs' ++ last ∷ [] → IsBuilt ns bs rs'
 prefix_built ns bs rs rs' last built old = record {
   sized = built.sized;
+  wide = built.wide;
   fits = omega (arith, built.fits, ap length old, length-append rs' (last ∷ []));
   normal = IsNormal-prefix (kept_of ns bs rs') (last ∷ []) (subst IsNormal (open_popped ns bs rs rs' last built old) built.normal);
 }

@@ -8,15 +8,19 @@ abbrev pub joining : {X : Type 0} → List (List X) → List X
 joining [] = []
 joining (xs ∷ more) = xs ++ joining more
 
--- with the block that follows, if one does, it has more ranges than a block may have
-abbrev pub NeedsBoth : List (ℕ × ℕ) → List (List (ℕ × ℕ)) → Type 0
-NeedsBoth block [] = ⊤
-NeedsBoth block (next ∷ blocks) = 128 < length block + length next
+-- with the list that follows, if one does, it has more elements than one list may have
+abbrev pub NeedsBoth : {X : Type 0} → ℕ → List X → List (List X) → Type 0
+NeedsBoth most list [] = ⊤
+NeedsBoth most list (next ∷ lists) = most < length list + length next
+
+-- each list has 1 to so many elements, and two side by side have together more
+abbrev pub AreFilled : {X : Type 0} → ℕ → List (List X) → Type 0
+AreFilled most [] = ⊤
+AreFilled most (list ∷ lists) = (0 < length list) × (length list ≤ most) × NeedsBoth most list lists × AreFilled most lists
 
 -- each block has 1 to 128 ranges, and two side by side have together more than 128
 abbrev pub AreBlocks : List (List (ℕ × ℕ)) → Type 0
-AreBlocks [] = ⊤
-AreBlocks (block ∷ blocks) = (0 < length block) × (length block ≤ 128) × NeedsBoth block blocks × AreBlocks blocks
+AreBlocks blocks = AreFilled 128 blocks
 
 -- blocks that keep a set: their ranges, one block after the other, are its normal range list
 pub record AreBlocksOf (a : NumberSet) (blocks : List (List (ℕ × ℕ))) : Type 0 where

@@ -41,9 +41,9 @@ const BASE_PIXEL_SIZE: u64 = 288230376151711744;
 /// A set of pixels of order 29, by their nested numbers: a coverage of MOC 2.0.
 ///
 /// It holds its ranges (from, to) in rising order, none touching the next: up to 128 in one list,
-/// and more in blocks of 1 to 128, of which two side by side have together more than 128. Up to 16
-/// blocks make a node. Copies and results share the blocks that they have in common. Below, n and m
-/// are the numbers of ranges of the sets that a call takes.
+/// and more in blocks of 1 to 128, of which two side by side have together more than 128. Nodes have
+/// 1 to 16 blocks, and two side by side together more than 16. Copies and results share the blocks
+/// that they have in common. Below, n and m are the numbers of ranges of the sets that a call takes.
 #[derive(Debug, Drop)]
 pub struct Coverage {
     /// The ranges of a set that has no nodes.

@@ -4,8 +4,8 @@ ghost use Rattle.std.specs.Bool.{OnTrue, OnFalse};
 ghost use Rattle.moc_ranges.specs.Pixels.{pixel_count};
 ghost use Rattle.moc_ranges.specs.RangeList.{IsNormal, in_ranges, in_range, set_of};
 ghost use Rattle.moc_ranges.specs.Private.Blocks.{joining, AreBlocks, last_of};
-ghost use Rattle.moc_ranges.specs.Private.Built.{IsBuilt, IsOpen, kept_of, first_length, last_length, EndsBelow};
-ghost use Rattle.moc_ranges.specs.Private.Built.{CanJoin};
+ghost use Rattle.moc_ranges.specs.Private.Built.{IsBuilt, IsOpen, AreNodes, kept_of, first_length, last_length, last_width};
+ghost use Rattle.moc_ranges.specs.Private.Built.{CanJoin, EndsBelow};
 
 use crate::block::{Block, LONGEST};
 use crate::coverage::Coverage;
@@ -136,25 +136,36 @@ impl ListBuilder {
         last > 0 && last <= LONGEST - count
     }
 
-    /// Makes a node of the blocks that are in none, where they are enough.
+    /// Makes room for a block: where there are as many behind the nodes as a node may have, they become one; where there are
+    /// none, the last node is opened if it has fewer.
     fn make_room(&mut self, alloc: Global) -> Result<(), AllocError>
         requires sized { AreBlocks (joining self.old.nodes.items ++ self.old.blocks.items) }
+        requires wide { AreNodes self.old.nodes.items self.old.blocks.items }
         requires normal { IsNormal (joining (joining self.old.nodes.items ++ self.old.blocks.items)) }
         ensures blocks { OnOk result (joining self.new.nodes.items ++ self.new.blocks.items ≡ joining
             self.old.nodes.items ++ self.old.blocks.items) }
+        ensures wide { OnOk result (AreNodes self.new.nodes.items self.new.blocks.items) }
+        ensures room { OnOk result (length self.new.blocks.items < WIDEST) }
+        ensures alone { OnOk result (length self.new.blocks.items ≡ 0 → 0 < last_length self.new.nodes.items → WIDEST ≤
+            last_length self.new.nodes.items) }
         ensures ranges { self.new.ranges.items ≡ self.old.ranges.items }
     {
-        if self.blocks.len() < WIDEST {
-            return Ok(());
+        let last = width_of_last(&self.nodes, &self.blocks);
+        if last >= WIDEST {
+            return self.seal_node(alloc);
         }
-        self.seal_node(alloc)?;
-        Ok(())
+        self.reopen(alloc)
     }
 
     /// Makes blocks of the last node where there are none behind it.
     fn reopen(&mut self, alloc: Global) -> Result<(), AllocError>
+        requires wide { AreNodes self.old.nodes.items self.old.blocks.items }
         ensures blocks { OnOk result (joining self.new.nodes.items ++ self.new.blocks.items ≡ joining
             self.old.nodes.items ++ self.old.blocks.items) }
+        ensures wide { OnOk result (AreNodes self.new.nodes.items self.new.blocks.items) }
+        ensures width { OnOk result (length self.new.blocks.items ≡ last_width self.old.nodes.items
+            self.old.blocks.items) }
+        ensures alone { OnOk result (length self.new.blocks.items ≡ 0 → last_length self.new.nodes.items ≡ 0) }
         ensures ranges { self.new.ranges.items ≡ self.old.ranges.items }
         ensures some { OnOk result (0 < last_length (joining self.old.nodes.items ++ self.old.blocks.items) → 0 <
             length self.new.blocks.items) }
@@ -171,10 +182,12 @@ impl ListBuilder {
     /// Adds a block behind the others, or joins it to the last if the two fit into one.
     pub fn push_block(&mut self, alloc: Global, block: Block) -> Result<(), AllocError>
         requires sized { AreBlocks (joining self.old.nodes.items ++ self.old.blocks.items) }
+        requires wide { AreNodes self.old.nodes.items self.old.blocks.items }
         requires some { 0 < length block }
         requires fits { length block ≤ LONGEST }
         requires normal { IsNormal (joining (joining self.old.nodes.items ++ self.old.blocks.items) ++ block) }
         ensures sized { OnOk result (AreBlocks (joining self.new.nodes.items ++ self.new.blocks.items)) }
+        ensures wide { OnOk result (AreNodes self.new.nodes.items self.new.blocks.items) }
         ensures joining { OnOk result (joining (joining self.new.nodes.items ++ self.new.blocks.items) ≡ joining
             (joining self.old.nodes.items ++ self.old.blocks.items) ++ block) }
         ensures ranges { self.new.ranges.items ≡ self.old.ranges.items }
@@ -192,9 +205,13 @@ impl ListBuilder {
     /// Makes a node of the blocks that are in none.
     fn seal_node(&mut self, alloc: Global) -> Result<(), AllocError>
         requires sized { AreBlocks (joining self.old.nodes.items ++ self.old.blocks.items) }
+        requires wide { AreNodes self.old.nodes.items self.old.blocks.items }
         requires normal { IsNormal (joining (joining self.old.nodes.items ++ self.old.blocks.items)) }
         ensures blocks { OnOk result (joining self.new.nodes.items ++ self.new.blocks.items ≡ joining
             self.old.nodes.items ++ self.old.blocks.items) }
+        ensures wide { OnOk result (AreNodes self.new.nodes.items self.new.blocks.items) }
+        ensures width { OnOk result (last_length self.new.nodes.items ≡ last_width self.old.nodes.items
+            self.old.blocks.items) }
         ensures ranges { self.new.ranges.items ≡ self.old.ranges.items }
         ensures none { OnOk result (self.new.blocks.items ≡ []) }
     {
@@ -227,24 +244,28 @@ impl ListBuilder {
     }
 
     /// Whether a node can stand behind the blocks as it is: its first block joins none, and its
-    /// blocks do not fit beside others.
+    /// blocks do not fit beside those of the last node.
     fn takes_whole(&self, node: &Node) -> bool
-        ensures { OnTrue result (0 < last_length (joining self.now.nodes.items ++ self.now.blocks.items) → LONGEST <
+        ensures blocks { OnTrue result (0 < last_length (joining self.now.nodes.items ++ self.now.blocks.items) → LONGEST <
             last_length (joining self.now.nodes.items ++ self.now.blocks.items) + first_length node.now) }
+        ensures nodes { OnTrue result (0 < last_width self.now.nodes.items self.now.blocks.items → WIDEST < last_width
+            self.now.nodes.items self.now.blocks.items + length node.now) }
     {
         if self.joins(length_of_first(node.blocks())) {
             return false;
         }
-        let room = WIDEST.saturating_sub(node.blocks().len());
-        self.blocks.is_empty() || room < self.blocks.len()
+        let last = width_of_last(&self.nodes, &self.blocks);
+        last == 0 || WIDEST - node.blocks().len() < last
     }
 
     /// Adds blocks behind the others, each for itself.
     fn carry_each(&mut self, alloc: Global, blocks: &[Block]) -> Result<(), AllocError>
         requires sized { AreBlocks (joining self.old.nodes.items ++ self.old.blocks.items) }
+        requires wide { AreNodes self.old.nodes.items self.old.blocks.items }
         requires normal { IsNormal (joining (joining self.old.nodes.items ++ self.old.blocks.items) ++ joining
             blocks.now) }
         ensures sized { OnOk result (AreBlocks (joining self.new.nodes.items ++ self.new.blocks.items)) }
+        ensures wide { OnOk result (AreNodes self.new.nodes.items self.new.blocks.items) }
         ensures joining { OnOk result (joining (joining self.new.nodes.items ++ self.new.blocks.items) ≡ joining
             (joining self.old.nodes.items ++ self.old.blocks.items) ++ joining blocks.now) }
         ensures ranges { OnOk result (self.new.ranges.items ≡ self.old.ranges.items) }
@@ -448,6 +469,26 @@ fn length_of_last(nodes: &[Node], blocks: &[Block]) -> usize
     match blocks {
         [] => length_in_nodes(nodes),
         [..] => length_of_block(blocks),
+    }
+}
+
+/// How many blocks the last of some nodes has, 0 if there is none.
+fn width_in_nodes(nodes: &[Node]) -> usize
+    ensures { result ≡ last_length nodes.now }
+{
+    match nodes {
+        [.., node] => node.blocks().len(),
+        [] => 0,
+    }
+}
+
+/// How many blocks the last node has, where the blocks behind the nodes are one more; 0 if there is nothing.
+fn width_of_last(nodes: &[Node], blocks: &[Block]) -> usize
+    ensures { result ≡ last_width nodes.now blocks.now }
+{
+    match blocks {
+        [] => width_in_nodes(nodes),
+        [..] => blocks.len(),
     }
 }
 

@@ -12,7 +12,7 @@ use std::sync::Arc;
 /// The most blocks that a node has.
 pub const WIDEST: usize = 16;
 
-/// One or more blocks in rising order.
+/// 1 to 16 blocks in rising order.
 #[derive(Debug, Drop)]
 pub struct Node {
     from: u64,
@@ -74,6 +74,7 @@ impl Node {
     pub fn new(alloc: Global, blocks: Vec<Block>) -> Result<Node, AllocError>
         requires normal { IsNormal (joining blocks.items) }
         requires some { 0 < length blocks.items }
+        requires fits { length blocks.items ≤ WIDEST }
         requires sized { AreBlocks blocks.items }
         ensures { IfOk result (λ n. n ≡ blocks.items) }
     {
@@ -128,6 +129,7 @@ impl Node {
     pub fn blocks(&self) -> &[Block]
         ensures value { result.now ≡ self.now }
         ensures sized { AreBlocks self.now }
+        ensures fits { length self.now ≤ WIDEST }
         ensures some { 0 < length (joining self.now) }
     {
         &self.blocks
@@ -138,6 +140,8 @@ impl Node {
     pub fn share(&self) -> Result<Node, AllocError>
         ensures same { IfOk result (λ n. n ≡ self.now) }
         ensures sized { AreBlocks self.now }
+        ensures fits { length self.now ≤ WIDEST }
+        ensures some { 0 < length (joining self.now) }
     {
         let blocks = Arc::try_clone(&self.blocks)?;
         Ok(Node {

@@ -1,7 +1,7 @@
 -- Lists of ranges that are kept in blocks, and blocks in nodes.
 use Rattle.std.specs.Prelude.{◌≡◌, ℕ, ◌-◌, ◌<◌, ◌≤◌, List, [], ◌∷◌, ◌++◌, length, sum_by}
 use Rattle.moc_ranges.specs.RangeList.{IsNormal}
-pub use Rattle.moc_ranges.specs.Blocks.{joining, NeedsBoth, AreBlocks}
+pub use Rattle.moc_ranges.specs.Blocks.{joining, NeedsBoth, AreFilled, AreBlocks}
 
 -- the sum of the widths of ranges
 abbrev pub width_of : List (ℕ × ℕ) → ℕ
@@ -30,12 +30,13 @@ pub record IsBlock (from to size : ℕ) (ranges : List (ℕ × ℕ)) : Type 0 wh
   pub summary : IsSummary from to size ranges
   pub fits : length ranges ≤ 128
 
--- what is kept beside a node: where its blocks begin and end, how many numbers they have, and how
--- many ranges
+-- what is kept beside a node, which has at most 16 blocks: where they begin and end, how many numbers they have, and
+-- how many ranges
 pub record IsNode (from to size count : ℕ) (blocks : List (List (ℕ × ℕ))) : Type 0 where
   pub summary : IsSummary from to size (joining blocks)
   pub counted : count ≡ length (joining blocks)
   pub sized : AreBlocks blocks
+  pub fits : length blocks ≤ 16
 
 -- the ranges that a walk still has to go: of a block that is begun, of a node that is begun, of the
 -- nodes
@@ -47,12 +48,13 @@ abbrev pub next_of : List (ℕ × ℕ) → ℕ
 next_of [] = 18446744073709551615
 next_of (range ∷ ranges) = range.0
 
--- how a set is kept: at most 128 ranges by themselves, or nodes of blocks; all ranges together are a
--- normal range list
+-- how a set is kept: at most 128 ranges by themselves, or nodes of 1 to 16 blocks, of which two side by side have
+-- together more than 16; all ranges together are a normal range list
 pub record IsStored (few : List (ℕ × ℕ)) (nodes : List (List (List (ℕ × ℕ)))) : Type 0 where
   pub alone : 0 < length few → nodes ≡ []
   pub fits : length few ≤ 128
   pub sized : AreBlocks (joining nodes)
+  pub wide : AreFilled 16 nodes
   pub normal : IsNormal (rest_of few [] nodes)
 
 -- blocks whose ranges, one block after the other, are a normal range list

@@ -3,28 +3,40 @@ use Rattle.std.specs.Prelude.{◌≡◌, ℕ, ◌+◌, ◌<◌, ◌≤◌, ◌||
 use Rattle.moc_ranges.specs.Pixels.{pixel_count}
 use Rattle.moc_ranges.specs.RangeList.{IsNormal, in_ranges, in_range}
 use Rattle.moc_ranges.specs.Private.Walks.{EndsBy}
-use Rattle.moc_ranges.specs.Private.Blocks.{joining, AreBlocks, next_of}
+use Rattle.moc_ranges.specs.Private.Blocks.{joining, AreFilled, AreBlocks, next_of}
 
 -- all ranges: those of finished nodes, of blocks that are not yet a node, and those that are not yet a block
 abbrev pub kept_of : List (List (List (ℕ × ℕ))) → List (List (ℕ × ℕ)) → List (ℕ × ℕ) → List (ℕ × ℕ)
 kept_of nodes blocks ranges = joining (joining nodes ++ blocks) ++ ranges
 
--- what is built so far: blocks by the two rules of lengths, at most 128 ranges behind them, all together a normal
--- range list
+-- how many elements the last list has, 0 if there is none
+abbrev pub last_length : {X : Type 0} → List (List X) → ℕ
+last_length [] = 0
+last_length (list ∷ []) = length list
+last_length (list ∷ (next ∷ lists)) = last_length (next ∷ lists)
+
+-- how many blocks the last node has, where the blocks behind the nodes are one more; 0 if there is nothing
+abbrev pub last_width : List (List (List (ℕ × ℕ))) → List (List (ℕ × ℕ)) → ℕ
+last_width nodes [] = last_length nodes
+last_width nodes (block ∷ blocks) = length (block ∷ blocks)
+
+-- nodes by the two rules of lengths, and with them blocks that are not yet a node
+pub record AreNodes (nodes : List (List (List (ℕ × ℕ)))) (blocks : List (List (ℕ × ℕ))) : Type 0 where
+  pub sized : AreFilled 16 nodes
+  pub fits : length blocks ≤ 16
+  pub apart : 0 < length blocks → 0 < last_length nodes → 16 < last_length nodes + length blocks
+
+-- what is built so far: blocks and nodes by the two rules of lengths, at most 128 ranges behind them, all together a
+-- normal range list
 pub record IsBuilt (nodes : List (List (List (ℕ × ℕ)))) (blocks : List (List (ℕ × ℕ))) (ranges : List (ℕ × ℕ)) :
     Type 0 where
   pub sized : AreBlocks (joining nodes ++ blocks)
+  pub wide : AreNodes nodes blocks
   pub fits : length ranges ≤ 128
   pub normal : IsNormal (kept_of nodes blocks ranges)
 
--- how many ranges the last block has, 0 if there is none
-abbrev pub last_length : List (List (ℕ × ℕ)) → ℕ
-last_length [] = 0
-last_length (block ∷ []) = length block
-last_length (block ∷ (next ∷ blocks)) = last_length (next ∷ blocks)
-
 -- how many ranges the first block has, 0 if there is none
-abbrev pub first_length : List (List (ℕ × ℕ)) → ℕ
+abbrev pub first_length : {X : Type 0} → List (List X) → ℕ
 first_length [] = 0
 first_length (block ∷ blocks) = length block
 

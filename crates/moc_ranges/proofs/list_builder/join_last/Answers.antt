@@ -3,7 +3,7 @@ use Rattle.moc_ranges.specs.Private.Blocks.{joining}
 use Rattle.moc_ranges.specs.Private.Built.{last_length}
 use Rattle.moc_ranges.specs.RangeList.{IsNormal}
 use Rattle.moc_ranges.proofs.Blocking.{IsNormal-suffix, joining-last}
-use Rattle.moc_ranges.proofs.Building.{last_length-append}
+use Rattle.moc_ranges.proofs.Filling.{last_length-append}
 use Rattle.moc_ranges.proofs.list_builder.join_last.Goals as goal
 
 pub followed_by-requires-clause-normal : goal.followed_by-requires-clause-normal

@@ -1,5 +1,5 @@
 use Rattle.std.proofs.Common.{◌-◌, length, arith, ap, ◌∙◌}
-use Rattle.moc_ranges.proofs.Building.{length_read}
+use Rattle.moc_ranges.proofs.Filling.{length_read}
 use Rattle.moc_ranges.proofs.list_builder.length_of_block.Goals as goal
 
 pub returns-in-len1-up : goal.returns-in-len1-up

@@ -1,6 +1,6 @@
 use Rattle.std.proofs.Common.{arith, sym, ◌∙◌}
 use Rattle.moc_ranges.specs.Private.Blocks.{joining}
-use Rattle.moc_ranges.proofs.Building.{last_length-append}
+use Rattle.moc_ranges.proofs.Filling.{last_length-append}
 use Rattle.moc_ranges.proofs.list_builder.length_of_last.Goals as goal
 
 pub returns-in_default : goal.returns-in_default

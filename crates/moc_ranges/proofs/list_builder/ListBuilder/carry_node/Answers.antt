@@ -1,7 +1,8 @@
-use Rattle.std.proofs.Common.{◌++◌, ◌∷◌, [], List, ℕ, ap, ◌∙◌}
+use Rattle.std.proofs.Common.{◌++◌, ◌∷◌, [], List, ℕ, ap, ◌∙◌, arith}
 use Rattle.moc_ranges.specs.Private.Blocks.{joining}
 use Rattle.moc_ranges.specs.Private.Built.{kept_of}
 use Rattle.moc_ranges.proofs.Building.{stack_noded, node_kept, node_built, sealed_all}
+use Rattle.moc_ranges.proofs.Filling.{some_blocks, nodes_added}
 use Rattle.moc_ranges.proofs.list_builder.ListBuilder.carry_node.Goals as goal
 
 pub returns-clause-built : goal.returns-clause-built
@@ -13,7 +14,8 @@ returns-clause-built c =
     let made = stack_noded ns c.push.new.self.items c.args.node.now bs stack c.in_ok-seal_node.ensures.blocks c.in_ok-seal_node.ensures.none (c.in_ok-push.ensures.items ∙ ap (λ (n : List (List (ℕ × ℕ))). ns ++ n ∷ []) c.in_ok-shared.ensures.same) in
     let none = c.in_ok-seal_node.ensures.ranges ∙ c.in_ok-seal.ensures.none in
     let all = sealed_all (joining stack) c.seal.new.self.ranges.items kept c.in_ok-seal.ensures.kept c.in_ok-seal.ensures.none in
-    node_built c.push.new.self.items bs stack c.args.node.now c.seal_node.new.self.ranges.items kept made none all c.in_ok-seal.ensures.built.sized c.in_ok-shared.ensures.sized c.if-not-takes_whole.ensures c.requires.normal
+    let wide = nodes_added ns c.push.new.self.items bs c.args.node.now c.in_ok-seal_node.ensures.wide c.in_ok-seal_node.ensures.none (c.in_ok-push.ensures.items ∙ ap (λ (n : List (List (ℕ × ℕ))). ns ++ n ∷ []) c.in_ok-shared.ensures.same) (λ some. omega (arith, c.in_ok-seal_node.ensures.width, c.if-not-takes_whole.ensures.nodes (omega (arith, some, c.in_ok-seal_node.ensures.width)))) (some_blocks c.args.node.now c.in_ok-shared.ensures.some) c.in_ok-shared.ensures.fits in
+    node_built c.push.new.self.items bs stack c.args.node.now c.seal_node.new.self.ranges.items kept made none all c.in_ok-seal.ensures.built.sized c.in_ok-shared.ensures.sized c.if-not-takes_whole.ensures.blocks wide c.requires.normal
 
 pub returns-clause-kept : goal.returns-clause-kept
 returns-clause-kept c =

@@ -16,6 +16,7 @@ invariant_of-result c =
     let filled_last = subst (λ (b : List (ℕ × ℕ)). 0 < length b) last c.to-to.ensures.some in
     subst (λ (l : List (List (ℕ × ℕ))). IsNode c.from-from.result c.to-to.result c.measure-size.result c.count_in_blocks-count.result l) (sym same) (record {
       sized = c.requires.sized;
+      fits = c.requires.fits;
       counted = c.count_in_blocks-count.ensures ∙ ap (λ (l : List (List (ℕ × ℕ))). length (joining l)) c.deref-2.ensures.value;
       summary = record {
         some = length_last bs none 0 (omega (arith, c.requires.some)) filled_first;
