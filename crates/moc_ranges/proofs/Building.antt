@@ -170,10 +170,10 @@ pushed_built ns bs rs rs' kept range built same room new filled within below =
     }
 
 -- a node was put behind
-pub stack_noded : (ns ns' : List (List (List (ℕ × ℕ)))) (node bs stack : List (List (ℕ × ℕ))) → joining ns ++ bs ≡ stack → bs ≡ [] → ns' ≡ ns ++ node ∷ [] → joining ns' ++ bs ≡ stack ++ node
-stack_noded ns ns' node bs stack same none new =
+pub stack_noded : (ns ns' : List (List (List (ℕ × ℕ)))) (node bs bs' stack : List (List (ℕ × ℕ))) → joining ns ++ bs ≡ stack → bs ≡ [] → joining ns' ++ bs' ≡ joining ns ++ node → joining ns' ++ bs' ≡ stack ++ node
+stack_noded ns ns' node bs bs' stack same none new =
     let all : joining ns ≡ stack = sym (nothing_more (joining ns)) ∙ ap (λ (l : List (List (ℕ × ℕ))). joining ns ++ l) (sym none) ∙ same in
-    (λ i. joining (new i) ++ none i) ∙ nothing_more (joining (ns ++ node ∷ [])) ∙ joining-last ns node ∙ ap (λ (l : List (List (ℕ × ℕ))). l ++ node) all
+    new ∙ ap (λ (l : List (List (ℕ × ℕ))). l ++ node) all
 
 pub node_kept : (ns : List (List (List (ℕ × ℕ)))) (bs stack node : List (List (ℕ × ℕ))) (rs kept : List (ℕ × ℕ)) → joining ns ++ bs ≡ stack ++ node → rs ≡ [] → joining stack ≡ kept → kept_of ns bs rs ≡ kept ++ joining node
 node_kept ns bs stack node rs kept same none is =

@@ -1,7 +1,8 @@
 -- Lists by the two rules of lengths: each has 1 to so many elements, and two side by side have together more.
 use Rattle.std.proofs.Common.{◌≡◌, ℕ, zero, suc, ◌+◌, ◌<◌, ◌≤◌, List, [], ◌∷◌, ◌++◌, length, get_or, refl, sym, ap, subst, ◌∙◌, arith, length-append, append_assoc}
 use Rattle.moc_ranges.specs.Private.Blocks.{joining, AreFilled}
-use Rattle.moc_ranges.specs.Private.Built.{AreNodes, first_length, last_length, last_width}
+use Rattle.moc_ranges.specs.Private.Built.{AreNodes, first_length, last_length}
+use Rattle.moc_ranges.proofs.Blocking.{joining-last, nothing_more}
 
 pub last_length-append : {X : Type 0} → (ls ms : List (List X)) → 0 < length ms → last_length (ls ++ ms) ≡ last_length ms
 last_length-append [] ms some = refl
@@ -59,61 +60,41 @@ some_blocks (b ∷ bs) some = omega arith
 
 -- nothing is built
 pub no_nodes : AreNodes [] []
-no_nodes = record { sized = tt; fits = omega arith; apart = λ some. absurd (omega (arith, some)) }
+no_nodes = record { sized = tt; fits = omega arith }
 
--- the blocks behind the nodes became a node
-pub nodes_sealed : (ns ns' : List (List (List (ℕ × ℕ)))) (bs bs' node : List (List (ℕ × ℕ))) → AreNodes ns bs → ns' ≡ ns ++ node ∷ [] → node ≡ bs → bs' ≡ [] → 0 < length bs → AreNodes ns' bs'
-nodes_sealed ns ns' bs bs' node ok new is none some =
+-- the blocks behind the nodes became a node, apart from the last
+pub nodes_sealed : (ns ns' : List (List (List (ℕ × ℕ)))) (bs bs' node : List (List (ℕ × ℕ))) → AreNodes ns bs → (0 < last_length ns → 16 < last_length ns + length bs) → ns' ≡ ns ++ node ∷ [] → node ≡ bs → bs' ≡ [] → 0 < length bs → AreNodes ns' bs'
+nodes_sealed ns ns' bs bs' node ok apart new is none some =
     let made : ns' ≡ ns ++ bs ∷ [] = new ∙ ap (λ (n : List (List (ℕ × ℕ))). ns ++ n ∷ []) is in
     record {
-      sized = subst (λ (l : List (List (List (ℕ × ℕ)))). AreFilled 16 l) (sym made) (filled_add 16 ns bs ok.sized (ok.apart some) some ok.fits);
+      sized = subst (λ (l : List (List (List (ℕ × ℕ)))). AreFilled 16 l) (sym made) (filled_add 16 ns bs ok.sized apart some ok.fits);
       fits = omega (arith, ap length none);
-      apart = λ some. absurd (omega (arith, some, ap length none));
     }
 
--- the last node became the blocks behind the nodes, of which there were none
-pub nodes_reopened : (ns ns' : List (List (List (ℕ × ℕ)))) (bs bs' node : List (List (ℕ × ℕ))) → AreNodes ns bs → ns ≡ ns' ++ node ∷ [] → bs' ≡ node → AreNodes ns' bs'
-nodes_reopened ns ns' bs bs' node ok old is =
-    let whole : AreFilled 16 (ns' ++ node ∷ []) = subst (λ (l : List (List (List (ℕ × ℕ)))). AreFilled 16 l) old ok.sized in
-    let last = filled_last 16 ns' node whole in
-    let len : length bs' ≡ length node = ap length is in
-    record {
-      sized = filled_init 16 ns' node whole;
-      fits = omega (arith, len, last.0);
-      apart = λ some behind. omega (arith, len, last.1 behind);
-    }
-
--- as many blocks behind the nodes
-pub nodes_kept : (ns : List (List (List (ℕ × ℕ)))) (bs bs' : List (List (ℕ × ℕ))) → AreNodes ns bs → length bs' ≡ length bs → AreNodes ns bs'
-nodes_kept ns bs bs' ok same = record {
-  sized = ok.sized;
-  fits = omega (arith, ok.fits, same);
-  apart = λ some behind. omega (arith, same, ok.apart (omega (arith, same, some)) behind);
+-- the last node was taken off, and so many blocks stand behind the nodes
+pub nodes_popped : (ns ns' : List (List (List (ℕ × ℕ)))) (bs bs' node : List (List (ℕ × ℕ))) → AreNodes ns bs → ns ≡ ns' ++ node ∷ [] → length bs' ≤ 16 → AreNodes ns' bs'
+nodes_popped ns ns' bs bs' node ok old le = record {
+  sized = filled_init 16 ns' node (subst (λ (l : List (List (List (ℕ × ℕ)))). AreFilled 16 l) old ok.sized);
+  fits = le;
 }
 
--- a block more behind the nodes, where there was room
-pub nodes_pushed : (ns : List (List (List (ℕ × ℕ)))) (bs bs' : List (List (ℕ × ℕ))) (block : List (ℕ × ℕ)) → AreNodes ns bs → bs' ≡ bs ++ block ∷ [] → length bs < 16 → (length bs ≡ 0 → 0 < last_length ns → 16 ≤ last_length ns) → AreNodes ns bs'
-nodes_pushed ns bs bs' block ok new room wide =
-    let len : length bs' ≡ length bs + 1 = ap length new ∙ length-append bs (block ∷ []) in
-    record { sized = ok.sized; fits = omega (arith, len); apart = λ some behind. apart bs ok.apart wide len behind }
-  where
-    apart : (bs : List (List (ℕ × ℕ))) → (0 < length bs → 0 < last_length ns → 16 < last_length ns + length bs) → (length bs ≡ 0 → 0 < last_length ns → 16 ≤ last_length ns) → length bs' ≡ length bs + 1 → 0 < last_length ns → 16 < last_length ns + length bs'
-    apart [] before wide len behind = omega (arith, len, wide refl behind)
-    apart (b ∷ bs) before wide len behind = omega (arith, len, before (omega arith) behind)
+-- the last node fits, and is apart from the one before it
+pub nodes_last : (ns ns' : List (List (List (ℕ × ℕ)))) (bs node : List (List (ℕ × ℕ))) → AreNodes ns bs → ns ≡ ns' ++ node ∷ [] → (length node ≤ 16) × (0 < last_length ns' → 16 < last_length ns' + length node)
+nodes_last ns ns' bs node ok old = filled_last 16 ns' node (subst (λ (l : List (List (List (ℕ × ℕ)))). AreFilled 16 l) old ok.sized)
+
+-- the blocks of the last node were put before those behind the nodes
+pub nodes_widened : (ns ns' : List (List (List (ℕ × ℕ)))) (bs bs' node : List (List (ℕ × ℕ))) → ns ≡ ns' ++ node ∷ [] → bs' ≡ node ++ bs → joining ns' ++ bs' ≡ joining ns ++ bs
+nodes_widened ns ns' bs bs' node old new =
+    ap (λ (l : List (List (ℕ × ℕ))). joining ns' ++ l) new ∙ sym (append_assoc (joining ns') node bs)
+    ∙ ap (λ (l : List (List (ℕ × ℕ))). l ++ bs) (sym (joining-last ns' node) ∙ ap joining (sym old))
 
 -- a node was put behind nodes, with no blocks behind them
-pub nodes_added : (ns ns' : List (List (List (ℕ × ℕ)))) (bs node : List (List (ℕ × ℕ))) → AreNodes ns bs → bs ≡ [] → ns' ≡ ns ++ node ∷ [] → (0 < last_length ns → 16 < last_length ns + length node) → 0 < length node → length node ≤ 16 → AreNodes ns' bs
-nodes_added ns ns' bs node ok none new apart some fits = record {
+pub nodes_added : (ns ns' : List (List (List (ℕ × ℕ)))) (bs node : List (List (ℕ × ℕ))) → AreNodes ns bs → ns' ≡ ns ++ node ∷ [] → (0 < last_length ns → 16 < last_length ns + length node) → 0 < length node → length node ≤ 16 → AreNodes ns' bs
+nodes_added ns ns' bs node ok new apart some fits = record {
   sized = subst (λ (l : List (List (List (ℕ × ℕ)))). AreFilled 16 l) (sym new) (filled_add 16 ns node ok.sized apart some fits);
   fits = ok.fits;
-  apart = λ some. absurd (omega (arith, some, ap length none));
 }
 
--- how wide the last node is once the blocks behind the nodes are one
-pub width_sealed : (ns ns' : List (List (List (ℕ × ℕ)))) (bs node : List (List (ℕ × ℕ))) → ns' ≡ ns ++ node ∷ [] → node ≡ bs → 0 < length bs → last_length ns' ≡ last_width ns bs
-width_sealed ns ns' [] node new is some = absurd (omega (arith, some))
-width_sealed ns ns' (b ∷ bs) node new is some = ap last_length new ∙ last_length-append ns (node ∷ []) (omega arith) ∙ ap length is
-
--- the last node is as wide as the blocks that it became
-pub width_reopened : (ns ns' : List (List (List (ℕ × ℕ)))) (bs node : List (List (ℕ × ℕ))) → bs ≡ [] → ns ≡ ns' ++ node ∷ [] → last_width ns bs ≡ length node
-width_reopened ns ns' bs node none old = ap (λ (l : List (List (ℕ × ℕ))). last_width ns l) none ∙ ap last_length old ∙ last_length-append ns' (node ∷ []) (omega arith)
+pub nodes_added_all : (ns ns' : List (List (List (ℕ × ℕ)))) (bs node : List (List (ℕ × ℕ))) → bs ≡ [] → ns' ≡ ns ++ node ∷ [] → joining ns' ++ bs ≡ joining ns ++ node
+nodes_added_all ns ns' bs node none new =
+    ap (λ (l : List (List (ℕ × ℕ))). joining ns' ++ l) none ∙ nothing_more (joining ns') ∙ ap joining new ∙ joining-last ns node

@@ -4,7 +4,7 @@ ghost use Rattle.std.specs.Bool.{OnTrue, OnFalse};
 ghost use Rattle.moc_ranges.specs.Pixels.{pixel_count};
 ghost use Rattle.moc_ranges.specs.RangeList.{IsNormal, in_ranges, in_range, set_of};
 ghost use Rattle.moc_ranges.specs.Private.Blocks.{joining, AreBlocks, last_of};
-ghost use Rattle.moc_ranges.specs.Private.Built.{IsBuilt, IsOpen, AreNodes, kept_of, first_length, last_length, last_width};
+ghost use Rattle.moc_ranges.specs.Private.Built.{IsBuilt, IsOpen, AreNodes, kept_of, first_length, last_length};
 ghost use Rattle.moc_ranges.specs.Private.Built.{CanJoin, EndsBelow};
 
 use crate::block::{Block, LONGEST};
@@ -136,8 +136,7 @@ impl ListBuilder {
         last > 0 && last <= LONGEST - count
     }
 
-    /// Makes room for a block: where there are as many behind the nodes as a node may have, they become one; where there are
-    /// none, the last node is opened if it has fewer.
+    /// Makes a node of the blocks that are in none, where they are enough.
     fn make_room(&mut self, alloc: Global) -> Result<(), AllocError>
         requires sized { AreBlocks (joining self.old.nodes.items ++ self.old.blocks.items) }
         requires wide { AreNodes self.old.nodes.items self.old.blocks.items }
@@ -146,15 +145,13 @@ impl ListBuilder {
             self.old.nodes.items ++ self.old.blocks.items) }
         ensures wide { OnOk result (AreNodes self.new.nodes.items self.new.blocks.items) }
         ensures room { OnOk result (length self.new.blocks.items < WIDEST) }
-        ensures alone { OnOk result (length self.new.blocks.items ≡ 0 → 0 < last_length self.new.nodes.items → WIDEST ≤
-            last_length self.new.nodes.items) }
         ensures ranges { self.new.ranges.items ≡ self.old.ranges.items }
     {
-        let last = width_of_last(&self.nodes, &self.blocks);
-        if last >= WIDEST {
-            return self.seal_node(alloc);
+        if self.blocks.len() < WIDEST {
+            return Ok(());
         }
-        self.reopen(alloc)
+        self.seal_node(alloc)?;
+        Ok(())
     }
 
     /// Makes blocks of the last node where there are none behind it.
@@ -163,9 +160,6 @@ impl ListBuilder {
         ensures blocks { OnOk result (joining self.new.nodes.items ++ self.new.blocks.items ≡ joining
             self.old.nodes.items ++ self.old.blocks.items) }
         ensures wide { OnOk result (AreNodes self.new.nodes.items self.new.blocks.items) }
-        ensures width { OnOk result (length self.new.blocks.items ≡ last_width self.old.nodes.items
-            self.old.blocks.items) }
-        ensures alone { OnOk result (length self.new.blocks.items ≡ 0 → last_length self.new.nodes.items ≡ 0) }
         ensures ranges { self.new.ranges.items ≡ self.old.ranges.items }
         ensures some { OnOk result (0 < last_length (joining self.old.nodes.items ++ self.old.blocks.items) → 0 <
             length self.new.blocks.items) }
@@ -202,6 +196,28 @@ impl ListBuilder {
         Ok(())
     }
 
+    /// Puts the blocks of the last node before those that are in none, where they all fit into one node.
+    fn widen(&mut self, alloc: Global) -> Result<(), AllocError>
+        requires wide { AreNodes self.old.nodes.items self.old.blocks.items }
+        ensures blocks { OnOk result (joining self.new.nodes.items ++ self.new.blocks.items ≡ joining
+            self.old.nodes.items ++ self.old.blocks.items) }
+        ensures wide { OnOk result (AreNodes self.new.nodes.items self.new.blocks.items) }
+        ensures apart { OnOk result (0 < last_length self.new.nodes.items → WIDEST < last_length self.new.nodes.items +
+            length self.new.blocks.items) }
+        ensures more { OnOk result (length self.old.blocks.items ≤ length self.new.blocks.items) }
+        ensures ranges { self.new.ranges.items ≡ self.old.ranges.items }
+    {
+        if WIDEST - self.blocks.len() < width_of_last(&self.nodes) {
+            return Ok(());
+        }
+        if let Some(node) = self.nodes.pop() {
+            let mut both = share_blocks(alloc, node.blocks())?;
+            both.append(&mut self.blocks)?;
+            self.blocks = both;
+        }
+        Ok(())
+    }
+
     /// Makes a node of the blocks that are in none.
     fn seal_node(&mut self, alloc: Global) -> Result<(), AllocError>
         requires sized { AreBlocks (joining self.old.nodes.items ++ self.old.blocks.items) }
@@ -210,14 +226,13 @@ impl ListBuilder {
         ensures blocks { OnOk result (joining self.new.nodes.items ++ self.new.blocks.items ≡ joining
             self.old.nodes.items ++ self.old.blocks.items) }
         ensures wide { OnOk result (AreNodes self.new.nodes.items self.new.blocks.items) }
-        ensures width { OnOk result (last_length self.new.nodes.items ≡ last_width self.old.nodes.items
-            self.old.blocks.items) }
         ensures ranges { self.new.ranges.items ≡ self.old.ranges.items }
         ensures none { OnOk result (self.new.blocks.items ≡ []) }
     {
         if self.blocks.is_empty() {
             return Ok(());
         }
+        self.widen(alloc)?;
         let none = Vec::new(alloc);
         let blocks = std::mem::replace(&mut self.blocks, none);
         let node = Node::new(alloc, blocks)?;
@@ -244,18 +259,44 @@ impl ListBuilder {
     }
 
     /// Whether a node can stand behind the blocks as it is: its first block joins none, and its
-    /// blocks do not fit beside those of the last node.
+    /// blocks do not fit beside others.
     fn takes_whole(&self, node: &Node) -> bool
-        ensures blocks { OnTrue result (0 < last_length (joining self.now.nodes.items ++ self.now.blocks.items) → LONGEST <
+        ensures { OnTrue result (0 < last_length (joining self.now.nodes.items ++ self.now.blocks.items) → LONGEST <
             last_length (joining self.now.nodes.items ++ self.now.blocks.items) + first_length node.now) }
-        ensures nodes { OnTrue result (0 < last_width self.now.nodes.items self.now.blocks.items → WIDEST < last_width
-            self.now.nodes.items self.now.blocks.items + length node.now) }
     {
         if self.joins(length_of_first(node.blocks())) {
             return false;
         }
-        let last = width_of_last(&self.nodes, &self.blocks);
-        last == 0 || WIDEST - node.blocks().len() < last
+        let room = WIDEST.saturating_sub(node.blocks().len());
+        self.blocks.is_empty() || room < self.blocks.len()
+    }
+
+    /// Whether the blocks of a node fit beside those of the last.
+    fn fits_last(&self, node: &Node) -> bool
+        ensures { OnFalse result (0 < last_length self.now.nodes.items → WIDEST < last_length self.now.nodes.items +
+            length node.now) }
+    {
+        let last = width_of_last(&self.nodes);
+        last > 0 && last <= WIDEST - node.blocks().len()
+    }
+
+    /// Adds a node, or its blocks where they fit beside those of the last.
+    fn push_node(&mut self, alloc: Global, node: &Node) -> Result<(), AllocError>
+        requires wide { AreNodes self.old.nodes.items self.old.blocks.items }
+        requires none { self.old.blocks.items ≡ [] }
+        ensures blocks { OnOk result (joining self.new.nodes.items ++ self.new.blocks.items ≡ joining
+            self.old.nodes.items ++ node.now) }
+        ensures sized { OnOk result (AreBlocks node.now) }
+        ensures wide { OnOk result (AreNodes self.new.nodes.items self.new.blocks.items) }
+        ensures ranges { self.new.ranges.items ≡ self.old.ranges.items }
+    {
+        if self.fits_last(node) {
+            self.blocks = share_blocks(alloc, node.blocks())?;
+            return Ok(());
+        }
+        let shared = node.share()?;
+        self.nodes.push(shared)?;
+        Ok(())
     }
 
     /// Adds blocks behind the others, each for itself.
@@ -293,8 +334,7 @@ impl ListBuilder {
             return Ok(());
         }
         self.seal_node(alloc)?;
-        let shared = node.share()?;
-        self.nodes.push(shared)?;
+        self.push_node(alloc, node)?;
         Ok(())
     }
 
@@ -472,23 +512,14 @@ fn length_of_last(nodes: &[Node], blocks: &[Block]) -> usize
     }
 }
 
-/// How many blocks the last of some nodes has, 0 if there is none.
-fn width_in_nodes(nodes: &[Node]) -> usize
-    ensures { result ≡ last_length nodes.now }
+/// How many blocks the last node has, 0 if there is none.
+fn width_of_last(nodes: &[Node]) -> usize
+    ensures value { result ≡ last_length nodes.now }
+    ensures fits { result ≤ WIDEST }
 {
     match nodes {
         [.., node] => node.blocks().len(),
         [] => 0,
-    }
-}
-
-/// How many blocks the last node has, where the blocks behind the nodes are one more; 0 if there is nothing.
-fn width_of_last(nodes: &[Node], blocks: &[Block]) -> usize
-    ensures { result ≡ last_width nodes.now blocks.now }
-{
-    match blocks {
-        [] => width_in_nodes(nodes),
-        [..] => blocks.len(),
     }
 }
 

@@ -15,16 +15,10 @@ last_length [] = 0
 last_length (list ∷ []) = length list
 last_length (list ∷ (next ∷ lists)) = last_length (next ∷ lists)
 
--- how many blocks the last node has, where the blocks behind the nodes are one more; 0 if there is nothing
-abbrev pub last_width : List (List (List (ℕ × ℕ))) → List (List (ℕ × ℕ)) → ℕ
-last_width nodes [] = last_length nodes
-last_width nodes (block ∷ blocks) = length (block ∷ blocks)
-
--- nodes by the two rules of lengths, and with them blocks that are not yet a node
+-- nodes by the two rules of lengths, and at most 16 blocks that are not yet a node
 pub record AreNodes (nodes : List (List (List (ℕ × ℕ)))) (blocks : List (List (ℕ × ℕ))) : Type 0 where
   pub sized : AreFilled 16 nodes
   pub fits : length blocks ≤ 16
-  pub apart : 0 < length blocks → 0 < last_length nodes → 16 < last_length nodes + length blocks
 
 -- what is built so far: blocks and nodes by the two rules of lengths, at most 128 ranges behind them, all together a
 -- normal range list

@@ -1,7 +1,7 @@
 use Rattle.std.proofs.Common.{◌++◌, ◌∷◌, [], length, length-append, arith, ap, sym, subst, ◌∙◌}
 use Rattle.moc_ranges.specs.Private.Blocks.{joining, AreBlocks}
 use Rattle.moc_ranges.proofs.Building.{joined_sized, joined_all, suffix_normal, last_length-suffix, pushed_all}
-use Rattle.moc_ranges.proofs.Filling.{filled_add, nodes_kept, nodes_pushed}
+use Rattle.moc_ranges.proofs.Filling.{filled_add}
 use Rattle.moc_ranges.proofs.Blocking.{joining-last, IsNormal-prefix}
 use Rattle.moc_ranges.proofs.list_builder.ListBuilder.push_block.Goals as goal
 
@@ -36,11 +36,3 @@ pub returns-clause-joining : goal.returns-clause-joining
 returns-clause-joining c =
     let made = pushed_all (joining c.make_room.new.self.nodes.items) c.make_room.new.self.blocks.items c.push.new.self.items (joining c.args.self.now.nodes.items ++ c.args.self.now.blocks.items) c.args.block c.in_ok-make_room.ensures.blocks c.in_ok-push.ensures.items in
     ap joining made ∙ joining-last (joining c.args.self.now.nodes.items ++ c.args.self.now.blocks.items) c.args.block
-
-pub returns-then-joins-clause-wide : goal.returns-then-joins-clause-wide
-returns-then-joins-clause-wide c =
-    let j = c.in_ok-join_last.ensures.joined in
-    nodes_kept c.reopen.new.self.nodes.items c.reopen.new.self.blocks.items c.join_last.new.blocks.items c.in_ok-reopen.ensures.wide (omega (arith, ap length j.2, ap length j.3, length-append j.0 (j.1 ∷ []), length-append j.0 ((j.1 ++ c.args.block) ∷ [])))
-
-pub returns-clause-wide : goal.returns-clause-wide
-returns-clause-wide c = nodes_pushed c.make_room.new.self.nodes.items c.make_room.new.self.blocks.items c.push.new.self.items c.args.block c.in_ok-make_room.ensures.wide c.in_ok-push.ensures.items c.in_ok-make_room.ensures.room c.in_ok-make_room.ensures.alone

@@ -1,7 +1,7 @@
-use Rattle.std.proofs.Common.{arith, ◌∙◌, ap, sym, length}
+use Rattle.std.proofs.Common.{arith, ◌∙◌, ap, length}
 use Rattle.moc_ranges.specs.Private.Blocks.{joining}
 use Rattle.moc_ranges.proofs.Building.{reopened}
-use Rattle.moc_ranges.proofs.Filling.{some_blocks, nodes_reopened, width_reopened}
+use Rattle.moc_ranges.proofs.Filling.{some_blocks, nodes_popped, nodes_last}
 use Rattle.moc_ranges.proofs.Blocking.{none_there}
 use Rattle.std.proofs.lemmas.Grind.{common_steps}
 use Rattle.moc_ranges.proofs.list_builder.ListBuilder.reopen.Goals as goal
@@ -16,7 +16,6 @@ pub returns-in_default-clause-some : goal.returns-in_default-clause-some
 returns-in_default-clause-some c = grind (arith, common_steps)
 
 pub returns-in_ok-self-clause-wide : goal.returns-in_ok-self-clause-wide
-returns-in_ok-self-clause-wide c = nodes_reopened c.args.self.now.nodes.items c.pop.new.self.items c.args.self.now.blocks.items c.in_ok-self.field-0.items c.in-Some.node c.requires.wide c.in-Some.ensures.items (c.in_ok-self.ensures ∙ c.blocks-in-Some.ensures.value)
-
-pub returns-in_ok-self-clause-width : goal.returns-in_ok-self-clause-width
-returns-in_ok-self-clause-width c = ap length (c.in_ok-self.ensures ∙ c.blocks-in-Some.ensures.value) ∙ sym (width_reopened c.args.self.now.nodes.items c.pop.new.self.items c.args.self.now.blocks.items c.in-Some.node (none_there _ (omega arith)) c.in-Some.ensures.items)
+returns-in_ok-self-clause-wide c =
+    let last = nodes_last c.args.self.now.nodes.items c.pop.new.self.items c.args.self.now.blocks.items c.in-Some.node c.requires.wide c.in-Some.ensures.items in
+    nodes_popped c.args.self.now.nodes.items c.pop.new.self.items c.args.self.now.blocks.items c.in_ok-self.field-0.items c.in-Some.node c.requires.wide c.in-Some.ensures.items (omega (arith, ap length (c.in_ok-self.ensures ∙ c.blocks-in-Some.ensures.value), last.0))
