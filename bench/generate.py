@@ -3,6 +3,7 @@
 moc_a.txt, moc_b.txt    about 1,000,000 cells each, orders 12 to 14, in pieces; in normal form
 *.script                the same work as scripts of `moc run` (lines below 1,048,576 bytes)
 adds.txt, adds.script   100,000 random cells of order 13; each an `add` followed by a count of the whole sky
+rising.script, falling.script, shuffled.script: 400,000 adds of every second cell of order 12, in that order
 near.script, adds_big.script, count_big.script: 100,000 `near`, 10,000 `add`, 100,000 `count` of one cell after A is loaded
 play.script             20,000 operations of `play`, five lines each
 moc_a.json, moc_a.uniq  A in the two other forms
@@ -183,6 +184,10 @@ def main():
     put("adds.script", "".join("add 13/%d\ncount 0/0-11\n" % c for c in adds))
     put("adds_only.script", "".join("add 13/%d\n" % c for c in adds) + "count 0/0-11\n")
     put("adds_count_cell.script", "".join("add 13/%d\ncount 13/%d\n" % (c, c) for c in adds))
+    every_second = ["add 12/%d\n" % (2 * j) for j in range(400000)]
+    put("rising.script", every_second + whole)
+    put("falling.script", every_second[::-1] + whole)
+    put("shuffled.script", [every_second[j * 2654435761 % 400000] for j in range(400000)] + whole)
     put("near.script", load + ["near 13 %d\n" % (next(g) % (12 * 4 ** 13)) for _ in range(100000)])
     put("adds_big.script", load + ["add 13/%d\n" % c for c in adds[:10000]] + whole)
     put("count_big.script", load + ["count 13/%d\n" % c for c in adds] + whole)
