@@ -155,11 +155,49 @@ fn gathered_cells(rt: HostRuntime) {
         .add_cell(Cell::new(Order::of(28), 0).expect(&rt, "memory"))
         .expect(&rt, "memory");
     builder.add_cells(deepest, 9, 10).expect(&rt, "memory");
-    let set = builder.build(rt.alloc()).expect(&rt, "memory");
+    let set = builder.build().expect(&rt, "memory");
     let mut ranges = set.ranges();
     assert_eq!(rt; ranges.next(), Some((0, 4)));
     assert_eq!(rt; ranges.next(), Some((8, 11)));
     assert_eq!(rt; ranges.next(), None);
+}
+
+#[test]
+fn cells_of_an_iterator(rt: HostRuntime) {
+    let order = Order::new(28).expect(&rt, "order");
+    let mut builder = CoverageBuilder::new(rt.alloc());
+    builder
+        .extend([Cell::of(order, 2), Cell::of(order, 0)].iter().copied())
+        .expect(&rt, "memory");
+    let set = builder.build().expect(&rt, "memory");
+    assert!(rt; set == set_of(&rt, rt.alloc(), &[(0, 4), (8, 12)]));
+    let mut again = CoverageBuilder::new(rt.alloc());
+    again
+        .extend(set.cells(rt.alloc()).expect(&rt, "memory"))
+        .expect(&rt, "memory");
+    assert!(rt; again.build().expect(&rt, "memory") == set);
+}
+
+// The order is 29 less half the zeros at the end of all bounds together; 3/10 is the pixels from 10 * 4^26 to 11 * 4^26.
+#[test]
+fn ranges_and_deepest_orders(rt: HostRuntime) {
+    let cases: [(&[(u64, u64)], usize, u8); 7] = [
+        (&[], 0, 0),
+        (&[(0, 3458764513820540928)], 1, 0),
+        (&[(0, 288230376151711744)], 1, 0),
+        (&[(45035996273704960, 49539595901075456)], 1, 3),
+        (&[(0, 4), (8, 12)], 2, 28),
+        (&[(3, 4), (64, 128)], 2, 29),
+        (&[(16, 3458764513820540928)], 1, 27),
+    ];
+    for (pairs, count, order) in cases {
+        let set = set_of(&rt, rt.alloc(), pairs);
+        assert_eq!(rt; set.range_count(), count);
+        assert_eq!(rt; set.deepest_order().get(), order);
+    }
+    let many = dots(&rt, rt.alloc(), 12800);
+    assert_eq!(rt; many.range_count(), 12800);
+    assert_eq!(rt; many.deepest_order().get(), 29);
 }
 
 // Every third of 6,000 pixels, in an order that jumps back and forth: 7 and 6,000 have no common
@@ -178,7 +216,7 @@ fn many_cells_in_mixed_order(rt: HostRuntime) {
             pairs.push((pixel, pixel + 1)).expect(&rt, "memory");
         }
     }
-    let set = builder.build(rt.alloc()).expect(&rt, "memory");
+    let set = builder.build().expect(&rt, "memory");
     assert_eq!(rt; set.count(), 2000);
     let mut next = 0u64;
     for (from, to) in set.ranges() {

@@ -1,5 +1,5 @@
 //! Numbers of cells: rows worked by hand, and every cell of the small orders.
-use moc_sphere::{Cell, CellError, Order};
+use moc_sphere::{Cell, CellError, Order, OrderError};
 use std::test::Fail;
 
 fn at(order: u8, index: u64) -> Result<Cell, Fail> {
@@ -101,6 +101,45 @@ fn refusals_and_spans(rt: HostRuntime) -> Result<(), Fail> {
 }
 
 #[test]
+fn orders_and_their_nsides(rt: HostRuntime) {
+    for (order, nside) in [(0u8, 1u64), (3, 8), (29, 536870912)] {
+        let order = Order::new(order).expect(&rt, "order");
+        assert_eq!(rt; order.nside(), nside);
+        assert!(rt; Order::from_nside(nside) == Ok(order));
+        assert!(rt; Order::try_from(u64::from(order.get())) == Ok(order));
+    }
+    for nside in [0u64, 3, 12, 536870911, 1073741824, 18446744073709551615] {
+        assert!(rt; Order::from_nside(nside) == Err(OrderError::NotNside));
+    }
+    assert!(rt; Order::try_from(30) == Err(OrderError::OrderTooLarge));
+    assert!(rt; Order::try_from(256) == Err(OrderError::OrderTooLarge));
+}
+
+#[test]
+fn base_pixels_and_children(rt: HostRuntime) {
+    for (order, index, base_pixel) in [
+        (0u8, 11u64, 11u8),
+        (1, 18, 4),
+        (29, 288230376151711743, 0),
+        (29, 288230376151711744, 1),
+    ] {
+        let order = Order::new(order).expect(&rt, "order");
+        let cell = Cell::new(order, index).expect(&rt, "cell");
+        assert_eq!(rt; cell.base_pixel(), base_pixel);
+    }
+    let cell = Cell::new(Order::of(3), 10).expect(&rt, "cell");
+    let children = cell.children().expect(&rt, "children");
+    let mut index = 40u64;
+    for child in children {
+        assert_eq!(rt; (child.order().get(), child.index()), (4, index));
+        assert!(rt; child.parent() == Some(cell));
+        index = index.saturating_add(1);
+    }
+    assert_eq!(rt; index, 44);
+    assert!(rt; Cell::of(Order::MAX, 0).children().is_none());
+}
+
+#[test]
 fn cells_are_ordered_and_shown(rt: HostRuntime) -> Result<(), Fail> {
     assert!(rt; at(0, 11)? < at(1, 0)? && at(1, 0)? < at(1, 1)?);
     assert_eq!(rt; at(29, 17)?.to_string(rt.alloc())?.as_str(), "29/17");
@@ -119,6 +158,10 @@ fn cells_are_ordered_and_shown(rt: HostRuntime) -> Result<(), Fail> {
     ] {
         assert_eq!(rt; format!(in rt.alloc(); "{error}")?.as_str(), text);
     }
+    let large = format!(in rt.alloc(); "{}", OrderError::OrderTooLarge)?;
+    assert_eq!(rt; large.as_str(), "the deepest order is 29");
+    let no_side = format!(in rt.alloc(); "{}", OrderError::NotNside)?;
+    assert_eq!(rt; no_side.as_str(), "no order has an nside of that number");
     Ok(())
 }
 

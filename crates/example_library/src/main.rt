@@ -13,10 +13,8 @@ use std::alloc::Global;
 fn around(alloc: Global, cell: Cell) -> Result<Coverage, Memory> {
     let mut cells = CoverageBuilder::new(alloc);
     cells.add_cell(cell)?;
-    for near in cell.touching_cells(alloc).as_slice() {
-        cells.add_cell(*near)?;
-    }
-    cells.build(alloc)
+    cells.extend(cell.touching_cells(alloc))?;
+    cells.build()
 }
 
 /// Two texts as sets, what they have in common, and how much of the sky the first has.

@@ -16,5 +16,5 @@ pub(crate) fn surroundings_of(alloc: Global, cell: Cell) -> Result<Coverage, Mem
     for index in cell.touching(alloc).as_slice() {
         around.add_cells(order, *index, *index)?;
     }
-    around.build(alloc)
+    around.build()
 }

@@ -37,7 +37,7 @@ pub record Scanning (ends widest : ℕ) (rest whole : List (ℕ × ℕ)) : Type 
 pub scan_start : (rs : List (ℕ × ℕ)) → IsNormal rs → Scanning 0 0 rs rs
 scan_start rs normal = record { normal = normal; multiples = λ s none all. all; narrow = λ n le all. all }
 
-or_multiple : (a b s : ℕ) → bit_or a b % 2 ^ s ≡ 0 → (a % 2 ^ s ≡ 0) × (b % 2 ^ s ≡ 0)
+pub or_multiple : (a b s : ℕ) → bit_or a b % 2 ^ s ≡ 0 → (a % 2 ^ s ≡ 0) × (b % 2 ^ s ≡ 0)
 or_multiple a b s none =
     let parts : bit_or (a % 2 ^ s) (b % 2 ^ s) ≡ 0 = sym (or_mod a b s) ∙ none in
     let l = le_or_l (a % 2 ^ s) (b % 2 ^ s) in
@@ -90,7 +90,7 @@ first_order k l n small le high =
 
 -- ---- the greatest order
 
-multiple_of : (a n : ℕ) → a % n ≡ 0 → a ≡ a / n * n
+pub multiple_of : (a n : ℕ) → a % n ≡ 0 → a ≡ a / n * n
 multiple_of a n none = omega (arith, div-add-mod' a n)
 
 -- where both bounds are multiples of the parent's size, the parent of a cell in a range lies in it too
@@ -126,7 +126,7 @@ no_deeper k i rs small all =
     ∙ no_parts (cell_size (suc k)) i rs (cell_size-positive (suc k)) (subst (λ (w : ℕ). AllMultiples w rs) four all)
 
 -- the bits below a number's trailing zeros are zeros
-low_zeros : (n j : ℕ) → n < 2 ^ 64 → j ≤ trailing_zeros w64 n → n % 2 ^ j ≡ 0
+pub low_zeros : (n j : ℕ) → n < 2 ^ 64 → j ≤ trailing_zeros w64 n → n % 2 ^ j ≡ 0
 low_zeros zero j fits_in le = zero_mod j
   where
     zero_mod : (j : ℕ) → 0 % 2 ^ j ≡ 0

@@ -4,15 +4,15 @@ use Rattle.std.specs.Prelude.{None}
 use Rattle.std.specs.FinSet as set
 use Rattle.std.specs.Cmp.{nat_cmp_total}
 use Rattle.std.proofs.lemmas.Bool.Decides.{nat_tests}
-use Rattle.moc_sphere.specs.CellNumber.{cell_count, cell_size, cell_number, IsInSpan}
+use Rattle.moc_sphere.specs.CellNumber.{CellNumber, cell_count, cell_size, cell_number, IsInSpan}
 use Rattle.moc_ranges.specs.Numbers.{NumberSet, numbers, contains-numbers, same_members}
 use Rattle.moc_ranges.specs.Pixels.{pixel_count}
-use Rattle.moc_ranges.specs.Cells.{span, spans, contains-spans}
+use Rattle.moc_ranges.specs.Cells.{span, spans, pixels_of, contains-spans}
 use Rattle.std.specs.Option.{option_or}
 use Rattle.moc_ranges.specs.Faults.{first_fault_from, pair_fault}
 use Rattle.moc_ranges.specs.RangeList.{set_of, contains-set_of}
 use Rattle.moc_ranges.specs.Private.Gathered.{gathered}
-use Rattle.moc_ranges.specs.Laws.{empty-union, union-empty, union-assoc, row_of_cells}
+use Rattle.moc_ranges.specs.Laws.{empty-union, union-empty, union-assoc, pixels_of-append, row_of_cells}
 use Rattle.moc_ranges.proofs.Sorting.{in_ranges-push, no_fault_parts}
 use Rattle.moc_ranges.proofs.Spans.{span_view}
 
@@ -100,3 +100,18 @@ faultless-push at [] pair none rising within = grind (arith, nat_tests)
 faultless-push at (p ∷ pairs) pair none rising within =
     let parts = no_fault_parts (pair_fault at p) (first_fault_from (at + 1) pairs) none in
     ap (λ f. option_or f (first_fault_from (at + 1) (pairs ++ pair ∷ []))) parts.0 ∙ faultless-push (at + 1) pairs pair parts.1 rising within
+
+-- no cell is added yet
+pub no_cells_added : (a : NumberSet) → a ≡ set.union a (pixels_of [])
+unfolding pixels_of
+no_cells_added a = sym (union-empty a)
+
+one_cell : (c : CellNumber) → pixels_of (c ∷ []) ≡ span c.order c.index
+unfolding pixels_of
+one_cell c = union-empty (span c.order c.index)
+
+-- a cell more is added
+pub cell_added : (a : NumberSet) (cells : List CellNumber) (c : CellNumber) → set.union (set.union a (pixels_of cells)) (span c.order c.index) ≡ set.union a (pixels_of (cells ++ c ∷ []))
+cell_added a cells c =
+    union-assoc a (pixels_of cells) (span c.order c.index)
+    ∙ ap (λ (b : NumberSet). set.union a b) (ap (λ (b : NumberSet). set.union (pixels_of cells) b) (sym (one_cell c)) ∙ sym (pixels_of-append cells (c ∷ [])))

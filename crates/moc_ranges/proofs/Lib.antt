@@ -20,3 +20,4 @@ pub mod Stepping
 pub mod Slices
 pub mod Shortening
 pub mod Differing
+pub mod Deepest

@@ -25,13 +25,13 @@ floor_le w q = omega (arith, div-add-mod' q w)
 floor_gt : (w q : ℕ) → 0 < w → q < q / w * w + w
 floor_gt w q some = omega (arith, div-add-mod' q w)
 
-same_quotient : (w c p : ℕ) → 0 < w → c * w ≤ p → p < c * w + w → p / w ≡ c
+pub same_quotient : (w c p : ℕ) → 0 < w → c * w ≤ p → p < c * w + w → p / w ≡ c
 same_quotient w c p some low high =
     let le = le-div c p w some low in
     let lt = div_below p w (c + 1) some (omega arith) in
     omega arith
 
-rises : (w x y : ℕ) → 0 < w → x ≤ y → x / w ≤ y / w
+pub rises : (w x y : ℕ) → 0 < w → x ≤ y → x / w ≤ y / w
 rises w x y some le = le-div (x / w) y w some (omega (arith, floor_le w x))
 
 -- a number inside a widened range shares its cell with one inside the range

@@ -10,7 +10,7 @@ use crate::coverage::Coverage;
 use crate::errors::Memory;
 use crate::from_ranges::{append, build};
 use moc_sphere::{Cell, Order};
-use std::alloc::Global;
+use std::alloc::{AllocError, Global};
 use std::marker::Model;
 
 /// How many ranges wait at least before they are joined.
@@ -82,9 +82,10 @@ impl CoverageBuilder {
     }
 
     /// The coverage of all cells that were added; refused where memory runs out.
-    pub fn build(self, alloc: Global) -> Result<Coverage, Memory>
+    pub fn build(self) -> Result<Coverage, Memory>
         ensures { IfOk result (λ c. c ≡ self) }
     {
+        let alloc = *self.waiting.allocator();
         if self.waiting.is_empty() && self.joined.is_empty() {
             return Ok(Coverage::from_normal(alloc, self.rising)?);
         }
@@ -146,5 +147,21 @@ impl CoverageBuilder {
         let risen = build(alloc, &self.rising)?;
         let waited = Coverage::from_faultless(alloc, &self.waiting)?;
         self.joined.union(alloc, &risen)?.union(alloc, &waited)
+    }
+}
+
+/// Adds cells in any order, as `add_cell` does. Where memory runs out, those that came before are added.
+impl Extend<Cell> for CoverageBuilder {
+    ghost use Rattle.std.specs.Prelude.{◌≡◌};
+    ghost use Rattle.std.specs.FinSet as set;
+    ghost use Rattle.moc_ranges.specs.Cells.{pixels_of};
+
+    ghost extend_gives = { λ old cells new. new ≡ set.union old (pixels_of cells) };
+
+    fn extend<I: IntoIterator<Item = Cell>>(&mut self, cells: I) -> Result<(), AllocError> {
+        for cell in cells {
+            self.add_cell(cell)?;
+        }
+        Ok(())
     }
 }

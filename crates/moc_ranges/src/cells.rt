@@ -1,6 +1,7 @@
 //! From ranges to cells: order after order, and within an order range after range.
-ghost use Rattle.std.specs.Prelude.{◌≡◌, ◌++◌, ◌<◌, ◌≤◌, [], ◌∷◌, OnOk};
+ghost use Rattle.std.specs.Prelude.{◌≡◌, ◌++◌, ◌<◌, ◌≤◌, ℕ, [], ◌∷◌, OnOk};
 ghost use Rattle.moc_sphere.specs.CellNumber.{cell_count};
+ghost use Rattle.moc_ranges.specs.Cells.{degrade};
 ghost use Rattle.moc_ranges.specs.Private.CellRuns.{AreWhole, HasOrders, cells_at, cells_between};
 ghost use Rattle.moc_ranges.specs.Pixels.{pixel_count};
 ghost use Rattle.moc_ranges.specs.RangeList.{IsNormal, set_of};
@@ -28,6 +29,20 @@ pub fn orders_with_cells(ranges: Ranges<'_>) -> (u8, u8)
     let above = (widest.ilog2() / 2).min(29);
     let below = (ends.trailing_zeros() / 2).min(29);
     (29 - above as u8, 30 - below as u8)
+}
+
+/// The least order of whose cells the set of ranges is a union: the size of its cells divides all bounds.
+pub fn deepest_order(ranges: Ranges<'_>) -> Order
+    requires { IsNormal ranges }
+    ensures whole { degrade (set_of ranges.entry) result ≡ set_of ranges.entry }
+    ensures least { (k : ℕ) → degrade (set_of ranges.entry) k ≡ set_of ranges.entry → result ≤ k }
+{
+    let mut bounds: u64 = 0;
+    for (from, to) in ranges {
+        bounds |= from | to;
+    }
+    let below = (bounds.trailing_zeros() / 2).min(29);
+    Order::of(29 - below as u8)
 }
 
 /// The cells of an order that lie whole in a range: the index of the first, and the one after the

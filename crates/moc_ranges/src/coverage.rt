@@ -1,5 +1,5 @@
 //! Sets of pixels, and the operations on them.
-ghost use Rattle.std.specs.Prelude.{◌≡◌, [], ◌∷◌, ℕ, true, IfSome, MatchOption, ◌+◌, ◌<◌, ◌≤◌, ◌↔◌, nat_lt, IsTrue};
+ghost use Rattle.std.specs.Prelude.{◌≡◌, [], ◌∷◌, ℕ, List, length, true, IfSome, MatchOption, ◌+◌, ◌<◌, ◌≤◌, ◌↔◌, nat_lt, IsTrue};
 ghost use Rattle.std.specs.Prelude.{if◌then◌else◌, IfOk, IfErr, OnOk, OnErr, None, unwrap_or};
 ghost use Rattle.moc_ranges.specs.Faults.{first_fault};
 ghost use Rattle.std.specs.Cmp.{partial_equiv_from_equiv};
@@ -14,7 +14,7 @@ ghost use Rattle.moc_ranges.specs.Private.Blocks.{IsStored, rest_of};
 ghost use Rattle.moc_ranges.specs.Private.Walks.{IsNextRange, HasNoneFrom};
 
 use crate::block::{LONGEST, measure_ranges};
-use crate::cells::{orders_with_cells, push_cells_of_order};
+use crate::cells::{deepest_order, orders_with_cells, push_cells_of_order};
 use crate::chunks::Chunks;
 use crate::difference::subtract;
 use crate::errors::{Memory, RangesError};
@@ -193,9 +193,20 @@ impl Coverage {
         })
     }
 
-    /// How many ranges the set has.
-    pub(crate) fn range_count(&self) -> usize {
+    /// How many ranges the set has in its one normal list. O(n / 2048), takes no memory.
+    pub fn range_count(&self) -> usize
+        ensures { (ranges : List (ℕ × ℕ)) × IsNormal ranges × (set_of ranges ≡ self.now) × (result ≡ length ranges) }
+    {
         self.ranges().size_hint().0
+    }
+
+    /// The least order of whose cells the set is a union: the MOC order that the set itself needs (MOC 2.0). 0 for the empty
+    /// set, which is a union of no cells. One pass, O(n); takes no memory.
+    pub fn deepest_order(&self) -> Order
+        ensures whole { degrade self.now result ≡ self.now }
+        ensures least { (k : ℕ) → degrade self.now k ≡ self.now → result ≤ k }
+    {
+        deepest_order(self.ranges())
     }
 
     /// The pixels of either set. One pass, O(n + m), in which blocks and nodes of one set that end

@@ -58,7 +58,7 @@ pub(crate) fn touching_across(
 {
     let order = cell.order();
     let from = Place::new(u32::from(face), x, y);
-    let side = order.side() as u32;
+    let side = order.nside() as u32;
     let mut cells = SmallVec::new(alloc);
     for step in 0u32..9 {
         if step != 4 {

@@ -130,7 +130,7 @@ pub fn read_uniq(alloc: Global, text: &[u8]) -> Result<Coverage, UniqError>
         rest = read_line(&mut cells, line, rest)?;
         line += 1;
     }
-    Ok(cells.build(alloc)?)
+    Ok(cells.build()?)
 }
 
 /// Writes the lines of cells.

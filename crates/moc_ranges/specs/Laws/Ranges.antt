@@ -13,7 +13,7 @@ use Rattle.moc_ranges.specs.Pixels.{pixel_count}
 use Rattle.moc_ranges.specs.RangeList.{set_of, contains-set_of, BeginsAfter, IsNormal, in_ranges}
 
 -- no number up to the end of a normal list's first range is in a later one
-later_only : (x q : ℕ) (ranges : List (ℕ × ℕ)) → IsNormal ranges → BeginsAfter x ranges → q ≤ x
+pub later_only : (x q : ℕ) (ranges : List (ℕ × ℕ)) → IsNormal ranges → BeginsAfter x ranges → q ≤ x
     → in_ranges ranges q ≡ false
 later_only x q [] normal after le = refl
 later_only x q (range ∷ ranges) normal after le =
@@ -93,16 +93,16 @@ len_bounded [] normal = omega (arith, len_nothing)
 len_bounded (range ∷ ranges) normal =
     omega (arith, len-set_of_cons range ranges normal, room range.1 ranges normal.1 normal.3 normal.2)
 
-in_first : (range : ℕ × ℕ) (ranges : List (ℕ × ℕ)) (q : ℕ) → range.0 ≤ q → q < range.1
+pub in_first : (range : ℕ × ℕ) (ranges : List (ℕ × ℕ)) (q : ℕ) → range.0 ≤ q → q < range.1
     → in_ranges (range ∷ ranges) q ≡ true
 in_first range ranges q from to = grind (arith, nat_tests)
 
-not_before : (range : ℕ × ℕ) (ranges : List (ℕ × ℕ)) → IsNormal (range ∷ ranges) → (q : ℕ) → q < range.0
+pub not_before : (range : ℕ × ℕ) (ranges : List (ℕ × ℕ)) → IsNormal (range ∷ ranges) → (q : ℕ) → q < range.0
     → in_ranges (range ∷ ranges) q ≡ false
 not_before range ranges normal q lt =
     let rest = later_only range.1 q ranges normal.3 normal.2 (omega arith) in grind (arith, nat_tests)
 
-at_end : (range : ℕ × ℕ) (ranges : List (ℕ × ℕ)) → IsNormal (range ∷ ranges)
+pub at_end : (range : ℕ × ℕ) (ranges : List (ℕ × ℕ)) → IsNormal (range ∷ ranges)
     → in_ranges (range ∷ ranges) range.1 ≡ false
 at_end range ranges normal =
     let rest = later_only range.1 range.1 ranges normal.3 normal.2 (omega arith) in grind (arith, nat_tests)

@@ -1,5 +1,5 @@
 //! Reading the ASCII form.
-ghost use Rattle.std.specs.Prelude.{◌≡◌, ℕ, [], IfOk, IfErr, MatchResult, None, Option, Some, SomeIff, ◌≤◌, ◌⊎◌};
+ghost use Rattle.std.specs.Prelude.{◌≡◌, ℕ, [], IfOk, IfErr, MatchResult, None, Option, Some, ◌⊎◌};
 ghost use Rattle.std.specs.FinSet as set;
 ghost use Rattle.moc_ranges.specs.Numbers.{NumberSet};
 ghost use Rattle.moc_text.specs.Ascii.{mark_fault, item_fault, item_pixels, order_at, deeper, Says, IsFirstFault};
@@ -13,13 +13,6 @@ use crate::ascii::scan::{is_separator, place, word};
 use moc_ranges::{Coverage, CoverageBuilder};
 use moc_sphere::Order;
 use std::alloc::Global;
-
-/// The order of this depth, or `None` above 29.
-fn order_of(depth: u64) -> Option<Order>
-    ensures { SomeIff result (depth ≤ 29) depth }
-{
-    Order::new(u8::try_from(depth).ok()?)
-}
 
 /// What the words so far say.
 #[derive(Drop)]
@@ -42,7 +35,7 @@ impl Reading {
         let Some(mark) = mark else {
             return Ok(());
         };
-        let Some(order) = order_of(mark.value) else {
+        let Ok(order) = Order::try_from(mark.value) else {
             return Err(TextError::OrderTooLarge { at: mark.at });
         };
         self.order = Some(order);
@@ -132,7 +125,7 @@ pub fn read_ascii(alloc: Global, text: &[u8]) -> Result<(Coverage, Option<Order>
     ensures told { IsReadingOf text.now result }
 {
     let reading = read_words(alloc, text)?;
-    let set = reading.cells.build(alloc)?;
+    let set = reading.cells.build()?;
     Ok((set, reading.deepest))
 }
 

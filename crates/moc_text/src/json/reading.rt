@@ -174,7 +174,7 @@ pub fn read_json(alloc: Global, text: &[u8]) -> Result<(Coverage, Option<Order>)
     };
     let mut cells = CoverageBuilder::new(alloc);
     let deepest = read_members(&mut cells, members)?;
-    let set = cells.build(alloc)?;
+    let set = cells.build()?;
     Ok((set, deepest))
 }
 

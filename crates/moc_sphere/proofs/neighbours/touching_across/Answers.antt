@@ -29,7 +29,7 @@ loop-step-preserved c =
     let face : p.face ≡ face_of k i = ap (λ (q : Place). q.face) c.new-from.ensures ∙ c.from.ensures ∙ sym c.requires.place.face in
     let x : p.x ≡ x_of k i = ap (λ (q : Place). q.x) c.new-from.ensures ∙ sym c.requires.place.right in
     let y : p.y ≡ y_of k i = ap (λ (q : Place). q.y) c.new-from.ensures ∙ sym c.requires.place.up in
-    let n : c.side-side.result ≡ 2 ^ k = c.side-side.ensures.value ∙ ap (λ o. 2 ^ o) c.order-order.ensures in
+    let n : c.nside-side.result ≡ 2 ^ k = c.nside-side.ensures.value ∙ ap (λ o. 2 ^ o) c.order-order.ensures in
     let f = c.loop-step.invariant.found in
     elim c.if-step-ne4.branch [
       | then-step-ne4+in-Some w ↦

@@ -4,15 +4,15 @@ use Rattle.moc_sphere.proofs.rings.belt_place.Goals as goal
 
 pub overflow_sub-falling : goal.overflow_sub-falling
 overflow_sub-falling c =
-    belt_falls c.args.order c.get-k.result c.side-n.result c.args.place c.get-k.ensures.value c.side-n.ensures.value c.requires
+    belt_falls c.args.order c.get-k.result c.nside-n.result c.args.place c.get-k.ensures.value c.nside-n.ensures.value c.requires
 
 pub face_of_strips-requires : goal.face_of_strips-requires
 face_of_strips-requires c =
-    let belt = belt_by_shifts c.args.order c.get-k.result c.side-n.result c.args.place c.get-k.ensures.value c.side-n.ensures.value c.requires in
+    let belt = belt_by_shifts c.args.order c.get-k.result c.nside-n.result c.args.place c.get-k.ensures.value c.nside-n.ensures.value c.requires in
     belt.face_in_range
 
 pub returns : goal.returns
 returns c =
     let n = 2 ^ c.args.order in
     with_face n (2 * n * (n - 1) + c.args.place) _ _ _ _ (sym c.face_of_strips.ensures)
-    (belt_by_shifts c.args.order c.get-k.result c.side-n.result c.args.place c.get-k.ensures.value c.side-n.ensures.value c.requires)
+    (belt_by_shifts c.args.order c.get-k.result c.nside-n.result c.args.place c.get-k.ensures.value c.nside-n.ensures.value c.requires)

@@ -11,7 +11,7 @@ returns-clause-row_in_range c =
     let y = c.face_xy-face.result.2 in
     let xy = c.face_xy-face.ensures in
     let order : c.self.inside.order ≡ c.args.self.order = search rules in
-    let side = c.side-side.ensures.value ∙ ap (λ k. 2 ^ k) order in
+    let side = c.nside-side.ensures.value ∙ ap (λ k. 2 ^ k) order in
     let is : c.row.result ≡ row_at n face x y =
     c.row.ensures ∙ (λ i. row_at (side i) face (c.from-x.ensures i) (c.from-y.ensures i)) in
     let bounds = row_bounds n face x y xy.face_in_range xy.x_in_range xy.y_in_range in
