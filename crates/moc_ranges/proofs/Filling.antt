@@ -1,5 +1,5 @@
 -- Lists by the two rules of lengths: each has 1 to so many elements, and two side by side have together more.
-use Rattle.std.proofs.Common.{◌≡◌, ℕ, zero, suc, ◌+◌, ◌<◌, ◌≤◌, List, [], ◌∷◌, ◌++◌, length, get_or, refl, sym, ap, subst, ◌∙◌, arith, length-append, append_assoc}
+use Rattle.std.proofs.Common.{◌≡◌, ℕ, zero, suc, ◌+◌, ◌<◌, ◌≤◌, List, [], ◌∷◌, ◌++◌, length, get_or, refl, sym, ap, subst, ◌∙◌, arith, append_assoc}
 use Rattle.moc_ranges.specs.Private.Blocks.{joining, AreFilled}
 use Rattle.moc_ranges.specs.Private.Built.{AreNodes, first_length, last_length}
 use Rattle.moc_ranges.proofs.Blocking.{joining-last, nothing_more}

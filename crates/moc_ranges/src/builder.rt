@@ -24,6 +24,8 @@ const FEWEST_WAITING: usize = 512;
 #[derive(Debug, Drop)]
 pub struct CoverageBuilder {
     joined: Coverage,
+    /// How many ranges are joined.
+    joined_count: usize,
     /// Ranges that rise and do not touch.
     rising: Vec<(u64, u64)>,
     waiting: Vec<(u64, u64)>,
@@ -51,6 +53,7 @@ impl CoverageBuilder {
     {
         Self {
             joined: Coverage::empty(alloc),
+            joined_count: 0,
             rising: Vec::new(alloc),
             waiting: Vec::new(alloc),
         }
@@ -127,6 +130,7 @@ impl CoverageBuilder {
     {
         let alloc = *self.waiting.allocator();
         self.joined = self.all_gathered(alloc)?;
+        self.joined_count = self.joined.range_count();
         self.rising.clear();
         self.waiting.clear();
         Ok(())
@@ -134,10 +138,7 @@ impl CoverageBuilder {
 
     /// How many ranges may wait.
     fn limit(&self) -> usize {
-        self.rising
-            .len()
-            .max(self.joined.range_count())
-            .max(FEWEST_WAITING)
+        self.rising.len().max(self.joined_count).max(FEWEST_WAITING)
     }
 
     /// What is joined and what waits, as one coverage.

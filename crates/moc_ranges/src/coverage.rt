@@ -193,7 +193,7 @@ impl Coverage {
         })
     }
 
-    /// How many ranges the set has in its one normal list. O(n / 2048), takes no memory.
+    /// How many ranges the set has in its one normal list. O(n / 548), takes no memory.
     pub fn range_count(&self) -> usize
         ensures { (ranges : List (ℕ × ℕ)) × IsNormal ranges × (set_of ranges ≡ self.now) × (result ≡ length ranges) }
     {
@@ -416,7 +416,7 @@ impl Coverage {
         self.is_as_large(other) && are_same(self.ranges(), other.ranges())
     }
 
-    /// Whether two sets have as many ranges, or as many pixels where one of them is in blocks. O(n / 2048).
+    /// Whether two sets have as many ranges, or as many pixels where one of them is in blocks. O(n / 548).
     fn is_as_large(&self, other: &Coverage) -> bool
         ensures { self.now ≡ other.now → IsTrue result }
     {

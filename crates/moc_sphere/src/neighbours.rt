@@ -1,39 +1,35 @@
 //! The cells that touch a cell: HEALPix's neighbours.
 ghost use Rattle.smallvec.specs.SmallVec.{small_vec_len};
-ghost use Rattle.moc_sphere.specs.Faces.{IsAt};
+ghost use Rattle.moc_sphere.specs.CellNumber.{IsCell};
+ghost use Rattle.moc_sphere.specs.Faces.{IsAt, spread_of, x_of, y_of};
 ghost use Rattle.moc_sphere.specs.Touching.{Touches};
 ghost use Rattle.std.specs.List.Sorted.{IsStrictlyIncreasing};
-ghost use Rattle.std.specs.Prelude.{◌≡◌, ℕ, ◌+◌, ◌<◌, ◌≤◌, ◌^◌, ◌↔◌, Contains};
+ghost use Rattle.std.specs.Prelude.{◌≡◌, ℕ, ◌-◌, ◌<◌, ◌≤◌, ◌^◌, ◌↔◌, Contains};
 
-use crate::bits::{spread, spread_after, spread_before};
+use crate::bits::{spread_after, spread_before};
 use crate::cell::Cell;
 use crate::rising::{insert_rising, sums_around};
 use crate::sides::{Place, beside};
 use smallvec::SmallVec;
 use std::alloc::Global;
 
-/// The cells that touch a cell, which has its place off the border of the base pixel: all lie in that one.
-pub(crate) fn touching_in_face(
-    cell: Cell,
-    face: u8,
-    x: u32,
-    y: u32,
-    alloc: Global,
-) -> SmallVec<u64, 8>
-    requires face { face < 12 }
-    requires place { IsAt cell face x y }
+/// The cells that touch a cell, whose x and y, spread, are off the border of the base pixel: all lie in that one.
+#[inline]
+pub(crate) fn touching_in_face(cell: Cell, x: u64, y: u64, alloc: Global) -> SmallVec<u64, 8>
+    requires cell { IsCell cell }
+    requires x { x ≡ spread_of 32 (x_of cell.order cell.index) }
+    requires y { y ≡ spread_of 32 (y_of cell.order cell.index) }
     requires x_above { 0 < x }
-    requires x_below { x + 1 < 2 ^ cell.order }
+    requires x_below { x < spread_of 32 (2 ^ cell.order - 1) }
     requires y_above { 0 < y }
-    requires y_below { y + 1 < 2 ^ cell.order }
+    requires y_below { y < spread_of 32 (2 ^ cell.order - 1) }
     ensures rising { IsStrictlyIncreasing result.items }
     ensures touch { (j : ℕ) → Contains result.items j ↔ Touches cell.order cell.index j }
     ensures few { small_vec_len result ≤ 8 }
     ensures inline { result.capacity ≡ 8 }
 {
-    let first = u64::from(face) << (2 * cell.order().get());
-    let x = spread(x);
-    let y = spread(y);
+    let digits = 2 * cell.order().get();
+    let first = (cell.index() >> digits) << digits;
     let across = [first + spread_before(x), first + x, first + spread_after(x)];
     let up = [2 * spread_before(y), 2 * y, 2 * spread_after(y)];
     SmallVec::from_buf(alloc, sums_around(across, up))

@@ -1,62 +1,101 @@
-use Rattle.std.proofs.Common.{◌≡◌, ◌<◌, ◌+◌, ◌-◌, ◌*◌, ◌%◌, ◌^◌, sym, subst, arith, ◌∙◌}
-use Rattle.moc_sphere.specs.CellNumber.{cell_count}
-use Rattle.moc_sphere.proofs.CellFacts.{spread_fits}
-use Rattle.moc_sphere.proofs.FaceBounds.{index_below}
+use Rattle.std.proofs.Common.{◌≡◌, ◌+◌, ◌-◌, ◌*◌, ◌/◌, ◌%◌, ◌^◌, ap, refl, arith, ◌∙◌}
+use Rattle.moc_sphere.specs.Faces.{face_of, x_of, y_of}
+use Rattle.moc_sphere.proofs.CellFacts.{face_code, spread_fits}
+use Rattle.moc_sphere.proofs.RingCount.{face_in_range}
 use Rattle.moc_sphere.proofs.Inside.{IsAround, in_word, across_fits, sums_fit, sums_apart, across_rises, up_rises, sums_touch}
-use Rattle.moc_sphere.proofs.SpreadSteps.{spread_of-positive, spread_of-below}
+use Rattle.moc_sphere.proofs.OffBorder.{is_off}
+use Rattle.moc_sphere.proofs.SpreadSteps.{spread_of-below}
 use Rattle.moc_sphere.proofs.neighbours.touching_in_face.Goals as goal
-
-pub spread_before-requires : goal.spread_before-requires
-spread_before-requires c = omega (arith, spread_of-positive 32 c.args.x c.requires.x_above (omega arith))
-
-pub spread_before-requires-2 : goal.spread_before-requires-2
-spread_before-requires-2 c = omega (arith, spread_of-positive 32 c.args.y c.requires.y_above (omega arith))
-
-pub spread_after-requires : goal.spread_after-requires
-spread_after-requires c = omega (arith, spread_of-below c.args.x (in_word c.args.cell.order c.args.x (omega (arith, c.get.ensures.in_range)) c.requires.x_below))
-
-pub spread_after-requires-2 : goal.spread_after-requires-2
-spread_after-requires-2 c = omega (arith, spread_of-below c.args.y (in_word c.args.cell.order c.args.y (omega (arith, c.get.ensures.in_range)) c.requires.y_below))
 
 pub overflow_add-across : goal.overflow_add-across
 overflow_add-across c =
-    omega (arith, across_fits c.args.cell.order c.args.face (c.args.x - 1) _ c.get.result c.from.result (c.get.ensures.value ∙ c.order.ensures) c.get.ensures.in_range c.from.ensures c.requires.face (omega arith) (c.spread_before.ensures c.args.x c.requires.x_above (omega arith) c.spread-x.ensures))
+    let k = c.args.cell.order in
+    let i = c.args.cell.index in
+    let j = c.get-digits.result in
+    let level : j ≡ k = c.get-digits.ensures.value ∙ c.order.ensures in
+    let v : c.index.result / 2 ^ (2 * j) ≡ face_of k i = ap (λ n. n / 2 ^ (2 * j)) c.index.ensures.value ∙ face_code k j i level in
+    let f = face_in_range k i c.requires.cell.index_in_range in
+    let o = is_off k i c.args.x c.args.y c.requires.x c.requires.y c.requires.x_above c.requires.x_below c.requires.y_above c.requires.y_below in
+    omega (arith, across_fits k (face_of k i) (x_of k i - 1) _ j _ level c.get-digits.ensures.in_range v f (omega (arith, o.x_below)) (c.spread_before.ensures (x_of k i) o.x_above (omega (arith, in_word k (x_of k i) c.requires.cell.order_in_range o.x_below)) c.requires.x))
 
 pub overflow_add-across-2 : goal.overflow_add-across-2
 overflow_add-across-2 c =
-    omega (arith, across_fits c.args.cell.order c.args.face c.args.x _ c.get.result c.from.result (c.get.ensures.value ∙ c.order.ensures) c.get.ensures.in_range c.from.ensures c.requires.face (omega arith) c.spread-x.ensures)
+    let k = c.args.cell.order in
+    let i = c.args.cell.index in
+    let j = c.get-digits.result in
+    let level : j ≡ k = c.get-digits.ensures.value ∙ c.order.ensures in
+    let v : c.index.result / 2 ^ (2 * j) ≡ face_of k i = ap (λ n. n / 2 ^ (2 * j)) c.index.ensures.value ∙ face_code k j i level in
+    let f = face_in_range k i c.requires.cell.index_in_range in
+    let o = is_off k i c.args.x c.args.y c.requires.x c.requires.y c.requires.x_above c.requires.x_below c.requires.y_above c.requires.y_below in
+    omega (arith, across_fits k (face_of k i) (x_of k i) _ j _ level c.get-digits.ensures.in_range v f (omega (arith, o.x_below)) c.requires.x)
+
+pub spread_after-requires : goal.spread_after-requires
+spread_after-requires c =
+    let k = c.args.cell.order in
+    let i = c.args.cell.index in
+    let o = is_off k i c.args.x c.args.y c.requires.x c.requires.y c.requires.x_above c.requires.x_below c.requires.y_above c.requires.y_below in
+    omega (arith, c.requires.x, spread_of-below (x_of k i) (in_word k (x_of k i) c.requires.cell.order_in_range o.x_below))
 
 pub overflow_add-across-3 : goal.overflow_add-across-3
 overflow_add-across-3 c =
-    omega (arith, across_fits c.args.cell.order c.args.face (c.args.x + 1) _ c.get.result c.from.result (c.get.ensures.value ∙ c.order.ensures) c.get.ensures.in_range c.from.ensures c.requires.face (omega arith) (c.spread_after.ensures c.args.x (in_word c.args.cell.order c.args.x (omega (arith, c.get.ensures.in_range)) c.requires.x_below) c.spread-x.ensures))
+    let k = c.args.cell.order in
+    let i = c.args.cell.index in
+    let j = c.get-digits.result in
+    let level : j ≡ k = c.get-digits.ensures.value ∙ c.order.ensures in
+    let v : c.index.result / 2 ^ (2 * j) ≡ face_of k i = ap (λ n. n / 2 ^ (2 * j)) c.index.ensures.value ∙ face_code k j i level in
+    let f = face_in_range k i c.requires.cell.index_in_range in
+    let o = is_off k i c.args.x c.args.y c.requires.x c.requires.y c.requires.x_above c.requires.x_below c.requires.y_above c.requires.y_below in
+    omega (arith, across_fits k (face_of k i) (x_of k i + 1) _ j _ level c.get-digits.ensures.in_range v f o.x_below (c.spread_after.ensures (x_of k i) (in_word k (x_of k i) c.requires.cell.order_in_range o.x_below) c.requires.x))
 
 pub overflow_mul-up : goal.overflow_mul-up
-overflow_mul-up c = omega (arith, spread_fits _ (c.args.y - 1) (c.spread_before-2.ensures c.args.y c.requires.y_above (omega arith) c.spread-y.ensures))
+overflow_mul-up c =
+    let k = c.args.cell.order in
+    let i = c.args.cell.index in
+    let o = is_off k i c.args.x c.args.y c.requires.x c.requires.y c.requires.x_above c.requires.x_below c.requires.y_above c.requires.y_below in
+    omega (arith, spread_fits _ (y_of k i - 1) (c.spread_before-2.ensures (y_of k i) o.y_above (omega (arith, in_word k (y_of k i) c.requires.cell.order_in_range o.y_below)) c.requires.y))
 
 pub overflow_mul-up-2 : goal.overflow_mul-up-2
-overflow_mul-up-2 c = omega (arith, spread_fits _ c.args.y c.spread-y.ensures)
+overflow_mul-up-2 c = omega (arith, spread_fits _ (y_of c.args.cell.order c.args.cell.index) c.requires.y)
+
+pub spread_after-requires-2 : goal.spread_after-requires-2
+spread_after-requires-2 c =
+    let k = c.args.cell.order in
+    let i = c.args.cell.index in
+    let o = is_off k i c.args.x c.args.y c.requires.x c.requires.y c.requires.x_above c.requires.x_below c.requires.y_above c.requires.y_below in
+    omega (arith, c.requires.y, spread_of-below (y_of k i) (in_word k (y_of k i) c.requires.cell.order_in_range o.y_below))
 
 pub overflow_mul-up-3 : goal.overflow_mul-up-3
-overflow_mul-up-3 c = omega (arith, spread_fits _ (c.args.y + 1) (c.spread_after-2.ensures c.args.y (in_word c.args.cell.order c.args.y (omega (arith, c.get.ensures.in_range)) c.requires.y_below) c.spread-y.ensures))
+overflow_mul-up-3 c =
+    let k = c.args.cell.order in
+    let i = c.args.cell.index in
+    let o = is_off k i c.args.x c.args.y c.requires.x c.requires.y c.requires.x_above c.requires.x_below c.requires.y_above c.requires.y_below in
+    omega (arith, spread_fits _ (y_of k i + 1) (c.spread_after-2.ensures (y_of k i) (in_word k (y_of k i) c.requires.cell.order_in_range o.y_below) c.requires.y))
 
 -- the code's numbers
-around : (c : goal.After-spread_after-2) → IsAround c.args.cell.order c.args.face c.args.x c.args.y (c.from.result * 2 ^ (2 * c.get.result) % 2 ^ 64) c.spread_before.result c.spread-x.result c.spread_after.result c.spread_before-2.result c.spread-y.result c.spread_after-2.result
+around : (c : goal.After-spread_after-2) → IsAround c.args.cell.order (face_of c.args.cell.order c.args.cell.index) (x_of c.args.cell.order c.args.cell.index) (y_of c.args.cell.order c.args.cell.index) (c.index.result / 2 ^ (2 * c.get-digits.result) * 2 ^ (2 * c.get-digits.result) % 2 ^ 64) c.spread_before.result c.args.x c.spread_after.result c.spread_before-2.result c.args.y c.spread_after-2.result
 around c =
-    let level : c.get.result ≡ c.args.cell.order = c.get.ensures.value ∙ c.order.ensures in
+    let k = c.args.cell.order in
+    let i = c.args.cell.index in
+    let j = c.get-digits.result in
+    let level : j ≡ k = c.get-digits.ensures.value ∙ c.order.ensures in
+    let v : c.index.result / 2 ^ (2 * j) ≡ face_of k i = ap (λ n. n / 2 ^ (2 * j)) c.index.ensures.value ∙ face_code k j i level in
+    let o = is_off k i c.args.x c.args.y c.requires.x c.requires.y c.requires.x_above c.requires.x_below c.requires.y_above c.requires.y_below in
+    let x_word = in_word k (x_of k i) c.requires.cell.order_in_range o.x_below in
+    let y_word = in_word k (y_of k i) c.requires.cell.order_in_range o.y_below in
     record {
-      order_in_range = omega (arith, c.get.ensures.in_range);
-      face_in_range = c.requires.face;
-      x_above = c.requires.x_above;
-      x_below = c.requires.x_below;
-      y_above = c.requires.y_above;
-      y_below = c.requires.y_below;
-      is_first = λ i. c.from.ensures i * 2 ^ (2 * level i) % 2 ^ 64;
-      x_before = (c.spread_before.ensures c.args.x c.requires.x_above (omega arith) c.spread-x.ensures);
-      x_here = c.spread-x.ensures;
-      x_after = (c.spread_after.ensures c.args.x (in_word c.args.cell.order c.args.x (omega (arith, c.get.ensures.in_range)) c.requires.x_below) c.spread-x.ensures);
-      y_before = (c.spread_before-2.ensures c.args.y c.requires.y_above (omega arith) c.spread-y.ensures);
-      y_here = c.spread-y.ensures;
-      y_after = (c.spread_after-2.ensures c.args.y (in_word c.args.cell.order c.args.y (omega (arith, c.get.ensures.in_range)) c.requires.y_below) c.spread-y.ensures);
+      order_in_range = c.requires.cell.order_in_range;
+      face_in_range = face_in_range k i c.requires.cell.index_in_range;
+      x_above = o.x_above;
+      x_below = o.x_below;
+      y_above = o.y_above;
+      y_below = o.y_below;
+      is_first = λ t. v t * 2 ^ (2 * level t) % 2 ^ 64;
+      x_before = c.spread_before.ensures (x_of k i) o.x_above (omega arith) c.requires.x;
+      x_here = c.requires.x;
+      x_after = c.spread_after.ensures (x_of k i) x_word c.requires.x;
+      y_before = c.spread_before-2.ensures (y_of k i) o.y_above (omega arith) c.requires.y;
+      y_here = c.requires.y;
+      y_after = c.spread_after-2.ensures (y_of k i) y_word c.requires.y;
     }
 
 pub sums_around-requires-clause-across : goal.sums_around-requires-clause-across
@@ -76,7 +115,5 @@ returns-clause-rising c = rw c.from_buf.ensures.items c.sums_around.ensures.risi
 
 pub returns-clause-touch : goal.returns-clause-touch
 returns-clause-touch c =
-    let place = c.requires.place in
-    let in_range : c.args.cell.index < cell_count c.args.cell.order = index_below _ _ (subst (λ f. f < 12) (sym place.face) c.requires.face) in
-    sums_touch _ _ _ _ _ _ _ _ _ _ _ (around c.before.before) c.args.cell.index c.from_buf.result.items in_range place.face place.right place.up
+    sums_touch _ _ _ _ _ _ _ _ _ _ _ (around c.before.before) c.args.cell.index c.from_buf.result.items c.requires.cell.index_in_range refl refl refl
     (rw c.from_buf.ensures.items c.sums_around.ensures.sums)

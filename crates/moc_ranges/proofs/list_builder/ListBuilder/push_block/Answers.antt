@@ -1,4 +1,4 @@
-use Rattle.std.proofs.Common.{◌++◌, ◌∷◌, [], length, length-append, arith, ap, sym, subst, ◌∙◌}
+use Rattle.std.proofs.Common.{◌++◌, length, arith, ap, sym, subst, ◌∙◌}
 use Rattle.moc_ranges.specs.Private.Blocks.{joining, AreBlocks}
 use Rattle.moc_ranges.proofs.Building.{joined_sized, joined_all, suffix_normal, last_length-suffix, pushed_all}
 use Rattle.moc_ranges.proofs.Filling.{filled_add}

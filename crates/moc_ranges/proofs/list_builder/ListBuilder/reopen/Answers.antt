@@ -1,5 +1,4 @@
 use Rattle.std.proofs.Common.{arith, ◌∙◌, ap, length}
-use Rattle.moc_ranges.specs.Private.Blocks.{joining}
 use Rattle.moc_ranges.proofs.Building.{reopened}
 use Rattle.moc_ranges.proofs.Filling.{some_blocks, nodes_popped, nodes_last}
 use Rattle.moc_ranges.proofs.Blocking.{none_there}

@@ -1,4 +1,4 @@
-use Rattle.std.proofs.Common.{List, ℕ, ap, sym, subst, ◌∙◌, ◌++◌, rules}
+use Rattle.std.proofs.Common.{List, ℕ, ap, sym, subst, ◌∙◌, rules}
 use Rattle.moc_ranges.specs.Private.Blocks.{joining, AreBlocks}
 use Rattle.moc_ranges.specs.RangeList.{IsNormal}
 use Rattle.moc_ranges.proofs.Building.{noded}
