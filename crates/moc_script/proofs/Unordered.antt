@@ -35,11 +35,11 @@ module _ (p : ℕ → Bool) where
       ] in
       step (is_semicolon x) refl
 
-none_behind : (text : List ℕ) → list_any is_at_sign text ≡ false → (list_any is_at_sign (word_of text) ≡ false) × (list_any is_at_sign (behind_word text) ≡ false)
-none_behind text none =
-    let front = (none_in_parts is_at_sign (prefix_len is_blank_byte text) text none).1 in (
-      (none_in_parts is_at_sign (position_or_len is_blank_byte (without_blanks text)) (without_blanks text) front).0,
-      (none_in_parts is_at_sign (length (word_of text)) (without_blanks text) front).1,
+pub none_behind : (p : ℕ → Bool) (text : List ℕ) → list_any p text ≡ false → (list_any p (word_of text) ≡ false) × (list_any p (behind_word text) ≡ false)
+none_behind p text none =
+    let front = (none_in_parts p (prefix_len is_blank_byte text) text none).1 in (
+      (none_in_parts p (position_or_len is_blank_byte (without_blanks text)) (without_blanks text) front).0,
+      (none_in_parts p (length (word_of text)) (without_blanks text) front).1,
     )
 
 operand_by-plain : (word text : List ℕ) → list_any is_at_sign word ≡ false → operand_by word text ≡ plain_operand_of text
@@ -50,8 +50,8 @@ operand_by-plain (b ∷ field) text none =
 says_plain : (piece : List ℕ) → list_any is_at_sign piece ≡ false → command_of piece ≡ command_by plain_operand_of piece
 says_plain piece none =
     let text = behind_word piece in
-    let behind = (none_behind piece none).1 in
-    let same = operand_by-plain (word_of text) text (none_behind text behind).0 in
+    let behind = (none_behind is_at_sign piece none).1 in
+    let same = operand_by-plain (word_of text) text (none_behind is_at_sign text behind).0 in
     ap (λ r. command_at (λ _. r) (word_of piece) text) same
 
 commands_plain : (pieces : List (List ℕ)) → AllByRecursion (λ l. list_any is_at_sign l ≡ false) pieces → commands_of command_of pieces ≡ commands_of (command_by plain_operand_of) pieces
@@ -60,7 +60,7 @@ commands_plain (piece ∷ pieces) each =
     ap (λ r. first_then (cond (is_blank piece) (Err EmptyCommand) r) (commands_of command_of pieces)) (says_plain piece each.0)
     ∙ ap (first_then (piece_says (command_by plain_operand_of) piece)) (commands_plain pieces each.1)
 
-batch_plain : (line : List ℕ) → list_any is_at_sign line ≡ false → batch_of command_of line ≡ batch_of (command_by plain_operand_of) line
+pub batch_plain : (line : List ℕ) → list_any is_at_sign line ≡ false → batch_of command_of line ≡ batch_of (command_by plain_operand_of) line
 batch_plain line none = ap (λ r. cond (ltb 16 (length (pieces_of line))) (Err TooManyCommands) r) (commands_plain (pieces_of line) (none_in_pieces is_at_sign line none))
 
 pub lines_without_order : LinesWithoutOrder

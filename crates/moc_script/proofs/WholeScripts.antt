@@ -1,18 +1,25 @@
--- Languages that answer each line of a script alike answer the script alike.
-use Rattle.std.proofs.Common.{◌≡◌, ℕ, Bool, true, false, cond, List, [], ◌∷◌, ◌++◌, refl, sym, ap, ◌∙◌}
-use Rattle.std.specs.List.{AllByRecursion, list_any, onto_first, take_while}
+-- Languages that answer each line alike answer scripts and schedules alike.
+use Rattle.std.proofs.Common.{◌≡◌, ℕ, Bool, true, false, cond, List, [], ◌∷◌, ◌++◌, Result, Ok, Err, codes, refl, sym, ap, ◌∙◌}
+use Rattle.std.specs.List.{AllByRecursion, list_all, list_any, onto_first, take_while}
+use Rattle.std.specs.Str.{bytes_eq}
 use Rattle.std.specs.FinSet as set
 use Rattle.std.proofs.lemmas.List.Sums.{take_while-cons}
 use Rattle.moc_text.specs.Lines.{is_line_feed, lines_of}
 use Rattle.moc_ranges.specs.Numbers.{NumberSet}
-use Rattle.moc_script.specs.Answers.{Rules, is_within, answers_to, closing_text}
-use Rattle.moc_script.specs.Words.{is_blank}
-use Rattle.moc_script.specs.Batches.{is_semicolon}
-use Rattle.moc_script.specs.Language.{command_of}
+use Rattle.moc_parts.specs.declared.command.Command.{Command}
+use Rattle.moc_steps.specs.Locks.Step.{Begin}
+use Rattle.moc_script.specs.Answers.{Rules, is_within, answers_to, after_lines, closing_text, script_text}
+use Rattle.moc_script.specs.Words.{is_blank, word_of, behind_word}
+use Rattle.moc_script.specs.Batches.{is_semicolon, batch_of, first_then}
+use Rattle.moc_script.specs.Language.{◌>>=◌, command_of, command_by, plain_operand_of}
+use Rattle.moc_script.specs.Steps.{BatchStep, client_by, begin_of, other_step, said_by, said_step}
+use Rattle.moc_script.specs.Schedules.{Schedule, next_line, answer_to_step, after_said, last_lines, step_rules, start_schedule}
+use Rattle.moc_script.specs.declared.fault.Fault.{Fault}
+use Rattle.moc_script.specs.declared.fault.Fault.TheVariants.{WrongCount}
 use Rattle.moc_script.specs.Scripts.{line_limit, script_rules}
-use Rattle.moc_script.specs.Laws.{single_answer, after_single, single_rules, plain_rules, is_at_sign, ScriptsOfSingleCommands, ScriptsWithoutOrder}
-use Rattle.moc_script.proofs.Single.{lines_of_one_command}
-use Rattle.moc_script.proofs.Unordered.{neither, onto, lines_without_order}
+use Rattle.moc_script.specs.Laws.{single_answer, after_single, single_rules, plain_rules, is_at_sign, one_command, ScriptsOfSingleCommands, ScriptsWithoutOrder, SchedulesOfSingleCommands, SchedulesWithoutOrder}
+use Rattle.moc_script.proofs.Single.{batch-single, lines_of_one_command}
+use Rattle.moc_script.proofs.Unordered.{neither, onto, none_behind, batch_plain, lines_without_order}
 
 -- what no byte of a text passes, no byte of its lines does
 none_in_lines : (p : ℕ → Bool) (text : List ℕ) → list_any p text ≡ false → AllByRecursion (λ l. list_any p l ≡ false) (lines_of text)
@@ -43,6 +50,10 @@ module _ {S : Type 0} (rules others : Rules S) (Q : List ℕ → Type 0)
       ap (λ l. l ++ answers_to rules (rules.after s line) lines) now.0 ∙ ap (λ x. others.answer s line ++ answers_to rules x lines) now.1
       ∙ ap (λ l. others.answer s line ++ l) (same_answers (others.after s line) lines each.1)
 
+  same_left : (s : S) (lines : List (List ℕ)) → AllByRecursion Q lines → after_lines rules s lines ≡ after_lines others s lines
+  same_left s [] each = refl
+  same_left s (line ∷ lines) each = ap (λ x. after_lines rules x lines) (same s line each.0).1 ∙ same_left (others.after s line) lines each.1
+
 -- a line without a semicolon, blank or not
 single_line : (a : NumberSet) (line : List ℕ) → list_any is_semicolon line ≡ false
     → (script_rules.answer a line ≡ single_rules.answer a line) × (script_rules.after a line ≡ single_rules.after a line)
@@ -68,3 +79,54 @@ scripts_without_order input none =
     ap (λ text. text ++ closing_text script_rules line_limit set.empty (lines_of input))
     (same_answers script_rules plain_rules (λ l. list_any is_at_sign l ≡ false) lines_without_order set.empty _
     (each-take_while _ (is_within line_limit) (lines_of input) (none_in_lines is_at_sign input none)))
+
+-- Steps that are said alike are answered alike.
+module _ (says others : List ℕ → Result BatchStep Fault) (Q : List ℕ → Type 0) (same : (line : List ℕ) → Q line → says line ≡ others line) where
+  same_step : (s : Schedule) (line : List ℕ) → Q line → ((step_rules says).answer s line ≡ (step_rules others).answer s line) × ((step_rules says).after s line ≡ (step_rules others).after s line)
+  same_step s line each = (
+    ap (λ r. cond (is_blank line) [] (answer_to_step s r)) (same line each),
+    ap (λ r. cond (is_blank line) (next_line s) (after_said (next_line s) r)) (same line each),
+  )
+
+  same_schedule : (input : List ℕ) → AllByRecursion Q (lines_of input) → script_text (step_rules says) line_limit start_schedule input ≡ script_text (step_rules others) line_limit start_schedule input
+  same_schedule input each =
+      let lines = lines_of input in
+      let read = take_while (is_within line_limit) lines in
+      ap (λ text. text ++ closing_text (step_rules says) line_limit start_schedule lines)
+      (same_answers (step_rules says) (step_rules others) Q same_step start_schedule read (each-take_while Q (is_within line_limit) lines each))
+      ∙ ap (λ s. answers_to (step_rules others) start_schedule read ++ cond (list_all (is_within line_limit) lines) (last_lines s) [])
+      (same_left (step_rules says) (step_rules others) Q same_step start_schedule lines each)
+
+-- Lines whose batches say the same say the same.
+begin_alike : (batch other : List ℕ → Result (List Command) Fault) (text : List ℕ) → (is_blank (behind_word text) ≡ false → batch (behind_word text) ≡ other (behind_word text)) → begin_of batch text ≡ begin_of other text
+begin_alike batch other text same =
+    let begun : Result (List Command) Fault → Result BatchStep Fault = λ r. client_by (word_of text) >>= (λ c. r >>= (λ commands. Ok (Begin c commands))) in
+    let step : (b : Bool) → is_blank (behind_word text) ≡ b → cond b (Err WrongCount) (begun (batch (behind_word text))) ≡ cond b (Err WrongCount) (begun (other (behind_word text))) =
+    λ b. elim b as (λ v. is_blank (behind_word text) ≡ v → cond v (Err WrongCount) (begun (batch (behind_word text))) ≡ cond v (Err WrongCount) (begun (other (behind_word text)))) [
+      | true ↦ λ is. refl
+      | false ↦ λ is. ap begun (same is)
+    ] in
+    step (is_blank (behind_word text)) refl
+
+said_alike : (batch other : List ℕ → Result (List Command) Fault) (line : List ℕ) → (is_blank (behind_word (behind_word line)) ≡ false → batch (behind_word (behind_word line)) ≡ other (behind_word (behind_word line))) → said_by batch line ≡ said_by other line
+said_alike batch other line same =
+    ap (λ r. cond (bytes_eq (word_of line) (codes "begin")) r (other_step (word_of line) (behind_word line))) (begin_alike batch other (behind_word line) same)
+
+pub schedules_of_single_commands : SchedulesOfSingleCommands
+schedules_of_single_commands input none =
+    same_schedule said_step (said_by one_command) (λ l. list_any is_semicolon l ≡ false)
+    (λ line line_none. said_alike (batch_of command_of) one_command line (one_alike (behind_word (behind_word line)) (none_behind is_semicolon (behind_word line) (none_behind is_semicolon line line_none).1).1))
+    input (none_in_lines is_semicolon input none)
+  where
+    alone : (r : Result Command Fault) → first_then r (Ok []) ≡ (r >>= (λ command. Ok (command ∷ [])))
+    alone (Ok command) = refl
+    alone (Err fault) = refl
+
+    one_alike : (text : List ℕ) → list_any is_semicolon text ≡ false → is_blank text ≡ false → batch_of command_of text ≡ one_command text
+    one_alike text none some = batch-single text none some ∙ alone (command_of text)
+
+pub schedules_without_order : SchedulesWithoutOrder
+schedules_without_order input none =
+    same_schedule said_step (said_by (batch_of (command_by plain_operand_of))) (λ l. list_any is_at_sign l ≡ false)
+    (λ line line_none. said_alike (batch_of command_of) (batch_of (command_by plain_operand_of)) line (λ some. batch_plain (behind_word (behind_word line)) (none_behind is_at_sign (behind_word line) (none_behind is_at_sign line line_none).1).1))
+    input (none_in_lines is_at_sign input none)

@@ -1,4 +1,4 @@
--- Laws of the language.
+-- Laws of the languages of scripts and schedules.
 use Rattle.std.specs.Prelude.{◌≡◌, ℕ, Bool, false, ◌==◌, List, ◌++◌, ◌∷◌, [], if◌then◌else◌, Result, Ok, Err}
 use Rattle.std.specs.List.{list_any}
 use Rattle.std.specs.FinSet as set
@@ -7,11 +7,13 @@ use Rattle.moc_parts.specs.Commands.{reply_on, set_after}
 use Rattle.moc_parts.specs.declared.command.Command.{Command}
 use Rattle.moc_script.specs.Words.{is_blank}
 use Rattle.moc_script.specs.Faults.{fault_line}
-use Rattle.moc_script.specs.Language.{plain_operand_of, command_by, command_of}
+use Rattle.moc_script.specs.Language.{◌>>=◌, plain_operand_of, command_by, command_of}
 use Rattle.moc_script.specs.Replies.{reply_text}
-use Rattle.moc_script.specs.Batches.{is_semicolon, line_answer, after_line}
+use Rattle.moc_script.specs.Batches.{is_semicolon, batch_of, line_answer, after_line}
 use Rattle.moc_script.specs.Answers.{Rules, script_text}
 use Rattle.moc_script.specs.Scripts.{line_limit, answer_on, set_after_line, answers_of}
+use Rattle.moc_script.specs.Steps.{said_by}
+use Rattle.moc_script.specs.Schedules.{step_rules, start_schedule, schedule_text}
 use Rattle.moc_script.specs.declared.fault.Fault.{Fault}
 
 -- the answer to a single command
@@ -69,3 +71,22 @@ abbrev pub ScriptsWithoutOrder : Type 0
 ScriptsWithoutOrder =
     (input : List ℕ) → list_any is_at_sign input ≡ false
     → answers_of input ≡ script_text plain_rules line_limit set.empty input
+
+-- a batch of just the command that a text says
+abbrev pub one_command : List ℕ → Result (List Command) Fault
+one_command text = do
+  command ← command_of text
+  Ok (command ∷ [])
+
+-- A schedule without a semicolon is answered as in the language without batches.
+abbrev pub SchedulesOfSingleCommands : Type 0
+SchedulesOfSingleCommands =
+    (input : List ℕ) → list_any is_semicolon input ≡ false
+    → schedule_text input ≡ script_text (step_rules (said_by one_command)) line_limit start_schedule input
+
+-- A schedule without `@` is answered as in the language without orders.
+abbrev pub SchedulesWithoutOrder : Type 0
+SchedulesWithoutOrder =
+    (input : List ℕ) → list_any is_at_sign input ≡ false
+    → schedule_text input
+    ≡ script_text (step_rules (said_by (batch_of (command_by plain_operand_of)))) line_limit start_schedule input

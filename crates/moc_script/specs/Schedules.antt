@@ -87,13 +87,17 @@ end_text w =
 abbrev pub last_lines : Schedule → List ℕ
 last_lines s = codes "order" ++ begin_lines s.begins s.world.order ++ 10 ∷ end_text s.world ++ 10 ∷ []
 
--- how the lines of a schedule are answered; blank ones have no answer, and are counted
-abbrev pub schedule_rules : Rules Schedule
-schedule_rules = record {
-  answer = λ s line. if is_blank line then [] else answer_to_step s (said_step line);
-  after = λ s line. if is_blank line then next_line s else after_said (next_line s) (said_step line);
+-- how lines that say steps are answered; blank ones have no answer, and are counted
+abbrev pub step_rules : (List ℕ → Result BatchStep Fault) → Rules Schedule
+step_rules says = record {
+  answer = λ s line. if is_blank line then [] else answer_to_step s (says line);
+  after = λ s line. if is_blank line then next_line s else after_said (next_line s) (says line);
   closing = last_lines;
 }
+
+-- how the lines of a schedule are answered
+abbrev pub schedule_rules : Rules Schedule
+schedule_rules = step_rules said_step
 
 -- the text that a schedule is answered with
 abbrev pub schedule_text : List ℕ → List ℕ

@@ -52,17 +52,6 @@ place_of text =
     if is_blank rest then Err WrongCount
     else (if is_blank (behind_word rest) then place_by (word_of text) (word_of rest) else Err WrongCount)
 
--- what stands behind `begin`: a client, and its batch of commands
-abbrev pub begin_by : List ℕ → List ℕ → Result BatchStep Fault
-begin_by client line = do
-  c ← client_by client
-  commands ← batch_of command_of line
-  Ok (Begin c commands)
-
--- what stands behind `begin`, with a word behind the client
-abbrev pub begin_of : List ℕ → Result BatchStep Fault
-begin_of text = if is_blank (behind_word text) then Err WrongCount else begin_by (word_of text) (behind_word text)
-
 -- a step of a client, which the text names
 abbrev pub step_by : (ℕ → BatchStep) → List ℕ → Result BatchStep Fault
 step_by step text = do
@@ -75,17 +64,36 @@ step_at step text = do
   place ← place_of text
   Ok (step place.0 place.1)
 
--- the step of a word, and of what stands behind it
-abbrev pub step_named : List ℕ → List ℕ → Result BatchStep Fault
-step_named word text =
-    if bytes_eq word (codes "begin") then begin_of text
-    else (if bytes_eq word (codes "take") then step_by (λ c. Take c) text
+-- the step of a word that begins no operation, and of what stands behind it
+abbrev pub other_step : List ℕ → List ℕ → Result BatchStep Fault
+other_step word text =
+    if bytes_eq word (codes "take") then step_by (λ c. Take c) text
     else (if bytes_eq word (codes "edit") then step_at (λ c b. Edit c b) text
     else (if bytes_eq word (codes "give") then step_at (λ c b. Give c b) text
     else (if bytes_eq word (codes "quit") then step_by (λ c. Quit c) text
     else (if bytes_eq word (codes "end") then step_by (λ c. End c) text
-    else Err UnknownWord)))))
+    else Err UnknownWord))))
+
+module _ (batch_says : List ℕ → Result (List Command) Fault) where
+  -- what stands behind `begin`: a client, and its batch of commands
+  abbrev pub begin_by : List ℕ → List ℕ → Result BatchStep Fault
+  begin_by client line = do
+    c ← client_by client
+    commands ← batch_says line
+    Ok (Begin c commands)
+
+  -- what stands behind `begin`, with a word behind the client
+  abbrev pub begin_of : List ℕ → Result BatchStep Fault
+  begin_of text = if is_blank (behind_word text) then Err WrongCount else begin_by (word_of text) (behind_word text)
+
+  -- the step of a word, and of what stands behind it
+  abbrev pub step_named : List ℕ → List ℕ → Result BatchStep Fault
+  step_named word text = if bytes_eq word (codes "begin") then begin_of text else other_step word text
+
+  -- the step that a line says, where a batch of commands is said so
+  abbrev pub said_by : List ℕ → Result BatchStep Fault
+  said_by line = step_named (word_of line) (behind_word line)
 
 -- the step that a line says
 abbrev pub said_step : List ℕ → Result BatchStep Fault
-said_step line = step_named (word_of line) (behind_word line)
+said_step line = said_by (batch_of command_of) line

@@ -1,6 +1,6 @@
-//! Laws of the language of scripts, which the proof shows. The calls do nothing.
+//! Laws of the languages of scripts and schedules, which the proof shows. The calls do nothing.
 ghost use Rattle.moc_script.specs.Laws.{LinesOfOneCommand, LinesWithoutOrder, ScriptsOfSingleCommands};
-ghost use Rattle.moc_script.specs.Laws.{ScriptsWithoutOrder};
+ghost use Rattle.moc_script.specs.Laws.{ScriptsWithoutOrder, SchedulesOfSingleCommands, SchedulesWithoutOrder};
 
 /// A line without `;` that is not blank is answered as the one command that it says, and leaves the set that it leaves.
 pub fn lines_of_one_command()
@@ -20,4 +20,14 @@ pub fn scripts_of_single_commands()
 /// A script without `@` is answered as in the language without orders.
 pub fn scripts_without_order()
     ensures { ScriptsWithoutOrder }
+{}
+
+/// A schedule without `;` is answered as in the language without batches.
+pub fn schedules_of_single_commands()
+    ensures { SchedulesOfSingleCommands }
+{}
+
+/// A schedule without `@` is answered as in the language without orders.
+pub fn schedules_without_order()
+    ensures { SchedulesWithoutOrder }
 {}

@@ -2,6 +2,8 @@
 ghost use Rattle.std.specs.Prelude.{◌≤◌, SomeIff};
 ghost use Rattle.moc_steps.specs.Played.{step_of};
 ghost use Rattle.moc_script.specs.Readings.{Reads};
+ghost use Rattle.moc_script.specs.Batches.{batch_of};
+ghost use Rattle.moc_script.specs.Language.{command_of};
 ghost use Rattle.moc_script.specs.Steps.{begin_by, begin_of, client_by, client_of, place_by, place_of, said_step};
 
 use crate::batch::read_batch;
@@ -85,7 +87,7 @@ fn only_place(text: &[u8]) -> Result<(u32, Part), ReadError>
 
 /// What stands behind `begin`: a client, and a batch of commands.
 fn read_begin(alloc: Global, text: &[u8]) -> Result<Step, ReadError>
-    ensures { Reads step_of result (begin_of text.now) }
+    ensures { Reads step_of result (begin_of (batch_of command_of) text.now) }
 {
     let (field, line) = split_word(text);
     if is_blank_text(line) {
