@@ -93,12 +93,14 @@ REFUSED = [
     (["describe", "ascii"], b"0/12", b"CellTooLarge"),
     (["describe", "json"], b"[1]", b"NotObject"),
     (["describe", "uniq"], b" " * (LIMIT + 1), b"TooLong"),
-    (["combine", "union", "ascii"], b"0/0 ; 0/12", b"CellTooLarge"),
-    (["combine", "difference", "ascii"], b"5/7-3 ; 0/12", b"Backwards"),
-    (["combine", "symmetric", "json"], b'{"0":[0]};', b"NotJson"),
-    (["combine", "intersection", "uniq"], b"4;5\n;3", b"NotUniq"),
-    (["combine", "union", "ascii"], b"0/0;" + b" " * (LIMIT + 1), b"TooLong"),
-    (["combine", "union", "ascii"], b" " * (LIMIT + 1) + b";0/12", b"TooLong"),
+    (["combine", "union", "ascii"], b"0/0 ; 0/12", b"CellTooLarge\ntext 2, byte 3, line 1, byte 3 of it"),
+    (["combine", "difference", "ascii"], b"5/7-3 ; 0/12", b"Backwards\ntext 1, byte 2, line 1, byte 2 of it"),
+    (["combine", "union", "ascii"], b"0/0;" * 16 + b"\n7;0/0", b"NoOrder\ntext 17, byte 1, line 2, byte 0 of it"),
+    (["combine", "symmetric", "json"], b'{"0":[0]};{', b"NotJson\ntext 2, line 1, column 1"),
+    (["combine", "symmetric", "json"], b'{"0":[0]};[1];{}', b"NotObject\ntext 2"),
+    (["combine", "intersection", "uniq"], b"4;5\n;3", b"NotUniq\ntext 3, line 1"),
+    (["combine", "union", "ascii"], b"0/0;" + b" " * (LIMIT + 1), b"TooLong\ntext 2"),
+    (["combine", "union", "ascii"], b" " * (LIMIT + 1) + b";0/12", b"TooLong\ntext 1"),
     (["draw", "ascii"], b"0/12", b"CellTooLarge"),
     (["draw", "json"], b"[1]", b"NotObject"),
     (["draw", "uniq"], b" " * (LIMIT + 1), b"TooLong"),
@@ -140,6 +142,7 @@ WORKS = [
     (["combine", "union", "ascii"], b"0/0 1/4-5;1/3-4 6-7 2/20 32", b"0/0-1 2/32\n"),
     (["combine", "intersection", "uniq"], b"4\n;16\n5\n", b"16\n"),
     (["combine", "difference", "json"], b'{"0":[0]};{"1":[3]};{"2":[]}', b'{"1":[0,1,2],"2":[]}\n'),
+    (["combine", "intersection", "json"], b'{"0":[0]};{"1":[3]}; \t\r\n', b'{"1":[3]}\n'),
     (["combine", "symmetric", "ascii"], b"0/0-1 ; 0/1-2 ; 0/1", b"0/0-2\n"),
     (["draw", "ascii"], b"0/4 1/3 8/0-2", PICTURE),
     (["renumber", "nest", "ring", "1"], b"0\n3\n48\n\n\t18 \r\n1 2\n-1\n47", RINGS),
@@ -374,6 +377,15 @@ def check_growths_are_refused(tally, shim):
     tally.add("some refusal of a check shows", memory in met, met)
 
 
+def combine_growths_are_refused(tally, shim):
+    """Refuses each growth of texts of which one is at fault in turn: both lines are told, or want of memory."""
+    whole = (1, b"", b"fault CellTooLarge\ntext 2, order 2, number 1\n")
+    memory = (3, b"", b"fault Memory\n")
+    words = [MOC, "combine", "union", "json"]
+    met = refuse_each(tally, "texts", words, b'{"0":[0]};{"10":[],"2":[0,192]}', whole, {memory}, shim)
+    tally.add("some refusal of texts shows", memory in met, met)
+
+
 def help_is_refused(tally, shim):
     """Refuses each growth of a help text in turn: what is written is all of it or nothing."""
     _, text, _ = outcome(["--help"])
@@ -450,6 +462,7 @@ def main():
         growths_are_refused(tally, ["play"], SCHEDULE, PLAYED, shim, LAST_LINES)
         crew_growths_are_refused(tally, shim)
         check_growths_are_refused(tally, shim)
+        combine_growths_are_refused(tally, shim)
         help_is_refused(tally, shim)
         map_refuses(tally, shim)
         refused_line_is_told(tally, shim)

@@ -131,8 +131,8 @@ prints
 
 /// What `moc combine --help` says below the usage.
 const COMBINATION: &str = "\
-The input is one text or more, parted by `;` and taken from the left; each has at most 16,777,216 bytes. Prints the
-result, with the deepest order that one of them names.
+The input is one text or more, parted by `;` and taken from the left; each has at most 16,777,216 bytes, and blanks
+behind the last `;` are none. Prints the result, with the deepest order that one of them names.
   union         the pixels that any text has
   intersection  the pixels that all texts have
   difference    the pixels that the first text has and the others lack
@@ -141,7 +141,16 @@ result, with the deepest order that one of them names.
 Example:
   echo '0/0 1/4-5 ; 1/3-4 2/20 32' | moc combine intersection ascii
 prints
-  1/3-4 2/20";
+  1/3-4 2/20
+
+Many files:
+  awk 'FNR==1 && NR>1 {printf \";\"} 1' *.moc | moc combine union ascii
+
+On all processors, 25 files at a time:
+  union() { awk 'FNR==1 && NR>1 {printf \";\"} 1' \"$@\" | moc combine union ascii; }
+  export -f union
+  printf '%s\\0' *.moc | xargs -0 -n 25 -P $(nproc) bash -c 'union \"$@\" > $(mktemp part.XXXXXX)' _
+  union part.*";
 
 /// What `moc draw --help` says below the usage.
 const PICTURE: &str = "\

@@ -11,9 +11,9 @@ mod marks;
 mod place;
 mod texts;
 
-pub use checking::{Refusal, check};
-pub use combining::Operation;
+pub use checking::{Refusal, check, examine};
+pub use combining::{Operation, is_blank};
 pub use drawing::draw;
 pub use figures::describe;
 pub use form::{Form, FormError};
-pub use place::Place;
+pub use place::{Place, place_line};

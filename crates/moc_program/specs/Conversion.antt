@@ -1,13 +1,12 @@
 -- Texts of coverages, from the input: converted, described, drawn, checked.
-use Rattle.std.specs.Prelude.{◌≡◌, ℕ, ◌<◌, ◌≤◌, ◌⊎◌, Bool, true, false, List, [], ◌∷◌, ◌++◌, length, Option, None, Some}
-use Rattle.std.specs.Prelude.{Result, Ok, Err, String, string_bytes}
+use Rattle.std.specs.Prelude.{◌≡◌, ℕ, ◌<◌, ◌≤◌, ◌⊎◌, Bool, true, false, List, ◌++◌, length, Option, None}
+use Rattle.std.specs.Prelude.{Result, Ok, Err}
 use Rattle.std.specs.Io.KnownBytes.{Consumes, IsAtEnd}
-use Rattle.std.specs.declared.alloc.Global.{Global}
 use Rattle.moc_ranges.specs.Numbers.{NumberSet}
 use Rattle.moc_forms.specs.Describing.{Describes}
 use Rattle.moc_forms.specs.Drawing.{picture_of}
 use Rattle.moc_forms.specs.Forms.{FormSays, IsFormFault, form_text}
-use Rattle.moc_forms.specs.Places.{IsPlace, place_text}
+use Rattle.moc_forms.specs.Places.{IsPlace, line_bytes, line_of}
 use Rattle.moc_forms.specs.declared.form.Form.{Form}
 use Rattle.moc_forms.specs.declared.form.FormError.{FormError}
 use Rattle.moc_forms.specs.declared.place.Place.{Place}
@@ -59,12 +58,14 @@ pub record DrawsAll (form : Form) (left left' : Option (List ℕ)) (text : List 
   pub says : FormSays form given set deepest
   pub written : text ≡ picture_of set
 
--- the line of a place, if there is one
-abbrev pub IsPlaceLine : Option Place → Option (String Global) → Type 0
-IsPlaceLine None None = Unit {0}
-IsPlaceLine None (Some line) = ⊥
-IsPlaceLine (Some place) None = ⊥
-IsPlaceLine (Some place) (Some line) = string_bytes line ≡ place_text place ++ 10 ∷ []
+-- the complaint tells the first fault of a text, which may be counted, and where it is
+pub record TellsFault (form : Form) (text : List ℕ) (number : Option ℕ) (c : Complaint) : Type 0 where
+  pub error : FormError
+  pub is_fault : IsFormFault form text error
+  pub told : c.fault ≡ fault_of_form error
+  pub place : Option Place
+  pub is_place : IsPlace text error place
+  pub line : line_bytes c.place ≡ line_of number place
 
 -- all that was left was read, and says a set
 pub record IsSaid (form : Form) (left left' : Option (List ℕ)) : Type 0 where
@@ -78,12 +79,7 @@ pub record IsSaid (form : Form) (left left' : Option (List ℕ)) : Type 0 where
 pub record IsFaulty (form : Form) (left left' : Option (List ℕ)) (c : Complaint) : Type 0 where
   pub given : List ℕ
   pub whole : IsWhole left left' given
-  pub error : FormError
-  pub is_fault : IsFormFault form given error
-  pub told : c.fault ≡ fault_of_form error
-  pub place : Option Place
-  pub is_place : IsPlace given error place
-  pub line : IsPlaceLine place c.place
+  pub tells : TellsFault form given None c
 
 -- the reader failed, or the input is too long, or memory was refused
 abbrev pub IsOfInput : Fault → Type 0
@@ -95,6 +91,6 @@ ChecksAll form left left' (Ok _) = IsSaid form left left'
 ChecksAll form left left' (Err c) = IsOfInput c.fault ⊎ IsFaulty form left left' c
 
 -- the complaint is that the reader failed
-abbrev pub IsReadFault : Result (Unit {0}) Complaint → Type 0
+abbrev pub IsReadFault : {T : Type 0} → Result T Complaint → Type 0
 IsReadFault (Ok _) = ⊥
 IsReadFault (Err c) = c.fault ≡ Read

@@ -2,11 +2,13 @@
 ghost use Rattle.std.specs.Prelude.{◌≡◌, ◌≢◌, ◌<◌, ◌↔◌, ◌⊎◌, Err, false, IfErr, IfOk, IsErrOf, IsTrue, length};
 ghost use Rattle.std.specs.String.{string_bytes};
 ghost use Rattle.moc_forms.specs.Forms.{FormSays, form_text};
+ghost use Rattle.moc_forms.specs.Places.{line_bytes, line_of};
 ghost use Rattle.moc_program.specs.Conversion.{BringsPiece, ChecksAll, ConvertsAll, DescribesAll, DrawsAll, IsOfInput};
-ghost use Rattle.moc_program.specs.Conversion.{IsPlaceLine, IsReadFault, IsWhole};
+ghost use Rattle.moc_program.specs.Conversion.{IsReadFault, IsWhole, TellsFault};
+ghost use Rattle.moc_program.specs.Faults.{fault_of_form};
 
 use crate::status::{Complaint, Fault};
-use moc_forms::{Form, Place, check, describe, draw};
+use moc_forms::{Form, Refusal, describe, draw, examine, place_line};
 use moc_ranges::Coverage;
 use moc_script::Source;
 use moc_sphere::Order;
@@ -70,6 +72,39 @@ pub fn said(alloc: Global, form: Form, text: &[u8]) -> Result<(Coverage, Option<
     Ok(form.read(alloc, text)?)
 }
 
+/// What a text in a form says; else a complaint that tells its first fault and where it is. Where texts are counted, the
+/// text has a number.
+pub fn said_or_told(
+    alloc: Global,
+    form: Form,
+    text: &[u8],
+    number: Option<u64>,
+) -> Result<(Coverage, Option<Order>), Complaint>
+    ensures device { IfErr result (λ c. c.fault ≢ Fault.Read) }
+    ensures says { IfOk result (λ r. FormSays form text.now r.0 r.1) }
+    ensures told { IfErr result (λ c. (c.fault ≡ Fault.Memory) ⊎ TellsFault form text.now number c) }
+{
+    match examine(alloc, form, text) {
+        Ok(said) => Ok(said),
+        Err(refusal) => Err(complaint_of(alloc, number, refusal)),
+    }
+}
+
+/// The complaint that tells a refusal; that of want of memory where memory is refused for its line.
+fn complaint_of(alloc: Global, number: Option<u64>, refusal: Refusal) -> Complaint
+    ensures { (result.fault ≡ Fault.Memory)
+        ⊎ ((result.fault ≡ fault_of_form refusal.error)
+        × (line_bytes result.place ≡ line_of number refusal.place)) }
+{
+    match place_line(alloc, number, refusal.place) {
+        Ok(place) => Complaint {
+            fault: Fault::from(refusal.error),
+            place,
+        },
+        Err(error) => Complaint::from(error),
+    }
+}
+
 /// The text of a set in a form.
 pub fn text_of(
     alloc: Global,
@@ -78,6 +113,7 @@ pub fn text_of(
     stated: Option<Order>,
 ) -> Result<String, Fault>
     ensures device { result ≢ Err Fault.Read }
+    ensures fault { IfErr result (λ f. (f ≡ Fault.Memory) ⊎ (f ≡ Fault.TooCoarse)) }
     ensures text { IfOk result (λ t. string_bytes t ≡ form_text form set.now stated) }
 {
     Ok(form.write(alloc, set, stated)?)
@@ -128,25 +164,6 @@ pub fn checked<R: Source>(alloc: Global, form: Form, input: &mut R) -> Result<()
     ensures checks { ChecksAll form (R.left input.old) (R.left input.new) result }
 {
     let text = read_whole(alloc, input)?;
-    let Err(refusal) = check(alloc, form, &text) else {
-        return Ok(());
-    };
-    let place = place_line(alloc, refusal.place)?;
-    Err(Complaint {
-        fault: Fault::from(refusal.error),
-        place,
-    })
-}
-
-/// The line of a place, if there is one.
-fn place_line(alloc: Global, place: Option<Place>) -> Result<Option<String>, AllocError>
-    ensures { IfOk result (λ line. IsPlaceLine place line) }
-{
-    let Some(place) = place else {
-        return Ok(None);
-    };
-    let mut line = String::new(alloc);
-    place.push_to(&mut line)?;
-    line.push('\n')?;
-    Ok(Some(line))
+    said_or_told(alloc, form, &text, None)?;
+    Ok(())
 }

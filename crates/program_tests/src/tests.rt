@@ -372,6 +372,12 @@ fn combinations(rt: HostRuntime) {
             "0/0-2\n",
         ),
         (["combine", "union", "ascii"], "", "\n"),
+        (
+            ["combine", "intersection", "ascii"],
+            "0/0-1;0/1; \n",
+            "0/1\n",
+        ),
+        (["combine", "intersection", "ascii"], "0/0-1;0/1;,", "0/\n"),
     ] {
         expect(&rt, rt.alloc(), &words, input, 0, output, "");
     }
@@ -397,19 +403,23 @@ fn refused_combinations(rt: HostRuntime) {
         (
             ["combine", "union", "ascii"],
             "0/0 ; 0/12",
-            "fault CellTooLarge\n",
+            "fault CellTooLarge\ntext 2, byte 3, line 1, byte 3 of it\n",
         ),
         (
             ["combine", "union", "ascii"],
             "5/7-3 ; 0/12",
-            "fault Backwards\n",
+            "fault Backwards\ntext 1, byte 2, line 1, byte 2 of it\n",
         ),
         (
             ["combine", "union", "json"],
-            "{\"0\":[0]};",
-            "fault NotJson\n",
+            "{\"0\":[0]};[];",
+            "fault NotObject\ntext 2\n",
         ),
-        (["combine", "union", "uniq"], "4\n;5;3", "fault NotUniq\n"),
+        (
+            ["combine", "union", "uniq"],
+            "4\n;5;3",
+            "fault NotUniq\ntext 3, line 1\n",
+        ),
     ] {
         expect(&rt, rt.alloc(), &words, input, 1, "", told);
     }
