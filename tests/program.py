@@ -90,7 +90,8 @@ REFUSED = [
     (["convert", "uniq", "ascii"], b"4\nx", b"BadByte"),
     (["convert", "uniq", "ascii"], b"3", b"NotUniq"),
     (["convert", "ascii", "ascii"], b" " * (LIMIT + 1), b"TooLong"),
-    (["describe", "ascii"], b"0/12", b"CellTooLarge"),
+    (["describe", "ascii"], b"0/12", b"CellTooLarge\nbyte 2, line 1, byte 2 of it"),
+    (["describe", "uniq"], b"4\n3", b"NotUniq\nline 2"),
     (["describe", "json"], b"[1]", b"NotObject"),
     (["describe", "uniq"], b" " * (LIMIT + 1), b"TooLong"),
     (["combine", "union", "ascii"], b"0/0 ; 0/12", b"CellTooLarge\ntext 2, byte 3, line 1, byte 3 of it"),
@@ -101,7 +102,8 @@ REFUSED = [
     (["combine", "intersection", "uniq"], b"4;5\n;3", b"NotUniq\ntext 3, line 1"),
     (["combine", "union", "ascii"], b"0/0;" + b" " * (LIMIT + 1), b"TooLong\ntext 2"),
     (["combine", "union", "ascii"], b" " * (LIMIT + 1) + b";0/12", b"TooLong\ntext 1"),
-    (["draw", "ascii"], b"0/12", b"CellTooLarge"),
+    (["draw", "ascii"], b"0/12", b"CellTooLarge\nbyte 2, line 1, byte 2 of it"),
+    (["draw", "json"], b'{"9":[0,1,true]}', b"NotWhole\norder 9, number 2"),
     (["draw", "json"], b"[1]", b"NotObject"),
     (["draw", "uniq"], b" " * (LIMIT + 1), b"TooLong"),
     (["renumber", "nest", "ring", "0"], b" " * (LONGEST_LINE + 1), b"LineTooLong"),
@@ -370,11 +372,12 @@ def crew_growths_are_refused(tally, shim):
 
 
 def check_growths_are_refused(tally, shim):
-    """Refuses each growth of a check that finds a fault in turn: both lines are told, or want of memory."""
+    """Refuses each growth of words that find a fault in turn: both lines are told, or want of memory."""
     whole = (1, b"", b"fault CellTooLarge\norder 2, number 1\n")
     memory = (3, b"", b"fault Memory\n")
-    met = refuse_each(tally, "a check", [MOC, "check", "json"], b'{"10":[],"2":[0,192]}', whole, {memory}, shim)
-    tally.add("some refusal of a check shows", memory in met, met)
+    for word in ["check", "describe", "draw"]:
+        met = refuse_each(tally, word, [MOC, word, "json"], b'{"10":[],"2":[0,192]}', whole, {memory}, shim)
+        tally.add(f"some refusal of {word} shows", memory in met, met)
 
 
 def combine_growths_are_refused(tally, shim):

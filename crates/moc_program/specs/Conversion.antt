@@ -30,32 +30,32 @@ pub record IsWhole (left left' : Option (List ℕ)) (text : List ℕ) : Type 0 w
   pub end : IsAtEnd left'
   pub within : length text ≤ 16777216
 
--- all that was left was read, and the other text is that of the set which it says, with the deepest order that it names
+-- all that was left was read; it says this set, and this is the deepest order that it names
+pub record SaysAll (form : Form) (left left' : Option (List ℕ)) (set : NumberSet) (deepest : Option ℕ) : Type 0 where
+  pub given : List ℕ
+  pub whole : IsWhole left left' given
+  pub says : FormSays form given set deepest
+
+-- the text in the one form is that of the set which the input says in the other, with the deepest order that it names
 -- stated
 pub record ConvertsAll (from to : Form) (left left' : Option (List ℕ)) (text : List ℕ) : Type 0 where
-  pub given : List ℕ
-  pub whole : IsWhole left left' given
   pub set : NumberSet
   pub deepest : Option ℕ
-  pub says : FormSays from given set deepest
+  pub says : SaysAll from left left' set deepest
   pub written : text ≡ form_text to set deepest
 
--- all that was left was read, and the text has the figures of the set which it says
+-- the text has the figures of the set which the input says
 pub record DescribesAll (form : Form) (left left' : Option (List ℕ)) (text : List ℕ) : Type 0 where
-  pub given : List ℕ
-  pub whole : IsWhole left left' given
   pub set : NumberSet
   pub deepest : Option ℕ
-  pub says : FormSays form given set deepest
+  pub says : SaysAll form left left' set deepest
   pub written : Describes set deepest text
 
--- all that was left was read, and the text is the picture of the set which it says
+-- the text is the picture of the set which the input says
 pub record DrawsAll (form : Form) (left left' : Option (List ℕ)) (text : List ℕ) : Type 0 where
-  pub given : List ℕ
-  pub whole : IsWhole left left' given
   pub set : NumberSet
   pub deepest : Option ℕ
-  pub says : FormSays form given set deepest
+  pub says : SaysAll form left left' set deepest
   pub written : text ≡ picture_of set
 
 -- the complaint tells the first fault of a text, which may be counted, and where it is
@@ -67,13 +67,9 @@ pub record TellsFault (form : Form) (text : List ℕ) (number : Option ℕ) (c :
   pub is_place : IsPlace text error place
   pub line : line_bytes c.place ≡ line_of number place
 
--- all that was left was read, and says a set
-pub record IsSaid (form : Form) (left left' : Option (List ℕ)) : Type 0 where
-  pub given : List ℕ
-  pub whole : IsWhole left left' given
-  pub set : NumberSet
-  pub deepest : Option ℕ
-  pub says : FormSays form given set deepest
+-- the input says a set
+abbrev pub IsSaid : Form → Option (List ℕ) → Option (List ℕ) → Type 0
+IsSaid form left left' = (set : NumberSet) × (deepest : Option ℕ) × SaysAll form left left' set deepest
 
 -- all that was left was read, and the complaint tells its first fault, and where it is
 pub record IsFaulty (form : Form) (left left' : Option (List ℕ)) (c : Complaint) : Type 0 where
@@ -85,10 +81,14 @@ pub record IsFaulty (form : Form) (left left' : Option (List ℕ)) (c : Complain
 abbrev pub IsOfInput : Fault → Type 0
 IsOfInput fault = (fault ≡ Read) ⊎ (fault ≡ TooLong) ⊎ (fault ≡ Memory)
 
+-- why the input says no set: it or memory could not be had, or it has the fault that is told
+abbrev pub SaysNothing : Form → Option (List ℕ) → Option (List ℕ) → Complaint → Type 0
+SaysNothing form left left' c = IsOfInput c.fault ⊎ IsFaulty form left left' c
+
 -- the input was checked: it says a set, or has the fault that is told, where it could be had
 abbrev pub ChecksAll : Form → Option (List ℕ) → Option (List ℕ) → Result (Unit {0}) Complaint → Type 0
 ChecksAll form left left' (Ok _) = IsSaid form left left'
-ChecksAll form left left' (Err c) = IsOfInput c.fault ⊎ IsFaulty form left left' c
+ChecksAll form left left' (Err c) = SaysNothing form left left' c
 
 -- the complaint is that the reader failed
 abbrev pub IsReadFault : {T : Type 0} → Result T Complaint → Type 0

@@ -4,7 +4,7 @@ ghost use Rattle.std.specs.String.{string_bytes};
 ghost use Rattle.moc_forms.specs.Forms.{FormSays, form_text};
 ghost use Rattle.moc_forms.specs.Places.{line_bytes, line_of};
 ghost use Rattle.moc_program.specs.Conversion.{BringsPiece, ChecksAll, ConvertsAll, DescribesAll, DrawsAll, IsOfInput};
-ghost use Rattle.moc_program.specs.Conversion.{IsReadFault, IsWhole, TellsFault};
+ghost use Rattle.moc_program.specs.Conversion.{IsReadFault, IsWhole, SaysAll, SaysNothing, TellsFault};
 ghost use Rattle.moc_program.specs.Faults.{fault_of_form};
 
 use crate::status::{Complaint, Fault};
@@ -135,25 +135,40 @@ pub fn converted<R: Source>(
     text_of(alloc, to, &set, deepest)
 }
 
-/// The figures of the coverage that the input has.
-pub fn described<R: Source>(alloc: Global, form: Form, input: &mut R) -> Result<String, Fault>
+/// What the input says; else a complaint that tells its first fault and where it is.
+fn input_says<R: Source>(
+    alloc: Global,
+    form: Form,
+    input: &mut R,
+) -> Result<(Coverage, Option<Order>), Complaint>
     requires { R.mark input.old ≡ false }
-    ensures read { IsErrOf result Fault.Read ↔ IsTrue (R.mark input.new) }
-    ensures describes { IfOk result (λ t. DescribesAll form (R.left input.old) (R.left input.new) (string_bytes t)) }
+    ensures read { IsReadFault result ↔ IsTrue (R.mark input.new) }
+    ensures fault { IfErr result (λ c. SaysNothing form (R.left input.old) (R.left input.new) c) }
+    ensures says { IfOk result (λ r. SaysAll form (R.left input.old) (R.left input.new) r.0 r.1) }
 {
     let text = read_whole(alloc, input)?;
-    let (set, deepest) = said(alloc, form, &text)?;
+    said_or_told(alloc, form, &text, None)
+}
+
+/// The figures of the coverage that the input has.
+pub fn described<R: Source>(alloc: Global, form: Form, input: &mut R) -> Result<String, Complaint>
+    requires { R.mark input.old ≡ false }
+    ensures read { IsReadFault result ↔ IsTrue (R.mark input.new) }
+    ensures fault { IfErr result (λ c. SaysNothing form (R.left input.old) (R.left input.new) c) }
+    ensures describes { IfOk result (λ t. DescribesAll form (R.left input.old) (R.left input.new) (string_bytes t)) }
+{
+    let (set, deepest) = input_says(alloc, form, input)?;
     Ok(describe(alloc, &set, deepest)?)
 }
 
 /// The picture of the coverage that the input has.
-pub fn drawn<R: Source>(alloc: Global, form: Form, input: &mut R) -> Result<String, Fault>
+pub fn drawn<R: Source>(alloc: Global, form: Form, input: &mut R) -> Result<String, Complaint>
     requires { R.mark input.old ≡ false }
-    ensures read { IsErrOf result Fault.Read ↔ IsTrue (R.mark input.new) }
+    ensures read { IsReadFault result ↔ IsTrue (R.mark input.new) }
+    ensures fault { IfErr result (λ c. SaysNothing form (R.left input.old) (R.left input.new) c) }
     ensures draws { IfOk result (λ t. DrawsAll form (R.left input.old) (R.left input.new) (string_bytes t)) }
 {
-    let text = read_whole(alloc, input)?;
-    let (set, _) = said(alloc, form, &text)?;
+    let (set, _) = input_says(alloc, form, input)?;
     Ok(draw(alloc, &set)?)
 }
 
@@ -163,7 +178,6 @@ pub fn checked<R: Source>(alloc: Global, form: Form, input: &mut R) -> Result<()
     ensures read { IsReadFault result ↔ IsTrue (R.mark input.new) }
     ensures checks { ChecksAll form (R.left input.old) (R.left input.new) result }
 {
-    let text = read_whole(alloc, input)?;
-    said_or_told(alloc, form, &text, None)?;
+    input_says(alloc, form, input)?;
     Ok(())
 }

@@ -272,7 +272,7 @@ fn figures(rt: HostRuntime) {
         "0/12",
         1,
         "",
-        "fault CellTooLarge\n",
+        "fault CellTooLarge\nbyte 2, line 1, byte 2 of it\n",
     );
 }
 
@@ -344,7 +344,7 @@ fn pictures(rt: HostRuntime) {
         "0/12",
         1,
         "",
-        "fault CellTooLarge\n",
+        "fault CellTooLarge\nbyte 2, line 1, byte 2 of it\n",
     );
 }
 
