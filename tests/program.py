@@ -157,6 +157,7 @@ MISTAKES = [
     (["ring", "30", "0"], b"30"),
     (["ring", "1"], b"CELL"),
     (["fly"], b"fly"),
+    (["faults", "now"], b"now"),
     (["run", "now"], b"now"),
     (["play", "now"], b"now"),
     (["crew"], b"N"),
@@ -189,17 +190,20 @@ HELP = [
     (["ring", "--help"], b"Order of the cell, 0 to 29"),
     (["help", "near"], b"Number of the cell in the nested scheme, below 12 times 4^ORDER"),
     (["near", "--help"], b"Prints the nested cells that share a corner point with a cell"),
-    (["nest", "--help"], b"Number of the cell in the ring scheme, from the north, below 12 times 4^ORDER"),
+    (["nest", "--help"], b"Ring number of the cell, from the north, below 12 times 4^ORDER"),
     (["cell", "--help"], b"NUNIQ number of the cell, which is 4^(ORDER+1) + CELL"),
     (["crew", "--help"], b"How many threads, 1 to 64"),
+    (["--help"], b"Coverages, from standard input:\n  convert "),
+    (["faults"], b"  CellTooLarge     the order has no such cell"),
+    (["help", "faults"], b"  TooLong          a text of more than 16,777,216 bytes"),
     (["--version"], b"moc 0.1.0\n"),
     (["-V"], b"moc 0.1.0\n"),
-    (["convert", "--help"], b"Converts a coverage on standard input from one text form to another"),
-    (["check", "--help"], b"Tells whether standard input is a coverage, and else where it is at fault"),
-    (["describe", "--help"], b"Prints the figures of a coverage on standard input"),
-    (["combine", "--help"], b"Combines coverages on standard input by an operation of sets"),
-    (["draw", "--help"], b"Draws a coverage on standard input as an SVG picture"),
-    (["renumber", "--help"], b"Converts numbers of cells on standard input from one numbering to another"),
+    (["convert", "--help"], b"Converts a coverage from one text form to another"),
+    (["check", "--help"], b"Tells whether a text is a coverage, and else where it is at fault"),
+    (["describe", "--help"], b"Prints the figures of a coverage"),
+    (["combine", "--help"], b"Combines coverages by an operation of sets"),
+    (["draw", "--help"], b"Draws a coverage as an SVG picture"),
+    (["renumber", "--help"], b"Converts numbers of cells from one numbering to another"),
 ]
 
 
@@ -235,6 +239,10 @@ def words_are_answered(tally):
     for words, part in HELP:
         status, output, faults = outcome(words)
         tally.add(words, (status, faults) == (0, b"") and part in output, (status, output, faults))
+    _, told, _ = outcome(["faults"])
+    for _, _, fault in REFUSED:
+        name = fault.splitlines()[0]
+        tally.add(f"{name} is listed", b"  " + name in told, told)
     for words, part in MISTAKES:
         status, output, faults = outcome(words)
         tally.add(words, (status, output) == (2, b"") and part in faults, (status, output, faults))

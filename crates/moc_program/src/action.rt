@@ -27,6 +27,8 @@ pub enum Action {
     Draw(Form),
     /// Combine coverages.
     Combine(Operation, Form),
+    /// List the exit statuses and the faults.
+    Faults,
 }
 
 /// A number to convert.
@@ -58,6 +60,7 @@ impl Action {
             "describe" => Some(Action::Describe(form(values, "FORM")?)),
             "draw" => Some(Action::Draw(form(values, "FORM")?)),
             "combine" => Some(Action::Combine(operation(values)?, form(values, "FORM")?)),
+            "faults" => Some(Action::Faults),
             _ => Some(Action::Number(Number::from_matches(name, values)?)),
         }
     }

@@ -13,7 +13,7 @@ use crate::conversion::{checked, converted, described, drawn};
 use crate::status::{Complaint, Fault, Status};
 use clap::error::ErrorKind;
 use clap::{ArgMatches, Error};
-use moc_command_line::command_line;
+use moc_command_line::{FAULTS, command_line};
 use moc_script::{DeviceFault, OpenGate, Sink, Source, crew, play, renumber, run, write_all};
 use moc_sphere::Cell;
 use std::alloc::{AllocError, Global};
@@ -154,6 +154,7 @@ fn act<T: Threads + Wait + Sync, R: Source, W: Sink>(
         Some(Action::Combine(operation, form)) => {
             printed(combined(alloc, operation, form, input)?.as_str(), output)
         }
+        Some(Action::Faults) => printed(FAULTS, output),
         // `clap` requires the word and its values, so none is missing.
         None => Err(Complaint::from(Fault::Memory)),
     }

@@ -484,6 +484,8 @@ fn help_and_mistakes(rt: HostRuntime) {
         (["help"].as_slice(), 0),
         (["ring", "--help"].as_slice(), 0),
         (["--version"].as_slice(), 0),
+        (["faults"].as_slice(), 0),
+        (["help", "faults"].as_slice(), 0),
         ([].as_slice(), 2),
         (["ring", "30", "0"].as_slice(), 2),
         (["fly"].as_slice(), 2),
