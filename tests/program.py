@@ -102,6 +102,10 @@ REFUSED = [
     (["combine", "intersection", "uniq"], b"4;5\n;3", b"NotUniq\ntext 3, line 1"),
     (["combine", "union", "ascii"], b"0/0;" + b" " * (LIMIT + 1), b"TooLong\ntext 2"),
     (["combine", "union", "ascii"], b" " * (LIMIT + 1) + b";0/12", b"TooLong\ntext 1"),
+    (["degrade", "3", "ascii"], b"0/12", b"CellTooLarge\nbyte 2, line 1, byte 2 of it"),
+    (["degrade", "3", "json"], b" " * (LIMIT + 1), b"TooLong"),
+    (["complement", "json"], b'{"x":[]}', b"BadOrder\nname 0"),
+    (["complement", "uniq"], b"4\n3", b"NotUniq\nline 2"),
     (["draw", "ascii"], b"0/12", b"CellTooLarge\nbyte 2, line 1, byte 2 of it"),
     (["draw", "json"], b'{"9":[0,1,true]}', b"NotWhole\norder 9, number 2"),
     (["draw", "json"], b"[1]", b"NotObject"),
@@ -147,6 +151,13 @@ WORKS = [
     (["combine", "intersection", "json"], b'{"0":[0]};{"1":[3]}; \t\r\n', b'{"1":[3]}\n'),
     (["combine", "symmetric", "ascii"], b"0/0-1 ; 0/1-2 ; 0/1", b"0/0-2\n"),
     (["draw", "ascii"], b"0/4 1/3 8/0-2", PICTURE),
+    (["degrade", "1", "ascii"], b"0/0 3/300 5/", b"0/0 1/18\n"),
+    (["degrade", "5", "ascii"], b"0/0 3/300 4/", b"0/0 3/300 4/\n"),
+    (["degrade", "0", "json"], b'{"1":[5],"4":[]}', b'{"0":[1]}\n'),
+    (["degrade", "1", "uniq"], b"16\n1088\n", b"16\n17\n"),
+    (["complement", "ascii"], b"0/0-10 1/44 2/", b"1/45-47 2/\n"),
+    (["complement", "json"], b'{"3":[]}', b'{"0":[0,1,2,3,4,5,6,7,8,9,10,11],"3":[]}\n'),
+    (["complement", "uniq"], b"4\n5\n6\n7\n8\n9\n10\n11\n12\n13\n14\n61\n62\n63\n", b"60\n"),
     (["renumber", "nest", "ring", "1"], b"0\n3\n48\n\n\t18 \r\n1 2\n-1\n47", RINGS),
     (["renumber", "uniq", "nest", "3"], b"266\n63\n3\n", b"10\nfault OtherOrder\nfault NotUniq\n"),
     (["renumber", "ring", "uniq", "1"], b"0\n27\n48", b"19\n34\nfault RingTooLarge\n"),
@@ -173,6 +184,9 @@ MISTAKES = [
     (["renumber", "nest", "ring"], b"ORDER"),
     (["renumber", "nest", "rang", "1"], b"rang"),
     (["renumber", "nest", "ring", "30"], b"30"),
+    (["degrade", "ascii"], b"ascii"),
+    (["degrade", "30", "ascii"], b"30"),
+    (["complement"], b"FORM"),
     (["combine", "ascii"], b"ascii"),
     (["combine", "union"], b"FORM"),
     (["combine", "minus", "ascii"], b"minus"),
@@ -287,13 +301,15 @@ def devices_fail(tally):
     for words, given in [(["run"], SCRIPT), (["play"], SCHEDULE), (["crew", "2"], CREW),
                          (["convert", "ascii", "json"], b"2/0-3"), (["check", "ascii"], b"2/0-3"),
                          (["describe", "ascii"], b"2/0-3"), (["combine", "union", "ascii"], b"2/0-3;0/1"),
-                         (["draw", "ascii"], b"2/0-3"), (["renumber", "nest", "ring", "1"], b"0"),
+                         (["draw", "ascii"], b"2/0-3"), (["degrade", "1", "ascii"], b"2/0-3"),
+                         (["complement", "ascii"], b"2/0-3"), (["renumber", "nest", "ring", "1"], b"0"),
                          (["ring", "1", "18"], b""), (["--help"], b"")]:
         with open("/dev/full", "wb") as full:
             seen = outcome(words, given, stdout=full)
         tally.add(f"{words} on a full device", seen == (3, None, b"fault Write\n"), seen)
     for words in [["run"], ["play"], ["crew", "2"], ["convert", "ascii", "json"], ["check", "ascii"],
                   ["describe", "ascii"], ["combine", "union", "ascii"], ["draw", "ascii"],
+                  ["degrade", "1", "ascii"], ["complement", "ascii"],
                   ["renumber", "nest", "ring", "1"]]:
         folder = os.open(TOP, os.O_RDONLY)
         seen = outcome(words, stdin=folder)
@@ -383,7 +399,7 @@ def check_growths_are_refused(tally, shim):
     """Refuses each growth of words that find a fault in turn: both lines are told, or want of memory."""
     whole = (1, b"", b"fault CellTooLarge\norder 2, number 1\n")
     memory = (3, b"", b"fault Memory\n")
-    for word in ["check", "describe", "draw"]:
+    for word in ["check", "describe", "draw", "complement"]:
         met = refuse_each(tally, word, [MOC, word, "json"], b'{"10":[],"2":[0,192]}', whole, {memory}, shim)
         tally.add(f"some refusal of {word} shows", memory in met, met)
 

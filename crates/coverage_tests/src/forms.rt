@@ -1,6 +1,6 @@
 //! What is told of texts. Expected lines are worked out by hand from the texts.
 use moc_forms::{
-    Form, FormError, Operation, Place, check, describe, draw, examine, is_blank, place_line,
+    Change, Form, FormError, Operation, Place, check, describe, draw, examine, is_blank, place_line,
 };
 use moc_sphere::Order;
 use moc_text::{JsonError, TextError, UniqError};
@@ -194,6 +194,32 @@ fn joined(alloc: Global, operation: &str, first: &str, second: &str) -> Result<S
     let (set, deepest) = Form::Ascii.read(alloc, second.as_bytes())?;
     let (set, deepest) = operation.join(alloc, Some(before), set, deepest)?;
     Ok(Form::Ascii.write(alloc, &set, deepest)?)
+}
+
+#[test]
+fn changes(rt: HostRuntime) {
+    let alloc = rt.alloc();
+    let (set, deepest) = Form::Ascii
+        .read(alloc, b"0/0-10 1/44-46 3/".as_slice())
+        .expect(&rt, "a text");
+    for (change, order, text) in [
+        (Change::Degrade(Order::of(0)), Some(0), "0/0-11\n"),
+        (
+            Change::Degrade(Order::of(4)),
+            Some(3),
+            "0/0-10 1/44-46 3/\n",
+        ),
+        (Change::Complement, Some(3), "1/47 3/\n"),
+    ] {
+        let stated = change.stated(deepest);
+        let after = change.of(alloc, &set).expect(&rt, "memory");
+        let written = Form::Ascii
+            .write(alloc, &after, stated)
+            .expect(&rt, "memory");
+        assert_eq!(&rt; written.as_str(), text);
+        assert_eq!(&rt; stated, order.and_then(Order::new));
+        assert!(&rt; change.stated(None).is_none());
+    }
 }
 
 #[test]

@@ -53,6 +53,8 @@ word_shapes parsers =
     ∷ word_shape (codes "check") (form (codes "FORM") ∷ [])
     ∷ word_shape (codes "describe") (form (codes "FORM") ∷ [])
     ∷ word_shape (codes "combine") (required_rule (codes "OP") parsers.operation ∷ form (codes "FORM") ∷ [])
+    ∷ word_shape (codes "degrade") (order_rule ∷ form (codes "FORM") ∷ [])
+    ∷ word_shape (codes "complement") (form (codes "FORM") ∷ [])
     ∷ word_shape (codes "draw") (form (codes "FORM") ∷ [])
     ∷ word_shape (codes "run") []
     ∷ word_shape (codes "play") []

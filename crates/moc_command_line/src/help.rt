@@ -12,6 +12,8 @@ Coverages, from standard input:
   check       Tells whether a text is a coverage, and else where it is at fault
   describe    Prints the figures of a coverage
   combine     Combines coverages by an operation of sets
+  degrade     Degrades a coverage to an order
+  complement  Prints the coverage of what a coverage lacks
   draw        Draws a coverage as an SVG picture
 
 Maps, which keep one coverage and answer lines of standard input:
@@ -61,6 +63,8 @@ pub enum Topic {
     Picture,
     Conversion,
     Combination,
+    Degrading,
+    Complement,
     Renumbering,
     Faults,
 }
@@ -82,6 +86,8 @@ impl Topic {
             Topic::Picture => PICTURE,
             Topic::Conversion => CONVERSION,
             Topic::Combination => COMBINATION,
+            Topic::Degrading => DEGRADING,
+            Topic::Complement => COMPLEMENT,
             Topic::Renumbering => RENUMBERING,
             Topic::Faults => FAULTS,
         }
@@ -270,6 +276,27 @@ sequence give the same union:
   printf '%s\\0' *.moc | xargs -0 -n 25 -P $(nproc) \\
     bash -c 'union \"$@\" > $(mktemp part.XXXXXX)' _
   union part.*";
+
+/// What `moc degrade --help` says below the usage.
+const DEGRADING: &str = "\
+Prints all of each cell of order ORDER that has a pixel of the coverage, in the
+same form; stated is ORDER, or the deepest order that the text names where that
+is coarser. A text that is no coverage is told as by `moc check`.
+
+Example:
+  echo '0/0 3/300 5/' | moc degrade 1 ascii
+prints
+  0/0 1/18";
+
+/// What `moc complement --help` says below the usage.
+const COMPLEMENT: &str = "\
+Prints the sky but for the coverage, in the same form; stated is the deepest
+order that the text names. A text that is no coverage is told as by `moc check`.
+
+Example:
+  echo '0/0-10 1/44 2/' | moc complement ascii
+prints
+  1/45-47 2/";
 
 /// What `moc draw --help` says below the usage.
 const PICTURE: &str = "\

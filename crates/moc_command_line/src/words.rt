@@ -27,7 +27,7 @@ pub fn words() -> &'static [Word]
     &WORDS
 }
 
-static WORDS: [Word; 15] = [
+static WORDS: [Word; 17] = [
     Word {
         name: "convert",
         about: "Converts a coverage from one text form to another",
@@ -51,6 +51,18 @@ static WORDS: [Word; 15] = [
         about: "Combines coverages by an operation of sets",
         topic: Topic::Combination,
         arguments: &[OPERATION, FORM],
+    },
+    Word {
+        name: "degrade",
+        about: "Degrades a coverage to an order",
+        topic: Topic::Degrading,
+        arguments: &[COARSE, FORM],
+    },
+    Word {
+        name: "complement",
+        about: "Prints the coverage of what a coverage lacks",
+        topic: Topic::Complement,
+        arguments: &[FORM],
     },
     Word {
         name: "draw",
@@ -132,6 +144,13 @@ const ORDER: Argument = Argument {
     name: "ORDER",
     help: "Order of the cell, 0 to 29; order k has 12 times 4^k cells",
     values: ValueParser::Signed(0, 29),
+};
+
+/// The order that a coverage is degraded to.
+const COARSE: Argument = Argument {
+    name: "ORDER",
+    help: "Order to degrade to, 0 to 29",
+    ..ORDER
 };
 
 /// A nested number.

@@ -2,6 +2,7 @@
 //! several say together, and what a set of pixels is like in figures and as a picture.
 #![tactic(auto)]
 
+mod changing;
 mod checking;
 mod combining;
 mod drawing;
@@ -11,6 +12,7 @@ mod marks;
 mod place;
 mod texts;
 
+pub use changing::Change;
 pub use checking::{Refusal, check, examine};
 pub use combining::{Operation, is_blank};
 pub use drawing::draw;

@@ -3,17 +3,19 @@ use Rattle.std.specs.Prelude.{◌≡◌, ℕ, ◌<◌, ◌≤◌, ◌⊎◌, Boo
 use Rattle.std.specs.Prelude.{Result, Ok, Err}
 use Rattle.std.specs.Io.KnownBytes.{Consumes, IsAtEnd}
 use Rattle.moc_ranges.specs.Numbers.{NumberSet}
+use Rattle.moc_forms.specs.Changing.{changed, order_after}
 use Rattle.moc_forms.specs.Describing.{Describes}
 use Rattle.moc_forms.specs.Drawing.{picture_of}
 use Rattle.moc_forms.specs.Forms.{FormSays, IsFormFault, form_text}
 use Rattle.moc_forms.specs.Places.{IsPlace, line_bytes, line_of}
+use Rattle.moc_forms.specs.declared.changing.Change.{Change}
 use Rattle.moc_forms.specs.declared.form.Form.{Form}
 use Rattle.moc_forms.specs.declared.form.FormError.{FormError}
 use Rattle.moc_forms.specs.declared.place.Place.{Place}
 use Rattle.moc_program.specs.Faults.{fault_of_form}
 use Rattle.moc_program.specs.declared.status.Complaint.{Complaint}
 use Rattle.moc_program.specs.declared.status.Fault.{Fault}
-use Rattle.moc_program.specs.declared.status.Fault.TheVariants.{TooLong, Read, Memory}
+use Rattle.moc_program.specs.declared.status.Fault.TheVariants.{TooLong, Read, Memory, TooCoarse}
 
 -- a piece came from a reader behind a text, where there was one; there is none only at the end
 pub record BringsPiece (left : Option (List ℕ)) (old : List ℕ) (left' : Option (List ℕ)) (new : List ℕ) (some : Bool)
@@ -43,6 +45,13 @@ pub record ConvertsAll (from to : Form) (left left' : Option (List ℕ)) (text :
   pub deepest : Option ℕ
   pub says : SaysAll from left left' set deepest
   pub written : text ≡ form_text to set deepest
+
+-- the text is that of a change of the set which the input says, in the same form and with the order that is stated of it
+pub record ChangesAll (change : Change) (form : Form) (left left' : Option (List ℕ)) (text : List ℕ) : Type 0 where
+  pub set : NumberSet
+  pub deepest : Option ℕ
+  pub says : SaysAll form left left' set deepest
+  pub written : text ≡ form_text form (changed change set) (order_after change deepest)
 
 -- the text has the figures of the set which the input says
 pub record DescribesAll (form : Form) (left left' : Option (List ℕ)) (text : List ℕ) : Type 0 where
@@ -84,6 +93,10 @@ IsOfInput fault = (fault ≡ Read) ⊎ (fault ≡ TooLong) ⊎ (fault ≡ Memory
 -- why the input says no set: it or memory could not be had, or it has the fault that is told
 abbrev pub SaysNothing : Form → Option (List ℕ) → Option (List ℕ) → Complaint → Type 0
 SaysNothing form left left' c = IsOfInput c.fault ⊎ IsFaulty form left left' c
+
+-- why nothing was made of the input: it says no set, or what was made of it has a cell that is deeper than its order
+abbrev pub IsNotChanged : Form → Option (List ℕ) → Option (List ℕ) → Complaint → Type 0
+IsNotChanged form left left' c = SaysNothing form left left' c ⊎ (c.fault ≡ TooCoarse)
 
 -- the input was checked: it says a set, or has the fault that is told, where it could be had
 abbrev pub ChecksAll : Form → Option (List ℕ) → Option (List ℕ) → Result (Unit {0}) Complaint → Type 0

@@ -3,12 +3,12 @@ ghost use Rattle.std.specs.Prelude.{◌≡◌, ◌≢◌, ◌<◌, ◌↔◌, �
 ghost use Rattle.std.specs.String.{string_bytes};
 ghost use Rattle.moc_forms.specs.Forms.{FormSays, form_text};
 ghost use Rattle.moc_forms.specs.Places.{line_bytes, line_of};
-ghost use Rattle.moc_program.specs.Conversion.{BringsPiece, ChecksAll, ConvertsAll, DescribesAll, DrawsAll, IsOfInput};
-ghost use Rattle.moc_program.specs.Conversion.{IsReadFault, IsWhole, SaysAll, SaysNothing, TellsFault};
+ghost use Rattle.moc_program.specs.Conversion.{BringsPiece, ChangesAll, ChecksAll, ConvertsAll, DescribesAll, DrawsAll};
+ghost use Rattle.moc_program.specs.Conversion.{IsNotChanged, IsOfInput, IsReadFault, IsWhole, SaysAll, SaysNothing, TellsFault};
 ghost use Rattle.moc_program.specs.Faults.{fault_of_form};
 
 use crate::status::{Complaint, Fault};
-use moc_forms::{Form, Refusal, describe, draw, examine, place_line};
+use moc_forms::{Change, Form, Refusal, describe, draw, examine, place_line};
 use moc_ranges::Coverage;
 use moc_script::Source;
 use moc_sphere::Order;
@@ -170,6 +170,23 @@ pub fn drawn<R: Source>(alloc: Global, form: Form, input: &mut R) -> Result<Stri
 {
     let (set, _) = input_says(alloc, form, input)?;
     Ok(draw(alloc, &set)?)
+}
+
+/// The text of a change of the coverage that the input has, in the same form, with the order that is stated of it.
+pub fn changed<R: Source>(
+    alloc: Global,
+    change: Change,
+    form: Form,
+    input: &mut R,
+) -> Result<String, Complaint>
+    requires { R.mark input.old ≡ false }
+    ensures read { IsReadFault result ↔ IsTrue (R.mark input.new) }
+    ensures fault { IfErr result (λ c. IsNotChanged form (R.left input.old) (R.left input.new) c) }
+    ensures changes { IfOk result (λ t. ChangesAll change form (R.left input.old) (R.left input.new) (string_bytes t)) }
+{
+    let (set, deepest) = input_says(alloc, form, input)?;
+    let after = change.of(alloc, &set)?;
+    Ok(text_of(alloc, form, &after, change.stated(deepest))?)
 }
 
 /// Whether the input is a coverage in a form; else its first fault and, in words, where it is.

@@ -9,7 +9,7 @@ ghost use Rattle.moc_program.specs.Statuses.{IsDeviceFault, end_of};
 
 use crate::action::{Action, Number};
 use crate::combination::combined;
-use crate::conversion::{checked, converted, described, drawn};
+use crate::conversion::{changed, checked, converted, described, drawn};
 use crate::status::{Complaint, Fault, Status};
 use clap::error::ErrorKind;
 use clap::{ArgMatches, Error};
@@ -151,6 +151,9 @@ fn act<T: Threads + Wait + Sync, R: Source, W: Sink>(
         }
         Some(Action::Describe(form)) => printed(described(alloc, form, input)?.as_str(), output),
         Some(Action::Draw(form)) => printed(drawn(alloc, form, input)?.as_str(), output),
+        Some(Action::Change(change, form)) => {
+            printed(changed(alloc, change, form, input)?.as_str(), output)
+        }
         Some(Action::Combine(operation, form)) => {
             printed(combined(alloc, operation, form, input)?.as_str(), output)
         }

@@ -425,6 +425,40 @@ fn refused_combinations(rt: HostRuntime) {
     }
 }
 
+#[test]
+fn changes(rt: HostRuntime) {
+    for (words, input, output) in [
+        (
+            ["degrade", "1", "ascii"].as_slice(),
+            "0/0 3/300 5/",
+            "0/0 1/18\n",
+        ),
+        (
+            ["degrade", "5", "ascii"].as_slice(),
+            "0/0 3/300 4/",
+            "0/0 3/300 4/\n",
+        ),
+        (
+            ["complement", "ascii"].as_slice(),
+            "0/0-10 1/44 2/",
+            "1/45-47 2/\n",
+        ),
+        (["complement", "ascii"].as_slice(), "0/0-11 1/", "1/\n"),
+    ] {
+        expect(&rt, rt.alloc(), words, input, 0, output, "");
+    }
+    let told = "fault Backwards\nbyte 2, line 1, byte 2 of it\n";
+    expect(
+        &rt,
+        rt.alloc(),
+        &["degrade", "1", "ascii"],
+        "5/7-3",
+        1,
+        "",
+        told,
+    );
+}
+
 /// A reader that fails.
 #[derive(Drop)]
 struct Broken {
@@ -459,6 +493,8 @@ fn failing_input(rt: HostRuntime) {
         ["describe", "uniq"].as_slice(),
         ["combine", "union", "uniq"].as_slice(),
         ["draw", "json"].as_slice(),
+        ["degrade", "1", "ascii"].as_slice(),
+        ["complement", "uniq"].as_slice(),
         ["renumber", "nest", "uniq", "3"].as_slice(),
     ] {
         let mut written = Vec::new(rt.alloc());
@@ -499,6 +535,8 @@ fn help_and_mistakes(rt: HostRuntime) {
         (["combine", "minus", "ascii"].as_slice(), 2),
         (["combine", "--help"].as_slice(), 0),
         (["draw"].as_slice(), 2),
+        (["degrade", "ascii"].as_slice(), 2),
+        (["complement", "fits"].as_slice(), 2),
         (["renumber", "nest", "cell", "1"].as_slice(), 2),
         (["renumber", "--help"].as_slice(), 0),
     ] {
