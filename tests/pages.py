@@ -1,10 +1,12 @@
 #!/usr/bin/env python3
-"""Runs what the pages show, and compares what comes back with what they say.
+"""Runs what the pages and the program's help show, and compares what comes back with what they say.
 
 In a block `console` each line that begins with `$` is a command of bash, and the lines up to the next one are all that
 it writes, faults too; the commands of the blocks under one heading run in turn in one shell and one folder. A block
-`python` is a program, and the block `text` behind it is all that it writes. The program `moc` lies where the
-environment's MOC says. The last line printed is `N passed, M failed`."""
+`python` is a program, and the block `text` behind it is all that it writes. The help of each word begins with the line
+that the list of words has for it, is 80 columns wide at most, and has an example, a command and what it writes. The
+program `moc` lies where the environment's MOC says. The last line printed is `N passed, M failed`."""
+import itertools
 import os
 import re
 import subprocess
@@ -15,6 +17,7 @@ TOP = os.path.dirname(os.path.dirname(os.path.abspath(__file__)))
 MOC = os.environ.get("MOC", os.path.join(TOP, "crates", "moc_cli", "out", "moc_cli"))
 PAGES = ["README.md", "docs/RECIPES.md", "docs/FORMATS.md"]
 SECONDS = 60
+COLUMNS = 80
 END = "--- the end of what this command writes ---"
 
 
@@ -101,8 +104,42 @@ def checked(page):
         yield compare("the program", seen[0], told)
 
 
+def help_of(*words):
+    """The help of the program, or of one of its words."""
+    return subprocess.run([MOC, *words, "--help"], timeout=SECONDS, stdout=subprocess.PIPE, text=True).stdout
+
+
+def example_of(text):
+    """The command of a help text's example, and what it says that the command writes."""
+    lines = text.splitlines()
+    behind = lines[lines.index("Example:") + 1:]
+    told = behind[2:] if behind[1:2] in (["prints"], ["tells"]) else []
+    shown = list(itertools.takewhile(lambda line: line.startswith("  "), told))
+    return behind[0].strip(), "".join(line[2:] + "\n" for line in shown)
+
+
+def helps():
+    """What came of each help text: of its first line, the length of its lines, and its example."""
+    overview = help_of()
+    listed = re.findall(r"^  ([a-z]+) {2,}(\S.*)$", overview, re.MULTILINE)
+    texts = {(): overview, **{(word,): help_of(word) for word, _ in listed if word != "help"}}
+    for word, about in listed:
+        if word != "help":
+            first = texts[(word,)].splitlines()[:1]
+            yield compare(f"the first line of moc {word} --help", first, [about])
+    for words, text in texts.items():
+        name = " ".join(["moc", *words, "--help"])
+        wide = [line for line in text.splitlines() if len(line) > COLUMNS]
+        yield compare(f"lines of {name} that are too long", wide, [])
+        command, told = example_of(text)
+        with tempfile.TemporaryDirectory() as folder:
+            seen = outputs(folder_with_moc(folder), [command])
+        yield compare(f"{name}: {command}", seen[0], told)
+
+
 def main():
-    results = []
+    results = list(helps())
+    assert len(results) > 40, "moc --help lists few words"
     for name in PAGES:
         with open(os.path.join(TOP, name), encoding="utf-8") as page:
             found = list(checked(page.read()))

@@ -90,16 +90,24 @@ REFUSED = [
     (["convert", "uniq", "ascii"], b"4\nx", b"BadByte"),
     (["convert", "uniq", "ascii"], b"3", b"NotUniq"),
     (["convert", "ascii", "ascii"], b" " * (LIMIT + 1), b"TooLong"),
-    (["describe", "ascii"], b"0/12", b"CellTooLarge"),
+    (["describe", "ascii"], b"0/12", b"CellTooLarge\nbyte 2, line 1, byte 2 of it"),
+    (["describe", "uniq"], b"4\n3", b"NotUniq\nline 2"),
     (["describe", "json"], b"[1]", b"NotObject"),
     (["describe", "uniq"], b" " * (LIMIT + 1), b"TooLong"),
-    (["combine", "union", "ascii"], b"0/0 ; 0/12", b"CellTooLarge"),
-    (["combine", "difference", "ascii"], b"5/7-3 ; 0/12", b"Backwards"),
-    (["combine", "symmetric", "json"], b'{"0":[0]};', b"NotJson"),
-    (["combine", "intersection", "uniq"], b"4;5\n;3", b"NotUniq"),
-    (["combine", "union", "ascii"], b"0/0;" + b" " * (LIMIT + 1), b"TooLong"),
-    (["combine", "union", "ascii"], b" " * (LIMIT + 1) + b";0/12", b"TooLong"),
-    (["draw", "ascii"], b"0/12", b"CellTooLarge"),
+    (["combine", "union", "ascii"], b"0/0 ; 0/12", b"CellTooLarge\ntext 2, byte 3, line 1, byte 3 of it"),
+    (["combine", "difference", "ascii"], b"5/7-3 ; 0/12", b"Backwards\ntext 1, byte 2, line 1, byte 2 of it"),
+    (["combine", "union", "ascii"], b"0/0;" * 16 + b"\n7;0/0", b"NoOrder\ntext 17, byte 1, line 2, byte 0 of it"),
+    (["combine", "symmetric", "json"], b'{"0":[0]};{', b"NotJson\ntext 2, line 1, column 1"),
+    (["combine", "symmetric", "json"], b'{"0":[0]};[1];{}', b"NotObject\ntext 2"),
+    (["combine", "intersection", "uniq"], b"4;5\n;3", b"NotUniq\ntext 3, line 1"),
+    (["combine", "union", "ascii"], b"0/0;" + b" " * (LIMIT + 1), b"TooLong\ntext 2"),
+    (["combine", "union", "ascii"], b" " * (LIMIT + 1) + b";0/12", b"TooLong\ntext 1"),
+    (["degrade", "3", "ascii"], b"0/12", b"CellTooLarge\nbyte 2, line 1, byte 2 of it"),
+    (["degrade", "3", "json"], b" " * (LIMIT + 1), b"TooLong"),
+    (["complement", "json"], b'{"x":[]}', b"BadOrder\nname 0"),
+    (["complement", "uniq"], b"4\n3", b"NotUniq\nline 2"),
+    (["draw", "ascii"], b"0/12", b"CellTooLarge\nbyte 2, line 1, byte 2 of it"),
+    (["draw", "json"], b'{"9":[0,1,true]}', b"NotWhole\norder 9, number 2"),
     (["draw", "json"], b"[1]", b"NotObject"),
     (["draw", "uniq"], b" " * (LIMIT + 1), b"TooLong"),
     (["renumber", "nest", "ring", "0"], b" " * (LONGEST_LINE + 1), b"LineTooLong"),
@@ -140,8 +148,16 @@ WORKS = [
     (["combine", "union", "ascii"], b"0/0 1/4-5;1/3-4 6-7 2/20 32", b"0/0-1 2/32\n"),
     (["combine", "intersection", "uniq"], b"4\n;16\n5\n", b"16\n"),
     (["combine", "difference", "json"], b'{"0":[0]};{"1":[3]};{"2":[]}', b'{"1":[0,1,2],"2":[]}\n'),
+    (["combine", "intersection", "json"], b'{"0":[0]};{"1":[3]}; \t\r\n', b'{"1":[3]}\n'),
     (["combine", "symmetric", "ascii"], b"0/0-1 ; 0/1-2 ; 0/1", b"0/0-2\n"),
     (["draw", "ascii"], b"0/4 1/3 8/0-2", PICTURE),
+    (["degrade", "1", "ascii"], b"0/0 3/300 5/", b"0/0 1/18\n"),
+    (["degrade", "5", "ascii"], b"0/0 3/300 4/", b"0/0 3/300 4/\n"),
+    (["degrade", "0", "json"], b'{"1":[5],"4":[]}', b'{"0":[1]}\n'),
+    (["degrade", "1", "uniq"], b"16\n1088\n", b"16\n17\n"),
+    (["complement", "ascii"], b"0/0-10 1/44 2/", b"1/45-47 2/\n"),
+    (["complement", "json"], b'{"3":[]}', b'{"0":[0,1,2,3,4,5,6,7,8,9,10,11],"3":[]}\n'),
+    (["complement", "uniq"], b"4\n5\n6\n7\n8\n9\n10\n11\n12\n13\n14\n61\n62\n63\n", b"60\n"),
     (["renumber", "nest", "ring", "1"], b"0\n3\n48\n\n\t18 \r\n1 2\n-1\n47", RINGS),
     (["renumber", "uniq", "nest", "3"], b"266\n63\n3\n", b"10\nfault OtherOrder\nfault NotUniq\n"),
     (["renumber", "ring", "uniq", "1"], b"0\n27\n48", b"19\n34\nfault RingTooLarge\n"),
@@ -152,6 +168,7 @@ MISTAKES = [
     (["ring", "30", "0"], b"30"),
     (["ring", "1"], b"CELL"),
     (["fly"], b"fly"),
+    (["faults", "now"], b"now"),
     (["run", "now"], b"now"),
     (["play", "now"], b"now"),
     (["crew"], b"N"),
@@ -167,6 +184,9 @@ MISTAKES = [
     (["renumber", "nest", "ring"], b"ORDER"),
     (["renumber", "nest", "rang", "1"], b"rang"),
     (["renumber", "nest", "ring", "30"], b"30"),
+    (["degrade", "ascii"], b"ascii"),
+    (["degrade", "30", "ascii"], b"30"),
+    (["complement"], b"FORM"),
     (["combine", "ascii"], b"ascii"),
     (["combine", "union"], b"FORM"),
     (["combine", "minus", "ascii"], b"minus"),
@@ -184,17 +204,20 @@ HELP = [
     (["ring", "--help"], b"Order of the cell, 0 to 29"),
     (["help", "near"], b"Number of the cell in the nested scheme, below 12 times 4^ORDER"),
     (["near", "--help"], b"Prints the nested cells that share a corner point with a cell"),
-    (["nest", "--help"], b"Number of the cell in the ring scheme, from the north, below 12 times 4^ORDER"),
+    (["nest", "--help"], b"Ring number of the cell, from the north, below 12 times 4^ORDER"),
     (["cell", "--help"], b"NUNIQ number of the cell, which is 4^(ORDER+1) + CELL"),
     (["crew", "--help"], b"How many threads, 1 to 64"),
+    (["--help"], b"Coverages, from standard input:\n  convert "),
+    (["faults"], b"  CellTooLarge     the order has no such cell"),
+    (["help", "faults"], b"  TooLong          a text of more than 16,777,216 bytes"),
     (["--version"], b"moc 0.1.0\n"),
     (["-V"], b"moc 0.1.0\n"),
-    (["convert", "--help"], b"Converts a coverage on standard input from one text form to another"),
-    (["check", "--help"], b"Tells whether standard input is a coverage, and else where it is at fault"),
-    (["describe", "--help"], b"Prints the figures of a coverage on standard input"),
-    (["combine", "--help"], b"Combines coverages on standard input by an operation of sets"),
-    (["draw", "--help"], b"Draws a coverage on standard input as an SVG picture"),
-    (["renumber", "--help"], b"Converts numbers of cells on standard input from one numbering to another"),
+    (["convert", "--help"], b"Converts a coverage from one text form to another"),
+    (["check", "--help"], b"Tells whether a text is a coverage, and else where it is at fault"),
+    (["describe", "--help"], b"Prints the figures of a coverage"),
+    (["combine", "--help"], b"Combines coverages by an operation of sets"),
+    (["draw", "--help"], b"Draws a coverage as an SVG picture"),
+    (["renumber", "--help"], b"Converts numbers of cells from one numbering to another"),
 ]
 
 
@@ -230,6 +253,10 @@ def words_are_answered(tally):
     for words, part in HELP:
         status, output, faults = outcome(words)
         tally.add(words, (status, faults) == (0, b"") and part in output, (status, output, faults))
+    _, told, _ = outcome(["faults"])
+    for _, _, fault in REFUSED:
+        name = fault.splitlines()[0]
+        tally.add(f"{name} is listed", b"  " + name in told, told)
     for words, part in MISTAKES:
         status, output, faults = outcome(words)
         tally.add(words, (status, output) == (2, b"") and part in faults, (status, output, faults))
@@ -274,13 +301,15 @@ def devices_fail(tally):
     for words, given in [(["run"], SCRIPT), (["play"], SCHEDULE), (["crew", "2"], CREW),
                          (["convert", "ascii", "json"], b"2/0-3"), (["check", "ascii"], b"2/0-3"),
                          (["describe", "ascii"], b"2/0-3"), (["combine", "union", "ascii"], b"2/0-3;0/1"),
-                         (["draw", "ascii"], b"2/0-3"), (["renumber", "nest", "ring", "1"], b"0"),
+                         (["draw", "ascii"], b"2/0-3"), (["degrade", "1", "ascii"], b"2/0-3"),
+                         (["complement", "ascii"], b"2/0-3"), (["renumber", "nest", "ring", "1"], b"0"),
                          (["ring", "1", "18"], b""), (["--help"], b"")]:
         with open("/dev/full", "wb") as full:
             seen = outcome(words, given, stdout=full)
         tally.add(f"{words} on a full device", seen == (3, None, b"fault Write\n"), seen)
     for words in [["run"], ["play"], ["crew", "2"], ["convert", "ascii", "json"], ["check", "ascii"],
                   ["describe", "ascii"], ["combine", "union", "ascii"], ["draw", "ascii"],
+                  ["degrade", "1", "ascii"], ["complement", "ascii"],
                   ["renumber", "nest", "ring", "1"]]:
         folder = os.open(TOP, os.O_RDONLY)
         seen = outcome(words, stdin=folder)
@@ -367,11 +396,21 @@ def crew_growths_are_refused(tally, shim):
 
 
 def check_growths_are_refused(tally, shim):
-    """Refuses each growth of a check that finds a fault in turn: both lines are told, or want of memory."""
+    """Refuses each growth of words that find a fault in turn: both lines are told, or want of memory."""
     whole = (1, b"", b"fault CellTooLarge\norder 2, number 1\n")
     memory = (3, b"", b"fault Memory\n")
-    met = refuse_each(tally, "a check", [MOC, "check", "json"], b'{"10":[],"2":[0,192]}', whole, {memory}, shim)
-    tally.add("some refusal of a check shows", memory in met, met)
+    for word in ["check", "describe", "draw", "complement"]:
+        met = refuse_each(tally, word, [MOC, word, "json"], b'{"10":[],"2":[0,192]}', whole, {memory}, shim)
+        tally.add(f"some refusal of {word} shows", memory in met, met)
+
+
+def combine_growths_are_refused(tally, shim):
+    """Refuses each growth of texts of which one is at fault in turn: both lines are told, or want of memory."""
+    whole = (1, b"", b"fault CellTooLarge\ntext 2, order 2, number 1\n")
+    memory = (3, b"", b"fault Memory\n")
+    words = [MOC, "combine", "union", "json"]
+    met = refuse_each(tally, "texts", words, b'{"0":[0]};{"10":[],"2":[0,192]}', whole, {memory}, shim)
+    tally.add("some refusal of texts shows", memory in met, met)
 
 
 def help_is_refused(tally, shim):
@@ -450,6 +489,7 @@ def main():
         growths_are_refused(tally, ["play"], SCHEDULE, PLAYED, shim, LAST_LINES)
         crew_growths_are_refused(tally, shim)
         check_growths_are_refused(tally, shim)
+        combine_growths_are_refused(tally, shim)
         help_is_refused(tally, shim)
         map_refuses(tally, shim)
         refused_line_is_told(tally, shim)

@@ -1,5 +1,7 @@
 //! What is told of texts. Expected lines are worked out by hand from the texts.
-use moc_forms::{Form, FormError, Operation, Place, check, describe, draw};
+use moc_forms::{
+    Change, Form, FormError, Operation, Place, check, describe, draw, examine, is_blank, place_line,
+};
 use moc_sphere::Order;
 use moc_text::{JsonError, TextError, UniqError};
 use std::alloc::Global;
@@ -77,6 +79,36 @@ fn places_in_lists(rt: HostRuntime) -> Result<(), Fail> {
         assert_eq!(&rt; seen.as_str(), place, "{text:?}");
     }
     Ok(())
+}
+
+#[test]
+fn texts_that_are_examined(rt: HostRuntime) {
+    let alloc = rt.alloc();
+    let (set, deepest) = examine(alloc, Form::Ascii, b"0/0 2/".as_slice()).expect(&rt, "a text");
+    assert_eq!(&rt; set.count(), 1 << 58);
+    assert_eq!(&rt; deepest, Order::new(2));
+    let Err(refusal) = examine(alloc, Form::Ascii, b"\n7".as_slice()) else {
+        panic!(&rt; "a cell without an order is taken")
+    };
+    for (number, place, told) in [
+        (None, refusal.place, "byte 1, line 2, byte 0 of it\n"),
+        (
+            Some(17),
+            refusal.place,
+            "text 17, byte 1, line 2, byte 0 of it\n",
+        ),
+        (Some(17), None, "text 17\n"),
+        (None, None, ""),
+    ] {
+        let line = place_line(alloc, number, place).expect(&rt, "memory");
+        let seen = match &line {
+            Some(line) => line.as_str(),
+            None => "",
+        };
+        assert_eq!(&rt; seen, told);
+    }
+    assert!(&rt; is_blank(b" \t\r\n".as_slice()));
+    assert!(&rt; !is_blank(b" ,".as_slice()));
 }
 
 #[test]
@@ -162,6 +194,32 @@ fn joined(alloc: Global, operation: &str, first: &str, second: &str) -> Result<S
     let (set, deepest) = Form::Ascii.read(alloc, second.as_bytes())?;
     let (set, deepest) = operation.join(alloc, Some(before), set, deepest)?;
     Ok(Form::Ascii.write(alloc, &set, deepest)?)
+}
+
+#[test]
+fn changes(rt: HostRuntime) {
+    let alloc = rt.alloc();
+    let (set, deepest) = Form::Ascii
+        .read(alloc, b"0/0-10 1/44-46 3/".as_slice())
+        .expect(&rt, "a text");
+    for (change, order, text) in [
+        (Change::Degrade(Order::of(0)), Some(0), "0/0-11\n"),
+        (
+            Change::Degrade(Order::of(4)),
+            Some(3),
+            "0/0-10 1/44-46 3/\n",
+        ),
+        (Change::Complement, Some(3), "1/47 3/\n"),
+    ] {
+        let stated = change.stated(deepest);
+        let after = change.of(alloc, &set).expect(&rt, "memory");
+        let written = Form::Ascii
+            .write(alloc, &after, stated)
+            .expect(&rt, "memory");
+        assert_eq!(&rt; written.as_str(), text);
+        assert_eq!(&rt; stated, order.and_then(Order::new));
+        assert!(&rt; change.stated(None).is_none());
+    }
 }
 
 #[test]

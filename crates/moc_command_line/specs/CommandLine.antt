@@ -49,7 +49,14 @@ abbrev pub word_shapes : Parsers → List Shape
 word_shapes parsers =
     let form : Text → Rule = λ name. required_rule name parsers.form in
     let numbering : Text → Rule = λ name. required_rule name parsers.numbering in
-    word_shape (codes "run") []
+    word_shape (codes "convert") (form (codes "FROM") ∷ form (codes "TO") ∷ [])
+    ∷ word_shape (codes "check") (form (codes "FORM") ∷ [])
+    ∷ word_shape (codes "describe") (form (codes "FORM") ∷ [])
+    ∷ word_shape (codes "combine") (required_rule (codes "OP") parsers.operation ∷ form (codes "FORM") ∷ [])
+    ∷ word_shape (codes "degrade") (order_rule ∷ form (codes "FORM") ∷ [])
+    ∷ word_shape (codes "complement") (form (codes "FORM") ∷ [])
+    ∷ word_shape (codes "draw") (form (codes "FORM") ∷ [])
+    ∷ word_shape (codes "run") []
     ∷ word_shape (codes "play") []
     ∷ word_shape (codes "crew") (lanes_rule ∷ [])
     ∷ word_shape (codes "ring") (order_rule ∷ number_rule (codes "CELL") ∷ [])
@@ -57,12 +64,8 @@ word_shapes parsers =
     ∷ word_shape (codes "uniq") (order_rule ∷ number_rule (codes "CELL") ∷ [])
     ∷ word_shape (codes "near") (order_rule ∷ number_rule (codes "CELL") ∷ [])
     ∷ word_shape (codes "cell") (number_rule (codes "UNIQ") ∷ [])
-    ∷ word_shape (codes "check") (form (codes "FORM") ∷ [])
-    ∷ word_shape (codes "describe") (form (codes "FORM") ∷ [])
-    ∷ word_shape (codes "draw") (form (codes "FORM") ∷ [])
-    ∷ word_shape (codes "convert") (form (codes "FROM") ∷ form (codes "TO") ∷ [])
-    ∷ word_shape (codes "combine") (required_rule (codes "OP") parsers.operation ∷ form (codes "FORM") ∷ [])
     ∷ word_shape (codes "renumber") (numbering (codes "FROM") ∷ numbering (codes "TO") ∷ order_rule ∷ [])
+    ∷ word_shape (codes "faults") []
     ∷ []
 
 -- the program: it knows its version, the first of its words is no program's name, and one of its words is required

@@ -5,7 +5,7 @@ ghost use Rattle.clap.specs.declared.builder.command.Command.TheViews.{out-Comma
 ghost use Rattle.moc_command_line.specs.CommandLine.{IsCommandLine};
 ghost use Rattle.moc_command_line.specs.Private.Words.{app_of_word, app_with_word, bare_app, rule_of_argument};
 
-use crate::help::EXAMPLE;
+use crate::help::OVERVIEW;
 use crate::words::{Argument, Word, words};
 use clap::{Arg, Command};
 use std::alloc::{AllocError, Global};
@@ -27,9 +27,8 @@ fn program<'a>(alloc: Global) -> Result<Command<'a>, AllocError>
     ensures { IfOk result (λ c. app_of c ≡ bare_app) }
 {
     Command::new(alloc, "moc")
-        .about("Sky coverages (IVOA MOC 2.0) and HEALPix cell numbers")
         .version("0.1.0")
-        .after_help(EXAMPLE)
+        .override_help(OVERVIEW)
         .no_binary_name(true)
         .subcommand_required(true)
         .bin_name("moc")
@@ -51,10 +50,9 @@ fn command<'a>(alloc: Global, word: &Word) -> Result<Command<'a>, AllocError>
     ensures app { IfOk result (λ c. app_of c ≡ app_of_word word.now) }
     ensures local { IfOk result (λ c. (fields_of c).has_globals ≡ false) }
 {
-    let mut command = Command::new(alloc, word.name).about(word.about);
-    if let Some(topic) = word.after_help {
-        command = command.after_help(topic.text());
-    }
+    let mut command = Command::new(alloc, word.name)
+        .about(word.about)
+        .after_help(word.topic.text());
     for argument in word.arguments {
         command = command.arg(required(alloc, argument))?;
     }
@@ -66,11 +64,8 @@ fn required<'a>(alloc: Global, argument: &Argument) -> Arg<'a>
     ensures rule { rule_of result ≡ rule_of_argument argument.now }
     ensures local { result.global ≡ false }
 {
-    let arg = Arg::new(alloc, argument.name)
+    Arg::new(alloc, argument.name)
         .required(true)
-        .value_parser(argument.values);
-    match argument.help {
-        Some(help) => arg.help(help),
-        None => arg,
-    }
+        .value_parser(argument.values)
+        .help(argument.help)
 }

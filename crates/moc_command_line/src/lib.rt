@@ -6,3 +6,4 @@ mod help;
 mod words;
 
 pub use commands::command_line;
+pub use help::FAULTS;

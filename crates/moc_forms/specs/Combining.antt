@@ -1,7 +1,7 @@
 -- Texts that are parted by semicolons, combined from the left.
-use Rattle.std.specs.Prelude.{◌≡◌, ℕ, Bool, ◌==◌, List, [], ◌∷◌, codes, Option, None, Some}
+use Rattle.std.specs.Prelude.{◌≡◌, ℕ, zero, suc, Bool, ◌==◌, ◌||◌, if◌then◌else◌, List, [], ◌∷◌, codes, Option, None, Some}
 use Rattle.std.specs.FinSet as set
-use Rattle.std.specs.List.{slice_split}
+use Rattle.std.specs.List.{list_all, slice_split}
 use Rattle.moc_ranges.specs.Numbers.{NumberSet}
 use Rattle.moc_ranges.specs.Operations.{symmetric}
 use Rattle.moc_text.specs.Ascii.{deeper}
@@ -38,9 +38,31 @@ joined operation (Some before) said = (combined operation before.0 said.0, deepe
 abbrev pub is_semicolon : ℕ → Bool
 is_semicolon b = b == 59
 
--- the texts of an input: its bytes, parted at the semicolons
+-- nothing but spaces, tabs, CR and LF
+abbrev pub is_blank_byte : ℕ → Bool
+is_blank_byte b = b == 32 || b == 9 || b == 13 || b == 10
+
+abbrev pub are_blanks : List ℕ → Bool
+are_blanks text = list_all is_blank_byte text
+
+-- parts, but for a last one of blanks alone
+abbrev pub without_blank_end : List (List ℕ) → List (List ℕ)
+without_blank_end [] = []
+without_blank_end (text ∷ []) = if are_blanks text then [] else text ∷ []
+without_blank_end (text ∷ next ∷ texts) = text ∷ without_blank_end (next ∷ texts)
+
+-- the texts among parts: the first one, and those behind it, but for a last one of blanks alone
+abbrev pub texts_among : List (List ℕ) → List (List ℕ)
+texts_among [] = []
+texts_among (first ∷ behind) = first ∷ without_blank_end behind
+
+-- bytes, parted at the semicolons
+abbrev pub parts_of : List ℕ → List (List ℕ)
+parts_of bytes = slice_split is_semicolon bytes
+
+-- the texts of an input: its parts, where blanks behind the last semicolon are no text
 abbrev pub texts_of : List ℕ → List (List ℕ)
-texts_of bytes = slice_split is_semicolon bytes
+texts_of bytes = texts_among (parts_of bytes)
 
 -- what is said before texts of a form, and after them, where they are taken from the left
 abbrev pub CombinesTexts : Operation → Form → Option Said → List (List ℕ) → Option Said → Type 0
@@ -48,6 +70,13 @@ CombinesTexts operation form before [] after = after ≡ before
 CombinesTexts operation form before (text ∷ texts) after =
     (said : Said) × FormSays form text said.0 said.1
     × CombinesTexts operation form (Some (joined operation before said)) texts after
+
+-- among texts of a form this one stands behind so many others, and each of these says a set
+abbrev pub StandsBehind : Form → List (List ℕ) → ℕ → List ℕ → Type 0
+StandsBehind form [] count text = ⊥
+StandsBehind form (first ∷ texts) zero text = text ≡ first
+StandsBehind form (first ∷ texts) (suc count) text =
+    ((said : Said) × FormSays form first said.0 said.1) × StandsBehind form texts count text
 
 -- the texts of an input say together a set and the deepest order that one of them names
 abbrev pub Combines : Operation → Form → List ℕ → NumberSet → Option ℕ → Type 0

@@ -1,3 +1,4 @@
+pub mod Changing
 pub mod Combining
 pub mod Describing
 pub mod Drawing

@@ -1,6 +1,7 @@
 -- Where a text is at fault.
 use Rattle.std.specs.Prelude.{◌≡◌, ℕ, ◌+◌, List, [], ◌∷◌, ◌++◌, ◌⊎◌, if◌then◌else◌, take, Option, None, Some}
-use Rattle.std.specs.Prelude.{option_map, decimal, codes, count_by}
+use Rattle.std.specs.Prelude.{option_map, decimal, codes, count_by, String, string_bytes}
+use Rattle.std.specs.declared.alloc.Global.{Global}
 use Rattle.moc_text.specs.JsonForm.{NamesOrder}
 use Rattle.moc_text.specs.Lines.{is_line_feed}
 use Rattle.moc_text.specs.declared.ascii.error.TextError.{TextError}
@@ -80,3 +81,16 @@ place_text (Stop line column) = (codes "line " ++ decimal line) ++ (codes ", col
 place_text (Name name) = codes "name " ++ decimal name
 place_text (Order order) = codes "order " ++ decimal order
 place_text (Number order number) = (codes "order " ++ decimal order) ++ (codes ", number " ++ decimal number)
+
+-- the line that says where a fault is: the number of the text, where texts are counted, and the place in it, if there is
+-- one
+abbrev pub line_of : Option ℕ → Option Place → Option (List ℕ)
+line_of None None = None
+line_of None (Some place) = Some (place_text place ++ 10 ∷ [])
+line_of (Some number) None = Some ((codes "text " ++ decimal number) ++ 10 ∷ [])
+line_of (Some number) (Some place) =
+    Some ((codes "text " ++ decimal number) ++ codes ", " ++ place_text place ++ 10 ∷ [])
+
+-- the bytes of a line, if there is one
+abbrev pub line_bytes : Option (String Global) → Option (List ℕ)
+line_bytes line = option_map (λ (l : String Global). string_bytes l) line

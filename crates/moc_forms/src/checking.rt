@@ -6,6 +6,8 @@ ghost use Rattle.moc_forms.specs.Places.{IsJsonPlace, IsPlace, ascii_place, uniq
 
 use crate::form::{Form, FormError};
 use crate::place::Place;
+use moc_ranges::Coverage;
+use moc_sphere::Order;
 use moc_text::{JsonError, TextError, UniqError, json_order, json_stop};
 use std::alloc::Global;
 
@@ -17,19 +19,31 @@ pub struct Refusal {
     pub place: Option<Place>,
 }
 
-/// Tells whether a text is a coverage in a form, and else its first fault with its place.
+/// Reads a text in a form as `Form::read` does: the set, and the deepest order that it names; else its first fault with
+/// its place.
 ///
 /// One pass over the bytes, as reading takes; at a fault of an ASCII text another over the bytes before it, and at one
 /// of a JSON text a second parse. Memory follows the set, and of a JSON text the text.
+pub fn examine(alloc: Global, form: Form, text: &[u8]) -> Result<(Coverage, Option<Order>), Refusal>
+    ensures says { IfOk result (λ r. FormSays form text.now r.0 r.1) }
+    ensures fault { IfErr result (λ r. FormFails form text.now r.error) }
+    ensures place { IfErr result (λ r. IsPlace text.now r.error r.place) }
+{
+    match form.read(alloc, text) {
+        Ok(said) => Ok(said),
+        Err(error) => Err(placed(alloc, text, error)),
+    }
+}
+
+/// Tells whether a text is a coverage in a form, and else its first fault with its place; as `examine`, which gives the
+/// set besides.
 pub fn check(alloc: Global, form: Form, text: &[u8]) -> Result<(), Refusal>
     ensures says { OnOk result ((a : NumberSet) × (k : Option ℕ) × FormSays form text.now a k) }
     ensures fault { IfErr result (λ r. FormFails form text.now r.error) }
     ensures place { IfErr result (λ r. IsPlace text.now r.error r.place) }
 {
-    match form.read(alloc, text) {
-        Ok(_) => Ok(()),
-        Err(error) => Err(placed(alloc, text, error)),
-    }
+    examine(alloc, form, text)?;
+    Ok(())
 }
 
 /// The refusal of a text with this error; of want of memory where memory is refused while its place is sought.

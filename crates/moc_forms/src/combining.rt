@@ -1,7 +1,7 @@
 //! Operations on what texts say.
 ghost use Rattle.std.specs.Prelude.{◌≡◌, IfOk, IfSome, Some};
 ghost use Rattle.moc_text.specs.Ascii.{deeper as deeper_of};
-ghost use Rattle.moc_forms.specs.Combining.{combined, joined, operation_name};
+ghost use Rattle.moc_forms.specs.Combining.{are_blanks, combined, joined, operation_name};
 
 use moc_ranges::{Coverage, Memory};
 use moc_sphere::Order;
@@ -67,6 +67,20 @@ impl Operation {
             }
         }
     }
+}
+
+/// Whether a text is nothing, or blanks alone: spaces, tabs, CR and LF. Behind a semicolon such a text is none.
+///
+/// Linear in the blanks at its front; takes no memory.
+pub fn is_blank(text: &[u8]) -> bool
+    ensures { result ≡ are_blanks text.now }
+{
+    for byte in text {
+        if !matches!(*byte, b' ' | b'\t' | b'\r' | b'\n') {
+            return false;
+        }
+    }
+    true
 }
 
 /// The deeper of two orders that may be none.

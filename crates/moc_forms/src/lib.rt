@@ -2,6 +2,7 @@
 //! several say together, and what a set of pixels is like in figures and as a picture.
 #![tactic(auto)]
 
+mod changing;
 mod checking;
 mod combining;
 mod drawing;
@@ -11,9 +12,10 @@ mod marks;
 mod place;
 mod texts;
 
-pub use checking::{Refusal, check};
-pub use combining::Operation;
+pub use changing::Change;
+pub use checking::{Refusal, check, examine};
+pub use combining::{Operation, is_blank};
 pub use drawing::draw;
 pub use figures::describe;
 pub use form::{Form, FormError};
-pub use place::Place;
+pub use place::{Place, place_line};

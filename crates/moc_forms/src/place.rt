@@ -1,11 +1,11 @@
 //! Where a text is at fault.
-ghost use Rattle.std.specs.Prelude.{◌≡◌, ◌++◌, OnOk};
+ghost use Rattle.std.specs.Prelude.{◌≡◌, ◌++◌, IfOk, OnOk};
 ghost use Rattle.std.specs.String.{string_bytes};
-ghost use Rattle.moc_forms.specs.Places.{byte_place, place_text};
+ghost use Rattle.moc_forms.specs.Places.{byte_place, line_bytes, line_of, place_text};
 
 use crate::texts::push_count;
 use moc_sphere::Order;
-use std::alloc::AllocError;
+use std::alloc::{AllocError, Global};
 
 /// Where a text is at fault. Lines are counted from 1, and so is a column; all else from 0.
 #[derive(Clone, Copy, Debug, PartialEq, Eq)]
@@ -76,4 +76,28 @@ impl Place {
             }
         }
     }
+}
+
+/// The line that says where a fault is: the number of the text, where texts are counted, and the place in it, if there
+/// is one; `None` where there is nothing to say. Refused where memory runs out.
+pub fn place_line(
+    alloc: Global,
+    number: Option<u64>,
+    place: Option<Place>,
+) -> Result<Option<String>, AllocError>
+    ensures { IfOk result (λ line. line_bytes line ≡ line_of number place) }
+{
+    let mut line = String::new(alloc);
+    match (number, place) {
+        (None, None) => return Ok(None),
+        (None, Some(place)) => place.push_to(&mut line)?,
+        (Some(number), None) => push_count(&mut line, "text ", number)?,
+        (Some(number), Some(place)) => {
+            push_count(&mut line, "text ", number)?;
+            line.push_str(", ")?;
+            place.push_to(&mut line)?;
+        }
+    }
+    line.push('\n')?;
+    Ok(Some(line))
 }

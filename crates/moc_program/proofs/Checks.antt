@@ -1,15 +1,18 @@
--- What a check that ends with a complaint says.
-use Rattle.std.proofs.Common.{◌≡◌, ◌∙◌, ℕ, List, Option, Err, ap, inl, inr}
-use Rattle.moc_forms.specs.Forms.{FormFails, IsWant}
-use Rattle.moc_forms.specs.Places.{IsPlace}
+-- What a complaint of a text says.
+use Rattle.std.proofs.Common.{◌≡◌, ◌⊎◌, ◌∙◌, ℕ, List, Option, None, Result, Ok, Err, ap, inl, inr, subst, sym}
+use Rattle.std.specs.Prelude.{IfErr, IsErrAnd}
+use Rattle.moc_ranges.specs.Numbers.{NumberSet}
+use Rattle.moc_forms.specs.Forms.{FormFails, IsUnwritten, IsWant}
+use Rattle.moc_forms.specs.Places.{IsPlace, line_bytes, line_of}
 use Rattle.moc_forms.specs.declared.form.Form.{Form}
+use Rattle.moc_forms.specs.declared.form.Form.TheVariants.{Ascii, Json, Uniq}
 use Rattle.moc_forms.specs.declared.form.FormError.{FormError}
 use Rattle.moc_forms.specs.declared.place.Place.{Place}
-use Rattle.moc_program.specs.Conversion.{ChecksAll, IsOfInput, IsPlaceLine, IsWhole}
+use Rattle.moc_program.specs.Conversion.{IsFaulty, IsOfInput, IsWhole, TellsFault}
 use Rattle.moc_program.specs.Faults.{fault_of_form}
 use Rattle.moc_program.specs.declared.status.Complaint.{Complaint}
 use Rattle.moc_program.specs.declared.status.Fault.{Fault}
-use Rattle.moc_program.specs.declared.status.Fault.TheVariants.{Memory}
+use Rattle.moc_program.specs.declared.status.Fault.TheVariants.{Memory, TooCoarse}
 
 want_is_memory : (e : FormError) → IsWant e → fault_of_form e ≡ Memory
 want_is_memory e (inl a) = ap fault_of_form a
@@ -17,22 +20,56 @@ want_is_memory e (inr (inl a)) = ap fault_of_form a
 want_is_memory e (inr (inr (inl a))) = ap fault_of_form a
 want_is_memory e (inr (inr (inr a))) = ap fault_of_form a
 
--- want of memory is told as such, and the first fault of the text with its place
-pub faulty : (form : Form) (left left' : Option (List ℕ)) (given : List ℕ) (error : FormError) (place : Option Place) (c : Complaint)
-    → IsWhole left left' given → FormFails form given error → IsPlace given error place
-    → c.fault ≡ fault_of_form error → IsPlaceLine place c.place → ChecksAll form left left' (Err c)
-faulty form left left' given error place c whole (inl want) is_place told line = inl (inr (inr (told ∙ want_is_memory error want)))
-faulty form left left' given error place c whole (inr is_fault) is_place told line = inr (record {
-  given = given;
-  whole = whole;
-  error = error;
-  is_fault = is_fault;
-  told = told;
-  place = place;
-  is_place = is_place;
-  line = line;
-})
+-- want of memory is told as such, and the first fault of a text with its place
+module _ (form : Form) (text : List ℕ) (number : Option ℕ) (error : FormError) (place : Option Place) (c : Complaint)
+    (is_place : IsPlace text error place) where
+  of_error : FormFails form text error → (c.fault ≡ fault_of_form error) × (line_bytes c.place ≡ line_of number place)
+      → (c.fault ≡ Memory) ⊎ TellsFault form text number c
+  of_error (inl want) (told, line) = inl (told ∙ want_is_memory error want)
+  of_error (inr is_fault) (told, line) =
+      inr (record { error = error; is_fault = is_fault; told = told; place = place; is_place = is_place; line = line })
 
--- an input that could not be had
-pub unread : (form : Form) (left left' : Option (List ℕ)) (f : Fault) (c : Complaint) → c.fault ≡ f → IsOfInput f → ChecksAll form left left' (Err c)
-unread form left left' f c same of = inl (rw same of)
+  pub told : FormFails form text error → (c.fault ≡ Memory) ⊎ ((c.fault ≡ fault_of_form error) × (line_bytes c.place ≡ line_of number place))
+      → (c.fault ≡ Memory) ⊎ TellsFault form text number c
+  told fails (inl memory) = inl memory
+  told fails (inr tells) = of_error fails tells
+
+-- a complaint of the input, or of the text that it was
+pub of_input : (form : Form) (left left' : Option (List ℕ)) (given : List ℕ) (c : Complaint) → IsWhole left left' given
+    → (c.fault ≡ Memory) ⊎ TellsFault form given None c → IsOfInput c.fault ⊎ IsFaulty form left left' c
+of_input form left left' given c whole (inl memory) = inl (inr (inr memory))
+of_input form left left' given c whole (inr tells) = inr (record { given = given; whole = whole; tells = tells })
+
+-- a complaint that is handed on
+pub handed_on : {T : Type 0} (r : Result T Complaint) (x : Complaint) (Q : Complaint → Type 0) → IsErrAnd r (λ y. y ≡ x) → Q x → IfErr r Q
+handed_on (Ok v) x Q same told = tt
+handed_on (Err y) x Q same told = subst Q (sym same) told
+
+-- a text that could not be written
+pub unwritten : (form : Form) (a : NumberSet) (stated : Option ℕ) (e : FormError) → IsUnwritten form a stated e → (fault_of_form e ≡ Memory) ⊎ (fault_of_form e ≡ TooCoarse)
+unwritten Ascii a stated e (inl want) = inl (want_is_memory e want)
+unwritten Ascii a stated e (inr coarse) = inr (ap fault_of_form coarse.0)
+unwritten Json a stated e (inl want) = inl (want_is_memory e want)
+unwritten Json a stated e (inr coarse) = inr (ap fault_of_form coarse.0)
+unwritten Uniq a stated e want = inl (want_is_memory e want)
+
+pub fault_of_writing : {T : Type 0} (r : Result T Fault) (form : Form) (a : NumberSet) (stated : Option ℕ) (e : FormError) → IsErrAnd r (λ f. f ≡ fault_of_form e)
+    → IsUnwritten form a stated e → IfErr r (λ f. (f ≡ Memory) ⊎ (f ≡ TooCoarse))
+fault_of_writing (Ok v) form a stated e same why = tt
+fault_of_writing (Err f) form a stated e same why =
+    subst (λ g. (g ≡ Memory) ⊎ (g ≡ TooCoarse)) (sym same) (unwritten form a stated e why)
+
+of_writing : (c : Complaint) (f : Fault) → c.fault ≡ f → (f ≡ Memory) ⊎ (f ≡ TooCoarse) → IsOfInput c.fault ⊎ (c.fault ≡ TooCoarse)
+of_writing c f same (inl memory) = inl (inr (inr (same ∙ memory)))
+of_writing c f same (inr coarse) = inr (same ∙ coarse)
+
+-- a complaint of a text that could not be written, where others are of the input
+pub not_written : {T : Type 0} (r : Result T Complaint) (f : Fault) (P : Complaint → Type 0) → IsErrAnd r (λ c. (c.fault ≡ f) × (c.place ≡ None))
+    → (f ≡ Memory) ⊎ (f ≡ TooCoarse) → ((c : Complaint) → IsOfInput c.fault → P c) → IfErr r (λ c. P c ⊎ (c.fault ≡ TooCoarse))
+not_written (Ok v) f P same why of = tt
+not_written (Err c) f P same why of = elim (of_writing c f same.0 why) as (λ _. P c ⊎ (c.fault ≡ TooCoarse)) [ inl input ↦ inl (of c input) | inr coarse ↦ inr coarse ]
+
+-- the same of a text that may be at fault
+pub of_text : (form : Form) (text : List ℕ) (number : Option ℕ) (c : Complaint) → (c.fault ≡ Memory) ⊎ TellsFault form text number c → IsOfInput c.fault ⊎ TellsFault form text number c
+of_text form text number c (inl memory) = inl (inr (inr memory))
+of_text form text number c (inr tells) = inr tells

@@ -1,43 +1,86 @@
 -- How a combination goes on with the bytes that it takes.
-use Rattle.std.proofs.Common.{◌≡◌, ◌≤◌, ◌∙◌, ℕ, Bool, List, [], ◌∷◌, ◌++◌, Option, None, Some, arith, length, refl, sym, ap, subst, append_assoc, append-nil}
-use Rattle.std.proofs.lemmas.List.Splits.{slice_split_at, slice_split_none}
+use Rattle.std.proofs.Common.{◌≡◌, ◌≤◌, ◌<◌, ◌+◌, ◌∙◌, ◌⊎◌, inl, inr, ℕ, zero, suc, Bool, true, false, List, [], ◌∷◌, ◌++◌, Option, None, Some, arith, length, refl, sym, ap, subst, append_assoc, append-nil}
+use Rattle.std.specs.Prelude.{if◌then◌else◌}
+use Rattle.std.proofs.lemmas.List.Splits.{slice_split_at, slice_split_none, length-slice_split}
 use Rattle.std.proofs.KnownBytes.{Consumes-trans}
 use Rattle.std.specs.Io.KnownBytes.{Consumes, IsAtEnd}
 use Rattle.moc_script.specs.Runs.{AreWithin}
-use Rattle.moc_forms.specs.Combining.{CombinesTexts, Said, is_semicolon, joined, texts_of}
+use Rattle.moc_forms.specs.Combining.{CombinesTexts, Said, are_blanks, is_semicolon, joined, parts_of, texts_among, texts_of, without_blank_end}
 use Rattle.moc_forms.specs.Forms.{FormSays}
 use Rattle.moc_forms.specs.declared.combining.Operation.{Operation}
 use Rattle.moc_forms.specs.declared.form.Form.{Form}
-use Rattle.moc_program.specs.Combining.{SaysTogether}
-use Rattle.moc_program.specs.Conversion.{BringsPiece}
-use Rattle.moc_program.specs.Running.{Begins, Ends, IsOpen, LacksSemicolons, Leads, SaysMore, RunsTo, TextsSay, semicolon}
+use Rattle.moc_program.specs.Combining.{SayNothing, SaysTogether, TellsFirstFault}
+use Rattle.moc_program.specs.Conversion.{BringsPiece, IsOfInput, TellsFault}
+use Rattle.moc_program.specs.Running.{Begins, Ends, Fails, FailsWithin, IsOpen, LacksSemicolons, Leads, SaysMore, RunsTo, TextsSay, semicolon, texts_behind}
 use Rattle.moc_program.specs.declared.combination.Combination.{Combination}
+use Rattle.moc_program.specs.declared.status.Complaint.{Complaint}
+
+-- ---- the texts of bytes
+
+-- a part before others is a text
+first_stays : (text : List ℕ) (parts : List (List ℕ)) → 0 < length parts → without_blank_end (text ∷ parts) ≡ text ∷ without_blank_end parts
+first_stays text [] some = absurd (omega arith)
+first_stays text (next ∷ parts) some = refl
+
+-- what a semicolon ends is a text, and blanks behind the last one are none
+pub parted : (before : Option Said) (text rest : List ℕ) → LacksSemicolons text → texts_behind before (text ++ 59 ∷ rest) ≡ text ∷ without_blank_end (parts_of rest)
+parted None text rest lacks = ap texts_among (slice_split_at is_semicolon text 59 rest lacks refl)
+parted (Some said) text rest lacks =
+    ap without_blank_end (slice_split_at is_semicolon text 59 rest lacks refl)
+    ∙ first_stays text (parts_of rest) (omega (arith, length-slice_split is_semicolon rest))
+
+-- bytes without a semicolon are one text, but for blanks behind a semicolon
+single : (said : Said) (text : List ℕ) → LacksSemicolons text → texts_behind (Some said) text ≡ (if are_blanks text then [] else text ∷ [])
+single said text lacks = ap without_blank_end (slice_split_none is_semicolon text lacks)
+
+pub alone : (before : Option Said) (text : List ℕ) → LacksSemicolons text → (before ≡ None) ⊎ (are_blanks text ≡ false) → texts_behind before text ≡ text ∷ []
+alone None text lacks why = ap texts_among (slice_split_none is_semicolon text lacks)
+alone (Some said) text lacks (inl is_none) = absurd (cc)
+alone (Some said) text lacks (inr written) = single said text lacks ∙ ap (λ b. if b then [] else text ∷ []) written
 
 module _ (operation : Operation) (form : Form) (before : Option Said) (text : List ℕ) (said : Said)
     (lacks : LacksSemicolons text) (within : length text ≤ 16777216) (says : FormSays form text said.0 said.1) where
   -- a text that a semicolon ends says something, and the texts behind it go on from there
   ended : (rest : List ℕ) (after : Option Said) → TextsSay operation form (Some (joined operation before said)) rest after
       → TextsSay operation form before (text ++ 59 ∷ rest) after
-  ended rest after later =
-      let parted : texts_of (text ++ 59 ∷ rest) ≡ text ∷ texts_of rest = slice_split_at is_semicolon text 59 rest lacks refl in
-      record {
-        says = subst (λ texts. CombinesTexts operation form before texts after) (sym parted) (said, says, later.says);
-        within = subst (AreWithin 16777216) (sym parted) (within, later.within);
-      }
+  ended rest after later = record {
+    says = subst (λ texts. CombinesTexts operation form before texts after) (sym (parted before text rest lacks)) (said, says, later.says);
+    within = subst (AreWithin 16777216) (sym (parted before text rest lacks)) (within, later.within);
+  }
 
   -- and so it is with the last text
-  last : TextsSay operation form before text (Some (joined operation before said))
-  last =
-      let parted : texts_of text ≡ text ∷ [] = slice_split_none is_semicolon text lacks in
-      record {
-        says = subst (λ texts. CombinesTexts operation form before texts (Some (joined operation before said))) (sym parted) (said, says, refl);
-        within = subst (AreWithin 16777216) (sym parted) (within, tt);
-      }
+  last : texts_behind before text ≡ text ∷ [] → TextsSay operation form before text (Some (joined operation before said))
+  last one = record {
+    says = subst (λ texts. CombinesTexts operation form before texts (Some (joined operation before said))) (sym one) (said, says, refl);
+    within = subst (AreWithin 16777216) (sym one) (within, tt);
+  }
 
-module _ (c d : Combination) (same_operation : d.operation ≡ c.operation) (same_form : d.form ≡ c.form) where
+-- one more text says a set before the one that is at fault
+later_fails : (number : ℕ) (form : Form) (text : List ℕ) (texts : List (List ℕ)) (c : Complaint) → ((said : Said) × FormSays form text said.0 said.1)
+    → TellsFirstFault (number + 1) form texts c → TellsFirstFault number form (text ∷ texts) c
+later_fails number form text texts c says fails = record {
+  before = suc fails.before;
+  text = fails.text;
+  stands = (says, fails.stands);
+  tells = subst (λ n. TellsFault form fails.text (Some n) c) (omega arith) fails.tells;
+}
+
+-- the first text is at fault
+first_fails : (number : ℕ) (form : Form) (text : List ℕ) (texts : List (List ℕ)) (c : Complaint) → TellsFault form text (Some number) c
+    → TellsFirstFault number form (text ∷ texts) c
+first_fails number form text texts c tells = record {
+  before = zero;
+  text = text;
+  stands = refl;
+  tells = subst (λ n. TellsFault form text (Some n) c) (omega arith) tells;
+}
+
+-- ---- a combination
+
+module _ (c d : Combination) (same_operation : d.operation ≡ c.operation) (same_form : d.form ≡ c.form) (next : d.number ≡ c.number + 1) where
   -- a combination that has ended its text
-  pub text_ended : (after : Said) → IsOpen c → SaysMore c after → d.text.items ≡ [] → d.before ≡ Some after → Leads c semicolon d
-  text_ended after opened more bare before = record {
+  text_ended_so : (after : Said) → IsOpen c → SaysMore c c.before after → d.text.items ≡ [] → d.before ≡ Some after → Leads c semicolon d
+  text_ended_so after opened more bare before = record {
     operation = same_operation;
     form = same_form;
     ends = λ rest end later.
@@ -46,11 +89,62 @@ module _ (c d : Combination) (same_operation : d.operation ≡ c.operation) (sam
         (subst (λ f. TextsSay d.operation f (Some (joined c.operation c.before more.0)) rest end) same_form
         (subst (λ b. TextsSay d.operation d.form b rest end) (before ∙ ap (λ s. Some s) more.2)
         (subst (λ t. TextsSay d.operation d.form d.before (t ++ rest) end) bare later))));
+    fails = λ rest complaint later.
+        subst (λ texts. TellsFirstFault c.number c.form texts complaint) (sym (parted c.before c.text.items rest opened.lacks))
+        (later_fails c.number c.form c.text.items (without_blank_end (parts_of rest)) complaint (more.0, more.1)
+        (subst (λ n. TellsFirstFault n c.form (without_blank_end (parts_of rest)) complaint) next
+        (subst (λ f. TellsFirstFault d.number f (without_blank_end (parts_of rest)) complaint) same_form
+        (subst (λ b. TellsFirstFault d.number d.form (texts_behind b rest) complaint) before
+        (subst (λ t. TellsFirstFault d.number d.form (texts_behind d.before (t ++ rest)) complaint) bare later)))));
   }
+
+  pub text_ended : (before : Option Said) (after : Said) → before ≡ c.before → IsOpen c → SaysMore c before after → d.text.items ≡ [] → d.before ≡ Some after → Leads c semicolon d
+  text_ended before after same opened more bare next_before =
+      text_ended_so after opened (subst (λ b. SaysMore c b after) same more) bare next_before
+
+-- a text that a semicolon ends is at fault
+pub ended_fails : (c : Combination) (complaint : Complaint) → IsOpen c → IsOfInput complaint.fault ⊎ TellsFault c.form c.text.items (Some c.number) complaint
+    → IsOfInput complaint.fault ⊎ FailsWithin c semicolon complaint
+ended_fails c complaint opened (inl of) = inl of
+ended_fails c complaint opened (inr tells) = inr (λ rest.
+    subst (λ texts. TellsFirstFault c.number c.form texts complaint) (sym (parted c.before c.text.items rest opened.lacks))
+    (first_fails c.number c.form c.text.items (without_blank_end (parts_of rest)) complaint tells))
+
+-- the last text is at fault
+pub last_fails : (c : Combination) (complaint : Complaint) → IsOpen c → (c.before ≡ None) ⊎ (are_blanks c.text.items ≡ false)
+    → IsOfInput complaint.fault ⊎ TellsFault c.form c.text.items (Some c.number) complaint → IsOfInput complaint.fault ⊎ Fails c [] complaint
+last_fails c complaint opened why (inl of) = inl of
+last_fails c complaint opened why (inr tells) = inr (
+    subst (λ t. TellsFirstFault c.number c.form (texts_behind c.before t) complaint) (sym (append-nil c.text.items))
+    (subst (λ texts. TellsFirstFault c.number c.form texts complaint) (sym (alone c.before c.text.items opened.lacks why))
+    (first_fails c.number c.form c.text.items [] complaint tells)))
+
+-- the last text says something
+last_says_so : (c : Combination) (after : Said) → IsOpen c → (c.before ≡ None) ⊎ (are_blanks c.text.items ≡ false) → SaysMore c c.before after → Ends c [] (Some after)
+last_says_so c after opened why more =
+    subst (λ t. TextsSay c.operation c.form c.before t (Some after)) (sym (append-nil c.text.items))
+    (subst (λ s. TextsSay c.operation c.form c.before c.text.items (Some s)) (sym more.2)
+    (last c.operation c.form c.before c.text.items more.0 opened.lacks opened.within more.1 (alone c.before c.text.items opened.lacks why)))
+
+pub last_says : (c : Combination) (before : Option Said) (after : Said) → before ≡ c.before → IsOpen c → (c.before ≡ None) ⊎ (are_blanks c.text.items ≡ false)
+    → SaysMore c before after → Ends c [] (Some after)
+last_says c before after same opened why more = last_says_so c after opened why (subst (λ b. SaysMore c b after) same more)
+
+-- blanks behind the last semicolon say nothing more
+pub blanks_say : (c : Combination) (after : Said) → IsOpen c → c.before ≡ Some after → are_blanks c.text.items ≡ true → Ends c [] (Some after)
+blanks_say c after opened before blank =
+    let none : texts_behind (Some after) c.text.items ≡ [] =
+    single after c.text.items opened.lacks ∙ ap (λ b. if b then [] else c.text.items ∷ []) blank in
+    subst (λ t. TextsSay c.operation c.form c.before t (Some after)) (sym (append-nil c.text.items))
+    (subst (λ b. TextsSay c.operation c.form b c.text.items (Some after)) (sym before)
+    (record {
+      says = subst (λ texts. CombinesTexts c.operation c.form (Some after) texts (Some after)) (sym none) refl;
+      within = subst (AreWithin 16777216) (sym none) tt;
+    }))
 
 -- no bytes lead nowhere
 pub led : (c : Combination) → Leads c [] c
-led c = record { operation = refl; form = refl; ends = λ rest after end. end }
+led c = record { operation = refl; form = refl; ends = λ rest after end. end; fails = λ rest complaint fails. fails }
 
 -- one lead after another
 pub led_on : (a b c : Combination) (xs ys : List ℕ) → Leads a xs b → Leads b ys c → Leads a (xs ++ ys) c
@@ -60,27 +154,44 @@ led_on a b c xs ys first second = record {
   ends = λ rest after end.
       subst (λ bytes. Ends a bytes after) (sym (append_assoc xs ys rest))
       (first.ends (ys ++ rest) after (second.ends rest after end));
+  fails = λ rest complaint fails.
+      subst (λ bytes. Fails a bytes complaint) (sym (append_assoc xs ys rest))
+      (first.fails (ys ++ rest) complaint (second.fails rest complaint fails));
 }
 
--- all bytes that were taken, where the text is the last
-pub whole : (operation : Operation) (form : Form) (c d : Combination) (bytes : List ℕ) (after : Said)
-    → Begins operation form c → Leads c bytes d → IsOpen d → SaysMore d after → TextsSay operation form None bytes (Some after)
-whole operation form c d bytes after begins leads opened more =
-    let all : TextsSay d.operation d.form d.before (d.text.items ++ []) (Some (joined d.operation d.before more.0)) =
-    subst (λ t. TextsSay d.operation d.form d.before t (Some (joined d.operation d.before more.0))) (sym (append-nil d.text.items))
-    (last d.operation d.form d.before d.text.items more.0 opened.lacks opened.within more.1) in
-    let told = leads.ends [] (Some after) (subst (λ s. Ends d [] (Some s)) (sym more.2) all) in
-    subst (λ o. TextsSay o form None bytes (Some after)) begins.operation
-    (subst (λ f. TextsSay c.operation f None bytes (Some after)) begins.form
-    (subst (λ b. TextsSay c.operation c.form b bytes (Some after)) begins.before
-    (subst (λ t. TextsSay c.operation c.form c.before t (Some after)) (ap (λ t. t ++ (bytes ++ [])) begins.text ∙ append-nil bytes) told)))
+-- a fault behind bytes that were taken
+pub failed_on : (a b : Combination) (xs ys behind : List ℕ) (complaint : Complaint) → Leads a xs b → IsOfInput complaint.fault ⊎ FailsWithin b ys complaint
+    → IsOfInput complaint.fault ⊎ FailsWithin a (xs ++ (ys ++ behind)) complaint
+failed_on a b xs ys behind complaint leads (inl of) = inl of
+failed_on a b xs ys behind complaint leads (inr fails) = inr (λ rest.
+    subst (λ bytes. Fails a bytes complaint) (ap (λ more. xs ++ more) (sym (append_assoc ys behind rest)) ∙ sym (append_assoc xs (ys ++ behind) rest))
+    (leads.fails (ys ++ (behind ++ rest)) complaint (fails (behind ++ rest))))
 
--- a combination that begins is open, and has taken nothing
-pub begun : (operation : Operation) (form : Form) (c : Combination) → Begins operation form c → IsOpen c
-begun operation form c begins = record {
-  lacks = subst LacksSemicolons (sym begins.text) (λ k d below. absurd (omega arith));
-  within = subst (λ t. length t ≤ 16777216) (sym begins.text) (omega arith);
-}
+-- a combination that begins, in what it says and in its faults
+module _ (operation : Operation) (form : Form) (c : Combination) (begins : Begins operation form c) where
+  pub begun : IsOpen c
+  begun = record {
+    lacks = subst LacksSemicolons (sym begins.text) (λ k d below. absurd (omega arith));
+    within = subst (λ t. length t ≤ 16777216) (sym begins.text) (omega arith);
+  }
+
+  begins_texts : (bytes : List ℕ) → texts_behind c.before (c.text.items ++ bytes) ≡ texts_of bytes
+  begins_texts bytes = ap (λ b. texts_behind b (c.text.items ++ bytes)) begins.before ∙ ap (λ t. texts_of (t ++ bytes)) begins.text
+
+  -- all bytes that were taken, where all texts have come
+  pub whole : (d : Combination) (bytes : List ℕ) (after : Said) → Leads c bytes d → Ends d [] (Some after) → TextsSay operation form None bytes (Some after)
+  whole d bytes after leads all =
+      let told = leads.ends [] (Some after) all in
+      subst (λ o. TextsSay o form None bytes (Some after)) begins.operation
+      (subst (λ f. TextsSay c.operation f None bytes (Some after)) begins.form
+      (subst (λ b. TextsSay c.operation c.form b bytes (Some after)) begins.before
+      (subst (λ t. TextsSay c.operation c.form c.before t (Some after)) (ap (λ t. t ++ (bytes ++ [])) begins.text ∙ append-nil bytes) told)))
+
+  pub fails_from_1 : (bytes : List ℕ) (complaint : Complaint) → Fails c bytes complaint → TellsFirstFault 1 form (texts_of bytes) complaint
+  fails_from_1 bytes complaint fails =
+      subst (λ n. TellsFirstFault n form (texts_of bytes) complaint) begins.number
+      (subst (λ f. TellsFirstFault c.number f (texts_of bytes) complaint) begins.form
+      (subst (λ texts. TellsFirstFault c.number c.form texts complaint) (begins_texts bytes) fails))
 
 -- the piece that came where none was at hand
 module _ (left left' : Option (List ℕ)) (old new : List ℕ) (some : Bool) (bare : old ≡ []) (brings : BringsPiece left old left' new some) where
@@ -92,16 +203,39 @@ pub piece_taken : (a b c : Option (List ℕ)) (start d e : Combination) (piece :
 piece_taken a b c start d e piece consumed leads (taken, (before, led)) =
     (taken ++ piece, (Consumes-trans a b c taken piece before consumed, led_on start d e taken piece led leads))
 
--- all that was left was taken
-pub all_taken : (operation : Operation) (form : Form) (a b c : Option (List ℕ)) (start d : Combination) (piece : List ℕ) (after : Said)
-    → Begins operation form start → RunsTo a b start d → IsOpen d → SaysMore d after → Consumes b c piece → piece ≡ [] → IsAtEnd c
-    → SaysTogether operation form a c after.0 after.1
-all_taken operation form a b c start d piece after begins (taken, (before, led)) opened more consumed empty end =
-    let told = whole operation form start d taken after begins led opened more in
-    record {
-      given = taken;
-      consumed = subst (Consumes a c) (ap (λ p. taken ++ p) empty ∙ append-nil taken) (Consumes-trans a b c taken piece before consumed);
-      end = end;
-      within = told.within;
-      says = told.says;
-    }
+module _ (operation : Operation) (form : Form) (a b c : Option (List ℕ)) (start d : Combination) (piece : List ℕ)
+    (begins : Begins operation form start) (runs : RunsTo a b start d) (consumed : Consumes b c piece) where
+  taken : List ℕ
+  taken = runs.0
+
+  -- a text was at fault in a piece
+  pub piece_fails : (complaint : Complaint) → IsOfInput complaint.fault ⊎ FailsWithin d piece complaint → SayNothing form a c complaint
+  piece_fails complaint (inl of) = inl of
+  piece_fails complaint (inr fails) = inr (record {
+    given = runs.0 ++ piece;
+    consumed = Consumes-trans a b c runs.0 piece runs.1.0 consumed;
+    tells = λ rest at_end.
+        subst (λ bytes. TellsFirstFault 1 form (texts_of bytes) complaint) (sym (append_assoc runs.0 piece rest))
+        (fails_from_1 operation form start begins (runs.0 ++ (piece ++ rest)) complaint (runs.1.1.fails (piece ++ rest) complaint (fails rest)));
+  })
+
+  -- all that was left was taken
+  module _ (empty : piece ≡ []) (end : IsAtEnd c) where
+    all_consumed : Consumes a c runs.0
+    all_consumed = subst (Consumes a c) (ap (λ p. runs.0 ++ p) empty ∙ append-nil runs.0) (Consumes-trans a b c runs.0 piece runs.1.0 consumed)
+
+    pub all_taken : (after : Said) → Ends d [] (Some after) → SaysTogether operation form a c after.0 after.1
+    all_taken after ends =
+        let told = whole operation form start begins d runs.0 after runs.1.1 ends in
+        record { given = runs.0; consumed = all_consumed; end = end; within = told.within; says = told.says }
+
+    -- the last text was at fault
+    pub all_fails : (complaint : Complaint) → IsOfInput complaint.fault ⊎ Fails d [] complaint → SayNothing form a c complaint
+    all_fails complaint (inl of) = inl of
+    all_fails complaint (inr fails) = inr (record {
+      given = runs.0;
+      consumed = all_consumed;
+      tells = λ rest at_end.
+          subst (λ r. TellsFirstFault 1 form (texts_of (runs.0 ++ r)) complaint) (sym (at_end end))
+          (fails_from_1 operation form start begins (runs.0 ++ []) complaint (runs.1.1.fails [] complaint fails));
+    })

@@ -4,11 +4,13 @@ use Rattle.std.specs.Borrow.{Bor}
 use Rattle.std.specs.List.{All}
 use Rattle.std.specs.Io.KnownBytes.{Consumes}
 use Rattle.moc_script.specs.Runs.{AreWithin}
-use Rattle.moc_forms.specs.Combining.{CombinesTexts, Said, is_semicolon, joined, texts_of}
+use Rattle.moc_forms.specs.Combining.{CombinesTexts, Said, is_semicolon, joined, parts_of, texts_of, without_blank_end}
 use Rattle.moc_forms.specs.Forms.{FormSays}
 use Rattle.moc_forms.specs.declared.combining.Operation.{Operation}
 use Rattle.moc_forms.specs.declared.form.Form.{Form}
+use Rattle.moc_program.specs.Combining.{TellsFirstFault}
 use Rattle.moc_program.specs.declared.combination.Combination.{Combination}
+use Rattle.moc_program.specs.declared.status.Complaint.{Complaint}
 
 -- no byte is a semicolon
 abbrev pub LacksSemicolons : List ℕ → Type 0
@@ -28,29 +30,45 @@ pub record IsOpen (c : Combination) : Type 0 where
 pub record Begins (op : Operation) (f : Form) (c : Combination) : Type 0 where
   pub operation : c.operation ≡ op
   pub form : c.form ≡ f
+  pub number : c.number ≡ 1
   pub text : c.text.items ≡ []
   pub before : c.before ≡ None
 
--- what is said after the text of a combination too
-abbrev pub SaysMore : Combination → Said → Type 0
-SaysMore c after =
-    (said : Said) × FormSays c.form c.text.items said.0 said.1 × (after ≡ joined c.operation c.before said)
+-- what is said after the text of a combination too, behind what was said before
+abbrev pub SaysMore : Combination → Option Said → Said → Type 0
+SaysMore c before after =
+    (said : Said) × FormSays c.form c.text.items said.0 said.1 × (after ≡ joined c.operation before said)
+
+-- the texts of bytes behind what was said before, if there was anything
+abbrev pub texts_behind : Option Said → List ℕ → List (List ℕ)
+texts_behind None bytes = texts_of bytes
+texts_behind (Some before) bytes = without_blank_end (parts_of bytes)
 
 -- what texts say behind what was said before, where none is too long
 pub record TextsSay (operation : Operation) (form : Form) (before : Option Said) (bytes : List ℕ) (after : Option Said)
     : Type 0 where
-  pub says : CombinesTexts operation form before (texts_of bytes) after
-  pub within : AreWithin 16777216 (texts_of bytes)
+  pub says : CombinesTexts operation form before (texts_behind before bytes) after
+  pub within : AreWithin 16777216 (texts_behind before bytes)
 
 -- what comes of a combination with these bytes behind its text
 abbrev pub Ends : Combination → List ℕ → Option Said → Type 0
 Ends c rest after = TextsSay c.operation c.form c.before (c.text.items ++ rest) after
+
+-- a complaint tells the first of the texts that says no set, with these bytes behind the text of a combination
+abbrev pub Fails : Combination → List ℕ → Complaint → Type 0
+Fails c rest complaint =
+    TellsFirstFault c.number c.form (texts_behind c.before (c.text.items ++ rest)) complaint
+
+-- the same, whatever stands behind the bytes
+abbrev pub FailsWithin : Combination → List ℕ → Complaint → Type 0
+FailsWithin c bytes complaint = (rest : List ℕ) → Fails c (bytes ++ rest) complaint
 
 -- a combination has taken these bytes behind another
 pub record Leads (c : Combination) (bytes : List ℕ) (d : Combination) : Type 0 where
   pub operation : d.operation ≡ c.operation
   pub form : d.form ≡ c.form
   pub ends : (rest : List ℕ) (after : Option Said) → Ends d rest after → Ends c (bytes ++ rest) after
+  pub fails : (rest : List ℕ) (complaint : Complaint) → Fails d rest complaint → Fails c (bytes ++ rest) complaint
 
 -- the bytes that were left and are no more, and what a combination has become that took them
 abbrev pub RunsTo : Option (List ℕ) → Option (List ℕ) → Combination → Combination → Type 0

@@ -1,6 +1,6 @@
 //! What the words of the command line ask for.
 use clap::ArgMatches;
-use moc_forms::{Form, Operation};
+use moc_forms::{Change, Form, Operation};
 use moc_script::{Lanes, Numbering, Renumbering};
 use moc_sphere::Order;
 
@@ -25,8 +25,12 @@ pub enum Action {
     Describe(Form),
     /// Draw a coverage.
     Draw(Form),
+    /// Change a coverage.
+    Change(Change, Form),
     /// Combine coverages.
     Combine(Operation, Form),
+    /// List the exit statuses and the faults.
+    Faults,
 }
 
 /// A number to convert.
@@ -57,7 +61,13 @@ impl Action {
             "check" => Some(Action::Check(form(values, "FORM")?)),
             "describe" => Some(Action::Describe(form(values, "FORM")?)),
             "draw" => Some(Action::Draw(form(values, "FORM")?)),
+            "degrade" => Some(Action::Change(
+                Change::Degrade(order(values)?),
+                form(values, "FORM")?,
+            )),
+            "complement" => Some(Action::Change(Change::Complement, form(values, "FORM")?)),
             "combine" => Some(Action::Combine(operation(values)?, form(values, "FORM")?)),
+            "faults" => Some(Action::Faults),
             _ => Some(Action::Number(Number::from_matches(name, values)?)),
         }
     }

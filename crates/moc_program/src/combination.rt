@@ -1,13 +1,15 @@
 //! Texts of coverages that are parted by semicolons, combined as their bytes come.
-ghost use Rattle.std.specs.Prelude.{◌≡◌, ◌≢◌, ◌↔◌, Err, false, IfOk, IsErrOf, IsTrue, OnOk};
+ghost use Rattle.std.specs.Prelude.{◌≡◌, ◌≢◌, ◌↔◌, ◌⊎◌, [], false, IfErr, IfOk, IsTrue, OnOk, Some};
 ghost use Rattle.std.specs.String.{string_bytes};
-ghost use Rattle.moc_program.specs.Combining.{CombinesAll, SaysTogether};
-ghost use Rattle.moc_program.specs.Running.{Begins, IsOpen, IsParted, LacksSemicolons, Leads, SaysMore, semicolon};
+ghost use Rattle.moc_program.specs.Combining.{AreNotCombined, CombinesAll, SayNothing, SaysTogether};
+ghost use Rattle.moc_program.specs.Conversion.{IsOfInput, IsReadFault, TellsFault};
+ghost use Rattle.moc_program.specs.Running.{Begins, Ends, Fails, FailsWithin, IsOpen, IsParted, LacksSemicolons, Leads};
+ghost use Rattle.moc_program.specs.Running.{SaysMore, semicolon};
 
-use crate::conversion::{INPUT_LIMIT, read_piece, room, said, text_of};
-use crate::status::Fault;
+use crate::conversion::{INPUT_LIMIT, read_piece, room, said_or_told, text_of};
+use crate::status::{Complaint, Fault};
 use memchr::memchr;
-use moc_forms::{Form, Operation};
+use moc_forms::{Form, Operation, is_blank, place_line};
 use moc_ranges::Coverage;
 use moc_script::Source;
 use moc_sphere::Order;
@@ -18,6 +20,8 @@ use std::alloc::Global;
 struct Combination {
     operation: Operation,
     form: Form,
+    /// The number of the text that has not ended, from 1.
+    number: u64,
     /// The text that has not ended.
     text: Vec<u8>,
     /// What the texts before it say together.
@@ -32,62 +36,106 @@ impl Combination {
         Combination {
             operation,
             form,
+            number: 1,
             text: Vec::new(alloc),
             before: None,
         }
     }
 
+    /// The complaint that the text gets too long.
+    fn too_long(&self, alloc: Global) -> Complaint
+        ensures { IsOfInput result.fault × (result.fault ≢ Fault.Read) }
+    {
+        match place_line(alloc, Some(self.number), None) {
+            Ok(place) => Complaint {
+                fault: Fault::TooLong,
+                place,
+            },
+            Err(error) => Complaint::from(error),
+        }
+    }
+
     /// Adds bytes without a semicolon to the text that has not ended; `TooLong` where it gets too long.
-    fn extend(&mut self, bytes: &[u8]) -> Result<(), Fault>
+    fn extend(&mut self, alloc: Global, bytes: &[u8]) -> Result<(), Complaint>
         requires open { IsOpen self.old }
         requires lacks { LacksSemicolons bytes.now }
-        ensures device { result ≢ Err Fault.Read }
+        ensures device { IfErr result (λ c. c.fault ≢ Fault.Read) }
+        ensures fault { IfErr result (λ c. IsOfInput c.fault) }
         ensures open { OnOk result (IsOpen self.new) }
         ensures leads { OnOk result (Leads self.old bytes.now self.new) }
     {
         if bytes.len() > INPUT_LIMIT - self.text.len() {
-            return Err(Fault::TooLong);
+            return Err(self.too_long(alloc));
         }
         Ok(self.text.extend_from_slice(bytes)?)
     }
 
-    /// What all texts say together, the one that has not ended among them; what was said before it is used up.
-    fn joined(&mut self, alloc: Global) -> Result<(Coverage, Option<Order>), Fault>
-        ensures device { result ≢ Err Fault.Read }
-        ensures task { (self.new.operation ≡ self.old.operation) × (self.new.form ≡ self.old.form) }
-        ensures says { IfOk result (λ after. SaysMore self.old after) }
+    /// What the text that has not ended says together with what was said before it.
+    fn join(
+        &self,
+        alloc: Global,
+        before: Option<(Coverage, Option<Order>)>,
+    ) -> Result<(Coverage, Option<Order>), Complaint>
+        ensures device { IfErr result (λ c. c.fault ≢ Fault.Read) }
+        ensures says { IfOk result (λ after. SaysMore self.now before after) }
+        ensures told { IfErr result (λ c.
+            IsOfInput c.fault ⊎ TellsFault self.now.form self.now.text.items (Some self.now.number) c) }
     {
-        let (set, deepest) = said(alloc, self.form, &self.text)?;
-        let before = self.before.take();
+        let (set, deepest) = said_or_told(alloc, self.form, &self.text, Some(self.number))?;
         Ok(self.operation.join(alloc, before, set, deepest)?)
     }
 
     /// Ends the text, and begins the next.
-    fn end_text(&mut self, alloc: Global) -> Result<(), Fault>
+    fn end_text(&mut self, alloc: Global) -> Result<(), Complaint>
         requires { IsOpen self.old }
-        ensures device { result ≢ Err Fault.Read }
+        ensures device { IfErr result (λ c. c.fault ≢ Fault.Read) }
+        ensures fault { IfErr result (λ c. IsOfInput c.fault ⊎ FailsWithin self.old semicolon c) }
         ensures open { OnOk result (IsOpen self.new) }
         ensures leads { OnOk result (Leads self.old semicolon self.new) }
     {
-        self.before = Some(self.joined(alloc)?);
+        let before = self.before.take();
+        let said = self.join(alloc, before)?;
+        let Some(number) = self.number.checked_add(1) else {
+            return Err(self.too_long(alloc));
+        };
+        self.before = Some(said);
+        self.number = number;
         self.text.clear();
         Ok(())
     }
 
     /// Takes the bytes that come next, where each semicolon ends a text.
-    fn take_bytes(&mut self, alloc: Global, bytes: &[u8]) -> Result<(), Fault>
+    fn take_bytes(&mut self, alloc: Global, bytes: &[u8]) -> Result<(), Complaint>
         requires { IsOpen self.old }
-        ensures device { result ≢ Err Fault.Read }
+        ensures device { IfErr result (λ c. c.fault ≢ Fault.Read) }
+        ensures fault { IfErr result (λ c. IsOfInput c.fault ⊎ FailsWithin self.old bytes.now c) }
         ensures open { OnOk result (IsOpen self.new) }
         ensures leads { OnOk result (Leads self.old bytes.now self.new) }
     {
         let mut rest = bytes;
         while let Some((part, behind)) = parted(rest) {
-            self.extend(part)?;
+            self.extend(alloc, part)?;
             self.end_text(alloc)?;
             rest = behind;
         }
-        self.extend(rest)
+        self.extend(alloc, rest)
+    }
+
+    /// What all texts say together, where all have come: blanks alone behind a semicolon are no text. What was said
+    /// before is used up.
+    fn all_said(&mut self, alloc: Global) -> Result<(Coverage, Option<Order>), Complaint>
+        requires { IsOpen self.old }
+        ensures device { IfErr result (λ c. c.fault ≢ Fault.Read) }
+        ensures fault { IfErr result (λ c. IsOfInput c.fault ⊎ Fails self.old [] c) }
+        ensures says { IfOk result (λ after. Ends self.old [] (Some after)) }
+    {
+        let Some(before) = self.before.take() else {
+            return self.join(alloc, None);
+        };
+        if is_blank(&self.text) {
+            return Ok(before);
+        }
+        self.join(alloc, Some(before))
     }
 }
 
@@ -105,9 +153,10 @@ fn read_texts<R: Source>(
     operation: Operation,
     form: Form,
     input: &mut R,
-) -> Result<(Coverage, Option<Order>), Fault>
+) -> Result<(Coverage, Option<Order>), Complaint>
     requires { R.mark input.old ≡ false }
-    ensures read { IsErrOf result Fault.Read ↔ IsTrue (R.mark input.new) }
+    ensures read { IsReadFault result ↔ IsTrue (R.mark input.new) }
+    ensures fault { IfErr result (λ c. SayNothing form (R.left input.old) (R.left input.new) c) }
     ensures says { IfOk result (λ r.
         SaysTogether operation form (R.left input.old) (R.left input.new) r.0 r.1) }
 {
@@ -117,26 +166,28 @@ fn read_texts<R: Source>(
     for _piece in 0..u64::MAX {
         piece.clear();
         if !read_piece(input, &mut room, &mut piece)? {
-            return texts.joined(alloc);
+            return texts.all_said(alloc);
         }
         texts.take_bytes(alloc, &piece)?;
     }
-    Err(Fault::TooLong)
+    Err(Complaint::from(Fault::TooLong))
 }
 
 /// The text of what the texts of the input say together by an operation, in the same form. The deepest order that one
-/// of them names is stated.
+/// of them names is stated. Else a complaint tells the number of the first text that is at fault, from 1, and the place
+/// in it.
 pub fn combined<R: Source>(
     alloc: Global,
     operation: Operation,
     form: Form,
     input: &mut R,
-) -> Result<String, Fault>
+) -> Result<String, Complaint>
     requires { R.mark input.old ≡ false }
-    ensures read { IsErrOf result Fault.Read ↔ IsTrue (R.mark input.new) }
+    ensures read { IsReadFault result ↔ IsTrue (R.mark input.new) }
+    ensures fault { IfErr result (λ c. AreNotCombined form (R.left input.old) (R.left input.new) c) }
     ensures combines { IfOk result (λ t.
         CombinesAll operation form (R.left input.old) (R.left input.new) (string_bytes t)) }
 {
     let (set, deepest) = read_texts(alloc, operation, form, input)?;
-    text_of(alloc, form, &set, deepest)
+    Ok(text_of(alloc, form, &set, deepest)?)
 }

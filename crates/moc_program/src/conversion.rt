@@ -2,11 +2,13 @@
 ghost use Rattle.std.specs.Prelude.{◌≡◌, ◌≢◌, ◌<◌, ◌↔◌, ◌⊎◌, Err, false, IfErr, IfOk, IsErrOf, IsTrue, length};
 ghost use Rattle.std.specs.String.{string_bytes};
 ghost use Rattle.moc_forms.specs.Forms.{FormSays, form_text};
-ghost use Rattle.moc_program.specs.Conversion.{BringsPiece, ChecksAll, ConvertsAll, DescribesAll, DrawsAll, IsOfInput};
-ghost use Rattle.moc_program.specs.Conversion.{IsPlaceLine, IsReadFault, IsWhole};
+ghost use Rattle.moc_forms.specs.Places.{line_bytes, line_of};
+ghost use Rattle.moc_program.specs.Conversion.{BringsPiece, ChangesAll, ChecksAll, ConvertsAll, DescribesAll, DrawsAll};
+ghost use Rattle.moc_program.specs.Conversion.{IsNotChanged, IsOfInput, IsReadFault, IsWhole, SaysAll, SaysNothing, TellsFault};
+ghost use Rattle.moc_program.specs.Faults.{fault_of_form};
 
 use crate::status::{Complaint, Fault};
-use moc_forms::{Form, Place, check, describe, draw};
+use moc_forms::{Change, Form, Refusal, describe, draw, examine, place_line};
 use moc_ranges::Coverage;
 use moc_script::Source;
 use moc_sphere::Order;
@@ -70,6 +72,39 @@ pub fn said(alloc: Global, form: Form, text: &[u8]) -> Result<(Coverage, Option<
     Ok(form.read(alloc, text)?)
 }
 
+/// What a text in a form says; else a complaint that tells its first fault and where it is. Where texts are counted, the
+/// text has a number.
+pub fn said_or_told(
+    alloc: Global,
+    form: Form,
+    text: &[u8],
+    number: Option<u64>,
+) -> Result<(Coverage, Option<Order>), Complaint>
+    ensures device { IfErr result (λ c. c.fault ≢ Fault.Read) }
+    ensures says { IfOk result (λ r. FormSays form text.now r.0 r.1) }
+    ensures told { IfErr result (λ c. (c.fault ≡ Fault.Memory) ⊎ TellsFault form text.now number c) }
+{
+    match examine(alloc, form, text) {
+        Ok(said) => Ok(said),
+        Err(refusal) => Err(complaint_of(alloc, number, refusal)),
+    }
+}
+
+/// The complaint that tells a refusal; that of want of memory where memory is refused for its line.
+fn complaint_of(alloc: Global, number: Option<u64>, refusal: Refusal) -> Complaint
+    ensures { (result.fault ≡ Fault.Memory)
+        ⊎ ((result.fault ≡ fault_of_form refusal.error)
+        × (line_bytes result.place ≡ line_of number refusal.place)) }
+{
+    match place_line(alloc, number, refusal.place) {
+        Ok(place) => Complaint {
+            fault: Fault::from(refusal.error),
+            place,
+        },
+        Err(error) => Complaint::from(error),
+    }
+}
+
 /// The text of a set in a form.
 pub fn text_of(
     alloc: Global,
@@ -78,6 +113,7 @@ pub fn text_of(
     stated: Option<Order>,
 ) -> Result<String, Fault>
     ensures device { result ≢ Err Fault.Read }
+    ensures fault { IfErr result (λ f. (f ≡ Fault.Memory) ⊎ (f ≡ Fault.TooCoarse)) }
     ensures text { IfOk result (λ t. string_bytes t ≡ form_text form set.now stated) }
 {
     Ok(form.write(alloc, set, stated)?)
@@ -99,26 +135,58 @@ pub fn converted<R: Source>(
     text_of(alloc, to, &set, deepest)
 }
 
-/// The figures of the coverage that the input has.
-pub fn described<R: Source>(alloc: Global, form: Form, input: &mut R) -> Result<String, Fault>
+/// What the input says; else a complaint that tells its first fault and where it is.
+fn input_says<R: Source>(
+    alloc: Global,
+    form: Form,
+    input: &mut R,
+) -> Result<(Coverage, Option<Order>), Complaint>
     requires { R.mark input.old ≡ false }
-    ensures read { IsErrOf result Fault.Read ↔ IsTrue (R.mark input.new) }
-    ensures describes { IfOk result (λ t. DescribesAll form (R.left input.old) (R.left input.new) (string_bytes t)) }
+    ensures read { IsReadFault result ↔ IsTrue (R.mark input.new) }
+    ensures fault { IfErr result (λ c. SaysNothing form (R.left input.old) (R.left input.new) c) }
+    ensures says { IfOk result (λ r. SaysAll form (R.left input.old) (R.left input.new) r.0 r.1) }
 {
     let text = read_whole(alloc, input)?;
-    let (set, deepest) = said(alloc, form, &text)?;
+    said_or_told(alloc, form, &text, None)
+}
+
+/// The figures of the coverage that the input has.
+pub fn described<R: Source>(alloc: Global, form: Form, input: &mut R) -> Result<String, Complaint>
+    requires { R.mark input.old ≡ false }
+    ensures read { IsReadFault result ↔ IsTrue (R.mark input.new) }
+    ensures fault { IfErr result (λ c. SaysNothing form (R.left input.old) (R.left input.new) c) }
+    ensures describes { IfOk result (λ t. DescribesAll form (R.left input.old) (R.left input.new) (string_bytes t)) }
+{
+    let (set, deepest) = input_says(alloc, form, input)?;
     Ok(describe(alloc, &set, deepest)?)
 }
 
 /// The picture of the coverage that the input has.
-pub fn drawn<R: Source>(alloc: Global, form: Form, input: &mut R) -> Result<String, Fault>
+pub fn drawn<R: Source>(alloc: Global, form: Form, input: &mut R) -> Result<String, Complaint>
     requires { R.mark input.old ≡ false }
-    ensures read { IsErrOf result Fault.Read ↔ IsTrue (R.mark input.new) }
+    ensures read { IsReadFault result ↔ IsTrue (R.mark input.new) }
+    ensures fault { IfErr result (λ c. SaysNothing form (R.left input.old) (R.left input.new) c) }
     ensures draws { IfOk result (λ t. DrawsAll form (R.left input.old) (R.left input.new) (string_bytes t)) }
 {
-    let text = read_whole(alloc, input)?;
-    let (set, _) = said(alloc, form, &text)?;
+    let (set, _) = input_says(alloc, form, input)?;
     Ok(draw(alloc, &set)?)
+}
+
+/// The text of a change of the coverage that the input has, in the same form, with the order that is stated of it.
+pub fn changed<R: Source>(
+    alloc: Global,
+    change: Change,
+    form: Form,
+    input: &mut R,
+) -> Result<String, Complaint>
+    requires { R.mark input.old ≡ false }
+    ensures read { IsReadFault result ↔ IsTrue (R.mark input.new) }
+    ensures fault { IfErr result (λ c. IsNotChanged form (R.left input.old) (R.left input.new) c) }
+    ensures changes { IfOk result (λ t. ChangesAll change form (R.left input.old) (R.left input.new) (string_bytes t)) }
+{
+    let (set, deepest) = input_says(alloc, form, input)?;
+    let after = change.of(alloc, &set)?;
+    Ok(text_of(alloc, form, &after, change.stated(deepest))?)
 }
 
 /// Whether the input is a coverage in a form; else its first fault and, in words, where it is.
@@ -127,26 +195,6 @@ pub fn checked<R: Source>(alloc: Global, form: Form, input: &mut R) -> Result<()
     ensures read { IsReadFault result ↔ IsTrue (R.mark input.new) }
     ensures checks { ChecksAll form (R.left input.old) (R.left input.new) result }
 {
-    let text = read_whole(alloc, input)?;
-    let Err(refusal) = check(alloc, form, &text) else {
-        return Ok(());
-    };
-    let place = place_line(alloc, refusal.place)?;
-    Err(Complaint {
-        fault: Fault::from(refusal.error),
-        place,
-    })
-}
-
-/// The line of a place, if there is one.
-fn place_line(alloc: Global, place: Option<Place>) -> Result<Option<String>, AllocError>
-    ensures { IfOk result (λ line. IsPlaceLine place line) }
-{
-    let Some(place) = place else {
-        return Ok(None);
-    };
-    let mut line = String::new(alloc);
-    place.push_to(&mut line)?;
-    line.push('\n')?;
-    Ok(Some(line))
+    input_says(alloc, form, input)?;
+    Ok(())
 }

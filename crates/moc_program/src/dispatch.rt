@@ -9,11 +9,11 @@ ghost use Rattle.moc_program.specs.Statuses.{IsDeviceFault, end_of};
 
 use crate::action::{Action, Number};
 use crate::combination::combined;
-use crate::conversion::{checked, converted, described, drawn};
+use crate::conversion::{changed, checked, converted, described, drawn};
 use crate::status::{Complaint, Fault, Status};
 use clap::error::ErrorKind;
 use clap::{ArgMatches, Error};
-use moc_command_line::command_line;
+use moc_command_line::{FAULTS, command_line};
 use moc_script::{DeviceFault, OpenGate, Sink, Source, crew, play, renumber, run, write_all};
 use moc_sphere::Cell;
 use std::alloc::{AllocError, Global};
@@ -151,9 +151,13 @@ fn act<T: Threads + Wait + Sync, R: Source, W: Sink>(
         }
         Some(Action::Describe(form)) => printed(described(alloc, form, input)?.as_str(), output),
         Some(Action::Draw(form)) => printed(drawn(alloc, form, input)?.as_str(), output),
+        Some(Action::Change(change, form)) => {
+            printed(changed(alloc, change, form, input)?.as_str(), output)
+        }
         Some(Action::Combine(operation, form)) => {
             printed(combined(alloc, operation, form, input)?.as_str(), output)
         }
+        Some(Action::Faults) => printed(FAULTS, output),
         // `clap` requires the word and its values, so none is missing.
         None => Err(Complaint::from(Fault::Memory)),
     }

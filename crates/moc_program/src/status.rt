@@ -235,6 +235,14 @@ impl From<RunError> for Complaint {
     }
 }
 
+impl From<MemoryRefused> for Complaint {
+    ghost from_gives = { λ _ c. (c.fault ≡ fault.Memory) × (c.place ≡ None) };
+
+    fn from(_error: MemoryRefused) -> Complaint {
+        Complaint::from(Fault::Memory)
+    }
+}
+
 impl From<AllocError> for Complaint {
     ghost from_gives = { λ _ c. (c.fault ≡ fault.Memory) × (c.place ≡ None) };
 

@@ -272,7 +272,7 @@ fn figures(rt: HostRuntime) {
         "0/12",
         1,
         "",
-        "fault CellTooLarge\n",
+        "fault CellTooLarge\nbyte 2, line 1, byte 2 of it\n",
     );
 }
 
@@ -344,7 +344,7 @@ fn pictures(rt: HostRuntime) {
         "0/12",
         1,
         "",
-        "fault CellTooLarge\n",
+        "fault CellTooLarge\nbyte 2, line 1, byte 2 of it\n",
     );
 }
 
@@ -372,6 +372,12 @@ fn combinations(rt: HostRuntime) {
             "0/0-2\n",
         ),
         (["combine", "union", "ascii"], "", "\n"),
+        (
+            ["combine", "intersection", "ascii"],
+            "0/0-1;0/1; \n",
+            "0/1\n",
+        ),
+        (["combine", "intersection", "ascii"], "0/0-1;0/1;,", "0/\n"),
     ] {
         expect(&rt, rt.alloc(), &words, input, 0, output, "");
     }
@@ -397,22 +403,60 @@ fn refused_combinations(rt: HostRuntime) {
         (
             ["combine", "union", "ascii"],
             "0/0 ; 0/12",
-            "fault CellTooLarge\n",
+            "fault CellTooLarge\ntext 2, byte 3, line 1, byte 3 of it\n",
         ),
         (
             ["combine", "union", "ascii"],
             "5/7-3 ; 0/12",
-            "fault Backwards\n",
+            "fault Backwards\ntext 1, byte 2, line 1, byte 2 of it\n",
         ),
         (
             ["combine", "union", "json"],
-            "{\"0\":[0]};",
-            "fault NotJson\n",
+            "{\"0\":[0]};[];",
+            "fault NotObject\ntext 2\n",
         ),
-        (["combine", "union", "uniq"], "4\n;5;3", "fault NotUniq\n"),
+        (
+            ["combine", "union", "uniq"],
+            "4\n;5;3",
+            "fault NotUniq\ntext 3, line 1\n",
+        ),
     ] {
         expect(&rt, rt.alloc(), &words, input, 1, "", told);
     }
+}
+
+#[test]
+fn changes(rt: HostRuntime) {
+    for (words, input, output) in [
+        (
+            ["degrade", "1", "ascii"].as_slice(),
+            "0/0 3/300 5/",
+            "0/0 1/18\n",
+        ),
+        (
+            ["degrade", "5", "ascii"].as_slice(),
+            "0/0 3/300 4/",
+            "0/0 3/300 4/\n",
+        ),
+        (
+            ["complement", "ascii"].as_slice(),
+            "0/0-10 1/44 2/",
+            "1/45-47 2/\n",
+        ),
+        (["complement", "ascii"].as_slice(), "0/0-11 1/", "1/\n"),
+    ] {
+        expect(&rt, rt.alloc(), words, input, 0, output, "");
+    }
+    let told = "fault Backwards\nbyte 2, line 1, byte 2 of it\n";
+    expect(
+        &rt,
+        rt.alloc(),
+        &["degrade", "1", "ascii"],
+        "5/7-3",
+        1,
+        "",
+        told,
+    );
 }
 
 /// A reader that fails.
@@ -449,6 +493,8 @@ fn failing_input(rt: HostRuntime) {
         ["describe", "uniq"].as_slice(),
         ["combine", "union", "uniq"].as_slice(),
         ["draw", "json"].as_slice(),
+        ["degrade", "1", "ascii"].as_slice(),
+        ["complement", "uniq"].as_slice(),
         ["renumber", "nest", "uniq", "3"].as_slice(),
     ] {
         let mut written = Vec::new(rt.alloc());
@@ -474,6 +520,8 @@ fn help_and_mistakes(rt: HostRuntime) {
         (["help"].as_slice(), 0),
         (["ring", "--help"].as_slice(), 0),
         (["--version"].as_slice(), 0),
+        (["faults"].as_slice(), 0),
+        (["help", "faults"].as_slice(), 0),
         ([].as_slice(), 2),
         (["ring", "30", "0"].as_slice(), 2),
         (["fly"].as_slice(), 2),
@@ -487,6 +535,8 @@ fn help_and_mistakes(rt: HostRuntime) {
         (["combine", "minus", "ascii"].as_slice(), 2),
         (["combine", "--help"].as_slice(), 0),
         (["draw"].as_slice(), 2),
+        (["degrade", "ascii"].as_slice(), 2),
+        (["complement", "fits"].as_slice(), 2),
         (["renumber", "nest", "cell", "1"].as_slice(), 2),
         (["renumber", "--help"].as_slice(), 0),
     ] {

@@ -1,8 +1,10 @@
-use Rattle.std.proofs.Common.{arith, rules, ◌≡◌, ◌∙◌, List, ℕ, false, subst}
+use Rattle.std.proofs.Common.{arith, rules, ◌≡◌, ◌⊎◌, ◌∙◌, List, ℕ, false, subst}
 use Rattle.std.proofs.lemmas.Grind.{common_steps}
-use Rattle.std.proofs.lemmas.Result.{IfOk-weaker}
-use Rattle.moc_program.specs.Running.{Leads}
-use Rattle.moc_program.proofs.Combinations.{all_taken, piece_is, piece_taken}
+use Rattle.std.proofs.lemmas.Result.{IfErr-weaker, IfOk-weaker}
+use Rattle.moc_program.specs.Conversion.{IsOfInput}
+use Rattle.moc_program.specs.Running.{FailsWithin, Leads}
+use Rattle.moc_program.proofs.Checks.{handed_on}
+use Rattle.moc_program.proofs.Combinations.{all_fails, all_taken, piece_fails, piece_is, piece_taken}
 use Rattle.moc_program.proofs.combination.read_texts.Goals as goal
 
 pub loop-piece-preserved : goal.loop-piece-preserved
@@ -21,7 +23,25 @@ returns-then-not-branch-clause-says g c =
     let brings = c.in_ok-read_piece.ensures.brings in
     let no : c.in_ok-read_piece.field-0 ≡ false = search rules in
     let none = brings.none no in
-    IfOk-weaker c.joined.result _ _ (λ r more.
-    all_taken c.args.operation c.args.form _ _ _ _ _ _ r c.new-texts.ensures.begins c.loop-piece.invariant.taken
-    c.loop-piece.invariant.opened more (piece_is _ _ _ _ _ c.clear.ensures.items brings) (none.0 ∙ c.clear.ensures.items) none.1)
-    c.joined.ensures.says
+    IfOk-weaker c.all_said.result _ _ (λ after ends.
+    all_taken c.args.operation c.args.form _ _ _ _ _ _ c.new-texts.ensures.begins c.loop-piece.invariant.taken
+    (piece_is _ _ _ _ _ c.clear.ensures.items brings) (none.0 ∙ c.clear.ensures.items) none.1 after ends)
+    c.all_said.ensures.says
+
+pub returns-then-not-branch-clause-fault : goal.returns-then-not-branch-clause-fault
+returns-then-not-branch-clause-fault g c =
+    let brings = c.in_ok-read_piece.ensures.brings in
+    let no : c.in_ok-read_piece.field-0 ≡ false = search rules in
+    let none = brings.none no in
+    IfErr-weaker c.all_said.result _ _ (λ complaint told.
+    all_fails c.args.operation c.args.form _ _ _ _ _ _ c.new-texts.ensures.begins c.loop-piece.invariant.taken
+    (piece_is _ _ _ _ _ c.clear.ensures.items brings) (none.0 ∙ c.clear.ensures.items) none.1 complaint told)
+    c.all_said.ensures.fault
+
+pub returns-in_err-take_bytes-clause-fault : goal.returns-in_err-take_bytes-clause-fault
+returns-in_err-take_bytes-clause-fault g c =
+    let told = c.in_err-take_bytes.field-0.0 in
+    handed_on c.from_residual-in_err-take_bytes.result told _ c.from_residual-in_err-take_bytes.ensures.1
+    (piece_fails c.args.operation c.args.form _ _ _ _ _ _ c.new-texts.ensures.begins c.loop-piece.invariant.taken
+    (piece_is _ _ _ _ _ c.clear.ensures.items c.in_ok-read_piece.ensures.brings) told
+    (subst (λ (bytes : List ℕ). IsOfInput told.fault ⊎ FailsWithin c.loop-piece.texts bytes told) c.deref.ensures.value c.in_err-take_bytes.ensures.fault))

@@ -5,10 +5,12 @@ use Rattle.moc_program.proofs.conversion.converted.Goals as goal
 
 pub returns-clause-converts : goal.returns-clause-converts
 returns-clause-converts g c = IfOk-weaker c.text_of.result _ _ (λ t written. record {
-  given = c.in_ok-text.text.items;
-  whole = c.in_ok-text.ensures.whole;
   set = c.in_ok-set.set;
   deepest = c.in_ok-set.deepest;
-  says = subst (λ (bytes : List ℕ). FormSays c.args.from bytes c.in_ok-set.set c.in_ok-set.deepest) c.deref.ensures.value c.in_ok-set.ensures.says;
+  says = record {
+    given = c.in_ok-text.text.items;
+    whole = c.in_ok-text.ensures.whole;
+    says = subst (λ (bytes : List ℕ). FormSays c.args.from bytes c.in_ok-set.set c.in_ok-set.deepest) c.deref.ensures.value c.in_ok-set.ensures.says;
+  };
   written = written;
 }) c.text_of.ensures.text
