@@ -12,11 +12,12 @@ and none of that check counts. What is edited outside a function, a constant say
 usage: tests/wrong_bodies.py [--jobs N] [CRATE | CRATE/EDIT]..
 
 All is done in rooms, over what the crates' `out` folders hold of their proofs, which `tools/build.py` brings up to date first: what is kept
-can make no refusal false, since an edited function is checked anew. The last line is `N passed, M failed`."""
+can make no refusal false, since an edited function is checked anew. A check that takes too long tells nothing, and its edits fail. Where all
+crates are tried, each must have as many edits as docs/GATE.md says, so that none is lost unseen. The last line is `N passed, M failed`."""
 import argparse
 import os
 import re
-import shutil
+import signal
 import subprocess
 import sys
 import tempfile
@@ -31,6 +32,10 @@ from crates import crates_of, folder_of, libraries_below, make_room  # noqa: E40
 JOBS = "2"
 # Where the rooms lie: on one disk with the crates, so that files can be linked.
 ROOMS = os.path.join(folder_of("moc_cli"), "out", "edits")
+# How many seconds a check may take: several times what the longest takes.
+SECONDS = 3600
+# A row of the table of edits and tests, on the page about the gate.
+ROW = re.compile(r"^\| `(\w+)` \| (\d+) \|", re.MULTILINE)
 # What a name stands for that went with the edited text: such an error says little of the contract.
 NAME_GONE = re.compile(r"has no field|is not in scope|has no `|was not admitted")
 
@@ -164,6 +169,18 @@ def errors_of(told):
     return found
 
 
+def output(words, folder):
+    """What a command writes in a folder; it and all that it began are stopped where they take too long."""
+    begun = subprocess.Popen(words, cwd=folder, stdin=subprocess.DEVNULL, stdout=subprocess.PIPE, stderr=subprocess.DEVNULL, text=True,
+                             start_new_session=True)
+    try:
+        return begun.communicate(timeout=SECONDS)[0]
+    except subprocess.TimeoutExpired:
+        os.killpg(begun.pid, signal.SIGKILL)
+        begun.communicate()
+        return f"error: no verdict in {SECONDS} seconds"
+
+
 class Round:
     """Edits of several functions of a crate that are checked together, or one that lies in no function."""
 
@@ -197,8 +214,7 @@ class Round:
             for file, text in self.texts.items():
                 with open(os.path.join(folder, file), "w") as source:
                     source.write(text)
-            words = ["rt", "check", "--jobs", JOBS]
-            return subprocess.run(words, cwd=folder, stdin=subprocess.DEVNULL, capture_output=True, text=True).stdout
+            return output(["rt", "check", "--jobs", JOBS], folder)
 
     def judge(self, told):
         """Says of each edit what the check told of it, and whether it was refused."""
@@ -238,6 +254,12 @@ def rounds_of(crate, edits):
     return rounds
 
 
+def numbers_told():
+    """How many edits each crate has, as docs/GATE.md says."""
+    with open(os.path.join(TOP, "docs", "GATE.md"), encoding="utf-8") as page:
+        return {crate: int(number) for crate, number in ROW.findall(page.read())}
+
+
 def main():
     words = argparse.ArgumentParser(description="Tries the wrong bodies.")
     words.add_argument("--jobs", type=int, default=len(os.sched_getaffinity(0)))
@@ -254,6 +276,10 @@ def main():
                 edits.setdefault(crate, []).append(edit)
                 if edit.why:
                     bad.append(f"{label}: BAD EDIT: {edit.why}")
+    if not given.names:
+        found, told = {crate: len(own) for crate, own in edits.items()}, numbers_told()
+        bad += [f"{crate}: {found.get(crate, 0)} edits where docs/GATE.md tells of {told.get(crate, 0)}"
+                for crate in sorted({*found, *told}) if found.get(crate, 0) != told.get(crate, 0)]
     if bad or not edits:
         print("\n".join(bad) or "no such edit")
         print(f"0 passed, {max(len(bad), 1)} failed")
