@@ -54,17 +54,23 @@ def diamonds(half, row, column):
 
 
 def picture(shades):
-    """The picture with these diamonds in the four shades."""
-    paths = [f'<path fill="{colour}" d="{shade}"/>' for colour, shade
-             in zip(["#bdd7e7", "#6baed6", "#3182bd", "#08519c"], shades)]
-    outlines = "".join(diamonds(128, row, column) for row, column in BASE_PIXELS)
-    labels = [f'<text x="{x}" y="{row * 128 + 8}">{number}</text>' for number, (row, column) in enumerate(BASE_PIXELS)
-              for x in ([column * 128] if column else [16, 1008])]
-    lines = ['<svg xmlns="http://www.w3.org/2000/svg" viewBox="0 0 1024 512">', "<title>Sky coverage</title>",
-             '<rect width="1024" height="512" fill="#fff"/>', '<g shape-rendering="crispEdges">', *paths, "</g>",
-             f'<path fill="none" stroke="#888" d="{outlines}"/>',
-             '<g font-family="sans-serif" font-size="24" text-anchor="middle" paint-order="stroke" stroke="#fff" '
-             'stroke-width="4">', *labels, "</g>", "</svg>"]
+    """The picture with these diamonds in the four shades: the sky, its numbers, the cells with east to the left, and a legend."""
+    colours = ["#6baed6", "#4292c6", "#2171b5", "#08306b"]
+    sky = "".join(diamonds(128, row, column) for row, column in BASE_PIXELS)
+    labels = [f'<text x="{x}" y="{row * 128 + 5}">{number}</text>' for number, (row, column) in enumerate(BASE_PIXELS)
+              for x in ([1024 - column * 128] if column else [16, 1008])]
+    paths = [f'<path fill="{colour}" stroke="{colour}" vector-effect="non-scaling-stroke" d="{shade}"/>'
+             for colour, shade in zip(colours, shades)]
+    legend = [f'<path fill="{colour}" d="M{x} 552h24v16h-24z"/><text x="{x + 32}" y="566">{meaning}</text>'
+              for colour, x, meaning in zip(colours, [256, 400, 544, 688], ["up to 1/4", "up to 1/2", "up to 3/4", "more"])]
+    lines = ['<svg xmlns="http://www.w3.org/2000/svg" viewBox="-40 -40 1104 640">', "<title>Sky coverage</title>",
+             '<clipPath id="plane"><path d="M0 0h1024v512H0z"/></clipPath>',
+             '<rect x="-40" y="-40" width="1104" height="640" fill="#fff"/>',
+             f'<path fill="#eee" stroke="#bbb" clip-path="url(#plane)" d="{sky}"/>',
+             '<g font-family="sans-serif" font-size="14" text-anchor="middle" fill="#bbb">', *labels, "</g>",
+             '<g transform="translate(1024 0) scale(-1 1)" clip-path="url(#plane)" shape-rendering="crispEdges">', *paths, "</g>",
+             '<g font-family="sans-serif" font-size="16" fill="#444">', '<text x="-28" y="262">E</text>',
+             '<text x="1036" y="262">W</text>', '<text x="0" y="566">Share of each cell of order 7</text>', *legend, "</g>", "</svg>"]
     return "".join(f"{line}\n" for line in lines).encode()
 
 

@@ -247,36 +247,47 @@ fn operations(rt: HostRuntime) -> Result<(), Fail> {
     Ok(())
 }
 
-/// What stands before the four paths of every picture.
-const BEFORE: &str = "<svg xmlns=\"http://www.w3.org/2000/svg\" viewBox=\"0 0 1024 512\">
+/// What stands before the four paths of every picture: base pixel 4 lies at both edges, and its number stands at both. East
+/// is to the left, so base pixel 0 is at the right.
+const BEFORE: &str = "<svg xmlns=\"http://www.w3.org/2000/svg\" viewBox=\"-40 -40 1104 640\">
 <title>Sky coverage</title>
-<rect width=\"1024\" height=\"512\" fill=\"#fff\"/>
-<g shape-rendering=\"crispEdges\">
-";
-
-/// What stands behind them: base pixel 4 is outlined at both edges, and its number stands at both.
-const BEHIND: &str = "</g>
-<path fill=\"none\" stroke=\"#888\" d=\"M128 0l128 128-128 128-128-128zM384 0l128 128-128 128-128-128z\
+<clipPath id=\"plane\"><path d=\"M0 0h1024v512H0z\"/></clipPath>
+<rect x=\"-40\" y=\"-40\" width=\"1104\" height=\"640\" fill=\"#fff\"/>
+<path fill=\"#eee\" stroke=\"#bbb\" clip-path=\"url(#plane)\" \
+d=\"M128 0l128 128-128 128-128-128zM384 0l128 128-128 128-128-128z\
 M640 0l128 128-128 128-128-128zM896 0l128 128-128 128-128-128z\
 M0 128l128 128-128 128-128-128zM1024 128l128 128-128 128-128-128zM256 128l128 128-128 128-128-128z\
 M512 128l128 128-128 128-128-128zM768 128l128 128-128 128-128-128z\
 M128 256l128 128-128 128-128-128zM384 256l128 128-128 128-128-128z\
 M640 256l128 128-128 128-128-128zM896 256l128 128-128 128-128-128z\"/>
-<g font-family=\"sans-serif\" font-size=\"24\" text-anchor=\"middle\" \
-paint-order=\"stroke\" stroke=\"#fff\" stroke-width=\"4\">
-<text x=\"128\" y=\"136\">0</text>
-<text x=\"384\" y=\"136\">1</text>
-<text x=\"640\" y=\"136\">2</text>
-<text x=\"896\" y=\"136\">3</text>
-<text x=\"16\" y=\"264\">4</text>
-<text x=\"1008\" y=\"264\">4</text>
-<text x=\"256\" y=\"264\">5</text>
-<text x=\"512\" y=\"264\">6</text>
-<text x=\"768\" y=\"264\">7</text>
-<text x=\"128\" y=\"392\">8</text>
-<text x=\"384\" y=\"392\">9</text>
-<text x=\"640\" y=\"392\">10</text>
-<text x=\"896\" y=\"392\">11</text>
+<g font-family=\"sans-serif\" font-size=\"14\" text-anchor=\"middle\" fill=\"#bbb\">
+<text x=\"896\" y=\"133\">0</text>
+<text x=\"640\" y=\"133\">1</text>
+<text x=\"384\" y=\"133\">2</text>
+<text x=\"128\" y=\"133\">3</text>
+<text x=\"16\" y=\"261\">4</text>
+<text x=\"1008\" y=\"261\">4</text>
+<text x=\"768\" y=\"261\">5</text>
+<text x=\"512\" y=\"261\">6</text>
+<text x=\"256\" y=\"261\">7</text>
+<text x=\"896\" y=\"389\">8</text>
+<text x=\"640\" y=\"389\">9</text>
+<text x=\"384\" y=\"389\">10</text>
+<text x=\"128\" y=\"389\">11</text>
+</g>
+<g transform=\"translate(1024 0) scale(-1 1)\" clip-path=\"url(#plane)\" shape-rendering=\"crispEdges\">
+";
+
+/// What stands behind them: what the shades mean, and which way is east.
+const BEHIND: &str = "</g>
+<g font-family=\"sans-serif\" font-size=\"16\" fill=\"#444\">
+<text x=\"-28\" y=\"262\">E</text>
+<text x=\"1036\" y=\"262\">W</text>
+<text x=\"0\" y=\"566\">Share of each cell of order 7</text>
+<path fill=\"#6baed6\" d=\"M256 552h24v16h-24z\"/><text x=\"288\" y=\"566\">up to 1/4</text>
+<path fill=\"#4292c6\" d=\"M400 552h24v16h-24z\"/><text x=\"432\" y=\"566\">up to 1/2</text>
+<path fill=\"#2171b5\" d=\"M544 552h24v16h-24z\"/><text x=\"576\" y=\"566\">up to 3/4</text>
+<path fill=\"#08306b\" d=\"M688 552h24v16h-24z\"/><text x=\"720\" y=\"566\">more</text>
 </g>
 </svg>
 ";
@@ -287,14 +298,16 @@ fn picture(alloc: Global, shades: [&str; 4]) -> Result<String, Fail> {
     let mut text = String::new(alloc);
     text.push_str(BEFORE)?;
     for (colour, diamonds) in [
-        ("#bdd7e7", first),
-        ("#6baed6", second),
-        ("#3182bd", third),
-        ("#08519c", fourth),
+        ("#6baed6", first),
+        ("#4292c6", second),
+        ("#2171b5", third),
+        ("#08306b", fourth),
     ] {
         text.push_str("<path fill=\"")?;
         text.push_str(colour)?;
-        text.push_str("\" d=\"")?;
+        text.push_str("\" stroke=\"")?;
+        text.push_str(colour)?;
+        text.push_str("\" vector-effect=\"non-scaling-stroke\" d=\"")?;
         text.push_str(diamonds)?;
         text.push_str("\"/>\n")?;
     }

@@ -1,5 +1,6 @@
 -- A picture of a set: an SVG text that shows HEALPix's plane (Górski and others 2005), 1024 half steps of order 7
--- wide and 512 high, with x eastward and y from the north pole.
+-- wide and 512 high, with y from the north pole. Cells are drawn with x eastward, in a group that is mirrored: as on sky
+-- charts, east is to the left.
 use Rattle.std.specs.Prelude.{ℕ, zero, suc, ◌+◌, ◌-◌, ◌*◌, ◌/◌, ◌^◌, ◌==◌, Bool, not, ◌&&◌, nat_le, if◌then◌else◌}
 use Rattle.std.specs.Prelude.{List, [], ◌∷◌, ◌++◌, decimal, codes}
 use Rattle.std.specs.FinSet as set
@@ -78,11 +79,13 @@ base_diamonds_below (suc f) = base_diamonds_below f ++ cell_diamonds (cell_numbe
 -- the path of a shade in its colour
 unfoldable pub shade_path : List Mark → ℕ → List ℕ → List ℕ
 shade_path marks shade colour =
-    codes "<path fill=\"" ++ colour ++ codes "\" d=\"" ++ shade_diamonds shade marks ++ codes "\"/>\n"
+    codes "<path fill=\"" ++ colour ++ codes "\" stroke=\"" ++ colour
+    ++ codes "\" vector-effect=\"non-scaling-stroke\" d=\"" ++ shade_diamonds shade marks ++ codes "\"/>\n"
 
--- the outlines of the twelve base pixels
+-- the sky: the twelve base pixels in grey, outlined; they are the same from either side
 unfoldable pub outlines : List ℕ
-outlines = codes "<path fill=\"none\" stroke=\"#888\" d=\"" ++ base_diamonds_below 12 ++ codes "\"/>\n"
+outlines =
+    codes "<path fill=\"#eee\" stroke=\"#bbb\" clip-path=\"url(#plane)\" d=\"" ++ base_diamonds_below 12 ++ codes "\"/>\n"
 
 -- a number, at a place
 unfoldable pub label : ℕ → ℕ → ℕ → List ℕ
@@ -90,43 +93,62 @@ label number x y =
     (codes "<text x=\"" ++ decimal x) ++ (codes "\" y=\"" ++ decimal y) ++ (codes "\">" ++ decimal number)
     ++ codes "</text>\n"
 
--- the number of a base pixel whose middle is in a row and a column: at the middle, 8 lower for the digits' height;
--- where the column is 0, the middle lies on both edges, and the number stands 16 from each
+-- the number of a base pixel whose middle is in a row and a column, counted from the right: at the middle, 5 lower for
+-- the digits' height; where the column is 0, the middle lies on both edges, and the number stands 16 from each
 unfoldable pub labels_at : ℕ → ℕ → ℕ → List ℕ
 labels_at f row column =
     if column == 0
-    then label f 16 (row * 128 + 8) ++ label f 1008 (row * 128 + 8)
-    else label f (column * 128) (row * 128 + 8)
+    then label f 16 (row * 128 + 5) ++ label f 1008 (row * 128 + 5)
+    else label f (1024 - column * 128) (row * 128 + 5)
 
 -- the numbers of the base pixels below a number
 unfoldable pub labels_below : ℕ → List ℕ
 labels_below zero = []
 labels_below (suc f) = labels_below f ++ labels_at f (row_of 0 f) (column_of 0 f)
 
--- what stands before the shades: the plane, a title, a white ground
+-- what stands first: a title, the bounds of the plane, and a white ground with a margin of 40, below of 88
 abbrev pub head : List ℕ
 head =
-    codes "<svg xmlns=\"http://www.w3.org/2000/svg\" viewBox=\"0 0 1024 512\">\n<title>Sky coverage</title>\n"
-    ++ codes "<rect width=\"1024\" height=\"512\" fill=\"#fff\"/>\n"
+    codes "<svg xmlns=\"http://www.w3.org/2000/svg\" viewBox=\"-40 -40 1104 640\">\n<title>Sky coverage</title>\n"
+    ++ codes "<clipPath id=\"plane\"><path d=\"M0 0h1024v512H0z\"/></clipPath>\n"
+    ++ codes "<rect x=\"-40\" y=\"-40\" width=\"1104\" height=\"640\" fill=\"#fff\"/>\n"
 
--- the marks in four shades of blue, with sharp edges so that no gap shows between neighbours
+-- the marks in four shades of blue, mirrored, each with a rim of a screen's pixel so that a single cell is seen at any
+-- size, and with sharp edges
 unfoldable pub shades : List Mark → List ℕ
 shades marks =
-    codes "<g shape-rendering=\"crispEdges\">\n"
-    ++ shade_path marks 1 (codes "#bdd7e7")
-    ++ shade_path marks 2 (codes "#6baed6")
-    ++ shade_path marks 3 (codes "#3182bd")
-    ++ shade_path marks 4 (codes "#08519c")
+    codes "<g transform=\"translate(1024 0) scale(-1 1)\" clip-path=\"url(#plane)\" shape-rendering=\"crispEdges\">\n"
+    ++ shade_path marks 1 (codes "#6baed6")
+    ++ shade_path marks 2 (codes "#4292c6")
+    ++ shade_path marks 3 (codes "#2171b5")
+    ++ shade_path marks 4 (codes "#08306b")
     ++ codes "</g>\n"
 
--- the numbers of the twelve base pixels, with a white rim so that they are read on any shade
+-- the numbers of the twelve base pixels, small and pale, below the cells
 unfoldable pub labels : List ℕ
 labels =
-    codes "<g font-family=\"sans-serif\" font-size=\"24\" text-anchor=\"middle\" "
-    ++ codes "paint-order=\"stroke\" stroke=\"#fff\" stroke-width=\"4\">\n"
+    codes "<g font-family=\"sans-serif\" font-size=\"14\" text-anchor=\"middle\" fill=\"#bbb\">\n"
     ++ labels_below 12
+    ++ codes "</g>\n"
+
+-- a shade in the legend, at its place
+unfoldable pub legend_entry : ℕ → List ℕ → List ℕ → List ℕ
+legend_entry x colour meaning =
+    codes "<path fill=\"" ++ colour ++ codes "\" d=\"M" ++ decimal x ++ codes " 552h24v16h-24z\"/>"
+    ++ codes "<text x=\"" ++ decimal (x + 32) ++ codes "\" y=\"566\">" ++ meaning ++ codes "</text>\n"
+
+-- what the shades mean, and which way is east
+unfoldable pub legend : List ℕ
+legend =
+    codes "<g font-family=\"sans-serif\" font-size=\"16\" fill=\"#444\">\n"
+    ++ codes "<text x=\"-28\" y=\"262\">E</text>\n<text x=\"1036\" y=\"262\">W</text>\n"
+    ++ codes "<text x=\"0\" y=\"566\">Share of each cell of order 7</text>\n"
+    ++ legend_entry 256 (codes "#6baed6") (codes "up to 1/4")
+    ++ legend_entry 400 (codes "#4292c6") (codes "up to 1/2")
+    ++ legend_entry 544 (codes "#2171b5") (codes "up to 3/4")
+    ++ legend_entry 688 (codes "#08306b") (codes "more")
     ++ codes "</g>\n"
 
 -- the picture of a set of pixels
 abbrev pub picture_of : NumberSet → List ℕ
-picture_of a = head ++ shades (marks_of a) ++ outlines ++ labels ++ codes "</svg>\n"
+picture_of a = head ++ outlines ++ labels ++ shades (marks_of a) ++ legend ++ codes "</svg>\n"

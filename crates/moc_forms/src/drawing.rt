@@ -2,9 +2,9 @@
 ghost use Rattle.std.specs.Prelude.{◌≡◌, ◌++◌, ◌<◌, ◌≤◌, ◌*◌, ◌^◌, IfOk, OnOk};
 ghost use Rattle.std.specs.String.{string_bytes};
 ghost use Rattle.moc_sphere.specs.CellNumber.{cell_number};
-ghost use Rattle.moc_forms.specs.Drawing.{base_diamonds_below, cell_diamonds, diamond, diamonds_at, label, labels};
-ghost use Rattle.moc_forms.specs.Drawing.{labels_at, labels_below, outlines, picture_of, shade_diamonds};
-ghost use Rattle.moc_forms.specs.Drawing.{shade_path, shades};
+ghost use Rattle.moc_forms.specs.Drawing.{base_diamonds_below, cell_diamonds, diamond, diamonds_at, head, label, labels};
+ghost use Rattle.moc_forms.specs.Drawing.{labels_at, labels_below, legend, legend_entry, outlines, picture_of};
+ghost use Rattle.moc_forms.specs.Drawing.{shade_diamonds, shade_path, shades};
 
 use crate::marks::marks;
 use crate::texts::push_count;
@@ -16,9 +16,9 @@ use std::alloc::{AllocError, Global};
 const WIDTH: u64 = 1024;
 
 /// A picture of a set, as SVG: HEALPix's plane, 1024 half steps of order 7 wide and 512 high, north up and east to the
-/// right. Each cell of the set of order 7 or less is a diamond of the darkest of four shades of blue; a cell of order 7
-/// that deeper cells of the set fill in part has a shade by quarters of its pixels. The twelve base pixels are outlined
-/// and have their numbers. What leaves the left edge is drawn at the right edge as well.
+/// left, longitude 0 at both edges. Each cell of the set of order 7 or less is a diamond of the darkest of four shades of
+/// blue; a cell of order 7 that deeper cells of the set fill in part has a shade by quarters of its pixels. The sky is grey,
+/// with the outlines and the numbers of the base pixels under the cells, and a legend tells the shades.
 ///
 /// Takes the memory of the set's cells, goes over them once, and looks each cell of order 7 that the set meets up in
 /// O(log n); refused where memory runs out.
@@ -27,15 +27,25 @@ pub fn draw(alloc: Global, set: &Coverage) -> Result<String, Memory>
 {
     let marks = marks(alloc, set)?;
     let mut text = String::new(alloc);
-    text.push_str(
-        "<svg xmlns=\"http://www.w3.org/2000/svg\" viewBox=\"0 0 1024 512\">\n<title>Sky coverage</title>\n",
-    )?;
-    text.push_str("<rect width=\"1024\" height=\"512\" fill=\"#fff\"/>\n")?;
-    push_shades(&mut text, &marks)?;
+    push_head(&mut text)?;
     push_outlines(&mut text)?;
     push_labels(&mut text)?;
+    push_shades(&mut text, &marks)?;
+    push_legend(&mut text)?;
     text.push_str("</svg>\n")?;
     Ok(text)
+}
+
+/// Adds the title, the bounds of the plane and the ground.
+fn push_head(text: &mut String) -> Result<(), AllocError>
+    ensures { OnOk result (string_bytes text.new ≡ string_bytes text.old ++ head) }
+{
+    text.push_str(
+        "<svg xmlns=\"http://www.w3.org/2000/svg\" viewBox=\"-40 -40 1104 640\">\n<title>Sky coverage</title>\n",
+    )?;
+    text.push_str("<clipPath id=\"plane\"><path d=\"M0 0h1024v512H0z\"/></clipPath>\n")?;
+    text.push_str("<rect x=\"-40\" y=\"-40\" width=\"1104\" height=\"640\" fill=\"#fff\"/>\n")?;
+    Ok(())
 }
 
 /// Adds the marks in their shades.
@@ -43,11 +53,13 @@ pub fn draw(alloc: Global, set: &Coverage) -> Result<String, Memory>
 fn push_shades(text: &mut String, marks: &[(Cell, u64)]) -> Result<(), AllocError>
     ensures { OnOk result (string_bytes text.new ≡ string_bytes text.old ++ shades marks.now) }
 {
-    text.push_str("<g shape-rendering=\"crispEdges\">\n")?;
-    push_shade(text, marks, 1, "#bdd7e7")?;
-    push_shade(text, marks, 2, "#6baed6")?;
-    push_shade(text, marks, 3, "#3182bd")?;
-    push_shade(text, marks, 4, "#08519c")?;
+    text.push_str(
+        "<g transform=\"translate(1024 0) scale(-1 1)\" clip-path=\"url(#plane)\" shape-rendering=\"crispEdges\">\n",
+    )?;
+    push_shade(text, marks, 1, "#6baed6")?;
+    push_shade(text, marks, 2, "#4292c6")?;
+    push_shade(text, marks, 3, "#2171b5")?;
+    push_shade(text, marks, 4, "#08306b")?;
     text.push_str("</g>\n")?;
     Ok(())
 }
@@ -63,7 +75,9 @@ fn push_shade(
 {
     text.push_str("<path fill=\"")?;
     text.push_str(colour)?;
-    text.push_str("\" d=\"")?;
+    text.push_str("\" stroke=\"")?;
+    text.push_str(colour)?;
+    text.push_str("\" vector-effect=\"non-scaling-stroke\" d=\"")?;
     push_marks(text, marks, shade)?;
     text.push_str("\"/>\n")?;
     Ok(())
@@ -82,11 +96,11 @@ fn push_marks(text: &mut String, marks: &[(Cell, u64)], shade: u64) -> Result<()
     Ok(())
 }
 
-/// Adds the outlines of the base pixels.
+/// Adds the sky: the base pixels, outlined.
 fn push_outlines(text: &mut String) -> Result<(), AllocError>
     ensures { OnOk result (string_bytes text.new ≡ string_bytes text.old ++ outlines) }
 {
-    text.push_str("<path fill=\"none\" stroke=\"#888\" d=\"")?;
+    text.push_str("<path fill=\"#eee\" stroke=\"#bbb\" clip-path=\"url(#plane)\" d=\"")?;
     push_base_pixels(text)?;
     text.push_str("\"/>\n")?;
     Ok(())
@@ -148,8 +162,9 @@ fn push_diamond(text: &mut String, half: u64, x: u64, y: u64) -> Result<(), Allo
 fn push_labels(text: &mut String) -> Result<(), AllocError>
     ensures { OnOk result (string_bytes text.new ≡ string_bytes text.old ++ labels) }
 {
-    text.push_str("<g font-family=\"sans-serif\" font-size=\"24\" text-anchor=\"middle\" ")?;
-    text.push_str("paint-order=\"stroke\" stroke=\"#fff\" stroke-width=\"4\">\n")?;
+    text.push_str(
+        "<g font-family=\"sans-serif\" font-size=\"14\" text-anchor=\"middle\" fill=\"#bbb\">\n",
+    )?;
     push_numbers(text)?;
     text.push_str("</g>\n")?;
     Ok(())
@@ -166,19 +181,19 @@ fn push_numbers(text: &mut String) -> Result<(), AllocError>
     Ok(())
 }
 
-/// Adds the number of a base pixel in a row and a column.
+/// Adds the number of a base pixel in a row and a column, which is counted from the right.
 #[tactic(auto, unfolding(crate::specs::Drawing::labels_at))]
 fn push_labels_at(text: &mut String, face: u64, row: u64, column: u64) -> Result<(), AllocError>
     requires row { row < 4 }
     requires column { column < 8 }
     ensures { OnOk result (string_bytes text.new ≡ string_bytes text.old ++ labels_at face row column) }
 {
-    let y = row * 128 + 8;
+    let y = row * 128 + 5;
     if column == 0 {
         push_label(text, face, 16, y)?;
         push_label(text, face, WIDTH - 16, y)
     } else {
-        push_label(text, face, column * 128, y)
+        push_label(text, face, WIDTH - column * 128, y)
     }
 }
 
@@ -191,4 +206,37 @@ fn push_label(text: &mut String, number: u64, x: u64, y: u64) -> Result<(), Allo
     push_count(text, "\" y=\"", y)?;
     push_count(text, "\">", number)?;
     text.push_str("</text>\n")
+}
+
+/// Adds what the shades mean, and which way is east.
+#[tactic(auto, unfolding(crate::specs::Drawing::legend))]
+fn push_legend(text: &mut String) -> Result<(), AllocError>
+    ensures { OnOk result (string_bytes text.new ≡ string_bytes text.old ++ legend) }
+{
+    text.push_str("<g font-family=\"sans-serif\" font-size=\"16\" fill=\"#444\">\n")?;
+    text.push_str("<text x=\"-28\" y=\"262\">E</text>\n<text x=\"1036\" y=\"262\">W</text>\n")?;
+    text.push_str("<text x=\"0\" y=\"566\">Share of each cell of order 7</text>\n")?;
+    push_entry(text, 256, "#6baed6", "up to 1/4")?;
+    push_entry(text, 400, "#4292c6", "up to 1/2")?;
+    push_entry(text, 544, "#2171b5", "up to 3/4")?;
+    push_entry(text, 688, "#08306b", "more")?;
+    text.push_str("</g>\n")?;
+    Ok(())
+}
+
+/// Adds a shade to the legend, at its place.
+#[tactic(auto, unfolding(crate::specs::Drawing::legend_entry))]
+fn push_entry(text: &mut String, x: u64, colour: &str, meaning: &str) -> Result<(), AllocError>
+    requires { x ≤ 1024 }
+    ensures { OnOk result (string_bytes text.new ≡ string_bytes text.old ++ legend_entry x colour.now meaning.now) }
+{
+    text.push_str("<path fill=\"")?;
+    text.push_str(colour)?;
+    push_count(text, "\" d=\"M", x)?;
+    text.push_str(" 552h24v16h-24z\"/>")?;
+    push_count(text, "<text x=\"", x + 32)?;
+    text.push_str("\" y=\"566\">")?;
+    text.push_str(meaning)?;
+    text.push_str("</text>\n")?;
+    Ok(())
 }

@@ -6,8 +6,7 @@ pub returns : goal.returns
 unfolding labels
 returns c =
     rw (
-      c.in_ok-push_str-3.ensures.bytes,
-      c.in_ok-push_numbers.ensures,
       c.in_ok-push_str-2.ensures.bytes,
+      c.in_ok-push_numbers.ensures,
       c.in_ok-push_str.ensures.bytes,
     ) (simp append_assoc)

@@ -1,0 +1,7 @@
+use Rattle.std.proofs.lemmas.List.{append_assoc}
+use Rattle.moc_forms.proofs.drawing.push_head.Goals as goal
+
+pub returns : goal.returns
+returns c =
+    rw (c.in_ok-push_str-3.ensures.bytes, c.in_ok-push_str-2.ensures.bytes, c.in_ok-push_str.ensures.bytes)
+    (simp append_assoc)
