@@ -178,7 +178,8 @@ fn cells_of_an_iterator(rt: HostRuntime) {
     assert!(rt; again.build().expect(&rt, "memory") == set);
 }
 
-// The order is 29 less half the zeros at the end of all bounds together; 3/10 is the pixels from 10 * 4^26 to 11 * 4^26.
+// The order is 29 less half the zeros at the end of all bounds together. Cell 3/10 is the pixels from 10 * 4^26 up to
+// 11 * 4^26.
 #[test]
 fn ranges_and_deepest_orders(rt: HostRuntime) {
     let cases: [(&[(u64, u64)], usize, u8); 7] = [

@@ -1,5 +1,6 @@
 //! Sets of pixels, and the operations on them.
-ghost use Rattle.std.specs.Prelude.{◌≡◌, [], ◌∷◌, ℕ, List, length, true, IfSome, MatchOption, ◌+◌, ◌<◌, ◌≤◌, ◌↔◌, nat_lt, IsTrue};
+ghost use Rattle.std.specs.Prelude.{◌≡◌, [], ◌∷◌, ℕ, true, IfSome, MatchOption, ◌+◌, ◌<◌, ◌≤◌, ◌↔◌, nat_lt, IsTrue};
+ghost use Rattle.std.specs.Prelude.{List, length};
 ghost use Rattle.std.specs.Prelude.{if◌then◌else◌, IfOk, IfErr, OnOk, OnErr, None, unwrap_or};
 ghost use Rattle.moc_ranges.specs.Faults.{first_fault};
 ghost use Rattle.std.specs.Cmp.{partial_equiv_from_equiv};
@@ -200,8 +201,8 @@ impl Coverage {
         self.ranges().size_hint().0
     }
 
-    /// The least order of whose cells the set is a union: the MOC order that the set itself needs (MOC 2.0). 0 for the empty
-    /// set, which is a union of no cells. One pass, O(n); takes no memory.
+    /// The least order of whose cells the set is a union: the MOC order that the set itself needs (MOC 2.0). 0 for
+    /// the empty set, a union of no cells. One pass, O(n); takes no memory.
     pub fn deepest_order(&self) -> Order
         ensures whole { degrade self.now result ≡ self.now }
         ensures least { (k : ℕ) → degrade self.now k ≡ self.now → result ≤ k }

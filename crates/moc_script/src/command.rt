@@ -1,5 +1,4 @@
 //! The commands that pieces of lines say.
-ghost use Rattle.std.specs.Prelude.{◌≤◌, SomeIff};
 ghost use Rattle.moc_script.specs.Language.{coverage_of, order_of, plain_operand_of, operand_of, invert_of, degrade_of};
 ghost use Rattle.moc_script.specs.Language.{near_by, near_of, command_with, command_of};
 ghost use Rattle.moc_script.specs.Readings.{Reads};
@@ -20,13 +19,6 @@ fn read_coverage(alloc: Global, text: &[u8]) -> Result<Coverage, ReadError>
     Ok(set)
 }
 
-/// The order of this depth, or `None` above 29.
-fn order_of_depth(depth: u64) -> Option<Order>
-    ensures { SomeIff result (depth ≤ 29) depth }
-{
-    Order::new(u8::try_from(depth).ok()?)
-}
-
 /// The order that a field names.
 fn read_order(field: &[u8]) -> Result<Order, ReadError>
     ensures { Reads (λ order. order) result (order_of field.now) }
@@ -34,7 +26,10 @@ fn read_order(field: &[u8]) -> Result<Order, ReadError>
     let Some(number) = number_in(field) else {
         return Err(ReadError::Fault(Fault::BadNumber));
     };
-    order_of_depth(number).ok_or(ReadError::Fault(Fault::OrderTooLarge))
+    let Ok(order) = Order::try_from(number) else {
+        return Err(ReadError::Fault(Fault::OrderTooLarge));
+    };
+    Ok(order)
 }
 
 /// The operand that a text says, where no order stands before the coverage.
@@ -98,7 +93,7 @@ fn read_cell(order: &[u8], index: &[u8]) -> Result<Command, ReadError>
     let Some(index) = number_in(index) else {
         return Err(ReadError::Fault(Fault::BadNumber));
     };
-    let Some(order) = order_of_depth(depth) else {
+    let Ok(order) = Order::try_from(depth) else {
         return Err(ReadError::Fault(Fault::OrderTooLarge));
     };
     match Cell::new(order, index) {
