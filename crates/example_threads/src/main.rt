@@ -1,4 +1,5 @@
-//! Two threads on one map: each call of `moc_shared`, with what it promises. No proof file stands beside it.
+//! Two threads on one map: each call of `moc_shared`, with what it promises. One proof file stands beside it, with one
+//! line: what a loop of calls keeps.
 //!
 //! What it prints is the same whatever the schedule: the threads change parts of their own, and different pixels of a
 //! common part.
@@ -31,7 +32,7 @@ fn cell(alloc: Global, base_pixel: u8) -> Result<Operand> {
 
 /// How many pixels the first reply tells of.
 fn pixels(replies: &Replies) -> Option<u64> {
-    match replies.as_slice().first()? {
+    match replies.first()? {
         Reply::Changed(pixels) | Reply::Total(pixels) => Some(*pixels),
         Reply::Cover(set) => Some(set.count()),
         _ => None,
@@ -67,6 +68,25 @@ fn work<R: Wait>(rt: &R, alloc: Global, map: &SharedMap, client: &mut Client) ->
         (Some(first), Some(second)) => Ok(first.saturating_add(second)),
         _ => bail!("no count"),
     }
+}
+
+/// The batch that counts a cell.
+fn count(alloc: Global, base_pixel: u8) -> Result<Batch> {
+    Ok(Batch::one(alloc, Command::Count(cell(alloc, base_pixel)?))?)
+}
+
+/// A client does one batch after another, and adds up what they tell. `proofs/do_all` has the line that keeps it a client
+/// of the map.
+fn do_all(map: &SharedMap, client: &mut Client, batches: &[Batch]) -> Result<u64>
+    requires { IsClientOf map.now client.old }
+    ensures { IsClientOf map.now client.new }
+{
+    let mut total = 0u64;
+    for batch in batches {
+        let replies = map.try_apply(client, batch)?;
+        total = total.saturating_add(pixels(&replies).unwrap_or(0));
+    }
+    Ok(total)
 }
 
 /// A thread: its client comes back with what it counted, if all went well.
@@ -150,8 +170,8 @@ fn meet_busy(
     }
 }
 
-/// A client takes a snapshot of a batch.
-fn look(map: &SharedMap, a: Client, batch: Batch) -> (Client, Option<Snapshot>)
+/// A client holds a batch, and takes a snapshot of it.
+fn hold_and_see(map: &SharedMap, a: Client, batch: Batch) -> (Client, Option<Snapshot>)
     requires { IsClientOf map.now a }
     ensures { IsClientOf map.now result.0 }
 {
@@ -212,19 +232,17 @@ fn meet_and_hold(
 fn look_and_change(
     rt: &HostRuntime,
     map: &SharedMap,
-    a: Client,
+    mut a: Client,
     mut b: Client,
 ) -> Result<(Client, Client)>
     requires { IsClientOf map.now a × IsClientOf map.now b }
     ensures { IfOk result (λ r. IsClientOf map.now r.0 × IsClientOf map.now r.1) }
 {
     let read = Batch::one(rt.alloc(), Command::Read(cell(rt.alloc(), 3)?))?;
-    let (a, snapshot) = look(map, a, read);
+    let snapshot = map.look(&mut a, &read)?;
     remove(rt, map, &mut b)?;
-    if let Some(snapshot) = snapshot {
-        let seen = snapshot.answer(rt.alloc())?;
-        println!(rt; "client 0 saw {:?}", pixels(&seen))?;
-    }
+    let seen = snapshot.answer(rt.alloc())?;
+    println!(rt; "client 0 saw {:?}", pixels(&seen))?;
     Ok((a, b))
 }
 
@@ -244,8 +262,17 @@ fn close(rt: &HostRuntime, map: SharedMap, a: Client, b: Client) -> Result<()>
     requires { IsClientOf map a × IsClientOf map b }
 {
     let remove = Batch::one(rt.alloc(), Command::Remove(cell(rt.alloc(), 3)?))?;
-    let (mut a, none) = look(&map, a, remove);
+    let (mut a, none) = hold_and_see(&map, a, remove);
     println!(rt; "an update gives a snapshot: {}", none.is_some())?;
+    let counts = [
+        count(rt.alloc(), 0)?,
+        count(rt.alloc(), 1)?,
+        count(rt.alloc(), 7)?,
+    ];
+    println!(rt;
+        "client 0 counted {} in three parts",
+        do_all(&map, &mut a, &counts)?
+    )?;
     map.take_in(&mut a, b);
     println!(rt; "{} pixels at the end", map.close(a)?.count())?;
     Ok(())
