@@ -205,7 +205,7 @@ HELP = [
     (["help", "ring"], b"Prints the ring number of a nested cell"),
     (["run", "--help"], b"The script is read from standard input"),
     (["play", "--help"], b"The schedule is read from standard input"),
-    (["crew", "--help"], b"Its lines that are not blank go to N threads in turn"),
+    (["crew", "--help"], b"Its lines that are not blank go to N threads in\nturn"),
     (["ring", "--help"], b"Prints the ring number of a nested cell"),
     (["ring", "--help"], b"Order of the cell, 0 to 29"),
     (["help", "near"], b"Number of the cell in the nested scheme, below 12 times 4^ORDER"),

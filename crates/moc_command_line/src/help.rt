@@ -163,7 +163,8 @@ prints
 /// What `moc ring --help` says below the usage.
 const RING: &str = "\
 Rings are rows of cells, counted from the north pole; the cells of a row are
-numbered behind those of the rows before it. `moc renumber` takes many numbers.
+numbered behind those of the rows before it. `moc renumber` takes many numbers;
+`moc help faults` says what the fault of a refused number means.
 
 Example:
   moc ring 1 18
@@ -172,7 +173,8 @@ prints
 
 /// What `moc nest --help` says below the usage.
 const NEST: &str = "\
-The opposite of `moc ring`.
+The opposite of `moc ring`. `moc help faults` says what the fault of a refused
+number means.
 
 Example:
   moc nest 1 27
@@ -181,7 +183,8 @@ prints
 
 /// What `moc uniq --help` says below the usage.
 const UNIQ: &str = "\
-The NUNIQ number of a cell is 4^(ORDER+1) + CELL.
+The NUNIQ number of a cell is 4^(ORDER+1) + CELL. `moc help faults` says what
+the fault of a refused number means.
 
 Example:
   moc uniq 3 10
@@ -191,6 +194,7 @@ prints
 /// What `moc near --help` says below the usage.
 const NEAR: &str = "\
 The cells rise, and the cell itself is not among them; there are six to eight.
+`moc help faults` says what the fault of a refused number means.
 
 Example:
   moc near 2 3
@@ -199,7 +203,8 @@ prints
 
 /// What `moc cell --help` says below the usage.
 const CELL: &str = "\
-The opposite of `moc uniq`.
+The opposite of `moc uniq`. `moc help faults` says what the fault of a refused
+number means.
 
 Example:
   moc cell 266

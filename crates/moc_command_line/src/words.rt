@@ -184,7 +184,7 @@ const OPERATION: Argument = Argument {
 /// A text form.
 const FORM: Argument = Argument {
     name: "FORM",
-    help: "Form of each text",
+    help: "Form of a text",
     values: ValueParser::Names(&["ascii", "json", "uniq"]),
 };
 

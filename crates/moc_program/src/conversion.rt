@@ -1,5 +1,5 @@
 //! Texts of coverages, from the input: converted, described, drawn, checked.
-ghost use Rattle.std.specs.Prelude.{◌≡◌, ◌≢◌, ◌<◌, ◌↔◌, ◌⊎◌, Err, false, IfErr, IfOk, IsErrOf, IsTrue, length};
+ghost use Rattle.std.specs.Prelude.{◌≡◌, ◌≢◌, ◌<◌, ◌↔◌, ◌⊎◌, Err, false, IfErr, IfOk, IsErrOf, IsTrue, length, None};
 ghost use Rattle.std.specs.String.{string_bytes};
 ghost use Rattle.moc_forms.specs.Forms.{FormSays, form_text};
 ghost use Rattle.moc_forms.specs.Places.{line_bytes, line_of};
@@ -90,17 +90,20 @@ pub fn said_or_told(
     }
 }
 
-/// The complaint that tells a refusal; that of want of memory where memory is refused for its line.
+/// The complaint that tells a refusal; that of want of memory, which has no place, also where memory is refused for its
+/// line.
 fn complaint_of(alloc: Global, number: Option<u64>, refusal: Refusal) -> Complaint
-    ensures { (result.fault ≡ Fault.Memory)
+    ensures memory { result.fault ≡ Fault.Memory → result.place ≡ None }
+    ensures told { (result.fault ≡ Fault.Memory)
         ⊎ ((result.fault ≡ fault_of_form refusal.error)
         × (line_bytes result.place ≡ line_of number refusal.place)) }
 {
+    let fault = Fault::from(refusal.error);
+    if matches!(fault, Fault::Memory) {
+        return Complaint::from(fault);
+    }
     match place_line(alloc, number, refusal.place) {
-        Ok(place) => Complaint {
-            fault: Fault::from(refusal.error),
-            place,
-        },
+        Ok(place) => Complaint { fault, place },
         Err(error) => Complaint::from(error),
     }
 }
