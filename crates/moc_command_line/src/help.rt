@@ -305,10 +305,11 @@ prints
 
 /// What `moc draw --help` says below the usage.
 const PICTURE: &str = "\
-Prints an SVG picture in HEALPix's plane, 1024 wide and 512 high: the sky goes
-round from left to right, the north pole is up. The base pixels are outlined and
-numbered. Cells of order 7 and coarser are drawn whole; what is deeper shows as
-its cell of order 7, in one of four shades by how much of that cell it fills.
+Prints an SVG picture in HEALPix's plane: the north pole is up and east to the
+left, as on sky charts; longitude 0 stands at both edges, 180 in the middle. The
+sky is grey, with the outlines and numbers of the base pixels below the cells.
+Cells of order 7 and coarser are drawn whole; what is deeper shows as its cell
+of order 7, in one of four shades by how much of that cell it fills.
 
 Example:
   echo '1/0-3 2/20' | moc draw ascii > sky.svg";
