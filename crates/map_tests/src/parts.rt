@@ -1,7 +1,7 @@
 //! Each call that takes memory once with ample memory, and the footprints of small operands.
 use moc_parts::{
-    Batch, BatchError, Command, Map, Operand, Part, PartSet, Replies, Reply, prepare,
-    prepare_changes, reply_of,
+    Batch, BatchError, Command, Map, Operand, Part, PartSet, Replies, Reply, cut, prepare,
+    prepare_changes, reply_of, unite,
 };
 use moc_ranges::Coverage;
 use moc_sphere::{Cell, Order};
@@ -175,6 +175,24 @@ fn a_part_that_is_left_has_no_change(rt: HostRuntime) {
     let mut changes = prepare_changes(alloc, &addition, &found).expect(&rt, "memory");
     assert_eq!(rt; changed(changes.reply()), Some(0));
     assert!(rt; changes.take(Part::of(0)).is_none());
+    let degrading = one(&rt, alloc, Command::Degrade(Order::MAX));
+    let mut changes = prepare_changes(alloc, &degrading, &found).expect(&rt, "memory");
+    assert_eq!(rt; changed(changes.reply()), Some(0));
+    assert!(rt; changes.take(Part::of(0)).is_none());
+}
+
+#[test]
+fn a_set_is_cut_and_put_together(rt: HostRuntime) {
+    let alloc = rt.alloc();
+    let whole = set(&rt, alloc, &[(BASE - 1, BASE + 1)]);
+    let parts = cut(alloc, &whole).expect(&rt, "memory");
+    let (first, second) = (parts.first(), parts.get(1));
+    let given = [
+        first, second, None, None, None, None, None, None, None, None, None, None,
+    ];
+    assert_eq!(rt; parts.len(), 12);
+    assert_eq!(rt; first.expect(&rt, "a part").count(), 1);
+    assert!(rt; unite(alloc, &given).expect(&rt, "memory") == whole);
 }
 
 #[test]

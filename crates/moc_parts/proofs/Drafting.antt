@@ -1,5 +1,5 @@
 -- The lists of a draft, one of them made anew.
-use Rattle.std.proofs.Common.{◌≡◌, ℕ, zero, suc, ◌+◌, ◌/◌, ◌<◌, ◌≤◌, Bool, true, false, not, ◌&&◌, ◌||◌, List, [], ◌∷◌, Option, None, Some, is_some, length, get_or, replicate, take, nat_lt, nat_eq, inl, inr, refl, sym, ap, subst, ◌∙◌, arith}
+use Rattle.std.proofs.Common.{◌≡◌, ℕ, zero, suc, ◌+◌, ◌/◌, ◌<◌, ◌≤◌, Bool, true, false, not, ◌&&◌, ◌||◌, List, [], ◌∷◌, Option, None, Some, is_some, length, map, get_or, replicate, take, nat_lt, nat_eq, inl, inr, refl, sym, ap, subst, ◌∙◌, arith}
 use Rattle.std.specs.Prelude.{set as set_at}
 use Rattle.std.specs.Borrow.{Bor}
 use Rattle.std.specs.Option.{unwrap_or, option_copied}
@@ -116,32 +116,32 @@ set-parts a b part l lies =
 
 -- ---- what was found
 
--- the first lists are found
-abbrev pub IsFilled : List NumberSet → List (Bor NumberSet) → ℕ → Type 0
-IsFilled lists found b = (length found ≡ 12) × ((k : ℕ) → k < b → get_or (sets_of found) k set.empty ≡ get_or lists k set.empty)
+-- the first places have their lists, as f sees them
+abbrev pub IsFilled : {X : Type 0} → (X → NumberSet) → List NumberSet → List X → ℕ → Type 0
+IsFilled f lists found b = (length found ≡ 12) × ((k : ℕ) → k < b → get_or (map f found) k set.empty ≡ get_or lists k set.empty)
 
-pub filled_next : (lists : List NumberSet) (found : List (Bor NumberSet)) (b : ℕ) (list : Bor NumberSet) → b < 12 → list.now ≡ get_or lists b set.empty
-    → IsFilled lists found b → IsFilled lists (set_at found b list) (b + 1)
-filled_next lists found b list l is below =
+pub filled_next : {X : Type 0} (f : X → NumberSet) (lists : List NumberSet) (found : List X) (b : ℕ) (list : X) → b < 12 → f list ≡ get_or lists b set.empty
+    → IsFilled f lists found b → IsFilled f lists (set_at found b list) (b + 1)
+filled_next f lists found b list l is below =
     let many : length (set_at found b list) ≡ 12 = length-set found b list ∙ below.0 in
-    let here : (k : ℕ) → k < 12 → get_or (sets_of (set_at found b list)) k set.empty ≡ (get_or (set_at found b list) k list).now =
-    λ k lt. get_or-map (λ x. x.now) (set_at found b list) k list set.empty (subst (λ n. k < n) (sym many) lt) in (
+    let here : (k : ℕ) → k < 12 → get_or (map f (set_at found b list)) k set.empty ≡ f (get_or (set_at found b list) k list) =
+    λ k lt. get_or-map f (set_at found b list) k list set.empty (subst (λ n. k < n) (sym many) lt) in (
       many,
       λ k lt. elim (cases_lt k b) [
         | inl before ↦
-            here k (omega arith) ∙ ap (λ x. x.now) (get_or-set_other found b k list list (λ e. omega arith))
-            ∙ sym (get_or-map (λ x. x.now) found k list set.empty (subst (λ n. k < n) (sym below.0) (omega arith))) ∙ below.1 k before
+            here k (omega arith) ∙ ap f (get_or-set_other found b k list list (λ e. omega arith))
+            ∙ sym (get_or-map f found k list set.empty (subst (λ n. k < n) (sym below.0) (omega arith))) ∙ below.1 k before
         | inr past ↦
             let at : k ≡ b = omega arith in
-            here k (omega arith) ∙ ap (λ n. (get_or (set_at found b list) n list).now) at
-            ∙ ap (λ x. x.now) (get_or-set_same found b list list (subst (λ n. b < n) (sym below.0) l)) ∙ is ∙ ap (λ n. get_or lists n set.empty) (sym at)
+            here k (omega arith) ∙ ap (λ n. f (get_or (set_at found b list) n list)) at
+            ∙ ap f (get_or-set_same found b list list (subst (λ n. b < n) (sym below.0) l)) ∙ is ∙ ap (λ n. get_or lists n set.empty) (sym at)
       ],
     )
 
-pub filled_all : (lists : List NumberSet) (found : List (Bor NumberSet)) (b : ℕ) → length lists ≡ 12 → 12 ≤ b → IsFilled lists found b → sets_of found ≡ lists
-filled_all lists found b twelve all filled =
-    let many : length (sets_of found) ≡ 12 = length-map found (λ x. x.now) ∙ filled.0 in
-    ext_get_or set.empty (sets_of found) lists (many ∙ sym twelve) (λ k lt. let small : k < 12 = subst (λ n. k < n) many lt in filled.1 k (omega arith))
+pub filled_all : {X : Type 0} (f : X → NumberSet) (lists : List NumberSet) (found : List X) (b : ℕ) → length lists ≡ 12 → 12 ≤ b → IsFilled f lists found b → map f found ≡ lists
+filled_all f lists found b twelve all filled =
+    let many : length (map f found) ≡ 12 = length-map found f ∙ filled.0 in
+    ext_get_or set.empty (map f found) lists (many ∙ sym twelve) (λ k lt. let small : k < 12 = subst (λ n. k < n) many lt in filled.1 k (omega arith))
 
 -- what was found in a part, or else nothing
 pub found_of : (part : Option (Bor NumberSet)) (nothing : Bor NumberSet) → nothing.now ≡ set.empty → (unwrap_or part nothing).now ≡ found_in (option_copied part)
@@ -312,8 +312,18 @@ part_lies a b = same_members _ _ (λ q. contains-part_of (part_of a b) b q ∙ a
     again true false = refl
     again false e = refl
 
--- what a change makes of the next part
-pub made_part : (change : Change) → IsChange change → (old whole part : NumberSet) (b : ℕ) (new : Option NumberSet) → whole ≡ half_changed (changed change old) old b → part ≡ part_of whole b
-    → unwrap_or new part ≡ changed_part change part b → unwrap_or new part ≡ part_of (changed change old) b
-made_part change is old whole part b new half p made =
-    made ∙ ap (λ q. changed_part change q b) (p ∙ ap (λ a. part_of a b) half ∙ part-half (changed change old) old b) ∙ sym (part_law change is old b)
+-- the next part, and what a change makes of it
+pub part_was : (new old whole part : NumberSet) (b : ℕ) → whole ≡ half_changed new old b → part ≡ part_of whole b → part ≡ part_of old b
+part_was new old whole part b half p = p ∙ ap (λ a. part_of a b) half ∙ part-half new old b
+
+pub part_becomes : (change : Change) → IsChange change → (old part : NumberSet) (b : ℕ) → part ≡ part_of old b → changed_part change part b ≡ part_of (changed change old) b
+part_becomes change is old part b p = ap (λ q. changed_part change q b) p ∙ sym (part_law change is old b)
+
+-- a set lies in the pixels where one does of which the first parts are changed
+pub old_within : (new old whole : NumberSet) (b : ℕ) → whole ≡ half_changed new old b → IsWithin whole pixels → (0 < b → IsWithin old pixels) → IsWithin old pixels
+old_within new old whole b half within earlier = elim (cases_lt 0 b) [
+  | inl more ↦ earlier more
+  | inr first ↦
+      let none : b ≡ 0 = omega arith in
+      subst (λ a. IsWithin a pixels) (half ∙ ap (half_changed new old) none ∙ half-none new old) within
+]

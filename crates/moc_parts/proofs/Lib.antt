@@ -6,6 +6,8 @@ pub mod Queries
 pub mod Twelve
 pub mod Sums
 pub mod Counts
+pub mod Turned
+pub mod Uniting
 pub mod Around
 pub mod Locality
 pub mod BatchLocality

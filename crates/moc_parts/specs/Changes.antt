@@ -1,10 +1,12 @@
 -- What a change makes of a set, and of one of its parts.
 use Rattle.std.specs.Prelude.{◌≡◌, ℕ, ◌≤◌, ◌<◌, false}
+use Rattle.std.specs.Option.{unwrap_or}
 use Rattle.std.specs.FinSet as set
 use Rattle.moc_ranges.specs.Numbers.{NumberSet}
 use Rattle.moc_ranges.specs.Pixels.{pixels}
-use Rattle.moc_ranges.specs.Operations.{complement, part_of, IsWithin}
+use Rattle.moc_ranges.specs.Operations.{complement, part_of, symmetric, IsWithin}
 use Rattle.moc_ranges.specs.Cells.{degrade}
+use Rattle.moc_parts.specs.declared.change.Altered.{Altered}
 use Rattle.moc_parts.specs.declared.change.Change.{Change}
 use Rattle.moc_parts.specs.declared.change.Change.TheVariants.{Join, Leave, Share, Invert, Degrade}
 
@@ -37,3 +39,7 @@ abbrev pub LeavesOthers : Change → NumberSet → Type 0
 LeavesOthers change parts =
     (b : ℕ) → b < 12 → set.contains parts b ≡ false
     → (part : NumberSet) → part_of part b ≡ part → changed_part change part b ≡ part
+
+-- a list becomes another: the new one is there if it differs, and so many pixels are added or removed
+abbrev pub Alters : NumberSet → NumberSet → Altered → Type 0
+Alters old new altered = (unwrap_or altered.list old ≡ new) × (altered.pixels ≡ set.len (symmetric new old))

@@ -1,8 +1,9 @@
 //! Changes of a set that are made part by part.
-ghost use Rattle.std.specs.Prelude.{◌≡◌, ◌<◌, IfOk, unwrap_or};
+ghost use Rattle.std.specs.Prelude.{◌≡◌, ◌<◌, IfOk, None};
 ghost use Rattle.std.specs.FinSet as set;
-ghost use Rattle.moc_ranges.specs.Operations.{part_of};
-ghost use Rattle.moc_parts.specs.Changes.{changed_part, IsChange, LeavesOthers};
+ghost use Rattle.moc_ranges.specs.Cells.{degrade};
+ghost use Rattle.moc_ranges.specs.Operations.{complement, part_of};
+ghost use Rattle.moc_parts.specs.Changes.{changed_part, Alters, IsChange, LeavesOthers};
 
 use crate::footprint::parts_met;
 use crate::part::{Part, PartSet};
@@ -25,6 +26,13 @@ pub(crate) enum Change<'a> {
     Degrade(Order),
 }
 
+/// What a change makes of a list: a new one where it alters it, and how many pixels it adds or removes.
+#[derive(Drop)]
+pub(crate) struct Altered {
+    pub list: Option<Coverage>,
+    pub pixels: u64,
+}
+
 impl<'a> Change<'a> {
     /// The parts that the change can alter.
     pub(crate) fn parts(&self) -> PartSet
@@ -37,39 +45,101 @@ impl<'a> Change<'a> {
         }
     }
 
-    /// What the change makes of the list of one part, or `None` where it is seen to leave it (degrading is not looked
-    /// through).
+    /// What the change makes of the list of one part.
     pub(crate) fn part(
         &self,
         alloc: Global,
         parts: PartSet,
         list: &Coverage,
         b: u8,
-    ) -> Result<Option<Coverage>, Memory>
+    ) -> Result<Altered, Memory>
         requires part { b < 12 }
         requires change { IsChange self.now }
         requires parts { LeavesOthers self.now parts }
         requires list { part_of list.now b ≡ list.now }
-        ensures { IfOk result (λ new. unwrap_or new list.now ≡ changed_part self.now list.now b) }
+        ensures { IfOk result (λ new. Alters list.now (changed_part self.now list.now b) new) }
     {
         if !parts.contains(Part::of(b)) {
-            return Ok(None);
+            return Ok(unaltered());
         }
-        let new = match *self {
-            Change::Join(s) => {
-                let more = s.part(alloc, b)?;
-                if list.covers(&more) {
-                    return Ok(None);
-                }
-                list.union(alloc, &more)?
-            }
-            Change::Leave(s) if !list.meets(s) => return Ok(None),
-            Change::Leave(s) => list.difference(alloc, s)?,
-            Change::Share(s) if s.covers(list) => return Ok(None),
-            Change::Share(s) => list.intersection(alloc, s)?,
-            Change::Invert => list.complement(alloc)?.part(alloc, b)?,
-            Change::Degrade(order) => list.degrade(alloc, order)?,
-        };
-        Ok(Some(new))
+        match *self {
+            Change::Join(s) => join(alloc, list, &s.part(alloc, b)?),
+            Change::Leave(s) => leave(alloc, list, s),
+            Change::Share(s) => share(alloc, list, s),
+            Change::Invert => invert(alloc, list, b),
+            Change::Degrade(order) => degrade(alloc, list, order),
+        }
     }
+}
+
+/// A list that a change leaves.
+fn unaltered() -> Altered
+    ensures { result ≡ record { list = None; pixels = 0 } }
+{
+    Altered {
+        list: None,
+        pixels: 0,
+    }
+}
+
+/// A list with more pixels.
+fn join(alloc: Global, list: &Coverage, more: &Coverage) -> Result<Altered, Memory>
+    ensures { IfOk result (λ new. Alters list.now (set.union list.now more.now) new) }
+{
+    let pixels = more.count() - list.count_common(more);
+    if pixels == 0 {
+        return Ok(unaltered());
+    }
+    let list = Some(list.union(alloc, more)?);
+    Ok(Altered { list, pixels })
+}
+
+/// A list without the pixels of a set.
+fn leave(alloc: Global, list: &Coverage, others: &Coverage) -> Result<Altered, Memory>
+    ensures { IfOk result (λ new. Alters list.now (set.difference list.now others.now) new) }
+{
+    let pixels = list.count_common(others);
+    if pixels == 0 {
+        return Ok(unaltered());
+    }
+    let list = Some(list.difference(alloc, others)?);
+    Ok(Altered { list, pixels })
+}
+
+/// Of a list the pixels that a set has.
+fn share(alloc: Global, list: &Coverage, others: &Coverage) -> Result<Altered, Memory>
+    ensures { IfOk result (λ new. Alters list.now (set.intersection list.now others.now) new) }
+{
+    let pixels = list.count() - list.count_common(others);
+    if pixels == 0 {
+        return Ok(unaltered());
+    }
+    let list = Some(list.intersection(alloc, others)?);
+    Ok(Altered { list, pixels })
+}
+
+/// The pixels of a part that its list lacks.
+fn invert(alloc: Global, list: &Coverage, b: u8) -> Result<Altered, Memory>
+    ensures { IfOk result (λ new. Alters list.now (part_of (complement list.now) b) new) }
+{
+    let new = list.complement(alloc)?.part(alloc, b)?;
+    Ok(Altered {
+        pixels: list.count() + new.count(),
+        list: Some(new),
+    })
+}
+
+/// A list, degraded.
+fn degrade(alloc: Global, list: &Coverage, order: Order) -> Result<Altered, Memory>
+    ensures { IfOk result (λ new. Alters list.now (degrade list.now order) new) }
+{
+    let new = list.degrade(alloc, order)?;
+    let pixels = new.count() - list.count();
+    if pixels == 0 {
+        return Ok(unaltered());
+    }
+    Ok(Altered {
+        list: Some(new),
+        pixels,
+    })
 }

@@ -1,7 +1,7 @@
 //! A set in twelve parts while a batch is done on it.
 ghost use Rattle.std.specs.Prelude.{◌≡◌, ◌<◌, ℕ, IfOk, OnOk, None, get_or, length};
 ghost use Rattle.std.specs.FinSet as set;
-ghost use Rattle.moc_ranges.specs.Operations.{meets, part_of, IsWithin};
+ghost use Rattle.moc_ranges.specs.Operations.{meets, part_of, symmetric, IsWithin};
 ghost use Rattle.moc_ranges.specs.Pixels.{pixels};
 ghost use Rattle.moc_parts.specs.Changes.{changed, IsChange};
 ghost use Rattle.moc_parts.specs.Commands.{parts_met};
@@ -11,7 +11,7 @@ ghost use Rattle.moc_parts.specs.Prepared.{found_sets, is_given, kept};
 
 mod commands;
 
-use crate::change::Change;
+use crate::change::{Altered, Change};
 use crate::footprint::parts_met;
 use crate::lists::Lists;
 use crate::part::Part;
@@ -45,18 +45,6 @@ impl<'a> Model for Draft<'a> {
 }
 
 impl<'a> Draft<'a> {
-    /// A draft of the set in these twelve lists. Takes no memory.
-    pub(crate) fn new(alloc: Global, lists: &'a [Coverage]) -> Draft<'a>
-        requires { AreParts lists.now }
-        ensures { result ≡ record { found = lists.now; set = union_of lists.now } }
-    {
-        let mut found = [&lists[0]; 12];
-        for b in 0usize..12 {
-            found[b] = &lists[b];
-        }
-        Draft::unchanged(alloc, found)
-    }
-
     /// A draft of the set in the lists that were found, with nothing in the parts that were not looked at.
     pub(crate) fn from_found(
         alloc: Global,
@@ -111,31 +99,26 @@ impl<'a> Draft<'a> {
         Ok(())
     }
 
-    /// Changes the set.
-    pub(crate) fn change(&mut self, alloc: Global, change: &Change<'_>) -> Result<(), Memory>
+    /// Changes the set, and tells how many pixels it adds or removes.
+    ///
+    /// A part that it leaves is not made anew; an operand is walked over as its part is cut out, counted, and put in.
+    pub(crate) fn change(&mut self, alloc: Global, change: &Change<'_>) -> Result<u64, Memory>
         requires { IsChange change.now }
         ensures set { OnOk result (self.new.set ≡ changed change.now self.old.set) }
+        ensures turned { IfOk result (λ n. n ≡ set.len (symmetric (changed change.now self.old.set) self.old.set)) }
+        ensures within { OnOk result (IsWithin self.old.set pixels) }
         ensures found { self.new.found ≡ self.old.found }
     {
         let parts = change.parts();
+        let mut turned = 0;
         for b in 0u8..12 {
-            if let Some(list) = change.part(alloc, parts, self.part(b), b)? {
+            let Altered { list: new, pixels } = change.part(alloc, parts, self.part(b), b)?;
+            turned += pixels;
+            if let Some(list) = new {
                 self.put(b, list)?;
             }
         }
-        Ok(())
-    }
-
-    /// How many pixels the set has.
-    pub(crate) fn count(&self) -> u64
-        ensures size { result ≡ set.len self.now.set }
-        ensures within { IsWithin self.now.set pixels }
-    {
-        let mut total = 0;
-        for b in 0u8..12 {
-            total += self.part(b).count();
-        }
-        total
+        Ok(turned)
     }
 
     /// How many pixels of one part the set has in common with another.

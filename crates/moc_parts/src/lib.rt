@@ -14,6 +14,7 @@ mod prepared;
 mod reply;
 mod resolved;
 mod surroundings;
+mod whole;
 
 pub use batch::{Batch, BatchError, MOST_COMMANDS};
 pub use command::{Command, Operand};
@@ -25,3 +26,4 @@ pub use map::Map;
 pub use part::{Part, PartSet};
 pub use prepared::{Prepared, prepare, prepare_changes, reply_of};
 pub use reply::{Replies, Reply};
+pub use whole::{cut, unite};

@@ -4,12 +4,14 @@ ghost use Rattle.moc_ranges.specs.Operations.{part_of, IsWithin};
 ghost use Rattle.moc_ranges.specs.Pixels.{pixels};
 ghost use Rattle.moc_parts.specs.Batches.{replies_on, set_after_all};
 ghost use Rattle.moc_parts.specs.Drafts.{current_lists};
+ghost use Rattle.moc_parts.specs.Prepared.{found_sets};
 
 use crate::batch::Batch;
 use crate::draft::Draft;
 use crate::lists::Lists;
 use crate::part::Part;
 use crate::reply::Replies;
+use crate::whole::{cut, unite};
 use moc_ranges::{Coverage, Memory};
 use std::alloc::Global;
 use std::marker::Model;
@@ -40,10 +42,7 @@ impl Map {
     pub fn new(alloc: Global, start: Coverage) -> Result<Map, Memory>
         ensures { IfOk result (λ m. m ≡ start) }
     {
-        let mut parts = Vec::with_capacity(alloc, 12)?;
-        for b in 0u8..12 {
-            parts.push(start.part(alloc, b)?)?;
-        }
+        let parts = cut(alloc, &start)?;
         Ok(Map { parts })
     }
 
@@ -61,28 +60,39 @@ impl Map {
     pub fn coverage(&self, alloc: Global) -> Result<Coverage, Memory>
         ensures { IfOk result (λ c. c ≡ self.now) }
     {
-        let mut whole = Coverage::empty(alloc);
-        for b in 0u8..12 {
-            whole = whole.union(alloc, self.part(Part::of(b)))?;
-        }
+        let whole = unite(alloc, &lists(&self.parts))?;
         Ok(whole)
     }
 
     /// Does the commands of a batch in order, and replies to each.
     ///
-    /// A list that changes is made anew, in one pass; one that does not change is not copied, but where the map is
-    /// degraded. Refused where memory runs out; the map then is as it was.
+    /// A list that a command changes is made anew, in one pass; one that none changes is not copied. Refused where memory
+    /// runs out; the map then is as it was.
     pub fn apply(&mut self, alloc: Global, batch: &Batch) -> Result<Replies, Memory>
         ensures set { OnOk result (self.new ≡ set_after_all self.old batch.now) }
         ensures replies { IfOk result (λ r. r ≡ replies_on self.old batch.now) }
         ensures unchanged { OnErr result (self.new ≡ self.old) }
     {
-        let mut draft = Draft::new(alloc, &self.parts);
+        let lists = lists(&self.parts);
+        let nothing = Coverage::empty(alloc);
+        let mut draft = Draft::from_found(alloc, &lists, &nothing);
         let replies = draft.answer_all(alloc, batch.commands())?;
         let made = draft.into_made();
         put_all(&mut self.parts, made);
         Ok(replies)
     }
+}
+
+/// The lists of all parts.
+fn lists(parts: &[Coverage]) -> [Option<&Coverage>; 12]
+    requires { length parts.now ≡ 12 }
+    ensures { found_sets result ≡ parts.now }
+{
+    let mut lists = [None; 12];
+    for b in 0usize..12 {
+        lists[b] = Some(&parts[b]);
+    }
+    lists
 }
 
 /// Puts the lists that were made anew into their places.

@@ -81,8 +81,8 @@ pub fn prepare(
     Ok(Prepared { lists, replies })
 }
 
-/// As `prepare`, but without a list for a part that the batch is seen to leave, so that no list is copied (degrading is
-/// not looked through, and makes each list anew). Refused where memory runs out.
+/// As `prepare`, but without a list for a part that no command of the batch changes, so that no list is copied. Refused
+/// where memory runs out.
 pub fn prepare_changes(
     alloc: Global,
     batch: &Batch,

@@ -137,18 +137,6 @@ union_within slots long own = record { each = λ q has. contains-pixels q ∙ lt
           ∙ finset.contains-empty nat_cmp q))
     ]
 
-drop_next : {A : Type 0} (xs : List A) (k : ℕ) (d : A) → k < length xs → drop k xs ≡ get_or xs k d ∷ drop (suc k) xs
-drop_next [] k d l = absurd (omega arith)
-drop_next (x ∷ xs) zero d l = refl
-drop_next (x ∷ xs) (suc k) d l = drop_next xs k d (omega arith)
-
--- the union of the lists from place c on
-pub union_nothing : (a : NumberSet) → finset.union finset.empty a ≡ a
-union_nothing a =
-    same_members _ _
-    (λ q. finset.contains-union nat_cmp_total finset.empty a q
-    ∙ ap (λ (t : Bool). t || finset.contains a q) (finset.contains-empty nat_cmp q))
-
 some_set : (a b : NumberSet) → Some a ≡ Some b → a ≡ b
 some_set a b e = cc
 
@@ -182,11 +170,3 @@ union_whole slots a long within each = same_members _ _ (λ q. union_at slots q 
           ap (λ (s : Option Pointer). finset.contains (list_of s) q) (get_beyond slots b (omega (arith, long, far)))
           ∙ finset.contains-empty nat_cmp q ∙ sym (in_sky a q within far)
     ]
-
-pub none_next : (slots : List (Option Pointer)) (b c : ℕ) (d : Option Pointer) → b ≡ suc c → c < length slots
-    → get_or slots c d ≡ None → union_of (lists_of (drop b slots)) ≡ union_of (lists_of (drop c slots))
-none_next slots b c d up l none =
-    ap (λ (k : ℕ). union_of (lists_of (drop k slots))) up
-    ∙ sym (union_nothing (union_of (lists_of (drop (suc c) slots))))
-    ∙ sym (ap (λ (s : Option Pointer). finset.union (list_of s) (union_of (lists_of (drop (suc c) slots)))) none)
-    ∙ sym (ap (λ (xs : List (Option Pointer)). union_of (lists_of xs)) (drop_next slots c d l))

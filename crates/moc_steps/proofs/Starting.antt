@@ -20,15 +20,19 @@ use Rattle.moc_steps.proofs.Loops.{twelve_nones}
 use Rattle.moc_steps.proofs.Values.{get-values, values-empty}
 use Rattle.moc_steps.proofs.Kept.{Table, clients_of, holder_nobody}
 
-pub parts_none : (a : NumberSet) → [] ≡ parts_below a 0
-unfolding parts_below
-parts_none a = refl
+-- one list more has an owner
+pub one_over : {X : Type 0} (done next : List X) (list new : X) (left rest all : List X) → next ≡ done ++ new ∷ [] → new ≡ list → left ≡ list ∷ rest → done ++ left ≡ all → next ++ rest ≡ all
+one_over [] next list new left rest all add is more whole = (λ i. add i ++ rest) ∙ ap (λ x. x ∷ rest) is ∙ sym more ∙ whole
+one_over (x ∷ done) next list new left rest all add is more whole = (λ i. add i ++ rest) ∙ ap (λ xs. x ∷ xs) (one_over done (done ++ new ∷ []) list new left rest (done ++ left) refl is more refl) ∙ whole
 
-pub parts_next : (xs ys : List NumberSet) (a x : NumberSet) (b : ℕ) → xs ≡ parts_below a b → ys ≡ xs ++ x ∷ [] → x ≡ part_of a b → ys ≡ parts_below a (b + 1)
-unfolding parts_below
-parts_next xs ys a x b h add is =
-    let e : b + 1 ≡ suc b = omega arith in
-    add ∙ (λ i. h i ++ is i ∷ []) ∙ sym (ap (λ n. parts_below a n) e)
+pub no_items : {X : Type 0} (xs : List X) → length xs ≡ 0 → xs ≡ []
+no_items [] none = refl
+no_items (x ∷ xs) none = absurd (omega arith)
+
+-- none is left
+pub none_over : {X : Type 0} (done left all : List X) → left ≡ [] → done ++ left ≡ all → done ≡ all
+none_over [] left all none whole = sym none ∙ whole
+none_over (x ∷ done) left all none whole = ap (λ xs. x ∷ xs) (none_over done left (done ++ left) none refl) ∙ whole
 
 abbrev pub nobody : List (Option ℕ)
 nobody = None ∷ None ∷ None ∷ None ∷ None ∷ None ∷ None ∷ None ∷ None ∷ None ∷ None ∷ None ∷ []

@@ -19,7 +19,7 @@ use crate::midway::Midway;
 use crate::share::Share;
 use crate::step::{Entry, Step};
 use crate::table::{Change, Table};
-use moc_parts::{Batch, Part, Replies, batches_are_local};
+use moc_parts::{Batch, Part, Replies, batches_are_local, cut};
 use moc_ranges::{Coverage, Memory};
 use std::alloc::Global;
 use std::marker::Model;
@@ -56,8 +56,8 @@ impl World {
         ensures { IfOk result (λ w. w ≡ start_world batches start) }
     {
         let mut parts = Vec::new(alloc);
-        for b in 0u8..12 {
-            parts.push(Share::new(alloc, start.part(alloc, b)?)?)?;
+        for list in cut(alloc, &start)? {
+            parts.push(Share::new(alloc, list)?)?;
         }
         Ok(World {
             alloc,

@@ -27,10 +27,8 @@ impl<'a> Draft<'a> {
         ensures found { self.new.found ≡ self.old.found }
     {
         let resolved = operand.resolved(alloc)?;
-        let other = resolved.set();
-        let lacking = other.count() - self.count_common(other);
-        self.change(alloc, &Change::Join(other))?;
-        Ok(Reply::Changed(lacking))
+        let added = self.change(alloc, &Change::Join(resolved.set()))?;
+        Ok(Reply::Changed(added))
     }
 
     /// Removes the set of an operand.
@@ -42,10 +40,8 @@ impl<'a> Draft<'a> {
         ensures found { self.new.found ≡ self.old.found }
     {
         let resolved = operand.resolved(alloc)?;
-        let other = resolved.set();
-        let common = self.count_common(other);
-        self.change(alloc, &Change::Leave(other))?;
-        Ok(Reply::Changed(common))
+        let removed = self.change(alloc, &Change::Leave(resolved.set()))?;
+        Ok(Reply::Changed(removed))
     }
 
     /// Keeps what the set of an operand has.
@@ -57,10 +53,8 @@ impl<'a> Draft<'a> {
         ensures found { self.new.found ≡ self.old.found }
     {
         let resolved = operand.resolved(alloc)?;
-        let other = resolved.set();
-        let dropped = self.count() - self.count_common(other);
-        self.change(alloc, &Change::Share(other))?;
-        Ok(Reply::Changed(dropped))
+        let removed = self.change(alloc, &Change::Share(resolved.set()))?;
+        Ok(Reply::Changed(removed))
     }
 
     /// Adds the set of an operand if nothing of it is there.
@@ -103,9 +97,8 @@ impl<'a> Draft<'a> {
             r ≡ reply.Changed (set.len (set.difference (degrade self.old.set order) self.old.set))) }
         ensures found { self.new.found ≡ self.old.found }
     {
-        let before = self.count();
-        self.change(alloc, &Change::Degrade(order))?;
-        Ok(Reply::Changed(self.count() - before))
+        let added = self.change(alloc, &Change::Degrade(order))?;
+        Ok(Reply::Changed(added))
     }
 
     /// Counts the pixels of an operand's set that are there.

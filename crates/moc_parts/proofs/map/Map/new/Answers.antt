@@ -1,23 +1,8 @@
-use Rattle.std.proofs.Common.{◌≡◌, sym, ap, ◌∙◌, arith}
-use Rattle.moc_parts.specs.Parts.{parts_below}
-use Rattle.moc_parts.proofs.Twelve.{parts_below-none, made_next, made_parts, made_union}
+use Rattle.moc_parts.proofs.Twelve.{made_parts, made_union}
 use Rattle.moc_parts.proofs.map.Map.new.Goals as goal
 
-pub loop-b-init : goal.loop-b-init
-loop-b-init c = (c.in_ok-parts.ensures.items ∙ sym (parts_below-none c.args.start), λ later. absurd (omega arith))
-
-pub loop-b-preserved : goal.loop-b-preserved
-loop-b-preserved c = (
-  c.in_ok-push.ensures.items ∙ made_next c.loop-b.parts.items c.args.start c.loop-b.b c.loop-b.invariant.0 c.in_ok-part.field-0 c.in_ok-part.ensures.part,
-  λ later. c.in_ok-part.ensures.within,
-)
-
 pub invariant_of-result : goal.invariant_of-result
-invariant_of-result c =
-    let twelve : c.loop-b.b ≡ 12 = (let low = c.loop-b-test.false in let high = c.loop-b.auto.b-end in omega arith) in
-    made_parts c.loop-b.parts.items c.args.start (c.loop-b.invariant.0 ∙ ap (λ n. parts_below c.args.start n) twelve) (c.loop-b.invariant.1 (omega arith))
+invariant_of-result c = made_parts c.in_ok-parts.parts.items c.args.start c.in_ok-parts.ensures.parts c.in_ok-parts.ensures.within
 
 pub returns : goal.returns
-returns c =
-    let twelve : c.loop-b.b ≡ 12 = (let low = c.loop-b-test.false in let high = c.loop-b.auto.b-end in omega arith) in
-    made_union c.loop-b.parts.items c.args.start (c.loop-b.invariant.0 ∙ ap (λ n. parts_below c.args.start n) twelve) (c.loop-b.invariant.1 (omega arith))
+returns c = made_union c.in_ok-parts.parts.items c.args.start c.in_ok-parts.ensures.parts c.in_ok-parts.ensures.within

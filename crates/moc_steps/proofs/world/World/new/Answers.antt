@@ -1,23 +1,27 @@
-use Rattle.std.proofs.Common.{◌≡◌, ap, ◌∙◌, arith}
-use Rattle.moc_parts.specs.Parts.{parts_below}
-use Rattle.moc_steps.proofs.Starting.{parts_none, parts_next, starts, start_kept}
+use Rattle.std.proofs.Common.{rules, arith, ◌≡◌, [], ◌∷◌, ◌++◌, ◌∙◌}
+use Rattle.std.specs.Vec.Iter.{into_iter_items}
+use Rattle.moc_steps.proofs.Starting.{starts, start_kept, one_over, none_over, no_items}
 use Rattle.moc_steps.proofs.world.World.new.Goals as goal
 
-pub loop-b-init : goal.loop-b-init
-loop-b-init c = (c.new-parts.ensures.items ∙ parts_none c.args.start, λ later. absurd (omega arith))
+pub loop-list-init : goal.loop-list-init
+loop-list-init c =
+    let rest : into_iter_items c.into_iter-list-iterator.result ≡ c.in_ok-list-items.list-items.items = search rules in
+    (λ i. c.new-parts.ensures.items i ++ rest i) ∙ c.in_ok-list-items.ensures.parts
 
-pub loop-b-preserved : goal.loop-b-preserved
-loop-b-preserved c = (
-  parts_next c.loop-b.parts.items c.push.new.self.items c.args.start c.in_ok-new.field-0 c.loop-b.b c.loop-b.invariant.0 c.in_ok-push.ensures.items (c.in_ok-new.ensures ∙ c.in_ok-part.ensures.part),
-  λ later. c.in_ok-part.ensures.within,
-)
+pub loop-list-preserved : goal.loop-list-preserved
+loop-list-preserved c =
+    let rest : into_iter_items c.loop-list.list-iterator ≡ c.in-Some.list ∷ into_iter_items c.next.new.self = grind rules in
+    one_over c.loop-list.parts.items _ c.in-Some.list c.in_ok-new.field-0 _ _ _ c.in_ok-push.ensures.items c.in_ok-new.ensures rest c.loop-list.invariant
 
 pub invariant_of-result : goal.invariant_of-result
 invariant_of-result c =
-    let twelve : c.loop-b.b ≡ 12 = (let low = c.loop-b-test.false in let high = c.loop-b.auto.b-end in omega arith) in
-    start_kept c.new-2.result c.loop-b.parts.items c.new-3.result.items c.args.start c.new-2.ensures (c.loop-b.invariant.0 ∙ ap (λ n. parts_below c.args.start n) twelve) c.new-3.ensures.items (c.loop-b.invariant.1 (omega arith))
+    let none : into_iter_items c.loop-list.list-iterator ≡ [] =
+    no_items _ (omega (arith, c.loop-list.list-iterator.rest.ok, c.in-None.ensures.steps.0)) in
+    start_kept c.new-2.result c.loop-list.parts.items c.new-3.result.items c.args.start c.new-2.ensures (none_over c.loop-list.parts.items _ _ none c.loop-list.invariant) c.new-3.ensures.items
+    c.in_ok-list-items.ensures.within
 
 pub returns : goal.returns
 returns c =
-    let twelve : c.loop-b.b ≡ 12 = (let low = c.loop-b-test.false in let high = c.loop-b.auto.b-end in omega arith) in
-    starts c.new-2.result c.loop-b.parts.items c.new-3.result.items c.args.start c.new-2.ensures (c.loop-b.invariant.0 ∙ ap (λ n. parts_below c.args.start n) twelve) c.new-3.ensures.items
+    let none : into_iter_items c.loop-list.list-iterator ≡ [] =
+    no_items _ (omega (arith, c.loop-list.list-iterator.rest.ok, c.in-None.ensures.steps.0)) in
+    starts c.new-2.result c.loop-list.parts.items c.new-3.result.items c.args.start c.new-2.ensures (none_over c.loop-list.parts.items _ _ none c.loop-list.invariant) c.new-3.ensures.items

@@ -1,9 +1,8 @@
-use Rattle.std.proofs.Common.{◌≡◌, ◌<◌}
-use Rattle.moc_ranges.specs.Operations.{IsWithin}
-use Rattle.moc_ranges.specs.Pixels.{pixels}
+use Rattle.std.proofs.Common.{◌≡◌, ◌++◌}
+use Rattle.std.specs.Vec.Iter.{into_iter_items}
 use Rattle.moc_parts.specs.Parts.{parts_below}
 use Rattle.moc_steps.proofs.world.World.new.Given as goal
 
--- the parts so far, and the fact that each call of `part` tells
-abbrev pub invariant-loop-b : goal.invariant-loop-b
-invariant-loop-b l = (l.parts.items ≡ parts_below l.fn.start l.b) × (0 < l.b → IsWithin l.fn.start pixels)
+-- the parts that have an owner, and those that are left
+abbrev pub invariant-loop-list : goal.invariant-loop-list
+invariant-loop-list l = l.parts.items ++ into_iter_items l.list-iterator ≡ parts_below l.fn.start 12

@@ -2,7 +2,7 @@ use Rattle.std.proofs.Common.{◌≡◌, ◌<◌}
 use Rattle.moc_ranges.specs.Operations.{IsWithin}
 use Rattle.moc_ranges.specs.Pixels.{pixels}
 use Rattle.moc_parts.specs.Parts.{parts_below}
-use Rattle.moc_parts.proofs.map.Map.new.Given as goal
+use Rattle.moc_parts.proofs.whole.cut.Given as goal
 
 abbrev pub invariant-loop-b : goal.invariant-loop-b
-invariant-loop-b l = (l.parts.items ≡ parts_below l.fn.start l.b) × (0 < l.b → IsWithin l.fn.start pixels)
+invariant-loop-b l = (l.parts.items ≡ parts_below l.set l.b) × (0 < l.b → IsWithin l.set pixels)

@@ -1,0 +1,12 @@
+use Rattle.std.proofs.Common.{◌∙◌}
+use Rattle.std.specs.FinSet as set
+use Rattle.moc_parts.proofs.Turned.{common_pixels, none_altered}
+use Rattle.moc_parts.proofs.change.leave.Goals as goal
+
+pub returns-then-pixels-eq0 : goal.returns-then-pixels-eq0
+returns-then-pixels-eq0 c =
+    none_altered c.args.list.now (set.difference c.args.list.now c.args.others.now) _ c.unaltered.result
+    (c.count_common-pixels.ensures.size ∙ common_pixels c.args.list.now c.args.others.now) c.if-pixels-eq0.true c.unaltered.ensures
+
+pub returns : goal.returns
+returns c = (c.in_ok-difference.ensures.set, c.count_common-pixels.ensures.size ∙ common_pixels c.args.list.now c.args.others.now)

@@ -1,0 +1,16 @@
+use Rattle.std.proofs.Common.{◌-◌, ◌∙◌, arith}
+use Rattle.std.specs.FinSet as set
+use Rattle.moc_parts.proofs.Sums.{kept_less}
+use Rattle.moc_parts.proofs.Turned.{dropped_pixels, none_altered}
+use Rattle.moc_parts.proofs.change.share.Goals as goal
+
+pub overflow_sub-pixels : goal.overflow_sub-pixels
+overflow_sub-pixels c = omega (arith, kept_less c.args.list.now c.args.others.now, c.count_common.ensures.size, c.count.ensures.size)
+
+pub returns-then-pixels-eq0 : goal.returns-then-pixels-eq0
+returns-then-pixels-eq0 c =
+    none_altered c.args.list.now (set.intersection c.args.list.now c.args.others.now) _ c.unaltered.result
+    ((λ i. c.count.ensures.size i - c.count_common.ensures.size i) ∙ dropped_pixels c.args.list.now c.args.others.now) c.if-pixels-eq0.true c.unaltered.ensures
+
+pub returns : goal.returns
+returns c = (c.in_ok-intersection.ensures.set, (λ i. c.count.ensures.size i - c.count_common.ensures.size i) ∙ dropped_pixels c.args.list.now c.args.others.now)
