@@ -3,7 +3,7 @@
 #![tactic(auto)]
 
 use anyhow::Result;
-use moc_parts::{Batch, Command, Map, Operand, Reply};
+use moc_parts::{Command, Map, Operand, Reply};
 use moc_ranges::{Coverage, CoverageBuilder, Memory, PIXEL_COUNT};
 use moc_sphere::{Cell, Order};
 use moc_text::{read_ascii, read_json, write_ascii, write_json};
@@ -37,8 +37,8 @@ fn compare(rt: &HostRuntime) -> Result<()> {
 
     // A map does commands, alone or in batches, and replies.
     let mut map = Map::new(alloc, ours)?;
-    let claim = Batch::one(alloc, Command::Claim(Operand::from(theirs)))?;
-    if let Some(Reply::Taken(pixels)) = map.apply(alloc, &claim)?.as_slice().first() {
+    let claim = Command::Claim(Operand::from(theirs));
+    if let Reply::Taken(pixels) = map.answer(alloc, &claim)? {
         println!(rt; "taken: {pixels} pixels")?;
     }
     Ok(())

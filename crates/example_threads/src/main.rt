@@ -31,7 +31,7 @@ fn cell(alloc: Global, base_pixel: u8) -> Result<Operand> {
 
 /// How many pixels the first reply tells of.
 fn pixels(replies: &Replies) -> Option<u64> {
-    match replies.as_slice().first()? {
+    match replies.first()? {
         Reply::Changed(pixels) | Reply::Total(pixels) => Some(*pixels),
         Reply::Cover(set) => Some(set.count()),
         _ => None,
@@ -150,8 +150,8 @@ fn meet_busy(
     }
 }
 
-/// A client takes a snapshot of a batch.
-fn look(map: &SharedMap, a: Client, batch: Batch) -> (Client, Option<Snapshot>)
+/// A client holds a batch, and takes a snapshot of it.
+fn hold_and_see(map: &SharedMap, a: Client, batch: Batch) -> (Client, Option<Snapshot>)
     requires { IsClientOf map.now a }
     ensures { IsClientOf map.now result.0 }
 {
@@ -212,19 +212,17 @@ fn meet_and_hold(
 fn look_and_change(
     rt: &HostRuntime,
     map: &SharedMap,
-    a: Client,
+    mut a: Client,
     mut b: Client,
 ) -> Result<(Client, Client)>
     requires { IsClientOf map.now a × IsClientOf map.now b }
     ensures { IfOk result (λ r. IsClientOf map.now r.0 × IsClientOf map.now r.1) }
 {
     let read = Batch::one(rt.alloc(), Command::Read(cell(rt.alloc(), 3)?))?;
-    let (a, snapshot) = look(map, a, read);
+    let snapshot = map.look(&mut a, &read)?;
     remove(rt, map, &mut b)?;
-    if let Some(snapshot) = snapshot {
-        let seen = snapshot.answer(rt.alloc())?;
-        println!(rt; "client 0 saw {:?}", pixels(&seen))?;
-    }
+    let seen = snapshot.answer(rt.alloc())?;
+    println!(rt; "client 0 saw {:?}", pixels(&seen))?;
     Ok((a, b))
 }
 
@@ -244,7 +242,7 @@ fn close(rt: &HostRuntime, map: SharedMap, a: Client, b: Client) -> Result<()>
     requires { IsClientOf map a × IsClientOf map b }
 {
     let remove = Batch::one(rt.alloc(), Command::Remove(cell(rt.alloc(), 3)?))?;
-    let (mut a, none) = look(&map, a, remove);
+    let (mut a, none) = hold_and_see(&map, a, remove);
     println!(rt; "an update gives a snapshot: {}", none.is_some())?;
     map.take_in(&mut a, b);
     println!(rt; "{} pixels at the end", map.close(a)?.count())?;

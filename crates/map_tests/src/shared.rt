@@ -5,7 +5,7 @@ ghost use Rattle.moc_shared.specs.Clients.{IsClientOf, IsHoldingOf};
 use moc_parts::{Batch, Command, Operand, Part, Replies, Reply};
 use moc_ranges::Coverage;
 use moc_shared::{
-    Busy, Client, CloseError, Holding, NewError, SharedMap, Snapshot, SnapshotError, TryError,
+    Busy, Client, CloseError, Holding, LookError, NewError, SharedMap, Snapshot, TryError,
 };
 use std::alloc::Global;
 use std::fmt::Display;
@@ -58,7 +58,7 @@ fn two(rt: &impl Abort, alloc: Global, start: Coverage) -> (SharedMap, Client, C
 
 /// How many pixels changed.
 fn changed(done: Result<Replies, TryError>) -> Option<u64> {
-    match done.ok()?.as_slice().first() {
+    match done.ok()?.first() {
         Some(Reply::Changed(pixels)) => Some(*pixels),
         _ => None,
     }
@@ -66,7 +66,7 @@ fn changed(done: Result<Replies, TryError>) -> Option<u64> {
 
 /// How many pixels were counted.
 fn total(done: Result<Replies, TryError>) -> Option<u64> {
-    match done.ok()?.as_slice().first() {
+    match done.ok()?.first() {
         Some(Reply::Total(pixels)) => Some(*pixels),
         _ => None,
     }
@@ -123,9 +123,9 @@ fn two_clients_meet_and_one_takes_in_the_other(rt: HostRuntime) {
     let (map, mut a, mut b) = two(&rt, alloc, Coverage::empty(alloc));
     let claim = one(&rt, alloc, Command::Claim(base(&rt, alloc, 4, 5)));
     let first = map.try_apply(&mut a, &claim).expect(&rt, "an answer");
-    assert!(rt; matches!(first.as_slice().first(), Some(Reply::Claimed)));
+    assert!(rt; matches!(first.first(), Some(Reply::Claimed)));
     let second = map.try_apply(&mut b, &claim).expect(&rt, "an answer");
-    assert!(rt; matches!(second.as_slice().first(), Some(Reply::Taken(BASE))));
+    assert!(rt; matches!(second.first(), Some(Reply::Taken(BASE))));
     map.meet(&mut a, &mut b);
     let nothing = one(&rt, alloc, Command::Add(base(&rt, alloc, 0, 0)));
     assert_eq!(rt; changed(map.try_apply(&mut b, &nothing)), Some(0));
@@ -158,39 +158,20 @@ fn a_part_that_stays_held_is_midway(rt: HostRuntime) {
     assert_eq!(rt; midway(map, a, b, add), Some(3));
 }
 
-/// What a query saw, with its client; nothing of an update, whose holding is let go.
-fn seen(map: &SharedMap, holding: Holding) -> (Client, Option<Snapshot>)
-    requires { IsHoldingOf map.now holding }
-    ensures { IsClientOf map.now result.0 }
-{
-    match map.snapshot(holding) {
-        Ok((client, snapshot)) => (client, Some(snapshot)),
-        Err(SnapshotError::NotQuery(holding)) => (map.let_go(holding), None),
-        Err(SnapshotError::Memory(client)) => (client, None),
-    }
-}
-
-/// A snapshot of a batch on parts that are free.
-fn look(map: &SharedMap, client: Client, batch: Batch) -> (Client, Option<Snapshot>)
-    requires { IsClientOf map.now client }
-    ensures { IsClientOf map.now result.0 }
-{
-    match map.hold(client, batch) {
-        Ok(holding) => seen(map, holding),
-        Err((client, _, _)) => (client, None),
-    }
+/// Why a look is refused.
+fn unseen(looked: Result<Snapshot, LookError>) -> Option<LookError> {
+    looked.err()
 }
 
 #[test]
 fn a_snapshot_answers_what_was_there(rt: HostRuntime) {
     let alloc = rt.alloc();
-    let (map, a, mut b) = two(&rt, alloc, Coverage::empty(alloc));
+    let (map, mut a, mut b) = two(&rt, alloc, Coverage::empty(alloc));
     let add = one(&rt, alloc, Command::Add(base(&rt, alloc, 3, 4)));
     assert_eq!(rt; changed(map.try_apply(&mut b, &add)), Some(BASE));
     let both = set(&rt, alloc, &[(3 * BASE, 4 * BASE), (5 * BASE, 6 * BASE)]);
     let read = one(&rt, alloc, Command::Read(Operand::from(both)));
-    let (mut a, snapshot) = look(&map, a, read);
-    let snapshot = snapshot.expect(&rt, "a snapshot");
+    let snapshot = map.look(&mut a, &read).expect(&rt, "a snapshot");
     let remove = one(&rt, alloc, Command::Remove(base(&rt, alloc, 3, 4)));
     assert_eq!(rt; changed(map.try_apply(&mut b, &remove)), Some(BASE));
     is_base_pixel_3(&rt, alloc, &snapshot);
@@ -198,15 +179,14 @@ fn a_snapshot_answers_what_was_there(rt: HostRuntime) {
     let count = one(&rt, alloc, Command::Count(base(&rt, alloc, 3, 4)));
     assert_eq!(rt; total(map.try_apply(&mut a, &count)), Some(0));
     let five = one(&rt, alloc, Command::Add(base(&rt, alloc, 5, 6)));
-    let (a, none) = look(&map, a, five);
-    assert!(rt; none.is_none());
+    assert_eq!(rt; unseen(map.look(&mut a, &five)), Some(LookError::NotQuery));
     assert!(rt; map.close(a).expect(&rt, "the set").is_empty());
 }
 
 /// Checks that a snapshot answers with base pixel 3.
 fn is_base_pixel_3(rt: &impl Abort, alloc: Global, snapshot: &Snapshot) {
     let seen = snapshot.answer(alloc).expect(rt, "an answer");
-    let Some(Reply::Cover(cover)) = seen.as_slice().first() else {
+    let Some(Reply::Cover(cover)) = seen.first() else {
         panic!(rt; "a cover")
     };
     assert!(rt; cover.same(&set(rt, alloc, &[(3 * BASE, 4 * BASE)])));
@@ -340,7 +320,7 @@ fn count_often<R: Wait>(rt: &R, map: &SharedMap, client: Client, count: &Batch) 
     for _ in 0u64..1000 {
         match map.apply(rt, &mut client, count) {
             Ok(replies) => {
-                if !matches!(replies.as_slice().first(), Some(Reply::Total(0 | BASE))) {
+                if !matches!(replies.first(), Some(Reply::Total(0 | BASE))) {
                     return (client, false);
                 }
             }

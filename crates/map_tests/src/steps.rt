@@ -72,7 +72,7 @@ fn refused(world: &mut World, step: Step) -> Option<StepError> {
 
 /// The pixels that the first reply says were changed or counted.
 fn pixels(replies: Option<&Replies>) -> Option<u64> {
-    match replies?.as_slice().first() {
+    match replies?.first() {
         Some(Reply::Changed(pixels)) => Some(*pixels),
         Some(Reply::Total(pixels)) => Some(*pixels),
         _ => None,

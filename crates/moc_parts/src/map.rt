@@ -3,14 +3,16 @@ ghost use Rattle.std.specs.Prelude.{◌≡◌, IfOk, OnOk, OnErr, length};
 ghost use Rattle.moc_ranges.specs.Operations.{part_of, IsWithin};
 ghost use Rattle.moc_ranges.specs.Pixels.{pixels};
 ghost use Rattle.moc_parts.specs.Batches.{replies_on, set_after_all};
+ghost use Rattle.moc_parts.specs.Commands.{reply_on, set_after};
 ghost use Rattle.moc_parts.specs.Drafts.{current_lists};
 ghost use Rattle.moc_parts.specs.Prepared.{found_sets};
 
 use crate::batch::Batch;
+use crate::command::Command;
 use crate::draft::Draft;
 use crate::lists::Lists;
 use crate::part::Part;
-use crate::reply::Replies;
+use crate::reply::{Replies, Reply};
 use crate::whole::{cut, unite};
 use moc_ranges::{Coverage, Memory};
 use std::alloc::Global;
@@ -80,6 +82,25 @@ impl Map {
         let made = draft.into_made();
         put_all(&mut self.parts, made);
         Ok(replies)
+    }
+
+    /// Does one command, and replies to it: as `apply` does the batch of it, without a batch.
+    ///
+    /// Refused where memory runs out; the map then is as it was.
+    pub fn answer(&mut self, alloc: Global, command: &Command) -> Result<Reply, Memory>
+        ensures set { OnOk result (self.new ≡ set_after self.old command.now) }
+        ensures reply { IfOk result (λ r. r ≡ reply_on self.old command.now) }
+        ensures unchanged { OnErr result (self.new ≡ self.old) }
+    {
+        // The operand lies in the sky, and an order or a cell is one.
+        command.lies_in_sky();
+        let lists = lists(&self.parts);
+        let nothing = Coverage::empty(alloc);
+        let mut draft = Draft::from_found(alloc, &lists, &nothing);
+        let reply = draft.answer(alloc, command)?;
+        let made = draft.into_made();
+        put_all(&mut self.parts, made);
+        Ok(reply)
     }
 }
 

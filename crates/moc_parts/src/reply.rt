@@ -1,5 +1,6 @@
 //! What a map replies.
-ghost use Rattle.std.specs.Prelude.{◌≡◌, ◌++◌, ◌∷◌, [], IfOk, OnOk};
+ghost use Rattle.std.specs.Prelude.{◌≡◌, ◌++◌, ◌∷◌, [], IfOk, OnOk, slice_get};
+ghost use Rattle.std.specs.Option.{option_copied};
 
 use moc_ranges::{Coverage, Memory};
 use std::alloc::Global;
@@ -80,6 +81,13 @@ impl Replies {
         ensures { result.now ≡ self.now }
     {
         &self.replies
+    }
+
+    /// The reply to the first command, which each batch has. Takes no memory.
+    pub fn first(&self) -> Option<&Reply>
+        ensures { option_copied result ≡ slice_get self.now 0 }
+    {
+        self.replies.first()
     }
 
     /// A copy. Linear in the replies and their ranges; refused where memory runs out.

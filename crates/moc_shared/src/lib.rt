@@ -22,7 +22,7 @@ mod steps;
 mod waiting;
 
 pub use client::{Client, Holding};
-pub use errors::{Busy, CloseError, NewError, SnapshotError, TryError};
+pub use errors::{Busy, CloseError, LookError, NewError, SnapshotError, TryError};
 pub use laws::abandoned_parts_stay_held;
 pub use map::SharedMap;
 pub use record::{Calls, Entry, Record};

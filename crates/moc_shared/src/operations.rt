@@ -1,14 +1,14 @@
 //! Batches on a map, at once or while all their parts are held.
-ghost use Rattle.std.specs.Prelude.{◌≡◌, false, IfOk, IfErr, OnErr, MatchResult};
+ghost use Rattle.std.specs.Prelude.{◌≡◌, false, IfOk, IfErr, OnOk, OnErr, MatchResult};
 ghost use Rattle.std.specs.List.{list_any};
 ghost use Rattle.moc_parts.specs.Commands.{is_update};
 ghost use Rattle.moc_shared.specs.Clients.{number_of, record_of, holder_of, batch_of, call_of};
 ghost use Rattle.moc_shared.specs.Clients.{IsClientOf, IsHoldingOf, Ends, Refuses, Undone, FailsHolding};
-ghost use Rattle.moc_shared.specs.Clients.{EndsWaiting, FailsWaiting, AfterError, AfterSnapshot};
+ghost use Rattle.moc_shared.specs.Clients.{EndsWaiting, FailsWaiting, AfterError, AfterLook, AfterSnapshot};
 
 use crate::calls::{go_through, observe};
 use crate::client::{Client, Holding};
-use crate::errors::{Busy, SnapshotError, TryError};
+use crate::errors::{Busy, LookError, SnapshotError, TryError};
 use crate::map::SharedMap;
 use crate::rounds::{give_all, take_all};
 use crate::slots::no_slots;
@@ -78,6 +78,42 @@ impl SharedMap {
         match go_through(table, self.alloc, &mut client.seat, batch, &mut found) {
             Ok(replies) => Ok(replies),
             Err(memory) => Err(memory),
+        }
+    }
+
+    /// What a query sees: as `try_apply`, but its replies are made when they are asked for.
+    ///
+    /// Waits for nobody. A batch that may change the map is refused, and nothing is then done. Refused also where a part is
+    /// held by another client, and where memory runs out; the client's calls are then as they were. The batch is copied.
+    pub fn look(&self, client: &mut Client, batch: &Batch) -> Result<Snapshot, LookError>
+        requires map { IsClientOf self.now client.old }
+        ensures map { IsClientOf self.now client.new }
+        ensures number { number_of client.new ≡ number_of client.old }
+        ensures query { OnOk result (list_any is_update batch.now ≡ false) }
+        ensures ok { IfOk result
+            (λ seen. Ends self.now (call_of client.old batch.now seen) (record_of client.old) (record_of client.new)) }
+        ensures err { IfErr result
+            (λ e. AfterLook self.now batch.now e (record_of client.old) (record_of client.new)) }
+    {
+        if batch.is_update() {
+            return Err(LookError::NotQuery);
+        }
+        let Ok(batch) = batch.try_copy(self.alloc) else {
+            return Err(LookError::Memory);
+        };
+        let mark = u64::from(client.number) + 1;
+        let table = &self.table.shared;
+        let mut found = match take_all(table, self.alloc, &mut client.seat, mark, &batch) {
+            Ok(found) => found,
+            Err(busy) => return Err(LookError::Busy(busy)),
+        };
+        let mut copies = no_slots();
+        match observe(table, &mut client.seat, &batch, &mut found, &mut copies) {
+            Ok(()) => Ok(Snapshot {
+                batch,
+                found: copies,
+            }),
+            Err(_) => Err(LookError::Memory),
         }
     }
 

@@ -151,12 +151,12 @@ fn seen(map: &SharedMap, holding: Holding) -> (Client, Option<Snapshot>)
 
 /// Whether the one reply is this set.
 fn is_cover(replies: &Replies, set: &Coverage) -> bool {
-    matches!(replies.as_slice().first(), Some(Reply::Cover(cover)) if cover.same(set))
+    matches!(replies.first(), Some(Reply::Cover(cover)) if cover.same(set))
 }
 
 /// How many pixels the one reply says that changed, or were counted.
 fn pixels(replies: &Replies) -> Option<u64> {
-    match replies.as_slice().first()? {
+    match replies.first()? {
         Reply::Changed(pixels) | Reply::Total(pixels) => Some(*pixels),
         _ => None,
     }
