@@ -1,4 +1,5 @@
-//! Two threads on one map: each call of `moc_shared`, with what it promises. No proof file stands beside it.
+//! Two threads on one map: each call of `moc_shared`, with what it promises. One proof file stands beside it, with one
+//! line: what a loop of calls keeps.
 //!
 //! What it prints is the same whatever the schedule: the threads change parts of their own, and different pixels of a
 //! common part.
@@ -67,6 +68,25 @@ fn work<R: Wait>(rt: &R, alloc: Global, map: &SharedMap, client: &mut Client) ->
         (Some(first), Some(second)) => Ok(first.saturating_add(second)),
         _ => bail!("no count"),
     }
+}
+
+/// The batch that counts a cell.
+fn count(alloc: Global, base_pixel: u8) -> Result<Batch> {
+    Ok(Batch::one(alloc, Command::Count(cell(alloc, base_pixel)?))?)
+}
+
+/// A client does one batch after another, and adds up what they tell. `proofs/do_all` has the line that keeps it a client
+/// of the map.
+fn do_all(map: &SharedMap, client: &mut Client, batches: &[Batch]) -> Result<u64>
+    requires { IsClientOf map.now client.old }
+    ensures { IsClientOf map.now client.new }
+{
+    let mut total = 0u64;
+    for batch in batches {
+        let replies = map.try_apply(client, batch)?;
+        total = total.saturating_add(pixels(&replies).unwrap_or(0));
+    }
+    Ok(total)
 }
 
 /// A thread: its client comes back with what it counted, if all went well.
@@ -244,6 +264,15 @@ fn close(rt: &HostRuntime, map: SharedMap, a: Client, b: Client) -> Result<()>
     let remove = Batch::one(rt.alloc(), Command::Remove(cell(rt.alloc(), 3)?))?;
     let (mut a, none) = hold_and_see(&map, a, remove);
     println!(rt; "an update gives a snapshot: {}", none.is_some())?;
+    let counts = [
+        count(rt.alloc(), 0)?,
+        count(rt.alloc(), 1)?,
+        count(rt.alloc(), 7)?,
+    ];
+    println!(rt;
+        "client 0 counted {} in three parts",
+        do_all(&map, &mut a, &counts)?
+    )?;
     map.take_in(&mut a, b);
     println!(rt; "{} pixels at the end", map.close(a)?.count())?;
     Ok(())
