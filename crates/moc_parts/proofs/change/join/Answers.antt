@@ -1,6 +1,5 @@
-use Rattle.std.proofs.Common.{◌≡◌, ◌-◌, sym, ap, ◌∙◌, arith}
+use Rattle.std.proofs.Common.{◌-◌, ◌∙◌, arith}
 use Rattle.std.specs.FinSet as set
-use Rattle.moc_ranges.specs.Operations.{symmetric}
 use Rattle.moc_parts.proofs.Sums.{shared_less}
 use Rattle.moc_parts.proofs.Turned.{lacking_pixels, none_altered}
 use Rattle.moc_parts.proofs.change.join.Goals as goal

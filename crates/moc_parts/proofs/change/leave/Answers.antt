@@ -1,4 +1,4 @@
-use Rattle.std.proofs.Common.{sym, ap, ◌∙◌}
+use Rattle.std.proofs.Common.{◌∙◌}
 use Rattle.std.specs.FinSet as set
 use Rattle.moc_parts.proofs.Turned.{common_pixels, none_altered}
 use Rattle.moc_parts.proofs.change.leave.Goals as goal

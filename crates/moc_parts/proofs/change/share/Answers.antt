@@ -1,4 +1,4 @@
-use Rattle.std.proofs.Common.{◌≡◌, ◌-◌, sym, ap, ◌∙◌, arith}
+use Rattle.std.proofs.Common.{◌-◌, ◌∙◌, arith}
 use Rattle.std.specs.FinSet as set
 use Rattle.moc_parts.proofs.Sums.{kept_less}
 use Rattle.moc_parts.proofs.Turned.{dropped_pixels, none_altered}

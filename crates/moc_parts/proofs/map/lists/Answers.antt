@@ -1,4 +1,4 @@
-use Rattle.std.proofs.Common.{◌≡◌, ◌<◌, length, Some, sym, subst, ◌∙◌, arith}
+use Rattle.std.proofs.Common.{◌<◌, length, sym, subst, ◌∙◌}
 use Rattle.std.proofs.lemmas.List.{get_or_default}
 use Rattle.std.specs.FinSet as set
 use Rattle.std.specs.Option.{option_copied}
