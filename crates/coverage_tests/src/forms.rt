@@ -199,27 +199,23 @@ fn joined(alloc: Global, operation: &str, first: &str, second: &str) -> Result<S
 #[test]
 fn changes(rt: HostRuntime) {
     let alloc = rt.alloc();
-    let (set, deepest) = Form::Ascii
+    let (set, _) = Form::Ascii
         .read(alloc, b"0/0-10 1/44-46 3/".as_slice())
         .expect(&rt, "a text");
-    for (change, order, text) in [
-        (Change::Degrade(Order::of(0)), Some(0), "0/0-11\n"),
-        (
-            Change::Degrade(Order::of(4)),
-            Some(3),
-            "0/0-10 1/44-46 3/\n",
-        ),
-        (Change::Complement, Some(3), "1/47 3/\n"),
-    ] {
-        let stated = change.stated(deepest);
-        let after = change.of(alloc, &set).expect(&rt, "memory");
-        let written = Form::Ascii
-            .write(alloc, &after, stated)
-            .expect(&rt, "memory");
-        assert_eq!(&rt; written.as_str(), text);
-        assert_eq!(&rt; stated, order.and_then(Order::new));
-        assert!(&rt; change.stated(None).is_none());
-    }
+    let degraded = Change::Degrade(Order::of(0))
+        .of(alloc, &set)
+        .expect(&rt, "memory");
+    let stated = Change::Degrade(Order::of(0)).stated(Order::new(3));
+    let text = Form::Ascii
+        .write(alloc, &degraded, stated)
+        .expect(&rt, "memory");
+    assert_eq!(&rt; text.as_str(), "0/0-11\n");
+    let lacked = Change::Complement.of(alloc, &set).expect(&rt, "memory");
+    let stated = Change::Complement.stated(Order::new(3));
+    let text = Form::Ascii
+        .write(alloc, &lacked, stated)
+        .expect(&rt, "memory");
+    assert_eq!(&rt; text.as_str(), "1/47 3/\n");
 }
 
 #[test]
