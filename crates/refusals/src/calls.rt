@@ -15,6 +15,7 @@ use moc_shared::{
 };
 use std::alloc::Global;
 use std::fmt;
+use std::io::Print;
 use std::sync::Wait;
 
 /// How many pixels a base pixel has: 4^29.
@@ -304,8 +305,7 @@ fn close(alloc: Global) -> Result<Outcome> {
 }
 
 /// Tells how each call comes out.
-pub fn tell(rt: &HostRuntime) -> Result<()> {
-    let alloc = rt.alloc();
+pub fn tell<R: Print + Wait>(rt: &R, alloc: Global) -> Result<()> {
     println!(rt; "new: {}", make(alloc)?)?;
     for call in [Call::TryApply, Call::Apply, Call::Finish] {
         println!(rt; "{call} of an update: {}", invert(rt, alloc, call)?)?;

@@ -2,19 +2,24 @@
 
 use anyhow::{Result, bail};
 use moc_script::{Lanes, OpenGate, OverReader, OverWriter, crew};
+use std::alloc::Global;
+use std::io::Print;
+use std::marker::Sync;
+use std::sync::Wait;
+use std::thread::Threads;
 
 /// A blank line, and four that are answered, two by each lane.
 const SCRIPT: &[u8] = b"add 0/0\nadd 0/1\n\ncount 0/0\ncount 0/1\n";
 
 /// Tells how the crew ends.
-pub fn tell(rt: &HostRuntime) -> Result<()> {
+pub fn tell<R: Print + Threads + Wait + Sync>(rt: &R, alloc: Global) -> Result<()> {
     let Some(lanes) = Lanes::new(2) else {
         bail!("no lanes");
     };
     let mut room = [0u8; 256];
     let mut source = OverReader::new(SCRIPT);
     let mut sink = OverWriter::new(room.as_mut_slice());
-    let result = crew(rt, rt.alloc(), &mut source, &mut sink, lanes, &OpenGate);
+    let result = crew(rt, alloc, &mut source, &mut sink, lanes, &OpenGate);
     drop(sink);
     let lines = room.iter().filter(|byte| **byte == b'\n').count();
     match result {

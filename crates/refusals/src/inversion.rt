@@ -4,6 +4,8 @@
 use anyhow::Result;
 use moc_parts::{Batch, Command, Map, Part};
 use moc_ranges::Coverage;
+use std::alloc::Global;
+use std::io::Print;
 
 /// How many pixels a base pixel has: 4^29.
 const BASE_PIXEL_SIZE: u64 = 288230376151711744;
@@ -15,8 +17,7 @@ fn has_counts(map: &Map, first: u64, others: u64) -> bool {
 }
 
 /// Tells how the inversion comes out.
-pub fn tell(rt: &HostRuntime) -> Result<()> {
-    let alloc = rt.alloc();
+pub fn tell(rt: &impl Print, alloc: Global) -> Result<()> {
     let start = Coverage::from_ranges(alloc, &[(0, BASE_PIXEL_SIZE)])?;
     let mut map = Map::new(alloc, start)?;
     let batch = Batch::one(alloc, Command::Invert)?;

@@ -8,30 +8,35 @@ mod inversion;
 mod script;
 
 use anyhow::{Result, bail};
+use std::alloc::Global;
+use std::io::Print;
+use std::marker::Sync;
+use std::sync::Wait;
+use std::thread::Threads;
 
 fn main(rt: HostRuntime) -> Result<()> {
     let words: Vec<String> = std::env::args(&rt)?.collect(rt.alloc())?;
     match words.get(1) {
-        Some(work) => tell(&rt, work.as_str()),
-        None => tell_all(&rt),
+        Some(work) => tell(&rt, rt.alloc(), work.as_str()),
+        None => tell_all(&rt, rt.alloc()),
     }
 }
 
 /// Tells how a work comes out.
-fn tell(rt: &HostRuntime, work: &str) -> Result<()> {
+fn tell<R: Print + Threads + Wait + Sync>(rt: &R, alloc: Global, work: &str) -> Result<()> {
     match work {
-        "calls" => calls::tell(rt),
-        "crew" => crew::tell(rt),
-        "inversion" => inversion::tell(rt),
-        "script" => script::tell(rt),
+        "calls" => calls::tell(rt, alloc),
+        "crew" => crew::tell(rt, alloc),
+        "inversion" => inversion::tell(rt, alloc),
+        "script" => script::tell(rt, alloc),
         _ => bail!("no work {work}"),
     }
 }
 
 /// Tells how each work comes out.
-fn tell_all(rt: &HostRuntime) -> Result<()> {
+fn tell_all<R: Print + Threads + Wait + Sync>(rt: &R, alloc: Global) -> Result<()> {
     for work in ["calls", "crew", "inversion", "script"] {
-        tell(rt, work)?;
+        tell(rt, alloc, work)?;
     }
     Ok(())
 }

@@ -2,16 +2,18 @@
 
 use anyhow::Result;
 use moc_script::{OverReader, OverWriter, run};
+use std::alloc::Global;
+use std::io::Print;
 
 /// Two blank lines, and four that are answered.
 const SCRIPT: &[u8] = b" \t\n\nadd 0/0\ncount 0/0-1\nadd 0/1 ; read 0/0-2\nread\n";
 
 /// Tells how the run ends.
-pub fn tell(rt: &HostRuntime) -> Result<()> {
+pub fn tell(rt: &impl Print, alloc: Global) -> Result<()> {
     let mut room = [0u8; 256];
     let mut source = OverReader::new(SCRIPT);
     let mut sink = OverWriter::new(room.as_mut_slice());
-    let result = run(rt.alloc(), &mut source, &mut sink);
+    let result = run(alloc, &mut source, &mut sink);
     drop(sink);
     let answers = room.iter().filter(|byte| **byte == b'\n').count();
     match result {
