@@ -284,7 +284,7 @@ def main():
         print("\n".join(bad) or "no such edit")
         print(f"0 passed, {max(len(bad), 1)} failed")
         return 1
-    if subprocess.run([os.path.join(TOP, "tools", "build.py"), "--libraries"], stdout=sys.stderr).returncode:
+    if subprocess.run([os.path.join(TOP, "tools", "build.py"), "--libraries", *edits], stdout=sys.stderr).returncode:
         print("the crates are not proved as they stand")
         print(f"0 passed, {sum(map(len, edits.values()))} failed")
         return 1

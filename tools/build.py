@@ -1,12 +1,12 @@
 #!/usr/bin/env python3
 """Proves the program and all that it stands on, and builds it; what was proved before is proved again only where it changed.
 
-usage: tools/build.py [--libraries]
+usage: tools/build.py [--libraries [CRATE..]]
 
-With `--libraries` it stops before the program. A crate is proved as soon as the libraries below it are, in a room of its own
-(`crates.py`), beside others. The one with the longest chain of crates behind it goes before the others, which take what it leaves of the
-processors: with more jobs than processors, checks take up to twice the time of processors. Progress is told on standard error: how many functions of all crates are checked, and how much of the work is done, by the
-sizes of files.
+With `--libraries` it stops before the program; with crates named, at these and those that they stand on. A crate is proved as soon as the
+libraries below it are, in a room of its own (`crates.py`), beside others. The one with the longest chain of crates behind it goes before the
+others, which take what it leaves of the processors: with more jobs than processors, checks take up to twice the time of processors. Progress
+is told on standard error: how many functions of all crates are checked, and how much of the work is done, by the sizes of files.
 
 MOC_JOBS in the environment is how many jobs all checks have together at most; without it, as many as there are processors, as far as
 memory goes."""
@@ -130,17 +130,19 @@ def rt(folder, words, crate, progress, niceness=0):
 class Build:
     """The libraries that are still to be proved, and those that are done."""
 
-    def __init__(self, rooms):
+    def __init__(self, rooms, wanted):
         below = libraries_below(crates_of())
-        self.rooms, self.left = rooms, below[PROGRAM][:]
-        self.below = {it: below[it] for it in [*self.left, PROGRAM]}
+        needed = {*wanted, *(it for crate in wanted for it in below[crate])}
+        libraries = [it for it in below[PROGRAM] if it in needed]
+        self.rooms, self.left = rooms, libraries[:]
+        self.below = {it: below[it] for it in [*libraries, PROGRAM]}
         sizes = {it: size_of(it) for it in self.below}
         self.behind = {}
         for it in reversed(self.below):
             self.behind[it] = sizes[it] + max((self.behind[one] for one in self.behind if it in self.below[one]), default=0)
         self.progress = Progress(sizes)
         self.running, self.done, self.failed = {}, set(), False
-        for it in below[PROGRAM]:
+        for it in libraries:
             if self.done.issuperset(below[it]) and is_current(it, below[it]):
                 self.left.remove(it)
                 self.done.add(it)
@@ -197,7 +199,7 @@ class Build:
 
 def main():
     words = argparse.ArgumentParser(description="Proves the program and builds it.")
-    words.add_argument("--libraries", action="store_true")
+    words.add_argument("--libraries", nargs="*", metavar="CRATE")
     given = words.parse_args()
     out = os.path.join(folder_of(PROGRAM), "out")
     rooms = os.path.join(out, "rooms")
@@ -205,11 +207,11 @@ def main():
     with open(os.path.join(out, "lock"), "w") as lock:
         fcntl.flock(lock, fcntl.LOCK_EX)
         shutil.rmtree(rooms, ignore_errors=True)
-        build = Build(rooms)
+        build = Build(rooms, given.libraries or [PROGRAM])
         with build.progress.told():
-            well = build.libraries() and (given.libraries or build.program())
+            well = build.libraries() and (given.libraries is not None or build.program())
         shutil.rmtree(rooms, ignore_errors=True)
-    if given.libraries or not well:
+    if given.libraries is not None or not well:
         return 0 if well else 1
     program = os.path.join(out, PROGRAM)
     # (newer than all sources, also where nothing had to be built)

@@ -38,10 +38,11 @@ joined operation (Some before) said = (combined operation before.0 said.0, deepe
 abbrev pub is_semicolon : ℕ → Bool
 is_semicolon b = b == 59
 
--- nothing but spaces, tabs, CR and LF
+-- a space, a tab, CR or LF
 abbrev pub is_blank_byte : ℕ → Bool
 is_blank_byte b = b == 32 || b == 9 || b == 13 || b == 10
 
+-- nothing but these
 abbrev pub are_blanks : List ℕ → Bool
 are_blanks text = list_all is_blank_byte text
 
