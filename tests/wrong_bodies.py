@@ -2,7 +2,8 @@
 """Tries the wrong bodies, crates/*/wrong-bodies/*.edit: the prover must refuse each.
 
 An edit is a file in the form of the toolchain's must-fail edits: a line `file: src/NAME.rt`, then pairs of lines `old: TEXT` and
-`new: TEXT`, each old text standing once in that file.
+`new: TEXT`, each old text standing once in that file; or, where a line `after: TEXT` is before them, the first one behind that text, which
+stands once.
 
 `rt must-fail` checks a crate once for each edit. Here a check takes one edit of each function, of as many functions as there are:
 a function is proved from its body and the contracts of those it calls, so wrong bodies of several functions do not meet. An edit
@@ -113,6 +114,14 @@ def function_at(file, text, begin, end):
     return found
 
 
+def place_of(text, after, old):
+    """Where the old text stands that an edit means, and None where it does not say."""
+    if text.count(after or old) != 1:
+        return None
+    at = text.find(old, text.index(after) if after else 0)
+    return None if at < 0 else at
+
+
 class Edit:
     """A wrong body: the texts that it changes, and the function that it lies in."""
 
@@ -120,7 +129,7 @@ class Edit:
         self.label = f"{crate}/{name}"
         self.pairs, self.function, self.why = [], None, None
         folder = folder_of(crate)
-        functions, texts, file, old = [], {}, None, None
+        functions, texts, file, after, old = [], {}, None, None, None
         with open(os.path.join(folder, "wrong-bodies", name)) as lines:
             for line in lines.read().split("\n"):
                 if line.startswith("file: "):
@@ -128,27 +137,31 @@ class Edit:
                     if file not in texts:
                         with open(os.path.join(folder, file)) as source:
                             texts[file] = source.read()
+                elif line.startswith("after: "):
+                    after = line[7:]
                 elif line.startswith("old: "):
                     old = line[5:]
                 elif line.startswith("new:"):
                     new = line[5:]
-                    if texts[file].count(old) != 1:
+                    begin = place_of(texts[file], after, old)
+                    if begin is None:
                         self.why = f"its old text stands in {file} {texts[file].count(old)} times, and not once"
                         return
-                    begin = texts[file].index(old)
                     functions.append(function_at(file, texts[file], begin, begin + len(old)))
-                    texts[file] = texts[file].replace(old, new)
-                    self.pairs.append((file, old, new))
+                    texts[file] = texts[file][:begin] + new + texts[file][begin + len(old):]
+                    self.pairs.append((file, after, old, new))
+                    after = None
         if len({it and it.key for it in functions}) == 1:
             self.function = functions[0]
 
     def apply(self, texts):
         """Makes the edit in these texts, or returns False where another stands in its way."""
         made = dict(texts)
-        for file, old, new in self.pairs:
-            if made[file].count(old) != 1:
+        for file, after, old, new in self.pairs:
+            begin = place_of(made[file], after, old)
+            if begin is None:
                 return False
-            made[file] = made[file].replace(old, new)
+            made[file] = made[file][:begin] + new + made[file][begin + len(old):]
         texts.update(made)
         return True
 
@@ -194,7 +207,7 @@ class Round:
     def read(self, edit):
         """The texts that the edit changes, as the edits of the round before it leave them."""
         texts = {}
-        for file, _, _ in edit.pairs:
+        for file, *_ in edit.pairs:
             if file not in self.texts:
                 with open(os.path.join(folder_of(self.crate), file)) as source:
                     self.texts[file] = source.read()
