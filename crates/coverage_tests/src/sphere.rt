@@ -1,5 +1,6 @@
 //! Numbers of cells: rows worked by hand, and every cell of the small orders.
-use moc_sphere::{Cell, CellError, Order, OrderError};
+use moc_sphere::{Cell, CellError, NameError, Order, OrderError};
+use std::str::FromStr;
 use std::test::Fail;
 
 fn at(order: u8, index: u64) -> Result<Cell, Fail> {
@@ -116,6 +117,38 @@ fn orders_and_their_nsides(rt: HostRuntime) {
 }
 
 #[test]
+fn orders_and_cells_by_name(rt: HostRuntime) {
+    for (name, order) in [("0", 0u8), ("7", 7), ("29", 29), ("007", 7), ("+7", 7)] {
+        assert!(rt; Order::from_str(name) == Ok(Order::of(order)));
+    }
+    for name in ["", "30", "256", "-1", "1 ", "1/2"] {
+        assert!(rt; Order::from_str(name) == Err(NameError::NotOrder));
+    }
+    for (name, order, index) in [
+        ("0/0", 0u8, 0u64),
+        ("3/10", 3, 10),
+        ("1/47", 1, 47),
+        ("29/3458764513820540927", 29, 3458764513820540927),
+    ] {
+        let cell = Cell::new(Order::of(order), index).expect(&rt, "cell");
+        assert!(rt; Cell::from_str(name) == Ok(cell));
+    }
+    for name in [
+        "",
+        "3",
+        "/",
+        "3/",
+        "/10",
+        "3/10/",
+        "30/0",
+        "1/48",
+        "0/18446744073709551616",
+    ] {
+        assert!(rt; Cell::from_str(name) == Err(NameError::NotCell));
+    }
+}
+
+#[test]
 fn base_pixels_and_children(rt: HostRuntime) {
     for (order, index, base_pixel) in [
         (0u8, 11u64, 11u8),
@@ -162,6 +195,13 @@ fn cells_are_ordered_and_shown(rt: HostRuntime) -> Result<(), Fail> {
     assert_eq!(rt; large.as_str(), "the deepest order is 29");
     let no_side = format!(in rt.alloc(); "{}", OrderError::NotNside)?;
     assert_eq!(rt; no_side.as_str(), "no order has an nside of that number");
+    let no_order = format!(in rt.alloc(); "{}", NameError::NotOrder)?;
+    assert_eq!(rt; no_order.as_str(), "an order is a number from 0 to 29");
+    let no_cell = format!(in rt.alloc(); "{}", NameError::NotCell)?;
+    assert_eq!(rt;
+        no_cell.as_str(),
+        "a cell is an order, a slash and an index of the order, as 3/10"
+    );
     Ok(())
 }
 

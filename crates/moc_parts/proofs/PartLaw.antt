@@ -7,7 +7,7 @@ use Rattle.moc_ranges.specs.Pixels.{pixels, pixel_count, base_pixel_size}
 use Rattle.moc_ranges.specs.Operations.{complement, part_of, contains-part_of, contains-complement, contains-pixels, meets, meets-some, IsWithin}
 use Rattle.moc_parts.specs.declared.change.Change.{Change}
 use Rattle.moc_parts.specs.declared.change.Change.TheVariants.{Join, Leave, Share, Invert, Degrade}
-use Rattle.moc_parts.specs.Changes.{changed, changed_part, IsChange}
+use Rattle.moc_parts.specs.Private.Changes.{changed, changed_part, IsChange}
 use Rattle.moc_parts.proofs.Members.{has-union, has-intersection, has-difference, or_true, or_left, and_true, both, clash, not_true_false, same_test, is_some, in_part, of_part}
 use Rattle.moc_parts.proofs.Twelve.{or_nothing}
 use Rattle.moc_parts.proofs.Coarse.{part-degrade, of_degrade}

@@ -9,7 +9,7 @@ use Rattle.moc_ranges.specs.Operations.{complement, part_of, symmetric, contains
 use Rattle.moc_ranges.specs.Cells.{degrade}
 use Rattle.moc_ranges.specs.Laws.Sizes.{len_parts}
 use Rattle.moc_parts.specs.declared.change.Altered.{Altered}
-use Rattle.moc_parts.specs.Changes.{Alters}
+use Rattle.moc_parts.specs.Private.Changes.{Alters}
 use Rattle.moc_parts.proofs.Members.{has-union, has-intersection, has-difference, has-empty, and_true, or_true}
 use Rattle.moc_parts.proofs.Counts.{in_degrade, degrade_added}
 use Rattle.moc_parts.proofs.Sums.{lacking, dropped}

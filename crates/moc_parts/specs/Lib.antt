@@ -2,10 +2,7 @@ pub mod Objects
 pub mod Commands
 pub mod Batches
 pub mod Parts
-pub mod Changes
-pub mod Drafts
-pub mod Resolved
-pub mod PartSets
 pub mod Prepared
 pub mod Laws
 pub mod Codes
+pub mod Private

@@ -3,7 +3,7 @@ ghost use Rattle.std.specs.Prelude.{◌≡◌, ◌<◌, IfOk, None};
 ghost use Rattle.std.specs.FinSet as set;
 ghost use Rattle.moc_ranges.specs.Cells.{degrade};
 ghost use Rattle.moc_ranges.specs.Operations.{complement, part_of};
-ghost use Rattle.moc_parts.specs.Changes.{changed_part, Alters, IsChange, LeavesOthers};
+ghost use Rattle.moc_parts.specs.Private.Changes.{changed_part, Alters, IsChange, LeavesOthers};
 
 use crate::footprint::parts_met;
 use crate::part::{Part, PartSet};

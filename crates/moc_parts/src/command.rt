@@ -2,7 +2,7 @@
 ghost use Rattle.std.specs.Prelude.{◌≡◌, ◌<◌, ℕ, IfOk, None};
 ghost use Rattle.std.specs.FinSet as set;
 ghost use Rattle.moc_parts.specs.Commands.{footprint, is_update, operand_set, IsCommand, IsOperand};
-ghost use Rattle.moc_parts.specs.Resolved.{resolved_set};
+ghost use Rattle.moc_parts.specs.Private.Resolved.{resolved_set};
 
 use crate::footprint::{parts_around, parts_met};
 use crate::part::PartSet;

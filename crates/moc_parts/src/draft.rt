@@ -3,9 +3,9 @@ ghost use Rattle.std.specs.Prelude.{◌≡◌, ◌<◌, ℕ, IfOk, OnOk, None, g
 ghost use Rattle.std.specs.FinSet as set;
 ghost use Rattle.moc_ranges.specs.Operations.{meets, part_of, symmetric, IsWithin};
 ghost use Rattle.moc_ranges.specs.Pixels.{pixels};
-ghost use Rattle.moc_parts.specs.Changes.{changed, IsChange};
+ghost use Rattle.moc_parts.specs.Private.Changes.{changed, IsChange};
 ghost use Rattle.moc_parts.specs.Commands.{parts_met};
-ghost use Rattle.moc_parts.specs.Drafts.{current_lists, sets_of, with_part};
+ghost use Rattle.moc_parts.specs.Private.Drafts.{current_lists, sets_of, with_part};
 ghost use Rattle.moc_parts.specs.Parts.{union_of, parts_below, AreParts};
 ghost use Rattle.moc_parts.specs.Prepared.{found_sets, is_given, kept};
 
@@ -28,7 +28,7 @@ pub(crate) struct Draft<'a> {
 
 impl<'a> Model for Draft<'a> {
     ghost use Rattle.std.specs.Prelude.{◌≡◌, length};
-    ghost use Rattle.moc_parts.specs.Drafts.{Drafted, drafted_code, current_lists, sets_of};
+    ghost use Rattle.moc_parts.specs.Private.Drafts.{Drafted, drafted_code, current_lists, sets_of};
     ghost use Rattle.moc_parts.specs.Parts.{union_of, AreParts};
 
     ghost Value = { Drafted };

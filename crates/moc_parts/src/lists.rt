@@ -1,7 +1,7 @@
 //! Lists of some of the twelve parts.
 ghost use Rattle.std.specs.Prelude.{◌≡◌, ◌<◌, None, Some, OnOk, OnErr, get_or, replicate, set as set_at};
 ghost use Rattle.std.specs.Option.{option_copied};
-ghost use Rattle.moc_parts.specs.Drafts.{place_from};
+ghost use Rattle.moc_parts.specs.Private.Drafts.{place_from};
 
 use moc_ranges::{Coverage, Memory};
 use std::alloc::Global;
@@ -18,7 +18,7 @@ impl Model for Lists {
     ghost use Rattle.std.specs.Coded.{coded_list, coded_option, coded_ℕ};
     ghost use Rattle.std.specs.FinSet as set;
     ghost use Rattle.moc_ranges.specs.Numbers.{NumberSet};
-    ghost use Rattle.moc_parts.specs.Drafts.{twelve_lists};
+    ghost use Rattle.moc_parts.specs.Private.Drafts.{twelve_lists};
 
     ghost Value = { List (Option NumberSet) };
 

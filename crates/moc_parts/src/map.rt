@@ -4,7 +4,7 @@ ghost use Rattle.moc_ranges.specs.Operations.{part_of, IsWithin};
 ghost use Rattle.moc_ranges.specs.Pixels.{pixels};
 ghost use Rattle.moc_parts.specs.Batches.{replies_on, set_after_all};
 ghost use Rattle.moc_parts.specs.Commands.{reply_on, set_after};
-ghost use Rattle.moc_parts.specs.Drafts.{current_lists};
+ghost use Rattle.moc_parts.specs.Private.Drafts.{current_lists};
 ghost use Rattle.moc_parts.specs.Prepared.{found_sets};
 
 use crate::batch::Batch;

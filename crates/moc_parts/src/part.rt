@@ -62,7 +62,7 @@ impl Model for PartSet {
     ghost use Rattle.std.specs.Ordering.{nat_cmp};
     ghost use Rattle.std.specs.FinSet as set;
     ghost use Rattle.std.specs.Coded.{coded_ℕ};
-    ghost use Rattle.moc_parts.specs.PartSets.{flagged, flags_of, flags_of-flagged};
+    ghost use Rattle.moc_parts.specs.Private.PartSets.{flagged, flags_of, flags_of-flagged};
 
     ghost Value = { set.FinSet nat_cmp };
 

@@ -1,6 +1,6 @@
 //! The set that a command works with.
 ghost use Rattle.std.specs.Prelude.{◌≡◌};
-ghost use Rattle.moc_parts.specs.Resolved.{resolved_set};
+ghost use Rattle.moc_parts.specs.Private.Resolved.{resolved_set};
 
 use moc_ranges::Coverage;
 

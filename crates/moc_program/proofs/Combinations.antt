@@ -11,7 +11,7 @@ use Rattle.moc_forms.specs.declared.combining.Operation.{Operation}
 use Rattle.moc_forms.specs.declared.form.Form.{Form}
 use Rattle.moc_program.specs.Combining.{SayNothing, SaysTogether, TellsFirstFault}
 use Rattle.moc_program.specs.Conversion.{BringsPiece, IsOfInput, TellsFault}
-use Rattle.moc_program.specs.Running.{Begins, Ends, Fails, FailsWithin, IsOpen, LacksSemicolons, Leads, SaysMore, RunsTo, TextsSay, semicolon, texts_behind}
+use Rattle.moc_program.specs.Private.Running.{Begins, Ends, Fails, FailsWithin, IsOpen, LacksSemicolons, Leads, SaysMore, RunsTo, TextsSay, semicolon, texts_behind}
 use Rattle.moc_program.specs.declared.combination.Combination.{Combination}
 use Rattle.moc_program.specs.declared.status.Complaint.{Complaint}
 

@@ -2,5 +2,5 @@ pub mod Combining
 pub mod Conversion
 pub mod Faults
 pub mod Outcomes
-pub mod Running
 pub mod Statuses
+pub mod Private

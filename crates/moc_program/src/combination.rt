@@ -3,8 +3,8 @@ ghost use Rattle.std.specs.Prelude.{◌≡◌, ◌≢◌, ◌↔◌, ◌⊎◌, 
 ghost use Rattle.std.specs.String.{string_bytes};
 ghost use Rattle.moc_program.specs.Combining.{AreNotCombined, CombinesAll, SayNothing, SaysTogether};
 ghost use Rattle.moc_program.specs.Conversion.{IsOfInput, IsReadFault, TellsFault};
-ghost use Rattle.moc_program.specs.Running.{Begins, Ends, Fails, FailsWithin, IsOpen, IsParted, LacksSemicolons, Leads};
-ghost use Rattle.moc_program.specs.Running.{SaysMore, semicolon};
+ghost use Rattle.moc_program.specs.Private.Running.{Begins, Ends, Fails, FailsWithin, IsOpen, IsParted, LacksSemicolons, Leads};
+ghost use Rattle.moc_program.specs.Private.Running.{SaysMore, semicolon};
 
 use crate::conversion::{INPUT_LIMIT, read_piece, room, said_or_told, text_of};
 use crate::status::{Complaint, Fault};

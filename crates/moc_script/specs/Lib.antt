@@ -1,13 +1,9 @@
 pub mod Words
 pub mod Faults
-pub mod Readings
 pub mod Language
-pub mod ReadErrors
 pub mod Replies
 pub use Rattle.moc_devices.specs.Devices
 pub mod Lines
-pub mod Held
-pub mod LineReading
 pub mod Answers
 pub mod Batches
 pub mod Runs
@@ -15,7 +11,6 @@ pub mod Scripts
 pub mod Steps
 pub mod Refusals
 pub mod Schedules
-pub mod Codes
 pub mod Numberings
 pub mod Merges
 pub mod Crews

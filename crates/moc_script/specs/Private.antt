@@ -1,4 +1,10 @@
--- Words of private contracts.
+-- Words that contracts of private functions, and views of types, alone cite.
+pub mod Readings
+pub mod ReadErrors
+pub mod Held
+pub mod LineReading
+pub mod Ended
+pub mod Codes
 pub mod Texts
 pub mod LaneWork
 pub mod LaneEnds

@@ -3,7 +3,7 @@ ghost use Rattle.std.specs.Prelude.{◌≡◌};
 ghost use Rattle.std.specs.List.{count_by};
 ghost use Rattle.moc_script.specs.Language.{command_of};
 ghost use Rattle.moc_script.specs.Batches.{is_semicolon, pieces_of, piece_says, batch_of, commands_of};
-ghost use Rattle.moc_script.specs.Readings.{Reads};
+ghost use Rattle.moc_script.specs.Private.Readings.{Reads};
 
 use crate::bytes::first_or_len;
 use crate::command::read_command;

@@ -1,7 +1,7 @@
 //! The commands that pieces of lines say.
 ghost use Rattle.moc_script.specs.Language.{coverage_of, order_of, plain_operand_of, operand_of, invert_of, degrade_of};
 ghost use Rattle.moc_script.specs.Language.{near_by, near_of, command_with, command_of};
-ghost use Rattle.moc_script.specs.Readings.{Reads};
+ghost use Rattle.moc_script.specs.Private.Readings.{Reads};
 
 use crate::fault::{Fault, ReadError};
 use crate::words::{is_blank_text, number_in, split_word};

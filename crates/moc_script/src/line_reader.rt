@@ -46,7 +46,7 @@ pub struct LineReader {
 
 impl Model for LineReader {
     ghost use Rattle.std.specs.Prelude.{◌-◌, ◌≤◌, ◌<◌, take, drop, vec_len};
-    ghost use Rattle.moc_script.specs.Held.{Held};
+    ghost use Rattle.moc_script.specs.Private.Held.{Held};
 
     ghost Value = { Held };
 
@@ -56,7 +56,7 @@ impl Model for LineReader {
 }
 
 impl LineReader {
-    ghost use Rattle.moc_script.specs.LineReading.{Brings, TakesLine, holds_line};
+    ghost use Rattle.moc_script.specs.Private.LineReading.{Brings, TakesLine, holds_line};
 
     pub fn new(alloc: Global) -> Result<LineReader, AllocError>
         ensures { IfOk result (λ r. r.unread ≡ []) }

@@ -28,7 +28,7 @@ pub(crate) struct Player {
 }
 
 impl Model for Player {
-    ghost use Rattle.moc_script.specs.Codes.{schedule_code};
+    ghost use Rattle.moc_script.specs.Private.Codes.{schedule_code};
     ghost use Rattle.moc_script.specs.Schedules.{Schedule};
 
     ghost Value = { Schedule };

@@ -3,8 +3,9 @@ ghost use Rattle.std.specs.Prelude.{◌≡◌, ◌≢◌, ◌++◌, ◌⊎◌, [
 ghost use Rattle.std.specs.Prelude.{false, OnOk, OnErr, IsErrOf, Err};
 ghost use Rattle.std.specs.Io.KnownBytes.{IsAtEnd, Keeps};
 ghost use Rattle.moc_devices.specs.Devices.{CallsMore, Sends};
-ghost use Rattle.moc_script.specs.LineReading.{TakesLine, fault_at, holds_line};
-ghost use Rattle.moc_script.specs.Runs.{Runs, Begins, Ended, Flushes};
+ghost use Rattle.moc_script.specs.Private.LineReading.{TakesLine, fault_at, holds_line};
+ghost use Rattle.moc_script.specs.Runs.{Runs, Begins, Flushes};
+ghost use Rattle.moc_script.specs.Private.Ended.{Ended};
 
 use crate::line_reader::{Found, LINE_LIMIT, LineFault, LineReader};
 use crate::responder::Responder;

@@ -1,7 +1,7 @@
 //! The steps that lines of a schedule say.
 ghost use Rattle.std.specs.Prelude.{◌≤◌, SomeIff};
 ghost use Rattle.moc_steps.specs.Played.{step_of};
-ghost use Rattle.moc_script.specs.Readings.{Reads};
+ghost use Rattle.moc_script.specs.Private.Readings.{Reads};
 ghost use Rattle.moc_script.specs.Batches.{batch_of};
 ghost use Rattle.moc_script.specs.Language.{command_of};
 ghost use Rattle.moc_script.specs.Steps.{begin_by, begin_of, client_by, client_of, place_by, place_of, said_step};

@@ -6,7 +6,7 @@ use Rattle.std.proofs.lemmas.List.{append-nil}
 use Rattle.std.proofs.lemmas.Bool.Decides.{nat_tests}
 use Rattle.moc_text.specs.Ascii.{Word, words, IsNumber, Mark, prefix, Cells, One, Run, cells_text, AreCells, Shape, JustMark, JustItem, MarkItem, shape_text, IsShape, IsLawful, ShapeFaultAt, HasShapeFault, parts_at, Means, order_at, order_after, fault_of, AreRead, IsFault, IsFirstFault, Says, pixels_said, deepest_of}
 use Rattle.moc_ranges.specs.Numbers.{NumberSet}
-use Rattle.moc_text.specs.Scan.{front_digits, past_digits, after_byte, starts_with_digit}
+use Rattle.moc_text.specs.Private.Scan.{front_digits, past_digits, after_byte, starts_with_digit}
 use Rattle.moc_text.specs.declared.ascii.number.Parts.{Parts}
 use Rattle.moc_text.specs.declared.ascii.error.TextError.{TextError}
 use Rattle.moc_text.proofs.Automaton.{both}

@@ -7,7 +7,7 @@ use Rattle.std.proofs.lemmas.List.{append-nil}
 use Rattle.moc_text.specs.Ascii.{is_separator, Word, words, words_from, Shape, shape_text, IsShape, parts_at, Means, order_at, order_after, mark_fault, item_fault, fault_of, item_pixels, pixels_said, deeper, deepest_of, AreRead, HasShapeFault, IsFirstFault, Says}
 use Rattle.moc_ranges.specs.Numbers.{NumberSet}
 use Rattle.moc_ranges.specs.Laws.{union-assoc, empty-union, union-empty}
-use Rattle.moc_text.specs.Scan.{is_end, scan_word}
+use Rattle.moc_text.specs.Private.Scan.{is_end, scan_word}
 use Rattle.moc_text.specs.Private.AsciiReading.{Progress}
 use Rattle.moc_text.specs.declared.ascii.number.Number.{Number}
 use Rattle.moc_text.specs.declared.ascii.number.Parts.{Parts}

@@ -7,8 +7,9 @@ use Rattle.std.specs.Result.{MatchResult}
 use Rattle.std.proofs.lemmas.List.{append-nil}
 use Rattle.moc_ranges.specs.Numbers.{NumberSet}
 use Rattle.moc_text.specs.Ascii.{is_separator, Word, words, Shape, shape_text, IsShape, parts_at, Means, HasShapeFault, IsFault, order_at, order_after, mark_fault, item_fault, fault_of, item_pixels, pixels_said, deeper, deepest_of, AreRead, Says, IsFirstFault}
-use Rattle.moc_text.specs.Scan.{◌>>=◌, is_end, scan_word}
-use Rattle.moc_text.specs.Reading.{parts_of, faultless, numbers_of, reading_of, IsReadingOf, ReadingsAreTold}
+use Rattle.moc_text.specs.Private.Scan.{◌>>=◌, is_end, scan_word}
+use Rattle.moc_text.specs.Private.Scanned.{parts_of, faultless, numbers_of, reading_of}
+use Rattle.moc_text.specs.Reading.{IsReadingOf, ReadingsAreTold}
 use Rattle.moc_text.specs.declared.ascii.number.Parts.{Parts}
 use Rattle.moc_text.specs.declared.ascii.error.TextError.{TextError}
 use Rattle.moc_text.specs.declared.ascii.error.TextError.TheVariants.{Memory}

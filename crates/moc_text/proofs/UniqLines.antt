@@ -19,7 +19,7 @@ use Rattle.moc_ranges.specs.Cells.{span, spans, pixels_of, cells_of}
 use Rattle.moc_ranges.specs.Laws.Cells.{cells_are}
 use Rattle.moc_ranges.specs.Laws.{spans-one, pixels_of-append, cells_fill, union-assoc, empty-union, union-empty}
 use Rattle.moc_text.specs.Ascii.{IsNumber}
-use Rattle.moc_text.specs.Scan.{front_digits, past_digits, held_after, starts_with_digit}
+use Rattle.moc_text.specs.Private.Scan.{front_digits, past_digits, held_after, starts_with_digit}
 use Rattle.moc_text.specs.Lines.{lines_of}
 use Rattle.moc_text.specs.UniqList.{number_fault, line_fault, fault_from, uniq_fault, numbers_on, SaysUniq, number_lines, uniq_text}
 use Rattle.moc_text.specs.Private.UniqReading.{after_line, IsPart, IsLineRead, LinesSoFar}

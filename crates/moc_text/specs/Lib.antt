@@ -1,5 +1,4 @@
 pub mod Ascii
-pub mod Scan
 pub mod Reading
 pub mod AsciiText
 pub mod Lines

@@ -1,38 +1,11 @@
--- The reading of an ASCII text as a function: the one that what a text says, and its first fault,
--- leave.
-use Rattle.std.specs.Prelude.{◌≡◌, ℕ, ◌+◌, List, [], ◌∷◌, length, Option, Some, None, Result, Ok, Err, MatchResult, ◌⊎◌}
+-- The reading of an ASCII text as a function. That each text has just one reading, which is what it says or its first fault,
+-- fixes the function, however it is written (`Private/Scanned`).
+use Rattle.std.specs.Prelude.{◌≡◌, ℕ, List, Option, Result, Ok, Err, MatchResult, ◌⊎◌}
 use Rattle.moc_ranges.specs.Numbers.{NumberSet}
-use Rattle.moc_text.specs.declared.ascii.number.Parts.{Parts}
 use Rattle.moc_text.specs.declared.ascii.error.TextError.{TextError}
 use Rattle.moc_text.specs.declared.ascii.error.TextError.TheVariants.{Memory}
-use Rattle.moc_text.specs.Ascii.{Word, words, order_at, fault_of, pixels_said, deepest_of, Says, IsFirstFault}
-use Rattle.moc_text.specs.Scan.{◌>>=◌, scan_word}
-
--- the numbers of a word, or the fault of its shape
-abbrev pub parts_of : Word → Result Parts TextError
-parts_of w = do
-  scanned ← scan_word (w.at + length w.bytes) w.bytes
-  Ok scanned.0
-
--- the numbers, or the fault that they have
-abbrev pub faultless : Option TextError → Parts → Result Parts TextError
-faultless (Some fault) n = Err fault
-faultless None n = Ok n
-
--- the numbers of the words, or the first fault
-abbrev pub numbers_of : Option ℕ → List Word → Result (List Parts) TextError
-numbers_of before [] = Ok []
-numbers_of before (w ∷ ws) = do
-  found ← parts_of w
-  n ← faultless (fault_of before w.at found) found
-  ns ← numbers_of (order_at before n.mark) ws
-  Ok (n ∷ ns)
-
--- the set and the deepest order that a text says, or its first fault
-unfoldable pub reading_of : List ℕ → Result (NumberSet × Option ℕ) TextError
-reading_of text = do
-  ns ← numbers_of None (words text)
-  Ok (pixels_said None ns, deepest_of ns)
+use Rattle.moc_text.specs.Ascii.{Says, IsFirstFault}
+pub use Rattle.moc_text.specs.Private.Scanned.{reading_of}
 
 -- What a reader returned is what the text says, or its first fault, unless memory ran out.
 abbrev pub IsReadingOf : List ℕ → Result (NumberSet × Option ℕ) TextError → Type 0

@@ -4,8 +4,8 @@
 ghost use Rattle.std.specs.Prelude.{◌≡◌, ◌-◌, length};
 ghost use Rattle.std.specs.Option.{option_copied};
 ghost use Rattle.moc_text.specs.Ascii.{is_separator as is_separator_byte};
-ghost use Rattle.moc_text.specs.Scan.{Gives, is_end as is_end_of, after_byte, front_digits, past_digits, held_after};
-ghost use Rattle.moc_text.specs.Scan.{unexpected as unexpected_at, scan_number, scan_item, scan_marked, scan_word};
+ghost use Rattle.moc_text.specs.Private.Scan.{Gives, is_end as is_end_of, after_byte, front_digits, past_digits, held_after};
+ghost use Rattle.moc_text.specs.Private.Scan.{unexpected as unexpected_at, scan_number, scan_item, scan_marked, scan_word};
 
 use crate::ascii::error::TextError;
 use crate::ascii::number::{Item, Number, Parts};
@@ -45,7 +45,7 @@ pub fn place(len: usize, bytes: &[u8]) -> usize
 }
 
 /// The fault of a word that goes on with these bytes as no lawful word does.
-#[tactic(auto, unfolding(crate::specs::Scan::unexpected))]
+#[tactic(auto, unfolding(crate::specs::Private::Scan::unexpected))]
 fn unexpected(len: usize, bytes: &[u8]) -> TextError
     ensures { result ≡ unexpected_at len bytes.now }
 {
@@ -74,7 +74,7 @@ pub fn digits(bytes: &[u8]) -> (u64, &[u8])
 }
 
 /// The number at the front, and what comes after it.
-#[tactic(auto, unfolding(crate::specs::Scan::scan_number))]
+#[tactic(auto, unfolding(crate::specs::Private::Scan::scan_number))]
 fn number(len: usize, bytes: &[u8]) -> Result<(Number, &[u8]), TextError>
     ensures { Gives (λ x. (x.0, x.1.now)) result (scan_number len bytes.now) }
 {
@@ -89,7 +89,7 @@ fn number(len: usize, bytes: &[u8]) -> Result<(Number, &[u8]), TextError>
 }
 
 /// The item whose first number is read, and what comes after it.
-#[tactic(auto, unfolding(crate::specs::Scan::scan_item, crate::specs::Scan::finish_item))]
+#[tactic(auto, unfolding(crate::specs::Private::Scan::scan_item, crate::specs::Private::Scan::finish_item))]
 fn item(len: usize, first: Number, bytes: &[u8]) -> Result<(Item, &[u8]), TextError>
     ensures { Gives (λ x. (x.0, x.1.now)) result (scan_item len first bytes.now) }
 {
@@ -107,7 +107,7 @@ fn item(len: usize, first: Number, bytes: &[u8]) -> Result<(Item, &[u8]), TextEr
 }
 
 /// The word whose mark is read, and what comes after it.
-#[tactic(auto, unfolding(crate::specs::Scan::scan_marked))]
+#[tactic(auto, unfolding(crate::specs::Private::Scan::scan_marked))]
 fn marked(len: usize, mark: Number, bytes: &[u8]) -> Result<(Parts, &[u8]), TextError>
     ensures { Gives (λ x. (x.0, x.1.now)) result (scan_marked len mark bytes.now) }
 {
@@ -127,7 +127,7 @@ fn marked(len: usize, mark: Number, bytes: &[u8]) -> Result<(Parts, &[u8]), Text
 }
 
 /// The word at the front, and what comes after it.
-#[tactic(auto, unfolding(crate::specs::Scan::scan_word))]
+#[tactic(auto, unfolding(crate::specs::Private::Scan::scan_word))]
 pub fn word(len: usize, bytes: &[u8]) -> Result<(Parts, &[u8]), TextError>
     ensures { Gives (λ x. (x.0, x.1.now)) result (scan_word len bytes.now) }
 {

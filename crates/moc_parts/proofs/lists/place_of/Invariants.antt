@@ -1,5 +1,5 @@
 use Rattle.std.proofs.Common.{◌≡◌, drop}
-use Rattle.moc_parts.specs.Drafts.{place_from}
+use Rattle.moc_parts.specs.Private.Drafts.{place_from}
 use Rattle.moc_parts.proofs.lists.place_of.Given as goal
 
 abbrev pub invariant-loop-i : goal.invariant-loop-i

@@ -2,7 +2,7 @@ use Rattle.std.proofs.Common.{◌≡◌, ◌<◌, ℕ, suc, ◌+◌, List, Optio
 use Rattle.std.specs.Prelude.{set as set_at}
 use Rattle.std.proofs.lemmas.List.{get_or-set_other, take_all}
 use Rattle.moc_ranges.specs.Numbers.{NumberSet}
-use Rattle.moc_parts.specs.Drafts.{current_lists}
+use Rattle.moc_parts.specs.Private.Drafts.{current_lists}
 use Rattle.moc_parts.proofs.Drafting.{current_lists-no, current_lists-put, current_lists-pass}
 use Rattle.moc_parts.proofs.map.put_all.Goals as goal
 use Rattle.moc_parts.proofs.map.put_all.Goals.{in-Some, in_default}

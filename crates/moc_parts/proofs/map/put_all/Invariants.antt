@@ -1,5 +1,5 @@
 use Rattle.std.proofs.Common.{◌≡◌, ◌≤◌, ℕ, None, get_or, take}
-use Rattle.moc_parts.specs.Drafts.{current_lists}
+use Rattle.moc_parts.specs.Private.Drafts.{current_lists}
 use Rattle.moc_parts.proofs.map.put_all.Given as goal
 
 abbrev pub invariant-loop-b : goal.invariant-loop-b

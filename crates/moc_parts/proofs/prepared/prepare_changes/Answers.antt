@@ -3,7 +3,7 @@ use Rattle.moc_ranges.specs.Numbers.{NumberSet}
 use Rattle.moc_ranges.specs.Operations.{part_of}
 use Rattle.moc_parts.specs.declared.command.Command.{Command}
 use Rattle.moc_parts.specs.Batches.{set_after_all, replies_on}
-use Rattle.moc_parts.specs.Drafts.{current_lists}
+use Rattle.moc_parts.specs.Private.Drafts.{current_lists}
 use Rattle.moc_parts.specs.Parts.{union_of}
 use Rattle.moc_parts.specs.Prepared.{found_sets}
 use Rattle.moc_parts.proofs.Twelve.{lying_parts, parts_within}

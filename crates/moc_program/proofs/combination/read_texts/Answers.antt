@@ -2,7 +2,7 @@ use Rattle.std.proofs.Common.{arith, rules, ◌≡◌, ◌⊎◌, ◌∙◌, Lis
 use Rattle.std.proofs.lemmas.Grind.{common_steps}
 use Rattle.std.proofs.lemmas.Result.{IfErr-weaker, IfOk-weaker}
 use Rattle.moc_program.specs.Conversion.{IsOfInput}
-use Rattle.moc_program.specs.Running.{FailsWithin, Leads}
+use Rattle.moc_program.specs.Private.Running.{FailsWithin, Leads}
 use Rattle.moc_program.proofs.Checks.{handed_on}
 use Rattle.moc_program.proofs.Combinations.{all_fails, all_taken, piece_fails, piece_is, piece_taken}
 use Rattle.moc_program.proofs.combination.read_texts.Goals as goal

@@ -1,5 +1,5 @@
 use Rattle.std.proofs.Common.{◌≡◌, ◌<◌, false, length}
-use Rattle.moc_program.specs.Running.{IsOpen, RunsTo}
+use Rattle.moc_program.specs.Private.Running.{IsOpen, RunsTo}
 use Rattle.moc_program.proofs.combination.read_texts.Given as goal
 
 abbrev pub invariant-loop-piece : goal.invariant-loop-piece

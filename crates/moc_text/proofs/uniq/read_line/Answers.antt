@@ -1,5 +1,5 @@
 use Rattle.std.proofs.Common.{◌≡◌, true, false, length, Some, None, sym, ap, ◌∙◌, arith, inr}
-use Rattle.moc_text.specs.Scan.{past_digits}
+use Rattle.moc_text.specs.Private.Scan.{past_digits}
 use Rattle.moc_text.specs.Private.UniqReading.{after_line}
 use Rattle.moc_text.proofs.UniqLines.{line_bad, line_empty, line_cell, line_wrong}
 use Rattle.moc_text.proofs.uniq.read_line.Goals as goal

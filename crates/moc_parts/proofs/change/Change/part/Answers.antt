@@ -1,6 +1,6 @@
 use Rattle.std.proofs.Common.{sym, ap, ◌∙◌}
 use Rattle.std.specs.FinSet as set
-use Rattle.moc_parts.specs.Changes.{changed_part}
+use Rattle.moc_parts.specs.Private.Changes.{changed_part}
 use Rattle.moc_parts.proofs.Turned.{left_alone}
 use Rattle.moc_parts.proofs.change.Change.part.Goals as goal
 

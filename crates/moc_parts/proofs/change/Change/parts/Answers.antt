@@ -1,5 +1,5 @@
 use Rattle.std.proofs.Common.{sym, ap, ◌∙◌}
-use Rattle.moc_parts.specs.Changes.{changed_part}
+use Rattle.moc_parts.specs.Private.Changes.{changed_part}
 use Rattle.moc_parts.proofs.Counts.{not_met}
 use Rattle.moc_parts.proofs.PartLaw.{join_nothing, leave_nothing}
 use Rattle.moc_parts.proofs.change.Change.parts.Goals as goal

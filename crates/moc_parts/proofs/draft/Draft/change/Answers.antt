@@ -4,8 +4,8 @@ use Rattle.std.specs.FinSet as set
 use Rattle.moc_ranges.specs.Numbers.{NumberSet}
 use Rattle.moc_ranges.specs.Operations.{part_of, symmetric, IsWithin}
 use Rattle.moc_ranges.specs.Pixels.{pixels}
-use Rattle.moc_parts.specs.Changes.{changed}
-use Rattle.moc_parts.specs.Drafts.{with_part}
+use Rattle.moc_parts.specs.Private.Changes.{changed}
+use Rattle.moc_parts.specs.Private.Drafts.{with_part}
 use Rattle.moc_parts.proofs.PartLaw.{changed_within}
 use Rattle.moc_parts.proofs.Sums.{size_none, size-next, size_bound}
 use Rattle.moc_parts.proofs.Turned.{turned_in, turned_within}

@@ -2,7 +2,7 @@ use Rattle.std.proofs.Common.{◌≡◌, ◌<◌}
 use Rattle.std.specs.FinSet as set
 use Rattle.moc_ranges.specs.Operations.{symmetric, IsWithin}
 use Rattle.moc_ranges.specs.Pixels.{pixels}
-use Rattle.moc_parts.specs.Changes.{changed}
+use Rattle.moc_parts.specs.Private.Changes.{changed}
 use Rattle.moc_parts.proofs.Drafting.{half_changed}
 use Rattle.moc_parts.proofs.Twelve.{first_parts}
 use Rattle.moc_parts.proofs.draft.Draft.change.Given as goal

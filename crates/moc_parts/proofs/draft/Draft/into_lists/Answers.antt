@@ -5,7 +5,7 @@ use Rattle.std.specs.Option.{option_copied}
 use Rattle.std.proofs.lemmas.List.{length-map, get_or_default}
 use Rattle.moc_ranges.specs.Numbers.{NumberSet}
 use Rattle.moc_ranges.specs.Operations.{part_of}
-use Rattle.moc_parts.specs.Drafts.{sets_of}
+use Rattle.moc_parts.specs.Private.Drafts.{sets_of}
 use Rattle.moc_parts.specs.Prepared.{is_given, kept}
 use Rattle.moc_parts.proofs.Drafting.{AreDoneBelow, found_twelve, found_part, own_part, some_copied, one_done, none_done}
 use Rattle.moc_parts.proofs.draft.Draft.into_lists.Goals as goal

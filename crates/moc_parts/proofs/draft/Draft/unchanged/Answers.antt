@@ -1,7 +1,7 @@
 use Rattle.std.proofs.Common.{◌≡◌, length, sym, ap, subst, ◌∙◌}
 use Rattle.moc_ranges.specs.Numbers.{NumberSet}
 use Rattle.std.specs.Prelude.{List}
-use Rattle.moc_parts.specs.Drafts.{current_lists, sets_of}
+use Rattle.moc_parts.specs.Private.Drafts.{current_lists, sets_of}
 use Rattle.moc_parts.specs.Parts.{AreParts, union_of}
 use Rattle.moc_parts.proofs.Drafting.{current_lists-none}
 use Rattle.moc_parts.proofs.draft.Draft.unchanged.Goals as goal

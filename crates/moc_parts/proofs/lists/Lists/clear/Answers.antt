@@ -1,7 +1,6 @@
-use Rattle.std.proofs.Common.{◌≡◌, List, Option, None, sym, ap, subst, ◌∙◌, ◌<◌}
+use Rattle.std.proofs.Common.{None, sym, ap, subst, ◌∙◌, ◌<◌}
 use Rattle.std.specs.Prelude.{set as set_at}
-use Rattle.moc_ranges.specs.Numbers.{NumberSet}
-use Rattle.moc_parts.specs.Drafts.{place_from}
+use Rattle.moc_parts.specs.Private.Drafts.{place_from}
 use Rattle.moc_parts.proofs.Placing.{is_first, put_at, none_left}
 use Rattle.moc_parts.proofs.lists.Lists.clear.Goals as goal
 use Rattle.moc_parts.proofs.lists.Lists.clear.Goals.{in-Some-1, in-None-1}

@@ -1,5 +1,5 @@
 use Rattle.std.proofs.Common.{None, get_or, sym, ap, subst, ◌∙◌, ◌<◌}
-use Rattle.moc_parts.specs.Drafts.{place_from}
+use Rattle.moc_parts.specs.Private.Drafts.{place_from}
 use Rattle.moc_parts.proofs.Placing.{is_first, got_at, got_none}
 use Rattle.moc_parts.proofs.lists.Lists.get.Goals as goal
 

@@ -1,6 +1,6 @@
 use Rattle.std.proofs.Common.{Some, sym, ap, subst, ◌∙◌, ◌<◌}
 use Rattle.std.specs.Prelude.{set as set_at}
-use Rattle.moc_parts.specs.Drafts.{place_from, twelve_lists}
+use Rattle.moc_parts.specs.Private.Drafts.{place_from, twelve_lists}
 use Rattle.moc_parts.proofs.Placing.{is_first, put_at, put_new}
 use Rattle.moc_parts.proofs.lists.Lists.put.Goals as goal
 

@@ -1,6 +1,6 @@
 use Rattle.std.proofs.Common.{None, get_or, sym, ap, subst, ◌∙◌, ◌<◌}
 use Rattle.std.specs.Prelude.{set as set_at}
-use Rattle.moc_parts.specs.Drafts.{place_from}
+use Rattle.moc_parts.specs.Private.Drafts.{place_from}
 use Rattle.moc_parts.proofs.Placing.{is_first, got_at, got_none, put_at, none_left}
 use Rattle.moc_parts.proofs.lists.Lists.take.Goals as goal
 

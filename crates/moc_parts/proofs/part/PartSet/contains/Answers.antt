@@ -1,6 +1,6 @@
 use Rattle.std.proofs.Common.{◌<◌, false, get_or, sym, subst, ap, ◌∙◌}
 use Rattle.std.specs.FinSet as set
-use Rattle.moc_parts.specs.PartSets.{contains-flagged_below}
+use Rattle.moc_parts.specs.Private.PartSets.{contains-flagged_below}
 use Rattle.moc_parts.proofs.part.PartSet.contains.Goals as goal
 
 pub returns : goal.returns

@@ -1,6 +1,6 @@
 use Rattle.std.proofs.Common.{◌≡◌, ◌<◌, true, set as set_at, subst, ap, ◌∙◌}
 use Rattle.std.specs.FinSet as set
-use Rattle.moc_parts.specs.PartSets.{flagged}
+use Rattle.moc_parts.specs.Private.PartSets.{flagged}
 use Rattle.moc_parts.proofs.Flags.{flagged-set}
 use Rattle.moc_parts.proofs.part.PartSet.insert.Goals as goal
 

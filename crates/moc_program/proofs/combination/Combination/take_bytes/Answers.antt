@@ -1,7 +1,7 @@
 use Rattle.std.proofs.Common.{◌≡◌, ◌⊎◌, ◌∙◌, ◌∷◌, ◌++◌, ℕ, List, ap, append_assoc, subst, sym}
 use Rattle.std.proofs.lemmas.Result.{on_ok_weaker}
 use Rattle.moc_program.specs.Conversion.{IsOfInput}
-use Rattle.moc_program.specs.Running.{FailsWithin, Leads, semicolon}
+use Rattle.moc_program.specs.Private.Running.{FailsWithin, Leads, semicolon}
 use Rattle.moc_program.proofs.Checks.{handed_on}
 use Rattle.moc_program.proofs.Combinations.{failed_on, led_on}
 use Rattle.moc_program.proofs.combination.Combination.take_bytes.Goals as goal

@@ -1,5 +1,5 @@
 use Rattle.std.proofs.Common.{◌≡◌, ◌++◌, ℕ, List, length}
-use Rattle.moc_program.specs.Running.{IsOpen, Leads}
+use Rattle.moc_program.specs.Private.Running.{IsOpen, Leads}
 use Rattle.moc_program.proofs.combination.Combination.take_bytes.Given as goal
 
 abbrev pub invariant-loop-part : goal.invariant-loop-part

@@ -1,5 +1,5 @@
 use Rattle.std.proofs.Common.{◌≡◌, length}
-use Rattle.moc_text.specs.Scan.{front_digits, past_digits, held_after}
+use Rattle.moc_text.specs.Private.Scan.{front_digits, past_digits, held_after}
 use Rattle.moc_text.proofs.ascii.scan.digits.Given as goal
 
 abbrev pub invariant-loop-rest : goal.invariant-loop-rest
