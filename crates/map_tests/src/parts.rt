@@ -63,6 +63,24 @@ fn footprints(rt: HostRuntime) {
 }
 
 #[test]
+fn parts_of_a_set_rise(rt: HostRuntime) {
+    let mut parts = PartSet::none();
+    for number in [11u8, 0, 5] {
+        parts.insert(Part::of(number));
+    }
+    let mut rising = parts.into_iter();
+    assert!(rt; rising.next() == Some(Part::of(0)));
+    assert!(rt; rising.next() == Some(Part::of(5)));
+    assert!(rt; rising.next() == Some(Part::of(11)));
+    assert!(rt; rising.next().is_none());
+    assert!(rt; rising.next().is_none());
+    assert!(rt; PartSet::none().into_iter().next().is_none());
+    for number in 0u8..12 {
+        assert_eq!(rt; Part::ALL[usize::from(number)].get(), number);
+    }
+}
+
+#[test]
 fn a_batch_has_the_parts_of_its_commands(rt: HostRuntime) {
     let alloc = rt.alloc();
     let mut commands = Vec::new(alloc);

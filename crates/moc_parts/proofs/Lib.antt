@@ -14,3 +14,4 @@ pub mod BatchLocality
 pub mod InOrder
 pub mod Drafting
 pub mod Placing
+pub mod Rising

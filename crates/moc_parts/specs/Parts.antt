@@ -1,6 +1,8 @@
--- A set as the list of its twelve parts.
-use Rattle.std.specs.Prelude.{◌≡◌, ℕ, zero, suc, ◌<◌, List, [], ◌∷◌, ◌++◌, length, get_or}
+-- A set as the list of its twelve parts, and sets of parts as lists.
+use Rattle.std.specs.Prelude.{◌≡◌, ℕ, zero, suc, ◌-◌, ◌<◌, List, [], ◌∷◌, ◌++◌, length, get_or}
 use Rattle.std.specs.FinSet as set
+use Rattle.std.specs.List.{filter, range_with_len}
+use Rattle.std.specs.Ordering.{nat_cmp}
 use Rattle.moc_ranges.specs.Numbers.{NumberSet}
 use Rattle.moc_ranges.specs.Operations.{part_of}
 
@@ -22,3 +24,7 @@ AreParts sets = sets ≡ parts_below (union_of sets) 12
 pub record LieInParts (sets : List NumberSet) : Type 0 where
   pub twelve : length sets ≡ 12
   pub own : (b : ℕ) → b < 12 → part_of (get_or sets b set.empty) b ≡ get_or sets b set.empty
+
+-- the parts of a set of parts from this number on, rising
+abbrev pub rising_parts : set.FinSet nat_cmp → ℕ → List ℕ
+rising_parts parts from = filter (λ b. set.contains parts b) (range_with_len from (12 - from))

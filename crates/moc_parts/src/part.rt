@@ -1,7 +1,9 @@
 //! The parts of a map: one for each base pixel.
-ghost use Rattle.std.specs.Prelude.{◌≡◌, ◌↔◌, ℕ, ◌<◌, nat_lt, IsTrue, SomeIff};
+ghost use Rattle.std.specs.Prelude.{◌≡◌, ◌↔◌, ℕ, ◌+◌, ◌<◌, nat_lt, [], ◌∷◌, IsTrue, MatchOption, SomeIff};
 ghost use Rattle.std.specs.List.{list_any};
 ghost use Rattle.std.specs.FinSet as set;
+ghost use Rattle.std.specs.Iterator.{item_count, YieldsFirst};
+ghost use Rattle.moc_parts.specs.Parts.{rising_parts};
 
 use std::marker::Model;
 
@@ -22,6 +24,22 @@ impl Model for Part {
 }
 
 impl Part {
+    /// All twelve, rising.
+    pub const ALL: [Part; 12] = [
+        Part { number: 0 },
+        Part { number: 1 },
+        Part { number: 2 },
+        Part { number: 3 },
+        Part { number: 4 },
+        Part { number: 5 },
+        Part { number: 6 },
+        Part { number: 7 },
+        Part { number: 8 },
+        Part { number: 9 },
+        Part { number: 10 },
+        Part { number: 11 },
+    ];
+
     /// The part of this base pixel, or `None` above 11.
     pub fn new(number: u8) -> Option<Part>
         ensures { SomeIff result (number < 12) number }
@@ -119,11 +137,70 @@ impl PartSet {
         parts
     }
 
+    /// The first part of the set from this number on, if there is one.
+    fn first_from(self, from: u8) -> Option<Part>
+        ensures { MatchOption result (rising_parts self from ≡ []) (λ b.
+            rising_parts self from ≡ b ∷ rising_parts self (b + 1)) }
+    {
+        for number in from..12 {
+            let part = Part::of(number);
+            if self.contains(part) {
+                return Some(part);
+            }
+        }
+        None
+    }
+
     /// Whether the part is in the set. O(1), takes no memory.
     pub fn contains(self, part: Part) -> bool
         ensures { result ≡ set.contains self part }
     {
         self.flags[usize::from(part.get())]
+    }
+}
+
+/// The parts of a set, rising; each is found in as many steps as there are parts at most. Takes no memory.
+impl IntoIterator for PartSet {
+    type Item = Part;
+
+    type IntoIter = Parts;
+
+    ghost use Rattle.moc_parts.specs.Parts.{rising_parts};
+
+    ghost into_iter_gives = { λ s r. r ≡ rising_parts s 0 };
+
+    fn into_iter(self) -> Parts {
+        Parts { set: self, from: 0 }
+    }
+}
+
+/// The parts of a set that are still to come, rising.
+#[derive(Debug, Drop)]
+pub struct Parts {
+    set: PartSet,
+    from: u8,
+}
+
+impl Model for Parts {
+    ghost use Rattle.std.specs.Prelude.{List, ℕ};
+    ghost use Rattle.moc_parts.specs.Parts.{rising_parts};
+
+    ghost Value = { List ℕ };
+
+    ghost view = { λ parts. rising_parts parts.set parts.from };
+}
+
+impl Iterator for Parts {
+    type Item = Part;
+
+    ghost next_gives = { YieldsFirst (λ s. s) };
+
+    ghost remaining = { item_count (λ s. s) };
+
+    fn next(&mut self) -> Option<Part> {
+        let part = self.set.first_from(self.from)?;
+        self.from = part.number + 1;
+        Some(part)
     }
 }
 
