@@ -11,7 +11,7 @@ use Rattle.moc_ranges.specs.Pixels.{pixel_count}
 use Rattle.moc_ranges.specs.Private.Sorted.{IsSortedFrom}
 use Rattle.moc_ranges.specs.RangeList.{IsNormal, in_range, in_ranges}
 use Rattle.moc_ranges.specs.Private.Blocks.{joining, last_of, AreBlocks}
-use Rattle.moc_ranges.specs.Private.Built.{IsBuilt, IsOpen, AreNodes, CanJoin, EndsBelow, BeginsBy, kept_of, first_length, last_length}
+use Rattle.moc_ranges.specs.Private.Built.{Growing, ranges_of, IsBuilt, AreNodes, CanJoin, EndsBelow, BeginsBy, kept_of, first_length, last_length}
 use Rattle.moc_ranges.proofs.Filling.{last_length-append, filled_longer, filled_append, some_blocks, no_nodes}
 use Rattle.moc_ranges.proofs.Blocking.{IsNormal-prefix, IsNormal-suffix, nothing_more, joining-append, joining-last, last_of-get}
 use Rattle.moc_ranges.proofs.Merging.{ends_by_last, normal_append, in_ranges-append, EndsBelow-append, EndsBelow-first, EndsBelow-more, ends_second, begins_of_ends, ends_next, or_false}
@@ -122,9 +122,9 @@ longer_built ns bs rs rs' init last to built old new within =
       normal = subst IsNormal (sym made) (longer_normal (all ++ init) last (max last.1 to) normal (omega arith) (omega arith));
     }
 
-pub longer_can : (ns : List (List (List (ℕ × ℕ)))) (bs : List (List (ℕ × ℕ))) (rs rs' init : List (ℕ × ℕ)) (last : ℕ × ℕ) (to f : ℕ) → CanJoin ns bs rs f → rs ≡ init ++ last ∷ [] → rs' ≡ init ++ (last.0, to) ∷ [] → CanJoin ns bs rs' f
-longer_can ns bs rs rs' init last to f can old new = record {
-  before = can.before;
+pub longer_can : (u u' : Growing) (init : List (ℕ × ℕ)) (last : ℕ × ℕ) (to f : ℕ) → CanJoin u f → u'.closed ≡ u.closed → u.loose ≡ init ++ last ∷ [] → u'.loose ≡ init ++ (last.0, to) ∷ [] → CanJoin u' f
+longer_can u u' init last to f can closed old new = record {
+  before = subst (λ (l : List (ℕ × ℕ)). EndsBelow f l) (sym closed) can.before;
   begun = subst (λ (l : List (ℕ × ℕ)). BeginsBy f l) (sym new) (longer_begins f init last to (subst (λ (l : List (ℕ × ℕ)). BeginsBy f l) old can.begun));
 }
 
@@ -133,16 +133,15 @@ begins_append f [] ss all more = more
 begins_append f (r ∷ rs) ss all more = (all.0, begins_append f rs ss all.1 more)
 
 -- what a range that was pushed lets be joined
-pub pushed_can : (ns : List (List (List (ℕ × ℕ)))) (bs : List (List (ℕ × ℕ))) (rs init : List (ℕ × ℕ)) (range : ℕ × ℕ) → IsBuilt ns bs rs → rs ≡ init ++ range ∷ [] → CanJoin ns bs rs range.0
-pushed_can ns bs rs init range built is =
-    let all : List (ℕ × ℕ) = joining (joining ns ++ bs) in
-    let whole : all ++ rs ≡ (all ++ init) ++ range ∷ [] = ap (λ (l : List (ℕ × ℕ)). all ++ l) is ∙ sym (append_assoc all init (range ∷ [])) in
-    let normal : IsNormal ((all ++ init) ++ range ∷ []) = subst IsNormal whole built.normal in
-    let below = ends_next (all ++ init) (range ∷ []) normal in
-    let inner = IsNormal-suffix all init (IsNormal-prefix (all ++ init) (range ∷ []) normal) in
+pub pushed_can : (u : Growing) (init : List (ℕ × ℕ)) (range : ℕ × ℕ) → IsNormal (ranges_of u) → u.loose ≡ init ++ range ∷ [] → CanJoin u range.0
+pushed_can u init range built is =
+    let whole : ranges_of u ≡ (u.closed ++ init) ++ range ∷ [] = ap (λ (l : List (ℕ × ℕ)). u.closed ++ l) is ∙ sym (append_assoc u.closed init (range ∷ [])) in
+    let normal : IsNormal ((u.closed ++ init) ++ range ∷ []) = subst IsNormal whole built in
+    let below = ends_next (u.closed ++ init) (range ∷ []) normal in
+    let inner = IsNormal-suffix u.closed init (IsNormal-prefix (u.closed ++ init) (range ∷ []) normal) in
     record {
-      before = EndsBelow-first range.0 all init below;
-      begun = subst (λ (l : List (ℕ × ℕ)). BeginsBy range.0 l) (sym is) (begins_append range.0 init (range ∷ []) (begins_of_ends range.0 init inner (ends_second range.0 all init below)) (omega arith, tt));
+      before = EndsBelow-first range.0 u.closed init below;
+      begun = subst (λ (l : List (ℕ × ℕ)). BeginsBy range.0 l) (sym is) (begins_append range.0 init (range ∷ []) (begins_of_ends range.0 init inner (ends_second range.0 u.closed init below)) (omega arith, tt));
     }
 
 -- the first k of some ranges were put behind those in no block, where there was room for k
@@ -242,11 +241,11 @@ test_reached f rs d i e =
 pub node_read : (ns : List (List (List (ℕ × ℕ)))) (last : List (List (ℕ × ℕ))) (i : ℕ) → i + 1 ≡ length ns → last ≡ get_or ns i last → 0 < length (joining last) → last_length last ≡ last_length (joining ns)
 node_read ns last i e is some = ap last_length is ∙ sym (last_length-nodes ns last i e (subst (λ (l : List (List (ℕ × ℕ))). 0 < length l) is (some_blocks last some)))
 
--- an open range
-pub open_longer : (ns : List (List (List (ℕ × ℕ)))) (bs : List (List (ℕ × ℕ))) (rs : List (ℕ × ℕ)) (last : ℕ × ℕ) (to end : ℕ) → IsOpen ns bs rs last → to ≤ pixel_count → end ≡ max last.1 to → IsOpen ns bs rs (last.0, end)
-open_longer ns bs rs last to end opened within is =
-    let last_in : last.1 ≤ pixel_count = (IsNormal-suffix (kept_of ns bs rs) (last ∷ []) opened.normal).1 in
-    record { built = opened.built; normal = longer_normal (kept_of ns bs rs) last end opened.normal (omega (arith, is)) (omega (arith, is)) }
+-- an open range behind those that are kept
+pub open_longer : (kept : List (ℕ × ℕ)) (last : ℕ × ℕ) (to end : ℕ) → IsNormal (kept ++ last ∷ []) → to ≤ pixel_count → end ≡ max last.1 to → IsNormal (kept ++ (last.0, end) ∷ [])
+open_longer kept last to end opened within is =
+    let last_in : last.1 ≤ pixel_count = (IsNormal-suffix kept (last ∷ []) opened).1 in
+    longer_normal kept last end opened (omega (arith, is)) (omega (arith, is))
 
 pub open_longer-same : (kept : List (ℕ × ℕ)) (last range : ℕ × ℕ) (end q : ℕ) → IsNormal (kept ++ last ∷ []) → end ≡ max last.1 range.1 → last.0 ≤ range.0 → range.0 ≤ last.1 → range.0 < range.1 → in_ranges (kept ++ (last.0, end) ∷ []) q ≡ (in_ranges (kept ++ last ∷ []) q || in_range range q)
 open_longer-same kept last range end q normal is later reached filled =
@@ -264,11 +263,11 @@ open_within kept last normal = (IsNormal-suffix kept (last ∷ []) normal).1
 pub open_after : (kept : List (ℕ × ℕ)) (last : ℕ × ℕ) → IsNormal (kept ++ last ∷ []) → EndsBelow last.0 kept
 open_after kept last normal = ends_next kept (last ∷ []) normal
 
-pub open_next : (ns ns' : List (List (List (ℕ × ℕ)))) (bs bs' : List (List (ℕ × ℕ))) (rs rs' : List (ℕ × ℕ)) (last range : ℕ × ℕ) → IsOpen ns bs rs last → IsBuilt ns' bs' rs' → kept_of ns' bs' rs' ≡ kept_of ns bs rs ++ last ∷ [] → last.1 < range.0 → range.0 < range.1 → range.1 ≤ pixel_count → IsOpen ns' bs' rs' range
-open_next ns ns' bs bs' rs rs' last range opened built' kept apart filled within =
-    let filled_last = last_filled (kept_of ns bs rs) last opened.normal in
-    let below = EndsBelow-append range.0 (kept_of ns bs rs) (last ∷ []) (EndsBelow-more last.0 range.0 (kept_of ns bs rs) (ends_next (kept_of ns bs rs) (last ∷ []) opened.normal) (omega arith)) (apart, tt) in
-    record { built = built'; normal = pushed_normal (kept_of ns' bs' rs') range built'.normal filled within (subst (λ (l : List (ℕ × ℕ)). EndsBelow range.0 l) (sym kept) below) }
+pub open_next : (kept kept' : List (ℕ × ℕ)) (last range : ℕ × ℕ) → IsNormal (kept ++ last ∷ []) → IsNormal kept' → kept' ≡ kept ++ last ∷ [] → last.1 < range.0 → range.0 < range.1 → range.1 ≤ pixel_count → IsNormal (kept' ++ range ∷ [])
+open_next kept kept' last range opened built' is apart filled within =
+    let filled_last = last_filled kept last opened in
+    let below = EndsBelow-append range.0 kept (last ∷ []) (EndsBelow-more last.0 range.0 kept (ends_next kept (last ∷ []) opened) (omega arith)) (apart, tt) in
+    pushed_normal kept' range built' filled within (subst (λ (l : List (ℕ × ℕ)). EndsBelow range.0 l) (sym is) below)
 
 pub open_next-same : (kept kept' : List (ℕ × ℕ)) (last range : ℕ × ℕ) (q : ℕ) → kept' ≡ kept ++ last ∷ [] → in_ranges (kept' ++ range ∷ []) q ≡ (in_ranges (kept ++ last ∷ []) q || in_range range q)
 open_next-same kept kept' last range q is =
@@ -301,20 +300,20 @@ lengthened_same rs i last from to end normal at is longer begins reached filled 
     ∙ ap (λ x. x || in_range (from, to) q) (sym (in_ranges-append (take i rs) (last ∷ []) q) ∙ ap (λ (l : List (ℕ × ℕ)). in_ranges l q) (sym split))
 
 -- how far ranges are joined behind what is built, of which some are still to come
-pub record IsLengthened (ns : List (List (List (ℕ × ℕ)))) (bs : List (List (ℕ × ℕ))) (rs : List (ℕ × ℕ)) (last : ℕ × ℕ) (rest whole : List (ℕ × ℕ)) : Type 0 where
-  pub opened : IsOpen ns bs rs last
+pub record IsLengthened (ks : List (ℕ × ℕ)) (last : ℕ × ℕ) (rest whole : List (ℕ × ℕ)) : Type 0 where
+  pub opened : IsNormal (ks ++ last ∷ [])
   pub sorted : IsSortedFrom last.0 rest
-  pub same : (q : ℕ) → (in_ranges (kept_of ns bs rs ++ last ∷ []) q || in_ranges rest q) ≡ in_ranges whole q
+  pub same : (q : ℕ) → (in_ranges (ks ++ last ∷ []) q || in_ranges rest q) ≡ in_ranges whole q
 
-pub lengthened_start : (ns : List (List (List (ℕ × ℕ)))) (bs : List (List (ℕ × ℕ))) (rs rest whole : List (ℕ × ℕ)) (last : ℕ × ℕ) → ns ≡ [] → bs ≡ [] → rs ≡ [] → IsSortedFrom 0 whole → whole ≡ last ∷ rest → IsLengthened ns bs rs last rest whole
-lengthened_start ns bs rs rest whole last n b r sorted is =
+pub lengthened_start : (ks rest whole : List (ℕ × ℕ)) (last : ℕ × ℕ) → ks ≡ [] → IsSortedFrom 0 whole → whole ≡ last ∷ rest → IsLengthened ks last rest whole
+lengthened_start ks rest whole last n sorted is =
     let parts = subst (λ (l : List (ℕ × ℕ)). IsSortedFrom 0 l) is sorted in
-    let start : IsLengthened [] [] [] last rest whole = record {
-      opened = record { built = record { sized = tt; wide = no_nodes; fits = omega arith; normal = tt }; normal = (parts.1, parts.2, tt, tt) };
+    let start : IsLengthened [] last rest whole = record {
+      opened = (parts.1, parts.2, tt, tt);
       sorted = parts.3;
       same = λ q. ap (λ b. b || in_ranges rest q) (or_false (in_range last q)) ∙ ap (λ (l : List (ℕ × ℕ)). in_ranges l q) (sym is);
     } in
-    rw (n, b, r) start
+    rw n start
 
 or_behind : (a b c : Bool) → ((a || b) || c) ≡ (a || (b || c))
 or_behind true b c = refl
@@ -324,19 +323,40 @@ sorted_less : (low lower : ℕ) (rest : List (ℕ × ℕ)) → lower ≤ low →
 sorted_less low lower [] le s = tt
 sorted_less low lower (pair ∷ rest) le s = (omega arith, s.1, s.2, s.3)
 
-pub lengthened_more : (ns ns' : List (List (List (ℕ × ℕ)))) (bs bs' : List (List (ℕ × ℕ))) (rs rs' rest rest' whole : List (ℕ × ℕ)) (last last' range : ℕ × ℕ) → IsLengthened ns bs rs last rest whole → rest ≡ range ∷ rest' → IsOpen ns' bs' rs' last' → last'.0 ≤ range.0 → ((q : ℕ) → in_ranges (kept_of ns' bs' rs' ++ last' ∷ []) q ≡ (in_ranges (kept_of ns bs rs ++ last ∷ []) q || in_range range q)) → IsLengthened ns' bs' rs' last' rest' whole
-lengthened_more ns ns' bs bs' rs rs' rest rest' whole last last' range s is opened later same = record {
+pub lengthened_more : (ks ks' rest rest' whole : List (ℕ × ℕ)) (last last' range : ℕ × ℕ) → IsLengthened ks last rest whole → rest ≡ range ∷ rest' → IsNormal (ks' ++ last' ∷ []) → last'.0 ≤ range.0 → ((q : ℕ) → in_ranges (ks' ++ last' ∷ []) q ≡ (in_ranges (ks ++ last ∷ []) q || in_range range q)) → IsLengthened ks' last' rest' whole
+lengthened_more ks ks' rest rest' whole last last' range s is opened later same = record {
   opened = opened;
   sorted = sorted_less range.0 last'.0 rest' later (subst (λ (l : List (ℕ × ℕ)). IsSortedFrom last.0 l) is s.sorted).3;
   same = λ q. ap (λ b. b || in_ranges rest' q) (same q)
-      ∙ or_behind (in_ranges (kept_of ns bs rs ++ last ∷ []) q) (in_range range q) (in_ranges rest' q)
-      ∙ ap (λ (l : List (ℕ × ℕ)). in_ranges (kept_of ns bs rs ++ last ∷ []) q || in_ranges l q) (sym is) ∙ s.same q;
+      ∙ or_behind (in_ranges (ks ++ last ∷ []) q) (in_range range q) (in_ranges rest' q)
+      ∙ ap (λ (l : List (ℕ × ℕ)). in_ranges (ks ++ last ∷ []) q || in_ranges l q) (sym is) ∙ s.same q;
 }
 
 pub lengthened_next : (last range : ℕ × ℕ) (rest rest' : List (ℕ × ℕ)) → IsSortedFrom last.0 rest → rest ≡ range ∷ rest' → (last.0 ≤ range.0) × (range.0 < range.1) × (range.1 ≤ pixel_count)
 lengthened_next last range rest rest' sorted is = let p = subst (λ (l : List (ℕ × ℕ)). IsSortedFrom last.0 l) is sorted in (p.0, p.1, p.2)
 
-pub lengthened_all : (ns : List (List (List (ℕ × ℕ)))) (bs : List (List (ℕ × ℕ))) (rs rest whole kept : List (ℕ × ℕ)) (last : ℕ × ℕ) → IsLengthened ns bs rs last rest whole → rest ≡ [] → kept ≡ kept_of ns bs rs ++ last ∷ [] → (q : ℕ) → in_ranges kept q ≡ in_ranges whole q
-lengthened_all ns bs rs rest whole kept last s none is q =
-    ap (λ (l : List (ℕ × ℕ)). in_ranges l q) is ∙ sym (or_false (in_ranges (kept_of ns bs rs ++ last ∷ []) q))
-    ∙ ap (λ (l : List (ℕ × ℕ)). in_ranges (kept_of ns bs rs ++ last ∷ []) q || in_ranges l q) (sym none) ∙ s.same q
+pub lengthened_all : (ks rest whole kept : List (ℕ × ℕ)) (last : ℕ × ℕ) → IsLengthened ks last rest whole → rest ≡ [] → kept ≡ ks ++ last ∷ [] → (q : ℕ) → in_ranges kept q ≡ in_ranges whole q
+lengthened_all ks rest whole kept last s none is q =
+    ap (λ (l : List (ℕ × ℕ)). in_ranges l q) is ∙ sym (or_false (in_ranges (ks ++ last ∷ []) q))
+    ∙ ap (λ (l : List (ℕ × ℕ)). in_ranges (ks ++ last ∷ []) q || in_ranges l q) (sym none) ∙ s.same q
+
+-- nothing is built
+pub none_built : (ns : List (List (List (ℕ × ℕ)))) (bs : List (List (ℕ × ℕ))) (rs : List (ℕ × ℕ)) → ns ≡ [] → bs ≡ [] → rs ≡ [] → IsBuilt ns bs rs
+none_built ns bs rs n b r =
+    let start : IsBuilt [] [] [] = record { sized = tt; wide = no_nodes; fits = omega arith; normal = tt } in
+    rw (n, b, r) start
+
+-- the ranges that are in no block are normal
+pub ranges_normal : (ns : List (List (List (ℕ × ℕ)))) (bs : List (List (ℕ × ℕ))) (rs : List (ℕ × ℕ)) → IsBuilt ns bs rs → IsNormal rs
+ranges_normal ns bs rs built = IsNormal-suffix (joining (joining ns ++ bs)) rs built.normal
+
+-- some were taken off at their end
+pub prefix_built : (ns : List (List (List (ℕ × ℕ)))) (bs : List (List (ℕ × ℕ))) (rs rs' gone : List (ℕ × ℕ)) → IsBuilt ns bs rs → rs ≡ rs' ++ gone → IsBuilt ns bs rs'
+prefix_built ns bs rs rs' gone built old =
+    let all : List (ℕ × ℕ) = joining (joining ns ++ bs) in
+    record {
+      sized = built.sized;
+      wide = built.wide;
+      fits = omega (arith, built.fits, ap length old, length-append rs' gone);
+      normal = IsNormal-prefix (all ++ rs') gone (subst IsNormal (ap (λ (l : List (ℕ × ℕ)). all ++ l) old ∙ sym (append_assoc all rs' gone)) built.normal);
+    }

@@ -5,10 +5,9 @@ use Rattle.std.proofs.lemmas.Bool.{cases_lt, and_parts, and_from, leb-true, ltb-
 use Rattle.std.proofs.lemmas.Bool.Decides.{nat_tests}
 use Rattle.moc_ranges.specs.RangeList.{IsNormal, in_range, in_ranges}
 use Rattle.moc_ranges.specs.Private.Blocks.{next_of}
-use Rattle.moc_ranges.specs.Private.Built.{IsBuilt, EndsBelow, Carries, kept_of}
+use Rattle.moc_ranges.specs.Private.Built.{EndsBelow, Carries}
 use Rattle.moc_ranges.specs.Private.Walks.{begun, EndsBy, Advances}
 use Rattle.moc_ranges.proofs.Merging.{ends_next, or_false, next_later, in_ranges-append, EndsBelow-append, EndsBelow-more}
-use Rattle.moc_ranges.proofs.Filling.{no_nodes}
 use Rattle.moc_ranges.proofs.Blocking.{IsNormal-suffix}
 use Rattle.moc_ranges.proofs.Turning.{or_first}
 use Rattle.moc_ranges.proofs.Walking.{later_only, Steps, begun_is}
@@ -57,37 +56,37 @@ whole true b = refl
 whole false b = refl
 
 -- how far a difference has come
-pub record IsLacking (ns : List (List (List (ℕ × ℕ)))) (bs : List (List (ℕ × ℕ))) (rs xs ys whole_xs whole_ys : List (ℕ × ℕ)) : Type 0 where
-  pub built : IsBuilt ns bs rs
+pub record IsLacking (ks xs ys whole_xs whole_ys : List (ℕ × ℕ)) : Type 0 where
+  pub built : IsNormal ks
   pub first_normal : IsNormal xs
   pub second_normal : IsNormal ys
-  pub below : EndsBelow (next_of xs) (kept_of ns bs rs)
-  pub same : (q : ℕ) → (in_ranges (kept_of ns bs rs) q || (in_ranges xs q && not (in_ranges ys q))) ≡ (in_ranges whole_xs q && not (in_ranges whole_ys q))
+  pub below : EndsBelow (next_of xs) ks
+  pub same : (q : ℕ) → (in_ranges ks q || (in_ranges xs q && not (in_ranges ys q))) ≡ (in_ranges whole_xs q && not (in_ranges whole_ys q))
 
-pub lacking_begin : (ns : List (List (List (ℕ × ℕ)))) (bs : List (List (ℕ × ℕ))) (rs xs ys u : List (ℕ × ℕ)) (s : Option (ℕ × ℕ)) → ns ≡ [] → bs ≡ [] → rs ≡ [] → IsNormal xs → IsNormal ys → Steps ys s u → IsLacking ns bs rs xs (begun s u) xs ys
-lacking_begin ns bs rs xs ys u s n b e nx ny su =
+pub lacking_begin : (ks xs ys u : List (ℕ × ℕ)) (s : Option (ℕ × ℕ)) → ks ≡ [] → IsNormal xs → IsNormal ys → Steps ys s u → IsLacking ks xs (begun s u) xs ys
+lacking_begin ks xs ys u s n nx ny su =
     let by = begun_is ys s u su in
-    let start : IsLacking [] [] [] xs ys xs ys = record {
-      built = record { sized = tt; wide = no_nodes; fits = omega arith; normal = tt };
+    let start : IsLacking [] xs ys xs ys = record {
+      built = tt;
       first_normal = nx;
       second_normal = ny;
       below = tt;
       same = λ q. refl;
     } in
-    subst (λ (l : List (ℕ × ℕ)). IsLacking ns bs rs xs l xs ys) (sym by) (rw (n, b, e) start)
+    subst (λ (l : List (ℕ × ℕ)). IsLacking ks xs l xs ys) (sym by) (rw n start)
 
-pub lacking_trim : (ns ns' : List (List (List (ℕ × ℕ)))) (bs bs' : List (List (ℕ × ℕ))) (rs rs' xs ys t whole_xs whole_ys : List (ℕ × ℕ)) (x y : ℕ × ℕ) (to : ℕ) (r : Option (ℕ × ℕ)) → IsLacking ns bs rs (x ∷ xs) (y ∷ ys) whole_xs whole_ys → x.0 < y.1 → y.1 < x.1 → to ≡ min x.1 y.0 → IsBuilt ns' bs' rs' → ((f : ℕ) → x.0 ≤ f → to < f → EndsBelow f (kept_of ns' bs' rs')) → ((q : ℕ) → in_ranges (kept_of ns' bs' rs') q ≡ (in_ranges (kept_of ns bs rs) q || in_range (x.0, to) q)) → Steps ys r t → IsLacking ns' bs' rs' ((y.1, x.1) ∷ xs) (begun r t) whole_xs whole_ys
-lacking_trim ns ns' bs bs' rs rs' xs ys t whole_xs whole_ys x y to r l reach ends is built below same e =
+pub lacking_trim : (ks ks' xs ys t whole_xs whole_ys : List (ℕ × ℕ)) (x y : ℕ × ℕ) (to : ℕ) (r : Option (ℕ × ℕ)) → IsLacking ks (x ∷ xs) (y ∷ ys) whole_xs whole_ys → x.0 < y.1 → y.1 < x.1 → to ≡ min x.1 y.0 → IsNormal ks' → ((f : ℕ) → x.0 ≤ f → to < f → EndsBelow f ks') → ((q : ℕ) → in_ranges ks' q ≡ (in_ranges ks q || in_range (x.0, to) q)) → Steps ys r t → IsLacking ks' ((y.1, x.1) ∷ xs) (begun r t) whole_xs whole_ys
+lacking_trim ks ks' xs ys t whole_xs whole_ys x y to r l reach ends is built below same e =
     let b = begun_is ys r t e in
     let filled : y.0 < y.1 = l.second_normal.0 in
-    subst (λ (k : List (ℕ × ℕ)). IsLacking ns' bs' rs' ((y.1, x.1) ∷ xs) k whole_xs whole_ys) (sym b) (record {
+    subst (λ (k : List (ℕ × ℕ)). IsLacking ks' ((y.1, x.1) ∷ xs) k whole_xs whole_ys) (sym b) (record {
       built = built;
       first_normal = (ends, l.first_normal.1, l.first_normal.2, l.first_normal.3);
       second_normal = l.second_normal.3;
       below = below y.1 (omega arith) (omega (arith, is));
       same = λ q. ap (λ k. k || (in_ranges ((y.1, x.1) ∷ xs) q && not (in_ranges ys q))) (same q)
-          ∙ or_first (in_ranges (kept_of ns bs rs) q) (in_range (x.0, to) q) (in_ranges ((y.1, x.1) ∷ xs) q && not (in_ranges ys q))
-          ∙ ap (λ k. in_ranges (kept_of ns bs rs) q || k) (sym (trim x y xs ys to q l.first_normal l.second_normal reach ends is))
+          ∙ or_first (in_ranges ks q) (in_range (x.0, to) q) (in_ranges ((y.1, x.1) ∷ xs) q && not (in_ranges ys q))
+          ∙ ap (λ k. in_ranges ks q || k) (sym (trim x y xs ys to q l.first_normal l.second_normal reach ends is))
           ∙ l.same q;
     })
 
@@ -128,8 +127,8 @@ carried_has (r ∷ gone) xs ys q normal other below =
     let alone : in_range r q ≡ true → in_ranges ys q ≡ false = λ here. none_before ys q other (omega (arith, below.0, (range_from r q here).1)) in
     carried_bool (in_range r q) (in_ranges (gone ++ xs) q) (in_ranges ys q) (in_ranges gone q) (in_ranges xs q) rest alone
 
-pub lacking_carried : (ns ns' : List (List (List (ℕ × ℕ)))) (bs bs' : List (List (ℕ × ℕ))) (rs rs' xs xs' ys whole_xs whole_ys : List (ℕ × ℕ)) (limit : ℕ) → IsLacking ns bs rs xs ys whole_xs whole_ys → limit ≡ next_of ys → Carries xs xs' limit ns ns' bs bs' rs rs' → IsLacking ns' bs' rs' xs' ys whole_xs whole_ys
-lacking_carried ns ns' bs bs' rs rs' xs xs' ys whole_xs whole_ys limit l is c =
+pub lacking_carried : (ks ks' xs xs' ys whole_xs whole_ys : List (ℕ × ℕ)) (limit : ℕ) → IsLacking ks xs ys whole_xs whole_ys → limit ≡ next_of ys → Carries xs xs' limit ks ks' → IsLacking ks' xs' ys whole_xs whole_ys
+lacking_carried ks ks' xs xs' ys whole_xs whole_ys limit l is c =
     let normal = subst IsNormal c.parts l.first_normal in
     let later = next_later c.gone xs' normal in
     record {
@@ -137,11 +136,11 @@ lacking_carried ns ns' bs bs' rs rs' xs xs' ys whole_xs whole_ys limit l is c =
       first_normal = IsNormal-suffix c.gone xs' normal;
       second_normal = l.second_normal;
       below = subst (λ (k : List (ℕ × ℕ)). EndsBelow (next_of xs') k) (sym c.kept)
-          (EndsBelow-append (next_of xs') (kept_of ns bs rs) c.gone
-          (EndsBelow-more (next_of xs) (next_of xs') (kept_of ns bs rs) l.below (omega (arith, ap next_of c.parts, later))) (ends_next c.gone xs' normal));
-      same = λ q. ap (λ k. k || (in_ranges xs' q && not (in_ranges ys q))) (ap (λ (k : List (ℕ × ℕ)). in_ranges k q) c.kept ∙ in_ranges-append (kept_of ns bs rs) c.gone q)
-          ∙ or_first (in_ranges (kept_of ns bs rs) q) (in_ranges c.gone q) (in_ranges xs' q && not (in_ranges ys q))
-          ∙ ap (λ k. in_ranges (kept_of ns bs rs) q || k)
+          (EndsBelow-append (next_of xs') ks c.gone
+          (EndsBelow-more (next_of xs) (next_of xs') ks l.below (omega (arith, ap next_of c.parts, later))) (ends_next c.gone xs' normal));
+      same = λ q. ap (λ k. k || (in_ranges xs' q && not (in_ranges ys q))) (ap (λ (k : List (ℕ × ℕ)). in_ranges k q) c.kept ∙ in_ranges-append ks c.gone q)
+          ∙ or_first (in_ranges ks q) (in_ranges c.gone q) (in_ranges xs' q && not (in_ranges ys q))
+          ∙ ap (λ k. in_ranges ks q || k)
           (sym (carried_has c.gone xs' ys q normal l.second_normal (subst (λ f. EndsBelow f c.gone) is c.below))
           ∙ ap (λ (k : List (ℕ × ℕ)). in_ranges k q && not (in_ranges ys q)) (sym c.parts))
           ∙ l.same q;
@@ -158,18 +157,18 @@ passed_has (r ∷ gone) xs y ys q normal ended later =
     let at = range_from r q here in range_is y q (omega (arith, at.0, later)) (omega (arith, at.1, ended.0)) in
     passed_bool (in_range r q) (in_ranges xs q) (in_range y q) (in_ranges ys q) (in_ranges (gone ++ xs) q) rest inside
 
-pub lacking_passed : (ns : List (List (List (ℕ × ℕ)))) (bs : List (List (ℕ × ℕ))) (rs xs ys t whole_xs whole_ys : List (ℕ × ℕ)) (y : ℕ × ℕ) (r : Option (ℕ × ℕ)) (n : ℕ) → IsLacking ns bs rs xs (y ∷ ys) whole_xs whole_ys → y.0 ≤ next_of xs → Advances y xs t r n → IsLacking ns bs rs (begun r t) (y ∷ ys) whole_xs whole_ys
-lacking_passed ns bs rs xs ys t whole_xs whole_ys y r n l from a =
+pub lacking_passed : (ks xs ys t whole_xs whole_ys : List (ℕ × ℕ)) (y : ℕ × ℕ) (r : Option (ℕ × ℕ)) (n : ℕ) → IsLacking ks xs (y ∷ ys) whole_xs whole_ys → y.0 ≤ next_of xs → Advances y xs t r n → IsLacking ks (begun r t) (y ∷ ys) whole_xs whole_ys
+lacking_passed ks xs ys t whole_xs whole_ys y r n l from a =
     let b = begun_is a.rest r t a.step in
     let parts = a.passed.parts in
     let normal = subst IsNormal parts l.first_normal in
     let later = next_later a.passed.gone a.rest normal in
-    subst (λ (k : List (ℕ × ℕ)). IsLacking ns bs rs k (y ∷ ys) whole_xs whole_ys) (sym b) (record {
+    subst (λ (k : List (ℕ × ℕ)). IsLacking ks k (y ∷ ys) whole_xs whole_ys) (sym b) (record {
       built = l.built;
       first_normal = IsNormal-suffix a.passed.gone a.rest normal;
       second_normal = l.second_normal;
-      below = EndsBelow-more (next_of xs) (next_of a.rest) (kept_of ns bs rs) l.below (omega (arith, ap next_of parts, later));
-      same = λ q. ap (λ k. in_ranges (kept_of ns bs rs) q || k)
+      below = EndsBelow-more (next_of xs) (next_of a.rest) ks l.below (omega (arith, ap next_of parts, later));
+      same = λ q. ap (λ k. in_ranges ks q || k)
           (passed_has a.passed.gone a.rest y ys q normal a.passed.ended (omega (arith, from, ap next_of parts))
           ∙ ap (λ (k : List (ℕ × ℕ)). in_ranges k q && not (in_ranges (y ∷ ys) q)) (sym parts))
           ∙ l.same q;
@@ -181,26 +180,26 @@ skipped_has : (gone ys : List (ℕ × ℕ)) (x : ℕ × ℕ) (xs : List (ℕ × 
 skipped_has [] ys x xs q normal ended = refl
 skipped_has (y ∷ gone) ys x xs q normal ended = past x y xs (gone ++ ys) q normal ended.0 ∙ skipped_has gone ys x xs q normal ended.1
 
-pub lacking_skipped : (ns : List (List (List (ℕ × ℕ)))) (bs : List (List (ℕ × ℕ))) (rs xs ys t whole_xs whole_ys : List (ℕ × ℕ)) (x y : ℕ × ℕ) (f r : Option (ℕ × ℕ)) (n : ℕ) → IsLacking ns bs rs (x ∷ xs) (y ∷ ys) whole_xs whole_ys → f ≡ Some x → y.1 ≤ x.0 → Advances (x.0, x.0) ys t r n → IsLacking ns bs rs (begun f xs) (begun r t) whole_xs whole_ys
-lacking_skipped ns bs rs xs ys t whole_xs whole_ys x y f r n l is le a =
+pub lacking_skipped : (ks xs ys t whole_xs whole_ys : List (ℕ × ℕ)) (x y : ℕ × ℕ) (f r : Option (ℕ × ℕ)) (n : ℕ) → IsLacking ks (x ∷ xs) (y ∷ ys) whole_xs whole_ys → f ≡ Some x → y.1 ≤ x.0 → Advances (x.0, x.0) ys t r n → IsLacking ks (begun f xs) (begun r t) whole_xs whole_ys
+lacking_skipped ks xs ys t whole_xs whole_ys x y f r n l is le a =
     let b = begun_is a.rest r t a.step in
     let c : begun f xs ≡ x ∷ xs = ap (λ o. begun o xs) is in
     let parts = a.passed.parts in
-    subst (λ (k : List (ℕ × ℕ)). IsLacking ns bs rs k (begun r t) whole_xs whole_ys) (sym c)
-    (subst (λ (k : List (ℕ × ℕ)). IsLacking ns bs rs (x ∷ xs) k whole_xs whole_ys) (sym b) (record {
+    subst (λ (k : List (ℕ × ℕ)). IsLacking ks k (begun r t) whole_xs whole_ys) (sym c)
+    (subst (λ (k : List (ℕ × ℕ)). IsLacking ks (x ∷ xs) k whole_xs whole_ys) (sym b) (record {
       built = l.built;
       first_normal = l.first_normal;
       second_normal = IsNormal-suffix a.passed.gone a.rest (subst IsNormal parts l.second_normal.3);
       below = l.below;
-      same = λ q. ap (λ k. in_ranges (kept_of ns bs rs) q || k)
+      same = λ q. ap (λ k. in_ranges ks q || k)
           (sym (skipped_has a.passed.gone a.rest x xs q l.first_normal a.passed.ended)
           ∙ ap (λ (k : List (ℕ × ℕ)). in_ranges (x ∷ xs) q && not (in_ranges k q)) (sym parts)
           ∙ sym (past x y xs ys q l.first_normal le)) ∙ l.same q;
     }))
 
 -- the first list's next range was kept as far as it comes before the second's
-pub lacking_kept : (ns ns' : List (List (List (ℕ × ℕ)))) (bs bs' : List (List (ℕ × ℕ))) (rs rs' xs ys whole_xs whole_ys : List (ℕ × ℕ)) (x y : ℕ × ℕ) (to : ℕ) → IsLacking ns bs rs (x ∷ xs) (y ∷ ys) whole_xs whole_ys → x.1 ≤ y.1 → to ≡ min x.1 y.0 → IsBuilt ns' bs' rs' → ((f : ℕ) → x.0 ≤ f → to < f → EndsBelow f (kept_of ns' bs' rs')) → ((q : ℕ) → in_ranges (kept_of ns' bs' rs') q ≡ (in_ranges (kept_of ns bs rs) q || in_range (x.0, to) q)) → IsLacking ns' bs' rs' xs (y ∷ ys) whole_xs whole_ys
-lacking_kept ns ns' bs bs' rs rs' xs ys whole_xs whole_ys x y to l ends is built below same =
+pub lacking_kept : (ks ks' xs ys whole_xs whole_ys : List (ℕ × ℕ)) (x y : ℕ × ℕ) (to : ℕ) → IsLacking ks (x ∷ xs) (y ∷ ys) whole_xs whole_ys → x.1 ≤ y.1 → to ≡ min x.1 y.0 → IsNormal ks' → ((f : ℕ) → x.0 ≤ f → to < f → EndsBelow f ks') → ((q : ℕ) → in_ranges ks' q ≡ (in_ranges ks q || in_range (x.0, to) q)) → IsLacking ks' xs (y ∷ ys) whole_xs whole_ys
+lacking_kept ks ks' xs ys whole_xs whole_ys x y to l ends is built below same =
     let next : x.1 < next_of xs = (ends_next (x ∷ []) xs l.first_normal).0 in
     let filled : x.0 < x.1 = l.first_normal.0 in
     record {
@@ -209,16 +208,16 @@ lacking_kept ns ns' bs bs' rs rs' xs ys whole_xs whole_ys x y to l ends is built
       second_normal = l.second_normal;
       below = below (next_of xs) (omega arith) (omega (arith, is));
       same = λ q. ap (λ k. k || (in_ranges xs q && not (in_ranges (y ∷ ys) q))) (same q)
-          ∙ or_first (in_ranges (kept_of ns bs rs) q) (in_range (x.0, to) q) (in_ranges xs q && not (in_ranges (y ∷ ys) q))
-          ∙ ap (λ k. in_ranges (kept_of ns bs rs) q || k) (sym (gone x y xs ys to q l.first_normal l.second_normal ends is))
+          ∙ or_first (in_ranges ks q) (in_range (x.0, to) q) (in_ranges xs q && not (in_ranges (y ∷ ys) q))
+          ∙ ap (λ k. in_ranges ks q || k) (sym (gone x y xs ys to q l.first_normal l.second_normal ends is))
           ∙ l.same q;
     }
 
 -- the second list has no more
-pub lacking_all : (ns ns' : List (List (List (ℕ × ℕ)))) (bs bs' : List (List (ℕ × ℕ))) (rs rs' xs ys whole_xs whole_ys : List (ℕ × ℕ)) (x : ℕ × ℕ) (s : Option (ℕ × ℕ)) → IsLacking ns bs rs (x ∷ xs) (begun s ys) whole_xs whole_ys → s ≡ None → IsBuilt ns' bs' rs' → ((f : ℕ) → x.0 ≤ f → x.1 < f → EndsBelow f (kept_of ns' bs' rs')) → ((q : ℕ) → in_ranges (kept_of ns' bs' rs') q ≡ (in_ranges (kept_of ns bs rs) q || in_range (x.0, x.1) q)) → IsLacking ns' bs' rs' xs [] whole_xs whole_ys
-lacking_all ns ns' bs bs' rs rs' xs ys whole_xs whole_ys x s from none built below same =
+pub lacking_all : (ks ks' xs ys whole_xs whole_ys : List (ℕ × ℕ)) (x : ℕ × ℕ) (s : Option (ℕ × ℕ)) → IsLacking ks (x ∷ xs) (begun s ys) whole_xs whole_ys → s ≡ None → IsNormal ks' → ((f : ℕ) → x.0 ≤ f → x.1 < f → EndsBelow f ks') → ((q : ℕ) → in_ranges ks' q ≡ (in_ranges ks q || in_range (x.0, x.1) q)) → IsLacking ks' xs [] whole_xs whole_ys
+lacking_all ks ks' xs ys whole_xs whole_ys x s from none built below same =
     let empty : begun s ys ≡ [] = ap (λ o. begun o ys) none in
-    let l = subst (λ (k : List (ℕ × ℕ)). IsLacking ns bs rs (x ∷ xs) k whole_xs whole_ys) empty from in
+    let l = subst (λ (k : List (ℕ × ℕ)). IsLacking ks (x ∷ xs) k whole_xs whole_ys) empty from in
     let next : x.1 < next_of xs = (ends_next (x ∷ []) xs l.first_normal).0 in
     let filled : x.0 < x.1 = l.first_normal.0 in
     record {
@@ -227,12 +226,12 @@ lacking_all ns ns' bs bs' rs rs' xs ys whole_xs whole_ys x s from none built bel
       second_normal = tt;
       below = below (next_of xs) (omega arith) next;
       same = λ q. ap (λ k. k || (in_ranges xs q && not (in_ranges [] q))) (same q)
-          ∙ or_first (in_ranges (kept_of ns bs rs) q) (in_range (x.0, x.1) q) (in_ranges xs q && not (in_ranges [] q))
-          ∙ ap (λ k. in_ranges (kept_of ns bs rs) q || k) (sym (whole (in_range x q) (in_ranges xs q)))
+          ∙ or_first (in_ranges ks q) (in_range (x.0, x.1) q) (in_ranges xs q && not (in_ranges [] q))
+          ∙ ap (λ k. in_ranges ks q || k) (sym (whole (in_range x q) (in_ranges xs q)))
           ∙ l.same q;
     }
 
-pub lacked : (ns : List (List (List (ℕ × ℕ)))) (bs : List (List (ℕ × ℕ))) (rs xs ys whole_xs whole_ys : List (ℕ × ℕ)) (f : Option (ℕ × ℕ)) → IsLacking ns bs rs (begun f xs) ys whole_xs whole_ys → f ≡ None → (q : ℕ) → in_ranges (kept_of ns bs rs) q ≡ (in_ranges whole_xs q && not (in_ranges whole_ys q))
-lacked ns bs rs xs ys whole_xs whole_ys f s none q =
-    sym (or_false (in_ranges (kept_of ns bs rs) q))
-    ∙ (λ i. in_ranges (kept_of ns bs rs) q || (in_ranges (begun (sym none i) xs) q && not (in_ranges ys q))) ∙ s.same q
+pub lacked : (ks xs ys whole_xs whole_ys : List (ℕ × ℕ)) (f : Option (ℕ × ℕ)) → IsLacking ks (begun f xs) ys whole_xs whole_ys → f ≡ None → (q : ℕ) → in_ranges ks q ≡ (in_ranges whole_xs q && not (in_ranges whole_ys q))
+lacked ks xs ys whole_xs whole_ys f s none q =
+    sym (or_false (in_ranges ks q))
+    ∙ (λ i. in_ranges ks q || (in_ranges (begun (sym none i) xs) q && not (in_ranges ys q))) ∙ s.same q

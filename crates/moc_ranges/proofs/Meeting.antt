@@ -5,10 +5,9 @@ use Rattle.std.proofs.lemmas.Bool.{cases_lt, or_cases, and_parts, leb-true, ltb-
 use Rattle.std.proofs.lemmas.Bool.Decides.{nat_tests}
 use Rattle.moc_ranges.specs.RangeList.{IsNormal, in_range, in_ranges}
 use Rattle.moc_ranges.specs.Private.Blocks.{next_of}
-use Rattle.moc_ranges.specs.Private.Built.{IsBuilt, EndsBelow, Carries, TakesCommon, kept_of}
+use Rattle.moc_ranges.specs.Private.Built.{EndsBelow, Carries, TakesCommon}
 use Rattle.moc_ranges.specs.Private.Walks.{begun, EndsBy, Advances}
 use Rattle.moc_ranges.proofs.Merging.{next_later, ends_next, in_ranges-append, or_false, EndsBelow-append, EndsBelow-more}
-use Rattle.moc_ranges.proofs.Filling.{no_nodes}
 use Rattle.moc_ranges.proofs.Blocking.{IsNormal-suffix}
 use Rattle.moc_ranges.proofs.CarriedOver.{carried_after}
 use Rattle.moc_ranges.proofs.Turning.{or_first}
@@ -36,30 +35,30 @@ pieces_back x y xs ys from to q nx ends f t =
     ∙ ap (λ b. in_range (from, to) q || b) (and_swap (in_ranges ys q) (in_ranges (x ∷ xs) q))
 
 -- how far an intersection has come
-pub record IsMeeting (ns : List (List (List (ℕ × ℕ)))) (bs : List (List (ℕ × ℕ))) (rs xs ys whole_xs whole_ys : List (ℕ × ℕ)) : Type 0 where
-  pub built : IsBuilt ns bs rs
+pub record IsMeeting (ks xs ys whole_xs whole_ys : List (ℕ × ℕ)) : Type 0 where
+  pub built : IsNormal ks
   pub first_normal : IsNormal xs
   pub second_normal : IsNormal ys
-  pub below : EndsBelow (max (next_of xs) (next_of ys)) (kept_of ns bs rs)
-  pub same : (q : ℕ) → (in_ranges (kept_of ns bs rs) q || (in_ranges xs q && in_ranges ys q)) ≡ (in_ranges whole_xs q && in_ranges whole_ys q)
+  pub below : EndsBelow (max (next_of xs) (next_of ys)) ks
+  pub same : (q : ℕ) → (in_ranges ks q || (in_ranges xs q && in_ranges ys q)) ≡ (in_ranges whole_xs q && in_ranges whole_ys q)
 
-pub meeting_start : (ns : List (List (List (ℕ × ℕ)))) (bs : List (List (ℕ × ℕ))) (rs xs ys t u : List (ℕ × ℕ)) (r s : Option (ℕ × ℕ)) → ns ≡ [] → bs ≡ [] → rs ≡ [] → IsNormal xs → IsNormal ys → Steps xs r t → Steps ys s u → IsMeeting ns bs rs (begun r t) (begun s u) xs ys
-meeting_start ns bs rs xs ys t u r s n b e nx ny rt su =
+pub meeting_start : (ks xs ys t u : List (ℕ × ℕ)) (r s : Option (ℕ × ℕ)) → ks ≡ [] → IsNormal xs → IsNormal ys → Steps xs r t → Steps ys s u → IsMeeting ks (begun r t) (begun s u) xs ys
+meeting_start ks xs ys t u r s n nx ny rt su =
     let bx = begun_is xs r t rt in
     let by = begun_is ys s u su in
-    let start : IsMeeting [] [] [] xs ys xs ys = record {
-      built = record { sized = tt; wide = no_nodes; fits = omega arith; normal = tt };
+    let start : IsMeeting [] xs ys xs ys = record {
+      built = tt;
       first_normal = nx;
       second_normal = ny;
       below = tt;
       same = λ q. refl;
     } in
-    subst (λ (l : List (ℕ × ℕ)). IsMeeting ns bs rs l (begun s u) xs ys) (sym bx)
-    (subst (λ (l : List (ℕ × ℕ)). IsMeeting ns bs rs xs l xs ys) (sym by) (rw (n, b, e) start))
+    subst (λ (l : List (ℕ × ℕ)). IsMeeting ks l (begun s u) xs ys) (sym bx)
+    (subst (λ (l : List (ℕ × ℕ)). IsMeeting ks xs l xs ys) (sym by) (rw n start))
 
 -- the first list's next range gave what it has in common with the second's
-pub meeting_kept : (ns ns' : List (List (List (ℕ × ℕ)))) (bs bs' : List (List (ℕ × ℕ))) (rs rs' xs ys whole_xs whole_ys : List (ℕ × ℕ)) (x y : ℕ × ℕ) → IsMeeting ns bs rs (x ∷ xs) (y ∷ ys) whole_xs whole_ys → x.1 ≤ y.1 → IsBuilt ns' bs' rs' → ((f : ℕ) → max x.0 y.0 ≤ f → min x.1 y.1 < f → EndsBelow f (kept_of ns' bs' rs')) → ((q : ℕ) → in_ranges (kept_of ns' bs' rs') q ≡ (in_ranges (kept_of ns bs rs) q || in_range (max x.0 y.0, min x.1 y.1) q)) → IsMeeting ns' bs' rs' xs (y ∷ ys) whole_xs whole_ys
-meeting_kept ns ns' bs bs' rs rs' xs ys whole_xs whole_ys x y s ends built below same =
+pub meeting_kept : (ks ks' xs ys whole_xs whole_ys : List (ℕ × ℕ)) (x y : ℕ × ℕ) → IsMeeting ks (x ∷ xs) (y ∷ ys) whole_xs whole_ys → x.1 ≤ y.1 → IsNormal ks' → ((f : ℕ) → max x.0 y.0 ≤ f → min x.1 y.1 < f → EndsBelow f ks') → ((q : ℕ) → in_ranges ks' q ≡ (in_ranges ks q || in_range (max x.0 y.0, min x.1 y.1) q)) → IsMeeting ks' xs (y ∷ ys) whole_xs whole_ys
+meeting_kept ks ks' xs ys whole_xs whole_ys x y s ends built below same =
     let next : x.1 < next_of xs = (ends_next (x ∷ []) xs s.first_normal).0 in
     let filled : x.0 < x.1 = s.first_normal.0 in
     record {
@@ -68,27 +67,27 @@ meeting_kept ns ns' bs bs' rs rs' xs ys whole_xs whole_ys x y s ends built below
       second_normal = s.second_normal;
       below = below (max (next_of xs) y.0) (omega arith) (omega arith);
       same = λ q. ap (λ k. k || (in_ranges xs q && in_ranges (y ∷ ys) q)) (same q)
-          ∙ or_first (in_ranges (kept_of ns bs rs) q) (in_range (max x.0 y.0, min x.1 y.1) q) (in_ranges xs q && in_ranges (y ∷ ys) q)
-          ∙ ap (λ k. in_ranges (kept_of ns bs rs) q || k) (sym (pieces x y xs ys (max x.0 y.0) (min x.1 y.1) q s.second_normal ends refl refl))
+          ∙ or_first (in_ranges ks q) (in_range (max x.0 y.0, min x.1 y.1) q) (in_ranges xs q && in_ranges (y ∷ ys) q)
+          ∙ ap (λ k. in_ranges ks q || k) (sym (pieces x y xs ys (max x.0 y.0) (min x.1 y.1) q s.second_normal ends refl refl))
           ∙ s.same q;
     }
 
-pub meeting_swap : (ns : List (List (List (ℕ × ℕ)))) (bs : List (List (ℕ × ℕ))) (rs xs ys whole_xs whole_ys : List (ℕ × ℕ)) → IsMeeting ns bs rs xs ys whole_xs whole_ys → IsMeeting ns bs rs ys xs whole_ys whole_xs
-meeting_swap ns bs rs xs ys whole_xs whole_ys s = record {
+pub meeting_swap : (ks xs ys whole_xs whole_ys : List (ℕ × ℕ)) → IsMeeting ks xs ys whole_xs whole_ys → IsMeeting ks ys xs whole_ys whole_xs
+meeting_swap ks xs ys whole_xs whole_ys s = record {
   built = s.built;
   first_normal = s.second_normal;
   second_normal = s.first_normal;
-  below = EndsBelow-more (max (next_of xs) (next_of ys)) (max (next_of ys) (next_of xs)) (kept_of ns bs rs) s.below (omega arith);
-  same = λ q. ap (λ k. in_ranges (kept_of ns bs rs) q || k) (and_swap (in_ranges ys q) (in_ranges xs q)) ∙ s.same q ∙ and_swap (in_ranges whole_xs q) (in_ranges whole_ys q);
+  below = EndsBelow-more (max (next_of xs) (next_of ys)) (max (next_of ys) (next_of xs)) ks s.below (omega arith);
+  same = λ q. ap (λ k. in_ranges ks q || k) (and_swap (in_ranges ys q) (in_ranges xs q)) ∙ s.same q ∙ and_swap (in_ranges whole_xs q) (in_ranges whole_ys q);
 }
 
 -- the second list's next range gave what it has in common with the first's
-pub meeting_kept_back : (ns ns' : List (List (List (ℕ × ℕ)))) (bs bs' : List (List (ℕ × ℕ))) (rs rs' xs ys whole_xs whole_ys : List (ℕ × ℕ)) (x y : ℕ × ℕ) → IsMeeting ns bs rs (x ∷ xs) (y ∷ ys) whole_xs whole_ys → y.1 ≤ x.1 → IsBuilt ns' bs' rs' → ((f : ℕ) → max x.0 y.0 ≤ f → min x.1 y.1 < f → EndsBelow f (kept_of ns' bs' rs')) → ((q : ℕ) → in_ranges (kept_of ns' bs' rs') q ≡ (in_ranges (kept_of ns bs rs) q || in_range (max x.0 y.0, min x.1 y.1) q)) → IsMeeting ns' bs' rs' ys (x ∷ xs) whole_ys whole_xs
-meeting_kept_back ns ns' bs bs' rs rs' xs ys whole_xs whole_ys x y s ends built below same =
+pub meeting_kept_back : (ks ks' xs ys whole_xs whole_ys : List (ℕ × ℕ)) (x y : ℕ × ℕ) → IsMeeting ks (x ∷ xs) (y ∷ ys) whole_xs whole_ys → y.1 ≤ x.1 → IsNormal ks' → ((f : ℕ) → max x.0 y.0 ≤ f → min x.1 y.1 < f → EndsBelow f ks') → ((q : ℕ) → in_ranges ks' q ≡ (in_ranges ks q || in_range (max x.0 y.0, min x.1 y.1) q)) → IsMeeting ks' ys (x ∷ xs) whole_ys whole_xs
+meeting_kept_back ks ks' xs ys whole_xs whole_ys x y s ends built below same =
     let from : max x.0 y.0 ≡ max y.0 x.0 = omega arith in
     let to : min x.1 y.1 ≡ min y.1 x.1 = omega arith in
-    meeting_kept ns ns' bs bs' rs rs' ys xs whole_ys whole_xs y x (meeting_swap ns bs rs (x ∷ xs) (y ∷ ys) whole_xs whole_ys s) ends built
-    (λ f le lt. below f (omega arith) (omega arith)) (λ q. same q ∙ (λ i. in_ranges (kept_of ns bs rs) q || in_range (from i, to i) q))
+    meeting_kept ks ks' ys xs whole_ys whole_xs y x (meeting_swap ks (x ∷ xs) (y ∷ ys) whole_xs whole_ys s) ends built
+    (λ f le lt. below f (omega arith) (omega arith)) (λ q. same q ∙ (λ i. in_ranges ks q || in_range (from i, to i) q))
 
 ends_by_in : (limit : ℕ) (rs : List (ℕ × ℕ)) (q : ℕ) → EndsBy limit rs → in_ranges rs q ≡ true → q < limit
 ends_by_in limit [] q ended e = absurd (cc)
@@ -110,15 +109,15 @@ common_parts gone xs ys y q normal ended =
     (λ here. let lt : q < y.1 = ends_by_in y.1 gone q ended here in later_only y.1 q ys normal.3 normal.2 (omega arith))
 
 -- more ranges of the first list gave what they have in common with the second's next range
-pub meeting_taken : (ns ns' : List (List (List (ℕ × ℕ)))) (bs bs' : List (List (ℕ × ℕ))) (rs rs' xs xs' ys whole_xs whole_ys : List (ℕ × ℕ)) (y : ℕ × ℕ) → IsMeeting ns bs rs xs (y ∷ ys) whole_xs whole_ys → TakesCommon xs xs' y ns ns' bs bs' rs rs' → IsMeeting ns' bs' rs' xs' (y ∷ ys) whole_xs whole_ys
-meeting_taken ns ns' bs bs' rs rs' xs xs' ys whole_xs whole_ys y s t = record {
+pub meeting_taken : (ks ks' xs xs' ys whole_xs whole_ys : List (ℕ × ℕ)) (y : ℕ × ℕ) → IsMeeting ks xs (y ∷ ys) whole_xs whole_ys → TakesCommon xs xs' y ks ks' → IsMeeting ks' xs' (y ∷ ys) whole_xs whole_ys
+meeting_taken ks ks' xs xs' ys whole_xs whole_ys y s t = record {
   built = t.built;
   first_normal = IsNormal-suffix t.gone xs' (subst IsNormal t.parts s.first_normal);
   second_normal = s.second_normal;
   below = t.below;
   same = λ q. ap (λ k. k || (in_ranges xs' q && in_ranges (y ∷ ys) q)) (t.same q)
-      ∙ or_first (in_ranges (kept_of ns bs rs) q) (in_ranges t.gone q && in_range y q) (in_ranges xs' q && in_ranges (y ∷ ys) q)
-      ∙ ap (λ k. in_ranges (kept_of ns bs rs) q || k) (sym (common_parts t.gone xs' ys y q s.second_normal t.ended) ∙ ap (λ (l : List (ℕ × ℕ)). in_ranges l q && in_ranges (y ∷ ys) q) (sym t.parts))
+      ∙ or_first (in_ranges ks q) (in_ranges t.gone q && in_range y q) (in_ranges xs' q && in_ranges (y ∷ ys) q)
+      ∙ ap (λ k. in_ranges ks q || k) (sym (common_parts t.gone xs' ys y q s.second_normal t.ended) ∙ ap (λ (l : List (ℕ × ℕ)). in_ranges l q && in_ranges (y ∷ ys) q) (sym t.parts))
       ∙ s.same q;
 }
 
@@ -139,8 +138,8 @@ ends_by-below : (limit : ℕ) (rs : List (ℕ × ℕ)) → EndsBelow (limit + 1)
 ends_by-below limit [] below = tt
 ends_by-below limit (r ∷ rs) below = (omega (arith, below.0), ends_by-below limit rs below.1)
 
-pub taken_past : (ns : List (List (List (ℕ × ℕ)))) (bs : List (List (ℕ × ℕ))) (rs xs t : List (ℕ × ℕ)) (y : ℕ × ℕ) (r : Option (ℕ × ℕ)) (n : ℕ) → IsNormal xs → y.0 ≤ y.1 → IsBuilt ns bs rs → EndsBelow (max (next_of xs) y.0) (kept_of ns bs rs) → Advances (y.0, y.0) xs t r n → TakesCommon xs (begun r t) y ns ns bs bs rs rs
-taken_past ns bs rs xs t y r n normal rises built after a =
+pub taken_past : (ks xs t : List (ℕ × ℕ)) (y : ℕ × ℕ) (r : Option (ℕ × ℕ)) (n : ℕ) → IsNormal xs → y.0 ≤ y.1 → IsNormal ks → EndsBelow (max (next_of xs) y.0) ks → Advances (y.0, y.0) xs t r n → TakesCommon xs (begun r t) y ks ks
+taken_past ks xs t y r n normal rises built after a =
     let parts = a.passed.parts ∙ ap (λ (l : List (ℕ × ℕ)). a.passed.gone ++ l) (sym (begun_is a.rest r t a.step)) in
     let whole = subst IsNormal parts normal in
     record {
@@ -148,9 +147,9 @@ taken_past ns bs rs xs t y r n normal rises built after a =
       parts = parts;
       ended = EndsBy-more y.0 y.1 a.passed.gone rises a.passed.ended;
       built = built;
-      below = EndsBelow-more (max (next_of xs) y.0) (max (next_of (begun r t)) y.0) (kept_of ns bs rs) after
+      below = EndsBelow-more (max (next_of xs) y.0) (max (next_of (begun r t)) y.0) ks after
           (omega (arith, ap next_of parts, next_later a.passed.gone (begun r t) whole));
-      same = λ q. ended_bool (in_ranges (kept_of ns bs rs) q) (in_ranges a.passed.gone q) (in_range y q) (λ here. before_range y q (ends_by_in y.0 a.passed.gone q a.passed.ended here));
+      same = λ q. ended_bool (in_ranges ks q) (in_ranges a.passed.gone q) (in_range y q) (λ here. before_range y q (ends_by_in y.0 a.passed.gone q a.passed.ended here));
     }
 
 inside_bool : (k g y : Bool) → (g ≡ true → y ≡ true) → (k || g) ≡ (k || (g && y))
@@ -171,8 +170,8 @@ normal_from (r ∷ rs) ss q normal e = elim (or_cases (in_range r q) (in_ranges 
 range_holds : (y : ℕ × ℕ) (q : ℕ) → y.0 ≤ q → q < y.1 → in_range y q ≡ true
 range_holds y q low high = grind (arith, nat_tests)
 
-pub taken_carried : (ns ns' : List (List (List (ℕ × ℕ)))) (bs bs' : List (List (ℕ × ℕ))) (rs rs' xs xs' : List (ℕ × ℕ)) (y : ℕ × ℕ) (limit : ℕ) → IsNormal xs → y.0 ≤ next_of xs → limit ≡ y.1 + 1 → EndsBelow (next_of xs) (kept_of ns bs rs) → Carries xs xs' limit ns ns' bs bs' rs rs' → TakesCommon xs xs' y ns ns' bs bs' rs rs'
-taken_carried ns ns' bs bs' rs rs' xs xs' y limit normal from is after c =
+pub taken_carried : (ks ks' xs xs' : List (ℕ × ℕ)) (y : ℕ × ℕ) (limit : ℕ) → IsNormal xs → y.0 ≤ next_of xs → limit ≡ y.1 + 1 → EndsBelow (next_of xs) ks → Carries xs xs' limit ks ks' → TakesCommon xs xs' y ks ks'
+taken_carried ks ks' xs xs' y limit normal from is after c =
     let whole = subst IsNormal c.parts normal in
     let ended = ends_by-below y.1 c.gone (subst (λ n. EndsBelow n c.gone) is c.below) in
     record {
@@ -180,9 +179,9 @@ taken_carried ns ns' bs bs' rs rs' xs xs' y limit normal from is after c =
       parts = c.parts;
       ended = ended;
       built = c.built;
-      below = EndsBelow-more (next_of xs') (max (next_of xs') y.0) (kept_of ns' bs' rs') (carried_after ns ns' bs bs' rs rs' xs xs' limit normal after c) (omega arith);
-      same = λ q. ap (λ (l : List (ℕ × ℕ)). in_ranges l q) c.kept ∙ in_ranges-append (kept_of ns bs rs) c.gone q
-          ∙ inside_bool (in_ranges (kept_of ns bs rs) q) (in_ranges c.gone q) (in_range y q)
+      below = EndsBelow-more (next_of xs') (max (next_of xs') y.0) ks' (carried_after ks ks' xs xs' limit normal after c) (omega arith);
+      same = λ q. ap (λ (l : List (ℕ × ℕ)). in_ranges l q) c.kept ∙ in_ranges-append ks c.gone q
+          ∙ inside_bool (in_ranges ks q) (in_ranges c.gone q) (in_range y q)
           (λ here. range_holds y q (omega (arith, from, ap next_of c.parts, normal_from c.gone xs' q whole here)) (ends_by_in y.1 c.gone q ended here));
     }
 
@@ -190,16 +189,16 @@ and_none : (a : Bool) → (a && false) ≡ false
 and_none true = refl
 and_none false = refl
 
-pub met_first : (ns : List (List (List (ℕ × ℕ)))) (bs : List (List (ℕ × ℕ))) (rs xs ys whole_xs whole_ys : List (ℕ × ℕ)) (f : Option (ℕ × ℕ)) → IsMeeting ns bs rs (begun f xs) ys whole_xs whole_ys → f ≡ None → (q : ℕ) → in_ranges (kept_of ns bs rs) q ≡ (in_ranges whole_xs q && in_ranges whole_ys q)
-met_first ns bs rs xs ys whole_xs whole_ys f s none q =
-    sym (or_false (in_ranges (kept_of ns bs rs) q))
-    ∙ (λ i. in_ranges (kept_of ns bs rs) q || (in_ranges (begun (sym none i) xs) q && in_ranges ys q)) ∙ s.same q
+pub met_first : (ks xs ys whole_xs whole_ys : List (ℕ × ℕ)) (f : Option (ℕ × ℕ)) → IsMeeting ks (begun f xs) ys whole_xs whole_ys → f ≡ None → (q : ℕ) → in_ranges ks q ≡ (in_ranges whole_xs q && in_ranges whole_ys q)
+met_first ks xs ys whole_xs whole_ys f s none q =
+    sym (or_false (in_ranges ks q))
+    ∙ (λ i. in_ranges ks q || (in_ranges (begun (sym none i) xs) q && in_ranges ys q)) ∙ s.same q
 
-pub met_second : (ns : List (List (List (ℕ × ℕ)))) (bs : List (List (ℕ × ℕ))) (rs xs ys whole_xs whole_ys : List (ℕ × ℕ)) (f : Option (ℕ × ℕ)) → IsMeeting ns bs rs xs (begun f ys) whole_xs whole_ys → f ≡ None → (q : ℕ) → in_ranges (kept_of ns bs rs) q ≡ (in_ranges whole_xs q && in_ranges whole_ys q)
-met_second ns bs rs xs ys whole_xs whole_ys f s none q =
-    sym (or_false (in_ranges (kept_of ns bs rs) q))
-    ∙ ap (λ k. in_ranges (kept_of ns bs rs) q || k) (sym (and_none (in_ranges xs q)))
-    ∙ (λ i. in_ranges (kept_of ns bs rs) q || (in_ranges xs q && in_ranges (begun (sym none i) ys) q)) ∙ s.same q
+pub met_second : (ks xs ys whole_xs whole_ys : List (ℕ × ℕ)) (f : Option (ℕ × ℕ)) → IsMeeting ks xs (begun f ys) whole_xs whole_ys → f ≡ None → (q : ℕ) → in_ranges ks q ≡ (in_ranges whole_xs q && in_ranges whole_ys q)
+met_second ks xs ys whole_xs whole_ys f s none q =
+    sym (or_false (in_ranges ks q))
+    ∙ ap (λ k. in_ranges ks q || k) (sym (and_none (in_ranges xs q)))
+    ∙ (λ i. in_ranges ks q || (in_ranges xs q && in_ranges (begun (sym none i) ys) q)) ∙ s.same q
 
 -- what is built after two ranges gave what they have in common
 pub common_after : (kept : List (ℕ × ℕ)) (from from' : ℕ) → EndsBelow from kept → from' ≡ from → EndsBelow from' kept

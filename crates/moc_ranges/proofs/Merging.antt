@@ -2,10 +2,9 @@
 use Rattle.std.proofs.Common.{◌≡◌, ℕ, ◌<◌, ◌≤◌, Bool, true, false, ◌||◌, List, [], ◌∷◌, ◌++◌, length, refl, sym, ap, subst, ◌∙◌, arith, length-append}
 use Rattle.std.proofs.lemmas.List.Folds.{list_any-append}
 use Rattle.moc_ranges.specs.RangeList.{IsNormal, in_range, in_ranges}
-use Rattle.moc_ranges.specs.Private.Blocks.{joining, last_of, next_of}
-use Rattle.moc_ranges.specs.Private.Built.{IsBuilt, CanJoin, TakesOver, EndsBelow, BeginsBy, kept_of}
-use Rattle.moc_ranges.proofs.Filling.{no_nodes}
-use Rattle.moc_ranges.proofs.Blocking.{IsNormal-prefix, IsNormal-suffix}
+use Rattle.moc_ranges.specs.Private.Blocks.{last_of, next_of}
+use Rattle.moc_ranges.specs.Private.Built.{Growing, ranges_of, none_grown, CanJoin, CanTake, CanCarry, Carries, TakesOver, EndsBelow, BeginsBy}
+use Rattle.moc_ranges.proofs.Blocking.{IsNormal-suffix}
 
 pub in_ranges-append : (rs ss : List (ℕ × ℕ)) (q : ℕ) → in_ranges (rs ++ ss) q ≡ (in_ranges rs q || in_ranges ss q)
 in_ranges-append rs ss q = list_any-append (λ range. in_range range q) rs ss
@@ -76,43 +75,43 @@ pub some_next : (rs : List (ℕ × ℕ)) → next_of rs < 18446744073709551615 �
 some_next [] lt = absurd (omega arith)
 some_next (r ∷ rs) lt = omega arith
 
-pub CanJoin-more : (ns : List (List (List (ℕ × ℕ)))) (bs : List (List (ℕ × ℕ))) (rs : List (ℕ × ℕ)) (f g : ℕ) → CanJoin ns bs rs f → f ≤ g → CanJoin ns bs rs g
-CanJoin-more ns bs rs f g can le = record { before = EndsBelow-more f g (joining (joining ns ++ bs)) can.before le; begun = BeginsBy-more f g rs can.begun le }
+pub CanJoin-more : (u : Growing) (f g : ℕ) → CanJoin u f → f ≤ g → CanJoin u g
+CanJoin-more u f g can le = record { before = EndsBelow-more f g u.closed can.before le; begun = BeginsBy-more f g u.loose can.begun le }
 
-pub normal_ranges : (ns : List (List (List (ℕ × ℕ)))) (bs : List (List (ℕ × ℕ))) (rs : List (ℕ × ℕ)) → IsBuilt ns bs rs → IsNormal rs
-normal_ranges ns bs rs built = IsNormal-suffix (joining (joining ns ++ bs)) rs built.normal
+-- what is loose of a normal list
+pub normal_loose : (u : Growing) → IsNormal (ranges_of u) → IsNormal u.loose
+normal_loose u built = IsNormal-suffix u.closed u.loose built
 
--- a block of a list can be carried behind what is built
-pub carried_normal : (ns : List (List (List (ℕ × ℕ)))) (bs : List (List (ℕ × ℕ))) (rs xs block xs' : List (ℕ × ℕ)) → IsBuilt ns bs rs → IsNormal xs → xs ≡ block ++ xs' → 0 < length block → CanJoin ns bs rs (next_of xs) → EndsBelow (next_of xs) rs → IsNormal (kept_of ns bs rs ++ block)
-carried_normal ns bs rs xs block xs' built normal parts some can apart =
-    let whole = subst IsNormal parts normal in
-    let first : next_of xs ≡ next_of block = ap next_of parts ∙ next_append block xs' some in
-    let below = EndsBelow-append (next_of xs) (joining (joining ns ++ bs)) rs can.before apart in
-    normal_append (kept_of ns bs rs) block built.normal (IsNormal-prefix block xs' whole) (subst (λ f. EndsBelow f (kept_of ns bs rs)) first below)
+pub all_end_below : (u : Growing) (f : ℕ) → CanJoin u f → EndsBelow f u.loose → EndsBelow f (ranges_of u)
+all_end_below u f can apart = EndsBelow-append f u.closed u.loose can.before apart
+
+-- what comes next in a list can be carried, where what is loose ends before
+pub can_carry : (u : Growing) (xs : List (ℕ × ℕ)) (limit : ℕ) → CanTake xs limit u → EndsBelow (next_of xs) u.loose → CanCarry xs (ranges_of u)
+can_carry u xs limit can apart = record { normal = can.normal; built = can.built; after = all_end_below u (next_of xs) can.can apart }
 
 -- what ends below f lets a range be joined that begins there
-can_of_ends : (ns : List (List (List (ℕ × ℕ)))) (bs : List (List (ℕ × ℕ))) (rs : List (ℕ × ℕ)) (f : ℕ) → IsBuilt ns bs rs → EndsBelow f (kept_of ns bs rs) → CanJoin ns bs rs f
-can_of_ends ns bs rs f built ends = record {
-  before = EndsBelow-first f (joining (joining ns ++ bs)) rs ends;
-  begun = begins_of_ends f rs (normal_ranges ns bs rs built) (ends_second f (joining (joining ns ++ bs)) rs ends);
+can_of_ends : (u : Growing) (f : ℕ) → IsNormal (ranges_of u) → EndsBelow f (ranges_of u) → CanJoin u f
+can_of_ends u f built ends = record {
+  before = EndsBelow-first f u.closed u.loose ends;
+  begun = begins_of_ends f u.loose (normal_loose u built) (ends_second f u.closed u.loose ends);
 }
 
--- ranges of a list were put behind what is built
-pub carried : (ns ns' : List (List (List (ℕ × ℕ)))) (bs bs' : List (List (ℕ × ℕ))) (rs rs' xs block xs' : List (ℕ × ℕ)) (limit : ℕ) → IsNormal xs → xs ≡ block ++ xs' → 0 < length block → CanJoin ns bs rs (next_of xs) → EndsBelow (next_of xs) rs → next_of xs ≤ limit → last_of block < limit → IsBuilt ns' bs' rs' → kept_of ns' bs' rs' ≡ kept_of ns bs rs ++ block → TakesOver xs xs' limit ns ns' bs bs' rs rs'
-carried ns ns' bs bs' rs rs' xs block xs' limit normal parts some can apart first last built' kept =
-    let whole = subst IsNormal parts normal in
-    let below = EndsBelow-append (next_of xs) (joining (joining ns ++ bs)) rs can.before apart in
-    let onward : next_of xs ≤ next_of xs' = subst (λ (l : List (ℕ × ℕ)). next_of l ≤ next_of xs') (sym parts) (next_later block xs' whole) in
-    let can_at : (f : ℕ) → next_of xs ≤ f → EndsBelow f block → CanJoin ns' bs' rs' f = λ f le ends.
-    can_of_ends ns' bs' rs' f built' (subst (λ (l : List (ℕ × ℕ)). EndsBelow f l) (sym kept) (EndsBelow-append f (kept_of ns bs rs) block (EndsBelow-more (next_of xs) f (kept_of ns bs rs) below le) ends)) in
+-- ranges of a list were carried
+pub carried : (u u' : Growing) (xs xs' : List (ℕ × ℕ)) (limit : ℕ) → CanTake xs limit u → EndsBelow (next_of xs) u.loose → Carries xs xs' limit (ranges_of u) (ranges_of u') → length xs' < length xs → TakesOver xs xs' limit u u'
+carried u u' xs xs' limit can apart c fewer =
+    let whole = subst IsNormal c.parts can.normal in
+    let below = all_end_below u (next_of xs) can.can apart in
+    let onward : next_of xs ≤ next_of xs' = subst (λ (l : List (ℕ × ℕ)). next_of l ≤ next_of xs') (sym c.parts) (next_later c.gone xs' whole) in
+    let can_at : (f : ℕ) → next_of xs ≤ f → EndsBelow f c.gone → CanJoin u' f = λ f le ends.
+    can_of_ends u' f c.built (subst (λ (l : List (ℕ × ℕ)). EndsBelow f l) (sym c.kept) (EndsBelow-append f (ranges_of u) c.gone (EndsBelow-more (next_of xs) f (ranges_of u) below le) ends)) in
     record {
-      gone = block;
-      parts = parts;
-      some = some;
-      built = built';
-      same = λ q. ap (λ (l : List (ℕ × ℕ)). in_ranges l q) kept ∙ in_ranges-append (kept_of ns bs rs) block q;
-      can_next = can_at (next_of xs') onward (ends_next block xs' whole);
-      can_limit = can_at limit first (ends_by_last limit block (IsNormal-prefix block xs' whole) last);
+      gone = c.gone;
+      parts = c.parts;
+      some = omega (arith, fewer, ap length c.parts, length-append c.gone xs');
+      built = c.built;
+      same = λ q. ap (λ (l : List (ℕ × ℕ)). in_ranges l q) c.kept ∙ in_ranges-append (ranges_of u) c.gone q;
+      can_next = can_at (next_of xs') onward (ends_next c.gone xs' whole);
+      can_limit = can_at limit can.first c.below;
     }
 
 pub or_false : (b : Bool) → (b || false) ≡ b
@@ -120,8 +119,8 @@ or_false true = refl
 or_false false = refl
 
 -- a range was joined
-pub joined_over : (ns ns' : List (List (List (ℕ × ℕ)))) (bs bs' : List (List (ℕ × ℕ))) (rs rs' xs xs' : List (ℕ × ℕ)) (range : ℕ × ℕ) (limit : ℕ) → IsNormal xs → xs ≡ range ∷ xs' → next_of xs ≤ limit → IsBuilt ns' bs' rs' → ((q : ℕ) → in_ranges (kept_of ns' bs' rs') q ≡ (in_ranges (kept_of ns bs rs) q || in_range range q)) → CanJoin ns' bs' rs' range.0 → TakesOver xs xs' limit ns ns' bs bs' rs rs'
-joined_over ns ns' bs bs' rs rs' xs xs' range limit normal parts first built' same can =
+pub joined_over : (u u' : Growing) (xs xs' : List (ℕ × ℕ)) (range : ℕ × ℕ) (limit : ℕ) → IsNormal xs → xs ≡ range ∷ xs' → next_of xs ≤ limit → IsNormal (ranges_of u') → ((q : ℕ) → in_ranges (ranges_of u') q ≡ (in_ranges (ranges_of u) q || in_range range q)) → CanJoin u' range.0 → TakesOver xs xs' limit u u'
+joined_over u u' xs xs' range limit normal parts first built' same can =
     let whole = subst IsNormal parts normal in
     let begins : next_of xs ≡ range.0 = ap next_of parts in
     let later = next_later (range ∷ []) xs' whole in
@@ -130,31 +129,31 @@ joined_over ns ns' bs bs' rs rs' xs xs' range limit normal parts first built' sa
       parts = parts;
       some = omega arith;
       built = built';
-      same = λ q. same q ∙ ap (λ b. in_ranges (kept_of ns bs rs) q || b) (sym (or_false (in_range range q)));
-      can_next = CanJoin-more ns' bs' rs' range.0 (next_of xs') can later;
-      can_limit = CanJoin-more ns' bs' rs' range.0 limit can (omega arith);
+      same = λ q. same q ∙ ap (λ b. in_ranges (ranges_of u) q || b) (sym (or_false (in_range range q)));
+      can_next = CanJoin-more u' range.0 (next_of xs') can later;
+      can_limit = CanJoin-more u' range.0 limit can (omega arith);
     }
 
 -- how far a union has come
-pub record IsUniting (ns : List (List (List (ℕ × ℕ)))) (bs : List (List (ℕ × ℕ))) (rs xs ys whole_xs whole_ys : List (ℕ × ℕ)) : Type 0 where
-  pub built : IsBuilt ns bs rs
+pub record IsUniting (u : Growing) (xs ys whole_xs whole_ys : List (ℕ × ℕ)) : Type 0 where
+  pub built : IsNormal (ranges_of u)
   pub first_normal : IsNormal xs
   pub second_normal : IsNormal ys
-  pub can_first : CanJoin ns bs rs (next_of xs)
-  pub can_second : CanJoin ns bs rs (next_of ys)
-  pub same : (q : ℕ) → (in_ranges (kept_of ns bs rs) q || (in_ranges xs q || in_ranges ys q)) ≡ (in_ranges whole_xs q || in_ranges whole_ys q)
+  pub can_first : CanJoin u (next_of xs)
+  pub can_second : CanJoin u (next_of ys)
+  pub same : (q : ℕ) → (in_ranges (ranges_of u) q || (in_ranges xs q || in_ranges ys q)) ≡ (in_ranges whole_xs q || in_ranges whole_ys q)
 
-pub uniting_start : (ns : List (List (List (ℕ × ℕ)))) (bs : List (List (ℕ × ℕ))) (rs xs ys : List (ℕ × ℕ)) → ns ≡ [] → bs ≡ [] → rs ≡ [] → IsNormal xs → IsNormal ys → IsUniting ns bs rs xs ys xs ys
-uniting_start ns bs rs xs ys n b r nx ny =
-    let start : IsUniting [] [] [] xs ys xs ys = record {
-      built = record { sized = tt; wide = no_nodes; fits = omega arith; normal = tt };
+pub uniting_start : (u : Growing) (xs ys : List (ℕ × ℕ)) → u ≡ none_grown → IsNormal xs → IsNormal ys → IsUniting u xs ys xs ys
+uniting_start u xs ys is nx ny =
+    let start : IsUniting none_grown xs ys xs ys = record {
+      built = tt;
       first_normal = nx;
       second_normal = ny;
       can_first = record { before = tt; begun = tt };
       can_second = record { before = tt; begun = tt };
       same = λ q. refl;
     } in
-    rw (n, b, r) start
+    subst (λ (w : Growing). IsUniting w xs ys xs ys) (sym is) start
 
 or_assoc : (a b c : Bool) → (a || (b || c)) ≡ ((a || b) || c)
 or_assoc true b c = refl
@@ -170,35 +169,35 @@ or_swaps false true true y = refl
 or_swaps false true false y = refl
 or_swaps false false x y = refl
 
-pub uniting_first : (ns ns' : List (List (List (ℕ × ℕ)))) (bs bs' : List (List (ℕ × ℕ))) (rs rs' xs xs' ys whole_xs whole_ys : List (ℕ × ℕ)) (limit : ℕ) → IsUniting ns bs rs xs ys whole_xs whole_ys → limit ≡ next_of ys → TakesOver xs xs' limit ns ns' bs bs' rs rs' → IsUniting ns' bs' rs' xs' ys whole_xs whole_ys
-uniting_first ns ns' bs bs' rs rs' xs xs' ys whole_xs whole_ys limit s is t = record {
+pub uniting_first : (u u' : Growing) (xs xs' ys whole_xs whole_ys : List (ℕ × ℕ)) (limit : ℕ) → IsUniting u xs ys whole_xs whole_ys → limit ≡ next_of ys → TakesOver xs xs' limit u u' → IsUniting u' xs' ys whole_xs whole_ys
+uniting_first u u' xs xs' ys whole_xs whole_ys limit s is t = record {
   built = t.built;
   first_normal = IsNormal-suffix t.gone xs' (subst IsNormal t.parts s.first_normal);
   second_normal = s.second_normal;
   can_first = t.can_next;
-  can_second = subst (λ f. CanJoin ns' bs' rs' f) is t.can_limit;
+  can_second = subst (λ f. CanJoin u' f) is t.can_limit;
   same = λ q. ap (λ b. b || (in_ranges xs' q || in_ranges ys q)) (t.same q)
-      ∙ or_moves (in_ranges (kept_of ns bs rs) q) (in_ranges t.gone q) (in_ranges xs' q) (in_ranges ys q)
-      ∙ ap (λ b. in_ranges (kept_of ns bs rs) q || (b || in_ranges ys q)) (sym (in_ranges-append t.gone xs' q) ∙ ap (λ (l : List (ℕ × ℕ)). in_ranges l q) (sym t.parts))
+      ∙ or_moves (in_ranges (ranges_of u) q) (in_ranges t.gone q) (in_ranges xs' q) (in_ranges ys q)
+      ∙ ap (λ b. in_ranges (ranges_of u) q || (b || in_ranges ys q)) (sym (in_ranges-append t.gone xs' q) ∙ ap (λ (l : List (ℕ × ℕ)). in_ranges l q) (sym t.parts))
       ∙ s.same q;
 }
 
-pub uniting_second : (ns ns' : List (List (List (ℕ × ℕ)))) (bs bs' : List (List (ℕ × ℕ))) (rs rs' xs ys ys' whole_xs whole_ys : List (ℕ × ℕ)) (limit : ℕ) → IsUniting ns bs rs xs ys whole_xs whole_ys → limit ≡ next_of xs → TakesOver ys ys' limit ns ns' bs bs' rs rs' → IsUniting ns' bs' rs' xs ys' whole_xs whole_ys
-uniting_second ns ns' bs bs' rs rs' xs ys ys' whole_xs whole_ys limit s is t = record {
+pub uniting_second : (u u' : Growing) (xs ys ys' whole_xs whole_ys : List (ℕ × ℕ)) (limit : ℕ) → IsUniting u xs ys whole_xs whole_ys → limit ≡ next_of xs → TakesOver ys ys' limit u u' → IsUniting u' xs ys' whole_xs whole_ys
+uniting_second u u' xs ys ys' whole_xs whole_ys limit s is t = record {
   built = t.built;
   first_normal = s.first_normal;
   second_normal = IsNormal-suffix t.gone ys' (subst IsNormal t.parts s.second_normal);
-  can_first = subst (λ f. CanJoin ns' bs' rs' f) is t.can_limit;
+  can_first = subst (λ f. CanJoin u' f) is t.can_limit;
   can_second = t.can_next;
   same = λ q. ap (λ b. b || (in_ranges xs q || in_ranges ys' q)) (t.same q)
-      ∙ or_swaps (in_ranges (kept_of ns bs rs) q) (in_ranges t.gone q) (in_ranges xs q) (in_ranges ys' q)
-      ∙ ap (λ b. in_ranges (kept_of ns bs rs) q || (in_ranges xs q || b)) (sym (in_ranges-append t.gone ys' q) ∙ ap (λ (l : List (ℕ × ℕ)). in_ranges l q) (sym t.parts))
+      ∙ or_swaps (in_ranges (ranges_of u) q) (in_ranges t.gone q) (in_ranges xs q) (in_ranges ys' q)
+      ∙ ap (λ b. in_ranges (ranges_of u) q || (in_ranges xs q || b)) (sym (in_ranges-append t.gone ys' q) ∙ ap (λ (l : List (ℕ × ℕ)). in_ranges l q) (sym t.parts))
       ∙ s.same q;
 }
 
-pub taken_onward : (xs xs' : List (ℕ × ℕ)) (limit : ℕ) (ns ns' : List (List (List (ℕ × ℕ)))) (bs bs' : List (List (ℕ × ℕ))) (rs rs' : List (ℕ × ℕ)) → TakesOver xs xs' limit ns ns' bs bs' rs rs' → length xs' < length xs
-taken_onward xs xs' limit ns ns' bs bs' rs rs' t = omega (arith, ap length t.parts, length-append t.gone xs', t.some)
+pub taken_onward : (xs xs' : List (ℕ × ℕ)) (limit : ℕ) (u u' : Growing) → TakesOver xs xs' limit u u' → length xs' < length xs
+taken_onward xs xs' limit u u' t = omega (arith, ap length t.parts, length-append t.gone xs', t.some)
 
-pub united : (ns : List (List (List (ℕ × ℕ)))) (bs : List (List (ℕ × ℕ))) (rs xs ys whole_xs whole_ys : List (ℕ × ℕ)) → IsUniting ns bs rs xs ys whole_xs whole_ys → xs ≡ [] → ys ≡ [] → (q : ℕ) → in_ranges (kept_of ns bs rs) q ≡ (in_ranges whole_xs q || in_ranges whole_ys q)
-united ns bs rs xs ys whole_xs whole_ys s x y q =
-    sym (or_false (in_ranges (kept_of ns bs rs) q)) ∙ (λ i. in_ranges (kept_of ns bs rs) q || (in_ranges (sym x i) q || in_ranges (sym y i) q)) ∙ s.same q
+pub united : (u : Growing) (xs ys whole_xs whole_ys : List (ℕ × ℕ)) → IsUniting u xs ys whole_xs whole_ys → xs ≡ [] → ys ≡ [] → (q : ℕ) → in_ranges (ranges_of u) q ≡ (in_ranges whole_xs q || in_ranges whole_ys q)
+united u xs ys whole_xs whole_ys s x y q =
+    sym (or_false (in_ranges (ranges_of u) q)) ∙ (λ i. in_ranges (ranges_of u) q || (in_ranges (sym x i) q || in_ranges (sym y i) q)) ∙ s.same q

@@ -1,6 +1,6 @@
 -- Lists of ranges that a step of a walk made shorter.
 use Rattle.std.proofs.Common.{◌≡◌, ℕ, ◌+◌, ◌<◌, ◌≤◌, List, ◌++◌, length, ap, arith, length-append, Option, Some}
-use Rattle.moc_ranges.specs.Private.Built.{Carries, TakesCommon, TakesOver}
+use Rattle.moc_ranges.specs.Private.Built.{Carries, TakesCommon, TakesOver, Growing}
 use Rattle.moc_ranges.specs.Private.Walks.{begun, Advances}
 use Rattle.moc_ranges.proofs.Walking.{begun_is}
 
@@ -11,13 +11,13 @@ length_begun first x xs is = omega (arith, ap (λ o. length (begun o xs)) is)
 pub advanced_shorter : (range : ℕ × ℕ) (xs t : List (ℕ × ℕ)) (r : Option (ℕ × ℕ)) (n : ℕ) → Advances range xs t r n → length (begun r t) ≤ length xs
 advanced_shorter range xs t r n a = omega (arith, ap length (begun_is a.rest r t a.step), ap length a.passed.parts, length-append a.passed.gone a.rest)
 
-pub carried_shorter : {ns ns' : List (List (List (ℕ × ℕ)))} {bs bs' : List (List (ℕ × ℕ))} {rs rs' xs xs' : List (ℕ × ℕ)} {limit : ℕ} → Carries xs xs' limit ns ns' bs bs' rs rs' → length xs' ≤ length xs
+pub carried_shorter : {ks ks' xs xs' : List (ℕ × ℕ)} {limit : ℕ} → Carries xs xs' limit ks ks' → length xs' ≤ length xs
 carried_shorter {xs' = xs'} c = omega (arith, ap length c.parts, length-append c.gone xs')
 
-pub taken_shorter : {ns ns' : List (List (List (ℕ × ℕ)))} {bs bs' : List (List (ℕ × ℕ))} {rs rs' xs xs' : List (ℕ × ℕ)} {range : ℕ × ℕ} → TakesCommon xs xs' range ns ns' bs bs' rs rs' → length xs' ≤ length xs
+pub taken_shorter : {ks ks' xs xs' : List (ℕ × ℕ)} {range : ℕ × ℕ} → TakesCommon xs xs' range ks ks' → length xs' ≤ length xs
 taken_shorter {xs' = xs'} t = omega (arith, ap length t.parts, length-append t.gone xs')
 
-pub over_shorter : {ns ns' : List (List (List (ℕ × ℕ)))} {bs bs' : List (List (ℕ × ℕ))} {rs rs' xs xs' : List (ℕ × ℕ)} {limit : ℕ} → TakesOver xs xs' limit ns ns' bs bs' rs rs' → length xs' < length xs
+pub over_shorter : {b b' : Growing} {xs xs' : List (ℕ × ℕ)} {limit : ℕ} → TakesOver xs xs' limit b b' → length xs' < length xs
 over_shorter {xs' = xs'} t = omega (arith, ap length t.parts, length-append t.gone xs', t.some)
 
 pub part_shorter : (xs part xs' : List (ℕ × ℕ)) → xs ≡ part ++ xs' → 0 < length part → length xs' < length xs

@@ -1,10 +1,9 @@
 -- Joining the ranges of two begun blocks.
-use Rattle.std.proofs.Common.{◌≡◌, ℕ, suc, ◌-◌, ◌≤◌, Bool, true, false, ◌||◌, List, [], ◌∷◌, ◌++◌, length, get_or, take, drop, refl, sym, ap, subst, ◌∙◌, arith, append_assoc, length-append}
+use Rattle.std.proofs.Common.{◌≡◌, ℕ, suc, ◌-◌, ◌≤◌, Bool, true, false, ◌||◌, List, [], ◌∷◌, ◌++◌, length, get_or, take, drop, refl, sym, ap, subst, ◌∙◌, arith, append_assoc}
 use Rattle.std.proofs.lemmas.List.{take_all}
 use Rattle.moc_ranges.specs.RangeList.{IsNormal, in_range, in_ranges}
-use Rattle.moc_ranges.specs.Private.Blocks.{joining, next_of}
-use Rattle.moc_ranges.specs.Private.Built.{IsBuilt, IsOpen, IsTurn, IsJoining, TakesBoth, CanJoin, BeginsBy, kept_of}
-use Rattle.moc_ranges.proofs.Blocking.{IsNormal-prefix}
+use Rattle.moc_ranges.specs.Private.Blocks.{next_of}
+use Rattle.moc_ranges.specs.Private.Built.{Growing, ranges_of, IsTurn, IsJoining, TakesBoth, CanJoin, BeginsBy}
 use Rattle.moc_ranges.proofs.Merging.{next_later, CanJoin-more, IsUniting}
 use Rattle.moc_ranges.proofs.Building.{last_begins, pushed_can}
 
@@ -66,8 +65,8 @@ turn_second xs ys more more' bx by x y ex ey le n m =
     subst (λ (l : List (ℕ × ℕ)). IsTurn (xs ++ bx) (l ++ by) y (xs ++ bx) (more' ++ by)) (sym ey)
     (turn_other y (xs ++ bx) (more' ++ by) n (subst (λ (l : List (ℕ × ℕ)). IsNormal (l ++ by)) ey m) (omega arith))
 
-pub joining_start : (ns : List (List (List (ℕ × ℕ)))) (bs : List (List (ℕ × ℕ))) (rs xs ys : List (ℕ × ℕ)) (last : ℕ × ℕ) → IsOpen ns bs rs last → IsNormal xs → IsNormal ys → last.0 ≤ next_of xs → last.0 ≤ next_of ys → IsJoining ns bs rs last xs ys (kept_of ns bs rs ++ last ∷ []) xs ys
-joining_start ns bs rs xs ys last opened n m a b = record {
+pub joining_start : (ks xs ys : List (ℕ × ℕ)) (last : ℕ × ℕ) → IsNormal (ks ++ last ∷ []) → IsNormal xs → IsNormal ys → last.0 ≤ next_of xs → last.0 ≤ next_of ys → IsJoining ks last xs ys (ks ++ last ∷ []) xs ys
+joining_start ks xs ys last opened n m a b = record {
   opened = opened;
   first_normal = n;
   second_normal = m;
@@ -77,52 +76,45 @@ joining_start ns bs rs xs ys last opened n m a b = record {
   fewer = omega arith;
 }
 
-pub joining_step : (ns ns' : List (List (List (ℕ × ℕ)))) (bs bs' : List (List (ℕ × ℕ))) (rs rs' xs xs' ys ys' whole whole_xs whole_ys : List (ℕ × ℕ)) (last last' range : ℕ × ℕ) → IsJoining ns bs rs last xs ys whole whole_xs whole_ys → IsTurn xs ys range xs' ys' → IsOpen ns' bs' rs' last' → last'.0 ≤ range.0 → ((q : ℕ) → in_ranges (kept_of ns' bs' rs' ++ last' ∷ []) q ≡ (in_ranges (kept_of ns bs rs ++ last ∷ []) q || in_range range q)) → IsJoining ns' bs' rs' last' xs' ys' whole whole_xs whole_ys
-joining_step ns ns' bs bs' rs rs' xs xs' ys ys' whole whole_xs whole_ys last last' range s t opened later same = record {
+pub joining_step : (ks ks' xs xs' ys ys' whole whole_xs whole_ys : List (ℕ × ℕ)) (last last' range : ℕ × ℕ) → IsJoining ks last xs ys whole whole_xs whole_ys → IsTurn xs ys range xs' ys' → IsNormal (ks' ++ last' ∷ []) → last'.0 ≤ range.0 → ((q : ℕ) → in_ranges (ks' ++ last' ∷ []) q ≡ (in_ranges (ks ++ last ∷ []) q || in_range range q)) → IsJoining ks' last' xs' ys' whole whole_xs whole_ys
+joining_step ks ks' xs xs' ys ys' whole whole_xs whole_ys last last' range s t opened later same = record {
   opened = opened;
   first_normal = t.first_normal;
   second_normal = t.second_normal;
   first_later = let a = t.first_later in omega arith;
   second_later = let a = t.second_later in omega arith;
   same = λ q. ap (λ b. b || (in_ranges xs' q || in_ranges ys' q)) (same q)
-      ∙ or_first (in_ranges (kept_of ns bs rs ++ last ∷ []) q) (in_range range q) (in_ranges xs' q || in_ranges ys' q)
-      ∙ ap (λ b. in_ranges (kept_of ns bs rs ++ last ∷ []) q || b) (sym (t.same q))
+      ∙ or_first (in_ranges (ks ++ last ∷ []) q) (in_range range q) (in_ranges xs' q || in_ranges ys' q)
+      ∙ ap (λ b. in_ranges (ks ++ last ∷ []) q || b) (sym (t.same q))
       ∙ s.same q;
   fewer = omega (arith, s.fewer, t.onward);
 }
 
-pub open_popped : (ns : List (List (List (ℕ × ℕ)))) (bs : List (List (ℕ × ℕ))) (rs rs' : List (ℕ × ℕ)) (last : ℕ × ℕ) → IsBuilt ns bs rs → rs ≡ rs' ++ last ∷ [] → kept_of ns bs rs ≡ kept_of ns bs rs' ++ last ∷ []
-open_popped ns bs rs rs' last built old = ap (λ (l : List (ℕ × ℕ)). joining (joining ns ++ bs) ++ l) old ∙ sym (append_assoc (joining (joining ns ++ bs)) rs' (last ∷ []))
+pub open_popped : (u u' : Growing) (last : ℕ × ℕ) → u'.closed ≡ u.closed → u.loose ≡ u'.loose ++ last ∷ [] → ranges_of u ≡ ranges_of u' ++ last ∷ []
+open_popped u u' last closed loose =
+    (λ i. sym closed i ++ loose i) ∙ sym (append_assoc u'.closed u'.loose (last ∷ []))
 
-pub popped_later : (ns : List (List (List (ℕ × ℕ)))) (bs : List (List (ℕ × ℕ))) (rs rs' : List (ℕ × ℕ)) (last : ℕ × ℕ) (f : ℕ) → CanJoin ns bs rs f → rs ≡ rs' ++ last ∷ [] → last.0 ≤ f
-popped_later ns bs rs rs' last f can old = last_begins f rs' last (subst (λ (l : List (ℕ × ℕ)). BeginsBy f l) old can.begun)
+pub popped_open : (u u' : Growing) (last : ℕ × ℕ) → IsNormal (ranges_of u) → u'.closed ≡ u.closed → u.loose ≡ u'.loose ++ last ∷ [] → IsNormal (ranges_of u' ++ last ∷ [])
+popped_open u u' last built closed loose = subst IsNormal (open_popped u u' last closed loose) built
 
-pub takes_none : (ns : List (List (List (ℕ × ℕ)))) (bs : List (List (ℕ × ℕ))) (rs xs ys : List (ℕ × ℕ)) → IsBuilt ns bs rs → IsNormal xs → IsNormal ys → CanJoin ns bs rs (next_of xs) → CanJoin ns bs rs (next_of ys) → TakesBoth xs xs ys ys ns ns bs bs rs rs
-takes_none ns bs rs xs ys built n m a b = record {
-  built = built;
-  first_normal = n;
-  second_normal = m;
-  can_first = a;
-  can_second = b;
-  same = λ q. refl;
-  fewer = omega arith;
-}
+pub popped_later : (u u' : Growing) (last : ℕ × ℕ) (f : ℕ) → CanJoin u f → u.loose ≡ u'.loose ++ last ∷ [] → last.0 ≤ f
+popped_later u u' last f can old = last_begins f u'.loose last (subst (λ (l : List (ℕ × ℕ)). BeginsBy f l) old can.begun)
 
-pub takes_both : (ns ns' ns'' : List (List (List (ℕ × ℕ)))) (bs bs' bs'' : List (List (ℕ × ℕ))) (rs rs' rs'' xs xs' ys ys' whole init : List (ℕ × ℕ)) (last : ℕ × ℕ) → IsJoining ns' bs' rs' last xs' ys' whole xs ys → kept_of ns bs rs ≡ whole → IsBuilt ns'' bs'' rs'' → kept_of ns'' bs'' rs'' ≡ kept_of ns' bs' rs' ++ last ∷ [] → rs'' ≡ init ++ last ∷ [] → TakesBoth xs xs' ys ys' ns ns'' bs bs'' rs rs''
-takes_both ns ns' ns'' bs bs' bs'' rs rs' rs'' xs xs' ys ys' whole init last s is built kept end =
-    let can = pushed_can ns'' bs'' rs'' init last built end in
+pub takes_both : (u u'' : Growing) (kept xs xs' ys ys' whole init : List (ℕ × ℕ)) (last : ℕ × ℕ) → IsJoining kept last xs' ys' whole xs ys → ranges_of u ≡ whole → IsNormal (ranges_of u'') → ranges_of u'' ≡ kept ++ last ∷ [] → u''.loose ≡ init ++ last ∷ [] → TakesBoth xs xs' ys ys' u u''
+takes_both u u'' kept xs xs' ys ys' whole init last s is built made end =
+    let can = pushed_can u'' init last built end in
     record {
       built = built;
       first_normal = s.first_normal;
       second_normal = s.second_normal;
-      can_first = CanJoin-more ns'' bs'' rs'' last.0 (next_of xs') can s.first_later;
-      can_second = CanJoin-more ns'' bs'' rs'' last.0 (next_of ys') can s.second_later;
-      same = λ q. ap (λ (l : List (ℕ × ℕ)). in_ranges l q || (in_ranges xs' q || in_ranges ys' q)) kept ∙ s.same q ∙ ap (λ (l : List (ℕ × ℕ)). in_ranges l q || (in_ranges xs q || in_ranges ys q)) (sym is);
+      can_first = CanJoin-more u'' last.0 (next_of xs') can s.first_later;
+      can_second = CanJoin-more u'' last.0 (next_of ys') can s.second_later;
+      same = λ q. ap (λ (l : List (ℕ × ℕ)). in_ranges l q || (in_ranges xs' q || in_ranges ys' q)) made ∙ s.same q ∙ ap (λ (l : List (ℕ × ℕ)). in_ranges l q || (in_ranges xs q || in_ranges ys q)) (sym is);
       fewer = s.fewer;
     }
 
-pub uniting_both : (ns ns' : List (List (List (ℕ × ℕ)))) (bs bs' : List (List (ℕ × ℕ))) (rs rs' xs xs' ys ys' whole_xs whole_ys : List (ℕ × ℕ)) → IsUniting ns bs rs xs ys whole_xs whole_ys → TakesBoth xs xs' ys ys' ns ns' bs bs' rs rs' → IsUniting ns' bs' rs' xs' ys' whole_xs whole_ys
-uniting_both ns ns' bs bs' rs rs' xs xs' ys ys' whole_xs whole_ys s t = record {
+pub uniting_both : (u u' : Growing) (xs xs' ys ys' whole_xs whole_ys : List (ℕ × ℕ)) → IsUniting u xs ys whole_xs whole_ys → TakesBoth xs xs' ys ys' u u' → IsUniting u' xs' ys' whole_xs whole_ys
+uniting_both u u' xs xs' ys ys' whole_xs whole_ys s t = record {
   built = t.built;
   first_normal = t.first_normal;
   second_normal = t.second_normal;
@@ -131,23 +123,9 @@ uniting_both ns ns' bs bs' rs rs' xs xs' ys ys' whole_xs whole_ys s t = record {
   same = λ q. t.same q ∙ s.same q;
 }
 
-pub takes_as : (ns ns' : List (List (List (ℕ × ℕ)))) (bs bs' : List (List (ℕ × ℕ))) (rs rs' xs xs' ys ys' us us' vs vs' : List (ℕ × ℕ)) → us ≡ xs → xs' ≡ us' → vs ≡ ys → ys' ≡ vs' → TakesBoth us us' vs vs' ns ns' bs bs' rs rs' → TakesBoth xs xs' ys ys' ns ns' bs bs' rs rs'
-takes_as ns ns' bs bs' rs rs' xs xs' ys ys' us us' vs vs' a b c d t =
-    subst (λ (l : List (ℕ × ℕ)). TakesBoth l xs' ys ys' ns ns' bs bs' rs rs') a
-    (subst (λ (l : List (ℕ × ℕ)). TakesBoth us l ys ys' ns ns' bs bs' rs rs') (sym b)
-    (subst (λ (l : List (ℕ × ℕ)). TakesBoth us us' l ys' ns ns' bs bs' rs rs') c
-    (subst (λ (l : List (ℕ × ℕ)). TakesBoth us us' vs l ns ns' bs bs' rs rs') (sym d) t)))
-
-prefix_built : (ns : List (List (List (ℕ × ℕ)))) (bs : List (List (ℕ × ℕ))) (rs rs' : List (ℕ × ℕ)) (last : ℕ × ℕ) → IsBuilt ns bs rs → rs ≡ rs' ++ last ∷ [] → IsBuilt ns bs rs'
-prefix_built ns bs rs rs' last built old = record {
-  sized = built.sized;
-  wide = built.wide;
-  fits = omega (arith, built.fits, ap length old, length-append rs' (last ∷ []));
-  normal = IsNormal-prefix (kept_of ns bs rs') (last ∷ []) (subst IsNormal (open_popped ns bs rs rs' last built old) built.normal);
-}
-
-pub popped_open : (ns : List (List (List (ℕ × ℕ)))) (bs : List (List (ℕ × ℕ))) (rs rs' : List (ℕ × ℕ)) (last : ℕ × ℕ) → IsBuilt ns bs rs → rs ≡ rs' ++ last ∷ [] → IsOpen ns bs rs' last
-popped_open ns bs rs rs' last built old = record {
-  built = prefix_built ns bs rs rs' last built old;
-  normal = subst IsNormal (open_popped ns bs rs rs' last built old) built.normal;
-}
+pub takes_as : (u u' : Growing) (xs xs' ys ys' us us' vs vs' : List (ℕ × ℕ)) → us ≡ xs → xs' ≡ us' → vs ≡ ys → ys' ≡ vs' → TakesBoth us us' vs vs' u u' → TakesBoth xs xs' ys ys' u u'
+takes_as u u' xs xs' ys ys' us us' vs vs' a b c d t =
+    subst (λ (l : List (ℕ × ℕ)). TakesBoth l xs' ys ys' u u') a
+    (subst (λ (l : List (ℕ × ℕ)). TakesBoth us l ys ys' u u') (sym b)
+    (subst (λ (l : List (ℕ × ℕ)). TakesBoth us us' l ys' u u') c
+    (subst (λ (l : List (ℕ × ℕ)). TakesBoth us us' vs l u u') (sym d) t)))

@@ -9,6 +9,7 @@ ghost use Rattle.moc_ranges.specs.Pixels.{pixel_count};
 use crate::coverage::Coverage;
 use crate::errors::Memory;
 use crate::from_ranges::{append, build};
+use crate::list::builder::list_of;
 use moc_sphere::{Cell, Order};
 use std::alloc::{AllocError, Global};
 use std::marker::Model;
@@ -90,7 +91,7 @@ impl CoverageBuilder {
     {
         let alloc = *self.waiting.allocator();
         if self.waiting.is_empty() && self.joined.is_empty() {
-            return Ok(Coverage::from_normal(alloc, self.rising)?);
+            return Ok(Coverage::of(list_of(alloc, self.rising)?));
         }
         self.all_gathered(alloc)
     }
@@ -145,7 +146,7 @@ impl CoverageBuilder {
     fn all_gathered(&self, alloc: Global) -> Result<Coverage, Memory>
         ensures { IfOk result (λ c. c ≡ self.now) }
     {
-        let risen = build(alloc, &self.rising)?;
+        let risen = Coverage::of(build(alloc, &self.rising)?);
         let waited = Coverage::from_faultless(alloc, &self.waiting)?;
         self.joined.union(alloc, &risen)?.union(alloc, &waited)
     }

@@ -6,7 +6,7 @@ ghost use Rattle.moc_ranges.specs.Private.CellRuns.{AreWhole, HasOrders, cells_a
 ghost use Rattle.moc_ranges.specs.Pixels.{pixel_count};
 ghost use Rattle.moc_ranges.specs.RangeList.{IsNormal, set_of};
 
-use crate::ranges::Ranges;
+use crate::list::ranges::Ranges;
 use moc_sphere::{Cell, Order};
 use std::alloc::AllocError;
 

@@ -11,30 +11,24 @@ ghost use Rattle.moc_ranges.specs.Pixels.{pixel_count, pixels};
 ghost use Rattle.moc_ranges.specs.Cells.{cells_of, degrade, span};
 ghost use Rattle.moc_ranges.specs.Numbers.{numbers};
 ghost use Rattle.moc_ranges.specs.Blocks.{joining, AreBlocks, IsSearchOf};
-ghost use Rattle.moc_ranges.specs.Private.Blocks.{IsStored, rest_of};
 ghost use Rattle.moc_ranges.specs.Private.Walks.{IsNextRange, HasNoneFrom};
 
-use crate::block::{LONGEST, measure_ranges};
 use crate::cells::{deepest_order, orders_with_cells, push_cells_of_order};
-use crate::chunks::Chunks;
-use crate::difference::subtract;
 use crate::errors::{Memory, RangesError};
 use crate::from_ranges::{build, build_widened, filled_by_start, refuse_faulty};
-use crate::intersection::intersect;
-use crate::list_builder::trimmed;
-use crate::node::{Node, measure_nodes, share_nodes};
-use crate::ranges::Ranges;
-use crate::search::{range_of_nodes_past, range_past};
-use crate::steps::{Steps, find_block, find_range};
-use crate::symmetric::differ_few;
-use crate::union::unite;
-use crate::walks::{are_same, count_both, holds_all, share_some};
+use crate::list::RangeList;
+use crate::list::chunks::Chunks;
+use crate::list::ranges::Ranges;
+use crate::list::steps::Steps;
+use crate::operations::difference::subtract;
+use crate::operations::intersection::intersect;
+use crate::operations::symmetric::differ_few;
+use crate::operations::union::unite;
+use crate::operations::walks::{are_same, count_both, holds_all, share_some};
+use crate::pixels::PIXEL_COUNT;
 use moc_sphere::{Cell, Order};
 use std::alloc::{AllocError, Global};
 use std::marker::Model;
-
-/// How many pixels the sky has: 12 * 4^29, the cells of order 29 (MOC 2.0).
-pub const PIXEL_COUNT: u64 = 3458764513820540928;
 
 /// How many pixels a base pixel has: 4^29.
 const BASE_PIXEL_SIZE: u64 = 288230376151711744;
@@ -47,26 +41,20 @@ const BASE_PIXEL_SIZE: u64 = 288230376151711744;
 /// that they have in common. Below, n and m are the numbers of ranges of the sets that a call takes.
 #[derive(Debug, Drop)]
 pub struct Coverage {
-    /// The ranges of a set that has no nodes.
-    few: Vec<(u64, u64)>,
-    nodes: Vec<Node>,
+    list: RangeList,
 }
 
 impl Model for Coverage {
     ghost use Rattle.std.specs.Ordering.{nat_cmp};
     ghost use Rattle.std.specs.FinSet as set;
     ghost use Rattle.std.specs.Coded.{coded_ℕ};
-    ghost use Rattle.std.specs.Prelude.{[]};
     ghost use Rattle.moc_ranges.specs.RangeList.{set_of};
-    ghost use Rattle.moc_ranges.specs.Private.Blocks.{IsStored, rest_of};
 
     ghost Value = { set.FinSet nat_cmp };
 
     ghost coded = { set.code coded_ℕ };
 
-    ghost view = { λ c. set_of (rest_of c.few.items [] c.nodes.items) };
-
-    ghost invariant = { λ c. IsStored c.few.items c.nodes.items };
+    ghost view = { λ c. set_of c.list };
 }
 
 impl Coverage {
@@ -75,8 +63,7 @@ impl Coverage {
         ensures { result ≡ set.empty }
     {
         Self {
-            few: Vec::new(alloc),
-            nodes: Vec::new(alloc),
+            list: RangeList::empty(alloc),
         }
     }
 
@@ -97,10 +84,7 @@ impl Coverage {
         ensures found { result ≡ set.contains self.now pixel }
         ensures cost { IsSearchOf self.now steps.old steps.new }
     {
-        match &self.few[..] {
-            [] => find_block(&self.nodes, pixel, steps),
-            few => find_range(few, pixel, steps),
-        }
+        self.list.contains_counting(pixel, steps)
     }
 
     /// The ranges of the set as it keeps them, in chunks of 1 to 128, of which two side by side have
@@ -110,7 +94,7 @@ impl Coverage {
         ensures set { set_of (joining result) ≡ self.now }
         ensures sized { AreBlocks result }
     {
-        Chunks::new(&self.few, &self.nodes)
+        self.list.chunks()
     }
 
     /// Whether the set has no pixel. O(1).
@@ -128,7 +112,7 @@ impl Coverage {
         ensures set { set_of result ≡ self.now }
         ensures within { IsWithin self.now pixels }
     {
-        Ranges::new(&self.few, &self.nodes)
+        self.list.ranges()
     }
 
     /// How many pixels of order 29 the set has. The sizes that nodes keep are added up, each of up to
@@ -138,7 +122,7 @@ impl Coverage {
         ensures bounded { result ≤ pixel_count }
         ensures within { IsWithin self.now pixels }
     {
-        measure_ranges(&self.few) + measure_nodes(&self.nodes)
+        self.list.measure()
     }
 
     /// The pixels in any of the pairs (from, to), `to` not included. They may come in any order,
@@ -165,33 +149,17 @@ impl Coverage {
         ensures { IfOk result (λ c. c ≡ set_of pairs.now) }
     {
         let pairs = filled_by_start(alloc, pairs)?;
-        build(alloc, &pairs)
-    }
-
-    /// The set whose ranges are kept in this way.
-    #[inline]
-    pub(crate) fn from_stored(few: Vec<(u64, u64)>, nodes: Vec<Node>) -> Coverage
-        requires { IsStored few.items nodes.items }
-        ensures { result ≡ set_of (rest_of few.items [] nodes.items) }
-    {
-        Coverage { few, nodes }
-    }
-
-    /// The pixels in normal ranges. Up to 128 of them are kept as they are.
-    pub(crate) fn from_normal(
-        alloc: Global,
-        ranges: Vec<(u64, u64)>,
-    ) -> Result<Coverage, AllocError>
-        requires { IsNormal ranges.items }
-        ensures { IfOk result (λ c. c ≡ set_of ranges.items) }
-    {
-        if ranges.len() > LONGEST {
-            return build(alloc, &ranges);
-        }
         Ok(Coverage {
-            few: trimmed(ranges),
-            nodes: Vec::new(alloc),
+            list: build(alloc, &pairs)?,
         })
+    }
+
+    /// The pixels in the ranges of a list.
+    #[inline]
+    pub(crate) fn of(list: RangeList) -> Coverage
+        ensures { result ≡ set_of list }
+    {
+        Coverage { list }
     }
 
     /// How many ranges the set has in its one normal list. O(n / 548), takes no memory.
@@ -216,7 +184,8 @@ impl Coverage {
     pub fn union(&self, alloc: Global, other: &Coverage) -> Result<Coverage, Memory>
         ensures set { IfOk result (λ c. c ≡ set.union self.now other.now) }
     {
-        Ok(unite(alloc, self.ranges(), other.ranges())?)
+        let list = unite(alloc, self.ranges(), other.ranges())?;
+        Ok(Coverage { list })
     }
 
     /// The pixels that both sets have. One pass, O(n + m), in which blocks and nodes that the other
@@ -225,7 +194,8 @@ impl Coverage {
     pub fn intersection(&self, alloc: Global, other: &Coverage) -> Result<Coverage, Memory>
         ensures set { IfOk result (λ c. c ≡ set.intersection self.now other.now) }
     {
-        Ok(intersect(alloc, self.ranges(), other.ranges())?)
+        let list = intersect(alloc, self.ranges(), other.ranges())?;
+        Ok(Coverage { list })
     }
 
     /// The pixels of this set that the other lacks. One pass, O(n + m), in which blocks and nodes of
@@ -234,7 +204,8 @@ impl Coverage {
     pub fn difference(&self, alloc: Global, other: &Coverage) -> Result<Coverage, Memory>
         ensures set { IfOk result (λ c. c ≡ set.difference self.now other.now) }
     {
-        Ok(subtract(alloc, self.ranges(), other.ranges())?)
+        let list = subtract(alloc, self.ranges(), other.ranges())?;
+        Ok(Coverage { list })
     }
 
     /// The pixels that just one of the two sets has. One pass, O(n + m), where both have up to 128
@@ -244,7 +215,8 @@ impl Coverage {
     {
         if let Some(few) = self.ranges().few() {
             if let Some(others) = other.ranges().few() {
-                return Ok(differ_few(alloc, few, others)?);
+                let list = differ_few(alloc, few, others)?;
+                return Ok(Coverage { list });
             }
         }
         let mine = self.difference(alloc, other)?;
@@ -258,7 +230,8 @@ impl Coverage {
         ensures within { IsWithin self.now pixels }
     {
         let sky = [(0, PIXEL_COUNT)];
-        Ok(subtract(alloc, Ranges::of(&sky), self.ranges())?)
+        let list = subtract(alloc, Ranges::of(&sky), self.ranges())?;
+        Ok(Coverage { list })
     }
 
     /// The pixels of the set in one base pixel, 0 to 11: those p with `p / 4^29` equal to it. Above
@@ -275,7 +248,8 @@ impl Coverage {
         }
         let from = u64::from(base_pixel) * BASE_PIXEL_SIZE;
         let whole = [(from, from + BASE_PIXEL_SIZE)];
-        Ok(intersect(alloc, self.ranges(), Ranges::of(&whole))?)
+        let list = intersect(alloc, self.ranges(), Ranges::of(&whole))?;
+        Ok(Coverage { list })
     }
 
     /// Whether the set has a pixel in this base pixel; it has none above 11. O(log n), takes no
@@ -344,10 +318,7 @@ impl Coverage {
     fn first_past(&self, limit: u64) -> Option<(u64, u64)>
         ensures { MatchOption result (HasNoneFrom limit self.now) (IsNextRange limit self.now) }
     {
-        match &self.nodes[..] {
-            [] => range_past(&self.few, limit),
-            nodes => range_of_nodes_past(nodes, limit),
-        }
+        self.list.first_past(limit)
     }
 
     /// Whether the set has a pixel from one up to, not including, another.
@@ -381,7 +352,8 @@ impl Coverage {
     pub fn degrade(&self, alloc: Global, order: Order) -> Result<Coverage, Memory>
         ensures { IfOk result (λ c. c ≡ degrade self.now order) }
     {
-        Ok(build_widened(alloc, order.cell_size(), self.ranges())?)
+        let list = build_widened(alloc, order.cell_size(), self.ranges())?;
+        Ok(Coverage { list })
     }
 
     /// How many pixels of order 29 two sets have in common. One pass over both that skips blocks and
@@ -431,7 +403,8 @@ impl Coverage {
     pub fn full(alloc: Global) -> Result<Coverage, Memory>
         ensures { IfOk result (λ c. c ≡ pixels) }
     {
-        Ok(Coverage::of_range(alloc, 0, PIXEL_COUNT)?)
+        let list = RangeList::of_range(alloc, 0, PIXEL_COUNT)?;
+        Ok(Coverage { list })
     }
 
     /// The pixels of order 29 in one cell; refused where memory runs out.
@@ -439,20 +412,8 @@ impl Coverage {
         ensures { IfOk result (λ c. c ≡ span cell.order cell.index) }
     {
         let (from, to) = cell.span();
-        Ok(Coverage::of_range(alloc, from, to)?)
-    }
-
-    /// The pixels from one up to, not including, another.
-    fn of_range(alloc: Global, from: u64, to: u64) -> Result<Coverage, AllocError>
-        requires rising { from < to }
-        requires within { to ≤ pixel_count }
-        ensures { IfOk result (λ c. c ≡ set_of ((from, to) ∷ [])) }
-    {
-        let few = [(from, to)].to_vec(alloc)?;
-        Ok(Coverage {
-            few,
-            nodes: Vec::new(alloc),
-        })
+        let list = RangeList::of_range(alloc, from, to)?;
+        Ok(Coverage { list })
     }
 
     /// The cells of the set, in rising NUNIQ: those whose pixels the set has, while it lacks one of
@@ -477,9 +438,8 @@ impl Coverage {
         ensures same { IfOk result (λ c. c ≡ self.now) }
         ensures within { IsWithin self.now pixels }
     {
-        let few = self.few.to_vec(alloc)?;
-        let nodes = share_nodes(alloc, &self.nodes)?;
-        Ok(Coverage { few, nodes })
+        let list = self.list.share(alloc)?;
+        Ok(Coverage { list })
     }
 }
 

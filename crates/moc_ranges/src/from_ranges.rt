@@ -10,10 +10,12 @@ ghost use Rattle.moc_ranges.specs.Pixels.{pixel_count};
 ghost use Rattle.std.specs.FinSet as set;
 ghost use Rattle.moc_ranges.specs.Private.Widen.{IsCellSize, widen};
 
-use crate::coverage::{Coverage, PIXEL_COUNT};
 use crate::errors::RangesError;
-use crate::list_builder::{ListBuilder, end_below, lengthen};
-use crate::ranges::Ranges;
+use crate::list::RangeList;
+use crate::list::builder::{ListBuilder, lengthen};
+use crate::list::kept::end_below;
+use crate::list::ranges::Ranges;
+use crate::pixels::PIXEL_COUNT;
 use std::alloc::{AllocError, Global};
 
 /// Refuses the first faulty pair.
@@ -56,9 +58,9 @@ pub fn filled_by_start(alloc: Global, pairs: &[(u64, u64)]) -> Result<Vec<(u64, 
 }
 
 /// The pixels in any of the pairs, which rise by their starts.
-pub fn build(alloc: Global, pairs: &[(u64, u64)]) -> Result<Coverage, AllocError>
+pub fn build(alloc: Global, pairs: &[(u64, u64)]) -> Result<RangeList, AllocError>
     requires { IsSortedFrom 0 pairs.now }
-    ensures { IfOk result (λ c. c ≡ set_of pairs.now) }
+    ensures { IfOk result (λ l. set_of l ≡ set_of pairs.now) }
 {
     let mut built = ListBuilder::new(alloc, pairs.len())?;
     let [first, others @ ..] = pairs else {
@@ -132,10 +134,10 @@ pub fn build_widened(
     alloc: Global,
     size: u64,
     mut ranges: Ranges<'_>,
-) -> Result<Coverage, AllocError>
+) -> Result<RangeList, AllocError>
     requires size { IsCellSize size }
     requires ranges { IsNormal ranges }
-    ensures { IfOk result (λ c. c ≡ set_of (map (widen size) ranges.entry)) }
+    ensures { IfOk result (λ l. set_of l ≡ set_of (map (widen size) ranges.entry)) }
 {
     let mut built = ListBuilder::new(alloc, ranges.room())?;
     let Some((from, to)) = ranges.next() else {

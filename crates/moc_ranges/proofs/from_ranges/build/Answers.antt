@@ -5,41 +5,41 @@ use Rattle.moc_ranges.proofs.Building.{open_filled, open_within, open_after, len
 use Rattle.moc_ranges.proofs.Turning.{first_item}
 use Rattle.moc_ranges.proofs.Views.{same_view}
 use Rattle.moc_ranges.specs.RangeList.{set_of}
-use Rattle.moc_ranges.specs.Private.Built.{kept_of}
+use Rattle.moc_ranges.specs.Private.Built.{ranges_of}
 use Rattle.moc_ranges.proofs.Blocking.{none_there}
 use Rattle.moc_ranges.proofs.from_ranges.build.Goals as goal
 
 pub loop-pair-init : goal.loop-pair-init
 loop-pair-init c =
-    lengthened_start _ _ _ _ c.args.pairs.now _ c.in_ok-built.ensures.nodes c.in_ok-built.ensures.blocks c.in_ok-built.ensures.ranges c.requires (first_item c.args.pairs.now (0, 0) c.in-len1-up.len_at_least)
+    lengthened_start _ _ c.args.pairs.now _ (ap ranges_of c.in_ok-built.ensures) c.requires (first_item c.args.pairs.now (0, 0) c.in-len1-up.len_at_least)
 
 pub loop-pair-preserved : goal.loop-pair-preserved
 loop-pair-preserved c =
     let others = take (length c.args.pairs.now - 1) (drop 1 c.args.pairs.now) in
-    lengthened_more _ _ _ _ _ _ _ _ _ _ _ (get_or others c.loop-pair.pair-index (0, 0)) c.loop-pair.invariant (drop_more others c.loop-pair.pair-index (0, 0) c.loop-pair-test.true) c.in_ok-last.ensures.opened c.in_ok-last.ensures.later c.in_ok-last.ensures.same
+    lengthened_more _ _ _ _ _ _ _ (get_or others c.loop-pair.pair-index (0, 0)) c.loop-pair.invariant (drop_more others c.loop-pair.pair-index (0, 0) c.loop-pair-test.true) c.in_ok-last.ensures.opened c.in_ok-last.ensures.later c.in_ok-last.ensures.same
 
 pub push-requires-clause-filled : goal.push-requires-clause-filled
-push-requires-clause-filled c = open_filled _ c.loop-pair.last c.loop-pair.invariant.opened.normal
+push-requires-clause-filled c = open_filled _ c.loop-pair.last c.loop-pair.invariant.opened
 
 pub push-requires-clause-within : goal.push-requires-clause-within
-push-requires-clause-within c = open_within _ c.loop-pair.last c.loop-pair.invariant.opened.normal
+push-requires-clause-within c = open_within _ c.loop-pair.last c.loop-pair.invariant.opened
 
 pub push-requires-clause-after : goal.push-requires-clause-after
-push-requires-clause-after c = open_after _ c.loop-pair.last c.loop-pair.invariant.opened.normal
+push-requires-clause-after c = open_after _ c.loop-pair.last c.loop-pair.invariant.opened
 
 pub returns : goal.returns
 returns c =
     let others = take (length c.args.pairs.now - 1) (drop 1 c.args.pairs.now) in
     IfOk-weaker c.finish-2.result _ _
-    (λ made is. is ∙ same_view _ c.args.pairs.now
-    (lengthened_all _ _ _ _ _ _ c.loop-pair.last c.loop-pair.invariant (drop_all c.loop-pair.pair-index others c.loop-pair-test.false) c.in_ok-push.ensures.kept))
+    (λ made is. ap set_of is ∙ same_view _ c.args.pairs.now
+    (lengthened_all _ _ _ _ c.loop-pair.last c.loop-pair.invariant (drop_all c.loop-pair.pair-index others c.loop-pair-test.false) c.in_ok-push.ensures.kept))
     c.finish-2.ensures
 
 pub returns-in_default : goal.returns-in_default
 returns-in_default c =
     let none = none_there c.args.pairs.now (omega (arith, c.in_default.len_below)) in
     IfOk-weaker c.finish.result _ _
-    (λ made is. is ∙ (λ i. set_of (kept_of (c.in_ok-built.ensures.nodes i) (c.in_ok-built.ensures.blocks i) (c.in_ok-built.ensures.ranges i))) ∙ ap set_of (sym none))
+    (λ made is. ap set_of (is ∙ ap ranges_of c.in_ok-built.ensures ∙ sym none))
     c.finish.ensures
 
 pub lengthen-requires-clause-filled : goal.lengthen-requires-clause-filled

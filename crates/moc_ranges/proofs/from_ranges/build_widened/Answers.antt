@@ -1,7 +1,8 @@
 use Rattle.std.proofs.Common.{◌≡◌, ◌∙◌, ◌∷◌, List, ℕ, ap, sym, subst, map}
 use Rattle.std.proofs.lemmas.Result.{IfOk-weaker}
-use Rattle.moc_ranges.specs.RangeList.{IsNormal}
+use Rattle.moc_ranges.specs.RangeList.{IsNormal, set_of}
 use Rattle.moc_ranges.specs.Private.Widen.{widen}
+use Rattle.moc_ranges.specs.Private.Built.{ranges_of}
 use Rattle.moc_ranges.proofs.Building.{open_filled, open_within, open_after, lengthened_start, lengthened_more, lengthened_all}
 use Rattle.moc_ranges.proofs.Views.{same_view}
 use Rattle.moc_ranges.proofs.Widening.{size_sorted}
@@ -21,7 +22,7 @@ loop-from-init c =
     record {
       continues = (tt, tt);
       normal = normal.3;
-      joined = lengthened_start _ _ _ (map (widen w) c.into_iter-from-iterator.result) (map (widen w) c.args.ranges) c.cells_around-last.result c.in_ok-built.ensures.nodes c.in_ok-built.ensures.blocks c.in_ok-built.ensures.ranges (size_sorted w c.args.ranges c.requires.size c.requires.ranges) (come c.args.ranges c.into_iter-from-iterator.result range c.cells_around-last.result w steps c.cells_around-last.ensures);
+      joined = lengthened_start _ (map (widen w) c.into_iter-from-iterator.result) (map (widen w) c.args.ranges) c.cells_around-last.result (ap ranges_of c.in_ok-built.ensures) (size_sorted w c.args.ranges c.requires.size c.requires.ranges) (come c.args.ranges c.into_iter-from-iterator.result range c.cells_around-last.result w steps c.cells_around-last.ensures);
     }
 
 pub loop-from-preserved : goal.loop-from-preserved
@@ -32,21 +33,21 @@ loop-from-preserved c =
     record {
       continues = (tt, tt);
       normal = normal.3;
-      joined = lengthened_more _ _ _ _ _ _ (map (widen w) c.loop-from.from-iterator) (map (widen w) c.next-in-loop-from.new.self) (map (widen w) c.args.ranges) _ _ c.cells_around-next.result c.loop-from.invariant.joined (come c.loop-from.from-iterator c.next-in-loop-from.new.self range c.cells_around-next.result w c.in-Some-2.ensures.steps c.cells_around-next.ensures) c.in_ok-last.ensures.opened c.in_ok-last.ensures.later c.in_ok-last.ensures.same;
+      joined = lengthened_more _ _ (map (widen w) c.loop-from.from-iterator) (map (widen w) c.next-in-loop-from.new.self) (map (widen w) c.args.ranges) _ _ c.cells_around-next.result c.loop-from.invariant.joined (come c.loop-from.from-iterator c.next-in-loop-from.new.self range c.cells_around-next.result w c.in-Some-2.ensures.steps c.cells_around-next.ensures) c.in_ok-last.ensures.opened c.in_ok-last.ensures.later c.in_ok-last.ensures.same;
     }
 
 pub push-requires-clause-filled : goal.push-requires-clause-filled
-push-requires-clause-filled c = open_filled _ c.loop-from.last c.loop-from.invariant.joined.opened.normal
+push-requires-clause-filled c = open_filled _ c.loop-from.last c.loop-from.invariant.joined.opened
 
 pub push-requires-clause-within : goal.push-requires-clause-within
-push-requires-clause-within c = open_within _ c.loop-from.last c.loop-from.invariant.joined.opened.normal
+push-requires-clause-within c = open_within _ c.loop-from.last c.loop-from.invariant.joined.opened
 
 pub push-requires-clause-after : goal.push-requires-clause-after
-push-requires-clause-after c = open_after _ c.loop-from.last c.loop-from.invariant.joined.opened.normal
+push-requires-clause-after c = open_after _ c.loop-from.last c.loop-from.invariant.joined.opened
 
 pub returns : goal.returns
 returns c =
     IfOk-weaker c.finish-2.result _ _
-    (λ made is. is ∙ same_view _ (map (widen c.args.size) c.args.ranges)
-    (lengthened_all _ _ _ (map (widen c.args.size) c.loop-from.from-iterator) _ _ c.loop-from.last c.loop-from.invariant.joined (ap (map (widen c.args.size)) c.in-None.ensures.steps.0) c.in_ok-push.ensures.kept))
+    (λ made is. ap set_of is ∙ same_view _ (map (widen c.args.size) c.args.ranges)
+    (lengthened_all _ (map (widen c.args.size) c.loop-from.from-iterator) _ _ c.loop-from.last c.loop-from.invariant.joined (ap (map (widen c.args.size)) c.in-None.ensures.steps.0) c.in_ok-push.ensures.kept))
     c.finish-2.ensures

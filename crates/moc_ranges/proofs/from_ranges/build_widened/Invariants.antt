@@ -1,6 +1,7 @@
 use Rattle.std.proofs.Common.{map}
 use Rattle.moc_ranges.specs.RangeList.{IsNormal}
 use Rattle.moc_ranges.specs.Private.Widen.{widen}
+use Rattle.moc_ranges.specs.Private.Built.{ranges_of}
 use Rattle.moc_ranges.proofs.Building.{IsLengthened}
 use Rattle.moc_ranges.proofs.from_ranges.build_widened.Given as goal
 
@@ -8,5 +9,5 @@ abbrev pub invariant-loop-from : goal.invariant-loop-from
 invariant-loop-from l = record {
   continues : (goal.iterator-loop-from).can_next l.from-iterator × (goal.iterator-loop-from).is_finite l.from-iterator;
   normal : IsNormal l.from-iterator;
-  joined : IsLengthened l.built.nodes.items l.built.blocks.items l.built.ranges.items l.last (map (widen l.size) l.from-iterator) (map (widen l.size) l.fn.ranges);
+  joined : IsLengthened (ranges_of l.built) l.last (map (widen l.size) l.from-iterator) (map (widen l.size) l.fn.ranges);
 }

@@ -9,7 +9,7 @@ pub build_widened-requires-clause-size : goal.build_widened-requires-clause-size
 build_widened-requires-clause-size c = record { order = c.args.order; order_in_range = c.cell_size.ensures.in_range; is = c.cell_size.ensures.size }
 
 pub returns : goal.returns
-returns c = c.in_ok-build_widened.ensures ∙ same_members _ _ (λ q.
+returns c = c.in_ok-list.ensures ∙ same_members _ _ (λ q.
     contains-set_of (map (widen c.cell_size.result) c.ranges-2.result) q
     ∙ ap (λ (size : ℕ). in_ranges (map (widen size) c.ranges-2.result) q) c.cell_size.ensures.size
     ∙ degraded c.args.order c.ranges-2.result c.args.self.now q c.cell_size.ensures.in_range c.ranges-2.ensures.normal c.ranges-2.ensures.set)

@@ -1,0 +1,18 @@
+use Rattle.std.proofs.Common.{arith, refl}
+use Rattle.moc_ranges.proofs.Merging.{EndsBelow-more}
+use Rattle.moc_ranges.proofs.Meeting.{common_below, common_same, common_nothing}
+use Rattle.moc_ranges.proofs.operations.difference.push_part.Goals as goal
+
+pub returns-then-to-from : goal.returns-then-to-from
+returns-then-to-from c = record {
+  built = c.requires.built;
+  below = λ f le lt. EndsBelow-more _ f _ c.requires.after le;
+  same = λ q. common_nothing _ _ _ c.args.from c.args.to q refl refl (omega arith);
+}
+
+pub returns : goal.returns
+returns c = record {
+  built = c.in_ok-push.ensures.built;
+  below = λ f le lt. common_below _ _ _ _ _ _ f c.requires.after c.in_ok-push.ensures.kept refl refl le lt;
+  same = λ q. common_same _ _ _ _ _ _ q c.in_ok-push.ensures.kept refl refl;
+}

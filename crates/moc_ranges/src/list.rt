@@ -1,0 +1,149 @@
+//! The one normal list of ranges of a set, kept in blocks.
+ghost use Rattle.std.specs.Prelude.{◌≡◌, ◌<◌, ◌≤◌, [], ◌∷◌, IfOk, MatchOption};
+ghost use Rattle.moc_ranges.specs.Pixels.{pixel_count};
+ghost use Rattle.moc_ranges.specs.RangeList.{IsNormal, in_ranges, set_of};
+ghost use Rattle.moc_ranges.specs.Blocks.{joining, AreBlocks, IsSearchOf};
+ghost use Rattle.moc_ranges.specs.Private.Blocks.{IsStored, rest_of, width_of};
+ghost use Rattle.moc_ranges.specs.Private.Walks.{EndsBy, IsFirstPast};
+
+pub mod ahead;
+pub mod block;
+pub mod builder;
+pub mod chunks;
+pub mod kept;
+pub mod node;
+pub mod ranges;
+pub mod runs;
+pub mod search;
+pub mod steps;
+
+use crate::list::block::measure_ranges;
+use crate::list::chunks::Chunks;
+use crate::list::node::{Node, measure_nodes, share_nodes};
+use crate::list::ranges::Ranges;
+use crate::list::search::{range_of_nodes_past, range_past};
+use crate::list::steps::{Steps, find_block, find_range};
+use std::alloc::{AllocError, Global};
+use std::marker::Model;
+
+/// Ranges (from, to) in rising order, none empty and none touching the next: the one normal list of a set.
+///
+/// Up to 128 are kept in one list, and more in blocks of 1 to 128, of which two side by side have together more than
+/// 128. Nodes have 1 to 16 blocks, and two side by side together more than 16. Copies and results share the blocks that
+/// they have in common. Below, n is the number of ranges.
+#[derive(Debug, Drop)]
+pub struct RangeList {
+    /// The ranges of a list that has no nodes.
+    few: Vec<(u64, u64)>,
+    nodes: Vec<Node>,
+}
+
+impl Model for RangeList {
+    ghost use Rattle.std.specs.Prelude.{List, ℕ, []};
+    ghost use Rattle.moc_ranges.specs.Private.Blocks.{IsStored, rest_of};
+
+    ghost Value = { List (ℕ × ℕ) };
+
+    ghost view = { λ l. rest_of l.few.items [] l.nodes.items };
+
+    ghost invariant = { λ l. IsStored l.few.items l.nodes.items };
+}
+
+impl RangeList {
+    /// No ranges. Takes no memory.
+    #[inline]
+    pub fn empty(alloc: Global) -> Self
+        ensures { result ≡ [] }
+    {
+        Self {
+            few: Vec::new(alloc),
+            nodes: Vec::new(alloc),
+        }
+    }
+
+    /// One range.
+    pub fn of_range(alloc: Global, from: u64, to: u64) -> Result<Self, AllocError>
+        requires rising { from < to }
+        requires within { to ≤ pixel_count }
+        ensures { IfOk result (λ l. l ≡ (from, to) ∷ []) }
+    {
+        let few = [(from, to)].to_vec(alloc)?;
+        Ok(Self {
+            few,
+            nodes: Vec::new(alloc),
+        })
+    }
+
+    /// The ranges that are kept in this way.
+    #[inline]
+    pub fn from_stored(few: Vec<(u64, u64)>, nodes: Vec<Node>) -> Self
+        requires { IsStored few.items nodes.items }
+        ensures { result ≡ rest_of few.items [] nodes.items }
+    {
+        Self { few, nodes }
+    }
+
+    /// The ranges, one after the other. Takes no memory.
+    #[inline]
+    pub fn ranges(&self) -> Ranges<'_>
+        ensures list { result ≡ self.now }
+        ensures normal { IsNormal self.now }
+    {
+        Ranges::new(&self.few, &self.nodes)
+    }
+
+    /// The ranges as they are kept: in chunks of 1 to 128, of which two side by side have together more than 128.
+    #[inline]
+    pub fn chunks(&self) -> Chunks<'_>
+        ensures list { joining result ≡ self.now }
+        ensures normal { IsNormal self.now }
+        ensures sized { AreBlocks result }
+    {
+        Chunks::new(&self.few, &self.nodes)
+    }
+
+    /// How many numbers the ranges have. The sizes that nodes keep are added up.
+    #[inline]
+    pub fn measure(&self) -> u64
+        ensures value { result ≡ width_of self.now }
+        ensures normal { IsNormal self.now }
+    {
+        measure_ranges(&self.few) + measure_nodes(&self.nodes)
+    }
+
+    /// The first range that ends after the limit, if there is one. O(log n).
+    #[inline]
+    pub fn first_past(&self, limit: u64) -> Option<(u64, u64)>
+        ensures found { MatchOption result (EndsBy limit self.now) (λ range. IsFirstPast limit (range ∷ []) self.now) }
+        ensures normal { IsNormal self.now }
+    {
+        match &self.nodes[..] {
+            [] => range_past(&self.few, limit),
+            nodes => range_of_nodes_past(nodes, limit),
+        }
+    }
+
+    /// Whether a range has the number; counts each comparison with the bounds of a range or a chunk.
+    #[inline]
+    pub fn contains_counting(&self, pixel: u64, steps: &mut Steps) -> bool
+        requires { steps.old < 9223372036854775808 }
+        ensures found { result ≡ in_ranges self.now pixel }
+        ensures cost { IsSearchOf (set_of self.now) steps.old steps.new }
+    {
+        match &self.few[..] {
+            [] => find_block(&self.nodes, pixel, steps),
+            few => find_range(few, pixel, steps),
+        }
+    }
+
+    /// The same ranges once more, in the same blocks: O(n) for up to 128 ranges, and else for the nodes alone.
+    #[inline]
+    pub fn share(&self, alloc: Global) -> Result<Self, AllocError>
+        ensures same { IfOk result (λ l. l ≡ self.now) }
+        ensures normal { IsNormal self.now }
+    {
+        let few = self.few.to_vec(alloc)?;
+        let nodes = share_nodes(alloc, &self.nodes)?;
+        Ok(Self { few, nodes })
+    }
+}

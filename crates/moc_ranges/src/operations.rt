@@ -1,0 +1,10 @@
+//! Operations on lists of ranges.
+
+pub mod carrying;
+pub mod difference;
+pub mod few;
+pub mod intersection;
+pub mod reach;
+pub mod symmetric;
+pub mod union;
+pub mod walks;
