@@ -4,6 +4,7 @@ pub mod Widen
 pub mod CellRuns
 pub mod Blocks
 pub mod Built
+pub mod Kept
 pub mod Walks
 pub mod Gathered
 pub mod Few

@@ -22,13 +22,14 @@ pub struct ListBuilder {
 }
 
 impl Model for ListBuilder {
-    ghost use Rattle.moc_ranges.specs.Private.Built.{Growing, grown, IsBuilt};
+    ghost use Rattle.moc_ranges.specs.Private.Built.{Growing};
+    ghost use Rattle.moc_ranges.specs.Private.Kept.{growing, IsKept};
 
     ghost Value = { Growing };
 
-    ghost view = { λ b. grown b.kept.nodes.items b.kept.blocks.items b.kept.ranges.items };
+    ghost view = { λ b. growing b.kept };
 
-    ghost invariant = { λ b. IsBuilt b.kept.nodes.items b.kept.blocks.items b.kept.ranges.items };
+    ghost invariant = { λ b. IsKept b.kept };
 }
 
 impl ListBuilder {

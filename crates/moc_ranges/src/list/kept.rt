@@ -2,10 +2,10 @@
 ghost use Rattle.std.specs.Prelude.{◌≡◌, ◌+◌, ◌<◌, ◌≤◌, ◌++◌, ◌∷◌, ◌||◌, [], List, ℕ, length, IfOk, OnOk, IsTrue};
 ghost use Rattle.std.specs.Bool.{OnTrue, OnFalse};
 ghost use Rattle.moc_ranges.specs.Pixels.{pixel_count};
-ghost use Rattle.moc_ranges.specs.RangeList.{IsNormal, in_ranges, in_range, set_of};
+ghost use Rattle.moc_ranges.specs.RangeList.{IsNormal, in_ranges, in_range};
 ghost use Rattle.moc_ranges.specs.Private.Blocks.{joining, AreBlocks, last_of};
-ghost use Rattle.moc_ranges.specs.Private.Built.{IsBuilt, AreNodes, kept_of, grown, first_length, last_length};
-ghost use Rattle.moc_ranges.specs.Private.Built.{CanJoin, EndsBelow};
+ghost use Rattle.moc_ranges.specs.Private.Built.{first_length, last_length, CanJoin, EndsBelow};
+ghost use Rattle.moc_ranges.specs.Private.Kept.{all_of, blocks_of, growing, IsKept, AreWide};
 
 use crate::list::RangeList;
 use crate::list::block::{Block, LONGEST};
@@ -38,13 +38,12 @@ impl Kept {
     /// Adds a range that begins behind all others.
     #[inline]
     pub fn push(&mut self, alloc: Global, from: u64, to: u64) -> Result<(), AllocError>
-        requires built { IsBuilt self.old.nodes.items self.old.blocks.items self.old.ranges.items }
+        requires built { IsKept self.old }
         requires filled { from < to }
         requires within { to ≤ pixel_count }
-        requires after { EndsBelow from (kept_of self.old.nodes.items self.old.blocks.items self.old.ranges.items) }
-        ensures built { OnOk result (IsBuilt self.new.nodes.items self.new.blocks.items self.new.ranges.items) }
-        ensures kept { OnOk result (kept_of self.new.nodes.items self.new.blocks.items self.new.ranges.items ≡
-            kept_of self.old.nodes.items self.old.blocks.items self.old.ranges.items ++ (from, to) ∷ []) }
+        requires after { EndsBelow from (all_of self.old) }
+        ensures built { OnOk result (IsKept self.new) }
+        ensures kept { OnOk result (all_of self.new ≡ all_of self.old ++ (from, to) ∷ []) }
         ensures last { OnOk result ((init : List (ℕ × ℕ)) × (self.new.ranges.items ≡ init ++ (from, to) ∷ [])) }
     {
         self.make_range_room(alloc)?;
@@ -58,14 +57,11 @@ impl Kept {
         alloc: Global,
         ranges: &'a [(u64, u64)],
     ) -> Result<&'a [(u64, u64)], AllocError>
-        requires built { IsBuilt self.old.nodes.items self.old.blocks.items self.old.ranges.items }
-        requires normal { IsNormal (kept_of self.old.nodes.items self.old.blocks.items self.old.ranges.items ++
-            ranges.now) }
+        requires built { IsKept self.old }
+        requires normal { IsNormal (all_of self.old ++ ranges.now) }
         requires some { 0 < length ranges.now }
-        ensures built { OnOk result (IsBuilt self.new.nodes.items self.new.blocks.items self.new.ranges.items) }
-        ensures kept { IfOk result (λ rest. kept_of self.new.nodes.items self.new.blocks.items self.new.ranges.items ++
-            rest.now ≡ kept_of self.old.nodes.items self.old.blocks.items self.old.ranges.items ++
-            ranges.entry.now) }
+        ensures built { OnOk result (IsKept self.new) }
+        ensures kept { IfOk result (λ rest. all_of self.new ++ rest.now ≡ all_of self.old ++ ranges.entry.now) }
         ensures fewer { IfOk result (λ rest. length rest.now < length ranges.entry.now) }
     {
         self.make_range_room(alloc)?;
@@ -76,12 +72,10 @@ impl Kept {
 
     /// Adds ranges of a set behind all others.
     pub fn push_all(&mut self, alloc: Global, ranges: &[(u64, u64)]) -> Result<(), AllocError>
-        requires built { IsBuilt self.old.nodes.items self.old.blocks.items self.old.ranges.items }
-        requires normal { IsNormal (kept_of self.old.nodes.items self.old.blocks.items self.old.ranges.items ++
-            ranges.now) }
-        ensures built { OnOk result (IsBuilt self.new.nodes.items self.new.blocks.items self.new.ranges.items) }
-        ensures kept { OnOk result (kept_of self.new.nodes.items self.new.blocks.items self.new.ranges.items ≡
-            kept_of self.old.nodes.items self.old.blocks.items self.old.ranges.items ++ ranges.entry.now) }
+        requires built { IsKept self.old }
+        requires normal { IsNormal (all_of self.old ++ ranges.now) }
+        ensures built { OnOk result (IsKept self.new) }
+        ensures kept { OnOk result (all_of self.new ≡ all_of self.old ++ ranges.entry.now) }
     {
         let mut rest = ranges;
         while !rest.is_empty() {
@@ -93,10 +87,9 @@ impl Kept {
     /// Makes a block of the ranges that are in none, where they are as many as a block may have.
     #[inline]
     fn make_range_room(&mut self, alloc: Global) -> Result<(), AllocError>
-        requires built { IsBuilt self.old.nodes.items self.old.blocks.items self.old.ranges.items }
-        ensures built { OnOk result (IsBuilt self.new.nodes.items self.new.blocks.items self.new.ranges.items) }
-        ensures kept { OnOk result (kept_of self.new.nodes.items self.new.blocks.items self.new.ranges.items ≡
-            kept_of self.old.nodes.items self.old.blocks.items self.old.ranges.items) }
+        requires built { IsKept self.old }
+        ensures built { OnOk result (IsKept self.new) }
+        ensures kept { OnOk result (all_of self.new ≡ all_of self.old) }
         ensures room { OnOk result (length self.new.ranges.items < LONGEST) }
     {
         if self.ranges.len() < LONGEST {
@@ -108,10 +101,9 @@ impl Kept {
 
     /// Makes a block of the ranges that are in none.
     pub fn seal(&mut self, alloc: Global) -> Result<(), AllocError>
-        requires built { IsBuilt self.old.nodes.items self.old.blocks.items self.old.ranges.items }
-        ensures built { OnOk result (IsBuilt self.new.nodes.items self.new.blocks.items self.new.ranges.items) }
-        ensures kept { OnOk result (kept_of self.new.nodes.items self.new.blocks.items self.new.ranges.items ≡
-            kept_of self.old.nodes.items self.old.blocks.items self.old.ranges.items) }
+        requires built { IsKept self.old }
+        ensures built { OnOk result (IsKept self.new) }
+        ensures kept { OnOk result (all_of self.new ≡ all_of self.old) }
         ensures none { OnOk result (self.new.ranges.items ≡ []) }
     {
         if self.ranges.is_empty() {
@@ -126,11 +118,10 @@ impl Kept {
     /// Whether a block with so many ranges joins the last.
     fn joins(&self, count: usize) -> bool
         requires { count ≤ LONGEST }
-        ensures fits { OnTrue result (last_length (joining self.now.nodes.items ++ self.now.blocks.items) + count ≤
-            LONGEST) }
-        ensures some { OnTrue result (0 < last_length (joining self.now.nodes.items ++ self.now.blocks.items)) }
-        ensures apart { OnFalse result (0 < last_length (joining self.now.nodes.items ++ self.now.blocks.items) →
-            LONGEST < last_length (joining self.now.nodes.items ++ self.now.blocks.items) + count) }
+        ensures fits { OnTrue result (last_length (blocks_of self.now) + count ≤ LONGEST) }
+        ensures some { OnTrue result (0 < last_length (blocks_of self.now)) }
+        ensures apart { OnFalse result (0 < last_length (blocks_of self.now) → LONGEST < last_length (blocks_of
+            self.now) + count) }
     {
         let last = length_of_last(&self.nodes, &self.blocks);
         last > 0 && last <= LONGEST - count
@@ -138,12 +129,11 @@ impl Kept {
 
     /// Makes a node of the blocks that are in none, where they are enough.
     fn make_room(&mut self, alloc: Global) -> Result<(), AllocError>
-        requires sized { AreBlocks (joining self.old.nodes.items ++ self.old.blocks.items) }
-        requires wide { AreNodes self.old.nodes.items self.old.blocks.items }
-        requires normal { IsNormal (joining (joining self.old.nodes.items ++ self.old.blocks.items)) }
-        ensures blocks { OnOk result (joining self.new.nodes.items ++ self.new.blocks.items ≡ joining
-            self.old.nodes.items ++ self.old.blocks.items) }
-        ensures wide { OnOk result (AreNodes self.new.nodes.items self.new.blocks.items) }
+        requires sized { AreBlocks (blocks_of self.old) }
+        requires wide { AreWide self.old }
+        requires normal { IsNormal (joining (blocks_of self.old)) }
+        ensures blocks { OnOk result (blocks_of self.new ≡ blocks_of self.old) }
+        ensures wide { OnOk result (AreWide self.new) }
         ensures room { OnOk result (length self.new.blocks.items < WIDEST) }
         ensures ranges { self.new.ranges.items ≡ self.old.ranges.items }
     {
@@ -156,13 +146,11 @@ impl Kept {
 
     /// Makes blocks of the last node where there are none behind it.
     fn reopen(&mut self, alloc: Global) -> Result<(), AllocError>
-        requires wide { AreNodes self.old.nodes.items self.old.blocks.items }
-        ensures blocks { OnOk result (joining self.new.nodes.items ++ self.new.blocks.items ≡ joining
-            self.old.nodes.items ++ self.old.blocks.items) }
-        ensures wide { OnOk result (AreNodes self.new.nodes.items self.new.blocks.items) }
+        requires wide { AreWide self.old }
+        ensures blocks { OnOk result (blocks_of self.new ≡ blocks_of self.old) }
+        ensures wide { OnOk result (AreWide self.new) }
         ensures ranges { self.new.ranges.items ≡ self.old.ranges.items }
-        ensures some { OnOk result (0 < last_length (joining self.old.nodes.items ++ self.old.blocks.items) → 0 <
-            length self.new.blocks.items) }
+        ensures some { OnOk result (0 < last_length (blocks_of self.old) → 0 < length self.new.blocks.items) }
     {
         if self.blocks.len() > 0 {
             return Ok(());
@@ -175,15 +163,14 @@ impl Kept {
 
     /// Adds a block behind the others, or joins it to the last if the two fit into one.
     pub fn push_block(&mut self, alloc: Global, block: Block) -> Result<(), AllocError>
-        requires sized { AreBlocks (joining self.old.nodes.items ++ self.old.blocks.items) }
-        requires wide { AreNodes self.old.nodes.items self.old.blocks.items }
+        requires sized { AreBlocks (blocks_of self.old) }
+        requires wide { AreWide self.old }
         requires some { 0 < length block }
         requires fits { length block ≤ LONGEST }
-        requires normal { IsNormal (joining (joining self.old.nodes.items ++ self.old.blocks.items) ++ block) }
-        ensures sized { OnOk result (AreBlocks (joining self.new.nodes.items ++ self.new.blocks.items)) }
-        ensures wide { OnOk result (AreNodes self.new.nodes.items self.new.blocks.items) }
-        ensures joining { OnOk result (joining (joining self.new.nodes.items ++ self.new.blocks.items) ≡ joining
-            (joining self.old.nodes.items ++ self.old.blocks.items) ++ block) }
+        requires normal { IsNormal (joining (blocks_of self.old) ++ block) }
+        ensures sized { OnOk result (AreBlocks (blocks_of self.new)) }
+        ensures wide { OnOk result (AreWide self.new) }
+        ensures joining { OnOk result (joining (blocks_of self.new) ≡ joining (blocks_of self.old) ++ block) }
         ensures ranges { self.new.ranges.items ≡ self.old.ranges.items }
     {
         if self.joins(block.ranges().len()) {
@@ -198,10 +185,9 @@ impl Kept {
 
     /// Puts the blocks of the last node before those that are in none, where they all fit into one node.
     fn widen(&mut self, alloc: Global) -> Result<(), AllocError>
-        requires wide { AreNodes self.old.nodes.items self.old.blocks.items }
-        ensures blocks { OnOk result (joining self.new.nodes.items ++ self.new.blocks.items ≡ joining
-            self.old.nodes.items ++ self.old.blocks.items) }
-        ensures wide { OnOk result (AreNodes self.new.nodes.items self.new.blocks.items) }
+        requires wide { AreWide self.old }
+        ensures blocks { OnOk result (blocks_of self.new ≡ blocks_of self.old) }
+        ensures wide { OnOk result (AreWide self.new) }
         ensures apart { OnOk result (0 < last_length self.new.nodes.items → WIDEST < last_length self.new.nodes.items +
             length self.new.blocks.items) }
         ensures more { OnOk result (length self.old.blocks.items ≤ length self.new.blocks.items) }
@@ -220,12 +206,11 @@ impl Kept {
 
     /// Makes a node of the blocks that are in none.
     fn seal_node(&mut self, alloc: Global) -> Result<(), AllocError>
-        requires sized { AreBlocks (joining self.old.nodes.items ++ self.old.blocks.items) }
-        requires wide { AreNodes self.old.nodes.items self.old.blocks.items }
-        requires normal { IsNormal (joining (joining self.old.nodes.items ++ self.old.blocks.items)) }
-        ensures blocks { OnOk result (joining self.new.nodes.items ++ self.new.blocks.items ≡ joining
-            self.old.nodes.items ++ self.old.blocks.items) }
-        ensures wide { OnOk result (AreNodes self.new.nodes.items self.new.blocks.items) }
+        requires sized { AreBlocks (blocks_of self.old) }
+        requires wide { AreWide self.old }
+        requires normal { IsNormal (joining (blocks_of self.old)) }
+        ensures blocks { OnOk result (blocks_of self.new ≡ blocks_of self.old) }
+        ensures wide { OnOk result (AreWide self.new) }
         ensures ranges { self.new.ranges.items ≡ self.old.ranges.items }
         ensures none { OnOk result (self.new.blocks.items ≡ []) }
     {
@@ -242,14 +227,12 @@ impl Kept {
 
     /// Adds a block of a set behind all ranges.
     pub fn carry(&mut self, alloc: Global, block: &Block) -> Result<(), AllocError>
-        requires built { IsBuilt self.old.nodes.items self.old.blocks.items self.old.ranges.items }
+        requires built { IsKept self.old }
         requires some { 0 < length block.now }
         requires fits { length block.now ≤ LONGEST }
-        requires normal { IsNormal (kept_of self.old.nodes.items self.old.blocks.items self.old.ranges.items ++
-            block.now) }
-        ensures built { OnOk result (IsBuilt self.new.nodes.items self.new.blocks.items self.new.ranges.items) }
-        ensures kept { OnOk result (kept_of self.new.nodes.items self.new.blocks.items self.new.ranges.items ≡
-            kept_of self.old.nodes.items self.old.blocks.items self.old.ranges.items ++ block.now) }
+        requires normal { IsNormal (all_of self.old ++ block.now) }
+        ensures built { OnOk result (IsKept self.new) }
+        ensures kept { OnOk result (all_of self.new ≡ all_of self.old ++ block.now) }
         ensures none { OnOk result (self.new.ranges.items ≡ []) }
     {
         self.seal(alloc)?;
@@ -261,8 +244,8 @@ impl Kept {
     /// Whether a node can stand behind the blocks as it is: its first block joins none, and its
     /// blocks do not fit beside others.
     fn takes_whole(&self, node: &Node) -> bool
-        ensures { OnTrue result (0 < last_length (joining self.now.nodes.items ++ self.now.blocks.items) → LONGEST <
-            last_length (joining self.now.nodes.items ++ self.now.blocks.items) + first_length node.now) }
+        ensures { OnTrue result (0 < last_length (blocks_of self.now) → LONGEST < last_length (blocks_of self.now) +
+            first_length node.now) }
     {
         if self.joins(length_of_first(node.blocks())) {
             return false;
@@ -282,12 +265,11 @@ impl Kept {
 
     /// Adds a node, or its blocks where they fit beside those of the last.
     fn push_node(&mut self, alloc: Global, node: &Node) -> Result<(), AllocError>
-        requires wide { AreNodes self.old.nodes.items self.old.blocks.items }
+        requires wide { AreWide self.old }
         requires none { self.old.blocks.items ≡ [] }
-        ensures blocks { OnOk result (joining self.new.nodes.items ++ self.new.blocks.items ≡ joining
-            self.old.nodes.items ++ node.now) }
+        ensures blocks { OnOk result (blocks_of self.new ≡ joining self.old.nodes.items ++ node.now) }
         ensures sized { OnOk result (AreBlocks node.now) }
-        ensures wide { OnOk result (AreNodes self.new.nodes.items self.new.blocks.items) }
+        ensures wide { OnOk result (AreWide self.new) }
         ensures ranges { self.new.ranges.items ≡ self.old.ranges.items }
     {
         if self.fits_last(node) {
@@ -301,14 +283,13 @@ impl Kept {
 
     /// Adds blocks behind the others, each for itself.
     fn carry_each(&mut self, alloc: Global, blocks: &[Block]) -> Result<(), AllocError>
-        requires sized { AreBlocks (joining self.old.nodes.items ++ self.old.blocks.items) }
-        requires wide { AreNodes self.old.nodes.items self.old.blocks.items }
-        requires normal { IsNormal (joining (joining self.old.nodes.items ++ self.old.blocks.items) ++ joining
+        requires sized { AreBlocks (blocks_of self.old) }
+        requires wide { AreWide self.old }
+        requires normal { IsNormal (joining (blocks_of self.old) ++ joining blocks.now) }
+        ensures sized { OnOk result (AreBlocks (blocks_of self.new)) }
+        ensures wide { OnOk result (AreWide self.new) }
+        ensures joining { OnOk result (joining (blocks_of self.new) ≡ joining (blocks_of self.old) ++ joining
             blocks.now) }
-        ensures sized { OnOk result (AreBlocks (joining self.new.nodes.items ++ self.new.blocks.items)) }
-        ensures wide { OnOk result (AreNodes self.new.nodes.items self.new.blocks.items) }
-        ensures joining { OnOk result (joining (joining self.new.nodes.items ++ self.new.blocks.items) ≡ joining
-            (joining self.old.nodes.items ++ self.old.blocks.items) ++ joining blocks.now) }
         ensures ranges { OnOk result (self.new.ranges.items ≡ self.old.ranges.items) }
     {
         for block in blocks {
@@ -320,12 +301,10 @@ impl Kept {
 
     /// Adds the blocks of a node behind all ranges.
     pub fn carry_node(&mut self, alloc: Global, node: &Node) -> Result<(), AllocError>
-        requires built { IsBuilt self.old.nodes.items self.old.blocks.items self.old.ranges.items }
-        requires normal { IsNormal (kept_of self.old.nodes.items self.old.blocks.items self.old.ranges.items ++
-            joining node.now) }
-        ensures built { OnOk result (IsBuilt self.new.nodes.items self.new.blocks.items self.new.ranges.items) }
-        ensures kept { OnOk result (kept_of self.new.nodes.items self.new.blocks.items self.new.ranges.items ≡
-            kept_of self.old.nodes.items self.old.blocks.items self.old.ranges.items ++ joining node.now) }
+        requires built { IsKept self.old }
+        requires normal { IsNormal (all_of self.old ++ joining node.now) }
+        ensures built { OnOk result (IsKept self.new) }
+        ensures kept { OnOk result (all_of self.new ≡ all_of self.old ++ joining node.now) }
         ensures none { OnOk result (self.new.ranges.items ≡ []) }
     {
         self.seal(alloc)?;
@@ -362,16 +341,13 @@ impl Kept {
     /// Adds a range that begins no sooner than the last.
     #[inline]
     pub fn join(&mut self, alloc: Global, from: u64, to: u64) -> Result<(), AllocError>
-        requires built { IsBuilt self.old.nodes.items self.old.blocks.items self.old.ranges.items }
+        requires built { IsKept self.old }
         requires filled { from < to }
         requires within { to ≤ pixel_count }
-        requires can { CanJoin (grown self.old.nodes.items self.old.blocks.items self.old.ranges.items) from }
-        ensures built { OnOk result (IsBuilt self.new.nodes.items self.new.blocks.items self.new.ranges.items) }
-        ensures same { OnOk result ((q : ℕ) → in_ranges (kept_of self.new.nodes.items self.new.blocks.items
-            self.new.ranges.items) q ≡ (in_ranges (kept_of self.old.nodes.items self.old.blocks.items
-            self.old.ranges.items) q || in_range (from, to) q)) }
-        ensures can { OnOk result (CanJoin (grown self.new.nodes.items self.new.blocks.items self.new.ranges.items)
-            from) }
+        requires can { CanJoin (growing self.old) from }
+        ensures built { OnOk result (IsKept self.new) }
+        ensures same { OnOk result ((q : ℕ) → in_ranges (all_of self.new) q ≡ (in_ranges (all_of self.old) q || in_range (from, to) q)) }
+        ensures can { OnOk result (CanJoin (growing self.new) from) }
     {
         if self.is_apart(from) {
             self.push(alloc, from, to)?;
@@ -386,8 +362,8 @@ impl Kept {
     /// The list of all ranges.
     #[inline]
     pub fn finish(self, alloc: Global) -> Result<RangeList, AllocError>
-        requires { IsBuilt self.nodes.items self.blocks.items self.ranges.items }
-        ensures { IfOk result (λ l. l ≡ kept_of self.nodes.items self.blocks.items self.ranges.items) }
+        requires { IsKept self }
+        ensures { IfOk result (λ l. l ≡ all_of self) }
     {
         if self.blocks.is_empty() && self.nodes.is_empty() {
             let Kept { ranges, nodes, .. } = self;
@@ -398,8 +374,8 @@ impl Kept {
 
     /// The list of all ranges, in blocks.
     fn finish_blocks(mut self, alloc: Global) -> Result<RangeList, AllocError>
-        requires { IsBuilt self.nodes.items self.blocks.items self.ranges.items }
-        ensures { IfOk result (λ l. l ≡ kept_of self.nodes.items self.blocks.items self.ranges.items) }
+        requires { IsKept self }
+        ensures { IfOk result (λ l. l ≡ all_of self) }
     {
         self.seal(alloc)?;
         self.seal_node(alloc)?;

@@ -34,6 +34,28 @@ ghost use Rattle.moc_ranges.specs.RangeList.{IsNormal};
 ghost use Rattle.moc_ranges.specs.Private.Blocks.{joining, last_of, next_of, rest_of};
 ghost use Rattle.moc_ranges.specs.Private.Walks.{Advances, Passes};
 
+/// What is behind a block that is begun.
+#[derive(Debug, Drop)]
+pub(crate) struct Behind<'a> {
+    ahead: Ahead<'a>,
+}
+
+impl<'a> Model for Behind<'a> {
+    ghost use Rattle.std.specs.Prelude.{List, ℕ, []};
+    ghost use Rattle.moc_ranges.specs.Private.Blocks.{rest_of};
+
+    ghost Value = { List (ℕ × ℕ) };
+
+    ghost view = { λ b. rest_of [] b.ahead.blocks.now b.ahead.nodes.now };
+}
+
+/// The rest of a block that is begun, and what is behind it.
+#[derive(Drop)]
+pub(crate) struct Started<'a> {
+    pub ranges: &'a [(u64, u64)],
+    pub behind: Behind<'a>,
+}
+
 /// How many pixels were passed, and the next range.
 #[derive(Clone, Copy)]
 pub(crate) struct Advance {
@@ -106,7 +128,7 @@ impl<'a> Ranges<'a> {
 
     /// The rest of the block that is begun, and what is behind it.
     #[inline]
-    pub(crate) fn begun(&self) -> Begun<'a>
+    fn begun(&self) -> Begun<'a>
         ensures { rest_of result.ranges.now result.ahead.blocks.now result.ahead.nodes.now ≡ self.now }
     {
         Begun {
@@ -115,14 +137,25 @@ impl<'a> Ranges<'a> {
         }
     }
 
-    /// Goes on with these.
+    /// The rest of the block that is begun as a slice, and what is behind it.
     #[inline]
-    pub(crate) fn resume(&mut self, ranges: &'a [(u64, u64)], ahead: Ahead<'a>)
-        requires { IsNormal (rest_of ranges.now ahead.blocks.now ahead.nodes.now) }
-        ensures { self.new ≡ rest_of ranges.entry.now ahead.entry.blocks.now ahead.entry.nodes.now }
+    pub(crate) fn started(&self) -> Started<'a>
+        ensures { result.ranges.now ++ result.behind ≡ self.now }
+    {
+        Started {
+            ranges: self.ranges,
+            behind: Behind { ahead: self.ahead },
+        }
+    }
+
+    /// Goes on with these ranges, and what is behind them.
+    #[inline]
+    pub(crate) fn resume(&mut self, ranges: &'a [(u64, u64)], behind: Behind<'a>)
+        requires { IsNormal (ranges.now ++ behind) }
+        ensures { self.new ≡ ranges.entry.now ++ behind.entry }
     {
         self.ranges = ranges;
-        self.ahead = ahead;
+        self.ahead = behind.ahead;
     }
 
     /// Takes off the next node whole, where none is begun and it ends below the limit.

@@ -4,13 +4,12 @@ ghost use Rattle.std.specs.Prelude.{◌≡◌, ◌+◌, ◌<◌, ◌≤◌, ◌|
 ghost use Rattle.std.specs.Prelude.{IfOk, IfSome, OnOk};
 ghost use Rattle.moc_ranges.specs.Pixels.{pixel_count};
 ghost use Rattle.moc_ranges.specs.RangeList.{IsNormal, in_range, in_ranges, set_of};
-ghost use Rattle.moc_ranges.specs.Private.Blocks.{next_of, rest_of};
+ghost use Rattle.moc_ranges.specs.Private.Blocks.{next_of};
 ghost use Rattle.moc_ranges.specs.Private.Built.{ranges_of, CanJoin, CanTake, TakesOver, IsTurn, IsJoining, TakesBoth};
 
 use crate::list::RangeList;
-use crate::list::ahead::Begun;
 use crate::list::builder::{ListBuilder, lengthen};
-use crate::list::ranges::Ranges;
+use crate::list::ranges::{Ranges, Started};
 use crate::operations::few::unite_few;
 use crate::operations::reach::are_uneven;
 use std::alloc::{AllocError, Global};
@@ -145,22 +144,19 @@ struct Left<'a, 'b> {
 fn join_begun<'a, 'b>(
     alloc: Global,
     last: (u64, u64),
-    first: Begun<'a>,
-    second: Begun<'b>,
+    first: &Started<'a>,
+    second: &Started<'b>,
     built: &mut ListBuilder,
 ) -> Result<Left<'a, 'b>, AllocError>
     requires opened { IsNormal (ranges_of built.old ++ last ∷ []) }
-    requires first_normal { IsNormal (rest_of first.ranges.now first.ahead.blocks.now first.ahead.nodes.now) }
-    requires second_normal { IsNormal (rest_of second.ranges.now second.ahead.blocks.now second.ahead.nodes.now) }
-    requires first_later { last.0 ≤ next_of (rest_of first.ranges.now first.ahead.blocks.now first.ahead.nodes.now) }
-    requires second_later { last.0 ≤ next_of (rest_of second.ranges.now second.ahead.blocks.now
-        second.ahead.nodes.now) }
+    requires first_normal { IsNormal (first.now.ranges.now ++ first.now.behind) }
+    requires second_normal { IsNormal (second.now.ranges.now ++ second.now.behind) }
+    requires first_later { last.0 ≤ next_of (first.now.ranges.now ++ first.now.behind) }
+    requires second_later { last.0 ≤ next_of (second.now.ranges.now ++ second.now.behind) }
     ensures { IfOk result (λ l. IsJoining (ranges_of built.new) l.last
-        (rest_of l.xs.now first.entry.ahead.blocks.now first.entry.ahead.nodes.now)
-        (rest_of l.ys.now second.entry.ahead.blocks.now second.entry.ahead.nodes.now)
+        (l.xs.now ++ first.now.behind) (l.ys.now ++ second.now.behind)
         (ranges_of built.old ++ last ∷ [])
-        (rest_of first.entry.ranges.now first.entry.ahead.blocks.now first.entry.ahead.nodes.now)
-        (rest_of second.entry.ranges.now second.entry.ahead.blocks.now second.entry.ahead.nodes.now)) }
+        (first.now.ranges.now ++ first.now.behind) (second.now.ranges.now ++ second.now.behind)) }
 {
     let mut last = last;
     let mut xs = first.ranges;
@@ -194,11 +190,11 @@ fn join_both(
     let Some(last) = built.pop() else {
         return Ok(());
     };
-    let first = xs.begun();
-    let second = ys.begun();
-    let left = join_begun(alloc, last, first, second, built)?;
-    xs.resume(left.xs, first.ahead);
-    ys.resume(left.ys, second.ahead);
+    let first = xs.started();
+    let second = ys.started();
+    let left = join_begun(alloc, last, &first, &second, built)?;
+    xs.resume(left.xs, first.behind);
+    ys.resume(left.ys, second.behind);
     built.push(alloc, left.last.0, left.last.1)?;
     Ok(())
 }

@@ -1,10 +1,9 @@
 use Rattle.std.proofs.Common.{◌+◌, ◌++◌, ◌∷◌, [], length}
-use Rattle.moc_ranges.specs.Private.Blocks.{rest_of}
 use Rattle.moc_ranges.specs.Private.Built.{IsJoining, ranges_of}
 use Rattle.moc_ranges.proofs.operations.union.join_begun.Given as goal
 
 abbrev pub invariant-loop-turn : goal.invariant-loop-turn
-invariant-loop-turn l = IsJoining (ranges_of l.built) l.last (rest_of l.xs l.first.ahead.blocks.now l.first.ahead.nodes.now) (rest_of l.ys l.second.ahead.blocks.now l.second.ahead.nodes.now) (ranges_of l.initial.built ++ l.fn.last ∷ []) (rest_of l.first.ranges.now l.first.ahead.blocks.now l.first.ahead.nodes.now) (rest_of l.second.ranges.now l.second.ahead.blocks.now l.second.ahead.nodes.now)
+invariant-loop-turn l = IsJoining (ranges_of l.built) l.last (l.xs ++ l.first.behind) (l.ys ++ l.second.behind) (ranges_of l.initial.built ++ l.fn.last ∷ []) (l.first.ranges.now ++ l.first.behind) (l.second.ranges.now ++ l.second.behind)
 
 abbrev pub decreases-loop-turn : goal.decreases-loop-turn
-decreases-loop-turn l = length (rest_of l.xs l.first.ahead.blocks.now l.first.ahead.nodes.now) + length (rest_of l.ys l.second.ahead.blocks.now l.second.ahead.nodes.now)
+decreases-loop-turn l = length (l.xs ++ l.first.behind) + length (l.ys ++ l.second.behind)

@@ -8,10 +8,10 @@ pub join_begun-requires-clause-opened : goal.join_begun-requires-clause-opened
 join_begun-requires-clause-opened c = popped_open c.args.built.now c.pop.new.self c.in-Some.last c.requires.built c.in-Some.ensures.0 c.in-Some.ensures.1
 
 pub join_begun-requires-clause-first_later : goal.join_begun-requires-clause-first_later
-join_begun-requires-clause-first_later c = subst (λ (l : List (ℕ × ℕ)). c.in-Some.last.0 ≤ next_of l) (sym c.begun-first.ensures) (popped_later c.args.built.now c.pop.new.self c.in-Some.last _ c.requires.can_first c.in-Some.ensures.1)
+join_begun-requires-clause-first_later c = subst (λ (l : List (ℕ × ℕ)). c.in-Some.last.0 ≤ next_of l) (sym c.started-first.ensures) (popped_later c.args.built.now c.pop.new.self c.in-Some.last _ c.requires.can_first c.in-Some.ensures.1)
 
 pub join_begun-requires-clause-second_later : goal.join_begun-requires-clause-second_later
-join_begun-requires-clause-second_later c = subst (λ (l : List (ℕ × ℕ)). c.in-Some.last.0 ≤ next_of l) (sym c.begun-second.ensures) (popped_later c.args.built.now c.pop.new.self c.in-Some.last _ c.requires.can_second c.in-Some.ensures.1)
+join_begun-requires-clause-second_later c = subst (λ (l : List (ℕ × ℕ)). c.in-Some.last.0 ≤ next_of l) (sym c.started-second.ensures) (popped_later c.args.built.now c.pop.new.self c.in-Some.last _ c.requires.can_second c.in-Some.ensures.1)
 
 pub push-requires-clause-filled : goal.push-requires-clause-filled
 push-requires-clause-filled c = open_filled _ c.in_ok-left.left.last c.in_ok-left.ensures.opened
@@ -23,5 +23,5 @@ pub push-requires-clause-after : goal.push-requires-clause-after
 push-requires-clause-after c = open_after _ c.in_ok-left.left.last c.in_ok-left.ensures.opened
 
 pub returns : goal.returns
-returns c = takes_as _ _ _ _ _ _ _ _ _ _ c.begun-first.ensures c.resume.ensures c.begun-second.ensures c.resume-2.ensures
+returns c = takes_as _ _ _ _ _ _ _ _ _ _ c.started-first.ensures c.resume.ensures c.started-second.ensures c.resume-2.ensures
     (takes_both c.args.built.now _ _ _ _ _ _ _ c.in_ok-push.ensures.last.0 c.in_ok-left.left.last c.in_ok-left.ensures (open_popped c.args.built.now c.pop.new.self c.in-Some.last c.in-Some.ensures.0 c.in-Some.ensures.1) c.in_ok-push.ensures.built c.in_ok-push.ensures.kept c.in_ok-push.ensures.last.1)
