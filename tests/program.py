@@ -479,6 +479,75 @@ def shared_calls_refuse(tally, shim):
         tally.add(f"some refusal of {call} shows", seen in met, met)
 
 
+def conversation(tally, words, lines, closing=b""):
+    """Each line's answer is read before the next line is sent; a blank line has none. The closing text comes at the end."""
+    with subprocess.Popen([MOC, *words], stdin=subprocess.PIPE, stdout=subprocess.PIPE) as talk:
+        deadline = time.monotonic() + SECONDS
+        for line, answer in lines:
+            talk.stdin.write(line)
+            talk.stdin.flush()
+            seen = line_within(talk.stdout, deadline) if answer else b""
+            tally.add(f"{words}: the answer to {line} before the next line", seen == answer, seen)
+            if seen != answer:
+                talk.kill()
+                return
+        talk.stdin.close()
+        tally.add(f"{words}: the end of a conversation", (talk.stdout.read(), talk.wait(SECONDS)) == (closing, 0))
+
+
+def conversations_are_held(tally):
+    """Schedules and numbers are answered line by line, as scripts are."""
+    answers = iter(PLAYED.splitlines(keepends=True))
+    lines = SCHEDULE.splitlines(keepends=True)
+    conversation(tally, ["play"], [(line, next(answers) if line.strip() else b"") for line in lines], LAST_LINES)
+    numbers = [(b"0\n", b"13\n"), (b"\n", b""), (b" 3\t\n", b"0\n"), (b"48\n", b"fault CellTooLarge\n"), (b"1 1\n", b"fault WrongCount\n")]
+    conversation(tally, ["renumber", "nest", "ring", "1"], numbers)
+
+
+def readers_close_their_pipes(tally):
+    """Where nobody reads the output any more, the fault is told, and no signal ends the program."""
+    for words, given in [(["run"], SCRIPT), (["play"], SCHEDULE), (["crew", "2"], CREW), (["renumber", "nest", "ring", "1"], b"0"),
+                         (["convert", "ascii", "json"], b"2/0-3"), (["check", "ascii"], b"2/0-3"), (["describe", "ascii"], b"2/0-3"),
+                         (["combine", "union", "ascii"], b"2/0-3;0/1"), (["draw", "ascii"], b"2/0-3"),
+                         (["degrade", "1", "ascii"], b"2/0-3"), (["complement", "ascii"], b"2/0-3"), (["ring", "1", "18"], b""),
+                         (["faults"], b""), (["--help"], b"")]:
+        to_read, to_write = os.pipe()
+        os.close(to_read)
+        seen = outcome(words, given, stdout=to_write)
+        os.close(to_write)
+        tally.add(f"{words} where nobody reads", seen == (3, None, b"fault Write\n"), seen)
+
+
+def late_readers_are_waited_for(tally):
+    """Where nobody reads yet, the program takes no more lines once the pipe is full; later all answers come."""
+    lines = 200_000
+    with subprocess.Popen([MOC, "run"], stdin=subprocess.PIPE, stdout=subprocess.PIPE) as talk:
+        os.set_blocking(talk.stdin.fileno(), False)
+        script = b"count 0/0\n" * lines
+        sent, still = 0, 0
+        while still < 20 and sent < len(script):
+            try:
+                count = os.write(talk.stdin.fileno(), script[sent:sent + 65_536])
+            except BlockingIOError:
+                count = 0
+                time.sleep(0.05)
+            sent, still = sent + count, 0 if count else still + 1
+        tally.add("a program whose answers nobody reads takes no more lines", sent < len(script), sent)
+        os.set_blocking(talk.stdin.fileno(), True)
+        answers, _ = talk.communicate(script[sent:], timeout=SECONDS)
+        tally.add("all answers to a late reader", (answers, talk.returncode) == (b"total 0\n" * lines, 0), len(answers))
+
+
+def threads_are_refused(tally, folder):
+    """A crew whose threads cannot be started says so, and writes nothing."""
+    source, shim = os.path.join(folder, "threads.c"), os.path.join(folder, "threads.so")
+    with open(source, "w", encoding="utf-8") as file:
+        file.write("int pthread_create(void *thread, const void *kind, void *(*work)(void *), void *given) { return 11; }\n")
+    subprocess.run(["cc", "-shared", "-fPIC", "-o", shim, source], check=True)
+    seen = outcome(["crew", "2"], CREW, env=dict(os.environ, LD_PRELOAD=shim))
+    tally.add("a crew without threads", seen == (3, b"", b"fault Spawn\n"), seen)
+
+
 def main():
     tally = Tally()
     words_are_answered(tally)
@@ -501,6 +570,10 @@ def main():
         refused_line_is_told(tally, shim)
         refused_crew_is_told(tally, shim)
         shared_calls_refuse(tally, shim)
+        threads_are_refused(tally, folder)
+    conversations_are_held(tally)
+    readers_close_their_pipes(tally)
+    late_readers_are_waited_for(tally)
     print(f"{tally.passed} passed, {tally.failed} failed")
     return 1 if tally.failed else 0
 

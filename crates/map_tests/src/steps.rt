@@ -1,9 +1,13 @@
 //! Schedules that were worked by hand.
-ghost use Rattle.std.specs.Prelude.{◌<◌, ◌≤◌};
+ghost use Rattle.std.specs.Prelude.{◌<◌, ◌≤◌, IfOk};
+ghost use Rattle.map_tests.specs.Worlds.{IsMadeInOrder};
 
 use moc_parts::{Batch, Command, Operand, Part, Replies, Reply};
 use moc_ranges::Coverage;
-use moc_steps::{CoverError, Entry, ReplayError, Step, StepError, World, drain, next_step, replay};
+use moc_steps::{
+    CoverError, Entry, ReplayError, Step, StepError, World, drain, next_step, replay,
+    steps_have_one_order,
+};
 use std::alloc::Global;
 use std::fmt::Display;
 use std::process::Abort;
@@ -141,6 +145,15 @@ fn a_count_waits_for_an_add(rt: HostRuntime) {
     assert_eq!(rt; world.midway(), 0);
 }
 
+/// The set of a world that was handed in: what its operations make, done one by one in its order.
+fn set_in_order(world: &World) -> Result<Coverage, CoverError>
+    ensures { IfOk result (λ a. IsMadeInOrder world.now a) }
+{
+    world.is_reached();
+    steps_have_one_order();
+    world.coverage()
+}
+
 #[test]
 fn a_world_is_drained(rt: HostRuntime) {
     let mut world = overtaken(&rt, rt.alloc());
@@ -151,7 +164,7 @@ fn a_world_is_drained(rt: HostRuntime) {
     assert!(rt; stand(&world, &[0, 1]));
     assert_eq!(rt; last_pixels(&world), Some(2 * BASE));
     assert_eq!(rt;
-        world.coverage().expect(&rt, "nobody is midway").count(),
+        set_in_order(&world).expect(&rt, "nobody is midway").count(),
         2 * BASE
     );
     assert_eq!(rt; drain(&mut world).expect(&rt, "drained"), 0);

@@ -21,3 +21,5 @@ pub mod Gathered
 pub mod Crewing
 pub mod AllAnswered
 pub mod NumberingLemmas
+pub mod Within
+pub mod Explained

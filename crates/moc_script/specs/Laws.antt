@@ -1,19 +1,25 @@
 -- Laws of the languages of scripts and schedules.
-use Rattle.std.specs.Prelude.{◌≡◌, ℕ, Bool, false, ◌==◌, List, ◌++◌, ◌∷◌, [], if◌then◌else◌, Result, Ok, Err}
+use Rattle.std.specs.Prelude.{◌≡◌, ℕ, Bool, false, ◌==◌, List, ◌++◌, ◌∷◌, [], length, if◌then◌else◌, Result, Ok, Err}
 use Rattle.std.specs.List.{list_any}
 use Rattle.std.specs.FinSet as set
+use Rattle.std.specs.FinMap as map
 use Rattle.moc_ranges.specs.Numbers.{NumberSet}
+use Rattle.moc_parts.specs.Batches.{batches}
 use Rattle.moc_parts.specs.Commands.{reply_on, set_after}
 use Rattle.moc_parts.specs.declared.command.Command.{Command}
+use Rattle.moc_steps.specs.Operations.{operations, midway}
+use Rattle.moc_steps.specs.World.{whole}
+use Rattle.moc_steps.specs.Explains.{Explains, result}
+use Rattle.moc_steps.specs.Laws.{ArePlayed, led_to}
 use Rattle.moc_script.specs.Words.{is_blank}
 use Rattle.moc_script.specs.Faults.{fault_line}
 use Rattle.moc_script.specs.Language.{◌>>=◌, plain_operand_of, command_by, command_of}
 use Rattle.moc_script.specs.Replies.{reply_text}
 use Rattle.moc_script.specs.Batches.{is_semicolon, batch_of, line_answer, after_line}
-use Rattle.moc_script.specs.Answers.{Rules, script_text}
+use Rattle.moc_script.specs.Answers.{Rules, after_lines, script_text}
 use Rattle.moc_script.specs.Scripts.{line_limit, answer_on, set_after_line, answers_of}
-use Rattle.moc_script.specs.Steps.{said_by}
-use Rattle.moc_script.specs.Schedules.{step_rules, start_schedule, schedule_text}
+use Rattle.moc_script.specs.Steps.{BatchStep, said_by}
+use Rattle.moc_script.specs.Schedules.{Schedule, step_rules, schedule_rules, start_schedule, steps_taken, schedule_text}
 use Rattle.moc_script.specs.declared.fault.Fault.{Fault}
 
 -- the answer to a single command
@@ -90,3 +96,23 @@ SchedulesWithoutOrder =
     (input : List ℕ) → list_any is_at_sign input ≡ false
     → schedule_text input
     ≡ script_text (step_rules (said_by (batch_of (command_by plain_operand_of)))) line_limit start_schedule input
+
+-- Steps lead from the empty set to where a schedule stands, and what its last lines tell explains them.
+pub record StandInOrder (steps : List BatchStep) (s : Schedule) : Type 0 where
+  -- each is permitted when it is taken
+  pub played : ArePlayed batches set.empty steps
+  pub leads : led_to batches set.empty steps ≡ s.world
+  -- the order names the operations that have edited, in time, each with the reply of one single set
+  pub explained : Explains batches s.world.order steps set.empty
+  -- there is a line for each operation, which began it
+  pub begun : length s.begins ≡ length (operations steps)
+  -- as many clients are midway as operations
+  pub counted : map.len s.world.locks.clients ≡ midway steps
+  -- where none is midway, the set is what the operations make, done one by one in the order
+  pub together : midway steps ≡ 0 → whole batches s.world ≡ result batches s.world.order steps set.empty
+
+-- The steps that the lines of a schedule take lead to where it stands behind them, and its last lines explain them.
+abbrev pub SchedulesHaveOneOrder : Type 0
+SchedulesHaveOneOrder =
+    (lines : List (List ℕ))
+    → StandInOrder (steps_taken start_schedule lines) (after_lines schedule_rules start_schedule lines)

@@ -73,6 +73,16 @@ abbrev pub after_said : Schedule → Result BatchStep Fault → Schedule
 after_said s (Ok step) = after_step (refusal batches s.world.locks step) s step
 after_said s (Err fault) = s
 
+-- the step, unless it is refused
+abbrev pub unless_refused : Option StepError → BatchStep → List BatchStep
+unless_refused (Some why) step = []
+unless_refused None step = step ∷ []
+
+-- the step that is taken by what a line says: none at a fault, and where it is refused
+abbrev pub step_taken : Schedule → Result BatchStep Fault → List BatchStep
+step_taken s (Ok step) = unless_refused (refusal batches s.world.locks step) step
+step_taken s (Err fault) = []
+
 -- for each entry of the order a space and the line that began its operation
 abbrev pub begin_lines : List ℕ → List (Entry (List Reply)) → List ℕ
 begin_lines begins order = flat_map (λ entry. codes " " ++ decimal (get_or begins entry.begin 0)) order
@@ -98,6 +108,15 @@ step_rules says = record {
 -- how the lines of a schedule are answered
 abbrev pub schedule_rules : Rules Schedule
 schedule_rules = step_rules said_step
+
+-- the step that a line takes, if it takes one
+abbrev pub taken_by : Schedule → List ℕ → List BatchStep
+taken_by s line = if is_blank line then [] else step_taken s (said_step line)
+
+-- the steps that lines take, each on what those before it leave
+abbrev pub steps_taken : Schedule → List (List ℕ) → List BatchStep
+steps_taken s [] = []
+steps_taken s (line ∷ lines) = taken_by s line ++ steps_taken (schedule_rules.after s line) lines
 
 -- the text that a schedule is answered with
 abbrev pub schedule_text : List ℕ → List ℕ

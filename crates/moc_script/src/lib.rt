@@ -22,8 +22,9 @@ mod words;
 
 pub use crews::{Gate, Lanes, OpenGate, crew, crews_answer_each_line};
 pub use laws::{
-    lines_of_one_command, lines_without_order, schedules_of_single_commands,
-    schedules_without_order, scripts_of_single_commands, scripts_without_order,
+    lines_of_one_command, lines_without_order, schedules_have_one_order,
+    schedules_of_single_commands, schedules_without_order, scripts_of_single_commands,
+    scripts_without_order,
 };
 pub use line_reader::LINE_LIMIT;
 pub use moc_devices::{DeviceFault, OverReader, OverWriter, Sink, Source, write_all};

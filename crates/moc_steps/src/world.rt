@@ -321,8 +321,9 @@ impl World {
         Ok(())
     }
 
-    /// Steps lead to the world, and the way to its end is shorter than 2^64 steps.
-    pub(crate) fn is_reached(&self)
+    /// Permitted steps of batches led to the world from some set of pixels, and the way to its end is shorter than 2^64
+    /// steps: so the laws of the machine hold of a world that one is handed. Does nothing, takes no memory.
+    pub fn is_reached(&self)
         ensures reached { IsReached batches self.now }
         ensures short { steps_left batches self.now.locks.clients < 2 ^ 64 }
     {

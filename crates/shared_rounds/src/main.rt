@@ -1,5 +1,6 @@
-//! Twelve clients of one map, each on a thread of its own and on a part of its own: 10,000 times each adds a cell and
-//! removes it. None of them is ever refused, since none holds another's part.
+//! Threads on one map. Twelve clients, each on a thread of its own and on a part of its own: 10,000 times each adds a cell
+//! and removes it, and none of them is ever refused, since none holds another's part. Then eight threads on common parts
+//! (`common`).
 #![tactic(auto)]
 
 ghost use Rattle.std.specs.Prelude.{All, IfSome};
@@ -10,8 +11,11 @@ use moc_parts::{Batch, Command, Operand, Reply};
 use moc_ranges::Coverage;
 use moc_shared::{Client, SharedMap};
 use std::alloc::Global;
+use std::marker::Sync;
 use std::sync::atomic::{AtomicU64, Ordering};
-use std::thread;
+use std::thread::{self, Threads};
+
+mod common;
 
 /// How many clients there are, one for each part.
 const CLIENTS: u8 = 12;
@@ -35,11 +39,11 @@ fn cell(alloc: Global, base_pixel: u8) -> Option<Operand> {
     Some(Operand { set, coarse: None })
 }
 
-/// Whether all threads have started. It yields to them, and gives up after so many turns.
-fn have_started(started: &AtomicU64) -> bool {
+/// Whether all of so many threads have started. It yields to them, and gives up after so many turns.
+fn have_started(started: &AtomicU64, threads: u8) -> bool {
     started.fetch_add(1, Ordering::SeqCst);
     for _ in 0..TURNS {
-        if started.load(Ordering::SeqCst) >= u64::from(CLIENTS) {
+        if started.load(Ordering::SeqCst) >= u64::from(threads) {
             return true;
         }
         thread::yield_now();
@@ -79,7 +83,7 @@ fn work(alloc: Global, map: &SharedMap, started: &AtomicU64, client: Client) -> 
 {
     let mut client = client;
     let number = client.number();
-    let all = have_started(started);
+    let all = have_started(started, CLIENTS);
     let add = cell(alloc, number).and_then(|cell| Batch::one(alloc, Command::Add(cell)).ok());
     let remove = cell(alloc, number).and_then(|cell| Batch::one(alloc, Command::Remove(cell)).ok());
     let good = match (add, remove) {
@@ -108,13 +112,13 @@ fn gather(map: &SharedMap, ended: Vec<(Client, u64)>) -> Option<(Client, u64)>
     all
 }
 
-fn main(rt: HostRuntime) -> Result<()> {
-    let alloc = rt.alloc();
+/// Runs the twelve: how many of their calls changed a cell, and how many pixels are left.
+fn run<R: Threads + Sync>(rt: &R, alloc: Global) -> Result<(u64, u64)> {
     let (map, clients) = SharedMap::new(alloc, Coverage::empty(alloc), CLIENTS)?;
     let started = AtomicU64::new(0);
     let (shared, count) = (&map, &started);
     let ended = thread::map_vec(
-        &rt,
+        rt,
         clients,
         &|client: Client| -> (Client, u64)
             requires { IsClientOf shared.now client }
@@ -124,10 +128,22 @@ fn main(rt: HostRuntime) -> Result<()> {
     let Some((first, good)) = gather(&map, ended) else {
         bail!("no client")
     };
+    Ok((good, map.close(first)?.count()))
+}
+
+fn main(rt: HostRuntime) -> Result<()> {
+    let alloc = rt.alloc();
+    let (good, left) = run(&rt, alloc)?;
     println!(rt;
         "{good} of {} calls changed a cell",
         2 * ROUNDS * u64::from(CLIENTS)
     )?;
-    println!(rt; "{} pixels at the end", map.close(first)?.count())?;
+    println!(rt; "{left} pixels at the end")?;
+    let (right, left) = common::run(&rt, alloc)?;
+    println!(rt;
+        "{right} of {} turns on common parts were answered as by one set",
+        common::TURNS * u64::from(common::THREADS)
+    )?;
+    println!(rt; "{left} cells at the end")?;
     Ok(())
 }

@@ -1,0 +1,17 @@
+-- What a test concludes of a world that it was handed.
+use Rattle.std.specs.Prelude.{◌≡◌, List}
+use Rattle.moc_ranges.specs.Numbers.{NumberSet}
+use Rattle.moc_parts.specs.Batches.{batches}
+use Rattle.moc_parts.specs.declared.command.Command.{Command}
+use Rattle.moc_steps.specs.Locks.{Step}
+use Rattle.moc_steps.specs.Explains.{Explains, result}
+use Rattle.moc_steps.specs.Laws.{led_to}
+use Rattle.moc_steps.specs.Played.{World}
+
+-- Steps led to the world, its order explains them, and the set is what their operations make, done one by one in it.
+pub record IsMadeInOrder (w : World) (a : NumberSet) : Type 0 where
+  pub start : NumberSet
+  pub steps : List (Step (List Command))
+  pub leads : led_to batches start steps ≡ w
+  pub explained : Explains batches w.order steps start
+  pub made : a ≡ result batches w.order steps start

@@ -1,0 +1,280 @@
+-- What the lines of a schedule say is local, and the steps that they take lead to the world that they leave.
+use Rattle.std.proofs.Common.{◌≡◌, ℕ, suc, ◌≤◌, Bool, true, false, cond, ltb, List, [], ◌∷◌, ◌++◌, length, Option, None, Some, Result, Ok, Err, codes, refl, sym, ap, subst, ◌∙◌, arith, length-append, eqb, take}
+use Rattle.std.specs.List.{position_or_len}
+use Rattle.std.specs.Result.{IfOk}
+use Rattle.std.specs.Option.{ok_or}
+use Rattle.std.specs.Str.{bytes_eq}
+use Rattle.std.specs.FinSet as set
+use Rattle.std.specs.FinMap as map
+use Rattle.std.proofs.lemmas.Bool.Decides.{nat_tests}
+use Rattle.moc_sphere.specs.CellNumber.{cell_count, cell_number}
+use Rattle.moc_ranges.specs.Numbers.{NumberSet}
+use Rattle.moc_ranges.specs.Pixels.{pixels}
+use Rattle.moc_ranges.specs.Operations.{IsWithin}
+use Rattle.moc_parts.specs.Batches.{batches, AreCommands}
+use Rattle.moc_parts.specs.Commands.{IsOperand, IsCommand}
+use Rattle.moc_parts.specs.Objects.{IsLocal}
+use Rattle.moc_parts.specs.Laws.{AreBatchesLocal}
+use Rattle.moc_parts.specs.declared.command.Operand.{Operand}
+use Rattle.moc_parts.specs.declared.command.Command.{Command}
+use Rattle.moc_parts.specs.declared.command.Command.TheVariants.{Near}
+use Rattle.moc_text.specs.declared.ascii.error.TextError.{TextError}
+use Rattle.moc_text.specs.Reading.{reading_of}
+use Rattle.moc_steps.specs.Locks.{Locks, ArePermitted, AreLocal, locks_after, refusal}
+use Rattle.moc_steps.specs.Locks.Step.{Begin, Take, Edit, Give, Quit, End}
+use Rattle.moc_steps.specs.Operations.{Operation, opened, mark, noted, operations_from, midway}
+use Rattle.moc_steps.specs.World.{World, run, world_after, whole}
+use Rattle.moc_steps.specs.Explains.{Explains, result}
+use Rattle.moc_steps.specs.Laws.{ArePlayed, HasOneOrder, StepsHaveOneOrder}
+use Rattle.moc_steps.specs.declared.error.StepError.{StepError}
+use Rattle.moc_parts.specs.declared.reply.Reply.{Reply}
+use Rattle.moc_script.specs.Words.{is_blank, word_of, behind_word, number_of}
+use Rattle.moc_script.specs.Language.{◌>>=◌, coverage_or_fault, coverage_of, order_of, plain_operand_of, ordered_operand_of, operand_by, operand_of, command_named, command_with, degrade_of, near_at, near_of, command_of}
+use Rattle.moc_script.specs.Batches.{is_semicolon, pieces_of, piece_says, first_then, commands_of, batch_of}
+use Rattle.moc_script.specs.Steps.{BatchStep, client_by, client_of, place_of, step_by, step_at, other_step, begin_by, begin_of, said_step}
+use Rattle.moc_script.specs.Answers.{after_lines}
+use Rattle.moc_script.specs.Schedules.{Schedule, start_schedule, next_line, begins_after, after_step, after_said, schedule_rules, unless_refused, step_taken, steps_taken}
+use Rattle.moc_script.specs.Laws.{SchedulesHaveOneOrder}
+use Rattle.moc_script.specs.declared.fault.Fault.{Fault}
+use Rattle.moc_script.specs.declared.fault.Fault.TheVariants.{WrongCount, BadNumber, OrderTooLarge, CellTooLarge, EmptyCommand, TooManyCommands}
+use Rattle.moc_script.proofs.Batching.{piece-first}
+use Rattle.moc_script.proofs.Within.{empty_within, read_within}
+
+-- ---- what holds where something was read
+
+ok_if : {A : Type 0} (P : A → Type 0) (b : Bool) (x y : Result A Fault) → IfOk x P → IfOk y P → IfOk (cond b x y) P
+ok_if P true x y hx hy = hx
+ok_if P false x y hx hy = hy
+
+ok_then : {A B : Type 0} (Q : A → Type 0) (P : B → Type 0) (r : Result A Fault) (f : A → Result B Fault) → IfOk r Q → ((a : A) → Q a → IfOk (f a) P) → IfOk (r >>= f) P
+ok_then Q P (Ok a) f h next = next a h
+ok_then Q P (Err e) f h next = tt
+
+-- something
+abbrev Any : {A : Type 0} → A → Type 0
+Any {A} a = Unit {0}
+
+ok_any : {A : Type 0} (r : Result A Fault) → IfOk r Any
+ok_any (Ok a) = tt
+ok_any (Err e) = tt
+
+-- ---- what a text says is a command of sets of pixels, orders and cells
+
+coverage_within : (text : List ℕ) → IfOk (coverage_of text) (λ a. IsWithin a pixels)
+coverage_within text = found (reading_of text) (read_within text)
+  where
+    found : (r : Result (NumberSet × Option ℕ) TextError) → IfOk r (λ r. IsWithin r.0 pixels) → IfOk (coverage_or_fault r) (λ a. IsWithin a pixels)
+    found (Ok r) h = h
+    found (Err e) h = tt
+
+order_small : (field : List ℕ) → IfOk (order_of field) (λ order. order ≤ 29)
+order_small field = ok_then Any _ (ok_or (number_of field) BadNumber) _ (ok_any (ok_or (number_of field) BadNumber)) (λ order _. small order (ltb 29 order) refl)
+  where
+    small : (order : ℕ) (b : Bool) → ltb 29 order ≡ b → IfOk (cond b (Err OrderTooLarge) (Ok order)) (λ order. order ≤ 29)
+    small order true is = tt
+    small order false is = grind (arith, nat_tests)
+
+plain_proper : (text : List ℕ) → IfOk (plain_operand_of text) IsOperand
+plain_proper text = ok_then _ IsOperand (coverage_of text) _ (coverage_within text) (λ a within. (within, tt))
+
+ordered_proper : (field text : List ℕ) → IfOk (ordered_operand_of field text) IsOperand
+ordered_proper field text =
+    ok_then _ IsOperand (order_of field) _ (order_small field) (λ order small.
+    ok_then _ IsOperand (coverage_of text) _ (coverage_within text) (λ a within. (within, small)))
+
+operand_proper : (word text : List ℕ) → IfOk (operand_by word text) IsOperand
+operand_proper [] text = plain_proper text
+operand_proper (b ∷ field) text = ok_if IsOperand (eqb b 64) _ _ (ordered_proper field (behind_word text)) (plain_proper text)
+
+-- a command of each operand
+abbrev Makes : (Operand → Command) → Type 0
+Makes f = (x : Operand) → IsOperand x → IsCommand (f x)
+
+named_proper : (word : List ℕ) → IfOk (command_named word) Makes
+named_proper word =
+    ok_if Makes (bytes_eq word (codes "add")) _ _ (λ x h. h) (
+    ok_if Makes (bytes_eq word (codes "remove")) _ _ (λ x h. h) (
+    ok_if Makes (bytes_eq word (codes "keep")) _ _ (λ x h. h) (
+    ok_if Makes (bytes_eq word (codes "claim")) _ _ (λ x h. h) (
+    ok_if Makes (bytes_eq word (codes "count")) _ _ (λ x h. h) (
+    ok_if Makes (bytes_eq word (codes "read")) _ _ (λ x h. h) tt)))))
+
+with_proper : (word text : List ℕ) → IfOk (command_with operand_of word text) IsCommand
+with_proper word text =
+    ok_then Makes IsCommand (command_named word) _ (named_proper word) (λ f makes.
+    ok_then IsOperand IsCommand (operand_of text) _ (operand_proper (word_of text) text) (λ x is. makes x is))
+
+degrade_proper : (text : List ℕ) → IfOk (degrade_of text) IsCommand
+degrade_proper text =
+    ok_if IsCommand (is_blank text) _ _ tt (
+    ok_if IsCommand (is_blank (behind_word text)) _ _
+    (ok_then _ IsCommand (order_of (word_of text)) _ (order_small (word_of text)) (λ order small. small)) tt)
+
+near_cell : (order index : ℕ) → IfOk (near_at order index) IsCommand
+near_cell order index = deep (ltb 29 order) refl
+  where
+    inside : (b : Bool) → order ≤ 29 → ltb index (cell_count order) ≡ b → IfOk (cond b (Ok (Near (cell_number order index))) (Err CellTooLarge)) IsCommand
+    inside true small is = record { order_in_range = small; index_in_range = grind (arith, nat_tests) }
+    inside false small is = tt
+
+    deep : (b : Bool) → ltb 29 order ≡ b → IfOk (cond b (Err OrderTooLarge) (cond (ltb index (cell_count order)) (Ok (Near (cell_number order index))) (Err CellTooLarge))) IsCommand
+    deep true is = tt
+    deep false is = let small : order ≤ 29 = grind (arith, nat_tests) in inside (ltb index (cell_count order)) small refl
+
+near_proper : (text : List ℕ) → IfOk (near_of text) IsCommand
+near_proper text =
+    let rest = behind_word text in
+    let order = ok_or (number_of (word_of text)) BadNumber in
+    let index = ok_or (number_of (word_of rest)) BadNumber in
+    ok_if IsCommand (is_blank rest) _ _ tt (
+    ok_if IsCommand (is_blank (behind_word rest)) _ _
+    (ok_then Any IsCommand order _ (ok_any order) (λ k _. ok_then Any IsCommand index _ (ok_any index) (λ i _. near_cell k i))) tt)
+
+command_proper : (piece : List ℕ) → IfOk (command_of piece) IsCommand
+command_proper piece =
+    let word = word_of piece in
+    let text = behind_word piece in
+    ok_if IsCommand (bytes_eq word (codes "invert")) _ _ (ok_if IsCommand (is_blank text) _ _ tt tt) (
+    ok_if IsCommand (bytes_eq word (codes "degrade")) _ _ (degrade_proper text) (
+    ok_if IsCommand (bytes_eq word (codes "near")) _ _ (near_proper text) (with_proper word text)))
+
+piece_proper : (piece : List ℕ) → IfOk (piece_says command_of piece) IsCommand
+piece_proper piece = ok_if IsCommand (is_blank piece) (Err EmptyCommand) (command_of piece) tt (command_proper piece)
+
+commands_proper : (pieces : List (List ℕ)) → IfOk (commands_of command_of pieces) AreCommands
+commands_proper [] = tt
+commands_proper (piece ∷ pieces) = one (piece_says command_of piece) (commands_of command_of pieces) (piece_proper piece) (commands_proper pieces)
+  where
+    one : (first : Result Command Fault) (later : Result (List Command) Fault) → IfOk first IsCommand → IfOk later AreCommands → IfOk (first_then first later) AreCommands
+    one (Err e) later h each = tt
+    one (Ok c) (Err e) h each = tt
+    one (Ok c) (Ok cs) h each = (h, each)
+
+-- ---- what a line says is local
+
+module _ (local : AreBatchesLocal) where
+  first_local : (first : Result Command Fault) (later : Result (List Command) Fault) → IfOk first IsCommand → IfOk later AreCommands → IfOk (first_then first later) (IsLocal batches)
+  first_local (Err e) later h each = tt
+  first_local (Ok c) (Err e) h each = tt
+  first_local (Ok c) (Ok cs) h each = local c cs (h, each)
+
+  batch_local : (line : List ℕ) → IfOk (batch_of command_of line) (IsLocal batches)
+  batch_local line =
+      let found = piece-first line in
+      let piece = take (position_or_len is_semicolon line) line in
+      ok_if (IsLocal batches) (ltb 16 (length (pieces_of line))) (Err TooManyCommands) (commands_of command_of (pieces_of line)) tt
+      (subst (λ (ps : List (List ℕ)). IfOk (commands_of command_of ps) (IsLocal batches)) (sym found.1)
+      (first_local (piece_says command_of piece) (commands_of command_of found.0) (piece_proper piece) (commands_proper found.0)))
+
+  -- the step alone is local
+  abbrev Alone : BatchStep → Type 0
+  Alone step = AreLocal batches (step ∷ [])
+
+  begin_local : (text : List ℕ) → IfOk (begin_of (batch_of command_of) text) Alone
+  begin_local text =
+      let client = client_by (word_of text) in
+      let line = behind_word text in
+      ok_if Alone (is_blank line) (Err WrongCount) (begin_by (batch_of command_of) (word_of text) line) tt
+      (ok_then Any Alone client _ (ok_any client) (λ c _. ok_then (IsLocal batches) Alone (batch_of command_of line) _ (batch_local line) (λ cs is. (is, tt))))
+
+  by_local : (step : ℕ → BatchStep) (text : List ℕ) → ((c : ℕ) → Alone (step c)) → IfOk (step_by step text) Alone
+  by_local step text each = ok_then Any Alone (client_of text) _ (ok_any (client_of text)) (λ c _. each c)
+
+  at_local : (step : ℕ → ℕ → BatchStep) (text : List ℕ) → ((c b : ℕ) → Alone (step c b)) → IfOk (step_at step text) Alone
+  at_local step text each = ok_then Any Alone (place_of text) _ (ok_any (place_of text)) (λ p _. each p.0 p.1)
+
+  other_local : (word text : List ℕ) → IfOk (other_step word text) Alone
+  other_local word text =
+      ok_if Alone (bytes_eq word (codes "take")) _ _ (by_local (λ c. Take c) text (λ c. tt)) (
+      ok_if Alone (bytes_eq word (codes "edit")) _ _ (at_local (λ c b. Edit c b) text (λ c b. tt)) (
+      ok_if Alone (bytes_eq word (codes "give")) _ _ (at_local (λ c b. Give c b) text (λ c b. tt)) (
+      ok_if Alone (bytes_eq word (codes "quit")) _ _ (by_local (λ c. Quit c) text (λ c. tt)) (
+      ok_if Alone (bytes_eq word (codes "end")) _ _ (by_local (λ c. End c) text (λ c. tt)) tt))))
+
+  said_local : (line : List ℕ) → IfOk (said_step line) Alone
+  said_local line =
+      ok_if Alone (bytes_eq (word_of line) (codes "begin")) (begin_of (batch_of command_of) (behind_word line)) (other_step (word_of line) (behind_word line))
+      (begin_local (behind_word line)) (other_local (word_of line) (behind_word line))
+
+-- ---- the steps that lines take
+
+local_on : (step : BatchStep) (rest : List BatchStep) → AreLocal batches (step ∷ []) → AreLocal batches rest → AreLocal batches (step ∷ rest)
+local_on (Begin c op) rest h more = (h.0, more)
+local_on (Take c) rest h more = more
+local_on (Edit c b) rest h more = more
+local_on (Give c b) rest h more = more
+local_on (Quit c) rest h more = more
+local_on (End c) rest h more = more
+
+same_locks : (w : World (List Command) (List Reply)) (step : BatchStep) → locks_after batches w.locks step ≡ (world_after batches w step).locks
+same_locks w (Begin c op) = refl
+same_locks w (Take c) = refl
+same_locks w (Edit c b) = refl
+same_locks w (Give c b) = refl
+same_locks w (Quit c) = refl
+same_locks w (End c) = refl
+
+length-mark : (c : ℕ) (f : Operation (List Command) → Operation (List Command)) (xs : List (Operation (List Command))) → length (mark c f xs) ≡ length xs
+length-mark c f [] = refl
+length-mark c f (x ∷ xs) = ap suc (length-mark c f xs)
+
+begun_on : (begins : List ℕ) (line : ℕ) (xs : List (Operation (List Command))) (step : BatchStep) → length begins ≡ length xs → length (begins_after begins line step) ≡ length (noted xs step)
+begun_on begins line xs (Begin c op) same = omega (arith, same, length-append begins (line ∷ []), length-append xs (opened c op ∷ []))
+begun_on begins line xs (Take c) same = same
+begun_on begins line xs (Edit c b) same = same ∙ sym (length-mark c (λ x. record x { committed = true }) xs)
+begun_on begins line xs (Give c b) same = same
+begun_on begins line xs (Quit c) same = same ∙ sym (length-mark c (λ x. record x { quits = true }) xs)
+begun_on begins line xs (End c) same = same ∙ sym (length-mark c (λ x. record x { ended = true }) xs)
+
+-- local and permitted steps lead from one place of a schedule to another
+record TakesOn (s : Schedule) (steps : List BatchStep) (s' : Schedule) : Type 0 where
+  pub local : AreLocal batches steps
+  pub permitted : ArePermitted batches s.world.locks steps
+  pub leads : run batches s.world steps ≡ s'.world
+  pub begun : (xs : List (Operation (List Command))) → length s.begins ≡ length xs → length s'.begins ≡ length (operations_from xs steps)
+
+-- a line that was read and took no step
+passed : (s : Schedule) (rest : List BatchStep) (s' : Schedule) → TakesOn (next_line s) rest s' → TakesOn s rest s'
+passed s rest s' h = record { local = h.local; permitted = h.permitted; leads = h.leads; begun = h.begun }
+
+by_refusal : (s : Schedule) (step : BatchStep) (o : Option StepError) → refusal batches s.world.locks step ≡ o → AreLocal batches (step ∷ [])
+    → (rest : List BatchStep) (s' : Schedule) → TakesOn (after_step o (next_line s) step) rest s' → TakesOn s (unless_refused o step ++ rest) s'
+by_refusal s step (Some why) is alone rest s' h = passed s rest s' h
+by_refusal s step None is alone rest s' h = record {
+  local = local_on step rest alone h.local;
+  permitted = (is, subst (λ (l : Locks (List Command)). ArePermitted batches l rest) (sym (same_locks s.world step)) h.permitted);
+  leads = h.leads;
+  begun = λ xs same. h.begun (noted xs step) (begun_on s.begins (suc s.lines) xs step same);
+}
+
+by_saying : (s : Schedule) (r : Result BatchStep Fault) → IfOk r (λ step. AreLocal batches (step ∷ []))
+    → (rest : List BatchStep) (s' : Schedule) → TakesOn (after_said (next_line s) r) rest s' → TakesOn s (step_taken s r ++ rest) s'
+by_saying s (Ok step) alone rest s' h = by_refusal s step (refusal batches s.world.locks step) refl alone rest s' h
+by_saying s (Err e) alone rest s' h = passed s rest s' h
+
+by_blanks : (s : Schedule) (b : Bool) (r : Result BatchStep Fault) → IfOk r (λ step. AreLocal batches (step ∷ []))
+    → (rest : List BatchStep) (s' : Schedule) → TakesOn (cond b (next_line s) (after_said (next_line s) r)) rest s' → TakesOn s (cond b [] (step_taken s r) ++ rest) s'
+by_blanks s true r alone rest s' h = passed s rest s' h
+by_blanks s false r alone rest s' h = by_saying s r alone rest s' h
+
+lines_take : AreBatchesLocal → (s : Schedule) (lines : List (List ℕ)) → TakesOn s (steps_taken s lines) (after_lines schedule_rules s lines)
+lines_take local s [] = record { local = tt; permitted = tt; leads = refl; begun = λ xs same. same }
+lines_take local s (line ∷ lines) =
+    by_blanks s (is_blank line) (said_step line) (said_local local line) (steps_taken (schedule_rules.after s line) lines) _ (lines_take local (schedule_rules.after s line) lines)
+
+-- ---- the law
+
+pub schedules_have_one_order : AreBatchesLocal → StepsHaveOneOrder → SchedulesHaveOneOrder
+schedules_have_one_order local one_order lines =
+    let steps = steps_taken start_schedule lines in
+    let takes = lines_take local start_schedule lines in
+    let played : ArePlayed batches set.empty steps = record { within = empty_within; local = takes.local; permitted = takes.permitted } in
+    let ordered : HasOneOrder batches set.empty steps = one_order set.empty steps played in
+    record {
+      played = played;
+      leads = takes.leads;
+      explained = subst (λ (w : World (List Command) (List Reply)). Explains batches w.order steps set.empty) takes.leads ordered.explained;
+      begun = takes.begun [] refl;
+      counted = subst (λ (w : World (List Command) (List Reply)). map.len w.locks.clients ≡ midway steps) takes.leads ordered.counted;
+      together = subst (λ (w : World (List Command) (List Reply)). midway steps ≡ 0 → whole batches w ≡ result batches w.order steps set.empty) takes.leads ordered.together;
+    }
