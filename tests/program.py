@@ -148,7 +148,7 @@ REFUSED = [
     (["check", "uniq"], b'{"0":[3]}', b'BadByte\nline 1: `{"0":[3]}`\nthis looks like JSON'),
     (["check", "uniq"], b"0/3", b"BadByte\nline 1: `0/3`\nthis looks like ASCII"),
     (["check", "json"], b" ,s0/3", b"NotJson\nline 1, column 2\nthis looks like ASCII"),
-    (["check", "json"], b"4\n5", b"NotJson\nline 2, column 1\nthis looks like a NUNIQ list"),
+    (["check", "json"], b",4\n5", b"NotJson\nline 1, column 1\nthis looks like a NUNIQ list"),
     (["check", "json"], b"4", b"NotObject\nthis looks like a NUNIQ list"),
     (["convert", "json", "ascii"], b"0/3", b"NotJson"),
     # Where the form is found, and where two are drawn.

@@ -1,7 +1,7 @@
 //! What is told of texts. Expected lines are worked out by hand from the texts.
 use moc_forms::{
-    Change, Choice, Form, FormError, Operation, Place, check, describe, draw, draw_two, examine, hint,
-    hint_line, is_blank, place_line, quote,
+    Change, Choice, Form, FormError, Operation, Place, check, describe, draw, draw_two, examine,
+    hint, hint_line, is_blank, place_line, quote,
 };
 use moc_sphere::Order;
 use moc_text::{JsonError, TextError, UniqError};
@@ -129,7 +129,11 @@ fn quotes(rt: HostRuntime) -> Result<(), Fail> {
         (Form::Ascii, b"1/0-3".as_slice(), ""),
         (Form::Ascii, b"1/0,2/7-5\n3".as_slice(), "`2/7-5`"),
         (Form::Ascii, b"1/0 5-\t".as_slice(), "`5-`"),
-        (Form::Ascii, b"\x1b\\`~\x7f".as_slice(), "`\\x1b\\x5c\\x60~\\x7f`"),
+        (
+            Form::Ascii,
+            b"\x1b\\`~\x7f".as_slice(),
+            "`\\x1b\\x5c\\x60~\\x7f`",
+        ),
         (
             Form::Ascii,
             b"x0123456789012345678901234567890123456789".as_slice(),
@@ -150,8 +154,10 @@ fn quotes(rt: HostRuntime) -> Result<(), Fail> {
         panic!(&rt; "a cell without an order is taken")
     };
     match refusal.line(rt.alloc(), Some(2), text)? {
-        Some(line) =>
-            assert_eq!(&rt; line.as_str(), "text 2, byte 1, line 2, byte 0 of it: `7`\n"),
+        Some(line) => assert_eq!(&rt;
+            line.as_str(),
+            "text 2, byte 1, line 2, byte 0 of it: `7`\n"
+        ),
         None => panic!(&rt; "no line is told"),
     }
     Ok(())
@@ -475,7 +481,10 @@ fn pictures_of_two(rt: HostRuntime) -> Result<(), Fail> {
     text.push_str(BEFORE)?;
     for (colour, diamonds) in [
         ("#0072b2", "M128 254l1 1-1 1-1-1z"),
-        ("#e69f00", "M0 256l64 64-64 64-64-64zM1024 256l64 64-64 64-64-64z"),
+        (
+            "#e69f00",
+            "M0 256l64 64-64 64-64-64zM1024 256l64 64-64 64-64-64z",
+        ),
         ("#000", "M256 128l128 128-128 128-128-128z"),
     ] {
         text.push_str("<path fill=\"")?;

@@ -184,7 +184,7 @@ const OPERATION: Argument = Argument {
 /// The text form that a coverage is read in.
 const FORM: Argument = Argument {
     name: "FORM",
-    help: "Form of a text; auto: json where it begins with `{`, else ascii",
+    help: "Form of a text",
     values: ValueParser::Names(&["ascii", "json", "uniq", "auto"]),
 };
 

@@ -253,8 +253,8 @@ fn checks(rt: HostRuntime) {
         (["check", "uniq"], "4\n5\n3", "fault NotUniq\nline 3: `3`\n"),
         (
             ["check", "json"],
-            "0/3",
-            "fault NotJson\nline 1, column 2\nthis looks like ASCII\n",
+            ",0/3",
+            "fault NotJson\nline 1, column 1\nthis looks like ASCII\n",
         ),
         (
             ["check", "auto"],

@@ -5,7 +5,7 @@ use Rattle.moc_program.proofs.combination.combined.Goals as goal
 
 pub returns-clause-combines : goal.returns-clause-combines
 returns-clause-combines g c = record {
-  said = c.in_ok-set.field-0;
+  said = (c.in_ok-set.set, c.in_ok-set.deepest, c.in_ok-set.form);
   says = c.in_ok-set.ensures.says;
   written = c.in_ok-text_of.ensures.text;
 }
