@@ -1,6 +1,7 @@
 //! What is told of texts. Expected lines are worked out by hand from the texts.
 use moc_forms::{
-    Change, Form, FormError, Operation, Place, check, describe, draw, examine, is_blank, place_line,
+    Change, Choice, Form, FormError, Operation, Place, check, describe, draw, draw_two, examine,
+    hint, hint_line, is_blank, place_line, quote,
 };
 use moc_sphere::Order;
 use moc_text::{JsonError, TextError, UniqError};
@@ -90,17 +91,18 @@ fn texts_that_are_examined(rt: HostRuntime) {
     let Err(refusal) = examine(alloc, Form::Ascii, b"\n7".as_slice()) else {
         panic!(&rt; "a cell without an order is taken")
     };
-    for (number, place, told) in [
-        (None, refusal.place, "byte 1, line 2, byte 0 of it\n"),
+    for (number, place, quote, told) in [
+        (None, refusal.place, None, "byte 1, line 2, byte 0 of it\n"),
         (
             Some(17),
             refusal.place,
-            "text 17, byte 1, line 2, byte 0 of it\n",
+            Some("`7`"),
+            "text 17, byte 1, line 2, byte 0 of it: `7`\n",
         ),
-        (Some(17), None, "text 17\n"),
-        (None, None, ""),
+        (Some(17), None, None, "text 17\n"),
+        (None, None, Some("`7`"), ""),
     ] {
-        let line = place_line(alloc, number, place).expect(&rt, "memory");
+        let line = place_line(alloc, number, place, quote).expect(&rt, "memory");
         let seen = match &line {
             Some(line) => line.as_str(),
             None => "",
@@ -109,6 +111,89 @@ fn texts_that_are_examined(rt: HostRuntime) {
     }
     assert!(&rt; is_blank(b" \t\r\n".as_slice()));
     assert!(&rt; !is_blank(b" ,".as_slice()));
+}
+
+/// What is quoted of a text that is refused; nothing where nothing is.
+fn quoted(alloc: Global, form: Form, text: &[u8]) -> Result<String, Fail> {
+    if let Err(refusal) = check(alloc, form, text)
+        && let Some(quote) = quote(alloc, text, refusal.error)?
+    {
+        return Ok(quote);
+    }
+    Ok(String::new(alloc))
+}
+
+#[test]
+fn quotes(rt: HostRuntime) -> Result<(), Fail> {
+    for (form, text, told) in [
+        (Form::Ascii, b"1/0-3".as_slice(), ""),
+        (Form::Ascii, b"1/0,2/7-5\n3".as_slice(), "`2/7-5`"),
+        (Form::Ascii, b"1/0 5-\t".as_slice(), "`5-`"),
+        (
+            Form::Ascii,
+            b"\x1b\\`~\x7f".as_slice(),
+            "`\\x1b\\x5c\\x60~\\x7f`",
+        ),
+        (
+            Form::Ascii,
+            b"x0123456789012345678901234567890123456789".as_slice(),
+            "`x012345678901234567890123456789012345678`..",
+        ),
+        (Form::Uniq, b"4\n5 \n6".as_slice(), "`5 `"),
+        (Form::Json, b"{\"1\":[],\"x\":[]}".as_slice(), "`x`"),
+        (Form::Json, b"{\"007\":1}".as_slice(), "`007`"),
+        (Form::Json, b"{\"1\":[0,[true]]}".as_slice(), "`[true]`"),
+        (Form::Json, b"{\"1\":[0,48]}".as_slice(), "`48`"),
+        (Form::Json, b"[".as_slice(), ""),
+    ] {
+        let seen = quoted(rt.alloc(), form, text)?;
+        assert_eq!(&rt; seen.as_str(), told);
+    }
+    let text = b"\n7".as_slice();
+    let Err(refusal) = check(rt.alloc(), Form::Ascii, text) else {
+        panic!(&rt; "a cell without an order is taken")
+    };
+    match refusal.line(rt.alloc(), Some(2), text)? {
+        Some(line) => assert_eq!(&rt;
+            line.as_str(),
+            "text 2, byte 1, line 2, byte 0 of it: `7`\n"
+        ),
+        None => panic!(&rt; "no line is told"),
+    }
+    Ok(())
+}
+
+#[test]
+fn forms_that_are_found(rt: HostRuntime) {
+    for (word, text, form) in [
+        ("auto", " \t\r\n{", Form::Json),
+        ("auto", ",{", Form::Ascii),
+        ("auto", "", Form::Ascii),
+        ("auto", "4\n", Form::Ascii),
+        ("json", "0/3", Form::Json),
+        ("uniq", "{", Form::Uniq),
+        ("ascii", "{", Form::Ascii),
+    ] {
+        let Some(choice) = Choice::named(word) else {
+            panic!(&rt; "{word} is no choice")
+        };
+        assert_eq!(&rt; choice.form(text.as_bytes()), form, "{text:?}");
+    }
+    assert!(&rt; Choice::named("fits").is_none());
+    for (form, text, told) in [
+        (Form::Ascii, " {", "this looks like JSON\n"),
+        (Form::Json, "s3/", "this looks like ASCII\n"),
+        (Form::Json, "\n4\n5", "this looks like a NUNIQ list\n"),
+        (Form::Json, "[1]", ""),
+        (Form::Ascii, "0/x", ""),
+        (Form::Uniq, "", ""),
+    ] {
+        let seen = match hint(form, text.as_bytes()) {
+            Some(form) => hint_line(form),
+            None => "",
+        };
+        assert_eq!(&rt; seen, told, "{text:?}");
+    }
 }
 
 #[test]
@@ -190,10 +275,10 @@ fn joined(alloc: Global, operation: &str, first: &str, second: &str) -> Result<S
         return Ok(String::new(alloc));
     };
     let (set, deepest) = Form::Ascii.read(alloc, first.as_bytes())?;
-    let before = operation.join(alloc, None, set, deepest)?;
+    let before = operation.join(alloc, None, (set, deepest, Form::Ascii))?;
     let (set, deepest) = Form::Ascii.read(alloc, second.as_bytes())?;
-    let (set, deepest) = operation.join(alloc, Some(before), set, deepest)?;
-    Ok(Form::Ascii.write(alloc, &set, deepest)?)
+    let (set, deepest, form) = operation.join(alloc, Some(before), (set, deepest, Form::Json))?;
+    Ok(form.write(alloc, &set, deepest)?)
 }
 
 #[test]
@@ -369,6 +454,49 @@ fn pictures(rt: HostRuntime) -> Result<(), Fail> {
         let wanted = picture(rt.alloc(), shades)?;
         assert_eq!(&rt; seen.as_str(), wanted.as_str(), "{text:?}");
     }
+    Ok(())
+}
+
+/// What stands behind the cells of two sets.
+const BEHIND_TWO: &str = "</g>
+<g font-family=\"sans-serif\" font-size=\"16\" fill=\"#444\">
+<text x=\"-28\" y=\"262\">E</text>
+<text x=\"1036\" y=\"262\">W</text>
+<text x=\"0\" y=\"566\">Cells of order 7 with pixels of</text>
+<path fill=\"#0072b2\" d=\"M256 552h24v16h-24z\"/><text x=\"288\" y=\"566\">the first alone</text>
+<path fill=\"#e69f00\" d=\"M432 552h24v16h-24z\"/><text x=\"464\" y=\"566\">the second alone</text>
+<path fill=\"#000\" d=\"M624 552h24v16h-24z\"/><text x=\"656\" y=\"566\">both</text>
+</g>
+</svg>
+";
+
+/// Cells of what the first has alone, the second has alone, and both have; the diamonds are worked out by hand.
+#[test]
+fn pictures_of_two(rt: HostRuntime) -> Result<(), Fail> {
+    let alloc = rt.alloc();
+    let (first, _) = Form::Ascii.read(alloc, b"0/5 29/0".as_slice())?;
+    let (second, _) = Form::Ascii.read(alloc, b"1/16 20-23".as_slice())?;
+    let seen = draw_two(alloc, &first, &second)?;
+    let mut text = String::new(alloc);
+    text.push_str(BEFORE)?;
+    for (colour, diamonds) in [
+        ("#0072b2", "M128 254l1 1-1 1-1-1z"),
+        (
+            "#e69f00",
+            "M0 256l64 64-64 64-64-64zM1024 256l64 64-64 64-64-64z",
+        ),
+        ("#000", "M256 128l128 128-128 128-128-128z"),
+    ] {
+        text.push_str("<path fill=\"")?;
+        text.push_str(colour)?;
+        text.push_str("\" stroke=\"")?;
+        text.push_str(colour)?;
+        text.push_str("\" vector-effect=\"non-scaling-stroke\" d=\"")?;
+        text.push_str(diamonds)?;
+        text.push_str("\"/>\n")?;
+    }
+    text.push_str(BEHIND_TWO)?;
+    assert_eq!(&rt; seen.as_str(), text.as_str());
     Ok(())
 }
 

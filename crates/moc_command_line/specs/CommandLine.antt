@@ -30,12 +30,14 @@ TakesJust parser texts =
 -- the parsers of the command line whose values are words
 pub record Parsers : Type 0 where
   pub form : ValueParser
+  pub choice : ValueParser
   pub operation : ValueParser
   pub numbering : ValueParser
 
--- they take the words of the text forms, of the operations and of the numberings
+-- they take the words of the text forms, of the choices of one to read in, of the operations and of the numberings
 pub record TakeWords (parsers : Parsers) : Type 0 where
   pub form : TakesJust parsers.form (codes "ascii" ∷ codes "json" ∷ codes "uniq" ∷ [])
+  pub choice : TakesJust parsers.choice (codes "ascii" ∷ codes "json" ∷ codes "uniq" ∷ codes "auto" ∷ [])
   pub operation : TakesJust parsers.operation
       (codes "union" ∷ codes "intersection" ∷ codes "difference" ∷ codes "symmetric" ∷ [])
   pub numbering : TakesJust parsers.numbering (codes "nest" ∷ codes "ring" ∷ codes "uniq" ∷ [])
@@ -48,14 +50,15 @@ word_shape name rules = record (new_shape name) { rules = rules }
 abbrev pub word_shapes : Parsers → List Shape
 word_shapes parsers =
     let form : Text → Rule = λ name. required_rule name parsers.form in
+    let choice : Rule = required_rule (codes "FORM") parsers.choice in
     let numbering : Text → Rule = λ name. required_rule name parsers.numbering in
     word_shape (codes "convert") (form (codes "FROM") ∷ form (codes "TO") ∷ [])
-    ∷ word_shape (codes "check") (form (codes "FORM") ∷ [])
-    ∷ word_shape (codes "describe") (form (codes "FORM") ∷ [])
-    ∷ word_shape (codes "combine") (required_rule (codes "OP") parsers.operation ∷ form (codes "FORM") ∷ [])
-    ∷ word_shape (codes "degrade") (order_rule ∷ form (codes "FORM") ∷ [])
-    ∷ word_shape (codes "complement") (form (codes "FORM") ∷ [])
-    ∷ word_shape (codes "draw") (form (codes "FORM") ∷ [])
+    ∷ word_shape (codes "check") (choice ∷ [])
+    ∷ word_shape (codes "describe") (choice ∷ [])
+    ∷ word_shape (codes "combine") (required_rule (codes "OP") parsers.operation ∷ choice ∷ [])
+    ∷ word_shape (codes "degrade") (order_rule ∷ choice ∷ [])
+    ∷ word_shape (codes "complement") (choice ∷ [])
+    ∷ word_shape (codes "draw") (choice ∷ [])
     ∷ word_shape (codes "run") []
     ∷ word_shape (codes "play") []
     ∷ word_shape (codes "crew") (lanes_rule ∷ [])

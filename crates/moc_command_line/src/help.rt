@@ -163,8 +163,8 @@ prints
 /// What `moc ring --help` says below the usage.
 const RING: &str = "\
 Rings are rows of cells, counted from the north pole; the cells of a row are
-numbered behind those of the rows before it. `moc renumber` takes many numbers;
-`moc help faults` says what the fault of a refused number means.
+numbered behind those of the rows before it. Order k has 12 times 4^k cells,
+from 0: another number is `fault CellTooLarge`. `moc renumber` takes many.
 
 Example:
   moc ring 1 18
@@ -173,8 +173,8 @@ prints
 
 /// What `moc nest --help` says below the usage.
 const NEST: &str = "\
-The opposite of `moc ring`. `moc help faults` says what the fault of a refused
-number means.
+The opposite of `moc ring`. Order k has 12 times 4^k ring numbers, from 0:
+another number is `fault RingTooLarge`.
 
 Example:
   moc nest 1 27
@@ -183,8 +183,8 @@ prints
 
 /// What `moc uniq --help` says below the usage.
 const UNIQ: &str = "\
-The NUNIQ number of a cell is 4^(ORDER+1) + CELL. `moc help faults` says what
-the fault of a refused number means.
+The NUNIQ number of a cell is 4^(ORDER+1) + CELL. Order k has 12 times 4^k
+cells, from 0: another number is `fault CellTooLarge`.
 
 Example:
   moc uniq 3 10
@@ -194,7 +194,7 @@ prints
 /// What `moc near --help` says below the usage.
 const NEAR: &str = "\
 The cells rise, and the cell itself is not among them; there are six to eight.
-`moc help faults` says what the fault of a refused number means.
+Order k has 12 times 4^k cells, from 0: another number is `fault CellTooLarge`.
 
 Example:
   moc near 2 3
@@ -203,8 +203,8 @@ prints
 
 /// What `moc cell --help` says below the usage.
 const CELL: &str = "\
-The opposite of `moc uniq`. `moc help faults` says what the fault of a refused
-number means.
+The opposite of `moc uniq`. NUNIQ numbers go from 4 to 2^62 - 1: another one is
+`fault NotUniq`.
 
 Example:
   moc cell 266
@@ -214,23 +214,25 @@ prints
 /// What `moc check --help` says below the usage.
 const CHECK: &str = "\
 Prints `ok`. A text that is no coverage is told on standard error, by the
-fault's name and a line that says where: the byte, its line and the byte of that
-line (ascii), the line (uniq), or the order and the number in its array (json).
-Lines are counted from 1, bytes and numbers from 0. `moc help faults` says what
-the faults mean.
+fault's name and a line that says where it is and quotes what stands there: the
+byte, its line and the byte of that line (ascii), the line (uniq), or the order
+and the number in its array (json). Lines are counted from 1, bytes and numbers
+from 0. Where the text looks like one of another form, a line says so. `moc help
+faults` says what the faults mean. `auto` reads a text that begins with `{` as
+json, and else as ascii.
 
 Example:
   printf '1/0-3\\n2/7-5' | moc check ascii
 tells
   fault Backwards
-  byte 8, line 2, byte 2 of it";
+  byte 8, line 2, byte 2 of it: `2/7-5`";
 
 /// What `moc describe --help` says below the usage.
 const FIGURES: &str = "\
 Prints a line each for the deepest order that the text names, the number of
 pixels, which are cells of order 29, their share of the sky with twelve digits,
 the number of ranges of pixels and of cells, and the number of cells of each
-order.
+order. `auto` reads a text that begins with `{` as json, and else as ascii.
 
 Example:
   echo '1/0-3 2/20' | moc describe ascii
@@ -257,13 +259,14 @@ prints
 const COMBINATION: &str = "\
 The input is one text or more, parted by `;` and taken from the left; each has
 at most 16,777,216 bytes, and blanks behind the last `;` are none. Prints the
-result, with the deepest order that one of them names.
+result in the form of the first, with the deepest order that one of them names.
   union         the pixels that any text has
   intersection  the pixels that all texts have
   difference    the pixels that the first text has and the others lack
   symmetric     the pixels that an odd number of texts has
 A text that is no coverage is told by the fault, and a line with its number,
-from 1, and the place in it, as `moc check` tells it.
+from 1, and the place in it, as `moc check` tells it. `auto` reads each text
+that begins with `{` as json, and else as ascii.
 
 Example:
   echo '0/0 1/4-5 ; 1/3-4 2/20 32' | moc combine intersection ascii
@@ -286,7 +289,8 @@ sequence give the same union:
 const DEGRADING: &str = "\
 Prints all of each cell of order ORDER that has a pixel of the coverage, in the
 same form; stated is ORDER, or the deepest order that the text names where that
-is coarser. A text that is no coverage is told as by `moc check`.
+is coarser. A text that is no coverage is told as by `moc check`. `auto` reads a
+text that begins with `{` as json, and else as ascii.
 
 Example:
   echo '0/0 3/300 5/' | moc degrade 1 ascii
@@ -297,6 +301,7 @@ prints
 const COMPLEMENT: &str = "\
 Prints the sky but for the coverage, in the same form; stated is the deepest
 order that the text names. A text that is no coverage is told as by `moc check`.
+`auto` reads a text that begins with `{` as json, and else as ascii.
 
 Example:
   echo '0/0-10 1/44 2/' | moc complement ascii
@@ -309,10 +314,16 @@ Prints an SVG picture in HEALPix's plane: the north pole is up and east to the
 left, as on sky charts; longitude 0 stands at both edges, 180 in the middle. The
 sky is grey, with the outlines and numbers of the base pixels below the cells.
 Cells of order 7 and coarser are drawn whole; what is deeper shows as its cell
-of order 7, in one of four shades by how much of that cell it fills.
+of order 7, in one of four shades by how much of that cell it fills. Of two
+coverages, parted by `;`, blue has what the first has alone, orange what the
+second has alone, and black what both have. `auto` reads a text that begins with
+`{` as json, and else as ascii.
 
 Example:
-  echo '1/0-3 2/20' | moc draw ascii > sky.svg";
+  echo '1/0-3 2/20' | moc draw ascii > sky.svg
+
+Two coverages:
+  { cat a.moc; echo ';'; cat b.moc; } | moc draw ascii > both.svg";
 
 /// What `moc renumber --help` says below the usage.
 const RENUMBERING: &str = "\
@@ -340,8 +351,8 @@ Statuses:
 
 Numbers of cells:
   CellTooLarge     the order has no such cell; order k has 12 times 4^k, from 0
-  RingTooLarge     the order has no such ring number
-  NotUniq          no cell has this NUNIQ number
+  RingTooLarge     the order has no such ring number, of 12 times 4^k from 0
+  NotUniq          no cell has this NUNIQ number, 4 to 2^62 - 1
   OtherOrder       a NUNIQ number of another order (renumber)
   BadNumber        digits alone make a number
   WrongCount       too few or too many fields on a line

@@ -2,8 +2,10 @@
 #![tactic(auto)]
 
 mod commands;
+mod guesses;
 mod help;
 mod words;
 
 pub use commands::command_line;
+pub use guesses::meant;
 pub use help::FAULTS;

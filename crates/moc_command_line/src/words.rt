@@ -177,29 +177,29 @@ const UNIQ: Argument = Argument {
 /// An operation of sets.
 const OPERATION: Argument = Argument {
     name: "OP",
-    help: "Operator",
+    help: "Operation of sets",
     values: ValueParser::Names(&["union", "intersection", "difference", "symmetric"]),
 };
 
-/// A text form.
+/// The text form that a coverage is read in.
 const FORM: Argument = Argument {
     name: "FORM",
     help: "Form of a text",
-    values: ValueParser::Names(&["ascii", "json", "uniq"]),
+    values: ValueParser::Names(&["ascii", "json", "uniq", "auto"]),
 };
 
 /// The text form of the input.
 const FROM_FORM: Argument = Argument {
     name: "FROM",
     help: "Form of the input",
-    ..FORM
+    values: ValueParser::Names(&["ascii", "json", "uniq"]),
 };
 
 /// The text form of the output.
 const TO_FORM: Argument = Argument {
     name: "TO",
     help: "Form of the output",
-    ..FORM
+    ..FROM_FORM
 };
 
 /// The numbering of the input.

@@ -1,13 +1,15 @@
 -- Texts that are parted by semicolons, combined from the left.
-use Rattle.std.specs.Prelude.{◌≡◌, ℕ, zero, suc, Bool, ◌==◌, ◌||◌, if◌then◌else◌, List, [], ◌∷◌, codes, Option, None, Some}
+use Rattle.std.specs.Prelude.{◌≡◌, ℕ, zero, suc, Bool, ◌==◌, if◌then◌else◌, List, [], ◌∷◌, codes, Option, None, Some}
 use Rattle.std.specs.FinSet as set
 use Rattle.std.specs.List.{list_all, slice_split}
 use Rattle.moc_ranges.specs.Numbers.{NumberSet}
 use Rattle.moc_ranges.specs.Operations.{symmetric}
 use Rattle.moc_text.specs.Ascii.{deeper}
+use Rattle.moc_forms.specs.Finding.{form_for, is_blank_byte}
 use Rattle.moc_forms.specs.Forms.{FormSays}
 use Rattle.moc_forms.specs.declared.combining.Operation.{Operation}
 use Rattle.moc_forms.specs.declared.combining.Operation.TheVariants.{Union, Intersection, Difference, Symmetric}
+use Rattle.moc_forms.specs.declared.finding.Choice.{Choice}
 use Rattle.moc_forms.specs.declared.form.Form.{Form}
 
 -- the word for an operation
@@ -24,25 +26,25 @@ combined Intersection a b = set.intersection a b
 combined Difference a b = set.difference a b
 combined Symmetric a b = symmetric a b
 
--- a set, and the deepest order that is named with it
+-- a set, the deepest order that is named with it, and the form that it is written in
 abbrev pub Said : Type 0
-Said = NumberSet × Option ℕ
+Said = NumberSet × Option ℕ × Form
+
+-- what a text says that is read in a form of this choice
+abbrev pub TextSays : Choice → List ℕ → Said → Type 0
+TextSays choice text said = FormSays said.2 text said.0 said.1 × (said.2 ≡ form_for choice text)
 
 -- what is said after one more text: just what it says, if it is the first, and else the operation of the sets with the
--- deeper of the orders
+-- deeper of the orders, in the form of the first
 abbrev pub joined : Operation → Option Said → Said → Said
 joined operation None said = said
-joined operation (Some before) said = (combined operation before.0 said.0, deeper before.1 said.1)
+joined operation (Some before) said = (combined operation before.0 said.0, deeper before.1 said.1, before.2)
 
 -- `;`
 abbrev pub is_semicolon : ℕ → Bool
 is_semicolon b = b == 59
 
--- a space, a tab, CR or LF
-abbrev pub is_blank_byte : ℕ → Bool
-is_blank_byte b = b == 32 || b == 9 || b == 13 || b == 10
-
--- nothing but these
+-- nothing but spaces, tabs, CR and LF
 abbrev pub are_blanks : List ℕ → Bool
 are_blanks text = list_all is_blank_byte text
 
@@ -65,21 +67,19 @@ parts_of bytes = slice_split is_semicolon bytes
 abbrev pub texts_of : List ℕ → List (List ℕ)
 texts_of bytes = texts_among (parts_of bytes)
 
--- what is said before texts of a form, and after them, where they are taken from the left
-abbrev pub CombinesTexts : Operation → Form → Option Said → List (List ℕ) → Option Said → Type 0
-CombinesTexts operation form before [] after = after ≡ before
-CombinesTexts operation form before (text ∷ texts) after =
-    (said : Said) × FormSays form text said.0 said.1
-    × CombinesTexts operation form (Some (joined operation before said)) texts after
+-- what is said before texts, and after them, where they are taken from the left
+abbrev pub CombinesTexts : Operation → Choice → Option Said → List (List ℕ) → Option Said → Type 0
+CombinesTexts operation choice before [] after = after ≡ before
+CombinesTexts operation choice before (text ∷ texts) after =
+    (said : Said) × TextSays choice text said × CombinesTexts operation choice (Some (joined operation before said)) texts after
 
--- among texts of a form this one stands behind so many others, and each of these says a set
-abbrev pub StandsBehind : Form → List (List ℕ) → ℕ → List ℕ → Type 0
-StandsBehind form [] count text = ⊥
-StandsBehind form (first ∷ texts) zero text = text ≡ first
-StandsBehind form (first ∷ texts) (suc count) text =
-    ((said : Said) × FormSays form first said.0 said.1) × StandsBehind form texts count text
+-- among texts this one stands behind so many others, and each of these says a set
+abbrev pub StandsBehind : Choice → List (List ℕ) → ℕ → List ℕ → Type 0
+StandsBehind choice [] count text = ⊥
+StandsBehind choice (first ∷ texts) zero text = text ≡ first
+StandsBehind choice (first ∷ texts) (suc count) text =
+    ((said : Said) × TextSays choice first said) × StandsBehind choice texts count text
 
--- the texts of an input say together a set and the deepest order that one of them names
-abbrev pub Combines : Operation → Form → List ℕ → NumberSet → Option ℕ → Type 0
-Combines operation form input a deepest =
-    CombinesTexts operation form None (texts_of input) (Some (a, deepest))
+-- what the texts of an input say together
+abbrev pub Combines : Operation → Choice → List ℕ → Said → Type 0
+Combines operation choice input said = CombinesTexts operation choice None (texts_of input) (Some said)

@@ -69,6 +69,11 @@ unfoldable pub shade_diamonds : ℕ → List Mark → List ℕ
 shade_diamonds shade [] = []
 shade_diamonds shade (m ∷ marks) = (if m.1 == shade then cell_diamonds m.0 else []) ++ shade_diamonds shade marks
 
+-- the diamonds of marks, whatever their shades are
+unfoldable pub mark_diamonds : List Mark → List ℕ
+mark_diamonds [] = []
+mark_diamonds (m ∷ marks) = cell_diamonds m.0 ++ mark_diamonds marks
+
 -- the diamonds of the base pixels below a number
 unfoldable pub base_diamonds_below : ℕ → List ℕ
 base_diamonds_below zero = []
@@ -76,11 +81,19 @@ base_diamonds_below (suc f) = base_diamonds_below f ++ cell_diamonds (cell_numbe
 
 -- ---- the text
 
+-- what a path of cells in a colour begins with
+unfoldable pub path_head : List ℕ → List ℕ
+path_head colour =
+    codes "<path fill=\"" ++ colour ++ codes "\" stroke=\"" ++ colour
+    ++ codes "\" vector-effect=\"non-scaling-stroke\" d=\""
+
 -- the path of a shade in its colour
 unfoldable pub shade_path : List Mark → ℕ → List ℕ → List ℕ
-shade_path marks shade colour =
-    codes "<path fill=\"" ++ colour ++ codes "\" stroke=\"" ++ colour
-    ++ codes "\" vector-effect=\"non-scaling-stroke\" d=\"" ++ shade_diamonds shade marks ++ codes "\"/>\n"
+shade_path marks shade colour = path_head colour ++ shade_diamonds shade marks ++ codes "\"/>\n"
+
+-- the path of all marks in one colour
+unfoldable pub marks_path : List Mark → List ℕ → List ℕ
+marks_path marks colour = path_head colour ++ mark_diamonds marks ++ codes "\"/>\n"
 
 -- the sky: the twelve base pixels in grey, outlined; they are the same from either side
 unfoldable pub outlines : List ℕ
@@ -152,3 +165,30 @@ legend =
 -- the picture of a set of pixels
 abbrev pub picture_of : NumberSet → List ℕ
 picture_of a = head ++ outlines ++ labels ++ shades (marks_of a) ++ legend ++ codes "</svg>\n"
+
+-- ---- two sets
+
+-- the cells that have pixels of the first set alone, of the second alone, and of both, each over those before it, in blue,
+-- orange and black (Okabe and Ito), mirrored and rimmed as the shades of one set are
+unfoldable pub kinds : NumberSet → NumberSet → List ℕ
+kinds a b =
+    codes "<g transform=\"translate(1024 0) scale(-1 1)\" clip-path=\"url(#plane)\" shape-rendering=\"crispEdges\">\n"
+    ++ marks_path (marks_of (set.difference a b)) (codes "#0072b2")
+    ++ marks_path (marks_of (set.difference b a)) (codes "#e69f00")
+    ++ marks_path (marks_of (set.intersection a b)) (codes "#000")
+    ++ codes "</g>\n"
+
+-- what the colours mean, and which way is east
+unfoldable pub legend_of_two : List ℕ
+legend_of_two =
+    codes "<g font-family=\"sans-serif\" font-size=\"16\" fill=\"#444\">\n"
+    ++ codes "<text x=\"-28\" y=\"262\">E</text>\n<text x=\"1036\" y=\"262\">W</text>\n"
+    ++ codes "<text x=\"0\" y=\"566\">Cells of order 7 with pixels of</text>\n"
+    ++ legend_entry 256 (codes "#0072b2") (codes "the first alone")
+    ++ legend_entry 432 (codes "#e69f00") (codes "the second alone")
+    ++ legend_entry 624 (codes "#000") (codes "both")
+    ++ codes "</g>\n"
+
+-- the picture of two sets of pixels
+abbrev pub picture_of_two : NumberSet → NumberSet → List ℕ
+picture_of_two a b = head ++ outlines ++ labels ++ kinds a b ++ legend_of_two ++ codes "</svg>\n"

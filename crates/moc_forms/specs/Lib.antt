@@ -2,5 +2,7 @@ pub mod Changing
 pub mod Combining
 pub mod Describing
 pub mod Drawing
+pub mod Finding
 pub mod Forms
 pub mod Places
+pub mod Quotes

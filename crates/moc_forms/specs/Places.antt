@@ -30,22 +30,22 @@ byte_place bytes at =
 
 -- ---- of an error
 
--- the place of a fault of an ASCII text
-abbrev pub ascii_place : List ℕ → TextError → Option Place
-ascii_place bytes (text.BadByte at) = Some (byte_place bytes at)
-ascii_place bytes (text.NoOrder at) = Some (byte_place bytes at)
-ascii_place bytes (text.OrderTooLarge at) = Some (byte_place bytes at)
-ascii_place bytes (text.CellTooLarge at) = Some (byte_place bytes at)
-ascii_place bytes (text.Backwards at) = Some (byte_place bytes at)
-ascii_place bytes (text.Unfinished at) = Some (byte_place bytes at)
-ascii_place bytes text.Memory = None
-ascii_place bytes text.TooCoarse = None
+-- the byte of a fault of an ASCII text
+abbrev pub fault_byte : TextError → Option ℕ
+fault_byte (text.BadByte at) = Some at
+fault_byte (text.NoOrder at) = Some at
+fault_byte (text.OrderTooLarge at) = Some at
+fault_byte (text.CellTooLarge at) = Some at
+fault_byte (text.Backwards at) = Some at
+fault_byte (text.Unfinished at) = Some at
+fault_byte text.Memory = None
+fault_byte text.TooCoarse = None
 
--- the place of a fault of a NUNIQ list
-abbrev pub uniq_place : UniqError → Option Place
-uniq_place (uniq.BadByte line) = Some (Line line)
-uniq_place (uniq.NotUniq line) = Some (Line line)
-uniq_place uniq.Memory = None
+-- the line of a fault of a NUNIQ list
+abbrev pub fault_line : UniqError → Option ℕ
+fault_line (uniq.BadByte line) = Some line
+fault_line (uniq.NotUniq line) = Some line
+fault_line uniq.Memory = None
 
 -- what is made of the order that a name names, by the number of the name, in a JSON text
 abbrev pub IsOfOrder : List ℕ → ℕ → (ℕ → Place) → Option Place → Type 0
@@ -64,9 +64,9 @@ IsJsonPlace bytes json.TooCoarse found = found ≡ None
 
 -- the place of a fault of a text in a form
 abbrev pub IsPlace : List ℕ → FormError → Option Place → Type 0
-IsPlace bytes (error.Ascii e) found = found ≡ ascii_place bytes e
+IsPlace bytes (error.Ascii e) found = found ≡ option_map (byte_place bytes) (fault_byte e)
 IsPlace bytes (error.Json e) found = IsJsonPlace bytes e found
-IsPlace bytes (error.Uniq e) found = found ≡ uniq_place e
+IsPlace bytes (error.Uniq e) found = found ≡ option_map (λ line. Line line) (fault_line e)
 IsPlace bytes error.Memory found = found ≡ None
 
 -- ---- what is said
@@ -82,14 +82,19 @@ place_text (Name name) = codes "name " ++ decimal name
 place_text (Order order) = codes "order " ++ decimal order
 place_text (Number order number) = (codes "order " ++ decimal order) ++ (codes ", number " ++ decimal number)
 
--- the line that says where a fault is: the number of the text, where texts are counted, and the place in it, if there is
--- one
-abbrev pub line_of : Option ℕ → Option Place → Option (List ℕ)
-line_of None None = None
-line_of None (Some place) = Some (place_text place ++ 10 ∷ [])
-line_of (Some number) None = Some ((codes "text " ++ decimal number) ++ 10 ∷ [])
-line_of (Some number) (Some place) =
-    Some ((codes "text " ++ decimal number) ++ codes ", " ++ place_text place ++ 10 ∷ [])
+-- a quote behind a place, if there is one
+abbrev pub quote_behind : Option (List ℕ) → List ℕ
+quote_behind None = []
+quote_behind (Some quote) = codes ": " ++ quote
+
+-- the line that says where a fault is: the number of the text, where texts are counted, the place in it, if there is
+-- one, and what stands there, if it is quoted
+abbrev pub line_of : Option ℕ → Option Place → Option (List ℕ) → Option (List ℕ)
+line_of None None quote = None
+line_of None (Some place) quote = Some (place_text place ++ quote_behind quote ++ 10 ∷ [])
+line_of (Some number) None quote = Some ((codes "text " ++ decimal number) ++ 10 ∷ [])
+line_of (Some number) (Some place) quote =
+    Some ((codes "text " ++ decimal number) ++ codes ", " ++ place_text place ++ quote_behind quote ++ 10 ∷ [])
 
 -- the bytes of a line, if there is one
 abbrev pub line_bytes : Option (String Global) → Option (List ℕ)

@@ -1,12 +1,15 @@
 //! Whether a text is a coverage, and else where it is at fault.
-ghost use Rattle.std.specs.Prelude.{◌≡◌, ◌⊎◌, ℕ, IfErr, IfOk, OnOk, Option};
+ghost use Rattle.std.specs.Prelude.{◌≡◌, ◌⊎◌, ℕ, IfErr, IfOk, OnOk, Option, option_map};
 ghost use Rattle.moc_ranges.specs.Numbers.{NumberSet};
 ghost use Rattle.moc_forms.specs.Forms.{FormFails, FormSays};
-ghost use Rattle.moc_forms.specs.Places.{IsJsonPlace, IsPlace, ascii_place, uniq_place};
+ghost use Rattle.moc_forms.specs.Places.{IsJsonPlace, IsPlace, byte_place, fault_byte, fault_line, line_bytes};
+ghost use Rattle.moc_forms.specs.Quotes.{IsTold};
+ghost use Rattle.moc_forms.specs.declared.place.Place.TheVariants.{Line};
 
 use crate::form::{Form, FormError};
-use crate::place::Place;
-use moc_ranges::Coverage;
+use crate::place::{Place, place_line};
+use crate::quoting::quote;
+use moc_ranges::{Coverage, Memory};
 use moc_sphere::Order;
 use moc_text::{JsonError, TextError, UniqError, json_order, json_stop};
 use std::alloc::Global;
@@ -17,6 +20,29 @@ pub struct Refusal {
     pub error: FormError,
     /// `None` for `NotObject`, for want of memory, and for `NotJson` where `serde_json` tells no place.
     pub place: Option<Place>,
+}
+
+impl Refusal {
+    /// The line that says where the fault is, and quotes what stands there: the word of an ASCII text, the line of a NUNIQ
+    /// list, the name or the item of a JSON text. The text is the one that was refused; where texts are counted, its number
+    /// stands first. `None` where there is nothing to say.
+    ///
+    /// Linear in the text; refused where memory runs out.
+    pub fn line(
+        self,
+        alloc: Global,
+        number: Option<u64>,
+        text: &[u8],
+    ) -> Result<Option<String>, Memory>
+        ensures { IfOk result (λ line. IsTold number text.now self.error self.place (line_bytes line)) }
+    {
+        let quote = quote(alloc, text, self.error)?;
+        let shown = match &quote {
+            Some(quote) => Some(quote.as_str()),
+            None => None,
+        };
+        Ok(place_line(alloc, number, self.place, shown)?)
+    }
 }
 
 /// Reads a text in a form as `Form::read` does: the set, and the deepest order that it names; else its first fault with
@@ -74,7 +100,7 @@ fn place_of(alloc: Global, text: &[u8], error: FormError) -> Result<Option<Place
 
 /// The place of a fault of an ASCII text.
 fn place_in_ascii(text: &[u8], fault: TextError) -> Option<Place>
-    ensures { result ≡ ascii_place text.now fault }
+    ensures { result ≡ option_map (byte_place text.now) (fault_byte fault) }
 {
     match fault.place() {
         Some(at) => Some(Place::of_byte(text, at)),
@@ -84,7 +110,7 @@ fn place_in_ascii(text: &[u8], fault: TextError) -> Option<Place>
 
 /// The place of a fault of a NUNIQ list.
 fn place_in_list(fault: UniqError) -> Option<Place>
-    ensures { result ≡ uniq_place fault }
+    ensures { result ≡ option_map (λ line. Line line) (fault_line fault) }
 {
     match fault.line() {
         Some(line) => Some(Place::Line(line)),

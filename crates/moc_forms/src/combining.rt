@@ -3,6 +3,8 @@ ghost use Rattle.std.specs.Prelude.{◌≡◌, IfOk, IfSome, Some};
 ghost use Rattle.moc_text.specs.Ascii.{deeper as deeper_of};
 ghost use Rattle.moc_forms.specs.Combining.{are_blanks, combined, joined, operation_name};
 
+use crate::finding::is_blank_byte;
+use crate::form::Form;
 use moc_ranges::{Coverage, Memory};
 use moc_sphere::Order;
 use std::alloc::Global;
@@ -47,25 +49,24 @@ impl Operation {
         }
     }
 
-    /// What texts say together with one more: the operation of the sets, and the deeper of the orders that they name.
-    /// Before the first text there is nothing, and it stands for itself.
+    /// What texts say together with one more: the operation of the sets, the deeper of the orders that they name, and the
+    /// form of the first. Before the first text there is nothing, and it stands for itself.
     ///
     /// One pass over the ranges at most; refused where memory runs out.
     pub fn join(
         self,
         alloc: Global,
-        before: Option<(Coverage, Option<Order>)>,
-        set: Coverage,
-        deepest: Option<Order>,
-    ) -> Result<(Coverage, Option<Order>), Memory>
-        ensures joined { IfOk result (λ after. after ≡ joined self before (set, deepest)) }
+        before: Option<(Coverage, Option<Order>, Form)>,
+        said: (Coverage, Option<Order>, Form),
+    ) -> Result<(Coverage, Option<Order>, Form), Memory>
+        ensures joined { IfOk result (λ after. after ≡ joined self before said) }
     {
-        match before {
-            None => Ok((set, deepest)),
-            Some((earlier, order)) => {
-                Ok((self.of(alloc, &earlier, &set)?, deeper(order, deepest)))
-            }
-        }
+        let Some((earlier, order, form)) = before else {
+            return Ok(said);
+        };
+        let (set, deepest, _) = said;
+        let all = self.of(alloc, &earlier, &set)?;
+        Ok((all, deeper(order, deepest), form))
     }
 }
 
@@ -76,7 +77,7 @@ pub fn is_blank(text: &[u8]) -> bool
     ensures { result ≡ are_blanks text.now }
 {
     for byte in text {
-        if !matches!(*byte, b' ' | b'\t' | b'\r' | b'\n') {
+        if !is_blank_byte(*byte) {
             return false;
         }
     }

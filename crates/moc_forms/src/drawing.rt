@@ -3,7 +3,7 @@ ghost use Rattle.std.specs.Prelude.{◌≡◌, ◌++◌, ◌<◌, ◌≤◌, ◌
 ghost use Rattle.std.specs.String.{string_bytes};
 ghost use Rattle.moc_sphere.specs.CellNumber.{cell_number};
 ghost use Rattle.moc_forms.specs.Drawing.{base_diamonds_below, cell_diamonds, diamond, diamonds_at, head, label, labels};
-ghost use Rattle.moc_forms.specs.Drawing.{labels_at, labels_below, legend, legend_entry, outlines, picture_of};
+ghost use Rattle.moc_forms.specs.Drawing.{labels_at, labels_below, legend, legend_entry, outlines, path_head, picture_of};
 ghost use Rattle.moc_forms.specs.Drawing.{shade_diamonds, shade_path, shades};
 
 use crate::marks::marks;
@@ -37,7 +37,7 @@ pub fn draw(alloc: Global, set: &Coverage) -> Result<String, Memory>
 }
 
 /// Adds the title, the bounds of the plane and the ground.
-fn push_head(text: &mut String) -> Result<(), AllocError>
+pub fn push_head(text: &mut String) -> Result<(), AllocError>
     ensures { OnOk result (string_bytes text.new ≡ string_bytes text.old ++ head) }
 {
     text.push_str(
@@ -73,13 +73,21 @@ fn push_shade(
 ) -> Result<(), AllocError>
     ensures { OnOk result (string_bytes text.new ≡ string_bytes text.old ++ shade_path marks.now shade colour.now) }
 {
+    push_path_head(text, colour)?;
+    push_marks(text, marks, shade)?;
+    text.push_str("\"/>\n")?;
+    Ok(())
+}
+
+/// Adds what a path of cells in a colour begins with.
+pub fn push_path_head(text: &mut String, colour: &str) -> Result<(), AllocError>
+    ensures { OnOk result (string_bytes text.new ≡ string_bytes text.old ++ path_head colour.now) }
+{
     text.push_str("<path fill=\"")?;
     text.push_str(colour)?;
     text.push_str("\" stroke=\"")?;
     text.push_str(colour)?;
     text.push_str("\" vector-effect=\"non-scaling-stroke\" d=\"")?;
-    push_marks(text, marks, shade)?;
-    text.push_str("\"/>\n")?;
     Ok(())
 }
 
@@ -97,7 +105,7 @@ fn push_marks(text: &mut String, marks: &[(Cell, u64)], shade: u64) -> Result<()
 }
 
 /// Adds the sky: the base pixels, outlined.
-fn push_outlines(text: &mut String) -> Result<(), AllocError>
+pub fn push_outlines(text: &mut String) -> Result<(), AllocError>
     ensures { OnOk result (string_bytes text.new ≡ string_bytes text.old ++ outlines) }
 {
     text.push_str("<path fill=\"#eee\" stroke=\"#bbb\" clip-path=\"url(#plane)\" d=\"")?;
@@ -118,7 +126,7 @@ fn push_base_pixels(text: &mut String) -> Result<(), AllocError>
 
 /// Adds the diamonds of a cell of order 7 or less.
 #[tactic(auto, unfolding(crate::specs::Drawing::cell_diamonds))]
-fn push_cell(text: &mut String, cell: Cell) -> Result<(), AllocError>
+pub fn push_cell(text: &mut String, cell: Cell) -> Result<(), AllocError>
     ensures { OnOk result (string_bytes text.new ≡ string_bytes text.old ++ cell_diamonds cell) }
 {
     let (row, column) = cell.row_column();
@@ -159,7 +167,7 @@ fn push_diamond(text: &mut String, half: u64, x: u64, y: u64) -> Result<(), Allo
 }
 
 /// Adds the numbers of the base pixels.
-fn push_labels(text: &mut String) -> Result<(), AllocError>
+pub fn push_labels(text: &mut String) -> Result<(), AllocError>
     ensures { OnOk result (string_bytes text.new ≡ string_bytes text.old ++ labels) }
 {
     text.push_str(
@@ -226,7 +234,7 @@ fn push_legend(text: &mut String) -> Result<(), AllocError>
 
 /// Adds a shade to the legend, at its place.
 #[tactic(auto, unfolding(crate::specs::Drawing::legend_entry))]
-fn push_entry(text: &mut String, x: u64, colour: &str, meaning: &str) -> Result<(), AllocError>
+pub fn push_entry(text: &mut String, x: u64, colour: &str, meaning: &str) -> Result<(), AllocError>
     requires { x ≤ 1024 }
     ensures { OnOk result (string_bytes text.new ≡ string_bytes text.old ++ legend_entry x colour.now meaning.now) }
 {

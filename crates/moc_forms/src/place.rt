@@ -1,7 +1,7 @@
 //! Where a text is at fault.
-ghost use Rattle.std.specs.Prelude.{◌≡◌, ◌++◌, IfOk, OnOk};
+ghost use Rattle.std.specs.Prelude.{◌≡◌, ◌++◌, IfOk, OnOk, option_map};
 ghost use Rattle.std.specs.String.{string_bytes};
-ghost use Rattle.moc_forms.specs.Places.{byte_place, line_bytes, line_of, place_text};
+ghost use Rattle.moc_forms.specs.Places.{byte_place, line_bytes, line_of, place_text, quote_behind};
 
 use crate::texts::push_count;
 use moc_sphere::Order;
@@ -78,26 +78,40 @@ impl Place {
     }
 }
 
-/// The line that says where a fault is: the number of the text, where texts are counted, and the place in it, if there
-/// is one; `None` where there is nothing to say. Refused where memory runs out.
+/// The line that says where a fault is: the number of the text, where texts are counted, the place in it, if there is one,
+/// and what stands there, if it is quoted; `None` where there is nothing to say. Refused where memory runs out.
 pub fn place_line(
     alloc: Global,
     number: Option<u64>,
     place: Option<Place>,
+    quote: Option<&str>,
 ) -> Result<Option<String>, AllocError>
-    ensures { IfOk result (λ line. line_bytes line ≡ line_of number place) }
+    ensures { IfOk result (λ line. line_bytes line ≡ line_of number place (option_map (λ q. q.now) quote.entry)) }
 {
     let mut line = String::new(alloc);
     match (number, place) {
         (None, None) => return Ok(None),
-        (None, Some(place)) => place.push_to(&mut line)?,
+        (None, Some(place)) => push_place(&mut line, place, quote)?,
         (Some(number), None) => push_count(&mut line, "text ", number)?,
         (Some(number), Some(place)) => {
             push_count(&mut line, "text ", number)?;
             line.push_str(", ")?;
-            place.push_to(&mut line)?;
+            push_place(&mut line, place, quote)?;
         }
     }
     line.push('\n')?;
     Ok(Some(line))
+}
+
+/// Adds a place, and behind it what stands there, if it is quoted.
+fn push_place(text: &mut String, place: Place, quote: Option<&str>) -> Result<(), AllocError>
+    ensures { OnOk result (string_bytes text.new
+        ≡ string_bytes text.old ++ (place_text place ++ quote_behind (option_map (λ q. q.now) quote.entry))) }
+{
+    place.push_to(text)?;
+    if let Some(quote) = quote {
+        text.push_str(": ")?;
+        text.push_str(quote)?;
+    }
+    Ok(())
 }

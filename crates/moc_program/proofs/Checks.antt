@@ -3,7 +3,10 @@ use Rattle.std.proofs.Common.{◌≡◌, ◌⊎◌, ◌∙◌, ℕ, List, Option
 use Rattle.std.specs.Prelude.{IfErr, IsErrAnd}
 use Rattle.moc_ranges.specs.Numbers.{NumberSet}
 use Rattle.moc_forms.specs.Forms.{FormFails, IsUnwritten, IsWant}
-use Rattle.moc_forms.specs.Places.{IsPlace, line_bytes, line_of}
+use Rattle.moc_forms.specs.Finding.{form_for, hint_of}
+use Rattle.moc_forms.specs.Places.{IsPlace, line_bytes}
+use Rattle.moc_forms.specs.Quotes.{IsTold}
+use Rattle.moc_forms.specs.declared.finding.Choice.{Choice}
 use Rattle.moc_forms.specs.declared.form.Form.{Form}
 use Rattle.moc_forms.specs.declared.form.Form.TheVariants.{Ascii, Json, Uniq}
 use Rattle.moc_forms.specs.declared.form.FormError.{FormError}
@@ -23,22 +26,28 @@ want_is_memory e (inr (inr (inr a))) = ap fault_of_form a
 -- want of memory is told as such, and the first fault of a text with its place
 module _ (form : Form) (text : List ℕ) (number : Option ℕ) (error : FormError) (place : Option Place) (c : Complaint)
     (is_place : IsPlace text error place) where
-  of_error : FormFails form text error → (c.fault ≡ fault_of_form error) × (line_bytes c.place ≡ line_of number place)
-      → (c.fault ≡ Memory) ⊎ TellsFault form text number c
-  of_error (inl want) (told, line) = inl (told ∙ want_is_memory error want)
-  of_error (inr is_fault) (told, line) =
-      inr (record { error = error; is_fault = is_fault; told = told; place = place; is_place = is_place; line = line })
+  IsToldSo : Type 0
+  IsToldSo =
+      (c.fault ≡ fault_of_form error) × IsTold number text error place (line_bytes c.place) × (c.hint ≡ hint_of form text)
 
-  pub told : FormFails form text error → (c.fault ≡ Memory) ⊎ ((c.fault ≡ fault_of_form error) × (line_bytes c.place ≡ line_of number place))
+  of_error : FormFails form text error → IsToldSo → (c.fault ≡ Memory) ⊎ TellsFault form text number c
+  unfolding IsToldSo
+  of_error (inl want) (told, line, hint) = inl (told ∙ want_is_memory error want)
+  of_error (inr is_fault) (told, line, hint) =
+      inr (record { error = error; is_fault = is_fault; told = told; place = place; is_place = is_place; line = line; hint = hint })
+
+  pub told : FormFails form text error
+      → (c.fault ≡ Memory) ⊎ ((c.fault ≡ fault_of_form error) × IsTold number text error place (line_bytes c.place) × (c.hint ≡ hint_of form text))
       → (c.fault ≡ Memory) ⊎ TellsFault form text number c
+  unfolding IsToldSo
   told fails (inl memory) = inl memory
   told fails (inr tells) = of_error fails tells
 
 -- a complaint of the input, or of the text that it was
-pub of_input : (form : Form) (left left' : Option (List ℕ)) (given : List ℕ) (c : Complaint) → IsWhole left left' given
-    → (c.fault ≡ Memory) ⊎ TellsFault form given None c → IsOfInput c.fault ⊎ IsFaulty form left left' c
-of_input form left left' given c whole (inl memory) = inl (inr (inr memory))
-of_input form left left' given c whole (inr tells) = inr (record { given = given; whole = whole; tells = tells })
+pub of_input : (choice : Choice) (left left' : Option (List ℕ)) (given : List ℕ) (c : Complaint) → IsWhole left left' given
+    → (c.fault ≡ Memory) ⊎ TellsFault (form_for choice given) given None c → IsOfInput c.fault ⊎ IsFaulty choice left left' c
+of_input choice left left' given c whole (inl memory) = inl (inr (inr memory))
+of_input choice left left' given c whole (inr tells) = inr (record { given = given; whole = whole; tells = tells })
 
 -- a complaint that is handed on
 pub handed_on : {T : Type 0} (r : Result T Complaint) (x : Complaint) (Q : Complaint → Type 0) → IsErrAnd r (λ y. y ≡ x) → Q x → IfErr r Q
@@ -64,7 +73,7 @@ of_writing c f same (inl memory) = inl (inr (inr (same ∙ memory)))
 of_writing c f same (inr coarse) = inr (same ∙ coarse)
 
 -- a complaint of a text that could not be written, where others are of the input
-pub not_written : {T : Type 0} (r : Result T Complaint) (f : Fault) (P : Complaint → Type 0) → IsErrAnd r (λ c. (c.fault ≡ f) × (c.place ≡ None))
+pub not_written : {T : Type 0} (r : Result T Complaint) (f : Fault) (P : Complaint → Type 0) → IsErrAnd r (λ c. (c.fault ≡ f) × (c.place ≡ None) × (c.hint ≡ None))
     → (f ≡ Memory) ⊎ (f ≡ TooCoarse) → ((c : Complaint) → IsOfInput c.fault → P c) → IfErr r (λ c. P c ⊎ (c.fault ≡ TooCoarse))
 not_written (Ok v) f P same why of = tt
 not_written (Err c) f P same why of = elim (of_writing c f same.0 why) as (λ _. P c ⊎ (c.fault ≡ TooCoarse)) [ inl input ↦ inl (of c input) | inr coarse ↦ inr coarse ]

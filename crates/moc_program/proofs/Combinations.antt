@@ -5,13 +5,14 @@ use Rattle.std.proofs.lemmas.List.Splits.{slice_split_at, slice_split_none, leng
 use Rattle.std.proofs.KnownBytes.{Consumes-trans}
 use Rattle.std.specs.Io.KnownBytes.{Consumes, IsAtEnd}
 use Rattle.moc_script.specs.Runs.{AreWithin}
-use Rattle.moc_forms.specs.Combining.{CombinesTexts, Said, are_blanks, is_semicolon, joined, parts_of, texts_among, texts_of, without_blank_end}
-use Rattle.moc_forms.specs.Forms.{FormSays}
+use Rattle.moc_forms.specs.Combining.{CombinesTexts, Said, TextSays, are_blanks, is_semicolon, joined, parts_of, texts_among, texts_of, without_blank_end}
+use Rattle.moc_forms.specs.Finding.{form_for}
 use Rattle.moc_forms.specs.declared.combining.Operation.{Operation}
-use Rattle.moc_forms.specs.declared.form.Form.{Form}
+use Rattle.moc_forms.specs.declared.finding.Choice.{Choice}
 use Rattle.moc_program.specs.Combining.{SayNothing, SaysTogether, TellsFirstFault}
 use Rattle.moc_program.specs.Conversion.{BringsPiece, IsOfInput, TellsFault}
-use Rattle.moc_program.specs.Private.Running.{Begins, Ends, Fails, FailsWithin, IsOpen, LacksSemicolons, Leads, SaysMore, RunsTo, TextsSay, semicolon, texts_behind}
+use Rattle.moc_program.specs.Parting.{LacksSemicolons}
+use Rattle.moc_program.specs.Private.Running.{Begins, Ends, Fails, FailsWithin, IsOpen, Leads, SaysMore, RunsTo, TextsSay, semicolon, texts_behind}
 use Rattle.moc_program.specs.declared.combination.Combination.{Combination}
 use Rattle.moc_program.specs.declared.status.Complaint.{Complaint}
 
@@ -38,64 +39,64 @@ alone None text lacks why = ap texts_among (slice_split_none is_semicolon text l
 alone (Some said) text lacks (inl is_none) = absurd (cc)
 alone (Some said) text lacks (inr written) = single said text lacks ∙ ap (λ b. if b then [] else text ∷ []) written
 
-module _ (operation : Operation) (form : Form) (before : Option Said) (text : List ℕ) (said : Said)
-    (lacks : LacksSemicolons text) (within : length text ≤ 16777216) (says : FormSays form text said.0 said.1) where
+module _ (operation : Operation) (choice : Choice) (before : Option Said) (text : List ℕ) (said : Said)
+    (lacks : LacksSemicolons text) (within : length text ≤ 16777216) (says : TextSays choice text said) where
   -- a text that a semicolon ends says something, and the texts behind it go on from there
-  ended : (rest : List ℕ) (after : Option Said) → TextsSay operation form (Some (joined operation before said)) rest after
-      → TextsSay operation form before (text ++ 59 ∷ rest) after
+  ended : (rest : List ℕ) (after : Option Said) → TextsSay operation choice (Some (joined operation before said)) rest after
+      → TextsSay operation choice before (text ++ 59 ∷ rest) after
   ended rest after later = record {
-    says = subst (λ texts. CombinesTexts operation form before texts after) (sym (parted before text rest lacks)) (said, says, later.says);
+    says = subst (λ texts. CombinesTexts operation choice before texts after) (sym (parted before text rest lacks)) (said, says, later.says);
     within = subst (AreWithin 16777216) (sym (parted before text rest lacks)) (within, later.within);
   }
 
   -- and so it is with the last text
-  last : texts_behind before text ≡ text ∷ [] → TextsSay operation form before text (Some (joined operation before said))
+  last : texts_behind before text ≡ text ∷ [] → TextsSay operation choice before text (Some (joined operation before said))
   last one = record {
-    says = subst (λ texts. CombinesTexts operation form before texts (Some (joined operation before said))) (sym one) (said, says, refl);
+    says = subst (λ texts. CombinesTexts operation choice before texts (Some (joined operation before said))) (sym one) (said, says, refl);
     within = subst (AreWithin 16777216) (sym one) (within, tt);
   }
 
 -- one more text says a set before the one that is at fault
-later_fails : (number : ℕ) (form : Form) (text : List ℕ) (texts : List (List ℕ)) (c : Complaint) → ((said : Said) × FormSays form text said.0 said.1)
-    → TellsFirstFault (number + 1) form texts c → TellsFirstFault number form (text ∷ texts) c
-later_fails number form text texts c says fails = record {
+later_fails : (number : ℕ) (choice : Choice) (text : List ℕ) (texts : List (List ℕ)) (c : Complaint) → ((said : Said) × TextSays choice text said)
+    → TellsFirstFault (number + 1) choice texts c → TellsFirstFault number choice (text ∷ texts) c
+later_fails number choice text texts c says fails = record {
   before = suc fails.before;
   text = fails.text;
   stands = (says, fails.stands);
-  tells = subst (λ n. TellsFault form fails.text (Some n) c) (omega arith) fails.tells;
+  tells = subst (λ n. TellsFault (form_for choice fails.text) fails.text (Some n) c) (omega arith) fails.tells;
 }
 
 -- the first text is at fault
-first_fails : (number : ℕ) (form : Form) (text : List ℕ) (texts : List (List ℕ)) (c : Complaint) → TellsFault form text (Some number) c
-    → TellsFirstFault number form (text ∷ texts) c
-first_fails number form text texts c tells = record {
+first_fails : (number : ℕ) (choice : Choice) (text : List ℕ) (texts : List (List ℕ)) (c : Complaint) → TellsFault (form_for choice text) text (Some number) c
+    → TellsFirstFault number choice (text ∷ texts) c
+first_fails number choice text texts c tells = record {
   before = zero;
   text = text;
   stands = refl;
-  tells = subst (λ n. TellsFault form text (Some n) c) (omega arith) tells;
+  tells = subst (λ n. TellsFault (form_for choice text) text (Some n) c) (omega arith) tells;
 }
 
 -- ---- a combination
 
-module _ (c d : Combination) (same_operation : d.operation ≡ c.operation) (same_form : d.form ≡ c.form) (next : d.number ≡ c.number + 1) where
+module _ (c d : Combination) (same_operation : d.operation ≡ c.operation) (same_choice : d.choice ≡ c.choice) (next : d.number ≡ c.number + 1) where
   -- a combination that has ended its text
   text_ended_so : (after : Said) → IsOpen c → SaysMore c c.before after → d.text.items ≡ [] → d.before ≡ Some after → Leads c semicolon d
   text_ended_so after opened more bare before = record {
     operation = same_operation;
-    form = same_form;
+    choice = same_choice;
     ends = λ rest end later.
-        ended c.operation c.form c.before c.text.items more.0 opened.lacks opened.within more.1 rest end
-        (subst (λ o. TextsSay o c.form (Some (joined c.operation c.before more.0)) rest end) same_operation
-        (subst (λ f. TextsSay d.operation f (Some (joined c.operation c.before more.0)) rest end) same_form
-        (subst (λ b. TextsSay d.operation d.form b rest end) (before ∙ ap (λ s. Some s) more.2)
-        (subst (λ t. TextsSay d.operation d.form d.before (t ++ rest) end) bare later))));
+        ended c.operation c.choice c.before c.text.items more.0 opened.lacks opened.within more.1 rest end
+        (subst (λ o. TextsSay o c.choice (Some (joined c.operation c.before more.0)) rest end) same_operation
+        (subst (λ f. TextsSay d.operation f (Some (joined c.operation c.before more.0)) rest end) same_choice
+        (subst (λ b. TextsSay d.operation d.choice b rest end) (before ∙ ap (λ s. Some s) more.2)
+        (subst (λ t. TextsSay d.operation d.choice d.before (t ++ rest) end) bare later))));
     fails = λ rest complaint later.
-        subst (λ texts. TellsFirstFault c.number c.form texts complaint) (sym (parted c.before c.text.items rest opened.lacks))
-        (later_fails c.number c.form c.text.items (without_blank_end (parts_of rest)) complaint (more.0, more.1)
-        (subst (λ n. TellsFirstFault n c.form (without_blank_end (parts_of rest)) complaint) next
-        (subst (λ f. TellsFirstFault d.number f (without_blank_end (parts_of rest)) complaint) same_form
-        (subst (λ b. TellsFirstFault d.number d.form (texts_behind b rest) complaint) before
-        (subst (λ t. TellsFirstFault d.number d.form (texts_behind d.before (t ++ rest)) complaint) bare later)))));
+        subst (λ texts. TellsFirstFault c.number c.choice texts complaint) (sym (parted c.before c.text.items rest opened.lacks))
+        (later_fails c.number c.choice c.text.items (without_blank_end (parts_of rest)) complaint (more.0, more.1)
+        (subst (λ n. TellsFirstFault n c.choice (without_blank_end (parts_of rest)) complaint) next
+        (subst (λ f. TellsFirstFault d.number f (without_blank_end (parts_of rest)) complaint) same_choice
+        (subst (λ b. TellsFirstFault d.number d.choice (texts_behind b rest) complaint) before
+        (subst (λ t. TellsFirstFault d.number d.choice (texts_behind d.before (t ++ rest)) complaint) bare later)))));
   }
 
   pub text_ended : (before : Option Said) (after : Said) → before ≡ c.before → IsOpen c → SaysMore c before after → d.text.items ≡ [] → d.before ≡ Some after → Leads c semicolon d
@@ -103,28 +104,28 @@ module _ (c d : Combination) (same_operation : d.operation ≡ c.operation) (sam
       text_ended_so after opened (subst (λ b. SaysMore c b after) same more) bare next_before
 
 -- a text that a semicolon ends is at fault
-pub ended_fails : (c : Combination) (complaint : Complaint) → IsOpen c → IsOfInput complaint.fault ⊎ TellsFault c.form c.text.items (Some c.number) complaint
+pub ended_fails : (c : Combination) (complaint : Complaint) → IsOpen c → IsOfInput complaint.fault ⊎ TellsFault (form_for c.choice c.text.items) c.text.items (Some c.number) complaint
     → IsOfInput complaint.fault ⊎ FailsWithin c semicolon complaint
 ended_fails c complaint opened (inl of) = inl of
 ended_fails c complaint opened (inr tells) = inr (λ rest.
-    subst (λ texts. TellsFirstFault c.number c.form texts complaint) (sym (parted c.before c.text.items rest opened.lacks))
-    (first_fails c.number c.form c.text.items (without_blank_end (parts_of rest)) complaint tells))
+    subst (λ texts. TellsFirstFault c.number c.choice texts complaint) (sym (parted c.before c.text.items rest opened.lacks))
+    (first_fails c.number c.choice c.text.items (without_blank_end (parts_of rest)) complaint tells))
 
 -- the last text is at fault
 pub last_fails : (c : Combination) (complaint : Complaint) → IsOpen c → (c.before ≡ None) ⊎ (are_blanks c.text.items ≡ false)
-    → IsOfInput complaint.fault ⊎ TellsFault c.form c.text.items (Some c.number) complaint → IsOfInput complaint.fault ⊎ Fails c [] complaint
+    → IsOfInput complaint.fault ⊎ TellsFault (form_for c.choice c.text.items) c.text.items (Some c.number) complaint → IsOfInput complaint.fault ⊎ Fails c [] complaint
 last_fails c complaint opened why (inl of) = inl of
 last_fails c complaint opened why (inr tells) = inr (
-    subst (λ t. TellsFirstFault c.number c.form (texts_behind c.before t) complaint) (sym (append-nil c.text.items))
-    (subst (λ texts. TellsFirstFault c.number c.form texts complaint) (sym (alone c.before c.text.items opened.lacks why))
-    (first_fails c.number c.form c.text.items [] complaint tells)))
+    subst (λ t. TellsFirstFault c.number c.choice (texts_behind c.before t) complaint) (sym (append-nil c.text.items))
+    (subst (λ texts. TellsFirstFault c.number c.choice texts complaint) (sym (alone c.before c.text.items opened.lacks why))
+    (first_fails c.number c.choice c.text.items [] complaint tells)))
 
 -- the last text says something
 last_says_so : (c : Combination) (after : Said) → IsOpen c → (c.before ≡ None) ⊎ (are_blanks c.text.items ≡ false) → SaysMore c c.before after → Ends c [] (Some after)
 last_says_so c after opened why more =
-    subst (λ t. TextsSay c.operation c.form c.before t (Some after)) (sym (append-nil c.text.items))
-    (subst (λ s. TextsSay c.operation c.form c.before c.text.items (Some s)) (sym more.2)
-    (last c.operation c.form c.before c.text.items more.0 opened.lacks opened.within more.1 (alone c.before c.text.items opened.lacks why)))
+    subst (λ t. TextsSay c.operation c.choice c.before t (Some after)) (sym (append-nil c.text.items))
+    (subst (λ s. TextsSay c.operation c.choice c.before c.text.items (Some s)) (sym more.2)
+    (last c.operation c.choice c.before c.text.items more.0 opened.lacks opened.within more.1 (alone c.before c.text.items opened.lacks why)))
 
 pub last_says : (c : Combination) (before : Option Said) (after : Said) → before ≡ c.before → IsOpen c → (c.before ≡ None) ⊎ (are_blanks c.text.items ≡ false)
     → SaysMore c before after → Ends c [] (Some after)
@@ -135,22 +136,22 @@ pub blanks_say : (c : Combination) (after : Said) → IsOpen c → c.before ≡ 
 blanks_say c after opened before blank =
     let none : texts_behind (Some after) c.text.items ≡ [] =
     single after c.text.items opened.lacks ∙ ap (λ b. if b then [] else c.text.items ∷ []) blank in
-    subst (λ t. TextsSay c.operation c.form c.before t (Some after)) (sym (append-nil c.text.items))
-    (subst (λ b. TextsSay c.operation c.form b c.text.items (Some after)) (sym before)
+    subst (λ t. TextsSay c.operation c.choice c.before t (Some after)) (sym (append-nil c.text.items))
+    (subst (λ b. TextsSay c.operation c.choice b c.text.items (Some after)) (sym before)
     (record {
-      says = subst (λ texts. CombinesTexts c.operation c.form (Some after) texts (Some after)) (sym none) refl;
+      says = subst (λ texts. CombinesTexts c.operation c.choice (Some after) texts (Some after)) (sym none) refl;
       within = subst (AreWithin 16777216) (sym none) tt;
     }))
 
 -- no bytes lead nowhere
 pub led : (c : Combination) → Leads c [] c
-led c = record { operation = refl; form = refl; ends = λ rest after end. end; fails = λ rest complaint fails. fails }
+led c = record { operation = refl; choice = refl; ends = λ rest after end. end; fails = λ rest complaint fails. fails }
 
 -- one lead after another
 pub led_on : (a b c : Combination) (xs ys : List ℕ) → Leads a xs b → Leads b ys c → Leads a (xs ++ ys) c
 led_on a b c xs ys first second = record {
   operation = second.operation ∙ first.operation;
-  form = second.form ∙ first.form;
+  choice = second.choice ∙ first.choice;
   ends = λ rest after end.
       subst (λ bytes. Ends a bytes after) (sym (append_assoc xs ys rest))
       (first.ends (ys ++ rest) after (second.ends rest after end));
@@ -168,7 +169,7 @@ failed_on a b xs ys behind complaint leads (inr fails) = inr (λ rest.
     (leads.fails (ys ++ (behind ++ rest)) complaint (fails (behind ++ rest))))
 
 -- a combination that begins, in what it says and in its faults
-module _ (operation : Operation) (form : Form) (c : Combination) (begins : Begins operation form c) where
+module _ (operation : Operation) (choice : Choice) (c : Combination) (begins : Begins operation choice c) where
   pub begun : IsOpen c
   begun = record {
     lacks = subst LacksSemicolons (sym begins.text) (λ k d below. absurd (omega arith));
@@ -179,19 +180,19 @@ module _ (operation : Operation) (form : Form) (c : Combination) (begins : Begin
   begins_texts bytes = ap (λ b. texts_behind b (c.text.items ++ bytes)) begins.before ∙ ap (λ t. texts_of (t ++ bytes)) begins.text
 
   -- all bytes that were taken, where all texts have come
-  pub whole : (d : Combination) (bytes : List ℕ) (after : Said) → Leads c bytes d → Ends d [] (Some after) → TextsSay operation form None bytes (Some after)
+  pub whole : (d : Combination) (bytes : List ℕ) (after : Said) → Leads c bytes d → Ends d [] (Some after) → TextsSay operation choice None bytes (Some after)
   whole d bytes after leads all =
       let told = leads.ends [] (Some after) all in
-      subst (λ o. TextsSay o form None bytes (Some after)) begins.operation
-      (subst (λ f. TextsSay c.operation f None bytes (Some after)) begins.form
-      (subst (λ b. TextsSay c.operation c.form b bytes (Some after)) begins.before
-      (subst (λ t. TextsSay c.operation c.form c.before t (Some after)) (ap (λ t. t ++ (bytes ++ [])) begins.text ∙ append-nil bytes) told)))
+      subst (λ o. TextsSay o choice None bytes (Some after)) begins.operation
+      (subst (λ f. TextsSay c.operation f None bytes (Some after)) begins.choice
+      (subst (λ b. TextsSay c.operation c.choice b bytes (Some after)) begins.before
+      (subst (λ t. TextsSay c.operation c.choice c.before t (Some after)) (ap (λ t. t ++ (bytes ++ [])) begins.text ∙ append-nil bytes) told)))
 
-  pub fails_from_1 : (bytes : List ℕ) (complaint : Complaint) → Fails c bytes complaint → TellsFirstFault 1 form (texts_of bytes) complaint
+  pub fails_from_1 : (bytes : List ℕ) (complaint : Complaint) → Fails c bytes complaint → TellsFirstFault 1 choice (texts_of bytes) complaint
   fails_from_1 bytes complaint fails =
-      subst (λ n. TellsFirstFault n form (texts_of bytes) complaint) begins.number
-      (subst (λ f. TellsFirstFault c.number f (texts_of bytes) complaint) begins.form
-      (subst (λ texts. TellsFirstFault c.number c.form texts complaint) (begins_texts bytes) fails))
+      subst (λ n. TellsFirstFault n choice (texts_of bytes) complaint) begins.number
+      (subst (λ f. TellsFirstFault c.number f (texts_of bytes) complaint) begins.choice
+      (subst (λ texts. TellsFirstFault c.number c.choice texts complaint) (begins_texts bytes) fails))
 
 -- the piece that came where none was at hand
 module _ (left left' : Option (List ℕ)) (old new : List ℕ) (some : Bool) (bare : old ≡ []) (brings : BringsPiece left old left' new some) where
@@ -203,20 +204,20 @@ pub piece_taken : (a b c : Option (List ℕ)) (start d e : Combination) (piece :
 piece_taken a b c start d e piece consumed leads (taken, (before, led)) =
     (taken ++ piece, (Consumes-trans a b c taken piece before consumed, led_on start d e taken piece led leads))
 
-module _ (operation : Operation) (form : Form) (a b c : Option (List ℕ)) (start d : Combination) (piece : List ℕ)
-    (begins : Begins operation form start) (runs : RunsTo a b start d) (consumed : Consumes b c piece) where
+module _ (operation : Operation) (choice : Choice) (a b c : Option (List ℕ)) (start d : Combination) (piece : List ℕ)
+    (begins : Begins operation choice start) (runs : RunsTo a b start d) (consumed : Consumes b c piece) where
   taken : List ℕ
   taken = runs.0
 
   -- a text was at fault in a piece
-  pub piece_fails : (complaint : Complaint) → IsOfInput complaint.fault ⊎ FailsWithin d piece complaint → SayNothing form a c complaint
+  pub piece_fails : (complaint : Complaint) → IsOfInput complaint.fault ⊎ FailsWithin d piece complaint → SayNothing choice a c complaint
   piece_fails complaint (inl of) = inl of
   piece_fails complaint (inr fails) = inr (record {
     given = runs.0 ++ piece;
     consumed = Consumes-trans a b c runs.0 piece runs.1.0 consumed;
     tells = λ rest at_end.
-        subst (λ bytes. TellsFirstFault 1 form (texts_of bytes) complaint) (sym (append_assoc runs.0 piece rest))
-        (fails_from_1 operation form start begins (runs.0 ++ (piece ++ rest)) complaint (runs.1.1.fails (piece ++ rest) complaint (fails rest)));
+        subst (λ bytes. TellsFirstFault 1 choice (texts_of bytes) complaint) (sym (append_assoc runs.0 piece rest))
+        (fails_from_1 operation choice start begins (runs.0 ++ (piece ++ rest)) complaint (runs.1.1.fails (piece ++ rest) complaint (fails rest)));
   })
 
   -- all that was left was taken
@@ -224,18 +225,18 @@ module _ (operation : Operation) (form : Form) (a b c : Option (List ℕ)) (star
     all_consumed : Consumes a c runs.0
     all_consumed = subst (Consumes a c) (ap (λ p. runs.0 ++ p) empty ∙ append-nil runs.0) (Consumes-trans a b c runs.0 piece runs.1.0 consumed)
 
-    pub all_taken : (after : Said) → Ends d [] (Some after) → SaysTogether operation form a c after.0 after.1
+    pub all_taken : (after : Said) → Ends d [] (Some after) → SaysTogether operation choice a c after
     all_taken after ends =
-        let told = whole operation form start begins d runs.0 after runs.1.1 ends in
+        let told = whole operation choice start begins d runs.0 after runs.1.1 ends in
         record { given = runs.0; consumed = all_consumed; end = end; within = told.within; says = told.says }
 
     -- the last text was at fault
-    pub all_fails : (complaint : Complaint) → IsOfInput complaint.fault ⊎ Fails d [] complaint → SayNothing form a c complaint
+    pub all_fails : (complaint : Complaint) → IsOfInput complaint.fault ⊎ Fails d [] complaint → SayNothing choice a c complaint
     all_fails complaint (inl of) = inl of
     all_fails complaint (inr fails) = inr (record {
       given = runs.0;
       consumed = all_consumed;
       tells = λ rest at_end.
-          subst (λ r. TellsFirstFault 1 form (texts_of (runs.0 ++ r)) complaint) (sym (at_end end))
-          (fails_from_1 operation form start begins (runs.0 ++ []) complaint (runs.1.1.fails [] complaint fails));
+          subst (λ r. TellsFirstFault 1 choice (texts_of (runs.0 ++ r)) complaint) (sym (at_end end))
+          (fails_from_1 operation choice start begins (runs.0 ++ []) complaint (runs.1.1.fails [] complaint fails));
     })

@@ -9,6 +9,8 @@ use Rattle.moc_text.specs.declared.json.error.JsonError.{JsonError}
 use Rattle.moc_text.specs.declared.json.error.JsonError.TheVariants as json
 use Rattle.moc_text.specs.declared.uniq.UniqError.{UniqError}
 use Rattle.moc_text.specs.declared.uniq.UniqError.TheVariants as uniq
+use Rattle.moc_forms.specs.Finding.{hint_text}
+use Rattle.moc_forms.specs.declared.form.Form.{Form}
 use Rattle.moc_forms.specs.declared.form.FormError.{FormError}
 use Rattle.moc_forms.specs.declared.form.FormError.TheVariants as form
 use Rattle.moc_script.specs.declared.script.RunError.{RunError}
@@ -103,6 +105,11 @@ abbrev pub bytes_of : Option (String Global) → List ℕ
 bytes_of None = []
 bytes_of (Some line) = string_bytes line
 
--- what tells a complaint: the line of its fault, and behind it the line of the place, if there is one
+-- the line that says which form a text looks like, if there is one
+abbrev pub hint_line : Option Form → List ℕ
+hint_line None = []
+hint_line (Some form) = hint_text form
+
+-- what tells a complaint: the line of its fault, and behind it the line of the place and that of the hint, if there are any
 abbrev pub complaint_text : Complaint → List ℕ
-complaint_text c = line_of c.fault ++ bytes_of c.place
+complaint_text c = line_of c.fault ++ bytes_of c.place ++ hint_line c.hint

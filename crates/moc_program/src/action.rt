@@ -1,6 +1,6 @@
 //! What the words of the command line ask for.
 use clap::ArgMatches;
-use moc_forms::{Change, Form, Operation};
+use moc_forms::{Change, Choice, Form, Operation};
 use moc_script::{Lanes, Numbering, Renumbering};
 use moc_sphere::Order;
 
@@ -20,15 +20,15 @@ pub enum Action {
     /// Convert a coverage from one text form to another.
     Convert(Form, Form),
     /// Tell whether a text is a coverage, and else where it is at fault.
-    Check(Form),
+    Check(Choice),
     /// Tell the figures of a coverage.
-    Describe(Form),
+    Describe(Choice),
     /// Draw a coverage.
-    Draw(Form),
+    Draw(Choice),
     /// Change a coverage.
-    Change(Change, Form),
+    Change(Change, Choice),
     /// Combine coverages.
-    Combine(Operation, Form),
+    Combine(Operation, Choice),
     /// List the exit statuses and the faults.
     Faults,
 }
@@ -58,15 +58,12 @@ impl Action {
             "crew" => Some(Action::Crew(lanes(values)?)),
             "renumber" => Some(Action::Renumber(renumbering(values)?)),
             "convert" => Some(Action::Convert(form(values, "FROM")?, form(values, "TO")?)),
-            "check" => Some(Action::Check(form(values, "FORM")?)),
-            "describe" => Some(Action::Describe(form(values, "FORM")?)),
-            "draw" => Some(Action::Draw(form(values, "FORM")?)),
-            "degrade" => Some(Action::Change(
-                Change::Degrade(order(values)?),
-                form(values, "FORM")?,
-            )),
-            "complement" => Some(Action::Change(Change::Complement, form(values, "FORM")?)),
-            "combine" => Some(Action::Combine(operation(values)?, form(values, "FORM")?)),
+            "check" => Some(Action::Check(choice(values)?)),
+            "describe" => Some(Action::Describe(choice(values)?)),
+            "draw" => Some(Action::Draw(choice(values)?)),
+            "degrade" => Some(Action::Change(Change::Degrade(order(values)?), choice(values)?)),
+            "complement" => Some(Action::Change(Change::Complement, choice(values)?)),
+            "combine" => Some(Action::Combine(operation(values)?, choice(values)?)),
             "faults" => Some(Action::Faults),
             _ => Some(Action::Number(Number::from_matches(name, values)?)),
         }
@@ -92,6 +89,10 @@ impl Number {
 
 fn form(values: &ArgMatches<'_>, id: &str) -> Option<Form> {
     Form::named(values.get_str(id)?)
+}
+
+fn choice(values: &ArgMatches<'_>) -> Option<Choice> {
+    Choice::named(values.get_str("FORM")?)
 }
 
 fn operation(values: &ArgMatches<'_>) -> Option<Operation> {

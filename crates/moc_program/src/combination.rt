@@ -1,41 +1,41 @@
 //! Texts of coverages that are parted by semicolons, combined as their bytes come.
 ghost use Rattle.std.specs.Prelude.{◌≡◌, ◌≢◌, ◌↔◌, ◌⊎◌, [], false, IfErr, IfOk, IsTrue, OnOk, Some};
 ghost use Rattle.std.specs.String.{string_bytes};
+ghost use Rattle.moc_forms.specs.Finding.{form_for};
 ghost use Rattle.moc_program.specs.Combining.{AreNotCombined, CombinesAll, SayNothing, SaysTogether};
 ghost use Rattle.moc_program.specs.Conversion.{IsOfInput, IsReadFault, TellsFault};
-ghost use Rattle.moc_program.specs.Private.Running.{Begins, Ends, Fails, FailsWithin, IsOpen, IsParted, LacksSemicolons, Leads};
-ghost use Rattle.moc_program.specs.Private.Running.{SaysMore, semicolon};
+ghost use Rattle.moc_program.specs.Parting.{LacksSemicolons};
+ghost use Rattle.moc_program.specs.Private.Running.{Begins, Ends, Fails, FailsWithin, IsOpen, Leads, SaysMore, semicolon};
 
-use crate::conversion::{INPUT_LIMIT, read_piece, room, said_or_told, text_of};
+use crate::conversion::{INPUT_LIMIT, parted, read_piece, room, said_or_told, text_of};
 use crate::status::{Complaint, Fault};
-use memchr::memchr;
-use moc_forms::{Form, Operation, is_blank, place_line};
+use moc_forms::{Choice, Form, Operation, is_blank, place_line};
 use moc_ranges::Coverage;
 use moc_script::Source;
 use moc_sphere::Order;
 use std::alloc::Global;
 
-/// Texts of a form, as their bytes come, and what those that have ended say together.
+/// Texts, as their bytes come, and what those that have ended say together.
 #[derive(Drop)]
 struct Combination {
     operation: Operation,
-    form: Form,
+    choice: Choice,
     /// The number of the text that has not ended, from 1.
     number: u64,
     /// The text that has not ended.
     text: Vec<u8>,
     /// What the texts before it say together.
-    before: Option<(Coverage, Option<Order>)>,
+    before: Option<(Coverage, Option<Order>, Form)>,
 }
 
 impl Combination {
     /// No text has ended, and none of the first has come.
-    fn new(alloc: Global, operation: Operation, form: Form) -> Combination
-        ensures begins { Begins operation form result }
+    fn new(alloc: Global, operation: Operation, choice: Choice) -> Combination
+        ensures begins { Begins operation choice result }
     {
         Combination {
             operation,
-            form,
+            choice,
             number: 1,
             text: Vec::new(alloc),
             before: None,
@@ -46,10 +46,11 @@ impl Combination {
     fn too_long(&self, alloc: Global) -> Complaint
         ensures { IsOfInput result.fault × (result.fault ≢ Fault.Read) }
     {
-        match place_line(alloc, Some(self.number), None) {
+        match place_line(alloc, Some(self.number), None, None) {
             Ok(place) => Complaint {
                 fault: Fault::TooLong,
                 place,
+                hint: None,
             },
             Err(error) => Complaint::from(error),
         }
@@ -74,15 +75,16 @@ impl Combination {
     fn join(
         &self,
         alloc: Global,
-        before: Option<(Coverage, Option<Order>)>,
-    ) -> Result<(Coverage, Option<Order>), Complaint>
+        before: Option<(Coverage, Option<Order>, Form)>,
+    ) -> Result<(Coverage, Option<Order>, Form), Complaint>
         ensures device { IfErr result (λ c. c.fault ≢ Fault.Read) }
         ensures says { IfOk result (λ after. SaysMore self.now before after) }
         ensures told { IfErr result (λ c.
-            IsOfInput c.fault ⊎ TellsFault self.now.form self.now.text.items (Some self.now.number) c) }
+            IsOfInput c.fault ⊎ TellsFault (form_for self.now.choice self.now.text.items) self.now.text.items
+            (Some self.now.number) c) }
     {
-        let (set, deepest) = said_or_told(alloc, self.form, &self.text, Some(self.number))?;
-        Ok(self.operation.join(alloc, before, set, deepest)?)
+        let said = said_or_told(alloc, self.choice, &self.text, Some(self.number))?;
+        Ok(self.operation.join(alloc, before, said)?)
     }
 
     /// Ends the text, and begins the next.
@@ -123,7 +125,7 @@ impl Combination {
 
     /// What all texts say together, where all have come: blanks alone behind a semicolon are no text. What was said
     /// before is used up.
-    fn all_said(&mut self, alloc: Global) -> Result<(Coverage, Option<Order>), Complaint>
+    fn all_said(&mut self, alloc: Global) -> Result<(Coverage, Option<Order>, Form), Complaint>
         requires { IsOpen self.old }
         ensures device { IfErr result (λ c. c.fault ≢ Fault.Read) }
         ensures fault { IfErr result (λ c. IsOfInput c.fault ⊎ Fails self.old [] c) }
@@ -139,29 +141,20 @@ impl Combination {
     }
 }
 
-/// The bytes before the first semicolon and those behind it, if there is one.
-fn parted(bytes: &[u8]) -> Option<(&[u8], &[u8])>
-    ensures { IsParted bytes.now result }
-{
-    let at = memchr(b';', bytes)?;
-    Some((&bytes[..at], &bytes[at + 1..]))
-}
-
-/// What the texts of the input say together, and the deepest order that one of them names.
+/// What the texts of the input say together, the deepest order that one of them names, and the form of the first.
 fn read_texts<R: Source>(
     alloc: Global,
     operation: Operation,
-    form: Form,
+    choice: Choice,
     input: &mut R,
-) -> Result<(Coverage, Option<Order>), Complaint>
+) -> Result<(Coverage, Option<Order>, Form), Complaint>
     requires { R.mark input.old ≡ false }
     ensures read { IsReadFault result ↔ IsTrue (R.mark input.new) }
-    ensures fault { IfErr result (λ c. SayNothing form (R.left input.old) (R.left input.new) c) }
-    ensures says { IfOk result (λ r.
-        SaysTogether operation form (R.left input.old) (R.left input.new) r.0 r.1) }
+    ensures fault { IfErr result (λ c. SayNothing choice (R.left input.old) (R.left input.new) c) }
+    ensures says { IfOk result (λ r. SaysTogether operation choice (R.left input.old) (R.left input.new) r) }
 {
     let mut room = room(alloc)?;
-    let mut texts = Combination::new(alloc, operation, form);
+    let mut texts = Combination::new(alloc, operation, choice);
     let mut piece = Vec::new(alloc);
     for _piece in 0..u64::MAX {
         piece.clear();
@@ -173,21 +166,21 @@ fn read_texts<R: Source>(
     Err(Complaint::from(Fault::TooLong))
 }
 
-/// The text of what the texts of the input say together by an operation, in the same form. The deepest order that one
+/// The text of what the texts of the input say together by an operation, in the form of the first. The deepest order that one
 /// of them names is stated. Else a complaint tells the number of the first text that is at fault, from 1, and the place
 /// in it.
 pub fn combined<R: Source>(
     alloc: Global,
     operation: Operation,
-    form: Form,
+    choice: Choice,
     input: &mut R,
 ) -> Result<String, Complaint>
     requires { R.mark input.old ≡ false }
     ensures read { IsReadFault result ↔ IsTrue (R.mark input.new) }
-    ensures fault { IfErr result (λ c. AreNotCombined form (R.left input.old) (R.left input.new) c) }
+    ensures fault { IfErr result (λ c. AreNotCombined choice (R.left input.old) (R.left input.new) c) }
     ensures combines { IfOk result (λ t.
-        CombinesAll operation form (R.left input.old) (R.left input.new) (string_bytes t)) }
+        CombinesAll operation choice (R.left input.old) (R.left input.new) (string_bytes t)) }
 {
-    let (set, deepest) = read_texts(alloc, operation, form, input)?;
+    let (set, deepest, form) = read_texts(alloc, operation, choice, input)?;
     Ok(text_of(alloc, form, &set, deepest)?)
 }

@@ -1,14 +1,20 @@
 //! Texts of coverages, from the input: converted, described, drawn, checked.
-ghost use Rattle.std.specs.Prelude.{◌≡◌, ◌≢◌, ◌<◌, ◌↔◌, ◌⊎◌, Err, false, IfErr, IfOk, IsErrOf, IsTrue, length, None};
+ghost use Rattle.std.specs.Prelude.{◌≡◌, ◌≢◌, ◌<◌, ◌↔◌, ◌⊎◌, Err, false, IfErr, IfOk, IsErrOf, IsTrue, length, None, option_map};
 ghost use Rattle.std.specs.String.{string_bytes};
+ghost use Rattle.moc_forms.specs.Combining.{TextSays};
+ghost use Rattle.moc_forms.specs.Finding.{form_for, hint_of};
 ghost use Rattle.moc_forms.specs.Forms.{FormSays, form_text};
-ghost use Rattle.moc_forms.specs.Places.{line_bytes, line_of};
+ghost use Rattle.moc_forms.specs.Places.{line_bytes};
+ghost use Rattle.moc_forms.specs.Quotes.{IsTold};
 ghost use Rattle.moc_program.specs.Conversion.{BringsPiece, ChangesAll, ChecksAll, ConvertsAll, DescribesAll, DrawsAll};
-ghost use Rattle.moc_program.specs.Conversion.{IsNotChanged, IsOfInput, IsReadFault, IsWhole, SaysAll, SaysNothing, TellsFault};
+ghost use Rattle.moc_program.specs.Conversion.{IsNotChanged, IsNotDrawn, IsOfInput, IsPictured, IsReadFault, IsWhole};
+ghost use Rattle.moc_program.specs.Conversion.{SaysAll, SaysNothing, TellsFault, TellsPictured};
 ghost use Rattle.moc_program.specs.Faults.{fault_of_form};
+ghost use Rattle.moc_program.specs.Parting.{AreTexts, IsParted};
 
 use crate::status::{Complaint, Fault};
-use moc_forms::{Change, Form, Refusal, describe, draw, examine, place_line};
+use memchr::memchr;
+use moc_forms::{Change, Choice, Form, Refusal, describe, draw, draw_two, examine, hint, is_blank};
 use moc_ranges::Coverage;
 use moc_script::Source;
 use moc_sphere::Order;
@@ -72,38 +78,51 @@ pub fn said(alloc: Global, form: Form, text: &[u8]) -> Result<(Coverage, Option<
     Ok(form.read(alloc, text)?)
 }
 
-/// What a text in a form says; else a complaint that tells its first fault and where it is. Where texts are counted, the
-/// text has a number.
+/// What a text says, with the form that it is read in; else a complaint that tells its first fault and where it is. Where
+/// texts are counted, the complaint has the number of this one.
 pub fn said_or_told(
+    alloc: Global,
+    choice: Choice,
+    text: &[u8],
+    number: Option<u64>,
+) -> Result<(Coverage, Option<Order>, Form), Complaint>
+    ensures device { IfErr result (λ c. c.fault ≢ Fault.Read) }
+    ensures says { IfOk result (λ r. TextSays choice text.now r) }
+    ensures told { IfErr result (λ c. (c.fault ≡ Fault.Memory)
+        ⊎ TellsFault (form_for choice text.now) text.now number c) }
+{
+    let form = choice.form(text);
+    match examine(alloc, form, text) {
+        Ok((set, deepest)) => Ok((set, deepest, form)),
+        Err(refusal) => Err(complaint_of(alloc, form, text, number, refusal)),
+    }
+}
+
+/// The complaint that tells a refusal of a text; that of want of memory, which has no place, also where memory is refused
+/// for its line.
+fn complaint_of(
     alloc: Global,
     form: Form,
     text: &[u8],
     number: Option<u64>,
-) -> Result<(Coverage, Option<Order>), Complaint>
-    ensures device { IfErr result (λ c. c.fault ≢ Fault.Read) }
-    ensures says { IfOk result (λ r. FormSays form text.now r.0 r.1) }
-    ensures told { IfErr result (λ c. (c.fault ≡ Fault.Memory) ⊎ TellsFault form text.now number c) }
-{
-    match examine(alloc, form, text) {
-        Ok(said) => Ok(said),
-        Err(refusal) => Err(complaint_of(alloc, number, refusal)),
-    }
-}
-
-/// The complaint that tells a refusal; that of want of memory, which has no place, also where memory is refused for its
-/// line.
-fn complaint_of(alloc: Global, number: Option<u64>, refusal: Refusal) -> Complaint
+    refusal: Refusal,
+) -> Complaint
     ensures memory { result.fault ≡ Fault.Memory → result.place ≡ None }
     ensures told { (result.fault ≡ Fault.Memory)
         ⊎ ((result.fault ≡ fault_of_form refusal.error)
-        × (line_bytes result.place ≡ line_of number refusal.place)) }
+        × IsTold number text.now refusal.error refusal.place (line_bytes result.place)
+        × (result.hint ≡ hint_of form text.now)) }
 {
     let fault = Fault::from(refusal.error);
     if matches!(fault, Fault::Memory) {
         return Complaint::from(fault);
     }
-    match place_line(alloc, number, refusal.place) {
-        Ok(place) => Complaint { fault, place },
+    match refusal.line(alloc, number, text) {
+        Ok(place) => Complaint {
+            fault,
+            place,
+            hint: hint(form, text),
+        },
         Err(error) => Complaint::from(error),
     }
 }
@@ -138,66 +157,109 @@ pub fn converted<R: Source>(
     text_of(alloc, to, &set, deepest)
 }
 
-/// What the input says; else a complaint that tells its first fault and where it is.
+/// What the input says, with the form that it is read in; else a complaint that tells its first fault and where it is.
 fn input_says<R: Source>(
     alloc: Global,
-    form: Form,
+    choice: Choice,
     input: &mut R,
-) -> Result<(Coverage, Option<Order>), Complaint>
+) -> Result<(Coverage, Option<Order>, Form), Complaint>
     requires { R.mark input.old ≡ false }
     ensures read { IsReadFault result ↔ IsTrue (R.mark input.new) }
-    ensures fault { IfErr result (λ c. SaysNothing form (R.left input.old) (R.left input.new) c) }
-    ensures says { IfOk result (λ r. SaysAll form (R.left input.old) (R.left input.new) r.0 r.1) }
+    ensures fault { IfErr result (λ c. SaysNothing choice (R.left input.old) (R.left input.new) c) }
+    ensures says { IfOk result (λ r. SaysAll choice (R.left input.old) (R.left input.new) r) }
 {
     let text = read_whole(alloc, input)?;
-    said_or_told(alloc, form, &text, None)
+    said_or_told(alloc, choice, &text, None)
 }
 
 /// The figures of the coverage that the input has.
-pub fn described<R: Source>(alloc: Global, form: Form, input: &mut R) -> Result<String, Complaint>
-    requires { R.mark input.old ≡ false }
-    ensures read { IsReadFault result ↔ IsTrue (R.mark input.new) }
-    ensures fault { IfErr result (λ c. SaysNothing form (R.left input.old) (R.left input.new) c) }
-    ensures describes { IfOk result (λ t. DescribesAll form (R.left input.old) (R.left input.new) (string_bytes t)) }
-{
-    let (set, deepest) = input_says(alloc, form, input)?;
-    Ok(describe(alloc, &set, deepest)?)
-}
-
-/// The picture of the coverage that the input has.
-pub fn drawn<R: Source>(alloc: Global, form: Form, input: &mut R) -> Result<String, Complaint>
-    requires { R.mark input.old ≡ false }
-    ensures read { IsReadFault result ↔ IsTrue (R.mark input.new) }
-    ensures fault { IfErr result (λ c. SaysNothing form (R.left input.old) (R.left input.new) c) }
-    ensures draws { IfOk result (λ t. DrawsAll form (R.left input.old) (R.left input.new) (string_bytes t)) }
-{
-    let (set, _) = input_says(alloc, form, input)?;
-    Ok(draw(alloc, &set)?)
-}
-
-/// The text of a change of the coverage that the input has, in the same form, with the order that is stated of it.
-pub fn changed<R: Source>(
+pub fn described<R: Source>(
     alloc: Global,
-    change: Change,
-    form: Form,
+    choice: Choice,
     input: &mut R,
 ) -> Result<String, Complaint>
     requires { R.mark input.old ≡ false }
     ensures read { IsReadFault result ↔ IsTrue (R.mark input.new) }
-    ensures fault { IfErr result (λ c. IsNotChanged form (R.left input.old) (R.left input.new) c) }
-    ensures changes { IfOk result (λ t. ChangesAll change form (R.left input.old) (R.left input.new) (string_bytes t)) }
+    ensures fault { IfErr result (λ c. SaysNothing choice (R.left input.old) (R.left input.new) c) }
+    ensures describes { IfOk result (λ t. DescribesAll choice (R.left input.old) (R.left input.new) (string_bytes t)) }
 {
-    let (set, deepest) = input_says(alloc, form, input)?;
+    let (set, deepest, _) = input_says(alloc, choice, input)?;
+    Ok(describe(alloc, &set, deepest)?)
+}
+
+/// The picture of the coverage that the input has, or of the two that its first semicolon parts.
+pub fn drawn<R: Source>(alloc: Global, choice: Choice, input: &mut R) -> Result<String, Complaint>
+    requires { R.mark input.old ≡ false }
+    ensures read { IsReadFault result ↔ IsTrue (R.mark input.new) }
+    ensures fault { IfErr result (λ c. IsNotDrawn choice (R.left input.old) (R.left input.new) c) }
+    ensures draws { IfOk result (λ t. DrawsAll choice (R.left input.old) (R.left input.new) (string_bytes t)) }
+{
+    let text = read_whole(alloc, input)?;
+    pictured(alloc, choice, &text)
+}
+
+/// The picture of one text, or of two; else a complaint that tells the first fault of the first that says no set.
+fn pictured(alloc: Global, choice: Choice, text: &[u8]) -> Result<String, Complaint>
+    ensures device { IfErr result (λ c. c.fault ≢ Fault.Read) }
+    ensures fault { IfErr result (λ c. (c.fault ≡ Fault.Memory) ⊎ TellsPictured choice text.now c) }
+    ensures picture { IfOk result (λ t. IsPictured choice text.now (string_bytes t)) }
+{
+    let (first, second) = texts_of_picture(text);
+    let Some(second) = second else {
+        let (set, _, _) = said_or_told(alloc, choice, first, None)?;
+        return Ok(draw(alloc, &set)?);
+    };
+    let (one, _, _) = said_or_told(alloc, choice, first, Some(1))?;
+    let (other, _, _) = said_or_told(alloc, choice, second, Some(2))?;
+    Ok(draw_two(alloc, &one, &other)?)
+}
+
+/// The text, or the two that its first semicolon parts: blanks alone behind it are none.
+fn texts_of_picture(text: &[u8]) -> (&[u8], Option<&[u8]>)
+    ensures { AreTexts text.now result.0.now (option_map (λ second. second.now) result.1) }
+{
+    let Some((first, behind)) = parted(text) else {
+        return (text, None);
+    };
+    if is_blank(behind) {
+        return (first, None);
+    }
+    (first, Some(behind))
+}
+
+/// The bytes before the first semicolon and those behind it, if there is one.
+pub fn parted(bytes: &[u8]) -> Option<(&[u8], &[u8])>
+    ensures { IsParted bytes.now result }
+{
+    let at = memchr(b';', bytes)?;
+    Some((&bytes[..at], &bytes[at + 1..]))
+}
+
+/// The text of a change of the coverage that the input has, in the form that it was read in, with the order that is stated
+/// of it.
+pub fn changed<R: Source>(
+    alloc: Global,
+    change: Change,
+    choice: Choice,
+    input: &mut R,
+) -> Result<String, Complaint>
+    requires { R.mark input.old ≡ false }
+    ensures read { IsReadFault result ↔ IsTrue (R.mark input.new) }
+    ensures fault { IfErr result (λ c. IsNotChanged choice (R.left input.old) (R.left input.new) c) }
+    ensures changes { IfOk result (λ t.
+        ChangesAll change choice (R.left input.old) (R.left input.new) (string_bytes t)) }
+{
+    let (set, deepest, form) = input_says(alloc, choice, input)?;
     let after = change.of(alloc, &set)?;
     Ok(text_of(alloc, form, &after, change.stated(deepest))?)
 }
 
-/// Whether the input is a coverage in a form; else its first fault and, in words, where it is.
-pub fn checked<R: Source>(alloc: Global, form: Form, input: &mut R) -> Result<(), Complaint>
+/// Whether the input is a coverage; else its first fault and, in words, where it is.
+pub fn checked<R: Source>(alloc: Global, choice: Choice, input: &mut R) -> Result<(), Complaint>
     requires { R.mark input.old ≡ false }
     ensures read { IsReadFault result ↔ IsTrue (R.mark input.new) }
-    ensures checks { ChecksAll form (R.left input.old) (R.left input.new) result }
+    ensures checks { ChecksAll choice (R.left input.old) (R.left input.new) result }
 {
-    input_says(alloc, form, input)?;
+    input_says(alloc, choice, input)?;
     Ok(())
 }

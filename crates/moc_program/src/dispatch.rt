@@ -13,7 +13,8 @@ use crate::conversion::{changed, checked, converted, described, drawn};
 use crate::status::{Complaint, Fault, Status};
 use clap::error::ErrorKind;
 use clap::{ArgMatches, Error};
-use moc_command_line::{FAULTS, command_line};
+use moc_command_line::{FAULTS, command_line, meant};
+use moc_forms::hint_line;
 use moc_script::{DeviceFault, OpenGate, Sink, Source, crew, play, renumber, run, write_all};
 use moc_sphere::Cell;
 use std::alloc::{AllocError, Global};
@@ -50,7 +51,7 @@ pub fn program<'a, T: Threads + Wait + Sync, S: AsStr, R: Source, W: Sink, E: Si
 {
     let status = match parse(alloc, words) {
         Ok(matches) => ended(act(rt, alloc, &matches, input, output), faults),
-        Err(error) => explain(alloc, &error, output, faults),
+        Err(error) => explain(alloc, words, &error, output, faults),
     };
     status.code()
 }
@@ -88,20 +89,29 @@ fn ended<E: Sink>(outcome: Result<(), Complaint>, faults: &mut E) -> Status
     complaint.fault.status()
 }
 
-/// Tells a fault, and behind it where it is.
+/// Tells a fault, behind it where it is, and which form the text looks like.
 fn tell<E: Sink>(complaint: &Complaint, faults: &mut E) -> Result<(), DeviceFault>
     ensures { OnOk result (E.mark faults.old ≡ false →
         Appends (E.written faults.old) (E.written faults.new) (complaint_text complaint.now)) }
 {
     write_all(complaint.fault.line().as_bytes(), faults)?;
-    match &complaint.place {
-        Some(place) => write_all(place.as_bytes(), faults),
+    if let Some(place) = &complaint.place {
+        write_all(place.as_bytes(), faults)?;
+    }
+    match complaint.hint {
+        Some(form) => write_all(hint_line(form).as_bytes(), faults),
         None => Ok(()),
     }
 }
 
 /// Tells why there are no matches: help goes to the output, a refusal to the faults.
-fn explain<W: Sink, E: Sink>(alloc: Global, error: &Error, output: &mut W, faults: &mut E) -> Status
+fn explain<S: AsStr, W: Sink, E: Sink>(
+    alloc: Global,
+    words: &[S],
+    error: &Error,
+    output: &mut W,
+    faults: &mut E,
+) -> Status
     requires output { W.mark output.old ≡ false }
     ensures bad_words { result ≡ Status.BadWords → IsMistake (kind_of error.now) }
     ensures mistake { IsMistake (kind_of error.now) → (result ≡ Status.BadWords) ⊎ (result ≡ Status.Broken) }
@@ -112,7 +122,7 @@ fn explain<W: Sink, E: Sink>(alloc: Global, error: &Error, output: &mut W, fault
     if error.kind() == ErrorKind::OutOfMemory {
         return ended(Err(Complaint::from(Fault::Memory)), faults);
     }
-    let Ok(text) = format!(in alloc; "{error}") else {
+    let Ok(text) = explanation(alloc, words, error) else {
         return ended(Err(Complaint::from(Fault::Memory)), faults);
     };
     if error.use_stderr() {
@@ -120,6 +130,56 @@ fn explain<W: Sink, E: Sink>(alloc: Global, error: &Error, output: &mut W, fault
         return Status::BadWords;
     }
     ended(printed(text.as_str(), output), faults)
+}
+
+/// The text of help; of a mistake `clap`'s text too, but where a word has a control character, which is not shown, or where
+/// it is no word and is meant for one.
+fn explanation<S: AsStr>(alloc: Global, words: &[S], error: &Error) -> Result<String, AllocError> {
+    if error.use_stderr() && has_control_character(words) {
+        return String::from_str(
+            alloc,
+            "error: a word of the command line has a control character\n",
+        );
+    }
+    if error.kind() == ErrorKind::InvalidSubcommand
+        && let Some(word) = asked_for(words)
+        && let Some(meant) = meant(word)
+    {
+        return format!(in alloc;
+            "error: unrecognized subcommand '{word}'\n\n  tip: what does it is '{meant}'\n\n\
+             Usage: moc <COMMAND>\n\nFor more information, try '--help'.\n"
+        );
+    }
+    format!(in alloc; "{error}")
+}
+
+/// The word that is asked for, or whose help is.
+fn asked_for<S: AsStr>(words: &[S]) -> Option<&str> {
+    match words {
+        [help, word, ..] if help.as_str() == "help" => Some(word.as_str()),
+        [word, ..] => Some(word.as_str()),
+        [] => None,
+    }
+}
+
+/// Whether a word has a control character.
+fn has_control_character<S: AsStr>(words: &[S]) -> bool {
+    for word in words {
+        if is_controlled(word.as_str()) {
+            return true;
+        }
+    }
+    false
+}
+
+/// Whether a text has a control character.
+fn is_controlled(text: &str) -> bool {
+    for character in text.chars() {
+        if character.is_control() {
+            return true;
+        }
+    }
+    false
 }
 
 /// Does what the matches ask.
@@ -145,17 +205,20 @@ fn act<T: Threads + Wait + Sync, R: Source, W: Sink>(
         Some(Action::Convert(from, to)) => {
             printed(converted(alloc, from, to, input)?.as_str(), output)
         }
-        Some(Action::Check(form)) => {
-            checked(alloc, form, input)?;
+        Some(Action::Check(choice)) => {
+            checked(alloc, choice, input)?;
             printed("ok\n", output)
         }
-        Some(Action::Describe(form)) => printed(described(alloc, form, input)?.as_str(), output),
-        Some(Action::Draw(form)) => printed(drawn(alloc, form, input)?.as_str(), output),
-        Some(Action::Change(change, form)) => {
-            printed(changed(alloc, change, form, input)?.as_str(), output)
+        Some(Action::Describe(choice)) => printed(
+            described(alloc, choice, input)?.as_str(),
+            output,
+        ),
+        Some(Action::Draw(choice)) => printed(drawn(alloc, choice, input)?.as_str(), output),
+        Some(Action::Change(change, choice)) => {
+            printed(changed(alloc, change, choice, input)?.as_str(), output)
         }
-        Some(Action::Combine(operation, form)) => {
-            printed(combined(alloc, operation, form, input)?.as_str(), output)
+        Some(Action::Combine(operation, choice)) => {
+            printed(combined(alloc, operation, choice, input)?.as_str(), output)
         }
         Some(Action::Faults) => printed(FAULTS, output),
         // `clap` requires the word and its values, so none is missing.

@@ -5,7 +5,7 @@ ghost use Rattle.moc_program.specs.Faults.{fault_of_uniq, line_of};
 ghost use Rattle.moc_program.specs.Statuses.{code_of, status_of};
 ghost use Rattle.moc_program.specs.declared.status.Fault.TheVariants as fault;
 
-use moc_forms::FormError;
+use moc_forms::{Form, FormError};
 use moc_ranges::Memory as MemoryRefused;
 use moc_script::{DeviceFault, RunError};
 use moc_sphere::CellError;
@@ -212,23 +212,29 @@ impl From<MemoryRefused> for Fault {
     }
 }
 
-/// A fault, and where it is told a line that says where it is.
+/// A fault; where it is told, a line that says where it is; and the form that the text looks like, if that is another than
+/// it was read in.
 #[derive(Debug, Drop)]
 pub struct Complaint {
     pub fault: Fault,
     pub place: Option<String>,
+    pub hint: Option<Form>,
 }
 
 impl From<Fault> for Complaint {
-    ghost from_gives = { λ f c. (c.fault ≡ f) × (c.place ≡ None) };
+    ghost from_gives = { λ f c. (c.fault ≡ f) × (c.place ≡ None) × (c.hint ≡ None) };
 
     fn from(fault: Fault) -> Complaint {
-        Complaint { fault, place: None }
+        Complaint {
+            fault,
+            place: None,
+            hint: None,
+        }
     }
 }
 
 impl From<RunError> for Complaint {
-    ghost from_gives = { λ error c. (c.fault ≡ fault_of_run error) × (c.place ≡ None) };
+    ghost from_gives = { λ error c. (c.fault ≡ fault_of_run error) × (c.place ≡ None) × (c.hint ≡ None) };
 
     fn from(error: RunError) -> Complaint {
         Complaint::from(Fault::from(error))
@@ -236,7 +242,7 @@ impl From<RunError> for Complaint {
 }
 
 impl From<MemoryRefused> for Complaint {
-    ghost from_gives = { λ _ c. (c.fault ≡ fault.Memory) × (c.place ≡ None) };
+    ghost from_gives = { λ _ c. (c.fault ≡ fault.Memory) × (c.place ≡ None) × (c.hint ≡ None) };
 
     fn from(_error: MemoryRefused) -> Complaint {
         Complaint::from(Fault::Memory)
@@ -244,7 +250,7 @@ impl From<MemoryRefused> for Complaint {
 }
 
 impl From<AllocError> for Complaint {
-    ghost from_gives = { λ _ c. (c.fault ≡ fault.Memory) × (c.place ≡ None) };
+    ghost from_gives = { λ _ c. (c.fault ≡ fault.Memory) × (c.place ≡ None) × (c.hint ≡ None) };
 
     fn from(_error: AllocError) -> Complaint {
         Complaint::from(Fault::Memory)

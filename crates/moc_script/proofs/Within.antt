@@ -12,7 +12,7 @@ use Rattle.moc_text.specs.declared.ascii.number.Item.{Item}
 use Rattle.moc_text.specs.declared.ascii.number.Parts.{Parts}
 use Rattle.moc_text.specs.declared.ascii.error.TextError.{TextError}
 use Rattle.moc_text.specs.Ascii.{words, order_at, item_pixels, pixels_said, deepest_of}
-use Rattle.moc_text.specs.Scan.{◌>>=◌}
+use Rattle.moc_text.specs.Private.Scan.{◌>>=◌}
 use Rattle.moc_text.specs.Reading.{numbers_of, reading_of}
 
 pub empty_within : IsWithin set.empty pixels

@@ -1,14 +1,15 @@
 -- Reading the JSON form of a coverage (MOC 2.0): the names of an object are orders, and their
 -- arrays are cells.
 use Rattle.std.specs.Prelude.{◌≡◌, ℕ, zero, suc, ◌+◌, ◌&&◌, ◌==◌, not, nat_lt, if◌then◌else◌, List, Option, Some, None}
-use Rattle.std.specs.Prelude.{option_and_then, length, IsUtf8, ◌⊎◌}
+use Rattle.std.specs.Prelude.{false, option_and_then, option_map, length, IsUtf8, ◌⊎◌}
 use Rattle.std.specs.Option.{option_or}
 use Rattle.std.specs.Str.{all_ascii_digits}
 use Rattle.std.specs.Str.Parse.{digits_value}
 use Rattle.std.specs.FinSet as set
 use Rattle.serde_json.specs.Data.{Data, Items, no_items, item, Members, no_members, member}
-use Rattle.serde_json.specs.Find.{as_number, as_u64, as_array, as_object}
+use Rattle.serde_json.specs.Find.{as_number, as_u64, as_array, as_object, at}
 use Rattle.serde_json.specs.Read.{read}
+use Rattle.serde_json.specs.Written.{compact_text, has_float}
 use Rattle.moc_sphere.specs.CellNumber.{cell_count}
 use Rattle.moc_ranges.specs.Numbers.{NumberSet}
 use Rattle.moc_ranges.specs.Cells.{span}
@@ -72,6 +73,16 @@ order_at (suc number) (member name d ms) = order_at number ms
 abbrev pub object_order : ℕ → Data → Option ℕ
 object_order number d = option_and_then (order_at number) (as_object d)
 
+-- the name of this number with its value, if there is such a name
+abbrev pub member_at : ℕ → Members → Option (List ℕ × Data)
+member_at number no_members = None
+member_at zero (member name d ms) = Some (name, d)
+member_at (suc number) (member name d ms) = member_at number ms
+
+-- the same, where the value is an object
+abbrev pub object_member : ℕ → Data → Option (List ℕ × Data)
+object_member number d = option_and_then (member_at number) (as_object d)
+
 -- ---- what is wrong with a value
 
 -- of an item, which is a whole number or none, where k is the order: no number, or no cell
@@ -117,6 +128,24 @@ IsNotJson bytes = IsUtf8 bytes → read bytes ≡ None
 -- In the text the name of this number, counted from 0 in byte order, names this order, or none.
 abbrev pub NamesOrder : List ℕ → ℕ → Option ℕ → Type 0
 NamesOrder bytes number k = (d : Data) × IsJson bytes d × (k ≡ object_order number d)
+
+-- In the text the name of this number, counted from 0 in byte order, is this one, if there is such a name.
+abbrev pub HasName : List ℕ → ℕ → Option (List ℕ) → Type 0
+HasName bytes number name =
+    (d : Data) × IsJson bytes d × (name ≡ option_map (λ (m : List ℕ × Data). m.0) (object_member number d))
+
+-- The text of a value, if there is one; how numbers with a fraction or an exponent are printed is not said.
+abbrev pub IsTextOf : Option Data → Option (List ℕ) → Type 0
+IsTextOf None text = text ≡ None
+IsTextOf (Some d) text =
+    (bytes : List ℕ) × (text ≡ Some bytes) × (has_float d ≡ false → bytes ≡ compact_text d)
+
+-- In the text the item of this place, counted from 0, in the array of the name of this number has this text, if there is
+-- such an item.
+abbrev pub HasItem : List ℕ → ℕ → ℕ → Option (List ℕ) → Type 0
+HasItem bytes number place text =
+    (d : Data) × IsJson bytes d
+    × IsTextOf (option_and_then (λ (m : List ℕ × Data). at place m.1) (object_member number d)) text
 
 -- The text is an object without a fault, which says this set and this deepest order.
 pub record SaysJson (bytes : List ℕ) (a : NumberSet) (deepest : Option ℕ) : Type 0 where

@@ -6,5 +6,7 @@ mod json;
 mod uniq;
 
 pub use ascii::{TextError, read_ascii, readings_are_told, write_ascii};
-pub use json::{JsonError, JsonPlace, json_order, json_stop, read_json, write_json};
+pub use json::{
+    JsonError, JsonPlace, json_item, json_name, json_order, json_stop, read_json, write_json,
+};
 pub use uniq::{UniqError, read_uniq, write_uniq};

@@ -233,6 +233,8 @@ fn checks(rt: HostRuntime) {
         (["check", "ascii"], "1/1-2 4 2/12-14"),
         (["check", "json"], "{}"),
         (["check", "uniq"], "4\n\n5"),
+        (["check", "auto"], "\n {\"0\":[3]}"),
+        (["check", "auto"], ",0/3"),
     ] {
         expect(&rt, rt.alloc(), &words, input, 0, "ok\n", "");
     }
@@ -240,15 +242,25 @@ fn checks(rt: HostRuntime) {
         (
             ["check", "ascii"],
             "1/0-3\n2/7-5",
-            "fault Backwards\nbyte 8, line 2, byte 2 of it\n",
+            "fault Backwards\nbyte 8, line 2, byte 2 of it: `2/7-5`\n",
         ),
         (
             ["check", "json"],
             "{\"9\":[0,1,true]}",
-            "fault NotWhole\norder 9, number 2\n",
+            "fault NotWhole\norder 9, number 2: `true`\n",
         ),
         (["check", "json"], "[1]", "fault NotObject\n"),
-        (["check", "uniq"], "4\n5\n3", "fault NotUniq\nline 3\n"),
+        (["check", "uniq"], "4\n5\n3", "fault NotUniq\nline 3: `3`\n"),
+        (
+            ["check", "json"],
+            ",0/3",
+            "fault NotJson\nline 1, column 1\nthis looks like ASCII\n",
+        ),
+        (
+            ["check", "auto"],
+            "4\n5\n",
+            "fault NoOrder\nbyte 0, line 1, byte 0 of it: `4`\nthis looks like a NUNIQ list\n",
+        ),
     ] {
         expect(&rt, rt.alloc(), &words, input, 1, "", told);
     }
@@ -272,7 +284,7 @@ fn figures(rt: HostRuntime) {
         "0/12",
         1,
         "",
-        "fault CellTooLarge\nbyte 2, line 1, byte 2 of it\n",
+        "fault CellTooLarge\nbyte 2, line 1, byte 2 of it: `0/12`\n",
     );
 }
 
@@ -344,8 +356,33 @@ fn pictures(rt: HostRuntime) {
         "0/12",
         1,
         "",
-        "fault CellTooLarge\nbyte 2, line 1, byte 2 of it\n",
+        "fault CellTooLarge\nbyte 2, line 1, byte 2 of it: `0/12`\n",
     );
+}
+
+/// Of two texts what comes is the picture of two, and blanks behind a semicolon are none.
+#[test]
+fn pictures_of_two(rt: HostRuntime) {
+    let one = picture(&rt, rt.alloc(), "ascii", "0/0");
+    let blank = picture(&rt, rt.alloc(), "ascii", "0/0; \n");
+    let two = picture(&rt, rt.alloc(), "auto", "0/0;{\"0\":[1]}");
+    let same = picture(&rt, rt.alloc(), "ascii", "0/0;0/1");
+    assert_eq!(rt; blank.as_slice(), one.as_slice());
+    assert_eq!(rt; two.as_slice(), same.as_slice());
+    assert!(rt; two.as_slice() != one.as_slice());
+    let words = ["draw", "ascii"];
+    let told = "fault BadByte\ntext 2, byte 3, line 1, byte 3 of it: `0/1;0/2`\n";
+    expect(&rt, rt.alloc(), &words, "0/0;0/1;0/2", 1, "", told);
+}
+
+#[test]
+fn wrong_words(rt: HostRuntime) {
+    let tip = "error: unrecognized subcommand 'union'\n\n  tip: what does it is 'combine union'\n\n\
+               Usage: moc <COMMAND>\n\nFor more information, try '--help'.\n";
+    expect(&rt, rt.alloc(), &["union", "ascii"], "", 2, "", tip);
+    expect(&rt, rt.alloc(), &["help", "union"], "", 2, "", tip);
+    let control = "error: a word of the command line has a control character\n";
+    expect(&rt, rt.alloc(), &["\x1b[1mring"], "", 2, "", control);
 }
 
 #[test]
@@ -392,6 +429,11 @@ fn combinations_in_other_forms(rt: HostRuntime) {
             "{\"0\":[0]};{\"1\":[3]}",
             "{\"1\":[0,1,2]}\n",
         ),
+        (
+            ["combine", "union", "auto"],
+            "{\"0\":[0],\"3\":[]}; 0/1",
+            "{\"0\":[0,1],\"3\":[]}\n",
+        ),
     ] {
         expect(&rt, rt.alloc(), &words, input, 0, output, "");
     }
@@ -403,12 +445,12 @@ fn refused_combinations(rt: HostRuntime) {
         (
             ["combine", "union", "ascii"],
             "0/0 ; 0/12",
-            "fault CellTooLarge\ntext 2, byte 3, line 1, byte 3 of it\n",
+            "fault CellTooLarge\ntext 2, byte 3, line 1, byte 3 of it: `0/12`\n",
         ),
         (
             ["combine", "union", "ascii"],
             "5/7-3 ; 0/12",
-            "fault Backwards\ntext 1, byte 2, line 1, byte 2 of it\n",
+            "fault Backwards\ntext 1, byte 2, line 1, byte 2 of it: `5/7-3`\n",
         ),
         (
             ["combine", "union", "json"],
@@ -418,7 +460,7 @@ fn refused_combinations(rt: HostRuntime) {
         (
             ["combine", "union", "uniq"],
             "4\n;5;3",
-            "fault NotUniq\ntext 3, line 1\n",
+            "fault NotUniq\ntext 3, line 1: `3`\n",
         ),
     ] {
         expect(&rt, rt.alloc(), &words, input, 1, "", told);
@@ -447,7 +489,7 @@ fn changes(rt: HostRuntime) {
     ] {
         expect(&rt, rt.alloc(), words, input, 0, output, "");
     }
-    let told = "fault Backwards\nbyte 2, line 1, byte 2 of it\n";
+    let told = "fault Backwards\nbyte 2, line 1, byte 2 of it: `5/7-3`\n";
     expect(
         &rt,
         rt.alloc(),

@@ -1,25 +1,14 @@
 -- How texts of an input are taken piece by piece.
-use Rattle.std.specs.Prelude.{◌≡◌, ℕ, ◌≤◌, false, List, [], ◌∷◌, ◌++◌, length, Option, None, Some}
-use Rattle.std.specs.Borrow.{Bor}
-use Rattle.std.specs.List.{All}
+use Rattle.std.specs.Prelude.{◌≡◌, ℕ, ◌≤◌, List, [], ◌∷◌, ◌++◌, length, Option, None, Some}
 use Rattle.std.specs.Io.KnownBytes.{Consumes}
 use Rattle.moc_script.specs.Runs.{AreWithin}
-use Rattle.moc_forms.specs.Combining.{CombinesTexts, Said, is_semicolon, joined, parts_of, texts_of, without_blank_end}
-use Rattle.moc_forms.specs.Forms.{FormSays}
+use Rattle.moc_forms.specs.Combining.{CombinesTexts, Said, TextSays, joined, parts_of, texts_of, without_blank_end}
 use Rattle.moc_forms.specs.declared.combining.Operation.{Operation}
-use Rattle.moc_forms.specs.declared.form.Form.{Form}
+use Rattle.moc_forms.specs.declared.finding.Choice.{Choice}
 use Rattle.moc_program.specs.Combining.{TellsFirstFault}
+use Rattle.moc_program.specs.Parting.{LacksSemicolons}
 use Rattle.moc_program.specs.declared.combination.Combination.{Combination}
 use Rattle.moc_program.specs.declared.status.Complaint.{Complaint}
-
--- no byte is a semicolon
-abbrev pub LacksSemicolons : List ℕ → Type 0
-LacksSemicolons bytes = All (λ b. is_semicolon b ≡ false) bytes
-
--- the bytes before the first semicolon and those behind it, or none where there is no semicolon
-abbrev pub IsParted : List ℕ → Option (Bor (List ℕ) × Bor (List ℕ)) → Type 0
-IsParted bytes None = LacksSemicolons bytes
-IsParted bytes (Some parts) = LacksSemicolons parts.0.now × (bytes ≡ parts.0.now ++ 59 ∷ parts.1.now)
 
 -- the text that has not ended has no semicolon, and is no longer than an input may be
 pub record IsOpen (c : Combination) : Type 0 where
@@ -27,9 +16,9 @@ pub record IsOpen (c : Combination) : Type 0 where
   pub within : length c.text.items ≤ 16777216
 
 -- a combination that has no text yet
-pub record Begins (op : Operation) (f : Form) (c : Combination) : Type 0 where
+pub record Begins (op : Operation) (ch : Choice) (c : Combination) : Type 0 where
   pub operation : c.operation ≡ op
-  pub form : c.form ≡ f
+  pub choice : c.choice ≡ ch
   pub number : c.number ≡ 1
   pub text : c.text.items ≡ []
   pub before : c.before ≡ None
@@ -37,7 +26,7 @@ pub record Begins (op : Operation) (f : Form) (c : Combination) : Type 0 where
 -- what is said after the text of a combination too, behind what was said before
 abbrev pub SaysMore : Combination → Option Said → Said → Type 0
 SaysMore c before after =
-    (said : Said) × FormSays c.form c.text.items said.0 said.1 × (after ≡ joined c.operation before said)
+    (said : Said) × TextSays c.choice c.text.items said × (after ≡ joined c.operation before said)
 
 -- the texts of bytes behind what was said before, if there was anything
 abbrev pub texts_behind : Option Said → List ℕ → List (List ℕ)
@@ -45,19 +34,19 @@ texts_behind None bytes = texts_of bytes
 texts_behind (Some before) bytes = without_blank_end (parts_of bytes)
 
 -- what texts say behind what was said before, where none is too long
-pub record TextsSay (operation : Operation) (form : Form) (before : Option Said) (bytes : List ℕ) (after : Option Said)
+pub record TextsSay (operation : Operation) (choice : Choice) (before : Option Said) (bytes : List ℕ) (after : Option Said)
     : Type 0 where
-  pub says : CombinesTexts operation form before (texts_behind before bytes) after
+  pub says : CombinesTexts operation choice before (texts_behind before bytes) after
   pub within : AreWithin 16777216 (texts_behind before bytes)
 
 -- what comes of a combination with these bytes behind its text
 abbrev pub Ends : Combination → List ℕ → Option Said → Type 0
-Ends c rest after = TextsSay c.operation c.form c.before (c.text.items ++ rest) after
+Ends c rest after = TextsSay c.operation c.choice c.before (c.text.items ++ rest) after
 
 -- a complaint tells the first of the texts that says no set, with these bytes behind the text of a combination
 abbrev pub Fails : Combination → List ℕ → Complaint → Type 0
 Fails c rest complaint =
-    TellsFirstFault c.number c.form (texts_behind c.before (c.text.items ++ rest)) complaint
+    TellsFirstFault c.number c.choice (texts_behind c.before (c.text.items ++ rest)) complaint
 
 -- the same, whatever stands behind the bytes
 abbrev pub FailsWithin : Combination → List ℕ → Complaint → Type 0
@@ -66,7 +55,7 @@ FailsWithin c bytes complaint = (rest : List ℕ) → Fails c (bytes ++ rest) co
 -- a combination has taken these bytes behind another
 pub record Leads (c : Combination) (bytes : List ℕ) (d : Combination) : Type 0 where
   pub operation : d.operation ≡ c.operation
-  pub form : d.form ≡ c.form
+  pub choice : d.choice ≡ c.choice
   pub ends : (rest : List ℕ) (after : Option Said) → Ends d rest after → Ends c (bytes ++ rest) after
   pub fails : (rest : List ℕ) (complaint : Complaint) → Fails d rest complaint → Fails c (bytes ++ rest) complaint
 

@@ -1,5 +1,6 @@
 //! Reading the JSON form.
-ghost use Rattle.std.specs.Prelude.{◌≡◌, ℕ, IfErr, IfOk, IfSome, MatchResult, None, Option, Some, ◌⊎◌};
+ghost use Rattle.std.specs.Prelude.{◌≡◌, ℕ, IfErr, IfOk, IfSome, MatchResult, None, Option, Some, option_map, ◌⊎◌};
+ghost use Rattle.std.specs.String.{string_bytes};
 ghost use Rattle.std.specs.FinSet as set;
 ghost use Rattle.serde_json.specs.Find.{as_array};
 ghost use Rattle.serde_json.specs.View.{view, items_view, members_view};
@@ -8,7 +9,8 @@ ghost use Rattle.moc_text.specs.Ascii.{deeper as deeper_of};
 ghost use Rattle.moc_text.specs.Faults.{Fails};
 ghost use Rattle.moc_text.specs.JsonForm.{order_of_name, whole, cell_pixels, item_fault, items_pixels, items_fault};
 ghost use Rattle.moc_text.specs.JsonForm.{array_pixels, name_fault, members_pixels, members_fault, deepest_name};
-ghost use Rattle.moc_text.specs.JsonForm.{order_at, IsJson, IsNotJson, NamesOrder, SaysJson, IsJsonFault};
+ghost use Rattle.moc_text.specs.JsonForm.{member_at as member_of, order_at, HasItem, HasName, IsJson, IsNotJson, NamesOrder, SaysJson};
+ghost use Rattle.moc_text.specs.JsonForm.{IsJsonFault};
 ghost use Rattle.moc_text.specs.Private.JsonReading.{held_order};
 
 use crate::json::error::JsonError;
@@ -205,6 +207,65 @@ pub fn json_order(alloc: Global, text: &[u8], name: usize) -> Result<Option<Orde
         return Ok(None);
     };
     Ok(order_of_member(members, name))
+}
+
+/// The name of this number, with its value; `None` where there is no such name.
+fn member_at(members: &Map<String, Value>, number: usize) -> Option<(&String, &Value)>
+    ensures { option_map (λ m. (string_bytes m.0.now, view m.1.now)) result
+        ≡ member_of number (members_view members.now.entries) }
+{
+    let mut before = number;
+    for (name, value) in members.iter() {
+        if before == 0 {
+            return Some((name, value));
+        }
+        before -= 1;
+    }
+    None
+}
+
+/// The name of a JSON text that has this number, which a fault tells: counted from 0 in byte order. `None` where the
+/// text is no object, or has no such name.
+///
+/// Refused with `NotJson` and `Memory` as `read_json`, whose first pass it makes again.
+pub fn json_name(alloc: Global, text: &[u8], name: usize) -> Result<Option<String>, JsonError>
+    ensures name { IfOk result (λ found. HasName text.now name (option_map string_bytes found)) }
+    ensures fault { IfErr result (λ e. (e ≡ JsonError.Memory) ⊎ ((e ≡ JsonError.NotJson) × IsNotJson text.now)) }
+{
+    let value = parse(alloc, text)?;
+    let Some(members) = value.as_object() else {
+        return Ok(None);
+    };
+    match member_at(members, name) {
+        Some((found, _)) => Ok(Some(String::from_str(alloc, found.as_str())?)),
+        None => Ok(None),
+    }
+}
+
+/// The text of an item, compact as `serde_json` prints it, by its place in the array of the name of this number, which a
+/// fault tells, both counted from 0. `None` where there is no such item.
+///
+/// Refused with `NotJson` and `Memory` as `read_json`, whose first pass it makes again.
+pub fn json_item(
+    alloc: Global,
+    text: &[u8],
+    name: usize,
+    place: usize,
+) -> Result<Option<String>, JsonError>
+    ensures item { IfOk result (λ found. HasItem text.now name place (option_map string_bytes found)) }
+    ensures fault { IfErr result (λ e. (e ≡ JsonError.Memory) ⊎ ((e ≡ JsonError.NotJson) × IsNotJson text.now)) }
+{
+    let value = parse(alloc, text)?;
+    let Some(members) = value.as_object() else {
+        return Ok(None);
+    };
+    let Some((_, array)) = member_at(members, name) else {
+        return Ok(None);
+    };
+    match array.get(place) {
+        Some(item) => Ok(Some(item.to_string(alloc)?)),
+        None => Ok(None),
+    }
 }
 
 /// The line, counted from 1, and the column at which `serde_json` stops reading a text that is no JSON. `None` where

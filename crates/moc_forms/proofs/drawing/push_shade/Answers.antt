@@ -6,11 +6,7 @@ pub returns : goal.returns
 unfolding shade_path
 returns c =
     rw (
-      c.in_ok-push_str-6.ensures.bytes,
-      c.in_ok-push_marks.ensures,
-      c.in_ok-push_str-5.ensures.bytes,
-      c.in_ok-push_str-4.ensures.bytes,
-      c.in_ok-push_str-3.ensures.bytes,
-      c.in_ok-push_str-2.ensures.bytes,
       c.in_ok-push_str.ensures.bytes,
+      c.in_ok-push_marks.ensures,
+      c.in_ok-push_path_head.ensures,
     ) (simp append_assoc)

@@ -5,8 +5,7 @@ use Rattle.moc_program.proofs.combination.combined.Goals as goal
 
 pub returns-clause-combines : goal.returns-clause-combines
 returns-clause-combines g c = record {
-  set = c.in_ok-set.set;
-  deepest = c.in_ok-set.deepest;
+  said = (c.in_ok-set.set, c.in_ok-set.deepest, c.in_ok-set.form);
   says = c.in_ok-set.ensures.says;
   written = c.in_ok-text_of.ensures.text;
 }
@@ -14,5 +13,5 @@ returns-clause-combines g c = record {
 pub returns-in_err-text_of-clause-fault : goal.returns-in_err-text_of-clause-fault
 returns-in_err-text_of-clause-fault g c =
     not_written c.from_residual-in_err-text_of.result c.in_err-text_of.field-0.0
-    (SayNothing c.args.form (g.R.Source.left c.args.input.now) (g.R.Source.left c.read_texts.new.input))
+    (SayNothing c.args.choice (g.R.Source.left c.args.input.now) (g.R.Source.left c.read_texts.new.input))
     c.from_residual-in_err-text_of.ensures.1 c.in_err-text_of.ensures.fault (λ complaint of. inl of)

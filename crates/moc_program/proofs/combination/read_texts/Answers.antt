@@ -24,7 +24,7 @@ returns-then-not-branch-clause-says g c =
     let no : c.in_ok-read_piece.field-0 ≡ false = search rules in
     let none = brings.none no in
     IfOk-weaker c.all_said.result _ _ (λ after ends.
-    all_taken c.args.operation c.args.form _ _ _ _ _ _ c.new-texts.ensures.begins c.loop-piece.invariant.taken
+    all_taken c.args.operation c.args.choice _ _ _ _ _ _ c.new-texts.ensures.begins c.loop-piece.invariant.taken
     (piece_is _ _ _ _ _ c.clear.ensures.items brings) (none.0 ∙ c.clear.ensures.items) none.1 after ends)
     c.all_said.ensures.says
 
@@ -34,7 +34,7 @@ returns-then-not-branch-clause-fault g c =
     let no : c.in_ok-read_piece.field-0 ≡ false = search rules in
     let none = brings.none no in
     IfErr-weaker c.all_said.result _ _ (λ complaint told.
-    all_fails c.args.operation c.args.form _ _ _ _ _ _ c.new-texts.ensures.begins c.loop-piece.invariant.taken
+    all_fails c.args.operation c.args.choice _ _ _ _ _ _ c.new-texts.ensures.begins c.loop-piece.invariant.taken
     (piece_is _ _ _ _ _ c.clear.ensures.items brings) (none.0 ∙ c.clear.ensures.items) none.1 complaint told)
     c.all_said.ensures.fault
 
@@ -42,6 +42,6 @@ pub returns-in_err-take_bytes-clause-fault : goal.returns-in_err-take_bytes-clau
 returns-in_err-take_bytes-clause-fault g c =
     let told = c.in_err-take_bytes.field-0.0 in
     handed_on c.from_residual-in_err-take_bytes.result told _ c.from_residual-in_err-take_bytes.ensures.1
-    (piece_fails c.args.operation c.args.form _ _ _ _ _ _ c.new-texts.ensures.begins c.loop-piece.invariant.taken
+    (piece_fails c.args.operation c.args.choice _ _ _ _ _ _ c.new-texts.ensures.begins c.loop-piece.invariant.taken
     (piece_is _ _ _ _ _ c.clear.ensures.items c.in_ok-read_piece.ensures.brings) told
     (subst (λ (bytes : List ℕ). IsOfInput told.fault ⊎ FailsWithin c.loop-piece.texts bytes told) c.deref.ensures.value c.in_err-take_bytes.ensures.fault))

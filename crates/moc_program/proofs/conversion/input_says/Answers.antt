@@ -1,6 +1,7 @@
 use Rattle.std.proofs.Common.{◌≡◌, ◌⊎◌, ℕ, List, None, subst}
 use Rattle.std.proofs.lemmas.Result.{IfErr-weaker, IfOk-weaker}
-use Rattle.moc_forms.specs.Forms.{FormSays}
+use Rattle.moc_forms.specs.Combining.{TextSays}
+use Rattle.moc_forms.specs.Finding.{form_for}
 use Rattle.moc_program.specs.Conversion.{TellsFault}
 use Rattle.moc_program.specs.declared.status.Fault.TheVariants.{Memory}
 use Rattle.moc_program.proofs.Checks.{of_input}
@@ -10,11 +11,11 @@ pub returns-clause-says : goal.returns-clause-says
 returns-clause-says g c = IfOk-weaker c.said_or_told.result _ _ (λ r says. record {
   given = c.in_ok-text.text.items;
   whole = c.in_ok-text.ensures.whole;
-  says = subst (λ (bytes : List ℕ). FormSays c.args.form bytes r.0 r.1) c.deref.ensures.value says;
+  says = subst (λ (bytes : List ℕ). TextSays c.args.choice bytes r) c.deref.ensures.value says;
 }) c.said_or_told.ensures.says
 
 pub returns-clause-fault : goal.returns-clause-fault
 returns-clause-fault g c = IfErr-weaker c.said_or_told.result _ _ (λ complaint told.
-    of_input c.args.form _ _ c.in_ok-text.text.items complaint c.in_ok-text.ensures.whole
-    (subst (λ (bytes : List ℕ). (complaint.fault ≡ Memory) ⊎ TellsFault c.args.form bytes None complaint) c.deref.ensures.value told))
+    of_input c.args.choice _ _ c.in_ok-text.text.items complaint c.in_ok-text.ensures.whole
+    (subst (λ (bytes : List ℕ). (complaint.fault ≡ Memory) ⊎ TellsFault (form_for c.args.choice bytes) bytes None complaint) c.deref.ensures.value told))
     c.said_or_told.ensures.told

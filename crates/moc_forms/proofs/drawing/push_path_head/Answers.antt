@@ -1,0 +1,14 @@
+use Rattle.std.proofs.lemmas.List.{append_assoc}
+use Rattle.moc_forms.specs.Drawing.{path_head}
+use Rattle.moc_forms.proofs.drawing.push_path_head.Goals as goal
+
+pub returns : goal.returns
+unfolding path_head
+returns c =
+    rw (
+      c.in_ok-push_str-5.ensures.bytes,
+      c.in_ok-push_str-4.ensures.bytes,
+      c.in_ok-push_str-3.ensures.bytes,
+      c.in_ok-push_str-2.ensures.bytes,
+      c.in_ok-push_str.ensures.bytes,
+    ) (simp append_assoc)

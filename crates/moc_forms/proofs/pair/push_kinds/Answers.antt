@@ -1,0 +1,17 @@
+use Rattle.std.proofs.lemmas.List.{append_assoc}
+use Rattle.moc_forms.specs.Drawing.{kinds}
+use Rattle.moc_forms.proofs.pair.push_kinds.Goals as goal
+
+pub returns : goal.returns
+unfolding kinds
+returns c =
+    rw (
+      c.in_ok-push_str-2.ensures.bytes,
+      c.in_ok-push_set-3.ensures,
+      c.in_ok-push_set-2.ensures,
+      c.in_ok-push_set.ensures,
+      c.in_ok-push_str.ensures.bytes,
+      c.in_ok-both.ensures.set,
+      c.in_ok-only_second.ensures.set,
+      c.in_ok-only_first.ensures.set,
+    ) (simp append_assoc)

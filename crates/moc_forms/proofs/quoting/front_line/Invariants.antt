@@ -1,0 +1,9 @@
+use Rattle.std.proofs.Common.{◌≡◌, ◌++◌, drop, take}
+use Rattle.moc_forms.specs.Quotes.{up_to_feed}
+use Rattle.moc_forms.proofs.quoting.front_line.Given as goal
+
+abbrev pub invariant-loop-byte : goal.invariant-loop-byte
+invariant-loop-byte l = record {
+  counted : l.len ≡ l.byte-index;
+  same : take l.byte-index l.bytes ++ up_to_feed (drop l.byte-index l.bytes) ≡ up_to_feed l.bytes;
+}

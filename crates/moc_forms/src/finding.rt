@@ -1,0 +1,107 @@
+//! Which form a text has, as its first byte that is no blank tells.
+ghost use Rattle.std.specs.Prelude.{◌≡◌, IfSome, Some};
+ghost use Rattle.moc_forms.specs.Finding.{choice_name, first_byte as first_byte_of, form_by, form_for, hint_of, hint_text};
+ghost use Rattle.moc_forms.specs.Finding.{is_blank_byte as is_blank_byte_of, looks_by, looks_like, other_form};
+
+use crate::form::Form;
+
+/// The form that a text is read in: one that is named, or the one that is found.
+#[derive(Clone, Copy, Debug, PartialEq, Eq)]
+pub enum Choice {
+    /// This form.
+    Named(Form),
+    /// JSON where the text's first byte that is no blank is `{`, and else ASCII.
+    Auto,
+}
+
+impl Choice {
+    /// The choice that the command line calls `auto`, or by the name of a form.
+    pub fn named(word: &str) -> Option<Choice>
+        ensures name { IfSome result (λ choice. word.now ≡ choice_name choice) }
+        ensures each { (choice : Choice) → word.now ≡ choice_name choice → result ≡ Some choice }
+    {
+        match word {
+            "ascii" => Some(Choice::Named(Form::Ascii)),
+            "json" => Some(Choice::Named(Form::Json)),
+            "uniq" => Some(Choice::Named(Form::Uniq)),
+            "auto" => Some(Choice::Auto),
+            _ => None,
+        }
+    }
+
+    /// The form that a text is read in. Linear in the blanks at its front; takes no memory.
+    pub fn form(self, text: &[u8]) -> Form
+        ensures { result ≡ form_for self text.now }
+    {
+        match self {
+            Choice::Named(form) => form,
+            Choice::Auto => beginning(first_byte(text)),
+        }
+    }
+}
+
+/// The form of a text that begins with this byte.
+fn beginning(byte: Option<u8>) -> Form
+    ensures { result ≡ form_by byte }
+{
+    match byte {
+        Some(b'{') => Form::Json,
+        _ => Form::Ascii,
+    }
+}
+
+/// The first byte that is no blank: no space, tab, CR or LF.
+fn first_byte(text: &[u8]) -> Option<u8>
+    ensures { result ≡ first_byte_of text.now }
+{
+    for byte in text {
+        if !is_blank_byte(*byte) {
+            return Some(*byte);
+        }
+    }
+    None
+}
+
+/// Whether a byte is a space, a tab, CR or LF.
+pub fn is_blank_byte(byte: u8) -> bool
+    ensures { result ≡ is_blank_byte_of byte }
+{
+    matches!(byte, b' ' | b'\t' | b'\r' | b'\n')
+}
+
+/// The form that a text looks like, where it is read in another: JSON where its first byte that is no blank is `{`; where
+/// that is a digit, `s` or a comma, ASCII if the text has a slash, and else a NUNIQ list.
+///
+/// Linear in the text; takes no memory.
+pub fn hint(form: Form, text: &[u8]) -> Option<Form>
+    ensures { result ≡ hint_of form text.now }
+{
+    let seen = looks(text.contains(&b'/'), first_byte(text))?;
+    if seen == form {
+        return None;
+    }
+    Some(seen)
+}
+
+/// The form that a text looks like which begins with this byte, and has a slash or not.
+fn looks(slash: bool, byte: Option<u8>) -> Option<Form>
+    ensures { result ≡ looks_by slash byte }
+{
+    match byte? {
+        b'{' => Some(Form::Json),
+        b'0'..=b'9' | b's' | b',' if slash => Some(Form::Ascii),
+        b'0'..=b'9' | b's' | b',' => Some(Form::Uniq),
+        _ => None,
+    }
+}
+
+/// The line that says which form a text looks like.
+pub fn hint_line(form: Form) -> &'static str
+    ensures { result.now ≡ hint_text form }
+{
+    match form {
+        Form::Ascii => "this looks like ASCII\n",
+        Form::Json => "this looks like JSON\n",
+        Form::Uniq => "this looks like a NUNIQ list\n",
+    }
+}

@@ -1,0 +1,224 @@
+//! What stands in a text at its fault.
+ghost use Rattle.std.specs.Prelude.{◌≡◌, ◌++◌, ◌<◌, ◌≤◌, length, option_map, take, IfOk, OnOk};
+ghost use Rattle.std.specs.String.{string_bytes};
+ghost use Rattle.moc_text.specs.Ascii.{is_separator as is_separator_byte};
+ghost use Rattle.moc_forms.specs.Places.{fault_byte, fault_line};
+ghost use Rattle.moc_forms.specs.Places.{line_bytes};
+ghost use Rattle.moc_forms.specs.Quotes.{IsJsonPiece, IsQuote, behind_separator, byte_quoted, bytes_quoted, hex_digit};
+ghost use Rattle.moc_forms.specs.Quotes.{is_plain as is_plain_byte, line_behind, line_numbered, quoted, up_to_feed};
+ghost use Rattle.moc_forms.specs.Quotes.{up_to_separator, word_round};
+
+use crate::form::FormError;
+use moc_ranges::Memory;
+use moc_text::{JsonError, TextError, UniqError, json_item, json_name};
+use std::alloc::{AllocError, Global};
+
+/// How many bytes are quoted at most.
+const QUOTED: usize = 40;
+
+/// The quote of what stands at a fault, which tells of this text: the word of an ASCII text, the line of a NUNIQ list, the
+/// name of a JSON object or the item of its array, whose text is `serde_json`'s. At most 40 bytes stand between
+/// backquotes, each that is no printable ASCII by its hexadecimal digits, and `..` behind them where there are more. `None`
+/// where no place is known.
+///
+/// Linear in the text, of which a JSON one is parsed once more; refused where memory runs out.
+pub fn quote(alloc: Global, text: &[u8], error: FormError) -> Result<Option<String>, Memory>
+    ensures { IfOk result (λ quote. IsQuote text.now error (line_bytes quote)) }
+{
+    match error {
+        FormError::Ascii(fault) => Ok(quote_of(alloc, word_at(text, fault))?),
+        FormError::Uniq(fault) => Ok(quote_of(alloc, line_at(text, fault))?),
+        FormError::Json(fault) => match json_piece(alloc, text, fault) {
+            Ok(Some(piece)) => Ok(quote_of(alloc, Some(piece.as_bytes()))?),
+            Ok(None) => Ok(None),
+            Err(_) => Err(Memory),
+        },
+        FormError::Memory => Ok(None),
+    }
+}
+
+/// The quote of bytes, if there are any to quote.
+fn quote_of(alloc: Global, piece: Option<&[u8]>) -> Result<Option<String>, AllocError>
+    ensures { IfOk result (λ quote. line_bytes quote ≡ option_map quoted (option_map (λ p. p.now) piece.entry)) }
+{
+    let Some(piece) = piece else {
+        return Ok(None);
+    };
+    let mut text = String::new(alloc);
+    push_quoted(&mut text, piece)?;
+    Ok(Some(text))
+}
+
+/// Adds a quote.
+fn push_quoted(text: &mut String, piece: &[u8]) -> Result<(), AllocError>
+    ensures { OnOk result (string_bytes text.new ≡ string_bytes text.old ++ quoted piece.now) }
+{
+    text.push('`')?;
+    push_bytes(text, front(piece))?;
+    text.push('`')?;
+    if piece.len() > QUOTED {
+        text.push_str("..")?;
+    }
+    Ok(())
+}
+
+/// The first bytes, as many as are quoted.
+fn front(piece: &[u8]) -> &[u8]
+    ensures { result.now ≡ take 40 piece.now }
+{
+    &piece[..piece.len().min(QUOTED)]
+}
+
+/// Adds bytes as they are quoted.
+#[tactic(auto, unfolding(crate::specs::Quotes::bytes_quoted))]
+fn push_bytes(text: &mut String, bytes: &[u8]) -> Result<(), AllocError>
+    ensures { OnOk result (string_bytes text.new ≡ string_bytes text.old ++ bytes_quoted bytes.now) }
+{
+    for byte in bytes {
+        push_byte(text, *byte)?;
+    }
+    Ok(())
+}
+
+/// Adds a byte as it is quoted.
+fn push_byte(text: &mut String, byte: u8) -> Result<(), AllocError>
+    ensures { OnOk result (string_bytes text.new ≡ string_bytes text.old ++ byte_quoted byte) }
+{
+    if is_plain(byte) {
+        return text.push(char::from(byte));
+    }
+    text.push_str("\\x")?;
+    text.push(char::from(hex(byte / 16)))?;
+    text.push(char::from(hex(byte % 16)))
+}
+
+/// Whether a byte is quoted as it is.
+fn is_plain(byte: u8) -> bool
+    ensures { result ≡ is_plain_byte byte }
+{
+    (b' '..=b'~').contains(&byte) && byte != b'\\' && byte != b'`'
+}
+
+/// The hexadecimal digit of a number.
+fn hex(number: u8) -> u8
+    requires { number < 16 }
+    ensures value { result ≡ hex_digit number }
+    ensures ascii { result < 128 }
+{
+    if number < 10 {
+        b'0' + number
+    } else {
+        b'a' - 10 + number
+    }
+}
+
+/// The word at the fault of an ASCII text.
+fn word_at(text: &[u8], fault: TextError) -> Option<&[u8]>
+    ensures { option_map (λ w. w.now) result ≡ option_map (word_round text.now) (fault_byte fault) }
+{
+    match fault.place() {
+        Some(at) => Some(word_round_place(text, at)),
+        None => None,
+    }
+}
+
+/// The word round a place.
+fn word_round_place(text: &[u8], at: usize) -> &[u8]
+    ensures { result.now ≡ word_round text.now at }
+{
+    let before = &text[..at.min(text.len())];
+    front_word(&text[before.len() - last_word(before)..])
+}
+
+/// How many bytes stand behind the last separator.
+fn last_word(bytes: &[u8]) -> usize
+    ensures count { result ≡ behind_separator 0 bytes.now }
+    ensures within { result ≤ length bytes.now }
+{
+    let mut count = 0;
+    for byte in bytes {
+        if is_separator(*byte) {
+            count = 0;
+        } else {
+            count += 1;
+        }
+    }
+    count
+}
+
+/// The bytes before the first separator.
+fn front_word(bytes: &[u8]) -> &[u8]
+    ensures { result.now ≡ up_to_separator bytes.now }
+{
+    let mut len = 0;
+    for byte in bytes {
+        if is_separator(*byte) {
+            return &bytes[..len];
+        }
+        len += 1;
+    }
+    bytes
+}
+
+/// Whether a byte parts words: a space, a comma, a tab, CR or LF.
+fn is_separator(byte: u8) -> bool
+    ensures { result ≡ is_separator_byte byte }
+{
+    matches!(byte, b' ' | b',' | b'\t' | b'\r' | b'\n')
+}
+
+/// The line at the fault of a NUNIQ list.
+fn line_at(text: &[u8], fault: UniqError) -> Option<&[u8]>
+    ensures { option_map (λ l. l.now) result ≡ option_map (line_numbered text.now) (fault_line fault) }
+{
+    match fault.line() {
+        Some(line) => Some(front_line(behind_feeds(text, line.saturating_sub(1)))),
+        None => None,
+    }
+}
+
+/// The bytes behind so many line feeds.
+fn behind_feeds(text: &[u8], feeds: usize) -> &[u8]
+    ensures { up_to_feed result.now ≡ line_behind feeds text.now }
+{
+    let mut left = feeds;
+    let mut rest = text;
+    while left > 0
+        && let [byte, behind @ ..] = rest
+    {
+        if *byte == b'\n' {
+            left -= 1;
+        }
+        rest = behind;
+    }
+    rest
+}
+
+/// The bytes before the first line feed.
+fn front_line(bytes: &[u8]) -> &[u8]
+    ensures { result.now ≡ up_to_feed bytes.now }
+{
+    let mut len = 0;
+    for byte in bytes {
+        if *byte == b'\n' {
+            return &bytes[..len];
+        }
+        len += 1;
+    }
+    bytes
+}
+
+/// The name or the item at the fault of a JSON text.
+fn json_piece(alloc: Global, text: &[u8], fault: JsonError) -> Result<Option<String>, JsonError>
+    ensures { IfOk result (λ piece. IsJsonPiece text.now fault (option_map string_bytes piece)) }
+{
+    match fault {
+        JsonError::BadOrder { name } | JsonError::NotArray { name } => json_name(alloc, text, name),
+        JsonError::NotWhole { name, place } | JsonError::CellTooLarge { name, place } => {
+            json_item(alloc, text, name, place)
+        }
+        JsonError::NotJson | JsonError::NotObject | JsonError::Memory | JsonError::TooCoarse => {
+            Ok(None)
+        }
+    }
+}
