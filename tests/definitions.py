@@ -1,5 +1,5 @@
 #!/usr/bin/env python3
-"""Compares the words that docs/DEFINITIONS.md names with those that stand in `crates/*/specs`.
+"""Compares the words that docs/DEFINITIONS.md names with those that stand in `crates/moc_*/specs`.
 
 usage: tests/definitions.py [--index]
 
@@ -37,7 +37,7 @@ def given_on(path):
 
 def files():
     """Each file of definitions, as crate/file, with its path."""
-    for path in sorted(glob.glob(os.path.join(TOP, "crates", "*", "specs", "**", "*.antt"), recursive=True)):
+    for path in sorted(glob.glob(os.path.join(TOP, "crates", "moc_*", "specs", "**", "*.antt"), recursive=True)):
         crate, _, file = os.path.relpath(path, os.path.join(TOP, "crates"))[:-len(".antt")].partition("/specs/")
         if file != "Lib":
             yield f"{crate}/{file}", path

@@ -13,7 +13,7 @@ use Rattle.moc_text.specs.declared.ascii.number.Parts.{Parts}
 use Rattle.moc_text.specs.declared.ascii.error.TextError.{TextError}
 use Rattle.moc_text.specs.Ascii.{words, order_at, item_pixels, pixels_said, deepest_of}
 use Rattle.moc_text.specs.Private.Scan.{◌>>=◌}
-use Rattle.moc_text.specs.Reading.{numbers_of, reading_of}
+use Rattle.moc_text.specs.Private.Scanned.{numbers_of, reading_of}
 
 pub empty_within : IsWithin set.empty pixels
 empty_within = record { each = λ q here. absurd (let none = set.contains-empty nat_cmp q in cc (here, none)) }
