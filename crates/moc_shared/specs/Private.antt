@@ -4,3 +4,4 @@ pub mod Plays
 pub mod Opening
 pub mod Slots
 pub mod Starts
+pub mod Held

@@ -1,25 +1,14 @@
 //! One map of twelve parts that many clients change and query at the same time.
 #![tactic(auto)]
 
-mod calls;
 mod client;
 mod errors;
-mod groups;
-mod last;
+mod held;
 mod laws;
-mod layout;
-mod lists;
-mod locks;
-mod making;
 mod map;
-mod meeting;
-mod operations;
 mod record;
-mod rounds;
-mod slots;
 mod snapshot;
-mod steps;
-mod waiting;
+mod table;
 
 pub use client::{Client, Holding};
 pub use errors::{Busy, CloseError, LookError, NewError, SnapshotError, TryError};

@@ -2,7 +2,12 @@
 ghost use Rattle.std.specs.Prelude.{◌≡◌, ◌≤◌};
 ghost use Rattle.moc_shared.specs.Private.Rule.{index};
 
-use crate::locks::{About, Locks, Pointer, Sight};
+pub mod batches;
+pub mod closed;
+pub mod making;
+pub mod meeting;
+
+use crate::table::locks::{About, Locks, Pointer, Sight};
 use atomic_table::Table;
 use std::alloc::Global;
 

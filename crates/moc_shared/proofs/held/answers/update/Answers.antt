@@ -1,0 +1,16 @@
+use Rattle.std.proofs.Common.{sym, subst, List, []}
+use Rattle.moc_parts.specs.declared.reply.Reply.{Reply}
+use Rattle.moc_shared.specs.Private.Slots.{EndsBatch}
+use Rattle.moc_shared.proofs.Replying.{local_batch, some_found}
+use Rattle.moc_shared.proofs.held.answers.update.Goals as goal
+
+pub end_all-requires-clause-some : goal.end_all-requires-clause-some
+end_all-requires-clause-some c =
+    let local =
+    local_batch c.args.batch.now c.batches_are_local.ensures c.commands.ensures.some c.commands.ensures.proper in
+    some_found c.args.batch.now c.args.found.now c.requires.held.footprint local
+
+pub returns-in-Ok-clause-ok : goal.returns-in-Ok-clause-ok
+returns-in-Ok-clause-ok c =
+    subst (λ (r : List Reply). EndsBatch c.args.batch.now r [] c.args.seat.now.me.0 c.end_all.new.seat.me.0)
+    (sym c.in-Ok.ensures.replies) c.end_all.ensures.ended.1

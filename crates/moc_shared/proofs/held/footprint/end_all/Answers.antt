@@ -1,0 +1,45 @@
+use Rattle.std.proofs.Common.{◌<◌, length, List, sym, ap, ◌∙◌, subst, Option, None, arith}
+use Rattle.moc_shared.specs.Private.Rule.{parts_of, Answers}
+use Rattle.moc_shared.specs.Batches.{answer}
+use Rattle.moc_shared.specs.Private.Slots.{Pointer, PartNote, part, IsProper, at_place, replies_to}
+use Rattle.moc_shared.proofs.Places.{top_note, none_from, apart_top, place_set_same}
+use Rattle.moc_shared.proofs.Replying.{never_none}
+use Rattle.moc_shared.proofs.held.footprint.end_all.Goals as goal
+
+pub unreachable-requires : goal.unreachable-requires
+unreachable-requires c = let s = c.requires.some in
+    never_none c.args.found.now c.args.edited.now s.0 s.1 s.2 c.requires.edited.same_parts
+    (λ k. c.in_default.ensures.none k)
+
+pub end_call-requires-clause-held : goal.end_call-requires-clause-held
+end_call-requires-clause-held c =
+    let h = c.in-Some.ensures.some in
+    let wide : c.in-Some.b < length c.args.edited.now = omega (arith, h.0, c.highest.ensures.long) in
+    let top =
+    top_note c.args.edited.now c.take_at.new.slots c.in-Some.b c.in-Some-take_at.pointer h.0 wide h.2
+    (sym c.take_at.ensures.0 ∙ c.in-Some-take_at.is) c.take_at.ensures.1 in (
+      ap (λ (l : List PartNote). parts_of l) c.requires.held ∙ sym c.requires.edited.same_parts
+          ∙ ap (λ (l : List PartNote). parts_of l) top,
+      apart_top c.take_at.new.slots 12 c.in-Some.b
+          (ap (λ (l : List (Option Pointer)). at_place l c.in-Some.b) c.take_at.ensures.1
+          ∙ place_set_same c.args.edited.now c.in-Some.b None wide),
+    )
+
+pub end_call-requires-clause-answered : goal.end_call-requires-clause-answered
+end_call-requires-clause-answered c =
+    let h = c.in-Some.ensures.some in
+    let wide : c.in-Some.b < length c.args.edited.now = omega (arith, h.0, c.highest.ensures.long) in
+    let top =
+    top_note c.args.edited.now c.take_at.new.slots c.in-Some.b c.in-Some-take_at.pointer h.0 wide h.2
+    (sym c.take_at.ensures.0 ∙ c.in-Some-take_at.is) c.take_at.ensures.1 in
+    subst (λ (z : List PartNote × List PartNote). Answers part answer IsProper c.args.batch.now
+    (replies_to c.args.found.now c.args.batch.now) z.0 z.1) (λ i. (sym c.requires.held i, top i))
+    c.requires.edited.answers
+
+pub give_below-requires-clause-end : goal.give_below-requires-clause-end
+give_below-requires-clause-end c =
+    let h = c.in-Some.ensures.some in
+    let wide : c.in-Some.b < length c.args.edited.now = omega (arith, h.0, c.highest.ensures.long) in (
+      omega (arith, h.0),
+      none_from c.args.edited.now c.take_at.new.slots c.in-Some.b wide h.2 c.take_at.ensures.1,
+    )

@@ -1,0 +1,10 @@
+use Rattle.moc_shared.specs.History.{entry}
+use Rattle.moc_shared.specs.Private.Slots.{notes_below, replies_to}
+use Rattle.moc_shared.proofs.held.footprint.end_all.Given as goal
+
+abbrev pub ghosts-end_call : goal.ghosts-end_call
+ghosts-end_call a =
+    record {
+      call = entry a.seat.now.me.0.mine.number a.batch.now (replies_to a.found.now a.batch.now);
+      notes = notes_below a.rest.now 12;
+    }

@@ -1,0 +1,19 @@
+use Rattle.std.proofs.Common.{sym, subst, List}
+use Rattle.moc_ranges.specs.Numbers.{NumberSet}
+use Rattle.moc_parts.specs.Parts.{LieInParts, union_of}
+use Rattle.moc_parts.specs.Prepared.{AreRepliesTo}
+use Rattle.moc_shared.proofs.Unions.{lie_in_parts}
+use Rattle.moc_shared.proofs.Owned.{sets_alike}
+use Rattle.moc_shared.proofs.Replying.{replies_same}
+use Rattle.moc_shared.proofs.held.lists.answer.Goals as goal
+
+pub reply_of-requires-clause-parts : goal.reply_of-requires-clause-parts
+reply_of-requires-clause-parts c =
+    subst (λ (l : List NumberSet). LieInParts l) (sym (sets_alike c.lists.result c.args.found.now c.lists.ensures))
+    (lie_in_parts c.args.found.now c.type_inv.found c.requires.own)
+
+pub returns : goal.returns
+returns c =
+    replies_same c.args.batch.now c.args.found.now c.in_ok-replies.replies c.type_inv.found c.requires.own
+    (subst (λ (l : List NumberSet). AreRepliesTo c.args.batch.now (union_of l) c.in_ok-replies.replies)
+    (sets_alike c.lists.result c.args.found.now c.lists.ensures) c.in_ok-replies.ensures)

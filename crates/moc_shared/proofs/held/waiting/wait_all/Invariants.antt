@@ -1,0 +1,18 @@
+use Rattle.std.proofs.Common.{◌≡◌, ◌<◌, ◌≤◌, ℕ, List, length, is_some, None}
+use Rattle.moc_shared.specs.Private.Plays.{IsCarried, with_parts, with_misses}
+use Rattle.moc_parts.specs.Batches.{footprint_of_all}
+use Rattle.moc_shared.specs.Private.Slots.{notes_below, at_place, touched_by, AreOwn, AreWaits}
+use Rattle.moc_shared.proofs.held.waiting.wait_all.Given as goal
+
+abbrev pub invariant-loop-b : goal.invariant-loop-b
+invariant-loop-b g l = record {
+  same : (l.seat.table_id ≡ l.initial.seat.table_id) × (l.seat.id ≡ l.initial.seat.id);
+  carried : IsCarried l.seat.me;
+  view : (waits : List (ℕ × ℕ))
+      × (l.seat.me.0 ≡ with_parts (with_misses l.initial.seat.me.0 waits) (notes_below l.found l.b))
+      × AreWaits (touched_by l.batch) l.initial.seat.me.0 waits;
+  long : length l.found ≡ 12;
+  so_far : (k : ℕ) → k < l.b → is_some (at_place l.found k) ≡ footprint_of_all l.batch k;
+  beyond : (k : ℕ) → l.b ≤ k → at_place l.found k ≡ None;
+  own : AreOwn l.found;
+}

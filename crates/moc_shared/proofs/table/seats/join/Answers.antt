@@ -1,0 +1,15 @@
+use Rattle.std.proofs.Common.{rules, refl}
+use Rattle.moc_shared.specs.Batches.{answer}
+use Rattle.moc_shared.specs.Private.Slots.{content, part, IsProper}
+use Rattle.moc_shared.proofs.Regroups.{joins}
+use Rattle.moc_shared.proofs.table.seats.join.Goals as goal
+
+pub join_seat-requires : goal.join_seat-requires
+join_seat-requires c = (
+  search rules,
+  search rules,
+  search rules,
+  search rules,
+  joins 12 content part answer IsProper _ _ _ _ _ _ _
+      c.requires.client refl refl refl c.requires.idle.0,
+)

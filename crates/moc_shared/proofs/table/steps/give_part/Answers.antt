@@ -1,0 +1,37 @@
+use Rattle.std.proofs.Common.{rules, List, ◌∷◌, map, Option, Some, ap, ◌∙◌, subst, sym, arith}
+use Rattle.atomic_table.specs.Table.{rest, Me}
+use Rattle.moc_shared.specs.Private.Rule.{index, parts_of}
+use Rattle.moc_shared.specs.Private.Plays.{with_holds, behind_first, IsCarried}
+use Rattle.moc_shared.specs.Batches.{answer}
+use Rattle.moc_shared.specs.Private.Slots.{content, part, IsProper, Pointer, PartNote, Sight}
+use Rattle.moc_shared.proofs.Moves.{gives_part_as}
+use Rattle.moc_shared.proofs.Carried.{first_carried, rest_carried}
+use Rattle.moc_shared.proofs.table.steps.give_part.Goals as goal
+
+pub exchange-requires : goal.exchange-requires
+exchange-requires c = let h = c.requires.held in (
+  c.requires.place.0,
+  first_carried c.args.seat.now.me.1 c.index-index.result (map index (parts_of h.0))
+      (c.requires.carried ∙ ap (λ (l : List PartNote). map index (parts_of l)) h.1
+      ∙ (λ i. sym c.index-index.ensures i ∷ map index (parts_of h.0))),
+)
+
+pub store-requires : goal.store-requires
+store-requires c = let h = c.requires.held in let x = c.exchange.ensures in (
+  search rules,
+  (let i = c.index-index.ensures in let w = c.requires.place.1 in omega arith),
+  gives_part_as 12 content part answer IsProper _ _ _ _ _ c.args.seat.now.me.0 _ _ (Some c.args.new) _ h.0
+      c.index-index.ensures x.3
+      c.requires.client h.1 h.2,
+)
+
+pub returns-clause-gave : goal.returns-clause-gave
+returns-clause-gave c = (λ i. (c.store.ensures.2 i).0)
+    ∙ (λ i. let m = c.exchange.ensures.3 i in with_holds m.0 (behind_first m.0.holds))
+
+pub returns-clause-carried : goal.returns-clause-carried
+returns-clause-carried c =
+    subst (λ (m : Me (Option Pointer) Sight). IsCarried m)
+    (sym (c.store.ensures.2
+    ∙ (λ i. let m = c.exchange.ensures.3 i in (with_holds m.0 (behind_first m.0.holds), rest m.1))))
+    (rest_carried c.args.seat.now.me.1 c.args.seat.now.me.0.holds c.requires.carried)

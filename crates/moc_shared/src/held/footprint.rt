@@ -1,0 +1,110 @@
+//! All parts of a footprint: taken in rising order, and given back in falling order.
+ghost use Rattle.std.specs.Prelude.{◌≡◌, ℕ, suc, ◌<◌, ◌≤◌, [], None, IfOk, IfErr, is_some, true};
+ghost use Rattle.moc_shared.specs.Private.Rule.{index, IsOne};
+ghost use Rattle.moc_shared.specs.Private.Plays.{IsCarried, with_parts, with_holds};
+ghost use Rattle.moc_shared.specs.Private.Slots.{notes_below, at_place, replies_to, AreOwn, Edits, EndsBatch};
+ghost use Rattle.moc_shared.specs.Private.Slots.{IsFootprint, IsRefused};
+
+use crate::errors::Busy;
+use crate::table::locks::{Token, Words};
+use crate::table::slots::{Slots, end_of, highest, no_slots, put_at, take_at};
+use crate::table::steps::{end_call, give_part, take_slot};
+use moc_parts::{Batch, Part};
+use std::alloc::Global;
+use std::marker::Brand;
+
+/// Gives back all parts that are held, with these pointers, of which none is at `end` or behind it.
+fn give_below(table: &Words, seat: &mut Token, end: usize, slots: &mut Slots)
+    requires place { (seat.old.table_id ≡ table.now.table_id) × (table.now.table_id.words ≡ index 12) }
+    requires client { IsOne seat.old.me.0 }
+    requires carried { IsCarried seat.old.me }
+    requires held { seat.old.me.0.holds ≡ notes_below slots.old 12 }
+    requires end { (end ≤ 12) × ((k : ℕ) → end ≤ k → at_place slots.old k ≡ None) }
+    ensures same { (seat.new.table_id ≡ seat.old.table_id) × (seat.new.id ≡ seat.old.id) }
+    ensures gave { seat.new.me ≡ (with_holds seat.old.me.0 [], []) }
+{
+    let mut b = end;
+    while b > 0 {
+        b -= 1;
+        if let Some(pointer) = take_at(slots, b) {
+            give_part(table, seat, b, pointer);
+        }
+    }
+}
+
+/// Gives back all parts that are held, with these pointers.
+pub(crate) fn give_all(table: &Words, seat: &mut Token, slots: &mut Slots)
+    requires place { (seat.old.table_id ≡ table.now.table_id) × (table.now.table_id.words ≡ index 12) }
+    requires client { IsOne seat.old.me.0 }
+    requires carried { IsCarried seat.old.me }
+    requires held { seat.old.me.0.holds ≡ notes_below slots.old 12 }
+    ensures same { (seat.new.table_id ≡ seat.old.table_id) × (seat.new.id ≡ seat.old.id) }
+    ensures gave { seat.new.me ≡ (with_holds seat.old.me.0 [], []) }
+{
+    give_below(table, seat, end_of(slots), slots);
+}
+
+/// Takes the footprint of a batch in rising order. On the first refusal all is given back.
+pub(crate) fn take_all(
+    table: &Words,
+    alloc: Global,
+    seat: &mut Token,
+    mark: u64,
+    batch: &Batch,
+) -> Result<Slots, Busy>
+    requires place { (seat.old.table_id ≡ table.now.table_id) × (table.now.table_id.words ≡ index 12) }
+    requires client { IsOne seat.old.me.0 × (mark ≡ suc seat.old.me.0.mine.number) }
+    requires few { seat.old.me.0.clients ≤ 64 }
+    requires idle { (seat.old.me.0.holds ≡ []) × (seat.old.me.1 ≡ []) }
+    ensures same { (seat.new.table_id ≡ seat.old.table_id) × (seat.new.id ≡ seat.old.id) }
+    ensures ok { IfOk result
+        (λ found. (seat.new.me.0 ≡ with_parts seat.old.me.0 (notes_below found 12)) × IsCarried seat.new.me
+        × IsFootprint batch.now found × AreOwn found) }
+    ensures err { IfErr result
+        (λ busy. (seat.new.me.1 ≡ []) × IsRefused batch.now busy.part busy.holder seat.old.me.0 seat.new.me.0) }
+{
+    let footprint = batch.footprint(alloc);
+    let mut found = no_slots();
+    for b in 0..12usize {
+        let part = Part::of(b as u8);
+        if footprint.contains(part) {
+            match take_slot(table, seat, b, mark) {
+                Ok(pointer) => put_at(&mut found, b, pointer),
+                Err(holder) => {
+                    give_all(table, seat, &mut found);
+                    return Err(Busy { part, holder });
+                }
+            }
+        }
+    }
+    Ok(found)
+}
+
+/// The batch goes through: all parts are given back, with what it makes of them, and its replies are those to what was
+/// found.
+pub(crate) fn end_all(
+    table: &Words,
+    seat: &mut Token,
+    batch: &Batch,
+    found: &Slots,
+    edited: &mut Slots,
+)
+    requires place { (seat.old.table_id ≡ table.now.table_id) × (table.now.table_id.words ≡ index 12) }
+    requires client { IsOne seat.old.me.0 }
+    requires carried { IsCarried seat.old.me }
+    requires held { seat.old.me.0.holds ≡ notes_below found.now 12 }
+    requires some { (b : ℕ) × (b < 12) × (is_some (at_place found.now b) ≡ true) }
+    requires edited { Edits batch.now found.now edited.old }
+    ensures same { (seat.new.table_id ≡ seat.old.table_id) × (seat.new.id ≡ seat.old.id) }
+    ensures ended { (seat.new.me.1 ≡ [])
+        × EndsBatch batch.now (replies_to found.now batch.now) [] seat.old.me.0 seat.new.me.0 }
+{
+    let Some(b) = highest(edited) else {
+        unreachable!()
+    };
+    let Some(pointer) = take_at(edited, b) else {
+        unreachable!()
+    };
+    end_call::<Brand>(table, seat, b, pointer, batch, found, edited);
+    give_below(table, seat, b, edited);
+}

@@ -1,0 +1,70 @@
+//! Taking parts that others hold, by waiting for them.
+ghost use Rattle.std.specs.Prelude.{◌≡◌, ℕ, suc, ◌<◌, ◌≤◌, List, [], Contains, Option, Some, None};
+ghost use Rattle.moc_ranges.specs.Numbers.{NumberSet};
+ghost use Rattle.moc_shared.specs.Private.Rule.{index, note, IsOne};
+ghost use Rattle.moc_shared.specs.Private.Plays.{IsCarried, with_part, with_parts, with_misses};
+ghost use Rattle.moc_shared.specs.Private.Slots.{at_place, shared, touched_by, notes_below, just, AreOwn, AreWaits};
+ghost use Rattle.moc_shared.specs.Private.Slots.{IsFootprint, IsOwn};
+
+use crate::table::locks::{Pointer, Token, Words};
+use crate::table::slots::{Slots, put_at};
+use crate::table::steps::take_slot;
+use moc_parts::{Batch, Part};
+use std::alloc::Global;
+use std::sync::Wait;
+use std::thread;
+
+/// Takes the part, once it is free.
+fn wait_slot<R: Wait>(rt: &R, table: &Words, seat: &mut Token, b: usize, mark: u64) -> Pointer
+    requires place { (seat.old.table_id ≡ table.now.table_id) × (table.now.table_id.words ≡ index 12) × (b < 12) }
+    requires client { IsOne seat.old.me.0 × (mark ≡ suc seat.old.me.0.mine.number) }
+    requires few { seat.old.me.0.clients ≤ 64 }
+    requires carried { IsCarried seat.old.me }
+    requires other { (y : Option NumberSet) → ¬ Contains seat.old.me.0.holds (note b y) }
+    ensures same { (seat.new.table_id ≡ seat.old.table_id) × (seat.new.id ≡ seat.old.id) }
+    ensures carried { IsCarried seat.new.me }
+    ensures own { IsOwn b (Some result) }
+    ensures took { (waits : List (ℕ × ℕ))
+        × (seat.new.me.0 ≡ with_part (with_misses seat.old.me.0 waits) b (shared result))
+        × AreWaits (just b) seat.old.me.0 waits }
+{
+    for _ in rt.forever() {
+        match take_slot(table, seat, b, mark) {
+            Ok(pointer) => return pointer,
+            Err(_) => thread::yield_now(),
+        }
+    }
+    unreachable!()
+}
+
+/// Takes the footprint of a batch in rising order, waiting at each part that is held, and puts what it found there into
+/// empty slots.
+pub(crate) fn wait_all<R: Wait>(
+    rt: &R,
+    table: &Words,
+    alloc: Global,
+    seat: &mut Token,
+    mark: u64,
+    batch: &Batch,
+    found: &mut Slots,
+)
+    requires place { (seat.old.table_id ≡ table.now.table_id) × (table.now.table_id.words ≡ index 12) }
+    requires client { IsOne seat.old.me.0 × (mark ≡ suc seat.old.me.0.mine.number) }
+    requires few { seat.old.me.0.clients ≤ 64 }
+    requires idle { (seat.old.me.0.holds ≡ []) × (seat.old.me.1 ≡ []) }
+    requires blank { (b : ℕ) → at_place found.old b ≡ None }
+    requires own { AreOwn found.old }
+    ensures same { (seat.new.table_id ≡ seat.old.table_id) × (seat.new.id ≡ seat.old.id) }
+    ensures carried { IsCarried seat.new.me }
+    ensures found { IsFootprint batch.now found.new × AreOwn found.new }
+    ensures took { (waits : List (ℕ × ℕ))
+        × (seat.new.me.0 ≡ with_parts (with_misses seat.old.me.0 waits) (notes_below found.new 12))
+        × AreWaits (touched_by batch.now) seat.old.me.0 waits }
+{
+    let footprint = batch.footprint(alloc);
+    for b in 0..12usize {
+        if footprint.contains(Part::of(b as u8)) {
+            put_at(found, b, wait_slot(rt, table, seat, b, mark));
+        }
+    }
+}

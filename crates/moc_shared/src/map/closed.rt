@@ -1,0 +1,57 @@
+//! What is in a table that no thread shares any more.
+ghost use Rattle.std.specs.Prelude.{◌≡◌, ◌≢◌, ℕ, ◌<◌, false, slice_index, slice_index_or, length, IfOk, IfSome, IfNone};
+ghost use Rattle.std.specs.Slots.{slots_items, slots_filled, slots_len, IsFull};
+ghost use mathlib.Core.Option.{some};
+ghost use lib.ListN.{get_elem?};
+ghost use Rattle.moc_parts.specs.Parts.{union_of};
+ghost use Rattle.moc_shared.specs.Private.Rule.{index};
+ghost use Rattle.moc_shared.specs.Private.Slots.{at_place, lists_of};
+
+use crate::table::layout::{PLACES, index, part_at};
+use crate::table::locks::Pointer;
+use crate::table::slots::{Slots, lists, no_slots, set_at};
+use atomic_table::Closed;
+use moc_parts::{Part, unite};
+use moc_ranges::{Coverage, Memory};
+use std::alloc::Global;
+
+/// The first part that is held.
+pub(crate) fn first_held(closed: &Closed<Option<Pointer>, Global>) -> Option<Part>
+    requires { (slots_len closed.now.words ≡ index 12) × IsFull closed.now.words }
+    ensures some { IfSome result (λ b. (b < 12) × (slice_index (slots_items closed.now.words) (index b) ≢ 0)) }
+    ensures none { IfNone result ((b : ℕ) → b < 12 → slice_index (slots_items closed.now.words) (index b) ≡ 0) }
+{
+    for b in 0..12usize {
+        if closed.word(index(b)) != 0 {
+            return Some(Part::of(b as u8));
+        }
+    }
+    None
+}
+
+/// What is in the slots of all parts. Nothing is left in any slot.
+pub(crate) fn read_all(closed: &mut Closed<Option<Pointer>, Global>) -> Slots
+    requires { (slots_len closed.old.slots ≡ index 12) × IsFull closed.old.slots }
+    ensures items { (b : ℕ) → b < 12 → get_elem? (slots_items closed.old.slots) (index b) ≡ some (at_place result b) }
+    ensures long { length result ≡ 12 }
+    ensures empty { (slots_len closed.new.slots ≡ index 12)
+        × ((k : ℕ) → k < index 12 → slice_index_or (slots_filled closed.new.slots) k false ≡ false) }
+{
+    let mut slots = no_slots();
+    for k in 0..PLACES {
+        let slot = closed.take(k);
+        match part_at(k) {
+            Some(b) => set_at(&mut slots, b, slot),
+            None => drop(slot),
+        }
+    }
+    slots
+}
+
+/// The union of the slots' lists. Refused where memory runs out.
+pub(crate) fn union_all(alloc: Global, slots: &Slots) -> Result<Coverage, Memory>
+    ensures { IfOk result (λ c. c ≡ union_of (lists_of slots.now)) }
+{
+    let set = unite(alloc, &lists(slots))?;
+    Ok(set)
+}

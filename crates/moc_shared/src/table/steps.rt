@@ -1,0 +1,100 @@
+//! The steps on a part's word, each over plain data.
+ghost use Rattle.std.specs.Prelude.{◌≡◌, suc, ◌<◌, ◌≤◌, List, ◌∷◌, Contains, IfOk, IfErr, Option, Some};
+ghost use Rattle.moc_ranges.specs.Numbers.{NumberSet};
+ghost use Rattle.moc_shared.specs.History.{entry, StandsFor};
+ghost use Rattle.moc_shared.specs.Private.Rule.{index, note, parts_of, Answers, IsOne};
+ghost use Rattle.moc_shared.specs.Private.Plays.{TookPart, IsCarried, with_part, with_miss, with_holds, behind_first};
+ghost use Rattle.moc_shared.specs.Batches.{answer};
+ghost use Rattle.moc_shared.specs.Private.Slots.{content, shared, part, IsProper, IsOwn, PartNote, EndsBatch};
+ghost use Rattle.moc_shared.specs.Private.Slots.{notes_below, replies_to};
+
+use crate::table::layout::index;
+use crate::table::locks::{Closing, End, Give, Pointer, Take, Token, Words};
+use crate::table::slots::Slots;
+use moc_parts::Batch;
+
+/// Sets the client's mark on a part that is free, and holds it; or finds the holder's mark.
+fn take_part(table: &Words, seat: &mut Token, b: usize, mark: u64) -> u64
+    requires place { (seat.old.table_id ≡ table.now.table_id) × (table.now.table_id.words ≡ index 12) × (b < 12) }
+    requires client { IsOne seat.old.me.0 × (mark ≡ suc seat.old.me.0.mine.number) }
+    requires other { (y : Option NumberSet) → ¬ Contains seat.old.me.0.holds (note b y) }
+    ensures same { (seat.new.table_id ≡ seat.old.table_id) × (seat.new.id ≡ seat.old.id) }
+    ensures took { TookPart content part b seat.old.me result seat.new.me }
+{
+    table.compare_exchange::<Take>(seat, index(b), 0, mark)
+}
+
+/// Takes the part with what is in it, or tells whose mark it found.
+pub(crate) fn take_slot(table: &Words, seat: &mut Token, b: usize, mark: u64) -> Result<Pointer, u8>
+    requires place { (seat.old.table_id ≡ table.now.table_id) × (table.now.table_id.words ≡ index 12) × (b < 12) }
+    requires client { IsOne seat.old.me.0 × (mark ≡ suc seat.old.me.0.mine.number) }
+    requires few { seat.old.me.0.clients ≤ 64 }
+    requires carried { IsCarried seat.old.me }
+    requires other { (y : Option NumberSet) → ¬ Contains seat.old.me.0.holds (note b y) }
+    ensures same { (seat.new.table_id ≡ seat.old.table_id) × (seat.new.id ≡ seat.old.id) }
+    ensures carried { IsCarried seat.new.me }
+    ensures ok { IfOk result (λ p. (seat.new.me.0 ≡ with_part seat.old.me.0 b (shared p)) × IsOwn b (Some p)) }
+    ensures err { IfErr result
+        (λ h. (seat.new.me.0 ≡ with_miss seat.old.me.0 h b) × (h < seat.old.me.0.clients)
+        × ¬ StandsFor seat.old.me.0.mine h) }
+{
+    let found = take_part(table, seat, b, mark);
+    if found == 0 {
+        let Some(pointer) = table.exchange(seat, index(b), None) else {
+            unreachable!()
+        };
+        Ok(pointer)
+    } else {
+        Err((found - 1) as u8)
+    }
+}
+
+/// Puts the pointer into the part that was taken last, and gives it back.
+pub(crate) fn give_part(table: &Words, seat: &mut Token, b: usize, new: Pointer)
+    requires place { (seat.old.table_id ≡ table.now.table_id) × (table.now.table_id.words ≡ index 12) × (b < 12) }
+    requires client { IsOne seat.old.me.0 }
+    requires carried { IsCarried seat.old.me }
+    requires held { (notes : List PartNote) × (seat.old.me.0.holds ≡ note b (shared new) ∷ notes)
+        × ((y : Option NumberSet) → ¬ Contains notes (note b y)) }
+    ensures same { (seat.new.table_id ≡ seat.old.table_id) × (seat.new.id ≡ seat.old.id) }
+    ensures carried { IsCarried seat.new.me }
+    ensures gave { seat.new.me.0 ≡ with_holds seat.old.me.0 (behind_first seat.old.me.0.holds) }
+{
+    let index = index(b);
+    drop(table.exchange(seat, index, Some(new)));
+    table.store::<Give>(seat, index, 0);
+}
+
+/// Puts the pointer into the part that was taken last, and gives it back. With that the call goes through.
+///
+/// Its replies are those to what was found. What is to be given back next is in `rest`.
+pub(crate) fn end_call<C: Closing>(
+    table: &Words,
+    seat: &mut Token,
+    b: usize,
+    new: Pointer,
+    batch: &Batch,
+    found: &Slots,
+    rest: &Slots,
+)
+    requires place { (seat.old.table_id ≡ table.now.table_id) × (table.now.table_id.words ≡ index 12) × (b < 12) }
+    requires client { IsOne seat.old.me.0 }
+    requires carried { IsCarried seat.old.me }
+    requires call { (C.call ≡ entry seat.old.me.0.mine.number batch.now (replies_to found.now batch.now))
+        × (C.notes ≡ notes_below rest.now 12) }
+    requires held { (parts_of seat.old.me.0.holds ≡ b ∷ parts_of (notes_below rest.now 12))
+        × ¬ Contains (parts_of (notes_below rest.now 12)) b }
+    requires answered { Answers part answer IsProper batch.now (replies_to found.now batch.now) seat.old.me.0.holds
+        (note b (shared new) ∷ notes_below rest.now 12) }
+    ensures same { (seat.new.table_id ≡ seat.old.table_id) × (seat.new.id ≡ seat.old.id) }
+    ensures carried { IsCarried seat.new.me }
+    ensures ended { EndsBatch batch.now (replies_to found.now batch.now) (notes_below rest.now 12)
+        seat.old.me.0 seat.new.me.0 }
+{
+    let _batch = batch;
+    let _found = found;
+    let _rest = rest;
+    let index = index(b);
+    drop(table.exchange(seat, index, Some(new)));
+    table.store::<End<C>>(seat, index, 0);
+}
