@@ -328,6 +328,7 @@ impl Kept {
     }
 
     /// Gives all back.
+    #[inline(never)]
     pub fn give_back(&mut self)
         ensures nodes { self.new.nodes.items ≡ [] }
         ensures blocks { self.new.blocks.items ≡ [] }
