@@ -1,5 +1,5 @@
 //! Coverages, gathered from cells.
-ghost use Rattle.std.specs.Prelude.{◌≡◌, ◌<◌, ◌≤◌, ◌*◌, ◌+◌, [], IfOk, OnOk, OnErr};
+ghost use Rattle.std.specs.Prelude.{◌≡◌, ◌<◌, ◌≤◌, ◌*◌, ◌+◌, IfOk, OnOk, OnErr};
 ghost use Rattle.std.specs.FinSet as set;
 ghost use Rattle.moc_sphere.specs.CellNumber.{cell_count};
 ghost use Rattle.moc_ranges.specs.Cells.{span, spans};

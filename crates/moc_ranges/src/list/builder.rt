@@ -43,7 +43,7 @@ impl ListBuilder {
     }
 
     /// Adds a range that begins behind all others.
-    #[inline]
+    #[inline(always)]
     pub fn push(&mut self, alloc: Global, from: u64, to: u64) -> Result<(), AllocError>
         requires filled { from < to }
         requires within { to ≤ pixel_count }

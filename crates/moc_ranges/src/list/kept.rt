@@ -1,5 +1,5 @@
 //! The ranges of a list while it grows at its end: in nodes, in blocks, and behind them.
-ghost use Rattle.std.specs.Prelude.{◌≡◌, ◌+◌, ◌<◌, ◌≤◌, ◌++◌, ◌∷◌, ◌||◌, [], List, ℕ, length, IfOk, OnOk, IsTrue};
+ghost use Rattle.std.specs.Prelude.{◌≡◌, ◌+◌, ◌<◌, ◌≤◌, ◌++◌, ◌∷◌, ◌||◌, [], List, ℕ, length, IfOk, OnOk};
 ghost use Rattle.std.specs.Bool.{OnTrue, OnFalse};
 ghost use Rattle.moc_ranges.specs.Pixels.{pixel_count};
 ghost use Rattle.moc_ranges.specs.RangeList.{IsNormal, in_ranges, in_range};
@@ -328,6 +328,7 @@ impl Kept {
     }
 
     /// Gives all back.
+    #[inline(never)]
     pub fn give_back(&mut self)
         ensures nodes { self.new.nodes.items ≡ [] }
         ensures blocks { self.new.blocks.items ≡ [] }

@@ -29,7 +29,7 @@ impl<'a> Model for Ranges<'a> {
     ghost invariant = { λ r. IsNormal (rest_of r.ranges.now r.ahead.blocks.now r.ahead.nodes.now) };
 }
 
-ghost use Rattle.std.specs.Prelude.{ℕ, ◌≡◌, ◌<◌, ◌≤◌, ◌++◌, [], ◌∷◌, length, MatchOption, IfSome, IsTrue, Some};
+ghost use Rattle.std.specs.Prelude.{ℕ, ◌≡◌, ◌<◌, ◌≤◌, ◌++◌, [], length, MatchOption, IfSome, Some};
 ghost use Rattle.moc_ranges.specs.RangeList.{IsNormal};
 ghost use Rattle.moc_ranges.specs.Private.Blocks.{joining, last_of, next_of, rest_of};
 ghost use Rattle.moc_ranges.specs.Private.Walks.{Advances, Passes};

@@ -2,7 +2,7 @@
 ghost use Rattle.std.specs.Prelude.{◌≡◌, ◌+◌, ◌<◌, ◌≤◌, List, ℕ, [], ◌∷◌, ◌++◌, length, take, IfSome, MatchOption};
 ghost use Rattle.moc_ranges.specs.RangeList.{IsNormal};
 ghost use Rattle.moc_ranges.specs.Private.Blocks.{joining, first_of, last_of, width_of, rest_of};
-ghost use Rattle.moc_ranges.specs.Private.Walks.{joined, EndsBy, Passes, Advances, IsPastAt, IsFirstPast};
+ghost use Rattle.moc_ranges.specs.Private.Walks.{joined, EndsBy, Passes, IsPastAt, IsFirstPast};
 
 use crate::list::ahead::{Ahead, Begun, begin_node};
 use crate::list::block::Block;

@@ -1,5 +1,5 @@
 //! Symmetric difference of two sets of few ranges.
-ghost use Rattle.std.specs.Prelude.{◌≡◌, ◌<◌, ◌≤◌, ◌++◌, ◌∷◌, ℕ, min, IfOk};
+ghost use Rattle.std.specs.Prelude.{◌≡◌, ◌<◌, ◌≤◌, ◌++◌, min, IfOk};
 ghost use Rattle.moc_ranges.specs.Pixels.{pixel_count};
 ghost use Rattle.moc_ranges.specs.Operations.{symmetric};
 ghost use Rattle.moc_ranges.specs.RangeList.{IsNormal, set_of};

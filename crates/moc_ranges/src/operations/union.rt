@@ -1,9 +1,8 @@
 //! Union of lists in blocks, which carries over the blocks that the other list does not meet.
 ghost use Rattle.std.specs.FinSet as set;
-ghost use Rattle.std.specs.Prelude.{◌≡◌, ◌+◌, ◌<◌, ◌≤◌, ◌||◌, ◌&&◌, not, ◌++◌, ◌∷◌, [], List, ℕ, length, min, max};
+ghost use Rattle.std.specs.Prelude.{◌≡◌, ◌+◌, ◌<◌, ◌≤◌, ◌||◌, not, ◌++◌, ◌∷◌, [], List, ℕ};
 ghost use Rattle.std.specs.Prelude.{IfOk, IfSome, OnOk};
-ghost use Rattle.moc_ranges.specs.Pixels.{pixel_count};
-ghost use Rattle.moc_ranges.specs.RangeList.{IsNormal, in_range, in_ranges, set_of};
+ghost use Rattle.moc_ranges.specs.RangeList.{IsNormal, set_of};
 ghost use Rattle.moc_ranges.specs.Private.Blocks.{next_of};
 ghost use Rattle.moc_ranges.specs.Private.Built.{ranges_of, CanJoin, CanTake, TakesOver, IsTurn, IsJoining, TakesBoth};
 
