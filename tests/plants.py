@@ -44,7 +44,7 @@ PLANTS = [
     Plant("crew_names_the_greatest_refused_line", "moc_script", "src/crews/gathering.rt",
           "Some(line) if line < refused.line => Some(line),", "Some(line) if line > refused.line => Some(line),", "nothing"),
     Plant("last_line_without_a_line_feed_is_not_counted", "moc_script", "src/crews/reading.rt",
-          "Some(last) if *last != b'\\n' => whole + 2,", "Some(last) if *last != b'\\n' => whole + 1,", "nothing"),
+          "        Some(_) => whole + 2,", "        Some(_) => whole + 1,", "prove"),
     Plant("crew_tells_spawn_as_memory", "moc_script", "src/crews/threads.rt",
           "return Err(LanesError::Spawn);", "return Err(LanesError::Memory { line: 0 });", "script", "program"),
     # devices
