@@ -8,9 +8,18 @@ stands once.
 `rt must-fail` checks a crate once for each edit. Here a check takes one edit of each function, of as many functions as there are:
 a function is proved from its body and the contracts of those it calls, so wrong bodies of several functions do not meet. An edit
 is refused where the check tells of an error in the function that it edits. An error in any other function shows that edits did meet,
-and none of that check counts. What is edited outside a function, a constant say, has a check of its own.
+and none of that check counts. What is edited outside a function, a constant say, has a check of its own, and names in a line
+`error: TEXT` a piece of the error that counts.
 
-usage: tests/wrong_bodies.py [--jobs N] [CRATE | CRATE/EDIT]..
+Refusals are of three kinds, and the last lines tell how many there are of each:
+
+  clause   a clause, or what a call requires, is not proved of the edited body
+  answers  only the function's proof by hand fails, for two values that differ
+  name     only for a name that went with the edited text, which shows nothing of the contract: such an edit fails
+
+usage: tests/wrong_bodies.py [--jobs N] [--told FOLDER] [CRATE | CRATE/EDIT]..
+
+`--told FOLDER` keeps there what each check told.
 
 All is done in rooms, over what the crates' `out` folders hold of their proofs, which `tools/build.py` brings up to date first: what is kept
 can make no refusal false, since an edited function is checked anew. A check that takes too long tells nothing, and its edits fail. Where all
@@ -37,8 +46,10 @@ ROOMS = os.path.join(folder_of("moc_cli"), "out", "edits")
 SECONDS = 3600
 # A row of the table of edits and tests, on the page about the gate.
 ROW = re.compile(r"^\| `(\w+)` \| (\d+) \|", re.MULTILINE)
-# What a name stands for that went with the edited text: such an error says little of the contract.
-NAME_GONE = re.compile(r"has no field|is not in scope|has no `|was not admitted")
+# What a name stands for that went with the edited text: such an error says nothing of the contract.
+NAME_GONE = re.compile(r"has no field|is not in scope|has no `|was not admitted|(?:expected|takes) \d+ argument")
+# What a refusal shows, from the most to nothing.
+KINDS = ("clause", "answers", "name")
 
 
 def blanked(text):
@@ -127,7 +138,7 @@ class Edit:
 
     def __init__(self, crate, name):
         self.label = f"{crate}/{name}"
-        self.pairs, self.function, self.why = [], None, None
+        self.pairs, self.function, self.why, self.error = [], None, None, None
         folder = folder_of(crate)
         functions, texts, file, after, old = [], {}, None, None, None
         with open(os.path.join(folder, "wrong-bodies", name)) as lines:
@@ -137,6 +148,8 @@ class Edit:
                     if file not in texts:
                         with open(os.path.join(folder, file)) as source:
                             texts[file] = source.read()
+                elif line.startswith("error: "):
+                    self.error = line[7:]
                 elif line.startswith("after: "):
                     after = line[7:]
                 elif line.startswith("old: "):
@@ -153,6 +166,8 @@ class Edit:
                     after = None
         if len({it and it.key for it in functions}) == 1:
             self.function = functions[0]
+        if self.function is None and self.error is None:
+            self.why = "it lies in no one function, and names no error that counts"
 
     def apply(self, texts):
         """Makes the edit in these texts, or returns False where another stands in its way."""
@@ -194,6 +209,20 @@ def output(words, folder):
         return f"error: no verdict in {SECONDS} seconds"
 
 
+def kind_of(line):
+    """What an error shows of the contract."""
+    if NAME_GONE.search(line) or re.search(r"\berror\[", line):
+        return "name"
+    return "answers" if re.match(r"(?:note: )?(?:\./)?proofs/", line) else "clause"
+
+
+def refusal_by(lines):
+    """The kind of a refusal by these errors, and the error that shows the most."""
+    telling = [line for line in lines if not line.endswith(": not proved")] or lines
+    kind = min(map(kind_of, telling), key=KINDS.index)
+    return kind, next(line for line in telling if kind_of(line) == kind)
+
+
 class Round:
     """Edits of several functions of a crate that are checked together, or one that lies in no function."""
 
@@ -230,7 +259,7 @@ class Round:
             return output(["rt", "check", "--jobs", JOBS], folder)
 
     def judge(self, told):
-        """Says of each edit what the check told of it, and whether it was refused."""
+        """Says of each edit of what kind its refusal is, and what the check told of it; the kind is None where it was not refused."""
         verdict = re.findall(r"^logic=(\S+)", told, re.MULTILINE)[-1:]
         errors = errors_of(told)
         if verdict != ["not-proved"] or not errors:
@@ -238,20 +267,22 @@ class Round:
             why = f"BAD EDIT: {(unread or [told])[0][:160]}"
             if verdict == ["proved"]:
                 why = "NOT REFUSED: the crate is still proved"
-            return [(edit, False, why) for edit in self.edits]
+            return [(edit, None, why) for edit in self.edits]
         if self.edits[0].function is None:
-            return [(self.edits[0], True, errors[0][1])]
+            counting = [line for _, line in errors if self.edits[0].error in line]
+            if counting:
+                return [(self.edits[0], *refusal_by(counting))]
+            return [(self.edits[0], None, f"not for the error that counts: {errors[0][1][:160]}")]
         strays = [line for place, line in errors if not any(edit.function.has(place) for edit in self.edits)]
         if strays:
-            return [(edit, False, f"MET: an error lies in no function that is edited: {strays[0][:160]}") for edit in self.edits]
+            return [(edit, None, f"MET: an error lies in no function that is edited: {strays[0][:160]}") for edit in self.edits]
         found = []
         for edit in self.edits:
-            own = [line for place, line in errors if edit.function.has(place)]
-            values = [line for line in own if not NAME_GONE.search(line)]
-            if not own:
-                found.append((edit, False, "NOT REFUSED: the function is still proved"))
+            own = [line for place, line in errors if edit.function.has(place) and (edit.error or "") in line]
+            if own:
+                found.append((edit, *refusal_by(own)))
             else:
-                found.append((edit, True, (values or [f"only for a name that went: {own[0]}"])[0]))
+                found.append((edit, None, "NOT REFUSED: the function is still proved, or not refused for the error that counts"))
         return found
 
 
@@ -276,6 +307,7 @@ def numbers_told():
 def main():
     words = argparse.ArgumentParser(description="Tries the wrong bodies.")
     words.add_argument("--jobs", type=int, default=len(os.sched_getaffinity(0)))
+    words.add_argument("--told", metavar="FOLDER")
     words.add_argument("names", nargs="*", metavar="CRATE or CRATE/EDIT")
     given = words.parse_args()
     below = libraries_below(crates_of())
@@ -301,22 +333,31 @@ def main():
         print("the crates are not proved as they stand")
         print(f"0 passed, {sum(map(len, edits.values()))} failed")
         return 1
-    printing, refused = threading.Lock(), set()
+    printing, kinds = threading.Lock(), dict.fromkeys(KINDS, 0)
 
     def try_round(one):
-        for edit, is_refused, said in one.judge(one.check(below[one.crate])):
-            text = f"refused, as it must be: {said}" if is_refused else said
+        told = one.check(below[one.crate])
+        if given.told:
+            with open(os.path.join(given.told, one.edits[0].label.replace("/", "-") + ".told"), "w", encoding="utf-8") as file:
+                file.write(told)
+        for edit, kind, said in one.judge(told):
+            text = f"refused, as it must be ({kind}): {said}" if kind else said
+            if kind == "name":
+                text = f"REFUSED FOR A NAME ALONE: {said}"
             with printing:
-                print(f"{edit.label}: {text[:200]}", flush=True)
-                refused.update([edit.label] * is_refused)
+                print(f"{edit.label}: {text[:240]}", flush=True)
+                if kind:
+                    kinds[kind] += 1
 
     # The checks with the most edits take the longest, and begin first.
     rounds = sorted((one for crate, own in edits.items() for one in rounds_of(crate, own)), key=lambda one: -len(one.edits))
     os.makedirs(ROOMS, exist_ok=True)
     with ThreadPoolExecutor(given.jobs) as pool:
         list(pool.map(try_round, rounds))
-    failed = sum(map(len, edits.values())) - len(refused)
-    print(f"{len(refused)} passed, {failed} failed")
+    print("refused: " + ", ".join(f"{kind} {number}" for kind, number in kinds.items()))
+    passed = kinds["clause"] + kinds["answers"]
+    failed = sum(map(len, edits.values())) - passed
+    print(f"{passed} passed, {failed} failed")
     return 1 if failed else 0
 
 

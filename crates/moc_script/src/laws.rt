@@ -36,8 +36,8 @@ pub fn schedules_without_order()
     ensures { SchedulesWithoutOrder }
 {}
 
-/// The steps that a schedule's lines take, those that are answered neither by a fault nor by a refusal, are permitted and
-/// lead to the world whose order and set the last lines tell; the order explains them.
+/// The steps that a schedule's lines take, those that are answered neither by a fault nor by a refusal, are permitted
+/// and lead to the world whose order and set the last lines tell; the order explains them.
 pub fn schedules_have_one_order()
     ensures { SchedulesHaveOneOrder }
 {

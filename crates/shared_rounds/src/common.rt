@@ -1,14 +1,16 @@
-//! Sixteen clients of one map on eight threads, two on each, with batches over several parts that all of them take. What
-//! one batch changes no other may see in part:
+//! Sixteen clients of one map on eight threads, two on each, with batches over several parts that all of them take.
+//! What one batch changes no other may see in part:
 //!
 //! - two threads add a cell to each of ten parts, and remove them, each ten by one batch;
 //! - two count these cells, of which there are ten or none;
-//! - two move a token from part to part, each time by one batch, which removes it, adds it elsewhere and looks behind it;
+//! - two move a token from part to part, each time by one batch, which removes it, adds it elsewhere and counts it
+//!   where it was;
 //! - two count a token's places in all twelve parts, of which there is one.
 //!
 //! The two clients of a thread take turns, meet every few turns, and at the end one takes in the other, while the other
-//! threads go on. A batch is done at once, or waiting, or from a holding, which may be let go before; a query also by a look
-//! or a snapshot. Where a part is held a thread tries again some times and then waits, so that each does all its turns.
+//! threads go on. A batch is done at once, or waiting, or from a holding, which may be let go before; a query also by a
+//! look or a snapshot. Where a part is held a thread tries again some times and then waits, so that each does all its
+//! turns.
 ghost use Rattle.std.specs.Prelude.{◌<◌, All, IfOk, IfErr, IfSome};
 ghost use Rattle.moc_shared.specs.Clients.{IsClientOf, IsHoldingOf};
 

@@ -1,6 +1,6 @@
-//! Threads on one map. Twelve clients, each on a thread of its own and on a part of its own: 10,000 times each adds a cell
-//! and removes it, and none of them is ever refused, since none holds another's part. Then eight threads on common parts
-//! (`common`).
+//! Threads on one map. Twelve clients, each on a thread of its own and on a part of its own: 10,000 times each adds a
+//! cell and removes it, and none of them is ever refused, since none holds another's part. Then eight threads on common
+//! parts (`common`).
 #![tactic(auto)]
 
 ghost use Rattle.std.specs.Prelude.{All, IfSome};

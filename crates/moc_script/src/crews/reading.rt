@@ -2,7 +2,7 @@
 ghost use Rattle.std.specs.Prelude.{◌≡◌, ◌≢◌, ◌<◌, ◌≤◌, ◌+◌, ◌++◌, ◌↔◌, [], false, length};
 ghost use Rattle.std.specs.Prelude.{IfOk, IfErr, OnOk, IsErrOf, Err, IsTrue};
 ghost use Rattle.std.specs.List.{count_by};
-ghost use Rattle.moc_text.specs.Lines.{is_line_feed};
+ghost use Rattle.moc_text.specs.Lines.{is_line_feed, lines_of};
 ghost use Rattle.moc_script.specs.Private.Input.{IsBehindLast, IsHeld, ReadFails, ReadsAll, fails_on};
 
 use crate::bytes::first_or_len;
@@ -90,11 +90,14 @@ fn line_feeds(bytes: &[u8]) -> u64
 }
 
 /// The number of the line behind the last.
-pub fn line_behind(input: &[u8]) -> u64 {
+pub fn line_behind(input: &[u8]) -> u64
+    ensures { result ≡ length (lines_of input.now) + 1 }
+{
     let whole = line_feeds(input);
     match input.last() {
-        Some(last) if *last != b'\n' => whole + 2,
-        _ => whole + 1,
+        None => 1,
+        Some(b'\n') => whole + 1,
+        Some(_) => whole + 2,
     }
 }
 
