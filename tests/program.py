@@ -79,10 +79,10 @@ PICTURE = picture("Share of each cell of order 7",
                   [("#6baed6", 256, "up to 1/4", ""), ("#4292c6", 400, "up to 1/2", ""),
                    ("#2171b5", 544, "up to 3/4", diamonds(1, 255, 128)),
                    ("#08306b", 688, "more", diamonds(128, 2, 0) + diamonds(64, 1, 2))])
-# Base pixel 5 and a piece of cell 0 of order 7; base pixel 5 and the cell 16 of order 1.
+# Base pixel 5 and a piece of cell 0 of order 7; base pixel 5 and cell 16 of order 1, the southern quarter of base pixel 4.
 PICTURE_OF_TWO = picture("Cells of order 7 with pixels of",
                          [("#0072b2", 256, "the first alone", diamonds(1, 255, 128)),
-                          ("#e69f00", 432, "the second alone", diamonds(64, 4, 0)),
+                          ("#e69f00", 432, "the second alone", diamonds(64, 5, 0)),
                           ("#000", 624, "both", diamonds(128, 2, 2))])
 # Words, standard input, and what is told: each fault that a refused value or text has.
 REFUSED = [
