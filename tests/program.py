@@ -53,16 +53,16 @@ def diamonds(half, row, column):
                    for x in [column * half] + [1024] * (column == 0))
 
 
-def picture(shades):
-    """The picture with these diamonds in the four shades: the sky, its numbers, the cells with east to the left, and a legend."""
-    colours = ["#6baed6", "#4292c6", "#2171b5", "#08306b"]
+def picture(title, kinds):
+    """A picture whose legend has this title: the sky, its numbers, cells with east to the left, and the legend. Of each kind of
+    cells its colour, its place in the legend, what it means, and its diamonds."""
     sky = "".join(diamonds(128, row, column) for row, column in BASE_PIXELS)
     labels = [f'<text x="{x}" y="{row * 128 + 5}">{number}</text>' for number, (row, column) in enumerate(BASE_PIXELS)
               for x in ([1024 - column * 128] if column else [16, 1008])]
-    paths = [f'<path fill="{colour}" stroke="{colour}" vector-effect="non-scaling-stroke" d="{shade}"/>'
-             for colour, shade in zip(colours, shades)]
+    paths = [f'<path fill="{colour}" stroke="{colour}" vector-effect="non-scaling-stroke" d="{cells}"/>'
+             for colour, _, _, cells in kinds]
     legend = [f'<path fill="{colour}" d="M{x} 552h24v16h-24z"/><text x="{x + 32}" y="566">{meaning}</text>'
-              for colour, x, meaning in zip(colours, [256, 400, 544, 688], ["up to 1/4", "up to 1/2", "up to 3/4", "more"])]
+              for colour, x, meaning, _ in kinds]
     lines = ['<svg xmlns="http://www.w3.org/2000/svg" viewBox="-40 -40 1104 640">', "<title>Sky coverage</title>",
              '<clipPath id="plane"><path d="M0 0h1024v512H0z"/></clipPath>',
              '<rect x="-40" y="-40" width="1104" height="640" fill="#fff"/>',
@@ -70,12 +70,20 @@ def picture(shades):
              '<g font-family="sans-serif" font-size="14" text-anchor="middle" fill="#bbb">', *labels, "</g>",
              '<g transform="translate(1024 0) scale(-1 1)" clip-path="url(#plane)" shape-rendering="crispEdges">', *paths, "</g>",
              '<g font-family="sans-serif" font-size="16" fill="#444">', '<text x="-28" y="262">E</text>',
-             '<text x="1036" y="262">W</text>', '<text x="0" y="566">Share of each cell of order 7</text>', *legend, "</g>", "</svg>"]
+             '<text x="1036" y="262">W</text>', f'<text x="0" y="566">{title}</text>', *legend, "</g>", "</svg>"]
     return "".join(f"{line}\n" for line in lines).encode()
 
 
 # Base pixel 4, the northern quarter of base pixel 0, and three quarters of cell 0 of order 7.
-PICTURE = picture(["", "", diamonds(1, 255, 128), diamonds(128, 2, 0) + diamonds(64, 1, 2)])
+PICTURE = picture("Share of each cell of order 7",
+                  [("#6baed6", 256, "up to 1/4", ""), ("#4292c6", 400, "up to 1/2", ""),
+                   ("#2171b5", 544, "up to 3/4", diamonds(1, 255, 128)),
+                   ("#08306b", 688, "more", diamonds(128, 2, 0) + diamonds(64, 1, 2))])
+# Base pixel 5 and a piece of cell 0 of order 7; base pixel 5 and cell 16 of order 1, the southern quarter of base pixel 4.
+PICTURE_OF_TWO = picture("Cells of order 7 with pixels of",
+                         [("#0072b2", 256, "the first alone", diamonds(1, 255, 128)),
+                          ("#e69f00", 432, "the second alone", diamonds(64, 5, 0)),
+                          ("#000", 624, "both", diamonds(128, 2, 2))])
 # Words, standard input, and what is told: each fault that a refused value or text has.
 REFUSED = [
     (["ring", "0", "12"], b"", b"CellTooLarge"),
@@ -188,6 +196,8 @@ WORKS = [
     (["combine", "intersection", "json"], b'{"0":[0]};{"1":[3]}; \t\r\n', b'{"1":[3]}\n'),
     (["combine", "symmetric", "ascii"], b"0/0-1 ; 0/1-2 ; 0/1", b"0/0-2\n"),
     (["draw", "ascii"], b"0/4 1/3 8/0-2", PICTURE),
+    (["draw", "auto"], b'0/5 29/0\n;{"1":[16],"0":[5]}', PICTURE_OF_TWO),
+    (["draw", "ascii"], b"0/4 1/3 8/0-2; \t\r\n", PICTURE),
     (["degrade", "1", "ascii"], b"0/0 3/300 5/", b"0/0 1/18\n"),
     (["degrade", "5", "ascii"], b"0/0 3/300 4/", b"0/0 3/300 4/\n"),
     (["degrade", "0", "json"], b'{"1":[5],"4":[]}', b'{"0":[1]}\n'),
@@ -444,7 +454,7 @@ def crew_growths_are_refused(tally, shim):
 
 def check_growths_are_refused(tally, shim):
     """Refuses each growth of words that find a fault in turn: both lines are told, or want of memory."""
-    whole = (1, b"", b"fault CellTooLarge\norder 2, number 1\n")
+    whole = (1, b"", b"fault CellTooLarge\norder 2, number 1: `192`\n")
     memory = (3, b"", b"fault Memory\n")
     for word in ["check", "describe", "draw", "complement"]:
         met = refuse_each(tally, word, [MOC, word, "json"], b'{"10":[],"2":[0,192]}', whole, {memory}, shim)
@@ -453,7 +463,7 @@ def check_growths_are_refused(tally, shim):
 
 def combine_growths_are_refused(tally, shim):
     """Refuses each growth of texts of which one is at fault in turn: both lines are told, or want of memory."""
-    whole = (1, b"", b"fault CellTooLarge\ntext 2, order 2, number 1\n")
+    whole = (1, b"", b"fault CellTooLarge\ntext 2, order 2, number 1: `192`\n")
     memory = (3, b"", b"fault Memory\n")
     words = [MOC, "combine", "union", "json"]
     met = refuse_each(tally, "texts", words, b'{"0":[0]};{"10":[],"2":[0,192]}', whole, {memory}, shim)

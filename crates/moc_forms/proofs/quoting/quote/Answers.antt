@@ -1,4 +1,4 @@
-use Rattle.std.proofs.Common.{◌≡◌, ◌∙◌, ℕ, List, Option, Some, ap}
+use Rattle.std.proofs.Common.{◌∙◌, ℕ, List, Some, ap}
 use Rattle.std.specs.Prelude.{option_map}
 use Rattle.std.specs.String.{string_bytes}
 use Rattle.moc_forms.specs.Quotes.{quoted}
