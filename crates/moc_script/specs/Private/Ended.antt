@@ -1,5 +1,5 @@
 -- What stands when the last line is answered or a fault has come, before what is pending is written.
-use Rattle.std.specs.Prelude.{◌≡◌, ℕ, ◌⊎◌, ⊥, List, ◌++◌, Option, Some, Result, Ok, Err}
+use Rattle.std.specs.Prelude.{◌≡◌, ℕ, ◌⊎◌, List, ◌++◌, Option, Some, Result, Ok, Err}
 use Rattle.std.specs.Io.KnownBytes.{Appends, Consumes, IsAtEnd}
 use Rattle.moc_text.specs.Lines.{lines_of}
 use Rattle.moc_script.specs.Lines.{whole_lines_of}
