@@ -1,10 +1,10 @@
 //! The cells that touch a cell: HEALPix's neighbours.
 ghost use Rattle.smallvec.specs.SmallVec.{small_vec_len};
-ghost use Rattle.moc_sphere.specs.CellNumber.{IsCell};
+ghost use Rattle.moc_sphere.specs.CellNumber.{cell_number, IsCell};
 ghost use Rattle.moc_sphere.specs.Faces.{IsAt, spread_of, x_of, y_of};
-ghost use Rattle.moc_sphere.specs.Touching.{Touches};
+ghost use Rattle.moc_sphere.specs.Touching.{Touches, touching_cells};
 ghost use Rattle.std.specs.List.Sorted.{IsStrictlyIncreasing};
-ghost use Rattle.std.specs.Prelude.{◌≡◌, ℕ, ◌-◌, ◌<◌, ◌≤◌, ◌^◌, ◌↔◌, Contains};
+ghost use Rattle.std.specs.Prelude.{◌≡◌, ℕ, ◌-◌, ◌<◌, ◌≤◌, ◌^◌, ◌↔◌, All, Contains, map};
 
 use crate::bits::{spread_after, spread_before};
 use crate::cell::Cell;
@@ -13,9 +13,50 @@ use crate::sides::{Place, beside};
 use smallvec::SmallVec;
 use std::alloc::Global;
 
+impl Cell {
+    /// The numbers of the cells that share a corner point with this one (HEALPix: its neighbours), rising: 8 of them, 7
+    /// at a vertex where three base pixels meet, and 6 at order 0. A fixed number of steps; no memory is taken.
+    pub fn touching(self, alloc: Global) -> SmallVec<u64, 8>
+        ensures rising { IsStrictlyIncreasing result.items }
+        ensures touch { (j : ℕ) → Contains result.items j ↔ Touches self.order self.index j }
+
+        // As a list, the one that the definition names.
+        ensures whole { result.items ≡ touching_cells self.order self.index }
+
+        // Touching is symmetric.
+        ensures back { (j : ℕ) → Contains result.items j → Touches self.order j self.index }
+
+        ensures few { small_vec_len result ≤ 8 }
+        ensures inline { result.capacity ≡ 8 }
+    {
+        let (x, y, last) = self.spread_xy();
+        if 0 < x && x < last && 0 < y && y < last {
+            return touching_in_face(self, x, y, alloc);
+        }
+        let (face, x, y) = self.face_xy();
+        touching_across(self, face, x, y, alloc)
+    }
+
+    /// The cells that share a corner point with this one, rising: those that `touching` tells by their numbers. A fixed
+    /// number of steps; no memory is taken.
+    pub fn touching_cells(self, alloc: Global) -> SmallVec<Cell, 8>
+        ensures whole { result.items ≡ map (cell_number self.order) (touching_cells self.order self.index) }
+        ensures touch { All (λ c. (c.order ≡ self.order) × Touches self.order self.index c.index) result.items }
+        ensures few { small_vec_len result ≤ 8 }
+        ensures inline { result.capacity ≡ 8 }
+    {
+        let order = self.order();
+        let mut cells = SmallVec::new(alloc);
+        for index in self.touching(alloc).as_slice() {
+            cells.push_reserved(Cell::of(order, *index));
+        }
+        cells
+    }
+}
+
 /// The cells that touch a cell, whose x and y, spread, are off the border of the base pixel: all lie in that one.
 #[inline]
-pub(crate) fn touching_in_face(cell: Cell, x: u64, y: u64, alloc: Global) -> SmallVec<u64, 8>
+fn touching_in_face(cell: Cell, x: u64, y: u64, alloc: Global) -> SmallVec<u64, 8>
     requires cell { IsCell cell }
     requires x { x ≡ spread_of 32 (x_of cell.order cell.index) }
     requires y { y ≡ spread_of 32 (y_of cell.order cell.index) }
@@ -36,13 +77,7 @@ pub(crate) fn touching_in_face(cell: Cell, x: u64, y: u64, alloc: Global) -> Sma
 }
 
 /// The cells that touch a cell, which has this place, in whatever base pixels they lie.
-pub(crate) fn touching_across(
-    cell: Cell,
-    face: u8,
-    x: u32,
-    y: u32,
-    alloc: Global,
-) -> SmallVec<u64, 8>
+fn touching_across(cell: Cell, face: u8, x: u32, y: u32, alloc: Global) -> SmallVec<u64, 8>
     requires face { face < 12 }
     requires place { IsAt cell face x y }
     requires x { x < 2 ^ cell.order }
