@@ -1,11 +1,13 @@
 //! What is told of texts. Expected lines are worked out by hand from the texts.
 use moc_forms::{
-    Change, Choice, Form, FormError, Operation, Place, check, describe, draw, draw_two, examine,
+    Change, Choice, Figures, Form, FormError, NameError, Operation, Place, check, describe, draw, draw_two, examine,
     hint, hint_line, is_blank, place_line, quote,
 };
 use moc_sphere::Order;
 use moc_text::{JsonError, TextError, UniqError};
 use std::alloc::Global;
+use std::fmt::Write;
+use std::str::FromStr;
 use std::test::Fail;
 
 /// What is told of the place of a text's fault; nothing where it has none.
@@ -14,7 +16,7 @@ fn told(alloc: Global, form: Form, text: &str) -> Result<String, Fail> {
     if let Err(refusal) = check(alloc, form, text.as_bytes())
         && let Some(place) = refusal.place
     {
-        place.push_to(&mut line)?;
+        write!(line, "{place}")?;
     }
     Ok(line)
 }
@@ -174,12 +176,12 @@ fn forms_that_are_found(rt: HostRuntime) {
         ("uniq", "{", Form::Uniq),
         ("ascii", "{", Form::Ascii),
     ] {
-        let Some(choice) = Choice::named(word) else {
+        let Ok(choice) = Choice::from_str(word) else {
             panic!(&rt; "{word} is no choice")
         };
         assert_eq!(&rt; choice.form(text.as_bytes()), form, "{text:?}");
     }
-    assert!(&rt; Choice::named("fits").is_none());
+    assert!(&rt; Choice::from_str("fits") == Err(NameError::NotForm));
     for (form, text, told) in [
         (Form::Ascii, " {", "this looks like JSON\n"),
         (Form::Json, "s3/", "this looks like ASCII\n"),
@@ -227,14 +229,14 @@ fn forms(rt: HostRuntime) -> Result<(), Fail> {
         ("json", "{\"1\":[0],\"2\":[]}\n"),
         ("uniq", "16\n"),
     ] {
-        let Some(form) = Form::named(word) else {
+        let Ok(form) = Form::from_str(word) else {
             panic!(&rt; "{word} is no form")
         };
         let (set, _) = form.read(alloc, text.as_bytes())?;
         let written = form.write(alloc, &set, Order::new(2))?;
         assert_eq!(&rt; written.as_str(), text);
     }
-    assert!(&rt; Form::named("fits").is_none());
+    assert!(&rt; Form::from_str("fits") == Err(NameError::NotForm));
     Ok(())
 }
 
@@ -269,9 +271,23 @@ fn figures_of_sets(rt: HostRuntime) -> Result<(), Fail> {
     Ok(())
 }
 
+#[test]
+fn figures_one_by_one(rt: HostRuntime) -> Result<(), Fail> {
+    let alloc = rt.alloc();
+    let (set, deepest) = Form::Ascii.read(alloc, b"1/0-3 2/20 29/".as_slice())?;
+    let figures = Figures::of(alloc, &set, deepest)?;
+    assert_eq!(&rt; figures.deepest(), Order::new(29));
+    assert_eq!(&rt; figures.pixels(), 306244774661193728);
+    assert_eq!(&rt; (figures.ranges(), figures.cells()), (2, 2));
+    for (order, cells) in [(0, 1), (1, 0), (2, 1), (29, 0)] {
+        assert_eq!(&rt; figures.cells_of(Order::of(order)), cells, "order {order}");
+    }
+    Ok(())
+}
+
 /// The text of two texts that are joined by an operation.
 fn joined(alloc: Global, operation: &str, first: &str, second: &str) -> Result<String, Fail> {
-    let Some(operation) = Operation::named(operation) else {
+    let Ok(operation) = Operation::from_str(operation) else {
         return Ok(String::new(alloc));
     };
     let (set, deepest) = Form::Ascii.read(alloc, first.as_bytes())?;

@@ -1,12 +1,14 @@
 -- A set of pixels in figures.
-use Rattle.std.specs.Prelude.{◌≡◌, ℕ, zero, suc, ◌+◌, ◌*◌, ◌/◌, ◌%◌, ◌==◌, List, [], ◌∷◌, ◌++◌}
-use Rattle.std.specs.Prelude.{length, Option, None, Some, decimal, codes, count_by}
+use Rattle.std.specs.Prelude.{◌≡◌, ℕ, zero, suc, ◌-◌, ◌*◌, ◌/◌, ◌%◌, ◌==◌, List, [], ◌∷◌, ◌++◌, length, map, replicate}
+use Rattle.std.specs.Prelude.{slice_index, Option, None, Some, decimal, codes, count_by}
+use Rattle.std.specs.List.{range_with_len}
 use Rattle.std.specs.FinSet as set
 use Rattle.moc_sphere.specs.CellNumber.{CellNumber}
 use Rattle.moc_ranges.specs.Cells.{cells_of}
 use Rattle.moc_ranges.specs.Numbers.{NumberSet}
 use Rattle.moc_ranges.specs.Pixels.{pixel_count}
 use Rattle.moc_ranges.specs.RangeList.{IsNormal, set_of}
+use Rattle.moc_forms.specs.declared.figures.Figures.{Figures}
 
 -- the line of the deepest order that a text names
 abbrev pub deepest_line : Option ℕ → List ℕ
@@ -17,40 +19,54 @@ deepest_line (Some k) = codes "deepest " ++ decimal k ++ 10 ∷ []
 abbrev pub share_of : ℕ → ℕ
 share_of count = count * 1000000000000 / pixel_count
 
--- the last digits of a number, as many as are asked for
-unfoldable pub last_digits : ℕ → ℕ → List ℕ
-last_digits zero number = []
-last_digits (suc count) number = last_digits count (number / 10) ++ (48 + number % 10) ∷ []
-
--- the line of the share: one digit, a point, and twelve digits
-unfoldable pub share_text : ℕ → List ℕ
-share_text count =
-    codes "share " ++ last_digits 1 (share_of count / 1000000000000) ++ 46 ∷ last_digits 12 (share_of count) ++ 10 ∷ []
+-- a number of up to twelve digits, with zeros before it
+abbrev pub twelve_digits : ℕ → List ℕ
+twelve_digits n = replicate (12 - length (decimal n)) 48 ++ decimal n
 
 -- how many cells are of an order
-abbrev pub count_at : ℕ → List CellNumber → ℕ
-count_at k cells = count_by (λ c. c.order == k) cells
+abbrev pub count_at : List CellNumber → ℕ → ℕ
+count_at cells k = count_by (λ c. c.order == k) cells
+
+-- how many cells are of each order
+abbrev pub counts_of : List CellNumber → List ℕ
+counts_of cells = map (count_at cells) (range_with_len 0 30)
+
+-- the figures are those of a set; its ranges are those of its normal range list
+pub record AreFigures (a : NumberSet) (deepest : Option ℕ) (f : Figures) : Type 0 where
+  pub deepest_is : f.deepest ≡ deepest
+  pub pixels_are : f.pixels ≡ set.len a
+  pub ranges : List (ℕ × ℕ)
+  pub normal : IsNormal ranges
+  pub set_is : set_of ranges ≡ a
+  pub ranges_are : f.ranges ≡ length ranges
+  pub cells_are : f.cells ≡ length (cells_of a)
+  pub orders_are : f.orders ≡ counts_of (cells_of a)
+
+-- a number behind a word, as a line
+abbrev pub figure_line : List ℕ → ℕ → List ℕ
+figure_line word n = word ++ decimal n ++ 10 ∷ []
+
+-- the line of the share: one digit, a point, and twelve digits
+abbrev pub share_line : ℕ → List ℕ
+share_line parts =
+    codes "share " ++ decimal (parts / 1000000000000) ++ 46 ∷ (twelve_digits (parts % 1000000000000) ++ 10 ∷ [])
 
 -- the line of an order with so many cells, if there are any
 abbrev pub order_line : ℕ → ℕ → List ℕ
 order_line k zero = []
-order_line k (suc n) = (codes "order " ++ decimal k) ++ (32 ∷ decimal (suc n) ++ 10 ∷ [])
+order_line k (suc n) = codes "order " ++ decimal k ++ 32 ∷ decimal (suc n) ++ 10 ∷ []
 
--- the lines of the orders below a number that have cells
-unfoldable pub order_lines_below : List CellNumber → ℕ → List ℕ
-order_lines_below cells zero = []
-order_lines_below cells (suc k) = order_lines_below cells k ++ order_line k (count_at k cells)
+-- the lines of the orders below a number, of which each has so many cells
+unfoldable pub order_lines_below : List ℕ → ℕ → List ℕ
+order_lines_below counts zero = []
+order_lines_below counts (suc k) = order_lines_below counts k ++ order_line k (slice_index counts k)
 
--- the figures of a set with so many pixels and ranges, and these cells
-abbrev pub figures : Option ℕ → ℕ → ℕ → List CellNumber → List ℕ
-figures deepest count ranges cells =
-    deepest_line deepest ++ (codes "pixels " ++ decimal count ++ 10 ∷ []) ++ share_text count
-    ++ (codes "ranges " ++ decimal ranges ++ 10 ∷ []) ++ (codes "cells " ++ decimal (length cells) ++ 10 ∷ [])
-    ++ order_lines_below cells 30
+-- the figures, a line each
+abbrev pub figures_text : Figures → List ℕ
+figures_text f =
+    deepest_line f.deepest ++ figure_line (codes "pixels ") f.pixels ++ share_line (share_of f.pixels)
+    ++ figure_line (codes "ranges ") f.ranges ++ figure_line (codes "cells ") f.cells ++ order_lines_below f.orders 30
 
--- the text has the figures of a set; its ranges are those of its normal range list
-pub record Describes (a : NumberSet) (deepest : Option ℕ) (text : List ℕ) : Type 0 where
-  pub ranges : List (ℕ × ℕ)
-  pub normal : IsNormal ranges
-  pub set_is : set_of ranges ≡ a
-  pub text_is : text ≡ figures deepest (set.len a) (length ranges) (cells_of a)
+-- the text has the figures of a set
+abbrev pub Describes : NumberSet → Option ℕ → List ℕ → Type 0
+Describes a deepest text = (f : Figures) × AreFigures a deepest f × (text ≡ figures_text f)

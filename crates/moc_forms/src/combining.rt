@@ -1,13 +1,15 @@
 //! Operations on what texts say.
-ghost use Rattle.std.specs.Prelude.{◌≡◌, IfOk, IfSome, Some};
+ghost use Rattle.std.specs.Prelude.{◌≡◌, IfOk, Some};
 ghost use Rattle.moc_text.specs.Ascii.{deeper as deeper_of};
-ghost use Rattle.moc_forms.specs.Combining.{are_blanks, combined, joined, operation_name};
+ghost use Rattle.moc_forms.specs.Combining.{are_blanks, combined, joined};
 
 use crate::finding::is_blank_byte;
 use crate::form::Form;
+use crate::name_error::NameError;
 use moc_ranges::{Coverage, Memory};
 use moc_sphere::Order;
 use std::alloc::Global;
+use std::str::FromStr;
 
 /// An operation on two sets of pixels.
 #[derive(Clone, Copy, Debug, PartialEq, Eq)]
@@ -22,21 +24,28 @@ pub enum Operation {
     Symmetric,
 }
 
-impl Operation {
-    /// The operation that the command line calls `union`, `intersection`, `difference` or `symmetric`.
-    pub fn named(word: &str) -> Option<Operation>
-        ensures name { IfSome result (λ operation. word.now ≡ operation_name operation) }
-        ensures each { (operation : Operation) → word.now ≡ operation_name operation → result ≡ Some operation }
-    {
+/// The operation that the command line calls `union`, `intersection`, `difference` or `symmetric`; refused with `NotOperation`.
+impl FromStr for Operation {
+    type Err = NameError;
+
+    ghost use Rattle.moc_sphere.specs.Names.{IsNamed};
+    ghost use Rattle.moc_forms.specs.Combining.{operation_name};
+    ghost use Rattle.moc_forms.specs.declared.name_error.NameError.TheVariants.{NotOperation};
+
+    ghost from_str_gives = { IsNamed operation_name NotOperation };
+
+    fn from_str(word: &str) -> Result<Operation, NameError> {
         match word {
-            "union" => Some(Operation::Union),
-            "intersection" => Some(Operation::Intersection),
-            "difference" => Some(Operation::Difference),
-            "symmetric" => Some(Operation::Symmetric),
-            _ => None,
+            "union" => Ok(Operation::Union),
+            "intersection" => Ok(Operation::Intersection),
+            "difference" => Ok(Operation::Difference),
+            "symmetric" => Ok(Operation::Symmetric),
+            _ => Err(NameError::NotOperation),
         }
     }
+}
 
+impl Operation {
     /// What the operation makes of two sets. One pass over their ranges at most; refused where memory runs out.
     pub fn of(self, alloc: Global, first: &Coverage, second: &Coverage) -> Result<Coverage, Memory>
         ensures set { IfOk result (λ c. c ≡ combined self first.now second.now) }

@@ -1,9 +1,11 @@
 //! Which form a text has, as its first byte that is no blank tells.
-ghost use Rattle.std.specs.Prelude.{◌≡◌, IfSome, Some};
-ghost use Rattle.moc_forms.specs.Finding.{choice_name, first_byte as first_byte_of, form_by, form_for, hint_of, hint_text};
+ghost use Rattle.std.specs.Prelude.{◌≡◌};
+ghost use Rattle.moc_forms.specs.Finding.{first_byte as first_byte_of, form_by, form_for, hint_of, hint_text};
 ghost use Rattle.moc_forms.specs.Finding.{is_blank_byte as is_blank_byte_of, looks_by, looks_like, other_form};
 
 use crate::form::Form;
+use crate::name_error::NameError;
+use std::str::FromStr;
 
 /// The form that a text is read in: one that is named, or the one that is found.
 #[derive(Clone, Copy, Debug, PartialEq, Eq)]
@@ -14,21 +16,28 @@ pub enum Choice {
     Auto,
 }
 
-impl Choice {
-    /// The choice that the command line calls `auto`, or by the name of a form.
-    pub fn named(word: &str) -> Option<Choice>
-        ensures name { IfSome result (λ choice. word.now ≡ choice_name choice) }
-        ensures each { (choice : Choice) → word.now ≡ choice_name choice → result ≡ Some choice }
-    {
+/// The choice that the command line calls `auto`, or by the name of a form; refused with `NotForm`.
+impl FromStr for Choice {
+    type Err = NameError;
+
+    ghost use Rattle.moc_sphere.specs.Names.{IsNamed};
+    ghost use Rattle.moc_forms.specs.Finding.{choice_name};
+    ghost use Rattle.moc_forms.specs.declared.name_error.NameError.TheVariants.{NotForm};
+
+    ghost from_str_gives = { IsNamed choice_name NotForm };
+
+    fn from_str(word: &str) -> Result<Choice, NameError> {
         match word {
-            "ascii" => Some(Choice::Named(Form::Ascii)),
-            "json" => Some(Choice::Named(Form::Json)),
-            "uniq" => Some(Choice::Named(Form::Uniq)),
-            "auto" => Some(Choice::Auto),
-            _ => None,
+            "ascii" => Ok(Choice::Named(Form::Ascii)),
+            "json" => Ok(Choice::Named(Form::Json)),
+            "uniq" => Ok(Choice::Named(Form::Uniq)),
+            "auto" => Ok(Choice::Auto),
+            _ => Err(NameError::NotForm),
         }
     }
+}
 
+impl Choice {
     /// The form that a text is read in. Linear in the blanks at its front; takes no memory.
     pub fn form(self, text: &[u8]) -> Form
         ensures { result ≡ form_for self text.now }

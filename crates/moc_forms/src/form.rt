@@ -1,8 +1,9 @@
 //! The text forms of a coverage as one type.
-ghost use Rattle.std.specs.Prelude.{◌≡◌, IfErr, IfOk, IfSome, OnOk, Some};
+ghost use Rattle.std.specs.Prelude.{◌≡◌, IfErr, IfOk, OnOk, Some};
 ghost use Rattle.std.specs.String.{string_bytes};
-ghost use Rattle.moc_forms.specs.Forms.{FormFails, FormSays, IsUnwritten, form_name, form_text};
+ghost use Rattle.moc_forms.specs.Forms.{FormFails, FormSays, IsUnwritten, form_text};
 
+use crate::name_error::NameError;
 use moc_ranges::{Coverage, Memory as MemoryRefused};
 use moc_sphere::Order;
 use moc_text::{
@@ -10,6 +11,7 @@ use moc_text::{
     write_uniq,
 };
 use std::alloc::{AllocError, Global};
+use std::str::FromStr;
 use thiserror::Error;
 
 /// A text form.
@@ -91,20 +93,27 @@ impl From<MemoryRefused> for FormError {
     }
 }
 
-impl Form {
-    /// The form that the command line calls `ascii`, `json` or `uniq`.
-    pub fn named(word: &str) -> Option<Form>
-        ensures name { IfSome result (λ form. word.now ≡ form_name form) }
-        ensures each { (form : Form) → word.now ≡ form_name form → result ≡ Some form }
-    {
+/// The form that the command line calls `ascii`, `json` or `uniq`; refused with `NotForm`.
+impl FromStr for Form {
+    type Err = NameError;
+
+    ghost use Rattle.moc_sphere.specs.Names.{IsNamed};
+    ghost use Rattle.moc_forms.specs.Forms.{form_name};
+    ghost use Rattle.moc_forms.specs.declared.name_error.NameError.TheVariants.{NotForm};
+
+    ghost from_str_gives = { IsNamed form_name NotForm };
+
+    fn from_str(word: &str) -> Result<Form, NameError> {
         match word {
-            "ascii" => Some(Form::Ascii),
-            "json" => Some(Form::Json),
-            "uniq" => Some(Form::Uniq),
-            _ => None,
+            "ascii" => Ok(Form::Ascii),
+            "json" => Ok(Form::Json),
+            "uniq" => Ok(Form::Uniq),
+            _ => Err(NameError::NotForm),
         }
     }
+}
 
+impl Form {
     /// Reads a text: the set, and the deepest order that the text names. A NUNIQ list names none.
     ///
     /// One pass over the bytes. Refused with the form's error: the first fault of the text, or want of memory.

@@ -6,6 +6,7 @@ ghost use Rattle.moc_forms.specs.Places.{byte_place, line_bytes, line_of, place_
 use crate::texts::push_count;
 use moc_sphere::Order;
 use std::alloc::{AllocError, Global};
+use std::fmt::{self, Write};
 
 /// Where a text is at fault. Lines are counted from 1, and so is a column; all else from 0.
 #[derive(Clone, Copy, Debug, PartialEq, Eq)]
@@ -51,29 +52,24 @@ impl Place {
         }
         Place::Byte { at, line, column }
     }
+}
 
-    /// Adds what `moc check` says of a place, without a line feed.
-    pub fn push_to(self, text: &mut String) -> Result<(), AllocError>
-        ensures { OnOk result (string_bytes text.new ≡ string_bytes text.old ++ place_text self) }
-    {
-        match self {
+/// The place in words, as `moc check` says it.
+impl fmt::Display for Place {
+    ghost use Rattle.std.specs.Prelude.{Some};
+
+    ghost output = { λ place. Some (place_text place) };
+
+    fn fmt<W: fmt::Write>(&self, f: &mut fmt::Formatter<W>) -> fmt::Result {
+        match *self {
             Place::Byte { at, line, column } => {
-                push_count(text, "byte ", at as u64)?;
-                push_count(text, ", line ", line as u64)?;
-                push_count(text, ", byte ", column as u64)?;
-                text.push_str(" of it")
+                write!(f, "byte {at}, line {line}, byte {column} of it")
             }
-            Place::Line(line) => push_count(text, "line ", line as u64),
-            Place::Stop { line, column } => {
-                push_count(text, "line ", line as u64)?;
-                push_count(text, ", column ", column as u64)
-            }
-            Place::Name(name) => push_count(text, "name ", name as u64),
-            Place::Order(order) => push_count(text, "order ", u64::from(order.get())),
-            Place::Number { order, number } => {
-                push_count(text, "order ", u64::from(order.get()))?;
-                push_count(text, ", number ", number as u64)
-            }
+            Place::Line(line) => write!(f, "line {line}"),
+            Place::Stop { line, column } => write!(f, "line {line}, column {column}"),
+            Place::Name(name) => write!(f, "name {name}"),
+            Place::Order(order) => write!(f, "order {order}"),
+            Place::Number { order, number } => write!(f, "order {order}, number {number}"),
         }
     }
 }
@@ -108,7 +104,7 @@ fn push_place(text: &mut String, place: Place, quote: Option<&str>) -> Result<()
     ensures { OnOk result (string_bytes text.new
         ≡ string_bytes text.old ++ (place_text place ++ quote_behind (option_map (λ q. q.now) quote.entry))) }
 {
-    place.push_to(text)?;
+    write!(text, "{place}")?;
     if let Some(quote) = quote {
         text.push_str(": ")?;
         text.push_str(quote)?;

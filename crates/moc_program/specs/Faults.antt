@@ -13,8 +13,8 @@ use Rattle.moc_forms.specs.Finding.{hint_text}
 use Rattle.moc_forms.specs.declared.form.Form.{Form}
 use Rattle.moc_forms.specs.declared.form.FormError.{FormError}
 use Rattle.moc_forms.specs.declared.form.FormError.TheVariants as form
-use Rattle.moc_script.specs.declared.script.RunError.{RunError}
-use Rattle.moc_script.specs.declared.script.RunError.TheVariants as run
+use Rattle.moc_script.specs.declared.run_error.RunError.{RunError}
+use Rattle.moc_script.specs.declared.run_error.RunError.TheVariants as run
 use Rattle.moc_program.specs.declared.status.Complaint.{Complaint}
 use Rattle.moc_program.specs.declared.status.Fault.{Fault}
 use Rattle.moc_program.specs.declared.status.Fault.TheVariants.{CellTooLarge, NotUniq, OutOfFace, RingTooLarge, BadByte}

@@ -3,6 +3,7 @@ use clap::ArgMatches;
 use moc_forms::{Change, Choice, Form, Operation};
 use moc_script::{Lanes, Numbering, Renumbering};
 use moc_sphere::Order;
+use std::str::FromStr;
 
 /// What the words ask for.
 #[derive(Clone, Copy, Debug, PartialEq, Eq)]
@@ -88,15 +89,15 @@ impl Number {
 }
 
 fn form(values: &ArgMatches<'_>, id: &str) -> Option<Form> {
-    Form::named(values.get_str(id)?)
+    Form::from_str(values.get_str(id)?).ok()
 }
 
 fn choice(values: &ArgMatches<'_>) -> Option<Choice> {
-    Choice::named(values.get_str("FORM")?)
+    Choice::from_str(values.get_str("FORM")?).ok()
 }
 
 fn operation(values: &ArgMatches<'_>) -> Option<Operation> {
-    Operation::named(values.get_str("OP")?)
+    Operation::from_str(values.get_str("OP")?).ok()
 }
 
 fn renumbering(values: &ArgMatches<'_>) -> Option<Renumbering> {
@@ -108,7 +109,7 @@ fn renumbering(values: &ArgMatches<'_>) -> Option<Renumbering> {
 }
 
 fn numbering(values: &ArgMatches<'_>, id: &str) -> Option<Numbering> {
-    Numbering::named(values.get_str(id)?)
+    Numbering::from_str(values.get_str(id)?).ok()
 }
 
 fn lanes(values: &ArgMatches<'_>) -> Option<Lanes> {

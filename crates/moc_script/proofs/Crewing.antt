@@ -18,7 +18,7 @@ use Rattle.std.specs.Io.KnownBytes.{Appends, Consumes, IsAtEnd, Keeps}
 use Rattle.moc_script.specs.Crews.{cover_line, said_lines, IsCrewText, CrewEnds}
 use Rattle.moc_script.specs.Runs.{AreWithin}
 use Rattle.moc_script.specs.Scripts.{line_limit}
-use Rattle.moc_script.specs.declared.script.RunError.TheVariants as run
+use Rattle.moc_script.specs.declared.run_error.RunError.TheVariants as run
 use Rattle.moc_devices.specs.Laws.{Sends-all}
 use Rattle.moc_shared.specs.declared.client.Client.{Client}
 use Rattle.moc_text.specs.Lines.{lines_of}

@@ -11,8 +11,8 @@ use Rattle.moc_script.specs.Answers.{Rules}
 use Rattle.moc_script.specs.Runs.{AreWithin, IsTooLong}
 use Rattle.moc_script.specs.Scripts.{line_limit, script_rules}
 use Rattle.moc_script.specs.Merges.{InLane, placed, dealt, IsMerge}
-use Rattle.moc_script.specs.declared.script.RunError.{RunError}
-use Rattle.moc_script.specs.declared.script.RunError.TheVariants.{Read, Write, LineTooLong, Memory, Spawn}
+use Rattle.moc_script.specs.declared.run_error.RunError.{RunError}
+use Rattle.moc_script.specs.declared.run_error.RunError.TheVariants.{Read, Write, LineTooLong, Memory, Spawn}
 
 -- the lines that are not blank
 abbrev pub said_lines : List (List ℕ) → List (List ℕ)

@@ -17,7 +17,7 @@ use Rattle.moc_script.specs.declared.fault.Fault.TheVariants.{RingTooLarge, Othe
 use Rattle.moc_script.specs.declared.numbering.Numbering.{Numbering}
 use Rattle.moc_script.specs.declared.numbering.Numbering.TheVariants.{Nest, Ring, Uniq}
 use Rattle.moc_script.specs.declared.renumbering.Renumbering.{Renumbering}
-use Rattle.moc_script.specs.declared.script.RunError.{RunError}
+use Rattle.moc_script.specs.declared.run_error.RunError.{RunError}
 
 -- the word for a numbering
 abbrev pub numbering_name : Numbering → List ℕ

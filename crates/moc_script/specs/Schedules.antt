@@ -20,7 +20,7 @@ use Rattle.moc_script.specs.Answers.{Rules, script_text}
 use Rattle.moc_script.specs.Scripts.{line_limit}
 use Rattle.moc_script.specs.Runs.{Runs, Begins}
 use Rattle.moc_script.specs.declared.fault.Fault.{Fault}
-use Rattle.moc_script.specs.declared.script.RunError.{RunError}
+use Rattle.moc_script.specs.declared.run_error.RunError.{RunError}
 
 -- where a schedule stands
 pub record Schedule : Type 0 where

@@ -6,7 +6,7 @@ use Rattle.moc_script.specs.Language.{command_of}
 use Rattle.moc_script.specs.Batches.{line_answer, after_line}
 use Rattle.moc_script.specs.Answers.{Rules, script_text}
 use Rattle.moc_script.specs.Runs.{Runs, Begins}
-use Rattle.moc_script.specs.declared.script.RunError.{RunError}
+use Rattle.moc_script.specs.declared.run_error.RunError.{RunError}
 
 -- the most bytes of a line
 abbrev pub line_limit : ℕ

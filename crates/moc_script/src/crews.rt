@@ -19,7 +19,7 @@ mod texts;
 mod threads;
 
 use crate::reply_text::push_cover;
-use crate::script::RunError;
+use crate::run_error::RunError;
 pub use gate::{Gate, OpenGate};
 use gathering::{all_done, take_in_all};
 use joining::{JoinError, write_joined};

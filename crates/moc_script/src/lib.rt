@@ -14,6 +14,7 @@ mod player;
 mod renumbering;
 mod reply_text;
 mod responder;
+mod run_error;
 mod runner;
 mod schedule;
 mod script;
@@ -28,7 +29,8 @@ pub use laws::{
 };
 pub use line_reader::LINE_LIMIT;
 pub use moc_devices::{DeviceFault, OverReader, OverWriter, Sink, Source, write_all};
-pub use numbering::Numbering;
+pub use numbering::{NotNumbering, Numbering};
 pub use renumbering::{Renumbering, renumber};
+pub use run_error::RunError;
 pub use schedule::play;
-pub use script::{RunError, run};
+pub use script::run;

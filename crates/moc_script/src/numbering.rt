@@ -1,10 +1,12 @@
 //! The numberings of the cells of an order.
-ghost use Rattle.std.specs.Prelude.{◌≡◌, IfSome, Some};
-ghost use Rattle.moc_script.specs.Numberings.{number_under, numbering_name};
+ghost use Rattle.std.specs.Prelude.{◌≡◌};
+ghost use Rattle.moc_script.specs.Numberings.{number_under};
 ghost use Rattle.moc_script.specs.Private.Finding.{FindsCell};
 
 use crate::fault::Fault;
 use moc_sphere::{Cell, Order};
+use std::str::FromStr;
+use thiserror::Error;
 
 /// A numbering of the cells of an order.
 #[derive(Clone, Copy, Debug, PartialEq, Eq)]
@@ -17,20 +19,32 @@ pub enum Numbering {
     Uniq,
 }
 
-impl Numbering {
-    /// The numbering that the command line calls `nest`, `ring` or `uniq`.
-    pub fn named(word: &str) -> Option<Numbering>
-        ensures name { IfSome result (λ numbering. word.now ≡ numbering_name numbering) }
-        ensures each { (n : Numbering) → word.now ≡ numbering_name n → result ≡ Some n }
-    {
+/// A word names no numbering.
+#[derive(Clone, Copy, Debug, PartialEq, Eq, Error)]
+#[error("no numbering has that name")]
+pub struct NotNumbering;
+
+/// The numbering that the command line calls `nest`, `ring` or `uniq`; refused with `NotNumbering`.
+impl FromStr for Numbering {
+    type Err = NotNumbering;
+
+    ghost use Rattle.moc_sphere.specs.Names.{IsNamed};
+    ghost use Rattle.moc_script.specs.Numberings.{numbering_name};
+    ghost use Rattle.moc_script.specs.declared.numbering.NotNumbering.{NotNumbering};
+
+    ghost from_str_gives = { IsNamed numbering_name NotNumbering };
+
+    fn from_str(word: &str) -> Result<Numbering, NotNumbering> {
         match word {
-            "nest" => Some(Numbering::Nest),
-            "ring" => Some(Numbering::Ring),
-            "uniq" => Some(Numbering::Uniq),
-            _ => None,
+            "nest" => Ok(Numbering::Nest),
+            "ring" => Ok(Numbering::Ring),
+            "uniq" => Ok(Numbering::Uniq),
+            _ => Err(NotNumbering),
         }
     }
+}
 
+impl Numbering {
     /// The number of a cell.
     pub(crate) fn number(self, cell: Cell) -> u64
         ensures { result ≡ number_under self cell.order cell.index }

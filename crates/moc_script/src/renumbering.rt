@@ -13,7 +13,7 @@ use crate::numbering::Numbering;
 use crate::reply_text::{push_count, push_words};
 use crate::responder::Responder;
 use crate::runner::Runner;
-use crate::script::RunError;
+use crate::run_error::RunError;
 use crate::words::{is_blank_text, number_in, split_word};
 use moc_devices::{Sink, Source};
 use moc_ranges::Memory;

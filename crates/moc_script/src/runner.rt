@@ -9,7 +9,7 @@ ghost use Rattle.moc_script.specs.Private.Ended.{Ended};
 
 use crate::line_reader::{Found, LINE_LIMIT, LineFault, LineReader};
 use crate::responder::Responder;
-use crate::script::RunError;
+use crate::run_error::RunError;
 use moc_devices::{DeviceFault, Sink, Source, write_all};
 use std::alloc::{AllocError, Global};
 

@@ -6,7 +6,7 @@ ghost use Rattle.moc_script.specs.Schedules.{RunsSchedule, BeginsSchedule, sched
 
 use crate::player::Player;
 use crate::runner::Runner;
-use crate::script::RunError;
+use crate::run_error::RunError;
 use moc_devices::{Sink, Source};
 use std::alloc::Global;
 

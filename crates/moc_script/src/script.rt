@@ -4,33 +4,12 @@ ghost use Rattle.std.specs.Io.KnownBytes.{Appends, IsAtEnd};
 ghost use Rattle.moc_script.specs.Runs.{Flushes};
 ghost use Rattle.moc_script.specs.Scripts.{RunsScript, BeginsAnswers, answers_of};
 
+use crate::run_error::RunError;
 use crate::runner::Runner;
 use moc_devices::{Sink, Source};
 use moc_parts::Map;
 use moc_ranges::Coverage;
 use std::alloc::Global;
-use thiserror::Error;
-
-/// Why a run ended before its input's end.
-#[derive(Clone, Copy, Debug, PartialEq, Eq, Error)]
-pub enum RunError {
-    /// The reader failed.
-    #[error("the input could not be read")]
-    Read,
-    /// The writer failed, or took none of some bytes.
-    #[error("the output could not be written")]
-    Write,
-    /// A line is over the limit. Lines are counted from 1.
-    #[error("line {line} is too long")]
-    LineTooLong { line: u64 },
-    /// A growth was refused while this line was read or answered; before the first line, and of `crew` for the map and
-    /// the threads too, at 0; once all lines are answered, at one more than the lines.
-    #[error("out of memory at line {line}")]
-    Memory { line: u64 },
-    /// A thread could not be started; of `crew` alone.
-    #[error("a thread could not be started")]
-    Spawn,
-}
 
 /// Answers a script: one client asks and changes one set of pixels of order 29, which starts empty.
 ///

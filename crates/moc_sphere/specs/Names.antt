@@ -1,4 +1,4 @@
--- What texts name orders and cells.
+-- What texts name orders and cells, and what has a name of its own.
 use Rattle.std.specs.Prelude.{◌≡◌, ℕ, ◌<◌, ◌≤◌, Bool, ◌==◌, List, length, Result, Ok, IfOk, IsOkUnless}
 use Rattle.std.specs.List.{position_or_len, before_first, after_first}
 use Rattle.std.specs.Str.Parse.{IsNumeral, digits_value, without_leading_plus}
@@ -31,3 +31,9 @@ pub record NamesCell (text : List ℕ) (r : Result CellNumber NameError) : Type 
   pub cell : IfOk r (λ c. SpellsCell text c × IsCell c)
   pub only : (c : CellNumber) → IsCell c → SpellsCell text c → r ≡ Ok c
   pub refusal : IsOkUnless r NotCell
+
+-- what was read of a word is what has this name, and nothing is, with this refusal, where nothing has it
+pub record IsNamed {A E : Type 0} (name : A → List ℕ) (none : E) (word : List ℕ) (r : Result A E) : Type 0 where
+  pub named : IfOk r (λ a. word ≡ name a)
+  pub only : (a : A) → word ≡ name a → r ≡ Ok a
+  pub refusal : IsOkUnless r none

@@ -1,8 +1,9 @@
 //! What lines of numbers are answered.
 use crate::between::{Language, expect_answers as expect};
-use moc_script::{LINE_LIMIT, Numbering, OverReader, OverWriter, Renumbering, RunError, renumber};
+use moc_script::{LINE_LIMIT, NotNumbering, Numbering, OverReader, OverWriter, Renumbering, RunError, renumber};
 use moc_sphere::Order;
 use std::alloc::{AllocError, Global};
+use std::str::FromStr;
 
 // The names of the numberings.
 const NAMES: [&str; 3] = ["nest", "ring", "uniq"];
@@ -16,8 +17,8 @@ const RINGS: [u64; 48] = [
 // Numbers of an order, by the names of two numberings.
 fn numbers(from: &str, to: &str, order: u8) -> Option<Language> {
     Some(Language::Numbers(Renumbering {
-        from: Numbering::named(from)?,
-        to: Numbering::named(to)?,
+        from: Numbering::from_str(from).ok()?,
+        to: Numbering::from_str(to).ok()?,
         order: Order::new(order)?,
     }))
 }
@@ -52,7 +53,7 @@ fn all_cells_of_order_1(rt: HostRuntime) {
             );
         }
     }
-    assert!(rt; Numbering::named("nested").is_none());
+    assert!(rt; Numbering::from_str("nested") == Err(NotNumbering));
 }
 
 // Cells of the least and of the greatest order: the first and the last in some numbering.

@@ -5,8 +5,8 @@ use Rattle.moc_text.specs.Lines.{lines_of}
 use Rattle.moc_script.specs.Lines.{whole_lines_of}
 use Rattle.moc_script.specs.Answers.{Rules, answers_to, closing_behind}
 use Rattle.moc_script.specs.Runs.{AreWithin, IsTooLong, lines_before, IsBegun, IsUnclosed}
-use Rattle.moc_script.specs.declared.script.RunError.{RunError}
-use Rattle.moc_script.specs.declared.script.RunError.TheVariants.{Read, Write, LineTooLong, Memory, Spawn}
+use Rattle.moc_script.specs.declared.run_error.RunError.{RunError}
+use Rattle.moc_script.specs.declared.run_error.RunError.TheVariants.{Read, Write, LineTooLong, Memory, Spawn}
 
 module _ {S : Type 0} (limit : ℕ) (rules : Rules S) (s : S) where
   -- Where the lines stand that were answered before a run's end:

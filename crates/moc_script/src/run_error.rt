@@ -1,0 +1,23 @@
+//! Why a run ends early.
+use thiserror::Error;
+
+/// Why a run ended before its input's end.
+#[derive(Clone, Copy, Debug, PartialEq, Eq, Error)]
+pub enum RunError {
+    /// The reader failed.
+    #[error("the input could not be read")]
+    Read,
+    /// The writer failed, or took none of some bytes.
+    #[error("the output could not be written")]
+    Write,
+    /// A line is over the limit. Lines are counted from 1.
+    #[error("line {line} is too long")]
+    LineTooLong { line: u64 },
+    /// A growth was refused while this line was read or answered; before the first line, and of `crew` for the map and
+    /// the threads too, at 0; once all lines are answered, at one more than the lines.
+    #[error("out of memory at line {line}")]
+    Memory { line: u64 },
+    /// A thread could not be started; of `crew` alone.
+    #[error("a thread could not be started")]
+    Spawn,
+}
