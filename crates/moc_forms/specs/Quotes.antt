@@ -1,6 +1,6 @@
 -- What stands in a text at its fault, as it is quoted.
 use Rattle.std.specs.Prelude.{◌≡◌, ℕ, zero, suc, ◌+◌, ◌-◌, ◌/◌, ◌%◌, Bool, not, ◌&&◌, ◌==◌, nat_le, nat_lt}
-use Rattle.std.specs.Prelude.{if◌then◌else◌, List, [], ◌∷◌, ◌++◌, length, take, drop, codes, Option, None, Some, option_map}
+use Rattle.std.specs.Prelude.{if◌then◌else◌, List, [], ◌∷◌, ◌++◌, length, take, drop, codes, Option, None, option_map}
 use Rattle.moc_text.specs.Ascii.{is_separator}
 use Rattle.moc_text.specs.JsonForm.{HasItem, HasName}
 use Rattle.moc_text.specs.Lines.{is_line_feed}

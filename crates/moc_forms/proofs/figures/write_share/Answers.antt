@@ -1,4 +1,4 @@
-use Rattle.std.proofs.Common.{◌≡◌, ◌-◌, ◌+◌, ◌^◌, ◌%◌, ℕ, List, ◌∷◌, ◌++◌, [], length, decimal, replicate, ap, subst, ◌∙◌, append-nil, arith}
+use Rattle.std.proofs.Common.{◌≡◌, ◌-◌, ◌^◌, ◌%◌, ℕ, List, ◌∷◌, ◌++◌, [], length, decimal, replicate, ap, subst, ◌∙◌, append-nil, arith}
 use Rattle.std.specs.Prelude.{codes, ◌/◌}
 use Rattle.std.specs.Fmt.{HasWritten, styled_decimal, format_spec, padded_integral, char_count}
 use Rattle.moc_forms.specs.Describing.{twelve_digits}
