@@ -1,7 +1,7 @@
 //! What is told of texts. Expected lines are worked out by hand from the texts.
 use moc_forms::{
-    Change, Choice, Figures, Form, FormError, NameError, Operation, Place, check, describe, draw, draw_two, examine,
-    hint, hint_line, is_blank, place_line, quote,
+    Change, Choice, Figures, Form, FormError, NameError, Operation, Place, check, describe, draw,
+    draw_two, examine, hint, hint_line, is_blank, place_line, quote,
 };
 use moc_sphere::Order;
 use moc_text::{JsonError, TextError, UniqError};
