@@ -296,7 +296,7 @@ class MOC:
 
     # Showing them.
 
-    def to_string(self, format: str = "ascii", max_order: int | None = None) -> str:
+    def to_string(self, format: str = "ascii", *, max_order: int | None = None) -> str:
         """Its text in the form `ascii`, `json` or `uniq`, without a line feed at its end.
 
         max_order: the order that ASCII and JSON state, as MOC 2.0 asks where a set was made of deeper cells than it needs; a set does

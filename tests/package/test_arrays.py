@@ -2,7 +2,7 @@
 import sys
 import unittest
 
-from ploverchaise import MOC, neighbours, nest2ring, nest2uniq, pix2xyf, ring2nest, uniq2nest
+from ploverchaise import MOC, _arrays, neighbours, nest2ring, nest2uniq, pix2xyf, ring2nest, uniq2nest
 
 from .common import NUMBERS, PIXELS, TestCase, cells_in
 
@@ -54,6 +54,9 @@ class WithNumpy(TestCase):
         records = numpy.zeros(600, numpy.dtype([("name", "S3"), ("cell", ">i8")]))
         records["cell"] = cells
         self.assertArray(ring2nest(2**29, records["cell"]), wanted, "int64")
+        shifted = numpy.frombuffer(b"." + cells.tobytes(), "i8", offset=1)
+        self.assertArray(ring2nest(2**29, shifted), wanted, "int64")
+        self.assertTrue(_arrays.numbers_of(shifted).numbers.flags.aligned)
         frozen = cells.copy()
         frozen.flags.writeable = False
         self.assertArray(ring2nest(2**29, frozen), wanted, "int64")

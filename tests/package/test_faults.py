@@ -1,5 +1,7 @@
-"""Faults: each with its name and its place; and what is no number at all."""
+"""Faults: each with its name and its place; what is no number at all; and want of memory."""
 import pickle
+import subprocess
+import sys
 
 from ploverchaise import MOC, MocError, neighbours, nest2ring, nest2uniq, pix2xyf, ring2nest, uniq2nest
 
@@ -16,6 +18,21 @@ JSON = [
     ('{"0":[1],"2":[5,6,1.5]}', "NotWhole", (1, 2)), ('{"1":[0,48]}', "CellTooLarge", (0, 1)),
 ]
 UNIQ = [("4\nx\n", "BadByte", (2,)), ("4\n\n3", "NotUniq", (3,)), ("4611686018427387904", "NotUniq", (1,))]
+# Makes complements, of 200,000 ranges each, until no memory is left: then says so, and whether all that were made are as they were.
+UNTIL_NO_MEMORY = """
+import resource
+from ploverchaise import MOC
+
+made = [MOC.from_healpix_cells(range(0, 400_000, 2), 10)]
+with open("/proc/self/statm") as file:
+    taken = int(file.read().split()[0]) * resource.getpagesize()
+resource.setrlimit(resource.RLIMIT_AS, (taken + 64_000_000,) * 2)
+try:
+    while True:
+        made.append(~made[-1])
+except MemoryError as error:
+    print(error, len(made) > 5, all(moc == made[place % 2] for place, moc in enumerate(made)))
+"""
 
 
 class Faults(TestCase):
@@ -87,6 +104,10 @@ class Faults(TestCase):
         self.assertFault("BadByte", (3,), MOC.from_string, "5/7x")
         self.assertFault("TooCoarse", (), moc.to_string, max_order=0)
         self.assertEqual(str(moc), "0/0 1/4-5")
+
+    def test_want_of_memory(self):
+        ran = subprocess.run([sys.executable, "-c", UNTIL_NO_MEMORY], stdout=subprocess.PIPE, text=True, timeout=60)
+        self.assertEqual(ran.stdout, "no memory is left for a coverage True True\n")
 
     def test_errors_are_values(self):
         with self.assertRaises(ValueError) as caught:
