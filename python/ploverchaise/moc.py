@@ -70,7 +70,7 @@ class MOC:
         BadOrder, NotArray, NotWhole, CellTooLarge with a name and an item; BadByte, NotUniq with a line."""
         if format not in _READERS:
             raise ValueError(f"a form is one of {', '.join(_READERS)}, not {format}")
-        return cls._made(_READERS[format], value.encode() if isinstance(value, str) else bytes(value))
+        return cls._made(_READERS[format], value.encode() if isinstance(value, str) else bytes(memoryview(value)))
 
     @classmethod
     def from_json(cls, json_moc: dict[str, list[int]] | str | bytes) -> MOC:

@@ -89,6 +89,9 @@ class Faults(TestCase):
             for call in (lambda given: nest2ring(2, given), MOC.full().contains, MOC.from_uniq):
                 with self.subTest(given=given), self.assertRaises(TypeError):
                     call(given)
+        for text in (5, None, ["0/0"]):
+            with self.assertRaises(TypeError):
+                MOC.from_string(text)
         with self.assertRaises(TypeError):
             1.5 in MOC.full()
         with self.assertRaises(TypeError):
