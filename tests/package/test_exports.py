@@ -2,6 +2,7 @@
 import ctypes
 import os
 import re
+import subprocess
 
 from ploverchaise import MOC, _library, errors
 
@@ -37,6 +38,16 @@ class Header(TestCase):
                 kind = argument.replace("const", "").split()[0]
                 told.append(types[kind] if "*" not in argument or kind == "moc_desk" else ctypes.c_void_p)
             self.assertEqual(told, list(here[name]), name)
+
+    def test_the_library_shows_nothing_else(self):
+        path = _library.library._name
+        shown = subprocess.run(["nm", "-D", "--defined-only", path], check=True, stdout=subprocess.PIPE, text=True).stdout
+        declared = re.findall(r"\b(?:moc_outcome|bool|void) (moc_\w+)\(", header())
+        self.assertEqual(sorted(re.findall(r" T (\w+)$", shown, re.MULTILINE)), sorted(declared))
+        self.assertEqual(len(shown.splitlines()), len(declared))
+        told = subprocess.run(["readelf", "-d", path], check=True, stdout=subprocess.PIPE, text=True).stdout
+        self.assertIn("Library soname: [libploverchaise.so]", told)
+        self.assertEqual(re.findall(r"Shared library: \[(.*)\]", told), ["libc.so.6"])
 
     def test_faults_are_those_of_the_header(self):
         told = {int(code): "".join(it.capitalize() for it in PREFIX.sub("", name).split("_"))
