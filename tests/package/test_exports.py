@@ -65,10 +65,19 @@ class WrongArguments(TestCase):
         outcome = functions[name](*desk, *arguments)
         return outcome.code, outcome.first, outcome.second
 
-    def filled(self, types, wrong):
-        """Arguments of these types, right but for those of the types that are wrong: keys of a set, orders, one number in each array."""
-        values = {ctypes.c_uint64: self.moc._key, ctypes.c_uint8: 3, ctypes.c_size_t: 1, **wrong}
-        return [numbers(*[0] * 8) if it is ctypes.c_void_p else values[it] for it in types]
+    def filled(self, types, key=None, order=3):
+        """Arguments of these types that are right but for the key or the order: keys of a set, and one number in each array."""
+        made = []
+        for before, it in zip((None, *types), types):
+            if it is ctypes.c_void_p:
+                made.append(numbers(*[0] * 8))
+            elif before is ctypes.c_void_p:
+                made.append(1)
+            elif it is ctypes.c_uint8:
+                made.append(order)
+            else:
+                made.append(self.moc._key if key is None else key)
+        return made
 
     def setUp(self):
         self.moc = MOC.from_string("1/1-2 4 2/12-14 21 23 25")
@@ -81,7 +90,7 @@ class WrongArguments(TestCase):
             for name, types in _library.DESK_CALLS.items():
                 if types[:1] == (ctypes.c_uint64,):
                     with self.subTest(name=name, key=key):
-                        self.assertEqual(self.call(name, *self.filled(types, {ctypes.c_uint64: key})), (NO_SUCH_SET, key, 0))
+                        self.assertEqual(self.call(name, *self.filled(types, key=key)), (NO_SUCH_SET, key, 0))
         for name in ("union", "intersection", "difference", "symmetric", "count_common", "meets", "covers", "same"):
             self.assertEqual(self.call(name, self.moc._key, NO_KEY), (NO_SUCH_SET, NO_KEY, 0))
 
@@ -99,7 +108,7 @@ class WrongArguments(TestCase):
                     if order == _library.NONE and name in ("write_ascii", "write_json", "describe"):
                         continue
                     with self.subTest(name=name, order=order):
-                        self.assertEqual(self.call(name, *self.filled(types, {ctypes.c_uint8: order})), (NO_SUCH_ORDER, order, 0))
+                        self.assertEqual(self.call(name, *self.filled(types, order=order)), (NO_SUCH_ORDER, order, 0))
 
     def test_lengths_that_differ(self):
         one, two, room = numbers(0), numbers(0, 0), numbers(*[0] * 16)
