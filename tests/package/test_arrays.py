@@ -26,6 +26,9 @@ class WithoutNumpy(TestCase):
         for given, told in ((3, 0), ([3, 0], [0, 13]), ((3, 0), [0, 13]), (range(2), [13, 5]), ({3}, [0]), (iter([3]), [0]), ([], [])):
             answer = nest2ring(2, given)
             self.assertEqual((answer, type(answer)), (told, type(told)))
+        for given in ([], MOC()._bounds(), *([numpy.zeros(0, "int64")] if numpy else [])):
+            address, count = _arrays.numbers_of(given).as_passed
+            self.assertEqual((address != 0, count), (True, 0))
         self.assertIs(MOC.full().contains(7), True)
         self.assertEqual(MOC.full().contains([7]), [True])
 
