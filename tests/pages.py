@@ -3,19 +3,25 @@
 
 In a block `console` each line that begins with `$` is a command of bash, and the lines up to the next one are all that
 it writes, faults too; the commands of the blocks under one heading run in turn in one shell and one folder. A block
-`python` is a program, and the block `text` behind it is all that it writes. The help of each word begins with the line
-that the list of words has for it, is 80 columns wide at most, and has an example, a command and what it writes. The
-program `moc` lies where the environment's MOC says. The last line printed is `N passed, M failed`."""
+`python` is a program, and the block `text` behind it is all that it writes; the Python package of the checkout is on its
+path, and where it asks for numpy, that has to be installed for this Python or the system's, else it is left out. The help
+of each word begins with the line that the list of words has for it, is 80 columns wide at most, and has an example, a
+command and what it writes. The program `moc` lies where the environment's MOC says. The last line printed is
+`N passed, M failed`."""
 import itertools
 import os
 import re
+import shlex
 import subprocess
 import sys
 import tempfile
 
 TOP = os.path.dirname(os.path.dirname(os.path.abspath(__file__)))
 MOC = os.environ.get("MOC", os.path.join(TOP, "crates", "moc_cli", "out", "moc_cli"))
-PAGES = ["README.md", "docs/RECIPES.md", "docs/FORMATS.md"]
+PAGES = ["README.md", "docs/RECIPES.md", "docs/FORMATS.md", "docs/PYTHON.md"]
+PACKAGE = os.path.join(TOP, "python")
+# This Python, and the one that Debian's packages are for.
+PYTHONS = [sys.executable, "/usr/bin/python3"]
 SECONDS = 60
 COLUMNS = 80
 END = "--- the end of what this command writes ---"
@@ -99,9 +105,19 @@ def checked(page):
             text = "".join(line + "\n" for line in told)
             yield compare(f"{heading}: {command}", seen[place] if place < len(seen) else None, text)
     for program, told in programs(page):
+        python = python_with("numpy") if "import numpy" in program else sys.executable
+        if python is None:
+            print("a program is left out, since numpy is not installed", file=sys.stderr)
+            continue
         with tempfile.TemporaryDirectory() as folder:
-            seen = outputs(folder_with_moc(folder), [f"python3 - <<'EOF'\n{program}\nEOF"])
-        yield compare("the program", seen[0], told)
+            command = f"PYTHONDONTWRITEBYTECODE=1 PYTHONPATH={shlex.quote(PACKAGE)} {shlex.quote(python)} - <<'EOF'\n{program}\nEOF"
+            seen = outputs(folder_with_moc(folder), [command])
+        yield compare(f"the program\n{program}", seen[0], told)
+
+
+def python_with(module):
+    """A Python that has the module."""
+    return next((it for it in PYTHONS if subprocess.run([it, "-c", f"import {module}"], stderr=subprocess.DEVNULL).returncode == 0), None)
 
 
 def help_of(*words):

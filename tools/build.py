@@ -1,12 +1,15 @@
 #!/usr/bin/env python3
 """Proves the program and all that it stands on, and builds it; what was proved before is proved again only where it changed.
 
-usage: tools/build.py [--libraries [CRATE..]]
+usage: tools/build.py [--libraries [CRATE..] | --library [FOLDER]]
 
-With `--libraries` it stops before the program; with crates named, at these and those that they stand on. A crate is proved as soon as the
-libraries below it are, in a room of its own (`crates.py`), beside others. The one with the longest chain of crates behind it goes before the
-others, which take what it leaves of the processors: with more jobs than processors, checks take up to twice the time of processors. Progress
-is told on standard error: how many functions of all crates are checked, and how much of the work is done, by the sizes of files.
+With `--libraries` it stops before the program; with crates named, at these and those that they stand on. With `--library` it makes no
+program, but the library for C and Python (`library.py`), and puts it into the folder, or else beside the Python package.
+
+A crate is proved as soon as the libraries below it are, in a room of its own (`crates.py`), beside others. The one with the longest chain
+of crates behind it goes before the others, which take what it leaves of the processors: with more jobs than processors, checks take up to
+twice the time of processors. Progress is told on standard error: how many functions of all crates are checked, and how much of the work is
+done, by the sizes of files.
 
 MOC_JOBS in the environment is how many jobs all checks have together at most; without it, as many as there are processors, as far as
 memory goes."""
@@ -21,6 +24,7 @@ import sys
 import threading
 import time
 
+import library
 from crates import PARTS, crates_of, files_of, folder_of, is_current, libraries_below, make_room, take_back
 
 PROGRAM = "moc_cli"
@@ -133,9 +137,9 @@ class Build:
     def __init__(self, rooms, wanted):
         below = libraries_below(crates_of())
         needed = {*wanted, *(it for crate in wanted for it in below[crate])}
-        libraries = [it for it in below[PROGRAM] if it in needed]
+        self.below = {it: below[it] for it in below if it in needed}
+        libraries = [it for it in self.below if it != PROGRAM]
         self.rooms, self.left = rooms, libraries[:]
-        self.below = {it: below[it] for it in [*libraries, PROGRAM]}
         sizes = {it: size_of(it) for it in self.below}
         self.behind = {}
         for it in reversed(self.below):
@@ -199,19 +203,25 @@ class Build:
 
 def main():
     words = argparse.ArgumentParser(description="Proves the program and builds it.")
-    words.add_argument("--libraries", nargs="*", metavar="CRATE")
+    kinds = words.add_mutually_exclusive_group()
+    kinds.add_argument("--libraries", nargs="*", metavar="CRATE")
+    kinds.add_argument("--library", nargs="?", const=library.FOLDER, metavar="FOLDER")
     given = words.parse_args()
+    wanted = [library.CRATE] if given.library is not None else given.libraries or [PROGRAM]
+    is_program = given.library is None and given.libraries is None
     out = os.path.join(folder_of(PROGRAM), "out")
     rooms = os.path.join(out, "rooms")
     os.makedirs(out, exist_ok=True)
     with open(os.path.join(out, "lock"), "w") as lock:
         fcntl.flock(lock, fcntl.LOCK_EX)
         shutil.rmtree(rooms, ignore_errors=True)
-        build = Build(rooms, given.libraries or [PROGRAM])
+        build = Build(rooms, wanted)
         with build.progress.told():
-            well = build.libraries() and (given.libraries is not None or build.program())
+            well = build.libraries() and (not is_program or build.program())
         shutil.rmtree(rooms, ignore_errors=True)
-    if given.libraries is not None or not well:
+        if well and given.library is not None:
+            well = library.put(given.library)
+    if not is_program or not well:
         return 0 if well else 1
     program = os.path.join(out, PROGRAM)
     # (newer than all sources, also where nothing had to be built)

@@ -25,10 +25,14 @@ def crates_of(top=TOP):
     found = {}
     with open(os.path.join(top, "crates.txt")) as file:
         for line in file:
-            name, colon, named = line.partition("#")[0].partition(":")
-            if colon:
-                found[name.split()[0]] = named.split()
+            if ":" in line.partition("#")[0]:
+                found[name_of(line)] = line.partition("#")[0].partition(":")[2].split()
     return found
+
+
+def name_of(line):
+    """The crate that a line of crates.txt is of: its first word, behind which a static library says so."""
+    return line.partition("#")[0].partition(":")[0].partition(" ")[0].strip()
 
 
 def libraries_below(crates):
@@ -61,7 +65,7 @@ def make_room(room, crate, below):
     """Makes a room for a crate, whose proofs go on there from what is kept, and returns the crate's folder in it."""
     os.makedirs(os.path.join(room, "crates"))
     with open(os.path.join(TOP, "crates.txt")) as file, open(os.path.join(room, "crates.txt"), "w") as to:
-        to.writelines(it for it in file if it.partition(":")[0].strip() in (*below, crate))
+        to.writelines(it for it in file if name_of(it) in (*below, crate))
     shutil.copy(os.path.join(TOP, "HANDLES"), room)
     for name in (*below, crate):
         for part in (*PARTS, "out/rlib", *["out/incremental"] * (name == crate)):
@@ -76,8 +80,16 @@ def stamp_of(crate, top=TOP):
     return os.path.join(folder_of(crate, top), "out", "rlib", "stamp")
 
 
+def archive_of(crate, top=TOP):
+    """The file that `rt` makes of a static library, which has no stamp."""
+    return os.path.join(folder_of(crate, top), "out", f"lib{crate}.a")
+
+
 def take_back(room, crate):
     """Brings what was proved in a room, and the library that was built there, back into the crate's own folder."""
+    if os.path.exists(archive_of(crate, room)):
+        os.makedirs(os.path.dirname(archive_of(crate)), exist_ok=True)
+        os.replace(archive_of(crate, room), archive_of(crate))
     for part in ("incremental", "rlib"):
         made, kept = (os.path.join(folder_of(crate, at), "out", part) for at in (room, TOP))
         if os.path.isdir(made):
@@ -93,9 +105,9 @@ def take_back(room, crate):
 
 def is_current(crate, below):
     """Whether the library was built, and no source of it and no library below it is newer."""
-    stamp = stamp_of(crate)
-    if not os.path.exists(stamp):
+    built = next(filter(os.path.exists, (stamp_of(crate), archive_of(crate))), None)
+    if built is None:
         return False
-    time = os.stat(stamp).st_mtime
+    time = os.stat(built).st_mtime
     return all(it.st_mtime <= time for it in files_of(crate, *PARTS)) and all(
         os.path.exists(stamp_of(it)) and os.stat(stamp_of(it)).st_mtime <= time for it in below)

@@ -1,0 +1,73 @@
+"""What is wrong with what was passed."""
+from __future__ import annotations
+
+import operator
+from typing import NamedTuple
+
+
+class Kind(NamedTuple):
+    """A kind of fault: its name, what it means, and what the numbers of its place count."""
+
+    name: str
+    meaning: str
+    place: tuple[str, ...] = ()
+
+
+# The code of want of memory, which is told as Python's MemoryError.
+MEMORY = 1
+NO_SUCH_ORDER = 4
+
+# The kinds by the codes of moc.h. Of texts the names are those that the program `moc check` tells.
+KINDS = {
+    2: Kind("NoRoom", "a buffer is too short", ("wanted",)),
+    3: Kind("NoSuchSet", "no set has the key", ("key",)),
+    NO_SUCH_ORDER: Kind("NoSuchOrder", "an order is a number from 0 to 29", ("order",)),
+    5: Kind("LengthsDiffer", "arrays that go together differ in length"),
+    6: Kind("NoSuchCell", "the order has no cell of the number", ("place",)),
+    7: Kind("NotUniq", "no cell has the NUNIQ number", ("place",)),
+    8: Kind("TooCoarse", "a cell of the set is deeper than the order that is to be stated"),
+    10: Kind("BadByte", "no word has the byte there", ("byte",)),
+    11: Kind("NoOrder", "an item stands before any order", ("byte",)),
+    12: Kind("OrderTooLarge", "an order is above 29", ("byte",)),
+    13: Kind("CellTooLarge", "the order in force has no such cell", ("byte",)),
+    14: Kind("Backwards", "a range goes backwards", ("byte",)),
+    15: Kind("Unfinished", "a word is not finished", ("byte",)),
+    20: Kind("NotJson", "the text is no JSON"),
+    21: Kind("NotObject", "the text is no object"),
+    22: Kind("BadOrder", "a name is no order", ("name",)),
+    23: Kind("NotArray", "a name has no array", ("name",)),
+    24: Kind("NotWhole", "an item is no whole number", ("name", "item")),
+    25: Kind("CellTooLarge", "an item is no cell of its order", ("name", "item")),
+    30: Kind("BadByte", "a byte is no digit", ("line",)),
+    31: Kind("NotUniq", "no cell has the NUNIQ number", ("line",)),
+    40: Kind("Backwards", "a range ends before it begins", ("place",)),
+    41: Kind("PixelTooLarge", "a range ends behind the last pixel", ("place",)),
+}
+
+
+class MocError(ValueError):
+    """A fault of what was passed.
+
+    code: its number in moc.h.
+    name: its name, as the program `moc` tells it where it does.
+    place: where the first fault is, as one or two numbers, or nothing. Bytes of a text count from 0, lines from 1; of JSON they are the
+        name, in byte order of the names, and the item of its array, both from 0; of numbers and ranges the place in the list, from 0.
+    """
+
+    def __init__(self, code: int, *numbers: int) -> None:
+        kind = KINDS[code]
+        self.code, self.name, self.place = code, kind.name, numbers[:len(kind.place)]
+        where = ", ".join(f"{word} {number}" for word, number in zip(kind.place, self.place))
+        super().__init__(f"{kind.name}: {kind.meaning}" + (f" ({where})" if where else ""))
+        self._numbers = numbers
+
+    def __reduce__(self):
+        return MocError, (self.code, *self._numbers)
+
+
+def order_byte(order: int) -> int:
+    """The order, where it is one, as the library takes it."""
+    order = operator.index(order)
+    if not 0 <= order <= 29:
+        raise MocError(NO_SUCH_ORDER, order)
+    return order

@@ -1,0 +1,122 @@
+"""Arrays of numpy: what goes in, and what comes back in kind."""
+import sys
+import unittest
+
+from ploverchaise import MOC, _arrays, neighbours, nest2ring, nest2uniq, pix2xyf, ring2nest, uniq2nest
+
+from .common import NUMBERS, PIXELS, TestCase, cells_in
+
+try:
+    import numpy
+except ImportError:
+    numpy = None
+
+
+class WithoutNumpy(TestCase):
+    """The package alone."""
+
+    def test_it_asks_for_no_numpy(self):
+        if numpy is None:
+            with self.assertRaises(ImportError):
+                MOC.full().to_depth29_ranges
+        modules = [name for name in sys.modules if name.startswith("ploverchaise")]
+        self.assertFalse([name for name in modules if hasattr(sys.modules[name], "numpy")])
+
+    def test_answers_come_in_kind(self):
+        for given, told in ((3, 0), ([3, 0], [0, 13]), ((3, 0), [0, 13]), (range(2), [13, 5]), ({3}, [0]), (iter([3]), [0]), ([], [])):
+            answer = nest2ring(2, given)
+            self.assertEqual((answer, type(answer)), (told, type(told)))
+        for given in ([], MOC()._bounds(), *([numpy.zeros(0, "int64")] if numpy else [])):
+            address, count = _arrays.numbers_of(given).as_passed
+            self.assertEqual((address != 0, count), (True, 0))
+        self.assertIs(MOC.full().contains(7), True)
+        self.assertEqual(MOC.full().contains([7]), [True])
+
+
+@unittest.skipUnless(numpy, "numpy is not installed")
+class WithNumpy(TestCase):
+    """Arrays."""
+
+    def assertArray(self, found, told, dtype):
+        numpy.testing.assert_array_equal(found, told)
+        self.assertEqual(found.dtype, dtype)
+
+    def test_kinds_of_numbers(self):
+        for kind in ("int8", "uint8", "int32", "uint32", "int64", "uint64", ">i8", ">u4"):
+            self.assertArray(nest2ring(2, numpy.array([0, 1, 2, 3, 16, 18], kind)), [13, 5, 4, 0, 28, 27], "int64")
+        for kind in ("float64", "bool", "object", "U2"):
+            with self.assertRaises(TypeError):
+                nest2ring(2, numpy.array([1, 0], kind))
+        self.assertArray(nest2ring(2, numpy.array([])), [], "int64")
+
+    def test_arrays_that_are_views(self):
+        cells = numpy.array(cells_in(29, 600))
+        wanted = ring2nest(2**29, cells.tolist())
+        self.assertArray(ring2nest(2**29, cells[::-1]), wanted[::-1], "int64")
+        self.assertArray(ring2nest(2**29, cells[1::3]), wanted[1::3], "int64")
+        records = numpy.zeros(600, numpy.dtype([("name", "S3"), ("cell", ">i8")]))
+        records["cell"] = cells
+        self.assertArray(ring2nest(2**29, records["cell"]), wanted, "int64")
+        shifted = numpy.frombuffer(b"." + cells.tobytes(), "i8", offset=1)
+        self.assertArray(ring2nest(2**29, shifted), wanted, "int64")
+        self.assertTrue(_arrays.numbers_of(shifted).numbers.flags.aligned)
+        frozen = cells.copy()
+        frozen.flags.writeable = False
+        self.assertArray(ring2nest(2**29, frozen), wanted, "int64")
+
+    def test_shapes(self):
+        cells = numpy.arange(24).reshape(2, 3, 4)
+        self.assertEqual(nest2ring(2, cells).shape, (2, 3, 4))
+        self.assertEqual(neighbours(cells, 1).shape, (2, 3, 4, 8))
+        self.assertEqual(MOC.full().contains(cells).shape, (2, 3, 4))
+        self.assertEqual(nest2ring(2, cells.T)[3, 2, 1], nest2ring(2, 23))
+        one = nest2ring(2, numpy.int64(3))
+        self.assertEqual((one, type(one)), (0, numpy.int64))
+        self.assertArray(neighbours(numpy.int64(3), 2), [0, 1, 2, 4, 6, 8, 9, 12], "int64")
+
+    def test_neighbours_that_are_not_there(self):
+        self.assertArray(neighbours(numpy.array([0, 1]), 1), [[1, 2, 3, 17, 19, 22, 23, 35], [0, 2, 3, 6, 7, 22, 23, -1]], "int64")
+
+    def test_pairs_and_triples(self):
+        cells = numpy.array(cells_in(20, 500))
+        nsides, back = uniq2nest(nest2uniq(2**20, cells))
+        self.assertArray(nsides, [2**20] * 500, "int64")
+        self.assertArray(back, cells, "int64")
+        for found, told in zip(pix2xyf(2**20, cells), pix2xyf(2**20, cells.tolist())):
+            self.assertArray(found, told, "int64")
+
+    def test_faults_have_their_places(self):
+        self.assertFault("NoSuchCell", (1,), nest2ring, 2, numpy.array([0, -1, 48]))
+        self.assertFault("NoSuchCell", (3,), neighbours, numpy.array([[0, 1], [2, 48]]), 1)
+        self.assertFault("NotUniq", (0,), uniq2nest, numpy.array([2**63], "uint64"))
+        self.assertFault("Backwards", (1,), MOC.from_ranges, numpy.array([[0, 1], [3, 2]]))
+        self.assertFault("PixelTooLarge", (0,), MOC.from_ranges, numpy.array([[0, -1]]))
+        for shape in ((4,), (1, 4), (2, 2, 1)):
+            with self.assertRaises(ValueError):
+                MOC.from_ranges(numpy.zeros(shape, "int64"))
+
+    def test_sets_there_and_back(self):
+        cells = numpy.array(cells_in(8, 2000))
+        moc = MOC.from_healpix_cells(cells, 8)
+        self.assertEqual(moc, MOC.from_healpix_cells(cells.tolist(), 8))
+        self.assertEqual(moc, MOC.from_healpix_cells(cells, numpy.full(2000, 8)))
+        ranges, uniq = moc.to_depth29_ranges, moc.uniq_hpx
+        self.assertArray(ranges, moc.ranges(), "uint64")
+        self.assertArray(uniq, [4**(order + 1) + cell for order, cell in moc.cells()], "uint64")
+        self.assertEqual(MOC.from_depth29_ranges(29, ranges), moc)
+        self.assertEqual(MOC.from_uniq(uniq), moc)
+        self.assertEqual((MOC().to_depth29_ranges.shape, MOC().uniq_hpx.shape), ((0, 2), (0,)))
+        self.assertEqual(MOC.from_ranges(MOC().to_depth29_ranges), MOC())
+
+    def test_contains_beside_searching(self):
+        for count in (0, 1, 30, 30_000):
+            moc = MOC.from_healpix_cells(cells_in(9, count), 9)
+            bounds = moc.to_depth29_ranges.astype("int64").reshape(-1)
+            for length in (0, 1, 2000, 600_000):
+                inside = bounds[:length] + NUMBERS.randrange(-1, 2)
+                pixels = numpy.concatenate([numpy.array(cells_in(29, length), "int64"), inside, [0, PIXELS - 1, PIXELS, -1]])
+                numpy.random.default_rng(count).shuffle(pixels)
+                wanted = numpy.searchsorted(bounds, pixels, side="right") % 2 == 1
+                self.assertArray(moc.contains(pixels), wanted, "bool")
+                self.assertArray(moc.contains(numpy.sort(pixels)), wanted[numpy.argsort(pixels)], "bool")
+            self.assertEqual(moc.contains(pixels[:3000].tolist()), wanted[:3000].tolist())

@@ -1,0 +1,124 @@
+"""Numbers of cells: worked values, the definitions of Górski and others (2005), and healpy where it is installed."""
+import unittest
+
+from ploverchaise import neighbours, nest2ring, nest2uniq, nside2order, order2nside, pix2xyf, ring2nest, uniq2nest
+
+from .common import PIXELS, TestCase, cells_in
+
+try:
+    import healpy
+    import numpy
+except ImportError:
+    healpy = None
+
+# The rows of the base pixels' southern corners and the columns of their middles, in half sides.
+SOUTHERN = (2, 2, 2, 2, 3, 3, 3, 3, 4, 4, 4, 4)
+MIDDLE = (1, 3, 5, 7, 0, 2, 4, 6, 1, 3, 5, 7)
+LAST = PIXELS - 1
+
+
+def every_second_bit(number):
+    return int(f"{number:b}"[::-1][::2][::-1] or "0", 2)
+
+
+def face_xy(order, cell):
+    """The base pixel of a nested number and the place in it: x has the bits in even places, y those in odd ones."""
+    face, inside = divmod(cell, 4**order)
+    return face, every_second_bit(inside), every_second_bit(inside >> 1)
+
+
+def row_column(order, cell):
+    nside = 2**order
+    face, x, y = face_xy(order, cell)
+    return SOUTHERN[face] * nside - x - y - 1, (MIDDLE[face] * nside + x - y) % (8 * nside)
+
+
+class Worked(TestCase):
+    """Worked values."""
+
+    def test_rings(self):
+        self.assertEqual(nest2ring(2, [0, 1, 2, 3, 16, 18]), [13, 5, 4, 0, 28, 27])
+        self.assertEqual(ring2nest(2, [13, 5, 4, 0, 28, 27]), [0, 1, 2, 3, 16, 18])
+        self.assertEqual(nest2ring(4, 64), 136)
+        self.assertEqual(nest2ring(2**29, [LAST, 0, 288230376151711743]), [1729382259863060480, 1729382253957480448, 0])
+        self.assertEqual(ring2nest(2**29, [LAST]), [3170534137668829184])
+        self.assertEqual(nest2ring(1, range(12)), list(range(12)))
+
+    def test_uniq(self):
+        for order, cell, uniq in ((0, 11, 15), (3, 10, 266), (29, LAST, 4611686018427387903)):
+            self.assertEqual(nest2uniq(2**order, cell), uniq)
+            self.assertEqual(uniq2nest(uniq), (2**order, cell))
+        self.assertEqual(uniq2nest([15, 266]), ([1, 8], [11, 10]))
+
+    def test_neighbours(self):
+        self.assertEqual(neighbours([0, 4], 0), [[1, 2, 3, 4, 5, 8], [0, 3, 5, 7, 8, 11]])
+        self.assertEqual(neighbours([0, 1, 3], 1), [[1, 2, 3, 17, 19, 22, 23, 35], [0, 2, 3, 6, 7, 22, 23], [0, 1, 2, 6, 7, 11, 13, 15]])
+        self.assertEqual(neighbours(3, 2), [0, 1, 2, 4, 6, 8, 9, 12])
+        self.assertEqual(neighbours([], 5), [])
+
+    def test_sides(self):
+        for order in range(30):
+            self.assertEqual((order2nside(order), nside2order(2**order)), (2**order, order))
+        for nside in (0, 3, -1, 12):
+            with self.assertRaises(ValueError):
+                nside2order(nside)
+        self.assertFault("NoSuchOrder", (30,), nside2order, 2**30)
+        self.assertFault("NoSuchOrder", (-1,), order2nside, -1)
+
+
+class Defined(TestCase):
+    """What the definitions say of all cells of small orders, and of random ones."""
+
+    def test_places_in_base_pixels(self):
+        for order in range(30):
+            cells = cells_in(order, 200)
+            xs, ys, faces = pix2xyf(2**order, cells)
+            self.assertEqual(list(zip(faces, xs, ys)), [face_xy(order, cell) for cell in cells])
+
+    def test_rings_are_rows_of_columns(self):
+        for order in range(5):
+            cells = range(12 * 4**order)
+            by_ring = sorted(cells, key=lambda cell: row_column(order, cell))
+            self.assertEqual(ring2nest(2**order, cells), by_ring)
+            self.assertEqual(nest2ring(2**order, by_ring), list(cells))
+
+    def test_rings_there_and_back(self):
+        for order in range(30):
+            cells = cells_in(order, 500)
+            self.assertEqual(ring2nest(2**order, nest2ring(2**order, cells)), cells)
+
+    def test_uniq_is_the_standards(self):
+        for order in range(30):
+            cells = cells_in(order, 200)
+            uniq = nest2uniq(2**order, cells)
+            self.assertEqual(uniq, [4**(order + 1) + cell for cell in cells])
+            self.assertEqual(uniq2nest(uniq), ([2**order] * 200, cells))
+
+    def test_touching_goes_both_ways(self):
+        for order in range(5):
+            rows = neighbours(range(12 * 4**order), order)
+            for cell, row in enumerate(rows):
+                self.assertEqual(row, sorted(set(row)))
+                self.assertTrue(all(cell in rows[other] and other != cell for other in row))
+            # (eight points of the sphere are corners of three cells alone)
+            self.assertEqual([len(row) for row in rows].count(8), 12 * 4**order - 24 if order else 0)
+
+
+@unittest.skipUnless(healpy, "healpy is not installed")
+class BesideHealpy(TestCase):
+    """The same numbers as healpy's, as arrays."""
+
+    def test_numbers(self):
+        for order in range(30):
+            nside, cells = 2**order, numpy.array(cells_in(order, 20_000))
+            rings = nest2ring(nside, cells)
+            numpy.testing.assert_array_equal(rings, healpy.nest2ring(nside, cells))
+            numpy.testing.assert_array_equal(ring2nest(nside, cells), healpy.ring2nest(nside, cells))
+            numpy.testing.assert_array_equal(numpy.stack(pix2xyf(nside, cells)), numpy.stack(healpy.pix2xyf(nside, cells, nest=True)))
+            self.assertEqual(rings.dtype, numpy.int64)
+
+    def test_neighbours(self):
+        for order in range(1, 30):
+            cells = numpy.array(cells_in(order, 5_000))
+            ours = numpy.sort(neighbours(cells, order), axis=1)
+            numpy.testing.assert_array_equal(ours, numpy.sort(healpy.get_all_neighbours(2**order, cells, nest=True).T, axis=1))

@@ -1,0 +1,223 @@
+"""Sets: worked values, and random sets beside Python's own."""
+import copy
+import pickle
+import xml.etree.ElementTree
+
+from ploverchaise import MOC
+
+from .common import BASE, NUMBERS, PIXELS, TestCase, cells_in, runs
+
+# Texts of the ASCII form, with the set's text where no order is stated, and its deepest order.
+ASCII = [
+    ("", "", 0), ("8/", "", 0), ("0/0 1/3", "0/0", 0), ("2/0-3", "1/0", 1), ("2/0-3,1/1 1/2,3", "0/0", 0),
+    ("1/1-2 4 2/12-14 21 23 25 8/", "1/1-2 4 2/12-14 21 23 25", 2), ("1/1 2 4\n2/12-14 21 23 25 \n8/", "1/1-2 4 2/12-14 21 23 25", 2),
+    ("s29/3458764513820540927", "29/3458764513820540927", 29),
+]
+
+
+class Worked(TestCase):
+    """Worked values."""
+
+    def test_ascii_is_read_and_written(self):
+        for text, told, deepest in ASCII:
+            with self.subTest(text=text):
+                moc = MOC.from_string(text)
+                self.assertEqual((moc.to_string(), str(moc), moc.max_order), (told, told, deepest))
+                self.assertEqual(MOC.from_string(text.encode()), moc)
+
+    def test_stated_orders_are_written(self):
+        moc = MOC.from_string("1/1-2 4 2/12-14 21 23 25")
+        self.assertEqual(moc.to_string(max_order=8), "1/1-2 4 2/12-14 21 23 25 8/")
+        self.assertEqual(moc.to_string("json", max_order=8), '{"1":[1,2,4],"2":[12,13,14,21,23,25],"8":[]}')
+        self.assertEqual(MOC().to_string(max_order=8), "8/")
+        self.assertEqual(MOC().to_string("json"), "{}")
+        self.assertEqual(MOC.from_string("1/0-3").to_string(max_order=2), "0/0 2/")
+
+    def test_json_is_read_and_written(self):
+        moc = MOC.from_json('{"10":[],"2":[5],"1":[1]}')
+        self.assertEqual(moc.to_string("json", max_order=10), '{"1":[1],"10":[]}')
+        self.assertEqual(moc, MOC.from_json({"2": [5], "1": [1]}))
+        self.assertEqual(moc.serialize(), {"1": [1]})
+        self.assertEqual(moc.serialize("str"), "1/1")
+
+    def test_uniq_is_read_and_written(self):
+        self.assertEqual(MOC.from_string("16\n17\n\n18\n19", "uniq").to_string(), "0/0")
+        moc = MOC.from_string("1/1-2 4 2/12-14 21 23 25")
+        self.assertEqual(moc.to_string("uniq").split("\n"), ["17", "18", "20", "76", "77", "78", "85", "87", "89"])
+        self.assertEqual(MOC.from_uniq([17, 18, 20, 76, 77, 78, 85, 87, 89]), moc)
+        self.assertEqual(MOC().to_string("uniq"), "")
+
+    def test_ranges_are_joined(self):
+        moc = MOC.from_ranges([(4, 8), (8, 9), (0, 4)])
+        self.assertRanges(moc, [(0, 9)])
+        self.assertEqual(moc.to_string(), "28/0-1 29/8")
+        self.assertRanges(MOC.from_ranges([(7, 7)]), [])
+        self.assertRanges(MOC.from_ranges(iter([(0, 8)])) ^ MOC.from_ranges([(4, 12)]), [(0, 4), (8, 12)])
+
+    def test_cells_of_sets(self):
+        self.assertEqual(MOC.from_ranges([(3, 9)]).cells(), [(28, 1), (29, 3), (29, 8)])
+        rest = (~MOC.from_ranges([(0, 1)])).cells()
+        self.assertEqual((len(rest), rest[0], rest[-1]), (98, (0, 1), (29, 3)))
+        self.assertRanges(MOC.from_healpix_cells([47], 1), [(3386706919782612992, PIXELS)])
+        self.assertEqual(MOC.full().cells(), [(0, cell) for cell in range(12)])
+
+    def test_operations(self):
+        a, b = MOC.from_string("0/0 1/4-5"), MOC.from_json({"1": [3, 4, 6, 7], "2": [20, 32]})
+        self.assertEqual(str(a | b), "0/0-1 2/32")
+        self.assertEqual(str(a & b), "1/3-4 2/20")
+        self.assertEqual(str(a - b), "1/0-2 2/21-23")
+        self.assertEqual(str(a ^ b), "1/0-2 6-7 2/21-23 32")
+        self.assertEqual(str(~a), "0/2-11 1/6-7")
+        self.assertEqual(a.count(), BASE // 2 * 3)
+        self.assertEqual(a.sky_fraction, 0.125)
+        self.assertEqual(a.count_common(b), 9 * BASE // 16)
+
+    def test_degrading(self):
+        self.assertRanges(MOC.from_ranges([(3, 4)]).degrade_to_order(28), [(0, 4)])
+        self.assertEqual(str(MOC.from_string("0/0 1/4-5").degrade_to_order(0)), "0/0-1")
+        self.assertRanges(MOC.from_depth29_ranges(28, [(3, 4)]), [(0, 4)])
+        self.assertRanges(MOC.from_depth29_ranges(29, [(3, 4)]), [(3, 4)])
+        self.assertRanges(MOC.from_healpix_cells([3], 29, max_depth=28), [(0, 4)])
+
+    def test_cells_of_several_orders(self):
+        self.assertEqual(str(MOC.from_healpix_cells([0, 4, 5, 20], [0, 1, 1, 2])), "0/0 1/4-5")
+        self.assertEqual(str(MOC.from_healpix_cells(7, 1)), "1/7")
+
+    def test_figures(self):
+        told = MOC.from_string("1/0-3 2/20").describe().split("\n")
+        self.assertEqual(told, ["pixels 306244774661193728", "share 0.088541666666", "ranges 2", "cells 2", "order 0 1", "order 2 1"])
+
+    def test_picture_is_svg(self):
+        picture = MOC.from_string("0/4").draw()
+        root = xml.etree.ElementTree.fromstring(picture)
+        self.assertEqual(root.tag, "{http://www.w3.org/2000/svg}svg")
+        # (base pixel 4 alone is a diamond at the left edge, and one more at the right)
+        self.assertIn("M0 128l128 128-128 128-128-128z", picture)
+        self.assertEqual(MOC.from_string("0/4")._repr_svg_(), picture)
+        self.assertNotEqual(MOC().draw(), picture)
+
+
+class Objects(TestCase):
+    """What makes a set an object of Python."""
+
+    def test_empty(self):
+        for moc in (MOC(), MOC.new_empty(5), MOC.from_ranges([]), MOC.from_uniq([]), MOC.from_healpix_cells([], 3), ~MOC.full()):
+            self.assertRanges(moc, [])
+            self.assertTrue(moc.empty())
+            self.assertFalse(moc)
+        self.assertTrue(MOC.full())
+        self.assertEqual(MOC.full().count(), PIXELS)
+
+    def test_equal_sets_have_one_hash(self):
+        one, other = MOC.from_string("1/0-3"), MOC.from_string("0/0")
+        self.assertEqual(one, other)
+        self.assertEqual(len({one, other, MOC.from_string("0/1")}), 2)
+        self.assertNotEqual(one, MOC.from_string("0/1"))
+        self.assertNotEqual(one, "0/0")
+
+    def test_never_changed(self):
+        moc = MOC.from_string("0/0")
+        with self.assertRaises(AttributeError):
+            moc.max_order = 3
+        with self.assertRaises(AttributeError):
+            moc.name = "mine"
+        before = moc
+        moc |= MOC.from_string("0/1")
+        self.assertEqual((str(before), str(moc)), ("0/0", "0/0-1"))
+
+    def test_copies_and_pickles(self):
+        moc = MOC.from_string("1/1-2 4 2/12-14 21 23 25 29/77")
+        for made in (copy.copy(moc), copy.deepcopy(moc), pickle.loads(pickle.dumps(moc))):
+            self.assertEqual(made, moc)
+        self.assertEqual(pickle.loads(pickle.dumps(MOC())), MOC())
+
+    def test_shown(self):
+        self.assertEqual(repr(MOC.from_string("0/0 1/4-5")),
+                         "<MOC: 432345564227567616 pixels, 0.125 of the sky, 1 ranges, deepest order 1>")
+
+    def test_other_operands(self):
+        moc = MOC.from_string("0/0")
+        for call in (lambda: moc | 3, lambda: moc - "0/0", lambda: moc.union("0/0"), lambda: moc.meets({0})):
+            with self.assertRaises(TypeError):
+                call()
+        self.assertEqual(moc.union(), moc)
+        self.assertEqual(str(moc.union(MOC.from_string("0/1"), MOC.from_string("0/2"))), "0/0-2")
+        self.assertEqual(str(MOC.full().difference(MOC.from_string("0/1-5"), MOC.from_string("0/7-11"))), "0/0 6")
+        self.assertEqual(str(MOC.full().intersection(MOC.from_string("0/1-5"), MOC.from_string("0/5-11"))), "0/5")
+
+
+class Random(TestCase):
+    """Sets of random cells, beside Python's own sets: of numbers of the order at hand, or of few pixels, each by its number."""
+
+    def pairs(self):
+        """Two sets of cells of one order, as Python's and as here."""
+        for order in (0, 1, 2, 4, 6, 29):
+            for count in (0, 1, 7, 300):
+                some, more = cells_in(order, count), cells_in(order, 100)
+                if order == 29:
+                    # (few pixels side by side, at either end of the sky)
+                    some, more = ([at % 200 + (at % 2) * (PIXELS - 200) for at in cells] for cells in (some, more))
+                yield order, set(some), set(more), MOC.from_healpix_cells(some, order), MOC.from_healpix_cells(more, order)
+
+    def assertCells(self, moc, order, cells):
+        size = 4**(29 - order)
+        self.assertRanges(moc, [(start * size, end * size) for start, end in runs(cells)])
+
+    def test_operations(self):
+        for order, a, b, moc_a, moc_b in self.pairs():
+            with self.subTest(order=order, cells=len(a)):
+                self.assertCells(moc_a, order, a)
+                self.assertCells(moc_a | moc_b, order, a | b)
+                self.assertCells(moc_a & moc_b, order, a & b)
+                self.assertCells(moc_a - moc_b, order, a - b)
+                self.assertCells(moc_a ^ moc_b, order, a ^ b)
+                self.assertEqual(moc_a.meets(moc_b), not a.isdisjoint(b))
+                self.assertEqual(moc_a.covers(moc_b), a >= b)
+                self.assertEqual(moc_a.count_common(moc_b), len(a & b) * 4**(29 - order))
+                self.assertEqual(moc_a == moc_b, a == b)
+                self.assertIn(moc_a & moc_b, moc_a)
+                if order < 7:
+                    self.assertCells(~moc_a, order, set(range(12 * 4**order)) - a)
+
+    def test_figures_and_cells(self):
+        for order, a, _, moc, _ in self.pairs():
+            with self.subTest(order=order, cells=len(a)):
+                self.assertEqual(moc.count(), len(a) * 4**(29 - order))
+                self.assertEqual(moc.range_count(), len(runs(a)))
+                self.assertEqual(moc.empty(), not a)
+                cells = moc.cells()
+                self.assertEqual(moc.max_order, max((depth for depth, _ in cells), default=0))
+                self.assertEqual(cells, sorted(cells))
+                self.assertEqual({cell for depth, first in cells for shift in [2 * (order - depth)]
+                                  for cell in range(first << shift, (first + 1) << shift)}, a)
+                found = set(cells)
+                for depth, cell in cells:
+                    self.assertFalse(depth and all((depth, cell // 4 * 4 + at) in found for at in range(4)), "four siblings")
+
+    def test_degraded(self):
+        for order, a, _, moc, _ in self.pairs():
+            for coarse in range(0, order, max(1, order // 3)):
+                with self.subTest(order=order, coarse=coarse):
+                    self.assertCells(moc.degrade_to_order(coarse), coarse, {cell >> 2 * (order - coarse) for cell in a})
+
+    def test_contains(self):
+        for order, a, b, moc, _ in self.pairs():
+            size = 4**(29 - order)
+            pixels = [cell * size + NUMBERS.randrange(size) for cell in sorted(b) + list(a)] + [PIXELS, 2**64 - 1, 2**64, -1]
+            wanted = [pixel // size in a for pixel in pixels]
+            self.assertEqual(moc.contains(pixels), wanted)
+            self.assertEqual([pixel in moc for pixel in pixels], wanted)
+            self.assertEqual([moc.contains(pixel) for pixel in pixels[:3]], wanted[:3])
+
+    def test_texts_are_read_back(self):
+        for _, _, _, moc, other in self.pairs():
+            for form in ("ascii", "json", "uniq"):
+                for one in (moc, other, moc ^ other):
+                    self.assertEqual(MOC.from_string(one.to_string(form), form), one)
+
+    def test_made_again(self):
+        for _, _, _, moc, _ in self.pairs():
+            self.assertEqual(MOC.from_ranges(reversed(moc.ranges())), moc)
+            cells = moc.cells()
+            self.assertEqual(MOC.from_uniq([4**(order + 1) + cell for order, cell in cells]), moc)
+            self.assertEqual(MOC.from_healpix_cells([cell for _, cell in cells], [order for order, _ in cells]), moc)
