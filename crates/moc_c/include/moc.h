@@ -139,13 +139,13 @@ moc_outcome moc_same(moc_desk *desk, uint64_t a, uint64_t b);
 
 /* ---- Sets to arrays. */
 
-/* For each pixel of order 29 whether the set has it, 1 or 0, at its place in `out`. Rising pixels are looked up fastest.
+/* For each pixel of order 29 whether the set has it, 1 or 0, at its place in `out`. It takes no memory.
    MOC_LENGTHS_DIFFER where `length` is not `count`. */
 moc_outcome moc_contains_all(moc_desk *desk, uint64_t a, const uint64_t *pixels, size_t count, uint8_t *out, size_t length);
-/* The ranges of the set, rising, none empty and none touching the next, to the front of `out`; `first` is how many.
+/* The ranges of the set, rising, none empty and none touching the next, to the front of `out`; `first` is how many. It takes no memory.
    MOC_NO_ROOM, with nothing written, where `length` is less. */
 moc_outcome moc_ranges(moc_desk *desk, uint64_t a, moc_range *out, size_t length);
-/* The same for the NUNIQ numbers of the set's cells, rising: the fewest cells that make it. */
+/* The same for the NUNIQ numbers of the set's cells, rising: the fewest cells that make it. It takes the memory of the cells. */
 moc_outcome moc_cells(moc_desk *desk, uint64_t a, uint64_t *out, size_t length);
 
 /* ---- Sets to texts. Each makes a text, which the desk keeps until it makes the next one, and answers its length as `first`; then
@@ -166,7 +166,7 @@ moc_outcome moc_draw(moc_desk *desk, uint64_t a);
 moc_outcome moc_text(moc_desk *desk, uint8_t *out, size_t length);
 
 /* ---- Numbers of cells, as whole arrays: what is told of a number stands at its place. They need no desk and take no memory.
-   MOC_NO_SUCH_ORDER, then MOC_LENGTHS_DIFFER, then MOC_NO_SUCH_CELL or MOC_NOT_UNIQ; before the first faulty number all is written. */
+   MOC_NO_SUCH_ORDER, then MOC_LENGTHS_DIFFER, then MOC_NO_SUCH_CELL or MOC_NOT_UNIQ; what is told then has no meaning. */
 
 /* Ring numbers of nested numbers, and back. */
 moc_outcome moc_nest_to_ring(uint8_t order, const uint64_t *cells, size_t count, uint64_t *out, size_t length);
