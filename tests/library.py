@@ -1,7 +1,7 @@
 #!/usr/bin/env python3
 """Calls the library for C: `tests/c/calls.c` makes each call of `moc.h`, with right, empty, short and wrong arguments, under the address and
 undefined-behaviour sanitizers and the one for leaks, and once without; `tests/c/growths.c` makes sets and texts with each growth refused in
-turn (`tests/refuse.c`). The header is read as C99 and as C++, and its codes are compared with those of the crate; and each call of it is an
+turn (`tests/refuse.c`). The program of `docs/C.md` writes what the page says. The header is read as C99 and as C++, and its codes are compared with those of the crate; and each call of it is an
 export of the library, and each export a call of it.
 
 The library is linked anew, by `./moc library`, in a room of its own. The last line printed is `N passed, M failed`."""
@@ -93,6 +93,19 @@ def check_calls(tally, room):
             tally.add_line(program, ran([program], ASAN_OPTIONS="detect_leaks=1"))
 
 
+def check_page(tally, room):
+    """The program of docs/C.md writes what the page says."""
+    page, program = read(os.path.join(TOP, "docs", "C.md")), os.path.join(room, "page")
+    shown = re.search(r"^```c\n(.*?)^```\n\nIt writes `(.*?)`", page, re.MULTILINE | re.DOTALL)
+    with open(program + ".c", "w") as file:
+        file.write(shown[1])
+    told = ran([CC, "-std=c99", *WARNINGS, f"-I{room}", program + ".c", os.path.join(room, "libploverchaise.a"), "-o", program])
+    tally.add("the page's program is built", told.returncode == 0, told.stderr)
+    if told.returncode == 0:
+        ended = ran([program])
+        tally.add("the page's program", ended.returncode == 0 and ended.stdout == shown[2] + "\n", ended)
+
+
 def check_growths(tally, room):
     """Each growth refused in turn: all comes out the same, and what was refused was tried once more."""
     program, shim, count = built(tally, room, "growths"), os.path.join(room, "refuse.so"), os.path.join(room, "count")
@@ -122,6 +135,7 @@ def main():
             return 1
         check_header(tally, room)
         check_calls(tally, room)
+        check_page(tally, room)
         check_growths(tally, room)
     print(f"{tally.passed} passed, {tally.failed} failed")
     return int(tally.failed > 0)
