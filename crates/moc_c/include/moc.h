@@ -1,0 +1,188 @@
+/* moc.h: sky coverages (MOC 2.0) and numbers of HEALPix cells, for C99 and C++. docs/C.md tells how to build and link.
+
+   Coverages lie on a desk, each under a key. A call answers an outcome: MOC_DONE with what was asked for, or the code of a fault with
+   its place. Where a call is refused, all that lies on the desk is as it was.
+
+   What a caller owes, which nothing checks:
+   - A desk is begun by `moc_open`, where that answers true, and ended once, by `moc_close`; behind that neither it nor a copy of it is
+     used. Only these calls read or write what it holds.
+   - An array is a pointer that is not null, aligned for its type, and a length in elements, also where the length is 0. Nobody changes
+     what is passed as `const` while the call runs, and what is written overlaps nothing else that is passed.
+   - A desk is in one call at a time. It may go from thread to thread, where a lock, or the start or the end of a thread, lies between.
+   - No call from a signal handler, or in the forked child of a process with threads.
+   - malloc, realloc and free are those of one allocator, and a block is aligned as C asks.
+
+   All else holds for all arguments: a key, an order, a number or a length that is wrong gets its code. */
+#ifndef MOC_H
+#define MOC_H
+
+#include <stdbool.h>
+#include <stddef.h>
+#include <stdint.h>
+
+#ifdef __cplusplus
+extern "C" {
+#endif
+
+/* What coverages lie on. */
+typedef struct moc_desk {
+    void *at;
+} moc_desk;
+
+/* How a call ended. What `first` and `second` tell stands at each code and each call; else they are 0. */
+typedef struct moc_outcome {
+    uint32_t code;
+    uint64_t first, second;
+} moc_outcome;
+
+/* The pixels of order 29 from one up to, not including, another, by their nested numbers. */
+typedef struct moc_range {
+    uint64_t from, to;
+} moc_range;
+
+enum {
+    MOC_DONE = 0,
+    MOC_MEMORY = 1,         /* no memory is left */
+    MOC_NO_ROOM = 2,        /* the buffer is too short; first: how many elements are wanted */
+    MOC_NO_SUCH_SET = 3,    /* first: the key, which has no set or had one that was freed */
+    MOC_NO_SUCH_ORDER = 4,  /* first: the order, which is above 29 */
+    MOC_LENGTHS_DIFFER = 5, /* two arrays that go together differ in length */
+    MOC_NO_SUCH_CELL = 6,   /* first: the place, from 0, of the first number that is no cell of the order */
+    MOC_NOT_UNIQ = 7,       /* first: the place, from 0, of the first number that is no NUNIQ number */
+    MOC_TOO_COARSE = 8,     /* a cell of the set is deeper than the order that is to be stated */
+
+    /* an ASCII text; first: the byte, from 0 */
+    MOC_ASCII_BAD_BYTE = 10,        /* a byte that no word has there */
+    MOC_ASCII_NO_ORDER = 11,        /* an item before any order */
+    MOC_ASCII_ORDER_TOO_LARGE = 12, /* an order above 29 */
+    MOC_ASCII_CELL_TOO_LARGE = 13,  /* no cell of the order in force */
+    MOC_ASCII_BACKWARDS = 14,       /* a range that goes backwards */
+    MOC_ASCII_UNFINISHED = 15,      /* a word that is not finished */
+
+    /* a JSON text; first: the name, second: the item of its array, both from 0, the names in byte order */
+    MOC_JSON_NOT_JSON = 20,
+    MOC_JSON_NOT_OBJECT = 21,
+    MOC_JSON_BAD_ORDER = 22,      /* a name that is no order */
+    MOC_JSON_NOT_ARRAY = 23,      /* a name without an array */
+    MOC_JSON_NOT_WHOLE = 24,      /* an item that is no whole number */
+    MOC_JSON_CELL_TOO_LARGE = 25, /* an item that is no cell of its order */
+
+    /* a NUNIQ list; first: the line, from 1 */
+    MOC_UNIQ_BAD_BYTE = 30, /* a byte that is no digit */
+    MOC_UNIQ_NOT_UNIQ = 31, /* a number that is no NUNIQ number */
+
+    /* an array of ranges; first: the place of the range, from 0 */
+    MOC_RANGE_BACKWARDS = 40,      /* `to` is below `from` */
+    MOC_RANGE_PIXEL_TOO_LARGE = 41 /* `to` is above 12 * 4^29 */
+};
+
+/* In place of an order: that there is none. */
+#define MOC_NONE ((uint8_t)255)
+
+/* ---- The desk. */
+
+/* Begins a desk with nothing on it in the room at `out`, and answers true; or false, where no memory is left, and there is none. */
+bool moc_open(moc_desk *out);
+/* Ends a desk with all that lies on it. */
+void moc_close(moc_desk desk);
+
+/* ---- Making sets. Each answers a new key as `first`; keys are 0, 1, 2 and so on, and no key is given twice. */
+
+/* The set without pixels. */
+moc_outcome moc_empty(moc_desk *desk);
+/* The set of all pixels of the sky. */
+moc_outcome moc_full(moc_desk *desk);
+/* The pixels in any of the ranges, which come in any order, and may overlap or be empty. MOC_RANGE_.. at the first faulty one. */
+moc_outcome moc_from_ranges(moc_desk *desk, const moc_range *ranges, size_t count);
+/* The pixels of cells of an order, by their nested numbers in any order. MOC_NO_SUCH_ORDER, MOC_NO_SUCH_CELL. */
+moc_outcome moc_from_cells(moc_desk *desk, uint8_t order, const uint64_t *cells, size_t count);
+/* The pixels of cells, by their NUNIQ numbers in any order. MOC_NOT_UNIQ. */
+moc_outcome moc_from_uniqs(moc_desk *desk, const uint64_t *uniqs, size_t count);
+
+/* What a text says, which need not end in 0; `second` is the deepest order that it names, or MOC_NONE. A list names none.
+   MOC_ASCII_.., MOC_JSON_.. or MOC_UNIQ_.. at the first fault. */
+moc_outcome moc_read_ascii(moc_desk *desk, const uint8_t *text, size_t length);
+moc_outcome moc_read_json(moc_desk *desk, const uint8_t *text, size_t length);
+moc_outcome moc_read_uniq(moc_desk *desk, const uint8_t *text, size_t length);
+
+/* Of the sets at two keys, which may be the same: the pixels that any has; that both have; that the first has and the second lacks;
+   that just one has. MOC_NO_SUCH_SET for the first key without a set. */
+moc_outcome moc_union(moc_desk *desk, uint64_t a, uint64_t b);
+moc_outcome moc_intersection(moc_desk *desk, uint64_t a, uint64_t b);
+moc_outcome moc_difference(moc_desk *desk, uint64_t a, uint64_t b);
+moc_outcome moc_symmetric(moc_desk *desk, uint64_t a, uint64_t b);
+/* The pixels of the sky that the set lacks. */
+moc_outcome moc_complement(moc_desk *desk, uint64_t a);
+/* All pixels of each cell of an order that the set has a pixel of. MOC_NO_SUCH_SET, and else MOC_NO_SUCH_ORDER. */
+moc_outcome moc_degrade(moc_desk *desk, uint64_t a, uint8_t order);
+
+/* Frees the set at a key, which is never given again. */
+moc_outcome moc_free(moc_desk *desk, uint64_t a);
+
+/* ---- Asking of sets. Each answers as `first`, and takes no memory; yes is 1, and no is 0. */
+
+/* How many pixels of order 29 a set has; and how many two have in common. */
+moc_outcome moc_count(moc_desk *desk, uint64_t a);
+moc_outcome moc_count_common(moc_desk *desk, uint64_t a, uint64_t b);
+/* How many ranges a set has: those that `moc_ranges` gives. */
+moc_outcome moc_range_count(moc_desk *desk, uint64_t a);
+/* The least order of whose cells the set is a union: 0 for the set without pixels. */
+moc_outcome moc_deepest_order(moc_desk *desk, uint64_t a);
+/* Whether the set has no pixel. */
+moc_outcome moc_is_empty(moc_desk *desk, uint64_t a);
+/* Whether the set has this pixel of order 29; it has none from 12 * 4^29 on. */
+moc_outcome moc_contains(moc_desk *desk, uint64_t a, uint64_t pixel);
+/* Whether two sets have a pixel in common; whether `a` has each pixel of `b`; whether they have the same pixels. */
+moc_outcome moc_meets(moc_desk *desk, uint64_t a, uint64_t b);
+moc_outcome moc_covers(moc_desk *desk, uint64_t a, uint64_t b);
+moc_outcome moc_same(moc_desk *desk, uint64_t a, uint64_t b);
+
+/* ---- Sets to arrays. */
+
+/* For each pixel of order 29 whether the set has it, 1 or 0, at its place in `out`. It takes no memory.
+   MOC_LENGTHS_DIFFER where `length` is not `count`. */
+moc_outcome moc_contains_all(moc_desk *desk, uint64_t a, const uint64_t *pixels, size_t count, uint8_t *out, size_t length);
+/* The ranges of the set, rising, none empty and none touching the next, to the front of `out`; `first` is how many. It takes no memory.
+   MOC_NO_ROOM, with nothing written, where `length` is less. */
+moc_outcome moc_ranges(moc_desk *desk, uint64_t a, moc_range *out, size_t length);
+/* The same for the NUNIQ numbers of the set's cells, rising: the fewest cells that make it. It takes the memory of the cells. */
+moc_outcome moc_cells(moc_desk *desk, uint64_t a, uint64_t *out, size_t length);
+
+/* ---- Sets to texts. Each makes a text, which the desk keeps until it makes the next one, and answers its length as `first`; then
+   `moc_text` copies it. Texts have no 0 at their end. Where the call is refused, the text of before is kept. */
+
+/* The set in a text form, ended by a line feed; a list has one behind each number. `stated` is the order that is to be stated, as MOC 2.0
+   asks where a set was made of deeper cells than it needs, or MOC_NONE. MOC_NO_SUCH_SET, then MOC_NO_SUCH_ORDER, then MOC_TOO_COARSE. */
+moc_outcome moc_write_ascii(moc_desk *desk, uint64_t a, uint8_t stated);
+moc_outcome moc_write_json(moc_desk *desk, uint64_t a, uint8_t stated);
+moc_outcome moc_write_uniq(moc_desk *desk, uint64_t a);
+/* The figures of the set, a line each, as the program `moc describe` tells them: `deepest` is the deepest order that its text named, or
+   MOC_NONE. MOC_NO_SUCH_SET, then MOC_NO_SUCH_ORDER. */
+moc_outcome moc_describe(moc_desk *desk, uint64_t a, uint8_t deepest);
+/* A picture of the set, as SVG, as the program `moc draw` makes it. */
+moc_outcome moc_draw(moc_desk *desk, uint64_t a);
+/* Copies the text that the desk keeps, or nothing before the first one, to the front of `out`; `first` is its length.
+   MOC_NO_ROOM, with nothing written, where `length` is less. */
+moc_outcome moc_text(moc_desk *desk, uint8_t *out, size_t length);
+
+/* ---- Numbers of cells, as whole arrays: what is told of a number stands at its place. They need no desk and take no memory.
+   MOC_NO_SUCH_ORDER, then MOC_LENGTHS_DIFFER, then MOC_NO_SUCH_CELL or MOC_NOT_UNIQ; what is told then has no meaning. */
+
+/* Ring numbers of nested numbers, and back. */
+moc_outcome moc_nest_to_ring(uint8_t order, const uint64_t *cells, size_t count, uint64_t *out, size_t length);
+moc_outcome moc_ring_to_nest(uint8_t order, const uint64_t *rings, size_t count, uint64_t *out, size_t length);
+/* NUNIQ numbers of nested numbers, and orders with nested numbers of NUNIQ numbers. */
+moc_outcome moc_nest_to_uniq(uint8_t order, const uint64_t *cells, size_t count, uint64_t *out, size_t length);
+moc_outcome moc_uniq_to_nest(const uint64_t *uniqs, size_t count, uint8_t *orders, size_t order_length, uint64_t *cells,
+                             size_t cell_length);
+/* The base pixel of a nested number, 0 to 11, and its place in it, x to the north-east and y to the north-west, both below 2^order. */
+moc_outcome moc_nest_to_face_xy(uint8_t order, const uint64_t *cells, size_t count, uint8_t *faces, size_t face_length, uint32_t *xs,
+                                size_t x_length, uint32_t *ys, size_t y_length);
+/* The cells that touch a cell, in a corner or along a side: a row of eight for each, rising, with UINT64_MAX behind the last. */
+moc_outcome moc_touching(uint8_t order, const uint64_t *cells, size_t count, uint64_t (*out)[8], size_t length);
+
+#ifdef __cplusplus
+}
+#endif
+
+#endif

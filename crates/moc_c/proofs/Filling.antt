@@ -1,0 +1,39 @@
+-- Ranges that are put at the front of a buffer, one more at a time.
+use Rattle.std.proofs.Common.{◌≡◌, ℕ, suc, ◌+◌, ◌<◌, ◌≤◌, List, [], ◌∷◌, ◌++◌, length, take, set, inl, sym, ap, ◌∙◌, arith}
+use Rattle.std.proofs.lemmas.List.{append_assoc, append-nil, length-append, length-map, map-append, take_more_set}
+use Rattle.std.proofs.lemmas.List.{length-set}
+use Rattle.moc_c.specs.Buffers.{Fills, ranges_from}
+use Rattle.moc_c.specs.Outcomes.{told}
+use Rattle.moc_c.specs.declared.outcome.Outcome.{Outcome}
+use Rattle.moc_c.specs.declared.range.Range.{Range}
+
+-- a pair as a range
+abbrev range : ℕ × ℕ → Range
+range x = record { from = x.0; to = x.1 }
+
+-- the pairs that were put there and those that are left are all, and there is room for all
+abbrev pub IsFilling : List (ℕ × ℕ) → List (ℕ × ℕ) → List (ℕ × ℕ) → List Range → ℕ → Type 0
+IsFilling all before left out at =
+    (all ≡ before ++ left) × (length all ≤ length out) × (at ≡ length before) × (take at out ≡ ranges_from before)
+
+pub has_room : (all before left rest : List (ℕ × ℕ)) (out : List Range) (at : ℕ) (x : ℕ × ℕ) → IsFilling all before left out at → left ≡ x ∷ rest → at < length out
+has_room all before left rest out at x f is =
+    let sum : length all ≡ length before + length left = ap length f.0 ∙ length-append before left in
+    let one : length left ≡ suc (length rest) = ap length is in omega (arith, f.1, f.2)
+
+pub filling_more : (all before left rest : List (ℕ × ℕ)) (out : List Range) (at : ℕ) (x : ℕ × ℕ) → IsFilling all before left out at → left ≡ x ∷ rest
+    → IsFilling all (before ++ x ∷ []) rest (set out at (range x)) (at + 1)
+filling_more all before left rest out at x f is = (
+  f.0 ∙ ap (λ ys. before ++ ys) is ∙ sym (append_assoc before (x ∷ []) rest),
+  omega (arith, f.1, length-set out at (range x)),
+  ap (λ n. n + 1) f.2 ∙ sym (length-append before (x ∷ [])),
+  take_more_set out at (range x) (has_room all before left rest out at x f is) ∙ ap (λ ys. ys ++ range x ∷ []) f.3 ∙ sym (map-append range before (x ∷ [])),
+)
+
+pub filled : (all before left : List (ℕ × ℕ)) (old out : List Range) (at : ℕ) (o : Outcome) → IsFilling all before left out at → left ≡ [] → o ≡ told (length all)
+    → Fills (ranges_from all) old out o
+filled all before left old out at o f none is =
+    let whole : all ≡ before = f.0 ∙ ap (λ ys. before ++ ys) none ∙ append-nil before in
+    let count : length (ranges_from all) ≡ length all = length-map all range in
+    let place : length (ranges_from all) ≡ at = count ∙ ap length whole ∙ sym f.2 in
+    inl (ap (λ n. take n out) place ∙ f.3 ∙ ap ranges_from (sym whole), is ∙ ap told (sym count))

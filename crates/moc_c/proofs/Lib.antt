@@ -1,0 +1,5 @@
+mod AsBox
+mod Failing
+mod Filling
+mod Gathering
+mod Keys

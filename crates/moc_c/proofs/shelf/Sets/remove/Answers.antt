@@ -1,0 +1,17 @@
+use Rattle.std.proofs.Common.{sym, ap, ◌∙◌}
+use Rattle.std.specs.Ordering.{nat_cmp}
+use Rattle.std.specs.Option.{is_some}
+use Rattle.std.specs.FinMap as map
+use Rattle.moc_ranges.specs.Numbers.{NumberSet}
+use Rattle.moc_c.proofs.Keys.{get_entries, taken_out}
+use Rattle.moc_c.proofs.shelf.Sets.remove.Goals as goal
+
+pub returns-clause-removed : goal.returns-clause-removed
+returns-clause-removed c =
+    taken_out c.self.inside.by_key c.remove.new.self c.args.key c.remove.ensures.updates.0
+    ∙ ap (λ (m : map.FinMap nat_cmp NumberSet). map.remove m c.args.key) c.self.view_is
+
+pub returns-clause-found : goal.returns-clause-found
+returns-clause-found c =
+    c.is_some.ensures ∙ ap is_some (c.remove.ensures.value ∙ sym (get_entries c.self.inside.by_key c.args.key)
+    ∙ ap (λ (m : map.FinMap nat_cmp NumberSet). map.get m c.args.key) c.self.view_is)

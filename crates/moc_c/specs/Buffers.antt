@@ -1,0 +1,168 @@
+-- Buffers of the caller that are filled, and arrays of his that are told one by one.
+use Rattle.std.specs.Prelude.{◌≡◌, ◌⊎◌, ◌<◌, ◌≤◌, ◌+◌, ◌-◌, ◌^◌, ℕ, Bool, ◌&&◌, List, [], ◌∷◌, length, map, take}
+use Rattle.std.specs.Prelude.{nat_le, nat_lt, ◌==◌, EachIndex, slice_index, slice_index_or, if◌then◌else◌, option_map}
+use Rattle.std.specs.Prelude.{Option, None, Some, Result, Ok, Err}
+use Rattle.std.specs.Option.{option_or}
+use Rattle.std.specs.FinSet as set
+use Rattle.std.specs.List.{list_all, AllByRecursion}
+use Rattle.moc_sphere.specs.CellNumber.{CellNumber, cell_count, cell_number, IsCell, uniq_of}
+use Rattle.moc_sphere.specs.Rings.{ring_number}
+use Rattle.moc_sphere.specs.Touching.{touching_cells}
+use Rattle.moc_ranges.specs.Cells.{cells_of, pixels_of}
+use Rattle.moc_ranges.specs.Faults.{first_fault}
+use Rattle.moc_ranges.specs.Numbers.{NumberSet}
+use Rattle.moc_ranges.specs.declared.errors.RangesError.{RangesError}
+use Rattle.moc_ranges.specs.RangeList.{IsNormal, set_of}
+use Rattle.moc_c.specs.Answers.{Makes}
+use Rattle.moc_c.specs.Contents.{Contents}
+use Rattle.moc_c.specs.Outcomes.{done, memory, refusal, told}
+use Rattle.moc_c.specs.declared.fault.Fault.{Fault}
+use Rattle.moc_c.specs.declared.fault.Fault.TheVariants as fault
+use Rattle.moc_c.specs.declared.outcome.Outcome.{Outcome}
+use Rattle.moc_c.specs.declared.range.Range.{Range}
+use Rattle.moc_c.specs.declared.conversion.Conversion.{Conversion}
+use Rattle.moc_c.specs.declared.conversion.Conversion.TheVariants.{NestToRing, RingToNest, NestToUniq}
+
+-- ---- what is wrong with arrays
+
+-- the place of the first number that fails a test, where their places begin at `at`
+abbrev pub first_failing : (ℕ → Bool) → ℕ → List ℕ → Option ℕ
+first_failing test at [] = None
+first_failing test at (x ∷ xs) = if test x then first_failing test (at + 1) xs else Some at
+
+-- whether the order has a cell of this number
+abbrev pub is_index : ℕ → ℕ → Bool
+is_index order x = nat_lt x (cell_count order)
+
+-- whether a number is a NUNIQ number
+abbrev pub is_uniq : ℕ → Bool
+is_uniq x = nat_le 4 x && nat_lt x (2 ^ 62)
+
+-- an order that is none
+abbrev pub order_fault : ℕ → Option Fault
+order_fault order = if nat_le order 29 then None else Some (fault.NoSuchOrder order)
+
+-- lengths that are not all this one
+abbrev pub lengths_fault : ℕ → List ℕ → Option Fault
+lengths_fault n lengths = if list_all (λ m. n == m) lengths then None else Some fault.LengthsDiffer
+
+-- numbers of which one is no cell of the order
+abbrev pub cells_fault : ℕ → List ℕ → Option Fault
+cells_fault order xs = option_map (λ at. fault.NoSuchCell at) (first_failing (is_index order) 0 xs)
+
+-- numbers of which one is no NUNIQ number
+abbrev pub uniqs_fault : List ℕ → Option Fault
+uniqs_fault xs = option_map (λ at. fault.NotUniq at) (first_failing is_uniq 0 xs)
+
+-- what is wrong with an order, numbers of its cells, and the lengths of what goes with them
+abbrev pub numbers_fault : ℕ → List ℕ → List ℕ → Option Fault
+numbers_fault order xs lengths =
+    option_or (order_fault order) (option_or (lengths_fault (length xs) lengths) (cells_fault order xs))
+
+-- the fault is told, or that all went well
+abbrev pub done_unless : Option Fault → Outcome
+done_unless None = done
+done_unless (Some e) = refusal e
+
+-- ---- what arrays tell
+
+-- each number stands in this relation to the one at the same place of another list
+abbrev pub AreRelated : (ℕ → ℕ → Type 0) → List ℕ → List ℕ → Type 0
+AreRelated R xs ys = EachIndex xs (λ k. R (slice_index xs k) (slice_index ys k))
+
+-- a number of a cell of an order, and another number of the same cell
+abbrev pub IsConverted : Conversion → ℕ → ℕ → ℕ → Type 0
+IsConverted NestToRing order x y = y ≡ ring_number order x
+IsConverted RingToNest order x y = (y < cell_count order) × (ring_number order y ≡ x)
+IsConverted NestToUniq order x y = y ≡ uniq_of (cell_number order x)
+
+-- NUNIQ numbers, and the orders and nested numbers of the same cells
+abbrev pub AreCellsOf : List ℕ → List ℕ → List ℕ → Type 0
+AreCellsOf uniqs orders xs =
+    EachIndex uniqs (λ k. IsCell (cell_number (slice_index orders k) (slice_index xs k))
+    × (uniq_of (cell_number (slice_index orders k) (slice_index xs k)) ≡ slice_index uniqs k))
+
+-- a row of eight begins with a list, and the largest number stands behind it
+pub record IsPadded (xs row : List ℕ) : Type 0 where
+  pub front : (k : ℕ) → k < length xs → slice_index row k ≡ slice_index xs k
+  pub behind : (k : ℕ) → length xs ≤ k → k < 8 → slice_index row k ≡ 2 ^ 64 - 1
+
+-- each row is that of the cells that touch the cell at its place
+abbrev pub AreTouching : ℕ → List ℕ → List (List ℕ) → Type 0
+AreTouching order cells rows =
+    EachIndex cells (λ k. IsPadded (touching_cells order (slice_index cells k)) (slice_index_or rows k []))
+
+-- each answer is 1 where the set has the number at its place, and else 0
+abbrev pub AreContained : NumberSet → List ℕ → List ℕ → Type 0
+AreContained a xs ys = AreRelated (λ x y. y ≡ (if set.contains a x then 1 else 0)) xs ys
+
+-- ---- what arrays say
+
+-- ranges as pairs
+abbrev pub pairs_from : List Range → List (ℕ × ℕ)
+pairs_from rs = map (λ r. (r.from, r.to)) rs
+
+-- the set of these pairs, or this fault of theirs
+abbrev pub pairs_say : Option RangesError → List (ℕ × ℕ) → Result NumberSet Fault
+pairs_say None pairs = Ok (set_of pairs)
+pairs_say (Some e) pairs = Err (fault.Ranges e)
+
+-- the set of ranges, or the first fault
+abbrev pub ranges_say : List Range → Result NumberSet Fault
+ranges_say rs = pairs_say (first_fault (pairs_from rs)) (pairs_from rs)
+
+-- the pixels of cells of an order, or this fault of theirs
+abbrev pub numbers_say : Option Fault → ℕ → List ℕ → Result NumberSet Fault
+numbers_say None order xs = Ok (pixels_of (map (cell_number order) xs))
+numbers_say (Some e) order xs = Err e
+
+-- the pixels of cells of an order by their numbers, or the first fault
+abbrev pub cells_say : ℕ → List ℕ → Result NumberSet Fault
+cells_say order xs = numbers_say (numbers_fault order xs []) order xs
+
+-- the pixels of the cells of NUNIQ numbers, or the first fault
+abbrev pub UniqsSay : List ℕ → Result NumberSet Fault → Type 0
+UniqsSay uniqs (Ok a) =
+    (uniqs_fault uniqs ≡ None)
+    × ((cells : List CellNumber) × AllByRecursion IsCell cells × (map uniq_of cells ≡ uniqs) × (a ≡ pixels_of cells))
+UniqsSay uniqs (Err e) = uniqs_fault uniqs ≡ Some e
+
+-- what NUNIQ numbers say is made, or no memory is left
+abbrev pub MakesOfUniqs : Contents → Contents → List ℕ → Outcome → Type 0
+MakesOfUniqs old new uniqs o =
+    ((said : Result NumberSet Fault) × UniqsSay uniqs said × Makes old new said o) ⊎ ((o ≡ memory) × (new ≡ old))
+
+-- the set that was said is made, or the fault is told, and all is as it was
+abbrev pub KeepsSaid : Contents → Contents → Result NumberSet Fault → Outcome → Type 0
+KeepsSaid old new (Ok a) o = Makes old new (Ok a) o
+KeepsSaid old new (Err e) o = (o ≡ refusal e) × (new ≡ old)
+
+-- ---- what is put into buffers
+
+-- items stand at the front of a buffer, and how many is told; or it is shorter, and as it was, and how many are wanted is told
+abbrev pub Fills : {X : Type 0} → List X → List X → List X → Outcome → Type 0
+Fills items old new o =
+    ((take (length items) new ≡ items) × (o ≡ told (length items)))
+    ⊎ ((length old < length items) × (new ≡ old) × (o ≡ refusal (fault.NoRoom (length items))))
+
+-- pairs as ranges
+abbrev pub ranges_from : List (ℕ × ℕ) → List Range
+ranges_from pairs = map (λ p. record { from = p.0; to = p.1 }) pairs
+
+-- the ranges of a set fill a buffer, or the fault is told
+abbrev pub FillsRanges : Result NumberSet Fault → List Range → List Range → Outcome → Type 0
+FillsRanges (Ok a) old new o =
+    (ranges : List (ℕ × ℕ)) × IsNormal ranges × (set_of ranges ≡ a) × Fills (ranges_from ranges) old new o
+FillsRanges (Err e) old new o = (new ≡ old) × (o ≡ refusal e)
+
+-- the NUNIQ numbers of a set's cells fill a buffer, or no memory is left, or the fault is told
+abbrev pub FillsCells : Result NumberSet Fault → List ℕ → List ℕ → Outcome → Type 0
+FillsCells (Ok a) old new o = Fills (map uniq_of (cells_of a)) old new o ⊎ ((new ≡ old) × (o ≡ memory))
+FillsCells (Err e) old new o = (new ≡ old) × (o ≡ refusal e)
+
+-- which of some pixels a set has is told, or the fault is
+abbrev pub TellsContained : Result NumberSet Fault → List ℕ → List ℕ → List ℕ → Outcome → Type 0
+TellsContained (Ok a) pixels old new o =
+    (o ≡ done_unless (lengths_fault (length pixels) (length old ∷ [])))
+    × (o.code ≡ 0 → AreContained a pixels new)
+TellsContained (Err e) pixels old new o = (new ≡ old) × (o ≡ refusal e)

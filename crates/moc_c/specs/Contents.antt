@@ -1,0 +1,44 @@
+-- What lies on a desk.
+use Rattle.std.specs.Prelude.{◌≡◌, ◌≤◌, ◌+◌, ℕ, List, [], Option, None, refl}
+use Rattle.std.specs.Ordering.{nat_cmp}
+use Rattle.std.specs.FinMap as map
+use Rattle.std.specs.FinSet as set
+use Rattle.std.specs.Coded.{Coded, code_by, coded×, coded_ℕ, coded_list}
+use Rattle.moc_ranges.specs.Numbers.{NumberSet}
+
+-- sets by their keys, the key of the set that is made next, and the text that was made last
+pub record Contents : Type 0 where
+  pub sets : map.FinMap nat_cmp NumberSet
+  pub next : ℕ
+  pub text : List ℕ
+
+-- nothing, and no text
+abbrev pub bare : Contents
+bare = record { sets = map.empty; next = 0; text = [] }
+
+-- the set at a key, if there is one
+abbrev pub at_key : Contents → ℕ → Option NumberSet
+at_key d key = map.get d.sets key
+
+-- a set more, at the next key
+abbrev pub with_set : Contents → NumberSet → Contents
+with_set d a = record { sets = map.insert d.sets d.next a; next = d.next + 1; text = d.text }
+
+-- without the set at a key
+abbrev pub without_set : Contents → ℕ → Contents
+without_set d key = record { sets = map.remove d.sets key; next = d.next; text = d.text }
+
+-- with another text
+abbrev pub with_text : Contents → List ℕ → Contents
+with_text d text = record { sets = d.sets; next = d.next; text = text }
+
+-- no set has a key that is still to come
+abbrev pub HasNoneFrom : ℕ → map.FinMap nat_cmp NumberSet → Type 0
+HasNoneFrom next sets = (key : ℕ) → next ≤ key → map.get sets key ≡ None
+
+-- how it is stored
+abbrev pub contents_code : Coded Contents
+contents_code =
+    code_by (map.FinMap nat_cmp NumberSet × (ℕ × List ℕ))
+    (coded× (map.code coded_ℕ (set.code coded_ℕ)) (coded× coded_ℕ (coded_list coded_ℕ)))
+    (λ d. (d.sets, (d.next, d.text))) (λ p. record { sets = p.0; next = p.1.0; text = p.1.1 }) (λ _. refl)

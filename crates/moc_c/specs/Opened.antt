@@ -1,0 +1,12 @@
+-- What stands where a desk was to begin.
+use base.Fml.{Fml, fex, fsep, feq}
+use base.Fraction.{full_share}
+use denote.RawPtr.{Ptr, lies_at, room_at}
+use Rattle.std.specs.Prelude.{Bool, true, false}
+use Rattle.moc_c.specs.Contents.{Contents, bare}
+use Rattle.moc_c.specs.contracts.desk.Desk.{the_row}
+
+-- a desk with nothing on it, or the room that there was
+abbrev pub opened : Bool → Ptr → Fml
+opened true p = fex the_row.Denot (λ d. fsep (feq Contents d.contents bare) (lies_at the_row full_share p d))
+opened false p = room_at the_row p

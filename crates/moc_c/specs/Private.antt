@@ -1,0 +1,3 @@
+-- What serves the contracts of private functions alone.
+pub mod Desk
+pub mod Lending

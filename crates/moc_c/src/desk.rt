@@ -1,0 +1,84 @@
+//! What C holds: a shelf of coverages.
+ghost use Rattle.std.specs.Prelude.{◌≡◌, IfOk};
+ghost use Rattle.std.specs.Borrow.{sem};
+ghost use Rattle.moc_c.specs.Contents.{bare, Contents, contents_code};
+ghost use Rattle.moc_c.specs.Private.Desk.{desk_owns};
+
+mod parts;
+
+use crate::shelf::Shelf;
+use parts::Parts;
+use std::alloc::{AllocError, Global};
+use std::marker::{Model, Send};
+
+/// A desk: a pointer to what lies on it, which it owns.
+#[repr(C)]
+pub struct Desk {
+    ptr: *mut u8,
+    alloc: Global,
+    pub ghost contents: { Contents } by { contents_code },
+}
+
+impl Model for Desk {
+    ghost also_owns = { λ d. desk_owns d.alloc d.ptr d.contents };
+}
+
+impl Desk {
+    ghost use Rattle.moc_c.specs.Private.Lending.{LendsShelf};
+
+    /// A desk with nothing on it. Refused where memory runs out.
+    pub(crate) fn bare(alloc: Global) -> Result<Desk, AllocError>
+        ensures { IfOk result (λ d. d.contents ≡ bare) }
+    {
+        Ok(Desk::of_parts(Parts::of(Box::new(alloc, Shelf::new(alloc))?)))
+    }
+
+    fn of_parts(parts: Parts<Shelf, Global>) -> Desk
+        ensures { result.contents ≡ parts.value }
+    {
+        let Parts { ptr, alloc } = parts;
+        Desk {
+            ptr: ptr as *mut u8,
+            alloc,
+        }
+    }
+
+    fn into_parts(self) -> Parts<Shelf, Global>
+        ensures { result.value ≡ self.contents }
+    {
+        let Desk { ptr, alloc } = self;
+        Parts {
+            ptr: ptr as *mut Shelf,
+            alloc,
+        }
+    }
+
+    /// Its shelf.
+    pub(crate) fn shelf(&mut self) -> &mut Shelf
+        ensures* writes_back { sem 𝓛 (LendsShelf self.entry result) }
+        ensures value { result.now ≡ self.old.contents }
+    {
+        unsafe { &mut *(self.ptr as *mut Shelf) }
+    }
+}
+
+impl Drop for Desk {
+    fn drop(self) {
+        drop(self.into_parts().into_box());
+    }
+}
+
+unsafe impl Send for Desk {}
+
+/// Ends a desk, with all that lies on it.
+#[unsafe(no_mangle)]
+pub extern "C" fn moc_close(desk: Desk) {
+    drop(desk);
+}
+
+fn sendable<T: Send>(_x: &T) {}
+
+/// A desk may go to another thread.
+pub(crate) fn desks_are_sent(desk: &Desk) {
+    sendable(desk);
+}

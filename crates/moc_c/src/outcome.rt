@@ -1,0 +1,149 @@
+//! How a call ended.
+ghost use Rattle.std.specs.Prelude.{◌≡◌};
+ghost use Rattle.moc_c.specs.Outcomes.{done, form_refusal, json_refusal, outcome, ranges_refusal, refusal};
+ghost use Rattle.moc_c.specs.Outcomes.{text_refusal, told, uniq_refusal};
+
+use crate::codes;
+use crate::fault::Fault;
+use moc_forms::FormError;
+use moc_ranges::RangesError;
+use moc_text::{JsonError, TextError, UniqError};
+
+/// How a call ended: a code, and two numbers that say how much, or where.
+#[repr(C)]
+#[derive(Clone, Copy)]
+pub struct Outcome {
+    pub code: u32,
+    pub first: u64,
+    pub second: u64,
+}
+
+impl Outcome {
+    /// A code with two numbers.
+    fn new(code: u32, first: u64, second: u64) -> Outcome
+        ensures { result ≡ outcome code first second }
+    {
+        Outcome {
+            code,
+            first,
+            second,
+        }
+    }
+
+    /// A code with the place of a fault.
+    fn at(code: u32, place: usize) -> Outcome
+        ensures { result ≡ outcome code place 0 }
+    {
+        Outcome::new(code, place as u64, 0)
+    }
+
+    /// All went well.
+    pub(crate) fn done() -> Outcome
+        ensures { result ≡ done }
+    {
+        Outcome::new(codes::DONE, 0, 0)
+    }
+
+    /// What was asked for is a number.
+    pub(crate) fn told(number: u64) -> Outcome
+        ensures { result ≡ told number }
+    {
+        Outcome::new(codes::DONE, number, 0)
+    }
+
+    /// What was asked for is two numbers.
+    pub(crate) fn told_both(first: u64, second: u64) -> Outcome
+        ensures { result ≡ outcome 0 first second }
+    {
+        Outcome::new(codes::DONE, first, second)
+    }
+
+    /// The code of a fault, with its place.
+    pub(crate) fn of(fault: Fault) -> Outcome
+        ensures { result ≡ refusal fault }
+    {
+        match fault {
+            Fault::Memory => Outcome::new(codes::MEMORY, 0, 0),
+            Fault::NoRoom { wanted } => Outcome::at(codes::NO_ROOM, wanted),
+            Fault::NoSuchSet { key } => Outcome::new(codes::NO_SUCH_SET, key, 0),
+            Fault::NoSuchOrder { order } => {
+                Outcome::new(codes::NO_SUCH_ORDER, u64::from(order), 0)
+            }
+            Fault::LengthsDiffer => Outcome::new(codes::LENGTHS_DIFFER, 0, 0),
+            Fault::NoSuchCell { at } => Outcome::at(codes::NO_SUCH_CELL, at),
+            Fault::NotUniq { at } => Outcome::at(codes::NOT_UNIQ, at),
+            Fault::Form(error) => Outcome::of_form(error),
+            Fault::Ranges(error) => Outcome::of_ranges(error),
+        }
+    }
+
+    /// The fault of a text in any form.
+    fn of_form(error: FormError) -> Outcome
+        ensures { result ≡ form_refusal error }
+    {
+        match error {
+            FormError::Ascii(error) => Outcome::of_text(error),
+            FormError::Json(error) => Outcome::of_json(error),
+            FormError::Uniq(error) => Outcome::of_uniq(error),
+            FormError::Memory => Outcome::new(codes::MEMORY, 0, 0),
+        }
+    }
+
+    /// The fault of an ASCII text, and the place of its byte.
+    fn of_text(error: TextError) -> Outcome
+        ensures { result ≡ text_refusal error }
+    {
+        match error {
+            TextError::Memory => Outcome::new(codes::MEMORY, 0, 0),
+            TextError::TooCoarse => Outcome::new(codes::TOO_COARSE, 0, 0),
+            TextError::BadByte { at } => Outcome::at(codes::ASCII_BAD_BYTE, at),
+            TextError::NoOrder { at } => Outcome::at(codes::ASCII_NO_ORDER, at),
+            TextError::OrderTooLarge { at } => Outcome::at(codes::ASCII_ORDER_TOO_LARGE, at),
+            TextError::CellTooLarge { at } => Outcome::at(codes::ASCII_CELL_TOO_LARGE, at),
+            TextError::Backwards { at } => Outcome::at(codes::ASCII_BACKWARDS, at),
+            TextError::Unfinished { at } => Outcome::at(codes::ASCII_UNFINISHED, at),
+        }
+    }
+
+    /// The fault of a JSON text, the number of the name and that of the item.
+    fn of_json(error: JsonError) -> Outcome
+        ensures { result ≡ json_refusal error }
+    {
+        match error {
+            JsonError::Memory => Outcome::new(codes::MEMORY, 0, 0),
+            JsonError::TooCoarse => Outcome::new(codes::TOO_COARSE, 0, 0),
+            JsonError::NotJson => Outcome::new(codes::JSON_NOT_JSON, 0, 0),
+            JsonError::NotObject => Outcome::new(codes::JSON_NOT_OBJECT, 0, 0),
+            JsonError::BadOrder { name } => Outcome::at(codes::JSON_BAD_ORDER, name),
+            JsonError::NotArray { name } => Outcome::at(codes::JSON_NOT_ARRAY, name),
+            JsonError::NotWhole { name, place } => {
+                Outcome::new(codes::JSON_NOT_WHOLE, name as u64, place as u64)
+            }
+            JsonError::CellTooLarge { name, place } => {
+                Outcome::new(codes::JSON_CELL_TOO_LARGE, name as u64, place as u64)
+            }
+        }
+    }
+
+    /// The fault of a NUNIQ list, and the number of its line.
+    fn of_uniq(error: UniqError) -> Outcome
+        ensures { result ≡ uniq_refusal error }
+    {
+        match error {
+            UniqError::Memory => Outcome::new(codes::MEMORY, 0, 0),
+            UniqError::BadByte { line } => Outcome::at(codes::UNIQ_BAD_BYTE, line),
+            UniqError::NotUniq { line } => Outcome::at(codes::UNIQ_NOT_UNIQ, line),
+        }
+    }
+
+    /// The fault of ranges, and the place of the faulty one.
+    fn of_ranges(error: RangesError) -> Outcome
+        ensures { result ≡ ranges_refusal error }
+    {
+        match error {
+            RangesError::Memory => Outcome::new(codes::MEMORY, 0, 0),
+            RangesError::Backwards { at } => Outcome::at(codes::RANGE_BACKWARDS, at),
+            RangesError::PixelTooLarge { at } => Outcome::at(codes::RANGE_PIXEL_TOO_LARGE, at),
+        }
+    }
+}

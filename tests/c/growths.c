@@ -1,0 +1,86 @@
+/* Makes sets and texts while one growth is refused (refuse.c): a call that answers MOC_MEMORY leaves all as it was, so the same call once
+   more does what it would have done. It prints how many calls were refused; the status is not 0 where anything else is answered. Built and
+   run by library.py. */
+#include "moc.h"
+
+#include <stdio.h>
+#include <stdlib.h>
+#include <string.h>
+
+static unsigned refusals;
+static moc_desk desk;
+
+/* Ends the program where a condition does not hold. */
+static void need(int line, bool holds)
+{
+    if (!holds) {
+        printf("line %d\n", line);
+        exit(1);
+    }
+}
+#define NEED(condition) need(__LINE__, condition)
+
+/* Makes a call, once more where memory was refused, with the sets of before: it then tells this number. */
+#define DOES(call, number)                                  \
+    do {                                                    \
+        moc_outcome outcome = call;                         \
+        if (outcome.code == MOC_MEMORY) {                   \
+            refusals++;                                     \
+            NEED(outcome.first == 0 && outcome.second == 0); \
+            outcome = call;                                 \
+        }                                                   \
+        NEED(outcome.code == MOC_DONE && outcome.first == (number)); \
+    } while (0)
+
+int main(void)
+{
+    static moc_range ranges[1000], out[1000];
+    static uint64_t cells[1000], uniqs[1000];
+    uint8_t text[64];
+    if (!moc_open(&desk)) {
+        refusals++;
+        NEED(moc_open(&desk));
+    }
+    for (size_t i = 0; i < 1000; i++) {
+        ranges[i] = (moc_range){3 * i, 3 * i + 1};
+        cells[i] = 999 - i;
+        uniqs[i] = (UINT64_C(1) << 60) + 3 * (999 - i);
+    }
+    DOES(moc_from_ranges(&desk, ranges, 1000), 0);
+    DOES(moc_from_cells(&desk, 28, cells, 1000), 1);
+    DOES(moc_from_uniqs(&desk, uniqs, 1000), 2);
+    DOES(moc_empty(&desk), 3);
+    DOES(moc_full(&desk), 4);
+    DOES(moc_read_ascii(&desk, (const uint8_t *)"0/0 1/4", 7), 5);
+    DOES(moc_read_json(&desk, (const uint8_t *)"{\"0\":[0],\"1\":[4]}", 17), 6);
+    DOES(moc_read_uniq(&desk, (const uint8_t *)"4\n20\n", 5), 7);
+    DOES(moc_union(&desk, 0, 1), 8);
+    DOES(moc_intersection(&desk, 0, 1), 9);
+    DOES(moc_difference(&desk, 1, 0), 10);
+    DOES(moc_symmetric(&desk, 0, 1), 11);
+    DOES(moc_complement(&desk, 0), 12);
+    DOES(moc_degrade(&desk, 0, 29), 13);
+    DOES(moc_cells(&desk, 0, uniqs, 1000), 1000);
+    DOES(moc_write_ascii(&desk, 5, MOC_NONE), 8);
+    DOES(moc_write_json(&desk, 6, MOC_NONE), 18);
+    DOES(moc_write_uniq(&desk, 7), 5);
+    DOES(moc_text(&desk, text, sizeof text), 5);
+    NEED(memcmp(text, "4\n20\n", 5) == 0);
+    DOES(moc_describe(&desk, 3, MOC_NONE), 60);
+    moc_outcome picture = moc_draw(&desk, 3);
+    if (picture.code == MOC_MEMORY) {
+        refusals++;
+        picture = moc_draw(&desk, 3);
+    }
+    NEED(picture.code == MOC_DONE && picture.first > 0);
+
+    NEED(moc_same(&desk, 0, 2).first == 1 && moc_same(&desk, 0, 13).first == 1);
+    NEED(moc_count(&desk, 1).first == 4000 && moc_covers(&desk, 1, 0).first == 1 && moc_same(&desk, 0, 9).first == 1);
+    NEED(moc_same(&desk, 8, 1).first == 1 && moc_same(&desk, 10, 11).first == 1 && moc_count(&desk, 10).first == 3000);
+    NEED(moc_same(&desk, 5, 6).first == 1 && moc_same(&desk, 6, 7).first == 1);
+    NEED(moc_meets(&desk, 0, 12).first == 0 && moc_count(&desk, 4).first == moc_count(&desk, 0).first + moc_count(&desk, 12).first);
+    NEED(moc_ranges(&desk, 0, out, 1000).first == 1000 && memcmp(out, ranges, sizeof out) == 0);
+    moc_close(desk);
+    printf("%u\n", refusals);
+    return 0;
+}

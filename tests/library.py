@@ -1,0 +1,145 @@
+#!/usr/bin/env python3
+"""Calls the library for C: `tests/c/calls.c` makes each call of `moc.h`, with right, empty, short and wrong arguments, under the address and
+undefined-behaviour sanitizers and the one for leaks, and once without; `tests/c/growths.c` makes sets and texts with each growth refused in
+turn (`tests/refuse.c`). The program of `docs/C.md` writes what the page says. The header is read as C99 and as C++, and its codes are compared with those of the crate; and each call of it is an
+export of the library, and each export a call of it.
+
+The library is linked anew, by `./moc library`, in a room of its own. The last line printed is `N passed, M failed`."""
+import os
+import re
+import subprocess
+import sys
+import tempfile
+
+TOP = os.path.dirname(os.path.dirname(os.path.abspath(__file__)))
+CRATE = os.path.join(TOP, "crates", "moc_c")
+HEADER = os.path.join(CRATE, "include", "moc.h")
+CC, CXX = os.environ.get("CC", "cc"), os.environ.get("CXX", "c++")
+WARNINGS = ["-Wall", "-Wextra", "-Wpedantic", "-Werror"]
+SANITIZERS = ["-fsanitize=address,undefined", "-fno-sanitize-recover=all"]
+CODE = re.compile(r"^\s*(?:MOC|pub\(crate\) const) ?_?(\w+)(?:: u32)? = (\d+)", re.MULTILINE)
+CALL = re.compile(r"^(?:bool|void|moc_outcome) (moc_\w+)\(", re.MULTILINE)
+EXPORT = re.compile(r"extern \"C\" fn (moc_\w+)\(")
+SECONDS = 300
+
+
+class Tally:
+    """How many checks passed and failed."""
+
+    def __init__(self):
+        self.passed = self.failed = 0
+
+    def add(self, name, holds, told=""):
+        self.passed += bool(holds)
+        self.failed += not holds
+        if not holds:
+            print(f"{name}: failed\n{told}")
+
+    def add_line(self, name, ended):
+        """Adds what a program tells in its last line."""
+        counted = re.search(r"^(\d+) passed, (\d+) failed$", ended.stdout, re.MULTILINE)
+        if counted is None or ended.returncode != (counted[2] != "0"):
+            self.add(name, False, ended.stdout + ended.stderr)
+            return
+        self.passed += int(counted[1])
+        self.failed += int(counted[2])
+        if counted[2] != "0" or ended.stderr:
+            print(f"{name}:\n{ended.stdout}{ended.stderr}")
+
+
+def ran(words, **environment):
+    return subprocess.run(words, stdin=subprocess.DEVNULL, stdout=subprocess.PIPE, stderr=subprocess.PIPE, text=True, timeout=SECONDS,
+                          env=dict(os.environ, **environment))
+
+
+def read(path):
+    with open(path, encoding="utf-8") as file:
+        return file.read()
+
+
+def sources():
+    folder = os.path.join(CRATE, "src")
+    return "\n".join(read(os.path.join(at, it)) for at, _, files in os.walk(folder) for it in files)
+
+
+def check_header(tally, room):
+    """The header is C99 and C++; its codes are those of the crate, and its calls the exports."""
+    for compiler, standard, name in ((CC, "c99", "header.c"), (CXX, "c++11", "header.cc")):
+        with open(os.path.join(room, name), "w") as file:
+            file.write('#include "moc.h"\n#include "moc.h"\nint main(void) { return MOC_DONE; }\n')
+        told = ran([compiler, f"-std={standard}", *WARNINGS, f"-I{room}", "-fsyntax-only", os.path.join(room, name)])
+        tally.add(f"the header as {standard}", told.returncode == 0, told.stderr)
+    header, codes = CODE.findall(read(HEADER)), CODE.findall(read(os.path.join(CRATE, "src", "codes.rt")))
+    tally.add("the codes", codes and header == codes, f"{header}\n{codes}")
+    calls, exports = CALL.findall(read(HEADER)), EXPORT.findall(sources())
+    tally.add("the calls", calls and sorted(calls) == sorted(exports), sorted({*calls} ^ {*exports}))
+    tried = read(os.path.join(TOP, "tests", "c", "calls.c"))
+    tally.add("each call is tried", all(f"{it}(" in tried for it in calls), [it for it in calls if f"{it}(" not in tried])
+
+
+def built(tally, room, name, *options):
+    """The program of a source in tests/c, linked with the library, or None."""
+    program = os.path.join(room, name + ("-checked" if options else ""))
+    told = ran([CC, "-std=c99", "-D_POSIX_C_SOURCE=200809L", "-g", "-O1", *WARNINGS, *options, f"-I{room}",
+                os.path.join(TOP, "tests", "c", f"{name}.c"), os.path.join(room, "libploverchaise.a"), "-pthread", "-o", program])
+    tally.add(f"{name} is built", told.returncode == 0, told.stderr)
+    return program if told.returncode == 0 else None
+
+
+def check_calls(tally, room):
+    for options in ([], SANITIZERS):
+        program = built(tally, room, "calls", *options)
+        if program is not None:
+            tally.add_line(program, ran([program], ASAN_OPTIONS="detect_leaks=1"))
+
+
+def check_page(tally, room):
+    """The program of docs/C.md writes what the page says."""
+    page, program = read(os.path.join(TOP, "docs", "C.md")), os.path.join(room, "page")
+    shown = re.search(r"^```c\n(.*?)^```\n\nIt writes `(.*?)`", page, re.MULTILINE | re.DOTALL)
+    with open(program + ".c", "w") as file:
+        file.write(shown[1])
+    told = ran([CC, "-std=c99", *WARNINGS, f"-I{room}", program + ".c", os.path.join(room, "libploverchaise.a"), "-o", program])
+    tally.add("the page's program is built", told.returncode == 0, told.stderr)
+    if told.returncode == 0:
+        ended = ran([program])
+        tally.add("the page's program", ended.returncode == 0 and ended.stdout == shown[2] + "\n", ended)
+
+
+def check_growths(tally, room):
+    """Each growth refused in turn: all comes out the same, and what was refused was tried once more."""
+    program, shim, count = built(tally, room, "growths"), os.path.join(room, "refuse.so"), os.path.join(room, "count")
+    told = ran([CC, "-shared", "-fPIC", "-O1", "-o", shim, os.path.join(TOP, "tests", "refuse.c")])
+    tally.add("the shim is built", told.returncode == 0, told.stderr)
+    if program is None or told.returncode:
+        return
+
+    def run(refuse):
+        return ran([program], LD_PRELOAD=shim, REFUSE=str(refuse), COUNT=count)
+
+    whole = run(0)
+    tally.add("growths with none refused", whole.returncode == 0 and whole.stdout == "0\n", whole)
+    refused = 0
+    for number in range(1, int(read(count)) + 1):
+        ended = run(number)
+        tally.add(f"growth {number}", ended.returncode == 0 and ended.stdout in ("0\n", "1\n"), ended)
+        refused += ended.stdout == "1\n"
+    tally.add("refusals show", refused > 20, refused)
+
+
+def main():
+    tally = Tally()
+    with tempfile.TemporaryDirectory() as room:
+        if subprocess.run([os.path.join(TOP, "moc"), "library", room], stdout=sys.stderr).returncode:
+            print("the library is not built\n0 passed, 1 failed")
+            return 1
+        check_header(tally, room)
+        check_calls(tally, room)
+        check_page(tally, room)
+        check_growths(tally, room)
+    print(f"{tally.passed} passed, {tally.failed} failed")
+    return int(tally.failed > 0)
+
+
+if __name__ == "__main__":
+    sys.exit(main())
