@@ -5,7 +5,9 @@ pipe, and each growth refused in turn.
 A run that ends with `fault Memory` has written just the answers to the lines before, whole; one that ends well has met no
 refusal. The program lies where the environment's MOC says. The last line printed is `N passed, M failed`."""
 import os
+import resource
 import select
+import signal
 import subprocess
 import sys
 import tempfile
@@ -378,6 +380,16 @@ def devices_fail(tally):
         tally.add(f"{words} with a fault output that fails", seen == (status, b"", None), seen)
 
 
+def file_limits_are_met(tally):
+    """An output file over its limit: the system's signal ends the program, and where the caller ignores it the write fails."""
+    for is_ended, wanted in [(True, (-signal.SIGXFSZ, b"", 4096)), (False, (3, b"fault Write\n", 4096))]:
+        with tempfile.TemporaryFile() as file:
+            ended = subprocess.run([MOC, "run"], input=b"read\n" * 1000, stdout=file, stderr=subprocess.PIPE, timeout=SECONDS,
+                                   preexec_fn=lambda: resource.setrlimit(resource.RLIMIT_FSIZE, (4096, 4096)), restore_signals=is_ended)
+            seen = (ended.returncode, ended.stderr, os.fstat(file.fileno()).st_size)
+        tally.add(f"a file limit, {'by a signal' if is_ended else 'ignored'}", seen == wanted, seen)
+
+
 def line_within(pipe, deadline):
     """The next line of a pipe, or what came of it before the deadline."""
     line = b""
@@ -605,6 +617,7 @@ def main():
     crews_answer(tally)
     limits_are_kept(tally)
     devices_fail(tally)
+    file_limits_are_met(tally)
     answers_come_at_once(tally)
     with tempfile.TemporaryDirectory() as folder:
         shim = os.path.join(folder, "refuse.so")

@@ -1,6 +1,7 @@
 //! `moc_bench OP REPEATS`: the time of one operation of the library, as a line `OP median first least checksum`, in
 //! seconds. Standard input has one coverage in ASCII a line: the first, and for an operation on two sets the second.
-//! Operations on numbers and schedules make their own input.
+//! Operations on numbers and schedules make their own input, of so many numbers or operations as a third word says, or of
+//! millions.
 #![tactic(auto)]
 
 mod operation;
@@ -15,21 +16,26 @@ use std::time::Instant;
 
 fn main(rt: HostRuntime) -> Result<()> {
     let words: Vec<String> = std::env::args(&rt)?.collect(rt.alloc())?;
-    let [_, word, repeats] = words.as_slice() else {
-        println!(rt; "moc_bench OP REPEATS")?;
-        return Ok(());
-    };
-    time(&rt, word.as_str(), repeats.as_str().parse()?)
+    match words.as_slice() {
+        [_, word, repeats] => time(&rt, word.as_str(), repeats.as_str().parse()?, None),
+        [_, word, repeats, count] => time(
+            &rt,
+            word.as_str(),
+            repeats.as_str().parse()?,
+            Some(count.as_str().parse()?),
+        ),
+        _ => Ok(println!(rt; "moc_bench OP REPEATS [COUNT]")?),
+    }
 }
 
 /// Times an operation on the input so often, and prints its line.
-fn time(rt: &HostRuntime, word: &str, repeats: u32) -> Result<()> {
+fn time(rt: &HostRuntime, word: &str, repeats: u32, count: Option<u32>) -> Result<()> {
     let Some(operation) = Operation::named(word) else {
         bail!("no operation {word}");
     };
     let mut text = Vec::new(rt.alloc());
     rt.stdin().read_to_end(&mut text)?;
-    let input = Input::new(rt.alloc(), operation, &text)?;
+    let input = Input::new(rt.alloc(), operation, count, &text)?;
     let (mut times, sum) = times_of(rt, operation, &input, repeats)?;
     let first = in_seconds(times.first());
     times.sort_unstable();

@@ -23,9 +23,9 @@ pub enum Operation {
     Ring(u8),
     Nest(u8),
     Near(u8),
-    /// A million steps by clients one after another.
+    /// Steps by clients one after another.
     Turns,
-    /// A million steps in rounds of so many clients.
+    /// Steps in rounds of so many clients.
     Rounds(u32),
 }
 
@@ -40,8 +40,14 @@ pub struct Input<'a> {
 }
 
 impl<'a> Input<'a> {
-    /// The coverages that the first two lines say, and what else the operation wants.
-    pub fn new(alloc: Global, operation: Operation, text: &'a [u8]) -> Result<Input<'a>> {
+    /// The coverages that the first two lines say, and what else the operation wants: so many numbers or operations, or
+    /// millions.
+    pub fn new(
+        alloc: Global,
+        operation: Operation,
+        count: Option<u32>,
+        text: &'a [u8],
+    ) -> Result<Input<'a>> {
         let mut lines = text.split(|byte| *byte == b'\n');
         let text = lines.next().unwrap_or(&[]);
         let (a, _) = read_ascii(alloc, text)?;
@@ -50,8 +56,8 @@ impl<'a> Input<'a> {
             text,
             a,
             b,
-            cells: operation.cells(alloc)?,
-            steps: operation.steps(alloc)?,
+            cells: operation.cells(alloc, count)?,
+            steps: operation.steps(alloc, count)?,
         })
     }
 }
@@ -83,29 +89,31 @@ impl Operation {
         }
     }
 
-    /// Ten million numbers of the order for an operation on numbers, a million for touching cells.
-    fn cells(self, alloc: Global) -> Result<Vec<u64>, AllocError> {
+    /// So many numbers of the order for an operation on numbers: ten million where none is named, a million for touching
+    /// cells.
+    fn cells(self, alloc: Global, count: Option<u32>) -> Result<Vec<u64>, AllocError> {
         match self {
             Operation::Ring(order) | Operation::Nest(order) => {
-                random_cells(alloc, order, 10_000_000)
+                random_cells(alloc, order, count.unwrap_or(10_000_000))
             }
-            Operation::Near(order) => random_cells(alloc, order, 1_000_000),
+            Operation::Near(order) => random_cells(alloc, order, count.unwrap_or(1_000_000)),
             _ => Ok(Vec::new(alloc)),
         }
     }
 
-    /// The steps of a schedule.
-    fn steps(self, alloc: Global) -> Result<Vec<Step>> {
+    /// The steps of a schedule of so many operations, of five steps each: a million steps where none is named.
+    fn steps(self, alloc: Global, count: Option<u32>) -> Result<Vec<Step>> {
+        let operations = count.unwrap_or(200_000);
         match self {
-            Operation::Turns => in_turn(alloc),
-            Operation::Rounds(clients) => in_rounds(alloc, clients),
+            Operation::Turns => in_turn(alloc, operations),
+            Operation::Rounds(clients) => in_rounds(alloc, operations, clients),
             _ => Ok(Vec::new(alloc)),
         }
     }
 }
 
 /// Numbers below the count of an order's cells.
-fn random_cells(alloc: Global, order: u8, count: usize) -> Result<Vec<u64>, AllocError> {
+fn random_cells(alloc: Global, order: u8, count: u32) -> Result<Vec<u64>, AllocError> {
     let mut cells = Vec::new(alloc);
     let Some(order) = Order::new(order) else {
         return Ok(cells);

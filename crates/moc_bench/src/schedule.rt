@@ -1,4 +1,4 @@
-//! Schedules of a million steps.
+//! Schedules of many steps.
 use crate::random::Random;
 use anyhow::{Result, bail};
 use moc_parts::{Batch, Command, Operand, Part};
@@ -6,9 +6,6 @@ use moc_ranges::Coverage;
 use moc_sphere::{Cell, Order};
 use moc_steps::Step;
 use std::alloc::Global;
-
-/// How many operations a schedule has, of five steps each.
-const OPERATIONS: u32 = 200_000;
 
 /// How many clients there are where they come one after another.
 const CLIENTS: u32 = 1_000;
@@ -19,11 +16,11 @@ const ORDER: u8 = 5;
 /// The cells of order 5 in a base pixel.
 const CELLS: u64 = 1 << 10;
 
-/// Operations by a thousand clients in turn, one after another.
-pub fn in_turn(alloc: Global) -> Result<Vec<Step>> {
+/// So many operations, by a thousand clients in turn, one after another.
+pub fn in_turn(alloc: Global, operations: u32) -> Result<Vec<Step>> {
     let mut random = Random::new();
     let mut steps = Vec::new(alloc);
-    for at in 0..OPERATIONS {
+    for at in 0..operations {
         let part = push_begin(alloc, &mut random, at % CLIENTS, &mut steps)?;
         push_work(at % CLIENTS, part, &mut steps)?;
         steps.push(Step::End {
@@ -33,11 +30,12 @@ pub fn in_turn(alloc: Global) -> Result<Vec<Step>> {
     Ok(steps)
 }
 
-/// Rounds in which so many clients begin, and then each takes, edits and gives back its part; all end together.
-pub fn in_rounds(alloc: Global, clients: u32) -> Result<Vec<Step>> {
+/// So many operations, in rounds in which so many clients begin, and then each takes, edits and gives back its part; all end
+/// together.
+pub fn in_rounds(alloc: Global, operations: u32, clients: u32) -> Result<Vec<Step>> {
     let mut random = Random::new();
     let mut steps = Vec::new(alloc);
-    for _ in 0..OPERATIONS / clients.max(1) {
+    for _ in 0..operations / clients.max(1) {
         let mut parts = Vec::new(alloc);
         for client in 0..clients {
             parts.push(push_begin(alloc, &mut random, client, &mut steps)?)?;

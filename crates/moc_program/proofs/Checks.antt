@@ -1,5 +1,5 @@
 -- What a complaint of a text says.
-use Rattle.std.proofs.Common.{◌≡◌, ◌⊎◌, ◌∙◌, ℕ, List, Option, None, Result, Ok, Err, ap, inl, inr, subst, sym}
+use Rattle.std.proofs.Common.{◌≡◌, ◌⊎◌, ◌∙◌, ℕ, List, Option, None, Result, Ok, Err, refl, ap, inl, inr, subst, sym}
 use Rattle.std.specs.Prelude.{IfErr, IsErrAnd}
 use Rattle.moc_ranges.specs.Numbers.{NumberSet}
 use Rattle.moc_forms.specs.Forms.{FormFails, IsUnwritten, IsWant}
@@ -11,7 +11,7 @@ use Rattle.moc_forms.specs.declared.form.Form.{Form}
 use Rattle.moc_forms.specs.declared.form.Form.TheVariants.{Ascii, Json, Uniq}
 use Rattle.moc_forms.specs.declared.form.FormError.{FormError}
 use Rattle.moc_forms.specs.declared.place.Place.{Place}
-use Rattle.moc_program.specs.Conversion.{IsFaulty, IsOfInput, IsWhole, TellsFault}
+use Rattle.moc_program.specs.Conversion.{HasFault, IsNotConverted, IsOfInput, IsTextFault, IsWhole, SaysNothing, TellsFault}
 use Rattle.moc_program.specs.Faults.{fault_of_form}
 use Rattle.moc_program.specs.declared.status.Complaint.{Complaint}
 use Rattle.moc_program.specs.declared.status.Fault.{Fault}
@@ -45,12 +45,23 @@ module _ (form : Form) (text : List ℕ) (number : Option ℕ) (error : FormErro
 
 -- a complaint of the input, or of the text that it was
 pub of_input : (choice : Choice) (left left' : Option (List ℕ)) (given : List ℕ) (c : Complaint) → IsWhole left left' given
-    → (c.fault ≡ Memory) ⊎ TellsFault (form_for choice given) given None c → IsOfInput c.fault ⊎ IsFaulty choice left left' c
+    → (c.fault ≡ Memory) ⊎ TellsFault (form_for choice given) given None c → SaysNothing choice left left' c
 of_input choice left left' given c whole (inl memory) = inl (inr (inr memory))
 of_input choice left left' given c whole (inr tells) = inr (record { given = given; whole = whole; tells = tells })
 
--- a complaint that is handed on
-pub handed_on : {T : Type 0} (r : Result T Complaint) (x : Complaint) (Q : Complaint → Type 0) → IsErrAnd r (λ y. y ≡ x) → Q x → IfErr r Q
+-- a fault of a text is one of the input that it was
+pub not_read : (form : Form) (left left' : Option (List ℕ)) (given : List ℕ) (f : Fault) → IsWhole left left' given
+    → (f ≡ Memory) ⊎ IsTextFault form given f → IsNotConverted form left left' f
+not_read form left left' given f whole (inl memory) = inl (inr (inr memory))
+not_read form left left' given f whole (inr is_fault) = inr (inl (record { given = given; whole = whole; is_fault = is_fault }))
+
+-- why a text is not said
+pub text_fault : (form : Form) (text : List ℕ) (e : FormError) → FormFails form text e → (fault_of_form e ≡ Memory) ⊎ IsTextFault form text (fault_of_form e)
+text_fault form text e (inl want) = inl (want_is_memory e want)
+text_fault form text e (inr is_fault) = inr (e, is_fault, refl)
+
+-- an error that is handed on
+pub handed_on : {T E : Type 0} (r : Result T E) (x : E) (Q : E → Type 0) → IsErrAnd r (λ y. y ≡ x) → Q x → IfErr r Q
 handed_on (Ok v) x Q same told = tt
 handed_on (Err y) x Q same told = subst Q (sym same) told
 
@@ -68,15 +79,15 @@ fault_of_writing (Ok v) form a stated e same why = tt
 fault_of_writing (Err f) form a stated e same why =
     subst (λ g. (g ≡ Memory) ⊎ (g ≡ TooCoarse)) (sym same) (unwritten form a stated e why)
 
-of_writing : (c : Complaint) (f : Fault) → c.fault ≡ f → (f ≡ Memory) ⊎ (f ≡ TooCoarse) → IsOfInput c.fault ⊎ (c.fault ≡ TooCoarse)
-of_writing c f same (inl memory) = inl (inr (inr (same ∙ memory)))
+of_writing : (c : Complaint) (f : Fault) → c.fault ≡ f → (f ≡ Memory) ⊎ (f ≡ TooCoarse) → (c.fault ≡ Memory) ⊎ (c.fault ≡ TooCoarse)
+of_writing c f same (inl memory) = inl (same ∙ memory)
 of_writing c f same (inr coarse) = inr (same ∙ coarse)
 
 -- a complaint of a text that could not be written, where others are of the input
 pub not_written : {T : Type 0} (r : Result T Complaint) (f : Fault) (P : Complaint → Type 0) → IsErrAnd r (λ c. (c.fault ≡ f) × (c.place ≡ None) × (c.hint ≡ None))
-    → (f ≡ Memory) ⊎ (f ≡ TooCoarse) → ((c : Complaint) → IsOfInput c.fault → P c) → IfErr r (λ c. P c ⊎ (c.fault ≡ TooCoarse))
+    → (f ≡ Memory) ⊎ (f ≡ TooCoarse) → ((c : Complaint) → c.fault ≡ Memory → P c) → IfErr r (λ c. P c ⊎ (c.fault ≡ TooCoarse))
 not_written (Ok v) f P same why of = tt
-not_written (Err c) f P same why of = elim (of_writing c f same.0 why) as (λ _. P c ⊎ (c.fault ≡ TooCoarse)) [ inl input ↦ inl (of c input) | inr coarse ↦ inr coarse ]
+not_written (Err c) f P same why of = elim (of_writing c f same.0 why) as (λ _. P c ⊎ (c.fault ≡ TooCoarse)) [ inl memory ↦ inl (of c memory) | inr coarse ↦ inr coarse ]
 
 -- the same of a text that may be at fault
 pub of_text : (form : Form) (text : List ℕ) (number : Option ℕ) (c : Complaint) → (c.fault ≡ Memory) ⊎ TellsFault form text number c → IsOfInput c.fault ⊎ TellsFault form text number c

@@ -4,10 +4,10 @@ use Rattle.std.specs.Result.{IfErr, OnOk}
 use Rattle.std.proofs.lemmas.Bool.{false_from_ne_true}
 use Rattle.clap.specs.Words.{App, Text, takes, fault_of, kind_of, is_simple_and_free, FailsBy}
 use Rattle.clap.specs.declared.error.Error.{Error}
-use Rattle.clap.specs.declared.error.kind.ErrorKind.{}
-use Rattle.clap.specs.declared.error.kind.ErrorKind.TheVariants.{OutOfMemory}
+use Rattle.clap.specs.declared.error.kind.ErrorKind.{ErrorKind}
+use Rattle.clap.specs.declared.error.kind.ErrorKind.TheVariants.{OutOfMemory, DisplayHelp, DisplayVersion}
 use Rattle.moc_command_line.specs.CommandLine.{IsCommandLine, Parsers, moc_app}
-use Rattle.moc_program.specs.Outcomes.{AreMistaken, AreRefused, IsMistake}
+use Rattle.moc_program.specs.Outcomes.{AreMistaken, AreRefused, AskForHelp, IsMistake}
 
 -- the command line is one whose faults `clap` names
 pub simple : (parsers : Parsers) → is_simple_and_free (moc_app parsers) ≡ true
@@ -16,6 +16,10 @@ simple parsers = refl
 
 pub is_simple : (app : App) → IsCommandLine app → is_simple_and_free app ≡ true
 is_simple app line = rw line.is (simple line.parsers)
+
+no_help : (kind : ErrorKind) → kind ≡ OutOfMemory → (kind ≡ DisplayHelp) ⊎ (kind ≡ DisplayVersion) → ⊥
+no_help kind memory (inl help) = cc
+no_help kind memory (inr version) = cc
 
 module _ {M : Type 0} (app : App) (words : List Text) (line : IsCommandLine app) where
   pub refused : (r : Result M Error) → IfErr r (λ e. takes app words ≡ true → kind_of e ≡ OutOfMemory) → FailsBy (fault_of app words) r
@@ -30,6 +34,12 @@ module _ {M : Type 0} (app : App) (words : List Text) (line : IsCommandLine app)
     among = among;
     mistake = mistake;
   }
+
+  pub helped : (r : Result M Error) → FailsBy (fault_of app words) r
+      → IfErr r (λ e. (kind_of e ≡ DisplayHelp) ⊎ (kind_of e ≡ DisplayVersion) → AskForHelp words)
+  helped (Ok m) fails = tt
+  helped (Err e) (inl memory) = λ help. absurd (no_help (kind_of e) memory help)
+  helped (Err e) (inr among) = λ help. record { app = app; line = line; kind = kind_of e; among = among; help = help }
 
   pub taken : (r : Result M Error) → FailsBy (fault_of app words) r → OnOk r (AreMistaken words → ⊥)
   taken (Ok m) fails = λ mistaken. mistaken.some app line fails

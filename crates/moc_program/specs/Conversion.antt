@@ -101,13 +101,39 @@ pub record IsFaulty (choice : Choice) (left left' : Option (List ℕ)) (c : Comp
   pub whole : IsWhole left left' given
   pub tells : TellsFault (form_for choice given) given None c
 
--- the reader failed, or the input is too long, or memory was refused
+-- the reader failed, or an input is too long, or memory was refused
 abbrev pub IsOfInput : Fault → Type 0
 IsOfInput fault = (fault ≡ Read) ⊎ (fault ≡ TooLong) ⊎ (fault ≡ Memory)
 
+-- more was read than an input may have
+pub record IsLonger (left left' : Option (List ℕ)) : Type 0 where
+  pub given : List ℕ
+  pub consumed : Consumes left left' given
+  pub above : 16777216 < length given
+
+-- an input that is one text could not be had: the reader failed, or it is too long, or memory was refused
+abbrev pub IsOfWhole : Option (List ℕ) → Option (List ℕ) → Fault → Type 0
+IsOfWhole left left' fault = (fault ≡ Read) ⊎ ((fault ≡ TooLong) × IsLonger left left') ⊎ (fault ≡ Memory)
+
+-- the fault is the first of a text in a form
+abbrev pub IsTextFault : Form → List ℕ → Fault → Type 0
+IsTextFault form text fault = (error : FormError) × IsFormFault form text error × (fault ≡ fault_of_form error)
+
+-- all that was left was read, and the fault is its first
+pub record HasFault (form : Form) (left left' : Option (List ℕ)) (fault : Fault) : Type 0 where
+  pub given : List ℕ
+  pub whole : IsWhole left left' given
+  pub is_fault : IsTextFault form given fault
+
+-- why the input was not converted: it could not be had, or it has the fault that is told, or, in the other form, a cell
+-- that is deeper than the order that it names
+abbrev pub IsNotConverted : Form → Option (List ℕ) → Option (List ℕ) → Fault → Type 0
+IsNotConverted form left left' fault =
+    IsOfWhole left left' fault ⊎ HasFault form left left' fault ⊎ (fault ≡ TooCoarse)
+
 -- why the input says no set: it or memory could not be had, or it has the fault that is told
 abbrev pub SaysNothing : Choice → Option (List ℕ) → Option (List ℕ) → Complaint → Type 0
-SaysNothing choice left left' c = IsOfInput c.fault ⊎ IsFaulty choice left left' c
+SaysNothing choice left left' c = IsOfWhole left left' c.fault ⊎ IsFaulty choice left left' c
 
 -- why nothing was made of the input: it says no set, or what was made of it has a cell that is deeper than its order
 abbrev pub IsNotChanged : Choice → Option (List ℕ) → Option (List ℕ) → Complaint → Type 0
@@ -133,7 +159,7 @@ pub record AreFaulty (choice : Choice) (left left' : Option (List ℕ)) (c : Com
 
 -- why the input has no picture: it or memory could not be had, or one of its texts has the fault that is told
 abbrev pub IsNotDrawn : Choice → Option (List ℕ) → Option (List ℕ) → Complaint → Type 0
-IsNotDrawn choice left left' c = IsOfInput c.fault ⊎ AreFaulty choice left left' c
+IsNotDrawn choice left left' c = IsOfWhole left left' c.fault ⊎ AreFaulty choice left left' c
 
 -- the input was checked: it says a set, or has the fault that is told, where it could be had
 abbrev pub ChecksAll : Choice → Option (List ℕ) → Option (List ℕ) → Result (Unit {0}) Complaint → Type 0

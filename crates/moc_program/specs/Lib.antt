@@ -1,6 +1,8 @@
+pub mod Actions
 pub mod Combining
 pub mod Conversion
 pub mod Faults
+pub mod Numbers
 pub mod Outcomes
 pub mod Parting
 pub mod Statuses

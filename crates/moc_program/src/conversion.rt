@@ -7,8 +7,8 @@ ghost use Rattle.moc_forms.specs.Forms.{FormSays, form_text};
 ghost use Rattle.moc_forms.specs.Places.{line_bytes};
 ghost use Rattle.moc_forms.specs.Quotes.{IsTold};
 ghost use Rattle.moc_program.specs.Conversion.{BringsPiece, ChangesAll, ChecksAll, ConvertsAll, DescribesAll, DrawsAll};
-ghost use Rattle.moc_program.specs.Conversion.{IsNotChanged, IsNotDrawn, IsOfInput, IsPictured, IsReadFault, IsWhole};
-ghost use Rattle.moc_program.specs.Conversion.{SaysAll, SaysNothing, TellsFault, TellsPictured};
+ghost use Rattle.moc_program.specs.Conversion.{IsNotChanged, IsNotConverted, IsNotDrawn, IsOfWhole, IsPictured, IsReadFault, IsWhole};
+ghost use Rattle.moc_program.specs.Conversion.{IsTextFault, SaysAll, SaysNothing, TellsFault, TellsPictured};
 ghost use Rattle.moc_program.specs.Faults.{fault_of_form};
 ghost use Rattle.moc_program.specs.Parting.{AreTexts, IsParted};
 
@@ -57,7 +57,7 @@ pub fn read_piece<R: Source>(
 fn read_whole<R: Source>(alloc: Global, input: &mut R) -> Result<Vec<u8>, Fault>
     requires { R.mark input.old ≡ false }
     ensures read { IsErrOf result Fault.Read ↔ IsTrue (R.mark input.new) }
-    ensures fault { IfErr result (λ f. IsOfInput f) }
+    ensures fault { IfErr result (λ f. IsOfWhole (R.left input.old) (R.left input.new) f) }
     ensures whole { IfOk result (λ v. IsWhole (R.left input.old) (R.left input.new) v.items) }
 {
     let mut room = room(alloc)?;
@@ -74,6 +74,7 @@ fn read_whole<R: Source>(alloc: Global, input: &mut R) -> Result<Vec<u8>, Fault>
 pub fn said(alloc: Global, form: Form, text: &[u8]) -> Result<(Coverage, Option<Order>), Fault>
     ensures device { result ≢ Err Fault.Read }
     ensures says { IfOk result (λ r. FormSays form text.now r.0 r.1) }
+    ensures fault { IfErr result (λ f. (f ≡ Fault.Memory) ⊎ IsTextFault form text.now f) }
 {
     Ok(form.read(alloc, text)?)
 }
@@ -150,6 +151,7 @@ pub fn converted<R: Source>(
 ) -> Result<String, Fault>
     requires { R.mark input.old ≡ false }
     ensures read { IsErrOf result Fault.Read ↔ IsTrue (R.mark input.new) }
+    ensures fault { IfErr result (λ f. IsNotConverted from (R.left input.old) (R.left input.new) f) }
     ensures converts { IfOk result (λ t. ConvertsAll from to (R.left input.old) (R.left input.new) (string_bytes t)) }
 {
     let text = read_whole(alloc, input)?;

@@ -1,11 +1,17 @@
 //! What the words of the command line make the program do.
-ghost use Rattle.std.specs.Prelude.{◌≡◌, ◌≢◌, ◌≤◌, ◌⊎◌, false, true, map, IfOk, IfErr, OnOk, IsErrOf, IsTrue, is_err};
+ghost use Rattle.std.specs.Prelude.{◌≡◌, ◌≢◌, ◌≤◌, ◌⊎◌, ◌++◌, ◌∷◌, [], ℕ, List, false, true, map, IfOk, IfErr, OnOk};
+ghost use Rattle.std.specs.Prelude.{IsErrOf, IsTrue, is_err};
 ghost use Rattle.std.specs.Io.KnownBytes.{Appends};
 ghost use Rattle.std.specs.IoError.{error_kind};
 ghost use Rattle.clap.specs.Words.{kind_of};
 ghost use Rattle.moc_program.specs.Faults.{complaint_text};
-ghost use Rattle.moc_program.specs.Outcomes.{AreMistaken, AreRefused, IsMistake};
-ghost use Rattle.moc_program.specs.Statuses.{IsDeviceFault, end_of};
+ghost use Rattle.std.specs.String.{string_bytes};
+ghost use Rattle.moc_sphere.specs.Touching.{touching_cells};
+ghost use Rattle.moc_program.specs.Actions.{Does};
+ghost use Rattle.moc_program.specs.Numbers.{IsNumberFault, IsNumberLine, list_of};
+ghost use Rattle.moc_program.specs.Outcomes.{AreMistaken, AreRefused, AskForHelp, IsMistake, TellsFaultOf};
+ghost use Rattle.moc_program.specs.Statuses.{IsDeviceFault, code_of, end_of};
+ghost use Rattle.moc_program.specs.declared.action.Action.{Action};
 
 use crate::action::{Action, Number};
 use crate::combination::combined;
@@ -44,6 +50,15 @@ pub fn program<'a, T: Threads + Wait + Sync, S: AsStr, R: Source, W: Sink, E: Si
     ensures refused { result ≡ 2 → AreRefused (map S.text words.entry.now) }
     ensures mistaken { AreMistaken (map S.text words.entry.now) → (result ≡ 2) ⊎ (result ≡ 3) }
 
+    // At 0 help was asked for, or something that is asked for is done, and all that comes of it is written.
+    ensures done { result ≡ 0 → AskForHelp (map S.text words.entry.now)
+        ⊎ ((action : Action) × Does action
+        (R.left input.old) (R.left input.new) (W.written output.old) (W.written output.new)) }
+
+    // At 1 and 3 a fault is told that ends so, unless that cannot be written.
+    ensures told { E.mark faults.old ≡ false → E.mark faults.new ≡ false → (result ≡ 1) ⊎ (result ≡ 3)
+        → TellsFaultOf result (E.written faults.old) (E.written faults.new) }
+
     // A device that failed is told, and at 0 all that was written is flushed.
     ensures input { IsTrue (R.mark input.new) → result ≡ 3 }
     ensures output { IsTrue (W.mark output.new) → result ≡ 3 }
@@ -71,6 +86,8 @@ pub fn refuse_words<E: Sink>(error: &io::Error, faults: &mut E) -> u8
 /// Reads the words.
 fn parse<'a, S: AsStr>(alloc: Global, words: &'a [S]) -> Result<ArgMatches<'a>, Error>
     ensures refused { IfErr result (λ e. IsMistake (kind_of e) → AreRefused (map S.text words.entry.now)) }
+    ensures help { IfErr result (λ e. (kind_of e ≡ ErrorKind.DisplayHelp) ⊎ (kind_of e ≡ ErrorKind.DisplayVersion)
+        → AskForHelp (map S.text words.entry.now)) }
     ensures taken { OnOk result (AreMistaken (map S.text words.entry.now) → ⊥) }
     ensures mistaken { IfErr result (λ e. AreMistaken (map S.text words.entry.now)
         → (kind_of e ≡ ErrorKind.OutOfMemory) ⊎ IsMistake (kind_of e)) }
@@ -80,7 +97,9 @@ fn parse<'a, S: AsStr>(alloc: Global, words: &'a [S]) -> Result<ArgMatches<'a>, 
 
 /// How the program ends with this outcome, after it has told a fault.
 fn ended<E: Sink>(outcome: Result<(), Complaint>, faults: &mut E) -> Status
-    ensures { result ≡ end_of outcome }
+    ensures end { result ≡ end_of outcome }
+    ensures told { E.mark faults.old ≡ false → E.mark faults.new ≡ false → IfErr outcome (λ c.
+        Appends (E.written faults.old) (E.written faults.new) (complaint_text c)) }
 {
     let Err(complaint) = outcome else {
         return Status::Done;
@@ -91,8 +110,9 @@ fn ended<E: Sink>(outcome: Result<(), Complaint>, faults: &mut E) -> Status
 
 /// Tells a fault, behind it where it is, and which form the text looks like.
 fn tell<E: Sink>(complaint: &Complaint, faults: &mut E) -> Result<(), DeviceFault>
-    ensures { OnOk result (E.mark faults.old ≡ false →
+    ensures told { OnOk result (E.mark faults.old ≡ false →
         Appends (E.written faults.old) (E.written faults.new) (complaint_text complaint.now)) }
+    ensures marks { E.mark faults.old ≡ false → E.mark faults.new ≡ is_err result }
 {
     write_all(complaint.fault.line().as_bytes(), faults)?;
     if let Some(place) = &complaint.place {
@@ -118,6 +138,11 @@ fn explain<S: AsStr, W: Sink, E: Sink>(
     ensures memory { kind_of error.now ≡ ErrorKind.OutOfMemory → result ≡ Status.Broken }
     ensures output { IsTrue (W.mark output.new) → result ≡ Status.Broken }
     ensures flushed { result ≡ Status.Done → IsTrue (W.flushed output.new) }
+    ensures help { result ≡ Status.Done
+        → (kind_of error.now ≡ ErrorKind.DisplayHelp) ⊎ (kind_of error.now ≡ ErrorKind.DisplayVersion) }
+    ensures told { E.mark faults.old ≡ false → E.mark faults.new ≡ false
+        → (code_of result ≡ 1) ⊎ (code_of result ≡ 3)
+        → TellsFaultOf (code_of result) (E.written faults.old) (E.written faults.new) }
 {
     if error.kind() == ErrorKind::OutOfMemory {
         return ended(Err(Complaint::from(Fault::Memory)), faults);
@@ -195,6 +220,8 @@ fn act<T: Threads + Wait + Sync, R: Source, W: Sink>(
     ensures input { IsTrue (R.mark input.new) → IsDeviceFault result }
     ensures output { IsTrue (W.mark output.new) → IsDeviceFault result }
     ensures flushed { OnOk result (IsTrue (W.flushed output.new)) }
+    ensures done { OnOk result ((action : Action) × Does action
+        (R.left input.old) (R.left input.new) (W.written output.old) (W.written output.new)) }
 {
     match Action::from_matches(matches) {
         Some(Action::Run) => Ok(run(alloc, input, output)?),
@@ -227,7 +254,10 @@ fn act<T: Threads + Wait + Sync, R: Source, W: Sink>(
 }
 
 /// The line of a converted number.
-fn number_line(alloc: Global, number: Number) -> Result<String, Fault> {
+fn number_line(alloc: Global, number: Number) -> Result<String, Fault>
+    ensures line { IfOk result (λ text. IsNumberLine number (string_bytes text)) }
+    ensures fault { IfErr result (λ f. (f ≡ Fault.Memory) ⊎ IsNumberFault number f) }
+{
     let text = match number {
         Number::Ring(order, index) => format!(in alloc; "{}\n", Cell::new(order, index)?.ring()),
         Number::Nest(order, ring) => format!(in alloc;
@@ -238,23 +268,36 @@ fn number_line(alloc: Global, number: Number) -> Result<String, Fault> {
         Number::Near(order, index) => return Ok(near_line(alloc, Cell::new(order, index)?)?),
         Number::Cell(uniq) => {
             let cell = Cell::from_uniq(uniq)?;
-            format!(in alloc; "{}/{}\n", cell.order().get(), cell.index())
+            format!(in alloc; "{cell}\n")
         }
     };
     Ok(text?)
 }
 
 /// The line of the cells that touch a cell.
-fn near_line(alloc: Global, cell: Cell) -> Result<String, AllocError> {
+fn near_line(alloc: Global, cell: Cell) -> Result<String, AllocError>
+    ensures { IfOk result (λ text. string_bytes text ≡ list_of (touching_cells cell.order cell.index) ++ 10 ∷ []) }
+{
     let mut line = String::new(alloc);
-    for (place, index) in cell.touching(alloc).as_slice().iter().enumerate() {
-        if place > 0 {
-            line.push(' ')?;
-        }
-        write!(line, "{index}")?;
-    }
+    push_numbers(cell.touching(alloc).as_slice(), &mut line)?;
     line.push('\n')?;
     Ok(line)
+}
+
+/// Puts numbers on an empty line, with a blank between any two.
+#[tactic(auto, using(crate::proofs::NumberLines::spaced_more, crate::proofs::NumberLines::spaced_all))]
+fn push_numbers(numbers: &[u64], line: &mut String) -> Result<(), AllocError>
+    requires { string_bytes line.old ≡ [] }
+    ensures { OnOk result (string_bytes line.new ≡ list_of numbers.now) }
+{
+    let Some((first, others)) = numbers.split_first() else {
+        return Ok(());
+    };
+    write!(line, "{first}")?;
+    for number in others {
+        write!(line, " {number}")?;
+    }
+    Ok(())
 }
 
 /// Writes a text, whole, and sends it on; else complains of the output.

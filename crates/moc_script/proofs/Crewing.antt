@@ -15,8 +15,8 @@ use Rattle.moc_shared.specs.Clients.{record_of, start_of, clients_of, StandsForA
 use Rattle.moc_shared.specs.declared.map.SharedMap.{SharedMap}
 use Rattle.moc_shared.specs.declared.record.Calls.{Calls}
 use Rattle.std.specs.Io.KnownBytes.{Appends, Consumes, IsAtEnd, Keeps}
-use Rattle.moc_script.specs.Crews.{cover_line, said_lines, IsCrewText, CrewEnds}
-use Rattle.moc_script.specs.Runs.{AreWithin}
+use Rattle.moc_script.specs.Crews.{cover_line, said_lines, IsCrewText, IsRefusedLine, CrewEnds}
+use Rattle.moc_script.specs.Runs.{AreWithin, IsBegun}
 use Rattle.moc_script.specs.Scripts.{line_limit}
 use Rattle.moc_script.specs.declared.run_error.RunError.TheVariants as run
 use Rattle.moc_devices.specs.Laws.{Sends-all}
@@ -125,6 +125,18 @@ crew_of_lanes map n input answers left c end text some lanes all start many clos
 whole_input : (xs items : List ℕ) (b : Option (List ℕ)) → Consumes (Some xs) b items → IsAtEnd b → items ≡ xs
 whole_input xs items None consumed end = absurd consumed
 whole_input xs items (Some ys) consumed end = sym (consumed ∙ ap (λ l. items ++ l) end ∙ append-nil items)
+
+-- memory was refused while lines were read
+pub crew_begun : (lanes line : ℕ) (a b w0 w1 : Option (List ℕ)) → (given : List ℕ) × Consumes a b given × IsBegun line given → Keeps w0 w1
+    → IfSome a (λ input. CrewEnds lanes input b w0 w1 (Err (run.Memory line)))
+crew_begun lanes line None b w0 w1 begun kept = tt
+crew_begun lanes line (Some xs) b w0 w1 begun kept = (kept, (begun.0, begun.1, inl begun.2))
+
+-- memory was refused once all lines were read
+pub crew_refused : (lanes line : ℕ) (items : List ℕ) (a b w0 w1 : Option (List ℕ)) → Consumes a b items → IsAtEnd b → IsRefusedLine line (lines_of items) → Keeps w0 w1
+    → IfSome a (λ input. CrewEnds lanes input b w0 w1 (Err (run.Memory line)))
+crew_refused lanes line items None b w0 w1 consumed end refused kept = tt
+crew_refused lanes line items (Some xs) b w0 w1 consumed end refused kept = (kept, (items, consumed, inr (whole_input xs items b consumed end, refused)))
 
 Appends-kept : (a b c : Option (List ℕ)) (bs : List ℕ) → Appends a b bs → Keeps b c → Appends a c bs
 Appends-kept None b c bs p q = tt

@@ -38,7 +38,7 @@ use Rattle.moc_script.specs.Laws.{SchedulesHaveOneOrder}
 use Rattle.moc_script.specs.declared.fault.Fault.{Fault}
 use Rattle.moc_script.specs.declared.fault.Fault.TheVariants.{WrongCount, BadNumber, OrderTooLarge, CellTooLarge, EmptyCommand, TooManyCommands}
 use Rattle.moc_script.proofs.Batching.{piece-first}
-use Rattle.moc_script.proofs.Within.{empty_within, read_within}
+use Rattle.moc_text.specs.Laws.{empty_within, read_within}
 
 -- ---- what holds where something was read
 

@@ -13,6 +13,7 @@ pub mod NearLemmas
 pub mod Beginnings
 pub mod TextLemmas
 pub mod LaneLists
+pub mod Passing
 pub mod Weaving
 pub mod LaneLemmas
 pub mod Joinings
@@ -21,5 +22,4 @@ pub mod Gathered
 pub mod Crewing
 pub mod AllAnswered
 pub mod NumberingLemmas
-pub mod Within
 pub mod Explained

@@ -6,7 +6,7 @@ use Rattle.std.proofs.lemmas.Bool.{cases_lt, eqb-true}
 use Rattle.std.proofs.lemmas.List.{get_or-append-add, get_or-drop, take-append-drop, take_more, drop-append-le, drop-drop}
 use Rattle.moc_text.specs.Lines.{is_line_feed, lines_of}
 use Rattle.moc_script.specs.Lines.{IsUnbroken}
-use Rattle.moc_script.specs.Runs.{AreWithin, IsTooLong}
+use Rattle.moc_script.specs.Runs.{AreWithin, IsTooLong, IsBegun}
 use Rattle.std.specs.Io.KnownBytes.{Consumes}
 use Rattle.std.proofs.KnownBytes.{Consumes-trans}
 use Rattle.moc_script.specs.Private.Input.{IsHeld, IsBehindLast, ReadFails, fails_on}
@@ -156,6 +156,15 @@ module _ (bytes chunk : List ℕ) (start : ℕ) (held : IsHeld bytes start) wher
         inside = omega (arith, last.inside, length-append bytes chunk);
       }
 
+  -- the line that is begun has bytes, of some that come
+  pub held_begun : 0 < length chunk → (number : ℕ) → number ≡ count_by is_line_feed bytes + 1 → IsBegun number (bytes ++ chunk)
+  held_begun some number is =
+      let rest = drop start bytes ++ chunk in
+      let lines : lines_of (bytes ++ chunk) ≡ held.lines ++ lines_of rest = held.front chunk in
+      let one = some-lines rest (omega (arith, some, length-append (drop start bytes) chunk)) in
+      let few : number ≤ length (lines_of (bytes ++ chunk)) = omega (arith, is, one, held.count, ap length lines, length-append held.lines (lines_of rest)) in
+      record { none = λ e. absurd (omega (arith, e, is)); some = λ _. few; next = omega (arith, few) }
+
   -- the line that is begun goes over the limit
   pub held_long : 1048576 < length (drop start bytes) + position_or_len is_line_feed chunk → position_or_len is_line_feed chunk ≤ length chunk
       → (number : ℕ) → number ≡ count_by is_line_feed bytes + 1 → IsTooLong 1048576 (lines_of (bytes ++ chunk)) number
@@ -234,7 +243,7 @@ some_line_feed bytes found =
 pub reads_fail : (a b : Option (List ℕ)) (given : List ℕ) (e : ReadFault) → Consumes a b given → fails_on given e → ReadFails a b e
 reads_fail a b given fault.Read consumed fails = tt
 reads_fail a b given (fault.TooLong line) consumed fails = (given, consumed, fails)
-reads_fail a b given (fault.Memory line) consumed fails = tt
+reads_fail a b given (fault.Memory line) consumed fails = (given, consumed, fails)
 
 -- more was given
 pub given_more : (a b c : Option (List ℕ)) (bytes chunk bytes' : List ℕ) → Consumes a b bytes → Consumes b c chunk → bytes' ≡ bytes ++ chunk → Consumes a c bytes'

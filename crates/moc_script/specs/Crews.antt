@@ -1,5 +1,6 @@
 -- What a crew of lanes may answer, and what it has written when it ends.
-use Rattle.std.specs.Prelude.{◌≡◌, ◌<◌, ℕ, List, [], ◌∷◌, ◌++◌, length, Option, Some, Result, Ok, Err, if◌then◌else◌}
+use Rattle.std.specs.Prelude.{◌≡◌, ◌⊎◌, ◌<◌, ◌≤◌, ◌+◌, ◌-◌, ℕ, false, List, [], ◌∷◌, ◌++◌, length, slice_index_or}
+use Rattle.std.specs.Prelude.{Option, Some, Result, Ok, Err, if◌then◌else◌}
 use Rattle.std.specs.FinSet as set
 use Rattle.std.specs.Io.KnownBytes.{Appends, Consumes, Keeps}
 use Rattle.moc_ranges.specs.Blocks.{joining}
@@ -8,7 +9,7 @@ use Rattle.moc_text.specs.Lines.{lines_of}
 use Rattle.moc_script.specs.Words.{is_blank}
 use Rattle.moc_script.specs.Replies.{cover_text}
 use Rattle.moc_script.specs.Answers.{Rules}
-use Rattle.moc_script.specs.Runs.{AreWithin, IsTooLong}
+use Rattle.moc_script.specs.Runs.{AreWithin, IsTooLong, IsBegun}
 use Rattle.moc_script.specs.Scripts.{line_limit, script_rules}
 use Rattle.moc_script.specs.Merges.{InLane, placed, dealt, IsMerge}
 use Rattle.moc_script.specs.declared.run_error.RunError.{RunError}
@@ -48,8 +49,24 @@ pub record IsCrewText (lanes : ℕ) (lines : List (List ℕ)) (text : List ℕ) 
 abbrev pub BeginsCrewText : ℕ → List (List ℕ) → List ℕ → Type 0
 BeginsCrewText lanes lines text = (rest : List ℕ) × IsCrewText lanes lines (text ++ rest)
 
+-- the line of this number, counted from 1, is not blank
+pub record IsSaidLine (number : ℕ) (lines : List (List ℕ)) : Type 0 where
+  pub some : 0 < number
+  pub within : number ≤ length lines
+  pub said : is_blank (slice_index_or lines (number - 1) []) ≡ false
+
+-- The line at which a crew that was given all of its input is refused memory: a line that is not blank, 0 for the map
+-- and the threads, or the line behind the last for what comes once the lanes have ended.
+abbrev pub IsRefusedLine : ℕ → List (List ℕ) → Type 0
+IsRefusedLine number lines = (number ≡ 0) ⊎ IsSaidLine number lines ⊎ (number ≡ length lines + 1)
+
+-- the line at which a crew is refused memory: the one that it was reading, or one of all that it was given
+abbrev pub IsCrewLine : List ℕ → List ℕ → ℕ → Type 0
+IsCrewLine input given number = IsBegun number given ⊎ ((given ≡ input) × IsRefusedLine number (lines_of given))
+
 -- What a crew has written when it ends, of a whole input of which this is left: such a text; or a beginning of one
--- where the writer failed; or nothing. A line that is told as too long is one of what was read.
+-- where the writer failed; or nothing. A line that is told is one of what was read: it is too long, or memory was
+-- refused at it.
 abbrev pub CrewEnds :
     ℕ → List ℕ → Option (List ℕ) → Option (List ℕ) → Option (List ℕ) → Result (Unit {0}) RunError → Type 0
 CrewEnds lanes input left' written written' (Ok _) =
@@ -61,7 +78,9 @@ CrewEnds lanes input left' written written' (Err (LineTooLong line)) =
     Keeps written written'
     × ((given : List ℕ) × Consumes (Some input) left' given × IsTooLong line_limit (lines_of given) line)
 CrewEnds lanes input left' written written' (Err Read) = Keeps written written'
-CrewEnds lanes input left' written written' (Err (Memory line)) = Keeps written written'
+CrewEnds lanes input left' written written' (Err (Memory line)) =
+    Keeps written written'
+    × ((given : List ℕ) × Consumes (Some input) left' given × IsCrewLine input given line)
 CrewEnds lanes input left' written written' (Err Spawn) = Keeps written written'
 
 -- lines that are not blank have as many answers, whatever the order was

@@ -1,10 +1,11 @@
 //! Scripts that several threads answer.
-ghost use Rattle.std.specs.Prelude.{◌≡◌, ◌⊎◌, ◌<◌, ◌≤◌, ◌↔◌, ℕ, List, false, IfOk, IfSome, OnOk, OnErr, IsErrOf};
+ghost use Rattle.std.specs.Prelude.{◌≡◌, ◌⊎◌, ◌<◌, ◌≤◌, ◌↔◌, ℕ, List, false, IfOk, IfSome, IfErr, OnOk, OnErr, IsErrOf};
 ghost use Rattle.std.specs.Prelude.{IsTrue, length};
 ghost use Rattle.std.specs.Io.KnownBytes.{IsAtEnd};
 ghost use Rattle.moc_script.specs.Runs.{Flushes};
 ghost use Rattle.moc_text.specs.Lines.{lines_of};
 ghost use Rattle.moc_script.specs.Crews.{CrewEnds, said_lines};
+ghost use Rattle.moc_script.specs.Private.Gathering.{NamesLine};
 ghost use Rattle.moc_script.specs.Private.Joining.{IsTold};
 
 mod gate;
@@ -53,8 +54,9 @@ fn answer_all<R: Threads + Wait + Sync, G: Gate + Sync>(
     input: &[u8],
     lanes: Lanes,
 ) -> Result<Told, LanesError>
-    ensures { IfOk result (λ told.
+    ensures told { IfOk result (λ told.
         IsTold lanes.number (said_lines (lines_of input.now)) told.answers.items told.cover.items) }
+    ensures line { IfErr result (λ e. NamesLine input.now e) }
 {
     let start = Coverage::empty(alloc);
     let lanes = lanes.get();

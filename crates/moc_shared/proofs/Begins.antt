@@ -102,6 +102,7 @@ module _ {S X O R Y : Type 0} (n : ℕ) (content : S → Y) (part : ℕ → X �
         named = λ e h. absurd (none_in e h);
         wide = wide;
         deep = mapped_length xs ∙ deep;
+        spare = λ b spare. zeros b;
         each_part = λ b l. let t = some_there xs (index b) (omega arith) in inl (zeros (index b), (t.0, t.1, contents b t.0 t.1));
         each_view =
             λ i v e. subst (λ (u : V). ViewFits n content part answer proper start clients [] words (map some xs) u)

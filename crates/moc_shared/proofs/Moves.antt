@@ -19,7 +19,7 @@ use Rattle.moc_shared.specs.declared.record.Record.{Record}
 use Rattle.moc_shared.specs.declared.record.Note.{Note}
 use Rattle.moc_shared.specs.declared.record.View.{View}
 use Rattle.moc_shared.specs.History.{entry, Fits, StandsFor, stood, result, IsLegal, IsHistory}
-use Rattle.moc_shared.specs.Private.Rule.{index, note, records, Present, stood_in, IsFree, IsHeld, Holding, ViewFits, Kept}
+use Rattle.moc_shared.specs.Private.Rule.{index, IsSpare, note, records, Present, stood_in, IsFree, IsHeld, Holding, ViewFits, Kept}
 use Rattle.moc_shared.specs.Private.Rule.{parts_of, Answers, IsOne}
 use Rattle.moc_shared.specs.Private.Plays.{with_part, with_miss, with_holds, with_entry, behind_first}
 use Rattle.moc_shared.specs.Private.Plays.{TookPart, Took, Gave}
@@ -31,6 +31,10 @@ use Rattle.moc_shared.proofs.Apart.{stood_of, one_view, one_record, present_case
 -- the words and slots of two parts are two
 pub far : (b' b : ℕ) → b' ≢ b → index b' ≢ index b
 far b' b ne e = ne (omega arith)
+
+-- a part's word is no spare one
+spare_apart : (words : List ℕ) (b x : ℕ) → ((k : ℕ) → IsSpare k → slice_index words k ≡ 0) → (k : ℕ) → IsSpare k → slice_index (set words (index b) x) k ≡ 0
+spare_apart words b x zeros k spare = get_or-set_other words (index b) k x 0 (λ e. spare b (sym e)) ∙ zeros k spare
 
 module _ {S X O R Y : Type 0} (n : ℕ) (content : S → Y) (part : ℕ → X → Y) (answer : X → O → X × R)
     (proper : X → Type 0) (start : X) (clients : ℕ) where
@@ -78,14 +82,14 @@ module _ {S X O R Y : Type 0} (n : ℕ) (content : S → Y) (part : ℕ → X �
       → ((r : Record O R) × Present (set s.views id w) r × (r.seen ≡ log))
       → proper (result answer start log)
       → ((e : Entry O R) → Contains log e → e.client < clients)
-      → length words ≡ index n → length homes ≡ index n
+      → length words ≡ index n → length homes ≡ index n → ((k : ℕ) → IsSpare k → slice_index words k ≡ 0)
       → ((b : ℕ) → b < n → IsFree content part (result answer start log) words homes b ⊎ IsHeld (set s.views id w) b)
       → FitsIn log words homes w
       → ((j : ℕ) (u : V) → j ≢ id → get_elem? s.views j ≡ some u → FitsIn log words homes u)
       → Grows s.views v w
       → ((c : ℕ) → stood_in c w ≡ stood_in c v)
       → Rule record { words = words; homes = homes; views = set s.views id w }
-  one_moved s k id v w at words homes log legal shown whole named wide deep parts mine others grows same = record {
+  one_moved s k id v w at words homes log legal shown whole named wide deep spare parts mine others grows same = record {
     log = log;
     legal = legal;
     shown = shown;
@@ -93,6 +97,7 @@ module _ {S X O R Y : Type 0} (n : ℕ) (content : S → Y) (part : ℕ → X �
     named = named;
     wide = wide;
     deep = deep;
+    spare = spare;
     each_part = parts;
     each_view = λ j u e. ⊎_elim
         (λ (t : (j ≡ id) × (w ≡ u)). subst (FitsIn log words homes) t.1 mine)
@@ -207,7 +212,7 @@ module _ {S X O R Y : Type 0} (n : ℕ) (content : S → Y) (part : ℕ → X �
       let m : Held A (set s.words (index b) mark) (set s.homes (index b) none) v b' y =
       held_apart A s.words s.homes v b mark none b' y o (never_zero A s.words s.homes v b b' y zero_is o) in m in
       one_moved s k id v w at (set s.words (index b) mark) (set s.homes (index b) none) log k.legal (one_shown s k id v w at alone refl)
-      k.whole k.named (length-set s.words (index b) mark ∙ wide) (length-set s.homes (index b) none ∙ deep)
+      k.whole k.named (length-set s.words (index b) mark ∙ wide) (length-set s.homes (index b) none ∙ deep) (spare_apart s.words b mark k.spare)
       (λ b' l. dite (ℕ_discrete b' b)
       (λ e. inr (
         id,
@@ -288,7 +293,7 @@ module _ {S X O R Y : Type 0} (n : ℕ) (content : S → Y) (part : ℕ → X �
       let still : set s.words (index b) (slice_index s.words (index b)) ≡ s.words = set-get_or s.words (index b) 0 in (
         subst (λ (l : List ℕ). Rule record { words = l; homes = s.homes; views = set s.views id w }) (sym still)
             (one_moved s k id v w at s.words s.homes log k.legal (one_shown s k id v w at alone refl) k.whole k.named
-            k.wide k.deep
+            k.wide k.deep k.spare
             (λ b' l. ⊎_elim (λ f. inl f) (λ g. inr (still_held s.views id v w b' at (λ y c. (y, c)) g))
             (k.each_part b' l))
             record {
@@ -367,7 +372,7 @@ module _ {S X O R Y : Type 0} (n : ℕ) (content : S → Y) (part : ℕ → X �
       (λ e. apart y (subst (λ (j : ℕ). Contains notes (note j y)) e h)) in m in
       one_moved s k id v w at (set s.words (index b) 0) (set s.homes (index b) (some x)) log k.legal
       (one_shown s k id v w at alone refl) k.whole k.named (length-set s.words (index b) 0 ∙ wide)
-      (length-set s.homes (index b) (some x) ∙ deep)
+      (length-set s.homes (index b) (some x) ∙ deep) (spare_apart s.words b 0 k.spare)
       (λ b' l. dite (ℕ_discrete b' b)
       (λ e. inl
       (subst (λ (j : ℕ). IsFree content part A (set s.words (index b) 0) (set s.homes (index b) (some x)) j) (sym e)
@@ -452,7 +457,7 @@ module _ {S X O R Y : Type 0} (n : ℕ) (content : S → Y) (part : ℕ → X �
       (λ q h. ⊎_elim (λ (o : Contains log q). k.named q o)
       (λ (t : e ≡ q). subst (λ (z : Entry O R). z.client < clients) t
       (old.known v.mine (here v.mine v.others) v.mine.number stands)) (Contains-push_cases log e q h))
-      (length-set s.words (index b) 0 ∙ wide) (length-set s.homes (index b) (some x) ∙ deep)
+      (length-set s.words (index b) 0 ∙ wide) (length-set s.homes (index b) (some x) ∙ deep) (spare_apart s.words b 0 k.spare)
       (λ c l. subst
       (λ (a : X). IsFree content part a (set s.words (index b) 0) (set s.homes (index b) (some x)) c ⊎ IsHeld (set s.views id w) c)
       (sym set_is) (dite (ℕ_discrete c b)

@@ -58,6 +58,7 @@ module _ {S X O R Y : Type 0} (n : ℕ) (content : S → Y) (part : ℕ → X �
     named = k.named;
     wide = k.wide;
     deep = k.deep;
+    spare = k.spare;
     each_part = λ b l. ⊎_elim (λ f. inl f) (λ h. inr (parts b h)) (k.each_part b l);
     each_view = fits;
     missed = λ r q pr pq h b m st.

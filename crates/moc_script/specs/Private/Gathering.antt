@@ -1,5 +1,6 @@
 -- The lanes' ends, put together.
-use Rattle.std.specs.Prelude.{◌≡◌, ◌<◌, ℕ, List, [], length, slice_index_or, Option, Some, None, Contains, Ok}
+use Rattle.std.specs.Prelude.{◌≡◌, ◌⊎◌, ◌<◌, ◌≤◌, ℕ, List, [], length, slice_index_or, Option, Some, None, Contains}
+use Rattle.std.specs.Prelude.{Result, Ok, Err}
 use Rattle.moc_parts.specs.declared.command.Command.{Command}
 use Rattle.moc_parts.specs.declared.reply.Reply.{Reply}
 use Rattle.moc_shared.specs.declared.client.Client.{Client}
@@ -11,14 +12,37 @@ use Rattle.moc_script.specs.Scripts.{script_rules}
 use Rattle.moc_script.specs.Private.Input.{lane_lines}
 use Rattle.moc_script.specs.Private.LaneWork.{Does}
 use Rattle.moc_script.specs.Private.LaneEnds.{IsLaneEnd}
+use Rattle.moc_text.specs.Lines.{lines_of}
+use Rattle.moc_script.specs.Crews.{IsSaidLine}
 use Rattle.moc_script.specs.declared.crews.lane.LaneEnd.{LaneEnd}
+use Rattle.moc_script.specs.declared.crews.lane.Refused.{Refused}
+use Rattle.moc_script.specs.declared.crews.threads.LanesError.{LanesError}
+use Rattle.moc_script.specs.declared.crews.threads.LanesError.TheVariants.{Spawn, Memory, MemoryBehind}
+
+-- the least line at which one of the lanes was refused memory, or that none was
+abbrev pub IsLeastRefused : List (Result LaneEnd Refused) → Option ℕ → Type 0
+IsLeastRefused ends None = (e : Refused) → ¬ Contains ends (Err e)
+IsLeastRefused ends (Some line) =
+    ((e : Refused) × Contains ends (Err e) × (e.line ≡ line)) × ((e : Refused) → Contains ends (Err e) → line ≤ e.line)
+
+-- the fault names the least line at which one of the lanes was refused memory, or none was
+abbrev pub NamesLeast : List (Result LaneEnd Refused) → LanesError → Type 0
+NamesLeast ends (Memory line) = IsLeastRefused ends (Some line)
+NamesLeast ends MemoryBehind = IsLeastRefused ends None
+NamesLeast ends Spawn = ⊥
+
+-- where the fault names a line, it is 0, or one of the script that is not blank
+abbrev pub NamesLine : List ℕ → LanesError → Type 0
+NamesLine input (Memory line) = (line ≡ 0) ⊎ IsSaidLine line (lines_of input)
+NamesLine input MemoryBehind = Unit {0}
+NamesLine input Spawn = Unit {0}
 
 -- each of so many lanes has done its lines of a script, and none was refused
 abbrev pub AreDone : SharedMap → ℕ → List ℕ → List LaneEnd → Type 0
 AreDone map lanes input done =
     (length done ≡ lanes)
     × ((lane : ℕ) (d : LaneEnd) → lane < lanes
-    → IsLaneEnd map lane (lane_lines lanes input lane) (Ok (slice_index_or done lane d)))
+    → IsLaneEnd map lanes input lane (Ok (slice_index_or done lane d)))
 
 -- a client's recorded calls
 abbrev pub CallsMade : Type 0

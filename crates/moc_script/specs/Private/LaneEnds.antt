@@ -3,6 +3,8 @@ use Rattle.std.specs.Prelude.{◌≡◌, ◌<◌, ℕ, List, [], ◌∷◌, ◌+
 use Rattle.moc_shared.specs.declared.map.SharedMap.{SharedMap}
 use Rattle.moc_shared.specs.Batches.{BatchEntry, BatchRecord, answer as object}
 use Rattle.moc_shared.specs.Clients.{number_of, record_of, IsClientOf}
+use Rattle.moc_text.specs.Lines.{lines_of}
+use Rattle.moc_script.specs.Crews.{IsSaidLine}
 use Rattle.moc_script.specs.Scripts.{script_rules}
 use Rattle.moc_script.specs.Private.Input.{lane_lines}
 use Rattle.moc_script.specs.Private.LaneWork.{DoesLine, Does}
@@ -24,17 +26,18 @@ abbrev pub AddsAnswer : ℕ → List ℕ → BatchRecord → BatchRecord → Lis
 AddsAnswer client line old new before after =
     (text : List ℕ) × (after ≡ before ++ text) × Answers client line old new text
 
--- the lane of this number has done these lines, by calls of its client, and has their answers; or memory was refused
-abbrev pub IsLaneEnd : SharedMap → ℕ → List (List ℕ) → Result LaneEnd Refused → Type 0
-IsLaneEnd map lane lines (Ok end) =
+-- The lane of this number, of so many, has done its lines of a script, by calls of its client, and has their answers;
+-- or memory was refused at a line that is not blank.
+abbrev pub IsLaneEnd : SharedMap → ℕ → List ℕ → ℕ → Result LaneEnd Refused → Type 0
+IsLaneEnd map lanes input lane (Ok end) =
     IsClientOf map end.client × (number_of end.client ≡ lane)
     × ((made : List BatchEntry) × Made lane made (record_of end.client)
-    × Does object script_rules lines made end.answers)
-IsLaneEnd map lane lines (Err e) = Unit {0}
+    × Does object script_rules (lane_lines lanes input lane) made end.answers)
+IsLaneEnd map lanes input lane (Err e) = IsSaidLine e.line (lines_of input)
 
--- each of so many lanes has done its lines of a script, or memory was refused
+-- each of so many lanes has done its lines of a script, or was refused memory at one
 abbrev pub AreLaneEnds : SharedMap → ℕ → List ℕ → List (Result LaneEnd Refused) → Type 0
 AreLaneEnds map lanes input ends =
     (length ends ≡ lanes)
     × ((lane : ℕ) (d : Result LaneEnd Refused) → lane < lanes
-    → IsLaneEnd map lane (lane_lines lanes input lane) (slice_index_or ends lane d))
+    → IsLaneEnd map lanes input lane (slice_index_or ends lane d))

@@ -1,9 +1,9 @@
 //! The lanes' ends, put together.
-ghost use Rattle.std.specs.Prelude.{◌≡◌, ◌<◌, List, ℕ, IfOk, IfSome, length};
+ghost use Rattle.std.specs.Prelude.{◌≡◌, ◌<◌, List, ℕ, IfErr, IfOk, IfSome, length};
 ghost use Rattle.moc_shared.specs.declared.map.SharedMap.{SharedMap};
 ghost use Rattle.moc_shared.specs.Clients.{IsClientOf};
 ghost use Rattle.moc_script.specs.Private.LaneEnds.{AreLaneEnds};
-ghost use Rattle.moc_script.specs.Private.Gathering.{AreDone, HasBoth, HasLanes};
+ghost use Rattle.moc_script.specs.Private.Gathering.{AreDone, HasBoth, HasLanes, IsLeastRefused, NamesLeast};
 
 use crate::crews::lane::{LaneEnd, Refused};
 use crate::crews::texts::Texts;
@@ -13,7 +13,9 @@ use moc_shared::{Client, SharedMap};
 use std::alloc::Global;
 
 /// The least line at which a lane was refused memory.
-fn least_refused(ends: &[Result<LaneEnd, Refused>]) -> Option<u64> {
+fn least_refused(ends: &[Result<LaneEnd, Refused>]) -> Option<u64>
+    ensures { IsLeastRefused ends.now result }
+{
     let mut least = None;
     for end in ends {
         if let Err(refused) = end {
@@ -31,8 +33,9 @@ pub fn all_done(
     alloc: Global,
     ends: Vec<Result<LaneEnd, Refused>>,
 ) -> Result<Vec<LaneEnd>, LanesError>
-    ensures { IfOk result (λ done. (map : SharedMap) (lanes : ℕ) (input : List ℕ)
+    ensures done { IfOk result (λ done. (map : SharedMap) (lanes : ℕ) (input : List ℕ)
         → AreLaneEnds map lanes input ends.items → AreDone map lanes input done.items) }
+    ensures least { IfErr result (λ e. NamesLeast ends.items e) }
 {
     let refused = match least_refused(&ends) {
         Some(line) => LanesError::Memory { line },

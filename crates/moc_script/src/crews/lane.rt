@@ -2,7 +2,6 @@
 ghost use Rattle.std.specs.Prelude.{◌≡◌, ◌<◌, [], false, OnOk};
 ghost use Rattle.moc_shared.specs.Clients.{IsClientOf, number_of, record_of};
 ghost use Rattle.moc_script.specs.Words.{is_blank};
-ghost use Rattle.moc_script.specs.Private.Input.{lane_lines};
 ghost use Rattle.moc_script.specs.Private.LaneEnds.{Made, AddsAnswer, IsLaneEnd};
 
 use crate::answer::push_fault;
@@ -70,7 +69,7 @@ pub fn work<R: Wait, G: Gate>(
     requires map { IsClientOf map.now client }
     requires lane { number_of client < lanes }
     requires fresh { Made (number_of client) [] (record_of client) }
-    ensures { IsLaneEnd map.now (number_of client) (lane_lines lanes input.now (number_of client)) result }
+    ensures { IsLaneEnd map.now lanes input.now (number_of client) result }
 {
     let mut client = client;
     let lane = client.number();

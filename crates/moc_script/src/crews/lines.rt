@@ -1,8 +1,8 @@
 //! The lines of a lane.
-ghost use Rattle.std.specs.Prelude.{◌≡◌, ◌<◌, ◌∷◌, [], None, IfSome, false, length};
+ghost use Rattle.std.specs.Prelude.{◌≡◌, ◌<◌, ◌≤◌, ◌+◌, ◌^◌, ◌∷◌, [], None, IfSome, false, length};
 ghost use Rattle.moc_text.specs.Lines.{lines_of};
 ghost use Rattle.moc_script.specs.Words.{is_blank};
-ghost use Rattle.moc_script.specs.Private.Input.{lane_lines, lines_left};
+ghost use Rattle.moc_script.specs.Private.Input.{Passes, lane_lines, lines_left};
 
 use crate::bytes::first_or_len;
 use crate::words::is_blank_text;
@@ -25,7 +25,8 @@ impl<'a> LaneLines<'a> {
     /// The lines of a lane, of so many.
     pub fn new(input: &'a [u8], lanes: u8, lane: u8) -> LaneLines<'a>
         requires { lane < lanes }
-        ensures { lines_left result ≡ lane_lines lanes input.now lane }
+        ensures left { lines_left result ≡ lane_lines lanes input.now lane }
+        ensures none { (result.bytes.now ≡ input.now) × (result.passed ≡ 0) }
     {
         LaneLines {
             bytes: input,
@@ -37,14 +38,16 @@ impl<'a> LaneLines<'a> {
 
     /// The next line of the lane, with its number.
     pub fn next_line(&mut self) -> Option<(u64, &'a [u8])>
+        requires few { self.old.passed + length (lines_of self.old.bytes.now) < 2 ^ 64 }
         ensures some { IfSome result (λ next. lines_left self.old ≡ next.1.now ∷ lines_left self.new) }
+        ensures number { IfSome result (λ next. Passes self.old next.0 next.1.now self.new) }
         ensures said { IfSome result (λ next. is_blank next.1.now ≡ false) }
         ensures none { result ≡ None → lines_left self.old ≡ [] }
     {
         while !self.bytes.is_empty() {
             let (line, rest) = split_line(self.bytes);
             self.bytes = rest;
-            self.passed = self.passed.saturating_add(1);
+            self.passed += 1;
             if is_blank_text(line) {
                 continue;
             }

@@ -54,6 +54,7 @@ impl Script {
     /// Puts bytes behind the others, unless the line that is begun goes over the limit with them.
     fn add(&mut self, chunk: &[u8]) -> Result<(), ReadFault>
         requires held { IsHeld self.old.bytes.items self.old.start }
+        requires some { 0 < length chunk.now }
         requires short { length chunk.now ≤ CHUNK }
         ensures held { OnOk result (IsHeld self.new.bytes.items self.new.start) }
         ensures bytes { OnOk result (self.new.bytes.items ≡ self.old.bytes.items ++ chunk.now) }

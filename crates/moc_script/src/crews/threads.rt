@@ -1,7 +1,7 @@
 //! The lanes' threads.
-ghost use Rattle.std.specs.Prelude.{◌≡◌, IfOk};
+ghost use Rattle.std.specs.Prelude.{◌≡◌, IfErr, IfOk};
 ghost use Rattle.moc_shared.specs.Clients.{AreNewClients};
-ghost use Rattle.moc_script.specs.Private.Input.{lane_lines};
+ghost use Rattle.moc_script.specs.Private.Gathering.{NamesLine};
 ghost use Rattle.moc_script.specs.Private.LaneEnds.{IsLaneEnd, AreLaneEnds};
 ghost use Rattle.moc_script.specs.Private.Promises.{ArePromised};
 
@@ -36,7 +36,7 @@ pub struct Task<'a> {
 
 impl<'a> Promise<Result<LaneEnd, Refused>> for Task<'a> {
     ghost kept_by = { λ task end.
-        IsLaneEnd task.map.now task.lane (lane_lines task.lanes task.input.now task.lane) end };
+        IsLaneEnd task.map.now task.lanes task.input.now task.lane end };
 }
 
 /// Starts a thread for each client.
@@ -51,7 +51,8 @@ fn start<'s, E, R: Wait + Sync, G: Gate + Sync>(
     clients: Vec<Client>,
 ) -> Result<Vec<PromisedHandle<Result<LaneEnd, Refused>, Task<'s>>>, LanesError>
     requires clients { AreNewClients map.now clients.items lanes }
-    ensures { IfOk result (λ handles. ArePromised map.now lanes input.now handles.items) }
+    ensures promised { IfOk result (λ handles. ArePromised map.now lanes input.now handles.items) }
+    ensures line { IfErr result (λ e. NamesLine input.now e) }
 {
     let Ok(mut handles) = Vec::with_capacity(alloc, usize::from(lanes)) else {
         return Err(LanesError::Memory { line: 0 });
@@ -85,14 +86,16 @@ pub fn run_lanes<R: Threads + Wait + Sync, G: Gate + Sync>(
     clients: Vec<Client>,
 ) -> Result<Vec<Result<LaneEnd, Refused>>, LanesError>
     requires clients { AreNewClients map.now clients.items lanes }
-    ensures { IfOk result (λ ends. AreLaneEnds map.now lanes input.now ends.items) }
+    ensures ends { IfOk result (λ ends. AreLaneEnds map.now lanes input.now ends.items) }
+    ensures line { IfErr result (λ e. NamesLine input.now e) }
 {
     thread::scope(
         thread::scope_env(),
         rt,
         |scope| -> Result<Vec<Result<LaneEnd, Refused>>, LanesError>
             requires { AreNewClients map.now clients.items lanes }
-            ensures { IfOk result (λ ends. AreLaneEnds map.entry.now lanes input.entry.now ends.items) }
+            ensures ends { IfOk result (λ ends. AreLaneEnds map.entry.now lanes input.entry.now ends.items) }
+            ensures line { IfErr result (λ e. NamesLine input.entry.now e) }
         {
             let handles = start(rt, alloc, gate, scope, map, input, lanes, clients)?;
             match thread::join_promised(rt, handles) {

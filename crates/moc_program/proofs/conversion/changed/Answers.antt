@@ -1,4 +1,4 @@
-use Rattle.std.proofs.Common.{◌∙◌, ap₂, inl}
+use Rattle.std.proofs.Common.{◌∙◌, ap₂, inl, inr}
 use Rattle.moc_forms.specs.Forms.{form_text}
 use Rattle.moc_program.specs.Conversion.{SaysNothing}
 use Rattle.moc_program.proofs.Checks.{not_written}
@@ -15,4 +15,4 @@ pub returns-in_err-text_of-clause-fault : goal.returns-in_err-text_of-clause-fau
 returns-in_err-text_of-clause-fault g c =
     not_written c.from_residual-in_err-text_of.result c.in_err-text_of.field-0.0
     (SaysNothing c.args.choice (g.R.Source.left c.args.input.now) (g.R.Source.left c.input_says.new.input))
-    c.from_residual-in_err-text_of.ensures.1 c.in_err-text_of.ensures.fault (λ complaint of. inl of)
+    c.from_residual-in_err-text_of.ensures.1 c.in_err-text_of.ensures.fault (λ complaint memory. inl (inr (inr memory)))

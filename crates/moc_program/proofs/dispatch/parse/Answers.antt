@@ -1,5 +1,5 @@
 -- `clap` says which words it takes, and of which kinds its refusals are.
-use Rattle.moc_program.proofs.Parsing.{is_simple, refused, taken, mistaken}
+use Rattle.moc_program.proofs.Parsing.{helped, is_simple, refused, taken, mistaken}
 use Rattle.moc_program.proofs.dispatch.parse.Goals as goal
 
 pub returns : goal.returns
@@ -9,6 +9,7 @@ returns g c =
     let fails = parsed.kinds (is_simple _ line) in
     record {
       refused = refused _ _ line c.try_get_matches_from.result parsed.passes fails;
+      help = helped _ _ line c.try_get_matches_from.result fails;
       taken = taken _ _ line c.try_get_matches_from.result fails;
       mistaken = mistaken _ _ line c.try_get_matches_from.result fails;
     }

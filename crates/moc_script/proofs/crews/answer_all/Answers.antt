@@ -8,13 +8,14 @@ use Rattle.moc_shared.specs.Clients.{record_of, start_of, AfterClose}
 use Rattle.moc_shared.specs.declared.errors.CloseError.{CloseError}
 use Rattle.moc_shared.specs.declared.errors.CloseError.TheVariants.{Midway}
 use Rattle.moc_script.specs.Crews.{cover_line, said_lines, IsCrewText}
-use Rattle.moc_script.specs.Private.Gathering.{HasLanes}
+use Rattle.moc_script.specs.Private.Gathering.{HasLanes, NamesLine}
 use Rattle.moc_script.specs.Private.Joining.{IsJoined, IsTold}
 use Rattle.moc_script.proofs.Crewing.{crew_of_lanes, stands_for_all, as_answers}
+use Rattle.moc_script.proofs.Gathered.{handed_on, least_named}
 use Rattle.moc_script.proofs.crews.answer_all.Goals as goal
 
 pub take_in_all-requires-clause-done : goal.take_in_all-requires-clause-done
-take_in_all-requires-clause-done g c = c.in_ok-done.ensures c.in-Ok.map c.get-lanes.result c.args.input.now c.in_ok-ends.ensures
+take_in_all-requires-clause-done g c = c.in_ok-done.ensures.done c.in-Ok.map c.get-lanes.result c.args.input.now c.in_ok-ends.ensures.ends
 
 pub unreachable-requires : goal.unreachable-requires
 unreachable-requires g c =
@@ -30,8 +31,14 @@ unreachable-requires-in-Err-Midway g c =
     subst (λ (e : CloseError). AfterClose map (record_of client) (Err e)) c.in-Err-Midway.field-0-is c.in-Err-Midway.ensures in
     midway.1 (stands_for_all map n c.args.input.now c.in-Ok-take_in_all.answers.items client c.in-Ok.ensures.begins.1 c.in-Ok-take_in_all.ensures.lanes)
 
-pub returns : goal.returns
-returns g c =
+pub returns-in_err-done-clause-line : goal.returns-in_err-done-clause-line
+returns-in_err-done-clause-line g c =
+    let told = c.in_err-done.field-0.0 in
+    handed_on c.from_residual-in_err-done.result told (NamesLine c.args.input.now) c.from_residual-in_err-done.ensures.1
+    (least_named c.in-Ok.map c.get-lanes.result c.args.input.now c.in_ok-ends.ends.items told c.in_ok-ends.ensures.ends c.in_err-done.ensures.least)
+
+pub returns-clause-told : goal.returns-clause-told
+returns-clause-told g c =
     let map = c.in-Ok.map in
     let n : ℕ = c.get-lanes.result in
     let input = c.args.input.now in

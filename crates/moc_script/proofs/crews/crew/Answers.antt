@@ -13,7 +13,7 @@ returns-in-Err-Write-clause-ends g c =
     let told = c.in-Ok-answer_all.told in
     let named = c.in-Err-Write.field-0-is in
     let says : IsTold c.args.lanes.number (said_lines (lines_of input)) told.answers.items told.cover.items =
-    subst (λ (l : List ℕ). IsTold c.args.lanes.number (said_lines (lines_of l)) told.answers.items told.cover.items) c.deref.ensures.value c.in-Ok-answer_all.ensures in
+    subst (λ (l : List ℕ). IsTold c.args.lanes.number (said_lines (lines_of l)) told.answers.items told.cover.items) c.deref.ensures.value c.in-Ok-answer_all.ensures.told in
     let joins : JoinsTo {E = JoinError} told.answers.items told.cover.items (g.W.Sink.written c.args.writer.now) (g.W.Sink.written c.write_joined.new.writer) (Err c.in-Err-Write.field-0) =
     subst (λ (l : List (List (List ℕ))). JoinsTo {E = JoinError} l told.cover.items (g.W.Sink.written c.args.writer.now) (g.W.Sink.written c.write_joined.new.writer) (Err c.in-Err-Write.field-0)) c.deref-2.ensures.value
     (subst (λ (l : List ℕ). JoinsTo {E = JoinError} c.deref-2.result.now l (g.W.Sink.written c.args.writer.now) (g.W.Sink.written c.write_joined.new.writer) (Err c.in-Err-Write.field-0)) c.deref-3.ensures.value
@@ -26,7 +26,7 @@ returns-then-is_err-clause-ends g c =
     let input = c.in-Ok.input.items in
     let told = c.in-Ok-answer_all.told in
     let says : IsTold c.args.lanes.number (said_lines (lines_of input)) told.answers.items told.cover.items =
-    subst (λ (l : List ℕ). IsTold c.args.lanes.number (said_lines (lines_of l)) told.answers.items told.cover.items) c.deref.ensures.value c.in-Ok-answer_all.ensures in
+    subst (λ (l : List ℕ). IsTold c.args.lanes.number (said_lines (lines_of l)) told.answers.items told.cover.items) c.deref.ensures.value c.in-Ok-answer_all.ensures.told in
     let joins : JoinsTo {E = JoinError} told.answers.items told.cover.items (g.W.Sink.written c.args.writer.now) (g.W.Sink.written c.write_joined.new.writer) (Ok tt) =
     subst (λ (l : List (List (List ℕ))). JoinsTo {E = JoinError} l told.cover.items (g.W.Sink.written c.args.writer.now) (g.W.Sink.written c.write_joined.new.writer) (Ok tt)) c.deref-2.ensures.value
     (subst (λ (l : List ℕ). JoinsTo {E = JoinError} c.deref-2.result.now l (g.W.Sink.written c.args.writer.now) (g.W.Sink.written c.write_joined.new.writer) (Ok tt)) c.deref-3.ensures.value
@@ -39,7 +39,7 @@ returns-clause-ends g c =
     let input = c.in-Ok.input.items in
     let told = c.in-Ok-answer_all.told in
     let says : IsTold c.args.lanes.number (said_lines (lines_of input)) told.answers.items told.cover.items =
-    subst (λ (l : List ℕ). IsTold c.args.lanes.number (said_lines (lines_of l)) told.answers.items told.cover.items) c.deref.ensures.value c.in-Ok-answer_all.ensures in
+    subst (λ (l : List ℕ). IsTold c.args.lanes.number (said_lines (lines_of l)) told.answers.items told.cover.items) c.deref.ensures.value c.in-Ok-answer_all.ensures.told in
     let joins : JoinsTo {E = JoinError} told.answers.items told.cover.items (g.W.Sink.written c.args.writer.now) (g.W.Sink.written c.write_joined.new.writer) (Ok tt) =
     subst (λ (l : List (List (List ℕ))). JoinsTo {E = JoinError} l told.cover.items (g.W.Sink.written c.args.writer.now) (g.W.Sink.written c.write_joined.new.writer) (Ok tt)) c.deref-2.ensures.value
     (subst (λ (l : List ℕ). JoinsTo {E = JoinError} c.deref-2.result.now l (g.W.Sink.written c.args.writer.now) (g.W.Sink.written c.write_joined.new.writer) (Ok tt)) c.deref-3.ensures.value

@@ -1,11 +1,13 @@
 -- One more end, and all of them.
-use Rattle.std.specs.Prelude.{◌≡◌, ◌+◌, ◌<◌, get_or, vec_items, vec_len, length, Ok}
+use Rattle.std.specs.Prelude.{◌≡◌, ◌+◌, ◌<◌, get_or, vec_items, vec_len, length, ℕ, Option, Ok}
 use Rattle.std.specs.Vec.Iter.{into_iter_items, into_iter_len}
 use Rattle.std.proofs.Common.{rules, arith, below_more, ap, ◌∙◌, sym, subst}
 use Rattle.std.proofs.lemmas.List.{get_or_default}
-use Rattle.moc_script.specs.Private.Input.{lane_lines}
 use Rattle.moc_script.specs.Private.LaneEnds.{IsLaneEnd}
+use Rattle.moc_script.specs.Private.Gathering.{IsLeastRefused, NamesLeast}
+use Rattle.moc_script.specs.declared.crews.threads.LanesError.{LanesError}
 use Rattle.moc_script.proofs.crews.gathering.all_done.Goals as goal
+use Rattle.moc_script.proofs.crews.gathering.all_done.Goals.{in-Some, in-None}
 
 pub loop-end-preserved : goal.loop-end-preserved
 loop-end-preserved c =
@@ -31,8 +33,26 @@ loop-end-preserved c =
           (get_or_default ends done e c.in-Some-end.end inside ∙ found ∙ ap Ok (sym (c.in-Ok-push.ensures.by_index.1 d (search rules)))) k (omega arith),
     )
 
-pub returns : goal.returns
-returns c map lanes input ends =
+pub returns-in_default-clause-least : goal.returns-in_default-clause-least
+returns-in_default-clause-least c =
+    let ends = c.args.ends.items in
+    let least : IsLeastRefused ends c.least_refused.result = subst (λ l. IsLeastRefused l c.least_refused.result) c.deref.ensures.value c.least_refused.ensures in
+    elim c.match-least_refused.branch [
+      | in-Some w ↦ subst (λ (e : LanesError). NamesLeast ends e) (sym w.refused-is) (subst (λ (l : Option ℕ). IsLeastRefused ends l) w.in-Some.is least)
+      | in-None w ↦ subst (λ (e : LanesError). NamesLeast ends e) (sym w.refused-is) (subst (λ (l : Option ℕ). IsLeastRefused ends l) w.in-None.is least)
+    ]
+
+pub returns-in_default-push-clause-least : goal.returns-in_default-push-clause-least
+returns-in_default-push-clause-least c =
+    let ends = c.args.ends.items in
+    let least : IsLeastRefused ends c.least_refused.result = subst (λ l. IsLeastRefused l c.least_refused.result) c.deref.ensures.value c.least_refused.ensures in
+    elim c.match-least_refused.branch [
+      | in-Some w ↦ subst (λ (e : LanesError). NamesLeast ends e) (sym w.refused-is) (subst (λ (l : Option ℕ). IsLeastRefused ends l) w.in-Some.is least)
+      | in-None w ↦ subst (λ (e : LanesError). NamesLeast ends e) (sym w.refused-is) (subst (λ (l : Option ℕ). IsLeastRefused ends l) w.in-None.is least)
+    ]
+
+pub returns-clause-done : goal.returns-clause-done
+returns-clause-done c map lanes input ends =
     let was = c.loop-end.invariant in
     let done = vec_len c.loop-end.done in
     let none : into_iter_len c.loop-end.end-iterator ≡ 0 = search rules in
@@ -40,5 +60,5 @@ returns c map lanes input ends =
       all,
       λ lane d low.
           let inside : lane < done = omega (arith, c.loop-end.done.ok) in
-          subst (IsLaneEnd map lane (lane_lines lanes input lane)) (was.2 lane d (Ok d) inside) (ends.1 lane (Ok d) low),
+          subst (IsLaneEnd map lanes input lane) (was.2 lane d (Ok d) inside) (ends.1 lane (Ok d) low),
     )

@@ -1,7 +1,6 @@
 -- The lanes so far are taken in, and the others are those behind them.
 use Rattle.std.specs.Prelude.{◌≡◌, ℕ, ◌+◌, ◌<◌, get_or, vec_items, vec_len, Ok}
 use Rattle.std.specs.Vec.Iter.{into_iter_items, into_iter_len}
-use Rattle.moc_script.specs.Private.Input.{lane_lines}
 use Rattle.moc_script.specs.Private.LaneEnds.{IsLaneEnd}
 use Rattle.moc_script.specs.Private.Gathering.{IsGathered}
 use Rattle.moc_script.proofs.crews.gathering.take_in_all.Given as goal
@@ -10,5 +9,5 @@ abbrev pub invariant-loop-end : goal.invariant-loop-end
 invariant-loop-end l =
     let k = vec_len l.answers in let rest = l.end-iterator in
     (k + into_iter_len rest ≡ l.lanes)
-    × ((j : ℕ) (d : _) → j < into_iter_len rest → IsLaneEnd l.map (k + j) (lane_lines l.lanes l.input (k + j)) (Ok (get_or (into_iter_items rest) j d)))
+    × ((j : ℕ) (d : _) → j < into_iter_len rest → IsLaneEnd l.map l.lanes l.input (k + j) (Ok (get_or (into_iter_items rest) j d)))
     × IsGathered l.map k l.lanes l.input (vec_items l.answers) l.all

@@ -1,5 +1,6 @@
 -- One more line.
 use Rattle.std.proofs.Common.{◌≡◌, ◌∙◌, ℕ, ◌+◌, ◌-◌, [], ◌∷◌, ◌++◌, length, sym, ap, subst, arith, append_assoc, length-append}
+use Rattle.moc_text.specs.Lines.{lines_of}
 use Rattle.moc_shared.specs.Batches.{answer as object}
 use Rattle.moc_script.specs.Scripts.{script_rules}
 use Rattle.moc_script.specs.Private.Input.{lines_left}
@@ -8,7 +9,15 @@ use Rattle.moc_script.specs.Private.LaneWork.{Does}
 use Rattle.moc_script.specs.Private.Texts.{cut, total}
 use Rattle.moc_script.proofs.LaneLemmas.{Does-push}
 use Rattle.moc_script.proofs.TextLemmas.{cut-push, total-push}
+use Rattle.moc_script.proofs.Passing.{lines_few, passed_more}
 use Rattle.moc_script.proofs.crews.lane.work.Goals as goal
+
+pub next_line-requires : goal.next_line-requires
+next_line-requires g c =
+    let was = c.loop-number.invariant.passed in
+    let left = lines_of c.loop-number.left.bytes.now in
+    let few = lines_few c.args.input.now in
+    record { few = omega (arith, few, c.type_inv.input, was.count_is, ap length was.lines, length-append was.passed left) }
 
 pub loop-number-preserved : goal.loop-number-preserved
 loop-number-preserved g c =
@@ -31,6 +40,7 @@ loop-number-preserved g c =
       of_map = c.answer_line.ensures.map;
       number = c.answer_line.ensures.number ∙ c.loop-number.invariant.number;
       sum = ap total pushed ∙ total-push lens (length text) ∙ ap (λ n. n + length text) c.loop-number.invariant.sum ∙ sym more;
+      passed = passed_more c.args.input.now c.loop-number.left c.next_line.new.self c.in-Some.number line c.loop-number.invariant.passed c.in-Some.ensures.number;
       done = (
         was.0 ++ line ∷ [],
         was.1 ++ said.2.0,

@@ -4,5 +4,5 @@ use Rattle.moc_script.specs.Crews.{said_lines}
 use Rattle.moc_script.proofs.LaneLists.{turns_of_lane}
 use Rattle.moc_script.proofs.crews.lines.LaneLines.new.Goals as goal
 
-pub returns : goal.returns
-returns c = turns_of_lane c.args.lanes c.args.lane (said_lines (lines_of c.args.input.now)) c.requires
+pub returns-clause-left : goal.returns-clause-left
+returns-clause-left c = turns_of_lane c.args.lanes c.args.lane (said_lines (lines_of c.args.input.now)) c.requires

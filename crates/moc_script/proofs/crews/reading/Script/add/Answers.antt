@@ -1,9 +1,9 @@
 -- The line that is begun is too long, goes on, or ends.
-use Rattle.std.proofs.Common.{◌≡◌, ◌+◌, ◌++◌, ℕ, List, length, sym, subst, arith, length-drop}
-use Rattle.std.specs.List.{position_or_len}
+use Rattle.std.proofs.Common.{◌≡◌, ◌∙◌, ◌+◌, ◌++◌, ℕ, List, length, sym, ap, subst, arith, length-drop}
+use Rattle.std.specs.List.{count_by, position_or_len}
 use Rattle.moc_text.specs.Lines.{is_line_feed}
 use Rattle.moc_script.specs.Private.Input.{IsHeld}
-use Rattle.moc_script.proofs.Reading.{held_long, held_lines, held_more, some_line_feed}
+use Rattle.moc_script.proofs.Reading.{held_begun, held_long, held_lines, held_more, some_line_feed}
 use Rattle.moc_script.proofs.crews.reading.Script.add.Goals as goal
 
 pub returns-then-first-before-clause-fails : goal.returns-then-first-before-clause-fails
@@ -14,6 +14,11 @@ returns-then-first-before-clause-fails c =
     held_long bytes.items c.args.chunk.now start c.requires.held
     (omega (arith, c.if-first-before.true, length-drop start bytes.items, c.len-before.ensures, bytes.ok, place, c.requires.held.inside)) (omega (arith, place, c.first_or_len-first.ensures.within))
     c.begun.result c.begun.ensures
+
+pub returns-in_default-clause-fails : goal.returns-in_default-clause-fails
+returns-in_default-clause-fails c =
+    held_begun c.args.self.now.bytes.items c.args.chunk.now c.args.self.now.start c.requires.held c.requires.some c.begun-in_default.result
+    (c.begun-in_default.ensures ∙ ap (λ (l : List ℕ). count_by is_line_feed l + 1) c.in_default.ensures.items)
 
 pub behind_last-requires : goal.behind_last-requires
 behind_last-requires c =

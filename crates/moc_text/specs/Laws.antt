@@ -1,5 +1,6 @@
--- The set that a text says lies in the sky.
-use Rattle.std.proofs.Common.{◌≡◌, ℕ, ◌&&◌, ◌||◌, Bool, true, false, List, [], ◌∷◌, Option, None, Some, Result, Ok, Err, refl, sym, ◌∙◌}
+-- A law of readings, for the proofs of callers: the set that a text says lies in the sky.
+use Rattle.std.proofs.Common.{◌≡◌, ℕ, ◌&&◌, ◌||◌, Bool, true, false, List, [], ◌∷◌, Option, None, Some, Result, Ok, Err}
+use Rattle.std.proofs.Common.{refl, sym, ◌∙◌}
 use Rattle.std.specs.Result.{IfOk}
 use Rattle.std.specs.Ordering.{nat_cmp}
 use Rattle.std.specs.Cmp.{nat_cmp_total}
@@ -15,6 +16,7 @@ use Rattle.moc_text.specs.Ascii.{words, order_at, item_pixels, pixels_said, deep
 use Rattle.moc_text.specs.Private.Scan.{◌>>=◌}
 use Rattle.moc_text.specs.Private.Scanned.{numbers_of, reading_of}
 
+-- the empty set lies in the sky
 pub empty_within : IsWithin set.empty pixels
 empty_within = record { each = λ q here. absurd (let none = set.contains-empty nat_cmp q in cc (here, none)) }
 
@@ -24,7 +26,8 @@ either false y P f g e = g e
 
 union_within : (a b : NumberSet) → IsWithin a pixels → IsWithin b pixels → IsWithin (set.union a b) pixels
 union_within a b in_a in_b = record {
-  each = λ q here. either (set.contains a q) (set.contains b q) (set.contains pixels q ≡ true) (in_a.each q) (in_b.each q) (sym (set.contains-union nat_cmp_total a b q) ∙ here);
+  each = λ q here. either (set.contains a q) (set.contains b q) (set.contains pixels q ≡ true) (in_a.each q)
+      (in_b.each q) (sym (set.contains-union nat_cmp_total a b q) ∙ here);
 }
 
 first_holds : (a b : Bool) → (a && b) ≡ true → a ≡ true
@@ -34,16 +37,22 @@ first_holds false b e = e
 item_within : (k : Option ℕ) (i : Option Item) → IsWithin (item_pixels k i) pixels
 item_within k None = empty_within
 item_within None (Some i) = empty_within
-item_within (Some k) (Some i) = record { each = λ q here. contains-pixels q ∙ first_holds _ _ (sym (contains-spans k _ _ q) ∙ here) }
+item_within (Some k) (Some i) = record {
+  each = λ q here. contains-pixels q ∙ first_holds _ _ (sym (contains-spans k _ _ q) ∙ here);
+}
 
 said_within : (before : Option ℕ) (ns : List Parts) → IsWithin (pixels_said before ns) pixels
 said_within before [] = empty_within
-said_within before (n ∷ ns) = union_within _ _ (item_within (order_at before n.mark) n.item) (said_within (order_at before n.mark) ns)
+said_within before (n ∷ ns) =
+    union_within _ _ (item_within (order_at before n.mark) n.item) (said_within (order_at before n.mark) ns)
 
-of_numbers : (found : Result (List Parts) TextError) → IfOk {T = NumberSet × Option ℕ} (found >>= (λ ns. Ok (pixels_said None ns, deepest_of ns))) (λ r. IsWithin r.0 pixels)
+of_numbers : (found : Result (List Parts) TextError)
+    → IfOk {T = NumberSet × Option ℕ} (found >>= (λ ns. Ok (pixels_said None ns, deepest_of ns)))
+    (λ r. IsWithin r.0 pixels)
 of_numbers (Ok ns) = said_within None ns
 of_numbers (Err e) = tt
 
+-- what is read of a text lies in the sky
 pub read_within : (text : List ℕ) → IfOk (reading_of text) (λ r. IsWithin r.0 pixels)
 unfolding reading_of
 read_within text = of_numbers (numbers_of None (words text))

@@ -1,0 +1,17 @@
+-- Numbers on a line.
+use Rattle.std.proofs.Common.{◌≡◌, ◌∙◌, ℕ, ◌+◌, ◌<◌, ◌≤◌, List, [], ◌∷◌, ◌++◌, length, take, get_or, refl, sym, ap, append-nil, append_assoc}
+use Rattle.std.specs.Prelude.{decimal}
+use Rattle.std.proofs.lemmas.List.{take_more, take_all}
+use Rattle.moc_program.specs.Numbers.{spaced}
+
+spaced_push : (ns : List ℕ) (n : ℕ) → spaced (ns ++ n ∷ []) ≡ spaced ns ++ 32 ∷ decimal n
+spaced_push [] n = ap (λ l. 32 ∷ l) (append-nil (decimal n))
+spaced_push (m ∷ ns) n = ap (λ l. 32 ∷ decimal m ++ l) (spaced_push ns n) ∙ ap (λ l. 32 ∷ l) (sym (append_assoc (decimal m) (spaced ns) (32 ∷ decimal n)))
+
+-- one more number
+pub spaced_more : (ns : List ℕ) (i d : ℕ) → i < length ns → spaced (take (i + 1) ns) ≡ spaced (take i ns) ++ 32 ∷ decimal (get_or ns i d)
+spaced_more ns i d low = ap spaced (take_more ns i d low) ∙ spaced_push (take i ns) (get_or ns i d)
+
+-- all numbers
+pub spaced_all : (ns : List ℕ) (i : ℕ) → length ns ≤ i → spaced (take i ns) ≡ spaced ns
+spaced_all ns i all = ap spaced (take_all i ns all)

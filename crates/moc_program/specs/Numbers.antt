@@ -1,0 +1,42 @@
+-- The lines of converted numbers.
+use Rattle.std.specs.Prelude.{◌≡◌, ◌⊎◌, ℕ, ◌^◌, ◌<◌, ◌≤◌, List, [], ◌∷◌, ◌++◌, decimal}
+use Rattle.moc_sphere.specs.CellNumber.{CellNumber, IsCell, cell_count, cell_number, uniq_of}
+use Rattle.moc_sphere.specs.Rings.{ring_number}
+use Rattle.moc_sphere.specs.Touching.{touching_cells}
+use Rattle.moc_program.specs.declared.action.Number.{Number}
+use Rattle.moc_program.specs.declared.action.Number.TheVariants.{Ring, Nest, Uniq, Cell, Near}
+use Rattle.moc_program.specs.declared.status.Fault.{Fault}
+use Rattle.moc_program.specs.declared.status.Fault.TheVariants.{CellTooLarge, RingTooLarge, NotUniq, Memory}
+
+-- numbers behind others, each behind a blank
+abbrev pub spaced : List ℕ → List ℕ
+spaced [] = []
+spaced (n ∷ ns) = 32 ∷ decimal n ++ spaced ns
+
+-- numbers with a blank between any two
+abbrev pub list_of : List ℕ → List ℕ
+list_of [] = []
+list_of (n ∷ ns) = decimal n ++ spaced ns
+
+-- the line that answers a number: the ring, nested or NUNIQ number of the cell that it is of, that cell, or the cells
+-- that touch it
+abbrev pub IsNumberLine : Number → List ℕ → Type 0
+IsNumberLine (Ring order cell) line =
+    (cell < cell_count order) × (line ≡ decimal (ring_number order cell) ++ 10 ∷ [])
+IsNumberLine (Nest order ring) line =
+    (cell : ℕ) × (cell < cell_count order) × (ring_number order cell ≡ ring) × (line ≡ decimal cell ++ 10 ∷ [])
+IsNumberLine (Uniq order cell) line =
+    (cell < cell_count order) × (line ≡ decimal (uniq_of (cell_number order cell)) ++ 10 ∷ [])
+IsNumberLine (Cell uniq) line =
+    (cell : CellNumber) × IsCell cell × (uniq_of cell ≡ uniq)
+    × (line ≡ decimal cell.order ++ 47 ∷ decimal cell.index ++ 10 ∷ [])
+IsNumberLine (Near order cell) line =
+    (cell < cell_count order) × (line ≡ list_of (touching_cells order cell) ++ 10 ∷ [])
+
+-- the fault of a number that no cell has
+abbrev pub IsNumberFault : Number → Fault → Type 0
+IsNumberFault (Ring order cell) fault = (fault ≡ CellTooLarge) × (cell_count order ≤ cell)
+IsNumberFault (Nest order ring) fault = (fault ≡ RingTooLarge) × (cell_count order ≤ ring)
+IsNumberFault (Uniq order cell) fault = (fault ≡ CellTooLarge) × (cell_count order ≤ cell)
+IsNumberFault (Cell uniq) fault = (fault ≡ NotUniq) × ¬ ((4 ≤ uniq) × (uniq < 2 ^ 62))
+IsNumberFault (Near order cell) fault = (fault ≡ CellTooLarge) × (cell_count order ≤ cell)
