@@ -344,8 +344,8 @@ fn operations(rt: HostRuntime) -> Result<(), Fail> {
     Ok(())
 }
 
-/// What stands before the four paths of every picture: base pixel 4 lies at both edges, and its number stands at both. East
-/// is to the left, so base pixel 0 is at the right.
+/// What stands before the four paths of every picture: base pixel 4 lies at both edges, and its number stands at both.
+/// East is to the left, so base pixel 0 is at the right.
 const BEFORE: &str = "<svg xmlns=\"http://www.w3.org/2000/svg\" viewBox=\"-40 -40 1104 640\">
 <title>Sky coverage</title>
 <clipPath id=\"plane\"><path d=\"M0 0h1024v512H0z\"/></clipPath>

@@ -75,8 +75,8 @@ fn count(alloc: Global, base_pixel: u8) -> Result<Batch> {
     Ok(Batch::one(alloc, Command::Count(cell(alloc, base_pixel)?))?)
 }
 
-/// A client does one batch after another, and adds up what they tell. `proofs/do_all` has the line that keeps it a client
-/// of the map.
+/// A client does one batch after another, and adds up what they tell. `proofs/do_all` has the line that keeps it a
+/// client of the map.
 fn do_all(map: &SharedMap, client: &mut Client, batches: &[Batch]) -> Result<u64>
     requires { IsClientOf map.now client.old }
     ensures { IsClientOf map.now client.new }

@@ -1,7 +1,7 @@
 //! `moc_bench OP REPEATS`: the time of one operation of the library, as a line `OP median first least checksum`, in
 //! seconds. Standard input has one coverage in ASCII a line: the first, and for an operation on two sets the second.
-//! Operations on numbers and schedules make their own input, of so many numbers or operations as a third word says, or of
-//! millions.
+//! Operations on numbers and schedules make their own input, of so many numbers or operations as a third word says, or
+//! of millions.
 #![tactic(auto)]
 
 mod operation;

@@ -89,8 +89,8 @@ impl Operation {
         }
     }
 
-    /// So many numbers of the order for an operation on numbers: ten million where none is named, a million for touching
-    /// cells.
+    /// So many numbers of the order for an operation on numbers: ten million where none is named, a million for
+    /// touching cells.
     fn cells(self, alloc: Global, count: Option<u32>) -> Result<Vec<u64>, AllocError> {
         match self {
             Operation::Ring(order) | Operation::Nest(order) => {

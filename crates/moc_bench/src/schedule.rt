@@ -30,8 +30,8 @@ pub fn in_turn(alloc: Global, operations: u32) -> Result<Vec<Step>> {
     Ok(steps)
 }
 
-/// So many operations, in rounds in which so many clients begin, and then each takes, edits and gives back its part; all end
-/// together.
+/// So many operations, in rounds in which so many clients begin, and then each takes, edits and gives back its part;
+/// all end together.
 pub fn in_rounds(alloc: Global, operations: u32, clients: u32) -> Result<Vec<Step>> {
     let mut random = Random::new();
     let mut steps = Vec::new(alloc);

@@ -45,8 +45,8 @@ of_two f x = f x.0 x.1
 abbrev pub order_at : ℕ → Result ℕ Fault
 order_at k = if nat_le k 29 then Ok k else Err (NoSuchOrder k)
 
--- a set that is wanted was put at the next key, which is told; or the fault is told, or no memory is left, and all is as
--- it was
+-- a set that is wanted was put at the next key, which is told; or the fault is told, or no memory is left, and all is
+-- as it was
 abbrev pub Makes : Contents → Contents → Result NumberSet Fault → Outcome → Type 0
 Makes old new (Ok a) o = ((o ≡ told old.next) × (new ≡ with_set old a)) ⊎ ((o ≡ memory) × (new ≡ old))
 Makes old new (Err e) o = ((o ≡ refusal e) ⊎ (o ≡ memory)) × (new ≡ old)

@@ -139,7 +139,8 @@ KeepsSaid old new (Err e) o = (o ≡ refusal e) × (new ≡ old)
 
 -- ---- what is put into buffers
 
--- items stand at the front of a buffer, and how many is told; or it is shorter, and as it was, and how many are wanted is told
+-- items stand at the front of a buffer, and how many is told; or it is shorter, and as it was, and how many are wanted
+-- is told
 abbrev pub Fills : {X : Type 0} → List X → List X → List X → Outcome → Type 0
 Fills items old new o =
     ((take (length items) new ≡ items) × (o ≡ told (length items)))

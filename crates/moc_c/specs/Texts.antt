@@ -24,8 +24,8 @@ order_told (Some k) = k
 abbrev pub order_meant : ℕ → Result (Option ℕ) Fault
 order_meant n = if nat_eq n 255 then Ok None else (if nat_le n 29 then Ok (Some n) else Err (fault.NoSuchOrder n))
 
--- what a text in a form says was put at the next key, and the deepest order that it names is told beside it; or the text's
--- fault is told, or no memory is left, and all is as it was
+-- what a text in a form says was put at the next key, and the deepest order that it names is told beside it; or the
+-- text's fault is told, or no memory is left, and all is as it was
 abbrev pub Reads : Form → List ℕ → Contents → Contents → Outcome → Type 0
 Reads form text old new o =
     ((a : NumberSet) × (deepest : Option ℕ) × FormSays form text a deepest × (new ≡ with_set old a)

@@ -1,5 +1,5 @@
-//! What help says: of the program all of it, of a word what stands below its usage. Lines have at most 80 columns, and each
-//! example is run by `tests/pages.py`.
+//! What help says: of the program all of it, of a word what stands below its usage. Lines have at most 80 columns, and
+//! each example is run by `tests/pages.py`.
 
 /// What `moc --help` says. The lines of the words are those that the help of each word begins with.
 pub const OVERVIEW: &str = "\

@@ -11,8 +11,8 @@ abbrev pub changed : Change → NumberSet → NumberSet
 changed (Degrade order) a = degrade a order
 changed Complement a = complement a
 
--- the order that is stated of it, by the deepest one that a text of the set names, if it names one: of a degraded set the
--- coarser of that order and the one that it is degraded to, of a complement that order
+-- the order that is stated of it, by the deepest one that a text of the set names, if it names one: of a degraded set
+-- the coarser of that order and the one that it is degraded to, of a complement that order
 abbrev pub order_after : Change → Option ℕ → Option ℕ
 order_after (Degrade order) deepest = option_map (λ k. min k order) deepest
 order_after Complement deepest = deepest

@@ -1,6 +1,6 @@
 -- A picture of a set: an SVG text that shows HEALPix's plane (Górski and others 2005), 1024 half steps of order 7
--- wide and 512 high, with y from the north pole. Cells are drawn with x eastward, in a group that is mirrored: as on sky
--- charts, east is to the left.
+-- wide and 512 high, with y from the north pole. Cells are drawn with x eastward, in a group that is mirrored: as on
+-- sky charts, east is to the left.
 use Rattle.std.specs.Prelude.{ℕ, zero, suc, ◌+◌, ◌-◌, ◌*◌, ◌/◌, ◌^◌, ◌==◌, Bool, not, ◌&&◌, nat_le, if◌then◌else◌}
 use Rattle.std.specs.Prelude.{List, [], ◌∷◌, ◌++◌, decimal, codes}
 use Rattle.std.specs.FinSet as set
@@ -168,8 +168,8 @@ picture_of a = head ++ outlines ++ labels ++ shades (marks_of a) ++ legend ++ co
 
 -- ---- two sets
 
--- the cells that have pixels of the first set alone, of the second alone, and of both, each over those before it, in blue,
--- orange and black (Okabe and Ito), mirrored and rimmed as the shades of one set are
+-- the cells that have pixels of the first set alone, of the second alone, and of both, each over those before it, in
+-- blue, orange and black (Okabe and Ito), mirrored and rimmed as the shades of one set are
 unfoldable pub kinds : NumberSet → NumberSet → List ℕ
 kinds a b =
     codes "<g transform=\"translate(1024 0) scale(-1 1)\" clip-path=\"url(#plane)\" shape-rendering=\"crispEdges\">\n"

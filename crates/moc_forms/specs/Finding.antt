@@ -44,8 +44,8 @@ begins_word b = nat_le 48 b && nat_le b 57 || b == 115 || b == 44
 abbrev pub is_slash : ℕ → Bool
 is_slash b = b == 47
 
--- the form that a text looks like which begins with this byte, and has a slash or not: JSON with `{`, with a digit, `s` or
--- a comma ASCII where it has a slash, and else a NUNIQ list
+-- the form that a text looks like which begins with this byte, and has a slash or not: JSON with `{`, with a digit, `s`
+-- or a comma ASCII where it has a slash, and else a NUNIQ list
 abbrev pub looks_by : Bool → Option ℕ → Option Form
 looks_by slash None = None
 looks_by slash (Some b) =

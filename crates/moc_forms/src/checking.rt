@@ -23,9 +23,9 @@ pub struct Refusal {
 }
 
 impl Refusal {
-    /// The line that says where the fault is, and quotes what stands there: the word of an ASCII text, the line of a NUNIQ
-    /// list, the name or the item of a JSON text. The text is the one that was refused; where texts are counted, its number
-    /// stands first. `None` where there is nothing to say.
+    /// The line that says where the fault is, and quotes what stands there: the word of an ASCII text, the line of a
+    /// NUNIQ list, the name or the item of a JSON text. The text is the one that was refused; where texts are counted,
+    /// its number stands first. `None` where there is nothing to say.
     ///
     /// Linear in the text; refused where memory runs out.
     pub fn line(

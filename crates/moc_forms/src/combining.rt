@@ -24,7 +24,8 @@ pub enum Operation {
     Symmetric,
 }
 
-/// The operation that the command line calls `union`, `intersection`, `difference` or `symmetric`; refused with `NotOperation`.
+/// The operation that the command line calls `union`, `intersection`, `difference` or `symmetric`; refused with
+/// `NotOperation`.
 impl FromStr for Operation {
     type Err = NameError;
 
@@ -58,8 +59,8 @@ impl Operation {
         }
     }
 
-    /// What texts say together with one more: the operation of the sets, the deeper of the orders that they name, and the
-    /// form of the first. Before the first text there is nothing, and it stands for itself.
+    /// What texts say together with one more: the operation of the sets, the deeper of the orders that they name, and
+    /// the form of the first. Before the first text there is nothing, and it stands for itself.
     ///
     /// One pass over the ranges at most; refused where memory runs out.
     pub fn join(

@@ -16,9 +16,9 @@ use std::alloc::{AllocError, Global};
 const WIDTH: u64 = 1024;
 
 /// A picture of a set, as SVG: HEALPix's plane, 1024 half steps of order 7 wide and 512 high, north up and east to the
-/// left, longitude 0 at both edges. Each cell of the set of order 7 or less is a diamond of the darkest of four shades of
-/// blue; a cell of order 7 that deeper cells of the set fill in part has a shade by quarters of its pixels. The sky is grey,
-/// with the outlines and the numbers of the base pixels under the cells, and a legend tells the shades.
+/// left, longitude 0 at both edges. Each cell of the set of order 7 or less is a diamond of the darkest of four shades
+/// of blue; a cell of order 7 that deeper cells of the set fill in part has a shade by quarters of its pixels. The sky
+/// is grey, with the outlines and the numbers of the base pixels under the cells, and a legend tells the shades.
 ///
 /// Takes the memory of the set's cells, goes over them once, and looks each cell of order 7 that the set meets up in
 /// O(log n); refused where memory runs out.

@@ -13,8 +13,8 @@ use std::fmt;
 /// How many parts of the sky a share is told in: 10^12.
 const PARTS: u64 = 1_000_000_000_000;
 
-/// The figures of a coverage. Shown, they are a line each: the deepest order that its text names or `none`, the number of
-/// pixels of order 29, their share of the sky with twelve digits cut off, the number of ranges and of cells, and the
+/// The figures of a coverage. Shown, they are a line each: the deepest order that its text names or `none`, the number
+/// of pixels of order 29, their share of the sky with twelve digits cut off, the number of ranges and of cells, and the
 /// number of cells of each order that has some.
 #[derive(Clone, Copy, Debug, PartialEq, Eq)]
 pub struct Figures {

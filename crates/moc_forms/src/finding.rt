@@ -78,8 +78,8 @@ pub fn is_blank_byte(byte: u8) -> bool
     matches!(byte, b' ' | b'\t' | b'\r' | b'\n')
 }
 
-/// The form that a text looks like, where it is read in another: JSON where its first byte that is no blank is `{`; where
-/// that is a digit, `s` or a comma, ASCII if the text has a slash, and else a NUNIQ list.
+/// The form that a text looks like, where it is read in another: JSON where its first byte that is no blank is `{`;
+/// where that is a digit, `s` or a comma, ASCII if the text has a slash, and else a NUNIQ list.
 ///
 /// Linear in the text; takes no memory.
 pub fn hint(form: Form, text: &[u8]) -> Option<Form>

@@ -11,9 +11,9 @@ use moc_ranges::{Coverage, Memory};
 use moc_sphere::Cell;
 use std::alloc::{AllocError, Global};
 
-/// A picture of two sets, as SVG, in the plane in which `draw` shows one: what the first alone has in blue, what the second
-/// alone has in orange, and over these what both have in black. Cells of order 7 and coarser are drawn whole, and deeper
-/// ones as their cells of order 7; a legend tells the colours.
+/// A picture of two sets, as SVG, in the plane in which `draw` shows one: what the first alone has in blue, what the
+/// second alone has in orange, and over these what both have in black. Cells of order 7 and coarser are drawn whole,
+/// and deeper ones as their cells of order 7; a legend tells the colours.
 ///
 /// Takes the memory of the cells of the three, one after another, and looks each cell of order 7 that they meet up in
 /// O(log n); refused where memory runs out.

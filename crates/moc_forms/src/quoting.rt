@@ -16,10 +16,10 @@ use std::alloc::{AllocError, Global};
 /// How many bytes are quoted at most.
 const QUOTED: usize = 40;
 
-/// The quote of what stands at a fault, which tells of this text: the word of an ASCII text, the line of a NUNIQ list, the
-/// name of a JSON object or the item of its array, whose text is `serde_json`'s. At most 40 bytes stand between
-/// backquotes, each that is no printable ASCII by its hexadecimal digits, and `..` behind them where there are more. `None`
-/// where no place is known.
+/// The quote of what stands at a fault, which tells of this text: the word of an ASCII text, the line of a NUNIQ list,
+/// the name of a JSON object or the item of its array, whose text is `serde_json`'s. At most 40 bytes stand between
+/// backquotes, each that is no printable ASCII by its hexadecimal digits, and `..` behind them where there are more.
+/// `None` where no place is known.
 ///
 /// Linear in the text, of which a JSON one is parsed once more; refused where memory runs out.
 pub fn quote(alloc: Global, text: &[u8], error: FormError) -> Result<Option<String>, Memory>

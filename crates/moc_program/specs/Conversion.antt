@@ -50,7 +50,8 @@ pub record ConvertsAll (from to : Form) (left left' : Option (List ℕ)) (text :
   pub says : SaysAll (Named from) left left' said
   pub written : text ≡ form_text to said.0 said.1
 
--- the text is that of a change of the set which the input says, in the same form and with the order that is stated of it
+-- the text is that of a change of the set which the input says, in the same form and with the order that is stated of
+-- it
 pub record ChangesAll (change : Change) (choice : Choice) (left left' : Option (List ℕ)) (text : List ℕ) : Type 0 where
   pub said : Said
   pub says : SaysAll choice left left' said
@@ -80,8 +81,8 @@ pub record DrawsAll (choice : Choice) (left left' : Option (List ℕ)) (text : L
   pub whole : IsWhole left left' given
   pub drawn : IsPictured choice given text
 
--- the complaint tells the first fault of a text, which may be counted, where it is and what stands there, and which form
--- the text looks like, if that is another
+-- the complaint tells the first fault of a text, which may be counted, where it is and what stands there, and which
+-- form the text looks like, if that is another
 pub record TellsFault (form : Form) (text : List ℕ) (number : Option ℕ) (c : Complaint) : Type 0 where
   pub error : FormError
   pub is_fault : IsFormFault form text error

@@ -110,6 +110,7 @@ abbrev pub hint_line : Option Form → List ℕ
 hint_line None = []
 hint_line (Some form) = hint_text form
 
--- what tells a complaint: the line of its fault, and behind it the line of the place and that of the hint, if there are any
+-- what tells a complaint: the line of its fault, and behind it the line of the place and that of the hint, if there are
+-- any
 abbrev pub complaint_text : Complaint → List ℕ
 complaint_text c = line_of c.fault ++ bytes_of c.place ++ hint_line c.hint

@@ -13,8 +13,8 @@ abbrev pub IsParted : List ℕ → Option (Bor (List ℕ) × Bor (List ℕ)) →
 IsParted bytes None = LacksSemicolons bytes
 IsParted bytes (Some parts) = LacksSemicolons parts.0.now × (bytes ≡ parts.0.now ++ 59 ∷ parts.1.now)
 
--- the texts of a picture: all bytes, or those before the first semicolon and those behind it; blanks alone behind it are
--- no text
+-- the texts of a picture: all bytes, or those before the first semicolon and those behind it; blanks alone behind it
+-- are no text
 abbrev pub AreTexts : List ℕ → List ℕ → Option (List ℕ) → Type 0
 AreTexts bytes first None =
     LacksSemicolons first

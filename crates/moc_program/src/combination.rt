@@ -166,9 +166,9 @@ fn read_texts<R: Source>(
     Err(Complaint::from(Fault::TooLong))
 }
 
-/// The text of what the texts of the input say together by an operation, in the form of the first. The deepest order that one
-/// of them names is stated. Else a complaint tells the number of the first text that is at fault, from 1, and the place
-/// in it.
+/// The text of what the texts of the input say together by an operation, in the form of the first. The deepest order
+/// that one of them names is stated. Else a complaint tells the number of the first text that is at fault, from 1, and
+/// the place in it.
 pub fn combined<R: Source>(
     alloc: Global,
     operation: Operation,

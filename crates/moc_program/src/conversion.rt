@@ -79,8 +79,8 @@ pub fn said(alloc: Global, form: Form, text: &[u8]) -> Result<(Coverage, Option<
     Ok(form.read(alloc, text)?)
 }
 
-/// What a text says, with the form that it is read in; else a complaint that tells its first fault and where it is. Where
-/// texts are counted, the complaint has the number of this one.
+/// What a text says, with the form that it is read in; else a complaint that tells its first fault and where it is.
+/// Where texts are counted, the complaint has the number of this one.
 pub fn said_or_told(
     alloc: Global,
     choice: Choice,
@@ -99,8 +99,8 @@ pub fn said_or_told(
     }
 }
 
-/// The complaint that tells a refusal of a text; that of want of memory, which has no place, also where memory is refused
-/// for its line.
+/// The complaint that tells a refusal of a text; that of want of memory, which has no place, also where memory is
+/// refused for its line.
 fn complaint_of(
     alloc: Global,
     form: Form,
@@ -237,8 +237,8 @@ pub fn parted(bytes: &[u8]) -> Option<(&[u8], &[u8])>
     Some((&bytes[..at], &bytes[at + 1..]))
 }
 
-/// The text of a change of the coverage that the input has, in the form that it was read in, with the order that is stated
-/// of it.
+/// The text of a change of the coverage that the input has, in the form that it was read in, with the order that is
+/// stated of it.
 pub fn changed<R: Source>(
     alloc: Global,
     change: Change,

@@ -157,8 +157,8 @@ fn explain<S: AsStr, W: Sink, E: Sink>(
     ended(printed(text.as_str(), output), faults)
 }
 
-/// The text of help; of a mistake `clap`'s text too, but where a word has a control character, which is not shown, or where
-/// it is no word and is meant for one.
+/// The text of help; of a mistake `clap`'s text too, but where a word has a control character, which is not shown, or
+/// where it is no word and is meant for one.
 fn explanation<S: AsStr>(alloc: Global, words: &[S], error: &Error) -> Result<String, AllocError> {
     if error.use_stderr() && has_control_character(words) {
         return String::from_str(

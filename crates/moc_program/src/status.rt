@@ -212,8 +212,8 @@ impl From<MemoryRefused> for Fault {
     }
 }
 
-/// A fault; where it is told, a line that says where it is; and the form that the text looks like, if that is another than
-/// it was read in.
+/// A fault; where it is told, a line that says where it is; and the form that the text looks like, if that is another
+/// than it was read in.
 #[derive(Debug, Drop)]
 pub struct Complaint {
     pub fault: Fault,

@@ -151,7 +151,8 @@ module _ {S O R : Type 0} (object : S → O → S × R) (rules : Rules S) where
   calls_of-else : (e : Entry O R) (log : List (Entry O R)) (d : ℕ) → d ≢ e.client → calls_of d (e ∷ log) ≡ calls_of d log
   calls_of-else e log d other = ap (λ (b : Bool). cond b (e ∷ calls_of d log) (calls_of d log)) (ne_eqb e.client d (λ s. other (sym s)))
 
-  -- A legal history of the clients below n, in which each client's calls are those of its lane's lines: there is an order of all lines.
+  -- A legal history of the clients below n, in which each client's calls are those of its lane's lines: there is an
+  -- order of all lines.
   pub weave : (n : ℕ) (log : List (Entry O R)) (s : S) → IsLegal object s log → ((e : Entry O R) → Contains log e → e.client < n)
       → (lines texts : ℕ → List (List ℕ)) → AreDone lines log texts → AreBelow n lines → Woven s lines texts (result object s log)
   weave n [] s legal named lines texts does below = flush n s lines texts does below

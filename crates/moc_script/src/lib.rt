@@ -29,7 +29,7 @@ pub use laws::{
 };
 pub use line_reader::LINE_LIMIT;
 pub use moc_devices::{DeviceFault, OverReader, OverWriter, Sink, Source, write_all};
-pub use numbering::{NotNumbering, Numbering};
+pub use numbering::{NameError, Numbering};
 pub use renumbering::{Renumbering, renumber};
 pub use run_error::RunError;
 pub use schedule::play;

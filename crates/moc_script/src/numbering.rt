@@ -19,27 +19,29 @@ pub enum Numbering {
     Uniq,
 }
 
-/// A word names no numbering.
+/// Why a word names nothing.
 #[derive(Clone, Copy, Debug, PartialEq, Eq, Error)]
-#[error("no numbering has that name")]
-pub struct NotNumbering;
+pub enum NameError {
+    #[error("no numbering has that name")]
+    NotNumbering,
+}
 
 /// The numbering that the command line calls `nest`, `ring` or `uniq`; refused with `NotNumbering`.
 impl FromStr for Numbering {
-    type Err = NotNumbering;
+    type Err = NameError;
 
     ghost use Rattle.moc_sphere.specs.Names.{IsNamed};
     ghost use Rattle.moc_script.specs.Numberings.{numbering_name};
-    ghost use Rattle.moc_script.specs.declared.numbering.NotNumbering.{NotNumbering};
+    ghost use Rattle.moc_script.specs.declared.numbering.NameError.TheVariants.{NotNumbering};
 
     ghost from_str_gives = { IsNamed numbering_name NotNumbering };
 
-    fn from_str(word: &str) -> Result<Numbering, NotNumbering> {
+    fn from_str(word: &str) -> Result<Numbering, NameError> {
         match word {
             "nest" => Ok(Numbering::Nest),
             "ring" => Ok(Numbering::Ring),
             "uniq" => Ok(Numbering::Uniq),
-            _ => Err(NotNumbering),
+            _ => Err(NameError::NotNumbering),
         }
     }
 }

@@ -5,8 +5,8 @@ ghost use Rattle.moc_script.specs.Runs.{Flushes};
 ghost use Rattle.moc_script.specs.Schedules.{RunsSchedule, BeginsSchedule, schedule_text};
 
 use crate::player::Player;
-use crate::runner::Runner;
 use crate::run_error::RunError;
+use crate::runner::Runner;
 use moc_devices::{Sink, Source};
 use std::alloc::Global;
 

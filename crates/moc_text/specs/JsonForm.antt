@@ -140,8 +140,8 @@ IsTextOf None text = text ≡ None
 IsTextOf (Some d) text =
     (bytes : List ℕ) × (text ≡ Some bytes) × (has_float d ≡ false → bytes ≡ compact_text d)
 
--- In the text the item of this place, counted from 0, in the array of the name of this number has this text, if there is
--- such an item.
+-- In the text the item of this place, counted from 0, in the array of the name of this number has this text, if there
+-- is such an item.
 abbrev pub HasItem : List ℕ → ℕ → ℕ → Option (List ℕ) → Type 0
 HasItem bytes number place text =
     (d : Data) × IsJson bytes d

@@ -1,5 +1,5 @@
--- The reading of an ASCII text as a function. That each text has just one reading, which is what it says or its first fault,
--- fixes the function, however it is written (`Private/Scanned`).
+-- The reading of an ASCII text as a function. That each text has just one reading, which is what it says or its first
+-- fault, fixes the function, however it is written (`Private/Scanned`).
 use Rattle.std.specs.Prelude.{◌≡◌, ℕ, List, Option, Result, Ok, Err, MatchResult, ◌⊎◌}
 use Rattle.moc_ranges.specs.Numbers.{NumberSet}
 use Rattle.moc_text.specs.declared.ascii.error.TextError.{TextError}

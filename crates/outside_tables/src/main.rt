@@ -1,6 +1,7 @@
 //! Compares numbers with tables that independent HEALPix libraries made or agree to, on standard input: a line
-//! `order nested ring` for each cell of orders 0 to 4, whose numbers are compared both ways, and a line `order cell: cells`
-//! for each cell of orders 0 to 3, with the cells that touch it, rising. A line that begins with `#` is a comment.
+//! `order nested ring` for each cell of orders 0 to 4, whose numbers are compared both ways, and a line `order cell:
+//! cells` for each cell of orders 0 to 3, with the cells that touch it, rising. A line that begins with `#` is a
+//! comment.
 #![tactic(auto)]
 
 use anyhow::{Result, bail};

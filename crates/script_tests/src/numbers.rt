@@ -1,6 +1,8 @@
 //! What lines of numbers are answered.
 use crate::between::{Language, expect_answers as expect};
-use moc_script::{LINE_LIMIT, NotNumbering, Numbering, OverReader, OverWriter, Renumbering, RunError, renumber};
+use moc_script::{
+    LINE_LIMIT, NameError, Numbering, OverReader, OverWriter, Renumbering, RunError, renumber,
+};
 use moc_sphere::Order;
 use std::alloc::{AllocError, Global};
 use std::str::FromStr;
@@ -53,7 +55,7 @@ fn all_cells_of_order_1(rt: HostRuntime) {
             );
         }
     }
-    assert!(rt; Numbering::from_str("nested") == Err(NotNumbering));
+    assert!(rt; Numbering::from_str("nested") == Err(NameError::NotNumbering));
 }
 
 // Cells of the least and of the greatest order: the first and the last in some numbering.

@@ -222,7 +222,8 @@ const WORKS: [(&str, Work); 17] = [
     ),
 ];
 
-/// How often each work is timed, and how it came out, each in turn, so that what else the machine does falls on all alike.
+/// How often each work is timed, and how it came out, each in turn, so that what else the machine does falls on all
+/// alike.
 fn in_turns<R: Threads + Wait + Clock + Sync>(
     rt: &R,
     alloc: Global,

@@ -175,8 +175,8 @@ fn changes_a_cell<R: Wait>(rt: &R, map: &SharedMap, client: &mut Client, batch: 
     }
 }
 
-/// Reads base pixel 0, or just takes it, until some other thread has ended: how many readings were answered, or how often
-/// it was taken.
+/// Reads base pixel 0, or just takes it, until some other thread has ended: how many readings were answered, or how
+/// often it was taken.
 fn read(alloc: Global, map: &SharedMap, plan: &Plan, client: Client) -> Option<Figure>
     requires { IsClientOf map.now client }
 {

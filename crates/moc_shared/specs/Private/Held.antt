@@ -6,8 +6,8 @@ use Rattle.moc_shared.specs.Private.Rule.{IsOne}
 use Rattle.moc_shared.specs.Private.Plays.{IsCarried}
 use Rattle.moc_shared.specs.Private.Slots.{notes_below, AreOwn, IsFootprint, Pointer, Sight}
 
--- a client alone holds the parts of the batch's footprint, and their lists are those that were found, each in its own base
--- pixel
+-- a client alone holds the parts of the batch's footprint, and their lists are those that were found, each in its own
+-- base pixel
 pub record HoldsFootprint (batch : List Command) (found : List (Option Pointer)) (me : Me (Option Pointer) Sight)
     : Type 0 where
   pub client : IsOne me.0

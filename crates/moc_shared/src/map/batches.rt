@@ -83,8 +83,9 @@ impl SharedMap {
 
     /// What a query sees: as `try_apply`, but its replies are made when they are asked for.
     ///
-    /// Waits for nobody. A batch that may change the map is refused, and nothing is then done. Refused also where a part is
-    /// held by another client, and where memory runs out; the client's calls are then as they were. The batch is copied.
+    /// Waits for nobody. A batch that may change the map is refused, and nothing is then done. Refused also where a
+    /// part is held by another client, and where memory runs out; the client's calls are then as they were. The batch
+    /// is copied.
     pub fn look(&self, client: &mut Client, batch: &Batch) -> Result<Snapshot, LookError>
         requires map { IsClientOf self.now client.old }
         ensures map { IsClientOf self.now client.new }

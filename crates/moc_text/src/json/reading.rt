@@ -242,8 +242,8 @@ pub fn json_name(alloc: Global, text: &[u8], name: usize) -> Result<Option<Strin
     }
 }
 
-/// The text of an item, compact as `serde_json` prints it, by its place in the array of the name of this number, which a
-/// fault tells, both counted from 0. `None` where there is no such item.
+/// The text of an item, compact as `serde_json` prints it, by its place in the array of the name of this number, which
+/// a fault tells, both counted from 0. `None` where there is no such item.
 ///
 /// Refused with `NotJson` and `Memory` as `read_json`, whose first pass it makes again.
 pub fn json_item(
