@@ -42,7 +42,7 @@ class Plant(NamedTuple):
 PLANTS = [
     # crews
     Plant("crew_names_the_greatest_refused_line", "moc_script", "src/crews/gathering.rt",
-          "Some(line) if line < refused.line => Some(line),", "Some(line) if line > refused.line => Some(line),", "nothing"),
+          "Some(line) if line < refused.line => Some(line),", "Some(line) if line > refused.line => Some(line),", "prove"),
     Plant("last_line_without_a_line_feed_is_not_counted", "moc_script", "src/crews/reading.rt",
           "        Some(_) => whole + 2,", "        Some(_) => whole + 1,", "prove"),
     Plant("crew_tells_spawn_as_memory", "moc_script", "src/crews/threads.rt",
@@ -50,11 +50,11 @@ PLANTS = [
     # devices
     Plant("piece_is_read_again_behind_an_error", "moc_program", "src/conversion.rt",
           "        return Err(Fault::Read);\n    };\n    text.extend",
-          "        let _ = input.read(room);\n        return Err(Fault::Read);\n    };\n    text.extend", "nothing"),
+          "        let _ = input.read(room);\n        return Err(Fault::Read);\n    };\n    text.extend", "test", "program_tests"),
     Plant("fault_is_never_told", "moc_program", "src/dispatch.rt",
-          "    let _ = tell(&complaint, faults);", "    let _ = &faults;", "script", "program"),
+          "    let _ = tell(&complaint, faults);", "    let _ = &faults;", "prove"),
     Plant("longest_input_is_refused", "moc_program", "src/conversion.rt",
-          "    while text.len() <= INPUT_LIMIT {", "    while text.len() < INPUT_LIMIT {", "script", "program"),
+          "    while text.len() <= INPUT_LIMIT {", "    while text.len() < INPUT_LIMIT {", "prove"),
     # pages
     Plant("example_of_a_help_text_has_a_wrong_figure", "moc_command_line", "src/help.rt",
           "  total 288230376151711744", "  total 288230376151711743", "script", "pages"),
@@ -63,11 +63,11 @@ PLANTS = [
           "            error.line(),\n            error.column(),", "            error.column(),\n            error.line(),", "test",
           "coverage_tests"),
     # clients on threads
-    Plant("query_gives_its_parts_back_as_it_takes_them", "moc_shared", "src/rounds.rt",
+    Plant("query_gives_its_parts_back_as_it_takes_them", "moc_shared", "src/held/footprint.rt",
           "                Ok(pointer) => put_at(&mut found, b, pointer),",
           "                Ok(pointer) => { let Ok(copy) = std::sync::Arc::try_clone(&pointer) else { unreachable!() }; put_at(&mut found, b, copy); "
           "if batch.is_update() { drop(pointer); } else { give_part(table, seat, b, pointer); } }", "program", "shared_rounds"),
-    Plant("waiter_takes_the_parts_from_the_highest_down", "moc_shared", "src/waiting.rt",
+    Plant("waiter_takes_the_parts_from_the_highest_down", "moc_shared", "src/held/waiting.rt",
           "    for b in 0..12usize {\n        if footprint.contains(Part::of(b as u8)) {",
           "    for below in 0..12usize {\n        let b = 11 - below;\n        if footprint.contains(Part::of(b as u8)) {", "prove"),
 ]

@@ -278,8 +278,15 @@ fn the_steps_before_a_refused_one(rt: HostRuntime) {
 #[test]
 fn nothing_is_done_by_no_steps(rt: HostRuntime) {
     let alloc = rt.alloc();
-    let world = replay(alloc, &Coverage::empty(alloc), &[]).expect(&rt, "permitted");
-    assert!(rt; world.coverage().expect(&rt, "nobody is midway").is_empty());
+    let start = Coverage::full(alloc).expect(&rt, "memory");
+    let world = replay(alloc, &start, &[]).expect(&rt, "permitted");
+    assert!(rt; world.order().is_empty());
+    assert!(rt;
+        world
+            .coverage()
+            .expect(&rt, "nobody is midway")
+            .same(&start)
+    );
 }
 
 /// Checks the text of an error.

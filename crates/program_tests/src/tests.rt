@@ -501,10 +501,11 @@ fn changes(rt: HostRuntime) {
     );
 }
 
-/// A reader that fails.
+/// A reader that fails, and counts its calls.
 #[derive(Drop)]
 struct Broken {
     is_marked: bool,
+    calls: u32,
 }
 
 impl Source for Broken {
@@ -516,6 +517,7 @@ impl Source for Broken {
 
     fn read(&mut self, _buffer: &mut [u8]) -> Result<usize, DeviceFault> {
         self.is_marked = true;
+        self.calls = self.calls.saturating_add(1);
         Err(DeviceFault)
     }
 
@@ -539,17 +541,22 @@ fn failing_input(rt: HostRuntime) {
         ["complement", "uniq"].as_slice(),
         ["renumber", "nest", "uniq", "3"].as_slice(),
     ] {
+        let mut input = Broken {
+            is_marked: false,
+            calls: 0,
+        };
         let mut written = Vec::new(rt.alloc());
         let mut told = Vec::new(rt.alloc());
         let answered = program(
             &rt,
             rt.alloc(),
             words,
-            &mut Broken { is_marked: false },
+            &mut input,
             &mut OverWriter::new(&mut written),
             &mut OverWriter::new(&mut told),
         );
         assert_eq!(rt; answered, 3, "{words:?}");
+        assert_eq!(rt; input.calls, 1, "{words:?}");
         assert!(rt; written.is_empty(), "{words:?}");
         assert_eq!(rt; told.as_slice(), b"fault Read\n".as_slice(), "{words:?}");
     }

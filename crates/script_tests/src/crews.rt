@@ -250,6 +250,34 @@ fn writers_that_fail(rt: HostRuntime) {
     }
 }
 
+// The whole text is taken, and could not be sent on.
+#[test]
+fn a_flush_that_fails(rt: HostRuntime) {
+    let Some(lanes) = Lanes::new(2) else {
+        panic!(rt; "no lanes")
+    };
+    let mut sink = FailingSink {
+        taken: Vec::new(rt.alloc()),
+        calls: 0,
+        failures: 1,
+        failure: Failure::Flush,
+        flushes: Some(0),
+        is_marked: false,
+        is_flushed: false,
+    };
+    let result = crew(
+        &rt,
+        rt.alloc(),
+        &mut OverReader::new(SCRIPT),
+        &mut sink,
+        lanes,
+        &OpenGate,
+    );
+    assert_eq!(rt; result, Err(RunError::Write));
+    assert_eq!(rt; sink.taken.as_slice(), ANSWERS);
+    assert_eq!(rt; sink.flushes, Some(1));
+}
+
 // A line over the limit is found before any lane begins.
 #[test]
 fn too_long_a_line(rt: HostRuntime) {
