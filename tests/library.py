@@ -1,8 +1,8 @@
 #!/usr/bin/env python3
 """Calls the library for C: `tests/c/calls.c` makes each call of `moc.h`, with right, empty, short and wrong arguments, under the address and
 undefined-behaviour sanitizers and the one for leaks, and once without; `tests/c/growths.c` makes sets and texts with each growth refused in
-turn (`tests/refuse.c`). The program of `docs/C.md` writes what the page says. The header is read as C99 and as C++, and its codes are compared with those of the crate; and each call of it is an
-export of the library, and each export a call of it.
+turn (`tests/refuse.c`). The program of `docs/C.md` writes what the page says. The header is read as C99 and as C++, and its codes are
+compared with those of the crate; and each call of it is an export of the library, and each export a call of it.
 
 The library is linked anew, by `./moc library`, in a room of its own. The last line printed is `N passed, M failed`."""
 import os

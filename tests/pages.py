@@ -16,12 +16,12 @@ import subprocess
 import sys
 import tempfile
 
+from python import python_with
+
 TOP = os.path.dirname(os.path.dirname(os.path.abspath(__file__)))
 MOC = os.environ.get("MOC", os.path.join(TOP, "crates", "moc_cli", "out", "moc_cli"))
 PAGES = ["README.md", "docs/RECIPES.md", "docs/FORMATS.md", "docs/PYTHON.md"]
 PACKAGE = os.path.join(TOP, "python")
-# This Python, and the one that Debian's packages are for.
-PYTHONS = [sys.executable, "/usr/bin/python3"]
 SECONDS = 60
 COLUMNS = 80
 END = "--- the end of what this command writes ---"
@@ -113,11 +113,6 @@ def checked(page):
             command = f"PYTHONDONTWRITEBYTECODE=1 PYTHONPATH={shlex.quote(PACKAGE)} {shlex.quote(python)} - <<'EOF'\n{program}\nEOF"
             seen = outputs(folder_with_moc(folder), [command])
         yield compare(f"the program\n{program}", seen[0], told)
-
-
-def python_with(module):
-    """A Python that has the module."""
-    return next((it for it in PYTHONS if subprocess.run([it, "-c", f"import {module}"], stderr=subprocess.DEVNULL).returncode == 0), None)
 
 
 def help_of(*words):

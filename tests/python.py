@@ -12,16 +12,16 @@ import tempfile
 
 TOP = os.path.dirname(os.path.dirname(os.path.abspath(__file__)))
 PACKAGE = os.path.join(TOP, "python")
-# The Python that Debian's packages are for.
-SYSTEM = "/usr/bin/python3"
+# This Python, and the one that Debian's packages are for.
+PYTHONS = [sys.executable, "/usr/bin/python3"]
 SECONDS = 600
 LAST = re.compile(r"^(\d+) passed, (\d+) failed$", re.MULTILINE)
 INSTALLED = ["__init__.py", "_arrays.py", "_library.py", "cells.py", "errors.py", "libploverchaise.so", "moc.py", "py.typed"]
 
 
-def has(python, module):
-    """Whether this Python has a module."""
-    return subprocess.run([python, "-c", f"import {module}"], stderr=subprocess.DEVNULL).returncode == 0
+def python_with(module):
+    """A Python that has the module, or None."""
+    return next((it for it in PYTHONS if subprocess.run([it, "-c", f"import {module}"], stderr=subprocess.DEVNULL).returncode == 0), None)
 
 
 def install(folder):
@@ -52,7 +52,7 @@ def main():
         results = [(int(well), int(not well))]
         if well:
             results.append(tested(sys.executable, folder, "--without-numpy"))
-            numerical = next((it for it in (sys.executable, SYSTEM) if has(it, "numpy")), None)
+            numerical = python_with("numpy")
             if numerical is None:
                 print("numpy is not installed: arrays are not tested", file=sys.stderr)
             else:
