@@ -27,58 +27,40 @@ fn figures(alloc: Global, form: Form, text: &str) -> Result<String, Fail> {
     Ok(describe(alloc, &set, deepest)?)
 }
 
+/// In JSON, lines and columns are those of the byte at which `serde_json` gives up; an empty text has no column.
 #[test]
-fn places_in_ascii(rt: HostRuntime) -> Result<(), Fail> {
-    for (text, place) in [
-        ("1/0-3", ""),
-        ("", ""),
-        ("x", "byte 0, line 1, byte 0 of it"),
-        ("1/0-3\n2/7-5", "byte 8, line 2, byte 2 of it"),
-        ("1/0\n\n\n5", ""),
-        ("1/0\n\n\n99", "byte 6, line 4, byte 0 of it"),
-        ("1/0 30/", "byte 4, line 1, byte 4 of it"),
-        ("1/0\n5-", "byte 6, line 2, byte 2 of it"),
+fn places(rt: HostRuntime) -> Result<(), Fail> {
+    for (form, text, place) in [
+        (Form::Ascii, "1/0-3", ""),
+        (Form::Ascii, "", ""),
+        (Form::Ascii, "x", "byte 0, line 1, byte 0 of it"),
+        (Form::Ascii, "1/0-3\n2/7-5", "byte 8, line 2, byte 2 of it"),
+        (Form::Ascii, "1/0\n\n\n5", ""),
+        (Form::Ascii, "1/0\n\n\n99", "byte 6, line 4, byte 0 of it"),
+        (Form::Ascii, "1/0 30/", "byte 4, line 1, byte 4 of it"),
+        (Form::Ascii, "1/0\n5-", "byte 6, line 2, byte 2 of it"),
+        (Form::Json, "{\"1\":[0]}", ""),
+        (
+            Form::Json,
+            "{\"9\":[0,1,true],\"1\":[]}",
+            "order 9, number 2",
+        ),
+        (
+            Form::Json,
+            "{\"1\":[],\"10\":[5],\"2\":[0,192]}",
+            "order 2, number 1",
+        ),
+        (Form::Json, "{\"1\":[],\"007\":1}", "order 7"),
+        (Form::Json, "{\"0\":[],\"x\":[]}", "name 1"),
+        (Form::Json, "[]", ""),
+        (Form::Json, "{\"1\":[0,]}", "line 1, column 9"),
+        (Form::Json, "{\n\"1\":[0", "line 2, column 6"),
+        (Form::Json, "", "line 1, column 0"),
+        (Form::Uniq, "4\n\n5", ""),
+        (Form::Uniq, "4\n\n3\n", "line 3"),
+        (Form::Uniq, "4\nx", "line 2"),
     ] {
-        let seen = told(rt.alloc(), Form::Ascii, text)?;
-        assert_eq!(&rt; seen.as_str(), place, "{text:?}");
-    }
-    Ok(())
-}
-
-#[test]
-fn places_in_json(rt: HostRuntime) -> Result<(), Fail> {
-    for (text, place) in [
-        ("{\"1\":[0]}", ""),
-        ("{\"9\":[0,1,true],\"1\":[]}", "order 9, number 2"),
-        ("{\"1\":[],\"10\":[5],\"2\":[0,192]}", "order 2, number 1"),
-        ("{\"1\":[],\"007\":1}", "order 7"),
-        ("{\"0\":[],\"x\":[]}", "name 1"),
-        ("[]", ""),
-    ] {
-        let seen = told(rt.alloc(), Form::Json, text)?;
-        assert_eq!(&rt; seen.as_str(), place, "{text:?}");
-    }
-    Ok(())
-}
-
-/// Lines and columns are those of the byte at which `serde_json` gives up; an empty text has no column.
-#[test]
-fn places_of_no_json(rt: HostRuntime) -> Result<(), Fail> {
-    for (text, place) in [
-        ("{\"1\":[0,]}", "line 1, column 9"),
-        ("{\n\"1\":[0", "line 2, column 6"),
-        ("", "line 1, column 0"),
-    ] {
-        let seen = told(rt.alloc(), Form::Json, text)?;
-        assert_eq!(&rt; seen.as_str(), place, "{text:?}");
-    }
-    Ok(())
-}
-
-#[test]
-fn places_in_lists(rt: HostRuntime) -> Result<(), Fail> {
-    for (text, place) in [("4\n\n5", ""), ("4\n\n3\n", "line 3"), ("4\nx", "line 2")] {
-        let seen = told(rt.alloc(), Form::Uniq, text)?;
+        let seen = told(rt.alloc(), form, text)?;
         assert_eq!(&rt; seen.as_str(), place, "{text:?}");
     }
     Ok(())
@@ -243,31 +225,36 @@ fn forms(rt: HostRuntime) -> Result<(), Fail> {
 #[test]
 fn figures_of_sets(rt: HostRuntime) -> Result<(), Fail> {
     let alloc = rt.alloc();
-    for (text, lines) in [
+    for (form, text, lines) in [
         (
+            Form::Ascii,
             "",
             "deepest none\npixels 0\nshare 0.000000000000\nranges 0\ncells 0\n",
         ),
         (
+            Form::Ascii,
             "0/0-11",
             "deepest 0\npixels 3458764513820540928\nshare 1.000000000000\nranges 1\ncells 12\norder 0 12\n",
         ),
         (
+            Form::Ascii,
             "1/0-3 2/20 29/",
             "deepest 29\npixels 306244774661193728\nshare 0.088541666666\nranges 2\ncells 2\norder 0 1\norder 2 1\n",
         ),
         (
+            Form::Ascii,
             "29/7",
             "deepest 29\npixels 1\nshare 0.000000000000\nranges 1\ncells 1\norder 29 1\n",
         ),
+        (
+            Form::Uniq,
+            "4\n",
+            "deepest none\npixels 288230376151711744\nshare 0.083333333333\nranges 1\ncells 1\norder 0 1\n",
+        ),
     ] {
-        let seen = figures(alloc, Form::Ascii, text)?;
+        let seen = figures(alloc, form, text)?;
         assert_eq!(&rt; seen.as_str(), lines, "{text:?}");
     }
-    let seen = figures(alloc, Form::Uniq, "4\n")?;
-    let lines =
-        "deepest none\npixels 288230376151711744\nshare 0.083333333333\nranges 1\ncells 1\norder 0 1\n";
-    assert_eq!(&rt; seen.as_str(), lines);
     Ok(())
 }
 

@@ -9,26 +9,32 @@ fn set_of(rt: &impl Abort, alloc: Global, pairs: &[(u64, u64)]) -> Coverage {
     Coverage::from_ranges(alloc, pairs).expect(rt, "pairs")
 }
 
-#[test]
-fn pairs_in_any_order(rt: HostRuntime) {
-    let set = set_of(&rt, rt.alloc(), &[(4, 8), (8, 9), (0, 4)]);
-    let mut ranges = set.ranges();
-    assert_eq!(rt; ranges.next(), Some((0, 9)));
-    assert_eq!(rt; ranges.next(), None);
-    assert_eq!(rt; set.count(), 9);
-    assert!(rt; set.contains(8) && !set.contains(9));
+/// Checks the ranges of a set.
+fn has(rt: &impl Abort, set: &Coverage, ranges: &[(u64, u64)]) {
+    let mut seen = set.ranges();
+    for range in ranges {
+        assert_eq!(rt; seen.next(), Some(*range));
+    }
+    assert_eq!(rt; seen.next(), None);
+}
+
+/// Checks the cells at the beginning of a set's list of cells.
+fn begins_with(rt: &impl Abort, cells: &[Cell], wanted: &[(u8, u64)]) {
+    for (cell, (order, index)) in cells.iter().zip(wanted) {
+        assert_eq!(rt; (cell.order().get(), cell.index()), (*order, *index));
+    }
 }
 
 #[test]
-fn an_empty_pair(rt: HostRuntime) {
+fn pairs(rt: HostRuntime) {
+    let set = set_of(&rt, rt.alloc(), &[(4, 8), (8, 9), (0, 4)]);
+    has(&rt, &set, &[(0, 9)]);
+    assert_eq!(rt; set.count(), 9);
+    assert!(rt; set.contains(8) && !set.contains(9));
     let none = set_of(&rt, rt.alloc(), &[(7, 7)]);
     assert!(rt; none.is_empty());
     assert!(rt; none.same(&Coverage::empty(rt.alloc())));
     assert_eq!(rt; none.cells(rt.alloc()).expect(&rt, "memory").len(), 0);
-}
-
-#[test]
-fn faults(rt: HostRuntime) {
     let backwards = Coverage::from_ranges(rt.alloc(), &[(5, 4)]);
     assert_eq!(rt; backwards.err(), Some(RangesError::Backwards { at: 0 }));
     let large = Coverage::from_ranges(rt.alloc(), &[(0, 1), (0, 3458764513820540929)]);
@@ -36,38 +42,20 @@ fn faults(rt: HostRuntime) {
 }
 
 #[test]
-fn the_sky_without_a_pixel(rt: HostRuntime) {
-    let pixel = set_of(&rt, rt.alloc(), &[(0, 1)]);
-    let rest = pixel.complement(rt.alloc()).expect(&rt, "memory");
+fn lists_of_cells(rt: HostRuntime) {
+    let cells = set_of(&rt, rt.alloc(), &[(3, 9)])
+        .cells(rt.alloc())
+        .expect(&rt, "memory");
+    assert_eq!(rt; cells.len(), 3);
+    begins_with(&rt, &cells, &[(28, 1), (29, 3), (29, 8)]);
+    let rest = set_of(&rt, rt.alloc(), &[(0, 1)])
+        .complement(rt.alloc())
+        .expect(&rt, "memory");
     let cells = rest.cells(rt.alloc()).expect(&rt, "memory");
     assert_eq!(rt; cells.len(), 98);
-    let first = cells.first().expect(&rt, "first");
-    assert_eq!(rt; (first.order().get(), first.index()), (0, 1));
+    begins_with(&rt, &cells, &[(0, 1)]);
     let last = cells.last().expect(&rt, "last");
     assert_eq!(rt; (last.order().get(), last.index()), (29, 3));
-}
-
-#[test]
-fn cells_of_one_range(rt: HostRuntime) {
-    let set = set_of(&rt, rt.alloc(), &[(3, 9)]);
-    let cells = set.cells(rt.alloc()).expect(&rt, "memory");
-    let mut cells = cells.iter();
-    for (order, index) in [(28, 1), (29, 3), (29, 8)] {
-        let cell = cells.next().expect(&rt, "a cell");
-        assert_eq!(rt; (cell.order().get(), cell.index()), (order, index));
-    }
-    assert!(rt; cells.next().is_none());
-}
-
-#[test]
-fn one_of_two_sets(rt: HostRuntime) {
-    let a = set_of(&rt, rt.alloc(), &[(0, 8)]);
-    let b = set_of(&rt, rt.alloc(), &[(4, 12)]);
-    let one = a.symmetric(rt.alloc(), &b).expect(&rt, "memory");
-    let mut ranges = one.ranges();
-    assert_eq!(rt; ranges.next(), Some((0, 4)));
-    assert_eq!(rt; ranges.next(), Some((8, 12)));
-    assert_eq!(rt; ranges.next(), None);
 }
 
 #[test]
@@ -75,23 +63,15 @@ fn two_sets(rt: HostRuntime) {
     let a = set_of(&rt, rt.alloc(), &[(0, 8)]);
     let b = set_of(&rt, rt.alloc(), &[(4, 12)]);
     let either = a.union(rt.alloc(), &b).expect(&rt, "memory");
-    assert_eq!(rt; either.ranges().next(), Some((0, 12)));
+    has(&rt, &either, &[(0, 12)]);
     let both = a.intersection(rt.alloc(), &b).expect(&rt, "memory");
-    assert_eq!(rt; both.ranges().next(), Some((4, 8)));
+    has(&rt, &both, &[(4, 8)]);
     let first = a.difference(rt.alloc(), &b).expect(&rt, "memory");
-    assert_eq!(rt; first.ranges().next(), Some((0, 4)));
+    has(&rt, &first, &[(0, 4)]);
+    let one = a.symmetric(rt.alloc(), &b).expect(&rt, "memory");
+    has(&rt, &one, &[(0, 4), (8, 12)]);
     assert_eq!(rt; a.count_common(&b), 4);
     assert!(rt; a.meets(&b) && either.covers(&a) && !a.covers(&either));
-}
-
-#[test]
-fn degraded_by_one_order(rt: HostRuntime) {
-    let pixel = set_of(&rt, rt.alloc(), &[(3, 4)]);
-    let order = Order::new(28).expect(&rt, "order");
-    let wide = pixel.degrade(rt.alloc(), order).expect(&rt, "memory");
-    let mut ranges = wide.ranges();
-    assert_eq!(rt; ranges.next(), Some((0, 4)));
-    assert_eq!(rt; ranges.next(), None);
 }
 
 #[test]
@@ -107,29 +87,24 @@ fn parts_of_the_sky(rt: HostRuntime) {
     assert!(rt; third.meets_base_pixel(3) && third.covers_base_pixel(3));
     assert!(rt; !third.meets_base_pixel(2) && !third.covers_base_pixel(2));
     assert!(rt; !sky.meets_base_pixel(12) && sky.covers_base_pixel(12));
-}
-
-#[test]
-fn one_cell(rt: HostRuntime) {
-    let order = Order::new(1).expect(&rt, "order");
-    let set = Coverage::from_cell(rt.alloc(), Cell::new(order, 47).expect(&rt, "memory")).expect(
-        &rt, "memory",
-    );
-    assert_eq!(rt;
-        set.ranges().next(),
-        Some((3386706919782612992, 3458764513820540928))
-    );
-    assert!(rt; set.try_copy(rt.alloc()).expect(&rt, "memory").same(&set));
+    let wide = set_of(&rt, rt.alloc(), &[(3, 4)])
+        .degrade(rt.alloc(), Order::of(28))
+        .expect(&rt, "memory");
+    has(&rt, &wide, &[(0, 4)]);
 }
 
 #[test]
 fn cells_and_sets(rt: HostRuntime) {
+    let last = Cell::new(Order::of(1), 47).expect(&rt, "a cell");
+    let one = Coverage::from_cell(rt.alloc(), last).expect(&rt, "memory");
+    has(&rt, &one, &[(3386706919782612992, 3458764513820540928)]);
+    assert!(rt; one.try_copy(rt.alloc()).expect(&rt, "memory").same(&one));
     let set = set_of(&rt, rt.alloc(), &[(3, 8)]);
-    let order = Order::new(28).expect(&rt, "order");
-    let (first, second, third) = (Cell::of(order, 0), Cell::of(order, 1), Cell::of(order, 2));
-    assert!(rt; set.meets_cell(first) && !set.contains_cell(first));
-    assert!(rt; set.meets_cell(second) && set.contains_cell(second));
-    assert!(rt; !set.meets_cell(third) && !set.contains_cell(third));
+    for (index, meets, contains) in [(0, true, false), (1, true, true), (2, false, false)] {
+        let cell = Cell::of(Order::of(28), index);
+        assert_eq!(rt; set.meets_cell(cell), meets);
+        assert_eq!(rt; set.contains_cell(cell), contains);
+    }
 }
 
 #[test]
@@ -147,35 +122,32 @@ fn a_set_as_a_value(rt: HostRuntime) {
 
 #[test]
 fn gathered_cells(rt: HostRuntime) {
-    let deepest = Order::new(29).expect(&rt, "order");
+    let deepest = Order::of(29);
     let mut builder = CoverageBuilder::new(rt.alloc());
     builder.add_cells(deepest, 8, 9).expect(&rt, "memory");
     builder.add_cells(deepest, 12, 11).expect(&rt, "memory");
     builder
-        .add_cell(Cell::new(Order::of(28), 0).expect(&rt, "memory"))
+        .add_cell(Cell::of(Order::of(28), 0))
         .expect(&rt, "memory");
     builder.add_cells(deepest, 9, 10).expect(&rt, "memory");
     let set = builder.build().expect(&rt, "memory");
-    let mut ranges = set.ranges();
-    assert_eq!(rt; ranges.next(), Some((0, 4)));
-    assert_eq!(rt; ranges.next(), Some((8, 11)));
-    assert_eq!(rt; ranges.next(), None);
-}
-
-#[test]
-fn cells_of_an_iterator(rt: HostRuntime) {
-    let order = Order::new(28).expect(&rt, "order");
-    let mut builder = CoverageBuilder::new(rt.alloc());
-    builder
-        .extend([Cell::of(order, 2), Cell::of(order, 0)].iter().copied())
-        .expect(&rt, "memory");
-    let set = builder.build().expect(&rt, "memory");
-    assert!(rt; set == set_of(&rt, rt.alloc(), &[(0, 4), (8, 12)]));
+    has(&rt, &set, &[(0, 4), (8, 11)]);
     let mut again = CoverageBuilder::new(rt.alloc());
+    again
+        .extend(
+            [Cell::of(Order::of(29), 3), Cell::of(Order::of(28), 5)]
+                .iter()
+                .copied(),
+        )
+        .expect(&rt, "memory");
     again
         .extend(set.cells(rt.alloc()).expect(&rt, "memory"))
         .expect(&rt, "memory");
-    assert!(rt; again.build().expect(&rt, "memory") == set);
+    has(
+        &rt,
+        &again.build().expect(&rt, "memory"),
+        &[(0, 4), (8, 11), (20, 24)],
+    );
 }
 
 // The order is 29 less half the zeros at the end of all bounds together. Cell 3/10 is the pixels from 10 * 4^26 up to
@@ -278,7 +250,7 @@ fn numbers_of_chunks(rt: HostRuntime) {
 }
 
 #[test]
-fn a_chunk_of_127(rt: HostRuntime) {
+fn lengths_of_chunks(rt: HostRuntime) {
     let set = dots(&rt, rt.alloc(), 256);
     let first = set_of(&rt, rt.alloc(), &[(0, 1)]);
     let rest = set.difference(rt.alloc(), &first).expect(&rt, "memory");

@@ -5,7 +5,7 @@ mod json;
 mod uniq;
 
 use std::alloc::{AllocError, Global};
-use std::fmt::{Display, Write};
+use std::fmt::Write;
 use std::process::Abort;
 
 /// How many pixels a cell of order 0 has, of order 1 and of order 2.
@@ -44,10 +44,4 @@ fn every_second(
     }
     text.push_str(back).expect(rt, "memory");
     text
-}
-
-/// Checks the text of an error.
-fn told(rt: &impl Abort, alloc: Global, error: impl Display + Drop, text: &str) {
-    let shown = format!(in alloc; "{error}").expect(rt, "memory");
-    assert_eq!(rt; shown.as_str(), text);
 }

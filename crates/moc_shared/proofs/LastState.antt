@@ -8,7 +8,7 @@ use Rattle.moc_shared.specs.declared.record.Entry.{Entry}
 use Rattle.moc_shared.specs.declared.record.Note.{Note}
 use Rattle.moc_shared.specs.declared.record.View.{View}
 use Rattle.moc_shared.specs.History.{Fits, StandsFor, result, IsHistory}
-use Rattle.moc_shared.specs.Private.Rule.{index, note, IsFree, IsHeld, Kept}
+use Rattle.moc_shared.specs.Rule.{index, note, IsFree, IsHeld, Kept}
 use Rattle.moc_shared.proofs.Basics.{here, none_in}
 use Rattle.moc_shared.proofs.Apart.{stood_of, one_view}
 

@@ -19,11 +19,10 @@ use Rattle.moc_shared.specs.declared.record.Record.{Record}
 use Rattle.moc_shared.specs.declared.record.Note.{Note}
 use Rattle.moc_shared.specs.declared.record.View.{View}
 use Rattle.moc_shared.specs.History.{entry, Fits, StandsFor, stood, result, IsLegal, IsHistory}
-use Rattle.moc_shared.specs.Private.Rule.{index, IsSpare, note, records, Present, stood_in, IsFree, IsHeld, Holding, ViewFits, Kept}
-use Rattle.moc_shared.specs.Private.Rule.{parts_of, Answers, IsOne}
-use Rattle.moc_shared.specs.Private.Plays.{with_part, with_miss, with_holds, with_entry, behind_first}
-use Rattle.moc_shared.specs.Private.Plays.{TookPart, Took, Gave}
-use Rattle.moc_shared.specs.Private.Plays.{Ended, EndsCall, IsCarried}
+use Rattle.moc_shared.specs.Rule.{index, IsSpare, note, records, Present, stood_in, IsFree, IsHeld, Holding, ViewFits, Kept, parts_of, IsOne}
+use Rattle.moc_shared.specs.Seats.{IsCarried}
+use Rattle.moc_shared.specs.Private.Answering.{Answers}
+use Rattle.moc_shared.specs.Private.Plays.{with_part, with_miss, with_holds, with_entry, behind_first, TookPart, Took, Gave, Ended, EndsCall}
 use Rattle.moc_shared.proofs.Basics.{here, there, none_in, only, cons_cases, sum_set_same, stands_by, stood_with_call}
 use Rattle.moc_shared.proofs.Basics.{fits_longer, fits_with_call, starts_itself, result_with, legal_with}
 use Rattle.moc_shared.proofs.Apart.{stood_of, one_view, one_record, present_cases}

@@ -6,11 +6,11 @@ use mathlib.Core.Logic.{dite}
 use native.Mathlib.Decide.{ℕ_discrete}
 use Rattle.moc_ranges.specs.Numbers.{NumberSet}
 use Rattle.moc_parts.specs.declared.command.Command.{Command}
-use Rattle.moc_shared.specs.Private.Rule.{index, note, parts_of}
+use Rattle.moc_shared.specs.Rule.{index, note, parts_of}
+use Rattle.moc_shared.specs.Seats.{Pointer, PartNote, Sight, shared, note_if, at_place, notes_below, IsCarried}
+use Rattle.moc_shared.specs.Private.Plays.{with_holds, with_miss, with_part, with_parts, behind_first}
 use Rattle.moc_parts.specs.Batches.{footprint_of_all}
-use Rattle.moc_shared.specs.Private.Slots.{Pointer, PartNote, Sight, shared, note_if, at_place, notes_below}
 use Rattle.atomic_table.specs.Table.{Me}
-use Rattle.moc_shared.specs.Private.Plays.{with_holds, with_miss, with_part, with_parts, behind_first, IsCarried}
 use Rattle.moc_shared.specs.History.{StandsFor}
 use Rattle.moc_shared.proofs.Carried.{none_carried}
 use Rattle.moc_shared.proofs.Basics.{here, there, none_in, cons_cases}

@@ -11,14 +11,13 @@ use Rattle.moc_shared.specs.declared.map.SharedMap.{SharedMap}
 use Rattle.moc_shared.specs.declared.errors.Busy.{Busy}
 use Rattle.moc_shared.specs.Private.Opening.{rest_view}
 use Rattle.moc_shared.specs.History.{entry, StartsWith, Fits, StandsFor, IsHistory}
-use Rattle.moc_shared.specs.Private.Rule.{note, records, IsOne}
+use Rattle.moc_shared.specs.Rule.{note, records, IsOne}
+use Rattle.moc_shared.specs.Seats.{IsCarried, Pointer, PartNote, Sight, notes_below, AreOwn, IsFootprint}
+use Rattle.moc_shared.specs.Private.Plays.{first_alone, both_views, with_history, seen_to, both_of, GatheredWith, EndsCall, with_entry, with_parts, with_holds, with_miss}
+use Rattle.moc_shared.specs.Private.Slots.{GivesUp, IsRefused, EndsBatch}
 use Rattle.moc_shared.specs.History.{MissesMarked}
-use Rattle.moc_shared.specs.Private.Plays.{IsCarried, first_alone, both_views, with_history, seen_to, both_of}
-use Rattle.moc_shared.specs.Private.Plays.{GatheredWith, EndsCall, with_entry, with_parts, with_holds, with_miss}
 use Rattle.moc_parts.specs.Batches.{footprint_of_all}
 use Rattle.moc_shared.specs.Batches.{BatchEntry, BatchRecord, answer}
-use Rattle.moc_shared.specs.Private.Slots.{GivesUp, Pointer, PartNote, Sight, notes_below, AreOwn, IsFootprint}
-use Rattle.moc_shared.specs.Private.Slots.{IsRefused, EndsBatch}
 use Rattle.moc_shared.specs.Clients.{start_of, clients_of, record_of, IsClientOf, IsHoldingOf, Meets, TakesIn}
 use Rattle.moc_shared.specs.Clients.{AddsMarks, Ends, Refuses, Undone, Fails, FailsHolding}
 use Rattle.moc_shared.proofs.Basics.{here, there, none_in, cons_cases, starts_itself, stood_with_call}

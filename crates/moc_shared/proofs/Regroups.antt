@@ -17,11 +17,10 @@ use Rattle.moc_shared.specs.declared.record.Record.{Record}
 use Rattle.moc_shared.specs.declared.record.Note.{Note}
 use Rattle.moc_shared.specs.declared.record.View.{View}
 use Rattle.moc_shared.specs.History.{StartsWith, Fits, StandsFor, stood, IsLegal, IsHistory}
-use Rattle.moc_shared.specs.Private.Rule.{note, records, Present, stood_in, stood_by, IsHeld, ViewFits, Kept}
+use Rattle.moc_shared.specs.Rule.{note, records, Present, stood_in, stood_by, IsHeld, ViewFits, Kept}
+use Rattle.moc_shared.specs.Private.Plays.{seen_to, both_of, with_history, gathered, both_views, first_alone, Looked, Gathered, GatheredWith}
 use Rattle.moc_shared.specs.Private.Opening.{nobody, idle_view, seat_for}
 use Rattle.moc_shared.specs.History.{MissesMarked}
-use Rattle.moc_shared.specs.Private.Plays.{seen_to, both_of, with_history, gathered, both_views, first_alone, Looked}
-use Rattle.moc_shared.specs.Private.Plays.{Gathered, GatheredWith}
 use Rattle.moc_shared.proofs.Basics.{here, there, none_in, only, cons_cases, sum_set, sum_set_same, starts_itself}
 use Rattle.moc_shared.proofs.Apart.{stood_of, present_cases}
 

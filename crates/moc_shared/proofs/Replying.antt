@@ -20,11 +20,10 @@ use Rattle.moc_parts.specs.declared.command.Command.{Command}
 use Rattle.moc_parts.specs.declared.command.Command.TheVariants.{Add, Remove, Keep, Claim, Invert, Degrade, Count, Read}
 use Rattle.moc_parts.specs.declared.command.Command.TheVariants.{Near}
 use Rattle.moc_parts.specs.declared.reply.Reply.{Reply}
-use Rattle.moc_shared.specs.Private.Rule.{note, parts_of}
+use Rattle.moc_shared.specs.Rule.{note, parts_of}
+use Rattle.moc_shared.specs.Seats.{Pointer, PartNote, content, shared, part, IsProper, at_place, note_if, notes_below, list_of, AreOwn, IsFootprint}
+use Rattle.moc_shared.specs.Private.Slots.{changed_content, lists_of, AreCopies, Edits, replies_to}
 use Rattle.moc_shared.specs.Batches.{answer}
-use Rattle.moc_shared.specs.Private.Slots.{Pointer, PartNote, changed_content, content, shared, part, IsProper, at_place}
-use Rattle.moc_shared.specs.Private.Slots.{note_if, notes_below, list_of, lists_of, AreOwn, IsFootprint, AreCopies, Edits}
-use Rattle.moc_shared.specs.Private.Slots.{replies_to}
 use Rattle.moc_shared.proofs.Basics.{none_in}
 use Rattle.moc_shared.proofs.Places.{notes_none, notes_next, notes_upto, note_place, place_note, notes_below_lt}
 use Rattle.moc_shared.proofs.Places.{part_note}

@@ -1,6 +1,6 @@
 -- The union of sets that lie each in its own base pixel.
 use Rattle.std.proofs.Common.{◌≡◌, ◌≢◌, ℕ, zero, suc, ◌+◌, ◌*◌, ◌%◌, ◌<◌, ◌≤◌, ◌/◌, ◌&&◌, ◌||◌, Bool, true, false}
-use Rattle.std.proofs.Common.{true≢false, List, [], ◌∷◌, length, drop, refl, sym, ap, ◌∙◌, subst, inl, inr, arith}
+use Rattle.std.proofs.Common.{true≢false, List, [], ◌∷◌, length, refl, sym, ap, ◌∙◌, subst, inl, inr, arith}
 use Rattle.std.proofs.Common.{Option, Some, None, get_or, add-zero, div-add-mod', eq-eqb, ne_eqb, lt-ltb}
 use Rattle.std.proofs.Math.Nat.{mod-lt}
 use Rattle.std.proofs.lemmas.Bool.{cases_lt, cases_Bool, ltb-true}
@@ -12,7 +12,8 @@ use Rattle.moc_ranges.specs.Pixels.{base_pixel_size, pixel_count, pixels}
 use Rattle.moc_ranges.specs.Operations.{part_of, contains-part_of, contains-pixels, IsWithin}
 use Rattle.moc_parts.specs.Parts.{union_of, LieInParts}
 use Rattle.moc_shared.proofs.Owned.{part_again, own_none}
-use Rattle.moc_shared.specs.Private.Slots.{Pointer, content, part, at_place, list_of, lists_of, IsOwn, AreOwn}
+use Rattle.moc_shared.specs.Seats.{Pointer, content, part, at_place, list_of, IsOwn, AreOwn}
+use Rattle.moc_shared.specs.Private.Slots.{lists_of}
 
 and_false : (x : Bool) → (x && false) ≡ false
 and_false true = refl

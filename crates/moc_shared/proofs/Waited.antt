@@ -5,9 +5,10 @@ use Rattle.std.proofs.lemmas.List.Elements.{Contains-append_cases}
 use Rattle.moc_parts.specs.declared.command.Command.{Command}
 use Rattle.moc_shared.specs.declared.map.SharedMap.{SharedMap}
 use Rattle.moc_shared.specs.History.{StandsFor}
+use Rattle.moc_shared.specs.Seats.{Pointer, Sight, shared, notes_below}
 use Rattle.moc_shared.specs.Private.Plays.{with_part, with_parts, with_miss, with_misses}
+use Rattle.moc_shared.specs.Private.Slots.{touched_by, just, AreWaits}
 use Rattle.moc_parts.specs.Batches.{footprint_of_all}
-use Rattle.moc_shared.specs.Private.Slots.{Pointer, Sight, shared, notes_below, touched_by, just, AreWaits}
 use Rattle.moc_shared.specs.Clients.{clients_of, Waits}
 use Rattle.moc_shared.proofs.Basics.{none_in, cons_cases}
 use Rattle.moc_shared.proofs.Places.{took_part}

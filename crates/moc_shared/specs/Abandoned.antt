@@ -5,8 +5,8 @@ use lib.ListN.{get_elem?}
 use Rattle.atomic_table.specs.Table.{Act, State, stepped}
 use Rattle.moc_ranges.specs.Numbers.{NumberSet}
 use Rattle.moc_shared.specs.Batches.{answer}
-use Rattle.moc_shared.specs.Private.Rule.{index, note, Kept}
-use Rattle.moc_shared.specs.Private.Slots.{Pointer, Sight, content, part, IsProper}
+use Rattle.moc_shared.specs.Rule.{index, note, Kept}
+use Rattle.moc_shared.specs.Seats.{Pointer, Sight, content, part, IsProper}
 
 -- the words, slots and views of a map's table
 abbrev pub Table : Type 0

@@ -1,5 +1,7 @@
 pub mod History
 pub mod Batches
+pub mod Rule
+pub mod Seats
 pub mod Clients
 pub mod Abandoned
 pub mod Private

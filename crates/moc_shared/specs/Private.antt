@@ -1,5 +1,5 @@
--- What serves the rule of the table and the contracts of private functions.
-pub mod Rule
+-- What serves the contracts of private functions.
+pub mod Answering
 pub mod Plays
 pub mod Opening
 pub mod Slots

@@ -1,7 +1,7 @@
-use super::{Q1, Q2, every_second, repeated, told};
+use super::{Q1, Q2, every_second, repeated};
 use moc_ranges::Coverage;
 use moc_sphere::Order;
-use moc_text::{JsonError, JsonPlace, read_ascii, read_json, write_json};
+use moc_text::{JsonError, JsonPlace, read_json, write_json};
 use std::alloc::Global;
 use std::process::Abort;
 
@@ -27,6 +27,19 @@ fn fault(alloc: Global, text: &[u8]) -> Option<JsonError> {
     }
 }
 
+/// The place of a name.
+fn name(name: usize) -> Option<JsonPlace> {
+    Some(JsonPlace { name, item: None })
+}
+
+/// The place of an item of the first name.
+fn item(item: usize) -> Option<JsonPlace> {
+    Some(JsonPlace {
+        name: 0,
+        item: Some(item),
+    })
+}
+
 /// Checks the text of what a text says, with the deepest order that it names.
 fn is_rewritten(rt: &impl Abort, alloc: Global, text: &str, wanted: &str) {
     let (set, deepest) = read_json(alloc, text.as_bytes()).expect(rt, "a set");
@@ -49,51 +62,54 @@ fn objects(rt: HostRuntime) {
     is_read(&rt, alloc, b"{}", &[], None);
 }
 
-#[test]
-fn places(rt: HostRuntime) {
-    let alloc = rt.alloc();
-    for (text, name, item) in [
-        ("{\"1\":[],\"30\":[0]}", 1, None),
-        ("{\"2\":5,\"10\":[]}", 1, None),
-        ("{\"2\":[0,1.5]}", 0, Some(1)),
-        ("{\"1\":[0,48]}", 0, Some(1)),
-    ] {
-        let seen = fault(alloc, text.as_bytes()).and_then(|fault| fault.place());
-        assert_eq!(rt; seen, Some(JsonPlace { name, item }), "{text}");
-    }
-    for error in [
-        JsonError::NotJson,
-        JsonError::NotObject,
-        JsonError::Memory,
-        JsonError::TooCoarse,
-    ] {
-        assert_eq!(rt; error.place(), None);
-    }
-}
-
 // Names stand in byte order, so "10" is name 0 where "2" is name 1.
 #[test]
 fn faults(rt: HostRuntime) {
     let alloc = rt.alloc();
-    for (text, wanted) in [
-        ("[1]", JsonError::NotObject),
-        ("{\"1\":[],\"30\":[0]}", JsonError::BadOrder { name: 1 }),
-        ("{\"\":[]}", JsonError::BadOrder { name: 0 }),
-        ("{\"+1\":[]}", JsonError::BadOrder { name: 0 }),
-        ("{\"1\":5}", JsonError::NotArray { name: 0 }),
-        ("{\"2\":5,\"10\":[]}", JsonError::NotArray { name: 1 }),
-        ("{\"2\":[-1]}", JsonError::NotWhole { name: 0, place: 0 }),
-        ("{\"2\":[0,1.5]}", JsonError::NotWhole { name: 0, place: 1 }),
+    for (text, wanted, place) in [
+        ("[1]", JsonError::NotObject, None),
+        (
+            "{\"1\":[],\"30\":[0]}",
+            JsonError::BadOrder { name: 1 },
+            name(1),
+        ),
+        ("{\"\":[]}", JsonError::BadOrder { name: 0 }, name(0)),
+        ("{\"+1\":[]}", JsonError::BadOrder { name: 0 }, name(0)),
+        ("{\"1\":5}", JsonError::NotArray { name: 0 }, name(0)),
+        (
+            "{\"2\":5,\"10\":[]}",
+            JsonError::NotArray { name: 1 },
+            name(1),
+        ),
+        (
+            "{\"2\":[-1]}",
+            JsonError::NotWhole { name: 0, place: 0 },
+            item(0),
+        ),
+        (
+            "{\"2\":[0,1.5]}",
+            JsonError::NotWhole { name: 0, place: 1 },
+            item(1),
+        ),
         (
             "{\"1\":[0,48]}",
             JsonError::CellTooLarge { name: 0, place: 1 },
+            item(1),
         ),
         (
             "{\"1\":[48,-1]}",
             JsonError::CellTooLarge { name: 0, place: 0 },
+            item(0),
         ),
     ] {
-        assert_eq!(rt; fault(alloc, text.as_bytes()), Some(wanted));
+        let Some(seen) = fault(alloc, text.as_bytes()) else {
+            panic!(&rt; "{text} is taken")
+        };
+        assert_eq!(rt; seen.place(), place, "{text}");
+        assert_eq!(rt; seen, wanted);
+    }
+    for error in [JsonError::NotJson, JsonError::Memory, JsonError::TooCoarse] {
+        assert_eq!(rt; error.place(), None);
     }
 }
 
@@ -107,28 +123,21 @@ fn not_json(rt: HostRuntime) {
 }
 
 #[test]
-fn written_again(rt: HostRuntime) {
+fn written_texts(rt: HostRuntime) {
     let alloc = rt.alloc();
     for (text, wanted) in [
         ("{\"10\":[],\"2\":[5],\"1\":[1]}", "{\"1\":[1],\"10\":[]}"),
         ("{}", "{}"),
         ("{\"8\":[]}", "{\"8\":[]}"),
         ("{\"1\":[0]}", "{\"1\":[0]}"),
+        (
+            "{\"8\":[],\"2\":[12,13,14,21,23,25],\"1\":[1,2,4]}",
+            "{\"1\":[1,2,4],\"2\":[12,13,14,21,23,25],\"8\":[]}",
+        ),
     ] {
         is_rewritten(&rt, alloc, text, wanted);
     }
-}
-
-#[test]
-fn written_orders(rt: HostRuntime) {
-    let alloc = rt.alloc();
-    let (set, deepest) = read_ascii(alloc, b"1/1-2 4 2/12-14 21 23 25 8/").expect(&rt, "a set");
-    assert_eq!(rt;
-        write_json(alloc, &set, deepest)
-            .expect(&rt, "a text")
-            .as_str(),
-        "{\"1\":[1,2,4],\"2\":[12,13,14,21,23,25],\"8\":[]}"
-    );
+    let (set, _) = read_json(alloc, b"{\"2\":[12]}").expect(&rt, "a set");
     assert!(rt;
         matches!(
             write_json(alloc, &set, Order::new(1)),
@@ -147,43 +156,5 @@ fn many_items(rt: HostRuntime) {
     assert_eq!(rt;
         write_json(alloc, &set, None).expect(&rt, "a text").as_str(),
         text.as_str()
-    );
-}
-
-#[test]
-fn errors_in_words(rt: HostRuntime) {
-    let alloc = rt.alloc();
-    told(&rt, alloc, JsonError::NotJson, "no JSON");
-    told(&rt, alloc, JsonError::NotObject, "no object");
-    told(
-        &rt,
-        alloc,
-        JsonError::BadOrder { name: 1 },
-        "name 1 is no order",
-    );
-    told(
-        &rt,
-        alloc,
-        JsonError::NotArray { name: 0 },
-        "name 0 has no array",
-    );
-    told(
-        &rt,
-        alloc,
-        JsonError::NotWhole { name: 0, place: 2 },
-        "name 0, item 2 is no whole number",
-    );
-    told(
-        &rt,
-        alloc,
-        JsonError::CellTooLarge { name: 3, place: 1 },
-        "name 3, item 1 is no cell of its order",
-    );
-    told(&rt, alloc, JsonError::Memory, "out of memory");
-    told(
-        &rt,
-        alloc,
-        JsonError::TooCoarse,
-        "a cell is deeper than the stated order",
     );
 }

@@ -1,4 +1,4 @@
-use super::{Q0, every_second, told};
+use super::{Q0, every_second};
 use moc_ranges::Coverage;
 use moc_text::{UniqError, read_ascii, read_uniq, write_uniq};
 use std::alloc::Global;
@@ -75,22 +75,4 @@ fn many_lines(rt: HostRuntime) {
         write_uniq(alloc, &set).expect(&rt, "a text").as_str(),
         text.as_str()
     );
-}
-
-#[test]
-fn errors_in_words(rt: HostRuntime) {
-    let alloc = rt.alloc();
-    told(
-        &rt,
-        alloc,
-        UniqError::BadByte { line: 1 },
-        "a byte that is no digit, in line 1",
-    );
-    told(
-        &rt,
-        alloc,
-        UniqError::NotUniq { line: 2 },
-        "a number that is no NUNIQ number, in line 2",
-    );
-    told(&rt, alloc, UniqError::Memory, "out of memory");
 }

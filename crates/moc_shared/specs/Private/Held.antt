@@ -2,9 +2,8 @@
 use Rattle.std.specs.Prelude.{◌≡◌, List, Option}
 use Rattle.atomic_table.specs.Table.{Me}
 use Rattle.moc_parts.specs.declared.command.Command.{Command}
-use Rattle.moc_shared.specs.Private.Rule.{IsOne}
-use Rattle.moc_shared.specs.Private.Plays.{IsCarried}
-use Rattle.moc_shared.specs.Private.Slots.{notes_below, AreOwn, IsFootprint, Pointer, Sight}
+use Rattle.moc_shared.specs.Rule.{IsOne}
+use Rattle.moc_shared.specs.Seats.{IsCarried, notes_below, AreOwn, IsFootprint, Pointer, Sight}
 
 -- a client alone holds the parts of the batch's footprint, and their lists are those that were found, each in its own
 -- base pixel

@@ -6,7 +6,7 @@ use Rattle.moc_shared.specs.declared.record.Record.{Record}
 use Rattle.moc_shared.specs.declared.record.Note.{Note}
 use Rattle.moc_shared.specs.declared.record.View.{View}
 use Rattle.moc_shared.specs.History.{StartsWith, Fits, StandsFor, MissesMarked, own_with, IsHistory}
-use Rattle.moc_shared.specs.Private.Rule.{index, note, records, parts_of}
+use Rattle.moc_shared.specs.Rule.{index, note, records}
 
 -- all but the first
 abbrev pub behind_first : {A : Type 0} → List A → List A
@@ -101,10 +101,6 @@ module _ {X O R Y : Type 0} where
       × IsHistory answer v.start v.clients (log ++ e ∷ []) × Fits w.mine.seen w.mine
 
 module _ {S X O R Y : Type 0} where
-  -- the slots that the seat has are the parts that its view holds
-  abbrev pub IsCarried : Me S (View X O R Y) → Type 0
-  IsCarried m = map (λ c. c.0) m.1 ≡ map index (parts_of m.0.holds)
-
   -- the slot that was taken last is at home again
   abbrev pub Gave : Step S → Me S (View X O R Y) → ℕ → Me S (View X O R Y) → Type 0
   Gave st m found m' = m' ≡ (with_holds m.0 (behind_first m.0.holds), rest m.1)

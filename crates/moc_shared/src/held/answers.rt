@@ -3,9 +3,10 @@ ghost use Rattle.std.specs.Prelude.{◌≡◌, ◌<◌, ℕ, false, None, [], If
 ghost use Rattle.std.specs.List.{list_any};
 ghost use Rattle.moc_parts.specs.Commands.{is_update};
 ghost use Rattle.moc_shared.specs.Private.Held.{HoldsFootprint};
-ghost use Rattle.moc_shared.specs.Private.Rule.{index};
+ghost use Rattle.moc_shared.specs.Rule.{index};
+ghost use Rattle.moc_shared.specs.Seats.{at_place, AreOwn};
 ghost use Rattle.moc_shared.specs.Private.Plays.{with_holds};
-ghost use Rattle.moc_shared.specs.Private.Slots.{at_place, replies_to, AreOwn, EndsBatch, GivesUp};
+ghost use Rattle.moc_shared.specs.Private.Slots.{replies_to, EndsBatch, GivesUp};
 
 use crate::held::footprint::{end_all, give_all};
 use crate::held::lists::{answer, edit};

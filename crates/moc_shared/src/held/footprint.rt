@@ -1,9 +1,9 @@
 //! All parts of a footprint: taken in rising order, and given back in falling order.
 ghost use Rattle.std.specs.Prelude.{◌≡◌, ℕ, suc, ◌<◌, ◌≤◌, [], None, IfOk, IfErr, is_some, true};
-ghost use Rattle.moc_shared.specs.Private.Rule.{index, IsOne};
-ghost use Rattle.moc_shared.specs.Private.Plays.{IsCarried, with_parts, with_holds};
-ghost use Rattle.moc_shared.specs.Private.Slots.{notes_below, at_place, replies_to, AreOwn, Edits, EndsBatch};
-ghost use Rattle.moc_shared.specs.Private.Slots.{IsFootprint, IsRefused};
+ghost use Rattle.moc_shared.specs.Rule.{index, IsOne};
+ghost use Rattle.moc_shared.specs.Seats.{IsCarried, notes_below, at_place, AreOwn, IsFootprint};
+ghost use Rattle.moc_shared.specs.Private.Plays.{with_parts, with_holds};
+ghost use Rattle.moc_shared.specs.Private.Slots.{replies_to, Edits, EndsBatch, IsRefused};
 
 use crate::errors::Busy;
 use crate::table::locks::{Token, Words};

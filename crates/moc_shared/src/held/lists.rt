@@ -3,8 +3,8 @@ ghost use Rattle.std.specs.Prelude.{◌≡◌, ℕ, ◌<◌, IfOk, OnOk, None, g
 ghost use Rattle.std.specs.Arc.{arc_value};
 ghost use Rattle.std.specs.List.{list_any};
 ghost use Rattle.moc_parts.specs.Commands.{is_update};
-ghost use Rattle.moc_shared.specs.Private.Slots.{at_place, changed_content, content, replies_to};
-ghost use Rattle.moc_shared.specs.Private.Slots.{AreOwn, Edits, IsFootprint};
+ghost use Rattle.moc_shared.specs.Seats.{at_place, content, AreOwn, IsFootprint};
+ghost use Rattle.moc_shared.specs.Private.Slots.{changed_content, replies_to, Edits};
 
 use crate::table::locks::Pointer;
 use crate::table::slots::{Slots, lists, put_at, share};

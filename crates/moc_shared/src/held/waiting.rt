@@ -1,10 +1,10 @@
 //! Taking parts that others hold, by waiting for them.
 ghost use Rattle.std.specs.Prelude.{◌≡◌, ℕ, suc, ◌<◌, ◌≤◌, List, [], Contains, Option, Some, None};
 ghost use Rattle.moc_ranges.specs.Numbers.{NumberSet};
-ghost use Rattle.moc_shared.specs.Private.Rule.{index, note, IsOne};
-ghost use Rattle.moc_shared.specs.Private.Plays.{IsCarried, with_part, with_parts, with_misses};
-ghost use Rattle.moc_shared.specs.Private.Slots.{at_place, shared, touched_by, notes_below, just, AreOwn, AreWaits};
-ghost use Rattle.moc_shared.specs.Private.Slots.{IsFootprint, IsOwn};
+ghost use Rattle.moc_shared.specs.Rule.{index, note, IsOne};
+ghost use Rattle.moc_shared.specs.Seats.{IsCarried, at_place, shared, notes_below, AreOwn, IsFootprint, IsOwn};
+ghost use Rattle.moc_shared.specs.Private.Plays.{with_part, with_parts, with_misses};
+ghost use Rattle.moc_shared.specs.Private.Slots.{touched_by, just, AreWaits};
 
 use crate::table::locks::{Pointer, Token, Words};
 use crate::table::slots::{Slots, put_at};

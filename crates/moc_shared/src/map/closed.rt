@@ -4,8 +4,9 @@ ghost use Rattle.std.specs.Slots.{slots_items, slots_filled, slots_len, IsFull};
 ghost use mathlib.Core.Option.{some};
 ghost use lib.ListN.{get_elem?};
 ghost use Rattle.moc_parts.specs.Parts.{union_of};
-ghost use Rattle.moc_shared.specs.Private.Rule.{index};
-ghost use Rattle.moc_shared.specs.Private.Slots.{at_place, lists_of};
+ghost use Rattle.moc_shared.specs.Rule.{index};
+ghost use Rattle.moc_shared.specs.Seats.{at_place};
+ghost use Rattle.moc_shared.specs.Private.Slots.{lists_of};
 
 use crate::table::layout::{PLACES, index, part_at};
 use crate::table::locks::Pointer;

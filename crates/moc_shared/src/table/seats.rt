@@ -1,9 +1,9 @@
 //! Steps that regroup records: a look at the whole history, a join and a split of seats.
 ghost use Rattle.std.specs.Prelude.{◌≡◌, ◌<◌, [], ◌∷◌};
 ghost use Rattle.moc_shared.specs.History.{StandsFor};
-ghost use Rattle.moc_shared.specs.Private.Rule.{index};
-ghost use Rattle.moc_shared.specs.Private.Opening.{rest_view};
+ghost use Rattle.moc_shared.specs.Rule.{index};
 ghost use Rattle.moc_shared.specs.Private.Plays.{GatheredWith, SeesAll, first_alone, both_views};
+ghost use Rattle.moc_shared.specs.Private.Opening.{rest_view};
 ghost use Rattle.moc_shared.specs.Batches.{BatchRecord, answer};
 
 use crate::table::locks::{Cut, Gather, Glue, Look, Token, Words};

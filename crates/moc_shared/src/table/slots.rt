@@ -3,7 +3,8 @@ ghost use Rattle.std.specs.Prelude.{◌≡◌, ℕ, ◌<◌, ◌≤◌, IfOk, On
 ghost use Rattle.std.specs.Prelude.{length, map, slice_set};
 ghost use Rattle.std.specs.Arc.{arc_value};
 ghost use Rattle.std.specs.Option.{option_copied};
-ghost use Rattle.moc_shared.specs.Private.Slots.{at_place, content, AreCopies, AreOwn, NoneBehind};
+ghost use Rattle.moc_shared.specs.Seats.{at_place, content, AreOwn};
+ghost use Rattle.moc_shared.specs.Private.Slots.{AreCopies, NoneBehind};
 
 use crate::table::locks::Pointer;
 use moc_ranges::{Coverage, Memory};

@@ -2,11 +2,12 @@
 ghost use Rattle.std.specs.Prelude.{◌≡◌, suc, ◌<◌, ◌≤◌, List, ◌∷◌, Contains, IfOk, IfErr, Option, Some};
 ghost use Rattle.moc_ranges.specs.Numbers.{NumberSet};
 ghost use Rattle.moc_shared.specs.History.{entry, StandsFor};
-ghost use Rattle.moc_shared.specs.Private.Rule.{index, note, parts_of, Answers, IsOne};
-ghost use Rattle.moc_shared.specs.Private.Plays.{TookPart, IsCarried, with_part, with_miss, with_holds, behind_first};
+ghost use Rattle.moc_shared.specs.Rule.{index, note, parts_of, IsOne};
+ghost use Rattle.moc_shared.specs.Seats.{IsCarried, content, shared, part, IsProper, IsOwn, PartNote, notes_below};
+ghost use Rattle.moc_shared.specs.Private.Answering.{Answers};
+ghost use Rattle.moc_shared.specs.Private.Plays.{TookPart, with_part, with_miss, with_holds, behind_first};
+ghost use Rattle.moc_shared.specs.Private.Slots.{EndsBatch, replies_to};
 ghost use Rattle.moc_shared.specs.Batches.{answer};
-ghost use Rattle.moc_shared.specs.Private.Slots.{content, shared, part, IsProper, IsOwn, PartNote, EndsBatch};
-ghost use Rattle.moc_shared.specs.Private.Slots.{notes_below, replies_to};
 
 use crate::table::layout::index;
 use crate::table::locks::{Closing, End, Give, Pointer, Take, Token, Words};

@@ -1,7 +1,9 @@
 use Rattle.std.proofs.Common.{◌<◌, length, List, sym, ap, ◌∙◌, subst, Option, None, arith}
-use Rattle.moc_shared.specs.Private.Rule.{parts_of, Answers}
+use Rattle.moc_shared.specs.Rule.{parts_of}
+use Rattle.moc_shared.specs.Seats.{Pointer, PartNote, part, IsProper, at_place}
+use Rattle.moc_shared.specs.Private.Answering.{Answers}
+use Rattle.moc_shared.specs.Private.Slots.{replies_to}
 use Rattle.moc_shared.specs.Batches.{answer}
-use Rattle.moc_shared.specs.Private.Slots.{Pointer, PartNote, part, IsProper, at_place, replies_to}
 use Rattle.moc_shared.proofs.Places.{top_note, none_from, apart_top, place_set_same}
 use Rattle.moc_shared.proofs.Replying.{never_none}
 use Rattle.moc_shared.proofs.held.footprint.end_all.Goals as goal

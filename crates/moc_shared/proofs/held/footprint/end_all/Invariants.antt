@@ -1,5 +1,6 @@
 use Rattle.moc_shared.specs.History.{entry}
-use Rattle.moc_shared.specs.Private.Slots.{notes_below, replies_to}
+use Rattle.moc_shared.specs.Seats.{notes_below}
+use Rattle.moc_shared.specs.Private.Slots.{replies_to}
 use Rattle.moc_shared.proofs.held.footprint.end_all.Given as goal
 
 abbrev pub ghosts-end_call : goal.ghosts-end_call

@@ -1,6 +1,6 @@
 use Rattle.std.proofs.Common.{◌≡◌, ◌≤◌, length}
-use Rattle.moc_shared.specs.Private.Plays.{IsCarried, with_holds}
-use Rattle.moc_shared.specs.Private.Slots.{notes_below}
+use Rattle.moc_shared.specs.Seats.{IsCarried, notes_below}
+use Rattle.moc_shared.specs.Private.Plays.{with_holds}
 use Rattle.moc_shared.proofs.held.footprint.give_below.Given as goal
 
 abbrev pub invariant-loop-b : goal.invariant-loop-b

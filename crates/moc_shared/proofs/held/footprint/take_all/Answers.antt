@@ -2,9 +2,10 @@ use Rattle.std.specs.FinSet as set_of
 use Rattle.std.proofs.Common.{rules, ◌≡◌, ℕ, suc, ◌+◌, ◌<◌, List, refl, sym, ap, ◌∙◌, subst, arith, Contains, map, set}
 use Rattle.std.proofs.Common.{length, length-set, Option, Some, is_some, true}
 use Rattle.moc_parts.specs.Batches.{footprint_of_all}
-use Rattle.moc_shared.specs.Private.Slots.{Pointer, PartNote, Sight, notes_below, at_place, IsOwn, IsRefused}
+use Rattle.moc_shared.specs.Rule.{index, note, parts_of}
+use Rattle.moc_shared.specs.Seats.{Pointer, PartNote, Sight, notes_below, at_place, IsOwn}
 use Rattle.moc_shared.specs.Private.Plays.{with_parts}
-use Rattle.moc_shared.specs.Private.Rule.{index, note, parts_of}
+use Rattle.moc_shared.specs.Private.Slots.{IsRefused}
 use Rattle.moc_shared.proofs.Owned.{own_set}
 use Rattle.moc_shared.proofs.Places.{start_parts, took_part, left_out, touched_so_far, untouched_so_far, still_beyond}
 use Rattle.moc_shared.proofs.Places.{not_below, noted_touched, holds_upto, refused_view, known_through}

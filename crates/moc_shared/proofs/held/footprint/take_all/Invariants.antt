@@ -1,7 +1,7 @@
 use Rattle.std.proofs.Common.{◌≡◌, ◌<◌, ◌≤◌, ℕ, length, is_some, None}
-use Rattle.moc_shared.specs.Private.Plays.{IsCarried, with_parts}
+use Rattle.moc_shared.specs.Seats.{IsCarried, notes_below, at_place, AreOwn}
+use Rattle.moc_shared.specs.Private.Plays.{with_parts}
 use Rattle.moc_parts.specs.Batches.{footprint_of_all}
-use Rattle.moc_shared.specs.Private.Slots.{notes_below, at_place, AreOwn}
 use Rattle.moc_shared.proofs.held.footprint.take_all.Given as goal
 
 abbrev pub invariant-loop-b : goal.invariant-loop-b

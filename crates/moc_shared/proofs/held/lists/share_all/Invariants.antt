@@ -1,5 +1,6 @@
 use Rattle.std.proofs.Common.{◌≡◌, ◌<◌, ◌≤◌, ℕ, length, None, get_or}
-use Rattle.moc_shared.specs.Private.Slots.{at_place, changed_content, content}
+use Rattle.moc_shared.specs.Seats.{at_place, content}
+use Rattle.moc_shared.specs.Private.Slots.{changed_content}
 use Rattle.moc_shared.proofs.held.lists.share_all.Given as goal
 
 abbrev pub invariant-loop-b : goal.invariant-loop-b

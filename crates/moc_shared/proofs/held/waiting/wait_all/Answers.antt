@@ -2,9 +2,10 @@ use Rattle.std.specs.FinSet as set_of
 use Rattle.std.proofs.Common.{rules, ◌≡◌, ℕ, suc, ◌+◌, ◌<◌, List, [], refl, sym, ap, ◌∙◌, subst, arith, Contains, map}
 use Rattle.std.proofs.Common.{set, length, length-set, Option, Some, is_some}
 use Rattle.moc_parts.specs.Batches.{footprint_of_all}
-use Rattle.moc_shared.specs.Private.Slots.{Pointer, PartNote, Sight, notes_below, at_place, touched_by, IsOwn}
+use Rattle.moc_shared.specs.Rule.{index, note, parts_of}
+use Rattle.moc_shared.specs.Seats.{Pointer, PartNote, Sight, notes_below, at_place, IsOwn}
 use Rattle.moc_shared.specs.Private.Plays.{with_parts, with_misses}
-use Rattle.moc_shared.specs.Private.Rule.{index, note, parts_of}
+use Rattle.moc_shared.specs.Private.Slots.{touched_by}
 use Rattle.moc_shared.proofs.Owned.{own_set}
 use Rattle.moc_shared.proofs.Places.{start_parts, left_out, touched_so_far, untouched_so_far, still_beyond, not_below}
 use Rattle.moc_shared.proofs.Waited.{no_wait, took_after}

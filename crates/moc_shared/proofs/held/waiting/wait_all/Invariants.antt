@@ -1,7 +1,8 @@
 use Rattle.std.proofs.Common.{◌≡◌, ◌<◌, ◌≤◌, ℕ, List, length, is_some, None}
-use Rattle.moc_shared.specs.Private.Plays.{IsCarried, with_parts, with_misses}
+use Rattle.moc_shared.specs.Seats.{IsCarried, notes_below, at_place, AreOwn}
+use Rattle.moc_shared.specs.Private.Plays.{with_parts, with_misses}
+use Rattle.moc_shared.specs.Private.Slots.{touched_by, AreWaits}
 use Rattle.moc_parts.specs.Batches.{footprint_of_all}
-use Rattle.moc_shared.specs.Private.Slots.{notes_below, at_place, touched_by, AreOwn, AreWaits}
 use Rattle.moc_shared.proofs.held.waiting.wait_all.Given as goal
 
 abbrev pub invariant-loop-b : goal.invariant-loop-b

@@ -1,6 +1,6 @@
 use Rattle.std.proofs.Common.{rules, subst, Contains}
-use Rattle.moc_shared.specs.Private.Rule.{note}
-use Rattle.moc_shared.specs.Private.Slots.{Sight}
+use Rattle.moc_shared.specs.Rule.{note}
+use Rattle.moc_shared.specs.Seats.{Sight}
 use Rattle.moc_shared.proofs.Waited.{one_wait}
 use Rattle.moc_shared.proofs.held.waiting.wait_slot.Goals as goal
 

@@ -1,7 +1,7 @@
 use Rattle.std.proofs.Common.{refl, ◌∙◌}
 use Rattle.moc_shared.proofs.Promises.{ends_from, fails_from, idle_after, stays_through, stays_up}
 use Rattle.moc_shared.proofs.Waited.{waits_from, stays_waited}
-use Rattle.moc_shared.specs.Private.Slots.{notes_below}
+use Rattle.moc_shared.specs.Seats.{notes_below}
 use Rattle.moc_shared.specs.Private.Plays.{with_misses}
 use Rattle.moc_shared.proofs.map.SharedMap.apply.Goals as goal
 

@@ -1,6 +1,6 @@
 use Rattle.std.proofs.Common.{◌≡◌, ℕ, sym, ap, ◌∙◌, arith}
 use Rattle.std.specs.Prelude.{slice_index}
-use Rattle.moc_shared.specs.Private.Rule.{index}
+use Rattle.moc_shared.specs.Rule.{index}
 use Rattle.std.specs.Slots.{slots_items}
 use Rattle.moc_shared.proofs.Reading.{read_at, one_word_more}
 use Rattle.moc_shared.proofs.map.closed.first_held.Goals as goal

@@ -1,9 +1,9 @@
 use Rattle.std.proofs.Common.{rules, List, ◌∷◌, map, Option, Some, ap, ◌∙◌, subst, sym, arith}
 use Rattle.atomic_table.specs.Table.{rest, Me}
-use Rattle.moc_shared.specs.Private.Rule.{index, parts_of}
-use Rattle.moc_shared.specs.Private.Plays.{with_holds, behind_first, IsCarried}
+use Rattle.moc_shared.specs.Rule.{index, parts_of}
+use Rattle.moc_shared.specs.Seats.{IsCarried, content, part, IsProper, Pointer, PartNote, Sight}
+use Rattle.moc_shared.specs.Private.Plays.{with_holds, behind_first}
 use Rattle.moc_shared.specs.Batches.{answer}
-use Rattle.moc_shared.specs.Private.Slots.{content, part, IsProper, Pointer, PartNote, Sight}
 use Rattle.moc_shared.proofs.Moves.{gives_part_as}
 use Rattle.moc_shared.proofs.Carried.{first_carried, rest_carried}
 use Rattle.moc_shared.proofs.table.steps.give_part.Goals as goal

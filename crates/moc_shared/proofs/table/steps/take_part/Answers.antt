@@ -1,6 +1,6 @@
 use Rattle.std.proofs.Common.{rules, arith}
 use Rattle.moc_shared.specs.Batches.{answer}
-use Rattle.moc_shared.specs.Private.Slots.{content, part, IsProper}
+use Rattle.moc_shared.specs.Seats.{content, part, IsProper}
 use Rattle.moc_shared.proofs.Moves.{takes_part}
 use Rattle.moc_shared.proofs.table.steps.take_part.Goals as goal
 
