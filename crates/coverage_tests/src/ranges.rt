@@ -121,6 +121,23 @@ fn a_set_as_a_value(rt: HostRuntime) {
 }
 
 #[test]
+fn pixels_and_where_that_changes(rt: HostRuntime) {
+    let set = set_of(&rt, rt.alloc(), &[(3, 8), (9, 3458764513820540928)]);
+    for (pixel, wanted) in [
+        (0, (false, 3)),
+        (2, (false, 3)),
+        (3, (true, 8)),
+        (7, (true, 8)),
+        (8, (false, 9)),
+        (9, (true, 3458764513820540928)),
+        (3458764513820540928, (false, u64::MAX)),
+    ] {
+        assert_eq!(rt; set.contains_until(pixel), wanted);
+    }
+    assert_eq!(rt; Coverage::empty(rt.alloc()).contains_until(0), (false, u64::MAX));
+}
+
+#[test]
 fn gathered_cells(rt: HostRuntime) {
     let deepest = Order::of(29);
     let mut builder = CoverageBuilder::new(rt.alloc());

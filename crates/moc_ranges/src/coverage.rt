@@ -1,5 +1,5 @@
 //! Sets of pixels, and the operations on them.
-ghost use Rattle.std.specs.Prelude.{◌≡◌, ℕ, true, IfSome, MatchOption, ◌+◌, ◌<◌, ◌≤◌, ◌↔◌, nat_lt, IsTrue};
+ghost use Rattle.std.specs.Prelude.{◌≡◌, ℕ, true, not, IfSome, MatchOption, ◌+◌, ◌<◌, ◌≤◌, ◌↔◌, nat_lt, IsTrue};
 ghost use Rattle.std.specs.Prelude.{List, length};
 ghost use Rattle.std.specs.Prelude.{IfOk, IfErr, OnOk, None, unwrap_or};
 ghost use Rattle.moc_ranges.specs.Faults.{first_fault};
@@ -74,6 +74,22 @@ impl Coverage {
         match self.first_past(pixel) {
             Some((from, _)) => from <= pixel,
             None => false,
+        }
+    }
+
+    /// Whether the set has this pixel, and the first pixel behind it with which that changes; where it does not change any
+    /// more, a number above all pixels. So pixels that rise are looked up once for each range or gap that they come to.
+    /// O(log n), takes no memory.
+    pub fn contains_until(&self, pixel: u64) -> (bool, u64)
+        ensures found { result.0 ≡ set.contains self.now pixel }
+        ensures behind { pixel ≤ result.1 }
+        ensures same { (q : ℕ) → pixel ≤ q → q < result.1 → set.contains self.now q ≡ result.0 }
+        ensures changes { result.1 < pixel_count → set.contains self.now result.1 ≡ not result.0 }
+    {
+        match self.first_past(pixel) {
+            Some((from, to)) if from <= pixel => (true, to),
+            Some((from, _)) => (false, from),
+            None => (false, u64::MAX),
         }
     }
 
