@@ -16,10 +16,10 @@ TOP = os.path.dirname(os.path.dirname(os.path.abspath(__file__)))
 # The crate, the file and the call; what it always answers; and the crate whose tests must show it.
 PLANTS = [
     ("moc_text", "ascii/reading", "read_ascii", "Err(TextError::Memory)", "coverage_tests"),
-    ("moc_text", "json/reading", "read_json", "Err(JsonError::Memory)", "coverage_tests"),
+    ("moc_text", "json_form/reading", "read_json", "Err(JsonError::Memory)", "coverage_tests"),
     ("moc_text", "uniq", "read_uniq", "Err(UniqError::Memory)", "coverage_tests"),
     ("moc_text", "ascii/writing", "write_ascii", "Err(TextError::Memory)", "coverage_tests"),
-    ("moc_text", "json/writing", "write_json", "Err(JsonError::Memory)", "coverage_tests"),
+    ("moc_text", "json_form/writing", "write_json", "Err(JsonError::Memory)", "coverage_tests"),
     ("moc_text", "uniq", "write_uniq", "Err(UniqError::Memory)", "coverage_tests"),
     ("moc_steps", "schedule", "replay", "Err(ReplayError { at: 0, why: StepError::Memory })", "map_tests"),
     ("moc_steps", "world", "new", "Err(Memory)", "map_tests"),

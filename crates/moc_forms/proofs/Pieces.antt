@@ -2,7 +2,7 @@
 use Rattle.std.proofs.Common.{◌≡◌, ℕ, List, Option, refl, subst, sym}
 use Rattle.std.specs.Prelude.{option_map}
 use Rattle.moc_text.specs.declared.ascii.error.TextError.{TextError}
-use Rattle.moc_text.specs.declared.json.error.JsonError.{JsonError}
+use Rattle.moc_text.specs.declared.json_form.error.JsonError.{JsonError}
 use Rattle.moc_text.specs.declared.uniq.UniqError.{UniqError}
 use Rattle.moc_forms.specs.Places.{fault_byte, fault_line}
 use Rattle.moc_forms.specs.Quotes.{IsJsonPiece, IsQuote, line_numbered, quoted, word_round}

@@ -6,8 +6,8 @@ use Rattle.moc_text.specs.JsonForm.{NamesOrder}
 use Rattle.moc_text.specs.Lines.{is_line_feed}
 use Rattle.moc_text.specs.declared.ascii.error.TextError.{TextError}
 use Rattle.moc_text.specs.declared.ascii.error.TextError.TheVariants as text
-use Rattle.moc_text.specs.declared.json.error.JsonError.{JsonError}
-use Rattle.moc_text.specs.declared.json.error.JsonError.TheVariants as json
+use Rattle.moc_text.specs.declared.json_form.error.JsonError.{JsonError}
+use Rattle.moc_text.specs.declared.json_form.error.JsonError.TheVariants as json
 use Rattle.moc_text.specs.declared.uniq.UniqError.{UniqError}
 use Rattle.moc_text.specs.declared.uniq.UniqError.TheVariants as uniq
 use Rattle.moc_forms.specs.declared.form.FormError.{FormError}

@@ -4,8 +4,8 @@ use Rattle.std.specs.Prelude.{if◌then◌else◌, List, [], ◌∷◌, ◌++◌
 use Rattle.moc_text.specs.Ascii.{is_separator}
 use Rattle.moc_text.specs.JsonForm.{HasItem, HasName}
 use Rattle.moc_text.specs.Lines.{is_line_feed}
-use Rattle.moc_text.specs.declared.json.error.JsonError.{JsonError}
-use Rattle.moc_text.specs.declared.json.error.JsonError.TheVariants as json
+use Rattle.moc_text.specs.declared.json_form.error.JsonError.{JsonError}
+use Rattle.moc_text.specs.declared.json_form.error.JsonError.TheVariants as json
 use Rattle.moc_forms.specs.Places.{fault_byte, fault_line, line_of}
 use Rattle.moc_forms.specs.declared.form.FormError.{FormError}
 use Rattle.moc_forms.specs.declared.form.FormError.TheVariants as error

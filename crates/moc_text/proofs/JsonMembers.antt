@@ -10,7 +10,7 @@ use Rattle.moc_ranges.specs.Laws.{union-assoc}
 use Rattle.moc_text.specs.Ascii.{deeper}
 use Rattle.moc_text.specs.Faults.{Fails}
 use Rattle.moc_text.specs.JsonForm.{order_of_name, whole, cell_pixels, item_fault, items_pixels, items_fault, array_pixels, name_fault, members_pixels, members_fault, object_fault, deepest_name, IsJson, SaysJson, IsJsonFault}
-use Rattle.moc_text.specs.declared.json.error.JsonError.{JsonError}
+use Rattle.moc_text.specs.declared.json_form.error.JsonError.{JsonError}
 use Rattle.moc_text.proofs.ReadWords.{deeper_assoc}
 
 -- a fault comes before later ones

@@ -1,6 +1,6 @@
 -- A written JSON text says the set that was written.
-use Rattle.std.proofs.Common.{Less, Equal, Greater, ◌≡◌, ℕ, zero, suc, ◌+◌, ◌<◌, ◌≤◌, Bool, true, false, cond, ◌||◌, eqb, ltb, List, [], ◌∷◌, ◌++◌, length, map, max, Option, Some, None, refl, sym, ap, subst, ◌∙◌, arith, inl, inr}
-use Rattle.std.specs.Prelude.{decimal, IsUtf8}
+use Rattle.std.proofs.Common.{Less, Equal, Greater, ◌≡◌, ℕ, zero, suc, ◌+◌, ◌<◌, ◌≤◌, Bool, true, false, cond, ◌||◌, eqb, ltb, List, [], ◌∷◌, ◌++◌, length, map, max, Option, Some, None, refl, sym, ap, ap₂, subst, ◌∙◌, append-nil, arith, inl, inr}
+use Rattle.std.specs.Prelude.{decimal, option_map, option_and_then, IsUtf8}
 use Rattle.std.specs.Ordering.{nat_cmp, match_ordering}
 use Rattle.std.specs.Cmp.Lexicographic.{slice_cmp}
 use Rattle.std.specs.FinSet as set
@@ -8,15 +8,21 @@ use Rattle.std.specs.List.{filter, range_with_len, AllByRecursion}
 use Rattle.std.specs.Option.{ForSome}
 use Rattle.std.specs.Str.Parse.{digits_value}
 use Rattle.std.proofs.lemmas.Bool.{cases_order, cases_lt, eq-eqb, ne_eqb, eqb-true, lt-ltb, le-ltb, ltb-false}
-use Rattle.std.proofs.lemmas.Bool.Decides.{nat_tests}
 use Rattle.std.specs.Cmp.{nat_cmp_total}
 use Rattle.std.specs.Option.{option_or}
 use Rattle.std.proofs.lemmas.Map.Lookups.{exact_bytes}
-use Rattle.serde_json.specs.Data.{Data, array, Members, no_members, member, put, depth, items_depth, members_depth}
+use Rattle.json.specs.Json as json
+use Rattle.json.specs.Token.{Token}
+use Rattle.json.specs.Lex.{tokens}
+use Rattle.json.specs.Print.{print}
+use Rattle.json.specs.Tree as tree
+use Rattle.json.proofs.Printed.Trees.{value-json_tokens}
+use Rattle.serde_json.specs.Data.{Data, null, boolean, number, string, array, object, Items, no_items, item, Members, no_members, member, put, depth, items_depth, members_depth}
 use Rattle.serde_json.specs.Find.{as_array}
 use Rattle.serde_json.specs.View.{items_of}
-use Rattle.serde_json.specs.Read.{read, max_depth}
-use Rattle.serde_json.specs.Written.{has_float, items_have_float, members_have_float}
+use Rattle.serde_json.specs.Read.{read, of_json, max_depth}
+use Rattle.serde_json.specs.Written.{outline, items_outline, members_outline, compact_text}
+use Rattle.serde_json.proofs.Texts.{print-outline}
 use Rattle.moc_sphere.specs.CellNumber.{CellNumber, cell_number, cell_count, IsCell}
 use Rattle.moc_ranges.specs.Numbers.{NumberSet, same_members}
 use Rattle.moc_ranges.specs.Pixels.{pixels}
@@ -27,9 +33,10 @@ use Rattle.moc_ranges.specs.Laws.{cells_fill}
 use Rattle.moc_text.specs.Ascii.{deeper, IsNumber}
 use Rattle.moc_text.specs.AsciiText.{HasDeeper, IsTooCoarse, deepest_cell, deepest_written, stated_beyond}
 use Rattle.moc_text.specs.JsonForm.{order_of_name, items_pixels, items_fault, array_pixels, name_fault, members_pixels, members_fault, deepest_name, SaysJson}
-use Rattle.moc_text.specs.JsonText.{datum, data_at, is_bare, is_name, with_order, members_below, members_of_cells, json_value}
-use Rattle.moc_text.specs.Private.JsonWriting.{front_data, past_order, MembersSoFar}
+use Rattle.moc_text.specs.JsonText.{datum, data_at, is_bare, is_name, with_order, members_below, members_of_cells, json_value, json_text}
+use Rattle.moc_text.specs.Private.JsonWriting.{members_along, object_tokens, orders_by_name}
 use Rattle.moc_text.specs.Private.AsciiWriting.{AreRising}
+use Rattle.moc_text.proofs.JsonNames.{members_by_name, members_back}
 use Rattle.moc_text.proofs.Written.{IsNumber-decimal, value-decimal, not_deeper, stated_is_deepest}
 
 -- ---- the cells of a set stand by rising order
@@ -74,58 +81,6 @@ pub cells_rise : (a : NumberSet) → AreRising 0 (cells_of a)
 unfolding cells_of
 cells_rise a = filter_rising (is_cell_of a) 0 (cells_below 30) (below_rising 30)
 
--- ---- one order after another
-
-none_at : (k j : ℕ) (cells : List CellNumber) → k < j → AreRising j cells → data_at k cells ≡ []
-none_at k j [] lt h = refl
-none_at k j (c ∷ cells) lt h = rw (ne_eqb c.order k (λ e. omega (arith, h.0))) (none_at k c.order cells (omega (arith, h.0)) h.1)
-
-pub front_is : (k : ℕ) (cells : List CellNumber) → AreRising k cells → front_data k cells ≡ data_at k cells
-front_is k [] h = refl
-front_is k (c ∷ cells) h =
-    elim (eqb c.order k) as (λ v. eqb c.order k ≡ v → cond v (datum c ∷ front_data k cells) [] ≡ map datum (cond v (c ∷ filter (λ c. eqb c.order k) cells) (filter (λ c. eqb c.order k) cells))) [
-      | true ↦ λ e. ap (λ (r : List Data). datum c ∷ r) (front_is k cells (rising_from k c.order cells h.0 h.1))
-      | false ↦ λ e. sym (none_at k c.order cells (later k c.order h.0 e) h.1)
-    ] refl
-  where
-    later : (k o : ℕ) → k ≤ o → eqb o k ≡ false → k < o
-    later k o le e = grind (arith, nat_tests)
-
-past_later : (k j : ℕ) (cells : List CellNumber) → k < j → data_at j (past_order k cells) ≡ data_at j cells
-past_later k j [] lt = refl
-past_later k j (c ∷ cells) lt =
-    elim (eqb c.order k) as (λ v. eqb c.order k ≡ v → data_at j (cond v (past_order k cells) (c ∷ cells)) ≡ data_at j (c ∷ cells)) [
-      | true ↦ λ e.
-          let is : c.order ≡ k = eqb-true c.order k e in
-          past_later k j cells lt ∙ sym (rw (ne_eqb c.order j (λ f. omega (arith, f, is))) refl)
-      | false ↦ λ e. refl
-    ] refl
-
-past_rising : (k : ℕ) (cells : List CellNumber) → AreRising k cells → AreRising (k + 1) (past_order k cells)
-past_rising k [] h = tt
-past_rising k (c ∷ cells) h =
-    elim (eqb c.order k) as (λ v. eqb c.order k ≡ v → AreRising (k + 1) (cond v (past_order k cells) (c ∷ cells))) [
-      | true ↦ λ e. past_rising k cells (rising_from k c.order cells h.0 h.1)
-      | false ↦ λ e. (later k c.order h.0 e, h.1)
-    ] refl
-  where
-    later : (k o : ℕ) → k ≤ o → eqb o k ≡ false → k + 1 ≤ o
-    later k o le e = grind (arith, nat_tests)
-
-pub so_far_none : (cells : List CellNumber) (stated : Option ℕ) → AreRising 0 cells → MembersSoFar cells cells stated 0 no_members
-so_far_none cells stated h = record { rising = h; left = λ k le. refl; are = refl }
-
-pub so_far_more : (cells rest : List CellNumber) (stated : Option ℕ) (k : ℕ) (old new : Members) (ds : List Data) → MembersSoFar cells rest stated k old → ds ≡ front_data k rest → new ≡ with_order k stated ds old
-    → MembersSoFar cells (past_order k rest) stated (k + 1) new
-so_far_more cells rest stated k old new ds p taken put_in =
-    let here : ds ≡ data_at k cells = taken ∙ front_is k rest p.rising ∙ p.left k (omega arith) in
-    let next : k + 1 ≡ suc k = omega arith in
-    record {
-      rising = past_rising k rest p.rising;
-      left = λ j le. past_later k j rest (omega arith) ∙ p.left j (omega arith);
-      are = put_in ∙ ap (λ (x : List Data). with_order k stated x old) here ∙ ap (with_order k stated (data_at k cells)) p.are ∙ ap (members_below cells stated) (sym next);
-    }
-
 -- ---- what each member is
 
 -- the name of an order below n, and its cells
@@ -168,22 +123,11 @@ members_are : (cells : List CellNumber) (stated : Option ℕ) (n : ℕ) → AreM
 members_are cells stated zero = tt
 members_are cells stated (suc k) = with_order_members cells stated k (members_below cells stated k) (members_are cells stated k)
 
--- ---- a value with no float and a depth of two
-
-items_no_float : (cells : List CellNumber) → items_have_float (items_of (map datum cells)) ≡ false
-items_no_float [] = refl
-items_no_float (c ∷ cells) = items_no_float cells
+-- ---- a depth of two
 
 items_flat : (cells : List CellNumber) → items_depth (items_of (map datum cells)) ≡ 0
 items_flat [] = refl
 items_flat (c ∷ cells) = ap (λ n. max 0 n) (items_flat cells)
-
-members_no_float : (cells : List CellNumber) (n : ℕ) (ms : Members) → AreMembers cells n ms → members_have_float ms ≡ false
-members_no_float cells n no_members h = refl
-members_no_float cells n (member name d ms) h =
-    ap (λ (x : Data). has_float x || members_have_float ms) (h.0).has
-    ∙ ap (λ b. b || members_have_float ms) (items_no_float (filter (λ c. eqb c.order (h.0).order) cells))
-    ∙ members_no_float cells n ms h.1
 
 members_flat : (cells : List CellNumber) (n : ℕ) (ms : Members) → AreMembers cells n ms → members_depth ms ≤ 1
 members_flat cells n no_members h = omega arith
@@ -191,13 +135,7 @@ members_flat cells n (member name d ms) h =
     let here : depth d ≡ 1 = ap depth (h.0).has ∙ ap (λ n. suc n) (items_flat (filter (λ c. eqb c.order (h.0).order) cells)) in
     omega (arith, here, members_flat cells n ms h.1)
 
-pub no_float : (a : NumberSet) (stated : Option ℕ) → has_float (json_value a stated) ≡ false
-unfolding json_value
-no_float a stated =
-    let bare = stated_beyond (deepest_cell (cells_of a)) stated in
-    members_no_float (cells_of a) 30 (members_below (cells_of a) bare 30) (members_are (cells_of a) bare 30)
-
-pub shallow : (a : NumberSet) (stated : Option ℕ) → depth (json_value a stated) ≤ max_depth
+shallow : (a : NumberSet) (stated : Option ℕ) → depth (json_value a stated) ≤ max_depth
 unfolding json_value
 shallow a stated =
     let bare = stated_beyond (deepest_cell (cells_of a)) stated in
@@ -502,6 +440,44 @@ deepest_is a (Some s) small fine =
     deepest_beyond (cells_of a) s (deepest_cell (cells_of a)) (omega (arith, small s refl)) (deepest_of (cells_of a) (cells_are a)) (stated_is_deepest (cells_of a) s fine) fine
 
 -- ---- the whole text
+
+mutual
+  depth_same : (d : Data) → tree.depth (outline d) ≡ depth d
+  depth_same null = refl
+  depth_same (boolean b) = refl
+  depth_same (number n) = refl
+  depth_same (string s) = refl
+  depth_same (array ds) = ap (λ (n : ℕ). suc n) (items_depth_same ds)
+  depth_same (object ms) = ap (λ (n : ℕ). suc n) (members_depth_same ms)
+
+  items_depth_same : (ds : Items) → tree.items_depth (items_outline ds) ≡ items_depth ds
+  items_depth_same no_items = refl
+  items_depth_same (item d ds) = ap₂ max (depth_same d) (items_depth_same ds)
+
+  members_depth_same : (ms : Members) → tree.members_depth (members_outline ms) ≡ members_depth ms
+  members_depth_same no_members = refl
+  members_depth_same (member name d ms) = ap₂ max (depth_same d) (members_depth_same ms)
+
+abbrev bare_of : NumberSet → Option ℕ → Option ℕ
+bare_of a stated = stated_beyond (deepest_cell (cells_of a)) stated
+
+-- the object as it is written
+written_value : (a : NumberSet) (stated : Option ℕ) → object (members_along (cells_of a) (bare_of a stated) orders_by_name) ≡ json_value a stated
+unfolding json_value
+written_value a stated = ap (λ (ms : Members). object ms) (sym (members_by_name (cells_of a) (bare_of a stated)))
+
+-- its text
+pub written_text : (a : NumberSet) (stated : Option ℕ) → print (object_tokens (cells_of a) (bare_of a stated)) ≡ json_text a stated
+unfolding json_text
+written_text a stated = print-outline (object (members_along (cells_of a) (bare_of a stated) orders_by_name)) ∙ ap compact_text (written_value a stated)
+
+-- what its text is read back as
+pub written_read : (a : NumberSet) (stated : Option ℕ) (text : List ℕ) → tokens text ≡ object_tokens (cells_of a) (bare_of a stated) → read text ≡ Some (json_value a stated)
+written_read a stated text same =
+    let value = object (members_along (cells_of a) (bare_of a stated) orders_by_name) in
+    let back : of_json (outline value) ≡ Some value = ap (option_map object) (members_back (cells_of a) (bare_of a stated) (cells_are a)) in
+    let flat : tree.depth (outline value) ≤ max_depth = omega (arith, depth_same value, ap depth (written_value a stated), shallow a stated) in
+    ap (λ (o : Option (json.Json × List Token)). option_and_then of_json (option_and_then (λ p. json.if_last p.0 p.1) o)) (ap (json.value max_depth) (same ∙ sym (append-nil _)) ∙ value-json_tokens (outline value) max_depth [] flat) ∙ back ∙ ap (λ (d : Data). Some d) (written_value a stated)
 
 pub written_says : (a : NumberSet) (stated : Option ℕ) (text : List ℕ) → IsUtf8 text → read text ≡ Some (json_value a stated) → IsWithin a pixels → ForSome stated (λ k. k ≤ 29) → (IsTooCoarse a stated → ⊥) → SaysJson text a (deepest_written a stated)
 unfolding json_value

@@ -13,4 +13,6 @@ pub mod UniqLines
 pub mod Deepest
 pub mod JsonOrders
 pub mod JsonMembers
+pub mod CellParts
+pub mod JsonNames
 pub mod JsonWritten

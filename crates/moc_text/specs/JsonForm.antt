@@ -14,9 +14,9 @@ use Rattle.moc_sphere.specs.CellNumber.{cell_count}
 use Rattle.moc_ranges.specs.Numbers.{NumberSet}
 use Rattle.moc_ranges.specs.Cells.{span}
 use Rattle.moc_text.specs.Ascii.{deeper}
-use Rattle.moc_text.specs.declared.json.error.JsonError.{JsonError}
-use Rattle.moc_text.specs.declared.json.error.JsonError.TheVariants.{NotJson, NotObject, BadOrder, NotArray, NotWhole}
-use Rattle.moc_text.specs.declared.json.error.JsonError.TheVariants.{CellTooLarge}
+use Rattle.moc_text.specs.declared.json_form.error.JsonError.{JsonError}
+use Rattle.moc_text.specs.declared.json_form.error.JsonError.TheVariants.{NotJson, NotObject, BadOrder, NotArray}
+use Rattle.moc_text.specs.declared.json_form.error.JsonError.TheVariants.{NotWhole, CellTooLarge}
 
 -- ---- names and items
 

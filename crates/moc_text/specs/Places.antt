@@ -2,8 +2,8 @@
 use Rattle.std.specs.Prelude.{◌≡◌, ◌⊎◌, ℕ, Option, None, Some}
 use Rattle.moc_text.specs.declared.ascii.error.TextError.{TextError}
 use Rattle.moc_text.specs.declared.ascii.error.TextError.TheVariants as text
-use Rattle.moc_text.specs.declared.json.error.JsonError.{JsonError}
-use Rattle.moc_text.specs.declared.json.error.JsonError.TheVariants as json
+use Rattle.moc_text.specs.declared.json_form.error.JsonError.{JsonError}
+use Rattle.moc_text.specs.declared.json_form.error.JsonError.TheVariants as json
 
 -- the error is one of the six faults of an ASCII text, at this byte
 abbrev pub IsFaultAt : ℕ → TextError → Type 0

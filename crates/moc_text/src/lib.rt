@@ -2,11 +2,11 @@
 #![tactic(auto)]
 
 mod ascii;
-mod json;
+mod json_form;
 mod uniq;
 
 pub use ascii::{TextError, read_ascii, readings_are_told, write_ascii};
-pub use json::{
+pub use json_form::{
     JsonError, JsonPlace, json_item, json_name, json_order, json_stop, read_json, write_json,
 };
 pub use uniq::{UniqError, read_uniq, write_uniq};

@@ -1,23 +1,40 @@
--- How far the writing of a JSON text has come.
-use Rattle.std.specs.Prelude.{◌≡◌, ℕ, ◌≤◌, ◌==◌, if◌then◌else◌, List, [], ◌∷◌, Option}
-use Rattle.serde_json.specs.Data.{Data, Members}
+-- The parts of a JSON text in the order in which they are written.
+use Rattle.std.specs.Prelude.{ℕ, if◌then◌else◌, List, [], ◌∷◌, map, Option, decimal}
+use Rattle.json.specs.Token.{Token}
+use Rattle.json.specs.Tree.{items_tokens, members_tokens}
+use Rattle.serde_json.specs.Data.{array, Members, no_members, member}
+use Rattle.serde_json.specs.View.{items_of}
+use Rattle.serde_json.specs.Written.{items_outline, members_outline}
 use Rattle.moc_sphere.specs.CellNumber.{CellNumber}
-use Rattle.moc_text.specs.JsonText.{datum, data_at, members_below}
-use Rattle.moc_text.specs.Private.AsciiWriting.{AreRising}
+use Rattle.moc_text.specs.JsonText.{datum, data_at, is_name}
 
--- the numbers of the cells of an order at the front
-abbrev pub front_data : ℕ → List CellNumber → List Data
-front_data k [] = []
-front_data k (c ∷ cells) = if c.order == k then datum c ∷ front_data k cells else []
+-- the orders, where their names stand in byte order
+abbrev pub orders_by_name : List ℕ
+orders_by_name =
+    0 ∷ 1 ∷ 10 ∷ 11 ∷ 12 ∷ 13 ∷ 14 ∷ 15 ∷ 16 ∷ 17 ∷ 18 ∷ 19 ∷ 2 ∷ 20 ∷ 21 ∷ 22 ∷ 23 ∷ 24 ∷ 25 ∷ 26 ∷ 27 ∷ 28 ∷ 29 ∷ 3 ∷ 4
+    ∷ 5 ∷ 6 ∷ 7 ∷ 8 ∷ 9 ∷ []
 
--- the cells after those of an order at the front
-abbrev pub past_order : ℕ → List CellNumber → List CellNumber
-past_order k [] = []
-past_order k (c ∷ cells) = if c.order == k then past_order k cells else c ∷ cells
+-- the members of orders, in the sequence of the list: those that are names
+abbrev pub members_along : List CellNumber → Option ℕ → List ℕ → Members
+members_along cells bare [] = no_members
+members_along cells bare (k ∷ ks) =
+    if is_name k bare (data_at k cells)
+    then member (decimal k) (array (items_of (data_at k cells))) (members_along cells bare ks)
+    else members_along cells bare ks
 
--- The cells of the orders below a depth are in the members, and the others are left.
-pub record MembersSoFar (cells rest : List CellNumber) (bare : Option ℕ) (depth : ℕ)
-    (members : Members) : Type 0 where
-  pub rising : AreRising depth rest
-  pub left : (k : ℕ) → depth ≤ k → data_at k rest ≡ data_at k cells
-  pub are : members ≡ members_below cells bare depth
+-- the numbers of cells, and the end of their array
+abbrev pub array_rest : List CellNumber → List Token
+array_rest cells = items_tokens (items_outline (items_of (map datum cells)))
+
+-- the members of orders, and the end of their object
+abbrev pub object_rest : List CellNumber → Option ℕ → List ℕ → List Token
+object_rest cells bare ks = members_tokens (members_outline (members_along cells bare ks))
+
+-- the name of an order and its array, if it is a name
+abbrev pub order_tokens : ℕ → Option ℕ → List CellNumber → List Token
+order_tokens k bare cells =
+    if is_name k bare (map datum cells) then Token.key (decimal k) ∷ Token.begin_array ∷ array_rest cells else []
+
+-- the whole object
+abbrev pub object_tokens : List CellNumber → Option ℕ → List Token
+object_tokens cells bare = Token.begin_object ∷ object_rest cells bare orders_by_name

@@ -1,17 +1,22 @@
 //! Writing the ASCII form.
-ghost use Rattle.std.specs.Prelude.{◌≡◌, ◌++◌, ◌≤◌, decimal, IfErr, IfOk, IsTrue, OnOk, ◌↔◌, ◌⊎◌};
+ghost use Rattle.std.specs.Prelude.{◌≡◌, ◌+◌, ◌++◌, ◌<◌, ◌≤◌, decimal, drop, IfErr, IfOk, IsTrue, OnOk, ◌↔◌, ◌⊎◌};
 ghost use Rattle.std.specs.Option.{ForSome};
+ghost use Rattle.std.specs.Str.{IsAscii};
 ghost use Rattle.std.specs.String.{string_bytes};
 ghost use Rattle.moc_text.specs.Ascii.{Says};
 ghost use Rattle.moc_text.specs.AsciiText.{ascii_text, deepest_cell, deepest_written, follows, HasDeeper, IsTooCoarse};
-ghost use Rattle.moc_text.specs.AsciiText.{mark_text_of, one, order_text, run_text, stated_beyond, text_of_cells};
+ghost use Rattle.moc_text.specs.AsciiText.{one, order_text, run_text, stated_beyond, text_of_cells};
 ghost use Rattle.moc_text.specs.Private.AsciiWriting.{AreRising, gap, run_part, stated_part};
 
 use crate::ascii::error::TextError;
-use itoa::Buffer;
+use itoa::{Buffer, write_digits};
 use moc_ranges::Coverage;
 use moc_sphere::{Cell, Order};
 use std::alloc::{AllocError, Global};
+use std::str::from_utf8_unchecked;
+
+/// How many bytes a run takes at most, with a space before it.
+const RUN_LEN: usize = 42;
 
 /// Consecutive cells of one order, the last included.
 #[derive(Clone, Copy)]
@@ -68,36 +73,70 @@ fn push_gap(text: &mut String, before: Option<u8>) -> Result<(), AllocError>
     Ok(())
 }
 
-/// The order, unless it was written last.
-fn push_mark(text: &mut String, before: Option<u8>, order: u8) -> Result<(), AllocError>
-    ensures { OnOk result (string_bytes text.new ≡ string_bytes text.old ++ mark_text_of before order) }
+/// Writes a number so that it ends there in the buffer, and gives where it starts.
+#[inline]
+fn write_number(number: u64, buffer: &mut [u8; RUN_LEN], end: usize) -> usize
+    requires { (20 ≤ end) × (end ≤ 42) }
+    ensures written { drop result buffer.new ≡ decimal number ++ drop end buffer.old }
+    ensures start { (result < end) × (end ≤ result + 20) }
+    ensures ascii { IsAscii (decimal number) }
 {
-    if let Some(last) = before
-        && last == order
-    {
-        return Ok(());
-    }
-    push_order(text, order)
+    write_digits(number, buffer, end)
 }
 
-/// The cells of a run.
-fn push_cells(text: &mut String, run: Run) -> Result<(), AllocError>
-    ensures { OnOk result (string_bytes text.new ≡ string_bytes text.old ++ run_text run) }
+/// Writes the cells of a run at the end of the buffer, and gives where they start.
+#[inline]
+fn write_cells(run: Run, buffer: &mut [u8; RUN_LEN]) -> usize
+    ensures written { drop result buffer.new ≡ run_text run }
+    ensures start { (0 < result) × (result < 42) }
+    ensures ascii { IsAscii (run_text run) }
 {
-    push_number(text, run.first)?;
-    if run.first != run.last {
-        text.push_str("-")?;
-        push_number(text, run.last)?;
+    if run.first == run.last {
+        return write_number(run.first, buffer, RUN_LEN);
     }
+    let dash = write_number(run.last, buffer, RUN_LEN) - 1;
+    buffer[dash] = b'-';
+    write_number(run.first, buffer, dash)
+}
+
+/// Writes a space before what starts there in the buffer, where something was written before; gives where it starts.
+#[inline]
+fn write_gap(before: Option<u8>, buffer: &mut [u8; RUN_LEN], start: usize) -> usize
+    requires { (0 < start) × (start < 42) }
+    ensures written { drop result buffer.new ≡ gap before ++ drop start buffer.old }
+    ensures start { result < 42 }
+{
+    if before.is_none() {
+        return start;
+    }
+    buffer[start - 1] = b' ';
+    start - 1
+}
+
+/// The cells of a run behind a space, where something was written before.
+#[inline]
+fn push_cells(text: &mut String, before: Option<u8>, run: Run) -> Result<(), AllocError>
+    ensures { OnOk result (string_bytes text.new ≡ string_bytes text.old ++ gap before ++ run_text run) }
+{
+    let mut buffer = [0; RUN_LEN];
+    let cells = write_cells(run, &mut buffer);
+    let start = write_gap(before, &mut buffer, cells);
+    text.push_str(unsafe { from_utf8_unchecked(&buffer[start..]) })?;
     Ok(())
 }
 
+/// A run with its order, unless it was written last.
 fn push_run(text: &mut String, before: Option<u8>, run: Run) -> Result<(), AllocError>
     ensures { OnOk result (string_bytes text.new ≡ string_bytes text.old ++ run_part before run) }
 {
+    if let Some(last) = before
+        && last == run.order
+    {
+        return push_cells(text, before, run);
+    }
     push_gap(text, before)?;
-    push_mark(text, before, run.order)?;
-    push_cells(text, run)
+    push_order(text, run.order)?;
+    push_cells(text, None, run)
 }
 
 /// The stated order, where it is deeper than the one written last or none was.

@@ -1,0 +1,220 @@
+-- The members that are written order by order, by the names' byte order, are those that the definition puts in one after
+-- another; and their tokens are read back as these members.
+use Rattle.std.proofs.Common.{Less, Equal, Greater, ◌≡◌, ℕ, zero, suc, ◌+◌, ◌<◌, Bool, true, false, cond, ◌&&◌, eqb, List, [], ◌∷◌, ◌++◌, length, drop, get_or, map, Option, Some, refl, sym, ap, ◌∙◌, arith, append-nil, append_assoc}
+use Rattle.std.proofs.lemmas.List.{drop_more}
+use Rattle.std.specs.Prelude.{decimal, option_map, option_and_then}
+use Rattle.std.specs.Ordering.{nat_cmp, is_lt, is_gt}
+use Rattle.std.specs.declared.cmp.Ordering.{Ordering}
+use Rattle.std.specs.Cmp.Lexicographic.{slice_cmp}
+use Rattle.std.specs.List.{filter, AllByRecursion}
+use Rattle.std.specs.Fmt.{digits}
+use Rattle.json.specs.Token.{Token}
+use Rattle.json.specs.Tree.{members_tokens}
+use Rattle.serde_json.specs.Data.{Data, array, Members, no_members, member, put}
+use Rattle.serde_json.specs.View.{items_of}
+use Rattle.serde_json.specs.Read.{of_json, of_items, of_members}
+use Rattle.serde_json.specs.Written.{outline, items_outline, members_outline}
+use Rattle.serde_json.proofs.Numbers.{number_of-decimal}
+use Rattle.moc_sphere.specs.CellNumber.{CellNumber, IsCell}
+use Rattle.moc_text.specs.JsonText.{datum, data_at, is_name, with_order, members_below}
+use Rattle.moc_text.specs.Private.JsonWriting.{orders_by_name, members_along, array_rest, object_rest, order_tokens}
+use Rattle.moc_text.proofs.Powers.{cells_fit}
+
+-- ---- orders by their names
+
+abbrev comes_before : ℕ → ℕ → Bool
+comes_before k j = is_lt (slice_cmp nat_cmp (decimal k) (decimal j))
+
+abbrev comes_after : ℕ → ℕ → Bool
+comes_after k j = is_gt (slice_cmp nat_cmp (decimal k) (decimal j))
+
+abbrev before_all : ℕ → List ℕ → Bool
+before_all k [] = true
+before_all k (j ∷ js) = comes_before k j && before_all k js
+
+abbrev after_all : ℕ → List ℕ → Bool
+after_all k [] = true
+after_all k (j ∷ js) = comes_after k j && after_all k js
+
+-- the orders at the front that an order comes after, and the others
+abbrev front_of : ℕ → List ℕ → List ℕ
+front_of k [] = []
+front_of k (j ∷ js) = cond (comes_after k j) (j ∷ front_of k js) []
+
+abbrev back_of : ℕ → List ℕ → List ℕ
+back_of k [] = []
+back_of k (j ∷ js) = cond (comes_after k j) (back_of k js) (j ∷ js)
+
+front_and_back : (k : ℕ) (js : List ℕ) → front_of k js ++ back_of k js ≡ js
+front_and_back k [] = refl
+front_and_back k (j ∷ js) = elim (comes_after k j) as (λ v. cond v (j ∷ front_of k js) [] ++ cond v (back_of k js) (j ∷ js) ≡ j ∷ js) [
+  | true ↦ ap (λ (r : List ℕ). j ∷ r) (front_and_back k js)
+  | false ↦ refl
+]
+
+after_front : (k : ℕ) (js : List ℕ) → after_all k (front_of k js) ≡ true
+after_front k [] = refl
+after_front k (j ∷ js) = elim (comes_after k j) as (λ v. comes_after k j ≡ v → after_all k (cond v (j ∷ front_of k js) []) ≡ true) [
+  | true ↦ λ e. rw e (after_front k js)
+  | false ↦ λ e. refl
+] refl
+
+-- the orders below a number, each put in where its name belongs
+abbrev by_name : ℕ → List ℕ
+by_name zero = []
+by_name (suc k) = front_of k (by_name k) ++ k ∷ back_of k (by_name k)
+
+-- each of them comes before what it is put before
+abbrev well_put : ℕ → Bool
+well_put zero = true
+well_put (suc k) = before_all k (back_of k (by_name k)) && well_put k
+
+-- each comes after those before it
+abbrev are_rising : List ℕ → List ℕ → Bool
+are_rising done [] = true
+are_rising done (k ∷ ks) = after_all k done && are_rising (done ++ k ∷ []) ks
+
+by_name_is : by_name 30 ≡ orders_by_name
+unfolding digits
+by_name_is = refl
+
+all_well_put : well_put 30 ≡ true
+unfolding digits
+all_well_put = refl
+
+orders_rise : are_rising [] orders_by_name ≡ true
+unfolding digits
+orders_rise = refl
+
+-- ---- helpers
+
+and_parts : (a b : Bool) → (a && b) ≡ true → (a ≡ true) × (b ≡ true)
+and_parts true b h = (refl, h)
+and_parts false b h = absurd cc
+
+is_less : (o : Ordering) → is_lt o ≡ true → o ≡ Less
+is_less Less e = refl
+is_less Equal e = absurd cc
+is_less Greater e = absurd cc
+
+is_greater : (o : Ordering) → is_gt o ≡ true → o ≡ Greater
+is_greater Less e = absurd cc
+is_greater Equal e = absurd cc
+is_greater Greater e = refl
+
+all_filter : (p : CellNumber → Bool) (cells : List CellNumber) → AllByRecursion IsCell cells → AllByRecursion IsCell (filter p cells)
+all_filter p [] h = tt
+all_filter p (c ∷ cells) h = elim (p c) as (λ v. AllByRecursion IsCell (cond v (c ∷ filter p cells) (filter p cells))) [ true ↦ (h.0, all_filter p cells h.1) | false ↦ all_filter p cells h.1 ]
+
+-- ---- members of a list of orders
+
+abbrev value_of : List CellNumber → ℕ → Data
+value_of cells k = array (items_of (data_at k cells))
+
+-- the members of some orders, and then these
+abbrev before_members : List CellNumber → Option ℕ → List ℕ → Members → Members
+before_members cells bare [] ms = ms
+before_members cells bare (k ∷ ks) ms =
+    cond (is_name k bare (data_at k cells)) (member (decimal k) (value_of cells k) (before_members cells bare ks ms)) (before_members cells bare ks ms)
+
+module _ (cells : List CellNumber) (bare : Option ℕ) where
+  abbrev named : ℕ → Bool
+  named k = is_name k bare (data_at k cells)
+
+  along_append : (pre post : List ℕ) → members_along cells bare (pre ++ post) ≡ before_members cells bare pre (members_along cells bare post)
+  along_append [] post = refl
+  along_append (k ∷ pre) post = ap (λ (r : Members). cond (named k) (member (decimal k) (value_of cells k) r) r) (along_append pre post)
+
+  -- a name before all of them comes first
+  put_first : (k : ℕ) (d : Data) (js : List ℕ) → before_all k js ≡ true → put (decimal k) d (members_along cells bare js) ≡ member (decimal k) d (members_along cells bare js)
+  put_first k d [] e = refl
+  put_first k d (j ∷ js) e =
+      let both = and_parts (comes_before k j) (before_all k js) e in
+      elim (named j) as (λ v. put (decimal k) d (cond v (member (decimal j) (value_of cells j) (members_along cells bare js)) (members_along cells bare js)) ≡ member (decimal k) d (cond v (member (decimal j) (value_of cells j) (members_along cells bare js)) (members_along cells bare js))) [
+        | true ↦ rw (is_less (slice_cmp nat_cmp (decimal k) (decimal j)) both.0) refl
+        | false ↦ put_first k d js both.1
+      ]
+
+  -- a name after all of them comes behind them
+  put_behind : (k : ℕ) (d : Data) (js : List ℕ) (ms : Members) → after_all k js ≡ true → put (decimal k) d (before_members cells bare js ms) ≡ before_members cells bare js (put (decimal k) d ms)
+  put_behind k d [] ms e = refl
+  put_behind k d (j ∷ js) ms e =
+      let both = and_parts (comes_after k j) (after_all k js) e in
+      let more = put_behind k d js ms both.1 in
+      elim (named j) as (λ v. put (decimal k) d (cond v (member (decimal j) (value_of cells j) (before_members cells bare js ms)) (before_members cells bare js ms)) ≡ cond v (member (decimal j) (value_of cells j) (before_members cells bare js (put (decimal k) d ms))) (before_members cells bare js (put (decimal k) d ms))) [
+        | true ↦ rw (is_greater (slice_cmp nat_cmp (decimal k) (decimal j)) both.0) (ap (λ (r : Members). member (decimal j) (value_of cells j) r) more)
+        | false ↦ more
+      ]
+
+  -- the members of one more order
+  one_more : (k : ℕ) (pre post : List ℕ) → after_all k pre ≡ true → before_all k post ≡ true → with_order k bare (data_at k cells) (members_along cells bare (pre ++ post)) ≡ members_along cells bare (pre ++ k ∷ post)
+  one_more k pre post after before =
+      ap (with_order k bare (data_at k cells)) (along_append pre post)
+      ∙ elim (named k) as (λ v. cond v (put (decimal k) (value_of cells k) (before_members cells bare pre (members_along cells bare post))) (before_members cells bare pre (members_along cells bare post)) ≡ before_members cells bare pre (cond v (member (decimal k) (value_of cells k) (members_along cells bare post)) (members_along cells bare post))) [
+        | true ↦ put_behind k (value_of cells k) pre (members_along cells bare post) after ∙ ap (before_members cells bare pre) (put_first k (value_of cells k) post before)
+        | false ↦ refl
+      ]
+      ∙ sym (along_append pre (k ∷ post))
+
+  below_by_name : (n : ℕ) → well_put n ≡ true → members_below cells bare n ≡ members_along cells bare (by_name n)
+  below_by_name zero e = refl
+  below_by_name (suc k) e =
+      let both = and_parts (before_all k (back_of k (by_name k))) (well_put k) e in
+      ap (with_order k bare (data_at k cells)) (below_by_name k both.1 ∙ ap (members_along cells bare) (sym (front_and_back k (by_name k))))
+      ∙ one_more k (front_of k (by_name k)) (back_of k (by_name k)) (after_front k (by_name k)) both.0
+
+  -- the members of the definition are those of the orders by their names
+  pub members_by_name : members_below cells bare 30 ≡ members_along cells bare orders_by_name
+  members_by_name = below_by_name 30 all_well_put ∙ ap (members_along cells bare) by_name_is
+
+  -- ---- what the tokens are read back as
+
+  items_back : (xs : List CellNumber) → AllByRecursion IsCell xs → of_items (items_outline (items_of (map datum xs))) ≡ Some (items_of (map datum xs))
+  items_back [] h = refl
+  items_back (c ∷ xs) h = rw (number_of-decimal c.index (omega (arith, (h.0).index_in_range, cells_fit c.order (h.0).order_in_range)), items_back xs h.1) refl
+
+  value_back : (k : ℕ) → AllByRecursion IsCell cells → of_json (outline (value_of cells k)) ≡ Some (value_of cells k)
+  value_back k h = ap (option_map array) (items_back (filter (λ c. eqb c.order k) cells) (all_filter (λ c. eqb c.order k) cells h))
+
+  put_last : (k : ℕ) (done : List ℕ) → after_all k done ≡ true → named k ≡ true → put (decimal k) (value_of cells k) (members_along cells bare done) ≡ members_along cells bare (done ++ k ∷ [])
+  put_last k done after is =
+      ap (λ (js : List ℕ). put (decimal k) (value_of cells k) (members_along cells bare js)) (sym (append-nil done)) ∙ ap (λ (m : Members). put (decimal k) (value_of cells k) m) (along_append done []) ∙ put_behind k (value_of cells k) done no_members after
+      ∙ sym (along_append done (k ∷ []) ∙ ap (before_members cells bare done) (rw is refl))
+
+  no_last : (k : ℕ) (done : List ℕ) → named k ≡ false → members_along cells bare done ≡ members_along cells bare (done ++ k ∷ [])
+  no_last k done none =
+      ap (members_along cells bare) (sym (append-nil done)) ∙ along_append done [] ∙ sym (along_append done (k ∷ []) ∙ ap (before_members cells bare done) (rw none refl))
+
+  along_back : (done ks : List ℕ) → AllByRecursion IsCell cells → are_rising done ks ≡ true → of_members (members_outline (members_along cells bare ks)) (members_along cells bare done) ≡ Some (members_along cells bare (done ++ ks))
+  along_back done [] h e = ap (λ (js : List ℕ). Some (members_along cells bare js)) (sym (append-nil done))
+  along_back done (k ∷ ks) h e =
+      let both = and_parts (after_all k done) (are_rising (done ++ k ∷ []) ks) e in
+      let more = along_back (done ++ k ∷ []) ks h both.1 ∙ ap (λ (js : List ℕ). Some (members_along cells bare js)) (append_assoc done (k ∷ []) ks) in
+      elim (named k) as (λ v. named k ≡ v → of_members (members_outline (cond v (member (decimal k) (value_of cells k) (members_along cells bare ks)) (members_along cells bare ks))) (members_along cells bare done) ≡ Some (members_along cells bare (done ++ k ∷ ks))) [
+        | true ↦ λ is.
+            ap (option_and_then (λ d. of_members (members_outline (members_along cells bare ks)) (put (decimal k) d (members_along cells bare done)))) (value_back k h)
+            ∙ ap (of_members (members_outline (members_along cells bare ks))) (put_last k done both.0 is) ∙ more
+        | false ↦ λ none. ap (of_members (members_outline (members_along cells bare ks))) (no_last k done none) ∙ more
+      ] refl
+
+  pub members_back : AllByRecursion IsCell cells → of_members (members_outline (members_along cells bare orders_by_name)) no_members ≡ Some (members_along cells bare orders_by_name)
+  members_back h = along_back [] orders_by_name h orders_rise
+
+-- ---- one order after another
+
+order_then : (cells : List CellNumber) (bare : Option ℕ) (k : ℕ) (ks : List ℕ) → order_tokens k bare (filter (λ c. eqb c.order k) cells) ++ object_rest cells bare ks ≡ object_rest cells bare (k ∷ ks)
+order_then cells bare k ks =
+    let here = filter (λ c. eqb c.order k) cells in
+    elim (is_name k bare (data_at k cells)) as (λ v. cond v (Token.key (decimal k) ∷ Token.begin_array ∷ array_rest here) [] ++ object_rest cells bare ks ≡ members_tokens (members_outline (cond v (member (decimal k) (value_of cells k) (members_along cells bare ks)) (members_along cells bare ks)))) [
+      | true ↦ refl
+      | false ↦ refl
+    ]
+
+pub written_more : (cells here : List CellNumber) (bare : Option ℕ) (i : ℕ) (ks : List ℕ) (old new : List Token) → i < length ks → here ≡ filter (λ c. eqb c.order (get_or ks i 0)) cells → new ≡ old ++ order_tokens (get_or ks i 0) bare here
+    → new ++ object_rest cells bare (drop (i + 1) ks) ≡ old ++ object_rest cells bare (drop i ks)
+written_more cells here bare i ks old new lt is put_in =
+    let k = get_or ks i 0 in
+    let next : k ∷ drop (i + 1) ks ≡ drop i ks = sym (drop_more ks i 0 lt) in
+    ap (λ (ts : List Token). ts ++ object_rest cells bare (drop (i + 1) ks)) put_in
+    ∙ append_assoc old (order_tokens k bare here) (object_rest cells bare (drop (i + 1) ks))
+    ∙ ap (λ (ts : List Token). old ++ ts) (ap (λ (x : List CellNumber). order_tokens k bare x ++ object_rest cells bare (drop (i + 1) ks)) is ∙ order_then cells bare k (drop (i + 1) ks) ∙ ap (object_rest cells bare) next)

@@ -1,0 +1,283 @@
+//! Reading the JSON form.
+ghost use Rattle.std.specs.Prelude.{◌≡◌, ℕ, IfErr, IfOk, IfSome, MatchResult, None, Option, Some, option_map, ◌⊎◌};
+ghost use Rattle.std.specs.String.{string_bytes};
+ghost use Rattle.std.specs.FinSet as set;
+ghost use Rattle.serde_json.specs.Find.{as_array};
+ghost use Rattle.serde_json.specs.View.{view, items_view, members_view};
+ghost use Rattle.moc_ranges.specs.Numbers.{NumberSet};
+ghost use Rattle.moc_text.specs.Ascii.{deeper as deeper_of};
+ghost use Rattle.moc_text.specs.Faults.{Fails};
+ghost use Rattle.moc_text.specs.JsonForm.{order_of_name, whole, cell_pixels, item_fault, items_pixels, items_fault};
+ghost use Rattle.moc_text.specs.JsonForm.{array_pixels, name_fault, members_pixels, members_fault, deepest_name};
+ghost use Rattle.moc_text.specs.JsonForm.{member_at as member_of, order_at, HasItem, HasName, IsJson, IsNotJson, NamesOrder, SaysJson};
+ghost use Rattle.moc_text.specs.JsonForm.{IsJsonFault};
+ghost use Rattle.moc_text.specs.Private.JsonReading.{held_order};
+
+use crate::json_form::error::JsonError;
+use moc_ranges::{Coverage, CoverageBuilder};
+use moc_sphere::Order;
+use serde_json::{Map, Value};
+use std::alloc::Global;
+
+/// The order that digits name.
+fn order_of_digits(digits: &[u8]) -> Option<Order>
+    ensures { result ≡ held_order 0 digits.now }
+{
+    let mut depth = 0u8;
+    for digit in digits {
+        if !digit.is_ascii_digit() {
+            return None;
+        }
+        depth = depth
+            .saturating_mul(10)
+            .saturating_add(*digit - b'0')
+            .min(30);
+    }
+    Order::new(depth)
+}
+
+/// The order that a name names.
+fn order_of(name: &str) -> Option<Order>
+    ensures { result ≡ order_of_name name.now }
+{
+    if name.is_empty() {
+        return None;
+    }
+    order_of_digits(name.as_bytes())
+}
+
+/// Adds the cell whose number an item is.
+fn read_cell(
+    cells: &mut CoverageBuilder,
+    order: Order,
+    name: usize,
+    place: usize,
+    value: &Value,
+) -> Result<(), JsonError>
+    ensures { MatchResult result
+        (λ _. (item_fault order name place (whole (view value.now)) ≡ None)
+        × (cells.new ≡ set.union cells.old (cell_pixels order (whole (view value.now)))))
+        (λ e. Fails JsonError.Memory (item_fault order name place (whole (view value.now))) e) }
+{
+    let Some(index) = value.as_u64() else {
+        return Err(JsonError::NotWhole { name, place });
+    };
+    if index >= order.cell_count() {
+        return Err(JsonError::CellTooLarge { name, place });
+    }
+    cells.add_cells(order, index, index)?;
+    Ok(())
+}
+
+/// Adds the cells of an array.
+fn read_cells(
+    cells: &mut CoverageBuilder,
+    order: Order,
+    name: usize,
+    values: &[Value],
+) -> Result<(), JsonError>
+    ensures { MatchResult result
+        (λ _. (items_fault order name 0 (items_view values.now) ≡ None)
+        × (cells.new ≡ set.union cells.old (items_pixels order (items_view values.now))))
+        (λ e. Fails JsonError.Memory (items_fault order name 0 (items_view values.now)) e) }
+{
+    for (place, value) in values.iter().enumerate() {
+        read_cell(cells, order, name, place, value)?;
+    }
+    Ok(())
+}
+
+/// Adds the cells of a member, and answers its order.
+fn read_member(
+    cells: &mut CoverageBuilder,
+    name: usize,
+    text: &str,
+    value: &Value,
+) -> Result<Order, JsonError>
+    ensures { MatchResult result
+        (λ k. (order_of_name text.now ≡ Some k)
+        × (name_fault name (order_of_name text.now) (as_array (view value.now)) ≡ None)
+        × (cells.new ≡ set.union cells.old (array_pixels (order_of_name text.now) (as_array (view value.now)))))
+        (λ e. Fails JsonError.Memory (name_fault name (order_of_name text.now) (as_array (view value.now))) e) }
+{
+    let Some(order) = order_of(text) else {
+        return Err(JsonError::BadOrder { name });
+    };
+    let Some(values) = value.as_array() else {
+        return Err(JsonError::NotArray { name });
+    };
+    read_cells(cells, order, name, values)?;
+    Ok(order)
+}
+
+/// The greater of two orders, of which the first may be none.
+fn deeper(deepest: Option<Order>, order: Order) -> Option<Order>
+    ensures { result ≡ deeper_of deepest (Some order) }
+{
+    match deepest {
+        Some(deepest) => Some(deepest.max(order)),
+        None => Some(order),
+    }
+}
+
+/// Adds the cells of all members, and answers the deepest order.
+fn read_members(
+    cells: &mut CoverageBuilder,
+    members: &Map<String, Value>,
+) -> Result<Option<Order>, JsonError>
+    ensures { MatchResult result
+        (λ deepest. (members_fault 0 (members_view members.now.entries) ≡ None)
+        × (cells.new ≡ set.union cells.old (members_pixels (members_view members.now.entries)))
+        × (deepest ≡ deepest_name (members_view members.now.entries)))
+        (λ e. Fails JsonError.Memory (members_fault 0 (members_view members.now.entries)) e) }
+{
+    let mut deepest = None;
+    let mut name = 0;
+    for (text, value) in members.iter() {
+        let order = read_member(cells, name, text.as_str(), value)?;
+        deepest = deeper(deepest, order);
+        name += 1;
+    }
+    Ok(deepest)
+}
+
+/// Reads JSON (RFC 8259) by `serde_json`.
+fn parse(alloc: Global, text: &[u8]) -> Result<Value, JsonError>
+    ensures { MatchResult result (λ v. IsJson text.now (view v))
+        (λ e. (e ≡ JsonError.Memory) ⊎ ((e ≡ JsonError.NotJson) × IsNotJson text.now)) }
+{
+    match Value::from_slice(alloc, text) {
+        Ok(value) => Ok(value),
+        Err(error) if error.is_memory() => Err(JsonError::Memory),
+        Err(_) => Err(JsonError::NotJson),
+    }
+}
+
+/// Reads the JSON form (MOC 2.0): the set, and the deepest order that is a name. Names are numbered from 0 in byte
+/// order, as `serde_json` keeps them, and so are the items of an array.
+///
+/// Refused with `NotJson` where `serde_json` reads no value, with `NotObject` where the value is none; then for the
+/// first faulty name: `BadOrder` where it is no number up to 29, `NotArray` for its value, and for the first faulty
+/// item `NotWhole` or `CellTooLarge`. `Memory` where memory was refused.
+pub fn read_json(alloc: Global, text: &[u8]) -> Result<(Coverage, Option<Order>), JsonError>
+    // What is read is what the text says.
+    ensures set { IfOk result (λ r. SaysJson text.now r.0 r.1) }
+
+    // What is refused has its first fault, unless memory ran out.
+    ensures fault { IfErr result (λ e. (e ≡ JsonError.Memory) ⊎ IsJsonFault text.now e) }
+
+    // So a text that says a set is read as that set.
+    ensures reading { (a : NumberSet) (k : Option ℕ) → SaysJson text.now a k
+        → MatchResult result (λ r. (r.0 ≡ a) × (r.1 ≡ k)) (λ e. e ≡ JsonError.Memory) }
+{
+    let value = parse(alloc, text)?;
+    let Some(members) = value.as_object() else {
+        return Err(JsonError::NotObject);
+    };
+    let mut cells = CoverageBuilder::new(alloc);
+    let deepest = read_members(&mut cells, members)?;
+    let set = cells.build()?;
+    Ok((set, deepest))
+}
+
+/// The order that the name of this number names, counted from 0 in byte order; `None` where there is no such name.
+fn order_of_member(members: &Map<String, Value>, name: usize) -> Option<Order>
+    ensures { result ≡ order_at name (members_view members.now.entries) }
+{
+    let mut before = name;
+    for (text, _) in members.iter() {
+        if before == 0 {
+            return order_of(text.as_str());
+        }
+        before -= 1;
+    }
+    None
+}
+
+/// The order that a name of a JSON text names, by the number of the name, which a fault tells: counted from 0 in byte
+/// order. `None` where the text is no object, has no such name, or the name is no order.
+///
+/// Refused with `NotJson` and `Memory` as `read_json`, whose first pass it makes again.
+pub fn json_order(alloc: Global, text: &[u8], name: usize) -> Result<Option<Order>, JsonError>
+    ensures order { IfOk result (λ k. NamesOrder text.now name k) }
+    ensures fault { IfErr result (λ e. (e ≡ JsonError.Memory) ⊎ ((e ≡ JsonError.NotJson) × IsNotJson text.now)) }
+{
+    let value = parse(alloc, text)?;
+    let Some(members) = value.as_object() else {
+        return Ok(None);
+    };
+    Ok(order_of_member(members, name))
+}
+
+/// The name of this number, with its value; `None` where there is no such name.
+fn member_at(members: &Map<String, Value>, number: usize) -> Option<(&String, &Value)>
+    ensures { option_map (λ m. (string_bytes m.0.now, view m.1.now)) result
+        ≡ member_of number (members_view members.now.entries) }
+{
+    let mut before = number;
+    for (name, value) in members.iter() {
+        if before == 0 {
+            return Some((name, value));
+        }
+        before -= 1;
+    }
+    None
+}
+
+/// The name of a JSON text that has this number, which a fault tells: counted from 0 in byte order. `None` where the
+/// text is no object, or has no such name.
+///
+/// Refused with `NotJson` and `Memory` as `read_json`, whose first pass it makes again.
+pub fn json_name(alloc: Global, text: &[u8], name: usize) -> Result<Option<String>, JsonError>
+    ensures name { IfOk result (λ found. HasName text.now name (option_map string_bytes found)) }
+    ensures fault { IfErr result (λ e. (e ≡ JsonError.Memory) ⊎ ((e ≡ JsonError.NotJson) × IsNotJson text.now)) }
+{
+    let value = parse(alloc, text)?;
+    let Some(members) = value.as_object() else {
+        return Ok(None);
+    };
+    match member_at(members, name) {
+        Some((found, _)) => Ok(Some(String::from_str(alloc, found.as_str())?)),
+        None => Ok(None),
+    }
+}
+
+/// The text of an item, compact as `serde_json` prints it, by its place in the array of the name of this number, which
+/// a fault tells, both counted from 0. `None` where there is no such item.
+///
+/// Refused with `NotJson` and `Memory` as `read_json`, whose first pass it makes again.
+pub fn json_item(
+    alloc: Global,
+    text: &[u8],
+    name: usize,
+    place: usize,
+) -> Result<Option<String>, JsonError>
+    ensures item { IfOk result (λ found. HasItem text.now name place (option_map string_bytes found)) }
+    ensures fault { IfErr result (λ e. (e ≡ JsonError.Memory) ⊎ ((e ≡ JsonError.NotJson) × IsNotJson text.now)) }
+{
+    let value = parse(alloc, text)?;
+    let Some(members) = value.as_object() else {
+        return Ok(None);
+    };
+    let Some((_, array)) = member_at(members, name) else {
+        return Ok(None);
+    };
+    match array.get(place) {
+        Some(item) => Ok(Some(item.to_string(alloc)?)),
+        None => Ok(None),
+    }
+}
+
+/// The line, counted from 1, and the column at which `serde_json` stops reading a text that is no JSON. `None` where
+/// the text is JSON, where memory was refused, or where `serde_json` tells no place.
+pub fn json_stop(alloc: Global, text: &[u8]) -> Option<(usize, usize)>
+    ensures { IfSome result (λ _. IsNotJson text.now) }
+{
+    match Value::from_slice(alloc, text) {
+        Err(error) if !error.is_memory() && error.line() > 0 => Some((
+            error.line(),
+            error.column(),
+        )),
+        _ => None,
+    }
+}
