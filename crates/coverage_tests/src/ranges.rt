@@ -311,3 +311,46 @@ fn looking_at_many_blocks(rt: HostRuntime) {
         (Some(12802), None)
     );
 }
+
+/// Inserts ranges of two pixels each, in jumping order: those with a turn from one up to, not including, another.
+fn insert_turns(rt: &impl Abort, alloc: Global, set: &mut Coverage, first: u64, end: u64)
+    requires { end ≤ 3001 }
+{
+    for turn in first..end {
+        let from = turn * 1009 % 3001 * 4;
+        let added = set.insert_range(alloc, from, from + 2).expect(rt, "memory");
+        assert_eq!(rt; added, 2);
+    }
+}
+
+#[test]
+fn ranges_inserted_one_by_one(rt: HostRuntime) {
+    let alloc = rt.alloc();
+    let mut set = Coverage::empty(alloc);
+    insert_turns(&rt, alloc, &mut set, 0, 3001);
+    assert_eq!(rt; set.range_count(), 3001);
+    assert_eq!(rt; set.count(), 6002);
+    assert!(rt; set.contains(12001) && !set.contains(12002));
+    // Of what is there nothing is new; what joins two ranges, or many blocks, is counted once.
+    assert_eq!(rt; set.insert_range(alloc, 400, 402), Ok(0));
+    assert_eq!(rt; set.insert_range(alloc, 7, 7), Ok(0));
+    assert_eq!(rt; set.insert_range(alloc, 401, 405), Ok(2));
+    assert_eq!(rt; set.range_count(), 3000);
+    assert_eq!(rt; set.insert_range(alloc, 0, 12002), Ok(5998));
+    assert_eq!(rt; set.range_count(), 1);
+}
+
+#[test]
+fn a_copy_stays_while_ranges_are_inserted(rt: HostRuntime) {
+    let alloc = rt.alloc();
+    let mut set = Coverage::empty(alloc);
+    insert_turns(&rt, alloc, &mut set, 0, 1500);
+    let copy = set.try_copy(alloc).expect(&rt, "memory");
+    insert_turns(&rt, alloc, &mut set, 1500, 3001);
+    assert_eq!(rt; copy.count(), 3000);
+    assert!(rt; set.covers(&copy) && !copy.covers(&set));
+    let mut both = copy.try_copy(alloc).expect(&rt, "memory");
+    assert_eq!(rt; both.insert_all(alloc, &set), Ok(3002));
+    assert!(rt; both.same(&set));
+    assert_eq!(rt; both.insert_all(alloc, &copy), Ok(0));
+}

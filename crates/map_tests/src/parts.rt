@@ -155,6 +155,32 @@ fn a_map_does_commands(rt: HostRuntime) {
 }
 
 #[test]
+fn one_add_alone(rt: HostRuntime) {
+    let alloc = rt.alloc();
+    let mut map = map_of(&rt, alloc, &[(BASE, BASE + 10)]);
+    let before = map.part(Part::of(1)).try_copy(alloc).expect(&rt, "memory");
+    let add = one(
+        &rt,
+        alloc,
+        Command::Add(ranges(&rt, alloc, &[(BASE + 5, BASE + 20)])),
+    );
+    let replies = map.apply(alloc, &add).expect(&rt, "memory");
+    assert_eq!(rt; changed(&replies), Some(10));
+    assert_eq!(rt; map.part(Part::of(1)).count(), 20);
+    assert_eq!(rt; before.count(), 10);
+    // Two parts, and a set of two ranges.
+    let across = Command::Add(ranges(&rt, alloc, &[(2 * BASE - 3, 2 * BASE + 3)]));
+    assert!(rt; matches!(map.answer(alloc, &across), Ok(Reply::Changed(6))));
+    let two = Command::Add(ranges(
+        &rt,
+        alloc,
+        &[(3 * BASE, 3 * BASE + 1), (4 * BASE - 1, 4 * BASE)],
+    ));
+    assert!(rt; matches!(map.answer(alloc, &two), Ok(Reply::Changed(2))));
+    assert_eq!(rt; map.part(Part::of(3)).count(), 2);
+}
+
+#[test]
 fn a_batch_is_prepared_from_a_part(rt: HostRuntime) {
     let alloc = rt.alloc();
     let map = map_of(&rt, alloc, &[(0, 3 * BASE)]);

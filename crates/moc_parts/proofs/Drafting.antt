@@ -100,7 +100,7 @@ part-with_other a b part k other lies = same_members _ _ (λ q.
     ∙ there (set.contains a q) (set.contains part q) (q / base_pixel_size) b k other (has-lying part b q lies)
     ∙ sym (contains-part_of a k q))
 
-set-parts : (a : NumberSet) (b : ℕ) (part : NumberSet) → b < 12 → part_of part b ≡ part → set_at (parts_below a 12) b part ≡ parts_below (with_part a b part) 12
+pub set-parts : (a : NumberSet) (b : ℕ) (part : NumberSet) → b < 12 → part_of part b ≡ part → set_at (parts_below a 12) b part ≡ parts_below (with_part a b part) 12
 set-parts a b part l lies =
     let len : length (parts_below a 12) ≡ 12 = length-parts_below a 12 in
     ext_get_or set.empty (set_at (parts_below a 12) b part) (parts_below (with_part a b part) 12)

@@ -15,3 +15,4 @@ pub mod InOrder
 pub mod Drafting
 pub mod Placing
 pub mod Rising
+pub mod Putting

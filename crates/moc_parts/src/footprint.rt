@@ -1,8 +1,8 @@
 //! The parts that operands and cells lie in.
-ghost use Rattle.std.specs.Prelude.{◌≡◌, ◌<◌, ℕ};
+ghost use Rattle.std.specs.Prelude.{◌≡◌, ◌<◌, ℕ, IfSome};
 ghost use Rattle.std.specs.FinSet as set;
 ghost use Rattle.moc_parts.specs.Commands.{parts_around, parts_met};
-ghost use Rattle.moc_ranges.specs.Operations.{IsWithin};
+ghost use Rattle.moc_ranges.specs.Operations.{part_of, IsWithin};
 ghost use Rattle.moc_ranges.specs.Pixels.{pixels};
 ghost use Rattle.moc_sphere.specs.Faces.{face_of};
 
@@ -27,6 +27,20 @@ pub(crate) fn parts_met(operand: &Coverage) -> PartSet
         from = b + 1;
     }
     parts
+}
+
+/// The part that a set lies in, if there is one and the set is not empty.
+pub(crate) fn only_part(operand: &Coverage) -> Option<u8>
+    ensures { IfSome result (λ b. (b < 12) × (part_of operand.now b ≡ operand.now)) }
+{
+    if operand.is_empty() {
+        return None;
+    }
+    let b = operand.next_base_pixel(0)?;
+    if operand.next_base_pixel(b + 1).is_some() {
+        return None;
+    }
+    Some(b)
 }
 
 /// The base pixels of a cell and of the cells that touch it.

@@ -1,15 +1,18 @@
 //! A set of pixels in twelve parts.
-ghost use Rattle.std.specs.Prelude.{◌≡◌, IfOk, OnOk, OnErr, length};
+ghost use Rattle.std.specs.Prelude.{◌≡◌, ◌<◌, [], ◌∷◌, IfOk, IfSome, MatchOption, OnOk, OnErr, OnSome, length};
+ghost use Rattle.std.specs.FinSet as set;
 ghost use Rattle.moc_ranges.specs.Operations.{part_of, IsWithin};
 ghost use Rattle.moc_ranges.specs.Pixels.{pixels};
 ghost use Rattle.moc_parts.specs.Batches.{replies_on, set_after_all};
-ghost use Rattle.moc_parts.specs.Commands.{reply_on, set_after};
+ghost use Rattle.moc_parts.specs.Commands.{operand_set, reply_on, set_after};
+ghost use Rattle.moc_parts.specs.declared.reply.Reply.TheVariants as reply;
 ghost use Rattle.moc_parts.specs.Private.Drafts.{current_lists};
 ghost use Rattle.moc_parts.specs.Prepared.{found_sets};
 
 use crate::batch::Batch;
-use crate::command::Command;
+use crate::command::{Command, Operand};
 use crate::draft::Draft;
+use crate::footprint::only_part;
 use crate::lists::Lists;
 use crate::part::Part;
 use crate::reply::{Replies, Reply};
@@ -68,13 +71,19 @@ impl Map {
 
     /// Does the commands of a batch in order, and replies to each.
     ///
-    /// A list that a command changes is made anew, in one pass; one that none changes is not copied. Refused where memory
-    /// runs out; the map then is as it was.
+    /// A list that a command changes is made anew, in one pass; one that none changes is not copied. One `add` alone,
+    /// whose operand lies in one part, is put into the list of that part. Refused where memory runs out; the map then is
+    /// as it was.
     pub fn apply(&mut self, alloc: Global, batch: &Batch) -> Result<Replies, Memory>
         ensures set { OnOk result (self.new ≡ set_after_all self.old batch.now) }
         ensures replies { IfOk result (λ r. r ≡ replies_on self.old batch.now) }
         ensures unchanged { OnErr result (self.new ≡ self.old) }
     {
+        if let [Command::Add(operand)] = batch.commands() {
+            if let Some(replies) = self.add_alone(alloc, operand)? {
+                return Ok(replies);
+            }
+        }
         let lists = lists(&self.parts);
         let nothing = Coverage::empty(alloc);
         let mut draft = Draft::from_found(alloc, &lists, &nothing);
@@ -82,6 +91,36 @@ impl Map {
         let made = draft.into_made();
         put_all(&mut self.parts, made);
         Ok(replies)
+    }
+
+    /// Adds the set of an operand, and replies to that, where the set lies in one part and is not degraded. None where it
+    /// does not; the map then is as it was.
+    fn add_alone(&mut self, alloc: Global, operand: &Operand) -> Result<Option<Replies>, Memory>
+        ensures added { IfOk result (λ r. MatchOption r (self.new ≡ self.old) (λ r.
+            (self.new ≡ set.union self.old (operand_set operand.now))
+            × (r ≡ reply.Changed (set.len (set.difference (operand_set operand.now) self.old)) ∷ []))) }
+        ensures unchanged { OnErr result (self.new ≡ self.old) }
+    {
+        let Some(b) = own_part(operand) else {
+            return Ok(None);
+        };
+        // All that can be refused comes before the set changes.
+        let mut replies = Replies::one(alloc, Reply::Changed(0))?;
+        let added = self.insert_into(alloc, b, &operand.set)?;
+        replies.set_only(Reply::Changed(added));
+        Ok(Some(replies))
+    }
+
+    /// Adds a set to the part that it lies in, and tells how many pixels are new.
+    fn insert_into(&mut self, alloc: Global, b: u8, more: &Coverage) -> Result<u64, Memory>
+        requires part { b < 12 }
+        requires lies { part_of more.now b ≡ more.now }
+        ensures set { OnOk result (self.new ≡ set.union self.old more.now) }
+        ensures added { IfOk result (λ n. n ≡ set.len (set.difference more.now self.old)) }
+        ensures unchanged { OnErr result (self.new ≡ self.old) }
+    {
+        let added = self.parts[usize::from(b)].insert_all(alloc, more)?;
+        Ok(added)
     }
 
     /// Does one command, and replies to it: as `apply` does the batch of it, without a batch.
@@ -92,6 +131,12 @@ impl Map {
         ensures reply { IfOk result (λ r. r ≡ reply_on self.old command.now) }
         ensures unchanged { OnErr result (self.new ≡ self.old) }
     {
+        if let Command::Add(operand) = command {
+            if let Some(b) = own_part(operand) {
+                let added = self.insert_into(alloc, b, &operand.set)?;
+                return Ok(Reply::Changed(added));
+            }
+        }
         // The operand lies in the sky, and an order or a cell is one.
         command.lies_in_sky();
         let lists = lists(&self.parts);
@@ -101,6 +146,18 @@ impl Map {
         let made = draft.into_made();
         put_all(&mut self.parts, made);
         Ok(reply)
+    }
+}
+
+/// The part that the set of an operand lies in, where it is not degraded, if there is one and the set is not empty.
+fn own_part(operand: &Operand) -> Option<u8>
+    ensures part { IfSome result (λ b. b < 12) }
+    ensures lies { IfSome result (λ b. part_of operand.now.set b ≡ operand.now.set) }
+    ensures set { OnSome result (operand_set operand.now ≡ operand.now.set) }
+{
+    match operand.coarse {
+        Some(_) => None,
+        None => only_part(&operand.set),
     }
 }
 

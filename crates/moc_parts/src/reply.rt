@@ -1,5 +1,5 @@
 //! What a map replies.
-ghost use Rattle.std.specs.Prelude.{◌≡◌, ◌++◌, ◌∷◌, [], IfOk, OnOk, slice_get};
+ghost use Rattle.std.specs.Prelude.{◌≡◌, ◌++◌, ◌∷◌, [], IfOk, OnOk, length, slice_get};
 ghost use Rattle.std.specs.Option.{option_copied};
 
 use moc_ranges::{Coverage, Memory};
@@ -74,6 +74,23 @@ impl Replies {
     {
         self.replies.push(reply)?;
         Ok(())
+    }
+
+    /// One reply.
+    pub(crate) fn one(alloc: Global, reply: Reply) -> Result<Replies, Memory>
+        ensures { IfOk result (λ r. r ≡ reply ∷ []) }
+    {
+        let mut replies = Replies::new(alloc);
+        replies.push(reply)?;
+        Ok(replies)
+    }
+
+    /// Puts another reply in place of the only one.
+    pub(crate) fn set_only(&mut self, reply: Reply)
+        requires { length self.old ≡ 1 }
+        ensures { self.new ≡ reply ∷ [] }
+    {
+        self.replies[0] = reply;
     }
 
     /// The replies, in the order of the commands. Takes no memory.

@@ -21,3 +21,4 @@ pub mod Slices
 pub mod Shortening
 pub mod Differing
 pub mod Deepest
+pub mod Adding

@@ -8,3 +8,4 @@ pub mod Kept
 pub mod Walks
 pub mod Gathered
 pub mod Few
+pub mod Added

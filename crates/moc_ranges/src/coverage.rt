@@ -1,7 +1,7 @@
 //! Sets of pixels, and the operations on them.
 ghost use Rattle.std.specs.Prelude.{◌≡◌, ℕ, true, not, IfSome, MatchOption, ◌+◌, ◌<◌, ◌≤◌, ◌↔◌, nat_lt, IsTrue};
 ghost use Rattle.std.specs.Prelude.{List, length};
-ghost use Rattle.std.specs.Prelude.{IfOk, IfErr, OnOk, None, unwrap_or};
+ghost use Rattle.std.specs.Prelude.{IfOk, IfErr, OnOk, OnErr, None, unwrap_or};
 ghost use Rattle.moc_ranges.specs.Faults.{first_fault};
 ghost use Rattle.std.specs.Cmp.{partial_equiv_from_equiv};
 ghost use Rattle.std.specs.FinSet as set;
@@ -202,6 +202,62 @@ impl Coverage {
     {
         let list = unite(alloc, self.ranges(), other.ranges())?;
         Ok(Coverage { list })
+    }
+
+    /// Adds the pixels from one up to, not including, another, and tells how many of them are new.
+    ///
+    /// Mostly O(log n), whatever shares the blocks: the block that the range goes to is made anew, with the pointers to
+    /// the others of its node. As a union where it touches more than one block, or no block can take it by the rules of
+    /// lengths. Refused where memory runs out; the set then is as it was.
+    pub fn insert_range(&mut self, alloc: Global, from: u64, to: u64) -> Result<u64, Memory>
+        requires within { to ≤ pixel_count }
+        ensures set { OnOk result (self.new ≡ set.union self.old (numbers from to)) }
+        ensures added { IfOk result (λ n. n ≡ set.len (set.difference (numbers from to) self.old)) }
+        ensures unchanged { OnErr result (self.new ≡ self.old) }
+    {
+        if to <= from {
+            return Ok(0);
+        }
+        if self.covers_range(from, to) {
+            return Ok(0);
+        }
+        let inserted = self.list.insert(alloc, from, to)?;
+        match inserted {
+            Some(added) => Ok(added),
+            None => self.insert_anew(alloc, from, to),
+        }
+    }
+
+    /// The same by a union.
+    fn insert_anew(&mut self, alloc: Global, from: u64, to: u64) -> Result<u64, Memory>
+        requires filled { from < to }
+        requires within { to ≤ pixel_count }
+        ensures set { OnOk result (self.new ≡ set.union self.old (numbers from to)) }
+        ensures added { IfOk result (λ n. n ≡ set.len (set.difference (numbers from to) self.old)) }
+        ensures unchanged { OnErr result (self.new ≡ self.old) }
+    {
+        let range = [(from, to)];
+        let list = unite(alloc, self.list.ranges(), Ranges::of(&range))?;
+        let added = list.measure() - self.list.measure();
+        self.list = list;
+        Ok(added)
+    }
+
+    /// Adds the pixels of another set, and tells how many of them are new. As `insert_range` where the other is one
+    /// range, and else as `union`. Refused where memory runs out; the set then is as it was.
+    pub fn insert_all(&mut self, alloc: Global, other: &Coverage) -> Result<u64, Memory>
+        ensures set { OnOk result (self.new ≡ set.union self.old other.now) }
+        ensures added { IfOk result (λ n. n ≡ set.len (set.difference other.now self.old)) }
+        ensures unchanged { OnErr result (self.new ≡ self.old) }
+    {
+        if let Some([range]) = other.ranges().few() {
+            return self.insert_range(alloc, range.0, range.1);
+        }
+        let added = other.count() - self.count_common(other);
+        if added > 0 {
+            *self = self.union(alloc, other)?;
+        }
+        Ok(added)
     }
 
     /// The pixels that both sets have. One pass, O(n + m), in which blocks and nodes that the other

@@ -1,11 +1,13 @@
 //! The one normal list of ranges of a set, kept in blocks.
-ghost use Rattle.std.specs.Prelude.{◌≡◌, ◌<◌, ◌≤◌, [], ◌∷◌, IfOk, MatchOption};
+ghost use Rattle.std.specs.Prelude.{◌≡◌, ◌<◌, ◌≤◌, [], ◌∷◌, IfOk, OnErr, MatchOption};
 ghost use Rattle.moc_ranges.specs.Pixels.{pixel_count};
 ghost use Rattle.moc_ranges.specs.RangeList.{IsNormal, in_ranges, set_of};
 ghost use Rattle.moc_ranges.specs.Blocks.{joining, AreBlocks, IsSearchOf};
 ghost use Rattle.moc_ranges.specs.Private.Blocks.{IsStored, rest_of, width_of};
 ghost use Rattle.moc_ranges.specs.Private.Walks.{EndsBy, IsFirstPast};
+ghost use Rattle.moc_ranges.specs.Private.Added.{HasGrown};
 
+pub mod added;
 pub mod ahead;
 pub mod block;
 pub mod builder;
@@ -17,6 +19,7 @@ pub mod runs;
 pub mod search;
 pub mod steps;
 
+use crate::list::added::{insert_few, insert_in_nodes};
 use crate::list::block::measure_ranges;
 use crate::list::chunks::Chunks;
 use crate::list::node::{Node, measure_nodes, share_nodes};
@@ -145,5 +148,23 @@ impl RangeList {
         let few = self.few.to_vec(alloc)?;
         let nodes = share_nodes(alloc, &self.nodes)?;
         Ok(Self { few, nodes })
+    }
+
+    /// Adds a range where that changes one block alone, and tells how many numbers are new: the block is made anew, with
+    /// the pointers to the others of its node. None where it does not, or a rule of lengths would be broken; the list
+    /// then is as it was. O(log n).
+    pub fn insert(&mut self, alloc: Global, from: u64, to: u64) -> Result<Option<u64>, AllocError>
+        requires filled { from < to }
+        requires within { to ≤ pixel_count }
+        ensures inserted { IfOk result (λ n. MatchOption n (self.new ≡ self.old) (λ n.
+            HasGrown from to self.old self.new n)) }
+        ensures unchanged { OnErr result (self.new ≡ self.old) }
+        ensures normal_before { IsNormal self.old }
+        ensures normal { IsNormal self.new }
+    {
+        if self.nodes.is_empty() {
+            return insert_few(alloc, &mut self.few, from, to);
+        }
+        insert_in_nodes(alloc, &mut self.nodes, from, to)
     }
 }

@@ -427,7 +427,7 @@ pub fn end_below(ranges: &[(u64, u64)], f: u64) -> bool
 }
 
 /// How many ranges the first of some blocks has, 0 if there is none.
-fn length_of_first(blocks: &[Block]) -> usize
+pub fn length_of_first(blocks: &[Block]) -> usize
     ensures value { result ≡ first_length blocks.now }
     ensures fits { result ≤ LONGEST }
 {
@@ -458,7 +458,7 @@ fn length_in_nodes(nodes: &[Node]) -> usize
 }
 
 /// How many ranges the last block has, 0 if there is none.
-fn length_of_last(nodes: &[Node], blocks: &[Block]) -> usize
+pub fn length_of_last(nodes: &[Node], blocks: &[Block]) -> usize
     ensures { result ≡ last_length (joining nodes.now ++ blocks.now) }
 {
     match blocks {
@@ -468,7 +468,7 @@ fn length_of_last(nodes: &[Node], blocks: &[Block]) -> usize
 }
 
 /// How many blocks the last node has, 0 if there is none.
-fn width_of_last(nodes: &[Node]) -> usize
+pub fn width_of_last(nodes: &[Node]) -> usize
     ensures value { result ≡ last_length nodes.now }
     ensures fits { result ≤ WIDEST }
 {

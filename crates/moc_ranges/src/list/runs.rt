@@ -92,7 +92,7 @@ impl Run for Node {
 
 /// How many of the runs end by a number. O(log n).
 #[inline]
-fn count_ended<T: Run>(runs: &[T], limit: u64) -> usize
+pub(crate) fn count_ended<T: Run>(runs: &[T], limit: u64) -> usize
     requires { IsNormal (joined T.ranges runs.now) }
     ensures bound { result ≤ length runs.now }
     ensures ended { EndsBy limit (joined T.ranges (take result runs.now)) }

@@ -1,0 +1,40 @@
+use Rattle.std.proofs.Common.{rules, ◌≡◌, ◌<◌, ◌∙◌, ap, sym, subst, length, get_or}
+use Rattle.std.specs.Prelude.{set as set_at}
+use Rattle.std.specs.FinSet as set
+use Rattle.moc_ranges.specs.Numbers.{NumberSet}
+use Rattle.moc_parts.specs.Parts.{union_of, AreParts, parts_below}
+use Rattle.moc_ranges.specs.Operations.{part_of}
+use Rattle.moc_parts.proofs.Twelve.{parts_length, get-parts, made_parts, made_union}
+use Rattle.moc_parts.proofs.Putting.{put_into, more_within, new_in_part}
+use Rattle.moc_parts.proofs.map.Map.insert_into.Goals as goal
+
+pub index_mut-requires : goal.index_mut-requires
+index_mut-requires c = let twelve : length c.self.inside.parts.items ≡ 12 = parts_length c.self.inside.parts.items c.self.invariant in search rules
+
+pub invariant_of-self-2 : goal.invariant_of-self-2
+invariant_of-self-2 c =
+    let sets = c.self.inside.parts.items in
+    let b = c.args.b in
+    let was = c.index_mut.ensures.value ∙ ap (λ k. get_or sets k c.index_mut.result.now) c.from.ensures ∙ get-parts sets b c.index_mut.result.now c.self.invariant c.requires.part in
+    let new = c.in_ok-added.ensures.set ∙ ap (λ s. set.union s c.args.more.now) was in
+    let put = ap (λ k. set_at sets k c.insert_all.new.self) c.from.ensures ∙ put_into sets b c.args.more.now c.insert_all.new.self c.self.invariant c.requires.part c.requires.lies new in
+    made_parts (set_at sets c.from.result c.insert_all.new.self) (set.union (union_of sets) c.args.more.now) put (more_within sets b c.args.more.now c.self.invariant c.requires.part c.requires.lies)
+
+pub returns-clause-set : goal.returns-clause-set
+returns-clause-set c =
+    let sets = c.self.inside.parts.items in
+    let b = c.args.b in
+    let was = c.index_mut.ensures.value ∙ ap (λ k. get_or sets k c.index_mut.result.now) c.from.ensures ∙ get-parts sets b c.index_mut.result.now c.self.invariant c.requires.part in
+    let new = c.in_ok-added.ensures.set ∙ ap (λ s. set.union s c.args.more.now) was in
+    let put = ap (λ k. set_at sets k c.insert_all.new.self) c.from.ensures ∙ put_into sets b c.args.more.now c.insert_all.new.self c.self.invariant c.requires.part c.requires.lies new in
+    made_union (set_at sets c.from.result c.insert_all.new.self) (set.union (union_of sets) c.args.more.now) put (more_within sets b c.args.more.now c.self.invariant c.requires.part c.requires.lies)
+    ∙ ap (λ (s : NumberSet). set.union s c.args.more.now) c.self.view_is
+
+pub returns-clause-added : goal.returns-clause-added
+returns-clause-added c =
+    let sets = c.self.inside.parts.items in
+    let b = c.args.b in
+    let was = c.index_mut.ensures.value ∙ ap (λ k. get_or sets k c.index_mut.result.now) c.from.ensures ∙ get-parts sets b c.index_mut.result.now c.self.invariant c.requires.part in
+    c.in_ok-added.ensures.added ∙ ap (λ (s : NumberSet). set.len (set.difference c.args.more.now s)) was
+    ∙ ap set.len (new_in_part (union_of sets) c.args.more.now b c.requires.lies)
+    ∙ ap (λ (s : NumberSet). set.len (set.difference c.args.more.now s)) c.self.view_is

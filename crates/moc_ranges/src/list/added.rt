@@ -1,0 +1,438 @@
+//! A list in blocks with one range more: the block that it goes to is made anew, with its node, and all others stay.
+ghost use Rattle.std.specs.Prelude.{◌≡◌, ◌+◌, ◌<◌, ◌≤◌, ◌++◌, [], ◌∷◌, length, take, drop, min};
+ghost use Rattle.std.specs.Prelude.{IfOk, IfSome, MatchOption, OnOk, OnErr};
+ghost use Rattle.std.specs.Bool.{OnTrue};
+ghost use Rattle.moc_ranges.specs.Pixels.{pixel_count};
+ghost use Rattle.moc_ranges.specs.RangeList.{IsNormal};
+ghost use Rattle.moc_ranges.specs.Private.Blocks.{joining, next_of, AreFilled, AreBlocks, IsStored};
+ghost use Rattle.moc_ranges.specs.Private.Built.{first_length, EndsBelow};
+ghost use Rattle.moc_ranges.specs.Private.Walks.{joined};
+ghost use Rattle.moc_ranges.specs.Private.Added.{pieces, with_second};
+ghost use Rattle.moc_ranges.specs.Private.Added.{IsAround, IsReach, HasOneMore, HasGrown, IsCut, IsRegrown, IsRenewed};
+
+use crate::list::ahead::{Ahead, front_from};
+use crate::list::block::{Block, LONGEST, measure_ranges};
+use crate::list::kept::{length_of_first, length_of_last, width_of_last};
+use crate::list::node::{Node, WIDEST};
+use crate::list::runs::{Run, count_ended};
+use std::alloc::{AllocError, Global};
+
+/// A run of some, those before it, and those behind it.
+#[derive(Clone, Copy)]
+struct Around<'a, T> {
+    before: &'a [T],
+    run: &'a T,
+    behind: &'a [T],
+}
+
+/// The first of the runs that does not end below a number, or the last of them. O(log n).
+fn place_of<T: Run>(runs: &[T], from: u64) -> Option<Around<'_, T>>
+    requires { IsNormal (joined T.ranges runs.now) }
+    ensures { IfSome result (λ a. IsAround T.ranges from runs.entry.now a.before.now a.run.now a.behind.now) }
+{
+    let ended = count_ended(runs, from.saturating_sub(1));
+    let place = ended.min(runs.len().saturating_sub(1));
+    let [run, behind @ ..] = &runs[place..] else {
+        return None;
+    };
+    Some(Around {
+        before: &runs[..place],
+        run,
+        behind,
+    })
+}
+
+/// Where a range ends, and the ranges behind it.
+#[derive(Clone, Copy)]
+struct Reach<'a> {
+    end: u64,
+    rest: &'a [(u64, u64)],
+}
+
+/// Takes the ranges that a range reaches, of those that begin no sooner, into it.
+fn reached(start: u64, to: u64, ranges: &[(u64, u64)]) -> Reach<'_>
+    requires normal { IsNormal ranges.now }
+    requires filled { start < to }
+    requires within { to ≤ pixel_count }
+    requires later { start ≤ next_of ranges.now }
+    ensures { IsReach start to ranges.entry.now result.end result.rest.now }
+{
+    let mut end = to;
+    let mut rest = ranges;
+    while let [range, behind @ ..] = rest {
+        if end < range.0 {
+            break;
+        }
+        end = end.max(range.1);
+        rest = behind;
+    }
+    Reach { end, rest }
+}
+
+/// Where a range begins once it took in the first of some ranges, of which none ends below it.
+fn start_of(from: u64, ranges: &[(u64, u64)]) -> u64
+    ensures { result ≡ min from (next_of ranges.now) }
+{
+    match ranges {
+        [range, ..] => from.min(range.0),
+        [] => from,
+    }
+}
+
+/// Ranges with one more. Their list has no room left free.
+pub fn with_range(
+    alloc: Global,
+    ranges: &[(u64, u64)],
+    from: u64,
+    to: u64,
+) -> Result<Vec<(u64, u64)>, AllocError>
+    requires normal { IsNormal ranges.now }
+    requires filled { from < to }
+    requires within { to ≤ pixel_count }
+    ensures { IfOk result (λ v. HasOneMore from to ranges.now v.items) }
+{
+    let ended = count_ended(ranges, from.saturating_sub(1));
+    let first = &ranges[..ended];
+    let start = start_of(from, &ranges[ended..]);
+    let Reach { end, rest } = reached(start, to, &ranges[ended..]);
+    let mut new = Vec::with_capacity(alloc, first.len() + 1 + rest.len())?;
+    new.extend_from_slice(first)?;
+    new.push((start, end))?;
+    new.extend_from_slice(rest)?;
+    Ok(new)
+}
+
+/// What a list was cut into: one list, or two where the second is not empty.
+#[derive(Drop)]
+struct Cut<T> {
+    first: Vec<T>,
+    second: Vec<T>,
+}
+
+/// Whether two lists of these lengths may stand side by side, of which the first may be missing.
+fn are_apart(most: usize, first: usize, second: usize) -> bool
+    requires { most ≤ 128 }
+    ensures { OnTrue result (0 < first → most < first + second) }
+{
+    first == 0 || second > most || first > most - second
+}
+
+/// Where to cut so many items, of which one list has at most so many, behind a list of some length.
+fn place_to_cut(most: usize, count: usize, before: usize) -> usize
+    requires { most ≤ 128 }
+    ensures { result ≤ count }
+{
+    if count <= most {
+        return count;
+    }
+    let half = most / 2;
+    if before > half { half } else { half + 1 }
+}
+
+/// Cuts a list into one list, or into two where it has too many items, between lists of these lengths. None where that
+/// breaks a rule of lengths.
+fn cut_list<T: Drop>(
+    alloc: Global,
+    items: Vec<T>,
+    most: usize,
+    before: usize,
+    behind: usize,
+) -> Result<Option<Cut<T>>, AllocError>
+    requires some { 0 < length items.items }
+    requires most { most ≤ 128 }
+    ensures { IfOk result (λ c. IfSome c (λ c. IsCut most before behind items.items c.first.items c.second.items)) }
+{
+    let mut first = items;
+    let place = place_to_cut(most, first.len(), before);
+    let rest = first.len() - place;
+    let last = if rest > 0 { rest } else { place };
+    if place == 0 || place > most || rest > most {
+        return Ok(None);
+    }
+    if !are_apart(most, before, place) || !are_apart(most, behind, last) {
+        return Ok(None);
+    }
+    if !are_apart(most, rest, place) {
+        return Ok(None);
+    }
+    let second = first.split_off(place)?;
+    Ok(Some(Cut { first, second }))
+}
+
+/// How many ranges the next block has, 0 if there is none.
+fn length_of_next(blocks: &[Block], nodes: &[Node]) -> usize
+    ensures { result ≡ first_length (blocks.now ++ joining nodes.now) }
+{
+    if blocks.is_empty() {
+        if let [node, ..] = nodes {
+            return length_of_first(node.blocks());
+        }
+    }
+    length_of_first(blocks)
+}
+
+/// How many blocks the first of some nodes has, 0 if there is none.
+fn width_of_first(nodes: &[Node]) -> usize
+    ensures { result ≡ first_length nodes.now }
+{
+    match nodes {
+        [node, ..] => node.blocks().len(),
+        [] => 0,
+    }
+}
+
+/// Puts blocks of what ranges were cut into behind blocks.
+fn push_pieces(
+    alloc: Global,
+    blocks: &mut Vec<Block>,
+    cut: Cut<(u64, u64)>,
+) -> Result<(), AllocError>
+    requires filled { AreBlocks (pieces cut.first.items cut.second.items) }
+    requires normal { IsNormal (cut.first.items ++ cut.second.items) }
+    ensures { OnOk result (blocks.new.items ≡ blocks.old.items ++ pieces cut.first.items cut.second.items) }
+{
+    let Cut { first, second } = cut;
+    blocks.push(Block::new(alloc, first)?)?;
+    if !second.is_empty() {
+        blocks.push(Block::new(alloc, second)?)?;
+    }
+    Ok(())
+}
+
+/// Puts the same blocks once more behind blocks.
+fn push_shared(blocks: &mut Vec<Block>, more: &[Block]) -> Result<(), AllocError>
+    ensures { OnOk result (blocks.new.items ≡ blocks.old.items ++ more.now) }
+{
+    for block in more {
+        blocks.push(block.share()?)?;
+    }
+    Ok(())
+}
+
+/// The blocks of a node that took in a range, and how many pixels are new.
+#[derive(Drop)]
+struct Regrown {
+    blocks: Vec<Block>,
+    added: u64,
+}
+
+/// The blocks around one, with blocks of what the ranges of that were cut into in its place.
+fn replaced(
+    alloc: Global,
+    place: Around<'_, Block>,
+    cut: Cut<(u64, u64)>,
+) -> Result<Vec<Block>, AllocError>
+    requires filled { AreBlocks (pieces cut.first.items cut.second.items) }
+    requires normal { IsNormal (cut.first.items ++ cut.second.items) }
+    ensures { IfOk result (λ v.
+        v.items ≡ place.entry.before.now ++ (pieces cut.first.items cut.second.items ++ place.entry.behind.now)) }
+{
+    let mut blocks = Vec::with_capacity(alloc, WIDEST + 1)?;
+    push_shared(&mut blocks, place.before)?;
+    push_pieces(alloc, &mut blocks, cut)?;
+    push_shared(&mut blocks, place.behind)?;
+    Ok(blocks)
+}
+
+/// The blocks of a node between others with one range more, where it touches no other block than that which it goes to,
+/// and the rules of lengths are kept.
+fn regrow(
+    alloc: Global,
+    before: &[Node],
+    node: &Node,
+    behind: &[Node],
+    from: u64,
+    to: u64,
+) -> Result<Option<Regrown>, AllocError>
+    requires sized { AreBlocks (joining before.now ++ (node.now ++ joining behind.now)) }
+    requires normal { IsNormal (joining (joining before.now ++ (node.now ++ joining behind.now))) }
+    requires filled { from < to }
+    requires within { to ≤ pixel_count }
+    requires below { EndsBelow from (joining (joining before.now)) }
+    ensures { IfOk result (λ r. IfSome r (λ r.
+        IsRegrown from to (joining before.now) (joining behind.now) node.now r.blocks.items r.added)) }
+{
+    let Some(place) = place_of(node.blocks(), from) else {
+        return Ok(None);
+    };
+    let ahead = Ahead {
+        blocks: place.behind,
+        nodes: behind,
+    };
+    if front_from(ahead) <= to {
+        return Ok(None);
+    }
+    let ranges = with_range(alloc, place.run.ranges(), from, to)?;
+    let added = measure_ranges(&ranges) - place.run.size();
+    let front = length_of_last(before, place.before);
+    let back = length_of_next(place.behind, behind);
+    let Some(cut) = cut_list(alloc, ranges, LONGEST, front, back)? else {
+        return Ok(None);
+    };
+    let blocks = replaced(alloc, place, cut)?;
+    Ok(Some(Regrown { blocks, added }))
+}
+
+/// What stands in place of a node that took in a range: one node or two, and how many pixels are new.
+#[derive(Drop)]
+pub struct Renewed {
+    pub place: usize,
+    pub first: Node,
+    pub second: Option<Node>,
+    pub added: u64,
+}
+
+/// The node of some blocks, if there are any.
+fn node_of(alloc: Global, blocks: Vec<Block>) -> Result<Option<Node>, AllocError>
+    requires normal { IsNormal (joining blocks.items) }
+    requires sized { AreBlocks blocks.items }
+    requires fits { length blocks.items ≤ WIDEST }
+    ensures { IfOk result (λ n. MatchOption n (blocks.items ≡ []) (λ n. (n ≡ blocks.items) × (0 < length blocks.items))) }
+{
+    if blocks.is_empty() {
+        return Ok(None);
+    }
+    let node = Node::new(alloc, blocks)?;
+    Ok(Some(node))
+}
+
+/// The node of some that a range goes to with that range, made anew. None where the range touches more than one block,
+/// or a rule of lengths would be broken.
+pub fn renew(
+    alloc: Global,
+    nodes: &[Node],
+    from: u64,
+    to: u64,
+) -> Result<Option<Renewed>, AllocError>
+    requires stored { IsStored [] nodes.now }
+    requires filled { from < to }
+    requires within { to ≤ pixel_count }
+    ensures { IfOk result (λ r. IfSome r (λ r.
+        IsRenewed from to nodes.entry.now r.place r.first r.second r.added)) }
+{
+    let Some(place) = place_of(nodes, from) else {
+        return Ok(None);
+    };
+    let Some(Regrown { blocks, added }) = regrow(
+        alloc,
+        place.before,
+        place.run,
+        place.behind,
+        from,
+        to,
+    )?
+    else {
+        return Ok(None);
+    };
+    let front = width_of_last(place.before);
+    let back = width_of_first(place.behind);
+    let Some(Cut { first, second }) = cut_list(alloc, blocks, WIDEST, front, back)? else {
+        return Ok(None);
+    };
+    let first = Node::new(alloc, first)?;
+    let second = node_of(alloc, second)?;
+    Ok(Some(Renewed {
+        place: place.before.len(),
+        first,
+        second,
+        added,
+    }))
+}
+
+/// Puts two nodes in place of one.
+fn put_two(nodes: &mut Vec<Node>, place: usize, first: Node, second: Node) -> Result<(), AllocError>
+    requires { place < length nodes.old.items }
+    ensures new { OnOk result (nodes.new.items
+        ≡ take place nodes.old.items ++ (first ∷ (second ∷ drop (place + 1) nodes.old.items))) }
+    ensures unchanged { OnErr result (nodes.new.items ≡ nodes.old.items) }
+{
+    nodes.insert(place + 1, second)?;
+    nodes[place] = first;
+    Ok(())
+}
+
+/// Puts a node in place of one.
+fn put_one(nodes: &mut Vec<Node>, place: usize, first: Node)
+    requires { place < length nodes.old.items }
+    ensures { nodes.new.items ≡ take place nodes.old.items ++ (first ∷ drop (place + 1) nodes.old.items) }
+{
+    nodes[place] = first;
+}
+
+/// Puts one node or two in place of one.
+pub fn put_nodes(
+    nodes: &mut Vec<Node>,
+    place: usize,
+    first: Node,
+    second: Option<Node>,
+) -> Result<(), AllocError>
+    requires { place < length nodes.old.items }
+    ensures new { OnOk result (nodes.new.items
+        ≡ take place nodes.old.items ++ (with_second first second ++ drop (place + 1) nodes.old.items)) }
+    ensures unchanged { OnErr result (nodes.new.items ≡ nodes.old.items) }
+{
+    if let Some(second) = second {
+        put_two(nodes, place, first, second)?;
+        return Ok(());
+    }
+    put_one(nodes, place, first);
+    Ok(())
+}
+
+/// Adds a range to few ranges, and tells how many numbers are new. None where they would be too many; they then are as
+/// they were.
+pub fn insert_few(
+    alloc: Global,
+    few: &mut Vec<(u64, u64)>,
+    from: u64,
+    to: u64,
+) -> Result<Option<u64>, AllocError>
+    requires normal { IsNormal few.old.items }
+    requires fits { length few.old.items ≤ LONGEST }
+    requires filled { from < to }
+    requires within { to ≤ pixel_count }
+    ensures fits { length few.new.items ≤ LONGEST }
+    ensures normal { IsNormal few.new.items }
+    ensures inserted { IfOk result (λ n. MatchOption n
+        (few.new.items ≡ few.old.items) (λ n. HasGrown from to few.old.items few.new.items n)) }
+    ensures unchanged { OnErr result (few.new.items ≡ few.old.items) }
+{
+    let ranges = with_range(alloc, few, from, to)?;
+    if ranges.len() > LONGEST {
+        return Ok(None);
+    }
+    let added = measure_ranges(&ranges) - measure_ranges(few);
+    *few = ranges;
+    Ok(Some(added))
+}
+
+/// Adds a range to nodes where that changes one block alone, and tells how many numbers are new. None where it does not,
+/// or a rule of lengths would be broken; the nodes then are as they were.
+pub fn insert_in_nodes(
+    alloc: Global,
+    nodes: &mut Vec<Node>,
+    from: u64,
+    to: u64,
+) -> Result<Option<u64>, AllocError>
+    requires stored { IsStored [] nodes.old.items }
+    requires filled { from < to }
+    requires within { to ≤ pixel_count }
+    ensures stored { IsStored [] nodes.new.items }
+    ensures inserted { IfOk result (λ n. MatchOption n (nodes.new.items ≡ nodes.old.items) (λ n.
+        HasGrown from to (joining (joining nodes.old.items)) (joining (joining nodes.new.items)) n)) }
+    ensures unchanged { OnErr result (nodes.new.items ≡ nodes.old.items) }
+{
+    let Some(
+        Renewed {
+            place,
+            first,
+            second,
+            added,
+        },
+    ) = renew(alloc, nodes, from, to)?
+    else {
+        return Ok(None);
+    };
+    put_nodes(nodes, place, first, second)?;
+    Ok(Some(added))
+}
