@@ -30,6 +30,11 @@ for operation in adds_only adds; do
     printf 'cds     '
     cds "$operation" 3
 done
+# Texts into memory, beside the operations of these names above: by its own writers, and cell by cell into a string.
+for operation in write_ascii cells_ascii write_json cells_json; do
+    printf 'cds     '
+    cds "$operation" 25
+done
 # Whole conversions by the program, and the peers' reading and writing in memory (the C++ peer's: read_a and write_json above).
 for forms in "ascii json" "json ascii" "ascii uniq" "uniq ascii"; do
     read -r from to <<< "$forms"
