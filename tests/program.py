@@ -38,6 +38,9 @@ CREWED = (b"changed 288230376151711744\nchanged 288230376151711744\ntotal 288230
 CLAIMS = b"claim 0/4\nhop\n\nclaim 1/17"
 CLAIMED = [b"claimed\nfault UnknownWord\ntaken 72057594037927936\ncover 0/4\n",
            b"taken 72057594037927936\nfault UnknownWord\nclaimed\ncover 1/17\n"]
+# Lines that each invert a set of 30,000 ranges sixteen times: to do all of them takes minutes.
+INVERSIONS = (b"add 9/" + b" ".join(b"%d" % cell for cell in range(0, 60_000, 2)) + b"\n"
+              + (b" ; ".join([b"invert"] * 16) + b"\n") * 20_000)
 # The calls of a running map that `refusals calls` makes, in order.
 CALLS = [b"new", b"try_apply of an update", b"try_apply of a query", b"apply of an update", b"apply of a query",
          b"finish of an update", b"finish of a query", b"answer", b"close"]
@@ -611,6 +614,33 @@ def threads_are_refused(tally, folder):
     tally.add("a crew without threads", seen == (3, b"", b"fault Spawn\n"), seen)
 
 
+def crews_stop(tally, folder, shim):
+    """Once a thread or memory is refused to a crew, its lanes stop before their next line, and do not do all that they were dealt."""
+    source, second = os.path.join(folder, "second.c"), os.path.join(folder, "second.so")
+    with open(source, "w", encoding="utf-8") as file:
+        file.write("#define _GNU_SOURCE\n#include <dlfcn.h>\n#include <pthread.h>\n"
+                   "int pthread_create(pthread_t *thread, const pthread_attr_t *kind, void *(*work)(void *), void *given) {\n"
+                   "    static int calls;\n"
+                   "    int (*create)(pthread_t *, const pthread_attr_t *, void *(*)(void *), void *) = dlsym(RTLD_NEXT, \"pthread_create\");\n"
+                   "    return calls++ ? 11 : create(thread, kind, work, given);\n}\n")
+    subprocess.run(["cc", "-shared", "-fPIC", "-o", second, source], check=True)
+    memory, spawn = (3, b"", b"fault Memory\n"), (3, b"", b"fault Spawn\n")
+    space = 96 << 20
+    for name, wanted, run in [
+            ("a crew without its second thread ends soon", {spawn},
+             lambda: outcome(["crew", "2"], INVERSIONS, env=dict(os.environ, LD_PRELOAD=second))),
+            ("a crew that was refused memory ends soon", {memory},
+             lambda: outcome(["crew", "2"], INVERSIONS, env=dict(os.environ, REFUSE="2000", LD_PRELOAD=shim))),
+            ("a crew in too small an address space ends soon", {memory, spawn},
+             lambda: outcome(["crew", "64"], INVERSIONS,
+                             preexec_fn=lambda: resource.setrlimit(resource.RLIMIT_AS, (space, space))))]:
+        try:
+            seen = run()
+        except subprocess.TimeoutExpired as late:
+            seen = late
+        tally.add(name, seen in wanted, seen)
+
+
 def main():
     tally = Tally()
     words_are_answered(tally)
@@ -635,6 +665,7 @@ def main():
         refused_crew_is_told(tally, shim)
         shared_calls_refuse(tally, shim)
         threads_are_refused(tally, folder)
+        crews_stop(tally, folder, shim)
     conversations_are_held(tally)
     readers_close_their_pipes(tally)
     late_readers_are_waited_for(tally)

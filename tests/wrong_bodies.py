@@ -19,7 +19,7 @@ Refusals are of three kinds, and the last lines tell how many there are of each:
 
 usage: tests/wrong_bodies.py [--jobs N] [--told FOLDER] [CRATE | CRATE/EDIT]..
 
-`--told FOLDER` keeps there what each check told.
+`--told FOLDER` keeps there what each check told, and makes the folder where there is none.
 
 All is done in rooms, over what the crates' `out` folders hold of their proofs, which `tools/build.py` brings up to date first: what is kept
 can make no refusal false, since an edited function is checked anew. A check that takes too long tells nothing, and its edits fail. Where all
@@ -47,7 +47,7 @@ SECONDS = 3600
 # A row of the table of edits and tests, on the page about the gate.
 ROW = re.compile(r"^\| `(\w+)` \| (\d+) \|", re.MULTILINE)
 # What a name stands for that went with the edited text: such an error says nothing of the contract.
-NAME_GONE = re.compile(r"has no field|is not in scope|has no `|was not admitted|(?:expected|takes) \d+ argument")
+NAME_GONE = re.compile(r"has no field|is not a field|\(nearest: |is not in scope|has no `|was not admitted|(?:expected|takes) \d+ argument")
 # What a refusal shows, from the most to nothing.
 KINDS = ("clause", "answers", "name")
 
@@ -352,6 +352,8 @@ def main():
     # The checks with the most edits take the longest, and begin first.
     rounds = sorted((one for crate, own in edits.items() for one in rounds_of(crate, own)), key=lambda one: -len(one.edits))
     os.makedirs(ROOMS, exist_ok=True)
+    if given.told:
+        os.makedirs(given.told, exist_ok=True)
     with ThreadPoolExecutor(given.jobs) as pool:
         list(pool.map(try_round, rounds))
     print("refused: " + ", ".join(f"{kind} {number}" for kind, number in kinds.items()))

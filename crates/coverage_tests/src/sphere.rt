@@ -72,6 +72,7 @@ fn plane_rows(rt: HostRuntime) -> Result<(), Fail> {
 #[test]
 fn touching_rows(rt: HostRuntime) -> Result<(), Fail> {
     for (order, index, touching) in [
+        (0, 0, [1, 2, 3, 4, 5, 8].as_slice()),
         (0, 4, [0, 3, 5, 7, 8, 11].as_slice()),
         (1, 0, [1, 2, 3, 17, 19, 22, 23, 35].as_slice()),
         (1, 1, [0, 2, 3, 6, 7, 22, 23].as_slice()),

@@ -11,7 +11,7 @@ use Rattle.moc_forms.specs.declared.form.Form.{Form}
 use Rattle.moc_forms.specs.declared.form.Form.TheVariants.{Ascii, Json, Uniq}
 use Rattle.moc_forms.specs.declared.form.FormError.{FormError}
 use Rattle.moc_forms.specs.declared.place.Place.{Place}
-use Rattle.moc_program.specs.Conversion.{HasFault, IsNotConverted, IsOfInput, IsTextFault, IsWhole, SaysNothing, TellsFault}
+use Rattle.moc_program.specs.Conversion.{HasFault, IsNotConverted, IsTextFault, IsWhole, SaysNothing, TellsFault}
 use Rattle.moc_program.specs.Faults.{fault_of_form}
 use Rattle.moc_program.specs.declared.status.Complaint.{Complaint}
 use Rattle.moc_program.specs.declared.status.Fault.{Fault}
@@ -88,8 +88,3 @@ pub not_written : {T : Type 0} (r : Result T Complaint) (f : Fault) (P : Complai
     → (f ≡ Memory) ⊎ (f ≡ TooCoarse) → ((c : Complaint) → c.fault ≡ Memory → P c) → IfErr r (λ c. P c ⊎ (c.fault ≡ TooCoarse))
 not_written (Ok v) f P same why of = tt
 not_written (Err c) f P same why of = elim (of_writing c f same.0 why) as (λ _. P c ⊎ (c.fault ≡ TooCoarse)) [ inl memory ↦ inl (of c memory) | inr coarse ↦ inr coarse ]
-
--- the same of a text that may be at fault
-pub of_text : (form : Form) (text : List ℕ) (number : Option ℕ) (c : Complaint) → (c.fault ≡ Memory) ⊎ TellsFault form text number c → IsOfInput c.fault ⊎ TellsFault form text number c
-of_text form text number c (inl memory) = inl (inr (inr memory))
-of_text form text number c (inr tells) = inr tells

@@ -1,7 +1,9 @@
 -- How a combination goes on with the bytes that it takes.
-use Rattle.std.proofs.Common.{◌≡◌, ◌≤◌, ◌<◌, ◌+◌, ◌∙◌, ◌⊎◌, inl, inr, ℕ, zero, suc, Bool, true, false, List, [], ◌∷◌, ◌++◌, Option, None, Some, arith, length, refl, sym, ap, subst, append_assoc, append-nil}
+use Rattle.std.proofs.Common.{◌≡◌, ◌≤◌, ◌<◌, ◌+◌, ◌∙◌, ◌⊎◌, inl, inr, ℕ, zero, suc, Bool, true, false, List, [], ◌∷◌, ◌++◌, Option, None, Some, arith, length, Contains, refl, sym, ap, subst, append_assoc, append-nil, length-append}
 use Rattle.std.specs.Prelude.{if◌then◌else◌}
-use Rattle.std.proofs.lemmas.List.Splits.{slice_split_at, slice_split_none, length-slice_split}
+use Rattle.std.specs.List.{onto_first}
+use Rattle.std.proofs.lemmas.List.Elements.{All-append, All-head, All-tail, Contains-append_right}
+use Rattle.std.proofs.lemmas.List.Splits.{slice_split-cons_no, slice_split_at, slice_split_none, length-slice_split}
 use Rattle.std.proofs.KnownBytes.{Consumes-trans}
 use Rattle.std.specs.Io.KnownBytes.{Consumes, IsAtEnd}
 use Rattle.moc_script.specs.Runs.{AreWithin}
@@ -9,12 +11,14 @@ use Rattle.moc_forms.specs.Combining.{CombinesTexts, Said, TextSays, are_blanks,
 use Rattle.moc_forms.specs.Finding.{form_for}
 use Rattle.moc_forms.specs.declared.combining.Operation.{Operation}
 use Rattle.moc_forms.specs.declared.finding.Choice.{Choice}
-use Rattle.moc_program.specs.Combining.{SayNothing, SaysTogether, TellsFirstFault}
-use Rattle.moc_program.specs.Conversion.{BringsPiece, IsOfInput, TellsFault}
+use Rattle.moc_program.specs.Combining.{AreLonger, HasLongPart, SayNothing, SaysTogether, TellsFirstFault}
+use Rattle.moc_program.specs.Conversion.{BringsPiece, TellsFault}
 use Rattle.moc_program.specs.Parting.{LacksSemicolons}
-use Rattle.moc_program.specs.Private.Running.{Begins, Ends, Fails, FailsWithin, IsOpen, Leads, SaysMore, RunsTo, TextsSay, semicolon, texts_behind}
+use Rattle.moc_program.specs.Private.Running.{AreNotTaken, Begins, Ends, Fails, FailsWithin, IsLong, IsOpen, Leads, SaysMore, RunsTo, TextsSay, semicolon, texts_behind}
 use Rattle.moc_program.specs.declared.combination.Combination.{Combination}
 use Rattle.moc_program.specs.declared.status.Complaint.{Complaint}
+use Rattle.moc_program.specs.declared.status.Fault.{Fault}
+use Rattle.moc_program.specs.declared.status.Fault.TheVariants.{Memory, TooLong}
 
 -- ---- the texts of bytes
 
@@ -76,6 +80,39 @@ first_fails number choice text texts c tells = record {
   tells = subst (λ n. TellsFault (form_for choice text) text (Some n) c) (omega arith) tells;
 }
 
+-- ---- bytes that are too long
+
+-- the first part has all bytes before the first semicolon
+first_part : (front rest : List ℕ) → LacksSemicolons front
+    → (part : List ℕ) × (more : List (List ℕ)) × (parts_of (front ++ rest) ≡ part ∷ more) × (length front ≤ length part)
+first_part [] rest lacks = by (parts_of rest) _ refl (length-slice_split is_semicolon rest)
+  where
+    by : (parts : List (List ℕ)) (n : ℕ) → parts_of rest ≡ parts → length parts ≡ n + 1
+        → (part : List ℕ) × (more : List (List ℕ)) × (parts_of rest ≡ part ∷ more) × (0 ≤ length part)
+    by [] n none some = absurd (omega (arith, some))
+    by (part ∷ more) n is some = (part, more, is, omega arith)
+first_part (b ∷ front) rest lacks =
+    let behind = first_part front rest (All-tail (λ x. is_semicolon x ≡ false) b front lacks) in (
+      b ∷ behind.0,
+      behind.1,
+      slice_split-cons_no is_semicolon b (front ++ rest) (All-head (λ x. is_semicolon x ≡ false) b front lacks) ∙ ap (onto_first b) behind.2,
+      omega (arith, behind.3),
+    )
+
+-- it is too long where these bytes are
+pub long_front : (front rest : List ℕ) → LacksSemicolons front → 16777216 < length front → HasLongPart (front ++ rest)
+long_front front rest lacks long =
+    let first = first_part front rest lacks in
+    (first.0, subst (λ parts. Contains parts first.0) (sym first.2) (0, omega arith, refl), omega (arith, long, first.3))
+
+-- a part behind a semicolon stays one
+long_behind : (text rest : List ℕ) → LacksSemicolons text → HasLongPart rest → HasLongPart (text ++ 59 ∷ rest)
+long_behind text rest lacks (part, here, long) = (
+  part,
+  subst (λ parts. Contains parts part) (sym (slice_split_at is_semicolon text 59 rest lacks refl)) (Contains-append_right (text ∷ []) (parts_of rest) part here),
+  long,
+)
+
 -- ---- a combination
 
 module _ (c d : Combination) (same_operation : d.operation ≡ c.operation) (same_choice : d.choice ≡ c.choice) (next : d.number ≡ c.number + 1) where
@@ -97,6 +134,10 @@ module _ (c d : Combination) (same_operation : d.operation ≡ c.operation) (sam
         (subst (λ f. TellsFirstFault d.number f (without_blank_end (parts_of rest)) complaint) same_choice
         (subst (λ b. TellsFirstFault d.number d.choice (texts_behind b rest) complaint) before
         (subst (λ t. TellsFirstFault d.number d.choice (texts_behind d.before (t ++ rest)) complaint) bare later)))));
+    longer = λ rest long. elim long [
+      | inl part ↦ inl (long_behind c.text.items rest opened.lacks (subst (λ t. HasLongPart (t ++ rest)) bare part))
+      | inr many ↦ inr (omega (arith, many, next))
+    ];
   }
 
   pub text_ended : (before : Option Said) (after : Said) → before ≡ c.before → IsOpen c → SaysMore c before after → d.text.items ≡ [] → d.before ≡ Some after → Leads c semicolon d
@@ -104,17 +145,17 @@ module _ (c d : Combination) (same_operation : d.operation ≡ c.operation) (sam
       text_ended_so after opened (subst (λ b. SaysMore c b after) same more) bare next_before
 
 -- a text that a semicolon ends is at fault
-pub ended_fails : (c : Combination) (complaint : Complaint) → IsOpen c → IsOfInput complaint.fault ⊎ TellsFault (form_for c.choice c.text.items) c.text.items (Some c.number) complaint
-    → IsOfInput complaint.fault ⊎ FailsWithin c semicolon complaint
-ended_fails c complaint opened (inl of) = inl of
+pub ended_fails : (c : Combination) (complaint : Complaint) → IsOpen c → (complaint.fault ≡ Memory) ⊎ TellsFault (form_for c.choice c.text.items) c.text.items (Some c.number) complaint
+    → AreNotTaken c semicolon complaint.fault ⊎ FailsWithin c semicolon complaint
+ended_fails c complaint opened (inl memory) = inl (inl memory)
 ended_fails c complaint opened (inr tells) = inr (λ rest.
     subst (λ texts. TellsFirstFault c.number c.choice texts complaint) (sym (parted c.before c.text.items rest opened.lacks))
     (first_fails c.number c.choice c.text.items (without_blank_end (parts_of rest)) complaint tells))
 
 -- the last text is at fault
 pub last_fails : (c : Combination) (complaint : Complaint) → IsOpen c → (c.before ≡ None) ⊎ (are_blanks c.text.items ≡ false)
-    → IsOfInput complaint.fault ⊎ TellsFault (form_for c.choice c.text.items) c.text.items (Some c.number) complaint → IsOfInput complaint.fault ⊎ Fails c [] complaint
-last_fails c complaint opened why (inl of) = inl of
+    → (complaint.fault ≡ Memory) ⊎ TellsFault (form_for c.choice c.text.items) c.text.items (Some c.number) complaint → (complaint.fault ≡ Memory) ⊎ Fails c [] complaint
+last_fails c complaint opened why (inl memory) = inl memory
 last_fails c complaint opened why (inr tells) = inr (
     subst (λ t. TellsFirstFault c.number c.choice (texts_behind c.before t) complaint) (sym (append-nil c.text.items))
     (subst (λ texts. TellsFirstFault c.number c.choice texts complaint) (sym (alone c.before c.text.items opened.lacks why))
@@ -145,7 +186,7 @@ blanks_say c after opened before blank =
 
 -- no bytes lead nowhere
 pub led : (c : Combination) → Leads c [] c
-led c = record { operation = refl; choice = refl; ends = λ rest after end. end; fails = λ rest complaint fails. fails }
+led c = record { operation = refl; choice = refl; ends = λ rest after end. end; fails = λ rest complaint fails. fails; longer = λ rest long. long }
 
 -- one lead after another
 pub led_on : (a b c : Combination) (xs ys : List ℕ) → Leads a xs b → Leads b ys c → Leads a (xs ++ ys) c
@@ -158,12 +199,65 @@ led_on a b c xs ys first second = record {
   fails = λ rest complaint fails.
       subst (λ bytes. Fails a bytes complaint) (sym (append_assoc xs ys rest))
       (first.fails (ys ++ rest) complaint (second.fails rest complaint fails));
+  longer = λ rest long. subst (IsLong a) (sym (append_assoc xs ys rest)) (first.longer (ys ++ rest) (second.longer rest long));
 }
 
+-- bytes without a semicolon are put behind the text
+pub led_by : (c d : Combination) (bytes : List ℕ) → d.operation ≡ c.operation → d.choice ≡ c.choice → d.number ≡ c.number → d.before ≡ c.before
+    → d.text.items ≡ c.text.items ++ bytes → Leads c bytes d
+led_by c d bytes operation choice number before text = record {
+  operation = operation;
+  choice = choice;
+  ends = λ rest after end.
+      subst (λ t. TextsSay c.operation c.choice c.before t after) (behind rest)
+      (subst (λ b. TextsSay c.operation c.choice b (d.text.items ++ rest) after) before
+      (subst (λ f. TextsSay c.operation f d.before (d.text.items ++ rest) after) choice
+      (subst (λ o. TextsSay o d.choice d.before (d.text.items ++ rest) after) operation end)));
+  fails = λ rest complaint fails.
+      subst (λ t. TellsFirstFault c.number c.choice (texts_behind c.before t) complaint) (behind rest)
+      (subst (λ b. TellsFirstFault c.number c.choice (texts_behind b (d.text.items ++ rest)) complaint) before
+      (subst (λ f. TellsFirstFault c.number f (texts_behind d.before (d.text.items ++ rest)) complaint) choice
+      (subst (λ n. TellsFirstFault n d.choice (texts_behind d.before (d.text.items ++ rest)) complaint) number fails)));
+  longer = λ rest long. elim long [
+    | inl part ↦ inl (subst HasLongPart (behind rest) part)
+    | inr many ↦ inr (omega (arith, many, number, length-append bytes rest))
+  ];
+}
+  where
+    behind : (rest : List ℕ) → d.text.items ++ rest ≡ c.text.items ++ (bytes ++ rest)
+    behind rest = ap (λ t. t ++ rest) text ∙ append_assoc c.text.items bytes rest
+
+-- bytes with which the text gets too long are not taken
+pub too_long : (c : Combination) (bytes : List ℕ) (fault : Fault) → IsOpen c → LacksSemicolons bytes → 16777216 < length c.text.items + length bytes
+    → (fault ≡ Memory) ⊎ (fault ≡ TooLong) → AreNotTaken c bytes fault
+too_long c bytes fault opened lacks long (inl memory) = inl memory
+too_long c bytes fault opened lacks long (inr is) =
+    let all : LacksSemicolons (c.text.items ++ bytes) = All-append (λ b. is_semicolon b ≡ false) c.text.items bytes opened.lacks lacks in
+    inr (
+      is,
+      λ rest. inl (subst HasLongPart (append_assoc c.text.items bytes rest)
+          (long_front (c.text.items ++ bytes) rest all (omega (arith, long, length-append c.text.items bytes)))),
+    )
+
+-- a text that cannot be counted does not end
+pub too_many : (c : Combination) (fault : Fault) → 18446744073709551615 ≤ c.number → (fault ≡ Memory) ⊎ (fault ≡ TooLong) → AreNotTaken c semicolon fault
+too_many c fault many (inl memory) = inl memory
+too_many c fault many (inr is) = inr (is, λ rest. inr (omega (arith, many)))
+
+-- bytes behind those that were taken are not taken
+pub not_taken_on : (a b : Combination) (xs ys behind : List ℕ) (fault : Fault) → Leads a xs b → AreNotTaken b ys fault → AreNotTaken a (xs ++ (ys ++ behind)) fault
+not_taken_on a b xs ys behind fault leads (inl memory) = inl memory
+not_taken_on a b xs ys behind fault leads (inr (is, long)) = inr (
+  is,
+  λ rest.
+      subst (IsLong a) (ap (λ more. xs ++ more) (sym (append_assoc ys behind rest)) ∙ sym (append_assoc xs (ys ++ behind) rest))
+      (leads.longer (ys ++ (behind ++ rest)) (long (behind ++ rest))),
+)
+
 -- a fault behind bytes that were taken
-pub failed_on : (a b : Combination) (xs ys behind : List ℕ) (complaint : Complaint) → Leads a xs b → IsOfInput complaint.fault ⊎ FailsWithin b ys complaint
-    → IsOfInput complaint.fault ⊎ FailsWithin a (xs ++ (ys ++ behind)) complaint
-failed_on a b xs ys behind complaint leads (inl of) = inl of
+pub failed_on : (a b : Combination) (xs ys behind : List ℕ) (complaint : Complaint) → Leads a xs b → AreNotTaken b ys complaint.fault ⊎ FailsWithin b ys complaint
+    → AreNotTaken a (xs ++ (ys ++ behind)) complaint.fault ⊎ FailsWithin a (xs ++ (ys ++ behind)) complaint
+failed_on a b xs ys behind complaint leads (inl not) = inl (not_taken_on a b xs ys behind complaint.fault leads not)
 failed_on a b xs ys behind complaint leads (inr fails) = inr (λ rest.
     subst (λ bytes. Fails a bytes complaint) (ap (λ more. xs ++ more) (sym (append_assoc ys behind rest)) ∙ sym (append_assoc xs (ys ++ behind) rest))
     (leads.fails (ys ++ (behind ++ rest)) complaint (fails (behind ++ rest))))
@@ -188,6 +282,11 @@ module _ (operation : Operation) (choice : Choice) (c : Combination) (begins : B
       (subst (λ b. TextsSay c.operation c.choice b bytes (Some after)) begins.before
       (subst (λ t. TextsSay c.operation c.choice c.before t (Some after)) (ap (λ t. t ++ (bytes ++ [])) begins.text ∙ append-nil bytes) told)))
 
+  -- and in what is too long
+  pub longer_from_1 : (bytes : List ℕ) → IsLong c bytes → HasLongPart bytes ⊎ (18446744073709551615 ≤ length bytes)
+  longer_from_1 bytes (inl part) = inl (subst (λ t. HasLongPart (t ++ bytes)) begins.text part)
+  longer_from_1 bytes (inr many) = inr (omega (arith, many, begins.number))
+
   pub fails_from_1 : (bytes : List ℕ) (complaint : Complaint) → Fails c bytes complaint → TellsFirstFault 1 choice (texts_of bytes) complaint
   fails_from_1 bytes complaint fails =
       subst (λ n. TellsFirstFault n choice (texts_of bytes) complaint) begins.number
@@ -199,19 +298,35 @@ module _ (left left' : Option (List ℕ)) (old new : List ℕ) (some : Bool) (ba
   pub piece_is : Consumes left left' new
   piece_is = subst (Consumes left left') (sym (brings.text ∙ ap (λ o. o ++ brings.came) bare)) brings.consumed
 
--- the bytes that were taken, and a piece behind them
-pub piece_taken : (a b c : Option (List ℕ)) (start d e : Combination) (piece : List ℕ) → Consumes b c piece → Leads d piece e → RunsTo a b start d → RunsTo a c start e
-piece_taken a b c start d e piece consumed leads (taken, (before, led)) =
-    (taken ++ piece, (Consumes-trans a b c taken piece before consumed, led_on start d e taken piece led leads))
+-- the bytes that were taken, and a piece behind them; there are as many bytes as pieces at least
+pub piece_taken : (a b c : Option (List ℕ)) (start d e : Combination) (piece : List ℕ) (pieces : ℕ) → Consumes b c piece → Leads d piece e → 0 < length piece
+    → (runs : RunsTo a b start d) × (pieces ≤ length runs.0) → (runs : RunsTo a c start e) × (pieces + 1 ≤ length runs.0)
+piece_taken a b c start d e piece pieces consumed leads some ((taken, (before, led)), counted) = (
+  (taken ++ piece, (Consumes-trans a b c taken piece before consumed, led_on start d e taken piece led leads)),
+  omega (arith, some, counted, length-append taken piece),
+)
 
 module _ (operation : Operation) (choice : Choice) (a b c : Option (List ℕ)) (start d : Combination) (piece : List ℕ)
     (begins : Begins operation choice start) (runs : RunsTo a b start d) (consumed : Consumes b c piece) where
   taken : List ℕ
   taken = runs.0
 
+  -- a piece was not taken
+  pub piece_not_taken : (fault : Fault) → AreNotTaken d piece fault → (fault ≡ Memory) ⊎ ((fault ≡ TooLong) × AreLonger a c)
+  piece_not_taken fault (inl memory) = inl memory
+  piece_not_taken fault (inr (is, long)) = inr (
+    is,
+    record {
+      given = runs.0 ++ piece;
+      consumed = Consumes-trans a b c runs.0 piece runs.1.0 consumed;
+      above = longer_from_1 operation choice start begins (runs.0 ++ piece)
+          (runs.1.1.longer piece (subst (IsLong d) (append-nil piece) (long [])));
+    },
+  )
+
   -- a text was at fault in a piece
-  pub piece_fails : (complaint : Complaint) → IsOfInput complaint.fault ⊎ FailsWithin d piece complaint → SayNothing choice a c complaint
-  piece_fails complaint (inl of) = inl of
+  pub piece_fails : (complaint : Complaint) → AreNotTaken d piece complaint.fault ⊎ FailsWithin d piece complaint → SayNothing choice a c complaint
+  piece_fails complaint (inl not) = elim (piece_not_taken complaint.fault not) [ inl memory ↦ inl (inr (inr memory)) | inr longer ↦ inl (inr (inl longer)) ]
   piece_fails complaint (inr fails) = inr (record {
     given = runs.0 ++ piece;
     consumed = Consumes-trans a b c runs.0 piece runs.1.0 consumed;
@@ -231,8 +346,8 @@ module _ (operation : Operation) (choice : Choice) (a b c : Option (List ℕ)) (
         record { given = runs.0; consumed = all_consumed; end = end; within = told.within; says = told.says }
 
     -- the last text was at fault
-    pub all_fails : (complaint : Complaint) → IsOfInput complaint.fault ⊎ Fails d [] complaint → SayNothing choice a c complaint
-    all_fails complaint (inl of) = inl of
+    pub all_fails : (complaint : Complaint) → (complaint.fault ≡ Memory) ⊎ Fails d [] complaint → SayNothing choice a c complaint
+    all_fails complaint (inl memory) = inl (inr (inr memory))
     all_fails complaint (inr fails) = inr (record {
       given = runs.0;
       consumed = all_consumed;

@@ -7,6 +7,7 @@ use Rattle.moc_script.specs.Schedules.{RunsSchedule}
 use Rattle.moc_script.specs.Scripts.{RunsScript}
 use Rattle.moc_program.specs.Combining.{CombinesAll}
 use Rattle.moc_program.specs.Conversion.{ChangesAll, ConvertsAll, DescribesAll, DrawsAll, IsSaid}
+use Rattle.moc_program.specs.Listing.{fault_list}
 use Rattle.moc_program.specs.Numbers.{IsNumberLine}
 use Rattle.moc_program.specs.declared.action.Action.{Action}
 use Rattle.moc_program.specs.declared.action.Action.TheVariants.{Run, Play, Crew, Number, Renumber, Convert, Check}
@@ -29,4 +30,4 @@ Does (Describe choice) left left' w w' = Writes (DescribesAll choice left left')
 Does (Draw choice) left left' w w' = Writes (DrawsAll choice left left') w w'
 Does (Change change choice) left left' w w' = Writes (ChangesAll change choice left left') w w'
 Does (Combine operation choice) left left' w w' = Writes (CombinesAll operation choice left left') w w'
-Does Faults left left' w w' = Writes (λ _. Unit {0}) w w'
+Does Faults left left' w w' = Appends w w' fault_list

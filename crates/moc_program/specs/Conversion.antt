@@ -102,10 +102,6 @@ pub record IsFaulty (choice : Choice) (left left' : Option (List ℕ)) (c : Comp
   pub whole : IsWhole left left' given
   pub tells : TellsFault (form_for choice given) given None c
 
--- the reader failed, or an input is too long, or memory was refused
-abbrev pub IsOfInput : Fault → Type 0
-IsOfInput fault = (fault ≡ Read) ⊎ (fault ≡ TooLong) ⊎ (fault ≡ Memory)
-
 -- more was read than an input may have
 pub record IsLonger (left left' : Option (List ℕ)) : Type 0 where
   pub given : List ℕ

@@ -2,6 +2,7 @@ pub mod Actions
 pub mod Combining
 pub mod Conversion
 pub mod Faults
+pub mod Listing
 pub mod Numbers
 pub mod Outcomes
 pub mod Parting

@@ -3,9 +3,10 @@ ghost use Rattle.std.specs.Prelude.{◌≡◌, ◌≢◌, ◌↔◌, ◌⊎◌, 
 ghost use Rattle.std.specs.String.{string_bytes};
 ghost use Rattle.moc_forms.specs.Finding.{form_for};
 ghost use Rattle.moc_program.specs.Combining.{AreNotCombined, CombinesAll, SayNothing, SaysTogether};
-ghost use Rattle.moc_program.specs.Conversion.{IsOfInput, IsReadFault, TellsFault};
+ghost use Rattle.moc_program.specs.Conversion.{IsReadFault, TellsFault};
 ghost use Rattle.moc_program.specs.Parting.{LacksSemicolons};
-ghost use Rattle.moc_program.specs.Private.Running.{Begins, Ends, Fails, FailsWithin, IsOpen, Leads, SaysMore, semicolon};
+ghost use Rattle.moc_program.specs.Private.Running.{Begins, Ends, Fails, FailsWithin, IsOpen, AreNotTaken, Leads};
+ghost use Rattle.moc_program.specs.Private.Running.{SaysMore, semicolon};
 
 use crate::conversion::{INPUT_LIMIT, parted, read_piece, room, said_or_told, text_of};
 use crate::status::{Complaint, Fault};
@@ -44,7 +45,7 @@ impl Combination {
 
     /// The complaint that the text gets too long.
     fn too_long(&self, alloc: Global) -> Complaint
-        ensures { IsOfInput result.fault × (result.fault ≢ Fault.Read) }
+        ensures { (result.fault ≡ Fault.Memory) ⊎ (result.fault ≡ Fault.TooLong) }
     {
         match place_line(alloc, Some(self.number), None, None) {
             Ok(place) => Complaint {
@@ -61,7 +62,7 @@ impl Combination {
         requires open { IsOpen self.old }
         requires lacks { LacksSemicolons bytes.now }
         ensures device { IfErr result (λ c. c.fault ≢ Fault.Read) }
-        ensures fault { IfErr result (λ c. IsOfInput c.fault) }
+        ensures fault { IfErr result (λ c. AreNotTaken self.old bytes.now c.fault) }
         ensures open { OnOk result (IsOpen self.new) }
         ensures leads { OnOk result (Leads self.old bytes.now self.new) }
     {
@@ -80,7 +81,7 @@ impl Combination {
         ensures device { IfErr result (λ c. c.fault ≢ Fault.Read) }
         ensures says { IfOk result (λ after. SaysMore self.now before after) }
         ensures told { IfErr result (λ c.
-            IsOfInput c.fault ⊎ TellsFault (form_for self.now.choice self.now.text.items) self.now.text.items
+            (c.fault ≡ Fault.Memory) ⊎ TellsFault (form_for self.now.choice self.now.text.items) self.now.text.items
             (Some self.now.number) c) }
     {
         let said = said_or_told(alloc, self.choice, &self.text, Some(self.number))?;
@@ -91,7 +92,7 @@ impl Combination {
     fn end_text(&mut self, alloc: Global) -> Result<(), Complaint>
         requires { IsOpen self.old }
         ensures device { IfErr result (λ c. c.fault ≢ Fault.Read) }
-        ensures fault { IfErr result (λ c. IsOfInput c.fault ⊎ FailsWithin self.old semicolon c) }
+        ensures fault { IfErr result (λ c. AreNotTaken self.old semicolon c.fault ⊎ FailsWithin self.old semicolon c) }
         ensures open { OnOk result (IsOpen self.new) }
         ensures leads { OnOk result (Leads self.old semicolon self.new) }
     {
@@ -110,7 +111,7 @@ impl Combination {
     fn take_bytes(&mut self, alloc: Global, bytes: &[u8]) -> Result<(), Complaint>
         requires { IsOpen self.old }
         ensures device { IfErr result (λ c. c.fault ≢ Fault.Read) }
-        ensures fault { IfErr result (λ c. IsOfInput c.fault ⊎ FailsWithin self.old bytes.now c) }
+        ensures fault { IfErr result (λ c. AreNotTaken self.old bytes.now c.fault ⊎ FailsWithin self.old bytes.now c) }
         ensures open { OnOk result (IsOpen self.new) }
         ensures leads { OnOk result (Leads self.old bytes.now self.new) }
     {
@@ -128,7 +129,7 @@ impl Combination {
     fn all_said(&mut self, alloc: Global) -> Result<(Coverage, Option<Order>, Form), Complaint>
         requires { IsOpen self.old }
         ensures device { IfErr result (λ c. c.fault ≢ Fault.Read) }
-        ensures fault { IfErr result (λ c. IsOfInput c.fault ⊎ Fails self.old [] c) }
+        ensures fault { IfErr result (λ c. (c.fault ≡ Fault.Memory) ⊎ Fails self.old [] c) }
         ensures says { IfOk result (λ after. Ends self.old [] (Some after)) }
     {
         let Some(before) = self.before.take() else {

@@ -8,6 +8,7 @@ ghost use Rattle.moc_program.specs.Faults.{complaint_text};
 ghost use Rattle.std.specs.String.{string_bytes};
 ghost use Rattle.moc_sphere.specs.Touching.{touching_cells};
 ghost use Rattle.moc_program.specs.Actions.{Does};
+ghost use Rattle.moc_program.specs.Listing.{fault_list};
 ghost use Rattle.moc_program.specs.Numbers.{IsNumberFault, IsNumberLine, list_of};
 ghost use Rattle.moc_program.specs.Outcomes.{AreMistaken, AreRefused, AskForHelp, IsMistake, TellsFaultOf};
 ghost use Rattle.moc_program.specs.Statuses.{IsDeviceFault, code_of, end_of};
@@ -247,10 +248,17 @@ fn act<T: Threads + Wait + Sync, R: Source, W: Sink>(
         Some(Action::Combine(operation, choice)) => {
             printed(combined(alloc, operation, choice, input)?.as_str(), output)
         }
-        Some(Action::Faults) => printed(FAULTS, output),
+        Some(Action::Faults) => printed(listed(), output),
         // `clap` requires the word and its values, so none is missing.
         None => Err(Complaint::from(Fault::Memory)),
     }
+}
+
+/// The list of the exit statuses and the faults.
+fn listed() -> &'static str
+    ensures { result.now ≡ fault_list }
+{
+    FAULTS
 }
 
 /// The line of a converted number.

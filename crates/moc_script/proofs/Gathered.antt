@@ -10,12 +10,12 @@ use Rattle.moc_shared.specs.Batches.{BatchRecord}
 use Rattle.moc_shared.specs.Clients.{record_of, IsClientOf, TakesIn}
 use Rattle.moc_script.specs.Private.Input.{lane_lines}
 use Rattle.moc_script.specs.Private.LaneEnds.{IsLaneEnd, AreLaneEnds}
-use Rattle.moc_script.specs.declared.crews.lane.Refused.{Refused}
+use Rattle.moc_script.specs.declared.crews.lane.Unfinished.{Unfinished}
 use Rattle.moc_script.specs.declared.crews.threads.LanesError.{LanesError}
 use Rattle.moc_script.specs.declared.crews.threads.LanesError.TheVariants as fault
 use Rattle.moc_text.specs.Lines.{lines_of}
 use Rattle.moc_script.specs.Crews.{IsSaidLine}
-use Rattle.moc_script.specs.Private.Gathering.{CallsMade, HasBoth, HasLane, IsGathered, NamesLeast, NamesLine}
+use Rattle.moc_script.specs.Private.Gathering.{CallsMade, HasBoth, HasLane, IsGathered, NamesFirst, NamesLine}
 
 pub has_both : (map : SharedMap) (a b r : BatchRecord) → TakesIn map a b r → (q : CallsMade) → (Contains a.own q → Contains r.own q) × (Contains b.own q → Contains r.own q)
 has_both map a b r taken q =
@@ -30,17 +30,17 @@ pub lane_of_end : (map : SharedMap) (lanes : ℕ) (input : List ℕ) (lane : ℕ
 lane_of_end map lanes input lane end is =
     let m = is.2 in (m.0, subst (λ (l : List CallsMade). Contains l (record { client = lane; made = m.0 })) (sym m.1) (0, omega arith, refl), m.2)
 
--- the least line that lanes were refused at is not blank
-pub least_named : (map : SharedMap) (lanes : ℕ) (input : List ℕ) (ends : List (Result LaneEnd Refused)) (e : LanesError) → AreLaneEnds map lanes input ends
-    → NamesLeast ends e → NamesLine input e
-least_named map lanes input ends (fault.Memory line) are least =
-    let r = least.0.0 in
-    let here = least.0.1 in
+-- the line that a fault of the lanes names is not blank
+pub first_named : (map : SharedMap) (lanes : ℕ) (input : List ℕ) (ends : List (Result LaneEnd Unfinished)) (e : LanesError) → AreLaneEnds map lanes input ends
+    → NamesFirst ends e → NamesLine input e
+first_named map lanes input ends (fault.Memory line) are named =
+    let first = named.0 in
+    let here = named.1.0 in
     let low : here.0 < lanes = omega (arith, are.0, here.1) in
-    let refused : IsLaneEnd map lanes input here.0 (Err r) = subst (IsLaneEnd map lanes input here.0) here.2 (are.1 here.0 (Err r) low) in
-    inr (subst (λ (n : ℕ). IsSaidLine n (lines_of input)) least.0.2 refused)
-least_named map lanes input ends fault.MemoryBehind are least = tt
-least_named map lanes input ends fault.Spawn are least = tt
+    let ended : IsLaneEnd map lanes input here.0 (Err first) = subst (IsLaneEnd map lanes input here.0) here.2 (are.1 here.0 (Err first) low) in
+    inr (subst (λ (n : ℕ). IsSaidLine n (lines_of input)) (sym named.2) ended)
+first_named map lanes input ends fault.MemoryBehind are named = tt
+first_named map lanes input ends fault.Spawn are named = tt
 
 -- a fault that is handed on
 pub handed_on : {T : Type 0} (r : Result T LanesError) (e : LanesError) (Q : LanesError → Type 0) → IsErrAnd r (λ f. f ≡ e) → Q e → IfErr r Q

@@ -1,5 +1,5 @@
 -- The lines of a lane by their numbers, and those at which memory is refused.
-use Rattle.std.proofs.Common.{◌≡◌, ◌∙◌, inl, inr, ℕ, suc, ◌+◌, ◌-◌, ◌<◌, ◌≤◌, Bool, true, false, cond, if◌then◌else◌, List, [], ◌∷◌, ◌++◌, length, take, get_or, Contains, Option, None, Some, Result, Ok, Err, refl, sym, ap, subst, arith, append_assoc, length-append}
+use Rattle.std.proofs.Common.{◌≡◌, ◌∙◌, inl, inr, ℕ, suc, ◌+◌, ◌-◌, ◌<◌, ◌≤◌, ◌⊎◌, Bool, true, false, cond, if◌then◌else◌, List, [], ◌∷◌, ◌++◌, length, take, get_or, Contains, Option, None, Some, Result, Ok, Err, refl, sym, ap, subst, arith, append_assoc, length-append}
 use Rattle.std.specs.List.{onto_first}
 use Rattle.std.proofs.lemmas.List.{get_or-append_right, take_more}
 use Rattle.std.proofs.lemmas.List.Elements.{Contains-append_left, Contains-push, Contains-push_cases}
@@ -7,10 +7,12 @@ use Rattle.moc_text.specs.Lines.{is_line_feed, lines_of}
 use Rattle.moc_script.specs.Words.{is_blank}
 use Rattle.moc_script.specs.Crews.{IsSaidLine, said_lines}
 use Rattle.moc_script.specs.Private.Input.{HasPassed, Passes, in_turn}
-use Rattle.moc_script.specs.Private.Gathering.{IsLeastRefused}
+use Rattle.moc_script.specs.Private.Gathering.{IsFirstUnfinished}
+use Rattle.moc_script.specs.Private.LaneEnds.{GoesBefore}
 use Rattle.moc_script.specs.declared.crews.lines.LaneLines.{LaneLines}
 use Rattle.moc_script.specs.declared.crews.lane.LaneEnd.{LaneEnd}
-use Rattle.moc_script.specs.declared.crews.lane.Refused.{Refused}
+use Rattle.moc_script.specs.declared.crews.lane.Unfinished.{Unfinished}
+use Rattle.moc_script.specs.declared.crews.lane.Unfinished.TheVariants.{Refused, Stopped}
 
 onto_few : (b : ℕ) (lines : List (List ℕ)) → length (onto_first b lines) ≤ suc (length lines)
 onto_few b [] = omega arith
@@ -64,88 +66,86 @@ module _ (text : List ℕ) (old new : LaneLines) (number : ℕ) (line : List ℕ
       }
 
 abbrev Ends : Type 0
-Ends = List (Result LaneEnd Refused)
+Ends = List (Result LaneEnd Unfinished)
 
-err_of : (x y : Refused) → (let end : Result LaneEnd Refused = Err x in end ≡ Err y) → x ≡ y
+err_of : (x y : Unfinished) → (let end : Result LaneEnd Unfinished = Err x in end ≡ Err y) → x ≡ y
 err_of x y same = cc
 
-no_end : (end : LaneEnd) (e : Refused) → (let it : Result LaneEnd Refused = Ok end in it ≡ Err e) → ⊥
+no_end : (end : LaneEnd) (e : Unfinished) → (let it : Result LaneEnd Unfinished = Ok end in it ≡ Err e) → ⊥
 no_end end e same = cc
 
--- an end that is well leaves the least
-pub least_done : (ends : Ends) (least : Option ℕ) (end : LaneEnd) → IsLeastRefused ends least → IsLeastRefused (ends ++ Ok end ∷ []) least
-least_done ends None end was = λ e here. elim (Contains-push_cases ends (Ok end) (Err e) here) [
+-- one goes before another, and that before a third
+goes_on : (a b c : Unfinished) → GoesBefore a b → GoesBefore b c → GoesBefore a c
+goes_on (Refused a) (Refused b) (Refused c) first second = omega (arith, first, second)
+goes_on (Refused a) (Refused b) (Stopped c) first second = tt
+goes_on (Refused a) (Stopped b) (Refused c) first second = absurd second
+goes_on (Refused a) (Stopped b) (Stopped c) first second = tt
+goes_on (Stopped a) (Refused b) c first second = absurd first
+goes_on (Stopped a) (Stopped b) (Refused c) first second = absurd second
+goes_on (Stopped a) (Stopped b) (Stopped c) first second = omega (arith, first, second)
+
+goes_itself : (a : Unfinished) → GoesBefore a a
+goes_itself (Refused a) = omega arith
+goes_itself (Stopped a) = omega arith
+
+-- an end that is well leaves the first
+first_done : (ends : Ends) (first : Option Unfinished) (end : LaneEnd) → IsFirstUnfinished ends first → IsFirstUnfinished (ends ++ Ok end ∷ []) first
+first_done ends None end was = λ e here. elim (Contains-push_cases ends (Ok end) (Err e) here) [
   | inl before ↦ was e before
   | inr same ↦ no_end end e same
 ]
-least_done ends (Some line) end was = (
-  (was.0.0, Contains-append_left ends (Ok end ∷ []) (Err was.0.0) was.0.1, was.0.2),
+first_done ends (Some first) end was = (
+  Contains-append_left ends (Ok end ∷ []) (Err first) was.0,
   λ e here. elim (Contains-push_cases ends (Ok end) (Err e) here) [
     | inl before ↦ was.1 e before
     | inr same ↦ absurd (no_end end e same)
   ],
 )
 
--- a refused line that is not less leaves the least
-pub least_kept : (ends : Ends) (line : ℕ) (next : Refused) → line ≤ next.line → IsLeastRefused ends (Some line) → IsLeastRefused (ends ++ Err next ∷ []) (Some line)
-least_kept ends line next less was = (
-  (was.0.0, Contains-append_left ends (Err next ∷ []) (Err was.0.0) was.0.1, was.0.2),
+-- an end of a lane that has not done its lines is the first, where there is none yet
+first_alone : (ends : Ends) (next : Unfinished) → IsFirstUnfinished ends None → IsFirstUnfinished (ends ++ Err next ∷ []) (Some next)
+first_alone ends next none = (
+  Contains-push ends (Err next),
   λ e here. elim (Contains-push_cases ends (Err next) (Err e) here) [
-    | inl before ↦ was.1 e before
-    | inr same ↦ subst (λ (r : Refused). line ≤ r.line) (err_of next e same) less
+    | inl before ↦ absurd (none e before)
+    | inr same ↦ subst (GoesBefore next) (err_of next e same) (goes_itself next)
   ],
 )
 
--- a refused line that is not greater than the least is the least
-pub least_next : (ends : Ends) (least : Option ℕ) (next : Refused) → ((line : ℕ) → least ≡ Some line → next.line ≤ line) → IsLeastRefused ends least
-    → IsLeastRefused (ends ++ Err next ∷ []) (Some next.line)
-least_next ends least next less was = (
-  (next, Contains-push ends (Err next), refl),
+-- and else the one of both that goes before the other
+first_of_both : (ends : Ends) (first next new : Unfinished) → IsFirstUnfinished ends (Some first) → (new ≡ first) ⊎ (new ≡ next) → GoesBefore new first → GoesBefore new next
+    → IsFirstUnfinished (ends ++ Err next ∷ []) (Some new)
+first_of_both ends first next new was either before_first before_next = (
+  elim either [
+    | inl same ↦ subst (λ (e : Unfinished). Contains (ends ++ Err next ∷ []) (Err e)) (sym same) (Contains-append_left ends (Err next ∷ []) (Err first) was.0)
+    | inr same ↦ subst (λ (e : Unfinished). Contains (ends ++ Err next ∷ []) (Err e)) (sym same) (Contains-push ends (Err next))
+  ],
   λ e here. elim (Contains-push_cases ends (Err next) (Err e) here) [
-    | inl before ↦ among least less was e before
-    | inr same ↦ subst (λ (r : Refused). next.line ≤ r.line) (err_of next e same) (omega arith)
+    | inl before ↦ goes_on new first e before_first (was.1 e before)
+    | inr same ↦ subst (GoesBefore new) (err_of next e same) before_next
   ],
 )
-  where
-    among : (l : Option ℕ) → ((line : ℕ) → l ≡ Some line → next.line ≤ line) → IsLeastRefused ends l → (e : Refused) → Contains ends (Err e) → next.line ≤ e.line
-    among None h none e before = absurd (none e before)
-    among (Some line) h some e before = let low = h line refl in let least = some.1 e before in omega (arith, low, least)
 
-module _ (ends : Ends) (i : ℕ) (x : Result LaneEnd Refused) (low : i < length ends) (here : get_or ends i x ≡ x) (old new : Option ℕ) (was : IsLeastRefused (take i ends) old) where
-  one_more : IsLeastRefused (take i ends ++ x ∷ []) new → IsLeastRefused (take (i + 1) ends) new
-  one_more = subst (λ (l : Ends). IsLeastRefused l new) (sym (take_more ends i x low ∙ ap (λ (y : Result LaneEnd Refused). take i ends ++ y ∷ []) here))
+module _ (ends : Ends) (i : ℕ) (x : Result LaneEnd Unfinished) (low : i < length ends) (here : get_or ends i x ≡ x) (old new : Option Unfinished) (was : IsFirstUnfinished (take i ends) old) where
+  one_more : (y : Result LaneEnd Unfinished) (first : Option Unfinished) → x ≡ y → new ≡ first → IsFirstUnfinished (take i ends ++ y ∷ []) first → IsFirstUnfinished (take (i + 1) ends) new
+  one_more y first is same more =
+      subst (λ (l : Ends). IsFirstUnfinished l new) (sym (take_more ends i x low ∙ ap (λ (z : Result LaneEnd Unfinished). take i ends ++ z ∷ []) (here ∙ is)))
+      (subst (IsFirstUnfinished (take i ends ++ y ∷ [])) (sym same) more)
 
   -- the end is that of a lane that has done its lines
-  pub end_done : (end : LaneEnd) → x ≡ Ok end → new ≡ old → IsLeastRefused (take (i + 1) ends) new
-  end_done end is same =
-      one_more (subst (λ (y : Result LaneEnd Refused). IsLeastRefused (take i ends ++ y ∷ []) new) (sym is)
-      (subst (λ (l : Option ℕ). IsLeastRefused (take i ends ++ Ok end ∷ []) l) (sym same) (least_done (take i ends) old end was)))
+  pub end_done : (end : LaneEnd) → x ≡ Ok end → new ≡ old → IsFirstUnfinished (take (i + 1) ends) new
+  end_done end is same = one_more (Ok end) old is same (first_done (take i ends) old end was)
 
-  -- its line is not less than the least so far
-  pub end_kept : (line : ℕ) (next : Refused) → x ≡ Err next → old ≡ Some line → new ≡ Some line → line ≤ next.line → IsLeastRefused (take (i + 1) ends) new
-  end_kept line next is old_is new_is less =
-      one_more (subst (λ (y : Result LaneEnd Refused). IsLeastRefused (take i ends ++ y ∷ []) new) (sym is)
-      (subst (λ (l : Option ℕ). IsLeastRefused (take i ends ++ Err next ∷ []) l) (sym new_is)
-      (least_kept (take i ends) line next less (subst (IsLeastRefused (take i ends)) old_is was))))
+  -- it is the first of a lane that has not
+  pub end_alone : (next : Unfinished) → x ≡ Err next → old ≡ None → new ≡ Some next → IsFirstUnfinished (take (i + 1) ends) new
+  end_alone next is none same =
+      one_more (Err next) (Some next) is same (first_alone (take i ends) next (subst (IsFirstUnfinished (take i ends)) none was))
 
-  -- its line is the least
-  pub end_next : (next : Refused) → x ≡ Err next → new ≡ Some next.line → ((line : ℕ) → old ≡ Some line → next.line ≤ line) → IsLeastRefused (take (i + 1) ends) new
-  end_next next is new_is less =
-      one_more (subst (λ (y : Result LaneEnd Refused). IsLeastRefused (take i ends ++ y ∷ []) new) (sym is)
-      (subst (λ (l : Option ℕ). IsLeastRefused (take i ends ++ Err next ∷ []) l) (sym new_is) (least_next (take i ends) old next less was)))
-
-some_is : (a b : ℕ) → Some a ≡ Some b → a ≡ b
-some_is a b e = cc
-
-none_is : (b : ℕ) → (let none : Option ℕ = None in none ≡ Some b) → ⊥
-none_is b e = cc
-
--- what is at most the number that there is, or where there is none
-pub at_most_some : (old : Option ℕ) (least n : ℕ) → old ≡ Some least → n ≤ least → (line : ℕ) → old ≡ Some line → n ≤ line
-at_most_some old least n is less line same = subst (λ (m : ℕ). n ≤ m) (some_is least line (sym is ∙ same)) less
-
-pub at_most_none : (old : Option ℕ) (n : ℕ) → old ≡ None → (line : ℕ) → old ≡ Some line → n ≤ line
-at_most_none old n is line same = absurd (none_is line (sym is ∙ same))
+  -- or one of several
+  pub end_of_both : (first next one : Unfinished) → x ≡ Err next → old ≡ Some first → new ≡ Some one → (one ≡ first) ⊎ (one ≡ next) → GoesBefore one first × GoesBefore one next
+      → IsFirstUnfinished (take (i + 1) ends) new
+  end_of_both first next one is some same either before =
+      one_more (Err next) (Some one) is same (first_of_both (take i ends) first next one (subst (IsFirstUnfinished (take i ends)) some was) either before.0 before.1)
 
 module _ (others : ℕ) (text line rest : List ℕ) (parts : lines_of text ≡ line ∷ lines_of rest) where
   -- a blank line is no lane's

@@ -1,14 +1,16 @@
 -- How texts of an input are taken piece by piece.
-use Rattle.std.specs.Prelude.{◌≡◌, ℕ, ◌≤◌, List, [], ◌∷◌, ◌++◌, length, Option, None, Some}
+use Rattle.std.specs.Prelude.{◌≡◌, ◌⊎◌, ℕ, ◌+◌, ◌<◌, ◌≤◌, List, [], ◌∷◌, ◌++◌, length, Option, None, Some}
 use Rattle.std.specs.Io.KnownBytes.{Consumes}
 use Rattle.moc_script.specs.Runs.{AreWithin}
 use Rattle.moc_forms.specs.Combining.{CombinesTexts, Said, TextSays, joined, parts_of, texts_of, without_blank_end}
 use Rattle.moc_forms.specs.declared.combining.Operation.{Operation}
 use Rattle.moc_forms.specs.declared.finding.Choice.{Choice}
-use Rattle.moc_program.specs.Combining.{TellsFirstFault}
+use Rattle.moc_program.specs.Combining.{HasLongPart, TellsFirstFault}
 use Rattle.moc_program.specs.Parting.{LacksSemicolons}
 use Rattle.moc_program.specs.declared.combination.Combination.{Combination}
 use Rattle.moc_program.specs.declared.status.Complaint.{Complaint}
+use Rattle.moc_program.specs.declared.status.Fault.{Fault}
+use Rattle.moc_program.specs.declared.status.Fault.TheVariants.{TooLong, Memory}
 
 -- the text that has not ended has no semicolon, and is no longer than an input may be
 pub record IsOpen (c : Combination) : Type 0 where
@@ -52,12 +54,23 @@ Fails c rest complaint =
 abbrev pub FailsWithin : Combination → List ℕ → Complaint → Type 0
 FailsWithin c bytes complaint = (rest : List ℕ) → Fails c (bytes ++ rest) complaint
 
+-- with these bytes behind the text of a combination a part is longer than a text may be, or there are more parts than
+-- are counted
+abbrev pub IsLong : Combination → List ℕ → Type 0
+IsLong c bytes = HasLongPart (c.text.items ++ bytes) ⊎ (18446744073709551615 < c.number + length bytes)
+
+-- bytes were not taken: memory was refused, or something is too long, whatever stands behind them
+abbrev pub AreNotTaken : Combination → List ℕ → Fault → Type 0
+AreNotTaken c bytes fault =
+    (fault ≡ Memory) ⊎ ((fault ≡ TooLong) × ((rest : List ℕ) → IsLong c (bytes ++ rest)))
+
 -- a combination has taken these bytes behind another
 pub record Leads (c : Combination) (bytes : List ℕ) (d : Combination) : Type 0 where
   pub operation : d.operation ≡ c.operation
   pub choice : d.choice ≡ c.choice
   pub ends : (rest : List ℕ) (after : Option Said) → Ends d rest after → Ends c (bytes ++ rest) after
   pub fails : (rest : List ℕ) (complaint : Complaint) → Fails d rest complaint → Fails c (bytes ++ rest) complaint
+  pub longer : (rest : List ℕ) → IsLong d rest → IsLong c (bytes ++ rest)
 
 -- the bytes that were left and are no more, and what a combination has become that took them
 abbrev pub RunsTo : Option (List ℕ) → Option (List ℕ) → Combination → Combination → Type 0

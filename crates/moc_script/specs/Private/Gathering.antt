@@ -11,25 +11,26 @@ use Rattle.moc_shared.specs.Clients.{record_of, IsClientOf}
 use Rattle.moc_script.specs.Scripts.{script_rules}
 use Rattle.moc_script.specs.Private.Input.{lane_lines}
 use Rattle.moc_script.specs.Private.LaneWork.{Does}
-use Rattle.moc_script.specs.Private.LaneEnds.{IsLaneEnd}
+use Rattle.moc_script.specs.Private.LaneEnds.{GoesBefore, IsLaneEnd, line_at}
 use Rattle.moc_text.specs.Lines.{lines_of}
 use Rattle.moc_script.specs.Crews.{IsSaidLine}
 use Rattle.moc_script.specs.declared.crews.lane.LaneEnd.{LaneEnd}
-use Rattle.moc_script.specs.declared.crews.lane.Refused.{Refused}
+use Rattle.moc_script.specs.declared.crews.lane.Unfinished.{Unfinished}
 use Rattle.moc_script.specs.declared.crews.threads.LanesError.{LanesError}
 use Rattle.moc_script.specs.declared.crews.threads.LanesError.TheVariants.{Spawn, Memory, MemoryBehind}
 
--- the least line at which one of the lanes was refused memory, or that none was
-abbrev pub IsLeastRefused : List (Result LaneEnd Refused) → Option ℕ → Type 0
-IsLeastRefused ends None = (e : Refused) → ¬ Contains ends (Err e)
-IsLeastRefused ends (Some line) =
-    ((e : Refused) × Contains ends (Err e) × (e.line ≡ line)) × ((e : Refused) → Contains ends (Err e) → line ≤ e.line)
+-- the first end of a lane that has not done its lines, or that there is none
+abbrev pub IsFirstUnfinished : List (Result LaneEnd Unfinished) → Option Unfinished → Type 0
+IsFirstUnfinished ends None = (e : Unfinished) → ¬ Contains ends (Err e)
+IsFirstUnfinished ends (Some first) =
+    Contains ends (Err first) × ((e : Unfinished) → Contains ends (Err e) → GoesBefore first e)
 
--- the fault names the least line at which one of the lanes was refused memory, or none was
-abbrev pub NamesLeast : List (Result LaneEnd Refused) → LanesError → Type 0
-NamesLeast ends (Memory line) = IsLeastRefused ends (Some line)
-NamesLeast ends MemoryBehind = IsLeastRefused ends None
-NamesLeast ends Spawn = ⊥
+-- The fault names the least line at which one of the lanes was refused memory; where none was, the least at which one
+-- stopped; or all lanes have done their lines.
+abbrev pub NamesFirst : List (Result LaneEnd Unfinished) → LanesError → Type 0
+NamesFirst ends (Memory line) = (first : Unfinished) × IsFirstUnfinished ends (Some first) × (line ≡ line_at first)
+NamesFirst ends MemoryBehind = IsFirstUnfinished ends None
+NamesFirst ends Spawn = ⊥
 
 -- where the fault names a line, it is 0, or one of the script that is not blank
 abbrev pub NamesLine : List ℕ → LanesError → Type 0
@@ -37,7 +38,7 @@ NamesLine input (Memory line) = (line ≡ 0) ⊎ IsSaidLine line (lines_of input
 NamesLine input MemoryBehind = Unit {0}
 NamesLine input Spawn = Unit {0}
 
--- each of so many lanes has done its lines of a script, and none was refused
+-- each of so many lanes has done its lines of a script
 abbrev pub AreDone : SharedMap → ℕ → List ℕ → List LaneEnd → Type 0
 AreDone map lanes input done =
     (length done ≡ lanes)

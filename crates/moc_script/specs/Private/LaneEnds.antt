@@ -1,5 +1,5 @@
 -- What a lane has done.
-use Rattle.std.specs.Prelude.{◌≡◌, ◌<◌, ℕ, List, [], ◌∷◌, ◌++◌, length, slice_index_or, Result, Ok, Err}
+use Rattle.std.specs.Prelude.{◌≡◌, ◌<◌, ◌≤◌, ℕ, List, [], ◌∷◌, ◌++◌, length, slice_index_or, Result, Ok, Err}
 use Rattle.moc_shared.specs.declared.map.SharedMap.{SharedMap}
 use Rattle.moc_shared.specs.Batches.{BatchEntry, BatchRecord, answer as object}
 use Rattle.moc_shared.specs.Clients.{number_of, record_of, IsClientOf}
@@ -9,7 +9,8 @@ use Rattle.moc_script.specs.Scripts.{script_rules}
 use Rattle.moc_script.specs.Private.Input.{lane_lines}
 use Rattle.moc_script.specs.Private.LaneWork.{DoesLine, Does}
 use Rattle.moc_script.specs.declared.crews.lane.LaneEnd.{LaneEnd}
-use Rattle.moc_script.specs.declared.crews.lane.Refused.{Refused}
+use Rattle.moc_script.specs.declared.crews.lane.Unfinished.{Unfinished}
+use Rattle.moc_script.specs.declared.crews.lane.Unfinished.TheVariants.{Refused, Stopped}
 
 -- the record stands for this client alone, which made these calls
 abbrev pub Made : ℕ → List BatchEntry → BatchRecord → Type 0
@@ -26,18 +27,30 @@ abbrev pub AddsAnswer : ℕ → List ℕ → BatchRecord → BatchRecord → Lis
 AddsAnswer client line old new before after =
     (text : List ℕ) × (after ≡ before ++ text) × Answers client line old new text
 
+-- the line at which a lane was refused memory, or stopped
+abbrev pub line_at : Unfinished → ℕ
+line_at (Refused line) = line
+line_at (Stopped line) = line
+
+-- a lane that was refused goes before one that stopped, and of two alike that of the lesser line
+abbrev pub GoesBefore : Unfinished → Unfinished → Type 0
+GoesBefore (Refused line) (Refused other) = line ≤ other
+GoesBefore (Refused line) (Stopped other) = Unit {0}
+GoesBefore (Stopped line) (Refused other) = ⊥
+GoesBefore (Stopped line) (Stopped other) = line ≤ other
+
 -- The lane of this number, of so many, has done its lines of a script, by calls of its client, and has their answers;
--- or memory was refused at a line that is not blank.
-abbrev pub IsLaneEnd : SharedMap → ℕ → List ℕ → ℕ → Result LaneEnd Refused → Type 0
+-- or it was refused memory, or stopped, at a line that is not blank.
+abbrev pub IsLaneEnd : SharedMap → ℕ → List ℕ → ℕ → Result LaneEnd Unfinished → Type 0
 IsLaneEnd map lanes input lane (Ok end) =
     IsClientOf map end.client × (number_of end.client ≡ lane)
     × ((made : List BatchEntry) × Made lane made (record_of end.client)
     × Does object script_rules (lane_lines lanes input lane) made end.answers)
-IsLaneEnd map lanes input lane (Err e) = IsSaidLine e.line (lines_of input)
+IsLaneEnd map lanes input lane (Err e) = IsSaidLine (line_at e) (lines_of input)
 
--- each of so many lanes has done its lines of a script, or was refused memory at one
-abbrev pub AreLaneEnds : SharedMap → ℕ → List ℕ → List (Result LaneEnd Refused) → Type 0
+-- each of so many lanes has done its lines of a script, or was refused memory, or stopped, at one
+abbrev pub AreLaneEnds : SharedMap → ℕ → List ℕ → List (Result LaneEnd Unfinished) → Type 0
 AreLaneEnds map lanes input ends =
     (length ends ≡ lanes)
-    × ((lane : ℕ) (d : Result LaneEnd Refused) → lane < lanes
+    × ((lane : ℕ) (d : Result LaneEnd Unfinished) → lane < lanes
     → IsLaneEnd map lanes input lane (slice_index_or ends lane d))

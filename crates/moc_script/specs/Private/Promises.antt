@@ -3,7 +3,7 @@ use Rattle.std.specs.Prelude.{◌≡◌, ◌<◌, ℕ, List, length, slice_index
 use Rattle.std.specs.declared.thread.PromisedHandle.{PromisedHandle}
 use Rattle.moc_shared.specs.declared.map.SharedMap.{SharedMap}
 use Rattle.moc_script.specs.declared.crews.lane.LaneEnd.{LaneEnd}
-use Rattle.moc_script.specs.declared.crews.lane.Refused.{Refused}
+use Rattle.moc_script.specs.declared.crews.lane.Unfinished.{Unfinished}
 use Rattle.moc_script.specs.declared.crews.threads.Task.{Task}
 
 -- the task is that of this lane
@@ -14,8 +14,8 @@ pub record IsTaskOf (map : SharedMap) (lanes : ℕ) (input : List ℕ) (lane : �
   pub lane_is : task.lane ≡ lane
 
 -- each handle promises the end of its lane
-abbrev pub ArePromised : SharedMap → ℕ → List ℕ → List (PromisedHandle (Result LaneEnd Refused) Task) → Type 0
+abbrev pub ArePromised : SharedMap → ℕ → List ℕ → List (PromisedHandle (Result LaneEnd Unfinished) Task) → Type 0
 ArePromised map lanes input handles =
     (length handles ≡ lanes)
-    × ((lane : ℕ) (d : PromisedHandle (Result LaneEnd Refused) Task) → lane < lanes
+    × ((lane : ℕ) (d : PromisedHandle (Result LaneEnd Unfinished) Task) → lane < lanes
     → IsTaskOf map lanes input lane (slice_index_or handles lane d).promise)

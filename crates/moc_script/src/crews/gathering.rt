@@ -1,53 +1,63 @@
 //! The lanes' ends, put together.
-ghost use Rattle.std.specs.Prelude.{◌≡◌, ◌<◌, List, ℕ, IfErr, IfOk, IfSome, length};
+ghost use Rattle.std.specs.Prelude.{◌≡◌, ◌<◌, ◌⊎◌, List, ℕ, IfErr, IfOk, IfSome, length};
 ghost use Rattle.moc_shared.specs.declared.map.SharedMap.{SharedMap};
 ghost use Rattle.moc_shared.specs.Clients.{IsClientOf};
-ghost use Rattle.moc_script.specs.Private.LaneEnds.{AreLaneEnds};
-ghost use Rattle.moc_script.specs.Private.Gathering.{AreDone, HasBoth, HasLanes, IsLeastRefused, NamesLeast};
+ghost use Rattle.moc_script.specs.Private.LaneEnds.{AreLaneEnds, GoesBefore};
+ghost use Rattle.moc_script.specs.Private.Gathering.{AreDone, HasBoth, HasLanes, IsFirstUnfinished, NamesFirst};
 
-use crate::crews::lane::{LaneEnd, Refused};
+use crate::crews::lane::{LaneEnd, Unfinished};
 use crate::crews::texts::Texts;
 use crate::crews::threads::LanesError;
 use moc_ranges::Memory;
 use moc_shared::{Client, SharedMap};
 use std::alloc::Global;
 
-/// The least line at which a lane was refused memory.
-fn least_refused(ends: &[Result<LaneEnd, Refused>]) -> Option<u64>
-    ensures { IsLeastRefused ends.now result }
+/// The one of two ends that goes before the other.
+fn first_of(one: Unfinished, other: Unfinished) -> Unfinished
+    ensures either { (result ≡ one) ⊎ (result ≡ other) }
+    ensures first { GoesBefore result one × GoesBefore result other }
 {
-    let mut least = None;
+    if one.goes_before(other) { one } else { other }
+}
+
+/// The first end of a lane that has not done its lines, if there is one.
+fn first_unfinished(ends: &[Result<LaneEnd, Unfinished>]) -> Option<Unfinished>
+    ensures { IsFirstUnfinished ends.now result }
+{
+    let mut first = None;
     for end in ends {
-        if let Err(refused) = end {
-            least = match least {
-                Some(line) if line < refused.line => Some(line),
-                _ => Some(refused.line),
+        if let Err(unfinished) = end {
+            first = match first {
+                Some(before) => Some(first_of(before, *unfinished)),
+                None => Some(*unfinished),
             };
         }
     }
-    least
+    first
 }
 
 /// The lanes' ends, if all went well; or the least line at which a lane was refused memory.
 pub fn all_done(
     alloc: Global,
-    ends: Vec<Result<LaneEnd, Refused>>,
+    ends: Vec<Result<LaneEnd, Unfinished>>,
 ) -> Result<Vec<LaneEnd>, LanesError>
     ensures done { IfOk result (λ done. (map : SharedMap) (lanes : ℕ) (input : List ℕ)
         → AreLaneEnds map lanes input ends.items → AreDone map lanes input done.items) }
-    ensures least { IfErr result (λ e. NamesLeast ends.items e) }
+    ensures first { IfErr result (λ e. NamesFirst ends.items e) }
 {
-    let refused = match least_refused(&ends) {
-        Some(line) => LanesError::Memory { line },
+    let fault = match first_unfinished(&ends) {
+        Some(unfinished) => LanesError::Memory {
+            line: unfinished.line(),
+        },
         None => LanesError::MemoryBehind,
     };
     let mut done = Vec::new(alloc);
     for end in ends {
         let Ok(end) = end else {
-            return Err(refused);
+            return Err(fault);
         };
         let Ok(()) = done.push(end) else {
-            return Err(refused);
+            return Err(fault);
         };
     }
     Ok(done)

@@ -1,8 +1,8 @@
 //! One lane of a crew: a thread with a client of its own.
-ghost use Rattle.std.specs.Prelude.{◌≡◌, ◌<◌, [], false, OnOk};
+ghost use Rattle.std.specs.Prelude.{◌≡◌, ◌<◌, [], false, true, OnOk};
 ghost use Rattle.moc_shared.specs.Clients.{IsClientOf, number_of, record_of};
 ghost use Rattle.moc_script.specs.Words.{is_blank};
-ghost use Rattle.moc_script.specs.Private.LaneEnds.{Made, AddsAnswer, IsLaneEnd};
+ghost use Rattle.moc_script.specs.Private.LaneEnds.{Made, AddsAnswer, GoesBefore, IsLaneEnd, line_at};
 
 use crate::answer::push_fault;
 use crate::batch::read_batch;
@@ -15,6 +15,7 @@ use moc_ranges::Memory;
 use moc_shared::{Client, SharedMap};
 use std::alloc::Global;
 use std::sync::Wait;
+use std::sync::atomic::{AtomicBool, Ordering};
 
 /// What a lane has when its lines are done: its client, and its answers in order.
 #[derive(Drop)]
@@ -23,10 +24,38 @@ pub struct LaneEnd {
     pub answers: Texts,
 }
 
-/// Memory was refused while this line was done.
+/// Why a lane has not done all of its lines.
 #[derive(Clone, Copy, Debug, PartialEq, Eq)]
-pub struct Refused {
-    pub line: u64,
+pub enum Unfinished {
+    /// Memory was refused while this line was done.
+    Refused { line: u64 },
+    /// Something was refused to the crew before this line was begun.
+    Stopped { line: u64 },
+}
+
+impl Unfinished {
+    /// The line at which the lane ended.
+    pub fn line(self) -> u64
+        ensures { result ≡ line_at self }
+    {
+        match self {
+            Unfinished::Refused { line } | Unfinished::Stopped { line } => line,
+        }
+    }
+
+    /// Whether a crew tells this end, and not the other: a lane that was refused goes before one that stopped, and of
+    /// two alike that of the lesser line.
+    pub fn goes_before(self, other: Unfinished) -> bool
+        ensures yes { result ≡ true → GoesBefore self other }
+        ensures no { result ≡ false → GoesBefore other self }
+    {
+        match (self, other) {
+            (Unfinished::Refused { line: a }, Unfinished::Refused { line: b }) => a <= b,
+            (Unfinished::Refused { .. }, Unfinished::Stopped { .. }) => true,
+            (Unfinished::Stopped { .. }, Unfinished::Refused { .. }) => false,
+            (Unfinished::Stopped { line: a }, Unfinished::Stopped { line: b }) => a <= b,
+        }
+    }
 }
 
 /// Does what a line says that is not blank, and puts its answer behind the others.
@@ -56,7 +85,15 @@ fn answer_line<R: Wait>(
     }
 }
 
-/// Does the lines of the client's lane, of so many, in order.
+/// The end of a lane that was refused memory at this line, once the other lanes are told to stop.
+fn refused(stop: &AtomicBool, line: u64) -> Unfinished
+    ensures { result ≡ Unfinished.Refused line }
+{
+    stop.store(true, Ordering::SeqCst);
+    Unfinished::Refused { line }
+}
+
+/// Does the lines of the client's lane, of so many, in order; before each it looks whether it is to stop.
 pub fn work<R: Wait, G: Gate>(
     rt: &R,
     alloc: Global,
@@ -65,7 +102,8 @@ pub fn work<R: Wait, G: Gate>(
     input: &[u8],
     lanes: u8,
     client: Client,
-) -> Result<LaneEnd, Refused>
+    stop: &AtomicBool,
+) -> Result<LaneEnd, Unfinished>
     requires map { IsClientOf map.now client }
     requires lane { number_of client < lanes }
     requires fresh { Made (number_of client) [] (record_of client) }
@@ -77,13 +115,16 @@ pub fn work<R: Wait, G: Gate>(
     let mut lens = Vec::new(alloc);
     let mut bytes = Vec::new(alloc);
     while let Some((number, line)) = left.next_line() {
+        if stop.load(Ordering::SeqCst) {
+            return Err(Unfinished::Stopped { line: number });
+        }
         gate.pass(lane, number);
         let before = bytes.len();
         let Ok(()) = answer_line(rt, alloc, map, &mut client, line, &mut bytes) else {
-            return Err(Refused { line: number });
+            return Err(refused(stop, number));
         };
         let Ok(()) = lens.push(bytes.len() - before) else {
-            return Err(Refused { line: number });
+            return Err(refused(stop, number));
         };
         gate.done(lane, number);
     }

@@ -6,11 +6,12 @@ ghost use Rattle.moc_script.specs.Private.LaneEnds.{IsLaneEnd, AreLaneEnds};
 ghost use Rattle.moc_script.specs.Private.Promises.{ArePromised};
 
 use crate::crews::gate::Gate;
-use crate::crews::lane::{LaneEnd, Refused, work};
+use crate::crews::lane::{LaneEnd, Unfinished, work};
 use moc_shared::{Client, SharedMap};
 use std::alloc::Global;
 use std::marker::{Send, Sync};
 use std::sync::Wait;
+use std::sync::atomic::{AtomicBool, Ordering};
 use std::thread;
 use std::thread::{Promise, PromisedHandle, Scope, Threads};
 
@@ -34,12 +35,12 @@ pub struct Task<'a> {
     pub lane: u8,
 }
 
-impl<'a> Promise<Result<LaneEnd, Refused>> for Task<'a> {
+impl<'a> Promise<Result<LaneEnd, Unfinished>> for Task<'a> {
     ghost kept_by = { λ task end.
         IsLaneEnd task.map.now task.lanes task.input.now task.lane end };
 }
 
-/// Starts a thread for each client.
+/// Starts a thread for each client; where one cannot be started, those before it are told to stop.
 fn start<'s, E, R: Wait + Sync, G: Gate + Sync>(
     rt: &'s R,
     alloc: Global,
@@ -49,7 +50,8 @@ fn start<'s, E, R: Wait + Sync, G: Gate + Sync>(
     input: &'s [u8],
     lanes: u8,
     clients: Vec<Client>,
-) -> Result<Vec<PromisedHandle<Result<LaneEnd, Refused>, Task<'s>>>, LanesError>
+    stop: &'s AtomicBool,
+) -> Result<Vec<PromisedHandle<Result<LaneEnd, Unfinished>, Task<'s>>>, LanesError>
     requires clients { AreNewClients map.now clients.items lanes }
     ensures promised { IfOk result (λ handles. ArePromised map.now lanes input.now handles.items) }
     ensures line { IfErr result (λ e. NamesLine input.now e) }
@@ -66,8 +68,9 @@ fn start<'s, E, R: Wait + Sync, G: Gate + Sync>(
             lane,
         };
         let Ok(handle) = scope.spawn_with(task, move || {
-            work(rt, alloc, gate, map, input, lanes, client)
+            work(rt, alloc, gate, map, input, lanes, client, stop)
         }) else {
+            stop.store(true, Ordering::SeqCst);
             return Err(LanesError::Spawn);
         };
         handles.push_reserved(handle);
@@ -75,7 +78,7 @@ fn start<'s, E, R: Wait + Sync, G: Gate + Sync>(
     Ok(handles)
 }
 
-/// Runs each lane in a thread of its own, and waits until all have ended.
+/// Runs each lane in a thread of its own, and waits until all have ended, which is soon once something is refused.
 pub fn run_lanes<R: Threads + Wait + Sync, G: Gate + Sync>(
     rt: &R,
     alloc: Global,
@@ -84,23 +87,27 @@ pub fn run_lanes<R: Threads + Wait + Sync, G: Gate + Sync>(
     input: &[u8],
     lanes: u8,
     clients: Vec<Client>,
-) -> Result<Vec<Result<LaneEnd, Refused>>, LanesError>
+) -> Result<Vec<Result<LaneEnd, Unfinished>>, LanesError>
     requires clients { AreNewClients map.now clients.items lanes }
     ensures ends { IfOk result (λ ends. AreLaneEnds map.now lanes input.now ends.items) }
     ensures line { IfErr result (λ e. NamesLine input.now e) }
 {
+    let stop = AtomicBool::new(false);
     thread::scope(
         thread::scope_env(),
         rt,
-        |scope| -> Result<Vec<Result<LaneEnd, Refused>>, LanesError>
+        |scope| -> Result<Vec<Result<LaneEnd, Unfinished>>, LanesError>
             requires { AreNewClients map.now clients.items lanes }
             ensures ends { IfOk result (λ ends. AreLaneEnds map.entry.now lanes input.entry.now ends.items) }
             ensures line { IfErr result (λ e. NamesLine input.entry.now e) }
         {
-            let handles = start(rt, alloc, gate, scope, map, input, lanes, clients)?;
+            let handles = start(rt, alloc, gate, scope, map, input, lanes, clients, &stop)?;
             match thread::join_promised(rt, handles) {
                 Ok(ends) => Ok(ends),
-                Err(_) => Err(LanesError::Memory { line: 0 }),
+                Err(_) => {
+                    stop.store(true, Ordering::SeqCst);
+                    Err(LanesError::Memory { line: 0 })
+                }
             }
         },
     )

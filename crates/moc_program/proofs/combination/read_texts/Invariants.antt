@@ -1,4 +1,4 @@
-use Rattle.std.proofs.Common.{◌≡◌, ◌<◌, false, length}
+use Rattle.std.proofs.Common.{◌≡◌, ◌<◌, ◌≤◌, false, length}
 use Rattle.moc_program.specs.Private.Running.{IsOpen, RunsTo}
 use Rattle.moc_program.proofs.combination.read_texts.Given as goal
 
@@ -7,5 +7,5 @@ invariant-loop-piece g l = record {
   unmarked : g.R.Source.mark l.input ≡ false;
   room : 0 < length l.room.items;
   opened : IsOpen l.texts;
-  taken : RunsTo (g.R.Source.left l.fn.input) (g.R.Source.left l.input) l.initial.texts l.texts;
+  taken : (runs : RunsTo (g.R.Source.left l.fn.input) (g.R.Source.left l.input) l.initial.texts l.texts) × (l._piece ≤ length runs.0);
 }

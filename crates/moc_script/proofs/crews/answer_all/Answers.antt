@@ -11,7 +11,7 @@ use Rattle.moc_script.specs.Crews.{cover_line, said_lines, IsCrewText}
 use Rattle.moc_script.specs.Private.Gathering.{HasLanes, NamesLine}
 use Rattle.moc_script.specs.Private.Joining.{IsJoined, IsTold}
 use Rattle.moc_script.proofs.Crewing.{crew_of_lanes, stands_for_all, as_answers}
-use Rattle.moc_script.proofs.Gathered.{handed_on, least_named}
+use Rattle.moc_script.proofs.Gathered.{first_named, handed_on}
 use Rattle.moc_script.proofs.crews.answer_all.Goals as goal
 
 pub take_in_all-requires-clause-done : goal.take_in_all-requires-clause-done
@@ -35,7 +35,7 @@ pub returns-in_err-done-clause-line : goal.returns-in_err-done-clause-line
 returns-in_err-done-clause-line g c =
     let told = c.in_err-done.field-0.0 in
     handed_on c.from_residual-in_err-done.result told (NamesLine c.args.input.now) c.from_residual-in_err-done.ensures.1
-    (least_named c.in-Ok.map c.get-lanes.result c.args.input.now c.in_ok-ends.ends.items told c.in_ok-ends.ensures.ends c.in_err-done.ensures.least)
+    (first_named c.in-Ok.map c.get-lanes.result c.args.input.now c.in_ok-ends.ends.items told c.in_ok-ends.ensures.ends c.in_err-done.ensures.first)
 
 pub returns-clause-told : goal.returns-clause-told
 returns-clause-told g c =

@@ -3,7 +3,7 @@ use Rattle.moc_forms.specs.Combining.{TextSays}
 use Rattle.moc_forms.specs.Finding.{form_for}
 use Rattle.moc_program.specs.Conversion.{TellsFault}
 use Rattle.moc_program.specs.declared.status.Fault.TheVariants.{Memory}
-use Rattle.moc_program.proofs.Checks.{handed_on, of_text}
+use Rattle.moc_program.proofs.Checks.{handed_on}
 use Rattle.moc_program.proofs.combination.Combination.join.Goals as goal
 
 pub returns-clause-says : goal.returns-clause-says
@@ -17,6 +17,5 @@ pub returns-in_err-said-clause-told : goal.returns-in_err-said-clause-told
 returns-in_err-said-clause-told c =
     let told = c.in_err-said.field-0.0 in
     handed_on c.from_residual.result told _ c.from_residual.ensures.1
-    (of_text (form_for c.args.self.now.choice c.args.self.now.text.items) c.args.self.now.text.items (Some c.args.self.now.number) told
     (subst (λ (bytes : List ℕ). (told.fault ≡ Memory) ⊎ TellsFault (form_for c.args.self.now.choice bytes) bytes (Some c.args.self.now.number) told) c.deref.ensures.value
-    c.in_err-said.ensures.told))
+    c.in_err-said.ensures.told)

@@ -1,11 +1,14 @@
 -- One more end, and all of them.
-use Rattle.std.specs.Prelude.{◌≡◌, ◌+◌, ◌<◌, get_or, vec_items, vec_len, length, ℕ, Option, Ok}
+use Rattle.std.specs.Prelude.{◌≡◌, ◌+◌, ◌<◌, get_or, vec_items, vec_len, length, ℕ, List, Option, None, Some, Result, Ok}
 use Rattle.std.specs.Vec.Iter.{into_iter_items, into_iter_len}
 use Rattle.std.proofs.Common.{rules, arith, below_more, ap, ◌∙◌, sym, subst}
 use Rattle.std.proofs.lemmas.List.{get_or_default}
-use Rattle.moc_script.specs.Private.LaneEnds.{IsLaneEnd}
-use Rattle.moc_script.specs.Private.Gathering.{IsLeastRefused, NamesLeast}
+use Rattle.moc_script.specs.Private.LaneEnds.{IsLaneEnd, line_at}
+use Rattle.moc_script.specs.declared.crews.lane.LaneEnd.{LaneEnd}
+use Rattle.moc_script.specs.declared.crews.lane.Unfinished.{Unfinished}
+use Rattle.moc_script.specs.Private.Gathering.{IsFirstUnfinished, NamesFirst}
 use Rattle.moc_script.specs.declared.crews.threads.LanesError.{LanesError}
+use Rattle.moc_script.specs.declared.crews.threads.LanesError.TheVariants.{Memory, MemoryBehind}
 use Rattle.moc_script.proofs.crews.gathering.all_done.Goals as goal
 use Rattle.moc_script.proofs.crews.gathering.all_done.Goals.{in-Some, in-None}
 
@@ -33,22 +36,35 @@ loop-end-preserved c =
           (get_or_default ends done e c.in-Some-end.end inside ∙ found ∙ ap Ok (sym (c.in-Ok-push.ensures.by_index.1 d (search rules)))) k (omega arith),
     )
 
-pub returns-in_default-clause-least : goal.returns-in_default-clause-least
-returns-in_default-clause-least c =
+-- the fault names the line of the first end of a lane that has not done its lines
+some_named : (ends : List (Result LaneEnd Unfinished)) (first : Option Unfinished) (u : Unfinished) (line : ℕ) (fault : LanesError) → IsFirstUnfinished ends first
+    → first ≡ Some u → line ≡ line_at u → fault ≡ Memory line → NamesFirst ends fault
+some_named ends first u line fault is some at names =
+    subst (NamesFirst ends) (sym names) (u, subst (IsFirstUnfinished ends) some is, at)
+
+-- or there is none
+none_named : (ends : List (Result LaneEnd Unfinished)) (first : Option Unfinished) (fault : LanesError) → IsFirstUnfinished ends first
+    → first ≡ None → fault ≡ MemoryBehind → NamesFirst ends fault
+none_named ends first fault is none names = subst (NamesFirst ends) (sym names) (subst (IsFirstUnfinished ends) none is)
+
+pub returns-in_default-clause-first : goal.returns-in_default-clause-first
+returns-in_default-clause-first c =
     let ends = c.args.ends.items in
-    let least : IsLeastRefused ends c.least_refused.result = subst (λ l. IsLeastRefused l c.least_refused.result) c.deref.ensures.value c.least_refused.ensures in
-    elim c.match-least_refused.branch [
-      | in-Some w ↦ subst (λ (e : LanesError). NamesLeast ends e) (sym w.refused-is) (subst (λ (l : Option ℕ). IsLeastRefused ends l) w.in-Some.is least)
-      | in-None w ↦ subst (λ (e : LanesError). NamesLeast ends e) (sym w.refused-is) (subst (λ (l : Option ℕ). IsLeastRefused ends l) w.in-None.is least)
+    let first = c.first_unfinished.result in
+    let is : IsFirstUnfinished ends first = subst (λ l. IsFirstUnfinished l first) c.deref.ensures.value c.first_unfinished.ensures in
+    elim c.match-first_unfinished.branch [
+      | in-Some w ↦ some_named ends first w.in-Some.unfinished w.line.result _ is w.in-Some.is w.line.ensures w.fault-is
+      | in-None w ↦ none_named ends first _ is w.in-None.is w.fault-is
     ]
 
-pub returns-in_default-push-clause-least : goal.returns-in_default-push-clause-least
-returns-in_default-push-clause-least c =
+pub returns-in_default-push-clause-first : goal.returns-in_default-push-clause-first
+returns-in_default-push-clause-first c =
     let ends = c.args.ends.items in
-    let least : IsLeastRefused ends c.least_refused.result = subst (λ l. IsLeastRefused l c.least_refused.result) c.deref.ensures.value c.least_refused.ensures in
-    elim c.match-least_refused.branch [
-      | in-Some w ↦ subst (λ (e : LanesError). NamesLeast ends e) (sym w.refused-is) (subst (λ (l : Option ℕ). IsLeastRefused ends l) w.in-Some.is least)
-      | in-None w ↦ subst (λ (e : LanesError). NamesLeast ends e) (sym w.refused-is) (subst (λ (l : Option ℕ). IsLeastRefused ends l) w.in-None.is least)
+    let first = c.first_unfinished.result in
+    let is : IsFirstUnfinished ends first = subst (λ l. IsFirstUnfinished l first) c.deref.ensures.value c.first_unfinished.ensures in
+    elim c.match-first_unfinished.branch [
+      | in-Some w ↦ some_named ends first w.in-Some.unfinished w.line.result _ is w.in-Some.is w.line.ensures w.fault-is
+      | in-None w ↦ none_named ends first _ is w.in-None.is w.fault-is
     ]
 
 pub returns-clause-done : goal.returns-clause-done

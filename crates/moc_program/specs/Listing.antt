@@ -1,0 +1,90 @@
+-- What the word `faults` prints: the exit statuses, and the faults with what they mean.
+use Rattle.std.specs.Prelude.{ℕ, ◌+◌, ◌-◌, List, [], ◌∷◌, ◌++◌, codes, length, replicate}
+use Rattle.moc_script.specs.Faults as script
+use Rattle.moc_script.specs.declared.fault.Fault.TheVariants as said
+use Rattle.moc_program.specs.Faults.{line_of, name_of}
+use Rattle.moc_program.specs.Statuses.{code_of}
+use Rattle.moc_program.specs.declared.status.Fault.TheVariants.{CellTooLarge, NotUniq, RingTooLarge, BadByte, NoOrder}
+use Rattle.moc_program.specs.declared.status.Fault.TheVariants.{OrderTooLarge, Backwards, Unfinished, NotJson}
+use Rattle.moc_program.specs.declared.status.Fault.TheVariants.{NotObject, BadOrder, NotArray, NotWhole}
+use Rattle.moc_program.specs.declared.status.Fault.TheVariants.{LineTooLong, TooLong, Read, Write, Memory, Spawn}
+use Rattle.moc_program.specs.declared.status.Status.{Status}
+use Rattle.moc_program.specs.declared.status.Status.TheVariants.{Done, Refused, BadWords, Broken}
+
+-- a line of the list
+abbrev pub text_line : List ℕ → List ℕ
+text_line text = text ++ 10 ∷ []
+
+-- the digit that is a status
+abbrev pub digit_of : Status → List ℕ
+digit_of status = (48 + code_of status) ∷ []
+
+-- a status or the name of a fault, and what it means
+abbrev pub Meaning : Type 0
+Meaning = List ℕ × List ℕ
+
+-- the lines of meanings, which begin at one column
+abbrev pub meaning_lines : ℕ → List Meaning → List ℕ
+meaning_lines column [] = []
+meaning_lines column (m ∷ meanings) =
+    text_line (codes "  " ++ m.0 ++ replicate (column - length m.0) 32 ++ m.1) ++ meaning_lines column meanings
+
+-- meanings under a heading, and an empty line behind them
+abbrev pub part : List ℕ → ℕ → List Meaning → List ℕ
+part heading column meanings = text_line (heading ++ codes ":") ++ meaning_lines column meanings ++ text_line []
+
+-- the list of the statuses, and of the faults by what they are of, with an example behind it
+unfoldable pub fault_list : List ℕ
+fault_list =
+    part (codes "Statuses") 3 (
+    (digit_of Done, codes "done, also where lines answered `fault`, and after help")
+    ∷ (digit_of Refused, codes "a number or a text is refused; standard error has `fault NAME`")
+    ∷ (digit_of BadWords, codes "the words are no command line")
+    ∷ (digit_of Broken, codes "a device failed, or memory or a thread was refused: `fault NAME`")
+    ∷ [])
+    ++ part (codes "Numbers of cells") 17 (
+    (name_of CellTooLarge, codes "the order has no such cell; order k has 12 times 4^k, from 0")
+    ∷ (name_of RingTooLarge, codes "the order has no such ring number, of 12 times 4^k from 0")
+    ∷ (name_of NotUniq, codes "no cell has this NUNIQ number, 4 to 2^62 - 1")
+    ∷ (script.name_of said.OtherOrder, codes "a NUNIQ number of another order (renumber)")
+    ∷ (script.name_of said.BadNumber, codes "digits alone make a number")
+    ∷ (script.name_of said.WrongCount, codes "too few or too many fields on a line")
+    ∷ [])
+    ++ part (codes "Coverages in ASCII") 17 (
+    (name_of BadByte, codes "a byte that no word has at its place")
+    ∷ (name_of Unfinished, codes "a word that ends too early")
+    ∷ (name_of NoOrder, codes "a cell before any order")
+    ∷ (name_of OrderTooLarge, codes "an order above 29")
+    ∷ (name_of CellTooLarge, codes "the order has no such cell")
+    ∷ (name_of Backwards, codes "a-b with b below a")
+    ∷ [])
+    ++ part (codes "Coverages in JSON") 17 (
+    (name_of NotJson, codes "no JSON text")
+    ∷ (name_of NotObject, codes "a JSON text that is no object")
+    ∷ (name_of BadOrder, codes "a name that is no order, 0 to 29")
+    ∷ (name_of NotArray, codes "the value of a name is no array")
+    ∷ (name_of NotWhole, codes "an item that is no whole number")
+    ∷ (name_of CellTooLarge, codes "the order has no such cell")
+    ∷ [])
+    ++ part (codes "NUNIQ lists") 17 (
+    (name_of BadByte, codes "a byte that is no digit")
+    ∷ (name_of NotUniq, codes "no cell has this number")
+    ∷ [])
+    ++ part (codes "Lengths") 17 (
+    (name_of TooLong, codes "a text of more than 16,777,216 bytes")
+    ∷ (name_of LineTooLong, codes "a line of more than 1,048,576 bytes")
+    ∷ [])
+    ++ part (codes "Lines of scripts and schedules") 17 (
+    (script.name_of said.UnknownWord, codes "no such command")
+    ∷ (script.name_of said.EmptyCommand, codes "nothing before, between or behind `;`")
+    ∷ (script.name_of said.TooManyCommands, codes "more than 16 commands on a line")
+    ∷ (script.name_of said.ClientTooLarge, codes "a client above 4294967295")
+    ∷ (script.name_of said.PartTooLarge, codes "a part above 11")
+    ∷ [])
+    ++ part (codes "Devices") 17 (
+    (name_of Read ++ codes ", " ++ name_of Write, codes "standard input or output failed")
+    ∷ (name_of Memory, codes "memory was refused")
+    ∷ (name_of Spawn, codes "a thread was refused")
+    ∷ [])
+    ++ text_line (codes "Example:") ++ text_line (codes "  moc cell 3") ++ text_line (codes "tells")
+    ++ codes "  " ++ line_of NotUniq
