@@ -134,7 +134,10 @@ fn pixels_and_where_that_changes(rt: HostRuntime) {
     ] {
         assert_eq!(rt; set.contains_until(pixel), wanted);
     }
-    assert_eq!(rt; Coverage::empty(rt.alloc()).contains_until(0), (false, u64::MAX));
+    assert_eq!(rt;
+        Coverage::empty(rt.alloc()).contains_until(0),
+        (false, u64::MAX)
+    );
 }
 
 #[test]
