@@ -9,7 +9,7 @@ ghost use Rattle.moc_c.specs.Answers.{Answers, IsWhether, set_at, sets_at};
 use crate::desk::Desk;
 use crate::outcome::Outcome;
 
-/// How many pixels of order 29 the set has. O(n / 2048), for n ranges.
+/// How many pixels of order 29 the set has. O(n / 548), for n ranges.
 #[unsafe(no_mangle)]
 pub extern "C" fn moc_count(desk: &mut Desk, a: u64) -> Outcome
     ensures told { Answers (λ x n. n ≡ set.len x) (set_at desk.old.contents a) result }

@@ -95,9 +95,9 @@ fn answer_all<R: Threads + Wait + Sync, G: Gate + Sync>(
 /// lanes have ended. Where the call ends with a fault, nothing is written, and on `Write` as much of the text as the
 /// writer took. `Memory` names the line that was read or answered, of several lanes' lines the least; 0 is before any
 /// line is read, and for the map and the threads, and one more than the lines that were read is after all. `Spawn` goes
-/// before the lanes' `Memory`. Once memory or a thread is refused, each lane stops before its next line. After the whole
-/// text the writer is flushed, once. Takes memory linear in the script and its answers. Each lane passes over all lines
-/// and parses its own. May wait for parts that other lanes hold.
+/// before the lanes' `Memory`. Once memory or a thread is refused, each lane stops before its next line. After the
+/// whole text the writer is flushed, once. Takes memory linear in the script and its answers. Each lane passes over all
+/// lines and parses its own. May wait for parts that other lanes hold.
 pub fn crew<R: Source, W: Sink, G: Gate + Sync, T: Threads + Wait + Sync>(
     rt: &T,
     alloc: Global,
