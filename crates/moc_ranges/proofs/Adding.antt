@@ -13,14 +13,14 @@ use Rattle.moc_ranges.specs.RangeList.{IsNormal, in_range, in_ranges, set_of, co
 use Rattle.moc_ranges.specs.Numbers.{NumberSet, numbers, contains-numbers, same_members}
 use Rattle.moc_ranges.specs.Laws.Sizes.{len_parts}
 use Rattle.moc_ranges.specs.Laws.Ranges.{len-set_of}
-use Rattle.moc_ranges.specs.Private.Blocks.{joining, next_of, last_of, width_of, rest_of, AreFilled, AreBlocks, IsStored}
+use Rattle.moc_ranges.specs.Private.Blocks.{joining, next_of, last_of, width_of, AreFilled, AreBlocks, IsStored}
 use Rattle.moc_ranges.specs.Private.Built.{EndsBelow, first_length, last_length}
 use Rattle.moc_ranges.specs.Private.Walks.{joined, EndsBy, IsPastAt}
 use Rattle.moc_ranges.specs.Private.Added.{pieces, with_second, IsAround, IsReach, HasOneMore, IsCut, HasGrown, IsRegrown, IsRenewed}
 use Rattle.moc_ranges.proofs.Blocking.{IsNormal-prefix, IsNormal-suffix, joining-append, nothing_more, width-append}
 use Rattle.moc_ranges.proofs.Filling.{filled_suffix}
 use Rattle.moc_ranges.proofs.Views.{range_view}
-use Rattle.moc_ranges.proofs.Merging.{in_ranges-append, EndsBelow-more, EndsBelow-append, EndsBelow-first, ends_second, ends_next, normal_append}
+use Rattle.moc_ranges.proofs.Merging.{in_ranges-append, EndsBelow-append, EndsBelow-first, ends_second, ends_next, normal_append}
 use Rattle.moc_ranges.proofs.Passing.{joined-parts, joined-ranges}
 
 -- how far a range has taken in those that it reaches

@@ -262,7 +262,8 @@ impl Coverage {
 
     /// The pixels that both sets have. One pass, O(n + m), in which blocks and nodes that the other
     /// set does not reach are skipped by searching, and those that one range of it covers are shared:
-    /// a set of m ranges and one of n take O(m log n). Refused where memory runs out.
+    /// a set of m ranges and one of n take O(m log n), and a step for each node that is shared. Refused
+    /// where memory runs out.
     pub fn intersection(&self, alloc: Global, other: &Coverage) -> Result<Coverage, Memory>
         ensures set { IfOk result (λ c. c ≡ set.intersection self.now other.now) }
     {
@@ -430,7 +431,8 @@ impl Coverage {
 
     /// How many pixels of order 29 two sets have in common. One pass over both that skips blocks and
     /// nodes which the next range of the other does not reach or covers: a set of m ranges and one of
-    /// n take O(m log n), and never more than O(n + m). Takes no memory.
+    /// n take O(m log n) and a step for each node that one range covers, and never more than O(n + m).
+    /// Takes no memory.
     pub fn count_common(&self, other: &Coverage) -> u64
         ensures size { result ≡ set.len (set.intersection self.now other.now) }
     {

@@ -1,4 +1,4 @@
-use Rattle.std.proofs.Common.{◌≡◌, ◌∙◌, arith, ap, sym, ℕ, subst, refl}
+use Rattle.std.proofs.Common.{◌≡◌, arith, sym, subst, refl}
 use Rattle.std.specs.Prelude.{OnOk, IfOk}
 use Rattle.std.specs.FinSet as set
 use Rattle.moc_ranges.specs.Numbers.{NumberSet}

@@ -1,6 +1,5 @@
-use Rattle.std.proofs.Common.{◌≡◌, ◌∙◌, arith, ap, List, ℕ, subst}
+use Rattle.std.proofs.Common.{◌∙◌, arith}
 use Rattle.std.specs.FinSet as set
-use Rattle.moc_ranges.specs.Numbers.{numbers}
 use Rattle.moc_ranges.specs.RangeList.{set_of}
 use Rattle.moc_ranges.proofs.Views.{range_view}
 use Rattle.moc_ranges.proofs.Adding.{union_width}

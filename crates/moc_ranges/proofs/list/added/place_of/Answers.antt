@@ -1,4 +1,4 @@
-use Rattle.std.proofs.Common.{◌≡◌, ◌-◌, arith, List, ℕ, subst, take}
+use Rattle.std.proofs.Common.{arith, subst, take}
 use Rattle.moc_ranges.specs.Private.Walks.{joined, EndsBy}
 use Rattle.moc_ranges.proofs.Adding.{around_at}
 use Rattle.moc_ranges.proofs.list.added.place_of.Goals as goal

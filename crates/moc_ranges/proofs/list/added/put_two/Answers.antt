@@ -1,4 +1,3 @@
-use Rattle.std.proofs.Common.{◌∙◌, ap, List, ℕ, slice_set}
 use Rattle.moc_ranges.proofs.Adding.{set_inserted}
 use Rattle.moc_ranges.proofs.list.added.put_two.Goals as goal
 

@@ -1,4 +1,4 @@
-use Rattle.std.proofs.Common.{◌∙◌, arith}
+use Rattle.std.proofs.Common.{arith}
 use Rattle.moc_ranges.proofs.Blocking.{none_there}
 use Rattle.moc_ranges.proofs.Turning.{first_item}
 use Rattle.moc_ranges.proofs.Adding.{reaching_step, reach_past, reach_all}

@@ -1,7 +1,7 @@
-use Rattle.std.proofs.Common.{◌≡◌, ◌∙◌, ◌++◌, arith, ap, List, ℕ, subst, sym}
+use Rattle.std.proofs.Common.{◌∙◌, arith, ap, List, ℕ, subst, sym}
 use Rattle.moc_ranges.specs.RangeList.{IsNormal}
 use Rattle.moc_ranges.specs.Private.Blocks.{joining, width_of}
-use Rattle.moc_ranges.specs.Private.Added.{IsAround, HasOneMore}
+use Rattle.moc_ranges.specs.Private.Added.{HasOneMore}
 use Rattle.moc_ranges.proofs.Passing.{joined-blocks}
 use Rattle.moc_ranges.specs.Private.Built.{EndsBelow}
 use Rattle.moc_ranges.proofs.Adding.{some_of, node_normal, run_normal, one_wider, regrown_all}

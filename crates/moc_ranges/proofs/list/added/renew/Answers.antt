@@ -1,8 +1,7 @@
-use Rattle.std.proofs.Common.{◌≡◌, ◌∙◌, ◌++◌, arith, ap, List, ℕ, subst, sym}
+use Rattle.std.proofs.Common.{List, ℕ, subst, sym}
 use Rattle.moc_ranges.specs.RangeList.{IsNormal}
 use Rattle.moc_ranges.specs.Private.Blocks.{joining, AreBlocks}
 use Rattle.moc_ranges.specs.Private.Built.{EndsBelow}
-use Rattle.moc_ranges.proofs.Blocking.{joining-append}
 use Rattle.moc_ranges.proofs.Passing.{joined-nodes}
 use Rattle.moc_ranges.proofs.Adding.{some_of, parted, first_sized, second_sized, first_normal, second_normal, renewed_all}
 use Rattle.moc_ranges.proofs.list.added.renew.Goals as goal

@@ -1,4 +1,4 @@
-use Rattle.std.proofs.Common.{◌≡◌, ◌∷◌, [], ◌++◌, ◌∙◌, arith, ap, append_assoc, List, ℕ, subst, sym, take, drop, min}
+use Rattle.std.proofs.Common.{◌≡◌, ◌∷◌, [], ◌++◌, ◌∙◌, ap, append_assoc, List, ℕ, subst, sym, take, drop, min}
 use Rattle.std.proofs.lemmas.List.{take_rest, take-append-drop}
 use Rattle.moc_ranges.specs.RangeList.{IsNormal}
 use Rattle.moc_ranges.specs.Private.Blocks.{next_of}
