@@ -1,4 +1,4 @@
-use Rattle.std.proofs.Common.{◌<◌, arith, ◌∙◌, sym}
+use Rattle.std.proofs.Common.{arith, ◌∙◌, sym}
 use Rattle.moc_parts.proofs.Putting.{lies_alone}
 use Rattle.moc_parts.proofs.footprint.only_part.Goals as goal
 

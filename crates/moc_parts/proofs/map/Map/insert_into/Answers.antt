@@ -1,9 +1,8 @@
-use Rattle.std.proofs.Common.{rules, ◌≡◌, ◌<◌, ◌∙◌, ap, sym, subst, length, get_or}
+use Rattle.std.proofs.Common.{rules, ◌≡◌, ◌∙◌, ap, length, get_or}
 use Rattle.std.specs.Prelude.{set as set_at}
 use Rattle.std.specs.FinSet as set
 use Rattle.moc_ranges.specs.Numbers.{NumberSet}
-use Rattle.moc_parts.specs.Parts.{union_of, AreParts, parts_below}
-use Rattle.moc_ranges.specs.Operations.{part_of}
+use Rattle.moc_parts.specs.Parts.{union_of}
 use Rattle.moc_parts.proofs.Twelve.{parts_length, get-parts, made_parts, made_union}
 use Rattle.moc_parts.proofs.Putting.{put_into, more_within, new_in_part}
 use Rattle.moc_parts.proofs.map.Map.insert_into.Goals as goal
