@@ -66,8 +66,8 @@ class MOC:
     def from_string(cls, value: str | bytes, format: str = "ascii") -> MOC:
         """What a text says, in the form `ascii`, `json` or `uniq`, a list of NUNIQ numbers, one a line.
 
-        MocError at its first fault: BadByte, NoOrder, OrderTooLarge, CellTooLarge, Backwards, Unfinished with a byte; NotJson, NotObject,
-        BadOrder, NotArray, NotWhole, CellTooLarge with a name and an item; BadByte, NotUniq with a line."""
+        MocError at its first fault: BadByte, NoOrder, OrderTooLarge, CellTooLarge, Backwards, Unfinished with a byte; NotJson, NotObject
+        with no place, BadOrder, NotArray with a name, NotWhole, CellTooLarge with a name and an item; BadByte, NotUniq with a line."""
         if format not in _READERS:
             raise ValueError(f"a form is one of {', '.join(_READERS)}, not {format}")
         return cls._made(_READERS[format], value.encode() if isinstance(value, str) else bytes(memoryview(value)))
@@ -218,7 +218,7 @@ class MOC:
 
     def contains(self, pixels: Numbers):
         """Whether it has each of these pixels of order 29, a bool for each; a number that is no pixel it has not. Rising pixels are looked
-        up fastest; those of an array that are in no sequence are brought into one, where the set is large."""
+        up fastest; those of an array of more than 1,000 that are in no sequence are brought into one, where the set is large."""
         given = numbers_of(pixels)
         found = given.room("B")
         if self.range_count() > _FEW_RANGES and given.is_scattered():

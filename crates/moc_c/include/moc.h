@@ -12,7 +12,8 @@
    - No call from a signal handler, or in the forked child of a process with threads.
    - malloc, realloc and free are those of one allocator, and a block is aligned as C asks.
 
-   All else holds for all arguments: a key, an order, a number or a length that is wrong gets its code. */
+   All else holds for all arguments: a key, an order, a cell or a length that is wrong gets its code, and a number that is no pixel is in
+   no coverage. */
 #ifndef MOC_H
 #define MOC_H
 
