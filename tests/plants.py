@@ -41,8 +41,8 @@ class Plant(NamedTuple):
 
 PLANTS = [
     # crews
-    Plant("crew_names_the_greatest_refused_line", "moc_script", "src/crews/gathering.rt",
-          "Some(line) if line < refused.line => Some(line),", "Some(line) if line > refused.line => Some(line),", "prove"),
+    Plant("crew_names_the_greatest_refused_line", "moc_script", "src/crews/lane.rt",
+          "Unfinished::Refused { line: b }) => a <= b,", "Unfinished::Refused { line: b }) => a >= b,", "prove"),
     Plant("last_line_without_a_line_feed_is_not_counted", "moc_script", "src/crews/reading.rt",
           "        Some(_) => whole + 2,", "        Some(_) => whole + 1,", "prove"),
     Plant("crew_tells_spawn_as_memory", "moc_script", "src/crews/threads.rt",
