@@ -38,8 +38,8 @@ TOP = os.path.dirname(os.path.dirname(os.path.abspath(__file__)))
 sys.path.insert(0, os.path.join(TOP, "tools"))
 from crates import crates_of, folder_of, libraries_below, make_room  # noqa: E402
 
-# How many jobs a check has: one, since as many checks as there are cores go on side by side.
-JOBS = "1"
+# How many jobs a check has: two, since the last checks have the cores to themselves.
+JOBS = "2"
 # Where the rooms lie: on one disk with the crates, so that files can be linked.
 ROOMS = os.path.join(folder_of("moc_cli"), "out", "edits")
 # How many seconds a check may take: several times what the longest takes.
