@@ -199,8 +199,9 @@ def errors_of(told):
 
 def output(words, folder):
     """What a command writes in a folder; it and all that it began are stopped where they take too long."""
+    # (a group of its own, and no session: to each of these Linux gives as much of the processors, however far they give way)
     begun = subprocess.Popen(words, cwd=folder, stdin=subprocess.DEVNULL, stdout=subprocess.PIPE, stderr=subprocess.DEVNULL, text=True,
-                             start_new_session=True)
+                             process_group=0)
     try:
         return begun.communicate(timeout=SECONDS)[0]
     except subprocess.TimeoutExpired:
