@@ -153,7 +153,7 @@ pub extern "C" fn moc_write_uniq(alloc: Global, desk: &mut Desk, a: u64) -> Outc
 }
 
 /// Makes the figures of a set, with the deepest order that its text named, or 255, and tells their length. Takes the
-/// memory of the set's cells, and goes over them for each order.
+/// memory of the set's cells, and goes over them once.
 ///
 /// Refused for a key without a set, for an order above 29, or where memory runs out.
 #[unsafe(no_mangle)]

@@ -47,7 +47,7 @@ impl FromStr for Operation {
 }
 
 impl Operation {
-    /// What the operation makes of two sets. One pass over their ranges at most; refused where memory runs out.
+    /// What the operation makes of two sets. O(n), of `Symmetric` in up to three passes; refused where memory runs out.
     pub fn of(self, alloc: Global, first: &Coverage, second: &Coverage) -> Result<Coverage, Memory>
         ensures set { IfOk result (λ c. c ≡ combined self first.now second.now) }
     {
@@ -62,7 +62,7 @@ impl Operation {
     /// What texts say together with one more: the operation of the sets, the deeper of the orders that they name, and
     /// the form of the first. Before the first text there is nothing, and it stands for itself.
     ///
-    /// One pass over the ranges at most; refused where memory runs out.
+    /// As `of`; refused where memory runs out.
     pub fn join(
         self,
         alloc: Global,

@@ -72,8 +72,8 @@ impl Map {
     /// Does the commands of a batch in order, and replies to each.
     ///
     /// A list that a command changes is made anew, in one pass; one that none changes is not copied. One `add` alone,
-    /// whose operand lies in one part, is put into the list of that part. Refused where memory runs out; the map then is
-    /// as it was.
+    /// whose operand lies in one part and is not degraded, is put into the list of that part. Refused where memory runs
+    /// out; the map then is as it was.
     pub fn apply(&mut self, alloc: Global, batch: &Batch) -> Result<Replies, Memory>
         ensures set { OnOk result (self.new ≡ set_after_all self.old batch.now) }
         ensures replies { IfOk result (λ r. r ≡ replies_on self.old batch.now) }
@@ -93,8 +93,8 @@ impl Map {
         Ok(replies)
     }
 
-    /// Adds the set of an operand, and replies to that, where the set lies in one part and is not degraded. None where it
-    /// does not; the map then is as it was.
+    /// Adds the set of an operand, and replies to that, where the set lies in one part and is not degraded. None where
+    /// it does not; the map then is as it was.
     fn add_alone(&mut self, alloc: Global, operand: &Operand) -> Result<Option<Replies>, Memory>
         ensures added { IfOk result (λ r. MatchOption r (self.new ≡ self.old) (λ r.
             (self.new ≡ set.union self.old (operand_set operand.now))

@@ -33,9 +33,9 @@ use std::sync::Wait;
 use std::thread::Threads;
 
 /// Does what the words ask, and answers the exit status: 0 where it is done, 1 where a value, a text or a line is
-/// refused, 2 where the words are no command line, 3 where a device fails or memory is refused. What went wrong is said
-/// on `faults`; whether that can be written changes nothing. Threads are started, and waited for, by the word `crew`
-/// alone.
+/// refused, 2 where the words are no command line, 3 where a device fails, or memory or a thread is refused. What went
+/// wrong is said on `faults`; whether that can be written changes nothing. Threads are started, and waited for, by the
+/// word `crew` alone.
 pub fn program<'a, T: Threads + Wait + Sync, S: AsStr, R: Source, W: Sink, E: Sink>(
     rt: &T,
     alloc: Global,

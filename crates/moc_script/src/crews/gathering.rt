@@ -36,7 +36,7 @@ fn first_unfinished(ends: &[Result<LaneEnd, Unfinished>]) -> Option<Unfinished>
     first
 }
 
-/// The lanes' ends, if all went well; or the least line at which a lane was refused memory.
+/// The lanes' ends, if all went well; or the line at which the first lane was refused memory, or else stopped.
 pub fn all_done(
     alloc: Global,
     ends: Vec<Result<LaneEnd, Unfinished>>,

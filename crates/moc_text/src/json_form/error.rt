@@ -8,7 +8,7 @@ use moc_ranges::Memory as MemoryRefused;
 use std::alloc::{AllocError, AllocFailed};
 use thiserror::Error;
 
-/// A fault of a JSON text. Names are numbered from 0 in byte order, and so are the items of an array.
+/// A fault of a JSON text. Names are numbered from 0 in byte order, the items of an array from 0 as they stand.
 #[derive(Debug, Clone, Copy, PartialEq, Eq, Error)]
 pub enum JsonError {
     #[error("no JSON")]
