@@ -154,7 +154,7 @@ fn parse(alloc: Global, text: &[u8]) -> Result<Value, JsonError>
 }
 
 /// Reads the JSON form (MOC 2.0): the set, and the deepest order that is a name. Names are numbered from 0 in byte
-/// order, as `serde_json` keeps them, and so are the items of an array.
+/// order, as `serde_json` keeps them, the items of an array from 0 as they stand.
 ///
 /// Refused with `NotJson` where `serde_json` reads no value, with `NotObject` where the value is none; then for the
 /// first faulty name: `BadOrder` where it is no number up to 29, `NotArray` for its value, and for the first faulty
