@@ -1,4 +1,6 @@
 //! Coverages of few ranges and of many, each call that takes memory once.
+ghost use Rattle.std.specs.Prelude.{◌≤◌};
+
 use moc_ranges::{Coverage, CoverageBuilder, Memory, RangesError, Steps};
 use moc_sphere::{Cell, Order};
 use std::alloc::Global;
