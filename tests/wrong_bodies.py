@@ -47,7 +47,7 @@ SECONDS = 3600
 # A row of the table of edits and tests, on the page about the gate.
 ROW = re.compile(r"^\| `(\w+)` \| (\d+) \|", re.MULTILINE)
 # What a name stands for that went with the edited text: such an error says nothing of the contract.
-NAME_GONE = re.compile(r"has no field|is not in scope|has no `|was not admitted|(?:expected|takes) \d+ argument")
+NAME_GONE = re.compile(r"has no field|is not a field|\(nearest: |is not in scope|has no `|was not admitted|(?:expected|takes) \d+ argument")
 # What a refusal shows, from the most to nothing.
 KINDS = ("clause", "answers", "name")
 

@@ -129,10 +129,10 @@ starts empty:
   give C B       gives part B back
   quit C         gives the batch up, before any part is changed
   end C          ends, and answers what the batch answers
-A step that the parts of others do not permit is answered `refused` with the
-cause, a bad line `fault` with the fault's name, and neither changes anything.
-Behind the last line come `order`, with the lines that began the batches in the
-order in which they stand, and the coverage, or how many clients are midway.
+A step that is not permitted is answered `refused` with the cause, a bad line
+`fault` with the fault's name, and neither changes anything. Behind the last
+line come `order`, with the lines that began the batches in the order in which
+they stand, and the coverage, or how many clients are midway.
 
 Example:
   printf 'begin 1 add 0/3\\ntake 1\\nedit 1 3\\ngive 1 3\\nend 1\\n' | moc play
@@ -216,10 +216,11 @@ const CHECK: &str = "\
 Prints `ok`. A text that is no coverage is told on standard error, by the
 fault's name and a line that says where it is and quotes what stands there: the
 byte, its line and the byte of that line (ascii), the line (uniq), or the order
-and the number in its array (json). Lines are counted from 1, bytes and numbers
-from 0. Where the text looks like one of another form, a line says so. `moc help
-faults` says what the faults mean. `auto` reads a text that begins with `{` as
-json, and else as ascii.
+and the number in its array (json). Of `NotJson` it has line and column alone,
+if any; `NotObject` and `TooLong` have no such line. Lines are counted from 1,
+bytes and numbers from 0. Where the text looks like one of another form, a line
+says so. `moc help faults` says what the faults mean. `auto` reads a text that
+begins with `{` as json, and else as ascii.
 
 Example:
   printf '1/0-3\\n2/7-5' | moc check ascii
@@ -289,8 +290,9 @@ sequence give the same union:
 const DEGRADING: &str = "\
 Prints all of each cell of order ORDER that has a pixel of the coverage, in the
 same form; stated is ORDER, or the deepest order that the text names where that
-is coarser. A text that is no coverage is told as by `moc check`. `auto` reads a
-text that begins with `{` as json, and else as ascii.
+is coarser, and none where it names none. A text that is no coverage is told as
+by `moc check`. `auto` reads a text that begins with `{` as json, and else as
+ascii.
 
 Example:
   echo '0/0 3/300 5/' | moc degrade 1 ascii
@@ -300,8 +302,9 @@ prints
 /// What `moc complement --help` says below the usage.
 const COMPLEMENT: &str = "\
 Prints the sky but for the coverage, in the same form; stated is the deepest
-order that the text names. A text that is no coverage is told as by `moc check`.
-`auto` reads a text that begins with `{` as json, and else as ascii.
+order that the text names, if any. A text that is no coverage is told as by
+`moc check`. `auto` reads a text that begins with `{` as json, and else as
+ascii.
 
 Example:
   echo '0/0-10 1/44 2/' | moc complement ascii
