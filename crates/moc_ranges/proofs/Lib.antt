@@ -22,3 +22,4 @@ pub mod Shortening
 pub mod Differing
 pub mod Deepest
 pub mod Adding
+pub mod Replacing

@@ -51,6 +51,28 @@ pub record IsRegrown (from to : ℕ) (before behind node blocks : List (List (�
   pub normal : IsNormal (joining (before ++ (blocks ++ behind)))
   pub grown : HasGrown from to (joining (before ++ (node ++ behind))) (joining (before ++ (blocks ++ behind))) added
 
+-- a block of a node, with those before and behind it there, took in a range, and is one block now or two
+pub record IsGrown (from to : ℕ) (before behind node left : List (List (ℕ × ℕ))) (run : List (ℕ × ℕ))
+    (right : List (List (ℕ × ℕ))) (first second : List (ℕ × ℕ)) (added : ℕ) : Type 0 where
+  pub parts : node ≡ left ++ run ∷ right
+  pub filled : AreBlocks (pieces first second)
+  pub normal : IsNormal (first ++ second)
+  pub regrown : IsRegrown from to before behind node (left ++ (pieces first second ++ right)) added
+
+-- a block at a place in the node at another took in a range, and has these ranges now
+pub record IsSpot (from to : ℕ) (nodes : List (List (List (ℕ × ℕ)))) (node block : ℕ) (ranges : List (ℕ × ℕ)) (added : ℕ)
+    : Type 0 where
+  pub before : List (List (List (ℕ × ℕ)))
+  pub old : List (List (ℕ × ℕ))
+  pub behind : List (List (List (ℕ × ℕ)))
+  pub parts : nodes ≡ before ++ old ∷ behind
+  pub at : node ≡ length before
+  pub left : List (List (ℕ × ℕ))
+  pub run : List (ℕ × ℕ)
+  pub right : List (List (ℕ × ℕ))
+  pub place : block ≡ length left
+  pub grown : IsGrown from to (joining before) (joining behind) old left run right ranges [] added
+
 -- one element, or two
 abbrev pub with_second : {X : Type 0} → X → Option X → List X
 with_second first None = first ∷ []

@@ -8,7 +8,8 @@ ghost use Rattle.moc_ranges.specs.Private.Blocks.{joining, next_of, AreFilled, A
 ghost use Rattle.moc_ranges.specs.Private.Built.{first_length, EndsBelow};
 ghost use Rattle.moc_ranges.specs.Private.Walks.{joined};
 ghost use Rattle.moc_ranges.specs.Private.Added.{pieces, with_second};
-ghost use Rattle.moc_ranges.specs.Private.Added.{IsAround, IsReach, HasOneMore, HasGrown, IsCut, IsRegrown, IsRenewed};
+ghost use Rattle.moc_ranges.specs.Private.Added.{IsAround, IsReach, HasOneMore, HasGrown, IsCut, IsGrown, IsRegrown};
+ghost use Rattle.moc_ranges.specs.Private.Added.{IsRenewed, IsSpot};
 
 use crate::list::ahead::{Ahead, front_from};
 use crate::list::block::{Block, LONGEST, measure_ranges};
@@ -234,6 +235,53 @@ fn replaced(
     Ok(blocks)
 }
 
+/// A block of a node that took in a range: what stands around it, what its ranges were cut into, and how many pixels are
+/// new.
+#[derive(Drop)]
+struct Grown<'a> {
+    place: Around<'a, Block>,
+    cut: Cut<(u64, u64)>,
+    added: u64,
+}
+
+/// The block of a node between others that a range goes to, with that range. None where the range touches another block,
+/// or a rule of lengths would be broken.
+fn grow<'a>(
+    alloc: Global,
+    before: &[Node],
+    node: &'a Node,
+    behind: &[Node],
+    from: u64,
+    to: u64,
+) -> Result<Option<Grown<'a>>, AllocError>
+    requires sized { AreBlocks (joining before.now ++ (node.now ++ joining behind.now)) }
+    requires normal { IsNormal (joining (joining before.now ++ (node.now ++ joining behind.now))) }
+    requires filled { from < to }
+    requires within { to ≤ pixel_count }
+    requires below { EndsBelow from (joining (joining before.now)) }
+    ensures { IfOk result (λ g. IfSome g (λ g. IsGrown from to (joining before.now) (joining behind.now) node.entry.now
+        g.place.before.now g.place.run.now g.place.behind.now g.cut.first.items g.cut.second.items g.added)) }
+{
+    let Some(place) = place_of(node.blocks(), from) else {
+        return Ok(None);
+    };
+    let ahead = Ahead {
+        blocks: place.behind,
+        nodes: behind,
+    };
+    if front_from(ahead) <= to {
+        return Ok(None);
+    }
+    let ranges = with_range(alloc, place.run.ranges(), from, to)?;
+    let added = measure_ranges(&ranges) - place.run.size();
+    let front = length_of_last(before, place.before);
+    let back = length_of_next(place.behind, behind);
+    let Some(cut) = cut_list(alloc, ranges, LONGEST, front, back)? else {
+        return Ok(None);
+    };
+    Ok(Some(Grown { place, cut, added }))
+}
+
 /// The blocks of a node between others with one range more, where it touches no other block than that which it goes to,
 /// and the rules of lengths are kept.
 fn regrow(
@@ -252,21 +300,7 @@ fn regrow(
     ensures { IfOk result (λ r. IfSome r (λ r.
         IsRegrown from to (joining before.now) (joining behind.now) node.now r.blocks.items r.added)) }
 {
-    let Some(place) = place_of(node.blocks(), from) else {
-        return Ok(None);
-    };
-    let ahead = Ahead {
-        blocks: place.behind,
-        nodes: behind,
-    };
-    if front_from(ahead) <= to {
-        return Ok(None);
-    }
-    let ranges = with_range(alloc, place.run.ranges(), from, to)?;
-    let added = measure_ranges(&ranges) - place.run.size();
-    let front = length_of_last(before, place.before);
-    let back = length_of_next(place.behind, behind);
-    let Some(cut) = cut_list(alloc, ranges, LONGEST, front, back)? else {
+    let Some(Grown { place, cut, added }) = grow(alloc, before, node, behind, from, to)? else {
         return Ok(None);
     };
     let blocks = replaced(alloc, place, cut)?;
@@ -406,6 +440,83 @@ pub fn insert_few(
     Ok(Some(added))
 }
 
+/// A block that took in a range and is one block still: the place of its node, its own in that node, its ranges, and how
+/// many pixels are new.
+#[derive(Drop)]
+struct Spot {
+    node: usize,
+    block: usize,
+    ranges: Vec<(u64, u64)>,
+    added: u64,
+}
+
+/// The block that a range goes to, with that range. None where the range touches another block, the block has to be cut,
+/// or a rule of lengths would be broken.
+fn spot_of(alloc: Global, nodes: &[Node], from: u64, to: u64) -> Result<Option<Spot>, AllocError>
+    requires stored { IsStored [] nodes.now }
+    requires filled { from < to }
+    requires within { to ≤ pixel_count }
+    ensures { IfOk result (λ s. IfSome s (λ s. IsSpot from to nodes.now s.node s.block s.ranges.items s.added)) }
+{
+    let Some(place) = place_of(nodes, from) else {
+        return Ok(None);
+    };
+    let Some(
+        Grown {
+            place: own,
+            cut,
+            added,
+        },
+    ) = grow(alloc, place.before, place.run, place.behind, from, to)?
+    else {
+        return Ok(None);
+    };
+    let Cut { first, second } = cut;
+    if !second.is_empty() {
+        return Ok(None);
+    }
+    Ok(Some(Spot {
+        node: place.before.len(),
+        block: own.before.len(),
+        ranges: first,
+        added,
+    }))
+}
+
+/// Adds a range to nodes by one new block, in the list of blocks that its node has, and tells how many numbers are new.
+/// None where somebody else has that list, too, or one block does not do; the nodes then are as they were.
+fn insert_in_place(
+    alloc: Global,
+    nodes: &mut Vec<Node>,
+    from: u64,
+    to: u64,
+) -> Result<Option<u64>, AllocError>
+    requires stored { IsStored [] nodes.old.items }
+    requires filled { from < to }
+    requires within { to ≤ pixel_count }
+    ensures stored { IsStored [] nodes.new.items }
+    ensures inserted { IfOk result (λ n. MatchOption n (nodes.new.items ≡ nodes.old.items) (λ n.
+        HasGrown from to (joining (joining nodes.old.items)) (joining (joining nodes.new.items)) n)) }
+    ensures unchanged { OnErr result (nodes.new.items ≡ nodes.old.items) }
+{
+    let Some(
+        Spot {
+            node,
+            block,
+            ranges,
+            added,
+        },
+    ) = spot_of(alloc, nodes, from, to)?
+    else {
+        return Ok(None);
+    };
+    let new = Block::new(alloc, ranges)?;
+    if !nodes[node].put_block(block, new) {
+        return Ok(None);
+    }
+    Ok(Some(added))
+}
+
 /// Adds a range to nodes where that changes one block alone, and tells how many numbers are new. None where it does not,
 /// or a rule of lengths would be broken; the nodes then are as they were.
 pub fn insert_in_nodes(
@@ -422,6 +533,9 @@ pub fn insert_in_nodes(
         HasGrown from to (joining (joining nodes.old.items)) (joining (joining nodes.new.items)) n)) }
     ensures unchanged { OnErr result (nodes.new.items ≡ nodes.old.items) }
 {
+    if let Some(added) = insert_in_place(alloc, nodes, from, to)? {
+        return Ok(Some(added));
+    }
     let Some(
         Renewed {
             place,

@@ -1,6 +1,6 @@
 //! A node: some blocks behind an `Arc`.
 
-ghost use Rattle.std.specs.Prelude.{◌≡◌, ◌+◌, ◌<◌, ◌≤◌, ℕ, length, IfOk};
+ghost use Rattle.std.specs.Prelude.{◌≡◌, ◌+◌, ◌<◌, ◌≤◌, ℕ, length, slice_set, false, true, IfOk};
 ghost use Rattle.moc_ranges.specs.RangeList.{IsNormal};
 ghost use Rattle.moc_ranges.specs.Private.Blocks.{first_of, last_of, width_of, joining, AreBlocks};
 
@@ -133,6 +133,26 @@ impl Node {
         ensures some { 0 < length (joining self.now) }
     {
         &self.blocks
+    }
+
+    /// Puts a block in place of one, and says whether that was done: it is where nobody else has the node's list of
+    /// blocks, which then stays where it is.
+    pub fn put_block(&mut self, place: usize, block: Block) -> bool
+        requires place { place < length self.old }
+        requires normal { IsNormal (joining (slice_set self.old place block)) }
+        requires sized { AreBlocks (slice_set self.old place block) }
+        ensures put { result ≡ true → self.new ≡ slice_set self.old place block }
+        ensures unchanged { result ≡ false → self.new ≡ self.old }
+    {
+        let Some(blocks) = Arc::get_mut(&mut self.blocks) else {
+            return false;
+        };
+        self.size = self.size - blocks[place].size() + block.size();
+        self.count = self.count - blocks[place].ranges().len() + block.ranges().len();
+        blocks[place] = block;
+        self.from = blocks[0].from();
+        self.to = blocks[blocks.len() - 1].to();
+        true
     }
 
     /// The same node once more.

@@ -1,0 +1,16 @@
+use Rattle.std.proofs.Common.{refl}
+use Rattle.moc_ranges.proofs.Adding.{some_of}
+use Rattle.moc_ranges.proofs.Replacing.{spot_normal, spot_sized, spot_put}
+use Rattle.moc_ranges.proofs.list.added.insert_in_place.Goals as goal
+
+pub put_block-requires-clause-normal : goal.put_block-requires-clause-normal
+put_block-requires-clause-normal c = spot_normal c.args.from c.args.to _ _ _ c.args.nodes.now.items c.deref.result.now _ _ _ c.deref.ensures.value (some_of _ _ _ c.in-Some.is c.in_ok-node.ensures) c.index_mut.ensures.value c.in_ok-new.ensures
+
+pub put_block-requires-clause-sized : goal.put_block-requires-clause-sized
+put_block-requires-clause-sized c = spot_sized c.args.from c.args.to _ _ _ c.args.nodes.now.items c.deref.result.now _ _ _ c.deref.ensures.value (some_of _ _ _ c.in-Some.is c.in_ok-node.ensures) c.index_mut.ensures.value c.in_ok-new.ensures
+
+pub returns-clause-stored : goal.returns-clause-stored
+returns-clause-stored c = (spot_put c.args.from c.args.to _ _ _ c.args.nodes.now.items c.deref.result.now _ _ _ _ c.requires.stored c.deref.ensures.value (some_of _ _ _ c.in-Some.is c.in_ok-node.ensures) c.index_mut.ensures.value c.in_ok-new.ensures (c.if-not-put_block.ensures.put refl)).0
+
+pub returns-clause-inserted : goal.returns-clause-inserted
+returns-clause-inserted c = (spot_put c.args.from c.args.to _ _ _ c.args.nodes.now.items c.deref.result.now _ _ _ _ c.requires.stored c.deref.ensures.value (some_of _ _ _ c.in-Some.is c.in_ok-node.ensures) c.index_mut.ensures.value c.in_ok-new.ensures (c.if-not-put_block.ensures.put refl)).1
