@@ -5,6 +5,7 @@ pub mod Building
 pub mod Merging
 pub mod Turning
 pub mod Meeting
+pub mod MeetingOn
 pub mod Lacking
 pub mod Walking
 pub mod Sorting

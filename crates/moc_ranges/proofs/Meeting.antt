@@ -3,15 +3,16 @@ use Rattle.std.proofs.Common.{◌≡◌, ℕ, ◌+◌, ◌<◌, ◌≤◌, Bool,
 use Rattle.std.specs.Prelude.{nat_le, nat_lt}
 use Rattle.std.proofs.lemmas.Bool.{cases_lt, or_cases, and_parts, leb-true, ltb-true}
 use Rattle.std.proofs.lemmas.Bool.Decides.{nat_tests}
-use Rattle.moc_ranges.specs.RangeList.{IsNormal, in_range, in_ranges}
+use Rattle.moc_ranges.specs.RangeList.{IsNormal, BeginsAfter, in_range, in_ranges}
 use Rattle.moc_ranges.specs.Private.Blocks.{next_of}
 use Rattle.moc_ranges.specs.Private.Built.{EndsBelow, Carries, TakesCommon}
-use Rattle.moc_ranges.specs.Private.Walks.{begun, EndsBy, Advances}
+use Rattle.moc_ranges.specs.Private.Meeting.{IsRising}
+use Rattle.moc_ranges.specs.Private.Walks.{begun, EndsBy, Advances, Passes}
 use Rattle.moc_ranges.proofs.Merging.{next_later, ends_next, in_ranges-append, or_false, EndsBelow-append, EndsBelow-more}
 use Rattle.moc_ranges.proofs.Blocking.{IsNormal-suffix}
 use Rattle.moc_ranges.proofs.CarriedOver.{carried_after}
 use Rattle.moc_ranges.proofs.Turning.{or_first}
-use Rattle.moc_ranges.proofs.Walking.{later_only, and_swap, Steps, begun_is}
+use Rattle.moc_ranges.proofs.Walking.{and_swap, Steps, begun_is}
 
 inside : (a b c d from to q : ℕ) (later more : Bool) → b ≤ d → from ≡ max a c → to ≡ min b d → q < b → more ≡ false → (((nat_le a q && nat_lt q b) || later) && ((nat_le c q && nat_lt q d) || more)) ≡ ((nat_le from q && nat_lt q to) || (later && ((nat_le c q && nat_lt q d) || more)))
 inside a b c d from to q later more ends f w lt none = grind (arith, nat_tests)
@@ -22,13 +23,26 @@ outside a b c d from to q later more ends f w ge = grind (arith, nat_tests)
 nothing_in : (from to q : ℕ) (k : Bool) → to ≤ from → k ≡ (k || (nat_le from q && nat_lt q to))
 nothing_in from to q k le = grind (arith, nat_tests)
 
-pub pieces : (x y : ℕ × ℕ) (xs ys : List (ℕ × ℕ)) (from to q : ℕ) → IsNormal (y ∷ ys) → x.1 ≤ y.1 → from ≡ max x.0 y.0 → to ≡ min x.1 y.1 → (in_ranges (x ∷ xs) q && in_ranges (y ∷ ys) q) ≡ (in_range (from, to) q || (in_ranges xs q && in_ranges (y ∷ ys) q))
-pieces x y xs ys from to q ny ends f t = elim (cases_lt q x.1) [
-  | inl lt ↦ inside x.0 x.1 y.0 y.1 from to q (in_ranges xs q) (in_ranges ys q) ends f t lt (later_only y.1 q ys ny.3 ny.2 (omega arith))
+pub rising_normal : (rs : List (ℕ × ℕ)) → IsNormal rs → IsRising rs
+rising_normal [] normal = tt
+rising_normal (r ∷ rs) normal = (omega (arith, normal.0), normal.2, rising_normal rs normal.3)
+
+-- a rising list has nothing before it begins
+pub none_early : (x q : ℕ) (ranges : List (ℕ × ℕ)) → IsRising ranges → BeginsAfter x ranges → q ≤ x → in_ranges ranges q ≡ false
+none_early x q [] rising after le = refl
+none_early x q (range ∷ ranges) rising after le = let rest = none_early range.1 q ranges rising.2 rising.1 (omega arith) in grind (arith, nat_tests)
+
+-- a range gave what it has in common with another that ends no sooner
+pub pieces_rising : (x y : ℕ × ℕ) (xs ys : List (ℕ × ℕ)) (from to q : ℕ) → IsRising (y ∷ ys) → x.1 ≤ y.1 → from ≡ max x.0 y.0 → to ≡ min x.1 y.1 → (in_ranges (x ∷ xs) q && in_ranges (y ∷ ys) q) ≡ (in_range (from, to) q || (in_ranges xs q && in_ranges (y ∷ ys) q))
+pieces_rising x y xs ys from to q ry ends f t = elim (cases_lt q x.1) [
+  | inl lt ↦ inside x.0 x.1 y.0 y.1 from to q (in_ranges xs q) (in_ranges ys q) ends f t lt (none_early y.1 q ys ry.2 ry.1 (omega arith))
   | inr ge ↦ outside x.0 x.1 y.0 y.1 from to q (in_ranges xs q) (in_ranges ys q) ends f t ge
 ]
 
-pieces_back : (x y : ℕ × ℕ) (xs ys : List (ℕ × ℕ)) (from to q : ℕ) → IsNormal (x ∷ xs) → y.1 ≤ x.1 → from ≡ max x.0 y.0 → to ≡ min x.1 y.1 → (in_ranges (x ∷ xs) q && in_ranges (y ∷ ys) q) ≡ (in_range (from, to) q || (in_ranges (x ∷ xs) q && in_ranges ys q))
+pub pieces : (x y : ℕ × ℕ) (xs ys : List (ℕ × ℕ)) (from to q : ℕ) → IsNormal (y ∷ ys) → x.1 ≤ y.1 → from ≡ max x.0 y.0 → to ≡ min x.1 y.1 → (in_ranges (x ∷ xs) q && in_ranges (y ∷ ys) q) ≡ (in_range (from, to) q || (in_ranges xs q && in_ranges (y ∷ ys) q))
+pieces x y xs ys from to q ny ends f t = pieces_rising x y xs ys from to q (rising_normal (y ∷ ys) ny) ends f t
+
+pub pieces_back : (x y : ℕ × ℕ) (xs ys : List (ℕ × ℕ)) (from to q : ℕ) → IsNormal (x ∷ xs) → y.1 ≤ x.1 → from ≡ max x.0 y.0 → to ≡ min x.1 y.1 → (in_ranges (x ∷ xs) q && in_ranges (y ∷ ys) q) ≡ (in_range (from, to) q || (in_ranges (x ∷ xs) q && in_ranges ys q))
 pieces_back x y xs ys from to q nx ends f t =
     and_swap (in_ranges (x ∷ xs) q) (in_ranges (y ∷ ys) q)
     ∙ pieces y x ys xs from to q nx ends (omega (arith, f)) (omega (arith, t))
@@ -102,11 +116,11 @@ taken_bool true x true m none = refl
 taken_bool true true false m none = refl
 taken_bool true false false m none = none refl
 
-common_parts : (gone xs ys : List (ℕ × ℕ)) (y : ℕ × ℕ) (q : ℕ) → IsNormal (y ∷ ys) → EndsBy y.1 gone → (in_ranges (gone ++ xs) q && in_ranges (y ∷ ys) q) ≡ ((in_ranges gone q && in_range y q) || (in_ranges xs q && in_ranges (y ∷ ys) q))
-common_parts gone xs ys y q normal ended =
+pub common_parts : (gone xs ys : List (ℕ × ℕ)) (y : ℕ × ℕ) (q : ℕ) → IsRising (y ∷ ys) → EndsBy y.1 gone → (in_ranges (gone ++ xs) q && in_ranges (y ∷ ys) q) ≡ ((in_ranges gone q && in_range y q) || (in_ranges xs q && in_ranges (y ∷ ys) q))
+common_parts gone xs ys y q rising ended =
     ap (λ b. b && in_ranges (y ∷ ys) q) (in_ranges-append gone xs q)
     ∙ taken_bool (in_ranges gone q) (in_ranges xs q) (in_range y q) (in_ranges ys q)
-    (λ here. let lt : q < y.1 = ends_by_in y.1 gone q ended here in later_only y.1 q ys normal.3 normal.2 (omega arith))
+    (λ here. let lt : q < y.1 = ends_by_in y.1 gone q ended here in none_early y.1 q ys rising.2 rising.1 (omega arith))
 
 -- more ranges of the first list gave what they have in common with the second's next range
 pub meeting_taken : (ks ks' xs xs' ys whole_xs whole_ys : List (ℕ × ℕ)) (y : ℕ × ℕ) → IsMeeting ks xs (y ∷ ys) whole_xs whole_ys → TakesCommon xs xs' y ks ks' → IsMeeting ks' xs' (y ∷ ys) whole_xs whole_ys
@@ -117,7 +131,7 @@ meeting_taken ks ks' xs xs' ys whole_xs whole_ys y s t = record {
   below = t.below;
   same = λ q. ap (λ k. k || (in_ranges xs' q && in_ranges (y ∷ ys) q)) (t.same q)
       ∙ or_first (in_ranges ks q) (in_ranges t.gone q && in_range y q) (in_ranges xs' q && in_ranges (y ∷ ys) q)
-      ∙ ap (λ k. in_ranges ks q || k) (sym (common_parts t.gone xs' ys y q s.second_normal t.ended) ∙ ap (λ (l : List (ℕ × ℕ)). in_ranges l q && in_ranges (y ∷ ys) q) (sym t.parts))
+      ∙ ap (λ k. in_ranges ks q || k) (sym (common_parts t.gone xs' ys y q (rising_normal (y ∷ ys) s.second_normal) t.ended) ∙ ap (λ (l : List (ℕ × ℕ)). in_ranges l q && in_ranges (y ∷ ys) q) (sym t.parts))
       ∙ s.same q;
 }
 
@@ -138,19 +152,34 @@ ends_by-below : (limit : ℕ) (rs : List (ℕ × ℕ)) → EndsBelow (limit + 1)
 ends_by-below limit [] below = tt
 ends_by-below limit (r ∷ rs) below = (omega (arith, below.0), ends_by-below limit rs below.1)
 
-pub taken_past : (ks xs t : List (ℕ × ℕ)) (y : ℕ × ℕ) (r : Option (ℕ × ℕ)) (n : ℕ) → IsNormal xs → y.0 ≤ y.1 → IsNormal ks → EndsBelow (max (next_of xs) y.0) ks → Advances (y.0, y.0) xs t r n → TakesCommon xs (begun r t) y ks ks
-taken_past ks xs t y r n normal rises built after a =
-    let parts = a.passed.parts ∙ ap (λ (l : List (ℕ × ℕ)). a.passed.gone ++ l) (sym (begun_is a.rest r t a.step)) in
+pub taken_ended : (ks xs xs' gone : List (ℕ × ℕ)) (y : ℕ × ℕ) → IsNormal xs → y.0 ≤ y.1 → IsNormal ks → EndsBelow (max (next_of xs) y.0) ks → xs ≡ gone ++ xs' → EndsBy y.0 gone → TakesCommon xs xs' y ks ks
+taken_ended ks xs xs' gone y normal rises built after parts ended =
     let whole = subst IsNormal parts normal in
     record {
-      gone = a.passed.gone;
+      gone = gone;
       parts = parts;
-      ended = EndsBy-more y.0 y.1 a.passed.gone rises a.passed.ended;
+      ended = EndsBy-more y.0 y.1 gone rises ended;
       built = built;
-      below = EndsBelow-more (max (next_of xs) y.0) (max (next_of (begun r t)) y.0) ks after
-          (omega (arith, ap next_of parts, next_later a.passed.gone (begun r t) whole));
-      same = λ q. ended_bool (in_ranges ks q) (in_ranges a.passed.gone q) (in_range y q) (λ here. before_range y q (ends_by_in y.0 a.passed.gone q a.passed.ended here));
+      below = EndsBelow-more (max (next_of xs) y.0) (max (next_of xs') y.0) ks after (omega (arith, ap next_of parts, next_later gone xs' whole));
+      same = λ q. ended_bool (in_ranges ks q) (in_ranges gone q) (in_range y q) (λ here. before_range y q (ends_by_in y.0 gone q ended here));
     }
+
+pub taken_passed : (ks xs xs' : List (ℕ × ℕ)) (y : ℕ × ℕ) (n : ℕ) → IsNormal xs → y.0 ≤ y.1 → IsNormal ks → EndsBelow (max (next_of xs) y.0) ks → Passes (y.0, y.0) xs xs' n → TakesCommon xs xs' y ks ks
+taken_passed ks xs xs' y n normal rises built after p = taken_ended ks xs xs' p.gone y normal rises built after p.parts p.ended
+
+pub taken_past : (ks xs t : List (ℕ × ℕ)) (y : ℕ × ℕ) (r : Option (ℕ × ℕ)) (n : ℕ) → IsNormal xs → y.0 ≤ y.1 → IsNormal ks → EndsBelow (max (next_of xs) y.0) ks → Advances (y.0, y.0) xs t r n → TakesCommon xs (begun r t) y ks ks
+taken_past ks xs t y r n normal rises built after a =
+    subst (λ (l : List (ℕ × ℕ)). TakesCommon xs l y ks ks) (sym (begun_is a.rest r t a.step)) (taken_passed ks xs a.rest y n normal rises built after a.passed)
+
+pub taken_nothing : (ks xs : List (ℕ × ℕ)) (y : ℕ × ℕ) → IsNormal ks → EndsBelow (max (next_of xs) y.0) ks → TakesCommon xs xs y ks ks
+taken_nothing ks xs y built after = record {
+  gone = [];
+  parts = refl;
+  ended = tt;
+  built = built;
+  below = after;
+  same = λ q. sym (or_false (in_ranges ks q));
+}
 
 inside_bool : (k g y : Bool) → (g ≡ true → y ≡ true) → (k || g) ≡ (k || (g && y))
 inside_bool true g y all = refl
@@ -170,10 +199,10 @@ normal_from (r ∷ rs) ss q normal e = elim (or_cases (in_range r q) (in_ranges 
 range_holds : (y : ℕ × ℕ) (q : ℕ) → y.0 ≤ q → q < y.1 → in_range y q ≡ true
 range_holds y q low high = grind (arith, nat_tests)
 
-pub taken_carried : (ks ks' xs xs' : List (ℕ × ℕ)) (y : ℕ × ℕ) (limit : ℕ) → IsNormal xs → y.0 ≤ next_of xs → limit ≡ y.1 + 1 → EndsBelow (next_of xs) ks → Carries xs xs' limit ks ks' → TakesCommon xs xs' y ks ks'
+pub taken_carried : (ks ks' xs xs' : List (ℕ × ℕ)) (y : ℕ × ℕ) (limit : ℕ) → IsNormal xs → y.0 ≤ next_of xs → limit ≤ y.1 + 1 → EndsBelow (next_of xs) ks → Carries xs xs' limit ks ks' → TakesCommon xs xs' y ks ks'
 taken_carried ks ks' xs xs' y limit normal from is after c =
     let whole = subst IsNormal c.parts normal in
-    let ended = ends_by-below y.1 c.gone (subst (λ n. EndsBelow n c.gone) is c.below) in
+    let ended = ends_by-below y.1 c.gone (EndsBelow-more limit (y.1 + 1) c.gone c.below is) in
     record {
       gone = c.gone;
       parts = c.parts;

@@ -8,4 +8,5 @@ pub mod Kept
 pub mod Walks
 pub mod Gathered
 pub mod Few
+pub mod Meeting
 pub mod Added

@@ -4,6 +4,7 @@ pub mod carrying;
 pub mod difference;
 pub mod few;
 pub mod intersection;
+pub mod meeting;
 pub mod reach;
 pub mod symmetric;
 pub mod union;

@@ -87,6 +87,25 @@ pub fn next_ahead(ahead: Ahead<'_>) -> Option<Front<'_>>
     })
 }
 
+/// The next block, and what is behind it, if there is one.
+pub fn block_ahead(ahead: Ahead<'_>) -> Option<Begun<'_>>
+    ensures { MatchOption result (rest_of [] ahead.entry.blocks.now ahead.entry.nodes.now ≡ []) (λ b.
+        (rest_of b.ranges.now b.ahead.blocks.now b.ahead.nodes.now
+        ≡ rest_of [] ahead.entry.blocks.now ahead.entry.nodes.now) × (0 < length b.ranges.now)) }
+{
+    let ahead = begin_node(ahead);
+    let [block, blocks @ ..] = ahead.blocks else {
+        return None;
+    };
+    Some(Begun {
+        ranges: block.ranges(),
+        ahead: Ahead {
+            blocks,
+            nodes: ahead.nodes,
+        },
+    })
+}
+
 /// A node, and what is behind it.
 #[derive(Clone, Copy)]
 pub struct WholeNode<'a> {

@@ -2,7 +2,9 @@
 ghost use Rattle.std.specs.Iterator.{YieldsFirst, UpTo, at_most, item_count};
 ghost use Rattle.std.specs.Iterator.SizeHint.{IsWithinCount};
 
-use crate::list::ahead::{Ahead, Begun, block_below, front_from, next_ahead, node_below};
+use crate::list::ahead::{
+    Ahead, Begun, block_ahead, block_below, front_from, next_ahead, node_below,
+};
 use crate::list::block::{Block, LONGEST};
 use crate::list::node::{Node, count_in_blocks, count_in_nodes};
 use crate::list::runs::{leading_below, pass_ranges};
@@ -29,7 +31,7 @@ impl<'a> Model for Ranges<'a> {
     ghost invariant = { λ r. IsNormal (rest_of r.ranges.now r.ahead.blocks.now r.ahead.nodes.now) };
 }
 
-ghost use Rattle.std.specs.Prelude.{ℕ, ◌≡◌, ◌<◌, ◌≤◌, ◌++◌, [], length, MatchOption, IfSome, Some};
+ghost use Rattle.std.specs.Prelude.{ℕ, ◌≡◌, ◌<◌, ◌≤◌, ◌++◌, ◌∷◌, [], List, length, MatchOption, IfSome, Some};
 ghost use Rattle.moc_ranges.specs.RangeList.{IsNormal};
 ghost use Rattle.moc_ranges.specs.Private.Blocks.{joining, last_of, next_of, rest_of};
 ghost use Rattle.moc_ranges.specs.Private.Walks.{Advances, Passes};
@@ -148,6 +150,36 @@ impl<'a> Ranges<'a> {
         }
     }
 
+    /// The block that is begun, or else the next one, and what is behind it, if there is one.
+    #[inline]
+    pub(crate) fn next_block(&self) -> Option<Started<'a>>
+        ensures { MatchOption result (self.now ≡ []) (λ s.
+            (s.ranges.now ++ s.behind ≡ self.now) × (0 < length s.ranges.now)) }
+    {
+        let [] = self.ranges else {
+            return Some(Started {
+                ranges: self.ranges,
+                behind: Behind { ahead: self.ahead },
+            });
+        };
+        let begun = block_ahead(self.ahead)?;
+        Some(Started {
+            ranges: begun.ranges,
+            behind: Behind { ahead: begun.ahead },
+        })
+    }
+
+    /// The next range, where a block is begun.
+    #[inline]
+    pub(crate) fn begun_range(&self) -> Option<(u64, u64)>
+        ensures { IfSome result (λ range. (rest : List (ℕ × ℕ)) × (self.now ≡ range ∷ rest)) }
+    {
+        match self.ranges {
+            [range, ..] => Some(*range),
+            [] => None,
+        }
+    }
+
     /// Goes on with these ranges, and what is behind them.
     #[inline]
     pub(crate) fn resume(&mut self, ranges: &'a [(u64, u64)], behind: Behind<'a>)
@@ -218,7 +250,7 @@ impl<'a> Ranges<'a> {
     /// Whether the range that stands `reach` ahead in the block that is begun ends after the limit: to go on one
     /// by one then costs less than a search.
     #[inline(always)]
-    fn is_near(&self, limit: u64, reach: usize) -> bool {
+    pub(crate) fn is_near(&self, limit: u64, reach: usize) -> bool {
         match self.begun().ranges.get(reach) {
             Some(range) => limit < range.1,
             None => self.is_in_block(),

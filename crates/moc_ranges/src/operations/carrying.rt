@@ -1,6 +1,10 @@
 //! Whole nodes and blocks of a list, carried over to what is built.
-ghost use Rattle.std.specs.Prelude.{IfOk, OnOk};
-ghost use Rattle.moc_ranges.specs.Private.Built.{ranges_of, CanCarry, Carries};
+ghost use Rattle.std.specs.Bool.{OnTrue};
+ghost use Rattle.std.specs.Prelude.{◌+◌, ◌<◌, ◌≤◌, length, max, IfOk, OnOk};
+ghost use Rattle.moc_ranges.specs.RangeList.{IsNormal};
+ghost use Rattle.moc_ranges.specs.Private.Blocks.{next_of};
+ghost use Rattle.moc_ranges.specs.Private.Built.{ranges_of, CanCarry, Carries, EndsBelow, TakesCommon};
+ghost use Rattle.moc_ranges.specs.Private.Meeting.{LeavesOut};
 ghost use Rattle.moc_ranges.specs.Private.Walks.{begun};
 
 use crate::list::builder::ListBuilder;
@@ -58,4 +62,41 @@ pub fn next_carrying(
 {
     carry_below(alloc, xs, limit, built)?;
     Ok(xs.next())
+}
+
+/// Leaves out the next ranges of a begun block that end below a limit, where the one that stands `reach` ahead does, and
+/// answers whether it did.
+pub fn leave_out(xs: &mut Ranges<'_>, limit: u64, reach: usize) -> bool
+    requires { IsNormal xs.old }
+    ensures out { LeavesOut limit xs.old xs.new }
+    ensures some { OnTrue result (length xs.new < length xs.old) }
+{
+    !xs.is_near(limit, reach) && xs.take_ranges_below(limit).is_some()
+}
+
+/// Where no block of a list is begun, leaves out what ends before a range begins, or carries over the nodes and blocks
+/// that lie in the range and end below the limit.
+pub fn take_whole(
+    alloc: Global,
+    xs: &mut Ranges<'_>,
+    range: (u64, u64),
+    limit: u64,
+    built: &mut ListBuilder,
+) -> Result<(), AllocError>
+    requires normal { IsNormal xs.old }
+    requires rising { range.0 ≤ range.1 }
+    requires within { limit ≤ range.1 + 1 }
+    requires built { IsNormal (ranges_of built.old) }
+    requires after { EndsBelow (max (next_of xs.old) range.0) (ranges_of built.old) }
+    ensures { OnOk result (TakesCommon xs.old xs.new range (ranges_of built.old) (ranges_of built.new)) }
+{
+    if xs.is_in_block() {
+        return Ok(());
+    }
+    if xs.next_from() < range.0 {
+        let _ = xs.pass((range.0, range.0));
+        return Ok(());
+    }
+    carry_all(alloc, xs, limit, built)?;
+    Ok(())
 }

@@ -1,17 +1,20 @@
 //! Intersection of lists in blocks.
 ghost use Rattle.std.specs.FinSet as set;
-ghost use Rattle.std.specs.Prelude.{◌≡◌, ◌<◌, ◌≤◌, min, max, IfOk, OnOk};
+ghost use Rattle.std.specs.Bool.{OnTrue, OnFalse};
+ghost use Rattle.std.specs.Prelude.{◌≡◌, ◌+◌, ◌<◌, ◌≤◌, ◌⊎◌, List, ℕ, [], length, min, max, IfOk, OnOk};
 ghost use Rattle.moc_ranges.specs.Pixels.{pixel_count};
 ghost use Rattle.moc_ranges.specs.RangeList.{IsNormal, set_of};
 ghost use Rattle.moc_ranges.specs.Private.Blocks.{next_of};
 ghost use Rattle.moc_ranges.specs.Private.Walks.{begun};
 ghost use Rattle.moc_ranges.specs.Private.Built.{ranges_of, AddsPart, EndsBelow, TakesCommon};
+ghost use Rattle.moc_ranges.specs.Private.Meeting.{CanMeet, MeetsOn};
 
 use crate::list::RangeList;
 use crate::list::builder::ListBuilder;
 use crate::list::ranges::Ranges;
-use crate::operations::carrying::next_carrying;
+use crate::operations::carrying::{leave_out, next_carrying, take_whole};
 use crate::operations::few::intersect_few;
+use crate::operations::meeting::{ROOM, meet_begun};
 use crate::operations::reach::{FAR, NEAR, are_even};
 use std::alloc::{AllocError, Global};
 
@@ -37,16 +40,14 @@ fn push_common(
     Ok(())
 }
 
-/// The next range behind one that ended at `end`, where the other list has come to a range and a walk that goes
-/// on looks `reach` ranges ahead. Those that end before that range are left out, and nodes and blocks that lie in
-/// it are carried over.
+/// The next range behind one that ended at `end`, where the other list has come to a range. Those that end before
+/// that range are left out, and nodes and blocks that lie in it are carried over.
 #[inline(always)]
 fn next_meeting(
     alloc: Global,
     xs: &mut Ranges<'_>,
     end: u64,
     other: (u64, u64),
-    reach: usize,
     built: &mut ListBuilder,
 ) -> Result<Option<(u64, u64)>, AllocError>
     requires normal { IsNormal xs.old }
@@ -59,18 +60,16 @@ fn next_meeting(
         TakesCommon xs.old (begun next xs.new) other (ranges_of built.old) (ranges_of built.new)) }
 {
     if end <= other.0 {
-        return Ok(xs.next_past(other.0, reach));
+        return Ok(xs.next_past(other.0, NEAR));
     }
     next_carrying(alloc, xs, other.1 + 1, built)
 }
 
-/// The pixels that the ranges of both lists have, where a walk that goes on looks `reach` ranges ahead.
-#[inline(always)]
+/// The pixels that the ranges of both lists have, range by range.
 fn intersect_lists(
     alloc: Global,
     mut xs: Ranges<'_>,
     mut ys: Ranges<'_>,
-    reach: usize,
 ) -> Result<RangeList, AllocError>
     requires xs { IsNormal xs }
     requires ys { IsNormal ys }
@@ -85,12 +84,118 @@ fn intersect_lists(
         };
         push_common(alloc, x, y, &mut built)?;
         if x.1 <= y.1 {
-            first = next_meeting(alloc, &mut xs, x.1, y, reach, &mut built)?;
+            first = next_meeting(alloc, &mut xs, x.1, y, &mut built)?;
         } else {
-            second = next_meeting(alloc, &mut ys, y.1, x, reach, &mut built)?;
+            second = next_meeting(alloc, &mut ys, y.1, x, &mut built)?;
         }
     }
     built.finish(alloc)
+}
+
+/// Leaves out the ranges of a begun block of one list that end before the other's next one, where they are many, and
+/// answers whether it did.
+fn leave_leading(xs: &mut Ranges<'_>, ys: &mut Ranges<'_>) -> bool
+    requires first_normal { IsNormal xs.old }
+    requires second_normal { IsNormal ys.old }
+    ensures met { (kept : List (ℕ × ℕ)) → CanMeet xs.old ys.old kept → MeetsOn xs.old xs.new ys.old ys.new kept kept }
+    ensures second_normal { IsNormal ys.new }
+    ensures some { OnTrue result (length xs.new + length ys.new < length xs.old + length ys.old) }
+    ensures fewer { length xs.new + length ys.new ≤ length xs.old + length ys.old }
+{
+    leave_out(xs, ys.next_from(), FAR) || leave_out(ys, xs.next_from(), FAR)
+}
+
+/// Adds what the begun or next blocks of two lists have in common, until one of these has no more. Answers whether both
+/// lists had one.
+fn meet_blocks(
+    alloc: Global,
+    xs: &mut Ranges<'_>,
+    ys: &mut Ranges<'_>,
+    room: &mut [(u64, u64); ROOM],
+    built: &mut ListBuilder,
+) -> Result<bool, AllocError>
+    requires can { CanMeet xs.old ys.old (ranges_of built.old) }
+    requires second_normal { IsNormal ys.old }
+    ensures met { OnOk result (MeetsOn xs.old xs.new ys.old ys.new (ranges_of built.old) (ranges_of built.new)) }
+    ensures second_normal { OnOk result (IsNormal ys.new) }
+    ensures some { IfOk result (λ met. OnTrue met (length xs.new + length ys.new < length xs.old + length ys.old)) }
+    ensures none { IfOk result (λ met. OnFalse met ((xs.new ≡ []) ⊎ (ys.new ≡ []))) }
+{
+    let Some(first) = xs.next_block() else {
+        return Ok(false);
+    };
+    let Some(second) = ys.next_block() else {
+        return Ok(false);
+    };
+    let met = meet_begun(first.ranges, &second.ranges, room);
+    built.push_all(alloc, &room[..met.made])?;
+    xs.resume(&first.ranges[met.first..], first.behind);
+    ys.resume(&second.ranges[met.second..], second.behind);
+    Ok(true)
+}
+
+/// Goes on in two lists, of which blocks may be begun: leaves out what leads, or adds what two blocks have in common.
+/// Answers whether both lists had more.
+fn meet_next(
+    alloc: Global,
+    xs: &mut Ranges<'_>,
+    ys: &mut Ranges<'_>,
+    room: &mut [(u64, u64); ROOM],
+    built: &mut ListBuilder,
+) -> Result<bool, AllocError>
+    requires can { CanMeet xs.old ys.old (ranges_of built.old) }
+    requires second_normal { IsNormal ys.old }
+    ensures met { OnOk result (MeetsOn xs.old xs.new ys.old ys.new (ranges_of built.old) (ranges_of built.new)) }
+    ensures second_normal { OnOk result (IsNormal ys.new) }
+    ensures some { IfOk result (λ met. OnTrue met (length xs.new + length ys.new < length xs.old + length ys.old)) }
+    ensures none { IfOk result (λ met. OnFalse met ((xs.new ≡ []) ⊎ (ys.new ≡ []))) }
+{
+    if leave_leading(xs, ys) {
+        return Ok(true);
+    }
+    meet_blocks(alloc, xs, ys, room, built)
+}
+
+/// Where no block of a list is begun, goes to where the other list has come to in a begun block: leaves out what ends
+/// before, and carries over the nodes and blocks that lie in the other's next range.
+fn meet_whole(
+    alloc: Global,
+    xs: &mut Ranges<'_>,
+    ys: &Ranges<'_>,
+    built: &mut ListBuilder,
+) -> Result<(), AllocError>
+    requires can { CanMeet xs.old ys.now (ranges_of built.old) }
+    requires second_normal { IsNormal ys.now }
+    ensures met { OnOk result (MeetsOn xs.old xs.new ys.now ys.now (ranges_of built.old) (ranges_of built.new)) }
+    ensures fewer { OnOk result (length xs.new ≤ length xs.old) }
+{
+    let Some(other) = ys.begun_range() else {
+        return Ok(());
+    };
+    take_whole(alloc, xs, other, other.1 + 1, built)?;
+    Ok(())
+}
+
+/// The pixels that the ranges of both lists have, block by block.
+fn intersect_blocks(
+    alloc: Global,
+    mut xs: Ranges<'_>,
+    mut ys: Ranges<'_>,
+) -> Result<RangeList, AllocError>
+    requires xs { IsNormal xs }
+    requires ys { IsNormal ys }
+    ensures { IfOk result (λ l. set_of l ≡ set.intersection (set_of xs.entry) (set_of ys.entry)) }
+{
+    let mut built = ListBuilder::new(alloc, xs.room() + ys.room())?;
+    let mut room = [(0, 0); ROOM];
+    loop {
+        let met = meet_next(alloc, &mut xs, &mut ys, &mut room, &mut built)?;
+        if !met {
+            return built.finish(alloc);
+        }
+        meet_whole(alloc, &mut xs, &ys, &mut built)?;
+        meet_whole(alloc, &mut ys, &xs, &mut built)?;
+    }
 }
 
 /// The pixels that the ranges of both lists have.
@@ -105,7 +210,7 @@ pub fn intersect(alloc: Global, xs: Ranges<'_>, ys: Ranges<'_>) -> Result<RangeL
         }
     }
     if are_even(&xs, &ys) {
-        return intersect_lists(alloc, xs, ys, FAR);
+        return intersect_blocks(alloc, xs, ys);
     }
-    intersect_lists(alloc, xs, ys, NEAR)
+    intersect_lists(alloc, xs, ys)
 }

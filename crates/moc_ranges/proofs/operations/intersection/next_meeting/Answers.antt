@@ -1,4 +1,4 @@
-use Rattle.std.proofs.Common.{◌+◌, arith, refl}
+use Rattle.std.proofs.Common.{◌+◌, arith}
 use Rattle.std.proofs.lemmas.Result.{IfOk-weaker}
 use Rattle.moc_ranges.specs.Private.Blocks.{next_of}
 use Rattle.moc_ranges.specs.Private.Walks.{begun}
@@ -17,5 +17,5 @@ pub returns : goal.returns
 returns c =
     let after = EndsBelow-more _ (next_of c.args.xs.now) _ c.requires.after (omega (arith, c.requires.behind, c.if-end-other.false)) in
     IfOk-weaker c.next_carrying.result _ _
-    (λ next carried. taken_carried _ _ c.args.xs.now (begun next c.next_carrying.new.xs) c.args.other (c.args.other.1 + 1) c.requires.normal (omega (arith, c.requires.behind, c.if-end-other.false)) refl after carried)
+    (λ next carried. taken_carried _ _ c.args.xs.now (begun next c.next_carrying.new.xs) c.args.other (c.args.other.1 + 1) c.requires.normal (omega (arith, c.requires.behind, c.if-end-other.false)) (omega arith) after carried)
     c.next_carrying.ensures
