@@ -23,7 +23,7 @@ class Desk(ctypes.Structure):
 
 
 class Seat(ctypes.Structure):
-    """moc_seat."""
+    """moc_seat, which ends when nobody has it any more."""
 
     _fields_ = [("at", c_void_p)]
 
@@ -135,16 +135,20 @@ def on_numbers(name: str, *arguments) -> None:
 
 
 def seat_opened() -> Seat:
-    """A seat on which nobody sits, which `seat_closed` ends."""
+    """A seat on which nobody sits."""
     seat = Seat()
     if not _seat_open(ctypes.byref(seat)):
         raise MemoryError("no memory is left for a seat")
     return seat
 
 
-def seat_closed(seat: Seat, close=_seat_close) -> None:
-    """Ends a seat. (What it uses is bound here, since modules may be gone when a process ends.)"""
-    close(seat)
+def _ended(seat: Seat, close=_seat_close) -> None:
+    """Ends a seat that was begun. (What it uses is bound here, since modules may be gone when a process ends.)"""
+    if seat.at:
+        close(seat)
+
+
+Seat.__del__ = _ended
 
 
 def on_seat(name: str, seat: Seat, *arguments) -> Outcome:

@@ -7,7 +7,7 @@ import threading
 import time
 from contextlib import contextmanager
 
-from ._library import on_seat, on_seat_and_desk, seat_closed, seat_opened
+from ._library import on_seat, on_seat_and_desk, seat_opened
 from .errors import BUSY, MocError
 from .moc import MOC
 
@@ -38,14 +38,6 @@ class Client:
         made._seat = seat_opened()
         made.number = sit(made._seat)
         return made
-
-    def __del__(self, close=seat_closed) -> None:
-        try:
-            seat = self._seat
-        except AttributeError:
-            # (it could not be made)
-            return
-        close(seat)
 
     @contextmanager
     def _call(self):

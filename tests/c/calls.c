@@ -368,7 +368,8 @@ static void lines(moc_seat *seat)
     CHECK(answers(seat, "remove 0/0 ; count 0/0-11", "changed 288230376151711744 ; total 288230376151711744\n"));
     CHECK(answers(seat, "claim 1/0 ; claim 1/0-1", "claimed ; taken 72057594037927936\n"));
     CHECK(answers(seat, "near 0 0 ; near 0 10", "near yes ; near no\n"));
-    CHECK(answers(seat, "add @0 1/47;keep 0/0-5;degrade 0", "changed 288230376151711744 ; changed 288230376151711744 ; changed 216172782113783808\n"));
+    CHECK(answers(seat, "add @0 1/47;keep 0/0-5;degrade 0",
+                  "changed 288230376151711744 ; changed 288230376151711744 ; changed 216172782113783808\n"));
     CHECK(answers(seat, "invert", "changed 3458764513820540928\n"));
     /* A refused line leaves the map and the answer; a short buffer is as it was. */
     REFUSED(line(seat, "grow 0/0"), MOC_LINE_UNKNOWN_WORD, 0);
@@ -423,7 +424,8 @@ static void seats(void)
     moc_seat_close(fourth);
 }
 
-#define TURNS 3000
+#define TURNS 20000
+static pthread_barrier_t all_begin;
 
 struct worker {
     moc_seat seat;
@@ -444,6 +446,7 @@ static void *share(void *given)
 {
     struct worker *worker = given;
     char said[64];
+    pthread_barrier_wait(&all_begin);
     for (unsigned turn = 0; turn < TURNS; turn++) {
         snprintf(said, sizeof said, "add 9/%u", worker->number * TURNS + turn);
         insist(worker, said);
@@ -463,15 +466,17 @@ static void sharing(void)
     CHECK(moc_seat_open(&workers[0].seat) && moc_seat_open(&workers[1].seat));
     TELLS(moc_map_begin(&workers[0].seat, &desk, moc_empty(&desk).first, 2), 1);
     TELLS(moc_map_join(&workers[0].seat, &workers[1].seat), 0);
+    CHECK(pthread_barrier_init(&all_begin, NULL, 2) == 0);
     for (unsigned i = 0; i < 2; i++)
         CHECK(pthread_create(&threads[i], NULL, share, &workers[i]) == 0);
     for (unsigned i = 0; i < 2; i++) {
         CHECK(pthread_join(threads[i], NULL) == 0);
         CHECK(workers[i].torn == 0 && workers[i].refused == 0);
     }
+    pthread_barrier_destroy(&all_begin);
     insist(&workers[0], "remove 3/100 400");
     moc_outcome key = moc_map_set(&workers[1].seat, &desk);
-    CHECK(key.code == MOC_DONE && same(key.first, "9/0-5999"));
+    CHECK(key.code == MOC_DONE && same(key.first, "9/0-39999"));
     moc_seat_close(workers[0].seat);
     moc_seat_close(workers[1].seat);
 }

@@ -74,10 +74,11 @@ class OneThread(TestCase):
         self.assertEqual(client.apply("count 0/0"), "total 0")
 
     def test_seats_that_are_free_or_taken(self):
-        free, taken = _library.seat_opened(), SharedMap(clients=1)._own._seat
-        for name, arguments in (("map_apply", (b"invert",)), ("map_join", (_library.seat_opened(),))):
+        free, other, taken = _library.seat_opened(), _library.seat_opened(), SharedMap(clients=1)._own._seat
+        for name, arguments in (("map_apply", (b"invert",)), ("map_join", (other,))):
             self.assertFault("NoMap", (), _library.on_seat, name, free, *arguments)
         self.assertFault("NoMap", (), _library.on_seat_and_desk, "map_set", free)
+        self.assertFault("SeatTaken", (), _library.on_seat, "map_join", free, taken)
         self.assertFault("SeatTaken", (), _library.on_seat_and_desk, "map_begin", taken, 2**64 - 1, 65)
         self.assertFault("NoSuchSet", (2**64 - 1,), _library.on_seat_and_desk, "map_begin", free, 2**64 - 1, 65)
         key = MOC()
