@@ -2,7 +2,8 @@
 """Calls the library for C: `tests/c/calls.c` makes each call of `moc.h`, with right, empty, short and wrong arguments, under the address and
 undefined-behaviour sanitizers and the one for leaks, and once without; `tests/c/growths.c` makes sets and texts with each growth refused in
 turn (`tests/refuse.c`). The program of `docs/C.md` writes what the page says. The header is read as C99 and as C++, and its codes are
-compared with those of the crate; and each call of it is an export of the library, and each export a call of it.
+compared with those of the crate; and each call of it is an export of the library, and each export a call of it, with arguments and an answer
+of the same types; its structs have the fields of the crate's.
 
 The library is linked anew, by `./moc library`, in a room of its own. The last line printed is `N passed, M failed`."""
 import os
@@ -18,8 +19,15 @@ CC, CXX = os.environ.get("CC", "cc"), os.environ.get("CXX", "c++")
 WARNINGS = ["-Wall", "-Wextra", "-Wpedantic", "-Werror"]
 SANITIZERS = ["-fsanitize=address,undefined", "-fno-sanitize-recover=all"]
 CODE = re.compile(r"^\s*(?:MOC|pub\(crate\) const) ?_?(\w+)(?:: u32)? = (\d+)", re.MULTILINE)
-CALL = re.compile(r"^(?:bool|void|moc_outcome) (moc_\w+)\(", re.MULTILINE)
-EXPORT = re.compile(r"extern \"C\" fn (moc_\w+)\(")
+# A call or a struct of the header, and an export or a struct of the crate: what it answers, its name, and what it takes or has.
+CALL = re.compile(r"^(bool|void|moc_outcome) (moc_\w+)\(([^;]*)\);", re.MULTILINE)
+STRUCT = re.compile(r"^typedef struct (moc_\w+) \{([^}]*)\}", re.MULTILINE)
+EXPORT = re.compile(r"extern \"C\" fn (moc_\w+)\(([^)]*)\)(?: -> (\w+))?")
+LAID_OUT = re.compile(r"^#\[repr\(C\)\]\n(?:#[^\n]*\n)*pub struct (\w+) \{\n(.*?)^\}", re.MULTILINE | re.DOTALL)
+COMMENT = re.compile(r"/\*.*?\*/", re.DOTALL)
+# The types of the crate as C has them. A `Global` takes no bytes, and a ghost field is none.
+TYPES = {"u8": "uint8_t", "u32": "uint32_t", "u64": "uint64_t", "bool": "bool", "[u64; 8]": "uint64_t[8]", "Outcome": "moc_outcome",
+         "Range": "moc_range", "Desk": "moc_desk", "Seat": "moc_seat", "*mut u8": "void*"}
 SECONDS = 300
 
 
@@ -62,6 +70,49 @@ def sources():
     return "\n".join(read(os.path.join(at, it)) for at, _, files in os.walk(folder) for it in files)
 
 
+def in_c(kind):
+    """What C has of a type of the crate: nothing, one type, or those of a pointer and a length."""
+    if kind == "Global":
+        return []
+    for start, pointer in (("&mut [", "{}*"), ("&[", "const {}*")):
+        if kind.startswith(start):
+            return [pointer.format(TYPES[kind[len(start):-1]]), "size_t"]
+    for start in ("&mut ", "*mut "):
+        if kind.startswith(start) and kind not in TYPES:
+            return [TYPES[kind[len(start):]] + "*"]
+    return [TYPES[kind]]
+
+
+def exported():
+    """Of each export what it answers and takes, and of each struct what it has, as C has them."""
+    found, text = {}, sources()
+    for name, taken, answer in EXPORT.findall(text):
+        kinds = [it.partition(":")[2].strip() for it in taken.split(",") if it.strip()]
+        found[name] = [TYPES[answer] if answer else "void", *(it for kind in kinds for it in in_c(kind))]
+    for name, fields in LAID_OUT.findall(text):
+        kinds = re.findall(r"^ +(?:pub )?(?!ghost)\w+: (.*),$", fields, re.MULTILINE)
+        found[f"moc_{name.lower()}"] = ["struct", *(it for kind in kinds for it in in_c(kind))]
+    return found
+
+
+def without_name(declared):
+    """The type of what the header declares by a name: a pointer to rows of eight is one to an array."""
+    declared = re.sub(r"\(\*\w+\)(\[\d+\])", r"\1*", declared.strip())
+    return re.sub(r" ?\*", "*", re.sub(r"\b\w+$", "", declared).strip().replace(" [", "["))
+
+
+def declared():
+    """The same of the header."""
+    text = COMMENT.sub("", read(HEADER))
+    found = {name: [answer, *map(without_name, taken.split(","))] for answer, name, taken in CALL.findall(text)}
+    for name, fields in STRUCT.findall(text):
+        found[name] = ["struct"]
+        for line in fields.split(";"):
+            kind, _, names = line.strip().partition(" ")
+            found[name] += [kind + "*" * it.count("*") for it in names.split(",") if it]
+    return found
+
+
 def check_header(tally, room):
     """The header is C99 and C++; its codes are those of the crate, and its calls the exports."""
     for compiler, standard, name in ((CC, "c99", "header.c"), (CXX, "c++11", "header.cc")):
@@ -71,8 +122,11 @@ def check_header(tally, room):
         tally.add(f"the header as {standard}", told.returncode == 0, told.stderr)
     header, codes = CODE.findall(read(HEADER)), CODE.findall(read(os.path.join(CRATE, "src", "codes.rt")))
     tally.add("the codes", codes and header == codes, f"{header}\n{codes}")
-    calls, exports = CALL.findall(read(HEADER)), EXPORT.findall(sources())
-    tally.add("the calls", calls and sorted(calls) == sorted(exports), sorted({*calls} ^ {*exports}))
+    here, there = declared(), exported()
+    calls = [it for it in here if here[it][0] != "struct"]
+    tally.add("the calls", calls and sorted(here) == sorted(there), sorted({*here} ^ {*there}))
+    for name in {*here} & {*there}:
+        tally.add(f"the types of {name}", here[name] == there[name], f"{here[name]}\n{there[name]}")
     tried = read(os.path.join(TOP, "tests", "c", "calls.c"))
     tally.add("each call is tried", all(f"{it}(" in tried for it in calls), [it for it in calls if f"{it}(" not in tried])
 

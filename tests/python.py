@@ -16,7 +16,7 @@ PACKAGE = os.path.join(TOP, "python")
 PYTHONS = [sys.executable, "/usr/bin/python3"]
 SECONDS = 600
 LAST = re.compile(r"^(\d+) passed, (\d+) failed$", re.MULTILINE)
-INSTALLED = ["__init__.py", "_arrays.py", "_library.py", "cells.py", "errors.py", "libploverchaise.so", "moc.py", "py.typed"]
+INSTALLED = ["__init__.py", "_arrays.py", "_library.py", "cells.py", "errors.py", "libploverchaise.so", "moc.py", "py.typed", "shared.py"]
 
 
 def python_with(module):

@@ -22,6 +22,12 @@ class Desk(ctypes.Structure):
     _fields_ = [("at", c_void_p)]
 
 
+class Seat(ctypes.Structure):
+    """moc_seat, which ends when nobody has it any more."""
+
+    _fields_ = [("at", c_void_p)]
+
+
 class Outcome(ctypes.Structure):
     """moc_outcome."""
 
@@ -56,6 +62,12 @@ DESK_CALLS = {
     "text": _ARRAY,
 }
 
+# What each call of a seat takes behind the seat.
+_DESK, _SEAT = ctypes.POINTER(Desk), ctypes.POINTER(Seat)
+SEAT_CALLS = {
+    "map_begin": (_DESK, _KEY, c_uint8), "map_join": (_SEAT,), "map_apply": _ARRAY, "map_answer": _ARRAY, "map_set": (_DESK,),
+}
+
 # What each call takes that needs no desk.
 NUMBER_CALLS = {
     "nest_to_ring": (_ORDER, *_ARRAY, *_ARRAY), "ring_to_nest": (_ORDER, *_ARRAY, *_ARRAY),
@@ -72,13 +84,15 @@ def declared(library, name, result, *arguments):
 
 
 library = ctypes.CDLL(_path())
-_on_desk = {name: declared(library, name, Outcome, ctypes.POINTER(Desk), *types) for name, types in DESK_CALLS.items()}
+_on_desk = {name: declared(library, name, Outcome, _DESK, *types) for name, types in DESK_CALLS.items()}
+_on_seat = {name: declared(library, name, Outcome, _SEAT, *types) for name, types in SEAT_CALLS.items()}
 _on_numbers = {name: declared(library, name, Outcome, *types) for name, types in NUMBER_CALLS.items()}
 
 _desk = Desk()
-if not declared(library, "open", c_bool, ctypes.POINTER(Desk))(ctypes.byref(_desk)):
+if not declared(library, "open", c_bool, _DESK)(ctypes.byref(_desk)):
     raise MemoryError
 _at = ctypes.byref(_desk)
+_seat_open, _seat_close = declared(library, "seat_open", c_bool, _SEAT), declared(library, "seat_close", None, Seat)
 
 # A finalizer may run while its own thread has the lock, but never within a call of the library: so it may take the lock once more.
 _lock = threading.RLock()
@@ -118,6 +132,36 @@ def on_desk(name: str, *arguments) -> Outcome:
 def on_numbers(name: str, *arguments) -> None:
     """Calls `moc_NAME`, which needs no desk."""
     done(_on_numbers[name](*_passed(arguments)))
+
+
+def seat_opened() -> Seat:
+    """A seat on which nobody sits."""
+    seat = Seat()
+    if not _seat_open(ctypes.byref(seat)):
+        raise MemoryError("no memory is left for a seat")
+    return seat
+
+
+def _ended(seat: Seat, close=_seat_close) -> None:
+    """Ends a seat that was begun. (What it uses is bound here, since modules may be gone when a process ends.)"""
+    if seat.at:
+        close(seat)
+
+
+Seat.__del__ = _ended
+
+
+def on_seat(name: str, seat: Seat, *arguments) -> Outcome:
+    """Calls `moc_NAME` of a seat, which is in no other call."""
+    passed = (ctypes.byref(it) if isinstance(it, Seat) else it for it in _passed(arguments))
+    return done(_on_seat[name](ctypes.byref(seat), *passed))
+
+
+def on_seat_and_desk(name: str, seat: Seat, *arguments) -> Outcome:
+    """Calls `moc_NAME` of a seat and the desk."""
+    with _lock:
+        outcome = _on_seat[name](ctypes.byref(seat), _at, *arguments)
+    return done(outcome)
 
 
 def text_of(name: str, *arguments) -> str:

@@ -16,6 +16,7 @@ class Kind(NamedTuple):
 # The code of want of memory, which is told as Python's MemoryError.
 MEMORY = 1
 NO_SUCH_ORDER = 4
+BUSY = 74
 
 # The kinds by the codes of moc.h. Of texts the names are those that the program `moc check` tells.
 KINDS = {
@@ -42,6 +43,23 @@ KINDS = {
     31: Kind("NotUniq", "no cell has the NUNIQ number", ("line",)),
     40: Kind("Backwards", "a range ends before it begins", ("place",)),
     41: Kind("PixelTooLarge", "a range ends behind the last pixel", ("place",)),
+    50: Kind("UnknownWord", "the first word is no command"),
+    51: Kind("EmptyCommand", "a command is blank"),
+    52: Kind("TooManyCommands", "a line has at most 16 commands"),
+    53: Kind("WrongCount", "the command has more or fewer fields"),
+    54: Kind("BadNumber", "a field is no number"),
+    55: Kind("OrderTooLarge", "an order is above 29"),
+    56: Kind("CellTooLarge", "the order has no such cell"),
+    57: Kind("BadByte", "no word of a coverage has the byte there"),
+    58: Kind("NoOrder", "a cell stands before any order"),
+    59: Kind("Backwards", "a range of cells goes backwards"),
+    60: Kind("Unfinished", "a word of a coverage is not finished"),
+    61: Kind("Other", "no line of commands has the fault"),
+    70: Kind("NoMap", "nobody sits on the seat"),
+    71: Kind("SeatTaken", "somebody sits on the seat"),
+    72: Kind("BadCount", "a map has 1 to 64 clients", ("clients",)),
+    73: Kind("NoClient", "the map has no further client"),
+    BUSY: Kind("Busy", "another client holds a part of the sky", ("part", "client")),
 }
 
 

@@ -45,8 +45,13 @@ class MOC:
     @classmethod
     def _made(cls, call: str, *arguments) -> MOC:
         """The set that a call makes."""
+        return cls._at(on_desk(call, *arguments).first)
+
+    @classmethod
+    def _at(cls, key: int) -> MOC:
+        """The set at a key that was just given."""
         made = cls.__new__(cls)
-        made._key = on_desk(call, *arguments).first
+        made._key = key
         return made
 
     # Making them.

@@ -4,6 +4,7 @@
 
 #include <inttypes.h>
 #include <pthread.h>
+#include <sched.h>
 #include <stdio.h>
 #include <string.h>
 
@@ -341,6 +342,145 @@ static void threads(void)
     moc_close(other);
 }
 
+static moc_outcome line(moc_seat *seat, const char *text)
+{
+    return moc_map_apply(seat, bytes(text), strlen(text));
+}
+
+/* Whether the last line that was done has this answer. */
+static bool answered(moc_seat *seat, const char *text)
+{
+    uint8_t copy[256];
+    size_t length = strlen(text);
+    return is(moc_map_answer(seat, copy, sizeof copy), MOC_DONE, length, 0) && memcmp(copy, text, length) == 0;
+}
+
+static bool answers(moc_seat *seat, const char *said, const char *text)
+{
+    return is(line(seat, said), MOC_DONE, 0, 0) && answered(seat, text);
+}
+
+static void lines(moc_seat *seat)
+{
+    uint8_t some[4] = {'x', 'x', 'x', 'x'};
+    CHECK(answers(seat, "read 0/0-11", "cover 0/0\n"));
+    CHECK(answers(seat, "add 0/0-1", "changed 288230376151711744\n"));
+    CHECK(answers(seat, "remove 0/0 ; count 0/0-11", "changed 288230376151711744 ; total 288230376151711744\n"));
+    CHECK(answers(seat, "claim 1/0 ; claim 1/0-1", "claimed ; taken 72057594037927936\n"));
+    CHECK(answers(seat, "near 0 0 ; near 0 10", "near yes ; near no\n"));
+    CHECK(answers(seat, "add @0 1/47;keep 0/0-5;degrade 0",
+                  "changed 288230376151711744 ; changed 288230376151711744 ; changed 216172782113783808\n"));
+    CHECK(answers(seat, "invert", "changed 3458764513820540928\n"));
+    /* A refused line leaves the map and the answer; a short buffer is as it was. */
+    REFUSED(line(seat, "grow 0/0"), MOC_LINE_UNKNOWN_WORD, 0);
+    REFUSED(line(seat, ""), MOC_LINE_EMPTY_COMMAND, 0);
+    REFUSED(line(seat, "invert ; ; invert"), MOC_LINE_EMPTY_COMMAND, 0);
+    REFUSED(line(seat, ";;;;;;;;;;;;;;;;"), MOC_LINE_TOO_MANY_COMMANDS, 0);
+    REFUSED(line(seat, "invert 3"), MOC_LINE_WRONG_COUNT, 0);
+    REFUSED(line(seat, "degrade x"), MOC_LINE_BAD_NUMBER, 0);
+    REFUSED(line(seat, "degrade 30"), MOC_LINE_ORDER_TOO_LARGE, 0);
+    REFUSED(line(seat, "near 0 12"), MOC_LINE_CELL_TOO_LARGE, 0);
+    REFUSED(line(seat, "add 0/x"), MOC_LINE_BAD_BYTE, 0);
+    REFUSED(line(seat, "add 7"), MOC_LINE_NO_ORDER, 0);
+    REFUSED(line(seat, "invert ; add 5/7-3"), MOC_LINE_BACKWARDS, 0);
+    REFUSED(line(seat, "add 5/7-"), MOC_LINE_UNFINISHED, 0);
+    REFUSED(moc_map_answer(seat, some, sizeof some), MOC_NO_ROOM, 28);
+    CHECK(memcmp(some, "xxxx", 4) == 0);
+    CHECK(answered(seat, "changed 3458764513820540928\n"));
+    CHECK(answers(seat, "read 0/0-11", "cover 0/2-11\n"));
+}
+
+static void seats(void)
+{
+    moc_seat first, second, third, fourth;
+    uint64_t start = set("0/0");
+    uint8_t none[1];
+    CHECK(moc_seat_open(&first) && moc_seat_open(&second) && moc_seat_open(&third) && moc_seat_open(&fourth));
+    TELLS(moc_map_answer(&first, none, 0), 0);
+    REFUSED(line(&first, "invert"), MOC_NO_MAP, 0);
+    REFUSED(moc_map_set(&first, &desk), MOC_NO_MAP, 0);
+    REFUSED(moc_map_join(&first, &second), MOC_NO_MAP, 0);
+    REFUSED(moc_map_begin(&first, &desk, start, 0), MOC_BAD_COUNT, 0);
+    REFUSED(moc_map_begin(&first, &desk, start, 65), MOC_BAD_COUNT, 65);
+    REFUSED(moc_map_begin(&first, &desk, UINT64_MAX, 65), MOC_NO_SUCH_SET, UINT64_MAX);
+    TELLS(moc_map_begin(&first, &desk, start, 3), 2);
+    REFUSED(moc_map_begin(&first, &desk, UINT64_MAX, 65), MOC_SEAT_TAKEN, 0);
+    lines(&first);
+    TELLS(moc_map_join(&first, &second), 1);
+    REFUSED(moc_map_join(&first, &second), MOC_SEAT_TAKEN, 0);
+    REFUSED(moc_map_join(&second, &third), MOC_NO_CLIENT, 0);
+    TELLS(moc_map_join(&first, &third), 0);
+    REFUSED(moc_map_join(&first, &fourth), MOC_NO_CLIENT, 0);
+    TELLS(moc_map_answer(&second, none, 0), 0);
+    CHECK(answers(&second, "remove 0/4-11", "changed 2305843009213693952\n"));
+    /* The map goes on without the seat that began it. */
+    moc_seat_close(first);
+    moc_outcome key = moc_map_set(&third, &desk);
+    CHECK(key.code == MOC_DONE && same(key.first, "0/2-3") && same(start, "0/0"));
+    TELLS(moc_map_begin(&fourth, &desk, start, 64), 63);
+    CHECK(answers(&fourth, "read 0/0-11", "cover 0/0\n") && answers(&third, "read 0/0-11", "cover 0/2-3\n"));
+    moc_seat_close(second);
+    moc_seat_close(third);
+    moc_seat_close(fourth);
+}
+
+#define TURNS 20000
+static pthread_barrier_t all_begin;
+
+struct worker {
+    moc_seat seat;
+    unsigned number, torn, refused;
+};
+
+/* Does a line, again where another client holds a part. */
+static void insist(struct worker *worker, const char *said)
+{
+    moc_outcome outcome;
+    while ((outcome = line(&worker->seat, said)).code == MOC_BUSY)
+        sched_yield();
+    worker->refused += outcome.code != MOC_DONE;
+}
+
+/* Puts two cells in different parts of the sky in and out as one, looks that never one is there alone, and adds cells of its own. */
+static void *share(void *given)
+{
+    struct worker *worker = given;
+    char said[64];
+    pthread_barrier_wait(&all_begin);
+    for (unsigned turn = 0; turn < TURNS; turn++) {
+        snprintf(said, sizeof said, "add 9/%u", worker->number * TURNS + turn);
+        insist(worker, said);
+        insist(worker, turn % 2 == worker->number ? "add 3/100 ; add 3/400" : "remove 3/100 ; remove 3/400");
+        insist(worker, "count 3/100 ; count 3/400");
+        worker->torn += !answered(&worker->seat, "total 4503599627370496 ; total 4503599627370496\n")
+                        && !answered(&worker->seat, "total 0 ; total 0\n");
+    }
+    return worker;
+}
+
+/* Two threads with a seat each at one map: no line is seen in pieces, and nothing is lost. */
+static void sharing(void)
+{
+    struct worker workers[2] = {{.number = 0}, {.number = 1}};
+    pthread_t threads[2];
+    CHECK(moc_seat_open(&workers[0].seat) && moc_seat_open(&workers[1].seat));
+    TELLS(moc_map_begin(&workers[0].seat, &desk, moc_empty(&desk).first, 2), 1);
+    TELLS(moc_map_join(&workers[0].seat, &workers[1].seat), 0);
+    CHECK(pthread_barrier_init(&all_begin, NULL, 2) == 0);
+    for (unsigned i = 0; i < 2; i++)
+        CHECK(pthread_create(&threads[i], NULL, share, &workers[i]) == 0);
+    for (unsigned i = 0; i < 2; i++) {
+        CHECK(pthread_join(threads[i], NULL) == 0);
+        CHECK(workers[i].torn == 0 && workers[i].refused == 0);
+    }
+    pthread_barrier_destroy(&all_begin);
+    insist(&workers[0], "remove 3/100 400");
+    moc_outcome key = moc_map_set(&workers[1].seat, &desk);
+    CHECK(key.code == MOC_DONE && same(key.first, "9/0-39999"));
+    moc_seat_close(workers[0].seat);
+    moc_seat_close(workers[1].seat);
+}
+
 int main(void)
 {
     CHECK(moc_open(&desk));
@@ -351,6 +491,8 @@ int main(void)
     numbers();
     keys();
     threads();
+    seats();
+    sharing();
     moc_close(desk);
     printf("%u passed, %u failed\n", passed, failed);
     return failed != 0;

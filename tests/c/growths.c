@@ -32,6 +32,40 @@ static void need(int line, bool holds)
         NEED(outcome.code == MOC_DONE && outcome.first == (number)); \
     } while (0)
 
+static void open_seat(moc_seat *seat)
+{
+    if (!moc_seat_open(seat)) {
+        refusals++;
+        NEED(moc_seat_open(seat));
+    }
+}
+
+/* Does a line, which has this answer. */
+static void does(moc_seat *seat, const char *line, const char *answer)
+{
+    uint8_t text[128];
+    DOES(moc_map_apply(seat, (const uint8_t *)line, strlen(line)), 0);
+    DOES(moc_map_answer(seat, text, sizeof text), strlen(answer));
+    NEED(memcmp(text, answer, strlen(answer)) == 0);
+}
+
+/* Two seats at the map of set 5; its set is the next one on the desk. */
+static void share(void)
+{
+    moc_seat first, second;
+    open_seat(&first);
+    open_seat(&second);
+    DOES(moc_map_begin(&first, &desk, 5, 2), 1);
+    DOES(moc_map_join(&first, &second), 0);
+    does(&first, "add 0/1", "changed 216172782113783808\n");
+    does(&second, "remove 0/0-1 ; read 0/0-11", "changed 576460752303423488 ; cover\n");
+    does(&first, "invert ; invert ; keep 0/1", "changed 3458764513820540928 ; changed 3458764513820540928 ; changed 0\n");
+    DOES(moc_map_set(&second, &desk), 14);
+    NEED(moc_is_empty(&desk, 14).first == 1);
+    moc_seat_close(first);
+    moc_seat_close(second);
+}
+
 int main(void)
 {
     static moc_range ranges[1000], out[1000];
@@ -80,6 +114,7 @@ int main(void)
     NEED(moc_same(&desk, 5, 6).first == 1 && moc_same(&desk, 6, 7).first == 1);
     NEED(moc_meets(&desk, 0, 12).first == 0 && moc_count(&desk, 4).first == moc_count(&desk, 0).first + moc_count(&desk, 12).first);
     NEED(moc_ranges(&desk, 0, out, 1000).first == 1000 && memcmp(out, ranges, sizeof out) == 0);
+    share();
     moc_close(desk);
     printf("%u\n", refusals);
     return 0;

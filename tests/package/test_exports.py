@@ -12,7 +12,7 @@ HEADER = os.path.join(os.path.dirname(os.path.dirname(os.path.dirname(os.path.ab
 NO_ROOM, NO_SUCH_SET, NO_SUCH_ORDER, LENGTHS_DIFFER, NO_SUCH_CELL = 2, 3, 4, 5, 6
 NO_KEY = 2**64 - 1
 # Where a name of the header is not that of the fault.
-PREFIX = re.compile("^(ASCII|JSON|UNIQ|RANGE)_")
+PREFIX = re.compile("^(ASCII|JSON|UNIQ|RANGE|LINE)_")
 
 
 def header():
@@ -28,15 +28,18 @@ class Header(TestCase):
     """The Python door beside the header."""
 
     def test_calls_are_those_of_the_header(self):
-        types = {"moc_desk": "desk", "uint8_t": ctypes.c_uint8, "uint64_t": ctypes.c_uint64, "size_t": ctypes.c_size_t}
+        desk, seat = _library._DESK, _library._SEAT
+        handles = {"moc_desk": desk, "moc_seat": seat}
+        types = {**handles, "uint8_t": ctypes.c_uint8, "uint64_t": ctypes.c_uint64, "size_t": ctypes.c_size_t}
         declared = dict(re.findall(r"\bmoc_outcome moc_(\w+)\(([^;]*)\);", header()))
-        here = {**{name: ("desk", *taken) for name, taken in _library.DESK_CALLS.items()}, **_library.NUMBER_CALLS}
+        here = {**{name: (desk, *taken) for name, taken in _library.DESK_CALLS.items()},
+                **{name: (seat, *taken) for name, taken in _library.SEAT_CALLS.items()}, **_library.NUMBER_CALLS}
         self.assertEqual(sorted(declared), sorted(here))
         for name, arguments in declared.items():
             told = []
             for argument in arguments.replace("(*out)[8]", "*out").split(","):
                 kind = argument.replace("const", "").split()[0]
-                told.append(types[kind] if "*" not in argument or kind == "moc_desk" else ctypes.c_void_p)
+                told.append(types[kind] if "*" not in argument or kind in handles else ctypes.c_void_p)
             self.assertEqual(told, list(here[name]), name)
 
     def test_the_library_shows_nothing_else(self):

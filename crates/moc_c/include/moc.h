@@ -1,14 +1,16 @@
 /* moc.h: sky coverages (MOC 2.0) and numbers of HEALPix cells, for C99 and C++. docs/C.md tells how to build and link.
 
    Coverages lie on a desk, each under a key. A call answers an outcome: MOC_DONE with what was asked for, or the code of a fault with
-   its place. Where a call is refused, all that lies on the desk is as it was.
+   its place. Where a call is refused, all that lies on the desk is as it was. Threads that change one coverage at the same time have a
+   seat each at its map.
 
    What a caller owes, which nothing checks:
    - A desk is begun by `moc_open`, where that answers true, and ended once, by `moc_close`; behind that neither it nor a copy of it is
-     used. Only these calls read or write what it holds.
+     used. Only these calls read or write what it holds. So is a seat, by `moc_seat_open` and `moc_seat_close`.
    - An array is a pointer that is not null, aligned for its type, and a length in elements, also where the length is 0. Nobody changes
      what is passed as `const` while the call runs, and what is written overlaps nothing else that is passed.
-   - A desk is in one call at a time. It may go from thread to thread, where a lock, or the start or the end of a thread, lies between.
+   - A desk is in one call at a time, and a seat is. It may go from thread to thread, where a lock, or the start or the end of a thread,
+     lies between. Seats at one map need no lock between them.
    - No call from a signal handler, or in the forked child of a process with threads.
    - malloc, realloc and free are those of one allocator, and a block is aligned as C asks.
 
@@ -29,6 +31,11 @@ extern "C" {
 typedef struct moc_desk {
     void *at;
 } moc_desk;
+
+/* What a thread has of a map that others change and query at the same time. */
+typedef struct moc_seat {
+    void *at;
+} moc_seat;
 
 /* How a call ended. What `first` and `second` tell stands at each code and each call; else they are 0. */
 typedef struct moc_outcome {
@@ -74,7 +81,28 @@ enum {
 
     /* an array of ranges; first: the place of the range, from 0 */
     MOC_RANGE_BACKWARDS = 40,      /* `to` is below `from` */
-    MOC_RANGE_PIXEL_TOO_LARGE = 41 /* `to` is above 12 * 4^29 */
+    MOC_RANGE_PIXEL_TOO_LARGE = 41, /* `to` is above 12 * 4^29 */
+
+    /* a line of commands */
+    MOC_LINE_UNKNOWN_WORD = 50,      /* the first word is no command */
+    MOC_LINE_EMPTY_COMMAND = 51,     /* a piece of the line, or all of it, is blank */
+    MOC_LINE_TOO_MANY_COMMANDS = 52, /* more than 16 pieces */
+    MOC_LINE_WRONG_COUNT = 53,       /* more or fewer fields than the command has */
+    MOC_LINE_BAD_NUMBER = 54,        /* a field that is no number */
+    MOC_LINE_ORDER_TOO_LARGE = 55,   /* an order above 29 */
+    MOC_LINE_CELL_TOO_LARGE = 56,    /* no cell of its order */
+    MOC_LINE_BAD_BYTE = 57,          /* a byte that no word of a coverage has there */
+    MOC_LINE_NO_ORDER = 58,          /* a cell before any order */
+    MOC_LINE_BACKWARDS = 59,         /* a range of cells that goes backwards */
+    MOC_LINE_UNFINISHED = 60,        /* a word of a coverage that is not finished */
+    MOC_LINE_OTHER = 61,             /* a fault of other lines than those of commands: no call tells it */
+
+    /* a seat */
+    MOC_NO_MAP = 70,     /* nobody sits there */
+    MOC_SEAT_TAKEN = 71, /* somebody sits there */
+    MOC_BAD_COUNT = 72,  /* first: the number of clients, which is not 1 to 64 */
+    MOC_NO_CLIENT = 73,  /* no client of the map is left that had no seat */
+    MOC_BUSY = 74        /* a part of the sky is held: first: the part, 0 to 11; second: the number of the client that holds it */
 };
 
 /* In place of an order: that there is none. */
@@ -181,6 +209,31 @@ moc_outcome moc_nest_to_face_xy(uint8_t order, const uint64_t *cells, size_t cou
                                 size_t x_length, uint32_t *ys, size_t y_length);
 /* The cells that touch a cell, in a corner or along a side: a row of eight for each, rising, with UINT64_MAX behind the last. */
 moc_outcome moc_touching(uint8_t order, const uint64_t *cells, size_t count, uint64_t (*out)[8], size_t length);
+
+/* ---- A map that threads share: twelve parts, one for each base pixel, which up to 64 clients change and query at the same time. Each
+   client sits on a seat of its own. */
+
+/* Begins a seat on which nobody sits in the room at `out`, and answers true; or false, where no memory is left, and there is none. */
+bool moc_seat_open(moc_seat *out);
+/* Ends a seat. Its client makes no call any more. The map ends with the last of its seats. */
+void moc_seat_close(moc_seat seat);
+
+/* Makes a map of the set at a key, which stays on the desk, for so many clients, 1 to 64. One of them sits down on the seat; the others are
+   for `moc_map_join`. `first` is the client's number, from 0. MOC_SEAT_TAKEN, then MOC_NO_SUCH_SET, then MOC_BAD_COUNT. */
+moc_outcome moc_map_begin(moc_seat *seat, moc_desk *desk, uint64_t a, uint8_t clients);
+/* A further client of the map sits down on another seat, for another thread; `first` is its number. Only the seat that began the map has
+   further clients. MOC_SEAT_TAKEN of the other seat, then MOC_NO_MAP, then MOC_NO_CLIENT. */
+moc_outcome moc_map_join(moc_seat *seat, moc_seat *other);
+
+/* Does the commands of a line on the map, parted by `;`, as the program `moc run` takes them: all of them, as one step, or none. It waits
+   for nobody: where another client holds a part that they look at or change, nothing is done, MOC_BUSY. MOC_NO_MAP, then MOC_LINE_.. for
+   the first faulty command. The line need not end in 0. The seat keeps the replies of the last line that was done, for `moc_map_answer`. */
+moc_outcome moc_map_apply(moc_seat *seat, const uint8_t *line, size_t length);
+/* Makes the answer to the last line that was done at the front of `out`, as the program writes it, ended by a line feed; nothing before the
+   first. `first` is its length. MOC_NO_ROOM, with nothing written, where `length` is less; it may be asked again. */
+moc_outcome moc_map_answer(moc_seat *seat, uint8_t *out, size_t length);
+/* Puts the map's set on a desk, and answers its key as `first`. MOC_NO_MAP; MOC_BUSY where another client holds any part. */
+moc_outcome moc_map_set(moc_seat *seat, moc_desk *desk);
 
 #ifdef __cplusplus
 }

@@ -1,5 +1,7 @@
 mod AsBox
+mod AsSeatBox
 mod Failing
 mod Filling
 mod Gathering
 mod Keys
+mod Sharings

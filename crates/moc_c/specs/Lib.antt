@@ -1,7 +1,10 @@
 pub mod Answers
 pub mod Buffers
 pub mod Contents
+pub mod Membership
 pub mod Opened
 pub mod Outcomes
 pub mod Private
+pub mod Seated
+pub mod Sharing
 pub mod Texts

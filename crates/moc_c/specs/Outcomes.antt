@@ -10,6 +10,10 @@ use Rattle.moc_text.specs.declared.uniq.UniqError.{UniqError}
 use Rattle.moc_text.specs.declared.uniq.UniqError.TheVariants as uniq
 use Rattle.moc_forms.specs.declared.form.FormError.{FormError}
 use Rattle.moc_forms.specs.declared.form.FormError.TheVariants as form
+use Rattle.moc_script.specs.declared.fault.Fault.{Fault as LineFault}
+use Rattle.moc_script.specs.declared.fault.Fault.TheVariants as line
+use Rattle.moc_shared.specs.declared.errors.TryError.{TryError}
+use Rattle.moc_shared.specs.declared.errors.TryError.TheVariants as try
 use Rattle.moc_c.specs.declared.fault.Fault.{Fault}
 use Rattle.moc_c.specs.declared.fault.Fault.TheVariants as fault
 use Rattle.moc_c.specs.declared.outcome.Outcome.{Outcome}
@@ -71,6 +75,34 @@ ranges_refusal ranges.Memory = memory
 ranges_refusal (ranges.Backwards at) = outcome 40 at 0
 ranges_refusal (ranges.PixelTooLarge at) = outcome 41 at 0
 
+-- the code of a line's fault; the last is for those that no line of commands has
+abbrev pub line_code : LineFault → ℕ
+line_code line.UnknownWord = 50
+line_code line.EmptyCommand = 51
+line_code line.TooManyCommands = 52
+line_code line.WrongCount = 53
+line_code line.BadNumber = 54
+line_code line.OrderTooLarge = 55
+line_code line.CellTooLarge = 56
+line_code line.BadByte = 57
+line_code line.NoOrder = 58
+line_code line.Backwards = 59
+line_code line.Unfinished = 60
+line_code line.ClientTooLarge = 61
+line_code line.PartTooLarge = 61
+line_code line.NotUniq = 61
+line_code line.RingTooLarge = 61
+line_code line.OtherOrder = 61
+
+-- the fault of a line of commands
+abbrev pub line_refusal : LineFault → Outcome
+line_refusal f = outcome (line_code f) 0 0
+
+-- why a batch was not done, as a fault
+abbrev pub try_fault : TryError → Fault
+try_fault (try.Busy b) = fault.Busy b
+try_fault try.Memory = fault.Memory
+
 -- any fault
 abbrev pub refusal : Fault → Outcome
 refusal fault.Memory = memory
@@ -82,3 +114,9 @@ refusal (fault.NoSuchCell at) = outcome 6 at 0
 refusal (fault.NotUniq at) = outcome 7 at 0
 refusal (fault.Form e) = form_refusal e
 refusal (fault.Ranges e) = ranges_refusal e
+refusal (fault.Line e) = line_refusal e
+refusal fault.NoMap = outcome 70 0 0
+refusal fault.SeatTaken = outcome 71 0 0
+refusal (fault.BadCount clients) = outcome 72 clients 0
+refusal fault.NoClient = outcome 73 0 0
+refusal (fault.Busy b) = outcome 74 b.part b.holder

@@ -1,3 +1,5 @@
 -- What serves the contracts of private functions alone.
 pub mod Desk
 pub mod Lending
+pub mod Seat
+pub mod SeatLending

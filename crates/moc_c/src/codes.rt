@@ -49,3 +49,37 @@ pub(crate) const UNIQ_NOT_UNIQ: u32 = 31;
 pub(crate) const RANGE_BACKWARDS: u32 = 40;
 
 pub(crate) const RANGE_PIXEL_TOO_LARGE: u32 = 41;
+
+pub(crate) const LINE_UNKNOWN_WORD: u32 = 50;
+
+pub(crate) const LINE_EMPTY_COMMAND: u32 = 51;
+
+pub(crate) const LINE_TOO_MANY_COMMANDS: u32 = 52;
+
+pub(crate) const LINE_WRONG_COUNT: u32 = 53;
+
+pub(crate) const LINE_BAD_NUMBER: u32 = 54;
+
+pub(crate) const LINE_ORDER_TOO_LARGE: u32 = 55;
+
+pub(crate) const LINE_CELL_TOO_LARGE: u32 = 56;
+
+pub(crate) const LINE_BAD_BYTE: u32 = 57;
+
+pub(crate) const LINE_NO_ORDER: u32 = 58;
+
+pub(crate) const LINE_BACKWARDS: u32 = 59;
+
+pub(crate) const LINE_UNFINISHED: u32 = 60;
+
+pub(crate) const LINE_OTHER: u32 = 61;
+
+pub(crate) const NO_MAP: u32 = 70;
+
+pub(crate) const SEAT_TAKEN: u32 = 71;
+
+pub(crate) const BAD_COUNT: u32 = 72;
+
+pub(crate) const NO_CLIENT: u32 = 73;
+
+pub(crate) const BUSY: u32 = 74;

@@ -4,10 +4,8 @@ ghost use Rattle.std.specs.Borrow.{sem};
 ghost use Rattle.moc_c.specs.Contents.{bare, Contents, contents_code};
 ghost use Rattle.moc_c.specs.Private.Desk.{desk_owns};
 
-mod parts;
-
+use crate::parts::Parts;
 use crate::shelf::Shelf;
-use parts::Parts;
 use std::alloc::{AllocError, Global};
 use std::marker::{Model, Send};
 

@@ -1,6 +1,8 @@
 //! Why a call is refused.
 use moc_forms::FormError;
 use moc_ranges::{Memory as MemoryRefused, RangesError};
+use moc_script::Fault as LineFault;
+use moc_shared::{Busy, TryError};
 use std::alloc::AllocError;
 
 /// Why a call is refused.
@@ -24,6 +26,18 @@ pub enum Fault {
     Form(FormError),
     /// Ranges make no set.
     Ranges(RangesError),
+    /// A line says no commands.
+    Line(LineFault),
+    /// Nobody sits on the seat.
+    NoMap,
+    /// Somebody sits on the seat.
+    SeatTaken,
+    /// No map has so many clients.
+    BadCount { clients: u8 },
+    /// No client is left that had no seat.
+    NoClient,
+    /// Another client holds a part.
+    Busy(Busy),
 }
 
 impl From<MemoryRefused> for Fault {
@@ -56,5 +70,19 @@ impl From<AllocError> for Fault {
 
     fn from(_refused: AllocError) -> Fault {
         Fault::Memory
+    }
+}
+
+impl From<TryError> for Fault {
+    ghost use Rattle.std.specs.Prelude.{◌≡◌};
+    ghost use Rattle.moc_c.specs.Outcomes.{try_fault};
+
+    ghost from_gives = { λ error e. e ≡ try_fault error };
+
+    fn from(error: TryError) -> Fault {
+        match error {
+            TryError::Busy(busy) => Fault::Busy(busy),
+            TryError::Memory => Fault::Memory,
+        }
     }
 }

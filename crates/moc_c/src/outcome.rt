@@ -1,12 +1,14 @@
 //! How a call ended.
 ghost use Rattle.std.specs.Prelude.{◌≡◌};
-ghost use Rattle.moc_c.specs.Outcomes.{done, form_refusal, json_refusal, outcome, ranges_refusal, refusal};
+ghost use Rattle.moc_c.specs.Outcomes.{done, form_refusal, json_refusal, line_refusal, outcome, ranges_refusal, refusal};
 ghost use Rattle.moc_c.specs.Outcomes.{text_refusal, told, uniq_refusal};
 
 use crate::codes;
 use crate::fault::Fault;
 use moc_forms::FormError;
 use moc_ranges::RangesError;
+use moc_script::Fault as LineFault;
+use moc_shared::Busy;
 use moc_text::{JsonError, TextError, UniqError};
 
 /// How a call ended: a code, and two numbers that say how much, or where.
@@ -74,6 +76,14 @@ impl Outcome {
             Fault::NotUniq { at } => Outcome::at(codes::NOT_UNIQ, at),
             Fault::Form(error) => Outcome::of_form(error),
             Fault::Ranges(error) => Outcome::of_ranges(error),
+            Fault::Line(fault) => Outcome::of_line(fault),
+            Fault::NoMap => Outcome::new(codes::NO_MAP, 0, 0),
+            Fault::SeatTaken => Outcome::new(codes::SEAT_TAKEN, 0, 0),
+            Fault::BadCount { clients } => Outcome::new(codes::BAD_COUNT, u64::from(clients), 0),
+            Fault::NoClient => Outcome::new(codes::NO_CLIENT, 0, 0),
+            Fault::Busy(Busy { part, holder }) => {
+                Outcome::new(codes::BUSY, u64::from(part.get()), u64::from(holder))
+            }
         }
     }
 
@@ -145,5 +155,30 @@ impl Outcome {
             RangesError::Backwards { at } => Outcome::at(codes::RANGE_BACKWARDS, at),
             RangesError::PixelTooLarge { at } => Outcome::at(codes::RANGE_PIXEL_TOO_LARGE, at),
         }
+    }
+
+    /// The fault of a line of commands.
+    fn of_line(fault: LineFault) -> Outcome
+        ensures { result ≡ line_refusal fault }
+    {
+        let code = match fault {
+            LineFault::UnknownWord => codes::LINE_UNKNOWN_WORD,
+            LineFault::EmptyCommand => codes::LINE_EMPTY_COMMAND,
+            LineFault::TooManyCommands => codes::LINE_TOO_MANY_COMMANDS,
+            LineFault::WrongCount => codes::LINE_WRONG_COUNT,
+            LineFault::BadNumber => codes::LINE_BAD_NUMBER,
+            LineFault::OrderTooLarge => codes::LINE_ORDER_TOO_LARGE,
+            LineFault::CellTooLarge => codes::LINE_CELL_TOO_LARGE,
+            LineFault::BadByte => codes::LINE_BAD_BYTE,
+            LineFault::NoOrder => codes::LINE_NO_ORDER,
+            LineFault::Backwards => codes::LINE_BACKWARDS,
+            LineFault::Unfinished => codes::LINE_UNFINISHED,
+            LineFault::ClientTooLarge
+            | LineFault::PartTooLarge
+            | LineFault::NotUniq
+            | LineFault::RingTooLarge
+            | LineFault::OtherOrder => codes::LINE_OTHER,
+        };
+        Outcome::new(code, 0, 0)
     }
 }

@@ -38,6 +38,18 @@ fn order_or_none(number: u8) -> Result<Option<Order>, Fault>
     Ok(Some(order_of(number)?))
 }
 
+/// Copies a text to the front of a buffer, and tells its length; refused where the buffer is shorter.
+pub(crate) fn fill_text(text: &[u8], out: &mut [u8]) -> Outcome
+    ensures { Fills text.now out.old out.new result }
+{
+    let length = text.len();
+    if out.len() < length {
+        return Outcome::of(Fault::NoRoom { wanted: length });
+    }
+    out[..length].copy_from_slice(text);
+    Outcome::told(length as u64)
+}
+
 impl Shelf {
     /// Reads a text, and keeps the set that it says.
     fn read(&mut self, alloc: Global, form: Form, text: &[u8]) -> Outcome
@@ -183,11 +195,5 @@ pub extern "C" fn moc_text(desk: &mut Desk, out: &mut [u8]) -> Outcome
     ensures text { Fills desk.old.contents.text out.old out.new result }
     ensures same { desk.new.contents ≡ desk.old.contents }
 {
-    let text = desk.shelf().text();
-    let length = text.len();
-    if out.len() < length {
-        return Outcome::of(Fault::NoRoom { wanted: length });
-    }
-    out[..length].copy_from_slice(text);
-    Outcome::told(length as u64)
+    fill_text(desk.shelf().text(), out)
 }

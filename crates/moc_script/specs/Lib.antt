@@ -6,6 +6,7 @@ pub use Rattle.moc_devices.specs.Devices
 pub mod Lines
 pub mod Answers
 pub mod Batches
+pub mod Readings
 pub mod Runs
 pub mod Scripts
 pub mod Steps

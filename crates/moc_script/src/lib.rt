@@ -7,6 +7,7 @@ mod bytes;
 mod command;
 mod crews;
 mod fault;
+mod language;
 mod laws;
 mod line_reader;
 mod numbering;
@@ -22,6 +23,8 @@ mod step;
 mod words;
 
 pub use crews::{Gate, Lanes, OpenGate, crew, crews_answer_each_line};
+pub use fault::{Fault, ReadError};
+pub use language::{answer_text, read_line};
 pub use laws::{
     lines_of_one_command, lines_without_order, schedules_have_one_order,
     schedules_of_single_commands, schedules_without_order, scripts_of_single_commands,

@@ -1,0 +1,89 @@
+-- What calls of seats promise, of what the calls below promise.
+use Rattle.std.proofs.Common.{◌≡◌, ◌++◌, ◌∷◌, [], Bool, true, false, List, ℕ, Option, None, Some, Result, Ok, Err, refl, sym, ap, ◌∙◌, subst, inl, inr, is_some}
+use Rattle.std.specs.Option.{ok_or}
+use Rattle.moc_ranges.specs.Numbers.{NumberSet}
+use Rattle.moc_parts.specs.declared.command.Command.{Command}
+use Rattle.moc_parts.specs.declared.reply.Reply.{Reply}
+use Rattle.moc_parts.specs.declared.reply.Reply.TheVariants.{Cover}
+use Rattle.moc_shared.specs.Batches.{answer, BatchEntry}
+use Rattle.moc_shared.specs.Clients.{AfterError, call_of, Ends, Fails, record_of, start_of}
+use Rattle.moc_shared.specs.History.{entry, IsLegal}
+use Rattle.moc_shared.specs.declared.errors.TryError.{TryError}
+use Rattle.moc_shared.specs.declared.errors.TryError.TheVariants as try
+use Rattle.moc_script.specs.Batches.{batch_of}
+use Rattle.moc_script.specs.Language.{command_of}
+use Rattle.moc_c.specs.Answers.{Makes}
+use Rattle.moc_c.specs.Contents.{Contents}
+use Rattle.moc_c.specs.Membership.{Membership}
+use Rattle.moc_c.specs.Outcomes.{done, memory, refusal, told, try_fault}
+use Rattle.moc_c.specs.Sharing.{Applies, Begins, Calls, DoesLine, Gives, IsAfter, IsRefused, Joins, LaysRead, LaysSet, MemberEnds, member_at, ReadsSky, Seats, Tries, unless_taken, whole_sky, with_member}
+use Rattle.moc_c.specs.declared.fault.Fault.{Fault}
+use Rattle.moc_c.specs.declared.fault.Fault.TheVariants as fault
+use Rattle.moc_c.specs.declared.outcome.Outcome.{Outcome}
+use Rattle.moc_c.specs.declared.sitter.Sitter.{Sitter}
+
+-- ---- who sits down
+
+pub begin_taken : (m : Option Membership) (q : Option (List Reply)) (r : Result (NumberSet × ℕ) Fault) (o : Outcome) → is_some m ≡ true → o ≡ refusal fault.SeatTaken
+    → Begins (record { member = m; replies = q }) (record { member = m; replies = q }) (unless_taken m r) o
+begin_taken (Some x) q r o some tells = (Err fault.SeatTaken, inl refl, (refl, tells))
+begin_taken None q r o some tells = let clash : false ≡ true = some in absurd cc
+
+free_seat : {X : Type 0} (m : Option Membership) (r : Result X Fault) → is_some m ≡ false → unless_taken m r ≡ r
+free_seat None r none = refl
+free_seat (Some x) r none = let clash : true ≡ false = none in absurd cc
+
+pub joined : (s t last : Sitter) (m n : Membership) (given : Result Membership Fault) (o : Outcome) → s.member ≡ Some m → is_some t.member ≡ false
+    → Gives m n given → Seats t last given o → Joins s (with_member s n) t last (unless_taken t.member (member_at s)) o
+joined s t last m n given o is none gives seats =
+    subst (λ x. Joins s (with_member s n) t last x o) (sym (free_seat t.member (member_at s) none ∙ ap (λ x. ok_or x fault.NoMap) is))
+    (n, given, gives, refl, seats)
+
+-- ---- calls
+
+pub applied : (s new : Sitter) (m n : Membership) (line : List ℕ) (cs : List Command) (o : Outcome) → s.member ≡ Some m → batch_of command_of line ≡ Ok cs
+    → IsAfter m n → Calls s new m n cs o → Applies s new (member_at s) line o
+applied s new m n line cs o is says after calls =
+    subst (λ x. Applies s new (ok_or x fault.NoMap) line o) (sym is)
+    (subst (λ x. DoesLine s new m x o) (sym says) (inl (n, after, calls)))
+
+pub refused : (m n : Membership) (cs : List Command) (e : TryError) (o : Outcome) → AfterError m.map cs e (record_of m.client) (record_of n.client)
+    → o ≡ refusal (try_fault e) → IsRefused m n cs o
+refused m n cs (try.Busy b) o after tells = inl (b, after, tells)
+refused m n cs try.Memory o after tells = inr (after, tells)
+
+-- ---- the set of a map
+
+legal_last : (a : NumberSet) (log : List BatchEntry) (e : BatchEntry) → IsLegal answer a (log ++ e ∷ []) → (b : NumberSet) × (e.reply ≡ (answer b e.operation).1)
+legal_last a [] e h = (a, h.0)
+legal_last a (x ∷ xs) e h = legal_last (answer a x.operation).0 xs e h.1
+
+-- a query of the whole sky has one reply, a cover
+pub sky_reply : (m n : Membership) (cs : List Command) (r : List Reply) → cs ≡ whole_sky → MemberEnds m n cs r → (a : NumberSet) × (r ≡ Cover a ∷ [])
+unfolding answer
+sky_reply m n cs r is ends =
+    let last = legal_last (start_of m.map) ((record_of m.client).seen ++ ends.between) (call_of m.client cs r) (subst (IsLegal answer (start_of m.map)) ends.seen ends.history.0) in
+    (_, last.1 ∙ ap (λ x. (answer last.0 x).1) is)
+
+pub laid : (s : Sitter) (m n : Membership) (desk desk' : Contents) (a : NumberSet) (o : Outcome) → s.member ≡ Some m → ReadsSky m n (Ok a) → Makes desk desk' (Ok a) o
+    → LaysSet s (with_member s n) desk desk' (member_at s) o
+laid s m n desk desk' a o is reads (inl made) =
+    subst (λ x. LaysSet s (with_member s n) desk desk' (ok_or x fault.NoMap) o) (sym is)
+    (inl (n, reads.0, refl, inl (a, reads.1, made.1, made.0)))
+laid s m n desk desk' a o is reads (inr none) =
+    subst (λ x. LaysSet s (with_member s n) desk desk' (ok_or x fault.NoMap) o) (sym is)
+    (inl (n, reads.0, refl, inr (inr (unanswered, none.0), none.1)))
+  where
+    -- the query went through, and its reply was not handed out
+    unanswered : Fails m.map whole_sky (record_of m.client) (record_of n.client)
+    unanswered =
+        inr (refl, (Cover a ∷ [], subst (λ k. Ends m.map (entry k whole_sky (Cover a ∷ [])) (record_of m.client) (record_of n.client)) (sym reads.0.own) reads.1))
+
+pub not_laid : (s : Sitter) (m n : Membership) (desk : Contents) (e : TryError) (o : Outcome) → s.member ≡ Some m → ReadsSky m n (Err e) → o ≡ refusal (try_fault e)
+    → LaysSet s (with_member s n) desk desk (member_at s) o
+not_laid s m n desk e o is (inl after) tells =
+    subst (λ x. LaysSet s (with_member s n) desk desk (ok_or x fault.NoMap) o) (sym is)
+    (inl (n, after.0, refl, inr (refused m n whole_sky e o after.1 tells, refl)))
+not_laid s m n desk e o is (inr same) tells =
+    subst (λ x. LaysSet s (with_member s n) desk desk (ok_or x fault.NoMap) o) (sym is)
+    (inr ((λ i. record { member = (ap Some same.0 ∙ sym is) i; replies = s.replies }), refl, tells ∙ ap (λ x. refusal (try_fault x)) same.1))

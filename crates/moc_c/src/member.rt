@@ -1,0 +1,136 @@
+//! A client of a map, with the pointer to the map that its threads share.
+ghost use Rattle.std.specs.Prelude.{◌≡◌, ◌++◌, ◌∷◌, [], ◌<◌, ◌≤◌, All, IfOk, length};
+ghost use Rattle.moc_ranges.specs.Numbers.{NumberSet};
+ghost use Rattle.moc_parts.specs.declared.reply.Reply.TheVariants.{Cover};
+ghost use Rattle.moc_c.specs.Membership.{IsNewMember};
+ghost use Rattle.moc_c.specs.Sharing.{Gives, ReadsSky, Tries, whole_sky};
+ghost use Rattle.moc_shared.specs.Clients.{IsClientOf, number_of};
+
+use crate::fault::Fault;
+use moc_parts::{Batch, Command, Operand, Replies, Reply};
+use moc_ranges::{Coverage, Memory};
+use moc_shared::{Client, NewError, SharedMap, TryError};
+use std::alloc::Global;
+use std::marker::Model;
+use std::sync::Arc;
+
+/// A client of a map, and the clients of it that have no seat yet.
+#[derive(Drop)]
+pub struct Member {
+    map: Arc<SharedMap, Global>,
+    client: Client,
+    spare: Vec<Client>,
+}
+
+impl Model for Member {
+    ghost use Rattle.std.specs.Arc.{arc_value};
+    ghost use Rattle.moc_c.specs.Membership.{AreMembers, Membership, membership_code};
+
+    ghost Value = { Membership };
+
+    ghost coded = { membership_code };
+
+    ghost view = { λ m. record { map = arc_value m.map; client = m.client; spare = m.spare.items } };
+
+    ghost invariant = { λ m. AreMembers (arc_value m.map) m.client m.spare.items };
+}
+
+impl Member {
+    /// The last client of a new map, with all others. O(n) for n ranges; refused where memory runs out.
+    pub(crate) fn begin(alloc: Global, start: Coverage, clients: u8) -> Result<Member, Memory>
+        requires some { 0 < clients }
+        requires few { clients ≤ 64 }
+        ensures { IfOk result (λ m. IsNewMember start clients m) }
+    {
+        match SharedMap::new(alloc, start, clients) {
+            Ok((map, all)) => Member::last(alloc, map, all),
+            Err(NewError::BadCount) => unreachable!(),
+            Err(NewError::Memory) => Err(Memory),
+        }
+    }
+
+    /// The last of a map's clients, with all others.
+    fn last(alloc: Global, map: SharedMap, clients: Vec<Client>) -> Result<Member, Memory>
+        requires some { 0 < length clients.items }
+        requires of_map { All (λ c. IsClientOf map c) clients.items }
+        ensures { IfOk result (λ m. (m.map ≡ map) × (m.spare ++ m.client ∷ [] ≡ clients.items)) }
+    {
+        let mut spare = clients;
+        let Some(client) = spare.pop() else {
+            unreachable!();
+        };
+        let Ok(map) = Arc::new(alloc, map) else {
+            return Err(Memory);
+        };
+        Ok(Member { map, client, spare })
+    }
+
+    /// Its client's number. Takes no memory.
+    pub(crate) fn number(&self) -> u8
+        ensures { result ≡ number_of self.now.client }
+    {
+        self.client.number()
+    }
+
+    /// One of the clients that have no seat yet, as a member of the same map. O(1); refused where there is none, or
+    /// where memory runs out.
+    pub(crate) fn give(&mut self, alloc: Global) -> Result<Member, Fault>
+        ensures { Gives self.old self.new result }
+    {
+        let Ok(map) = Arc::try_clone(&self.map) else {
+            return Err(Fault::Memory);
+        };
+        match self.spare.pop() {
+            Some(client) => Ok(Member {
+                map,
+                client,
+                spare: Vec::new(alloc),
+            }),
+            None => Err(Fault::NoClient),
+        }
+    }
+
+    /// Does a batch at once, or nothing where another client holds a part of it. As `SharedMap::try_apply`.
+    pub(crate) fn apply(&mut self, batch: &Batch) -> Result<Replies, TryError>
+        ensures { Tries self.old self.new batch.now result }
+    {
+        self.map.try_apply(&mut self.client, batch)
+    }
+
+    /// The set of the map, by a query of the whole sky. Takes the memory of its ranges; refused where another client
+    /// holds a part, or where memory runs out.
+    pub(crate) fn read(&mut self, alloc: Global) -> Result<Coverage, TryError>
+        ensures { ReadsSky self.old self.new result }
+    {
+        let Ok(batch) = whole_sky(alloc) else {
+            return Err(TryError::Memory);
+        };
+        let replies = match self.apply(&batch) {
+            Ok(replies) => replies,
+            Err(error) => return Err(error),
+        };
+        match cover_of(alloc, &replies) {
+            Ok(set) => Ok(set),
+            Err(Memory) => Err(TryError::Memory),
+        }
+    }
+}
+
+/// A copy of the set that is the one reply.
+fn cover_of(alloc: Global, replies: &Replies) -> Result<Coverage, Memory>
+    requires { (a : NumberSet) × (replies.now ≡ Cover a ∷ []) }
+    ensures { IfOk result (λ a. replies.now ≡ Cover a ∷ []) }
+{
+    match replies.first() {
+        Some(Reply::Cover(set)) => set.try_copy(alloc),
+        _ => unreachable!(),
+    }
+}
+
+/// The batch that reads all pixels.
+fn whole_sky(alloc: Global) -> Result<Batch, Memory>
+    ensures { IfOk result (λ batch. batch ≡ whole_sky) }
+{
+    let sky = Coverage::full(alloc)?;
+    Batch::one(alloc, Command::Read(Operand::from(sky)))
+}

@@ -1,0 +1,138 @@
+"""Sets that threads change at the same time."""
+import threading
+
+from ploverchaise import MOC, Client, MocError, SharedMap, _library
+
+from .common import BASE, TestCase
+
+THREADS, TURNS = 6, 400
+FAULTS = [
+    ("grow 0/0", "UnknownWord"), ("", "EmptyCommand"), ("invert;", "EmptyCommand"), (";" * 16, "TooManyCommands"), ("invert 3", "WrongCount"),
+    ("degrade x", "BadNumber"), ("add @30 0/0", "OrderTooLarge"), ("near 0 12", "CellTooLarge"), ("add 0/x", "BadByte"), ("add 7", "NoOrder"),
+    ("add 5/7-3", "Backwards"), ("add 5/7-", "Unfinished"), ("add 0/é", "BadByte"),
+]
+
+
+class OneThread(TestCase):
+    """What a map answers."""
+
+    def test_answers(self):
+        shared = SharedMap(MOC.from_string("0/0"), 2)
+        first, second = shared.client(), shared.client()
+        self.assertEqual(len({first.number, second.number}), 2)
+        self.assertEqual(first.answer(), "")
+        self.assertEqual(first.apply("add 0/0-1 ; count 0/0-11"), f"changed {BASE} ; total {2 * BASE}")
+        self.assertEqual(second.apply(b"claim 0/1"), f"taken {BASE}")
+        self.assertEqual((first.answer(), second.answer()), (f"changed {BASE} ; total {2 * BASE}", f"taken {BASE}"))
+        self.assertEqual(shared.apply("near 0 0"), "near yes")
+        self.assertEqual(shared.moc(), MOC.from_string("0/0-1"))
+        self.assertEqual(second.moc(timeout=0), MOC.from_string("0/0-1"))
+
+    def test_long_answers(self):
+        moc = MOC.from_healpix_cells(range(0, 3000, 2), 8)
+        self.assertEqual(SharedMap(moc).apply("read 0/0-11"), f"cover {moc}")
+        self.assertEqual(SharedMap().apply("read 0/0-11"), "cover")
+
+    def test_faults_change_nothing(self):
+        shared = SharedMap(MOC.from_string("0/4"))
+        told = shared.apply("count 0/4")
+        for line, name in FAULTS:
+            with self.subTest(line=line):
+                self.assertFault(name, (), shared.apply, line)
+                self.assertFault(name, (), shared.apply, f"invert ; {line}" if line.strip("; ") else line)
+        self.assertEqual(shared._own.answer(), told)
+        self.assertEqual(str(shared.moc()), "0/4")
+        for line in (5, None, ["invert"]):
+            with self.assertRaises(TypeError):
+                shared.apply(line)
+
+    def test_clients_are_counted(self):
+        for clients in (0, 64, -1):
+            with self.assertRaises(ValueError):
+                SharedMap(clients=clients)
+        shared = SharedMap(clients=63)
+        clients = [shared.client() for _ in range(63)]
+        self.assertEqual(sorted(it.number for it in clients) + [63], list(range(64)))
+        self.assertFault("NoClient", (), shared.client)
+        # (who is gone is not replaced)
+        del clients
+        self.assertFault("NoClient", (), shared.client)
+        with self.assertRaises(TypeError):
+            Client()
+
+    def test_a_map_lives_with_its_clients(self):
+        shared = SharedMap(MOC.full(), 1)
+        client = shared.client()
+        del shared
+        self.assertEqual(client.apply("keep 0/3 ; read 0/0-11"), f"changed {11 * BASE} ; cover 0/3")
+        self.assertEqual(str(client.moc()), "0/3")
+
+    def test_a_call_within_a_call(self):
+        client = SharedMap().client()
+        with client._call(), self.assertRaises(RuntimeError):
+            client.apply("invert")
+        self.assertEqual(client.apply("count 0/0"), "total 0")
+
+    def test_seats_that_are_free_or_taken(self):
+        free, other, taken = _library.seat_opened(), _library.seat_opened(), SharedMap(clients=1)._own._seat
+        for name, arguments in (("map_apply", (b"invert",)), ("map_join", (other,))):
+            self.assertFault("NoMap", (), _library.on_seat, name, free, *arguments)
+        self.assertFault("NoMap", (), _library.on_seat_and_desk, "map_set", free)
+        self.assertFault("SeatTaken", (), _library.on_seat, "map_join", free, taken)
+        self.assertFault("SeatTaken", (), _library.on_seat_and_desk, "map_begin", taken, 2**64 - 1, 65)
+        self.assertFault("NoSuchSet", (2**64 - 1,), _library.on_seat_and_desk, "map_begin", free, 2**64 - 1, 65)
+        key = MOC()
+        for clients in (0, 65, 255):
+            self.assertFault("BadCount", (clients,), _library.on_seat_and_desk, "map_begin", free, key._key, clients)
+
+
+class Threads(TestCase):
+    """Many threads on one map."""
+
+    def in_threads(self, clients, work):
+        """Runs the work with each client on a thread of its own; a failure of one fails the test."""
+        failures = []
+
+        def guarded(client):
+            try:
+                work(client)
+            except BaseException as failure:
+                failures.append(failure)
+
+        threads = [threading.Thread(target=guarded, args=(client,)) for client in clients]
+        for thread in threads:
+            thread.start()
+        for thread in threads:
+            thread.join()
+        if failures:
+            raise failures[0]
+
+    def test_no_line_is_torn_and_none_is_lost(self):
+        shared = SharedMap(clients=THREADS)
+
+        def work(client):
+            for turn in range(TURNS):
+                self.assertEqual(client.apply(f"claim 9/{client.number * TURNS + turn}"), "claimed")
+                client.apply("add 3/100 ; add 3/400 ; add 3/700" if turn % 2 else "remove 3/100 ; remove 3/400 ; remove 3/700")
+                told = client.apply("count 3/100 ; count 3/400 ; count 3/700")
+                self.assertIn(told, {f"total {4**26} ; total {4**26} ; total {4**26}", "total 0 ; total 0 ; total 0"})
+
+        self.in_threads([shared.client() for _ in range(THREADS)], work)
+        shared.apply("remove 3/100 400 700")
+        self.assertEqual(shared.moc(), MOC.from_healpix_cells(range(THREADS * TURNS), 9))
+
+    def test_one_client_of_many_threads(self):
+        client = SharedMap().client()
+
+        def work(number):
+            for turn in range(TURNS):
+                cell = number * TURNS + turn
+                self.assertEqual(client.apply(f"claim 9/{cell}"), "claimed")
+
+        self.in_threads(range(THREADS), work)
+        self.assertEqual(client.moc().count(), THREADS * TURNS * 4**20)
+
+    def test_busy_is_told(self):
+        error = MocError(74, 3, 5)
+        self.assertEqual((error.name, error.place), ("Busy", (3, 5)))
+        self.assertEqual(str(error), "Busy: another client holds a part of the sky (part 3, client 5)")
