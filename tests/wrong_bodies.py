@@ -19,7 +19,8 @@ Refusals are of three kinds, and the last lines tell how many there are of each:
 
 usage: tests/wrong_bodies.py [--jobs N] [--told FOLDER] [CRATE | CRATE/EDIT]..
 
-`--told FOLDER` keeps there what each check told, and makes the folder where there is none.
+`--jobs N` has N checks go on side by side, by one job each. `--told FOLDER` keeps there what each check told, and makes the folder where
+there is none.
 
 All is done in rooms, over what the crates' `out` folders hold of their proofs, which `tools/build.py` brings up to date first: what is kept
 can make no refusal false, since an edited function is checked anew. A check that takes too long tells nothing, and its edits fail. Where all
@@ -38,8 +39,10 @@ TOP = os.path.dirname(os.path.dirname(os.path.abspath(__file__)))
 sys.path.insert(0, os.path.join(TOP, "tools"))
 from crates import crates_of, folder_of, libraries_below, make_room  # noqa: E402
 
-# How many jobs a check has: two, since the last checks have the cores to themselves.
-JOBS = "2"
+# How many edits a check takes at most: with more, its memory grows to several gigabytes.
+MOST_EDITS = 24
+# How much memory a check may want, what goes on beside the tests being counted with it.
+CHECK_MEMORY = 7_000_000_000
 # Where the rooms lie: on one disk with the crates, so that files can be linked.
 ROOMS = os.path.join(folder_of("moc_cli"), "out", "edits")
 # How many seconds a check may take: several times what the longest takes.
@@ -232,7 +235,8 @@ class Round:
 
     def takes(self, edit):
         keys = [it.function and it.function.key for it in self.edits]
-        return None not in keys and edit.function.key not in keys and edit.apply(self.read(edit))
+        return (len(keys) < MOST_EDITS and None not in keys and edit.function.key not in keys
+                and edit.apply(self.read(edit)))
 
     def read(self, edit):
         """The texts that the edit changes, as the edits of the round before it leave them."""
@@ -257,7 +261,8 @@ class Round:
             for file, text in self.texts.items():
                 with open(os.path.join(folder, file), "w") as source:
                     source.write(text)
-            return output(["rt", "check", "--jobs", JOBS], folder)
+            # (by one job: a second one takes a sixth more of the processors, and checks go on side by side)
+            return output(["rt", "check", "--jobs", "1"], folder)
 
     def judge(self, told):
         """Says of each edit of what kind its refusal is, and what the check told of it; the kind is None where it was not refused."""
@@ -305,9 +310,15 @@ def numbers_told():
         return {crate: int(number) for crate, number in ROW.findall(page.read())}
 
 
+def checks_at_once():
+    """How many checks go on side by side: as many as there are processors, as far as memory goes."""
+    memory = os.sysconf("SC_PAGE_SIZE") * os.sysconf("SC_PHYS_PAGES")
+    return max(1, min(len(os.sched_getaffinity(0)), memory // CHECK_MEMORY))
+
+
 def main():
     words = argparse.ArgumentParser(description="Tries the wrong bodies.")
-    words.add_argument("--jobs", type=int, default=len(os.sched_getaffinity(0)))
+    words.add_argument("--jobs", type=int, default=checks_at_once())
     words.add_argument("--told", metavar="FOLDER")
     words.add_argument("names", nargs="*", metavar="CRATE or CRATE/EDIT")
     given = words.parse_args()
