@@ -6,6 +6,7 @@ pub mod Merging
 pub mod Turning
 pub mod Meeting
 pub mod MeetingOn
+pub mod Gaps
 pub mod Lacking
 pub mod Walking
 pub mod Sorting

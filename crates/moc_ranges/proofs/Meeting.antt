@@ -186,7 +186,7 @@ inside_bool true g y all = refl
 inside_bool false true y all = sym (all refl)
 inside_bool false false y all = refl
 
-normal_from : (rs ss : List (ℕ × ℕ)) (q : ℕ) → IsNormal (rs ++ ss) → in_ranges rs q ≡ true → next_of (rs ++ ss) ≤ q
+pub normal_from : (rs ss : List (ℕ × ℕ)) (q : ℕ) → IsNormal (rs ++ ss) → in_ranges rs q ≡ true → next_of (rs ++ ss) ≤ q
 normal_from [] ss q normal e = absurd (cc)
 normal_from (r ∷ rs) ss q normal e = elim (or_cases (in_range r q) (in_ranges rs q) e) [
   | inl here ↦ let parts = and_parts (nat_le r.0 q) (nat_lt q r.1) here in leb-true r.0 q parts.0

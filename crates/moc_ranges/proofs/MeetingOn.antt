@@ -73,7 +73,7 @@ next_after : (r : ℕ × ℕ) (rs : List (ℕ × ℕ)) → IsRising (r ∷ rs) �
 next_after r [] rising lt = lt
 next_after r (s ∷ rs) rising lt = rising.1
 
-meets_first : (ks ks' xs ys : List (ℕ × ℕ)) (x y : ℕ × ℕ) (from to : ℕ) → CanMeet (x ∷ xs) (y ∷ ys) ks → x.1 ≤ y.1 → from ≡ max x.0 y.0 → to ≡ min x.1 y.1 → AddsPart from to ks ks' → MeetsOn (x ∷ xs) xs (y ∷ ys) (y ∷ ys) ks ks'
+pub meets_first : (ks ks' xs ys : List (ℕ × ℕ)) (x y : ℕ × ℕ) (from to : ℕ) → CanMeet (x ∷ xs) (y ∷ ys) ks → x.1 ≤ y.1 → from ≡ max x.0 y.0 → to ≡ min x.1 y.1 → AddsPart from to ks ks' → MeetsOn (x ∷ xs) xs (y ∷ ys) (y ∷ ys) ks ks'
 meets_first ks ks' xs ys x y from to s ends is_from is_to a =
     let next : x.1 < next_of xs = (ends_next (x ∷ []) xs s.first_normal).0 in
     let filled : x.0 < x.1 = s.first_normal.0 in
@@ -172,13 +172,23 @@ pub rest_normal : (rs behind whole : List (ℕ × ℕ)) (i : ℕ) → rs ++ behi
 rest_normal rs behind whole i is normal =
     subst IsNormal (sym (rest_is rs behind i)) (IsNormal-rest rs (take i rs) (drop i rs) behind (sym (take-append-drop i rs)) (subst IsNormal (sym is) normal))
 
+pub rest_shorter : (rs behind whole left : List (ℕ × ℕ)) (i : ℕ) → i ≤ length rs → rs ++ behind ≡ whole → left ≡ take (length rs - i) (drop i rs) ++ behind → length left + i ≡ length whole
+rest_shorter rs behind whole left i le is left_is =
+    omega (arith, le, ap length (left_is ∙ rest_is rs behind i), length-append (drop i rs) behind, length-drop i rs, ap length is, length-append rs behind)
+
 -- slices of two lists met, and the lists go on behind what was passed
+pub met_here : (xs ys bx by whole_xs whole_ys before made : List (ℕ × ℕ)) (i j : ℕ) → xs ++ bx ≡ whole_xs → ys ++ by ≡ whole_ys → CanMeet whole_xs whole_ys before
+    → ((before' bx' by' : List (ℕ × ℕ)) → CanMeet (xs ++ bx') (ys ++ by') before' → MeetsOn (xs ++ bx') (drop i xs ++ bx') (ys ++ by') (drop j ys ++ by') before' (before' ++ made))
+    → MeetsOn whole_xs (drop i xs ++ bx) whole_ys (drop j ys ++ by) before (before ++ made)
+met_here xs ys bx by whole_xs whole_ys before made i j ex ey can met =
+    meets_as _ _ _ _ _ _ _ _ _ _ ex refl ey refl (met before bx by (can_as _ _ _ _ _ (sym ex) (sym ey) can))
+
 pub met_begun : (xs ys bx by whole_xs whole_ys us vs before after made : List (ℕ × ℕ)) (i j : ℕ) → xs ++ bx ≡ whole_xs → ys ++ by ≡ whole_ys → CanMeet whole_xs whole_ys before
     → ((before' bx' by' : List (ℕ × ℕ)) → CanMeet (xs ++ bx') (ys ++ by') before' → MeetsOn (xs ++ bx') (drop i xs ++ bx') (ys ++ by') (drop j ys ++ by') before' (before' ++ made))
     → us ≡ drop i xs ++ bx → vs ≡ drop j ys ++ by → after ≡ before ++ made → MeetsOn whole_xs us whole_ys vs before after
 met_begun xs ys bx by whole_xs whole_ys us vs before after made i j ex ey can met eu ev ea =
     subst (λ (l : List (ℕ × ℕ)). MeetsOn whole_xs us whole_ys vs before l) (sym ea)
-    (meets_as _ _ _ _ _ _ _ _ _ _ ex (sym eu) ey (sym ev) (met before bx by (can_as _ _ _ _ _ (sym ex) (sym ey) can)))
+    (meets_as _ _ _ _ _ _ _ _ _ _ refl (sym eu) refl (sym ev) (met_here xs ys bx by whole_xs whole_ys before made i j ex ey can met))
 
 -- ranges were taken off a list, and what they have in common with the other's next one put behind others
 pub can_after : (xs ys rest ks : List (ℕ × ℕ)) (y : ℕ × ℕ) → CanMeet xs ys ks → ys ≡ y ∷ rest → EndsBelow (max (next_of xs) y.0) ks

@@ -3,6 +3,7 @@
 pub mod carrying;
 pub mod difference;
 pub mod few;
+pub mod gaps;
 pub mod intersection;
 pub mod meeting;
 pub mod reach;

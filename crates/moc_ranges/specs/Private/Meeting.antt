@@ -32,3 +32,18 @@ pub record LeavesOut (limit : ℕ) (xs xs' : List (ℕ × ℕ)) : Type 0 where
   pub gone : List (ℕ × ℕ)
   pub parts : xs ≡ gone ++ xs'
   pub below : EndsBelow limit gone
+
+-- the gaps before the ranges of a list, where what comes before them ends at `low`
+abbrev pub gaps_before : ℕ → List (ℕ × ℕ) → List (ℕ × ℕ)
+gaps_before low [] = []
+gaps_before low (range ∷ ranges) = (low, range.0) ∷ gaps_before range.1 ranges
+
+-- the same, and the gap behind them, up to the largest u64
+abbrev pub gaps_of : ℕ → List (ℕ × ℕ) → List (ℕ × ℕ)
+gaps_of low [] = (low, 18446744073709551615) ∷ []
+gaps_of low (range ∷ ranges) = (low, range.0) ∷ gaps_of range.1 ranges
+
+-- where the last range ends, or `low` where there is none
+abbrev pub end_of : ℕ → List (ℕ × ℕ) → ℕ
+end_of low [] = low
+end_of low (range ∷ ranges) = end_of range.1 ranges

@@ -169,6 +169,17 @@ impl<'a> Ranges<'a> {
         })
     }
 
+    /// Begins the next block, where none is begun.
+    #[inline]
+    pub(crate) fn begin_block(&mut self)
+        requires { IsNormal self.old }
+        ensures { self.new ≡ self.old }
+    {
+        if let Some(next) = self.next_block() {
+            self.resume(next.ranges, next.behind);
+        }
+    }
+
     /// The next range, where a block is begun.
     #[inline]
     pub(crate) fn begun_range(&self) -> Option<(u64, u64)>

@@ -194,6 +194,7 @@ fn intersect_blocks(
             return built.finish(alloc);
         }
         meet_whole(alloc, &mut xs, &ys, &mut built)?;
+        xs.begin_block();
         meet_whole(alloc, &mut ys, &xs, &mut built)?;
     }
 }
