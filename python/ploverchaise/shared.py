@@ -6,8 +6,9 @@ import operator
 import threading
 import time
 from contextlib import contextmanager
+from typing import Callable, Iterator
 
-from ._library import on_seat, on_seat_and_desk, seat_opened
+from ._library import Outcome, Seat, on_seat, on_seat_and_desk, seat_opened
 from .errors import BUSY, MocError
 from .moc import MOC
 
@@ -31,7 +32,7 @@ class Client:
         raise TypeError("SharedMap.client makes clients")
 
     @classmethod
-    def _on(cls, sit) -> Client:
+    def _on(cls, sit: Callable[[Seat], int]) -> Client:
         """The client that a call puts on a seat."""
         made = cls.__new__(cls)
         made._lock, made._inside = threading.RLock(), False
@@ -40,7 +41,7 @@ class Client:
         return made
 
     @contextmanager
-    def _call(self):
+    def _call(self) -> Iterator[Seat]:
         """The client in one call at a time, also of its own thread, which a handler of a signal may interrupt."""
         with self._lock:
             if self._inside:
@@ -108,7 +109,7 @@ class SharedMap:
         return self._own.moc(timeout)
 
 
-def _until_free(call, timeout: float | None):
+def _until_free(call: Callable[[], Outcome], timeout: float | None) -> Outcome:
     """What the call answers once no other client holds what it wants."""
     pause, ends = _SHORT, None if timeout is None else time.monotonic() + timeout
     while True:
@@ -121,7 +122,7 @@ def _until_free(call, timeout: float | None):
         pause = min(2 * pause, _LONG)
 
 
-def _answer(seat) -> str:
+def _answer(seat: Seat) -> str:
     """The answer to the last line that was done on the seat."""
     room = _ROOM
     while True:

@@ -1,5 +1,5 @@
 -- What calls of seats promise, of what the calls below promise.
-use Rattle.std.proofs.Common.{◌≡◌, ◌++◌, ◌∷◌, [], Bool, true, false, List, ℕ, Option, None, Some, Result, Ok, Err, refl, sym, ap, ◌∙◌, subst, inl, inr, is_some}
+use Rattle.std.proofs.Common.{◌≡◌, ◌++◌, ◌∷◌, [], true, false, List, ℕ, Option, None, Some, Result, Ok, Err, refl, sym, ap, ◌∙◌, subst, inl, inr, is_some}
 use Rattle.std.specs.Option.{ok_or}
 use Rattle.moc_ranges.specs.Numbers.{NumberSet}
 use Rattle.moc_parts.specs.declared.command.Command.{Command}
@@ -15,8 +15,8 @@ use Rattle.moc_script.specs.Language.{command_of}
 use Rattle.moc_c.specs.Answers.{Makes}
 use Rattle.moc_c.specs.Contents.{Contents}
 use Rattle.moc_c.specs.Membership.{Membership}
-use Rattle.moc_c.specs.Outcomes.{done, memory, refusal, told, try_fault}
-use Rattle.moc_c.specs.Sharing.{Applies, Begins, Calls, DoesLine, Gives, IsAfter, IsRefused, Joins, LaysRead, LaysSet, MemberEnds, member_at, ReadsSky, Seats, Tries, unless_taken, whole_sky, with_member}
+use Rattle.moc_c.specs.Outcomes.{refusal, try_fault}
+use Rattle.moc_c.specs.Sharing.{Applies, Begins, Calls, DoesLine, Gives, IsAfter, IsRefused, Joins, LaysSet, MemberEnds, member_at, ReadsSky, Seats, unless_taken, whole_sky, with_member}
 use Rattle.moc_c.specs.declared.fault.Fault.{Fault}
 use Rattle.moc_c.specs.declared.fault.Fault.TheVariants as fault
 use Rattle.moc_c.specs.declared.outcome.Outcome.{Outcome}

@@ -1,4 +1,4 @@
--- What the calls of seats promise. A seat, and a member who sits there, before a call is written old, and afterwards new.
+-- What the calls of seats promise. A seat, and a member who sits there, is written old before a call, and else new.
 use Rattle.std.specs.Prelude.{◌≡◌, ◌⊎◌, ◌++◌, ◌∷◌, [], ℕ, List, nat_le, ◌&&◌, if◌then◌else◌}
 use Rattle.std.specs.Prelude.{Option, None, Some, Result, Ok, Err}
 use Rattle.std.specs.Option.{ok_or}
@@ -16,7 +16,6 @@ use Rattle.moc_script.specs.Batches.{batch_of}
 use Rattle.moc_script.specs.Language.{command_of}
 use Rattle.moc_script.specs.Replies.{replies_text}
 use Rattle.moc_script.specs.declared.fault.Fault.{Fault as LineFault}
-use Rattle.moc_c.specs.Answers.{both}
 use Rattle.moc_c.specs.Buffers.{Fills}
 use Rattle.moc_c.specs.Contents.{Contents, with_set}
 use Rattle.moc_c.specs.Membership.{IsNewMember, Membership, with_client, with_spare}

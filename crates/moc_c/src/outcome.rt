@@ -1,7 +1,7 @@
 //! How a call ended.
 ghost use Rattle.std.specs.Prelude.{◌≡◌};
-ghost use Rattle.moc_c.specs.Outcomes.{done, form_refusal, json_refusal, line_refusal, outcome, ranges_refusal, refusal};
-ghost use Rattle.moc_c.specs.Outcomes.{text_refusal, told, uniq_refusal};
+ghost use Rattle.moc_c.specs.Outcomes.{done, form_refusal, json_refusal, line_refusal, outcome, ranges_refusal};
+ghost use Rattle.moc_c.specs.Outcomes.{refusal, text_refusal, told, uniq_refusal};
 
 use crate::codes;
 use crate::fault::Fault;
