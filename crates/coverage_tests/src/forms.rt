@@ -376,27 +376,29 @@ const BEHIND: &str = "</g>
 </svg>
 ";
 
+/// The picture whose layers of one colour each have these diamonds, with a legend behind.
+fn picture(alloc: Global, layers: &[(&str, &str)], behind: &str) -> Result<String, Fail> {
+    let mut text = String::from_str(alloc, BEFORE)?;
+    for (colour, diamonds) in layers {
+        write!(
+            text,
+            "<path fill=\"{colour}\" stroke=\"{colour}\" vector-effect=\"non-scaling-stroke\" d=\"{diamonds}\"/>\n"
+        )?;
+    }
+    text.push_str(behind)?;
+    Ok(text)
+}
+
 /// The picture whose four shades, from the lightest, have these diamonds.
-fn picture(alloc: Global, shades: [&str; 4]) -> Result<String, Fail> {
+fn shaded(alloc: Global, shades: [&str; 4]) -> Result<String, Fail> {
     let [first, second, third, fourth] = shades;
-    let mut text = String::new(alloc);
-    text.push_str(BEFORE)?;
-    for (colour, diamonds) in [
+    let layers = [
         ("#6baed6", first),
         ("#4292c6", second),
         ("#2171b5", third),
         ("#08306b", fourth),
-    ] {
-        text.push_str("<path fill=\"")?;
-        text.push_str(colour)?;
-        text.push_str("\" stroke=\"")?;
-        text.push_str(colour)?;
-        text.push_str("\" vector-effect=\"non-scaling-stroke\" d=\"")?;
-        text.push_str(diamonds)?;
-        text.push_str("\"/>\n")?;
-    }
-    text.push_str(BEHIND)?;
-    Ok(text)
+    ];
+    picture(alloc, &layers, BEHIND)
 }
 
 /// The diamonds are worked out by hand from the rows and columns of the cells.
@@ -454,7 +456,7 @@ fn pictures(rt: HostRuntime) -> Result<(), Fail> {
     ] {
         let (set, _) = Form::Ascii.read(rt.alloc(), text.as_bytes())?;
         let seen = draw(rt.alloc(), &set)?;
-        let wanted = picture(rt.alloc(), shades)?;
+        let wanted = shaded(rt.alloc(), shades)?;
         assert_eq!(&rt; seen.as_str(), wanted.as_str(), "{text:?}");
     }
     Ok(())
@@ -475,32 +477,25 @@ const BEHIND_TWO: &str = "</g>
 
 /// Cells of what the first has alone, the second has alone, and both have; the diamonds are worked out by hand.
 #[test]
-fn pictures_of_two(rt: HostRuntime) -> Result<(), Fail> {
+fn pictures_of_two(rt: HostRuntime) {
     let alloc = rt.alloc();
-    let (first, _) = Form::Ascii.read(alloc, b"0/5 29/0".as_slice())?;
-    let (second, _) = Form::Ascii.read(alloc, b"1/16 20-23".as_slice())?;
-    let seen = draw_two(alloc, &first, &second)?;
-    let mut text = String::new(alloc);
-    text.push_str(BEFORE)?;
-    for (colour, diamonds) in [
+    let (first, _) = Form::Ascii
+        .read(alloc, b"0/5 29/0".as_slice())
+        .expect(&rt, "a text");
+    let (second, _) = Form::Ascii
+        .read(alloc, b"1/16 20-23".as_slice())
+        .expect(&rt, "a text");
+    let seen = draw_two(alloc, &first, &second).expect(&rt, "memory");
+    let layers = [
         ("#0072b2", "M128 254l1 1-1 1-1-1z"),
         (
             "#e69f00",
             "M0 256l64 64-64 64-64-64zM1024 256l64 64-64 64-64-64z",
         ),
         ("#000", "M256 128l128 128-128 128-128-128z"),
-    ] {
-        text.push_str("<path fill=\"")?;
-        text.push_str(colour)?;
-        text.push_str("\" stroke=\"")?;
-        text.push_str(colour)?;
-        text.push_str("\" vector-effect=\"non-scaling-stroke\" d=\"")?;
-        text.push_str(diamonds)?;
-        text.push_str("\"/>\n")?;
-    }
-    text.push_str(BEHIND_TWO)?;
-    assert_eq!(&rt; seen.as_str(), text.as_str());
-    Ok(())
+    ];
+    let wanted = picture(alloc, &layers, BEHIND_TWO).expect(&rt, "memory");
+    assert_eq!(&rt; seen.as_str(), wanted.as_str());
 }
 
 /// They are those of the text that is read, or of want of memory.

@@ -1,30 +1,36 @@
 //! Numbers of cells: rows worked by hand, and every cell of the small orders.
 use moc_sphere::{Cell, CellError, NameError, Order, OrderError};
+use std::alloc::Global;
+use std::fmt::Display;
+use std::process::Abort;
 use std::str::FromStr;
-use std::test::Fail;
 
-fn at(order: u8, index: u64) -> Result<Cell, Fail> {
-    let order = Order::new(order).ok_or("order")?;
-    Ok(Cell::new(order, index)?)
+/// The order of that number.
+fn order_of(rt: &impl Abort, order: u8) -> Order {
+    Order::new(order).expect(rt, "an order")
+}
+
+/// The cell of an order at an index.
+fn at(rt: &impl Abort, order: u8, index: u64) -> Cell {
+    Cell::new(order_of(rt, order), index).expect(rt, "a cell")
 }
 
 #[test]
-fn uniq_rows(rt: HostRuntime) -> Result<(), Fail> {
+fn uniq_rows(rt: HostRuntime) {
     for (order, index, uniq) in [
         (0, 11, 15),
         (3, 10, 266),
         (29, 3458764513820540927, 4611686018427387903),
     ] {
-        assert_eq!(rt; at(order, index)?.uniq(), uniq);
-        assert!(rt; Cell::from_uniq(uniq)? == at(order, index)?);
+        assert_eq!(rt; at(&rt, order, index).uniq(), uniq);
+        assert!(rt; Cell::from_uniq(uniq) == Ok(at(&rt, order, index)));
     }
     assert!(rt; Cell::from_uniq(3) == Err(CellError::NotUniq));
     assert!(rt; Cell::from_uniq(4611686018427387904) == Err(CellError::NotUniq));
-    Ok(())
 }
 
 #[test]
-fn ring_rows(rt: HostRuntime) -> Result<(), Fail> {
+fn ring_rows(rt: HostRuntime) {
     for (order, index, ring) in [
         (1, 0, 13),
         (1, 1, 5),
@@ -38,21 +44,20 @@ fn ring_rows(rt: HostRuntime) -> Result<(), Fail> {
         (29, 3458764513820540927, 1729382259863060480),
         (29, 3170534137668829184, 3458764513820540927),
     ] {
-        let cell = at(order, index)?;
+        let cell = at(&rt, order, index);
         assert_eq!(rt; cell.ring(), ring, "order {order} index {index}");
         assert!(rt;
-            Cell::from_ring(cell.order(), ring)? == cell,
+            Cell::from_ring(cell.order(), ring) == Ok(cell),
             "order {order} ring {ring}"
         );
     }
     for index in 0..12 {
-        assert_eq!(rt; at(0, index)?.ring(), index);
+        assert_eq!(rt; at(&rt, 0, index).ring(), index);
     }
-    Ok(())
 }
 
 #[test]
-fn plane_rows(rt: HostRuntime) -> Result<(), Fail> {
+fn plane_rows(rt: HostRuntime) {
     for (order, index, row, column) in [
         (0, 0, 1, 1),
         (0, 4, 2, 0),
@@ -62,50 +67,50 @@ fn plane_rows(rt: HostRuntime) -> Result<(), Fail> {
         (29, 3458764513820540927, 1073741825, 3758096384),
     ] {
         assert!(rt;
-            at(order, index)?.row_column() == (row, column),
+            at(&rt, order, index).row_column() == (row, column),
             "order {order} index {index}"
         );
     }
-    Ok(())
 }
 
 #[test]
-fn touching_rows(rt: HostRuntime) -> Result<(), Fail> {
+fn touching_rows(rt: HostRuntime) {
     for (order, index, touching) in [
         (0, 0, [1, 2, 3, 4, 5, 8].as_slice()),
         (0, 4, [0, 3, 5, 7, 8, 11].as_slice()),
         (1, 0, [1, 2, 3, 17, 19, 22, 23, 35].as_slice()),
         (1, 1, [0, 2, 3, 6, 7, 22, 23].as_slice()),
     ] {
-        let cells = at(order, index)?.touching_cells(rt.alloc());
+        let cells = at(&rt, order, index).touching_cells(rt.alloc());
         assert_eq!(rt; cells.len(), touching.len());
         for (cell, index) in cells.as_slice().iter().zip(touching) {
-            assert!(rt; *cell == at(order, *index)?, "order {order} index {index}");
+            assert!(rt;
+                *cell == at(&rt, order, *index),
+                "order {order} index {index}"
+            );
         }
     }
-    Ok(())
 }
 
 #[test]
-fn refusals_and_spans(rt: HostRuntime) -> Result<(), Fail> {
+fn refusals_and_spans(rt: HostRuntime) {
     assert!(rt; Order::new(30).is_none());
-    let order = Order::new(1).ok_or("order")?;
+    let order = order_of(&rt, 1);
     assert!(rt; Cell::new(order, 48) == Err(CellError::CellTooLarge));
     assert!(rt; Cell::from_ring(order, 48) == Err(CellError::RingTooLarge));
     assert!(rt; Cell::from_face_xy(order, 12, 0, 0) == Err(CellError::OutOfFace));
     assert!(rt; Cell::from_face_xy(order, 0, 2, 0) == Err(CellError::OutOfFace));
     assert!(rt; Cell::from_face_xy(order, 0, 0, 2) == Err(CellError::OutOfFace));
-    let last = at(1, 47)?;
+    let last = at(&rt, 1, 47);
     assert_eq!(rt; last.span(), (3386706919782612992, 3458764513820540928));
-    assert!(rt; last.parent() == Some(at(0, 11)?));
-    assert!(rt; at(0, 11)?.parent().is_none());
-    Ok(())
+    assert!(rt; last.parent() == Some(at(&rt, 0, 11)));
+    assert!(rt; at(&rt, 0, 11).parent().is_none());
 }
 
 #[test]
 fn orders_and_their_nsides(rt: HostRuntime) {
     for (order, nside) in [(0u8, 1u64), (3, 8), (29, 536870912)] {
-        let order = Order::new(order).expect(&rt, "order");
+        let order = order_of(&rt, order);
         assert_eq!(rt; order.nside(), nside);
         assert!(rt; Order::from_nside(nside) == Ok(order));
         assert!(rt; Order::try_from(u64::from(order.get())) == Ok(order));
@@ -131,8 +136,7 @@ fn orders_and_cells_by_name(rt: HostRuntime) {
         ("1/47", 1, 47),
         ("29/3458764513820540927", 29, 3458764513820540927),
     ] {
-        let cell = Cell::new(Order::of(order), index).expect(&rt, "cell");
-        assert!(rt; Cell::from_str(name) == Ok(cell));
+        assert!(rt; Cell::from_str(name) == Ok(at(&rt, order, index)));
     }
     for name in [
         "",
@@ -157,11 +161,9 @@ fn base_pixels_and_children(rt: HostRuntime) {
         (29, 288230376151711743, 0),
         (29, 288230376151711744, 1),
     ] {
-        let order = Order::new(order).expect(&rt, "order");
-        let cell = Cell::new(order, index).expect(&rt, "cell");
-        assert_eq!(rt; cell.base_pixel(), base_pixel);
+        assert_eq!(rt; at(&rt, order, index).base_pixel(), base_pixel);
     }
-    let cell = Cell::new(Order::of(3), 10).expect(&rt, "cell");
+    let cell = at(&rt, 3, 10);
     let children = cell.children().expect(&rt, "children");
     let mut index = 40u64;
     for child in children {
@@ -173,11 +175,22 @@ fn base_pixels_and_children(rt: HostRuntime) {
     assert!(rt; Cell::of(Order::MAX, 0).children().is_none());
 }
 
+/// The text that a value is shown by.
+fn shown<T: Display + Drop>(rt: &impl Abort, alloc: Global, value: T) -> String {
+    value.to_string(alloc).expect(rt, "memory")
+}
+
 #[test]
-fn cells_are_ordered_and_shown(rt: HostRuntime) -> Result<(), Fail> {
-    assert!(rt; at(0, 11)? < at(1, 0)? && at(1, 0)? < at(1, 1)?);
-    assert_eq!(rt; at(29, 17)?.to_string(rt.alloc())?.as_str(), "29/17");
+fn cells_are_ordered_and_shown(rt: HostRuntime) {
+    let alloc = rt.alloc();
+    assert!(rt; at(&rt, 0, 11) < at(&rt, 1, 0) && at(&rt, 1, 0) < at(&rt, 1, 1));
+    assert_eq!(rt; shown(&rt, alloc, at(&rt, 29, 17)).as_str(), "29/17");
     assert_eq!(rt; Order::MAX.get(), 29);
+}
+
+#[test]
+fn errors_are_shown(rt: HostRuntime) {
+    let alloc = rt.alloc();
     for (error, text) in [
         (
             CellError::CellTooLarge,
@@ -190,32 +203,30 @@ fn cells_are_ordered_and_shown(rt: HostRuntime) -> Result<(), Fail> {
             "the order has no cell of that ring number",
         ),
     ] {
-        assert_eq!(rt; format!(in rt.alloc(); "{error}")?.as_str(), text);
+        assert_eq!(rt; shown(&rt, alloc, error).as_str(), text);
     }
-    let large = format!(in rt.alloc(); "{}", OrderError::OrderTooLarge)?;
+    let large = shown(&rt, alloc, OrderError::OrderTooLarge);
     assert_eq!(rt; large.as_str(), "the deepest order is 29");
-    let no_side = format!(in rt.alloc(); "{}", OrderError::NotNside)?;
+    let no_side = shown(&rt, alloc, OrderError::NotNside);
     assert_eq!(rt; no_side.as_str(), "no order has an nside of that number");
-    let no_order = format!(in rt.alloc(); "{}", NameError::NotOrder)?;
+    let no_order = shown(&rt, alloc, NameError::NotOrder);
     assert_eq!(rt; no_order.as_str(), "an order is a number from 0 to 29");
-    let no_cell = format!(in rt.alloc(); "{}", NameError::NotCell)?;
+    let no_cell = shown(&rt, alloc, NameError::NotCell);
     assert_eq!(rt;
         no_cell.as_str(),
         "a cell is an order, a slash and an index of the order, as 3/10"
     );
-    Ok(())
 }
 
 #[test]
-fn all_cells_of_small_orders(rt: HostRuntime) -> Result<(), Fail> {
+fn all_cells_of_small_orders(rt: HostRuntime) {
     for level in 0..5 {
-        let order = Order::new(level).ok_or("order")?;
+        let order = order_of(&rt, level);
         for index in 0..order.cell_count() {
-            let cell = Cell::new(order, index)?;
+            let cell = Cell::new(order, index).expect(&rt, "a cell");
             let (face, x, y) = cell.face_xy();
-            assert!(rt; Cell::from_face_xy(order, face, x, y)? == cell);
-            assert!(rt; Cell::from_ring(order, cell.ring())? == cell);
+            assert!(rt; Cell::from_face_xy(order, face, x, y) == Ok(cell));
+            assert!(rt; Cell::from_ring(order, cell.ring()) == Ok(cell));
         }
     }
-    Ok(())
 }
