@@ -4,6 +4,7 @@ moc_a.txt, moc_b.txt    about 1,000,000 cells each, orders 12 to 14, in pieces; 
 *.script                the same work as scripts of `moc run` (lines below 1,048,576 bytes)
 adds.txt, adds.script   100,000 random cells of order 13; each an `add` followed by a count of the whole sky
 rising.script, falling.script, shuffled.script: 400,000 adds of every second cell of order 12, in that order
+deep100000.script, deep1000000.script: so many adds of a random cell of order 29
 near.script, adds_big.script, count_big.script: 100,000 `near`, 10,000 `add`, 100,000 `count` of one cell after A is loaded
 play.script             20,000 operations of `play`, five lines each
 moc_a.json, moc_a.uniq  A in the two other forms
@@ -194,6 +195,10 @@ def main():
     part = 4 ** 13
     put("play.script", "".join("begin 1 add 13/%d\ntake 1\nedit 1 %d\ngive 1 %d\nend 1\n" % (c, c // part, c // part)
                                for c in adds[:20000]))
+    deep = splitmix64(11)
+    pixels = ["add 29/%d\n" % (next(deep) % ALL) for _ in range(1000000)]
+    for number in (100000, 1000000):
+        put("deep%d.script" % number, pixels[:number] + whole)
     expected["adds"] = {"pixels": len(set(adds)) * 4 ** (TOP - 13), "cells_of_order_13": len(set(adds))}
     with open(os.path.join(folder, "expected.json"), "w") as f:
         json.dump(expected, f, indent=1)

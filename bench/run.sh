@@ -15,7 +15,7 @@ for operation in read_a write_ascii write_json count union intersection differen
 done
 # Adds of one cell each: the program's whole runs over scripts, and the peer's adds in memory, in seconds.
 ../moc uniq 0 0 > /dev/null
-for script in adds_only adds_count_cell adds rising falling shuffled; do
+for script in adds_only adds_count_cell adds rising falling shuffled deep100000 deep1000000; do
     TIMEFORMAT="moc     $script %R"
     time ../crates/moc_cli/out/moc_cli run < "data/$script.script" > /dev/null
 done
