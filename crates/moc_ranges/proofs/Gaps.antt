@@ -1,10 +1,9 @@
 -- The gaps of a list of ranges.
-use Rattle.std.proofs.Common.{◌≡◌, ℕ, zero, suc, ◌+◌, ◌-◌, ◌<◌, ◌≤◌, Bool, true, false, not, ◌||◌, ◌&&◌, List, [], ◌∷◌, ◌++◌, min, max, take, drop, length, get_or, append_assoc, ◌⊎◌, inl, inr, refl, sym, ap, subst, ◌∙◌, arith}
+use Rattle.std.proofs.Common.{◌≡◌, ℕ, zero, suc, ◌+◌, ◌<◌, ◌≤◌, Bool, true, false, not, ◌||◌, ◌&&◌, List, [], ◌∷◌, ◌++◌, max, take, drop, length, get_or, append_assoc, ◌⊎◌, inl, inr, refl, sym, ap, subst, ◌∙◌, arith}
 use Rattle.std.specs.Prelude.{nat_le, nat_lt}
 use Rattle.std.proofs.lemmas.Bool.{cases_lt}
 use Rattle.std.proofs.lemmas.Bool.Decides.{nat_tests}
-use Rattle.moc_ranges.specs.Pixels.{pixel_count}
-use Rattle.moc_ranges.specs.RangeList.{IsNormal, BeginsAfter, in_range, in_ranges}
+use Rattle.moc_ranges.specs.RangeList.{IsNormal, BeginsAfter, in_ranges}
 use Rattle.moc_ranges.specs.Private.Blocks.{next_of}
 use Rattle.moc_ranges.specs.Private.Built.{EndsBelow}
 use Rattle.moc_ranges.specs.Private.Walks.{EndsBy, Passes}
@@ -14,7 +13,6 @@ use Rattle.moc_ranges.proofs.Merging.{ends_next, next_later, in_ranges-append, E
 use Rattle.moc_ranges.proofs.Walking.{later_only}
 use Rattle.moc_ranges.proofs.Views.{normal_below}
 use Rattle.moc_ranges.proofs.Meeting.{normal_from}
-use Rattle.moc_ranges.proofs.MeetingOn.{meets_as, can_as}
 
 pub length_gaps : (low : ℕ) (rs : List (ℕ × ℕ)) → length (gaps_before low rs) ≡ length rs
 length_gaps low [] = refl

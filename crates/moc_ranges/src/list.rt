@@ -13,6 +13,7 @@ pub mod block;
 pub mod builder;
 pub mod chunks;
 pub mod kept;
+pub mod lengths;
 pub mod node;
 pub mod ranges;
 pub mod runs;

@@ -13,7 +13,7 @@ ghost use Rattle.moc_ranges.specs.Private.Added.{IsRenewed, IsSpot};
 
 use crate::list::ahead::{Ahead, front_from};
 use crate::list::block::{Block, LONGEST, measure_ranges};
-use crate::list::kept::{length_of_first, length_of_last, width_of_last};
+use crate::list::lengths::{length_of_first, length_of_last, width_of_last};
 use crate::list::node::{Node, WIDEST};
 use crate::list::runs::{Run, count_ended};
 use std::alloc::{AllocError, Global};

@@ -9,6 +9,7 @@ ghost use Rattle.moc_ranges.specs.Private.Kept.{all_of, blocks_of, growing, IsKe
 
 use crate::list::RangeList;
 use crate::list::block::{Block, LONGEST};
+use crate::list::lengths::{length_of_first, length_of_last, width_of_last};
 use crate::list::node::{Node, WIDEST, share_blocks};
 use std::alloc::{AllocError, Global};
 
@@ -423,58 +424,6 @@ pub fn end_below(ranges: &[(u64, u64)], f: u64) -> bool
     match ranges {
         [.., last] => last.1 < f,
         [] => true,
-    }
-}
-
-/// How many ranges the first of some blocks has, 0 if there is none.
-pub fn length_of_first(blocks: &[Block]) -> usize
-    ensures value { result ≡ first_length blocks.now }
-    ensures fits { result ≤ LONGEST }
-{
-    match blocks {
-        [block, ..] => block.ranges().len(),
-        [] => 0,
-    }
-}
-
-/// How many ranges the last of some blocks has, 0 if there is none.
-fn length_of_block(blocks: &[Block]) -> usize
-    ensures { result ≡ last_length blocks.now }
-{
-    match blocks {
-        [.., block] => block.ranges().len(),
-        [] => 0,
-    }
-}
-
-/// How many ranges the last block of some nodes has, 0 if there is none.
-fn length_in_nodes(nodes: &[Node]) -> usize
-    ensures { result ≡ last_length (joining nodes.now) }
-{
-    match nodes {
-        [.., node] => length_of_block(node.blocks()),
-        [] => 0,
-    }
-}
-
-/// How many ranges the last block has, 0 if there is none.
-pub fn length_of_last(nodes: &[Node], blocks: &[Block]) -> usize
-    ensures { result ≡ last_length (joining nodes.now ++ blocks.now) }
-{
-    match blocks {
-        [] => length_in_nodes(nodes),
-        [..] => length_of_block(blocks),
-    }
-}
-
-/// How many blocks the last node has, 0 if there is none.
-pub fn width_of_last(nodes: &[Node]) -> usize
-    ensures value { result ≡ last_length nodes.now }
-    ensures fits { result ≤ WIDEST }
-{
-    match nodes {
-        [.., node] => node.blocks().len(),
-        [] => 0,
     }
 }
 

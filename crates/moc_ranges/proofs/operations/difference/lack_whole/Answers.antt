@@ -1,5 +1,4 @@
-use Rattle.std.proofs.Common.{◌≡◌, ◌≤◌, List, ℕ, max, subst, ap, arith, ◌∙◌}
-use Rattle.moc_ranges.specs.Private.Built.{EndsBelow}
+use Rattle.std.proofs.Common.{arith}
 use Rattle.moc_ranges.proofs.Merging.{EndsBelow-more}
 use Rattle.moc_ranges.proofs.Shortening.{taken_shorter}
 use Rattle.moc_ranges.proofs.MeetingOn.{left_normal, left_shorter, meets_more, meets_taken}
