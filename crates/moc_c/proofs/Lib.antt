@@ -4,4 +4,5 @@ mod Failing
 mod Filling
 mod Gathering
 mod Keys
+mod Passing
 mod Sharings

@@ -1,5 +1,6 @@
 -- What serves the contracts of private functions alone.
 pub mod Desk
 pub mod Lending
+pub mod Looking
 pub mod Seat
 pub mod SeatLending

@@ -11,6 +11,7 @@ mod conversion;
 mod desk;
 mod fault;
 mod lists;
+mod looking;
 mod making;
 mod member;
 mod opening;

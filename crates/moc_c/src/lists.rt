@@ -8,6 +8,7 @@ ghost use Rattle.moc_c.specs.declared.fault.Fault.TheVariants.{Memory as NoMemor
 
 use crate::desk::Desk;
 use crate::fault::Fault;
+use crate::looking::{Known, look};
 use crate::outcome::Outcome;
 use crate::range::Range;
 use crate::shelf::Shelf;
@@ -197,27 +198,33 @@ pub extern "C" fn moc_cells(alloc: Global, desk: &mut Desk, a: u64, out: &mut [u
     }
 }
 
-/// Whether a set has each of some pixels. A pixel that lies in the range or gap of the one before it is not looked up.
+/// Whether a set has each of some pixels. One that lies in the range of the one before it, or in the gap before that, is
+/// not looked up.
 fn tell_contained(set: &Coverage, pixels: &[u64], out: &mut [u8]) -> Outcome
     ensures { TellsContained (Ok set.now) pixels.now out.old out.new result }
 {
     if pixels.len() != out.len() {
         return Outcome::of(Fault::LengthsDiffer);
     }
-    // All pixels from one up to, not including, another are in the set, or none is.
-    let (mut from, mut until, mut has) = (0, 0, false);
+    let (mut rest, mut passed) = (set.ranges(), 0);
+    let mut known = Known {
+        from: 0,
+        start: 0,
+        end: 0,
+    };
     for (at, pixel) in pixels.iter().enumerate() {
-        if *pixel < from || until <= *pixel {
-            from = *pixel;
-            (has, until) = set.contains_until(from);
+        let mut has = known.start <= *pixel;
+        if *pixel < known.from || known.end <= *pixel {
+            (has, known) = look(set, &mut rest, &mut passed, *pixel);
         }
         out[at] = u8::from(has);
     }
     Outcome::done()
 }
 
-/// Whether a set has each of some pixels of order 29, 1 or 0, at its place in another array. O(log n) for each that lies in
-/// another range or gap than the one before it, O(1) for all others; takes no memory.
+/// Whether a set has each of some pixels of order 29, 1 or 0, at its place in another array. O(1) for each that lies in
+/// the range of the one before it, in the gap before that, or up to eight ranges behind; O(log n) for all others. Takes
+/// no memory.
 ///
 /// Refused for a key without a set, or where the arrays differ in length.
 #[unsafe(no_mangle)]

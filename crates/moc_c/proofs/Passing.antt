@@ -1,0 +1,45 @@
+-- One step of a walk over ranges.
+use Rattle.std.proofs.Common.{◌≡◌, ◌<◌, ◌≤◌, [], ◌∷◌, ℕ, Bool, true, false, List, refl, sym, ap, ◌∙◌, arith, nat_le, nat_lt, ◌&&◌, ◌||◌}
+use Rattle.std.proofs.lemmas.Bool.Decides.{nat_tests}
+use Rattle.std.specs.FinSet as set
+use Rattle.moc_ranges.specs.Numbers.{NumberSet}
+use Rattle.moc_ranges.specs.RangeList.{BeginsAfter, contains-set_of, in_ranges, IsNormal, set_of}
+use Rattle.moc_ranges.specs.Laws.Ranges.{in_first, not_before}
+use Rattle.moc_c.specs.Private.Looking.{BeginsFrom, IsRest, Knows}
+
+and_false : (x : Bool) → (x && false) ≡ false
+and_false true = refl
+and_false false = refl
+
+begins_from : (x : ℕ) (ranges : List (ℕ × ℕ)) → BeginsAfter x ranges → BeginsFrom x ranges
+begins_from x [] after = tt
+begins_from x (range ∷ ranges) after = omega arith
+
+-- behind the first range are the others
+pub passed_on : (a : NumberSet) (passed f t : ℕ) (rest : List (ℕ × ℕ)) → IsRest a ((f, t) ∷ rest) passed → IsRest a rest t
+passed_on a passed f t rest is = (
+  is.0.3,
+  begins_from t rest is.0.2,
+  λ q behind.
+      let low : passed ≤ f = is.1 in
+      let some : f < t = is.0.0 in
+      let ended : nat_lt q t ≡ false = grind (arith, nat_tests) in
+      is.2 q (omega arith) ∙ ap (λ b. (nat_le f q && b) || in_ranges rest q) ended ∙ ap (λ b. b || in_ranges rest q) (and_false (nat_le f q)),
+)
+
+-- up to its end nothing but the first range is there
+pub known_by : (a : NumberSet) (passed f t : ℕ) (rest : List (ℕ × ℕ)) → IsRest a ((f, t) ∷ rest) passed → Knows a (record { from = passed; start = f; end = t })
+known_by a passed f t rest is q low high =
+    is.2 q low ∙ elim (nat_le f q) as (λ b. nat_le f q ≡ b → in_ranges ((f, t) ∷ rest) q ≡ b) [
+      | true ↦ λ e. let le : f ≤ q = grind (arith, nat_tests) in in_first (f, t) rest q le high
+      | false ↦ λ e. let lt : q < f = grind (arith, nat_tests) in not_before (f, t) rest is.0 q lt
+    ] refl
+
+begins_somewhere : (ranges : List (ℕ × ℕ)) → BeginsFrom 0 ranges
+begins_somewhere [] = tt
+begins_somewhere (range ∷ ranges) = omega arith
+
+-- all ranges of a set
+pub all_rest : (a : NumberSet) (ranges : List (ℕ × ℕ)) → IsNormal ranges → set_of ranges ≡ a → IsRest a ranges 0
+all_rest a ranges normal is =
+    (normal, begins_somewhere ranges, λ q low. ap (λ x. set.contains x q) (sym is) ∙ contains-set_of ranges q)

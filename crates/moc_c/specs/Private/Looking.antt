@@ -1,0 +1,20 @@
+-- Walks over the ranges of a set.
+use Rattle.std.specs.Prelude.{◌≡◌, ◌<◌, ◌≤◌, ℕ, List, [], ◌∷◌, nat_le, ⊤}
+use Rattle.std.specs.FinSet as set
+use Rattle.moc_ranges.specs.Numbers.{NumberSet}
+use Rattle.moc_ranges.specs.RangeList.{in_ranges, IsNormal}
+use Rattle.moc_c.specs.declared.looking.Known.{Known}
+
+-- the first range begins at x, or behind it
+abbrev pub BeginsFrom : ℕ → List (ℕ × ℕ) → Type 0
+BeginsFrom x [] = ⊤
+BeginsFrom x (range ∷ ranges) = x ≤ range.0
+
+-- from a pixel on, the set has just what these ranges have, which lie there
+abbrev pub IsRest : NumberSet → List (ℕ × ℕ) → ℕ → Type 0
+IsRest a ranges passed =
+    IsNormal ranges × BeginsFrom passed ranges × ((q : ℕ) → passed ≤ q → set.contains a q ≡ in_ranges ranges q)
+
+-- what is known of pixels is so
+abbrev pub Knows : NumberSet → Known → Type 0
+Knows a k = (q : ℕ) → k.from ≤ q → q < k.end → set.contains a q ≡ nat_le k.start q
