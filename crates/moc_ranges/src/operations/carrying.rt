@@ -64,8 +64,8 @@ pub fn next_carrying(
     Ok(xs.next())
 }
 
-/// Leaves out the next ranges of a begun block that end below a limit, where the one that stands `reach` ahead does, and
-/// answers whether it did.
+/// Leaves out the next ranges of a begun block that end below a limit, where the one that stands `reach` ahead does,
+/// and answers whether it did.
 pub fn leave_out(xs: &mut Ranges<'_>, limit: u64, reach: usize) -> bool
     requires { IsNormal xs.old }
     ensures out { LeavesOut limit xs.old xs.new }

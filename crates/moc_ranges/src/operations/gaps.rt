@@ -12,7 +12,8 @@ pub struct Gaps<'a> {
 }
 
 impl Gaps<'_> {
-    /// Where what comes before a place ends. Read at each place, and not kept from one to the next: that would be a branch.
+    /// Where what comes before a place ends. Read at each place, and not kept from one to the next: that would be a
+    /// branch.
     #[inline(always)]
     pub fn low_at(&self, place: usize) -> u64
         requires { place ≤ length self.now.ranges.now }

@@ -4,8 +4,8 @@ use crate::list::ranges::Ranges;
 /// How many ranges ahead a walk looks before it searches, where a list has many times as many as the other.
 pub const NEAR: usize = 3;
 
-/// How many where the lists are even, and a block is gone through without a branch: a search then costs less than so many
-/// steps.
+/// How many where the lists are even, and a block is gone through without a branch: a search then costs less than so
+/// many steps.
 pub const FAR: usize = 32;
 
 /// How many times as many ranges a list has as another where the two are not even.
