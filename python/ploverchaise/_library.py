@@ -96,7 +96,7 @@ _seat_open, _seat_close = declared(library, "seat_open", c_bool, _SEAT), declare
 
 # A finalizer may run while its own thread has the lock, but never within a call of the library: so it may take the lock once more.
 _lock = threading.RLock()
-# A process is forked while no call runs.
+# A process is forked while no call of the desk runs.
 os.register_at_fork(before=_lock.acquire, after_in_parent=_lock.release, after_in_child=_lock.release)
 # How many texts were begun on the desk, which keeps the last.
 _texts = 0

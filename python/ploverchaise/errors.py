@@ -18,7 +18,7 @@ MEMORY = 1
 NO_SUCH_ORDER = 4
 BUSY = 74
 
-# The kinds by the codes of moc.h. Of texts the names are those that the program `moc check` tells.
+# The kinds by the codes of moc.h. Of texts the names are those that the program `moc check` tells, of lines those of `moc run`.
 KINDS = {
     2: Kind("NoRoom", "a buffer is too short", ("wanted",)),
     3: Kind("NoSuchSet", "no set has the key", ("key",)),
@@ -46,7 +46,7 @@ KINDS = {
     50: Kind("UnknownWord", "the first word is no command"),
     51: Kind("EmptyCommand", "a command is blank"),
     52: Kind("TooManyCommands", "a line has at most 16 commands"),
-    53: Kind("WrongCount", "the command has more or fewer fields"),
+    53: Kind("WrongCount", "there are more or fewer fields than the command has"),
     54: Kind("BadNumber", "a field is no number"),
     55: Kind("OrderTooLarge", "an order is above 29"),
     56: Kind("CellTooLarge", "the order has no such cell"),
@@ -58,7 +58,7 @@ KINDS = {
     70: Kind("NoMap", "nobody sits on the seat"),
     71: Kind("SeatTaken", "somebody sits on the seat"),
     72: Kind("BadCount", "a map has 1 to 64 clients", ("clients",)),
-    73: Kind("NoClient", "the map has no further client"),
+    73: Kind("NoClient", "no further client waits on the seat"),
     BUSY: Kind("Busy", "another client holds a part of the sky", ("part", "client")),
 }
 

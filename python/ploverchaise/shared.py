@@ -58,8 +58,7 @@ class Client:
         Where another client holds a part of the sky that they touch, it sleeps a while and tries again, for so many seconds, and then
         MocError Busy tells the part and the client; 0 tries once, None again and again. MocError for the line's first fault: UnknownWord,
         EmptyCommand, TooManyCommands, WrongCount, BadNumber, OrderTooLarge, CellTooLarge, BadByte, NoOrder, Backwards, Unfinished. After
-        a MocError nothing was done, and after a MemoryError nothing was, but that the answer to what was done may lack, which `answer`
-        gives."""
+        a MocError nothing was changed. After a MemoryError either nothing was, or the line was done and `answer` gives its answer."""
         given = line.encode() if isinstance(line, str) else bytes(memoryview(line))
         with self._call() as seat:
             _until_free(lambda: on_seat("map_apply", seat, given), timeout)
@@ -82,8 +81,9 @@ class SharedMap:
     start: the set that it begins with; the one without pixels, where there is none.
     clients: how many clients `client` gives, 1 to 63.
 
-    What clients see is one history: each line is done as a whole, and each answer is that of the one set after the lines before. A client
-    that nobody has any more is gone, and `client` gives no other for it. In a forked child make no call.
+    What a client sees is one history, which begins with all that it had seen: each line is done as a whole, and each answer is that of the
+    one set after the lines before. A client that nobody has any more is gone, and `client` gives no other for it. In the forked child of a
+    process with threads make no call.
     """
 
     __slots__ = ("_own",)

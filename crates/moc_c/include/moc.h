@@ -6,11 +6,11 @@
 
    What a caller owes, which nothing checks:
    - A desk is begun by `moc_open`, where that answers true, and ended once, by `moc_close`; behind that neither it nor a copy of it is
-     used. Only these calls read or write what it holds. So is a seat, by `moc_seat_open` and `moc_seat_close`.
+     used. Only these calls read or write what it holds. The same of a seat, by `moc_seat_open` and `moc_seat_close`.
    - An array is a pointer that is not null, aligned for its type, and a length in elements, also where the length is 0. Nobody changes
      what is passed as `const` while the call runs, and what is written overlaps nothing else that is passed.
-   - A desk is in one call at a time, and a seat is. It may go from thread to thread, where a lock, or the start or the end of a thread,
-     lies between. Seats at one map need no lock between them.
+   - A desk is in one call at a time, and so is a seat; the two seats of `moc_map_join` are two. Each may go from thread to thread, where
+     a lock, or the start or the end of a thread, lies between. Seats at one map need no lock between them.
    - No call from a signal handler, or in the forked child of a process with threads.
    - malloc, realloc and free are those of one allocator, and a block is aligned as C asks.
 
@@ -101,7 +101,7 @@ enum {
     MOC_NO_MAP = 70,     /* nobody sits there */
     MOC_SEAT_TAKEN = 71, /* somebody sits there */
     MOC_BAD_COUNT = 72,  /* first: the number of clients, which is not 1 to 64 */
-    MOC_NO_CLIENT = 73,  /* no client of the map is left that had no seat */
+    MOC_NO_CLIENT = 73,  /* no further client waits on this seat */
     MOC_BUSY = 74        /* a part of the sky is held: first: the part, 0 to 11; second: the number of the client that holds it */
 };
 
@@ -215,7 +215,7 @@ moc_outcome moc_touching(uint8_t order, const uint64_t *cells, size_t count, uin
 
 /* Begins a seat on which nobody sits in the room at `out`, and answers true; or false, where no memory is left, and there is none. */
 bool moc_seat_open(moc_seat *out);
-/* Ends a seat. Its client makes no call any more. The map ends with the last of its seats. */
+/* Ends a seat. Its client, and those that wait on it, make no call any more. The map ends with the last of its seats. */
 void moc_seat_close(moc_seat seat);
 
 /* Makes a map of the set at a key, which stays on the desk, for so many clients, 1 to 64. One of them sits down on the seat; the others are
@@ -226,8 +226,9 @@ moc_outcome moc_map_begin(moc_seat *seat, moc_desk *desk, uint64_t a, uint8_t cl
 moc_outcome moc_map_join(moc_seat *seat, moc_seat *other);
 
 /* Does the commands of a line on the map, parted by `;`, as the program `moc run` takes them: all of them, as one step, or none. It waits
-   for nobody: where another client holds a part that they look at or change, nothing is done, MOC_BUSY. MOC_NO_MAP, then MOC_LINE_.. for
-   the first faulty command. The line need not end in 0. The seat keeps the replies of the last line that was done, for `moc_map_answer`. */
+   for nobody: where another client holds a part that they look at or change, nothing is done, MOC_BUSY. MOC_NO_MAP, then
+   MOC_LINE_TOO_MANY_COMMANDS, then another MOC_LINE_.. for the first faulty command. The line ends in no 0 and no line feed. The seat keeps
+   the replies of the last line that was done, for `moc_map_answer`. */
 moc_outcome moc_map_apply(moc_seat *seat, const uint8_t *line, size_t length);
 /* Makes the answer to the last line that was done at the front of `out`, as the program writes it, ended by a line feed; nothing before the
    first. `first` is its length. MOC_NO_ROOM, with nothing written, where `length` is less; it may be asked again. */

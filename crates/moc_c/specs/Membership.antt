@@ -8,7 +8,7 @@ use Rattle.moc_shared.specs.contracts.map.SharedMap as shared_map
 use Rattle.moc_shared.specs.declared.client.Client.{Client}
 use Rattle.moc_shared.specs.declared.map.SharedMap.{SharedMap}
 
--- a map, a client of it, and its clients that have no seat yet
+-- a map, a client of it, and the further clients that wait on its seat
 pub record Membership : Type 0 where
   pub map : SharedMap
   pub client : Client
@@ -35,6 +35,6 @@ pub record IsNewMember (start : NumberSet) (clients : ℕ) (m : Membership) : Ty
 abbrev pub with_client : Membership → Client → Membership
 with_client m c = record { map = m.map; client = c; spare = m.spare }
 
--- the member with these clients that have no seat yet
+-- the member with these further clients
 abbrev pub with_spare : Membership → List Client → Membership
 with_spare m cs = record { map = m.map; client = m.client; spare = cs }

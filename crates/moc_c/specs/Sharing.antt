@@ -57,7 +57,7 @@ IsBegun (Ok x) (Err e) = e ≡ fault.Memory
 IsBegun (Err f) (Ok m) = ⊥
 IsBegun (Err f) (Err e) = (e ≡ f) ⊎ (e ≡ fault.Memory)
 
--- the member sits there now, and his number is told; or the fault is told, and all is as it was
+-- the member sits there now, and its client's number is told; or the fault is told, and all is as it was
 abbrev pub Seats : Sitter → Sitter → Result Membership Fault → Outcome → Type 0
 Seats old new (Ok m) o = (new ≡ with_member old m) × (o ≡ told (number_of m.client))
 Seats old new (Err e) o = (new ≡ old) × (o ≡ refusal e)
@@ -66,8 +66,8 @@ Seats old new (Err e) o = (new ≡ old) × (o ≡ refusal e)
 abbrev pub Begins : Sitter → Sitter → Result (NumberSet × ℕ) Fault → Outcome → Type 0
 Begins old new what o = (begun : Result Membership Fault) × IsBegun what begun × Seats old new begun o
 
--- the last client that has no seat yet is given away, as a member of the same map; or there is none, or no memory is
--- left, and the giver is as it was
+-- the last client that waits is given away, as a member of the same map; or there is none, or no memory is left, and
+-- the giver is as it was
 abbrev pub Gives : Membership → Membership → Result Membership Fault → Type 0
 Gives old new (Ok m) =
     (old.spare ≡ new.spare ++ m.client ∷ []) × (new ≡ with_spare old new.spare)

@@ -34,7 +34,7 @@ pub enum Fault {
     SeatTaken,
     /// No map has so many clients.
     BadCount { clients: u8 },
-    /// No client is left that had no seat.
+    /// No further client waits on the seat.
     NoClient,
     /// Another client holds a part.
     Busy(Busy),

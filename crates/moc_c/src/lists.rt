@@ -198,8 +198,7 @@ pub extern "C" fn moc_cells(alloc: Global, desk: &mut Desk, a: u64, out: &mut [u
     }
 }
 
-/// Whether a set has each of some pixels. One that lies in the range of the one before it, or in the gap before that, is
-/// not looked up.
+/// Whether a set has each of some pixels. One that lies in what is known of the one before it is not looked up.
 fn tell_contained(set: &Coverage, pixels: &[u64], out: &mut [u8]) -> Outcome
     ensures { TellsContained (Ok set.now) pixels.now out.old out.new result }
 {
@@ -222,9 +221,9 @@ fn tell_contained(set: &Coverage, pixels: &[u64], out: &mut [u8]) -> Outcome
     Outcome::done()
 }
 
-/// Whether a set has each of some pixels of order 29, 1 or 0, at its place in another array. O(1) for each that lies in
-/// the range of the one before it, in the gap before that, or up to eight ranges behind; O(log n) for all others. Takes
-/// no memory.
+/// Whether a set has each of some pixels of order 29, 1 or 0, at its place in another array. O(1) for each that lies
+/// behind the one before it in the same range or gap, or up to eight ranges behind those that were walked over;
+/// O(log n) for all others. Takes no memory.
 ///
 /// Refused for a key without a set, or where the arrays differ in length.
 #[unsafe(no_mangle)]

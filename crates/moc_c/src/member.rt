@@ -14,7 +14,7 @@ use std::alloc::Global;
 use std::marker::Model;
 use std::sync::Arc;
 
-/// A client of a map, and the clients of it that have no seat yet.
+/// A client of a map, and the further clients that wait on its seat.
 #[derive(Drop)]
 pub struct Member {
     map: Arc<SharedMap, Global>,
@@ -72,7 +72,7 @@ impl Member {
         self.client.number()
     }
 
-    /// One of the clients that have no seat yet, as a member of the same map. O(1); refused where there is none, or
+    /// One of the clients that wait, as a member of the same map. O(1); refused where there is none, or
     /// where memory runs out.
     pub(crate) fn give(&mut self, alloc: Global) -> Result<Member, Fault>
         ensures { Gives self.old self.new result }

@@ -66,7 +66,7 @@ impl Sitter {
         other.sit(member.give(alloc))
     }
 
-    /// A member sits down, and his number is told.
+    /// A member sits down, and its client's number is told.
     fn sit(&mut self, member: Result<Member, Fault>) -> Outcome
         ensures { Seats self.old self.new member result }
     {
@@ -148,8 +148,8 @@ pub extern "C" fn moc_map_begin(
 /// A further client of the map of a seat sits down on another seat, which may go to another thread, and tells its
 /// number. Only the seat that began the map has further clients. O(1).
 ///
-/// Refused where the other seat is taken, where nobody sits on the first, where all of the map's clients have a seat
-/// or had one, or where memory runs out.
+/// Refused where the other seat is taken, where nobody sits on the first, where no further client waits on that, or
+/// where memory runs out.
 #[unsafe(no_mangle)]
 pub extern "C" fn moc_map_join(alloc: Global, seat: &mut Seat, other: &mut Seat) -> Outcome
     ensures { Joins seat.old.contents seat.new.contents other.old.contents other.new.contents

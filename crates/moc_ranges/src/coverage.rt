@@ -207,9 +207,9 @@ impl Coverage {
     /// Adds the pixels from one up to, not including, another, and tells how many of them are new.
     ///
     /// Mostly O(log n), whatever shares the blocks: the block that the range goes to is made anew, and the pointers to
-    /// the others of its node are copied where another set shares the node, or the block is cut in two. As a union where
-    /// the range touches more than one block, or no block can take it by the rules of lengths. Refused where memory runs
-    /// out; the set then is as it was.
+    /// the others of its node are copied where another set shares the node, or the block is cut in two. As a union
+    /// where the range touches more than one block, or no block can take it by the rules of lengths. Refused where
+    /// memory runs out; the set then is as it was.
     pub fn insert_range(&mut self, alloc: Global, from: u64, to: u64) -> Result<u64, Memory>
         requires within { to ≤ pixel_count }
         ensures set { OnOk result (self.new ≡ set.union self.old (numbers from to)) }

@@ -1,4 +1,4 @@
-//! The language of lines, for who does batches himself.
+//! The language of lines, for callers that do batches themselves.
 ghost use Rattle.std.specs.Prelude.{◌≡◌, ◌++◌, ◌∷◌, [], IfOk};
 ghost use Rattle.moc_script.specs.Readings.{ReadsLine};
 ghost use Rattle.moc_script.specs.Replies.{replies_text};

@@ -1,4 +1,5 @@
-//! A list in blocks with one range more: the block that it goes to is made anew, with its node, and all others stay.
+//! A list in blocks with one range more: the block that it goes to is made anew, its node where that is shared or the
+//! block is cut, and all others stay.
 ghost use Rattle.std.specs.Prelude.{◌≡◌, ◌+◌, ◌<◌, ◌≤◌, ◌++◌, [], ◌∷◌, length, take, drop, min};
 ghost use Rattle.std.specs.Prelude.{IfOk, IfSome, MatchOption, OnOk, OnErr};
 ghost use Rattle.std.specs.Bool.{OnTrue};
@@ -235,8 +236,8 @@ fn replaced(
     Ok(blocks)
 }
 
-/// A block of a node that took in a range: what stands around it, what its ranges were cut into, and how many pixels are
-/// new.
+/// A block of a node that took in a range: what stands around it, what its ranges were cut into, and how many pixels
+/// are new.
 #[derive(Drop)]
 struct Grown<'a> {
     place: Around<'a, Block>,
@@ -244,8 +245,8 @@ struct Grown<'a> {
     added: u64,
 }
 
-/// The block of a node between others that a range goes to, with that range. None where the range touches another block,
-/// or a rule of lengths would be broken.
+/// The block of a node between others that a range goes to, with that range. None where the range touches another
+/// block, or a rule of lengths would be broken.
 fn grow<'a>(
     alloc: Global,
     before: &[Node],
@@ -440,8 +441,8 @@ pub fn insert_few(
     Ok(Some(added))
 }
 
-/// A block that took in a range and is one block still: the place of its node, its own in that node, its ranges, and how
-/// many pixels are new.
+/// A block that took in a range and is one block still: the place of its node, its own in that node, its ranges, and
+/// how many pixels are new.
 #[derive(Drop)]
 struct Spot {
     node: usize,
@@ -450,8 +451,8 @@ struct Spot {
     added: u64,
 }
 
-/// The block that a range goes to, with that range. None where the range touches another block, the block has to be cut,
-/// or a rule of lengths would be broken.
+/// The block that a range goes to, with that range. None where the range touches another block, the block has to be
+/// cut, or a rule of lengths would be broken.
 fn spot_of(alloc: Global, nodes: &[Node], from: u64, to: u64) -> Result<Option<Spot>, AllocError>
     requires stored { IsStored [] nodes.now }
     requires filled { from < to }
@@ -517,8 +518,8 @@ fn insert_in_place(
     Ok(Some(added))
 }
 
-/// Adds a range to nodes where that changes one block alone, and tells how many numbers are new. None where it does not,
-/// or a rule of lengths would be broken; the nodes then are as they were.
+/// Adds a range to nodes where that changes one block alone, and tells how many numbers are new. None where it does
+/// not, or a rule of lengths would be broken; the nodes then are as they were.
 pub fn insert_in_nodes(
     alloc: Global,
     nodes: &mut Vec<Node>,

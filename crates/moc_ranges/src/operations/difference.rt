@@ -96,7 +96,7 @@ fn leave_out_by(ys: &mut Ranges<'_>, limit: u64)
 }
 
 /// Goes to where the other list has come to: of the second list leaves out what ends before the first's next range, and
-/// of the first, where no block is begun, what ends before the second's next gap, and carries over the nodes and blocks
+/// of the first, where no block is begun, what ends before the second's next gap, or carries over the nodes and blocks
 /// that lie in it.
 fn lack_whole(
     alloc: Global,

@@ -157,7 +157,7 @@ fn meet_next(
 }
 
 /// Where no block of a list is begun, goes to where the other list has come to in a begun block: leaves out what ends
-/// before, and carries over the nodes and blocks that lie in the other's next range.
+/// before, or carries over the nodes and blocks that lie in the other's next range.
 fn meet_whole(
     alloc: Global,
     xs: &mut Ranges<'_>,
