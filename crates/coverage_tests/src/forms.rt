@@ -477,15 +477,11 @@ const BEHIND_TWO: &str = "</g>
 
 /// Cells of what the first has alone, the second has alone, and both have; the diamonds are worked out by hand.
 #[test]
-fn pictures_of_two(rt: HostRuntime) {
+fn pictures_of_two(rt: HostRuntime) -> Result<(), Fail> {
     let alloc = rt.alloc();
-    let (first, _) = Form::Ascii
-        .read(alloc, b"0/5 29/0".as_slice())
-        .expect(&rt, "a text");
-    let (second, _) = Form::Ascii
-        .read(alloc, b"1/16 20-23".as_slice())
-        .expect(&rt, "a text");
-    let seen = draw_two(alloc, &first, &second).expect(&rt, "memory");
+    let (first, _) = Form::Ascii.read(alloc, b"0/5 29/0".as_slice())?;
+    let (second, _) = Form::Ascii.read(alloc, b"1/16 20-23".as_slice())?;
+    let seen = draw_two(alloc, &first, &second)?;
     let layers = [
         ("#0072b2", "M128 254l1 1-1 1-1-1z"),
         (
@@ -494,8 +490,9 @@ fn pictures_of_two(rt: HostRuntime) {
         ),
         ("#000", "M256 128l128 128-128 128-128-128z"),
     ];
-    let wanted = picture(alloc, &layers, BEHIND_TWO).expect(&rt, "memory");
+    let wanted = picture(alloc, &layers, BEHIND_TWO)?;
     assert_eq!(&rt; seen.as_str(), wanted.as_str());
+    Ok(())
 }
 
 /// They are those of the text that is read, or of want of memory.
