@@ -1,5 +1,6 @@
 """What the tests of the Python package share."""
 import random
+import threading
 import unittest
 
 from ploverchaise import MOC, MocError
@@ -32,6 +33,24 @@ class TestCase(unittest.TestCase):
         with self.assertRaises(MocError) as caught:
             call(*arguments, **named)
         self.assertEqual((caught.exception.name, caught.exception.place), (name, place))
+
+    def in_threads(self, each, work):
+        """Runs the work with each of these on a thread of its own; a failure of one fails the test."""
+        failures = []
+
+        def guarded(one):
+            try:
+                work(one)
+            except BaseException as failure:
+                failures.append(failure)
+
+        threads = [threading.Thread(target=guarded, args=(one,)) for one in each]
+        for thread in threads:
+            thread.start()
+        for thread in threads:
+            thread.join()
+        if failures:
+            raise failures[0]
 
     def assertRanges(self, moc, ranges):
         self.assertIsInstance(moc, MOC)

@@ -1,6 +1,4 @@
 """Sets that threads change at the same time."""
-import threading
-
 from ploverchaise import MOC, Client, MocError, SharedMap, _library
 
 from .common import BASE, TestCase
@@ -88,24 +86,6 @@ class OneThread(TestCase):
 
 class Threads(TestCase):
     """Many threads on one map."""
-
-    def in_threads(self, clients, work):
-        """Runs the work with each client on a thread of its own; a failure of one fails the test."""
-        failures = []
-
-        def guarded(client):
-            try:
-                work(client)
-            except BaseException as failure:
-                failures.append(failure)
-
-        threads = [threading.Thread(target=guarded, args=(client,)) for client in clients]
-        for thread in threads:
-            thread.start()
-        for thread in threads:
-            thread.join()
-        if failures:
-            raise failures[0]
 
     def test_no_line_is_torn_and_none_is_lost(self):
         shared = SharedMap(clients=THREADS)

@@ -28,24 +28,6 @@ def text_and_count(moc):
 class Threads(TestCase):
     """Many threads on one desk."""
 
-    def in_threads(self, work):
-        """Runs the work in each thread by its number; a failure of one fails the test."""
-        failures = []
-
-        def guarded(number):
-            try:
-                work(number)
-            except BaseException as failure:
-                failures.append(failure)
-
-        threads = [threading.Thread(target=guarded, args=(number,)) for number in range(THREADS)]
-        for thread in threads:
-            thread.start()
-        for thread in threads:
-            thread.join()
-        if failures:
-            raise failures[0]
-
     def test_sets_of_many_threads(self):
         common = MOC.from_string("3/0-99")
 
@@ -60,7 +42,7 @@ class Threads(TestCase):
                     start, end = runs(own)[0]
                     self.assertEqual(str(moc.degrade_to_order(3) & MOC.from_healpix_cells(range(start, end), 3)), str(moc))
 
-        self.in_threads(work)
+        self.in_threads(range(THREADS), work)
 
     def test_texts_of_many_threads(self):
         texts = [f"9/{number * 1001}-{number * 1001 + 7 * number + 1}" for number in range(THREADS)]
@@ -72,7 +54,7 @@ class Threads(TestCase):
                 at = (number + turn) % THREADS
                 self.assertEqual(str(sets[at]), told[at])
 
-        self.in_threads(work)
+        self.in_threads(range(THREADS), work)
 
     def test_numbers_of_many_threads(self):
         cells = cells_in(29, 20_000)
@@ -80,7 +62,7 @@ class Threads(TestCase):
         def work(_):
             self.assertEqual(ring2nest(2**29, nest2ring(2**29, cells)), cells)
 
-        self.in_threads(work)
+        self.in_threads(range(THREADS), work)
 
 
 class Freed(TestCase):
