@@ -1,5 +1,5 @@
 -- What just one of two lists of ranges has, range by range.
-use Rattle.std.proofs.Common.{◌≡◌, ℕ, ◌<◌, ◌≤◌, Bool, true, false, ◌||◌, ◌&&◌, List, [], ◌∷◌, ◌++◌, min, max, refl, sym, ap, subst, ◌∙◌, arith, inl, inr}
+use Rattle.std.proofs.Common.{◌≡◌, ℕ, ◌<◌, ◌≤◌, Bool, true, false, not, ◌||◌, ◌&&◌, List, [], ◌∷◌, ◌++◌, min, max, refl, sym, ap, subst, ◌∙◌, arith, append_assoc, inl, inr}
 use Rattle.std.specs.Prelude.{nat_le, nat_lt}
 use Rattle.std.proofs.lemmas.Bool.{cases_lt}
 use Rattle.std.proofs.lemmas.Bool.Decides.{nat_tests}
@@ -8,9 +8,11 @@ use Rattle.moc_ranges.specs.Numbers.{same_members}
 use Rattle.moc_ranges.specs.Operations.{symmetric, contains-symmetric}
 use Rattle.moc_ranges.specs.RangeList.{IsNormal, BeginsAfter, in_range, in_ranges, set_of, contains-set_of}
 use Rattle.moc_ranges.specs.Private.Blocks.{next_of}
-use Rattle.moc_ranges.specs.Private.Built.{EndsBelow}
-use Rattle.moc_ranges.specs.Private.Few.{differs, IsParted}
-use Rattle.moc_ranges.proofs.Merging.{normal_append, ends_next, or_false, in_ranges-append, EndsBelow-append, EndsBelow-more}
+use Rattle.moc_ranges.specs.Private.Built.{CanCarry, Carries, EndsBelow}
+use Rattle.moc_ranges.specs.Private.Differing.{differs, IsParted, IsDiffering}
+use Rattle.moc_ranges.proofs.Merging.{normal_append, ends_next, next_later, or_false, in_ranges-append, EndsBelow-append, EndsBelow-more}
+use Rattle.moc_ranges.proofs.Blocking.{IsNormal-prefix, IsNormal-suffix}
+use Rattle.moc_ranges.proofs.Lacking.{none_before, range_from}
 use Rattle.moc_ranges.proofs.Building.{pushed_normal}
 use Rattle.moc_ranges.proofs.Turning.{or_first}
 use Rattle.moc_ranges.proofs.Walking.{later_only}
@@ -108,21 +110,13 @@ parted_over x y from to kept kept' filled ends reach f t normal below same = rec
       ∙ ap (λ b. in_ranges kept q || b) (sym (over x y xs ys from to q nx ny reach (omega arith) f t));
 }
 
--- how far a symmetric difference of two slices has come
-pub record IsDiffering (kept xs ys whole_xs whole_ys : List (ℕ × ℕ)) : Type 0 where
-  pub normal : IsNormal kept
-  pub first_normal : IsNormal xs
-  pub second_normal : IsNormal ys
-  pub below : EndsBelow (min (next_of xs) (next_of ys)) kept
-  pub same : (q : ℕ) → (in_ranges kept q || differs (in_ranges xs q) (in_ranges ys q)) ≡ differs (in_ranges whole_xs q) (in_ranges whole_ys q)
-
-pub differing_start : (kept xs ys whole_xs whole_ys : List (ℕ × ℕ)) → kept ≡ [] → whole_xs ≡ xs → whole_ys ≡ ys → IsNormal whole_xs → IsNormal whole_ys → IsDiffering kept xs ys whole_xs whole_ys
-differing_start kept xs ys whole_xs whole_ys none ex ey nx ny = subst (λ (k : List (ℕ × ℕ)). IsDiffering k xs ys whole_xs whole_ys) (sym none) (record {
+pub differing_start : (kept xs ys : List (ℕ × ℕ)) → kept ≡ [] → IsNormal xs → IsNormal ys → IsDiffering kept xs ys xs ys
+differing_start kept xs ys none nx ny = subst (λ (k : List (ℕ × ℕ)). IsDiffering k xs ys xs ys) (sym none) (record {
   normal = tt;
-  first_normal = subst IsNormal ex nx;
-  second_normal = subst IsNormal ey ny;
+  first_normal = nx;
+  second_normal = ny;
   below = tt;
-  same = λ q. sym (λ i. differs (in_ranges (ex i) q) (in_ranges (ey i) q));
+  same = λ q. refl;
 })
 
 pub differing_swap : (kept xs ys whole_xs whole_ys : List (ℕ × ℕ)) → IsDiffering kept xs ys whole_xs whole_ys → IsDiffering kept ys xs whole_ys whole_xs
@@ -168,7 +162,45 @@ differing_both kept kept' xs ys whole_xs whole_ys x y from to s at f t normal be
           ∙ s.same q;
     }
 
--- the first slice has no more
+-- ---- ranges that are carried over
+
+ends_both : (f g : ℕ) (rs : List (ℕ × ℕ)) → EndsBelow f rs → EndsBelow g rs → EndsBelow (min f g) rs
+ends_both f g [] low high = tt
+ends_both f g (r ∷ rs) low high = (omega (arith, low.0, high.0), ends_both f g rs low.1 high.1)
+
+alone_bool : (r all ys gone xs : Bool) → differs all ys ≡ (gone || differs xs ys) → (r ≡ true → ys ≡ false) → differs (r || all) ys ≡ ((r || gone) || differs xs ys)
+alone_bool true all ys gone xs rest alone = ap (λ b. not b || (b && false)) (alone refl)
+alone_bool false all ys gone xs rest alone = rest
+
+-- ranges of the first list that end before the second's next one begins
+differs_gone : (gone xs ys : List (ℕ × ℕ)) (q : ℕ) → IsNormal ys → EndsBelow (next_of ys) gone → differs (in_ranges (gone ++ xs) q) (in_ranges ys q) ≡ (in_ranges gone q || differs (in_ranges xs q) (in_ranges ys q))
+differs_gone [] xs ys q other below = refl
+differs_gone (r ∷ gone) xs ys q other below =
+    let alone : in_range r q ≡ true → in_ranges ys q ≡ false = λ here. none_before ys q other (omega (arith, below.0, (range_from r q here).1)) in
+    alone_bool (in_range r q) (in_ranges (gone ++ xs) q) (in_ranges ys q) (in_ranges gone q) (in_ranges xs q) (differs_gone gone xs ys q other below.1) alone
+
+pub differing_carried : (kept kept' xs xs' ys whole_xs whole_ys : List (ℕ × ℕ)) (limit : ℕ) → IsDiffering kept xs ys whole_xs whole_ys → limit ≤ next_of ys → Carries xs xs' limit kept kept' → IsDiffering kept' xs' ys whole_xs whole_ys
+differing_carried kept kept' xs xs' ys whole_xs whole_ys limit s le c =
+    let whole = subst IsNormal c.parts s.first_normal in
+    let later = next_later c.gone xs' whole in
+    let before = EndsBelow-more limit (next_of ys) c.gone c.below le in
+    record {
+      normal = c.built;
+      first_normal = IsNormal-suffix c.gone xs' whole;
+      second_normal = s.second_normal;
+      below = subst (λ (k : List (ℕ × ℕ)). EndsBelow (min (next_of xs') (next_of ys)) k) (sym c.kept)
+          (EndsBelow-append (min (next_of xs') (next_of ys)) kept c.gone
+          (EndsBelow-more (min (next_of xs) (next_of ys)) (min (next_of xs') (next_of ys)) kept s.below (omega (arith, ap next_of c.parts, later)))
+          (ends_both (next_of xs') (next_of ys) c.gone (ends_next c.gone xs' whole) before));
+      same = λ q. ap (λ b. b || differs (in_ranges xs' q) (in_ranges ys q)) (ap (λ (k : List (ℕ × ℕ)). in_ranges k q) c.kept ∙ in_ranges-append kept c.gone q)
+          ∙ or_first (in_ranges kept q) (in_ranges c.gone q) (differs (in_ranges xs' q) (in_ranges ys q))
+          ∙ ap (λ b. in_ranges kept q || b)
+          (sym (differs_gone c.gone xs' ys q s.second_normal before)
+          ∙ ap (λ (k : List (ℕ × ℕ)). differs (in_ranges k q) (in_ranges ys q)) (sym c.parts))
+          ∙ s.same q;
+    }
+
+-- the first list has no more
 pub differed_normal : (kept xs ys whole_xs whole_ys : List (ℕ × ℕ)) → IsDiffering kept xs ys whole_xs whole_ys → xs ≡ [] → IsNormal (kept ++ ys)
 differed_normal kept xs ys whole_xs whole_ys s none =
     normal_append kept ys s.normal s.second_normal (EndsBelow-more (min (next_of xs) (next_of ys)) (next_of ys) kept s.below (omega arith))
@@ -184,3 +216,27 @@ differed kept xs ys whole_xs whole_ys s none q =
 
 pub differ_first : (xs ys : List (ℕ × ℕ)) → xs ≡ [] → (q : ℕ) → in_ranges ys q ≡ differs (in_ranges xs q) (in_ranges ys q)
 differ_first xs ys none q = differs_none (in_ranges ys q) ∙ ap (λ (l : List (ℕ × ℕ)). differs (in_ranges l q) (in_ranges ys q)) (sym none)
+
+-- ---- what is left of one list
+
+-- what is kept, and the rest behind it
+pub record IsFinishing (kept rest whole : List (ℕ × ℕ)) : Type 0 where
+  pub normal : IsNormal (kept ++ rest)
+  pub same : kept ++ rest ≡ whole
+
+pub finishing_head : (kept xs whole : List (ℕ × ℕ)) (x : ℕ × ℕ) → IsFinishing kept (x ∷ xs) whole → (x.0 < x.1) × (x.1 ≤ pixel_count) × EndsBelow x.0 kept
+finishing_head kept xs whole x s =
+    let rest = IsNormal-suffix kept (x ∷ xs) s.normal in
+    (rest.0, rest.1, ends_next kept (x ∷ xs) s.normal)
+
+pub finishing_can : (kept xs whole : List (ℕ × ℕ)) → IsFinishing kept xs whole → CanCarry xs kept
+finishing_can kept xs whole s = record {
+  normal = IsNormal-suffix kept xs s.normal;
+  built = IsNormal-prefix kept xs s.normal;
+  after = ends_next kept xs s.normal;
+}
+
+pub finishing_more : (kept kept' gone rest rest' whole : List (ℕ × ℕ)) → IsFinishing kept rest whole → rest ≡ gone ++ rest' → kept' ≡ kept ++ gone → IsFinishing kept' rest' whole
+finishing_more kept kept' gone rest rest' whole s parts is =
+    let all : kept' ++ rest' ≡ kept ++ rest = ap (λ (k : List (ℕ × ℕ)). k ++ rest') is ∙ append_assoc kept gone rest' ∙ ap (λ (r : List (ℕ × ℕ)). kept ++ r) (sym parts) in
+    record { normal = subst IsNormal (sym all) s.normal; same = all ∙ s.same }

@@ -8,5 +8,6 @@ pub mod Kept
 pub mod Walks
 pub mod Gathered
 pub mod Few
+pub mod Differing
 pub mod Meeting
 pub mod Added

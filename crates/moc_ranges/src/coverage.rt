@@ -22,7 +22,7 @@ use crate::list::ranges::Ranges;
 use crate::list::steps::Steps;
 use crate::operations::difference::subtract;
 use crate::operations::intersection::intersect;
-use crate::operations::symmetric::differ_few;
+use crate::operations::symmetric::differ;
 use crate::operations::union::unite;
 use crate::operations::walks::{are_same, count_both, holds_all, share_some};
 use crate::pixels::PIXEL_COUNT;
@@ -282,20 +282,13 @@ impl Coverage {
         Ok(Coverage { list })
     }
 
-    /// The pixels that just one of the two sets has. One pass, O(n + m), where both have up to 128
-    /// ranges, and else two differences and their union; refused where memory runs out.
+    /// The pixels that just one of the two sets has. One pass, O(n + m), in which blocks and nodes of one set that the
+    /// other does not reach are shared. Refused where memory runs out.
     pub fn symmetric(&self, alloc: Global, other: &Coverage) -> Result<Coverage, Memory>
         ensures set { IfOk result (λ c. c ≡ symmetric self.now other.now) }
     {
-        if let Some(few) = self.ranges().few() {
-            if let Some(others) = other.ranges().few() {
-                let list = differ_few(alloc, few, others)?;
-                return Ok(Coverage { list });
-            }
-        }
-        let mine = self.difference(alloc, other)?;
-        let theirs = other.difference(alloc, self)?;
-        mine.union(alloc, &theirs)
+        let list = differ(alloc, self.ranges(), other.ranges())?;
+        Ok(Coverage { list })
     }
 
     /// The pixels of the sky that the set lacks. One pass, O(n); refused where memory runs out.

@@ -1,5 +1,5 @@
 -- Two lists of few ranges, while what an operation keeps of them grows.
-use Rattle.std.specs.Prelude.{◌≡◌, ℕ, ◌<◌, Bool, not, ◌||◌, ◌&&◌, ◌∷◌, min, List}
+use Rattle.std.specs.Prelude.{◌≡◌, ℕ, ◌<◌, ◌||◌, min, List}
 use Rattle.moc_ranges.specs.RangeList.{IsNormal, in_ranges, in_range}
 use Rattle.moc_ranges.specs.Private.Built.{EndsBelow}
 
@@ -10,18 +10,3 @@ pub record IsSettled (x y z : ℕ × ℕ) (kept kept' : List (ℕ × ℕ)) : Typ
   pub filled : z.0 < z.1
   pub below : (f : ℕ) → x.1 < f → EndsBelow (min f z.0) kept'
   pub same : (q : ℕ) → (in_ranges kept' q || in_range z q) ≡ (in_ranges kept q || (in_range x q || in_range y q))
-
--- whether just one of two things is so
-abbrev pub differs : Bool → Bool → Bool
-differs a b = (a && not b) || (b && not a)
-
--- a range x that ends before y does was taken off both: what just one of them has of it was kept, and z is what is
--- left of y, or y and x where they touch
-pub record IsParted (x y z : ℕ × ℕ) (kept kept' : List (ℕ × ℕ)) : Type 0 where
-  pub normal : IsNormal kept'
-  pub end : z.1 ≡ y.1
-  pub filled : z.0 < z.1
-  pub below : (f : ℕ) → x.1 < f → EndsBelow (min f z.0) kept'
-  pub same : (xs ys : List (ℕ × ℕ)) (q : ℕ) → IsNormal (x ∷ xs) → IsNormal (y ∷ ys) →
-      (in_ranges kept' q || differs (in_ranges xs q) (in_ranges (z ∷ ys) q))
-      ≡ (in_ranges kept q || differs (in_ranges (x ∷ xs) q) (in_ranges (y ∷ ys) q))

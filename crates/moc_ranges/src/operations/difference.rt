@@ -22,7 +22,12 @@ use std::alloc::{AllocError, Global};
 
 /// Adds a range, where it is not empty, behind what is built.
 #[inline]
-fn push_part(alloc: Global, from: u64, to: u64, built: &mut ListBuilder) -> Result<(), AllocError>
+pub fn push_part(
+    alloc: Global,
+    from: u64,
+    to: u64,
+    built: &mut ListBuilder,
+) -> Result<(), AllocError>
     requires built { IsNormal (ranges_of built.old) }
     requires within { to ≤ pixel_count }
     requires after { EndsBelow from (ranges_of built.old) }
@@ -37,7 +42,7 @@ fn push_part(alloc: Global, from: u64, to: u64, built: &mut ListBuilder) -> Resu
 
 /// Where a range begins, or the largest number where there is none.
 #[inline]
-fn start_of(range: Option<(u64, u64)>) -> u64
+pub fn start_of(range: Option<(u64, u64)>) -> u64
     ensures { (rest : List (ℕ × ℕ)) → result ≡ next_of (begun range rest) }
 {
     match range {
