@@ -11,6 +11,7 @@
 #include "moc.h"
 using namespace std;
 typedef Moc<int64> M;
+struct Faces: T_Healpix_Base<int64> { using T_Healpix_Base<int64>::T_Healpix_Base; using T_Healpix_Base<int64>::xyf2nest; };
 typedef unsigned long long u64;
 static u64 state;
 static u64 splitmix()
@@ -77,10 +78,12 @@ int main(int argc, char **argv)
   function<u64()> job;
   if (op=="start") { printf("start 0 0 0 0\n"); return 0; }
   if (op=="read_a") { text=slurp(dir+"/moc_a.txt"); job=[&] { return u64(read_ascii(text).nval()); }; }
-  else if (op=="ring13"||op=="ring29"||op=="nest13"||op=="nest29"||op=="near13"||op=="near29")
+  else if (op=="ring13"||op=="ring29"||op=="nest13"||op=="nest29"||op=="near13"||op=="near29"||op=="border13"||op=="border29")
     {
-    int k=atoi(op.c_str()+4); bool near=op.substr(0,4)=="near"; size_t n=near?1000000:10000000;
-    state=42; u64 top=12ull<<(2*k); adds.resize(n); for (auto &x:adds) x=int64(splitmix()%top);
+    bool border=op.substr(0,6)=="border", near=border||op.substr(0,4)=="near"; size_t n=near?1000000:10000000;
+    int k=atoi(op.c_str()+(border?6:4)); state=42; u64 top=12ull<<(2*k); adds.resize(n);
+    if (border) { Faces faces(k,NEST); for (auto &x:adds) { int face=int(splitmix()%12); x=faces.xyf2nest(0,int(splitmix()%(1ull<<k)),face); } }
+    else for (auto &x:adds) x=int64(splitmix()%top);
     bool ring=op.substr(0,4)=="ring";
     job=[&adds,k,near,ring]
       {
@@ -100,10 +103,11 @@ int main(int argc, char **argv)
     }
   else
     {
-    a=load("moc_a.txt"); if (op=="union"||op=="intersection"||op=="difference") b=load("moc_b.txt");
+    a=load("moc_a.txt"); if (op=="union"||op=="intersection"||op=="difference"||op=="symmetric") b=load("moc_b.txt");
     if (op=="union") job=[&] { return u64(a.op_or(b).nval()); };
     else if (op=="intersection") job=[&] { return u64(a.op_and(b).nval()); };
     else if (op=="difference") job=[&] { return u64(a.op_andnot(b).nval()); };
+    else if (op=="symmetric") job=[&] { return u64(a.op_xor(b).nval()); };
     else if (op=="complement") job=[&] { return u64(a.complement().nval()); };
     else if (op=="degrade10") job=[&] { return u64(a.degradedToOrder(10,true).nval()); };
     else if (op=="degrade13") job=[&] { return u64(a.degradedToOrder(13,true).nval()); };

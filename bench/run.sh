@@ -6,8 +6,8 @@ cd "$(dirname "$0")"
 [ -d data ] || python3 generate.py data > /dev/null
 g++ -O2 -march=x86-64-v2 -std=c++17 -I/usr/include/healpix_cxx peer.cc -o peer -lhealpix_cxx
 (cd ../crates/moc_bench && rt run < /dev/null > /dev/null 2>&1)
-for operation in read_a write_ascii write_json count union intersection difference complement degrade10 degrade13 \
-    ring13 ring29 nest13 nest29 near13 near29; do
+for operation in read_a write_ascii write_json count union intersection difference symmetric complement \
+    degrade10 degrade13 ring13 ring29 nest13 nest29 near13 near29 border13 border29; do
     printf 'moc     '
     (cat data/moc_a.txt; echo; cat data/moc_b.txt) | ../crates/moc_bench/out/moc_bench "$operation" 9
     printf 'cxx     '

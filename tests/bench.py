@@ -208,6 +208,7 @@ def sums():
     yield "union", count(normal(one + other))
     yield "intersection", count(intersection(one, other))
     yield "difference", count(intersection(one, complement(other)))
+    yield "symmetric", count(intersection(one, complement(other))) + count(intersection(other, complement(one)))
     yield "complement", SKY - count(one)
     for order in (10, 13):
         yield f"degrade{order}", count(degraded(one, order))
@@ -219,6 +220,9 @@ def sums():
         yield f"ring{order}", sum(ring_of(order, it) for it in numbers) % 2**64
         yield f"nest{order}", sum(nest_of(order, it) for it in numbers) % 2**64
         yield f"near{order}", sum(sum(near(order, it)) for it in numbers) % 2**64
+        random = random_numbers(2**64)
+        border = [nested_of(order, next(random) % 12, 0, next(random) % 2**order) for _ in range(NUMBERS)]
+        yield f"border{order}", sum(sum(near(order, it)) for it in border) % 2**64
     yield "turns", OPERATIONS
     for clients in (10, 1_000, 100_000):
         yield f"rounds{clients}", OPERATIONS // clients * clients

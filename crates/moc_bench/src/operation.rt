@@ -16,6 +16,7 @@ pub enum Operation {
     Union,
     Intersection,
     Difference,
+    Symmetric,
     Complement,
     Degrade(u8),
     WriteAscii,
@@ -23,6 +24,8 @@ pub enum Operation {
     Ring(u8),
     Nest(u8),
     Near(u8),
+    /// Touching cells of cells at the south-western border of a base pixel.
+    Border(u8),
     /// Steps by clients one after another.
     Turns,
     /// Steps in rounds of so many clients.
@@ -70,6 +73,7 @@ impl Operation {
             "union" => Some(Operation::Union),
             "intersection" => Some(Operation::Intersection),
             "difference" => Some(Operation::Difference),
+            "symmetric" => Some(Operation::Symmetric),
             "complement" => Some(Operation::Complement),
             "degrade10" => Some(Operation::Degrade(10)),
             "degrade13" => Some(Operation::Degrade(13)),
@@ -81,6 +85,8 @@ impl Operation {
             "nest29" => Some(Operation::Nest(29)),
             "near13" => Some(Operation::Near(13)),
             "near29" => Some(Operation::Near(29)),
+            "border13" => Some(Operation::Border(13)),
+            "border29" => Some(Operation::Border(29)),
             "turns" => Some(Operation::Turns),
             "rounds10" => Some(Operation::Rounds(10)),
             "rounds1000" => Some(Operation::Rounds(1_000)),
@@ -97,6 +103,7 @@ impl Operation {
                 random_cells(alloc, order, count.unwrap_or(10_000_000))
             }
             Operation::Near(order) => random_cells(alloc, order, count.unwrap_or(1_000_000)),
+            Operation::Border(order) => border_cells(alloc, order, count.unwrap_or(1_000_000)),
             _ => Ok(Vec::new(alloc)),
         }
     }
@@ -126,6 +133,24 @@ fn random_cells(alloc: Global, order: u8, count: u32) -> Result<Vec<u64>, AllocE
     Ok(cells)
 }
 
+/// Numbers of cells of an order with x = 0 in a base pixel: at its border.
+fn border_cells(alloc: Global, order: u8, count: u32) -> Result<Vec<u64>, AllocError> {
+    let mut cells = Vec::new(alloc);
+    let Some(order) = Order::new(order) else {
+        return Ok(cells);
+    };
+    let side = order.nside();
+    let mut random = Random::new();
+    for _ in 0..count {
+        let face = u8::try_from(random.below(12)).unwrap_or(0);
+        let y = u32::try_from(random.below(side)).unwrap_or(0);
+        if let Ok(cell) = Cell::from_face_xy(order, face, 0, y) {
+            cells.push(cell.index())?;
+        }
+    }
+    Ok(cells)
+}
+
 /// Does the operation once, and answers its checksum.
 pub fn answer(alloc: Global, operation: Operation, input: &Input<'_>) -> Result<u64> {
     let Input {
@@ -141,6 +166,7 @@ pub fn answer(alloc: Global, operation: Operation, input: &Input<'_>) -> Result<
         Operation::Union => a.union(alloc, b)?.count(),
         Operation::Intersection => a.intersection(alloc, b)?.count(),
         Operation::Difference => a.difference(alloc, b)?.count(),
+        Operation::Symmetric => a.symmetric(alloc, b)?.count(),
         Operation::Complement => a.complement(alloc)?.count(),
         Operation::Degrade(order) => match Order::new(order) {
             Some(order) => a.degrade(alloc, order)?.count(),
@@ -150,7 +176,7 @@ pub fn answer(alloc: Global, operation: Operation, input: &Input<'_>) -> Result<
         Operation::WriteJson => write_json(alloc, a, None)?.len() as u64,
         Operation::Ring(order) => rings(order, cells),
         Operation::Nest(order) => nests(order, cells),
-        Operation::Near(order) => touching(alloc, order, cells),
+        Operation::Near(order) | Operation::Border(order) => touching(alloc, order, cells),
         Operation::Turns | Operation::Rounds(_) => {
             let world = replay(alloc, &Coverage::empty(alloc), steps)?;
             world.order().len() as u64

@@ -164,7 +164,7 @@ differing_both kept kept' xs ys whole_xs whole_ys x y from to s at f t normal be
 
 -- ---- ranges that are carried over
 
-ends_both : (f g : ℕ) (rs : List (ℕ × ℕ)) → EndsBelow f rs → EndsBelow g rs → EndsBelow (min f g) rs
+pub ends_both : (f g : ℕ) (rs : List (ℕ × ℕ)) → EndsBelow f rs → EndsBelow g rs → EndsBelow (min f g) rs
 ends_both f g [] low high = tt
 ends_both f g (r ∷ rs) low high = (omega (arith, low.0, high.0), ends_both f g rs low.1 high.1)
 
@@ -173,7 +173,7 @@ alone_bool true all ys gone xs rest alone = ap (λ b. not b || (b && false)) (al
 alone_bool false all ys gone xs rest alone = rest
 
 -- ranges of the first list that end before the second's next one begins
-differs_gone : (gone xs ys : List (ℕ × ℕ)) (q : ℕ) → IsNormal ys → EndsBelow (next_of ys) gone → differs (in_ranges (gone ++ xs) q) (in_ranges ys q) ≡ (in_ranges gone q || differs (in_ranges xs q) (in_ranges ys q))
+pub differs_gone : (gone xs ys : List (ℕ × ℕ)) (q : ℕ) → IsNormal ys → EndsBelow (next_of ys) gone → differs (in_ranges (gone ++ xs) q) (in_ranges ys q) ≡ (in_ranges gone q || differs (in_ranges xs q) (in_ranges ys q))
 differs_gone [] xs ys q other below = refl
 differs_gone (r ∷ gone) xs ys q other below =
     let alone : in_range r q ≡ true → in_ranges ys q ≡ false = λ here. none_before ys q other (omega (arith, below.0, (range_from r q here).1)) in
@@ -205,7 +205,7 @@ pub differed_normal : (kept xs ys whole_xs whole_ys : List (ℕ × ℕ)) → IsD
 differed_normal kept xs ys whole_xs whole_ys s none =
     normal_append kept ys s.normal s.second_normal (EndsBelow-more (min (next_of xs) (next_of ys)) (next_of ys) kept s.below (omega arith))
 
-differs_none : (b : Bool) → b ≡ differs false b
+pub differs_none : (b : Bool) → b ≡ differs false b
 differs_none true = refl
 differs_none false = refl
 

@@ -22,6 +22,7 @@ pub mod Stepping
 pub mod Slices
 pub mod Shortening
 pub mod Differing
+pub mod Crossing
 pub mod Deepest
 pub mod Adding
 pub mod Replacing

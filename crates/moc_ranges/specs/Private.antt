@@ -9,5 +9,6 @@ pub mod Walks
 pub mod Gathered
 pub mod Few
 pub mod Differing
+pub mod Crossing
 pub mod Meeting
 pub mod Added

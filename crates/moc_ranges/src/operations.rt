@@ -1,6 +1,7 @@
 //! Operations on lists of ranges.
 
 pub mod carrying;
+pub mod crossing;
 pub mod difference;
 pub mod few;
 pub mod gaps;

@@ -1,0 +1,42 @@
+-- The bounds of ranges, of which an odd number lies at a number in a range or before it.
+use Rattle.std.specs.Prelude.{◌≡◌, ℕ, ◌+◌, ◌≤◌, Bool, false, List, [], ◌∷◌, ◌++◌, length, drop, Option, None, Some, nat_le, ⊤}
+use Rattle.moc_ranges.specs.Pixels.{pixel_count}
+use Rattle.moc_ranges.specs.RangeList.{IsNormal, in_ranges}
+use Rattle.moc_ranges.specs.Private.Differing.{differs}
+
+-- where ranges begin and end, one after the other
+abbrev pub bounds_of : List (ℕ × ℕ) → List ℕ
+bounds_of [] = []
+bounds_of (range ∷ ranges) = range.0 ∷ (range.1 ∷ bounds_of ranges)
+
+-- whether an odd number of bounds is at q or before it
+abbrev pub is_odd_at : List ℕ → ℕ → Bool
+is_odd_at [] q = false
+is_odd_at (bound ∷ bounds) q = differs (nat_le bound q) (is_odd_at bounds q)
+
+-- bounds rise, the first is at least `low`, and none is above the number of pixels
+abbrev pub Rises : ℕ → List ℕ → Type 0
+Rises low [] = ⊤
+Rises low (bound ∷ bounds) = (low ≤ bound) × (bound ≤ pixel_count) × Rises (bound + 1) bounds
+
+-- the bound that is open, if one is
+abbrev pub open_of : Option ℕ → List ℕ
+open_of None = []
+open_of (Some bound) = bound ∷ []
+
+-- bounds that are kept and those that are left of two lists: at a number where their number is odd just one of two whole
+-- lists has it
+pub record IsCrossing (kept xs ys : List ℕ) (whole_xs whole_ys : List (ℕ × ℕ)) : Type 0 where
+  pub first : Rises 0 (kept ++ xs)
+  pub second : Rises 0 (kept ++ ys)
+  pub same : (q : ℕ) → differs (is_odd_at (kept ++ xs) q) (is_odd_at ys q) ≡ differs (in_ranges whole_xs q) (in_ranges whole_ys q)
+
+-- how far a symmetric difference has come: of one list of the two, the next range may have begun where the open bound is
+pub record IsCrossed (kept : List (ℕ × ℕ)) (opened : Option ℕ) (first second : ℕ) (xs ys whole_xs whole_ys : List (ℕ × ℕ)) : Type 0 where
+  pub crossing : IsCrossing (bounds_of kept ++ open_of opened) (drop first (bounds_of xs)) (drop second (bounds_of ys)) whole_xs whole_ys
+  pub one : length (open_of opened) ≡ first + second
+  pub most : first + second ≤ 1
+  pub first_some : first ≤ length xs
+  pub second_some : second ≤ length ys
+  pub first_normal : IsNormal xs
+  pub second_normal : IsNormal ys
