@@ -1,22 +1,23 @@
 -- What just one of two lists of ranges has, bound by bound.
-use Rattle.std.proofs.Common.{◌≡◌, ℕ, zero, suc, ◌+◌, ◌-◌, ◌*◌, ◌/◌, ◌%◌, ◌<◌, ◌≤◌, Bool, true, false, not, ◌||◌, ◌&&◌, List, [], ◌∷◌, ◌++◌, Option, None, Some, length, get_or, take, drop, min, refl, sym, ap, subst, ◌∙◌, arith, append_assoc, length-append, inl, inr, ◌⊎◌}
+use Rattle.std.proofs.Common.{◌≡◌, ℕ, zero, suc, ◌+◌, ◌-◌, ◌*◌, ◌/◌, ◌%◌, ◌<◌, ◌≤◌, Bool, true, false, not, ◌||◌, ◌&&◌, List, [], ◌∷◌, ◌++◌, Option, None, Some, length, get_or, take, drop, min, refl, sym, ap, subst, ◌∙◌, arith, append_assoc, drop-drop, length-append, inl, inr, ◌⊎◌}
 use mir.Val.{bool_byte}
 use Rattle.std.specs.Prelude.{nat_eq, nat_le, nat_lt, slice_set}
 use Rattle.std.proofs.lemmas.Bool.{cases_lt, eq-eqb, le-leb, lt-leb, ne_eqb}
 use Rattle.std.proofs.lemmas.Bool.Decides.{nat_tests}
-use Rattle.std.proofs.lemmas.List.{drop-append-le, take-set, take_all}
+use Rattle.std.proofs.lemmas.List.{drop-append-le, length-drop, length-take, take-append-drop, take-set, take_all}
 use Rattle.std.proofs.lemmas.Grind.{take-set_at}
 use Rattle.std.proofs.Math.Seq.{drop-cons}
 use Rattle.moc_ranges.specs.Pixels.{pixel_count}
 use Rattle.moc_ranges.specs.RangeList.{IsNormal, BeginsAfter, in_range, in_ranges}
 use Rattle.moc_ranges.specs.Private.Blocks.{next_of}
-use Rattle.moc_ranges.specs.Private.Built.{EndsBelow}
+use Rattle.moc_ranges.specs.Private.Built.{CanCarry, EndsBelow}
 use Rattle.moc_ranges.specs.Private.Differing.{differs, IsDiffering}
-use Rattle.moc_ranges.specs.Private.Crossing.{bounds_of, is_odd_at, Rises, open_of, IsCrossing, IsCrossed}
+use Rattle.moc_ranges.specs.Private.Crossing.{bounds_of, is_odd_at, Rises, open_of, restored_of, IsCrossing, IsCrossed}
+use Rattle.moc_ranges.specs.Private.Walks.{begun}
 use Rattle.moc_ranges.proofs.Walking.{later_only}
 use Rattle.moc_ranges.proofs.Blocking.{IsNormal-prefix, IsNormal-suffix, nothing_more}
 use Rattle.moc_ranges.proofs.Merging.{normal_append, ends_next, EndsBelow-more}
-use Rattle.moc_ranges.proofs.Differing.{differs_gone, differs_none, differs_swap, ends_both}
+use Rattle.moc_ranges.proofs.Differing.{differs_gone, differs_none, differs_swap, differing_swap, ends_both}
 
 -- ---- of two things just one
 
@@ -330,3 +331,187 @@ restored_first kept b x xs ys wx wy s =
       first_normal = IsNormal-suffix kept ((b, x.1) ∷ xs) whole;
       second_normal = s.second_normal;
     })
+
+-- ---- where no bound is open
+
+pub apart_zero : (kept : List (ℕ × ℕ)) (bound : Option ℕ) (i j : ℕ) (xs ys wx wy : List (ℕ × ℕ)) → bound ≡ None → IsCrossed kept bound i j xs ys wx wy → (i ≡ 0) × (j ≡ 0)
+apart_zero kept bound i j xs ys wx wy is s =
+    let none : 0 ≡ i + j = ap (λ o. length (open_of o)) (sym is) ∙ s.one in
+    (omega (arith, none), omega (arith, none))
+
+pub apart_differing : (kept : List (ℕ × ℕ)) (bound : Option ℕ) (i j : ℕ) (xs ys wx wy : List (ℕ × ℕ)) → bound ≡ None → IsCrossed kept bound i j xs ys wx wy → IsDiffering kept xs ys wx wy
+apart_differing kept bound i j xs ys wx wy is s =
+    let z = apart_zero kept bound i j xs ys wx wy is s in
+    differing_of kept xs ys wx wy
+    (subst (λ n. IsCrossed kept None n 0 xs ys wx wy) z.0 (subst (λ n. IsCrossed kept None i n xs ys wx wy) z.1 (subst (λ o. IsCrossed kept o i j xs ys wx wy) is s)))
+
+pub apart_crossed : (kept : List (ℕ × ℕ)) (bound : Option ℕ) (i j : ℕ) (xs ys wx wy : List (ℕ × ℕ)) → bound ≡ None → (i ≡ 0) × (j ≡ 0) → IsDiffering kept xs ys wx wy → IsCrossed kept bound i j xs ys wx wy
+apart_crossed kept bound i j xs ys wx wy is z d =
+    subst (λ o. IsCrossed kept o i j xs ys wx wy) (sym is)
+    (subst (λ n. IsCrossed kept None i n xs ys wx wy) (sym z.1) (subst (λ n. IsCrossed kept None n 0 xs ys wx wy) (sym z.0) (crossing_of kept xs ys wx wy d)))
+
+pub can_first : (kept xs ys wx wy : List (ℕ × ℕ)) → IsDiffering kept xs ys wx wy → CanCarry xs kept
+can_first kept xs ys wx wy d = record { normal = d.first_normal; built = d.normal; after = EndsBelow-more (min (next_of xs) (next_of ys)) (next_of xs) kept d.below (omega arith) }
+
+-- ---- a block of either list
+
+rises_front : (xs ys : List ℕ) (low : ℕ) → Rises low (xs ++ ys) → Rises low xs
+rises_front [] ys low r = tt
+rises_front (x ∷ xs) ys low r = (r.0, r.1, rises_front xs ys (x + 1) r.2)
+
+pub take_rest : (l : List (ℕ × ℕ)) (n : ℕ) → take (length l - n) (drop n l) ≡ drop n l
+take_rest l n = take_all (length l - n) (drop n l) (omega (arith, length-drop n l))
+
+drop_none : (n : ℕ) (none : List ℕ) → none ≡ [] → drop n none ≡ []
+drop_none zero none is = is
+drop_none (suc n) none is = ap (drop (suc n)) is
+
+bounds_drop : (rs : List (ℕ × ℕ)) (n : ℕ) → bounds_of (drop n rs) ≡ drop (2 * n) (bounds_of rs)
+bounds_drop rs zero = refl
+bounds_drop [] (suc n) = sym (drop_none (2 * suc n) [] refl)
+bounds_drop (r ∷ rs) (suc n) =
+    let twice : 2 * suc n ≡ suc (suc (2 * n)) = omega arith in
+    bounds_drop rs n ∙ sym (ap (λ k. drop k (bounds_of (r ∷ rs))) twice)
+
+-- leading ranges of a list, and what is behind them
+pub front_of : (xs ranges front behind : List (ℕ × ℕ)) (i : ℕ) → ranges ++ behind ≡ xs → front ≡ take (length front) ranges → 0 < length front → i ≤ 1
+    → drop i (bounds_of xs) ≡ drop i (bounds_of front) ++ bounds_of (drop (length front) ranges ++ behind)
+front_of xs ranges front behind i is part some most =
+    let parts : xs ≡ front ++ (drop (length front) ranges ++ behind) =
+    sym is ∙ ap (λ l. l ++ behind) (sym (take-append-drop (length front) ranges)) ∙ append_assoc (take (length front) ranges) (drop (length front) ranges) behind
+    ∙ ap (λ l. l ++ (drop (length front) ranges ++ behind)) (sym part) in
+    ap (λ l. drop i (bounds_of l)) parts ∙ ap (drop i) (bounds-append front (drop (length front) ranges ++ behind))
+    ∙ drop-append-le i (bounds_of front) (bounds_of (drop (length front) ranges ++ behind)) (omega (arith, bounds_twice front))
+
+-- what is left of them
+pub rest_of_front : (ranges front behind : List (ℕ × ℕ)) (f : ℕ) → front ≡ take (length front) ranges → f ≤ 2 * length front
+    → drop (f % 2) (bounds_of (drop (f / 2) ranges ++ behind)) ≡ drop f (bounds_of front) ++ bounds_of (drop (length front) ranges ++ behind)
+rest_of_front ranges front behind f part within =
+    let n = f / 2 in
+    let later = drop (length front) ranges in
+    let ranges_are : ranges ≡ front ++ later = sym (take-append-drop (length front) ranges) ∙ ap (λ l. l ++ later) (sym part) in
+    let dropped : drop n ranges ≡ drop n front ++ later = ap (drop n) ranges_are ∙ drop-append-le n front later (omega arith) in
+    let parts : drop n ranges ++ behind ≡ drop n front ++ (later ++ behind) = ap (λ l. l ++ behind) dropped ∙ append_assoc (drop n front) later behind in
+    let bounds : bounds_of (drop n ranges ++ behind) ≡ drop (2 * n) (bounds_of front) ++ bounds_of (later ++ behind) =
+    ap bounds_of parts ∙ bounds-append (drop n front) (later ++ behind) ∙ ap (λ l. l ++ bounds_of (later ++ behind)) (bounds_drop front n) in
+    let left : f % 2 ≤ length (drop (2 * n) (bounds_of front)) = omega (arith, length-drop (2 * n) (bounds_of front), bounds_twice front) in
+    let all : 2 * n + f % 2 ≡ f = omega arith in
+    ap (drop (f % 2)) bounds ∙ drop-append-le (f % 2) (drop (2 * n) (bounds_of front)) (bounds_of (later ++ behind)) left
+    ∙ ap (λ l. l ++ bounds_of (later ++ behind)) (drop-drop (f % 2) (2 * n) (bounds_of front) ∙ ap (λ k. drop k (bounds_of front)) all)
+
+pub normal_next : (xs ranges behind : List (ℕ × ℕ)) (n : ℕ) → ranges ++ behind ≡ xs → IsNormal xs → IsNormal (drop n ranges ++ behind)
+normal_next xs ranges behind n is normal =
+    IsNormal-suffix (take n ranges) (drop n ranges ++ behind)
+    (subst IsNormal (sym (sym (append_assoc (take n ranges) (drop n ranges) behind) ∙ ap (λ l. l ++ behind) (take-append-drop n ranges) ∙ is)) normal)
+
+-- what a kernel does to the bounds of two blocks, whatever is behind them
+abbrev pub Crosses : Option ℕ → ℕ → ℕ → ℕ → ℕ → List (ℕ × ℕ) → List (ℕ × ℕ) → List ℕ → Type 0
+Crosses bound i j f g xs ys made = (kept behind_xs behind_ys : List ℕ) (whole_xs whole_ys : List (ℕ × ℕ))
+    → IsCrossing (kept ++ open_of bound) (drop i (bounds_of xs) ++ behind_xs) (drop j (bounds_of ys) ++ behind_ys) whole_xs whole_ys
+    → IsCrossing (kept ++ made) (drop f (bounds_of xs) ++ behind_xs) (drop g (bounds_of ys) ++ behind_ys) whole_xs whole_ys
+
+-- a list whose next block has some leading ranges
+pub record HasFront (xs ranges front behind : List (ℕ × ℕ)) : Type 0 where
+  pub parts : ranges ++ behind ≡ xs
+  pub leads : front ≡ take (length front) ranges
+  pub some : 0 < length front
+
+within_front : {xs ranges front behind : List (ℕ × ℕ)} → HasFront xs ranges front behind → length front ≤ length ranges
+within_front {ranges = ranges} {front = front} h = omega (arith, ap length h.leads, length-take (length front) ranges)
+
+pub kernel_crossing : (kept : List (ℕ × ℕ)) (bound : Option ℕ) (i j f g : ℕ) (xs ys rx ry fx fy bx by wx wy : List (ℕ × ℕ)) (made : List ℕ)
+    → IsCrossed kept bound i j xs ys wx wy → HasFront xs rx fx bx → HasFront ys ry fy by → Crosses bound i j f g fx fy made
+    → IsCrossing (bounds_of kept ++ made) (drop f (bounds_of fx) ++ bounds_of (drop (length fx) rx ++ bx)) (drop g (bounds_of fy) ++ bounds_of (drop (length fy) ry ++ by)) wx wy
+kernel_crossing kept bound i j f g xs ys rx ry fx fy bx by wx wy made s hx hy on =
+    on (bounds_of kept) (bounds_of (drop (length fx) rx ++ bx)) (bounds_of (drop (length fy) ry ++ by)) wx wy
+    (subst (λ l. IsCrossing (bounds_of kept ++ open_of bound) l (drop j (bounds_of fy) ++ bounds_of (drop (length fy) ry ++ by)) wx wy) (front_of xs rx fx bx i hx.parts hx.leads hx.some (omega (arith, s.most)))
+    (subst (λ l. IsCrossing (bounds_of kept ++ open_of bound) (drop i (bounds_of xs)) l wx wy) (front_of ys ry fy by j hy.parts hy.leads hy.some (omega (arith, s.most))) s.crossing))
+
+pub kernel_rises : (kept : List (ℕ × ℕ)) (xs ys made : List ℕ) (wx wy : List (ℕ × ℕ)) → IsCrossing (bounds_of kept ++ made) xs ys wx wy → Rises 0 (bounds_of kept ++ made)
+kernel_rises kept xs ys made wx wy s = rises_front (bounds_of kept ++ made) xs 0 s.first
+
+open_most : (bound : Option ℕ) → length (open_of bound) ≤ 1
+open_most None = omega arith
+open_most (Some b) = omega arith
+
+-- the numbers of bounds that were passed and kept
+parity : (f g made n a b k k' o : ℕ) → (f ≡ 2 * a) ⊎ (g ≡ 2 * b) → f + g ≡ made + 2 * n → o ≤ 1 → 2 * k' + o ≡ 2 * k + made → (o ≡ f % 2 + g % 2) × (f % 2 + g % 2 ≤ 1)
+parity f g made n a b k k' o (inl first) even most total = (omega arith, omega arith)
+parity f g made n a b k k' o (inr second) even most total = (omega arith, omega arith)
+
+pub crossed_next : (kept kept' : List (ℕ × ℕ)) (bound bound' : Option ℕ) (i j f g n : ℕ) (xs ys xs' ys' rx ry fx fy bx by wx wy : List (ℕ × ℕ)) (made : List ℕ)
+    → IsCrossed kept bound i j xs ys wx wy → HasFront xs rx fx bx → HasFront ys ry fy by → Crosses bound i j f g fx fy made
+    → (f ≡ 2 * length fx) ⊎ (g ≡ 2 * length fy) → f ≤ 2 * length fx → g ≤ 2 * length fy → f + g ≡ length made + 2 * n
+    → bounds_of kept' ++ open_of bound' ≡ bounds_of kept ++ made → xs' ≡ drop (f / 2) rx ++ bx → ys' ≡ drop (g / 2) ry ++ by
+    → IsCrossed kept' bound' (f % 2) (g % 2) xs' ys' wx wy
+crossed_next kept kept' bound bound' i j f g n xs ys xs' ys' rx ry fx fy bx by wx wy made s hx hy on ended fits_x fits_y even is ex ey =
+    let crossing = kernel_crossing kept bound i j f g xs ys rx ry fx fy bx by wx wy made s hx hy on in
+    let rest_x : drop f (bounds_of fx) ++ bounds_of (drop (length fx) rx ++ bx) ≡ drop (f % 2) (bounds_of xs') = sym (rest_of_front rx fx bx f hx.leads fits_x) ∙ ap (λ l. drop (f % 2) (bounds_of l)) (sym ex) in
+    let rest_y : drop g (bounds_of fy) ++ bounds_of (drop (length fy) ry ++ by) ≡ drop (g % 2) (bounds_of ys') = sym (rest_of_front ry fy by g hy.leads fits_y) ∙ ap (λ l. drop (g % 2) (bounds_of l)) (sym ey) in
+    let total : 2 * length kept' + length (open_of bound') ≡ 2 * length kept + length made =
+    omega (arith, ap length is, length-append (bounds_of kept') (open_of bound'), length-append (bounds_of kept) made, bounds_twice kept, bounds_twice kept') in
+    let odd = parity f g (length made) n (length fx) (length fy) (length kept) (length kept') (length (open_of bound')) ended even (open_most bound') total in
+    record {
+      crossing = subst (λ l. IsCrossing l (drop (f % 2) (bounds_of xs')) (drop (g % 2) (bounds_of ys')) wx wy) (sym is)
+          (subst (λ l. IsCrossing (bounds_of kept ++ made) l (drop (g % 2) (bounds_of ys')) wx wy) rest_x
+          (subst (λ l. IsCrossing (bounds_of kept ++ made) (drop f (bounds_of fx) ++ bounds_of (drop (length fx) rx ++ bx)) l wx wy) rest_y crossing));
+      one = odd.0;
+      most = odd.1;
+      first_some = omega (arith, ap length ex, length-append (drop (f / 2) rx) bx, length-drop (f / 2) rx, within_front hx, fits_x);
+      second_some = omega (arith, ap length ey, length-append (drop (g / 2) ry) by, length-drop (g / 2) ry, within_front hy, fits_y);
+      first_normal = subst IsNormal (sym ex) (normal_next xs rx bx (f / 2) hx.parts s.first_normal);
+      second_normal = subst IsNormal (sym ey) (normal_next ys ry by (g / 2) hy.parts s.second_normal);
+    }
+
+-- ---- what is left at the end
+
+restored_one : (kept : List (ℕ × ℕ)) (k : ℕ) (a b : Option (ℕ × ℕ)) (xs ys wx wy : List (ℕ × ℕ)) → IsCrossed kept (Some k) 1 0 (begun a xs) (begun b ys) wx wy → IsDiffering kept (begun (restored_of a 1 (Some k)) xs) (begun (restored_of b 0 (Some k)) ys) wx wy
+restored_one kept k None b xs ys wx wy s = absurd (omega (arith, s.first_some))
+restored_one kept k (Some x) None xs ys wx wy s = restored_first kept k x xs [] wx wy s
+restored_one kept k (Some x) (Some y) xs ys wx wy s = restored_first kept k x xs (y ∷ ys) wx wy s
+
+restored_apart : (a : Option (ℕ × ℕ)) (i : ℕ) → restored_of a i None ≡ a
+restored_apart None i = refl
+restored_apart (Some x) i = refl
+
+pub restored_all : (kept : List (ℕ × ℕ)) (bound : Option ℕ) (i j : ℕ) (a b : Option (ℕ × ℕ)) (xs ys wx wy : List (ℕ × ℕ)) → IsCrossed kept bound i j (begun a xs) (begun b ys) wx wy → IsDiffering kept (begun (restored_of a i bound) xs) (begun (restored_of b j bound) ys) wx wy
+restored_all kept None i j a b xs ys wx wy s =
+    subst (λ o. IsDiffering kept (begun o xs) (begun (restored_of b j None) ys) wx wy) (sym (restored_apart a i))
+    (subst (λ o. IsDiffering kept (begun a xs) (begun o ys) wx wy) (sym (restored_apart b j)) (apart_differing kept None i j (begun a xs) (begun b ys) wx wy refl s))
+restored_all kept (Some k) i j a b xs ys wx wy s = elim (cases_lt i 1) [
+  | inl lt ↦
+      let zero_i : i ≡ 0 = omega arith in
+      let one_j : j ≡ 1 = omega (arith, s.one) in
+      let at = subst (λ n. IsCrossed kept (Some k) n 1 (begun a xs) (begun b ys) wx wy) zero_i (subst (λ n. IsCrossed kept (Some k) i n (begun a xs) (begun b ys) wx wy) one_j s) in
+      let d = differing_swap _ _ _ _ _ (restored_one kept k b a ys xs wy wx (crossed_swap _ _ _ _ _ _ _ _ at)) in
+      subst (λ n. IsDiffering kept (begun (restored_of a n (Some k)) xs) (begun (restored_of b j (Some k)) ys) wx wy) (sym zero_i)
+      (subst (λ n. IsDiffering kept (begun (restored_of a 0 (Some k)) xs) (begun (restored_of b n (Some k)) ys) wx wy) (sym one_j) d)
+  | inr ge ↦
+      let one_i : i ≡ 1 = omega (arith, s.one) in
+      let zero_j : j ≡ 0 = omega (arith, s.one) in
+      let at = subst (λ n. IsCrossed kept (Some k) n 0 (begun a xs) (begun b ys) wx wy) one_i (subst (λ n. IsCrossed kept (Some k) i n (begun a xs) (begun b ys) wx wy) zero_j s) in
+      let d = restored_one kept k a b xs ys wx wy at in
+      subst (λ n. IsDiffering kept (begun (restored_of a n (Some k)) xs) (begun (restored_of b j (Some k)) ys) wx wy) (sym one_i)
+      (subst (λ n. IsDiffering kept (begun (restored_of a 1 (Some k)) xs) (begun (restored_of b n (Some k)) ys) wx wy) (sym zero_j) d)
+]
+
+-- where the first list has a range more, the second has none
+pub none_second : (a b : Option (ℕ × ℕ)) (i j : ℕ) (bound : Option ℕ) (x : ℕ × ℕ) (xs ys : List (ℕ × ℕ)) → (begun a xs ≡ []) ⊎ (begun b ys ≡ []) → restored_of a i bound ≡ Some x → restored_of b j bound ≡ None
+none_second None b i j bound x xs ys ended is = absurd (none_some is)
+  where
+    none_some : restored_of None i bound ≡ Some x → ⊥
+    none_some is = grind arith
+none_second (Some r) None i j bound x xs ys ended is = refl
+none_second (Some r) (Some s) i j bound x xs ys (inl none) is = absurd (omega (arith, ap length none))
+none_second (Some r) (Some s) i j bound x xs ys (inr none) is = absurd (omega (arith, ap length none))
+
+pub ended_differing : (kept : List (ℕ × ℕ)) (bound : Option ℕ) (i j : ℕ) (a b first second : Option (ℕ × ℕ)) (xs xs' ys ys' wx wy : List (ℕ × ℕ)) → begun a xs' ≡ xs → begun b ys' ≡ ys → first ≡ restored_of a i bound → second ≡ restored_of b j bound
+    → IsCrossed kept bound i j xs ys wx wy → IsDiffering kept (begun first xs') (begun second ys') wx wy
+ended_differing kept bound i j a b first second xs xs' ys ys' wx wy ex ey e f s =
+    let at = subst (λ l. IsCrossed kept bound i j l (begun b ys') wx wy) (sym ex) (subst (λ l. IsCrossed kept bound i j xs l wx wy) (sym ey) s) in
+    subst (λ o. IsDiffering kept (begun o xs') (begun second ys') wx wy) (sym e)
+    (subst (λ o. IsDiffering kept (begun (restored_of a i bound) xs') (begun o ys') wx wy) (sym f) (restored_all kept bound i j a b xs' ys' wx wy at))
+
+pub ended_begun : (a b : Option (ℕ × ℕ)) (xs xs' ys ys' : List (ℕ × ℕ)) → begun a xs' ≡ xs → begun b ys' ≡ ys → (xs ≡ []) ⊎ (ys ≡ []) → (begun a xs' ≡ []) ⊎ (begun b ys' ≡ [])
+ended_begun a b xs xs' ys ys' ex ey (inl none) = inl (ex ∙ none)
+ended_begun a b xs xs' ys ys' ex ey (inr none) = inr (ey ∙ none)

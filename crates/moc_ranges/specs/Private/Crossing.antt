@@ -1,5 +1,6 @@
 -- The bounds of ranges, of which an odd number lies at a number in a range or before it.
-use Rattle.std.specs.Prelude.{◌≡◌, ℕ, ◌+◌, ◌≤◌, Bool, false, List, [], ◌∷◌, ◌++◌, length, drop, Option, None, Some, nat_le, ⊤}
+use Rattle.std.specs.Prelude.{◌≡◌, ℕ, ◌+◌, ◌≤◌, Bool, false, List, [], ◌∷◌, ◌++◌, length, drop, Option, None, Some, nat_le, ⊤, ◌==◌}
+use Rattle.std.specs.Prelude.{if◌then◌else◌}
 use Rattle.moc_ranges.specs.Pixels.{pixel_count}
 use Rattle.moc_ranges.specs.RangeList.{IsNormal, in_ranges}
 use Rattle.moc_ranges.specs.Private.Differing.{differs}
@@ -40,3 +41,8 @@ pub record IsCrossed (kept : List (ℕ × ℕ)) (opened : Option ℕ) (first sec
   pub second_some : second ≤ length ys
   pub first_normal : IsNormal xs
   pub second_normal : IsNormal ys
+
+-- the next range of a list, which begins where the open bound is, where one of its bounds was passed
+abbrev pub restored_of : Option (ℕ × ℕ) → ℕ → Option ℕ → Option (ℕ × ℕ)
+restored_of (Some range) passed (Some bound) = if passed == 1 then Some (bound, range.1) else Some range
+restored_of range passed bound = range

@@ -32,7 +32,7 @@ fn carry_all(
 
 /// The same as `carry_all`.
 #[inline(always)]
-fn carry_below(
+pub fn carry_below(
     alloc: Global,
     xs: &mut Ranges<'_>,
     limit: u64,

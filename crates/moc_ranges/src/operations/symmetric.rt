@@ -1,17 +1,22 @@
 //! Symmetric difference of lists in blocks.
-ghost use Rattle.std.specs.Prelude.{◌≡◌, ◌<◌, ◌≤◌, ◌++◌, ◌∷◌, List, ℕ, length, min, IfOk};
+ghost use Rattle.std.specs.Bool.{OnTrue, OnFalse};
+ghost use Rattle.std.specs.Prelude.{◌≡◌, ◌+◌, ◌<◌, ◌≤◌, ◌++◌, ◌∷◌, ◌⊎◌, [], List, ℕ, length, min, take, IfOk, OnOk};
 ghost use Rattle.moc_ranges.specs.Pixels.{pixel_count};
 ghost use Rattle.moc_ranges.specs.Operations.{symmetric};
-ghost use Rattle.moc_ranges.specs.RangeList.{IsNormal, set_of};
+ghost use Rattle.moc_ranges.specs.RangeList.{IsNormal, in_ranges, set_of};
 ghost use Rattle.moc_ranges.specs.Private.Built.{ranges_of, EndsBelow};
 ghost use Rattle.moc_ranges.specs.Private.Walks.{begun};
-ghost use Rattle.moc_ranges.specs.Private.Differing.{IsDiffering, IsParted};
+ghost use Rattle.moc_ranges.specs.Private.Differing.{differs, IsDiffering, IsParted};
+ghost use Rattle.moc_ranges.specs.Private.Crossing.{restored_of, IsCrossed};
 
 use crate::list::RangeList;
+use crate::list::block::LONGEST;
 use crate::list::builder::ListBuilder;
 use crate::list::ranges::Ranges;
-use crate::operations::carrying::next_carrying;
+use crate::operations::carrying::{carry_below, next_carrying};
+use crate::operations::crossing::{BOUNDS, cross_begun, push_pairs};
 use crate::operations::difference::{push_part, start_of};
+use crate::operations::reach::are_even;
 use std::alloc::{AllocError, Global};
 
 /// Takes a range off both that ends before another, and adds what just one of the two has of it to what is built.
@@ -92,8 +97,8 @@ fn finish_differing(
     built.finish(alloc)
 }
 
-/// The pixels that the ranges of just one of two lists have.
-pub fn differ(
+/// The pixels that the ranges of just one of two lists have, range by range.
+fn differ_lists(
     alloc: Global,
     mut xs: Ranges<'_>,
     mut ys: Ranges<'_>,
@@ -124,4 +129,159 @@ pub fn differ(
         }
     }
     finish_differing(alloc, second, ys, built)
+}
+
+/// How many bounds of the next range of either list were passed, and the bound that is open where one was.
+#[derive(Clone, Copy)]
+struct Opened {
+    first: usize,
+    second: usize,
+    bound: Option<u64>,
+}
+
+/// The first ranges, up to as many as a block has.
+#[inline]
+fn leading(ranges: &[(u64, u64)]) -> &[(u64, u64)]
+    ensures part { result.now ≡ take (length result.now) ranges.entry.now }
+    ensures fits { length result.now ≤ LONGEST }
+    ensures some { 0 < length ranges.entry.now → 0 < length result.now }
+    ensures within { length result.now ≤ length ranges.entry.now }
+{
+    &ranges[..ranges.len().min(LONGEST)]
+}
+
+/// Makes what just one of the begun or next blocks of two lists has, until one of these has no more. Answers whether
+/// both lists had one.
+fn cross_blocks(
+    alloc: Global,
+    xs: &mut Ranges<'_>,
+    ys: &mut Ranges<'_>,
+    opened: &mut Opened,
+    room: &mut [u64; BOUNDS],
+    built: &mut ListBuilder,
+) -> Result<bool, AllocError>
+    requires started { (whole_xs : List (ℕ × ℕ)) × ((whole_ys : List (ℕ × ℕ)) × IsCrossed (ranges_of built.old)
+        opened.old.bound opened.old.first opened.old.second xs.old ys.old whole_xs whole_ys) }
+    ensures on { OnOk result ((whole_xs whole_ys : List (ℕ × ℕ)) → IsCrossed (ranges_of built.old)
+        opened.old.bound opened.old.first opened.old.second xs.old ys.old whole_xs whole_ys →
+        IsCrossed (ranges_of built.new) opened.new.bound opened.new.first opened.new.second xs.new ys.new
+        whole_xs whole_ys) }
+    ensures some { IfOk result (λ met. OnTrue met (length xs.new + length ys.new < length xs.old + length ys.old)) }
+    ensures none { IfOk result (λ met. OnFalse met ((xs.new ≡ []) ⊎ (ys.new ≡ []))) }
+{
+    let Some(first) = xs.next_block() else {
+        return Ok(false);
+    };
+    let Some(second) = ys.next_block() else {
+        return Ok(false);
+    };
+    let crossed = cross_begun(
+        leading(first.ranges),
+        leading(second.ranges),
+        (opened.first, opened.second),
+        opened.bound,
+        room,
+    );
+    opened.bound = push_pairs(alloc, &room[..crossed.made], built)?;
+    opened.first = crossed.first % 2;
+    opened.second = crossed.second % 2;
+    xs.resume(&first.ranges[crossed.first / 2..], first.behind);
+    ys.resume(&second.ranges[crossed.second / 2..], second.behind);
+    Ok(true)
+}
+
+/// Carries over the next nodes and blocks of either list that end before the other's next range, where none is begun.
+fn carry_apart(
+    alloc: Global,
+    xs: &mut Ranges<'_>,
+    ys: &mut Ranges<'_>,
+    opened: &Opened,
+    built: &mut ListBuilder,
+) -> Result<(), AllocError>
+    requires started { (whole_xs : List (ℕ × ℕ)) × ((whole_ys : List (ℕ × ℕ)) × IsCrossed (ranges_of built.old)
+        opened.now.bound opened.now.first opened.now.second xs.old ys.old whole_xs whole_ys) }
+    ensures on { OnOk result ((whole_xs whole_ys : List (ℕ × ℕ)) → IsCrossed (ranges_of built.old)
+        opened.now.bound opened.now.first opened.now.second xs.old ys.old whole_xs whole_ys →
+        IsCrossed (ranges_of built.new) opened.now.bound opened.now.first opened.now.second xs.new ys.new
+        whole_xs whole_ys) }
+    ensures fewer { OnOk result (length xs.new + length ys.new ≤ length xs.old + length ys.old) }
+{
+    let None = opened.bound else {
+        return Ok(());
+    };
+    carry_below(alloc, xs, ys.next_from(), built)?;
+    carry_below(alloc, ys, xs.next_from(), built)?;
+    Ok(())
+}
+
+/// The next range of a list, which begins where the open bound is, where one of its bounds was passed.
+#[inline]
+fn restored(range: Option<(u64, u64)>, passed: usize, bound: Option<u64>) -> Option<(u64, u64)>
+    ensures { result ≡ restored_of range passed bound }
+{
+    match (range, bound) {
+        (Some(range), Some(bound)) if passed == 1 => Some((bound, range.1)),
+        _ => range,
+    }
+}
+
+/// The list of what is built, and of what is left of the list that has more.
+fn finish_crossing(
+    alloc: Global,
+    mut xs: Ranges<'_>,
+    mut ys: Ranges<'_>,
+    opened: Opened,
+    built: ListBuilder,
+) -> Result<RangeList, AllocError>
+    requires started { (whole_xs : List (ℕ × ℕ)) × ((whole_ys : List (ℕ × ℕ)) × IsCrossed (ranges_of built)
+        opened.bound opened.first opened.second xs ys whole_xs whole_ys) }
+    requires ended { (xs ≡ []) ⊎ (ys ≡ []) }
+    ensures { IfOk result (λ l. (whole_xs whole_ys : List (ℕ × ℕ)) → IsCrossed (ranges_of built)
+        opened.bound opened.first opened.second xs.entry ys.entry whole_xs whole_ys →
+        (q : ℕ) → in_ranges l q ≡ differs (in_ranges whole_xs q) (in_ranges whole_ys q)) }
+{
+    let first = restored(xs.next(), opened.first, opened.bound);
+    let second = restored(ys.next(), opened.second, opened.bound);
+    match first {
+        None => finish_differing(alloc, second, ys, built),
+        Some(_) => finish_differing(alloc, first, xs, built),
+    }
+}
+
+/// The pixels that the ranges of just one of two lists have, block by block.
+fn differ_blocks(
+    alloc: Global,
+    mut xs: Ranges<'_>,
+    mut ys: Ranges<'_>,
+) -> Result<RangeList, AllocError>
+    requires xs { IsNormal xs }
+    requires ys { IsNormal ys }
+    ensures { IfOk result (λ l. set_of l ≡ symmetric (set_of xs.entry) (set_of ys.entry)) }
+{
+    let mut built = ListBuilder::new(alloc, xs.room() + ys.room())?;
+    let mut room = [0; BOUNDS];
+    let mut opened = Opened {
+        first: 0,
+        second: 0,
+        bound: None,
+    };
+    loop {
+        carry_apart(alloc, &mut xs, &mut ys, &opened, &mut built)?;
+        let met = cross_blocks(alloc, &mut xs, &mut ys, &mut opened, &mut room, &mut built)?;
+        if !met {
+            return finish_crossing(alloc, xs, ys, opened, built);
+        }
+    }
+}
+
+/// The pixels that the ranges of just one of two lists have.
+pub fn differ(alloc: Global, xs: Ranges<'_>, ys: Ranges<'_>) -> Result<RangeList, AllocError>
+    requires xs { IsNormal xs }
+    requires ys { IsNormal ys }
+    ensures { IfOk result (λ l. set_of l ≡ symmetric (set_of xs.entry) (set_of ys.entry)) }
+{
+    if are_even(&xs, &ys) {
+        return differ_blocks(alloc, xs, ys);
+    }
+    differ_lists(alloc, xs, ys)
 }

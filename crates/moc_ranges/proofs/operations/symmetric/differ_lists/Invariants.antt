@@ -2,7 +2,7 @@ use Rattle.std.proofs.Common.{◌+◌, length}
 use Rattle.moc_ranges.specs.Private.Walks.{begun}
 use Rattle.moc_ranges.specs.Private.Built.{ranges_of}
 use Rattle.moc_ranges.specs.Private.Differing.{IsDiffering}
-use Rattle.moc_ranges.proofs.operations.symmetric.differ.Given as goal
+use Rattle.moc_ranges.proofs.operations.symmetric.differ_lists.Given as goal
 
 abbrev pub invariant-loop-first : goal.invariant-loop-first
 invariant-loop-first l = IsDiffering (ranges_of l.built) (begun l.first l.xs) (begun l.second l.ys) l.fn.xs l.fn.ys

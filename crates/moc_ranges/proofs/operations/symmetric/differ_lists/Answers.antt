@@ -7,7 +7,7 @@ use Rattle.moc_ranges.specs.Private.Differing.{IsDiffering}
 use Rattle.moc_ranges.proofs.Merging.{EndsBelow-more}
 use Rattle.moc_ranges.proofs.Walking.{at_both}
 use Rattle.moc_ranges.proofs.Differing.{differs_swap, differs_view, differed, differed_normal, differing_both, differing_carried, differing_start, differing_swap}
-use Rattle.moc_ranges.proofs.operations.symmetric.differ.Goals as goal
+use Rattle.moc_ranges.proofs.operations.symmetric.differ_lists.Goals as goal
 
 pub loop-first-init : goal.loop-first-init
 loop-first-init c =
