@@ -53,6 +53,7 @@ pub(crate) fn find_range(ranges: &[(u64, u64)], pixel: u64, steps: &mut Steps) -
     requires fits { length ranges.now ≤ 128 }
     requires room { steps.old < 9223372036854775900 }
     ensures found { result ≡ in_ranges ranges.now pixel }
+    ensures rises { steps.old ≤ steps.new }
     ensures cost { (d : ℕ) → length ranges.now < 2 ^ d → steps.new ≤ steps.old + d }
 {
     let mut low = 0;
@@ -106,6 +107,7 @@ pub(crate) fn find_block(nodes: &[Node], pixel: u64, steps: &mut Steps) -> bool
     requires stored { AreStored (joining nodes.now) }
     requires room { steps.old < 9223372036854775808 }
     ensures found { result ≡ in_ranges (joining (joining nodes.now)) pixel }
+    ensures rises { steps.old ≤ steps.new }
     ensures cost { (d : ℕ) → length (joining nodes.now) < 2 ^ d → steps.new ≤ steps.old + d + 8 }
 {
     let mut low = 0;
