@@ -4,7 +4,7 @@ use Rattle.std.specs.Prelude.{slice_set}
 use Rattle.std.proofs.lemmas.List.{take_more, drop_more, take-append-drop}
 use Rattle.std.proofs.lemmas.List.Sorted.{IsPartitionedBy-leb}
 use Rattle.std.specs.List.Sorted.{IsNonDecreasingBy, IsPartitionPoint, IsPartitionedBy}
-use Rattle.moc_ranges.specs.Private.Blocks.{joining, starts_from, IsBegun}
+use Rattle.moc_ranges.specs.Private.Blocks.{joining, starts_from, IsCountBegun}
 use Rattle.moc_ranges.proofs.Stepping.{nodes_taken, blocks_done}
 
 -- as many starts as lists
@@ -69,7 +69,7 @@ starts_rise ns = λ i j d le lt.
 pub starts_parted : (ns : List (List (List (ℕ × ℕ)))) (starts : List ℕ) (place : ℕ) → starts ≡ starts_from 0 ns → IsPartitionedBy (λ x. leb x place) starts
 starts_parted ns starts place is = IsPartitionedBy-leb (λ (x : ℕ). x) starts place (subst (λ (l : List ℕ). IsNonDecreasingBy (λ (x : ℕ). x) l) (sym is) (starts_rise ns))
 
-pub begun_at : (ns : List (List (List (ℕ × ℕ)))) (starts : List ℕ) (place begun : ℕ) → starts ≡ starts_from 0 ns → begun ≤ length starts → IsPartitionPoint (λ y. leb y place ≡ true) (λ y. leb y place ≡ false) starts begun → IsBegun ns place begun
+pub begun_at : (ns : List (List (List (ℕ × ℕ)))) (starts : List ℕ) (place begun : ℕ) → starts ≡ starts_from 0 ns → begun ≤ length starts → IsPartitionPoint (λ y. leb y place ≡ true) (λ y. leb y place ≡ false) starts begun → IsCountBegun ns place begun
 begun_at ns starts place begun is bound point =
     let many : length starts ≡ length ns = ap length is ∙ starts_length 0 ns in
     let at = λ (k : ℕ) (lt : k < length ns). ap (λ (l : List ℕ). get_or l k 0) is ∙ starts_at 0 ns k 0 lt in
@@ -90,14 +90,14 @@ begun_at ns starts place begun is bound point =
 count_here : (ns : List (List (List (ℕ × ℕ)))) (starts : List ℕ) (i start : ℕ) → starts ≡ starts_from 0 ns → i < length ns → start ≡ get_or starts i start → start ≡ length (joining (take i ns))
 count_here ns starts i start is lt at = at ∙ ap (λ (l : List ℕ). get_or l i start) is ∙ starts_at 0 ns i start lt ∙ omega arith
 
-pub start_here : (ns value : List (List (List (ℕ × ℕ)))) (starts : List ℕ) (place begun start : ℕ) → starts ≡ starts_from 0 ns → ns ≡ value → IsBegun value place begun → (begun ≡ 0 → ⊥) → start ≡ get_or starts (begun - 1) start → (start ≡ length (joining (take (begun - 1) value))) × (start ≤ place)
+pub start_here : (ns value : List (List (List (ℕ × ℕ)))) (starts : List ℕ) (place begun start : ℕ) → starts ≡ starts_from 0 ns → ns ≡ value → IsCountBegun value place begun → (begun ≡ 0 → ⊥) → start ≡ get_or starts (begun - 1) start → (start ≡ length (joining (take (begun - 1) value))) × (start ≤ place)
 start_here ns value starts place begun start is same b some at =
     let bound = b.bound in
     let inside : begun - 1 < length ns = omega (arith, ap length same) in
     let here = count_here ns starts (begun - 1) start is inside at ∙ ap (λ (l : List (List (List (ℕ × ℕ)))). length (joining (take (begun - 1) l))) same in
     (here, omega (arith, here, b.before (omega arith)))
 
-pub inside_starts : (ns value : List (List (List (ℕ × ℕ)))) (starts : List ℕ) (place begun : ℕ) → starts ≡ starts_from 0 ns → ns ≡ value → IsBegun value place begun → (begun ≡ 0 → ⊥) → (begun - 1 < length starts) × (begun - 1 < length ns) × (begun - 1 < length value)
+pub inside_starts : (ns value : List (List (List (ℕ × ℕ)))) (starts : List ℕ) (place begun : ℕ) → starts ≡ starts_from 0 ns → ns ≡ value → IsCountBegun value place begun → (begun ≡ 0 → ⊥) → (begun - 1 < length starts) × (begun - 1 < length ns) × (begun - 1 < length value)
 inside_starts ns value starts place begun is same b some =
     let bound = b.bound in
     let many = ap length is ∙ starts_length 0 ns in
@@ -114,12 +114,12 @@ count_all ns starts count start node is many some at there =
     omega (arith, here, taken.0, done)
 
 -- no node begins by the place, as there is none
-pub none_begun : (ns : List (List (List (ℕ × ℕ)))) (place begun : ℕ) → IsBegun ns place begun → begun ≡ 0 → length (joining ns) ≤ place
+pub none_begun : (ns : List (List (List (ℕ × ℕ)))) (place begun : ℕ) → IsCountBegun ns place begun → begun ≡ 0 → length (joining ns) ≤ place
 none_begun [] place begun b none = omega arith
 none_begun (n ∷ ns) place begun b none = let more = b.behind (omega arith) in absurd (omega (arith, more, ap (λ k. length (joining (take k (n ∷ ns)))) none))
 
 -- a node begins by the place, and has too few blocks: it is the last
-pub none_left : (ns : List (List (List (ℕ × ℕ)))) (place begun start : ℕ) (node : List (List (ℕ × ℕ))) → IsBegun ns place begun → 0 < begun → node ≡ get_or ns (begun - 1) node → start ≡ length (joining (take (begun - 1) ns)) → length node ≤ place - start → length (joining ns) ≤ place
+pub none_left : (ns : List (List (List (ℕ × ℕ)))) (place begun start : ℕ) (node : List (List (ℕ × ℕ))) → IsCountBegun ns place begun → 0 < begun → node ≡ get_or ns (begun - 1) node → start ≡ length (joining (take (begun - 1) ns)) → length node ≤ place - start → length (joining ns) ≤ place
 none_left ns place begun start node b some there at short =
     let bound = b.bound in
     let inside : begun - 1 < length ns = omega arith in

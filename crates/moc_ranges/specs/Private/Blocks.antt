@@ -67,8 +67,8 @@ abbrev pub starts_from : {X : Type 0} → ℕ → List (List X) → List ℕ
 starts_from n [] = []
 starts_from n (list ∷ lists) = n ∷ starts_from (n + length list) lists
 
--- so many of some lists begin by a place among the elements of them all
-pub record IsBegun {X : Type 0} (lists : List (List X)) (place begun : ℕ) : Type 0 where
+-- so many of some lists begin by a place among the elements of them all, and the next behind it
+pub record IsCountBegun {X : Type 0} (lists : List (List X)) (place begun : ℕ) : Type 0 where
   pub bound : begun ≤ length lists
   pub before : 0 < begun → length (joining (take (begun - 1) lists)) ≤ place
   pub behind : begun < length lists → place < length (joining (take begun lists))

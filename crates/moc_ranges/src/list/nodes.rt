@@ -3,7 +3,7 @@ ghost use Rattle.std.specs.Prelude.{◌≡◌, ◌+◌, ◌<◌, ◌≤◌, ◌+
 ghost use Rattle.std.specs.Prelude.{None, IfOk, MatchOption, OnErr, OnOk};
 ghost use Rattle.std.specs.Bool.{OnTrue};
 ghost use Rattle.moc_ranges.specs.Pixels.{pixel_count};
-ghost use Rattle.moc_ranges.specs.Private.Blocks.{joining, starts_from, AreStored, IsBegun, IsStored};
+ghost use Rattle.moc_ranges.specs.Private.Blocks.{joining, starts_from, AreStored, IsCountBegun, IsStored};
 ghost use Rattle.moc_ranges.specs.Private.Added.{with_second, HasGrown};
 
 use crate::list::added::{Renewed, insert_in_place, put_nodes, put_one, renew};
@@ -108,12 +108,13 @@ impl Nodes {
 
     /// How many nodes begin by this place of all blocks. O(log n).
     fn count_begun(&self, place: usize) -> usize
-        ensures { IsBegun self.now place result }
+        ensures { IsCountBegun self.now place result }
     {
         self.starts.partition_point(|start| *start <= place)
     }
 
-    /// The block at this place of all blocks, if there is one. O(log n).
+    /// The block at this place of all blocks, if there is one: it lies in the last node that begins by the place.
+    /// O(log n).
     pub fn block_at(&self, place: usize) -> Option<&Block>
         ensures { MatchOption result (length (joining self.entry.now) ≤ place) (λ b.
             (place < length (joining self.entry.now)) × (b.now ≡ get_or (joining self.entry.now) place b.now)) }

@@ -72,8 +72,8 @@ pub(crate) fn find_range(ranges: &[(u64, u64)], pixel: u64, steps: &mut Steps) -
     false
 }
 
-/// Whether a block of the nodes has the pixel. It halves all their blocks: to go from a node to its
-/// blocks would take a step too many where the nodes are not full.
+/// Whether a block of the nodes has the pixel. It halves all their blocks by their numbers: to go from a node to its
+/// blocks would take a step too many where the nodes are not full. Finding a block by its number compares no pixel.
 pub(crate) fn find_block(nodes: &Nodes, pixel: u64, steps: &mut Steps) -> bool
     requires stored { AreStored (joining nodes.now) }
     requires room { steps.old < 9223372036854775808 }
