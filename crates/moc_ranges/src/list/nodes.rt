@@ -160,7 +160,8 @@ impl Nodes {
     ) -> Result<(), AllocError>
         requires place { place < length self.old }
         requires stored { IsStored [] (take place self.old ++ (with_second first second ++ drop (place + 1) self.old)) }
-        ensures new { OnOk result (self.new ≡ take place self.old ++ (with_second first second ++ drop (place + 1) self.old)) }
+        ensures new { OnOk result (self.new
+            ≡ take place self.old ++ (with_second first second ++ drop (place + 1) self.old)) }
         ensures unchanged { OnErr result (self.new ≡ self.old) }
     {
         if are_as_many(&self.nodes[place], &first, &second) {
@@ -173,8 +174,8 @@ impl Nodes {
         Ok(())
     }
 
-    /// Adds a range where that changes one block alone, and tells how many numbers are new. None where it does not, or a
-    /// rule of lengths would be broken; the nodes then are as they were.
+    /// Adds a range where that changes one block alone, and tells how many numbers are new. None where it does not, or
+    /// a rule of lengths would be broken; the nodes then are as they were.
     pub fn insert(&mut self, alloc: Global, from: u64, to: u64) -> Result<Option<u64>, AllocError>
         requires stored { IsStored [] self.old }
         requires filled { from < to }
