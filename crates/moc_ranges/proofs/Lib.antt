@@ -19,6 +19,7 @@ pub mod Passing
 pub mod CarriedOver
 pub mod Looking
 pub mod Stepping
+pub mod Places
 pub mod Slices
 pub mod Shortening
 pub mod Differing

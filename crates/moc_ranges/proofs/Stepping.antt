@@ -64,6 +64,7 @@ pub record IsNarrowed (before after : List (ℕ × ℕ)) (q low high len start s
   pub within : high ≤ len
   pub none_before : in_ranges before q ≡ false
   pub none_after : in_ranges after q ≡ false
+  pub risen : start ≤ steps
   pub spent : (d : ℕ) → len < 2 ^ d → (e : ℕ) × ((high - low < 2 ^ e) × (steps + e ≤ start + d))
 
 power : (e : ℕ) → 2 ^ suc e ≡ 2 * 2 ^ e
@@ -152,6 +153,7 @@ narrow_left before after after' q low high len start steps steps' n lt none e =
       within = omega arith;
       none_before = n.none_before;
       none_after = none;
+      risen = omega (arith, n.risen, e);
       spent = λ d lt. let m = more d lt in (m.0, (m.1.0, omega (arith, m.1.1)));
     }
 
@@ -164,6 +166,7 @@ narrow_right before before' after q low high len start steps steps' n lt none e 
       within = omega arith;
       none_before = none;
       none_after = n.none_after;
+      risen = omega (arith, n.risen, e);
       spent = λ d lt. let m = more d lt in (m.0, (m.1.0, omega (arith, m.1.1)));
     }
 
@@ -251,8 +254,8 @@ pub found_few : (few : List (ℕ × ℕ)) (nodes : List (List (List (ℕ × ℕ)
 found_few few nodes a q is s some =
     sym (contains-set_of few q) ∙ ap (λ (l : List (ℕ × ℕ)). set.contains (set_of l) q) (sym (few_alone few nodes s some)) ∙ ap (λ s. set.contains s q) is
 
-pub cost_few : (few : List (ℕ × ℕ)) (nodes : List (List (List (ℕ × ℕ)))) (a : NumberSet) (old new : ℕ) → set_of (rest_of few [] nodes) ≡ a → IsStored few nodes → 0 < length few → ((d : ℕ) → length few < 2 ^ d → new ≤ old + d) → IsSearchOf a old new
-cost_few few nodes a old new is s some cost =
+pub cost_few : (few : List (ℕ × ℕ)) (nodes : List (List (List (ℕ × ℕ)))) (a : NumberSet) (old new : ℕ) → set_of (rest_of few [] nodes) ≡ a → IsStored few nodes → 0 < length few → old ≤ new → ((d : ℕ) → length few < 2 ^ d → new ≤ old + d) → IsSearchOf a old new
+cost_few few nodes a old new is s some rises cost =
     let alone = few_alone few nodes s some in
     let fits = s.fits in
     let small : length few < 2 ^ 8 = omega arith in
@@ -264,5 +267,6 @@ cost_few few nodes a old new is s some cost =
         normal = subst IsNormal (alone ∙ sym (nothing_more few)) s.normal;
         set = ap set_of (nothing_more few ∙ sym alone) ∙ is;
       };
+      rises = rises;
       cost = λ digits lt. omega (arith, most);
     }

@@ -28,9 +28,10 @@ pub record AreBlocksOf (a : NumberSet) (blocks : List (List (ℕ × ℕ))) : Typ
   pub normal : IsNormal (joining blocks)
   pub set : set_of (joining blocks) ≡ a
 
--- a search counted on from `old` to `new`: at most 8 more than the number of blocks has binary
--- digits, for some blocks that keep the set
+-- a search counted on from `old` to `new`: it takes none back, and adds at most 8 more than the number of blocks has
+-- binary digits, for some blocks that keep the set
 pub record IsSearchOf (a : NumberSet) (old new : ℕ) : Type 0 where
   pub blocks : List (List (ℕ × ℕ))
   pub kept : AreBlocksOf a blocks
+  pub rises : old ≤ new
   pub cost : (digits : ℕ) → length blocks < 2 ^ digits → new ≤ old + digits + 8

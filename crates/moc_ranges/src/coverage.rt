@@ -93,8 +93,9 @@ impl Coverage {
         }
     }
 
-    /// The same as `contains`, and counts each comparison of the pixel with the bounds of a range or
-    /// a chunk: at most the binary digits of the number of chunks, and 8.
+    /// The same as `contains`, and counts each comparison of the pixel with the bounds of a range or a chunk: at most the
+    /// binary digits of the number of chunks, and 8. Not counted is how a chunk is found by its number, by comparisons of
+    /// numbers of chunks. O((log n)²), takes no memory.
     pub fn contains_counting(&self, pixel: u64, steps: &mut Steps) -> bool
         requires { steps.old < 9223372036854775808 }
         ensures found { result ≡ set.contains self.now pixel }

@@ -15,15 +15,17 @@ pub mod chunks;
 pub mod kept;
 pub mod lengths;
 pub mod node;
+pub mod nodes;
 pub mod ranges;
 pub mod runs;
 pub mod search;
 pub mod steps;
 
-use crate::list::added::{insert_few, insert_in_nodes};
+use crate::list::added::insert_few;
 use crate::list::block::measure_ranges;
 use crate::list::chunks::Chunks;
-use crate::list::node::{Node, measure_nodes, share_nodes};
+use crate::list::node::{Node, measure_nodes};
+use crate::list::nodes::Nodes;
 use crate::list::ranges::Ranges;
 use crate::list::search::{range_of_nodes_past, range_past};
 use crate::list::steps::{Steps, find_block, find_range};
@@ -39,7 +41,7 @@ use std::marker::Model;
 pub struct RangeList {
     /// The ranges of a list that has no nodes.
     few: Vec<(u64, u64)>,
-    nodes: Vec<Node>,
+    nodes: Nodes,
 }
 
 impl Model for RangeList {
@@ -48,9 +50,9 @@ impl Model for RangeList {
 
     ghost Value = { List (ℕ × ℕ) };
 
-    ghost view = { λ l. rest_of l.few.items [] l.nodes.items };
+    ghost view = { λ l. rest_of l.few.items [] l.nodes };
 
-    ghost invariant = { λ l. IsStored l.few.items l.nodes.items };
+    ghost invariant = { λ l. IsStored l.few.items l.nodes };
 }
 
 impl RangeList {
@@ -61,7 +63,7 @@ impl RangeList {
     {
         Self {
             few: Vec::new(alloc),
-            nodes: Vec::new(alloc),
+            nodes: Nodes::none(alloc),
         }
     }
 
@@ -74,17 +76,33 @@ impl RangeList {
         let few = [(from, to)].to_vec(alloc)?;
         Ok(Self {
             few,
-            nodes: Vec::new(alloc),
+            nodes: Nodes::none(alloc),
         })
     }
 
-    /// The ranges that are kept in this way.
+    /// Few ranges. Takes no memory.
     #[inline]
-    pub fn from_stored(few: Vec<(u64, u64)>, nodes: Vec<Node>) -> Self
-        requires { IsStored few.items nodes.items }
-        ensures { result ≡ rest_of few.items [] nodes.items }
+    pub fn of_few(alloc: Global, few: Vec<(u64, u64)>) -> Self
+        requires { IsStored few.items [] }
+        ensures { result ≡ rest_of few.items [] [] }
     {
-        Self { few, nodes }
+        Self {
+            few,
+            nodes: Nodes::none(alloc),
+        }
+    }
+
+    /// The ranges of these nodes. Takes a number for each.
+    #[inline]
+    pub fn of_nodes(alloc: Global, nodes: Vec<Node>) -> Result<Self, AllocError>
+        requires { IsStored [] nodes.items }
+        ensures { IfOk result (λ l. l ≡ rest_of [] [] nodes.items) }
+    {
+        let nodes = Nodes::new(alloc, nodes)?;
+        Ok(Self {
+            few: Vec::new(alloc),
+            nodes,
+        })
     }
 
     /// The ranges, one after the other. Takes no memory.
@@ -93,7 +111,7 @@ impl RangeList {
         ensures list { result ≡ self.now }
         ensures normal { IsNormal self.now }
     {
-        Ranges::new(&self.few, &self.nodes)
+        Ranges::new(&self.few, self.nodes.all())
     }
 
     /// The ranges as they are kept: in chunks of 1 to 128, of which two side by side have together more than 128.
@@ -103,7 +121,7 @@ impl RangeList {
         ensures normal { IsNormal self.now }
         ensures sized { AreBlocks result }
     {
-        Chunks::new(&self.few, &self.nodes)
+        Chunks::new(&self.few, self.nodes.all())
     }
 
     /// How many numbers the ranges have. The sizes that nodes keep are added up.
@@ -112,7 +130,7 @@ impl RangeList {
         ensures value { result ≡ width_of self.now }
         ensures normal { IsNormal self.now }
     {
-        measure_ranges(&self.few) + measure_nodes(&self.nodes)
+        measure_ranges(&self.few) + measure_nodes(self.nodes.all())
     }
 
     /// The first range that ends after the limit, if there is one. O(log n).
@@ -121,13 +139,14 @@ impl RangeList {
         ensures found { MatchOption result (EndsBy limit self.now) (λ range. IsFirstPast limit (range ∷ []) self.now) }
         ensures normal { IsNormal self.now }
     {
-        match &self.nodes[..] {
+        match self.nodes.all() {
             [] => range_past(&self.few, limit),
             nodes => range_of_nodes_past(nodes, limit),
         }
     }
 
-    /// Whether a range has the number; counts each comparison with the bounds of a range or a chunk.
+    /// Whether a range has the number; counts each comparison with the bounds of a range or a chunk, and not those of
+    /// numbers of chunks by which a chunk is found. O((log n)²).
     #[inline]
     pub fn contains_counting(&self, pixel: u64, steps: &mut Steps) -> bool
         requires { steps.old < 9223372036854775808 }
@@ -147,14 +166,14 @@ impl RangeList {
         ensures normal { IsNormal self.now }
     {
         let few = self.few.to_vec(alloc)?;
-        let nodes = share_nodes(alloc, &self.nodes)?;
+        let nodes = self.nodes.share(alloc)?;
         Ok(Self { few, nodes })
     }
 
     /// Adds a range where that changes one block alone, and tells how many numbers are new: the block is made anew, in
     /// the list of its node where nobody else has that and it stays one block, and else with the pointers to the node's
     /// others. None where it does not, or a rule of lengths would be broken; the list then is as it was. O(log n), but
-    /// for the nodes that move by a place where theirs is cut in two.
+    /// for the numbers of blocks before the nodes where a block is cut in two.
     pub fn insert(&mut self, alloc: Global, from: u64, to: u64) -> Result<Option<u64>, AllocError>
         requires filled { from < to }
         requires within { to ≤ pixel_count }
@@ -164,9 +183,9 @@ impl RangeList {
         ensures normal_before { IsNormal self.old }
         ensures normal { IsNormal self.new }
     {
-        if self.nodes.is_empty() {
+        if self.nodes.all().is_empty() {
             return insert_few(alloc, &mut self.few, from, to);
         }
-        insert_in_nodes(alloc, &mut self.nodes, from, to)
+        self.nodes.insert(alloc, from, to)
     }
 }

@@ -1,5 +1,5 @@
 -- Lists of ranges that are kept in blocks, and blocks in nodes.
-use Rattle.std.specs.Prelude.{◌≡◌, ℕ, ◌-◌, ◌<◌, ◌≤◌, List, [], ◌∷◌, ◌++◌, length, sum_by}
+use Rattle.std.specs.Prelude.{◌≡◌, ℕ, ◌+◌, ◌-◌, ◌<◌, ◌≤◌, List, [], ◌∷◌, ◌++◌, length, take, sum_by}
 use Rattle.moc_ranges.specs.RangeList.{IsNormal}
 pub use Rattle.moc_ranges.specs.Blocks.{joining, NeedsBoth, AreFilled, AreBlocks}
 
@@ -61,6 +61,17 @@ pub record IsStored (few : List (ℕ × ℕ)) (nodes : List (List (List (ℕ × 
 pub record AreStored (blocks : List (List (ℕ × ℕ))) : Type 0 where
   pub sized : AreBlocks blocks
   pub normal : IsNormal (joining blocks)
+
+-- where each of some lists begins among the elements of them all, with so many before the first
+abbrev pub starts_from : {X : Type 0} → ℕ → List (List X) → List ℕ
+starts_from n [] = []
+starts_from n (list ∷ lists) = n ∷ starts_from (n + length list) lists
+
+-- so many of some lists begin by a place among the elements of them all, and the next behind it
+pub record IsCountBegun {X : Type 0} (lists : List (List X)) (place begun : ℕ) : Type 0 where
+  pub bound : begun ≤ length lists
+  pub before : 0 < begun → length (joining (take (begun - 1) lists)) ≤ place
+  pub behind : begun < length lists → place < length (joining (take begun lists))
 
 -- the blocks of a set: its few ranges as one, and those of a node that is begun and of the nodes
 abbrev pub chunks_of : List (ℕ × ℕ) → List (List (ℕ × ℕ)) → List (List (List (ℕ × ℕ))) → List (List (ℕ × ℕ))

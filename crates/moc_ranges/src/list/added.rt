@@ -5,7 +5,7 @@ ghost use Rattle.std.specs.Prelude.{IfOk, IfSome, MatchOption, OnOk, OnErr};
 ghost use Rattle.std.specs.Bool.{OnTrue};
 ghost use Rattle.moc_ranges.specs.Pixels.{pixel_count};
 ghost use Rattle.moc_ranges.specs.RangeList.{IsNormal};
-ghost use Rattle.moc_ranges.specs.Private.Blocks.{joining, next_of, AreFilled, AreBlocks, IsStored};
+ghost use Rattle.moc_ranges.specs.Private.Blocks.{joining, next_of, starts_from, AreFilled, AreBlocks, IsStored};
 ghost use Rattle.moc_ranges.specs.Private.Built.{first_length, EndsBelow};
 ghost use Rattle.moc_ranges.specs.Private.Walks.{joined};
 ghost use Rattle.moc_ranges.specs.Private.Added.{pieces, with_second};
@@ -387,7 +387,7 @@ fn put_two(nodes: &mut Vec<Node>, place: usize, first: Node, second: Node) -> Re
 }
 
 /// Puts a node in place of one.
-fn put_one(nodes: &mut Vec<Node>, place: usize, first: Node)
+pub fn put_one(nodes: &mut Vec<Node>, place: usize, first: Node)
     requires { place < length nodes.old.items }
     ensures { nodes.new.items ≡ take place nodes.old.items ++ (first ∷ drop (place + 1) nodes.old.items) }
 {
@@ -486,7 +486,7 @@ fn spot_of(alloc: Global, nodes: &[Node], from: u64, to: u64) -> Result<Option<S
 
 /// Adds a range to nodes by one new block, in the list of blocks that its node has, and tells how many numbers are new.
 /// None where somebody else has that list, too, or one block does not do; the nodes then are as they were.
-fn insert_in_place(
+pub fn insert_in_place(
     alloc: Global,
     nodes: &mut Vec<Node>,
     from: u64,
@@ -496,6 +496,7 @@ fn insert_in_place(
     requires filled { from < to }
     requires within { to ≤ pixel_count }
     ensures stored { IsStored [] nodes.new.items }
+    ensures counted { starts_from 0 nodes.new.items ≡ starts_from 0 nodes.old.items }
     ensures inserted { IfOk result (λ n. MatchOption n (nodes.new.items ≡ nodes.old.items) (λ n.
         HasGrown from to (joining (joining nodes.old.items)) (joining (joining nodes.new.items)) n)) }
     ensures unchanged { OnErr result (nodes.new.items ≡ nodes.old.items) }
@@ -515,39 +516,5 @@ fn insert_in_place(
     if !nodes[node].put_block(block, new) {
         return Ok(None);
     }
-    Ok(Some(added))
-}
-
-/// Adds a range to nodes where that changes one block alone, and tells how many numbers are new. None where it does
-/// not, or a rule of lengths would be broken; the nodes then are as they were.
-pub fn insert_in_nodes(
-    alloc: Global,
-    nodes: &mut Vec<Node>,
-    from: u64,
-    to: u64,
-) -> Result<Option<u64>, AllocError>
-    requires stored { IsStored [] nodes.old.items }
-    requires filled { from < to }
-    requires within { to ≤ pixel_count }
-    ensures stored { IsStored [] nodes.new.items }
-    ensures inserted { IfOk result (λ n. MatchOption n (nodes.new.items ≡ nodes.old.items) (λ n.
-        HasGrown from to (joining (joining nodes.old.items)) (joining (joining nodes.new.items)) n)) }
-    ensures unchanged { OnErr result (nodes.new.items ≡ nodes.old.items) }
-{
-    if let Some(added) = insert_in_place(alloc, nodes, from, to)? {
-        return Ok(Some(added));
-    }
-    let Some(
-        Renewed {
-            place,
-            first,
-            second,
-            added,
-        },
-    ) = renew(alloc, nodes, from, to)?
-    else {
-        return Ok(None);
-    };
-    put_nodes(nodes, place, first, second)?;
     Ok(Some(added))
 }

@@ -184,7 +184,7 @@ pub fn list_of(alloc: Global, ranges: Vec<(u64, u64)>) -> Result<RangeList, Allo
     ensures { IfOk result (λ l. l ≡ ranges.items) }
 {
     if ranges.len() <= LONGEST {
-        return Ok(RangeList::from_stored(trimmed(ranges), Vec::new(alloc)));
+        return Ok(RangeList::of_few(alloc, trimmed(ranges)));
     }
     let mut built = ListBuilder::new(alloc, LONGEST)?;
     built.push_all(alloc, &ranges)?;

@@ -368,8 +368,8 @@ impl Kept {
         ensures { IfOk result (λ l. l ≡ all_of self) }
     {
         if self.blocks.is_empty() && self.nodes.is_empty() {
-            let Kept { ranges, nodes, .. } = self;
-            return Ok(RangeList::from_stored(trimmed(ranges), nodes));
+            let Kept { ranges, .. } = self;
+            return Ok(RangeList::of_few(alloc, trimmed(ranges)));
         }
         self.finish_blocks(alloc)
     }
@@ -382,7 +382,7 @@ impl Kept {
         self.seal(alloc)?;
         self.seal_node(alloc)?;
         let Kept { nodes, .. } = self;
-        Ok(RangeList::from_stored(Vec::new(alloc), nodes))
+        RangeList::of_nodes(alloc, nodes)
     }
 }
 

@@ -19,8 +19,7 @@ ghost use Rattle.std.specs.Prelude.{◌≡◌, ◌+◌, ◌<◌, ◌≤◌, ◌^
 ghost use Rattle.moc_ranges.specs.RangeList.{IsNormal, in_ranges};
 ghost use Rattle.moc_ranges.specs.Private.Blocks.{joining, AreStored};
 
-use crate::list::block::Block;
-use crate::list::node::Node;
+use crate::list::nodes::Nodes;
 
 impl Steps {
     /// None so far.
@@ -53,6 +52,7 @@ pub(crate) fn find_range(ranges: &[(u64, u64)], pixel: u64, steps: &mut Steps) -
     requires fits { length ranges.now ≤ 128 }
     requires room { steps.old < 9223372036854775900 }
     ensures found { result ≡ in_ranges ranges.now pixel }
+    ensures rises { steps.old ≤ steps.new }
     ensures cost { (d : ℕ) → length ranges.now < 2 ^ d → steps.new ≤ steps.old + d }
 {
     let mut low = 0;
@@ -72,47 +72,20 @@ pub(crate) fn find_range(ranges: &[(u64, u64)], pixel: u64, steps: &mut Steps) -
     false
 }
 
-/// How many blocks nodes have.
-fn count_blocks(nodes: &[Node]) -> usize
-    requires { AreStored (joining nodes.now) }
-    ensures { result ≡ length (joining nodes.now) }
-{
-    let mut count = 0;
-    for node in nodes {
-        count += node.blocks().len();
-    }
-    count
-}
-
-/// The block of nodes at this place, if there is one.
-fn block_at(nodes: &[Node], place: usize) -> Option<&Block>
-    ensures { MatchOption result (length (joining nodes.entry.now) ≤ place) (λ b.
-        (place < length (joining nodes.entry.now)) × (b.now ≡ get_or (joining nodes.entry.now) place b.now)) }
-{
-    let mut left = place;
-    for node in nodes {
-        let blocks = node.blocks();
-        if left < blocks.len() {
-            return Some(&blocks[left]);
-        }
-        left -= blocks.len();
-    }
-    None
-}
-
-/// Whether a block of the nodes has the pixel. It halves all their blocks: to go from a node to its
-/// blocks would take a step too many where the nodes are not full.
-pub(crate) fn find_block(nodes: &[Node], pixel: u64, steps: &mut Steps) -> bool
+/// Whether a block of the nodes has the pixel. It halves all their blocks by their numbers: to go from a node to its
+/// blocks would take a step too many where the nodes are not full. Finding a block by its number compares no pixel.
+pub(crate) fn find_block(nodes: &Nodes, pixel: u64, steps: &mut Steps) -> bool
     requires stored { AreStored (joining nodes.now) }
     requires room { steps.old < 9223372036854775808 }
     ensures found { result ≡ in_ranges (joining (joining nodes.now)) pixel }
+    ensures rises { steps.old ≤ steps.new }
     ensures cost { (d : ℕ) → length (joining nodes.now) < 2 ^ d → steps.new ≤ steps.old + d + 8 }
 {
     let mut low = 0;
-    let mut high = count_blocks(nodes);
+    let mut high = nodes.count_blocks();
     while low < high {
         let middle = low + (high - low) / 2;
-        let Some(block) = block_at(nodes, middle) else {
+        let Some(block) = nodes.block_at(middle) else {
             return false;
         };
         steps.step();
