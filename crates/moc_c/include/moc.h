@@ -16,7 +16,7 @@
 
    All else holds for all arguments: a key, an order, a cell or a length that is wrong gets its code, and a number that is no pixel is in
    no coverage. A pointer that is null gets MOC_NULL, before all else that is wrong, and nothing is read or written; so does one to a desk or
-   a seat that is zeroed, or that was not begun since `moc_open` or `moc_seat_open` answered false. An array of length 0 may be null. */
+   a seat that is zeroed, as it is where `moc_open` or `moc_seat_open` answered false. An array of length 0 may be null. */
 #ifndef MOC_H
 #define MOC_H
 
