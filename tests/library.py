@@ -159,8 +159,12 @@ def built(tally, room, name, *options):
 
 
 def check_calls(tally, room):
+    """With the sanitizers the guards are built anew, so that these look at them too; the linker takes them before those of the library."""
+    guards = os.path.join(room, "guards.c")
+    with open(guards, "w") as file:
+        file.write(ran([sys.executable, os.path.join(TOP, "tools", "guards.py")]).stdout)
     for name in ("calls", "nulls"):
-        for options in ([], SANITIZERS):
+        for options in ([], [*SANITIZERS, guards]):
             program = built(tally, room, name, *options)
             if program is not None:
                 tally.add_line(program, ran([program], ASAN_OPTIONS="detect_leaks=1"))

@@ -12,6 +12,8 @@ from typing import NamedTuple
 
 # What the proved call of `moc_NAME` goes by, with NAME behind it.
 PROVED = "moc_proved_"
+# What its declaration says where it takes pointers; so a sanitizer looks at what a guard passes on.
+NO_NULL = " __attribute__((nonnull))"
 
 HEAD = """/* Made of moc.h by tools/guards.py. */
 #include "moc.h"
@@ -95,8 +97,8 @@ def body_of(call):
 def guard_of(call):
     """The declaration of the proved call, and its guard."""
     taken = f"({', '.join(call.arguments)})"
-    body = "".join(f"    {it}\n" for it in body_of(call))
-    return f"\n{call.answer} {PROVED}{call.name}{taken};\n{call.answer} moc_{call.name}{taken}\n{{\n{body}}}\n"
+    body, asked = "".join(f"    {it}\n" for it in body_of(call)), NO_NULL if "*" in taken else ""
+    return f"\n{call.answer} {PROVED}{call.name}{taken}{asked};\n{call.answer} moc_{call.name}{taken}\n{{\n{body}}}\n"
 
 
 def source_of(calls):
