@@ -2,8 +2,8 @@
 """Guards in C before the proved calls of the library, made of the calls that `moc.h` declares.
 
 To a proved call a desk crosses as a borrow and an array as a slice, and neither has a null. So the proved calls go by other names, and each
-call of the header is a guard, which looks at its pointers. At the first that is null it answers MOC_NULL and the pointer's place, and
-nothing else is done; else it makes the proved call. No elements at a null pointer are passed on as none at one that is not null.
+call of the header is a guard, which looks at its pointers. At the first that is null it answers MOC_NULL and the argument's number, and
+nothing else is done; else it makes the proved call. An empty array at a null pointer is handed on as an empty one elsewhere.
 
 Run by itself it prints the guards."""
 import re

@@ -59,7 +59,7 @@ enum {
     MOC_NO_SUCH_CELL = 6,   /* first: the place, from 0, of the first number that is no cell of the order */
     MOC_NOT_UNIQ = 7,       /* first: the place, from 0, of the first number that is no NUNIQ number */
     MOC_TOO_COARSE = 8,     /* a cell of the set is deeper than the order that is to be stated */
-    MOC_NULL = 9,           /* a pointer is null; first: the place, from 0, of the first such argument */
+    MOC_NULL = 9,           /* a pointer is null; first: the number, from 0, of the first such argument */
 
     /* an ASCII text; first: the byte, from 0 */
     MOC_ASCII_BAD_BYTE = 10,        /* a byte that no word has there */
