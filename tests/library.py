@@ -15,6 +15,9 @@ import tempfile
 TOP = os.path.dirname(os.path.dirname(os.path.abspath(__file__)))
 CRATE = os.path.join(TOP, "crates", "moc_c")
 HEADER = os.path.join(CRATE, "include", "moc.h")
+sys.path.insert(0, os.path.join(TOP, "tools"))
+from guards import calls_of, source_of  # noqa: E402
+
 CC, CXX = os.environ.get("CC", "cc"), os.environ.get("CXX", "c++")
 WARNINGS = ["-Wall", "-Wextra", "-Wpedantic", "-Werror"]
 SANITIZERS = ["-fsanitize=address,undefined", "-fno-sanitize-recover=all"]
@@ -32,6 +35,11 @@ ROW = re.compile(r"^ +(NULL|NONE)_AT\((\d+), (moc_\w+)\(([^()]*)\)", re.MULTILIN
 # The types of the crate as C has them. A `Global` takes no bytes, and a ghost field is none.
 TYPES = {"u8": "uint8_t", "u32": "uint32_t", "u64": "uint64_t", "bool": "bool", "[u64; 8]": "uint64_t[8]", "Outcome": "moc_outcome",
          "Range": "moc_range", "Desk": "moc_desk", "Seat": "moc_seat", "*mut u8": "void*"}
+# Calls that guards know no answer or argument of: a call of another answer, a pointer with no length behind it, a length by itself.
+STRANGE = ["int moc_x(moc_desk *desk);", "moc_outcome *moc_x(moc_desk *desk);", "bool moc_x(moc_desk *out, uint8_t order);",
+           "void moc_x(moc_desk *desk);", "moc_outcome moc_x(moc_desk desk);", "moc_outcome moc_x(const uint8_t *text);",
+           "moc_outcome moc_x(const uint8_t *text, uint64_t length);", "moc_outcome moc_x(const uint8_t **texts, size_t count);",
+           "moc_outcome moc_x(size_t length);"]
 SECONDS = 300
 
 
@@ -149,6 +157,17 @@ def check_rows(tally):
     tally.add("none is opened and closed", others and all(re.search(rf"{it}\((NULL|no_\w+)\)", text) for it in others), others)
 
 
+def check_strange(tally):
+    """No guards are made where one would not look at all pointers."""
+    for line in STRANGE:
+        told = ""
+        try:
+            told = source_of(calls_of(line))
+        except ValueError:
+            pass
+        tally.add(f"no guard of {line}", told == "", told)
+
+
 def built(tally, room, name, *options):
     """The program of a source in tests/c, linked with the library, or None."""
     program = os.path.join(room, name + ("-checked" if options else ""))
@@ -162,7 +181,7 @@ def check_calls(tally, room):
     """With the sanitizers the guards are built anew, so that these look at them too; the linker takes them before those of the library."""
     guards = os.path.join(room, "guards.c")
     with open(guards, "w") as file:
-        file.write(ran([sys.executable, os.path.join(TOP, "tools", "guards.py")]).stdout)
+        file.write(source_of(calls_of(read(HEADER))))
     for name in ("calls", "nulls"):
         for options in ([], [*SANITIZERS, guards]):
             program = built(tally, room, name, *options)
@@ -212,6 +231,7 @@ def main():
             return 1
         check_header(tally, room)
         check_rows(tally)
+        check_strange(tally)
         check_calls(tally, room)
         check_page(tally, room)
         check_growths(tally, room)
