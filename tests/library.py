@@ -1,9 +1,9 @@
 #!/usr/bin/env python3
-"""Calls the library for C: `tests/c/calls.c` makes each call of `moc.h`, with right, empty, short and wrong arguments, under the address and
-undefined-behaviour sanitizers and the one for leaks, and once without; `tests/c/growths.c` makes sets and texts with each growth refused in
-turn (`tests/refuse.c`). The program of `docs/C.md` writes what the page says. The header is read as C99 and as C++, and its codes are
-compared with those of the crate; and each call of it is an export of the library, and each export a call of it, with arguments and an answer
-of the same types; its structs have the fields of the crate's.
+"""Calls the library for C: `tests/c/calls.c` makes each call of `moc.h`, with right, empty, short and wrong arguments, and `tests/c/nulls.c`
+with each pointer null in turn, under the address and undefined-behaviour sanitizers and the one for leaks, and once without;
+`tests/c/growths.c` makes sets and texts with each growth refused in turn (`tests/refuse.c`). The program of `docs/C.md` writes what the page
+says. The header is read as C99 and as C++, and its codes are compared with those of the crate; and each call of it is an export of the
+library, and each export a call of it, with arguments and an answer of the same types; its structs have the fields of the crate's.
 
 The library is linked anew, by `./moc library`, in a room of its own. The last line printed is `N passed, M failed`."""
 import os
@@ -15,19 +15,31 @@ import tempfile
 TOP = os.path.dirname(os.path.dirname(os.path.abspath(__file__)))
 CRATE = os.path.join(TOP, "crates", "moc_c")
 HEADER = os.path.join(CRATE, "include", "moc.h")
+sys.path.insert(0, os.path.join(TOP, "tools"))
+from guards import calls_of, source_of  # noqa: E402
+
 CC, CXX = os.environ.get("CC", "cc"), os.environ.get("CXX", "c++")
 WARNINGS = ["-Wall", "-Wextra", "-Wpedantic", "-Werror"]
 SANITIZERS = ["-fsanitize=address,undefined", "-fno-sanitize-recover=all"]
 CODE = re.compile(r"^\s*(?:MOC|pub\(crate\) const) ?_?(\w+)(?:: u32)? = (\d+)", re.MULTILINE)
+# The code of the guards alone: what is proved has no null pointer, and no code for one.
+OF_GUARDS = ("NULL", "9")
 # A call or a struct of the header, and an export or a struct of the crate: what it answers, its name, and what it takes or has.
 CALL = re.compile(r"^(bool|void|moc_outcome) (moc_\w+)\(([^;]*)\);", re.MULTILINE)
 STRUCT = re.compile(r"^typedef struct (moc_\w+) \{([^}]*)\}", re.MULTILINE)
 EXPORT = re.compile(r"extern \"C\" fn (moc_\w+)\(([^)]*)\)(?: -> (\w+))?")
 LAID_OUT = re.compile(r"^#\[repr\(C\)\]\n(?:#[^\n]*\n)*pub struct (\w+) \{\n(.*?)^\}", re.MULTILINE | re.DOTALL)
 COMMENT = re.compile(r"/\*.*?\*/", re.DOTALL)
+# A row of nulls.c: whether it has elements, which argument is null, the call, and its arguments.
+ROW = re.compile(r"^ +(NULL|NONE)_AT\((\d+), (moc_\w+)\(([^()]*)\)", re.MULTILINE)
 # The types of the crate as C has them. A `Global` takes no bytes, and a ghost field is none.
 TYPES = {"u8": "uint8_t", "u32": "uint32_t", "u64": "uint64_t", "bool": "bool", "[u64; 8]": "uint64_t[8]", "Outcome": "moc_outcome",
          "Range": "moc_range", "Desk": "moc_desk", "Seat": "moc_seat", "*mut u8": "void*"}
+# Calls that guards know no answer or argument of: a call of another answer, a pointer with no length behind it, a length by itself.
+STRANGE = ["int moc_x(moc_desk *desk);", "moc_outcome *moc_x(moc_desk *desk);", "bool moc_x(moc_desk *out, uint8_t order);",
+           "void moc_x(moc_desk *desk);", "moc_outcome moc_x(moc_desk desk);", "moc_outcome moc_x(const uint8_t *text);",
+           "moc_outcome moc_x(const uint8_t *text, uint64_t length);", "moc_outcome moc_x(const uint8_t **texts, size_t count);",
+           "moc_outcome moc_x(size_t length);"]
 SECONDS = 300
 
 
@@ -121,7 +133,7 @@ def check_header(tally, room):
         told = ran([compiler, f"-std={standard}", *WARNINGS, f"-I{room}", "-fsyntax-only", os.path.join(room, name)])
         tally.add(f"the header as {standard}", told.returncode == 0, told.stderr)
     header, codes = CODE.findall(read(HEADER)), CODE.findall(read(os.path.join(CRATE, "src", "codes.rt")))
-    tally.add("the codes", codes and header == codes, f"{header}\n{codes}")
+    tally.add("the codes", codes and header == sorted([*codes, OF_GUARDS], key=lambda it: int(it[1])), f"{header}\n{codes}")
     here, there = declared(), exported()
     calls = [it for it in here if here[it][0] != "struct"]
     tally.add("the calls", calls and sorted(here) == sorted(there), sorted({*here} ^ {*there}))
@@ -129,6 +141,31 @@ def check_header(tally, room):
         tally.add(f"the types of {name}", here[name] == there[name], f"{here[name]}\n{there[name]}")
     tried = read(os.path.join(TOP, "tests", "c", "calls.c"))
     tally.add("each call is tried", all(f"{it}(" in tried for it in calls), [it for it in calls if f"{it}(" not in tried])
+
+
+def check_rows(tally):
+    """tests/c/nulls.c has a row with each pointer of each call null, and one with no elements for each array; it opens and closes none."""
+    text, rows, wanted = read(os.path.join(TOP, "tests", "c", "nulls.c")), set(), set()
+    for kind, place, name, taken in ROW.findall(text):
+        if taken.split(", ")[int(place)] in ("NULL", "none"):
+            rows.add((kind, int(place), name))
+    for name, (answer, *taken) in declared().items():
+        pointers = [at for at, kind in enumerate(taken) if "*" in kind] if answer == "moc_outcome" else []
+        wanted |= {("NULL", at, name) for at in pointers} | {("NONE", at, name) for at in pointers if taken[at + 1:at + 2] == ["size_t"]}
+    tally.add("each pointer is null once", wanted and rows == wanted, sorted(rows ^ wanted))
+    others = [name for name, (answer, *_) in declared().items() if answer in ("bool", "void")]
+    tally.add("none is opened and closed", others and all(re.search(rf"{it}\((NULL|no_\w+)\)", text) for it in others), others)
+
+
+def check_strange(tally):
+    """No guards are made where one would not look at all pointers."""
+    for line in STRANGE:
+        told = ""
+        try:
+            told = source_of(calls_of(line))
+        except ValueError:
+            pass
+        tally.add(f"no guard of {line}", told == "", told)
 
 
 def built(tally, room, name, *options):
@@ -141,10 +178,15 @@ def built(tally, room, name, *options):
 
 
 def check_calls(tally, room):
-    for options in ([], SANITIZERS):
-        program = built(tally, room, "calls", *options)
-        if program is not None:
-            tally.add_line(program, ran([program], ASAN_OPTIONS="detect_leaks=1"))
+    """With the sanitizers the guards are built anew, so that these look at them too; the linker takes them before those of the library."""
+    guards = os.path.join(room, "guards.c")
+    with open(guards, "w") as file:
+        file.write(source_of(calls_of(read(HEADER))))
+    for name in ("calls", "nulls"):
+        for options in ([], [*SANITIZERS, guards]):
+            program = built(tally, room, name, *options)
+            if program is not None:
+                tally.add_line(program, ran([program], ASAN_OPTIONS="detect_leaks=1"))
 
 
 def check_page(tally, room):
@@ -188,6 +230,8 @@ def main():
             print("the library is not built\n0 passed, 1 failed")
             return 1
         check_header(tally, room)
+        check_rows(tally)
+        check_strange(tally)
         check_calls(tally, room)
         check_page(tally, room)
         check_growths(tally, room)

@@ -1,4 +1,5 @@
-"""The library for C and Python, linked of what is proved: the crate `moc_c` with all that it stands on, and the toolchain's heap."""
+"""The library for C and Python, linked of what is proved: the crate `moc_c` with all that it stands on, behind guards in C (`guards.py`),
+and the toolchain's heap."""
 import os
 import shutil
 import subprocess
@@ -6,14 +7,13 @@ import sys
 import tempfile
 
 from crates import TOP, archive_of, folder_of
+from guards import PROVED, calls_of, source_of
 
 CRATE = "moc_c"
 # Beside the Python package, which is installed with it.
 FOLDER = os.path.join(TOP, "python", "ploverchaise")
 HEADER = os.path.join(folder_of(CRATE), "include", "moc.h")
 SHARED, STATIC = "libploverchaise.so", "libploverchaise.a"
-# What the shared library shows: the calls of the header alone.
-SHOWN = "{ global: moc_*; local: *; };\n"
 
 
 def heap():
@@ -22,24 +22,33 @@ def heap():
     return os.path.join(os.path.dirname(page), "c", "liblibc_c.a")
 
 
-def commands(room):
-    """Of each library the command that makes it in this folder, and what that reads."""
-    shown = os.path.join(room, "shown")
-    with open(shown, "w") as file:
-        file.write(SHOWN)
-    parts = [archive_of(CRATE), heap()]
-    yield [os.environ.get("CC", "cc"), "-shared", "-o", os.path.join(room, SHARED), f"-Wl,-soname,{SHARED}", "-Wl,-z,defs,-z,now",
-           f"-Wl,--version-script={shown}", "-Wl,--whole-archive", *parts, "-Wl,--no-whole-archive"], ""
-    adding = "".join(f"addlib {it}\n" for it in parts)
-    yield ["ar", "-M"], f"create {os.path.join(room, STATIC)}\n{adding}save\nend\n"
+def inputs(calls):
+    """The files that the commands read: the guards, the names that they have for the proved calls, and what the shared library shows."""
+    return {"guards.c": source_of(calls), "renamed": "".join(f"moc_{it.name} {PROVED}{it.name}\n" for it in calls),
+            "shown": f"{{ global: {' '.join(f'moc_{it.name};' for it in calls)} local: *; }};\n"}
+
+
+def commands():
+    """The commands that make the libraries in the folder where they run, and what each reads."""
+    compiler, parts = os.environ.get("CC", "cc"), ["proved.a", heap()]
+    return [([compiler, "-std=c99", "-O2", "-fPIC", f"-I{os.path.dirname(HEADER)}", "-c", "guards.c"], ""),
+            (["objcopy", "--redefine-syms=renamed", archive_of(CRATE), "proved.a"], ""),
+            ([compiler, "-shared", "-o", SHARED, f"-Wl,-soname,{SHARED}", "-Wl,-z,defs,-z,now", "-Wl,--version-script=shown", "guards.o",
+              "-Wl,--whole-archive", *parts, "-Wl,--no-whole-archive"], ""),
+            (["ar", "-M"], f"create {STATIC}\naddmod guards.o\n" + "".join(f"addlib {it}\n" for it in parts) + "save\nend\n")]
 
 
 def put(folder):
     """Links the libraries and puts them and their header into a folder, each whole; answers whether that went well."""
+    with open(HEADER) as file:
+        calls = calls_of(file.read())
     os.makedirs(folder, exist_ok=True)
     with tempfile.TemporaryDirectory(dir=folder, prefix=".library") as room:
-        for words, said in commands(room):
-            if subprocess.run(words, input=said, text=True).returncode:
+        for name, text in inputs(calls).items():
+            with open(os.path.join(room, name), "w") as file:
+                file.write(text)
+        for words, said in commands():
+            if subprocess.run(words, cwd=room, input=said, text=True).returncode:
                 return False
         shutil.copyfile(HEADER, os.path.join(room, os.path.basename(HEADER)))
         for name in (SHARED, STATIC, os.path.basename(HEADER)):

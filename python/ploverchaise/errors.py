@@ -27,6 +27,7 @@ KINDS = {
     6: Kind("NoSuchCell", "the order has no cell of the number", ("place",)),
     7: Kind("NotUniq", "no cell has the NUNIQ number", ("place",)),
     8: Kind("TooCoarse", "a cell of the set is deeper than the order that is to be stated"),
+    9: Kind("Null", "a pointer is null", ("argument",)),
     10: Kind("BadByte", "no word has the byte there", ("byte",)),
     11: Kind("NoOrder", "an item stands before any order", ("byte",)),
     12: Kind("OrderTooLarge", "an order is above 29", ("byte",)),

@@ -1,6 +1,6 @@
 /* Makes sets and texts while one growth is refused (refuse.c): a call that answers MOC_MEMORY leaves all as it was, so the same call once
-   more does what it would have done. It prints how many calls were refused; the status is not 0 where anything else is answered. Built and
-   run by library.py. */
+   more does what it would have done; a desk or a seat that memory was refused for is none. It prints how many calls were refused; the
+   status is not 0 where anything else is answered. Built and run by library.py. */
 #include "moc.h"
 
 #include <stdio.h>
@@ -34,8 +34,11 @@ static void need(int line, bool holds)
 
 static void open_seat(moc_seat *seat)
 {
+    memset(seat, 0xff, sizeof *seat);
     if (!moc_seat_open(seat)) {
         refusals++;
+        moc_seat_close(*seat);
+        NEED(moc_map_answer(seat, NULL, 0).code == MOC_NULL);
         NEED(moc_seat_open(seat));
     }
 }
@@ -71,8 +74,11 @@ int main(void)
     static moc_range ranges[1000], out[1000];
     static uint64_t cells[1000], uniqs[1000];
     uint8_t text[64];
+    memset(&desk, 0xff, sizeof desk);
     if (!moc_open(&desk)) {
         refusals++;
+        moc_close(desk);
+        NEED(moc_empty(&desk).code == MOC_NULL);
         NEED(moc_open(&desk));
     }
     for (size_t i = 0; i < 1000; i++) {

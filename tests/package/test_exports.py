@@ -9,7 +9,7 @@ from ploverchaise import MOC, _library, errors
 from .common import TestCase
 
 HEADER = os.path.join(os.path.dirname(os.path.dirname(os.path.dirname(os.path.abspath(__file__)))), "crates", "moc_c", "include", "moc.h")
-NO_ROOM, NO_SUCH_SET, NO_SUCH_ORDER, LENGTHS_DIFFER, NO_SUCH_CELL = 2, 3, 4, 5, 6
+NO_ROOM, NO_SUCH_SET, NO_SUCH_ORDER, LENGTHS_DIFFER, NO_SUCH_CELL, NULL = 2, 3, 4, 5, 6, 9
 NO_KEY = 2**64 - 1
 # Where a name of the header is not that of the fault.
 PREFIX = re.compile("^(ASCII|JSON|UNIQ|RANGE|LINE)_")
@@ -147,6 +147,20 @@ class WrongArguments(TestCase):
         for name in ("ranges", "cells"):
             self.assertEqual(self.call(name, empty._key, none, 0), (0, 0, 0))
         self.assertEqual(self.call("contains_all", self.moc._key, none, 0, none, 0), (0, 0, 0))
+
+    def test_pointers_that_are_null(self):
+        for name, types in {**_library.DESK_CALLS, **_library.NUMBER_CALLS}.items():
+            for at, it in enumerate(types):
+                if it is ctypes.c_void_p:
+                    arguments = self.filled(types)
+                    arguments[at] = None
+                    with self.subTest(name=name, argument=at):
+                        self.assertEqual(self.call(name, *arguments), (NULL, at + (name in _library.DESK_CALLS), 0))
+        handles = (_library._DESK, _library._SEAT)
+        for name, call in {**_library._on_desk, **_library._on_seat}.items():
+            with self.subTest(name=name):
+                told = call(*(None if it in handles else 0 for it in call.argtypes))
+                self.assertEqual((told.code, told.first, told.second), (NULL, 0, 0))
 
     def test_numbers_that_no_cell_has(self):
         room = numbers(*[0] * 32)

@@ -5,17 +5,18 @@
    seat each at its map.
 
    What a caller owes, which nothing checks:
-   - A desk is begun by `moc_open`, where that answers true, and ended once, by `moc_close`; behind that neither it nor a copy of it is
-     used. Only these calls read or write what it holds. The same of a seat, by `moc_seat_open` and `moc_seat_close`.
-   - An array is a pointer that is not null, aligned for its type, and a length in elements, also where the length is 0. Nobody changes
-     what is passed as `const` while the call runs, and what is written overlaps nothing else that is passed.
+   - A desk that is not zeroed is begun by `moc_open`, and ended once, by `moc_close`; behind that neither it nor a copy of it is used.
+     Only these calls read or write what it holds. The same of a seat, by `moc_seat_open` and `moc_seat_close`.
+   - An array is a pointer, aligned for its type, and a length in elements, which lie there. Nobody changes what is passed as `const` while
+     the call runs, and what is written overlaps nothing else that is passed.
    - A desk is in one call at a time, and so is a seat; the two seats of `moc_map_join` are two. Each may go from thread to thread, where
      a lock, or the start or the end of a thread, lies between. Seats at one map need no lock between them.
    - No call from a signal handler, or in the forked child of a process with threads.
    - malloc, realloc and free are those of one allocator, and a block is aligned as C asks.
 
    All else holds for all arguments: a key, an order, a cell or a length that is wrong gets its code, and a number that is no pixel is in
-   no coverage. */
+   no coverage. A pointer that is null gets MOC_NULL, before all else that is wrong, and nothing is read or written; so does one to a desk or
+   a seat that is zeroed, as it is where `moc_open` or `moc_seat_open` answered false. An array of length 0 may be null. */
 #ifndef MOC_H
 #define MOC_H
 
@@ -58,6 +59,7 @@ enum {
     MOC_NO_SUCH_CELL = 6,   /* first: the place, from 0, of the first number that is no cell of the order */
     MOC_NOT_UNIQ = 7,       /* first: the place, from 0, of the first number that is no NUNIQ number */
     MOC_TOO_COARSE = 8,     /* a cell of the set is deeper than the order that is to be stated */
+    MOC_NULL = 9,           /* a pointer is null; first: the number, from 0, of the first such argument */
 
     /* an ASCII text; first: the byte, from 0 */
     MOC_ASCII_BAD_BYTE = 10,        /* a byte that no word has there */
@@ -110,9 +112,10 @@ enum {
 
 /* ---- The desk. */
 
-/* Begins a desk with nothing on it in the room at `out`, and answers true; or false, where no memory is left, and there is none. */
+/* Begins a desk with nothing on it in the room at `out`, and answers true; or false, where no memory is left, and zeroes it, or where `out`
+   is null. */
 bool moc_open(moc_desk *out);
-/* Ends a desk with all that lies on it. */
+/* Ends a desk with all that lies on it; nothing where it is zeroed. */
 void moc_close(moc_desk desk);
 
 /* ---- Making sets. Each answers a new key as `first`; keys are 0, 1, 2 and so on, and no key is given twice. */
@@ -213,9 +216,10 @@ moc_outcome moc_touching(uint8_t order, const uint64_t *cells, size_t count, uin
 /* ---- A map that threads share: twelve parts, one for each base pixel, which up to 64 clients change and query at the same time. Each
    client sits on a seat of its own. */
 
-/* Begins a seat on which nobody sits in the room at `out`, and answers true; or false, where no memory is left, and there is none. */
+/* Begins a seat on which nobody sits in the room at `out`, and answers true; or false, as `moc_open`. */
 bool moc_seat_open(moc_seat *out);
-/* Ends a seat. Its client, and those that wait on it, make no call any more. The map ends with the last of its seats. */
+/* Ends a seat; nothing where it is zeroed. Its client, and those that wait on it, make no call any more. The map ends with the last of its
+   seats. */
 void moc_seat_close(moc_seat seat);
 
 /* Makes a map of the set at a key, which stays on the desk, for so many clients, 1 to 64. One of them sits down on the seat; the others are
