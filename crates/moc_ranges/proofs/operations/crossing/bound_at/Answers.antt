@@ -1,4 +1,4 @@
-use Rattle.std.proofs.Common.{◌≡◌, ◌+◌, ◌*◌, ◌/◌, arith}
+use Rattle.std.proofs.Common.{◌/◌, arith}
 use Rattle.moc_ranges.proofs.Crossing.{bound_even, bound_odd}
 use Rattle.moc_ranges.proofs.operations.crossing.bound_at.Goals as goal
 

@@ -1,4 +1,4 @@
-use Rattle.std.proofs.Common.{◌≡◌, ◌∙◌, ◌+◌, ◌-◌, ◌*◌, ◌<◌, List, ℕ, arith, length, subst, get_or}
+use Rattle.std.proofs.Common.{◌∙◌, ◌+◌, ◌-◌, ◌<◌, arith, length, subst, get_or}
 use Rattle.std.proofs.lemmas.List.{length-set}
 use Rattle.moc_ranges.specs.Private.Crossing.{bounds_of}
 use Rattle.moc_ranges.proofs.Crossing.{IsStep, bounds_twice, crossed_on, step_all, step_of}

@@ -1,4 +1,4 @@
-use Rattle.std.proofs.Common.{◌≡◌, ◌++◌, List, ℕ, get_or, subst, sym, ap, ◌∙◌}
+use Rattle.std.proofs.Common.{◌++◌, subst, sym, ap, ◌∙◌}
 use Rattle.moc_ranges.specs.Private.Built.{ranges_of}
 use Rattle.moc_ranges.specs.Private.Crossing.{bounds_of, Rises}
 use Rattle.moc_ranges.proofs.Crossing.{pairs_head, pairs_on, two_items}

@@ -1,4 +1,4 @@
-use Rattle.std.proofs.Common.{◌∙◌, ◌+◌, ◌*◌, ◌++◌, ◌/◌, List, ℕ, length, take, drop, sym, subst, ap, arith}
+use Rattle.std.proofs.Common.{◌∙◌, ◌++◌, ◌/◌, List, ℕ, take, sym, subst, ap, arith}
 use Rattle.std.proofs.lemmas.List.{length-take-le}
 use Rattle.moc_ranges.specs.RangeList.{IsNormal}
 use Rattle.moc_ranges.specs.Private.Built.{ranges_of}

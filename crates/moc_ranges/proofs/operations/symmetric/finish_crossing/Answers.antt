@@ -1,4 +1,4 @@
-use Rattle.std.proofs.Common.{◌≡◌, ◌∙◌, [], List, ℕ, Option, None, ap, sym}
+use Rattle.std.proofs.Common.{◌∙◌, List, ℕ, Option, ap, sym}
 use Rattle.std.proofs.lemmas.Result.{IfOk-weaker}
 use Rattle.moc_ranges.specs.RangeList.{in_ranges}
 use Rattle.moc_ranges.specs.Private.Walks.{begun}
