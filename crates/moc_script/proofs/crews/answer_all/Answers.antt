@@ -1,13 +1,12 @@
 -- The lanes' ends are gathered, the map is closed, and the answers in turn are those of a merge.
-use Rattle.std.proofs.Common.{◌≡◌, ◌∙◌, ℕ, ◌<◌, List, [], ◌∷◌, ◌++◌, length, sym, ap, subst, arith, Err, ⊎_elim}
+use Rattle.std.proofs.Common.{◌≡◌, ◌∙◌, ℕ, ◌<◌, List, ◌++◌, length, sym, ap, subst, arith, Err, ⊎_elim}
 use Rattle.std.specs.FinSet as set
 use Rattle.moc_ranges.specs.Numbers.{NumberSet}
 use Rattle.moc_text.specs.Lines.{lines_of}
-use Rattle.moc_script.specs.Replies.{cover_text}
 use Rattle.moc_shared.specs.Clients.{record_of, start_of, AfterClose}
 use Rattle.moc_shared.specs.declared.errors.CloseError.{CloseError}
 use Rattle.moc_shared.specs.declared.errors.CloseError.TheVariants.{Midway}
-use Rattle.moc_script.specs.Crews.{cover_line, said_lines, IsCrewText}
+use Rattle.moc_script.specs.Crews.{said_lines, IsCrewText}
 use Rattle.moc_script.specs.Private.Gathering.{HasLanes, NamesLine}
 use Rattle.moc_script.specs.Private.Joining.{IsJoined, IsTold}
 use Rattle.moc_script.proofs.Crewing.{crew_of_lanes, stands_for_all, as_answers}
