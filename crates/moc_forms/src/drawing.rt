@@ -11,6 +11,7 @@ use crate::texts::push_count;
 use moc_ranges::{Coverage, Memory};
 use moc_sphere::{Cell, Order};
 use std::alloc::{AllocError, Global};
+use std::fmt::Write;
 
 /// The width of the sky in half steps of order 7.
 const WIDTH: u64 = 1024;
@@ -221,9 +222,11 @@ fn push_label(text: &mut String, number: u64, x: u64, y: u64) -> Result<(), Allo
 fn push_legend(text: &mut String) -> Result<(), AllocError>
     ensures { OnOk result (string_bytes text.new ≡ string_bytes text.old ++ legend) }
 {
-    text.push_str("<g font-family=\"sans-serif\" font-size=\"16\" fill=\"#444\">\n")?;
-    text.push_str("<text x=\"-28\" y=\"262\">E</text>\n<text x=\"1036\" y=\"262\">W</text>\n")?;
-    text.push_str("<text x=\"0\" y=\"566\">Share of each cell of order 7</text>\n")?;
+    text.push_str(
+        "<g font-family=\"sans-serif\" font-size=\"16\" fill=\"#444\">\n\
+         <text x=\"-28\" y=\"262\">E</text>\n<text x=\"1036\" y=\"262\">W</text>\n\
+         <text x=\"0\" y=\"566\">Share of each cell of order 7</text>\n",
+    )?;
     push_entry(text, 256, "#6baed6", "up to 1/4")?;
     push_entry(text, 400, "#4292c6", "up to 1/2")?;
     push_entry(text, 544, "#2171b5", "up to 3/4")?;
@@ -238,13 +241,10 @@ pub fn push_entry(text: &mut String, x: u64, colour: &str, meaning: &str) -> Res
     requires { x ≤ 1024 }
     ensures { OnOk result (string_bytes text.new ≡ string_bytes text.old ++ legend_entry x colour.now meaning.now) }
 {
-    text.push_str("<path fill=\"")?;
-    text.push_str(colour)?;
-    push_count(text, "\" d=\"M", x)?;
-    text.push_str(" 552h24v16h-24z\"/>")?;
-    push_count(text, "<text x=\"", x + 32)?;
-    text.push_str("\" y=\"566\">")?;
-    text.push_str(meaning)?;
-    text.push_str("</text>\n")?;
+    write!(
+        text,
+        "<path fill=\"{colour}\" d=\"M{x} 552h24v16h-24z\"/><text x=\"{}\" y=\"566\">{meaning}</text>\n",
+        x + 32
+    )?;
     Ok(())
 }

@@ -42,12 +42,9 @@ fn push_kinds(
     text.push_str(
         "<g transform=\"translate(1024 0) scale(-1 1)\" clip-path=\"url(#plane)\" shape-rendering=\"crispEdges\">\n",
     )?;
-    let only_first = first.difference(alloc, second)?;
-    push_set(alloc, text, &only_first, "#0072b2")?;
-    let only_second = second.difference(alloc, first)?;
-    push_set(alloc, text, &only_second, "#e69f00")?;
-    let both = first.intersection(alloc, second)?;
-    push_set(alloc, text, &both, "#000")?;
+    push_set(alloc, text, &first.difference(alloc, second)?, "#0072b2")?;
+    push_set(alloc, text, &second.difference(alloc, first)?, "#e69f00")?;
+    push_set(alloc, text, &first.intersection(alloc, second)?, "#000")?;
     text.push_str("</g>\n")?;
     Ok(())
 }
@@ -78,9 +75,11 @@ fn push_diamonds_of(text: &mut String, marks: &[(Cell, u64)]) -> Result<(), Allo
 fn push_legend_of_two(text: &mut String) -> Result<(), AllocError>
     ensures { OnOk result (string_bytes text.new ≡ string_bytes text.old ++ legend_of_two) }
 {
-    text.push_str("<g font-family=\"sans-serif\" font-size=\"16\" fill=\"#444\">\n")?;
-    text.push_str("<text x=\"-28\" y=\"262\">E</text>\n<text x=\"1036\" y=\"262\">W</text>\n")?;
-    text.push_str("<text x=\"0\" y=\"566\">Cells of order 7 with pixels of</text>\n")?;
+    text.push_str(
+        "<g font-family=\"sans-serif\" font-size=\"16\" fill=\"#444\">\n\
+         <text x=\"-28\" y=\"262\">E</text>\n<text x=\"1036\" y=\"262\">W</text>\n\
+         <text x=\"0\" y=\"566\">Cells of order 7 with pixels of</text>\n",
+    )?;
     push_entry(text, 256, "#0072b2", "the first alone")?;
     push_entry(text, 432, "#e69f00", "the second alone")?;
     push_entry(text, 624, "#000", "both")?;

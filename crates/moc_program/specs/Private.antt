@@ -1,2 +1,3 @@
 -- Words that contracts of private functions alone cite.
 pub mod Running
+pub mod NumberCells

@@ -6,7 +6,7 @@ use moc_sphere::Order;
 use std::str::FromStr;
 
 /// What the words ask for.
-#[derive(Clone, Copy, Debug, PartialEq, Eq)]
+#[derive(Clone, Copy)]
 pub enum Action {
     /// Run a script.
     Run,
@@ -35,7 +35,7 @@ pub enum Action {
 }
 
 /// A number to convert.
-#[derive(Clone, Copy, Debug, PartialEq, Eq)]
+#[derive(Clone, Copy)]
 pub enum Number {
     /// A nested number to its ring number.
     Ring(Order, u64),

@@ -1,16 +1,18 @@
 //! What the words of the command line make the program do.
-ghost use Rattle.std.specs.Prelude.{◌≡◌, ◌≢◌, ◌≤◌, ◌⊎◌, ◌++◌, ◌∷◌, [], ℕ, List, false, true, map, IfOk, IfErr, OnOk};
+ghost use Rattle.std.specs.Prelude.{◌≡◌, ◌≢◌, ◌≤◌, ◌⊎◌, ◌++◌, ◌∷◌, [], ℕ, List, false, true, map, IfOk, IfErr, MatchResult, Ok, OnOk};
 ghost use Rattle.std.specs.Prelude.{IsErrOf, IsTrue, is_err};
 ghost use Rattle.std.specs.Io.KnownBytes.{Appends};
 ghost use Rattle.std.specs.IoError.{error_kind};
 ghost use Rattle.clap.specs.Words.{kind_of};
-ghost use Rattle.moc_program.specs.Faults.{complaint_text};
+ghost use Rattle.moc_program.specs.Faults.{complaint_text, fault_of_cell};
 ghost use Rattle.std.specs.String.{string_bytes};
 ghost use Rattle.moc_sphere.specs.Touching.{touching_cells};
 ghost use Rattle.moc_program.specs.Actions.{Does};
+ghost use Rattle.moc_program.specs.Conversion.{IsReadFault};
 ghost use Rattle.moc_program.specs.Listing.{fault_list};
 ghost use Rattle.moc_program.specs.Numbers.{IsNumberFault, IsNumberLine, list_of};
 ghost use Rattle.moc_program.specs.Outcomes.{AreMistaken, AreRefused, AskForHelp, IsMistake, TellsFaultOf};
+ghost use Rattle.moc_program.specs.Private.NumberCells.{IsCellOf};
 ghost use Rattle.moc_program.specs.Statuses.{IsDeviceFault, code_of, end_of};
 ghost use Rattle.moc_program.specs.declared.action.Action.{Action};
 
@@ -22,8 +24,10 @@ use clap::error::ErrorKind;
 use clap::{ArgMatches, Error};
 use moc_command_line::{FAULTS, command_line, meant};
 use moc_forms::hint_line;
-use moc_script::{DeviceFault, OpenGate, Sink, Source, crew, play, renumber, run, write_all};
-use moc_sphere::Cell;
+use moc_script::{
+    DeviceFault, OpenGate, RunError, Sink, Source, crew, play, renumber, run, write_all,
+};
+use moc_sphere::{Cell, CellError};
 use std::alloc::{AllocError, Global};
 use std::convert::AsStr;
 use std::fmt::Write;
@@ -225,32 +229,63 @@ fn act<T: Threads + Wait + Sync, R: Source, W: Sink>(
         (R.left input.old) (R.left input.new) (W.written output.old) (W.written output.new)) }
 {
     match Action::from_matches(matches) {
-        Some(Action::Run) => Ok(run(alloc, input, output)?),
-        Some(Action::Play) => Ok(play(alloc, input, output)?),
-        Some(Action::Crew(lanes)) => Ok(crew(rt, alloc, input, output, lanes, &OpenGate)?),
-        Some(Action::Number(number)) => printed(number_line(alloc, number)?.as_str(), output),
-        Some(Action::Renumber(renumbering)) => Ok(renumber(alloc, input, output, renumbering)?),
+        Some(Action::Run) => outcome_of(run(alloc, input, output)),
+        Some(Action::Play) => outcome_of(play(alloc, input, output)),
+        Some(Action::Crew(lanes)) => outcome_of(crew(rt, alloc, input, output, lanes, &OpenGate)),
+        Some(Action::Renumber(renumbering)) => {
+            outcome_of(renumber(alloc, input, output, renumbering))
+        }
+        Some(Action::Number(number)) => answered(or_complaint(number_line(alloc, number)), output),
         Some(Action::Convert(from, to)) => {
-            printed(converted(alloc, from, to, input)?.as_str(), output)
+            answered(or_complaint(converted(alloc, from, to, input)), output)
         }
         Some(Action::Check(choice)) => {
             checked(alloc, choice, input)?;
             printed("ok\n", output)
         }
-        Some(Action::Describe(choice)) => printed(
-            described(alloc, choice, input)?.as_str(),
+        Some(Action::Describe(choice)) => answered(described(alloc, choice, input), output),
+        Some(Action::Draw(choice)) => answered(drawn(alloc, choice, input), output),
+        Some(Action::Change(change, choice)) => answered(
+            changed(alloc, change, choice, input),
             output,
         ),
-        Some(Action::Draw(choice)) => printed(drawn(alloc, choice, input)?.as_str(), output),
-        Some(Action::Change(change, choice)) => {
-            printed(changed(alloc, change, choice, input)?.as_str(), output)
-        }
         Some(Action::Combine(operation, choice)) => {
-            printed(combined(alloc, operation, choice, input)?.as_str(), output)
+            answered(combined(alloc, operation, choice, input), output)
         }
         Some(Action::Faults) => printed(listed(), output),
         // `clap` requires the word and its values, so none is missing.
         None => Err(Complaint::from(Fault::Memory)),
+    }
+}
+
+/// The outcome of a run, with a complaint of its fault.
+fn outcome_of(outcome: Result<(), RunError>) -> Result<(), Complaint>
+    ensures done { OnOk result (outcome ≡ Ok tt) }
+    ensures device { IsErrOf outcome RunError.Read ⊎ IsErrOf outcome RunError.Write → IsDeviceFault result }
+{
+    Ok(outcome?)
+}
+
+/// A text, or a complaint of the fault for which it was not made.
+fn or_complaint(text: Result<String, Fault>) -> Result<String, Complaint>
+    ensures text { IfOk result (λ t. text ≡ Ok t) }
+    ensures read { IsErrOf text Fault.Read → IsReadFault result }
+{
+    Ok(text?)
+}
+
+/// Writes a text that was made, or complains why it was not.
+fn answered<W: Sink>(text: Result<String, Complaint>, output: &mut W) -> Result<(), Complaint>
+    requires { W.mark output.old ≡ false }
+    ensures written { OnOk result (MatchResult text
+        (λ t. Appends (W.written output.old) (W.written output.new) (string_bytes t)) (λ _. ⊥)) }
+    ensures flushed { OnOk result (IsTrue (W.flushed output.new)) }
+    ensures input { IsReadFault text → IsDeviceFault result }
+    ensures output { IsTrue (W.mark output.new) → IsDeviceFault result }
+{
+    match text {
+        Ok(text) => printed(text.as_str(), output),
+        Err(complaint) => Err(complaint),
     }
 }
 
@@ -266,20 +301,29 @@ fn number_line(alloc: Global, number: Number) -> Result<String, Fault>
     ensures line { IfOk result (λ text. IsNumberLine number (string_bytes text)) }
     ensures fault { IfErr result (λ f. (f ≡ Fault.Memory) ⊎ IsNumberFault number f) }
 {
+    let cell = cell_of(number)?;
     let text = match number {
-        Number::Ring(order, index) => format!(in alloc; "{}\n", Cell::new(order, index)?.ring()),
-        Number::Nest(order, ring) => format!(in alloc;
-            "{}\n",
-            Cell::from_ring(order, ring)?.index()
-        ),
-        Number::Uniq(order, index) => format!(in alloc; "{}\n", Cell::new(order, index)?.uniq()),
-        Number::Near(order, index) => return Ok(near_line(alloc, Cell::new(order, index)?)?),
-        Number::Cell(uniq) => {
-            let cell = Cell::from_uniq(uniq)?;
-            format!(in alloc; "{cell}\n")
-        }
+        Number::Ring(..) => format!(in alloc; "{}\n", cell.ring()),
+        Number::Nest(..) => format!(in alloc; "{}\n", cell.index()),
+        Number::Uniq(..) => format!(in alloc; "{}\n", cell.uniq()),
+        Number::Near(..) => near_line(alloc, cell),
+        Number::Cell(_) => format!(in alloc; "{cell}\n"),
     };
     Ok(text?)
+}
+
+/// The cell that a number is of.
+fn cell_of(number: Number) -> Result<Cell, CellError>
+    ensures cell { IfOk result (λ cell. IsCellOf number cell) }
+    ensures fault { IfErr result (λ error. IsNumberFault number (fault_of_cell error)) }
+{
+    match number {
+        Number::Ring(order, index) | Number::Uniq(order, index) | Number::Near(order, index) => {
+            Cell::new(order, index)
+        }
+        Number::Nest(order, ring) => Cell::from_ring(order, ring),
+        Number::Cell(uniq) => Cell::from_uniq(uniq),
+    }
 }
 
 /// The line of the cells that touch a cell.

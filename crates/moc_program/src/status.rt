@@ -13,7 +13,7 @@ use moc_text::{JsonError, TextError, UniqError};
 use std::alloc::AllocError;
 
 /// How the program ends: its exit status.
-#[derive(Clone, Copy, Debug, PartialEq, Eq)]
+#[derive(Clone, Copy)]
 pub enum Status {
     /// Done, also after help.
     Done = 0,
@@ -35,7 +35,7 @@ impl Status {
 }
 
 /// Why the program ends before it is done, but for words that are no command line.
-#[derive(Clone, Copy, Debug, PartialEq, Eq)]
+#[derive(Clone, Copy)]
 pub enum Fault {
     CellTooLarge,
     NotUniq,
@@ -214,7 +214,7 @@ impl From<MemoryRefused> for Fault {
 
 /// A fault; where it is told, a line that says where it is; and the form that the text looks like, if that is another
 /// than it was read in.
-#[derive(Debug, Drop)]
+#[derive(Drop)]
 pub struct Complaint {
     pub fault: Fault,
     pub place: Option<String>,

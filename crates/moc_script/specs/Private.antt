@@ -13,3 +13,4 @@ pub mod Gathering
 pub mod Joining
 pub mod Promises
 pub mod Finding
+pub mod Verbs

@@ -1,10 +1,12 @@
 //! The commands that pieces of lines say.
+ghost use Rattle.std.specs.Prelude.{◌≡◌};
 ghost use Rattle.moc_script.specs.Language.{coverage_of, order_of, plain_operand_of, operand_of, invert_of, degrade_of};
-ghost use Rattle.moc_script.specs.Language.{near_by, near_of, command_with, command_of};
+ghost use Rattle.moc_script.specs.Language.{near_by, near_of, command_named, command_with, command_of};
 ghost use Rattle.moc_script.specs.Private.Readings.{Reads};
+ghost use Rattle.moc_script.specs.Private.Verbs.{made_by, made_by_word};
 
 use crate::fault::{Fault, ReadError};
-use crate::words::{is_blank_text, number_in, split_word};
+use crate::words::{is_blank_text, is_word, number_in, split_word};
 use moc_parts::{Command, Operand};
 use moc_ranges::Coverage;
 use moc_sphere::{Cell, Order};
@@ -117,25 +119,63 @@ fn read_near(text: &[u8]) -> Result<Command, ReadError>
     read_cell(order, index)
 }
 
+/// A word of the commands that have an operand.
+#[derive(Clone, Copy)]
+enum Verb {
+    Add,
+    Remove,
+    Keep,
+    Claim,
+    Count,
+    Read,
+}
+
+impl Verb {
+    /// The one that is this word.
+    fn named(word: &[u8]) -> Option<Verb>
+        ensures { command_named word.now ≡ made_by_word result }
+    {
+        if is_word(word, "add") {
+            Some(Verb::Add)
+        } else if is_word(word, "remove") {
+            Some(Verb::Remove)
+        } else if is_word(word, "keep") {
+            Some(Verb::Keep)
+        } else if is_word(word, "claim") {
+            Some(Verb::Claim)
+        } else if is_word(word, "count") {
+            Some(Verb::Count)
+        } else if is_word(word, "read") {
+            Some(Verb::Read)
+        } else {
+            None
+        }
+    }
+
+    /// The command of this operand.
+    fn of(self, operand: Operand) -> Command
+        ensures { result ≡ made_by self operand }
+    {
+        match self {
+            Verb::Add => Command::Add(operand),
+            Verb::Remove => Command::Remove(operand),
+            Verb::Keep => Command::Keep(operand),
+            Verb::Claim => Command::Claim(operand),
+            Verb::Count => Command::Count(operand),
+            Verb::Read => Command::Read(operand),
+        }
+    }
+}
+
 /// What a word and an operand behind it say.
 fn read_with_operand(alloc: Global, word: &[u8], text: &[u8]) -> Result<Command, ReadError>
     ensures { Reads (λ command. command) result (command_with operand_of word.now text.now) }
 {
-    if word == b"add".as_slice() {
-        Ok(Command::Add(read_operand(alloc, text)?))
-    } else if word == b"remove".as_slice() {
-        Ok(Command::Remove(read_operand(alloc, text)?))
-    } else if word == b"keep".as_slice() {
-        Ok(Command::Keep(read_operand(alloc, text)?))
-    } else if word == b"claim".as_slice() {
-        Ok(Command::Claim(read_operand(alloc, text)?))
-    } else if word == b"count".as_slice() {
-        Ok(Command::Count(read_operand(alloc, text)?))
-    } else if word == b"read".as_slice() {
-        Ok(Command::Read(read_operand(alloc, text)?))
-    } else {
-        Err(ReadError::Fault(Fault::UnknownWord))
-    }
+    let Some(verb) = Verb::named(word) else {
+        return Err(ReadError::Fault(Fault::UnknownWord));
+    };
+    let operand = read_operand(alloc, text)?;
+    Ok(verb.of(operand))
 }
 
 /// The command that a piece of a line says.
@@ -143,11 +183,11 @@ pub(crate) fn read_command(alloc: Global, piece: &[u8]) -> Result<Command, ReadE
     ensures { Reads (λ command. command) result (command_of piece.now) }
 {
     let (word, text) = split_word(piece);
-    if word == b"invert".as_slice() {
+    if is_word(word, "invert") {
         read_invert(text)
-    } else if word == b"degrade".as_slice() {
+    } else if is_word(word, "degrade") {
         read_degrade(text)
-    } else if word == b"near".as_slice() {
+    } else if is_word(word, "near") {
         read_near(text)
     } else {
         read_with_operand(alloc, word, text)

@@ -1,12 +1,12 @@
 //! Scripts that several threads answer.
-ghost use Rattle.std.specs.Prelude.{◌≡◌, ◌⊎◌, ◌<◌, ◌≤◌, ◌↔◌, ℕ, List, false, IfOk, IfSome, IfErr, OnOk, OnErr, IsErrOf};
+ghost use Rattle.std.specs.Prelude.{◌≡◌, ◌≢◌, ◌⊎◌, ◌<◌, ◌≤◌, ◌↔◌, ℕ, List, false, IfOk, IfSome, IfErr, OnOk, OnErr, Err, IsErrOf};
 ghost use Rattle.std.specs.Prelude.{IsTrue, length};
 ghost use Rattle.std.specs.Io.KnownBytes.{IsAtEnd};
 ghost use Rattle.moc_script.specs.Runs.{Flushes};
 ghost use Rattle.moc_text.specs.Lines.{lines_of};
-ghost use Rattle.moc_script.specs.Crews.{CrewEnds, said_lines};
+ghost use Rattle.moc_script.specs.Crews.{CrewEnds, cover_line, said_lines};
 ghost use Rattle.moc_script.specs.Private.Gathering.{NamesLine};
-ghost use Rattle.moc_script.specs.Private.Joining.{IsTold};
+ghost use Rattle.moc_script.specs.Private.Joining.{EndsTold, IsTold};
 
 mod gate;
 mod gathering;
@@ -27,7 +27,7 @@ use joining::{JoinError, write_joined};
 pub use lanes::Lanes;
 pub use laws::crews_answer_each_line;
 use moc_devices::{Sink, Source};
-use moc_ranges::Coverage;
+use moc_ranges::{Coverage, Memory};
 use moc_shared::{CloseError, NewError, SharedMap};
 use reading::{ReadFault, line_behind, read_all};
 use std::alloc::Global;
@@ -75,14 +75,20 @@ fn answer_all<R: Threads + Wait + Sync, G: Gate + Sync>(
         Err(CloseError::Midway { part: _ }) => unreachable!(),
         Err(CloseError::Memory) => return Err(LanesError::MemoryBehind),
     };
-    let mut cover = Vec::new(alloc);
-    let Ok(()) = push_cover(alloc, &set, &mut cover) else {
-        return Err(LanesError::MemoryBehind);
-    };
-    let Ok(()) = cover.push(b'\n') else {
+    let Ok(cover) = line_of_cover(alloc, &set) else {
         return Err(LanesError::MemoryBehind);
     };
     Ok(Told { answers, cover })
+}
+
+/// The line that tells the cover of a set.
+fn line_of_cover(alloc: Global, set: &Coverage) -> Result<Vec<u8>, Memory>
+    ensures { IfOk result (λ line. line.items ≡ cover_line set.now) }
+{
+    let mut line = Vec::new(alloc);
+    push_cover(alloc, set, &mut line)?;
+    line.push(b'\n')?;
+    Ok(line)
 }
 
 /// Answers a script by so many lanes, each a thread with a client of one map, which starts empty.
@@ -139,10 +145,30 @@ pub fn crew<R: Source, W: Sink, G: Gate + Sync, T: Threads + Wait + Sync>(
             return Err(RunError::Memory { line });
         }
     };
+    write_told(alloc, &input, &told, writer)
+}
+
+/// Writes what a crew answers the lines that it has read, and sends it on.
+fn write_told<W: Sink>(
+    alloc: Global,
+    input: &[u8],
+    told: &Told,
+    writer: &mut W,
+) -> Result<(), RunError>
+    requires some { 0 < length told.now.answers.items }
+    requires writer { W.mark writer.old ≡ false }
+    ensures ends { EndsTold input.now told.now.answers.items told.now.cover.items
+        (W.written writer.old) (W.written writer.new) result }
+    ensures flushed { OnOk result (IsTrue (W.flushed writer.new)) }
+    ensures unflushed { OnErr result (IsTrue (W.flushed writer.new) → IsTrue (W.flushed writer.old)) }
+    ensures flushes { Flushes result (W.flushes writer.old) (W.flushes writer.new) }
+    ensures write { IsErrOf result RunError.Write ↔ IsTrue (W.mark writer.new) }
+    ensures read { result ≢ Err RunError.Read }
+{
     match write_joined(alloc, &told.answers, &told.cover, writer) {
         Ok(()) => {}
         Err(JoinError::Memory) => {
-            let line = line_behind(&input);
+            let line = line_behind(input);
             return Err(RunError::Memory { line });
         }
         Err(JoinError::Write) => return Err(RunError::Write),

@@ -17,7 +17,7 @@ pub const LINE_LIMIT: usize = 1_048_576;
 const CHUNK: usize = 65_536;
 
 /// What stands at the front of the bytes to come.
-#[derive(Clone, Copy, Debug, PartialEq, Eq)]
+#[derive(Clone, Copy)]
 pub enum Found {
     /// A line that a line feed ends.
     Line,
@@ -28,7 +28,7 @@ pub enum Found {
 }
 
 /// Why there is no line.
-#[derive(Clone, Copy, Debug, PartialEq, Eq)]
+#[derive(Clone, Copy)]
 pub enum LineFault {
     Read,
     TooLong,

@@ -8,7 +8,7 @@ ghost use Rattle.moc_script.specs.Steps.{begin_by, begin_of, client_by, client_o
 
 use crate::batch::read_batch;
 use crate::fault::{Fault, ReadError};
-use crate::words::{is_blank_text, number_in, split_word};
+use crate::words::{is_blank_text, is_word, number_in, split_word};
 use moc_parts::Part;
 use moc_steps::Step;
 use std::alloc::Global;
@@ -103,21 +103,21 @@ pub(crate) fn read_step(alloc: Global, line: &[u8]) -> Result<Step, ReadError>
     ensures { Reads step_of result (said_step line.now) }
 {
     let (word, text) = split_word(line);
-    if word == b"begin".as_slice() {
+    if is_word(word, "begin") {
         read_begin(alloc, text)
-    } else if word == b"take".as_slice() {
+    } else if is_word(word, "take") {
         let client = only_client(text)?;
         Ok(Step::Take { client })
-    } else if word == b"edit".as_slice() {
+    } else if is_word(word, "edit") {
         let (client, part) = only_place(text)?;
         Ok(Step::Edit { client, part })
-    } else if word == b"give".as_slice() {
+    } else if is_word(word, "give") {
         let (client, part) = only_place(text)?;
         Ok(Step::Give { client, part })
-    } else if word == b"quit".as_slice() {
+    } else if is_word(word, "quit") {
         let client = only_client(text)?;
         Ok(Step::Quit { client })
-    } else if word == b"end".as_slice() {
+    } else if is_word(word, "end") {
         let client = only_client(text)?;
         Ok(Step::End { client })
     } else {

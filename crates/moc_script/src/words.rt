@@ -2,6 +2,7 @@
 ghost use Rattle.std.specs.Prelude.{◌≡◌, ◌-◌, ◌^◌, ◌≤◌, length, min};
 ghost use Rattle.std.specs.List.{prefix_len, position_or_len, list_any};
 ghost use Rattle.std.specs.Option.{option_map};
+ghost use Rattle.std.specs.Str.{bytes_eq};
 ghost use Rattle.moc_script.specs.Words.{is_blank_byte, is_blank, word_of, behind_word, number_of};
 
 /// Whether a byte is a blank: a space, a tab or a CR.
@@ -55,6 +56,13 @@ pub(crate) fn split_word(text: &[u8]) -> (&[u8], &[u8])
 {
     let front = text.split_at(blanks_in_front(text)).1;
     front.split_at(bytes_before_blank(front))
+}
+
+/// Whether a word is this one.
+pub(crate) fn is_word(word: &[u8], this: &str) -> bool
+    ensures { result ≡ bytes_eq word.now this.now }
+{
+    word == this.as_bytes()
 }
 
 /// The number that a field spells in base ten, or `u64::MAX` where it is larger; `None` where it spells none.

@@ -1,10 +1,13 @@
 -- The answers of the lanes in the order of the lines.
-use Rattle.std.specs.Prelude.{◌≡◌, ◌<◌, ◌++◌, ℕ, List, [], length, slice_index_or, Option, Result, OnOk}
+use Rattle.std.specs.Prelude.{◌≡◌, ◌<◌, ◌++◌, ℕ, List, [], length, slice_index_or, Option, Result, OnOk, IfSome}
 use Rattle.std.specs.Io.KnownBytes.{Appends}
 use Rattle.moc_ranges.specs.Blocks.{joining}
 use Rattle.moc_script.specs.Merges.{in_lane, dealt}
 use Rattle.moc_devices.specs.Devices.{Sends}
-use Rattle.moc_script.specs.Crews.{IsCrewText}
+use Rattle.moc_text.specs.Lines.{lines_of}
+use Rattle.moc_script.specs.Crews.{CrewEnds, IsCrewText, said_lines}
+use Rattle.moc_script.specs.Private.Input.{ReadsAll}
+use Rattle.moc_script.specs.declared.run_error.RunError.{RunError}
 
 -- each lane has as many answers as it has lines, of so many lines
 abbrev pub AreForLines : ℕ → List (List (List ℕ)) → ℕ → Type 0
@@ -46,3 +49,9 @@ pub record IsTold (lanes : ℕ) (said : List (List ℕ)) (answers : List (List (
   pub wide : length answers ≡ lanes
   pub for_lines : AreForLines lanes answers (length said)
   pub text : (front : List ℕ) → AreJoined answers (length said) front → IsCrewText lanes said (front ++ behind)
+
+-- What so many lanes answered an input that was read whole is written, as far as the outcome says, as a crew ends.
+abbrev pub EndsTold : List ℕ → List (List (List ℕ)) → List ℕ → Option (List ℕ) → Option (List ℕ) → Result (Unit {0}) RunError → Type 0
+EndsTold input answers cover written written' result =
+    (lanes : ℕ) (left left' : Option (List ℕ)) → IsTold lanes (said_lines (lines_of input)) answers cover → ReadsAll left left' input
+    → IfSome left (λ whole. CrewEnds lanes whole left' written written' result)

@@ -11,7 +11,7 @@ use moc_ranges::Memory;
 use std::alloc::Global;
 
 /// Why the answers were not all written.
-#[derive(Clone, Copy, Debug, PartialEq, Eq)]
+#[derive(Clone, Copy)]
 pub enum JoinError {
     /// Memory was refused, and nothing is written.
     Memory,

@@ -25,7 +25,7 @@ pub struct LaneEnd {
 }
 
 /// Why a lane has not done all of its lines.
-#[derive(Clone, Copy, Debug, PartialEq, Eq)]
+#[derive(Clone, Copy)]
 pub enum Unfinished {
     /// Memory was refused while this line was done.
     Refused { line: u64 },

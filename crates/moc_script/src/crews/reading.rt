@@ -23,7 +23,7 @@ struct Script {
 }
 
 /// Why a script was not read to its end.
-#[derive(Clone, Copy, Debug, PartialEq, Eq)]
+#[derive(Clone, Copy)]
 pub enum ReadFault {
     /// The reader failed.
     Read,

@@ -11,7 +11,7 @@ returns c =
       c.in_ok-push_set-2.ensures,
       c.in_ok-push_set.ensures,
       c.in_ok-push_str.ensures.bytes,
-      c.in_ok-both.ensures.set,
-      c.in_ok-only_second.ensures.set,
-      c.in_ok-only_first.ensures.set,
+      c.in_ok-intersection.ensures.set,
+      c.in_ok-difference-2.ensures.set,
+      c.in_ok-difference.ensures.set,
     ) (simp append_assoc)

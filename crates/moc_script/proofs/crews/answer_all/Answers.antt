@@ -1,13 +1,12 @@
 -- The lanes' ends are gathered, the map is closed, and the answers in turn are those of a merge.
-use Rattle.std.proofs.Common.{◌≡◌, ◌∙◌, ℕ, ◌<◌, List, [], ◌∷◌, ◌++◌, length, sym, ap, subst, arith, Err, ⊎_elim}
+use Rattle.std.proofs.Common.{◌≡◌, ◌∙◌, ℕ, ◌<◌, List, ◌++◌, length, sym, ap, subst, arith, Err, ⊎_elim}
 use Rattle.std.specs.FinSet as set
 use Rattle.moc_ranges.specs.Numbers.{NumberSet}
 use Rattle.moc_text.specs.Lines.{lines_of}
-use Rattle.moc_script.specs.Replies.{cover_text}
 use Rattle.moc_shared.specs.Clients.{record_of, start_of, AfterClose}
 use Rattle.moc_shared.specs.declared.errors.CloseError.{CloseError}
 use Rattle.moc_shared.specs.declared.errors.CloseError.TheVariants.{Midway}
-use Rattle.moc_script.specs.Crews.{cover_line, said_lines, IsCrewText}
+use Rattle.moc_script.specs.Crews.{said_lines, IsCrewText}
 use Rattle.moc_script.specs.Private.Gathering.{HasLanes, NamesLine}
 use Rattle.moc_script.specs.Private.Joining.{IsJoined, IsTold}
 use Rattle.moc_script.proofs.Crewing.{crew_of_lanes, stands_for_all, as_answers}
@@ -49,12 +48,10 @@ returns-clause-told g c =
     let lanes : HasLanes n n input answers client = c.in-Ok-take_in_all.ensures.lanes in
     let wide : length answers ≡ n = c.in-Ok-take_in_all.ensures.wide in
     let start : start_of map ≡ set.empty = c.in-Ok.ensures.begins.0 ∙ c.empty-start.ensures in
-    let cover : c.push.new.self.items ≡ cover_line end =
-    c.in-Ok-push.ensures.items ∙ ap (λ l. l ++ 10 ∷ []) (c.in-Ok-push_cover.ensures ∙ ap (λ l. l ++ cover_text end) c.new-cover.ensures.items) in
-    subst (λ (m : ℕ). IsTold m said answers c.push.new.self.items) c.get-lanes.ensures.number (record {
+    subst (λ (m : ℕ). IsTold m said answers c.in-Ok-line_of_cover.cover.items) c.get-lanes.ensures.number (record {
       wide = wide;
       for_lines = as_answers n input answers client lanes;
-      text = λ front all. subst (λ (l : List ℕ). IsCrewText n said (front ++ l)) (sym cover)
+      text = λ front all. subst (λ (l : List ℕ). IsCrewText n said (front ++ l)) (sym c.in-Ok-line_of_cover.ensures)
           (crew_of_lanes map n input answers all.left client end front c.get-lanes.ensures.some lanes (subst (λ (m : ℕ). IsJoined m answers all.left (length said) front) wide all.joined) start c.in-Ok.ensures.begins.1
           c.in-Ok-close.ensures);
     })
