@@ -127,8 +127,7 @@ pub extern "C" fn moc_difference(alloc: Global, desk: &mut Desk, a: u64, b: u64)
     desk.shelf().combine(alloc, Operation::Difference, a, b)
 }
 
-/// The pixels that just one of two sets has, at a new key; as `moc_union`, but two differences and their union where
-/// either set has more than 128 ranges.
+/// The pixels that just one of two sets has, at a new key; as `moc_union`.
 #[unsafe(no_mangle)]
 pub extern "C" fn moc_symmetric(alloc: Global, desk: &mut Desk, a: u64, b: u64) -> Outcome
     ensures { Makes desk.old.contents desk.new.contents

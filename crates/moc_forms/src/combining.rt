@@ -47,7 +47,7 @@ impl FromStr for Operation {
 }
 
 impl Operation {
-    /// What the operation makes of two sets. O(n), of `Symmetric` in up to three passes; refused where memory runs out.
+    /// What the operation makes of two sets. One pass, O(n); refused where memory runs out.
     pub fn of(self, alloc: Global, first: &Coverage, second: &Coverage) -> Result<Coverage, Memory>
         ensures set { IfOk result (λ c. c ≡ combined self first.now second.now) }
     {

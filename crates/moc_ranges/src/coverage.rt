@@ -93,9 +93,9 @@ impl Coverage {
         }
     }
 
-    /// The same as `contains`, and counts each comparison of the pixel with the bounds of a range or a chunk: at most the
-    /// binary digits of the number of chunks, and 8. Not counted is how a chunk is found by its number, by comparisons of
-    /// numbers of chunks. O((log n)²), takes no memory.
+    /// The same as `contains`, and counts each comparison of the pixel with the bounds of a range or a chunk: at most
+    /// the binary digits of the number of chunks, and 8. Not counted is how a chunk is found by its number, by
+    /// comparisons of numbers of chunks. O((log n)²), takes no memory.
     pub fn contains_counting(&self, pixel: u64, steps: &mut Steps) -> bool
         requires { steps.old < 9223372036854775808 }
         ensures found { result ≡ set.contains self.now pixel }
@@ -208,9 +208,9 @@ impl Coverage {
     /// Adds the pixels from one up to, not including, another, and tells how many of them are new.
     ///
     /// Mostly O(log n), whatever shares the blocks: the block that the range goes to is made anew, and the pointers to
-    /// the others of its node are copied where another set shares the node, or the block is cut in two. As a union
-    /// where the range touches more than one block, or no block can take it by the rules of lengths. Refused where
-    /// memory runs out; the set then is as it was.
+    /// the others of its node are copied where another set shares the node, or the block is cut in two; where it is
+    /// cut, a number for each node is made anew, too. As a union where the range touches more than one block, or no
+    /// block can take it by the rules of lengths. Refused where memory runs out; the set then is as it was.
     pub fn insert_range(&mut self, alloc: Global, from: u64, to: u64) -> Result<u64, Memory>
         requires within { to ≤ pixel_count }
         ensures set { OnOk result (self.new ≡ set.union self.old (numbers from to)) }
@@ -284,7 +284,7 @@ impl Coverage {
     }
 
     /// The pixels that just one of the two sets has. One pass, O(n + m), in which blocks and nodes of one set that the
-    /// other does not reach are shared. Refused where memory runs out.
+    /// other does not reach are mostly shared. Refused where memory runs out.
     pub fn symmetric(&self, alloc: Global, other: &Coverage) -> Result<Coverage, Memory>
         ensures set { IfOk result (λ c. c ≡ symmetric self.now other.now) }
     {

@@ -173,7 +173,8 @@ impl RangeList {
     /// Adds a range where that changes one block alone, and tells how many numbers are new: the block is made anew, in
     /// the list of its node where nobody else has that and it stays one block, and else with the pointers to the node's
     /// others. None where it does not, or a rule of lengths would be broken; the list then is as it was. O(log n), but
-    /// for the numbers of blocks before the nodes where a block is cut in two.
+    /// where a block is cut in two for the numbers of blocks before the nodes, and for the nodes that move by a place
+    /// where theirs is cut, too.
     pub fn insert(&mut self, alloc: Global, from: u64, to: u64) -> Result<Option<u64>, AllocError>
         requires filled { from < to }
         requires within { to ≤ pixel_count }
