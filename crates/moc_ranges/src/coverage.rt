@@ -196,7 +196,7 @@ impl Coverage {
     }
 
     /// The pixels of either set. One pass, O(n + m), in which blocks and nodes of one set that end
-    /// before the next range of the other are shared, not copied: a set of m ranges and one of n take
+    /// before the next range of the other are mostly shared, not copied: a set of m ranges and one of n take
     /// O(m + n / 128). Refused where memory runs out.
     pub fn union(&self, alloc: Global, other: &Coverage) -> Result<Coverage, Memory>
         ensures set { IfOk result (λ c. c ≡ set.union self.now other.now) }
@@ -263,9 +263,9 @@ impl Coverage {
     }
 
     /// The pixels that both sets have. One pass, O(n + m), in which blocks and nodes that the other
-    /// set does not reach are skipped by searching, and those that one range of it covers are shared:
-    /// a set of m ranges and one of n take O(m log n), and a step for each node that is shared. Refused
-    /// where memory runs out.
+    /// set does not reach are skipped by searching, and those that one range of it covers are mostly
+    /// shared: a set of m ranges and one of n take O(m log n), and a step for each node that is shared.
+    /// Refused where memory runs out.
     pub fn intersection(&self, alloc: Global, other: &Coverage) -> Result<Coverage, Memory>
         ensures set { IfOk result (λ c. c ≡ set.intersection self.now other.now) }
     {
@@ -274,8 +274,8 @@ impl Coverage {
     }
 
     /// The pixels of this set that the other lacks. One pass, O(n + m), in which blocks and nodes of
-    /// this set that the other does not reach are shared, and those of the other that this set does
-    /// not reach are skipped. Refused where memory runs out.
+    /// this set that the other does not reach are mostly shared, and those of the other that this set
+    /// does not reach are skipped. Refused where memory runs out.
     pub fn difference(&self, alloc: Global, other: &Coverage) -> Result<Coverage, Memory>
         ensures set { IfOk result (λ c. c ≡ set.difference self.now other.now) }
     {
@@ -283,8 +283,8 @@ impl Coverage {
         Ok(Coverage { list })
     }
 
-    /// The pixels that just one of the two sets has. One pass, O(n + m), in which blocks and nodes of one set that the
-    /// other does not reach are mostly shared. Refused where memory runs out.
+    /// The pixels that just one of the two sets has. One pass, O(n + m), in which blocks and nodes of one set that end
+    /// before the next range of the other are shared, where no block is begun. Refused where memory runs out.
     pub fn symmetric(&self, alloc: Global, other: &Coverage) -> Result<Coverage, Memory>
         ensures set { IfOk result (λ c. c ≡ symmetric self.now other.now) }
     {

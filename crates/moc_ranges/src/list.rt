@@ -35,8 +35,8 @@ use std::marker::Model;
 /// Ranges (from, to) in rising order, none empty and none touching the next: the one normal list of a set.
 ///
 /// Up to 128 are kept in one list, and more in blocks of 1 to 128, of which two side by side have together more than
-/// 128. Nodes have 1 to 16 blocks, and two side by side together more than 16. Copies and results share the blocks that
-/// they have in common. Below, n is the number of ranges.
+/// 128. Nodes have 1 to 16 blocks, and two side by side together more than 16. Copies share all blocks, results most of
+/// those that they have in common with what they are made of. Below, n is the number of ranges.
 #[derive(Debug, Drop)]
 pub struct RangeList {
     /// The ranges of a list that has no nodes.
