@@ -284,7 +284,7 @@ impl Coverage {
     }
 
     /// The pixels that just one of the two sets has. One pass, O(n + m), in which blocks and nodes of one set that end
-    /// before the next range of the other are shared, where no block is begun. Refused where memory runs out.
+    /// before the next range of the other are mostly shared, where no block is begun. Refused where memory runs out.
     pub fn symmetric(&self, alloc: Global, other: &Coverage) -> Result<Coverage, Memory>
         ensures set { IfOk result (λ c. c ≡ symmetric self.now other.now) }
     {
