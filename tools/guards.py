@@ -49,7 +49,7 @@ CALL = re.compile(r"^(\w+) moc_(\w+)\(([^;{}]*)\);", re.MULTILINE)
 NUMBER = re.compile(r"uint\d+_t (\w+)")
 HANDLE = re.compile(r"moc_(?:desk|seat) (\w+)")
 TO_HANDLE = re.compile(r"moc_(?:desk|seat) \*(\w+)")
-ARRAY = re.compile(r"(const )?(?!void |moc_desk |moc_seat )\w+ (?:\*(\w+)|\(\*(\w+)\)\[\d+\])")
+ARRAY = re.compile(r"(const )?(?!void |moc_desk |moc_seat )(\w+) (?:\*(\w+)|\(\*(\w+)\)\[\d+\])")
 LENGTH = re.compile(r"size_t (\w+)")
 
 
@@ -62,13 +62,14 @@ class Call(NamedTuple):
 
 
 class Pointer(NamedTuple):
-    """A pointer that a call takes: which argument it is, its name, the name of its length where it is an array, and whether the call only
-    reads there."""
+    """A pointer that a call takes: which argument it is, its name, the name of its length where it is an array, whether the call only reads
+    there, and whether it is one to bytes, which lie anywhere."""
 
     place: int
     name: str
     length: str = ""
     is_read: bool = False
+    is_bytes: bool = False
 
     def is_null(self):
         if self.length:
@@ -104,10 +105,10 @@ def taken_by(call):
             pointers.append(Pointer(place, found[1]))
             passed.append(found[1])
         elif found := ARRAY.fullmatch(argument):
-            array, length = found[2] or found[3], LENGTH.fullmatch(next(places, (0, ""))[1])
+            array, length = found[3] or found[4], LENGTH.fullmatch(next(places, (0, ""))[1])
             if length is None:
                 raise ValueError(f"moc_{call.name}: no length follows {argument}")
-            pointers.append(Pointer(place, array, length[1], bool(found[1])))
+            pointers.append(Pointer(place, array, length[1], bool(found[1]), found[2] == "uint8_t"))
             passed += [f"{length[1]} ? {array} : NOTHING", length[1]]
         else:
             raise ValueError(f"moc_{call.name}: no guard knows {argument}")
@@ -117,7 +118,7 @@ def taken_by(call):
 def refusals(pointers):
     """What is refused, in this order: when, with which code, and the argument that is told."""
     yield from ((it.is_null(), "MOC_NULL", it.place) for it in pointers)
-    yield from ((it.is_askew(), "MOC_MISALIGNED", it.place) for it in pointers)
+    yield from ((it.is_askew(), "MOC_MISALIGNED", it.place) for it in pointers if not it.is_bytes)
     for at, later in enumerate(pointers):
         for earlier in pointers[:at]:
             if not (earlier.is_read and later.is_read):
