@@ -41,8 +41,8 @@ SHOWN = {"NULL": ("NULL", "none"), "NONE": ("NULL",), "ASKEW": ("askew",)}
 # The types of the crate as C has them. A `Global` takes no bytes, and a ghost field is none.
 TYPES = {"u8": "uint8_t", "u32": "uint32_t", "u64": "uint64_t", "bool": "bool", "[u64; 8]": "uint64_t[8]", "Outcome": "moc_outcome",
          "Range": "moc_range", "Desk": "moc_desk", "Seat": "moc_seat", "*mut u8": "void*"}
-# Calls that guards know no answer or argument of: a call of another answer, a pointer with no length behind it, a length by itself, elements
-# of no size or with pointers of their own, a `const` at another place.
+# Calls that guards know no answer or argument of: a call of another answer, a pointer with no length behind it, a length by itself,
+# elements of no size or with pointers of their own, a `const` at another place.
 STRANGE = ["int moc_x(moc_desk *desk);", "moc_outcome *moc_x(moc_desk *desk);", "bool moc_x(moc_desk *out, uint8_t order);",
            "void moc_x(moc_desk *desk);", "moc_outcome moc_x(moc_desk desk);", "moc_outcome moc_x(const uint8_t *text);",
            "moc_outcome moc_x(const uint8_t *text, uint64_t length);", "moc_outcome moc_x(const uint8_t **texts, size_t count);",

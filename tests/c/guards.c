@@ -18,8 +18,8 @@ static struct {
     uint8_t bytes[1], faces[1];
 } at;
 
-/* Two pieces of memory, and what each is to hold: one of numbers, all of them 17; and one of zeros, but for a desk at byte 32, with one set,
-   all of the sky, and its text, and two seats at bytes 96 and 104, the first at a map of it with a client for the second. */
+/* Two pieces of memory, and what each is to hold: one of numbers, all of them 17; and one of zeros, but for a desk at byte 32, with one
+   set, all of the sky, and its text, and two seats at bytes 96 and 104, the first at a map of it with a client for the second. */
 typedef union {
     uint64_t words[32];
     moc_desk desks[32];

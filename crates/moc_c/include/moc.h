@@ -9,7 +9,7 @@
      Only these calls read or write what it holds. The same of a seat, by `moc_seat_open` and `moc_seat_close`.
    - An array is a pointer and a length in elements, which lie there. While the call runs, nobody else changes what is passed, nor reads
      what the call writes.
-   - A desk is in one call at a time, and so is a seat. Each may go from thread to thread, where a lock, or the start or the end of a thread,
+   - A desk is in one call at a time, and so is a seat. Each may go from thread to thread, where a lock, or the start or end of a thread,
      lies between. Seats at one map need no lock between them.
    - No call from a signal handler, or in the forked child of a process with threads.
    - malloc, realloc and free are those of one allocator, and a block is aligned as C asks.
