@@ -1,16 +1,19 @@
 #!/usr/bin/env python3
-"""Calls the library for C: `tests/c/calls.c` makes each call of `moc.h`, with right, empty, short and wrong arguments, and `tests/c/nulls.c`
-with each pointer null in turn, under the address and undefined-behaviour sanitizers and the one for leaks, and once without;
-`tests/c/growths.c` makes sets and texts with each growth refused in turn (`tests/refuse.c`). The program of `docs/C.md` writes what the page
-says. The header is read as C99 and as C++, and its codes are compared with those of the crate; and each call of it is an export of the
-library, and each export a call of it, with arguments and an answer of the same types; its structs have the fields of the crate's.
+"""Calls the library for C: `tests/c/calls.c` makes each call of `moc.h`, with right, empty, short and wrong arguments, and
+`tests/c/guards.c` with each pointer in turn null, not aligned and overlapping another, under the address and undefined-behaviour sanitizers
+and the one for leaks, and once without; `tests/c/growths.c` makes sets and texts with each growth refused in turn (`tests/refuse.c`). The
+program of `docs/C.md` writes what the page says. The header is read as C99 and as C++, and its codes are compared with those of the crate;
+and each call of it is an export of the library, and each export a call of it, with arguments and an answer of the same types; its structs
+have the fields of the crate's.
 
 The library is linked anew, by `./moc library`, in a room of its own. The last line printed is `N passed, M failed`."""
+import itertools
 import os
 import re
 import subprocess
 import sys
 import tempfile
+from collections import Counter
 
 TOP = os.path.dirname(os.path.dirname(os.path.abspath(__file__)))
 CRATE = os.path.join(TOP, "crates", "moc_c")
@@ -22,24 +25,30 @@ CC, CXX = os.environ.get("CC", "cc"), os.environ.get("CXX", "c++")
 WARNINGS = ["-Wall", "-Wextra", "-Wpedantic", "-Werror"]
 SANITIZERS = ["-fsanitize=address,undefined", "-fno-sanitize-recover=all"]
 CODE = re.compile(r"^\s*(?:MOC|pub\(crate\) const) ?_?(\w+)(?:: u32)? = (\d+)", re.MULTILINE)
-# The code of the guards alone: what is proved has no null pointer, and no code for one.
-OF_GUARDS = ("NULL", "9")
+# The codes of the guards alone: what is proved has no such pointer, and no code for one.
+OF_GUARDS = [("NULL", "9"), ("MISALIGNED", "80"), ("OVERLAP", "81")]
 # A call or a struct of the header, and an export or a struct of the crate: what it answers, its name, and what it takes or has.
 CALL = re.compile(r"^(bool|void|moc_outcome) (moc_\w+)\(([^;]*)\);", re.MULTILINE)
 STRUCT = re.compile(r"^typedef struct (moc_\w+) \{([^}]*)\}", re.MULTILINE)
 EXPORT = re.compile(r"extern \"C\" fn (moc_\w+)\(([^)]*)\)(?: -> (\w+))?")
 LAID_OUT = re.compile(r"^#\[repr\(C\)\]\n(?:#[^\n]*\n)*pub struct (\w+) \{\n(.*?)^\}", re.MULTILINE | re.DOTALL)
 COMMENT = re.compile(r"/\*.*?\*/", re.DOTALL)
-# A row of nulls.c: whether it has elements, which argument is null, the call, and its arguments.
-ROW = re.compile(r"^ +(NULL|NONE)_AT\((\d+), (moc_\w+)\(([^()]*)\)", re.MULTILINE)
+# A row of guards.c: what it shows, at which argument, the call, and its arguments; and one of an overlap: which two, and the call.
+ROW = re.compile(r"^ +(NULL|NONE|ASKEW)_AT\((\d+), (moc_\w+)\(([^()]*)\)", re.MULTILINE)
+OVERLAP = re.compile(r"^ +OVERLAP_AT\((\d+), (\d+), (moc_\w+)\(", re.MULTILINE)
+# Which argument is so in a row.
+SHOWN = {"NULL": ("NULL", "none"), "NONE": ("NULL",), "ASKEW": ("askew",)}
 # The types of the crate as C has them. A `Global` takes no bytes, and a ghost field is none.
 TYPES = {"u8": "uint8_t", "u32": "uint32_t", "u64": "uint64_t", "bool": "bool", "[u64; 8]": "uint64_t[8]", "Outcome": "moc_outcome",
          "Range": "moc_range", "Desk": "moc_desk", "Seat": "moc_seat", "*mut u8": "void*"}
-# Calls that guards know no answer or argument of: a call of another answer, a pointer with no length behind it, a length by itself.
+# Calls that guards know no answer or argument of: a call of another answer, a pointer with no length behind it, a length by itself,
+# elements of no size or with pointers of their own, a `const` at another place.
 STRANGE = ["int moc_x(moc_desk *desk);", "moc_outcome *moc_x(moc_desk *desk);", "bool moc_x(moc_desk *out, uint8_t order);",
            "void moc_x(moc_desk *desk);", "moc_outcome moc_x(moc_desk desk);", "moc_outcome moc_x(const uint8_t *text);",
            "moc_outcome moc_x(const uint8_t *text, uint64_t length);", "moc_outcome moc_x(const uint8_t **texts, size_t count);",
-           "moc_outcome moc_x(size_t length);"]
+           "moc_outcome moc_x(size_t length);", "moc_outcome moc_x(void *at, size_t length);",
+           "moc_outcome moc_x(const void *at, size_t length);", "moc_outcome moc_x(const moc_desk *desks, size_t count);",
+           "moc_outcome moc_x(uint8_t const *text, size_t length);", "moc_outcome moc_x(const uint8_t *const text, size_t length);"]
 SECONDS = 300
 
 
@@ -133,7 +142,7 @@ def check_header(tally, room):
         told = ran([compiler, f"-std={standard}", *WARNINGS, f"-I{room}", "-fsyntax-only", os.path.join(room, name)])
         tally.add(f"the header as {standard}", told.returncode == 0, told.stderr)
     header, codes = CODE.findall(read(HEADER)), CODE.findall(read(os.path.join(CRATE, "src", "codes.rt")))
-    tally.add("the codes", codes and header == sorted([*codes, OF_GUARDS], key=lambda it: int(it[1])), f"{header}\n{codes}")
+    tally.add("the codes", codes and header == sorted([*codes, *OF_GUARDS], key=lambda it: int(it[1])), f"{header}\n{codes}")
     here, there = declared(), exported()
     calls = [it for it in here if here[it][0] != "struct"]
     tally.add("the calls", calls and sorted(here) == sorted(there), sorted({*here} ^ {*there}))
@@ -144,15 +153,23 @@ def check_header(tally, room):
 
 
 def check_rows(tally):
-    """tests/c/nulls.c has a row with each pointer of each call null, and one with no elements for each array; it opens and closes none."""
-    text, rows, wanted = read(os.path.join(TOP, "tests", "c", "nulls.c")), set(), set()
+    """tests/c/guards.c has a row with each pointer of each call null, and not aligned; one with no elements for each array; and three for
+    each two arguments that may not overlap, or one where these are handles. It opens and closes none."""
+    text, rows, wanted, overlaps = read(os.path.join(TOP, "tests", "c", "guards.c")), set(), set(), Counter()
     for kind, place, name, taken in ROW.findall(text):
-        if taken.split(", ")[int(place)] in ("NULL", "none"):
+        if taken.split(", ")[int(place)] in SHOWN[kind]:
             rows.add((kind, int(place), name))
     for name, (answer, *taken) in declared().items():
         pointers = [at for at, kind in enumerate(taken) if "*" in kind] if answer == "moc_outcome" else []
-        wanted |= {("NULL", at, name) for at in pointers} | {("NONE", at, name) for at in pointers if taken[at + 1:at + 2] == ["size_t"]}
-    tally.add("each pointer is null once", wanted and rows == wanted, sorted(rows ^ wanted))
+        arrays = [at for at in pointers if taken[at + 1:at + 2] == ["size_t"]]
+        wanted |= {("NULL", at, name) for at in pointers} | {("NONE", at, name) for at in arrays}
+        wanted |= {("ASKEW", at, name) for at in pointers if "uint8_t" not in taken[at]}
+        for two in itertools.combinations(pointers, 2):
+            if not all(taken[at].startswith("const ") for at in two):
+                overlaps[name, *two] = 3 if {*two} & {*arrays} else 1
+    tally.add("each pointer is null once, and not aligned", wanted and rows == wanted, sorted(rows ^ wanted))
+    found = Counter((name, int(earlier), int(later)) for earlier, later, name in OVERLAP.findall(text))
+    tally.add("each two overlap", overlaps and found == overlaps, (found - overlaps) + (overlaps - found))
     others = [name for name, (answer, *_) in declared().items() if answer in ("bool", "void")]
     tally.add("none is opened and closed", others and all(re.search(rf"{it}\((NULL|no_\w+)\)", text) for it in others), others)
 
@@ -182,7 +199,7 @@ def check_calls(tally, room):
     guards = os.path.join(room, "guards.c")
     with open(guards, "w") as file:
         file.write(source_of(calls_of(read(HEADER))))
-    for name in ("calls", "nulls"):
+    for name in ("calls", "guards"):
         for options in ([], [*SANITIZERS, guards]):
             program = built(tally, room, name, *options)
             if program is not None:

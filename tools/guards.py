@@ -1,9 +1,11 @@
 #!/usr/bin/env python3
 """Guards in C before the proved calls of the library, made of the calls that `moc.h` declares.
 
-To a proved call a desk crosses as a borrow and an array as a slice, and neither has a null. So the proved calls go by other names, and each
-call of the header is a guard, which looks at its pointers. At the first that is null it answers MOC_NULL and the argument's number, and
-nothing else is done; else it makes the proved call. An empty array at a null pointer is handed on as an empty one elsewhere.
+To a proved call a desk crosses as a borrow and an array as a slice: neither has a null, each is aligned for its type, and what is written
+lies apart from all else. So the proved calls go by other names, and each call of the header is a guard, which looks at its pointers. At the
+first that is null it answers MOC_NULL, else at the first that is not aligned MOC_MISALIGNED, else at the first that overlaps one before it
+MOC_OVERLAP, with the argument's number, and nothing else is done; else it makes the proved call. An empty array is handed on as one that
+lies elsewhere.
 
 Run by itself it prints the guards."""
 import re
@@ -22,9 +24,18 @@ HEAD = """/* Made of moc.h by tools/guards.py. */
 static uint64_t nothing;
 #define NOTHING ((void *)&nothing)
 
-static moc_outcome null_at(uint64_t place)
+#define IS_ALIGNED(pointer) ((uintptr_t)(pointer) % __alignof__(*(pointer)) == 0)
+
+/* Whether two arrays, of so many elements of a size each, have a byte in common. Quotients, since a product may overflow. */
+static bool overlap(const void *a, size_t size, size_t count, const void *b, size_t other_size, size_t other_count)
 {
-    moc_outcome outcome = {MOC_NULL, place, 0};
+    uintptr_t from = (uintptr_t)a, other = (uintptr_t)b;
+    return count && other_count && (from < other ? (other - from) / size < count : (from - other) / other_size < other_count);
+}
+
+static moc_outcome refused(uint32_t code, uint64_t place)
+{
+    moc_outcome outcome = {code, place, 0};
     return outcome;
 }
 """
@@ -38,7 +49,7 @@ CALL = re.compile(r"^(\w+) moc_(\w+)\(([^;{}]*)\);", re.MULTILINE)
 NUMBER = re.compile(r"uint\d+_t (\w+)")
 HANDLE = re.compile(r"moc_(?:desk|seat) (\w+)")
 TO_HANDLE = re.compile(r"moc_(?:desk|seat) \*(\w+)")
-ARRAY = re.compile(r"(?:const )?\w+ (?:\*(\w+)|\(\*(\w+)\)\[\d+\])")
+ARRAY = re.compile(r"(const )?(?!void |moc_desk |moc_seat )(\w+) (?:\*(\w+)|\(\*(\w+)\)\[\d+\])")
 LENGTH = re.compile(r"size_t (\w+)")
 
 
@@ -48,6 +59,29 @@ class Call(NamedTuple):
     answer: str
     name: str
     arguments: list[str]
+
+
+class Pointer(NamedTuple):
+    """A pointer that a call takes: which argument it is, its name, the name of its length where it is an array, whether the call only reads
+    there, and whether it is one to bytes, which lie anywhere."""
+
+    place: int
+    name: str
+    length: str = ""
+    is_read: bool = False
+    is_bytes: bool = False
+
+    def is_null(self):
+        if self.length:
+            return f"!{self.name} && {self.length}"
+        return f"!{self.name} || (IS_ALIGNED({self.name}) && !{self.name}->at)"
+
+    def is_askew(self):
+        return f"{self.length} && !IS_ALIGNED({self.name})" if self.length else f"!IS_ALIGNED({self.name})"
+
+    def overlaps(self, other):
+        extents = (f"{it.name}, sizeof *{it.name}, {it.length or 1}" for it in (self, other))
+        return f"overlap({', '.join(extents)})"
 
 
 def calls_of(header):
@@ -60,35 +94,47 @@ def calls_of(header):
     return [Call(answer, name, [" ".join(it.split()) for it in taken.split(",")]) for answer, name, taken in CALL.findall(header)]
 
 
-def refused(call):
-    """A guard's refusals of a call that answers an outcome, and the arguments as they are passed on."""
-    lines, passed = [], []
+def taken_by(call):
+    """The pointers of a call that answers an outcome, and its arguments as they are passed on."""
+    pointers, passed = [], []
     places = iter(enumerate(call.arguments))
     for place, argument in places:
         if found := NUMBER.fullmatch(argument):
             passed.append(found[1])
         elif found := TO_HANDLE.fullmatch(argument):
-            lines += [f"if (!{found[1]} || !{found[1]}->at)", f"    return null_at({place});"]
+            pointers.append(Pointer(place, found[1]))
             passed.append(found[1])
         elif found := ARRAY.fullmatch(argument):
-            array, length = found[1] or found[2], LENGTH.fullmatch(next(places, (0, ""))[1])
+            array, length = found[3] or found[4], LENGTH.fullmatch(next(places, (0, ""))[1])
             if length is None:
                 raise ValueError(f"moc_{call.name}: no length follows {argument}")
-            lines += [f"if (!{array} && {length[1]})", f"    return null_at({place});"]
-            passed += [f"{array} ? {array} : NOTHING", length[1]]
+            pointers.append(Pointer(place, array, length[1], bool(found[1]), found[2] == "uint8_t"))
+            passed += [f"{length[1]} ? {array} : NOTHING", length[1]]
         else:
             raise ValueError(f"moc_{call.name}: no guard knows {argument}")
-    return lines, passed
+    return pointers, passed
+
+
+def refusals(pointers):
+    """What is refused, in this order: when, with which code, and the argument that is told."""
+    yield from ((it.is_null(), "MOC_NULL", it.place) for it in pointers)
+    yield from ((it.is_askew(), "MOC_MISALIGNED", it.place) for it in pointers if not it.is_bytes)
+    for at, later in enumerate(pointers):
+        for earlier in pointers[:at]:
+            if not (earlier.is_read and later.is_read):
+                yield earlier.overlaps(later), "MOC_OVERLAP", later.place
 
 
 def body_of(call):
     """The lines of a guard."""
     begun, ended = (kind.fullmatch(", ".join(call.arguments)) for kind in (TO_HANDLE, HANDLE))
     if call.answer == "moc_outcome":
-        lines, passed = refused(call)
+        pointers, passed = taken_by(call)
+        lines = [it for when, code, place in refusals(pointers) for it in (f"if ({when})", f"    return refused({code}, {place});")]
         return [*lines, f"return {PROVED}{call.name}({', '.join(passed)});"]
     if call.answer == "bool" and begun:
-        return [f"if (!{begun[1]})", "    return false;", f"{begun[1]}->at = NULL;", f"return {PROVED}{call.name}({begun[1]});"]
+        out = begun[1]
+        return [f"if (!{out} || !IS_ALIGNED({out}))", "    return false;", f"{out}->at = NULL;", f"return {PROVED}{call.name}({out});"]
     if call.answer == "void" and ended:
         return [f"if ({ended[1]}.at)", f"    {PROVED}{call.name}({ended[1]});"]
     raise ValueError(f"moc_{call.name}: no guard knows what it answers: {call.answer}")

@@ -61,6 +61,8 @@ KINDS = {
     72: Kind("BadCount", "a map has 1 to 64 clients", ("clients",)),
     73: Kind("NoClient", "no further client waits on the seat"),
     BUSY: Kind("Busy", "another client holds a part of the sky", ("part", "client")),
+    80: Kind("Misaligned", "a pointer is not aligned for its type", ("argument",)),
+    81: Kind("Overlap", "what a call writes overlaps another argument", ("argument",)),
 }
 
 

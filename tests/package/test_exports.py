@@ -9,7 +9,7 @@ from ploverchaise import MOC, _library, errors
 from .common import TestCase
 
 HEADER = os.path.join(os.path.dirname(os.path.dirname(os.path.dirname(os.path.abspath(__file__)))), "crates", "moc_c", "include", "moc.h")
-NO_ROOM, NO_SUCH_SET, NO_SUCH_ORDER, LENGTHS_DIFFER, NO_SUCH_CELL, NULL = 2, 3, 4, 5, 6, 9
+NO_ROOM, NO_SUCH_SET, NO_SUCH_ORDER, LENGTHS_DIFFER, NO_SUCH_CELL, NULL, MISALIGNED, OVERLAP = 2, 3, 4, 5, 6, 9, 80, 81
 NO_KEY = 2**64 - 1
 # Where a name of the header is not that of the fault.
 PREFIX = re.compile("^(ASCII|JSON|UNIQ|RANGE|LINE)_")
@@ -161,6 +161,21 @@ class WrongArguments(TestCase):
             with self.subTest(name=name):
                 told = call(*(None if it in handles else 0 for it in call.argtypes))
                 self.assertEqual((told.code, told.first, told.second), (NULL, 0, 0))
+
+    def test_pointers_that_are_not_aligned(self):
+        askew = ctypes.addressof(room := numbers(0, 0)) + 1
+        for name in ("nest_to_ring", "ring_to_nest", "nest_to_uniq", "touching"):
+            self.assertEqual(self.call(name, 1, askew, 1, numbers(*[0] * 8), 1), (MISALIGNED, 1, 0), name)
+            self.assertEqual(self.call(name, 1, numbers(0), 1, askew, 1), (MISALIGNED, 3, 0), name)
+        self.assertEqual(self.call("cells", self.moc._key, askew, 1), (MISALIGNED, 2, 0))
+        self.assertEqual(list(room), [0, 0])
+
+    def test_arrays_that_overlap(self):
+        room = numbers(*[0] * 16)
+        for name in ("nest_to_ring", "ring_to_nest", "nest_to_uniq", "touching"):
+            self.assertEqual(self.call(name, 1, room, 1, room, 1), (OVERLAP, 3, 0), name)
+        self.assertEqual(self.call("contains_all", self.moc._key, room, 1, room, 1), (OVERLAP, 4, 0))
+        self.assertEqual(list(room), [0] * 16)
 
     def test_numbers_that_no_cell_has(self):
         room = numbers(*[0] * 32)

@@ -7,16 +7,18 @@
    What a caller owes, which nothing checks:
    - A desk that is not zeroed is begun by `moc_open`, and ended once, by `moc_close`; behind that neither it nor a copy of it is used.
      Only these calls read or write what it holds. The same of a seat, by `moc_seat_open` and `moc_seat_close`.
-   - An array is a pointer, aligned for its type, and a length in elements, which lie there. Nobody changes what is passed as `const` while
-     the call runs, and what is written overlaps nothing else that is passed.
-   - A desk is in one call at a time, and so is a seat; the two seats of `moc_map_join` are two. Each may go from thread to thread, where
-     a lock, or the start or the end of a thread, lies between. Seats at one map need no lock between them.
+   - An array is a pointer and a length in elements, which lie there. While the call runs, nobody else changes what is passed, nor reads
+     what the call writes.
+   - A desk is in one call at a time, and so is a seat. Each may go from thread to thread, where a lock, or the start or end of a thread,
+     lies between. Seats at one map need no lock between them.
    - No call from a signal handler, or in the forked child of a process with threads.
    - malloc, realloc and free are those of one allocator, and a block is aligned as C asks.
 
    All else holds for all arguments: a key, an order, a cell or a length that is wrong gets its code, and a number that is no pixel is in
-   no coverage. A pointer that is null gets MOC_NULL, before all else that is wrong, and nothing is read or written; so does one to a desk or
-   a seat that is zeroed, as it is where `moc_open` or `moc_seat_open` answered false. An array of length 0 may be null. */
+   no coverage. A wrong pointer comes before all else that is wrong, and nothing is read or written: one that is null gets MOC_NULL, and so
+   does one to a desk or a seat that is zeroed, as it is where memory lacked to open it; else one that is not aligned for its type gets
+   MOC_MISALIGNED; else a desk, a seat or an array that is not `const`, where it overlaps another argument, gets MOC_OVERLAP, and so does
+   one seat twice. An array of length 0 may be at any pointer, and overlaps nothing. */
 #ifndef MOC_H
 #define MOC_H
 
@@ -104,7 +106,11 @@ enum {
     MOC_SEAT_TAKEN = 71, /* somebody sits there */
     MOC_BAD_COUNT = 72,  /* first: the number of clients, which is not 1 to 64 */
     MOC_NO_CLIENT = 73,  /* no further client waits on this seat */
-    MOC_BUSY = 74        /* a part of the sky is held: first: the part, 0 to 11; second: the number of the client that holds it */
+    MOC_BUSY = 74,       /* a part of the sky is held: first: the part, 0 to 11; second: the number of the client that holds it */
+
+    /* pointers, as MOC_NULL */
+    MOC_MISALIGNED = 80, /* a pointer is not aligned for its type; first: which argument, from 0 */
+    MOC_OVERLAP = 81     /* what a call writes overlaps another argument; first: the later one of the two, from 0 */
 };
 
 /* In place of an order: that there is none. */
@@ -113,7 +119,7 @@ enum {
 /* ---- The desk. */
 
 /* Begins a desk with nothing on it in the room at `out`, and answers true; or false, where no memory is left, and zeroes it, or where `out`
-   is null. */
+   is null or not aligned. */
 bool moc_open(moc_desk *out);
 /* Ends a desk with all that lies on it; nothing where it is zeroed. */
 void moc_close(moc_desk desk);

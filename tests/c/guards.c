@@ -1,0 +1,537 @@
+/* Calls each function of moc.h with each of its pointers null, not aligned, and overlapping another one that it takes, with desks and seats
+   that are none, and with no elements at such pointers. What is expected stands at the head of moc.h. The last line printed is `N passed, M
+   failed`. Built and run by library.py, which looks that no pointer of a call is left out, and no two of them. */
+#include "moc.h"
+
+#include <stdio.h>
+#include <string.h>
+
+static unsigned passed, failed;
+/* A desk with one set, all of the sky at key 0, and its text; a seat at a map of it, with a reply; and one on which nobody sits. */
+static moc_desk desk;
+static moc_seat seat, other;
+/* What calls read, and may write. */
+static struct {
+    moc_range ranges[1];
+    uint64_t cells[1], rows[1][8];
+    uint32_t xs[1], ys[1];
+    uint8_t bytes[1], faces[1];
+} at;
+
+/* Two pieces of memory, and what each is to hold: one of numbers, all of them 17; and one of zeros, but for a desk at byte 32, with one
+   set, all of the sky, and its text, and two seats at bytes 96 and 104, the first at a map of it with a client for the second. */
+typedef union {
+    uint64_t words[32];
+    moc_desk desks[32];
+    moc_seat seats[32];
+} memory;
+static memory room, house, room_kept, house_kept;
+/* They are seen as arrays of many types. */
+#define SEEN(type, name, in) static type *const name = (void *)&in
+SEEN(uint64_t, words, room);
+SEEN(uint32_t, halves, room);
+SEEN(uint8_t, bytes, room);
+typedef uint64_t row[8];
+SEEN(row, rows, room);
+SEEN(moc_desk, desks, house);
+SEEN(moc_seat, seats, house);
+SEEN(moc_range, its_ranges, house);
+SEEN(uint64_t, its_words, house);
+SEEN(uint8_t, its_bytes, house);
+
+static void check(int line, const char *text, bool holds)
+{
+    passed += holds;
+    failed += !holds;
+    if (!holds)
+        printf("line %d: %s\n", line, text);
+}
+#define CHECK(condition) check(__LINE__, #condition, condition)
+
+static bool is(moc_outcome outcome, uint32_t code, uint64_t first, uint64_t second)
+{
+    return outcome.code == code && outcome.first == first && outcome.second == second;
+}
+
+/* Whether all is as it was: what lies on the desk but its keys, who sits where, and what calls may write. */
+static bool is_kept(void)
+{
+    static const uint8_t text[] = "0/0-11\n", reply[] = "cover 0/0-11\n";
+    uint8_t copy[16];
+    for (size_t i = 0; i < sizeof at; i++)
+        if (((const uint8_t *)&at)[i] != 0)
+            return false;
+    if (memcmp(&room, &room_kept, sizeof room) != 0 || memcmp(&house, &house_kept, sizeof house) != 0)
+        return false;
+    return is(moc_text(&desk, copy, sizeof copy), MOC_DONE, 7, 0) && memcmp(copy, text, 7) == 0
+           && is(moc_map_answer(&seat, copy, sizeof copy), MOC_DONE, 13, 0) && memcmp(copy, reply, 13) == 0
+           && is(moc_map_apply(&other, text, 0), MOC_NO_MAP, 0, 0);
+}
+
+static bool is_done(moc_outcome outcome)
+{
+    room = room_kept;
+    house = house_kept;
+    return outcome.code == MOC_DONE && is_kept();
+}
+
+/* Of a call with a null pointer: which argument is told; and that nothing is done. */
+#define NULL_AT(argument, call) CHECK(is(call, MOC_NULL, argument, 0) && is_kept())
+/* The same of one with a pointer that is not aligned, and of one in which these two arguments overlap. */
+#define ASKEW_AT(argument, call) CHECK(is(call, MOC_MISALIGNED, argument, 0) && is_kept())
+#define OVERLAP_AT(earlier, later, call) CHECK(is(call, MOC_OVERLAP, later, 0) && is_kept())
+/* Of a call whose arguments adjoin: it is done, and what it wrote is as it was for the next one. */
+#define APART(call) CHECK(is_done(call))
+/* Of a call with no elements at a null pointer, which is this argument: what it tells. */
+#define NONE_AT(argument, call, code, first, second) CHECK(is(call, code, first, second))
+
+/* Calls on a desk that is none: `none` is null, or a desk that is zeroed. */
+static void without_desk(moc_desk *none)
+{
+    NULL_AT(0, moc_empty(none));
+    NULL_AT(0, moc_full(none));
+    NULL_AT(0, moc_from_ranges(none, at.ranges, 1));
+    NULL_AT(0, moc_from_cells(none, 0, at.cells, 1));
+    NULL_AT(0, moc_from_uniqs(none, at.cells, 1));
+    NULL_AT(0, moc_read_ascii(none, at.bytes, 1));
+    NULL_AT(0, moc_read_json(none, at.bytes, 1));
+    NULL_AT(0, moc_read_uniq(none, at.bytes, 1));
+    NULL_AT(0, moc_union(none, 0, 0));
+    NULL_AT(0, moc_intersection(none, 0, 0));
+    NULL_AT(0, moc_difference(none, 0, 0));
+    NULL_AT(0, moc_symmetric(none, 0, 0));
+    NULL_AT(0, moc_complement(none, 0));
+    NULL_AT(0, moc_degrade(none, 0, 0));
+    NULL_AT(0, moc_free(none, 0));
+    NULL_AT(0, moc_count(none, 0));
+    NULL_AT(0, moc_count_common(none, 0, 0));
+    NULL_AT(0, moc_range_count(none, 0));
+    NULL_AT(0, moc_deepest_order(none, 0));
+    NULL_AT(0, moc_is_empty(none, 0));
+    NULL_AT(0, moc_contains(none, 0, 0));
+    NULL_AT(0, moc_meets(none, 0, 0));
+    NULL_AT(0, moc_covers(none, 0, 0));
+    NULL_AT(0, moc_same(none, 0, 0));
+    NULL_AT(0, moc_contains_all(none, 0, at.cells, 1, at.bytes, 1));
+    NULL_AT(0, moc_ranges(none, 0, at.ranges, 1));
+    NULL_AT(0, moc_cells(none, 0, at.cells, 1));
+    NULL_AT(0, moc_write_ascii(none, 0, MOC_NONE));
+    NULL_AT(0, moc_write_json(none, 0, MOC_NONE));
+    NULL_AT(0, moc_write_uniq(none, 0));
+    NULL_AT(0, moc_describe(none, 0, MOC_NONE));
+    NULL_AT(0, moc_draw(none, 0));
+    NULL_AT(0, moc_text(none, at.bytes, 1));
+    NULL_AT(1, moc_map_begin(&other, none, 0, 1));
+    NULL_AT(1, moc_map_set(&seat, none));
+}
+
+/* The same of seats. */
+static void without_seat(moc_seat *none)
+{
+    NULL_AT(0, moc_map_begin(none, &desk, 0, 1));
+    NULL_AT(0, moc_map_join(none, &other));
+    NULL_AT(1, moc_map_join(&seat, none));
+    NULL_AT(0, moc_map_apply(none, at.bytes, 1));
+    NULL_AT(0, moc_map_answer(none, at.bytes, 1));
+    NULL_AT(0, moc_map_set(none, &desk));
+}
+
+/* Arrays that are to have elements, at a null pointer. */
+static void without_arrays(void)
+{
+    NULL_AT(1, moc_from_ranges(&desk, NULL, 1));
+    NULL_AT(2, moc_from_cells(&desk, 0, NULL, 1));
+    NULL_AT(1, moc_from_uniqs(&desk, NULL, 1));
+    NULL_AT(1, moc_read_ascii(&desk, NULL, 1));
+    NULL_AT(1, moc_read_json(&desk, NULL, SIZE_MAX));
+    NULL_AT(1, moc_read_uniq(&desk, NULL, 1));
+    NULL_AT(2, moc_contains_all(&desk, 0, NULL, 1, at.bytes, 1));
+    NULL_AT(4, moc_contains_all(&desk, 0, at.cells, 1, NULL, 1));
+    NULL_AT(2, moc_ranges(&desk, 0, NULL, 1));
+    NULL_AT(2, moc_cells(&desk, 0, NULL, 1));
+    NULL_AT(1, moc_text(&desk, NULL, 100));
+    NULL_AT(1, moc_nest_to_ring(0, NULL, 1, at.cells, 1));
+    NULL_AT(3, moc_nest_to_ring(0, at.cells, 1, NULL, 1));
+    NULL_AT(1, moc_ring_to_nest(0, NULL, 1, at.cells, 1));
+    NULL_AT(3, moc_ring_to_nest(0, at.cells, 1, NULL, 1));
+    NULL_AT(1, moc_nest_to_uniq(0, NULL, 1, at.cells, 1));
+    NULL_AT(3, moc_nest_to_uniq(0, at.cells, 1, NULL, 1));
+    NULL_AT(0, moc_uniq_to_nest(NULL, 1, at.bytes, 1, at.cells, 1));
+    NULL_AT(2, moc_uniq_to_nest(at.cells, 1, NULL, 1, at.cells, 1));
+    NULL_AT(4, moc_uniq_to_nest(at.cells, 1, at.bytes, 1, NULL, 1));
+    NULL_AT(1, moc_nest_to_face_xy(0, NULL, 1, at.faces, 1, at.xs, 1, at.ys, 1));
+    NULL_AT(3, moc_nest_to_face_xy(0, at.cells, 1, NULL, 1, at.xs, 1, at.ys, 1));
+    NULL_AT(5, moc_nest_to_face_xy(0, at.cells, 1, at.faces, 1, NULL, 1, at.ys, 1));
+    NULL_AT(7, moc_nest_to_face_xy(0, at.cells, 1, at.faces, 1, at.xs, 1, NULL, 1));
+    NULL_AT(1, moc_touching(0, NULL, 1, at.rows, 1));
+    NULL_AT(3, moc_touching(0, at.cells, 1, NULL, 1));
+    NULL_AT(1, moc_map_apply(&seat, NULL, 1));
+    NULL_AT(1, moc_map_answer(&seat, NULL, 1));
+}
+
+/* The first null pointer is told, and before all else that is wrong. */
+static void before_all_else(void)
+{
+    NULL_AT(0, moc_contains_all(NULL, 99, NULL, 1, NULL, 2));
+    NULL_AT(2, moc_contains_all(&desk, 99, NULL, 1, NULL, 2));
+    NULL_AT(4, moc_contains_all(&desk, 99, NULL, 0, NULL, 2));
+    NULL_AT(1, moc_nest_to_face_xy(30, NULL, 1, NULL, 2, NULL, 3, NULL, 4));
+    NULL_AT(7, moc_nest_to_face_xy(30, NULL, 0, NULL, 0, NULL, 0, NULL, 1));
+    NULL_AT(2, moc_from_cells(&desk, 30, NULL, 1));
+    NULL_AT(2, moc_ranges(&desk, 99, NULL, 1));
+    NULL_AT(0, moc_map_begin(NULL, NULL, 99, 0));
+    NULL_AT(1, moc_map_begin(&seat, NULL, 99, 0));
+    NULL_AT(0, moc_map_join(NULL, NULL));
+    NULL_AT(1, moc_map_apply(&other, NULL, 1));
+}
+
+/* Pointers that are not aligned for a desk, a seat, a number of 64 bits, a range or a row. */
+static void not_aligned(void *askew)
+{
+    ASKEW_AT(0, moc_empty(askew));
+    ASKEW_AT(0, moc_full(askew));
+    ASKEW_AT(0, moc_from_ranges(askew, at.ranges, 1));
+    ASKEW_AT(0, moc_from_cells(askew, 0, at.cells, 1));
+    ASKEW_AT(0, moc_from_uniqs(askew, at.cells, 1));
+    ASKEW_AT(0, moc_read_ascii(askew, at.bytes, 1));
+    ASKEW_AT(0, moc_read_json(askew, at.bytes, 1));
+    ASKEW_AT(0, moc_read_uniq(askew, at.bytes, 1));
+    ASKEW_AT(0, moc_union(askew, 0, 0));
+    ASKEW_AT(0, moc_intersection(askew, 0, 0));
+    ASKEW_AT(0, moc_difference(askew, 0, 0));
+    ASKEW_AT(0, moc_symmetric(askew, 0, 0));
+    ASKEW_AT(0, moc_complement(askew, 0));
+    ASKEW_AT(0, moc_degrade(askew, 0, 0));
+    ASKEW_AT(0, moc_free(askew, 0));
+    ASKEW_AT(0, moc_count(askew, 0));
+    ASKEW_AT(0, moc_count_common(askew, 0, 0));
+    ASKEW_AT(0, moc_range_count(askew, 0));
+    ASKEW_AT(0, moc_deepest_order(askew, 0));
+    ASKEW_AT(0, moc_is_empty(askew, 0));
+    ASKEW_AT(0, moc_contains(askew, 0, 0));
+    ASKEW_AT(0, moc_meets(askew, 0, 0));
+    ASKEW_AT(0, moc_covers(askew, 0, 0));
+    ASKEW_AT(0, moc_same(askew, 0, 0));
+    ASKEW_AT(0, moc_contains_all(askew, 0, at.cells, 1, at.bytes, 1));
+    ASKEW_AT(0, moc_ranges(askew, 0, at.ranges, 1));
+    ASKEW_AT(0, moc_cells(askew, 0, at.cells, 1));
+    ASKEW_AT(0, moc_write_ascii(askew, 0, MOC_NONE));
+    ASKEW_AT(0, moc_write_json(askew, 0, MOC_NONE));
+    ASKEW_AT(0, moc_write_uniq(askew, 0));
+    ASKEW_AT(0, moc_describe(askew, 0, MOC_NONE));
+    ASKEW_AT(0, moc_draw(askew, 0));
+    ASKEW_AT(0, moc_text(askew, at.bytes, 1));
+    ASKEW_AT(0, moc_map_begin(askew, &desk, 0, 1));
+    ASKEW_AT(1, moc_map_begin(&other, askew, 0, 1));
+    ASKEW_AT(0, moc_map_join(askew, &other));
+    ASKEW_AT(1, moc_map_join(&seat, askew));
+    ASKEW_AT(0, moc_map_apply(askew, at.bytes, 1));
+    ASKEW_AT(0, moc_map_answer(askew, at.bytes, 1));
+    ASKEW_AT(0, moc_map_set(askew, &desk));
+    ASKEW_AT(1, moc_map_set(&seat, askew));
+    CHECK(!moc_open(askew) && !moc_seat_open(askew) && is_kept());
+
+    ASKEW_AT(1, moc_from_ranges(&desk, askew, 1));
+    ASKEW_AT(2, moc_from_cells(&desk, 0, askew, 1));
+    ASKEW_AT(1, moc_from_uniqs(&desk, askew, 1));
+    ASKEW_AT(2, moc_contains_all(&desk, 0, askew, 1, at.bytes, 1));
+    ASKEW_AT(2, moc_ranges(&desk, 0, askew, 1));
+    ASKEW_AT(2, moc_cells(&desk, 0, askew, 12));
+    ASKEW_AT(1, moc_nest_to_ring(0, askew, 1, at.cells, 1));
+    ASKEW_AT(3, moc_nest_to_ring(0, at.cells, 1, askew, 1));
+    ASKEW_AT(1, moc_ring_to_nest(0, askew, 1, at.cells, 1));
+    ASKEW_AT(3, moc_ring_to_nest(0, at.cells, 1, askew, 1));
+    ASKEW_AT(1, moc_nest_to_uniq(0, askew, 1, at.cells, 1));
+    ASKEW_AT(3, moc_nest_to_uniq(0, at.cells, 1, askew, 1));
+    ASKEW_AT(0, moc_uniq_to_nest(askew, 1, at.bytes, 1, at.cells, 1));
+    ASKEW_AT(4, moc_uniq_to_nest(words, 1, at.bytes, 1, askew, 1));
+    ASKEW_AT(1, moc_nest_to_face_xy(0, askew, 1, at.faces, 1, at.xs, 1, at.ys, 1));
+    ASKEW_AT(1, moc_touching(0, askew, 1, at.rows, 1));
+    ASKEW_AT(3, moc_touching(0, at.cells, 1, askew, 1));
+
+    /* Before all that is wrong but a null pointer, and the first of them. */
+    ASKEW_AT(2, moc_from_cells(&desk, 30, askew, 1));
+    ASKEW_AT(2, moc_contains_all(&desk, 99, askew, 1, askew, 2));
+    ASKEW_AT(1, moc_nest_to_ring(30, askew, 1, askew, 2));
+    ASKEW_AT(3, moc_nest_to_ring(30, askew, 0, askew, 2));
+    ASKEW_AT(0, moc_map_begin(askew, askew, 0, 0));
+    NULL_AT(3, moc_nest_to_ring(0, askew, 1, NULL, 1));
+    NULL_AT(1, moc_map_begin(askew, NULL, 0, 1));
+    NULL_AT(1, moc_map_join(askew, NULL));
+    NULL_AT(2, moc_ranges(askew, 0, NULL, 1));
+}
+
+/* The same of numbers of 32 bits; bytes lie anywhere. */
+static void not_aligned_halves(void *askew)
+{
+    ASKEW_AT(5, moc_nest_to_face_xy(0, at.cells, 1, at.faces, 1, askew, 1, at.ys, 1));
+    ASKEW_AT(7, moc_nest_to_face_xy(0, at.cells, 1, at.faces, 1, at.xs, 1, askew, 1));
+    APART(moc_nest_to_face_xy(1, words, 1, askew, 1, halves + 40, 1, halves + 50, 1));
+    APART(moc_uniq_to_nest(words, 1, askew, 1, words + 20, 1));
+    APART(moc_contains_all(&desk, 0, words, 1, askew, 1));
+    APART(moc_text(&desk, askew, 7));
+    APART(moc_map_answer(&seat, askew, 13));
+}
+
+/* What a call writes over another array: at the same place, over its first element and its last; and before and behind it. The number 17 is
+   a cell of order 1, a NUNIQ number and a pixel. */
+static void written_over_arrays(void)
+{
+    OVERLAP_AT(2, 4, moc_contains_all(&desk, 0, words + 4, 2, bytes + 32, 2));
+    OVERLAP_AT(2, 4, moc_contains_all(&desk, 0, words + 4, 2, bytes + 31, 2));
+    OVERLAP_AT(2, 4, moc_contains_all(&desk, 0, words + 4, 2, bytes + 47, 2));
+    APART(moc_contains_all(&desk, 0, words + 4, 2, bytes + 30, 2));
+    APART(moc_contains_all(&desk, 0, words + 4, 2, bytes + 48, 2));
+
+    OVERLAP_AT(1, 3, moc_nest_to_ring(1, words + 4, 2, words + 4, 2));
+    OVERLAP_AT(1, 3, moc_nest_to_ring(1, words + 4, 2, words + 3, 2));
+    OVERLAP_AT(1, 3, moc_nest_to_ring(1, words + 4, 2, words + 5, 2));
+    APART(moc_nest_to_ring(1, words + 4, 2, words + 2, 2));
+    APART(moc_nest_to_ring(1, words + 4, 2, words + 6, 2));
+    OVERLAP_AT(1, 3, moc_ring_to_nest(1, words + 4, 2, words + 4, 2));
+    OVERLAP_AT(1, 3, moc_ring_to_nest(1, words + 4, 2, words + 3, 2));
+    OVERLAP_AT(1, 3, moc_ring_to_nest(1, words + 4, 2, words + 5, 2));
+    APART(moc_ring_to_nest(1, words + 4, 2, words + 2, 2));
+    APART(moc_ring_to_nest(1, words + 4, 2, words + 6, 2));
+    OVERLAP_AT(1, 3, moc_nest_to_uniq(1, words + 4, 2, words + 4, 2));
+    OVERLAP_AT(1, 3, moc_nest_to_uniq(1, words + 4, 2, words + 3, 2));
+    OVERLAP_AT(1, 3, moc_nest_to_uniq(1, words + 4, 2, words + 5, 2));
+    APART(moc_nest_to_uniq(1, words + 4, 2, words + 2, 2));
+    APART(moc_nest_to_uniq(1, words + 4, 2, words + 6, 2));
+
+    OVERLAP_AT(0, 2, moc_uniq_to_nest(words + 4, 2, bytes + 32, 2, words + 20, 2));
+    OVERLAP_AT(0, 2, moc_uniq_to_nest(words + 4, 2, bytes + 31, 2, words + 20, 2));
+    OVERLAP_AT(0, 2, moc_uniq_to_nest(words + 4, 2, bytes + 47, 2, words + 20, 2));
+    APART(moc_uniq_to_nest(words + 4, 2, bytes + 30, 2, words + 20, 2));
+    APART(moc_uniq_to_nest(words + 4, 2, bytes + 48, 2, words + 20, 2));
+    OVERLAP_AT(0, 4, moc_uniq_to_nest(words + 4, 2, bytes + 200, 2, words + 4, 2));
+    OVERLAP_AT(0, 4, moc_uniq_to_nest(words + 4, 2, bytes + 200, 2, words + 3, 2));
+    OVERLAP_AT(0, 4, moc_uniq_to_nest(words + 4, 2, bytes + 200, 2, words + 5, 2));
+    APART(moc_uniq_to_nest(words + 4, 2, bytes + 200, 2, words + 2, 2));
+    APART(moc_uniq_to_nest(words + 4, 2, bytes + 200, 2, words + 6, 2));
+    OVERLAP_AT(2, 4, moc_uniq_to_nest(words + 20, 2, bytes + 32, 2, words + 4, 2));
+    OVERLAP_AT(2, 4, moc_uniq_to_nest(words + 20, 2, bytes + 31, 2, words + 4, 2));
+    OVERLAP_AT(2, 4, moc_uniq_to_nest(words + 20, 2, bytes + 47, 2, words + 4, 2));
+    APART(moc_uniq_to_nest(words + 20, 2, bytes + 30, 2, words + 4, 2));
+    APART(moc_uniq_to_nest(words + 20, 2, bytes + 48, 2, words + 4, 2));
+
+    OVERLAP_AT(1, 3, moc_nest_to_face_xy(1, words + 4, 2, bytes + 32, 2, halves + 40, 2, halves + 50, 2));
+    OVERLAP_AT(1, 3, moc_nest_to_face_xy(1, words + 4, 2, bytes + 31, 2, halves + 40, 2, halves + 50, 2));
+    OVERLAP_AT(1, 3, moc_nest_to_face_xy(1, words + 4, 2, bytes + 47, 2, halves + 40, 2, halves + 50, 2));
+    APART(moc_nest_to_face_xy(1, words + 4, 2, bytes + 30, 2, halves + 40, 2, halves + 50, 2));
+    APART(moc_nest_to_face_xy(1, words + 4, 2, bytes + 48, 2, halves + 40, 2, halves + 50, 2));
+    OVERLAP_AT(1, 5, moc_nest_to_face_xy(1, words + 4, 2, bytes, 2, halves + 8, 2, halves + 50, 2));
+    OVERLAP_AT(1, 5, moc_nest_to_face_xy(1, words + 4, 2, bytes, 2, halves + 7, 2, halves + 50, 2));
+    OVERLAP_AT(1, 5, moc_nest_to_face_xy(1, words + 4, 2, bytes, 2, halves + 11, 2, halves + 50, 2));
+    APART(moc_nest_to_face_xy(1, words + 4, 2, bytes, 2, halves + 6, 2, halves + 50, 2));
+    APART(moc_nest_to_face_xy(1, words + 4, 2, bytes, 2, halves + 12, 2, halves + 50, 2));
+    OVERLAP_AT(1, 7, moc_nest_to_face_xy(1, words + 4, 2, bytes, 2, halves + 50, 2, halves + 8, 2));
+    OVERLAP_AT(1, 7, moc_nest_to_face_xy(1, words + 4, 2, bytes, 2, halves + 50, 2, halves + 7, 2));
+    OVERLAP_AT(1, 7, moc_nest_to_face_xy(1, words + 4, 2, bytes, 2, halves + 50, 2, halves + 11, 2));
+    APART(moc_nest_to_face_xy(1, words + 4, 2, bytes, 2, halves + 50, 2, halves + 6, 2));
+    APART(moc_nest_to_face_xy(1, words + 4, 2, bytes, 2, halves + 50, 2, halves + 12, 2));
+    OVERLAP_AT(3, 5, moc_nest_to_face_xy(1, words + 20, 2, bytes + 32, 2, halves + 8, 2, halves + 50, 2));
+    OVERLAP_AT(3, 5, moc_nest_to_face_xy(1, words + 20, 2, bytes + 31, 2, halves + 8, 2, halves + 50, 2));
+    OVERLAP_AT(3, 5, moc_nest_to_face_xy(1, words + 20, 2, bytes + 39, 2, halves + 8, 2, halves + 50, 2));
+    APART(moc_nest_to_face_xy(1, words + 20, 2, bytes + 30, 2, halves + 8, 2, halves + 50, 2));
+    APART(moc_nest_to_face_xy(1, words + 20, 2, bytes + 40, 2, halves + 8, 2, halves + 50, 2));
+    OVERLAP_AT(3, 7, moc_nest_to_face_xy(1, words + 20, 2, bytes + 32, 2, halves + 50, 2, halves + 8, 2));
+    OVERLAP_AT(3, 7, moc_nest_to_face_xy(1, words + 20, 2, bytes + 31, 2, halves + 50, 2, halves + 8, 2));
+    OVERLAP_AT(3, 7, moc_nest_to_face_xy(1, words + 20, 2, bytes + 39, 2, halves + 50, 2, halves + 8, 2));
+    APART(moc_nest_to_face_xy(1, words + 20, 2, bytes + 30, 2, halves + 50, 2, halves + 8, 2));
+    APART(moc_nest_to_face_xy(1, words + 20, 2, bytes + 40, 2, halves + 50, 2, halves + 8, 2));
+    OVERLAP_AT(5, 7, moc_nest_to_face_xy(1, words + 20, 2, bytes, 2, halves + 8, 2, halves + 8, 2));
+    OVERLAP_AT(5, 7, moc_nest_to_face_xy(1, words + 20, 2, bytes, 2, halves + 8, 2, halves + 7, 2));
+    OVERLAP_AT(5, 7, moc_nest_to_face_xy(1, words + 20, 2, bytes, 2, halves + 8, 2, halves + 9, 2));
+    APART(moc_nest_to_face_xy(1, words + 20, 2, bytes, 2, halves + 8, 2, halves + 6, 2));
+    APART(moc_nest_to_face_xy(1, words + 20, 2, bytes, 2, halves + 8, 2, halves + 10, 2));
+
+    OVERLAP_AT(1, 3, moc_touching(1, words + 8, 1, rows + 1, 1));
+    OVERLAP_AT(1, 3, moc_touching(1, words + 7, 2, rows + 1, 2));
+    OVERLAP_AT(1, 3, moc_touching(1, words + 23, 2, rows + 1, 2));
+    APART(moc_touching(1, words + 6, 2, rows + 1, 2));
+    APART(moc_touching(1, words + 24, 2, rows + 1, 2));
+}
+
+/* A desk or a seat is written as well: arrays over it, and beside it. */
+static void over_handles(void)
+{
+    OVERLAP_AT(0, 1, moc_from_ranges(desks + 4, its_ranges + 2, 1));
+    OVERLAP_AT(0, 1, moc_from_ranges(desks + 4, its_ranges + 1, 2));
+    OVERLAP_AT(0, 1, moc_from_ranges(desks + 4, its_ranges + 2, 2));
+    OVERLAP_AT(0, 2, moc_from_cells(desks + 4, 0, its_words + 4, 1));
+    OVERLAP_AT(0, 2, moc_from_cells(desks + 4, 0, its_words + 3, 2));
+    OVERLAP_AT(0, 2, moc_from_cells(desks + 4, 0, its_words + 4, 2));
+    OVERLAP_AT(0, 1, moc_from_uniqs(desks + 4, its_words + 4, 1));
+    OVERLAP_AT(0, 1, moc_from_uniqs(desks + 4, its_words + 3, 2));
+    OVERLAP_AT(0, 1, moc_from_uniqs(desks + 4, its_words + 4, 2));
+    OVERLAP_AT(0, 1, moc_read_ascii(desks + 4, its_bytes + 32, 8));
+    OVERLAP_AT(0, 1, moc_read_ascii(desks + 4, its_bytes + 31, 2));
+    OVERLAP_AT(0, 1, moc_read_ascii(desks + 4, its_bytes + 39, 2));
+    OVERLAP_AT(0, 1, moc_read_json(desks + 4, its_bytes + 32, 8));
+    OVERLAP_AT(0, 1, moc_read_json(desks + 4, its_bytes + 31, 2));
+    OVERLAP_AT(0, 1, moc_read_json(desks + 4, its_bytes + 39, 2));
+    OVERLAP_AT(0, 1, moc_read_uniq(desks + 4, its_bytes + 32, 8));
+    OVERLAP_AT(0, 1, moc_read_uniq(desks + 4, its_bytes + 31, 2));
+    OVERLAP_AT(0, 1, moc_read_uniq(desks + 4, its_bytes + 39, 2));
+    OVERLAP_AT(0, 2, moc_contains_all(desks + 4, 0, its_words + 4, 1, at.bytes, 1));
+    OVERLAP_AT(0, 2, moc_contains_all(desks + 4, 0, its_words + 3, 2, at.bytes, 1));
+    OVERLAP_AT(0, 2, moc_contains_all(desks + 4, 0, its_words + 4, 2, at.bytes, 1));
+    OVERLAP_AT(0, 4, moc_contains_all(desks + 4, 0, at.cells, 1, its_bytes + 32, 1));
+    OVERLAP_AT(0, 4, moc_contains_all(desks + 4, 0, at.cells, 1, its_bytes + 31, 2));
+    OVERLAP_AT(0, 4, moc_contains_all(desks + 4, 0, at.cells, 1, its_bytes + 39, 2));
+    OVERLAP_AT(0, 2, moc_ranges(desks + 4, 0, its_ranges + 2, 1));
+    OVERLAP_AT(0, 2, moc_ranges(desks + 4, 0, its_ranges + 1, 2));
+    OVERLAP_AT(0, 2, moc_ranges(desks + 4, 0, its_ranges + 2, 2));
+    OVERLAP_AT(0, 2, moc_cells(desks + 4, 0, its_words + 4, 12));
+    OVERLAP_AT(0, 2, moc_cells(desks + 4, 0, its_words + 3, 2));
+    OVERLAP_AT(0, 2, moc_cells(desks + 4, 0, its_words + 1, 12));
+    OVERLAP_AT(0, 1, moc_text(desks + 4, its_bytes + 32, 7));
+    OVERLAP_AT(0, 1, moc_text(desks + 4, its_bytes + 26, 7));
+    OVERLAP_AT(0, 1, moc_text(desks + 4, its_bytes + 39, 7));
+    OVERLAP_AT(0, 1, moc_map_apply(seats + 12, its_bytes + 96, 8));
+    OVERLAP_AT(0, 1, moc_map_apply(seats + 12, its_bytes + 95, 2));
+    OVERLAP_AT(0, 1, moc_map_apply(seats + 12, its_bytes + 103, 2));
+    OVERLAP_AT(0, 1, moc_map_answer(seats + 12, its_bytes + 96, 13));
+    OVERLAP_AT(0, 1, moc_map_answer(seats + 12, its_bytes + 84, 13));
+    OVERLAP_AT(0, 1, moc_map_answer(seats + 12, its_bytes + 103, 13));
+    APART(moc_contains_all(desks + 4, 0, its_words + 2, 2, its_bytes + 40, 2));
+    APART(moc_contains_all(desks + 4, 0, its_words + 5, 2, its_bytes + 30, 2));
+    APART(moc_ranges(desks + 4, 0, its_ranges + 1, 1));
+    APART(moc_ranges(desks + 4, 0, its_ranges + 3, 1));
+    APART(moc_cells(desks + 4, 0, its_words + 5, 12));
+    APART(moc_text(desks + 4, its_bytes + 25, 7));
+    APART(moc_text(desks + 4, its_bytes + 40, 7));
+    APART(moc_map_answer(seats + 12, its_bytes + 83, 13));
+    APART(moc_map_answer(seats + 12, its_bytes + 104, 13));
+    APART(moc_from_cells(desks + 4, 0, its_words + 3, 1));
+    APART(moc_from_ranges(desks + 4, its_ranges + 3, 1));
+
+    OVERLAP_AT(0, 1, moc_map_begin(seats + 12, desks + 12, 0, 1));
+    OVERLAP_AT(0, 1, moc_map_set(seats + 12, desks + 12));
+    OVERLAP_AT(0, 1, moc_map_join(&seat, &seat));
+    APART(moc_map_join(seats + 12, seats + 13));
+}
+
+/* The first argument that overlaps one before it is told, before all else that is wrong but pointers that are null or not aligned. Lengths
+   that no memory has hide none. No elements overlap nothing. */
+static void overlaps_and_others(void)
+{
+    CHECK(is(moc_nest_to_face_xy(30, words + 4, 2, bytes, 3, halves, 4, halves + 8, 5), MOC_OVERLAP, 5, 0) && is_kept());
+    CHECK(is(moc_contains_all(desks + 4, 99, words + 4, 2, bytes + 40, 3), MOC_OVERLAP, 4, 0) && is_kept());
+    CHECK(is(moc_map_join(&other, &other), MOC_OVERLAP, 1, 0) && is_kept());
+    CHECK(is(moc_map_begin(seats + 12, desks + 12, 99, 0), MOC_OVERLAP, 1, 0) && is_kept());
+    NULL_AT(7, moc_nest_to_face_xy(0, words + 4, 2, bytes + 32, 2, halves + 8, 2, NULL, 2));
+    void *askew = bytes + 36;
+    ASKEW_AT(4, moc_uniq_to_nest(words + 4, 2, bytes + 32, 2, askew, 2));
+
+    CHECK(is(moc_nest_to_ring(1, words + 4, SIZE_MAX / 8 + 2, words + 6, 2), MOC_OVERLAP, 3, 0) && is_kept());
+    CHECK(is(moc_nest_to_ring(1, words + 6, 2, words + 4, SIZE_MAX / 8 + 2), MOC_OVERLAP, 3, 0) && is_kept());
+    CHECK(is(moc_nest_to_ring(1, words + 4, 2, words + 5, SIZE_MAX), MOC_OVERLAP, 3, 0) && is_kept());
+    CHECK(is(moc_touching(1, words + 24, 1, rows + 1, SIZE_MAX / 64 + 2), MOC_OVERLAP, 3, 0) && is_kept());
+
+    APART(moc_nest_to_ring(1, words + 4, 0, words + 4, 0));
+    CHECK(is(moc_nest_to_ring(1, words + 4, 2, words + 5, 0), MOC_LENGTHS_DIFFER, 0, 0) && is_kept());
+    CHECK(is(moc_nest_to_ring(1, words + 5, 0, words + 4, 2), MOC_LENGTHS_DIFFER, 0, 0) && is_kept());
+    CHECK(is(moc_text(desks + 4, its_bytes + 32, 0), MOC_NO_ROOM, 7, 0) && is_kept());
+    APART(moc_nest_to_ring(1, askew, 0, askew, 0));
+    APART(moc_uniq_to_nest(askew, 0, askew, 0, askew, 0));
+    APART(moc_touching(1, askew, 0, askew, 0));
+    CHECK(is(moc_from_cells(&desk, 30, askew, 0), MOC_NO_SUCH_ORDER, 30, 0) && is_kept());
+    CHECK(is(moc_ranges(&desk, 0, askew, 0), MOC_NO_ROOM, 1, 0) && is_kept());
+}
+
+/* No elements at a null pointer: the key of a set that is made comes next, so no call of before has made one. */
+static void empty_arrays(void)
+{
+    NONE_AT(1, moc_from_ranges(&desk, NULL, 0), MOC_DONE, 1, 0);
+    NONE_AT(2, moc_from_cells(&desk, 0, NULL, 0), MOC_DONE, 2, 0);
+    NONE_AT(1, moc_from_uniqs(&desk, NULL, 0), MOC_DONE, 3, 0);
+    NONE_AT(1, moc_read_ascii(&desk, NULL, 0), MOC_DONE, 4, MOC_NONE);
+    NONE_AT(1, moc_read_json(&desk, NULL, 0), MOC_JSON_NOT_JSON, 0, 0);
+    NONE_AT(1, moc_read_uniq(&desk, NULL, 0), MOC_DONE, 5, MOC_NONE);
+    for (uint64_t key = 1; key <= 5; key++)
+        CHECK(is(moc_is_empty(&desk, key), MOC_DONE, 1, 0));
+    CHECK(is(moc_from_cells(&desk, 30, NULL, 0), MOC_NO_SUCH_ORDER, 30, 0));
+
+    NONE_AT(2, moc_contains_all(&desk, 0, NULL, 0, at.bytes, 0), MOC_DONE, 0, 0);
+    NONE_AT(4, moc_contains_all(&desk, 0, at.cells, 0, NULL, 0), MOC_DONE, 0, 0);
+    CHECK(is(moc_contains_all(&desk, 0, NULL, 0, at.bytes, 1), MOC_LENGTHS_DIFFER, 0, 0));
+    NONE_AT(2, moc_ranges(&desk, 1, NULL, 0), MOC_DONE, 0, 0);
+    CHECK(is(moc_ranges(&desk, 0, NULL, 0), MOC_NO_ROOM, 1, 0));
+    NONE_AT(2, moc_cells(&desk, 1, NULL, 0), MOC_DONE, 0, 0);
+    CHECK(is(moc_cells(&desk, 0, NULL, 0), MOC_NO_ROOM, 12, 0));
+    NONE_AT(1, moc_text(&desk, NULL, 0), MOC_NO_ROOM, 7, 0);
+
+    NONE_AT(1, moc_nest_to_ring(0, NULL, 0, at.cells, 0), MOC_DONE, 0, 0);
+    NONE_AT(3, moc_nest_to_ring(0, at.cells, 0, NULL, 0), MOC_DONE, 0, 0);
+    NONE_AT(1, moc_ring_to_nest(0, NULL, 0, at.cells, 0), MOC_DONE, 0, 0);
+    NONE_AT(3, moc_ring_to_nest(0, at.cells, 0, NULL, 0), MOC_DONE, 0, 0);
+    NONE_AT(1, moc_nest_to_uniq(0, NULL, 0, at.cells, 0), MOC_DONE, 0, 0);
+    NONE_AT(3, moc_nest_to_uniq(0, at.cells, 0, NULL, 0), MOC_DONE, 0, 0);
+    NONE_AT(0, moc_uniq_to_nest(NULL, 0, at.bytes, 0, at.cells, 0), MOC_DONE, 0, 0);
+    NONE_AT(2, moc_uniq_to_nest(at.cells, 0, NULL, 0, at.cells, 0), MOC_DONE, 0, 0);
+    NONE_AT(4, moc_uniq_to_nest(at.cells, 0, at.bytes, 0, NULL, 0), MOC_DONE, 0, 0);
+    NONE_AT(1, moc_nest_to_face_xy(0, NULL, 0, at.faces, 0, at.xs, 0, at.ys, 0), MOC_DONE, 0, 0);
+    NONE_AT(3, moc_nest_to_face_xy(0, at.cells, 0, NULL, 0, at.xs, 0, at.ys, 0), MOC_DONE, 0, 0);
+    NONE_AT(5, moc_nest_to_face_xy(0, at.cells, 0, at.faces, 0, NULL, 0, at.ys, 0), MOC_DONE, 0, 0);
+    NONE_AT(7, moc_nest_to_face_xy(0, at.cells, 0, at.faces, 0, at.xs, 0, NULL, 0), MOC_DONE, 0, 0);
+    NONE_AT(1, moc_touching(0, NULL, 0, at.rows, 0), MOC_DONE, 0, 0);
+    NONE_AT(3, moc_touching(0, at.cells, 0, NULL, 0), MOC_DONE, 0, 0);
+    CHECK(is(moc_touching(0, at.cells, 1, NULL, 0), MOC_LENGTHS_DIFFER, 0, 0));
+    CHECK(is(moc_nest_to_ring(30, NULL, 0, NULL, 0), MOC_NO_SUCH_ORDER, 30, 0));
+
+    NONE_AT(1, moc_map_apply(&seat, NULL, 0), MOC_LINE_EMPTY_COMMAND, 0, 0);
+    NONE_AT(1, moc_map_answer(&seat, NULL, 0), MOC_NO_ROOM, 13, 0);
+    CHECK(is_kept());
+}
+
+int main(void)
+{
+    static const uint8_t line[] = "read 0/0-11";
+    moc_desk no_desk = {0};
+    moc_seat no_seat = {0};
+    CHECK(!moc_open(NULL) && !moc_seat_open(NULL));
+    CHECK(moc_open(&desk) && moc_seat_open(&seat) && moc_seat_open(&other));
+    CHECK(is(moc_full(&desk), MOC_DONE, 0, 0) && is(moc_write_ascii(&desk, 0, MOC_NONE), MOC_DONE, 7, 0));
+    CHECK(is(moc_map_begin(&seat, &desk, 0, 2), MOC_DONE, 1, 0));
+    CHECK(is(moc_map_apply(&seat, line, sizeof line - 1), MOC_DONE, 0, 0));
+    for (size_t i = 0; i < 32; i++)
+        room.words[i] = 17;
+    CHECK(moc_open(desks + 4) && moc_seat_open(seats + 12) && moc_seat_open(seats + 13));
+    CHECK(is(moc_full(desks + 4), MOC_DONE, 0, 0) && is(moc_write_ascii(desks + 4, 0, MOC_NONE), MOC_DONE, 7, 0));
+    CHECK(is(moc_map_begin(seats + 12, desks + 4, 0, 2), MOC_DONE, 1, 0));
+    CHECK(is(moc_map_apply(seats + 12, line, sizeof line - 1), MOC_DONE, 0, 0));
+    room_kept = room;
+    house_kept = house;
+    CHECK(is_kept());
+    without_desk(NULL);
+    without_desk(&no_desk);
+    without_seat(NULL);
+    without_seat(&no_seat);
+    without_arrays();
+    before_all_else();
+    /* Where numbers lie, and where there are zeros. */
+    for (size_t i = 1; i < 8; i++) {
+        not_aligned(bytes + 16 + i);
+        not_aligned(its_bytes + 160 + i);
+    }
+    for (size_t i = 1; i < 4; i++)
+        not_aligned_halves(bytes + 16 + i);
+    written_over_arrays();
+    over_handles();
+    overlaps_and_others();
+    empty_arrays();
+    /* A further client still waits, and the seat of another is free. */
+    CHECK(is(moc_map_join(&seat, &other), MOC_DONE, 0, 0));
+    moc_seat_close(house.seats[13]);
+    moc_seat_close(house.seats[12]);
+    moc_close(house.desks[4]);
+    moc_close(no_desk);
+    moc_seat_close(no_seat);
+    moc_seat_close(other);
+    moc_seat_close(seat);
+    moc_close(desk);
+    printf("%u passed, %u failed\n", passed, failed);
+    return failed != 0;
+}
