@@ -76,6 +76,16 @@ fn make_rounds(map: &SharedMap, client: &mut Client, add: &Batch, remove: &Batch
     good
 }
 
+/// Makes the rounds on a part: how many of its calls changed just a cell. None where memory is refused for the batches.
+fn make_rounds_on(alloc: Global, map: &SharedMap, client: &mut Client, part: u8) -> Option<u64>
+    requires { IsClientOf map.now client.old }
+    ensures { IsClientOf map.now client.new }
+{
+    let add = Batch::one(alloc, Command::Add(cell(alloc, part)?)).ok()?;
+    let remove = Batch::one(alloc, Command::Remove(cell(alloc, part)?)).ok()?;
+    Some(make_rounds(map, client, &add, &remove))
+}
+
 /// A thread's work, once all threads have started.
 fn work(alloc: Global, map: &SharedMap, started: &AtomicU64, client: Client) -> (Client, u64)
     requires { IsClientOf map.now client }
@@ -83,13 +93,10 @@ fn work(alloc: Global, map: &SharedMap, started: &AtomicU64, client: Client) -> 
 {
     let mut client = client;
     let number = client.number();
-    let all = have_started(started, CLIENTS);
-    let add = cell(alloc, number).and_then(|cell| Batch::one(alloc, Command::Add(cell)).ok());
-    let remove = cell(alloc, number).and_then(|cell| Batch::one(alloc, Command::Remove(cell)).ok());
-    let good = match (add, remove) {
-        (Some(add), Some(remove)) if all => make_rounds(map, &mut client, &add, &remove),
-        _ => 0,
-    };
+    let mut good = 0;
+    if have_started(started, CLIENTS) {
+        good = make_rounds_on(alloc, map, &mut client, number).unwrap_or(0);
+    }
     (client, good)
 }
 
