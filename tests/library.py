@@ -34,10 +34,11 @@ EXPORT = re.compile(r"extern \"C\" fn (moc_\w+)\(([^)]*)\)(?: -> (\w+))?")
 LAID_OUT = re.compile(r"^#\[repr\(C\)\]\n(?:#[^\n]*\n)*pub struct (\w+) \{\n(.*?)^\}", re.MULTILINE | re.DOTALL)
 COMMENT = re.compile(r"/\*.*?\*/", re.DOTALL)
 # A row of guards.c: what it shows, at which argument, the call, and its arguments; and one of an overlap: which two, and the call.
-ROW = re.compile(r"^ +(NULL|NONE|ASKEW)_AT\((\d+), (moc_\w+)\(([^()]*)\)", re.MULTILINE)
+ROW = re.compile(r"^ +(NULL|NONE|ASKEW|WRONG)_AT\((?:code, )?(\d+), (moc_\w+)\(([^()]*)\)", re.MULTILINE)
 OVERLAP = re.compile(r"^ +OVERLAP_AT\((\d+), (\d+), (moc_\w+)\(", re.MULTILINE)
-# Which argument is so in a row.
-SHOWN = {"NULL": ("NULL", "none"), "NONE": ("NULL",), "ASKEW": ("askew",)}
+# Which argument is so in a row, and what the row shows: a wrong desk or seat is each of those that its rows are called with.
+SHOWN = {"NULL": ("NULL", ["NULL"]), "NONE": ("NULL", ["NONE"]), "ASKEW": ("askew", ["ASKEW"]), "WRONG": ("wrong", ["NULL", "ASKEW"])}
+WRONG = re.compile(r"^ +on_wrong_(desk|seat)\(MOC_(\w+), (?:&no_)?(\w+)\);", re.MULTILINE)
 # The types of the crate as C has them. A `Global` takes no bytes, and a ghost field is none.
 TYPES = {"u8": "uint8_t", "u32": "uint32_t", "u64": "uint64_t", "bool": "bool", "[u64; 8]": "uint64_t[8]", "Outcome": "moc_outcome",
          "Range": "moc_range", "Desk": "moc_desk", "Seat": "moc_seat", "*mut u8": "void*"}
@@ -157,8 +158,12 @@ def check_rows(tally):
     each two arguments that may not overlap, or one where these are handles. It opens and closes none."""
     text, rows, wanted, overlaps = read(os.path.join(TOP, "tests", "c", "guards.c")), set(), set(), Counter()
     for kind, place, name, taken in ROW.findall(text):
-        if taken.split(", ")[int(place)] in SHOWN[kind]:
-            rows.add((kind, int(place), name))
+        argument, shown = SHOWN[kind]
+        if taken.split(", ")[int(place)] == argument:
+            rows |= {(it, int(place), name) for it in shown}
+    for handle in ("desk", "seat"):
+        shown = [(code, it) for its, code, it in WRONG.findall(text) if its == handle]
+        tally.add(f"each wrong {handle}", shown == [("MISALIGNED", "askew"), ("NULL", "NULL"), ("NULL", handle)], shown)
     for name, (answer, *taken) in declared().items():
         pointers = [at for at, kind in enumerate(taken) if "*" in kind] if answer == "moc_outcome" else []
         arrays = [at for at in pointers if taken[at + 1:at + 2] == ["size_t"]]

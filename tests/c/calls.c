@@ -1,5 +1,6 @@
 /* Calls each function of moc.h, with right, empty, short and wrong arguments. What is expected comes from the worked examples of MOC 2.0's
    forms and of HEALPix's numberings. The last line printed is `N passed, M failed`. Built and run by library.py. */
+#include "checks.h"
 #include "moc.h"
 
 #include <inttypes.h>
@@ -11,22 +12,8 @@
 #define BASE UINT64_C(288230376151711744) /* the pixels of a base pixel: 4^29 */
 #define LAST UINT64_C(3458764513820540927) /* the last pixel */
 
-static unsigned passed, failed;
 static moc_desk desk;
 
-static void check(int line, const char *text, bool holds)
-{
-    passed += holds;
-    failed += !holds;
-    if (!holds)
-        printf("line %d: %s\n", line, text);
-}
-#define CHECK(condition) check(__LINE__, #condition, condition)
-
-static bool is(moc_outcome outcome, uint32_t code, uint64_t first, uint64_t second)
-{
-    return outcome.code == code && outcome.first == first && outcome.second == second;
-}
 #define TELLS(call, number) CHECK(is(call, MOC_DONE, number, 0))
 #define REFUSED(call, code, first) CHECK(is(call, code, first, 0))
 
@@ -494,6 +481,5 @@ int main(void)
     seats();
     sharing();
     moc_close(desk);
-    printf("%u passed, %u failed\n", passed, failed);
-    return failed != 0;
+    return report();
 }

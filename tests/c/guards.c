@@ -1,12 +1,11 @@
 /* Calls each function of moc.h with each of its pointers null, not aligned, and overlapping another one that it takes, with desks and seats
    that are none, and with no elements at such pointers. What is expected stands at the head of moc.h. The last line printed is `N passed, M
    failed`. Built and run by library.py, which looks that no pointer of a call is left out, and no two of them. */
+#include "checks.h"
 #include "moc.h"
 
-#include <stdio.h>
 #include <string.h>
 
-static unsigned passed, failed;
 /* A desk with one set, all of the sky at key 0, and its text; a seat at a map of it, with a reply; and one on which nobody sits. */
 static moc_desk desk;
 static moc_seat seat, other;
@@ -39,20 +38,6 @@ SEEN(moc_range, its_ranges, house);
 SEEN(uint64_t, its_words, house);
 SEEN(uint8_t, its_bytes, house);
 
-static void check(int line, const char *text, bool holds)
-{
-    passed += holds;
-    failed += !holds;
-    if (!holds)
-        printf("line %d: %s\n", line, text);
-}
-#define CHECK(condition) check(__LINE__, #condition, condition)
-
-static bool is(moc_outcome outcome, uint32_t code, uint64_t first, uint64_t second)
-{
-    return outcome.code == code && outcome.first == first && outcome.second == second;
-}
-
 /* Whether all is as it was: what lies on the desk but its keys, who sits where, and what calls may write. */
 static bool is_kept(void)
 {
@@ -75,65 +60,66 @@ static bool is_done(moc_outcome outcome)
     return outcome.code == MOC_DONE && is_kept();
 }
 
-/* Of a call with a null pointer: which argument is told; and that nothing is done. */
-#define NULL_AT(argument, call) CHECK(is(call, MOC_NULL, argument, 0) && is_kept())
-/* The same of one with a pointer that is not aligned, and of one in which these two arguments overlap. */
-#define ASKEW_AT(argument, call) CHECK(is(call, MOC_MISALIGNED, argument, 0) && is_kept())
-#define OVERLAP_AT(earlier, later, call) CHECK(is(call, MOC_OVERLAP, later, 0) && is_kept())
+/* Of a call with a wrong pointer: its code, and which argument is told; and that nothing is done. */
+#define WRONG_AT(code, argument, call) CHECK(is(call, code, argument, 0) && is_kept())
+/* The same of one that is null, of one that is not aligned, and of two arguments that overlap. */
+#define NULL_AT(argument, call) WRONG_AT(MOC_NULL, argument, call)
+#define ASKEW_AT(argument, call) WRONG_AT(MOC_MISALIGNED, argument, call)
+#define OVERLAP_AT(earlier, later, call) WRONG_AT(MOC_OVERLAP, later, call)
 /* Of a call whose arguments adjoin: it is done, and what it wrote is as it was for the next one. */
 #define APART(call) CHECK(is_done(call))
 /* Of a call with no elements at a null pointer, which is this argument: what it tells. */
 #define NONE_AT(argument, call, code, first, second) CHECK(is(call, code, first, second))
 
-/* Calls on a desk that is none: `none` is null, or a desk that is zeroed. */
-static void without_desk(moc_desk *none)
+/* Calls on a desk that is none: null or zeroed, or not aligned; and the code of it. */
+static void on_wrong_desk(uint32_t code, moc_desk *wrong)
 {
-    NULL_AT(0, moc_empty(none));
-    NULL_AT(0, moc_full(none));
-    NULL_AT(0, moc_from_ranges(none, at.ranges, 1));
-    NULL_AT(0, moc_from_cells(none, 0, at.cells, 1));
-    NULL_AT(0, moc_from_uniqs(none, at.cells, 1));
-    NULL_AT(0, moc_read_ascii(none, at.bytes, 1));
-    NULL_AT(0, moc_read_json(none, at.bytes, 1));
-    NULL_AT(0, moc_read_uniq(none, at.bytes, 1));
-    NULL_AT(0, moc_union(none, 0, 0));
-    NULL_AT(0, moc_intersection(none, 0, 0));
-    NULL_AT(0, moc_difference(none, 0, 0));
-    NULL_AT(0, moc_symmetric(none, 0, 0));
-    NULL_AT(0, moc_complement(none, 0));
-    NULL_AT(0, moc_degrade(none, 0, 0));
-    NULL_AT(0, moc_free(none, 0));
-    NULL_AT(0, moc_count(none, 0));
-    NULL_AT(0, moc_count_common(none, 0, 0));
-    NULL_AT(0, moc_range_count(none, 0));
-    NULL_AT(0, moc_deepest_order(none, 0));
-    NULL_AT(0, moc_is_empty(none, 0));
-    NULL_AT(0, moc_contains(none, 0, 0));
-    NULL_AT(0, moc_meets(none, 0, 0));
-    NULL_AT(0, moc_covers(none, 0, 0));
-    NULL_AT(0, moc_same(none, 0, 0));
-    NULL_AT(0, moc_contains_all(none, 0, at.cells, 1, at.bytes, 1));
-    NULL_AT(0, moc_ranges(none, 0, at.ranges, 1));
-    NULL_AT(0, moc_cells(none, 0, at.cells, 1));
-    NULL_AT(0, moc_write_ascii(none, 0, MOC_NONE));
-    NULL_AT(0, moc_write_json(none, 0, MOC_NONE));
-    NULL_AT(0, moc_write_uniq(none, 0));
-    NULL_AT(0, moc_describe(none, 0, MOC_NONE));
-    NULL_AT(0, moc_draw(none, 0));
-    NULL_AT(0, moc_text(none, at.bytes, 1));
-    NULL_AT(1, moc_map_begin(&other, none, 0, 1));
-    NULL_AT(1, moc_map_set(&seat, none));
+    WRONG_AT(code, 0, moc_empty(wrong));
+    WRONG_AT(code, 0, moc_full(wrong));
+    WRONG_AT(code, 0, moc_from_ranges(wrong, at.ranges, 1));
+    WRONG_AT(code, 0, moc_from_cells(wrong, 0, at.cells, 1));
+    WRONG_AT(code, 0, moc_from_uniqs(wrong, at.cells, 1));
+    WRONG_AT(code, 0, moc_read_ascii(wrong, at.bytes, 1));
+    WRONG_AT(code, 0, moc_read_json(wrong, at.bytes, 1));
+    WRONG_AT(code, 0, moc_read_uniq(wrong, at.bytes, 1));
+    WRONG_AT(code, 0, moc_union(wrong, 0, 0));
+    WRONG_AT(code, 0, moc_intersection(wrong, 0, 0));
+    WRONG_AT(code, 0, moc_difference(wrong, 0, 0));
+    WRONG_AT(code, 0, moc_symmetric(wrong, 0, 0));
+    WRONG_AT(code, 0, moc_complement(wrong, 0));
+    WRONG_AT(code, 0, moc_degrade(wrong, 0, 0));
+    WRONG_AT(code, 0, moc_free(wrong, 0));
+    WRONG_AT(code, 0, moc_count(wrong, 0));
+    WRONG_AT(code, 0, moc_count_common(wrong, 0, 0));
+    WRONG_AT(code, 0, moc_range_count(wrong, 0));
+    WRONG_AT(code, 0, moc_deepest_order(wrong, 0));
+    WRONG_AT(code, 0, moc_is_empty(wrong, 0));
+    WRONG_AT(code, 0, moc_contains(wrong, 0, 0));
+    WRONG_AT(code, 0, moc_meets(wrong, 0, 0));
+    WRONG_AT(code, 0, moc_covers(wrong, 0, 0));
+    WRONG_AT(code, 0, moc_same(wrong, 0, 0));
+    WRONG_AT(code, 0, moc_contains_all(wrong, 0, at.cells, 1, at.bytes, 1));
+    WRONG_AT(code, 0, moc_ranges(wrong, 0, at.ranges, 1));
+    WRONG_AT(code, 0, moc_cells(wrong, 0, at.cells, 1));
+    WRONG_AT(code, 0, moc_write_ascii(wrong, 0, MOC_NONE));
+    WRONG_AT(code, 0, moc_write_json(wrong, 0, MOC_NONE));
+    WRONG_AT(code, 0, moc_write_uniq(wrong, 0));
+    WRONG_AT(code, 0, moc_describe(wrong, 0, MOC_NONE));
+    WRONG_AT(code, 0, moc_draw(wrong, 0));
+    WRONG_AT(code, 0, moc_text(wrong, at.bytes, 1));
+    WRONG_AT(code, 1, moc_map_begin(&other, wrong, 0, 1));
+    WRONG_AT(code, 1, moc_map_set(&seat, wrong));
 }
 
 /* The same of seats. */
-static void without_seat(moc_seat *none)
+static void on_wrong_seat(uint32_t code, moc_seat *wrong)
 {
-    NULL_AT(0, moc_map_begin(none, &desk, 0, 1));
-    NULL_AT(0, moc_map_join(none, &other));
-    NULL_AT(1, moc_map_join(&seat, none));
-    NULL_AT(0, moc_map_apply(none, at.bytes, 1));
-    NULL_AT(0, moc_map_answer(none, at.bytes, 1));
-    NULL_AT(0, moc_map_set(none, &desk));
+    WRONG_AT(code, 0, moc_map_begin(wrong, &desk, 0, 1));
+    WRONG_AT(code, 0, moc_map_join(wrong, &other));
+    WRONG_AT(code, 1, moc_map_join(&seat, wrong));
+    WRONG_AT(code, 0, moc_map_apply(wrong, at.bytes, 1));
+    WRONG_AT(code, 0, moc_map_answer(wrong, at.bytes, 1));
+    WRONG_AT(code, 0, moc_map_set(wrong, &desk));
 }
 
 /* Arrays that are to have elements, at a null pointer. */
@@ -188,47 +174,8 @@ static void before_all_else(void)
 /* Pointers that are not aligned for a desk, a seat, a number of 64 bits, a range or a row. */
 static void not_aligned(void *askew)
 {
-    ASKEW_AT(0, moc_empty(askew));
-    ASKEW_AT(0, moc_full(askew));
-    ASKEW_AT(0, moc_from_ranges(askew, at.ranges, 1));
-    ASKEW_AT(0, moc_from_cells(askew, 0, at.cells, 1));
-    ASKEW_AT(0, moc_from_uniqs(askew, at.cells, 1));
-    ASKEW_AT(0, moc_read_ascii(askew, at.bytes, 1));
-    ASKEW_AT(0, moc_read_json(askew, at.bytes, 1));
-    ASKEW_AT(0, moc_read_uniq(askew, at.bytes, 1));
-    ASKEW_AT(0, moc_union(askew, 0, 0));
-    ASKEW_AT(0, moc_intersection(askew, 0, 0));
-    ASKEW_AT(0, moc_difference(askew, 0, 0));
-    ASKEW_AT(0, moc_symmetric(askew, 0, 0));
-    ASKEW_AT(0, moc_complement(askew, 0));
-    ASKEW_AT(0, moc_degrade(askew, 0, 0));
-    ASKEW_AT(0, moc_free(askew, 0));
-    ASKEW_AT(0, moc_count(askew, 0));
-    ASKEW_AT(0, moc_count_common(askew, 0, 0));
-    ASKEW_AT(0, moc_range_count(askew, 0));
-    ASKEW_AT(0, moc_deepest_order(askew, 0));
-    ASKEW_AT(0, moc_is_empty(askew, 0));
-    ASKEW_AT(0, moc_contains(askew, 0, 0));
-    ASKEW_AT(0, moc_meets(askew, 0, 0));
-    ASKEW_AT(0, moc_covers(askew, 0, 0));
-    ASKEW_AT(0, moc_same(askew, 0, 0));
-    ASKEW_AT(0, moc_contains_all(askew, 0, at.cells, 1, at.bytes, 1));
-    ASKEW_AT(0, moc_ranges(askew, 0, at.ranges, 1));
-    ASKEW_AT(0, moc_cells(askew, 0, at.cells, 1));
-    ASKEW_AT(0, moc_write_ascii(askew, 0, MOC_NONE));
-    ASKEW_AT(0, moc_write_json(askew, 0, MOC_NONE));
-    ASKEW_AT(0, moc_write_uniq(askew, 0));
-    ASKEW_AT(0, moc_describe(askew, 0, MOC_NONE));
-    ASKEW_AT(0, moc_draw(askew, 0));
-    ASKEW_AT(0, moc_text(askew, at.bytes, 1));
-    ASKEW_AT(0, moc_map_begin(askew, &desk, 0, 1));
-    ASKEW_AT(1, moc_map_begin(&other, askew, 0, 1));
-    ASKEW_AT(0, moc_map_join(askew, &other));
-    ASKEW_AT(1, moc_map_join(&seat, askew));
-    ASKEW_AT(0, moc_map_apply(askew, at.bytes, 1));
-    ASKEW_AT(0, moc_map_answer(askew, at.bytes, 1));
-    ASKEW_AT(0, moc_map_set(askew, &desk));
-    ASKEW_AT(1, moc_map_set(&seat, askew));
+    on_wrong_desk(MOC_MISALIGNED, askew);
+    on_wrong_seat(MOC_MISALIGNED, askew);
     CHECK(!moc_open(askew) && !moc_seat_open(askew) && is_kept());
 
     ASKEW_AT(1, moc_from_ranges(&desk, askew, 1));
@@ -505,10 +452,10 @@ int main(void)
     room_kept = room;
     house_kept = house;
     CHECK(is_kept());
-    without_desk(NULL);
-    without_desk(&no_desk);
-    without_seat(NULL);
-    without_seat(&no_seat);
+    on_wrong_desk(MOC_NULL, NULL);
+    on_wrong_desk(MOC_NULL, &no_desk);
+    on_wrong_seat(MOC_NULL, NULL);
+    on_wrong_seat(MOC_NULL, &no_seat);
     without_arrays();
     before_all_else();
     /* Where numbers lie, and where there are zeros. */
@@ -532,6 +479,5 @@ int main(void)
     moc_seat_close(other);
     moc_seat_close(seat);
     moc_close(desk);
-    printf("%u passed, %u failed\n", passed, failed);
-    return failed != 0;
+    return report();
 }

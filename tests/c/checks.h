@@ -1,0 +1,32 @@
+/* What calls of moc.h tell, compared, for the programs here. */
+#ifndef CHECKS_H
+#define CHECKS_H
+
+#include "moc.h"
+
+#include <stdio.h>
+
+static unsigned passed, failed;
+
+static void check(int line, const char *text, bool holds)
+{
+    passed += holds;
+    failed += !holds;
+    if (!holds)
+        printf("line %d: %s\n", line, text);
+}
+#define CHECK(condition) check(__LINE__, #condition, condition)
+
+static bool is(moc_outcome outcome, uint32_t code, uint64_t first, uint64_t second)
+{
+    return outcome.code == code && outcome.first == first && outcome.second == second;
+}
+
+/* Prints how many checks passed and failed; the status of the program. */
+static int report(void)
+{
+    printf("%u passed, %u failed\n", passed, failed);
+    return failed != 0;
+}
+
+#endif
