@@ -1,15 +1,18 @@
 #!/usr/bin/env bash
-# Times the library and the program against Healpix_cxx 3.80 and cds.moc 5.0 on the same input in one run: an operation a line, the
-# library's line first. Wants Debian's libhealpix-cxx-dev and libcds-moc-java. Writes its input into bench/data (150 MB) once.
+# Times the library and the program against Healpix_cxx 3.80, cds.moc 5.0 with cdshealpix 0.30.2 and healpix.essentials 3.60 on the same
+# input in one run: a table of what all have (`peers.py`), then a work a line. Wants Debian's libhealpix-cxx-dev, libcds-moc-java,
+# libcds-healpix-java and libhealpix-java. Writes its input into bench/data (150 MB) once.
 set -euo pipefail
 cd "$(dirname "$0")"
+jars=/usr/share/java/cds.moc.jar:/usr/share/java/cdshealpix.jar:/usr/share/java/healpix.jar
 [ -d data ] || python3 generate.py data > /dev/null
 g++ -O2 -march=x86-64-v2 -std=c++17 -I/usr/include/healpix_cxx peer.cc -o peer -lhealpix_cxx
 (cd ../crates/moc_bench && rt run < /dev/null > /dev/null 2>&1)
-for operation in read_a write_ascii write_json count union intersection difference symmetric complement \
-    degrade10 degrade13 ring13 ring29 nest13 nest29 near13 near29 border13 border29; do
+javac -nowarn -cp "$jars" -d data PeerJava.java 2> /dev/null
+./peers.py
+for operation in border13 border29; do
     printf 'moc     '
-    (cat data/moc_a.txt; echo; cat data/moc_b.txt) | ../crates/moc_bench/out/moc_bench "$operation" 9
+    ../crates/moc_bench/out/moc_bench "$operation" 9 < /dev/null
     printf 'cxx     '
     ./peer data "$operation" 9
 done
@@ -23,17 +26,17 @@ for operation in adds_only adds; do
     printf 'cxx     '
     ./peer data "$operation" 1
 done
-jar=/usr/share/java/cds.moc.jar
-javac -nowarn -cp "$jar" -d data PeerCds.java 2> /dev/null
-cds() { java -Xmx2g -XX:+UseSerialGC -cp "$jar:data" PeerCds data "$@"; }
+java_peer() { java -Xmx2g -XX:+UseSerialGC -cp "$jars:data" PeerJava "$1" data "${@:2}"; }
 for operation in adds_only adds; do
     printf 'cds     '
-    cds "$operation" 3
+    java_peer cds "$operation" 3
+    printf 'ess     '
+    java_peer essentials "$operation" 1
 done
-# Texts into memory, beside the operations of these names above: by its own writers, and cell by cell into a string.
-for operation in write_ascii cells_ascii write_json cells_json; do
+# cds.moc's own writers into memory: slower than its cells, one after another into a string.
+for operation in write_ascii write_json; do
     printf 'cds     '
-    cds "$operation" 25
+    java_peer cds "$operation" 25
 done
 # Whole conversions by the program, and the peers' reading and writing in memory (the C++ peer's: read_a and write_json above).
 for forms in "ascii json" "json ascii" "ascii uniq" "uniq ascii"; do
@@ -45,7 +48,7 @@ for forms in "ascii json" "json ascii" "ascii uniq" "uniq ascii"; do
     done
 done
 printf 'cds     '
-cds ascii_to_json 5
+java_peer cds ascii_to_json 5
 # Schedules in memory and through the program, and crews.
 for operation in turns rounds10 rounds1000 rounds100000; do
     printf 'moc     '
