@@ -19,13 +19,14 @@ Refusals are of three kinds, and the last lines tell how many there are of each:
 
 usage: tests/wrong_bodies.py [--jobs N] [--told FOLDER] [CRATE | CRATE/EDIT]..
 
-`--jobs N` has N checks go on side by side, by one job each. `--told FOLDER` keeps there what each check told, and makes the folder where
-there is none.
+`--jobs N` has N checks go on side by side, by one job each, as far as memory goes; without it, as many as there are processors. `--told
+FOLDER` keeps there what each check told, and makes the folder where there is none.
 
 All is done in rooms, over what the crates' `out` folders hold of their proofs, which `tools/build.py` brings up to date first: what is kept
 can make no refusal false, since an edited function is checked anew. A check that takes too long tells nothing, and its edits fail. Where all
 crates are tried, each must have as many edits as docs/GATE.md says, so that none is lost unseen. The last line is `N passed, M failed`."""
 import argparse
+import contextlib
 import os
 import re
 import signal
@@ -41,8 +42,8 @@ from crates import crates_of, folder_of, libraries_below, make_room  # noqa: E40
 
 # How many edits a check takes at most: with more, its memory grows to several gigabytes.
 MOST_EDITS = 24
-# How much memory a check may want, what goes on beside the tests being counted with it.
-CHECK_MEMORY = 7_000_000_000
+# How much memory a check takes, and how much more for each of its edits; and how much is left to all else.
+CHECK_MEMORY, EDIT_MEMORY, SPARE_MEMORY = 1_500_000_000, 150_000_000, 2_000_000_000
 # Where the rooms lie: on one disk with the crates, so that files can be linked.
 ROOMS = os.path.join(folder_of("moc_cli"), "out", "edits")
 # How many seconds a check may take: several times what the longest takes.
@@ -200,17 +201,57 @@ def errors_of(told):
     return found
 
 
-def output(words, folder):
-    """What a command writes in a folder; it and all that it began are stopped where they take too long."""
-    # (a group of its own, and no session: to each of these Linux gives as much of the processors, however far they give way)
-    begun = subprocess.Popen(words, cwd=folder, stdin=subprocess.DEVNULL, stdout=subprocess.PIPE, stderr=subprocess.DEVNULL, text=True,
-                             process_group=0)
-    try:
-        return begun.communicate(timeout=SECONDS)[0]
-    except subprocess.TimeoutExpired:
-        os.killpg(begun.pid, signal.SIGKILL)
-        begun.communicate()
-        return f"error: no verdict in {SECONDS} seconds"
+def memory_free():
+    """How many bytes can be had without taking them from another."""
+    with open("/proc/meminfo") as file:
+        return int(re.search(r"MemAvailable:\s+(\d+)", file.read())[1]) * 1024
+
+
+def memory_of(group):
+    """How many bytes the processes of a group have."""
+    pages = 0
+    for process in filter(str.isdigit, os.listdir("/proc")):
+        with contextlib.suppress(OSError), open(f"/proc/{process}/stat") as file:
+            fields = file.read().rpartition(")")[2].split()
+            pages += int(fields[21]) if int(fields[2]) == group else 0
+    return pages * os.sysconf("SC_PAGE_SIZE")
+
+
+class Checks:
+    """The checks at work, by their groups of processes, and how much memory each may come to."""
+
+    def __init__(self):
+        self.most, self.turn = {}, threading.Condition()
+
+    def has_room(self, most):
+        """Whether one more check has the memory that it may come to, once those at work have theirs; one alone always does."""
+        growth = sum(max(0, own - memory_of(group)) for group, own in self.most.items())
+        return not self.most or memory_free() - growth >= most + SPARE_MEMORY
+
+    def begin(self, words, folder, most):
+        """Begins a command in a folder once it has room."""
+        with self.turn:
+            while not self.has_room(most):
+                self.turn.wait(1)
+            # (a group of its own, and no session: to each of these Linux gives as much of the processors, however far they give way)
+            begun = subprocess.Popen(words, cwd=folder, stdin=subprocess.DEVNULL, stdout=subprocess.PIPE, stderr=subprocess.DEVNULL,
+                                     text=True, process_group=0)
+            self.most[begun.pid] = most
+            return begun
+
+    def output(self, words, folder, edits):
+        """What a command writes that tries so many edits; it and all that it began are stopped where they take too long."""
+        begun = self.begin(words, folder, CHECK_MEMORY + edits * EDIT_MEMORY)
+        try:
+            return begun.communicate(timeout=SECONDS)[0]
+        except subprocess.TimeoutExpired:
+            os.killpg(begun.pid, signal.SIGKILL)
+            begun.communicate()
+            return f"error: no verdict in {SECONDS} seconds"
+        finally:
+            with self.turn:
+                del self.most[begun.pid]
+                self.turn.notify_all()
 
 
 def kind_of(line):
@@ -254,15 +295,15 @@ class Round:
         self.texts.update(texts)
         self.edits.append(edit)
 
-    def check(self, below):
-        """What a check tells of the crate with these texts of its sources."""
+    def check(self, below, checks):
+        """What a check tells of the crate with these texts of its sources, as one of the checks at work."""
         with tempfile.TemporaryDirectory(prefix="edits-", dir=ROOMS) as place:
             folder = make_room(os.path.join(place, "room"), self.crate, below)
             for file, text in self.texts.items():
                 with open(os.path.join(folder, file), "w") as source:
                     source.write(text)
             # (by one job: a second one takes a sixth more of the processors, and checks go on side by side)
-            return output(["rt", "check", "--jobs", "1"], folder)
+            return checks.output(["rt", "check", "--jobs", "1"], folder, len(self.edits))
 
     def judge(self, told):
         """Says of each edit of what kind its refusal is, and what the check told of it; the kind is None where it was not refused."""
@@ -310,15 +351,9 @@ def numbers_told():
         return {crate: int(number) for crate, number in ROW.findall(page.read())}
 
 
-def checks_at_once():
-    """How many checks go on side by side: as many as there are processors, as far as memory goes."""
-    memory = os.sysconf("SC_PAGE_SIZE") * os.sysconf("SC_PHYS_PAGES")
-    return max(1, min(len(os.sched_getaffinity(0)), memory // CHECK_MEMORY))
-
-
 def main():
     words = argparse.ArgumentParser(description="Tries the wrong bodies.")
-    words.add_argument("--jobs", type=int, default=checks_at_once())
+    words.add_argument("--jobs", type=int, default=len(os.sched_getaffinity(0)))
     words.add_argument("--told", metavar="FOLDER")
     words.add_argument("names", nargs="*", metavar="CRATE or CRATE/EDIT")
     given = words.parse_args()
@@ -345,10 +380,10 @@ def main():
         print("the crates are not proved as they stand")
         print(f"0 passed, {sum(map(len, edits.values()))} failed")
         return 1
-    printing, kinds = threading.Lock(), dict.fromkeys(KINDS, 0)
+    printing, kinds, checks = threading.Lock(), dict.fromkeys(KINDS, 0), Checks()
 
     def try_round(one):
-        told = one.check(below[one.crate])
+        told = one.check(below[one.crate], checks)
         if given.told:
             with open(os.path.join(given.told, one.edits[0].label.replace("/", "-") + ".told"), "w", encoding="utf-8") as file:
                 file.write(told)

@@ -2,10 +2,10 @@
 use Rattle.std.proofs.Common.{◌≡◌, ℕ, zero, suc, ◌+◌, ◌<◌, ◌≤◌, ◌^◌, Bool, true, false, nat_le, nat_lt, List, [], ◌∷◌, length, get_or, None, Some, option_map, refl, sym, ap, ◌∙◌, arith, eq-eqb, Ok, Err, map}
 use Rattle.std.proofs.lemmas.Bool.Decides.{nat_tests}
 use Rattle.std.specs.Option.{option_or}
-use Rattle.moc_sphere.specs.CellNumber.{cell_count, cell_number}
+use Rattle.moc_sphere.specs.CellNumber.{cell_count, cell_number, is_uniq}
 use Rattle.moc_ranges.specs.Cells.{pixels_of}
 use Rattle.moc_ranges.specs.Numbers.{NumberSet}
-use Rattle.moc_c.specs.Buffers.{cells_fault, cells_say, done_unless, first_failing, is_index, is_uniq, lengths_fault, numbers_fault, numbers_say, uniqs_fault}
+use Rattle.moc_c.specs.Buffers.{cells_fault, cells_say, done_unless, first_failing, is_index, lengths_fault, numbers_fault, numbers_say, uniqs_fault}
 use Rattle.moc_c.specs.Outcomes.{done, refusal}
 use Rattle.moc_c.specs.declared.outcome.Outcome.{Outcome}
 use Rattle.moc_c.specs.declared.fault.Fault.TheVariants as fault

@@ -1,11 +1,11 @@
 -- Buffers of the caller that are filled, and arrays of his that are told one by one.
-use Rattle.std.specs.Prelude.{◌≡◌, ◌⊎◌, ◌<◌, ◌≤◌, ◌+◌, ◌-◌, ◌^◌, ℕ, Bool, ◌&&◌, List, [], ◌∷◌, length, map, take}
+use Rattle.std.specs.Prelude.{◌≡◌, ◌⊎◌, ◌<◌, ◌≤◌, ◌+◌, ◌-◌, ◌^◌, ℕ, Bool, List, [], ◌∷◌, length, map, take}
 use Rattle.std.specs.Prelude.{nat_le, nat_lt, ◌==◌, EachIndex, slice_index, slice_index_or, if◌then◌else◌, option_map}
 use Rattle.std.specs.Prelude.{Option, None, Some, Result, Ok, Err}
 use Rattle.std.specs.Option.{option_or}
 use Rattle.std.specs.FinSet as set
 use Rattle.std.specs.List.{list_all, AllByRecursion}
-use Rattle.moc_sphere.specs.CellNumber.{CellNumber, cell_count, cell_number, IsCell, uniq_of}
+use Rattle.moc_sphere.specs.CellNumber.{CellNumber, cell_count, cell_number, is_uniq, IsCell, uniq_of}
 use Rattle.moc_sphere.specs.Rings.{ring_number}
 use Rattle.moc_sphere.specs.Touching.{touching_cells}
 use Rattle.moc_ranges.specs.Cells.{cells_of, pixels_of}
@@ -33,10 +33,6 @@ first_failing test at (x ∷ xs) = if test x then first_failing test (at + 1) xs
 -- whether the order has a cell of this number
 abbrev pub is_index : ℕ → ℕ → Bool
 is_index order x = nat_lt x (cell_count order)
-
--- whether a number is a NUNIQ number
-abbrev pub is_uniq : ℕ → Bool
-is_uniq x = nat_le 4 x && nat_lt x (2 ^ 62)
 
 -- an order that is none
 abbrev pub order_fault : ℕ → Option Fault

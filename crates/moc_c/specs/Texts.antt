@@ -1,5 +1,6 @@
 -- Texts that are read and made.
-use Rattle.std.specs.Prelude.{◌≡◌, ◌⊎◌, ℕ, List, length, nat_eq, nat_le, if◌then◌else◌, Option, None, Some, Result, Ok, Err}
+use Rattle.std.specs.Prelude.{◌≡◌, ◌⊎◌, ℕ, List, length, nat_eq, nat_le, if◌then◌else◌}
+use Rattle.std.specs.Prelude.{Option, None, Some, Result, Ok, Err}
 use Rattle.std.specs.Prelude.{String, string_bytes}
 use Rattle.std.specs.declared.alloc.Global.{Global}
 use Rattle.moc_ranges.specs.Numbers.{NumberSet}
@@ -33,8 +34,8 @@ Reads form text old new o =
     ⊎ ((e : FormError) × FormFails form text e × (new ≡ old) × (o ≡ form_refusal e))
 
 -- a text of what there is, or a fault of making one, or what is missing
-abbrev pub IsTextOf : {X : Type 0} → (X → List ℕ → Type 0) → (X → Fault → Type 0) → Result X Fault → Result (List ℕ) Fault
-    → Type 0
+abbrev pub IsTextOf : {X : Type 0} → (X → List ℕ → Type 0) → (X → Fault → Type 0) → Result X Fault
+    → Result (List ℕ) Fault → Type 0
 IsTextOf Is Fails (Ok x) (Ok text) = Is x text
 IsTextOf Is Fails (Ok x) (Err e) = Fails x e
 IsTextOf Is Fails (Err e) r = r ≡ Err e

@@ -36,7 +36,8 @@ pub extern "C" fn moc_count_common(desk: &mut Desk, a: u64, b: u64) -> Outcome
 /// How many ranges the set has in its one normal list. O(n / 548).
 #[unsafe(no_mangle)]
 pub extern "C" fn moc_range_count(desk: &mut Desk, a: u64) -> Outcome
-    ensures told { Answers (λ x n. (ranges : List (ℕ × ℕ)) × IsNormal ranges × (set_of ranges ≡ x) × (n ≡ length ranges))
+    ensures told { Answers
+        (λ x n. (ranges : List (ℕ × ℕ)) × IsNormal ranges × (set_of ranges ≡ x) × (n ≡ length ranges))
         (set_at desk.old.contents a) result }
     ensures same { desk.new.contents ≡ desk.old.contents }
 {

@@ -69,7 +69,8 @@ pub extern "C" fn moc_nest_to_uniq(order: u8, cells: &[u64], out: &mut [u64]) ->
 #[unsafe(no_mangle)]
 pub extern "C" fn moc_uniq_to_nest(uniqs: &[u64], orders: &mut [u8], cells: &mut [u64]) -> Outcome
     ensures outcome { result ≡ done_unless
-        (option_or (lengths_fault (length uniqs.now) (length orders.old ∷ length cells.old ∷ [])) (uniqs_fault uniqs.now)) }
+        (option_or (lengths_fault (length uniqs.now) (length orders.old ∷ length cells.old ∷ []))
+        (uniqs_fault uniqs.now)) }
     ensures told { result.code ≡ 0 → AreCellsOf uniqs.now orders.new cells.new }
 {
     if uniqs.len() != orders.len() || uniqs.len() != cells.len() {

@@ -69,7 +69,8 @@ impl Shelf {
 
     /// Keeps all pixels of each cell of an order that a set meets.
     fn degrade(&mut self, alloc: Global, a: u64, order: u8) -> Outcome
-        ensures { Makes self.old self.new (made_of (of_two degrade) (both (set_at self.old a) (order_at order))) result }
+        ensures { Makes self.old self.new
+            (made_of (of_two degrade) (both (set_at self.old a) (order_at order))) result }
     {
         match (self.set(a), order_of(order)) {
             (Ok(set), Ok(order)) => {

@@ -71,7 +71,8 @@ texts_of bytes = texts_among (parts_of bytes)
 abbrev pub CombinesTexts : Operation → Choice → Option Said → List (List ℕ) → Option Said → Type 0
 CombinesTexts operation choice before [] after = after ≡ before
 CombinesTexts operation choice before (text ∷ texts) after =
-    (said : Said) × TextSays choice text said × CombinesTexts operation choice (Some (joined operation before said)) texts after
+    (said : Said) × TextSays choice text said
+    × CombinesTexts operation choice (Some (joined operation before said)) texts after
 
 -- among texts this one stands behind so many others, and each of these says a set
 abbrev pub StandsBehind : Choice → List (List ℕ) → ℕ → List ℕ → Type 0

@@ -98,7 +98,8 @@ marks_path marks colour = path_head colour ++ mark_diamonds marks ++ codes "\"/>
 -- the sky: the twelve base pixels in grey, outlined; they are the same from either side
 unfoldable pub outlines : List ℕ
 outlines =
-    codes "<path fill=\"#eee\" stroke=\"#bbb\" clip-path=\"url(#plane)\" d=\"" ++ base_diamonds_below 12 ++ codes "\"/>\n"
+    codes "<path fill=\"#eee\" stroke=\"#bbb\" clip-path=\"url(#plane)\" d=\"" ++ base_diamonds_below 12
+    ++ codes "\"/>\n"
 
 -- a number, at a place
 unfoldable pub label : ℕ → ℕ → ℕ → List ℕ

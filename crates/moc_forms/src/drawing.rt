@@ -2,8 +2,10 @@
 ghost use Rattle.std.specs.Prelude.{◌≡◌, ◌++◌, ◌<◌, ◌≤◌, ◌*◌, ◌^◌, IfOk, OnOk};
 ghost use Rattle.std.specs.String.{string_bytes};
 ghost use Rattle.moc_sphere.specs.CellNumber.{cell_number};
-ghost use Rattle.moc_forms.specs.Drawing.{base_diamonds_below, cell_diamonds, diamond, diamonds_at, head, label, labels};
-ghost use Rattle.moc_forms.specs.Drawing.{labels_at, labels_below, legend, legend_entry, outlines, path_head, picture_of};
+ghost use Rattle.moc_forms.specs.Drawing.{base_diamonds_below, cell_diamonds, diamond, diamonds_at};
+ghost use Rattle.moc_forms.specs.Drawing.{head, label, labels};
+ghost use Rattle.moc_forms.specs.Drawing.{labels_at, labels_below, legend, legend_entry, outlines};
+ghost use Rattle.moc_forms.specs.Drawing.{path_head, picture_of};
 ghost use Rattle.moc_forms.specs.Drawing.{shade_diamonds, shade_path, shades};
 
 use crate::marks::marks;

@@ -73,7 +73,8 @@ IsPictureOf choice first (Some second) picture =
 -- a picture is that of the texts that bytes are
 abbrev pub IsPictured : Choice → List ℕ → List ℕ → Type 0
 IsPictured choice bytes picture =
-    (first : List ℕ) × (second : Option (List ℕ)) × AreTexts bytes first second × IsPictureOf choice first second picture
+    (first : List ℕ) × (second : Option (List ℕ)) × AreTexts bytes first second
+    × IsPictureOf choice first second picture
 
 -- the text is the picture of the texts that the input is
 pub record DrawsAll (choice : Choice) (left left' : Option (List ℕ)) (text : List ℕ) : Type 0 where

@@ -1,5 +1,6 @@
 //! Texts of coverages, from the input: converted, described, drawn, checked.
-ghost use Rattle.std.specs.Prelude.{◌≡◌, ◌≢◌, ◌<◌, ◌↔◌, ◌⊎◌, Err, false, IfErr, IfOk, IsErrOf, IsTrue, length, None, option_map};
+ghost use Rattle.std.specs.Prelude.{◌≡◌, ◌≢◌, ◌<◌, ◌↔◌, ◌⊎◌, Err, false};
+ghost use Rattle.std.specs.Prelude.{IfErr, IfOk, IsErrOf, IsTrue, length, None, option_map};
 ghost use Rattle.std.specs.String.{string_bytes};
 ghost use Rattle.moc_forms.specs.Combining.{TextSays};
 ghost use Rattle.moc_forms.specs.Finding.{form_for, hint_of};
@@ -7,7 +8,8 @@ ghost use Rattle.moc_forms.specs.Forms.{FormSays, form_text};
 ghost use Rattle.moc_forms.specs.Places.{line_bytes};
 ghost use Rattle.moc_forms.specs.Quotes.{IsTold};
 ghost use Rattle.moc_program.specs.Conversion.{BringsPiece, ChangesAll, ChecksAll, ConvertsAll, DescribesAll, DrawsAll};
-ghost use Rattle.moc_program.specs.Conversion.{IsNotChanged, IsNotConverted, IsNotDrawn, IsOfWhole, IsPictured, IsReadFault, IsWhole};
+ghost use Rattle.moc_program.specs.Conversion.{IsNotChanged, IsNotConverted, IsNotDrawn, IsOfWhole, IsPictured};
+ghost use Rattle.moc_program.specs.Conversion.{IsReadFault, IsWhole};
 ghost use Rattle.moc_program.specs.Conversion.{IsTextFault, SaysAll, SaysNothing, TellsFault, TellsPictured};
 ghost use Rattle.moc_program.specs.Faults.{fault_of_form};
 ghost use Rattle.moc_program.specs.Parting.{AreTexts, IsParted};

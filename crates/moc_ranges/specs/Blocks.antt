@@ -16,7 +16,8 @@ NeedsBoth most list (next ∷ lists) = most < length list + length next
 -- each list has 1 to so many elements, and two side by side have together more
 abbrev pub AreFilled : {X : Type 0} → ℕ → List (List X) → Type 0
 AreFilled most [] = ⊤
-AreFilled most (list ∷ lists) = (0 < length list) × (length list ≤ most) × NeedsBoth most list lists × AreFilled most lists
+AreFilled most (list ∷ lists) =
+    (0 < length list) × (length list ≤ most) × NeedsBoth most list lists × AreFilled most lists
 
 -- each block has 1 to 128 ranges, and two side by side have together more than 128
 abbrev pub AreBlocks : List (List (ℕ × ℕ)) → Type 0

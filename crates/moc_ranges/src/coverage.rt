@@ -77,9 +77,9 @@ impl Coverage {
         }
     }
 
-    /// Whether the set has this pixel, and the first pixel behind it with which that changes; where it does not change any
-    /// more, a number above all pixels. So pixels that rise are looked up once for each range or gap that they come to.
-    /// O(log n), takes no memory.
+    /// Whether the set has this pixel, and the first pixel behind it with which that changes; where it does not change
+    /// any more, a number above all pixels. So pixels that rise are looked up once for each range or gap that they come
+    /// to. O(log n), takes no memory.
     pub fn contains_until(&self, pixel: u64) -> (bool, u64)
         ensures found { result.0 ≡ set.contains self.now pixel }
         ensures behind { pixel ≤ result.1 }

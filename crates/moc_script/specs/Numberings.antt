@@ -1,9 +1,9 @@
 -- The numberings of the cells of an order, HEALPix's numbering schemes and NUNIQ, and numbers told in another one.
-use Rattle.std.specs.Prelude.{ℕ, ◌^◌, Bool, ◌&&◌, ◌==◌, nat_le, nat_lt, List, [], ◌∷◌, ◌++◌, codes, decimal, Option}
+use Rattle.std.specs.Prelude.{ℕ, ◌==◌, List, [], ◌∷◌, ◌++◌, codes, decimal, Option}
 use Rattle.std.specs.Prelude.{Result, Ok, Err, if◌then◌else◌}
 use Rattle.std.specs.List.{find, range_with_len}
 use Rattle.std.specs.Option.{ok_or}
-use Rattle.moc_sphere.specs.CellNumber.{cell_count, cell_number, uniq_of}
+use Rattle.moc_sphere.specs.CellNumber.{cell_count, cell_number, is_uniq, uniq_of}
 use Rattle.moc_sphere.specs.Rings.{ring_number}
 use Rattle.moc_script.specs.Words.{is_blank, word_of, behind_word, number_of}
 use Rattle.moc_script.specs.Language.{◌>>=◌}
@@ -34,10 +34,6 @@ number_under Uniq k i = uniq_of (cell_number k i)
 -- the cell of order k that has the number n, of which there is one at most
 unfoldable pub cell_under : Numbering → ℕ → ℕ → Option ℕ
 cell_under numbering k n = find (λ i. number_under numbering k i == n) (range_with_len 0 (cell_count k))
-
--- a cell of some order has this NUNIQ number
-abbrev pub is_uniq : ℕ → Bool
-is_uniq n = nat_le 4 n && nat_lt n (2 ^ 62)
 
 -- the fault of a number that no cell of the order has
 abbrev pub fault_under : Numbering → ℕ → Fault

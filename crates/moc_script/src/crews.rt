@@ -1,5 +1,6 @@
 //! Scripts that several threads answer.
-ghost use Rattle.std.specs.Prelude.{◌≡◌, ◌≢◌, ◌⊎◌, ◌<◌, ◌≤◌, ◌↔◌, ℕ, List, false, IfOk, IfSome, IfErr, OnOk, OnErr, Err, IsErrOf};
+ghost use Rattle.std.specs.Prelude.{◌≡◌, ◌≢◌, ◌⊎◌, ◌<◌, ◌≤◌, ◌↔◌, ℕ, List, false};
+ghost use Rattle.std.specs.Prelude.{IfOk, IfSome, IfErr, OnOk, OnErr, Err, IsErrOf};
 ghost use Rattle.std.specs.Prelude.{IsTrue, length};
 ghost use Rattle.std.specs.Io.KnownBytes.{IsAtEnd};
 ghost use Rattle.moc_script.specs.Runs.{Flushes};

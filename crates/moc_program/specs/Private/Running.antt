@@ -36,8 +36,8 @@ texts_behind None bytes = texts_of bytes
 texts_behind (Some before) bytes = without_blank_end (parts_of bytes)
 
 -- what texts say behind what was said before, where none is too long
-pub record TextsSay (operation : Operation) (choice : Choice) (before : Option Said) (bytes : List ℕ) (after : Option Said)
-    : Type 0 where
+pub record TextsSay (operation : Operation) (choice : Choice) (before : Option Said) (bytes : List ℕ)
+    (after : Option Said) : Type 0 where
   pub says : CombinesTexts operation choice before (texts_behind before bytes) after
   pub within : AreWithin 16777216 (texts_behind before bytes)
 

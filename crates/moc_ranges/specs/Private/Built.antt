@@ -44,7 +44,8 @@ abbrev pub BeginsBy : ℕ → List (ℕ × ℕ) → Type 0
 BeginsBy f [] = ⊤
 BeginsBy f (range ∷ ranges) = (range.0 ≤ f) × BeginsBy f ranges
 
--- a list that grows at its end: ranges that stay as they are, and those behind them, of which the last may be made longer
+-- a list that grows at its end: ranges that stay as they are, and those behind them, of which the last may be made
+-- longer
 pub record Growing : Type 0 where
   pub closed : List (ℕ × ℕ)
   pub loose : List (ℕ × ℕ)

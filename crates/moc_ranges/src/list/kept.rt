@@ -348,7 +348,8 @@ impl Kept {
         requires within { to ≤ pixel_count }
         requires can { CanJoin (growing self.old) from }
         ensures built { OnOk result (IsKept self.new) }
-        ensures same { OnOk result ((q : ℕ) → in_ranges (all_of self.new) q ≡ (in_ranges (all_of self.old) q || in_range (from, to) q)) }
+        ensures same { OnOk result ((q : ℕ) → in_ranges (all_of self.new) q
+            ≡ (in_ranges (all_of self.old) q || in_range (from, to) q)) }
         ensures can { OnOk result (CanJoin (growing self.new) from) }
     {
         if self.is_apart(from) {

@@ -51,7 +51,9 @@ pub record IsTold (lanes : ℕ) (said : List (List ℕ)) (answers : List (List (
   pub text : (front : List ℕ) → AreJoined answers (length said) front → IsCrewText lanes said (front ++ behind)
 
 -- What so many lanes answered an input that was read whole is written, as far as the outcome says, as a crew ends.
-abbrev pub EndsTold : List ℕ → List (List (List ℕ)) → List ℕ → Option (List ℕ) → Option (List ℕ) → Result (Unit {0}) RunError → Type 0
+abbrev pub EndsTold : List ℕ → List (List (List ℕ)) → List ℕ → Option (List ℕ) → Option (List ℕ)
+    → Result (Unit {0}) RunError → Type 0
 EndsTold input answers cover written written' result =
-    (lanes : ℕ) (left left' : Option (List ℕ)) → IsTold lanes (said_lines (lines_of input)) answers cover → ReadsAll left left' input
+    (lanes : ℕ) (left left' : Option (List ℕ))
+    → IsTold lanes (said_lines (lines_of input)) answers cover → ReadsAll left left' input
     → IfSome left (λ whole. CrewEnds lanes whole left' written written' result)

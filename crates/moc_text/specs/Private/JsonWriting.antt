@@ -11,8 +11,8 @@ use Rattle.moc_text.specs.JsonText.{datum, data_at, is_name}
 -- the orders, where their names stand in byte order
 abbrev pub orders_by_name : List ℕ
 orders_by_name =
-    0 ∷ 1 ∷ 10 ∷ 11 ∷ 12 ∷ 13 ∷ 14 ∷ 15 ∷ 16 ∷ 17 ∷ 18 ∷ 19 ∷ 2 ∷ 20 ∷ 21 ∷ 22 ∷ 23 ∷ 24 ∷ 25 ∷ 26 ∷ 27 ∷ 28 ∷ 29 ∷ 3 ∷ 4
-    ∷ 5 ∷ 6 ∷ 7 ∷ 8 ∷ 9 ∷ []
+    0 ∷ 1 ∷ 10 ∷ 11 ∷ 12 ∷ 13 ∷ 14 ∷ 15 ∷ 16 ∷ 17 ∷ 18 ∷ 19 ∷ 2 ∷ 20 ∷ 21 ∷ 22 ∷ 23 ∷ 24 ∷ 25 ∷ 26 ∷ 27 ∷ 28 ∷ 29 ∷ 3
+    ∷ 4 ∷ 5 ∷ 6 ∷ 7 ∷ 8 ∷ 9 ∷ []
 
 -- the members of orders, in the sequence of the list: those that are names
 abbrev pub members_along : List CellNumber → Option ℕ → List ℕ → Members

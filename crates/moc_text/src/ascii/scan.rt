@@ -4,8 +4,10 @@
 ghost use Rattle.std.specs.Prelude.{◌≡◌, ◌-◌, length};
 ghost use Rattle.std.specs.Option.{option_copied};
 ghost use Rattle.moc_text.specs.Ascii.{is_separator as is_separator_byte};
-ghost use Rattle.moc_text.specs.Private.Scan.{Gives, is_end as is_end_of, after_byte, front_digits, past_digits, held_after};
-ghost use Rattle.moc_text.specs.Private.Scan.{unexpected as unexpected_at, scan_number, scan_item, scan_marked, scan_word};
+ghost use Rattle.moc_text.specs.Private.Scan.{Gives, is_end as is_end_of, after_byte, front_digits, past_digits};
+ghost use Rattle.moc_text.specs.Private.Scan.{held_after};
+ghost use Rattle.moc_text.specs.Private.Scan.{unexpected as unexpected_at, scan_number, scan_item, scan_marked};
+ghost use Rattle.moc_text.specs.Private.Scan.{scan_word};
 
 use crate::ascii::error::TextError;
 use crate::ascii::number::{Item, Number, Parts};

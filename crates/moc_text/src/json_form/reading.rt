@@ -9,7 +9,8 @@ ghost use Rattle.moc_text.specs.Ascii.{deeper as deeper_of};
 ghost use Rattle.moc_text.specs.Faults.{Fails};
 ghost use Rattle.moc_text.specs.JsonForm.{order_of_name, whole, cell_pixels, item_fault, items_pixels, items_fault};
 ghost use Rattle.moc_text.specs.JsonForm.{array_pixels, name_fault, members_pixels, members_fault, deepest_name};
-ghost use Rattle.moc_text.specs.JsonForm.{member_at as member_of, order_at, HasItem, HasName, IsJson, IsNotJson, NamesOrder, SaysJson};
+ghost use Rattle.moc_text.specs.JsonForm.{member_at as member_of, order_at, HasItem, HasName, IsJson, IsNotJson};
+ghost use Rattle.moc_text.specs.JsonForm.{NamesOrder, SaysJson};
 ghost use Rattle.moc_text.specs.JsonForm.{IsJsonFault};
 ghost use Rattle.moc_text.specs.Private.JsonReading.{held_order};
 
