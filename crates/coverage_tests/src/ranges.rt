@@ -172,6 +172,27 @@ fn gathered_cells(rt: HostRuntime) {
     );
 }
 
+#[test]
+fn rows_of_cells(rt: HostRuntime) {
+    let set = set_of(&rt, rt.alloc(), &[(3, 9), (16, 64)]);
+    assert_eq!(rt; set.cell_orders(), (27, 30));
+    let wanted: [(u8, &[(u64, u64)]); 4] = [
+        (26, &[]),
+        (27, &[(1, 4)]),
+        (28, &[(1, 2)]),
+        (29, &[(3, 4), (8, 9)]),
+    ];
+    for (order, rows) in wanted {
+        let mut seen = set.cell_ranges(Order::of(order));
+        for row in rows {
+            assert_eq!(rt; seen.next(), Some(*row));
+        }
+        assert_eq!(rt; seen.next(), None);
+    }
+    let sky = Coverage::full(rt.alloc()).expect(&rt, "memory");
+    assert_eq!(rt; sky.cell_ranges(Order::of(0)).next(), Some((0, 12)));
+}
+
 // The order is 29 less half the zeros at the end of all bounds together. Cell 3/10 is the pixels from 10 * 4^26 up to
 // 11 * 4^26.
 #[test]

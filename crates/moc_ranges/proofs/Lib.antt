@@ -14,6 +14,7 @@ pub mod Widening
 pub mod Spans
 pub mod CellRuns
 pub mod CellOrders
+pub mod CellPieces
 pub mod Gathering
 pub mod Passing
 pub mod CarriedOver

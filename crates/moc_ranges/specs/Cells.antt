@@ -44,6 +44,12 @@ cells_below (suc k) = cells_below k ++ map (cell_number k) (range_with_len 0 (ce
 unfoldable pub cells_of : NumberSet → List CellNumber
 cells_of a = filter (is_cell_of a) (cells_below 30)
 
+-- the cells of an order whose indices are in ranges
+abbrev pub cells_in : ℕ → List (ℕ × ℕ) → List CellNumber
+cells_in order [] = []
+cells_in order (range ∷ ranges) =
+    map (cell_number order) (range_with_len range.0 (range.1 - range.0)) ++ cells_in order ranges
+
 -- the pixels of a cell, from the first up to, not including, the one after the last
 abbrev pub cell_range : CellNumber → ℕ × ℕ
 cell_range c = (c.index * cell_size c.order, (c.index + 1) * cell_size c.order)

@@ -2,7 +2,7 @@
 ghost use Rattle.std.specs.Prelude.{◌≡◌, ◌++◌, ◌<◌, ◌≤◌, ℕ, [], ◌∷◌, OnOk};
 ghost use Rattle.moc_sphere.specs.CellNumber.{cell_count};
 ghost use Rattle.moc_ranges.specs.Cells.{degrade};
-ghost use Rattle.moc_ranges.specs.Private.CellRuns.{AreWhole, HasOrders, cells_at, cells_between};
+ghost use Rattle.moc_ranges.specs.Private.CellRuns.{AreWhole, HasOrders, cells_at, cells_between, whole_in};
 ghost use Rattle.moc_ranges.specs.Pixels.{pixel_count};
 ghost use Rattle.moc_ranges.specs.RangeList.{IsNormal, set_of};
 
@@ -47,11 +47,12 @@ pub fn deepest_order(ranges: Ranges<'_>) -> Order
 
 /// The cells of an order that lie whole in a range: the index of the first, and the one after the
 /// last.
-#[inline]
-fn whole_cells(order: Order, from: u64, to: u64) -> (u64, u64)
+#[inline(always)]
+pub fn whole_cells(order: Order, from: u64, to: u64) -> (u64, u64)
     requires rising { from < to }
     requires within { to ≤ pixel_count }
-    ensures { AreWhole order from to result.0 result.1 }
+    ensures is { result ≡ whole_in order (from, to) }
+    ensures whole { AreWhole order from to result.0 result.1 }
 {
     let shift = 2 * (29 - order.get());
     let size = order.cell_size();

@@ -1,6 +1,7 @@
 //! Sets of pixels, and the operations on them.
 ghost use Rattle.std.specs.Prelude.{◌≡◌, ℕ, true, not, IfSome, MatchOption, ◌+◌, ◌<◌, ◌≤◌, ◌↔◌, nat_lt, IsTrue};
-ghost use Rattle.std.specs.Prelude.{List, length};
+ghost use Rattle.std.specs.Prelude.{List, length, ◌==◌};
+ghost use Rattle.std.specs.List.{AllByRecursion, filter};
 ghost use Rattle.std.specs.Prelude.{IfOk, IfErr, OnOk, OnErr, None, unwrap_or};
 ghost use Rattle.moc_ranges.specs.Faults.{first_fault};
 ghost use Rattle.std.specs.Cmp.{partial_equiv_from_equiv};
@@ -8,11 +9,12 @@ ghost use Rattle.std.specs.FinSet as set;
 ghost use Rattle.moc_ranges.specs.RangeList.{IsNormal, set_of};
 ghost use Rattle.moc_ranges.specs.Operations.{symmetric, complement, part_of, meets, IsWithin};
 ghost use Rattle.moc_ranges.specs.Pixels.{pixel_count, pixels};
-ghost use Rattle.moc_ranges.specs.Cells.{cells_of, degrade, span};
+ghost use Rattle.moc_ranges.specs.Cells.{cells_in, cells_of, degrade, span};
 ghost use Rattle.moc_ranges.specs.Numbers.{numbers};
 ghost use Rattle.moc_ranges.specs.Blocks.{joining, AreBlocks, IsSearchOf};
 ghost use Rattle.moc_ranges.specs.Private.Walks.{IsNextRange, HasNoneFrom};
 
+use crate::cell_ranges::CellRanges;
 use crate::cells::{deepest_order, orders_with_cells, push_cells_of_order};
 use crate::errors::{Memory, RangesError};
 use crate::from_ranges::{build, build_widened, filled_by_start, refuse_faulty};
@@ -499,6 +501,25 @@ impl Coverage {
             push_cells_of_order(&mut cells, Order::of(level), self.ranges())?;
         }
         Ok(cells)
+    }
+
+    /// The orders that cells of the set can have: the first, and the one after the last; no cell has another. One pass,
+    /// O(n); takes no memory.
+    pub fn cell_orders(&self) -> (u8, u8)
+        ensures each { AllByRecursion (λ c. (result.0 ≤ c.order) × (c.order < result.1)) (cells_of self.now) }
+        ensures in_range { result.1 ≤ 30 }
+        ensures within { IsWithin self.now pixels }
+    {
+        orders_with_cells(self.ranges())
+    }
+
+    /// The cells of the set that are of this order, by ranges (first, end) of their indices, `end` not included: the
+    /// longest runs, in rising order. One pass over the ranges of the set as it goes, O(n); takes no memory.
+    pub fn cell_ranges(&self, order: Order) -> CellRanges<'_>
+        ensures cells { cells_in order result ≡ filter (λ c. c.order == order) (cells_of self.now) }
+        ensures normal { IsNormal result }
+    {
+        CellRanges::new(order, self.ranges())
     }
 
     /// A copy of the set, which shares its blocks: O(n) for up to 128 ranges, and else for its nodes

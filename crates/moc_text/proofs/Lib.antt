@@ -13,6 +13,7 @@ pub mod UniqLines
 pub mod Deepest
 pub mod JsonOrders
 pub mod JsonMembers
-pub mod CellParts
 pub mod JsonNames
 pub mod JsonWritten
+pub mod Rows
+pub mod JsonRows

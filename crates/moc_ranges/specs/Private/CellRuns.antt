@@ -1,5 +1,5 @@
 -- The cells of one order of a set, as they are found range by range.
-use Rattle.std.specs.Prelude.{◌≡◌, ℕ, ◌+◌, ◌-◌, ◌*◌, ◌<◌, ◌≤◌, ◌↔◌, true, List, map}
+use Rattle.std.specs.Prelude.{◌≡◌, ℕ, ◌+◌, ◌-◌, ◌*◌, ◌/◌, ◌<◌, ◌≤◌, ◌↔◌, true, ◌&&◌, if◌then◌else◌, nat_lt, List, [], ◌∷◌, ◌++◌, map}
 use Rattle.std.specs.List.{filter, range_with_len}
 use Rattle.moc_sphere.specs.CellNumber.{CellNumber, cell_number, cell_count, cell_size}
 use Rattle.moc_ranges.specs.Numbers.{NumberSet}
@@ -24,3 +24,28 @@ pub record HasOrders (a : NumberSet) (first last : ℕ) : Type 0 where
   pub each : (k i : ℕ) → k ≤ 29 → i < cell_count k → is_cell_of a (cell_number k i) ≡ true → (first ≤ k) × (k < last)
   pub first_in_range : first ≤ 30
   pub last_in_range : last ≤ 30
+
+-- the cells of order k that lie whole in a range: the first, and the one after the last
+abbrev pub whole_in : ℕ → ℕ × ℕ → ℕ × ℕ
+whole_in k range = ((range.0 + (cell_size k - 1)) / cell_size k, range.1 / cell_size k)
+
+-- of cells in a row, given by the first and the one after the last, those before and those after the parents all of whose
+-- cells are in the row; where there is none, all and none
+abbrev pub parted : ℕ → ℕ × ℕ → (ℕ × ℕ) × (ℕ × ℕ)
+parted k row =
+    if nat_lt 0 k && nat_lt ((row.0 + 3) / 4 * 4) (row.1 / 4 * 4)
+    then ((row.0, (row.0 + 3) / 4 * 4), (row.1 / 4 * 4, row.1))
+    else (row, (row.1, row.1))
+
+-- the cells of order k of a range, before and after those parents
+abbrev pub pieces_of : ℕ → ℕ × ℕ → (ℕ × ℕ) × (ℕ × ℕ)
+pieces_of k range = parted k (whole_in k range)
+
+-- a range alone where it is not empty, and else none
+abbrev pub filled : ℕ × ℕ → List (ℕ × ℕ)
+filled range = if nat_lt range.0 range.1 then range ∷ [] else []
+
+-- the cells of order k of ranges, those of each range by themselves
+abbrev pub pieces_along : ℕ → List (ℕ × ℕ) → List (ℕ × ℕ)
+pieces_along k [] = []
+pieces_along k (range ∷ ranges) = filled (pieces_of k range).0 ++ (filled (pieces_of k range).1 ++ pieces_along k ranges)

@@ -1,11 +1,12 @@
 -- The parts of a JSON text in the order in which they are written.
-use Rattle.std.specs.Prelude.{ℕ, if◌then◌else◌, List, [], ◌∷◌, map, Option, decimal}
+use Rattle.std.specs.Prelude.{ℕ, ◌-◌, if◌then◌else◌, List, [], ◌∷◌, map, Option, decimal}
 use Rattle.json.specs.Token.{Token}
 use Rattle.json.specs.Tree.{items_tokens, members_tokens}
 use Rattle.serde_json.specs.Data.{array, Members, no_members, member}
 use Rattle.serde_json.specs.View.{items_of}
 use Rattle.serde_json.specs.Written.{items_outline, members_outline}
-use Rattle.moc_sphere.specs.CellNumber.{CellNumber}
+use Rattle.std.specs.List.{range_with_len}
+use Rattle.moc_sphere.specs.CellNumber.{CellNumber, cell_number}
 use Rattle.moc_text.specs.JsonText.{datum, data_at, is_name}
 
 -- the orders, where their names stand in byte order
@@ -21,6 +22,10 @@ members_along cells bare (k ∷ ks) =
     if is_name k bare (data_at k cells)
     then member (decimal k) (array (items_of (data_at k cells))) (members_along cells bare ks)
     else members_along cells bare ks
+
+-- the cells of order k in a range of indices
+abbrev pub row_of : ℕ → ℕ × ℕ → List CellNumber
+row_of k range = map (cell_number k) (range_with_len range.0 (range.1 - range.0))
 
 -- the numbers of cells, and the end of their array
 abbrev pub array_rest : List CellNumber → List Token

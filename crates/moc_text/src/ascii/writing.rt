@@ -1,19 +1,27 @@
 //! Writing the ASCII form.
 ghost use Rattle.std.specs.Prelude.{◌≡◌, ◌+◌, ◌++◌, ◌<◌, ◌≤◌, decimal, drop, IfErr, IfOk, IsTrue, OnOk, ◌↔◌, ◌⊎◌};
+ghost use Rattle.std.specs.Prelude.{List, Option, ℕ};
 ghost use Rattle.std.specs.Option.{ForSome};
 ghost use Rattle.std.specs.Str.{IsAscii};
 ghost use Rattle.std.specs.String.{string_bytes};
+ghost use Rattle.moc_sphere.specs.CellNumber.{CellNumber};
+ghost use Rattle.moc_ranges.specs.Cells.{cells_of};
+ghost use Rattle.moc_ranges.specs.RangeList.{IsNormal};
 ghost use Rattle.moc_text.specs.Ascii.{Says};
-ghost use Rattle.moc_text.specs.AsciiText.{ascii_text, deepest_cell, deepest_written, follows, HasDeeper, IsTooCoarse};
-ghost use Rattle.moc_text.specs.AsciiText.{one, order_text, run_text, stated_beyond, text_of_cells};
-ghost use Rattle.moc_text.specs.Private.AsciiWriting.{AreRising, gap, run_part, stated_part};
+ghost use Rattle.moc_text.specs.AsciiText.{ascii_text, deepest_cell, deepest_written, HasDeeper, IsTooCoarse};
+ghost use Rattle.moc_text.specs.AsciiText.{order_text, run_text, stated_beyond, text_of_cells};
+ghost use Rattle.moc_text.specs.Private.AsciiWriting.{AreOfOrders, gap, onward, run_part, runs_in, stated_part};
+ghost use Rattle.moc_text.specs.declared.ascii.writing.Run.{Run as CellRun};
 
 use crate::ascii::error::TextError;
 use itoa::{Buffer, write_digits};
-use moc_ranges::Coverage;
-use moc_sphere::{Cell, Order};
+use moc_ranges::{CellRanges, Coverage};
+use moc_sphere::Order;
 use std::alloc::{AllocError, Global};
 use std::str::from_utf8_unchecked;
+
+/// For how many bytes a range of the set room is made in a text at first: about what the cells of most take.
+pub const ROOM: usize = 16;
 
 /// How many bytes a run takes at most, with a space before it.
 const RUN_LEN: usize = 42;
@@ -24,26 +32,6 @@ struct Run {
     order: u8,
     first: u64,
     last: u64,
-}
-
-impl Run {
-    /// The run of one cell.
-    fn new(cell: Cell) -> Self
-        ensures { result ≡ one cell }
-    {
-        Run {
-            order: cell.order().get(),
-            first: cell.index(),
-            last: cell.index(),
-        }
-    }
-
-    /// Whether the cell is the next one.
-    fn is_followed_by(&self, cell: Cell) -> bool
-        ensures { result ≡ follows self.now cell }
-    {
-        cell.order().get() == self.order && cell.index() > 0 && cell.index() - 1 == self.last
-    }
 }
 
 /// The number in decimal.
@@ -171,51 +159,75 @@ pub fn depth_of(order: Option<Order>) -> Option<u8>
     }
 }
 
-/// The deepest order of cells: that of the last one, where their orders rise.
-pub fn deepest_of(cells: &[Cell]) -> Option<u8>
-    requires { AreRising 0 cells.now }
-    ensures { result ≡ deepest_cell cells.now }
+/// The deepest order of a cell of the set, of the orders that its cells can have.
+pub fn deepest_of(set: &Coverage, orders: (u8, u8)) -> Option<u8>
+    requires each { AreOfOrders orders.0 orders.1 (cells_of set.now) }
+    requires in_range { orders.1 ≤ 30 }
+    ensures { result ≡ deepest_cell (cells_of set.now) }
 {
-    let last = cells.last()?;
-    Some(last.order().get())
+    let mut level = orders.1;
+    while level > orders.0 {
+        level -= 1;
+        if set.cell_ranges(Order::of(level)).next().is_some() {
+            return Some(level);
+        }
+    }
+    None
 }
 
-/// Whether a cell is of a deeper order than the stated one, where the orders of the cells rise.
-pub fn is_too_coarse(cells: &[Cell], stated: Option<u8>) -> bool
-    requires { AreRising 0 cells.now }
-    ensures { IsTrue result ↔ HasDeeper cells.now stated }
+/// Whether the deepest order of cells is deeper than the stated one.
+pub fn is_too_coarse(deepest: Option<u8>, stated: Option<u8>) -> bool
+    ensures { (cells : List CellNumber) → deepest ≡ deepest_cell cells → (IsTrue result ↔ HasDeeper cells stated) }
 {
-    match (deepest_of(cells), stated) {
+    match (deepest, stated) {
         (Some(deepest), Some(stated)) => deepest > stated,
         _ => false,
     }
 }
 
-/// Writes the cells run by run.
-fn push_all(text: &mut String, cells: &[Cell], stated: Option<u8>) -> Result<(), AllocError>
-    ensures { OnOk result (string_bytes text.new ≡ string_bytes text.old ++ text_of_cells cells.now stated) }
+/// Writes the runs of an order, and gives the order that was written last.
+fn push_runs(
+    text: &mut String,
+    before: Option<u8>,
+    order: u8,
+    ranges: CellRanges<'_>,
+) -> Result<Option<u8>, AllocError>
+    requires { IsNormal ranges }
+    ensures { IfOk result (λ last. (stated : Option ℕ) (rest : List CellRun) →
+        string_bytes text.new ++ onward stated last rest
+        ≡ string_bytes text.old ++ onward stated before (runs_in order ranges.entry ++ rest)) }
 {
-    let [first, rest @ ..] = cells else {
-        return push_stated(text, None, stated);
-    };
-    let mut before = None;
-    let mut run = Run::new(*first);
-    for cell in rest {
-        if run.is_followed_by(*cell) {
-            run.last = cell.index();
-        } else {
-            push_run(text, before, run)?;
-            before = Some(run.order);
-            run = Run::new(*cell);
-        }
+    let mut before = before;
+    for (first, end) in ranges {
+        let last = end - 1;
+        push_run(text, before, Run { order, first, last })?;
+        before = Some(order);
     }
-    push_run(text, before, run)?;
-    push_stated(text, Some(run.order), stated)
+    Ok(before)
+}
+
+/// Writes the cells of the set run by run, of the orders that they can have.
+fn push_all(
+    text: &mut String,
+    set: &Coverage,
+    orders: (u8, u8),
+    stated: Option<u8>,
+) -> Result<(), AllocError>
+    requires each { AreOfOrders orders.0 orders.1 (cells_of set.now) }
+    requires in_range { orders.1 ≤ 30 }
+    ensures { OnOk result (string_bytes text.new ≡ string_bytes text.old ++ text_of_cells (cells_of set.now) stated) }
+{
+    let mut before = None;
+    for level in orders.0..orders.1 {
+        before = push_runs(text, before, level, set.cell_ranges(Order::of(level)))?;
+    }
+    push_stated(text, before, stated)
 }
 
 /// Writes the ASCII form (MOC 2.0) of the set: its cells by rising order and within an order by rising number,
 /// runs of consecutive cells joined, and then the stated order, if it is deeper than these. Refused with
-/// `TooCoarse` where the set has a cell of a deeper order than the stated one. Linear in the number of cells.
+/// `TooCoarse` where the set has a cell of a deeper order than the stated one. One pass over the ranges of the set for each
+/// order that can have cells, and linear in the length of the text; no list of cells is made.
 #[tactic(auto, unfolding(crate::specs::AsciiText::ascii_text))]
 pub fn write_ascii(
     alloc: Global,
@@ -231,11 +243,11 @@ pub fn write_ascii(
     ensures reads_back { IfOk result (λ t. Says (string_bytes t) set.now (deepest_written set.now stated)) }
 {
     let stated = depth_of(stated);
-    let cells = set.cells(alloc)?;
-    if is_too_coarse(&cells, stated) {
+    let orders = set.cell_orders();
+    if is_too_coarse(deepest_of(set, orders), stated) {
         return Err(TextError::TooCoarse);
     }
-    let mut text = String::with_capacity(alloc, cells.len().saturating_mul(9))?;
-    push_all(&mut text, &cells, stated)?;
+    let mut text = String::with_capacity(alloc, set.range_count().saturating_mul(ROOM))?;
+    push_all(&mut text, set, orders, stated)?;
     Ok(text)
 }

@@ -1,22 +1,25 @@
 //! Writing the JSON form.
-ghost use Rattle.std.specs.Prelude.{◌≡◌, ◌++◌, ◌<◌, ◌≤◌, ◌==◌, [], map, IfErr, IfOk, OnOk, ◌⊎◌};
-ghost use Rattle.std.specs.List.{AllByRecursion, filter};
+ghost use Rattle.std.specs.Prelude.{◌≡◌, ◌++◌, ◌<◌, ◌≤◌, ◌==◌, [], ◌∷◌, decimal, IfErr, IfOk, List, OnOk, ℕ, ◌⊎◌};
+ghost use Rattle.std.specs.List.{filter};
 ghost use Rattle.std.specs.String.{string_bytes};
 ghost use Rattle.json.specs.Lex.{tokens};
 ghost use Rattle.json.specs.Print.{print};
+ghost use Rattle.json.specs.Token.{Token};
+ghost use Rattle.moc_sphere.specs.CellNumber.{CellNumber};
+ghost use Rattle.moc_ranges.specs.Cells.{cells_in, cells_of};
 ghost use Rattle.moc_text.specs.AsciiText.{deepest_written, IsTooCoarse};
 ghost use Rattle.moc_text.specs.JsonForm.{SaysJson};
-ghost use Rattle.moc_text.specs.JsonText.{datum, is_name as is_name_of, json_text};
+ghost use Rattle.moc_text.specs.JsonText.{json_text};
+ghost use Rattle.moc_text.specs.Private.AsciiWriting.{AreOfOrders};
 ghost use Rattle.moc_text.specs.Private.JsonWriting.{array_rest, object_rest, object_tokens, order_tokens};
-ghost use Rattle.moc_text.specs.Private.JsonWriting.{orders_by_name};
-ghost use Rattle.moc_text.specs.Private.AsciiWriting.{AreRising};
+ghost use Rattle.moc_text.specs.Private.JsonWriting.{orders_by_name, row_of};
 
-use crate::ascii::{beyond, deepest_of, depth_of, is_too_coarse};
+use crate::ascii::{ROOM, beyond, deepest_of, depth_of, is_too_coarse};
 use crate::json_form::error::JsonError;
 use itoa::Buffer;
 use json::Writer;
-use moc_ranges::Coverage;
-use moc_sphere::{Cell, Order};
+use moc_ranges::{CellRanges, Coverage};
+use moc_sphere::Order;
 use std::alloc::{AllocError, Global};
 
 /// The orders, where their names stand in byte order.
@@ -25,76 +28,94 @@ const ORDERS: &[u8] = &[
     5, 6, 7, 8, 9,
 ];
 
-/// The cells of orders below a bound, and the others, where the orders of the cells rise.
-fn part_at(cells: &[Cell], bound: u32) -> (&[Cell], &[Cell])
-    requires { AreRising 0 cells.now }
-    ensures whole { cells.now ≡ result.0.now ++ result.1.now }
-    ensures below { AllByRecursion (λ c. c.order < bound) result.0.now }
-    ensures others { AllByRecursion (λ c. bound ≤ c.order) result.1.now }
+/// Writes the numbers of the cells from the first up to, not including, the end.
+fn write_row(json: &mut Writer, first: u64, end: u64) -> Result<(), AllocError>
+    ensures before { json.new.before ≡ json.old.before }
+    ensures tokens { OnOk result ((k : ℕ) (rest : List CellNumber) →
+        json.new.tokens ++ array_rest rest ≡ json.old.tokens ++ array_rest (row_of k (first, end) ++ rest)) }
 {
-    cells.split_at(cells.partition_point(|cell| u32::from(cell.order().get()) < bound))
-}
-
-/// The cells of an order, where the orders of the cells rise.
-fn cells_of_order(cells: &[Cell], depth: u8) -> &[Cell]
-    requires { AreRising 0 cells.now }
-    ensures { result.now ≡ filter (λ c. c.order == depth) cells.now }
-{
-    let (_, rest) = part_at(cells, u32::from(depth));
-    let (here, _) = part_at(rest, u32::from(depth) + 1);
-    here
-}
-
-/// Whether an order with these cells is a name; `bare` is the one that is a name without cells.
-fn is_name(depth: u8, bare: Option<u8>, cells: &[Cell]) -> bool
-    ensures { result ≡ is_name_of depth bare (map datum cells.now) }
-{
-    if !cells.is_empty() {
-        return true;
+    for index in first..end {
+        json.u64(index)?;
     }
-    match bare {
-        Some(bare) => depth == bare,
-        None => false,
-    }
+    Ok(())
 }
 
 /// Writes the numbers of cells, and the end of their array.
-fn write_numbers(json: &mut Writer, cells: &[Cell]) -> Result<(), AllocError>
+fn write_rows(json: &mut Writer, ranges: CellRanges<'_>) -> Result<(), AllocError>
     ensures before { json.new.before ≡ json.old.before }
-    ensures tokens { OnOk result (json.new.tokens ≡ json.old.tokens ++ array_rest cells.now) }
+    ensures tokens { OnOk result ((k : ℕ) →
+        json.new.tokens ≡ json.old.tokens ++ array_rest (cells_in k ranges.entry)) }
 {
-    for cell in cells {
-        json.u64(cell.index())?;
+    for (first, end) in ranges {
+        write_row(json, first, end)?;
     }
     json.end_array()
 }
 
-/// Writes the name of an order and its array, where it has cells or is the one without cells.
+/// Writes the name of an order, and the beginning of its array.
+fn begin_order(json: &mut Writer, depth: u8) -> Result<(), AllocError>
+    ensures before { json.new.before ≡ json.old.before }
+    ensures tokens { OnOk result (json.new.tokens ≡ json.old.tokens ++ Token.key (decimal depth) ∷ Token.begin_array ∷ []) }
+{
+    json.key(Buffer::new().format(depth))?;
+    json.begin_array()
+}
+
+/// Writes the name of an order without cells and its array, where that is a name.
+fn write_bare(json: &mut Writer, depth: u8, bare: Option<u8>) -> Result<(), AllocError>
+    ensures before { json.new.before ≡ json.old.before }
+    ensures tokens { OnOk result (json.new.tokens ≡ json.old.tokens ++ order_tokens depth bare []) }
+{
+    if bare != Some(depth) {
+        return Ok(());
+    }
+    begin_order(json, depth)?;
+    json.end_array()
+}
+
+/// Writes the name of an order and its array, where it has cells or is the one without cells. The set's cells are of the
+/// orders given.
 fn write_order(
     json: &mut Writer,
     depth: u8,
     bare: Option<u8>,
-    cells: &[Cell],
+    set: &Coverage,
+    orders: (u8, u8),
 ) -> Result<(), AllocError>
+    requires each { AreOfOrders orders.0 orders.1 (cells_of set.now) }
+    requires in_range { orders.1 ≤ 30 }
     ensures before { json.new.before ≡ json.old.before }
-    ensures tokens { OnOk result (json.new.tokens ≡ json.old.tokens ++ order_tokens depth bare cells.now) }
+    ensures tokens { OnOk result (json.new.tokens ≡ json.old.tokens
+        ++ order_tokens depth bare (filter (λ c. c.order == depth) (cells_of set.now))) }
 {
-    if !is_name(depth, bare, cells) {
-        return Ok(());
+    if depth < orders.0 || orders.1 <= depth {
+        return write_bare(json, depth, bare);
     }
-    json.key(Buffer::new().format(depth))?;
-    json.begin_array()?;
-    write_numbers(json, cells)
+    let mut ranges = set.cell_ranges(Order::of(depth));
+    let Some((first, end)) = ranges.next() else {
+        return write_bare(json, depth, bare);
+    };
+    begin_order(json, depth)?;
+    write_row(json, first, end)?;
+    write_rows(json, ranges)
 }
 
-/// Writes the names of cells whose orders rise, and of an order without cells, and the end of the object.
-fn write_orders(json: &mut Writer, cells: &[Cell], bare: Option<u8>) -> Result<(), AllocError>
-    requires { AreRising 0 cells.now }
+/// Writes the names of the cells of a set, whose orders are given, and of an order without cells, and the end of the
+/// object.
+fn write_orders(
+    json: &mut Writer,
+    set: &Coverage,
+    orders: (u8, u8),
+    bare: Option<u8>,
+) -> Result<(), AllocError>
+    requires each { AreOfOrders orders.0 orders.1 (cells_of set.now) }
+    requires in_range { orders.1 ≤ 30 }
     ensures before { json.new.before ≡ json.old.before }
-    ensures tokens { OnOk result (json.new.tokens ≡ json.old.tokens ++ object_rest cells.now bare orders_by_name) }
+    ensures tokens { OnOk result (json.new.tokens ≡ json.old.tokens
+        ++ object_rest (cells_of set.now) bare orders_by_name) }
 {
     for depth in ORDERS {
-        write_order(json, *depth, bare, cells_of_order(cells, *depth))?;
+        write_order(json, *depth, bare, set, orders)?;
     }
     json.end_object()
 }
@@ -111,22 +132,30 @@ fn text_of(json: Writer) -> String
     }
 }
 
-/// The object of cells whose orders rise, and of an order without cells.
-fn object_text(alloc: Global, cells: &[Cell], bare: Option<u8>) -> Result<String, AllocError>
-    requires { AreRising 0 cells.now }
-    ensures text { IfOk result (λ t. string_bytes t ≡ print (object_tokens cells.now bare)) }
-    ensures tokens { IfOk result (λ t. tokens (string_bytes t) ≡ object_tokens cells.now bare) }
+/// The object of the cells of a set, whose orders are given, and of an order without cells.
+fn object_text(
+    alloc: Global,
+    set: &Coverage,
+    orders: (u8, u8),
+    bare: Option<u8>,
+) -> Result<String, AllocError>
+    requires each { AreOfOrders orders.0 orders.1 (cells_of set.now) }
+    requires in_range { orders.1 ≤ 30 }
+    ensures text { IfOk result (λ t. string_bytes t ≡ print (object_tokens (cells_of set.now) bare)) }
+    ensures tokens { IfOk result (λ t. tokens (string_bytes t) ≡ object_tokens (cells_of set.now) bare) }
 {
-    let mut json = Writer::new(Vec::with_capacity(alloc, cells.len().saturating_mul(9))?);
+    let room = set.range_count().saturating_mul(ROOM);
+    let mut json = Writer::new(Vec::with_capacity(alloc, room)?);
     json.begin_object()?;
-    write_orders(&mut json, cells, bare)?;
+    write_orders(&mut json, set, orders, bare)?;
     Ok(text_of(json))
 }
 
 /// Writes the JSON form (MOC 2.0) of the set, compact as `serde_json` prints it: each order that has cells is a
 /// name, and its value is the array of its cells, rising; a stated order that is deeper than these has an empty
 /// array; names stand in byte order. Refused with `TooCoarse` where the set has a cell of a deeper order than the
-/// stated one. Linear in the number of cells.
+/// stated one. One pass over the ranges of the set for each order that can have cells, and linear in the length of the
+/// text; no list of cells is made.
 pub fn write_json(alloc: Global, set: &Coverage, stated: Option<Order>) -> Result<String, JsonError>
     ensures text { IfOk result (λ t. string_bytes t ≡ json_text set.now stated) }
     ensures fits { OnOk result (¬ IsTooCoarse set.now stated) }
@@ -137,10 +166,11 @@ pub fn write_json(alloc: Global, set: &Coverage, stated: Option<Order>) -> Resul
     ensures reads_back { IfOk result (λ t. SaysJson (string_bytes t) set.now (deepest_written set.now stated)) }
 {
     let stated = depth_of(stated);
-    let cells = set.cells(alloc)?;
-    if is_too_coarse(&cells, stated) {
+    let orders = set.cell_orders();
+    let deepest = deepest_of(set, orders);
+    if is_too_coarse(deepest, stated) {
         return Err(JsonError::TooCoarse);
     }
-    let bare = beyond(deepest_of(&cells), stated);
-    Ok(object_text(alloc, &cells, bare)?)
+    let bare = beyond(deepest, stated);
+    Ok(object_text(alloc, set, orders, bare)?)
 }
