@@ -9,7 +9,7 @@ ghost use Rattle.moc_c.specs.Answers.{Answers, IsWhether, set_at, sets_at};
 use crate::desk::Desk;
 use crate::outcome::Outcome;
 
-/// How many pixels of order 29 the set has. O(n / 548), for n ranges.
+/// How many pixels of order 29 the set has. O(1), but up to 128 ranges are added up where the set has no more.
 #[unsafe(no_mangle)]
 pub extern "C" fn moc_count(desk: &mut Desk, a: u64) -> Outcome
     ensures told { Answers (λ x n. n ≡ set.len x) (set_at desk.old.contents a) result }
@@ -33,7 +33,7 @@ pub extern "C" fn moc_count_common(desk: &mut Desk, a: u64, b: u64) -> Outcome
     }
 }
 
-/// How many ranges the set has in its one normal list. O(n / 548).
+/// How many ranges the set has in its one normal list. O(1).
 #[unsafe(no_mangle)]
 pub extern "C" fn moc_range_count(desk: &mut Desk, a: u64) -> Outcome
     ensures told { Answers

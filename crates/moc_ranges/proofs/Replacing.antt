@@ -1,11 +1,12 @@
 -- Blocks of which one is replaced.
-use Rattle.std.proofs.Common.{◌≡◌, ℕ, zero, suc, ◌+◌, ◌<◌, List, [], ◌∷◌, ◌++◌, length, get_or, take, drop, refl, sym, ap, subst, ◌∙◌, arith, length-append}
+use Rattle.std.proofs.Common.{◌≡◌, ℕ, zero, suc, ◌+◌, ◌-◌, ◌<◌, ◌≤◌, List, [], ◌∷◌, ◌++◌, length, get_or, take, drop, refl, sym, ap, subst, ◌∙◌, arith, length-append}
 use Rattle.std.specs.Prelude.{slice_set, Option, None, Some, MatchOption}
+use Rattle.moc_ranges.specs.Pixels.{pixel_count}
 use Rattle.moc_ranges.specs.RangeList.{IsNormal}
-use Rattle.moc_ranges.specs.Private.Blocks.{joining, width_of, AreFilled, AreBlocks, IsStored}
+use Rattle.moc_ranges.specs.Private.Blocks.{joining, width_of, starts_from, AreFilled, AreBlocks, IsIndex, IsStored}
 use Rattle.moc_ranges.specs.Private.Built.{first_length, last_length}
 use Rattle.moc_ranges.specs.Private.Added.{with_second, IsCut, IsRenewed, IsSpot, HasGrown}
-use Rattle.moc_ranges.proofs.Blocking.{width-append, nothing_more}
+use Rattle.moc_ranges.proofs.Blocking.{width-append, width_bounded, few_ranges, nothing_more, joining-append}
 use Rattle.moc_ranges.proofs.Filling.{filled_suffix}
 use Rattle.moc_ranges.proofs.Adding.{first_sized, node_normal, renewed_all, renewed_stored, renewed_grown, set_split}
 
@@ -110,3 +111,67 @@ pub renewed_still : (from to place added : ℕ) (nodes still nodes' new : List (
 renewed_still from to place added nodes still nodes' new first second same is renewed made =
     subst (λ (l : List (List (List (ℕ × ℕ)))). HasGrown from to (joining (joining l)) (joining (joining new)) added) same
     (renewed_grown from to place added still nodes' new first second is renewed made)
+
+-- ---- how many ranges nodes have of which one was replaced
+
+pub nodes_renewed : (ns middle : List (List (List (ℕ × ℕ)))) (i n : ℕ) (old : List (List (ℕ × ℕ))) → i < length ns → n ≡ i + 1 → old ≡ get_or ns i old → length (joining (joining (take i ns ++ (middle ++ drop n ns)))) + length (joining old) ≡ length (joining (joining ns)) + length (joining (joining middle))
+nodes_renewed [] middle i n old lt e is = absurd (omega arith)
+nodes_renewed (x ∷ ns) middle i zero old lt e is = absurd (omega arith)
+nodes_renewed (x ∷ ns) middle zero (suc n) old lt e is =
+    let none : n ≡ 0 = omega arith in
+    let rest : joining (joining (middle ++ drop n ns)) ≡ joining (joining middle) ++ joining (joining ns) =
+    ap (λ k. joining (joining (middle ++ drop k ns))) none ∙ ap joining (joining-append middle ns) ∙ joining-append (joining middle) (joining ns) in
+    omega (arith, ap length rest, length-append (joining (joining middle)) (joining (joining ns)), ap length (joining-append x (joining ns)), length-append (joining x) (joining (joining ns)), ap (λ (l : List (List (ℕ × ℕ))). length (joining l)) is)
+nodes_renewed (x ∷ ns) middle (suc i) (suc n) old lt e is =
+    let rest = take i ns ++ (middle ++ drop n ns) in
+    omega (arith, nodes_renewed ns middle i n old (omega arith) (omega arith) is, ap length (joining-append x (joining rest)), length-append (joining x) (joining (joining rest)), ap length (joining-append x (joining ns)), length-append (joining x) (joining (joining ns)))
+
+pub node_set : (ns : List (List (List (ℕ × ℕ)))) (i : ℕ) (old new : List (List (ℕ × ℕ))) → i < length ns → old ≡ get_or ns i old → length (joining (joining (slice_set ns i new))) + length (joining old) ≡ length (joining (joining ns)) + length (joining new)
+node_set ns i old new lt is =
+    omega (arith, nodes_renewed ns (new ∷ []) i (i + 1) old lt refl is, ap (λ (l : List (List (List (ℕ × ℕ)))). length (joining (joining l))) (set_split ns i new lt), ap (λ (l : List (List (ℕ × ℕ))). length (joining l)) (nothing_more new))
+
+pub node_part : (ns : List (List (List (ℕ × ℕ)))) (i n count : ℕ) (old : List (List (ℕ × ℕ))) → i < length ns → old ≡ get_or ns i old → n ≡ length (joining old) → count ≡ length (joining (joining ns)) → n ≤ count
+node_part ns i n count old lt is is_n is_count = omega (arith, node_set ns i old [] lt is)
+
+pub set_same : {X : Type 0} (xs : List X) (i : ℕ) (old new : X) → old ≡ get_or xs i old → new ≡ old → slice_set xs i new ≡ xs
+set_same {X} [] i old new is same = refl
+set_same {X} (x ∷ xs) zero old new is same = ap (λ y. y ∷ xs) (same ∙ is)
+set_same {X} (x ∷ xs) (suc i) old new is same = ap (λ (l : List X). x ∷ l) (set_same xs i old new is same)
+
+set_there : {X : Type 0} (xs : List X) (i : ℕ) (x d : X) → i < length xs → get_or (slice_set xs i x) i d ≡ x
+set_there {X} [] i x d lt = absurd (omega arith)
+set_there {X} (y ∷ xs) zero x d lt = refl
+set_there {X} (y ∷ xs) (suc i) x d lt = set_there xs i x d (omega arith)
+
+-- the count of all, by that of the node before and after
+pub count_set : (ns : List (List (List (ℕ × ℕ)))) (i n m count : ℕ) (old again new : List (List (ℕ × ℕ))) → i < length ns → old ≡ get_or ns i old → again ≡ get_or (slice_set ns i new) i again → n ≡ length (joining old) → m ≡ length (joining again) → count ≡ length (joining (joining ns)) → count - n + m ≡ length (joining (joining (slice_set ns i new)))
+count_set ns i n m count old again new lt is is_new is_n is_m is_count =
+    let there : again ≡ new = is_new ∙ set_there ns i new again lt in
+    omega (arith, node_set ns i old new lt is, ap (λ (l : List (List (ℕ × ℕ))). length (joining l)) there, node_part ns i n count old lt is is_n is_count)
+
+pub spot_inside : (from to node block added : ℕ) (nodes nodes' : List (List (List (ℕ × ℕ)))) (ranges : List (ℕ × ℕ)) → nodes' ≡ nodes → IsSpot from to nodes' node block ranges added → node < length nodes
+spot_inside from to node block added nodes nodes' ranges same s = omega (arith, ap length same, place_inside from to node block added nodes' ranges s)
+
+-- what is kept beside nodes of which one was replaced
+pub kept_renewed : (ns value middle new : List (List (List (ℕ × ℕ)))) (starts starts' : List ℕ) (p size added count n m : ℕ) (old : List (List (ℕ × ℕ))) → ns ≡ value → IsIndex starts size count ns → p < length ns → old ≡ get_or ns p old → n ≡ length (joining old) → m ≡ length (joining (joining middle)) → width_of (joining (joining (take p value ++ (middle ++ drop (p + 1) value)))) ≡ width_of (joining (joining value)) + added → new ≡ take p ns ++ (middle ++ drop (p + 1) ns) → starts' ≡ starts_from 0 (take p ns ++ (middle ++ drop (p + 1) ns)) → IsIndex starts' (size + added) (count - n + m) new
+kept_renewed ns value middle new starts starts' p size added count n m old same kept lt there is_n is_m grown made placed =
+    let more = subst (λ (l : List (List (List (ℕ × ℕ)))). width_of (joining (joining (take p l ++ (middle ++ drop (p + 1) l)))) ≡ width_of (joining (joining l)) + added) (sym same) grown in
+    subst (λ (l : List (List (List (ℕ × ℕ)))). IsIndex starts' (size + added) (count - n + m) l) (sym made) (record {
+      placed = placed;
+      measured = omega (arith, more, kept.measured);
+      counted = omega (arith, nodes_renewed ns middle p (p + 1) old lt refl there, node_part ns p n count old lt there is_n kept.counted, kept.counted);
+    })
+
+pub one_count : (node : List (List (ℕ × ℕ))) (m : ℕ) → m ≡ length (joining node) → m ≡ length (joining (joining (node ∷ [])))
+one_count node m is = is ∙ ap (λ (l : List (List (ℕ × ℕ))). length (joining l)) (sym (nothing_more node))
+
+pub two_count : (first second : List (List (ℕ × ℕ))) (m n : ℕ) → m ≡ length (joining first) → n ≡ length (joining second) → m + n ≡ length (joining (joining (first ∷ (second ∷ []))))
+two_count first second m n is is' =
+    omega (arith, ap length (joining-append first (second ++ [])), length-append (joining first) (joining (second ++ [])), ap (λ (l : List (List (ℕ × ℕ))). length (joining l)) (nothing_more second))
+
+-- its bounds
+pub renewed_bounds : (ns value middle : List (List (List (ℕ × ℕ)))) (p size added count n m : ℕ) (starts : List ℕ) (old : List (List (ℕ × ℕ))) → ns ≡ value → IsIndex starts size count ns → p < length ns → old ≡ get_or ns p old → n ≡ length (joining old) → m ≡ length (joining (joining middle)) → IsStored [] (take p value ++ (middle ++ drop (p + 1) value)) → width_of (joining (joining (take p value ++ (middle ++ drop (p + 1) value)))) ≡ width_of (joining (joining value)) + added → (size + added ≤ pixel_count) × (count - n + m ≤ pixel_count)
+renewed_bounds ns value middle p size added count n m starts old same kept lt there is_n is_m stored grown =
+    let k = kept_renewed ns value middle _ starts _ p size added count n m old same kept lt there is_n is_m grown refl refl in
+    let normal = subst (λ (l : List (List (List (ℕ × ℕ)))). IsStored [] (take p l ++ (middle ++ drop (p + 1) l))) (sym same) stored in
+    (omega (arith, k.measured, width_bounded _ normal.normal), omega (arith, k.counted, few_ranges _ normal.normal))

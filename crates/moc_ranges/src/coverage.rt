@@ -134,8 +134,8 @@ impl Coverage {
         self.list.ranges()
     }
 
-    /// How many pixels of order 29 the set has. The sizes that nodes keep are added up, each of up to
-    /// 2,048 ranges, or up to 128 ranges where the set has no more. Takes no memory.
+    /// How many pixels of order 29 the set has. O(1), but up to 128 ranges are added up where the set has no more.
+    /// Takes no memory.
     pub fn count(&self) -> u64
         ensures size { result ≡ set.len self.now }
         ensures bounded { result ≤ pixel_count }
@@ -181,11 +181,11 @@ impl Coverage {
         Coverage { list }
     }
 
-    /// How many ranges the set has in its one normal list. O(n / 548), takes no memory.
+    /// How many ranges the set has in its one normal list. O(1), takes no memory.
     pub fn range_count(&self) -> usize
         ensures { (ranges : List (ℕ × ℕ)) × IsNormal ranges × (set_of ranges ≡ self.now) × (result ≡ length ranges) }
     {
-        self.ranges().size_hint().0
+        self.list.count()
     }
 
     /// The least order of whose cells the set is a union: the MOC order that the set itself needs (MOC 2.0). 0 for
@@ -211,8 +211,8 @@ impl Coverage {
     ///
     /// Mostly O(log n), whatever shares the blocks: the block that the range goes to is made anew, and the pointers to
     /// the others of its node are copied where another set shares the node, or the block is cut in two; where it is
-    /// cut, a number for each node is made anew, too. As a union where the range touches more than one block, or no
-    /// block can take it by the rules of lengths. Refused where memory runs out; the set then is as it was.
+    /// cut, also a step for each node behind. As a union where the range touches more than one block, or no block can
+    /// take it by the rules of lengths. Refused where memory runs out; the set then is as it was.
     pub fn insert_range(&mut self, alloc: Global, from: u64, to: u64) -> Result<u64, Memory>
         requires within { to ≤ pixel_count }
         ensures set { OnOk result (self.new ≡ set.union self.old (numbers from to)) }
@@ -460,7 +460,7 @@ impl Coverage {
         self.is_as_large(other) && are_same(self.ranges(), other.ranges())
     }
 
-    /// Whether two sets have as many ranges, or as many pixels where one of them is in blocks. O(n / 548).
+    /// Whether two sets have as many ranges, or as many pixels where one of them is in blocks. O(1).
     fn is_as_large(&self, other: &Coverage) -> bool
         ensures { self.now ≡ other.now → IsTrue result }
     {

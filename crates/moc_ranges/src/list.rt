@@ -1,5 +1,5 @@
 //! The one normal list of ranges of a set, kept in blocks.
-ghost use Rattle.std.specs.Prelude.{◌≡◌, ◌<◌, ◌≤◌, [], ◌∷◌, IfOk, OnErr, MatchOption};
+ghost use Rattle.std.specs.Prelude.{◌≡◌, ◌<◌, ◌≤◌, [], ◌∷◌, length, IfOk, OnErr, MatchOption};
 ghost use Rattle.moc_ranges.specs.Pixels.{pixel_count};
 ghost use Rattle.moc_ranges.specs.RangeList.{IsNormal, in_ranges, set_of};
 ghost use Rattle.moc_ranges.specs.Blocks.{joining, AreBlocks, IsSearchOf};
@@ -24,7 +24,7 @@ pub mod steps;
 use crate::list::added::insert_few;
 use crate::list::block::measure_ranges;
 use crate::list::chunks::Chunks;
-use crate::list::node::{Node, measure_nodes};
+use crate::list::node::Node;
 use crate::list::nodes::Nodes;
 use crate::list::ranges::Ranges;
 use crate::list::search::{range_of_nodes_past, range_past};
@@ -124,13 +124,22 @@ impl RangeList {
         Chunks::new(&self.few, self.nodes.all())
     }
 
-    /// How many numbers the ranges have. The sizes that nodes keep are added up.
+    /// How many numbers the ranges have. O(1), but O(n) for up to 128 ranges.
     #[inline]
     pub fn measure(&self) -> u64
         ensures value { result ≡ width_of self.now }
         ensures normal { IsNormal self.now }
     {
-        measure_ranges(&self.few) + measure_nodes(self.nodes.all())
+        measure_ranges(&self.few) + self.nodes.size()
+    }
+
+    /// How many ranges there are. O(1).
+    #[inline]
+    pub fn count(&self) -> usize
+        ensures value { result ≡ length self.now }
+        ensures normal { IsNormal self.now }
+    {
+        self.few.len() + self.nodes.count()
     }
 
     /// The first range that ends after the limit, if there is one. O(log n).
@@ -173,8 +182,7 @@ impl RangeList {
     /// Adds a range where that changes one block alone, and tells how many numbers are new: the block is made anew, in
     /// the list of its node where nobody else has that and it stays one block, and else with the pointers to the node's
     /// others. None where it does not, or a rule of lengths would be broken; the list then is as it was. O(log n), but
-    /// where a block is cut in two for the numbers of blocks before the nodes, and for the nodes that move by a place
-    /// where theirs is cut, too.
+    /// where a block is cut in two a step for each node behind its own, which then begins a block later.
     pub fn insert(&mut self, alloc: Global, from: u64, to: u64) -> Result<Option<u64>, AllocError>
         requires filled { from < to }
         requires within { to ≤ pixel_count }

@@ -67,6 +67,17 @@ abbrev pub starts_from : {X : Type 0} → ℕ → List (List X) → List ℕ
 starts_from n [] = []
 starts_from n (list ∷ lists) = n ∷ starts_from (n + length list) lists
 
+-- starts of lists behind one that has so many elements less, and so many more
+abbrev pub moved : ℕ → ℕ → List ℕ → List ℕ
+moved less more [] = []
+moved less more (start ∷ starts) = (start - less + more) ∷ moved less more starts
+
+-- what is kept beside nodes: how many blocks lie before each, how many numbers they have, and how many ranges
+pub record IsIndex (starts : List ℕ) (size count : ℕ) (nodes : List (List (List (ℕ × ℕ)))) : Type 0 where
+  pub placed : starts ≡ starts_from 0 nodes
+  pub measured : size ≡ width_of (joining (joining nodes))
+  pub counted : count ≡ length (joining (joining nodes))
+
 -- so many of some lists begin by a place among the elements of them all, and the next behind it
 pub record IsCountBegun {X : Type 0} (lists : List (List X)) (place begun : ℕ) : Type 0 where
   pub bound : begun ≤ length lists

@@ -5,10 +5,10 @@ ghost use Rattle.std.specs.Prelude.{IfOk, IfSome, MatchOption, OnOk, OnErr};
 ghost use Rattle.std.specs.Bool.{OnTrue};
 ghost use Rattle.moc_ranges.specs.Pixels.{pixel_count};
 ghost use Rattle.moc_ranges.specs.RangeList.{IsNormal};
-ghost use Rattle.moc_ranges.specs.Private.Blocks.{joining, next_of, starts_from, AreFilled, AreBlocks, IsStored};
+ghost use Rattle.moc_ranges.specs.Private.Blocks.{joining, next_of, AreFilled, AreBlocks, IsStored};
 ghost use Rattle.moc_ranges.specs.Private.Built.{first_length, EndsBelow};
 ghost use Rattle.moc_ranges.specs.Private.Walks.{joined};
-ghost use Rattle.moc_ranges.specs.Private.Added.{pieces, with_second};
+ghost use Rattle.moc_ranges.specs.Private.Added.{pieces};
 ghost use Rattle.moc_ranges.specs.Private.Added.{IsAround, IsReach, HasOneMore, HasGrown, IsCut, IsGrown, IsRegrown};
 ghost use Rattle.moc_ranges.specs.Private.Added.{IsRenewed, IsSpot};
 
@@ -375,7 +375,12 @@ pub fn renew(
 }
 
 /// Puts two nodes in place of one.
-fn put_two(nodes: &mut Vec<Node>, place: usize, first: Node, second: Node) -> Result<(), AllocError>
+pub fn put_two(
+    nodes: &mut Vec<Node>,
+    place: usize,
+    first: Node,
+    second: Node,
+) -> Result<(), AllocError>
     requires { place < length nodes.old.items }
     ensures new { OnOk result (nodes.new.items
         ≡ take place nodes.old.items ++ (first ∷ (second ∷ drop (place + 1) nodes.old.items))) }
@@ -392,26 +397,6 @@ pub fn put_one(nodes: &mut Vec<Node>, place: usize, first: Node)
     ensures { nodes.new.items ≡ take place nodes.old.items ++ (first ∷ drop (place + 1) nodes.old.items) }
 {
     nodes[place] = first;
-}
-
-/// Puts one node or two in place of one.
-pub fn put_nodes(
-    nodes: &mut Vec<Node>,
-    place: usize,
-    first: Node,
-    second: Option<Node>,
-) -> Result<(), AllocError>
-    requires { place < length nodes.old.items }
-    ensures new { OnOk result (nodes.new.items
-        ≡ take place nodes.old.items ++ (with_second first second ++ drop (place + 1) nodes.old.items)) }
-    ensures unchanged { OnErr result (nodes.new.items ≡ nodes.old.items) }
-{
-    if let Some(second) = second {
-        put_two(nodes, place, first, second)?;
-        return Ok(());
-    }
-    put_one(nodes, place, first);
-    Ok(())
 }
 
 /// Adds a range to few ranges, and tells how many numbers are new. None where they would be too many; they then are as
@@ -444,16 +429,21 @@ pub fn insert_few(
 /// A block that took in a range and is one block still: the place of its node, its own in that node, its ranges, and
 /// how many pixels are new.
 #[derive(Drop)]
-struct Spot {
-    node: usize,
-    block: usize,
-    ranges: Vec<(u64, u64)>,
-    added: u64,
+pub struct Spot {
+    pub node: usize,
+    pub block: usize,
+    pub ranges: Vec<(u64, u64)>,
+    pub added: u64,
 }
 
 /// The block that a range goes to, with that range. None where the range touches another block, the block has to be
 /// cut, or a rule of lengths would be broken.
-fn spot_of(alloc: Global, nodes: &[Node], from: u64, to: u64) -> Result<Option<Spot>, AllocError>
+pub fn spot_of(
+    alloc: Global,
+    nodes: &[Node],
+    from: u64,
+    to: u64,
+) -> Result<Option<Spot>, AllocError>
     requires stored { IsStored [] nodes.now }
     requires filled { from < to }
     requires within { to ≤ pixel_count }
@@ -482,39 +472,4 @@ fn spot_of(alloc: Global, nodes: &[Node], from: u64, to: u64) -> Result<Option<S
         ranges: first,
         added,
     }))
-}
-
-/// Adds a range to nodes by one new block, in the list of blocks that its node has, and tells how many numbers are new.
-/// None where somebody else has that list, too, or one block does not do; the nodes then are as they were.
-pub fn insert_in_place(
-    alloc: Global,
-    nodes: &mut Vec<Node>,
-    from: u64,
-    to: u64,
-) -> Result<Option<u64>, AllocError>
-    requires stored { IsStored [] nodes.old.items }
-    requires filled { from < to }
-    requires within { to ≤ pixel_count }
-    ensures stored { IsStored [] nodes.new.items }
-    ensures counted { starts_from 0 nodes.new.items ≡ starts_from 0 nodes.old.items }
-    ensures inserted { IfOk result (λ n. MatchOption n (nodes.new.items ≡ nodes.old.items) (λ n.
-        HasGrown from to (joining (joining nodes.old.items)) (joining (joining nodes.new.items)) n)) }
-    ensures unchanged { OnErr result (nodes.new.items ≡ nodes.old.items) }
-{
-    let Some(
-        Spot {
-            node,
-            block,
-            ranges,
-            added,
-        },
-    ) = spot_of(alloc, nodes, from, to)?
-    else {
-        return Ok(None);
-    };
-    let new = Block::new(alloc, ranges)?;
-    if !nodes[node].put_block(block, new) {
-        return Ok(None);
-    }
-    Ok(Some(added))
 }

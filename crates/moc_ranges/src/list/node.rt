@@ -174,18 +174,6 @@ impl Node {
     }
 }
 
-/// How many pixels lie in nodes.
-pub fn measure_nodes(nodes: &[Node]) -> u64
-    requires { IsNormal (joining (joining nodes.now)) }
-    ensures { result ≡ width_of (joining (joining nodes.now)) }
-{
-    let mut total = 0;
-    for node in nodes {
-        total += node.size();
-    }
-    total
-}
-
 /// The same blocks once more.
 pub fn share_blocks(alloc: Global, blocks: &[Block]) -> Result<Vec<Block>, AllocError>
     ensures { IfOk result (λ v. v.items ≡ blocks.now) }

@@ -1,57 +1,63 @@
 //! The nodes of a list, whose blocks are found by their numbers.
-ghost use Rattle.std.specs.Prelude.{◌≡◌, ◌+◌, ◌<◌, ◌≤◌, ◌++◌, [], ℕ, length, get_or, take, drop, vec_capacity};
-ghost use Rattle.std.specs.Prelude.{None, IfOk, MatchOption, OnErr, OnOk};
-ghost use Rattle.std.specs.Bool.{OnTrue};
+ghost use Rattle.std.specs.Prelude.{◌≡◌, ◌+◌, ◌<◌, ◌≤◌, ◌++◌, [], ◌∷◌, ℕ, length, get_or, take, drop};
+ghost use Rattle.std.specs.Prelude.{vec_len, vec_capacity, IfOk, MatchOption, OnErr, OnOk};
 ghost use Rattle.moc_ranges.specs.Pixels.{pixel_count};
-ghost use Rattle.moc_ranges.specs.Private.Blocks.{joining, starts_from, AreStored, IsCountBegun, IsStored};
+ghost use Rattle.moc_ranges.specs.RangeList.{IsNormal};
+ghost use Rattle.moc_ranges.specs.Private.Blocks.{joining, moved, width_of, AreStored, IsCountBegun, IsStored};
 ghost use Rattle.moc_ranges.specs.Private.Added.{with_second, HasGrown};
 
-use crate::list::added::{Renewed, insert_in_place, put_nodes, put_one, renew};
+use crate::list::added::{Renewed, Spot, put_one, put_two, renew, spot_of};
 use crate::list::block::Block;
 use crate::list::node::{Node, share_nodes};
 use std::alloc::{AllocError, Global};
 use std::marker::Model;
 
-/// Nodes in rising order, and beside each how many blocks lie in those before it.
+/// Nodes in rising order, beside each how many blocks lie in those before it, and how many pixels and ranges they have.
 #[derive(Debug, Drop)]
 pub struct Nodes {
     nodes: Vec<Node>,
     starts: Vec<usize>,
+    size: u64,
+    count: usize,
 }
 
 impl Model for Nodes {
     ghost use Rattle.std.specs.Prelude.{◌≡◌, List, ℕ};
-    ghost use Rattle.moc_ranges.specs.Private.Blocks.{starts_from};
+    ghost use Rattle.moc_ranges.specs.Private.Blocks.{IsIndex};
 
     ghost Value = { List (List (List (ℕ × ℕ))) };
 
     ghost view = { λ n. n.nodes.items };
 
-    ghost invariant = { λ n. n.starts.items ≡ starts_from 0 n.nodes.items };
+    ghost invariant = { λ n. IsIndex n.starts.items n.size n.count n.nodes.items };
 }
 
-/// How many blocks lie before each of some nodes, in a list that has room for that.
-fn starts_of(nodes: &[Node], room: Vec<usize>) -> Vec<usize>
-    requires stored { AreStored (joining nodes.now) }
-    requires none { room.items ≡ [] }
-    requires fits { length nodes.now ≤ vec_capacity room }
-    ensures { result.items ≡ starts_from 0 nodes.now }
+/// Puts so many less and so many more to each start, where that is not the same.
+fn move_each(starts: &mut [usize], less: usize, more: usize)
+    requires { (k : ℕ) → k < length starts.old
+        → (less ≤ get_or starts.old k 0) × (get_or starts.old k 0 + more ≤ 18446744073709551615) }
+    ensures { starts.new ≡ moved less more starts.old }
 {
-    let mut starts = room;
-    let mut count = 0;
-    for node in nodes {
-        // There is room.
-        let _ = starts.push(count);
-        count += node.blocks().len();
+    if less == more {
+        return;
     }
-    starts
+    for start in starts.iter_mut() {
+        *start = *start - less + more;
+    }
 }
 
-/// Whether a node that stands in place of another has as many blocks, and none is behind it.
-fn are_as_many(old: &Node, first: &Node, second: &Option<Node>) -> bool
-    ensures { OnTrue result ((length first.now ≡ length old.now) × (second.now ≡ None)) }
+/// The same to the starts behind a place.
+fn move_behind(starts: &mut Vec<usize>, place: usize, less: usize, more: usize)
+    requires there { place < length starts.old.items }
+    requires fits { (k : ℕ) → k < length (drop (place + 1) starts.old.items)
+        → (less ≤ get_or (drop (place + 1) starts.old.items) k 0)
+        × (get_or (drop (place + 1) starts.old.items) k 0 + more ≤ 18446744073709551615) }
+    ensures moved { starts.new.items
+        ≡ take (place + 1) starts.old.items ++ moved less more (drop (place + 1) starts.old.items) }
+    ensures len { vec_len starts.new ≡ vec_len starts.old }
+    ensures capacity { vec_capacity starts.new ≡ vec_capacity starts.old }
 {
-    first.blocks().len() == old.blocks().len() && second.is_none()
+    move_each(&mut starts[place + 1..], less, more);
 }
 
 impl Nodes {
@@ -63,6 +69,8 @@ impl Nodes {
         Self {
             nodes: Vec::new(alloc),
             starts: Vec::new(alloc),
+            size: 0,
+            count: 0,
         }
     }
 
@@ -71,9 +79,22 @@ impl Nodes {
         requires { AreStored (joining nodes.items) }
         ensures { IfOk result (λ n. n ≡ nodes.items) }
     {
-        let room = Vec::with_capacity(alloc, nodes.len())?;
-        let starts = starts_of(&nodes, room);
-        Ok(Self { nodes, starts })
+        let mut starts = Vec::with_capacity(alloc, nodes.len())?;
+        let mut blocks = 0;
+        let mut size = 0;
+        let mut count = 0;
+        for node in &nodes {
+            starts.push(blocks)?;
+            blocks += node.blocks().len();
+            size += node.size();
+            count += node.count();
+        }
+        Ok(Self {
+            nodes,
+            starts,
+            size,
+            count,
+        })
     }
 
     /// The nodes, one after the other.
@@ -91,7 +112,28 @@ impl Nodes {
     {
         let nodes = share_nodes(alloc, &self.nodes)?;
         let starts = self.starts.to_vec(alloc)?;
-        Ok(Self { nodes, starts })
+        Ok(Self {
+            nodes,
+            starts,
+            size: self.size,
+            count: self.count,
+        })
+    }
+
+    /// How many pixels lie in the nodes. O(1).
+    #[inline]
+    pub fn size(&self) -> u64
+        ensures { result ≡ width_of (joining (joining self.now)) }
+    {
+        self.size
+    }
+
+    /// How many ranges the nodes have. O(1).
+    #[inline]
+    pub fn count(&self) -> usize
+        ensures { result ≡ length (joining (joining self.now)) }
+    {
+        self.count
     }
 
     /// How many blocks the nodes have. O(1).
@@ -147,30 +189,99 @@ impl Nodes {
             HasGrown from to (joining (joining self.old)) (joining (joining self.new)) n)) }
         ensures unchanged { OnErr result (self.new ≡ self.old) }
     {
-        insert_in_place(alloc, &mut self.nodes, from, to)
+        let Some(
+            Spot {
+                node,
+                block,
+                ranges,
+                added,
+            },
+        ) = spot_of(alloc, &self.nodes, from, to)?
+        else {
+            return Ok(None);
+        };
+        let new = Block::new(alloc, ranges)?;
+        let others = self.count - self.nodes[node].count();
+        if !self.nodes[node].put_block(block, new) {
+            return Ok(None);
+        }
+        self.size += added;
+        self.count = others + self.nodes[node].count();
+        Ok(Some(added))
     }
 
-    /// Puts one node or two in place of one. Takes no memory where the node has as many blocks as before.
-    fn put(
+    /// Puts a node in place of one. Takes no memory.
+    fn put_node(&mut self, place: usize, node: Node, added: u64)
+        requires place { place < length self.old }
+        requires before { IsStored [] self.old }
+        requires stored { IsStored [] (take place self.old ++ (node ∷ drop (place + 1) self.old)) }
+        requires grown { width_of (joining (joining (take place self.old ++ (node ∷ drop (place + 1) self.old))))
+            ≡ width_of (joining (joining self.old)) + added }
+        ensures { self.new ≡ take place self.old ++ (node ∷ drop (place + 1) self.old) }
+    {
+        let others = self.count - self.nodes[place].count();
+        let blocks = self.nodes[place].blocks().len();
+        move_behind(&mut self.starts, place, blocks, node.blocks().len());
+        self.size += added;
+        self.count = others + node.count();
+        put_one(&mut self.nodes, place, node);
+    }
+
+    /// Puts two nodes in place of one. Room for one node more and its number of blocks is had before anything changes.
+    fn put_two(
         &mut self,
-        alloc: Global,
         place: usize,
         first: Node,
-        second: Option<Node>,
+        second: Node,
+        added: u64,
     ) -> Result<(), AllocError>
         requires place { place < length self.old }
-        requires stored { IsStored [] (take place self.old ++ (with_second first second ++ drop (place + 1) self.old)) }
+        requires before { IsStored [] self.old }
+        requires stored { IsStored [] (take place self.old ++ (first ∷ (second ∷ drop (place + 1) self.old))) }
+        requires grown { width_of (joining (joining (take place self.old
+            ++ (first ∷ (second ∷ drop (place + 1) self.old))))) ≡ width_of (joining (joining self.old)) + added }
         ensures new { OnOk result (self.new
-            ≡ take place self.old ++ (with_second first second ++ drop (place + 1) self.old)) }
+            ≡ take place self.old ++ (first ∷ (second ∷ drop (place + 1) self.old))) }
         ensures unchanged { OnErr result (self.new ≡ self.old) }
     {
-        if are_as_many(&self.nodes[place], &first, &second) {
-            put_one(&mut self.nodes, place, first);
-            return Ok(());
+        let others = self.count - self.nodes[place].count();
+        let blocks = self.nodes[place].blocks().len();
+        let start = self.starts[place] + first.blocks().len();
+        let new_blocks = first.blocks().len() + second.blocks().len();
+        let ranges = first.count() + second.count();
+        self.starts.reserve(1)?;
+        put_two(&mut self.nodes, place, first, second)?;
+        move_behind(&mut self.starts, place, blocks, new_blocks);
+        // There is room.
+        let _ = self.starts.insert(place + 1, start);
+        self.size += added;
+        self.count = others + ranges;
+        Ok(())
+    }
+
+    /// Puts one node or two in place of one.
+    fn put(&mut self, renewed: Renewed) -> Result<(), AllocError>
+        requires place { renewed.place < length self.old }
+        requires before { IsStored [] self.old }
+        requires stored { IsStored [] (take renewed.place self.old
+            ++ (with_second renewed.first renewed.second ++ drop (renewed.place + 1) self.old)) }
+        requires grown { width_of (joining (joining (take renewed.place self.old
+            ++ (with_second renewed.first renewed.second ++ drop (renewed.place + 1) self.old))))
+            ≡ width_of (joining (joining self.old)) + renewed.added }
+        ensures new { OnOk result (self.new ≡ take renewed.place self.old
+            ++ (with_second renewed.first renewed.second ++ drop (renewed.place + 1) self.old)) }
+        ensures unchanged { OnErr result (self.new ≡ self.old) }
+    {
+        let Renewed {
+            place,
+            first,
+            second,
+            added,
+        } = renewed;
+        if let Some(second) = second {
+            return self.put_two(place, first, second, added);
         }
-        let room = Vec::with_capacity(alloc, self.nodes.len() + 1)?;
-        put_nodes(&mut self.nodes, place, first, second)?;
-        self.starts = starts_of(&self.nodes, room);
+        self.put_node(place, first, added);
         Ok(())
     }
 
@@ -188,18 +299,11 @@ impl Nodes {
         if let Some(added) = self.insert_in_place(alloc, from, to)? {
             return Ok(Some(added));
         }
-        let Some(
-            Renewed {
-                place,
-                first,
-                second,
-                added,
-            },
-        ) = renew(alloc, self.all(), from, to)?
-        else {
+        let Some(renewed) = renew(alloc, self.all(), from, to)? else {
             return Ok(None);
         };
-        self.put(alloc, place, first, second)?;
+        let added = renewed.added;
+        self.put(renewed)?;
         Ok(Some(added))
     }
 }

@@ -6,7 +6,7 @@ use Rattle.moc_ranges.proofs.list.nodes.Nodes.count_begun.Goals as goal
 
 pub returns : goal.returns
 returns c =
-    let is = c.deref.ensures.value ∙ c.self.invariant in
+    let is = c.deref.ensures.value ∙ c.self.invariant.placed in
     let parted = starts_parted c.self.inside.nodes.items c.deref.result.now c.args.place is in
     let point = IsPartitionPoint-from_clause (λ x. leb x c.args.place) c.deref.result.now c.partition_point.result c.partition_point.ensures.partitioned parted (λ a r q k. search rules) in
     subst (λ l. IsCountBegun l c.args.place c.partition_point.result) c.self.view_is
