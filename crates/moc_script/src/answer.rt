@@ -1,11 +1,15 @@
 //! The answers to lines, by a map.
 ghost use Rattle.std.specs.Prelude.{◌≡◌, ◌++◌, ◌∷◌, [], OnOk, codes};
+ghost use Rattle.moc_script.specs.Batches.{after_batch, answer_to, batch_of};
 ghost use Rattle.moc_script.specs.Faults.{fault_line};
+ghost use Rattle.moc_script.specs.Language.{command_of};
+ghost use Rattle.moc_script.specs.Laws.{after_single, single_answer};
 ghost use Rattle.moc_script.specs.Scripts.{script_rules};
 
-use crate::batch::read_batch;
+use crate::batch::{has_semicolon, read_batch};
+use crate::command::read_command;
 use crate::fault::{Fault, ReadError};
-use crate::reply_text::push_reply_line;
+use crate::reply_text::{push_reply, push_reply_line, push_words};
 use crate::responder::Responder;
 use crate::words::is_blank_text;
 use moc_parts::Map;
@@ -22,6 +26,44 @@ pub(crate) fn push_fault(fault: Fault, text: &mut Vec<u8>) -> Result<(), Memory>
     Ok(())
 }
 
+/// Does the batch that a line says, and adds the answer.
+fn answer_batch(map: &mut Map, alloc: Global, line: &[u8], text: &mut Vec<u8>) -> Result<(), Memory>
+    ensures text { OnOk result (text.new.items ≡
+        text.old.items ++ answer_to map.old (batch_of command_of line.now)) }
+    ensures after { OnOk result (map.new ≡ after_batch map.old (batch_of command_of line.now)) }
+{
+    match read_batch(alloc, line) {
+        Ok(batch) => {
+            let replies = map.apply(alloc, &batch)?;
+            push_reply_line(alloc, replies.as_slice(), text)
+        }
+        Err(ReadError::Fault(fault)) => push_fault(fault, text),
+        Err(ReadError::Memory) => Err(Memory),
+    }
+}
+
+/// Does the one command that a line says, and adds the answer: as the batch of it, without a list.
+fn answer_command(
+    map: &mut Map,
+    alloc: Global,
+    line: &[u8],
+    text: &mut Vec<u8>,
+) -> Result<(), Memory>
+    ensures text { OnOk result (text.new.items ≡
+        text.old.items ++ single_answer map.old (command_of line.now)) }
+    ensures after { OnOk result (map.new ≡ after_single map.old (command_of line.now)) }
+{
+    match read_command(alloc, line) {
+        Ok(command) => {
+            let reply = map.answer(alloc, &command)?;
+            push_reply(alloc, &reply, text)?;
+            push_words(b"\n", text)
+        }
+        Err(ReadError::Fault(fault)) => push_fault(fault, text),
+        Err(ReadError::Memory) => Err(Memory),
+    }
+}
+
 impl Responder for Map {
     ghost rules = { script_rules };
 
@@ -34,13 +76,10 @@ impl Responder for Map {
         if is_blank_text(line) {
             return Ok(());
         }
-        match read_batch(alloc, line) {
-            Ok(batch) => {
-                let replies = self.apply(alloc, &batch)?;
-                push_reply_line(alloc, replies.as_slice(), text)
-            }
-            Err(ReadError::Fault(fault)) => push_fault(fault, text),
-            Err(ReadError::Memory) => Err(Memory),
+        if has_semicolon(line) {
+            answer_batch(self, alloc, line, text)
+        } else {
+            answer_command(self, alloc, line, text)
         }
     }
 

@@ -1,8 +1,8 @@
 //! The batch of commands that a line says.
-ghost use Rattle.std.specs.Prelude.{◌≡◌};
-ghost use Rattle.std.specs.List.{count_by};
+ghost use Rattle.std.specs.Prelude.{◌≡◌, [], Ok};
+ghost use Rattle.std.specs.List.{count_by, list_any};
 ghost use Rattle.moc_script.specs.Language.{command_of};
-ghost use Rattle.moc_script.specs.Batches.{is_semicolon, pieces_of, piece_says, batch_of, commands_of};
+ghost use Rattle.moc_script.specs.Batches.{is_semicolon, pieces_of, piece_says, first_then, batch_of, commands_of};
 ghost use Rattle.moc_script.specs.Private.Readings.{Reads};
 
 use crate::bytes::first_or_len;
@@ -11,6 +11,13 @@ use crate::fault::{Fault, ReadError};
 use crate::words::is_blank_text;
 use moc_parts::{Batch, Command, MOST_COMMANDS};
 use std::alloc::Global;
+
+/// Whether a line has a semicolon.
+pub(crate) fn has_semicolon(line: &[u8]) -> bool
+    ensures { result ≡ list_any is_semicolon line.now }
+{
+    first_or_len(b';', line) < line.len()
+}
 
 /// How many semicolons stand in a line.
 fn semicolons_in(line: &[u8]) -> usize
@@ -53,10 +60,23 @@ fn read_pieces(alloc: Global, line: &[u8]) -> Result<Vec<Command>, ReadError>
     }
 }
 
+/// What a line without a semicolon says.
+fn read_alone(alloc: Global, line: &[u8]) -> Result<Batch, ReadError>
+    ensures { Reads (λ batch. batch) result (first_then (piece_says command_of line.now) (Ok [])) }
+{
+    match read_piece(alloc, line) {
+        Ok(command) => Batch::one(alloc, command).or(Err(ReadError::Memory)),
+        Err(error) => Err(error),
+    }
+}
+
 /// What a line that is not blank says.
 pub(crate) fn read_batch(alloc: Global, line: &[u8]) -> Result<Batch, ReadError>
     ensures { Reads (λ batch. batch) result (batch_of command_of line.now) }
 {
+    if !has_semicolon(line) {
+        return read_alone(alloc, line);
+    }
     if semicolons_in(line) >= MOST_COMMANDS {
         return Err(ReadError::Fault(Fault::TooManyCommands));
     }

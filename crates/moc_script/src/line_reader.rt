@@ -41,18 +41,23 @@ pub struct LineReader {
     chunk: Vec<u8>,
     start: usize,
     end: usize,
+    /// How many of the bytes at hand stand before their first line feed: all where there is none.
+    ahead: usize,
     line: Vec<u8>,
 }
 
 impl Model for LineReader {
-    ghost use Rattle.std.specs.Prelude.{◌-◌, ◌≤◌, ◌<◌, take, drop, vec_len};
+    ghost use Rattle.std.specs.Prelude.{◌≡◌, ◌-◌, ◌≤◌, ◌<◌, take, drop, vec_len};
+    ghost use Rattle.std.specs.List.{position_or_len};
+    ghost use Rattle.moc_text.specs.Lines.{is_line_feed};
     ghost use Rattle.moc_script.specs.Private.Held.{Held};
 
     ghost Value = { Held };
 
     ghost view = { λ r. record { unread = take (r.end - r.start) (drop r.start r.chunk.items); line = r.line.items } };
 
-    ghost invariant = { λ r. (r.start ≤ r.end) × (r.end ≤ vec_len r.chunk) × (0 < vec_len r.chunk) };
+    ghost invariant = { λ r. (r.start ≤ r.end) × (r.end ≤ vec_len r.chunk) × (0 < vec_len r.chunk)
+        × (r.ahead ≡ position_or_len is_line_feed (take (r.end - r.start) (drop r.start r.chunk.items))) };
 }
 
 impl LineReader {
@@ -65,6 +70,7 @@ impl LineReader {
             chunk: vec![in alloc; 0u8; CHUNK]?,
             start: 0,
             end: 0,
+            ahead: 0,
             line: Vec::new(alloc),
         })
     }
@@ -80,8 +86,7 @@ impl LineReader {
     pub fn holds_line(&self) -> bool
         ensures { result ≡ holds_line self.now.unread }
     {
-        let unread = &self.chunk[self.start..self.end];
-        first_or_len(b'\n', unread) < unread.len()
+        self.ahead < self.end - self.start
     }
 
     /// Moves what is at hand before the first line feed to the end of the line, and drops that line feed.
@@ -97,7 +102,7 @@ impl LineReader {
         ensures read { result ≢ Err LineFault.Read }
     {
         let unread = &self.chunk[self.start..self.end];
-        let len = first_or_len(b'\n', unread);
+        let len = self.ahead;
         if len > LINE_LIMIT - self.line.len() {
             return Err(LineFault::TooLong);
         }
@@ -106,9 +111,11 @@ impl LineReader {
         }
         if len < unread.len() {
             self.start += len + 1;
+            self.ahead = first_or_len(b'\n', &self.chunk[self.start..self.end]);
             Ok(true)
         } else {
             self.start = self.end;
+            self.ahead = 0;
             Ok(false)
         }
     }
@@ -125,6 +132,7 @@ impl LineReader {
             self.start = 0;
             self.end = 0;
             self.end = reader.read(&mut self.chunk)?;
+            self.ahead = first_or_len(b'\n', &self.chunk[..self.end]);
         }
         Ok(self.start < self.end)
     }

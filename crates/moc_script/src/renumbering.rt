@@ -10,15 +10,18 @@ ghost use Rattle.moc_script.specs.Numberings.{renumber_rules};
 use crate::answer::push_fault;
 use crate::fault::Fault;
 use crate::numbering::Numbering;
-use crate::reply_text::{push_count, push_words};
 use crate::responder::Responder;
 use crate::run_error::RunError;
 use crate::runner::Runner;
-use crate::words::{is_blank_text, number_in, split_word};
+use crate::words::{SAFE_DIGITS, is_blank_text, number_in, short_number_in, split_word};
+use itoa::write_digits;
 use moc_devices::{Sink, Source};
 use moc_ranges::Memory;
 use moc_sphere::Order;
 use std::alloc::Global;
+
+/// How many bytes a number takes at most, with a line feed behind it.
+const LINE: usize = 21;
 
 /// From which numbering to which, of the cells of which order.
 #[derive(Clone, Copy, Debug, PartialEq, Eq)]
@@ -68,6 +71,11 @@ impl Responder for Renumbering {
 fn read_number(line: &[u8]) -> Result<u64, Fault>
     ensures { result ≡ result_map_both (λ n. min n (2 ^ 64 - 1)) (λ fault. fault) (number_on line.now) }
 {
+    if line.len() <= SAFE_DIGITS {
+        if let Some(number) = short_number_in(line) {
+            return Ok(number);
+        }
+    }
     let (field, behind) = split_word(line);
     if !is_blank_text(behind) {
         return Err(Fault::WrongCount);
@@ -79,8 +87,10 @@ fn read_number(line: &[u8]) -> Result<u64, Fault>
 fn push_number(number: u64, text: &mut Vec<u8>) -> Result<(), Memory>
     ensures { OnOk result (text.new.items ≡ text.old.items ++ (decimal number ++ 10 ∷ [])) }
 {
-    push_count(b"", number, text)?;
-    push_words(b"\n", text)
+    let mut line = [b'\n'; LINE];
+    let start = write_digits(number, &mut line, LINE - 1);
+    text.extend_from_slice(&line[start..])?;
+    Ok(())
 }
 
 /// Tells the numbers of cells of an order in another numbering, a number a line.

@@ -37,7 +37,7 @@ pub(crate) fn push_reply_line(
 }
 
 /// Adds the text of a reply.
-fn push_reply(alloc: Global, reply: &Reply, text: &mut Vec<u8>) -> Result<(), Memory>
+pub(crate) fn push_reply(alloc: Global, reply: &Reply, text: &mut Vec<u8>) -> Result<(), Memory>
     ensures { OnOk result (text.new.items ≡ text.old.items ++ reply_text reply.now) }
 {
     match reply {

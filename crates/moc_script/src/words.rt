@@ -1,5 +1,5 @@
 //! The words and numbers of a line.
-ghost use Rattle.std.specs.Prelude.{◌≡◌, ◌-◌, ◌^◌, ◌≤◌, length, min};
+ghost use Rattle.std.specs.Prelude.{◌≡◌, ◌-◌, ◌^◌, ◌<◌, ◌≤◌, length, min};
 ghost use Rattle.std.specs.List.{prefix_len, position_or_len, list_any};
 ghost use Rattle.std.specs.Option.{option_map};
 ghost use Rattle.std.specs.Str.{bytes_eq};
@@ -65,13 +65,44 @@ pub(crate) fn is_word(word: &[u8], this: &str) -> bool
     word == this.as_bytes()
 }
 
+/// How many digits a number may have that surely has 64 bits.
+pub(crate) const SAFE_DIGITS: usize = 19;
+
 /// The number that a field spells in base ten, or `u64::MAX` where it is larger; `None` where it spells none.
 pub(crate) fn number_in(field: &[u8]) -> Option<u64>
     ensures { result ≡ option_map (λ n. min n (2 ^ 64 - 1)) (number_of field.now) }
 {
+    if field.len() <= SAFE_DIGITS {
+        short_number_in(field)
+    } else {
+        long_number_in(field)
+    }
+}
+
+/// The number that a short field spells, which has 64 bits.
+pub(crate) fn short_number_in(field: &[u8]) -> Option<u64>
+    requires short { length field.now ≤ SAFE_DIGITS }
+    ensures number { result ≡ number_of field.now }
+    ensures held { result ≡ option_map (λ n. min n (2 ^ 64 - 1)) (number_of field.now) }
+{
     if field.is_empty() {
         return None;
     }
+    let mut value: u64 = 0;
+    for byte in field {
+        if !byte.is_ascii_digit() {
+            return None;
+        }
+        value = value * 10 + u64::from(*byte - b'0');
+    }
+    Some(value)
+}
+
+/// The number that a long field spells, or `u64::MAX` where it is larger.
+fn long_number_in(field: &[u8]) -> Option<u64>
+    requires long { SAFE_DIGITS < length field.now }
+    ensures { result ≡ option_map (λ n. min n (2 ^ 64 - 1)) (number_of field.now) }
+{
     let mut value: u64 = 0;
     for byte in field {
         if !byte.is_ascii_digit() {

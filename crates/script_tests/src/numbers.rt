@@ -119,6 +119,11 @@ fault BadNumber
             "fault CellTooLarge\n15\nfault CellTooLarge\nfault CellTooLarge\nfault CellTooLarge\n",
         ),
         (
+            "nest",
+            "0000000000000000011\n00000000000000000011\n9999999999999999999\n10000000000000000000\n",
+            "15\n15\nfault CellTooLarge\nfault CellTooLarge\n",
+        ),
+        (
             "ring",
             "12\n11\n18446744073709551615\n18446744073709551616\n18446744073709551627\n",
             "fault RingTooLarge\n15\nfault RingTooLarge\nfault RingTooLarge\nfault RingTooLarge\n",
