@@ -7,7 +7,7 @@ ghost use Rattle.moc_ranges.specs.RangeList.{IsNormal, in_ranges, set_of};
 ghost use Rattle.moc_ranges.specs.Private.Built.{ranges_of, EndsBelow};
 ghost use Rattle.moc_ranges.specs.Private.Walks.{begun};
 ghost use Rattle.moc_ranges.specs.Private.Differing.{differs, IsDiffering, IsParted};
-ghost use Rattle.moc_ranges.specs.Private.Crossing.{restored_of, IsCrossed};
+ghost use Rattle.moc_ranges.specs.Private.Crossing.{restored_of, CanCross, CrossesOn, IsCrossed};
 
 use crate::list::RangeList;
 use crate::list::block::LONGEST;
@@ -160,12 +160,9 @@ fn cross_blocks(
     room: &mut [u64; BOUNDS],
     built: &mut ListBuilder,
 ) -> Result<bool, AllocError>
-    requires started { (whole_xs : List (ℕ × ℕ)) × ((whole_ys : List (ℕ × ℕ)) × IsCrossed (ranges_of built.old)
-        opened.old.bound opened.old.first opened.old.second xs.old ys.old whole_xs whole_ys) }
-    ensures on { OnOk result ((whole_xs whole_ys : List (ℕ × ℕ)) → IsCrossed (ranges_of built.old)
-        opened.old.bound opened.old.first opened.old.second xs.old ys.old whole_xs whole_ys →
-        IsCrossed (ranges_of built.new) opened.new.bound opened.new.first opened.new.second xs.new ys.new
-        whole_xs whole_ys) }
+    requires started { CanCross (ranges_of built.old) opened.old xs.old ys.old }
+    ensures on { OnOk result (CrossesOn (ranges_of built.old) opened.old xs.old ys.old
+        (ranges_of built.new) opened.new xs.new ys.new) }
     ensures some { IfOk result (λ met. OnTrue met (length xs.new + length ys.new < length xs.old + length ys.old)) }
     ensures none { IfOk result (λ met. OnFalse met ((xs.new ≡ []) ⊎ (ys.new ≡ []))) }
 {
@@ -198,12 +195,9 @@ fn carry_apart(
     opened: &Opened,
     built: &mut ListBuilder,
 ) -> Result<(), AllocError>
-    requires started { (whole_xs : List (ℕ × ℕ)) × ((whole_ys : List (ℕ × ℕ)) × IsCrossed (ranges_of built.old)
-        opened.now.bound opened.now.first opened.now.second xs.old ys.old whole_xs whole_ys) }
-    ensures on { OnOk result ((whole_xs whole_ys : List (ℕ × ℕ)) → IsCrossed (ranges_of built.old)
-        opened.now.bound opened.now.first opened.now.second xs.old ys.old whole_xs whole_ys →
-        IsCrossed (ranges_of built.new) opened.now.bound opened.now.first opened.now.second xs.new ys.new
-        whole_xs whole_ys) }
+    requires started { CanCross (ranges_of built.old) opened.now xs.old ys.old }
+    ensures on { OnOk result (CrossesOn (ranges_of built.old) opened.now xs.old ys.old
+        (ranges_of built.new) opened.now xs.new ys.new) }
     ensures fewer { OnOk result (length xs.new + length ys.new ≤ length xs.old + length ys.old) }
 {
     let None = opened.bound else {
@@ -233,8 +227,7 @@ fn finish_crossing(
     opened: Opened,
     built: ListBuilder,
 ) -> Result<RangeList, AllocError>
-    requires started { (whole_xs : List (ℕ × ℕ)) × ((whole_ys : List (ℕ × ℕ)) × IsCrossed (ranges_of built)
-        opened.bound opened.first opened.second xs ys whole_xs whole_ys) }
+    requires started { CanCross (ranges_of built) opened xs ys }
     requires ended { (xs ≡ []) ⊎ (ys ≡ []) }
     ensures { IfOk result (λ l. (whole_xs whole_ys : List (ℕ × ℕ)) → IsCrossed (ranges_of built)
         opened.bound opened.first opened.second xs.entry ys.entry whole_xs whole_ys →
