@@ -13,9 +13,8 @@ use crate::list::RangeList;
 use crate::list::block::LONGEST;
 use crate::list::builder::ListBuilder;
 use crate::list::ranges::Ranges;
-use crate::operations::carrying::{carry_below, next_carrying};
+use crate::operations::carrying::{carry_below, next_carrying, push_part, start_of};
 use crate::operations::crossing::{BOUNDS, cross_begun, push_pairs};
-use crate::operations::difference::{push_part, start_of};
 use crate::operations::reach::are_even;
 use std::alloc::{AllocError, Global};
 
