@@ -1,19 +1,20 @@
 -- The cells of an order of ranges are those of their pieces, which are a normal list.
-use Rattle.std.proofs.Common.{◌≡◌, ℕ, zero, suc, ◌+◌, ◌-◌, ◌*◌, ◌/◌, ◌<◌, ◌≤◌, Bool, true, false, cond, ◌&&◌, List, [], ◌∷◌, ◌++◌, map, refl, sym, ap, ◌∙◌, inl, inr, arith, append-nil, append_assoc, eqb}
+use Rattle.std.proofs.Common.{◌≡◌, ℕ, zero, suc, ◌+◌, ◌-◌, ◌*◌, ◌/◌, ◌<◌, ◌≤◌, Bool, true, false, cond, ◌&&◌, List, [], ◌∷◌, ◌++◌, length, take, get_or, map, refl, sym, ap, ◌∙◌, inl, inr, arith, append-nil, append_assoc, eqb}
 use Rattle.std.specs.Prelude.{nat_lt}
 use Rattle.std.specs.List.{filter, range_with_len, AllByRecursion}
-use Rattle.std.proofs.lemmas.Bool.{cases_Bool, cases_lt, and_parts, and_from, lt-ltb, ltb-true, le-ltb, ltb-false, eq-eqb, ne_eqb}
+use Rattle.std.proofs.lemmas.Bool.{cases_lt, and_parts, and_from, lt-ltb, ltb-true, le-ltb, eq-eqb, ne_eqb}
+use Rattle.std.proofs.lemmas.List.{drop_more, get_or-take, length-take-le}
 use Rattle.std.proofs.lemmas.List.Elements.{filter-append}
-use Rattle.std.proofs.lemmas.Nat.{le-div, div-add-mod', mod_below, div_below}
-use Rattle.std.proofs.Math.Nat.{mul-le-mul_right, le_of_mul-le-mul_right, div-mul-le_self}
+use Rattle.std.proofs.lemmas.Nat.{div-add-mod', mod_below, div_below}
 use Rattle.moc_sphere.specs.CellNumber.{CellNumber, cell_number, cell_count, cell_size, cell_size-positive, IsCell}
 use Rattle.moc_ranges.specs.Numbers.{NumberSet}
 use Rattle.moc_ranges.specs.Pixels.{pixel_count}
 use Rattle.moc_ranges.specs.RangeList.{set_of, IsNormal, BeginsAfter}
 use Rattle.moc_ranges.specs.Cells.{cells_in, cells_of, cells_below, is_cell_of}
 use Rattle.moc_ranges.specs.Laws.Cells.{cells_are, four_parts}
-use Rattle.moc_ranges.specs.Private.CellRuns.{AreWhole, HasOrders, cells_at, cells_between, filled, parted, pieces_along, pieces_of, whole_in}
-use Rattle.moc_ranges.proofs.CellRuns.{cells_split, count_bound, four_children, no_cells, run_none, run_one, run_top, run_two, whole_is}
+use Rattle.moc_ranges.specs.Private.CellRuns.{ahead_of, AreWhole, HasOrders, cells_at, cells_between, filled, parted, pieces_along, pieces_of, whole_in}
+use Rattle.moc_ranges.specs.Private.Meeting.{kept_if}
+use Rattle.moc_ranges.proofs.CellRuns.{cells_split, count_bound, four_children, no_cells, run_one, run_top, run_two, whole_is}
 use Rattle.moc_ranges.proofs.CellOrders.{cells_step}
 
 -- ---- the cells of pieces
@@ -31,8 +32,8 @@ nothing_between k first last le =
 
 filled_cells : (k first last : ℕ) → cells_in k (filled (first, last)) ≡ cells_between k first last
 filled_cells k first last = elim (cases_lt first last) [
-  | inl lt ↦ ap (λ b. cells_in k (cond b ((first, last) ∷ []) [])) (lt-ltb first last lt) ∙ append-nil (cells_between k first last)
-  | inr le ↦ ap (λ b. cells_in k (cond b ((first, last) ∷ []) [])) (le-ltb first last le) ∙ sym (nothing_between k first last le)
+  | inl lt ↦ ap (λ b. cells_in k (kept_if b (first, last))) (lt-ltb first last lt) ∙ append-nil (cells_between k first last)
+  | inr le ↦ ap (λ b. cells_in k (kept_if b (first, last))) (le-ltb first last le) ∙ sym (nothing_between k first last le)
 ]
 
 -- the cells of both pieces
@@ -146,14 +147,14 @@ begins_sooner x y (r ∷ rs) le after = omega (arith, after)
 
 begins_filled : (x : ℕ) (a : ℕ × ℕ) (l : List (ℕ × ℕ)) → (a.0 < a.1 → x < a.0) → BeginsAfter x l → BeginsAfter x (filled a ++ l)
 begins_filled x a l here later =
-    elim (nat_lt a.0 a.1) as (λ b. nat_lt a.0 a.1 ≡ b → BeginsAfter x (cond b (a ∷ []) [] ++ l)) [
+    elim (nat_lt a.0 a.1) as (λ b. nat_lt a.0 a.1 ≡ b → BeginsAfter x (kept_if b a ++ l)) [
       | true ↦ λ e. here (ltb-true a.0 a.1 e)
       | false ↦ λ e. later
     ] refl
 
 normal_filled : (a : ℕ × ℕ) (l : List (ℕ × ℕ)) → a.1 ≤ pixel_count → (a.0 < a.1 → BeginsAfter a.1 l) → IsNormal l → IsNormal (filled a ++ l)
 normal_filled a l fits after normal =
-    elim (nat_lt a.0 a.1) as (λ b. nat_lt a.0 a.1 ≡ b → IsNormal (cond b (a ∷ []) [] ++ l)) [
+    elim (nat_lt a.0 a.1) as (λ b. nat_lt a.0 a.1 ≡ b → IsNormal (kept_if b a ++ l)) [
       | true ↦ λ e. let lt = ltb-true a.0 a.1 e in (lt, fits, after lt, normal)
       | false ↦ λ e. normal
     ] refl
@@ -252,3 +253,11 @@ pub orders_of_cells : (a : NumberSet) (first last : ℕ) → HasOrders a first l
 unfolding cells_of
 orders_of_cells a first last has =
     each_kept (λ c. (first ≤ c.order) × (c.order < last)) (is_cell_of a) (cells_below 30) (cells_are a) (λ c is of_it. has.each c.order c.index is.order_in_range is.index_in_range of_it)
+
+-- ---- runs that are made ahead
+
+-- the next of them is given
+pub ahead_next : (made rest : List (ℕ × ℕ)) (given count : ℕ) → given < count → count ≤ length made → ahead_of made given count ++ rest ≡ get_or made given (0, 0) ∷ (ahead_of made (given + 1) count ++ rest)
+ahead_next made rest given count lt fits =
+    ap (λ (l : List (ℕ × ℕ)). l ++ rest) (drop_more (take count made) given (0, 0) (omega (arith, length-take-le count made fits)))
+    ∙ ap (λ (x : ℕ × ℕ). x ∷ (ahead_of made (given + 1) count ++ rest)) (get_or-take count made given (0, 0) lt)

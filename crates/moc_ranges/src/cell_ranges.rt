@@ -3,8 +3,12 @@ ghost use Rattle.std.specs.Iterator.{YieldsFirst, item_count};
 
 use crate::cells::whole_cells;
 use crate::list::ranges::Ranges;
+use crate::operations::meeting::keep_at;
 use moc_sphere::Order;
 use std::marker::Model;
+
+/// How many runs are made ahead at most.
+const ROOM: usize = 32;
 
 /// The cells of one order that a set has, as far as they are still to come: ranges (first, end) of their indices, `end`
 /// not included. They rise, none is empty, and none touches the next.
@@ -12,29 +16,32 @@ use std::marker::Model;
 pub struct CellRanges<'a> {
     order: Order,
     ranges: Ranges<'a>,
-    /// The cells behind the parents that lie whole in the range before; maybe none.
-    second: (u64, u64),
+    /// Runs of the ranges before, `count` of them, which are made ahead, many at a time, without a branch on what a
+    /// range has: that is hard to foretell.
+    made: [(u64, u64); ROOM],
+    count: usize,
+    given: usize,
 }
 
 impl<'a> Model for CellRanges<'a> {
-    ghost use Rattle.std.specs.Prelude.{List, ℕ, ◌++◌};
+    ghost use Rattle.std.specs.Prelude.{List, ℕ, ◌≡◌, ◌++◌, ◌≤◌, length};
     ghost use Rattle.moc_ranges.specs.RangeList.{IsNormal};
-    ghost use Rattle.moc_ranges.specs.Private.CellRuns.{filled, pieces_along};
+    ghost use Rattle.moc_ranges.specs.Private.CellRuns.{ahead_of, pieces_along};
 
     ghost Value = { List (ℕ × ℕ) };
 
-    ghost view = { λ c. filled c.second ++ pieces_along c.order c.ranges };
+    ghost view = { λ c. ahead_of c.made c.given c.count ++ pieces_along c.order c.ranges };
 
-    ghost invariant = { λ c. IsNormal c.ranges };
+    ghost invariant = { λ c. IsNormal c.ranges × (length c.made ≡ 32) × (c.count ≤ 32) × (c.given ≤ c.count) };
 }
 
-ghost use Rattle.std.specs.Prelude.{◌≡◌, ◌++◌, ◌<◌, ◌≤◌, [], IfSome, MatchOption};
+ghost use Rattle.std.specs.Prelude.{◌≡◌, ◌++◌, ◌<◌, ◌≤◌, [], length, take};
 ghost use Rattle.moc_ranges.specs.RangeList.{IsNormal};
-ghost use Rattle.moc_ranges.specs.Private.CellRuns.{filled, pieces_along, pieces_of};
+ghost use Rattle.moc_ranges.specs.Private.CellRuns.{pieces_along, pieces_of};
 ghost use Rattle.moc_ranges.specs.Pixels.{pixel_count};
 
-/// Of the cells of an order that lie whole in a range those before, and those after the parents that lie whole in it; all
-/// of them, and none, where no parent does.
+/// Of the cells of an order that lie whole in a range those before, and those after the parents that lie whole in it;
+/// all of them, and none, where no parent does.
 #[inline(always)]
 fn pieces(order: Order, from: u64, to: u64) -> ((u64, u64), (u64, u64))
     requires rising { from < to }
@@ -51,22 +58,26 @@ fn pieces(order: Order, from: u64, to: u64) -> ((u64, u64), (u64, u64))
     }
 }
 
-/// The pieces of the next range that has cells of the order, if there is one.
-#[inline(always)]
-fn next_pieces(order: Order, ranges: &mut Ranges<'_>) -> Option<((u64, u64), (u64, u64))>
-    requires { IsNormal ranges.old }
+/// Makes runs ahead, as long as there is room for those of one range more, and answers how many.
+fn make_ahead(order: Order, ranges: &mut Ranges<'_>, made: &mut [(u64, u64)]) -> usize
+    requires normal { IsNormal ranges.old }
+    requires room { 2 ≤ length made.old }
     ensures normal { IsNormal ranges.new }
-    ensures pieces { MatchOption result ((pieces_along order ranges.old ≡ []) × (pieces_along order ranges.new ≡ [])) (λ p.
-        pieces_along order ranges.old ≡ filled p.0 ++ (filled p.1 ++ pieces_along order ranges.new)) }
-    ensures some { IfSome result (λ p. p.0.1 ≤ p.0.0 → p.1.0 < p.1.1) }
+    ensures made { take result made.new ++ pieces_along order ranges.new ≡ pieces_along order ranges.old }
+    ensures room { length made.new ≡ length made.old }
+    ensures within { result ≤ length made.old }
+    ensures none { result ≡ 0 → ranges.new ≡ [] }
 {
-    while let Some((from, to)) = ranges.next() {
+    let mut count = 0;
+    while count < made.len() - 1 {
+        let Some((from, to)) = ranges.next() else {
+            return count;
+        };
         let (first, second) = pieces(order, from, to);
-        if first.0 < first.1 || second.0 < second.1 {
-            return Some((first, second));
-        }
+        count = keep_at(made, count, first.0, first.1);
+        count = keep_at(made, count, second.0, second.1);
     }
-    None
+    count
 }
 
 impl<'a> CellRanges<'a> {
@@ -79,7 +90,9 @@ impl<'a> CellRanges<'a> {
         CellRanges {
             order,
             ranges,
-            second: (0, 0),
+            made: [(0, 0); ROOM],
+            count: 0,
+            given: 0,
         }
     }
 }
@@ -93,16 +106,17 @@ impl<'a> Iterator for CellRanges<'a> {
 
     #[inline]
     fn next(&mut self) -> Option<(u64, u64)> {
-        let second = self.second;
-        if second.0 < second.1 {
-            self.second = (0, 0);
-            return Some(second);
+        if self.given < self.count {
+            let run = self.made[self.given];
+            self.given += 1;
+            return Some(run);
         }
-        let (first, second) = next_pieces(self.order, &mut self.ranges)?;
-        if first.0 < first.1 {
-            self.second = second;
-            return Some(first);
+        self.count = make_ahead(self.order, &mut self.ranges, &mut self.made);
+        if self.count == 0 {
+            self.given = 0;
+            return None;
         }
-        Some(second)
+        self.given = 1;
+        Some(self.made[0])
     }
 }

@@ -1,9 +1,11 @@
 -- The cells of one order of a set, as they are found range by range.
-use Rattle.std.specs.Prelude.{◌≡◌, ℕ, ◌+◌, ◌-◌, ◌*◌, ◌/◌, ◌<◌, ◌≤◌, ◌↔◌, true, ◌&&◌, if◌then◌else◌, nat_lt, List, [], ◌∷◌, ◌++◌, map}
+use Rattle.std.specs.Prelude.{◌≡◌, ℕ, ◌+◌, ◌-◌, ◌*◌, ◌/◌, ◌<◌, ◌≤◌, ◌↔◌, true, ◌&&◌, if◌then◌else◌, nat_lt}
+use Rattle.std.specs.Prelude.{List, [], ◌∷◌, ◌++◌, drop, map, take}
 use Rattle.std.specs.List.{filter, range_with_len}
 use Rattle.moc_sphere.specs.CellNumber.{CellNumber, cell_number, cell_count, cell_size}
 use Rattle.moc_ranges.specs.Numbers.{NumberSet}
 use Rattle.moc_ranges.specs.Cells.{is_cell_of}
+use Rattle.moc_ranges.specs.Private.Meeting.{kept_if}
 
 -- the cells of one order of a set
 unfoldable pub cells_at : NumberSet → ℕ → List CellNumber
@@ -29,8 +31,8 @@ pub record HasOrders (a : NumberSet) (first last : ℕ) : Type 0 where
 abbrev pub whole_in : ℕ → ℕ × ℕ → ℕ × ℕ
 whole_in k range = ((range.0 + (cell_size k - 1)) / cell_size k, range.1 / cell_size k)
 
--- of cells in a row, given by the first and the one after the last, those before and those after the parents all of whose
--- cells are in the row; where there is none, all and none
+-- of cells in a row, from the first up to, not including, the last, those before and those after the parents all of
+-- whose cells are in the row; where there is none, all and none
 abbrev pub parted : ℕ → ℕ × ℕ → (ℕ × ℕ) × (ℕ × ℕ)
 parted k row =
     if nat_lt 0 k && nat_lt ((row.0 + 3) / 4 * 4) (row.1 / 4 * 4)
@@ -43,9 +45,14 @@ pieces_of k range = parted k (whole_in k range)
 
 -- a range alone where it is not empty, and else none
 abbrev pub filled : ℕ × ℕ → List (ℕ × ℕ)
-filled range = if nat_lt range.0 range.1 then range ∷ [] else []
+filled range = kept_if (nat_lt range.0 range.1) range
 
 -- the cells of order k of ranges, those of each range by themselves
 abbrev pub pieces_along : ℕ → List (ℕ × ℕ) → List (ℕ × ℕ)
 pieces_along k [] = []
-pieces_along k (range ∷ ranges) = filled (pieces_of k range).0 ++ (filled (pieces_of k range).1 ++ pieces_along k ranges)
+pieces_along k (range ∷ ranges) =
+    filled (pieces_of k range).0 ++ (filled (pieces_of k range).1 ++ pieces_along k ranges)
+
+-- of so many ranges that are made those that are not given yet
+abbrev pub ahead_of : List (ℕ × ℕ) → ℕ → ℕ → List (ℕ × ℕ)
+ahead_of made given count = drop given (take count made)

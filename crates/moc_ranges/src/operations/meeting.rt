@@ -36,7 +36,7 @@ impl Places for &[(u64, u64)] {
 
 /// Puts a range behind those that are made, and answers how many they are: it does not count where it is empty.
 #[inline(always)]
-fn keep_at(out: &mut [(u64, u64)], made: usize, from: u64, to: u64) -> usize
+pub fn keep_at(out: &mut [(u64, u64)], made: usize, from: u64, to: u64) -> usize
     requires { made < length out.old }
     ensures room { length out.new ≡ length out.old }
     ensures more { result ≤ made + 1 }

@@ -226,8 +226,8 @@ fn push_all(
 
 /// Writes the ASCII form (MOC 2.0) of the set: its cells by rising order and within an order by rising number,
 /// runs of consecutive cells joined, and then the stated order, if it is deeper than these. Refused with
-/// `TooCoarse` where the set has a cell of a deeper order than the stated one. One pass over the ranges of the set for each
-/// order that can have cells, and linear in the length of the text; no list of cells is made.
+/// `TooCoarse` where the set has a cell of a deeper order than the stated one. One pass over the ranges of the set
+/// for each order that can have cells, and linear in the length of the text; no list of cells is made.
 #[tactic(auto, unfolding(crate::specs::AsciiText::ascii_text))]
 pub fn write_ascii(
     alloc: Global,

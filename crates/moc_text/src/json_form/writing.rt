@@ -55,7 +55,8 @@ fn write_rows(json: &mut Writer, ranges: CellRanges<'_>) -> Result<(), AllocErro
 /// Writes the name of an order, and the beginning of its array.
 fn begin_order(json: &mut Writer, depth: u8) -> Result<(), AllocError>
     ensures before { json.new.before ≡ json.old.before }
-    ensures tokens { OnOk result (json.new.tokens ≡ json.old.tokens ++ Token.key (decimal depth) ∷ Token.begin_array ∷ []) }
+    ensures tokens { OnOk result (json.new.tokens
+        ≡ json.old.tokens ++ Token.key (decimal depth) ∷ Token.begin_array ∷ []) }
 {
     json.key(Buffer::new().format(depth))?;
     json.begin_array()
@@ -73,8 +74,8 @@ fn write_bare(json: &mut Writer, depth: u8, bare: Option<u8>) -> Result<(), Allo
     json.end_array()
 }
 
-/// Writes the name of an order and its array, where it has cells or is the one without cells. The set's cells are of the
-/// orders given.
+/// Writes the name of an order and its array, where it has cells or is the one without cells. The set's cells are
+/// of the orders given.
 fn write_order(
     json: &mut Writer,
     depth: u8,
