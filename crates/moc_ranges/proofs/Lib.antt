@@ -28,3 +28,4 @@ pub mod Crossing
 pub mod Deepest
 pub mod Adding
 pub mod Replacing
+pub mod Inserting

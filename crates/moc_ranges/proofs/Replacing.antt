@@ -33,24 +33,24 @@ set_between {X} [] ys x y (suc n) e = absurd (omega arith)
 set_between {X} (z ∷ xs) ys x y zero e = absurd (omega arith)
 set_between {X} (z ∷ xs) ys x y (suc n) e = ap (λ (l : List X). z ∷ l) (set_between xs ys x y n (omega arith))
 
-get_between : {X : Type 0} (xs ys : List X) (x d : X) (n : ℕ) → n ≡ length xs → get_or (xs ++ x ∷ ys) n d ≡ x
+pub get_between : {X : Type 0} (xs ys : List X) (x d : X) (n : ℕ) → n ≡ length xs → get_or (xs ++ x ∷ ys) n d ≡ x
 get_between {X} [] ys x d zero e = refl
 get_between {X} [] ys x d (suc n) e = absurd (omega arith)
 get_between {X} (z ∷ xs) ys x d zero e = absurd (omega arith)
 get_between {X} (z ∷ xs) ys x d (suc n) e = get_between xs ys x d n (omega arith)
 
-beside_last : {X : Type 0} (most : ℕ) (ls ms : List (List X)) (x : List X) → AreFilled most (ls ++ x ∷ ms) → 0 < last_length ls → most < last_length ls + length x
+pub beside_last : {X : Type 0} (most : ℕ) (ls ms : List (List X)) (x : List X) → AreFilled most (ls ++ x ∷ ms) → 0 < last_length ls → most < last_length ls + length x
 beside_last {X} most [] ms x ok some = absurd (omega (arith, some))
 beside_last {X} most (l ∷ []) ms x ok some = ok.2
 beside_last {X} most (l ∷ (l' ∷ ls)) ms x ok some = beside_last most (l' ∷ ls) ms x ok.3 some
 
-beside_next : {X : Type 0} (most : ℕ) (ms : List (List X)) (x : List X) → AreFilled most (x ∷ ms) → 0 < first_length ms → most < length x + first_length ms
+pub beside_next : {X : Type 0} (most : ℕ) (ms : List (List X)) (x : List X) → AreFilled most (x ∷ ms) → 0 < first_length ms → most < length x + first_length ms
 beside_next {X} most [] x ok some = absurd (omega (arith, some))
 beside_next {X} most (m ∷ ms) x ok some = ok.2
 
 -- ---- a block that took in a range, in its place
 
-spot_node : (from to node block added : ℕ) (nodes nodes' : List (List (List (ℕ × ℕ)))) (ranges : List (ℕ × ℕ)) (found : List (List (ℕ × ℕ))) → nodes' ≡ nodes → (s : IsSpot from to nodes' node block ranges added) → found ≡ get_or nodes node found → found ≡ s.old
+pub spot_node : (from to node block added : ℕ) (nodes nodes' : List (List (List (ℕ × ℕ)))) (ranges : List (ℕ × ℕ)) (found : List (List (ℕ × ℕ))) → nodes' ≡ nodes → (s : IsSpot from to nodes' node block ranges added) → found ≡ get_or nodes node found → found ≡ s.old
 spot_node from to node block added nodes nodes' ranges found same s is =
     is ∙ ap (λ (l : List (List (List (ℕ × ℕ)))). get_or l node found) (sym same ∙ s.parts) ∙ get_between s.before s.behind s.old found node s.at
 

@@ -209,10 +209,11 @@ impl Coverage {
 
     /// Adds the pixels from one up to, not including, another, and tells how many of them are new.
     ///
-    /// Mostly O(log n), whatever shares the blocks: the block that the range goes to is made anew, and the pointers to
-    /// the others of its node are copied where another set shares the node, or the block is cut in two; where it is
-    /// cut, also a step for each node behind. As a union where the range touches more than one block, or no block can
-    /// take it by the rules of lengths. Refused where memory runs out; the set then is as it was.
+    /// Mostly O(log n), whatever shares the blocks: the range is put into its block where no other set has that, the
+    /// range touches no other and the block is not full. Else the block is made anew, and the pointers to the others of
+    /// its node are copied where another set shares the node, or the block is cut in two; where it is cut, also a step
+    /// for each node behind. As a union where the range touches more than one block, or no block can take it by the
+    /// rules of lengths. Refused where memory runs out; the set then is as it was.
     pub fn insert_range(&mut self, alloc: Global, from: u64, to: u64) -> Result<u64, Memory>
         requires within { to ≤ pixel_count }
         ensures set { OnOk result (self.new ≡ set.union self.old (numbers from to)) }

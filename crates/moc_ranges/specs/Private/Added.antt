@@ -1,5 +1,7 @@
 -- A list in blocks with one range more.
-use Rattle.std.specs.Prelude.{◌≡◌, ℕ, ◌+◌, ◌<◌, ◌≤◌, ◌||◌, min, Option, None, Some, List, [], ◌∷◌, ◌++◌, length}
+use Rattle.std.specs.Prelude.{◌≡◌, ℕ, ◌+◌, ◌-◌, ◌<◌, ◌≤◌, ◌||◌, min, Option, None, Some, List, [], ◌∷◌, ◌++◌, length}
+use Rattle.std.specs.Prelude.{get_or, slice_set}
+use Rattle.std.specs.List.{insert}
 use Rattle.moc_ranges.specs.RangeList.{IsNormal, in_range, in_ranges}
 use Rattle.moc_ranges.specs.Private.Blocks.{joining, next_of, width_of, AreFilled, AreBlocks, IsStored}
 use Rattle.moc_ranges.specs.Private.Built.{first_length, last_length, EndsBelow}
@@ -72,6 +74,29 @@ pub record IsSpot (from to : ℕ) (nodes : List (List (List (ℕ × ℕ)))) (nod
   pub right : List (List (ℕ × ℕ))
   pub place : block ≡ length left
   pub grown : IsGrown from to (joining before) (joining behind) old left run right ranges [] added
+
+-- a range lies in a gap of a block that has room for one more, at these places: the block's node, the block in it, and
+-- the gap in that
+pub record IsGap (from to : ℕ) (nodes : List (List (List (ℕ × ℕ)))) (node block place : ℕ) : Type 0 where
+  pub ranges : List (ℕ × ℕ)
+  pub spot : IsSpot from to nodes node block ranges (to - from)
+  pub inside : place ≤ length spot.run
+  pub room : length spot.run < 128
+  pub made : ranges ≡ insert spot.run place (from, to)
+
+-- blocks with one range more in one of them
+abbrev pub inserted : List (List (ℕ × ℕ)) → ℕ → ℕ → ℕ × ℕ → List (List (ℕ × ℕ))
+inserted blocks block place range = slice_set blocks block (insert (get_or blocks block []) place range)
+
+-- a block of a node has room for one range more at a place
+pub record HasGap (node : List (List (ℕ × ℕ))) (block place : ℕ) (range : ℕ × ℕ) : Type 0 where
+  pub there : block < length node
+  pub inside : place ≤ length (get_or node block [])
+  pub room : length (get_or node block []) < 128
+  pub filled : range.0 < range.1
+  pub ranges : IsNormal (insert (get_or node block []) place range)
+  pub normal : IsNormal (joining (inserted node block place range))
+  pub sized : AreBlocks (inserted node block place range)
 
 -- one element, or two
 abbrev pub with_second : {X : Type 0} → X → Option X → List X

@@ -1,8 +1,8 @@
-//! A list in blocks with one range more: the block that it goes to is made anew, its node where that is shared or the
-//! block is cut, and all others stay.
+//! A list in blocks with one range more: it is put into the list of its block, or that block is made anew, and its node
+//! where that is shared or the block is cut; all others stay.
 ghost use Rattle.std.specs.Prelude.{◌≡◌, ◌+◌, ◌<◌, ◌≤◌, ◌++◌, [], ◌∷◌, length, take, drop, min};
 ghost use Rattle.std.specs.Prelude.{IfOk, IfSome, MatchOption, OnOk, OnErr};
-ghost use Rattle.std.specs.Bool.{OnTrue};
+ghost use Rattle.std.specs.Bool.{OnTrue, OnFalse};
 ghost use Rattle.moc_ranges.specs.Pixels.{pixel_count};
 ghost use Rattle.moc_ranges.specs.RangeList.{IsNormal};
 ghost use Rattle.moc_ranges.specs.Private.Blocks.{joining, next_of, AreFilled, AreBlocks, IsStored};
@@ -10,7 +10,7 @@ ghost use Rattle.moc_ranges.specs.Private.Built.{first_length, EndsBelow};
 ghost use Rattle.moc_ranges.specs.Private.Walks.{joined};
 ghost use Rattle.moc_ranges.specs.Private.Added.{pieces};
 ghost use Rattle.moc_ranges.specs.Private.Added.{IsAround, IsReach, HasOneMore, HasGrown, IsCut, IsGrown, IsRegrown};
-ghost use Rattle.moc_ranges.specs.Private.Added.{IsRenewed, IsSpot};
+ghost use Rattle.moc_ranges.specs.Private.Added.{IsGap, IsRenewed, IsSpot};
 
 use crate::list::ahead::{Ahead, front_from};
 use crate::list::block::{Block, LONGEST, measure_ranges};
@@ -472,4 +472,48 @@ pub fn spot_of(
         ranges: first,
         added,
     }))
+}
+
+/// A gap between ranges: the place of a node, that of a block in it, and its own in that.
+#[derive(Clone, Copy)]
+pub struct Gap {
+    pub node: usize,
+    pub block: usize,
+    pub place: usize,
+}
+
+/// Whether the first of some ranges begins by a number.
+fn begins_by(ranges: &[(u64, u64)], limit: u64) -> bool
+    requires { limit ≤ pixel_count }
+    ensures { OnFalse result (limit < next_of ranges.now) }
+{
+    match ranges {
+        [range, ..] => range.0 <= limit,
+        [] => false,
+    }
+}
+
+/// The gap of a block that a range lies in. None where it touches a range, or the block has no room. O(log n).
+pub fn gap_of(nodes: &[Node], from: u64, to: u64) -> Option<Gap>
+    requires stored { IsStored [] nodes.now }
+    requires filled { from < to }
+    requires within { to ≤ pixel_count }
+    ensures { IfSome result (λ g. IsGap from to nodes.now g.node g.block g.place) }
+{
+    let place = place_of(nodes, from)?;
+    let own = place_of(place.run.blocks(), from)?;
+    let ranges = own.run.ranges();
+    let ended = count_ended(ranges, from.saturating_sub(1));
+    let ahead = Ahead {
+        blocks: own.behind,
+        nodes: place.behind,
+    };
+    if ranges.len() == LONGEST || begins_by(&ranges[ended..], to) || front_from(ahead) <= to {
+        return None;
+    }
+    Some(Gap {
+        node: place.before.len(),
+        block: own.before.len(),
+        place: ended,
+    })
 }

@@ -1,6 +1,8 @@
 //! A block: some ranges behind an `Arc`, with what a search and a count need beside it.
 
-ghost use Rattle.std.specs.Prelude.{◌≡◌, ◌++◌, ◌+◌, ◌<◌, ◌≤◌, ℕ, length, IfOk};
+ghost use Rattle.std.specs.Prelude.{◌≡◌, ◌++◌, ◌+◌, ◌<◌, ◌≤◌, ℕ, length, IfOk, OnOk, OnErr};
+ghost use Rattle.std.specs.Bool.{OnTrue, OnFalse};
+ghost use Rattle.std.specs.List.{insert};
 ghost use Rattle.moc_ranges.specs.RangeList.{IsNormal};
 ghost use Rattle.moc_ranges.specs.Private.Blocks.{first_of, last_of, width_of};
 
@@ -10,6 +12,9 @@ use std::sync::Arc;
 
 /// The most ranges that a block has.
 pub const LONGEST: usize = 128;
+
+/// For how many ranges more a block's list gets room where it has none left.
+const ROOM: usize = 16;
 
 /// 1 to 128 ranges in rising order.
 #[derive(Debug, Drop)]
@@ -42,6 +47,23 @@ pub fn measure_ranges(ranges: &[(u64, u64)]) -> u64
         total += range.1 - range.0;
     }
     total
+}
+
+/// Puts a range among others.
+fn put_among(
+    ranges: &mut Vec<(u64, u64)>,
+    place: usize,
+    range: (u64, u64),
+) -> Result<(), AllocError>
+    requires { place ≤ length ranges.old.items }
+    ensures put { OnOk result (ranges.new.items ≡ insert ranges.old.items place range) }
+    ensures unchanged { OnErr result (ranges.new.items ≡ ranges.old.items) }
+{
+    if ranges.len() == ranges.capacity() {
+        ranges.reserve_exact(ROOM)?;
+    }
+    ranges.insert(place, range)?;
+    Ok(())
 }
 
 impl Block {
@@ -97,6 +119,27 @@ impl Block {
         ensures fits { length self.now ≤ LONGEST }
     {
         &self.ranges
+    }
+
+    /// Puts a range among those of the block, and says whether that was done: it is where nobody else has their list,
+    /// which then stays where it is, unless it has no room.
+    pub fn insert(&mut self, place: usize, range: (u64, u64)) -> Result<bool, AllocError>
+        requires inside { place ≤ length self.old }
+        requires room { length self.old < LONGEST }
+        requires filled { range.0 < range.1 }
+        requires normal { IsNormal (insert self.old place range) }
+        ensures put { IfOk result (λ done. OnTrue done (self.new ≡ insert self.old place range)) }
+        ensures same { IfOk result (λ done. OnFalse done (self.new ≡ self.old)) }
+        ensures unchanged { OnErr result (self.new ≡ self.old) }
+    {
+        let Some(ranges) = Arc::get_mut(&mut self.ranges) else {
+            return Ok(false);
+        };
+        put_among(ranges, place, range)?;
+        self.size += range.1 - range.0;
+        self.from = ranges[0].0;
+        self.to = ranges[ranges.len() - 1].1;
+        Ok(true)
     }
 
     /// The same block once more.

@@ -1,8 +1,10 @@
 //! A node: some blocks behind an `Arc`.
 
-ghost use Rattle.std.specs.Prelude.{◌≡◌, ◌+◌, ◌<◌, ◌≤◌, ℕ, length, slice_set, false, true, IfOk};
+ghost use Rattle.std.specs.Prelude.{◌≡◌, ◌+◌, ◌<◌, ◌≤◌, ℕ, length, slice_set, false, true, IfOk, OnErr};
+ghost use Rattle.std.specs.Bool.{OnTrue, OnFalse};
 ghost use Rattle.moc_ranges.specs.RangeList.{IsNormal};
 ghost use Rattle.moc_ranges.specs.Private.Blocks.{first_of, last_of, width_of, joining, AreBlocks};
+ghost use Rattle.moc_ranges.specs.Private.Added.{inserted, HasGap};
 
 use crate::list::block::Block;
 use std::alloc::{AllocError, Global};
@@ -153,6 +155,32 @@ impl Node {
         self.from = blocks[0].from();
         self.to = blocks[blocks.len() - 1].to();
         true
+    }
+
+    /// Puts a range among those of a block, and says whether that was done: it is where nobody else has the node's list
+    /// of blocks, nor that block's of ranges.
+    pub fn insert(
+        &mut self,
+        block: usize,
+        place: usize,
+        range: (u64, u64),
+    ) -> Result<bool, AllocError>
+        requires { HasGap self.old block place range }
+        ensures put { IfOk result (λ done. OnTrue done (self.new ≡ inserted self.old block place range)) }
+        ensures same { IfOk result (λ done. OnFalse done (self.new ≡ self.old)) }
+        ensures unchanged { OnErr result (self.new ≡ self.old) }
+    {
+        let Some(blocks) = Arc::get_mut(&mut self.blocks) else {
+            return Ok(false);
+        };
+        if !blocks[block].insert(place, range)? {
+            return Ok(false);
+        }
+        self.size += range.1 - range.0;
+        self.count += 1;
+        self.from = blocks[0].from();
+        self.to = blocks[blocks.len() - 1].to();
+        Ok(true)
     }
 
     /// The same node once more.

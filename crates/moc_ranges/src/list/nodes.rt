@@ -6,7 +6,7 @@ ghost use Rattle.moc_ranges.specs.RangeList.{IsNormal};
 ghost use Rattle.moc_ranges.specs.Private.Blocks.{joining, moved, width_of, AreStored, IsCountBegun, IsStored};
 ghost use Rattle.moc_ranges.specs.Private.Added.{with_second, HasGrown};
 
-use crate::list::added::{Renewed, Spot, put_one, put_two, renew, spot_of};
+use crate::list::added::{Gap, Renewed, Spot, gap_of, put_one, put_two, renew, spot_of};
 use crate::list::block::Block;
 use crate::list::node::{Node, share_nodes};
 use std::alloc::{AllocError, Global};
@@ -173,6 +173,28 @@ impl Nodes {
         None
     }
 
+    /// Adds a range to the list of its block, in a gap of that, and tells how many numbers are new. None where somebody
+    /// else has that list, or that of the node's blocks, too, or there is no such gap; the nodes then are as they were.
+    fn insert_in_gap(&mut self, from: u64, to: u64) -> Result<Option<u64>, AllocError>
+        requires stored { IsStored [] self.old }
+        requires filled { from < to }
+        requires within { to ≤ pixel_count }
+        ensures stored { IsStored [] self.new }
+        ensures inserted { IfOk result (λ n. MatchOption n (self.new ≡ self.old) (λ n.
+            HasGrown from to (joining (joining self.old)) (joining (joining self.new)) n)) }
+        ensures unchanged { OnErr result (self.new ≡ self.old) }
+    {
+        let Some(Gap { node, block, place }) = gap_of(&self.nodes, from, to) else {
+            return Ok(None);
+        };
+        if !self.nodes[node].insert(block, place, (from, to))? {
+            return Ok(None);
+        }
+        self.size += to - from;
+        self.count += 1;
+        Ok(Some(to - from))
+    }
+
     /// Adds a range by one new block, in the list of blocks that its node has, and tells how many numbers are new. None
     /// where somebody else has that list, too, or one block does not do; the nodes then are as they were.
     fn insert_in_place(
@@ -296,6 +318,9 @@ impl Nodes {
             HasGrown from to (joining (joining self.old)) (joining (joining self.new)) n)) }
         ensures unchanged { OnErr result (self.new ≡ self.old) }
     {
+        if let Some(added) = self.insert_in_gap(from, to)? {
+            return Ok(Some(added));
+        }
         if let Some(added) = self.insert_in_place(alloc, from, to)? {
             return Ok(Some(added));
         }
