@@ -62,8 +62,8 @@ pub record IsGrown (from to : ℕ) (before behind node left : List (List (ℕ ×
   pub regrown : IsRegrown from to before behind node (left ++ (pieces first second ++ right)) added
 
 -- a block at a place in the node at another took in a range, and has these ranges now
-pub record IsSpot (from to : ℕ) (nodes : List (List (List (ℕ × ℕ)))) (node block : ℕ) (ranges : List (ℕ × ℕ)) (added : ℕ)
-    : Type 0 where
+pub record IsSpot (from to : ℕ) (nodes : List (List (List (ℕ × ℕ)))) (node block : ℕ) (ranges : List (ℕ × ℕ))
+    (added : ℕ) : Type 0 where
   pub before : List (List (List (ℕ × ℕ)))
   pub old : List (List (ℕ × ℕ))
   pub behind : List (List (List (ℕ × ℕ)))

@@ -322,7 +322,8 @@ fn node_of(alloc: Global, blocks: Vec<Block>) -> Result<Option<Node>, AllocError
     requires normal { IsNormal (joining blocks.items) }
     requires sized { AreBlocks blocks.items }
     requires fits { length blocks.items ≤ WIDEST }
-    ensures { IfOk result (λ n. MatchOption n (blocks.items ≡ []) (λ n. (n ≡ blocks.items) × (0 < length blocks.items))) }
+    ensures { IfOk result (λ n. MatchOption n (blocks.items ≡ [])
+        (λ n. (n ≡ blocks.items) × (0 < length blocks.items))) }
 {
     if blocks.is_empty() {
         return Ok(None);
