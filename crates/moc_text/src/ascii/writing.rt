@@ -21,7 +21,7 @@ use std::alloc::{AllocError, Global};
 use std::str::from_utf8_unchecked;
 
 /// For how many bytes a range of the set room is made in a text at first: about what the cells of most take.
-pub const ROOM: usize = 16;
+pub const ROOM: usize = 20;
 
 /// How many bytes a run takes at most, with a space before it.
 const RUN_LEN: usize = 42;

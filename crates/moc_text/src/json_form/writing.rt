@@ -29,6 +29,7 @@ const ORDERS: &[u8] = &[
 ];
 
 /// Writes the numbers of the cells from the first up to, not including, the end.
+#[inline(always)]
 fn write_row(json: &mut Writer, first: u64, end: u64) -> Result<(), AllocError>
     ensures before { json.new.before ≡ json.old.before }
     ensures tokens { OnOk result ((k : ℕ) (rest : List CellNumber) →
@@ -121,16 +122,13 @@ fn write_orders(
     json.end_object()
 }
 
-/// The text of what was written.
+/// The text of what was written, which is UTF-8: that is proved, and not looked at again.
 fn text_of(json: Writer) -> String
     requires { json.before ≡ [] }
     ensures text { string_bytes result ≡ print json.tokens }
     ensures tokens { tokens (string_bytes result) ≡ json.tokens }
 {
-    match String::from_utf8(json.into_inner()) {
-        Ok(text) => text,
-        Err(_) => unreachable!(),
-    }
+    unsafe { String::from_utf8_unchecked(json.into_inner()) }
 }
 
 /// The object of the cells of a set, whose orders are given, and of an order without cells.
