@@ -12,7 +12,7 @@ use Rattle.moc_ranges.specs.RangeList.{IsNormal, in_ranges}
 use Rattle.moc_ranges.specs.Private.Blocks.{next_of}
 use Rattle.moc_ranges.specs.Private.Built.{CanCarry, EndsBelow}
 use Rattle.moc_ranges.specs.Private.Differing.{differs, IsDiffering}
-use Rattle.moc_ranges.specs.Private.Crossing.{bounds_of, is_odd_at, Rises, open_of, restored_of, IsCrossing, IsCrossed}
+use Rattle.moc_ranges.specs.Private.Crossing.{bounds_of, is_odd_at, Rises, open_of, restored_of, AreBounds, IsCrossed}
 use Rattle.moc_ranges.specs.Private.Walks.{begun}
 use Rattle.moc_ranges.proofs.Walking.{later_only}
 use Rattle.moc_ranges.proofs.Blocking.{IsNormal-prefix, IsNormal-suffix, nothing_more}
@@ -107,7 +107,7 @@ odd_in (r ∷ rs) q n =
 
 -- ---- a bound is passed
 
-pub crossing_swap : (kept xs ys : List ℕ) (wx wy : List (ℕ × ℕ)) → IsCrossing kept xs ys wx wy → IsCrossing kept ys xs wy wx
+pub crossing_swap : (kept xs ys : List ℕ) (wx wy : List (ℕ × ℕ)) → AreBounds kept xs ys wx wy → AreBounds kept ys xs wy wx
 crossing_swap kept xs ys wx wy s = record {
   first = s.second;
   second = s.first;
@@ -115,14 +115,14 @@ crossing_swap kept xs ys wx wy s = record {
       ∙ ap (λ b. differs b (is_odd_at ys q)) (sym (odd-append kept xs q)) ∙ s.same q ∙ differs_swap (in_ranges wx q) (in_ranges wy q);
 }
 
-crossing_first : (kept xs ys : List ℕ) (wx wy : List (ℕ × ℕ)) (a b : ℕ) → IsCrossing kept (a ∷ xs) (b ∷ ys) wx wy → a < b → IsCrossing (kept ++ a ∷ []) xs (b ∷ ys) wx wy
+crossing_first : (kept xs ys : List ℕ) (wx wy : List (ℕ × ℕ)) (a b : ℕ) → AreBounds kept (a ∷ xs) (b ∷ ys) wx wy → a < b → AreBounds (kept ++ a ∷ []) xs (b ∷ ys) wx wy
 crossing_first kept xs ys wx wy a b s lt = record {
   first = subst (λ l. Rises 0 l) (sym (append_assoc kept (a ∷ []) xs)) s.first;
   second = subst (λ l. Rises 0 l) (sym (append_assoc kept (a ∷ []) (b ∷ ys))) (rises_meet kept xs ys a b 0 s.first s.second lt);
   same = λ q. ap (λ (l : List ℕ). differs (is_odd_at l q) (is_odd_at (b ∷ ys) q)) (append_assoc kept (a ∷ []) xs) ∙ s.same q;
 }
 
-crossing_both : (kept xs ys : List ℕ) (wx wy : List (ℕ × ℕ)) (a b : ℕ) → IsCrossing kept (a ∷ xs) (b ∷ ys) wx wy → a ≡ b → IsCrossing kept xs ys wx wy
+crossing_both : (kept xs ys : List ℕ) (wx wy : List (ℕ × ℕ)) (a b : ℕ) → AreBounds kept (a ∷ xs) (b ∷ ys) wx wy → a ≡ b → AreBounds kept xs ys wx wy
 crossing_both kept xs ys wx wy a b s is = record {
   first = rises_drop kept xs a 0 s.first;
   second = rises_drop kept ys b 0 s.second;
@@ -158,28 +158,28 @@ keeps_one kept out made made' value room is =
 ahead : (xs behind : List ℕ) (i : ℕ) → i < length xs → drop i xs ++ behind ≡ get_or xs i 0 ∷ (drop (suc i) xs ++ behind)
 ahead xs behind i lt = ap (λ l. l ++ behind) (drop-cons xs i 0 lt)
 
-less_on : (kept xs ys bx by out : List ℕ) (wx wy : List (ℕ × ℕ)) (made made' i i' j value : ℕ) → IsCrossing (kept ++ take made out) (drop i xs ++ bx) (drop j ys ++ by) wx wy
+less_on : (kept xs ys bx by out : List ℕ) (wx wy : List (ℕ × ℕ)) (made made' i i' j value : ℕ) → AreBounds (kept ++ take made out) (drop i xs ++ bx) (drop j ys ++ by) wx wy
     → i < length xs → j < length ys → made < length out → get_or xs i 0 < get_or ys j 0 → value ≡ get_or xs i 0 → made' ≡ made + 1 → i' ≡ suc i
-    → IsCrossing (kept ++ take made' (slice_set out made value)) (drop i' xs ++ bx) (drop j ys ++ by) wx wy
+    → AreBounds (kept ++ take made' (slice_set out made value)) (drop i' xs ++ bx) (drop j ys ++ by) wx wy
 less_on kept xs ys bx by out wx wy made made' i i' j value s hx hy room lt is one next =
     let there = ahead ys by j hy in
-    let begun = subst (λ l. IsCrossing (kept ++ take made out) l (get_or ys j 0 ∷ (drop (suc j) ys ++ by)) wx wy) (ahead xs bx i hx) (subst (λ l. IsCrossing (kept ++ take made out) (drop i xs ++ bx) l wx wy) there s) in
+    let begun = subst (λ l. AreBounds (kept ++ take made out) l (get_or ys j 0 ∷ (drop (suc j) ys ++ by)) wx wy) (ahead xs bx i hx) (subst (λ l. AreBounds (kept ++ take made out) (drop i xs ++ bx) l wx wy) there s) in
     let on = crossing_first (kept ++ take made out) (drop (suc i) xs ++ bx) (drop (suc j) ys ++ by) wx wy (get_or xs i 0) (get_or ys j 0) begun lt in
     let kept' : (kept ++ take made out) ++ get_or xs i 0 ∷ [] ≡ kept ++ take made' (slice_set out made value) = ap (λ v. (kept ++ take made out) ++ v ∷ []) (sym is) ∙ sym (keeps_one kept out made made' value room one) in
-    subst (λ n. IsCrossing (kept ++ take made' (slice_set out made value)) (drop n xs ++ bx) (drop j ys ++ by) wx wy) (sym next)
-    (subst (λ l. IsCrossing (kept ++ take made' (slice_set out made value)) (drop (suc i) xs ++ bx) l wx wy) (sym there)
-    (subst (λ l. IsCrossing l (drop (suc i) xs ++ bx) (get_or ys j 0 ∷ (drop (suc j) ys ++ by)) wx wy) kept' on))
+    subst (λ n. AreBounds (kept ++ take made' (slice_set out made value)) (drop n xs ++ bx) (drop j ys ++ by) wx wy) (sym next)
+    (subst (λ l. AreBounds (kept ++ take made' (slice_set out made value)) (drop (suc i) xs ++ bx) l wx wy) (sym there)
+    (subst (λ l. AreBounds l (drop (suc i) xs ++ bx) (get_or ys j 0 ∷ (drop (suc j) ys ++ by)) wx wy) kept' on))
 
-both_on : (kept xs ys bx by out : List ℕ) (wx wy : List (ℕ × ℕ)) (made made' i i' j j' value : ℕ) → IsCrossing (kept ++ take made out) (drop i xs ++ bx) (drop j ys ++ by) wx wy
+both_on : (kept xs ys bx by out : List ℕ) (wx wy : List (ℕ × ℕ)) (made made' i i' j j' value : ℕ) → AreBounds (kept ++ take made out) (drop i xs ++ bx) (drop j ys ++ by) wx wy
     → i < length xs → j < length ys → get_or xs i 0 ≡ get_or ys j 0 → made' ≡ made → i' ≡ suc i → j' ≡ suc j
-    → IsCrossing (kept ++ take made' (slice_set out made value)) (drop i' xs ++ bx) (drop j' ys ++ by) wx wy
+    → AreBounds (kept ++ take made' (slice_set out made value)) (drop i' xs ++ bx) (drop j' ys ++ by) wx wy
 both_on kept xs ys bx by out wx wy made made' i i' j j' value s hx hy eq none next next' =
-    let begun = subst (λ l. IsCrossing (kept ++ take made out) l (get_or ys j 0 ∷ (drop (suc j) ys ++ by)) wx wy) (ahead xs bx i hx) (subst (λ l. IsCrossing (kept ++ take made out) (drop i xs ++ bx) l wx wy) (ahead ys by j hy) s) in
+    let begun = subst (λ l. AreBounds (kept ++ take made out) l (get_or ys j 0 ∷ (drop (suc j) ys ++ by)) wx wy) (ahead xs bx i hx) (subst (λ l. AreBounds (kept ++ take made out) (drop i xs ++ bx) l wx wy) (ahead ys by j hy) s) in
     let on = crossing_both (kept ++ take made out) (drop (suc i) xs ++ bx) (drop (suc j) ys ++ by) wx wy (get_or xs i 0) (get_or ys j 0) begun eq in
     let same : kept ++ take made out ≡ kept ++ take made' (slice_set out made value) = ap (λ l. kept ++ l) (sym (ap (λ n. take n (slice_set out made value)) none ∙ take-set out made value)) in
-    subst (λ n. IsCrossing (kept ++ take made' (slice_set out made value)) (drop n xs ++ bx) (drop j' ys ++ by) wx wy) (sym next)
-    (subst (λ n. IsCrossing (kept ++ take made' (slice_set out made value)) (drop (suc i) xs ++ bx) (drop n ys ++ by) wx wy) (sym next')
-    (subst (λ l. IsCrossing l (drop (suc i) xs ++ bx) (drop (suc j) ys ++ by) wx wy) same on))
+    subst (λ n. AreBounds (kept ++ take made' (slice_set out made value)) (drop n xs ++ bx) (drop j' ys ++ by) wx wy) (sym next)
+    (subst (λ n. AreBounds (kept ++ take made' (slice_set out made value)) (drop (suc i) xs ++ bx) (drop n ys ++ by) wx wy) (sym next')
+    (subst (λ l. AreBounds l (drop (suc i) xs ++ bx) (drop (suc j) ys ++ by) wx wy) same on))
 
 -- how far a turn goes on: at equal bounds both sides do, and none is kept
 pub record IsStep (x y value kept first second : ℕ) : Type 0 where
@@ -206,20 +206,20 @@ step_all x y value kept first second t = elim (cases_lt x y) [
   ]
 ]
 
-pub crossed_on : (kept xs ys bx by out : List ℕ) (wx wy : List (ℕ × ℕ)) (made i j value k n m : ℕ) → IsCrossing (kept ++ take made out) (drop i xs ++ bx) (drop j ys ++ by) wx wy
+pub crossed_on : (kept xs ys bx by out : List ℕ) (wx wy : List (ℕ × ℕ)) (made i j value k n m : ℕ) → AreBounds (kept ++ take made out) (drop i xs ++ bx) (drop j ys ++ by) wx wy
     → i < length xs → j < length ys → made < length out → IsStep (get_or xs i 0) (get_or ys j 0) value k n m
-    → IsCrossing (kept ++ take (made + k) (slice_set out made value)) (drop (i + n) xs ++ bx) (drop (j + m) ys ++ by) wx wy
+    → AreBounds (kept ++ take (made + k) (slice_set out made value)) (drop (i + n) xs ++ bx) (drop (j + m) ys ++ by) wx wy
 crossed_on kept xs ys bx by out wx wy made i j value k n m s hx hy room t = elim (cases_lt (get_or xs i 0) (get_or ys j 0)) [
   | inl lt ↦
       let f = t.less lt in
       let at : j ≡ j + m = omega (arith, f.2) in
-      subst (λ p. IsCrossing (kept ++ take (made + k) (slice_set out made value)) (drop (i + n) xs ++ bx) (drop p ys ++ by) wx wy) at
+      subst (λ p. AreBounds (kept ++ take (made + k) (slice_set out made value)) (drop (i + n) xs ++ bx) (drop p ys ++ by) wx wy) at
       (less_on kept xs ys bx by out wx wy made (made + k) i (i + n) j value s hx hy room lt (omega (arith, t.least)) (omega (arith, f.0)) (omega (arith, f.1)))
   | inr ge ↦ elim (cases_lt (get_or ys j 0) (get_or xs i 0)) [
     | inl gt ↦
         let f = t.more gt in
         let at : i ≡ i + n = omega (arith, f.1) in
-        subst (λ p. IsCrossing (kept ++ take (made + k) (slice_set out made value)) (drop p xs ++ bx) (drop (j + m) ys ++ by) wx wy) at
+        subst (λ p. AreBounds (kept ++ take (made + k) (slice_set out made value)) (drop p xs ++ bx) (drop (j + m) ys ++ by) wx wy) at
         (crossing_swap _ _ _ _ _ (less_on kept ys xs by bx out wy wx made (made + k) j (j + m) i value (crossing_swap _ _ _ _ _ s) hy hx room gt (omega (arith, t.least)) (omega (arith, f.0)) (omega (arith, f.2))))
     | inr le ↦
         let eq : get_or xs i 0 ≡ get_or ys j 0 = omega arith in
@@ -275,7 +275,6 @@ crossing_of kept xs ys wx wy s =
             ∙ differs_gone kept xs ys q s.second_normal before_ys ∙ s.same q;
       };
       one = refl;
-      most = omega arith;
       first_some = omega arith;
       second_some = omega arith;
       first_normal = s.first_normal;
@@ -303,7 +302,6 @@ pub crossed_swap : (kept : List (ℕ × ℕ)) (bound : Option ℕ) (i j : ℕ) (
 crossed_swap kept bound i j xs ys wx wy s = record {
   crossing = crossing_swap _ _ _ wx wy s.crossing;
   one = omega (arith, s.one);
-  most = omega (arith, s.most);
   first_some = s.second_some;
   second_some = s.first_some;
   first_normal = s.second_normal;
@@ -325,7 +323,6 @@ restored_first kept b x xs ys wx wy s =
         same = λ q. ap (λ (l : List ℕ). differs (is_odd_at l q) (is_odd_at (bounds_of ys) q)) (sym one) ∙ s.crossing.same q;
       };
       one = refl;
-      most = omega arith;
       first_some = omega arith;
       second_some = omega arith;
       first_normal = IsNormal-suffix kept ((b, x.1) ∷ xs) whole;
@@ -407,8 +404,8 @@ normal_next xs ranges behind n is normal =
 -- what a kernel does to the bounds of two blocks, whatever is behind them
 abbrev pub Crosses : Option ℕ → ℕ → ℕ → ℕ → ℕ → List (ℕ × ℕ) → List (ℕ × ℕ) → List ℕ → Type 0
 Crosses bound i j f g xs ys made = (kept behind_xs behind_ys : List ℕ) (whole_xs whole_ys : List (ℕ × ℕ))
-    → IsCrossing (kept ++ open_of bound) (drop i (bounds_of xs) ++ behind_xs) (drop j (bounds_of ys) ++ behind_ys) whole_xs whole_ys
-    → IsCrossing (kept ++ made) (drop f (bounds_of xs) ++ behind_xs) (drop g (bounds_of ys) ++ behind_ys) whole_xs whole_ys
+    → AreBounds (kept ++ open_of bound) (drop i (bounds_of xs) ++ behind_xs) (drop j (bounds_of ys) ++ behind_ys) whole_xs whole_ys
+    → AreBounds (kept ++ made) (drop f (bounds_of xs) ++ behind_xs) (drop g (bounds_of ys) ++ behind_ys) whole_xs whole_ys
 
 -- a list whose next block has some leading ranges
 pub record HasFront (xs ranges front behind : List (ℕ × ℕ)) : Type 0 where
@@ -419,20 +416,20 @@ pub record HasFront (xs ranges front behind : List (ℕ × ℕ)) : Type 0 where
 within_front : {xs ranges front behind : List (ℕ × ℕ)} → HasFront xs ranges front behind → length front ≤ length ranges
 within_front {ranges = ranges} {front = front} h = omega (arith, ap length h.leads, length-take (length front) ranges)
 
-pub kernel_crossing : (kept : List (ℕ × ℕ)) (bound : Option ℕ) (i j f g : ℕ) (xs ys rx ry fx fy bx by wx wy : List (ℕ × ℕ)) (made : List ℕ)
-    → IsCrossed kept bound i j xs ys wx wy → HasFront xs rx fx bx → HasFront ys ry fy by → Crosses bound i j f g fx fy made
-    → IsCrossing (bounds_of kept ++ made) (drop f (bounds_of fx) ++ bounds_of (drop (length fx) rx ++ bx)) (drop g (bounds_of fy) ++ bounds_of (drop (length fy) ry ++ by)) wx wy
-kernel_crossing kept bound i j f g xs ys rx ry fx fy bx by wx wy made s hx hy on =
-    on (bounds_of kept) (bounds_of (drop (length fx) rx ++ bx)) (bounds_of (drop (length fy) ry ++ by)) wx wy
-    (subst (λ l. IsCrossing (bounds_of kept ++ open_of bound) l (drop j (bounds_of fy) ++ bounds_of (drop (length fy) ry ++ by)) wx wy) (front_of xs rx fx bx i hx.parts hx.leads hx.some (omega (arith, s.most)))
-    (subst (λ l. IsCrossing (bounds_of kept ++ open_of bound) (drop i (bounds_of xs)) l wx wy) (front_of ys ry fy by j hy.parts hy.leads hy.some (omega (arith, s.most))) s.crossing))
-
-pub kernel_rises : (kept : List (ℕ × ℕ)) (xs ys made : List ℕ) (wx wy : List (ℕ × ℕ)) → IsCrossing (bounds_of kept ++ made) xs ys wx wy → Rises 0 (bounds_of kept ++ made)
-kernel_rises kept xs ys made wx wy s = rises_front (bounds_of kept ++ made) xs 0 s.first
-
 open_most : (bound : Option ℕ) → length (open_of bound) ≤ 1
 open_most None = omega arith
 open_most (Some b) = omega arith
+
+pub kernel_crossing : (kept : List (ℕ × ℕ)) (bound : Option ℕ) (i j f g : ℕ) (xs ys rx ry fx fy bx by wx wy : List (ℕ × ℕ)) (made : List ℕ)
+    → IsCrossed kept bound i j xs ys wx wy → HasFront xs rx fx bx → HasFront ys ry fy by → Crosses bound i j f g fx fy made
+    → AreBounds (bounds_of kept ++ made) (drop f (bounds_of fx) ++ bounds_of (drop (length fx) rx ++ bx)) (drop g (bounds_of fy) ++ bounds_of (drop (length fy) ry ++ by)) wx wy
+kernel_crossing kept bound i j f g xs ys rx ry fx fy bx by wx wy made s hx hy on =
+    on (bounds_of kept) (bounds_of (drop (length fx) rx ++ bx)) (bounds_of (drop (length fy) ry ++ by)) wx wy
+    (subst (λ l. AreBounds (bounds_of kept ++ open_of bound) l (drop j (bounds_of fy) ++ bounds_of (drop (length fy) ry ++ by)) wx wy) (front_of xs rx fx bx i hx.parts hx.leads hx.some (omega (arith, s.one, open_most bound)))
+    (subst (λ l. AreBounds (bounds_of kept ++ open_of bound) (drop i (bounds_of xs)) l wx wy) (front_of ys ry fy by j hy.parts hy.leads hy.some (omega (arith, s.one, open_most bound))) s.crossing))
+
+pub kernel_rises : (kept : List (ℕ × ℕ)) (xs ys made : List ℕ) (wx wy : List (ℕ × ℕ)) → AreBounds (bounds_of kept ++ made) xs ys wx wy → Rises 0 (bounds_of kept ++ made)
+kernel_rises kept xs ys made wx wy s = rises_front (bounds_of kept ++ made) xs 0 s.first
 
 -- the numbers of bounds that were passed and kept
 parity : (f g made n a b k k' o : ℕ) → (f ≡ 2 * a) ⊎ (g ≡ 2 * b) → f + g ≡ made + 2 * n → o ≤ 1 → 2 * k' + o ≡ 2 * k + made → (o ≡ f % 2 + g % 2) × (f % 2 + g % 2 ≤ 1)
@@ -452,11 +449,10 @@ crossed_next kept kept' bound bound' i j f g n xs ys xs' ys' rx ry fx fy bx by w
     omega (arith, ap length is, length-append (bounds_of kept') (open_of bound'), length-append (bounds_of kept) made, bounds_twice kept, bounds_twice kept') in
     let odd = parity f g (length made) n (length fx) (length fy) (length kept) (length kept') (length (open_of bound')) ended even (open_most bound') total in
     record {
-      crossing = subst (λ l. IsCrossing l (drop (f % 2) (bounds_of xs')) (drop (g % 2) (bounds_of ys')) wx wy) (sym is)
-          (subst (λ l. IsCrossing (bounds_of kept ++ made) l (drop (g % 2) (bounds_of ys')) wx wy) rest_x
-          (subst (λ l. IsCrossing (bounds_of kept ++ made) (drop f (bounds_of fx) ++ bounds_of (drop (length fx) rx ++ bx)) l wx wy) rest_y crossing));
+      crossing = subst (λ l. AreBounds l (drop (f % 2) (bounds_of xs')) (drop (g % 2) (bounds_of ys')) wx wy) (sym is)
+          (subst (λ l. AreBounds (bounds_of kept ++ made) l (drop (g % 2) (bounds_of ys')) wx wy) rest_x
+          (subst (λ l. AreBounds (bounds_of kept ++ made) (drop f (bounds_of fx) ++ bounds_of (drop (length fx) rx ++ bx)) l wx wy) rest_y crossing));
       one = odd.0;
-      most = odd.1;
       first_some = omega (arith, ap length ex, length-append (drop (f / 2) rx) bx, length-drop (f / 2) rx, within_front hx, fits_x);
       second_some = omega (arith, ap length ey, length-append (drop (g / 2) ry) by, length-drop (g / 2) ry, within_front hy, fits_y);
       first_normal = subst IsNormal (sym ex) (normal_next xs rx bx (f / 2) hx.parts s.first_normal);

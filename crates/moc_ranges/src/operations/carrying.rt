@@ -1,9 +1,10 @@
-//! Whole nodes and blocks of a list, carried over to what is built.
+//! What is put behind what is built: whole nodes and blocks of a list, carried over, and parts of ranges.
 ghost use Rattle.std.specs.Bool.{OnTrue};
-ghost use Rattle.std.specs.Prelude.{◌+◌, ◌<◌, ◌≤◌, length, max, IfOk, OnOk};
+ghost use Rattle.std.specs.Prelude.{◌≡◌, ◌+◌, ◌<◌, ◌≤◌, List, ℕ, length, max, IfOk, OnOk};
+ghost use Rattle.moc_ranges.specs.Pixels.{pixel_count};
 ghost use Rattle.moc_ranges.specs.RangeList.{IsNormal};
 ghost use Rattle.moc_ranges.specs.Private.Blocks.{next_of};
-ghost use Rattle.moc_ranges.specs.Private.Built.{ranges_of, CanCarry, Carries, EndsBelow, TakesCommon};
+ghost use Rattle.moc_ranges.specs.Private.Built.{ranges_of, AddsPart, CanCarry, Carries, EndsBelow, TakesCommon};
 ghost use Rattle.moc_ranges.specs.Private.Meeting.{LeavesOut};
 ghost use Rattle.moc_ranges.specs.Private.Walks.{begun};
 
@@ -62,6 +63,37 @@ pub fn next_carrying(
 {
     carry_below(alloc, xs, limit, built)?;
     Ok(xs.next())
+}
+
+/// Adds a range, where it is not empty, behind what is built.
+#[inline]
+pub fn push_part(
+    alloc: Global,
+    from: u64,
+    to: u64,
+    built: &mut ListBuilder,
+) -> Result<(), AllocError>
+    requires built { IsNormal (ranges_of built.old) }
+    requires within { to ≤ pixel_count }
+    requires after { EndsBelow from (ranges_of built.old) }
+    ensures { OnOk result (AddsPart from to (ranges_of built.old) (ranges_of built.new)) }
+{
+    if to <= from {
+        return Ok(());
+    }
+    built.push(alloc, from, to)?;
+    Ok(())
+}
+
+/// Where a range begins, or the largest number where there is none.
+#[inline]
+pub fn start_of(range: Option<(u64, u64)>) -> u64
+    ensures { (rest : List (ℕ × ℕ)) → result ≡ next_of (begun range rest) }
+{
+    match range {
+        Some((from, _)) => from,
+        None => u64::MAX,
+    }
 }
 
 /// Leaves out the next ranges of a begun block that end below a limit, where the one that stands `reach` ahead does,

@@ -2,54 +2,20 @@
 ghost use Rattle.std.specs.FinSet as set;
 ghost use Rattle.std.specs.Bool.{OnTrue, OnFalse};
 ghost use Rattle.std.specs.Prelude.{◌≡◌, ◌+◌, ◌<◌, ◌≤◌, ◌||◌, ◌&&◌, ◌⊎◌, max, [], length, List, ℕ, IfOk, OnOk};
-ghost use Rattle.moc_ranges.specs.Private.Blocks.{next_of};
-ghost use Rattle.moc_ranges.specs.Private.Walks.{begun};
-ghost use Rattle.moc_ranges.specs.Pixels.{pixel_count};
 ghost use Rattle.moc_ranges.specs.RangeList.{IsNormal, set_of};
 ghost use Rattle.moc_ranges.specs.RangeList.{in_ranges};
-ghost use Rattle.moc_ranges.specs.Private.Built.{ranges_of, AddsPart, EndsBelow};
+ghost use Rattle.moc_ranges.specs.Private.Built.{ranges_of};
 ghost use Rattle.moc_ranges.specs.Private.Meeting.{gaps_of, CanMeet, LeavesOut, MeetsOn};
 
 use crate::list::RangeList;
 use crate::list::builder::ListBuilder;
 use crate::list::ranges::Ranges;
-use crate::operations::carrying::{leave_out, next_carrying, take_whole};
+use crate::operations::carrying::{leave_out, next_carrying, push_part, start_of, take_whole};
 use crate::operations::few::subtract_few;
 use crate::operations::gaps::Gaps;
 use crate::operations::meeting::{ROOM, meet_begun};
 use crate::operations::reach::{FAR, NEAR, are_even};
 use std::alloc::{AllocError, Global};
-
-/// Adds a range, where it is not empty, behind what is built.
-#[inline]
-pub fn push_part(
-    alloc: Global,
-    from: u64,
-    to: u64,
-    built: &mut ListBuilder,
-) -> Result<(), AllocError>
-    requires built { IsNormal (ranges_of built.old) }
-    requires within { to ≤ pixel_count }
-    requires after { EndsBelow from (ranges_of built.old) }
-    ensures { OnOk result (AddsPart from to (ranges_of built.old) (ranges_of built.new)) }
-{
-    if to <= from {
-        return Ok(());
-    }
-    built.push(alloc, from, to)?;
-    Ok(())
-}
-
-/// Where a range begins, or the largest number where there is none.
-#[inline]
-pub fn start_of(range: Option<(u64, u64)>) -> u64
-    ensures { (rest : List (ℕ × ℕ)) → result ≡ next_of (begun range rest) }
-{
-    match range {
-        Some((from, _)) => from,
-        None => u64::MAX,
-    }
-}
 
 /// The pixels in the ranges of the first list that the second lacks, range by range.
 fn subtract_lists(
