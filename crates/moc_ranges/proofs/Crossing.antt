@@ -12,7 +12,7 @@ use Rattle.moc_ranges.specs.RangeList.{IsNormal, in_ranges}
 use Rattle.moc_ranges.specs.Private.Blocks.{next_of}
 use Rattle.moc_ranges.specs.Private.Built.{CanCarry, EndsBelow}
 use Rattle.moc_ranges.specs.Private.Differing.{differs, IsDiffering}
-use Rattle.moc_ranges.specs.Private.Crossing.{bounds_of, is_odd_at, Rises, open_of, restored_of, KeepsBounds, IsCrossed}
+use Rattle.moc_ranges.specs.Private.Crossing.{bounds_of, is_odd_at, Rises, open_of, restored_of, AreBounds, IsCrossed}
 use Rattle.moc_ranges.specs.Private.Walks.{begun}
 use Rattle.moc_ranges.proofs.Walking.{later_only}
 use Rattle.moc_ranges.proofs.Blocking.{IsNormal-prefix, IsNormal-suffix, nothing_more}
@@ -107,7 +107,7 @@ odd_in (r ∷ rs) q n =
 
 -- ---- a bound is passed
 
-pub crossing_swap : (kept xs ys : List ℕ) (wx wy : List (ℕ × ℕ)) → KeepsBounds kept xs ys wx wy → KeepsBounds kept ys xs wy wx
+pub crossing_swap : (kept xs ys : List ℕ) (wx wy : List (ℕ × ℕ)) → AreBounds kept xs ys wx wy → AreBounds kept ys xs wy wx
 crossing_swap kept xs ys wx wy s = record {
   first = s.second;
   second = s.first;
@@ -115,14 +115,14 @@ crossing_swap kept xs ys wx wy s = record {
       ∙ ap (λ b. differs b (is_odd_at ys q)) (sym (odd-append kept xs q)) ∙ s.same q ∙ differs_swap (in_ranges wx q) (in_ranges wy q);
 }
 
-crossing_first : (kept xs ys : List ℕ) (wx wy : List (ℕ × ℕ)) (a b : ℕ) → KeepsBounds kept (a ∷ xs) (b ∷ ys) wx wy → a < b → KeepsBounds (kept ++ a ∷ []) xs (b ∷ ys) wx wy
+crossing_first : (kept xs ys : List ℕ) (wx wy : List (ℕ × ℕ)) (a b : ℕ) → AreBounds kept (a ∷ xs) (b ∷ ys) wx wy → a < b → AreBounds (kept ++ a ∷ []) xs (b ∷ ys) wx wy
 crossing_first kept xs ys wx wy a b s lt = record {
   first = subst (λ l. Rises 0 l) (sym (append_assoc kept (a ∷ []) xs)) s.first;
   second = subst (λ l. Rises 0 l) (sym (append_assoc kept (a ∷ []) (b ∷ ys))) (rises_meet kept xs ys a b 0 s.first s.second lt);
   same = λ q. ap (λ (l : List ℕ). differs (is_odd_at l q) (is_odd_at (b ∷ ys) q)) (append_assoc kept (a ∷ []) xs) ∙ s.same q;
 }
 
-crossing_both : (kept xs ys : List ℕ) (wx wy : List (ℕ × ℕ)) (a b : ℕ) → KeepsBounds kept (a ∷ xs) (b ∷ ys) wx wy → a ≡ b → KeepsBounds kept xs ys wx wy
+crossing_both : (kept xs ys : List ℕ) (wx wy : List (ℕ × ℕ)) (a b : ℕ) → AreBounds kept (a ∷ xs) (b ∷ ys) wx wy → a ≡ b → AreBounds kept xs ys wx wy
 crossing_both kept xs ys wx wy a b s is = record {
   first = rises_drop kept xs a 0 s.first;
   second = rises_drop kept ys b 0 s.second;
@@ -158,28 +158,28 @@ keeps_one kept out made made' value room is =
 ahead : (xs behind : List ℕ) (i : ℕ) → i < length xs → drop i xs ++ behind ≡ get_or xs i 0 ∷ (drop (suc i) xs ++ behind)
 ahead xs behind i lt = ap (λ l. l ++ behind) (drop-cons xs i 0 lt)
 
-less_on : (kept xs ys bx by out : List ℕ) (wx wy : List (ℕ × ℕ)) (made made' i i' j value : ℕ) → KeepsBounds (kept ++ take made out) (drop i xs ++ bx) (drop j ys ++ by) wx wy
+less_on : (kept xs ys bx by out : List ℕ) (wx wy : List (ℕ × ℕ)) (made made' i i' j value : ℕ) → AreBounds (kept ++ take made out) (drop i xs ++ bx) (drop j ys ++ by) wx wy
     → i < length xs → j < length ys → made < length out → get_or xs i 0 < get_or ys j 0 → value ≡ get_or xs i 0 → made' ≡ made + 1 → i' ≡ suc i
-    → KeepsBounds (kept ++ take made' (slice_set out made value)) (drop i' xs ++ bx) (drop j ys ++ by) wx wy
+    → AreBounds (kept ++ take made' (slice_set out made value)) (drop i' xs ++ bx) (drop j ys ++ by) wx wy
 less_on kept xs ys bx by out wx wy made made' i i' j value s hx hy room lt is one next =
     let there = ahead ys by j hy in
-    let begun = subst (λ l. KeepsBounds (kept ++ take made out) l (get_or ys j 0 ∷ (drop (suc j) ys ++ by)) wx wy) (ahead xs bx i hx) (subst (λ l. KeepsBounds (kept ++ take made out) (drop i xs ++ bx) l wx wy) there s) in
+    let begun = subst (λ l. AreBounds (kept ++ take made out) l (get_or ys j 0 ∷ (drop (suc j) ys ++ by)) wx wy) (ahead xs bx i hx) (subst (λ l. AreBounds (kept ++ take made out) (drop i xs ++ bx) l wx wy) there s) in
     let on = crossing_first (kept ++ take made out) (drop (suc i) xs ++ bx) (drop (suc j) ys ++ by) wx wy (get_or xs i 0) (get_or ys j 0) begun lt in
     let kept' : (kept ++ take made out) ++ get_or xs i 0 ∷ [] ≡ kept ++ take made' (slice_set out made value) = ap (λ v. (kept ++ take made out) ++ v ∷ []) (sym is) ∙ sym (keeps_one kept out made made' value room one) in
-    subst (λ n. KeepsBounds (kept ++ take made' (slice_set out made value)) (drop n xs ++ bx) (drop j ys ++ by) wx wy) (sym next)
-    (subst (λ l. KeepsBounds (kept ++ take made' (slice_set out made value)) (drop (suc i) xs ++ bx) l wx wy) (sym there)
-    (subst (λ l. KeepsBounds l (drop (suc i) xs ++ bx) (get_or ys j 0 ∷ (drop (suc j) ys ++ by)) wx wy) kept' on))
+    subst (λ n. AreBounds (kept ++ take made' (slice_set out made value)) (drop n xs ++ bx) (drop j ys ++ by) wx wy) (sym next)
+    (subst (λ l. AreBounds (kept ++ take made' (slice_set out made value)) (drop (suc i) xs ++ bx) l wx wy) (sym there)
+    (subst (λ l. AreBounds l (drop (suc i) xs ++ bx) (get_or ys j 0 ∷ (drop (suc j) ys ++ by)) wx wy) kept' on))
 
-both_on : (kept xs ys bx by out : List ℕ) (wx wy : List (ℕ × ℕ)) (made made' i i' j j' value : ℕ) → KeepsBounds (kept ++ take made out) (drop i xs ++ bx) (drop j ys ++ by) wx wy
+both_on : (kept xs ys bx by out : List ℕ) (wx wy : List (ℕ × ℕ)) (made made' i i' j j' value : ℕ) → AreBounds (kept ++ take made out) (drop i xs ++ bx) (drop j ys ++ by) wx wy
     → i < length xs → j < length ys → get_or xs i 0 ≡ get_or ys j 0 → made' ≡ made → i' ≡ suc i → j' ≡ suc j
-    → KeepsBounds (kept ++ take made' (slice_set out made value)) (drop i' xs ++ bx) (drop j' ys ++ by) wx wy
+    → AreBounds (kept ++ take made' (slice_set out made value)) (drop i' xs ++ bx) (drop j' ys ++ by) wx wy
 both_on kept xs ys bx by out wx wy made made' i i' j j' value s hx hy eq none next next' =
-    let begun = subst (λ l. KeepsBounds (kept ++ take made out) l (get_or ys j 0 ∷ (drop (suc j) ys ++ by)) wx wy) (ahead xs bx i hx) (subst (λ l. KeepsBounds (kept ++ take made out) (drop i xs ++ bx) l wx wy) (ahead ys by j hy) s) in
+    let begun = subst (λ l. AreBounds (kept ++ take made out) l (get_or ys j 0 ∷ (drop (suc j) ys ++ by)) wx wy) (ahead xs bx i hx) (subst (λ l. AreBounds (kept ++ take made out) (drop i xs ++ bx) l wx wy) (ahead ys by j hy) s) in
     let on = crossing_both (kept ++ take made out) (drop (suc i) xs ++ bx) (drop (suc j) ys ++ by) wx wy (get_or xs i 0) (get_or ys j 0) begun eq in
     let same : kept ++ take made out ≡ kept ++ take made' (slice_set out made value) = ap (λ l. kept ++ l) (sym (ap (λ n. take n (slice_set out made value)) none ∙ take-set out made value)) in
-    subst (λ n. KeepsBounds (kept ++ take made' (slice_set out made value)) (drop n xs ++ bx) (drop j' ys ++ by) wx wy) (sym next)
-    (subst (λ n. KeepsBounds (kept ++ take made' (slice_set out made value)) (drop (suc i) xs ++ bx) (drop n ys ++ by) wx wy) (sym next')
-    (subst (λ l. KeepsBounds l (drop (suc i) xs ++ bx) (drop (suc j) ys ++ by) wx wy) same on))
+    subst (λ n. AreBounds (kept ++ take made' (slice_set out made value)) (drop n xs ++ bx) (drop j' ys ++ by) wx wy) (sym next)
+    (subst (λ n. AreBounds (kept ++ take made' (slice_set out made value)) (drop (suc i) xs ++ bx) (drop n ys ++ by) wx wy) (sym next')
+    (subst (λ l. AreBounds l (drop (suc i) xs ++ bx) (drop (suc j) ys ++ by) wx wy) same on))
 
 -- how far a turn goes on: at equal bounds both sides do, and none is kept
 pub record IsStep (x y value kept first second : ℕ) : Type 0 where
@@ -206,20 +206,20 @@ step_all x y value kept first second t = elim (cases_lt x y) [
   ]
 ]
 
-pub crossed_on : (kept xs ys bx by out : List ℕ) (wx wy : List (ℕ × ℕ)) (made i j value k n m : ℕ) → KeepsBounds (kept ++ take made out) (drop i xs ++ bx) (drop j ys ++ by) wx wy
+pub crossed_on : (kept xs ys bx by out : List ℕ) (wx wy : List (ℕ × ℕ)) (made i j value k n m : ℕ) → AreBounds (kept ++ take made out) (drop i xs ++ bx) (drop j ys ++ by) wx wy
     → i < length xs → j < length ys → made < length out → IsStep (get_or xs i 0) (get_or ys j 0) value k n m
-    → KeepsBounds (kept ++ take (made + k) (slice_set out made value)) (drop (i + n) xs ++ bx) (drop (j + m) ys ++ by) wx wy
+    → AreBounds (kept ++ take (made + k) (slice_set out made value)) (drop (i + n) xs ++ bx) (drop (j + m) ys ++ by) wx wy
 crossed_on kept xs ys bx by out wx wy made i j value k n m s hx hy room t = elim (cases_lt (get_or xs i 0) (get_or ys j 0)) [
   | inl lt ↦
       let f = t.less lt in
       let at : j ≡ j + m = omega (arith, f.2) in
-      subst (λ p. KeepsBounds (kept ++ take (made + k) (slice_set out made value)) (drop (i + n) xs ++ bx) (drop p ys ++ by) wx wy) at
+      subst (λ p. AreBounds (kept ++ take (made + k) (slice_set out made value)) (drop (i + n) xs ++ bx) (drop p ys ++ by) wx wy) at
       (less_on kept xs ys bx by out wx wy made (made + k) i (i + n) j value s hx hy room lt (omega (arith, t.least)) (omega (arith, f.0)) (omega (arith, f.1)))
   | inr ge ↦ elim (cases_lt (get_or ys j 0) (get_or xs i 0)) [
     | inl gt ↦
         let f = t.more gt in
         let at : i ≡ i + n = omega (arith, f.1) in
-        subst (λ p. KeepsBounds (kept ++ take (made + k) (slice_set out made value)) (drop p xs ++ bx) (drop (j + m) ys ++ by) wx wy) at
+        subst (λ p. AreBounds (kept ++ take (made + k) (slice_set out made value)) (drop p xs ++ bx) (drop (j + m) ys ++ by) wx wy) at
         (crossing_swap _ _ _ _ _ (less_on kept ys xs by bx out wy wx made (made + k) j (j + m) i value (crossing_swap _ _ _ _ _ s) hy hx room gt (omega (arith, t.least)) (omega (arith, f.0)) (omega (arith, f.2))))
     | inr le ↦
         let eq : get_or xs i 0 ≡ get_or ys j 0 = omega arith in
@@ -404,8 +404,8 @@ normal_next xs ranges behind n is normal =
 -- what a kernel does to the bounds of two blocks, whatever is behind them
 abbrev pub Crosses : Option ℕ → ℕ → ℕ → ℕ → ℕ → List (ℕ × ℕ) → List (ℕ × ℕ) → List ℕ → Type 0
 Crosses bound i j f g xs ys made = (kept behind_xs behind_ys : List ℕ) (whole_xs whole_ys : List (ℕ × ℕ))
-    → KeepsBounds (kept ++ open_of bound) (drop i (bounds_of xs) ++ behind_xs) (drop j (bounds_of ys) ++ behind_ys) whole_xs whole_ys
-    → KeepsBounds (kept ++ made) (drop f (bounds_of xs) ++ behind_xs) (drop g (bounds_of ys) ++ behind_ys) whole_xs whole_ys
+    → AreBounds (kept ++ open_of bound) (drop i (bounds_of xs) ++ behind_xs) (drop j (bounds_of ys) ++ behind_ys) whole_xs whole_ys
+    → AreBounds (kept ++ made) (drop f (bounds_of xs) ++ behind_xs) (drop g (bounds_of ys) ++ behind_ys) whole_xs whole_ys
 
 -- a list whose next block has some leading ranges
 pub record HasFront (xs ranges front behind : List (ℕ × ℕ)) : Type 0 where
@@ -422,19 +422,19 @@ open_most (Some b) = omega arith
 
 pub kernel_crossing : (kept : List (ℕ × ℕ)) (bound : Option ℕ) (i j f g : ℕ) (xs ys rx ry fx fy bx by wx wy : List (ℕ × ℕ)) (made : List ℕ)
     → IsCrossed kept bound i j xs ys wx wy → HasFront xs rx fx bx → HasFront ys ry fy by → Crosses bound i j f g fx fy made
-    → KeepsBounds (bounds_of kept ++ made) (drop f (bounds_of fx) ++ bounds_of (drop (length fx) rx ++ bx)) (drop g (bounds_of fy) ++ bounds_of (drop (length fy) ry ++ by)) wx wy
+    → AreBounds (bounds_of kept ++ made) (drop f (bounds_of fx) ++ bounds_of (drop (length fx) rx ++ bx)) (drop g (bounds_of fy) ++ bounds_of (drop (length fy) ry ++ by)) wx wy
 kernel_crossing kept bound i j f g xs ys rx ry fx fy bx by wx wy made s hx hy on =
     on (bounds_of kept) (bounds_of (drop (length fx) rx ++ bx)) (bounds_of (drop (length fy) ry ++ by)) wx wy
-    (subst (λ l. KeepsBounds (bounds_of kept ++ open_of bound) l (drop j (bounds_of fy) ++ bounds_of (drop (length fy) ry ++ by)) wx wy) (front_of xs rx fx bx i hx.parts hx.leads hx.some (omega (arith, s.one, open_most bound)))
-    (subst (λ l. KeepsBounds (bounds_of kept ++ open_of bound) (drop i (bounds_of xs)) l wx wy) (front_of ys ry fy by j hy.parts hy.leads hy.some (omega (arith, s.one, open_most bound))) s.crossing))
+    (subst (λ l. AreBounds (bounds_of kept ++ open_of bound) l (drop j (bounds_of fy) ++ bounds_of (drop (length fy) ry ++ by)) wx wy) (front_of xs rx fx bx i hx.parts hx.leads hx.some (omega (arith, s.one, open_most bound)))
+    (subst (λ l. AreBounds (bounds_of kept ++ open_of bound) (drop i (bounds_of xs)) l wx wy) (front_of ys ry fy by j hy.parts hy.leads hy.some (omega (arith, s.one, open_most bound))) s.crossing))
 
-pub kernel_rises : (kept : List (ℕ × ℕ)) (xs ys made : List ℕ) (wx wy : List (ℕ × ℕ)) → KeepsBounds (bounds_of kept ++ made) xs ys wx wy → Rises 0 (bounds_of kept ++ made)
+pub kernel_rises : (kept : List (ℕ × ℕ)) (xs ys made : List ℕ) (wx wy : List (ℕ × ℕ)) → AreBounds (bounds_of kept ++ made) xs ys wx wy → Rises 0 (bounds_of kept ++ made)
 kernel_rises kept xs ys made wx wy s = rises_front (bounds_of kept ++ made) xs 0 s.first
 
 -- the numbers of bounds that were passed and kept
-parity : (f g made n a b k k' o : ℕ) → (f ≡ 2 * a) ⊎ (g ≡ 2 * b) → f + g ≡ made + 2 * n → o ≤ 1 → 2 * k' + o ≡ 2 * k + made → o ≡ f % 2 + g % 2
-parity f g made n a b k k' o (inl first) even most total = omega arith
-parity f g made n a b k k' o (inr second) even most total = omega arith
+parity : (f g made n a b k k' o : ℕ) → (f ≡ 2 * a) ⊎ (g ≡ 2 * b) → f + g ≡ made + 2 * n → o ≤ 1 → 2 * k' + o ≡ 2 * k + made → (o ≡ f % 2 + g % 2) × (f % 2 + g % 2 ≤ 1)
+parity f g made n a b k k' o (inl first) even most total = (omega arith, omega arith)
+parity f g made n a b k k' o (inr second) even most total = (omega arith, omega arith)
 
 pub crossed_next : (kept kept' : List (ℕ × ℕ)) (bound bound' : Option ℕ) (i j f g n : ℕ) (xs ys xs' ys' rx ry fx fy bx by wx wy : List (ℕ × ℕ)) (made : List ℕ)
     → IsCrossed kept bound i j xs ys wx wy → HasFront xs rx fx bx → HasFront ys ry fy by → Crosses bound i j f g fx fy made
@@ -449,10 +449,10 @@ crossed_next kept kept' bound bound' i j f g n xs ys xs' ys' rx ry fx fy bx by w
     omega (arith, ap length is, length-append (bounds_of kept') (open_of bound'), length-append (bounds_of kept) made, bounds_twice kept, bounds_twice kept') in
     let odd = parity f g (length made) n (length fx) (length fy) (length kept) (length kept') (length (open_of bound')) ended even (open_most bound') total in
     record {
-      crossing = subst (λ l. KeepsBounds l (drop (f % 2) (bounds_of xs')) (drop (g % 2) (bounds_of ys')) wx wy) (sym is)
-          (subst (λ l. KeepsBounds (bounds_of kept ++ made) l (drop (g % 2) (bounds_of ys')) wx wy) rest_x
-          (subst (λ l. KeepsBounds (bounds_of kept ++ made) (drop f (bounds_of fx) ++ bounds_of (drop (length fx) rx ++ bx)) l wx wy) rest_y crossing));
-      one = odd;
+      crossing = subst (λ l. AreBounds l (drop (f % 2) (bounds_of xs')) (drop (g % 2) (bounds_of ys')) wx wy) (sym is)
+          (subst (λ l. AreBounds (bounds_of kept ++ made) l (drop (g % 2) (bounds_of ys')) wx wy) rest_x
+          (subst (λ l. AreBounds (bounds_of kept ++ made) (drop f (bounds_of fx) ++ bounds_of (drop (length fx) rx ++ bx)) l wx wy) rest_y crossing));
+      one = odd.0;
       first_some = omega (arith, ap length ex, length-append (drop (f / 2) rx) bx, length-drop (f / 2) rx, within_front hx, fits_x);
       second_some = omega (arith, ap length ey, length-append (drop (g / 2) ry) by, length-drop (g / 2) ry, within_front hy, fits_y);
       first_normal = subst IsNormal (sym ex) (normal_next xs rx bx (f / 2) hx.parts s.first_normal);

@@ -1,10 +1,10 @@
 -- The bounds of ranges, of which an odd number lies at a number in a range or before it.
-use Rattle.std.specs.Prelude.{◌≡◌, ℕ, ◌+◌, ◌≤◌, Bool, false, List, [], ◌∷◌, ◌++◌, length, drop, Option, None, Some}
-use Rattle.std.specs.Prelude.{nat_le, ⊤, ◌==◌, if◌then◌else◌}
+use Rattle.std.specs.Prelude.{◌≡◌, ℕ, ◌+◌, ◌≤◌, ⊤, Bool, false, List, [], ◌∷◌, ◌++◌, length, drop, Option, None, Some}
+use Rattle.std.specs.Prelude.{nat_le, ◌==◌, if◌then◌else◌}
 use Rattle.moc_ranges.specs.Pixels.{pixel_count}
 use Rattle.moc_ranges.specs.RangeList.{IsNormal, in_ranges}
-use Rattle.moc_ranges.specs.Private.Differing.{differs}
 use Rattle.moc_ranges.specs.declared.operations.symmetric.Opened.{Opened}
+use Rattle.moc_ranges.specs.Private.Differing.{differs}
 
 -- where ranges begin and end, one after the other
 abbrev pub bounds_of : List (ℕ × ℕ) → List ℕ
@@ -28,17 +28,17 @@ open_of (Some bound) = bound ∷ []
 
 -- bounds that are kept and those that are left of two lists: at a number where their number is odd just one of two
 -- whole lists has it
-pub record KeepsBounds (kept xs ys : List ℕ) (whole_xs whole_ys : List (ℕ × ℕ)) : Type 0 where
+pub record AreBounds (kept xs ys : List ℕ) (whole_xs whole_ys : List (ℕ × ℕ)) : Type 0 where
   pub first : Rises 0 (kept ++ xs)
   pub second : Rises 0 (kept ++ ys)
-  pub same : (q : ℕ) → differs (is_odd_at (kept ++ xs) q) (is_odd_at ys q)
-      ≡ differs (in_ranges whole_xs q) (in_ranges whole_ys q)
+  pub same : (q : ℕ) →
+      differs (is_odd_at (kept ++ xs) q) (is_odd_at ys q) ≡ differs (in_ranges whole_xs q) (in_ranges whole_ys q)
 
 -- how far a symmetric difference has come: of one list of the two, the next range may have begun where the open bound
 -- is
 pub record IsCrossed (kept : List (ℕ × ℕ)) (opened : Option ℕ) (first second : ℕ)
     (xs ys whole_xs whole_ys : List (ℕ × ℕ)) : Type 0 where
-  pub crossing : KeepsBounds (bounds_of kept ++ open_of opened) (drop first (bounds_of xs)) (drop second (bounds_of ys))
+  pub crossing : AreBounds (bounds_of kept ++ open_of opened) (drop first (bounds_of xs)) (drop second (bounds_of ys))
       whole_xs whole_ys
   pub one : length (open_of opened) ≡ first + second
   pub first_some : first ≤ length xs
@@ -46,19 +46,18 @@ pub record IsCrossed (kept : List (ℕ × ℕ)) (opened : Option ℕ) (first sec
   pub first_normal : IsNormal xs
   pub second_normal : IsNormal ys
 
--- a symmetric difference of some lists has come so far
+-- a symmetric difference has come somewhere, with what is built and what is left of two lists
 abbrev pub CanCross : List (ℕ × ℕ) → Opened → List (ℕ × ℕ) → List (ℕ × ℕ) → Type 0
-CanCross kept opened xs ys =
+CanCross built opened xs ys =
     (whole_xs : List (ℕ × ℕ)) × ((whole_ys : List (ℕ × ℕ))
-    × IsCrossed kept opened.bound opened.first opened.second xs ys whole_xs whole_ys)
+    × IsCrossed built opened.bound opened.first opened.second xs ys whole_xs whole_ys)
 
--- the symmetric difference of whichever lists had come so far has come further
-abbrev pub CrossesOn : List (ℕ × ℕ) → Opened → List (ℕ × ℕ) → List (ℕ × ℕ)
-    → List (ℕ × ℕ) → Opened → List (ℕ × ℕ) → List (ℕ × ℕ) → Type 0
-CrossesOn kept opened xs ys kept' opened' xs' ys' =
-    (whole_xs whole_ys : List (ℕ × ℕ))
-    → IsCrossed kept opened.bound opened.first opened.second xs ys whole_xs whole_ys
-    → IsCrossed kept' opened'.bound opened'.first opened'.second xs' ys' whole_xs whole_ys
+-- it has come further: what it was of two lists it still is
+abbrev pub CrossesOn : (built built' : List (ℕ × ℕ)) → (opened opened' : Opened) → (xs xs' ys ys' : List (ℕ × ℕ)) → Type 0
+CrossesOn built built' opened opened' xs xs' ys ys' =
+    (whole_xs whole_ys : List (ℕ × ℕ)) →
+    IsCrossed built opened.bound opened.first opened.second xs ys whole_xs whole_ys →
+    IsCrossed built' opened'.bound opened'.first opened'.second xs' ys' whole_xs whole_ys
 
 -- the next range of a list, which begins where the open bound is, where one of its bounds was passed
 abbrev pub restored_of : Option (ℕ × ℕ) → ℕ → Option ℕ → Option (ℕ × ℕ)

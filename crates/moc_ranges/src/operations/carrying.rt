@@ -1,4 +1,4 @@
-//! Whole nodes and blocks of a list, and parts of its ranges, carried over to what is built.
+//! What is put behind what is built: whole nodes and blocks of a list, carried over, and parts of ranges.
 ghost use Rattle.std.specs.Bool.{OnTrue};
 ghost use Rattle.std.specs.Prelude.{◌≡◌, ◌+◌, ◌<◌, ◌≤◌, List, ℕ, length, max, IfOk, OnOk};
 ghost use Rattle.moc_ranges.specs.Pixels.{pixel_count};
@@ -11,37 +11,6 @@ ghost use Rattle.moc_ranges.specs.Private.Walks.{begun};
 use crate::list::builder::ListBuilder;
 use crate::list::ranges::Ranges;
 use std::alloc::{AllocError, Global};
-
-/// Adds a range, where it is not empty, behind what is built.
-#[inline]
-pub fn push_part(
-    alloc: Global,
-    from: u64,
-    to: u64,
-    built: &mut ListBuilder,
-) -> Result<(), AllocError>
-    requires built { IsNormal (ranges_of built.old) }
-    requires within { to ≤ pixel_count }
-    requires after { EndsBelow from (ranges_of built.old) }
-    ensures { OnOk result (AddsPart from to (ranges_of built.old) (ranges_of built.new)) }
-{
-    if to <= from {
-        return Ok(());
-    }
-    built.push(alloc, from, to)?;
-    Ok(())
-}
-
-/// Where a range begins, or the largest number where there is none.
-#[inline]
-pub fn start_of(range: Option<(u64, u64)>) -> u64
-    ensures { (rest : List (ℕ × ℕ)) → result ≡ next_of (begun range rest) }
-{
-    match range {
-        Some((from, _)) => from,
-        None => u64::MAX,
-    }
-}
 
 /// Carries over the next nodes and blocks that end below the limit, where none is begun.
 #[inline(never)]
@@ -94,6 +63,37 @@ pub fn next_carrying(
 {
     carry_below(alloc, xs, limit, built)?;
     Ok(xs.next())
+}
+
+/// Adds a range, where it is not empty, behind what is built.
+#[inline]
+pub fn push_part(
+    alloc: Global,
+    from: u64,
+    to: u64,
+    built: &mut ListBuilder,
+) -> Result<(), AllocError>
+    requires built { IsNormal (ranges_of built.old) }
+    requires within { to ≤ pixel_count }
+    requires after { EndsBelow from (ranges_of built.old) }
+    ensures { OnOk result (AddsPart from to (ranges_of built.old) (ranges_of built.new)) }
+{
+    if to <= from {
+        return Ok(());
+    }
+    built.push(alloc, from, to)?;
+    Ok(())
+}
+
+/// Where a range begins, or the largest number where there is none.
+#[inline]
+pub fn start_of(range: Option<(u64, u64)>) -> u64
+    ensures { (rest : List (ℕ × ℕ)) → result ≡ next_of (begun range rest) }
+{
+    match range {
+        Some((from, _)) => from,
+        None => u64::MAX,
+    }
 }
 
 /// Leaves out the next ranges of a begun block that end below a limit, where the one that stands `reach` ahead does,

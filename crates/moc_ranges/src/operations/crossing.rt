@@ -2,7 +2,7 @@
 //! range lies: that is hard to foretell.
 ghost use Rattle.std.specs.Prelude.{◌≡◌, ◌+◌, ◌*◌, ◌<◌, ◌≤◌, ◌++◌, ◌⊎◌, List, ℕ, take, drop, get_or, length, IfOk};
 ghost use Rattle.moc_ranges.specs.Private.Built.{ranges_of};
-ghost use Rattle.moc_ranges.specs.Private.Crossing.{bounds_of, open_of, KeepsBounds, Rises};
+ghost use Rattle.moc_ranges.specs.Private.Crossing.{bounds_of, open_of, AreBounds, Rises};
 
 use crate::list::block::LONGEST;
 use crate::list::builder::ListBuilder;
@@ -52,9 +52,9 @@ pub fn cross_begun(
     ensures made { result.made ≤ length out.new }
     ensures even { (n : ℕ) × (result.first + result.second ≡ result.made + 2 * n) }
     ensures crossed { (kept behind_xs behind_ys : List ℕ) (whole_xs whole_ys : List (ℕ × ℕ)) →
-        KeepsBounds (kept ++ open_of opened) (drop passed.0 (bounds_of xs.now) ++ behind_xs)
+        AreBounds (kept ++ open_of opened) (drop passed.0 (bounds_of xs.now) ++ behind_xs)
         (drop passed.1 (bounds_of ys.now) ++ behind_ys) whole_xs whole_ys →
-        KeepsBounds (kept ++ take result.made out.new) (drop result.first (bounds_of xs.now) ++ behind_xs)
+        AreBounds (kept ++ take result.made out.new) (drop result.first (bounds_of xs.now) ++ behind_xs)
         (drop result.second (bounds_of ys.now) ++ behind_ys) whole_xs whole_ys }
 {
     let mut made = passed.0 + passed.1;

@@ -1,6 +1,6 @@
 //! Symmetric difference of lists in blocks.
 ghost use Rattle.std.specs.Bool.{OnTrue, OnFalse};
-ghost use Rattle.std.specs.Prelude.{◌≡◌, ◌+◌, ◌<◌, ◌≤◌, ◌++◌, ◌∷◌, ◌⊎◌, [], List, ℕ, length, min, take, IfOk, OnOk};
+ghost use Rattle.std.specs.Prelude.{◌≡◌, ◌+◌, ◌<◌, ◌≤◌, ◌++◌, ◌∷◌, ◌⊎◌, [], List, ℕ, length, min, take, drop, IfOk, OnOk};
 ghost use Rattle.moc_ranges.specs.Pixels.{pixel_count};
 ghost use Rattle.moc_ranges.specs.Operations.{symmetric};
 ghost use Rattle.moc_ranges.specs.RangeList.{IsNormal, in_ranges, set_of};
@@ -12,7 +12,7 @@ ghost use Rattle.moc_ranges.specs.Private.Crossing.{restored_of, CanCross, Cross
 use crate::list::RangeList;
 use crate::list::block::LONGEST;
 use crate::list::builder::ListBuilder;
-use crate::list::ranges::Ranges;
+use crate::list::ranges::{Ranges, Started};
 use crate::operations::carrying::{carry_below, next_carrying, push_part, start_of};
 use crate::operations::crossing::{BOUNDS, cross_begun, push_pairs};
 use crate::operations::reach::are_even;
@@ -149,6 +149,19 @@ fn leading(ranges: &[(u64, u64)]) -> &[(u64, u64)]
     &ranges[..ranges.len().min(LONGEST)]
 }
 
+/// Goes on behind so many ranges of the begun or next block of a list. Where they are none, no block is begun, so that
+/// the next may be carried over whole.
+fn resume_past<'a>(xs: &mut Ranges<'a>, block: Started<'a>, passed: usize)
+    requires within { passed ≤ length block.ranges.now }
+    requires parts { block.ranges.now ++ block.behind ≡ xs.old }
+    requires normal { IsNormal xs.old }
+    ensures { xs.new ≡ drop passed block.entry.ranges.now ++ block.entry.behind }
+{
+    if passed > 0 {
+        xs.resume(&block.ranges[passed..], block.behind);
+    }
+}
+
 /// Makes what just one of the begun or next blocks of two lists has, until one of these has no more. Answers whether
 /// both lists had one.
 fn cross_blocks(
@@ -160,8 +173,8 @@ fn cross_blocks(
     built: &mut ListBuilder,
 ) -> Result<bool, AllocError>
     requires started { CanCross (ranges_of built.old) opened.old xs.old ys.old }
-    ensures on { OnOk result (CrossesOn (ranges_of built.old) opened.old xs.old ys.old
-        (ranges_of built.new) opened.new xs.new ys.new) }
+    ensures on { OnOk result
+        (CrossesOn (ranges_of built.old) (ranges_of built.new) opened.old opened.new xs.old xs.new ys.old ys.new) }
     ensures some { IfOk result (λ met. OnTrue met (length xs.new + length ys.new < length xs.old + length ys.old)) }
     ensures none { IfOk result (λ met. OnFalse met ((xs.new ≡ []) ⊎ (ys.new ≡ []))) }
 {
@@ -181,12 +194,13 @@ fn cross_blocks(
     opened.bound = push_pairs(alloc, &room[..crossed.made], built)?;
     opened.first = crossed.first % 2;
     opened.second = crossed.second % 2;
-    xs.resume(&first.ranges[crossed.first / 2..], first.behind);
-    ys.resume(&second.ranges[crossed.second / 2..], second.behind);
+    resume_past(xs, first, crossed.first / 2);
+    resume_past(ys, second, crossed.second / 2);
     Ok(true)
 }
 
-/// Carries over the next nodes and blocks of either list that end before the other's next range, where none is begun.
+/// Carries over the next nodes and blocks of either list that end before the other's next range, where none is begun,
+/// until neither list has one.
 fn carry_apart(
     alloc: Global,
     xs: &mut Ranges<'_>,
@@ -195,16 +209,20 @@ fn carry_apart(
     built: &mut ListBuilder,
 ) -> Result<(), AllocError>
     requires started { CanCross (ranges_of built.old) opened.now xs.old ys.old }
-    ensures on { OnOk result (CrossesOn (ranges_of built.old) opened.now xs.old ys.old
-        (ranges_of built.new) opened.now xs.new ys.new) }
+    ensures on { OnOk result
+        (CrossesOn (ranges_of built.old) (ranges_of built.new) opened.now opened.now xs.old xs.new ys.old ys.new) }
     ensures fewer { OnOk result (length xs.new + length ys.new ≤ length xs.old + length ys.old) }
 {
     let None = opened.bound else {
         return Ok(());
     };
-    carry_below(alloc, xs, ys.next_from(), built)?;
-    carry_below(alloc, ys, xs.next_from(), built)?;
-    Ok(())
+    loop {
+        carry_below(alloc, xs, ys.next_from(), built)?;
+        let carried = built.carry_next(alloc, ys, xs.next_from())?;
+        if !carried {
+            return Ok(());
+        }
+    }
 }
 
 /// The next range of a list, which begins where the open bound is, where one of its bounds was passed.
