@@ -53,7 +53,8 @@ CanCross built opened xs ys =
     × IsCrossed built opened.bound opened.first opened.second xs ys whole_xs whole_ys)
 
 -- it has come further: what it was of two lists it still is
-abbrev pub CrossesOn : (built built' : List (ℕ × ℕ)) → (opened opened' : Opened) → (xs xs' ys ys' : List (ℕ × ℕ)) → Type 0
+abbrev pub CrossesOn : (built built' : List (ℕ × ℕ)) → (opened opened' : Opened)
+    → (xs xs' ys ys' : List (ℕ × ℕ)) → Type 0
 CrossesOn built built' opened opened' xs xs' ys ys' =
     (whole_xs whole_ys : List (ℕ × ℕ)) →
     IsCrossed built opened.bound opened.first opened.second xs ys whole_xs whole_ys →
