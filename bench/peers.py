@@ -40,9 +40,9 @@ def row(operation, turns, texts):
         least["library"] = min(time, least.get("library", time))
         for peer, (words, repeats, mistakes) in PEERS.items():
             asked = CELLS.get(operation, operation) if peer == "cds.moc" else operation
-            time, sum = answer([*words, asked, str(repeats)])
+            time, found = answer([*words, asked, str(repeats)])
             least[peer] = min(time, least.get(peer, time))
-            if sum != expected and operation not in TEXTS and operation not in mistakes:
+            if found != expected and operation not in TEXTS and operation not in mistakes:
                 wrong.add(peer)
     return least, wrong
 

@@ -40,9 +40,9 @@ TOP = os.path.dirname(os.path.dirname(os.path.abspath(__file__)))
 sys.path.insert(0, os.path.join(TOP, "tools"))
 from crates import crates_of, folder_of, libraries_below, make_room  # noqa: E402
 
-# How many edits a check takes at most: with more, its memory grows to several gigabytes.
+# How many edits a check takes at most: its memory grows with them.
 MOST_EDITS = 24
-# How much memory a check takes, and how much more for each of its edits; and how much is left to all else.
+# How much memory a check may take, how much more for each of its edits, and how much is left to all else.
 CHECK_MEMORY, EDIT_MEMORY, SPARE_MEMORY = 1_500_000_000, 150_000_000, 2_000_000_000
 # Where the rooms lie: on one disk with the crates, so that files can be linked.
 ROOMS = os.path.join(folder_of("moc_cli"), "out", "edits")
