@@ -179,12 +179,12 @@ impl RangeList {
         Ok(Self { few, nodes })
     }
 
-    /// Adds a range where that changes one block alone, and tells how many numbers are new. Where nobody else has the
-    /// node's list of blocks, the range is put into the block's own list, if nobody else has that, it touches no range
-    /// and there is room, or the block is made anew in its place; else the block is made anew with the pointers to the
-    /// node's others. None where more than one block is changed, or a rule of lengths would be broken; the list then is
-    /// as it was. O(log n), but where a block is cut in two a step for each node behind its own, which then begins a
-    /// block later.
+    /// Adds a range where that changes one block alone, and tells how many numbers are new: into the block's own list
+    /// where nobody else has that or the node's list of blocks, it touches no range and the block is not full. Else the
+    /// block is made anew, in its place where nobody else has the node's list and it stays one block, and else in a new
+    /// node with the pointers to the others. None where the range touches more than one block, or a rule of lengths
+    /// would be broken; the list then is as it was. O(log n), but where a block is cut a step for each node behind,
+    /// which then begins a block later.
     pub fn insert(&mut self, alloc: Global, from: u64, to: u64) -> Result<Option<u64>, AllocError>
         requires filled { from < to }
         requires within { to ≤ pixel_count }

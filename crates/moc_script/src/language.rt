@@ -12,8 +12,8 @@ use std::alloc::Global;
 
 /// The batch that a line says: 1 to 16 commands, parted by `;`, as in a script. A blank line has an empty command.
 ///
-/// One pass over the line, and what the sets of its operands cost. Refused at the line's first fault, or where memory
-/// runs out.
+/// Linear in the line, and what the sets of its operands cost. Refused at the line's first fault, or where memory runs
+/// out.
 pub fn read_line(alloc: Global, line: &[u8]) -> Result<Batch, ReadError>
     ensures { ReadsLine line.now result }
 {

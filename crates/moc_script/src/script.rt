@@ -38,9 +38,9 @@ use std::alloc::Global;
 /// `LineTooLong` or `Memory` names, or to the whole lines that were read before `Read`; on `Write` it is as much of
 /// the answers as the writer took. After the whole text the writer is flushed, once.
 ///
-/// A line's end is looked for, then the line is copied and parsed: each is one pass over its bytes. A command takes
-/// O(n log n) time for the n cells of its operand, O(n) where they rise, and besides time and memory at most linear in
-/// the ranges of both sets.
+/// A line's end is looked for, then the line is copied, looked through for `;` and parsed, by a fixed number of passes
+/// over its bytes. A command takes O(n log n) time for the n cells of its operand, O(n) where they rise, and besides
+/// time and memory at most linear in the ranges of both sets.
 pub fn run<R: Source, W: Sink>(
     alloc: Global,
     reader: &mut R,

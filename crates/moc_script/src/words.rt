@@ -65,7 +65,7 @@ pub(crate) fn is_word(word: &[u8], this: &str) -> bool
     word == this.as_bytes()
 }
 
-/// How many digits a number may have that surely has 64 bits.
+/// How many digits a number may have that surely fits into 64 bits.
 pub(crate) const SAFE_DIGITS: usize = 19;
 
 /// The number that a field spells in base ten, or `u64::MAX` where it is larger; `None` where it spells none.
@@ -79,7 +79,7 @@ pub(crate) fn number_in(field: &[u8]) -> Option<u64>
     }
 }
 
-/// The number that a short field spells, which has 64 bits.
+/// The number that a short field spells; it fits into 64 bits.
 pub(crate) fn short_number_in(field: &[u8]) -> Option<u64>
     requires short { length field.now ≤ SAFE_DIGITS }
     ensures number { result ≡ number_of field.now }

@@ -46,13 +46,13 @@ pub record IsCrossed (kept : List (ℕ × ℕ)) (opened : Option ℕ) (first sec
   pub first_normal : IsNormal xs
   pub second_normal : IsNormal ys
 
--- a symmetric difference has come somewhere, with what is built and what is left of two lists
+-- a symmetric difference of some two lists has come as far as this
 abbrev pub CanCross : List (ℕ × ℕ) → Opened → List (ℕ × ℕ) → List (ℕ × ℕ) → Type 0
 CanCross built opened xs ys =
     (whole_xs : List (ℕ × ℕ)) × ((whole_ys : List (ℕ × ℕ))
     × IsCrossed built opened.bound opened.first opened.second xs ys whole_xs whole_ys)
 
--- it has come further: what it was of two lists it still is
+-- it has come further: of whichever two lists it was, it still is
 abbrev pub CrossesOn : (built built' : List (ℕ × ℕ)) → (opened opened' : Opened)
     → (xs xs' ys ys' : List (ℕ × ℕ)) → Type 0
 CrossesOn built built' opened opened' xs xs' ys ys' =

@@ -49,7 +49,7 @@ pub fn measure_ranges(ranges: &[(u64, u64)]) -> u64
     total
 }
 
-/// Puts a range among others.
+/// Puts a range among others, at a place; where their list has no room left, it gets room for some more.
 fn put_among(
     ranges: &mut Vec<(u64, u64)>,
     place: usize,

@@ -32,7 +32,7 @@ impl Model for Nodes {
     ghost invariant = { λ n. IsIndex n.starts.items n.size n.count n.nodes.items };
 }
 
-/// Puts so many less and so many more to each start, where that is not the same.
+/// Moves each start by what a node before it has more or fewer blocks than it had.
 fn move_each(starts: &mut [usize], less: usize, more: usize)
     requires { (k : ℕ) → k < length starts.old
         → (less ≤ get_or starts.old k 0) × (get_or starts.old k 0 + more ≤ 18446744073709551615) }
@@ -46,7 +46,7 @@ fn move_each(starts: &mut [usize], less: usize, more: usize)
     }
 }
 
-/// The same to the starts behind a place.
+/// Moves the starts behind a place so.
 fn move_behind(starts: &mut Vec<usize>, place: usize, less: usize, more: usize)
     requires there { place < length starts.old.items }
     requires fits { (k : ℕ) → k < length (drop (place + 1) starts.old.items)

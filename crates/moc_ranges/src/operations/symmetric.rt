@@ -150,8 +150,8 @@ fn leading(ranges: &[(u64, u64)]) -> &[(u64, u64)]
     &ranges[..ranges.len().min(LONGEST)]
 }
 
-/// Goes on behind so many ranges of the begun or next block of a list. Where they are none, no block is begun, so that
-/// the next may be carried over whole.
+/// Goes on behind so many ranges of the begun or next block of a list. Where they are none, the list stays as it was,
+/// so that the block may be carried over whole.
 fn resume_past<'a>(xs: &mut Ranges<'a>, block: Started<'a>, passed: usize)
     requires within { passed ≤ length block.ranges.now }
     requires parts { block.ranges.now ++ block.behind ≡ xs.old }
@@ -200,8 +200,8 @@ fn cross_blocks(
     Ok(true)
 }
 
-/// Carries over the next nodes and blocks of either list that end before the other's next range, where none is begun,
-/// until neither list has one.
+/// Carries over the nodes and blocks of either list that end before the other's next range, in turn until neither list
+/// has one; none where a bound is open.
 fn carry_apart(
     alloc: Global,
     xs: &mut Ranges<'_>,

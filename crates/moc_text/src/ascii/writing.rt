@@ -20,7 +20,7 @@ use moc_sphere::Order;
 use std::alloc::{AllocError, Global};
 use std::str::from_utf8_unchecked;
 
-/// For how many bytes a range of the set room is made in a text at first: about what the cells of most take.
+/// How many bytes of room a text has at first for each range of the set: about what the cells of most ranges take.
 pub const ROOM: usize = 20;
 
 /// How many bytes a run takes at most, with a space before it.
@@ -227,7 +227,8 @@ fn push_all(
 /// Writes the ASCII form (MOC 2.0) of the set: its cells by rising order and within an order by rising number,
 /// runs of consecutive cells joined, and then the stated order, if it is deeper than these. Refused with
 /// `TooCoarse` where the set has a cell of a deeper order than the stated one. One pass over the ranges of the set
-/// for each order that can have cells, and linear in the length of the text; no list of cells is made.
+/// for each order that can have cells and up to two before, and linear in the length of the text; no list of cells
+/// is made.
 #[tactic(auto, unfolding(crate::specs::AsciiText::ascii_text))]
 pub fn write_ascii(
     alloc: Global,

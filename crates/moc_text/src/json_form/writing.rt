@@ -153,8 +153,8 @@ fn object_text(
 /// Writes the JSON form (MOC 2.0) of the set, compact as `serde_json` prints it: each order that has cells is a
 /// name, and its value is the array of its cells, rising; a stated order that is deeper than these has an empty
 /// array; names stand in byte order. Refused with `TooCoarse` where the set has a cell of a deeper order than the
-/// stated one. One pass over the ranges of the set for each order that can have cells, and linear in the length of the
-/// text; no list of cells is made.
+/// stated one. One pass over the ranges of the set for each order that can have cells and up to two before, and linear
+/// in the length of the text; no list of cells is made.
 pub fn write_json(alloc: Global, set: &Coverage, stated: Option<Order>) -> Result<String, JsonError>
     ensures text { IfOk result (λ t. string_bytes t ≡ json_text set.now stated) }
     ensures fits { OnOk result (¬ IsTooCoarse set.now stated) }
