@@ -3,8 +3,8 @@
 
 Healpix_cxx 3.80 (`peer`), cds.moc 5.0 with cdshealpix 0.30.2 and healpix.essentials 3.60 (`PeerJava`) and the library
 (`moc_bench`) do each operation in processes of their own, one after another, N times (3); a time is the least of all repeats of
-all turns, in milliseconds. `run.sh` builds all of them. Ends with 1 where a checksum is not the library's: but for texts, whose
-peers write the same cells in ways of their own, and what PEERS says that a peer has wrong."""
+all turns, in milliseconds, and "wrong" where the checksum is not the library's; but texts are not compared, since peers write the same
+cells in ways of their own. `run.sh` builds all of them. Ends with 1 where a peer is wrong that PEERS does not tell of."""
 import argparse
 import os
 import subprocess
@@ -33,18 +33,20 @@ def answer(words, texts=()):
 
 
 def row(operation, turns, texts):
-    """The least times of the library and of each peer, and those whose checksum is not the library's."""
+    """The least times of the library and of each peer that answers rightly, and those of the others that should."""
     least, wrong = {}, set()
     for _ in range(turns):
         time, expected = answer([LIBRARY, operation, "9"], texts)
         least["library"] = min(time, least.get("library", time))
-        for peer, (words, repeats, mistakes) in PEERS.items():
+        for peer, (words, repeats, _) in PEERS.items():
             asked = CELLS.get(operation, operation) if peer == "cds.moc" else operation
             time, found = answer([*words, asked, str(repeats)])
             least[peer] = min(time, least.get(peer, time))
-            if found != expected and operation not in TEXTS and operation not in mistakes:
+            if found != expected and operation not in TEXTS:
                 wrong.add(peer)
-    return least, wrong
+    for peer in wrong:
+        del least[peer]
+    return least, {it for it in wrong if operation not in PEERS[it][2]}
 
 
 def main():
@@ -59,10 +61,11 @@ def main():
     print(f"| Operation | Library, ms | {', ms | '.join(PEERS)}, ms | Ratio to the fastest |\n|{'---|' * (len(PEERS) + 3)}")
     well = True
     for operation in given.operations:
-        least, wrong = row(operation, given.turns, texts)
-        ratio = least["library"] / min(least[it] for it in PEERS)
-        print("|", " | ".join([operation, *(f"{it:.3g}" for it in least.values()), f"{ratio:.2f}"]), "|", flush=True)
-        for peer in wrong:
+        least, unexpected = row(operation, given.turns, texts)
+        ratio = least["library"] / min(least[it] for it in PEERS if it in least)
+        times = [f"{least[it]:.3g}" if it in least else "wrong" for it in ("library", *PEERS)]
+        print("|", " | ".join([operation, *times, f"{ratio:.2f}"]), "|", flush=True)
+        for peer in unexpected:
             well = False
             print(f"{operation}: {peer} answers otherwise", file=sys.stderr)
     return 0 if well else 1
