@@ -49,6 +49,8 @@ public class PeerJava {
     return cells;
   }
 
+  // Each peer has loops of its own: one over a function that is passed in took cdshealpix a seventh longer.
+
   // With cds.moc and cdshealpix.
 
   static long pixels(HealpixMoc m) {
