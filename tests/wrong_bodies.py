@@ -207,25 +207,31 @@ def memory_free():
         return int(re.search(r"MemAvailable:\s+(\d+)", file.read())[1]) * 1024
 
 
-def memory_of(group):
-    """How many bytes the processes of a group have."""
-    pages = 0
-    for process in filter(str.isdigit, os.listdir("/proc")):
-        with contextlib.suppress(OSError), open(f"/proc/{process}/stat") as file:
+def memory_of(process):
+    """How many bytes a process has, with all that it began: `rt` gives what it begins a group of its own."""
+    sizes, begun = {}, {}
+    for one in filter(str.isdigit, os.listdir("/proc")):
+        with contextlib.suppress(OSError), open(f"/proc/{one}/stat") as file:
             fields = file.read().rpartition(")")[2].split()
-            pages += int(fields[21]) if int(fields[2]) == group else 0
+            sizes[int(one)] = int(fields[21])
+            begun.setdefault(int(fields[1]), []).append(int(one))
+    pages, left = 0, [process]
+    while left:
+        one = left.pop()
+        pages += sizes.get(one, 0)
+        left += begun.get(one, [])
     return pages * os.sysconf("SC_PAGE_SIZE")
 
 
 class Checks:
-    """The checks at work, by their groups of processes, and how much memory each may come to."""
+    """The checks at work, by their processes, and how much memory each may come to."""
 
     def __init__(self):
         self.most, self.turn = {}, threading.Condition()
 
     def has_room(self, most):
         """Whether one more check has the memory that it may come to, once those at work have theirs; one alone always does."""
-        growth = sum(max(0, own - memory_of(group)) for group, own in self.most.items())
+        growth = sum(max(0, own - memory_of(process)) for process, own in self.most.items())
         return not self.most or memory_free() - growth >= most + SPARE_MEMORY
 
     def begin(self, words, folder, most):
