@@ -1,5 +1,5 @@
 -- A text that lacks one of the two numbers spells no cell.
-use Rattle.std.proofs.Common.{◌≡◌, ◌<◌, ◌^◌, subst, sym, refl, arith, lit<}
+use Rattle.std.proofs.Common.{◌<◌, ◌^◌, subst, sym, refl, arith, lit<}
 use Rattle.moc_sphere.specs.Names.{Spells}
 use Rattle.moc_sphere.proofs.CellFacts.{index_small}
 use Rattle.moc_sphere.proofs.cell.CellFromStr.from_str.Goals as goal
