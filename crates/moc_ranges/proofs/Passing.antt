@@ -8,7 +8,7 @@ use Rattle.std.specs.Option.{option_copied}
 use Rattle.moc_ranges.specs.Pixels.{pixel_count}
 use Rattle.moc_ranges.specs.RangeList.{IsNormal}
 use Rattle.moc_ranges.specs.Private.Blocks.{joining, first_of, last_of, width_of, rest_of}
-use Rattle.moc_ranges.specs.Private.Walks.{joined, EndsBy, overlap_of, Passes, IsPastAt, IsFirstPast}
+use Rattle.moc_ranges.specs.Private.Walks.{joined, EndsBy, overlap_of, Passes, IsPastAt, IsSkipping, IsFirstPast}
 use Rattle.moc_ranges.proofs.Blocking.{IsNormal-prefix, IsNormal-suffix, width_bounded, last_of-append, joining-append, none_there, nothing_more}
 
 pub joined-append : {T : Type 0} (f : T → List (ℕ × ℕ)) (xs ys : List T) → joined f (xs ++ ys) ≡ joined f xs ++ joined f ys
@@ -73,15 +73,6 @@ ended_at {T} f (x ∷ xs) zero k limit d lt inside e = absurd (omega arith)
 ended_at {T} f (x ∷ xs) (suc n) zero limit d lt inside e = last_ended limit (f x) (ends_by-left limit (f x) (joined f (take n xs)) e)
 ended_at {T} f (x ∷ xs) (suc n) (suc k) limit d lt inside e = ended_at f xs n k limit d (omega arith) (omega arith) (ends_by-right limit (f x) (joined f (take n xs)) e)
 
--- what the search keeps: the runs before `low` have ended, and one up to `low + size` ends after
--- the limit, if there are so many
-pub record IsSkipping {T : Type 0} (f : T → List (ℕ × ℕ)) (xs : List T) (limit low size : ℕ) : Type 0 where
-  pub within : low + size ≤ length xs
-  pub before : EndsBy limit (joined f (take low xs))
-  pub place : ℕ
-  pub near : place ≤ low + size
-  pub past : IsPastAt f xs limit place
-
 pub skip_start : {T : Type 0} (f : T → List (ℕ × ℕ)) (xs : List T) (limit : ℕ) → IsSkipping f xs limit 0 (length xs)
 skip_start {T} f xs limit = record { within = omega arith; before = tt; place = length xs; near = omega arith; past = λ run lt. absurd (omega (arith, lt)) }
 
@@ -120,6 +111,41 @@ past_there {T} f xs limit place n ended near past = λ run inside. elim (cases_l
   | inl before ↦ absurd (let le = ended_at f xs n place limit run before (omega arith) ended in let gt = past run (omega arith) in omega arith)
   | inr here ↦ let same : place ≡ n = omega arith in subst (λ (k : ℕ). IsPastAt f xs limit k) same past run inside
 ]
+
+-- where a run ends after the limit, the search is before it
+pub skip_before : {T : Type 0} (f : T → List (ℕ × ℕ)) (xs : List T) (limit low : ℕ) (x : T) → 0 < low → low ≤ length xs → x ≡ get_or xs (low - 1) x → limit < last_of (f x) → IsSkipping f xs limit 0 low
+skip_before {T} f xs limit low x some within is lt = record {
+  within = omega arith;
+  before = tt;
+  place = low - 1;
+  near = omega arith;
+  past = past_here f xs limit (low - 1) x is lt;
+}
+
+-- where a run ends by the limit, the search is from it on
+pub skip_from : {T : Type 0} (f : T → List (ℕ × ℕ)) (xs : List T) (limit high : ℕ) (x : T) → IsNormal (joined f xs) → high < length xs → x ≡ get_or xs high x → 0 < length (f x) → last_of (f x) ≤ limit → IsSkipping f xs limit high (length xs - high)
+skip_from {T} f xs limit high x normal inside is some le = record {
+  within = omega arith;
+  before = ends_by-left limit (joined f (take high xs)) (f x) (subst (EndsBy limit) (joined_taken f xs high x inside is) (ended_more f xs high limit x normal inside is some le));
+  place = length xs;
+  near = omega arith;
+  past = λ run lt. absurd (omega (arith, lt));
+}
+
+-- where the run before a place ends by the limit, and the one at another after it, the search is between
+pub skip_between : {T : Type 0} (f : T → List (ℕ × ℕ)) (xs : List T) (limit low high : ℕ) → low ≤ high → high ≤ length xs → EndsBy limit (joined f (take low xs)) → IsPastAt f xs limit high → IsSkipping f xs limit low (high - low)
+skip_between {T} f xs limit low high order within ended past = record {
+  within = omega arith;
+  before = ended;
+  place = high;
+  near = omega arith;
+  past = past;
+}
+
+pub ended_before : {T : Type 0} (f : T → List (ℕ × ℕ)) (xs : List T) (low limit : ℕ) (x : T) → IsNormal (joined f xs) → 0 < low → low ≤ length xs → x ≡ get_or xs (low - 1) x → 0 < length (f x) → last_of (f x) ≤ limit → EndsBy limit (joined f (take low xs))
+ended_before {T} f xs low limit x normal some within is filled le =
+    let next : low - 1 + 1 ≡ low = omega arith in
+    subst (λ (k : ℕ). EndsBy limit (joined f (take k xs))) next (ended_more f xs (low - 1) limit x normal (omega arith) is filled le)
 
 -- what a read at that place gives
 pub first_past_read : {T : Type 0} (f : T → List (ℕ × ℕ)) (xs : List T) (limit i : ℕ) (r : Option (Bor T)) → IsItemAt xs i r → EndsBy limit (joined f (take i xs)) → IsPastAt f xs limit i → MatchOption r (EndsBy limit (joined f xs)) (λ run. IsFirstPast limit (f run.now) (joined f xs))

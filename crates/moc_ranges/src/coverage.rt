@@ -223,6 +223,20 @@ impl Coverage {
         if to <= from {
             return Ok(0);
         }
+        if let Some(added) = self.list.insert_in_gap(from, to)? {
+            return Ok(added);
+        }
+        self.insert_in_blocks(alloc, from, to)
+    }
+
+    /// The same by a block that is made anew, or by a union, where the set lacks any of the range.
+    fn insert_in_blocks(&mut self, alloc: Global, from: u64, to: u64) -> Result<u64, Memory>
+        requires filled { from < to }
+        requires within { to ≤ pixel_count }
+        ensures set { OnOk result (self.new ≡ set.union self.old (numbers from to)) }
+        ensures added { IfOk result (λ n. n ≡ set.len (set.difference (numbers from to) self.old)) }
+        ensures unchanged { OnErr result (self.new ≡ self.old) }
+    {
         if self.covers_range(from, to) {
             return Ok(0);
         }

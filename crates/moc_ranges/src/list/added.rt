@@ -16,8 +16,9 @@ use crate::list::ahead::{Ahead, front_from};
 use crate::list::block::{Block, LONGEST, measure_ranges};
 use crate::list::lengths::{length_of_first, length_of_last, width_of_last};
 use crate::list::node::{Node, WIDEST};
-use crate::list::runs::{Run, count_ended};
+use crate::list::runs::{Run, count_ended, count_ended_about};
 use std::alloc::{AllocError, Global};
+use std::num::{nearest_u64_to_f64, saturating_f64_to_u64};
 
 /// A run of some, those before it, and those behind it.
 #[derive(Clone, Copy)]
@@ -494,6 +495,15 @@ fn begins_by(ranges: &[(u64, u64)], limit: u64) -> bool
     }
 }
 
+/// About how many of a block's ranges begin below a number, if they lie evenly.
+#[inline]
+fn place_about(block: &Block, number: u64) -> usize {
+    let passed = nearest_u64_to_f64(number.saturating_sub(block.from()));
+    let width = nearest_u64_to_f64(block.to().saturating_sub(block.from()));
+    let count = nearest_u64_to_f64(block.ranges().len() as u64);
+    saturating_f64_to_u64(passed / width * count) as usize
+}
+
 /// The gap of a block that a range lies in. None where it touches a range, or the block has no room. O(log n).
 pub fn gap_of(nodes: &[Node], from: u64, to: u64) -> Option<Gap>
     requires stored { IsStored [] nodes.now }
@@ -504,7 +514,7 @@ pub fn gap_of(nodes: &[Node], from: u64, to: u64) -> Option<Gap>
     let place = place_of(nodes, from)?;
     let own = place_of(place.run.blocks(), from)?;
     let ranges = own.run.ranges();
-    let ended = count_ended(ranges, from.saturating_sub(1));
+    let ended = count_ended_about(ranges, from.saturating_sub(1), place_about(own.run, from));
     let ahead = Ahead {
         blocks: own.behind,
         nodes: place.behind,

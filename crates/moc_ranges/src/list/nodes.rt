@@ -175,7 +175,7 @@ impl Nodes {
 
     /// Adds a range to the list of its block, in a gap of that, and tells how many numbers are new. None where somebody
     /// else has that list, or that of the node's blocks, too, or there is no such gap; the nodes then are as they were.
-    fn insert_in_gap(&mut self, from: u64, to: u64) -> Result<Option<u64>, AllocError>
+    pub fn insert_in_gap(&mut self, from: u64, to: u64) -> Result<Option<u64>, AllocError>
         requires stored { IsStored [] self.old }
         requires filled { from < to }
         requires within { to ≤ pixel_count }
@@ -307,8 +307,8 @@ impl Nodes {
         Ok(())
     }
 
-    /// Adds a range where that changes one block alone, and tells how many numbers are new. None where it does not, or
-    /// a rule of lengths would be broken; the nodes then are as they were.
+    /// Adds a range where that changes one block alone, which is made anew, and tells how many numbers are new. None where
+    /// it does not, or a rule of lengths would be broken; the nodes then are as they were.
     pub fn insert(&mut self, alloc: Global, from: u64, to: u64) -> Result<Option<u64>, AllocError>
         requires stored { IsStored [] self.old }
         requires filled { from < to }
@@ -318,9 +318,6 @@ impl Nodes {
             HasGrown from to (joining (joining self.old)) (joining (joining self.new)) n)) }
         ensures unchanged { OnErr result (self.new ≡ self.old) }
     {
-        if let Some(added) = self.insert_in_gap(from, to)? {
-            return Ok(Some(added));
-        }
         if let Some(added) = self.insert_in_place(alloc, from, to)? {
             return Ok(Some(added));
         }

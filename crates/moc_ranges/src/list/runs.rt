@@ -2,11 +2,14 @@
 ghost use Rattle.std.specs.Prelude.{◌≡◌, ◌+◌, ◌<◌, ◌≤◌, List, ℕ, [], ◌∷◌, ◌++◌, length, take, IfSome, MatchOption};
 ghost use Rattle.moc_ranges.specs.RangeList.{IsNormal};
 ghost use Rattle.moc_ranges.specs.Private.Blocks.{joining, first_of, last_of, width_of, rest_of};
-ghost use Rattle.moc_ranges.specs.Private.Walks.{joined, EndsBy, Passes, IsPastAt, IsFirstPast};
+ghost use Rattle.moc_ranges.specs.Private.Walks.{joined, EndsBy, Passes, IsPastAt, IsSkipping, IsFirstPast};
 
 use crate::list::ahead::{Ahead, Begun, begin_node};
 use crate::list::block::Block;
 use crate::list::node::Node;
+
+/// How far from the place where a count is thought to be it is looked for first.
+const NEAR: usize = 8;
 
 /// What has one or more ranges in rising order: a range, a block, a node.
 pub(crate) trait Run {
@@ -90,16 +93,18 @@ impl Run for Node {
     }
 }
 
-/// How many of the runs end by a number. O(log n).
+/// How many of the runs end by a number, of which those before `low` do, and one of the next `size` or the one behind
+/// them does not, if there are so many. O(log size).
 #[inline]
-pub(crate) fn count_ended<T: Run>(runs: &[T], limit: u64) -> usize
-    requires { IsNormal (joined T.ranges runs.now) }
+fn count_ended_from<T: Run>(runs: &[T], limit: u64, low: usize, size: usize) -> usize
+    requires normal { IsNormal (joined T.ranges runs.now) }
+    requires there { IsSkipping T.ranges runs.now limit low size }
     ensures bound { result ≤ length runs.now }
     ensures ended { EndsBy limit (joined T.ranges (take result runs.now)) }
     ensures past { IsPastAt T.ranges runs.now limit result }
 {
-    let mut low = 0;
-    let mut size = runs.len();
+    let mut low = low;
+    let mut size = size;
     while size > 1 {
         let half = size / 2;
         if runs[low + half].end() <= limit {
@@ -111,6 +116,37 @@ pub(crate) fn count_ended<T: Run>(runs: &[T], limit: u64) -> usize
         low += 1;
     }
     low
+}
+
+/// How many of the runs end by a number. O(log n).
+#[inline]
+pub(crate) fn count_ended<T: Run>(runs: &[T], limit: u64) -> usize
+    requires { IsNormal (joined T.ranges runs.now) }
+    ensures bound { result ≤ length runs.now }
+    ensures ended { EndsBy limit (joined T.ranges (take result runs.now)) }
+    ensures past { IsPastAt T.ranges runs.now limit result }
+{
+    count_ended_from(runs, limit, 0, runs.len())
+}
+
+/// As `count_ended`, where that is about so many: others are looked at only where it is not. O(log n).
+#[inline]
+pub(crate) fn count_ended_about<T: Run>(runs: &[T], limit: u64, about: usize) -> usize
+    requires { IsNormal (joined T.ranges runs.now) }
+    ensures bound { result ≤ length runs.now }
+    ensures ended { EndsBy limit (joined T.ranges (take result runs.now)) }
+    ensures past { IsPastAt T.ranges runs.now limit result }
+{
+    let len = runs.len();
+    let low = about.saturating_sub(NEAR).min(len);
+    let high = about.saturating_add(NEAR).min(len);
+    if low > 0 && limit < runs[low - 1].end() {
+        return count_ended_from(runs, limit, 0, low);
+    }
+    if high < len && runs[high].end() <= limit {
+        return count_ended_from(runs, limit, high, len - high);
+    }
+    count_ended_from(runs, limit, low, high - low)
 }
 
 /// The first of the runs that ends after a number, if there is one. O(log n).

@@ -11,18 +11,12 @@ returns-then-to-from-clause-set c = sym (there_union c.args.self.now (numbers c.
 pub returns-then-to-from-clause-added : goal.returns-then-to-from-clause-added
 returns-then-to-from-clause-added c = sym (there_count c.args.self.now (numbers c.args.from c.args.to) (no_numbers c.args.from c.args.to c.args.self.now c.if-to-from.true))
 
-pub returns-then-covers_range-clause-set : goal.returns-then-covers_range-clause-set
-returns-then-covers_range-clause-set c = sym (there_union c.args.self.now (numbers c.args.from c.args.to) (set.is_subset-contains nat_cmp_total (numbers c.args.from c.args.to) c.args.self.now (sym c.covers_range.ensures ∙ c.if-covers_range.true)))
-
-pub returns-then-covers_range-clause-added : goal.returns-then-covers_range-clause-added
-returns-then-covers_range-clause-added c = sym (there_count c.args.self.now (numbers c.args.from c.args.to) (set.is_subset-contains nat_cmp_total (numbers c.args.from c.args.to) c.args.self.now (sym c.covers_range.ensures ∙ c.if-covers_range.true)))
-
 pub returns-in-Some-clause-set : goal.returns-in-Some-clause-set
 returns-in-Some-clause-set c =
-    grown_set c.args.from c.args.to _ c.self.inside.list c.insert.new.self (match_some _ _ _ _ c.in-Some.is c.in_ok-inserted.ensures.inserted)
+    grown_set c.args.from c.args.to _ c.self.inside.list c.insert_in_gap.new.self (match_some _ _ _ _ c.in-Some.is c.in_ok-added.ensures.inserted)
     ∙ ap (λ (s : NumberSet). set.union s (numbers c.args.from c.args.to)) c.self.view_is
 
 pub returns-in-Some-clause-added : goal.returns-in-Some-clause-added
 returns-in-Some-clause-added c =
-    grown_count c.args.from c.args.to c.in-Some.added c.self.inside.list c.insert.new.self c.in_ok-inserted.ensures.normal_before c.in_ok-inserted.ensures.normal (match_some _ _ _ _ c.in-Some.is c.in_ok-inserted.ensures.inserted)
+    grown_count c.args.from c.args.to c.in-Some.added c.self.inside.list c.insert_in_gap.new.self c.in_ok-added.ensures.normal_before c.in_ok-added.ensures.normal (match_some _ _ _ _ c.in-Some.is c.in_ok-added.ensures.inserted)
     ∙ ap (λ (s : NumberSet). set.len (set.difference (numbers c.args.from c.args.to) s)) c.self.view_is

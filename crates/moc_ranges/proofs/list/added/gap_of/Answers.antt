@@ -18,8 +18,8 @@ place_of-requires-2 c =
     let whole = subst (λ (l : List (List (ℕ × ℕ))). IsNormal (joining l)) (parted c.args.nodes.now place.before.now place.behind.now place.run.now c.in_ok-place.ensures.parts) c.requires.stored.normal in
     subst IsNormal (sym (joined-blocks c.blocks-2.result.now)) (node_normal (joining place.before.now) c.blocks-2.result.now place.run.now (joining place.behind.now) c.blocks-2.ensures.value whole)
 
-pub count_ended-ended-requires : goal.count_ended-ended-requires
-count_ended-ended-requires c =
+pub count_ended_about-ended-requires : goal.count_ended_about-ended-requires
+count_ended_about-ended-requires c =
     let place = c.in_ok-place.place in
     let own = c.in_ok-own.own in
     let whole = subst (λ (l : List (List (ℕ × ℕ))). IsNormal (joining l)) (parted c.args.nodes.now place.before.now place.behind.now place.run.now c.in_ok-place.ensures.parts) c.requires.stored.normal in
@@ -31,7 +31,7 @@ returns c =
     let place = c.in_ok-place.place in
     let own = c.in_ok-own.own in
     let rs = c.ranges-ranges.result.now in
-    let k = c.count_ended-ended.result in
+    let k = c.count_ended_about-ended.result in
     let limit = c.saturating_sub.ensures in
     gap_here c.args.from c.args.to k c.args.nodes.now place.before.now place.behind.now place.run.now own.before.now own.behind.now rs
     c.requires.stored c.in_ok-place.ensures.parts
@@ -41,7 +41,7 @@ returns c =
     c.requires.filled c.requires.within
     (omega (arith, c.if-front_from-to.false, c.front_from.ensures))
     (subst (λ (l : List (ℕ × ℕ)). c.args.to < next_of l) (take_rest rs k) c.if-begins_by.ensures)
-    (subst (λ n. EndsBy n (joined (λ (r : ℕ × ℕ). r ∷ []) (take k rs))) limit c.count_ended-ended.ensures.ended)
-    (subst (λ n. IsPastAt (λ (r : ℕ × ℕ). r ∷ []) rs n k) limit c.count_ended-ended.ensures.past)
+    (subst (λ n. EndsBy n (joined (λ (r : ℕ × ℕ). r ∷ []) (take k rs))) limit c.count_ended_about-ended.ensures.ended)
+    (subst (λ n. IsPastAt (λ (r : ℕ × ℕ). r ∷ []) rs n k) limit c.count_ended_about-ended.ensures.past)
     (omega (arith, c.if-ranges-eq-LONGEST.false, ap length c.ranges-ranges.ensures.value, c.ranges-ranges.ensures.fits))
-    c.count_ended-ended.ensures.bound
+    c.count_ended_about-ended.ensures.bound

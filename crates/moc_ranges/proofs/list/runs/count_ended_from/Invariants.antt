@@ -1,5 +1,5 @@
-use Rattle.moc_ranges.proofs.Passing.{IsSkipping}
-use Rattle.moc_ranges.proofs.list.runs.count_ended.Given as goal
+use Rattle.moc_ranges.specs.Private.Walks.{IsSkipping}
+use Rattle.moc_ranges.proofs.list.runs.count_ended_from.Given as goal
 
 abbrev pub invariant-loop-size : goal.invariant-loop-size
 invariant-loop-size g l = IsSkipping g.T.Run.ranges l.runs l.limit l.low l.size
