@@ -1,6 +1,5 @@
 use Rattle.std.proofs.Common.{◌∙◌, ap, sym}
 use Rattle.std.specs.FinSet as set
-use Rattle.std.specs.Cmp.{nat_cmp_total}
 use Rattle.moc_ranges.specs.Numbers.{numbers, NumberSet}
 use Rattle.moc_ranges.proofs.Adding.{no_numbers, there_union, there_count, match_some, grown_set, grown_count}
 use Rattle.moc_ranges.proofs.coverage.Coverage.insert_range.Goals as goal

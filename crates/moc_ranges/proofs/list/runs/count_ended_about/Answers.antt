@@ -1,4 +1,4 @@
-use Rattle.std.proofs.Common.{◌≡◌, ◌<◌, ◌≤◌, length, take, arith, subst, sym}
+use Rattle.std.proofs.Common.{◌≡◌, take, arith, subst}
 use Rattle.moc_ranges.specs.Private.Walks.{joined, EndsBy, IsPastAt}
 use Rattle.moc_ranges.proofs.Passing.{skip_before, skip_from, skip_between, ended_before, past_here}
 use Rattle.moc_ranges.proofs.list.runs.count_ended_about.Goals as goal
