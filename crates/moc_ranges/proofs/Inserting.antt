@@ -7,7 +7,7 @@ use Rattle.std.proofs.lemmas.List.{take-append-drop}
 use Rattle.std.proofs.lemmas.List.Sums.{sum_by-cons}
 use Rattle.moc_ranges.specs.Pixels.{pixel_count}
 use Rattle.moc_ranges.specs.RangeList.{IsNormal}
-use Rattle.moc_ranges.specs.Private.Blocks.{joining, next_of, width_of, AreBlocks, IsIndex, IsStored}
+use Rattle.moc_ranges.specs.Private.Blocks.{joining, next_of, width_of, AreBlocks, AreNodes, IsStored}
 use Rattle.moc_ranges.specs.Private.Built.{EndsBelow, first_length, last_length}
 use Rattle.moc_ranges.specs.Private.Walks.{joined, EndsBy, IsPastAt}
 use Rattle.moc_ranges.specs.Private.Added.{inserted, IsCut, IsGap, HasGap, HasGrown, HasOneMore}
@@ -117,9 +117,9 @@ gap_can from to node block place nodes nodes' found filled same g is =
 pub record IsPut (from to : ℕ) (nodes new : List (List (List (ℕ × ℕ)))) (starts : List ℕ) (size count : ℕ) : Type 0 where
   pub stored : IsStored [] new
   pub grown : HasGrown from to (joining (joining nodes)) (joining (joining new)) (to - from)
-  pub index : IsIndex starts (size + (to - from)) (count + 1) new
+  pub index : AreNodes starts (size + (to - from)) (count + 1) new
 
-pub gap_put : (from to node block place size count : ℕ) (nodes nodes' : List (List (List (ℕ × ℕ)))) (starts : List ℕ) (found put : List (List (ℕ × ℕ))) → from < to → IsStored [] nodes → IsIndex starts size count nodes → nodes' ≡ nodes → IsGap from to nodes' node block place → found ≡ get_or nodes node found → put ≡ inserted found block place (from, to) → IsPut from to nodes (slice_set nodes node put) starts size count
+pub gap_put : (from to node block place size count : ℕ) (nodes nodes' : List (List (List (ℕ × ℕ)))) (starts : List ℕ) (found put : List (List (ℕ × ℕ))) → from < to → IsStored [] nodes → AreNodes starts size count nodes → nodes' ≡ nodes → IsGap from to nodes' node block place → found ≡ get_or nodes node found → put ≡ inserted found block place (from, to) → IsPut from to nodes (slice_set nodes node put) starts size count
 gap_put from to node block place size count nodes nodes' starts found put filled stored index same g is done =
     let run = gap_run from to node block place nodes nodes' found same g is in
     let made = gap_ranges from to node block place nodes nodes' found same g is in

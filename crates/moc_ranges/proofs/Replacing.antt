@@ -3,7 +3,7 @@ use Rattle.std.proofs.Common.{◌≡◌, ℕ, zero, suc, ◌+◌, ◌-◌, ◌<�
 use Rattle.std.specs.Prelude.{slice_set, Option, None, Some, MatchOption}
 use Rattle.moc_ranges.specs.Pixels.{pixel_count}
 use Rattle.moc_ranges.specs.RangeList.{IsNormal}
-use Rattle.moc_ranges.specs.Private.Blocks.{joining, width_of, starts_from, AreFilled, AreBlocks, IsIndex, IsStored}
+use Rattle.moc_ranges.specs.Private.Blocks.{joining, width_of, starts_from, AreFilled, AreBlocks, AreNodes, IsStored}
 use Rattle.moc_ranges.specs.Private.Built.{first_length, last_length}
 use Rattle.moc_ranges.specs.Private.Added.{with_second, IsCut, IsRenewed, IsSpot, HasGrown}
 use Rattle.moc_ranges.proofs.Blocking.{width-append, width_bounded, few_ranges, nothing_more, joining-append}
@@ -153,10 +153,10 @@ pub spot_inside : (from to node block added : ℕ) (nodes nodes' : List (List (L
 spot_inside from to node block added nodes nodes' ranges same s = omega (arith, ap length same, place_inside from to node block added nodes' ranges s)
 
 -- what is kept beside nodes of which one was replaced
-pub kept_renewed : (ns value middle new : List (List (List (ℕ × ℕ)))) (starts starts' : List ℕ) (p size added count n m : ℕ) (old : List (List (ℕ × ℕ))) → ns ≡ value → IsIndex starts size count ns → p < length ns → old ≡ get_or ns p old → n ≡ length (joining old) → m ≡ length (joining (joining middle)) → width_of (joining (joining (take p value ++ (middle ++ drop (p + 1) value)))) ≡ width_of (joining (joining value)) + added → new ≡ take p ns ++ (middle ++ drop (p + 1) ns) → starts' ≡ starts_from 0 (take p ns ++ (middle ++ drop (p + 1) ns)) → IsIndex starts' (size + added) (count - n + m) new
+pub kept_renewed : (ns value middle new : List (List (List (ℕ × ℕ)))) (starts starts' : List ℕ) (p size added count n m : ℕ) (old : List (List (ℕ × ℕ))) → ns ≡ value → AreNodes starts size count ns → p < length ns → old ≡ get_or ns p old → n ≡ length (joining old) → m ≡ length (joining (joining middle)) → width_of (joining (joining (take p value ++ (middle ++ drop (p + 1) value)))) ≡ width_of (joining (joining value)) + added → new ≡ take p ns ++ (middle ++ drop (p + 1) ns) → starts' ≡ starts_from 0 (take p ns ++ (middle ++ drop (p + 1) ns)) → AreNodes starts' (size + added) (count - n + m) new
 kept_renewed ns value middle new starts starts' p size added count n m old same kept lt there is_n is_m grown made placed =
     let more = subst (λ (l : List (List (List (ℕ × ℕ)))). width_of (joining (joining (take p l ++ (middle ++ drop (p + 1) l)))) ≡ width_of (joining (joining l)) + added) (sym same) grown in
-    subst (λ (l : List (List (List (ℕ × ℕ)))). IsIndex starts' (size + added) (count - n + m) l) (sym made) (record {
+    subst (λ (l : List (List (List (ℕ × ℕ)))). AreNodes starts' (size + added) (count - n + m) l) (sym made) (record {
       placed = placed;
       measured = omega (arith, more, kept.measured);
       counted = omega (arith, nodes_renewed ns middle p (p + 1) old lt refl there, node_part ns p n count old lt there is_n kept.counted, kept.counted);
@@ -170,7 +170,7 @@ two_count first second m n is is' =
     omega (arith, ap length (joining-append first (second ++ [])), length-append (joining first) (joining (second ++ [])), ap (λ (l : List (List (ℕ × ℕ))). length (joining l)) (nothing_more second))
 
 -- its bounds
-pub renewed_bounds : (ns value middle : List (List (List (ℕ × ℕ)))) (p size added count n m : ℕ) (starts : List ℕ) (old : List (List (ℕ × ℕ))) → ns ≡ value → IsIndex starts size count ns → p < length ns → old ≡ get_or ns p old → n ≡ length (joining old) → m ≡ length (joining (joining middle)) → IsStored [] (take p value ++ (middle ++ drop (p + 1) value)) → width_of (joining (joining (take p value ++ (middle ++ drop (p + 1) value)))) ≡ width_of (joining (joining value)) + added → (size + added ≤ pixel_count) × (count - n + m ≤ pixel_count)
+pub renewed_bounds : (ns value middle : List (List (List (ℕ × ℕ)))) (p size added count n m : ℕ) (starts : List ℕ) (old : List (List (ℕ × ℕ))) → ns ≡ value → AreNodes starts size count ns → p < length ns → old ≡ get_or ns p old → n ≡ length (joining old) → m ≡ length (joining (joining middle)) → IsStored [] (take p value ++ (middle ++ drop (p + 1) value)) → width_of (joining (joining (take p value ++ (middle ++ drop (p + 1) value)))) ≡ width_of (joining (joining value)) + added → (size + added ≤ pixel_count) × (count - n + m ≤ pixel_count)
 renewed_bounds ns value middle p size added count n m starts old same kept lt there is_n is_m stored grown =
     let k = kept_renewed ns value middle _ starts _ p size added count n m old same kept lt there is_n is_m grown refl refl in
     let normal = subst (λ (l : List (List (List (ℕ × ℕ)))). IsStored [] (take p l ++ (middle ++ drop (p + 1) l))) (sym same) stored in

@@ -1,5 +1,5 @@
 -- Lists of ranges that are kept in blocks, and blocks in nodes.
-use Rattle.std.specs.Prelude.{◌≡◌, ℕ, ◌+◌, ◌-◌, ◌<◌, ◌≤◌, List, [], ◌∷◌, ◌++◌, length, take, sum_by}
+use Rattle.std.specs.Prelude.{◌≡◌, ℕ, ◌+◌, ◌-◌, ◌<◌, ◌≤◌, List, [], ◌∷◌, ◌++◌, length, take, map, sum_by}
 use Rattle.moc_ranges.specs.RangeList.{IsNormal}
 pub use Rattle.moc_ranges.specs.Blocks.{joining, NeedsBoth, AreFilled, AreBlocks}
 
@@ -69,11 +69,10 @@ starts_from n (list ∷ lists) = n ∷ starts_from (n + length list) lists
 
 -- starts of lists behind one that has so many elements less, and so many more
 abbrev pub moved : ℕ → ℕ → List ℕ → List ℕ
-moved less more [] = []
-moved less more (start ∷ starts) = (start - less + more) ∷ moved less more starts
+moved less more starts = map (λ start. start - less + more) starts
 
 -- what is kept beside nodes: how many blocks lie before each, how many numbers they have, and how many ranges
-pub record IsIndex (starts : List ℕ) (size count : ℕ) (nodes : List (List (List (ℕ × ℕ)))) : Type 0 where
+pub record AreNodes (starts : List ℕ) (size count : ℕ) (nodes : List (List (List (ℕ × ℕ)))) : Type 0 where
   pub placed : starts ≡ starts_from 0 nodes
   pub measured : size ≡ width_of (joining (joining nodes))
   pub counted : count ≡ length (joining (joining nodes))

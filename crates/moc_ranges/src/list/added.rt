@@ -5,7 +5,7 @@ ghost use Rattle.std.specs.Prelude.{IfOk, IfSome, MatchOption, OnOk, OnErr};
 ghost use Rattle.std.specs.Bool.{OnTrue, OnFalse};
 ghost use Rattle.moc_ranges.specs.Pixels.{pixel_count};
 ghost use Rattle.moc_ranges.specs.RangeList.{IsNormal};
-ghost use Rattle.moc_ranges.specs.Private.Blocks.{joining, next_of, AreFilled, AreBlocks, IsStored};
+ghost use Rattle.moc_ranges.specs.Private.Blocks.{joining, next_of, AreBlocks, IsStored};
 ghost use Rattle.moc_ranges.specs.Private.Built.{first_length, EndsBelow};
 ghost use Rattle.moc_ranges.specs.Private.Walks.{joined};
 ghost use Rattle.moc_ranges.specs.Private.Added.{pieces};
@@ -374,31 +374,6 @@ pub fn renew(
         second,
         added,
     }))
-}
-
-/// Puts two nodes in place of one.
-pub fn put_two(
-    nodes: &mut Vec<Node>,
-    place: usize,
-    first: Node,
-    second: Node,
-) -> Result<(), AllocError>
-    requires { place < length nodes.old.items }
-    ensures new { OnOk result (nodes.new.items
-        ≡ take place nodes.old.items ++ (first ∷ (second ∷ drop (place + 1) nodes.old.items))) }
-    ensures unchanged { OnErr result (nodes.new.items ≡ nodes.old.items) }
-{
-    nodes.insert(place + 1, second)?;
-    nodes[place] = first;
-    Ok(())
-}
-
-/// Puts a node in place of one.
-pub fn put_one(nodes: &mut Vec<Node>, place: usize, first: Node)
-    requires { place < length nodes.old.items }
-    ensures { nodes.new.items ≡ take place nodes.old.items ++ (first ∷ drop (place + 1) nodes.old.items) }
-{
-    nodes[place] = first;
 }
 
 /// Adds a range to few ranges, and tells how many numbers are new. None where they would be too many; they then are as

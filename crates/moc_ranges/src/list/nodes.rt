@@ -2,11 +2,10 @@
 ghost use Rattle.std.specs.Prelude.{◌≡◌, ◌+◌, ◌<◌, ◌≤◌, ◌++◌, [], ◌∷◌, ℕ, length, get_or, take, drop};
 ghost use Rattle.std.specs.Prelude.{vec_len, vec_capacity, IfOk, MatchOption, OnErr, OnOk};
 ghost use Rattle.moc_ranges.specs.Pixels.{pixel_count};
-ghost use Rattle.moc_ranges.specs.RangeList.{IsNormal};
 ghost use Rattle.moc_ranges.specs.Private.Blocks.{joining, moved, width_of, AreStored, IsCountBegun, IsStored};
 ghost use Rattle.moc_ranges.specs.Private.Added.{with_second, HasGrown};
 
-use crate::list::added::{Gap, Renewed, Spot, gap_of, put_one, put_two, renew, spot_of};
+use crate::list::added::{Gap, Renewed, Spot, gap_of, renew, spot_of};
 use crate::list::block::Block;
 use crate::list::node::{Node, share_nodes};
 use std::alloc::{AllocError, Global};
@@ -23,13 +22,33 @@ pub struct Nodes {
 
 impl Model for Nodes {
     ghost use Rattle.std.specs.Prelude.{◌≡◌, List, ℕ};
-    ghost use Rattle.moc_ranges.specs.Private.Blocks.{IsIndex};
+    ghost use Rattle.moc_ranges.specs.Private.Blocks.{AreNodes};
 
     ghost Value = { List (List (List (ℕ × ℕ))) };
 
     ghost view = { λ n. n.nodes.items };
 
-    ghost invariant = { λ n. IsIndex n.starts.items n.size n.count n.nodes.items };
+    ghost invariant = { λ n. AreNodes n.starts.items n.size n.count n.nodes.items };
+}
+
+/// Puts two nodes in place of one.
+fn put_two(nodes: &mut Vec<Node>, place: usize, first: Node, second: Node) -> Result<(), AllocError>
+    requires { place < length nodes.old.items }
+    ensures new { OnOk result (nodes.new.items
+        ≡ take place nodes.old.items ++ (first ∷ (second ∷ drop (place + 1) nodes.old.items))) }
+    ensures unchanged { OnErr result (nodes.new.items ≡ nodes.old.items) }
+{
+    nodes.insert(place + 1, second)?;
+    nodes[place] = first;
+    Ok(())
+}
+
+/// Puts a node in place of one.
+fn put_one(nodes: &mut Vec<Node>, place: usize, first: Node)
+    requires { place < length nodes.old.items }
+    ensures { nodes.new.items ≡ take place nodes.old.items ++ (first ∷ drop (place + 1) nodes.old.items) }
+{
+    nodes[place] = first;
 }
 
 /// Moves each start by what a node before it has more or fewer blocks than it had.

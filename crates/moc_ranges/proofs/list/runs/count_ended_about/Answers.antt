@@ -23,17 +23,17 @@ count_ended_from-requires-2-clause-there g c =
     let high = c.min-high.result in
     let ended : EndsBy c.args.limit (joined g.T.Run.ranges (take low c.args.runs.now)) = elim c.else-low-gt0.branch [
       | else-low-gt0-via-then-low-gt0+else-limit-end w ↦
-        ended_before g.T.Run.ranges c.args.runs.now low c.args.limit w.index-runs-low.result c.requires
-        (omega (arith, w.if-low-gt0.true)) (omega (arith, c.min-low.ensures)) w.index-runs-low.is w.end.ensures.some
-        (omega (arith, w.end.ensures.value, w.if-limit-end.false))
+          ended_before g.T.Run.ranges c.args.runs.now low c.args.limit w.index-runs-low.result c.requires
+          (omega (arith, w.if-low-gt0.true)) (omega (arith, c.min-low.ensures)) w.index-runs-low.is w.end.ensures.some
+          (omega (arith, w.end.ensures.value, w.if-limit-end.false))
       | else-low-gt0-via-else-low-gt0 w ↦
-        let none : 0 ≡ low = omega (arith, w.if-low-gt0.false) in
-        subst (λ k. EndsBy c.args.limit (joined g.T.Run.ranges (take k c.args.runs.now))) none tt
+          let none : 0 ≡ low = omega (arith, w.if-low-gt0.false) in
+          subst (λ k. EndsBy c.args.limit (joined g.T.Run.ranges (take k c.args.runs.now))) none tt
     ] in
     let past : IsPastAt g.T.Run.ranges c.args.runs.now c.args.limit high = elim c.else-high-len.branch [
       | else-high-len-via-then-high-len+else-end-limit w ↦
-        past_here g.T.Run.ranges c.args.runs.now c.args.limit high w.index-runs-high.result w.index-runs-high.is
-        (omega (arith, w.end-then-high-len.ensures.value, w.if-end-limit.false))
+          past_here g.T.Run.ranges c.args.runs.now c.args.limit high w.index-runs-high.result w.index-runs-high.is
+          (omega (arith, w.end-then-high-len.ensures.value, w.if-end-limit.false))
       | else-high-len-via-else-high-len w ↦ λ run inside. absurd (omega (arith, inside, w.if-high-len.false))
     ] in
     skip_between g.T.Run.ranges c.args.runs.now c.args.limit low high

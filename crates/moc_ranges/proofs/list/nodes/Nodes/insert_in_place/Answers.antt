@@ -1,5 +1,5 @@
 use Rattle.std.proofs.Common.{[], List, ℕ, length, slice_set, refl, ap, sym, subst, ◌∙◌, arith}
-use Rattle.moc_ranges.specs.Private.Blocks.{joining, IsIndex, IsStored}
+use Rattle.moc_ranges.specs.Private.Blocks.{joining, AreNodes, IsStored}
 use Rattle.moc_ranges.specs.Private.Added.{HasGrown}
 use Rattle.moc_ranges.proofs.Adding.{some_of}
 use Rattle.moc_ranges.proofs.Blocking.{few_ranges, width_bounded}
@@ -20,7 +20,7 @@ put_block-requires-clause-sized c = spot_sized c.args.from c.args.to _ _ _ c.sel
 pub invariant_of-self : goal.invariant_of-self
 invariant_of-self c =
     let still = set_same c.self.inside.nodes.items _ _ _ c.index_mut.ensures.value (c.if-not-put_block.ensures.unchanged refl) in
-    subst (λ (l : List (List (List (ℕ × ℕ)))). IsIndex c.self.inside.starts.items c.self.inside.size c.self.inside.count l) (sym still) c.self.invariant
+    subst (λ (l : List (List (List (ℕ × ℕ)))). AreNodes c.self.inside.starts.items c.self.inside.size c.self.inside.count l) (sym still) c.self.invariant
 
 pub returns-then-not-put_block-clause-stored : goal.returns-then-not-put_block-clause-stored
 returns-then-not-put_block-clause-stored c =

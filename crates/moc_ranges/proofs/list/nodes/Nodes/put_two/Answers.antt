@@ -1,6 +1,6 @@
 use Rattle.std.proofs.Common.{◌<◌, ◌+◌, [], ◌∷◌, List, ℕ, length, get_or, sym, subst, ap, ◌∙◌, arith}
 use Rattle.std.specs.Prelude.{vec_len, vec_capacity}
-use Rattle.moc_ranges.specs.Private.Blocks.{IsIndex, IsStored}
+use Rattle.moc_ranges.specs.Private.Blocks.{AreNodes, IsStored}
 use Rattle.moc_ranges.proofs.Replacing.{node_part, kept_renewed, renewed_bounds, two_count}
 use Rattle.moc_ranges.proofs.Places.{starts_length, starts_fit, start_bound, placed_two, stored_blocks}
 use Rattle.moc_ranges.proofs.list.nodes.Nodes.put_two.Goals as goal
@@ -20,7 +20,7 @@ overflow_add-ranges c =
     omega (arith, (renewed_bounds c.self.inside.nodes.items c.args.self.now (c.args.first ∷ (c.args.second ∷ [])) c.args.place _ c.args.added _ _ _ _ _ c.self.view_is c.self.invariant (omega (arith, ap length c.self.view_is, c.requires.place)) c.index.ensures c.count.ensures.value (two_count c.args.first c.args.second _ _ c.count-2.ensures.value c.count-3.ensures.value) c.requires.stored c.requires.grown).1)
 
 pub invariant_of-self : goal.invariant_of-self
-invariant_of-self c = subst (λ (l : List ℕ). IsIndex l c.self.inside.size c.self.inside.count c.self.inside.nodes.items) (sym c.reserve.ensures.items) c.self.invariant
+invariant_of-self c = subst (λ (l : List ℕ). AreNodes l c.self.inside.size c.self.inside.count c.self.inside.nodes.items) (sym c.reserve.ensures.items) c.self.invariant
 
 pub move_behind-requires-clause-there : goal.move_behind-requires-clause-there
 move_behind-requires-clause-there c = omega (arith, ap length c.self.view_is, c.requires.place, ap length c.self.invariant.placed, starts_length 0 c.self.inside.nodes.items, ap length c.reserve.ensures.items)
