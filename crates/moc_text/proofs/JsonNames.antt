@@ -1,15 +1,14 @@
 -- The members that are written order by order, by the names' byte order, are those that the definition puts in one after
 -- another; and their tokens are read back as these members.
-use Rattle.std.proofs.Common.{Less, Equal, Greater, ◌≡◌, ℕ, zero, suc, ◌+◌, ◌<◌, Bool, true, false, cond, ◌&&◌, eqb, List, [], ◌∷◌, ◌++◌, length, drop, get_or, map, Option, Some, refl, sym, ap, ◌∙◌, arith, append-nil, append_assoc}
-use Rattle.std.proofs.lemmas.List.{drop_more}
+use Rattle.std.proofs.Common.{Less, Equal, Greater, ◌≡◌, ℕ, zero, suc, Bool, true, false, cond, ◌&&◌, eqb, List, [], ◌∷◌, ◌++◌, map, Option, Some, refl, sym, ap, ◌∙◌, arith, append-nil, append_assoc}
 use Rattle.std.specs.Prelude.{decimal, option_map, option_and_then}
 use Rattle.std.specs.Ordering.{nat_cmp, is_lt, is_gt}
 use Rattle.std.specs.declared.cmp.Ordering.{Ordering}
 use Rattle.std.specs.Cmp.Lexicographic.{slice_cmp}
 use Rattle.std.specs.List.{filter, AllByRecursion}
 use Rattle.std.specs.Fmt.{digits}
-use Rattle.json.specs.Token.{Token}
-use Rattle.json.specs.Tree.{members_tokens}
+use Rattle.json.specs.Tree.{ItemsHaveNumbers, MembersHaveNumbers}
+use Rattle.json.proofs.Printed.Decimals.{IsNumber-decimal}
 use Rattle.serde_json.specs.Data.{Data, array, Members, no_members, member, put}
 use Rattle.serde_json.specs.View.{items_of}
 use Rattle.serde_json.specs.Read.{of_json, of_items, of_members}
@@ -17,7 +16,7 @@ use Rattle.serde_json.specs.Written.{outline, items_outline, members_outline}
 use Rattle.serde_json.proofs.Numbers.{number_of-decimal}
 use Rattle.moc_sphere.specs.CellNumber.{CellNumber, IsCell}
 use Rattle.moc_text.specs.JsonText.{datum, data_at, is_name, with_order, members_below}
-use Rattle.moc_text.specs.Private.JsonWriting.{orders_by_name, members_along, array_rest, object_rest, order_tokens}
+use Rattle.moc_text.specs.Private.JsonWriting.{orders_by_name, members_along}
 use Rattle.moc_text.proofs.Powers.{cells_fit}
 
 -- ---- orders by their names
@@ -167,7 +166,21 @@ module _ (cells : List CellNumber) (bare : Option ℕ) where
   pub members_by_name : members_below cells bare 30 ≡ members_along cells bare orders_by_name
   members_by_name = below_by_name 30 all_well_put ∙ ap (members_along cells bare) by_name_is
 
-  -- ---- what the tokens are read back as
+  -- ---- numbers, and what the tokens are read back as
+
+  items_numbers : (xs : List CellNumber) → AllByRecursion IsCell xs → ItemsHaveNumbers (items_outline (items_of (map datum xs)))
+  items_numbers [] h = tt
+  items_numbers (c ∷ xs) h = (IsNumber-decimal c.index (omega (arith, (h.0).index_in_range, cells_fit c.order (h.0).order_in_range)), items_numbers xs h.1)
+
+  -- the text of each number is one
+  pub along_numbers : (ks : List ℕ) → AllByRecursion IsCell cells → MembersHaveNumbers (members_outline (members_along cells bare ks))
+  along_numbers [] h = tt
+  along_numbers (k ∷ ks) h =
+      let rest = along_numbers ks h in
+      elim (named k) as (λ v. MembersHaveNumbers (members_outline (cond v (member (decimal k) (value_of cells k) (members_along cells bare ks)) (members_along cells bare ks)))) [
+        | true ↦ (items_numbers (filter (λ c. eqb c.order k) cells) (all_filter (λ c. eqb c.order k) cells h), rest)
+        | false ↦ rest
+      ]
 
   items_back : (xs : List CellNumber) → AllByRecursion IsCell xs → of_items (items_outline (items_of (map datum xs))) ≡ Some (items_of (map datum xs))
   items_back [] h = refl
@@ -199,22 +212,3 @@ module _ (cells : List CellNumber) (bare : Option ℕ) where
 
   pub members_back : AllByRecursion IsCell cells → of_members (members_outline (members_along cells bare orders_by_name)) no_members ≡ Some (members_along cells bare orders_by_name)
   members_back h = along_back [] orders_by_name h orders_rise
-
--- ---- one order after another
-
-order_then : (cells : List CellNumber) (bare : Option ℕ) (k : ℕ) (ks : List ℕ) → order_tokens k bare (filter (λ c. eqb c.order k) cells) ++ object_rest cells bare ks ≡ object_rest cells bare (k ∷ ks)
-order_then cells bare k ks =
-    let here = filter (λ c. eqb c.order k) cells in
-    elim (is_name k bare (data_at k cells)) as (λ v. cond v (Token.key (decimal k) ∷ Token.begin_array ∷ array_rest here) [] ++ object_rest cells bare ks ≡ members_tokens (members_outline (cond v (member (decimal k) (value_of cells k) (members_along cells bare ks)) (members_along cells bare ks)))) [
-      | true ↦ refl
-      | false ↦ refl
-    ]
-
-pub written_more : (cells here : List CellNumber) (bare : Option ℕ) (i : ℕ) (ks : List ℕ) (old new : List Token) → i < length ks → here ≡ filter (λ c. eqb c.order (get_or ks i 0)) cells → new ≡ old ++ order_tokens (get_or ks i 0) bare here
-    → new ++ object_rest cells bare (drop (i + 1) ks) ≡ old ++ object_rest cells bare (drop i ks)
-written_more cells here bare i ks old new lt is put_in =
-    let k = get_or ks i 0 in
-    let next : k ∷ drop (i + 1) ks ≡ drop i ks = sym (drop_more ks i 0 lt) in
-    ap (λ (ts : List Token). ts ++ object_rest cells bare (drop (i + 1) ks)) put_in
-    ∙ append_assoc old (order_tokens k bare here) (object_rest cells bare (drop (i + 1) ks))
-    ∙ ap (λ (ts : List Token). old ++ ts) (ap (λ (x : List CellNumber). order_tokens k bare x ++ object_rest cells bare (drop (i + 1) ks)) is ∙ order_then cells bare k (drop (i + 1) ks) ∙ ap (object_rest cells bare) next)

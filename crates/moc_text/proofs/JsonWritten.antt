@@ -16,7 +16,9 @@ use Rattle.json.specs.Token.{Token}
 use Rattle.json.specs.Lex.{tokens}
 use Rattle.json.specs.Print.{print}
 use Rattle.json.specs.Tree as tree
-use Rattle.json.proofs.Printed.Trees.{value-json_tokens}
+use Rattle.json.specs.Tree.{json_tokens}
+use Rattle.json.proofs.Printed.Tokens.{tokens-print}
+use Rattle.json.proofs.Printed.Trees.{ArePrintable-json_tokens, value-json_tokens}
 use Rattle.serde_json.specs.Data.{Data, null, boolean, number, string, array, object, Items, no_items, item, Members, no_members, member, put, depth, items_depth, members_depth}
 use Rattle.serde_json.specs.Find.{as_array}
 use Rattle.serde_json.specs.View.{items_of}
@@ -34,9 +36,9 @@ use Rattle.moc_text.specs.Ascii.{deeper, IsNumber}
 use Rattle.moc_text.specs.AsciiText.{HasDeeper, IsTooCoarse, deepest_cell, deepest_written, stated_beyond}
 use Rattle.moc_text.specs.JsonForm.{order_of_name, items_pixels, items_fault, array_pixels, name_fault, members_pixels, members_fault, deepest_name, SaysJson}
 use Rattle.moc_text.specs.JsonText.{datum, data_at, is_bare, is_name, with_order, members_below, members_of_cells, json_value, json_text}
-use Rattle.moc_text.specs.Private.JsonWriting.{members_along, object_tokens, orders_by_name}
+use Rattle.moc_text.specs.Private.JsonWriting.{members_along, orders_by_name}
 use Rattle.moc_text.specs.Private.AsciiWriting.{AreRising}
-use Rattle.moc_text.proofs.JsonNames.{members_by_name, members_back}
+use Rattle.moc_text.proofs.JsonNames.{along_numbers, members_by_name, members_back}
 use Rattle.moc_text.proofs.Written.{IsNumber-decimal, value-decimal, not_deeper, stated_is_deepest}
 
 -- ---- the cells of a set stand by rising order
@@ -467,14 +469,17 @@ unfolding json_value
 written_value a stated = ap (λ (ms : Members). object ms) (sym (members_by_name (cells_of a) (bare_of a stated)))
 
 -- its text
-pub written_text : (a : NumberSet) (stated : Option ℕ) → print (object_tokens (cells_of a) (bare_of a stated)) ≡ json_text a stated
+pub written_text : (a : NumberSet) (stated : Option ℕ) → compact_text (object (members_along (cells_of a) (bare_of a stated) orders_by_name)) ≡ json_text a stated
 unfolding json_text
-written_text a stated = print-outline (object (members_along (cells_of a) (bare_of a stated) orders_by_name)) ∙ ap compact_text (written_value a stated)
+written_text a stated = ap compact_text (written_value a stated)
 
 -- what its text is read back as
-pub written_read : (a : NumberSet) (stated : Option ℕ) (text : List ℕ) → tokens text ≡ object_tokens (cells_of a) (bare_of a stated) → read text ≡ Some (json_value a stated)
-written_read a stated text same =
+pub written_read : (a : NumberSet) (stated : Option ℕ) (text : List ℕ) → text ≡ json_text a stated → read text ≡ Some (json_value a stated)
+written_read a stated text is =
     let value = object (members_along (cells_of a) (bare_of a stated) orders_by_name) in
+    let printed : text ≡ print (json_tokens (outline value)) = is ∙ sym (written_text a stated) ∙ sym (print-outline value) in
+    let same : tokens text ≡ json_tokens (outline value) =
+    ap tokens printed ∙ tokens-print (json_tokens (outline value)) (ArePrintable-json_tokens (outline value) (along_numbers (cells_of a) (bare_of a stated) orders_by_name (cells_are a))) in
     let back : of_json (outline value) ≡ Some value = ap (option_map object) (members_back (cells_of a) (bare_of a stated) (cells_are a)) in
     let flat : tree.depth (outline value) ≤ max_depth = omega (arith, depth_same value, ap depth (written_value a stated), shallow a stated) in
     ap (λ (o : Option (json.Json × List Token)). option_and_then of_json (option_and_then (λ p. json.if_last p.0 p.1) o)) (ap (json.value max_depth) (same ∙ sym (append-nil _)) ∙ value-json_tokens (outline value) max_depth [] flat) ∙ back ∙ ap (λ (d : Data). Some d) (written_value a stated)

@@ -17,3 +17,4 @@ pub mod JsonNames
 pub mod JsonWritten
 pub mod Rows
 pub mod JsonRows
+pub mod Waiting

@@ -3,6 +3,7 @@
 
 mod ascii;
 mod json_form;
+mod text_writer;
 mod uniq;
 
 pub use ascii::{TextError, read_ascii, readings_are_told, write_ascii};

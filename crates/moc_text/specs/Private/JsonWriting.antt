@@ -1,10 +1,8 @@
 -- The parts of a JSON text in the order in which they are written.
-use Rattle.std.specs.Prelude.{ℕ, ◌-◌, if◌then◌else◌, List, [], ◌∷◌, map, Option, decimal}
-use Rattle.json.specs.Token.{Token}
-use Rattle.json.specs.Tree.{items_tokens, members_tokens}
-use Rattle.serde_json.specs.Data.{array, Members, no_members, member}
+use Rattle.std.specs.Prelude.{ℕ, ◌-◌, true, if◌then◌else◌, List, [], ◌∷◌, map, Option, decimal}
+use Rattle.serde_json.specs.Data.{Data, array, Members, no_members, member}
 use Rattle.serde_json.specs.View.{items_of}
-use Rattle.serde_json.specs.Written.{items_outline, members_outline}
+use Rattle.serde_json.specs.Written.{items_text}
 use Rattle.std.specs.List.{range_with_len}
 use Rattle.moc_sphere.specs.CellNumber.{CellNumber, cell_number}
 use Rattle.moc_text.specs.JsonText.{datum, data_at, is_name}
@@ -15,31 +13,20 @@ orders_by_name =
     0 ∷ 1 ∷ 10 ∷ 11 ∷ 12 ∷ 13 ∷ 14 ∷ 15 ∷ 16 ∷ 17 ∷ 18 ∷ 19 ∷ 2 ∷ 20 ∷ 21 ∷ 22 ∷ 23 ∷ 24 ∷ 25 ∷ 26 ∷ 27 ∷ 28 ∷ 29 ∷ 3
     ∷ 4 ∷ 5 ∷ 6 ∷ 7 ∷ 8 ∷ 9 ∷ []
 
+-- an order with its array before members, if it is a name
+abbrev pub member_before : ℕ → Option ℕ → List Data → Members → Members
+member_before k bare ds members =
+    if is_name k bare ds then member (decimal k) (array (items_of ds)) members else members
+
 -- the members of orders, in the sequence of the list: those that are names
 abbrev pub members_along : List CellNumber → Option ℕ → List ℕ → Members
 members_along cells bare [] = no_members
-members_along cells bare (k ∷ ks) =
-    if is_name k bare (data_at k cells)
-    then member (decimal k) (array (items_of (data_at k cells))) (members_along cells bare ks)
-    else members_along cells bare ks
+members_along cells bare (k ∷ ks) = member_before k bare (data_at k cells) (members_along cells bare ks)
 
 -- the cells of order k in a range of indices
 abbrev pub row_of : ℕ → ℕ × ℕ → List CellNumber
 row_of k range = map (cell_number k) (range_with_len range.0 (range.1 - range.0))
 
--- the numbers of cells, and the end of their array
-abbrev pub array_rest : List CellNumber → List Token
-array_rest cells = items_tokens (items_outline (items_of (map datum cells)))
-
--- the members of orders, and the end of their object
-abbrev pub object_rest : List CellNumber → Option ℕ → List ℕ → List Token
-object_rest cells bare ks = members_tokens (members_outline (members_along cells bare ks))
-
--- the name of an order and its array, if it is a name
-abbrev pub order_tokens : ℕ → Option ℕ → List CellNumber → List Token
-order_tokens k bare cells =
-    if is_name k bare (map datum cells) then Token.key (decimal k) ∷ Token.begin_array ∷ array_rest cells else []
-
--- the whole object
-abbrev pub object_tokens : List CellNumber → Option ℕ → List Token
-object_tokens cells bare = Token.begin_object ∷ object_rest cells bare orders_by_name
+-- the numbers of cells behind others, and the end of their array
+abbrev pub array_rest : List CellNumber → List ℕ
+array_rest cells = items_text true (items_of (map datum cells))

@@ -1,23 +1,20 @@
 //! Writing the JSON form.
-ghost use Rattle.std.specs.Prelude.{◌≡◌, ◌++◌, ◌<◌, ◌≤◌, ◌==◌, [], ◌∷◌, decimal, IfErr, IfOk, List, OnOk, ℕ, ◌⊎◌};
-ghost use Rattle.std.specs.List.{filter};
+ghost use Rattle.std.specs.Prelude.{◌≡◌, ◌++◌, ◌<◌, ◌≤◌, [], ◌∷◌, decimal, false, IfErr, IfOk, List, OnOk, ℕ, ◌⊎◌};
 ghost use Rattle.std.specs.String.{string_bytes};
-ghost use Rattle.json.specs.Lex.{tokens};
-ghost use Rattle.json.specs.Print.{print};
-ghost use Rattle.json.specs.Token.{Token};
+ghost use Rattle.json.specs.Print.{quoted};
+ghost use Rattle.serde_json.specs.Data.{Members, object};
+ghost use Rattle.serde_json.specs.Written.{comma_if, compact_text, members_text};
 ghost use Rattle.moc_sphere.specs.CellNumber.{CellNumber};
 ghost use Rattle.moc_ranges.specs.Cells.{cells_in, cells_of};
 ghost use Rattle.moc_text.specs.AsciiText.{deepest_written, IsTooCoarse};
 ghost use Rattle.moc_text.specs.JsonForm.{SaysJson};
-ghost use Rattle.moc_text.specs.JsonText.{json_text};
+ghost use Rattle.moc_text.specs.JsonText.{data_at, json_text};
 ghost use Rattle.moc_text.specs.Private.AsciiWriting.{AreOfOrders};
-ghost use Rattle.moc_text.specs.Private.JsonWriting.{array_rest, object_rest, object_tokens, order_tokens};
-ghost use Rattle.moc_text.specs.Private.JsonWriting.{orders_by_name, row_of};
+ghost use Rattle.moc_text.specs.Private.JsonWriting.{array_rest, member_before, members_along, orders_by_name, row_of};
 
 use crate::ascii::{ROOM, beyond, deepest_of, depth_of, is_too_coarse};
 use crate::json_form::error::JsonError;
-use itoa::Buffer;
-use json::Writer;
+use crate::text_writer::TextWriter;
 use moc_ranges::{CellRanges, Coverage};
 use moc_sphere::Order;
 use std::alloc::{AllocError, Global};
@@ -28,107 +25,113 @@ const ORDERS: &[u8] = &[
     5, 6, 7, 8, 9,
 ];
 
-/// Writes the numbers of the cells from the first up to, not including, the end.
+/// Writes the numbers of the cells from the first up to, not including, the end, each behind a comma.
 #[inline(always)]
-fn write_row(json: &mut Writer, first: u64, end: u64) -> Result<(), AllocError>
-    ensures before { json.new.before ≡ json.old.before }
-    ensures tokens { OnOk result ((k : ℕ) (rest : List CellNumber) →
-        json.new.tokens ++ array_rest rest ≡ json.old.tokens ++ array_rest (row_of k (first, end) ++ rest)) }
+fn write_run(text: &mut TextWriter, first: u64, end: u64) -> Result<(), AllocError>
+    ensures { OnOk result ((k : ℕ) (rest : List CellNumber) →
+        text.new ++ array_rest rest ≡ text.old ++ array_rest (row_of k (first, end) ++ rest)) }
 {
     for index in first..end {
-        json.u64(index)?;
+        text.push_number(b',', index)?;
     }
     Ok(())
 }
 
-/// Writes the numbers of cells, and the end of their array.
-fn write_rows(json: &mut Writer, ranges: CellRanges<'_>) -> Result<(), AllocError>
-    ensures before { json.new.before ≡ json.old.before }
-    ensures tokens { OnOk result ((k : ℕ) →
-        json.new.tokens ≡ json.old.tokens ++ array_rest (cells_in k ranges.entry)) }
+/// Writes the numbers of cells, each behind a comma, and the end of their array.
+fn write_runs(text: &mut TextWriter, ranges: CellRanges<'_>) -> Result<(), AllocError>
+    ensures { OnOk result ((k : ℕ) → text.new ≡ text.old ++ array_rest (cells_in k ranges.entry)) }
 {
     for (first, end) in ranges {
-        write_row(json, first, end)?;
+        write_run(text, first, end)?;
     }
-    json.end_array()
+    text.push_str("]")
 }
 
-/// Writes the name of an order, and the beginning of its array.
-fn begin_order(json: &mut Writer, depth: u8) -> Result<(), AllocError>
-    ensures before { json.new.before ≡ json.old.before }
-    ensures tokens { OnOk result (json.new.tokens
-        ≡ json.old.tokens ++ Token.key (decimal depth) ∷ Token.begin_array ∷ []) }
+/// Writes a comma, where a name stands before.
+fn push_comma(text: &mut TextWriter, behind: bool) -> Result<(), AllocError>
+    ensures { OnOk result (text.new ≡ text.old ++ comma_if behind) }
 {
-    json.key(Buffer::new().format(depth))?;
-    json.begin_array()
+    if behind {
+        text.push_str(",")?;
+    }
+    Ok(())
 }
 
-/// Writes the name of an order without cells and its array, where that is a name.
-fn write_bare(json: &mut Writer, depth: u8, bare: Option<u8>) -> Result<(), AllocError>
-    ensures before { json.new.before ≡ json.old.before }
-    ensures tokens { OnOk result (json.new.tokens ≡ json.old.tokens ++ order_tokens depth bare []) }
+/// Writes the name of an order, and its colon; behind a comma, where a name stands before.
+fn write_name(text: &mut TextWriter, depth: u8, behind: bool) -> Result<(), AllocError>
+    ensures { OnOk result (text.new ≡ text.old ++ comma_if behind ++ quoted (decimal depth) ++ 58 ∷ []) }
+{
+    push_comma(text, behind)?;
+    text.push_number(b'"', u64::from(depth))?;
+    text.push_str("\":")
+}
+
+/// Writes the name of an order without cells and its array, where that is a name. Answers whether a name stands there
+/// then.
+fn write_bare(
+    text: &mut TextWriter,
+    depth: u8,
+    bare: Option<u8>,
+    behind: bool,
+) -> Result<bool, AllocError>
+    ensures { IfOk result (λ after. (members : Members) →
+        text.new ++ members_text after members ≡ text.old ++ members_text behind (member_before depth bare [] members)) }
 {
     if bare != Some(depth) {
-        return Ok(());
+        return Ok(behind);
     }
-    begin_order(json, depth)?;
-    json.end_array()
+    write_name(text, depth, behind)?;
+    text.push_str("[]")?;
+    Ok(true)
 }
 
 /// Writes the name of an order and its array, where it has cells or is the one without cells. The set's cells are
-/// of the orders given.
+/// of the orders given. Answers whether a name stands there then.
 fn write_order(
-    json: &mut Writer,
+    text: &mut TextWriter,
     depth: u8,
     bare: Option<u8>,
     set: &Coverage,
     orders: (u8, u8),
-) -> Result<(), AllocError>
+    behind: bool,
+) -> Result<bool, AllocError>
     requires each { AreOfOrders orders.0 orders.1 (cells_of set.now) }
     requires in_range { orders.1 ≤ 30 }
-    ensures before { json.new.before ≡ json.old.before }
-    ensures tokens { OnOk result (json.new.tokens ≡ json.old.tokens
-        ++ order_tokens depth bare (filter (λ c. c.order == depth) (cells_of set.now))) }
+    ensures { IfOk result (λ after. (members : Members) → text.new ++ members_text after members
+        ≡ text.old ++ members_text behind (member_before depth bare (data_at depth (cells_of set.now)) members)) }
 {
     if depth < orders.0 || orders.1 <= depth {
-        return write_bare(json, depth, bare);
+        return write_bare(text, depth, bare, behind);
     }
     let mut ranges = set.cell_ranges(Order::of(depth));
     let Some((first, end)) = ranges.next() else {
-        return write_bare(json, depth, bare);
+        return write_bare(text, depth, bare, behind);
     };
-    begin_order(json, depth)?;
-    write_row(json, first, end)?;
-    write_rows(json, ranges)
+    write_name(text, depth, behind)?;
+    text.push_number(b'[', first)?;
+    write_run(text, first + 1, end)?;
+    write_runs(text, ranges)?;
+    Ok(true)
 }
 
 /// Writes the names of the cells of a set, whose orders are given, and of an order without cells, and the end of the
 /// object.
 fn write_orders(
-    json: &mut Writer,
+    text: &mut TextWriter,
     set: &Coverage,
     orders: (u8, u8),
     bare: Option<u8>,
 ) -> Result<(), AllocError>
     requires each { AreOfOrders orders.0 orders.1 (cells_of set.now) }
     requires in_range { orders.1 ≤ 30 }
-    ensures before { json.new.before ≡ json.old.before }
-    ensures tokens { OnOk result (json.new.tokens ≡ json.old.tokens
-        ++ object_rest (cells_of set.now) bare orders_by_name) }
+    ensures { OnOk result (text.new
+        ≡ text.old ++ members_text false (members_along (cells_of set.now) bare orders_by_name)) }
 {
+    let mut behind = false;
     for depth in ORDERS {
-        write_order(json, *depth, bare, set, orders)?;
+        behind = write_order(text, *depth, bare, set, orders, behind)?;
     }
-    json.end_object()
-}
-
-/// The text of what was written, which is UTF-8: that is proved, and not looked at again.
-fn text_of(json: Writer) -> String
-    requires { json.before ≡ [] }
-    ensures text { string_bytes result ≡ print json.tokens }
-    ensures tokens { tokens (string_bytes result) ≡ json.tokens }
-{
-    unsafe { String::from_utf8_unchecked(json.into_inner()) }
+    text.push_str("}")
 }
 
 /// The object of the cells of a set, whose orders are given, and of an order without cells.
@@ -140,14 +143,14 @@ fn object_text(
 ) -> Result<String, AllocError>
     requires each { AreOfOrders orders.0 orders.1 (cells_of set.now) }
     requires in_range { orders.1 ≤ 30 }
-    ensures text { IfOk result (λ t. string_bytes t ≡ print (object_tokens (cells_of set.now) bare)) }
-    ensures tokens { IfOk result (λ t. tokens (string_bytes t) ≡ object_tokens (cells_of set.now) bare) }
+    ensures { IfOk result (λ t. string_bytes t
+        ≡ compact_text (object (members_along (cells_of set.now) bare orders_by_name))) }
 {
     let room = set.range_count().saturating_mul(ROOM);
-    let mut json = Writer::new(Vec::with_capacity(alloc, room)?);
-    json.begin_object()?;
-    write_orders(&mut json, set, orders, bare)?;
-    Ok(text_of(json))
+    let mut text = TextWriter::with_capacity(alloc, room)?;
+    text.push_str("{")?;
+    write_orders(&mut text, set, orders, bare)?;
+    text.finish()
 }
 
 /// Writes the JSON form (MOC 2.0) of the set, compact as `serde_json` prints it: each order that has cells is a

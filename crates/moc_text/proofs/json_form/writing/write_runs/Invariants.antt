@@ -1,12 +1,11 @@
 use Rattle.std.proofs.Common.{◌≡◌, ◌++◌, ℕ}
 use Rattle.moc_ranges.specs.Cells.{cells_in}
 use Rattle.moc_text.specs.Private.JsonWriting.{array_rest}
-use Rattle.moc_text.proofs.json_form.writing.write_rows.Given as goal
+use Rattle.moc_text.proofs.json_form.writing.write_runs.Given as goal
 
--- what is written so far and the ranges from here on are the whole array
+-- what is written so far and the runs from here on are the whole array
 abbrev pub invariant-loop-first : goal.invariant-loop-first
 invariant-loop-first l = record {
   continues : (goal.iterator-loop-first).can_next l.first-iterator × (goal.iterator-loop-first).is_finite l.first-iterator;
-  before : l.json.before ≡ l.fn.json.before;
-  tokens : (k : ℕ) → l.json.tokens ++ array_rest (cells_in k l.first-iterator) ≡ l.fn.json.tokens ++ array_rest (cells_in k l.fn.ranges);
+  written : (k : ℕ) → l.text ++ array_rest (cells_in k l.first-iterator) ≡ l.fn.text ++ array_rest (cells_in k l.fn.ranges);
 }
