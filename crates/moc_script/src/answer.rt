@@ -1,12 +1,13 @@
 //! The answers to lines, by a map.
 ghost use Rattle.std.specs.Prelude.{◌≡◌, ◌++◌, ◌∷◌, [], OnOk, codes};
-ghost use Rattle.moc_script.specs.Batches.{after_batch, answer_to, batch_of};
+ghost use Rattle.std.specs.List.{position_or_len};
+ghost use Rattle.moc_script.specs.Batches.{after_batch, answer_to, batch_of, is_semicolon};
 ghost use Rattle.moc_script.specs.Faults.{fault_line};
 ghost use Rattle.moc_script.specs.Language.{command_of};
 ghost use Rattle.moc_script.specs.Laws.{after_single, single_answer};
 ghost use Rattle.moc_script.specs.Scripts.{script_rules};
 
-use crate::batch::{has_semicolon, read_batch};
+use crate::batch::{first_semicolon, read_parted};
 use crate::command::read_command;
 use crate::fault::{Fault, ReadError};
 use crate::reply_text::{push_reply, push_reply_line, push_words};
@@ -26,13 +27,20 @@ pub(crate) fn push_fault(fault: Fault, text: &mut Vec<u8>) -> Result<(), Memory>
     Ok(())
 }
 
-/// Does the batch that a line says, and adds the answer.
-fn answer_batch(map: &mut Map, alloc: Global, line: &[u8], text: &mut Vec<u8>) -> Result<(), Memory>
+/// Does the batch that a line says whose first semicolon stands at this place, and adds the answer.
+fn answer_batch(
+    map: &mut Map,
+    alloc: Global,
+    line: &[u8],
+    first: usize,
+    text: &mut Vec<u8>,
+) -> Result<(), Memory>
+    requires { first ≡ position_or_len is_semicolon line.now }
     ensures text { OnOk result (text.new.items ≡
         text.old.items ++ answer_to map.old (batch_of command_of line.now)) }
     ensures after { OnOk result (map.new ≡ after_batch map.old (batch_of command_of line.now)) }
 {
-    match read_batch(alloc, line) {
+    match read_parted(alloc, line, first) {
         Ok(batch) => {
             let replies = map.apply(alloc, &batch)?;
             push_reply_line(alloc, replies.as_slice(), text)
@@ -76,8 +84,9 @@ impl Responder for Map {
         if is_blank_text(line) {
             return Ok(());
         }
-        if has_semicolon(line) {
-            answer_batch(self, alloc, line, text)
+        let first = first_semicolon(line);
+        if first < line.len() {
+            answer_batch(self, alloc, line, first, text)
         } else {
             answer_command(self, alloc, line, text)
         }

@@ -1,8 +1,8 @@
 //! The batch of commands that a line says.
-ghost use Rattle.std.specs.Prelude.{◌≡◌, [], Ok};
-ghost use Rattle.std.specs.List.{count_by, list_any};
+ghost use Rattle.std.specs.Prelude.{◌≡◌, ◌≤◌, length, nat_lt, if◌then◌else◌, OnOk};
+ghost use Rattle.std.specs.List.{count_by, list_any, position_or_len};
 ghost use Rattle.moc_script.specs.Language.{command_of};
-ghost use Rattle.moc_script.specs.Batches.{is_semicolon, pieces_of, piece_says, first_then, batch_of, commands_of};
+ghost use Rattle.moc_script.specs.Batches.{is_semicolon, pieces_of, piece_says, batch_of, commands_of};
 ghost use Rattle.moc_script.specs.Private.Readings.{Reads};
 
 use crate::bytes::first_or_len;
@@ -12,11 +12,19 @@ use crate::words::is_blank_text;
 use moc_parts::{Batch, Command, MOST_COMMANDS};
 use std::alloc::Global;
 
+/// Where the first semicolon of a line stands, or its length where it has none.
+pub(crate) fn first_semicolon(line: &[u8]) -> usize
+    ensures at { result ≡ position_or_len is_semicolon line.now }
+    ensures within { result ≤ length line.now }
+{
+    first_or_len(b';', line)
+}
+
 /// Whether a line has a semicolon.
 pub(crate) fn has_semicolon(line: &[u8]) -> bool
     ensures { result ≡ list_any is_semicolon line.now }
 {
-    first_or_len(b';', line) < line.len()
+    first_semicolon(line) < line.len()
 }
 
 /// How many semicolons stand in a line.
@@ -36,14 +44,17 @@ fn read_piece(alloc: Global, piece: &[u8]) -> Result<Command, ReadError>
     read_command(alloc, piece)
 }
 
-/// What the pieces of a line say.
-fn read_pieces(alloc: Global, line: &[u8]) -> Result<Vec<Command>, ReadError>
-    ensures { Reads (λ v. v.items) result (commands_of command_of (pieces_of line.now)) }
+/// What the pieces of a line say, of which the first ends at this place; with more than 16 any fault.
+fn read_pieces(alloc: Global, line: &[u8], first: usize) -> Result<Vec<Command>, ReadError>
+    requires { first ≡ position_or_len is_semicolon line.now }
+    ensures few { OnOk result (length (pieces_of line.now) ≤ MOST_COMMANDS) }
+    ensures reads { length (pieces_of line.now) ≤ MOST_COMMANDS
+        → Reads (λ v. v.items) result (commands_of command_of (pieces_of line.now)) }
 {
     let mut commands = Vec::new(alloc);
     let mut rest = line;
-    loop {
-        let at = first_or_len(b';', rest);
+    let mut at = first;
+    for _piece in 0..MOST_COMMANDS {
         let (piece, behind) = rest.split_at(at);
         match read_piece(alloc, piece) {
             Ok(command) => {
@@ -57,16 +68,31 @@ fn read_pieces(alloc: Global, line: &[u8]) -> Result<Vec<Command>, ReadError>
             return Ok(commands);
         }
         rest = behind.split_at(1).1;
+        at = first_semicolon(rest);
+    }
+    Err(ReadError::Fault(Fault::TooManyCommands))
+}
+
+/// The fault of a line one of whose pieces has a fault: that there are too many goes before it.
+fn fault_of(line: &[u8], fault: Fault) -> Fault
+    ensures { result ≡ (if nat_lt 16 (length (pieces_of line.now)) then Fault.TooManyCommands else fault) }
+{
+    if semicolons_in(line) >= MOST_COMMANDS {
+        Fault::TooManyCommands
+    } else {
+        fault
     }
 }
 
-/// What a line without a semicolon says.
-fn read_alone(alloc: Global, line: &[u8]) -> Result<Batch, ReadError>
-    ensures { Reads (λ batch. batch) result (first_then (piece_says command_of line.now) (Ok [])) }
+/// What a line says that is not blank, whose first semicolon stands at this place, or which ends there without one.
+pub(crate) fn read_parted(alloc: Global, line: &[u8], first: usize) -> Result<Batch, ReadError>
+    requires { first ≡ position_or_len is_semicolon line.now }
+    ensures { Reads (λ batch. batch) result (batch_of command_of line.now) }
 {
-    match read_piece(alloc, line) {
-        Ok(command) => Batch::one(alloc, command).or(Err(ReadError::Memory)),
-        Err(error) => Err(error),
+    match read_pieces(alloc, line, first) {
+        Ok(commands) => Ok(Batch::of(commands)),
+        Err(ReadError::Fault(fault)) => Err(ReadError::Fault(fault_of(line, fault))),
+        Err(ReadError::Memory) => Err(ReadError::Memory),
     }
 }
 
@@ -74,11 +100,5 @@ fn read_alone(alloc: Global, line: &[u8]) -> Result<Batch, ReadError>
 pub(crate) fn read_batch(alloc: Global, line: &[u8]) -> Result<Batch, ReadError>
     ensures { Reads (λ batch. batch) result (batch_of command_of line.now) }
 {
-    if !has_semicolon(line) {
-        return read_alone(alloc, line);
-    }
-    if semicolons_in(line) >= MOST_COMMANDS {
-        return Err(ReadError::Fault(Fault::TooManyCommands));
-    }
-    Ok(Batch::of(read_pieces(alloc, line)?))
+    read_parted(alloc, line, first_semicolon(line))
 }
