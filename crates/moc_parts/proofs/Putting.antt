@@ -1,5 +1,5 @@
 -- A set that lies in one part, put into the list of that part.
-use Rattle.std.proofs.Common.{◌≡◌, ℕ, ◌+◌, ◌/◌, ◌<◌, ◌≤◌, Bool, true, false, not, ◌&&◌, ◌||◌, List, Option, None, Some, MatchOption, inl, inr, refl, sym, ap, subst, ◌∙◌, arith}
+use Rattle.std.proofs.Common.{◌≡◌, ℕ, ◌+◌, ◌/◌, ◌<◌, ◌≤◌, Bool, true, false, not, ◌&&◌, ◌||◌, List, Option, None, Some, MatchOption, inl, inr, refl, sym, ap, subst, ◌∙◌, arith, eq-eqb, eqb-true}
 use Rattle.std.specs.Prelude.{is_some, nat_eq, nat_lt, set as set_at}
 use Rattle.std.specs.FinSet as set
 use Rattle.std.proofs.lemmas.Bool.{cases_Bool, cases_eq}
@@ -7,9 +7,11 @@ use Rattle.std.proofs.lemmas.Bool.Decides.{nat_tests}
 use Rattle.moc_ranges.specs.Numbers.{NumberSet, same_members, contains-kept}
 use Rattle.moc_ranges.specs.Pixels.{base_pixel_size, pixels}
 use Rattle.moc_ranges.specs.Operations.{part_of, contains-part_of, IsWithin}
+use Rattle.moc_parts.specs.Commands.{parts_met}
 use Rattle.moc_parts.specs.Parts.{union_of, parts_below, AreParts}
 use Rattle.moc_parts.specs.Private.Drafts.{with_part}
 use Rattle.moc_parts.proofs.Members as members
+use Rattle.moc_parts.proofs.Counts.{parts_met_some}
 use Rattle.moc_parts.proofs.PartLaw.{part-union}
 use Rattle.moc_parts.proofs.Twelve.{parts_within}
 use Rattle.moc_parts.proofs.Drafting.{set-parts, part_lies, with_part_within}
@@ -38,6 +40,16 @@ lies_alone a b next first later none = same_members _ _ (λ q. contains-part_of 
   | inl has ↦ (λ i. has i && eq_true (q / base_pixel_size) b (alone_at a b q next first later none has) i) ∙ sym has
   | inr lacks ↦ ap (λ t. t && nat_eq (q / base_pixel_size) b) lacks ∙ sym lacks
 ])
+
+-- a set that lies in one part meets that part alone
+pub met_alone : (a : NumberSet) (b k : ℕ) → part_of a b ≡ a → nat_lt 0 (set.len (part_of a b)) ≡ true → (a ≡ set.empty → ⊥) → parts_met a k ≡ nat_eq b k
+met_alone a b k lies has some = parts_met_some a k some ∙ members.same_test _ _
+    (λ h.
+    let m = members.some_member (part_of a k) h in
+    let there = members.of_part a k m.0 m.1 in
+    let here = members.of_part a b m.0 (ap (λ s. set.contains s m.0) lies ∙ there.0) in
+    eq-eqb b k (sym here.1 ∙ there.1))
+    (λ h. ap (λ n. nat_lt 0 (set.len (part_of a n))) (sym (eqb-true b k h)) ∙ has)
 
 -- ---- more in one part
 

@@ -1,11 +1,12 @@
 //! What is asked of a map.
-ghost use Rattle.std.specs.Prelude.{◌≡◌, ◌<◌, ℕ, IfOk, None};
+ghost use Rattle.std.specs.Prelude.{◌≡◌, ◌<◌, ℕ, nat_eq, IfOk, IfSome, OnSome, None};
 ghost use Rattle.std.specs.FinSet as set;
-ghost use Rattle.moc_parts.specs.Commands.{footprint, is_update, operand_set, IsCommand, IsOperand};
+ghost use Rattle.moc_ranges.specs.Operations.{part_of};
+ghost use Rattle.moc_parts.specs.Commands.{footprint, is_update, operand_set, parts_met, IsCommand, IsOperand};
 ghost use Rattle.moc_parts.specs.Private.Resolved.{resolved_set};
 
-use crate::footprint::{parts_around, parts_met};
-use crate::part::PartSet;
+use crate::footprint::{only_part, parts_around, parts_met};
+use crate::part::{Part, PartSet};
 use crate::resolved::Resolved;
 use moc_ranges::{Coverage, Memory};
 use moc_sphere::{Cell, Order};
@@ -49,6 +50,23 @@ impl Operand {
         self.set.is_empty();
         if let Some(order) = self.coarse {
             order.get();
+        }
+    }
+
+    /// The part that the set lies in, if there is one, where no order is given and the set is not empty.
+    ///
+    /// O(log n) for n ranges, takes no memory.
+    pub fn own_part(&self) -> Option<Part>
+        ensures lies { IfSome result (λ b. part_of self.now.set b ≡ self.now.set) }
+        ensures met { IfSome result (λ b. (k : ℕ) → parts_met self.now.set k ≡ nat_eq b k) }
+        ensures set { OnSome result (operand_set self.now ≡ self.now.set) }
+
+        // What lets a caller use the laws of commands.
+        ensures proper { OnSome result (IsOperand self.now) }
+    {
+        match self.coarse {
+            Some(_) => None,
+            None => only_part(&self.set),
         }
     }
 

@@ -1,5 +1,5 @@
 //! The parts that operands and cells lie in.
-ghost use Rattle.std.specs.Prelude.{◌≡◌, ◌<◌, ℕ, IfSome};
+ghost use Rattle.std.specs.Prelude.{◌≡◌, ◌<◌, ℕ, nat_eq, IfSome};
 ghost use Rattle.std.specs.FinSet as set;
 ghost use Rattle.moc_parts.specs.Commands.{parts_around, parts_met};
 ghost use Rattle.moc_ranges.specs.Operations.{part_of, IsWithin};
@@ -30,8 +30,10 @@ pub(crate) fn parts_met(operand: &Coverage) -> PartSet
 }
 
 /// The part that a set lies in, if there is one and the set is not empty.
-pub(crate) fn only_part(operand: &Coverage) -> Option<u8>
-    ensures { IfSome result (λ b. (b < 12) × (part_of operand.now b ≡ operand.now)) }
+pub(crate) fn only_part(operand: &Coverage) -> Option<Part>
+    ensures lies { IfSome result (λ b. part_of operand.now b ≡ operand.now) }
+    ensures met { IfSome result (λ b. (k : ℕ) → parts_met operand.now k ≡ nat_eq b k) }
+    ensures within { IsWithin operand.now pixels }
 {
     if operand.is_empty() {
         return None;
@@ -40,7 +42,7 @@ pub(crate) fn only_part(operand: &Coverage) -> Option<u8>
     if operand.next_base_pixel(b + 1).is_some() {
         return None;
     }
-    Some(b)
+    Some(Part::of(b))
 }
 
 /// The base pixels of a cell and of the cells that touch it.

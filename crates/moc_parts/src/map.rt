@@ -1,5 +1,5 @@
 //! A set of pixels in twelve parts.
-ghost use Rattle.std.specs.Prelude.{◌≡◌, ◌<◌, [], ◌∷◌, IfOk, IfSome, MatchOption, OnOk, OnErr, OnSome, length};
+ghost use Rattle.std.specs.Prelude.{◌≡◌, ◌<◌, [], ◌∷◌, IfOk, MatchOption, OnOk, OnErr, length};
 ghost use Rattle.std.specs.FinSet as set;
 ghost use Rattle.moc_ranges.specs.Operations.{part_of, IsWithin};
 ghost use Rattle.moc_ranges.specs.Pixels.{pixels};
@@ -12,7 +12,6 @@ ghost use Rattle.moc_parts.specs.Prepared.{found_sets};
 use crate::batch::Batch;
 use crate::command::{Command, Operand};
 use crate::draft::Draft;
-use crate::footprint::only_part;
 use crate::lists::Lists;
 use crate::part::Part;
 use crate::reply::{Replies, Reply};
@@ -101,25 +100,24 @@ impl Map {
             × (r ≡ reply.Changed (set.len (set.difference (operand_set operand.now) self.old)) ∷ []))) }
         ensures unchanged { OnErr result (self.new ≡ self.old) }
     {
-        let Some(b) = own_part(operand) else {
+        let Some(part) = operand.own_part() else {
             return Ok(None);
         };
         // All that can be refused comes before the set changes.
         let mut replies = Replies::one(alloc, Reply::Changed(0))?;
-        let added = self.insert_into(alloc, b, &operand.set)?;
+        let added = self.insert_into(alloc, part, &operand.set)?;
         replies.set_only(Reply::Changed(added));
         Ok(Some(replies))
     }
 
     /// Adds a set to the part that it lies in, and tells how many pixels are new.
-    fn insert_into(&mut self, alloc: Global, b: u8, more: &Coverage) -> Result<u64, Memory>
-        requires part { b < 12 }
-        requires lies { part_of more.now b ≡ more.now }
+    fn insert_into(&mut self, alloc: Global, part: Part, more: &Coverage) -> Result<u64, Memory>
+        requires lies { part_of more.now part ≡ more.now }
         ensures set { OnOk result (self.new ≡ set.union self.old more.now) }
         ensures added { IfOk result (λ n. n ≡ set.len (set.difference more.now self.old)) }
         ensures unchanged { OnErr result (self.new ≡ self.old) }
     {
-        let added = self.parts[usize::from(b)].insert_all(alloc, more)?;
+        let added = self.parts[usize::from(part.get())].insert_all(alloc, more)?;
         Ok(added)
     }
 
@@ -132,8 +130,8 @@ impl Map {
         ensures unchanged { OnErr result (self.new ≡ self.old) }
     {
         if let Command::Add(operand) = command {
-            if let Some(b) = own_part(operand) {
-                let added = self.insert_into(alloc, b, &operand.set)?;
+            if let Some(part) = operand.own_part() {
+                let added = self.insert_into(alloc, part, &operand.set)?;
                 return Ok(Reply::Changed(added));
             }
         }
@@ -146,18 +144,6 @@ impl Map {
         let made = draft.into_made();
         put_all(&mut self.parts, made);
         Ok(reply)
-    }
-}
-
-/// The part that the set of an operand lies in, where it is not degraded, if there is one and the set is not empty.
-fn own_part(operand: &Operand) -> Option<u8>
-    ensures part { IfSome result (λ b. b < 12) }
-    ensures lies { IfSome result (λ b. part_of operand.now.set b ≡ operand.now.set) }
-    ensures set { OnSome result (operand_set operand.now ≡ operand.now.set) }
-{
-    match operand.coarse {
-        Some(_) => None,
-        None => only_part(&operand.set),
     }
 }
 

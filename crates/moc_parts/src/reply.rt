@@ -107,6 +107,18 @@ impl Replies {
         self.replies.first()
     }
 
+    /// The only reply, for a caller that knows there to be one. Takes no memory.
+    pub fn into_only(self) -> Reply
+        requires { length self ≡ 1 }
+        ensures { self ≡ result ∷ [] }
+    {
+        let mut replies = self.replies;
+        match replies.pop() {
+            Some(only) => only,
+            None => unreachable!(),
+        }
+    }
+
     /// A copy. Linear in the replies and their ranges; refused where memory runs out.
     pub fn try_copy(&self, alloc: Global) -> Result<Replies, Memory>
         ensures { IfOk result (λ x. x ≡ self.now) }
