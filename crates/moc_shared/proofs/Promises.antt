@@ -53,12 +53,12 @@ adds op v notes touched = (
       (m.0, touched b m.1.0 m.1.1),
 )
 
-pub ends_from : (the : SharedMap) (op : List Command) (reply : List Reply) (number : ℕ) (v u w : Sight)
-    (found : List (Option Pointer)) → IsFootprint op found → v.start ≡ start_of the → v.clients ≡ clients_of the
-    → number ≡ v.mine.number → u ≡ with_parts v (notes_below found 12)
+pub ends_noted : (the : SharedMap) (op : List Command) (reply : List Reply) (number : ℕ) (v u w : Sight)
+    (notes : List PartNote)
+    → ((p : ℕ) (y : Option NumberSet) → Contains notes (note p y) → IsTrue (footprint_of_all op p))
+    → v.start ≡ start_of the → v.clients ≡ clients_of the → number ≡ v.mine.number → u ≡ with_parts v notes
     → EndsCall answer (entry u.mine.number op reply) [] u w → Ends the (entry number op reply) v.mine w.mine
-ends_from the op reply number v u w found whole start clients number_is held told =
-    let notes = notes_below found 12 in
+ends_noted the op reply number v u w notes touched start clients number_is held told =
     let e : BatchEntry = entry v.mine.number op reply in
     let now : Sight = with_parts v notes in
     let t : EndsCall answer e [] now w =
@@ -73,23 +73,32 @@ ends_from the op reply number v u w found whole start clients number_is held tol
           (λ i. (start i, clients i)) t.3;
       own = refl;
       fits = subst (λ (r : BatchRecord). Fits r.seen r) is t.4;
-      marks = adds op v notes (λ p y h. noted_touched op found 12 p y whole h);
+      marks = adds op v notes touched;
       misses = refl;
     } in
     subst (λ (x : BatchEntry × BatchRecord). Ends the x.0 v.mine x.1)
     (λ i. (entry (sym number_is i) op reply, sym is i)) ended
 
+pub ends_from : (the : SharedMap) (op : List Command) (reply : List Reply) (number : ℕ) (v u w : Sight)
+    (found : List (Option Pointer)) → IsFootprint op found → v.start ≡ start_of the → v.clients ≡ clients_of the
+    → number ≡ v.mine.number → u ≡ with_parts v (notes_below found 12)
+    → EndsCall answer (entry u.mine.number op reply) [] u w → Ends the (entry number op reply) v.mine w.mine
+ends_from the op reply number v u w found whole =
+    ends_noted the op reply number v u w (notes_below found 12) (λ p y h. noted_touched op found 12 p y whole h)
+
+pub undone_noted : (op : List Command) (v u w : Sight) (notes : List PartNote)
+    → ((p : ℕ) (y : Option NumberSet) → Contains notes (note p y) → IsTrue (footprint_of_all op p))
+    → u ≡ with_parts v notes → w ≡ with_holds u [] → Undone op v.mine w.mine
+undone_noted op v u w notes touched held gave =
+    let is : w.mine ≡ (with_parts v notes).mine = (λ i. (gave i).mine) ∙ (λ i. (held i).mine) in
+    let undone : Undone op v.mine (with_parts v notes).mine =
+    record { same = (refl, refl, refl); marks = adds op v notes touched; misses = refl } in
+    subst (λ (r : BatchRecord). Undone op v.mine r) (sym is) undone
+
 pub undone_from : (op : List Command) (v u w : Sight) (found : List (Option Pointer)) → IsFootprint op found
     → u ≡ with_parts v (notes_below found 12) → w ≡ with_holds u [] → Undone op v.mine w.mine
-undone_from op v u w found whole held gave =
-    let is : w.mine ≡ (with_parts v (notes_below found 12)).mine = (λ i. (gave i).mine) ∙ (λ i. (held i).mine) in
-    let undone : Undone op v.mine (with_parts v (notes_below found 12)).mine =
-    record {
-      same = (refl, refl, refl);
-      marks = adds op v (notes_below found 12) (λ p y h. noted_touched op found 12 p y whole h);
-      misses = refl;
-    } in
-    subst (λ (r : BatchRecord). Undone op v.mine r) (sym is) undone
+undone_from op v u w found whole =
+    undone_noted op v u w (notes_below found 12) (λ p y h. noted_touched op found 12 p y whole h)
 
 pub refuses_from : (the : SharedMap) (op : List Command) (b : Busy) (v w : Sight) → v.clients ≡ clients_of the
     → IsRefused op b.part b.holder v w → Refuses the op b v.mine w.mine
@@ -170,6 +179,10 @@ taken_from the a b a1 m m' of_a of_b e same told =
 nothing_added : (op : List Command) (r : BatchRecord) (marks : List (ℕ × ℕ)) → (extra : List (ℕ × ℕ))
     × (marks ≡ extra ++ marks) × ((c b : ℕ) → Contains extra (c, b) → (c ≡ r.number) × IsTrue (footprint_of_all op b))
 nothing_added op r marks = ([], refl, λ c b h. let x : ℕ × ℕ = (c, b) in absurd (none_in x h))
+
+pub undone_at_once : (op : List Command) (r : BatchRecord) → Undone op r r
+undone_at_once op r =
+    record { same = (refl, refl, refl); marks = nothing_added op r r.marks; misses = refl }
 
 -- the same, where nothing was taken in this call
 pub ends_now : (the : SharedMap) (op : List Command) (reply : List Reply) (number : ℕ) (v w : Sight)

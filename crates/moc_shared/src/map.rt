@@ -4,6 +4,7 @@ ghost use Rattle.moc_shared.specs.Rule.{index};
 
 pub mod batches;
 pub mod closed;
+pub mod commands;
 pub mod making;
 pub mod meeting;
 

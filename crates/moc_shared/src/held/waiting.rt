@@ -15,7 +15,13 @@ use std::sync::Wait;
 use std::thread;
 
 /// Takes the part, once it is free.
-fn wait_slot<R: Wait>(rt: &R, table: &Words, seat: &mut Token, b: usize, mark: u64) -> Pointer
+pub(crate) fn wait_slot<R: Wait>(
+    rt: &R,
+    table: &Words,
+    seat: &mut Token,
+    b: usize,
+    mark: u64,
+) -> Pointer
     requires place { (seat.old.table_id ≡ table.now.table_id) × (table.now.table_id.words ≡ index 12) × (b < 12) }
     requires client { IsOne seat.old.me.0 × (mark ≡ suc seat.old.me.0.mine.number) }
     requires few { seat.old.me.0.clients ≤ 64 }

@@ -1,5 +1,5 @@
 //! The steps on a part's word, each over plain data.
-ghost use Rattle.std.specs.Prelude.{◌≡◌, suc, ◌<◌, ◌≤◌, List, ◌∷◌, Contains, IfOk, IfErr, Option, Some};
+ghost use Rattle.std.specs.Prelude.{◌≡◌, suc, ◌<◌, ◌≤◌, List, [], ◌∷◌, Contains, IfOk, IfErr, Option, Some};
 ghost use Rattle.moc_ranges.specs.Numbers.{NumberSet};
 ghost use Rattle.moc_shared.specs.History.{entry, StandsFor};
 ghost use Rattle.moc_shared.specs.Rule.{index, note, parts_of, IsOne};
@@ -12,7 +12,7 @@ ghost use Rattle.moc_shared.specs.Batches.{answer};
 use crate::table::layout::index;
 use crate::table::locks::{Closing, End, Give, Pointer, Take, Token, Words};
 use crate::table::slots::Slots;
-use moc_parts::Batch;
+use moc_parts::{Batch, Command, Reply};
 
 /// Sets the client's mark on a part that is free, and holds it; or finds the holder's mark.
 fn take_part(table: &Words, seat: &mut Token, b: usize, mark: u64) -> u64
@@ -95,6 +95,33 @@ pub(crate) fn end_call<C: Closing>(
     let _batch = batch;
     let _found = found;
     let _rest = rest;
+    let index = index(b);
+    drop(table.exchange(seat, index, Some(new)));
+    table.store::<End<C>>(seat, index, 0);
+}
+
+/// Puts the pointer into the only part that is held, and gives it back. With that the call of one command goes through.
+pub(crate) fn end_alone<C: Closing>(
+    table: &Words,
+    seat: &mut Token,
+    b: usize,
+    new: Pointer,
+    command: &Command,
+    reply: &Reply,
+)
+    requires place { (seat.old.table_id ≡ table.now.table_id) × (table.now.table_id.words ≡ index 12) × (b < 12) }
+    requires client { IsOne seat.old.me.0 }
+    requires carried { IsCarried seat.old.me }
+    requires call { (C.call ≡ entry seat.old.me.0.mine.number (command.now ∷ []) (reply.now ∷ [])) × (C.notes ≡ []) }
+    requires held { parts_of seat.old.me.0.holds ≡ b ∷ [] }
+    requires answered { Answers part answer IsProper (command.now ∷ []) (reply.now ∷ []) seat.old.me.0.holds
+        (note b (shared new) ∷ []) }
+    ensures same { (seat.new.table_id ≡ seat.old.table_id) × (seat.new.id ≡ seat.old.id) }
+    ensures idle { seat.new.me.1 ≡ [] }
+    ensures ended { EndsBatch (command.now ∷ []) (reply.now ∷ []) [] seat.old.me.0 seat.new.me.0 }
+{
+    let _command = command;
+    let _reply = reply;
     let index = index(b);
     drop(table.exchange(seat, index, Some(new)));
     table.store::<End<C>>(seat, index, 0);

@@ -1,0 +1,62 @@
+use Rattle.std.proofs.Common.{ℕ, List, [], ◌∷◌, map, Option, refl, ap, sym, ◌∙◌, subst, Contains}
+use Rattle.std.proofs.lemmas.Result.{IfOk-weaker, on_err_weaker}
+use Rattle.std.specs.Arc.{arc_value}
+use Rattle.moc_shared.specs.Rule.{index, note, parts_of}
+use Rattle.moc_shared.specs.Seats.{Pointer, PartNote, shared}
+use Rattle.moc_shared.specs.Private.Plays.{with_misses}
+use Rattle.moc_shared.proofs.Basics.{none_in}
+use Rattle.moc_shared.proofs.Promises.{idle_after}
+use Rattle.moc_shared.proofs.Alone.{one_held, holds_alone, ended_alone, undone_alone, stays_alone, stays_answered}
+use Rattle.moc_shared.proofs.map.SharedMap.answer_in_part.Goals as goal
+
+pub wait_slot-pointer-requires-clause-carried : goal.wait_slot-pointer-requires-clause-carried
+wait_slot-pointer-requires-clause-carried g c = ap (λ (l : List (ℕ × Option Pointer)). map (λ x. x.0) l) c.requires.map.no_slot
+    ∙ sym (ap (λ (l : List PartNote). map index (parts_of l)) c.requires.map.no_part)
+
+pub wait_slot-pointer-requires-clause-other : goal.wait_slot-pointer-requires-clause-other
+wait_slot-pointer-requires-clause-other g c =
+    λ y h. none_in (note c.args.b y) (subst (λ (l : List PartNote). Contains l (note c.args.b y)) c.requires.map.no_part h)
+
+pub answer_alone-requires-clause-held : goal.answer_alone-requires-clause-held
+answer_alone-requires-clause-held g c =
+    let t = c.wait_slot-pointer.ensures.took in
+    let v = with_misses c.args.client.now.seat.me.0 t.0 in
+    holds_alone c.args.client.now.seat.me.0 c.wait_slot-pointer.new.seat.me c.args.b (arc_value c.wait_slot-pointer.result) t.0
+    c.requires.map.one (one_held v c.wait_slot-pointer.new.seat.me.0 c.args.b (shared c.wait_slot-pointer.result) c.requires.map.no_part t.1)
+    c.wait_slot-pointer.ensures.carried
+
+pub returns-clause-map : goal.returns-clause-map
+returns-clause-map g c =
+    let t = c.wait_slot-pointer.ensures.took in
+    let v = with_misses c.args.client.now.seat.me.0 t.0 in
+    idle_after c.args.self.now c.args.client.now record
+    { number = c.args.client.now.number; seat = c.answer_alone.new.seat } c.requires.map
+    (stays_alone c.args.client.now.seat.me.0 c.wait_slot-pointer.new.seat.me.0 c.answer_alone.new.seat.me.0 c.args.b
+    (shared c.wait_slot-pointer.result) t.0
+    (one_held v c.wait_slot-pointer.new.seat.me.0 c.args.b (shared c.wait_slot-pointer.result) c.requires.map.no_part t.1)
+    (stays_answered (c.args.command.now ∷ []) c.wait_slot-pointer.new.seat.me.0 c.answer_alone.new.seat.me.0 c.answer_alone.result
+    c.answer_alone.ensures.ok c.answer_alone.ensures.err))
+    refl (c.answer_alone.ensures.same.0 ∙ c.wait_slot-pointer.ensures.same.0 ∙ c.requires.map.table)
+    c.answer_alone.ensures.idle
+
+pub returns-clause-ok : goal.returns-clause-ok
+returns-clause-ok g c =
+    let t = c.wait_slot-pointer.ensures.took in
+    let v = with_misses c.args.client.now.seat.me.0 t.0 in
+    IfOk-weaker c.answer_alone.result _ _
+    (λ reply told. ended_alone c.args.command.now c.args.b c.requires.alone.1.met c.args.self.now reply
+    c.args.client.now.number c.args.client.now.seat.me.0 c.wait_slot-pointer.new.seat.me.0 c.answer_alone.new.seat.me.0
+    (shared c.wait_slot-pointer.result) t.0 c.requires.map.start c.requires.map.clients c.requires.map.number
+    (one_held v c.wait_slot-pointer.new.seat.me.0 c.args.b (shared c.wait_slot-pointer.result) c.requires.map.no_part t.1) t.2 told)
+    c.answer_alone.ensures.ok
+
+pub returns-clause-err : goal.returns-clause-err
+returns-clause-err g c =
+    let t = c.wait_slot-pointer.ensures.took in
+    let v = with_misses c.args.client.now.seat.me.0 t.0 in
+    on_err_weaker c.answer_alone.result
+    (λ gave. undone_alone c.args.command.now c.args.b c.requires.alone.1.met c.args.self.now
+    c.args.client.now.seat.me.0 c.wait_slot-pointer.new.seat.me.0 c.answer_alone.new.seat.me.0 (shared c.wait_slot-pointer.result) t.0
+    c.requires.map.clients
+    (one_held v c.wait_slot-pointer.new.seat.me.0 c.args.b (shared c.wait_slot-pointer.result) c.requires.map.no_part t.1) t.2 gave)
+    c.answer_alone.ensures.err

@@ -1,0 +1,41 @@
+use Rattle.std.proofs.Common.{rules, ℕ, List, [], ◌∷◌, map, Some, refl, ap, sym, ◌∙◌, arith}
+use Rattle.std.specs.FinSet as set
+use Rattle.moc_shared.specs.History.{entry}
+use Rattle.moc_shared.specs.Batches.{answer}
+use Rattle.moc_shared.specs.Rule.{index, parts_of}
+use Rattle.moc_shared.specs.Seats.{content, part, IsProper, Sight}
+use Rattle.moc_shared.proofs.Basics.{none_in}
+use Rattle.moc_shared.proofs.Moves.{ends_call_as, ended_is}
+use Rattle.moc_shared.proofs.Carried.{first_carried, none_carried, rest_parts}
+use Rattle.moc_shared.proofs.table.steps.end_alone.Goals as goal
+
+pub exchange-requires : goal.exchange-requires
+exchange-requires g c = (
+  c.requires.place.0,
+  first_carried c.args.seat.now.me.1 c.index-index.result _
+      (c.requires.carried ∙ ap (λ (l : List ℕ). map index l) c.requires.held
+      ∙ (λ i. sym c.index-index.ensures i ∷ [])),
+)
+
+pub store-requires : goal.store-requires
+store-requires g c = let v = c.args.seat.now.me.0 in (
+  search rules,
+  (let i = c.index-index.ensures in let w = c.requires.place.1 in omega arith),
+  ends_call_as 12 content part answer IsProper _ _ _ _ _ v _ _ (Some c.args.new) _
+      (entry v.mine.number (c.args.command.now ∷ []) (c.args.reply.now ∷ [])) g.C.Closing.call
+      [] g.C.Closing.notes c.index-index.ensures c.requires.call.0 c.requires.call.1
+      c.exchange.ensures.3 c.requires.client refl c.requires.held (λ h. none_in c.args.b h) c.requires.answered,
+)
+
+pub returns : goal.returns
+returns g c = let v = c.args.seat.now.me.0 in
+    let t = ended_is 12 content part answer IsProper set.empty 0 c.args.table.now.table_id.slots c.index-index.result _
+    c.store.new.seat.me v (Some c.args.new) _
+    (entry v.mine.number (c.args.command.now ∷ []) (c.args.reply.now ∷ [])) g.C.Closing.call
+    [] g.C.Closing.notes c.requires.call.0 c.requires.call.1 c.exchange.ensures.3
+    (rest_parts c.args.seat.now.me.1 (index c.args.b) _ (c.requires.carried ∙ ap (λ (l : List ℕ). map index l) c.requires.held)) c.store.ensures.2 in
+    record {
+      same = search rules;
+      idle = none_carried c.store.new.seat.me.1 (t.0 ∙ ap (λ (u : Sight). map index (parts_of u.holds)) t.1.1);
+      ended = t.1;
+    }

@@ -1,0 +1,80 @@
+//! One command on a map.
+ghost use Rattle.std.specs.Prelude.{◌≡◌, ◌<◌, [], ◌∷◌, IfOk, OnErr};
+ghost use Rattle.moc_shared.specs.Clients.{number_of, record_of, call_of, IsClientOf, EndsWaiting, FailsWaiting};
+ghost use Rattle.moc_shared.specs.Private.Held.{IsAlone};
+
+use crate::client::Client;
+use crate::held::alone::{answer_alone, place_alone};
+use crate::held::waiting::wait_slot;
+use crate::map::SharedMap;
+use moc_parts::{Batch, Command, Reply};
+use moc_ranges::Memory;
+use std::sync::Wait;
+
+impl SharedMap {
+    /// Does one command, and replies to it: as `apply` does the batch of it.
+    ///
+    /// An `add` whose operand lies in one part and is not degraded, and a `count` of one range there, make no batch:
+    /// they take that part alone, and an `add` changes its list where it stands, unless a snapshot shares it. The
+    /// command is given up. Refused where memory runs out.
+    pub fn answer<R: Wait>(
+        &self,
+        rt: &R,
+        client: &mut Client,
+        command: Command,
+    ) -> Result<Reply, Memory>
+        requires map { IsClientOf self.now client.old }
+        ensures map { IsClientOf self.now client.new }
+        ensures number { number_of client.new ≡ number_of client.old }
+        ensures ok { IfOk result (λ r. EndsWaiting self.now (call_of client.old (command ∷ []) (r ∷ []))
+            (record_of client.old) (record_of client.new)) }
+        ensures err { OnErr result (FailsWaiting self.now (command ∷ []) (record_of client.old) (record_of client.new)) }
+    {
+        match place_alone(&command) {
+            Some(b) => self.answer_in_part(rt, client, &command, b),
+            None => self.answer_as_batch(rt, client, command),
+        }
+    }
+
+    /// The same of a command that takes part b alone.
+    fn answer_in_part<R: Wait>(
+        &self,
+        rt: &R,
+        client: &mut Client,
+        command: &Command,
+        b: usize,
+    ) -> Result<Reply, Memory>
+        requires map { IsClientOf self.now client.old }
+        requires alone { (b < 12) × IsAlone command.now b }
+        ensures map { IsClientOf self.now client.new }
+        ensures number { number_of client.new ≡ number_of client.old }
+        ensures ok { IfOk result (λ r. EndsWaiting self.now (call_of client.old (command.now ∷ []) (r ∷ []))
+            (record_of client.old) (record_of client.new)) }
+        ensures err { OnErr result
+            (FailsWaiting self.now (command.now ∷ []) (record_of client.old) (record_of client.new)) }
+    {
+        let mark = u64::from(client.number) + 1;
+        let table = &self.table.shared;
+        let pointer = wait_slot(rt, table, &mut client.seat, b, mark);
+        answer_alone(table, self.alloc, &mut client.seat, b, pointer, command)
+    }
+
+    /// The same by the batch of the command.
+    fn answer_as_batch<R: Wait>(
+        &self,
+        rt: &R,
+        client: &mut Client,
+        command: Command,
+    ) -> Result<Reply, Memory>
+        requires map { IsClientOf self.now client.old }
+        ensures map { IsClientOf self.now client.new }
+        ensures number { number_of client.new ≡ number_of client.old }
+        ensures ok { IfOk result (λ r. EndsWaiting self.now (call_of client.old (command ∷ []) (r ∷ []))
+            (record_of client.old) (record_of client.new)) }
+        ensures err { OnErr result (FailsWaiting self.now (command ∷ []) (record_of client.old) (record_of client.new)) }
+    {
+        let batch = Batch::one(self.alloc, command)?;
+        let replies = self.apply(rt, client, &batch)?;
+        Ok(replies.into_only())
+    }
+}
