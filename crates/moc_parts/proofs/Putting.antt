@@ -98,3 +98,17 @@ new_in_part a more b lies = same_members _ _ (λ q.
     ∙ ap (λ t. set.contains more q && not t) (contains-part_of a b q)
     ∙ elsewhere (set.contains a q) (set.contains more q) (nat_eq (q / base_pixel_size) b) (lying more b q lies)
     ∙ sym (members.has-difference more a q))
+
+both_there : (a m e : Bool) → m ≡ (m && e) → ((a && e) && m) ≡ (a && m)
+both_there true true true lies = refl
+both_there true true false lies = sym lies
+both_there true false true lies = refl
+both_there true false false lies = refl
+both_there false m e lies = refl
+
+pub common_in_part : (a more : NumberSet) (b : ℕ) → part_of more b ≡ more → set.intersection (part_of a b) more ≡ set.intersection a more
+common_in_part a more b lies = same_members _ _ (λ q.
+    members.has-intersection (part_of a b) more q
+    ∙ ap (λ t. t && set.contains more q) (contains-part_of a b q)
+    ∙ both_there (set.contains a q) (set.contains more q) (nat_eq (q / base_pixel_size) b) (lying more b q lies)
+    ∙ sym (members.has-intersection a more q))

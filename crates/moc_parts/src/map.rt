@@ -121,7 +121,16 @@ impl Map {
         Ok(added)
     }
 
-    /// Does one command, and replies to it: as `apply` does the batch of it, without a batch.
+    /// How many pixels the map has of a set that lies in one part.
+    fn count_in(&self, part: Part, other: &Coverage) -> u64
+        requires lies { part_of other.now part ≡ other.now }
+        ensures { result ≡ set.len (set.intersection self.now other.now) }
+    {
+        self.part(part).count_common(other)
+    }
+
+    /// Does one command, and replies to it: as `apply` does the batch of it, without a batch. An `add` or a `count` whose
+    /// operand lies in one part, and is not degraded, looks at the list of that part alone.
     ///
     /// Refused where memory runs out; the map then is as it was.
     pub fn answer(&mut self, alloc: Global, command: &Command) -> Result<Reply, Memory>
@@ -133,6 +142,11 @@ impl Map {
             if let Some(part) = operand.own_part() {
                 let added = self.insert_into(alloc, part, &operand.set)?;
                 return Ok(Reply::Changed(added));
+            }
+        }
+        if let Command::Count(operand) = command {
+            if let Some(part) = operand.own_part() {
+                return Ok(Reply::Total(self.count_in(part, &operand.set)));
             }
         }
         // The operand lies in the sky, and an order or a cell is one.
