@@ -1,10 +1,9 @@
 -- The text in the order in which it is written is its words, parted by spaces.
-use Rattle.std.proofs.Common.{◌≡◌, ℕ, List, [], ◌∷◌, ◌++◌, Option, Some, None, refl, sym, ap, ◌∙◌, ◌-◌, ◌≤◌, length, take, drop, get_or, arith}
+use Rattle.std.proofs.Common.{◌≡◌, ℕ, List, [], ◌∷◌, ◌++◌, Option, Some, None, refl, sym, ap, ◌∙◌}
 use Rattle.std.specs.List.{join_with_byte}
-use Rattle.std.proofs.lemmas.List.{append-nil, take_all}
-use Rattle.moc_text.specs.AsciiText.{order_text, mark_text_of, run_text, stated_beyond, bare_words, words_of, runs_from, one, text_of_cells}
+use Rattle.std.proofs.lemmas.List.{append-nil}
+use Rattle.moc_text.specs.AsciiText.{order_text, mark_text_of, run_text, stated_beyond, bare_words, words_of}
 use Rattle.moc_text.specs.Private.AsciiWriting.{run_part, spaced, onward}
-use Rattle.moc_sphere.specs.CellNumber.{CellNumber}
 use Rattle.moc_text.specs.declared.ascii.writing.Run.{Run}
 
 -- words behind a word
@@ -33,11 +32,3 @@ onward-join (Some k) [] = refl
 onward-join stated (r ∷ rs) =
     ap (λ (t : List ℕ). (order_text r.order ++ run_text r) ++ t) (onward-behind stated r.order rs)
     ∙ sym (join-cons (order_text r.order ++ run_text r) (words_of stated (Some r.order) rs))
-
--- where the loop begins
-pub starts : (text : List ℕ) (cells : List CellNumber) (stated : Option ℕ) (run : Run) (d : CellNumber) → 1 ≤ length cells → run ≡ one (get_or cells 0 d)
-    → text ++ onward stated None (runs_from run (take (length cells - 1) (drop 1 cells))) ≡ text ++ text_of_cells cells stated
-starts text [] stated run d some is = absurd (omega arith)
-starts text (c ∷ cs) stated run d some is =
-    let rest : take (length (c ∷ cs) - 1) cs ≡ cs = ap (λ n. take n cs) (omega arith) ∙ take_all (length cs) cs (omega arith) in
-    ap (λ (t : List ℕ). text ++ t) (ap (λ (r : List CellNumber). onward stated None (runs_from run r)) rest ∙ onward-join stated (runs_from run cs) ∙ ap (λ r. join_with_byte 32 (words_of stated None (runs_from r cs))) is)

@@ -9,4 +9,4 @@ mod writing;
 pub use error::TextError;
 pub use reading::{read_ascii, readings_are_told};
 pub use scan::digits;
-pub use writing::{ROOM, beyond, deepest_of, depth_of, is_too_coarse, push_number, write_ascii};
+pub use writing::{RANGE_ROOM, beyond, deepest_of, depth_of, is_too_coarse, write_ascii};

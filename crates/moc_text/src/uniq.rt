@@ -11,7 +11,8 @@ ghost use Rattle.moc_text.specs.Faults.{Fails};
 ghost use Rattle.moc_text.specs.declared.uniq.UniqError.TheVariants.{BadByte, Memory, NotUniq};
 ghost use Rattle.moc_text.specs.UniqList.{fault_from, number_lines, SaysUniq, uniq_fault, uniq_text};
 
-use crate::ascii::{digits, push_number};
+use crate::ascii::digits;
+use itoa::Buffer;
 use moc_ranges::{Coverage, CoverageBuilder, Memory as MemoryRefused};
 use moc_sphere::Cell;
 use std::alloc::{AllocError, AllocFailed, Global};
@@ -138,7 +139,7 @@ fn push_numbers(text: &mut String, cells: &[Cell]) -> Result<(), AllocError>
     ensures { OnOk result (string_bytes text.new ≡ string_bytes text.old ++ number_lines (map uniq_of cells.now)) }
 {
     for cell in cells {
-        push_number(text, cell.uniq())?;
+        text.push_str(Buffer::new().format(cell.uniq()))?;
         text.push('\n')?;
     }
     Ok(())

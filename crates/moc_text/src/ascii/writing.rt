@@ -1,30 +1,26 @@
 //! Writing the ASCII form.
-ghost use Rattle.std.specs.Prelude.{◌≡◌, ◌+◌, ◌++◌, ◌<◌, ◌≤◌, decimal, drop, IfErr, IfOk, IsTrue, OnOk, ◌↔◌, ◌⊎◌};
+ghost use Rattle.std.specs.Prelude.{◌≡◌, ◌++◌, ◌∷◌, ◌<◌, ◌≤◌, decimal, IfErr, IfOk, IsTrue, OnOk, ◌↔◌, ◌⊎◌};
 ghost use Rattle.std.specs.Prelude.{List, Option, ℕ};
 ghost use Rattle.std.specs.Option.{ForSome};
-ghost use Rattle.std.specs.Str.{IsAscii};
 ghost use Rattle.std.specs.String.{string_bytes};
 ghost use Rattle.moc_sphere.specs.CellNumber.{CellNumber};
 ghost use Rattle.moc_ranges.specs.Cells.{cells_of};
 ghost use Rattle.moc_ranges.specs.RangeList.{IsNormal};
 ghost use Rattle.moc_text.specs.Ascii.{Says};
 ghost use Rattle.moc_text.specs.AsciiText.{ascii_text, deepest_cell, deepest_written, HasDeeper, IsTooCoarse};
-ghost use Rattle.moc_text.specs.AsciiText.{order_text, run_text, stated_beyond, text_of_cells};
+ghost use Rattle.moc_text.specs.AsciiText.{run_text, stated_beyond, text_of_cells};
 ghost use Rattle.moc_text.specs.Private.AsciiWriting.{AreOfOrders, gap, onward, run_part, runs_in, stated_part};
 ghost use Rattle.moc_text.specs.declared.ascii.writing.Run.{Run as CellRun};
 
 use crate::ascii::error::TextError;
-use itoa::{Buffer, write_digits};
+use crate::text_writer::TextWriter;
+use itoa::Buffer;
 use moc_ranges::{CellRanges, Coverage};
 use moc_sphere::Order;
 use std::alloc::{AllocError, Global};
-use std::str::from_utf8_unchecked;
 
 /// How many bytes of room a text has at first for each range of the set: about what the cells of most ranges take.
-pub const ROOM: usize = 20;
-
-/// How many bytes a run takes at most, with a space before it.
-const RUN_LEN: usize = 42;
+pub const RANGE_ROOM: usize = 20;
 
 /// Consecutive cells of one order, the last included.
 #[derive(Clone, Copy)]
@@ -34,97 +30,41 @@ struct Run {
     last: u64,
 }
 
-/// The number in decimal.
-pub fn push_number(text: &mut String, number: u64) -> Result<(), AllocError>
-    ensures { OnOk result (string_bytes text.new ≡ string_bytes text.old ++ decimal number) }
-{
-    text.push_str(Buffer::new().format(number))?;
-    Ok(())
-}
-
-/// The order, and a slash.
-fn push_order(text: &mut String, order: u8) -> Result<(), AllocError>
-    ensures { OnOk result (string_bytes text.new ≡ string_bytes text.old ++ order_text order) }
-{
-    push_number(text, u64::from(order))?;
-    text.push_str("/")?;
-    Ok(())
-}
-
-/// A space, where something was written before.
-fn push_gap(text: &mut String, before: Option<u8>) -> Result<(), AllocError>
-    ensures { OnOk result (string_bytes text.new ≡ string_bytes text.old ++ gap before) }
+/// The order; behind a space, where something was written before.
+fn push_order(text: &mut TextWriter, before: Option<u8>, order: u8) -> Result<(), AllocError>
+    ensures { OnOk result (text.new ≡ text.old ++ gap before ++ decimal order) }
 {
     if before.is_some() {
-        text.push_str(" ")?;
+        return text.push_number(b' ', u64::from(order));
     }
-    Ok(())
+    text.push_str(Buffer::new().format(order))
 }
 
-/// Writes a number so that it ends there in the buffer, and gives where it starts.
+/// The cells of a run behind an ASCII byte.
 #[inline]
-fn write_number(number: u64, buffer: &mut [u8; RUN_LEN], end: usize) -> usize
-    requires { (20 ≤ end) × (end ≤ 42) }
-    ensures written { drop result buffer.new ≡ decimal number ++ drop end buffer.old }
-    ensures start { (result < end) × (end ≤ result + 20) }
-    ensures ascii { IsAscii (decimal number) }
+fn push_cells(text: &mut TextWriter, before: u8, run: Run) -> Result<(), AllocError>
+    requires { before < 128 }
+    ensures { OnOk result (text.new ≡ text.old ++ before ∷ run_text run) }
 {
-    write_digits(number, buffer, end)
-}
-
-/// Writes the cells of a run at the end of the buffer, and gives where they start.
-#[inline]
-fn write_cells(run: Run, buffer: &mut [u8; RUN_LEN]) -> usize
-    ensures written { drop result buffer.new ≡ run_text run }
-    ensures start { (0 < result) × (result < 42) }
-    ensures ascii { IsAscii (run_text run) }
-{
+    text.push_number(before, run.first)?;
     if run.first == run.last {
-        return write_number(run.first, buffer, RUN_LEN);
+        return Ok(());
     }
-    let dash = write_number(run.last, buffer, RUN_LEN) - 1;
-    buffer[dash] = b'-';
-    write_number(run.first, buffer, dash)
-}
-
-/// Writes a space before what starts there in the buffer, where something was written before; gives where it starts.
-#[inline]
-fn write_gap(before: Option<u8>, buffer: &mut [u8; RUN_LEN], start: usize) -> usize
-    requires { (0 < start) × (start < 42) }
-    ensures written { drop result buffer.new ≡ gap before ++ drop start buffer.old }
-    ensures start { result < 42 }
-{
-    if before.is_none() {
-        return start;
-    }
-    buffer[start - 1] = b' ';
-    start - 1
-}
-
-/// The cells of a run behind a space, where something was written before.
-#[inline]
-fn push_cells(text: &mut String, before: Option<u8>, run: Run) -> Result<(), AllocError>
-    ensures { OnOk result (string_bytes text.new ≡ string_bytes text.old ++ gap before ++ run_text run) }
-{
-    let mut buffer = [0; RUN_LEN];
-    let cells = write_cells(run, &mut buffer);
-    let start = write_gap(before, &mut buffer, cells);
-    text.push_str(unsafe { from_utf8_unchecked(&buffer[start..]) })?;
-    Ok(())
+    text.push_number(b'-', run.last)
 }
 
 /// A run with its order, unless it was written last.
-fn push_run(text: &mut String, before: Option<u8>, run: Run) -> Result<(), AllocError>
-    ensures { OnOk result (string_bytes text.new ≡ string_bytes text.old ++ run_part before run) }
+#[inline]
+fn push_run(text: &mut TextWriter, before: Option<u8>, run: Run) -> Result<(), AllocError>
+    ensures { OnOk result (text.new ≡ text.old ++ run_part before run) }
 {
     if let Some(last) = before
         && last == run.order
     {
-        return push_cells(text, before, run);
+        return push_cells(text, b' ', run);
     }
-    push_gap(text, before)?;
-    push_order(text, run.order)?;
-    push_cells(text, None, run)
+    push_order(text, before, run.order)?;
+    push_cells(text, b'/', run)
 }
 
 /// The stated order, where it is deeper than the one written last or none was.
@@ -138,14 +78,18 @@ pub fn beyond(before: Option<u8>, stated: Option<u8>) -> Option<u8>
 }
 
 /// The stated order, where it is deeper than the one written last.
-fn push_stated(text: &mut String, before: Option<u8>, stated: Option<u8>) -> Result<(), AllocError>
-    ensures { OnOk result (string_bytes text.new ≡ string_bytes text.old ++ stated_part before stated) }
+fn push_stated(
+    text: &mut TextWriter,
+    before: Option<u8>,
+    stated: Option<u8>,
+) -> Result<(), AllocError>
+    ensures { OnOk result (text.new ≡ text.old ++ stated_part before stated) }
 {
     let Some(order) = beyond(before, stated) else {
         return Ok(());
     };
-    push_gap(text, before)?;
-    push_order(text, order)
+    push_order(text, before, order)?;
+    text.push_str("/")
 }
 
 /// The depth of an order, where there is one.
@@ -187,15 +131,15 @@ pub fn is_too_coarse(deepest: Option<u8>, stated: Option<u8>) -> bool
 
 /// Writes the runs of an order, and gives the order that was written last.
 fn push_runs(
-    text: &mut String,
+    text: &mut TextWriter,
     before: Option<u8>,
     order: u8,
     ranges: CellRanges<'_>,
 ) -> Result<Option<u8>, AllocError>
     requires { IsNormal ranges }
     ensures { IfOk result (λ last. (stated : Option ℕ) (rest : List CellRun) →
-        string_bytes text.new ++ onward stated last rest
-        ≡ string_bytes text.old ++ onward stated before (runs_in order ranges.entry ++ rest)) }
+        text.new ++ onward stated last rest
+        ≡ text.old ++ onward stated before (runs_in order ranges.entry ++ rest)) }
 {
     let mut before = before;
     for (first, end) in ranges {
@@ -208,14 +152,14 @@ fn push_runs(
 
 /// Writes the cells of the set run by run, of the orders that they can have.
 fn push_all(
-    text: &mut String,
+    text: &mut TextWriter,
     set: &Coverage,
     orders: (u8, u8),
     stated: Option<u8>,
 ) -> Result<(), AllocError>
     requires each { AreOfOrders orders.0 orders.1 (cells_of set.now) }
     requires in_range { orders.1 ≤ 30 }
-    ensures { OnOk result (string_bytes text.new ≡ string_bytes text.old ++ text_of_cells (cells_of set.now) stated) }
+    ensures { OnOk result (text.new ≡ text.old ++ text_of_cells (cells_of set.now) stated) }
 {
     let mut before = None;
     for level in orders.0..orders.1 {
@@ -248,7 +192,8 @@ pub fn write_ascii(
     if is_too_coarse(deepest_of(set, orders), stated) {
         return Err(TextError::TooCoarse);
     }
-    let mut text = String::with_capacity(alloc, set.range_count().saturating_mul(ROOM))?;
+    let room = set.range_count().saturating_mul(RANGE_ROOM);
+    let mut text = TextWriter::with_capacity(alloc, room)?;
     push_all(&mut text, set, orders, stated)?;
-    Ok(text)
+    Ok(text.finish()?)
 }

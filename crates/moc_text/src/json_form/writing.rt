@@ -12,7 +12,7 @@ ghost use Rattle.moc_text.specs.JsonText.{data_at, json_text};
 ghost use Rattle.moc_text.specs.Private.AsciiWriting.{AreOfOrders};
 ghost use Rattle.moc_text.specs.Private.JsonWriting.{array_rest, member_before, members_along, orders_by_name, row_of};
 
-use crate::ascii::{ROOM, beyond, deepest_of, depth_of, is_too_coarse};
+use crate::ascii::{RANGE_ROOM, beyond, deepest_of, depth_of, is_too_coarse};
 use crate::json_form::error::JsonError;
 use crate::text_writer::TextWriter;
 use moc_ranges::{CellRanges, Coverage};
@@ -146,7 +146,7 @@ fn object_text(
     ensures { IfOk result (λ t. string_bytes t
         ≡ compact_text (object (members_along (cells_of set.now) bare orders_by_name))) }
 {
-    let room = set.range_count().saturating_mul(ROOM);
+    let room = set.range_count().saturating_mul(RANGE_ROOM);
     let mut text = TextWriter::with_capacity(alloc, room)?;
     text.push_str("{")?;
     write_orders(&mut text, set, orders, bare)?;

@@ -1,5 +1,4 @@
 use Rattle.std.proofs.Common.{◌≡◌, ◌++◌, List, Option, ℕ}
-use Rattle.std.specs.String.{string_bytes}
 use Rattle.moc_ranges.specs.RangeList.{IsNormal}
 use Rattle.moc_text.specs.Private.AsciiWriting.{onward, runs_in}
 use Rattle.moc_text.specs.declared.ascii.writing.Run.{Run}
@@ -9,5 +8,5 @@ abbrev pub invariant-loop-first : goal.invariant-loop-first
 invariant-loop-first l = record {
   continues : (goal.iterator-loop-first).can_next l.first-iterator × (goal.iterator-loop-first).is_finite l.first-iterator;
   normal : IsNormal l.first-iterator;
-  written : (stated : Option ℕ) (rest : List Run) → string_bytes l.text ++ onward stated l.before (runs_in l.order l.first-iterator ++ rest) ≡ string_bytes l.fn.text ++ onward stated l.fn.before (runs_in l.order l.fn.ranges ++ rest);
+  written : (stated : Option ℕ) (rest : List Run) → l.text ++ onward stated l.before (runs_in l.order l.first-iterator ++ rest) ≡ l.fn.text ++ onward stated l.fn.before (runs_in l.order l.fn.ranges ++ rest);
 }

@@ -13,6 +13,6 @@ returns-clause-reads_back c =
     let found : c.is_too_coarse.result ≡ true = (c.is_too_coarse.ensures (cells_of c.args.set.now) c.deepest_of.ensures).1 (rw c.depth_of-stated.ensures.same deeper) in
     let none : c.is_too_coarse.result ≡ false = c.if-is_too_coarse.false in
     absurd cc in
-    let text : string_bytes c.push_all.new.text ≡ text_of_cells (cells_of c.args.set.now) c.args.stated = search rules in
+    let text : string_bytes c.in_ok-finish.field-0 ≡ text_of_cells (cells_of c.args.set.now) c.args.stated = search rules in
     subst (λ (t : List ℕ). Says t c.args.set.now (deepest_written c.args.set.now c.args.stated)) (sym text)
     (written_is_read c.args.set.now c.args.stated c.cell_orders-orders.ensures.within (rw c.depth_of-stated.ensures.same at c.depth_of-stated.ensures.small) fine)
