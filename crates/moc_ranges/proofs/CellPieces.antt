@@ -1,5 +1,5 @@
 -- The cells of an order of ranges are those of their pieces, which are a normal list.
-use Rattle.std.proofs.Common.{◌≡◌, ℕ, zero, suc, ◌+◌, ◌-◌, ◌*◌, ◌/◌, ◌<◌, ◌≤◌, Bool, true, false, cond, ◌&&◌, List, [], ◌∷◌, ◌++◌, length, take, get_or, map, refl, sym, ap, ◌∙◌, inl, inr, arith, append-nil, append_assoc, eqb}
+use Rattle.std.proofs.Common.{◌≡◌, ℕ, zero, suc, ◌+◌, ◌-◌, ◌*◌, ◌/◌, ◌<◌, ◌≤◌, Bool, true, false, cond, ◌&&◌, List, [], ◌∷◌, ◌++◌, length, take, get_or, map, refl, sym, ap, subst, ◌∙◌, inl, inr, arith, append-nil, append_assoc, eqb}
 use Rattle.std.specs.Prelude.{nat_lt}
 use Rattle.std.specs.List.{filter, range_with_len, AllByRecursion}
 use Rattle.std.proofs.lemmas.Bool.{cases_lt, and_parts, and_from, lt-ltb, ltb-true, le-ltb, eq-eqb, ne_eqb}
@@ -10,9 +10,9 @@ use Rattle.moc_sphere.specs.CellNumber.{CellNumber, cell_number, cell_count, cel
 use Rattle.moc_ranges.specs.Numbers.{NumberSet}
 use Rattle.moc_ranges.specs.Pixels.{pixel_count}
 use Rattle.moc_ranges.specs.RangeList.{set_of, IsNormal, BeginsAfter}
-use Rattle.moc_ranges.specs.Cells.{cells_in, cells_of, cells_below, is_cell_of}
+use Rattle.moc_ranges.specs.Cells.{AreOfOrders, cells_in, cells_of, cells_of_range, cells_below, is_cell_of}
 use Rattle.moc_ranges.specs.Laws.Cells.{cells_are, four_parts}
-use Rattle.moc_ranges.specs.Private.CellRuns.{ahead_of, AreWhole, HasOrders, cells_at, cells_between, filled, parted, pieces_along, pieces_of, whole_in}
+use Rattle.moc_ranges.specs.Private.CellRuns.{ahead_of, around_parents, AreWhole, HasOrders, cells_at, filled, pieces_along, pieces_of, whole_in}
 use Rattle.moc_ranges.specs.Private.Meeting.{kept_if}
 use Rattle.moc_ranges.proofs.CellRuns.{cells_split, count_bound, four_children, no_cells, run_one, run_top, run_two, whole_is}
 use Rattle.moc_ranges.proofs.CellOrders.{cells_step}
@@ -25,14 +25,14 @@ cells_in-append k (x ∷ xs) ys =
     let here = map (cell_number k) (range_with_len x.0 (x.1 - x.0)) in
     ap (λ l. here ++ l) (cells_in-append k xs ys) ∙ sym (append_assoc here (cells_in k xs) (cells_in k ys))
 
-nothing_between : (k first last : ℕ) → last ≤ first → cells_between k first last ≡ []
+nothing_between : (k first last : ℕ) → last ≤ first → cells_of_range k (first, last) ≡ []
 nothing_between k first last le =
     let none : last - first ≡ 0 = omega arith in
     ap (λ n. map (cell_number k) (range_with_len first n)) none
 
-filled_cells : (k first last : ℕ) → cells_in k (filled (first, last)) ≡ cells_between k first last
+filled_cells : (k first last : ℕ) → cells_in k (filled (first, last)) ≡ cells_of_range k (first, last)
 filled_cells k first last = elim (cases_lt first last) [
-  | inl lt ↦ ap (λ b. cells_in k (kept_if b (first, last))) (lt-ltb first last lt) ∙ append-nil (cells_between k first last)
+  | inl lt ↦ ap (λ b. cells_in k (kept_if b (first, last))) (lt-ltb first last lt) ∙ append-nil (cells_of_range k (first, last))
   | inr le ↦ ap (λ b. cells_in k (kept_if b (first, last))) (le-ltb first last le) ∙ sym (nothing_between k first last le)
 ]
 
@@ -40,7 +40,7 @@ filled_cells k first last = elim (cases_lt first last) [
 abbrev both : ℕ → (ℕ × ℕ) × (ℕ × ℕ) → List CellNumber
 both k p = cells_in k (filled p.0 ++ filled p.1)
 
-both_cells : (k : ℕ) (p : (ℕ × ℕ) × (ℕ × ℕ)) → both k p ≡ cells_between k p.0.0 p.0.1 ++ cells_between k p.1.0 p.1.1
+both_cells : (k : ℕ) (p : (ℕ × ℕ) × (ℕ × ℕ)) → both k p ≡ cells_of_range k p.0 ++ cells_of_range k p.1
 both_cells k p = cells_in-append k (filled p.0) (filled p.1) ∙ (λ i. filled_cells k p.0.0 p.0.1 i ++ filled_cells k p.1.0 p.1.1 i)
 
 -- the parents that lie whole in the range
@@ -78,12 +78,12 @@ parents_are (suc k) from to first last some small whole =
     below : last / 4 ≤ cell_count (suc k - 1)
     below = omega (arith, whole.in_range, four_children (suc k) (omega arith))
 
--- the pieces of a row of whole cells are the range's cells
-parted_cells : (k from to first last : ℕ) → k ≤ 29 → from < to → to ≤ pixel_count → AreWhole k from to first last → both k (parted k (first, last)) ≡ cells_at (set_of ((from, to) ∷ [])) k
-parted_cells zero from to first last small some fits whole =
-    both_cells 0 ((first, last), (last, last)) ∙ ap (λ l. cells_between 0 first last ++ l) (nothing_between 0 last last (omega arith)) ∙ append-nil (cells_between 0 first last)
+-- the pieces of a run of whole cells are the range's cells
+around_cells : (k from to first last : ℕ) → k ≤ 29 → from < to → to ≤ pixel_count → AreWhole k from to first last → both k (around_parents k (first, last)) ≡ cells_at (set_of ((from, to) ∷ [])) k
+around_cells zero from to first last small some fits whole =
+    both_cells 0 ((first, last), (last, last)) ∙ ap (λ l. cells_of_range 0 (first, last) ++ l) (nothing_between 0 last last (omega arith)) ∙ append-nil (cells_of_range 0 (first, last))
     ∙ sym (run_top 0 from to first last refl some fits whole)
-parted_cells (suc k) from to first last small some fits whole =
+around_cells (suc k) from to first last small some fits whole =
     let low = (first + 3) / 4 in
     let high = last / 4 in
     let parents = parents_are (suc k) from to first last (omega arith) small whole in
@@ -95,12 +95,12 @@ parted_cells (suc k) from to first last small some fits whole =
           let b : 4 * high ≡ high * 4 = omega arith in
           ap (λ b. both (suc k) (cond b ((first, low * 4), (high * 4, last)) ((first, last), (last, last)))) is
           ∙ both_cells (suc k) ((first, low * 4), (high * 4, last))
-          ∙ sym (run_two (suc k) from to first last low high (omega arith) small some fits whole parents (omega arith) ∙ (λ i. cells_between (suc k) first (a i) ++ cells_between (suc k) (b i) last))
+          ∙ sym (run_two (suc k) from to first last low high (omega arith) small some fits whole parents (omega arith) ∙ (λ i. cells_of_range (suc k) (first, a i) ++ cells_of_range (suc k) (b i, last)))
       | inr le ↦
           let is : (nat_lt 0 (suc k) && nat_lt (low * 4) (high * 4)) ≡ false = ap (λ b. b && nat_lt (low * 4) (high * 4)) top ∙ le-ltb (low * 4) (high * 4) le in
           ap (λ b. both (suc k) (cond b ((first, low * 4), (high * 4, last)) ((first, last), (last, last)))) is
-          ∙ both_cells (suc k) ((first, last), (last, last)) ∙ ap (λ l. cells_between (suc k) first last ++ l) (nothing_between (suc k) last last (omega arith))
-          ∙ append-nil (cells_between (suc k) first last)
+          ∙ both_cells (suc k) ((first, last), (last, last)) ∙ ap (λ l. cells_of_range (suc k) (first, last) ++ l) (nothing_between (suc k) last last (omega arith))
+          ∙ append-nil (cells_of_range (suc k) (first, last))
           ∙ sym (run_one (suc k) from to first last low high (omega arith) small some fits whole parents (omega arith))
     ]
 
@@ -119,7 +119,7 @@ pieces_cells k (r ∷ rs) normal small =
     ∙ ap (λ l. first ++ l) (cells_in-append k (filled p.1) (pieces_along k rs))
     ∙ sym (append_assoc first second rest)
     ∙ ap (λ l. l ++ rest) (sym (cells_in-append k (filled p.0) (filled p.1)))
-    ∙ (λ i. parted_cells k r.0 r.1 (whole_in k r).0 (whole_in k r).1 small normal.0 normal.1 (whole_in-is k r.0 r.1 small normal.1) i ++ pieces_cells k rs normal.3 small i)
+    ∙ (λ i. around_cells k r.0 r.1 (whole_in k r).0 (whole_in k r).1 small normal.0 normal.1 (whole_in-is k r.0 r.1 small normal.1) i ++ pieces_cells k rs normal.3 small i)
     ∙ sym (cells_split r rs k normal small)
 
 -- ---- they are a normal list
@@ -130,7 +130,7 @@ record Parts (first last : ℕ) (p : (ℕ × ℕ) × (ℕ × ℕ)) : Type 0 wher
   within : p.0.1 ≤ last
   gap : p.1.0 < p.1.1 → (p.0.1 < p.1.0) × (first ≤ p.1.0)
 
-parts : (k first last : ℕ) → Parts first last (parted k (first, last))
+parts : (k first last : ℕ) → Parts first last (around_parents k (first, last))
 parts k first last =
     let low = (first + 3) / 4 * 4 in
     let high = last / 4 * 4 in
@@ -249,7 +249,7 @@ each_kept P p (c ∷ cells) are has =
       | false ↦ λ e all. each_kept P p cells all has
     ] refl are
 
-pub orders_of_cells : (a : NumberSet) (first last : ℕ) → HasOrders a first last → AllByRecursion (λ c. (first ≤ c.order) × (c.order < last)) (cells_of a)
+pub orders_of_cells : (a : NumberSet) (first last : ℕ) → HasOrders a first last → AreOfOrders first last (cells_of a)
 unfolding cells_of
 orders_of_cells a first last has =
     each_kept (λ c. (first ≤ c.order) × (c.order < last)) (is_cell_of a) (cells_below 30) (cells_are a) (λ c is of_it. has.each c.order c.index is.order_in_range is.index_in_range of_it)
@@ -261,3 +261,32 @@ pub ahead_next : (made rest : List (ℕ × ℕ)) (given count : ℕ) → given <
 ahead_next made rest given count lt fits =
     ap (λ (l : List (ℕ × ℕ)). l ++ rest) (drop_more (take count made) given (0, 0) (omega (arith, length-take-le count made fits)))
     ∙ ap (λ (x : ℕ × ℕ). x ∷ (ahead_of made (given + 1) count ++ rest)) (get_or-take count made given (0, 0) lt)
+
+-- ---- the cells of runs are cells
+
+-- a run whose cells come first ends within its order
+pub run_fits : (k : ℕ) (run : ℕ × ℕ) (cells : List CellNumber) → AllByRecursion IsCell (cells_of_range k run ++ cells) → run.0 < run.1 → run.1 ≤ cell_count k
+run_fits k run cells are some =
+    let n = run.1 - run.0 - 1 in
+    let many : run.1 - run.0 ≡ suc n = omega arith in
+    omega (arith, last run.0 n (subst (λ m. AllByRecursion IsCell (map (cell_number k) (range_with_len run.0 m) ++ cells)) many are))
+  where
+    last : (first n : ℕ) → AllByRecursion IsCell (map (cell_number k) (range_with_len first (suc n)) ++ cells) → first + suc n ≤ cell_count k
+    last first zero are = omega (arith, (are.0).index_in_range)
+    last first (suc n) are = omega (arith, last (first + 1) n are.1)
+
+pub later_cells : (xs ys : List CellNumber) → AllByRecursion IsCell (xs ++ ys) → AllByRecursion IsCell ys
+later_cells [] ys are = are
+later_cells (x ∷ xs) ys are = later_cells xs ys are.1
+
+-- the cells of an order
+pub order_cells : (a : NumberSet) (k : ℕ) → AllByRecursion IsCell (filter (λ c. eqb c.order k) (cells_of a))
+order_cells a k = kept (cells_of a) (cells_are a)
+  where
+    kept : (cells : List CellNumber) → AllByRecursion IsCell cells → AllByRecursion IsCell (filter (λ c. eqb c.order k) cells)
+    kept [] are = tt
+    kept (c ∷ cells) are =
+        elim (eqb c.order k) as (λ b. AllByRecursion IsCell (cond b (c ∷ filter (λ c. eqb c.order k) cells) (filter (λ c. eqb c.order k) cells))) [
+          | true ↦ (are.0, kept cells are.1)
+          | false ↦ kept cells are.1
+        ]

@@ -1,5 +1,5 @@
 -- The cells of one order of a set are, range after range, those that lie whole in the range while their parent does not.
-use Rattle.std.proofs.Common.{◌≡◌, ℕ, zero, suc, ◌+◌, ◌-◌, ◌*◌, ◌/◌, ◌^◌, ◌<◌, ◌≤◌, Bool, true, false, cond, not, ◌&&◌, ◌||◌, List, [], ◌∷◌, ◌++◌, map, refl, sym, ap, subst, ◌∙◌, inl, inr, arith}
+use Rattle.std.proofs.Common.{◌≡◌, ℕ, zero, suc, ◌+◌, ◌-◌, ◌*◌, ◌/◌, ◌^◌, ◌<◌, ◌≤◌, Bool, true, false, cond, not, ◌&&◌, ◌||◌, List, [], ◌∷◌, ◌++◌, map, refl, sym, ap, ◌∙◌, inl, inr, arith}
 use Rattle.std.specs.Prelude.{nat_eq, nat_le, nat_lt}
 use Rattle.std.specs.FinSet as set
 use Rattle.std.specs.Cmp.{nat_cmp_total}
@@ -14,10 +14,10 @@ use Rattle.moc_sphere.specs.CellNumber.{cell_number, cell_count, cell_size, cell
 use Rattle.moc_ranges.specs.Pixels.{pixel_count}
 use Rattle.moc_ranges.specs.RangeList.{set_of, contains-set_of, in_ranges, IsNormal, BeginsAfter}
 use Rattle.moc_ranges.specs.Laws.Ranges.{LiesInOne, lies_in_one}
-use Rattle.moc_ranges.specs.Cells.{span, contains-span, is_cell_of}
+use Rattle.moc_ranges.specs.Cells.{cells_of_range, span, contains-span, is_cell_of}
 use Rattle.moc_ranges.specs.Laws.Cells.{in_span, four_parts, in_cell_range}
 use Rattle.moc_ranges.specs.Same.{same_truth}
-use Rattle.moc_ranges.specs.Private.CellRuns.{cells_at, cells_between, AreWhole}
+use Rattle.moc_ranges.specs.Private.CellRuns.{cells_at, AreWhole}
 
 -- ---- filters of numbers in a row
 
@@ -253,16 +253,7 @@ one_test first last low high i none = let j = i / 4 in grind (arith, nat_tests)
 two_tests : (first last low high i : ℕ) → low < high → first ≤ 4 * low → 4 * high ≤ last → (((nat_le first i && nat_lt i last) && (false || not (nat_le low (i / 4) && nat_lt (i / 4) high))) || false) ≡ ((nat_le first i && nat_lt i (4 * low)) || (nat_le (4 * high) i && nat_lt i last))
 two_tests first last low high i some a b = grind (arith, nat_tests)
 
--- no cell lies in the range
-pub run_none : (k from to first last : ℕ) → k ≤ 29 → from < to → to ≤ pixel_count → AreWhole k from to first last → last ≤ first → cells_at (set_of ((from, to) ∷ [])) k ≡ []
-run_none k from to first last small some fits_in whole none =
-    cells_at_any ((from, to) ∷ []) k (some, fits_in, tt, tt) small
-    ∙ ap (map (cell_number k)) (filter_none (λ i. list_any (part_at k i) ((from, to) ∷ [])) 0 (cell_count k) (λ i low high. or_from _ _ (and_left _ _ (whole_tests k from to first last i whole ∙ out first last i none)) refl))
-  where
-    out : (first last i : ℕ) → last ≤ first → (nat_le first i && nat_lt i last) ≡ false
-    out first last i none = grind (arith, nat_tests)
-
-pub run_top : (k from to first last : ℕ) → k ≡ 0 → from < to → to ≤ pixel_count → AreWhole k from to first last → cells_at (set_of ((from, to) ∷ [])) k ≡ cells_between k first last
+pub run_top : (k from to first last : ℕ) → k ≡ 0 → from < to → to ≤ pixel_count → AreWhole k from to first last → cells_at (set_of ((from, to) ∷ [])) k ≡ cells_of_range k (first, last)
 run_top zero from to first last top some fits_in whole =
     cells_at_any ((from, to) ∷ []) 0 (some, fits_in, tt, tt) (omega arith)
     ∙ ap (map (cell_number 0)) (filter_run (λ i. list_any (part_at 0 i) ((from, to) ∷ [])) first last 0 (cell_count 0) (omega arith) (omega (arith, whole.in_range))
@@ -281,7 +272,7 @@ part_tests : (k from to first last low high i : ℕ) → AreWhole (suc k) from t
 part_tests k from to first last low high i whole parents =
     (λ n. (whole_tests (suc k) from to first last i whole n && (not_top k n || not (whole_tests (suc k - 1) from to low high (i / 4) parents n))) || false)
 
-pub run_one : (k from to first last low high : ℕ) → 0 < k → k ≤ 29 → from < to → to ≤ pixel_count → AreWhole k from to first last → AreWhole (k - 1) from to low high → high ≤ low → cells_at (set_of ((from, to) ∷ [])) k ≡ cells_between k first last
+pub run_one : (k from to first last low high : ℕ) → 0 < k → k ≤ 29 → from < to → to ≤ pixel_count → AreWhole k from to first last → AreWhole (k - 1) from to low high → high ≤ low → cells_at (set_of ((from, to) ∷ [])) k ≡ cells_of_range k (first, last)
 run_one zero from to first last low high deep small some fits_in whole parents none = absurd (omega arith)
 run_one (suc k) from to first last low high deep small some fits_in whole parents none =
     cells_at_any ((from, to) ∷ []) (suc k) (some, fits_in, tt, tt) small
@@ -296,7 +287,7 @@ child_in k from to first last low high i small whole parents a b =
     (whole.each i).1 (omega arith, omega arith)
 
 pub run_two : (k from to first last low high : ℕ) → 0 < k → k ≤ 29 → from < to → to ≤ pixel_count → AreWhole k from to first last → AreWhole (k - 1) from to low high → low < high
-    → cells_at (set_of ((from, to) ∷ [])) k ≡ cells_between k first (4 * low) ++ cells_between k (4 * high) last
+    → cells_at (set_of ((from, to) ∷ [])) k ≡ cells_of_range k (first, 4 * low) ++ cells_of_range k (4 * high, last)
 run_two zero from to first last low high deep small some fits_in whole parents more = absurd (omega arith)
 run_two (suc k) from to first last low high deep small some fits_in whole parents more =
     let n = cell_count (suc k) in
@@ -366,18 +357,18 @@ whole_is k w from to is small fits_in =
         let a = div_below to (cell_size k) (cell_count k + 1) pos (omega arith) in
         omega arith
 
--- ---- rows of cells, as the code pushes them
+-- ---- runs of cells, as the code pushes them
 
-pub row_more : (k first i : ℕ) → first ≤ i → cells_between k first (i + 1) ≡ cells_between k first i ++ cell_number k i ∷ []
-row_more k first i le =
+pub run_more : (k first i : ℕ) → first ≤ i → cells_of_range k (first, i + 1) ≡ cells_of_range k (first, i) ++ cell_number k i ∷ []
+run_more k first i le =
     let one : i + 1 - first ≡ i - first + 1 = omega arith in
     ap (λ n. map (cell_number k) (range_with_len first n)) one ∙ map-range_with_len_more (cell_number k) first (i - first) i (omega arith)
 
-pub row_none : (k first : ℕ) → cells_between k first first ≡ []
-row_none k first = let none : first - first ≡ 0 = omega arith in ap (λ n. map (cell_number k) (range_with_len first n)) none
+pub run_empty : (k first : ℕ) → cells_of_range k (first, first) ≡ []
+run_empty k first = let none : first - first ≡ 0 = omega arith in ap (λ n. map (cell_number k) (range_with_len first n)) none
 
-pub row_whole : (k first i last : ℕ) → i - first ≡ last - first → cells_between k first i ≡ cells_between k first last
-row_whole k first i last same = ap (λ n. map (cell_number k) (range_with_len first n)) same
+pub run_whole : (k first i last : ℕ) → i - first ≡ last - first → cells_of_range k (first, i) ≡ cells_of_range k (first, last)
+run_whole k first i last same = ap (λ n. map (cell_number k) (range_with_len first n)) same
 
 pub count_bound : (k : ℕ) → k ≤ 29 → cell_count k ≤ pixel_count
 count_bound k small =
@@ -390,9 +381,6 @@ four_children (suc k) some =
     let before : suc k - 1 ≡ k = omega arith in
     let four : 4 ^ suc k ≡ 4 * 4 ^ k = pow-succ' 4 k in
     rw before (omega arith)
-
-pub parents_whole : (k j g from to low high : ℕ) → AreWhole j from to low high → j ≡ g - 1 → g ≡ k → AreWhole (k - 1) from to low high
-parents_whole k j g from to low high whole is same = subst (λ (j : ℕ). AreWhole j from to low high) (is ∙ ap (λ g. g - 1) same) whole
 
 -- no range has no cell
 pub no_cells : (k : ℕ) → k ≤ 29 → cells_at (set_of []) k ≡ []

@@ -1,8 +1,8 @@
 -- Cells of every order, and what they have to do with a set of pixels (MOC 2.0).
-use Rattle.std.specs.Prelude.{◌≡◌, ℕ, zero, suc, ◌+◌, ◌-◌, ◌*◌, ◌/◌, ◌≤◌, ⊤, Bool, not, ◌&&◌, ◌||◌, List, [], ◌∷◌, ◌++◌}
+use Rattle.std.specs.Prelude.{◌≡◌, ℕ, zero, suc, ◌+◌, ◌-◌, ◌*◌, ◌/◌, ◌<◌, ◌≤◌, ⊤, Bool, not, ◌&&◌, ◌||◌, List, [], ◌∷◌, ◌++◌}
 use Rattle.std.specs.Prelude.{map, nat_eq, nat_le, nat_lt}
 use Rattle.std.specs.FinSet as set
-use Rattle.std.specs.List.{filter, range_with_len}
+use Rattle.std.specs.List.{filter, range_with_len, AllByRecursion}
 use Rattle.std.proofs.Common.{◌∙◌, ap}
 use Rattle.moc_sphere.specs.CellNumber.{CellNumber, cell_number, cell_count, cell_size, uniq_of}
 use Rattle.moc_ranges.specs.Numbers.{NumberSet, contains-kept}
@@ -44,11 +44,18 @@ cells_below (suc k) = cells_below k ++ map (cell_number k) (range_with_len 0 (ce
 unfoldable pub cells_of : NumberSet → List CellNumber
 cells_of a = filter (is_cell_of a) (cells_below 30)
 
+-- the cells of an order whose indices are in a range, its end not included
+abbrev pub cells_of_range : ℕ → ℕ × ℕ → List CellNumber
+cells_of_range order range = map (cell_number order) (range_with_len range.0 (range.1 - range.0))
+
 -- the cells of an order whose indices are in ranges
 abbrev pub cells_in : ℕ → List (ℕ × ℕ) → List CellNumber
 cells_in order [] = []
-cells_in order (range ∷ ranges) =
-    map (cell_number order) (range_with_len range.0 (range.1 - range.0)) ++ cells_in order ranges
+cells_in order (range ∷ ranges) = cells_of_range order range ++ cells_in order ranges
+
+-- the cells have orders from the first up to, not including, the last
+abbrev pub AreOfOrders : ℕ → ℕ → List CellNumber → Type 0
+AreOfOrders first last cells = AllByRecursion (λ c. (first ≤ c.order) × (c.order < last)) cells
 
 -- the pixels of a cell, from the first up to, not including, the one after the last
 abbrev pub cell_range : CellNumber → ℕ × ℕ

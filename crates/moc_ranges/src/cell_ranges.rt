@@ -1,7 +1,6 @@
 //! The cells of one order of a set, as runs of consecutive indices.
 ghost use Rattle.std.specs.Iterator.{YieldsFirst, item_count};
 
-use crate::cells::whole_cells;
 use crate::list::ranges::Ranges;
 use crate::operations::meeting::keep_at;
 use moc_sphere::Order;
@@ -37,8 +36,21 @@ impl<'a> Model for CellRanges<'a> {
 
 ghost use Rattle.std.specs.Prelude.{◌≡◌, ◌++◌, ◌<◌, ◌≤◌, [], length, take};
 ghost use Rattle.moc_ranges.specs.RangeList.{IsNormal};
-ghost use Rattle.moc_ranges.specs.Private.CellRuns.{pieces_along, pieces_of};
+ghost use Rattle.moc_ranges.specs.Private.CellRuns.{pieces_along, pieces_of, whole_in};
 ghost use Rattle.moc_ranges.specs.Pixels.{pixel_count};
+
+/// The cells of an order that lie whole in a range: the index of the first, and the one after the
+/// last.
+#[inline(always)]
+fn whole_cells(order: Order, from: u64, to: u64) -> (u64, u64)
+    requires rising { from < to }
+    requires within { to ≤ pixel_count }
+    ensures { result ≡ whole_in order (from, to) }
+{
+    let shift = 2 * (29 - order.get());
+    let size = order.cell_size();
+    ((from + (size - 1)) >> shift, to >> shift)
+}
 
 /// Of the cells of an order that lie whole in a range those before, and those after the parents that lie whole in it;
 /// all of them, and none, where no parent does.
@@ -111,11 +123,11 @@ impl<'a> Iterator for CellRanges<'a> {
             self.given += 1;
             return Some(run);
         }
-        self.count = make_ahead(self.order, &mut self.ranges, &mut self.made);
-        if self.count == 0 {
-            self.given = 0;
+        let count = make_ahead(self.order, &mut self.ranges, &mut self.made);
+        if count == 0 {
             return None;
         }
+        self.count = count;
         self.given = 1;
         Some(self.made[0])
     }

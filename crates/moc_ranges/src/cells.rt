@@ -1,11 +1,12 @@
-//! From ranges to cells: order after order, and within an order range after range.
-ghost use Rattle.std.specs.Prelude.{◌≡◌, ◌++◌, ◌<◌, ◌≤◌, ℕ, [], ◌∷◌, OnOk};
-ghost use Rattle.moc_sphere.specs.CellNumber.{cell_count};
-ghost use Rattle.moc_ranges.specs.Cells.{degrade};
-ghost use Rattle.moc_ranges.specs.Private.CellRuns.{AreWhole, HasOrders, cells_at, cells_between, whole_in};
-ghost use Rattle.moc_ranges.specs.Pixels.{pixel_count};
+//! The cells of ranges, and the orders that they can have.
+ghost use Rattle.std.specs.Prelude.{◌≡◌, ◌++◌, ◌<◌, ◌≤◌, ℕ, OnOk};
+ghost use Rattle.std.specs.List.{AllByRecursion};
+ghost use Rattle.moc_sphere.specs.CellNumber.{cell_count, IsCell};
+ghost use Rattle.moc_ranges.specs.Cells.{cells_in, cells_of_range, degrade};
+ghost use Rattle.moc_ranges.specs.Private.CellRuns.{HasOrders};
 ghost use Rattle.moc_ranges.specs.RangeList.{IsNormal, set_of};
 
+use crate::cell_ranges::CellRanges;
 use crate::list::ranges::Ranges;
 use moc_sphere::{Cell, Order};
 use std::alloc::AllocError;
@@ -45,74 +46,29 @@ pub fn deepest_order(ranges: Ranges<'_>) -> Order
     Order::of(29 - below as u8)
 }
 
-/// The cells of an order that lie whole in a range: the index of the first, and the one after the
-/// last.
-#[inline(always)]
-pub fn whole_cells(order: Order, from: u64, to: u64) -> (u64, u64)
-    requires rising { from < to }
-    requires within { to ≤ pixel_count }
-    ensures is { result ≡ whole_in order (from, to) }
-    ensures whole { AreWhole order from to result.0 result.1 }
-{
-    let shift = 2 * (29 - order.get());
-    let size = order.cell_size();
-    ((from + (size - 1)) >> shift, to >> shift)
-}
-
 /// Adds the cells of an order from one index up to, not including, another.
 #[inline]
-fn push_row(cells: &mut Vec<Cell>, order: Order, first: u64, last: u64) -> Result<(), AllocError>
-    requires { last ≤ cell_count order }
-    ensures { OnOk result (cells.new.items ≡ cells.old.items ++ cells_between order first last) }
+fn push_run(cells: &mut Vec<Cell>, order: Order, first: u64, end: u64) -> Result<(), AllocError>
+    requires { first < end → end ≤ cell_count order }
+    ensures { OnOk result (cells.new.items ≡ cells.old.items ++ cells_of_range order (first, end)) }
 {
-    for index in first..last {
+    for index in first..end {
         cells.push(Cell::of(order, index))?;
     }
     Ok(())
 }
 
-/// Adds the cells of an order that a range has: those that lie whole in it, but for those whose
-/// parent does.
-#[inline]
-fn push_cells_of_range(
+/// Adds the cells of runs of an order.
+pub fn push_runs(
     cells: &mut Vec<Cell>,
     order: Order,
-    from: u64,
-    to: u64,
+    runs: CellRanges<'_>,
 ) -> Result<(), AllocError>
-    requires rising { from < to }
-    requires within { to ≤ pixel_count }
-    ensures { OnOk result (cells.new.items ≡ cells.old.items ++ cells_at (set_of ((from, to) ∷ [])) order) }
+    requires { AllByRecursion IsCell (cells_in order runs) }
+    ensures { OnOk result (cells.new.items ≡ cells.old.items ++ cells_in order runs.entry) }
 {
-    let level = order.get();
-    let (first, last) = whole_cells(order, from, to);
-    if first >= last {
-        return Ok(());
-    }
-    if level == 0 {
-        return push_row(cells, order, first, last);
-    }
-    let (low, high) = whole_cells(Order::of(level - 1), from, to);
-    if low < high {
-        push_row(cells, order, first, 4 * low)?;
-        push_row(cells, order, 4 * high, last)
-    } else {
-        push_row(cells, order, first, last)
-    }
-}
-
-/// Adds the cells of an order that ranges have, by rising index.
-pub fn push_cells_of_order(
-    cells: &mut Vec<Cell>,
-    order: Order,
-    ranges: Ranges<'_>,
-) -> Result<(), AllocError>
-    requires order { order ≤ 29 }
-    requires ranges { IsNormal ranges }
-    ensures { OnOk result (cells.new.items ≡ cells.old.items ++ cells_at (set_of ranges.entry) order) }
-{
-    for (from, to) in ranges {
-        push_cells_of_range(cells, order, from, to)?;
+    for (first, end) in runs {
+        push_run(cells, order, first, end)?;
     }
     Ok(())
 }

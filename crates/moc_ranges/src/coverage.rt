@@ -1,7 +1,7 @@
 //! Sets of pixels, and the operations on them.
 ghost use Rattle.std.specs.Prelude.{◌≡◌, ℕ, true, not, IfSome, MatchOption, ◌+◌, ◌<◌, ◌≤◌, ◌↔◌, nat_lt, IsTrue};
 ghost use Rattle.std.specs.Prelude.{List, length, ◌==◌};
-ghost use Rattle.std.specs.List.{AllByRecursion, filter};
+ghost use Rattle.std.specs.List.{filter};
 ghost use Rattle.std.specs.Prelude.{IfOk, IfErr, OnOk, OnErr, None, unwrap_or};
 ghost use Rattle.moc_ranges.specs.Faults.{first_fault};
 ghost use Rattle.std.specs.Cmp.{partial_equiv_from_equiv};
@@ -9,13 +9,13 @@ ghost use Rattle.std.specs.FinSet as set;
 ghost use Rattle.moc_ranges.specs.RangeList.{IsNormal, set_of};
 ghost use Rattle.moc_ranges.specs.Operations.{symmetric, complement, part_of, meets, IsWithin};
 ghost use Rattle.moc_ranges.specs.Pixels.{pixel_count, pixels};
-ghost use Rattle.moc_ranges.specs.Cells.{cells_in, cells_of, degrade, span};
+ghost use Rattle.moc_ranges.specs.Cells.{AreOfOrders, cells_in, cells_of, degrade, span};
 ghost use Rattle.moc_ranges.specs.Numbers.{numbers};
 ghost use Rattle.moc_ranges.specs.Blocks.{joining, AreBlocks, IsSearchOf};
 ghost use Rattle.moc_ranges.specs.Private.Walks.{IsNextRange, HasNoneFrom};
 
 use crate::cell_ranges::CellRanges;
-use crate::cells::{deepest_order, orders_with_cells, push_cells_of_order};
+use crate::cells::{deepest_order, orders_with_cells, push_runs};
 use crate::errors::{Memory, RangesError};
 use crate::from_ranges::{build, build_widened, filled_by_start, refuse_faulty};
 use crate::list::RangeList;
@@ -513,7 +513,8 @@ impl Coverage {
         let (first, end) = orders_with_cells(self.ranges());
         let mut cells = Vec::with_capacity(alloc, self.range_count())?;
         for level in first..end {
-            push_cells_of_order(&mut cells, Order::of(level), self.ranges())?;
+            let order = Order::of(level);
+            push_runs(&mut cells, order, self.cell_ranges(order))?;
         }
         Ok(cells)
     }
@@ -521,7 +522,7 @@ impl Coverage {
     /// The orders that cells of the set can have: the first, and the one after the last; no cell has another. One pass,
     /// O(n); takes no memory.
     pub fn cell_orders(&self) -> (u8, u8)
-        ensures each { AllByRecursion (λ c. (result.0 ≤ c.order) × (c.order < result.1)) (cells_of self.now) }
+        ensures each { AreOfOrders result.0 result.1 (cells_of self.now) }
         ensures in_range { result.1 ≤ 30 }
         ensures within { IsWithin self.now pixels }
     {

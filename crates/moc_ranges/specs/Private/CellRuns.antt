@@ -11,10 +11,6 @@ use Rattle.moc_ranges.specs.Private.Meeting.{kept_if}
 unfoldable pub cells_at : NumberSet → ℕ → List CellNumber
 cells_at a k = filter (is_cell_of a) (map (cell_number k) (range_with_len 0 (cell_count k)))
 
--- cells of order k in a row
-abbrev pub cells_between : ℕ → ℕ → ℕ → List CellNumber
-cells_between k first last = map (cell_number k) (range_with_len first (last - first))
-
 -- the cells of order k from `first` up to, not including, `last` are those that lie whole in a
 -- range
 pub record AreWhole (k from to first last : ℕ) : Type 0 where
@@ -31,17 +27,17 @@ pub record HasOrders (a : NumberSet) (first last : ℕ) : Type 0 where
 abbrev pub whole_in : ℕ → ℕ × ℕ → ℕ × ℕ
 whole_in k range = ((range.0 + (cell_size k - 1)) / cell_size k, range.1 / cell_size k)
 
--- of cells in a row, from the first up to, not including, the last, those before and those after the parents all of
--- whose cells are in the row; where there is none, all and none
-abbrev pub parted : ℕ → ℕ × ℕ → (ℕ × ℕ) × (ℕ × ℕ)
-parted k row =
-    if nat_lt 0 k && nat_lt ((row.0 + 3) / 4 * 4) (row.1 / 4 * 4)
-    then ((row.0, (row.0 + 3) / 4 * 4), (row.1 / 4 * 4, row.1))
-    else (row, (row.1, row.1))
+-- of a run of cells of order k those before and those after the parents all of whose cells are in it; where there is
+-- none, all and none
+abbrev pub around_parents : ℕ → ℕ × ℕ → (ℕ × ℕ) × (ℕ × ℕ)
+around_parents k run =
+    if nat_lt 0 k && nat_lt ((run.0 + 3) / 4 * 4) (run.1 / 4 * 4)
+    then ((run.0, (run.0 + 3) / 4 * 4), (run.1 / 4 * 4, run.1))
+    else (run, (run.1, run.1))
 
--- the cells of order k of a range, before and after those parents
+-- the same of the cells of order k that lie whole in a range
 abbrev pub pieces_of : ℕ → ℕ × ℕ → (ℕ × ℕ) × (ℕ × ℕ)
-pieces_of k range = parted k (whole_in k range)
+pieces_of k range = around_parents k (whole_in k range)
 
 -- a range alone where it is not empty, and else none
 abbrev pub filled : ℕ × ℕ → List (ℕ × ℕ)

@@ -1,7 +1,10 @@
-use Rattle.std.proofs.Common.{◌++◌, ◌-◌, sym, subst, ◌∙◌, arith, add-one}
+use Rattle.std.proofs.Common.{◌++◌, ◌-◌, sym, subst, ap, ◌∙◌, arith, add-one}
+use Rattle.std.specs.List.{AllByRecursion}
+use Rattle.moc_sphere.specs.CellNumber.{IsCell}
 use Rattle.moc_ranges.specs.Numbers.{NumberSet}
 use Rattle.moc_ranges.specs.Private.CellRuns.{HasOrders, cells_at}
 use Rattle.moc_ranges.proofs.CellOrders.{cells_step, cells_before, cells_after}
+use Rattle.moc_ranges.proofs.CellPieces.{cells_of_order, order_cells}
 use Rattle.moc_ranges.proofs.coverage.Coverage.cells.Goals as goal
 
 pub loop-level-init : goal.loop-level-init
@@ -13,13 +16,16 @@ loop-level-init c =
       within = omega arith;
     }
 
+pub push_runs-requires : goal.push_runs-requires
+push_runs-requires c = subst (AllByRecursion IsCell) (sym c.cell_ranges.ensures.cells) (order_cells c.args.self.now c.of-order.result)
+
 pub loop-level-preserved : goal.loop-level-preserved
 loop-level-preserved c =
     let a = c.args.self.now in
     let k = c.loop-level.level in
     record {
-      found = c.in_ok-push_cells_of_order.ensures
-          ∙ (λ i. c.loop-level.invariant.found i ++ cells_at (c.ranges-in-loop-level.ensures.set i) (c.of.ensures i))
+      found = c.in_ok-push_runs.ensures
+          ∙ (λ i. c.loop-level.invariant.found i ++ (c.cell_ranges.ensures.cells ∙ sym (cells_of_order a c.of-order.result (omega arith)) ∙ ap (cells_at a) c.of-order.ensures) i)
           ∙ sym (rw add-one (cells_step a k));
       within = omega arith;
     }

@@ -1,10 +1,10 @@
 use Rattle.std.proofs.Common.{ap, ◌∙◌, ◌^◌, ◌*◌, ◌-◌, refl, ◌≡◌}
 use Rattle.moc_sphere.specs.CellNumber.{cell_size}
-use Rattle.moc_ranges.proofs.CellRuns.{two_pow, whole_is}
-use Rattle.moc_ranges.proofs.cells.whole_cells.Goals as goal
+use Rattle.moc_ranges.proofs.CellRuns.{two_pow}
+use Rattle.moc_ranges.proofs.cell_ranges.whole_cells.Goals as goal
 
 pub returns : goal.returns
 returns c =
     let k = c.args.order in
     let width : 2 ^ (2 * (29 - c.get.result)) ≡ cell_size k = ap (λ n. 2 ^ (2 * (29 - n))) c.get.ensures.value ∙ two_pow k in
-    rw (width, c.cell_size-size.ensures.size) (record { is = refl; whole = whole_is k (cell_size k) c.args.from c.args.to refl c.cell_size-size.ensures.in_range c.requires.within })
+    rw (width, c.cell_size-size.ensures.size) refl
