@@ -173,7 +173,7 @@ fn gathered_cells(rt: HostRuntime) {
 }
 
 #[test]
-fn rows_of_cells(rt: HostRuntime) {
+fn runs_of_cells(rt: HostRuntime) {
     let set = set_of(&rt, rt.alloc(), &[(3, 9), (16, 64)]);
     assert_eq!(rt; set.cell_orders(), (27, 30));
     let wanted: [(u8, &[(u64, u64)]); 4] = [
@@ -182,10 +182,10 @@ fn rows_of_cells(rt: HostRuntime) {
         (28, &[(1, 2)]),
         (29, &[(3, 4), (8, 9)]),
     ];
-    for (order, rows) in wanted {
+    for (order, runs) in wanted {
         let mut seen = set.cell_ranges(Order::of(order));
-        for row in rows {
-            assert_eq!(rt; seen.next(), Some(*row));
+        for run in runs {
+            assert_eq!(rt; seen.next(), Some(*run));
         }
         assert_eq!(rt; seen.next(), None);
     }

@@ -15,6 +15,6 @@ pub mod JsonOrders
 pub mod JsonMembers
 pub mod JsonNames
 pub mod JsonWritten
-pub mod Rows
-pub mod JsonRows
+pub mod Runs
+pub mod JsonRuns
 pub mod Waiting

@@ -310,7 +310,7 @@ one_more : (first last i : ℕ) (inside : Bool) → first ≤ last → (inside &
 one_more first last i true le = grind (arith, nat_tests)
 one_more first last i false le = refl
 
--- a row of cells that goes on to the next one
+-- a run of cells that goes on to the next one
 row_more : (k first last : ℕ) → first ≤ last → spans k first (last + 1) ≡ set.union (spans k first last) (span k (last + 1))
 row_more k first last le = same_members _ _ (λ q.
     contains-spans k first (last + 1) q

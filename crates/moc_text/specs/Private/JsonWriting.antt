@@ -1,10 +1,9 @@
 -- The parts of a JSON text in the order in which they are written.
-use Rattle.std.specs.Prelude.{ℕ, ◌-◌, true, if◌then◌else◌, List, [], ◌∷◌, map, Option, decimal}
+use Rattle.std.specs.Prelude.{ℕ, true, if◌then◌else◌, List, [], ◌∷◌, map, Option, decimal}
 use Rattle.serde_json.specs.Data.{Data, array, Members, no_members, member}
 use Rattle.serde_json.specs.View.{items_of}
 use Rattle.serde_json.specs.Written.{items_text}
-use Rattle.std.specs.List.{range_with_len}
-use Rattle.moc_sphere.specs.CellNumber.{CellNumber, cell_number}
+use Rattle.moc_sphere.specs.CellNumber.{CellNumber}
 use Rattle.moc_text.specs.JsonText.{datum, data_at, is_name}
 
 -- the orders, where their names stand in byte order
@@ -22,10 +21,6 @@ member_before k bare ds members =
 abbrev pub members_along : List CellNumber → Option ℕ → List ℕ → Members
 members_along cells bare [] = no_members
 members_along cells bare (k ∷ ks) = member_before k bare (data_at k cells) (members_along cells bare ks)
-
--- the cells of order k in a range of indices
-abbrev pub row_of : ℕ → ℕ × ℕ → List CellNumber
-row_of k range = map (cell_number k) (range_with_len range.0 (range.1 - range.0))
 
 -- the numbers of cells behind others, and the end of their array
 abbrev pub array_rest : List CellNumber → List ℕ

@@ -4,12 +4,12 @@ ghost use Rattle.std.specs.Prelude.{List, Option, ℕ};
 ghost use Rattle.std.specs.Option.{ForSome};
 ghost use Rattle.std.specs.String.{string_bytes};
 ghost use Rattle.moc_sphere.specs.CellNumber.{CellNumber};
-ghost use Rattle.moc_ranges.specs.Cells.{cells_of};
+ghost use Rattle.moc_ranges.specs.Cells.{AreOfOrders, cells_of};
 ghost use Rattle.moc_ranges.specs.RangeList.{IsNormal};
 ghost use Rattle.moc_text.specs.Ascii.{Says};
 ghost use Rattle.moc_text.specs.AsciiText.{ascii_text, deepest_cell, deepest_written, HasDeeper, IsTooCoarse};
 ghost use Rattle.moc_text.specs.AsciiText.{run_text, stated_beyond, text_of_cells};
-ghost use Rattle.moc_text.specs.Private.AsciiWriting.{AreOfOrders, gap, onward, run_part, runs_in, stated_part};
+ghost use Rattle.moc_text.specs.Private.AsciiWriting.{gap, onward, run_part, runs_in, stated_part};
 ghost use Rattle.moc_text.specs.declared.ascii.writing.Run.{Run as CellRun};
 
 use crate::ascii::error::TextError;

@@ -5,12 +5,11 @@ ghost use Rattle.json.specs.Print.{quoted};
 ghost use Rattle.serde_json.specs.Data.{Members, object};
 ghost use Rattle.serde_json.specs.Written.{comma_if, compact_text, members_text};
 ghost use Rattle.moc_sphere.specs.CellNumber.{CellNumber};
-ghost use Rattle.moc_ranges.specs.Cells.{cells_in, cells_of};
+ghost use Rattle.moc_ranges.specs.Cells.{AreOfOrders, cells_in, cells_of, cells_of_range};
 ghost use Rattle.moc_text.specs.AsciiText.{deepest_written, IsTooCoarse};
 ghost use Rattle.moc_text.specs.JsonForm.{SaysJson};
 ghost use Rattle.moc_text.specs.JsonText.{data_at, json_text};
-ghost use Rattle.moc_text.specs.Private.AsciiWriting.{AreOfOrders};
-ghost use Rattle.moc_text.specs.Private.JsonWriting.{array_rest, member_before, members_along, orders_by_name, row_of};
+ghost use Rattle.moc_text.specs.Private.JsonWriting.{array_rest, member_before, members_along, orders_by_name};
 
 use crate::ascii::{RANGE_ROOM, beyond, deepest_of, depth_of, is_too_coarse};
 use crate::json_form::error::JsonError;
@@ -29,7 +28,7 @@ const ORDERS: &[u8] = &[
 #[inline(always)]
 fn write_run(text: &mut TextWriter, first: u64, end: u64) -> Result<(), AllocError>
     ensures { OnOk result ((k : ℕ) (rest : List CellNumber) →
-        text.new ++ array_rest rest ≡ text.old ++ array_rest (row_of k (first, end) ++ rest)) }
+        text.new ++ array_rest rest ≡ text.old ++ array_rest (cells_of_range k (first, end) ++ rest)) }
 {
     for index in first..end {
         text.push_number(b',', index)?;

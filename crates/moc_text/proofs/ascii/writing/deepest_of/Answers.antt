@@ -1,6 +1,6 @@
 use Rattle.std.proofs.Common.{◌≡◌, ◌-◌, ℕ, suc, subst, sym, ◌∙◌, arith}
 use Rattle.moc_ranges.specs.Cells.{cells_in, cells_of}
-use Rattle.moc_text.proofs.Rows.{AreBelow, of_order, orders_below, next_some, next_none, none_at_all}
+use Rattle.moc_text.proofs.Runs.{AreBelow, of_order, orders_below, next_some, next_none, none_at_all}
 use Rattle.moc_text.proofs.ascii.writing.deepest_of.Goals as goal
 
 pub loop-level-init : goal.loop-level-init

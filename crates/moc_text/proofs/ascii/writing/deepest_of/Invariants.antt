@@ -1,6 +1,6 @@
 use Rattle.std.proofs.Common.{◌≤◌}
 use Rattle.moc_ranges.specs.Cells.{cells_of}
-use Rattle.moc_text.proofs.Rows.{AreBelow}
+use Rattle.moc_text.proofs.Runs.{AreBelow}
 use Rattle.moc_text.proofs.ascii.writing.deepest_of.Given as goal
 
 abbrev pub invariant-loop-level : goal.invariant-loop-level

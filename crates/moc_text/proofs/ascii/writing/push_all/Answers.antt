@@ -7,7 +7,7 @@ use Rattle.moc_text.specs.Private.AsciiWriting.{cells_from, onward}
 use Rattle.moc_text.specs.declared.ascii.writing.Run.{Run}
 use Rattle.moc_text.proofs.Join.{onward-join}
 use Rattle.moc_text.proofs.JsonWritten.{cells_rise}
-use Rattle.moc_text.proofs.Rows.{from_first, from_last, of_order, order_step}
+use Rattle.moc_text.proofs.Runs.{from_first, from_last, of_order, order_step}
 use Rattle.moc_text.proofs.ascii.writing.push_all.Goals as goal
 
 pub loop-level-init : goal.loop-level-init

@@ -1,5 +1,5 @@
 use Rattle.std.proofs.Common.{rules}
-use Rattle.moc_text.proofs.JsonRows.{bare_written}
+use Rattle.moc_text.proofs.JsonRuns.{bare_written}
 use Rattle.moc_text.proofs.json_form.writing.write_bare.Goals as goal
 
 pub returns : goal.returns

@@ -3,7 +3,7 @@ use Rattle.std.specs.Prelude.{decimal}
 use Rattle.std.proofs.lemmas.Result.{on_ok_weaker}
 use Rattle.json.specs.Print.{escape}
 use Rattle.serde_json.specs.Written.{comma_if}
-use Rattle.moc_text.proofs.JsonRows.{escape-decimal, name_written}
+use Rattle.moc_text.proofs.JsonRuns.{escape-decimal, name_written}
 use Rattle.moc_text.proofs.json_form.writing.write_name.Goals as goal
 
 pub returns : goal.returns

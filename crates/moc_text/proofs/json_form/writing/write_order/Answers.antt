@@ -6,8 +6,8 @@ use Rattle.moc_sphere.specs.CellNumber.{CellNumber}
 use Rattle.serde_json.specs.Written.{members_text}
 use Rattle.moc_text.specs.JsonText.{datum}
 use Rattle.moc_text.specs.Private.JsonWriting.{member_before}
-use Rattle.moc_text.proofs.Rows.{of_order}
-use Rattle.moc_text.proofs.JsonRows.{no_cells_of, order_written}
+use Rattle.moc_text.proofs.Runs.{of_order}
+use Rattle.moc_text.proofs.JsonRuns.{no_cells_of, order_written}
 use Rattle.moc_text.proofs.json_form.writing.write_order.Goals as goal
 
 pub returns : goal.returns

@@ -1,6 +1,6 @@
 use Rattle.moc_ranges.specs.Cells.{cells_of}
 use Rattle.moc_text.specs.Private.JsonWriting.{orders_by_name}
-use Rattle.moc_text.proofs.JsonRows.{orders_more}
+use Rattle.moc_text.proofs.JsonRuns.{orders_more}
 use Rattle.moc_text.proofs.json_form.writing.write_orders.Goals as goal
 
 pub loop-depth-preserved : goal.loop-depth-preserved

@@ -1,5 +1,5 @@
 use Rattle.std.proofs.Common.{◌∙◌}
-use Rattle.moc_text.proofs.JsonRows.{number_more}
+use Rattle.moc_text.proofs.JsonRuns.{number_more}
 use Rattle.moc_text.proofs.json_form.writing.write_run.Goals as goal
 
 pub loop-index-preserved : goal.loop-index-preserved

@@ -1,4 +1,4 @@
--- The numbers of the cells of an order, written range by range.
+-- The numbers of the cells of an order, written run by run.
 use Rattle.std.proofs.Common.{◌≡◌, ℕ, suc, ◌+◌, ◌-◌, ◌%◌, ◌^◌, ◌<◌, ◌≤◌, Bool, true, cond, List, [], ◌∷◌, ◌++◌, map, Option, Some, length, drop, get_or, refl, sym, ap, ◌∙◌, subst, arith, append_assoc}
 use Rattle.std.specs.Prelude.{decimal}
 use Rattle.std.specs.List.{range_with_len}
@@ -12,12 +12,11 @@ use Rattle.serde_json.specs.Data.{array, Members, member}
 use Rattle.serde_json.specs.View.{items_of}
 use Rattle.serde_json.specs.Written.{comma_if, members_text}
 use Rattle.moc_sphere.specs.CellNumber.{CellNumber, cell_number}
-use Rattle.moc_ranges.specs.Cells.{cells_in}
+use Rattle.moc_ranges.specs.Cells.{AreOfOrders, cells_in, cells_of_range}
 use Rattle.moc_ranges.specs.RangeList.{IsNormal}
 use Rattle.moc_text.specs.JsonText.{datum, data_at, is_name}
-use Rattle.moc_text.specs.Private.AsciiWriting.{AreOfOrders}
-use Rattle.moc_text.specs.Private.JsonWriting.{array_rest, member_before, members_along, row_of}
-use Rattle.moc_text.proofs.Rows.{of_order}
+use Rattle.moc_text.specs.Private.JsonWriting.{array_rest, member_before, members_along}
+use Rattle.moc_text.proofs.Runs.{of_order}
 
 -- digits need no escape
 digit_plain : (d : ℕ) → d < 10 → escape ((48 + d) ∷ []) ≡ (48 + d) ∷ []
@@ -30,11 +29,11 @@ escape-decimal =
 
 -- one number more
 pub number_more : (k i end : ℕ) (rest : List CellNumber) (old new : List ℕ) → i < end → new ≡ old ++ 44 ∷ decimal i
-    → new ++ array_rest (row_of k (i + 1, end) ++ rest) ≡ old ++ array_rest (row_of k (i, end) ++ rest)
+    → new ++ array_rest (cells_of_range k (i + 1, end) ++ rest) ≡ old ++ array_rest (cells_of_range k (i, end) ++ rest)
 number_more k i end rest old new lt is =
     let more : suc (end - (i + 1)) ≡ end - i = omega arith in
-    ap (λ (t : List ℕ). t ++ array_rest (row_of k (i + 1, end) ++ rest)) is
-    ∙ append_assoc old (44 ∷ decimal i) (array_rest (row_of k (i + 1, end) ++ rest))
+    ap (λ (t : List ℕ). t ++ array_rest (cells_of_range k (i + 1, end) ++ rest)) is
+    ∙ append_assoc old (44 ∷ decimal i) (array_rest (cells_of_range k (i + 1, end) ++ rest))
     ∙ ap (λ n. old ++ array_rest (map (cell_number k) (range_with_len i n) ++ rest)) more
 
 -- an order that no cell has
@@ -67,10 +66,10 @@ bare_written k bare behind old named whole members is name empty =
 -- whole of the order
 pub order_written : (k : ℕ) (bare : Option ℕ) (behind : Bool) (x : ℕ × ℕ) (s ps : List (ℕ × ℕ)) (here : List CellNumber) (old named begun more whole : List ℕ) (members : Members) → IsNormal s → s ≡ x ∷ ps → cells_in k s ≡ here
     → named ≡ ((old ++ comma_if behind) ++ quoted (decimal k)) ++ 58 ∷ [] → begun ≡ named ++ 91 ∷ decimal x.0
-    → ((k : ℕ) (rest : List CellNumber) → more ++ array_rest rest ≡ begun ++ array_rest (row_of k (x.0 + 1, x.1) ++ rest)) → ((k : ℕ) → whole ≡ more ++ array_rest (cells_in k ps))
+    → ((k : ℕ) (rest : List CellNumber) → more ++ array_rest rest ≡ begun ++ array_rest (cells_of_range k (x.0 + 1, x.1) ++ rest)) → ((k : ℕ) → whole ≡ more ++ array_rest (cells_in k ps))
     → whole ++ members_text true members ≡ old ++ members_text behind (member_before k bare (map datum here) members)
 order_written k bare behind x s ps here old named begun more whole members normal parts is name start run runs =
-    let rest = row_of k (x.0 + 1, x.1) ++ cells_in k ps in
+    let rest = cells_of_range k (x.0 + 1, x.1) ++ cells_in k ps in
     let first = subst (λ (rs : List (ℕ × ℕ)). IsNormal rs) parts normal in
     let many : x.1 - x.0 ≡ suc (x.1 - (x.0 + 1)) = omega (arith, first.0) in
     let cells : here ≡ cell_number k x.0 ∷ rest = sym is ∙ ap (cells_in k) parts ∙ ap (λ n. map (cell_number k) (range_with_len x.0 n) ++ cells_in k ps) many in

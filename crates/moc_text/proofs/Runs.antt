@@ -6,10 +6,10 @@ use Rattle.std.specs.List.{filter, range_with_len, AllByRecursion}
 use Rattle.std.proofs.lemmas.Bool.{cases_lt, eq-eqb, ne_eqb, eqb-true, le-leb, lt-leb, leb-true}
 use Rattle.moc_sphere.specs.CellNumber.{CellNumber, cell_number}
 use Rattle.moc_ranges.specs.RangeList.{IsNormal, BeginsAfter}
-use Rattle.moc_ranges.specs.Cells.{cells_in}
+use Rattle.moc_ranges.specs.Cells.{AreOfOrders, cells_in}
 use Rattle.moc_text.specs.Ascii.{deeper}
 use Rattle.moc_text.specs.AsciiText.{one, follows, runs_from, runs_of, deepest_cell}
-use Rattle.moc_text.specs.Private.AsciiWriting.{AreOfOrders, AreRising, cells_from, runs_in}
+use Rattle.moc_text.specs.Private.AsciiWriting.{AreRising, cells_from, runs_in}
 use Rattle.moc_text.specs.declared.ascii.writing.Run.{Run as CellRun}
 
 -- ---- the deepest order
@@ -133,10 +133,10 @@ run_whole k first last (suc n) cells stops =
     ∙ run_whole k first (last + 1) n cells (subst (λ m. Stops k m cells) more stops)
     ∙ ap (λ m. run k first m ∷ runs_of cells) (sym more)
 
-stops_row : (k last b : ℕ) (ps : List (ℕ × ℕ)) (cells : List CellNumber) → last < b → IsNormal ps → BeginsAfter b ps → AllByRecursion (λ c. k < c.order) cells → Stops k last (cells_in k ps ++ cells)
-stops_row k last b [] [] lt normal after deeper = tt
-stops_row k last b [] (c ∷ cells) lt normal after deeper = ap (λ x. x && eqb (last + 1) c.index) (ne_eqb c.order k (λ e. omega (arith, e, deeper.0)))
-stops_row k last b (q ∷ qs) cells lt normal after deeper =
+stops_run : (k last b : ℕ) (ps : List (ℕ × ℕ)) (cells : List CellNumber) → last < b → IsNormal ps → BeginsAfter b ps → AllByRecursion (λ c. k < c.order) cells → Stops k last (cells_in k ps ++ cells)
+stops_run k last b [] [] lt normal after deeper = tt
+stops_run k last b [] (c ∷ cells) lt normal after deeper = ap (λ x. x && eqb (last + 1) c.index) (ne_eqb c.order k (λ e. omega (arith, e, deeper.0)))
+stops_run k last b (q ∷ qs) cells lt normal after deeper =
     let many : q.1 - q.0 ≡ suc (q.1 - q.0 - 1) = omega (arith, normal.0) in
     let here : (eqb k k && eqb (last + 1) q.0) ≡ false = (λ i. eq-eqb k k refl i && ne_eqb (last + 1) q.0 (λ e. omega (arith, e, after, lt)) i) in
     subst (λ n. Stops k last ((map (cell_number k) (range_with_len q.0 n) ++ cells_in k qs) ++ cells)) (sym many) here
@@ -148,10 +148,10 @@ runs_first k (p ∷ ps) cells normal deeper =
     let m = p.1 - p.0 - 1 in
     let many : p.1 - p.0 ≡ suc m = omega (arith, normal.0) in
     let last : p.0 + m ≡ p.1 - 1 = omega (arith, normal.0) in
-    let row = map (cell_number k) (range_with_len (p.0 + 1) m) in
+    let others = map (cell_number k) (range_with_len (p.0 + 1) m) in
     ap (λ n. runs_of ((map (cell_number k) (range_with_len p.0 n) ++ cells_in k ps) ++ cells)) many
-    ∙ ap (runs_from (run k p.0 p.0)) (append_assoc row (cells_in k ps) cells)
-    ∙ run_whole k p.0 p.0 m (cells_in k ps ++ cells) (stops_row k (p.0 + m) p.1 ps cells (omega (arith, normal.0)) normal.3 normal.2 deeper)
+    ∙ ap (runs_from (run k p.0 p.0)) (append_assoc others (cells_in k ps) cells)
+    ∙ run_whole k p.0 p.0 m (cells_in k ps ++ cells) (stops_run k (p.0 + m) p.1 ps cells (omega (arith, normal.0)) normal.3 normal.2 deeper)
     ∙ (λ i. run k p.0 (last i) ∷ runs_first k ps cells normal.3 deeper i)
 
 -- what is written of an order, and from the next order on
