@@ -13,9 +13,11 @@ use moc_ranges::{Coverage, Memory};
 use moc_sphere::Order;
 use moc_text::{JsonError, TextError, UniqError, json_order, json_stop};
 use std::alloc::Global;
+use thiserror::Error;
 
 /// Why a text is refused, and where it is at fault.
-#[derive(Clone, Copy, Debug, PartialEq, Eq)]
+#[derive(Clone, Copy, Debug, PartialEq, Eq, Error)]
+#[error("{error}")]
 pub struct Refusal {
     pub error: FormError,
     /// `None` for `NotObject`, for want of memory, and for `NotJson` where `serde_json` tells no place.
