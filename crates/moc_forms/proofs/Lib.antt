@@ -1,3 +1,4 @@
+pub mod Ends
 pub mod Half
 pub mod Partial
 pub mod Pieces

@@ -1,6 +1,7 @@
 -- Where a text is at fault.
-use Rattle.std.specs.Prelude.{◌≡◌, ℕ, ◌+◌, List, [], ◌∷◌, ◌++◌, ◌⊎◌, if◌then◌else◌, take, Option, None, Some}
+use Rattle.std.specs.Prelude.{◌≡◌, ℕ, ◌+◌, List, [], ◌∷◌, ◌++◌, ◌⊎◌, length, take, Option, None, Some}
 use Rattle.std.specs.Prelude.{option_map, decimal, codes, count_by, String, string_bytes}
+use Rattle.std.specs.List.{after_last}
 use Rattle.std.specs.declared.alloc.Global.{Global}
 use Rattle.moc_text.specs.JsonForm.{NamesOrder}
 use Rattle.moc_text.specs.Lines.{is_line_feed}
@@ -17,16 +18,12 @@ use Rattle.moc_forms.specs.declared.place.Place.TheVariants.{Byte, Line, Stop, N
 
 -- ---- of a byte
 
--- how many bytes stand behind the last line feed, where `before` stand before these
-abbrev pub behind_feed : ℕ → List ℕ → ℕ
-behind_feed before [] = before
-behind_feed before (b ∷ bytes) =
-    if is_line_feed b then behind_feed 0 bytes else behind_feed (before + 1) bytes
-
--- the place of a byte: its line, counted from 1, has one number more than there are line feeds before it
+-- the place of a byte: its line, counted from 1, has one number more than there are line feeds before it, and the bytes
+-- behind the last of these stand before it in its line
 abbrev pub byte_place : List ℕ → ℕ → Place
 byte_place bytes at =
-    Byte at (1 + count_by is_line_feed (take at bytes)) (behind_feed 0 (take at bytes))
+    let before = take at bytes in
+    Byte at (1 + count_by is_line_feed before) (length (after_last is_line_feed before))
 
 -- ---- of an error
 

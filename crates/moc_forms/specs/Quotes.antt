@@ -1,6 +1,7 @@
 -- What stands in a text at its fault, as it is quoted.
-use Rattle.std.specs.Prelude.{◌≡◌, ℕ, zero, suc, ◌+◌, ◌-◌, ◌/◌, ◌%◌, Bool, not, ◌&&◌, ◌==◌, nat_le, nat_lt}
-use Rattle.std.specs.Prelude.{if◌then◌else◌, List, [], ◌∷◌, ◌++◌, length, take, drop, codes, Option, None, option_map}
+use Rattle.std.specs.Prelude.{◌≡◌, ℕ, ◌+◌, ◌-◌, ◌/◌, ◌%◌, Bool, not, ◌&&◌, ◌==◌, nat_le, nat_lt, if◌then◌else◌}
+use Rattle.std.specs.Prelude.{List, [], ◌∷◌, ◌++◌, length, slice_index_or, take, drop, codes, Option, None, option_map}
+use Rattle.std.specs.List.{after_last, before_first, slice_split}
 use Rattle.moc_text.specs.Ascii.{is_separator}
 use Rattle.moc_text.specs.JsonForm.{HasItem, HasName}
 use Rattle.moc_text.specs.Lines.{is_line_feed}
@@ -13,37 +14,13 @@ use Rattle.moc_forms.specs.declared.place.Place.{Place}
 
 -- ---- what stands at a fault
 
--- how many bytes stand behind the last separator, where `before` stand before these
-abbrev pub behind_separator : ℕ → List ℕ → ℕ
-behind_separator before [] = before
-behind_separator before (b ∷ bytes) =
-    if is_separator b then behind_separator 0 bytes else behind_separator (before + 1) bytes
-
--- the bytes before the first separator
-abbrev pub up_to_separator : List ℕ → List ℕ
-up_to_separator [] = []
-up_to_separator (b ∷ bytes) = if is_separator b then [] else b ∷ up_to_separator bytes
-
 -- the word round a place: from behind the last separator before it up to the next one
 abbrev pub word_round : List ℕ → ℕ → List ℕ
-word_round bytes at =
-    up_to_separator (drop (length (take at bytes) - behind_separator 0 (take at bytes)) bytes)
-
--- the bytes before the first line feed
-abbrev pub up_to_feed : List ℕ → List ℕ
-up_to_feed [] = []
-up_to_feed (b ∷ bytes) = if is_line_feed b then [] else b ∷ up_to_feed bytes
-
--- the line behind so many line feeds
-abbrev pub line_behind : ℕ → List ℕ → List ℕ
-line_behind zero bytes = up_to_feed bytes
-line_behind (suc feeds) [] = []
-line_behind (suc feeds) (b ∷ bytes) =
-    if is_line_feed b then line_behind feeds bytes else line_behind (suc feeds) bytes
+word_round bytes at = after_last is_separator (take at bytes) ++ before_first is_separator (drop at bytes)
 
 -- the line of a number, counted from 1
 abbrev pub line_numbered : List ℕ → ℕ → List ℕ
-line_numbered bytes line = line_behind (line - 1) bytes
+line_numbered bytes line = slice_index_or (slice_split is_line_feed bytes) (line - 1) []
 
 -- what stands at the fault of a JSON text: its name, or the item that is at fault
 abbrev pub IsJsonPiece : List ℕ → JsonError → Option (List ℕ) → Type 0

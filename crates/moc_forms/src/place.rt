@@ -37,6 +37,7 @@ pub enum Place {
 
 impl Place {
     /// The place of a byte, or of the end where the text has no such byte. Linear in the bytes before it.
+    #[tactic(auto, using(crate::proofs::Ends::ended_here, crate::proofs::Ends::ended_before))]
     pub fn of_byte(text: &[u8], at: usize) -> Place
         ensures { result ≡ byte_place text.now at }
     {

@@ -1,12 +1,12 @@
 //! What stands in a text at its fault.
-ghost use Rattle.std.specs.Prelude.{◌≡◌, ◌++◌, ◌<◌, ◌≤◌, length, option_map, take, IfOk, OnOk};
+ghost use Rattle.std.specs.Prelude.{◌≡◌, ◌++◌, ◌<◌, ◌≤◌, [], length, option_map, slice_index_or, take, IfOk, OnOk};
+ghost use Rattle.std.specs.List.{after_last, before_first, position_or_len, slice_split};
 ghost use Rattle.std.specs.String.{string_bytes};
 ghost use Rattle.moc_text.specs.Ascii.{is_separator as is_separator_byte};
-ghost use Rattle.moc_forms.specs.Places.{fault_byte, fault_line};
-ghost use Rattle.moc_forms.specs.Places.{line_bytes};
-ghost use Rattle.moc_forms.specs.Quotes.{IsJsonPiece, IsQuote, behind_separator, byte_quoted, bytes_quoted, hex_digit};
-ghost use Rattle.moc_forms.specs.Quotes.{is_plain as is_plain_byte, line_behind, line_numbered, quoted, up_to_feed};
-ghost use Rattle.moc_forms.specs.Quotes.{up_to_separator, word_round};
+ghost use Rattle.moc_text.specs.Lines.{is_line_feed};
+ghost use Rattle.moc_forms.specs.Places.{fault_byte, fault_line, line_bytes};
+ghost use Rattle.moc_forms.specs.Quotes.{IsJsonPiece, IsQuote, byte_quoted, bytes_quoted, hex_digit};
+ghost use Rattle.moc_forms.specs.Quotes.{is_plain as is_plain_byte, line_numbered, quoted, word_round};
 
 use crate::form::FormError;
 use moc_ranges::Memory;
@@ -126,13 +126,14 @@ fn word_at(text: &[u8], fault: TextError) -> Option<&[u8]>
 fn word_round_place(text: &[u8], at: usize) -> &[u8]
     ensures { result.now ≡ word_round text.now at }
 {
-    let before = &text[..at.min(text.len())];
-    front_word(&text[before.len() - last_word(before)..])
+    let (before, behind) = text.split_at(at.min(text.len()));
+    &text[before.len() - last_word(before)..before.len() + first_word(behind)]
 }
 
 /// How many bytes stand behind the last separator.
+#[tactic(auto, using(crate::proofs::Ends::ended_here, crate::proofs::Ends::ended_before))]
 fn last_word(bytes: &[u8]) -> usize
-    ensures count { result ≡ behind_separator 0 bytes.now }
+    ensures count { result ≡ length (after_last is_separator_byte bytes.now) }
     ensures within { result ≤ length bytes.now }
 {
     let mut count = 0;
@@ -146,18 +147,19 @@ fn last_word(bytes: &[u8]) -> usize
     count
 }
 
-/// The bytes before the first separator.
-fn front_word(bytes: &[u8]) -> &[u8]
-    ensures { result.now ≡ up_to_separator bytes.now }
+/// How many bytes stand before the first separator.
+fn first_word(bytes: &[u8]) -> usize
+    ensures count { result ≡ position_or_len is_separator_byte bytes.now }
+    ensures within { result ≤ length bytes.now }
 {
-    let mut len = 0;
+    let mut count = 0;
     for byte in bytes {
         if is_separator(*byte) {
-            return &bytes[..len];
+            break;
         }
-        len += 1;
+        count += 1;
     }
-    bytes
+    count
 }
 
 /// Whether a byte parts words: a space, a comma, a tab, CR or LF.
@@ -179,7 +181,7 @@ fn line_at(text: &[u8], fault: UniqError) -> Option<&[u8]>
 
 /// The bytes behind so many line feeds.
 fn behind_feeds(text: &[u8], feeds: usize) -> &[u8]
-    ensures { up_to_feed result.now ≡ line_behind feeds text.now }
+    ensures { before_first is_line_feed result.now ≡ slice_index_or (slice_split is_line_feed text.now) feeds [] }
 {
     let mut left = feeds;
     let mut rest = text;
@@ -196,16 +198,16 @@ fn behind_feeds(text: &[u8], feeds: usize) -> &[u8]
 
 /// The bytes before the first line feed.
 fn front_line(bytes: &[u8]) -> &[u8]
-    ensures { result.now ≡ up_to_feed bytes.now }
+    ensures { result.now ≡ before_first is_line_feed bytes.now }
 {
     let mut len = 0;
     for byte in bytes {
         if *byte == b'\n' {
-            return &bytes[..len];
+            break;
         }
         len += 1;
     }
-    bytes
+    &bytes[..len]
 }
 
 /// The name or the item at the fault of a JSON text.

@@ -1,9 +1,11 @@
-use Rattle.std.proofs.Common.{◌≡◌, ◌++◌, drop, take}
-use Rattle.moc_forms.specs.Quotes.{up_to_feed}
+-- Behind the bytes that were counted stand the others before the first line feed.
+use Rattle.std.proofs.Common.{◌≡◌, ◌+◌, drop}
+use Rattle.std.specs.List.{position_or_len}
+use Rattle.moc_text.specs.Lines.{is_line_feed}
 use Rattle.moc_forms.proofs.quoting.front_line.Given as goal
 
 abbrev pub invariant-loop-byte : goal.invariant-loop-byte
 invariant-loop-byte l = record {
-  counted : l.len ≡ l.byte-index;
-  same : take l.byte-index l.bytes ++ up_to_feed (drop l.byte-index l.bytes) ≡ up_to_feed l.bytes;
+  count : l.len ≡ l.byte-index;
+  whole : l.byte-index + position_or_len is_line_feed (drop l.byte-index l.bytes) ≡ position_or_len is_line_feed l.bytes;
 }

@@ -1,9 +1,11 @@
-use Rattle.std.proofs.Common.{◌≡◌, ◌≤◌, drop}
-use Rattle.moc_forms.specs.Quotes.{behind_separator}
+-- So many of the bytes that were passed stand behind the last separator.
+use Rattle.std.proofs.Common.{◌≡◌, ◌≤◌, length, take}
+use Rattle.std.specs.List.{after_last}
+use Rattle.moc_text.specs.Ascii.{is_separator}
 use Rattle.moc_forms.proofs.quoting.last_word.Given as goal
 
 abbrev pub invariant-loop-byte : goal.invariant-loop-byte
 invariant-loop-byte l = record {
   within : l.count ≤ l.byte-index;
-  same : behind_separator l.count (drop l.byte-index l.bytes) ≡ behind_separator 0 l.bytes;
+  same : l.count ≡ length (after_last is_separator (take l.byte-index l.bytes));
 }
