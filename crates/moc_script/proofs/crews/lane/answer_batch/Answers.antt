@@ -5,7 +5,7 @@ use Rattle.moc_shared.specs.Batches.{BatchEntry}
 use Rattle.moc_shared.specs.History.{entry}
 use Rattle.moc_script.proofs.Sending.{on_ok}
 use Rattle.moc_script.proofs.LaneLemmas.{asks_line, waited_own, call_made}
-use Rattle.moc_script.proofs.crews.lane.answer_line.Goals as goal
+use Rattle.moc_script.proofs.crews.lane.answer_batch.Goals as goal
 
 pub returns-in_ok-replies-in-Ok-clause-answers : goal.returns-in_ok-replies-in-Ok-clause-answers
 returns-in_ok-replies-in-Ok-clause-answers g c =
