@@ -7,6 +7,7 @@ use moc_sphere::Order;
 use moc_text::{JsonError, TextError, UniqError};
 use std::alloc::Global;
 use std::fmt::Write;
+use std::process::Abort;
 use std::str::FromStr;
 use std::test::Fail;
 
@@ -196,10 +197,10 @@ fn errors(rt: HostRuntime) {
             FormError::Uniq(UniqError::NotUniq { line: 1 }),
         ),
     ] {
-        match check(alloc, form, text.as_bytes()) {
-            Ok(()) => panic!(&rt; "{text:?} is taken"),
-            Err(refusal) => assert_eq!(&rt; refusal.error, error),
-        }
+        let refusal = check(alloc, form, text.as_bytes())
+            .err()
+            .expect(&rt, "a refusal");
+        assert_eq!(&rt; refusal.error, error);
     }
 }
 
@@ -258,18 +259,21 @@ fn figures_of_sets(rt: HostRuntime) -> Result<(), Fail> {
     Ok(())
 }
 
+/// The figures of an ASCII text, as numbers.
+fn numbers(rt: &impl Abort, alloc: Global, text: &[u8]) -> Figures {
+    let (set, deepest) = Form::Ascii.read(alloc, text).expect(rt, "a text");
+    Figures::of(alloc, &set, deepest).expect(rt, "memory")
+}
+
 #[test]
-fn figures_one_by_one(rt: HostRuntime) -> Result<(), Fail> {
-    let alloc = rt.alloc();
-    let (set, deepest) = Form::Ascii.read(alloc, b"1/0-3 2/20 29/".as_slice())?;
-    let figures = Figures::of(alloc, &set, deepest)?;
+fn figures_one_by_one(rt: HostRuntime) {
+    let figures = numbers(&rt, rt.alloc(), b"1/0-3 2/20 29/".as_slice());
     assert_eq!(&rt; figures.deepest(), Order::new(29));
     assert_eq!(&rt; figures.pixels(), 306244774661193728);
     assert_eq!(&rt; (figures.ranges(), figures.cells()), (2, 2));
     for (order, cells) in [(0, 1), (1, 0), (2, 1), (29, 0)] {
         assert_eq!(&rt; figures.cells_of(Order::of(order)), cells, "order {order}");
     }
-    Ok(())
 }
 
 /// The text of two texts that are joined by an operation.
@@ -284,26 +288,23 @@ fn joined(alloc: Global, operation: &str, first: &str, second: &str) -> Result<S
     Ok(form.write(alloc, &set, deepest)?)
 }
 
+/// The text of what a change makes of a text that names order 3 as its deepest.
+fn changed(rt: &impl Abort, alloc: Global, change: &Change, text: &[u8]) -> String {
+    let (set, _) = Form::Ascii.read(alloc, text).expect(rt, "a text");
+    let new = change.of(alloc, &set).expect(rt, "memory");
+    let stated = change.stated(Order::new(3));
+    Form::Ascii.write(alloc, &new, stated).expect(rt, "memory")
+}
+
 #[test]
 fn changes(rt: HostRuntime) {
-    let alloc = rt.alloc();
-    let (set, _) = Form::Ascii
-        .read(alloc, b"0/0-10 1/44-46 3/".as_slice())
-        .expect(&rt, "a text");
-    let degraded = Change::Degrade(Order::of(0))
-        .of(alloc, &set)
-        .expect(&rt, "memory");
-    let stated = Change::Degrade(Order::of(0)).stated(Order::new(3));
-    let text = Form::Ascii
-        .write(alloc, &degraded, stated)
-        .expect(&rt, "memory");
-    assert_eq!(&rt; text.as_str(), "0/0-11\n");
-    let lacked = Change::Complement.of(alloc, &set).expect(&rt, "memory");
-    let stated = Change::Complement.stated(Order::new(3));
-    let text = Form::Ascii
-        .write(alloc, &lacked, stated)
-        .expect(&rt, "memory");
-    assert_eq!(&rt; text.as_str(), "1/47 3/\n");
+    for (change, text) in [
+        (Change::Degrade(Order::of(0)), "0/0-11\n"),
+        (Change::Complement, "1/47 3/\n"),
+    ] {
+        let seen = changed(&rt, rt.alloc(), &change, b"0/0-10 1/44-46 3/".as_slice());
+        assert_eq!(&rt; seen.as_str(), text);
+    }
 }
 
 #[test]
@@ -475,13 +476,17 @@ const BEHIND_TWO: &str = "</g>
 </svg>
 ";
 
+/// The picture of the sets of two texts.
+fn drawn_together(rt: &impl Abort, alloc: Global, first: &[u8], second: &[u8]) -> String {
+    let (first, _) = Form::Ascii.read(alloc, first).expect(rt, "a text");
+    let (second, _) = Form::Ascii.read(alloc, second).expect(rt, "a text");
+    draw_two(alloc, &first, &second).expect(rt, "memory")
+}
+
 /// Cells of what the first has alone, the second has alone, and both have; the diamonds are worked out by hand.
 #[test]
 fn pictures_of_two(rt: HostRuntime) -> Result<(), Fail> {
     let alloc = rt.alloc();
-    let (first, _) = Form::Ascii.read(alloc, b"0/5 29/0".as_slice())?;
-    let (second, _) = Form::Ascii.read(alloc, b"1/16 20-23".as_slice())?;
-    let seen = draw_two(alloc, &first, &second)?;
     let layers = [
         ("#0072b2", "M128 254l1 1-1 1-1-1z"),
         (
@@ -491,6 +496,7 @@ fn pictures_of_two(rt: HostRuntime) -> Result<(), Fail> {
         ("#000", "M256 128l128 128-128 128-128-128z"),
     ];
     let wanted = picture(alloc, &layers, BEHIND_TWO)?;
+    let seen = drawn_together(&rt, alloc, b"0/5 29/0".as_slice(), b"1/16 20-23".as_slice());
     assert_eq!(&rt; seen.as_str(), wanted.as_str());
     Ok(())
 }

@@ -76,19 +76,33 @@ fn two_sets(rt: HostRuntime) {
     assert!(rt; a.meets(&b) && either.covers(&a) && !a.covers(&either));
 }
 
+/// Checks which base pixels a set meets, and which it covers.
+fn is_in_base_pixels(rt: &impl Abort, set: &Coverage, rows: &[(u8, bool, bool)]) {
+    for (pixel, meets, covers) in rows {
+        assert_eq!(rt; set.meets_base_pixel(*pixel), *meets);
+        assert_eq!(rt; set.covers_base_pixel(*pixel), *covers);
+    }
+}
+
 #[test]
-fn parts_of_the_sky(rt: HostRuntime) {
+fn a_part_of_the_sky(rt: HostRuntime) {
+    let third = Coverage::full(rt.alloc())
+        .expect(&rt, "memory")
+        .part(rt.alloc(), 3)
+        .expect(&rt, "memory");
+    has(&rt, &third, &[(864691128455135232, 1152921504606846976)]);
+    is_in_base_pixels(&rt, &third, &[(3, true, true), (2, false, false)]);
+}
+
+#[test]
+fn no_part_of_the_sky(rt: HostRuntime) {
     let sky = Coverage::full(rt.alloc()).expect(&rt, "memory");
-    let third = sky.part(rt.alloc(), 3).expect(&rt, "memory");
-    assert_eq!(rt;
-        third.ranges().next(),
-        Some((864691128455135232, 1152921504606846976))
-    );
-    let none = sky.part(rt.alloc(), 12).expect(&rt, "memory");
-    assert!(rt; none.is_empty());
-    assert!(rt; third.meets_base_pixel(3) && third.covers_base_pixel(3));
-    assert!(rt; !third.meets_base_pixel(2) && !third.covers_base_pixel(2));
-    assert!(rt; !sky.meets_base_pixel(12) && sky.covers_base_pixel(12));
+    has(&rt, &sky.part(rt.alloc(), 12).expect(&rt, "memory"), &[]);
+    is_in_base_pixels(&rt, &sky, &[(12, false, true), (11, true, true)]);
+}
+
+#[test]
+fn a_set_of_a_coarser_order(rt: HostRuntime) {
     let wide = set_of(&rt, rt.alloc(), &[(3, 4)])
         .degrade(rt.alloc(), Order::of(28))
         .expect(&rt, "memory");
@@ -283,13 +297,19 @@ fn numbers_of_chunks(rt: HostRuntime) {
         let set = dots(&rt, rt.alloc(), count);
         assert_eq!(rt; number_of_chunks(&set), chunks);
     }
+}
+
+#[test]
+fn chunks_that_are_joined(rt: HostRuntime) {
     let sky = set_of(&rt, rt.alloc(), &[(0, 25600)]);
     let whole = dots(&rt, rt.alloc(), 12800)
         .union(rt.alloc(), &sky)
         .expect(&rt, "memory");
-    assert_eq!(rt; whole.ranges().next(), Some((0, 25600)));
-    assert_eq!(rt; whole.ranges().size_hint(), (1, Some(1)));
-    assert_eq!(rt; number_of_chunks(&whole), 1);
+    has(&rt, &whole, &[(0, 25600)]);
+    assert_eq!(rt;
+        (whole.ranges().size_hint(), number_of_chunks(&whole)),
+        ((1, Some(1)), 1)
+    );
 }
 
 #[test]
