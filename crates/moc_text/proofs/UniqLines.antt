@@ -1,5 +1,5 @@
 -- The lines of a NUNIQ list, one by one.
-use Rattle.std.proofs.Common.{◌≡◌, ℕ, suc, ◌+◌, ◌-◌, ◌*◌, ◌^◌, ◌<◌, ◌≤◌, Bool, true, false, cond, not, ◌&&◌, ◌||◌, eqb, ltb, List, [], ◌∷◌, ◌++◌, length, map, min, Option, Some, None, refl, sym, ap, ◌∙◌, arith, length-append, append_assoc, pow-suc, lit<, inl, inr}
+use Rattle.std.proofs.Common.{◌≡◌, ℕ, suc, ◌+◌, ◌-◌, ◌*◌, ◌^◌, ◌<◌, ◌≤◌, Bool, true, false, cond, not, ◌&&◌, eqb, List, [], ◌∷◌, ◌++◌, length, map, min, Option, Some, None, refl, sym, ap, ◌∙◌, arith, length-append, append_assoc, pow-suc, lit<, inl, inr}
 use Rattle.std.specs.Prelude.{decimal}
 use Rattle.std.specs.Char.{is_ascii_digit}
 use Rattle.std.specs.List.{AllByRecursion, onto_first}
@@ -8,10 +8,10 @@ use Rattle.std.specs.Option.{option_or}
 use Rattle.std.specs.FinSet as set
 use Rattle.std.specs.Str.Parse.{digits_value}
 use Rattle.std.proofs.Math.Nat.{pow-le-pow_right}
-use Rattle.std.proofs.lemmas.Bool.{cases_lt, cases_order, eqb-true, le-ltb, lt-ltb}
+use Rattle.std.proofs.lemmas.Bool.{cases_lt, cases_order, eqb-true, le-leb, le-ltb, lt-leb, lt-ltb}
 use Rattle.std.proofs.lemmas.Bool.Decides.{nat_tests}
 use Rattle.std.proofs.lemmas.List.{append-nil, map-append}
-use Rattle.moc_sphere.specs.CellNumber.{CellNumber, cell_number, IsCell, uniq_of}
+use Rattle.moc_sphere.specs.CellNumber.{CellNumber, cell_number, is_uniq, IsCell, uniq_of}
 use Rattle.moc_ranges.specs.Numbers.{NumberSet}
 use Rattle.moc_ranges.specs.Pixels.{pixels}
 use Rattle.moc_ranges.specs.Operations.{IsWithin}
@@ -186,7 +186,7 @@ fault_cons n [] some = absurd (omega arith)
 fault_cons n (b ∷ l) some = refl
 
 line_fine : (n : ℕ) (l : List ℕ) → IsNumber l → 4 ≤ digits_value 10 l → digits_value 10 l < 2 ^ 62 → line_fault n l ≡ None
-line_fine n l h low high = fault_cons n l h.0 ∙ rw (h.1, le-ltb (digits_value 10 l) 4 low, lt-ltb (digits_value 10 l) (2 ^ 62) high) refl
+line_fine n l h low high = fault_cons n l h.0 ∙ rw (h.1, le-leb 4 (digits_value 10 l) low, lt-ltb (digits_value 10 l) (2 ^ 62) high) refl
 
 shorter : (bytes rest : List ℕ) → 0 < length bytes → after_line (past_digits bytes) ≡ Some rest → length rest < length bytes
 shorter bytes rest some e = shorter_parts (front_digits bytes) (past_digits bytes) rest (omega (arith, some, ap length split)) e (ap length split)
@@ -240,12 +240,12 @@ line_cell n bytes rest old new c some e digits is number added =
       fault = ap (fault_from n) lines ∙ ap (λ x. option_or x (fault_from (n + 1) (lines_of rest))) (line_fine n ds h (omega (arith, value, range.0)) (omega (arith, value, range.1)));
     }
 
-wrong_number : (v top : ℕ) → 2 ^ 62 ≤ top → ((4 ≤ min v top) × (min v top < 2 ^ 62) → ⊥) → (ltb v 4 || not (ltb v (2 ^ 62))) ≡ true
+wrong_number : (v top : ℕ) → 2 ^ 62 ≤ top → ((4 ≤ min v top) × (min v top < 2 ^ 62) → ⊥) → is_uniq v ≡ false
 wrong_number v top le h = elim (cases_lt v 4) [
-  | inl low ↦ rw (lt-ltb v 4 low) refl
+  | inl low ↦ rw (lt-leb 4 v low) refl
   | inr ge ↦ elim (cases_lt v (2 ^ 62)) [
     | inl lt ↦ absurd (h (omega arith, omega arith))
-    | inr high ↦ rw (le-ltb v 4 ge, le-ltb v (2 ^ 62) high) refl
+    | inr high ↦ rw (le-leb 4 v ge, le-ltb v (2 ^ 62) high) refl
   ]
 ]
 
@@ -256,7 +256,7 @@ line_wrong n bytes rest some e digits wrong =
     let ds = front_digits bytes in
     let h : IsNumber ds = (some_digits bytes digits, front-digits bytes) in
     let held : held_after 0 ds ≡ min (digits_value 10 ds) (2 ^ 64 - 1) = held_is ds h.1 in
-    let w : (ltb (digits_value 10 ds) 4 || not (ltb (digits_value 10 ds) (2 ^ 62))) ≡ true = wrong_number (digits_value 10 ds) (2 ^ 64 - 1) (omega arith) (λ r. wrong (omega (arith, held, r.0), omega (arith, held, r.1))) in
+    let w : is_uniq (digits_value 10 ds) ≡ false = wrong_number (digits_value 10 ds) (2 ^ 64 - 1) (omega arith) (λ r. wrong (omega (arith, held, r.0), omega (arith, held, r.1))) in
     let f : line_fault n ds ≡ Some (NotUniq n) = fault_cons n ds h.0 ∙ rw (h.1, w) refl in
     ap (fault_from n) (front_lines bytes rest some e) ∙ ap (λ x. option_or x (fault_from (n + 1) (lines_of rest))) f
 

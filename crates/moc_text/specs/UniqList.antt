@@ -1,11 +1,11 @@
 -- NUNIQ lists: a text with the NUNIQ number of a cell on each line (MOC 2.0 has the numbers).
-use Rattle.std.specs.Prelude.{◌≡◌, ℕ, ◌+◌, ◌^◌, ◌||◌, not, nat_lt, if◌then◌else◌, List, [], ◌∷◌, ◌++◌, map, decimal}
+use Rattle.std.specs.Prelude.{◌≡◌, ℕ, ◌+◌, not, if◌then◌else◌, List, [], ◌∷◌, ◌++◌, map, decimal}
 use Rattle.std.specs.Prelude.{Option, Some, None}
 use Rattle.std.specs.List.{AllByRecursion}
 use Rattle.std.specs.Option.{option_or}
 use Rattle.std.specs.Str.{all_ascii_digits}
 use Rattle.std.specs.Str.Parse.{digits_value}
-use Rattle.moc_sphere.specs.CellNumber.{CellNumber, IsCell, uniq_of}
+use Rattle.moc_sphere.specs.CellNumber.{CellNumber, is_uniq, IsCell, uniq_of}
 use Rattle.moc_ranges.specs.Numbers.{NumberSet}
 use Rattle.moc_ranges.specs.Cells.{cells_of, pixels_of}
 use Rattle.moc_text.specs.Lines.{lines_of}
@@ -14,9 +14,9 @@ use Rattle.moc_text.specs.declared.uniq.UniqError.TheVariants.{BadByte, NotUniq}
 
 -- ---- reading
 
--- what is wrong with a number on a line, if anything: NUNIQ numbers are those from 4 to 2^62 - 1
+-- what is wrong with a number on a line, if anything
 abbrev pub number_fault : ℕ → ℕ → Option UniqError
-number_fault line n = if nat_lt n 4 || not (nat_lt n (2 ^ 62)) then Some (NotUniq line) else None
+number_fault line n = if is_uniq n then None else Some (NotUniq line)
 
 -- what is wrong with the line of a number, if anything; an empty line is skipped
 abbrev pub line_fault : ℕ → List ℕ → Option UniqError
