@@ -63,16 +63,6 @@ abbrev pub deepest_name : Members → Option ℕ
 deepest_name no_members = None
 deepest_name (member name d ms) = deeper (order_of_name name) (deepest_name ms)
 
--- the order that the name of this number names, if there is such a name, and it does
-abbrev pub order_at : ℕ → Members → Option ℕ
-order_at number no_members = None
-order_at zero (member name d ms) = order_of_name name
-order_at (suc number) (member name d ms) = order_at number ms
-
--- the order that the name of this number names, where the value is an object
-abbrev pub object_order : ℕ → Data → Option ℕ
-object_order number d = option_and_then (order_at number) (as_object d)
-
 -- the name of this number with its value, if there is such a name
 abbrev pub member_at : ℕ → Members → Option (List ℕ × Data)
 member_at number no_members = None
@@ -127,7 +117,8 @@ IsNotJson bytes = IsUtf8 bytes → read bytes ≡ None
 
 -- In the text the name of this number, counted from 0 in byte order, names this order, or none.
 abbrev pub NamesOrder : List ℕ → ℕ → Option ℕ → Type 0
-NamesOrder bytes number k = (d : Data) × IsJson bytes d × (k ≡ object_order number d)
+NamesOrder bytes number k =
+    (d : Data) × IsJson bytes d × (k ≡ option_and_then (λ (m : List ℕ × Data). order_of_name m.0) (object_member number d))
 
 -- In the text the name of this number, counted from 0 in byte order, is this one, if there is such a name.
 abbrev pub HasName : List ℕ → ℕ → Option (List ℕ) → Type 0

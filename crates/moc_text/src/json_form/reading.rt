@@ -9,7 +9,7 @@ ghost use Rattle.moc_text.specs.Ascii.{deeper as deeper_of};
 ghost use Rattle.moc_text.specs.Faults.{Fails};
 ghost use Rattle.moc_text.specs.JsonForm.{order_of_name, whole, cell_pixels, item_fault, items_pixels, items_fault};
 ghost use Rattle.moc_text.specs.JsonForm.{array_pixels, name_fault, members_pixels, members_fault, deepest_name};
-ghost use Rattle.moc_text.specs.JsonForm.{member_at as member_of, order_at, HasItem, HasName, IsJson, IsNotJson};
+ghost use Rattle.moc_text.specs.JsonForm.{member_at as member_of, HasItem, HasName, IsJson, IsNotJson};
 ghost use Rattle.moc_text.specs.JsonForm.{NamesOrder, SaysJson};
 ghost use Rattle.moc_text.specs.JsonForm.{IsJsonFault};
 ghost use Rattle.moc_text.specs.Private.JsonReading.{held_order};
@@ -181,14 +181,15 @@ pub fn read_json(alloc: Global, text: &[u8]) -> Result<(Coverage, Option<Order>)
     Ok((set, deepest))
 }
 
-/// The order that the name of this number names, counted from 0 in byte order; `None` where there is no such name.
-fn order_of_member(members: &Map<String, Value>, name: usize) -> Option<Order>
-    ensures { result ≡ order_at name (members_view members.now.entries) }
+/// The name of this number, with its value; `None` where there is no such name.
+fn member_at(members: &Map<String, Value>, number: usize) -> Option<(&String, &Value)>
+    ensures { option_map (λ m. (string_bytes m.0.now, view m.1.now)) result
+        ≡ member_of number (members_view members.now.entries) }
 {
-    let mut before = name;
-    for (text, _) in members.iter() {
+    let mut before = number;
+    for (name, value) in members.iter() {
         if before == 0 {
-            return order_of(text.as_str());
+            return Some((name, value));
         }
         before -= 1;
     }
@@ -207,22 +208,10 @@ pub fn json_order(alloc: Global, text: &[u8], name: usize) -> Result<Option<Orde
     let Some(members) = value.as_object() else {
         return Ok(None);
     };
-    Ok(order_of_member(members, name))
-}
-
-/// The name of this number, with its value; `None` where there is no such name.
-fn member_at(members: &Map<String, Value>, number: usize) -> Option<(&String, &Value)>
-    ensures { option_map (λ m. (string_bytes m.0.now, view m.1.now)) result
-        ≡ member_of number (members_view members.now.entries) }
-{
-    let mut before = number;
-    for (name, value) in members.iter() {
-        if before == 0 {
-            return Some((name, value));
-        }
-        before -= 1;
+    match member_at(members, name) {
+        Some((found, _)) => Ok(order_of(found.as_str())),
+        None => Ok(None),
     }
-    None
 }
 
 /// The name of a JSON text that has this number, which a fault tells: counted from 0 in byte order. `None` where the
