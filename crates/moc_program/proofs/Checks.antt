@@ -11,7 +11,7 @@ use Rattle.moc_forms.specs.declared.form.Form.{Form}
 use Rattle.moc_forms.specs.declared.form.Form.TheVariants.{Ascii, Json, Uniq}
 use Rattle.moc_forms.specs.declared.form.FormError.{FormError}
 use Rattle.moc_forms.specs.declared.place.Place.{Place}
-use Rattle.moc_program.specs.Conversion.{HasFault, IsNotConverted, IsTextFault, IsWhole, SaysNothing, TellsFault}
+use Rattle.moc_program.specs.Conversion.{IsNotConverted, IsTextFault, IsWhole, SaysNothing, TellsFault}
 use Rattle.moc_program.specs.Faults.{fault_of_form}
 use Rattle.moc_program.specs.declared.status.Complaint.{Complaint}
 use Rattle.moc_program.specs.declared.status.Fault.{Fault}
@@ -47,13 +47,13 @@ module _ (form : Form) (text : List ℕ) (number : Option ℕ) (error : FormErro
 pub of_input : (choice : Choice) (left left' : Option (List ℕ)) (given : List ℕ) (c : Complaint) → IsWhole left left' given
     → (c.fault ≡ Memory) ⊎ TellsFault (form_for choice given) given None c → SaysNothing choice left left' c
 of_input choice left left' given c whole (inl memory) = inl (inr (inr memory))
-of_input choice left left' given c whole (inr tells) = inr (record { given = given; whole = whole; tells = tells })
+of_input choice left left' given c whole (inr tells) = inr (given, whole, tells)
 
 -- a fault of a text is one of the input that it was
 pub not_read : (form : Form) (left left' : Option (List ℕ)) (given : List ℕ) (f : Fault) → IsWhole left left' given
     → (f ≡ Memory) ⊎ IsTextFault form given f → IsNotConverted form left left' f
 not_read form left left' given f whole (inl memory) = inl (inr (inr memory))
-not_read form left left' given f whole (inr is_fault) = inr (inl (record { given = given; whole = whole; is_fault = is_fault }))
+not_read form left left' given f whole (inr is_fault) = inr (inl (given, whole, is_fault))
 
 -- why a text is not said
 pub text_fault : (form : Form) (text : List ℕ) (e : FormError) → FormFails form text e → (fault_of_form e ≡ Memory) ⊎ IsTextFault form text (fault_of_form e)

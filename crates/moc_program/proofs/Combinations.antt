@@ -12,7 +12,8 @@ use Rattle.moc_forms.specs.Finding.{form_for}
 use Rattle.moc_forms.specs.declared.combining.Operation.{Operation}
 use Rattle.moc_forms.specs.declared.finding.Choice.{Choice}
 use Rattle.moc_program.specs.Combining.{AreLonger, HasLongPart, SayNothing, SaysTogether, TellsFirstFault}
-use Rattle.moc_program.specs.Conversion.{BringsPiece, TellsFault}
+use Rattle.moc_program.specs.Private.Pieces.{BringsPiece}
+use Rattle.moc_program.specs.Conversion.{TellsFault}
 use Rattle.moc_program.specs.Parting.{LacksSemicolons}
 use Rattle.moc_program.specs.Private.Running.{AreNotTaken, Begins, Ends, Fails, FailsWithin, IsLong, IsOpen, Leads, SaysMore, RunsTo, TextsSay, semicolon, texts_behind}
 use Rattle.moc_program.specs.declared.combination.Combination.{Combination}

@@ -6,7 +6,8 @@ use Rattle.moc_program.specs.Actions.{Does}
 use Rattle.moc_program.specs.Faults.{complaint_text}
 use Rattle.moc_program.specs.declared.action.Action.{Action}
 use Rattle.moc_program.specs.Outcomes.{TellsFaultOf}
-use Rattle.moc_program.specs.Statuses.{code_of, status_of, end_of}
+use Rattle.moc_program.specs.Statuses.{code_of, status_of}
+use Rattle.moc_program.specs.Private.Ending.{end_of}
 use Rattle.moc_program.specs.declared.status.Complaint.{Complaint}
 use Rattle.moc_program.specs.declared.status.Fault.{Fault}
 use Rattle.moc_program.specs.declared.status.Fault.TheVariants.{CellTooLarge, NotUniq, OutOfFace, RingTooLarge, BadByte, NoOrder, OrderTooLarge, Backwards, Unfinished, NotJson, NotObject, BadOrder, NotArray, NotWhole, TooCoarse, LineTooLong, TooLong, Read, Write, Memory, Spawn}

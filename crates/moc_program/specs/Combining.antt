@@ -23,11 +23,9 @@ pub record SaysTogether (operation : Operation) (choice : Choice) (left left' : 
 
 -- the text is that of the set which the texts of all that was left say together, with their deepest order stated and in
 -- the form of the first
-pub record CombinesAll (operation : Operation) (choice : Choice) (left left' : Option (List ℕ)) (text : List ℕ)
-    : Type 0 where
-  pub said : Said
-  pub says : SaysTogether operation choice left left' said
-  pub written : text ≡ form_text said.2 said.0 said.1
+abbrev pub CombinesAll : Operation → Choice → Option (List ℕ) → Option (List ℕ) → List ℕ → Type 0
+CombinesAll operation choice left left' text =
+    (said : Said) × SaysTogether operation choice left left' said × (text ≡ form_text said.2 said.0 said.1)
 
 -- of texts, counted from a number on, the complaint tells the first that says no set: its number, its fault and where
 -- that is

@@ -1,6 +1,5 @@
 -- Texts of coverages, from the input: converted, described, drawn, checked.
-use Rattle.std.specs.Prelude.{◌≡◌, ℕ, ◌<◌, ◌≤◌, ◌⊎◌, Bool, true, false, List, ◌++◌, length, Option, None, Some}
-use Rattle.std.specs.Prelude.{Result, Ok, Err}
+use Rattle.std.specs.Prelude.{◌≡◌, ℕ, ◌<◌, ◌≤◌, ◌⊎◌, List, length, Option, None, Some}
 use Rattle.std.specs.Io.KnownBytes.{Consumes, IsAtEnd}
 use Rattle.moc_forms.specs.Changing.{changed, order_after}
 use Rattle.moc_forms.specs.Combining.{Said, TextSays}
@@ -22,46 +21,43 @@ use Rattle.moc_program.specs.declared.status.Complaint.{Complaint}
 use Rattle.moc_program.specs.declared.status.Fault.{Fault}
 use Rattle.moc_program.specs.declared.status.Fault.TheVariants.{TooLong, Read, Memory, TooCoarse}
 
--- a piece came from a reader behind a text, where there was one; there is none only at the end
-pub record BringsPiece (left : Option (List ℕ)) (old : List ℕ) (left' : Option (List ℕ)) (new : List ℕ) (some : Bool)
-    : Type 0 where
-  pub came : List ℕ
-  pub consumed : Consumes left left' came
-  pub text : new ≡ old ++ came
-  pub more : some ≡ true → length old < length new
-  pub none : some ≡ false → (new ≡ old) × IsAtEnd left'
-
 -- the text is all that was left, and no longer than an input may be
 pub record IsWhole (left left' : Option (List ℕ)) (text : List ℕ) : Type 0 where
   pub consumed : Consumes left left' text
   pub end : IsAtEnd left'
   pub within : length text ≤ 16777216
 
--- all that was left was read, and this is what it says, read in a form of this choice
-pub record SaysAll (choice : Choice) (left left' : Option (List ℕ)) (said : Said) : Type 0 where
-  pub given : List ℕ
-  pub whole : IsWhole left left' given
-  pub says : TextSays choice given said
+-- all that was left was read, and it is such a text
+abbrev pub IsAll : (List ℕ → Type 0) → Option (List ℕ) → Option (List ℕ) → Type 0
+IsAll is left left' = (given : List ℕ) × IsWhole left left' given × is given
+
+-- the input says this, read in a form of this choice
+abbrev pub SaysAll : Choice → Option (List ℕ) → Option (List ℕ) → Said → Type 0
+SaysAll choice left left' said = IsAll (λ text. TextSays choice text said) left left'
+
+-- the input says a set
+abbrev pub IsSaid : Choice → Option (List ℕ) → Option (List ℕ) → Type 0
+IsSaid choice left left' = (said : Said) × SaysAll choice left left' said
+
+-- such a text is made of what the input says
+abbrev pub MakesAll :
+    (Said → List ℕ → Type 0) → Choice → Option (List ℕ) → Option (List ℕ) → List ℕ → Type 0
+MakesAll makes choice left left' text = (said : Said) × SaysAll choice left left' said × makes said text
 
 -- the text in the one form is that of the set which the input says in the other, with the deepest order that it names
 -- stated
-pub record ConvertsAll (from to : Form) (left left' : Option (List ℕ)) (text : List ℕ) : Type 0 where
-  pub said : Said
-  pub says : SaysAll (Named from) left left' said
-  pub written : text ≡ form_text to said.0 said.1
+abbrev pub ConvertsAll : Form → Form → Option (List ℕ) → Option (List ℕ) → List ℕ → Type 0
+ConvertsAll from to = MakesAll (λ said text. text ≡ form_text to said.0 said.1) (Named from)
 
 -- the text is that of a change of the set which the input says, in the same form and with the order that is stated of
 -- it
-pub record ChangesAll (change : Change) (choice : Choice) (left left' : Option (List ℕ)) (text : List ℕ) : Type 0 where
-  pub said : Said
-  pub says : SaysAll choice left left' said
-  pub written : text ≡ form_text said.2 (changed change said.0) (order_after change said.1)
+abbrev pub ChangesAll : Change → Choice → Option (List ℕ) → Option (List ℕ) → List ℕ → Type 0
+ChangesAll change =
+    MakesAll (λ said text. text ≡ form_text said.2 (changed change said.0) (order_after change said.1))
 
 -- the text has the figures of the set which the input says
-pub record DescribesAll (choice : Choice) (left left' : Option (List ℕ)) (text : List ℕ) : Type 0 where
-  pub said : Said
-  pub says : SaysAll choice left left' said
-  pub written : Describes said.0 said.1 text
+abbrev pub DescribesAll : Choice → Option (List ℕ) → Option (List ℕ) → List ℕ → Type 0
+DescribesAll = MakesAll (λ said text. Describes said.0 said.1 text)
 
 -- a picture is that of the set which a text says, or of those which two texts say
 abbrev pub IsPictureOf : Choice → List ℕ → Option (List ℕ) → List ℕ → Type 0
@@ -76,11 +72,9 @@ IsPictured choice bytes picture =
     (first : List ℕ) × (second : Option (List ℕ)) × AreTexts bytes first second
     × IsPictureOf choice first second picture
 
--- the text is the picture of the texts that the input is
-pub record DrawsAll (choice : Choice) (left left' : Option (List ℕ)) (text : List ℕ) : Type 0 where
-  pub given : List ℕ
-  pub whole : IsWhole left left' given
-  pub drawn : IsPictured choice given text
+-- the picture is that of the texts that the input is
+abbrev pub DrawsAll : Choice → Option (List ℕ) → Option (List ℕ) → List ℕ → Type 0
+DrawsAll choice left left' picture = IsAll (λ text. IsPictured choice text picture) left left'
 
 -- the complaint tells the first fault of a text, which may be counted, where it is and what stands there, and which
 -- form the text looks like, if that is another
@@ -92,16 +86,6 @@ pub record TellsFault (form : Form) (text : List ℕ) (number : Option ℕ) (c :
   pub is_place : IsPlace text error place
   pub line : IsTold number text error place (line_bytes c.place)
   pub hint : c.hint ≡ hint_of form text
-
--- the input says a set
-abbrev pub IsSaid : Choice → Option (List ℕ) → Option (List ℕ) → Type 0
-IsSaid choice left left' = (said : Said) × SaysAll choice left left' said
-
--- all that was left was read, and the complaint tells its first fault, and where it is
-pub record IsFaulty (choice : Choice) (left left' : Option (List ℕ)) (c : Complaint) : Type 0 where
-  pub given : List ℕ
-  pub whole : IsWhole left left' given
-  pub tells : TellsFault (form_for choice given) given None c
 
 -- more was read than an input may have
 pub record IsLonger (left left' : Option (List ℕ)) : Type 0 where
@@ -117,21 +101,16 @@ IsOfWhole left left' fault = (fault ≡ Read) ⊎ ((fault ≡ TooLong) × IsLong
 abbrev pub IsTextFault : Form → List ℕ → Fault → Type 0
 IsTextFault form text fault = (error : FormError) × IsFormFault form text error × (fault ≡ fault_of_form error)
 
--- all that was left was read, and the fault is its first
-pub record HasFault (form : Form) (left left' : Option (List ℕ)) (fault : Fault) : Type 0 where
-  pub given : List ℕ
-  pub whole : IsWhole left left' given
-  pub is_fault : IsTextFault form given fault
-
 -- why the input was not converted: it could not be had, or it has the fault that is told, or, in the other form, a cell
 -- that is deeper than the order that it names
 abbrev pub IsNotConverted : Form → Option (List ℕ) → Option (List ℕ) → Fault → Type 0
 IsNotConverted form left left' fault =
-    IsOfWhole left left' fault ⊎ HasFault form left left' fault ⊎ (fault ≡ TooCoarse)
+    IsOfWhole left left' fault ⊎ IsAll (λ text. IsTextFault form text fault) left left' ⊎ (fault ≡ TooCoarse)
 
--- why the input says no set: it or memory could not be had, or it has the fault that is told
+-- why the input says no set: it or memory could not be had, or it has the fault that is told, at the place that is told
 abbrev pub SaysNothing : Choice → Option (List ℕ) → Option (List ℕ) → Complaint → Type 0
-SaysNothing choice left left' c = IsOfWhole left left' c.fault ⊎ IsFaulty choice left left' c
+SaysNothing choice left left' c =
+    IsOfWhole left left' c.fault ⊎ IsAll (λ text. TellsFault (form_for choice text) text None c) left left'
 
 -- why nothing was made of the input: it says no set, or what was made of it has a cell that is deeper than its order
 abbrev pub IsNotChanged : Choice → Option (List ℕ) → Option (List ℕ) → Complaint → Type 0
@@ -149,22 +128,7 @@ abbrev pub TellsPictured : Choice → List ℕ → Complaint → Type 0
 TellsPictured choice bytes c =
     (first : List ℕ) × (second : Option (List ℕ)) × AreTexts bytes first second × TellsTexts choice first second c
 
--- all that was left was read, and the complaint tells the first fault of its texts
-pub record AreFaulty (choice : Choice) (left left' : Option (List ℕ)) (c : Complaint) : Type 0 where
-  pub given : List ℕ
-  pub whole : IsWhole left left' given
-  pub tells : TellsPictured choice given c
-
 -- why the input has no picture: it or memory could not be had, or one of its texts has the fault that is told
 abbrev pub IsNotDrawn : Choice → Option (List ℕ) → Option (List ℕ) → Complaint → Type 0
-IsNotDrawn choice left left' c = IsOfWhole left left' c.fault ⊎ AreFaulty choice left left' c
-
--- the input was checked: it says a set, or has the fault that is told, where it could be had
-abbrev pub ChecksAll : Choice → Option (List ℕ) → Option (List ℕ) → Result (Unit {0}) Complaint → Type 0
-ChecksAll choice left left' (Ok _) = IsSaid choice left left'
-ChecksAll choice left left' (Err c) = SaysNothing choice left left' c
-
--- the complaint is that the reader failed
-abbrev pub IsReadFault : {T : Type 0} → Result T Complaint → Type 0
-IsReadFault (Ok _) = ⊥
-IsReadFault (Err c) = c.fault ≡ Read
+IsNotDrawn choice left left' c =
+    IsOfWhole left left' c.fault ⊎ IsAll (λ text. TellsPictured choice text c) left left'

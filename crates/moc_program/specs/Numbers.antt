@@ -1,12 +1,12 @@
 -- The lines of converted numbers.
-use Rattle.std.specs.Prelude.{◌≡◌, ◌⊎◌, ℕ, ◌^◌, ◌<◌, ◌≤◌, List, [], ◌∷◌, ◌++◌, decimal}
-use Rattle.moc_sphere.specs.CellNumber.{CellNumber, IsCell, cell_count, cell_number, uniq_of}
+use Rattle.std.specs.Prelude.{◌≡◌, ℕ, ◌<◌, ◌≤◌, false, List, [], ◌∷◌, ◌++◌, decimal}
+use Rattle.moc_sphere.specs.CellNumber.{CellNumber, IsCell, cell_count, cell_number, is_uniq, uniq_of}
 use Rattle.moc_sphere.specs.Rings.{ring_number}
 use Rattle.moc_sphere.specs.Touching.{touching_cells}
 use Rattle.moc_program.specs.declared.action.Number.{Number}
 use Rattle.moc_program.specs.declared.action.Number.TheVariants.{Ring, Nest, Uniq, Cell, Near}
 use Rattle.moc_program.specs.declared.status.Fault.{Fault}
-use Rattle.moc_program.specs.declared.status.Fault.TheVariants.{CellTooLarge, RingTooLarge, NotUniq, Memory}
+use Rattle.moc_program.specs.declared.status.Fault.TheVariants.{CellTooLarge, RingTooLarge, NotUniq}
 
 -- numbers behind others, each behind a blank
 abbrev pub spaced : List ℕ → List ℕ
@@ -38,5 +38,5 @@ abbrev pub IsNumberFault : Number → Fault → Type 0
 IsNumberFault (Ring order cell) fault = (fault ≡ CellTooLarge) × (cell_count order ≤ cell)
 IsNumberFault (Nest order ring) fault = (fault ≡ RingTooLarge) × (cell_count order ≤ ring)
 IsNumberFault (Uniq order cell) fault = (fault ≡ CellTooLarge) × (cell_count order ≤ cell)
-IsNumberFault (Cell uniq) fault = (fault ≡ NotUniq) × ¬ ((4 ≤ uniq) × (uniq < 2 ^ 62))
+IsNumberFault (Cell uniq) fault = (fault ≡ NotUniq) × (is_uniq uniq ≡ false)
 IsNumberFault (Near order cell) fault = (fault ≡ CellTooLarge) × (cell_count order ≤ cell)

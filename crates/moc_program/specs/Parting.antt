@@ -1,17 +1,11 @@
 -- Bytes that semicolons part.
 use Rattle.std.specs.Prelude.{◌≡◌, ◌⊎◌, ℕ, true, false, List, ◌∷◌, ◌++◌, Option, None, Some}
-use Rattle.std.specs.Borrow.{Bor}
 use Rattle.std.specs.List.{All}
 use Rattle.moc_forms.specs.Combining.{are_blanks, is_semicolon}
 
 -- no byte is a semicolon
 abbrev pub LacksSemicolons : List ℕ → Type 0
 LacksSemicolons bytes = All (λ b. is_semicolon b ≡ false) bytes
-
--- the bytes before the first semicolon and those behind it, or none where there is no semicolon
-abbrev pub IsParted : List ℕ → Option (Bor (List ℕ) × Bor (List ℕ)) → Type 0
-IsParted bytes None = LacksSemicolons bytes
-IsParted bytes (Some parts) = LacksSemicolons parts.0.now × (bytes ≡ parts.0.now ++ 59 ∷ parts.1.now)
 
 -- the texts of a picture: all bytes, or those before the first semicolon and those behind it; blanks alone behind it
 -- are no text

@@ -1,6 +1,5 @@
 -- How the program ends.
-use Rattle.std.specs.Prelude.{◌≡◌, ◌⊎◌, ℕ, Result, Ok, Err}
-use Rattle.moc_program.specs.declared.status.Complaint.{Complaint}
+use Rattle.std.specs.Prelude.{ℕ}
 use Rattle.moc_program.specs.declared.status.Fault.{Fault}
 use Rattle.moc_program.specs.declared.status.Fault.TheVariants.{Read, Write, Memory, Spawn}
 use Rattle.moc_program.specs.declared.status.Status.{Status}
@@ -21,13 +20,3 @@ status_of Write = Broken
 status_of Memory = Broken
 status_of Spawn = Broken
 status_of _ = Refused
-
--- how it ends with this outcome
-abbrev pub end_of : Result (Unit {0}) Complaint → Status
-end_of (Ok _) = Done
-end_of (Err complaint) = status_of complaint.fault
-
--- a device failed
-abbrev pub IsDeviceFault : Result (Unit {0}) Complaint → Type 0
-IsDeviceFault (Ok _) = ⊥
-IsDeviceFault (Err complaint) = (complaint.fault ≡ Read) ⊎ (complaint.fault ≡ Write)

@@ -3,8 +3,9 @@ ghost use Rattle.std.specs.Prelude.{◌≡◌, ◌≢◌, ◌↔◌, ◌⊎◌, 
 ghost use Rattle.std.specs.String.{string_bytes};
 ghost use Rattle.moc_forms.specs.Finding.{form_for};
 ghost use Rattle.moc_program.specs.Combining.{AreNotCombined, CombinesAll, SayNothing, SaysTogether};
-ghost use Rattle.moc_program.specs.Conversion.{IsReadFault, TellsFault};
+ghost use Rattle.moc_program.specs.Conversion.{TellsFault};
 ghost use Rattle.moc_program.specs.Parting.{LacksSemicolons};
+ghost use Rattle.moc_program.specs.Private.Pieces.{IsReadFault};
 ghost use Rattle.moc_program.specs.Private.Running.{Begins, Ends, Fails, FailsWithin, IsOpen, AreNotTaken, Leads};
 ghost use Rattle.moc_program.specs.Private.Running.{SaysMore, semicolon};
 

@@ -1,18 +1,18 @@
 //! Texts of coverages, from the input: converted, described, drawn, checked.
 ghost use Rattle.std.specs.Prelude.{◌≡◌, ◌≢◌, ◌<◌, ◌↔◌, ◌⊎◌, Err, false};
-ghost use Rattle.std.specs.Prelude.{IfErr, IfOk, IsErrOf, IsTrue, length, None, option_map};
+ghost use Rattle.std.specs.Prelude.{IfErr, IfOk, IsErrOf, IsTrue, length, None, OnOk, option_map};
 ghost use Rattle.std.specs.String.{string_bytes};
 ghost use Rattle.moc_forms.specs.Combining.{TextSays};
 ghost use Rattle.moc_forms.specs.Finding.{form_for, hint_of};
 ghost use Rattle.moc_forms.specs.Forms.{FormSays, form_text};
 ghost use Rattle.moc_forms.specs.Places.{line_bytes};
 ghost use Rattle.moc_forms.specs.Quotes.{IsTold};
-ghost use Rattle.moc_program.specs.Conversion.{BringsPiece, ChangesAll, ChecksAll, ConvertsAll, DescribesAll, DrawsAll};
-ghost use Rattle.moc_program.specs.Conversion.{IsNotChanged, IsNotConverted, IsNotDrawn, IsOfWhole, IsPictured};
-ghost use Rattle.moc_program.specs.Conversion.{IsReadFault, IsWhole};
-ghost use Rattle.moc_program.specs.Conversion.{IsTextFault, SaysAll, SaysNothing, TellsFault, TellsPictured};
+ghost use Rattle.moc_program.specs.Conversion.{ChangesAll, ConvertsAll, DescribesAll, DrawsAll, IsNotChanged};
+ghost use Rattle.moc_program.specs.Conversion.{IsNotConverted, IsNotDrawn, IsOfWhole, IsPictured, IsSaid, IsTextFault};
+ghost use Rattle.moc_program.specs.Conversion.{IsWhole, SaysAll, SaysNothing, TellsFault, TellsPictured};
 ghost use Rattle.moc_program.specs.Faults.{fault_of_form};
-ghost use Rattle.moc_program.specs.Parting.{AreTexts, IsParted};
+ghost use Rattle.moc_program.specs.Parting.{AreTexts};
+ghost use Rattle.moc_program.specs.Private.Pieces.{BringsPiece, IsParted, IsReadFault};
 
 use crate::status::{Complaint, Fault};
 use memchr::memchr;
@@ -262,7 +262,8 @@ pub fn changed<R: Source>(
 pub fn checked<R: Source>(alloc: Global, choice: Choice, input: &mut R) -> Result<(), Complaint>
     requires { R.mark input.old ≡ false }
     ensures read { IsReadFault result ↔ IsTrue (R.mark input.new) }
-    ensures checks { ChecksAll choice (R.left input.old) (R.left input.new) result }
+    ensures fault { IfErr result (λ c. SaysNothing choice (R.left input.old) (R.left input.new) c) }
+    ensures says { OnOk result (IsSaid choice (R.left input.old) (R.left input.new)) }
 {
     input_says(alloc, choice, input)?;
     Ok(())

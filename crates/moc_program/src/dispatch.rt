@@ -9,12 +9,13 @@ ghost use Rattle.moc_program.specs.Faults.{complaint_text, fault_of_cell};
 ghost use Rattle.std.specs.String.{string_bytes};
 ghost use Rattle.moc_sphere.specs.Touching.{touching_cells};
 ghost use Rattle.moc_program.specs.Actions.{Does};
-ghost use Rattle.moc_program.specs.Conversion.{IsReadFault};
+ghost use Rattle.moc_program.specs.Private.Pieces.{IsReadFault};
 ghost use Rattle.moc_program.specs.Listing.{fault_list};
 ghost use Rattle.moc_program.specs.Numbers.{IsNumberFault, IsNumberLine, list_of};
 ghost use Rattle.moc_program.specs.Outcomes.{AreMistaken, AreRefused, AskForHelp, IsMistake, TellsFaultOf};
 ghost use Rattle.moc_program.specs.Private.NumberCells.{IsCellOf};
-ghost use Rattle.moc_program.specs.Statuses.{IsDeviceFault, code_of, end_of};
+ghost use Rattle.moc_program.specs.Private.Ending.{IsDeviceFault, end_of};
+ghost use Rattle.moc_program.specs.Statuses.{code_of};
 ghost use Rattle.moc_program.specs.declared.action.Action.{Action};
 
 use crate::action::{Action, Number};

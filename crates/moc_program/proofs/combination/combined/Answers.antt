@@ -4,11 +4,11 @@ use Rattle.moc_program.proofs.Checks.{not_written}
 use Rattle.moc_program.proofs.combination.combined.Goals as goal
 
 pub returns-clause-combines : goal.returns-clause-combines
-returns-clause-combines g c = record {
-  said = (c.in_ok-set.set, c.in_ok-set.deepest, c.in_ok-set.form);
-  says = c.in_ok-set.ensures.says;
-  written = c.in_ok-text_of.ensures.text;
-}
+returns-clause-combines g c = (
+  (c.in_ok-set.set, c.in_ok-set.deepest, c.in_ok-set.form),
+  c.in_ok-set.ensures.says,
+  c.in_ok-text_of.ensures.text,
+)
 
 pub returns-in_err-text_of-clause-fault : goal.returns-in_err-text_of-clause-fault
 returns-in_err-text_of-clause-fault g c =

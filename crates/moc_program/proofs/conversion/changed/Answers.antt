@@ -5,11 +5,11 @@ use Rattle.moc_program.proofs.Checks.{not_written}
 use Rattle.moc_program.proofs.conversion.changed.Goals as goal
 
 pub returns-clause-changes : goal.returns-clause-changes
-returns-clause-changes g c = record {
-  said = (c.in_ok-set.set, c.in_ok-set.deepest, c.in_ok-set.form);
-  says = c.in_ok-set.ensures.says;
-  written = c.in_ok-text_of.ensures.text ∙ ap₂ (form_text c.in_ok-set.form) c.in_ok-after.ensures.set c.stated.ensures.order;
-}
+returns-clause-changes g c = (
+  (c.in_ok-set.set, c.in_ok-set.deepest, c.in_ok-set.form),
+  c.in_ok-set.ensures.says,
+  c.in_ok-text_of.ensures.text ∙ ap₂ (form_text c.in_ok-set.form) c.in_ok-after.ensures.set c.stated.ensures.order,
+)
 
 pub returns-in_err-text_of-clause-fault : goal.returns-in_err-text_of-clause-fault
 returns-in_err-text_of-clause-fault g c =

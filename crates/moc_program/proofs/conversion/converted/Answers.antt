@@ -14,15 +14,15 @@ returns-in_err-set-clause-fault g c =
     (subst (λ (bytes : List ℕ). (told ≡ Memory) ⊎ IsTextFault c.args.from bytes told) c.deref.ensures.value c.in_err-set.ensures.fault))
 
 pub returns-clause-converts : goal.returns-clause-converts
-returns-clause-converts g c = IfOk-weaker c.text_of.result _ _ (λ t written. record {
-  said = (c.in_ok-set.set, c.in_ok-set.deepest, c.args.from);
-  says = record {
-    given = c.in_ok-text.text.items;
-    whole = c.in_ok-text.ensures.whole;
-    says = (
+returns-clause-converts g c = IfOk-weaker c.text_of.result _ _ (λ t written. (
+  (c.in_ok-set.set, c.in_ok-set.deepest, c.args.from),
+  (
+    c.in_ok-text.text.items,
+    c.in_ok-text.ensures.whole,
+    (
       subst (λ (bytes : List ℕ). FormSays c.args.from bytes c.in_ok-set.set c.in_ok-set.deepest) c.deref.ensures.value c.in_ok-set.ensures.says,
       refl,
-    );
-  };
-  written = written;
-}) c.text_of.ensures.text
+    ),
+  ),
+  written,
+)) c.text_of.ensures.text

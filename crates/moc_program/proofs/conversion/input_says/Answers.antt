@@ -8,11 +8,11 @@ use Rattle.moc_program.proofs.Checks.{of_input}
 use Rattle.moc_program.proofs.conversion.input_says.Goals as goal
 
 pub returns-clause-says : goal.returns-clause-says
-returns-clause-says g c = IfOk-weaker c.said_or_told.result _ _ (λ r says. record {
-  given = c.in_ok-text.text.items;
-  whole = c.in_ok-text.ensures.whole;
-  says = subst (λ (bytes : List ℕ). TextSays c.args.choice bytes r) c.deref.ensures.value says;
-}) c.said_or_told.ensures.says
+returns-clause-says g c = IfOk-weaker c.said_or_told.result _ _ (λ r says. (
+  c.in_ok-text.text.items,
+  c.in_ok-text.ensures.whole,
+  subst (λ (bytes : List ℕ). TextSays c.args.choice bytes r) c.deref.ensures.value says,
+)) c.said_or_told.ensures.says
 
 pub returns-clause-fault : goal.returns-clause-fault
 returns-clause-fault g c = IfErr-weaker c.said_or_told.result _ _ (λ complaint told.

@@ -1,5 +1,5 @@
 -- One more number.
-use Rattle.std.proofs.Common.{◌≡◌, ◌∙◌, ◌++◌, ◌∷◌, ℕ, List, take, get_or, sym, ap, append_assoc, rules}
+use Rattle.std.proofs.Common.{◌≡◌, ◌∙◌, ◌++◌, ◌∷◌, ℕ, List, take, get_or, sym, ap, append_assoc}
 use Rattle.std.specs.Prelude.{decimal}
 use Rattle.std.specs.String.{string_bytes}
 use Rattle.moc_program.specs.Numbers.{spaced}
