@@ -1,5 +1,8 @@
 //! What crews are answered: real threads, held up by their gate.
-use crate::failing::{FailingSink, FailingSource, Failure};
+use crate::between::{Ended, expect_end};
+use crate::failing::{
+    Devices, FailingSink, FailingSource, Failure, SOUND, failing_reader, failing_writer,
+};
 use moc_script::{Gate, LINE_LIMIT, Lanes, OpenGate, OverReader, OverWriter, RunError, crew};
 use std::alloc::Global;
 use std::marker::Sync;
@@ -18,44 +21,29 @@ const ANSWERS: &[u8] =
 
 const CLAIMS: &[u8] = b"claim 0/4\nhop\n\nclaim 1/17";
 
-// How a crew ended, what was written, and how often the writer was flushed.
-#[derive(Drop)]
-struct Ended {
-    result: Result<(), RunError>,
-    text: Vec<u8>,
-    flushes: Option<u64>,
+// A number of lanes.
+fn lanes(rt: &impl Abort, count: u8) -> Lanes {
+    match Lanes::new(count) {
+        Some(lanes) => lanes,
+        None => panic!(rt; "{count} lanes"),
+    }
 }
 
-// A crew over a reader that fails after so many calls, if it is to fail, and a writer likewise.
+// A crew between such devices.
 fn crew_between<T: Abort + Threads + Wait + Sync, G: Gate + Sync>(
     rt: &T,
     alloc: Global,
     script: &[u8],
     count: u8,
     gate: &G,
-    reads: Option<u64>,
-    writes: Option<u64>,
+    devices: Devices,
 ) -> Ended {
-    let Some(lanes) = Lanes::new(count) else {
-        panic!(rt; "no lanes")
-    };
-    let mut source = FailingSource {
-        bytes: script,
-        calls: reads.unwrap_or(0),
-        failures: u64::from(reads.is_some()),
-        is_marked: false,
-    };
-    let mut sink = FailingSink {
-        taken: Vec::new(alloc),
-        calls: writes.unwrap_or(0),
-        failures: u64::from(writes.is_some()),
-        failure: Failure::Error,
-        flushes: Some(0),
-        is_marked: false,
-        is_flushed: false,
-    };
+    let lanes = lanes(rt, count);
+    let mut source = FailingSource::new(script, devices);
+    let mut sink = FailingSink::new(alloc, devices);
     let result = crew(rt, alloc, &mut source, &mut sink, lanes, gate);
     Ended {
+        devices,
         result,
         text: sink.taken,
         flushes: sink.flushes,
@@ -71,10 +59,8 @@ fn expect<T: Abort + Threads + Wait + Sync, G: Gate + Sync>(
     gate: &G,
     text: &[u8],
 ) {
-    let ended = crew_between(rt, alloc, script, count, gate, None, None);
-    assert_eq!(rt; ended.result, Ok(()));
-    assert_eq!(rt; ended.text.as_slice(), text);
-    assert_eq!(rt; ended.flushes, Some(1));
+    let ended = crew_between(rt, alloc, script, count, gate, SOUND);
+    expect_end(rt, &ended, Ok(()), text, 1);
 }
 
 #[test]
@@ -87,7 +73,7 @@ fn one_lane_or_two(rt: HostRuntime) {
 
 #[test]
 fn claims_in_three_lanes(rt: HostRuntime) {
-    let ended = crew_between(&rt, rt.alloc(), CLAIMS, 3, &OpenGate, None, None);
+    let ended = crew_between(&rt, rt.alloc(), CLAIMS, 3, &OpenGate, SOUND);
     assert_eq!(rt; ended.result, Ok(()));
     let first = b"claimed\nfault UnknownWord\ntaken 72057594037927936\ncover 0/4\n";
     let second = b"taken 72057594037927936\nfault UnknownWord\nclaimed\ncover 1/17\n";
@@ -101,10 +87,7 @@ fn numbers_of_lanes(rt: HostRuntime) {
     assert!(rt; Lanes::new(0).is_none());
     assert!(rt; Lanes::new(65).is_none());
     for count in [1u8, 64] {
-        let Some(lanes) = Lanes::new(count) else {
-            panic!(rt; "{count} lanes")
-        };
-        assert_eq!(rt; lanes.get(), count);
+        assert_eq!(rt; lanes(&rt, count).get(), count);
     }
 }
 
@@ -217,7 +200,7 @@ fn lines_are_told(rt: HostRuntime) {
         passed: AtomicU64::new(0),
         done: AtomicU64::new(0),
     };
-    let ended = crew_between(&rt, rt.alloc(), CLAIMS, 3, &gate, None, None);
+    let ended = crew_between(&rt, rt.alloc(), CLAIMS, 3, &gate, SOUND);
     assert_eq!(rt; ended.result, Ok(()));
     assert_eq!(rt; gate.passed.load(Ordering::SeqCst), 307);
     assert_eq!(rt; gate.done.load(Ordering::SeqCst), 307);
@@ -226,56 +209,27 @@ fn lines_are_told(rt: HostRuntime) {
 #[test]
 fn readers_that_fail(rt: HostRuntime) {
     for reads in 0..SCRIPT.len() as u64 {
-        let ended = crew_between(&rt, rt.alloc(), SCRIPT, 2, &OpenGate, Some(reads), None);
-        assert_eq!(rt; ended.result, Err(RunError::Read));
-        assert!(rt; ended.text.is_empty());
-        assert_eq!(rt; ended.flushes, Some(0));
+        let devices = failing_reader(reads, 1);
+        let ended = crew_between(&rt, rt.alloc(), SCRIPT, 2, &OpenGate, devices);
+        expect_end(&rt, &ended, Err(RunError::Read), b"", 0);
     }
 }
 
 #[test]
 fn writers_that_fail(rt: HostRuntime) {
     for writes in 0..ANSWERS.len() {
-        let ended = crew_between(
-            &rt,
-            rt.alloc(),
-            SCRIPT,
-            2,
-            &OpenGate,
-            None,
-            Some(writes as u64),
-        );
-        assert_eq!(rt; ended.result, Err(RunError::Write));
-        assert_eq!(rt; ended.text.as_slice(), &ANSWERS[..writes]);
+        let devices = failing_writer(Failure::Error, writes as u64, 1);
+        let ended = crew_between(&rt, rt.alloc(), SCRIPT, 2, &OpenGate, devices);
+        expect_end(&rt, &ended, Err(RunError::Write), &ANSWERS[..writes], 0);
     }
 }
 
 // The whole text is taken, and could not be sent on.
 #[test]
 fn a_flush_that_fails(rt: HostRuntime) {
-    let Some(lanes) = Lanes::new(2) else {
-        panic!(rt; "no lanes")
-    };
-    let mut sink = FailingSink {
-        taken: Vec::new(rt.alloc()),
-        calls: 0,
-        failures: 1,
-        failure: Failure::Flush,
-        flushes: Some(0),
-        is_marked: false,
-        is_flushed: false,
-    };
-    let result = crew(
-        &rt,
-        rt.alloc(),
-        &mut OverReader::new(SCRIPT),
-        &mut sink,
-        lanes,
-        &OpenGate,
-    );
-    assert_eq!(rt; result, Err(RunError::Write));
-    assert_eq!(rt; sink.taken.as_slice(), ANSWERS);
-    assert_eq!(rt; sink.flushes, Some(1));
+    let devices = failing_writer(Failure::Flush, 0, 1);
+    let ended = crew_between(&rt, rt.alloc(), SCRIPT, 2, &OpenGate, devices);
+    expect_end(&rt, &ended, Err(RunError::Write), ANSWERS, 1);
 }
 
 // A line over the limit is found before any lane begins.
@@ -287,16 +241,13 @@ fn too_long_a_line(rt: HostRuntime) {
         passed: AtomicU64::new(0),
         done: AtomicU64::new(0),
     };
-    let Some(lanes) = Lanes::new(2) else {
-        panic!(rt; "no lanes")
-    };
     let mut taken = Vec::new(rt.alloc());
     let result = crew(
         &rt,
         rt.alloc(),
         &mut OverReader::new(script.as_slice()),
         &mut OverWriter::new(&mut taken),
-        lanes,
+        lanes(&rt, 2),
         &gate,
     );
     assert_eq!(rt; result, Err(RunError::LineTooLong { line: 2 }));

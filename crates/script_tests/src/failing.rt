@@ -1,16 +1,95 @@
 //! Devices that move one byte a call, and fail.
-ghost use Rattle.std.specs.Prelude.{Some};
+ghost use Rattle.std.specs.Prelude.{◌≡◌, false, Some};
 
 use moc_script::{DeviceFault, Sink, Source};
+use std::alloc::Global;
 use std::io::{self, ErrorKind, Read, Write};
 
-/// A reader that gives one byte a call, fails so many times once it has been called so often, and then goes on.
+/// After how many calls a device fails, and how often.
+#[derive(Clone, Copy, Debug, PartialEq, Eq)]
+pub struct Failures {
+    pub calls: u64,
+    pub times: u64,
+}
+
+impl Failures {
+    /// Whether the next call fails.
+    fn next(&mut self) -> bool {
+        if self.calls > 0 {
+            self.calls -= 1;
+            return false;
+        }
+        let fails = self.times > 0;
+        self.times = self.times.saturating_sub(1);
+        fails
+    }
+}
+
+/// How a writer fails.
+#[derive(Clone, Copy, Debug, PartialEq, Eq)]
+pub enum Failure {
+    /// A write is an error.
+    Error,
+    /// A write takes no byte.
+    TakesNone,
+    /// A flush is an error.
+    Flush,
+}
+
+/// How the reader and the writer fail.
+#[derive(Clone, Copy, Debug, PartialEq, Eq)]
+pub struct Devices {
+    pub reader: Failures,
+    pub writer: Failures,
+    pub failure: Failure,
+}
+
+/// More failures than a call can meet.
+pub const PLENTY: u64 = 1 << 40;
+
+/// Devices that do not fail.
+pub const SOUND: Devices = Devices {
+    reader: Failures { calls: 0, times: 0 },
+    writer: Failures { calls: 0, times: 0 },
+    failure: Failure::Error,
+};
+
+/// Devices whose reader fails, after so many calls and so often.
+pub fn failing_reader(calls: u64, times: u64) -> Devices {
+    Devices {
+        reader: Failures { calls, times },
+        ..SOUND
+    }
+}
+
+/// Devices whose writer fails so, after so many calls and so often.
+pub fn failing_writer(failure: Failure, calls: u64, times: u64) -> Devices {
+    Devices {
+        writer: Failures { calls, times },
+        failure,
+        ..SOUND
+    }
+}
+
+/// A reader that gives one byte a call, but fails so.
 #[derive(Drop)]
 pub struct FailingSource<'a> {
-    pub bytes: &'a [u8],
-    pub calls: u64,
-    pub failures: u64,
-    pub is_marked: bool,
+    bytes: &'a [u8],
+    failures: Failures,
+    is_marked: bool,
+}
+
+impl<'a> FailingSource<'a> {
+    /// A reader of these bytes.
+    pub fn new(bytes: &'a [u8], devices: Devices) -> FailingSource<'a>
+        ensures { result.is_marked ≡ false }
+    {
+        FailingSource {
+            bytes,
+            failures: devices.reader,
+            is_marked: false,
+        }
+    }
 }
 
 impl Source for FailingSource<'_> {
@@ -19,12 +98,10 @@ impl Source for FailingSource<'_> {
     ghost mark = { λ s. s.is_marked };
 
     fn read(&mut self, buffer: &mut [u8]) -> Result<usize, DeviceFault> {
-        if self.calls == 0 && self.failures > 0 {
-            self.failures -= 1;
+        if self.failures.next() {
             self.is_marked = true;
             return Err(DeviceFault);
         }
-        self.calls = self.calls.saturating_sub(1);
         if buffer.is_empty() {
             return Ok(0);
         }
@@ -43,27 +120,31 @@ impl Source for FailingSource<'_> {
     }
 }
 
-/// How a writer fails.
-#[derive(Clone, Copy, Debug, PartialEq, Eq)]
-pub enum Failure {
-    /// A write is an error.
-    Error,
-    /// A write takes no byte.
-    TakesNone,
-    /// A flush is an error.
-    Flush,
-}
-
-/// A writer that takes one byte a call. Once it has been called so often it fails so many times, and then goes on.
+/// A writer that takes one byte a call, but fails so.
 #[derive(Drop)]
 pub struct FailingSink {
     pub taken: Vec<u8>,
-    pub calls: u64,
-    pub failures: u64,
-    pub failure: Failure,
     pub flushes: Option<u64>,
-    pub is_marked: bool,
-    pub is_flushed: bool,
+    failures: Failures,
+    failure: Failure,
+    is_marked: bool,
+    is_flushed: bool,
+}
+
+impl FailingSink {
+    /// A writer that has taken nothing.
+    pub fn new(alloc: Global, devices: Devices) -> FailingSink
+        ensures { result.is_marked ≡ false }
+    {
+        FailingSink {
+            taken: Vec::new(alloc),
+            flushes: Some(0),
+            failures: devices.writer,
+            failure: devices.failure,
+            is_marked: false,
+            is_flushed: false,
+        }
+    }
 }
 
 impl Sink for FailingSink {
@@ -79,28 +160,24 @@ impl Sink for FailingSink {
         let Some(first) = bytes.first() else {
             return Ok(0);
         };
-        if self.calls == 0 && self.failures > 0 && self.failure != Failure::Flush {
-            self.failures -= 1;
+        if self.failure != Failure::Flush && self.failures.next() {
             self.is_marked = true;
-            return if self.failure == Failure::TakesNone {
-                Ok(0)
-            } else {
-                Err(DeviceFault)
+            return match self.failure {
+                Failure::TakesNone => Ok(0),
+                _ => Err(DeviceFault),
             };
         }
         if self.taken.push(*first).is_err() {
             self.is_marked = true;
             return Err(DeviceFault);
         }
-        self.calls = self.calls.saturating_sub(1);
         self.is_flushed = false;
         Ok(1)
     }
 
     fn flush(&mut self) -> Result<(), DeviceFault> {
         self.flushes = self.flushes.and_then(|flushes| flushes.checked_add(1));
-        if self.failure == Failure::Flush && self.failures > 0 {
-            self.failures -= 1;
+        if self.failure == Failure::Flush && self.failures.next() {
             self.is_marked = true;
             return Err(DeviceFault);
         }

@@ -1,6 +1,6 @@
 //! What schedules are answered.
-use crate::between::{Ended, Language, PLENTY, between, expect_answers, sound_devices};
-use crate::failing::Failure;
+use crate::between::{Ended, Language, between, expect_answers, expect_end, holds};
+use crate::failing::{Devices, Failure, PLENTY, failing_reader, failing_writer};
 use moc_script::{OverReader, OverWriter, RunError, play};
 use std::alloc::{AllocError, Global};
 use std::process::Abort;
@@ -54,16 +54,7 @@ fn expect(rt: &impl Abort, alloc: Global, schedule: &[u8], answers: &[u8]) {
 }
 
 // Plays the schedule between such devices.
-fn after(alloc: Global, reads: u64, writes: u64, failure: Failure, of_reader: bool) -> Ended {
-    let mut devices = sound_devices();
-    devices.reads = reads;
-    devices.writes = writes;
-    devices.failure = failure;
-    if of_reader {
-        devices.failed_reads = PLENTY;
-    } else {
-        devices.failed_writes = PLENTY;
-    }
+fn played(alloc: Global, devices: Devices) -> Ended {
     between(alloc, Language::Schedule, SCHEDULE, devices)
 }
 
@@ -397,35 +388,24 @@ fn whole_lines(text: &[u8]) -> usize {
 #[test]
 fn failing_reads(rt: HostRuntime) {
     for reads in 0..SCHEDULE.len() + 1 {
-        let ended = after(rt.alloc(), reads as u64, 0, Failure::Error, true);
+        let ended = played(rt.alloc(), failing_reader(reads as u64, PLENTY));
         let given = SCHEDULE.split_at(reads.min(SCHEDULE.len())).0;
-        assert_eq!(rt; ended.result, Err(RunError::Read), "after {reads} reads");
         let expected = first_lines(ANSWERS, whole_lines(given));
-        assert_eq!(rt; ended.text.as_slice(), expected, "after {reads} reads");
-        assert_eq!(rt; ended.flushes, Some(0), "after {reads} reads");
+        expect_end(&rt, &ended, Err(RunError::Read), expected, 0);
     }
 }
 
 #[test]
 fn failing_writes(rt: HostRuntime) {
     for writes in 0..ANSWERS.len() {
+        let expected = ANSWERS.split_at(writes).0;
         for failure in [Failure::Error, Failure::TakesNone] {
-            let ended = after(rt.alloc(), 0, writes as u64, failure, false);
-            assert_eq!(rt; ended.result, Err(RunError::Write), "after {writes} writes");
-            let expected = ANSWERS.split_at(writes).0;
-            assert_eq!(rt; ended.text.as_slice(), expected, "after {writes} writes");
-            assert_eq!(rt; ended.flushes, Some(0), "after {writes} writes");
+            let ended = played(rt.alloc(), failing_writer(failure, writes as u64, PLENTY));
+            expect_end(&rt, &ended, Err(RunError::Write), expected, 0);
         }
     }
-    let ended = after(rt.alloc(), 0, 0, Failure::Flush, false);
-    assert_eq!(rt; ended.result, Err(RunError::Write));
-    assert_eq!(rt; ended.text.as_slice(), ANSWERS);
-}
-
-// Whether a text stands at the front of a room, and nothing behind it.
-fn holds(room: &[u8], text: &[u8]) -> bool {
-    let (front, rest) = room.split_at(text.len().min(room.len()));
-    front == text && rest.iter().all(|byte| *byte == 0)
+    let ended = played(rt.alloc(), failing_writer(Failure::Flush, 0, PLENTY));
+    expect_end(&rt, &ended, Err(RunError::Write), ANSWERS, 1);
 }
 
 // With ample memory all is answered. Where one growth is refused, just the lines before the one that is named are, and

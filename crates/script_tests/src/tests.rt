@@ -1,10 +1,12 @@
 //! What scripts are answered.
-use crate::between::{Devices, Ended, Language, PLENTY, between, expect_answers, sound_devices};
-use crate::failing::{FailsOnce, Failure};
+use crate::between::{Ended, Language, between, expect_answers, expect_end, holds};
+use crate::failing::{Devices, FailsOnce, Failure, PLENTY, failing_reader, failing_writer};
 use moc_script::{
-    DeviceFault, LINE_LIMIT, OverReader, OverWriter, RunError, Sink, Source, run, write_all,
+    DeviceFault, Fault, LINE_LIMIT, OverReader, OverWriter, ReadError, RunError, Sink, Source, run,
+    write_all,
 };
 use std::alloc::{AllocError, Global};
+use std::fmt::Display;
 use std::process::Abort;
 
 const SCRIPT: &[u8] = b"add 0/0\nadd 0/0 ; count 0/0-1\n \t\r\n\nhop\nadd 5/7-3\nread 0/0-1 5";
@@ -202,6 +204,8 @@ add 0/5 ;
 add 0/5 ; hop
 ;
 invert;invert;invert;invert;invert;invert;invert;invert;invert;invert;invert;invert;invert;invert;invert;invert;invert
+hop;;;;;;;;;;;;;;;;
+hop;;;;;;;;;;;;;;;
 read 0/0-11
 ";
     let answers = b"\
@@ -211,6 +215,8 @@ fault EmptyCommand
 fault UnknownWord
 fault EmptyCommand
 fault TooManyCommands
+fault TooManyCommands
+fault UnknownWord
 cover 1/0
 ";
     expect(&rt, rt.alloc(), script, answers);
@@ -285,49 +291,44 @@ fn answers_to_front(bytes: usize) -> &'static [u8] {
 fn failing_reads(rt: HostRuntime) {
     for reads in 0..SCRIPT.len() + 1 {
         for failures in [1, PLENTY] {
-            let mut devices = sound_devices();
-            devices.reads = reads as u64;
-            devices.failed_reads = failures;
-            let ended = run_between(rt.alloc(), SCRIPT, devices);
-            assert_eq!(rt; ended.result, Err(RunError::Read), "after {reads} reads");
-            let expected = answers_to_front(reads);
-            assert_eq!(rt; ended.text.as_slice(), expected, "after {reads} reads");
-            assert_eq!(rt; ended.flushes, Some(0), "after {reads} reads");
+            let ended = run_between(rt.alloc(), SCRIPT, failing_reader(reads as u64, failures));
+            expect_end(&rt, &ended, Err(RunError::Read), answers_to_front(reads), 0);
         }
     }
     expect(&rt, rt.alloc(), SCRIPT, ANSWERS);
+}
+
+// Checks that a writer that fails so, after so many writes, ends the call with the bytes before.
+fn expect_written(rt: &impl Abort, alloc: Global, writes: usize, failure: Failure, failures: u64) {
+    let ended = run_between(
+        alloc,
+        SCRIPT,
+        failing_writer(failure, writes as u64, failures),
+    );
+    let before = ANSWERS.split_at(writes.min(ANSWERS.len())).0;
+    expect_end(rt, &ended, Err(RunError::Write), before, 0);
 }
 
 // A writer whose write is an error or takes no byte, for good or once, ends the call with the bytes before.
 #[test]
 fn failing_writes(rt: HostRuntime) {
     for writes in 0..ANSWERS.len() {
-        for failure in [Failure::Error, Failure::TakesNone] {
-            for failures in [1, PLENTY] {
-                let mut devices = sound_devices();
-                devices.writes = writes as u64;
-                devices.failed_writes = failures;
-                devices.failure = failure;
-                let ended = run_between(rt.alloc(), SCRIPT, devices);
-                assert_eq!(rt; ended.result, Err(RunError::Write), "after {writes} writes");
-                let expected = ANSWERS.split_at(writes).0;
-                assert_eq!(rt; ended.text.as_slice(), expected, "after {writes} writes");
-                assert_eq!(rt; ended.flushes, Some(0), "after {writes} writes");
-            }
-        }
+        expect_written(&rt, rt.alloc(), writes, Failure::Error, 1);
+        expect_written(&rt, rt.alloc(), writes, Failure::Error, PLENTY);
+        expect_written(&rt, rt.alloc(), writes, Failure::TakesNone, 1);
+        expect_written(&rt, rt.alloc(), writes, Failure::TakesNone, PLENTY);
     }
 }
 
 #[test]
 fn failing_flush(rt: HostRuntime) {
     for failures in [1, PLENTY] {
-        let mut devices = sound_devices();
-        devices.failed_writes = failures;
-        devices.failure = Failure::Flush;
-        let ended = run_between(rt.alloc(), SCRIPT, devices);
-        assert_eq!(rt; ended.result, Err(RunError::Write));
-        assert_eq!(rt; ended.text.as_slice(), ANSWERS);
-        assert_eq!(rt; ended.flushes, Some(1));
+        let ended = run_between(
+            rt.alloc(),
+            SCRIPT,
+            failing_writer(Failure::Flush, 0, failures),
+        );
+        expect_end(&rt, &ended, Err(RunError::Write), ANSWERS, 1);
     }
 }
 
@@ -340,38 +341,53 @@ fn fails_once() -> FailsOnce {
     }
 }
 
-#[test]
-fn one_call_each_over_std(rt: HostRuntime) {
-    let mut device = fails_once();
-    let mut source = OverReader::new(&mut device);
-    let mut room = [0u8; 4];
-    assert_eq!(rt; source.read(&mut room), Err(DeviceFault));
-    assert!(rt; source.is_marked());
-    assert_eq!(rt; source.read(&mut room), Ok(0));
-    assert!(rt; source.is_marked());
-    drop(source);
-    assert_eq!(rt; device.calls, 2);
-
-    let mut device = fails_once();
-    let mut sink = OverWriter::new(&mut device);
-    assert_eq!(rt; sink.write(b"ab"), Err(DeviceFault));
-    assert!(rt; sink.is_marked());
-    assert_eq!(rt; sink.write(b"ab"), Ok(2));
-    assert_eq!(rt; sink.flush(), Ok(()));
-    assert!(rt; sink.is_marked());
-    drop(sink);
-    assert_eq!(rt; (device.calls, device.flushes), (2, 1));
-
-    let mut device = fails_once();
-    let mut sink = OverWriter::new(&mut device);
-    assert_eq!(rt; sink.flush(), Err(DeviceFault));
-    assert!(rt; sink.is_marked());
-    drop(sink);
-    assert_eq!(rt; device.flushes, 1);
+// Checks what a call answers.
+fn expect_call(
+    rt: &impl Abort,
+    answer: Result<usize, DeviceFault>,
+    expected: Result<usize, DeviceFault>,
+) {
+    assert_eq!(rt; answer, expected);
 }
 
 #[test]
-fn runs_over_std_that_fails_once(rt: HostRuntime) {
+fn reads_of_std(rt: HostRuntime) {
+    let mut device = fails_once();
+    let mut source = OverReader::new(&mut device);
+    let mut room = [0u8; 4];
+    expect_call(&rt, source.read(&mut room), Err(DeviceFault));
+    assert!(rt; source.is_marked());
+    expect_call(&rt, source.read(&mut room), Ok(0));
+    assert!(rt; source.is_marked());
+    drop(source);
+    assert!(rt; device.calls == 2);
+}
+
+#[test]
+fn writes_of_std(rt: HostRuntime) {
+    let mut device = fails_once();
+    let mut sink = OverWriter::new(&mut device);
+    expect_call(&rt, sink.write(b"ab"), Err(DeviceFault));
+    assert!(rt; sink.is_marked());
+    expect_call(&rt, sink.write(b"ab"), Ok(2));
+    assert!(rt; sink.flush().is_ok());
+    assert!(rt; sink.is_marked());
+    drop(sink);
+    assert!(rt; device.calls == 2 && device.flushes == 1);
+}
+
+#[test]
+fn flushes_of_std(rt: HostRuntime) {
+    let mut device = fails_once();
+    let mut sink = OverWriter::new(&mut device);
+    assert!(rt; sink.flush().is_err());
+    assert!(rt; sink.is_marked());
+    drop(sink);
+    assert!(rt; device.flushes == 1);
+}
+
+#[test]
+fn a_reader_of_std_that_fails_once(rt: HostRuntime) {
     let mut device = fails_once();
     let mut taken = Vec::new(rt.alloc());
     let mut source = OverReader::new(&mut device);
@@ -380,23 +396,29 @@ fn runs_over_std_that_fails_once(rt: HostRuntime) {
     drop(sink);
     drop(source);
     assert_eq!(rt; result, Err(RunError::Read));
-    assert_eq!(rt; device.calls, 1);
+    assert!(rt; device.calls == 1);
     assert!(rt; taken.is_empty());
+}
 
+#[test]
+fn a_writer_of_std_that_fails_once(rt: HostRuntime) {
     let mut device = fails_once();
     let mut source = OverReader::new(SCRIPT);
     let mut sink = OverWriter::new(&mut device);
     let result = run(rt.alloc(), &mut source, &mut sink);
     drop(sink);
     assert_eq!(rt; result, Err(RunError::Write));
-    assert_eq!(rt; (device.calls, device.flushes), (1, 0));
+    assert!(rt; device.calls == 1 && device.flushes == 0);
+}
 
+#[test]
+fn all_bytes_over_std_that_fails_once(rt: HostRuntime) {
     let mut device = fails_once();
     let mut sink = OverWriter::new(&mut device);
-    assert_eq!(rt; write_all(b"", &mut sink), Ok(()));
-    assert_eq!(rt; write_all(b"ab", &mut sink), Err(DeviceFault));
+    assert!(rt; write_all(b"", &mut sink).is_ok());
+    assert!(rt; write_all(b"ab", &mut sink).is_err());
     drop(sink);
-    assert_eq!(rt; device.calls, 1);
+    assert!(rt; device.calls == 1);
 }
 
 #[test]
@@ -418,28 +440,44 @@ fn thousands_of_lines_and_nines(rt: HostRuntime) {
     expect(&rt, rt.alloc(), &script, &answers);
 }
 
+// Checks the text of an error.
+fn expect_text<E: Display>(rt: &impl Abort, alloc: Global, error: &E, expected: &str) {
+    let text = format!(in alloc; "{error}").expect(rt, "memory");
+    assert_eq!(rt; text.as_str(), expected);
+}
+
 #[test]
 fn texts_of_errors(rt: HostRuntime) {
-    for (error, text) in [
-        (RunError::Read, "the input could not be read"),
-        (RunError::Write, "the output could not be written"),
-        (RunError::LineTooLong { line: 3 }, "line 3 is too long"),
-        (RunError::Memory { line: 0 }, "out of memory at line 0"),
-        (RunError::Spawn, "a thread could not be started"),
-    ] {
-        assert_eq!(rt;
-            format!(in rt.alloc(); "{error}")
-                .expect(&rt, "memory")
-                .as_str(),
-            text
-        );
-    }
-    assert_eq!(rt;
-        format!(in rt.alloc(); "{}", DeviceFault)
-            .expect(&rt, "memory")
-            .as_str(),
-        "a device failed"
+    let alloc = rt.alloc();
+    expect_text(&rt, alloc, &RunError::Read, "the input could not be read");
+    expect_text(
+        &rt,
+        alloc,
+        &RunError::Write,
+        "the output could not be written",
     );
+    expect_text(
+        &rt,
+        alloc,
+        &RunError::LineTooLong { line: 3 },
+        "line 3 is too long",
+    );
+    expect_text(
+        &rt,
+        alloc,
+        &RunError::Memory { line: 0 },
+        "out of memory at line 0",
+    );
+    expect_text(
+        &rt,
+        alloc,
+        &RunError::Spawn,
+        "a thread could not be started",
+    );
+    expect_text(&rt, alloc, &DeviceFault, "a device failed");
+    let fault = ReadError::Fault(Fault::TooManyCommands);
+    expect_text(&rt, alloc, &fault, "a line has at most 16 commands");
+    expect_text(&rt, alloc, &ReadError::Memory, "out of memory");
 }
 
 // The lines of a text before the one of this number, counted from 1.
@@ -454,12 +492,6 @@ fn lines_before(text: &[u8], number: u64) -> &[u8] {
         }
     }
     text
-}
-
-// Whether a text stands at the front of a room, and nothing behind it.
-fn holds(room: &[u8], text: &[u8]) -> bool {
-    let (front, rest) = room.split_at(text.len().min(room.len()));
-    front == text && rest.iter().all(|byte| *byte == 0)
 }
 
 // With ample memory all is answered. Where one growth is refused (`rt try --test --fail-alloc N`, for each N), just the
