@@ -118,7 +118,8 @@ IsNotJson bytes = IsUtf8 bytes → read bytes ≡ None
 -- In the text the name of this number, counted from 0 in byte order, names this order, or none.
 abbrev pub NamesOrder : List ℕ → ℕ → Option ℕ → Type 0
 NamesOrder bytes number k =
-    (d : Data) × IsJson bytes d × (k ≡ option_and_then (λ (m : List ℕ × Data). order_of_name m.0) (object_member number d))
+    (d : Data) × IsJson bytes d
+    × (k ≡ option_and_then (λ (m : List ℕ × Data). order_of_name m.0) (object_member number d))
 
 -- In the text the name of this number, counted from 0 in byte order, is this one, if there is such a name.
 abbrev pub HasName : List ℕ → ℕ → Option (List ℕ) → Type 0

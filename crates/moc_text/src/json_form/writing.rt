@@ -73,8 +73,8 @@ fn write_bare(
     bare: Option<u8>,
     behind: bool,
 ) -> Result<bool, AllocError>
-    ensures { IfOk result (λ after. (members : Members) →
-        text.new ++ members_text after members ≡ text.old ++ members_text behind (member_before depth bare [] members)) }
+    ensures { IfOk result (λ after. (members : Members) → text.new ++ members_text after members
+        ≡ text.old ++ members_text behind (member_before depth bare [] members)) }
 {
     if bare != Some(depth) {
         return Ok(behind);
