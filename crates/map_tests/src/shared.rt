@@ -227,7 +227,11 @@ fn one_command_is_done_without_a_batch(rt: HostRuntime) {
     assert_eq!(rt; answered(&rt, &map, &mut b, parts), Some(2 * BASE + CELL));
     is_base_pixel_3(&rt, alloc, &snapshot);
     map.take_in(&mut a, b);
-    let all = set(&rt, alloc, &[(3 * BASE, 5 * BASE), (6 * BASE, 6 * BASE + CELL)]);
+    let all = set(
+        &rt,
+        alloc,
+        &[(3 * BASE, 5 * BASE), (6 * BASE, 6 * BASE + CELL)],
+    );
     assert!(rt; map.close(a).expect(&rt, "the set").same(&all));
 }
 
