@@ -28,7 +28,8 @@ impl SharedMap {
         ensures number { number_of client.new ≡ number_of client.old }
         ensures ok { IfOk result (λ r. EndsWaiting self.now (call_of client.old (command ∷ []) (r ∷ []))
             (record_of client.old) (record_of client.new)) }
-        ensures err { OnErr result (FailsWaiting self.now (command ∷ []) (record_of client.old) (record_of client.new)) }
+        ensures err { OnErr result
+            (FailsWaiting self.now (command ∷ []) (record_of client.old) (record_of client.new)) }
     {
         match place_alone(&command) {
             Some(b) => self.answer_in_part(rt, client, &command, b),
@@ -71,7 +72,8 @@ impl SharedMap {
         ensures number { number_of client.new ≡ number_of client.old }
         ensures ok { IfOk result (λ r. EndsWaiting self.now (call_of client.old (command ∷ []) (r ∷ []))
             (record_of client.old) (record_of client.new)) }
-        ensures err { OnErr result (FailsWaiting self.now (command ∷ []) (record_of client.old) (record_of client.new)) }
+        ensures err { OnErr result
+            (FailsWaiting self.now (command ∷ []) (record_of client.old) (record_of client.new)) }
     {
         let batch = Batch::one(self.alloc, command)?;
         let replies = self.apply(rt, client, &batch)?;
