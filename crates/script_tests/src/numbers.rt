@@ -5,6 +5,7 @@ use moc_script::{
 };
 use moc_sphere::Order;
 use std::alloc::{AllocError, Global};
+use std::process::Abort;
 use std::str::FromStr;
 
 // The names of the numberings.
@@ -170,14 +171,26 @@ fn blanks_and_line_ends(rt: HostRuntime) {
     );
 }
 
-// A number, a line of so many zeros, and a number more, from the nested numbers of order 1 to the ring numbers.
-fn over_zeros(alloc: Global, zeros: usize) -> Result<(Result<(), RunError>, Vec<u8>), AllocError> {
+// A number, a line of so many zeros, and a number more.
+fn lines_with_zeros(alloc: Global, zeros: usize) -> Result<Vec<u8>, AllocError> {
     let mut lines = Vec::from_slice(alloc, b"1\n")?;
     let end = lines.len().saturating_add(zeros);
     lines.resize(end, b'0')?;
     lines.extend_from_slice(b"\n2\n")?;
+    Ok(lines)
+}
+
+// Checks what such lines are answered, from the nested numbers of order 1 to the ring numbers.
+fn expect_over_zeros(
+    rt: &impl Abort,
+    alloc: Global,
+    zeros: usize,
+    outcome: Result<(), RunError>,
+    answers: &[u8],
+) {
+    let lines = lines_with_zeros(alloc, zeros).expect(rt, "memory");
     let mut text = Vec::new(alloc);
-    let result = renumber(
+    let ended = renumber(
         alloc,
         &mut OverReader::new(lines.as_slice()),
         &mut OverWriter::new(&mut text),
@@ -187,15 +200,19 @@ fn over_zeros(alloc: Global, zeros: usize) -> Result<(Result<(), RunError>, Vec<
             order: Order::of(1),
         },
     );
-    Ok((result, text))
+    assert_eq!(rt; ended, outcome);
+    assert_eq!(rt; text.as_slice(), answers);
 }
 
 #[test]
 fn longest_line(rt: HostRuntime) {
-    let (result, text) = over_zeros(rt.alloc(), LINE_LIMIT).expect(&rt, "memory");
-    assert_eq!(rt; result, Ok(()));
-    assert_eq!(rt; text.as_slice(), b"5\n13\n4\n".as_slice());
-    let (result, text) = over_zeros(rt.alloc(), LINE_LIMIT.saturating_add(1)).expect(&rt, "memory");
-    assert_eq!(rt; result, Err(RunError::LineTooLong { line: 2 }));
-    assert_eq!(rt; text.as_slice(), b"5\n".as_slice());
+    let too_long = Err(RunError::LineTooLong { line: 2 });
+    expect_over_zeros(&rt, rt.alloc(), LINE_LIMIT, Ok(()), b"5\n13\n4\n");
+    expect_over_zeros(
+        &rt,
+        rt.alloc(),
+        LINE_LIMIT.saturating_add(1),
+        too_long,
+        b"5\n",
+    );
 }

@@ -255,16 +255,25 @@ fn add_and_spaces(alloc: Global, len: usize) -> Result<Vec<u8>, AllocError> {
     Ok(line)
 }
 
+// Checks how a line of so many bytes, `add` and spaces, is answered.
+fn expect_long(
+    rt: &impl Abort,
+    alloc: Global,
+    len: usize,
+    outcome: Result<(), RunError>,
+    answers: &[u8],
+) {
+    let line = add_and_spaces(alloc, len).expect(rt, "memory");
+    let (ended, text) = run_over(alloc, &line);
+    assert_eq!(rt; ended, outcome);
+    assert_eq!(rt; text.as_slice(), answers);
+}
+
 #[test]
 fn longest_line(rt: HostRuntime) {
-    let mut line = add_and_spaces(rt.alloc(), LINE_LIMIT).expect(&rt, "memory");
-    let (result, text) = run_over(rt.alloc(), &line);
-    assert_eq!(rt; result, Ok(()));
-    assert_eq!(rt; text.as_slice(), b"changed 0\n".as_slice());
-    line.push(b' ').expect(&rt, "memory");
-    let (result, text) = run_over(rt.alloc(), &line);
-    assert_eq!(rt; result, Err(RunError::LineTooLong { line: 1 }));
-    assert!(rt; text.is_empty());
+    let too_long = Err(RunError::LineTooLong { line: 1 });
+    expect_long(&rt, rt.alloc(), LINE_LIMIT, Ok(()), b"changed 0\n");
+    expect_long(&rt, rt.alloc(), LINE_LIMIT.saturating_add(1), too_long, b"");
 }
 
 // The front of the answers that the whole lines of a front of the script have: the lines of SCRIPT have 27, 37, 0, 0,
