@@ -1,5 +1,7 @@
 //! The words of the command line, over memory. Expected numbers are worked examples of the numbering, made apart from
 //! this program.
+ghost use Rattle.std.specs.Prelude.{◌≡◌, false};
+
 use moc_program::{program, refuse_words};
 use moc_script::{DeviceFault, OverReader, OverWriter, Source};
 use std::alloc::Global;
@@ -7,8 +9,41 @@ use std::io::{self, ErrorKind};
 use std::marker::Sync;
 use std::process::Abort;
 use std::sync::Wait;
-use std::test::Fail;
 use std::thread::Threads;
+
+/// The status that the program ended with, and what it wrote and told.
+#[derive(Drop)]
+struct Ended {
+    status: u8,
+    written: Vec<u8>,
+    told: Vec<u8>,
+}
+
+/// Does what words ask, on an input.
+fn run_words<T: Threads + Wait + Sync, R: Source>(
+    rt: &T,
+    alloc: Global,
+    words: &[&str],
+    input: &mut R,
+) -> Ended
+    requires { R.mark input.old ≡ false }
+{
+    let mut written = Vec::new(alloc);
+    let mut told = Vec::new(alloc);
+    let status = program(
+        rt,
+        alloc,
+        words,
+        input,
+        &mut OverWriter::new(&mut written),
+        &mut OverWriter::new(&mut told),
+    );
+    Ended {
+        status,
+        written,
+        told,
+    }
+}
 
 /// Checks the status, the output and the fault output of the words on an input.
 fn expect<T: Abort + Threads + Wait + Sync>(
@@ -20,19 +55,10 @@ fn expect<T: Abort + Threads + Wait + Sync>(
     output: &str,
     faults: &str,
 ) {
-    let mut written = Vec::new(alloc);
-    let mut told = Vec::new(alloc);
-    let answered = program(
-        rt,
-        alloc,
-        words,
-        &mut OverReader::new(input.as_bytes()),
-        &mut OverWriter::new(&mut written),
-        &mut OverWriter::new(&mut told),
-    );
-    assert_eq!(rt; answered, status, "{words:?}");
-    assert_eq!(rt; written.as_slice(), output.as_bytes(), "{words:?}");
-    assert_eq!(rt; told.as_slice(), faults.as_bytes(), "{words:?}");
+    let ended = run_words(rt, alloc, words, &mut OverReader::new(input.as_bytes()));
+    assert_eq!(rt; ended.status, status, "{words:?}");
+    assert_eq!(rt; ended.written.as_slice(), output.as_bytes(), "{words:?}");
+    assert_eq!(rt; ended.told.as_slice(), faults.as_bytes(), "{words:?}");
 }
 
 #[test]
@@ -210,21 +236,19 @@ fn refused_json(rt: HostRuntime) {
     }
 }
 
+/// Checks the status and the text of words that could not be had.
+fn expect_no_words(rt: &impl Abort, alloc: Global, kind: ErrorKind, status: u8, text: &str) {
+    let mut told = Vec::new(alloc);
+    let answered = refuse_words(&io::Error::from(kind), &mut OverWriter::new(&mut told));
+    assert_eq!(rt; answered, status);
+    assert_eq!(rt; told.as_slice(), text.as_bytes());
+}
+
 #[test]
 fn words_that_are_not_utf8(rt: HostRuntime) {
-    for (kind, status, text) in [
-        (
-            ErrorKind::InvalidData,
-            2,
-            "error: a word of the command line is not UTF-8\n",
-        ),
-        (ErrorKind::OutOfMemory, 3, "fault Memory\n"),
-    ] {
-        let mut told = Vec::new(rt.alloc());
-        let answered = refuse_words(&io::Error::from(kind), &mut OverWriter::new(&mut told));
-        assert_eq!(rt; answered, status);
-        assert_eq!(rt; told.as_slice(), text.as_bytes());
-    }
+    let text = "error: a word of the command line is not UTF-8\n";
+    expect_no_words(&rt, rt.alloc(), ErrorKind::InvalidData, 2, text);
+    expect_no_words(&rt, rt.alloc(), ErrorKind::OutOfMemory, 3, "fault Memory\n");
 }
 
 #[test]
@@ -323,19 +347,15 @@ fn picture<T: Abort + Threads + Wait + Sync>(
     form: &str,
     input: &str,
 ) -> Vec<u8> {
-    let mut written = Vec::new(alloc);
-    let mut told = Vec::new(alloc);
-    let answered = program(
+    let ended = run_words(
         rt,
         alloc,
         &["draw", form],
         &mut OverReader::new(input.as_bytes()),
-        &mut OverWriter::new(&mut written),
-        &mut OverWriter::new(&mut told),
     );
-    assert_eq!(rt; answered, 0, "{form}");
-    assert!(rt; told.is_empty(), "{form}");
-    written
+    assert_eq!(rt; ended.status, 0, "{form}");
+    assert!(rt; ended.told.is_empty(), "{form}");
+    ended.written
 }
 
 #[test]
@@ -526,81 +546,87 @@ impl Source for Broken {
     }
 }
 
+/// Checks that words tell an input that fails, and read it once.
+fn expect_failing<T: Abort + Threads + Wait + Sync>(rt: &T, alloc: Global, words: &[&str]) {
+    let mut input = Broken {
+        is_marked: false,
+        calls: 0,
+    };
+    let ended = run_words(rt, alloc, words, &mut input);
+    assert_eq!(rt; ended.status, 3, "{words:?}");
+    assert_eq!(rt; input.calls, 1, "{words:?}");
+    assert!(rt; ended.written.is_empty(), "{words:?}");
+    assert_eq!(rt;
+        ended.told.as_slice(),
+        b"fault Read\n".as_slice(),
+        "{words:?}"
+    );
+}
+
 #[test]
 fn failing_input(rt: HostRuntime) {
+    let alloc = rt.alloc();
+    expect_failing(&rt, alloc, &["run"]);
+    expect_failing(&rt, alloc, &["play"]);
+    expect_failing(&rt, alloc, &["crew", "2"]);
+    expect_failing(&rt, alloc, &["convert", "ascii", "json"]);
+    expect_failing(&rt, alloc, &["check", "ascii"]);
+    expect_failing(&rt, alloc, &["describe", "uniq"]);
+    expect_failing(&rt, alloc, &["combine", "union", "uniq"]);
+    expect_failing(&rt, alloc, &["draw", "json"]);
+    expect_failing(&rt, alloc, &["degrade", "1", "ascii"]);
+    expect_failing(&rt, alloc, &["complement", "uniq"]);
+    expect_failing(&rt, alloc, &["renumber", "nest", "uniq", "3"]);
+}
+
+/// Checks the status of words without an input, and that they write, or that they are mistaken and tell why.
+fn expect_status<T: Abort + Threads + Wait + Sync>(
+    rt: &T,
+    alloc: Global,
+    words: &[&str],
+    status: u8,
+) {
+    let ended = run_words(rt, alloc, words, &mut OverReader::new(b"".as_slice()));
+    assert_eq!(rt; ended.status, status, "{words:?}");
+    assert_eq!(rt; ended.written.is_empty(), status == 2, "{words:?}");
+    assert_eq!(rt; ended.told.is_empty(), status == 0, "{words:?}");
+}
+
+#[test]
+fn help(rt: HostRuntime) {
     for words in [
-        ["run"].as_slice(),
-        ["play"].as_slice(),
-        ["crew", "2"].as_slice(),
-        ["convert", "ascii", "json"].as_slice(),
-        ["check", "ascii"].as_slice(),
-        ["describe", "uniq"].as_slice(),
-        ["combine", "union", "uniq"].as_slice(),
-        ["draw", "json"].as_slice(),
-        ["degrade", "1", "ascii"].as_slice(),
-        ["complement", "uniq"].as_slice(),
-        ["renumber", "nest", "uniq", "3"].as_slice(),
+        ["--help"].as_slice(),
+        ["help"].as_slice(),
+        ["ring", "--help"].as_slice(),
+        ["--version"].as_slice(),
+        ["faults"].as_slice(),
+        ["help", "faults"].as_slice(),
+        ["crew", "--help"].as_slice(),
+        ["combine", "--help"].as_slice(),
+        ["renumber", "--help"].as_slice(),
     ] {
-        let mut input = Broken {
-            is_marked: false,
-            calls: 0,
-        };
-        let mut written = Vec::new(rt.alloc());
-        let mut told = Vec::new(rt.alloc());
-        let answered = program(
-            &rt,
-            rt.alloc(),
-            words,
-            &mut input,
-            &mut OverWriter::new(&mut written),
-            &mut OverWriter::new(&mut told),
-        );
-        assert_eq!(rt; answered, 3, "{words:?}");
-        assert_eq!(rt; input.calls, 1, "{words:?}");
-        assert!(rt; written.is_empty(), "{words:?}");
-        assert_eq!(rt; told.as_slice(), b"fault Read\n".as_slice(), "{words:?}");
+        expect_status(&rt, rt.alloc(), words, 0);
     }
 }
 
 #[test]
-fn help_and_mistakes(rt: HostRuntime) {
-    for (words, status) in [
-        (["--help"].as_slice(), 0),
-        (["help"].as_slice(), 0),
-        (["ring", "--help"].as_slice(), 0),
-        (["--version"].as_slice(), 0),
-        (["faults"].as_slice(), 0),
-        (["help", "faults"].as_slice(), 0),
-        ([].as_slice(), 2),
-        (["ring", "30", "0"].as_slice(), 2),
-        (["fly"].as_slice(), 2),
-        (["crew", "--help"].as_slice(), 0),
-        (["crew"].as_slice(), 2),
-        (["crew", "0"].as_slice(), 2),
-        (["crew", "65"].as_slice(), 2),
-        (["check"].as_slice(), 2),
-        (["describe", "fits"].as_slice(), 2),
-        (["combine", "union"].as_slice(), 2),
-        (["combine", "minus", "ascii"].as_slice(), 2),
-        (["combine", "--help"].as_slice(), 0),
-        (["draw"].as_slice(), 2),
-        (["degrade", "ascii"].as_slice(), 2),
-        (["complement", "fits"].as_slice(), 2),
-        (["renumber", "nest", "cell", "1"].as_slice(), 2),
-        (["renumber", "--help"].as_slice(), 0),
+fn mistakes(rt: HostRuntime) {
+    expect_status(&rt, rt.alloc(), &[], 2);
+    for words in [
+        ["ring", "30", "0"].as_slice(),
+        ["fly"].as_slice(),
+        ["crew"].as_slice(),
+        ["crew", "0"].as_slice(),
+        ["crew", "65"].as_slice(),
+        ["check"].as_slice(),
+        ["describe", "fits"].as_slice(),
+        ["combine", "union"].as_slice(),
+        ["combine", "minus", "ascii"].as_slice(),
+        ["draw"].as_slice(),
+        ["degrade", "ascii"].as_slice(),
+        ["complement", "fits"].as_slice(),
+        ["renumber", "nest", "cell", "1"].as_slice(),
     ] {
-        let mut written = Vec::new(rt.alloc());
-        let mut told = Vec::new(rt.alloc());
-        let answered = program(
-            &rt,
-            rt.alloc(),
-            words,
-            &mut OverReader::new(b"".as_slice()),
-            &mut OverWriter::new(&mut written),
-            &mut OverWriter::new(&mut told),
-        );
-        assert_eq!(rt; answered, status, "{words:?}");
-        assert_eq!(rt; written.is_empty(), status == 2, "{words:?}");
-        assert_eq!(rt; told.is_empty(), status == 0, "{words:?}");
+        expect_status(&rt, rt.alloc(), words, 2);
     }
 }
