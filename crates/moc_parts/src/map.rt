@@ -129,8 +129,8 @@ impl Map {
         self.part(part).count_common(other)
     }
 
-    /// Does one command, and replies to it: as `apply` does the batch of it, without a batch. An `add` or a `count` whose
-    /// operand lies in one part, and is not degraded, looks at the list of that part alone.
+    /// Does one command, and replies to it: as `apply` does the batch of it, without a batch. An `add` or a `count`
+    /// whose operand lies in one part, and is not degraded, looks at the list of that part alone.
     ///
     /// Refused where memory runs out; the map then is as it was.
     pub fn answer(&mut self, alloc: Global, command: &Command) -> Result<Reply, Memory>

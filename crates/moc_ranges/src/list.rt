@@ -179,9 +179,9 @@ impl RangeList {
         Ok(Self { few, nodes })
     }
 
-    /// Adds a range that lies in a gap of a block to the list of that block, and tells how many numbers are new. None where
-    /// somebody else has that list, or that of its node's blocks, too, it touches a range, or the block is full; the list
-    /// then is as it was. O(log n), and fewer ranges are looked at where they lie evenly.
+    /// Adds a range that lies in a gap of a block to the list of that block, and tells how many numbers are new. None
+    /// where somebody else has that list, or that of its node's blocks, too, it touches a range, or the block is full;
+    /// the list then is as it was. O(log n), and fewer ranges are looked at where they lie evenly.
     #[inline]
     pub fn insert_in_gap(&mut self, from: u64, to: u64) -> Result<Option<u64>, AllocError>
         requires filled { from < to }
@@ -198,11 +198,11 @@ impl RangeList {
         self.nodes.insert_in_gap(from, to)
     }
 
-    /// Adds a range where that changes one block alone, and tells how many numbers are new: the block is made anew, in its
-    /// place where nobody else has the node's list of blocks and it stays one block, and else in a new node with the
-    /// pointers to the others. None where the range touches more than one block, or a rule of lengths would be broken; the
-    /// list then is as it was. O(log n), but where a block is cut a step for each node behind, which then begins a block
-    /// later.
+    /// Adds a range where that changes one block alone, and tells how many numbers are new: the block is made anew, in
+    /// its place where nobody else has the node's list of blocks and it stays one block, and else in a new node with the
+    /// pointers to the others. None where the range touches more than one block, or a rule of lengths would be broken;
+    /// the list then is as it was. O(log n), but where a block is cut a step for each node behind, which then begins a
+    /// block later.
     pub fn insert(&mut self, alloc: Global, from: u64, to: u64) -> Result<Option<u64>, AllocError>
         requires filled { from < to }
         requires within { to ≤ pixel_count }

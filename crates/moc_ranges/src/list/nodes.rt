@@ -326,8 +326,8 @@ impl Nodes {
         Ok(())
     }
 
-    /// Adds a range where that changes one block alone, which is made anew, and tells how many numbers are new. None where
-    /// it does not, or a rule of lengths would be broken; the nodes then are as they were.
+    /// Adds a range where that changes one block alone, which is made anew, and tells how many numbers are new. None
+    /// where it does not, or a rule of lengths would be broken; the nodes then are as they were.
     pub fn insert(&mut self, alloc: Global, from: u64, to: u64) -> Result<Option<u64>, AllocError>
         requires stored { IsStored [] self.old }
         requires filled { from < to }
