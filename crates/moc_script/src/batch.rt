@@ -1,6 +1,6 @@
 //! The batch of commands that a line says.
 ghost use Rattle.std.specs.Prelude.{◌≡◌, ◌≤◌, length, nat_lt, if◌then◌else◌, OnOk};
-ghost use Rattle.std.specs.List.{count_by, list_any, position_or_len};
+ghost use Rattle.std.specs.List.{count_by, position_or_len};
 ghost use Rattle.moc_script.specs.Language.{command_of};
 ghost use Rattle.moc_script.specs.Batches.{is_semicolon, pieces_of, piece_says, batch_of, commands_of};
 ghost use Rattle.moc_script.specs.Private.Readings.{Reads};
@@ -18,13 +18,6 @@ pub(crate) fn first_semicolon(line: &[u8]) -> usize
     ensures within { result ≤ length line.now }
 {
     first_or_len(b';', line)
-}
-
-/// Whether a line has a semicolon.
-pub(crate) fn has_semicolon(line: &[u8]) -> bool
-    ensures { result ≡ list_any is_semicolon line.now }
-{
-    first_semicolon(line) < line.len()
 }
 
 /// How many semicolons stand in a line.

@@ -1,13 +1,13 @@
 //! One lane of a crew: a thread with a client of its own.
 ghost use Rattle.std.specs.Prelude.{◌≡◌, ◌<◌, [], false, true, OnOk};
-ghost use Rattle.std.specs.List.{list_any};
+ghost use Rattle.std.specs.List.{list_any, position_or_len};
 ghost use Rattle.moc_shared.specs.Clients.{IsClientOf, number_of, record_of};
 ghost use Rattle.moc_script.specs.Words.{is_blank};
 ghost use Rattle.moc_script.specs.Batches.{is_semicolon};
 ghost use Rattle.moc_script.specs.Private.LaneEnds.{Made, AddsAnswer, GoesBefore, IsLaneEnd, line_at};
 
 use crate::answer::push_fault;
-use crate::batch::{has_semicolon, read_batch};
+use crate::batch::{first_semicolon, read_parted};
 use crate::command::read_command;
 use crate::crews::gate::Gate;
 use crate::crews::lines::LaneLines;
@@ -78,31 +78,34 @@ fn answer_line<R: Wait>(
         (AddsAnswer (number_of client.old) line.now (record_of client.old) (record_of client.new)
         answers.old.items answers.new.items) }
 {
-    if has_semicolon(line) {
-        answer_batch(rt, alloc, map, client, line, answers)
+    let first = first_semicolon(line);
+    if first < line.len() {
+        answer_batch(rt, alloc, map, client, line, first, answers)
     } else {
         answer_command(rt, alloc, map, client, line, answers)
     }
 }
 
-/// Does the batch that a line says, and puts its answer behind the others.
+/// Does the batch that a line says whose first semicolon stands at this place, and puts its answer behind the others.
 fn answer_batch<R: Wait>(
     rt: &R,
     alloc: Global,
     map: &SharedMap,
     client: &mut Client,
     line: &[u8],
+    first: usize,
     answers: &mut Vec<u8>,
 ) -> Result<(), Memory>
     requires map { IsClientOf map.now client.old }
     requires said { is_blank line.now ≡ false }
+    requires first { first ≡ position_or_len is_semicolon line.now }
     ensures map { IsClientOf map.now client.new }
     ensures number { number_of client.new ≡ number_of client.old }
     ensures answers { OnOk result
         (AddsAnswer (number_of client.old) line.now (record_of client.old) (record_of client.new)
         answers.old.items answers.new.items) }
 {
-    match read_batch(alloc, line) {
+    match read_parted(alloc, line, first) {
         Ok(batch) => {
             let replies = map.apply(rt, client, &batch)?;
             push_reply_line(alloc, replies.as_slice(), answers)
