@@ -46,57 +46,54 @@ y_more k i =
     let e = ap (y_of k) deep in
     omega (arith, e)
 
--- x and y of all thirty digits, by five of them each
-pub record ArePlaces (s : ℕ) (a b c d e f : ℕ) : Type 0 where
-  pub first : a ≡ x_of 5 s + 4294967296 * y_of 5 s
-  pub second : b ≡ x_of 5 (s / 1024) + 4294967296 * y_of 5 (s / 1024)
-  pub third : c ≡ x_of 5 (s / 1048576) + 4294967296 * y_of 5 (s / 1048576)
-  pub fourth : d ≡ x_of 5 (s / 1073741824) + 4294967296 * y_of 5 (s / 1073741824)
-  pub fifth : e ≡ x_of 5 (s / 1099511627776) + 4294967296 * y_of 5 (s / 1099511627776)
-  pub sixth : f ≡ x_of 5 (s / 1125899906842624) + 4294967296 * y_of 5 (s / 1125899906842624)
+-- x and y of fifteen digits, by five of them each
+x_fifteen : (s : ℕ) → x_of 15 s ≡ x_of 5 s + 32 * x_of 5 (s / 1024) + 1024 * x_of 5 (s / 1048576)
+x_fifteen s =
+    let e : s / 1024 / 1024 ≡ s / 1048576 = omega arith in
+    omega (arith, x_more 10 s, x_more 5 (s / 1024) ∙ ap (λ n. x_of 5 (s / 1024) + 32 * x_of 5 n) e)
 
-x_whole : (s : ℕ) → x_of 30 s ≡ x_of 5 s + 32 * x_of 5 (s / 1024) + 1024 * x_of 5 (s / 1048576) + 32768 * x_of 5 (s / 1073741824)
-    + 1048576 * x_of 5 (s / 1099511627776) + 33554432 * x_of 5 (s / 1125899906842624)
-x_whole s =
+y_fifteen : (s : ℕ) → y_of 15 s ≡ y_of 5 s + 32 * y_of 5 (s / 1024) + 1024 * y_of 5 (s / 1048576)
+y_fifteen s =
+    let e : s / 1024 / 1024 ≡ s / 1048576 = omega arith in
+    omega (arith, y_more 10 s, y_more 5 (s / 1024) ∙ ap (λ n. y_of 5 (s / 1024) + 32 * y_of 5 n) e)
+
+pub fifteen_together : (s a b c : ℕ) → a ≡ x_of 5 s + 4294967296 * y_of 5 s → b ≡ x_of 5 (s / 1024) + 4294967296 * y_of 5 (s / 1024)
+    → c ≡ x_of 5 (s / 1048576) + 4294967296 * y_of 5 (s / 1048576)
+    → a + 32 * b + 1024 * c ≡ x_of 15 s + 4294967296 * y_of 15 s
+fifteen_together s a b c first second third = omega (arith, x_fifteen s, y_fifteen s)
+
+-- x and y of thirty digits, by fifteen of them each
+x_thirty : (s : ℕ) → x_of 30 s ≡ x_of 15 s + 32768 * x_of 15 (s / 1073741824)
+x_thirty s =
     let e1 : s / 1024 / 1024 ≡ s / 1048576 = omega arith in
     let e2 : s / 1048576 / 1024 ≡ s / 1073741824 = omega arith in
-    let e3 : s / 1073741824 / 1024 ≡ s / 1099511627776 = omega arith in
-    let e4 : s / 1099511627776 / 1024 ≡ s / 1125899906842624 = omega arith in
     let a = x_more 25 s in
     let b = x_more 20 (s / 1024) ∙ ap (λ n. x_of 5 (s / 1024) + 32 * x_of 20 n) e1 in
     let c = x_more 15 (s / 1048576) ∙ ap (λ n. x_of 5 (s / 1048576) + 32 * x_of 15 n) e2 in
-    let d = x_more 10 (s / 1073741824) ∙ ap (λ n. x_of 5 (s / 1073741824) + 32 * x_of 10 n) e3 in
-    let e = x_more 5 (s / 1099511627776) ∙ ap (λ n. x_of 5 (s / 1099511627776) + 32 * x_of 5 n) e4 in
-    omega (arith, a, b, c, d, e)
+    omega (arith, a, b, c, x_fifteen s)
 
-y_whole : (s : ℕ) → y_of 30 s ≡ y_of 5 s + 32 * y_of 5 (s / 1024) + 1024 * y_of 5 (s / 1048576) + 32768 * y_of 5 (s / 1073741824)
-    + 1048576 * y_of 5 (s / 1099511627776) + 33554432 * y_of 5 (s / 1125899906842624)
-y_whole s =
+y_thirty : (s : ℕ) → y_of 30 s ≡ y_of 15 s + 32768 * y_of 15 (s / 1073741824)
+y_thirty s =
     let e1 : s / 1024 / 1024 ≡ s / 1048576 = omega arith in
     let e2 : s / 1048576 / 1024 ≡ s / 1073741824 = omega arith in
-    let e3 : s / 1073741824 / 1024 ≡ s / 1099511627776 = omega arith in
-    let e4 : s / 1099511627776 / 1024 ≡ s / 1125899906842624 = omega arith in
     let a = y_more 25 s in
     let b = y_more 20 (s / 1024) ∙ ap (λ n. y_of 5 (s / 1024) + 32 * y_of 20 n) e1 in
     let c = y_more 15 (s / 1048576) ∙ ap (λ n. y_of 5 (s / 1048576) + 32 * y_of 15 n) e2 in
-    let d = y_more 10 (s / 1073741824) ∙ ap (λ n. y_of 5 (s / 1073741824) + 32 * y_of 10 n) e3 in
-    let e = y_more 5 (s / 1099511627776) ∙ ap (λ n. y_of 5 (s / 1099511627776) + 32 * y_of 5 n) e4 in
-    omega (arith, a, b, c, d, e)
+    omega (arith, a, b, c, y_fifteen s)
+
+pub together : (s a b : ℕ) → a ≡ x_of 15 s + 4294967296 * y_of 15 s → b ≡ x_of 15 (s / 1073741824) + 4294967296 * y_of 15 (s / 1073741824)
+    → a + 32768 * b ≡ x_of 30 s + 4294967296 * y_of 30 s
+together s a b low high = omega (arith, x_thirty s, y_thirty s)
+
+none_above : (s : ℕ) → s / 1073741824 ≡ 0 → x_of 15 (s / 1073741824) + 4294967296 * y_of 15 (s / 1073741824) ≡ 0
+unfolding x_of y_of
+none_above s none = ap (λ n. x_of 15 n + 4294967296 * y_of 15 n) none
+
+pub alone : (s a : ℕ) → s / 1073741824 ≡ 0 → a ≡ x_of 15 s + 4294967296 * y_of 15 s → a ≡ x_of 30 s + 4294967296 * y_of 30 s
+alone s a none low = omega (arith, together s a 0 low (sym (none_above s none)))
 
 pub places_small : (i a : ℕ) → a ≡ x_of 5 i + 4294967296 * y_of 5 i → a < 137438953472
 places_small i a is =
     let x = x_of-lt 5 i in
     let y = y_of-lt 5 i in
     omega arith
-
--- put together
-pub together : (s a b c d e f : ℕ) → ArePlaces s a b c d e f
-    → a + 32 * b + 1024 * c + 32768 * d + 1048576 * e + 33554432 * f ≡ x_of 30 s + 4294967296 * y_of 30 s
-together s a b c d e f w =
-    let first = w.first in
-    let second = w.second in
-    let third = w.third in
-    let fourth = w.fourth in
-    let fifth = w.fifth in
-    let sixth = w.sixth in
-    omega (arith, x_whole s, y_whole s)
