@@ -199,10 +199,10 @@ impl RangeList {
     }
 
     /// Adds a range where that changes one block alone, and tells how many numbers are new: the block is made anew, in
-    /// its place where nobody else has the node's list of blocks and it stays one block, and else in a new node with the
-    /// pointers to the others. None where the range touches more than one block, or a rule of lengths would be broken;
-    /// the list then is as it was. O(log n), but where a block is cut a step for each node behind, which then begins a
-    /// block later.
+    /// its place where nobody else has the node's list of blocks and it stays one block, and else in a new node with
+    /// the pointers to the others. None where the range touches more than one block, or a rule of lengths would be
+    /// broken; the list then is as it was. O(log n), but where a block is cut a step for each node behind, which then
+    /// begins a block later.
     pub fn insert(&mut self, alloc: Global, from: u64, to: u64) -> Result<Option<u64>, AllocError>
         requires filled { from < to }
         requires within { to ≤ pixel_count }
