@@ -43,7 +43,7 @@ INVERSIONS = (b"add 9/" + b" ".join(b"%d" % cell for cell in range(0, 60_000, 2)
               + (b" ; ".join([b"invert"] * 16) + b"\n") * 20_000)
 # The calls of a running map that `refusals calls` makes, in order.
 CALLS = [b"new", b"try_apply of an update", b"try_apply of a query", b"apply of an update", b"apply of a query",
-         b"finish of an update", b"finish of a query", b"answer", b"close"]
+         b"finish of an update", b"finish of a query", b"answer of an add", b"answer of an add to a shared list", b"answer", b"close"]
 FIGURES = b"deepest 2\npixels 306244774661193728\nshare 0.088541666666\nranges 2\ncells 2\norder 0 1\norder 2 1\n"
 RINGS = b"13\n0\nfault CellTooLarge\n27\nfault WrongCount\nfault BadNumber\n35\n"
 LONGEST_LINE = 1_048_576

@@ -64,8 +64,9 @@ fn work<R: Wait>(rt: &R, alloc: Global, map: &SharedMap, client: &mut Client) ->
     let common = Batch::one(alloc, Command::Add(Operand { set, coarse: None }))?;
     let first = map.try_apply(client, &own)?;
     let second = map.apply(rt, client, &common)?;
-    match (pixels(&first), pixels(&second)) {
-        (Some(first), Some(second)) => Ok(first.saturating_add(second)),
+    let third = map.answer(rt, client, Command::Count(cell(alloc, number)?))?;
+    match (pixels(&first), pixels(&second), third) {
+        (Some(first), Some(second), Reply::Total(CELL)) => Ok(first.saturating_add(second)),
         _ => bail!("no count"),
     }
 }

@@ -204,7 +204,7 @@ fn answered<R: Wait>(rt: &R, map: &SharedMap, client: &mut Client, command: Comm
 }
 
 #[test]
-fn one_command_is_done_without_a_batch(rt: HostRuntime) {
+fn single_commands(rt: HostRuntime) {
     let alloc = rt.alloc();
     let (map, mut a, mut b) = two(&rt, alloc, Coverage::empty(alloc));
     let three = Command::Add(base(&rt, alloc, 3, 4));

@@ -1,5 +1,5 @@
 //! What the words of the command line make the program do.
-ghost use Rattle.std.specs.Prelude.{◌≡◌, ◌≢◌, ◌≤◌, ◌⊎◌, ◌++◌, ◌∷◌, [], ℕ, List, false, true};
+ghost use Rattle.std.specs.Prelude.{◌≡◌, ◌≢◌, ◌⊎◌, ◌++◌, ◌∷◌, [], false, true};
 ghost use Rattle.std.specs.Prelude.{map, IfOk, IfErr, MatchResult, Ok, OnOk};
 ghost use Rattle.std.specs.Prelude.{IsErrOf, IsTrue, is_err};
 ghost use Rattle.std.specs.Io.KnownBytes.{Appends};

@@ -1,5 +1,5 @@
 //! The answers to lines, by a map.
-ghost use Rattle.std.specs.Prelude.{◌≡◌, ◌++◌, ◌∷◌, [], OnOk, codes};
+ghost use Rattle.std.specs.Prelude.{◌≡◌, ◌++◌, OnOk};
 ghost use Rattle.std.specs.List.{position_or_len};
 ghost use Rattle.moc_script.specs.Batches.{after_batch, answer_to, batch_of, is_semicolon};
 ghost use Rattle.moc_script.specs.Faults.{fault_line};

@@ -37,7 +37,8 @@ fn read_piece(alloc: Global, piece: &[u8]) -> Result<Command, ReadError>
     read_command(alloc, piece)
 }
 
-/// What the pieces of a line say, of which the first ends at this place; with more than 16 any fault.
+/// What the pieces of a line say, of which the first ends at this place. A line of more than 16 is an error; which of
+/// them is not told.
 fn read_pieces(alloc: Global, line: &[u8], first: usize) -> Result<Vec<Command>, ReadError>
     requires { first ≡ position_or_len is_semicolon line.now }
     ensures few { OnOk result (length (pieces_of line.now) ≤ MOST_COMMANDS) }

@@ -1,10 +1,12 @@
 -- A command that takes one part alone.
-use Rattle.std.proofs.Common.{◌≡◌, ◌≢◌, ℕ, ◌/◌, ◌&&◌, ◌||◌, Bool, true, false, true≢false, nat_eq, List, [], ◌∷◌, ◌++◌, length}
+use Rattle.std.proofs.Common.{◌≡◌, ◌≢◌, ℕ, ◌/◌, ◌&&◌, ◌||◌, Bool, true, false, not, true≢false, nat_eq, List, [], ◌∷◌, ◌++◌, length}
 use Rattle.std.proofs.Common.{refl, sym, ap, ◌∙◌, subst, inl, eq-eqb, eqb-true, ne_eqb, Contains, Option, Some, IsTrue}
 use Rattle.std.proofs.Common.{Result, Ok, Err, IfOk, OnErr}
 use Rattle.atomic_table.specs.Table.{Me}
 use native.Mathlib.Decide.{ℕ_discrete}
+use Rattle.std.specs.Cmp.{nat_cmp_total}
 use Rattle.std.specs.FinSet as finset
+use Rattle.std.specs.Ordering.{nat_cmp}
 use Rattle.moc_ranges.specs.Numbers.{NumberSet, same_members}
 use Rattle.moc_ranges.specs.Pixels.{base_pixel_size, pixels}
 use Rattle.moc_ranges.specs.Operations.{part_of, contains-part_of, IsWithin}
@@ -18,7 +20,7 @@ use Rattle.moc_shared.specs.History.{entry, IsLegal}
 use Rattle.moc_shared.specs.Rule.{note, IsOne}
 use Rattle.moc_shared.specs.Seats.{Pointer, PartNote, Sight, IsCarried, part, IsProper}
 use Rattle.moc_shared.specs.Private.Answering.{Answers}
-use Rattle.moc_shared.specs.Private.Held.{HoldsAlone}
+use Rattle.moc_shared.specs.Private.Held.{HoldsJust}
 use Rattle.moc_shared.specs.Private.Plays.{with_part, with_parts, with_misses, with_holds, marked_at}
 use Rattle.moc_shared.specs.Private.Slots.{EndsBatch, AreWaits, just, touched_by}
 use Rattle.moc_shared.specs.Batches.{BatchEntry, BatchRecord, answer}
@@ -42,6 +44,27 @@ both_true false y e = absurd (true≢false (sym e))
 
 some_inside : (a b : NumberSet) → Some a ≡ Some b → a ≡ b
 some_inside a b e = cc
+
+-- ---- what is there already
+
+old_or : (a b : Bool) → (b ≡ true → a ≡ true) → a ≡ (a || b)
+old_or true b has = refl
+old_or false true has = absurd (true≢false (sym (has refl)))
+old_or false false has = refl
+
+new_not : (a b : Bool) → (b ≡ true → a ≡ true) → (b && not a) ≡ false
+new_not true true has = refl
+new_not true false has = refl
+new_not false true has = absurd (true≢false (sym (has refl)))
+new_not false false has = refl
+
+pub union_there : (a b : NumberSet) → finset.is_subset b a ≡ true → a ≡ finset.union a b
+union_there a b all = same_members _ _ (λ q. old_or (finset.contains a q) (finset.contains b q) (finset.is_subset-contains nat_cmp_total b a all q) ∙ sym (finset.contains-union nat_cmp_total a b q))
+
+pub none_new : (a b : NumberSet) → finset.is_subset b a ≡ true → 0 ≡ finset.len (finset.difference b a)
+none_new a b all =
+    let none : finset.difference b a ≡ finset.empty = same_members _ _ (λ q. finset.contains-difference nat_cmp_total b a q ∙ new_not (finset.contains a q) (finset.contains b q) (finset.is_subset-contains nat_cmp_total b a all q) ∙ sym (finset.contains-empty nat_cmp q)) in
+    sym (ap finset.len none ∙ finset.len-empty nat_cmp)
 
 -- ---- what it answers, by locality
 
@@ -179,7 +202,7 @@ stays_answered all v w (Err e) ok err = stays_given v w err
 
 pub holds_alone : (init : Sight) (me : Me (Option Pointer) Sight) (b : ℕ) (a : NumberSet) (waits : List (ℕ × ℕ))
     → IsOne init → me.0 ≡ with_parts (with_misses init waits) (note b (Some a) ∷ []) → IsCarried me
-    → HoldsAlone b a me
+    → HoldsJust b a me
 holds_alone init me b a waits one is carried = record {
   client = subst (λ (v : Sight). IsOne v) (sym is) (one.0, one.1);
   carried = carried;

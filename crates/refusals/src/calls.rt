@@ -250,6 +250,36 @@ fn read<R: Wait>(rt: &R, alloc: Global, call: Call) -> Result<Outcome> {
     settled(outcome, stands(alloc, map, a, b, &set))
 }
 
+/// What a query sees, if there is one, with the client.
+fn look_first(map: &SharedMap, client: Client, query: Option<Batch>) -> (Client, Option<Snapshot>)
+    requires { IsClientOf map.now client }
+    ensures { IsClientOf map.now result.0 }
+{
+    match query {
+        Some(query) => look(map, client, query),
+        None => (client, None),
+    }
+}
+
+/// How an add by `answer` comes out, to a list that a snapshot of this query shares, or to one of the map alone.
+fn add<R: Wait>(rt: &R, alloc: Global, query: Option<Batch>) -> Result<Outcome> {
+    let (map, a, b) = open(alloc)?;
+    let (mut a, snapshot) = look_first(&map, a, query);
+    let more = Command::Add(operand(alloc, BASE + 2, BASE + 4)?);
+    let outcome = match map.answer(rt, &mut a, more) {
+        Ok(Reply::Changed(2)) => Outcome::Done,
+        Err(Memory) => Outcome::Refused,
+        Ok(_) => Outcome::Spoiled,
+    };
+    drop(snapshot);
+    let left: &[(u64, u64)] = match outcome {
+        Outcome::Done => &[(0, BASE), (BASE + 2, BASE + 4)],
+        Outcome::Refused | Outcome::Spoiled => &[(0, BASE)],
+    };
+    let set = Coverage::from_ranges(alloc, left)?;
+    settled(outcome, stands(alloc, map, a, b, &set))
+}
+
 /// How the answer of a snapshot comes out.
 fn shown(answer: &Result<Replies, Memory>, set: &Coverage) -> Outcome {
     match answer {
@@ -311,6 +341,12 @@ pub fn tell<R: Print + Wait>(rt: &R, alloc: Global) -> Result<()> {
         println!(rt; "{call} of an update: {}", invert(rt, alloc, call)?)?;
         println!(rt; "{call} of a query: {}", read(rt, alloc, call)?)?;
     }
+    println!(rt; "answer of an add: {}", add(rt, alloc, None)?)?;
+    let query = Batch::one(alloc, Command::Read(operand(alloc, BASE, 2 * BASE)?))?;
+    println!(rt;
+        "answer of an add to a shared list: {}",
+        add(rt, alloc, Some(query))?
+    )?;
     println!(rt; "answer: {}", answer_twice(alloc)?)?;
     println!(rt; "close: {}", close(alloc)?)?;
     Ok(())

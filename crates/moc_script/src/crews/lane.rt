@@ -115,7 +115,7 @@ fn answer_batch<R: Wait>(
     }
 }
 
-/// Does the one command that a line says, and puts its answer behind the others: as the batch of it, without a list.
+/// Does the one command that a line says, and puts its answer behind the others: as the batch of it.
 fn answer_command<R: Wait>(
     rt: &R,
     alloc: Global,

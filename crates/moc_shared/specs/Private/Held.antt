@@ -1,11 +1,10 @@
--- What a client has in its hands while it answers a batch.
+-- What a client has in its hands while it answers a batch, or one command.
 use Rattle.std.specs.Prelude.{◌≡◌, ℕ, nat_eq, List, [], ◌∷◌, Option, Some}
 use Rattle.atomic_table.specs.Table.{Me}
 use Rattle.moc_ranges.specs.Numbers.{NumberSet}
 use Rattle.moc_parts.specs.Commands.{footprint, operand_set, IsCommand}
 use Rattle.moc_parts.specs.declared.command.Command.{Command}
-use Rattle.moc_parts.specs.declared.command.Command.TheVariants.{Add, Remove, Keep, Claim, Invert, Degrade, Count, Read}
-use Rattle.moc_parts.specs.declared.command.Command.TheVariants.{Near}
+use Rattle.moc_parts.specs.declared.command.Command.TheVariants.{Add, Count}
 use Rattle.moc_shared.specs.Rule.{note, IsOne}
 use Rattle.moc_shared.specs.Seats.{IsCarried, notes_below, AreOwn, IsFootprint, Pointer, Sight}
 
@@ -22,23 +21,17 @@ pub record HoldsFootprint (batch : List Command) (found : List (Option Pointer))
 -- an add or a count of a set that is not degraded
 abbrev pub IsPlain : Command → Type 0
 IsPlain (Add x) = operand_set x ≡ x.set
-IsPlain (Remove x) = ⊥
-IsPlain (Keep x) = ⊥
-IsPlain (Claim x) = ⊥
-IsPlain Invert = ⊥
-IsPlain (Degrade order) = ⊥
 IsPlain (Count x) = operand_set x ≡ x.set
-IsPlain (Read x) = ⊥
-IsPlain (Near c) = ⊥
+IsPlain _ = ⊥
 
--- such a command takes this part alone
-pub record IsAlone (c : Command) (b : ℕ) : Type 0 where
+-- such a command takes just this part
+pub record TakesJust (c : Command) (b : ℕ) : Type 0 where
   pub met : (k : ℕ) → footprint c k ≡ nat_eq b k
   pub plain : IsPlain c
   pub proper : IsCommand c
 
--- a client alone holds this part alone, and this set was found there
-pub record HoldsAlone (b : ℕ) (found : NumberSet) (me : Me (Option Pointer) Sight) : Type 0 where
+-- one client holds just this part, and this set was found there
+pub record HoldsJust (b : ℕ) (found : NumberSet) (me : Me (Option Pointer) Sight) : Type 0 where
   pub client : IsOne me.0
   pub carried : IsCarried me
   pub held : me.0.holds ≡ note b (Some found) ∷ []

@@ -4,7 +4,7 @@ ghost use Rattle.std.specs.Arc.{arc_value};
 ghost use Rattle.std.specs.FinSet as set;
 ghost use Rattle.moc_parts.specs.Commands.{reply_on, set_after};
 ghost use Rattle.moc_shared.specs.Rule.{index};
-ghost use Rattle.moc_shared.specs.Private.Held.{HoldsAlone, IsAlone, IsPlain};
+ghost use Rattle.moc_shared.specs.Private.Held.{HoldsJust, TakesJust, IsPlain};
 ghost use Rattle.moc_shared.specs.Private.Plays.{with_holds};
 ghost use Rattle.moc_shared.specs.Private.Slots.{EndsBatch};
 
@@ -20,7 +20,7 @@ use std::sync::Arc;
 /// The part that a command takes, where it adds a set that lies in one part, or counts one range there, and the set is
 /// not degraded.
 fn part_alone(command: &Command) -> Option<Part>
-    ensures { IfSome result (λ b. IsAlone command.now b) }
+    ensures { IfSome result (λ b. TakesJust command.now b) }
 {
     match command {
         Command::Add(x) => x.own_part(),
@@ -30,15 +30,16 @@ fn part_alone(command: &Command) -> Option<Part>
     }
 }
 
-/// The place of that part.
+/// The place of the part that a command takes alone.
 pub(crate) fn place_alone(command: &Command) -> Option<usize>
-    ensures { IfSome result (λ b. (b < 12) × IsAlone command.now b) }
+    ensures { IfSome result (λ b. (b < 12) × TakesJust command.now b) }
 {
     let part = part_alone(command)?;
     Some(usize::from(part.get()))
 }
 
-/// Adds a set to the one that a pointer shares, and tells how many pixels are new: in place where nobody else has it.
+/// Adds a set to the one that a pointer shares, and tells how many pixels are new: to the list itself where nobody else
+/// has that, and else to a copy, but for what is there already.
 fn insert_shared(alloc: Global, pointer: &mut Pointer, more: &Coverage) -> Result<u64, Memory>
     ensures set { OnOk result (arc_value pointer.new ≡ set.union (arc_value pointer.old) more.now) }
     ensures added { IfOk result (λ n. n ≡ set.len (set.difference more.now (arc_value pointer.old))) }
@@ -50,12 +51,15 @@ fn insert_shared(alloc: Global, pointer: &mut Pointer, more: &Coverage) -> Resul
     }
 }
 
-/// The same in a copy, which the pointer then shares.
+/// The same in a copy, which the pointer then shares, unless all is there already.
 fn insert_anew(alloc: Global, pointer: &mut Pointer, more: &Coverage) -> Result<u64, Memory>
     ensures set { OnOk result (arc_value pointer.new ≡ set.union (arc_value pointer.old) more.now) }
     ensures added { IfOk result (λ n. n ≡ set.len (set.difference more.now (arc_value pointer.old))) }
     ensures unchanged { OnErr result (arc_value pointer.new ≡ arc_value pointer.old) }
 {
+    if pointer.covers(more) {
+        return Ok(0);
+    }
     let mut list = pointer.try_copy(alloc)?;
     let added = list.insert_all(alloc, more)?;
     *pointer = share(alloc, list)?;
@@ -76,7 +80,7 @@ fn answer_in(alloc: Global, command: &Command, pointer: &mut Pointer) -> Result<
     }
 }
 
-/// The command on the one part that is held, which is given back: it went through, or nothing changed.
+/// Does the command on the one part that is held, and gives the part back: it went through, or nothing changed.
 pub(crate) fn answer_alone(
     table: &Words,
     alloc: Global,
@@ -86,8 +90,8 @@ pub(crate) fn answer_alone(
     command: &Command,
 ) -> Result<Reply, Memory>
     requires place { (seat.old.table_id ≡ table.now.table_id) × (table.now.table_id.words ≡ index 12) × (b < 12) }
-    requires held { HoldsAlone b (arc_value pointer) seat.old.me }
-    requires alone { IsAlone command.now b }
+    requires held { HoldsJust b (arc_value pointer) seat.old.me }
+    requires alone { TakesJust command.now b }
     ensures same { (seat.new.table_id ≡ seat.old.table_id) × (seat.new.id ≡ seat.old.id) }
     ensures idle { seat.new.me.1 ≡ [] }
     ensures ok { IfOk result (λ r. EndsBatch (command.now ∷ []) (r ∷ []) [] seat.old.me.0 seat.new.me.0) }

@@ -1,7 +1,7 @@
 //! One command on a map.
 ghost use Rattle.std.specs.Prelude.{◌≡◌, ◌<◌, [], ◌∷◌, IfOk, OnErr};
 ghost use Rattle.moc_shared.specs.Clients.{number_of, record_of, call_of, IsClientOf, EndsWaiting, FailsWaiting};
-ghost use Rattle.moc_shared.specs.Private.Held.{IsAlone};
+ghost use Rattle.moc_shared.specs.Private.Held.{TakesJust};
 
 use crate::client::Client;
 use crate::held::alone::{answer_alone, place_alone};
@@ -12,11 +12,11 @@ use moc_ranges::Memory;
 use std::sync::Wait;
 
 impl SharedMap {
-    /// Does one command, and replies to it: as `apply` does the batch of it.
+    /// Does one command, and replies to it, as `apply` does the batch of it: it waits for parts that are held.
     ///
     /// An `add` whose operand lies in one part and is not degraded, and a `count` of one range there, make no batch:
-    /// they take that part alone, and an `add` changes its list where it stands, unless a snapshot shares it. The
-    /// command is given up. Refused where memory runs out.
+    /// they take that part alone. One range goes into the part's list itself where nobody shares that, and into a copy
+    /// else; several are a union. The command is given up. Refused where memory runs out.
     pub fn answer<R: Wait>(
         &self,
         rt: &R,
@@ -46,7 +46,7 @@ impl SharedMap {
         b: usize,
     ) -> Result<Reply, Memory>
         requires map { IsClientOf self.now client.old }
-        requires alone { (b < 12) × IsAlone command.now b }
+        requires alone { (b < 12) × TakesJust command.now b }
         ensures map { IsClientOf self.now client.new }
         ensures number { number_of client.new ≡ number_of client.old }
         ensures ok { IfOk result (λ r. EndsWaiting self.now (call_of client.old (command.now ∷ []) (r ∷ []))
