@@ -53,7 +53,7 @@ abbrev pub cells_in : ℕ → List (ℕ × ℕ) → List CellNumber
 cells_in order [] = []
 cells_in order (range ∷ ranges) = cells_of_range order range ++ cells_in order ranges
 
--- the cells have orders from the first up to, not including, the last
+-- the cells have orders from the first up to, not including, the one after the last
 abbrev pub AreOfOrders : ℕ → ℕ → List CellNumber → Type 0
 AreOfOrders first last cells = AllByRecursion (λ c. (first ≤ c.order) × (c.order < last)) cells
 

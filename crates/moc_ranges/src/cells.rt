@@ -1,4 +1,4 @@
-//! The cells of ranges, and the orders that they can have.
+//! From runs to cells, and the orders that cells of ranges can have.
 ghost use Rattle.std.specs.Prelude.{◌≡◌, ◌++◌, ◌<◌, ◌≤◌, ℕ, OnOk};
 ghost use Rattle.std.specs.List.{AllByRecursion};
 ghost use Rattle.moc_sphere.specs.CellNumber.{cell_count, IsCell};

@@ -229,7 +229,8 @@ impl Coverage {
         self.insert_in_blocks(alloc, from, to)
     }
 
-    /// The same by a block that is made anew, or by a union, where the set lacks any of the range.
+    /// The same where the set lacks any of the range: by a list of few ranges or a block that is made anew, or by a
+    /// union.
     fn insert_in_blocks(&mut self, alloc: Global, from: u64, to: u64) -> Result<u64, Memory>
         requires filled { from < to }
         requires within { to ≤ pixel_count }

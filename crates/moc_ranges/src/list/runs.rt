@@ -8,7 +8,7 @@ use crate::list::ahead::{Ahead, Begun, begin_node};
 use crate::list::block::Block;
 use crate::list::node::Node;
 
-/// How far from the place where a count is thought to be it is looked for first.
+/// How far round a guess a count is looked for first.
 const NEAR: usize = 8;
 
 /// What has one or more ranges in rising order: a range, a block, a node.
@@ -93,8 +93,7 @@ impl Run for Node {
     }
 }
 
-/// How many of the runs end by a number, of which those before `low` do, and one of the next `size` or the one behind
-/// them does not, if there are so many. O(log size).
+/// How many of the runs end by a number, where all before `low` do, and none from `low + size` on does. O(log size).
 #[inline]
 fn count_ended_from<T: Run>(runs: &[T], limit: u64, low: usize, size: usize) -> usize
     requires normal { IsNormal (joined T.ranges runs.now) }
@@ -129,7 +128,7 @@ pub(crate) fn count_ended<T: Run>(runs: &[T], limit: u64) -> usize
     count_ended_from(runs, limit, 0, runs.len())
 }
 
-/// As `count_ended`, where that is about so many: others are looked at only where it is not. O(log n).
+/// As `count_ended`, by a guess: the runs round it are looked at first, and others only where it is far off. O(log n).
 #[inline]
 pub(crate) fn count_ended_about<T: Run>(runs: &[T], limit: u64, about: usize) -> usize
     requires { IsNormal (joined T.ranges runs.now) }
