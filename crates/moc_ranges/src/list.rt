@@ -181,8 +181,8 @@ impl RangeList {
 
     /// Adds a range that lies in a gap of a block to the list of that block, and tells how many numbers are new. None
     /// where the list has no blocks, somebody else has that of the block, or of its node's blocks, too, the range
-    /// touches another, or the block is full; the list then is as it was. O(log n), and fewer ranges are looked at where
-    /// they lie evenly.
+    /// touches another, or the block is full; the list then is as it was. O(log n), and fewer ranges are looked at
+    /// where they lie evenly.
     #[inline]
     pub fn insert_in_gap(&mut self, from: u64, to: u64) -> Result<Option<u64>, AllocError>
         requires filled { from < to }
