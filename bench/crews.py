@@ -1,6 +1,7 @@
 #!/usr/bin/env python3
 """Times scripts through `moc crew`: lanes on parts of their own beside one lane and beside as many processes that share
-nothing, and one lane beside `moc run`. Prints milliseconds, the least and the median of so many of each, in turn in one run.
+nothing, and one lane beside `moc run`, also of ten times as many lines and of none. Prints milliseconds, the least and
+the median of so many of each, in turn in one run.
 
     bench/crews.py [REPEATS]"""
 import os
@@ -64,7 +65,11 @@ def main():
     processors = os.cpu_count()
     with tempfile.TemporaryDirectory() as folder:
         one = script(folder, "one", [small(0, rng) for _ in range(LINES)])
+        ten = script(folder, "ten", [small(0, rng) for _ in range(10 * LINES)])
+        none = script(folder, "none", [])
         kinds = [("crew 1 of one part", [(["crew", "1"], one)]), ("run of the same", [(["run"], one)])]
+        kinds += [("crew 1, ten times as many lines", [(["crew", "1"], ten)]), ("run of as many", [(["run"], ten)])]
+        kinds += [("crew 1 of no line", [(["crew", "1"], none)]), ("run of no line", [(["run"], none)])]
         for lanes in sorted({2, processors}):
             path = script(folder, f"small{lanes}", [small(at % lanes, rng) for at in range(lanes * LINES)])
             kinds.append((f"crew {lanes}, as many lines a lane", [(["crew", str(lanes)], path)]))

@@ -43,17 +43,17 @@ PLANTS = [
     # crews
     Plant("crew_names_the_greatest_refused_line", "moc_script", "src/crews/lane.rt",
           "Unfinished::Refused { line: b }) => a <= b,", "Unfinished::Refused { line: b }) => a >= b,", "prove"),
-    Plant("last_line_without_a_line_feed_is_not_counted", "moc_script", "src/crews/reading.rt",
+    Plant("last_line_without_a_line_feed_is_not_counted", "moc_lines", "src/reading.rt",
           "        Some(_) => whole + 2,", "        Some(_) => whole + 1,", "prove"),
     Plant("crew_tells_spawn_as_memory", "moc_script", "src/crews/threads.rt",
           "return Err(LanesError::Spawn);", "return Err(LanesError::Memory { line: 0 });", "script", "program"),
     # devices
-    Plant("piece_is_read_again_behind_an_error", "moc_program", "src/conversion.rt",
+    Plant("piece_is_read_again_behind_an_error", "moc_conversion", "src/conversion.rt",
           "        return Err(Fault::Read);\n    };\n    text.extend",
           "        let _ = input.read(room);\n        return Err(Fault::Read);\n    };\n    text.extend", "test", "program_tests"),
     Plant("fault_is_never_told", "moc_program", "src/dispatch.rt",
-          "    let _ = tell(&complaint, faults);", "    let _ = &faults;", "prove"),
-    Plant("longest_input_is_refused", "moc_program", "src/conversion.rt",
+          "    let _ = fault.tell(faults);", "    let _ = &faults;", "prove"),
+    Plant("longest_input_is_refused", "moc_conversion", "src/conversion.rt",
           "    while text.len() <= INPUT_LIMIT {", "    while text.len() < INPUT_LIMIT {", "prove"),
     # pages
     Plant("example_of_a_help_text_has_a_wrong_figure", "moc_command_line", "src/help.rt",

@@ -605,13 +605,15 @@ def late_readers_are_waited_for(tally):
 
 
 def threads_are_refused(tally, folder):
-    """A crew whose threads cannot be started says so, and writes nothing."""
+    """A crew whose threads cannot be started says so, and writes nothing; a lane that is alone needs none."""
     source, shim = os.path.join(folder, "threads.c"), os.path.join(folder, "threads.so")
     with open(source, "w", encoding="utf-8") as file:
         file.write("int pthread_create(void *thread, const void *kind, void *(*work)(void *), void *given) { return 11; }\n")
     subprocess.run(["cc", "-shared", "-fPIC", "-o", shim, source], check=True)
     seen = outcome(["crew", "2"], CREW, env=dict(os.environ, LD_PRELOAD=shim))
     tally.add("a crew without threads", seen == (3, b"", b"fault Spawn\n"), seen)
+    alone, free = (outcome(["crew", "1"], CREW, env=dict(os.environ, **more)) for more in ({"LD_PRELOAD": shim}, {}))
+    tally.add("a lane that is alone starts no thread", alone == free and alone[0] == 0, alone)
 
 
 def crews_stop(tally, folder, shim):

@@ -6,8 +6,8 @@ usage: tools/build.py [--libraries [CRATE..] | --library [FOLDER]]
 With `--libraries` it stops before the program; with crates named, at these and those that they stand on. With `--library` it makes no
 program, but the library for C and Python (`library.py`), and puts it into the folder, or else beside the Python package.
 
-A crate is proved as soon as the libraries below it are, in a room of its own (`crates.py`), beside others. The one with the longest chain
-of crates behind it goes before the others, which take what it leaves of the processors: with more jobs than processors, checks take up to
+A crate is proved as soon as the libraries below it are, in a room of its own (`crates.py`), beside others. Those with the longest chains
+of crates behind them go before the others, which take what they leave of the processors: with more jobs than processors, checks take up to
 twice the time of processors. Progress is told on standard error: how many functions of all crates are checked, and how much of the work is
 done, by the sizes of files.
 
@@ -16,6 +16,7 @@ memory goes."""
 import argparse
 import contextlib
 import fcntl
+import math
 import os
 import re
 import shutil
@@ -30,6 +31,8 @@ from crates import PARTS, crates_of, files_of, folder_of, is_current, libraries_
 PROGRAM = "moc_cli"
 # More jobs seldom help one check.
 MOST_JOBS = 4
+# How much of the longest chain of crates stands behind one that counts as long.
+LONG_CHAIN = 0.8
 # How far a process may give way to others.
 MOST_NICE = 19
 # How much memory a job of a check may take.
@@ -172,15 +175,18 @@ class Build:
                 self.turn.notify_all()
 
     def start_ready(self):
-        """Starts libraries that need not wait. The one with the longest chain behind it has the jobs that one for each of the others
+        """Starts libraries that need not wait. Those with a long chain behind them share the jobs that one for each of the others
         leaves, and the less stands behind another the more it gives way."""
         ready = sorted((it for it in self.left if self.done.issuperset(self.below[it])), key=lambda it: -self.behind[it])
+        most = max((self.behind[it] for it in (*ready, *self.running)), default=0)
         for at, crate in enumerate(ready):
             idle = self.most - sum(self.running.values())
             if idle == 0:
                 break
-            most = max(self.behind[it] for it in (crate, *self.running))
-            jobs = max(1, min(MOST_JOBS, idle - len(ready[at + 1:]))) if self.behind[crate] == most else 1
+            others = ready[at + 1:]
+            long = sum(self.behind[it] >= LONG_CHAIN * most for it in others)
+            share = math.ceil((idle - (len(others) - long)) / (long + 1))
+            jobs = max(1, min(MOST_JOBS, share)) if self.behind[crate] >= LONG_CHAIN * most else 1
             self.left.remove(crate)
             self.running[crate] = jobs
             niceness = round(MOST_NICE * (1 - self.behind[crate] / most))

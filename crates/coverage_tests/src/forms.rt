@@ -76,6 +76,8 @@ fn texts_that_are_examined(rt: HostRuntime) {
     let Err(refusal) = examine(alloc, Form::Ascii, b"\n7".as_slice()) else {
         panic!(&rt; "a cell without an order is taken")
     };
+    let text = format!(in alloc; "{refusal}").expect(&rt, "memory");
+    assert_eq!(&rt; text.as_str(), "an item before any order, at 1");
     for (number, place, quote, told) in [
         (None, refusal.place, None, "byte 1, line 2, byte 0 of it\n"),
         (

@@ -63,6 +63,27 @@ fn footprints(rt: HostRuntime) {
 }
 
 #[test]
+fn an_operand_in_one_part(rt: HostRuntime) {
+    let alloc = rt.alloc();
+    let three = ranges(
+        &rt,
+        alloc,
+        &[(3 * BASE, 3 * BASE + 2), (4 * BASE - 1, 4 * BASE)],
+    );
+    assert_eq!(rt; three.own_part(), Some(Part::of(3)));
+    assert_eq!(rt;
+        ranges(&rt, alloc, &[(0, 1), (BASE, BASE + 1)]).own_part(),
+        None
+    );
+    assert_eq!(rt; ranges(&rt, alloc, &[]).own_part(), None);
+    let degraded = Operand {
+        coarse: Order::new(0),
+        ..three
+    };
+    assert_eq!(rt; degraded.own_part(), None);
+}
+
+#[test]
 fn parts_of_a_set_rise(rt: HostRuntime) {
     let mut parts = PartSet::none();
     for number in [11u8, 0, 5] {

@@ -192,13 +192,34 @@ fn is_base_pixel_3(rt: &impl Abort, alloc: Global, snapshot: &Snapshot) {
     assert!(rt; cover.same(&set(rt, alloc, &[(3 * BASE, 4 * BASE)])));
 }
 
-/// How many pixels a command changed or counted.
-fn answered<R: Wait>(rt: &R, map: &SharedMap, client: &mut Client, command: Command) -> Option<u64>
+/// How many pixels a command changed, done without a batch.
+fn changed_alone<R: Wait>(
+    rt: &R,
+    map: &SharedMap,
+    client: &mut Client,
+    command: Command,
+) -> Option<u64>
     requires { IsClientOf map.now client.old }
     ensures { IsClientOf map.now client.new }
 {
     match map.answer(rt, client, command) {
-        Ok(Reply::Changed(pixels) | Reply::Total(pixels)) => Some(pixels),
+        Ok(Reply::Changed(pixels)) => Some(pixels),
+        _ => None,
+    }
+}
+
+/// How many pixels a command counted, done without a batch.
+fn counted_alone<R: Wait>(
+    rt: &R,
+    map: &SharedMap,
+    client: &mut Client,
+    command: Command,
+) -> Option<u64>
+    requires { IsClientOf map.now client.old }
+    ensures { IsClientOf map.now client.new }
+{
+    match map.answer(rt, client, command) {
+        Ok(Reply::Total(pixels)) => Some(pixels),
         _ => None,
     }
 }
@@ -208,23 +229,26 @@ fn single_commands(rt: HostRuntime) {
     let alloc = rt.alloc();
     let (map, mut a, mut b) = two(&rt, alloc, Coverage::empty(alloc));
     let three = Command::Add(base(&rt, alloc, 3, 4));
-    assert_eq!(rt; answered(&rt, &map, &mut a, three), Some(BASE));
+    assert_eq!(rt; changed_alone(&rt, &map, &mut a, three), Some(BASE));
     let read = one(&rt, alloc, Command::Read(base(&rt, alloc, 3, 6)));
     let snapshot = map.look(&mut b, &read).expect(&rt, "a snapshot");
     // More than the part that is there already, in two parts, and in one that is new.
     let more = Command::Add(base(&rt, alloc, 3, 5));
-    assert_eq!(rt; answered(&rt, &map, &mut b, more), Some(BASE));
+    assert_eq!(rt; changed_alone(&rt, &map, &mut b, more), Some(BASE));
     let six = Command::Add(Operand::from(set(&rt, alloc, &[(6 * BASE, 6 * BASE + CELL)])));
-    assert_eq!(rt; answered(&rt, &map, &mut a, six), Some(CELL));
+    assert_eq!(rt; changed_alone(&rt, &map, &mut a, six), Some(CELL));
     let taken = Command::Remove(Operand::from(set(&rt, alloc, &[(3 * BASE, 3 * BASE + CELL)])));
-    assert_eq!(rt; answered(&rt, &map, &mut a, taken), Some(CELL));
+    assert_eq!(rt; changed_alone(&rt, &map, &mut a, taken), Some(CELL));
     let again = Command::Add(Operand::from(set(&rt, alloc, &[(3 * BASE, 3 * BASE + 2 * CELL)])));
-    assert_eq!(rt; answered(&rt, &map, &mut b, again), Some(CELL));
+    assert_eq!(rt; changed_alone(&rt, &map, &mut b, again), Some(CELL));
     // Of one range in one part, and over parts.
     let part = Command::Count(base(&rt, alloc, 6, 7));
-    assert_eq!(rt; answered(&rt, &map, &mut a, part), Some(CELL));
+    assert_eq!(rt; counted_alone(&rt, &map, &mut a, part), Some(CELL));
     let parts = Command::Count(base(&rt, alloc, 0, 12));
-    assert_eq!(rt; answered(&rt, &map, &mut b, parts), Some(2 * BASE + CELL));
+    assert_eq!(rt;
+        counted_alone(&rt, &map, &mut b, parts),
+        Some(2 * BASE + CELL)
+    );
     is_base_pixel_3(&rt, alloc, &snapshot);
     map.take_in(&mut a, b);
     let all = set(
@@ -242,14 +266,14 @@ fn one_command_changes_no_snapshot(rt: HostRuntime) {
     let read = one(&rt, alloc, Command::Read(base(&rt, alloc, 3, 4)));
     let snapshot = map.look(&mut a, &read).expect(&rt, "a snapshot");
     let rest = Command::Add(Operand::from(set(&rt, alloc, &[(4 * BASE - 2 * CELL, 4 * BASE)])));
-    assert_eq!(rt; answered(&rt, &map, &mut a, rest), Some(CELL));
+    assert_eq!(rt; changed_alone(&rt, &map, &mut a, rest), Some(CELL));
     let seen = snapshot.answer(alloc).expect(&rt, "an answer");
     let Some(Reply::Cover(cover)) = seen.first() else {
         panic!(rt; "a cover")
     };
     assert!(rt; cover.same(&set(&rt, alloc, &[(3 * BASE, 4 * BASE - CELL)])));
     let all = Command::Count(base(&rt, alloc, 3, 4));
-    assert_eq!(rt; answered(&rt, &map, &mut a, all), Some(BASE));
+    assert_eq!(rt; counted_alone(&rt, &map, &mut a, all), Some(BASE));
 }
 
 /// How many clients a map of so many has.

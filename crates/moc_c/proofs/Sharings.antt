@@ -10,8 +10,8 @@ use Rattle.moc_shared.specs.Clients.{AfterError, call_of, Ends, Fails, record_of
 use Rattle.moc_shared.specs.History.{entry, IsLegal}
 use Rattle.moc_shared.specs.declared.errors.TryError.{TryError}
 use Rattle.moc_shared.specs.declared.errors.TryError.TheVariants as try
-use Rattle.moc_script.specs.Batches.{batch_of}
-use Rattle.moc_script.specs.Language.{command_of}
+use Rattle.moc_lines.specs.Batches.{batch_of}
+use Rattle.moc_lines.specs.Language.{command_of}
 use Rattle.moc_c.specs.Answers.{Makes}
 use Rattle.moc_c.specs.Contents.{Contents}
 use Rattle.moc_c.specs.Membership.{Membership}

@@ -10,8 +10,8 @@ use Rattle.moc_text.specs.declared.uniq.UniqError.{UniqError}
 use Rattle.moc_text.specs.declared.uniq.UniqError.TheVariants as uniq
 use Rattle.moc_forms.specs.declared.form.FormError.{FormError}
 use Rattle.moc_forms.specs.declared.form.FormError.TheVariants as form
-use Rattle.moc_script.specs.declared.fault.Fault.{Fault as LineFault}
-use Rattle.moc_script.specs.declared.fault.Fault.TheVariants as line
+use Rattle.moc_lines.specs.declared.fault.Fault.{Fault as LineFault}
+use Rattle.moc_lines.specs.declared.fault.Fault.TheVariants as line
 use Rattle.moc_shared.specs.declared.errors.TryError.{TryError}
 use Rattle.moc_shared.specs.declared.errors.TryError.TheVariants as try
 use Rattle.moc_c.specs.declared.fault.Fault.{Fault}

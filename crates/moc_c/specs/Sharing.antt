@@ -12,10 +12,10 @@ use Rattle.moc_shared.specs.Clients.{AfterError, call_of, Ends, Fails, number_of
 use Rattle.moc_shared.specs.declared.errors.Busy.{Busy}
 use Rattle.moc_shared.specs.declared.errors.TryError.{TryError}
 use Rattle.moc_shared.specs.declared.errors.TryError.TheVariants as try
-use Rattle.moc_script.specs.Batches.{batch_of}
-use Rattle.moc_script.specs.Language.{command_of}
-use Rattle.moc_script.specs.Replies.{replies_text}
-use Rattle.moc_script.specs.declared.fault.Fault.{Fault as LineFault}
+use Rattle.moc_lines.specs.Batches.{batch_of}
+use Rattle.moc_lines.specs.Language.{command_of}
+use Rattle.moc_lines.specs.Replies.{replies_text}
+use Rattle.moc_lines.specs.declared.fault.Fault.{Fault as LineFault}
 use Rattle.moc_c.specs.Buffers.{Fills}
 use Rattle.moc_c.specs.Contents.{Contents, with_set}
 use Rattle.moc_c.specs.Membership.{IsNewMember, Membership, with_client, with_spare}

@@ -1,7 +1,7 @@
 //! Why a call is refused.
 use moc_forms::FormError;
+use moc_lines::Fault as LineFault;
 use moc_ranges::{Memory as MemoryRefused, RangesError};
-use moc_script::Fault as LineFault;
 use moc_shared::{Busy, TryError};
 use std::alloc::AllocError;
 

@@ -6,8 +6,8 @@ ghost use Rattle.moc_c.specs.Outcomes.{refusal, text_refusal, told, uniq_refusal
 use crate::codes;
 use crate::fault::Fault;
 use moc_forms::FormError;
+use moc_lines::Fault as LineFault;
 use moc_ranges::RangesError;
-use moc_script::Fault as LineFault;
 use moc_shared::Busy;
 use moc_text::{JsonError, TextError, UniqError};
 

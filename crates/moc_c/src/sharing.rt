@@ -12,8 +12,8 @@ use crate::seat::Seat;
 use crate::shelf::Shelf;
 use crate::sitter::Sitter;
 use crate::texts::fill_text;
+use moc_lines::{ReadError, answer_text, read_line};
 use moc_ranges::Memory;
-use moc_script::{ReadError, answer_text, read_line};
 use std::alloc::Global;
 
 /// The most clients of a map.

@@ -2,7 +2,6 @@
 use Rattle.std.specs.Prelude.{List}
 use Rattle.std.specs.Coded.{Coded}
 use Rattle.moc_parts.specs.contracts.batch.Batch as batch
-use Rattle.moc_parts.specs.contracts.command.Command as command
 use Rattle.moc_parts.specs.contracts.reply.Reply as reply
 use Rattle.moc_parts.specs.contracts.reply.Replies as replies
 use Rattle.moc_parts.specs.declared.command.Command.{Command}
@@ -15,10 +14,6 @@ batch_code = batch.the_row.coded
 -- its replies
 abbrev pub replies_code : Coded (List Reply)
 replies_code = replies.the_row.coded
-
--- a command
-abbrev pub command_code : Coded Command
-command_code = command.the_row.coded
 
 -- a reply
 abbrev pub reply_code : Coded Reply

@@ -1,5 +1,3 @@
-pub mod Checks
-pub mod Combinations
 pub mod Parsing
 pub mod Refusals
 pub mod NumberLines

@@ -2,11 +2,11 @@
 use Rattle.std.specs.Prelude.{ℕ, List, [], ◌∷◌, ◌++◌, codes, Option, Ok, IfSome}
 use Rattle.std.specs.Io.KnownBytes.{Appends}
 use Rattle.moc_script.specs.Crews.{CrewEnds}
-use Rattle.moc_script.specs.Numberings.{RunsNumbers}
+use Rattle.moc_lines.specs.Numberings.{RunsNumbers}
 use Rattle.moc_script.specs.Schedules.{RunsSchedule}
-use Rattle.moc_script.specs.Scripts.{RunsScript}
-use Rattle.moc_program.specs.Combining.{CombinesAll}
-use Rattle.moc_program.specs.Conversion.{ChangesAll, ConvertsAll, DescribesAll, DrawsAll, IsSaid}
+use Rattle.moc_lines.specs.Scripts.{RunsScript}
+use Rattle.moc_conversion.specs.Combining.{CombinesAll}
+use Rattle.moc_conversion.specs.Conversion.{ChangesAll, ConvertsAll, DescribesAll, DrawsAll, IsSaid}
 use Rattle.moc_program.specs.Listing.{fault_list}
 use Rattle.moc_program.specs.Numbers.{IsNumberLine}
 use Rattle.moc_program.specs.declared.action.Action.{Action}

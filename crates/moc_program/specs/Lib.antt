@@ -1,10 +1,6 @@
 pub mod Actions
-pub mod Combining
-pub mod Conversion
-pub mod Faults
 pub mod Listing
 pub mod Numbers
 pub mod Outcomes
-pub mod Parting
 pub mod Statuses
 pub mod Private

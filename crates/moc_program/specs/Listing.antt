@@ -1,13 +1,14 @@
 -- What the word `faults` prints: the exit statuses, and the faults with what they mean.
 use Rattle.std.specs.Prelude.{ℕ, ◌+◌, ◌-◌, List, [], ◌∷◌, ◌++◌, codes, length, replicate}
-use Rattle.moc_script.specs.Faults as script
-use Rattle.moc_script.specs.declared.fault.Fault.TheVariants as said
-use Rattle.moc_program.specs.Faults.{line_of, name_of}
-use Rattle.moc_program.specs.Statuses.{code_of}
-use Rattle.moc_program.specs.declared.status.Fault.TheVariants.{CellTooLarge, NotUniq, RingTooLarge, BadByte, NoOrder}
-use Rattle.moc_program.specs.declared.status.Fault.TheVariants.{OrderTooLarge, Backwards, Unfinished, NotJson}
-use Rattle.moc_program.specs.declared.status.Fault.TheVariants.{NotObject, BadOrder, NotArray, NotWhole}
-use Rattle.moc_program.specs.declared.status.Fault.TheVariants.{LineTooLong, TooLong, Read, Write, Memory, Spawn}
+use Rattle.moc_lines.specs.Faults as script
+use Rattle.moc_lines.specs.declared.fault.Fault.TheVariants as said
+use Rattle.moc_lines.specs.declared.run_error.RunError.TheVariants as run
+use Rattle.moc_conversion.specs.Faults.{line_of, name_of}
+use Rattle.moc_conversion.specs.declared.fault.Fault.TheVariants.{BadByte, Unfinished, NoOrder, OrderTooLarge}
+use Rattle.moc_conversion.specs.declared.fault.Fault.TheVariants.{CellTooLarge, Backwards, NotJson, NotObject, BadOrder}
+use Rattle.moc_conversion.specs.declared.fault.Fault.TheVariants.{NotArray, NotWhole, NotUniq, TooLong, Read, Memory}
+use Rattle.moc_sphere.specs.declared.cell.CellError.TheVariants as cell
+use Rattle.moc_program.specs.Statuses.{code_of, name_of_cell, name_of_run}
 use Rattle.moc_program.specs.declared.status.Status.{Status}
 use Rattle.moc_program.specs.declared.status.Status.TheVariants.{Done, Refused, BadWords, Broken}
 
@@ -43,9 +44,9 @@ fault_list =
     ∷ (digit_of Broken, codes "a device failed, or memory or a thread was refused: `fault NAME`")
     ∷ [])
     ++ part (codes "Numbers of cells") 17 (
-    (name_of CellTooLarge, codes "the order has no such cell; order k has 12 times 4^k, from 0")
-    ∷ (name_of RingTooLarge, codes "the order has no such ring number, of 12 times 4^k from 0")
-    ∷ (name_of NotUniq, codes "no cell has this NUNIQ number, 4 to 2^62 - 1")
+    (name_of_cell cell.CellTooLarge, codes "the order has no such cell; order k has 12 times 4^k, from 0")
+    ∷ (name_of_cell cell.RingTooLarge, codes "the order has no such ring number, of 12 times 4^k from 0")
+    ∷ (name_of_cell cell.NotUniq, codes "no cell has this NUNIQ number, 4 to 2^62 - 1")
     ∷ (script.name_of said.OtherOrder, codes "a NUNIQ number of another order (renumber)")
     ∷ (script.name_of said.BadNumber, codes "digits alone make a number")
     ∷ (script.name_of said.WrongCount, codes "too few or too many fields on a line")
@@ -72,7 +73,7 @@ fault_list =
     ∷ [])
     ++ part (codes "Lengths") 17 (
     (name_of TooLong, codes "a text of more than 16,777,216 bytes")
-    ∷ (name_of LineTooLong, codes "a line of more than 1,048,576 bytes")
+    ∷ (name_of_run (run.LineTooLong 0), codes "a line of more than 1,048,576 bytes")
     ∷ [])
     ++ part (codes "Lines of scripts and schedules") 17 (
     (script.name_of said.UnknownWord, codes "no such command")
@@ -82,9 +83,9 @@ fault_list =
     ∷ (script.name_of said.PartTooLarge, codes "a part above 11")
     ∷ [])
     ++ part (codes "Devices") 17 (
-    (name_of Read ++ codes ", " ++ name_of Write, codes "standard input or output failed")
+    (name_of Read ++ codes ", " ++ name_of_run run.Write, codes "standard input or output failed")
     ∷ (name_of Memory, codes "memory was refused")
-    ∷ (name_of Spawn, codes "a thread was refused")
+    ∷ (name_of_run run.Spawn, codes "a thread was refused")
     ∷ [])
     ++ text_line (codes "Example:") ++ text_line (codes "  moc cell 3") ++ text_line (codes "tells")
-    ++ codes "  " ++ line_of NotUniq
+    ++ codes "  " ++ line_of (name_of_cell cell.NotUniq)

@@ -3,10 +3,10 @@ use Rattle.std.specs.Prelude.{◌≡◌, ℕ, ◌<◌, ◌≤◌, false, List, [
 use Rattle.moc_sphere.specs.CellNumber.{CellNumber, IsCell, cell_count, cell_number, is_uniq, uniq_of}
 use Rattle.moc_sphere.specs.Rings.{ring_number}
 use Rattle.moc_sphere.specs.Touching.{touching_cells}
+use Rattle.moc_sphere.specs.declared.cell.CellError.{CellError}
+use Rattle.moc_sphere.specs.declared.cell.CellError.TheVariants.{CellTooLarge, NotUniq, RingTooLarge}
 use Rattle.moc_program.specs.declared.action.Number.{Number}
 use Rattle.moc_program.specs.declared.action.Number.TheVariants.{Ring, Nest, Uniq, Cell, Near}
-use Rattle.moc_program.specs.declared.status.Fault.{Fault}
-use Rattle.moc_program.specs.declared.status.Fault.TheVariants.{CellTooLarge, RingTooLarge, NotUniq}
 
 -- numbers behind others, each behind a blank
 abbrev pub spaced : List ℕ → List ℕ
@@ -34,9 +34,9 @@ IsNumberLine (Near order cell) line =
     (cell < cell_count order) × (line ≡ list_of (touching_cells order cell) ++ 10 ∷ [])
 
 -- the fault of a number that no cell has
-abbrev pub IsNumberFault : Number → Fault → Type 0
-IsNumberFault (Ring order cell) fault = (fault ≡ CellTooLarge) × (cell_count order ≤ cell)
-IsNumberFault (Nest order ring) fault = (fault ≡ RingTooLarge) × (cell_count order ≤ ring)
-IsNumberFault (Uniq order cell) fault = (fault ≡ CellTooLarge) × (cell_count order ≤ cell)
-IsNumberFault (Cell uniq) fault = (fault ≡ NotUniq) × (is_uniq uniq ≡ false)
-IsNumberFault (Near order cell) fault = (fault ≡ CellTooLarge) × (cell_count order ≤ cell)
+abbrev pub IsNumberFault : Number → CellError → Type 0
+IsNumberFault (Ring order cell) error = (error ≡ CellTooLarge) × (cell_count order ≤ cell)
+IsNumberFault (Nest order ring) error = (error ≡ RingTooLarge) × (cell_count order ≤ ring)
+IsNumberFault (Uniq order cell) error = (error ≡ CellTooLarge) × (cell_count order ≤ cell)
+IsNumberFault (Cell uniq) error = (error ≡ NotUniq) × (is_uniq uniq ≡ false)
+IsNumberFault (Near order cell) error = (error ≡ CellTooLarge) × (cell_count order ≤ cell)

@@ -5,9 +5,8 @@ use Rattle.clap.specs.Words.{App, Text, takes, fault_of, IsAmong}
 use Rattle.clap.specs.declared.error.kind.ErrorKind.{ErrorKind}
 use Rattle.clap.specs.declared.error.kind.ErrorKind.TheVariants.{DisplayHelp, DisplayVersion, OutOfMemory}
 use Rattle.moc_command_line.specs.CommandLine.{IsCommandLine}
-use Rattle.moc_program.specs.Faults.{complaint_text}
-use Rattle.moc_program.specs.Statuses.{code_of, status_of}
-use Rattle.moc_program.specs.declared.status.Complaint.{Complaint}
+use Rattle.moc_program.specs.Statuses.{code_of, fault_text, status_of}
+use Rattle.moc_program.specs.declared.status.Fault.{Fault}
 
 -- a mistake in the words: neither help nor want of memory
 pub record IsMistake (kind : ErrorKind) : Type 0 where
@@ -40,4 +39,4 @@ pub record AreMistaken (words : List Text) : Type 0 where
 -- a fault is told with which the program ends so
 abbrev pub TellsFaultOf : ℕ → Option (List ℕ) → Option (List ℕ) → Type 0
 TellsFaultOf status written written' =
-    (c : Complaint) × (code_of (status_of c.fault) ≡ status) × Appends written written' (complaint_text c)
+    (fault : Fault) × (code_of (status_of fault) ≡ status) × Appends written written' (fault_text fault)

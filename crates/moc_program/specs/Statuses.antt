@@ -1,7 +1,14 @@
--- How the program ends.
-use Rattle.std.specs.Prelude.{ℕ}
+-- How the program ends: its status, and what it tells of a fault.
+use Rattle.std.specs.Prelude.{ℕ, List, codes}
+use Rattle.moc_sphere.specs.declared.cell.CellError.{CellError}
+use Rattle.moc_sphere.specs.declared.cell.CellError.TheVariants.{CellTooLarge, NotUniq, OutOfFace, RingTooLarge}
+use Rattle.moc_lines.specs.declared.run_error.RunError.{RunError}
+use Rattle.moc_lines.specs.declared.run_error.RunError.TheVariants as run
+use Rattle.moc_conversion.specs.Faults.{complaint_text, line_of}
+use Rattle.moc_conversion.specs.declared.fault.Fault as input
+use Rattle.moc_conversion.specs.declared.fault.Fault.TheVariants as refused
 use Rattle.moc_program.specs.declared.status.Fault.{Fault}
-use Rattle.moc_program.specs.declared.status.Fault.TheVariants.{Read, Write, Memory, Spawn}
+use Rattle.moc_program.specs.declared.status.Fault.TheVariants.{Input, Number, Run, Write, Memory}
 use Rattle.moc_program.specs.declared.status.Status.{Status}
 use Rattle.moc_program.specs.declared.status.Status.TheVariants.{Done, Refused, BadWords, Broken}
 
@@ -12,11 +19,39 @@ code_of Refused = 1
 code_of BadWords = 2
 code_of Broken = 3
 
--- how the program ends with a fault: a device that failed, and memory or a thread that was refused, break it, and all
+-- the status with which an input is refused
+abbrev pub status_of_input : input.Fault → Status
+status_of_input refused.Read = Broken
+status_of_input refused.Memory = Broken
+status_of_input _ = Refused
+
+-- how the program ends with a fault: a device that failed, and memory or a thread that were refused, break it, and all
 -- else is refused
 abbrev pub status_of : Fault → Status
-status_of Read = Broken
-status_of Write = Broken
-status_of Memory = Broken
-status_of Spawn = Broken
-status_of _ = Refused
+status_of (Input c) = status_of_input c.fault
+status_of (Number e) = Refused
+status_of (Run (run.LineTooLong line)) = Refused
+status_of _ = Broken
+
+-- the name of the fault of a number that no cell has
+abbrev pub name_of_cell : CellError → List ℕ
+name_of_cell CellTooLarge = codes "CellTooLarge"
+name_of_cell NotUniq = codes "NotUniq"
+name_of_cell OutOfFace = codes "OutOfFace"
+name_of_cell RingTooLarge = codes "RingTooLarge"
+
+-- the name of the fault of a run that ended early
+abbrev pub name_of_run : RunError → List ℕ
+name_of_run run.Read = codes "Read"
+name_of_run run.Write = codes "Write"
+name_of_run (run.LineTooLong line) = codes "LineTooLong"
+name_of_run (run.Memory line) = codes "Memory"
+name_of_run run.Spawn = codes "Spawn"
+
+-- what tells a fault: a complaint of the input, or a line
+abbrev pub fault_text : Fault → List ℕ
+fault_text (Input c) = complaint_text c
+fault_text (Number e) = line_of (name_of_cell e)
+fault_text (Run e) = line_of (name_of_run e)
+fault_text Write = line_of (codes "Write")
+fault_text Memory = line_of (codes "Memory")

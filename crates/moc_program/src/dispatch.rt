@@ -1,34 +1,30 @@
 //! What the words of the command line make the program do.
 ghost use Rattle.std.specs.Prelude.{◌≡◌, ◌≢◌, ◌⊎◌, ◌++◌, ◌∷◌, [], false, true};
 ghost use Rattle.std.specs.Prelude.{map, IfOk, IfErr, MatchResult, Ok, OnOk};
-ghost use Rattle.std.specs.Prelude.{IsErrOf, IsTrue, is_err};
+ghost use Rattle.std.specs.Prelude.{IsErrAnd, IsErrOf, IsTrue, is_err};
 ghost use Rattle.std.specs.Io.KnownBytes.{Appends};
 ghost use Rattle.std.specs.IoError.{error_kind};
 ghost use Rattle.clap.specs.Words.{kind_of};
-ghost use Rattle.moc_program.specs.Faults.{complaint_text, fault_of_cell};
+ghost use Rattle.moc_program.specs.Statuses.{code_of, fault_text};
 ghost use Rattle.std.specs.String.{string_bytes};
 ghost use Rattle.moc_sphere.specs.Touching.{touching_cells};
-ghost use Rattle.moc_program.specs.Actions.{Does};
-ghost use Rattle.moc_program.specs.Private.Pieces.{IsReadFault};
+ghost use Rattle.moc_program.specs.Actions.{Does, Writes};
 ghost use Rattle.moc_program.specs.Listing.{fault_list};
 ghost use Rattle.moc_program.specs.Numbers.{IsNumberFault, IsNumberLine, list_of};
 ghost use Rattle.moc_program.specs.Outcomes.{AreMistaken, AreRefused, AskForHelp, IsMistake, TellsFaultOf};
 ghost use Rattle.moc_program.specs.Private.NumberCells.{IsCellOf};
-ghost use Rattle.moc_program.specs.Private.Ending.{IsDeviceFault, end_of};
-ghost use Rattle.moc_program.specs.Statuses.{code_of};
+ghost use Rattle.moc_program.specs.Private.Ending.{end_of};
 ghost use Rattle.moc_program.specs.declared.action.Action.{Action};
 
 use crate::action::{Action, Number};
-use crate::combination::combined;
-use crate::conversion::{changed, checked, converted, described, drawn};
-use crate::status::{Complaint, Fault, Status};
+use crate::status::{Fault, Status};
 use clap::error::ErrorKind;
 use clap::{ArgMatches, Error};
 use moc_command_line::{FAULTS, command_line, meant};
-use moc_forms::hint_line;
-use moc_script::{
-    DeviceFault, OpenGate, RunError, Sink, Source, crew, play, renumber, run, write_all,
+use moc_conversion::{
+    Complaint, Fault as InputFault, changed, checked, combined, converted, described, drawn,
 };
+use moc_script::{OpenGate, RunError, Sink, Source, crew, play, renumber, run, write_all};
 use moc_sphere::{Cell, CellError};
 use std::alloc::{AllocError, Global};
 use std::convert::AsStr;
@@ -66,7 +62,7 @@ pub fn program<'a, T: Threads + Wait + Sync, S: AsStr, R: Source, W: Sink, E: Si
     ensures told { E.mark faults.old ≡ false → E.mark faults.new ≡ false → (result ≡ 1) ⊎ (result ≡ 3)
         → TellsFaultOf result (E.written faults.old) (E.written faults.new) }
 
-    // A device that failed is told, and at 0 all that was written is flushed.
+    // A device that failed ends with 3, and at 0 all that was written is flushed.
     ensures input { IsTrue (R.mark input.new) → result ≡ 3 }
     ensures output { IsTrue (W.mark output.new) → result ≡ 3 }
     ensures flushed { result ≡ 0 → IsTrue (W.flushed output.new) }
@@ -84,7 +80,7 @@ pub fn refuse_words<E: Sink>(error: &io::Error, faults: &mut E) -> u8
     ensures not_utf8 { error_kind error.now ≢ IoErrorKind.OutOfMemory → result ≡ 2 }
 {
     if error.kind() == IoErrorKind::OutOfMemory {
-        return ended(Err(Complaint::from(Fault::Memory)), faults).code();
+        return ended(Err(Fault::Memory), faults).code();
     }
     let _ = write_all(b"error: a word of the command line is not UTF-8\n", faults);
     Status::BadWords.code()
@@ -103,32 +99,16 @@ fn parse<'a, S: AsStr>(alloc: Global, words: &'a [S]) -> Result<ArgMatches<'a>, 
 }
 
 /// How the program ends with this outcome, after it has told a fault.
-fn ended<E: Sink>(outcome: Result<(), Complaint>, faults: &mut E) -> Status
+fn ended<E: Sink>(outcome: Result<(), Fault>, faults: &mut E) -> Status
     ensures end { result ≡ end_of outcome }
-    ensures told { E.mark faults.old ≡ false → E.mark faults.new ≡ false → IfErr outcome (λ c.
-        Appends (E.written faults.old) (E.written faults.new) (complaint_text c)) }
+    ensures told { E.mark faults.old ≡ false → E.mark faults.new ≡ false → IfErr outcome (λ fault.
+        Appends (E.written faults.old) (E.written faults.new) (fault_text fault)) }
 {
-    let Err(complaint) = outcome else {
+    let Err(fault) = outcome else {
         return Status::Done;
     };
-    let _ = tell(&complaint, faults);
-    complaint.fault.status()
-}
-
-/// Tells a fault, behind it where it is, and which form the text looks like.
-fn tell<E: Sink>(complaint: &Complaint, faults: &mut E) -> Result<(), DeviceFault>
-    ensures told { OnOk result (E.mark faults.old ≡ false →
-        Appends (E.written faults.old) (E.written faults.new) (complaint_text complaint.now)) }
-    ensures marks { E.mark faults.old ≡ false → E.mark faults.new ≡ is_err result }
-{
-    write_all(complaint.fault.line().as_bytes(), faults)?;
-    if let Some(place) = &complaint.place {
-        write_all(place.as_bytes(), faults)?;
-    }
-    match complaint.hint {
-        Some(form) => write_all(hint_line(form).as_bytes(), faults),
-        None => Ok(()),
-    }
+    let _ = fault.tell(faults);
+    fault.status()
 }
 
 /// Tells why there are no matches: help goes to the output, a refusal to the faults.
@@ -152,10 +132,10 @@ fn explain<S: AsStr, W: Sink, E: Sink>(
         → TellsFaultOf (code_of result) (E.written faults.old) (E.written faults.new) }
 {
     if error.kind() == ErrorKind::OutOfMemory {
-        return ended(Err(Complaint::from(Fault::Memory)), faults);
+        return ended(Err(Fault::Memory), faults);
     }
     let Ok(text) = explanation(alloc, words, error) else {
-        return ended(Err(Complaint::from(Fault::Memory)), faults);
+        return ended(Err(Fault::Memory), faults);
     };
     if error.use_stderr() {
         let _ = write_all(text.as_bytes(), faults);
@@ -221,11 +201,11 @@ fn act<T: Threads + Wait + Sync, R: Source, W: Sink>(
     matches: &ArgMatches<'_>,
     input: &mut R,
     output: &mut W,
-) -> Result<(), Complaint>
+) -> Result<(), Fault>
     requires input { R.mark input.old ≡ false }
     requires output { W.mark output.old ≡ false }
-    ensures input { IsTrue (R.mark input.new) → IsDeviceFault result }
-    ensures output { IsTrue (W.mark output.new) → IsDeviceFault result }
+    ensures input { IsTrue (R.mark input.new) → end_of result ≡ Status.Broken }
+    ensures output { IsTrue (W.mark output.new) → end_of result ≡ Status.Broken }
     ensures flushed { OnOk result (IsTrue (W.flushed output.new)) }
     ensures done { OnOk result ((action : Action) × Does action
         (R.left input.old) (R.left input.new) (W.written output.old) (W.written output.new)) }
@@ -237,7 +217,7 @@ fn act<T: Threads + Wait + Sync, R: Source, W: Sink>(
         Some(Action::Renumber(renumbering)) => {
             outcome_of(renumber(alloc, input, output, renumbering))
         }
-        Some(Action::Number(number)) => answered(or_complaint(number_line(alloc, number)), output),
+        Some(Action::Number(number)) => numbered(alloc, number, output),
         Some(Action::Convert(from, to)) => {
             answered(or_complaint(converted(alloc, from, to, input)), output)
         }
@@ -256,39 +236,37 @@ fn act<T: Threads + Wait + Sync, R: Source, W: Sink>(
         }
         Some(Action::Faults) => printed(listed(), output),
         // `clap` requires the word and its values, so none is missing.
-        None => Err(Complaint::from(Fault::Memory)),
+        None => Err(Fault::Memory),
     }
 }
 
-/// The outcome of a run, with a complaint of its fault.
-fn outcome_of(outcome: Result<(), RunError>) -> Result<(), Complaint>
+/// The outcome of a run, with the fault of the program.
+fn outcome_of(outcome: Result<(), RunError>) -> Result<(), Fault>
     ensures done { OnOk result (outcome ≡ Ok tt) }
-    ensures device { IsErrOf outcome RunError.Read ⊎ IsErrOf outcome RunError.Write → IsDeviceFault result }
+    ensures device { IsErrOf outcome RunError.Read ⊎ IsErrOf outcome RunError.Write → end_of result ≡ Status.Broken }
 {
     Ok(outcome?)
 }
 
 /// A text, or a complaint of the fault for which it was not made.
-fn or_complaint(text: Result<String, Fault>) -> Result<String, Complaint>
+fn or_complaint(text: Result<String, InputFault>) -> Result<String, Complaint>
     ensures text { IfOk result (λ t. text ≡ Ok t) }
-    ensures read { IsErrOf text Fault.Read → IsReadFault result }
+    ensures read { IsErrOf text InputFault.Read → IsErrAnd result (λ c. c.fault ≡ InputFault.Read) }
 {
     Ok(text?)
 }
 
-/// Writes a text that was made, or complains why it was not.
-fn answered<W: Sink>(text: Result<String, Complaint>, output: &mut W) -> Result<(), Complaint>
+/// Writes a text that was made of the input; else the fault is that of the complaint.
+fn answered<W: Sink>(text: Result<String, Complaint>, output: &mut W) -> Result<(), Fault>
     requires { W.mark output.old ≡ false }
     ensures written { OnOk result (MatchResult text
         (λ t. Appends (W.written output.old) (W.written output.new) (string_bytes t)) (λ _. ⊥)) }
     ensures flushed { OnOk result (IsTrue (W.flushed output.new)) }
-    ensures input { IsReadFault text → IsDeviceFault result }
-    ensures output { IsTrue (W.mark output.new) → IsDeviceFault result }
+    ensures input { IsErrAnd text (λ c. c.fault ≡ InputFault.Read) → end_of result ≡ Status.Broken }
+    ensures output { IsTrue (W.mark output.new) → end_of result ≡ Status.Broken }
 {
-    match text {
-        Ok(text) => printed(text.as_str(), output),
-        Err(complaint) => Err(complaint),
-    }
+    let text = text?;
+    printed(text.as_str(), output)
 }
 
 /// The list of the exit statuses and the faults.
@@ -298,10 +276,22 @@ fn listed() -> &'static str
     FAULTS
 }
 
+/// Writes the line of a converted number.
+fn numbered<W: Sink>(alloc: Global, number: Number, output: &mut W) -> Result<(), Fault>
+    requires { W.mark output.old ≡ false }
+    ensures written { OnOk result (Writes (IsNumberLine number) (W.written output.old) (W.written output.new)) }
+    ensures flushed { OnOk result (IsTrue (W.flushed output.new)) }
+    ensures output { IsTrue (W.mark output.new) → end_of result ≡ Status.Broken }
+{
+    let line = number_line(alloc, number)?;
+    printed(line.as_str(), output)
+}
+
 /// The line of a converted number.
 fn number_line(alloc: Global, number: Number) -> Result<String, Fault>
     ensures line { IfOk result (λ text. IsNumberLine number (string_bytes text)) }
-    ensures fault { IfErr result (λ f. (f ≡ Fault.Memory) ⊎ IsNumberFault number f) }
+    ensures fault { IfErr result (λ f. (f ≡ Fault.Memory) ⊎ ((error : CellError) × IsNumberFault number error
+        × (f ≡ Fault.Number error))) }
 {
     let cell = cell_of(number)?;
     let text = match number {
@@ -317,7 +307,7 @@ fn number_line(alloc: Global, number: Number) -> Result<String, Fault>
 /// The cell that a number is of.
 fn cell_of(number: Number) -> Result<Cell, CellError>
     ensures cell { IfOk result (λ cell. IsCellOf number cell) }
-    ensures fault { IfErr result (λ error. IsNumberFault number (fault_of_cell error)) }
+    ensures fault { IfErr result (λ error. IsNumberFault number error) }
 {
     match number {
         Number::Ring(order, index) | Number::Uniq(order, index) | Number::Near(order, index) => {
@@ -354,19 +344,8 @@ fn push_numbers(numbers: &[u64], line: &mut String) -> Result<(), AllocError>
     Ok(())
 }
 
-/// Writes a text, whole, and sends it on; else complains of the output.
-fn printed<W: Sink>(text: &str, output: &mut W) -> Result<(), Complaint>
-    requires { W.mark output.old ≡ false }
-    ensures written { OnOk result (Appends (W.written output.old) (W.written output.new) text.now) }
-    ensures flushed { OnOk result (IsTrue (W.flushed output.new)) }
-    ensures fault { IfErr result (λ c. c.fault ≡ Fault.Write) }
-    ensures marks { W.mark output.new ≡ is_err result }
-{
-    Ok(print(text, output)?)
-}
-
 /// Writes a text, whole, and sends it on.
-fn print<W: Sink>(text: &str, output: &mut W) -> Result<(), Fault>
+fn printed<W: Sink>(text: &str, output: &mut W) -> Result<(), Fault>
     requires { W.mark output.old ≡ false }
     ensures written { OnOk result (Appends (W.written output.old) (W.written output.new) text.now) }
     ensures flushed { OnOk result (IsTrue (W.flushed output.new)) }

@@ -2,8 +2,6 @@
 #![tactic(auto)]
 
 mod action;
-mod combination;
-mod conversion;
 mod dispatch;
 mod status;
 

@@ -1,15 +1,14 @@
 //! How the program ends, and what it says of that.
-ghost use Rattle.std.specs.Prelude.{◌≡◌, None};
-ghost use Rattle.moc_program.specs.Faults.{fault_of_cell, fault_of_form, fault_of_json, fault_of_run, fault_of_text};
-ghost use Rattle.moc_program.specs.Faults.{fault_of_uniq, line_of};
-ghost use Rattle.moc_program.specs.Statuses.{code_of, status_of};
+ghost use Rattle.std.specs.Prelude.{◌≡◌, OnOk, false, is_err};
+ghost use Rattle.std.specs.Io.KnownBytes.{Appends};
+ghost use Rattle.moc_conversion.specs.Faults.{line_of};
+ghost use Rattle.moc_program.specs.Statuses.{code_of, fault_text, name_of_cell, name_of_run, status_of};
+ghost use Rattle.moc_program.specs.Statuses.{status_of_input};
 ghost use Rattle.moc_program.specs.declared.status.Fault.TheVariants as fault;
 
-use moc_forms::{Form, FormError};
-use moc_ranges::Memory as MemoryRefused;
-use moc_script::{DeviceFault, RunError};
+use moc_conversion::{Complaint, Fault as InputFault};
+use moc_script::{DeviceFault, RunError, Sink, write_all};
 use moc_sphere::CellError;
-use moc_text::{JsonError, TextError, UniqError};
 use std::alloc::AllocError;
 
 /// How the program ends: its exit status.
@@ -35,155 +34,105 @@ impl Status {
 }
 
 /// Why the program ends before it is done, but for words that are no command line.
-#[derive(Clone, Copy)]
+#[derive(Drop)]
 pub enum Fault {
-    CellTooLarge,
-    NotUniq,
-    OutOfFace,
-    RingTooLarge,
-    BadByte,
-    NoOrder,
-    OrderTooLarge,
-    Backwards,
-    Unfinished,
-    NotJson,
-    NotObject,
-    BadOrder,
-    NotArray,
-    NotWhole,
-    TooCoarse,
-    LineTooLong,
-    TooLong,
-    Read,
+    /// Nothing was made of the coverages on the input.
+    Input(Complaint),
+    /// A number is that of no cell.
+    Number(CellError),
+    /// A script, a schedule or a list of numbers ended early.
+    Run(RunError),
+    /// The output could not be written.
     Write,
+    /// Memory was refused.
     Memory,
-    Spawn,
 }
 
 impl Fault {
-    /// The line that says it on the fault output.
-    pub fn line(self) -> &'static str
-        ensures { result.now ≡ line_of self }
+    /// How the program ends then.
+    pub fn status(&self) -> Status
+        ensures { result ≡ status_of self.now }
     {
         match self {
-            Fault::CellTooLarge => "fault CellTooLarge\n",
-            Fault::NotUniq => "fault NotUniq\n",
-            Fault::OutOfFace => "fault OutOfFace\n",
-            Fault::RingTooLarge => "fault RingTooLarge\n",
-            Fault::BadByte => "fault BadByte\n",
-            Fault::NoOrder => "fault NoOrder\n",
-            Fault::OrderTooLarge => "fault OrderTooLarge\n",
-            Fault::Backwards => "fault Backwards\n",
-            Fault::Unfinished => "fault Unfinished\n",
-            Fault::NotJson => "fault NotJson\n",
-            Fault::NotObject => "fault NotObject\n",
-            Fault::BadOrder => "fault BadOrder\n",
-            Fault::NotArray => "fault NotArray\n",
-            Fault::NotWhole => "fault NotWhole\n",
-            Fault::TooCoarse => "fault TooCoarse\n",
-            Fault::LineTooLong => "fault LineTooLong\n",
-            Fault::TooLong => "fault TooLong\n",
-            Fault::Read => "fault Read\n",
-            Fault::Write => "fault Write\n",
-            Fault::Memory => "fault Memory\n",
-            Fault::Spawn => "fault Spawn\n",
+            Fault::Input(complaint) => input_status(complaint.fault),
+            Fault::Number(_) | Fault::Run(RunError::LineTooLong { .. }) => Status::Refused,
+            Fault::Run(_) | Fault::Write | Fault::Memory => Status::Broken,
         }
     }
 
-    /// How the program ends then.
-    pub fn status(self) -> Status
-        ensures { result ≡ status_of self }
+    /// Tells it on the fault output.
+    pub fn tell<E: Sink>(&self, faults: &mut E) -> Result<(), DeviceFault>
+        ensures told { OnOk result (E.mark faults.old ≡ false →
+            Appends (E.written faults.old) (E.written faults.new) (fault_text self.now)) }
+        ensures marks { E.mark faults.old ≡ false → E.mark faults.new ≡ is_err result }
     {
-        match self {
-            Fault::Read | Fault::Write | Fault::Memory | Fault::Spawn => Status::Broken,
-            _ => Status::Refused,
-        }
+        let line = match self {
+            Fault::Input(complaint) => return complaint.tell(faults),
+            Fault::Number(error) => cell_line(*error),
+            Fault::Run(error) => run_line(*error),
+            Fault::Write => "fault Write\n",
+            Fault::Memory => "fault Memory\n",
+        };
+        write_all(line.as_bytes(), faults)
+    }
+}
+
+/// How the program ends where nothing was made of the input.
+fn input_status(fault: InputFault) -> Status
+    ensures { result ≡ status_of_input fault }
+{
+    match fault {
+        InputFault::Read | InputFault::Memory => Status::Broken,
+        _ => Status::Refused,
+    }
+}
+
+/// The line that tells a number that no cell has.
+fn cell_line(error: CellError) -> &'static str
+    ensures { result.now ≡ line_of (name_of_cell error) }
+{
+    match error {
+        CellError::CellTooLarge => "fault CellTooLarge\n",
+        CellError::NotUniq => "fault NotUniq\n",
+        CellError::OutOfFace => "fault OutOfFace\n",
+        CellError::RingTooLarge => "fault RingTooLarge\n",
+    }
+}
+
+/// The line that tells why a run ended early.
+fn run_line(error: RunError) -> &'static str
+    ensures { result.now ≡ line_of (name_of_run error) }
+{
+    match error {
+        RunError::Read => "fault Read\n",
+        RunError::Write => "fault Write\n",
+        RunError::LineTooLong { .. } => "fault LineTooLong\n",
+        RunError::Memory { .. } => "fault Memory\n",
+        RunError::Spawn => "fault Spawn\n",
+    }
+}
+
+impl From<Complaint> for Fault {
+    ghost from_gives = { λ c f. f ≡ fault.Input c };
+
+    fn from(complaint: Complaint) -> Fault {
+        Fault::Input(complaint)
     }
 }
 
 impl From<CellError> for Fault {
-    ghost from_gives = { λ error f. f ≡ fault_of_cell error };
+    ghost from_gives = { λ error f. f ≡ fault.Number error };
 
     fn from(error: CellError) -> Fault {
-        match error {
-            CellError::CellTooLarge => Fault::CellTooLarge,
-            CellError::NotUniq => Fault::NotUniq,
-            CellError::OutOfFace => Fault::OutOfFace,
-            CellError::RingTooLarge => Fault::RingTooLarge,
-        }
-    }
-}
-
-impl From<TextError> for Fault {
-    ghost from_gives = { λ error f. f ≡ fault_of_text error };
-
-    fn from(error: TextError) -> Fault {
-        match error {
-            TextError::BadByte { .. } => Fault::BadByte,
-            TextError::NoOrder { .. } => Fault::NoOrder,
-            TextError::OrderTooLarge { .. } => Fault::OrderTooLarge,
-            TextError::CellTooLarge { .. } => Fault::CellTooLarge,
-            TextError::Backwards { .. } => Fault::Backwards,
-            TextError::Unfinished { .. } => Fault::Unfinished,
-            TextError::Memory => Fault::Memory,
-            TextError::TooCoarse => Fault::TooCoarse,
-        }
-    }
-}
-
-impl From<JsonError> for Fault {
-    ghost from_gives = { λ error f. f ≡ fault_of_json error };
-
-    fn from(error: JsonError) -> Fault {
-        match error {
-            JsonError::NotJson => Fault::NotJson,
-            JsonError::NotObject => Fault::NotObject,
-            JsonError::BadOrder { .. } => Fault::BadOrder,
-            JsonError::NotArray { .. } => Fault::NotArray,
-            JsonError::NotWhole { .. } => Fault::NotWhole,
-            JsonError::CellTooLarge { .. } => Fault::CellTooLarge,
-            JsonError::Memory => Fault::Memory,
-            JsonError::TooCoarse => Fault::TooCoarse,
-        }
-    }
-}
-
-impl From<UniqError> for Fault {
-    ghost from_gives = { λ error f. f ≡ fault_of_uniq error };
-
-    fn from(error: UniqError) -> Fault {
-        match error {
-            UniqError::BadByte { .. } => Fault::BadByte,
-            UniqError::NotUniq { .. } => Fault::NotUniq,
-            UniqError::Memory => Fault::Memory,
-        }
-    }
-}
-
-impl From<FormError> for Fault {
-    ghost from_gives = { λ error f. f ≡ fault_of_form error };
-
-    fn from(error: FormError) -> Fault {
-        match error {
-            FormError::Ascii(error) => Fault::from(error),
-            FormError::Json(error) => Fault::from(error),
-            FormError::Uniq(error) => Fault::from(error),
-            FormError::Memory => Fault::Memory,
-        }
+        Fault::Number(error)
     }
 }
 
 impl From<RunError> for Fault {
-    ghost from_gives = { λ error f. f ≡ fault_of_run error };
+    ghost from_gives = { λ error f. f ≡ fault.Run error };
 
     fn from(error: RunError) -> Fault {
-        match error {
-            RunError::Read => Fault::Read,
-            RunError::Write => Fault::Write,
-            RunError::LineTooLong { .. } => Fault::LineTooLong,
-            RunError::Memory { .. } => Fault::Memory,
-            RunError::Spawn => Fault::Spawn,
-        }
+        Fault::Run(error)
     }
 }
 
@@ -201,58 +150,5 @@ impl From<AllocError> for Fault {
 
     fn from(_error: AllocError) -> Fault {
         Fault::Memory
-    }
-}
-
-impl From<MemoryRefused> for Fault {
-    ghost from_gives = { λ _ f. f ≡ fault.Memory };
-
-    fn from(_error: MemoryRefused) -> Fault {
-        Fault::Memory
-    }
-}
-
-/// A fault; where it is told, a line that says where it is; and the form that the text looks like, if that is another
-/// than it was read in.
-#[derive(Drop)]
-pub struct Complaint {
-    pub fault: Fault,
-    pub place: Option<String>,
-    pub hint: Option<Form>,
-}
-
-impl From<Fault> for Complaint {
-    ghost from_gives = { λ f c. (c.fault ≡ f) × (c.place ≡ None) × (c.hint ≡ None) };
-
-    fn from(fault: Fault) -> Complaint {
-        Complaint {
-            fault,
-            place: None,
-            hint: None,
-        }
-    }
-}
-
-impl From<RunError> for Complaint {
-    ghost from_gives = { λ error c. (c.fault ≡ fault_of_run error) × (c.place ≡ None) × (c.hint ≡ None) };
-
-    fn from(error: RunError) -> Complaint {
-        Complaint::from(Fault::from(error))
-    }
-}
-
-impl From<MemoryRefused> for Complaint {
-    ghost from_gives = { λ _ c. (c.fault ≡ fault.Memory) × (c.place ≡ None) × (c.hint ≡ None) };
-
-    fn from(_error: MemoryRefused) -> Complaint {
-        Complaint::from(Fault::Memory)
-    }
-}
-
-impl From<AllocError> for Complaint {
-    ghost from_gives = { λ _ c. (c.fault ≡ fault.Memory) × (c.place ≡ None) × (c.hint ≡ None) };
-
-    fn from(_error: AllocError) -> Complaint {
-        Complaint::from(Fault::Memory)
     }
 }

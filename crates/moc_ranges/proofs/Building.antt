@@ -11,7 +11,7 @@ use Rattle.moc_ranges.specs.Pixels.{pixel_count}
 use Rattle.moc_ranges.specs.Private.Sorted.{IsSortedFrom}
 use Rattle.moc_ranges.specs.RangeList.{IsNormal, in_range, in_ranges}
 use Rattle.moc_ranges.specs.Private.Blocks.{joining, last_of, AreBlocks}
-use Rattle.moc_ranges.specs.Private.Built.{Growing, ranges_of, IsBuilt, AreNodes, CanJoin, EndsBelow, BeginsBy, kept_of, first_length, last_length}
+use Rattle.moc_ranges.specs.Private.Built.{Growing, ranges_of, IsBuilt, AreGrouped, CanJoin, EndsBelow, BeginsBy, kept_of, first_length, last_length}
 use Rattle.moc_ranges.proofs.Filling.{last_length-append, filled_longer, filled_append, some_blocks, no_nodes}
 use Rattle.moc_ranges.proofs.Blocking.{IsNormal-prefix, IsNormal-suffix, nothing_more, joining-append, joining-last, last_of-get}
 use Rattle.moc_ranges.proofs.Merging.{ends_by_last, normal_append, in_ranges-append, EndsBelow-append, EndsBelow-first, EndsBelow-more, ends_second, begins_of_ends, ends_next, or_false}
@@ -178,7 +178,7 @@ pub node_kept : (ns : List (List (List (ℕ × ℕ)))) (bs stack node : List (Li
 node_kept ns bs stack node rs kept same none is =
     (λ i. joining (same i) ++ none i) ∙ nothing_more (joining (stack ++ node)) ∙ joining-append stack node ∙ ap (λ (l : List (ℕ × ℕ)). l ++ joining node) is
 
-pub node_built : (ns : List (List (List (ℕ × ℕ)))) (bs stack node : List (List (ℕ × ℕ))) (rs kept : List (ℕ × ℕ)) → joining ns ++ bs ≡ stack ++ node → rs ≡ [] → joining stack ≡ kept → AreBlocks stack → AreBlocks node → (0 < last_length stack → 128 < last_length stack + first_length node) → AreNodes ns bs → IsNormal (kept ++ joining node) → IsBuilt ns bs rs
+pub node_built : (ns : List (List (List (ℕ × ℕ)))) (bs stack node : List (List (ℕ × ℕ))) (rs kept : List (ℕ × ℕ)) → joining ns ++ bs ≡ stack ++ node → rs ≡ [] → joining stack ≡ kept → AreBlocks stack → AreBlocks node → (0 < last_length stack → 128 < last_length stack + first_length node) → AreGrouped ns bs → IsNormal (kept ++ joining node) → IsBuilt ns bs rs
 node_built ns bs stack node rs kept same none is ok more seam wide normal = record {
   wide = wide;
   sized = subst AreBlocks (sym same) (filled_append 128 stack node ok more seam);
@@ -190,7 +190,7 @@ node_built ns bs stack node rs kept same none is ok more seam wide normal = reco
 pub sealed_all : (all rs kept : List (ℕ × ℕ)) → all ++ rs ≡ kept → rs ≡ [] → all ≡ kept
 sealed_all all rs kept same none = sym (nothing_more all) ∙ ap (λ (l : List (ℕ × ℕ)). all ++ l) (sym none) ∙ same
 
-pub each_built : (ns : List (List (List (ℕ × ℕ)))) (bs : List (List (ℕ × ℕ))) (rs kept node : List (ℕ × ℕ)) → AreBlocks (joining ns ++ bs) → AreNodes ns bs → joining (joining ns ++ bs) ≡ kept ++ node → rs ≡ [] → IsNormal (kept ++ node) → IsBuilt ns bs rs
+pub each_built : (ns : List (List (List (ℕ × ℕ)))) (bs : List (List (ℕ × ℕ))) (rs kept node : List (ℕ × ℕ)) → AreBlocks (joining ns ++ bs) → AreGrouped ns bs → joining (joining ns ++ bs) ≡ kept ++ node → rs ≡ [] → IsNormal (kept ++ node) → IsBuilt ns bs rs
 each_built ns bs rs kept node ok wide same none normal = record {
   wide = wide;
   sized = ok;

@@ -1,7 +1,7 @@
 -- Lists by the two rules of lengths: each has 1 to so many elements, and two side by side have together more.
 use Rattle.std.proofs.Common.{◌≡◌, ℕ, zero, suc, ◌+◌, ◌<◌, ◌≤◌, List, [], ◌∷◌, ◌++◌, length, get_or, refl, sym, ap, subst, ◌∙◌, arith, append_assoc}
 use Rattle.moc_ranges.specs.Private.Blocks.{joining, AreFilled}
-use Rattle.moc_ranges.specs.Private.Built.{AreNodes, first_length, last_length}
+use Rattle.moc_ranges.specs.Private.Built.{AreGrouped, first_length, last_length}
 use Rattle.moc_ranges.proofs.Blocking.{joining-last, nothing_more}
 
 pub last_length-append : {X : Type 0} → (ls ms : List (List X)) → 0 < length ms → last_length (ls ++ ms) ≡ last_length ms
@@ -59,11 +59,11 @@ some_blocks [] some = some
 some_blocks (b ∷ bs) some = omega arith
 
 -- nothing is built
-pub no_nodes : AreNodes [] []
+pub no_nodes : AreGrouped [] []
 no_nodes = record { sized = tt; fits = omega arith }
 
 -- the blocks behind the nodes became a node, apart from the last
-pub nodes_sealed : (ns ns' : List (List (List (ℕ × ℕ)))) (bs bs' node : List (List (ℕ × ℕ))) → AreNodes ns bs → (0 < last_length ns → 16 < last_length ns + length bs) → ns' ≡ ns ++ node ∷ [] → node ≡ bs → bs' ≡ [] → 0 < length bs → AreNodes ns' bs'
+pub nodes_sealed : (ns ns' : List (List (List (ℕ × ℕ)))) (bs bs' node : List (List (ℕ × ℕ))) → AreGrouped ns bs → (0 < last_length ns → 16 < last_length ns + length bs) → ns' ≡ ns ++ node ∷ [] → node ≡ bs → bs' ≡ [] → 0 < length bs → AreGrouped ns' bs'
 nodes_sealed ns ns' bs bs' node ok apart new is none some =
     let made : ns' ≡ ns ++ bs ∷ [] = new ∙ ap (λ (n : List (List (ℕ × ℕ))). ns ++ n ∷ []) is in
     record {
@@ -72,14 +72,14 @@ nodes_sealed ns ns' bs bs' node ok apart new is none some =
     }
 
 -- the last node was taken off, and so many blocks stand behind the nodes
-pub nodes_popped : (ns ns' : List (List (List (ℕ × ℕ)))) (bs bs' node : List (List (ℕ × ℕ))) → AreNodes ns bs → ns ≡ ns' ++ node ∷ [] → length bs' ≤ 16 → AreNodes ns' bs'
+pub nodes_popped : (ns ns' : List (List (List (ℕ × ℕ)))) (bs bs' node : List (List (ℕ × ℕ))) → AreGrouped ns bs → ns ≡ ns' ++ node ∷ [] → length bs' ≤ 16 → AreGrouped ns' bs'
 nodes_popped ns ns' bs bs' node ok old le = record {
   sized = filled_init 16 ns' node (subst (λ (l : List (List (List (ℕ × ℕ)))). AreFilled 16 l) old ok.sized);
   fits = le;
 }
 
 -- the last node fits, and is apart from the one before it
-pub nodes_last : (ns ns' : List (List (List (ℕ × ℕ)))) (bs node : List (List (ℕ × ℕ))) → AreNodes ns bs → ns ≡ ns' ++ node ∷ [] → (length node ≤ 16) × (0 < last_length ns' → 16 < last_length ns' + length node)
+pub nodes_last : (ns ns' : List (List (List (ℕ × ℕ)))) (bs node : List (List (ℕ × ℕ))) → AreGrouped ns bs → ns ≡ ns' ++ node ∷ [] → (length node ≤ 16) × (0 < last_length ns' → 16 < last_length ns' + length node)
 nodes_last ns ns' bs node ok old = filled_last 16 ns' node (subst (λ (l : List (List (List (ℕ × ℕ)))). AreFilled 16 l) old ok.sized)
 
 -- the blocks of the last node were put before those behind the nodes
@@ -89,7 +89,7 @@ nodes_widened ns ns' bs bs' node old new =
     ∙ ap (λ (l : List (List (ℕ × ℕ))). l ++ bs) (sym (joining-last ns' node) ∙ ap joining (sym old))
 
 -- a node was put behind nodes, with no blocks behind them
-pub nodes_added : (ns ns' : List (List (List (ℕ × ℕ)))) (bs node : List (List (ℕ × ℕ))) → AreNodes ns bs → ns' ≡ ns ++ node ∷ [] → (0 < last_length ns → 16 < last_length ns + length node) → 0 < length node → length node ≤ 16 → AreNodes ns' bs
+pub nodes_added : (ns ns' : List (List (List (ℕ × ℕ)))) (bs node : List (List (ℕ × ℕ))) → AreGrouped ns bs → ns' ≡ ns ++ node ∷ [] → (0 < last_length ns → 16 < last_length ns + length node) → 0 < length node → length node ≤ 16 → AreGrouped ns' bs
 nodes_added ns ns' bs node ok new apart some fits = record {
   sized = subst (λ (l : List (List (List (ℕ × ℕ)))). AreFilled 16 l) (sym new) (filled_add 16 ns node ok.sized apart some fits);
   fits = ok.fits;

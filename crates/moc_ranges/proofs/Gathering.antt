@@ -12,7 +12,7 @@ use Rattle.std.specs.Option.{option_or}
 use Rattle.moc_ranges.specs.Faults.{first_fault_from, pair_fault}
 use Rattle.moc_ranges.specs.RangeList.{set_of, contains-set_of}
 use Rattle.moc_ranges.specs.Private.Gathered.{gathered}
-use Rattle.moc_ranges.specs.Laws.{empty-union, union-empty, union-assoc, pixels_of-append, row_of_cells}
+use Rattle.moc_ranges.specs.Laws.{empty-union, union-empty, union-assoc, pixels_of-append, run_of_cells}
 use Rattle.moc_ranges.proofs.Sorting.{in_ranges-push, no_fault_parts}
 use Rattle.moc_ranges.proofs.Spans.{span_view}
 
@@ -82,7 +82,7 @@ span_numbers order index from to pixels within = sym (union-empty (numbers from 
 
 -- the pixels of cells in a row, as numbers in a row
 pub spans_numbers : (k first last : ℕ) → k ≤ 29 → last < cell_count k → numbers (first * cell_size k) ((last + 1) * cell_size k) ≡ spans k first last
-spans_numbers k first last small fits = same_members _ _ (λ q. contains-numbers (first * cell_size k) ((last + 1) * cell_size k) q ∙ row_of_cells k first last q small fits)
+spans_numbers k first last small fits = same_members _ _ (λ q. contains-numbers (first * cell_size k) ((last + 1) * cell_size k) q ∙ run_of_cells k first last q small fits)
 
 or_nothing : (a b : Bool) → b ≡ false → (a || b) ≡ a
 or_nothing true b none = refl

@@ -87,7 +87,7 @@ contains-degrade a order q =
     contains-kept pixels (λ p. meets a (span order (p / cell_size order))) q
     ∙ ap (λ b. b && meets a (span order (q / cell_size order))) (contains-pixels q)
 
--- the members of a row of spans: the pixels whose cell is one of them
+-- the members of a run of spans: the pixels whose cell is one of them
 pub contains-spans : (order first last q : ℕ)
     → set.contains (spans order first last) q
     ≡ (nat_lt q pixel_count && (nat_le first (q / cell_size order) && nat_le (q / cell_size order) last))

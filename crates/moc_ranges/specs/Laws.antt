@@ -96,19 +96,19 @@ ends last w q i low high = elim (cases_lt last i) [
       grind (arith, nat_tests)
 ]
 
--- a number is in a row of cells where its cell is
-in_row : (first last w q i : ℕ) → i * w ≤ q → q < i * w + w
+-- a number is in a run of cells where its cell is
+in_run : (first last w q i : ℕ) → i * w ≤ q → q < i * w + w
     → in_range (first * w, (last + 1) * w) q ≡ (nat_le first i && nat_le i last)
-in_row first last w q i low high = (λ j. starts first w q i low high j && ends last w q i low high j)
+in_run first last w q i low high = (λ j. starts first w q i low high j && ends last w q i low high j)
 
 -- the cells of an order lie below the last pixel
-row_within : (k last q : ℕ) → k ≤ 29 → last < cell_count k → nat_le (q / cell_size k) last ≡ true
+run_within : (k last q : ℕ) → k ≤ 29 → last < cell_count k → nat_le (q / cell_size k) last ≡ true
     → nat_lt q pixel_count ≡ true
-row_within k last q small fits in_row =
+run_within k last q small fits in_run =
     let w = cell_size k in
     let split = div-add-mod' q w in
     let rest = mod_below q w (cell_size-positive k) in
-    let before : q / w ≤ last = leb-true _ _ in_row in
+    let before : q / w ≤ last = leb-true _ _ in_run in
     let next = mul-le (q / w + 1) w (cell_count k) w (omega arith) (omega arith) in
     let one : (q / w + 1) * w ≡ q / w * w + w = omega arith in
     lt-ltb q pixel_count (omega (arith, cell_size-fills k small))
@@ -121,21 +121,21 @@ below_all true false false say = refl
 below_all false false true say = refl
 below_all false false false say = refl
 
--- the pixels of the cells in a row
-pub row_of_cells : (k first last q : ℕ) → k ≤ 29 → last < cell_count k
+-- the pixels of the cells of a run
+pub run_of_cells : (k first last q : ℕ) → k ≤ 29 → last < cell_count k
     → in_range (first * cell_size k, (last + 1) * cell_size k) q ≡ set.contains (spans k first last) q
-row_of_cells k first last q small fits =
+run_of_cells k first last q small fits =
     let w = cell_size k in
     let split = div-add-mod' q w in
     let rest = mod_below q w (cell_size-positive k) in
-    in_row first last w q (q / w) (omega arith) (omega arith)
-    ∙ below_all (nat_le first (q / w)) (nat_le (q / w) last) (nat_lt q pixel_count) (row_within k last q small fits)
+    in_run first last w q (q / w) (omega arith) (omega arith)
+    ∙ below_all (nat_le first (q / w)) (nat_le (q / w) last) (nat_lt q pixel_count) (run_within k last q small fits)
     ∙ sym (contains-spans k first last q)
 
 between : (index i : ℕ) → (nat_le index i && nat_le i index) ≡ nat_eq i index
 between index i = grind (arith, nat_tests)
 
--- one cell is a row of cells
+-- one cell is a run of cells
 pub spans-one : (order index : ℕ) → spans order index index ≡ span order index
 spans-one order index = same_members _ _ (λ q.
     contains-spans order index index q
@@ -154,7 +154,7 @@ span_numbers : (c : CellNumber) → IsCell c
     → span c.order c.index ≡ numbers (c.index * cell_size c.order) ((c.index + 1) * cell_size c.order)
 span_numbers c is = same_members _ _ (λ q.
     ap (λ a. set.contains a q) (sym (spans-one c.order c.index))
-    ∙ sym (row_of_cells c.order c.index c.index q is.order_in_range is.index_in_range)
+    ∙ sym (run_of_cells c.order c.index c.index q is.order_in_range is.index_in_range)
     ∙ sym (contains-numbers (c.index * cell_size c.order) ((c.index + 1) * cell_size c.order) q))
 
 -- the pixels of cells, as ranges

@@ -2,8 +2,8 @@
 use Rattle.std.proofs.Common.{◌≡◌, inl, inr, ℕ, suc, ◌%◌, ◌≤◌, ◌==◌, Bool, true, false, if◌then◌else◌, List, [], ◌∷◌, length, refl, sym, ap, ◌∙◌, arith}
 use Rattle.std.specs.FinSet as set
 use Rattle.std.proofs.lemmas.Bool.{cases_lt}
-use Rattle.moc_script.specs.Answers.{Rules}
-use Rattle.moc_script.specs.Scripts.{script_rules}
+use Rattle.moc_lines.specs.Answers.{Rules}
+use Rattle.moc_lines.specs.Scripts.{script_rules}
 use Rattle.moc_script.specs.Merges.{InLane, in_lane, dealt}
 use Rattle.moc_script.specs.Crews.{answers_in, AreAllAnswered}
 use Rattle.moc_script.proofs.LaneLists.{next_left}

@@ -6,7 +6,7 @@ use Rattle.std.proofs.lemmas.Bool.{cases_lt}
 use Rattle.std.proofs.lemmas.List.Sums.{sum_by-cons}
 use Rattle.moc_ranges.specs.Blocks.{joining}
 use Rattle.moc_ranges.specs.Numbers.{NumberSet}
-use Rattle.moc_script.specs.Scripts.{script_rules}
+use Rattle.moc_lines.specs.Scripts.{script_rules}
 use Rattle.moc_script.specs.Merges.{in_lane, dealt}
 use Rattle.moc_shared.specs.History.{calls_of, result, IsLegal}
 use Rattle.moc_script.specs.Private.LaneWork.{Does}
@@ -16,9 +16,9 @@ use Rattle.moc_shared.specs.declared.map.SharedMap.{SharedMap}
 use Rattle.moc_shared.specs.declared.record.Calls.{Calls}
 use Rattle.std.specs.Io.KnownBytes.{Appends, Consumes, IsAtEnd, Keeps}
 use Rattle.moc_script.specs.Crews.{cover_line, said_lines, IsCrewText, IsRefusedLine, CrewEnds}
-use Rattle.moc_script.specs.Runs.{AreWithin, IsBegun}
-use Rattle.moc_script.specs.Scripts.{line_limit}
-use Rattle.moc_script.specs.declared.run_error.RunError.TheVariants as run
+use Rattle.moc_lines.specs.Runs.{AreWithin, IsBegun}
+use Rattle.moc_lines.specs.Scripts.{line_limit}
+use Rattle.moc_lines.specs.declared.run_error.RunError.TheVariants as run
 use Rattle.moc_devices.specs.Laws.{Sends-all}
 use Rattle.moc_shared.specs.declared.client.Client.{Client}
 use Rattle.moc_text.specs.Lines.{lines_of}

@@ -1,12 +1,12 @@
 -- What the lines of a schedule say is local, and the steps that they take lead to the world that they leave.
-use Rattle.std.proofs.Common.{◌≡◌, ℕ, suc, ◌≤◌, Bool, true, false, cond, ltb, List, [], ◌∷◌, ◌++◌, length, Option, None, Some, Result, Ok, Err, codes, refl, sym, ap, subst, ◌∙◌, arith, length-append, eqb, take}
-use Rattle.std.specs.List.{position_or_len}
+use Rattle.std.proofs.Common.{◌≡◌, ℕ, suc, ◌<◌, ◌≤◌, Bool, true, false, cond, ltb, List, [], ◌∷◌, ◌++◌, length, Option, None, Some, Result, Ok, Err, codes, refl, sym, ap, subst, ◌∙◌, arith, length-append, eqb}
 use Rattle.std.specs.Result.{IfOk}
 use Rattle.std.specs.Option.{ok_or}
 use Rattle.std.specs.Str.{bytes_eq}
 use Rattle.std.specs.FinSet as set
 use Rattle.std.specs.FinMap as map
 use Rattle.std.proofs.lemmas.Bool.Decides.{nat_tests}
+use Rattle.std.proofs.lemmas.List.Splits.{length-slice_split}
 use Rattle.moc_sphere.specs.CellNumber.{cell_count, cell_number}
 use Rattle.moc_ranges.specs.Numbers.{NumberSet}
 use Rattle.moc_ranges.specs.Pixels.{pixels}
@@ -28,16 +28,15 @@ use Rattle.moc_steps.specs.Explains.{Explains, result}
 use Rattle.moc_steps.specs.Laws.{ArePlayed, HasOneOrder, StepsHaveOneOrder}
 use Rattle.moc_steps.specs.declared.error.StepError.{StepError}
 use Rattle.moc_parts.specs.declared.reply.Reply.{Reply}
-use Rattle.moc_script.specs.Words.{is_blank, word_of, behind_word, number_of}
-use Rattle.moc_script.specs.Language.{◌>>=◌, coverage_or_fault, coverage_of, order_of, plain_operand_of, ordered_operand_of, operand_by, operand_of, command_named, command_with, degrade_of, near_at, near_of, command_of}
-use Rattle.moc_script.specs.Batches.{is_semicolon, pieces_of, piece_says, first_then, commands_of, batch_of}
+use Rattle.moc_lines.specs.Words.{is_blank, word_of, behind_word, number_of}
+use Rattle.moc_lines.specs.Language.{◌>>=◌, coverage_or_fault, coverage_of, order_of, plain_operand_of, ordered_operand_of, operand_by, operand_of, command_named, command_with, degrade_of, near_at, near_of, only_field, two_fields, command_of}
+use Rattle.moc_lines.specs.Batches.{is_semicolon, pieces_of, piece_says, first_then, commands_of, batch_of}
 use Rattle.moc_script.specs.Steps.{BatchStep, client_by, client_of, place_of, step_by, step_at, other_step, begin_by, begin_of, said_step}
-use Rattle.moc_script.specs.Answers.{after_lines}
+use Rattle.moc_lines.specs.Answers.{after_lines}
 use Rattle.moc_script.specs.Schedules.{Schedule, start_schedule, next_line, begins_after, after_step, after_said, schedule_rules, unless_refused, step_taken, steps_taken}
 use Rattle.moc_script.specs.Laws.{SchedulesHaveOneOrder}
-use Rattle.moc_script.specs.declared.fault.Fault.{Fault}
-use Rattle.moc_script.specs.declared.fault.Fault.TheVariants.{WrongCount, BadNumber, OrderTooLarge, CellTooLarge, EmptyCommand, TooManyCommands}
-use Rattle.moc_script.proofs.Batching.{piece-first}
+use Rattle.moc_lines.specs.declared.fault.Fault.{Fault}
+use Rattle.moc_lines.specs.declared.fault.Fault.TheVariants.{WrongCount, BadNumber, OrderTooLarge, CellTooLarge, EmptyCommand, TooManyCommands}
 use Rattle.moc_text.specs.Laws.{empty_within, read_within}
 
 -- ---- what holds where something was read
@@ -106,9 +105,8 @@ with_proper word text =
 
 degrade_proper : (text : List ℕ) → IfOk (degrade_of text) IsCommand
 degrade_proper text =
-    ok_if IsCommand (is_blank text) _ _ tt (
-    ok_if IsCommand (is_blank (behind_word text)) _ _
-    (ok_then _ IsCommand (order_of (word_of text)) _ (order_small (word_of text)) (λ order small. small)) tt)
+    ok_then Any IsCommand (only_field text) _ (ok_any (only_field text)) (λ field _.
+    ok_then _ IsCommand (order_of field) _ (order_small field) (λ order small. small))
 
 near_cell : (order index : ℕ) → IfOk (near_at order index) IsCommand
 near_cell order index = deep (ltb 29 order) refl
@@ -123,12 +121,10 @@ near_cell order index = deep (ltb 29 order) refl
 
 near_proper : (text : List ℕ) → IfOk (near_of text) IsCommand
 near_proper text =
-    let rest = behind_word text in
-    let order = ok_or (number_of (word_of text)) BadNumber in
-    let index = ok_or (number_of (word_of rest)) BadNumber in
-    ok_if IsCommand (is_blank rest) _ _ tt (
-    ok_if IsCommand (is_blank (behind_word rest)) _ _
-    (ok_then Any IsCommand order _ (ok_any order) (λ k _. ok_then Any IsCommand index _ (ok_any index) (λ i _. near_cell k i))) tt)
+    ok_then Any IsCommand (two_fields text) _ (ok_any (two_fields text)) (λ fields _.
+    let order = ok_or (number_of fields.0) BadNumber in
+    let index = ok_or (number_of fields.1) BadNumber in
+    ok_then Any IsCommand order _ (ok_any order) (λ k _. ok_then Any IsCommand index _ (ok_any index) (λ i _. near_cell k i)))
 
 command_proper : (piece : List ℕ) → IfOk (command_of piece) IsCommand
 command_proper piece =
@@ -158,13 +154,14 @@ module _ (local : AreBatchesLocal) where
   first_local (Ok c) (Err e) h each = tt
   first_local (Ok c) (Ok cs) h each = local c cs (h, each)
 
+  pieces_local : (pieces : List (List ℕ)) → 0 < length pieces → IfOk (commands_of command_of pieces) (IsLocal batches)
+  pieces_local [] some = absurd (omega arith)
+  pieces_local (piece ∷ pieces) some = first_local (piece_says command_of piece) (commands_of command_of pieces) (piece_proper piece) (commands_proper pieces)
+
   batch_local : (line : List ℕ) → IfOk (batch_of command_of line) (IsLocal batches)
   batch_local line =
-      let found = piece-first line in
-      let piece = take (position_or_len is_semicolon line) line in
       ok_if (IsLocal batches) (ltb 16 (length (pieces_of line))) (Err TooManyCommands) (commands_of command_of (pieces_of line)) tt
-      (subst (λ (ps : List (List ℕ)). IfOk (commands_of command_of ps) (IsLocal batches)) (sym found.1)
-      (first_local (piece_says command_of piece) (commands_of command_of found.0) (piece_proper piece) (commands_proper found.0)))
+      (pieces_local (pieces_of line) (omega (arith, length-slice_split is_semicolon line)))
 
   -- the step alone is local
   abbrev Alone : BatchStep → Type 0

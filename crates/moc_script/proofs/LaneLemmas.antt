@@ -1,25 +1,23 @@
 -- What a line of a lane asks and is answered, and lines one after another.
 use Rattle.std.proofs.Common.{◌≡◌, inl, inr, ℕ, eq-eqb, Bool, false, if◌then◌else◌, List, [], ◌∷◌, ◌++◌, Result, Ok, Err, refl, sym, ap, subst, ◌∙◌, append-nil}
-use Rattle.std.specs.List.{list_any}
 use Rattle.moc_ranges.specs.Numbers.{NumberSet}
 use Rattle.moc_parts.specs.declared.command.Command.{Command}
-use Rattle.moc_script.specs.Words.{is_blank}
-use Rattle.moc_script.specs.Language.{command_of}
-use Rattle.moc_parts.specs.declared.reply.Reply.{Reply}
-use Rattle.moc_script.specs.Faults.{fault_line}
-use Rattle.moc_script.specs.Replies.{reply_text, replies_text}
-use Rattle.moc_script.specs.Batches.{is_semicolon, batch_of, first_then, answer_to, after_batch, line_answer, after_line}
-use Rattle.moc_script.specs.Answers.{Rules}
-use Rattle.moc_script.specs.Scripts.{script_rules}
-use Rattle.moc_script.specs.declared.fault.Fault.{Fault}
-use Rattle.moc_script.specs.declared.fault.ReadError.{ReadError}
-use Rattle.moc_script.specs.declared.fault.ReadError.TheVariants as error
-use Rattle.moc_script.specs.Private.Readings.{Reads}
+use Rattle.moc_lines.specs.Words.{is_blank}
+use Rattle.moc_lines.specs.Language.{command_of}
+use Rattle.moc_lines.specs.Faults.{fault_line}
+use Rattle.moc_lines.specs.Replies.{replies_text}
+use Rattle.moc_lines.specs.Batches.{batch_of, commands_in, answer_to, after_batch, line_answer, after_line}
+use Rattle.moc_lines.specs.declared.language.Commands.{Commands}
+use Rattle.moc_lines.specs.Answers.{Rules}
+use Rattle.moc_lines.specs.Scripts.{script_rules}
+use Rattle.moc_lines.specs.declared.fault.Fault.{Fault}
+use Rattle.moc_lines.specs.declared.fault.ReadError.{ReadError}
+use Rattle.moc_lines.specs.declared.fault.ReadError.TheVariants as error
+use Rattle.moc_lines.specs.Readings.{Reads}
 use Rattle.moc_shared.specs.declared.record.Entry.{Entry}
 use Rattle.moc_shared.specs.History.{entry, own_with}
-use Rattle.moc_script.proofs.Single.{batch-single}
 use Rattle.moc_script.specs.Private.LaneWork.{IsQuiet, Asks, DoesLine, Does}
-use Rattle.moc_script.specs.Private.LaneEnds.{Made, Answers}
+use Rattle.moc_script.specs.Private.LaneEnds.{Made, Answers, AddsAnswer, Answered}
 use Rattle.moc_shared.specs.declared.map.SharedMap.{SharedMap}
 use Rattle.moc_shared.specs.Clients.{EndsWaiting}
 use Rattle.moc_shared.specs.Batches.{BatchEntry, BatchRecord, answer as object}
@@ -41,24 +39,22 @@ asks_line line e text said is text_is s =
     let h = says_line command_of s line (Ok e.operation) said is in
     (h.1, λ reply. h.0 ∙ ap (λ r. replies_text r ++ 10 ∷ []) (sym reply) ∙ sym text_is)
 
--- a line of one command asks for it
-pub asks_single : (line : List ℕ) (number : ℕ) (c : Command) (reply : Reply) → is_blank line ≡ false → list_any is_semicolon line ≡ false
-    → command_of line ≡ Ok c → Asks object script_rules line (entry number (c ∷ []) (reply ∷ [])) (reply_text reply ++ 10 ∷ [])
-asks_single line number c reply said none is =
-    asks_line line (entry number (c ∷ []) (reply ∷ [])) (reply_text reply ++ 10 ∷ []) said
-    (batch-single line none said ∙ ap (λ r. first_then r (Ok [])) is)
-    (ap (λ l. l ++ 10 ∷ []) (sym (append-nil (reply_text reply))))
+-- a line that says commands, which made a call
+pub said_line : (client : ℕ) (line : List ℕ) (commands : List Command) (old new : BatchRecord) (before after : List ℕ) → is_blank line ≡ false → batch_of command_of line ≡ Ok commands
+    → Answered client commands old new before after → AddsAnswer client line old new before after
+said_line client line commands old new before after said is (replies, text, made) =
+    let e : BatchEntry = entry client commands replies in
+    let answer = replies_text replies ++ 10 ∷ [] in
+    (answer, text, (e ∷ [], inr (e, refl, asks_line line e answer said is refl), made))
 
 -- and one at fault changes nothing
-pub quiet_single : (line : List ℕ) (fault : Fault) → is_blank line ≡ false → list_any is_semicolon line ≡ false
-    → command_of line ≡ Err fault → IsQuiet object script_rules line (fault_line fault)
-quiet_single line fault said none is s =
-    says_line command_of s line (Err fault) said (batch-single line none said ∙ ap (λ r. first_then r (Ok [])) is)
+quiet_line : (line : List ℕ) (fault : Fault) → is_blank line ≡ false → batch_of command_of line ≡ Err fault → IsQuiet object script_rules line (fault_line fault)
+quiet_line line fault said is s = says_line command_of s line (Err fault) said is
 
-pub quiet_read : (line : List ℕ) (e : ReadError) (fault : Fault) → e ≡ error.Fault fault → is_blank line ≡ false → list_any is_semicolon line ≡ false
-    → Reads {X = Command} (λ command. command) (Err e) (command_of line) → IsQuiet object script_rules line (fault_line fault)
-quiet_read line e fault is said none reads =
-    quiet_single line fault said none (subst (λ (x : ReadError). Reads {X = Command} (λ command. command) (Err x) (command_of line)) is reads)
+pub quiet_read : (line : List ℕ) (e : ReadError) (fault : Fault) → e ≡ error.Fault fault → is_blank line ≡ false
+    → Reads {X = Commands} commands_in (Err e) (batch_of command_of line) → IsQuiet object script_rules line (fault_line fault)
+quiet_read line e fault is said reads =
+    quiet_line line fault said (subst (λ (x : ReadError). Reads {X = Commands} commands_in (Err x) (batch_of command_of line)) is reads)
 
 -- a line without a call
 pub no_call : (client : ℕ) (old new : BatchRecord) (line text : List ℕ) → new ≡ old → IsQuiet object script_rules line text → Answers client line old new text

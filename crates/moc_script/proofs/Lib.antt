@@ -1,15 +1,7 @@
-pub mod CoverLemmas
-pub mod NumberLemmas
-pub mod LineLemmas
-pub mod Turns
 pub mod Sending
-pub mod Progress
-pub mod Endings
-pub mod Batching
 pub mod Single
 pub mod Unordered
 pub mod WholeScripts
-pub mod NearLemmas
 pub mod Beginnings
 pub mod TextLemmas
 pub mod LaneLists
@@ -17,9 +9,7 @@ pub mod Passing
 pub mod Weaving
 pub mod LaneLemmas
 pub mod Joinings
-pub mod Reading
 pub mod Gathered
 pub mod Crewing
 pub mod AllAnswered
-pub mod NumberingLemmas
 pub mod Explained

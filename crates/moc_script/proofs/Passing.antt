@@ -4,7 +4,7 @@ use Rattle.std.specs.List.{onto_first}
 use Rattle.std.proofs.lemmas.List.{get_or-append_right, take_more}
 use Rattle.std.proofs.lemmas.List.Elements.{Contains-append_left, Contains-push, Contains-push_cases}
 use Rattle.moc_text.specs.Lines.{is_line_feed, lines_of}
-use Rattle.moc_script.specs.Words.{is_blank}
+use Rattle.moc_lines.specs.Words.{is_blank}
 use Rattle.moc_script.specs.Crews.{IsSaidLine, said_lines}
 use Rattle.moc_script.specs.Private.Input.{HasPassed, Passes, in_turn}
 use Rattle.moc_script.specs.Private.Gathering.{IsFirstUnfinished}

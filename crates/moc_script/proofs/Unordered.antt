@@ -4,11 +4,11 @@ use Rattle.std.specs.List.{list_any, onto_first, prefix_len, position_or_len, Al
 use Rattle.std.proofs.lemmas.List.{take-append-drop}
 use Rattle.std.proofs.lemmas.List.Folds.{list_any-append}
 use Rattle.std.proofs.lemmas.List.Splits.{slice_split-cons_no, slice_split-cons_yes}
-use Rattle.moc_script.specs.Words.{is_blank, is_blank_byte, without_blanks, word_of, behind_word}
-use Rattle.moc_script.specs.Language.{plain_operand_of, operand_by, ordered_operand_of, command_at, command_by, command_of}
-use Rattle.moc_script.specs.Batches.{is_semicolon, pieces_of, piece_says, first_then, commands_of, batch_of, answer_to, after_batch}
+use Rattle.moc_lines.specs.Words.{is_blank, is_blank_byte, without_blanks, word_of, behind_word}
+use Rattle.moc_lines.specs.Language.{plain_operand_of, operand_by, ordered_operand_of, command_at, command_by, command_of}
+use Rattle.moc_lines.specs.Batches.{is_semicolon, pieces_of, piece_says, first_then, commands_of, batch_of, answer_to, after_batch}
 use Rattle.moc_script.specs.Laws.{is_at_sign, LinesWithoutOrder}
-use Rattle.moc_script.specs.declared.fault.Fault.TheVariants.{EmptyCommand, TooManyCommands}
+use Rattle.moc_lines.specs.declared.fault.Fault.TheVariants.{EmptyCommand, TooManyCommands}
 
 pub neither : (a b : Bool) → a || b ≡ false → (a ≡ false) × (b ≡ false)
 neither true b e = cc

@@ -3,7 +3,7 @@ use Rattle.std.proofs.Common.{◌≡◌, ◌≢◌, inl, inr, ℕ, zero, suc, �
 use native.Mathlib.Decide.{ℕ_discrete}
 use Rattle.moc_shared.specs.declared.record.Entry.{Entry}
 use Rattle.moc_shared.specs.History.{calls_of, result, IsLegal}
-use Rattle.moc_script.specs.Answers.{Rules}
+use Rattle.moc_lines.specs.Answers.{Rules}
 use Rattle.moc_script.specs.Merges.{InLane, placed, in_lane}
 use Rattle.moc_script.specs.Crews.{answers_in, left_by}
 use Rattle.moc_script.specs.Private.LaneWork.{Asks, Does}

@@ -8,15 +8,15 @@ use Rattle.moc_text.specs.Lines.{is_line_feed, lines_of}
 use Rattle.moc_ranges.specs.Numbers.{NumberSet}
 use Rattle.moc_parts.specs.declared.command.Command.{Command}
 use Rattle.moc_steps.specs.Locks.Step.{Begin}
-use Rattle.moc_script.specs.Answers.{Rules, is_within, answers_to, after_lines, closing_text, script_text}
-use Rattle.moc_script.specs.Words.{is_blank, word_of, behind_word}
-use Rattle.moc_script.specs.Batches.{is_semicolon, batch_of, first_then}
-use Rattle.moc_script.specs.Language.{◌>>=◌, command_of, command_by, plain_operand_of}
+use Rattle.moc_lines.specs.Answers.{Rules, is_within, answers_to, after_lines, closing_text, script_text}
+use Rattle.moc_lines.specs.Words.{is_blank, word_of, behind_word}
+use Rattle.moc_lines.specs.Batches.{is_semicolon, batch_of, first_then}
+use Rattle.moc_lines.specs.Language.{◌>>=◌, command_of, command_by, plain_operand_of}
 use Rattle.moc_script.specs.Steps.{BatchStep, client_by, begin_of, other_step, said_by, said_step}
 use Rattle.moc_script.specs.Schedules.{Schedule, next_line, answer_to_step, after_said, last_lines, step_rules, start_schedule}
-use Rattle.moc_script.specs.declared.fault.Fault.{Fault}
-use Rattle.moc_script.specs.declared.fault.Fault.TheVariants.{WrongCount}
-use Rattle.moc_script.specs.Scripts.{line_limit, script_rules}
+use Rattle.moc_lines.specs.declared.fault.Fault.{Fault}
+use Rattle.moc_lines.specs.declared.fault.Fault.TheVariants.{WrongCount}
+use Rattle.moc_lines.specs.Scripts.{line_limit, script_rules}
 use Rattle.moc_script.specs.Laws.{single_answer, after_single, single_rules, plain_rules, is_at_sign, one_command, ScriptsOfSingleCommands, ScriptsWithoutOrder, SchedulesOfSingleCommands, SchedulesWithoutOrder}
 use Rattle.moc_script.proofs.Single.{batch-single, lines_of_one_command}
 use Rattle.moc_script.proofs.Unordered.{neither, onto, none_behind, batch_plain, lines_without_order}

@@ -6,14 +6,14 @@ use Rattle.std.specs.Io.KnownBytes.{Appends, Consumes, Keeps}
 use Rattle.moc_ranges.specs.Blocks.{joining}
 use Rattle.moc_ranges.specs.Numbers.{NumberSet}
 use Rattle.moc_text.specs.Lines.{lines_of}
-use Rattle.moc_script.specs.Words.{is_blank}
-use Rattle.moc_script.specs.Replies.{cover_text}
-use Rattle.moc_script.specs.Answers.{Rules}
-use Rattle.moc_script.specs.Runs.{AreWithin, IsTooLong, IsBegun}
-use Rattle.moc_script.specs.Scripts.{line_limit, script_rules}
+use Rattle.moc_lines.specs.Words.{is_blank}
+use Rattle.moc_lines.specs.Replies.{cover_text}
+use Rattle.moc_lines.specs.Answers.{Rules}
+use Rattle.moc_lines.specs.Runs.{AreWithin, IsTooLong, IsBegun}
+use Rattle.moc_lines.specs.Scripts.{line_limit, script_rules}
 use Rattle.moc_script.specs.Merges.{InLane, placed, dealt, IsMerge}
-use Rattle.moc_script.specs.declared.run_error.RunError.{RunError}
-use Rattle.moc_script.specs.declared.run_error.RunError.TheVariants.{Read, Write, LineTooLong, Memory, Spawn}
+use Rattle.moc_lines.specs.declared.run_error.RunError.{RunError}
+use Rattle.moc_lines.specs.declared.run_error.RunError.TheVariants.{Read, Write, LineTooLong, Memory, Spawn}
 
 -- the lines that are not blank
 abbrev pub said_lines : List (List ℕ) → List (List ℕ)

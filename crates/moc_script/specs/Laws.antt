@@ -11,16 +11,16 @@ use Rattle.moc_steps.specs.Operations.{operations, midway}
 use Rattle.moc_steps.specs.World.{whole}
 use Rattle.moc_steps.specs.Explains.{Explains, result}
 use Rattle.moc_steps.specs.Laws.{ArePlayed, led_to}
-use Rattle.moc_script.specs.Words.{is_blank}
-use Rattle.moc_script.specs.Faults.{fault_line}
-use Rattle.moc_script.specs.Language.{◌>>=◌, plain_operand_of, command_by, command_of}
-use Rattle.moc_script.specs.Replies.{reply_text}
-use Rattle.moc_script.specs.Batches.{is_semicolon, batch_of, line_answer, after_line}
-use Rattle.moc_script.specs.Answers.{Rules, after_lines, script_text}
-use Rattle.moc_script.specs.Scripts.{line_limit, answer_on, set_after_line, answers_of}
+use Rattle.moc_lines.specs.Words.{is_blank}
+use Rattle.moc_lines.specs.Faults.{fault_line}
+use Rattle.moc_lines.specs.Language.{◌>>=◌, plain_operand_of, command_by, command_of}
+use Rattle.moc_lines.specs.Replies.{reply_text}
+use Rattle.moc_lines.specs.Batches.{is_semicolon, batch_of, line_answer, after_line}
+use Rattle.moc_lines.specs.Answers.{Rules, after_lines, script_text}
+use Rattle.moc_lines.specs.Scripts.{line_limit, answer_on, set_after_line, answers_of}
 use Rattle.moc_script.specs.Steps.{BatchStep, said_by}
 use Rattle.moc_script.specs.Schedules.{Schedule, step_rules, schedule_rules, start_schedule, steps_taken, schedule_text}
-use Rattle.moc_script.specs.declared.fault.Fault.{Fault}
+use Rattle.moc_lines.specs.declared.fault.Fault.{Fault}
 
 -- the answer to a single command
 abbrev pub single_answer : NumberSet → Result Command Fault → List ℕ

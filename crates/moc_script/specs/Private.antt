@@ -1,9 +1,4 @@
 -- Words that contracts of private functions, and views of types, alone cite.
-pub mod Readings
-pub mod ReadErrors
-pub mod Held
-pub mod LineReading
-pub mod Ended
 pub mod Codes
 pub mod Texts
 pub mod LaneWork
@@ -12,5 +7,3 @@ pub mod Input
 pub mod Gathering
 pub mod Joining
 pub mod Promises
-pub mod Finding
-pub mod Verbs

@@ -11,16 +11,16 @@ use Rattle.moc_steps.specs.Locks.{refusal}
 use Rattle.moc_steps.specs.Locks.Step.{Begin}
 use Rattle.moc_steps.specs.World.{World, Entry, start_world, world_after, reply_to, whole}
 use Rattle.moc_steps.specs.declared.error.StepError.{StepError}
-use Rattle.moc_script.specs.Words.{is_blank}
-use Rattle.moc_script.specs.Faults.{fault_line}
-use Rattle.moc_script.specs.Replies.{cover_text, replies_text}
+use Rattle.moc_lines.specs.Words.{is_blank}
+use Rattle.moc_lines.specs.Faults.{fault_line}
+use Rattle.moc_lines.specs.Replies.{cover_text, replies_text}
 use Rattle.moc_script.specs.Refusals.{refusal_name}
 use Rattle.moc_script.specs.Steps.{BatchStep, said_step}
-use Rattle.moc_script.specs.Answers.{Rules, script_text}
-use Rattle.moc_script.specs.Scripts.{line_limit}
-use Rattle.moc_script.specs.Runs.{Runs, Begins}
-use Rattle.moc_script.specs.declared.fault.Fault.{Fault}
-use Rattle.moc_script.specs.declared.run_error.RunError.{RunError}
+use Rattle.moc_lines.specs.Answers.{Rules, script_text}
+use Rattle.moc_lines.specs.Scripts.{line_limit}
+use Rattle.moc_lines.specs.Runs.{Runs, Begins}
+use Rattle.moc_lines.specs.declared.fault.Fault.{Fault}
+use Rattle.moc_lines.specs.declared.run_error.RunError.{RunError}
 
 -- where a schedule stands
 pub record Schedule : Type 0 where

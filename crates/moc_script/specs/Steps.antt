@@ -5,12 +5,12 @@ use Rattle.std.specs.Str.{bytes_eq}
 use Rattle.moc_parts.specs.declared.command.Command.{Command}
 use Rattle.moc_steps.specs.Locks.{Step}
 use Rattle.moc_steps.specs.Locks.Step.{Begin, Take, Edit, Give, Quit, End}
-use Rattle.moc_script.specs.Words.{is_blank, word_of, behind_word, number_of}
-use Rattle.moc_script.specs.Language.{◌>>=◌, command_of}
-use Rattle.moc_script.specs.Batches.{batch_of}
-use Rattle.moc_script.specs.declared.fault.Fault.{Fault}
-use Rattle.moc_script.specs.declared.fault.Fault.TheVariants.{UnknownWord, WrongCount, BadNumber, ClientTooLarge}
-use Rattle.moc_script.specs.declared.fault.Fault.TheVariants.{PartTooLarge}
+use Rattle.moc_lines.specs.Words.{is_blank, word_of, behind_word, number_of}
+use Rattle.moc_lines.specs.Language.{◌>>=◌, only_field, two_fields, command_of}
+use Rattle.moc_lines.specs.Batches.{batch_of}
+use Rattle.moc_lines.specs.declared.fault.Fault.{Fault}
+use Rattle.moc_lines.specs.declared.fault.Fault.TheVariants.{UnknownWord, WrongCount, BadNumber, ClientTooLarge}
+use Rattle.moc_lines.specs.declared.fault.Fault.TheVariants.{PartTooLarge}
 
 -- a step by a client's batch of commands
 abbrev pub BatchStep : Type 0
@@ -41,16 +41,15 @@ place_by client part = do
 
 -- the client that a text names: it has just one field
 abbrev pub client_of : List ℕ → Result ℕ Fault
-client_of text =
-    if is_blank text then Err WrongCount
-    else (if is_blank (behind_word text) then client_by (word_of text) else Err WrongCount)
+client_of text = do
+  field ← only_field text
+  client_by field
 
 -- the client and the part that a text names: it has just two fields
 abbrev pub place_of : List ℕ → Result (ℕ × ℕ) Fault
-place_of text =
-    let rest = behind_word text in
-    if is_blank rest then Err WrongCount
-    else (if is_blank (behind_word rest) then place_by (word_of text) (word_of rest) else Err WrongCount)
+place_of text = do
+  fields ← two_fields text
+  place_by fields.0 fields.1
 
 -- a step of a client, which the text names
 abbrev pub step_by : (ℕ → BatchStep) → List ℕ → Result BatchStep Fault

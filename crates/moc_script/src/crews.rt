@@ -3,7 +3,7 @@ ghost use Rattle.std.specs.Prelude.{◌≡◌, ◌≢◌, ◌⊎◌, ◌<◌, �
 ghost use Rattle.std.specs.Prelude.{IfOk, IfSome, IfErr, OnOk, OnErr, Err, IsErrOf};
 ghost use Rattle.std.specs.Prelude.{IsTrue, length};
 ghost use Rattle.std.specs.Io.KnownBytes.{IsAtEnd};
-ghost use Rattle.moc_script.specs.Runs.{Flushes};
+ghost use Rattle.moc_lines.specs.Runs.{Flushes};
 ghost use Rattle.moc_text.specs.Lines.{lines_of};
 ghost use Rattle.moc_script.specs.Crews.{CrewEnds, cover_line, said_lines};
 ghost use Rattle.moc_script.specs.Private.Gathering.{NamesLine};
@@ -16,21 +16,18 @@ mod lane;
 mod lanes;
 mod laws;
 mod lines;
-mod reading;
 mod texts;
 mod threads;
 
-use crate::reply_text::push_cover;
-use crate::run_error::RunError;
 pub use gate::{Gate, OpenGate};
 use gathering::{all_done, take_in_all};
 use joining::{JoinError, write_joined};
 pub use lanes::Lanes;
 pub use laws::crews_answer_each_line;
 use moc_devices::{Sink, Source};
+use moc_lines::{ReadFault, RunError, line_behind, push_cover, read_all};
 use moc_ranges::{Coverage, Memory};
 use moc_shared::{CloseError, NewError, SharedMap};
-use reading::{ReadFault, line_behind, read_all};
 use std::alloc::Global;
 use std::marker::Sync;
 use std::sync::Wait;
@@ -92,7 +89,8 @@ fn line_of_cover(alloc: Global, set: &Coverage) -> Result<Vec<u8>, Memory>
     Ok(line)
 }
 
-/// Answers a script by so many lanes, each a thread with a client of one map, which starts empty.
+/// Answers a script by so many lanes, each a thread with a client of one map, which starts empty. A lane that is alone
+/// is the caller's thread.
 ///
 /// All lines are read first. The lines that are not blank go to the lanes in turn, the first to lane 0. Lines and
 /// answers are those of `run`. The answers are those of the lines in one order, which keeps each lane's order; they are

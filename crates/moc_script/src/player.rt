@@ -7,12 +7,11 @@ ghost use Rattle.moc_script.specs.Refusals.{refusal_name};
 ghost use Rattle.moc_script.specs.Schedules.{after_step, answer_to_step, begin_lines, done_text, end_text};
 ghost use Rattle.moc_script.specs.Schedules.{schedule_rules, start_schedule};
 
-use crate::answer::push_fault;
-use crate::fault::ReadError;
-use crate::reply_text::{push_count, push_cover, push_reply_line, push_words};
-use crate::responder::Responder;
 use crate::step::read_step;
-use crate::words::is_blank_text;
+use moc_lines::{
+    ReadError, Responder, is_blank_text, push_count, push_cover, push_fault, push_reply_line,
+    push_words,
+};
 use moc_parts::Replies;
 use moc_ranges::{Coverage, Memory};
 use moc_steps::{CoverError, Entry, Step, StepError, World};

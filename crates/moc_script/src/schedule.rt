@@ -1,13 +1,12 @@
 //! Schedules of steps, played from a reader to a writer.
 ghost use Rattle.std.specs.Prelude.{◌≡◌, ◌⊎◌, IfSome, IsTrue, ◌↔◌, false, OnOk, OnErr, IsErrOf};
 ghost use Rattle.std.specs.Io.KnownBytes.{Appends, IsAtEnd};
-ghost use Rattle.moc_script.specs.Runs.{Flushes};
+ghost use Rattle.moc_lines.specs.Runs.{Flushes};
 ghost use Rattle.moc_script.specs.Schedules.{RunsSchedule, BeginsSchedule, schedule_text};
 
 use crate::player::Player;
-use crate::run_error::RunError;
-use crate::runner::Runner;
 use moc_devices::{Sink, Source};
+use moc_lines::{RunError, answer_all_lines};
 use std::alloc::Global;
 
 /// Plays a schedule: clients take, change and give back parts of one set of pixels of order 29, which starts empty, a
@@ -65,8 +64,5 @@ pub fn play<R: Source, W: Sink>(
     let Ok(mut player) = Player::new(alloc) else {
         return Err(RunError::Memory { line: 0 });
     };
-    let Ok(mut runner) = Runner::new(alloc) else {
-        return Err(RunError::Memory { line: 0 });
-    };
-    runner.run(&mut player, reader, writer)
+    answer_all_lines(alloc, &mut player, reader, writer)
 }

@@ -1,14 +1,15 @@
 //! The steps that lines of a schedule say.
 ghost use Rattle.std.specs.Prelude.{◌≤◌, SomeIff};
 ghost use Rattle.moc_steps.specs.Played.{step_of};
-ghost use Rattle.moc_script.specs.Private.Readings.{Reads};
-ghost use Rattle.moc_script.specs.Batches.{batch_of};
-ghost use Rattle.moc_script.specs.Language.{command_of};
+ghost use Rattle.moc_lines.specs.Readings.{Reads};
+ghost use Rattle.moc_lines.specs.Batches.{batch_of};
+ghost use Rattle.moc_lines.specs.Language.{command_of};
 ghost use Rattle.moc_script.specs.Steps.{begin_by, begin_of, client_by, client_of, place_by, place_of, said_step};
 
-use crate::batch::read_batch;
-use crate::fault::{Fault, ReadError};
-use crate::words::{is_blank_text, is_word, number_in, split_word};
+use moc_lines::{
+    Fault, ReadError, is_blank_text, is_word, number_in, only_field, read_line, split_word,
+    two_fields,
+};
 use moc_parts::Part;
 use moc_steps::Step;
 use std::alloc::Global;
@@ -60,28 +61,15 @@ fn read_place(client: &[u8], part: &[u8]) -> Result<(u32, Part), ReadError>
 fn only_client(text: &[u8]) -> Result<u32, ReadError>
     ensures { Reads (λ client. client) result (client_of text.now) }
 {
-    if is_blank_text(text) {
-        return Err(ReadError::Fault(Fault::WrongCount));
-    }
-    let (client, rest) = split_word(text);
-    if !is_blank_text(rest) {
-        return Err(ReadError::Fault(Fault::WrongCount));
-    }
-    read_client(client)
+    let field = only_field(text)?;
+    read_client(field)
 }
 
 /// The client and the part that a text names: it has just two fields.
 fn only_place(text: &[u8]) -> Result<(u32, Part), ReadError>
     ensures { Reads (λ place. place) result (place_of text.now) }
 {
-    let (client, rest) = split_word(text);
-    if is_blank_text(rest) {
-        return Err(ReadError::Fault(Fault::WrongCount));
-    }
-    let (part, behind) = split_word(rest);
-    if !is_blank_text(behind) {
-        return Err(ReadError::Fault(Fault::WrongCount));
-    }
+    let (client, part) = two_fields(text)?;
     read_place(client, part)
 }
 
@@ -94,7 +82,7 @@ fn read_begin(alloc: Global, text: &[u8]) -> Result<Step, ReadError>
         return Err(ReadError::Fault(Fault::WrongCount));
     }
     let client = read_client(field)?;
-    let batch = read_batch(alloc, line)?;
+    let batch = read_line(alloc, line)?;
     Ok(Step::Begin { client, batch })
 }
 

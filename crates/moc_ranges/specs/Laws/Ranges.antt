@@ -151,12 +151,12 @@ pub same_normal : (rs ss : List (ℕ × ℕ)) → IsNormal rs → IsNormal ss �
 same_normal rs ss n m same =
     same_ranges rs ss n m (λ q. sym (contains-set_of rs q) ∙ ap (λ a. set.contains a q) same ∙ contains-set_of ss q)
 
--- numbers in a row lie in one range of the list
+-- numbers one after the other lie in one range of the list
 abbrev pub LiesInOne : ℕ → ℕ → List (ℕ × ℕ) → Type 0
 LiesInOne low high [] = ⊥
 LiesInOne low high (range ∷ ranges) = ((range.0 ≤ low) × (high ≤ range.1)) ⊎ LiesInOne low high ranges
 
--- numbers in a row that are all in a normal list's set lie in one of its ranges
+-- numbers one after the other that are all in a normal list's set lie in one of its ranges
 pub lies_in_one : (low high : ℕ) (ranges : List (ℕ × ℕ)) → low < high → IsNormal ranges
     → ((q : ℕ) → low ≤ q → q < high → in_ranges ranges q ≡ true) → LiesInOne low high ranges
 lies_in_one low high [] lt normal all = absurd (let here = all low (omega arith) lt in cc)

@@ -16,7 +16,7 @@ last_length (list ∷ []) = length list
 last_length (list ∷ (next ∷ lists)) = last_length (next ∷ lists)
 
 -- nodes by the two rules of lengths, and at most 16 blocks that are not yet a node
-pub record AreNodes (nodes : List (List (List (ℕ × ℕ)))) (blocks : List (List (ℕ × ℕ))) : Type 0 where
+pub record AreGrouped (nodes : List (List (List (ℕ × ℕ)))) (blocks : List (List (ℕ × ℕ))) : Type 0 where
   pub sized : AreFilled 16 nodes
   pub fits : length blocks ≤ 16
 
@@ -25,7 +25,7 @@ pub record AreNodes (nodes : List (List (List (ℕ × ℕ)))) (blocks : List (Li
 pub record IsBuilt (nodes : List (List (List (ℕ × ℕ)))) (blocks : List (List (ℕ × ℕ))) (ranges : List (ℕ × ℕ)) :
     Type 0 where
   pub sized : AreBlocks (joining nodes ++ blocks)
-  pub wide : AreNodes nodes blocks
+  pub wide : AreGrouped nodes blocks
   pub fits : length ranges ≤ 128
   pub normal : IsNormal (kept_of nodes blocks ranges)
 

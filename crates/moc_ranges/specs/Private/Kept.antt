@@ -2,7 +2,7 @@
 use Rattle.std.specs.Prelude.{ℕ, List, ◌++◌}
 use Rattle.moc_ranges.specs.declared.list.kept.Kept.{Kept}
 use Rattle.moc_ranges.specs.Private.Blocks.{joining}
-use Rattle.moc_ranges.specs.Private.Built.{Growing, grown, kept_of, IsBuilt, AreNodes}
+use Rattle.moc_ranges.specs.Private.Built.{Growing, grown, kept_of, IsBuilt, AreGrouped}
 
 -- all its ranges
 abbrev pub all_of : Kept → List (ℕ × ℕ)
@@ -22,4 +22,4 @@ IsKept k = IsBuilt k.nodes.items k.blocks.items k.ranges.items
 
 -- its nodes keep the rule of lengths, and its blocks fit into one
 abbrev pub AreWide : Kept → Type 0
-AreWide k = AreNodes k.nodes.items k.blocks.items
+AreWide k = AreGrouped k.nodes.items k.blocks.items

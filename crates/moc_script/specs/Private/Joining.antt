@@ -6,8 +6,8 @@ use Rattle.moc_script.specs.Merges.{in_lane, dealt}
 use Rattle.moc_devices.specs.Devices.{Sends}
 use Rattle.moc_text.specs.Lines.{lines_of}
 use Rattle.moc_script.specs.Crews.{CrewEnds, IsCrewText, said_lines}
-use Rattle.moc_script.specs.Private.Input.{ReadsAll}
-use Rattle.moc_script.specs.declared.run_error.RunError.{RunError}
+use Rattle.moc_lines.specs.Inputs.{ReadsAll}
+use Rattle.moc_lines.specs.declared.run_error.RunError.{RunError}
 
 -- each lane has as many answers as it has lines, of so many lines
 abbrev pub AreForLines : ℕ → List (List (List ℕ)) → ℕ → Type 0

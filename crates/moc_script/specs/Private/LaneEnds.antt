@@ -1,11 +1,15 @@
 -- What a lane has done.
 use Rattle.std.specs.Prelude.{◌≡◌, ◌<◌, ◌≤◌, ℕ, List, [], ◌∷◌, ◌++◌, length, slice_index_or, Result, Ok, Err}
+use Rattle.moc_parts.specs.declared.command.Command.{Command}
+use Rattle.moc_parts.specs.declared.reply.Reply.{Reply}
 use Rattle.moc_shared.specs.declared.map.SharedMap.{SharedMap}
 use Rattle.moc_shared.specs.Batches.{BatchEntry, BatchRecord, answer as object}
 use Rattle.moc_shared.specs.Clients.{number_of, record_of, IsClientOf}
+use Rattle.moc_shared.specs.History.{entry}
 use Rattle.moc_text.specs.Lines.{lines_of}
+use Rattle.moc_lines.specs.Replies.{replies_text}
 use Rattle.moc_script.specs.Crews.{IsSaidLine}
-use Rattle.moc_script.specs.Scripts.{script_rules}
+use Rattle.moc_lines.specs.Scripts.{script_rules}
 use Rattle.moc_script.specs.Private.Input.{lane_lines}
 use Rattle.moc_script.specs.Private.LaneWork.{DoesLine, Does}
 use Rattle.moc_script.specs.declared.crews.lane.LaneEnd.{LaneEnd}
@@ -26,6 +30,12 @@ Answers client line old new text =
 abbrev pub AddsAnswer : ℕ → List ℕ → BatchRecord → BatchRecord → List ℕ → List ℕ → Type 0
 AddsAnswer client line old new before after =
     (text : List ℕ) × (after ≡ before ++ text) × Answers client line old new text
+
+-- the commands made one call of the client, behind the former ones, and its answer stands behind others
+abbrev pub Answered : ℕ → List Command → BatchRecord → BatchRecord → List ℕ → List ℕ → Type 0
+Answered client commands old new before after =
+    (replies : List Reply) × (after ≡ before ++ (replies_text replies ++ 10 ∷ []))
+    × ((made : List BatchEntry) → Made client made old → Made client (made ++ entry client commands replies ∷ []) new)
 
 -- the line at which a lane was refused memory, or stopped
 abbrev pub line_at : Unfinished → ℕ

@@ -1,22 +1,18 @@
 //! One lane of a crew: a thread with a client of its own.
-ghost use Rattle.std.specs.Prelude.{◌≡◌, ◌<◌, [], false, true, OnOk};
-ghost use Rattle.std.specs.List.{list_any, position_or_len};
+ghost use Rattle.std.specs.Prelude.{◌≡◌, ◌<◌, ◌∷◌, [], false, true, OnOk};
 ghost use Rattle.moc_shared.specs.Clients.{IsClientOf, number_of, record_of};
-ghost use Rattle.moc_script.specs.Words.{is_blank};
-ghost use Rattle.moc_script.specs.Batches.{is_semicolon};
-ghost use Rattle.moc_script.specs.Private.LaneEnds.{Made, AddsAnswer, GoesBefore, IsLaneEnd, line_at};
+ghost use Rattle.moc_lines.specs.Words.{is_blank};
+ghost use Rattle.moc_script.specs.Private.LaneEnds.{Made, AddsAnswer, Answered, GoesBefore, IsLaneEnd, line_at};
 
-use crate::answer::push_fault;
-use crate::batch::{first_semicolon, read_parted};
-use crate::command::read_command;
 use crate::crews::gate::Gate;
 use crate::crews::lines::LaneLines;
 use crate::crews::texts::Texts;
-use crate::fault::ReadError;
-use crate::reply_text::{push_reply, push_reply_line, push_words};
+use moc_lines::{Commands, ReadError, push_fault, push_reply_line, read_commands};
+use moc_parts::{Batch, Command};
 use moc_ranges::Memory;
 use moc_shared::{Client, SharedMap};
 use std::alloc::Global;
+use std::slice;
 use std::sync::Wait;
 use std::sync::atomic::{AtomicBool, Ordering};
 
@@ -78,70 +74,52 @@ fn answer_line<R: Wait>(
         (AddsAnswer (number_of client.old) line.now (record_of client.old) (record_of client.new)
         answers.old.items answers.new.items) }
 {
-    let first = first_semicolon(line);
-    if first < line.len() {
-        answer_batch(rt, alloc, map, client, line, first, answers)
-    } else {
-        answer_command(rt, alloc, map, client, line, answers)
+    match read_commands(alloc, line) {
+        Ok(Commands::One(command)) => answer_command(rt, alloc, map, client, command, answers),
+        Ok(Commands::Several(batch)) => answer_batch(rt, alloc, map, client, &batch, answers),
+        Err(ReadError::Fault(fault)) => push_fault(fault, answers),
+        Err(ReadError::Memory) => Err(Memory),
     }
 }
 
-/// Does the batch that a line says whose first semicolon stands at this place, and puts its answer behind the others.
+/// Does a batch, and puts its answer behind the others.
 fn answer_batch<R: Wait>(
     rt: &R,
     alloc: Global,
     map: &SharedMap,
     client: &mut Client,
-    line: &[u8],
-    first: usize,
+    batch: &Batch,
     answers: &mut Vec<u8>,
 ) -> Result<(), Memory>
     requires map { IsClientOf map.now client.old }
-    requires said { is_blank line.now ≡ false }
-    requires first { first ≡ position_or_len is_semicolon line.now }
     ensures map { IsClientOf map.now client.new }
     ensures number { number_of client.new ≡ number_of client.old }
     ensures answers { OnOk result
-        (AddsAnswer (number_of client.old) line.now (record_of client.old) (record_of client.new)
+        (Answered (number_of client.old) batch.now (record_of client.old) (record_of client.new)
         answers.old.items answers.new.items) }
 {
-    match read_parted(alloc, line, first) {
-        Ok(batch) => {
-            let replies = map.apply(rt, client, &batch)?;
-            push_reply_line(alloc, replies.as_slice(), answers)
-        }
-        Err(ReadError::Fault(fault)) => push_fault(fault, answers),
-        Err(ReadError::Memory) => Err(Memory),
-    }
+    let replies = map.apply(rt, client, batch)?;
+    push_reply_line(alloc, replies.as_slice(), answers)
 }
 
-/// Does the one command that a line says, and puts its answer behind the others: as the batch of it.
+/// Does one command, and puts its answer behind the others: as the batch of it, without a list.
 fn answer_command<R: Wait>(
     rt: &R,
     alloc: Global,
     map: &SharedMap,
     client: &mut Client,
-    line: &[u8],
+    command: Command,
     answers: &mut Vec<u8>,
 ) -> Result<(), Memory>
     requires map { IsClientOf map.now client.old }
-    requires said { is_blank line.now ≡ false }
-    requires single { list_any is_semicolon line.now ≡ false }
     ensures map { IsClientOf map.now client.new }
     ensures number { number_of client.new ≡ number_of client.old }
     ensures answers { OnOk result
-        (AddsAnswer (number_of client.old) line.now (record_of client.old) (record_of client.new)
+        (Answered (number_of client.old) (command ∷ []) (record_of client.old) (record_of client.new)
         answers.old.items answers.new.items) }
 {
-    match read_command(alloc, line) {
-        Ok(command) => {
-            let reply = map.answer(rt, client, command)?;
-            push_reply(alloc, &reply, answers)?;
-            push_words(b"\n", answers)
-        }
-        Err(ReadError::Fault(fault)) => push_fault(fault, answers),
-        Err(ReadError::Memory) => Err(Memory),
-    }
+    let reply = map.answer(rt, client, command)?;
+    push_reply_line(alloc, slice::from_ref(&reply), answers)
 }
 
 /// The end of a lane that was refused memory at this line, once the other lanes are told to stop.

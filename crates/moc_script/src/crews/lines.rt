@@ -1,11 +1,10 @@
 //! The lines of a lane.
 ghost use Rattle.std.specs.Prelude.{◌≡◌, ◌<◌, ◌≤◌, ◌+◌, ◌^◌, ◌∷◌, [], None, IfSome, false, length};
 ghost use Rattle.moc_text.specs.Lines.{lines_of};
-ghost use Rattle.moc_script.specs.Words.{is_blank};
+ghost use Rattle.moc_lines.specs.Words.{is_blank};
 ghost use Rattle.moc_script.specs.Private.Input.{Passes, lane_lines, lines_left};
 
-use crate::bytes::first_or_len;
-use crate::words::is_blank_text;
+use moc_lines::{is_blank_text, split_line};
 
 /// The lines of a lane that are to come: of those that are not blank, each that comes once all other lanes have had
 /// one.
@@ -58,18 +57,5 @@ impl<'a> LaneLines<'a> {
             self.turn -= 1;
         }
         None
-    }
-}
-
-/// The first line of a text that has one, and what stands behind its line feed.
-fn split_line(text: &[u8]) -> (&[u8], &[u8])
-    requires { 0 < length text.now }
-    ensures lines { lines_of text.now ≡ result.0.now ∷ lines_of result.1.now }
-    ensures less { length result.1.now < length text.now }
-{
-    let (line, behind) = text.split_at(first_or_len(b'\n', text));
-    match behind.split_first() {
-        Some((_, rest)) => (line, rest),
-        None => (line, behind),
     }
 }

@@ -78,7 +78,33 @@ fn start<'s, E, R: Wait + Sync, G: Gate + Sync>(
     Ok(handles)
 }
 
-/// Runs each lane in a thread of its own, and waits until all have ended, which is soon once something is refused.
+/// Does the lines of a lane that is alone, in this thread.
+fn work_alone<R: Wait, G: Gate>(
+    rt: &R,
+    alloc: Global,
+    gate: &G,
+    map: &SharedMap,
+    input: &[u8],
+    clients: Vec<Client>,
+) -> Result<Vec<Result<LaneEnd, Unfinished>>, LanesError>
+    requires clients { AreNewClients map.now clients.items 1 }
+    ensures ends { IfOk result (λ ends. AreLaneEnds map.now 1 input.now ends.items) }
+    ensures line { IfErr result (λ e. NamesLine input.now e) }
+{
+    let Ok(mut ends) = Vec::with_capacity(alloc, 1) else {
+        return Err(LanesError::Memory { line: 0 });
+    };
+    let mut clients = clients;
+    let Some(client) = clients.pop() else {
+        unreachable!()
+    };
+    let stop = AtomicBool::new(false);
+    ends.push_reserved(work(rt, alloc, gate, map, input, 1, client, &stop));
+    Ok(ends)
+}
+
+/// Runs each lane in a thread of its own, or in this one where it is alone, and waits until all have ended, which is
+/// soon once something is refused.
 pub fn run_lanes<R: Threads + Wait + Sync, G: Gate + Sync>(
     rt: &R,
     alloc: Global,
@@ -92,6 +118,9 @@ pub fn run_lanes<R: Threads + Wait + Sync, G: Gate + Sync>(
     ensures ends { IfOk result (λ ends. AreLaneEnds map.now lanes input.now ends.items) }
     ensures line { IfErr result (λ e. NamesLine input.now e) }
 {
+    if lanes == 1 {
+        return work_alone(rt, alloc, gate, map, input, clients);
+    }
     let stop = AtomicBool::new(false);
     thread::scope(
         thread::scope_env(),

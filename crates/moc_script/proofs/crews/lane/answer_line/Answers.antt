@@ -1,9 +1,26 @@
--- A line without a semicolon is one command.
-use Rattle.std.proofs.Common.{arith}
-use Rattle.moc_script.specs.Batches.{is_semicolon}
-use Rattle.moc_script.proofs.Batching.{not_found}
+-- The line asks for the commands that it says.
+use Rattle.std.proofs.Common.{◌∙◌, ap, subst, OnOk, List, [], ◌∷◌, Result, Ok}
+use Rattle.moc_parts.specs.declared.command.Command.{Command}
+use Rattle.moc_lines.specs.declared.fault.Fault.{Fault}
+use Rattle.moc_lines.specs.declared.language.Commands.{Commands}
+use Rattle.moc_lines.specs.Batches.{commands_in}
+use Rattle.moc_script.specs.Private.LaneEnds.{Answered}
+use Rattle.moc_script.proofs.Sending.{on_ok}
+use Rattle.moc_script.proofs.LaneLemmas.{said_line}
 use Rattle.moc_script.proofs.crews.lane.answer_line.Goals as goal
 
-pub answer_command-requires-clause-single : goal.answer_command-requires-clause-single
-answer_command-requires-clause-single g c =
-    not_found is_semicolon c.args.line.now c.first_semicolon-first.result c.first_semicolon-first.ensures.at (omega arith)
+pub returns-in-Ok-One-clause-answers : goal.returns-in-Ok-One-clause-answers
+returns-in-Ok-One-clause-answers g c =
+    let says = c.in-Ok-One.ensures ∙ ap {B = Result (List Command) Fault} (λ (read : Commands). Ok (commands_in read)) c.in-Ok-One.field-0-is in
+    on_ok c.answer_command.result (said_line c.args.client.now.number c.args.line.now (c.in-Ok-One.command ∷ []) c.args.client.now.seat.me.0.mine c.answer_command.new.client.seat.me.0.mine
+    c.args.answers.now.items c.answer_command.new.answers.items c.requires.said says)
+    (subst (λ (x : Command). OnOk c.answer_command.result (Answered c.args.client.now.number (x ∷ []) c.args.client.now.seat.me.0.mine c.answer_command.new.client.seat.me.0.mine
+    c.args.answers.now.items c.answer_command.new.answers.items)) c.in-Ok-One.command-is c.answer_command.ensures.answers)
+
+pub returns-in-Ok-Several-clause-answers : goal.returns-in-Ok-Several-clause-answers
+returns-in-Ok-Several-clause-answers g c =
+    let says = c.in-Ok-Several.ensures ∙ ap {B = Result (List Command) Fault} (λ (read : Commands). Ok (commands_in read)) c.in-Ok-Several.field-0-is in
+    on_ok c.answer_batch.result (said_line c.args.client.now.number c.args.line.now c.in-Ok-Several.batch c.args.client.now.seat.me.0.mine c.answer_batch.new.client.seat.me.0.mine
+    c.args.answers.now.items c.answer_batch.new.answers.items c.requires.said says)
+    (subst (λ (x : List Command). OnOk c.answer_batch.result (Answered c.args.client.now.number x c.args.client.now.seat.me.0.mine c.answer_batch.new.client.seat.me.0.mine
+    c.args.answers.now.items c.answer_batch.new.answers.items)) c.in-Ok-Several.batch-is c.answer_batch.ensures.answers)

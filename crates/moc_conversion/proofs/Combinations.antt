@@ -1,0 +1,359 @@
+-- How a combination goes on with the bytes that it takes.
+use Rattle.std.proofs.Common.{◌≡◌, ◌≤◌, ◌<◌, ◌+◌, ◌∙◌, ◌⊎◌, inl, inr, ℕ, zero, suc, Bool, true, false, List, [], ◌∷◌, ◌++◌, Option, None, Some, arith, length, Contains, refl, sym, ap, subst, append_assoc, append-nil, length-append}
+use Rattle.std.specs.Prelude.{if◌then◌else◌}
+use Rattle.std.specs.List.{AllByRecursion, onto_first}
+use Rattle.std.proofs.lemmas.List.Elements.{All-append, All-head, All-tail, Contains-append_right}
+use Rattle.std.proofs.lemmas.List.Splits.{slice_split-cons_no, slice_split_at, slice_split_none, length-slice_split}
+use Rattle.std.proofs.KnownBytes.{Consumes-trans}
+use Rattle.std.specs.Io.KnownBytes.{Consumes, IsAtEnd}
+use Rattle.moc_forms.specs.Combining.{CombinesTexts, Said, TextSays, are_blanks, is_semicolon, joined, parts_of, texts_among, texts_of, without_blank_end}
+use Rattle.moc_forms.specs.Finding.{form_for}
+use Rattle.moc_forms.specs.declared.combining.Operation.{Operation}
+use Rattle.moc_forms.specs.declared.finding.Choice.{Choice}
+use Rattle.moc_conversion.specs.Combining.{HasLongPart, SayNothing, SaysTogether, TellsFirstFault}
+use Rattle.moc_conversion.specs.Private.Pieces.{BringsPiece}
+use Rattle.moc_conversion.specs.Conversion.{HasRead, LacksSemicolons, TellsFault}
+use Rattle.moc_conversion.specs.Private.Running.{AreNotTaken, Begins, Ends, Fails, FailsWithin, IsLong, IsOpen, Leads, SaysMore, RunsTo, TextsSay, semicolon, texts_behind}
+use Rattle.moc_conversion.specs.declared.combination.Combination.{Combination}
+use Rattle.moc_conversion.specs.declared.complaint.Complaint.{Complaint}
+use Rattle.moc_conversion.specs.declared.fault.Fault.{Fault}
+use Rattle.moc_conversion.specs.declared.fault.Fault.TheVariants.{Memory, TooLong}
+
+-- ---- the texts of bytes
+
+-- no text is too long
+abbrev AreWithin : List (List ℕ) → Type 0
+AreWithin texts = AllByRecursion (λ text. length text ≤ 16777216) texts
+
+-- a part before others is a text
+first_stays : (text : List ℕ) (parts : List (List ℕ)) → 0 < length parts → without_blank_end (text ∷ parts) ≡ text ∷ without_blank_end parts
+first_stays text [] some = absurd (omega arith)
+first_stays text (next ∷ parts) some = refl
+
+-- what a semicolon ends is a text, and blanks behind the last one are none
+pub parted : (before : Option Said) (text rest : List ℕ) → LacksSemicolons text → texts_behind before (text ++ 59 ∷ rest) ≡ text ∷ without_blank_end (parts_of rest)
+parted None text rest lacks = ap texts_among (slice_split_at is_semicolon text 59 rest lacks refl)
+parted (Some said) text rest lacks =
+    ap without_blank_end (slice_split_at is_semicolon text 59 rest lacks refl)
+    ∙ first_stays text (parts_of rest) (omega (arith, length-slice_split is_semicolon rest))
+
+-- bytes without a semicolon are one text, but for blanks behind a semicolon
+single : (said : Said) (text : List ℕ) → LacksSemicolons text → texts_behind (Some said) text ≡ (if are_blanks text then [] else text ∷ [])
+single said text lacks = ap without_blank_end (slice_split_none is_semicolon text lacks)
+
+pub alone : (before : Option Said) (text : List ℕ) → LacksSemicolons text → (before ≡ None) ⊎ (are_blanks text ≡ false) → texts_behind before text ≡ text ∷ []
+alone None text lacks why = ap texts_among (slice_split_none is_semicolon text lacks)
+alone (Some said) text lacks (inl is_none) = absurd (cc)
+alone (Some said) text lacks (inr written) = single said text lacks ∙ ap (λ b. if b then [] else text ∷ []) written
+
+module _ (operation : Operation) (choice : Choice) (before : Option Said) (text : List ℕ) (said : Said)
+    (lacks : LacksSemicolons text) (within : length text ≤ 16777216) (says : TextSays choice text said) where
+  -- a text that a semicolon ends says something, and the texts behind it go on from there
+  ended : (rest : List ℕ) (after : Option Said) → TextsSay operation choice (Some (joined operation before said)) rest after
+      → TextsSay operation choice before (text ++ 59 ∷ rest) after
+  ended rest after later = record {
+    says = subst (λ texts. CombinesTexts operation choice before texts after) (sym (parted before text rest lacks)) (said, says, later.says);
+    within = subst AreWithin (sym (parted before text rest lacks)) (within, later.within);
+  }
+
+  -- and so it is with the last text
+  last : texts_behind before text ≡ text ∷ [] → TextsSay operation choice before text (Some (joined operation before said))
+  last one = record {
+    says = subst (λ texts. CombinesTexts operation choice before texts (Some (joined operation before said))) (sym one) (said, says, refl);
+    within = subst AreWithin (sym one) (within, tt);
+  }
+
+-- one more text says a set before the one that is at fault
+later_fails : (number : ℕ) (choice : Choice) (text : List ℕ) (texts : List (List ℕ)) (c : Complaint) → ((said : Said) × TextSays choice text said)
+    → TellsFirstFault (number + 1) choice texts c → TellsFirstFault number choice (text ∷ texts) c
+later_fails number choice text texts c says fails = record {
+  before = suc fails.before;
+  text = fails.text;
+  stands = (says, fails.stands);
+  tells = subst (λ n. TellsFault (form_for choice fails.text) fails.text (Some n) c) (omega arith) fails.tells;
+}
+
+-- the first text is at fault
+first_fails : (number : ℕ) (choice : Choice) (text : List ℕ) (texts : List (List ℕ)) (c : Complaint) → TellsFault (form_for choice text) text (Some number) c
+    → TellsFirstFault number choice (text ∷ texts) c
+first_fails number choice text texts c tells = record {
+  before = zero;
+  text = text;
+  stands = refl;
+  tells = subst (λ n. TellsFault (form_for choice text) text (Some n) c) (omega arith) tells;
+}
+
+-- ---- bytes that are too long
+
+-- the first part has all bytes before the first semicolon
+first_part : (front rest : List ℕ) → LacksSemicolons front
+    → (part : List ℕ) × (more : List (List ℕ)) × (parts_of (front ++ rest) ≡ part ∷ more) × (length front ≤ length part)
+first_part [] rest lacks = by (parts_of rest) _ refl (length-slice_split is_semicolon rest)
+  where
+    by : (parts : List (List ℕ)) (n : ℕ) → parts_of rest ≡ parts → length parts ≡ n + 1
+        → (part : List ℕ) × (more : List (List ℕ)) × (parts_of rest ≡ part ∷ more) × (0 ≤ length part)
+    by [] n none some = absurd (omega (arith, some))
+    by (part ∷ more) n is some = (part, more, is, omega arith)
+first_part (b ∷ front) rest lacks =
+    let behind = first_part front rest (All-tail (λ x. is_semicolon x ≡ false) b front lacks) in (
+      b ∷ behind.0,
+      behind.1,
+      slice_split-cons_no is_semicolon b (front ++ rest) (All-head (λ x. is_semicolon x ≡ false) b front lacks) ∙ ap (onto_first b) behind.2,
+      omega (arith, behind.3),
+    )
+
+-- it is too long where these bytes are
+pub long_front : (front rest : List ℕ) → LacksSemicolons front → 16777216 < length front → HasLongPart (front ++ rest)
+long_front front rest lacks long =
+    let first = first_part front rest lacks in
+    (first.0, subst (λ parts. Contains parts first.0) (sym first.2) (0, omega arith, refl), omega (arith, long, first.3))
+
+-- a part behind a semicolon stays one
+long_behind : (text rest : List ℕ) → LacksSemicolons text → HasLongPart rest → HasLongPart (text ++ 59 ∷ rest)
+long_behind text rest lacks (part, here, long) = (
+  part,
+  subst (λ parts. Contains parts part) (sym (slice_split_at is_semicolon text 59 rest lacks refl)) (Contains-append_right (text ∷ []) (parts_of rest) part here),
+  long,
+)
+
+-- ---- a combination
+
+module _ (c d : Combination) (same_operation : d.operation ≡ c.operation) (same_choice : d.choice ≡ c.choice) (next : d.number ≡ c.number + 1) where
+  -- a combination that has ended its text
+  text_ended_so : (after : Said) → IsOpen c → SaysMore c c.before after → d.text.items ≡ [] → d.before ≡ Some after → Leads c semicolon d
+  text_ended_so after opened more bare before = record {
+    operation = same_operation;
+    choice = same_choice;
+    ends = λ rest end later.
+        ended c.operation c.choice c.before c.text.items more.0 opened.lacks opened.within more.1 rest end
+        (subst (λ o. TextsSay o c.choice (Some (joined c.operation c.before more.0)) rest end) same_operation
+        (subst (λ f. TextsSay d.operation f (Some (joined c.operation c.before more.0)) rest end) same_choice
+        (subst (λ b. TextsSay d.operation d.choice b rest end) (before ∙ ap (λ s. Some s) more.2)
+        (subst (λ t. TextsSay d.operation d.choice d.before (t ++ rest) end) bare later))));
+    fails = λ rest complaint later.
+        subst (λ texts. TellsFirstFault c.number c.choice texts complaint) (sym (parted c.before c.text.items rest opened.lacks))
+        (later_fails c.number c.choice c.text.items (without_blank_end (parts_of rest)) complaint (more.0, more.1)
+        (subst (λ n. TellsFirstFault n c.choice (without_blank_end (parts_of rest)) complaint) next
+        (subst (λ f. TellsFirstFault d.number f (without_blank_end (parts_of rest)) complaint) same_choice
+        (subst (λ b. TellsFirstFault d.number d.choice (texts_behind b rest) complaint) before
+        (subst (λ t. TellsFirstFault d.number d.choice (texts_behind d.before (t ++ rest)) complaint) bare later)))));
+    longer = λ rest long. elim long [
+      | inl part ↦ inl (long_behind c.text.items rest opened.lacks (subst (λ t. HasLongPart (t ++ rest)) bare part))
+      | inr many ↦ inr (omega (arith, many, next))
+    ];
+  }
+
+  pub text_ended : (before : Option Said) (after : Said) → before ≡ c.before → IsOpen c → SaysMore c before after → d.text.items ≡ [] → d.before ≡ Some after → Leads c semicolon d
+  text_ended before after same opened more bare next_before =
+      text_ended_so after opened (subst (λ b. SaysMore c b after) same more) bare next_before
+
+-- a text that a semicolon ends is at fault
+pub ended_fails : (c : Combination) (complaint : Complaint) → IsOpen c → (complaint.fault ≡ Memory) ⊎ TellsFault (form_for c.choice c.text.items) c.text.items (Some c.number) complaint
+    → AreNotTaken c semicolon complaint.fault ⊎ FailsWithin c semicolon complaint
+ended_fails c complaint opened (inl memory) = inl (inl memory)
+ended_fails c complaint opened (inr tells) = inr (λ rest.
+    subst (λ texts. TellsFirstFault c.number c.choice texts complaint) (sym (parted c.before c.text.items rest opened.lacks))
+    (first_fails c.number c.choice c.text.items (without_blank_end (parts_of rest)) complaint tells))
+
+-- the last text is at fault
+pub last_fails : (c : Combination) (complaint : Complaint) → IsOpen c → (c.before ≡ None) ⊎ (are_blanks c.text.items ≡ false)
+    → (complaint.fault ≡ Memory) ⊎ TellsFault (form_for c.choice c.text.items) c.text.items (Some c.number) complaint → (complaint.fault ≡ Memory) ⊎ Fails c [] complaint
+last_fails c complaint opened why (inl memory) = inl memory
+last_fails c complaint opened why (inr tells) = inr (
+    subst (λ t. TellsFirstFault c.number c.choice (texts_behind c.before t) complaint) (sym (append-nil c.text.items))
+    (subst (λ texts. TellsFirstFault c.number c.choice texts complaint) (sym (alone c.before c.text.items opened.lacks why))
+    (first_fails c.number c.choice c.text.items [] complaint tells)))
+
+-- the last text says something
+last_says_so : (c : Combination) (after : Said) → IsOpen c → (c.before ≡ None) ⊎ (are_blanks c.text.items ≡ false) → SaysMore c c.before after → Ends c [] (Some after)
+last_says_so c after opened why more =
+    subst (λ t. TextsSay c.operation c.choice c.before t (Some after)) (sym (append-nil c.text.items))
+    (subst (λ s. TextsSay c.operation c.choice c.before c.text.items (Some s)) (sym more.2)
+    (last c.operation c.choice c.before c.text.items more.0 opened.lacks opened.within more.1 (alone c.before c.text.items opened.lacks why)))
+
+pub last_says : (c : Combination) (before : Option Said) (after : Said) → before ≡ c.before → IsOpen c → (c.before ≡ None) ⊎ (are_blanks c.text.items ≡ false)
+    → SaysMore c before after → Ends c [] (Some after)
+last_says c before after same opened why more = last_says_so c after opened why (subst (λ b. SaysMore c b after) same more)
+
+-- blanks behind the last semicolon say nothing more
+pub blanks_say : (c : Combination) (after : Said) → IsOpen c → c.before ≡ Some after → are_blanks c.text.items ≡ true → Ends c [] (Some after)
+blanks_say c after opened before blank =
+    let none : texts_behind (Some after) c.text.items ≡ [] =
+    single after c.text.items opened.lacks ∙ ap (λ b. if b then [] else c.text.items ∷ []) blank in
+    subst (λ t. TextsSay c.operation c.choice c.before t (Some after)) (sym (append-nil c.text.items))
+    (subst (λ b. TextsSay c.operation c.choice b c.text.items (Some after)) (sym before)
+    (record {
+      says = subst (λ texts. CombinesTexts c.operation c.choice (Some after) texts (Some after)) (sym none) refl;
+      within = subst AreWithin (sym none) tt;
+    }))
+
+-- no bytes lead nowhere
+pub led : (c : Combination) → Leads c [] c
+led c = record { operation = refl; choice = refl; ends = λ rest after end. end; fails = λ rest complaint fails. fails; longer = λ rest long. long }
+
+-- one lead after another
+pub led_on : (a b c : Combination) (xs ys : List ℕ) → Leads a xs b → Leads b ys c → Leads a (xs ++ ys) c
+led_on a b c xs ys first second = record {
+  operation = second.operation ∙ first.operation;
+  choice = second.choice ∙ first.choice;
+  ends = λ rest after end.
+      subst (λ bytes. Ends a bytes after) (sym (append_assoc xs ys rest))
+      (first.ends (ys ++ rest) after (second.ends rest after end));
+  fails = λ rest complaint fails.
+      subst (λ bytes. Fails a bytes complaint) (sym (append_assoc xs ys rest))
+      (first.fails (ys ++ rest) complaint (second.fails rest complaint fails));
+  longer = λ rest long. subst (IsLong a) (sym (append_assoc xs ys rest)) (first.longer (ys ++ rest) (second.longer rest long));
+}
+
+-- bytes without a semicolon are put behind the text
+pub led_by : (c d : Combination) (bytes : List ℕ) → d.operation ≡ c.operation → d.choice ≡ c.choice → d.number ≡ c.number → d.before ≡ c.before
+    → d.text.items ≡ c.text.items ++ bytes → Leads c bytes d
+led_by c d bytes operation choice number before text = record {
+  operation = operation;
+  choice = choice;
+  ends = λ rest after end.
+      subst (λ t. TextsSay c.operation c.choice c.before t after) (behind rest)
+      (subst (λ b. TextsSay c.operation c.choice b (d.text.items ++ rest) after) before
+      (subst (λ f. TextsSay c.operation f d.before (d.text.items ++ rest) after) choice
+      (subst (λ o. TextsSay o d.choice d.before (d.text.items ++ rest) after) operation end)));
+  fails = λ rest complaint fails.
+      subst (λ t. TellsFirstFault c.number c.choice (texts_behind c.before t) complaint) (behind rest)
+      (subst (λ b. TellsFirstFault c.number c.choice (texts_behind b (d.text.items ++ rest)) complaint) before
+      (subst (λ f. TellsFirstFault c.number f (texts_behind d.before (d.text.items ++ rest)) complaint) choice
+      (subst (λ n. TellsFirstFault n d.choice (texts_behind d.before (d.text.items ++ rest)) complaint) number fails)));
+  longer = λ rest long. elim long [
+    | inl part ↦ inl (subst HasLongPart (behind rest) part)
+    | inr many ↦ inr (omega (arith, many, number, length-append bytes rest))
+  ];
+}
+  where
+    behind : (rest : List ℕ) → d.text.items ++ rest ≡ c.text.items ++ (bytes ++ rest)
+    behind rest = ap (λ t. t ++ rest) text ∙ append_assoc c.text.items bytes rest
+
+-- bytes with which the text gets too long are not taken
+pub too_long : (c : Combination) (bytes : List ℕ) (fault : Fault) → IsOpen c → LacksSemicolons bytes → 16777216 < length c.text.items + length bytes
+    → (fault ≡ Memory) ⊎ (fault ≡ TooLong) → AreNotTaken c bytes fault
+too_long c bytes fault opened lacks long (inl memory) = inl memory
+too_long c bytes fault opened lacks long (inr is) =
+    let all : LacksSemicolons (c.text.items ++ bytes) = All-append (λ b. is_semicolon b ≡ false) c.text.items bytes opened.lacks lacks in
+    inr (
+      is,
+      λ rest. inl (subst HasLongPart (append_assoc c.text.items bytes rest)
+          (long_front (c.text.items ++ bytes) rest all (omega (arith, long, length-append c.text.items bytes)))),
+    )
+
+-- a text that cannot be counted does not end
+pub too_many : (c : Combination) (fault : Fault) → 18446744073709551615 ≤ c.number → (fault ≡ Memory) ⊎ (fault ≡ TooLong) → AreNotTaken c semicolon fault
+too_many c fault many (inl memory) = inl memory
+too_many c fault many (inr is) = inr (is, λ rest. inr (omega (arith, many)))
+
+-- bytes behind those that were taken are not taken
+pub not_taken_on : (a b : Combination) (xs ys behind : List ℕ) (fault : Fault) → Leads a xs b → AreNotTaken b ys fault → AreNotTaken a (xs ++ (ys ++ behind)) fault
+not_taken_on a b xs ys behind fault leads (inl memory) = inl memory
+not_taken_on a b xs ys behind fault leads (inr (is, long)) = inr (
+  is,
+  λ rest.
+      subst (IsLong a) (ap (λ more. xs ++ more) (sym (append_assoc ys behind rest)) ∙ sym (append_assoc xs (ys ++ behind) rest))
+      (leads.longer (ys ++ (behind ++ rest)) (long (behind ++ rest))),
+)
+
+-- a fault behind bytes that were taken
+pub failed_on : (a b : Combination) (xs ys behind : List ℕ) (complaint : Complaint) → Leads a xs b → AreNotTaken b ys complaint.fault ⊎ FailsWithin b ys complaint
+    → AreNotTaken a (xs ++ (ys ++ behind)) complaint.fault ⊎ FailsWithin a (xs ++ (ys ++ behind)) complaint
+failed_on a b xs ys behind complaint leads (inl not) = inl (not_taken_on a b xs ys behind complaint.fault leads not)
+failed_on a b xs ys behind complaint leads (inr fails) = inr (λ rest.
+    subst (λ bytes. Fails a bytes complaint) (ap (λ more. xs ++ more) (sym (append_assoc ys behind rest)) ∙ sym (append_assoc xs (ys ++ behind) rest))
+    (leads.fails (ys ++ (behind ++ rest)) complaint (fails (behind ++ rest))))
+
+-- a combination that begins, in what it says and in its faults
+module _ (operation : Operation) (choice : Choice) (c : Combination) (begins : Begins operation choice c) where
+  pub begun : IsOpen c
+  begun = record {
+    lacks = subst LacksSemicolons (sym begins.text) (λ k d below. absurd (omega arith));
+    within = subst (λ t. length t ≤ 16777216) (sym begins.text) (omega arith);
+  }
+
+  begins_texts : (bytes : List ℕ) → texts_behind c.before (c.text.items ++ bytes) ≡ texts_of bytes
+  begins_texts bytes = ap (λ b. texts_behind b (c.text.items ++ bytes)) begins.before ∙ ap (λ t. texts_of (t ++ bytes)) begins.text
+
+  -- all bytes that were taken, where all texts have come
+  pub whole : (d : Combination) (bytes : List ℕ) (after : Said) → Leads c bytes d → Ends d [] (Some after) → TextsSay operation choice None bytes (Some after)
+  whole d bytes after leads all =
+      let told = leads.ends [] (Some after) all in
+      subst (λ o. TextsSay o choice None bytes (Some after)) begins.operation
+      (subst (λ f. TextsSay c.operation f None bytes (Some after)) begins.choice
+      (subst (λ b. TextsSay c.operation c.choice b bytes (Some after)) begins.before
+      (subst (λ t. TextsSay c.operation c.choice c.before t (Some after)) (ap (λ t. t ++ (bytes ++ [])) begins.text ∙ append-nil bytes) told)))
+
+  -- and in what is too long
+  pub longer_from_1 : (bytes : List ℕ) → IsLong c bytes → HasLongPart bytes ⊎ (18446744073709551615 ≤ length bytes)
+  longer_from_1 bytes (inl part) = inl (subst (λ t. HasLongPart (t ++ bytes)) begins.text part)
+  longer_from_1 bytes (inr many) = inr (omega (arith, many, begins.number))
+
+  pub fails_from_1 : (bytes : List ℕ) (complaint : Complaint) → Fails c bytes complaint → TellsFirstFault 1 choice (texts_of bytes) complaint
+  fails_from_1 bytes complaint fails =
+      subst (λ n. TellsFirstFault n choice (texts_of bytes) complaint) begins.number
+      (subst (λ f. TellsFirstFault c.number f (texts_of bytes) complaint) begins.choice
+      (subst (λ texts. TellsFirstFault c.number c.choice texts complaint) (begins_texts bytes) fails))
+
+-- the piece that came where none was at hand
+module _ (left left' : Option (List ℕ)) (old new : List ℕ) (some : Bool) (bare : old ≡ []) (brings : BringsPiece left old left' new some) where
+  pub piece_is : Consumes left left' new
+  piece_is = subst (Consumes left left') (sym (brings.text ∙ ap (λ o. o ++ brings.came) bare)) brings.consumed
+
+-- the bytes that were taken, and a piece behind them; there are as many bytes as pieces at least
+pub piece_taken : (a b c : Option (List ℕ)) (start d e : Combination) (piece : List ℕ) (pieces : ℕ) → Consumes b c piece → Leads d piece e → 0 < length piece
+    → (runs : RunsTo a b start d) × (pieces ≤ length runs.0) → (runs : RunsTo a c start e) × (pieces + 1 ≤ length runs.0)
+piece_taken a b c start d e piece pieces consumed leads some ((taken, (before, led)), counted) = (
+  (taken ++ piece, (Consumes-trans a b c taken piece before consumed, led_on start d e taken piece led leads)),
+  omega (arith, some, counted, length-append taken piece),
+)
+
+module _ (operation : Operation) (choice : Choice) (a b c : Option (List ℕ)) (start d : Combination) (piece : List ℕ)
+    (begins : Begins operation choice start) (runs : RunsTo a b start d) (consumed : Consumes b c piece) where
+  taken : List ℕ
+  taken = runs.0
+
+  -- a piece was not taken
+  pub piece_not_taken : (fault : Fault) → AreNotTaken d piece fault → (fault ≡ Memory) ⊎ ((fault ≡ TooLong) × HasRead (λ given. HasLongPart given ⊎ (18446744073709551615 ≤ length given)) a c)
+  piece_not_taken fault (inl memory) = inl memory
+  piece_not_taken fault (inr (is, long)) = inr (
+    is,
+    (
+      runs.0 ++ piece,
+      Consumes-trans a b c runs.0 piece runs.1.0 consumed,
+      longer_from_1 operation choice start begins (runs.0 ++ piece) (runs.1.1.longer piece (subst (IsLong d) (append-nil piece) (long []))),
+    ),
+  )
+
+  -- a text was at fault in a piece
+  pub piece_fails : (complaint : Complaint) → AreNotTaken d piece complaint.fault ⊎ FailsWithin d piece complaint → SayNothing choice a c complaint
+  piece_fails complaint (inl not) = elim (piece_not_taken complaint.fault not) [ inl memory ↦ inl (inr (inr memory)) | inr longer ↦ inl (inr (inl longer)) ]
+  piece_fails complaint (inr fails) = inr (
+    runs.0 ++ piece,
+    Consumes-trans a b c runs.0 piece runs.1.0 consumed,
+    λ rest at_end.
+        subst (λ bytes. TellsFirstFault 1 choice (texts_of bytes) complaint) (sym (append_assoc runs.0 piece rest))
+        (fails_from_1 operation choice start begins (runs.0 ++ (piece ++ rest)) complaint (runs.1.1.fails (piece ++ rest) complaint (fails rest))),
+  )
+
+  -- all that was left was taken
+  module _ (empty : piece ≡ []) (end : IsAtEnd c) where
+    all_consumed : Consumes a c runs.0
+    all_consumed = subst (Consumes a c) (ap (λ p. runs.0 ++ p) empty ∙ append-nil runs.0) (Consumes-trans a b c runs.0 piece runs.1.0 consumed)
+
+    pub all_taken : (after : Said) → Ends d [] (Some after) → SaysTogether operation choice a c after
+    all_taken after ends =
+        let told = whole operation choice start begins d runs.0 after runs.1.1 ends in
+        (runs.0, all_consumed, (end, told.within, told.says))
+
+    -- the last text was at fault
+    pub all_fails : (complaint : Complaint) → (complaint.fault ≡ Memory) ⊎ Fails d [] complaint → SayNothing choice a c complaint
+    all_fails complaint (inl memory) = inl (inr (inr memory))
+    all_fails complaint (inr fails) = inr (
+      runs.0,
+      all_consumed,
+      λ rest at_end.
+          subst (λ r. TellsFirstFault 1 choice (texts_of (runs.0 ++ r)) complaint) (sym (at_end end))
+          (fails_from_1 operation choice start begins (runs.0 ++ []) complaint (runs.1.1.fails [] complaint fails)),
+    )

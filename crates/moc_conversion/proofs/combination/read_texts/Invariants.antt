@@ -1,0 +1,11 @@
+use Rattle.std.proofs.Common.{◌≡◌, ◌<◌, ◌≤◌, false, length}
+use Rattle.moc_conversion.specs.Private.Running.{IsOpen, RunsTo}
+use Rattle.moc_conversion.proofs.combination.read_texts.Given as goal
+
+abbrev pub invariant-loop-piece : goal.invariant-loop-piece
+invariant-loop-piece g l = record {
+  unmarked : g.R.Source.mark l.input ≡ false;
+  room : 0 < length l.room.items;
+  opened : IsOpen l.texts;
+  taken : (runs : RunsTo (g.R.Source.left l.fn.input) (g.R.Source.left l.input) l.initial.texts l.texts) × (l._piece ≤ length runs.0);
+}

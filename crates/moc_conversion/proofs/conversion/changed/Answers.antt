@@ -1,0 +1,23 @@
+use Rattle.std.proofs.Common.{◌≡◌, ◌⊎◌, ◌∙◌, ℕ, Option, ap₂, subst₂}
+use Rattle.moc_ranges.specs.Numbers.{NumberSet}
+use Rattle.moc_text.specs.AsciiText.{IsTooCoarse}
+use Rattle.moc_forms.specs.Forms.{form_text}
+use Rattle.moc_conversion.specs.declared.fault.Fault.TheVariants.{Memory, TooCoarse}
+use Rattle.moc_conversion.proofs.Checks.{not_changed}
+use Rattle.moc_conversion.proofs.conversion.changed.Goals as goal
+
+pub returns-clause-changes : goal.returns-clause-changes
+returns-clause-changes g c = (
+  (c.in_ok-set.set, c.in_ok-set.deepest, c.in_ok-set.form),
+  c.in_ok-set.ensures.says,
+  c.in_ok-text_of.ensures.text ∙ ap₂ (form_text c.in_ok-set.form) c.in_ok-after.ensures.set c.stated.ensures.order,
+)
+
+pub returns-in_err-text_of-clause-fault : goal.returns-in_err-text_of-clause-fault
+returns-in_err-text_of-clause-fault g c =
+    let told = c.in_err-text_of.field-0.0 in
+    not_changed c.from_residual-in_err-text_of.result told c.args.change c.args.choice _ _
+    (c.in_ok-set.set, c.in_ok-set.deepest, c.in_ok-set.form)
+    c.from_residual-in_err-text_of.ensures.1 c.in_ok-set.ensures.says
+    (subst₂ (λ (a : NumberSet) (k : Option ℕ). (told ≡ Memory) ⊎ ((told ≡ TooCoarse) × IsTooCoarse a k))
+    c.in_ok-after.ensures.set c.stated.ensures.order c.in_err-text_of.ensures.fault)

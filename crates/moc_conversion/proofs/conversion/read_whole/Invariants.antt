@@ -1,0 +1,13 @@
+use Rattle.std.proofs.Common.{◌≡◌, false, ◌+◌, ◌-◌, ◌<◌, length}
+use Rattle.std.specs.Io.KnownBytes.{Consumes}
+use Rattle.moc_conversion.proofs.conversion.read_whole.Given as goal
+
+abbrev pub invariant-loop-input : goal.invariant-loop-input
+invariant-loop-input g l = record {
+  unmarked : g.R.Source.mark l.input ≡ false;
+  room : 0 < length l.room.items;
+  consumed : Consumes (g.R.Source.left l.fn.input) (g.R.Source.left l.input) l.text.items;
+}
+
+abbrev pub decreases-loop-input : goal.decreases-loop-input
+decreases-loop-input g l = 16777216 + 1 - length l.text.items

@@ -1,0 +1,60 @@
+-- Texts of coverages, parted by semicolons on the input, and combined.
+use Rattle.std.specs.Prelude.{◌≡◌, ℕ, ◌+◌, ◌<◌, ◌≤◌, ◌⊎◌, List, [], ◌++◌, Option, Some, Contains, length}
+use Rattle.std.specs.Io.KnownBytes.{IsAtEnd}
+use Rattle.std.specs.List.{AllByRecursion}
+use Rattle.moc_text.specs.AsciiText.{IsTooCoarse}
+use Rattle.moc_forms.specs.Combining.{Combines, Said, StandsBehind, parts_of, texts_of}
+use Rattle.moc_forms.specs.Finding.{form_for}
+use Rattle.moc_forms.specs.Forms.{form_text}
+use Rattle.moc_forms.specs.declared.combining.Operation.{Operation}
+use Rattle.moc_forms.specs.declared.finding.Choice.{Choice}
+use Rattle.moc_conversion.specs.Conversion.{HasRead, IsOfInput, TellsFault}
+use Rattle.moc_conversion.specs.declared.complaint.Complaint.{Complaint}
+use Rattle.moc_conversion.specs.declared.fault.Fault.{Fault}
+use Rattle.moc_conversion.specs.declared.fault.Fault.TheVariants.{TooCoarse}
+
+-- all that was left was read; none of its texts is too long, and this is what they say together
+abbrev pub SaysTogether : Operation → Choice → Option (List ℕ) → Option (List ℕ) → Said → Type 0
+SaysTogether operation choice left left' said =
+    HasRead (λ given. IsAtEnd left' × AllByRecursion (λ text. length text ≤ 16777216) (texts_of given)
+    × Combines operation choice given said) left left'
+
+-- the text is that of the set which the texts of all that was left say together, with their deepest order stated and in
+-- the form of the first
+abbrev pub CombinesAll : Operation → Choice → Option (List ℕ) → Option (List ℕ) → List ℕ → Type 0
+CombinesAll operation choice left left' text =
+    (said : Said) × SaysTogether operation choice left left' said × (text ≡ form_text said.2 said.0 said.1)
+
+-- of texts, counted from a number on, the complaint tells the first that says no set: its number, its fault and where
+-- that is
+pub record TellsFirstFault (number : ℕ) (choice : Choice) (texts : List (List ℕ)) (c : Complaint) : Type 0 where
+  pub before : ℕ
+  pub text : List ℕ
+  pub stands : StandsBehind choice texts before text
+  pub tells : TellsFault (form_for choice text) text (Some (number + before)) c
+
+-- some of what was left was read, and of its texts, counted from 1, the complaint tells the first that says no set; so
+-- it is whatever stands behind what was read, which is nothing at the end
+abbrev pub IsFaultyText : Choice → Option (List ℕ) → Option (List ℕ) → Complaint → Type 0
+IsFaultyText choice left left' c =
+    HasRead (λ given. (rest : List ℕ) → (IsAtEnd left' → rest ≡ [])
+    → TellsFirstFault 1 choice (texts_of (given ++ rest)) c) left left'
+
+-- one of the parts of bytes, between their semicolons, is longer than a text may be
+abbrev pub HasLongPart : List ℕ → Type 0
+HasLongPart bytes = (part : List ℕ) × Contains (parts_of bytes) part × (16777216 < length part)
+
+-- an input of texts could not be had: a part is too long, say, or there are more bytes than are counted
+abbrev pub IsOfTexts : Option (List ℕ) → Option (List ℕ) → Fault → Type 0
+IsOfTexts = IsOfInput (λ given. HasLongPart given ⊎ (18446744073709551615 ≤ length given))
+
+-- why texts say no set together: the input or memory could not be had, or a text is too long, or one is at fault
+abbrev pub SayNothing : Choice → Option (List ℕ) → Option (List ℕ) → Complaint → Type 0
+SayNothing choice left left' c = IsOfTexts left left' c.fault ⊎ IsFaultyText choice left left' c
+
+-- why texts were not combined: they say no set together, or theirs has a cell that is deeper than the stated order
+abbrev pub AreNotCombined : Operation → Choice → Option (List ℕ) → Option (List ℕ) → Complaint → Type 0
+AreNotCombined operation choice left left' c =
+    SayNothing choice left left' c
+    ⊎ ((c.fault ≡ TooCoarse) × (said : Said) × SaysTogether operation choice left left' said
+    × IsTooCoarse said.0 said.1)

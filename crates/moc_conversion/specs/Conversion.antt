@@ -1,0 +1,155 @@
+-- Texts of coverages, from the input: converted, described, drawn, checked.
+use Rattle.std.specs.Prelude.{◌≡◌, ℕ, ◌<◌, ◌≤◌, ◌⊎◌, true, false, List, ◌∷◌, ◌++◌, length, Option, None, Some}
+use Rattle.std.specs.List.{All}
+use Rattle.std.specs.Io.KnownBytes.{Consumes, IsAtEnd}
+use Rattle.moc_text.specs.AsciiText.{IsTooCoarse}
+use Rattle.moc_forms.specs.Changing.{changed, order_after}
+use Rattle.moc_forms.specs.Combining.{Said, TextSays, are_blanks, is_semicolon}
+use Rattle.moc_forms.specs.Describing.{Describes}
+use Rattle.moc_forms.specs.Drawing.{picture_of, picture_of_two}
+use Rattle.moc_forms.specs.Finding.{form_for, hint_of}
+use Rattle.moc_forms.specs.Forms.{IsFormFault, form_text}
+use Rattle.moc_forms.specs.Places.{IsPlace, line_bytes}
+use Rattle.moc_forms.specs.Quotes.{IsTold}
+use Rattle.moc_forms.specs.declared.changing.Change.{Change}
+use Rattle.moc_forms.specs.declared.finding.Choice.{Choice}
+use Rattle.moc_forms.specs.declared.finding.Choice.TheVariants.{Named}
+use Rattle.moc_forms.specs.declared.form.Form.{Form}
+use Rattle.moc_forms.specs.declared.form.FormError.{FormError}
+use Rattle.moc_forms.specs.declared.place.Place.{Place}
+use Rattle.moc_conversion.specs.Faults.{fault_of_form}
+use Rattle.moc_conversion.specs.declared.complaint.Complaint.{Complaint}
+use Rattle.moc_conversion.specs.declared.fault.Fault.{Fault}
+use Rattle.moc_conversion.specs.declared.fault.Fault.TheVariants.{TooLong, Read, Memory, TooCoarse}
+
+-- the text is all that was left, and no longer than an input may be
+pub record IsWhole (left left' : Option (List ℕ)) (text : List ℕ) : Type 0 where
+  pub consumed : Consumes left left' text
+  pub end : IsAtEnd left'
+  pub within : length text ≤ 16777216
+
+-- all that was left was read, and it is such a text
+abbrev pub IsAll : (List ℕ → Type 0) → Option (List ℕ) → Option (List ℕ) → Type 0
+IsAll is left left' = (given : List ℕ) × IsWhole left left' given × is given
+
+-- the input says this, read in a form of this choice
+abbrev pub SaysAll : Choice → Option (List ℕ) → Option (List ℕ) → Said → Type 0
+SaysAll choice left left' said = IsAll (λ text. TextSays choice text said) left left'
+
+-- the input says a set
+abbrev pub IsSaid : Choice → Option (List ℕ) → Option (List ℕ) → Type 0
+IsSaid choice left left' = (said : Said) × SaysAll choice left left' said
+
+-- such a text is made of what the input says
+abbrev pub MakesAll :
+    (Said → List ℕ → Type 0) → Choice → Option (List ℕ) → Option (List ℕ) → List ℕ → Type 0
+MakesAll makes choice left left' text = (said : Said) × SaysAll choice left left' said × makes said text
+
+-- the text in the one form is that of the set which the input says in the other, with the deepest order that it names
+-- stated
+abbrev pub ConvertsAll : Form → Form → Option (List ℕ) → Option (List ℕ) → List ℕ → Type 0
+ConvertsAll from to = MakesAll (λ said text. text ≡ form_text to said.0 said.1) (Named from)
+
+-- the text is that of a change of the set which the input says, in the same form and with the order that is stated of
+-- it
+abbrev pub ChangesAll : Change → Choice → Option (List ℕ) → Option (List ℕ) → List ℕ → Type 0
+ChangesAll change =
+    MakesAll (λ said text. text ≡ form_text said.2 (changed change said.0) (order_after change said.1))
+
+-- the text has the figures of the set which the input says
+abbrev pub DescribesAll : Choice → Option (List ℕ) → Option (List ℕ) → List ℕ → Type 0
+DescribesAll = MakesAll (λ said text. Describes said.0 said.1 text)
+
+-- no byte is a semicolon
+abbrev pub LacksSemicolons : List ℕ → Type 0
+LacksSemicolons bytes = All (λ b. is_semicolon b ≡ false) bytes
+
+-- the texts of a picture: all bytes, or those before the first semicolon and those behind it; blanks alone behind it
+-- are no text
+abbrev pub AreTexts : List ℕ → List ℕ → Option (List ℕ) → Type 0
+AreTexts bytes first None =
+    LacksSemicolons first
+    × ((bytes ≡ first) ⊎ ((blanks : List ℕ) × (are_blanks blanks ≡ true) × (bytes ≡ first ++ 59 ∷ blanks)))
+AreTexts bytes first (Some second) =
+    LacksSemicolons first × (are_blanks second ≡ false) × (bytes ≡ first ++ 59 ∷ second)
+
+-- a picture is that of the set which a text says, or of those which two texts say
+abbrev pub IsPictureOf : Choice → List ℕ → Option (List ℕ) → List ℕ → Type 0
+IsPictureOf choice first None picture = (said : Said) × TextSays choice first said × (picture ≡ picture_of said.0)
+IsPictureOf choice first (Some second) picture =
+    (one other : Said) × TextSays choice first one × TextSays choice second other
+    × (picture ≡ picture_of_two one.0 other.0)
+
+-- a picture is that of the texts that bytes are
+abbrev pub IsPictured : Choice → List ℕ → List ℕ → Type 0
+IsPictured choice bytes picture =
+    (first : List ℕ) × (second : Option (List ℕ)) × AreTexts bytes first second
+    × IsPictureOf choice first second picture
+
+-- the picture is that of the texts that the input is
+abbrev pub DrawsAll : Choice → Option (List ℕ) → Option (List ℕ) → List ℕ → Type 0
+DrawsAll choice left left' picture = IsAll (λ text. IsPictured choice text picture) left left'
+
+-- the complaint tells the first fault of a text, which may be counted, where it is and what stands there, and which
+-- form the text looks like, if that is another
+pub record TellsFault (form : Form) (text : List ℕ) (number : Option ℕ) (c : Complaint) : Type 0 where
+  pub error : FormError
+  pub is_fault : IsFormFault form text error
+  pub told : c.fault ≡ fault_of_form error
+  pub place : Option Place
+  pub is_place : IsPlace text error place
+  pub line : IsTold number text error place (line_bytes c.place)
+  pub hint : c.hint ≡ hint_of form text
+
+-- such bytes of what was left were read
+abbrev pub HasRead : (List ℕ → Type 0) → Option (List ℕ) → Option (List ℕ) → Type 0
+HasRead is left left' = (given : List ℕ) × Consumes left left' given × is given
+
+-- an input could not be had: the reader failed, or it is too long by what was read, or memory was refused
+abbrev pub IsOfInput : (List ℕ → Type 0) → Option (List ℕ) → Option (List ℕ) → Fault → Type 0
+IsOfInput is_long left left' fault =
+    (fault ≡ Read) ⊎ ((fault ≡ TooLong) × HasRead is_long left left') ⊎ (fault ≡ Memory)
+
+-- an input that is one text could not be had
+abbrev pub IsOfWhole : Option (List ℕ) → Option (List ℕ) → Fault → Type 0
+IsOfWhole = IsOfInput (λ given. 16777216 < length given)
+
+-- the fault is the first of a text in a form
+abbrev pub IsTextFault : Form → List ℕ → Fault → Type 0
+IsTextFault form text fault = (error : FormError) × IsFormFault form text error × (fault ≡ fault_of_form error)
+
+-- why the input was not converted: it could not be had, or it has the fault that is told, or the set that it says has a
+-- cell that is deeper than the order that it names
+abbrev pub IsNotConverted : Form → Option (List ℕ) → Option (List ℕ) → Fault → Type 0
+IsNotConverted form left left' fault =
+    IsOfWhole left left' fault ⊎ IsAll (λ text. IsTextFault form text fault) left left'
+    ⊎ ((fault ≡ TooCoarse) × (said : Said) × SaysAll (Named form) left left' said × IsTooCoarse said.0 said.1)
+
+-- why the input says no set: it or memory could not be had, or it has the fault that is told, at the place that is told
+abbrev pub SaysNothing : Choice → Option (List ℕ) → Option (List ℕ) → Complaint → Type 0
+SaysNothing choice left left' c =
+    IsOfWhole left left' c.fault ⊎ IsAll (λ text. TellsFault (form_for choice text) text None c) left left'
+
+-- why nothing was made of the input: it says no set, or what was made of it has a cell that is deeper than its order
+abbrev pub IsNotChanged : Change → Choice → Option (List ℕ) → Option (List ℕ) → Complaint → Type 0
+IsNotChanged change choice left left' c =
+    SaysNothing choice left left' c
+    ⊎ ((c.fault ≡ TooCoarse) × (said : Said) × SaysAll choice left left' said
+    × IsTooCoarse (changed change said.0) (order_after change said.1))
+
+-- of the texts of a picture, which are counted where there are two, the complaint tells the first that says no set
+abbrev pub TellsTexts : Choice → List ℕ → Option (List ℕ) → Complaint → Type 0
+TellsTexts choice first None c = TellsFault (form_for choice first) first None c
+TellsTexts choice first (Some second) c =
+    TellsFault (form_for choice first) first (Some 1) c
+    ⊎ (((said : Said) × TextSays choice first said) × TellsFault (form_for choice second) second (Some 2) c)
+
+-- the complaint tells the first fault of the texts that bytes are
+abbrev pub TellsPictured : Choice → List ℕ → Complaint → Type 0
+TellsPictured choice bytes c =
+    (first : List ℕ) × (second : Option (List ℕ)) × AreTexts bytes first second × TellsTexts choice first second c
+
+-- why the input has no picture: it or memory could not be had, or one of its texts has the fault that is told
+abbrev pub IsNotDrawn : Choice → Option (List ℕ) → Option (List ℕ) → Complaint → Type 0
+IsNotDrawn choice left left' c =
+    IsOfWhole left left' c.fault ⊎ IsAll (λ text. TellsPictured choice text c) left left'

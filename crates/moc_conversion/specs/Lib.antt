@@ -1,0 +1,4 @@
+pub mod Faults
+pub mod Conversion
+pub mod Combining
+pub mod Private

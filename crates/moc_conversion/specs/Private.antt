@@ -1,0 +1,3 @@
+-- Words that contracts of private functions alone cite.
+pub mod Pieces
+pub mod Running

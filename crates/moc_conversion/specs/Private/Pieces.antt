@@ -1,0 +1,19 @@
+-- How an input is read, piece by piece, and parted.
+use Rattle.std.specs.Prelude.{◌≡◌, ◌<◌, ℕ, Bool, true, false, List, ◌∷◌, ◌++◌, length, Option, None, Some}
+use Rattle.std.specs.Borrow.{Bor}
+use Rattle.std.specs.Io.KnownBytes.{Consumes, IsAtEnd}
+use Rattle.moc_conversion.specs.Conversion.{LacksSemicolons}
+
+-- a piece came from a reader behind a text, where there was one; there is none only at the end
+pub record BringsPiece (left : Option (List ℕ)) (old : List ℕ) (left' : Option (List ℕ)) (new : List ℕ) (some : Bool)
+    : Type 0 where
+  pub came : List ℕ
+  pub consumed : Consumes left left' came
+  pub text : new ≡ old ++ came
+  pub more : some ≡ true → length old < length new
+  pub none : some ≡ false → (new ≡ old) × IsAtEnd left'
+
+-- the bytes before the first semicolon and those behind it, or none where there is no semicolon
+abbrev pub IsParted : List ℕ → Option (Bor (List ℕ) × Bor (List ℕ)) → Type 0
+IsParted bytes None = LacksSemicolons bytes
+IsParted bytes (Some parts) = LacksSemicolons parts.0.now × (bytes ≡ parts.0.now ++ 59 ∷ parts.1.now)

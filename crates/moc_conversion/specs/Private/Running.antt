@@ -1,0 +1,81 @@
+-- How texts of an input are taken piece by piece.
+use Rattle.std.specs.Prelude.{◌≡◌, ◌⊎◌, ℕ, ◌+◌, ◌<◌, ◌≤◌, List, [], ◌∷◌, ◌++◌, length, Option, None, Some}
+use Rattle.std.specs.Io.KnownBytes.{Consumes}
+use Rattle.std.specs.List.{AllByRecursion}
+use Rattle.moc_forms.specs.Combining.{CombinesTexts, Said, TextSays, joined, parts_of, texts_of, without_blank_end}
+use Rattle.moc_forms.specs.declared.combining.Operation.{Operation}
+use Rattle.moc_forms.specs.declared.finding.Choice.{Choice}
+use Rattle.moc_conversion.specs.Combining.{HasLongPart, TellsFirstFault}
+use Rattle.moc_conversion.specs.Conversion.{LacksSemicolons}
+use Rattle.moc_conversion.specs.declared.combination.Combination.{Combination}
+use Rattle.moc_conversion.specs.declared.complaint.Complaint.{Complaint}
+use Rattle.moc_conversion.specs.declared.fault.Fault.{Fault}
+use Rattle.moc_conversion.specs.declared.fault.Fault.TheVariants.{TooLong, Memory}
+
+-- the text that has not ended has no semicolon, and is no longer than an input may be
+pub record IsOpen (c : Combination) : Type 0 where
+  pub lacks : LacksSemicolons c.text.items
+  pub within : length c.text.items ≤ 16777216
+
+-- a combination that has no text yet
+pub record Begins (op : Operation) (ch : Choice) (c : Combination) : Type 0 where
+  pub operation : c.operation ≡ op
+  pub choice : c.choice ≡ ch
+  pub number : c.number ≡ 1
+  pub text : c.text.items ≡ []
+  pub before : c.before ≡ None
+
+-- what is said after the text of a combination too, behind what was said before
+abbrev pub SaysMore : Combination → Option Said → Said → Type 0
+SaysMore c before after =
+    (said : Said) × TextSays c.choice c.text.items said × (after ≡ joined c.operation before said)
+
+-- the texts of bytes behind what was said before, if there was anything
+abbrev pub texts_behind : Option Said → List ℕ → List (List ℕ)
+texts_behind None bytes = texts_of bytes
+texts_behind (Some before) bytes = without_blank_end (parts_of bytes)
+
+-- what texts say behind what was said before, where none is too long
+pub record TextsSay (operation : Operation) (choice : Choice) (before : Option Said) (bytes : List ℕ)
+    (after : Option Said) : Type 0 where
+  pub says : CombinesTexts operation choice before (texts_behind before bytes) after
+  pub within : AllByRecursion (λ text. length text ≤ 16777216) (texts_behind before bytes)
+
+-- what comes of a combination with these bytes behind its text
+abbrev pub Ends : Combination → List ℕ → Option Said → Type 0
+Ends c rest after = TextsSay c.operation c.choice c.before (c.text.items ++ rest) after
+
+-- a complaint tells the first of the texts that says no set, with these bytes behind the text of a combination
+abbrev pub Fails : Combination → List ℕ → Complaint → Type 0
+Fails c rest complaint =
+    TellsFirstFault c.number c.choice (texts_behind c.before (c.text.items ++ rest)) complaint
+
+-- the same, whatever stands behind the bytes
+abbrev pub FailsWithin : Combination → List ℕ → Complaint → Type 0
+FailsWithin c bytes complaint = (rest : List ℕ) → Fails c (bytes ++ rest) complaint
+
+-- with these bytes behind the text of a combination a part is longer than a text may be, or there are more parts than
+-- are counted
+abbrev pub IsLong : Combination → List ℕ → Type 0
+IsLong c bytes = HasLongPart (c.text.items ++ bytes) ⊎ (18446744073709551615 < c.number + length bytes)
+
+-- bytes were not taken: memory was refused, or something is too long, whatever stands behind them
+abbrev pub AreNotTaken : Combination → List ℕ → Fault → Type 0
+AreNotTaken c bytes fault =
+    (fault ≡ Memory) ⊎ ((fault ≡ TooLong) × ((rest : List ℕ) → IsLong c (bytes ++ rest)))
+
+-- a combination has taken these bytes behind another
+pub record Leads (c : Combination) (bytes : List ℕ) (d : Combination) : Type 0 where
+  pub operation : d.operation ≡ c.operation
+  pub choice : d.choice ≡ c.choice
+  pub ends : (rest : List ℕ) (after : Option Said) → Ends d rest after → Ends c (bytes ++ rest) after
+  pub fails : (rest : List ℕ) (complaint : Complaint) → Fails d rest complaint → Fails c (bytes ++ rest) complaint
+  pub longer : (rest : List ℕ) → IsLong d rest → IsLong c (bytes ++ rest)
+
+-- the bytes that were left and are no more, and what a combination has become that took them
+abbrev pub RunsTo : Option (List ℕ) → Option (List ℕ) → Combination → Combination → Type 0
+RunsTo left left' c d = (taken : List ℕ) × (Consumes left left' taken × Leads c taken d)
+
+-- the byte that ends a text
+abbrev pub semicolon : List ℕ
+semicolon = 59 ∷ []

@@ -1,0 +1,67 @@
+//! What is told where nothing was made of an input.
+ghost use Rattle.std.specs.Prelude.{◌≡◌, None, OnOk, false, is_err};
+ghost use Rattle.std.specs.Io.KnownBytes.{Appends};
+ghost use Rattle.moc_conversion.specs.Faults.{complaint_text};
+ghost use Rattle.moc_conversion.specs.declared.fault.Fault.TheVariants as fault;
+
+use crate::fault::Fault;
+use moc_devices::{DeviceFault, Sink, write_all};
+use moc_forms::{Form, hint_line};
+use moc_ranges::Memory as MemoryRefused;
+use std::alloc::AllocError;
+
+/// A fault; where it is told, a line that says where it is; and the form that the text looks like, if that is another
+/// than it was read in.
+#[derive(Drop)]
+pub struct Complaint {
+    pub fault: Fault,
+    pub place: Option<String>,
+    pub hint: Option<Form>,
+}
+
+impl Complaint {
+    /// Tells the fault, behind it where it is, and which form the text looks like. Refused where the writer fails; what
+    /// was told before that stays.
+    pub fn tell<E: Sink>(&self, faults: &mut E) -> Result<(), DeviceFault>
+        ensures told { OnOk result (E.mark faults.old ≡ false →
+            Appends (E.written faults.old) (E.written faults.new) (complaint_text self.now)) }
+        ensures marks { E.mark faults.old ≡ false → E.mark faults.new ≡ is_err result }
+    {
+        write_all(self.fault.line().as_bytes(), faults)?;
+        if let Some(place) = &self.place {
+            write_all(place.as_bytes(), faults)?;
+        }
+        match self.hint {
+            Some(form) => write_all(hint_line(form).as_bytes(), faults),
+            None => Ok(()),
+        }
+    }
+}
+
+impl From<Fault> for Complaint {
+    ghost from_gives = { λ f c. (c.fault ≡ f) × (c.place ≡ None) × (c.hint ≡ None) };
+
+    fn from(fault: Fault) -> Complaint {
+        Complaint {
+            fault,
+            place: None,
+            hint: None,
+        }
+    }
+}
+
+impl From<MemoryRefused> for Complaint {
+    ghost from_gives = { λ _ c. (c.fault ≡ fault.Memory) × (c.place ≡ None) × (c.hint ≡ None) };
+
+    fn from(_error: MemoryRefused) -> Complaint {
+        Complaint::from(Fault::Memory)
+    }
+}
+
+impl From<AllocError> for Complaint {
+    ghost from_gives = { λ _ c. (c.fault ≡ fault.Memory) × (c.place ≡ None) × (c.hint ≡ None) };
+
+    fn from(_error: AllocError) -> Complaint {
+        Complaint::from(Fault::Memory)
+    }
+}

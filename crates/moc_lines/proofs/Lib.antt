@@ -1,0 +1,11 @@
+pub mod CoverLemmas
+pub mod NumberLemmas
+pub mod LineLemmas
+pub mod Turns
+pub mod Outcomes
+pub mod Progress
+pub mod Endings
+pub mod Batching
+pub mod NearLemmas
+pub mod WholeReading
+pub mod NumberingLemmas

@@ -1,0 +1,45 @@
+-- Cells that two fields name.
+use Rattle.std.proofs.Common.{◌≡◌, ℕ, List, ◌-◌, ◌^◌, ◌<◌, ◌≤◌, min, Option, Some, None, Result, Ok, sym, ap, ◌∙◌, arith, lit<}
+use Rattle.std.proofs.Math.Nat.{pow-le-pow_right}
+use Rattle.std.proofs.lemmas.Bool.Decides.{nat_tests}
+use Rattle.std.specs.Option.{option_map, ok_or}
+use Rattle.moc_sphere.specs.CellNumber.{CellNumber, cell_number, cell_count}
+use Rattle.moc_parts.specs.declared.command.Command.{Command}
+use Rattle.moc_parts.specs.declared.command.Command.TheVariants.{Near}
+use Rattle.moc_lines.specs.Words.{number_of}
+use Rattle.moc_lines.specs.Language.{near_at, near_by, ◌>>=◌}
+use Rattle.moc_lines.specs.declared.fault.Fault.{Fault}
+use Rattle.moc_lines.specs.declared.fault.Fault.TheVariants.{BadNumber}
+
+-- the answer that a cell is read
+abbrev answer_of : CellNumber → Result Command Fault
+answer_of cell = Ok (Near cell)
+
+-- a held number below the greatest is the number
+held_number : (spelled : Option ℕ) (held : ℕ) → Some held ≡ option_map (λ n. min n (2 ^ 64 - 1)) spelled → held < 2 ^ 64 - 1 → spelled ≡ Some held
+held_number None held e small = absurd cc
+held_number (Some n) held e small =
+    let is : held ≡ min n (2 ^ 64 - 1) = cc in
+    let same : n ≡ held = omega arith in
+    ap (λ (m : ℕ). Some m) same
+
+cells_fit : (k : ℕ) → k ≤ 29 → cell_count k < 2 ^ 64 - 1
+cells_fit k small =
+    let most : 4 ^ k ≤ 4 ^ 29 = pow-le-pow_right (lit< tt) small in
+    omega arith
+
+near_at_cell : (k i : ℕ) → k ≤ 29 → i < cell_count k → near_at k i ≡ Ok (Near (cell_number k i))
+near_at_cell k i small below = grind (arith, nat_tests)
+
+-- two fields that spell an order and the number of one of its cells name that cell
+pub near_is : (order index : List ℕ) (k i : ℕ) → k ≤ 29 → i < cell_count k
+    → Some k ≡ option_map (λ n. min n (2 ^ 64 - 1)) (number_of order) → Some i ≡ option_map (λ n. min n (2 ^ 64 - 1)) (number_of index)
+    → near_by order index ≡ Ok (Near (cell_number k i))
+near_is order index k i small below e f =
+    let order_is : number_of order ≡ Some k = held_number (number_of order) k e (omega arith) in
+    let index_is : number_of index ≡ Some i = held_number (number_of index) i f (omega (arith, cells_fit k small)) in
+    (λ t. ok_or (order_is t) BadNumber >>= (λ k. ok_or (index_is t) BadNumber >>= (λ i. near_at k i))) ∙ near_at_cell k i small below
+
+-- the answer for a cell under its two names
+pub same_answer : (k o i : ℕ) (cell : CellNumber) → o ≡ k → cell ≡ cell_number o i → answer_of (cell_number k i) ≡ answer_of cell
+same_answer k o i cell order number = (λ t. answer_of (cell_number (sym order t) i)) ∙ sym (ap answer_of number)

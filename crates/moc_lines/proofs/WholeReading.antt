@@ -1,0 +1,257 @@
+-- Lines that are read many at a time.
+use Rattle.std.proofs.Common.{◌≡◌, inl, inr, ℕ, suc, ◌+◌, ◌-◌, ◌<◌, ◌≤◌, Bool, true, false, cond, List, [], ◌∷◌, ◌++◌, length, take, drop, get_or, Option, refl, sym, ap, ◌∙◌, arith, append_assoc, append-nil, length-append, length-take, length-drop, subst}
+use Rattle.std.specs.List.{count_by, position_or_len, before_first, after_first, onto_first, AllByRecursion}
+use Rattle.std.proofs.Math.Seq.{drop-append-add}
+use Rattle.std.proofs.lemmas.Bool.{cases_lt, eqb-true}
+use Rattle.std.proofs.lemmas.List.{get_or-append-add, get_or-drop, take-append-drop, take_more, drop-append-le, drop-drop}
+use Rattle.moc_text.specs.Lines.{is_line_feed, lines_of}
+use Rattle.moc_lines.specs.Private.Held.{IsUnbroken}
+use Rattle.moc_lines.specs.Runs.{AreWithin, IsTooLong, IsBegun}
+use Rattle.std.specs.Io.KnownBytes.{Consumes}
+use Rattle.std.proofs.KnownBytes.{Consumes-trans}
+use Rattle.moc_lines.specs.Inputs.{ReadFails}
+use Rattle.moc_lines.specs.Private.Input.{IsHeld, IsBehindLast, fails_on}
+use Rattle.moc_lines.specs.declared.reading.ReadFault.{ReadFault}
+use Rattle.moc_lines.specs.declared.reading.ReadFault.TheVariants as fault
+use Rattle.moc_lines.proofs.LineLemmas.{not_true, count-append, count-cons, some-lines, lines_of-line, lines_of-last, lines_of-long, IsUnbroken-before_first, split_at_line_feed, before_first-none}
+
+-- what holds of the elements of two lists
+both : {X : Type 0} (P : X → Type 0) (xs ys : List X) → AllByRecursion P xs → AllByRecursion P ys → AllByRecursion P (xs ++ ys)
+both P [] ys left right = right
+both P (x ∷ xs) ys left right = (left.0, both P xs ys left.1 right)
+
+weaker : (m n : ℕ) (lines : List (List ℕ)) → m ≤ n → AreWithin m lines → AreWithin n lines
+weaker m n [] less within = tt
+weaker m n (line ∷ lines) less within = (let low = within.0 in omega arith, weaker m n lines less within.1)
+
+onto : (n b : ℕ) (lines : List (List ℕ)) → AreWithin n lines → AreWithin (suc n) (onto_first b lines)
+onto n b [] within = (omega arith, tt)
+onto n b (line ∷ lines) within = ((let low = within.0 in omega arith), weaker n (suc n) lines (omega arith) within.1)
+
+-- no line is longer than the text
+lines_fit : (text : List ℕ) → AreWithin (length text) (lines_of text)
+lines_fit [] = tt
+lines_fit (b ∷ text) = elim (is_line_feed b) as (λ v. AreWithin (suc (length text)) (cond v ([] ∷ lines_of text) (onto_first b (lines_of text)))) [
+  | true ↦ (omega arith, weaker (length text) (suc (length text)) (lines_of text) (omega arith) (lines_fit text))
+  | false ↦ onto (length text) b (lines_of text) (lines_fit text)
+]
+
+-- lines of a text that is no longer than the limit
+pub lines_within : (limit : ℕ) (text : List ℕ) → length text ≤ limit → AreWithin limit (lines_of text)
+lines_within limit text short = weaker (length text) limit (lines_of text) short (lines_fit text)
+
+onto-append : (b : ℕ) (lines more : List (List ℕ)) → 0 < length lines → onto_first b (lines ++ more) ≡ onto_first b lines ++ more
+onto-append b [] more some = absurd (omega arith)
+onto-append b (line ∷ lines) more some = refl
+
+onto-length : (b : ℕ) (lines : List (List ℕ)) → 0 < length lines → length (onto_first b lines) ≡ length lines
+onto-length b [] some = absurd (omega arith)
+onto-length b (line ∷ lines) some = refl
+
+-- lines behind a line feed are lines of their own
+lines_of-behind : (front rest : List ℕ) → lines_of ((front ++ 10 ∷ []) ++ rest) ≡ lines_of (front ++ 10 ∷ []) ++ lines_of rest
+lines_of-behind [] rest = refl
+lines_of-behind (b ∷ front) rest =
+    let first = lines_of (front ++ 10 ∷ []) in
+    let all = lines_of ((front ++ 10 ∷ []) ++ rest) in
+    let by : (v : Bool) → cond v ([] ∷ all) (onto_first b all) ≡ cond v ([] ∷ first) (onto_first b first) ++ lines_of rest =
+    λ v. elim v as (λ w. cond w ([] ∷ all) (onto_first b all) ≡ cond w ([] ∷ first) (onto_first b first) ++ lines_of rest) [
+      | true ↦ ap (λ l. [] ∷ l) (lines_of-behind front rest)
+      | false ↦ ap (onto_first b) (lines_of-behind front rest) ∙ onto-append b first (lines_of rest) (some-lines (front ++ 10 ∷ []) (omega (arith, length-append front (10 ∷ []))))
+    ] in
+    by (is_line_feed b)
+
+-- as many lines as line feeds
+lines_of-count : (front : List ℕ) → length (lines_of (front ++ 10 ∷ [])) ≡ count_by is_line_feed (front ++ 10 ∷ [])
+lines_of-count [] = refl
+lines_of-count (b ∷ front) =
+    let some : 0 < length (lines_of (front ++ 10 ∷ [])) = some-lines (front ++ 10 ∷ []) (omega (arith, length-append front (10 ∷ []))) in
+    let by : (v : Bool) → length (cond v ([] ∷ lines_of (front ++ 10 ∷ [])) (onto_first b (lines_of (front ++ 10 ∷ [])))) ≡ cond v 1 0 + count_by is_line_feed (front ++ 10 ∷ []) =
+    λ v. elim v as (λ v. length (cond v ([] ∷ lines_of (front ++ 10 ∷ [])) (onto_first b (lines_of (front ++ 10 ∷ [])))) ≡ cond v 1 0 + count_by is_line_feed (front ++ 10 ∷ [])) [
+      | true ↦ omega (arith, lines_of-count front)
+      | false ↦ omega (arith, onto-length b (lines_of (front ++ 10 ∷ [])) some, lines_of-count front)
+    ] in
+    by (is_line_feed b) ∙ sym (count-cons b (front ++ 10 ∷ []))
+
+front_of_both : {X : Type 0} (P : X → Type 0) (xs ys : List X) → AllByRecursion P (xs ++ ys) → AllByRecursion P xs
+front_of_both P [] ys all = tt
+front_of_both P (x ∷ xs) ys all = (all.0, front_of_both P xs ys all.1)
+
+-- a line that is begun, and a text whose first line ends it within the limit
+within_begun : (limit : ℕ) (part text : List ℕ) → IsUnbroken part → length part + position_or_len is_line_feed text ≤ limit → length text ≤ limit → AreWithin limit (lines_of (part ++ text))
+within_begun limit part text unbroken first short = elim (cases_lt (position_or_len is_line_feed text) (length text)) [
+  | inl found ↦
+      let before = before_first is_line_feed text in
+      let after = after_first is_line_feed text in
+      let line : IsUnbroken (part ++ before) = count-append part before ∙ omega (arith, unbroken, IsUnbroken-before_first text) in
+      let parts : lines_of (part ++ text) ≡ (part ++ before) ∷ lines_of after =
+      ap (λ l. lines_of (part ++ l)) (split_at_line_feed text found) ∙ ap lines_of (sym (append_assoc part before (10 ∷ after))) ∙ lines_of-line (part ++ before) after line in
+      subst (AreWithin limit) (sym parts) (
+        omega (arith, first, length-append part before, length-take (position_or_len is_line_feed text) text),
+        lines_within limit after (omega (arith, short, length-drop (position_or_len is_line_feed text + 1) text)),
+      )
+  | inr none ↦ lines_within limit (part ++ text) (omega (arith, none, first, length-append part text))
+]
+
+-- nothing is read yet
+pub held_none : IsHeld [] 0
+held_none = record { lines = []; front = λ more. refl; count = refl; within = tt; begun = refl; short = omega arith; inside = omega arith }
+
+module _ (bytes chunk : List ℕ) (start : ℕ) (held : IsHeld bytes start) where
+  front_with : (more : List ℕ) → lines_of ((bytes ++ chunk) ++ more) ≡ held.lines ++ lines_of (drop start bytes ++ (chunk ++ more))
+  front_with more = ap lines_of (append_assoc bytes chunk more) ∙ held.front (chunk ++ more)
+
+  -- bytes without a line feed go on with the line that is begun
+  pub held_more : length chunk ≤ position_or_len is_line_feed chunk → length (drop start bytes) + position_or_len is_line_feed chunk ≤ 1048576 → IsHeld (bytes ++ chunk) start
+  held_more none fits =
+      let begun : drop start (bytes ++ chunk) ≡ drop start bytes ++ chunk = drop-append-le start bytes chunk held.inside in
+      let unbroken : IsUnbroken chunk = ap (count_by is_line_feed) (sym (before_first-none chunk none)) ∙ IsUnbroken-before_first chunk in
+      record {
+        lines = held.lines;
+        front = λ more. front_with more ∙ ap (λ l. held.lines ++ lines_of l) (sym (append_assoc (drop start bytes) chunk more)) ∙ ap (λ l. held.lines ++ lines_of (l ++ more)) (sym begun);
+        count = held.count ∙ omega (arith, count-append bytes chunk, unbroken);
+        within = held.within;
+        begun = ap (count_by is_line_feed) begun ∙ count-append (drop start bytes) chunk ∙ omega (arith, held.begun, unbroken);
+        short = omega (arith, none, fits, ap length begun, length-append (drop start bytes) chunk);
+        inside = omega (arith, held.inside, length-append bytes chunk);
+      }
+
+  -- bytes with a line feed end lines, and begin another behind the last
+  pub held_lines : (place : ℕ) → IsBehindLast chunk place → length (drop start bytes) + position_or_len is_line_feed chunk ≤ 1048576 → length chunk ≤ 65536
+      → IsHeld (bytes ++ chunk) (length bytes + place)
+  held_lines place last fits small =
+      let ended : List ℕ = drop start bytes ++ last.front in
+      let tail = drop place chunk in
+      let begun : drop (length bytes + place) (bytes ++ chunk) ≡ tail = drop-append-add bytes chunk place in
+      let cut : chunk ≡ (last.front ++ 10 ∷ []) ++ tail = sym (take-append-drop place chunk) ∙ ap (λ l. l ++ tail) last.ends in
+      let parts : (more : List ℕ) → lines_of (drop start bytes ++ (chunk ++ more)) ≡ lines_of (ended ++ 10 ∷ []) ++ lines_of (tail ++ more) =
+      λ more. ap (λ l. lines_of (drop start bytes ++ (l ++ more))) cut ∙ ap (λ l. lines_of (drop start bytes ++ l)) (append_assoc (last.front ++ 10 ∷ []) tail more)
+      ∙ ap lines_of (sym (append_assoc (drop start bytes) (last.front ++ 10 ∷ []) (tail ++ more)))
+      ∙ ap (λ l. lines_of (l ++ (tail ++ more))) (sym (append_assoc (drop start bytes) last.front (10 ∷ [])))
+      ∙ lines_of-behind ended (tail ++ more) in
+      let all : AreWithin 1048576 (lines_of (drop start bytes ++ chunk)) = within_begun 1048576 (drop start bytes) chunk held.begun fits (omega arith) in
+      let whole : lines_of (drop start bytes ++ chunk) ≡ lines_of (ended ++ 10 ∷ []) ++ lines_of tail =
+      ap (λ l. lines_of (drop start bytes ++ l)) (sym (append-nil chunk)) ∙ parts [] ∙ ap (λ l. lines_of (ended ++ 10 ∷ []) ++ lines_of l) (append-nil tail) in
+      record {
+        lines = held.lines ++ lines_of (ended ++ 10 ∷ []);
+        front = λ more. front_with more ∙ ap (λ l. held.lines ++ l) (parts more) ∙ sym (append_assoc held.lines (lines_of (ended ++ 10 ∷ [])) (lines_of (tail ++ more)))
+            ∙ ap (λ l. (held.lines ++ lines_of (ended ++ 10 ∷ [])) ++ lines_of (l ++ more)) (sym begun);
+        count = length-append held.lines (lines_of (ended ++ 10 ∷ []))
+            ∙ omega (
+              arith,
+              held.count,
+              held.begun,
+              last.unbroken,
+              lines_of-count ended,
+              count-append ended (10 ∷ []),
+              count-append (drop start bytes) last.front,
+              count-append last.front (10 ∷ []),
+              count-append bytes chunk,
+              ap (count_by is_line_feed) cut,
+              count-append (last.front ++ 10 ∷ []) tail,
+            );
+        within = both (λ line. length line ≤ 1048576) held.lines (lines_of (ended ++ 10 ∷ [])) held.within
+            (front_of_both (λ line. length line ≤ 1048576) (lines_of (ended ++ 10 ∷ [])) (lines_of tail) (subst (AreWithin 1048576) whole all));
+        begun = ap (count_by is_line_feed) begun ∙ last.unbroken;
+        short = omega (arith, small, ap length begun, length-drop place chunk);
+        inside = omega (arith, last.inside, length-append bytes chunk);
+      }
+
+  -- the line that is begun has bytes, of some that come
+  pub held_begun : 0 < length chunk → (number : ℕ) → number ≡ count_by is_line_feed bytes + 1 → IsBegun number (bytes ++ chunk)
+  held_begun some number is =
+      let rest = drop start bytes ++ chunk in
+      let lines : lines_of (bytes ++ chunk) ≡ held.lines ++ lines_of rest = held.front chunk in
+      let one = some-lines rest (omega (arith, some, length-append (drop start bytes) chunk)) in
+      let few : number ≤ length (lines_of (bytes ++ chunk)) = omega (arith, is, one, held.count, ap length lines, length-append held.lines (lines_of rest)) in
+      record { none = λ e. absurd (omega (arith, e, is)); some = λ _. few; next = omega (arith, few) }
+
+  -- the line that is begun goes over the limit
+  pub held_long : 1048576 < length (drop start bytes) + position_or_len is_line_feed chunk → position_or_len is_line_feed chunk ≤ length chunk
+      → (number : ℕ) → number ≡ count_by is_line_feed bytes + 1 → IsTooLong 1048576 (lines_of (bytes ++ chunk)) number
+  held_long long inside number is =
+      let place = position_or_len is_line_feed chunk in
+      let before = before_first is_line_feed chunk in
+      let line : IsUnbroken (drop start bytes ++ before) = count-append (drop start bytes) before ∙ omega (arith, held.begun, IsUnbroken-before_first chunk) in
+      let parts : drop start bytes ++ chunk ≡ (drop start bytes ++ before) ++ drop place chunk =
+      ap (λ l. drop start bytes ++ l) (sym (take-append-drop place chunk)) ∙ sym (append_assoc (drop start bytes) before (drop place chunk)) in
+      let found = lines_of-long 1048576 (drop start bytes ++ before) (drop place chunk) line (omega (arith, long, inside, length-append (drop start bytes) before, length-take place chunk)) in
+      let lines : lines_of (bytes ++ chunk) ≡ held.lines ++ found.0 ∷ found.1 = held.front chunk ∙ ap (λ l. held.lines ++ lines_of l) parts ∙ ap (λ l. held.lines ++ l) found.2 in
+      let index : number - 1 ≡ length held.lines + 0 = omega (arith, held.count) in
+      let at : get_or (lines_of (bytes ++ chunk)) (number - 1) [] ≡ found.0 =
+      ap (λ l. get_or l (number - 1) []) lines ∙ ap (λ n. get_or (held.lines ++ found.0 ∷ found.1) n []) index ∙ get_or-append-add held.lines (found.0 ∷ found.1) 0 [] in
+      (omega arith, subst (λ (l : List ℕ). 1048576 < length l) (sym at) found.3)
+
+-- all lines are within the limit
+pub held_all : (bytes : List ℕ) (start : ℕ) → IsHeld bytes start → AreWithin 1048576 (lines_of bytes)
+held_all bytes start held =
+    let part = drop start bytes in
+    let lines : lines_of bytes ≡ held.lines ++ lines_of part = ap lines_of (sym (append-nil bytes)) ∙ held.front [] ∙ ap (λ l. held.lines ++ lines_of l) (append-nil part) in
+    subst (AreWithin 1048576) (sym lines) (both (λ line. length line ≤ 1048576) held.lines (lines_of part) held.within (lines_within 1048576 part held.short))
+
+-- where no byte is a line feed, there is none
+pub unbroken_by : (bytes : List ℕ) → ((k : ℕ) → k < length bytes → is_line_feed (get_or bytes k 0) ≡ true → ⊥) → IsUnbroken bytes
+unbroken_by [] none = refl
+unbroken_by (b ∷ bytes) none =
+    count-cons b bytes ∙ omega (arith, unbroken_by bytes (λ k low is. none (suc k) (omega arith) is), ap {B = ℕ} (λ v. cond v 1 0) (not_true (is_line_feed b) (none 0 (omega arith))))
+
+-- the place behind the last line feed
+pub behind_last : (bytes : List ℕ) (at : ℕ) → at < length bytes → is_line_feed (get_or bytes at 0) ≡ true → ((k : ℕ) → at + 1 ≤ k → k < length bytes → is_line_feed (get_or bytes k 0) ≡ true → ⊥)
+    → IsBehindLast bytes (at + 1)
+behind_last bytes at inside here after = record {
+  front = take at bytes;
+  ends = take_more bytes at 0 inside ∙ ap (λ (b : ℕ). take at bytes ++ b ∷ []) (eqb-true _ _ here);
+  unbroken = unbroken_by (drop (at + 1) bytes) (λ k low is.
+      after (at + 1 + k) (omega arith) (omega (arith, low, length-drop (at + 1) bytes)) (ap is_line_feed (sym (get_or-drop (at + 1) bytes k 0)) ∙ is));
+  inside = omega arith;
+}
+
+-- a line feed stands behind the first line
+pub split_found : (text line rest : List ℕ) (x n : ℕ) → n ≡ position_or_len is_line_feed text → line ≡ take n text → drop n text ≡ x ∷ rest → lines_of text ≡ line ∷ lines_of rest
+split_found text line rest x n place line_is behind =
+    let found : position_or_len is_line_feed text < length text = omega (arith, place, ap length behind, length-drop n text) in
+    let before : line ≡ before_first is_line_feed text = line_is ∙ ap (λ k. take k text) place in
+    let after : rest ≡ after_first is_line_feed text = ap (drop 1) (sym behind) ∙ drop-drop 1 n text ∙ ap (λ k. drop (k + 1) text) place in
+    ap lines_of (split_at_line_feed text found) ∙ lines_of-line (before_first is_line_feed text) (after_first is_line_feed text) (IsUnbroken-before_first text)
+    ∙ ap (λ l. l ∷ lines_of (after_first is_line_feed text)) (sym before) ∙ ap (λ l. line ∷ lines_of l) (sym after)
+
+-- the first line is the last, and no line feed stands behind it
+pub split_last : (text line behind : List ℕ) (n : ℕ) → 0 < length text → n ≡ position_or_len is_line_feed text → line ≡ take n text → behind ≡ drop n text → length behind ≡ 0
+    → lines_of text ≡ line ∷ lines_of behind
+split_last text line behind n some place line_is behind_is none =
+    let past : length text ≤ position_or_len is_line_feed text = omega (arith, place, ap length behind_is, length-drop n text) in
+    let whole : line ≡ text = line_is ∙ ap (λ k. take k text) place ∙ before_first-none text past in
+    let empty : behind ≡ [] = empty_by behind none in
+    lines_of-last text (ap (count_by is_line_feed) (sym (before_first-none text past)) ∙ IsUnbroken-before_first text) some
+    ∙ ap (λ l. l ∷ []) (sym whole) ∙ ap (λ l. line ∷ lines_of l) (sym empty)
+  where
+    empty_by : (l : List ℕ) → length l ≡ 0 → l ≡ []
+    empty_by [] e = refl
+    empty_by (x ∷ l) e = absurd (omega arith)
+
+-- nothing is read yet
+pub held_new : (bytes : List ℕ) (start : ℕ) → bytes ≡ [] → start ≡ 0 → IsHeld bytes start
+held_new bytes start none first = subst (λ (b : List ℕ). IsHeld b start) (sym none) (subst (λ (n : ℕ). IsHeld [] n) (sym first) held_none)
+
+-- a line feed that is found is one
+pub some_line_feed : (bytes : List ℕ) → position_or_len is_line_feed bytes < length bytes → 0 < count_by is_line_feed bytes
+some_line_feed bytes found =
+    let before = before_first is_line_feed bytes in
+    let after = after_first is_line_feed bytes in
+    omega (arith, ap (count_by is_line_feed) (split_at_line_feed bytes found), count-append before (10 ∷ after), count-cons 10 after)
+
+-- a fault of the lines that were given is one of a reader that gave them
+pub reads_fail : (a b : Option (List ℕ)) (given : List ℕ) (e : ReadFault) → Consumes a b given → fails_on given e → ReadFails a b e
+reads_fail a b given fault.Read consumed fails = tt
+reads_fail a b given (fault.TooLong line) consumed fails = (given, consumed, fails)
+reads_fail a b given (fault.Memory line) consumed fails = (given, consumed, fails)
+
+-- more was given
+pub given_more : (a b c : Option (List ℕ)) (bytes chunk bytes' : List ℕ) → Consumes a b bytes → Consumes b c chunk → bytes' ≡ bytes ++ chunk → Consumes a c bytes'
+given_more a b c bytes chunk bytes' given more is = subst (Consumes a c) (sym is) (Consumes-trans a b c bytes chunk given more)
+
+-- the read that gave nothing was the last
+pub given_all : (a b c : Option (List ℕ)) (bytes buffer : List ℕ) (n : ℕ) → Consumes a b bytes → Consumes b c (take n buffer) → n ≡ 0 → Consumes a c bytes
+given_all a b c bytes buffer n given none zero_read =
+    let empty : take n buffer ≡ [] = ap (λ k. take k buffer) zero_read in
+    given_more a b c bytes (take n buffer) bytes given none (sym (append-nil bytes) ∙ ap (λ l. bytes ++ l) (sym empty))

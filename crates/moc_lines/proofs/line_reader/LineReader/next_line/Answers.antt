@@ -1,0 +1,87 @@
+-- A part of a line was found, the line was ended, or it is too long.
+use Rattle.std.proofs.Common.{◌≡◌, ℕ, zero, suc, ◌+◌, ◌<◌, ◌≤◌, ◌||◌, Bool, true, false, eqb, List, [], ◌∷◌, Option, length, sym, ap, ◌∙◌, Err, refl, arith, length-append}
+use Rattle.std.proofs.lemmas.Bool.{ltb-true, ltb-false, eqb-true}
+use Rattle.moc_lines.specs.declared.line_reader.LineFault.{LineFault}
+use Rattle.moc_lines.specs.declared.line_reader.LineFault.TheVariants.{Read, TooLong, Memory}
+use Rattle.moc_lines.specs.Private.LineReading.{TakesLine}
+use Rattle.std.specs.List.{count_by, position_or_len}
+use Rattle.moc_text.specs.Lines.{is_line_feed}
+use Rattle.moc_lines.specs.Private.Held.{Held}
+use Rattle.moc_lines.proofs.Turns.{Turn, Turn-brought, Turn-line, Turn-more, Turn-none, Turn-too_long}
+use Rattle.moc_lines.proofs.line_reader.LineReader.next_line.Goals as goal
+
+faulty : (limit : ℕ) (old now next : Held) (a b : Option (List ℕ)) → Turn limit old a now b → (fault : LineFault)
+    → (fault ≡ TooLong → limit < length now.line + position_or_len is_line_feed now.unread) → (fault ≡ Read → ⊥) → 0 < length now.unread → TakesLine limit old a next b (Err fault)
+faulty limit old now next a b turn Read long other some = absurd (other refl)
+faulty limit old now next a b turn TooLong long other some = Turn-too_long limit old now next a b turn (long refl)
+faulty limit old now next a b turn Memory long other some = (turn.came, turn.consumed, rw turn.parts (omega (arith, some, length-append now.line now.unread)))
+
+none : (xs : List ℕ) → length xs ≤ 0 → xs ≡ []
+none [] few = refl
+none (x ∷ xs) few = absurd (omega arith)
+
+some : (n : ℕ) → eqb n 0 ≡ false → 0 < n
+some zero e = cc
+some (suc n) e = omega arith
+
+failed : (new old : Bool) → new ≡ old || true → new ≡ true
+failed new true e = e
+failed new false e = e
+
+unmarked : (new old : Bool) → new ≡ old || false → new ≡ old
+unmarked new true e = e
+unmarked new false e = e
+
+pub returns-in-Ok-true-take_part-clause-takes : goal.returns-in-Ok-true-take_part-clause-takes
+returns-in-Ok-true-take_part-clause-takes g c =
+    let part = c.in-Ok-true-take_part.ensures in
+    let turn = Turn-brought _ _ _ _ _ _ _ c.loop-self.invariant.turn c.fill_chunk.ensures.brings in
+    Turn-line _ _ _ _ _ _ turn (record { line = part.line; unread = part.unread; within = part.within }) (ltb-true _ _ (sym part.found ∙ c.in-Ok-true-take_part.field-0-test))
+
+pub loop-self-preserved : goal.loop-self-preserved
+loop-self-preserved g c =
+    let part = c.in-Ok-false-take_part.ensures in
+    let turn = Turn-brought _ _ _ _ _ _ _ c.loop-self.invariant.turn c.fill_chunk.ensures.brings in
+    record {
+      turn = Turn-more _ _ _ _ _ _ turn (record { line = part.line; unread = part.unread; within = part.within }) (ltb-false _ _ (sym part.found ∙ c.in-Ok-false-take_part.field-0-test));
+      marks = unmarked _ _ c.in-Ok-true.ensures.marks ∙ c.loop-self.invariant.marks;
+    }
+
+pub returns-in-Err-take_part-clause-takes : goal.returns-in-Err-take_part-clause-takes
+returns-in-Err-take_part-clause-takes g c =
+    let part = c.in-Err-take_part.ensures in
+    let turn = Turn-brought _ _ _ _ _ _ _ c.loop-self.invariant.turn c.fill_chunk.ensures.brings in
+    faulty _ _ _ c.take_part.new.self _ _ turn c.in-Err-take_part.fault (λ e. part.too_long (ap Err e)) (λ e. part.read (ap Err e)) (ltb-true _ _ (sym c.in-Ok-true.ensures.some ∙ c.in-Ok-true.field-0-test))
+
+pub returns-in-Err : goal.returns-in-Err
+returns-in-Err g c =
+    let turn = Turn-brought _ _ _ _ _ _ _ c.loop-self.invariant.turn c.fill_chunk.ensures.brings in
+    record {
+      takes = (turn.came, turn.consumed, ap (count_by is_line_feed) (Turn-none _ _ _ _ _ turn c.in-Err.ensures.err) ∙ turn.unbroken);
+      read = λ _. failed _ _ c.in-Err.ensures.marks;
+      unmarked = λ other. absurd (other refl);
+    }
+
+pub returns-in-Ok-false : goal.returns-in-Ok-false
+returns-in-Ok-false g c =
+    let turn = Turn-brought _ _ _ _ _ _ _ c.loop-self.invariant.turn c.fill_chunk.ensures.brings in
+    let unread = none _ (ltb-false 0 _ (sym c.in-Ok-false.ensures.some ∙ c.in-Ok-false.field-0-test)) in
+    let empty : length c.fill_chunk.new.self.line ≤ 0 =
+    omega (arith, ap (λ (h : Held). length h.line) c.self-in-loop-self.view_is, c.self-in-loop-self.inside.line.ok, eqb-true _ 0 (sym c.is_empty.ensures ∙ c.if-is_empty.true)) in
+    record {
+      takes = (turn.came, turn.consumed, (Turn-none _ _ _ _ _ turn unread ∙ none _ empty, unread, c.in-Ok-false.ensures.end c.in-Ok-false.field-0-test));
+      read = λ e. cc;
+      unmarked = λ _. unmarked _ _ c.in-Ok-false.ensures.marks ∙ c.loop-self.invariant.marks;
+    }
+
+pub returns-in-Ok-false-2 : goal.returns-in-Ok-false-2
+returns-in-Ok-false-2 g c =
+    let turn = Turn-brought _ _ _ _ _ _ _ c.loop-self.invariant.turn c.fill_chunk.ensures.brings in
+    let unread = none _ (ltb-false 0 _ (sym c.in-Ok-false.ensures.some ∙ c.in-Ok-false.field-0-test)) in
+    let filled : 0 < length c.fill_chunk.new.self.line =
+    omega (arith, ap (λ (h : Held). length h.line) c.self-in-loop-self.view_is, c.self-in-loop-self.inside.line.ok, some _ (sym c.is_empty.ensures ∙ c.if-is_empty.false)) in
+    record {
+      takes = (turn.came, turn.consumed, (Turn-none _ _ _ _ _ turn unread, turn.unbroken, turn.within, filled, unread, c.in-Ok-false.ensures.end c.in-Ok-false.field-0-test));
+      read = λ e. cc;
+      unmarked = λ _. unmarked _ _ c.in-Ok-false.ensures.marks ∙ c.loop-self.invariant.marks;
+    }

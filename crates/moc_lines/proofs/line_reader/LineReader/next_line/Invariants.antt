@@ -1,0 +1,13 @@
+-- The bytes that came and those that were at hand are the line so far and those at hand; the line has no line feed.
+use Rattle.std.proofs.Common.{◌≡◌, ◌-◌, length}
+use Rattle.moc_lines.proofs.Turns.{Turn}
+use Rattle.moc_lines.proofs.line_reader.LineReader.next_line.Given as goal
+
+abbrev pub invariant-loop-self : goal.invariant-loop-self
+invariant-loop-self g l = record {
+  turn : Turn 1048576 l.fn.self (g.R.Source.left l.fn.reader) l.self (g.R.Source.left l.reader);
+  marks : g.R.Source.mark l.reader ≡ g.R.Source.mark l.fn.reader;
+}
+
+abbrev pub decreases-loop-self : goal.decreases-loop-self
+decreases-loop-self g l = 1048576 - length l.self.line

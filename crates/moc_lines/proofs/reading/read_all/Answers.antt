@@ -1,0 +1,85 @@
+-- Each read brings more, until there is none.
+use Rattle.std.proofs.Common.{◌≡◌, ◌∙◌, ◌≤◌, ◌||◌, Bool, true, false, ℕ, List, ◌++◌, length, take, drop, Ok, Err, refl, sym, ap, subst, arith, length-take, length-append, length-drop}
+use Rattle.std.specs.Result.{IsErrOf}
+use Rattle.std.specs.Io.KnownBytes.{Consumes}
+use Rattle.std.proofs.KnownBytes.{Consumes-nil}
+use Rattle.std.proofs.lemmas.List.{take-append-le, take-take}
+use Rattle.std.proofs.lemmas.Bool.{false≢true}
+use Rattle.moc_lines.specs.declared.reading.ReadFault.{ReadFault}
+use Rattle.moc_lines.proofs.WholeReading.{held_new, held_all, reads_fail, given_more, given_all}
+use Rattle.moc_lines.proofs.reading.read_all.Goals as goal
+
+unmarked : (new old : Bool) → new ≡ old || false → new ≡ old
+unmarked new true e = e
+unmarked new false e = e
+
+same_fault : {T : Type 0} (a b : ReadFault) → IsErrOf {T = T} (Err a) b → a ≡ b
+same_fault a b is = cc
+
+not_both : {T : Type 0} (value : T) (e : ReadFault) → IsErrOf (Ok value) e → ⊥
+not_both value e is = cc
+
+failed : (new old : Bool) → new ≡ old || true → new ≡ true
+failed new true e = e
+failed new false e = e
+
+-- the front of a buffer that a slice was read into
+front : (len count : ℕ) (buffer items : List ℕ) → count ≤ length buffer → length buffer ≤ len → take count (take len (buffer ++ drop (length buffer) items)) ≡ take count buffer
+front len count buffer items few within =
+    take-take count len (buffer ++ drop (length buffer) items) (omega arith) ∙ take-append-le count buffer (drop (length buffer) items) few
+
+pub loop-script-init : goal.loop-script-init
+loop-script-init g c = record {
+  held = held_new c.new-script.result.bytes.items c.new-script.result.start c.new-script.ensures.0 c.new-script.ensures.1;
+  given = subst (Consumes (g.R.Source.left c.args.reader.now) (g.R.Source.left c.args.reader.now)) (sym c.new-script.ensures.0) (Consumes-nil (g.R.Source.left c.args.reader.now));
+  reader = c.requires.reader;
+  long = omega (arith, c.in-Ok.ensures.len, c.in-Ok.chunk.ok);
+}
+
+pub returns-in-Ok-eq0 : goal.returns-in-Ok-eq0
+returns-in-Ok-eq0 g c =
+    let was = c.loop-script.invariant in
+    let none : g.R.Source.mark c.read.new.self ≡ false = unmarked _ _ c.in-Ok-eq0.ensures.marks ∙ was.reader in
+    record {
+      all = (
+        given_all _ _ _ c.loop-script.script.bytes.items c.read.new.buffer c.in-Ok-eq0.field-0 was.given c.in-Ok-eq0.ensures.bytes.0 c.in-Ok-eq0.field-0-test,
+        c.in-Ok-eq0.ensures.bytes.1 c.in-Ok-eq0.field-0-test (omega (arith, was.long, c.deref_mut.ensures.len, c.read.auto.buffer, c.loop-script.chunk.ok)),
+        held_all c.loop-script.script.bytes.items c.loop-script.script.start was.held,
+      );
+      fails = tt;
+      read = (λ e. absurd (not_both _ _ e), λ is. absurd (false≢true (sym none ∙ is)));
+    }
+
+pub returns-in-Err : goal.returns-in-Err
+returns-in-Err g c = record { all = tt; fails = tt; read = (λ _. failed _ _ c.in-Err.ensures.marks, λ _. refl) }
+
+pub loop-script-preserved : goal.loop-script-preserved
+loop-script-preserved g c =
+    let was = c.loop-script.invariant in
+    let buffer = c.read.new.buffer in
+    let count : ℕ = c.in-Ok-read.count in
+    let within : length buffer ≤ c.loop-script.chunk.len = omega (arith, c.deref_mut.ensures.len, c.read.auto.buffer) in
+    let came : take count c.deref.result.now ≡ take count buffer = ap (take count) c.deref.ensures.value ∙ front c.loop-script.chunk.len count buffer c.loop-script.chunk.items c.in-Ok-read.ensures.count within in
+    record {
+      held = c.in-Ok-add.ensures.held;
+      given = given_more _ _ _ c.loop-script.script.bytes.items (take count buffer) c.add.new.self.bytes.items was.given c.in-Ok-read.ensures.bytes.0
+          (c.in-Ok-add.ensures.bytes ∙ ap (λ l. c.loop-script.script.bytes.items ++ l) came);
+      reader = unmarked _ _ c.in-Ok-read.ensures.marks ∙ was.reader;
+      long = simp (length-take, length-append, length-drop) (omega (arith, was.long, c.loop-script.chunk.ok, within));
+    }
+
+pub returns-in-Err-add : goal.returns-in-Err-add
+returns-in-Err-add g c =
+    let was = c.loop-script.invariant in
+    let buffer = c.read.new.buffer in
+    let count : ℕ = c.in-Ok-read.count in
+    let within : length buffer ≤ c.loop-script.chunk.len = omega (arith, c.deref_mut.ensures.len, c.read.auto.buffer) in
+    let came : take count c.deref.result.now ≡ take count buffer = ap (take count) c.deref.ensures.value ∙ front c.loop-script.chunk.len count buffer c.loop-script.chunk.items c.in-Ok-read.ensures.count within in
+    let none : g.R.Source.mark c.read.new.self ≡ false = unmarked _ _ c.in-Ok-read.ensures.marks ∙ was.reader in
+    record {
+      all = tt;
+      fails = reads_fail (g.R.Source.left c.args.reader.now) (g.R.Source.left c.read.new.self) (c.loop-script.script.bytes.items ++ take count c.deref.result.now) c.in-Err-add.fault
+          (given_more _ _ _ c.loop-script.script.bytes.items (take count buffer) (c.loop-script.script.bytes.items ++ take count c.deref.result.now) was.given c.in-Ok-read.ensures.bytes.0
+          (ap (λ l. c.loop-script.script.bytes.items ++ l) came)) c.in-Err-add.ensures.fails;
+      read = (λ e. absurd (c.in-Err-add.ensures.read (ap Err (same_fault _ _ e))), λ is. absurd (false≢true (sym none ∙ is)));
+    }

@@ -1,0 +1,7 @@
+-- A number of 64 bits has 20 digits at most.
+use Rattle.std.proofs.Common.{arith}
+use Rattle.std.proofs.lemmas.Fmt.{length-decimal-le}
+use Rattle.moc_lines.proofs.renumbering.push_number.Goals as goal
+
+pub write_digits-start-requires : goal.write_digits-start-requires
+write_digits-start-requires c = (omega (arith, length-decimal-le 20 c.args.number (omega arith) (omega arith) c.ranges.number.fits), omega arith)

@@ -1,0 +1,71 @@
+-- Each turn of the loop, and each way out of it.
+use Rattle.std.proofs.Common.{◌≡◌, ◌∙◌, sym, refl, arith}
+use Rattle.std.proofs.KnownBytes.{Consumes-nil}
+use Rattle.moc_devices.specs.Laws.{CallsMore-none, CallsMore-later}
+use Rattle.moc_lines.proofs.Outcomes.{at_ok, unmarked}
+use Rattle.moc_lines.proofs.Progress.{at_found, Progress-start, Progress-sent, Progress-line, ReachedEnd-nothing, ReachedEnd-last, Ended-fault, Ended-refused, Ended-uncounted, Ended-closed, Ended-write}
+use Rattle.moc_lines.proofs.runner.Runner.answer_lines.Goals as goal
+
+pub loop-line-init : goal.loop-line-init
+loop-line-init g c = record {
+  progress = Progress-start _ _ _ _ _ _ _ c.requires.unread c.requires.pending;
+  reader = c.requires.reader;
+  writer = c.requires.writer;
+  flushed = λ new. new;
+  flushes = CallsMore-none _;
+}
+
+pub returns-then-is_err-clause-ended : goal.returns-then-is_err-clause-ended
+returns-then-is_err-clause-ended g c = Ended-write _ _ _ _ _ _ _ _ _ _ _ _ _ _ c.loop-line.invariant.progress c.send_if_due.ensures.sends
+
+pub returns-in-Err-clause-ended : goal.returns-in-Err-clause-ended
+returns-in-Err-clause-ended g c =
+    let sent = Progress-sent _ _ _ _ _ _ _ _ _ c.loop-line.self.lines c.send_if_due.new.self.lines _ _ _ _ c.send_if_due.result c.loop-line.invariant.progress (sym c.is_err.ensures.value ∙ c.if-is_err.false) c.send_if_due.ensures.sends c.send_if_due.ensures.lines c.next_line.ensures.pending in
+    rw c.fault_at.ensures (Ended-fault _ _ _ _ _ _ _ _ _ c.send_if_due.new.self.lines c.next_line.new.self.lines _ _ sent c.in-Err.fault c.in-Err.ensures.takes _ refl)
+
+pub returns-in-Ok-Nothing-clause-ended : goal.returns-in-Ok-Nothing-clause-ended
+returns-in-Ok-Nothing-clause-ended g c =
+    let sent = Progress-sent _ _ _ _ _ _ _ _ _ c.loop-line.self.lines c.send_if_due.new.self.lines _ _ _ _ c.send_if_due.result c.loop-line.invariant.progress (sym c.is_err.ensures.value ∙ c.if-is_err.false) c.send_if_due.ensures.sends c.send_if_due.ensures.lines c.next_line.ensures.pending in
+    let takes = at_found 1048576 c.send_if_due.new.self.lines c.next_line.new.self.lines _ _ _ _ c.in-Ok-Nothing.field-0-is c.in-Ok-Nothing.ensures.takes in
+    let answered = ReachedEnd-nothing _ _ _ _ _ _ _ _ _ c.send_if_due.new.self.lines c.next_line.new.self.lines _ _ sent takes in
+    let close = c.close-in-Ok-Nothing in
+    Ended-closed _ _ _ _ _ _ _ _ _ _ _ close.result answered close.ensures.text close.ensures.memory close.ensures.err close.ensures.some
+
+pub returns-in-Ok-LastLine-clause-ended : goal.returns-in-Ok-LastLine-clause-ended
+returns-in-Ok-LastLine-clause-ended g c =
+    let sent = Progress-sent _ _ _ _ _ _ _ _ _ c.loop-line.self.lines c.send_if_due.new.self.lines _ _ _ _ c.send_if_due.result c.loop-line.invariant.progress (sym c.is_err.ensures.value ∙ c.if-is_err.false) c.send_if_due.ensures.sends c.send_if_due.ensures.lines c.next_line.ensures.pending in
+    let takes = at_found 1048576 c.send_if_due.new.self.lines c.next_line.new.self.lines _ _ _ _ c.in-Ok-LastLine.field-0-is c.in-Ok-LastLine.ensures.takes in
+    let line = c.answer_line-answered-in-Ok-LastLine in
+    let ok = sym c.is_err-in-Ok-LastLine.ensures.value ∙ c.if-is_err-3.false in
+    let answered = ReachedEnd-last _ _ _ _ _ _ _ _ _ c.send_if_due.new.self.lines c.next_line.new.self.lines _ _ sent takes _ _ (at_ok line.result ok line.ensures.text) (at_ok line.result ok line.ensures.after) in
+    Ended-closed _ _ _ _ _ _ _ _ _ _ _ c.close.result answered c.close.ensures.text c.close.ensures.memory c.close.ensures.err c.close.ensures.some
+
+pub returns-then-is_err-2-clause-ended : goal.returns-then-is_err-2-clause-ended
+returns-then-is_err-2-clause-ended g c =
+    let sent = Progress-sent _ _ _ _ _ _ _ _ _ c.loop-line.self.lines c.send_if_due.new.self.lines _ _ _ _ c.send_if_due.result c.loop-line.invariant.progress (sym c.is_err.ensures.value ∙ c.if-is_err.false) c.send_if_due.ensures.sends c.send_if_due.ensures.lines c.next_line.ensures.pending in
+    let line = c.answer_line-answered in
+    Ended-refused _ _ _ _ _ _ _ _ _ c.send_if_due.new.self.lines c.next_line.new.self.lines _ _ sent _ c.in-Ok-Line.ensures.takes (λ none. cc (none, c.in-Ok-Line.field-0-is)) _ line.result (sym c.is_err-in-Ok-Line.ensures.value ∙ c.if-is_err-2.true) line.ensures.memory line.ensures.err
+
+pub returns-then-is_err-3-clause-ended : goal.returns-then-is_err-3-clause-ended
+returns-then-is_err-3-clause-ended g c =
+    let sent = Progress-sent _ _ _ _ _ _ _ _ _ c.loop-line.self.lines c.send_if_due.new.self.lines _ _ _ _ c.send_if_due.result c.loop-line.invariant.progress (sym c.is_err.ensures.value ∙ c.if-is_err.false) c.send_if_due.ensures.sends c.send_if_due.ensures.lines c.next_line.ensures.pending in
+    let line = c.answer_line-answered-in-Ok-LastLine in
+    Ended-refused _ _ _ _ _ _ _ _ _ c.send_if_due.new.self.lines c.next_line.new.self.lines _ _ sent _ c.in-Ok-LastLine.ensures.takes (λ none. cc (none, c.in-Ok-LastLine.field-0-is)) _ line.result (sym c.is_err-in-Ok-LastLine.ensures.value ∙ c.if-is_err-3.true) line.ensures.memory line.ensures.err
+
+pub loop-line-preserved : goal.loop-line-preserved
+loop-line-preserved g c =
+    let sent = Progress-sent _ _ _ _ _ _ _ _ _ c.loop-line.self.lines c.send_if_due.new.self.lines _ _ _ _ c.send_if_due.result c.loop-line.invariant.progress (sym c.is_err.ensures.value ∙ c.if-is_err.false) c.send_if_due.ensures.sends c.send_if_due.ensures.lines c.next_line.ensures.pending in
+    let answered = c.answer_line-answered.ensures in
+    let ok = sym c.is_err-in-Ok-Line.ensures.value ∙ c.if-is_err-2.false in
+    record {
+      progress = rw answered.lines (Progress-line _ _ _ _ _ _ _ _ _ c.send_if_due.new.self.lines c.next_line.new.self.lines _ _ sent (at_found 1048576 c.send_if_due.new.self.lines c.next_line.new.self.lines _ _ _ _ c.in-Ok-Line.field-0-is c.in-Ok-Line.ensures.takes) _ _ (at_ok c.answer_line-answered.result ok answered.text) (at_ok c.answer_line-answered.result ok answered.after));
+      reader = unmarked _ c.next_line.ensures.read.1 (λ is. cc (c.in-Ok-Line.is, is));
+      writer = at_ok c.send_if_due.result (sym c.is_err.ensures.value ∙ c.if-is_err.false) c.send_if_due.ensures.unmarked;
+      flushed = λ new. c.loop-line.invariant.flushed (c.send_if_due.ensures.flushed new);
+      flushes = CallsMore-later _ _ _ 0 c.loop-line.invariant.flushes c.send_if_due.ensures.flushes;
+    }
+
+pub returns-clause-ended : goal.returns-clause-ended
+returns-clause-ended g c =
+    let all : c.loop-line.line ≡ 18446744073709551615 = omega arith in
+    rw (← all) (Ended-uncounted _ _ _ _ _ _ _ _ _ c.loop-line.self.lines c.loop-line.self.lines _ _ c.loop-line.invariant.progress all (Consumes-nil _))

@@ -1,0 +1,16 @@
+-- The lines so far are answered, and nothing has failed.
+use Rattle.std.proofs.Common.{◌≡◌, false}
+use Rattle.std.specs.Bool.{IsTrue}
+use Rattle.moc_devices.specs.Devices.{CallsMore}
+use Rattle.moc_lines.proofs.Progress.{Progress}
+use Rattle.moc_lines.proofs.runner.Runner.answer_lines.Given as goal
+
+abbrev pub invariant-loop-line : goal.invariant-loop-line
+invariant-loop-line g l = record {
+  progress : Progress 1048576 g.A.Responder.rules l.fn.responder l.responder (g.R.Source.left l.fn.reader) (g.R.Source.left l.reader)
+      (g.W.Sink.written l.fn.writer) (g.W.Sink.written l.writer) l.self.lines.unread l.self.pending.items l.line;
+  reader : g.R.Source.mark l.reader ≡ false;
+  writer : g.W.Sink.mark l.writer ≡ false;
+  flushed : IsTrue (g.W.Sink.flushed l.writer) → IsTrue (g.W.Sink.flushed l.fn.writer);
+  flushes : CallsMore (g.W.Sink.flushes l.fn.writer) (g.W.Sink.flushes l.writer) 0;
+}

@@ -1,0 +1,17 @@
+-- A run that ends well has written all the answers.
+use Rattle.moc_lines.proofs.Endings.{answers-ok}
+use Rattle.moc_lines.proofs.runner.answer_all_lines.Goals as goal
+
+pub returns : goal.returns
+returns g c = record {
+  runs = c.run.ensures.runs;
+  begins = c.run.ensures.begins;
+  answers = answers-ok _ _ _ _ _ _ _ c.run.result c.run.ensures.runs;
+  end = c.run.ensures.end;
+  flushed = c.run.ensures.flushed;
+  unflushed = c.run.ensures.unflushed;
+  flushes = c.run.ensures.flushes;
+  read = c.run.ensures.read;
+  write = c.run.ensures.write;
+  told = c.run.ensures.told;
+}

@@ -1,0 +1,16 @@
+-- The set starts empty.
+use Rattle.moc_lines.proofs.script.run.Goals as goal
+
+pub returns : goal.returns
+returns g c = record {
+  runs = rw (c.in-Ok.ensures, c.empty.ensures) at c.answer_all_lines.ensures.runs;
+  begins = rw (c.in-Ok.ensures, c.empty.ensures) at c.answer_all_lines.ensures.begins;
+  answers = rw (c.in-Ok.ensures, c.empty.ensures) at c.answer_all_lines.ensures.answers;
+  end = c.answer_all_lines.ensures.end;
+  flushed = c.answer_all_lines.ensures.flushed;
+  unflushed = c.answer_all_lines.ensures.unflushed;
+  flushes = c.answer_all_lines.ensures.flushes;
+  read = c.answer_all_lines.ensures.read;
+  write = c.answer_all_lines.ensures.write;
+  told = c.answer_all_lines.ensures.told;
+}

@@ -1,0 +1,14 @@
+pub mod Words
+pub mod Faults
+pub mod Language
+pub mod Replies
+pub use Rattle.moc_devices.specs.Devices
+pub mod Lines
+pub mod Answers
+pub mod Batches
+pub mod Readings
+pub mod Runs
+pub mod Scripts
+pub mod Inputs
+pub mod Numberings
+pub mod Private

@@ -1,0 +1,84 @@
+-- The numberings of the cells of an order, HEALPix's numbering schemes and NUNIQ, and numbers told in another one.
+use Rattle.std.specs.Prelude.{ℕ, ◌==◌, List, [], ◌∷◌, ◌++◌, codes, decimal, Option}
+use Rattle.std.specs.Prelude.{Result, Ok, Err, if◌then◌else◌}
+use Rattle.std.specs.List.{find, range_with_len}
+use Rattle.std.specs.Option.{ok_or}
+use Rattle.moc_sphere.specs.CellNumber.{cell_count, cell_number, is_uniq, uniq_of}
+use Rattle.moc_sphere.specs.Rings.{ring_number}
+use Rattle.moc_lines.specs.Words.{is_blank, word_of, behind_word, number_of}
+use Rattle.moc_lines.specs.Language.{◌>>=◌}
+use Rattle.moc_lines.specs.Faults.{fault_line}
+use Rattle.moc_lines.specs.Answers.{Rules, script_text}
+use Rattle.moc_lines.specs.Scripts.{line_limit}
+use Rattle.moc_lines.specs.Runs.{Runs, Begins}
+use Rattle.moc_lines.specs.declared.fault.Fault.{Fault}
+use Rattle.moc_lines.specs.declared.fault.Fault.TheVariants.{WrongCount, BadNumber, CellTooLarge, NotUniq}
+use Rattle.moc_lines.specs.declared.fault.Fault.TheVariants.{RingTooLarge, OtherOrder}
+use Rattle.moc_lines.specs.declared.numbering.Numbering.{Numbering}
+use Rattle.moc_lines.specs.declared.numbering.Numbering.TheVariants.{Nest, Ring, Uniq}
+use Rattle.moc_lines.specs.declared.renumbering.Renumbering.{Renumbering}
+use Rattle.moc_lines.specs.declared.run_error.RunError.{RunError}
+
+-- the word for a numbering
+abbrev pub numbering_name : Numbering → List ℕ
+numbering_name Nest = codes "nest"
+numbering_name Ring = codes "ring"
+numbering_name Uniq = codes "uniq"
+
+-- the number of the cell i of order k: i is its number in the nested scheme
+abbrev pub number_under : Numbering → ℕ → ℕ → ℕ
+number_under Nest k i = i
+number_under Ring k i = ring_number k i
+number_under Uniq k i = uniq_of (cell_number k i)
+
+-- the cell of order k that has the number n, of which there is one at most
+unfoldable pub cell_under : Numbering → ℕ → ℕ → Option ℕ
+cell_under numbering k n = find (λ i. number_under numbering k i == n) (range_with_len 0 (cell_count k))
+
+-- the fault of a number that no cell of the order has
+abbrev pub fault_under : Numbering → ℕ → Fault
+fault_under Nest n = CellTooLarge
+fault_under Ring n = RingTooLarge
+fault_under Uniq n = if is_uniq n then OtherOrder else NotUniq
+
+-- the cell of order k that has the number n, or the fault
+abbrev pub cell_or_fault : Numbering → ℕ → ℕ → Result ℕ Fault
+cell_or_fault numbering k n = ok_or (cell_under numbering k n) (fault_under numbering n)
+
+-- the number that a line spells, which has just one field
+abbrev pub number_on : List ℕ → Result ℕ Fault
+number_on line = if is_blank (behind_word line) then ok_or (number_of (word_of line)) BadNumber else Err WrongCount
+
+-- the number, in the one numbering, of the cell whose number in the other a line spells
+abbrev pub renumbered : Renumbering → List ℕ → Result ℕ Fault
+renumbered r line = do
+  n ← number_on line
+  i ← cell_or_fault r.from r.order n
+  Ok (number_under r.to r.order i)
+
+-- a number, or the fault, as a line
+abbrev pub number_line : Result ℕ Fault → List ℕ
+number_line (Ok n) = decimal n ++ 10 ∷ []
+number_line (Err fault) = fault_line fault
+
+-- how lines of numbers are answered; blank ones have no answer, and nothing is said behind the last
+abbrev pub renumber_rules : Rules Renumbering
+renumber_rules = record {
+  answer = λ r line. if is_blank line then [] else number_line (renumbered r line);
+  after = λ r line. r;
+  closing = λ _. [];
+}
+
+module _ (r : Renumbering) where
+  -- the text that lines of numbers are answered with
+  abbrev pub renumbered_text : List ℕ → List ℕ
+  renumbered_text input = script_text renumber_rules line_limit r input
+
+  -- of an input a run was given a front, and it wrote the answers that its outcome names
+  abbrev pub RunsNumbers : List ℕ → Option (List ℕ) → Option (List ℕ) → Option (List ℕ) → Result (Unit {0}) RunError
+      → Type 0
+  RunsNumbers input left written written' result = Runs line_limit renumber_rules r input left written written' result
+
+  -- what was written is a beginning of the answers to the input
+  abbrev pub BeginsNumbers : List ℕ → Option (List ℕ) → Option (List ℕ) → Type 0
+  BeginsNumbers input written written' = Begins line_limit renumber_rules r input written written'

@@ -1,0 +1,33 @@
+-- A script that is read whole, so far.
+use Rattle.std.specs.Prelude.{◌≡◌, ℕ, ◌≤◌, List, [], ◌∷◌, ◌++◌, length, take, drop}
+use Rattle.std.specs.List.{count_by}
+use Rattle.moc_text.specs.Lines.{is_line_feed, lines_of}
+use Rattle.moc_lines.specs.Private.Held.{IsUnbroken}
+use Rattle.moc_lines.specs.Runs.{AreWithin, IsTooLong, IsBegun}
+use Rattle.moc_lines.specs.Scripts.{line_limit}
+use Rattle.moc_lines.specs.declared.reading.ReadFault.{ReadFault}
+use Rattle.moc_lines.specs.declared.reading.ReadFault.TheVariants.{Read, TooLong, Memory}
+
+-- Of these bytes the lines that a line feed ends lie before the start, and are within the limit; the line that is begun
+-- there is so too.
+pub record IsHeld (bytes : List ℕ) (start : ℕ) : Type 0 where
+  pub lines : List (List ℕ)
+  pub front : (more : List ℕ) → lines_of (bytes ++ more) ≡ lines ++ lines_of (drop start bytes ++ more)
+  pub count : length lines ≡ count_by is_line_feed bytes
+  pub within : AreWithin line_limit lines
+  pub begun : IsUnbroken (drop start bytes)
+  pub short : length (drop start bytes) ≤ line_limit
+  pub inside : start ≤ length bytes
+
+-- the place is behind the last line feed
+pub record IsBehindLast (bytes : List ℕ) (place : ℕ) : Type 0 where
+  pub front : List ℕ
+  pub ends : take place bytes ≡ front ++ 10 ∷ []
+  pub unbroken : IsUnbroken (drop place bytes)
+  pub inside : place ≤ length bytes
+
+-- the line that is told, of what was given, is over the limit, or is one that was begun
+abbrev pub fails_on : List ℕ → ReadFault → Type 0
+fails_on given Read = Unit {0}
+fails_on given (TooLong line) = IsTooLong line_limit (lines_of given) line
+fails_on given (Memory line) = IsBegun line given

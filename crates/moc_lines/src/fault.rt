@@ -1,0 +1,136 @@
+//! What is wrong with a line.
+ghost use Rattle.std.specs.Prelude.{◌≡◌, ◌++◌, OnOk};
+ghost use Rattle.moc_lines.specs.Faults.{fault_line, name_of};
+ghost use Rattle.moc_lines.specs.Private.ReadErrors.{error_of_text};
+ghost use Rattle.moc_lines.specs.declared.fault.ReadError.TheVariants.{Memory};
+
+use moc_ranges::Memory;
+use moc_text::TextError;
+use std::alloc::AllocError;
+use thiserror::Error;
+
+/// Why a line is bad. Its answer gives the name.
+#[derive(Clone, Copy, Debug, PartialEq, Eq, Error)]
+pub enum Fault {
+    /// The first word is no command.
+    #[error("the first word is no command")]
+    UnknownWord,
+    /// A piece of the line is blank.
+    #[error("a piece of the line is blank")]
+    EmptyCommand,
+    /// The line has more than 16 pieces.
+    #[error("a line has at most 16 commands")]
+    TooManyCommands,
+    /// More or fewer fields than the command has.
+    #[error("more or fewer fields than the command has")]
+    WrongCount,
+    /// A field that should be a number has no digit, or another byte.
+    #[error("a field that is no number")]
+    BadNumber,
+    /// An order above 29.
+    #[error("an order above 29")]
+    OrderTooLarge,
+    /// A number that no cell of the order has.
+    #[error("no cell of the order has that number")]
+    CellTooLarge,
+    /// A client's number that has more than 32 bits.
+    #[error("a client above 4294967295")]
+    ClientTooLarge,
+    /// A part above 11.
+    #[error("a part above 11")]
+    PartTooLarge,
+    /// A byte that no word of a coverage has there.
+    #[error("a byte that no word of a coverage has there")]
+    BadByte,
+    /// A cell before any order.
+    #[error("a cell before any order")]
+    NoOrder,
+    /// A range of cells that goes backwards.
+    #[error("a range that goes backwards")]
+    Backwards,
+    /// A word of a coverage that is not finished.
+    #[error("a word that is not finished")]
+    Unfinished,
+    /// A number that no cell has as its NUNIQ number.
+    #[error("a number that is no NUNIQ number")]
+    NotUniq,
+    /// A number that no cell of the order has as its ring number.
+    #[error("no cell of the order has that ring number")]
+    RingTooLarge,
+    /// The NUNIQ number of a cell of another order.
+    #[error("the NUNIQ number of a cell of another order")]
+    OtherOrder,
+}
+
+impl Fault {
+    /// The name that the answer gives.
+    fn name(self) -> &'static str
+        ensures { result.now ≡ name_of self }
+    {
+        match self {
+            Fault::UnknownWord => "UnknownWord",
+            Fault::EmptyCommand => "EmptyCommand",
+            Fault::TooManyCommands => "TooManyCommands",
+            Fault::WrongCount => "WrongCount",
+            Fault::BadNumber => "BadNumber",
+            Fault::OrderTooLarge => "OrderTooLarge",
+            Fault::CellTooLarge => "CellTooLarge",
+            Fault::ClientTooLarge => "ClientTooLarge",
+            Fault::PartTooLarge => "PartTooLarge",
+            Fault::BadByte => "BadByte",
+            Fault::NoOrder => "NoOrder",
+            Fault::Backwards => "Backwards",
+            Fault::Unfinished => "Unfinished",
+            Fault::NotUniq => "NotUniq",
+            Fault::RingTooLarge => "RingTooLarge",
+            Fault::OtherOrder => "OtherOrder",
+        }
+    }
+}
+
+/// Adds the answer to a bad line, `fault NAME` and a line feed. Refused where memory runs out.
+pub fn push_fault(fault: Fault, text: &mut Vec<u8>) -> Result<(), Memory>
+    ensures { OnOk result (text.new.items ≡ text.old.items ++ fault_line fault) }
+{
+    text.extend_from_slice(b"fault ")?;
+    text.extend_from_slice(fault.name().as_bytes())?;
+    text.extend_from_slice(b"\n")?;
+    Ok(())
+}
+
+/// Why a text is not read.
+#[derive(Clone, Copy, Debug, PartialEq, Eq, Error)]
+pub enum ReadError {
+    /// The text is bad.
+    #[error("{0}")]
+    Fault(Fault),
+    /// Memory was refused.
+    #[error("out of memory")]
+    Memory,
+}
+
+impl From<AllocError> for ReadError {
+    ghost from_gives = { λ _ e. e ≡ Memory };
+
+    fn from(_refused: AllocError) -> ReadError {
+        ReadError::Memory
+    }
+}
+
+impl From<TextError> for ReadError {
+    ghost from_gives = { λ error e. e ≡ error_of_text error };
+
+    fn from(error: TextError) -> ReadError {
+        match error {
+            TextError::BadByte { .. } => ReadError::Fault(Fault::BadByte),
+            TextError::NoOrder { .. } => ReadError::Fault(Fault::NoOrder),
+            TextError::OrderTooLarge { .. } => ReadError::Fault(Fault::OrderTooLarge),
+            TextError::CellTooLarge { .. } => ReadError::Fault(Fault::CellTooLarge),
+            TextError::Backwards { .. } => ReadError::Fault(Fault::Backwards),
+            TextError::Unfinished { .. } | TextError::TooCoarse => {
+                ReadError::Fault(Fault::Unfinished)
+            }
+            TextError::Memory => ReadError::Memory,
+        }
+    }
+}

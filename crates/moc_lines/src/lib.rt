@@ -1,0 +1,35 @@
+//! Lines of bytes: what they say as commands, how replies are told, and the loop that answers the lines of a reader.
+#![tactic(auto)]
+
+mod answer;
+mod batch;
+mod bytes;
+mod command;
+mod fault;
+mod fields;
+mod language;
+mod line_reader;
+mod numbering;
+mod reading;
+mod renumbering;
+mod reply_text;
+mod responder;
+mod run_error;
+mod runner;
+mod script;
+mod words;
+
+pub use fault::{Fault, ReadError, push_fault};
+pub use fields::{only_field, two_fields};
+pub use language::{Commands, answer_text, read_commands, read_line};
+pub use line_reader::LINE_LIMIT;
+pub use moc_devices::{DeviceFault, OverReader, OverWriter, Sink, Source, write_all};
+pub use numbering::{NameError, Numbering};
+pub use reading::{ReadFault, line_behind, read_all, split_line};
+pub use renumbering::{Renumbering, renumber};
+pub use reply_text::{push_count, push_cover, push_reply_line, push_words};
+pub use responder::Responder;
+pub use run_error::RunError;
+pub use runner::answer_all_lines;
+pub use script::run;
+pub use words::{is_blank_text, is_word, number_in, split_word};

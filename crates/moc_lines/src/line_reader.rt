@@ -1,0 +1,161 @@
+//! The lines of a reader, one at a time.
+ghost use Rattle.std.specs.Prelude.{◌≡◌, ◌+◌, ◌<◌, ◌≤◌, ◌≢◌, ◌||◌, ◌++◌, [], ℕ, false, true, IfOk, OnOk, OnErr};
+ghost use Rattle.std.specs.Prelude.{IsErrOf, is_err, length, nat_lt, Contains, IsTrue, ◌↔◌, Err, Ok};
+ghost use Rattle.std.specs.List.{position_or_len, before_first, after_first};
+ghost use Rattle.std.specs.Io.KnownBytes.{Keeps, Consumes, IsAtEnd};
+ghost use Rattle.moc_text.specs.Lines.{is_line_feed};
+
+use crate::bytes::first_or_len;
+use moc_devices::{DeviceFault, Source};
+use std::alloc::{AllocError, Global};
+use std::marker::Model;
+
+/// The most bytes that a line may have, without its line feed.
+pub const LINE_LIMIT: usize = 1_048_576;
+
+/// How many bytes are read at a time.
+const CHUNK: usize = 65_536;
+
+/// What stands at the front of the bytes to come.
+#[derive(Clone, Copy)]
+pub enum Found {
+    /// A line that a line feed ends.
+    Line,
+    /// A line that the reader's end ends.
+    LastLine,
+    /// The reader's end.
+    Nothing,
+}
+
+/// Why there is no line.
+#[derive(Clone, Copy)]
+pub enum LineFault {
+    Read,
+    TooLong,
+    Memory,
+}
+
+/// The bytes that were read and not yet taken, and the line that was taken last.
+#[derive(Drop)]
+pub struct LineReader {
+    chunk: Vec<u8>,
+    start: usize,
+    end: usize,
+    /// How many of the bytes at hand stand before their first line feed: all where there is none.
+    ahead: usize,
+    line: Vec<u8>,
+}
+
+impl Model for LineReader {
+    ghost use Rattle.std.specs.Prelude.{◌≡◌, ◌-◌, ◌≤◌, ◌<◌, take, drop, vec_len};
+    ghost use Rattle.std.specs.List.{position_or_len};
+    ghost use Rattle.moc_text.specs.Lines.{is_line_feed};
+    ghost use Rattle.moc_lines.specs.Private.Held.{Held};
+
+    ghost Value = { Held };
+
+    ghost view = { λ r. record { unread = take (r.end - r.start) (drop r.start r.chunk.items); line = r.line.items } };
+
+    ghost invariant = { λ r. (r.start ≤ r.end) × (r.end ≤ vec_len r.chunk) × (0 < vec_len r.chunk)
+        × (r.ahead ≡ position_or_len is_line_feed (take (r.end - r.start) (drop r.start r.chunk.items))) };
+}
+
+impl LineReader {
+    ghost use Rattle.moc_lines.specs.Private.LineReading.{Brings, TakesLine, holds_line};
+
+    pub fn new(alloc: Global) -> Result<LineReader, AllocError>
+        ensures { IfOk result (λ r. r.unread ≡ []) }
+    {
+        Ok(LineReader {
+            chunk: vec![in alloc; 0u8; CHUNK]?,
+            start: 0,
+            end: 0,
+            ahead: 0,
+            line: Vec::new(alloc),
+        })
+    }
+
+    /// The line that was taken last.
+    pub fn line(&self) -> &[u8]
+        ensures { result.now ≡ self.now.line }
+    {
+        &self.line
+    }
+
+    /// Whether a whole line is at hand.
+    pub fn holds_line(&self) -> bool
+        ensures { result ≡ holds_line self.now.unread }
+    {
+        self.ahead < self.end - self.start
+    }
+
+    /// Moves what is at hand before the first line feed to the end of the line, and drops that line feed.
+    fn take_part(&mut self) -> Result<bool, LineFault>
+        requires { length self.old.line ≤ LINE_LIMIT }
+        ensures found { IfOk result (λ found.
+            found ≡ nat_lt (position_or_len is_line_feed self.old.unread) (length self.old.unread)) }
+        ensures line { OnOk result (self.new.line ≡ self.old.line ++ before_first is_line_feed self.old.unread) }
+        ensures unread { OnOk result (self.new.unread ≡ after_first is_line_feed self.old.unread) }
+        ensures within { OnOk result (length self.new.line ≤ LINE_LIMIT) }
+        ensures too_long { IsErrOf result LineFault.TooLong
+            → LINE_LIMIT < length self.old.line + position_or_len is_line_feed self.old.unread }
+        ensures read { result ≢ Err LineFault.Read }
+    {
+        let unread = &self.chunk[self.start..self.end];
+        let len = self.ahead;
+        if len > LINE_LIMIT - self.line.len() {
+            return Err(LineFault::TooLong);
+        }
+        if self.line.extend_from_slice(&unread[..len]).is_err() {
+            return Err(LineFault::Memory);
+        }
+        if len < unread.len() {
+            self.start += len + 1;
+            self.ahead = first_or_len(b'\n', &self.chunk[self.start..self.end]);
+            Ok(true)
+        } else {
+            self.start = self.end;
+            self.ahead = 0;
+            Ok(false)
+        }
+    }
+
+    /// Sees to it that bytes are at hand, by a read where there are none. There are none only at the end.
+    fn fill_chunk<R: Source>(&mut self, reader: &mut R) -> Result<bool, DeviceFault>
+        ensures brings { Brings self.old (R.left reader.old) self.new (R.left reader.new) }
+        ensures some { IfOk result (λ some. some ≡ nat_lt 0 (length self.new.unread)) }
+        ensures end { IfOk result (λ some. some ≡ false → IsAtEnd (R.left reader.new)) }
+        ensures err { OnErr result (self.new.unread ≡ []) }
+        ensures marks { R.mark reader.new ≡ (R.mark reader.old || is_err result) }
+    {
+        if self.start == self.end {
+            self.start = 0;
+            self.end = 0;
+            self.end = reader.read(&mut self.chunk)?;
+            self.ahead = first_or_len(b'\n', &self.chunk[..self.end]);
+        }
+        Ok(self.start < self.end)
+    }
+
+    /// Takes the next line.
+    pub fn next_line<R: Source>(&mut self, reader: &mut R) -> Result<Found, LineFault>
+        ensures takes { TakesLine LINE_LIMIT self.old (R.left reader.old) self.new (R.left reader.new) result }
+        ensures read { result ≡ Err LineFault.Read → IsTrue (R.mark reader.new) }
+        ensures unmarked { result ≢ Err LineFault.Read → R.mark reader.new ≡ R.mark reader.old }
+    {
+        self.line.clear();
+        loop {
+            match self.fill_chunk(reader) {
+                Ok(true) => {}
+                Ok(false) if self.line.is_empty() => return Ok(Found::Nothing),
+                Ok(false) => return Ok(Found::LastLine),
+                Err(DeviceFault) => return Err(LineFault::Read),
+            }
+            match self.take_part() {
+                Ok(true) => return Ok(Found::Line),
+                Ok(false) => {}
+                Err(fault) => return Err(fault),
+            }
+        }
+    }
+}

@@ -1,0 +1,86 @@
+//! The numberings of the cells of an order.
+ghost use Rattle.std.specs.Prelude.{◌≡◌};
+ghost use Rattle.moc_lines.specs.Numberings.{number_under};
+ghost use Rattle.moc_lines.specs.Private.Finding.{FindsCell};
+
+use crate::fault::Fault;
+use moc_sphere::{Cell, Order};
+use std::str::FromStr;
+use thiserror::Error;
+
+/// A numbering of the cells of an order.
+#[derive(Clone, Copy, Debug, PartialEq, Eq)]
+pub enum Numbering {
+    /// HEALPix's nested numbering scheme: from 0, base pixel by base pixel, and in each quarter by quarter.
+    Nest,
+    /// HEALPix's ring numbering scheme: from 0, row by row from the north pole, and eastward in a row.
+    Ring,
+    /// NUNIQ numbers (MOC 2.0): the nested ones and 4^(order + 1).
+    Uniq,
+}
+
+/// Why a word names nothing.
+#[derive(Clone, Copy, Debug, PartialEq, Eq, Error)]
+pub enum NameError {
+    #[error("no numbering has that name")]
+    NotNumbering,
+}
+
+/// The numbering that the command line calls `nest`, `ring` or `uniq`; refused with `NotNumbering`.
+impl FromStr for Numbering {
+    type Err = NameError;
+
+    ghost use Rattle.moc_sphere.specs.Names.{IsNamed};
+    ghost use Rattle.moc_lines.specs.Numberings.{numbering_name};
+    ghost use Rattle.moc_lines.specs.declared.numbering.NameError.TheVariants.{NotNumbering};
+
+    ghost from_str_gives = { IsNamed numbering_name NotNumbering };
+
+    fn from_str(word: &str) -> Result<Numbering, NameError> {
+        match word {
+            "nest" => Ok(Numbering::Nest),
+            "ring" => Ok(Numbering::Ring),
+            "uniq" => Ok(Numbering::Uniq),
+            _ => Err(NameError::NotNumbering),
+        }
+    }
+}
+
+impl Numbering {
+    /// The number of a cell.
+    pub(crate) fn number(self, cell: Cell) -> u64
+        ensures { result ≡ number_under self cell.order cell.index }
+    {
+        match self {
+            Numbering::Nest => cell.index(),
+            Numbering::Ring => cell.ring(),
+            Numbering::Uniq => cell.uniq(),
+        }
+    }
+
+    /// The cell of the order that has this number, or the fault.
+    pub(crate) fn cell(self, order: Order, number: u64) -> Result<Cell, Fault>
+        ensures { FindsCell self order number result }
+    {
+        match self {
+            Numbering::Nest => Cell::new(order, number).or(Err(Fault::CellTooLarge)),
+            Numbering::Ring => Cell::from_ring(order, number).or(Err(Fault::RingTooLarge)),
+            Numbering::Uniq => cell_of_uniq(order, number),
+        }
+    }
+}
+
+/// The cell of the order that has this NUNIQ number, or the fault.
+fn cell_of_uniq(order: Order, uniq: u64) -> Result<Cell, Fault>
+    ensures { FindsCell Numbering.Uniq order uniq result }
+{
+    let depth = order.get();
+    let Ok(cell) = Cell::from_uniq(uniq) else {
+        return Err(Fault::NotUniq);
+    };
+    if cell.order().get() == depth {
+        Ok(cell)
+    } else {
+        Err(Fault::OtherOrder)
+    }
+}

@@ -1,0 +1,159 @@
+//! A script that is read whole.
+ghost use Rattle.std.specs.Prelude.{◌≡◌, ◌≢◌, ◌<◌, ◌≤◌, ◌+◌, ◌++◌, ◌∷◌, ◌↔◌, [], false, length};
+ghost use Rattle.std.specs.Prelude.{IfOk, IfErr, OnOk, IsErrOf, Err, IsTrue};
+ghost use Rattle.std.specs.List.{count_by};
+ghost use Rattle.moc_text.specs.Lines.{is_line_feed, lines_of};
+ghost use Rattle.moc_lines.specs.Inputs.{ReadFails, ReadsAll};
+ghost use Rattle.moc_lines.specs.Private.Input.{IsBehindLast, IsHeld, fails_on};
+
+use crate::bytes::first_or_len;
+use crate::line_reader::LINE_LIMIT;
+use memchr::memrchr;
+use moc_devices::{DeviceFault, Source};
+use std::alloc::Global;
+use thiserror::Error;
+
+/// How many bytes are read at a time.
+const CHUNK: usize = 65_536;
+
+/// The bytes of a script so far.
+#[derive(Drop)]
+struct Script {
+    bytes: Vec<u8>,
+    /// Where the line begins that no line feed ends yet.
+    start: usize,
+}
+
+/// Why a script was not read to its end.
+#[derive(Clone, Copy, Debug, PartialEq, Eq, Error)]
+pub enum ReadFault {
+    /// The reader failed.
+    #[error("the input could not be read")]
+    Read,
+    /// A line is over the limit. Lines are counted from 1.
+    #[error("line {line} is too long")]
+    TooLong { line: u64 },
+    /// Memory was refused while this line was read; before the first, at 0.
+    #[error("out of memory at line {line}")]
+    Memory { line: u64 },
+}
+
+impl Script {
+    /// Nothing yet.
+    fn new(alloc: Global) -> Script
+        ensures { (result.bytes.items ≡ []) × (result.start ≡ 0) }
+    {
+        Script {
+            bytes: Vec::new(alloc),
+            start: 0,
+        }
+    }
+
+    /// The number of the line that no line feed ends yet.
+    fn begun(&self) -> u64
+        ensures { result ≡ count_by is_line_feed self.now.bytes.items + 1 }
+    {
+        line_feeds(&self.bytes) + 1
+    }
+
+    /// Puts bytes behind the others, unless the line that is begun goes over the limit with them.
+    fn add(&mut self, chunk: &[u8]) -> Result<(), ReadFault>
+        requires held { IsHeld self.old.bytes.items self.old.start }
+        requires some { 0 < length chunk.now }
+        requires short { length chunk.now ≤ CHUNK }
+        ensures held { OnOk result (IsHeld self.new.bytes.items self.new.start) }
+        ensures bytes { OnOk result (self.new.bytes.items ≡ self.old.bytes.items ++ chunk.now) }
+        ensures fails { IfErr result (λ e. fails_on (self.old.bytes.items ++ chunk.now) e) }
+        ensures read { result ≢ Err ReadFault.Read }
+    {
+        let before = self.bytes.len();
+        let first = first_or_len(b'\n', chunk);
+        if first > LINE_LIMIT - (before - self.start) {
+            return Err(ReadFault::TooLong { line: self.begun() });
+        }
+        let Ok(()) = self.bytes.extend_from_slice(chunk) else {
+            return Err(ReadFault::Memory { line: self.begun() });
+        };
+        if first < chunk.len() {
+            self.start = before + behind_last(chunk);
+        }
+        Ok(())
+    }
+}
+
+/// How many line feeds bytes have.
+fn line_feeds(bytes: &[u8]) -> u64
+    ensures count { result ≡ count_by is_line_feed bytes.now }
+    ensures few { result ≤ length bytes.now }
+{
+    let mut count = 0;
+    for byte in bytes {
+        if *byte == b'\n' {
+            count += 1;
+        }
+    }
+    count
+}
+
+/// The number of the line behind the last, counted from 1. Linear in the bytes; takes no memory.
+pub fn line_behind(input: &[u8]) -> u64
+    ensures { result ≡ length (lines_of input.now) + 1 }
+{
+    let whole = line_feeds(input);
+    match input.last() {
+        None => 1,
+        Some(b'\n') => whole + 1,
+        Some(_) => whole + 2,
+    }
+}
+
+/// The place behind the last line feed, of which there is one.
+fn behind_last(chunk: &[u8]) -> usize
+    requires some { 0 < count_by is_line_feed chunk.now }
+    ensures { IsBehindLast chunk.now result }
+{
+    match memrchr(b'\n', chunk) {
+        Some(at) => at + 1,
+        None => unreachable!(),
+    }
+}
+
+/// Reads all lines, into one buffer, as they stand.
+///
+/// Refused where the reader fails, at a line of more bytes than [`LINE_LIMIT`](crate::LINE_LIMIT), and where memory
+/// runs out. Of what is read at a time only the first and the last line feed are looked for. Takes memory linear in the
+/// bytes.
+pub fn read_all<R: Source>(alloc: Global, reader: &mut R) -> Result<Vec<u8>, ReadFault>
+    requires reader { R.mark reader.old ≡ false }
+    ensures all { IfOk result (λ input. ReadsAll (R.left reader.old) (R.left reader.new) input.items) }
+    ensures fails { IfErr result (λ e. ReadFails (R.left reader.old) (R.left reader.new) e) }
+    ensures read { IsErrOf result ReadFault.Read ↔ IsTrue (R.mark reader.new) }
+{
+    let Ok(mut chunk) = vec![in alloc; 0u8; CHUNK] else {
+        return Err(ReadFault::Memory { line: 0 });
+    };
+    let mut script = Script::new(alloc);
+    loop {
+        match reader.read(&mut chunk) {
+            Ok(0) => return Ok(script.bytes),
+            Ok(count) => match script.add(&chunk[..count]) {
+                Ok(()) => {}
+                Err(fault) => return Err(fault),
+            },
+            Err(DeviceFault) => return Err(ReadFault::Read),
+        }
+    }
+}
+
+/// The first line of a text that has one, and what stands behind its line feed. Linear in the line; takes no memory.
+pub fn split_line(text: &[u8]) -> (&[u8], &[u8])
+    requires { 0 < length text.now }
+    ensures lines { lines_of text.now ≡ result.0.now ∷ lines_of result.1.now }
+    ensures less { length result.1.now < length text.now }
+{
+    let (line, behind) = text.split_at(first_or_len(b'\n', text));
+    match behind.split_first() {
+        Some((_, rest)) => (line, rest),
+        None => (line, behind),
+    }
+}

@@ -1,0 +1,143 @@
+//! Numbers of cells, told in another numbering, from a reader to a writer.
+ghost use Rattle.std.specs.Prelude.{◌≡◌, ◌++◌, ◌∷◌, ◌-◌, ◌^◌, ◌⊎◌, [], IfSome, IsTrue, ◌↔◌, false, OnOk, OnErr};
+ghost use Rattle.std.specs.Prelude.{IsErrOf, decimal, min};
+ghost use Rattle.std.specs.Io.KnownBytes.{Appends, IsAtEnd};
+ghost use Rattle.std.specs.Result.{result_map_both};
+ghost use Rattle.moc_lines.specs.Runs.{Flushes};
+ghost use Rattle.moc_lines.specs.Numberings.{BeginsNumbers, RunsNumbers, number_on, renumbered, renumbered_text};
+ghost use Rattle.moc_lines.specs.Numberings.{renumber_rules};
+
+use crate::fault::{Fault, push_fault};
+use crate::numbering::Numbering;
+use crate::responder::Responder;
+use crate::run_error::RunError;
+use crate::runner::answer_all_lines;
+use crate::words::{SAFE_DIGITS, is_blank_text, number_in, short_number_in, split_word};
+use itoa::write_digits;
+use moc_devices::{Sink, Source};
+use moc_ranges::Memory;
+use moc_sphere::Order;
+use std::alloc::Global;
+
+/// How many bytes a number takes at most, with a line feed behind it.
+const LINE: usize = 21;
+
+/// From which numbering to which, of the cells of which order.
+#[derive(Clone, Copy, Debug, PartialEq, Eq)]
+pub struct Renumbering {
+    pub from: Numbering,
+    pub to: Numbering,
+    pub order: Order,
+}
+
+impl Renumbering {
+    /// The number, in the one numbering, of the cell whose number in the other a line spells.
+    fn renumbered(self, line: &[u8]) -> Result<u64, Fault>
+        ensures { result ≡ renumbered self line.now }
+    {
+        // Any order is 29 at most, and so all its numbers have 62 bits at most.
+        self.order.get();
+        let number = read_number(line)?;
+        let cell = self.from.cell(self.order, number)?;
+        Ok(self.to.number(cell))
+    }
+}
+
+impl Responder for Renumbering {
+    ghost rules = { renumber_rules };
+
+    fn answer_line(
+        &mut self,
+        _alloc: Global,
+        line: &[u8],
+        text: &mut Vec<u8>,
+    ) -> Result<(), Memory> {
+        if is_blank_text(line) {
+            return Ok(());
+        }
+        match self.renumbered(line) {
+            Ok(number) => push_number(number, text),
+            Err(fault) => push_fault(fault, text),
+        }
+    }
+
+    fn close(&self, _alloc: Global, _text: &mut Vec<u8>) -> Result<(), Memory> {
+        Ok(())
+    }
+}
+
+/// The number that a line spells, which has just one field, or `u64::MAX` where it is larger.
+fn read_number(line: &[u8]) -> Result<u64, Fault>
+    ensures { result ≡ result_map_both (λ n. min n (2 ^ 64 - 1)) (λ fault. fault) (number_on line.now) }
+{
+    if line.len() <= SAFE_DIGITS {
+        if let Some(number) = short_number_in(line) {
+            return Ok(number);
+        }
+    }
+    let (field, behind) = split_word(line);
+    if !is_blank_text(behind) {
+        return Err(Fault::WrongCount);
+    }
+    number_in(field).ok_or(Fault::BadNumber)
+}
+
+/// Adds a number as a line.
+fn push_number(number: u64, text: &mut Vec<u8>) -> Result<(), Memory>
+    ensures { OnOk result (text.new.items ≡ text.old.items ++ (decimal number ++ 10 ∷ [])) }
+{
+    let mut line = [b'\n'; LINE];
+    let start = write_digits(number, &mut line, LINE - 1);
+    text.extend_from_slice(&line[start..])?;
+    Ok(())
+}
+
+/// Tells the numbers of cells of an order in another numbering, a number a line.
+///
+/// Lines are those of [`run`](crate::run). A line is one field, a number in base ten, and its answer is the number that
+/// the same cell has in the other numbering; the other lines that are not blank are answered `fault NAME`.
+///
+/// | Fault | Line |
+/// |---|---|
+/// | `WrongCount` | it has more than one field |
+/// | `BadNumber` | its field is no number |
+/// | `CellTooLarge` | the order has no cell of that nested number |
+/// | `RingTooLarge` | the order has no cell of that ring number |
+/// | `NotUniq` | it is no NUNIQ number |
+/// | `OtherOrder` | it is the NUNIQ number of a cell of another order |
+///
+/// Faults of the devices and lines over the limit end the call as they end `run`; what is written then is exactly the
+/// answers to the lines before. A line takes time linear in its bytes, and a growth of the buffers at most.
+pub fn renumber<R: Source, W: Sink>(
+    alloc: Global,
+    reader: &mut R,
+    writer: &mut W,
+    renumbering: Renumbering,
+) -> Result<(), RunError>
+    requires reader { R.mark reader.old ≡ false }
+    requires writer { W.mark writer.old ≡ false }
+
+    // What is written is the defined answers to what was read, as far as the outcome says.
+    ensures renumbers { IfSome (R.left reader.old) (λ input. RunsNumbers renumbering
+        input (R.left reader.new) (W.written writer.old) (W.written writer.new) result) }
+
+    // So it is a beginning of the answers to the whole input, and all of them where no fault comes.
+    ensures begins { IfSome (R.left reader.old) (λ input. BeginsNumbers renumbering
+        input (W.written writer.old) (W.written writer.new)) }
+    ensures answers { OnOk result (IfSome (R.left reader.old) (λ input.
+        Appends (W.written writer.old) (W.written writer.new) (renumbered_text renumbering input))) }
+
+    // Only the reader's end ends it without a fault, and then all is flushed, at once.
+    ensures end { OnOk result (IsAtEnd (R.left reader.new)) }
+    ensures flushed { OnOk result (IsTrue (W.flushed writer.new)) }
+    ensures unflushed { OnErr result (IsTrue (W.flushed writer.new) → IsTrue (W.flushed writer.old)) }
+    ensures flushes { Flushes result (W.flushes writer.old) (W.flushes writer.new) }
+
+    // The devices' faults are theirs, and a device that failed is told.
+    ensures read { IsErrOf result RunError.Read → IsTrue (R.mark reader.new) }
+    ensures write { IsErrOf result RunError.Write ↔ IsTrue (W.mark writer.new) }
+    ensures told { IsTrue (R.mark reader.new) → IsErrOf result RunError.Read ⊎ IsErrOf result RunError.Write }
+{
+    let mut responder = renumbering;
+    answer_all_lines(alloc, &mut responder, reader, writer)
+}

@@ -1,0 +1,84 @@
+//! The texts of replies.
+ghost use Rattle.std.specs.Prelude.{◌≡◌, ◌++◌, ◌∷◌, [], codes, decimal, OnOk, if◌then◌else◌};
+ghost use Rattle.moc_lines.specs.Replies.{cover_text, replies_text, reply_text};
+
+use itoa::Buffer;
+use moc_parts::Reply;
+use moc_ranges::{Coverage, Memory};
+use moc_text::write_ascii;
+use std::alloc::Global;
+
+/// Adds the texts of replies, parted.
+fn push_replies(alloc: Global, replies: &[Reply], text: &mut Vec<u8>) -> Result<(), Memory>
+    ensures { OnOk result (text.new.items ≡ text.old.items ++ replies_text replies.now) }
+{
+    let Some((first, later)) = replies.split_first() else {
+        return Ok(());
+    };
+    push_reply(alloc, first, text)?;
+    for reply in later {
+        text.extend_from_slice(b" ; ")?;
+        push_reply(alloc, reply, text)?;
+    }
+    Ok(())
+}
+
+/// Adds the line of replies: their texts, parted by ` ; `, and a line feed. Linear in the text; refused where memory
+/// runs out.
+pub fn push_reply_line(alloc: Global, replies: &[Reply], text: &mut Vec<u8>) -> Result<(), Memory>
+    ensures { OnOk result (text.new.items ≡ text.old.items ++ (replies_text replies.now ++ 10 ∷ [])) }
+{
+    push_replies(alloc, replies, text)?;
+    text.extend_from_slice(b"\n")?;
+    Ok(())
+}
+
+/// Adds the text of a reply.
+fn push_reply(alloc: Global, reply: &Reply, text: &mut Vec<u8>) -> Result<(), Memory>
+    ensures { OnOk result (text.new.items ≡ text.old.items ++ reply_text reply.now) }
+{
+    match reply {
+        Reply::Changed(pixels) => push_count(b"changed ", *pixels, text),
+        Reply::Claimed => push_words(b"claimed", text),
+        Reply::Taken(pixels) => push_count(b"taken ", *pixels, text),
+        Reply::Total(pixels) => push_count(b"total ", *pixels, text),
+        Reply::Cover(set) => push_cover(alloc, set, text),
+        Reply::Near(true) => push_words(b"near yes", text),
+        Reply::Near(false) => push_words(b"near no", text),
+    }
+}
+
+/// Adds words. Refused where memory runs out.
+pub fn push_words(words: &[u8], text: &mut Vec<u8>) -> Result<(), Memory>
+    ensures { OnOk result (text.new.items ≡ text.old.items ++ words.now) }
+{
+    text.extend_from_slice(words)?;
+    Ok(())
+}
+
+/// Adds a word and a number in base ten. Refused where memory runs out.
+pub fn push_count(word: &[u8], count: u64, text: &mut Vec<u8>) -> Result<(), Memory>
+    ensures { OnOk result (text.new.items ≡ text.old.items ++ (word.now ++ decimal count)) }
+{
+    let mut digits = Buffer::new();
+    text.extend_from_slice(word)?;
+    text.extend_from_slice(digits.format(count).as_bytes())?;
+    Ok(())
+}
+
+/// Adds the text of a cover: `cover`, and of a set that is not empty its ASCII form (MOC 2.0). Linear in the text;
+/// refused where memory runs out.
+pub fn push_cover(alloc: Global, set: &Coverage, text: &mut Vec<u8>) -> Result<(), Memory>
+    ensures { OnOk result (text.new.items ≡ text.old.items ++ cover_text set.now) }
+{
+    if set.is_empty() {
+        text.extend_from_slice(b"cover")?;
+        return Ok(());
+    }
+    let Ok(shown) = write_ascii(alloc, set, None) else {
+        return Err(Memory);
+    };
+    text.extend_from_slice(b"cover ")?;
+    text.extend_from_slice(shown.as_bytes())?;
+    Ok(())
+}

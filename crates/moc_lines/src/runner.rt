@@ -1,0 +1,291 @@
+//! A run under way.
+ghost use Rattle.std.specs.Prelude.{◌≡◌, ◌≢◌, ◌++◌, ◌⊎◌, [], IfOk, IfErr, IfSome, if◌then◌else◌, IsTrue, ◌↔◌, true};
+ghost use Rattle.std.specs.Prelude.{false, OnOk, OnErr, IsErrOf, Err};
+ghost use Rattle.std.specs.Io.KnownBytes.{Appends, IsAtEnd, Keeps};
+ghost use Rattle.moc_devices.specs.Devices.{CallsMore, Sends};
+ghost use Rattle.moc_lines.specs.Private.LineReading.{TakesLine, fault_at, holds_line};
+ghost use Rattle.moc_lines.specs.Answers.{script_text};
+ghost use Rattle.moc_lines.specs.Runs.{Runs, Begins, Flushes};
+ghost use Rattle.moc_lines.specs.Scripts.{line_limit};
+ghost use Rattle.moc_lines.specs.Private.Ended.{Ended};
+
+use crate::line_reader::{Found, LINE_LIMIT, LineFault, LineReader};
+use crate::responder::Responder;
+use crate::run_error::RunError;
+use moc_devices::{DeviceFault, Sink, Source, write_all};
+use std::alloc::{AllocError, Global};
+
+/// How many bytes of answers are kept before they are written.
+const FULL: usize = 65_536;
+
+/// The lines to come, and the answers that are not written yet.
+#[derive(Drop)]
+struct Runner {
+    alloc: Global,
+    lines: LineReader,
+    answer: Vec<u8>,
+    pending: Vec<u8>,
+}
+
+impl Runner {
+    /// Nothing is read, and nothing answered.
+    fn new(alloc: Global) -> Result<Runner, AllocError>
+        ensures unread { IfOk result (λ r. r.lines.unread ≡ []) }
+        ensures pending { IfOk result (λ r. r.pending.items ≡ []) }
+    {
+        Ok(Runner {
+            alloc,
+            lines: LineReader::new(alloc)?,
+            answer: Vec::new(alloc),
+            pending: Vec::new(alloc),
+        })
+    }
+
+    /// Answers each line that is read, and writes the answers.
+    fn run<A: Responder, R: Source, W: Sink>(
+        &mut self,
+        responder: &mut A,
+        reader: &mut R,
+        writer: &mut W,
+    ) -> Result<(), RunError>
+        requires unread { self.old.lines.unread ≡ [] }
+        requires pending { self.old.pending.items ≡ [] }
+        requires reader { R.mark reader.old ≡ false }
+        requires writer { W.mark writer.old ≡ false }
+        ensures runs { IfSome (R.left reader.old) (λ input.
+            Runs LINE_LIMIT A.rules responder.old input
+            (R.left reader.new) (W.written writer.old) (W.written writer.new) result) }
+        ensures begins { IfSome (R.left reader.old) (λ input.
+            Begins LINE_LIMIT A.rules responder.old input
+            (W.written writer.old) (W.written writer.new)) }
+        ensures end { OnOk result (IsAtEnd (R.left reader.new)) }
+        ensures flushed { OnOk result (IsTrue (W.flushed writer.new)) }
+        ensures unflushed { OnErr result (IsTrue (W.flushed writer.new) → IsTrue (W.flushed writer.old)) }
+        ensures flushes { Flushes result (W.flushes writer.old) (W.flushes writer.new) }
+        ensures read { IsErrOf result RunError.Read → IsTrue (R.mark reader.new) }
+        ensures write { IsErrOf result RunError.Write ↔ IsTrue (W.mark writer.new) }
+        ensures told { IsTrue (R.mark reader.new) → IsErrOf result RunError.Read ⊎ IsErrOf result RunError.Write }
+    {
+        let outcome = self.answer_lines(responder, reader, writer);
+        if is_write(&outcome) {
+            return outcome;
+        }
+        if self.send(writer).is_err() {
+            return Err(RunError::Write);
+        }
+        if flush_if(outcome.is_ok(), writer).is_err() {
+            return Err(RunError::Write);
+        }
+        outcome
+    }
+
+    /// Answers each line, and writes what is pending before each read that may wait.
+    fn answer_lines<A: Responder, R: Source, W: Sink>(
+        &mut self,
+        responder: &mut A,
+        reader: &mut R,
+        writer: &mut W,
+    ) -> Result<(), RunError>
+        requires unread { self.old.lines.unread ≡ [] }
+        requires pending { self.old.pending.items ≡ [] }
+        requires reader { R.mark reader.old ≡ false }
+        requires writer { W.mark writer.old ≡ false }
+        ensures ended { Ended LINE_LIMIT A.rules responder.old
+            (R.left reader.old) (R.left reader.new)
+            (W.written writer.old) (W.written writer.new) self.new.pending.items result }
+        ensures read { IsErrOf result RunError.Read ↔ IsTrue (R.mark reader.new) }
+        ensures write { IsErrOf result RunError.Write ↔ IsTrue (W.mark writer.new) }
+        ensures flushed { IsTrue (W.flushed writer.new) → IsTrue (W.flushed writer.old) }
+        ensures flushes { CallsMore (W.flushes writer.old) (W.flushes writer.new) 0 }
+    {
+        for line in 1..u64::MAX {
+            if self.send_if_due(writer).is_err() {
+                return Err(RunError::Write);
+            }
+            match self.next_line(reader) {
+                Ok(Found::Line) => {
+                    let answered = self.answer_line(line, responder);
+                    if answered.is_err() {
+                        return answered;
+                    }
+                }
+                Ok(Found::LastLine) => {
+                    let answered = self.answer_line(line, responder);
+                    if answered.is_err() {
+                        return answered;
+                    }
+                    return self.close(line + 1, responder);
+                }
+                Ok(Found::Nothing) => return self.close(line, responder),
+                Err(fault) => return Err(fault_at(line, fault)),
+            }
+        }
+        Err(RunError::Memory { line: u64::MAX })
+    }
+
+    /// Takes the next line. A read may wait, so nothing is pending then: what was answered is written.
+    fn next_line<R: Source>(&mut self, reader: &mut R) -> Result<Found, LineFault>
+        requires written { holds_line self.old.lines.unread ≡ false → self.old.pending.items ≡ [] }
+        requires reader { R.mark reader.old ≡ false }
+        ensures takes { TakesLine LINE_LIMIT self.old.lines (R.left reader.old)
+            self.new.lines (R.left reader.new) result }
+        ensures pending { self.new.pending.items ≡ self.old.pending.items }
+        ensures read { result ≡ Err LineFault.Read ↔ IsTrue (R.mark reader.new) }
+    {
+        self.lines.next_line(reader)
+    }
+
+    /// Does what the line of this number says, which was taken last, and adds the whole answer to what is pending, or
+    /// nothing.
+    fn answer_line<A: Responder>(&mut self, number: u64, responder: &mut A) -> Result<(), RunError>
+        ensures text { OnOk result (self.new.pending.items ≡
+            self.old.pending.items ++ A.rules.answer responder.old self.old.lines.line) }
+        ensures after { OnOk result (responder.new ≡ A.rules.after responder.old self.old.lines.line) }
+        ensures memory { IfErr result (λ fault. fault ≡ RunError.Memory number) }
+        ensures err { OnErr result (self.new.pending.items ≡ self.old.pending.items) }
+        ensures lines { self.new.lines ≡ self.old.lines }
+    {
+        self.answer.clear();
+        let line = self.lines.line();
+        let answered = responder.answer_line(self.alloc, line, &mut self.answer);
+        if answered.is_err() || self.pending.extend_from_slice(&self.answer).is_err() {
+            return Err(RunError::Memory { line: number });
+        }
+        Ok(())
+    }
+
+    /// Adds what is said behind the last line to what is pending, the whole of it or nothing. `behind` is the number of
+    /// the line behind the last.
+    fn close<A: Responder>(&mut self, behind: u64, responder: &A) -> Result<(), RunError>
+        ensures text { OnOk result (self.new.pending.items ≡
+            self.old.pending.items ++ A.rules.closing responder.now) }
+        ensures memory { IfErr result (λ fault. fault ≡ RunError.Memory behind) }
+        ensures some { OnErr result (A.rules.closing responder.now ≢ []) }
+        ensures err { OnErr result (self.new.pending.items ≡ self.old.pending.items) }
+        ensures lines { self.new.lines ≡ self.old.lines }
+    {
+        self.answer.clear();
+        let closed = responder.close(self.alloc, &mut self.answer);
+        if closed.is_err() || self.pending.extend_from_slice(&self.answer).is_err() {
+            return Err(RunError::Memory { line: behind });
+        }
+        Ok(())
+    }
+
+    /// Writes what is pending, where the next line may have to be read, or much is pending.
+    fn send_if_due<W: Sink>(&mut self, writer: &mut W) -> Result<(), DeviceFault>
+        requires writer { W.mark writer.old ≡ false }
+        ensures sends { Sends self.old.pending.items (W.written writer.old)
+            self.new.pending.items (W.written writer.new) result }
+        ensures written { OnOk result (holds_line self.new.lines.unread ≡ false → self.new.pending.items ≡ []) }
+        ensures lines { self.new.lines ≡ self.old.lines }
+        ensures marks { OnErr result (IsTrue (W.mark writer.new)) }
+        ensures unmarked { OnOk result (W.mark writer.new ≡ false) }
+        ensures flushed { IsTrue (W.flushed writer.new) → IsTrue (W.flushed writer.old) }
+        ensures flushes { CallsMore (W.flushes writer.old) (W.flushes writer.new) 0 }
+    {
+        if self.lines.holds_line() && self.pending.len() < FULL {
+            return Ok(());
+        }
+        self.send(writer)
+    }
+
+    /// Writes what is pending, in as many calls as it takes.
+    fn send<W: Sink>(&mut self, writer: &mut W) -> Result<(), DeviceFault>
+        requires writer { W.mark writer.old ≡ false }
+        ensures sends { Sends self.old.pending.items (W.written writer.old)
+            self.new.pending.items (W.written writer.new) result }
+        ensures all { OnOk result (self.new.pending.items ≡ []) }
+        ensures lines { self.new.lines ≡ self.old.lines }
+        ensures marks { OnErr result (IsTrue (W.mark writer.new)) }
+        ensures unmarked { OnOk result (W.mark writer.new ≡ false) }
+        ensures flushed { IsTrue (W.flushed writer.new) → IsTrue (W.flushed writer.old) }
+        ensures flushes { CallsMore (W.flushes writer.old) (W.flushes writer.new) 0 }
+    {
+        write_all(&self.pending, writer)?;
+        self.pending.clear();
+        Ok(())
+    }
+}
+
+/// Answers the lines of a reader, in order, as a responder does, and writes the answers, with what it says behind the
+/// last line.
+///
+/// A line ends at a line feed, and bytes behind the last one are a last line. Answers are written before each read that
+/// may wait. After the whole text the writer is flushed, once. Where the call ends with a fault, what is written is
+/// exactly the answers to the lines before the one that `LineTooLong` or `Memory` names, or to the whole lines that
+/// were read before `Read`; on `Write` it is as much of the answers as the writer took. What is said behind the last
+/// line is made before any of it is written: where memory is refused for it, `Memory` names the line behind the last;
+/// at 0 nothing was read.
+///
+/// A line's end is looked for once, and the line is copied. Takes memory linear in the longest line and the longest
+/// answer.
+pub fn answer_all_lines<A: Responder, R: Source, W: Sink>(
+    alloc: Global,
+    responder: &mut A,
+    reader: &mut R,
+    writer: &mut W,
+) -> Result<(), RunError>
+    requires reader { R.mark reader.old ≡ false }
+    requires writer { W.mark writer.old ≡ false }
+
+    // What is written is the defined answers to what was read, as far as the outcome says.
+    ensures runs { IfSome (R.left reader.old) (λ input.
+        Runs line_limit A.rules responder.old input
+        (R.left reader.new) (W.written writer.old) (W.written writer.new) result) }
+
+    // So it is a beginning of the answers to the whole input, and all of them where no fault comes.
+    ensures begins { IfSome (R.left reader.old) (λ input.
+        Begins line_limit A.rules responder.old input
+        (W.written writer.old) (W.written writer.new)) }
+    ensures answers { OnOk result (IfSome (R.left reader.old) (λ input.
+        Appends (W.written writer.old) (W.written writer.new) (script_text A.rules line_limit responder.old input))) }
+
+    // Only the reader's end ends it without a fault, and then all is flushed, at once.
+    ensures end { OnOk result (IsAtEnd (R.left reader.new)) }
+    ensures flushed { OnOk result (IsTrue (W.flushed writer.new)) }
+    ensures unflushed { OnErr result (IsTrue (W.flushed writer.new) → IsTrue (W.flushed writer.old)) }
+    ensures flushes { Flushes result (W.flushes writer.old) (W.flushes writer.new) }
+
+    // The devices' faults are theirs, and a device that failed is told.
+    ensures read { IsErrOf result RunError.Read → IsTrue (R.mark reader.new) }
+    ensures write { IsErrOf result RunError.Write ↔ IsTrue (W.mark writer.new) }
+    ensures told { IsTrue (R.mark reader.new) → IsErrOf result RunError.Read ⊎ IsErrOf result RunError.Write }
+{
+    let Ok(mut runner) = Runner::new(alloc) else {
+        return Err(RunError::Memory { line: 0 });
+    };
+    runner.run(responder, reader, writer)
+}
+
+/// The fault of a run that finds no line of this number.
+fn fault_at(line: u64, fault: LineFault) -> RunError
+    ensures { result ≡ fault_at line fault }
+{
+    match fault {
+        LineFault::Read => RunError::Read,
+        LineFault::TooLong => RunError::LineTooLong { line },
+        LineFault::Memory => RunError::Memory { line },
+    }
+}
+
+/// Whether the writer failed.
+fn is_write(outcome: &Result<(), RunError>) -> bool
+    ensures { IsTrue result ↔ (outcome.now ≡ Err RunError.Write) }
+{
+    matches!(outcome, Err(RunError::Write))
+}
+
+/// Flushes the writer, if that is due.
+fn flush_if<W: Sink>(is_due: bool, writer: &mut W) -> Result<(), DeviceFault>
+    requires writer { W.mark writer.old ≡ false }
+    ensures bytes { Keeps (W.written writer.old) (W.written writer.new) }
+    ensures marks { OnErr result (IsTrue (W.mark writer.new)) }
+    ensures unmarked { OnOk result (W.mark writer.new ≡ false) }
+    ensures flushed { OnOk result (IsTrue is_due → IsTrue (W.flushed writer.new)) }
+    ensures unflushed { OnErr result (IsTrue (W.flushed writer.new) → IsTrue (W.flushed writer.old)) }
+    ensures not_due { is_due ≡ false → IsTrue (W.flushed writer.new) → IsTrue (W.flushed writer.old) }
+    ensures flushes { CallsMore (W.flushes writer.old) (W.flushes writer.new) (if is_due then 1 else 0) }
+{
+    if is_due { writer.flush() } else { Ok(()) }
+}

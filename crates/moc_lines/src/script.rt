@@ -1,0 +1,77 @@
+//! Scripts, run from a reader to a writer.
+ghost use Rattle.std.specs.Prelude.{◌≡◌, ◌⊎◌, IfSome, IsTrue, ◌↔◌, false, OnOk, OnErr, IsErrOf};
+ghost use Rattle.std.specs.Io.KnownBytes.{Appends, IsAtEnd};
+ghost use Rattle.moc_lines.specs.Runs.{Flushes};
+ghost use Rattle.moc_lines.specs.Scripts.{RunsScript, BeginsAnswers, answers_of};
+
+use crate::run_error::RunError;
+use crate::runner::answer_all_lines;
+use moc_devices::{Sink, Source};
+use moc_parts::Map;
+use moc_ranges::Coverage;
+use std::alloc::Global;
+
+/// Answers a script: one client asks and changes one set of pixels of order 29, which starts empty.
+///
+/// A line ends at a line feed, and bytes behind the last one are a last line. A line of blanks (space, tab, CR) alone
+/// has no answer; every other line has one, in order, ended by a line feed. A line is 1 to 16 commands parted by `;`,
+/// done in order, and its answer is theirs, parted by ` ; `. A command is a word and its fields, or a word and an
+/// operand S: a coverage in the ASCII form of MOC 2.0 (the empty text is the empty set), behind `@` and an order where
+/// it is to be degraded first.
+///
+/// | Command | Answer |
+/// |---|---|
+/// | `add S` | `changed N`: S is added, N of its pixels are new |
+/// | `remove S` | `changed N`: S is removed, N of its pixels were in the set |
+/// | `keep S` | `changed N`: what S and the set share is kept, N pixels are removed |
+/// | `claim S` | `claimed`: S is added, no pixel of it was in the set; or `taken N`: N were, and nothing changes |
+/// | `invert` | `changed N`: the set is complemented, N is the number of all pixels |
+/// | `degrade K` | `changed N`: the set is degraded to order K, N pixels are new |
+/// | `count S` | `total N`: the set has N of the pixels of S |
+/// | `read S` | `cover T`: T is the ASCII form of what S and the set share; `cover` alone for nothing |
+/// | `near K I` | `near yes`: the set has a pixel of the cell I of order K or of a cell that touches it; or `near no` |
+///
+/// A bad line changes nothing, and is answered `fault NAME`, by the first bad command from the left. Answers are
+/// written before each read that may wait.
+///
+/// Where the call ends with a fault, what is written is exactly the answers to the lines before the one that
+/// `LineTooLong` or `Memory` names, or to the whole lines that were read before `Read`; on `Write` it is as much of
+/// the answers as the writer took. After the whole text the writer is flushed, once.
+///
+/// A line's end is looked for, then the line is copied, looked through for `;` and parsed, by a fixed number of passes
+/// over its bytes. A command takes O(n log n) time for the n cells of its operand, O(n) where they rise, and besides
+/// time and memory at most linear in the ranges of both sets.
+pub fn run<R: Source, W: Sink>(
+    alloc: Global,
+    reader: &mut R,
+    writer: &mut W,
+) -> Result<(), RunError>
+    requires reader { R.mark reader.old ≡ false }
+    requires writer { W.mark writer.old ≡ false }
+
+    // What is written is the defined answers to what was read, as far as the outcome says.
+    ensures runs { IfSome (R.left reader.old) (λ input.
+        RunsScript input (R.left reader.new) (W.written writer.old) (W.written writer.new) result) }
+
+    // So it is a beginning of the answers to the whole input, and all of them where no fault comes.
+    ensures begins { IfSome (R.left reader.old) (λ input.
+        BeginsAnswers input (W.written writer.old) (W.written writer.new)) }
+    ensures answers { OnOk result (IfSome (R.left reader.old) (λ input.
+        Appends (W.written writer.old) (W.written writer.new) (answers_of input))) }
+
+    // Only the reader's end ends a run without a fault, and then all is flushed, at once.
+    ensures end { OnOk result (IsAtEnd (R.left reader.new)) }
+    ensures flushed { OnOk result (IsTrue (W.flushed writer.new)) }
+    ensures unflushed { OnErr result (IsTrue (W.flushed writer.new) → IsTrue (W.flushed writer.old)) }
+    ensures flushes { Flushes result (W.flushes writer.old) (W.flushes writer.new) }
+
+    // The devices' faults are theirs, and a device that failed is told.
+    ensures read { IsErrOf result RunError.Read → IsTrue (R.mark reader.new) }
+    ensures write { IsErrOf result RunError.Write ↔ IsTrue (W.mark writer.new) }
+    ensures told { IsTrue (R.mark reader.new) → IsErrOf result RunError.Read ⊎ IsErrOf result RunError.Write }
+{
+    let Ok(mut map) = Map::new(alloc, Coverage::empty(alloc)) else {
+        return Err(RunError::Memory { line: 0 });
+    };
+    answer_all_lines(alloc, &mut map, reader, writer)
+}

@@ -1,4 +1,0 @@
-use Rattle.moc_program.proofs.conversion.checked.Goals as goal
-
-pub returns-clause-says : goal.returns-clause-says
-returns-clause-says g c = (c.in_ok-input_says.field-0, c.in_ok-input_says.ensures.says)

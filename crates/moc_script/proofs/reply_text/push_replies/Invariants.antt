@@ -1,8 +1,0 @@
--- What is told and the texts of what is left are the texts of all.
-use Rattle.std.proofs.Common.{◌≡◌, ◌++◌, codes, drop}
-use Rattle.std.specs.List.{flat_map}
-use Rattle.moc_script.specs.Replies.{reply_text, replies_text}
-use Rattle.moc_script.proofs.reply_text.push_replies.Given as goal
-
-abbrev pub invariant-loop-reply : goal.invariant-loop-reply
-invariant-loop-reply l = l.fn.text.items ++ replies_text l.fn.replies ≡ l.text.items ++ flat_map (λ reply. codes " ; " ++ reply_text reply) (drop l.reply-index l.later)
