@@ -107,6 +107,25 @@ fn refusals_and_spans(rt: HostRuntime) {
     assert!(rt; at(&rt, 0, 11).parent().is_none());
 }
 
+// 29/3458764513820540927 is the last cell of its order, as are all cells that it lies in. 1/18 is 18 = 4 * 4 + 2.
+#[test]
+fn cells_that_a_cell_lies_in(rt: HostRuntime) {
+    for (order, index, level, ancestor) in [
+        (1, 18, 0, 4),
+        (1, 18, 1, 18),
+        (3, 700, 1, 43),
+        (29, 3458764513820540927, 29, 3458764513820540927),
+        (29, 3458764513820540927, 3, 767),
+        (29, 3458764513820540927, 0, 11),
+    ] {
+        assert!(rt;
+            at(&rt, order, index).ancestor(order_of(&rt, level)) == Some(at(&rt, level, ancestor)),
+            "order {order} index {index} level {level}"
+        );
+    }
+    assert!(rt; at(&rt, 1, 18).ancestor(order_of(&rt, 2)).is_none());
+}
+
 #[test]
 fn orders_and_their_nsides(rt: HostRuntime) {
     for (order, nside) in [(0u8, 1u64), (3, 8), (29, 536870912)] {
