@@ -4,8 +4,8 @@ use Rattle.std.specs.List.Sorted.{IsStrictlyIncreasing}
 use Rattle.std.proofs.lemmas.Bool.{cases_lt}
 use Rattle.moc_sphere.specs.Faces.{face_of, x_of, y_of}
 use Rattle.moc_sphere.specs.Touching.{Touches}
-use Rattle.moc_sphere.specs.Private.Sides.{IsBeside, IsBeyondNorthEast, IsBeyondSouthWest, IsBeyondNorthWest, IsBeyondSouthEast, IsBeyondNorth, IsBeyondSouth, IsBeyondEast, IsBeyondWest}
-use Rattle.moc_sphere.proofs.Touching.{IsAtStep, Touches-from_step, step_from_Touches}
+use Rattle.moc_sphere.specs.Private.Sides.{IsAtStep, IsBeside, IsBeyondNorthEast, IsBeyondSouthWest, IsBeyondNorthWest, IsBeyondSouthEast, IsBeyondNorth, IsBeyondSouth, IsBeyondEast, IsBeyondWest}
+use Rattle.moc_sphere.proofs.Touching.{Touches-from_step, step_from_Touches}
 use Rattle.moc_sphere.proofs.FaceBounds.{same_cell}
 
 pub record Found (k i step : ℕ) (items : List ℕ) : Type 0 where
