@@ -129,11 +129,6 @@ module _ (k i step : ℕ) (items : List ℕ) (found : Found k i step items) wher
                 inl (one_at_step k i step j v (subst (λ t. IsAtStep k i t j) e here) at_v)
           ]
 
-pub at_step : (k i d n f x y g z w v : ℕ) → n ≡ 2 ^ k → f ≡ face_of k i → x ≡ x_of k i → y ≡ y_of k i
-    → IsBeside n f (x + d / 3) (y + d % 3) g z w
-    → v < 12 * 4 ^ k → face_of k v ≡ g → x_of k v ≡ z → y_of k v ≡ w → IsAtStep k i d v
-at_step k i d n f x y g z w v en ef ex ey h vb eg ez ew = (vb, rw (sym en, sym ef, sym ex, sym ey, eg, ez, ew) h)
-
 pub not_at_step : (k i d n f x y : ℕ) → n ≡ 2 ^ k → f ≡ face_of k i → x ≡ x_of k i → y ≡ y_of k i
     → ((g z w : ℕ) → IsBeside n f (x + d / 3) (y + d % 3) g z w → ⊥) → (j : ℕ) → IsAtStep k i d j → ⊥
 not_at_step k i d n f x y en ef ex ey none j (jb, h) = none (face_of k j) (x_of k j) (y_of k j) (rw (en, ef, ex, ey) h)

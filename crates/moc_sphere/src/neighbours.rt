@@ -126,17 +126,12 @@ fn touching_across(cell: Cell, face: u8, x: u32, y: u32, alloc: Global) -> Small
     ensures few { small_vec_len result ≤ 8 }
     ensures inline { result.capacity ≡ 8 }
 {
-    let order = cell.order();
     let from = Place::new(u32::from(face), x, y);
-    let side = order.nside() as u32;
     let mut cells = SmallVec::new(alloc);
     for step in 0u32..9 {
         if step != 4 {
-            if let Some(to) = beside(side, from, step / 3, step % 3) {
-                insert_rising(
-                    &mut cells,
-                    Cell::at_place(order, to.face as u8, to.x, to.y).index(),
-                );
+            if let Some(near) = at_step(cell, from, step) {
+                insert_rising(&mut cells, near.index());
             }
         }
     }
