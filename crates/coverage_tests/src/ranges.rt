@@ -187,6 +187,22 @@ fn gathered_cells(rt: HostRuntime) {
 }
 
 #[test]
+fn the_set_of_some_cells(rt: HostRuntime) {
+    let deepest = Order::of(29);
+    let cells = [
+        Cell::of(deepest, 9),
+        Cell::of(Order::of(28), 0),
+        Cell::of(deepest, 8),
+        Cell::of(deepest, 3),
+        Cell::of(deepest, 9),
+    ];
+    let set = Coverage::from_cells(rt.alloc(), &cells).expect(&rt, "memory");
+    has(&rt, &set, &[(0, 4), (8, 10)]);
+    let none = Coverage::from_cells(rt.alloc(), &[]).expect(&rt, "memory");
+    has(&rt, &none, &[]);
+}
+
+#[test]
 fn runs_of_cells(rt: HostRuntime) {
     let set = set_of(&rt, rt.alloc(), &[(3, 9), (16, 64)]);
     assert_eq!(rt; set.cell_orders(), (27, 30));

@@ -92,6 +92,28 @@ fn touching_rows(rt: HostRuntime) {
     }
 }
 
+// As healpy's get_all_neighbours has them, which says -1 where there is none: here 99.
+#[test]
+fn neighbours_by_direction(rt: HostRuntime) {
+    for (order, index, wanted) in [
+        (0, 0, [4, 99, 3, 2, 1, 99, 5, 8]),
+        (0, 4, [11, 7, 3, 99, 0, 5, 8, 99]),
+        (0, 5, [8, 4, 0, 99, 1, 6, 9, 99]),
+        (1, 0, [17, 19, 2, 3, 1, 23, 22, 35]),
+        (1, 1, [0, 2, 3, 7, 6, 99, 23, 22]),
+        (2, 3, [2, 8, 9, 12, 6, 4, 1, 0]),
+    ] {
+        let found = at(&rt, order, index).neighbours();
+        for (cell, wanted) in found.iter().zip(&wanted) {
+            let number = match cell {
+                Some(cell) => cell.index(),
+                None => 99,
+            };
+            assert_eq!(rt; number, *wanted, "order {order} index {index}");
+        }
+    }
+}
+
 #[test]
 fn refusals_and_spans(rt: HostRuntime) {
     assert!(rt; Order::new(30).is_none());
@@ -105,6 +127,25 @@ fn refusals_and_spans(rt: HostRuntime) {
     assert_eq!(rt; last.span(), (3386706919782612992, 3458764513820540928));
     assert!(rt; last.parent() == Some(at(&rt, 0, 11)));
     assert!(rt; at(&rt, 0, 11).parent().is_none());
+}
+
+// 29/3458764513820540927 is the last cell of its order, as are all cells that it lies in. 1/18 is 18 = 4 * 4 + 2.
+#[test]
+fn cells_that_a_cell_lies_in(rt: HostRuntime) {
+    for (order, index, level, ancestor) in [
+        (1, 18, 0, 4),
+        (1, 18, 1, 18),
+        (3, 700, 1, 43),
+        (29, 3458764513820540927, 29, 3458764513820540927),
+        (29, 3458764513820540927, 3, 767),
+        (29, 3458764513820540927, 0, 11),
+    ] {
+        assert!(rt;
+            at(&rt, order, index).ancestor(order_of(&rt, level)) == Some(at(&rt, level, ancestor)),
+            "order {order} index {index} level {level}"
+        );
+    }
+    assert!(rt; at(&rt, 1, 18).ancestor(order_of(&rt, 2)).is_none());
 }
 
 #[test]

@@ -66,6 +66,8 @@ impl Drop for Desk {
     }
 }
 
+// A type with a raw pointer is not `Send` of itself. This one owns what it points to, as a `Box<Shelf>` does: nothing
+// else points there. A `Shelf` is `Send`, and so is the allocator that gets its memory back. All that is proved.
 unsafe impl Send for Desk {}
 
 /// Ends a desk, with all that lies on it.

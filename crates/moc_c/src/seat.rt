@@ -68,6 +68,8 @@ impl Drop for Seat {
     }
 }
 
+// A type with a raw pointer is not `Send` of itself. This one owns what it points to, as a `Box<Sitter>` does: nothing
+// else points there. A `Sitter` is `Send`, and so is the allocator that gets its memory back. All that is proved.
 unsafe impl Send for Seat {}
 
 /// Ends a seat. Its client makes no call any more; the map lives on while another of its clients has a seat.

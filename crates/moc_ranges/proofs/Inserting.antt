@@ -4,6 +4,7 @@ use Rattle.std.specs.Prelude.{slice_set}
 use Rattle.std.specs.Bool.{OnTrue}
 use Rattle.std.specs.List.{insert}
 use Rattle.std.proofs.lemmas.List.{take-append-drop}
+use Rattle.std.proofs.lemmas.List.Edits.{get_or-insert_at}
 use Rattle.std.proofs.lemmas.List.Sums.{sum_by-cons}
 use Rattle.moc_ranges.specs.Pixels.{pixel_count}
 use Rattle.moc_ranges.specs.RangeList.{IsNormal}
@@ -11,7 +12,7 @@ use Rattle.moc_ranges.specs.Private.Blocks.{joining, next_of, width_of, AreBlock
 use Rattle.moc_ranges.specs.Private.Built.{EndsBelow, first_length, last_length}
 use Rattle.moc_ranges.specs.Private.Walks.{joined, EndsBy, IsPastAt}
 use Rattle.moc_ranges.specs.Private.Added.{inserted, IsCut, IsGap, HasGap, HasGrown, HasOneMore}
-use Rattle.moc_ranges.proofs.Blocking.{IsNormal-suffix, nothing_more, width-append}
+use Rattle.moc_ranges.proofs.Blocking.{IsNormal-prefix, IsNormal-suffix, nothing_more, range_at, width-append}
 use Rattle.moc_ranges.proofs.Adding.{one_more_cut, parted, reaching_start, reach_done, regrown_all, run_normal}
 use Rattle.moc_ranges.proofs.Filling.{filled_suffix}
 use Rattle.moc_ranges.proofs.Places.{starts_set}
@@ -97,9 +98,25 @@ gap_ranges : (from to node block place : ℕ) (nodes nodes' : List (List (List (
 gap_ranges from to node block place nodes nodes' found same g is =
     ap (λ (l : List (ℕ × ℕ)). insert l place (from, to)) (gap_run from to node block place nodes nodes' found same g is) ∙ sym g.made
 
+-- a block with one range more is one of its node
+inserted_there : (node : List (List (ℕ × ℕ))) (block : ℕ) (run : List (ℕ × ℕ)) → block < length node → IsNormal (joining (slice_set node block run)) → IsNormal run
+inserted_there [] block run there normal = absurd (omega arith)
+inserted_there (b ∷ bs) zero run there normal = IsNormal-prefix run (joining bs) normal
+inserted_there (b ∷ bs) (suc block) run there normal = inserted_there bs block run (omega arith) (IsNormal-suffix b (joining (slice_set bs block run)) normal)
+
+-- what putting a range there asks of the block
+pub gap_normal : (node : List (List (ℕ × ℕ))) (block place : ℕ) (range : ℕ × ℕ) → HasGap node block place range → IsNormal (insert (get_or node block []) place range)
+gap_normal node block place range gap = inserted_there node block (insert (get_or node block []) place range) gap.there gap.normal
+
+pub gap_filled : (node : List (List (ℕ × ℕ))) (block place : ℕ) (range : ℕ × ℕ) → HasGap node block place range → range.0 < range.1
+gap_filled node block place range gap =
+    let run = get_or node block [] in
+    subst (λ (r : ℕ × ℕ). r.0 < r.1) (get_or-insert_at run place range range gap.inside)
+    (range_at (insert run place range) place range (gap_normal node block place range gap) (omega (arith, insert_length run place range gap.inside, gap.inside)))
+
 -- what putting it there asks of the node
-pub gap_can : (from to node block place : ℕ) (nodes nodes' : List (List (List (ℕ × ℕ)))) (found : List (List (ℕ × ℕ))) → from < to → nodes' ≡ nodes → IsGap from to nodes' node block place → found ≡ get_or nodes node found → HasGap found block place (from, to)
-gap_can from to node block place nodes nodes' found filled same g is =
+pub gap_can : (from to node block place : ℕ) (nodes nodes' : List (List (List (ℕ × ℕ)))) (found : List (List (ℕ × ℕ))) → nodes' ≡ nodes → IsGap from to nodes' node block place → found ≡ get_or nodes node found → HasGap found block place (from, to)
+gap_can from to node block place nodes nodes' found same g is =
     let run = gap_run from to node block place nodes nodes' found same g is in
     let made = gap_ranges from to node block place nodes nodes' found same g is in
     let whole = spot_node from to node block (to - from) nodes nodes' g.ranges found same g.spot is ∙ g.spot.grown.parts in
@@ -107,8 +124,6 @@ gap_can from to node block place nodes nodes' found filled same g is =
       there = omega (arith, ap length whole, length-append g.spot.left (g.spot.run ∷ g.spot.right), g.spot.place);
       inside = omega (arith, ap length run, g.inside);
       room = omega (arith, ap length run, g.room);
-      filled = filled;
-      ranges = subst IsNormal (sym made) (subst IsNormal (nothing_more g.ranges) g.spot.grown.normal);
       normal = spot_normal from to node block (to - from) nodes nodes' g.ranges _ found same g.spot is made;
       sized = spot_sized from to node block (to - from) nodes nodes' g.ranges _ found same g.spot is made;
     }
@@ -123,7 +138,7 @@ pub gap_put : (from to node block place size count : ℕ) (nodes nodes' : List (
 gap_put from to node block place size count nodes nodes' starts found put filled stored index same g is done =
     let run = gap_run from to node block place nodes nodes' found same g is in
     let made = gap_ranges from to node block place nodes nodes' found same g is in
-    let can = gap_can from to node block place nodes nodes' found filled same g is in
+    let can = gap_can from to node block place nodes nodes' found same g is in
     let inside = spot_inside from to node block (to - from) nodes nodes' g.ranges same g.spot in
     let new = spot_put from to node block (to - from) nodes nodes' g.ranges _ found put stored same g.spot is made done in
     let longer = length_replaced found block (get_or found block []) (insert (get_or found block []) place (from, to)) can.there (get_same found block [] can.there) in

@@ -2,7 +2,7 @@
 ghost use Rattle.std.specs.Prelude.{◌≡◌, ◌<◌, ◌≤◌, ◌*◌, ◌+◌, IfOk, OnOk, OnErr};
 ghost use Rattle.std.specs.FinSet as set;
 ghost use Rattle.moc_sphere.specs.CellNumber.{cell_count};
-ghost use Rattle.moc_ranges.specs.Cells.{span, spans};
+ghost use Rattle.moc_ranges.specs.Cells.{span, spans, pixels_of};
 ghost use Rattle.moc_ranges.specs.Numbers.{numbers};
 ghost use Rattle.moc_ranges.specs.Pixels.{pixel_count};
 
@@ -165,5 +165,18 @@ impl Extend<Cell> for CoverageBuilder {
             self.add_cell(cell)?;
         }
         Ok(())
+    }
+}
+
+impl Coverage {
+    /// The pixels in any of these cells, which may come in any order and lie in one another.
+    ///
+    /// O(n) where they rise by their pixels, and else O(n log n); refused where memory runs out.
+    pub fn from_cells(alloc: Global, cells: &[Cell]) -> Result<Coverage, Memory>
+        ensures { IfOk result (λ c. c ≡ pixels_of cells.now) }
+    {
+        let mut builder = CoverageBuilder::new(alloc);
+        builder.extend(cells.iter().copied())?;
+        builder.build()
     }
 }

@@ -102,6 +102,162 @@ Reaches-from_corners n f x y X Y g z w Z W fn xn yn zn wn c d m =
           (0, 2, omega arith, omega arith, inr (inr (inr (inr (inr (inr (inr (inr (omega arith, omega arith, vertex_west n f g z w Z W zn wn d h.2)))))))))
     ]
 
+-- The corner (X, Y) of base pixel f is one of the cell (z, w) of base pixel g.
+pub record IsCornerOf (n f X Y g z w : ℕ) : Type 0 where
+  pub Z : ℕ
+  pub W : ℕ
+  pub corner : IsCorner z w Z W
+  pub meets : Meets n f X Y g Z W
+
+corner_of_at : (n f X Y g z w Z W : ℕ) → z ≤ Z → Z ≤ z + 1 → w ≤ W → W ≤ w + 1 → Meets n f X Y g Z W → IsCornerOf n f X Y g z w
+corner_of_at n f X Y g z w Z W a b c d m =
+    record { Z = Z; W = W; corner = record { from_x = a; to_x = b; from_y = c; to_y = d }; meets = m }
+
+shares_north_east : (n f U g Z W : ℕ) → IsBeyondNorthEast n f U g Z W → Meets n f n U g Z W
+shares_north_east n f U g Z W h = inr (inl (refl, h))
+
+corner_of_north_east : (n f U g z w p : ℕ) → p < n → p ≤ U → U ≤ p + 1 → IsBeyondNorthEast (n - 1) f p g z w → IsCornerOf n f n U g z w
+corner_of_north_east n f U g z w p pn low high h =
+    elim h [
+      | inl a ↦ corner_of_at n f n U g z w U n (omega arith) (omega arith) (omega arith) (omega arith) (shares_north_east n f U g U n (grind arith))
+      | inr (inl a) ↦ corner_of_at n f n U g z w 0 U (omega arith) (omega arith) (omega arith) (omega arith) (shares_north_east n f U g 0 U (grind arith))
+      | inr (inr a) ↦ corner_of_at n f n U g z w 0 U (omega arith) (omega arith) (omega arith) (omega arith) (shares_north_east n f U g 0 U (grind arith))
+    ]
+
+shares_south_west : (n f U g Z W : ℕ) → IsBeyondSouthWest n f U g Z W → Meets n f 0 U g Z W
+shares_south_west n f U g Z W h = inr (inr (inl (refl, h)))
+
+corner_of_south_west : (n f U g z w p : ℕ) → p < n → p ≤ U → U ≤ p + 1 → IsBeyondSouthWest (n - 1) f p g z w → IsCornerOf n f 0 U g z w
+corner_of_south_west n f U g z w p pn low high h =
+    elim h [
+      | inl a ↦ corner_of_at n f 0 U g z w n U (omega arith) (omega arith) (omega arith) (omega arith) (shares_south_west n f U g n U (grind arith))
+      | inr (inl a) ↦ corner_of_at n f 0 U g z w n U (omega arith) (omega arith) (omega arith) (omega arith) (shares_south_west n f U g n U (grind arith))
+      | inr (inr a) ↦ corner_of_at n f 0 U g z w U 0 (omega arith) (omega arith) (omega arith) (omega arith) (shares_south_west n f U g U 0 (grind arith))
+    ]
+
+shares_north_west : (n f U g Z W : ℕ) → IsBeyondNorthWest n f U g Z W → Meets n f U n g Z W
+shares_north_west n f U g Z W h = inr (inr (inr (inl (refl, h))))
+
+corner_of_north_west : (n f U g z w p : ℕ) → p < n → p ≤ U → U ≤ p + 1 → IsBeyondNorthWest (n - 1) f p g z w → IsCornerOf n f U n g z w
+corner_of_north_west n f U g z w p pn low high h =
+    elim h [
+      | inl a ↦ corner_of_at n f U n g z w n U (omega arith) (omega arith) (omega arith) (omega arith) (shares_north_west n f U g n U (grind arith))
+      | inr (inl a) ↦ corner_of_at n f U n g z w U 0 (omega arith) (omega arith) (omega arith) (omega arith) (shares_north_west n f U g U 0 (grind arith))
+      | inr (inr a) ↦ corner_of_at n f U n g z w U 0 (omega arith) (omega arith) (omega arith) (omega arith) (shares_north_west n f U g U 0 (grind arith))
+    ]
+
+shares_south_east : (n f U g Z W : ℕ) → IsBeyondSouthEast n f U g Z W → Meets n f U 0 g Z W
+shares_south_east n f U g Z W h = inr (inr (inr (inr (inl (refl, h)))))
+
+corner_of_south_east : (n f U g z w p : ℕ) → p < n → p ≤ U → U ≤ p + 1 → IsBeyondSouthEast (n - 1) f p g z w → IsCornerOf n f U 0 g z w
+corner_of_south_east n f U g z w p pn low high h =
+    elim h [
+      | inl a ↦ corner_of_at n f U 0 g z w U n (omega arith) (omega arith) (omega arith) (omega arith) (shares_south_east n f U g U n (grind arith))
+      | inr (inl a) ↦ corner_of_at n f U 0 g z w U n (omega arith) (omega arith) (omega arith) (omega arith) (shares_south_east n f U g U n (grind arith))
+      | inr (inr a) ↦ corner_of_at n f U 0 g z w 0 U (omega arith) (omega arith) (omega arith) (omega arith) (shares_south_east n f U g 0 U (grind arith))
+    ]
+
+shares_north : (n f g Z W : ℕ) → IsBeyondNorth n f g Z W → Meets n f n n g Z W
+shares_north n f g Z W h = inr (inr (inr (inr (inr (inl (refl, refl, h))))))
+
+corner_of_north : (n f g z w : ℕ) → 0 < n → IsBeyondNorth (n - 1) f g z w → IsCornerOf n f n n g z w
+corner_of_north n f g z w pos h =
+    elim h [
+      | inl a ↦ corner_of_at n f n n g z w n n (omega arith) (omega arith) (omega arith) (omega arith) (shares_north n f g n n (grind arith))
+      | inr a ↦ corner_of_at n f n n g z w 0 0 (omega arith) (omega arith) (omega arith) (omega arith) (shares_north n f g 0 0 (grind arith))
+    ]
+
+shares_south : (n f g Z W : ℕ) → IsBeyondSouth n f g Z W → Meets n f 0 0 g Z W
+shares_south n f g Z W h = inr (inr (inr (inr (inr (inr (inl (refl, refl, h)))))))
+
+corner_of_south : (n f g z w : ℕ) → 0 < n → IsBeyondSouth (n - 1) f g z w → IsCornerOf n f 0 0 g z w
+corner_of_south n f g z w pos h =
+    elim h [
+      | inl a ↦ corner_of_at n f 0 0 g z w n n (omega arith) (omega arith) (omega arith) (omega arith) (shares_south n f g n n (grind arith))
+      | inr a ↦ corner_of_at n f 0 0 g z w 0 0 (omega arith) (omega arith) (omega arith) (omega arith) (shares_south n f g 0 0 (grind arith))
+    ]
+
+shares_east : (n f g Z W : ℕ) → IsBeyondEast n f g Z W → Meets n f n 0 g Z W
+shares_east n f g Z W h = inr (inr (inr (inr (inr (inr (inr (inl (refl, refl, h))))))))
+
+corner_of_east : (n f g z w : ℕ) → 0 < n → IsBeyondEast (n - 1) f g z w → IsCornerOf n f n 0 g z w
+corner_of_east n f g z w pos h =
+    corner_of_at n f n 0 g z w 0 n (omega arith) (omega arith) (omega arith) (omega arith) (shares_east n f g 0 n (grind arith))
+
+shares_west : (n f g Z W : ℕ) → IsBeyondWest n f g Z W → Meets n f 0 n g Z W
+shares_west n f g Z W h = inr (inr (inr (inr (inr (inr (inr (inr ((refl, refl, h)))))))))
+
+corner_of_west : (n f g z w : ℕ) → 0 < n → IsBeyondWest (n - 1) f g z w → IsCornerOf n f 0 n g z w
+corner_of_west n f g z w pos h =
+    corner_of_at n f 0 n g z w n 0 (omega arith) (omega arith) (omega arith) (omega arith) (shares_west n f g n 0 (grind arith))
+
+-- the same corner by other names of its coordinates
+moved : (n f X Y U V g z w : ℕ) → X ≡ U → Y ≡ V → IsCornerOf n f U V g z w → IsCornerOf n f X Y g z w
+moved n f X Y U V g z w a b c = rw (a, b) c
+
+-- On the plane of a base pixel a corner at X is one of the cell at s - 1.
+abbrev pub Adjoins : ℕ → ℕ → Type 0
+Adjoins X s = (X ≤ s) × (s ≤ X + 1)
+
+-- A corner of a base pixel that is one of the cell beside, on its plane, is one of that cell.
+pub corner_of_beside : (n f X Y s t g z w : ℕ) → 0 < n → X ≤ n → Y ≤ n → Adjoins X s → Adjoins Y t → IsBeside n f s t g z w → IsCornerOf n f X Y g z w
+corner_of_beside n f X Y s t g z w pos xn yn (xs, sx) (yt, ty) b =
+    elim b [
+      | inl h ↦ corner_of_at n f X Y g z w X Y (omega arith) (omega arith) (omega arith) (omega arith) (inl (omega arith, refl, refl))
+      | inr (inl h) ↦ moved n f X Y n Y g z w (omega arith) refl (corner_of_north_east n f Y g z w (t - 1) (omega arith) (omega arith) (omega arith) h.3)
+      | inr (inr (inl h)) ↦ moved n f X Y 0 Y g z w (omega arith) refl (corner_of_south_west n f Y g z w (t - 1) (omega arith) (omega arith) (omega arith) h.3)
+      | inr (inr (inr (inl h))) ↦ moved n f X Y X n g z w refl (omega arith) (corner_of_north_west n f X g z w (s - 1) (omega arith) (omega arith) (omega arith) h.3)
+      | inr (inr (inr (inr (inl h)))) ↦ moved n f X Y X 0 g z w refl (omega arith) (corner_of_south_east n f X g z w (s - 1) (omega arith) (omega arith) (omega arith) h.3)
+      | inr (inr (inr (inr (inr (inl h))))) ↦ moved n f X Y n n g z w (omega arith) (omega arith) (corner_of_north n f g z w pos h.2)
+      | inr (inr (inr (inr (inr (inr (inl h)))))) ↦ moved n f X Y 0 0 g z w (omega arith) (omega arith) (corner_of_south n f g z w pos h.2)
+      | inr (inr (inr (inr (inr (inr (inr (inl h))))))) ↦ moved n f X Y n 0 g z w (omega arith) (omega arith) (corner_of_east n f g z w pos h.2)
+      | inr (inr (inr (inr (inr (inr (inr (inr h))))))) ↦ moved n f X Y 0 n g z w (omega arith) (omega arith) (corner_of_west n f g z w pos h.2)
+    ]
+
+-- Two corners, one of the cell beside: the corner is one of that cell on the plane too.
+module _ (n f X Y s t g z w Z W : ℕ) (pos : 0 < n) (fn : f < 12) (xn : X ≤ n) (yn : Y ≤ n) (zn : z < n) (wn : w < n)
+    (c : IsCorner z w Z W) (m : Meets n f X Y g Z W) where
+  adjoins_inside : ((1 ≤ s) × (s ≤ n) × (1 ≤ t) × (t ≤ n) × (g ≡ f) × (z + 1 ≡ s) × (w + 1 ≡ t)) → Adjoins X s × Adjoins Y t
+  adjoins_inside a = grind arith
+
+  adjoins_north_east : ((s ≡ n + 1) × (1 ≤ t) × (t ≤ n) × IsBeyondNorthEast (n - 1) f (t - 1) g z w) → Adjoins X s × Adjoins Y t
+  adjoins_north_east a = grind arith
+
+  adjoins_south_west : ((s ≡ 0) × (1 ≤ t) × (t ≤ n) × IsBeyondSouthWest (n - 1) f (t - 1) g z w) → Adjoins X s × Adjoins Y t
+  adjoins_south_west a = grind arith
+
+  adjoins_north_west : ((t ≡ n + 1) × (1 ≤ s) × (s ≤ n) × IsBeyondNorthWest (n - 1) f (s - 1) g z w) → Adjoins X s × Adjoins Y t
+  adjoins_north_west a = grind arith
+
+  adjoins_south_east : ((t ≡ 0) × (1 ≤ s) × (s ≤ n) × IsBeyondSouthEast (n - 1) f (s - 1) g z w) → Adjoins X s × Adjoins Y t
+  adjoins_south_east a = grind arith
+
+  adjoins_north : ((s ≡ n + 1) × (t ≡ n + 1) × IsBeyondNorth (n - 1) f g z w) → Adjoins X s × Adjoins Y t
+  adjoins_north a = grind arith
+
+  adjoins_south : ((s ≡ 0) × (t ≡ 0) × IsBeyondSouth (n - 1) f g z w) → Adjoins X s × Adjoins Y t
+  adjoins_south a = grind arith
+
+  adjoins_east : ((s ≡ n + 1) × (t ≡ 0) × IsBeyondEast (n - 1) f g z w) → Adjoins X s × Adjoins Y t
+  adjoins_east a = grind arith
+
+  adjoins_west : ((s ≡ 0) × (t ≡ n + 1) × IsBeyondWest (n - 1) f g z w) → Adjoins X s × Adjoins Y t
+  adjoins_west a = grind arith
+
+  pub adjoins_from_beside : IsBeside n f s t g z w → Adjoins X s × Adjoins Y t
+  adjoins_from_beside a =
+      elim a [
+        | inl x ↦ adjoins_inside x
+        | inr (inl x) ↦ adjoins_north_east x
+        | inr (inr (inl x)) ↦ adjoins_south_west x
+        | inr (inr (inr (inl x))) ↦ adjoins_north_west x
+        | inr (inr (inr (inr (inl x)))) ↦ adjoins_south_east x
+        | inr (inr (inr (inr (inr (inl x))))) ↦ adjoins_north x
+        | inr (inr (inr (inr (inr (inr (inl x)))))) ↦ adjoins_south x
+        | inr (inr (inr (inr (inr (inr (inr (inl x))))))) ↦ adjoins_east x
+        | inr (inr (inr (inr (inr (inr (inr (inr x))))))) ↦ adjoins_west x
+      ]
+
 -- A corner that two cells share.
 pub record Shared (n f x y g z w : ℕ) : Type 0 where
   pub X : ℕ
@@ -112,165 +268,21 @@ pub record Shared (n f x y g z w : ℕ) : Type 0 where
   pub yours : IsCorner z w Z W
   pub meets : Meets n f X Y g Z W
 
-corner_of : (x y X Y : ℕ) → x ≤ X → X ≤ x + 1 → y ≤ Y → Y ≤ y + 1 → IsCorner x y X Y
-corner_of x y X Y a b c d = record { from_x = a; to_x = b; from_y = c; to_y = d }
-
-abbrev shared_at : (n f x y g z w X Y Z W : ℕ) → IsCorner x y X Y → IsCorner z w Z W → Meets n f X Y g Z W → Shared n f x y g z w
-shared_at n f x y g z w X Y Z W c d m = record { X = X; Y = Y; Z = Z; W = W; mine = c; yours = d; meets = m }
-
-shares_north_east : (n f U g Z W : ℕ) → IsBeyondNorthEast n f U g Z W → Meets n f n U g Z W
-shares_north_east n f U g Z W h = inr (inl (refl, h))
-
-share_north_east : (n f x y g z w p : ℕ) → f < 12 → x < n → y < n → p < n → x + 1 ≡ n → p ≤ y + 1 → y ≤ p + 1
-    → IsBeyondNorthEast (n - 1) f p g z w → Shared n f x y g z w
-share_north_east n f x y g z w p fn xn yn pn at above below h =
-    elim h [
-      | inl a ↦ shared_at n f x y g z w n (max y p) (max y p) n
-          (corner_of x y n (max y p) (omega arith) (omega arith) (omega arith) (omega arith))
-          (corner_of z w (max y p) n (omega arith) (omega arith) (omega arith) (omega arith))
-          (shares_north_east n f (max y p) g (max y p) n (grind arith))
-      | inr (inl a) ↦ shared_at n f x y g z w n (max y p) 0 (max y p)
-          (corner_of x y n (max y p) (omega arith) (omega arith) (omega arith) (omega arith))
-          (corner_of z w 0 (max y p) (omega arith) (omega arith) (omega arith) (omega arith))
-          (shares_north_east n f (max y p) g 0 (max y p) (grind arith))
-      | inr (inr a) ↦ shared_at n f x y g z w n (max y p) 0 (max y p)
-          (corner_of x y n (max y p) (omega arith) (omega arith) (omega arith) (omega arith))
-          (corner_of z w 0 (max y p) (omega arith) (omega arith) (omega arith) (omega arith))
-          (shares_north_east n f (max y p) g 0 (max y p) (grind arith))
-    ]
-
-shares_south_west : (n f U g Z W : ℕ) → IsBeyondSouthWest n f U g Z W → Meets n f 0 U g Z W
-shares_south_west n f U g Z W h = inr (inr (inl (refl, h)))
-
-share_south_west : (n f x y g z w p : ℕ) → f < 12 → x < n → y < n → p < n → x ≡ 0 → p ≤ y + 1 → y ≤ p + 1
-    → IsBeyondSouthWest (n - 1) f p g z w → Shared n f x y g z w
-share_south_west n f x y g z w p fn xn yn pn at above below h =
-    elim h [
-      | inl a ↦ shared_at n f x y g z w 0 (max y p) n (max y p)
-          (corner_of x y 0 (max y p) (omega arith) (omega arith) (omega arith) (omega arith))
-          (corner_of z w n (max y p) (omega arith) (omega arith) (omega arith) (omega arith))
-          (shares_south_west n f (max y p) g n (max y p) (grind arith))
-      | inr (inl a) ↦ shared_at n f x y g z w 0 (max y p) n (max y p)
-          (corner_of x y 0 (max y p) (omega arith) (omega arith) (omega arith) (omega arith))
-          (corner_of z w n (max y p) (omega arith) (omega arith) (omega arith) (omega arith))
-          (shares_south_west n f (max y p) g n (max y p) (grind arith))
-      | inr (inr a) ↦ shared_at n f x y g z w 0 (max y p) (max y p) 0
-          (corner_of x y 0 (max y p) (omega arith) (omega arith) (omega arith) (omega arith))
-          (corner_of z w (max y p) 0 (omega arith) (omega arith) (omega arith) (omega arith))
-          (shares_south_west n f (max y p) g (max y p) 0 (grind arith))
-    ]
-
-shares_north_west : (n f U g Z W : ℕ) → IsBeyondNorthWest n f U g Z W → Meets n f U n g Z W
-shares_north_west n f U g Z W h = inr (inr (inr (inl (refl, h))))
-
-share_north_west : (n f x y g z w p : ℕ) → f < 12 → x < n → y < n → p < n → y + 1 ≡ n → p ≤ x + 1 → x ≤ p + 1
-    → IsBeyondNorthWest (n - 1) f p g z w → Shared n f x y g z w
-share_north_west n f x y g z w p fn xn yn pn at above below h =
-    elim h [
-      | inl a ↦ shared_at n f x y g z w (max x p) n n (max x p)
-          (corner_of x y (max x p) n (omega arith) (omega arith) (omega arith) (omega arith))
-          (corner_of z w n (max x p) (omega arith) (omega arith) (omega arith) (omega arith))
-          (shares_north_west n f (max x p) g n (max x p) (grind arith))
-      | inr (inl a) ↦ shared_at n f x y g z w (max x p) n (max x p) 0
-          (corner_of x y (max x p) n (omega arith) (omega arith) (omega arith) (omega arith))
-          (corner_of z w (max x p) 0 (omega arith) (omega arith) (omega arith) (omega arith))
-          (shares_north_west n f (max x p) g (max x p) 0 (grind arith))
-      | inr (inr a) ↦ shared_at n f x y g z w (max x p) n (max x p) 0
-          (corner_of x y (max x p) n (omega arith) (omega arith) (omega arith) (omega arith))
-          (corner_of z w (max x p) 0 (omega arith) (omega arith) (omega arith) (omega arith))
-          (shares_north_west n f (max x p) g (max x p) 0 (grind arith))
-    ]
-
-shares_south_east : (n f U g Z W : ℕ) → IsBeyondSouthEast n f U g Z W → Meets n f U 0 g Z W
-shares_south_east n f U g Z W h = inr (inr (inr (inr (inl (refl, h)))))
-
-share_south_east : (n f x y g z w p : ℕ) → f < 12 → x < n → y < n → p < n → y ≡ 0 → p ≤ x + 1 → x ≤ p + 1
-    → IsBeyondSouthEast (n - 1) f p g z w → Shared n f x y g z w
-share_south_east n f x y g z w p fn xn yn pn at above below h =
-    elim h [
-      | inl a ↦ shared_at n f x y g z w (max x p) 0 (max x p) n
-          (corner_of x y (max x p) 0 (omega arith) (omega arith) (omega arith) (omega arith))
-          (corner_of z w (max x p) n (omega arith) (omega arith) (omega arith) (omega arith))
-          (shares_south_east n f (max x p) g (max x p) n (grind arith))
-      | inr (inl a) ↦ shared_at n f x y g z w (max x p) 0 (max x p) n
-          (corner_of x y (max x p) 0 (omega arith) (omega arith) (omega arith) (omega arith))
-          (corner_of z w (max x p) n (omega arith) (omega arith) (omega arith) (omega arith))
-          (shares_south_east n f (max x p) g (max x p) n (grind arith))
-      | inr (inr a) ↦ shared_at n f x y g z w (max x p) 0 0 (max x p)
-          (corner_of x y (max x p) 0 (omega arith) (omega arith) (omega arith) (omega arith))
-          (corner_of z w 0 (max x p) (omega arith) (omega arith) (omega arith) (omega arith))
-          (shares_south_east n f (max x p) g 0 (max x p) (grind arith))
-    ]
-
-shares_north : (n f g Z W : ℕ) → IsBeyondNorth n f g Z W → Meets n f n n g Z W
-shares_north n f g Z W h = inr (inr (inr (inr (inr (inl (refl, refl, h))))))
-
-share_north : (n f x y g z w : ℕ) → x < n → y < n → x + 1 ≡ n → y + 1 ≡ n → IsBeyondNorth (n - 1) f g z w → Shared n f x y g z w
-share_north n f x y g z w xn yn at above h =
-    elim h [
-      | inl a ↦ shared_at n f x y g z w n n n n
-          (corner_of x y n n (omega arith) (omega arith) (omega arith) (omega arith))
-          (corner_of z w n n (omega arith) (omega arith) (omega arith) (omega arith))
-          (shares_north n f g n n (grind arith))
-      | inr a ↦ shared_at n f x y g z w n n 0 0
-          (corner_of x y n n (omega arith) (omega arith) (omega arith) (omega arith))
-          (corner_of z w 0 0 (omega arith) (omega arith) (omega arith) (omega arith))
-          (shares_north n f g 0 0 (grind arith))
-    ]
-
-shares_south : (n f g Z W : ℕ) → IsBeyondSouth n f g Z W → Meets n f 0 0 g Z W
-shares_south n f g Z W h = inr (inr (inr (inr (inr (inr (inl (refl, refl, h)))))))
-
-share_south : (n f x y g z w : ℕ) → x < n → y < n → x ≡ 0 → y ≡ 0 → IsBeyondSouth (n - 1) f g z w → Shared n f x y g z w
-share_south n f x y g z w xn yn at above h =
-    elim h [
-      | inl a ↦ shared_at n f x y g z w 0 0 n n
-          (corner_of x y 0 0 (omega arith) (omega arith) (omega arith) (omega arith))
-          (corner_of z w n n (omega arith) (omega arith) (omega arith) (omega arith))
-          (shares_south n f g n n (grind arith))
-      | inr a ↦ shared_at n f x y g z w 0 0 0 0
-          (corner_of x y 0 0 (omega arith) (omega arith) (omega arith) (omega arith))
-          (corner_of z w 0 0 (omega arith) (omega arith) (omega arith) (omega arith))
-          (shares_south n f g 0 0 (grind arith))
-    ]
-
-shares_east : (n f g Z W : ℕ) → IsBeyondEast n f g Z W → Meets n f n 0 g Z W
-shares_east n f g Z W h = inr (inr (inr (inr (inr (inr (inr (inl (refl, refl, h))))))))
-
-share_east : (n f x y g z w : ℕ) → x < n → y < n → x + 1 ≡ n → y ≡ 0 → IsBeyondEast (n - 1) f g z w → Shared n f x y g z w
-share_east n f x y g z w xn yn at above h =
-    shared_at n f x y g z w n 0 0 n
-    (corner_of x y n 0 (omega arith) (omega arith) (omega arith) (omega arith))
-    (corner_of z w 0 n (omega arith) (omega arith) (omega arith) (omega arith))
-    (shares_east n f g 0 n (grind arith))
-
-shares_west : (n f g Z W : ℕ) → IsBeyondWest n f g Z W → Meets n f 0 n g Z W
-shares_west n f g Z W h = inr (inr (inr (inr (inr (inr (inr (inr ((refl, refl, h)))))))))
-
-share_west : (n f x y g z w : ℕ) → x < n → y < n → x ≡ 0 → y + 1 ≡ n → IsBeyondWest (n - 1) f g z w → Shared n f x y g z w
-share_west n f x y g z w xn yn at above h =
-    shared_at n f x y g z w 0 n n 0
-    (corner_of x y 0 n (omega arith) (omega arith) (omega arith) (omega arith))
-    (corner_of z w n 0 (omega arith) (omega arith) (omega arith) (omega arith))
-    (shares_west n f g n 0 (grind arith))
-
 pub Shared-from_beside : (n f x y a b g z w : ℕ) → f < 12 → x < n → y < n → a < 3 → b < 3
     → IsBeside n f (x + a) (y + b) g z w → Shared n f x y g z w
 Shared-from_beside n f x y a b g z w fn xn yn an bn s =
-    elim s [
-      | inl h ↦ shared_at n f x y g z w (max x z) (max y w) (max x z) (max y w)
-          (corner_of x y (max x z) (max y w) (omega arith) (omega arith) (omega arith) (omega arith))
-          (corner_of z w (max x z) (max y w) (omega arith) (omega arith) (omega arith) (omega arith))
-          (grind arith)
-      | inr (inl h) ↦ share_north_east n f x y g z w (y + b - 1) fn xn yn (omega arith) (omega arith) (omega arith) (omega arith) h.3
-      | inr (inr (inl h)) ↦ share_south_west n f x y g z w (y + b - 1) fn xn yn (omega arith) (omega arith) (omega arith) (omega arith) h.3
-      | inr (inr (inr (inl h))) ↦ share_north_west n f x y g z w (x + a - 1) fn xn yn (omega arith) (omega arith) (omega arith) (omega arith) h.3
-      | inr (inr (inr (inr (inl h)))) ↦ share_south_east n f x y g z w (x + a - 1) fn xn yn (omega arith) (omega arith) (omega arith) (omega arith) h.3
-      | inr (inr (inr (inr (inr (inl h))))) ↦ share_north n f x y g z w xn yn (omega arith) (omega arith) h.2
-      | inr (inr (inr (inr (inr (inr (inl h)))))) ↦ share_south n f x y g z w xn yn (omega arith) (omega arith) h.2
-      | inr (inr (inr (inr (inr (inr (inr (inl h))))))) ↦ share_east n f x y g z w xn yn (omega arith) (omega arith) h.2
-      | inr (inr (inr (inr (inr (inr (inr (inr (h)))))))) ↦ share_west n f x y g z w xn yn (omega arith) (omega arith) h.2
-    ]
+    let X = max x (x + a - 1) in
+    let Y = max y (y + b - 1) in
+    let c = corner_of_beside n f X Y (x + a) (y + b) g z w (omega arith) (omega arith) (omega arith) (omega arith, omega arith) (omega arith, omega arith) s in
+    record {
+      X = X;
+      Y = Y;
+      Z = c.Z;
+      W = c.W;
+      mine = record { from_x = omega arith; to_x = omega arith; from_y = omega arith; to_y = omega arith };
+      yours = c.corner;
+      meets = c.meets;
+    }
 
 -- A cell beside another, by a step other than no step, is another cell.
 pub apart_from_beside : (n f x y a b g z w : ℕ) → f < 12 → x < n → y < n → a < 3 → b < 3 → (a ≡ 1 → b ≡ 1 → ⊥)

@@ -1,8 +1,8 @@
 -- The bounds of a cell's place in its base pixel, and that a place has one cell.
-use Rattle.std.proofs.Common.{◌≡◌, ℕ, ◌^◌, ◌<◌, subst, sym, ◌∙◌}
+use Rattle.std.proofs.Common.{◌≡◌, ℕ, ◌^◌, ◌<◌, subst}
 use Rattle.std.proofs.lemmas.Nat.{pow_pos}
-use Rattle.moc_sphere.specs.CellNumber.{CellNumber, cell_count}
-use Rattle.moc_sphere.specs.Faces.{face_of, x_of, y_of, IsAt}
+use Rattle.moc_sphere.specs.CellNumber.{cell_count}
+use Rattle.moc_sphere.specs.Faces.{face_of, x_of, y_of}
 use Rattle.moc_sphere.proofs.Places.{x_of-lt, y_of-lt}
 use Rattle.moc_sphere.proofs.RingCount.{face_in_range, index_of-face, index_in_range, same_index}
 
@@ -24,14 +24,3 @@ same_cell k i j f x y = same_index k i j (record { face = f; right = x; up = y }
 -- a number whose base pixel is one of the twelve is a cell's
 pub index_below : (k i : ℕ) → face_of k i < 12 → i < cell_count k
 index_below k i l = subst (λ j. j < cell_count k) (index_of-face k i) (index_in_range k (face_of k i) (x_of k i) (y_of k i) l)
-
--- what is known of the number v of a cell that stands at a place
-pub placed : (k v f x y o : ℕ) (cell : CellNumber) → cell.order ≡ o → o ≡ k → v ≡ cell.index → IsAt cell f x y → v < cell_count cell.order
-    → (v < cell_count k) × (face_of k v ≡ f) × (x_of k v ≡ x) × (y_of k v ≡ y)
-placed k v f x y o cell of_order order number place below =
-    let same : cell.order ≡ k = of_order ∙ order in (
-      subst (λ j. v < cell_count j) same below,
-      (λ t. face_of (sym same t) (number t)) ∙ place.face,
-      (λ t. x_of (sym same t) (number t)) ∙ place.right,
-      (λ t. y_of (sym same t) (number t)) ∙ place.up,
-    )

@@ -11,7 +11,8 @@ use Rattle.moc_sphere.proofs.Powers.{two_pow_le}
 use Rattle.moc_sphere.proofs.RingCount.{index_of, index_in_range, face_of-index, x_of-index, y_of-index}
 use Rattle.moc_sphere.proofs.Search.{one_at_step}
 use Rattle.moc_sphere.proofs.SpreadSteps.{spread_of-rises}
-use Rattle.moc_sphere.proofs.Touching.{IsAtStep, Touches-from_step, step_from_Touches}
+use Rattle.moc_sphere.specs.Private.Sides.{IsAtStep}
+use Rattle.moc_sphere.proofs.Touching.{Touches-from_step, step_from_Touches}
 
 -- a step leads to the index of the place, in the same base pixel
 pub step_inside : (k i f x y d j : ℕ) → face_of k i ≡ f → x_of k i ≡ x → y_of k i ≡ y → f < 12 → 0 < x → x + 1 < 2 ^ k → 0 < y → y + 1 < 2 ^ k

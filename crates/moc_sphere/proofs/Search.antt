@@ -4,8 +4,8 @@ use Rattle.std.specs.List.Sorted.{IsStrictlyIncreasing}
 use Rattle.std.proofs.lemmas.Bool.{cases_lt}
 use Rattle.moc_sphere.specs.Faces.{face_of, x_of, y_of}
 use Rattle.moc_sphere.specs.Touching.{Touches}
-use Rattle.moc_sphere.specs.Private.Sides.{IsBeside, IsBeyondNorthEast, IsBeyondSouthWest, IsBeyondNorthWest, IsBeyondSouthEast, IsBeyondNorth, IsBeyondSouth, IsBeyondEast, IsBeyondWest}
-use Rattle.moc_sphere.proofs.Touching.{IsAtStep, Touches-from_step, step_from_Touches}
+use Rattle.moc_sphere.specs.Private.Sides.{IsAtStep, IsBeside, IsBeyondNorthEast, IsBeyondSouthWest, IsBeyondNorthWest, IsBeyondSouthEast, IsBeyondNorth, IsBeyondSouth, IsBeyondEast, IsBeyondWest}
+use Rattle.moc_sphere.proofs.Touching.{Touches-from_step, step_from_Touches}
 use Rattle.moc_sphere.proofs.FaceBounds.{same_cell}
 
 pub record Found (k i step : ℕ) (items : List ℕ) : Type 0 where
@@ -128,11 +128,6 @@ module _ (k i step : ℕ) (items : List ℕ) (found : Found k i step items) wher
                 let e : d ≡ step = omega arith in
                 inl (one_at_step k i step j v (subst (λ t. IsAtStep k i t j) e here) at_v)
           ]
-
-pub at_step : (k i d n f x y g z w v : ℕ) → n ≡ 2 ^ k → f ≡ face_of k i → x ≡ x_of k i → y ≡ y_of k i
-    → IsBeside n f (x + d / 3) (y + d % 3) g z w
-    → v < 12 * 4 ^ k → face_of k v ≡ g → x_of k v ≡ z → y_of k v ≡ w → IsAtStep k i d v
-at_step k i d n f x y g z w v en ef ex ey h vb eg ez ew = (vb, rw (sym en, sym ef, sym ex, sym ey, eg, ez, ew) h)
 
 pub not_at_step : (k i d n f x y : ℕ) → n ≡ 2 ^ k → f ≡ face_of k i → x ≡ x_of k i → y ≡ y_of k i
     → ((g z w : ℕ) → IsBeside n f (x + d / 3) (y + d % 3) g z w → ⊥) → (j : ℕ) → IsAtStep k i d j → ⊥

@@ -29,7 +29,7 @@ pub record SharesCorner (k i j : ℕ) : Type 0 where
   pub point : IsSamePoint (2 ^ k) (face_of k i) X Y (face_of k j) Z W
 
 -- a corner's point is in the list
-corner_in : (k i X Y : ℕ) → IsCorner (x_of k i) (y_of k i) X Y → Contains (corner_points k i) (corner_point (2 ^ k) (face_of k i) X Y)
+pub corner_in : (k i X Y : ℕ) → IsCorner (x_of k i) (y_of k i) X Y → Contains (corner_points k i) (corner_point (2 ^ k) (face_of k i) X Y)
 unfolding corner_points
 corner_in k i X Y c =
     let x = x_of k i in
@@ -60,7 +60,7 @@ pub record AtCorner (k i : ℕ) (p : Point) : Type 0 where
   pub corner : IsCorner (x_of k i) (y_of k i) X Y
   pub is : corner_point (2 ^ k) (face_of k i) X Y ≡ p
 
-at_corner : (k i : ℕ) (p : Point) → Contains (corner_points k i) p → AtCorner k i p
+pub at_corner : (k i : ℕ) (p : Point) → Contains (corner_points k i) p → AtCorner k i p
 unfolding corner_points
 at_corner k i p (zero, _, e) =
     record { X = x_of k i; Y = y_of k i; corner = record { from_x = omega arith; to_x = omega arith; from_y = omega arith; to_y = omega arith }; is = e }
@@ -87,7 +87,7 @@ shared_from_Touches k i j t =
       point = record { row = ap (λ p. p.row) e; column = ap (λ p. p.column) e };
     }
 
-same_point : (p q : Point) → p.row ≡ q.row → p.column ≡ q.column → p ≡ q
+pub same_point : (p q : Point) → p.row ≡ q.row → p.column ≡ q.column → p ≡ q
 same_point p q a b =
     let of : ℕ → ℕ → Point = λ r c. record { row = r; column = c } in
     ap (λ t. of t p.column) a ∙ ap (of q.row) b
@@ -104,15 +104,15 @@ Touches-from_shared k i j ib jb apart s =
       yours = subst (λ p. Contains (corner_points k j) p) (sym e) (corner_in k j s.Z s.W s.yours);
     }
 
-same_to_itself : (p : Point) → is_same_point p p ≡ true
+pub same_to_itself : (p : Point) → is_same_point p p ≡ true
 same_to_itself p = and_from _ _ (eq-eqb p.row p.row refl) (eq-eqb p.column p.column refl)
 
-same_from_test : (p q : Point) → is_same_point p q ≡ true → p ≡ q
+pub same_from_test : (p q : Point) → is_same_point p q ≡ true → p ≡ q
 same_from_test p q h =
     let t = and_parts _ _ h in
     same_point p q (eqb-true p.row q.row t.0) (eqb-true p.column q.column t.1)
 
-found_in : (p : Point) (ps : List Point) → Contains ps p → list_any (is_same_point p) ps ≡ true
+pub found_in : (p : Point) (ps : List Point) → Contains ps p → list_any (is_same_point p) ps ≡ true
 found_in p ps (m, h, e) = list_any_at (is_same_point p) ps m p h (ap (is_same_point p) e ∙ same_to_itself p)
 
 -- The test answers whether two cells of one order touch.

@@ -3,16 +3,11 @@ use Rattle.std.proofs.Common.{◌≡◌, ℕ, ◌+◌, ◌*◌, ◌/◌, ◌%◌
 use Rattle.moc_sphere.specs.Faces.{face_of, x_of, y_of}
 use Rattle.moc_sphere.specs.Touching.{Touches}
 use Rattle.moc_sphere.proofs.Shared.{Touches-from_shared, shared_from_Touches}
-use Rattle.moc_sphere.specs.Private.Sides.{IsBeside}
+use Rattle.moc_sphere.specs.Private.Sides.{IsAtStep, IsBeside}
 use Rattle.moc_sphere.proofs.Points.{Meets-from_same_point}
 use Rattle.moc_sphere.proofs.Names.{same_point-from_Meets}
 use Rattle.moc_sphere.proofs.Cells.{Reaches, Reaches-from_corners, Shared-from_beside, apart_from_beside}
 use Rattle.moc_sphere.proofs.FaceBounds.{face_of-below, x_of-below, y_of-below, side_positive, same_cell}
-
--- Cell j is the cell of order k one step from cell i, by the step's number: row by row of nine, and 4 is no step.
-abbrev pub IsAtStep : ℕ → ℕ → ℕ → ℕ → Type 0
-IsAtStep k i d j =
-    (j < 12 * 4 ^ k) × IsBeside (2 ^ k) (face_of k i) (x_of k i + d / 3) (y_of k i + d % 3) (face_of k j) (x_of k j) (y_of k j)
 
 pub Touches-from_step : (k i d j : ℕ) → i < 12 * 4 ^ k → d < 9 → (d ≡ 4 → ⊥) → IsAtStep k i d j → Touches k i j
 Touches-from_step k i d j ib db off (jb, h) =

@@ -1,7 +1,7 @@
 -- The corner points of cells, and when two cells touch (Górski and others 2005). A point of the sphere is named by its
 -- row and its column in that row.
-use Rattle.std.specs.Prelude.{◌≢◌, ℕ, ◌+◌, ◌-◌, ◌*◌, ◌/◌, ◌%◌, ◌^◌, ◌<◌, min, List, [], ◌∷◌, Contains, Bool, not}
-use Rattle.std.specs.Prelude.{nat_le, ◌==◌, ◌&&◌, if◌then◌else◌}
+use Rattle.std.specs.Prelude.{◌≡◌, ◌≢◌, ℕ, ◌+◌, ◌-◌, ◌*◌, ◌/◌, ◌%◌, ◌^◌, ◌<◌, min, List, [], ◌∷◌, Contains, Bool, not}
+use Rattle.std.specs.Prelude.{true, false, map, get_or, nat_le, ◌==◌, ◌&&◌, if◌then◌else◌}
 use Rattle.std.specs.List.{filter, list_any, range_with_len}
 use Rattle.moc_sphere.specs.CellNumber.{cell_count}
 use Rattle.moc_sphere.specs.Faces.{face_of, x_of, y_of}
@@ -70,3 +70,25 @@ is_touching k i j =
 -- The cells that touch cell i of order k, rising. A specification's list: it runs through all cells of the order.
 unfoldable pub touching_cells : ℕ → ℕ → List ℕ
 touching_cells k i = filter (is_touching k i) (range_with_len 0 (cell_count k))
+
+-- Which of the corner points of cell i, south, east, west and north, cell j has as well: all four where it is cell i.
+unfoldable pub corners_shared : ℕ → ℕ → ℕ → List Bool
+corners_shared k i j = map (λ p. list_any (is_same_point p) (corner_points k j)) (corner_points k i)
+
+-- The directions in which a cell has neighbours, in healpy's order, each by which of its corners lie there, south, east,
+-- west and north: a side has two, and a corner is one.
+abbrev pub directions : List (List Bool)
+directions =
+    (true ∷ false ∷ true ∷ false ∷ [])  -- south-west
+    ∷ (false ∷ false ∷ true ∷ false ∷ [])  -- west
+    ∷ (false ∷ false ∷ true ∷ true ∷ [])  -- north-west
+    ∷ (false ∷ false ∷ false ∷ true ∷ [])  -- north
+    ∷ (false ∷ true ∷ false ∷ true ∷ [])  -- north-east
+    ∷ (false ∷ true ∷ false ∷ false ∷ [])  -- east
+    ∷ (true ∷ true ∷ false ∷ false ∷ [])  -- south-east
+    ∷ (true ∷ false ∷ false ∷ false ∷ [])  -- south
+    ∷ []
+
+-- Cell j of order k is the neighbour of cell i in a direction, by its number from 0: it shares just the corners there.
+abbrev pub IsNeighbour : ℕ → ℕ → ℕ → ℕ → Type 0
+IsNeighbour k d i j = (j < cell_count k) × (corners_shared k i j ≡ get_or directions d [])

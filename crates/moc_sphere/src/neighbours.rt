@@ -2,9 +2,10 @@
 ghost use Rattle.smallvec.specs.SmallVec.{small_vec_len};
 ghost use Rattle.moc_sphere.specs.CellNumber.{cell_number, IsCell};
 ghost use Rattle.moc_sphere.specs.Faces.{IsAt, spread_of, x_of, y_of};
-ghost use Rattle.moc_sphere.specs.Touching.{Touches, touching_cells};
+ghost use Rattle.moc_sphere.specs.Touching.{IsNeighbour, Touches, touching_cells};
+ghost use Rattle.moc_sphere.specs.Private.Sides.{IsAtStep};
 ghost use Rattle.std.specs.List.Sorted.{IsStrictlyIncreasing};
-ghost use Rattle.std.specs.Prelude.{◌≡◌, ℕ, ◌-◌, ◌<◌, ◌≤◌, ◌^◌, ◌↔◌, All, Contains, map};
+ghost use Rattle.std.specs.Prelude.{◌≡◌, ℕ, ◌-◌, ◌<◌, ◌≤◌, ◌^◌, ◌↔◌, All, Contains, IfSome, MatchOption, get_or, map};
 
 use crate::bits::{spread_after, spread_before};
 use crate::cell::Cell;
@@ -52,6 +53,44 @@ impl Cell {
         }
         cells
     }
+
+    /// The neighbours by direction, in healpy's order: south-west, west, north-west, north, north-east, east, south-east,
+    /// south. A corner where three cells meet has none. A fixed number of steps.
+    pub fn neighbours(self) -> [Option<Cell>; 8]
+        ensures found { (d : ℕ) → d < 8 → IfSome (get_or result d None)
+            (λ c. (c.order ≡ self.order) × IsNeighbour self.order d self.index c.index) }
+        ensures only { (d j : ℕ) → d < 8 → IsNeighbour self.order d self.index j
+            → get_or result d None ≡ Some (cell_number self.order j) }
+    {
+        let (face, x, y) = self.face_xy();
+        let from = Place::new(u32::from(face), x, y);
+        [
+            at_step(self, from, 1),
+            at_step(self, from, 2),
+            at_step(self, from, 5),
+            at_step(self, from, 8),
+            at_step(self, from, 7),
+            at_step(self, from, 6),
+            at_step(self, from, 3),
+            at_step(self, from, 0),
+        ]
+    }
+}
+
+/// The cell at a step from one, which has this place, if there is a cell. Steps are numbered row by row of nine, by x and
+/// then by y; 4 is none.
+fn at_step(cell: Cell, from: Place, step: u32) -> Option<Cell>
+    requires face { from.face < 12 }
+    requires place { IsAt cell from.face from.x from.y }
+    requires x { from.x < 2 ^ cell.order }
+    requires y { from.y < 2 ^ cell.order }
+    requires step { step < 9 }
+    ensures { MatchOption result ((j : ℕ) → ¬ IsAtStep cell.order cell.index step j)
+        (λ to. (to.order ≡ cell.order) × IsAtStep cell.order cell.index step to.index) }
+{
+    let order = cell.order();
+    let to = beside(order.nside() as u32, from, step / 3, step % 3)?;
+    Some(Cell::at_place(order, to.face as u8, to.x, to.y))
 }
 
 /// The cells that touch a cell, whose x and y, spread, are off the border of the base pixel: all lie in that one.
@@ -87,17 +126,12 @@ fn touching_across(cell: Cell, face: u8, x: u32, y: u32, alloc: Global) -> Small
     ensures few { small_vec_len result ≤ 8 }
     ensures inline { result.capacity ≡ 8 }
 {
-    let order = cell.order();
     let from = Place::new(u32::from(face), x, y);
-    let side = order.nside() as u32;
     let mut cells = SmallVec::new(alloc);
     for step in 0u32..9 {
         if step != 4 {
-            if let Some(to) = beside(side, from, step / 3, step % 3) {
-                insert_rising(
-                    &mut cells,
-                    Cell::at_place(order, to.face as u8, to.x, to.y).index(),
-                );
+            if let Some(near) = at_step(cell, from, step) {
+                insert_rising(&mut cells, near.index());
             }
         }
     }

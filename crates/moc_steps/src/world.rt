@@ -201,6 +201,8 @@ impl World {
         ensures after { OnOk result (self.new ≡ world_after batches self.old (locks.Step.Begin client batch)) }
         ensures unchanged { OnErr result (self.new ≡ self.old) }
     {
+        // Both are called for what they promise alone: the rules of steps let an operation begin that looks at its
+        // footprint alone.
         batches_are_local();
         batch.commands();
         let midway = Midway::new(self.alloc, self.begun, batch)?;

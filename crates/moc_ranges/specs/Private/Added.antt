@@ -93,8 +93,6 @@ pub record HasGap (node : List (List (ℕ × ℕ))) (block place : ℕ) (range :
   pub there : block < length node
   pub inside : place ≤ length (get_or node block [])
   pub room : length (get_or node block []) < 128
-  pub filled : range.0 < range.1
-  pub ranges : IsNormal (insert (get_or node block []) place range)
   pub normal : IsNormal (joining (inserted node block place range))
   pub sized : AreBlocks (inserted node block place range)
 

@@ -14,7 +14,7 @@ use crate::list::ranges::Ranges;
 use std::alloc::{AllocError, Global};
 use std::marker::Model;
 
-/// Gathers ranges, each behind those before, into a list. Where memory runs out, all is given back: nothing is
+/// Gathers ranges, each behind those before, into a list. Where memory runs out, those so far are dropped: nothing is
 /// gathered any more.
 #[derive(Drop)]
 pub struct ListBuilder {
@@ -55,7 +55,7 @@ impl ListBuilder {
         match self.kept.push(alloc, from, to) {
             Ok(()) => Ok(()),
             Err(refused) => {
-                self.kept.give_back();
+                self.kept.clear();
                 Err(refused)
             }
         }
@@ -70,7 +70,7 @@ impl ListBuilder {
         match self.kept.push_all(alloc, ranges) {
             Ok(()) => Ok(()),
             Err(refused) => {
-                self.kept.give_back();
+                self.kept.clear();
                 Err(refused)
             }
         }
@@ -87,7 +87,7 @@ impl ListBuilder {
         match self.kept.carry(alloc, block) {
             Ok(()) => Ok(()),
             Err(refused) => {
-                self.kept.give_back();
+                self.kept.clear();
                 Err(refused)
             }
         }
@@ -102,7 +102,7 @@ impl ListBuilder {
         match self.kept.carry_node(alloc, node) {
             Ok(()) => Ok(()),
             Err(refused) => {
-                self.kept.give_back();
+                self.kept.clear();
                 Err(refused)
             }
         }
@@ -154,7 +154,7 @@ impl ListBuilder {
         match self.kept.join(alloc, from, to) {
             Ok(()) => Ok(()),
             Err(refused) => {
-                self.kept.give_back();
+                self.kept.clear();
                 Err(refused)
             }
         }

@@ -328,9 +328,9 @@ impl Kept {
         end_below(&self.ranges, f)
     }
 
-    /// Gives all back.
+    /// Drops all that is gathered.
     #[inline(never)]
-    pub fn give_back(&mut self)
+    pub fn clear(&mut self)
         ensures nodes { self.new.nodes.items ≡ [] }
         ensures blocks { self.new.blocks.items ≡ [] }
         ensures ranges { self.new.ranges.items ≡ [] }

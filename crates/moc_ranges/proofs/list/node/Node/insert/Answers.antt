@@ -1,11 +1,28 @@
-use Rattle.std.proofs.Common.{◌≡◌, ◌<◌, ◌∙◌, arith, ap, sym, subst, length, slice_set, ℕ, List, []}
+use Rattle.std.proofs.Common.{◌≡◌, ◌<◌, ◌∙◌, arith, ap, sym, subst, length, get_or, slice_set, ℕ, List, []}
 use Rattle.std.proofs.lemmas.List.{get_or_read}
+use Rattle.std.specs.List.{insert}
+use Rattle.moc_ranges.specs.RangeList.{IsNormal}
 use Rattle.moc_ranges.specs.Private.Blocks.{first_of, last_of, width_of, joining, AreBlocks}
 use Rattle.moc_ranges.specs.Private.Added.{inserted}
 use Rattle.moc_ranges.proofs.Blocking.{first_of-joining, last_of-joining, length_last, width_bounded, few_ranges}
-use Rattle.moc_ranges.proofs.Inserting.{inserted_is, inserted_width, inserted_count, on_true}
+use Rattle.moc_ranges.proofs.Inserting.{gap_filled, gap_normal, inserted_is, inserted_width, inserted_count, on_true}
 use Rattle.moc_ranges.proofs.Replacing.{as_many}
 use Rattle.moc_ranges.proofs.list.node.Node.insert.Goals as goal
+
+pub insert-requires-clause-filled : goal.insert-requires-clause-filled
+insert-requires-clause-filled c = gap_filled c.args.self.now c.args.block c.args.place c.args.range c.requires
+
+pub insert-requires-clause-normal : goal.insert-requires-clause-normal
+insert-requires-clause-normal c =
+    let bs = c.in-Some.blocks.now.items in
+    let none : List (ℕ × ℕ) = [] in
+    let whole : bs ≡ c.args.self.now = ap (λ v. v.items) c.in-Some.ensures.value ∙ c.self.view_is in
+    let is = get_or_read bs c.args.block c.index_mut.result.now (omega (arith, ap length whole, c.requires.there)) c.index_mut.ensures.value none in
+    subst (λ (b : List (ℕ × ℕ)). IsNormal (insert b c.args.place c.args.range)) (ap (λ (l : List (List (ℕ × ℕ))). get_or l c.args.block none) (sym whole) ∙ sym is)
+    (gap_normal c.args.self.now c.args.block c.args.place c.args.range c.requires)
+
+pub overflow_sub-self : goal.overflow_sub-self
+overflow_sub-self c = omega (arith, gap_filled c.args.self.now c.args.block c.args.place c.args.range c.requires)
 
 pub overflow_add-self : goal.overflow_add-self
 overflow_add-self c =

@@ -6,7 +6,7 @@ use Rattle.moc_ranges.proofs.Inserting.{gap_can, gap_put, on_true}
 use Rattle.moc_ranges.proofs.list.nodes.Nodes.insert_in_gap.Goals as goal
 
 pub insert-requires : goal.insert-requires
-insert-requires c = gap_can c.args.from c.args.to _ _ _ c.self.inside.nodes.items c.deref.result.now c.index_mut.result.now c.requires.filled c.deref.ensures.value c.in-Some.ensures c.index_mut.ensures.value
+insert-requires c = gap_can c.args.from c.args.to _ _ _ c.self.inside.nodes.items c.deref.result.now c.index_mut.result.now c.deref.ensures.value c.in-Some.ensures c.index_mut.ensures.value
 
 pub overflow_add-self : goal.overflow_add-self
 overflow_add-self c =
