@@ -1,6 +1,6 @@
 //! What the words of the command line make the program do.
-ghost use Rattle.std.specs.Prelude.{◌≡◌, ◌≢◌, ◌⊎◌, ◌++◌, ◌∷◌, [], false, true, map, Err, IfErr, IfOk, IsErrAnd, IsErrOf};
-ghost use Rattle.std.specs.Prelude.{IsTrue, MatchResult, Ok, OnOk, is_err};
+ghost use Rattle.std.specs.Prelude.{◌≡◌, ◌≢◌, ◌⊎◌, ◌++◌, ◌∷◌, [], false, true, map, Err, IfErr, IfOk, IsErrAnd};
+ghost use Rattle.std.specs.Prelude.{IsErrOf, IsTrue, MatchResult, Ok, OnOk, is_err};
 ghost use Rattle.std.specs.Io.KnownBytes.{Appends};
 ghost use Rattle.std.specs.IoError.{error_kind};
 ghost use Rattle.std.specs.String.{string_bytes};
