@@ -8,6 +8,7 @@ use Rattle.moc_forms.specs.Finding.{form_for, hint_of}
 use Rattle.moc_forms.specs.Places.{IsPlace, line_bytes}
 use Rattle.moc_forms.specs.Quotes.{IsTold}
 use Rattle.moc_forms.specs.declared.finding.Choice.{Choice}
+use Rattle.moc_forms.specs.declared.finding.Choice.TheVariants.{Named}
 use Rattle.moc_forms.specs.declared.form.Form.{Form}
 use Rattle.moc_forms.specs.declared.form.Form.TheVariants.{Ascii, Json, Uniq}
 use Rattle.moc_forms.specs.declared.form.FormError.{FormError}
@@ -17,7 +18,7 @@ use Rattle.moc_forms.specs.Combining.{Said}
 use Rattle.moc_forms.specs.declared.changing.Change.{Change}
 use Rattle.moc_forms.specs.declared.combining.Operation.{Operation}
 use Rattle.moc_conversion.specs.Combining.{AreNotCombined, SaysTogether}
-use Rattle.moc_conversion.specs.Conversion.{IsNotChanged, IsNotConverted, IsTextFault, IsWhole, SaysAll, SaysNothing, TellsFault}
+use Rattle.moc_conversion.specs.Conversion.{IsAll, IsNotChanged, IsNotConverted, IsOfWhole, IsTextFault, IsWhole, SaysAll, SaysNothing, TellsFault}
 use Rattle.moc_conversion.specs.Faults.{fault_of_form}
 use Rattle.moc_conversion.specs.declared.complaint.Complaint.{Complaint}
 use Rattle.moc_conversion.specs.declared.fault.Fault.{Fault}
@@ -55,9 +56,21 @@ pub of_input : (choice : Choice) (left left' : Option (List ℕ)) (given : List 
 of_input choice left left' given c whole (inl memory) = inl (inr (inr memory))
 of_input choice left left' given c whole (inr tells) = inr (given, whole, tells)
 
+-- why an input was not converted
+abbrev pub Unconverted : Form → Option (List ℕ) → Option (List ℕ) → Fault → Type 0
+Unconverted form left left' f =
+    IsOfWhole left left' f ⊎ IsAll (λ text. IsTextFault form text f) left left'
+    ⊎ ((f ≡ TooCoarse) × (said : Said) × SaysAll (Named form) left left' said × IsTooCoarse said.0 said.1)
+
+-- and so tells a complaint of the fault alone
+pub told_alone : {T : Type 0} (r : Result T Complaint) (f : Fault) (form : Form) (left left' : Option (List ℕ))
+    → IsErrAnd r (λ c. (c.fault ≡ f) × (c.place ≡ None) × (c.hint ≡ None)) → Unconverted form left left' f → IfErr r (λ c. IsNotConverted form left left' c)
+told_alone (Ok v) f form left left' same why = tt
+told_alone (Err c) f form left left' same why = (same.1, same.2, subst (λ g. Unconverted form left left' g) (sym same.0) why)
+
 -- a fault of a text is one of the input that it was
 pub not_read : (form : Form) (left left' : Option (List ℕ)) (given : List ℕ) (f : Fault) → IsWhole left left' given
-    → (f ≡ Memory) ⊎ IsTextFault form given f → IsNotConverted form left left' f
+    → (f ≡ Memory) ⊎ IsTextFault form given f → Unconverted form left left' f
 not_read form left left' given f whole (inl memory) = inl (inr (inr memory))
 not_read form left left' given f whole (inr is_fault) = inr (inl (given, whole, is_fault))
 
@@ -105,10 +118,7 @@ not_combined (Err c) f operation choice left left' said same says (inl memory) =
 not_combined (Err c) f operation choice left left' said same says (inr coarse) = inr (same.0 ∙ coarse.0, said, says, coarse.1)
 
 -- why a text that was read was not written in another form
-pub not_converted : {T : Type 0} (r : Result T Fault) (form : Form) (left left' : Option (List ℕ)) (given : List ℕ) (a : NumberSet) (k : Option ℕ)
-    → IsWhole left left' given → FormSays form given a k → IfErr r (λ f. (f ≡ Memory) ⊎ ((f ≡ TooCoarse) × IsTooCoarse a k))
-    → IfErr r (λ f. IsNotConverted form left left' f)
-not_converted (Ok t) form left left' given a k whole says why = tt
-not_converted (Err f) form left left' given a k whole says (inl memory) = inl (inr (inr memory))
-not_converted (Err f) form left left' given a k whole says (inr coarse) =
-    inr (inr (coarse.0, (a, k, form), (given, whole, (says, refl)), coarse.1))
+pub not_written : (f : Fault) (form : Form) (left left' : Option (List ℕ)) (given : List ℕ) (a : NumberSet) (k : Option ℕ) → IsWhole left left' given → FormSays form given a k
+    → (f ≡ Memory) ⊎ ((f ≡ TooCoarse) × IsTooCoarse a k) → Unconverted form left left' f
+not_written f form left left' given a k whole says (inl memory) = inl (inr (inr memory))
+not_written f form left left' given a k whole says (inr coarse) = inr (inr (coarse.0, (a, k, form), (given, whole, (says, refl)), coarse.1))

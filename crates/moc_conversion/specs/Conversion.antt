@@ -118,12 +118,13 @@ IsOfWhole = IsOfInput (λ given. 16777216 < length given)
 abbrev pub IsTextFault : Form → List ℕ → Fault → Type 0
 IsTextFault form text fault = (error : FormError) × IsFormFault form text error × (fault ≡ fault_of_form error)
 
--- why the input was not converted: it could not be had, or it has the fault that is told, or the set that it says has a
--- cell that is deeper than the order that it names
-abbrev pub IsNotConverted : Form → Option (List ℕ) → Option (List ℕ) → Fault → Type 0
-IsNotConverted form left left' fault =
-    IsOfWhole left left' fault ⊎ IsAll (λ text. IsTextFault form text fault) left left'
-    ⊎ ((fault ≡ TooCoarse) × (said : Said) × SaysAll (Named form) left left' said × IsTooCoarse said.0 said.1)
+-- why the input was not converted, which is told alone: it could not be had, or it has the fault that is told, or the
+-- set that it says has a cell that is deeper than the order that it names
+abbrev pub IsNotConverted : Form → Option (List ℕ) → Option (List ℕ) → Complaint → Type 0
+IsNotConverted form left left' c =
+    (c.place ≡ None) × (c.hint ≡ None)
+    × (IsOfWhole left left' c.fault ⊎ IsAll (λ text. IsTextFault form text c.fault) left left'
+    ⊎ ((c.fault ≡ TooCoarse) × (said : Said) × SaysAll (Named form) left left' said × IsTooCoarse said.0 said.1))
 
 -- why the input says no set: it or memory could not be had, or it has the fault that is told, at the place that is told
 abbrev pub SaysNothing : Choice → Option (List ℕ) → Option (List ℕ) → Complaint → Type 0

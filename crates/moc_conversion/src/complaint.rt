@@ -9,10 +9,12 @@ use moc_devices::{DeviceFault, Sink, write_all};
 use moc_forms::{Form, hint_line};
 use moc_ranges::Memory as MemoryRefused;
 use std::alloc::AllocError;
+use thiserror::Error;
 
 /// A fault; where it is told, a line that says where it is; and the form that the text looks like, if that is another
 /// than it was read in.
-#[derive(Drop)]
+#[derive(Debug, Drop, Error)]
+#[error("{fault}")]
 pub struct Complaint {
     pub fault: Fault,
     pub place: Option<String>,

@@ -147,7 +147,8 @@ pub fn text_of(
     Ok(form.write(alloc, set, stated)?)
 }
 
-/// The text in one form of the coverage that the input has in another. The deepest order that it names is stated.
+/// The text in one form of the coverage that the input has in another. The deepest order that it names is stated. Else
+/// the complaint is of the fault alone.
 ///
 /// Reads the input to its end; refused with `Read` where that fails, with `TooLong` behind 16,777,216 bytes, with the
 /// first fault of the text, or with `Memory`. Time and memory are linear in the input and in what is made of it.
@@ -156,15 +157,15 @@ pub fn converted<R: Source>(
     from: Form,
     to: Form,
     input: &mut R,
-) -> Result<String, Fault>
+) -> Result<String, Complaint>
     requires { R.mark input.old ≡ false }
-    ensures read { IsErrOf result Fault.Read ↔ IsTrue (R.mark input.new) }
-    ensures fault { IfErr result (λ f. IsNotConverted from (R.left input.old) (R.left input.new) f) }
+    ensures read { IsErrAnd result (λ c. c.fault ≡ Fault.Read) ↔ IsTrue (R.mark input.new) }
+    ensures fault { IfErr result (λ c. IsNotConverted from (R.left input.old) (R.left input.new) c) }
     ensures converts { IfOk result (λ t. ConvertsAll from to (R.left input.old) (R.left input.new) (string_bytes t)) }
 {
     let text = read_whole(alloc, input)?;
     let (set, deepest) = said(alloc, from, &text)?;
-    text_of(alloc, to, &set, deepest)
+    Ok(text_of(alloc, to, &set, deepest)?)
 }
 
 /// What the input says, with the form that it is read in; else a complaint that tells its first fault and where it is.

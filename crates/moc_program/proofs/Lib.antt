@@ -1,3 +1,4 @@
+pub mod Asking
 pub mod Parsing
 pub mod Refusals
 pub mod NumberLines

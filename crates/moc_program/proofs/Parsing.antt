@@ -1,12 +1,14 @@
 -- What the parse of words says of them.
 use Rattle.std.proofs.Common.{◌≡◌, ◌⊎◌, inl, inr, true, List, Result, Ok, Err, refl}
-use Rattle.std.specs.Result.{IfErr, OnOk}
+use Rattle.std.specs.Result.{IfErr, IfOk, OnOk}
 use Rattle.std.proofs.lemmas.Bool.{false_from_ne_true}
-use Rattle.clap.specs.Words.{App, Text, takes, fault_of, kind_of, is_simple_and_free, FailsBy}
+use Rattle.clap.specs.Words.{App, HasMatchesOf, Text, takes, fault_of, is_simple, kind_of, is_simple_and_free, FailsBy}
 use Rattle.clap.specs.declared.error.Error.{Error}
+use Rattle.clap.specs.declared.parser.matches.ArgMatches.{ArgMatches}
 use Rattle.clap.specs.declared.error.kind.ErrorKind.{ErrorKind}
 use Rattle.clap.specs.declared.error.kind.ErrorKind.TheVariants.{OutOfMemory, DisplayHelp, DisplayVersion}
 use Rattle.moc_command_line.specs.CommandLine.{IsCommandLine, Parsers, moc_app}
+use Rattle.moc_program.specs.Private.Matches.{AreReadAs}
 use Rattle.moc_program.specs.Outcomes.{AreMistaken, AreRefused, AskForHelp, IsMistake}
 
 -- the command line is one whose faults `clap` names
@@ -14,8 +16,18 @@ pub simple : (parsers : Parsers) → is_simple_and_free (moc_app parsers) ≡ tr
 unfolding moc_app
 simple parsers = refl
 
-pub is_simple : (app : App) → IsCommandLine app → is_simple_and_free app ≡ true
-is_simple app line = rw line.is (simple line.parsers)
+pub is_free : (app : App) → IsCommandLine app → is_simple_and_free app ≡ true
+is_free app line = rw line.is (simple line.parsers)
+
+-- and of which it gives the matches
+pub plain : (parsers : Parsers) → is_simple (moc_app parsers) ≡ true
+unfolding moc_app
+plain parsers = refl
+
+pub read_as : (app : App) (words : List Text) → IsCommandLine app → (r : Result ArgMatches Error) → IfOk r (λ m. HasMatchesOf app words m)
+    → IfOk r (λ m. AreReadAs words m)
+read_as app words line (Ok m) matches = record { app = app; line = line; are = (matches (rw line.is (plain line.parsers))).1 }
+read_as app words line (Err e) matches = tt
 
 no_help : (kind : ErrorKind) → kind ≡ OutOfMemory → (kind ≡ DisplayHelp) ⊎ (kind ≡ DisplayVersion) → ⊥
 no_help kind memory (inl help) = cc

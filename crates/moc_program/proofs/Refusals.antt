@@ -1,15 +1,20 @@
 -- Which status has the number 2.
 use Rattle.std.proofs.Common.{◌≡◌, ◌⊎◌, inl, inr, Bool, false, ℕ, List, Option, Result, Ok, Err, refl, sym, ap, subst, ◌∙◌, arith}
-use Rattle.std.specs.Prelude.{IfErr, OnOk}
+use Rattle.std.specs.Prelude.{IfErr, IsTrue}
 use Rattle.std.specs.Io.KnownBytes.{Appends}
 use Rattle.moc_lines.specs.declared.run_error.RunError.TheVariants as run
 use Rattle.moc_conversion.specs.declared.fault.Fault as input
 use Rattle.moc_conversion.specs.declared.fault.Fault.TheVariants as refused
-use Rattle.moc_program.specs.Actions.{Does}
+use Rattle.clap.specs.Words.{Text}
+use Rattle.clap.specs.declared.parser.matches.ArgMatches.{ArgMatches}
+use Rattle.moc_program.specs.Actions.{Ends}
+use Rattle.moc_program.specs.Asking.{AskFor}
 use Rattle.moc_program.specs.Statuses.{code_of, fault_text, status_of, status_of_input}
 use Rattle.moc_program.specs.declared.action.Action.{Action}
-use Rattle.moc_program.specs.Outcomes.{TellsFaultOf}
+use Rattle.moc_program.specs.Outcomes.{AskForHelp, BlamesFailed, EndWith, TellsFaultOf}
 use Rattle.moc_program.specs.Private.Ending.{end_of}
+use Rattle.moc_program.specs.Private.Matches.{AreReadAs, MatchedEnd}
+use Rattle.moc_program.proofs.Asking.{words_done, words_end}
 use Rattle.moc_program.specs.declared.status.Fault.{Fault}
 use Rattle.moc_program.specs.declared.status.Fault.TheVariants.{Input, Number, Run, Write, Memory}
 use Rattle.moc_program.specs.declared.status.Status.{Status}
@@ -80,37 +85,58 @@ only_done Broken e = absurd (omega (arith, e))
 pub well : (s t : Status) (r : ℕ) → s ≡ t → r ≡ code_of s → r ≡ 0 → t ≡ Done
 well s t r same number zero = only_done t (ap code_of (sym same) ∙ sym number ∙ zero)
 
--- an outcome that is well
-pub well_by : (outcome : Result (Unit {0}) Fault) (P : Type 0) → OnOk outcome P → end_of outcome ≡ Done → P
-well_by (Ok u) P done e = done
-well_by (Err fault) P done e = absurd (no_done (status_of fault) (of_fault fault) e)
-
 -- a fault that ends the program is told
-pub told_by : (outcome : Result (Unit {0}) Fault) (status : ℕ) (w w' : Option (List ℕ)) → status ≡ code_of (end_of outcome)
-    → IfErr outcome (λ c. Appends w w' (fault_text c)) → (status ≡ 1) ⊎ (status ≡ 3) → TellsFaultOf status w w'
-told_by (Ok u) status w w' number told (inl one) = absurd (omega (arith, number, one))
-told_by (Ok u) status w w' number told (inr three) = absurd (omega (arith, number, three))
-told_by (Err c) status w w' number told some = (c, sym number, told)
+pub told_by : (outcome : Result (Unit {0}) Fault) (status : ℕ) (is : Fault → Type 0) (w w' : Option (List ℕ)) → status ≡ code_of (end_of outcome)
+    → IfErr outcome (λ c. Appends w w' (fault_text c)) → IfErr outcome is → (status ≡ 1) ⊎ (status ≡ 3) → TellsFaultOf status is w w'
+told_by (Ok u) status is w w' number told why (inl one) = absurd (omega (arith, number, one))
+told_by (Ok u) status is w w' number told why (inr three) = absurd (omega (arith, number, three))
+told_by (Err c) status is w w' number told why some = (c, sym number, why, told)
 
 -- the same where the devices are named otherwise
-pub done_by : {I O : Type 0} (left : I → Option (List ℕ)) (written : O → Option (List ℕ)) (i i' : I) (o o' : O) (outcome : Result (Unit {0}) Fault) (l w : Option (List ℕ))
-    → OnOk outcome ((a : Action) × Does a l (left i) w (written o)) → i' ≡ i → o' ≡ o → end_of outcome ≡ Done → (a : Action) × Does a l (left i') w (written o')
-done_by {I} {O} left written i i' o o' outcome l w done same_i same_o e =
-    subst (λ (x : I). (a : Action) × Does a l (left x) w (written o')) (sym same_i)
-    (subst (λ (y : O). (a : Action) × Does a l (left i) w (written y)) (sym same_o) (well_by outcome ((a : Action) × Does a l (left i) w (written o)) done e))
+module _ {I O : Type 0} (left : I → Option (List ℕ)) (written : O → Option (List ℕ)) (i i' : I) (o o' : O) (words : List Text) (m : ArgMatches) (l w : Option (List ℕ))
+    (read : AreReadAs words m) (same_i : i' ≡ i) (same_o : o' ≡ o) where
+  pub done_by : (outcome : Result (Unit {0}) Fault) → MatchedEnd m l (left i) w (written o) outcome → end_of outcome ≡ Done
+      → (a : Action) × AskFor words a × Ends a l (left i') w (written o') (Ok tt)
+  done_by (Ok u) ends e =
+      subst (λ (x : I). (a : Action) × AskFor words a × Ends a l (left x) w (written o') (Ok tt)) (sym same_i)
+      (subst (λ (y : O). (a : Action) × AskFor words a × Ends a l (left i) w (written y) (Ok tt)) (sym same_o) (words_done words m l (left i) w (written o) read ends))
+  done_by (Err fault) ends e = absurd (no_done (status_of fault) (of_fault fault) e)
 
-pub told_outcome : {F : Type 0} (mark : F → Bool) (written : F → Option (List ℕ)) (f f' : F) (old : Option (List ℕ)) (outcome : Result (Unit {0}) Fault) (status : ℕ)
-    → (mark f ≡ false → IfErr outcome (λ c. Appends old (written f) (fault_text c))) → f' ≡ f → status ≡ code_of (end_of outcome) → mark f' ≡ false
-    → (status ≡ 1) ⊎ (status ≡ 3) → TellsFaultOf status old (written f')
-told_outcome {F} mark written f f' old outcome status told same number unmarked some =
-    subst (λ (x : F). TellsFaultOf status old (written x)) (sym same) (told_by outcome status old (written f) number (told (ap mark (sym same) ∙ unmarked)) some)
+  pub fails_by : (marked : I → Bool) (marked_out : O → Bool) (outcome : Result (Unit {0}) Fault) → MatchedEnd m l (left i) w (written o) outcome
+      → IfErr outcome (λ f. BlamesFailed (marked i) (marked_out o) f)
+      → IfErr outcome (λ f. BlamesFailed (marked i') (marked_out o') f × EndWith words l (left i') w (written o') f)
+  fails_by marked marked_out (Ok u) ends blames = tt
+  fails_by marked marked_out (Err fault) ends blames =
+      subst (λ (x : I). BlamesFailed (marked x) (marked_out o') fault × EndWith words l (left x) w (written o') fault) (sym same_i)
+      (subst (λ (y : O). BlamesFailed (marked i) (marked_out y) fault × EndWith words l (left i) w (written y) fault) (sym same_o)
+      (blames, words_end words m l (left i) w (written o) fault read ends))
 
-pub told_status : {F : Type 0} (mark : F → Bool) (written : F → Option (List ℕ)) (f f' : F) (old : Option (List ℕ)) (s : Status) (status : ℕ)
-    → (mark f ≡ false → (code_of s ≡ 1) ⊎ (code_of s ≡ 3) → TellsFaultOf (code_of s) old (written f)) → f' ≡ f → status ≡ code_of s → mark f' ≡ false
-    → (status ≡ 1) ⊎ (status ≡ 3) → TellsFaultOf status old (written f')
-told_status {F} mark written f f' old s status told same number unmarked some =
-    subst (λ (x : F). TellsFaultOf status old (written x)) (sym same)
-    (subst (λ (n : ℕ). TellsFaultOf n old (written f)) (sym number) (told (ap mark (sym same) ∙ unmarked) (subst (λ (n : ℕ). (n ≡ 1) ⊎ (n ≡ 3)) number some)))
+pub told_outcome : {F : Type 0} (mark : F → Bool) (written : F → Option (List ℕ)) (f f' : F) (old : Option (List ℕ)) (outcome : Result (Unit {0}) Fault) (status : ℕ) (is : Fault → Type 0)
+    → (mark f ≡ false → IfErr outcome (λ c. Appends old (written f) (fault_text c))) → f' ≡ f → status ≡ code_of (end_of outcome) → IfErr outcome is → mark f' ≡ false
+    → (status ≡ 1) ⊎ (status ≡ 3) → TellsFaultOf status is old (written f')
+told_outcome {F} mark written f f' old outcome status is told same number why unmarked some =
+    subst (λ (x : F). TellsFaultOf status is old (written x)) (sym same) (told_by outcome status is old (written f) number (told (ap mark (sym same) ∙ unmarked)) why some)
+
+-- what is told where there are no matches
+abbrev IsUnhelped : Type 0 → Type 0 → Fault → Type 0
+IsUnhelped failed help fault = (fault ≡ Memory) ⊎ ((fault ≡ Write) × failed × help)
+
+unhelped : (input output : Bool) (words : List Text) (l l' w w' : Option (List ℕ)) (help : Type 0) (fault : Fault) → (help → AskForHelp words)
+    → IsUnhelped (IsTrue output) help fault → BlamesFailed input output fault × EndWith words l l' w w' fault
+unhelped input output words l l' w w' help fault asks (inl memory) = (subst (λ f. BlamesFailed input output f) (sym memory) tt, inl memory)
+unhelped input output words l l' w w' help fault asks (inr (write, failed, helped)) =
+    (subst (λ f. BlamesFailed input output f) (sym write) failed, inr (inl (asks helped, write)))
+
+pub told_status : {F O : Type 0} (mark : F → Bool) (told_on : F → Option (List ℕ)) (marked : O → Bool) (written : O → Option (List ℕ)) (f f' : F) (o o' : O)
+    (input : Bool) (words : List Text) (l l' w old : Option (List ℕ)) (help : Type 0) (s : Status) (status : ℕ)
+    → (mark f ≡ false → (code_of s ≡ 1) ⊎ (code_of s ≡ 3) → TellsFaultOf (code_of s) (λ c. IsUnhelped (IsTrue (marked o)) help c) old (told_on f))
+    → (help → AskForHelp words) → f' ≡ f → o' ≡ o → status ≡ code_of s → mark f' ≡ false → (status ≡ 1) ⊎ (status ≡ 3)
+    → TellsFaultOf status (λ c. BlamesFailed input (marked o') c × EndWith words l l' w (written o') c) old (told_on f')
+told_status {F} {O} mark told_on marked written f f' o o' input words l l' w old help s status told asks same same_o number unmarked some =
+    let here = told (ap mark (sym same) ∙ unmarked) (subst (λ (n : ℕ). (n ≡ 1) ⊎ (n ≡ 3)) number some) in
+    let why = unhelped input (marked o') words l l' w (written o') help here.0 asks
+    (subst (λ (y : O). IsUnhelped (IsTrue (marked y)) help here.0) (sym same_o) here.2) in
+    (here.0, here.1 ∙ sym number, why, subst (λ (x : F). Appends old (told_on x) (fault_text here.0)) (sym same) here.3)
 
 pub no_outcome : (outcome : Result (Unit {0}) Fault) → end_of outcome ≡ BadWords → ⊥
 no_outcome (Ok u) e = cc

@@ -1,33 +1,57 @@
--- What the program has done where it ends well.
-use Rattle.std.specs.Prelude.{ℕ, List, [], ◌∷◌, ◌++◌, codes, Option, Ok, IfSome}
+-- How what was asked for ends: what is written, or the fault that is told.
+use Rattle.std.specs.Prelude.{◌≡◌, ◌⊎◌, ℕ, List, [], ◌∷◌, ◌++◌, codes, Option, Result, Ok, Err, IfSome}
 use Rattle.std.specs.Io.KnownBytes.{Appends}
 use Rattle.moc_script.specs.Crews.{CrewEnds}
 use Rattle.moc_lines.specs.Numberings.{RunsNumbers}
 use Rattle.moc_script.specs.Schedules.{RunsSchedule}
 use Rattle.moc_lines.specs.Scripts.{RunsScript}
-use Rattle.moc_conversion.specs.Combining.{CombinesAll}
-use Rattle.moc_conversion.specs.Conversion.{ChangesAll, ConvertsAll, DescribesAll, DrawsAll, IsSaid}
+use Rattle.moc_lines.specs.declared.run_error.RunError.{RunError}
+use Rattle.moc_conversion.specs.Combining.{AreNotCombined, CombinesAll}
+use Rattle.moc_conversion.specs.Conversion.{ChangesAll, ConvertsAll, DescribesAll, DrawsAll, IsNotChanged}
+use Rattle.moc_conversion.specs.Conversion.{IsNotConverted, IsNotDrawn, IsSaid, SaysNothing}
+use Rattle.moc_conversion.specs.declared.complaint.Complaint.{Complaint}
 use Rattle.moc_program.specs.Listing.{fault_list}
-use Rattle.moc_program.specs.Numbers.{IsNumberLine}
+use Rattle.moc_program.specs.Numbers.{IsNumberLine, IsNumberRefusal}
 use Rattle.moc_program.specs.declared.action.Action.{Action}
 use Rattle.moc_program.specs.declared.action.Action.TheVariants.{Run, Play, Crew, Number, Renumber, Convert, Check}
 use Rattle.moc_program.specs.declared.action.Action.TheVariants.{Describe, Draw, Change, Combine, Faults}
+use Rattle.moc_program.specs.declared.status.Fault.{Fault}
+use Rattle.moc_program.specs.declared.status.Fault.TheVariants as told
 
--- such a text was written
-abbrev pub Writes : (List ℕ → Type 0) → Option (List ℕ) → Option (List ℕ) → Type 0
-Writes is written written' = (text : List ℕ) × is text × Appends written written' text
+-- a run ends so
+abbrev pub RunEnds : (Result (Unit {0}) RunError → Type 0) → Result (Unit {0}) Fault → Type 0
+RunEnds ends (Ok _) = ends (Ok tt)
+RunEnds ends (Err fault) = (error : RunError) × (fault ≡ told.Run error) × ends (Err error)
 
--- What was asked for is done, of an input of which this was left and this is, and all that comes of it is written.
-abbrev pub Does : Action → Option (List ℕ) → Option (List ℕ) → Option (List ℕ) → Option (List ℕ) → Type 0
-Does Run left left' w w' = IfSome left (λ input. RunsScript input left' w w' (Ok tt))
-Does Play left left' w w' = IfSome left (λ input. RunsSchedule input left' w w' (Ok tt))
-Does (Crew lanes) left left' w w' = IfSome left (λ input. CrewEnds lanes.number input left' w w' (Ok tt))
-Does (Number number) left left' w w' = Writes (IsNumberLine number) w w'
-Does (Renumber r) left left' w w' = IfSome left (λ input. RunsNumbers r input left' w w' (Ok tt))
-Does (Convert from to) left left' w w' = Writes (ConvertsAll from to left left') w w'
-Does (Check choice) left left' w w' = IsSaid choice left left' × Appends w w' (codes "ok" ++ 10 ∷ [])
-Does (Describe choice) left left' w w' = Writes (DescribesAll choice left left') w w'
-Does (Draw choice) left left' w w' = Writes (DrawsAll choice left left') w w'
-Does (Change change choice) left left' w w' = Writes (ChangesAll change choice left left') w w'
-Does (Combine operation choice) left left' w w' = Writes (CombinesAll operation choice left left') w w'
-Does Faults left left' w w' = Appends w w' fault_list
+-- such a text was written; or it could not be written, or was refused with such a fault
+abbrev pub Answers :
+    (List ℕ → Type 0) → (Fault → Type 0) → Option (List ℕ) → Option (List ℕ) → Result (Unit {0}) Fault → Type 0
+Answers is refused w w' (Ok _) = (text : List ℕ) × is text × Appends w w' text
+Answers is refused w w' (Err fault) = (fault ≡ told.Write) ⊎ refused fault
+
+-- the fault is such a complaint of the input
+abbrev pub Complains : (Complaint → Type 0) → Fault → Type 0
+Complains is fault = (c : Complaint) × (fault ≡ told.Input c) × is c
+
+-- What was asked for ends so, with an input of which this was left and this is, where so much was and is written.
+abbrev pub Ends :
+    Action → Option (List ℕ) → Option (List ℕ) → Option (List ℕ) → Option (List ℕ) → Result (Unit {0}) Fault → Type 0
+Ends Run left left' w w' = RunEnds (λ end. IfSome left (λ input. RunsScript input left' w w' end))
+Ends Play left left' w w' = RunEnds (λ end. IfSome left (λ input. RunsSchedule input left' w w' end))
+Ends (Crew lanes) left left' w w' = RunEnds (λ end. IfSome left (λ input. CrewEnds lanes.number input left' w w' end))
+Ends (Number number) left left' w w' = Answers (IsNumberLine number) (IsNumberRefusal number) w w'
+Ends (Renumber r) left left' w w' = RunEnds (λ end. IfSome left (λ input. RunsNumbers r input left' w w' end))
+Ends (Convert from to) left left' w w' =
+    Answers (ConvertsAll from to left left') (Complains (IsNotConverted from left left')) w w'
+Ends (Check choice) left left' w w' =
+    Answers (λ text. IsSaid choice left left' × (text ≡ codes "ok" ++ 10 ∷ []))
+    (Complains (SaysNothing choice left left')) w w'
+Ends (Describe choice) left left' w w' =
+    Answers (DescribesAll choice left left') (Complains (SaysNothing choice left left')) w w'
+Ends (Draw choice) left left' w w' =
+    Answers (DrawsAll choice left left') (Complains (IsNotDrawn choice left left')) w w'
+Ends (Change change choice) left left' w w' =
+    Answers (ChangesAll change choice left left') (Complains (IsNotChanged change choice left left')) w w'
+Ends (Combine operation choice) left left' w w' =
+    Answers (CombinesAll operation choice left left') (Complains (AreNotCombined operation choice left left')) w w'
+Ends Faults left left' w w' = Answers (λ text. text ≡ fault_list) (λ _. ⊥) w w'

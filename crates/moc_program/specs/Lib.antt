@@ -1,4 +1,5 @@
 pub mod Actions
+pub mod Asking
 pub mod Listing
 pub mod Numbers
 pub mod Outcomes

@@ -1,5 +1,5 @@
 -- The lines of converted numbers.
-use Rattle.std.specs.Prelude.{◌≡◌, ℕ, ◌<◌, ◌≤◌, false, List, [], ◌∷◌, ◌++◌, decimal}
+use Rattle.std.specs.Prelude.{◌≡◌, ◌⊎◌, ℕ, ◌<◌, ◌≤◌, false, List, [], ◌∷◌, ◌++◌, decimal}
 use Rattle.moc_sphere.specs.CellNumber.{CellNumber, IsCell, cell_count, cell_number, is_uniq, uniq_of}
 use Rattle.moc_sphere.specs.Rings.{ring_number}
 use Rattle.moc_sphere.specs.Touching.{touching_cells}
@@ -7,6 +7,8 @@ use Rattle.moc_sphere.specs.declared.cell.CellError.{CellError}
 use Rattle.moc_sphere.specs.declared.cell.CellError.TheVariants.{CellTooLarge, NotUniq, RingTooLarge}
 use Rattle.moc_program.specs.declared.action.Number.{Number}
 use Rattle.moc_program.specs.declared.action.Number.TheVariants.{Ring, Nest, Uniq, Cell, Near}
+use Rattle.moc_program.specs.declared.status.Fault.{Fault}
+use Rattle.moc_program.specs.declared.status.Fault.TheVariants as told
 
 -- numbers behind others, each behind a blank
 abbrev pub spaced : List ℕ → List ℕ
@@ -33,10 +35,15 @@ IsNumberLine (Cell uniq) line =
 IsNumberLine (Near order cell) line =
     (cell < cell_count order) × (line ≡ list_of (touching_cells order cell) ++ 10 ∷ [])
 
--- the fault of a number that no cell has
+-- what a number is refused for that no cell has
 abbrev pub IsNumberFault : Number → CellError → Type 0
 IsNumberFault (Ring order cell) error = (error ≡ CellTooLarge) × (cell_count order ≤ cell)
 IsNumberFault (Nest order ring) error = (error ≡ RingTooLarge) × (cell_count order ≤ ring)
 IsNumberFault (Uniq order cell) error = (error ≡ CellTooLarge) × (cell_count order ≤ cell)
 IsNumberFault (Cell uniq) error = (error ≡ NotUniq) × (is_uniq uniq ≡ false)
 IsNumberFault (Near order cell) error = (error ≡ CellTooLarge) × (cell_count order ≤ cell)
+
+-- the fault of a number that is not converted: memory was refused, or no cell has the number
+abbrev pub IsNumberRefusal : Number → Fault → Type 0
+IsNumberRefusal number fault =
+    (fault ≡ told.Memory) ⊎ ((error : CellError) × IsNumberFault number error × (fault ≡ told.Number error))

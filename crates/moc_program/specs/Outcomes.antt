@@ -1,12 +1,18 @@
 -- What the program has done when it ends.
-use Rattle.std.specs.Prelude.{◌≡◌, ◌≢◌, ◌⊎◌, ℕ, List, [], false, Option}
+use Rattle.std.specs.Prelude.{◌≡◌, ◌≢◌, ◌⊎◌, ℕ, Bool, false, List, [], Option, Err, IsTrue}
 use Rattle.std.specs.Io.KnownBytes.{Appends}
 use Rattle.clap.specs.Words.{App, Text, takes, fault_of, IsAmong}
 use Rattle.clap.specs.declared.error.kind.ErrorKind.{ErrorKind}
 use Rattle.clap.specs.declared.error.kind.ErrorKind.TheVariants.{DisplayHelp, DisplayVersion, OutOfMemory}
 use Rattle.moc_command_line.specs.CommandLine.{IsCommandLine}
+use Rattle.moc_lines.specs.declared.run_error.RunError.TheVariants as run
+use Rattle.moc_conversion.specs.declared.fault.Fault.TheVariants as refused
+use Rattle.moc_program.specs.Actions.{Ends}
+use Rattle.moc_program.specs.Asking.{AskFor}
 use Rattle.moc_program.specs.Statuses.{code_of, fault_text, status_of}
+use Rattle.moc_program.specs.declared.action.Action.{Action}
 use Rattle.moc_program.specs.declared.status.Fault.{Fault}
+use Rattle.moc_program.specs.declared.status.Fault.TheVariants.{Input, Run, Write, Memory}
 
 -- a mistake in the words: neither help nor want of memory
 pub record IsMistake (kind : ErrorKind) : Type 0 where
@@ -36,7 +42,21 @@ pub record AreMistaken (words : List Text) : Type 0 where
   pub some : (app : App) → IsCommandLine app → fault_of app words ≢ []
   pub all : (app : App) → IsCommandLine app → (kind : ErrorKind) → IsAmong kind (fault_of app words) → IsMistake kind
 
--- a fault is told with which the program ends so
-abbrev pub TellsFaultOf : ℕ → Option (List ℕ) → Option (List ℕ) → Type 0
-TellsFaultOf status written written' =
-    (fault : Fault) × (code_of (status_of fault) ≡ status) × Appends written written' (fault_text fault)
+-- a device that has failed by a fault has failed: the input, the output
+abbrev pub BlamesFailed : Bool → Bool → Fault → Type 0
+BlamesFailed input output (Input c) = c.fault ≡ refused.Read → IsTrue input
+BlamesFailed input output (Run error) = (error ≡ run.Read → IsTrue input) × (error ≡ run.Write → IsTrue output)
+BlamesFailed input output Write = IsTrue output
+BlamesFailed input output _ = Unit {0}
+
+-- Words end with a fault: memory was refused, or help is asked for and was not written, or what is asked for ends so.
+abbrev pub EndWith :
+    List Text → Option (List ℕ) → Option (List ℕ) → Option (List ℕ) → Option (List ℕ) → Fault → Type 0
+EndWith words left left' w w' fault =
+    (fault ≡ Memory) ⊎ (AskForHelp words × (fault ≡ Write))
+    ⊎ ((action : Action) × AskFor words action × Ends action left left' w w' (Err fault))
+
+-- such a fault is told, with which the program ends so
+abbrev pub TellsFaultOf : ℕ → (Fault → Type 0) → Option (List ℕ) → Option (List ℕ) → Type 0
+TellsFaultOf status is written written' =
+    (fault : Fault) × (code_of (status_of fault) ≡ status) × is fault × Appends written written' (fault_text fault)

@@ -1,3 +1,4 @@
 -- Words that contracts of private functions alone cite.
 pub mod NumberCells
 pub mod Ending
+pub mod Matches

@@ -1,4 +1,14 @@
 //! What the words of the command line ask for.
+ghost use Rattle.std.specs.Prelude.{IfSome, codes};
+ghost use Rattle.clap.specs.Words.{subcommand_rows_of};
+ghost use Rattle.moc_forms.specs.Combining.{operation_name};
+ghost use Rattle.moc_forms.specs.Finding.{choice_name};
+ghost use Rattle.moc_forms.specs.Forms.{form_name};
+ghost use Rattle.moc_lines.specs.Numberings.{numbering_name};
+ghost use Rattle.moc_program.specs.Asking.{Asks, HasNumber, HasWord};
+ghost use Rattle.moc_program.specs.Private.Matches.{IsAskedIn, values_of};
+ghost use Rattle.moc_program.specs.declared.action.Action.TheVariants as action;
+
 use clap::ArgMatches;
 use moc_forms::{Change, Choice, Form, Operation};
 use moc_script::{Lanes, Numbering, Renumbering};
@@ -51,7 +61,9 @@ pub enum Number {
 
 impl Action {
     /// What these matches ask for; `None` where they lack a word or a value, which `clap` requires.
-    pub fn from_matches(matches: &ArgMatches<'_>) -> Option<Action> {
+    pub fn from_matches(matches: &ArgMatches<'_>) -> Option<Action>
+        ensures { IfSome result (λ action. IsAskedIn matches.now action) }
+    {
         let (name, values) = matches.subcommand()?;
         match name {
             "run" => Some(Action::Run),
@@ -73,7 +85,9 @@ impl Action {
 
 impl Number {
     /// What a word and its values ask for; `None` where it is no word that converts a number, or lacks a value.
-    fn from_matches(word: &str, values: &ArgMatches<'_>) -> Option<Number> {
+    fn from_matches(word: &str, values: &ArgMatches<'_>) -> Option<Number>
+        ensures { IfSome result (λ number. Asks word.now (values_of values.now) (action.Number number)) }
+    {
         if word == "cell" {
             return Some(Number::Cell(index(values, "UNIQ")?));
         }
@@ -88,19 +102,27 @@ impl Number {
     }
 }
 
-fn form(values: &ArgMatches<'_>, id: &str) -> Option<Form> {
+fn form(values: &ArgMatches<'_>, id: &str) -> Option<Form>
+    ensures { IfSome result (λ form. HasWord id.now (values_of values.now) (form_name form)) }
+{
     Form::from_str(values.get_str(id)?).ok()
 }
 
-fn choice(values: &ArgMatches<'_>) -> Option<Choice> {
+fn choice(values: &ArgMatches<'_>) -> Option<Choice>
+    ensures { IfSome result (λ choice. HasWord (codes "FORM") (values_of values.now) (choice_name choice)) }
+{
     Choice::from_str(values.get_str("FORM")?).ok()
 }
 
-fn operation(values: &ArgMatches<'_>) -> Option<Operation> {
+fn operation(values: &ArgMatches<'_>) -> Option<Operation>
+    ensures { IfSome result (λ operation. HasWord (codes "OP") (values_of values.now) (operation_name operation)) }
+{
     Operation::from_str(values.get_str("OP")?).ok()
 }
 
-fn renumbering(values: &ArgMatches<'_>) -> Option<Renumbering> {
+fn renumbering(values: &ArgMatches<'_>) -> Option<Renumbering>
+    ensures { IfSome result (λ r. Asks (codes "renumber") (values_of values.now) (action.Renumber r)) }
+{
     Some(Renumbering {
         from: numbering(values, "FROM")?,
         to: numbering(values, "TO")?,
@@ -108,18 +130,26 @@ fn renumbering(values: &ArgMatches<'_>) -> Option<Renumbering> {
     })
 }
 
-fn numbering(values: &ArgMatches<'_>, id: &str) -> Option<Numbering> {
+fn numbering(values: &ArgMatches<'_>, id: &str) -> Option<Numbering>
+    ensures { IfSome result (λ numbering. HasWord id.now (values_of values.now) (numbering_name numbering)) }
+{
     Numbering::from_str(values.get_str(id)?).ok()
 }
 
-fn lanes(values: &ArgMatches<'_>) -> Option<Lanes> {
+fn lanes(values: &ArgMatches<'_>) -> Option<Lanes>
+    ensures { IfSome result (λ lanes. HasNumber (codes "N") (values_of values.now) lanes.number) }
+{
     Lanes::new(values.get_one::<u8>("N")?)
 }
 
-fn order(values: &ArgMatches<'_>) -> Option<Order> {
+fn order(values: &ArgMatches<'_>) -> Option<Order>
+    ensures { IfSome result (λ order. HasNumber (codes "ORDER") (values_of values.now) order) }
+{
     Order::new(values.get_one::<u8>("ORDER")?)
 }
 
-fn index(values: &ArgMatches<'_>, id: &str) -> Option<u64> {
+fn index(values: &ArgMatches<'_>, id: &str) -> Option<u64>
+    ensures { IfSome result (λ n. HasNumber id.now (values_of values.now) n) }
+{
     values.get_one::<u64>(id)
 }

@@ -1,19 +1,21 @@
 //! What the words of the command line make the program do.
-ghost use Rattle.std.specs.Prelude.{◌≡◌, ◌≢◌, ◌⊎◌, ◌++◌, ◌∷◌, [], false, true};
-ghost use Rattle.std.specs.Prelude.{map, IfOk, IfErr, MatchResult, Ok, OnOk};
-ghost use Rattle.std.specs.Prelude.{IsErrAnd, IsErrOf, IsTrue, is_err};
+ghost use Rattle.std.specs.Prelude.{◌≡◌, ◌≢◌, ◌⊎◌, ◌++◌, ◌∷◌, [], false, true, map, Err, IfErr, IfOk, IsErrAnd};
+ghost use Rattle.std.specs.Prelude.{IsErrOf, IsTrue, MatchResult, Ok, OnOk, is_err};
 ghost use Rattle.std.specs.Io.KnownBytes.{Appends};
 ghost use Rattle.std.specs.IoError.{error_kind};
-ghost use Rattle.clap.specs.Words.{kind_of};
-ghost use Rattle.moc_program.specs.Statuses.{code_of, fault_text};
 ghost use Rattle.std.specs.String.{string_bytes};
+ghost use Rattle.clap.specs.Words.{kind_of};
 ghost use Rattle.moc_sphere.specs.Touching.{touching_cells};
-ghost use Rattle.moc_program.specs.Actions.{Does, Writes};
+ghost use Rattle.moc_program.specs.Actions.{Answers, Ends};
+ghost use Rattle.moc_program.specs.Asking.{AskFor};
 ghost use Rattle.moc_program.specs.Listing.{fault_list};
-ghost use Rattle.moc_program.specs.Numbers.{IsNumberFault, IsNumberLine, list_of};
-ghost use Rattle.moc_program.specs.Outcomes.{AreMistaken, AreRefused, AskForHelp, IsMistake, TellsFaultOf};
-ghost use Rattle.moc_program.specs.Private.NumberCells.{IsCellOf};
+ghost use Rattle.moc_program.specs.Numbers.{IsNumberFault, IsNumberLine, IsNumberRefusal, list_of};
+ghost use Rattle.moc_program.specs.Outcomes.{AreMistaken, AreRefused, AskForHelp, BlamesFailed, EndWith, IsMistake};
+ghost use Rattle.moc_program.specs.Outcomes.{TellsFaultOf};
+ghost use Rattle.moc_program.specs.Statuses.{code_of, fault_text};
 ghost use Rattle.moc_program.specs.Private.Ending.{end_of};
+ghost use Rattle.moc_program.specs.Private.Matches.{AreReadAs, MatchedEnd};
+ghost use Rattle.moc_program.specs.Private.NumberCells.{IsCellOf};
 ghost use Rattle.moc_program.specs.declared.action.Action.{Action};
 
 use crate::action::{Action, Number};
@@ -53,14 +55,18 @@ pub fn program<'a, T: Threads + Wait + Sync, S: AsStr, R: Source, W: Sink, E: Si
     ensures refused { result ≡ 2 → AreRefused (map S.text words.entry.now) }
     ensures mistaken { AreMistaken (map S.text words.entry.now) → (result ≡ 2) ⊎ (result ≡ 3) }
 
-    // At 0 help was asked for, or something that is asked for is done, and all that comes of it is written.
+    // At 0 help was asked for, or what the words ask for is done, and all that comes of it is written.
     ensures done { result ≡ 0 → AskForHelp (map S.text words.entry.now)
-        ⊎ ((action : Action) × Does action
-        (R.left input.old) (R.left input.new) (W.written output.old) (W.written output.new)) }
+        ⊎ ((action : Action) × AskFor (map S.text words.entry.now) action × Ends action
+        (R.left input.old) (R.left input.new) (W.written output.old) (W.written output.new) (Ok tt)) }
 
-    // At 1 and 3 a fault is told that ends so, unless that cannot be written.
+    // At 1 and 3 a fault is told that ends so, unless that cannot be written. It is one that what the words ask for
+    // gives on what was read, and a device that it blames has failed.
     ensures told { E.mark faults.old ≡ false → E.mark faults.new ≡ false → (result ≡ 1) ⊎ (result ≡ 3)
-        → TellsFaultOf result (E.written faults.old) (E.written faults.new) }
+        → TellsFaultOf result (λ fault. BlamesFailed (R.mark input.new) (W.mark output.new) fault
+        × EndWith (map S.text words.entry.now)
+        (R.left input.old) (R.left input.new) (W.written output.old) (W.written output.new) fault)
+        (E.written faults.old) (E.written faults.new) }
 
     // A device that failed ends with 3, and at 0 all that was written is flushed.
     ensures input { IsTrue (R.mark input.new) → result ≡ 3 }
@@ -88,6 +94,7 @@ pub fn refuse_words<E: Sink>(error: &io::Error, faults: &mut E) -> u8
 
 /// Reads the words.
 fn parse<'a, S: AsStr>(alloc: Global, words: &'a [S]) -> Result<ArgMatches<'a>, Error>
+    ensures read { IfOk result (AreReadAs (map S.text words.entry.now)) }
     ensures refused { IfErr result (λ e. IsMistake (kind_of e) → AreRefused (map S.text words.entry.now)) }
     ensures help { IfErr result (λ e. (kind_of e ≡ ErrorKind.DisplayHelp) ⊎ (kind_of e ≡ ErrorKind.DisplayVersion)
         → AskForHelp (map S.text words.entry.now)) }
@@ -129,7 +136,10 @@ fn explain<S: AsStr, W: Sink, E: Sink>(
         → (kind_of error.now ≡ ErrorKind.DisplayHelp) ⊎ (kind_of error.now ≡ ErrorKind.DisplayVersion) }
     ensures told { E.mark faults.old ≡ false → E.mark faults.new ≡ false
         → (code_of result ≡ 1) ⊎ (code_of result ≡ 3)
-        → TellsFaultOf (code_of result) (E.written faults.old) (E.written faults.new) }
+        → TellsFaultOf (code_of result) (λ fault. (fault ≡ Fault.Memory)
+        ⊎ ((fault ≡ Fault.Write) × IsTrue (W.mark output.new)
+        × ((kind_of error.now ≡ ErrorKind.DisplayHelp) ⊎ (kind_of error.now ≡ ErrorKind.DisplayVersion))))
+        (E.written faults.old) (E.written faults.new) }
 {
     if error.kind() == ErrorKind::OutOfMemory {
         return ended(Err(Fault::Memory), faults);
@@ -207,53 +217,62 @@ fn act<T: Threads + Wait + Sync, R: Source, W: Sink>(
     ensures input { IsTrue (R.mark input.new) → end_of result ≡ Status.Broken }
     ensures output { IsTrue (W.mark output.new) → end_of result ≡ Status.Broken }
     ensures flushed { OnOk result (IsTrue (W.flushed output.new)) }
-    ensures done { OnOk result ((action : Action) × Does action
-        (R.left input.old) (R.left input.new) (W.written output.old) (W.written output.new)) }
+    ensures ends { MatchedEnd matches.now (R.left input.old) (R.left input.new)
+        (W.written output.old) (W.written output.new) result }
+    ensures devices { IfErr result (BlamesFailed (R.mark input.new) (W.mark output.new)) }
 {
-    match Action::from_matches(matches) {
-        Some(Action::Run) => outcome_of(run(alloc, input, output)),
-        Some(Action::Play) => outcome_of(play(alloc, input, output)),
-        Some(Action::Crew(lanes)) => outcome_of(crew(rt, alloc, input, output, lanes, &OpenGate)),
-        Some(Action::Renumber(renumbering)) => {
-            outcome_of(renumber(alloc, input, output, renumbering))
-        }
-        Some(Action::Number(number)) => numbered(alloc, number, output),
-        Some(Action::Convert(from, to)) => {
-            answered(or_complaint(converted(alloc, from, to, input)), output)
-        }
-        Some(Action::Check(choice)) => {
+    let Some(action) = Action::from_matches(matches) else {
+        // `clap` requires the word and its values, so none is missing.
+        return Err(Fault::Memory);
+    };
+    perform(rt, alloc, action, input, output)
+}
+
+/// Does what is asked for.
+fn perform<T: Threads + Wait + Sync, R: Source, W: Sink>(
+    rt: &T,
+    alloc: Global,
+    action: Action,
+    input: &mut R,
+    output: &mut W,
+) -> Result<(), Fault>
+    requires input { R.mark input.old ≡ false }
+    requires output { W.mark output.old ≡ false }
+    ensures input { IsTrue (R.mark input.new) → end_of result ≡ Status.Broken }
+    ensures output { IsTrue (W.mark output.new) → end_of result ≡ Status.Broken }
+    ensures flushed { OnOk result (IsTrue (W.flushed output.new)) }
+    ensures ends { Ends action (R.left input.old) (R.left input.new)
+        (W.written output.old) (W.written output.new) result }
+    ensures devices { IfErr result (BlamesFailed (R.mark input.new) (W.mark output.new)) }
+{
+    match action {
+        Action::Run => outcome_of(run(alloc, input, output)),
+        Action::Play => outcome_of(play(alloc, input, output)),
+        Action::Crew(lanes) => outcome_of(crew(rt, alloc, input, output, lanes, &OpenGate)),
+        Action::Renumber(renumbering) => outcome_of(renumber(alloc, input, output, renumbering)),
+        Action::Number(number) => numbered(alloc, number, output),
+        Action::Convert(from, to) => answered(converted(alloc, from, to, input), output),
+        Action::Check(choice) => {
             checked(alloc, choice, input)?;
             printed("ok\n", output)
         }
-        Some(Action::Describe(choice)) => answered(described(alloc, choice, input), output),
-        Some(Action::Draw(choice)) => answered(drawn(alloc, choice, input), output),
-        Some(Action::Change(change, choice)) => answered(
-            changed(alloc, change, choice, input),
-            output,
-        ),
-        Some(Action::Combine(operation, choice)) => {
+        Action::Describe(choice) => answered(described(alloc, choice, input), output),
+        Action::Draw(choice) => answered(drawn(alloc, choice, input), output),
+        Action::Change(change, choice) => answered(changed(alloc, change, choice, input), output),
+        Action::Combine(operation, choice) => {
             answered(combined(alloc, operation, choice, input), output)
         }
-        Some(Action::Faults) => printed(listed(), output),
-        // `clap` requires the word and its values, so none is missing.
-        None => Err(Fault::Memory),
+        Action::Faults => printed(listed(), output),
     }
 }
 
 /// The outcome of a run, with the fault of the program.
 fn outcome_of(outcome: Result<(), RunError>) -> Result<(), Fault>
     ensures done { OnOk result (outcome ≡ Ok tt) }
+    ensures fault { IfErr result (λ fault. (error : RunError) × (fault ≡ Fault.Run error) × (outcome ≡ Err error)) }
     ensures device { IsErrOf outcome RunError.Read ⊎ IsErrOf outcome RunError.Write → end_of result ≡ Status.Broken }
 {
     Ok(outcome?)
-}
-
-/// A text, or a complaint of the fault for which it was not made.
-fn or_complaint(text: Result<String, InputFault>) -> Result<String, Complaint>
-    ensures text { IfOk result (λ t. text ≡ Ok t) }
-    ensures read { IsErrOf text InputFault.Read → IsErrAnd result (λ c. c.fault ≡ InputFault.Read) }
-{
-    Ok(text?)
 }
 
 /// Writes a text that was made of the input; else the fault is that of the complaint.
@@ -261,6 +280,8 @@ fn answered<W: Sink>(text: Result<String, Complaint>, output: &mut W) -> Result<
     requires { W.mark output.old ≡ false }
     ensures written { OnOk result (MatchResult text
         (λ t. Appends (W.written output.old) (W.written output.new) (string_bytes t)) (λ _. ⊥)) }
+    ensures fault { IfErr result (λ fault. ((fault ≡ Fault.Write) × IsTrue (W.mark output.new))
+        ⊎ ((c : Complaint) × (fault ≡ Fault.Input c) × (text ≡ Err c))) }
     ensures flushed { OnOk result (IsTrue (W.flushed output.new)) }
     ensures input { IsErrAnd text (λ c. c.fault ≡ InputFault.Read) → end_of result ≡ Status.Broken }
     ensures output { IsTrue (W.mark output.new) → end_of result ≡ Status.Broken }
@@ -279,8 +300,10 @@ fn listed() -> &'static str
 /// Writes the line of a converted number.
 fn numbered<W: Sink>(alloc: Global, number: Number, output: &mut W) -> Result<(), Fault>
     requires { W.mark output.old ≡ false }
-    ensures written { OnOk result (Writes (IsNumberLine number) (W.written output.old) (W.written output.new)) }
+    ensures ends { Answers (IsNumberLine number) (IsNumberRefusal number)
+        (W.written output.old) (W.written output.new) result }
     ensures flushed { OnOk result (IsTrue (W.flushed output.new)) }
+    ensures write { IsErrOf result Fault.Write → IsTrue (W.mark output.new) }
     ensures output { IsTrue (W.mark output.new) → end_of result ≡ Status.Broken }
 {
     let line = number_line(alloc, number)?;
@@ -290,8 +313,7 @@ fn numbered<W: Sink>(alloc: Global, number: Number, output: &mut W) -> Result<()
 /// The line of a converted number.
 fn number_line(alloc: Global, number: Number) -> Result<String, Fault>
     ensures line { IfOk result (λ text. IsNumberLine number (string_bytes text)) }
-    ensures fault { IfErr result (λ f. (f ≡ Fault.Memory) ⊎ ((error : CellError) × IsNumberFault number error
-        × (f ≡ Fault.Number error))) }
+    ensures fault { IfErr result (IsNumberRefusal number) }
 {
     let cell = cell_of(number)?;
     let text = match number {

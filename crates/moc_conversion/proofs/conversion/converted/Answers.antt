@@ -1,20 +1,28 @@
 use Rattle.std.proofs.Common.{◌≡◌, ◌⊎◌, ℕ, List, refl, subst}
-use Rattle.std.proofs.lemmas.Result.{IfOk-weaker}
 use Rattle.moc_forms.specs.Forms.{FormSays}
 use Rattle.moc_conversion.specs.Conversion.{IsTextFault}
 use Rattle.moc_conversion.specs.declared.fault.Fault.TheVariants.{Memory}
-use Rattle.moc_conversion.proofs.Checks.{handed_on, not_converted, not_read}
+use Rattle.moc_conversion.proofs.Checks.{not_read, not_written, told_alone}
 use Rattle.moc_conversion.proofs.conversion.converted.Goals as goal
 
 pub returns-in_err-set-clause-fault : goal.returns-in_err-set-clause-fault
 returns-in_err-set-clause-fault g c =
     let told = c.in_err-set.field-0.0 in
-    handed_on c.from_residual-in_err-set.result told _ c.from_residual-in_err-set.ensures.1
+    told_alone c.from_residual-in_err-set.result told c.args.from _ _ c.from_residual-in_err-set.ensures.1
     (not_read c.args.from _ _ c.in_ok-text.text.items told c.in_ok-text.ensures.whole
     (subst (λ (bytes : List ℕ). (told ≡ Memory) ⊎ IsTextFault c.args.from bytes told) c.deref.ensures.value c.in_err-set.ensures.fault))
 
+pub returns-in_err-text_of-clause-fault : goal.returns-in_err-text_of-clause-fault
+returns-in_err-text_of-clause-fault g c =
+    let told = c.in_err-text_of.field-0.0 in
+    told_alone c.from_residual-in_err-text_of.result told c.args.from _ _ c.from_residual-in_err-text_of.ensures.1
+    (not_written told c.args.from _ _ c.in_ok-text.text.items c.in_ok-set.set c.in_ok-set.deepest
+    c.in_ok-text.ensures.whole
+    (subst (λ (bytes : List ℕ). FormSays c.args.from bytes c.in_ok-set.set c.in_ok-set.deepest) c.deref.ensures.value c.in_ok-set.ensures.says)
+    c.in_err-text_of.ensures.fault)
+
 pub returns-clause-converts : goal.returns-clause-converts
-returns-clause-converts g c = IfOk-weaker c.text_of.result _ _ (λ t written. (
+returns-clause-converts g c = (
   (c.in_ok-set.set, c.in_ok-set.deepest, c.args.from),
   (
     c.in_ok-text.text.items,
@@ -24,12 +32,5 @@ returns-clause-converts g c = IfOk-weaker c.text_of.result _ _ (λ t written. (
       refl,
     ),
   ),
-  written,
-)) c.text_of.ensures.text
-
-pub returns-clause-fault : goal.returns-clause-fault
-returns-clause-fault g c =
-    not_converted c.text_of.result c.args.from _ _ c.in_ok-text.text.items c.in_ok-set.set c.in_ok-set.deepest
-    c.in_ok-text.ensures.whole
-    (subst (λ (bytes : List ℕ). FormSays c.args.from bytes c.in_ok-set.set c.in_ok-set.deepest) c.deref.ensures.value c.in_ok-set.ensures.says)
-    c.text_of.ensures.fault
+  c.in_ok-text_of.ensures.text,
+)

@@ -1,0 +1,64 @@
+-- What the words of the command line ask for.
+use Rattle.std.specs.Prelude.{◌≡◌, ℕ, List, codes, Some}
+use Rattle.clap.specs.Words.{App, Row, Text, first_of, one_of, subcommand_of}
+use Rattle.moc_sphere.specs.Names.{Spells}
+use Rattle.moc_forms.specs.Combining.{operation_name}
+use Rattle.moc_forms.specs.Finding.{choice_name}
+use Rattle.moc_forms.specs.Forms.{form_name}
+use Rattle.moc_forms.specs.declared.changing.Change.TheVariants.{Degrade, Complement}
+use Rattle.moc_lines.specs.Numberings.{numbering_name}
+use Rattle.moc_command_line.specs.CommandLine.{IsCommandLine}
+use Rattle.moc_program.specs.declared.action.Action.{Action}
+use Rattle.moc_program.specs.declared.action.Action.TheVariants.{Run, Play, Crew, Number, Renumber, Convert, Check}
+use Rattle.moc_program.specs.declared.action.Action.TheVariants.{Describe, Draw, Change, Combine, Faults}
+use Rattle.moc_program.specs.declared.action.Number.TheVariants.{Ring, Nest, Uniq, Cell, Near}
+
+-- the value of this name is a word
+abbrev pub HasWord : Text → List Row → Text → Type 0
+HasWord name values word = first_of name values ≡ Some word
+
+-- the value of this name spells a number
+abbrev pub HasNumber : Text → List Row → ℕ → Type 0
+HasNumber name values n = (text : Text) × (one_of name values ≡ Some text) × Spells text n
+
+-- a word asks for an action, by the values behind it
+abbrev pub Asks : Text → List Row → Action → Type 0
+Asks word values Run = word ≡ codes "run"
+Asks word values Play = word ≡ codes "play"
+Asks word values (Crew lanes) = (word ≡ codes "crew") × HasNumber (codes "N") values lanes.number
+Asks word values (Number (Ring order cell)) =
+    (word ≡ codes "ring") × HasNumber (codes "ORDER") values order × HasNumber (codes "CELL") values cell
+Asks word values (Number (Nest order ring)) =
+    (word ≡ codes "nest") × HasNumber (codes "ORDER") values order × HasNumber (codes "RING") values ring
+Asks word values (Number (Uniq order cell)) =
+    (word ≡ codes "uniq") × HasNumber (codes "ORDER") values order × HasNumber (codes "CELL") values cell
+Asks word values (Number (Cell uniq)) = (word ≡ codes "cell") × HasNumber (codes "UNIQ") values uniq
+Asks word values (Number (Near order cell)) =
+    (word ≡ codes "near") × HasNumber (codes "ORDER") values order × HasNumber (codes "CELL") values cell
+Asks word values (Renumber r) =
+    (word ≡ codes "renumber") × HasWord (codes "FROM") values (numbering_name r.from)
+    × HasWord (codes "TO") values (numbering_name r.to) × HasNumber (codes "ORDER") values r.order
+Asks word values (Convert from to) =
+    (word ≡ codes "convert") × HasWord (codes "FROM") values (form_name from)
+    × HasWord (codes "TO") values (form_name to)
+Asks word values (Check choice) = (word ≡ codes "check") × HasWord (codes "FORM") values (choice_name choice)
+Asks word values (Describe choice) = (word ≡ codes "describe") × HasWord (codes "FORM") values (choice_name choice)
+Asks word values (Draw choice) = (word ≡ codes "draw") × HasWord (codes "FORM") values (choice_name choice)
+Asks word values (Change (Degrade order) choice) =
+    (word ≡ codes "degrade") × HasNumber (codes "ORDER") values order
+    × HasWord (codes "FORM") values (choice_name choice)
+Asks word values (Change Complement choice) =
+    (word ≡ codes "complement") × HasWord (codes "FORM") values (choice_name choice)
+Asks word values (Combine operation choice) =
+    (word ≡ codes "combine") × HasWord (codes "OP") values (operation_name operation)
+    × HasWord (codes "FORM") values (choice_name choice)
+Asks word values Faults = word ≡ codes "faults"
+
+-- `clap` takes the words for a word of the program with values behind it, and these ask for an action
+pub record AskFor (words : List Text) (action : Action) : Type 0 where
+  pub app : App
+  pub line : IsCommandLine app
+  pub word : Text
+  pub values : List Row
+  pub are : subcommand_of app words ≡ Some (word, values)
+  pub asks : Asks word values action
