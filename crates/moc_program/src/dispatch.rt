@@ -24,7 +24,9 @@ use moc_command_line::{FAULTS, command_line, meant};
 use moc_conversion::{
     Complaint, Fault as InputFault, changed, checked, combined, converted, described, drawn,
 };
-use moc_script::{OpenGate, RunError, Sink, Source, crew, play, renumber, run, write_all};
+use moc_script::{
+    CrewError, OpenGate, RunError, Sink, Source, crew, play, renumber, run, write_all,
+};
 use moc_sphere::{Cell, CellError};
 use std::alloc::{AllocError, Global};
 use std::convert::AsStr;
@@ -213,7 +215,9 @@ fn act<T: Threads + Wait + Sync, R: Source, W: Sink>(
     match Action::from_matches(matches) {
         Some(Action::Run) => outcome_of(run(alloc, input, output)),
         Some(Action::Play) => outcome_of(play(alloc, input, output)),
-        Some(Action::Crew(lanes)) => outcome_of(crew(rt, alloc, input, output, lanes, &OpenGate)),
+        Some(Action::Crew(lanes)) => {
+            outcome_of_crew(crew(rt, alloc, input, output, lanes, &OpenGate))
+        }
         Some(Action::Renumber(renumbering)) => {
             outcome_of(renumber(alloc, input, output, renumbering))
         }
@@ -244,6 +248,15 @@ fn act<T: Threads + Wait + Sync, R: Source, W: Sink>(
 fn outcome_of(outcome: Result<(), RunError>) -> Result<(), Fault>
     ensures done { OnOk result (outcome ≡ Ok tt) }
     ensures device { IsErrOf outcome RunError.Read ⊎ IsErrOf outcome RunError.Write → end_of result ≡ Status.Broken }
+{
+    Ok(outcome?)
+}
+
+/// The outcome of a crew, with the fault of the program.
+fn outcome_of_crew(outcome: Result<(), CrewError>) -> Result<(), Fault>
+    ensures done { OnOk result (outcome ≡ Ok tt) }
+    ensures device { IsErrOf outcome (CrewError.Run RunError.Read) ⊎ IsErrOf outcome (CrewError.Run RunError.Write)
+        → end_of result ≡ Status.Broken }
 {
     Ok(outcome?)
 }
