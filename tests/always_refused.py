@@ -52,13 +52,13 @@ PLANTS = [
     ("moc_conversion", "conversion", "checked", "Err(Complaint::from(Fault::Memory))", "program_tests"),
     ("moc_conversion", "combination", "combined", "Err(Complaint::from(Fault::Memory))", "program_tests"),
     ("moc_lines", "language", "read_commands", "Err(ReadError::Memory)", "script_tests"),
-    ("moc_lines", "reading", "read_all", "Err(ReadFault::Memory { line: 0 })", "script_tests"),
+    ("moc_lines", "reading", "read_all", "Err(InputError::Memory { line: 0 })", "script_tests"),
     ("moc_lines", "runner", "answer_all_lines", "Err(RunError::Memory { line: 0 })", "script_tests"),
     ("moc_lines", "renumbering", "renumber", "Err(RunError::Memory { line: 0 })", "script_tests"),
     ("moc_lines", "script", "run", "Err(RunError::Memory { line: 0 })", "script_tests"),
     ("moc_script", "schedule", "play", "Err(RunError::Memory { line: 0 })", "script_tests"),
-    ("moc_script", "crews", "crew", "Err(RunError::Memory { line: 0 })", "script_tests"),
-    ("moc_script", "crews", "crew", "Err(RunError::Spawn)", "script_tests"),
+    ("moc_script", "crews", "crew", "Err(CrewError::Run(RunError::Memory { line: 0 }))", "script_tests"),
+    ("moc_script", "crews", "crew", "Err(CrewError::Spawn)", "script_tests"),
 ]
 
 

@@ -173,11 +173,9 @@ impl Outcome {
             LineFault::NoOrder => codes::LINE_NO_ORDER,
             LineFault::Backwards => codes::LINE_BACKWARDS,
             LineFault::Unfinished => codes::LINE_UNFINISHED,
-            LineFault::ClientTooLarge
-            | LineFault::PartTooLarge
-            | LineFault::NotUniq
-            | LineFault::RingTooLarge
-            | LineFault::OtherOrder => codes::LINE_OTHER,
+            LineFault::NotUniq | LineFault::RingTooLarge | LineFault::OtherOrder => {
+                codes::LINE_OTHER
+            }
         };
         Outcome::new(code, 0, 0)
     }

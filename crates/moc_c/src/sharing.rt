@@ -12,7 +12,7 @@ use crate::seat::Seat;
 use crate::shelf::Shelf;
 use crate::sitter::Sitter;
 use crate::texts::fill_text;
-use moc_lines::{ReadError, answer_text, read_line};
+use moc_lines::{ReadError, answer_text, read_batch};
 use moc_ranges::Memory;
 use std::alloc::Global;
 
@@ -87,7 +87,7 @@ impl Sitter {
         let Some(member) = &mut self.member else {
             return Outcome::of(Fault::NoMap);
         };
-        let batch = match read_line(alloc, line) {
+        let batch = match read_batch(alloc, line) {
             Ok(batch) => batch,
             Err(ReadError::Fault(fault)) => return Outcome::of(Fault::Line(fault)),
             Err(ReadError::Memory) => return Outcome::of(Fault::Memory),

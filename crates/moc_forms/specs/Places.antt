@@ -86,11 +86,11 @@ quote_behind (Some quote) = codes ": " ++ quote
 
 -- the line that says where a fault is: the number of the text, where texts are counted, the place in it, if there is
 -- one, and what stands there, if it is quoted
-abbrev pub line_of : Option ℕ → Option Place → Option (List ℕ) → Option (List ℕ)
-line_of None None quote = None
-line_of None (Some place) quote = Some (place_text place ++ quote_behind quote ++ 10 ∷ [])
-line_of (Some number) None quote = Some ((codes "text " ++ decimal number) ++ 10 ∷ [])
-line_of (Some number) (Some place) quote =
+abbrev pub line_of_place : Option ℕ → Option Place → Option (List ℕ) → Option (List ℕ)
+line_of_place None None quote = None
+line_of_place None (Some place) quote = Some (place_text place ++ quote_behind quote ++ 10 ∷ [])
+line_of_place (Some number) None quote = Some ((codes "text " ++ decimal number) ++ 10 ∷ [])
+line_of_place (Some number) (Some place) quote =
     Some ((codes "text " ++ decimal number) ++ codes ", " ++ place_text place ++ quote_behind quote ++ 10 ∷ [])
 
 -- the bytes of a line, if there is one

@@ -7,7 +7,7 @@ use Rattle.moc_text.specs.JsonForm.{HasItem, HasName}
 use Rattle.moc_text.specs.Lines.{is_line_feed}
 use Rattle.moc_text.specs.declared.json_form.error.JsonError.{JsonError}
 use Rattle.moc_text.specs.declared.json_form.error.JsonError.TheVariants as json
-use Rattle.moc_forms.specs.Places.{fault_byte, fault_line, line_of}
+use Rattle.moc_forms.specs.Places.{fault_byte, fault_line, line_of_place}
 use Rattle.moc_forms.specs.declared.form.FormError.{FormError}
 use Rattle.moc_forms.specs.declared.form.FormError.TheVariants as error
 use Rattle.moc_forms.specs.declared.place.Place.{Place}
@@ -70,4 +70,4 @@ IsQuote bytes e quote = (piece : Option (List ℕ)) × IsPiece bytes e piece × 
 -- the line that says where this fault is, which stands at this place, and quotes what stands there
 abbrev pub IsTold : Option ℕ → List ℕ → FormError → Option Place → Option (List ℕ) → Type 0
 IsTold number bytes e place line =
-    (quote : Option (List ℕ)) × IsQuote bytes e quote × (line ≡ line_of number place quote)
+    (quote : Option (List ℕ)) × IsQuote bytes e quote × (line ≡ line_of_place number place quote)

@@ -11,7 +11,7 @@ use Rattle.moc_devices.specs.Devices.{Sends}
 use Rattle.moc_lines.specs.Runs.{AreWithin, IsWritten, Runs, Begins}
 use Rattle.moc_lines.specs.Private.Ended.{Ended, text_at}
 use Rattle.moc_lines.specs.declared.run_error.RunError.{RunError}
-use Rattle.moc_lines.specs.declared.run_error.RunError.TheVariants.{Read, Write, LineTooLong, Memory, Spawn}
+use Rattle.moc_lines.specs.declared.run_error.RunError.TheVariants.{Read, Write, LineTooLong, Memory}
 use Rattle.moc_lines.proofs.Progress.{at_end}
 use Rattle.moc_lines.proofs.Outcomes.{at_ok}
 use Rattle.std.specs.Result.{is_err, OnOk}
@@ -99,7 +99,6 @@ module _ {S : Type 0} (limit : ℕ) (rules : Rules S) where
   said_is s a b w v pending (Err Read) other e = e.text
   said_is s a b w v pending (Err (LineTooLong line)) other e = e.text
   said_is s a b w v pending (Err (Memory line)) other e = e.text
-  said_is s a b w v pending (Err Spawn) other e = e.text
 
   -- at the reader's end all was given
   all_given : (input given : List ℕ) (b : Option (List ℕ)) → Consumes (Some input) b given → IsAtEnd b → given ≡ input
@@ -152,7 +151,6 @@ module _ {S : Type 0} (limit : ℕ) (rules : Rules S) where
     subst (AreWithin limit) e.ends.1 e.within,
     ap (answers_to rules s) e.ends.1,
   )
-  written s input b w v pending (Err Spawn) other e = absurd e.ends
 
   -- all is written
   pub Runs-sent : {E : Type 0} (s : S) (a b w v u x : Option (List ℕ)) (pending pending' : List ℕ) (r : Result (Unit {0}) RunError) (sends : Result (Unit {0}) E) → (r ≡ Err Write → ⊥)

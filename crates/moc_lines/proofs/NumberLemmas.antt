@@ -12,7 +12,7 @@ use Rattle.std.proofs.lemmas.List.{take_all, drop_all}
 use Rattle.std.proofs.lemmas.Str.{digit_value_digit}
 use Rattle.std.proofs.Math.Nat.{pow-le-pow_right}
 use Rattle.std.proofs.lemmas.Nat.{pow-add}
-use Rattle.moc_lines.specs.Words.{number_of, is_blank_byte, word_of, behind_word, without_blanks}
+use Rattle.moc_lines.specs.Words.{number_of, is_line_blank, word_of, behind_word, without_blanks}
 
 both : (a b : Bool) → a && b ≡ true → (a ≡ true) × (b ≡ true)
 both true b h = (refl, h)
@@ -68,13 +68,13 @@ short-more field i value inside digit is small =
     )
 
 -- a digit is no blank
-digit-no-blank : (d : ℕ) → is_ascii_digit d ≡ true → is_blank_byte d ≡ false
+digit-no-blank : (d : ℕ) → is_ascii_digit d ≡ true → is_line_blank d ≡ false
 digit-no-blank d digit =
     let range : (48 ≤ d) × (d ≤ 57) = is_digit d digit in
     grind (arith, nat_tests, range)
 
 -- digits have no blank
-digits-no-blank : (line : List ℕ) → list_all is_ascii_digit line ≡ true → position_or_len is_blank_byte line ≡ length line
+digits-no-blank : (line : List ℕ) → list_all is_ascii_digit line ≡ true → position_or_len is_line_blank line ≡ length line
 digits-no-blank [] all = refl
 digits-no-blank (x ∷ line) all =
     let parts = both (is_ascii_digit x) (list_all is_ascii_digit line) all in
@@ -88,7 +88,7 @@ word-plain (x ∷ line) some all =
     let other = digit-no-blank x parts.0 in
     let front : without_blanks (x ∷ line) ≡ x ∷ line = rw other refl in
     let word : word_of (x ∷ line) ≡ x ∷ line =
-    ap (before_first is_blank_byte) front ∙ take_all (position_or_len is_blank_byte (x ∷ line)) (x ∷ line) (omega (arith, digits-no-blank (x ∷ line) all)) in
+    ap (before_first is_line_blank) front ∙ take_all (position_or_len is_line_blank (x ∷ line)) (x ∷ line) (omega (arith, digits-no-blank (x ∷ line) all)) in
     (word, ap (λ w. drop (length w) (without_blanks (x ∷ line))) word ∙ ap (drop (length (x ∷ line))) front ∙ drop_all (length (x ∷ line)) (x ∷ line) (omega arith))
 
 -- a field that spells a number is digits alone

@@ -9,10 +9,7 @@ use Rattle.moc_lines.specs.Private.Held.{IsUnbroken}
 use Rattle.moc_lines.specs.Runs.{AreWithin, IsTooLong, IsBegun}
 use Rattle.std.specs.Io.KnownBytes.{Consumes}
 use Rattle.std.proofs.KnownBytes.{Consumes-trans}
-use Rattle.moc_lines.specs.Inputs.{ReadFails}
-use Rattle.moc_lines.specs.Private.Input.{IsHeld, IsBehindLast, fails_on}
-use Rattle.moc_lines.specs.declared.reading.ReadFault.{ReadFault}
-use Rattle.moc_lines.specs.declared.reading.ReadFault.TheVariants as fault
+use Rattle.moc_lines.specs.Private.Input.{IsHeld, IsBehindLast}
 use Rattle.moc_lines.proofs.LineLemmas.{not_true, count-append, count-cons, some-lines, lines_of-line, lines_of-last, lines_of-long, IsUnbroken-before_first, split_at_line_feed, before_first-none}
 
 -- what holds of the elements of two lists
@@ -239,12 +236,6 @@ some_line_feed bytes found =
     let before = before_first is_line_feed bytes in
     let after = after_first is_line_feed bytes in
     omega (arith, ap (count_by is_line_feed) (split_at_line_feed bytes found), count-append before (10 ∷ after), count-cons 10 after)
-
--- a fault of the lines that were given is one of a reader that gave them
-pub reads_fail : (a b : Option (List ℕ)) (given : List ℕ) (e : ReadFault) → Consumes a b given → fails_on given e → ReadFails a b e
-reads_fail a b given fault.Read consumed fails = tt
-reads_fail a b given (fault.TooLong line) consumed fails = (given, consumed, fails)
-reads_fail a b given (fault.Memory line) consumed fails = (given, consumed, fails)
 
 -- more was given
 pub given_more : (a b c : Option (List ℕ)) (bytes chunk bytes' : List ℕ) → Consumes a b bytes → Consumes b c chunk → bytes' ≡ bytes ++ chunk → Consumes a c bytes'

@@ -5,7 +5,7 @@ use Rattle.moc_ranges.specs.Numbers.{NumberSet}
 use Rattle.moc_parts.specs.Batches.{replies_on, set_after_all}
 use Rattle.moc_parts.specs.declared.command.Command.{Command}
 use Rattle.moc_lines.specs.Words.{is_blank}
-use Rattle.moc_lines.specs.Faults.{fault_line}
+use Rattle.moc_lines.specs.Faults.{fault_answer}
 use Rattle.moc_lines.specs.Replies.{replies_text}
 use Rattle.moc_lines.specs.declared.fault.Fault.{Fault}
 use Rattle.moc_lines.specs.declared.fault.Fault.TheVariants.{EmptyCommand, TooManyCommands}
@@ -34,7 +34,7 @@ commands_in (Several commands) = commands
 -- the answer to what a line says
 abbrev pub answer_to : NumberSet → Result (List Command) Fault → List ℕ
 answer_to a (Ok commands) = replies_text (replies_on a commands) ++ 10 ∷ []
-answer_to a (Err fault) = fault_line fault
+answer_to a (Err fault) = fault_answer fault
 
 -- what it leaves: a fault changes nothing
 abbrev pub after_batch : NumberSet → Result (List Command) Fault → NumberSet

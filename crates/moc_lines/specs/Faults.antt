@@ -2,9 +2,8 @@
 use Rattle.std.specs.Prelude.{ℕ, List, [], ◌∷◌, ◌++◌, codes}
 use Rattle.moc_lines.specs.declared.fault.Fault.{Fault}
 use Rattle.moc_lines.specs.declared.fault.Fault.TheVariants.{UnknownWord, EmptyCommand, TooManyCommands, WrongCount}
-use Rattle.moc_lines.specs.declared.fault.Fault.TheVariants.{BadNumber, OrderTooLarge, CellTooLarge, ClientTooLarge}
-use Rattle.moc_lines.specs.declared.fault.Fault.TheVariants.{PartTooLarge, BadByte, NoOrder, Backwards, Unfinished}
-use Rattle.moc_lines.specs.declared.fault.Fault.TheVariants.{NotUniq, RingTooLarge, OtherOrder}
+use Rattle.moc_lines.specs.declared.fault.Fault.TheVariants.{BadNumber, OrderTooLarge, CellTooLarge, BadByte, NoOrder}
+use Rattle.moc_lines.specs.declared.fault.Fault.TheVariants.{Backwards, Unfinished, NotUniq, RingTooLarge, OtherOrder}
 
 -- the name of a fault, as an answer gives it
 abbrev pub name_of : Fault → List ℕ
@@ -15,8 +14,6 @@ name_of WrongCount = codes "WrongCount"
 name_of BadNumber = codes "BadNumber"
 name_of OrderTooLarge = codes "OrderTooLarge"
 name_of CellTooLarge = codes "CellTooLarge"
-name_of ClientTooLarge = codes "ClientTooLarge"
-name_of PartTooLarge = codes "PartTooLarge"
 name_of BadByte = codes "BadByte"
 name_of NoOrder = codes "NoOrder"
 name_of Backwards = codes "Backwards"
@@ -26,5 +23,5 @@ name_of RingTooLarge = codes "RingTooLarge"
 name_of OtherOrder = codes "OtherOrder"
 
 -- the answer to a bad line
-abbrev pub fault_line : Fault → List ℕ
-fault_line fault = codes "fault " ++ name_of fault ++ 10 ∷ []
+abbrev pub fault_answer : Fault → List ℕ
+fault_answer fault = codes "fault " ++ name_of fault ++ 10 ∷ []

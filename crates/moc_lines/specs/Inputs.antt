@@ -4,16 +4,15 @@ use Rattle.std.specs.Io.KnownBytes.{Consumes, IsAtEnd}
 use Rattle.moc_text.specs.Lines.{lines_of}
 use Rattle.moc_lines.specs.Runs.{AreWithin, IsTooLong, IsBegun}
 use Rattle.moc_lines.specs.Scripts.{line_limit}
-use Rattle.moc_lines.specs.declared.reading.ReadFault.{ReadFault}
-use Rattle.moc_lines.specs.declared.reading.ReadFault.TheVariants.{Read, TooLong, Memory}
+use Rattle.moc_lines.specs.declared.reading.InputError.{InputError}
+use Rattle.moc_lines.specs.declared.reading.InputError.TheVariants.{Read, TooLong, Memory}
 
--- all was read
+-- all was read, and no line of it has more bytes than the limit
 abbrev pub ReadsAll : Option (List ℕ) → Option (List ℕ) → List ℕ → Type 0
 ReadsAll left left' input = Consumes left left' input × IsAtEnd left' × AreWithin line_limit (lines_of input)
 
--- the line that is told, of what was given by a reader, is over the limit, or is one that was begun
-abbrev pub ReadFails : Option (List ℕ) → Option (List ℕ) → ReadFault → Type 0
-ReadFails left left' Read = Unit {0}
-ReadFails left left' (TooLong line) =
-    (given : List ℕ) × Consumes left left' given × IsTooLong line_limit (lines_of given) line
-ReadFails left left' (Memory line) = (given : List ℕ) × Consumes left left' given × IsBegun line given
+-- the line that is told, of what was given, is over the limit, or is one that was begun
+abbrev pub FailsOn : List ℕ → InputError → Type 0
+FailsOn given Read = Unit {0}
+FailsOn given (TooLong line) = IsTooLong line_limit (lines_of given) line
+FailsOn given (Memory line) = IsBegun line given

@@ -1,6 +1,7 @@
 -- The command language: what a piece of a line says.
-use Rattle.std.specs.Prelude.{ℕ, ◌==◌, nat_lt, List, [], ◌∷◌, codes, Option, Some, None, Result, Ok, Err, if◌then◌else◌}
+use Rattle.std.specs.Prelude.{ℕ, ◌==◌, nat_lt, List, [], ◌∷◌, codes, Some, None, Result, Ok, Err, if◌then◌else◌}
 use Rattle.std.specs.Option.{ok_or}
+use Rattle.std.specs.Result.{result_map_both}
 use Rattle.std.specs.Str.{bytes_eq}
 use Rattle.moc_sphere.specs.CellNumber.{cell_count, cell_number}
 use Rattle.moc_ranges.specs.Numbers.{NumberSet}
@@ -18,7 +19,7 @@ use Rattle.moc_lines.specs.declared.fault.Fault.TheVariants.{CellTooLarge, BadBy
 
 infixl 10 ◌>>=◌
 -- what follows, or the fault that came first
-abbrev pub ◌>>=◌ : {A B : Type 0} → Result A Fault → (A → Result B Fault) → Result B Fault
+abbrev pub ◌>>=◌ : {A B F : Type 0} → Result A F → (A → Result B F) → Result B F
 (Ok x) >>= f = f x
 (Err fault) >>= f = Err fault
 
@@ -46,14 +47,9 @@ fault_without_place (text.Unfinished at) = Unfinished
 fault_without_place text.Memory = Unfinished
 fault_without_place text.TooCoarse = Unfinished
 
--- the set that was read, or the fault without its place
-abbrev pub coverage_or_fault : Result (NumberSet × Option ℕ) TextError → Result NumberSet Fault
-coverage_or_fault (Ok read) = Ok read.0
-coverage_or_fault (Err error) = Err (fault_without_place error)
-
--- the set that a text says in the ASCII form of MOC 2.0
+-- the set that a text says in the ASCII form of MOC 2.0, or the fault without its place
 abbrev pub coverage_of : List ℕ → Result NumberSet Fault
-coverage_of text = coverage_or_fault (reading_of text)
+coverage_of text = result_map_both (λ read. read.0) fault_without_place (reading_of text)
 
 -- the order that a field names: a number of 0 to 29
 abbrev pub order_of : List ℕ → Result ℕ Fault

@@ -1,19 +1,18 @@
 -- The numberings of the cells of an order, HEALPix's numbering schemes and NUNIQ, and numbers told in another one.
-use Rattle.std.specs.Prelude.{ℕ, ◌==◌, List, [], ◌∷◌, ◌++◌, codes, decimal, Option}
-use Rattle.std.specs.Prelude.{Result, Ok, Err, if◌then◌else◌}
+use Rattle.std.specs.Prelude.{ℕ, ◌==◌, List, [], ◌∷◌, ◌++◌, codes, decimal, Option, Result, Ok, Err, if◌then◌else◌}
 use Rattle.std.specs.List.{find, range_with_len}
 use Rattle.std.specs.Option.{ok_or}
 use Rattle.moc_sphere.specs.CellNumber.{cell_count, cell_number, is_uniq, uniq_of}
 use Rattle.moc_sphere.specs.Rings.{ring_number}
 use Rattle.moc_lines.specs.Words.{is_blank, word_of, behind_word, number_of}
 use Rattle.moc_lines.specs.Language.{◌>>=◌}
-use Rattle.moc_lines.specs.Faults.{fault_line}
+use Rattle.moc_lines.specs.Faults.{fault_answer}
 use Rattle.moc_lines.specs.Answers.{Rules, script_text}
 use Rattle.moc_lines.specs.Scripts.{line_limit}
-use Rattle.moc_lines.specs.Runs.{Runs, Begins}
+use Rattle.moc_lines.specs.Runs.{Runs}
 use Rattle.moc_lines.specs.declared.fault.Fault.{Fault}
-use Rattle.moc_lines.specs.declared.fault.Fault.TheVariants.{WrongCount, BadNumber, CellTooLarge, NotUniq}
-use Rattle.moc_lines.specs.declared.fault.Fault.TheVariants.{RingTooLarge, OtherOrder}
+use Rattle.moc_lines.specs.declared.fault.Fault.TheVariants.{WrongCount, BadNumber, CellTooLarge, NotUniq, RingTooLarge}
+use Rattle.moc_lines.specs.declared.fault.Fault.TheVariants.{OtherOrder}
 use Rattle.moc_lines.specs.declared.numbering.Numbering.{Numbering}
 use Rattle.moc_lines.specs.declared.numbering.Numbering.TheVariants.{Nest, Ring, Uniq}
 use Rattle.moc_lines.specs.declared.renumbering.Renumbering.{Renumbering}
@@ -59,7 +58,7 @@ renumbered r line = do
 -- a number, or the fault, as a line
 abbrev pub number_line : Result ℕ Fault → List ℕ
 number_line (Ok n) = decimal n ++ 10 ∷ []
-number_line (Err fault) = fault_line fault
+number_line (Err fault) = fault_answer fault
 
 -- how lines of numbers are answered; blank ones have no answer, and nothing is said behind the last
 abbrev pub renumber_rules : Rules Renumbering
@@ -78,7 +77,3 @@ module _ (r : Renumbering) where
   abbrev pub RunsNumbers : List ℕ → Option (List ℕ) → Option (List ℕ) → Option (List ℕ) → Result (Unit {0}) RunError
       → Type 0
   RunsNumbers input left written written' result = Runs line_limit renumber_rules r input left written written' result
-
-  -- what was written is a beginning of the answers to the input
-  abbrev pub BeginsNumbers : List ℕ → Option (List ℕ) → Option (List ℕ) → Type 0
-  BeginsNumbers input written written' = Begins line_limit renumber_rules r input written written'

@@ -1,8 +1,5 @@
 -- What a reader of lines returns.
-use Rattle.std.specs.Prelude.{◌≡◌, ℕ, List, Result, Ok, Err}
-use Rattle.moc_parts.specs.declared.command.Command.{Command}
-use Rattle.moc_lines.specs.Batches.{batch_of}
-use Rattle.moc_lines.specs.Language.{command_of}
+use Rattle.std.specs.Prelude.{◌≡◌, Result, Ok, Err}
 use Rattle.moc_lines.specs.declared.fault.Fault.{Fault}
 use Rattle.moc_lines.specs.declared.fault.ReadError.{ReadError}
 use Rattle.moc_lines.specs.declared.fault.ReadError.TheVariants as error
@@ -12,7 +9,3 @@ abbrev pub Reads : {X Y : Type 0} → (X → Y) → Result X ReadError → Resul
 Reads view (Ok x) says = says ≡ Ok (view x)
 Reads view (Err (error.Fault fault)) says = says ≡ Err fault
 Reads view (Err error.Memory) says = Unit {0}
-
--- the batch is what the line says, and the fault is the line's, unless memory ran out
-abbrev pub ReadsLine : List ℕ → Result (List Command) ReadError → Type 0
-ReadsLine line result = Reads (λ commands. commands) result (batch_of command_of line)

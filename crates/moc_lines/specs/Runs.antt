@@ -8,7 +8,7 @@ use Rattle.moc_lines.specs.Lines.{whole_lines_of}
 use Rattle.moc_devices.specs.Devices.{CallsMore}
 use Rattle.moc_lines.specs.Answers.{Rules, answers_to, closing_behind, script_text}
 use Rattle.moc_lines.specs.declared.run_error.RunError.{RunError}
-use Rattle.moc_lines.specs.declared.run_error.RunError.TheVariants.{Read, Write, LineTooLong, Memory, Spawn}
+use Rattle.moc_lines.specs.declared.run_error.RunError.TheVariants.{Read, Write, LineTooLong, Memory}
 
 -- no line is over the limit
 abbrev pub AreWithin : ℕ → List (List ℕ) → Type 0
@@ -56,7 +56,6 @@ module _ {S : Type 0} (limit : ℕ) (rules : Rules S) (s : S) where
   IsWritten input given (Err (Memory line)) text =
       (IsBegun line given ⊎ ((given ≡ input) × IsUnclosed line given (closing_behind rules s (lines_of given))))
       × AreWithin limit (lines_before line given) × (text ≡ answers_to rules s (lines_before line given))
-  IsWritten input given (Err Spawn) text = ⊥
 
   -- of its input a run was given a front, and it wrote what its outcome names
   pub record Runs (input : List ℕ) (left written written' : Option (List ℕ)) (result : Result (Unit {0}) RunError)

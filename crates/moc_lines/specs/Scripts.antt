@@ -5,24 +5,16 @@ use Rattle.moc_ranges.specs.Numbers.{NumberSet}
 use Rattle.moc_lines.specs.Language.{command_of}
 use Rattle.moc_lines.specs.Batches.{line_answer, after_line}
 use Rattle.moc_lines.specs.Answers.{Rules, script_text}
-use Rattle.moc_lines.specs.Runs.{Runs, Begins}
+use Rattle.moc_lines.specs.Runs.{Runs}
 use Rattle.moc_lines.specs.declared.run_error.RunError.{RunError}
 
 -- the most bytes of a line
 abbrev pub line_limit : ℕ
 line_limit = 1048576
 
--- the answer to a line on a set, with its line feed
-abbrev pub answer_on : NumberSet → List ℕ → List ℕ
-answer_on = line_answer command_of
-
--- what a line leaves of a set
-abbrev pub set_after_line : NumberSet → List ℕ → NumberSet
-set_after_line = after_line command_of
-
 -- how the lines of a script are answered; nothing is said behind the last
 abbrev pub script_rules : Rules NumberSet
-script_rules = record { answer = answer_on; after = set_after_line; closing = λ _. [] }
+script_rules = record { answer = line_answer command_of; after = after_line command_of; closing = λ _. [] }
 
 -- the text that a script is answered with, by a set that starts empty
 abbrev pub answers_of : List ℕ → List ℕ
@@ -33,7 +25,3 @@ abbrev pub RunsScript : List ℕ → Option (List ℕ) → Option (List ℕ) →
     → Type 0
 RunsScript input left written written' result =
     Runs line_limit script_rules set.empty input left written written' result
-
--- what was written is a beginning of the answers to the input
-abbrev pub BeginsAnswers : List ℕ → Option (List ℕ) → Option (List ℕ) → Type 0
-BeginsAnswers input written written' = Begins line_limit script_rules set.empty input written written'

@@ -5,20 +5,20 @@ use Rattle.std.specs.Char.{is_ascii_digit}
 use Rattle.std.specs.Str.Parse.{digits_value}
 
 -- space, tab or CR
-abbrev pub is_blank_byte : ℕ → Bool
-is_blank_byte b = b == 32 || b == 9 || b == 13
+abbrev pub is_line_blank : ℕ → Bool
+is_line_blank b = b == 32 || b == 9 || b == 13
 
 -- nothing, or blanks alone
 abbrev pub is_blank : List ℕ → Bool
-is_blank bytes = list_all is_blank_byte bytes
+is_blank bytes = list_all is_line_blank bytes
 
 -- a text without the blanks at its front
 abbrev pub without_blanks : List ℕ → List ℕ
-without_blanks text = drop (prefix_len is_blank_byte text) text
+without_blanks text = drop (prefix_len is_line_blank text) text
 
 -- the first word of a text: from the first byte that is no blank to the next blank
 abbrev pub word_of : List ℕ → List ℕ
-word_of text = before_first is_blank_byte (without_blanks text)
+word_of text = before_first is_line_blank (without_blanks text)
 
 -- what stands behind the first word
 abbrev pub behind_word : List ℕ → List ℕ

@@ -1,6 +1,6 @@
 //! What is wrong with a line.
 ghost use Rattle.std.specs.Prelude.{◌≡◌, ◌++◌, OnOk};
-ghost use Rattle.moc_lines.specs.Faults.{fault_line, name_of};
+ghost use Rattle.moc_lines.specs.Faults.{fault_answer, name_of};
 ghost use Rattle.moc_lines.specs.Private.ReadErrors.{error_of_text};
 ghost use Rattle.moc_lines.specs.declared.fault.ReadError.TheVariants.{Memory};
 
@@ -33,12 +33,6 @@ pub enum Fault {
     /// A number that no cell of the order has.
     #[error("no cell of the order has that number")]
     CellTooLarge,
-    /// A client's number that has more than 32 bits.
-    #[error("a client above 4294967295")]
-    ClientTooLarge,
-    /// A part above 11.
-    #[error("a part above 11")]
-    PartTooLarge,
     /// A byte that no word of a coverage has there.
     #[error("a byte that no word of a coverage has there")]
     BadByte,
@@ -75,8 +69,6 @@ impl Fault {
             Fault::BadNumber => "BadNumber",
             Fault::OrderTooLarge => "OrderTooLarge",
             Fault::CellTooLarge => "CellTooLarge",
-            Fault::ClientTooLarge => "ClientTooLarge",
-            Fault::PartTooLarge => "PartTooLarge",
             Fault::BadByte => "BadByte",
             Fault::NoOrder => "NoOrder",
             Fault::Backwards => "Backwards",
@@ -90,7 +82,7 @@ impl Fault {
 
 /// Adds the answer to a bad line, `fault NAME` and a line feed. Refused where memory runs out.
 pub fn push_fault(fault: Fault, text: &mut Vec<u8>) -> Result<(), Memory>
-    ensures { OnOk result (text.new.items ≡ text.old.items ++ fault_line fault) }
+    ensures { OnOk result (text.new.items ≡ text.old.items ++ fault_answer fault) }
 {
     text.extend_from_slice(b"fault ")?;
     text.extend_from_slice(fault.name().as_bytes())?;

@@ -21,13 +21,13 @@ mod words;
 
 pub use fault::{Fault, ReadError, push_fault};
 pub use fields::{only_field, two_fields};
-pub use language::{Commands, answer_text, read_commands, read_line};
+pub use language::{Commands, answer_text, read_batch, read_commands};
 pub use line_reader::LINE_LIMIT;
 pub use moc_devices::{DeviceFault, OverReader, OverWriter, Sink, Source, write_all};
 pub use numbering::{NameError, Numbering};
-pub use reading::{ReadFault, line_behind, read_all, split_line};
+pub use reading::{InputError, number_behind_last, read_all, split_line};
 pub use renumbering::{Renumbering, renumber};
-pub use reply_text::{push_count, push_cover, push_reply_line, push_words};
+pub use reply_text::{push_count, push_cover, push_reply_line};
 pub use responder::Responder;
 pub use run_error::RunError;
 pub use runner::answer_all_lines;

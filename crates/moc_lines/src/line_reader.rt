@@ -18,7 +18,7 @@ const CHUNK: usize = 65_536;
 
 /// What stands at the front of the bytes to come.
 #[derive(Clone, Copy)]
-pub enum Found {
+pub(crate) enum Found {
     /// A line that a line feed ends.
     Line,
     /// A line that the reader's end ends.
@@ -29,7 +29,7 @@ pub enum Found {
 
 /// Why there is no line.
 #[derive(Clone, Copy)]
-pub enum LineFault {
+pub(crate) enum LineFault {
     Read,
     TooLong,
     Memory,
@@ -37,7 +37,7 @@ pub enum LineFault {
 
 /// The bytes that were read and not yet taken, and the line that was taken last.
 #[derive(Drop)]
-pub struct LineReader {
+pub(crate) struct LineReader {
     chunk: Vec<u8>,
     start: usize,
     end: usize,
@@ -63,7 +63,7 @@ impl Model for LineReader {
 impl LineReader {
     ghost use Rattle.moc_lines.specs.Private.LineReading.{Brings, TakesLine, holds_line};
 
-    pub fn new(alloc: Global) -> Result<LineReader, AllocError>
+    pub(crate) fn new(alloc: Global) -> Result<LineReader, AllocError>
         ensures { IfOk result (λ r. r.unread ≡ []) }
     {
         Ok(LineReader {
@@ -76,14 +76,14 @@ impl LineReader {
     }
 
     /// The line that was taken last.
-    pub fn line(&self) -> &[u8]
+    pub(crate) fn line(&self) -> &[u8]
         ensures { result.now ≡ self.now.line }
     {
         &self.line
     }
 
     /// Whether a whole line is at hand.
-    pub fn holds_line(&self) -> bool
+    pub(crate) fn holds_line(&self) -> bool
         ensures { result ≡ holds_line self.now.unread }
     {
         self.ahead < self.end - self.start
@@ -138,7 +138,7 @@ impl LineReader {
     }
 
     /// Takes the next line.
-    pub fn next_line<R: Source>(&mut self, reader: &mut R) -> Result<Found, LineFault>
+    pub(crate) fn next_line<R: Source>(&mut self, reader: &mut R) -> Result<Found, LineFault>
         ensures takes { TakesLine LINE_LIMIT self.old (R.left reader.old) self.new (R.left reader.new) result }
         ensures read { result ≡ Err LineFault.Read → IsTrue (R.mark reader.new) }
         ensures unmarked { result ≢ Err LineFault.Read → R.mark reader.new ≡ R.mark reader.old }

@@ -1,10 +1,11 @@
 //! A script that is read whole.
-ghost use Rattle.std.specs.Prelude.{◌≡◌, ◌≢◌, ◌<◌, ◌≤◌, ◌+◌, ◌++◌, ◌∷◌, ◌↔◌, [], false, length};
-ghost use Rattle.std.specs.Prelude.{IfOk, IfErr, OnOk, IsErrOf, Err, IsTrue};
+ghost use Rattle.std.specs.Prelude.{◌≡◌, ◌≢◌, ◌<◌, ◌≤◌, ◌+◌, ◌++◌, ◌∷◌, ◌↔◌, [], false, length, IfOk, IfErr, OnOk};
+ghost use Rattle.std.specs.Prelude.{IsErrOf, Err, IsTrue, List, ℕ};
 ghost use Rattle.std.specs.List.{count_by};
+ghost use Rattle.std.specs.Io.KnownBytes.{Consumes};
 ghost use Rattle.moc_text.specs.Lines.{is_line_feed, lines_of};
-ghost use Rattle.moc_lines.specs.Inputs.{ReadFails, ReadsAll};
-ghost use Rattle.moc_lines.specs.Private.Input.{IsBehindLast, IsHeld, fails_on};
+ghost use Rattle.moc_lines.specs.Inputs.{FailsOn, ReadsAll};
+ghost use Rattle.moc_lines.specs.Private.Input.{IsBehindLast, IsHeld};
 
 use crate::bytes::first_or_len;
 use crate::line_reader::LINE_LIMIT;
@@ -26,7 +27,7 @@ struct Script {
 
 /// Why a script was not read to its end.
 #[derive(Clone, Copy, Debug, PartialEq, Eq, Error)]
-pub enum ReadFault {
+pub enum InputError {
     /// The reader failed.
     #[error("the input could not be read")]
     Read,
@@ -57,22 +58,22 @@ impl Script {
     }
 
     /// Puts bytes behind the others, unless the line that is begun goes over the limit with them.
-    fn add(&mut self, chunk: &[u8]) -> Result<(), ReadFault>
+    fn add(&mut self, chunk: &[u8]) -> Result<(), InputError>
         requires held { IsHeld self.old.bytes.items self.old.start }
         requires some { 0 < length chunk.now }
         requires short { length chunk.now ≤ CHUNK }
         ensures held { OnOk result (IsHeld self.new.bytes.items self.new.start) }
         ensures bytes { OnOk result (self.new.bytes.items ≡ self.old.bytes.items ++ chunk.now) }
-        ensures fails { IfErr result (λ e. fails_on (self.old.bytes.items ++ chunk.now) e) }
-        ensures read { result ≢ Err ReadFault.Read }
+        ensures fails { IfErr result (λ e. FailsOn (self.old.bytes.items ++ chunk.now) e) }
+        ensures read { result ≢ Err InputError.Read }
     {
         let before = self.bytes.len();
         let first = first_or_len(b'\n', chunk);
         if first > LINE_LIMIT - (before - self.start) {
-            return Err(ReadFault::TooLong { line: self.begun() });
+            return Err(InputError::TooLong { line: self.begun() });
         }
         let Ok(()) = self.bytes.extend_from_slice(chunk) else {
-            return Err(ReadFault::Memory { line: self.begun() });
+            return Err(InputError::Memory { line: self.begun() });
         };
         if first < chunk.len() {
             self.start = before + behind_last(chunk);
@@ -96,7 +97,7 @@ fn line_feeds(bytes: &[u8]) -> u64
 }
 
 /// The number of the line behind the last, counted from 1. Linear in the bytes; takes no memory.
-pub fn line_behind(input: &[u8]) -> u64
+pub fn number_behind_last(input: &[u8]) -> u64
     ensures { result ≡ length (lines_of input.now) + 1 }
 {
     let whole = line_feeds(input);
@@ -123,14 +124,15 @@ fn behind_last(chunk: &[u8]) -> usize
 /// Refused where the reader fails, at a line of more bytes than [`LINE_LIMIT`](crate::LINE_LIMIT), and where memory
 /// runs out. Of what is read at a time only the first and the last line feed are looked for. Takes memory linear in the
 /// bytes.
-pub fn read_all<R: Source>(alloc: Global, reader: &mut R) -> Result<Vec<u8>, ReadFault>
+pub fn read_all<R: Source>(alloc: Global, reader: &mut R) -> Result<Vec<u8>, InputError>
     requires reader { R.mark reader.old ≡ false }
     ensures all { IfOk result (λ input. ReadsAll (R.left reader.old) (R.left reader.new) input.items) }
-    ensures fails { IfErr result (λ e. ReadFails (R.left reader.old) (R.left reader.new) e) }
-    ensures read { IsErrOf result ReadFault.Read ↔ IsTrue (R.mark reader.new) }
+    ensures fails { IfErr result (λ e.
+        (given : List ℕ) × Consumes (R.left reader.old) (R.left reader.new) given × FailsOn given e) }
+    ensures read { IsErrOf result InputError.Read ↔ IsTrue (R.mark reader.new) }
 {
     let Ok(mut chunk) = vec![in alloc; 0u8; CHUNK] else {
-        return Err(ReadFault::Memory { line: 0 });
+        return Err(InputError::Memory { line: 0 });
     };
     let mut script = Script::new(alloc);
     loop {
@@ -140,7 +142,7 @@ pub fn read_all<R: Source>(alloc: Global, reader: &mut R) -> Result<Vec<u8>, Rea
                 Ok(()) => {}
                 Err(fault) => return Err(fault),
             },
-            Err(DeviceFault) => return Err(ReadFault::Read),
+            Err(DeviceFault) => return Err(InputError::Read),
         }
     }
 }

@@ -38,21 +38,14 @@ fn push_reply(alloc: Global, reply: &Reply, text: &mut Vec<u8>) -> Result<(), Me
     ensures { OnOk result (text.new.items ≡ text.old.items ++ reply_text reply.now) }
 {
     match reply {
-        Reply::Changed(pixels) => push_count(b"changed ", *pixels, text),
-        Reply::Claimed => push_words(b"claimed", text),
-        Reply::Taken(pixels) => push_count(b"taken ", *pixels, text),
-        Reply::Total(pixels) => push_count(b"total ", *pixels, text),
-        Reply::Cover(set) => push_cover(alloc, set, text),
-        Reply::Near(true) => push_words(b"near yes", text),
-        Reply::Near(false) => push_words(b"near no", text),
+        Reply::Changed(pixels) => push_count(b"changed ", *pixels, text)?,
+        Reply::Claimed => text.extend_from_slice(b"claimed")?,
+        Reply::Taken(pixels) => push_count(b"taken ", *pixels, text)?,
+        Reply::Total(pixels) => push_count(b"total ", *pixels, text)?,
+        Reply::Cover(set) => push_cover(alloc, set, text)?,
+        Reply::Near(true) => text.extend_from_slice(b"near yes")?,
+        Reply::Near(false) => text.extend_from_slice(b"near no")?,
     }
-}
-
-/// Adds words. Refused where memory runs out.
-pub fn push_words(words: &[u8], text: &mut Vec<u8>) -> Result<(), Memory>
-    ensures { OnOk result (text.new.items ≡ text.old.items ++ words.now) }
-{
-    text.extend_from_slice(words)?;
     Ok(())
 }
 

@@ -13,11 +13,8 @@ pub enum RunError {
     /// A line is over the limit. Lines are counted from 1.
     #[error("line {line} is too long")]
     LineTooLong { line: u64 },
-    /// A growth was refused while this line was read or answered; before the first line, and of `crew` for the map and
-    /// the threads too, at 0; once all lines are answered, at one more than the lines.
+    /// A growth was refused while this line was read or answered; before the first line, at 0; once all lines are
+    /// answered, at one more than the lines.
     #[error("out of memory at line {line}")]
     Memory { line: u64 },
-    /// A thread could not be started; of `crew` alone.
-    #[error("a thread could not be started")]
-    Spawn,
 }

@@ -3,11 +3,11 @@ ghost use Rattle.std.specs.Prelude.{◌≡◌, ◌-◌, ◌^◌, ◌<◌, ◌≤
 ghost use Rattle.std.specs.List.{prefix_len, position_or_len, list_any};
 ghost use Rattle.std.specs.Option.{option_map};
 ghost use Rattle.std.specs.Str.{bytes_eq};
-ghost use Rattle.moc_lines.specs.Words.{is_blank_byte, is_blank, word_of, behind_word, number_of};
+ghost use Rattle.moc_lines.specs.Words.{is_line_blank, is_blank, word_of, behind_word, number_of};
 
 /// Whether a byte is a blank: a space, a tab or a CR.
 fn is_blank_at(byte: u8) -> bool
-    ensures { result ≡ is_blank_byte byte }
+    ensures { result ≡ is_line_blank byte }
 {
     matches!(byte, b' ' | b'\t' | b'\r')
 }
@@ -21,7 +21,7 @@ pub fn is_blank_text(text: &[u8]) -> bool
 
 /// How many blanks stand at the front of a text.
 fn blanks_in_front(text: &[u8]) -> usize
-    ensures count { result ≡ prefix_len is_blank_byte text.now }
+    ensures count { result ≡ prefix_len is_line_blank text.now }
     ensures within { result ≤ length text.now }
 {
     let mut count = 0;
@@ -36,7 +36,7 @@ fn blanks_in_front(text: &[u8]) -> usize
 
 /// How many bytes stand before the first blank of a text.
 fn bytes_before_blank(text: &[u8]) -> usize
-    ensures count { result ≡ position_or_len is_blank_byte text.now }
+    ensures count { result ≡ position_or_len is_line_blank text.now }
     ensures within { result ≤ length text.now }
 {
     let mut count = 0;
@@ -59,7 +59,7 @@ pub fn split_word(text: &[u8]) -> (&[u8], &[u8])
     front.split_at(bytes_before_blank(front))
 }
 
-/// Whether a word is this one.
+/// Whether a word is this one, by which the commands and the steps are told apart. Takes no memory.
 pub fn is_word(word: &[u8], this: &str) -> bool
     ensures { result ≡ bytes_eq word.now this.now }
 {

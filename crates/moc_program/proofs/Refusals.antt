@@ -3,6 +3,7 @@ use Rattle.std.proofs.Common.{◌≡◌, ◌⊎◌, inl, inr, Bool, false, ℕ, 
 use Rattle.std.specs.Prelude.{IfErr, IsTrue}
 use Rattle.std.specs.Io.KnownBytes.{Appends}
 use Rattle.moc_lines.specs.declared.run_error.RunError.TheVariants as run
+use Rattle.moc_script.specs.declared.crew_error.CrewError.TheVariants as crew
 use Rattle.moc_conversion.specs.declared.fault.Fault as input
 use Rattle.moc_conversion.specs.declared.fault.Fault.TheVariants as refused
 use Rattle.clap.specs.Words.{Text}
@@ -57,11 +58,11 @@ of_fault : (fault : Fault) → IsOfFault (status_of fault)
 unfolding IsOfFault
 of_fault (Input c) = of_input c.fault
 of_fault (Number e) = inl refl
-of_fault (Run run.Read) = inr refl
-of_fault (Run run.Write) = inr refl
-of_fault (Run (run.LineTooLong line)) = inl refl
-of_fault (Run (run.Memory line)) = inr refl
-of_fault (Run run.Spawn) = inr refl
+of_fault (Run (crew.Run run.Read)) = inr refl
+of_fault (Run (crew.Run run.Write)) = inr refl
+of_fault (Run (crew.Run (run.LineTooLong line))) = inl refl
+of_fault (Run (crew.Run (run.Memory line))) = inr refl
+of_fault (Run crew.Spawn) = inr refl
 of_fault Write = inr refl
 of_fault Memory = inr refl
 

@@ -6,6 +6,7 @@ use Rattle.moc_lines.specs.Numberings.{RunsNumbers}
 use Rattle.moc_script.specs.Schedules.{RunsSchedule}
 use Rattle.moc_lines.specs.Scripts.{RunsScript}
 use Rattle.moc_lines.specs.declared.run_error.RunError.{RunError}
+use Rattle.moc_script.specs.declared.crew_error.CrewError.TheVariants as crew
 use Rattle.moc_conversion.specs.Combining.{AreNotCombined, CombinesAll}
 use Rattle.moc_conversion.specs.Conversion.{ChangesAll, ConvertsAll, DescribesAll, DrawsAll, IsNotChanged}
 use Rattle.moc_conversion.specs.Conversion.{IsNotConverted, IsNotDrawn, IsSaid, SaysNothing}
@@ -18,10 +19,14 @@ use Rattle.moc_program.specs.declared.action.Action.TheVariants.{Describe, Draw,
 use Rattle.moc_program.specs.declared.status.Fault.{Fault}
 use Rattle.moc_program.specs.declared.status.Fault.TheVariants as told
 
--- a run ends so
-abbrev pub RunEnds : (Result (Unit {0}) RunError → Type 0) → Result (Unit {0}) Fault → Type 0
-RunEnds ends (Ok _) = ends (Ok tt)
-RunEnds ends (Err fault) = (error : RunError) × (fault ≡ told.Run error) × ends (Err error)
+-- the fault of a run that ended early
+abbrev pub fault_of_run : RunError → Fault
+fault_of_run error = told.Run (crew.Run error)
+
+-- a run or a crew ends so, with an error of which such a fault is made
+abbrev pub RunEnds : {E : Type 0} → (E → Fault) → (Result (Unit {0}) E → Type 0) → Result (Unit {0}) Fault → Type 0
+RunEnds fault_of ends (Ok _) = ends (Ok tt)
+RunEnds fault_of ends (Err fault) = (error : _) × (fault ≡ fault_of error) × ends (Err error)
 
 -- such a text was written; or it could not be written, or was refused with such a fault
 abbrev pub Answers :
@@ -36,11 +41,13 @@ Complains is fault = (c : Complaint) × (fault ≡ told.Input c) × is c
 -- What was asked for ends so, with an input of which this was left and this is, where so much was and is written.
 abbrev pub Ends :
     Action → Option (List ℕ) → Option (List ℕ) → Option (List ℕ) → Option (List ℕ) → Result (Unit {0}) Fault → Type 0
-Ends Run left left' w w' = RunEnds (λ end. IfSome left (λ input. RunsScript input left' w w' end))
-Ends Play left left' w w' = RunEnds (λ end. IfSome left (λ input. RunsSchedule input left' w w' end))
-Ends (Crew lanes) left left' w w' = RunEnds (λ end. IfSome left (λ input. CrewEnds lanes.number input left' w w' end))
+Ends Run left left' w w' = RunEnds fault_of_run (λ end. IfSome left (λ input. RunsScript input left' w w' end))
+Ends Play left left' w w' = RunEnds fault_of_run (λ end. IfSome left (λ input. RunsSchedule input left' w w' end))
+Ends (Crew lanes) left left' w w' =
+    RunEnds (λ error. told.Run error) (λ end. IfSome left (λ input. CrewEnds lanes.number input left' w w' end))
 Ends (Number number) left left' w w' = Answers (IsNumberLine number) (IsNumberRefusal number) w w'
-Ends (Renumber r) left left' w w' = RunEnds (λ end. IfSome left (λ input. RunsNumbers r input left' w w' end))
+Ends (Renumber r) left left' w w' =
+    RunEnds fault_of_run (λ end. IfSome left (λ input. RunsNumbers r input left' w w' end))
 Ends (Convert from to) left left' w w' =
     Answers (ConvertsAll from to left left') (Complains (IsNotConverted from left left')) w w'
 Ends (Check choice) left left' w w' =

@@ -3,6 +3,9 @@ use Rattle.std.specs.Prelude.{ℕ, ◌+◌, ◌-◌, List, [], ◌∷◌, ◌++�
 use Rattle.moc_lines.specs.Faults as script
 use Rattle.moc_lines.specs.declared.fault.Fault.TheVariants as said
 use Rattle.moc_lines.specs.declared.run_error.RunError.TheVariants as run
+use Rattle.moc_script.specs.Refusals.{fault_name}
+use Rattle.moc_script.specs.declared.crew_error.CrewError.TheVariants as crew
+use Rattle.moc_script.specs.declared.fault.StepFault.TheVariants as step
 use Rattle.moc_conversion.specs.Faults.{line_of, name_of}
 use Rattle.moc_conversion.specs.declared.fault.Fault.TheVariants.{BadByte, Unfinished, NoOrder, OrderTooLarge}
 use Rattle.moc_conversion.specs.declared.fault.Fault.TheVariants.{CellTooLarge, Backwards, NotJson, NotObject, BadOrder}
@@ -73,19 +76,19 @@ fault_list =
     ∷ [])
     ++ part (codes "Lengths") 17 (
     (name_of TooLong, codes "a text of more than 16,777,216 bytes")
-    ∷ (name_of_run (run.LineTooLong 0), codes "a line of more than 1,048,576 bytes")
+    ∷ (name_of_run (crew.Run (run.LineTooLong 0)), codes "a line of more than 1,048,576 bytes")
     ∷ [])
     ++ part (codes "Lines of scripts and schedules") 17 (
     (script.name_of said.UnknownWord, codes "no such command")
     ∷ (script.name_of said.EmptyCommand, codes "nothing before, between or behind `;`")
     ∷ (script.name_of said.TooManyCommands, codes "more than 16 commands on a line")
-    ∷ (script.name_of said.ClientTooLarge, codes "a client above 4294967295")
-    ∷ (script.name_of said.PartTooLarge, codes "a part above 11")
+    ∷ (fault_name step.ClientTooLarge, codes "a client above 4294967295")
+    ∷ (fault_name step.PartTooLarge, codes "a part above 11")
     ∷ [])
     ++ part (codes "Devices") 17 (
-    (name_of Read ++ codes ", " ++ name_of_run run.Write, codes "standard input or output failed")
+    (name_of Read ++ codes ", " ++ name_of_run (crew.Run run.Write), codes "standard input or output failed")
     ∷ (name_of Memory, codes "memory was refused")
-    ∷ (name_of_run run.Spawn, codes "a thread was refused")
+    ∷ (name_of_run crew.Spawn, codes "a thread was refused")
     ∷ [])
     ++ text_line (codes "Example:") ++ text_line (codes "  moc cell 3") ++ text_line (codes "tells")
     ++ codes "  " ++ line_of (name_of_cell cell.NotUniq)

@@ -6,6 +6,7 @@ use Rattle.clap.specs.declared.error.kind.ErrorKind.{ErrorKind}
 use Rattle.clap.specs.declared.error.kind.ErrorKind.TheVariants.{DisplayHelp, DisplayVersion, OutOfMemory}
 use Rattle.moc_command_line.specs.CommandLine.{IsCommandLine}
 use Rattle.moc_lines.specs.declared.run_error.RunError.TheVariants as run
+use Rattle.moc_script.specs.declared.crew_error.CrewError.TheVariants as crew
 use Rattle.moc_conversion.specs.declared.fault.Fault.TheVariants as refused
 use Rattle.moc_program.specs.Actions.{Ends}
 use Rattle.moc_program.specs.Asking.{AskFor}
@@ -45,7 +46,8 @@ pub record AreMistaken (words : List Text) : Type 0 where
 -- a device that has failed by a fault has failed: the input, the output
 abbrev pub BlamesFailed : Bool → Bool → Fault → Type 0
 BlamesFailed input output (Input c) = c.fault ≡ refused.Read → IsTrue input
-BlamesFailed input output (Run error) = (error ≡ run.Read → IsTrue input) × (error ≡ run.Write → IsTrue output)
+BlamesFailed input output (Run error) =
+    (error ≡ crew.Run run.Read → IsTrue input) × (error ≡ crew.Run run.Write → IsTrue output)
 BlamesFailed input output Write = IsTrue output
 BlamesFailed input output _ = Unit {0}
 

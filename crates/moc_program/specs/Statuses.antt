@@ -2,8 +2,9 @@
 use Rattle.std.specs.Prelude.{ℕ, List, codes}
 use Rattle.moc_sphere.specs.declared.cell.CellError.{CellError}
 use Rattle.moc_sphere.specs.declared.cell.CellError.TheVariants.{CellTooLarge, NotUniq, OutOfFace, RingTooLarge}
-use Rattle.moc_lines.specs.declared.run_error.RunError.{RunError}
 use Rattle.moc_lines.specs.declared.run_error.RunError.TheVariants as run
+use Rattle.moc_script.specs.declared.crew_error.CrewError.{CrewError}
+use Rattle.moc_script.specs.declared.crew_error.CrewError.TheVariants as crew
 use Rattle.moc_conversion.specs.Faults.{complaint_text, line_of}
 use Rattle.moc_conversion.specs.declared.fault.Fault as input
 use Rattle.moc_conversion.specs.declared.fault.Fault.TheVariants as refused
@@ -30,7 +31,7 @@ status_of_input _ = Refused
 abbrev pub status_of : Fault → Status
 status_of (Input c) = status_of_input c.fault
 status_of (Number e) = Refused
-status_of (Run (run.LineTooLong line)) = Refused
+status_of (Run (crew.Run (run.LineTooLong line))) = Refused
 status_of _ = Broken
 
 -- the name of the fault of a number that no cell has
@@ -40,13 +41,13 @@ name_of_cell NotUniq = codes "NotUniq"
 name_of_cell OutOfFace = codes "OutOfFace"
 name_of_cell RingTooLarge = codes "RingTooLarge"
 
--- the name of the fault of a run that ended early
-abbrev pub name_of_run : RunError → List ℕ
-name_of_run run.Read = codes "Read"
-name_of_run run.Write = codes "Write"
-name_of_run (run.LineTooLong line) = codes "LineTooLong"
-name_of_run (run.Memory line) = codes "Memory"
-name_of_run run.Spawn = codes "Spawn"
+-- the name of the fault of a run or a crew that ended early
+abbrev pub name_of_run : CrewError → List ℕ
+name_of_run (crew.Run run.Read) = codes "Read"
+name_of_run (crew.Run run.Write) = codes "Write"
+name_of_run (crew.Run (run.LineTooLong line)) = codes "LineTooLong"
+name_of_run (crew.Run (run.Memory line)) = codes "Memory"
+name_of_run crew.Spawn = codes "Spawn"
 
 -- what tells a fault: a complaint of the input, or a line
 abbrev pub fault_text : Fault → List ℕ

@@ -26,7 +26,9 @@ use moc_command_line::{FAULTS, command_line, meant};
 use moc_conversion::{
     Complaint, Fault as InputFault, changed, checked, combined, converted, described, drawn,
 };
-use moc_script::{OpenGate, RunError, Sink, Source, crew, play, renumber, run, write_all};
+use moc_script::{
+    CrewError, OpenGate, RunError, Sink, Source, crew, play, renumber, run, write_all,
+};
 use moc_sphere::{Cell, CellError};
 use std::alloc::{AllocError, Global};
 use std::convert::AsStr;
@@ -248,7 +250,9 @@ fn perform<T: Threads + Wait + Sync, R: Source, W: Sink>(
     match action {
         Action::Run => outcome_of(run(alloc, input, output)),
         Action::Play => outcome_of(play(alloc, input, output)),
-        Action::Crew(lanes) => outcome_of(crew(rt, alloc, input, output, lanes, &OpenGate)),
+        Action::Crew(lanes) => {
+            outcome_of_crew(crew(rt, alloc, input, output, lanes, &OpenGate))
+        }
         Action::Renumber(renumbering) => outcome_of(renumber(alloc, input, output, renumbering)),
         Action::Number(number) => numbered(alloc, number, output),
         Action::Convert(from, to) => answered(converted(alloc, from, to, input), output),
@@ -269,8 +273,19 @@ fn perform<T: Threads + Wait + Sync, R: Source, W: Sink>(
 /// The outcome of a run, with the fault of the program.
 fn outcome_of(outcome: Result<(), RunError>) -> Result<(), Fault>
     ensures done { OnOk result (outcome ≡ Ok tt) }
-    ensures fault { IfErr result (λ fault. (error : RunError) × (fault ≡ Fault.Run error) × (outcome ≡ Err error)) }
+    ensures fault { IfErr result (λ fault. (error : RunError) × (fault ≡ Fault.Run (CrewError.Run error))
+        × (outcome ≡ Err error)) }
     ensures device { IsErrOf outcome RunError.Read ⊎ IsErrOf outcome RunError.Write → end_of result ≡ Status.Broken }
+{
+    Ok(outcome?)
+}
+
+/// The outcome of a crew, with the fault of the program.
+fn outcome_of_crew(outcome: Result<(), CrewError>) -> Result<(), Fault>
+    ensures done { OnOk result (outcome ≡ Ok tt) }
+    ensures fault { IfErr result (λ fault. (error : CrewError) × (fault ≡ Fault.Run error) × (outcome ≡ Err error)) }
+    ensures device { IsErrOf outcome (CrewError.Run RunError.Read) ⊎ IsErrOf outcome (CrewError.Run RunError.Write)
+        → end_of result ≡ Status.Broken }
 {
     Ok(outcome?)
 }

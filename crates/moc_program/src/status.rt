@@ -4,10 +4,11 @@ ghost use Rattle.std.specs.Io.KnownBytes.{Appends};
 ghost use Rattle.moc_conversion.specs.Faults.{line_of};
 ghost use Rattle.moc_program.specs.Statuses.{code_of, fault_text, name_of_cell, name_of_run, status_of};
 ghost use Rattle.moc_program.specs.Statuses.{status_of_input};
+ghost use Rattle.moc_script.specs.declared.crew_error.CrewError.TheVariants as crew;
 ghost use Rattle.moc_program.specs.declared.status.Fault.TheVariants as fault;
 
 use moc_conversion::{Complaint, Fault as InputFault};
-use moc_script::{DeviceFault, RunError, Sink, write_all};
+use moc_script::{CrewError, DeviceFault, RunError, Sink, write_all};
 use moc_sphere::CellError;
 use std::alloc::AllocError;
 
@@ -40,8 +41,8 @@ pub enum Fault {
     Input(Complaint),
     /// A number is that of no cell.
     Number(CellError),
-    /// A script, a schedule or a list of numbers ended early.
-    Run(RunError),
+    /// A script, a schedule, a list of numbers or a crew ended early.
+    Run(CrewError),
     /// The output could not be written.
     Write,
     /// Memory was refused.
@@ -55,7 +56,9 @@ impl Fault {
     {
         match self {
             Fault::Input(complaint) => input_status(complaint.fault),
-            Fault::Number(_) | Fault::Run(RunError::LineTooLong { .. }) => Status::Refused,
+            Fault::Number(_) | Fault::Run(CrewError::Run(RunError::LineTooLong { .. })) => {
+                Status::Refused
+            }
             Fault::Run(_) | Fault::Write | Fault::Memory => Status::Broken,
         }
     }
@@ -100,15 +103,15 @@ fn cell_line(error: CellError) -> &'static str
 }
 
 /// The line that tells why a run ended early.
-fn run_line(error: RunError) -> &'static str
+fn run_line(error: CrewError) -> &'static str
     ensures { result.now ≡ line_of (name_of_run error) }
 {
     match error {
-        RunError::Read => "fault Read\n",
-        RunError::Write => "fault Write\n",
-        RunError::LineTooLong { .. } => "fault LineTooLong\n",
-        RunError::Memory { .. } => "fault Memory\n",
-        RunError::Spawn => "fault Spawn\n",
+        CrewError::Run(RunError::Read) => "fault Read\n",
+        CrewError::Run(RunError::Write) => "fault Write\n",
+        CrewError::Run(RunError::LineTooLong { .. }) => "fault LineTooLong\n",
+        CrewError::Run(RunError::Memory { .. }) => "fault Memory\n",
+        CrewError::Spawn => "fault Spawn\n",
     }
 }
 
@@ -129,9 +132,17 @@ impl From<CellError> for Fault {
 }
 
 impl From<RunError> for Fault {
-    ghost from_gives = { λ error f. f ≡ fault.Run error };
+    ghost from_gives = { λ error f. f ≡ fault.Run (crew.Run error) };
 
     fn from(error: RunError) -> Fault {
+        Fault::Run(CrewError::Run(error))
+    }
+}
+
+impl From<CrewError> for Fault {
+    ghost from_gives = { λ error f. f ≡ fault.Run error };
+
+    fn from(error: CrewError) -> Fault {
         Fault::Run(error)
     }
 }

@@ -19,6 +19,7 @@ use Rattle.moc_script.specs.Crews.{cover_line, said_lines, IsCrewText, IsRefused
 use Rattle.moc_lines.specs.Runs.{AreWithin, IsBegun}
 use Rattle.moc_lines.specs.Scripts.{line_limit}
 use Rattle.moc_lines.specs.declared.run_error.RunError.TheVariants as run
+use Rattle.moc_script.specs.declared.crew_error.CrewError.TheVariants as crew
 use Rattle.moc_devices.specs.Laws.{Sends-all}
 use Rattle.moc_shared.specs.declared.client.Client.{Client}
 use Rattle.moc_text.specs.Lines.{lines_of}
@@ -128,13 +129,13 @@ whole_input xs items (Some ys) consumed end = sym (consumed ∙ ap (λ l. items 
 
 -- memory was refused while lines were read
 pub crew_begun : (lanes line : ℕ) (a b w0 w1 : Option (List ℕ)) → (given : List ℕ) × Consumes a b given × IsBegun line given → Keeps w0 w1
-    → IfSome a (λ input. CrewEnds lanes input b w0 w1 (Err (run.Memory line)))
+    → IfSome a (λ input. CrewEnds lanes input b w0 w1 (Err (crew.Run (run.Memory line))))
 crew_begun lanes line None b w0 w1 begun kept = tt
 crew_begun lanes line (Some xs) b w0 w1 begun kept = (kept, (begun.0, begun.1, inl begun.2))
 
 -- memory was refused once all lines were read
 pub crew_refused : (lanes line : ℕ) (items : List ℕ) (a b w0 w1 : Option (List ℕ)) → Consumes a b items → IsAtEnd b → IsRefusedLine line (lines_of items) → Keeps w0 w1
-    → IfSome a (λ input. CrewEnds lanes input b w0 w1 (Err (run.Memory line)))
+    → IfSome a (λ input. CrewEnds lanes input b w0 w1 (Err (crew.Run (run.Memory line))))
 crew_refused lanes line items None b w0 w1 consumed end refused kept = tt
 crew_refused lanes line items (Some xs) b w0 w1 consumed end refused kept = (kept, (items, consumed, inr (whole_input xs items b consumed end, refused)))
 
@@ -150,11 +151,11 @@ module _ (lanes : ℕ) (items cover : List ℕ) (answers : List Texts) (told : I
 
   -- the writer failed on the way
   pub crew_failed : {E : Type 0} (a : Option (List ℕ)) (r : Result (Unit {0}) E) → Consumes a b items → JoinsTo {E = E} answers cover w0 w1 r
-      → IfSome a (λ input. CrewEnds lanes input b w0 w1 (Err run.Write))
+      → IfSome a (λ input. CrewEnds lanes input b w0 w1 (Err (crew.Run run.Write)))
   crew_failed None r consumed joins = tt
   crew_failed (Some xs) r consumed joins =
       let h = joins (length (said_lines (lines_of items))) for in
-      subst (λ (input : List ℕ). CrewEnds lanes input b w0 w1 (Err run.Write)) (whole_input xs items b consumed end)
+      subst (λ (input : List ℕ). CrewEnds lanes input b w0 w1 (Err (crew.Run run.Write))) (whole_input xs items b consumed end)
       (h.2.sent, h.2.appended, (h.2.rest, subst (IsCrewText lanes (said_lines (lines_of items))) h.2.parts (told.text h.0 h.1)))
 
   all_written : {E : Type 0} → JoinsTo {E = E} answers cover w0 w1 (Ok tt) → Keeps w1 w2
@@ -165,11 +166,11 @@ module _ (lanes : ℕ) (items cover : List ℕ) (answers : List Texts) (told : I
 
   -- the writer failed at its flush
   pub crew_unflushed : {E : Type 0} (a : Option (List ℕ)) → Consumes a b items → JoinsTo {E = E} answers cover w0 w1 (Ok tt) → Keeps w1 w2
-      → IfSome a (λ input. CrewEnds lanes input b w0 w2 (Err run.Write))
+      → IfSome a (λ input. CrewEnds lanes input b w0 w2 (Err (crew.Run run.Write)))
   crew_unflushed None consumed joins kept = tt
   crew_unflushed (Some xs) consumed joins kept =
       let h = all_written joins kept in
-      subst (λ (input : List ℕ). CrewEnds lanes input b w0 w2 (Err run.Write)) (whole_input xs items b consumed end)
+      subst (λ (input : List ℕ). CrewEnds lanes input b w0 w2 (Err (crew.Run run.Write))) (whole_input xs items b consumed end)
       (h.0, h.1, ([], subst (IsCrewText lanes (said_lines (lines_of items))) (sym (append-nil h.0)) h.2))
 
   -- all is written and flushed

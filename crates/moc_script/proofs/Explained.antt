@@ -1,6 +1,6 @@
 -- What the lines of a schedule say is local, and the steps that they take lead to the world that they leave.
 use Rattle.std.proofs.Common.{◌≡◌, ℕ, suc, ◌<◌, ◌≤◌, Bool, true, false, cond, ltb, List, [], ◌∷◌, ◌++◌, length, Option, None, Some, Result, Ok, Err, codes, refl, sym, ap, subst, ◌∙◌, arith, length-append, eqb}
-use Rattle.std.specs.Result.{IfOk}
+use Rattle.std.specs.Result.{IfOk, result_map_both}
 use Rattle.std.specs.Option.{ok_or}
 use Rattle.std.specs.Str.{bytes_eq}
 use Rattle.std.specs.FinSet as set
@@ -29,23 +29,25 @@ use Rattle.moc_steps.specs.Laws.{ArePlayed, HasOneOrder, StepsHaveOneOrder}
 use Rattle.moc_steps.specs.declared.error.StepError.{StepError}
 use Rattle.moc_parts.specs.declared.reply.Reply.{Reply}
 use Rattle.moc_lines.specs.Words.{is_blank, word_of, behind_word, number_of}
-use Rattle.moc_lines.specs.Language.{◌>>=◌, coverage_or_fault, coverage_of, order_of, plain_operand_of, ordered_operand_of, operand_by, operand_of, command_named, command_with, degrade_of, near_at, near_of, only_field, two_fields, command_of}
+use Rattle.moc_lines.specs.Language.{◌>>=◌, fault_without_place, coverage_of, order_of, plain_operand_of, ordered_operand_of, operand_by, operand_of, command_named, command_with, degrade_of, near_at, near_of, only_field, two_fields, command_of}
 use Rattle.moc_lines.specs.Batches.{is_semicolon, pieces_of, piece_says, first_then, commands_of, batch_of}
-use Rattle.moc_script.specs.Steps.{BatchStep, client_by, client_of, place_of, step_by, step_at, other_step, begin_by, begin_of, said_step}
+use Rattle.moc_script.specs.Steps.{BatchStep, as_in_script, client_by, client_of, place_of, step_by, step_at, other_step, begin_by, begin_of, said_step}
 use Rattle.moc_lines.specs.Answers.{after_lines}
 use Rattle.moc_script.specs.Schedules.{Schedule, start_schedule, next_line, begins_after, after_step, after_said, schedule_rules, unless_refused, step_taken, steps_taken}
 use Rattle.moc_script.specs.Laws.{SchedulesHaveOneOrder}
 use Rattle.moc_lines.specs.declared.fault.Fault.{Fault}
 use Rattle.moc_lines.specs.declared.fault.Fault.TheVariants.{WrongCount, BadNumber, OrderTooLarge, CellTooLarge, EmptyCommand, TooManyCommands}
+use Rattle.moc_script.specs.declared.fault.StepFault.{StepFault}
+use Rattle.moc_script.specs.declared.fault.StepFault.TheVariants.{Line}
 use Rattle.moc_text.specs.Laws.{empty_within, read_within}
 
 -- ---- what holds where something was read
 
-ok_if : {A : Type 0} (P : A → Type 0) (b : Bool) (x y : Result A Fault) → IfOk x P → IfOk y P → IfOk (cond b x y) P
+ok_if : {A F : Type 0} (P : A → Type 0) (b : Bool) (x y : Result A F) → IfOk x P → IfOk y P → IfOk (cond b x y) P
 ok_if P true x y hx hy = hx
 ok_if P false x y hx hy = hy
 
-ok_then : {A B : Type 0} (Q : A → Type 0) (P : B → Type 0) (r : Result A Fault) (f : A → Result B Fault) → IfOk r Q → ((a : A) → Q a → IfOk (f a) P) → IfOk (r >>= f) P
+ok_then : {A B F : Type 0} (Q : A → Type 0) (P : B → Type 0) (r : Result A F) (f : A → Result B F) → IfOk r Q → ((a : A) → Q a → IfOk (f a) P) → IfOk (r >>= f) P
 ok_then Q P (Ok a) f h next = next a h
 ok_then Q P (Err e) f h next = tt
 
@@ -53,16 +55,20 @@ ok_then Q P (Err e) f h next = tt
 abbrev Any : {A : Type 0} → A → Type 0
 Any {A} a = Unit {0}
 
-ok_any : {A : Type 0} (r : Result A Fault) → IfOk r Any
+ok_any : {A F : Type 0} (r : Result A F) → IfOk r Any
 ok_any (Ok a) = tt
 ok_any (Err e) = tt
+
+ok_in_script : {A : Type 0} (P : A → Type 0) (r : Result A Fault) → IfOk r P → IfOk (as_in_script r) P
+ok_in_script P (Ok a) h = h
+ok_in_script P (Err e) h = tt
 
 -- ---- what a text says is a command of sets of pixels, orders and cells
 
 coverage_within : (text : List ℕ) → IfOk (coverage_of text) (λ a. IsWithin a pixels)
 coverage_within text = found (reading_of text) (read_within text)
   where
-    found : (r : Result (NumberSet × Option ℕ) TextError) → IfOk r (λ r. IsWithin r.0 pixels) → IfOk (coverage_or_fault r) (λ a. IsWithin a pixels)
+    found : (r : Result (NumberSet × Option ℕ) TextError) → IfOk r (λ r. IsWithin r.0 pixels) → IfOk (result_map_both (λ read. read.0) fault_without_place r) (λ a. IsWithin a pixels)
     found (Ok r) h = h
     found (Err e) h = tt
 
@@ -171,8 +177,8 @@ module _ (local : AreBatchesLocal) where
   begin_local text =
       let client = client_by (word_of text) in
       let line = behind_word text in
-      ok_if Alone (is_blank line) (Err WrongCount) (begin_by (batch_of command_of) (word_of text) line) tt
-      (ok_then Any Alone client _ (ok_any client) (λ c _. ok_then (IsLocal batches) Alone (batch_of command_of line) _ (batch_local line) (λ cs is. (is, tt))))
+      ok_if Alone (is_blank line) (Err (Line WrongCount)) (begin_by (batch_of command_of) (word_of text) line) tt
+      (ok_then Any Alone client _ (ok_any client) (λ c _. ok_then (IsLocal batches) Alone (as_in_script (batch_of command_of line)) _ (ok_in_script (IsLocal batches) (batch_of command_of line) (batch_local line)) (λ cs is. (is, tt))))
 
   by_local : (step : ℕ → BatchStep) (text : List ℕ) → ((c : ℕ) → Alone (step c)) → IfOk (step_by step text) Alone
   by_local step text each = ok_then Any Alone (client_of text) _ (ok_any (client_of text)) (λ c _. each c)
@@ -244,12 +250,12 @@ by_refusal s step None is alone rest s' h = record {
   begun = λ xs same. h.begun (noted xs step) (begun_on s.begins (suc s.lines) xs step same);
 }
 
-by_saying : (s : Schedule) (r : Result BatchStep Fault) → IfOk r (λ step. AreLocal batches (step ∷ []))
+by_saying : (s : Schedule) (r : Result BatchStep StepFault) → IfOk r (λ step. AreLocal batches (step ∷ []))
     → (rest : List BatchStep) (s' : Schedule) → TakesOn (after_said (next_line s) r) rest s' → TakesOn s (step_taken s r ++ rest) s'
 by_saying s (Ok step) alone rest s' h = by_refusal s step (refusal batches s.world.locks step) refl alone rest s' h
 by_saying s (Err e) alone rest s' h = passed s rest s' h
 
-by_blanks : (s : Schedule) (b : Bool) (r : Result BatchStep Fault) → IfOk r (λ step. AreLocal batches (step ∷ []))
+by_blanks : (s : Schedule) (b : Bool) (r : Result BatchStep StepFault) → IfOk r (λ step. AreLocal batches (step ∷ []))
     → (rest : List BatchStep) (s' : Schedule) → TakesOn (cond b (next_line s) (after_said (next_line s) r)) rest s' → TakesOn s (cond b [] (step_taken s r) ++ rest) s'
 by_blanks s true r alone rest s' h = passed s rest s' h
 by_blanks s false r alone rest s' h = by_saying s r alone rest s' h

@@ -4,7 +4,7 @@ use Rattle.moc_ranges.specs.Numbers.{NumberSet}
 use Rattle.moc_parts.specs.declared.command.Command.{Command}
 use Rattle.moc_lines.specs.Words.{is_blank}
 use Rattle.moc_lines.specs.Language.{command_of}
-use Rattle.moc_lines.specs.Faults.{fault_line}
+use Rattle.moc_lines.specs.Faults.{fault_answer}
 use Rattle.moc_lines.specs.Replies.{replies_text}
 use Rattle.moc_lines.specs.Batches.{batch_of, commands_in, answer_to, after_batch, line_answer, after_line}
 use Rattle.moc_lines.specs.declared.language.Commands.{Commands}
@@ -48,11 +48,11 @@ said_line client line commands old new before after said is (replies, text, made
     (answer, text, (e ∷ [], inr (e, refl, asks_line line e answer said is refl), made))
 
 -- and one at fault changes nothing
-quiet_line : (line : List ℕ) (fault : Fault) → is_blank line ≡ false → batch_of command_of line ≡ Err fault → IsQuiet object script_rules line (fault_line fault)
+quiet_line : (line : List ℕ) (fault : Fault) → is_blank line ≡ false → batch_of command_of line ≡ Err fault → IsQuiet object script_rules line (fault_answer fault)
 quiet_line line fault said is s = says_line command_of s line (Err fault) said is
 
 pub quiet_read : (line : List ℕ) (e : ReadError) (fault : Fault) → e ≡ error.Fault fault → is_blank line ≡ false
-    → Reads {X = Commands} commands_in (Err e) (batch_of command_of line) → IsQuiet object script_rules line (fault_line fault)
+    → Reads {X = Commands} commands_in (Err e) (batch_of command_of line) → IsQuiet object script_rules line (fault_answer fault)
 quiet_read line e fault is said reads =
     quiet_line line fault said (subst (λ (x : ReadError). Reads {X = Commands} commands_in (Err x) (batch_of command_of line)) is reads)
 

@@ -4,7 +4,7 @@ use Rattle.std.specs.List.{list_any, onto_first, prefix_len, position_or_len, Al
 use Rattle.std.proofs.lemmas.List.{take-append-drop}
 use Rattle.std.proofs.lemmas.List.Folds.{list_any-append}
 use Rattle.std.proofs.lemmas.List.Splits.{slice_split-cons_no, slice_split-cons_yes}
-use Rattle.moc_lines.specs.Words.{is_blank, is_blank_byte, without_blanks, word_of, behind_word}
+use Rattle.moc_lines.specs.Words.{is_blank, is_line_blank, without_blanks, word_of, behind_word}
 use Rattle.moc_lines.specs.Language.{plain_operand_of, operand_by, ordered_operand_of, command_at, command_by, command_of}
 use Rattle.moc_lines.specs.Batches.{is_semicolon, pieces_of, piece_says, first_then, commands_of, batch_of, answer_to, after_batch}
 use Rattle.moc_script.specs.Laws.{is_at_sign, LinesWithoutOrder}
@@ -37,8 +37,8 @@ module _ (p : ℕ → Bool) where
 
 pub none_behind : (p : ℕ → Bool) (text : List ℕ) → list_any p text ≡ false → (list_any p (word_of text) ≡ false) × (list_any p (behind_word text) ≡ false)
 none_behind p text none =
-    let front = (none_in_parts p (prefix_len is_blank_byte text) text none).1 in (
-      (none_in_parts p (position_or_len is_blank_byte (without_blanks text)) (without_blanks text) front).0,
+    let front = (none_in_parts p (prefix_len is_line_blank text) text none).1 in (
+      (none_in_parts p (position_or_len is_line_blank (without_blanks text)) (without_blanks text) front).0,
       (none_in_parts p (length (word_of text)) (without_blanks text) front).1,
     )
 

@@ -12,10 +12,12 @@ use Rattle.moc_lines.specs.Answers.{Rules, is_within, answers_to, after_lines, c
 use Rattle.moc_lines.specs.Words.{is_blank, word_of, behind_word}
 use Rattle.moc_lines.specs.Batches.{is_semicolon, batch_of, first_then}
 use Rattle.moc_lines.specs.Language.{◌>>=◌, command_of, command_by, plain_operand_of}
-use Rattle.moc_script.specs.Steps.{BatchStep, client_by, begin_of, other_step, said_by, said_step}
+use Rattle.moc_script.specs.Steps.{BatchStep, as_in_script, client_by, begin_of, other_step, said_by, said_step}
 use Rattle.moc_script.specs.Schedules.{Schedule, next_line, answer_to_step, after_said, last_lines, step_rules, start_schedule}
 use Rattle.moc_lines.specs.declared.fault.Fault.{Fault}
 use Rattle.moc_lines.specs.declared.fault.Fault.TheVariants.{WrongCount}
+use Rattle.moc_script.specs.declared.fault.StepFault.{StepFault}
+use Rattle.moc_script.specs.declared.fault.StepFault.TheVariants.{Line}
 use Rattle.moc_lines.specs.Scripts.{line_limit, script_rules}
 use Rattle.moc_script.specs.Laws.{single_answer, after_single, single_rules, plain_rules, is_at_sign, one_command, ScriptsOfSingleCommands, ScriptsWithoutOrder, SchedulesOfSingleCommands, SchedulesWithoutOrder}
 use Rattle.moc_script.proofs.Single.{batch-single, lines_of_one_command}
@@ -81,7 +83,7 @@ scripts_without_order input none =
     (each-take_while _ (is_within line_limit) (lines_of input) (none_in_lines is_at_sign input none)))
 
 -- Steps that are said alike are answered alike.
-module _ (says others : List ℕ → Result BatchStep Fault) (Q : List ℕ → Type 0) (same : (line : List ℕ) → Q line → says line ≡ others line) where
+module _ (says others : List ℕ → Result BatchStep StepFault) (Q : List ℕ → Type 0) (same : (line : List ℕ) → Q line → says line ≡ others line) where
   same_step : (s : Schedule) (line : List ℕ) → Q line → ((step_rules says).answer s line ≡ (step_rules others).answer s line) × ((step_rules says).after s line ≡ (step_rules others).after s line)
   same_step s line each = (
     ap (λ r. cond (is_blank line) [] (answer_to_step s r)) (same line each),
@@ -100,9 +102,9 @@ module _ (says others : List ℕ → Result BatchStep Fault) (Q : List ℕ → T
 -- Lines whose batches say the same say the same.
 begin_alike : (batch other : List ℕ → Result (List Command) Fault) (text : List ℕ) → (is_blank (behind_word text) ≡ false → batch (behind_word text) ≡ other (behind_word text)) → begin_of batch text ≡ begin_of other text
 begin_alike batch other text same =
-    let begun : Result (List Command) Fault → Result BatchStep Fault = λ r. client_by (word_of text) >>= (λ c. r >>= (λ commands. Ok (Begin c commands))) in
-    let step : (b : Bool) → is_blank (behind_word text) ≡ b → cond b (Err WrongCount) (begun (batch (behind_word text))) ≡ cond b (Err WrongCount) (begun (other (behind_word text))) =
-    λ b. elim b as (λ v. is_blank (behind_word text) ≡ v → cond v (Err WrongCount) (begun (batch (behind_word text))) ≡ cond v (Err WrongCount) (begun (other (behind_word text)))) [
+    let begun : Result (List Command) Fault → Result BatchStep StepFault = λ r. client_by (word_of text) >>= (λ c. as_in_script r >>= (λ commands. Ok (Begin c commands))) in
+    let step : (b : Bool) → is_blank (behind_word text) ≡ b → cond b (Err (Line WrongCount)) (begun (batch (behind_word text))) ≡ cond b (Err (Line WrongCount)) (begun (other (behind_word text))) =
+    λ b. elim b as (λ v. is_blank (behind_word text) ≡ v → cond v (Err (Line WrongCount)) (begun (batch (behind_word text))) ≡ cond v (Err (Line WrongCount)) (begun (other (behind_word text)))) [
       | true ↦ λ is. refl
       | false ↦ λ is. ap begun (same is)
     ] in

@@ -3,17 +3,19 @@ use Rattle.std.specs.Prelude.{◌≡◌, ◌⊎◌, ◌<◌, ◌≤◌, ◌+◌,
 use Rattle.std.specs.Prelude.{Option, Some, Result, Ok, Err, if◌then◌else◌}
 use Rattle.std.specs.FinSet as set
 use Rattle.std.specs.Io.KnownBytes.{Appends, Consumes, Keeps}
+use Rattle.moc_devices.specs.Devices.{CallsMore}
 use Rattle.moc_ranges.specs.Blocks.{joining}
 use Rattle.moc_ranges.specs.Numbers.{NumberSet}
 use Rattle.moc_text.specs.Lines.{lines_of}
 use Rattle.moc_lines.specs.Words.{is_blank}
 use Rattle.moc_lines.specs.Replies.{cover_text}
 use Rattle.moc_lines.specs.Answers.{Rules}
-use Rattle.moc_lines.specs.Runs.{AreWithin, IsTooLong, IsBegun}
+use Rattle.moc_lines.specs.Runs.{AreWithin, IsTooLong, IsBegun, Flushes}
 use Rattle.moc_lines.specs.Scripts.{line_limit, script_rules}
 use Rattle.moc_script.specs.Merges.{InLane, placed, dealt, IsMerge}
-use Rattle.moc_lines.specs.declared.run_error.RunError.{RunError}
-use Rattle.moc_lines.specs.declared.run_error.RunError.TheVariants.{Read, Write, LineTooLong, Memory, Spawn}
+use Rattle.moc_lines.specs.declared.run_error.RunError.TheVariants.{Read, Write, LineTooLong, Memory}
+use Rattle.moc_script.specs.declared.crew_error.CrewError.{CrewError}
+use Rattle.moc_script.specs.declared.crew_error.CrewError.TheVariants.{Run, Spawn}
 
 -- the lines that are not blank
 abbrev pub said_lines : List (List ℕ) → List (List ℕ)
@@ -45,10 +47,6 @@ pub record IsCrewText (lanes : ℕ) (lines : List (List ℕ)) (text : List ℕ) 
   pub answered : IsMerge (answers_in script_rules set.empty order) (dealt lanes answers)
   pub text_is : text ≡ joining answers ++ cover_line (left_by script_rules set.empty order)
 
--- a beginning of such a text
-abbrev pub BeginsCrewText : ℕ → List (List ℕ) → List ℕ → Type 0
-BeginsCrewText lanes lines text = (rest : List ℕ) × IsCrewText lanes lines (text ++ rest)
-
 -- the line of this number, counted from 1, is not blank
 pub record IsSaidLine (number : ℕ) (lines : List (List ℕ)) : Type 0 where
   pub some : 0 < number
@@ -60,28 +58,32 @@ pub record IsSaidLine (number : ℕ) (lines : List (List ℕ)) : Type 0 where
 abbrev pub IsRefusedLine : ℕ → List (List ℕ) → Type 0
 IsRefusedLine number lines = (number ≡ 0) ⊎ IsSaidLine number lines ⊎ (number ≡ length lines + 1)
 
--- the line at which a crew is refused memory: the one that it was reading, or one of all that it was given
-abbrev pub IsCrewLine : List ℕ → List ℕ → ℕ → Type 0
-IsCrewLine input given number = IsBegun number given ⊎ ((given ≡ input) × IsRefusedLine number (lines_of given))
-
 -- What a crew has written when it ends, of a whole input of which this is left: such a text; or a beginning of one
 -- where the writer failed; or nothing. A line that is told is one of what was read: it is too long, or memory was
--- refused at it.
+-- refused while it was read, or once all was read.
 abbrev pub CrewEnds :
-    ℕ → List ℕ → Option (List ℕ) → Option (List ℕ) → Option (List ℕ) → Result (Unit {0}) RunError → Type 0
+    ℕ → List ℕ → Option (List ℕ) → Option (List ℕ) → Option (List ℕ) → Result (Unit {0}) CrewError → Type 0
 CrewEnds lanes input left' written written' (Ok _) =
     AreWithin line_limit (lines_of input)
     × ((text : List ℕ) × Appends written written' text × IsCrewText lanes (said_lines (lines_of input)) text)
-CrewEnds lanes input left' written written' (Err Write) =
-    (text : List ℕ) × Appends written written' text × BeginsCrewText lanes (said_lines (lines_of input)) text
-CrewEnds lanes input left' written written' (Err (LineTooLong line)) =
+CrewEnds lanes input left' written written' (Err (Run Write)) =
+    (text : List ℕ) × Appends written written' text
+    × ((rest : List ℕ) × IsCrewText lanes (said_lines (lines_of input)) (text ++ rest))
+CrewEnds lanes input left' written written' (Err (Run (LineTooLong line))) =
     Keeps written written'
     × ((given : List ℕ) × Consumes (Some input) left' given × IsTooLong line_limit (lines_of given) line)
-CrewEnds lanes input left' written written' (Err Read) = Keeps written written'
-CrewEnds lanes input left' written written' (Err (Memory line)) =
+CrewEnds lanes input left' written written' (Err (Run Read)) = Keeps written written'
+CrewEnds lanes input left' written written' (Err (Run (Memory line))) =
     Keeps written written'
-    × ((given : List ℕ) × Consumes (Some input) left' given × IsCrewLine input given line)
+    × ((given : List ℕ) × Consumes (Some input) left' given
+    × (IsBegun line given ⊎ ((given ≡ input) × IsRefusedLine line (lines_of given))))
 CrewEnds lanes input left' written written' (Err Spawn) = Keeps written written'
+
+-- how often a crew that ends so flushes: as a run does, and never where a thread was refused
+abbrev pub CrewFlushes : Result (Unit {0}) CrewError → Option ℕ → Option ℕ → Type 0
+CrewFlushes (Ok u) old new = Flushes (Ok u) old new
+CrewFlushes (Err (Run error)) old new = Flushes (Err error) old new
+CrewFlushes (Err Spawn) old new = CallsMore old new 0
 
 -- lines that are not blank have as many answers, whatever the order was
 abbrev pub AreAllAnswered : Type 0

@@ -12,12 +12,12 @@ use Rattle.moc_steps.specs.World.{whole}
 use Rattle.moc_steps.specs.Explains.{Explains, result}
 use Rattle.moc_steps.specs.Laws.{ArePlayed, led_to}
 use Rattle.moc_lines.specs.Words.{is_blank}
-use Rattle.moc_lines.specs.Faults.{fault_line}
+use Rattle.moc_lines.specs.Faults.{fault_answer}
 use Rattle.moc_lines.specs.Language.{◌>>=◌, plain_operand_of, command_by, command_of}
 use Rattle.moc_lines.specs.Replies.{reply_text}
 use Rattle.moc_lines.specs.Batches.{is_semicolon, batch_of, line_answer, after_line}
 use Rattle.moc_lines.specs.Answers.{Rules, after_lines, script_text}
-use Rattle.moc_lines.specs.Scripts.{line_limit, answer_on, set_after_line, answers_of}
+use Rattle.moc_lines.specs.Scripts.{line_limit, script_rules, answers_of}
 use Rattle.moc_script.specs.Steps.{BatchStep, said_by}
 use Rattle.moc_script.specs.Schedules.{Schedule, step_rules, schedule_rules, start_schedule, steps_taken, schedule_text}
 use Rattle.moc_lines.specs.declared.fault.Fault.{Fault}
@@ -25,7 +25,7 @@ use Rattle.moc_lines.specs.declared.fault.Fault.{Fault}
 -- the answer to a single command
 abbrev pub single_answer : NumberSet → Result Command Fault → List ℕ
 single_answer a (Ok command) = reply_text (reply_on a command) ++ 10 ∷ []
-single_answer a (Err fault) = fault_line fault
+single_answer a (Err fault) = fault_answer fault
 
 -- what a single command leaves
 abbrev pub after_single : NumberSet → Result Command Fault → NumberSet
@@ -36,19 +36,26 @@ after_single a (Err fault) = a
 abbrev pub LinesOfOneCommand : Type 0
 LinesOfOneCommand =
     (a : NumberSet) (line : List ℕ) → list_any is_semicolon line ≡ false → is_blank line ≡ false
-    → (answer_on a line ≡ single_answer a (command_of line))
-    × (set_after_line a line ≡ after_single a (command_of line))
+    → (script_rules.answer a line ≡ single_answer a (command_of line))
+    × (script_rules.after a line ≡ after_single a (command_of line))
 
 -- `@`
 abbrev pub is_at_sign : ℕ → Bool
 is_at_sign b = b == 64
 
--- A line without `@` is answered as where an operand is a coverage alone, and leaves the same.
+-- the language without orders: an operand is a coverage alone
+abbrev pub plain_rules : Rules NumberSet
+plain_rules = record {
+  answer = line_answer (command_by plain_operand_of);
+  after = after_line (command_by plain_operand_of);
+  closing = λ _. [];
+}
+
+-- A line without `@` is answered as in the language without orders, and leaves the same.
 abbrev pub LinesWithoutOrder : Type 0
 LinesWithoutOrder =
     (a : NumberSet) (line : List ℕ) → list_any is_at_sign line ≡ false
-    → (answer_on a line ≡ line_answer (command_by plain_operand_of) a line)
-    × (set_after_line a line ≡ after_line (command_by plain_operand_of) a line)
+    → (script_rules.answer a line ≡ plain_rules.answer a line) × (script_rules.after a line ≡ plain_rules.after a line)
 
 -- the language without batches: a line is blank, or one command
 abbrev pub single_rules : Rules NumberSet
@@ -63,14 +70,6 @@ abbrev pub ScriptsOfSingleCommands : Type 0
 ScriptsOfSingleCommands =
     (input : List ℕ) → list_any is_semicolon input ≡ false
     → answers_of input ≡ script_text single_rules line_limit set.empty input
-
--- the language without orders: an operand is a coverage alone
-abbrev pub plain_rules : Rules NumberSet
-plain_rules = record {
-  answer = line_answer (command_by plain_operand_of);
-  after = after_line (command_by plain_operand_of);
-  closing = λ _. [];
-}
 
 -- A script without `@` is answered as in the language without orders.
 abbrev pub ScriptsWithoutOrder : Type 0

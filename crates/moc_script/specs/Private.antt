@@ -7,3 +7,4 @@ pub mod Input
 pub mod Gathering
 pub mod Joining
 pub mod Promises
+pub mod StepReading

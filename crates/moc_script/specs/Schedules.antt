@@ -12,14 +12,13 @@ use Rattle.moc_steps.specs.Locks.Step.{Begin}
 use Rattle.moc_steps.specs.World.{World, Entry, start_world, world_after, reply_to, whole}
 use Rattle.moc_steps.specs.declared.error.StepError.{StepError}
 use Rattle.moc_lines.specs.Words.{is_blank}
-use Rattle.moc_lines.specs.Faults.{fault_line}
 use Rattle.moc_lines.specs.Replies.{cover_text, replies_text}
-use Rattle.moc_script.specs.Refusals.{refusal_name}
+use Rattle.moc_script.specs.Refusals.{fault_name, refusal_name}
 use Rattle.moc_script.specs.Steps.{BatchStep, said_step}
 use Rattle.moc_lines.specs.Answers.{Rules, script_text}
 use Rattle.moc_lines.specs.Scripts.{line_limit}
-use Rattle.moc_lines.specs.Runs.{Runs, Begins}
-use Rattle.moc_lines.specs.declared.fault.Fault.{Fault}
+use Rattle.moc_lines.specs.Runs.{Runs}
+use Rattle.moc_script.specs.declared.fault.StepFault.{StepFault}
 use Rattle.moc_lines.specs.declared.run_error.RunError.{RunError}
 
 -- where a schedule stands
@@ -46,9 +45,9 @@ step_text (Some why) reply = codes "refused " ++ refusal_name why
 step_text None reply = done_text reply
 
 -- the answer to what a line says, with its line feed
-abbrev pub answer_to_step : Schedule → Result BatchStep Fault → List ℕ
+abbrev pub answer_to_step : Schedule → Result BatchStep StepFault → List ℕ
 answer_to_step s (Ok step) = step_text (refusal batches s.world.locks step) (reply_to batches s.world step) ++ 10 ∷ []
-answer_to_step s (Err fault) = fault_line fault
+answer_to_step s (Err fault) = codes "fault " ++ fault_name fault ++ 10 ∷ []
 
 -- one more line was read
 abbrev pub next_line : Schedule → Schedule
@@ -69,7 +68,7 @@ after_step None s step = record {
 }
 
 -- what is left by what a line says, which was read last
-abbrev pub after_said : Schedule → Result BatchStep Fault → Schedule
+abbrev pub after_said : Schedule → Result BatchStep StepFault → Schedule
 after_said s (Ok step) = after_step (refusal batches s.world.locks step) s step
 after_said s (Err fault) = s
 
@@ -79,7 +78,7 @@ unless_refused (Some why) step = []
 unless_refused None step = step ∷ []
 
 -- the step that is taken by what a line says: none at a fault, and where it is refused
-abbrev pub step_taken : Schedule → Result BatchStep Fault → List BatchStep
+abbrev pub step_taken : Schedule → Result BatchStep StepFault → List BatchStep
 step_taken s (Ok step) = unless_refused (refusal batches s.world.locks step) step
 step_taken s (Err fault) = []
 
@@ -98,7 +97,7 @@ abbrev pub last_lines : Schedule → List ℕ
 last_lines s = codes "order" ++ begin_lines s.begins s.world.order ++ 10 ∷ end_text s.world ++ 10 ∷ []
 
 -- how lines that say steps are answered; blank ones have no answer, and are counted
-abbrev pub step_rules : (List ℕ → Result BatchStep Fault) → Rules Schedule
+abbrev pub step_rules : (List ℕ → Result BatchStep StepFault) → Rules Schedule
 step_rules says = record {
   answer = λ s line. if is_blank line then [] else answer_to_step s (says line);
   after = λ s line. if is_blank line then next_line s else after_said (next_line s) (says line);
@@ -127,7 +126,3 @@ abbrev pub RunsSchedule : List ℕ → Option (List ℕ) → Option (List ℕ) �
     → Type 0
 RunsSchedule input left written written' result =
     Runs line_limit schedule_rules start_schedule input left written written' result
-
--- what was written is a beginning of the answers to the input
-abbrev pub BeginsSchedule : List ℕ → Option (List ℕ) → Option (List ℕ) → Type 0
-BeginsSchedule input written written' = Begins line_limit schedule_rules start_schedule input written written'

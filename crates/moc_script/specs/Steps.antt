@@ -1,6 +1,7 @@
 -- The language of schedules: what a line says.
 use Rattle.std.specs.Prelude.{ℕ, nat_lt, List, codes, Result, Ok, Err, if◌then◌else◌}
 use Rattle.std.specs.Option.{ok_or}
+use Rattle.std.specs.Result.{result_map_both}
 use Rattle.std.specs.Str.{bytes_eq}
 use Rattle.moc_parts.specs.declared.command.Command.{Command}
 use Rattle.moc_steps.specs.Locks.{Step}
@@ -9,90 +10,94 @@ use Rattle.moc_lines.specs.Words.{is_blank, word_of, behind_word, number_of}
 use Rattle.moc_lines.specs.Language.{◌>>=◌, only_field, two_fields, command_of}
 use Rattle.moc_lines.specs.Batches.{batch_of}
 use Rattle.moc_lines.specs.declared.fault.Fault.{Fault}
-use Rattle.moc_lines.specs.declared.fault.Fault.TheVariants.{UnknownWord, WrongCount, BadNumber, ClientTooLarge}
-use Rattle.moc_lines.specs.declared.fault.Fault.TheVariants.{PartTooLarge}
+use Rattle.moc_lines.specs.declared.fault.Fault.TheVariants.{UnknownWord, WrongCount, BadNumber}
+use Rattle.moc_script.specs.declared.fault.StepFault.{StepFault}
+use Rattle.moc_script.specs.declared.fault.StepFault.TheVariants.{Line, ClientTooLarge, PartTooLarge}
 
 -- a step by a client's batch of commands
 abbrev pub BatchStep : Type 0
 BatchStep = Step (List Command)
 
+-- what a text says as in a script, or its fault as one of a schedule
+abbrev pub as_in_script : {A : Type 0} → Result A Fault → Result A StepFault
+as_in_script said = result_map_both (λ x. x) (λ fault. Line fault) said
+
 -- the client of this number: it has 32 bits
-abbrev pub client_at : ℕ → Result ℕ Fault
+abbrev pub client_at : ℕ → Result ℕ StepFault
 client_at n = if nat_lt 4294967295 n then Err ClientTooLarge else Ok n
 
 -- the part of this number: one of twelve
-abbrev pub part_at : ℕ → Result ℕ Fault
+abbrev pub part_at : ℕ → Result ℕ StepFault
 part_at n = if nat_lt 11 n then Err PartTooLarge else Ok n
 
 -- the client that a field names
-abbrev pub client_by : List ℕ → Result ℕ Fault
+abbrev pub client_by : List ℕ → Result ℕ StepFault
 client_by field = do
-  n ← ok_or (number_of field) BadNumber
+  n ← ok_or (number_of field) (Line BadNumber)
   client_at n
 
 -- the client and the part that two fields name
-abbrev pub place_by : List ℕ → List ℕ → Result (ℕ × ℕ) Fault
+abbrev pub place_by : List ℕ → List ℕ → Result (ℕ × ℕ) StepFault
 place_by client part = do
-  n ← ok_or (number_of client) BadNumber
-  b ← ok_or (number_of part) BadNumber
+  n ← ok_or (number_of client) (Line BadNumber)
+  b ← ok_or (number_of part) (Line BadNumber)
   c ← client_at n
   p ← part_at b
   Ok (c, p)
 
 -- the client that a text names: it has just one field
-abbrev pub client_of : List ℕ → Result ℕ Fault
+abbrev pub client_of : List ℕ → Result ℕ StepFault
 client_of text = do
-  field ← only_field text
+  field ← as_in_script (only_field text)
   client_by field
 
 -- the client and the part that a text names: it has just two fields
-abbrev pub place_of : List ℕ → Result (ℕ × ℕ) Fault
+abbrev pub place_of : List ℕ → Result (ℕ × ℕ) StepFault
 place_of text = do
-  fields ← two_fields text
+  fields ← as_in_script (two_fields text)
   place_by fields.0 fields.1
 
 -- a step of a client, which the text names
-abbrev pub step_by : (ℕ → BatchStep) → List ℕ → Result BatchStep Fault
+abbrev pub step_by : (ℕ → BatchStep) → List ℕ → Result BatchStep StepFault
 step_by step text = do
   c ← client_of text
   Ok (step c)
 
 -- a step of a client at a part, which the text names
-abbrev pub step_at : (ℕ → ℕ → BatchStep) → List ℕ → Result BatchStep Fault
+abbrev pub step_at : (ℕ → ℕ → BatchStep) → List ℕ → Result BatchStep StepFault
 step_at step text = do
   place ← place_of text
   Ok (step place.0 place.1)
 
 -- the step of a word that begins no operation, and of what stands behind it
-abbrev pub other_step : List ℕ → List ℕ → Result BatchStep Fault
+abbrev pub other_step : List ℕ → List ℕ → Result BatchStep StepFault
 other_step word text =
     if bytes_eq word (codes "take") then step_by (λ c. Take c) text
     else (if bytes_eq word (codes "edit") then step_at (λ c b. Edit c b) text
     else (if bytes_eq word (codes "give") then step_at (λ c b. Give c b) text
     else (if bytes_eq word (codes "quit") then step_by (λ c. Quit c) text
     else (if bytes_eq word (codes "end") then step_by (λ c. End c) text
-    else Err UnknownWord))))
+    else Err (Line UnknownWord)))))
 
 module _ (batch_says : List ℕ → Result (List Command) Fault) where
   -- what stands behind `begin`: a client, and its batch of commands
-  abbrev pub begin_by : List ℕ → List ℕ → Result BatchStep Fault
+  abbrev pub begin_by : List ℕ → List ℕ → Result BatchStep StepFault
   begin_by client line = do
     c ← client_by client
-    commands ← batch_says line
+    commands ← as_in_script (batch_says line)
     Ok (Begin c commands)
 
   -- what stands behind `begin`, with a word behind the client
-  abbrev pub begin_of : List ℕ → Result BatchStep Fault
-  begin_of text = if is_blank (behind_word text) then Err WrongCount else begin_by (word_of text) (behind_word text)
-
-  -- the step of a word, and of what stands behind it
-  abbrev pub step_named : List ℕ → List ℕ → Result BatchStep Fault
-  step_named word text = if bytes_eq word (codes "begin") then begin_of text else other_step word text
+  abbrev pub begin_of : List ℕ → Result BatchStep StepFault
+  begin_of text =
+      if is_blank (behind_word text) then Err (Line WrongCount) else begin_by (word_of text) (behind_word text)
 
   -- the step that a line says, where a batch of commands is said so
-  abbrev pub said_by : List ℕ → Result BatchStep Fault
-  said_by line = step_named (word_of line) (behind_word line)
+  abbrev pub said_by : List ℕ → Result BatchStep StepFault
+  said_by line =
+      if bytes_eq (word_of line) (codes "begin") then begin_of (behind_word line)
+      else other_step (word_of line) (behind_word line)
 
 -- the step that a line says
-abbrev pub said_step : List ℕ → Result BatchStep Fault
+abbrev pub said_step : List ℕ → Result BatchStep StepFault
 said_step line = said_by (batch_of command_of) line

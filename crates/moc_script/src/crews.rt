@@ -1,11 +1,9 @@
 //! Scripts that several threads answer.
-ghost use Rattle.std.specs.Prelude.{◌≡◌, ◌≢◌, ◌⊎◌, ◌<◌, ◌≤◌, ◌↔◌, ℕ, List, false};
-ghost use Rattle.std.specs.Prelude.{IfOk, IfSome, IfErr, OnOk, OnErr, Err, IsErrOf};
-ghost use Rattle.std.specs.Prelude.{IsTrue, length};
+ghost use Rattle.std.specs.Prelude.{◌≡◌, ◌≢◌, ◌⊎◌, ◌<◌, ◌≤◌, ◌↔◌, ℕ, List, false, IfOk, IfSome, IfErr, OnOk, OnErr};
+ghost use Rattle.std.specs.Prelude.{Err, IsErrOf, IsTrue, length};
 ghost use Rattle.std.specs.Io.KnownBytes.{IsAtEnd};
-ghost use Rattle.moc_lines.specs.Runs.{Flushes};
 ghost use Rattle.moc_text.specs.Lines.{lines_of};
-ghost use Rattle.moc_script.specs.Crews.{CrewEnds, cover_line, said_lines};
+ghost use Rattle.moc_script.specs.Crews.{CrewEnds, CrewFlushes, cover_line, said_lines};
 ghost use Rattle.moc_script.specs.Private.Gathering.{NamesLine};
 ghost use Rattle.moc_script.specs.Private.Joining.{EndsTold, IsTold};
 
@@ -19,13 +17,14 @@ mod lines;
 mod texts;
 mod threads;
 
+use crate::crew_error::CrewError;
 pub use gate::{Gate, OpenGate};
 use gathering::{all_done, take_in_all};
 use joining::{JoinError, write_joined};
 pub use lanes::Lanes;
 pub use laws::crews_answer_each_line;
 use moc_devices::{Sink, Source};
-use moc_lines::{ReadFault, RunError, line_behind, push_cover, read_all};
+use moc_lines::{InputError, RunError, number_behind_last, push_cover, read_all};
 use moc_ranges::{Coverage, Memory};
 use moc_shared::{CloseError, NewError, SharedMap};
 use std::alloc::Global;
@@ -110,7 +109,7 @@ pub fn crew<R: Source, W: Sink, G: Gate + Sync, T: Threads + Wait + Sync>(
     writer: &mut W,
     lanes: Lanes,
     gate: &G,
-) -> Result<(), RunError>
+) -> Result<(), CrewError>
     requires reader { R.mark reader.old ≡ false }
     requires writer { W.mark writer.old ≡ false }
 
@@ -122,26 +121,28 @@ pub fn crew<R: Source, W: Sink, G: Gate + Sync, T: Threads + Wait + Sync>(
     ensures end { OnOk result (IsAtEnd (R.left reader.new)) }
     ensures flushed { OnOk result (IsTrue (W.flushed writer.new)) }
     ensures unflushed { OnErr result (IsTrue (W.flushed writer.new) → IsTrue (W.flushed writer.old)) }
-    ensures flushes { Flushes result (W.flushes writer.old) (W.flushes writer.new) }
+    ensures flushes { CrewFlushes result (W.flushes writer.old) (W.flushes writer.new) }
 
     // The devices' faults are theirs, and a device that failed is told.
-    ensures read { IsErrOf result RunError.Read → IsTrue (R.mark reader.new) }
-    ensures write { IsErrOf result RunError.Write ↔ IsTrue (W.mark writer.new) }
-    ensures told { IsTrue (R.mark reader.new) → IsErrOf result RunError.Read }
+    ensures read { IsErrOf result (CrewError.Run RunError.Read) → IsTrue (R.mark reader.new) }
+    ensures write { IsErrOf result (CrewError.Run RunError.Write) ↔ IsTrue (W.mark writer.new) }
+    ensures told { IsTrue (R.mark reader.new) → IsErrOf result (CrewError.Run RunError.Read) }
 {
     let input = match read_all(alloc, reader) {
         Ok(input) => input,
-        Err(ReadFault::Read) => return Err(RunError::Read),
-        Err(ReadFault::TooLong { line }) => return Err(RunError::LineTooLong { line }),
-        Err(ReadFault::Memory { line }) => return Err(RunError::Memory { line }),
+        Err(InputError::Read) => return Err(CrewError::Run(RunError::Read)),
+        Err(InputError::TooLong { line }) => {
+            return Err(CrewError::Run(RunError::LineTooLong { line }));
+        }
+        Err(InputError::Memory { line }) => return Err(CrewError::Run(RunError::Memory { line })),
     };
     let told = match answer_all(rt, alloc, gate, &input, lanes) {
         Ok(told) => told,
-        Err(LanesError::Spawn) => return Err(RunError::Spawn),
-        Err(LanesError::Memory { line }) => return Err(RunError::Memory { line }),
+        Err(LanesError::Spawn) => return Err(CrewError::Spawn),
+        Err(LanesError::Memory { line }) => return Err(CrewError::Run(RunError::Memory { line })),
         Err(LanesError::MemoryBehind) => {
-            let line = line_behind(&input);
-            return Err(RunError::Memory { line });
+            let line = number_behind_last(&input);
+            return Err(CrewError::Run(RunError::Memory { line }));
         }
     };
     write_told(alloc, &input, &told, writer)
@@ -153,27 +154,27 @@ fn write_told<W: Sink>(
     input: &[u8],
     told: &Told,
     writer: &mut W,
-) -> Result<(), RunError>
+) -> Result<(), CrewError>
     requires some { 0 < length told.now.answers.items }
     requires writer { W.mark writer.old ≡ false }
     ensures ends { EndsTold input.now told.now.answers.items told.now.cover.items
         (W.written writer.old) (W.written writer.new) result }
     ensures flushed { OnOk result (IsTrue (W.flushed writer.new)) }
     ensures unflushed { OnErr result (IsTrue (W.flushed writer.new) → IsTrue (W.flushed writer.old)) }
-    ensures flushes { Flushes result (W.flushes writer.old) (W.flushes writer.new) }
-    ensures write { IsErrOf result RunError.Write ↔ IsTrue (W.mark writer.new) }
-    ensures read { result ≢ Err RunError.Read }
+    ensures flushes { CrewFlushes result (W.flushes writer.old) (W.flushes writer.new) }
+    ensures write { IsErrOf result (CrewError.Run RunError.Write) ↔ IsTrue (W.mark writer.new) }
+    ensures read { result ≢ Err (CrewError.Run RunError.Read) }
 {
     match write_joined(alloc, &told.answers, &told.cover, writer) {
         Ok(()) => {}
         Err(JoinError::Memory) => {
-            let line = line_behind(input);
-            return Err(RunError::Memory { line });
+            let line = number_behind_last(input);
+            return Err(CrewError::Run(RunError::Memory { line }));
         }
-        Err(JoinError::Write) => return Err(RunError::Write),
+        Err(JoinError::Write) => return Err(CrewError::Run(RunError::Write)),
     }
     if writer.flush().is_err() {
-        return Err(RunError::Write);
+        return Err(CrewError::Run(RunError::Write));
     }
     Ok(())
 }

@@ -2,13 +2,17 @@
 //! `moc_lines`.
 #![tactic(auto)]
 
+mod crew_error;
 mod crews;
+mod fault;
 mod laws;
 mod player;
 mod schedule;
 mod step;
 
+pub use crew_error::CrewError;
 pub use crews::{Gate, Lanes, OpenGate, crew, crews_answer_each_line};
+pub use fault::StepFault;
 pub use laws::{
     lines_of_one_command, lines_without_order, schedules_have_one_order,
     schedules_of_single_commands, schedules_without_order, scripts_of_single_commands,
@@ -16,6 +20,6 @@ pub use laws::{
 };
 pub use moc_lines::{
     DeviceFault, Fault, LINE_LIMIT, NameError, Numbering, OverReader, OverWriter, ReadError,
-    Renumbering, RunError, Sink, Source, answer_text, read_line, renumber, run, write_all,
+    Renumbering, RunError, Sink, Source, answer_text, read_batch, renumber, run, write_all,
 };
 pub use schedule::play;

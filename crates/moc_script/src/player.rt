@@ -7,11 +7,9 @@ ghost use Rattle.moc_script.specs.Refusals.{refusal_name};
 ghost use Rattle.moc_script.specs.Schedules.{after_step, answer_to_step, begin_lines, done_text, end_text};
 ghost use Rattle.moc_script.specs.Schedules.{schedule_rules, start_schedule};
 
+use crate::fault::{ReadStepError, push_step_fault};
 use crate::step::read_step;
-use moc_lines::{
-    ReadError, Responder, is_blank_text, push_count, push_cover, push_fault, push_reply_line,
-    push_words,
-};
+use moc_lines::{Responder, is_blank_text, push_count, push_cover, push_reply_line};
 use moc_parts::Replies;
 use moc_ranges::{Coverage, Memory};
 use moc_steps::{CoverError, Entry, Step, StepError, World};
@@ -39,7 +37,7 @@ impl Model for Player {
 
 impl Player {
     /// A machine whose set is empty, before the first line.
-    pub fn new(alloc: Global) -> Result<Player, Memory>
+    pub(crate) fn new(alloc: Global) -> Result<Player, Memory>
         ensures { IfOk result (λ player. player ≡ start_schedule) }
     {
         Ok(Player {
@@ -84,17 +82,18 @@ impl Responder for Player {
         }
         match read_step(alloc, line) {
             Ok(step) => self.take(alloc, step, text),
-            Err(ReadError::Fault(fault)) => push_fault(fault, text),
-            Err(ReadError::Memory) => Err(Memory),
+            Err(ReadStepError::Fault(fault)) => push_step_fault(fault, text),
+            Err(ReadStepError::Memory) => Err(Memory),
         }
     }
 
     fn close(&self, alloc: Global, text: &mut Vec<u8>) -> Result<(), Memory> {
-        push_words(b"order", text)?;
+        text.extend_from_slice(b"order")?;
         push_order(self.world.order(), &self.begins, text)?;
-        push_words(b"\n", text)?;
+        text.extend_from_slice(b"\n")?;
         push_end(alloc, &self.world, text)?;
-        push_words(b"\n", text)
+        text.extend_from_slice(b"\n")?;
+        Ok(())
     }
 }
 
@@ -103,18 +102,20 @@ fn push_done(alloc: Global, replies: Option<Replies>, text: &mut Vec<u8>) -> Res
     ensures { OnOk result (text.new.items ≡ text.old.items ++ (done_text replies ++ 10 ∷ [])) }
 {
     match replies {
-        None => push_words(b"ok\n", text),
-        Some(replies) => push_reply_line(alloc, replies.as_slice(), text),
+        None => text.extend_from_slice(b"ok\n")?,
+        Some(replies) => push_reply_line(alloc, replies.as_slice(), text)?,
     }
+    Ok(())
 }
 
 /// Adds what is said of a refused step.
 fn push_refused(why: StepError, text: &mut Vec<u8>) -> Result<(), Memory>
     ensures { OnOk result (text.new.items ≡ text.old.items ++ (codes "refused " ++ refusal_name why ++ 10 ∷ [])) }
 {
-    push_words(b"refused ", text)?;
-    push_words(name_of_refusal(why).as_bytes(), text)?;
-    push_words(b"\n", text)
+    text.extend_from_slice(b"refused ")?;
+    text.extend_from_slice(name_of_refusal(why).as_bytes())?;
+    text.extend_from_slice(b"\n")?;
+    Ok(())
 }
 
 /// The name of a refusal, without its numbers.

@@ -1,14 +1,14 @@
 //! The steps that lines of a schedule say.
 ghost use Rattle.std.specs.Prelude.{◌≤◌, SomeIff};
 ghost use Rattle.moc_steps.specs.Played.{step_of};
-ghost use Rattle.moc_lines.specs.Readings.{Reads};
 ghost use Rattle.moc_lines.specs.Batches.{batch_of};
 ghost use Rattle.moc_lines.specs.Language.{command_of};
 ghost use Rattle.moc_script.specs.Steps.{begin_by, begin_of, client_by, client_of, place_by, place_of, said_step};
+ghost use Rattle.moc_script.specs.Private.StepReading.{ReadsStep};
 
+use crate::fault::{ReadStepError, StepFault};
 use moc_lines::{
-    Fault, ReadError, is_blank_text, is_word, number_in, only_field, read_line, split_word,
-    two_fields,
+    Fault, is_blank_text, is_word, number_in, only_field, read_batch, split_word, two_fields,
 };
 use moc_parts::Part;
 use moc_steps::Step;
@@ -29,66 +29,66 @@ fn part_of_number(number: u64) -> Option<Part>
 }
 
 /// The client that a field names.
-fn read_client(field: &[u8]) -> Result<u32, ReadError>
-    ensures { Reads (λ client. client) result (client_by field.now) }
+fn read_client(field: &[u8]) -> Result<u32, ReadStepError>
+    ensures { ReadsStep (λ client. client) result (client_by field.now) }
 {
     let Some(number) = number_in(field) else {
-        return Err(ReadError::Fault(Fault::BadNumber));
+        return Err(ReadStepError::Fault(StepFault::Line(Fault::BadNumber)));
     };
-    client_of_number(number).ok_or(ReadError::Fault(Fault::ClientTooLarge))
+    client_of_number(number).ok_or(ReadStepError::Fault(StepFault::ClientTooLarge))
 }
 
 /// The client and the part that two fields name.
-fn read_place(client: &[u8], part: &[u8]) -> Result<(u32, Part), ReadError>
-    ensures { Reads (λ place. place) result (place_by client.now part.now) }
+fn read_place(client: &[u8], part: &[u8]) -> Result<(u32, Part), ReadStepError>
+    ensures { ReadsStep (λ place. place) result (place_by client.now part.now) }
 {
     let Some(client) = number_in(client) else {
-        return Err(ReadError::Fault(Fault::BadNumber));
+        return Err(ReadStepError::Fault(StepFault::Line(Fault::BadNumber)));
     };
     let Some(part) = number_in(part) else {
-        return Err(ReadError::Fault(Fault::BadNumber));
+        return Err(ReadStepError::Fault(StepFault::Line(Fault::BadNumber)));
     };
     let Some(client) = client_of_number(client) else {
-        return Err(ReadError::Fault(Fault::ClientTooLarge));
+        return Err(ReadStepError::Fault(StepFault::ClientTooLarge));
     };
     match part_of_number(part) {
         Some(part) => Ok((client, part)),
-        None => Err(ReadError::Fault(Fault::PartTooLarge)),
+        None => Err(ReadStepError::Fault(StepFault::PartTooLarge)),
     }
 }
 
 /// The client that a text names: it has just one field.
-fn only_client(text: &[u8]) -> Result<u32, ReadError>
-    ensures { Reads (λ client. client) result (client_of text.now) }
+fn only_client(text: &[u8]) -> Result<u32, ReadStepError>
+    ensures { ReadsStep (λ client. client) result (client_of text.now) }
 {
     let field = only_field(text)?;
     read_client(field)
 }
 
 /// The client and the part that a text names: it has just two fields.
-fn only_place(text: &[u8]) -> Result<(u32, Part), ReadError>
-    ensures { Reads (λ place. place) result (place_of text.now) }
+fn only_place(text: &[u8]) -> Result<(u32, Part), ReadStepError>
+    ensures { ReadsStep (λ place. place) result (place_of text.now) }
 {
     let (client, part) = two_fields(text)?;
     read_place(client, part)
 }
 
 /// What stands behind `begin`: a client, and a batch of commands.
-fn read_begin(alloc: Global, text: &[u8]) -> Result<Step, ReadError>
-    ensures { Reads step_of result (begin_of (batch_of command_of) text.now) }
+fn read_begin(alloc: Global, text: &[u8]) -> Result<Step, ReadStepError>
+    ensures { ReadsStep step_of result (begin_of (batch_of command_of) text.now) }
 {
     let (field, line) = split_word(text);
     if is_blank_text(line) {
-        return Err(ReadError::Fault(Fault::WrongCount));
+        return Err(ReadStepError::Fault(StepFault::Line(Fault::WrongCount)));
     }
     let client = read_client(field)?;
-    let batch = read_line(alloc, line)?;
+    let batch = read_batch(alloc, line)?;
     Ok(Step::Begin { client, batch })
 }
 
 /// The step that a line says.
-pub(crate) fn read_step(alloc: Global, line: &[u8]) -> Result<Step, ReadError>
-    ensures { Reads step_of result (said_step line.now) }
+pub(crate) fn read_step(alloc: Global, line: &[u8]) -> Result<Step, ReadStepError>
+    ensures { ReadsStep step_of result (said_step line.now) }
 {
     let (word, text) = split_word(line);
     if is_word(word, "begin") {
@@ -109,6 +109,6 @@ pub(crate) fn read_step(alloc: Global, line: &[u8]) -> Result<Step, ReadError>
         let client = only_client(text)?;
         Ok(Step::End { client })
     } else {
-        Err(ReadError::Fault(Fault::UnknownWord))
+        Err(ReadStepError::Fault(StepFault::Line(Fault::UnknownWord)))
     }
 }

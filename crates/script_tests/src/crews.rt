@@ -3,7 +3,9 @@ use crate::between::{Ended, expect_end};
 use crate::failing::{
     Devices, FailingSink, FailingSource, Failure, SOUND, failing_reader, failing_writer,
 };
-use moc_script::{Gate, LINE_LIMIT, Lanes, OpenGate, OverReader, OverWriter, RunError, crew};
+use moc_script::{
+    CrewError, Gate, LINE_LIMIT, Lanes, OpenGate, OverReader, OverWriter, RunError, crew,
+};
 use std::alloc::Global;
 use std::marker::Sync;
 use std::process::Abort;
@@ -16,8 +18,8 @@ const MOST_TURNS: u64 = 1_000_000;
 
 const SCRIPT: &[u8] = b"add 0/0\nadd 0/1\ncount 0/0\ncount 0/1\n";
 
-const ANSWERS: &[u8] =
-    b"changed 288230376151711744\nchanged 288230376151711744\ntotal 288230376151711744\ntotal 288230376151711744\ncover 0/0-1\n";
+const ANSWERS: &[u8] = b"changed 288230376151711744\nchanged 288230376151711744\n\
+      total 288230376151711744\ntotal 288230376151711744\ncover 0/0-1\n";
 
 const CLAIMS: &[u8] = b"claim 0/4\nhop\n\nclaim 1/17";
 
@@ -41,7 +43,11 @@ fn crew_between<T: Abort + Threads + Wait + Sync, G: Gate + Sync>(
     let lanes = lanes(rt, count);
     let mut source = FailingSource::new(script, devices);
     let mut sink = FailingSink::new(alloc, devices);
-    let result = crew(rt, alloc, &mut source, &mut sink, lanes, gate);
+    let result = match crew(rt, alloc, &mut source, &mut sink, lanes, gate) {
+        Ok(()) => Ok(()),
+        Err(CrewError::Run(error)) => Err(error),
+        Err(CrewError::Spawn) => panic!(rt; "a thread could not be started"),
+    };
     Ended {
         devices,
         result,
@@ -250,7 +256,10 @@ fn too_long_a_line(rt: HostRuntime) {
         lanes(&rt, 2),
         &gate,
     );
-    assert_eq!(rt; result, Err(RunError::LineTooLong { line: 2 }));
+    assert_eq!(rt;
+        result,
+        Err(CrewError::Run(RunError::LineTooLong { line: 2 }))
+    );
     assert!(rt; taken.is_empty());
     assert_eq!(rt; gate.passed.load(Ordering::SeqCst), 0);
 }

@@ -2,8 +2,8 @@
 use crate::between::{Ended, Language, between, expect_answers, expect_end, holds};
 use crate::failing::{Devices, FailsOnce, Failure, PLENTY, failing_reader, failing_writer};
 use moc_script::{
-    DeviceFault, Fault, LINE_LIMIT, OverReader, OverWriter, ReadError, RunError, Sink, Source, run,
-    write_all,
+    CrewError, DeviceFault, Fault, LINE_LIMIT, OverReader, OverWriter, ReadError, RunError, Sink,
+    Source, run, write_all,
 };
 use std::alloc::{AllocError, Global};
 use std::fmt::Display;
@@ -11,8 +11,8 @@ use std::process::Abort;
 
 const SCRIPT: &[u8] = b"add 0/0\nadd 0/0 ; count 0/0-1\n \t\r\n\nhop\nadd 5/7-3\nread 0/0-1 5";
 
-const ANSWERS: &[u8] =
-    b"changed 288230376151711744\nchanged 0 ; total 288230376151711744\nfault UnknownWord\nfault Backwards\ncover 0/0\n";
+const ANSWERS: &[u8] = b"changed 288230376151711744\nchanged 0 ; total 288230376151711744\n\
+      fault UnknownWord\nfault Backwards\ncover 0/0\n";
 
 // Runs a script between such devices.
 fn run_between(alloc: Global, script: &[u8], devices: Devices) -> Ended {
@@ -225,8 +225,8 @@ cover 1/0
 #[test]
 fn sixteen_commands(rt: HostRuntime) {
     let script = b"read;read;read;read;read;read;read;read;read;read;read;read;read;read;read;read";
-    let answers =
-        b"cover ; cover ; cover ; cover ; cover ; cover ; cover ; cover ; cover ; cover ; cover ; cover ; cover ; cover ; cover ; cover\n";
+    let answers = b"cover ; cover ; cover ; cover ; cover ; cover ; cover ; cover ; \
+          cover ; cover ; cover ; cover ; cover ; cover ; cover ; cover\n";
     expect(&rt, rt.alloc(), script, answers);
 }
 
@@ -480,9 +480,11 @@ fn texts_of_errors(rt: HostRuntime) {
     expect_text(
         &rt,
         alloc,
-        &RunError::Spawn,
+        &CrewError::Spawn,
         "a thread could not be started",
     );
+    let error = CrewError::Run(RunError::Read);
+    expect_text(&rt, alloc, &error, "the input could not be read");
     expect_text(&rt, alloc, &DeviceFault, "a device failed");
     let fault = ReadError::Fault(Fault::TooManyCommands);
     expect_text(&rt, alloc, &fault, "a line has at most 16 commands");

@@ -6,7 +6,7 @@ use Rattle.moc_lines.specs.Lines.{whole_lines_of}
 use Rattle.moc_lines.specs.Answers.{Rules, answers_to, closing_behind}
 use Rattle.moc_lines.specs.Runs.{AreWithin, IsTooLong, lines_before, IsBegun, IsUnclosed}
 use Rattle.moc_lines.specs.declared.run_error.RunError.{RunError}
-use Rattle.moc_lines.specs.declared.run_error.RunError.TheVariants.{Read, Write, LineTooLong, Memory, Spawn}
+use Rattle.moc_lines.specs.declared.run_error.RunError.TheVariants.{Read, Write, LineTooLong, Memory}
 
 module _ {S : Type 0} (limit : ℕ) (rules : Rules S) (s : S) where
   -- Where the lines stand that were answered before a run's end:
@@ -20,7 +20,6 @@ module _ {S : Type 0} (limit : ℕ) (rules : Rules S) (s : S) where
   EndsAt lines given left (Err (Memory number)) =
       (IsBegun number given ⊎ (IsAtEnd left × IsUnclosed number given (closing_behind rules s (lines_of given))))
       × (lines ≡ lines_before number given)
-  EndsAt lines given left (Err Spawn) = ⊥
 
 -- what is said when a run ends so: the answers to the lines, and behind them the closing text where all are answered
 abbrev pub text_at : {S : Type 0} → Rules S → S → List (List ℕ) → Result (Unit {0}) RunError → List ℕ

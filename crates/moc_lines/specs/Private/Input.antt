@@ -3,10 +3,8 @@ use Rattle.std.specs.Prelude.{◌≡◌, ℕ, ◌≤◌, List, [], ◌∷◌, �
 use Rattle.std.specs.List.{count_by}
 use Rattle.moc_text.specs.Lines.{is_line_feed, lines_of}
 use Rattle.moc_lines.specs.Private.Held.{IsUnbroken}
-use Rattle.moc_lines.specs.Runs.{AreWithin, IsTooLong, IsBegun}
+use Rattle.moc_lines.specs.Runs.{AreWithin}
 use Rattle.moc_lines.specs.Scripts.{line_limit}
-use Rattle.moc_lines.specs.declared.reading.ReadFault.{ReadFault}
-use Rattle.moc_lines.specs.declared.reading.ReadFault.TheVariants.{Read, TooLong, Memory}
 
 -- Of these bytes the lines that a line feed ends lie before the start, and are within the limit; the line that is begun
 -- there is so too.
@@ -25,9 +23,3 @@ pub record IsBehindLast (bytes : List ℕ) (place : ℕ) : Type 0 where
   pub ends : take place bytes ≡ front ++ 10 ∷ []
   pub unbroken : IsUnbroken (drop place bytes)
   pub inside : place ≤ length bytes
-
--- the line that is told, of what was given, is over the limit, or is one that was begun
-abbrev pub fails_on : List ℕ → ReadFault → Type 0
-fails_on given Read = Unit {0}
-fails_on given (TooLong line) = IsTooLong line_limit (lines_of given) line
-fails_on given (Memory line) = IsBegun line given

@@ -7,7 +7,7 @@ use Rattle.moc_devices.specs.Devices.{Sends}
 use Rattle.moc_text.specs.Lines.{lines_of}
 use Rattle.moc_script.specs.Crews.{CrewEnds, IsCrewText, said_lines}
 use Rattle.moc_lines.specs.Inputs.{ReadsAll}
-use Rattle.moc_lines.specs.declared.run_error.RunError.{RunError}
+use Rattle.moc_script.specs.declared.crew_error.CrewError.{CrewError}
 
 -- each lane has as many answers as it has lines, of so many lines
 abbrev pub AreForLines : ℕ → List (List (List ℕ)) → ℕ → Type 0
@@ -52,7 +52,7 @@ pub record IsTold (lanes : ℕ) (said : List (List ℕ)) (answers : List (List (
 
 -- What so many lanes answered an input that was read whole is written, as far as the outcome says, as a crew ends.
 abbrev pub EndsTold : List ℕ → List (List (List ℕ)) → List ℕ → Option (List ℕ) → Option (List ℕ)
-    → Result (Unit {0}) RunError → Type 0
+    → Result (Unit {0}) CrewError → Type 0
 EndsTold input answers cover written written' result =
     (lanes : ℕ) (left left' : Option (List ℕ))
     → IsTold lanes (said_lines (lines_of input)) answers cover → ReadsAll left left' input

@@ -37,7 +37,7 @@ fn first_unfinished(ends: &[Result<LaneEnd, Unfinished>]) -> Option<Unfinished>
 }
 
 /// The lanes' ends, if all went well; or the line at which the first lane was refused memory, or else stopped.
-pub fn all_done(
+pub(crate) fn all_done(
     alloc: Global,
     ends: Vec<Result<LaneEnd, Unfinished>>,
 ) -> Result<Vec<LaneEnd>, LanesError>
@@ -80,7 +80,7 @@ fn both(map: &SharedMap, first: Option<Client>, second: Client) -> Client
 }
 
 /// One client with the records of all, and the answers of the lanes in order.
-pub fn take_in_all(
+pub(crate) fn take_in_all(
     alloc: Global,
     map: &SharedMap,
     input: &[u8],

@@ -1,6 +1,6 @@
 //! The answers in the order of the lines.
-ghost use Rattle.std.specs.Prelude.{◌≡◌, ◌≢◌, ◌<◌, ◌≤◌, ◌+◌, ◌++◌, ◌↔◌, [], Err, false, length};
-ghost use Rattle.std.specs.Prelude.{IfOk, OnOk, OnErr, IsErrOf, IsTrue, vec_len, vec_capacity};
+ghost use Rattle.std.specs.Prelude.{◌≡◌, ◌≢◌, ◌<◌, ◌≤◌, ◌+◌, ◌++◌, ◌↔◌, [], Err, false, length, IfOk, OnOk, OnErr};
+ghost use Rattle.std.specs.Prelude.{IsErrOf, IsTrue, vec_len, vec_capacity};
 ghost use Rattle.std.specs.Io.KnownBytes.{Keeps};
 ghost use Rattle.moc_devices.specs.Devices.{CallsMore, Sends};
 ghost use Rattle.moc_script.specs.Private.Joining.{JoinsTo, SendsTurns};
@@ -12,7 +12,7 @@ use std::alloc::Global;
 
 /// Why the answers were not all written.
 #[derive(Clone, Copy)]
-pub enum JoinError {
+pub(crate) enum JoinError {
     /// Memory was refused, and nothing is written.
     Memory,
     /// The writer failed.
@@ -121,7 +121,7 @@ fn put(text: &[u8], pending: &mut Vec<u8>)
 
 /// Writes the answers of the lines in order, one from each lane in turn, and the text behind them. The answers of a
 /// lane that is alone stand so already. All memory is had before the first byte is written.
-pub fn write_joined<W: Sink>(
+pub(crate) fn write_joined<W: Sink>(
     alloc: Global,
     answers: &[Texts],
     behind: &[u8],

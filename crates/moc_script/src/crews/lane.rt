@@ -18,14 +18,14 @@ use std::sync::atomic::{AtomicBool, Ordering};
 
 /// What a lane has when its lines are done: its client, and its answers in order.
 #[derive(Drop)]
-pub struct LaneEnd {
-    pub client: Client,
-    pub answers: Texts,
+pub(crate) struct LaneEnd {
+    pub(crate) client: Client,
+    pub(crate) answers: Texts,
 }
 
 /// Why a lane has not done all of its lines.
 #[derive(Clone, Copy)]
-pub enum Unfinished {
+pub(crate) enum Unfinished {
     /// Memory was refused while this line was done.
     Refused { line: u64 },
     /// Something was refused to the crew before this line was begun.
@@ -34,7 +34,7 @@ pub enum Unfinished {
 
 impl Unfinished {
     /// The line at which the lane ended.
-    pub fn line(self) -> u64
+    pub(crate) fn line(self) -> u64
         ensures { result ≡ line_at self }
     {
         match self {
@@ -44,7 +44,7 @@ impl Unfinished {
 
     /// Whether a crew tells this end, and not the other: a lane that was refused goes before one that stopped, and of
     /// two alike that of the lesser line.
-    pub fn goes_before(self, other: Unfinished) -> bool
+    pub(crate) fn goes_before(self, other: Unfinished) -> bool
         ensures yes { result ≡ true → GoesBefore self other }
         ensures no { result ≡ false → GoesBefore other self }
     {
@@ -131,7 +131,7 @@ fn refused(stop: &AtomicBool, line: u64) -> Unfinished
 }
 
 /// Does the lines of the client's lane, of so many, in order; before each it looks whether it is to stop.
-pub fn work<R: Wait, G: Gate>(
+pub(crate) fn work<R: Wait, G: Gate>(
     rt: &R,
     alloc: Global,
     gate: &G,

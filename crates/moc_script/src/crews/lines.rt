@@ -9,7 +9,7 @@ use moc_lines::{is_blank_text, split_line};
 /// The lines of a lane that are to come: of those that are not blank, each that comes once all other lanes have had
 /// one.
 #[derive(Drop)]
-pub struct LaneLines<'a> {
+pub(crate) struct LaneLines<'a> {
     /// The lines of all lanes that were not passed yet.
     bytes: &'a [u8],
     /// How many lines were passed.
@@ -22,7 +22,7 @@ pub struct LaneLines<'a> {
 
 impl<'a> LaneLines<'a> {
     /// The lines of a lane, of so many.
-    pub fn new(input: &'a [u8], lanes: u8, lane: u8) -> LaneLines<'a>
+    pub(crate) fn new(input: &'a [u8], lanes: u8, lane: u8) -> LaneLines<'a>
         requires { lane < lanes }
         ensures left { lines_left result ≡ lane_lines lanes input.now lane }
         ensures none { (result.bytes.now ≡ input.now) × (result.passed ≡ 0) }
@@ -36,7 +36,7 @@ impl<'a> LaneLines<'a> {
     }
 
     /// The next line of the lane, with its number.
-    pub fn next_line(&mut self) -> Option<(u64, &'a [u8])>
+    pub(crate) fn next_line(&mut self) -> Option<(u64, &'a [u8])>
         requires few { self.old.passed + length (lines_of self.old.bytes.now) < 2 ^ 64 }
         ensures some { IfSome result (λ next. lines_left self.old ≡ next.1.now ∷ lines_left self.new) }
         ensures number { IfSome result (λ next. Passes self.old next.0 next.1.now self.new) }

@@ -7,7 +7,7 @@ use std::marker::Model;
 
 /// Texts one behind another in one buffer, and how long each is.
 #[derive(Drop)]
-pub struct Texts {
+pub(crate) struct Texts {
     lens: Vec<usize>,
     bytes: Vec<u8>,
 }
@@ -25,7 +25,7 @@ impl Model for Texts {
 
 impl Texts {
     /// The texts of these lengths that lie in these bytes.
-    pub fn new(lens: Vec<usize>, bytes: Vec<u8>) -> Texts
+    pub(crate) fn new(lens: Vec<usize>, bytes: Vec<u8>) -> Texts
         requires { total lens.items ≡ length bytes.items }
         ensures { result ≡ cut lens.items bytes.items }
     {
@@ -33,14 +33,14 @@ impl Texts {
     }
 
     /// The texts, one after another, as they lie in the buffer.
-    pub fn as_bytes(&self) -> &[u8]
+    pub(crate) fn as_bytes(&self) -> &[u8]
         ensures { result.now ≡ joining self.now }
     {
         &self.bytes
     }
 
     /// The texts, from the first.
-    pub fn walk(&self) -> Walk<'_>
+    pub(crate) fn walk(&self) -> Walk<'_>
         ensures { result ≡ self.now }
     {
         Walk {
@@ -52,7 +52,7 @@ impl Texts {
 
 /// Texts to come.
 #[derive(Drop)]
-pub struct Walk<'a> {
+pub(crate) struct Walk<'a> {
     lens: &'a [usize],
     bytes: &'a [u8],
 }
@@ -70,7 +70,7 @@ impl<'a> Model for Walk<'a> {
 
 impl<'a> Walk<'a> {
     /// The next text.
-    pub fn next_text(&mut self) -> Option<&'a [u8]>
+    pub(crate) fn next_text(&mut self) -> Option<&'a [u8]>
         ensures some { IfSome result (λ text. self.old ≡ text.now ∷ self.new) }
         ensures none { result ≡ None → self.old ≡ [] }
     {

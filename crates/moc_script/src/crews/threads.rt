@@ -17,7 +17,7 @@ use std::thread::{Promise, PromisedHandle, Scope, Threads};
 
 /// Why the lanes have no answers.
 #[derive(Clone, Copy)]
-pub enum LanesError {
+pub(crate) enum LanesError {
     /// A thread could not be started.
     Spawn,
     /// Memory was refused at this line.
@@ -28,11 +28,11 @@ pub enum LanesError {
 
 /// What a lane is given: the map, the script, how many lanes answer it, and its own number.
 #[derive(Clone, Copy)]
-pub struct Task<'a> {
-    pub map: &'a SharedMap,
-    pub input: &'a [u8],
-    pub lanes: u8,
-    pub lane: u8,
+pub(crate) struct Task<'a> {
+    pub(crate) map: &'a SharedMap,
+    pub(crate) input: &'a [u8],
+    pub(crate) lanes: u8,
+    pub(crate) lane: u8,
 }
 
 impl<'a> Promise<Result<LaneEnd, Unfinished>> for Task<'a> {
@@ -105,7 +105,7 @@ fn work_alone<R: Wait, G: Gate>(
 
 /// Runs each lane in a thread of its own, or in this one where it is alone, and waits until all have ended, which is
 /// soon once something is refused.
-pub fn run_lanes<R: Threads + Wait + Sync, G: Gate + Sync>(
+pub(crate) fn run_lanes<R: Threads + Wait + Sync, G: Gate + Sync>(
     rt: &R,
     alloc: Global,
     gate: &G,

@@ -2,21 +2,21 @@
 use Rattle.std.proofs.Common.{◌≡◌, ◌∙◌, ◌≤◌, ◌||◌, Bool, true, false, ℕ, List, ◌++◌, length, take, drop, Ok, Err, refl, sym, ap, subst, arith, length-take, length-append, length-drop}
 use Rattle.std.specs.Result.{IsErrOf}
 use Rattle.std.specs.Io.KnownBytes.{Consumes}
-use Rattle.std.proofs.KnownBytes.{Consumes-nil}
+use Rattle.std.proofs.KnownBytes.{Consumes-kept, Consumes-nil}
 use Rattle.std.proofs.lemmas.List.{take-append-le, take-take}
 use Rattle.std.proofs.lemmas.Bool.{false≢true}
-use Rattle.moc_lines.specs.declared.reading.ReadFault.{ReadFault}
-use Rattle.moc_lines.proofs.WholeReading.{held_new, held_all, reads_fail, given_more, given_all}
+use Rattle.moc_lines.specs.declared.reading.InputError.{InputError}
+use Rattle.moc_lines.proofs.WholeReading.{held_new, held_all, given_more, given_all}
 use Rattle.moc_lines.proofs.reading.read_all.Goals as goal
 
 unmarked : (new old : Bool) → new ≡ old || false → new ≡ old
 unmarked new true e = e
 unmarked new false e = e
 
-same_fault : {T : Type 0} (a b : ReadFault) → IsErrOf {T = T} (Err a) b → a ≡ b
+same_fault : {T : Type 0} (a b : InputError) → IsErrOf {T = T} (Err a) b → a ≡ b
 same_fault a b is = cc
 
-not_both : {T : Type 0} (value : T) (e : ReadFault) → IsErrOf (Ok value) e → ⊥
+not_both : {T : Type 0} (value : T) (e : InputError) → IsErrOf (Ok value) e → ⊥
 not_both value e is = cc
 
 failed : (new old : Bool) → new ≡ old || true → new ≡ true
@@ -51,7 +51,11 @@ returns-in-Ok-eq0 g c =
     }
 
 pub returns-in-Err : goal.returns-in-Err
-returns-in-Err g c = record { all = tt; fails = tt; read = (λ _. failed _ _ c.in-Err.ensures.marks, λ _. refl) }
+returns-in-Err g c = record {
+  all = tt;
+  fails = (c.loop-script.script.bytes.items, Consumes-kept _ _ _ _ c.loop-script.invariant.given c.in-Err.ensures.bytes, tt);
+  read = (λ _. failed _ _ c.in-Err.ensures.marks, λ _. refl);
+}
 
 pub loop-script-preserved : goal.loop-script-preserved
 loop-script-preserved g c =
@@ -78,8 +82,11 @@ returns-in-Err-add g c =
     let none : g.R.Source.mark c.read.new.self ≡ false = unmarked _ _ c.in-Ok-read.ensures.marks ∙ was.reader in
     record {
       all = tt;
-      fails = reads_fail (g.R.Source.left c.args.reader.now) (g.R.Source.left c.read.new.self) (c.loop-script.script.bytes.items ++ take count c.deref.result.now) c.in-Err-add.fault
-          (given_more _ _ _ c.loop-script.script.bytes.items (take count buffer) (c.loop-script.script.bytes.items ++ take count c.deref.result.now) was.given c.in-Ok-read.ensures.bytes.0
-          (ap (λ l. c.loop-script.script.bytes.items ++ l) came)) c.in-Err-add.ensures.fails;
+      fails = (
+        c.loop-script.script.bytes.items ++ take count c.deref.result.now,
+        given_more _ _ _ c.loop-script.script.bytes.items (take count buffer) (c.loop-script.script.bytes.items ++ take count c.deref.result.now) was.given c.in-Ok-read.ensures.bytes.0
+            (ap (λ l. c.loop-script.script.bytes.items ++ l) came),
+        c.in-Err-add.ensures.fails,
+      );
       read = (λ e. absurd (c.in-Err-add.ensures.read (ap Err (same_fault _ _ e))), λ is. absurd (false≢true (sym none ∙ is)));
     }

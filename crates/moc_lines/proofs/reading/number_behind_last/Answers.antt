@@ -3,7 +3,7 @@ use Rattle.std.proofs.Common.{◌≡◌, ℕ, true, false, cond, arith, ap, sym}
 use Rattle.std.proofs.lemmas.Bool.Decides.{nat_tests}
 use Rattle.moc_text.specs.Lines.{is_line_feed}
 use Rattle.moc_lines.proofs.LineLemmas.{lines-behind_last}
-use Rattle.moc_lines.proofs.reading.line_behind.Goals as goal
+use Rattle.moc_lines.proofs.reading.number_behind_last.Goals as goal
 
 pub returns-in-Some-eq10 : goal.returns-in-Some-eq10
 returns-in-Some-eq10 c =
