@@ -1,6 +1,5 @@
 //! What the words of the command line ask for.
 ghost use Rattle.std.specs.Prelude.{IfSome, codes};
-ghost use Rattle.clap.specs.Words.{subcommand_rows_of};
 ghost use Rattle.moc_forms.specs.Combining.{operation_name};
 ghost use Rattle.moc_forms.specs.Finding.{choice_name};
 ghost use Rattle.moc_forms.specs.Forms.{form_name};
