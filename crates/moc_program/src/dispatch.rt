@@ -250,9 +250,7 @@ fn perform<T: Threads + Wait + Sync, R: Source, W: Sink>(
     match action {
         Action::Run => outcome_of(run(alloc, input, output)),
         Action::Play => outcome_of(play(alloc, input, output)),
-        Action::Crew(lanes) => {
-            outcome_of_crew(crew(rt, alloc, input, output, lanes, &OpenGate))
-        }
+        Action::Crew(lanes) => outcome_of_crew(crew(rt, alloc, input, output, lanes, &OpenGate)),
         Action::Renumber(renumbering) => outcome_of(renumber(alloc, input, output, renumbering)),
         Action::Number(number) => numbered(alloc, number, output),
         Action::Convert(from, to) => answered(converted(alloc, from, to, input), output),
