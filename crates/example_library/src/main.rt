@@ -17,6 +17,22 @@ fn around(alloc: Global, cell: Cell) -> Result<Coverage, Memory> {
     cells.build()
 }
 
+/// A cell and its neighbour to the north-east as one set, and the base pixel that they lie in.
+fn north_east(rt: &HostRuntime, cell: Cell) -> Result<()> {
+    let alloc = rt.alloc();
+    if let Some(next) = cell.neighbours()[4] {
+        let both = Coverage::from_cells(alloc, &[cell, next])?;
+        println!(rt;
+            "side by side: {}",
+            write_ascii(alloc, &both, None)?.as_str()
+        )?;
+    }
+    if let Some(base) = cell.ancestor(Order::default()) {
+        println!(rt; "in cell {} of order {}", base.index(), base.order())?;
+    }
+    Ok(())
+}
+
 /// Two texts as sets, what they have in common, and how much of the sky the first has.
 fn compare(rt: &HostRuntime) -> Result<()> {
     let alloc = rt.alloc();
@@ -45,9 +61,10 @@ fn compare(rt: &HostRuntime) -> Result<()> {
 fn main(rt: HostRuntime) -> Result<()> {
     let alloc = rt.alloc();
     compare(&rt)?;
-    let order = Order::new(2).unwrap_or_default();
-    let grown = around(alloc, Cell::new(order, 3)?)?;
+    let cell = Cell::new(Order::new(2).unwrap_or_default(), 3)?;
+    let grown = around(alloc, cell)?;
     println!(rt; "{}", write_json(alloc, &grown, None)?.as_str())?;
+    north_east(&rt, cell)?;
     if let Err(error) = read_ascii(alloc, b"1/1-2 4 2/12-14x") {
         println!(rt; "{error}, so at {:?}", error.place())?;
     }

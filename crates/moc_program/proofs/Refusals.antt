@@ -1,7 +1,7 @@
 -- Which status has the number 2.
 use Rattle.std.proofs.Common.{◌≡◌, ◌⊎◌, inl, inr, Bool, false, ℕ, List, Option, Result, Ok, Err, refl, sym, ap, subst, ◌∙◌, arith}
 use Rattle.std.specs.Prelude.{IfErr, IsTrue}
-use Rattle.std.specs.Io.KnownBytes.{Appends}
+use Rattle.std.specs.Io.KnownBytes.{Appends, Keeps}
 use Rattle.moc_lines.specs.declared.run_error.RunError.TheVariants as run
 use Rattle.moc_script.specs.declared.crew_error.CrewError.TheVariants as crew
 use Rattle.moc_conversion.specs.declared.fault.Fault as input
@@ -119,26 +119,31 @@ told_outcome {F} mark written f f' old outcome status is told same number why un
     subst (λ (x : F). TellsFaultOf status is old (written x)) (sym same) (told_by outcome status is old (written f) number (told (ap mark (sym same) ∙ unmarked)) why some)
 
 -- what is told where there are no matches
-abbrev IsUnhelped : Type 0 → Type 0 → Fault → Type 0
-IsUnhelped failed help fault = (fault ≡ Memory) ⊎ ((fault ≡ Write) × failed × help)
+abbrev IsUnhelped : Type 0 → Type 0 → Type 0 → Fault → Type 0
+IsUnhelped kept failed help fault = ((fault ≡ Memory) × kept) ⊎ ((fault ≡ Write) × failed × help)
 
 unhelped : (input output : Bool) (words : List Text) (l l' w w' : Option (List ℕ)) (help : Type 0) (fault : Fault) → (help → AskForHelp words)
-    → IsUnhelped (IsTrue output) help fault → BlamesFailed input output fault × EndWith words l l' w w' fault
-unhelped input output words l l' w w' help fault asks (inl memory) = (subst (λ f. BlamesFailed input output f) (sym memory) tt, inl memory)
+    → IsUnhelped (Keeps w w') (IsTrue output) help fault → BlamesFailed input output fault × EndWith words l l' w w' fault
+unhelped input output words l l' w w' help fault asks (inl (memory, kept)) =
+    (subst (λ f. BlamesFailed input output f) (sym memory) tt, inl (memory, kept))
 unhelped input output words l l' w w' help fault asks (inr (write, failed, helped)) =
     (subst (λ f. BlamesFailed input output f) (sym write) failed, inr (inl (asks helped, write)))
 
 pub told_status : {F O : Type 0} (mark : F → Bool) (told_on : F → Option (List ℕ)) (marked : O → Bool) (written : O → Option (List ℕ)) (f f' : F) (o o' : O)
     (input : Bool) (words : List Text) (l l' w old : Option (List ℕ)) (help : Type 0) (s : Status) (status : ℕ)
-    → (mark f ≡ false → (code_of s ≡ 1) ⊎ (code_of s ≡ 3) → TellsFaultOf (code_of s) (λ c. IsUnhelped (IsTrue (marked o)) help c) old (told_on f))
+    → (mark f ≡ false → (code_of s ≡ 1) ⊎ (code_of s ≡ 3) → TellsFaultOf (code_of s) (λ c. IsUnhelped (Keeps w (written o)) (IsTrue (marked o)) help c) old (told_on f))
     → (help → AskForHelp words) → f' ≡ f → o' ≡ o → status ≡ code_of s → mark f' ≡ false → (status ≡ 1) ⊎ (status ≡ 3)
     → TellsFaultOf status (λ c. BlamesFailed input (marked o') c × EndWith words l l' w (written o') c) old (told_on f')
 told_status {F} {O} mark told_on marked written f f' o o' input words l l' w old help s status told asks same same_o number unmarked some =
     let here = told (ap mark (sym same) ∙ unmarked) (subst (λ (n : ℕ). (n ≡ 1) ⊎ (n ≡ 3)) number some) in
     let why = unhelped input (marked o') words l l' w (written o') help here.0 asks
-    (subst (λ (y : O). IsUnhelped (IsTrue (marked y)) help here.0) (sym same_o) here.2) in
+    (subst (λ (y : O). IsUnhelped (Keeps w (written y)) (IsTrue (marked y)) help here.0) (sym same_o) here.2) in
     (here.0, here.1 ∙ sym number, why, subst (λ (x : F). Appends old (told_on x) (fault_text here.0)) (sym same) here.3)
 
 pub no_outcome : (outcome : Result (Unit {0}) Fault) → end_of outcome ≡ BadWords → ⊥
 no_outcome (Ok u) e = cc
 no_outcome (Err fault) e = no_bad (status_of fault) (of_fault fault) e
+
+-- what a sink has, where it is named otherwise
+pub kept_by : {O : Type 0} (written : O → Option (List ℕ)) (o o' : O) (w : Option (List ℕ)) → o' ≡ o → Keeps w (written o) → Keeps w (written o')
+kept_by written o o' w same kept = subst (λ y. Keeps w (written y)) (sym same) kept

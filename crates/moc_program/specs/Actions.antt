@@ -1,6 +1,6 @@
 -- How what was asked for ends: what is written, or the fault that is told.
 use Rattle.std.specs.Prelude.{◌≡◌, ◌⊎◌, ℕ, List, [], ◌∷◌, ◌++◌, codes, Option, Result, Ok, Err, IfSome}
-use Rattle.std.specs.Io.KnownBytes.{Appends}
+use Rattle.std.specs.Io.KnownBytes.{Appends, Keeps}
 use Rattle.moc_script.specs.Crews.{CrewEnds}
 use Rattle.moc_lines.specs.Numberings.{RunsNumbers}
 use Rattle.moc_script.specs.Schedules.{RunsSchedule}
@@ -28,11 +28,13 @@ abbrev pub RunEnds : {E : Type 0} → (E → Fault) → (Result (Unit {0}) E →
 RunEnds fault_of ends (Ok _) = ends (Ok tt)
 RunEnds fault_of ends (Err fault) = (error : _) × (fault ≡ fault_of error) × ends (Err error)
 
--- such a text was written; or it could not be written, or was refused with such a fault
+-- such a text was written; or a front of one, where the output failed; or nothing, where such a fault came first
 abbrev pub Answers :
     (List ℕ → Type 0) → (Fault → Type 0) → Option (List ℕ) → Option (List ℕ) → Result (Unit {0}) Fault → Type 0
 Answers is refused w w' (Ok _) = (text : List ℕ) × is text × Appends w w' text
-Answers is refused w w' (Err fault) = (fault ≡ told.Write) ⊎ refused fault
+Answers is refused w w' (Err fault) =
+    ((fault ≡ told.Write) × (front rest : List ℕ) × is (front ++ rest) × Appends w w' front)
+    ⊎ (refused fault × Keeps w w')
 
 -- the fault is such a complaint of the input
 abbrev pub Complains : (Complaint → Type 0) → Fault → Type 0

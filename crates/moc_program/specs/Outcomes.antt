@@ -1,6 +1,6 @@
 -- What the program has done when it ends.
 use Rattle.std.specs.Prelude.{◌≡◌, ◌≢◌, ◌⊎◌, ℕ, Bool, false, List, [], Option, Err, IsTrue}
-use Rattle.std.specs.Io.KnownBytes.{Appends}
+use Rattle.std.specs.Io.KnownBytes.{Appends, Keeps}
 use Rattle.clap.specs.Words.{App, Text, takes, fault_of, IsAmong}
 use Rattle.clap.specs.declared.error.kind.ErrorKind.{ErrorKind}
 use Rattle.clap.specs.declared.error.kind.ErrorKind.TheVariants.{DisplayHelp, DisplayVersion, OutOfMemory}
@@ -51,11 +51,12 @@ BlamesFailed input output (Run error) =
 BlamesFailed input output Write = IsTrue output
 BlamesFailed input output _ = Unit {0}
 
--- Words end with a fault: memory was refused, or help is asked for and was not written, or what is asked for ends so.
+-- Words end with a fault: memory was refused before anything was written, or help is asked for and was not written, or
+-- what is asked for ends so.
 abbrev pub EndWith :
     List Text → Option (List ℕ) → Option (List ℕ) → Option (List ℕ) → Option (List ℕ) → Fault → Type 0
 EndWith words left left' w w' fault =
-    (fault ≡ Memory) ⊎ (AskForHelp words × (fault ≡ Write))
+    ((fault ≡ Memory) × Keeps w w') ⊎ (AskForHelp words × (fault ≡ Write))
     ⊎ ((action : Action) × AskFor words action × Ends action left left' w w' (Err fault))
 
 -- such a fault is told, with which the program ends so

@@ -2,3 +2,4 @@
 pub mod NumberCells
 pub mod Ending
 pub mod Matches
+pub mod Writing

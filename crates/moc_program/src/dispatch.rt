@@ -1,7 +1,7 @@
 //! What the words of the command line make the program do.
 ghost use Rattle.std.specs.Prelude.{◌≡◌, ◌≢◌, ◌⊎◌, ◌++◌, ◌∷◌, [], false, true, map, Err, IfErr, IfOk, IsErrAnd};
 ghost use Rattle.std.specs.Prelude.{IsErrOf, IsTrue, MatchResult, Ok, OnOk, is_err};
-ghost use Rattle.std.specs.Io.KnownBytes.{Appends};
+ghost use Rattle.std.specs.Io.KnownBytes.{Appends, Keeps};
 ghost use Rattle.std.specs.IoError.{error_kind};
 ghost use Rattle.std.specs.String.{string_bytes};
 ghost use Rattle.clap.specs.Words.{kind_of};
@@ -16,6 +16,7 @@ ghost use Rattle.moc_program.specs.Statuses.{code_of, fault_text};
 ghost use Rattle.moc_program.specs.Private.Ending.{end_of};
 ghost use Rattle.moc_program.specs.Private.Matches.{AreReadAs, MatchedEnd};
 ghost use Rattle.moc_program.specs.Private.NumberCells.{IsCellOf};
+ghost use Rattle.moc_program.specs.Private.Writing.{IsSent};
 ghost use Rattle.moc_program.specs.declared.action.Action.{Action};
 
 use crate::action::{Action, Number};
@@ -53,9 +54,11 @@ pub fn program<'a, T: Threads + Wait + Sync, S: AsStr, R: Source, W: Sink, E: Si
     requires input { R.mark input.old ≡ false }
     requires output { W.mark output.old ≡ false }
 
-    // 2 comes only where the words are mistaken, and where they are nothing else but want of memory may come first.
+    // 2 comes only where the words are mistaken, and where they are nothing else but want of memory may come first. At 2
+    // nothing is written.
     ensures refused { result ≡ 2 → AreRefused (map S.text words.entry.now) }
     ensures mistaken { AreMistaken (map S.text words.entry.now) → (result ≡ 2) ⊎ (result ≡ 3) }
+    ensures kept { result ≡ 2 → Keeps (W.written output.old) (W.written output.new) }
 
     // At 0 help was asked for, or what the words ask for is done, and all that comes of it is written.
     ensures done { result ≡ 0 → AskForHelp (map S.text words.entry.now)
@@ -86,6 +89,8 @@ pub fn program<'a, T: Threads + Wait + Sync, S: AsStr, R: Source, W: Sink, E: Si
 pub fn refuse_words<E: Sink>(error: &io::Error, faults: &mut E) -> u8
     ensures memory { error_kind error.now ≡ IoErrorKind.OutOfMemory → result ≡ 3 }
     ensures not_utf8 { error_kind error.now ≢ IoErrorKind.OutOfMemory → result ≡ 2 }
+    ensures told { E.mark faults.old ≡ false → E.mark faults.new ≡ false → result ≡ 3
+        → Appends (E.written faults.old) (E.written faults.new) (fault_text Fault.Memory) }
 {
     if error.kind() == IoErrorKind::OutOfMemory {
         return ended(Err(Fault::Memory), faults).code();
@@ -132,13 +137,15 @@ fn explain<S: AsStr, W: Sink, E: Sink>(
     ensures bad_words { result ≡ Status.BadWords → IsMistake (kind_of error.now) }
     ensures mistake { IsMistake (kind_of error.now) → (result ≡ Status.BadWords) ⊎ (result ≡ Status.Broken) }
     ensures memory { kind_of error.now ≡ ErrorKind.OutOfMemory → result ≡ Status.Broken }
+    ensures kept { result ≡ Status.BadWords → Keeps (W.written output.old) (W.written output.new) }
     ensures output { IsTrue (W.mark output.new) → result ≡ Status.Broken }
     ensures flushed { result ≡ Status.Done → IsTrue (W.flushed output.new) }
     ensures help { result ≡ Status.Done
         → (kind_of error.now ≡ ErrorKind.DisplayHelp) ⊎ (kind_of error.now ≡ ErrorKind.DisplayVersion) }
     ensures told { E.mark faults.old ≡ false → E.mark faults.new ≡ false
         → (code_of result ≡ 1) ⊎ (code_of result ≡ 3)
-        → TellsFaultOf (code_of result) (λ fault. (fault ≡ Fault.Memory)
+        → TellsFaultOf (code_of result) (λ fault.
+        ((fault ≡ Fault.Memory) × Keeps (W.written output.old) (W.written output.new))
         ⊎ ((fault ≡ Fault.Write) × IsTrue (W.mark output.new)
         × ((kind_of error.now ≡ ErrorKind.DisplayHelp) ⊎ (kind_of error.now ≡ ErrorKind.DisplayVersion))))
         (E.written faults.old) (E.written faults.new) }
@@ -231,6 +238,7 @@ fn act<T: Threads + Wait + Sync, R: Source, W: Sink>(
 }
 
 /// Does what is asked for.
+#[tactic(auto, using(crate::proofs::Writing::answered_by, crate::proofs::Writing::sent_answers))]
 fn perform<T: Threads + Wait + Sync, R: Source, W: Sink>(
     rt: &T,
     alloc: Global,
@@ -291,10 +299,10 @@ fn outcome_of_crew(outcome: Result<(), CrewError>) -> Result<(), Fault>
 /// Writes a text that was made of the input; else the fault is that of the complaint.
 fn answered<W: Sink>(text: Result<String, Complaint>, output: &mut W) -> Result<(), Fault>
     requires { W.mark output.old ≡ false }
-    ensures written { OnOk result (MatchResult text
-        (λ t. Appends (W.written output.old) (W.written output.new) (string_bytes t)) (λ _. ⊥)) }
-    ensures fault { IfErr result (λ fault. ((fault ≡ Fault.Write) × IsTrue (W.mark output.new))
-        ⊎ ((c : Complaint) × (fault ≡ Fault.Input c) × (text ≡ Err c))) }
+    ensures sent { MatchResult text
+        (λ t. IsSent (string_bytes t) (W.written output.old) (W.written output.new) result)
+        (λ c. (result ≡ Err (Fault.Input c)) × Keeps (W.written output.old) (W.written output.new)) }
+    ensures write { IsErrOf result Fault.Write → IsTrue (W.mark output.new) }
     ensures flushed { OnOk result (IsTrue (W.flushed output.new)) }
     ensures input { IsErrAnd text (λ c. c.fault ≡ InputFault.Read) → end_of result ≡ Status.Broken }
     ensures output { IsTrue (W.mark output.new) → end_of result ≡ Status.Broken }
@@ -311,6 +319,7 @@ fn listed() -> &'static str
 }
 
 /// Writes the line of a converted number.
+#[tactic(auto, using(crate::proofs::Writing::sent_answers))]
 fn numbered<W: Sink>(alloc: Global, number: Number, output: &mut W) -> Result<(), Fault>
     requires { W.mark output.old ≡ false }
     ensures ends { Answers (IsNumberLine number) (IsNumberRefusal number)
@@ -380,11 +389,11 @@ fn push_numbers(numbers: &[u64], line: &mut String) -> Result<(), AllocError>
 }
 
 /// Writes a text, whole, and sends it on.
+#[tactic(auto, using(crate::proofs::Writing::sent_on, crate::proofs::Writing::sent_front))]
 fn printed<W: Sink>(text: &str, output: &mut W) -> Result<(), Fault>
     requires { W.mark output.old ≡ false }
-    ensures written { OnOk result (Appends (W.written output.old) (W.written output.new) text.now) }
+    ensures sent { IsSent text.now (W.written output.old) (W.written output.new) result }
     ensures flushed { OnOk result (IsTrue (W.flushed output.new)) }
-    ensures fault { IfErr result (λ fault. fault ≡ Fault.Write) }
     ensures marks { W.mark output.new ≡ is_err result }
 {
     write_all(text.as_bytes(), output)?;

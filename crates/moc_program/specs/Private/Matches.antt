@@ -1,5 +1,6 @@
 -- What was found among the words.
 use Rattle.std.specs.Prelude.{◌≡◌, ◌⊎◌, ℕ, List, Option, Some, Result, Ok, Err}
+use Rattle.std.specs.Io.KnownBytes.{Keeps}
 use Rattle.clap.specs.Words.{App, Row, Text, found_of, rows_of, subcommand_of, subcommand_rows_of}
 use Rattle.clap.specs.declared.parser.matches.ArgMatches.{ArgMatches}
 use Rattle.moc_command_line.specs.CommandLine.{IsCommandLine}
@@ -24,10 +25,11 @@ pub record AreReadAs (words : List Text) (matches : ArgMatches) : Type 0 where
   pub line : IsCommandLine app
   pub are : subcommand_rows_of matches ≡ subcommand_of app words
 
--- what the word that was found asks for ends so; or memory was refused
+-- what the word that was found asks for ends so; or memory was refused before anything was written
 abbrev pub MatchedEnd : ArgMatches → Option (List ℕ) → Option (List ℕ) → Option (List ℕ) → Option (List ℕ)
     → Result (Unit {0}) Fault → Type 0
 MatchedEnd matches left left' w w' (Ok _) =
     (action : Action) × IsAskedIn matches action × Ends action left left' w w' (Ok tt)
 MatchedEnd matches left left' w w' (Err fault) =
-    (fault ≡ Memory) ⊎ ((action : Action) × IsAskedIn matches action × Ends action left left' w w' (Err fault))
+    ((fault ≡ Memory) × Keeps w w')
+    ⊎ ((action : Action) × IsAskedIn matches action × Ends action left left' w w' (Err fault))

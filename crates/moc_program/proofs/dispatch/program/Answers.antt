@@ -1,6 +1,6 @@
 -- Only the parse of the words gives the status of a bad command line.
 use Rattle.std.proofs.Common.{◌∙◌, ap, inl, inr, sym}
-use Rattle.moc_program.proofs.Refusals.{bad, done_by, fails_by, no_outcome, told_outcome, told_status, well}
+use Rattle.moc_program.proofs.Refusals.{bad, done_by, fails_by, kept_by, no_outcome, told_outcome, told_status, well}
 use Rattle.moc_program.specs.Statuses.{code_of}
 use Rattle.moc_program.proofs.dispatch.program.Goals as goal
 use Rattle.moc_program.proofs.dispatch.program.Goals.{in-Ok+in-Some-1, in-Ok+in-None-1, in-Err+in-Some-1, in-Err+in-None-1}
@@ -27,4 +27,12 @@ returns-clause-told g c = λ old new status. elim c.match-parse.branch [
   | in-Ok+in-None-1 w ↦ told_outcome g.E.Sink.mark g.E.Sink.written _ _ _ w.act.result c.code.result _ (w.ended-status.ensures.told old) w.faults-is (c.code.ensures ∙ ap code_of (w.status-is ∙ w.ended-status.ensures.end)) (fails_by g.R.Source.left g.W.Sink.written _ _ _ _ _ _ _ _ w.in-Ok.ensures.read w.input-is w.output-is g.R.Source.mark g.W.Sink.mark w.act.result w.act.ensures.ends w.act.ensures.devices) new status
   | in-Err+in-Some-1 w ↦ told_status g.E.Sink.mark g.E.Sink.written g.W.Sink.mark g.W.Sink.written _ _ _ _ _ _ _ _ _ _ _ w.explain-status.result c.code.result (w.explain-status.ensures.told old) w.in-Err.ensures.help w.faults-is w.output-is (c.code.ensures ∙ ap code_of w.status-is) new status
   | in-Err+in-None-1 w ↦ told_status g.E.Sink.mark g.E.Sink.written g.W.Sink.mark g.W.Sink.written _ _ _ _ _ _ _ _ _ _ _ w.explain-status.result c.code.result (w.explain-status.ensures.told old) w.in-Err.ensures.help w.faults-is w.output-is (c.code.ensures ∙ ap code_of w.status-is) new status
+]
+
+pub returns-clause-kept : goal.returns-clause-kept
+returns-clause-kept g c = λ two. elim c.match-parse.branch [
+  | in-Ok+in-Some-1 w ↦ absurd (no_outcome w.act.result (sym w.ended-status.ensures.end ∙ bad _ _ _ w.status-is c.code.ensures two))
+  | in-Ok+in-None-1 w ↦ absurd (no_outcome w.act.result (sym w.ended-status.ensures.end ∙ bad _ _ _ w.status-is c.code.ensures two))
+  | in-Err+in-Some-1 w ↦ kept_by g.W.Sink.written _ _ _ w.output-is (w.explain-status.ensures.kept (bad _ _ _ w.status-is c.code.ensures two))
+  | in-Err+in-None-1 w ↦ kept_by g.W.Sink.written _ _ _ w.output-is (w.explain-status.ensures.kept (bad _ _ _ w.status-is c.code.ensures two))
 ]
