@@ -1,6 +1,7 @@
 #!/usr/bin/env python3
 """Shows that tests expect answers. A body that always answers want of memory meets its contract, since memory may always be
-refused; so each call below is given such a body in a copy of the crates, and some test of it must fail.
+refused, as one does that never finds what the words ask for; so each call below is given such a body in a copy of the
+crates, and some test of it must fail.
 
 usage: tests/always_refused.py [CRATE/CALL]..
 
@@ -51,6 +52,7 @@ PLANTS = [
     ("moc_conversion", "conversion", "changed", "Err(Complaint::from(Fault::Memory))", "program_tests"),
     ("moc_conversion", "conversion", "checked", "Err(Complaint::from(Fault::Memory))", "program_tests"),
     ("moc_conversion", "combination", "combined", "Err(Complaint::from(Fault::Memory))", "program_tests"),
+    ("moc_program", "action", "from_matches", "None", "program_tests"),
     ("moc_lines", "language", "read_commands", "Err(ReadError::Memory)", "script_tests"),
     ("moc_lines", "reading", "read_all", "Err(InputError::Memory { line: 0 })", "script_tests"),
     ("moc_lines", "runner", "answer_all_lines", "Err(RunError::Memory { line: 0 })", "script_tests"),

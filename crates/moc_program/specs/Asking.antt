@@ -54,7 +54,7 @@ Asks word values (Combine operation choice) =
     × HasWord (codes "FORM") values (choice_name choice)
 Asks word values Faults = word ≡ codes "faults"
 
--- `clap` takes the words for a word of the program with values behind it, and these ask for an action
+-- by `clap` the words name a word of the program, with values by which it asks for the action
 pub record AskFor (words : List Text) (action : Action) : Type 0 where
   pub app : App
   pub line : IsCommandLine app

@@ -43,7 +43,7 @@ pub record AreMistaken (words : List Text) : Type 0 where
   pub some : (app : App) → IsCommandLine app → fault_of app words ≢ []
   pub all : (app : App) → IsCommandLine app → (kind : ErrorKind) → IsAmong kind (fault_of app words) → IsMistake kind
 
--- a device that has failed by a fault has failed: the input, the output
+-- a device of which a fault tells that it failed has failed: the input, the output
 abbrev pub BlamesFailed : Bool → Bool → Fault → Type 0
 BlamesFailed input output (Input c) = c.fault ≡ refused.Read → IsTrue input
 BlamesFailed input output (Run error) =
@@ -59,7 +59,7 @@ EndWith words left left' w w' fault =
     ((fault ≡ Memory) × Keeps w w') ⊎ (AskForHelp words × (fault ≡ Write))
     ⊎ ((action : Action) × AskFor words action × Ends action left left' w w' (Err fault))
 
--- such a fault is told, with which the program ends so
+-- a fault of which this holds, and which has this status, is told
 abbrev pub TellsFaultOf : ℕ → (Fault → Type 0) → Option (List ℕ) → Option (List ℕ) → Type 0
 TellsFaultOf status is written written' =
     (fault : Fault) × (code_of (status_of fault) ≡ status) × is fault × Appends written written' (fault_text fault)
