@@ -33,12 +33,10 @@ fn north_east(rt: &HostRuntime, cell: Cell) -> Result<()> {
     Ok(())
 }
 
-/// Two texts as sets, what they have in common, and how much of the sky the first has.
-fn compare(rt: &HostRuntime) -> Result<()> {
+/// What two sets have in common, and how much of the sky the first has.
+fn compare(rt: &HostRuntime, ours: &Coverage, theirs: &Coverage) -> Result<()> {
     let alloc = rt.alloc();
-    let (ours, _) = read_ascii(alloc, b"0/0 1/4-5")?;
-    let (theirs, _) = read_json(alloc, b"{\"1\":[3,4,6,7],\"2\":[20,32]}")?;
-    let common = ours.intersection(alloc, &theirs)?;
+    let common = ours.intersection(alloc, theirs)?;
     println!(rt;
         "in common: {}",
         write_ascii(alloc, &common, None)?.as_str()
@@ -48,8 +46,12 @@ fn compare(rt: &HostRuntime) -> Result<()> {
         "a pixel of the last cell: {}",
         ours.contains(PIXEL_COUNT - 1)
     )?;
+    Ok(())
+}
 
-    // A map does commands, alone or in batches, and replies.
+/// A map does commands, alone or in batches, and replies.
+fn claim(rt: &HostRuntime, ours: Coverage, theirs: Coverage) -> Result<()> {
+    let alloc = rt.alloc();
     let mut map = Map::new(alloc, ours)?;
     let claim = Command::Claim(Operand::from(theirs));
     if let Reply::Taken(pixels) = map.answer(alloc, &claim)? {
@@ -60,7 +62,10 @@ fn compare(rt: &HostRuntime) -> Result<()> {
 
 fn main(rt: HostRuntime) -> Result<()> {
     let alloc = rt.alloc();
-    compare(&rt)?;
+    let (ours, _) = read_ascii(alloc, b"0/0 1/4-5")?;
+    let (theirs, _) = read_json(alloc, b"{\"1\":[3,4,6,7],\"2\":[20,32]}")?;
+    compare(&rt, &ours, &theirs)?;
+    claim(&rt, ours, theirs)?;
     let cell = Cell::new(Order::new(2).unwrap_or_default(), 3)?;
     let grown = around(alloc, cell)?;
     println!(rt; "{}", write_json(alloc, &grown, None)?.as_str())?;
