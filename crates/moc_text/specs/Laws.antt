@@ -1,4 +1,5 @@
 -- A law of readings, for the proofs of callers: the set that a text says lies in the sky.
+pub mod Depths
 use Rattle.std.proofs.Common.{◌≡◌, ℕ, ◌&&◌, ◌||◌, Bool, true, false, List, [], ◌∷◌, Option, None, Some, Result, Ok, Err}
 use Rattle.std.proofs.Common.{refl, sym, ◌∙◌}
 use Rattle.std.specs.Result.{IfOk}
