@@ -2,7 +2,6 @@
 use Rattle.std.specs.Prelude.{◌≡◌, ℕ, ◌+◌, ◌<◌, ◌≤◌, ◌⊎◌, List, [], ◌++◌, Option, Some, Contains, length}
 use Rattle.std.specs.Io.KnownBytes.{IsAtEnd}
 use Rattle.std.specs.List.{AllByRecursion}
-use Rattle.moc_text.specs.AsciiText.{IsTooCoarse}
 use Rattle.moc_forms.specs.Combining.{Combines, Said, StandsBehind, parts_of, texts_of}
 use Rattle.moc_forms.specs.Finding.{form_for}
 use Rattle.moc_forms.specs.Forms.{form_text}
@@ -11,7 +10,6 @@ use Rattle.moc_forms.specs.declared.finding.Choice.{Choice}
 use Rattle.moc_conversion.specs.Conversion.{HasRead, IsOfInput, TellsFault}
 use Rattle.moc_conversion.specs.declared.complaint.Complaint.{Complaint}
 use Rattle.moc_conversion.specs.declared.fault.Fault.{Fault}
-use Rattle.moc_conversion.specs.declared.fault.Fault.TheVariants.{TooCoarse}
 
 -- all that was left was read; none of its texts is too long, and this is what they say together
 abbrev pub SaysTogether : Operation → Choice → Option (List ℕ) → Option (List ℕ) → Said → Type 0
@@ -51,10 +49,3 @@ IsOfTexts = IsOfInput (λ given. HasLongPart given ⊎ (18446744073709551615 ≤
 -- why texts say no set together: the input or memory could not be had, or a text is too long, or one is at fault
 abbrev pub SayNothing : Choice → Option (List ℕ) → Option (List ℕ) → Complaint → Type 0
 SayNothing choice left left' c = IsOfTexts left left' c.fault ⊎ IsFaultyText choice left left' c
-
--- why texts were not combined: they say no set together, or theirs has a cell that is deeper than the stated order
-abbrev pub AreNotCombined : Operation → Choice → Option (List ℕ) → Option (List ℕ) → Complaint → Type 0
-AreNotCombined operation choice left left' c =
-    SayNothing choice left left' c
-    ⊎ ((c.fault ≡ TooCoarse) × (said : Said) × SaysTogether operation choice left left' said
-    × IsTooCoarse said.0 said.1)

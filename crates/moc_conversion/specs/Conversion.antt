@@ -2,7 +2,6 @@
 use Rattle.std.specs.Prelude.{◌≡◌, ℕ, ◌<◌, ◌≤◌, ◌⊎◌, true, false, List, ◌∷◌, ◌++◌, length, Option, None, Some}
 use Rattle.std.specs.List.{All}
 use Rattle.std.specs.Io.KnownBytes.{Consumes, IsAtEnd}
-use Rattle.moc_text.specs.AsciiText.{IsTooCoarse}
 use Rattle.moc_forms.specs.Changing.{changed, order_after}
 use Rattle.moc_forms.specs.Combining.{Said, TextSays, are_blanks, is_semicolon}
 use Rattle.moc_forms.specs.Describing.{Describes}
@@ -20,7 +19,7 @@ use Rattle.moc_forms.specs.declared.place.Place.{Place}
 use Rattle.moc_conversion.specs.Faults.{fault_of_form}
 use Rattle.moc_conversion.specs.declared.complaint.Complaint.{Complaint}
 use Rattle.moc_conversion.specs.declared.fault.Fault.{Fault}
-use Rattle.moc_conversion.specs.declared.fault.Fault.TheVariants.{TooLong, Read, Memory, TooCoarse}
+use Rattle.moc_conversion.specs.declared.fault.Fault.TheVariants.{TooLong, Read, Memory}
 
 -- the text is all that was left, and no longer than an input may be
 pub record IsWhole (left left' : Option (List ℕ)) (text : List ℕ) : Type 0 where
@@ -118,25 +117,16 @@ IsOfWhole = IsOfInput (λ given. 16777216 < length given)
 abbrev pub IsTextFault : Form → List ℕ → Fault → Type 0
 IsTextFault form text fault = (error : FormError) × IsFormFault form text error × (fault ≡ fault_of_form error)
 
--- why the input was not converted, which is told alone: it could not be had, or it has the fault that is told, or the
--- set that it says has a cell that is deeper than the order that it names
+-- why the input was not converted, which is told alone: it could not be had, or it has the fault that is told
 abbrev pub IsNotConverted : Form → Option (List ℕ) → Option (List ℕ) → Complaint → Type 0
 IsNotConverted form left left' c =
     (c.place ≡ None) × (c.hint ≡ None)
-    × (IsOfWhole left left' c.fault ⊎ IsAll (λ text. IsTextFault form text c.fault) left left'
-    ⊎ ((c.fault ≡ TooCoarse) × (said : Said) × SaysAll (Named form) left left' said × IsTooCoarse said.0 said.1))
+    × (IsOfWhole left left' c.fault ⊎ IsAll (λ text. IsTextFault form text c.fault) left left')
 
 -- why the input says no set: it or memory could not be had, or it has the fault that is told, at the place that is told
 abbrev pub SaysNothing : Choice → Option (List ℕ) → Option (List ℕ) → Complaint → Type 0
 SaysNothing choice left left' c =
     IsOfWhole left left' c.fault ⊎ IsAll (λ text. TellsFault (form_for choice text) text None c) left left'
-
--- why nothing was made of the input: it says no set, or what was made of it has a cell that is deeper than its order
-abbrev pub IsNotChanged : Change → Choice → Option (List ℕ) → Option (List ℕ) → Complaint → Type 0
-IsNotChanged change choice left left' c =
-    SaysNothing choice left left' c
-    ⊎ ((c.fault ≡ TooCoarse) × (said : Said) × SaysAll choice left left' said
-    × IsTooCoarse (changed change said.0) (order_after change said.1))
 
 -- of the texts of a picture, which are counted where there are two, the complaint tells the first that says no set
 abbrev pub TellsTexts : Choice → List ℕ → Option (List ℕ) → Complaint → Type 0

@@ -2,7 +2,7 @@
 ghost use Rattle.std.specs.Prelude.{◌≡◌, ◌≢◌, ◌↔◌, ◌⊎◌, [], false, IfErr, IfOk, IsErrAnd, IsTrue, OnOk, Some};
 ghost use Rattle.std.specs.String.{string_bytes};
 ghost use Rattle.moc_forms.specs.Finding.{form_for};
-ghost use Rattle.moc_conversion.specs.Combining.{AreNotCombined, CombinesAll, SayNothing, SaysTogether};
+ghost use Rattle.moc_conversion.specs.Combining.{CombinesAll, SayNothing, SaysTogether};
 ghost use Rattle.moc_conversion.specs.Conversion.{LacksSemicolons, TellsFault};
 ghost use Rattle.moc_conversion.specs.Private.Running.{Begins, Ends, Fails, FailsWithin, IsOpen, AreNotTaken, Leads};
 ghost use Rattle.moc_conversion.specs.Private.Running.{SaysMore, semicolon};
@@ -182,8 +182,7 @@ pub fn combined<R: Source>(
 ) -> Result<String, Complaint>
     requires { R.mark input.old ≡ false }
     ensures read { IsErrAnd result (λ c. c.fault ≡ Fault.Read) ↔ IsTrue (R.mark input.new) }
-    ensures fault { IfErr result (λ c.
-        AreNotCombined operation choice (R.left input.old) (R.left input.new) c) }
+    ensures fault { IfErr result (λ c. SayNothing choice (R.left input.old) (R.left input.new) c) }
     ensures combines { IfOk result (λ t.
         CombinesAll operation choice (R.left input.old) (R.left input.new) (string_bytes t)) }
 {

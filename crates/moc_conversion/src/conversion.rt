@@ -1,6 +1,6 @@
 //! Texts of coverages, from the input: converted, described, drawn, changed, checked.
 ghost use Rattle.std.specs.Prelude.{◌≡◌, ◌≢◌, ◌<◌, ◌↔◌, ◌⊎◌, Err, false, IfErr, IfOk, IsErrAnd, IsErrOf, IsTrue};
-ghost use Rattle.std.specs.Prelude.{length, None, OnOk, option_map};
+ghost use Rattle.std.specs.Prelude.{IsOkUnless, length, None, OnOk, option_map};
 ghost use Rattle.std.specs.String.{string_bytes};
 ghost use Rattle.moc_text.specs.AsciiText.{IsTooCoarse};
 ghost use Rattle.moc_forms.specs.Combining.{TextSays};
@@ -9,7 +9,7 @@ ghost use Rattle.moc_forms.specs.Forms.{FormSays, form_text};
 ghost use Rattle.moc_forms.specs.Places.{line_bytes};
 ghost use Rattle.moc_forms.specs.Quotes.{IsTold};
 ghost use Rattle.moc_conversion.specs.Conversion.{AreTexts, ChangesAll, ConvertsAll, DescribesAll, DrawsAll};
-ghost use Rattle.moc_conversion.specs.Conversion.{IsNotChanged, IsNotConverted, IsNotDrawn, IsOfWhole, IsPictured};
+ghost use Rattle.moc_conversion.specs.Conversion.{IsNotConverted, IsNotDrawn, IsOfWhole, IsPictured};
 ghost use Rattle.moc_conversion.specs.Conversion.{IsSaid, IsTextFault, IsWhole, SaysAll, SaysNothing, TellsFault};
 ghost use Rattle.moc_conversion.specs.Conversion.{TellsPictured};
 ghost use Rattle.moc_conversion.specs.Faults.{fault_of_form};
@@ -132,16 +132,15 @@ fn complaint_of(
     }
 }
 
-/// The text of a set in a form.
+/// The text of a set in a form, with a stated order that none of its cells is deeper than.
 pub fn text_of(
     alloc: Global,
     form: Form,
     set: &Coverage,
     stated: Option<Order>,
 ) -> Result<String, Fault>
-    ensures device { result ≢ Err Fault.Read }
-    ensures fault { IfErr result (λ f.
-        (f ≡ Fault.Memory) ⊎ ((f ≡ Fault.TooCoarse) × IsTooCoarse set.now stated)) }
+    requires fits { ¬ IsTooCoarse set.now stated }
+    ensures memory { IsOkUnless result Fault.Memory }
     ensures text { IfOk result (λ t. string_bytes t ≡ form_text form set.now stated) }
 {
     Ok(form.write(alloc, set, stated)?)
@@ -265,7 +264,7 @@ pub fn changed<R: Source>(
 ) -> Result<String, Complaint>
     requires { R.mark input.old ≡ false }
     ensures read { IsErrAnd result (λ c. c.fault ≡ Fault.Read) ↔ IsTrue (R.mark input.new) }
-    ensures fault { IfErr result (λ c. IsNotChanged change choice (R.left input.old) (R.left input.new) c) }
+    ensures fault { IfErr result (λ c. SaysNothing choice (R.left input.old) (R.left input.new) c) }
     ensures changes { IfOk result (λ t.
         ChangesAll change choice (R.left input.old) (R.left input.new) (string_bytes t)) }
 {

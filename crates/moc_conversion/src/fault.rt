@@ -52,8 +52,8 @@ pub enum Fault {
     /// A text has more than 16,777,216 bytes.
     #[error("a text has more than 16,777,216 bytes")]
     TooLong,
-    /// A cell of what was made is deeper than the order that is stated of it.
-    #[error("a cell of what was made is deeper than the order that is stated of it")]
+    /// A cell of a set is deeper than the order that is stated of it. No call of this crate states such an order.
+    #[error("a cell of a set is deeper than the order that is stated of it")]
     TooCoarse,
     /// The reader failed.
     #[error("the reader failed")]

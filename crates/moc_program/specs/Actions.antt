@@ -7,8 +7,8 @@ use Rattle.moc_script.specs.Schedules.{RunsSchedule}
 use Rattle.moc_lines.specs.Scripts.{RunsScript}
 use Rattle.moc_lines.specs.declared.run_error.RunError.{RunError}
 use Rattle.moc_script.specs.declared.crew_error.CrewError.TheVariants as crew
-use Rattle.moc_conversion.specs.Combining.{AreNotCombined, CombinesAll}
-use Rattle.moc_conversion.specs.Conversion.{ChangesAll, ConvertsAll, DescribesAll, DrawsAll, IsNotChanged}
+use Rattle.moc_conversion.specs.Combining.{CombinesAll, SayNothing}
+use Rattle.moc_conversion.specs.Conversion.{ChangesAll, ConvertsAll, DescribesAll, DrawsAll}
 use Rattle.moc_conversion.specs.Conversion.{IsNotConverted, IsNotDrawn, IsSaid, SaysNothing}
 use Rattle.moc_conversion.specs.declared.complaint.Complaint.{Complaint}
 use Rattle.moc_program.specs.Listing.{fault_list}
@@ -60,7 +60,7 @@ Ends (Describe choice) left left' w w' =
 Ends (Draw choice) left left' w w' =
     Answers (DrawsAll choice left left') (Complains (IsNotDrawn choice left left')) w w'
 Ends (Change change choice) left left' w w' =
-    Answers (ChangesAll change choice left left') (Complains (IsNotChanged change choice left left')) w w'
+    Answers (ChangesAll change choice left left') (Complains (SaysNothing choice left left')) w w'
 Ends (Combine operation choice) left left' w w' =
-    Answers (CombinesAll operation choice left left') (Complains (AreNotCombined operation choice left left')) w w'
+    Answers (CombinesAll operation choice left left') (Complains (SayNothing choice left left')) w w'
 Ends Faults left left' w w' = Answers (λ text. text ≡ fault_list) (λ _. ⊥) w w'

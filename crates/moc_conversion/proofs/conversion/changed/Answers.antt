@@ -1,10 +1,18 @@
-use Rattle.std.proofs.Common.{◌≡◌, ◌⊎◌, ◌∙◌, ℕ, Option, ap₂, subst₂}
+use Rattle.std.proofs.Common.{◌∙◌, ℕ, Option, ap₂, subst₂}
 use Rattle.moc_ranges.specs.Numbers.{NumberSet}
 use Rattle.moc_text.specs.AsciiText.{IsTooCoarse}
 use Rattle.moc_forms.specs.Forms.{form_text}
-use Rattle.moc_conversion.specs.declared.fault.Fault.TheVariants.{Memory, TooCoarse}
-use Rattle.moc_conversion.proofs.Checks.{not_changed}
+use Rattle.moc_conversion.proofs.Checks.{no_memory}
+use Rattle.moc_conversion.proofs.Depths.{change_written}
 use Rattle.moc_conversion.proofs.conversion.changed.Goals as goal
+
+pub text_of-requires : goal.text_of-requires
+text_of-requires g c = record {
+  fits = λ coarse.
+      change_written c.args.change c.args.choice _ _ (c.in_ok-set.set, c.in_ok-set.deepest, c.in_ok-set.form)
+      c.in_ok-set.ensures.says
+      (subst₂ (λ (a : NumberSet) (k : Option ℕ). IsTooCoarse a k) c.in_ok-after.ensures.set c.stated.ensures.order coarse);
+}
 
 pub returns-clause-changes : goal.returns-clause-changes
 returns-clause-changes g c = (
@@ -15,9 +23,5 @@ returns-clause-changes g c = (
 
 pub returns-in_err-text_of-clause-fault : goal.returns-in_err-text_of-clause-fault
 returns-in_err-text_of-clause-fault g c =
-    let told = c.in_err-text_of.field-0.0 in
-    not_changed c.from_residual-in_err-text_of.result told c.args.change c.args.choice _ _
-    (c.in_ok-set.set, c.in_ok-set.deepest, c.in_ok-set.form)
-    c.from_residual-in_err-text_of.ensures.1 c.in_ok-set.ensures.says
-    (subst₂ (λ (a : NumberSet) (k : Option ℕ). (told ≡ Memory) ⊎ ((told ≡ TooCoarse) × IsTooCoarse a k))
-    c.in_ok-after.ensures.set c.stated.ensures.order c.in_err-text_of.ensures.fault)
+    no_memory c.from_residual-in_err-text_of.result c.in_err-text_of.field-0.0 c.args.choice _ _
+    c.from_residual-in_err-text_of.ensures.1 c.in_err-text_of.ensures.memory

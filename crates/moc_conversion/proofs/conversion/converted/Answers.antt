@@ -1,8 +1,9 @@
-use Rattle.std.proofs.Common.{◌≡◌, ◌⊎◌, ℕ, List, refl, subst}
+use Rattle.std.proofs.Common.{◌≡◌, ◌⊎◌, ℕ, List, inl, inr, refl, subst}
 use Rattle.moc_forms.specs.Forms.{FormSays}
 use Rattle.moc_conversion.specs.Conversion.{IsTextFault}
 use Rattle.moc_conversion.specs.declared.fault.Fault.TheVariants.{Memory}
-use Rattle.moc_conversion.proofs.Checks.{not_read, not_written, told_alone}
+use Rattle.moc_conversion.proofs.Checks.{not_read, told_alone}
+use Rattle.moc_conversion.proofs.Depths.{text_written}
 use Rattle.moc_conversion.proofs.conversion.converted.Goals as goal
 
 pub returns-in_err-set-clause-fault : goal.returns-in_err-set-clause-fault
@@ -12,14 +13,15 @@ returns-in_err-set-clause-fault g c =
     (not_read c.args.from _ _ c.in_ok-text.text.items told c.in_ok-text.ensures.whole
     (subst (λ (bytes : List ℕ). (told ≡ Memory) ⊎ IsTextFault c.args.from bytes told) c.deref.ensures.value c.in_err-set.ensures.fault))
 
+pub text_of-requires : goal.text_of-requires
+text_of-requires g c = record {
+  fits = text_written c.args.from _ c.in_ok-set.set c.in_ok-set.deepest c.in_ok-set.ensures.says;
+}
+
 pub returns-in_err-text_of-clause-fault : goal.returns-in_err-text_of-clause-fault
 returns-in_err-text_of-clause-fault g c =
-    let told = c.in_err-text_of.field-0.0 in
-    told_alone c.from_residual-in_err-text_of.result told c.args.from _ _ c.from_residual-in_err-text_of.ensures.1
-    (not_written told c.args.from _ _ c.in_ok-text.text.items c.in_ok-set.set c.in_ok-set.deepest
-    c.in_ok-text.ensures.whole
-    (subst (λ (bytes : List ℕ). FormSays c.args.from bytes c.in_ok-set.set c.in_ok-set.deepest) c.deref.ensures.value c.in_ok-set.ensures.says)
-    c.in_err-text_of.ensures.fault)
+    told_alone c.from_residual-in_err-text_of.result c.in_err-text_of.field-0.0 c.args.from _ _
+    c.from_residual-in_err-text_of.ensures.1 (inl (inr (inr c.in_err-text_of.ensures.memory)))
 
 pub returns-clause-converts : goal.returns-clause-converts
 returns-clause-converts g c = (
