@@ -1,5 +1,5 @@
 //! Numbers of cells: rows worked by hand, and every cell of the small orders.
-use moc_sphere::{Cell, CellError, NameError, Order, OrderError};
+use moc_sphere::{Cell, CellError, Direction, NameError, Order, OrderError};
 use std::alloc::Global;
 use std::fmt::Display;
 use std::process::Abort;
@@ -92,25 +92,131 @@ fn touching_rows(rt: HostRuntime) {
     }
 }
 
-// As healpy's get_all_neighbours has them, which says -1 where there is none: here 99.
+// What stands for a cell that is not there.
+const NONE: u64 = u64::MAX;
+
+/// The number of a cell, or `NONE`.
+fn number(cell: Option<Cell>) -> u64 {
+    match cell {
+        Some(cell) => cell.index(),
+        None => NONE,
+    }
+}
+
+// As healpy 1.16's get_all_neighbours has them, which says -1 where there is none.
 #[test]
 fn neighbours_by_direction(rt: HostRuntime) {
     for (order, index, wanted) in [
-        (0, 0, [4, 99, 3, 2, 1, 99, 5, 8]),
-        (0, 4, [11, 7, 3, 99, 0, 5, 8, 99]),
-        (0, 5, [8, 4, 0, 99, 1, 6, 9, 99]),
+        (0, 0, [4, NONE, 3, 2, 1, NONE, 5, 8]),
+        (0, 4, [11, 7, 3, NONE, 0, 5, 8, NONE]),
+        (0, 5, [8, 4, 0, NONE, 1, 6, 9, NONE]),
+        (0, 8, [11, NONE, 4, 0, 5, NONE, 9, 10]),
+        (0, 11, [10, NONE, 7, 3, 4, NONE, 8, 9]),
         (1, 0, [17, 19, 2, 3, 1, 23, 22, 35]),
-        (1, 1, [0, 2, 3, 7, 6, 99, 23, 22]),
+        (1, 1, [0, 2, 3, 7, 6, NONE, 23, 22]),
+        (1, 32, [44, 45, 34, 35, 33, 38, 36, 40]),
+        (1, 37, [36, 38, 39, 26, 24, NONE, 42, 40]),
+        (1, 42, [37, NONE, 24, 25, 43, 41, 40, 36]),
+        (1, 47, [46, 28, 29, 12, 18, 16, 45, 44]),
         (2, 3, [2, 8, 9, 12, 6, 4, 1, 0]),
     ] {
-        let found = at(&rt, order, index).neighbours();
-        for (cell, wanted) in found.iter().zip(&wanted) {
-            let number = match cell {
-                Some(cell) => cell.index(),
-                None => 99,
-            };
-            assert_eq!(rt; number, *wanted, "order {order} index {index}");
+        let cell = at(&rt, order, index);
+        for (direction, wanted) in Direction::ALL.iter().zip(&wanted) {
+            assert_eq!(rt;
+                number(cell.neighbour(*direction)),
+                *wanted,
+                "order {order} index {index}"
+            );
         }
+        for (cell, wanted) in cell.neighbours().iter().zip(&wanted) {
+            assert_eq!(rt; number(*cell), *wanted, "order {order} index {index}");
+        }
+    }
+}
+
+// By healpy, as above: the southern corner of a base pixel, its northern corner, and cells beside other base pixels.
+#[test]
+fn neighbours_of_pixels(rt: HostRuntime) {
+    for (index, wanted) in [
+        (
+            2305843009213693952,
+            [
+                3170534137668829184,
+                3170534137668829185,
+                2305843009213693954,
+                2305843009213693955,
+                2305843009213693953,
+                2594073385365405698,
+                2594073385365405696,
+                2882303761517117440,
+            ],
+        ),
+        (
+            3458764513820540927,
+            [
+                3458764513820540926,
+                2113689425112552788,
+                2113689425112552789,
+                864691128455135232,
+                1345075088707988138,
+                1345075088707988136,
+                3458764513820540925,
+                3458764513820540924,
+            ],
+        ),
+        (
+            1345075088707988138,
+            [
+                3458764513820540927,
+                2113689425112552789,
+                864691128455135232,
+                864691128455135233,
+                1345075088707988139,
+                1345075088707988137,
+                1345075088707988136,
+                3458764513820540925,
+            ],
+        ),
+        (
+            3362687721769970346,
+            [
+                2978380553567688021,
+                NONE,
+                2017612633061982208,
+                2017612633061982209,
+                3362687721769970347,
+                3362687721769970345,
+                3362687721769970344,
+                2978380553567688020,
+            ],
+        ),
+    ] {
+        let cell = at(&rt, 29, index);
+        for (direction, wanted) in Direction::ALL.iter().zip(&wanted) {
+            assert_eq!(rt;
+                number(cell.neighbour(*direction)),
+                *wanted,
+                "index {index}"
+            );
+        }
+    }
+}
+
+// By healpy: 33 is the eastern cell of base pixel 8.
+#[test]
+fn neighbours_by_the_names_of_directions(rt: HostRuntime) {
+    let cell = at(&rt, 1, 33);
+    for (direction, wanted) in [
+        (Direction::SouthWest, 32),
+        (Direction::West, 34),
+        (Direction::NorthWest, 35),
+        (Direction::North, 22),
+        (Direction::NorthEast, 20),
+        (Direction::East, NONE),
+        (Direction::SouthEast, 38),
+        (Direction::South, 36),
+    ] {
+        assert_eq!(rt; number(cell.neighbour(direction)), wanted, "{direction:?}");
     }
 }
 

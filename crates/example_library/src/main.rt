@@ -5,7 +5,7 @@
 use anyhow::Result;
 use moc_parts::{Command, Map, Operand, Reply};
 use moc_ranges::{Coverage, CoverageBuilder, Memory, PIXEL_COUNT};
-use moc_sphere::{Cell, Order};
+use moc_sphere::{Cell, Direction, Order};
 use moc_text::{read_ascii, read_json, write_ascii, write_json};
 use std::alloc::Global;
 
@@ -20,7 +20,7 @@ fn around(alloc: Global, cell: Cell) -> Result<Coverage, Memory> {
 /// A cell and its neighbour to the north-east as one set, and the base pixel that they lie in.
 fn north_east(rt: &HostRuntime, cell: Cell) -> Result<()> {
     let alloc = rt.alloc();
-    if let Some(next) = cell.neighbours()[4] {
+    if let Some(next) = cell.neighbour(Direction::NorthEast) {
         let both = Coverage::from_cells(alloc, &[cell, next])?;
         println!(rt;
             "side by side: {}",

@@ -1,19 +1,20 @@
 -- The neighbour of a cell in a direction is where a step leads.
-use Rattle.std.proofs.Common.{◌≡◌, ℕ, zero, suc, ◌+◌, ◌/◌, ◌%◌, ◌^◌, ◌*◌, ◌<◌, Bool, true, false, ◌&&◌, ◌||◌, List, [], ◌∷◌, get_or, Contains, refl, sym, ap, subst, ◌∙◌, arith}
-use Rattle.std.specs.Prelude.{nat_le, if◌then◌else◌, Option, None, Some, MatchOption, IfSome}
+use Rattle.std.proofs.Common.{◌≡◌, ℕ, zero, suc, ◌+◌, ◌/◌, ◌%◌, ◌^◌, ◌*◌, ◌<◌, Bool, true, false, ◌&&◌, ◌||◌, List, [], ◌∷◌, Contains, refl, sym, ap, subst, ◌∙◌, arith}
+use Rattle.std.specs.Prelude.{if◌then◌else◌, Option, None, Some, MatchOption, IfSome}
 use Rattle.std.specs.List.{list_any}
 use Rattle.std.proofs.lemmas.Bool.{and_from, and_parts, le-leb, leb-true, ne_eqb, not_from_false}
 use Rattle.std.proofs.lemmas.Map.Views.{Contains-from_any}
 use Rattle.moc_sphere.specs.CellNumber.{CellNumber, cell_number}
 use Rattle.moc_sphere.specs.Faces.{face_of, x_of, y_of}
-use Rattle.moc_sphere.specs.Touching.{Point, corner_point, corner_points, corners_shared, directions, is_same_point, is_touching, IsNeighbour}
-use Rattle.moc_sphere.specs.Private.Sides.{IsAtStep, IsBeside}
+use Rattle.moc_sphere.specs.Touching.{Point, corner_point, corner_points, corners_of, corners_shared, is_same_point, is_touching, IsNeighbour, Touches}
+use Rattle.moc_sphere.specs.Private.Sides.{corners_of_step, goes_down, goes_up, IsAtStep, IsBeside}
+use Rattle.moc_sphere.specs.declared.direction.Direction.{Direction}
 use Rattle.moc_sphere.proofs.Shared.{IsCorner, at_corner, corner_in, found_in, same_from_test, same_point, Touches-from_test}
 use Rattle.moc_sphere.proofs.Points.{Meets-from_same_point}
 use Rattle.moc_sphere.proofs.Names.{same_point-from_Meets}
 use Rattle.moc_sphere.proofs.Cells.{Adjoins, adjoins_from_beside, corner_of_beside}
 use Rattle.moc_sphere.proofs.FaceBounds.{face_of-below, x_of-below, y_of-below, side_positive}
-use Rattle.moc_sphere.proofs.Touching.{step_from_Touches}
+use Rattle.moc_sphere.proofs.Touching.{step_from_Touches, Touches-from_step}
 use Rattle.moc_sphere.proofs.Search.{one_at_step}
 use Rattle.moc_sphere.proofs.CellFacts.{cell_is}
 
@@ -21,18 +22,6 @@ same_test : (b t : Bool) → (b ≡ true → t ≡ true) → (t ≡ true → b �
 same_test true t f g = sym (f refl)
 same_test false true f g = g refl
 same_test false false f g = refl
-
--- a step of a - 1 on an axis goes towards the lower corner, the upper one
-abbrev goes_down : ℕ → Bool
-goes_down a = nat_le a 1
-
-abbrev goes_up : ℕ → Bool
-goes_up a = nat_le 1 a
-
--- the corners that a step goes towards
-abbrev pub corners_of_step : ℕ → ℕ → List Bool
-corners_of_step a b =
-    (goes_down a && goes_down b) ∷ (goes_up a && goes_down b) ∷ (goes_down a && goes_up b) ∷ (goes_up a && goes_up b) ∷ []
 
 -- the step, of the corners that it goes towards
 abbrev pub across_of : List Bool → ℕ
@@ -63,6 +52,15 @@ step_across a b d e p q same = subst (λ n. n ≡ d) p (subst (λ n. across_of (
 
 step_up : (a b d e : ℕ) → up_of (corners_of_step a b) ≡ b → up_of (corners_of_step d e) ≡ e → corners_of_step a b ≡ corners_of_step d e → b ≡ e
 step_up a b d e p q same = subst (λ n. n ≡ e) p (subst (λ n. up_of (corners_of_step a b) ≡ n) q (ap up_of same))
+
+-- steps that go towards the same corners are one
+same_step : (s t : ℕ) → s < 9 → t < 9 → corners_of_step (s / 3) (s % 3) ≡ corners_of_step (t / 3) (t % 3) → s ≡ t
+same_step s t sb tb e =
+    let p = step_back (s / 3) (s % 3) (omega arith) (omega arith) in
+    let q = step_back (t / 3) (t % 3) (omega arith) (omega arith) in
+    let a = step_across (s / 3) (s % 3) (t / 3) (t % 3) p.0 q.0 e in
+    let b = step_up (s / 3) (s % 3) (t / 3) (t % 3) p.1 q.1 e in
+    omega arith
 
 -- ---- the corners that a cell shares with the one at a step
 
@@ -171,74 +169,40 @@ touching_test : (k i j : ℕ) → (i ≡ j → ⊥) → any (corners_shared k i 
 unfolding is_touching corners_shared corner_points
 touching_test k i j apart h = and_from _ _ (not_from_false _ (ne_eqb i j apart)) h
 
-pub neighbour_at_step : (k i d s j : ℕ) → i < 12 * 4 ^ k → s < 9 → corners_of_step (s / 3) (s % 3) ≡ get_or directions d [] → IsAtStep k i s j → IsNeighbour k d i j
+pub neighbour_at_step : (k i : ℕ) (d : Direction) (s j : ℕ) → i < 12 * 4 ^ k → s < 9 → corners_of_step (s / 3) (s % 3) ≡ corners_of d → IsAtStep k i s j → IsNeighbour k d i j
 neighbour_at_step k i d s j ib sb e (jb, h) =
     (jb, shared_at_step k i j (s / 3) (s % 3) (omega arith) (omega arith) ib jb h ∙ e)
 
-pub step_of_neighbour : (k i d s j : ℕ) → i < 12 * 4 ^ k → s < 9 → (s ≡ 4 → ⊥) → corners_of_step (s / 3) (s % 3) ≡ get_or directions d [] → IsNeighbour k d i j → IsAtStep k i s j
+pub step_of_neighbour : (k i : ℕ) (d : Direction) (s j : ℕ) → i < 12 * 4 ^ k → s < 9 → (s ≡ 4 → ⊥) → corners_of_step (s / 3) (s % 3) ≡ corners_of d → IsNeighbour k d i j → IsAtStep k i s j
 step_of_neighbour k i d s j ib sb off e (jb, shared) =
-    let back = step_back (s / 3) (s % 3) (omega arith) (omega arith) in
-    let mine : corners_shared k i j ≡ corners_of_step (s / 3) (s % 3) = subst (λ l. corners_shared k i j ≡ l) (sym e) shared in
+    let mine : corners_shared k i j ≡ corners_of_step (s / 3) (s % 3) = shared ∙ sym e in
     let apart : i ≡ j → ⊥ =
     λ same.
-    let shared_own : corners_shared k i j ≡ corners_of_step 1 1 = subst (λ l. corners_shared k i l ≡ corners_of_step 1 1) same (own_corners k i) in
-    let own : corners_of_step (s / 3) (s % 3) ≡ corners_of_step 1 1 = subst (λ l. l ≡ corners_of_step 1 1) mine shared_own in
-    let a : s / 3 ≡ 1 = step_across (s / 3) (s % 3) 1 1 back.0 refl own in
-    let b : s % 3 ≡ 1 = step_up (s / 3) (s % 3) 1 1 back.1 refl own in
-    off (omega arith) in
+    let own : corners_shared k i j ≡ corners_of_step 1 1 = subst (λ l. corners_shared k i l ≡ corners_of_step 1 1) same (own_corners k i) in
+    off (same_step s 4 sb (omega arith) (sym mine ∙ own)) in
     let t = Touches-from_test k i j ib jb (touching_test k i j apart (ap any mine ∙ some_corner (s / 3) (s % 3) (omega arith) (omega arith))) in
-    let r = step_from_Touches k i j t in
-    let u = r.0 in
-    let ub : u < 9 = r.1 in
-    let there = step_back (u / 3) (u % 3) (omega arith) (omega arith) in
-    let same : corners_of_step (u / 3) (u % 3) ≡ corners_of_step (s / 3) (s % 3) =
-    subst (λ l. l ≡ corners_of_step (s / 3) (s % 3)) (shared_at_step k i j (u / 3) (u % 3) (omega arith) (omega arith) ib jb r.3.1) mine in
-    let p : u / 3 ≡ s / 3 = step_across (u / 3) (u % 3) (s / 3) (s % 3) there.0 back.0 same in
-    let q : u % 3 ≡ s % 3 = step_up (u / 3) (u % 3) (s / 3) (s % 3) there.1 back.1 same in
-    let is : u ≡ s = omega arith in
-    subst (λ v. IsAtStep k i v j) is r.3
+    of_step (step_from_Touches k i j t) mine
+  where
+    of_step : ((u : ℕ) × (u < 9) × (u ≡ 4 → ⊥) × IsAtStep k i u j) → corners_shared k i j ≡ corners_of_step (s / 3) (s % 3) → IsAtStep k i s j
+    of_step (u, ub, _, at) mine =
+        let there = shared_at_step k i j (u / 3) (u % 3) (omega arith) (omega arith) ib jb at.1 in
+        subst (λ v. IsAtStep k i v j) (same_step u s ub sb (sym there ∙ mine)) at
 
 -- what a search at a step gave: the cell there, or nothing where there is none
 abbrev pub IsFoundAt : ℕ → ℕ → ℕ → Option CellNumber → Type 0
 IsFoundAt k i s r = MatchOption r ((j : ℕ) → ¬ IsAtStep k i s j) (λ c. (c.order ≡ k) × IsAtStep k i s c.index)
 
 -- it is the neighbour in the direction of the step, if there is one
-one_found : (k i d s : ℕ) (r : Option CellNumber) → i < 12 * 4 ^ k → s < 9 → corners_of_step (s / 3) (s % 3) ≡ get_or directions d [] → IsFoundAt k i s r
-    → IfSome r (λ c. (c.order ≡ k) × IsNeighbour k d i c.index)
-one_found k i d s None ib sb e h = tt
-one_found k i d s (Some c) ib sb e (o, h) = (o, neighbour_at_step k i d s c.index ib sb e h)
+module _ (k i : ℕ) (d : Direction) (s : ℕ) (ib : i < 12 * 4 ^ k) (sb : s < 9) (off : s ≡ 4 → ⊥) (e : corners_of_step (s / 3) (s % 3) ≡ corners_of d) where
+  pub one_found : (r : Option CellNumber) → IsFoundAt k i s r → IfSome r (λ c. (c.order ≡ k) × IsNeighbour k d i c.index)
+  one_found None h = tt
+  one_found (Some c) (o, h) = (o, neighbour_at_step k i d s c.index ib sb e h)
 
-one_only : (k i d s : ℕ) (r : Option CellNumber) → i < 12 * 4 ^ k → s < 9 → (s ≡ 4 → ⊥) → corners_of_step (s / 3) (s % 3) ≡ get_or directions d [] → IsFoundAt k i s r
-    → (j : ℕ) → IsNeighbour k d i j → r ≡ Some (cell_number k j)
-one_only k i d s None ib sb off e none j h = absurd (none j (step_of_neighbour k i d s j ib sb off e h))
-one_only k i d s (Some c) ib sb off e (o, at) j h =
-    ap Some (cell_is c k j o (one_at_step k i s c.index j at (step_of_neighbour k i d s j ib sb off e h)))
+  pub one_only : (r : Option CellNumber) → IsFoundAt k i s r → (j : ℕ) → IsNeighbour k d i j → r ≡ Some (cell_number k j)
+  one_only None none j h = absurd (none j (step_of_neighbour k i d s j ib sb off e h))
+  one_only (Some c) (o, at) j h = ap Some (cell_is c k j o (one_at_step k i s c.index j at (step_of_neighbour k i d s j ib sb off e h)))
 
--- the same of the steps in all directions
-module _ (k i : ℕ) (ib : i < 12 * 4 ^ k) (sw w nw n ne e se s : Option CellNumber)
-    (at_sw : IsFoundAt k i 1 sw) (at_w : IsFoundAt k i 2 w) (at_nw : IsFoundAt k i 5 nw) (at_n : IsFoundAt k i 8 n)
-    (at_ne : IsFoundAt k i 7 ne) (at_e : IsFoundAt k i 6 e) (at_se : IsFoundAt k i 3 se) (at_s : IsFoundAt k i 0 s) where
-  abbrev pub found : List (Option CellNumber)
-  found = sw ∷ w ∷ nw ∷ n ∷ ne ∷ e ∷ se ∷ s ∷ []
-
-  pub all_found : (d : ℕ) → d < 8 → IfSome (get_or found d None) (λ c. (c.order ≡ k) × IsNeighbour k d i c.index)
-  all_found zero l = one_found k i 0 1 sw ib (omega arith) refl at_sw
-  all_found (suc zero) l = one_found k i 1 2 w ib (omega arith) refl at_w
-  all_found (suc (suc zero)) l = one_found k i 2 5 nw ib (omega arith) refl at_nw
-  all_found (suc (suc (suc zero))) l = one_found k i 3 8 n ib (omega arith) refl at_n
-  all_found (suc (suc (suc (suc zero)))) l = one_found k i 4 7 ne ib (omega arith) refl at_ne
-  all_found (suc (suc (suc (suc (suc zero))))) l = one_found k i 5 6 e ib (omega arith) refl at_e
-  all_found (suc (suc (suc (suc (suc (suc zero)))))) l = one_found k i 6 3 se ib (omega arith) refl at_se
-  all_found (suc (suc (suc (suc (suc (suc (suc zero))))))) l = one_found k i 7 0 s ib (omega arith) refl at_s
-  all_found (suc (suc (suc (suc (suc (suc (suc (suc d)))))))) l = absurd (omega arith)
-
-  pub all_only : (d j : ℕ) → d < 8 → IsNeighbour k d i j → get_or found d None ≡ Some (cell_number k j)
-  all_only zero j l h = one_only k i 0 1 sw ib (omega arith) (λ q. absurd (omega arith)) refl at_sw j h
-  all_only (suc zero) j l h = one_only k i 1 2 w ib (omega arith) (λ q. absurd (omega arith)) refl at_w j h
-  all_only (suc (suc zero)) j l h = one_only k i 2 5 nw ib (omega arith) (λ q. absurd (omega arith)) refl at_nw j h
-  all_only (suc (suc (suc zero))) j l h = one_only k i 3 8 n ib (omega arith) (λ q. absurd (omega arith)) refl at_n j h
-  all_only (suc (suc (suc (suc zero)))) j l h = one_only k i 4 7 ne ib (omega arith) (λ q. absurd (omega arith)) refl at_ne j h
-  all_only (suc (suc (suc (suc (suc zero))))) j l h = one_only k i 5 6 e ib (omega arith) (λ q. absurd (omega arith)) refl at_e j h
-  all_only (suc (suc (suc (suc (suc (suc zero)))))) j l h = one_only k i 6 3 se ib (omega arith) (λ q. absurd (omega arith)) refl at_se j h
-  all_only (suc (suc (suc (suc (suc (suc (suc zero))))))) j l h = one_only k i 7 0 s ib (omega arith) (λ q. absurd (omega arith)) refl at_s j h
-  all_only (suc (suc (suc (suc (suc (suc (suc (suc d)))))))) j l h = absurd (omega arith)
+  -- and touches
+  pub one_touches : (r : Option CellNumber) → IsFoundAt k i s r → IfSome r (λ c. Touches k i c.index)
+  one_touches None h = tt
+  one_touches (Some c) (o, at) = Touches-from_step k i s c.index ib sb off at

@@ -1,11 +1,14 @@
 -- The corner points of cells, and when two cells touch (Górski and others 2005). A point of the sphere is named by its
 -- row and its column in that row.
 use Rattle.std.specs.Prelude.{◌≡◌, ◌≢◌, ℕ, ◌+◌, ◌-◌, ◌*◌, ◌/◌, ◌%◌, ◌^◌, ◌<◌, min, List, [], ◌∷◌, Contains, Bool, not}
-use Rattle.std.specs.Prelude.{true, false, map, get_or, nat_le, ◌==◌, ◌&&◌, if◌then◌else◌}
+use Rattle.std.specs.Prelude.{true, false, map, nat_le, ◌==◌, ◌&&◌, if◌then◌else◌}
 use Rattle.std.specs.List.{filter, list_any, range_with_len}
 use Rattle.moc_sphere.specs.CellNumber.{cell_count}
 use Rattle.moc_sphere.specs.Faces.{face_of, x_of, y_of}
 use Rattle.moc_sphere.specs.Rings.{row_factor, column_at}
+use Rattle.moc_sphere.specs.declared.direction.Direction.{Direction}
+use Rattle.moc_sphere.specs.declared.direction.Direction.TheVariants.{SouthWest, West, NorthWest, North}
+use Rattle.moc_sphere.specs.declared.direction.Direction.TheVariants.{NorthEast, East, SouthEast, South}
 
 -- The row of the corner (X, Y) of base pixel f, from 0 at the north pole to 4n at the south pole.
 unfoldable pub corner_row : ℕ → ℕ → ℕ → ℕ → ℕ
@@ -75,20 +78,29 @@ touching_cells k i = filter (is_touching k i) (range_with_len 0 (cell_count k))
 unfoldable pub corners_shared : ℕ → ℕ → ℕ → List Bool
 corners_shared k i j = map (λ p. list_any (is_same_point p) (corner_points k j)) (corner_points k i)
 
--- The directions in which a cell has neighbours, in healpy's order, each by which of its corners lie there, south, east,
--- west and north: a side has two, and a corner is one.
-abbrev pub directions : List (List Bool)
-directions =
-    (true ∷ false ∷ true ∷ false ∷ [])  -- south-west
-    ∷ (false ∷ false ∷ true ∷ false ∷ [])  -- west
-    ∷ (false ∷ false ∷ true ∷ true ∷ [])  -- north-west
-    ∷ (false ∷ false ∷ false ∷ true ∷ [])  -- north
-    ∷ (false ∷ true ∷ false ∷ true ∷ [])  -- north-east
-    ∷ (false ∷ true ∷ false ∷ false ∷ [])  -- east
-    ∷ (true ∷ true ∷ false ∷ false ∷ [])  -- south-east
-    ∷ (true ∷ false ∷ false ∷ false ∷ [])  -- south
-    ∷ []
+-- Which of its corners, south, east, west and north, a cell shares with its neighbour in a direction: the two of a side,
+-- or the one that lies there.
+abbrev pub corners_of : Direction → List Bool
+corners_of SouthWest = true ∷ false ∷ true ∷ false ∷ []
+corners_of West = false ∷ false ∷ true ∷ false ∷ []
+corners_of NorthWest = false ∷ false ∷ true ∷ true ∷ []
+corners_of North = false ∷ false ∷ false ∷ true ∷ []
+corners_of NorthEast = false ∷ true ∷ false ∷ true ∷ []
+corners_of East = false ∷ true ∷ false ∷ false ∷ []
+corners_of SouthEast = true ∷ true ∷ false ∷ false ∷ []
+corners_of South = true ∷ false ∷ false ∷ false ∷ []
 
--- Cell j of order k is the neighbour of cell i in a direction, by its number from 0: it shares just the corners there.
-abbrev pub IsNeighbour : ℕ → ℕ → ℕ → ℕ → Type 0
-IsNeighbour k d i j = (j < cell_count k) × (corners_shared k i j ≡ get_or directions d [])
+-- Cell j of order k is the neighbour of cell i in a direction: it shares just the corners that lie there.
+abbrev pub IsNeighbour : ℕ → Direction → ℕ → ℕ → Type 0
+IsNeighbour k d i j = (j < cell_count k) × (corners_shared k i j ≡ corners_of d)
+
+-- The place of a direction in healpy's order, from 0.
+abbrev pub healpy_place : Direction → ℕ
+healpy_place SouthWest = 0
+healpy_place West = 1
+healpy_place NorthWest = 2
+healpy_place North = 3
+healpy_place NorthEast = 4
+healpy_place East = 5
+healpy_place SouthEast = 6
+healpy_place South = 7

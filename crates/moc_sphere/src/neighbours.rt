@@ -2,13 +2,15 @@
 ghost use Rattle.smallvec.specs.SmallVec.{small_vec_len};
 ghost use Rattle.moc_sphere.specs.CellNumber.{cell_number, IsCell};
 ghost use Rattle.moc_sphere.specs.Faces.{IsAt, spread_of, x_of, y_of};
-ghost use Rattle.moc_sphere.specs.Touching.{IsNeighbour, Touches, touching_cells};
+ghost use Rattle.moc_sphere.specs.Touching.{IsNeighbour, Touches, healpy_place, touching_cells};
 ghost use Rattle.moc_sphere.specs.Private.Sides.{IsAtStep};
+ghost use Rattle.moc_sphere.specs.declared.direction.Direction.{Direction};
 ghost use Rattle.std.specs.List.Sorted.{IsStrictlyIncreasing};
 ghost use Rattle.std.specs.Prelude.{◌≡◌, ℕ, ◌-◌, ◌<◌, ◌≤◌, ◌^◌, ◌↔◌, All, Contains, IfSome, MatchOption, get_or, map};
 
 use crate::bits::{spread_after, spread_before};
 use crate::cell::Cell;
+use crate::direction::Direction;
 use crate::rising::{insert_rising, sums_around};
 use crate::sides::{Place, beside};
 use smallvec::SmallVec;
@@ -54,31 +56,57 @@ impl Cell {
         cells
     }
 
-    /// The neighbours by direction, in healpy's order: south-west, west, north-west, north, north-east, east, south-east,
-    /// south. A corner where three cells meet has none. A fixed number of steps.
+    /// The neighbour in a direction; `None` over a corner where only three cells meet. A fixed number of steps.
+    pub fn neighbour(self, direction: Direction) -> Option<Cell>
+        ensures found { IfSome result
+            (λ c. (c.order ≡ self.order) × IsNeighbour self.order direction self.index c.index) }
+        ensures only { (j : ℕ) → IsNeighbour self.order direction self.index j
+            → result ≡ Some (cell_number self.order j) }
+        ensures touch { IfSome result (λ c. Touches self.order self.index c.index) }
+    {
+        let (face, x, y) = self.face_xy();
+        neighbour_of(self, Place::new(u32::from(face), x, y), direction)
+    }
+
+    /// The neighbours in all directions, in healpy's order: south-west, west, north-west, north, north-east, east,
+    /// south-east, south. Each is what `neighbour` gives. A fixed number of steps.
     pub fn neighbours(self) -> [Option<Cell>; 8]
-        ensures found { (d : ℕ) → d < 8 → IfSome (get_or result d None)
+        ensures found { (d : Direction) → IfSome (get_or result (healpy_place d) None)
             (λ c. (c.order ≡ self.order) × IsNeighbour self.order d self.index c.index) }
-        ensures only { (d j : ℕ) → d < 8 → IsNeighbour self.order d self.index j
-            → get_or result d None ≡ Some (cell_number self.order j) }
+        ensures only { (d : Direction) (j : ℕ) → IsNeighbour self.order d self.index j
+            → get_or result (healpy_place d) None ≡ Some (cell_number self.order j) }
+        ensures touch { All (λ cell. IfSome cell (λ c. Touches self.order self.index c.index)) result }
     {
         let (face, x, y) = self.face_xy();
         let from = Place::new(u32::from(face), x, y);
         [
-            at_step(self, from, 1),
-            at_step(self, from, 2),
-            at_step(self, from, 5),
-            at_step(self, from, 8),
-            at_step(self, from, 7),
-            at_step(self, from, 6),
-            at_step(self, from, 3),
-            at_step(self, from, 0),
+            neighbour_of(self, from, Direction::SouthWest),
+            neighbour_of(self, from, Direction::West),
+            neighbour_of(self, from, Direction::NorthWest),
+            neighbour_of(self, from, Direction::North),
+            neighbour_of(self, from, Direction::NorthEast),
+            neighbour_of(self, from, Direction::East),
+            neighbour_of(self, from, Direction::SouthEast),
+            neighbour_of(self, from, Direction::South),
         ]
     }
 }
 
+/// The neighbour of a cell, which has this place, in a direction.
+fn neighbour_of(cell: Cell, from: Place, direction: Direction) -> Option<Cell>
+    requires face { from.face < 12 }
+    requires place { IsAt cell from.face from.x from.y }
+    requires x { from.x < 2 ^ cell.order }
+    requires y { from.y < 2 ^ cell.order }
+    ensures found { IfSome result (λ c. (c.order ≡ cell.order) × IsNeighbour cell.order direction cell.index c.index) }
+    ensures only { (j : ℕ) → IsNeighbour cell.order direction cell.index j → result ≡ Some (cell_number cell.order j) }
+    ensures touch { IfSome result (λ c. Touches cell.order cell.index c.index) }
+{
+    at_step(cell, from, direction.step())
+}
+
 /// The cell at a step from one, which has this place, if there is a cell. Steps are numbered row by row of nine, by x and
-/// then by y; 4 is none.
+/// then by y; step 4 leads to the cell itself.
 fn at_step(cell: Cell, from: Place, step: u32) -> Option<Cell>
     requires face { from.face < 12 }
     requires place { IsAt cell from.face from.x from.y }
