@@ -7,9 +7,10 @@ use Rattle.std.proofs.lemmas.List.{drop-drop, take_all}
 use Rattle.std.proofs.lemmas.List.Sums.{prefix_len-le-length}
 use Rattle.std.proofs.lemmas.List.Splits.{slice_split_first, slice_split-cons_no, length-slice_split}
 use Rattle.moc_parts.specs.declared.command.Command.{Command}
-use Rattle.moc_lines.specs.Batches.{is_semicolon, pieces_of, piece_says, first_then, commands_of, batch_of}
+use Rattle.moc_lines.specs.Language.{◌>>=◌}
+use Rattle.moc_lines.specs.Batches.{is_semicolon, pieces_of, piece_says, commands_of, batch_of}
 use Rattle.moc_lines.specs.declared.fault.Fault.TheVariants.{TooManyCommands}
-use Rattle.moc_lines.specs.Readings.{Reads}
+use Rattle.moc_lines.specs.Readings.{ReadsText}
 use Rattle.moc_lines.specs.declared.fault.Fault.{Fault}
 use Rattle.moc_lines.specs.declared.fault.ReadError.{ReadError}
 use Rattle.moc_lines.specs.declared.fault.ReadError.TheVariants as error
@@ -56,6 +57,10 @@ pub pieces-next : (rest back next : List ℕ) (at : ℕ) → at ≡ position_or_
 pieces-next rest back next at first found behind_is next_is =
     ap length (pieces-found rest (omega arith)) ∙ ap (λ l. suc (length (pieces_of (drop 1 l)))) (ap (λ n. drop n rest) (sym first) ∙ sym behind_is) ∙ ap (λ l. suc (length (pieces_of l))) (sym next_is)
 
+-- a command, and those after it, or the first fault
+abbrev pub first_then : Result Command Fault → Result (List Command) Fault → Result (List Command) Fault
+first_then first later = first >>= (λ command. later >>= (λ commands. Ok (command ∷ commands)))
+
 -- commands, and then what the rest says
 abbrev pub behind : List Command → Result (List Command) Fault → Result (List Command) Fault
 behind commands (Ok later) = Ok (commands ++ later)
@@ -100,7 +105,7 @@ module _ (says : List ℕ → Result Command Fault) where
   -- a faulty piece
   pub behind-fault : {V : Type 0} (view : V → List Command) (commands : List Command) (rest piece : List ℕ) (at : ℕ) (all : Result (List Command) Fault) (e : ReadError)
       → at ≡ position_or_len is_semicolon rest → piece ≡ take at rest → all ≡ behind commands (commands_of says (pieces_of rest))
-      → Reads {X = Command} (λ x. x) (Err e) (piece_says says piece) → Reads view (Err e) all
+      → ReadsText {X = Command} (λ x. x) (Err e) (piece_says says piece) → ReadsText view (Err e) all
   behind-fault view commands rest piece at all (error.Fault fault) first same is says_fault =
       let found = piece-first rest in
       let later = commands_of says found.0 in
@@ -127,8 +132,8 @@ module _ (says : List ℕ → Result Command Fault) where
   pub batch-alone : (line : List ℕ) → length line ≤ position_or_len is_semicolon line → batch_of says line ≡ first_then (piece_says says line) (Ok [])
   batch-alone line none = ap (λ ps. cond (ltb 16 (length ps)) (Err TooManyCommands) (commands_of says ps)) (pieces-none line none)
 
-  pub reads-alone : (line : List ℕ) (read : Result Command ReadError) → length line ≤ position_or_len is_semicolon line → Reads {X = Command} (λ c. c) read (piece_says says line)
-      → Reads {X = Command} (λ c. c ∷ []) read (batch_of says line)
+  pub reads-alone : (line : List ℕ) (read : Result Command ReadError) → length line ≤ position_or_len is_semicolon line → ReadsText {X = Command} (λ c. c) read (piece_says says line)
+      → ReadsText {X = Command} (λ c. c ∷ []) read (batch_of says line)
   reads-alone line (Ok command) none is = batch-alone line none ∙ ap (λ r. first_then r (Ok [])) is
   reads-alone line (Err (error.Fault fault)) none is = batch-alone line none ∙ ap (λ r. first_then r (Ok [])) is
   reads-alone line (Err error.Memory) none is = tt

@@ -6,9 +6,9 @@ use Rattle.std.proofs.lemmas.List.Sums.{take_while-cons}
 use Rattle.std.specs.Io.KnownBytes.{Appends, Consumes, IsAtEnd, Keeps}
 use Rattle.std.proofs.KnownBytes.{Appends-kept, Appends-trans}
 use Rattle.moc_text.specs.Lines.{lines_of}
-use Rattle.moc_lines.specs.Answers.{Rules, is_within, answers_to, after_lines, closing_behind, closing_text, script_text}
+use Rattle.moc_lines.specs.Answers.{Rules, is_within, answers_to, after_lines, closing_behind, script_text}
 use Rattle.moc_devices.specs.Devices.{Sends}
-use Rattle.moc_lines.specs.Runs.{AreWithin, IsWritten, Runs, Begins}
+use Rattle.moc_lines.specs.Runs.{AreWithin, IsWritten, Runs, WritesBeginning}
 use Rattle.moc_lines.specs.Private.Ended.{Ended, text_at}
 use Rattle.moc_lines.specs.declared.run_error.RunError.{RunError}
 use Rattle.moc_lines.specs.declared.run_error.RunError.TheVariants.{Read, Write, LineTooLong, Memory}
@@ -38,11 +38,15 @@ module _ {S : Type 0} (limit : ℕ) (rules : Rules S) where
   answers_to-append s [] more = refl
   answers_to-append s (line ∷ lines) more = ap (λ l. rules.answer s line ++ l) (answers_to-append (rules.after s line) lines more) ∙ sym (append_assoc (rules.answer s line) _ _)
 
+  -- what is said behind all lines, where none is over the limit
+  abbrev closing_text : S → List (List ℕ) → List ℕ
+  closing_text s lines = cond (list_all (is_within limit) lines) (closing_behind rules s lines) []
+
   -- the answers so far begin the text
   beginning : (s : S) (input : List ℕ) (lines rest : List (List ℕ)) → AreWithin limit lines → lines_of input ≡ lines ++ rest
       → (tail : List ℕ) × (script_text rules limit s input ≡ answers_to rules s lines ++ tail)
   beginning s input lines rest within is =
-      let closing = closing_text rules limit s (lines_of input) in
+      let closing = closing_text s (lines_of input) in
       let later = answers_to rules (after_lines rules s lines) (take_while (is_within limit) rest) in (
         later ++ closing,
         ap (λ l. answers_to rules s (take_while (is_within limit) l) ++ closing) is
@@ -55,8 +59,8 @@ module _ {S : Type 0} (limit : ℕ) (rules : Rules S) where
   whole_is : (s : S) (input : List ℕ) (lines : List (List ℕ)) → AreWithin limit lines → lines_of input ≡ lines
       → script_text rules limit s input ≡ answers_to rules s lines ++ closing_behind rules s lines
   whole_is s input lines within is =
-      ap (λ l. answers_to rules s (take_while (is_within limit) l) ++ closing_text rules limit s l) is
-      ∙ ap (λ l. answers_to rules s l ++ closing_text rules limit s lines) (taken_all limit lines within)
+      ap (λ l. answers_to rules s (take_while (is_within limit) l) ++ closing_text s l) is
+      ∙ ap (λ l. answers_to rules s l ++ closing_text s lines) (taken_all limit lines within)
       ∙ ap (λ b. answers_to rules s lines ++ cond b (closing_behind rules s lines) []) (all_within limit lines within)
 
   -- all that was read follows from what was given and what is left
@@ -169,10 +173,10 @@ module _ {S : Type 0} (limit : ℕ) (rules : Rules S) where
       }
 
   -- so the text begins with what is written
-  pub Begins-sent : {E : Type 0} (s : S) (a b w v u x : Option (List ℕ)) (pending pending' : List ℕ) (r : Result (Unit {0}) RunError) (sends : Result (Unit {0}) E) → (r ≡ Err Write → ⊥)
-      → Ended limit rules s a b w v pending r → Sends pending v pending' u sends → is_err sends ≡ false → pending' ≡ [] → Keeps u x → IfSome a (λ input. Begins limit rules s input w x)
-  Begins-sent s None b w v u x pending pending' r sends other e sent ok empty kept = tt
-  Begins-sent s (Some input) b w v u x pending pending' r sends other e sent ok empty kept =
+  pub WritesBeginning-sent : {E : Type 0} (s : S) (a b w v u x : Option (List ℕ)) (pending pending' : List ℕ) (r : Result (Unit {0}) RunError) (sends : Result (Unit {0}) E) → (r ≡ Err Write → ⊥)
+      → Ended limit rules s a b w v pending r → Sends pending v pending' u sends → is_err sends ≡ false → pending' ≡ [] → Keeps u x → IfSome a (λ input. WritesBeginning limit rules s input w x)
+  WritesBeginning-sent s None b w v u x pending pending' r sends other e sent ok empty kept = tt
+  WritesBeginning-sent s (Some input) b w v u x pending pending' r sends other e sent ok empty kept =
       let answers = said_is s (Some input) b w v pending r other e in
       let rest = sym (at_ok sends ok sent.pending) ∙ empty in
       let all : text_at rules s e.lines r ≡ e.sent ++ sent.sent =
@@ -184,14 +188,14 @@ module _ {S : Type 0} (limit : ℕ) (rules : Rules S) where
         parts = text.1 ∙ ap (λ l. l ++ text.0) all;
       }
 
-  pub Begins-failed : (s : S) (a b w v : Option (List ℕ)) → IfSome a (λ input. Runs limit rules s input b w v (Err Write)) → IfSome a (λ input. Begins limit rules s input w v)
-  Begins-failed s None b w v runs = tt
-  Begins-failed s (Some input) b w v runs = record { text = runs.text; rest = runs.is_written.0; appended = runs.appended; parts = runs.is_written.1 }
+  pub WritesBeginning-failed : (s : S) (a b w v : Option (List ℕ)) → IfSome a (λ input. Runs limit rules s input b w v (Err Write)) → IfSome a (λ input. WritesBeginning limit rules s input w v)
+  WritesBeginning-failed s None b w v runs = tt
+  WritesBeginning-failed s (Some input) b w v runs = record { text = runs.text; rest = runs.is_written.0; appended = runs.appended; parts = runs.is_written.1 }
 
-  pub Begins-ended : (s : S) (a b w v : Option (List ℕ)) (pending : List ℕ) (r : Result (Unit {0}) RunError) → r ≡ Err Write → Ended limit rules s a b w v pending r
-      → IfSome a (λ input. Begins limit rules s input w v)
-  Begins-ended s a b w v pending r is e =
-      Begins-failed s a b w v (Runs-unsent s a b w v pending (subst (λ (q : Result (Unit {0}) RunError). Ended limit rules s a b w v pending q) is e))
+  pub WritesBeginning-ended : (s : S) (a b w v : Option (List ℕ)) (pending : List ℕ) (r : Result (Unit {0}) RunError) → r ≡ Err Write → Ended limit rules s a b w v pending r
+      → IfSome a (λ input. WritesBeginning limit rules s input w v)
+  WritesBeginning-ended s a b w v pending r is e =
+      WritesBeginning-failed s a b w v (Runs-unsent s a b w v pending (subst (λ (q : Result (Unit {0}) RunError). Ended limit rules s a b w v pending q) is e))
 
   -- a run that ended well wrote the text
   pub answers-ok : (s : S) (a b w v : Option (List ℕ)) (r : Result (Unit {0}) RunError) → IfSome a (λ input. Runs limit rules s input b w v r)

@@ -1,19 +1,23 @@
 -- Cells that two fields name.
-use Rattle.std.proofs.Common.{◌≡◌, ℕ, List, ◌-◌, ◌^◌, ◌<◌, ◌≤◌, min, Option, Some, None, Result, Ok, sym, ap, ◌∙◌, arith, lit<}
+use Rattle.std.proofs.Common.{◌≡◌, ℕ, List, ◌-◌, ◌^◌, ◌<◌, ◌≤◌, cond, ltb, min, Option, Some, None, Result, Ok, Err, sym, ap, ◌∙◌, arith, lit<}
 use Rattle.std.proofs.Math.Nat.{pow-le-pow_right}
 use Rattle.std.proofs.lemmas.Bool.Decides.{nat_tests}
 use Rattle.std.specs.Option.{option_map, ok_or}
 use Rattle.moc_sphere.specs.CellNumber.{CellNumber, cell_number, cell_count}
 use Rattle.moc_parts.specs.declared.command.Command.{Command}
 use Rattle.moc_parts.specs.declared.command.Command.TheVariants.{Near}
-use Rattle.moc_lines.specs.Words.{number_of}
-use Rattle.moc_lines.specs.Language.{near_at, near_by, ◌>>=◌}
+use Rattle.moc_lines.specs.Words.{number_spelled}
+use Rattle.moc_lines.specs.Language.{near_by, ◌>>=◌}
 use Rattle.moc_lines.specs.declared.fault.Fault.{Fault}
-use Rattle.moc_lines.specs.declared.fault.Fault.TheVariants.{BadNumber}
+use Rattle.moc_lines.specs.declared.fault.Fault.TheVariants.{BadNumber, OrderTooLarge, CellTooLarge}
 
 -- the answer that a cell is read
 abbrev answer_of : CellNumber → Result Command Fault
 answer_of cell = Ok (Near cell)
+
+-- the command for a cell of an order, if there are both
+abbrev near_at : ℕ → ℕ → Result Command Fault
+near_at k i = cond (ltb 29 k) (Err OrderTooLarge) (cond (ltb i (cell_count k)) (Ok (Near (cell_number k i))) (Err CellTooLarge))
 
 -- a held number below the greatest is the number
 held_number : (spelled : Option ℕ) (held : ℕ) → Some held ≡ option_map (λ n. min n (2 ^ 64 - 1)) spelled → held < 2 ^ 64 - 1 → spelled ≡ Some held
@@ -33,11 +37,11 @@ near_at_cell k i small below = grind (arith, nat_tests)
 
 -- two fields that spell an order and the number of one of its cells name that cell
 pub near_is : (order index : List ℕ) (k i : ℕ) → k ≤ 29 → i < cell_count k
-    → Some k ≡ option_map (λ n. min n (2 ^ 64 - 1)) (number_of order) → Some i ≡ option_map (λ n. min n (2 ^ 64 - 1)) (number_of index)
+    → Some k ≡ option_map (λ n. min n (2 ^ 64 - 1)) (number_spelled order) → Some i ≡ option_map (λ n. min n (2 ^ 64 - 1)) (number_spelled index)
     → near_by order index ≡ Ok (Near (cell_number k i))
 near_is order index k i small below e f =
-    let order_is : number_of order ≡ Some k = held_number (number_of order) k e (omega arith) in
-    let index_is : number_of index ≡ Some i = held_number (number_of index) i f (omega (arith, cells_fit k small)) in
+    let order_is : number_spelled order ≡ Some k = held_number (number_spelled order) k e (omega arith) in
+    let index_is : number_spelled index ≡ Some i = held_number (number_spelled index) i f (omega (arith, cells_fit k small)) in
     (λ t. ok_or (order_is t) BadNumber >>= (λ k. ok_or (index_is t) BadNumber >>= (λ i. near_at k i))) ∙ near_at_cell k i small below
 
 -- the answer for a cell under its two names

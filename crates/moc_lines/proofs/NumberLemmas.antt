@@ -12,7 +12,7 @@ use Rattle.std.proofs.lemmas.List.{take_all, drop_all}
 use Rattle.std.proofs.lemmas.Str.{digit_value_digit}
 use Rattle.std.proofs.Math.Nat.{pow-le-pow_right}
 use Rattle.std.proofs.lemmas.Nat.{pow-add}
-use Rattle.moc_lines.specs.Words.{number_of, is_line_blank, word_of, behind_word, without_blanks}
+use Rattle.moc_lines.specs.Words.{number_spelled, is_line_blank, word_of, behind_word, without_blanks}
 
 both : (a b : Bool) → a && b ≡ true → (a ≡ true) × (b ≡ true)
 both true b h = (refl, h)
@@ -24,8 +24,8 @@ is_digit d h =
     (leb-true 48 d p.0, leb-true d 57 p.1)
 
 -- a field with another byte spells no number
-pub number_of-other : (field : List ℕ) (i d : ℕ) → i < length field → is_ascii_digit (get_or field i d) ≡ false → number_of field ≡ None
-number_of-other field i d inside other =
+pub number_spelled-other : (field : List ℕ) (i d : ℕ) → i < length field → is_ascii_digit (get_or field i d) ≡ false → number_spelled field ≡ None
+number_spelled-other field i d inside other =
     let no : list_all is_ascii_digit field ≡ false = list_all_at is_ascii_digit field i d inside other in
     let none : (b : Bool) → b && false ≡ false = λ b. elim b as (λ v. v && false ≡ false) [ true ↦ refl | false ↦ refl ] in
     ap (λ b. cond (ltb 0 (length field) && b) (Some (digits_value 10 field)) None) no
@@ -98,7 +98,7 @@ spelled true false n v is = cc
 spelled false c n v is = cc
 
 -- a line that spells a number is one word
-pub word-alone : (line : List ℕ) (n : ℕ) → Some n ≡ number_of line → (word_of line ≡ line) × (behind_word line ≡ [])
+pub word-alone : (line : List ℕ) (n : ℕ) → Some n ≡ number_spelled line → (word_of line ≡ line) × (behind_word line ≡ [])
 word-alone line n is =
     let digits = spelled (ltb 0 (length line)) (list_all is_ascii_digit line) n (digits_value 10 line) is in
     word-plain line (ltb-true 0 (length line) digits.0) digits.1

@@ -7,12 +7,11 @@ use Rattle.std.proofs.KnownBytes.{Appends-nil, Appends-trans, Consumes-nil, Cons
 use Rattle.std.proofs.Math.Seq.{take-append_seam}
 use Rattle.std.proofs.lemmas.List.{get_or-append-add, take_all}
 use Rattle.moc_text.specs.Lines.{is_line_feed, lines_of}
-use Rattle.moc_lines.specs.Lines.{whole_lines_of}
 use Rattle.moc_lines.specs.Private.Held.{Held, IsUnbroken}
 use Rattle.moc_lines.specs.Private.LineReading.{TakesLine, fault_at}
 use Rattle.moc_lines.specs.Answers.{Rules, answers_to, after_lines}
 use Rattle.moc_devices.specs.Devices.{Sends}
-use Rattle.moc_lines.specs.Runs.{AreWithin, IsTooLong, IsBegun, IsUnclosed, lines_before}
+use Rattle.moc_lines.specs.Runs.{AreWithin, IsTooLong, IsBegunLine, IsUnclosed, whole_lines_of, lines_before}
 use Rattle.moc_lines.specs.Private.Ended.{Ended, EndsAt, IsSent}
 use Rattle.moc_lines.specs.declared.line_reader.Found.{Found}
 use Rattle.moc_lines.specs.declared.line_reader.LineFault.{LineFault}
@@ -215,7 +214,7 @@ module _ {S : Type 0} (limit : ℕ) (rules : Rules S) where
         let split = split_with came in
         let all : length (lines_of (p.given ++ came)) ≡ length p.lines + length (lines_of (held.unread ++ came)) =
         ap length (lines_of-given p.lines (p.given ++ came) (held.unread ++ came) split p.unbroken) ∙ length-append p.lines (lines_of (held.unread ++ came)) in
-        let begun : IsBegun number (p.given ++ came) = record {
+        let begun : IsBegunLine number (p.given ++ came) = record {
           none = λ zero. absurd (omega (arith, zero, p.count));
           some = λ below. omega (arith, all, p.count, some-lines (held.unread ++ came) (some below));
           next = omega (arith, all, p.count);

@@ -6,7 +6,7 @@ use Rattle.std.proofs.lemmas.Bool.{cases_lt, eqb-true}
 use Rattle.std.proofs.lemmas.List.{get_or-append-add, get_or-drop, take-append-drop, take_more, drop-append-le, drop-drop}
 use Rattle.moc_text.specs.Lines.{is_line_feed, lines_of}
 use Rattle.moc_lines.specs.Private.Held.{IsUnbroken}
-use Rattle.moc_lines.specs.Runs.{AreWithin, IsTooLong, IsBegun}
+use Rattle.moc_lines.specs.Runs.{AreWithin, IsTooLong, IsBegunLine}
 use Rattle.std.specs.Io.KnownBytes.{Consumes}
 use Rattle.std.proofs.KnownBytes.{Consumes-trans}
 use Rattle.moc_lines.specs.Private.Input.{IsHeld, IsBehindLast}
@@ -155,7 +155,7 @@ module _ (bytes chunk : List ℕ) (start : ℕ) (held : IsHeld bytes start) wher
       }
 
   -- the line that is begun has bytes, of some that come
-  pub held_begun : 0 < length chunk → (number : ℕ) → number ≡ count_by is_line_feed bytes + 1 → IsBegun number (bytes ++ chunk)
+  pub held_begun : 0 < length chunk → (number : ℕ) → number ≡ count_by is_line_feed bytes + 1 → IsBegunLine number (bytes ++ chunk)
   held_begun some number is =
       let rest = drop start bytes ++ chunk in
       let lines : lines_of (bytes ++ chunk) ≡ held.lines ++ lines_of rest = held.front chunk in

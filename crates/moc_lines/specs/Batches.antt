@@ -4,7 +4,8 @@ use Rattle.std.specs.List.{slice_split}
 use Rattle.moc_ranges.specs.Numbers.{NumberSet}
 use Rattle.moc_parts.specs.Batches.{replies_on, set_after_all}
 use Rattle.moc_parts.specs.declared.command.Command.{Command}
-use Rattle.moc_lines.specs.Words.{is_blank}
+use Rattle.moc_lines.specs.Words.{is_blank_text}
+use Rattle.moc_lines.specs.Language.{◌>>=◌}
 use Rattle.moc_lines.specs.Faults.{fault_answer}
 use Rattle.moc_lines.specs.Replies.{replies_text}
 use Rattle.moc_lines.specs.declared.fault.Fault.{Fault}
@@ -19,12 +20,6 @@ is_semicolon b = b == 59
 -- the pieces of a line, parted by semicolons
 abbrev pub pieces_of : List ℕ → List (List ℕ)
 pieces_of line = slice_split is_semicolon line
-
--- a command, and those after it, or the first fault
-abbrev pub first_then : Result Command Fault → Result (List Command) Fault → Result (List Command) Fault
-first_then (Err fault) later = Err fault
-first_then (Ok command) (Err fault) = Err fault
-first_then (Ok command) (Ok commands) = Ok (command ∷ commands)
 
 -- the commands of a line that was read: one, or several
 abbrev pub commands_in : Commands → List Command
@@ -44,12 +39,15 @@ after_batch a (Err fault) = a
 module _ (says : List ℕ → Result Command Fault) where
   -- what a piece says
   abbrev pub piece_says : List ℕ → Result Command Fault
-  piece_says piece = if is_blank piece then Err EmptyCommand else says piece
+  piece_says piece = if is_blank_text piece then Err EmptyCommand else says piece
 
   -- the commands of pieces, or the fault of the first faulty one
   abbrev pub commands_of : List (List ℕ) → Result (List Command) Fault
   commands_of [] = Ok []
-  commands_of (piece ∷ pieces) = first_then (piece_says piece) (commands_of pieces)
+  commands_of (piece ∷ pieces) = do
+    command ← piece_says piece
+    commands ← commands_of pieces
+    Ok (command ∷ commands)
 
   -- what a line that is not blank says: 1 to 16 commands, or a fault
   abbrev pub batch_of : List ℕ → Result (List Command) Fault
@@ -57,8 +55,8 @@ module _ (says : List ℕ → Result Command Fault) where
 
   -- the answer to a line, with its line feed; a blank line has none
   abbrev pub line_answer : NumberSet → List ℕ → List ℕ
-  line_answer a line = if is_blank line then [] else answer_to a (batch_of line)
+  line_answer a line = if is_blank_text line then [] else answer_to a (batch_of line)
 
   -- what a line leaves
   abbrev pub after_line : NumberSet → List ℕ → NumberSet
-  after_line a line = if is_blank line then a else after_batch a (batch_of line)
+  after_line a line = if is_blank_text line then a else after_batch a (batch_of line)

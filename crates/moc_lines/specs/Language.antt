@@ -12,7 +12,7 @@ use Rattle.moc_parts.specs.declared.command.Command.TheVariants.{Near}
 use Rattle.moc_text.specs.declared.ascii.error.TextError.{TextError}
 use Rattle.moc_text.specs.declared.ascii.error.TextError.TheVariants as text
 use Rattle.moc_text.specs.Reading.{reading_of}
-use Rattle.moc_lines.specs.Words.{is_blank, word_of, behind_word, number_of}
+use Rattle.moc_lines.specs.Words.{is_blank_text, word_of, behind_word, number_spelled}
 use Rattle.moc_lines.specs.declared.fault.Fault.{Fault}
 use Rattle.moc_lines.specs.declared.fault.Fault.TheVariants.{UnknownWord, WrongCount, BadNumber, OrderTooLarge}
 use Rattle.moc_lines.specs.declared.fault.Fault.TheVariants.{CellTooLarge, BadByte, NoOrder, Backwards, Unfinished}
@@ -26,15 +26,15 @@ abbrev pub ◌>>=◌ : {A B F : Type 0} → Result A F → (A → Result B F) �
 -- the field of a text that has just one
 abbrev pub only_field : List ℕ → Result (List ℕ) Fault
 only_field text =
-    if is_blank text then Err WrongCount
-    else (if is_blank (behind_word text) then Ok (word_of text) else Err WrongCount)
+    if is_blank_text text then Err WrongCount
+    else (if is_blank_text (behind_word text) then Ok (word_of text) else Err WrongCount)
 
 -- the fields of a text that has just two
 abbrev pub two_fields : List ℕ → Result (List ℕ × List ℕ) Fault
 two_fields text =
     let rest = behind_word text in
-    if is_blank rest then Err WrongCount
-    else (if is_blank (behind_word rest) then Ok (word_of text, word_of rest) else Err WrongCount)
+    if is_blank_text rest then Err WrongCount
+    else (if is_blank_text (behind_word rest) then Ok (word_of text, word_of rest) else Err WrongCount)
 
 -- the fault of a text that is no coverage, without its place (a text has neither of the last two)
 abbrev pub fault_without_place : TextError → Fault
@@ -54,7 +54,7 @@ coverage_of text = result_map_both (λ read. read.0) fault_without_place (readin
 -- the order that a field names: a number of 0 to 29
 abbrev pub order_of : List ℕ → Result ℕ Fault
 order_of field = do
-  order ← ok_or (number_of field) BadNumber
+  order ← ok_or (number_spelled field) BadNumber
   if nat_lt 29 order then Err OrderTooLarge else Ok order
 
 -- a coverage alone
@@ -99,7 +99,7 @@ command_with operand word text = do
 
 -- what stands behind `invert`: no field
 abbrev pub invert_of : List ℕ → Result Command Fault
-invert_of text = if is_blank text then Ok Invert else Err WrongCount
+invert_of text = if is_blank_text text then Ok Invert else Err WrongCount
 
 -- what stands behind `degrade`: just one field, an order
 abbrev pub degrade_of : List ℕ → Result Command Fault
@@ -108,18 +108,13 @@ degrade_of text = do
   order ← order_of field
   Ok (Degrade order)
 
--- a cell of an order
-abbrev pub near_at : ℕ → ℕ → Result Command Fault
-near_at order index =
-    if nat_lt 29 order then Err OrderTooLarge
-    else (if nat_lt index (cell_count order) then Ok (Near (cell_number order index)) else Err CellTooLarge)
-
 -- the cell that two fields name, an order and a number
 abbrev pub near_by : List ℕ → List ℕ → Result Command Fault
 near_by order index = do
-  k ← ok_or (number_of order) BadNumber
-  i ← ok_or (number_of index) BadNumber
-  near_at k i
+  k ← ok_or (number_spelled order) BadNumber
+  i ← ok_or (number_spelled index) BadNumber
+  if nat_lt 29 k then Err OrderTooLarge
+      else (if nat_lt i (cell_count k) then Ok (Near (cell_number k i)) else Err CellTooLarge)
 
 -- what stands behind `near`: just two fields
 abbrev pub near_of : List ℕ → Result Command Fault
@@ -127,17 +122,15 @@ near_of text = do
   fields ← two_fields text
   near_by fields.0 fields.1
 
--- the command of a word and of what stands behind it, where operands are read so
-abbrev pub command_at : (List ℕ → Result Operand Fault) → List ℕ → List ℕ → Result Command Fault
-command_at operand word text =
+-- the command that a piece says, where operands are read so
+abbrev pub command_by : (List ℕ → Result Operand Fault) → List ℕ → Result Command Fault
+command_by operand piece =
+    let word = word_of piece in
+    let text = behind_word piece in
     if bytes_eq word (codes "invert") then invert_of text
     else (if bytes_eq word (codes "degrade") then degrade_of text
     else (if bytes_eq word (codes "near") then near_of text
     else command_with operand word text))
-
--- the command that a piece says, where operands are read so
-abbrev pub command_by : (List ℕ → Result Operand Fault) → List ℕ → Result Command Fault
-command_by operand piece = command_at operand (word_of piece) (behind_word piece)
 
 -- the command that a piece says
 abbrev pub command_of : List ℕ → Result Command Fault

@@ -3,7 +3,6 @@ pub mod Faults
 pub mod Language
 pub mod Replies
 pub use Rattle.moc_devices.specs.Devices
-pub mod Lines
 pub mod Answers
 pub mod Batches
 pub mod Readings

@@ -4,7 +4,7 @@ use Rattle.std.specs.List.{find, range_with_len}
 use Rattle.std.specs.Option.{ok_or}
 use Rattle.moc_sphere.specs.CellNumber.{cell_count, cell_number, is_uniq, uniq_of}
 use Rattle.moc_sphere.specs.Rings.{ring_number}
-use Rattle.moc_lines.specs.Words.{is_blank, word_of, behind_word, number_of}
+use Rattle.moc_lines.specs.Words.{is_blank_text, word_of, behind_word, number_spelled}
 use Rattle.moc_lines.specs.Language.{◌>>=◌}
 use Rattle.moc_lines.specs.Faults.{fault_answer}
 use Rattle.moc_lines.specs.Answers.{Rules, script_text}
@@ -46,7 +46,8 @@ cell_or_fault numbering k n = ok_or (cell_under numbering k n) (fault_under numb
 
 -- the number that a line spells, which has just one field
 abbrev pub number_on : List ℕ → Result ℕ Fault
-number_on line = if is_blank (behind_word line) then ok_or (number_of (word_of line)) BadNumber else Err WrongCount
+number_on line =
+    if is_blank_text (behind_word line) then ok_or (number_spelled (word_of line)) BadNumber else Err WrongCount
 
 -- the number, in the one numbering, of the cell whose number in the other a line spells
 abbrev pub renumbered : Renumbering → List ℕ → Result ℕ Fault
@@ -63,7 +64,7 @@ number_line (Err fault) = fault_answer fault
 -- how lines of numbers are answered; blank ones have no answer, and nothing is said behind the last
 abbrev pub renumber_rules : Rules Renumbering
 renumber_rules = record {
-  answer = λ r line. if is_blank line then [] else number_line (renumbered r line);
+  answer = λ r line. if is_blank_text line then [] else number_line (renumbered r line);
   after = λ r line. r;
   closing = λ _. [];
 }

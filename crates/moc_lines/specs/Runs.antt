@@ -1,10 +1,9 @@
 -- What a run has read and written when it ends.
 use Rattle.std.specs.Prelude.{◌≡◌, ◌≢◌, ℕ, ◌+◌, ◌-◌, ◌<◌, ◌≤◌, ◌⊎◌, List, [], ◌++◌, length, take, Option, Some, Result}
 use Rattle.std.specs.Prelude.{Ok, Err, slice_index_or}
-use Rattle.std.specs.List.{AllByRecursion}
+use Rattle.std.specs.List.{AllByRecursion, count_by}
 use Rattle.std.specs.Io.KnownBytes.{Appends, Consumes}
-use Rattle.moc_text.specs.Lines.{lines_of}
-use Rattle.moc_lines.specs.Lines.{whole_lines_of}
+use Rattle.moc_text.specs.Lines.{is_line_feed, lines_of}
 use Rattle.moc_devices.specs.Devices.{CallsMore}
 use Rattle.moc_lines.specs.Answers.{Rules, answers_to, closing_behind, script_text}
 use Rattle.moc_lines.specs.declared.run_error.RunError.{RunError}
@@ -18,13 +17,17 @@ AreWithin limit lines = AllByRecursion (λ line. length line ≤ limit) lines
 abbrev pub IsTooLong : ℕ → List (List ℕ) → ℕ → Type 0
 IsTooLong limit lines number = (0 < number) × (limit < length (slice_index_or lines (number - 1) []))
 
+-- the lines of a text that a line feed ends: as many as it has line feeds
+abbrev pub whole_lines_of : List ℕ → List (List ℕ)
+whole_lines_of text = take (count_by is_line_feed text) (lines_of text)
+
 -- the lines before the one of this number, counted from 1
 abbrev pub lines_before : ℕ → List ℕ → List (List ℕ)
 lines_before number text = take (number - 1) (lines_of text)
 
 -- The line of this number is the first that was not answered: some of it was given, and 0 is before the first byte.
 -- The last number of 64 bits stands for all lines from there on.
-pub record IsBegun (number : ℕ) (given : List ℕ) : Type 0 where
+pub record IsBegunLine (number : ℕ) (given : List ℕ) : Type 0 where
   pub none : number ≡ 0 → given ≡ []
   pub some : number < 18446744073709551615 → number ≤ length (lines_of given)
   pub next : number ≤ length (lines_of given) + 1
@@ -54,7 +57,7 @@ module _ {S : Type 0} (limit : ℕ) (rules : Rules S) (s : S) where
       IsTooLong limit (lines_of given) line × AreWithin limit (lines_before line given)
       × (text ≡ answers_to rules s (lines_before line given))
   IsWritten input given (Err (Memory line)) text =
-      (IsBegun line given ⊎ ((given ≡ input) × IsUnclosed line given (closing_behind rules s (lines_of given))))
+      (IsBegunLine line given ⊎ ((given ≡ input) × IsUnclosed line given (closing_behind rules s (lines_of given))))
       × AreWithin limit (lines_before line given) × (text ≡ answers_to rules s (lines_before line given))
 
   -- of its input a run was given a front, and it wrote what its outcome names
@@ -67,7 +70,7 @@ module _ {S : Type 0} (limit : ℕ) (rules : Rules S) (s : S) where
     pub is_written : IsWritten input given result text
 
   -- what was written is a beginning of the text that a script is answered with
-  pub record Begins (input : List ℕ) (written written' : Option (List ℕ)) : Type 0 where
+  pub record WritesBeginning (input : List ℕ) (written written' : Option (List ℕ)) : Type 0 where
     pub text : List ℕ
     pub rest : List ℕ
     pub appended : Appends written written' text

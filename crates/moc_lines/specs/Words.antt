@@ -9,8 +9,8 @@ abbrev pub is_line_blank : ℕ → Bool
 is_line_blank b = b == 32 || b == 9 || b == 13
 
 -- nothing, or blanks alone
-abbrev pub is_blank : List ℕ → Bool
-is_blank bytes = list_all is_line_blank bytes
+abbrev pub is_blank_text : List ℕ → Bool
+is_blank_text bytes = list_all is_line_blank bytes
 
 -- a text without the blanks at its front
 abbrev pub without_blanks : List ℕ → List ℕ
@@ -25,6 +25,6 @@ abbrev pub behind_word : List ℕ → List ℕ
 behind_word text = drop (length (word_of text)) (without_blanks text)
 
 -- the number that a field spells: one digit or more, in base ten
-abbrev pub number_of : List ℕ → Option ℕ
-number_of field =
+abbrev pub number_spelled : List ℕ → Option ℕ
+number_spelled field =
     if nat_lt 0 (length field) && list_all is_ascii_digit field then Some (digits_value 10 field) else None

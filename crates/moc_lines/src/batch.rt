@@ -3,7 +3,7 @@ ghost use Rattle.std.specs.Prelude.{◌≡◌, ◌≤◌, length, nat_lt, if◌t
 ghost use Rattle.std.specs.List.{count_by, position_or_len};
 ghost use Rattle.moc_lines.specs.Language.{command_of};
 ghost use Rattle.moc_lines.specs.Batches.{is_semicolon, pieces_of, piece_says, batch_of, commands_of};
-ghost use Rattle.moc_lines.specs.Readings.{Reads};
+ghost use Rattle.moc_lines.specs.Readings.{ReadsText};
 
 use crate::bytes::first_or_len;
 use crate::command::read_command;
@@ -29,10 +29,10 @@ fn semicolons_in(line: &[u8]) -> usize
 
 /// What a piece of a line says.
 pub(crate) fn read_piece(alloc: Global, piece: &[u8]) -> Result<Command, ReadError>
-    ensures { Reads (λ command. command) result (piece_says command_of piece.now) }
+    ensures { ReadsText (λ command. command) result (piece_says command_of piece.now) }
 {
     if is_blank_text(piece) {
-        return Err(ReadError::Fault(Fault::EmptyCommand));
+        return Err(Fault::EmptyCommand.into());
     }
     read_command(alloc, piece)
 }
@@ -43,7 +43,7 @@ fn read_pieces(alloc: Global, line: &[u8], first: usize) -> Result<Vec<Command>,
     requires { first ≡ position_or_len is_semicolon line.now }
     ensures few { OnOk result (length (pieces_of line.now) ≤ MOST_COMMANDS) }
     ensures reads { length (pieces_of line.now) ≤ MOST_COMMANDS
-        → Reads (λ v. v.items) result (commands_of command_of (pieces_of line.now)) }
+        → ReadsText (λ v. v.items) result (commands_of command_of (pieces_of line.now)) }
 {
     let mut commands = Vec::new(alloc);
     let mut rest = line;
@@ -64,7 +64,7 @@ fn read_pieces(alloc: Global, line: &[u8], first: usize) -> Result<Vec<Command>,
         rest = behind.split_at(1).1;
         at = first_semicolon(rest);
     }
-    Err(ReadError::Fault(Fault::TooManyCommands))
+    Err(Fault::TooManyCommands.into())
 }
 
 /// The fault of a line one of whose pieces has a fault: that there are too many goes before it.
@@ -81,7 +81,7 @@ fn fault_of(line: &[u8], fault: Fault) -> Fault
 /// What a line says that is not blank, whose first semicolon stands at this place, or which ends there without one.
 pub(crate) fn read_parted(alloc: Global, line: &[u8], first: usize) -> Result<Batch, ReadError>
     requires { first ≡ position_or_len is_semicolon line.now }
-    ensures { Reads (λ batch. batch) result (batch_of command_of line.now) }
+    ensures { ReadsText (λ batch. batch) result (batch_of command_of line.now) }
 {
     match read_pieces(alloc, line, first) {
         Ok(commands) => Ok(Batch::of(commands)),

@@ -2,7 +2,7 @@
 ghost use Rattle.std.specs.Prelude.{◌≡◌};
 ghost use Rattle.moc_lines.specs.Language.{coverage_of, order_of, plain_operand_of, operand_of, invert_of, degrade_of};
 ghost use Rattle.moc_lines.specs.Language.{near_by, near_of, command_named, command_with, command_of};
-ghost use Rattle.moc_lines.specs.Readings.{Reads};
+ghost use Rattle.moc_lines.specs.Readings.{ReadsText};
 ghost use Rattle.moc_lines.specs.Private.Verbs.{made_by, made_by_word};
 
 use crate::fault::{Fault, ReadError};
@@ -16,7 +16,7 @@ use std::alloc::Global;
 
 /// The set that a text says.
 fn read_coverage(alloc: Global, text: &[u8]) -> Result<Coverage, ReadError>
-    ensures { Reads (λ set. set) result (coverage_of text.now) }
+    ensures { ReadsText (λ set. set) result (coverage_of text.now) }
 {
     let (set, _) = read_ascii(alloc, text)?;
     Ok(set)
@@ -24,20 +24,18 @@ fn read_coverage(alloc: Global, text: &[u8]) -> Result<Coverage, ReadError>
 
 /// The order that a field names.
 fn read_order(field: &[u8]) -> Result<Order, ReadError>
-    ensures { Reads (λ order. order) result (order_of field.now) }
+    ensures { ReadsText (λ order. order) result (order_of field.now) }
 {
-    let Some(number) = number_in(field) else {
-        return Err(ReadError::Fault(Fault::BadNumber));
-    };
+    let number = number_in(field).ok_or(Fault::BadNumber)?;
     let Ok(order) = Order::try_from(number) else {
-        return Err(ReadError::Fault(Fault::OrderTooLarge));
+        return Err(Fault::OrderTooLarge.into());
     };
     Ok(order)
 }
 
 /// The operand that a text says, where no order stands before the coverage.
 fn read_plain(alloc: Global, text: &[u8]) -> Result<Operand, ReadError>
-    ensures { Reads (λ operand. operand) result (plain_operand_of text.now) }
+    ensures { ReadsText (λ operand. operand) result (plain_operand_of text.now) }
 {
     let set = read_coverage(alloc, text)?;
     Ok(Operand { set, coarse: None })
@@ -45,7 +43,7 @@ fn read_plain(alloc: Global, text: &[u8]) -> Result<Operand, ReadError>
 
 /// The operand that a text says: `@` and an order before the coverage, or the coverage alone.
 fn read_operand(alloc: Global, text: &[u8]) -> Result<Operand, ReadError>
-    ensures { Reads (λ operand. operand) result (operand_of text.now) }
+    ensures { ReadsText (λ operand. operand) result (operand_of text.now) }
 {
     let (word, behind) = split_word(text);
     match word {
@@ -63,18 +61,18 @@ fn read_operand(alloc: Global, text: &[u8]) -> Result<Operand, ReadError>
 
 /// What stands behind `invert`: no field.
 fn read_invert(text: &[u8]) -> Result<Command, ReadError>
-    ensures { Reads (λ command. command) result (invert_of text.now) }
+    ensures { ReadsText (λ command. command) result (invert_of text.now) }
 {
     if is_blank_text(text) {
         Ok(Command::Invert)
     } else {
-        Err(ReadError::Fault(Fault::WrongCount))
+        Err(Fault::WrongCount.into())
     }
 }
 
 /// What stands behind `degrade`: just one field, an order.
 fn read_degrade(text: &[u8]) -> Result<Command, ReadError>
-    ensures { Reads (λ command. command) result (degrade_of text.now) }
+    ensures { ReadsText (λ command. command) result (degrade_of text.now) }
 {
     let field = only_field(text)?;
     let order = read_order(field)?;
@@ -83,26 +81,22 @@ fn read_degrade(text: &[u8]) -> Result<Command, ReadError>
 
 /// The cell that two fields name, an order and a number.
 fn read_cell(order: &[u8], index: &[u8]) -> Result<Command, ReadError>
-    ensures { Reads (λ command. command) result (near_by order.now index.now) }
+    ensures { ReadsText (λ command. command) result (near_by order.now index.now) }
 {
-    let Some(depth) = number_in(order) else {
-        return Err(ReadError::Fault(Fault::BadNumber));
-    };
-    let Some(index) = number_in(index) else {
-        return Err(ReadError::Fault(Fault::BadNumber));
-    };
+    let depth = number_in(order).ok_or(Fault::BadNumber)?;
+    let index = number_in(index).ok_or(Fault::BadNumber)?;
     let Ok(order) = Order::try_from(depth) else {
-        return Err(ReadError::Fault(Fault::OrderTooLarge));
+        return Err(Fault::OrderTooLarge.into());
     };
     match Cell::new(order, index) {
         Ok(cell) => Ok(Command::Near(cell)),
-        Err(_) => Err(ReadError::Fault(Fault::CellTooLarge)),
+        Err(_) => Err(Fault::CellTooLarge.into()),
     }
 }
 
 /// What stands behind `near`: just two fields, an order and the number of a cell.
 fn read_near(text: &[u8]) -> Result<Command, ReadError>
-    ensures { Reads (λ command. command) result (near_of text.now) }
+    ensures { ReadsText (λ command. command) result (near_of text.now) }
 {
     let (order, index) = two_fields(text)?;
     read_cell(order, index)
@@ -158,10 +152,10 @@ impl Verb {
 
 /// What a word and an operand behind it say.
 fn read_with_operand(alloc: Global, word: &[u8], text: &[u8]) -> Result<Command, ReadError>
-    ensures { Reads (λ command. command) result (command_with operand_of word.now text.now) }
+    ensures { ReadsText (λ command. command) result (command_with operand_of word.now text.now) }
 {
     let Some(verb) = Verb::named(word) else {
-        return Err(ReadError::Fault(Fault::UnknownWord));
+        return Err(Fault::UnknownWord.into());
     };
     let operand = read_operand(alloc, text)?;
     Ok(verb.of(operand))
@@ -169,7 +163,7 @@ fn read_with_operand(alloc: Global, word: &[u8], text: &[u8]) -> Result<Command,
 
 /// The command that a piece of a line says.
 pub(crate) fn read_command(alloc: Global, piece: &[u8]) -> Result<Command, ReadError>
-    ensures { Reads (λ command. command) result (command_of piece.now) }
+    ensures { ReadsText (λ command. command) result (command_of piece.now) }
 {
     let (word, text) = split_word(piece);
     if is_word(word, "invert") {

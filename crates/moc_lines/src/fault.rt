@@ -2,7 +2,7 @@
 ghost use Rattle.std.specs.Prelude.{◌≡◌, ◌++◌, OnOk};
 ghost use Rattle.moc_lines.specs.Faults.{fault_answer, name_of};
 ghost use Rattle.moc_lines.specs.Private.ReadErrors.{error_of_text};
-ghost use Rattle.moc_lines.specs.declared.fault.ReadError.TheVariants.{Memory};
+ghost use Rattle.moc_lines.specs.declared.fault.ReadError.TheVariants as read;
 
 use moc_ranges::Memory;
 use moc_text::TextError;
@@ -101,8 +101,16 @@ pub enum ReadError {
     Memory,
 }
 
+impl From<Fault> for ReadError {
+    ghost from_gives = { λ fault e. e ≡ read.Fault fault };
+
+    fn from(fault: Fault) -> ReadError {
+        ReadError::Fault(fault)
+    }
+}
+
 impl From<AllocError> for ReadError {
-    ghost from_gives = { λ _ e. e ≡ Memory };
+    ghost from_gives = { λ _ e. e ≡ read.Memory };
 
     fn from(_refused: AllocError) -> ReadError {
         ReadError::Memory

@@ -2,7 +2,7 @@
 ghost use Rattle.std.specs.Prelude.{◌≡◌, ◌++◌, ◌∷◌, [], IfOk};
 ghost use Rattle.moc_lines.specs.Batches.{batch_of, commands_in};
 ghost use Rattle.moc_lines.specs.Language.{command_of};
-ghost use Rattle.moc_lines.specs.Readings.{Reads};
+ghost use Rattle.moc_lines.specs.Readings.{ReadsText};
 ghost use Rattle.moc_lines.specs.Replies.{replies_text};
 
 use crate::batch::{first_semicolon, read_parted, read_piece};
@@ -26,14 +26,14 @@ pub enum Commands {
 /// Linear in the line, and what the sets of its operands cost. Refused at the line's first fault, or where memory runs
 /// out.
 pub fn read_batch(alloc: Global, line: &[u8]) -> Result<Batch, ReadError>
-    ensures { Reads (λ batch. batch) result (batch_of command_of line.now) }
+    ensures { ReadsText (λ batch. batch) result (batch_of command_of line.now) }
 {
     read_parted(alloc, line, first_semicolon(line))
 }
 
 /// What a line says, as [`read_batch`] reads it; for one command no list is made.
 pub fn read_commands(alloc: Global, line: &[u8]) -> Result<Commands, ReadError>
-    ensures { Reads commands_in result (batch_of command_of line.now) }
+    ensures { ReadsText commands_in result (batch_of command_of line.now) }
 {
     let first = first_semicolon(line);
     if first < line.len() {

@@ -3,7 +3,7 @@ ghost use Rattle.std.specs.Prelude.{◌≡◌, ◌++◌, ◌∷◌, ◌-◌, ◌
 ghost use Rattle.std.specs.Prelude.{IsErrOf, decimal, min};
 ghost use Rattle.std.specs.Io.KnownBytes.{Appends, IsAtEnd};
 ghost use Rattle.std.specs.Result.{result_map_both};
-ghost use Rattle.moc_lines.specs.Runs.{Begins, Flushes};
+ghost use Rattle.moc_lines.specs.Runs.{WritesBeginning, Flushes};
 ghost use Rattle.moc_lines.specs.Numberings.{RunsNumbers, number_on, renumber_rules, renumbered, renumbered_text};
 ghost use Rattle.moc_lines.specs.Scripts.{line_limit};
 
@@ -123,7 +123,7 @@ pub fn renumber<R: Source, W: Sink>(
 
     // So it is a beginning of the answers to the whole input, and all of them where no fault comes.
     ensures begins { IfSome (R.left reader.old) (λ input.
-        Begins line_limit renumber_rules renumbering input (W.written writer.old) (W.written writer.new)) }
+        WritesBeginning line_limit renumber_rules renumbering input (W.written writer.old) (W.written writer.new)) }
     ensures answers { OnOk result (IfSome (R.left reader.old) (λ input.
         Appends (W.written writer.old) (W.written writer.new) (renumbered_text renumbering input))) }
 

@@ -1,7 +1,11 @@
 //! Why a run ends early.
+ghost use Rattle.std.specs.Prelude.{◌≡◌};
+ghost use Rattle.moc_lines.specs.Inputs.{error_of_input};
+
+use crate::reading::InputError;
 use thiserror::Error;
 
-/// Why a run ended before its input's end.
+/// Why a run ended early.
 #[derive(Clone, Copy, Debug, PartialEq, Eq, Error)]
 pub enum RunError {
     /// The reader failed.
@@ -17,4 +21,16 @@ pub enum RunError {
     /// answered, at one more than the lines.
     #[error("out of memory at line {line}")]
     Memory { line: u64 },
+}
+
+impl From<InputError> for RunError {
+    ghost from_gives = { λ error e. e ≡ error_of_input error };
+
+    fn from(error: InputError) -> RunError {
+        match error {
+            InputError::Read => RunError::Read,
+            InputError::TooLong { line } => RunError::LineTooLong { line },
+            InputError::Memory { line } => RunError::Memory { line },
+        }
+    }
 }

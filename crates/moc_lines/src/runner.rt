@@ -5,7 +5,7 @@ ghost use Rattle.std.specs.Io.KnownBytes.{Appends, IsAtEnd, Keeps};
 ghost use Rattle.moc_devices.specs.Devices.{CallsMore, Sends};
 ghost use Rattle.moc_lines.specs.Private.LineReading.{TakesLine, fault_at, holds_line};
 ghost use Rattle.moc_lines.specs.Answers.{script_text};
-ghost use Rattle.moc_lines.specs.Runs.{Runs, Begins, Flushes};
+ghost use Rattle.moc_lines.specs.Runs.{Runs, WritesBeginning, Flushes};
 ghost use Rattle.moc_lines.specs.Scripts.{line_limit};
 ghost use Rattle.moc_lines.specs.Private.Ended.{Ended};
 
@@ -56,7 +56,7 @@ impl Runner {
             Runs LINE_LIMIT A.rules responder.old input
             (R.left reader.new) (W.written writer.old) (W.written writer.new) result) }
         ensures begins { IfSome (R.left reader.old) (λ input.
-            Begins LINE_LIMIT A.rules responder.old input
+            WritesBeginning LINE_LIMIT A.rules responder.old input
             (W.written writer.old) (W.written writer.new)) }
         ensures end { OnOk result (IsAtEnd (R.left reader.new)) }
         ensures flushed { OnOk result (IsTrue (W.flushed writer.new)) }
@@ -236,7 +236,7 @@ pub fn answer_all_lines<A: Responder, R: Source, W: Sink>(
 
     // So it is a beginning of the answers to the whole input, and all of them where no fault comes.
     ensures begins { IfSome (R.left reader.old) (λ input.
-        Begins line_limit A.rules responder.old input
+        WritesBeginning line_limit A.rules responder.old input
         (W.written writer.old) (W.written writer.new)) }
     ensures answers { OnOk result (IfSome (R.left reader.old) (λ input.
         Appends (W.written writer.old) (W.written writer.new) (script_text A.rules line_limit responder.old input))) }

@@ -2,7 +2,7 @@
 ghost use Rattle.std.specs.Prelude.{◌≡◌, ◌⊎◌, IfSome, IsTrue, ◌↔◌, false, OnOk, OnErr, IsErrOf};
 ghost use Rattle.std.specs.Io.KnownBytes.{Appends, IsAtEnd};
 ghost use Rattle.std.specs.FinSet as set;
-ghost use Rattle.moc_lines.specs.Runs.{Begins, Flushes};
+ghost use Rattle.moc_lines.specs.Runs.{WritesBeginning, Flushes};
 ghost use Rattle.moc_lines.specs.Scripts.{RunsScript, answers_of, line_limit, script_rules};
 
 use crate::run_error::RunError;
@@ -56,7 +56,7 @@ pub fn run<R: Source, W: Sink>(
 
     // So it is a beginning of the answers to the whole input, and all of them where no fault comes.
     ensures begins { IfSome (R.left reader.old) (λ input.
-        Begins line_limit script_rules set.empty input (W.written writer.old) (W.written writer.new)) }
+        WritesBeginning line_limit script_rules set.empty input (W.written writer.old) (W.written writer.new)) }
     ensures answers { OnOk result (IfSome (R.left reader.old) (λ input.
         Appends (W.written writer.old) (W.written writer.new) (answers_of input))) }
 

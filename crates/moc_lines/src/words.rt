@@ -3,10 +3,10 @@ ghost use Rattle.std.specs.Prelude.{◌≡◌, ◌-◌, ◌^◌, ◌<◌, ◌≤
 ghost use Rattle.std.specs.List.{prefix_len, position_or_len, list_any};
 ghost use Rattle.std.specs.Option.{option_map};
 ghost use Rattle.std.specs.Str.{bytes_eq};
-ghost use Rattle.moc_lines.specs.Words.{is_line_blank, is_blank, word_of, behind_word, number_of};
+ghost use Rattle.moc_lines.specs.Words.{is_line_blank, is_blank_text, word_of, behind_word, number_spelled};
 
 /// Whether a byte is a blank: a space, a tab or a CR.
-fn is_blank_at(byte: u8) -> bool
+fn is_line_blank(byte: u8) -> bool
     ensures { result ≡ is_line_blank byte }
 {
     matches!(byte, b' ' | b'\t' | b'\r')
@@ -14,9 +14,9 @@ fn is_blank_at(byte: u8) -> bool
 
 /// Whether a text is nothing, or blanks alone: spaces, tabs and CRs. Takes no memory.
 pub fn is_blank_text(text: &[u8]) -> bool
-    ensures { result ≡ is_blank text.now }
+    ensures { result ≡ is_blank_text text.now }
 {
-    text.iter().all(|byte| is_blank_at(*byte))
+    text.iter().all(|byte| is_line_blank(*byte))
 }
 
 /// How many blanks stand at the front of a text.
@@ -26,7 +26,7 @@ fn blanks_in_front(text: &[u8]) -> usize
 {
     let mut count = 0;
     for byte in text {
-        if !is_blank_at(*byte) {
+        if !is_line_blank(*byte) {
             break;
         }
         count += 1;
@@ -41,7 +41,7 @@ fn bytes_before_blank(text: &[u8]) -> usize
 {
     let mut count = 0;
     for byte in text {
-        if is_blank_at(*byte) {
+        if is_line_blank(*byte) {
             break;
         }
         count += 1;
@@ -72,7 +72,7 @@ pub(crate) const SAFE_DIGITS: usize = 19;
 /// The number that a field spells in base ten, or `u64::MAX` where it is larger; `None` where it spells none. Takes no
 /// memory.
 pub fn number_in(field: &[u8]) -> Option<u64>
-    ensures { result ≡ option_map (λ n. min n (2 ^ 64 - 1)) (number_of field.now) }
+    ensures { result ≡ option_map (λ n. min n (2 ^ 64 - 1)) (number_spelled field.now) }
 {
     if field.len() <= SAFE_DIGITS {
         short_number_in(field)
@@ -84,8 +84,8 @@ pub fn number_in(field: &[u8]) -> Option<u64>
 /// The number that a short field spells; it fits into 64 bits.
 pub(crate) fn short_number_in(field: &[u8]) -> Option<u64>
     requires short { length field.now ≤ SAFE_DIGITS }
-    ensures number { result ≡ number_of field.now }
-    ensures held { result ≡ option_map (λ n. min n (2 ^ 64 - 1)) (number_of field.now) }
+    ensures number { result ≡ number_spelled field.now }
+    ensures held { result ≡ option_map (λ n. min n (2 ^ 64 - 1)) (number_spelled field.now) }
 {
     if field.is_empty() {
         return None;
@@ -103,7 +103,7 @@ pub(crate) fn short_number_in(field: &[u8]) -> Option<u64>
 /// The number that a long field spells, or `u64::MAX` where it is larger.
 fn long_number_in(field: &[u8]) -> Option<u64>
     requires long { SAFE_DIGITS < length field.now }
-    ensures { result ≡ option_map (λ n. min n (2 ^ 64 - 1)) (number_of field.now) }
+    ensures { result ≡ option_map (λ n. min n (2 ^ 64 - 1)) (number_spelled field.now) }
 {
     let mut value: u64 = 0;
     for byte in field {

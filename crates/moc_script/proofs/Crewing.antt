@@ -16,7 +16,7 @@ use Rattle.moc_shared.specs.declared.map.SharedMap.{SharedMap}
 use Rattle.moc_shared.specs.declared.record.Calls.{Calls}
 use Rattle.std.specs.Io.KnownBytes.{Appends, Consumes, IsAtEnd, Keeps}
 use Rattle.moc_script.specs.Crews.{cover_line, said_lines, IsCrewText, IsRefusedLine, CrewEnds}
-use Rattle.moc_lines.specs.Runs.{AreWithin, IsBegun}
+use Rattle.moc_lines.specs.Runs.{AreWithin, IsBegunLine}
 use Rattle.moc_lines.specs.Scripts.{line_limit}
 use Rattle.moc_lines.specs.declared.run_error.RunError.TheVariants as run
 use Rattle.moc_script.specs.declared.crew_error.CrewError.TheVariants as crew
@@ -128,7 +128,7 @@ whole_input xs items None consumed end = absurd consumed
 whole_input xs items (Some ys) consumed end = sym (consumed ∙ ap (λ l. items ++ l) end ∙ append-nil items)
 
 -- memory was refused while lines were read
-pub crew_begun : (lanes line : ℕ) (a b w0 w1 : Option (List ℕ)) → (given : List ℕ) × Consumes a b given × IsBegun line given → Keeps w0 w1
+pub crew_begun : (lanes line : ℕ) (a b w0 w1 : Option (List ℕ)) → (given : List ℕ) × Consumes a b given × IsBegunLine line given → Keeps w0 w1
     → IfSome a (λ input. CrewEnds lanes input b w0 w1 (Err (crew.Run (run.Memory line))))
 crew_begun lanes line None b w0 w1 begun kept = tt
 crew_begun lanes line (Some xs) b w0 w1 begun kept = (kept, (begun.0, begun.1, inl begun.2))

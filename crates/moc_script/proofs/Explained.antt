@@ -28,12 +28,13 @@ use Rattle.moc_steps.specs.Explains.{Explains, result}
 use Rattle.moc_steps.specs.Laws.{ArePlayed, HasOneOrder, StepsHaveOneOrder}
 use Rattle.moc_steps.specs.declared.error.StepError.{StepError}
 use Rattle.moc_parts.specs.declared.reply.Reply.{Reply}
-use Rattle.moc_lines.specs.Words.{is_blank, word_of, behind_word, number_of}
-use Rattle.moc_lines.specs.Language.{◌>>=◌, fault_without_place, coverage_of, order_of, plain_operand_of, ordered_operand_of, operand_by, operand_of, command_named, command_with, degrade_of, near_at, near_of, only_field, two_fields, command_of}
-use Rattle.moc_lines.specs.Batches.{is_semicolon, pieces_of, piece_says, first_then, commands_of, batch_of}
-use Rattle.moc_script.specs.Steps.{BatchStep, as_in_script, client_by, client_of, place_of, step_by, step_at, other_step, begin_by, begin_of, said_step}
+use Rattle.moc_lines.specs.Words.{is_blank_text, word_of, behind_word, number_spelled}
+use Rattle.moc_lines.specs.Language.{◌>>=◌, fault_without_place, coverage_of, order_of, plain_operand_of, ordered_operand_of, operand_by, operand_of, command_named, command_with, degrade_of, near_of, only_field, two_fields, command_of}
+use Rattle.moc_lines.specs.Batches.{is_semicolon, pieces_of, piece_says, commands_of, batch_of}
+use Rattle.moc_script.specs.Steps.{BatchStep, as_in_script, client_by, only_client, only_place, step_by, step_at, other_step, begin_by, begin_of, said_step}
 use Rattle.moc_lines.specs.Answers.{after_lines}
 use Rattle.moc_script.specs.Schedules.{Schedule, start_schedule, next_line, begins_after, after_step, after_said, schedule_rules, unless_refused, step_taken, steps_taken}
+use Rattle.moc_script.proofs.Single.{first_then}
 use Rattle.moc_script.specs.Laws.{SchedulesHaveOneOrder}
 use Rattle.moc_lines.specs.declared.fault.Fault.{Fault}
 use Rattle.moc_lines.specs.declared.fault.Fault.TheVariants.{WrongCount, BadNumber, OrderTooLarge, CellTooLarge, EmptyCommand, TooManyCommands}
@@ -73,7 +74,7 @@ coverage_within text = found (reading_of text) (read_within text)
     found (Err e) h = tt
 
 order_small : (field : List ℕ) → IfOk (order_of field) (λ order. order ≤ 29)
-order_small field = ok_then Any _ (ok_or (number_of field) BadNumber) _ (ok_any (ok_or (number_of field) BadNumber)) (λ order _. small order (ltb 29 order) refl)
+order_small field = ok_then Any _ (ok_or (number_spelled field) BadNumber) _ (ok_any (ok_or (number_spelled field) BadNumber)) (λ order _. small order (ltb 29 order) refl)
   where
     small : (order : ℕ) (b : Bool) → ltb 29 order ≡ b → IfOk (cond b (Err OrderTooLarge) (Ok order)) (λ order. order ≤ 29)
     small order true is = tt
@@ -114,6 +115,10 @@ degrade_proper text =
     ok_then Any IsCommand (only_field text) _ (ok_any (only_field text)) (λ field _.
     ok_then _ IsCommand (order_of field) _ (order_small field) (λ order small. small))
 
+-- the command for a cell of an order, if there are both
+abbrev near_at : ℕ → ℕ → Result Command Fault
+near_at order index = cond (ltb 29 order) (Err OrderTooLarge) (cond (ltb index (cell_count order)) (Ok (Near (cell_number order index))) (Err CellTooLarge))
+
 near_cell : (order index : ℕ) → IfOk (near_at order index) IsCommand
 near_cell order index = deep (ltb 29 order) refl
   where
@@ -128,20 +133,20 @@ near_cell order index = deep (ltb 29 order) refl
 near_proper : (text : List ℕ) → IfOk (near_of text) IsCommand
 near_proper text =
     ok_then Any IsCommand (two_fields text) _ (ok_any (two_fields text)) (λ fields _.
-    let order = ok_or (number_of fields.0) BadNumber in
-    let index = ok_or (number_of fields.1) BadNumber in
+    let order = ok_or (number_spelled fields.0) BadNumber in
+    let index = ok_or (number_spelled fields.1) BadNumber in
     ok_then Any IsCommand order _ (ok_any order) (λ k _. ok_then Any IsCommand index _ (ok_any index) (λ i _. near_cell k i)))
 
 command_proper : (piece : List ℕ) → IfOk (command_of piece) IsCommand
 command_proper piece =
     let word = word_of piece in
     let text = behind_word piece in
-    ok_if IsCommand (bytes_eq word (codes "invert")) _ _ (ok_if IsCommand (is_blank text) _ _ tt tt) (
+    ok_if IsCommand (bytes_eq word (codes "invert")) _ _ (ok_if IsCommand (is_blank_text text) _ _ tt tt) (
     ok_if IsCommand (bytes_eq word (codes "degrade")) _ _ (degrade_proper text) (
     ok_if IsCommand (bytes_eq word (codes "near")) _ _ (near_proper text) (with_proper word text)))
 
 piece_proper : (piece : List ℕ) → IfOk (piece_says command_of piece) IsCommand
-piece_proper piece = ok_if IsCommand (is_blank piece) (Err EmptyCommand) (command_of piece) tt (command_proper piece)
+piece_proper piece = ok_if IsCommand (is_blank_text piece) (Err EmptyCommand) (command_of piece) tt (command_proper piece)
 
 commands_proper : (pieces : List (List ℕ)) → IfOk (commands_of command_of pieces) AreCommands
 commands_proper [] = tt
@@ -177,14 +182,14 @@ module _ (local : AreBatchesLocal) where
   begin_local text =
       let client = client_by (word_of text) in
       let line = behind_word text in
-      ok_if Alone (is_blank line) (Err (Line WrongCount)) (begin_by (batch_of command_of) (word_of text) line) tt
+      ok_if Alone (is_blank_text line) (Err (Line WrongCount)) (begin_by (batch_of command_of) (word_of text) line) tt
       (ok_then Any Alone client _ (ok_any client) (λ c _. ok_then (IsLocal batches) Alone (as_in_script (batch_of command_of line)) _ (ok_in_script (IsLocal batches) (batch_of command_of line) (batch_local line)) (λ cs is. (is, tt))))
 
   by_local : (step : ℕ → BatchStep) (text : List ℕ) → ((c : ℕ) → Alone (step c)) → IfOk (step_by step text) Alone
-  by_local step text each = ok_then Any Alone (client_of text) _ (ok_any (client_of text)) (λ c _. each c)
+  by_local step text each = ok_then Any Alone (only_client text) _ (ok_any (only_client text)) (λ c _. each c)
 
   at_local : (step : ℕ → ℕ → BatchStep) (text : List ℕ) → ((c b : ℕ) → Alone (step c b)) → IfOk (step_at step text) Alone
-  at_local step text each = ok_then Any Alone (place_of text) _ (ok_any (place_of text)) (λ p _. each p.0 p.1)
+  at_local step text each = ok_then Any Alone (only_place text) _ (ok_any (only_place text)) (λ p _. each p.0 p.1)
 
   other_local : (word text : List ℕ) → IfOk (other_step word text) Alone
   other_local word text =
@@ -263,7 +268,7 @@ by_blanks s false r alone rest s' h = by_saying s r alone rest s' h
 lines_take : AreBatchesLocal → (s : Schedule) (lines : List (List ℕ)) → TakesOn s (steps_taken s lines) (after_lines schedule_rules s lines)
 lines_take local s [] = record { local = tt; permitted = tt; leads = refl; begun = λ xs same. same }
 lines_take local s (line ∷ lines) =
-    by_blanks s (is_blank line) (said_step line) (said_local local line) (steps_taken (schedule_rules.after s line) lines) _ (lines_take local (schedule_rules.after s line) lines)
+    by_blanks s (is_blank_text line) (said_step line) (said_local local line) (steps_taken (schedule_rules.after s line) lines) _ (lines_take local (schedule_rules.after s line) lines)
 
 -- ---- the law
 

@@ -6,6 +6,7 @@ use Rattle.std.proofs.lemmas.Bool.{cases_lt}
 use Rattle.std.proofs.lemmas.List.{get_or-set_same, get_or-set_other}
 use Rattle.std.specs.Io.KnownBytes.{Appends}
 use Rattle.std.specs.Result.{IsErr}
+use Rattle.std.specs.Prelude.{IsErrAnd}
 use Rattle.std.proofs.lemmas.List.{get_or_default}
 use Rattle.moc_script.specs.Merges.{in_lane, dealt}
 use Rattle.moc_ranges.specs.Blocks.{joining}
@@ -212,6 +213,12 @@ joins_ok all behind a b joins count for = let h = joins count for in (h.0, h.1, 
 
 pub joins_fault : {E F : Type 0} (all : List Texts) (behind : List ℕ) (a b : Option (List ℕ)) (e : E) (f : F) → JoinsTo {E = E} all behind a b (Err e) → JoinsTo {E = F} all behind a b (Err f)
 joins_fault all behind a b e f joins count for = let h = joins count for in (h.0, h.1, Sends-fault (h.0 ++ behind) [] [] a b (Err e) (Err f) refl h.2)
+
+-- the same where a fault is handed on
+pub joins_handed : {E F : Type 0} (all : List Texts) (behind : List ℕ) (a b : Option (List ℕ)) (e : E) (f : F) (r : Result (Unit {0}) F) → IsErrAnd r (λ g. g ≡ f)
+    → JoinsTo {E = E} all behind a b (Err e) → JoinsTo {E = F} all behind a b r
+joins_handed all behind a b e f (Ok u) given joins = absurd given
+joins_handed all behind a b e f (Err g) given joins = joins_fault all behind a b e g joins
 
 -- what the next lane has
 pub next_has : (walks : List Texts) (turn : ℕ) (old new : Texts) (answer : List ℕ) → turn < length walks → old ≡ get_or walks turn old → old ≡ answer ∷ new → get_or walks turn [] ≡ answer ∷ new

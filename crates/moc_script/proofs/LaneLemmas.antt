@@ -2,7 +2,7 @@
 use Rattle.std.proofs.Common.{◌≡◌, inl, inr, ℕ, eq-eqb, Bool, false, if◌then◌else◌, List, [], ◌∷◌, ◌++◌, Result, Ok, Err, refl, sym, ap, subst, ◌∙◌, append-nil}
 use Rattle.moc_ranges.specs.Numbers.{NumberSet}
 use Rattle.moc_parts.specs.declared.command.Command.{Command}
-use Rattle.moc_lines.specs.Words.{is_blank}
+use Rattle.moc_lines.specs.Words.{is_blank_text}
 use Rattle.moc_lines.specs.Language.{command_of}
 use Rattle.moc_lines.specs.Faults.{fault_answer}
 use Rattle.moc_lines.specs.Replies.{replies_text}
@@ -13,7 +13,7 @@ use Rattle.moc_lines.specs.Scripts.{script_rules}
 use Rattle.moc_lines.specs.declared.fault.Fault.{Fault}
 use Rattle.moc_lines.specs.declared.fault.ReadError.{ReadError}
 use Rattle.moc_lines.specs.declared.fault.ReadError.TheVariants as error
-use Rattle.moc_lines.specs.Readings.{Reads}
+use Rattle.moc_lines.specs.Readings.{ReadsText}
 use Rattle.moc_shared.specs.declared.record.Entry.{Entry}
 use Rattle.moc_shared.specs.History.{entry, own_with}
 use Rattle.moc_script.specs.Private.LaneWork.{IsQuiet, Asks, DoesLine, Does}
@@ -24,7 +24,7 @@ use Rattle.moc_shared.specs.Batches.{BatchEntry, BatchRecord, answer as object}
 
 module _ (says : List ℕ → Result Command Fault) where
   -- a line that is not blank is answered as what it says
-  says_line : (a : NumberSet) (line : List ℕ) (r : Result (List Command) Fault) → is_blank line ≡ false → batch_of says line ≡ r
+  says_line : (a : NumberSet) (line : List ℕ) (r : Result (List Command) Fault) → is_blank_text line ≡ false → batch_of says line ≡ r
       → (line_answer says a line ≡ answer_to a r) × (after_line says a line ≡ after_batch a r)
   says_line a line r said is = (
     ap (λ (b : Bool). if b then [] else answer_to a (batch_of says line)) said ∙ ap (answer_to a) is,
@@ -32,7 +32,7 @@ module _ (says : List ℕ → Result Command Fault) where
   )
 
 -- a line that says commands asks for them
-pub asks_line : (line : List ℕ) (e : BatchEntry) (text : List ℕ) → is_blank line ≡ false → batch_of command_of line ≡ Ok e.operation
+pub asks_line : (line : List ℕ) (e : BatchEntry) (text : List ℕ) → is_blank_text line ≡ false → batch_of command_of line ≡ Ok e.operation
     → text ≡ replies_text e.reply ++ 10 ∷ [] → Asks object script_rules line e text
 unfolding object
 asks_line line e text said is text_is s =
@@ -40,7 +40,7 @@ asks_line line e text said is text_is s =
     (h.1, λ reply. h.0 ∙ ap (λ r. replies_text r ++ 10 ∷ []) (sym reply) ∙ sym text_is)
 
 -- a line that says commands, which made a call
-pub said_line : (client : ℕ) (line : List ℕ) (commands : List Command) (old new : BatchRecord) (before after : List ℕ) → is_blank line ≡ false → batch_of command_of line ≡ Ok commands
+pub said_line : (client : ℕ) (line : List ℕ) (commands : List Command) (old new : BatchRecord) (before after : List ℕ) → is_blank_text line ≡ false → batch_of command_of line ≡ Ok commands
     → Answered client commands old new before after → AddsAnswer client line old new before after
 said_line client line commands old new before after said is (replies, text, made) =
     let e : BatchEntry = entry client commands replies in
@@ -48,13 +48,13 @@ said_line client line commands old new before after said is (replies, text, made
     (answer, text, (e ∷ [], inr (e, refl, asks_line line e answer said is refl), made))
 
 -- and one at fault changes nothing
-quiet_line : (line : List ℕ) (fault : Fault) → is_blank line ≡ false → batch_of command_of line ≡ Err fault → IsQuiet object script_rules line (fault_answer fault)
+quiet_line : (line : List ℕ) (fault : Fault) → is_blank_text line ≡ false → batch_of command_of line ≡ Err fault → IsQuiet object script_rules line (fault_answer fault)
 quiet_line line fault said is s = says_line command_of s line (Err fault) said is
 
-pub quiet_read : (line : List ℕ) (e : ReadError) (fault : Fault) → e ≡ error.Fault fault → is_blank line ≡ false
-    → Reads {X = Commands} commands_in (Err e) (batch_of command_of line) → IsQuiet object script_rules line (fault_answer fault)
+pub quiet_read : (line : List ℕ) (e : ReadError) (fault : Fault) → e ≡ error.Fault fault → is_blank_text line ≡ false
+    → ReadsText {X = Commands} commands_in (Err e) (batch_of command_of line) → IsQuiet object script_rules line (fault_answer fault)
 quiet_read line e fault is said reads =
-    quiet_line line fault said (subst (λ (x : ReadError). Reads {X = Commands} commands_in (Err x) (batch_of command_of line)) is reads)
+    quiet_line line fault said (subst (λ (x : ReadError). ReadsText {X = Commands} commands_in (Err x) (batch_of command_of line)) is reads)
 
 -- a line without a call
 pub no_call : (client : ℕ) (old new : BatchRecord) (line text : List ℕ) → new ≡ old → IsQuiet object script_rules line text → Answers client line old new text

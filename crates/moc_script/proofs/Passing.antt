@@ -4,7 +4,7 @@ use Rattle.std.specs.List.{onto_first}
 use Rattle.std.proofs.lemmas.List.{get_or-append_right, take_more}
 use Rattle.std.proofs.lemmas.List.Elements.{Contains-append_left, Contains-push, Contains-push_cases}
 use Rattle.moc_text.specs.Lines.{is_line_feed, lines_of}
-use Rattle.moc_lines.specs.Words.{is_blank}
+use Rattle.moc_lines.specs.Words.{is_blank_text}
 use Rattle.moc_script.specs.Crews.{IsSaidLine, said_lines}
 use Rattle.moc_script.specs.Private.Input.{HasPassed, Passes, in_turn}
 use Rattle.moc_script.specs.Private.Gathering.{IsFirstUnfinished}
@@ -52,7 +52,7 @@ module _ (text : List ℕ) (old new : LaneLines) (number : ℕ) (line : List ℕ
   }
 
   -- a line that is not blank has its number
-  pub said_line : is_blank line ≡ false → IsSaidLine number (lines_of text)
+  pub said_line : is_blank_text line ≡ false → IsSaidLine number (lines_of text)
   said_line said =
       let front = was.passed ++ next.more in
       let behind : (number - 1) - (number - 1) ≡ 0 = omega arith in
@@ -62,7 +62,7 @@ module _ (text : List ℕ) (old new : LaneLines) (number : ℕ) (line : List ℕ
       record {
         some = omega (arith, next.number_is);
         within = omega (arith, place, next.number_is, ap length all_lines, length-append front (line ∷ lines_of new.bytes.now));
-        said = ap is_blank here ∙ said;
+        said = ap is_blank_text here ∙ said;
       }
 
 abbrev Ends : Type 0
@@ -149,13 +149,13 @@ module _ (ends : Ends) (i : ℕ) (x : Result LaneEnd Unfinished) (low : i < leng
 
 module _ (others : ℕ) (text line rest : List ℕ) (parts : lines_of text ≡ line ∷ lines_of rest) where
   -- a blank line is no lane's
-  pub blank_passed : (turn : ℕ) → is_blank line ≡ true → in_turn others turn (said_lines (lines_of rest)) ≡ in_turn others turn (said_lines (lines_of text))
+  pub blank_passed : (turn : ℕ) → is_blank_text line ≡ true → in_turn others turn (said_lines (lines_of rest)) ≡ in_turn others turn (said_lines (lines_of text))
   blank_passed turn blank =
       sym (ap (λ (l : List (List ℕ)). in_turn others turn (said_lines l)) parts
       ∙ ap (λ (b : Bool). in_turn others turn (if b then said_lines (lines_of rest) else line ∷ said_lines (lines_of rest))) blank)
 
   -- a line of another lane is passed
-  pub turn_passed : (turn less : ℕ) → turn ≡ suc less → is_blank line ≡ false → in_turn others less (said_lines (lines_of rest)) ≡ in_turn others turn (said_lines (lines_of text))
+  pub turn_passed : (turn less : ℕ) → turn ≡ suc less → is_blank_text line ≡ false → in_turn others less (said_lines (lines_of rest)) ≡ in_turn others turn (said_lines (lines_of text))
   turn_passed turn less is said =
       sym (ap (λ (l : List (List ℕ)). in_turn others turn (said_lines l)) parts
       ∙ ap (λ (b : Bool). in_turn others turn (if b then said_lines (lines_of rest) else line ∷ said_lines (lines_of rest))) said

@@ -4,9 +4,10 @@ use Rattle.std.specs.List.{list_any, onto_first, prefix_len, position_or_len, Al
 use Rattle.std.proofs.lemmas.List.{take-append-drop}
 use Rattle.std.proofs.lemmas.List.Folds.{list_any-append}
 use Rattle.std.proofs.lemmas.List.Splits.{slice_split-cons_no, slice_split-cons_yes}
-use Rattle.moc_lines.specs.Words.{is_blank, is_line_blank, without_blanks, word_of, behind_word}
-use Rattle.moc_lines.specs.Language.{plain_operand_of, operand_by, ordered_operand_of, command_at, command_by, command_of}
-use Rattle.moc_lines.specs.Batches.{is_semicolon, pieces_of, piece_says, first_then, commands_of, batch_of, answer_to, after_batch}
+use Rattle.moc_lines.specs.Words.{is_blank_text, is_line_blank, without_blanks, word_of, behind_word}
+use Rattle.moc_lines.specs.Language.{plain_operand_of, operand_by, ordered_operand_of, command_by, command_of}
+use Rattle.moc_lines.specs.Batches.{is_semicolon, pieces_of, piece_says, commands_of, batch_of, answer_to, after_batch}
+use Rattle.moc_script.proofs.Single.{first_then}
 use Rattle.moc_script.specs.Laws.{is_at_sign, LinesWithoutOrder}
 use Rattle.moc_lines.specs.declared.fault.Fault.TheVariants.{EmptyCommand, TooManyCommands}
 
@@ -52,12 +53,12 @@ says_plain piece none =
     let text = behind_word piece in
     let behind = (none_behind is_at_sign piece none).1 in
     let same = operand_by-plain (word_of text) text (none_behind is_at_sign text behind).0 in
-    ap (λ r. command_at (λ _. r) (word_of piece) text) same
+    ap (λ r. command_by (λ _. r) piece) same
 
 commands_plain : (pieces : List (List ℕ)) → AllByRecursion (λ l. list_any is_at_sign l ≡ false) pieces → commands_of command_of pieces ≡ commands_of (command_by plain_operand_of) pieces
 commands_plain [] each = refl
 commands_plain (piece ∷ pieces) each =
-    ap (λ r. first_then (cond (is_blank piece) (Err EmptyCommand) r) (commands_of command_of pieces)) (says_plain piece each.0)
+    ap (λ r. first_then (cond (is_blank_text piece) (Err EmptyCommand) r) (commands_of command_of pieces)) (says_plain piece each.0)
     ∙ ap (first_then (piece_says (command_by plain_operand_of) piece)) (commands_plain pieces each.1)
 
 pub batch_plain : (line : List ℕ) → list_any is_at_sign line ≡ false → batch_of command_of line ≡ batch_of (command_by plain_operand_of) line
@@ -65,6 +66,6 @@ batch_plain line none = ap (λ r. cond (ltb 16 (length (pieces_of line))) (Err T
 
 pub lines_without_order : LinesWithoutOrder
 lines_without_order a line none = (
-  ap (λ r. cond (is_blank line) [] (answer_to a r)) (batch_plain line none),
-  ap (λ r. cond (is_blank line) a (after_batch a r)) (batch_plain line none),
+  ap (λ r. cond (is_blank_text line) [] (answer_to a r)) (batch_plain line none),
+  ap (λ r. cond (is_blank_text line) a (after_batch a r)) (batch_plain line none),
 )

@@ -8,9 +8,9 @@ use Rattle.moc_text.specs.Lines.{is_line_feed, lines_of}
 use Rattle.moc_ranges.specs.Numbers.{NumberSet}
 use Rattle.moc_parts.specs.declared.command.Command.{Command}
 use Rattle.moc_steps.specs.Locks.Step.{Begin}
-use Rattle.moc_lines.specs.Answers.{Rules, is_within, answers_to, after_lines, closing_text, script_text}
-use Rattle.moc_lines.specs.Words.{is_blank, word_of, behind_word}
-use Rattle.moc_lines.specs.Batches.{is_semicolon, batch_of, first_then}
+use Rattle.moc_lines.specs.Answers.{Rules, is_within, answers_to, after_lines, script_text}
+use Rattle.moc_lines.specs.Words.{is_blank_text, word_of, behind_word}
+use Rattle.moc_lines.specs.Batches.{is_semicolon, batch_of}
 use Rattle.moc_lines.specs.Language.{◌>>=◌, command_of, command_by, plain_operand_of}
 use Rattle.moc_script.specs.Steps.{BatchStep, as_in_script, client_by, begin_of, other_step, said_by, said_step}
 use Rattle.moc_script.specs.Schedules.{Schedule, next_line, answer_to_step, after_said, last_lines, step_rules, start_schedule}
@@ -60,25 +60,25 @@ module _ {S : Type 0} (rules others : Rules S) (Q : List ℕ → Type 0)
 single_line : (a : NumberSet) (line : List ℕ) → list_any is_semicolon line ≡ false
     → (script_rules.answer a line ≡ single_rules.answer a line) × (script_rules.after a line ≡ single_rules.after a line)
 single_line a line none =
-    let step : (b : Bool) → is_blank line ≡ b → (script_rules.answer a line ≡ single_rules.answer a line) × (script_rules.after a line ≡ single_rules.after a line) =
-    λ b. elim b as (λ v. is_blank line ≡ v → (script_rules.answer a line ≡ single_rules.answer a line) × (script_rules.after a line ≡ single_rules.after a line)) [
+    let step : (b : Bool) → is_blank_text line ≡ b → (script_rules.answer a line ≡ single_rules.answer a line) × (script_rules.after a line ≡ single_rules.after a line) =
+    λ b. elim b as (λ v. is_blank_text line ≡ v → (script_rules.answer a line ≡ single_rules.answer a line) × (script_rules.after a line ≡ single_rules.after a line)) [
       | true ↦ λ is. rw is (refl, refl)
       | false ↦ λ is. let law = lines_of_one_command a line none is in (
         law.0 ∙ sym (ap (λ v. cond v [] (single_answer a (command_of line))) is),
         law.1 ∙ sym (ap (λ v. cond v a (after_single a (command_of line))) is),
       )
     ] in
-    step (is_blank line) refl
+    step (is_blank_text line) refl
 
 pub scripts_of_single_commands : ScriptsOfSingleCommands
 scripts_of_single_commands input none =
-    ap (λ text. text ++ closing_text script_rules line_limit set.empty (lines_of input))
+    ap (λ text. text ++ cond (list_all (is_within line_limit) (lines_of input)) [] [])
     (same_answers script_rules single_rules (λ l. list_any is_semicolon l ≡ false) single_line set.empty _
     (each-take_while _ (is_within line_limit) (lines_of input) (none_in_lines is_semicolon input none)))
 
 pub scripts_without_order : ScriptsWithoutOrder
 scripts_without_order input none =
-    ap (λ text. text ++ closing_text script_rules line_limit set.empty (lines_of input))
+    ap (λ text. text ++ cond (list_all (is_within line_limit) (lines_of input)) [] [])
     (same_answers script_rules plain_rules (λ l. list_any is_at_sign l ≡ false) lines_without_order set.empty _
     (each-take_while _ (is_within line_limit) (lines_of input) (none_in_lines is_at_sign input none)))
 
@@ -86,31 +86,31 @@ scripts_without_order input none =
 module _ (says others : List ℕ → Result BatchStep StepFault) (Q : List ℕ → Type 0) (same : (line : List ℕ) → Q line → says line ≡ others line) where
   same_step : (s : Schedule) (line : List ℕ) → Q line → ((step_rules says).answer s line ≡ (step_rules others).answer s line) × ((step_rules says).after s line ≡ (step_rules others).after s line)
   same_step s line each = (
-    ap (λ r. cond (is_blank line) [] (answer_to_step s r)) (same line each),
-    ap (λ r. cond (is_blank line) (next_line s) (after_said (next_line s) r)) (same line each),
+    ap (λ r. cond (is_blank_text line) [] (answer_to_step s r)) (same line each),
+    ap (λ r. cond (is_blank_text line) (next_line s) (after_said (next_line s) r)) (same line each),
   )
 
   same_schedule : (input : List ℕ) → AllByRecursion Q (lines_of input) → script_text (step_rules says) line_limit start_schedule input ≡ script_text (step_rules others) line_limit start_schedule input
   same_schedule input each =
       let lines = lines_of input in
       let read = take_while (is_within line_limit) lines in
-      ap (λ text. text ++ closing_text (step_rules says) line_limit start_schedule lines)
+      ap (λ text. text ++ cond (list_all (is_within line_limit) lines) (last_lines (after_lines (step_rules says) start_schedule lines)) [])
       (same_answers (step_rules says) (step_rules others) Q same_step start_schedule read (each-take_while Q (is_within line_limit) lines each))
       ∙ ap (λ s. answers_to (step_rules others) start_schedule read ++ cond (list_all (is_within line_limit) lines) (last_lines s) [])
       (same_left (step_rules says) (step_rules others) Q same_step start_schedule lines each)
 
 -- Lines whose batches say the same say the same.
-begin_alike : (batch other : List ℕ → Result (List Command) Fault) (text : List ℕ) → (is_blank (behind_word text) ≡ false → batch (behind_word text) ≡ other (behind_word text)) → begin_of batch text ≡ begin_of other text
+begin_alike : (batch other : List ℕ → Result (List Command) Fault) (text : List ℕ) → (is_blank_text (behind_word text) ≡ false → batch (behind_word text) ≡ other (behind_word text)) → begin_of batch text ≡ begin_of other text
 begin_alike batch other text same =
     let begun : Result (List Command) Fault → Result BatchStep StepFault = λ r. client_by (word_of text) >>= (λ c. as_in_script r >>= (λ commands. Ok (Begin c commands))) in
-    let step : (b : Bool) → is_blank (behind_word text) ≡ b → cond b (Err (Line WrongCount)) (begun (batch (behind_word text))) ≡ cond b (Err (Line WrongCount)) (begun (other (behind_word text))) =
-    λ b. elim b as (λ v. is_blank (behind_word text) ≡ v → cond v (Err (Line WrongCount)) (begun (batch (behind_word text))) ≡ cond v (Err (Line WrongCount)) (begun (other (behind_word text)))) [
+    let step : (b : Bool) → is_blank_text (behind_word text) ≡ b → cond b (Err (Line WrongCount)) (begun (batch (behind_word text))) ≡ cond b (Err (Line WrongCount)) (begun (other (behind_word text))) =
+    λ b. elim b as (λ v. is_blank_text (behind_word text) ≡ v → cond v (Err (Line WrongCount)) (begun (batch (behind_word text))) ≡ cond v (Err (Line WrongCount)) (begun (other (behind_word text)))) [
       | true ↦ λ is. refl
       | false ↦ λ is. ap begun (same is)
     ] in
-    step (is_blank (behind_word text)) refl
+    step (is_blank_text (behind_word text)) refl
 
-said_alike : (batch other : List ℕ → Result (List Command) Fault) (line : List ℕ) → (is_blank (behind_word (behind_word line)) ≡ false → batch (behind_word (behind_word line)) ≡ other (behind_word (behind_word line))) → said_by batch line ≡ said_by other line
+said_alike : (batch other : List ℕ → Result (List Command) Fault) (line : List ℕ) → (is_blank_text (behind_word (behind_word line)) ≡ false → batch (behind_word (behind_word line)) ≡ other (behind_word (behind_word line))) → said_by batch line ≡ said_by other line
 said_alike batch other line same =
     ap (λ r. cond (bytes_eq (word_of line) (codes "begin")) r (other_step (word_of line) (behind_word line))) (begin_alike batch other (behind_word line) same)
 
@@ -120,12 +120,8 @@ schedules_of_single_commands input none =
     (λ line line_none. said_alike (batch_of command_of) one_command line (one_alike (behind_word (behind_word line)) (none_behind is_semicolon (behind_word line) (none_behind is_semicolon line line_none).1).1))
     input (none_in_lines is_semicolon input none)
   where
-    alone : (r : Result Command Fault) → first_then r (Ok []) ≡ (r >>= (λ command. Ok (command ∷ [])))
-    alone (Ok command) = refl
-    alone (Err fault) = refl
-
-    one_alike : (text : List ℕ) → list_any is_semicolon text ≡ false → is_blank text ≡ false → batch_of command_of text ≡ one_command text
-    one_alike text none some = batch-single text none some ∙ alone (command_of text)
+    one_alike : (text : List ℕ) → list_any is_semicolon text ≡ false → is_blank_text text ≡ false → batch_of command_of text ≡ one_command text
+    one_alike text none some = batch-single text none some
 
 pub schedules_without_order : SchedulesWithoutOrder
 schedules_without_order input none =

@@ -7,10 +7,10 @@ use Rattle.moc_devices.specs.Devices.{CallsMore}
 use Rattle.moc_ranges.specs.Blocks.{joining}
 use Rattle.moc_ranges.specs.Numbers.{NumberSet}
 use Rattle.moc_text.specs.Lines.{lines_of}
-use Rattle.moc_lines.specs.Words.{is_blank}
+use Rattle.moc_lines.specs.Words.{is_blank_text}
 use Rattle.moc_lines.specs.Replies.{cover_text}
 use Rattle.moc_lines.specs.Answers.{Rules}
-use Rattle.moc_lines.specs.Runs.{AreWithin, IsTooLong, IsBegun, Flushes}
+use Rattle.moc_lines.specs.Runs.{AreWithin, IsTooLong, IsBegunLine, Flushes}
 use Rattle.moc_lines.specs.Scripts.{line_limit, script_rules}
 use Rattle.moc_script.specs.Merges.{InLane, placed, dealt, IsMerge}
 use Rattle.moc_lines.specs.declared.run_error.RunError.TheVariants.{Read, Write, LineTooLong, Memory}
@@ -20,7 +20,7 @@ use Rattle.moc_script.specs.declared.crew_error.CrewError.TheVariants.{Run, Spaw
 -- the lines that are not blank
 abbrev pub said_lines : List (List ℕ) → List (List ℕ)
 said_lines [] = []
-said_lines (line ∷ lines) = if is_blank line then said_lines lines else line ∷ said_lines lines
+said_lines (line ∷ lines) = if is_blank_text line then said_lines lines else line ∷ said_lines lines
 
 module _ {S : Type 0} (rules : Rules S) where
   -- the answers to lines that are done in this order, each on what those before it leave
@@ -51,7 +51,7 @@ pub record IsCrewText (lanes : ℕ) (lines : List (List ℕ)) (text : List ℕ) 
 pub record IsSaidLine (number : ℕ) (lines : List (List ℕ)) : Type 0 where
   pub some : 0 < number
   pub within : number ≤ length lines
-  pub said : is_blank (slice_index_or lines (number - 1) []) ≡ false
+  pub said : is_blank_text (slice_index_or lines (number - 1) []) ≡ false
 
 -- The line at which a crew that was given all of its input is refused memory: a line that is not blank, 0 for the map
 -- and the threads, or the line behind the last for what comes once the lanes have ended.
@@ -76,7 +76,7 @@ CrewEnds lanes input left' written written' (Err (Run Read)) = Keeps written wri
 CrewEnds lanes input left' written written' (Err (Run (Memory line))) =
     Keeps written written'
     × ((given : List ℕ) × Consumes (Some input) left' given
-    × (IsBegun line given ⊎ ((given ≡ input) × IsRefusedLine line (lines_of given))))
+    × (IsBegunLine line given ⊎ ((given ≡ input) × IsRefusedLine line (lines_of given))))
 CrewEnds lanes input left' written written' (Err Spawn) = Keeps written written'
 
 -- how often a crew that ends so flushes: as a run does, and never where a thread was refused

@@ -11,7 +11,7 @@ use Rattle.moc_steps.specs.Operations.{operations, midway}
 use Rattle.moc_steps.specs.World.{whole}
 use Rattle.moc_steps.specs.Explains.{Explains, result}
 use Rattle.moc_steps.specs.Laws.{ArePlayed, led_to}
-use Rattle.moc_lines.specs.Words.{is_blank}
+use Rattle.moc_lines.specs.Words.{is_blank_text}
 use Rattle.moc_lines.specs.Faults.{fault_answer}
 use Rattle.moc_lines.specs.Language.{◌>>=◌, plain_operand_of, command_by, command_of}
 use Rattle.moc_lines.specs.Replies.{reply_text}
@@ -35,7 +35,7 @@ after_single a (Err fault) = a
 -- A line without a semicolon that is not blank is answered as the one command that it says, and leaves what it leaves.
 abbrev pub LinesOfOneCommand : Type 0
 LinesOfOneCommand =
-    (a : NumberSet) (line : List ℕ) → list_any is_semicolon line ≡ false → is_blank line ≡ false
+    (a : NumberSet) (line : List ℕ) → list_any is_semicolon line ≡ false → is_blank_text line ≡ false
     → (script_rules.answer a line ≡ single_answer a (command_of line))
     × (script_rules.after a line ≡ after_single a (command_of line))
 
@@ -60,8 +60,8 @@ LinesWithoutOrder =
 -- the language without batches: a line is blank, or one command
 abbrev pub single_rules : Rules NumberSet
 single_rules = record {
-  answer = λ a line. if is_blank line then [] else single_answer a (command_of line);
-  after = λ a line. if is_blank line then a else after_single a (command_of line);
+  answer = λ a line. if is_blank_text line then [] else single_answer a (command_of line);
+  after = λ a line. if is_blank_text line then a else after_single a (command_of line);
   closing = λ _. [];
 }
 

@@ -3,7 +3,6 @@ pub use Rattle.moc_lines.specs.Words
 pub use Rattle.moc_lines.specs.Faults
 pub use Rattle.moc_lines.specs.Language
 pub use Rattle.moc_lines.specs.Replies
-pub use Rattle.moc_lines.specs.Lines
 pub use Rattle.moc_lines.specs.Answers
 pub use Rattle.moc_lines.specs.Batches
 pub use Rattle.moc_lines.specs.Readings

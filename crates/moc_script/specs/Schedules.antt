@@ -11,7 +11,7 @@ use Rattle.moc_steps.specs.Locks.{refusal}
 use Rattle.moc_steps.specs.Locks.Step.{Begin}
 use Rattle.moc_steps.specs.World.{World, Entry, start_world, world_after, reply_to, whole}
 use Rattle.moc_steps.specs.declared.error.StepError.{StepError}
-use Rattle.moc_lines.specs.Words.{is_blank}
+use Rattle.moc_lines.specs.Words.{is_blank_text}
 use Rattle.moc_lines.specs.Replies.{cover_text, replies_text}
 use Rattle.moc_script.specs.Refusals.{fault_name, refusal_name}
 use Rattle.moc_script.specs.Steps.{BatchStep, said_step}
@@ -99,8 +99,8 @@ last_lines s = codes "order" ++ begin_lines s.begins s.world.order ++ 10 ∷ end
 -- how lines that say steps are answered; blank ones have no answer, and are counted
 abbrev pub step_rules : (List ℕ → Result BatchStep StepFault) → Rules Schedule
 step_rules says = record {
-  answer = λ s line. if is_blank line then [] else answer_to_step s (says line);
-  after = λ s line. if is_blank line then next_line s else after_said (next_line s) (says line);
+  answer = λ s line. if is_blank_text line then [] else answer_to_step s (says line);
+  after = λ s line. if is_blank_text line then next_line s else after_said (next_line s) (says line);
   closing = last_lines;
 }
 
@@ -110,7 +110,7 @@ schedule_rules = step_rules said_step
 
 -- the step that a line takes, if it takes one
 abbrev pub taken_by : Schedule → List ℕ → List BatchStep
-taken_by s line = if is_blank line then [] else step_taken s (said_step line)
+taken_by s line = if is_blank_text line then [] else step_taken s (said_step line)
 
 -- the steps that lines take, each on what those before it leave
 abbrev pub steps_taken : Schedule → List (List ℕ) → List BatchStep

@@ -6,7 +6,7 @@ use Rattle.std.specs.Str.{bytes_eq}
 use Rattle.moc_parts.specs.declared.command.Command.{Command}
 use Rattle.moc_steps.specs.Locks.{Step}
 use Rattle.moc_steps.specs.Locks.Step.{Begin, Take, Edit, Give, Quit, End}
-use Rattle.moc_lines.specs.Words.{is_blank, word_of, behind_word, number_of}
+use Rattle.moc_lines.specs.Words.{is_blank_text, word_of, behind_word, number_spelled}
 use Rattle.moc_lines.specs.Language.{◌>>=◌, only_field, two_fields, command_of}
 use Rattle.moc_lines.specs.Batches.{batch_of}
 use Rattle.moc_lines.specs.declared.fault.Fault.{Fault}
@@ -23,50 +23,50 @@ abbrev pub as_in_script : {A : Type 0} → Result A Fault → Result A StepFault
 as_in_script said = result_map_both (λ x. x) (λ fault. Line fault) said
 
 -- the client of this number: it has 32 bits
-abbrev pub client_at : ℕ → Result ℕ StepFault
-client_at n = if nat_lt 4294967295 n then Err ClientTooLarge else Ok n
+abbrev pub client_numbered : ℕ → Result ℕ StepFault
+client_numbered n = if nat_lt 4294967295 n then Err ClientTooLarge else Ok n
 
 -- the part of this number: one of twelve
-abbrev pub part_at : ℕ → Result ℕ StepFault
-part_at n = if nat_lt 11 n then Err PartTooLarge else Ok n
+abbrev pub part_numbered : ℕ → Result ℕ StepFault
+part_numbered n = if nat_lt 11 n then Err PartTooLarge else Ok n
 
 -- the client that a field names
 abbrev pub client_by : List ℕ → Result ℕ StepFault
 client_by field = do
-  n ← ok_or (number_of field) (Line BadNumber)
-  client_at n
+  n ← ok_or (number_spelled field) (Line BadNumber)
+  client_numbered n
 
 -- the client and the part that two fields name
 abbrev pub place_by : List ℕ → List ℕ → Result (ℕ × ℕ) StepFault
 place_by client part = do
-  n ← ok_or (number_of client) (Line BadNumber)
-  b ← ok_or (number_of part) (Line BadNumber)
-  c ← client_at n
-  p ← part_at b
+  n ← ok_or (number_spelled client) (Line BadNumber)
+  b ← ok_or (number_spelled part) (Line BadNumber)
+  c ← client_numbered n
+  p ← part_numbered b
   Ok (c, p)
 
 -- the client that a text names: it has just one field
-abbrev pub client_of : List ℕ → Result ℕ StepFault
-client_of text = do
+abbrev pub only_client : List ℕ → Result ℕ StepFault
+only_client text = do
   field ← as_in_script (only_field text)
   client_by field
 
 -- the client and the part that a text names: it has just two fields
-abbrev pub place_of : List ℕ → Result (ℕ × ℕ) StepFault
-place_of text = do
+abbrev pub only_place : List ℕ → Result (ℕ × ℕ) StepFault
+only_place text = do
   fields ← as_in_script (two_fields text)
   place_by fields.0 fields.1
 
 -- a step of a client, which the text names
 abbrev pub step_by : (ℕ → BatchStep) → List ℕ → Result BatchStep StepFault
 step_by step text = do
-  c ← client_of text
+  c ← only_client text
   Ok (step c)
 
 -- a step of a client at a part, which the text names
 abbrev pub step_at : (ℕ → ℕ → BatchStep) → List ℕ → Result BatchStep StepFault
 step_at step text = do
-  place ← place_of text
+  place ← only_place text
   Ok (step place.0 place.1)
 
 -- the step of a word that begins no operation, and of what stands behind it
@@ -90,7 +90,7 @@ module _ (batch_says : List ℕ → Result (List Command) Fault) where
   -- what stands behind `begin`, with a word behind the client
   abbrev pub begin_of : List ℕ → Result BatchStep StepFault
   begin_of text =
-      if is_blank (behind_word text) then Err (Line WrongCount) else begin_by (word_of text) (behind_word text)
+      if is_blank_text (behind_word text) then Err (Line WrongCount) else begin_by (word_of text) (behind_word text)
 
   -- the step that a line says, where a batch of commands is said so
   abbrev pub said_by : List ℕ → Result BatchStep StepFault

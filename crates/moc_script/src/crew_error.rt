@@ -1,14 +1,34 @@
 //! Why a crew ends early.
-use moc_lines::RunError;
+ghost use Rattle.std.specs.Prelude.{◌≡◌};
+ghost use Rattle.moc_lines.specs.Inputs.{error_of_input};
+ghost use Rattle.moc_script.specs.declared.crew_error.CrewError.TheVariants as crew;
+
+use moc_lines::{InputError, RunError};
 use thiserror::Error;
 
-/// Why a crew ended before its input's end.
+/// Why a crew ended early.
 #[derive(Clone, Copy, Debug, PartialEq, Eq, Error)]
 pub enum CrewError {
     /// What may end a run. Where memory was refused for the map or the threads, its line is 0.
     #[error(transparent)]
-    Run(#[from] RunError),
+    Run(RunError),
     /// A thread could not be started.
     #[error("a thread could not be started")]
     Spawn,
+}
+
+impl From<RunError> for CrewError {
+    ghost from_gives = { λ error e. e ≡ crew.Run error };
+
+    fn from(error: RunError) -> CrewError {
+        CrewError::Run(error)
+    }
+}
+
+impl From<InputError> for CrewError {
+    ghost from_gives = { λ error e. e ≡ crew.Run (error_of_input error) };
+
+    fn from(error: InputError) -> CrewError {
+        CrewError::Run(error.into())
+    }
 }

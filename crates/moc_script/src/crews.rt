@@ -24,7 +24,7 @@ use joining::{JoinError, write_joined};
 pub use lanes::Lanes;
 pub use laws::crews_answer_each_line;
 use moc_devices::{Sink, Source};
-use moc_lines::{InputError, RunError, number_behind_last, push_cover, read_all};
+use moc_lines::{RunError, push_cover, read_all};
 use moc_ranges::{Coverage, Memory};
 use moc_shared::{CloseError, NewError, SharedMap};
 use std::alloc::Global;
@@ -128,22 +128,10 @@ pub fn crew<R: Source, W: Sink, G: Gate + Sync, T: Threads + Wait + Sync>(
     ensures write { IsErrOf result (CrewError.Run RunError.Write) ↔ IsTrue (W.mark writer.new) }
     ensures told { IsTrue (R.mark reader.new) → IsErrOf result (CrewError.Run RunError.Read) }
 {
-    let input = match read_all(alloc, reader) {
-        Ok(input) => input,
-        Err(InputError::Read) => return Err(CrewError::Run(RunError::Read)),
-        Err(InputError::TooLong { line }) => {
-            return Err(CrewError::Run(RunError::LineTooLong { line }));
-        }
-        Err(InputError::Memory { line }) => return Err(CrewError::Run(RunError::Memory { line })),
-    };
+    let input = read_all(alloc, reader)?;
     let told = match answer_all(rt, alloc, gate, &input, lanes) {
         Ok(told) => told,
-        Err(LanesError::Spawn) => return Err(CrewError::Spawn),
-        Err(LanesError::Memory { line }) => return Err(CrewError::Run(RunError::Memory { line })),
-        Err(LanesError::MemoryBehind) => {
-            let line = number_behind_last(&input);
-            return Err(CrewError::Run(RunError::Memory { line }));
-        }
+        Err(error) => return Err(error.told_of(&input)),
     };
     write_told(alloc, &input, &told, writer)
 }
@@ -167,14 +155,11 @@ fn write_told<W: Sink>(
 {
     match write_joined(alloc, &told.answers, &told.cover, writer) {
         Ok(()) => {}
-        Err(JoinError::Memory) => {
-            let line = number_behind_last(input);
-            return Err(CrewError::Run(RunError::Memory { line }));
-        }
-        Err(JoinError::Write) => return Err(CrewError::Run(RunError::Write)),
+        Err(JoinError::Memory) => return Err(LanesError::MemoryBehind.told_of(input)),
+        Err(JoinError::Write) => return Err(RunError::Write.into()),
     }
     if writer.flush().is_err() {
-        return Err(CrewError::Run(RunError::Write));
+        return Err(RunError::Write.into());
     }
     Ok(())
 }

@@ -1,7 +1,7 @@
 //! Schedules of steps, played from a reader to a writer.
 ghost use Rattle.std.specs.Prelude.{◌≡◌, ◌⊎◌, IfSome, IsTrue, ◌↔◌, false, OnOk, OnErr, IsErrOf};
 ghost use Rattle.std.specs.Io.KnownBytes.{Appends, IsAtEnd};
-ghost use Rattle.moc_lines.specs.Runs.{Begins, Flushes};
+ghost use Rattle.moc_lines.specs.Runs.{WritesBeginning, Flushes};
 ghost use Rattle.moc_lines.specs.Scripts.{line_limit};
 ghost use Rattle.moc_script.specs.Schedules.{RunsSchedule, schedule_rules, schedule_text, start_schedule};
 
@@ -47,7 +47,7 @@ pub fn play<R: Source, W: Sink>(
 
     // So it is a beginning of the answers to the whole input, and all of them where no fault comes.
     ensures begins { IfSome (R.left reader.old) (λ input.
-        Begins line_limit schedule_rules start_schedule input (W.written writer.old) (W.written writer.new)) }
+        WritesBeginning line_limit schedule_rules start_schedule input (W.written writer.old) (W.written writer.new)) }
     ensures answers { OnOk result (IfSome (R.left reader.old) (λ input.
         Appends (W.written writer.old) (W.written writer.new) (schedule_text input))) }
 

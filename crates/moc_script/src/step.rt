@@ -3,7 +3,7 @@ ghost use Rattle.std.specs.Prelude.{◌≤◌, SomeIff};
 ghost use Rattle.moc_steps.specs.Played.{step_of};
 ghost use Rattle.moc_lines.specs.Batches.{batch_of};
 ghost use Rattle.moc_lines.specs.Language.{command_of};
-ghost use Rattle.moc_script.specs.Steps.{begin_by, begin_of, client_by, client_of, place_by, place_of, said_step};
+ghost use Rattle.moc_script.specs.Steps.{begin_by, begin_of, client_by, only_client, place_by, only_place, said_step};
 ghost use Rattle.moc_script.specs.Private.StepReading.{ReadsStep};
 
 use crate::fault::{ReadStepError, StepFault};
@@ -32,34 +32,25 @@ fn part_of_number(number: u64) -> Option<Part>
 fn read_client(field: &[u8]) -> Result<u32, ReadStepError>
     ensures { ReadsStep (λ client. client) result (client_by field.now) }
 {
-    let Some(number) = number_in(field) else {
-        return Err(ReadStepError::Fault(StepFault::Line(Fault::BadNumber)));
-    };
-    client_of_number(number).ok_or(ReadStepError::Fault(StepFault::ClientTooLarge))
+    let number = number_in(field).ok_or(Fault::BadNumber)?;
+    let client = client_of_number(number).ok_or(StepFault::ClientTooLarge)?;
+    Ok(client)
 }
 
 /// The client and the part that two fields name.
 fn read_place(client: &[u8], part: &[u8]) -> Result<(u32, Part), ReadStepError>
     ensures { ReadsStep (λ place. place) result (place_by client.now part.now) }
 {
-    let Some(client) = number_in(client) else {
-        return Err(ReadStepError::Fault(StepFault::Line(Fault::BadNumber)));
-    };
-    let Some(part) = number_in(part) else {
-        return Err(ReadStepError::Fault(StepFault::Line(Fault::BadNumber)));
-    };
-    let Some(client) = client_of_number(client) else {
-        return Err(ReadStepError::Fault(StepFault::ClientTooLarge));
-    };
-    match part_of_number(part) {
-        Some(part) => Ok((client, part)),
-        None => Err(ReadStepError::Fault(StepFault::PartTooLarge)),
-    }
+    let client = number_in(client).ok_or(Fault::BadNumber)?;
+    let part = number_in(part).ok_or(Fault::BadNumber)?;
+    let client = client_of_number(client).ok_or(StepFault::ClientTooLarge)?;
+    let part = part_of_number(part).ok_or(StepFault::PartTooLarge)?;
+    Ok((client, part))
 }
 
 /// The client that a text names: it has just one field.
 fn only_client(text: &[u8]) -> Result<u32, ReadStepError>
-    ensures { ReadsStep (λ client. client) result (client_of text.now) }
+    ensures { ReadsStep (λ client. client) result (only_client text.now) }
 {
     let field = only_field(text)?;
     read_client(field)
@@ -67,7 +58,7 @@ fn only_client(text: &[u8]) -> Result<u32, ReadStepError>
 
 /// The client and the part that a text names: it has just two fields.
 fn only_place(text: &[u8]) -> Result<(u32, Part), ReadStepError>
-    ensures { ReadsStep (λ place. place) result (place_of text.now) }
+    ensures { ReadsStep (λ place. place) result (only_place text.now) }
 {
     let (client, part) = two_fields(text)?;
     read_place(client, part)
@@ -79,7 +70,7 @@ fn read_begin(alloc: Global, text: &[u8]) -> Result<Step, ReadStepError>
 {
     let (field, line) = split_word(text);
     if is_blank_text(line) {
-        return Err(ReadStepError::Fault(StepFault::Line(Fault::WrongCount)));
+        return Err(Fault::WrongCount.into());
     }
     let client = read_client(field)?;
     let batch = read_batch(alloc, line)?;
@@ -109,6 +100,6 @@ pub(crate) fn read_step(alloc: Global, line: &[u8]) -> Result<Step, ReadStepErro
         let client = only_client(text)?;
         Ok(Step::End { client })
     } else {
-        Err(ReadStepError::Fault(StepFault::Line(Fault::UnknownWord)))
+        Err(Fault::UnknownWord.into())
     }
 }

@@ -3,7 +3,7 @@ use crate::between::{Ended, Language, between, expect_answers, expect_end, holds
 use crate::failing::{Devices, FailsOnce, Failure, PLENTY, failing_reader, failing_writer};
 use moc_script::{
     CrewError, DeviceFault, Fault, LINE_LIMIT, OverReader, OverWriter, ReadError, RunError, Sink,
-    Source, run, write_all,
+    Source, StepFault, run, write_all,
 };
 use std::alloc::{AllocError, Global};
 use std::fmt::Display;
@@ -489,6 +489,17 @@ fn texts_of_errors(rt: HostRuntime) {
     let fault = ReadError::Fault(Fault::TooManyCommands);
     expect_text(&rt, alloc, &fault, "a line has at most 16 commands");
     expect_text(&rt, alloc, &ReadError::Memory, "out of memory");
+}
+
+#[test]
+fn texts_of_step_faults(rt: HostRuntime) {
+    let alloc = rt.alloc();
+    let fault = StepFault::Line(Fault::BadNumber);
+    expect_text(&rt, alloc, &fault, "a field that is no number");
+    let fault = StepFault::ClientTooLarge;
+    expect_text(&rt, alloc, &fault, "a client above 4294967295");
+    let fault = StepFault::PartTooLarge;
+    expect_text(&rt, alloc, &fault, "a part above 11");
 }
 
 // The lines of a text before the one of this number, counted from 1.

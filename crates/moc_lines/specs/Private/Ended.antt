@@ -2,9 +2,8 @@
 use Rattle.std.specs.Prelude.{◌≡◌, ℕ, ◌⊎◌, List, ◌++◌, Option, Some, Result, Ok, Err}
 use Rattle.std.specs.Io.KnownBytes.{Appends, Consumes, IsAtEnd}
 use Rattle.moc_text.specs.Lines.{lines_of}
-use Rattle.moc_lines.specs.Lines.{whole_lines_of}
 use Rattle.moc_lines.specs.Answers.{Rules, answers_to, closing_behind}
-use Rattle.moc_lines.specs.Runs.{AreWithin, IsTooLong, lines_before, IsBegun, IsUnclosed}
+use Rattle.moc_lines.specs.Runs.{AreWithin, IsTooLong, whole_lines_of, lines_before, IsBegunLine, IsUnclosed}
 use Rattle.moc_lines.specs.declared.run_error.RunError.{RunError}
 use Rattle.moc_lines.specs.declared.run_error.RunError.TheVariants.{Read, Write, LineTooLong, Memory}
 
@@ -18,7 +17,7 @@ module _ {S : Type 0} (limit : ℕ) (rules : Rules S) (s : S) where
   EndsAt lines given left (Err (LineTooLong number)) =
       IsTooLong limit (lines_of given) number × (lines ≡ lines_before number given)
   EndsAt lines given left (Err (Memory number)) =
-      (IsBegun number given ⊎ (IsAtEnd left × IsUnclosed number given (closing_behind rules s (lines_of given))))
+      (IsBegunLine number given ⊎ (IsAtEnd left × IsUnclosed number given (closing_behind rules s (lines_of given))))
       × (lines ≡ lines_before number given)
 
 -- what is said when a run ends so: the answers to the lines, and behind them the closing text where all are answered

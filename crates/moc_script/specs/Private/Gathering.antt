@@ -1,6 +1,6 @@
 -- The lanes' ends, put together.
-use Rattle.std.specs.Prelude.{◌≡◌, ◌⊎◌, ◌<◌, ℕ, List, [], length, slice_index_or, Option, Some, None, Contains, Result}
-use Rattle.std.specs.Prelude.{Ok, Err}
+use Rattle.std.specs.Prelude.{◌≡◌, ◌⊎◌, ◌<◌, ◌+◌, ℕ, List, [], length, slice_index_or, Option, Some, None, Contains}
+use Rattle.std.specs.Prelude.{Result, Ok, Err}
 use Rattle.moc_parts.specs.declared.command.Command.{Command}
 use Rattle.moc_parts.specs.declared.reply.Reply.{Reply}
 use Rattle.moc_shared.specs.declared.client.Client.{Client}
@@ -14,6 +14,9 @@ use Rattle.moc_script.specs.Private.LaneWork.{Does}
 use Rattle.moc_script.specs.Private.LaneEnds.{GoesBefore, IsLaneEnd, line_at}
 use Rattle.moc_text.specs.Lines.{lines_of}
 use Rattle.moc_script.specs.Crews.{IsSaidLine}
+use Rattle.moc_lines.specs.declared.run_error.RunError.TheVariants as run
+use Rattle.moc_script.specs.declared.crew_error.CrewError.{CrewError}
+use Rattle.moc_script.specs.declared.crew_error.CrewError.TheVariants as crew
 use Rattle.moc_script.specs.declared.crews.lane.LaneEnd.{LaneEnd}
 use Rattle.moc_script.specs.declared.crews.lane.Unfinished.{Unfinished}
 use Rattle.moc_script.specs.declared.crews.threads.LanesError.{LanesError}
@@ -37,6 +40,12 @@ abbrev pub NamesLine : List ℕ → LanesError → Type 0
 NamesLine input (Memory line) = (line ≡ 0) ⊎ IsSaidLine line (lines_of input)
 NamesLine input MemoryBehind = Unit {0}
 NamesLine input Spawn = Unit {0}
+
+-- what a crew tells of it that has read this input
+abbrev pub error_of_lanes : List ℕ → LanesError → CrewError
+error_of_lanes input (Memory line) = crew.Run (run.Memory line)
+error_of_lanes input MemoryBehind = crew.Run (run.Memory (length (lines_of input) + 1))
+error_of_lanes input Spawn = crew.Spawn
 
 -- each of so many lanes has done its lines of a script
 abbrev pub AreDone : SharedMap → ℕ → List ℕ → List LaneEnd → Type 0

@@ -4,6 +4,7 @@ ghost use Rattle.std.specs.Prelude.{IsErrOf, IsTrue, vec_len, vec_capacity};
 ghost use Rattle.std.specs.Io.KnownBytes.{Keeps};
 ghost use Rattle.moc_devices.specs.Devices.{CallsMore, Sends};
 ghost use Rattle.moc_script.specs.Private.Joining.{JoinsTo, SendsTurns};
+ghost use Rattle.moc_script.specs.declared.crews.joining.JoinError.TheVariants as join;
 
 use crate::crews::texts::{Texts, Walk};
 use moc_devices::{DeviceFault, Sink, write_all};
@@ -17,6 +18,22 @@ pub(crate) enum JoinError {
     Memory,
     /// The writer failed.
     Write,
+}
+
+impl From<Memory> for JoinError {
+    ghost from_gives = { λ _ e. e ≡ join.Memory };
+
+    fn from(_refused: Memory) -> JoinError {
+        JoinError::Memory
+    }
+}
+
+impl From<DeviceFault> for JoinError {
+    ghost from_gives = { λ _ e. e ≡ join.Write };
+
+    fn from(_fault: DeviceFault) -> JoinError {
+        JoinError::Write
+    }
 }
 
 /// How many bytes of joined answers are kept before they are written.
@@ -137,18 +154,10 @@ pub(crate) fn write_joined<W: Sink>(
     ensures flushes { CallsMore (W.flushes writer.old) (W.flushes writer.new) 0 }
 {
     if answers.len() == 1 {
-        return match write_both(answers[0].as_bytes(), behind, writer) {
-            Ok(()) => Ok(()),
-            Err(DeviceFault) => Err(JoinError::Write),
-        };
+        return Ok(write_both(answers[0].as_bytes(), behind, writer)?);
     }
-    let Ok(joiner) = Joiner::new(alloc, answers) else {
-        return Err(JoinError::Memory);
-    };
-    match joiner.write(behind, writer) {
-        Ok(()) => Ok(()),
-        Err(DeviceFault) => Err(JoinError::Write),
-    }
+    let joiner = Joiner::new(alloc, answers)?;
+    Ok(joiner.write(behind, writer)?)
 }
 
 /// Writes a text and one behind it.

@@ -1,7 +1,7 @@
 //! One lane of a crew: a thread with a client of its own.
 ghost use Rattle.std.specs.Prelude.{◌≡◌, ◌<◌, ◌∷◌, [], false, true, OnOk};
 ghost use Rattle.moc_shared.specs.Clients.{IsClientOf, number_of, record_of};
-ghost use Rattle.moc_lines.specs.Words.{is_blank};
+ghost use Rattle.moc_lines.specs.Words.{is_blank_text};
 ghost use Rattle.moc_script.specs.Private.LaneEnds.{Made, AddsAnswer, Answered, GoesBefore, IsLaneEnd, line_at};
 
 use crate::crews::gate::Gate;
@@ -67,7 +67,7 @@ fn answer_line<R: Wait>(
     answers: &mut Vec<u8>,
 ) -> Result<(), Memory>
     requires map { IsClientOf map.now client.old }
-    requires said { is_blank line.now ≡ false }
+    requires said { is_blank_text line.now ≡ false }
     ensures map { IsClientOf map.now client.new }
     ensures number { number_of client.new ≡ number_of client.old }
     ensures answers { OnOk result

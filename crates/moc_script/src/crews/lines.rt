@@ -1,7 +1,7 @@
 //! The lines of a lane.
 ghost use Rattle.std.specs.Prelude.{◌≡◌, ◌<◌, ◌≤◌, ◌+◌, ◌^◌, ◌∷◌, [], None, IfSome, false, length};
 ghost use Rattle.moc_text.specs.Lines.{lines_of};
-ghost use Rattle.moc_lines.specs.Words.{is_blank};
+ghost use Rattle.moc_lines.specs.Words.{is_blank_text};
 ghost use Rattle.moc_script.specs.Private.Input.{Passes, lane_lines, lines_left};
 
 use moc_lines::{is_blank_text, split_line};
@@ -40,7 +40,7 @@ impl<'a> LaneLines<'a> {
         requires few { self.old.passed + length (lines_of self.old.bytes.now) < 2 ^ 64 }
         ensures some { IfSome result (λ next. lines_left self.old ≡ next.1.now ∷ lines_left self.new) }
         ensures number { IfSome result (λ next. Passes self.old next.0 next.1.now self.new) }
-        ensures said { IfSome result (λ next. is_blank next.1.now ≡ false) }
+        ensures said { IfSome result (λ next. is_blank_text next.1.now ≡ false) }
         ensures none { result ≡ None → lines_left self.old ≡ [] }
     {
         while !self.bytes.is_empty() {

@@ -1,12 +1,14 @@
 //! The lanes' threads.
 ghost use Rattle.std.specs.Prelude.{◌≡◌, IfErr, IfOk};
 ghost use Rattle.moc_shared.specs.Clients.{AreNewClients};
-ghost use Rattle.moc_script.specs.Private.Gathering.{NamesLine};
+ghost use Rattle.moc_script.specs.Private.Gathering.{NamesLine, error_of_lanes};
 ghost use Rattle.moc_script.specs.Private.LaneEnds.{IsLaneEnd, AreLaneEnds};
 ghost use Rattle.moc_script.specs.Private.Promises.{ArePromised};
 
+use crate::crew_error::CrewError;
 use crate::crews::gate::Gate;
 use crate::crews::lane::{LaneEnd, Unfinished, work};
+use moc_lines::{RunError, number_behind_last};
 use moc_shared::{Client, SharedMap};
 use std::alloc::Global;
 use std::marker::{Send, Sync};
@@ -24,6 +26,22 @@ pub(crate) enum LanesError {
     Memory { line: u64 },
     /// Memory was refused behind the last line.
     MemoryBehind,
+}
+
+impl LanesError {
+    /// What a crew tells of it that has read this input.
+    pub(crate) fn told_of(self, input: &[u8]) -> CrewError
+        ensures { result ≡ error_of_lanes input.now self }
+    {
+        match self {
+            LanesError::Spawn => CrewError::Spawn,
+            LanesError::Memory { line } => RunError::Memory { line }.into(),
+            LanesError::MemoryBehind => {
+                let line = number_behind_last(input);
+                RunError::Memory { line }.into()
+            }
+        }
+    }
 }
 
 /// What a lane is given: the map, the script, how many lanes answer it, and its own number.

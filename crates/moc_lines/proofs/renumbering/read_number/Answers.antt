@@ -2,20 +2,20 @@
 use Rattle.std.proofs.Common.{◌≡◌, ℕ, List, cond, min, Some, Ok, Err, sym, ap, ◌∙◌}
 use Rattle.std.specs.Option.{option_map, ok_or}
 use Rattle.std.specs.Result.{result_map_both}
-use Rattle.moc_lines.specs.Words.{is_blank, number_of, word_of}
+use Rattle.moc_lines.specs.Words.{is_blank_text, number_spelled, word_of}
 use Rattle.moc_lines.specs.Numberings.{number_on}
 use Rattle.moc_lines.specs.declared.fault.Fault.{Fault}
 use Rattle.moc_lines.specs.declared.fault.Fault.TheVariants.{WrongCount, BadNumber}
 use Rattle.moc_lines.proofs.NumberLemmas.{word-alone}
 use Rattle.moc_lines.proofs.renumbering.read_number.Goals as goal
 
-alone : (line : List ℕ) (n top : ℕ) → Some n ≡ number_of line → Some n ≡ option_map (λ n. min n top) (number_of line)
+alone : (line : List ℕ) (n top : ℕ) → Some n ≡ number_spelled line → Some n ≡ option_map (λ n. min n top) (number_spelled line)
     → Ok n ≡ result_map_both (λ n. min n top) (λ (fault : Fault). fault) (number_on line)
 alone line n top is held =
     let word = word-alone line n is in
     let told : number_on line ≡ Ok n =
-    ap (λ rest. cond (is_blank rest) (ok_or (number_of (word_of line)) BadNumber) (Err WrongCount)) word.1
-    ∙ ap (λ w. ok_or (number_of w) BadNumber) word.0 ∙ ap (λ m. ok_or m BadNumber) (sym is) in
+    ap (λ rest. cond (is_blank_text rest) (ok_or (number_spelled (word_of line)) BadNumber) (Err WrongCount)) word.1
+    ∙ ap (λ w. ok_or (number_spelled w) BadNumber) word.0 ∙ ap (λ m. ok_or m BadNumber) (sym is) in
     let same : Some n ≡ Some (min n top) = held ∙ ap (option_map (λ n. min n top)) (sym is) in
     let least : n ≡ min n top = cc in
     ap (λ (m : ℕ). Ok m) least ∙ ap (result_map_both (λ n. min n top) (λ (fault : Fault). fault)) (sym told)

@@ -1,12 +1,12 @@
 -- Another digit, and another byte.
 use Rattle.std.specs.Option.{option_map}
 use Rattle.std.proofs.Common.{◌+◌, ◌*◌, min, sym, ap, ◌∙◌}
-use Rattle.moc_lines.proofs.NumberLemmas.{number_of-other, value-more, digits-more}
+use Rattle.moc_lines.proofs.NumberLemmas.{number_spelled-other, value-more, digits-more}
 use Rattle.moc_lines.proofs.words.long_number_in.Goals as goal
 
 pub returns-then-not-is_ascii_digit : goal.returns-then-not-is_ascii_digit
 returns-then-not-is_ascii_digit c =
-    let none = number_of-other c.args.field.now c.loop-byte.byte-index 0 c.loop-byte-test.true (sym c.is_ascii_digit.ensures.value ∙ c.if-not-is_ascii_digit.true) in
+    let none = number_spelled-other c.args.field.now c.loop-byte.byte-index 0 c.loop-byte-test.true (sym c.is_ascii_digit.ensures.value ∙ c.if-not-is_ascii_digit.true) in
     ap (option_map (λ n. min n 18446744073709551615)) (sym none)
 
 pub loop-byte-preserved : goal.loop-byte-preserved

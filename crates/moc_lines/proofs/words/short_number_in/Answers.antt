@@ -1,11 +1,11 @@
 -- Another digit, and another byte.
 use Rattle.std.proofs.Common.{◌+◌, ◌*◌, ◌∙◌, sym, ap, get_or, arith}
-use Rattle.moc_lines.proofs.NumberLemmas.{number_of-other, digits-more, short-more, short-fits}
+use Rattle.moc_lines.proofs.NumberLemmas.{number_spelled-other, digits-more, short-more, short-fits}
 use Rattle.moc_lines.proofs.words.short_number_in.Goals as goal
 
 pub returns-then-not-is_ascii_digit-clause-number : goal.returns-then-not-is_ascii_digit-clause-number
 returns-then-not-is_ascii_digit-clause-number c =
-    sym (number_of-other c.args.field.now c.loop-byte.byte-index 0 c.loop-byte-test.true (sym c.is_ascii_digit.ensures.value ∙ c.if-not-is_ascii_digit.true))
+    sym (number_spelled-other c.args.field.now c.loop-byte.byte-index 0 c.loop-byte-test.true (sym c.is_ascii_digit.ensures.value ∙ c.if-not-is_ascii_digit.true))
 
 pub overflow_mul-value : goal.overflow_mul-value
 overflow_mul-value c =
