@@ -51,7 +51,7 @@ PLANTS = [
     Plant("piece_is_read_again_behind_an_error", "moc_conversion", "src/conversion.rt",
           "        return Err(Fault::Read);\n    };\n    text.extend",
           "        let _ = input.read(room);\n        return Err(Fault::Read);\n    };\n    text.extend", "test", "program_tests"),
-    Plant("fault_is_never_told", "moc_program", "src/dispatch.rt",
+    Plant("fault_is_never_told", "moc_program", "src/status.rt",
           "    let _ = fault.tell(faults);", "    let _ = &faults;", "prove"),
     Plant("longest_input_is_refused", "moc_conversion", "src/conversion.rt",
           "    while text.len() <= INPUT_LIMIT {", "    while text.len() < INPUT_LIMIT {", "prove"),

@@ -8,7 +8,7 @@ use Rattle.clap.specs.declared.parser.matches.Found.{Found}
 use Rattle.clap.proofs.WalkLemmas.{first_value-rows, one_text-rows}
 use Rattle.moc_sphere.specs.Names.{IsNamed, Spells}
 use Rattle.clap.specs.declared.parser.matches.ArgMatches.{ArgMatches}
-use Rattle.moc_program.specs.Actions.{Ends}
+use Rattle.moc_program.specs.Actions.{ActionEnds}
 use Rattle.moc_program.specs.Asking.{AskFor, HasNumber, HasWord}
 use Rattle.moc_program.specs.Outcomes.{EndWith}
 use Rattle.moc_program.specs.Private.Matches.{AreReadAs, IsAskedIn, MatchedEnd}
@@ -50,7 +50,7 @@ word_read name_of none f name word (Err e) o is read same = subst (λ x. IfSome 
 -- ---- what the words ask for
 
 pub matched : (m : ArgMatches) (action : Action) (left left' w w' : Option (List ℕ)) (result : Result (Unit {0}) Fault) → IsAskedIn m action
-    → Ends action left left' w w' result → MatchedEnd m left left' w w' result
+    → ActionEnds action left left' w w' result → MatchedEnd m left left' w w' result
 matched m action left left' w w' (Ok u) asked ends = (action, asked, ends)
 matched m action left left' w w' (Err f) asked ends = inr (action, asked, ends)
 
@@ -65,7 +65,7 @@ asked_for words m action read asked = record {
 }
 
 pub words_done : (words : List Text) (m : ArgMatches) (left left' w w' : Option (List ℕ)) → AreReadAs words m → MatchedEnd m left left' w w' (Ok tt)
-    → (action : Action) × AskFor words action × Ends action left left' w w' (Ok tt)
+    → (action : Action) × AskFor words action × ActionEnds action left left' w w' (Ok tt)
 words_done words m left left' w w' read ends = (ends.0, asked_for words m ends.0 read ends.1, ends.2)
 
 pub words_end : (words : List Text) (m : ArgMatches) (left left' w w' : Option (List ℕ)) (fault : Fault) → AreReadAs words m → MatchedEnd m left left' w w' (Err fault)

@@ -1,8 +1,12 @@
 -- Numbers on a line.
 use Rattle.std.proofs.Common.{◌≡◌, ◌∙◌, ℕ, ◌+◌, ◌<◌, ◌≤◌, List, [], ◌∷◌, ◌++◌, length, take, get_or, sym, ap, append-nil, append_assoc}
-use Rattle.std.specs.Prelude.{decimal}
+use Rattle.std.specs.Prelude.{codes, decimal}
 use Rattle.std.proofs.lemmas.List.{take_more, take_all}
-use Rattle.moc_program.specs.Numbers.{spaced}
+use Rattle.std.specs.List.{flat_map}
+
+-- numbers behind others, each behind a blank
+abbrev pub spaced : List ℕ → List ℕ
+spaced ns = flat_map (λ n. codes " " ++ decimal n) ns
 
 spaced_push : (ns : List ℕ) (n : ℕ) → spaced (ns ++ n ∷ []) ≡ spaced ns ++ 32 ∷ decimal n
 spaced_push [] n = ap (λ l. 32 ∷ l) (append-nil (decimal n))

@@ -3,12 +3,11 @@ use Rattle.std.proofs.Common.{◌≡◌, ◌⊎◌, inl, inr, Bool, false, ℕ, 
 use Rattle.std.specs.Prelude.{IfErr, IsTrue}
 use Rattle.std.specs.Io.KnownBytes.{Appends, Keeps}
 use Rattle.moc_lines.specs.declared.run_error.RunError.TheVariants as run
-use Rattle.moc_script.specs.declared.crew_error.CrewError.TheVariants as crew
 use Rattle.moc_conversion.specs.declared.fault.Fault as input
 use Rattle.moc_conversion.specs.declared.fault.Fault.TheVariants as refused
 use Rattle.clap.specs.Words.{Text}
 use Rattle.clap.specs.declared.parser.matches.ArgMatches.{ArgMatches}
-use Rattle.moc_program.specs.Actions.{Ends}
+use Rattle.moc_program.specs.Actions.{ActionEnds}
 use Rattle.moc_program.specs.Asking.{AskFor}
 use Rattle.moc_program.specs.Statuses.{code_of, fault_text, status_of, status_of_input}
 use Rattle.moc_program.specs.declared.action.Action.{Action}
@@ -17,7 +16,7 @@ use Rattle.moc_program.specs.Private.Ending.{end_of}
 use Rattle.moc_program.specs.Private.Matches.{AreReadAs, MatchedEnd}
 use Rattle.moc_program.proofs.Asking.{words_done, words_end}
 use Rattle.moc_program.specs.declared.status.Fault.{Fault}
-use Rattle.moc_program.specs.declared.status.Fault.TheVariants.{Input, Number, Run, Write, Memory}
+use Rattle.moc_program.specs.declared.status.Fault.TheVariants.{Input, Number, Lines, Spawn, Write, Memory}
 use Rattle.moc_program.specs.declared.status.Status.{Status}
 use Rattle.moc_program.specs.declared.status.Status.TheVariants.{Done, Refused, BadWords, Broken}
 
@@ -58,11 +57,11 @@ of_fault : (fault : Fault) → IsOfFault (status_of fault)
 unfolding IsOfFault
 of_fault (Input c) = of_input c.fault
 of_fault (Number e) = inl refl
-of_fault (Run (crew.Run run.Read)) = inr refl
-of_fault (Run (crew.Run run.Write)) = inr refl
-of_fault (Run (crew.Run (run.LineTooLong line))) = inl refl
-of_fault (Run (crew.Run (run.Memory line))) = inr refl
-of_fault (Run crew.Spawn) = inr refl
+of_fault (Lines run.Read) = inr refl
+of_fault (Lines run.Write) = inr refl
+of_fault (Lines (run.LineTooLong line)) = inl refl
+of_fault (Lines (run.Memory line)) = inr refl
+of_fault Spawn = inr refl
 of_fault Write = inr refl
 of_fault Memory = inr refl
 
@@ -97,10 +96,10 @@ told_by (Err c) status is w w' number told why some = (c, sym number, why, told)
 module _ {I O : Type 0} (left : I → Option (List ℕ)) (written : O → Option (List ℕ)) (i i' : I) (o o' : O) (words : List Text) (m : ArgMatches) (l w : Option (List ℕ))
     (read : AreReadAs words m) (same_i : i' ≡ i) (same_o : o' ≡ o) where
   pub done_by : (outcome : Result (Unit {0}) Fault) → MatchedEnd m l (left i) w (written o) outcome → end_of outcome ≡ Done
-      → (a : Action) × AskFor words a × Ends a l (left i') w (written o') (Ok tt)
+      → (a : Action) × AskFor words a × ActionEnds a l (left i') w (written o') (Ok tt)
   done_by (Ok u) ends e =
-      subst (λ (x : I). (a : Action) × AskFor words a × Ends a l (left x) w (written o') (Ok tt)) (sym same_i)
-      (subst (λ (y : O). (a : Action) × AskFor words a × Ends a l (left i) w (written y) (Ok tt)) (sym same_o) (words_done words m l (left i) w (written o) read ends))
+      subst (λ (x : I). (a : Action) × AskFor words a × ActionEnds a l (left x) w (written o') (Ok tt)) (sym same_i)
+      (subst (λ (y : O). (a : Action) × AskFor words a × ActionEnds a l (left i) w (written y) (Ok tt)) (sym same_o) (words_done words m l (left i) w (written o) read ends))
   done_by (Err fault) ends e = absurd (no_done (status_of fault) (of_fault fault) e)
 
   pub fails_by : (marked : I → Bool) (marked_out : O → Bool) (outcome : Result (Unit {0}) Fault) → MatchedEnd m l (left i) w (written o) outcome

@@ -4,7 +4,6 @@ use Rattle.moc_lines.specs.Faults as script
 use Rattle.moc_lines.specs.declared.fault.Fault.TheVariants as said
 use Rattle.moc_lines.specs.declared.run_error.RunError.TheVariants as run
 use Rattle.moc_script.specs.Refusals.{fault_name}
-use Rattle.moc_script.specs.declared.crew_error.CrewError.TheVariants as crew
 use Rattle.moc_script.specs.declared.fault.StepFault.TheVariants as step
 use Rattle.moc_conversion.specs.Faults.{line_of, name_of}
 use Rattle.moc_conversion.specs.declared.fault.Fault.TheVariants.{BadByte, Unfinished, NoOrder, OrderTooLarge}
@@ -34,19 +33,19 @@ meaning_lines column (m ∷ meanings) =
     text_line (codes "  " ++ m.0 ++ replicate (column - length m.0) 32 ++ m.1) ++ meaning_lines column meanings
 
 -- meanings under a heading, and an empty line behind them
-abbrev pub part : List ℕ → ℕ → List Meaning → List ℕ
-part heading column meanings = text_line (heading ++ codes ":") ++ meaning_lines column meanings ++ text_line []
+abbrev pub section : List ℕ → ℕ → List Meaning → List ℕ
+section heading column meanings = text_line (heading ++ codes ":") ++ meaning_lines column meanings ++ text_line []
 
 -- the list of the statuses, and of the faults by what they are of, with an example behind it
 unfoldable pub fault_list : List ℕ
 fault_list =
-    part (codes "Statuses") 3 (
+    section (codes "Statuses") 3 (
     (digit_of Done, codes "done, also where lines answered `fault`, and after help")
     ∷ (digit_of Refused, codes "a number or a text is refused; standard error has `fault NAME`")
     ∷ (digit_of BadWords, codes "the words are no command line")
     ∷ (digit_of Broken, codes "a device failed, or memory or a thread was refused: `fault NAME`")
     ∷ [])
-    ++ part (codes "Numbers of cells") 17 (
+    ++ section (codes "Numbers of cells") 17 (
     (name_of_cell cell.CellTooLarge, codes "the order has no such cell; order k has 12 times 4^k, from 0")
     ∷ (name_of_cell cell.RingTooLarge, codes "the order has no such ring number, of 12 times 4^k from 0")
     ∷ (name_of_cell cell.NotUniq, codes "no cell has this NUNIQ number, 4 to 2^62 - 1")
@@ -54,7 +53,7 @@ fault_list =
     ∷ (script.name_of said.BadNumber, codes "digits alone make a number")
     ∷ (script.name_of said.WrongCount, codes "too few or too many fields on a line")
     ∷ [])
-    ++ part (codes "Coverages in ASCII") 17 (
+    ++ section (codes "Coverages in ASCII") 17 (
     (name_of BadByte, codes "a byte that no word has at its place")
     ∷ (name_of Unfinished, codes "a word that ends too early")
     ∷ (name_of NoOrder, codes "a cell before any order")
@@ -62,7 +61,7 @@ fault_list =
     ∷ (name_of CellTooLarge, codes "the order has no such cell")
     ∷ (name_of Backwards, codes "a-b with b below a")
     ∷ [])
-    ++ part (codes "Coverages in JSON") 17 (
+    ++ section (codes "Coverages in JSON") 17 (
     (name_of NotJson, codes "no JSON text")
     ∷ (name_of NotObject, codes "a JSON text that is no object")
     ∷ (name_of BadOrder, codes "a name that is no order, 0 to 29")
@@ -70,25 +69,25 @@ fault_list =
     ∷ (name_of NotWhole, codes "an item that is no whole number")
     ∷ (name_of CellTooLarge, codes "the order has no such cell")
     ∷ [])
-    ++ part (codes "NUNIQ lists") 17 (
+    ++ section (codes "NUNIQ lists") 17 (
     (name_of BadByte, codes "a byte that is no digit")
     ∷ (name_of NotUniq, codes "no cell has this number")
     ∷ [])
-    ++ part (codes "Lengths") 17 (
+    ++ section (codes "Lengths") 17 (
     (name_of TooLong, codes "a text of more than 16,777,216 bytes")
-    ∷ (name_of_run (crew.Run (run.LineTooLong 0)), codes "a line of more than 1,048,576 bytes")
+    ∷ (name_of_run (run.LineTooLong 0), codes "a line of more than 1,048,576 bytes")
     ∷ [])
-    ++ part (codes "Lines of scripts and schedules") 17 (
+    ++ section (codes "Lines of scripts and schedules") 17 (
     (script.name_of said.UnknownWord, codes "no such command")
     ∷ (script.name_of said.EmptyCommand, codes "nothing before, between or behind `;`")
     ∷ (script.name_of said.TooManyCommands, codes "more than 16 commands on a line")
     ∷ (fault_name step.ClientTooLarge, codes "a client above 4294967295")
     ∷ (fault_name step.PartTooLarge, codes "a part above 11")
     ∷ [])
-    ++ part (codes "Devices") 17 (
-    (name_of Read ++ codes ", " ++ name_of_run (crew.Run run.Write), codes "standard input or output failed")
+    ++ section (codes "Devices") 17 (
+    (name_of Read ++ codes ", " ++ name_of_run run.Write, codes "standard input or output failed")
     ∷ (name_of Memory, codes "memory was refused")
-    ∷ (name_of_run crew.Spawn, codes "a thread was refused")
+    ∷ (codes "Spawn", codes "a thread was refused")
     ∷ [])
     ++ text_line (codes "Example:") ++ text_line (codes "  moc cell 3") ++ text_line (codes "tells")
     ++ codes "  " ++ line_of (name_of_cell cell.NotUniq)

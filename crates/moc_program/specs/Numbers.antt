@@ -1,5 +1,6 @@
 -- The lines of converted numbers.
-use Rattle.std.specs.Prelude.{◌≡◌, ◌⊎◌, ℕ, ◌<◌, ◌≤◌, false, List, [], ◌∷◌, ◌++◌, decimal}
+use Rattle.std.specs.Prelude.{◌≡◌, ◌⊎◌, ℕ, ◌<◌, ◌≤◌, false, List, [], ◌∷◌, ◌++◌, codes, decimal}
+use Rattle.std.specs.List.{join_by}
 use Rattle.moc_sphere.specs.CellNumber.{CellNumber, IsCell, cell_count, cell_number, is_uniq, uniq_of}
 use Rattle.moc_sphere.specs.Rings.{ring_number}
 use Rattle.moc_sphere.specs.Touching.{touching_cells}
@@ -10,15 +11,9 @@ use Rattle.moc_program.specs.declared.action.Number.TheVariants.{Ring, Nest, Uni
 use Rattle.moc_program.specs.declared.status.Fault.{Fault}
 use Rattle.moc_program.specs.declared.status.Fault.TheVariants as told
 
--- numbers behind others, each behind a blank
-abbrev pub spaced : List ℕ → List ℕ
-spaced [] = []
-spaced (n ∷ ns) = 32 ∷ decimal n ++ spaced ns
-
 -- numbers with a blank between any two
-abbrev pub list_of : List ℕ → List ℕ
-list_of [] = []
-list_of (n ∷ ns) = decimal n ++ spaced ns
+abbrev pub number_list : List ℕ → List ℕ
+number_list numbers = join_by decimal (codes " ") numbers
 
 -- the line that answers a number: the ring, nested or NUNIQ number of the cell that it is of, that cell, or the cells
 -- that touch it
@@ -33,7 +28,7 @@ IsNumberLine (Cell uniq) line =
     (cell : CellNumber) × IsCell cell × (uniq_of cell ≡ uniq)
     × (line ≡ decimal cell.order ++ 47 ∷ decimal cell.index ++ 10 ∷ [])
 IsNumberLine (Near order cell) line =
-    (cell < cell_count order) × (line ≡ list_of (touching_cells order cell) ++ 10 ∷ [])
+    (cell < cell_count order) × (line ≡ number_list (touching_cells order cell) ++ 10 ∷ [])
 
 -- what a number is refused for that no cell has
 abbrev pub IsNumberFault : Number → CellError → Type 0

@@ -6,14 +6,13 @@ use Rattle.clap.specs.declared.error.kind.ErrorKind.{ErrorKind}
 use Rattle.clap.specs.declared.error.kind.ErrorKind.TheVariants.{DisplayHelp, DisplayVersion, OutOfMemory}
 use Rattle.moc_command_line.specs.CommandLine.{IsCommandLine}
 use Rattle.moc_lines.specs.declared.run_error.RunError.TheVariants as run
-use Rattle.moc_script.specs.declared.crew_error.CrewError.TheVariants as crew
 use Rattle.moc_conversion.specs.declared.fault.Fault.TheVariants as refused
-use Rattle.moc_program.specs.Actions.{Ends}
+use Rattle.moc_program.specs.Actions.{ActionEnds}
 use Rattle.moc_program.specs.Asking.{AskFor}
 use Rattle.moc_program.specs.Statuses.{code_of, fault_text, status_of}
 use Rattle.moc_program.specs.declared.action.Action.{Action}
 use Rattle.moc_program.specs.declared.status.Fault.{Fault}
-use Rattle.moc_program.specs.declared.status.Fault.TheVariants.{Input, Run, Write, Memory}
+use Rattle.moc_program.specs.declared.status.Fault.TheVariants.{Input, Lines, Write, Memory}
 
 -- a mistake in the words: neither help nor want of memory
 pub record IsMistake (kind : ErrorKind) : Type 0 where
@@ -46,8 +45,7 @@ pub record AreMistaken (words : List Text) : Type 0 where
 -- a device of which a fault tells that it failed has failed: the input, the output
 abbrev pub BlamesFailed : Bool → Bool → Fault → Type 0
 BlamesFailed input output (Input c) = c.fault ≡ refused.Read → IsTrue input
-BlamesFailed input output (Run error) =
-    (error ≡ crew.Run run.Read → IsTrue input) × (error ≡ crew.Run run.Write → IsTrue output)
+BlamesFailed input output (Lines error) = (error ≡ run.Read → IsTrue input) × (error ≡ run.Write → IsTrue output)
 BlamesFailed input output Write = IsTrue output
 BlamesFailed input output _ = Unit {0}
 
@@ -57,7 +55,7 @@ abbrev pub EndWith :
     List Text → Option (List ℕ) → Option (List ℕ) → Option (List ℕ) → Option (List ℕ) → Fault → Type 0
 EndWith words left left' w w' fault =
     ((fault ≡ Memory) × Keeps w w') ⊎ (AskForHelp words × (fault ≡ Write))
-    ⊎ ((action : Action) × AskFor words action × Ends action left left' w w' (Err fault))
+    ⊎ ((action : Action) × AskFor words action × ActionEnds action left left' w w' (Err fault))
 
 -- a fault of which this holds, and which has this status, is told
 abbrev pub TellsFaultOf : ℕ → (Fault → Type 0) → Option (List ℕ) → Option (List ℕ) → Type 0

@@ -3,13 +3,14 @@ use Rattle.std.specs.Prelude.{ℕ, List, codes}
 use Rattle.moc_sphere.specs.declared.cell.CellError.{CellError}
 use Rattle.moc_sphere.specs.declared.cell.CellError.TheVariants.{CellTooLarge, NotUniq, OutOfFace, RingTooLarge}
 use Rattle.moc_lines.specs.declared.run_error.RunError.TheVariants as run
+use Rattle.moc_lines.specs.declared.run_error.RunError.{RunError}
 use Rattle.moc_script.specs.declared.crew_error.CrewError.{CrewError}
 use Rattle.moc_script.specs.declared.crew_error.CrewError.TheVariants as crew
 use Rattle.moc_conversion.specs.Faults.{complaint_text, line_of}
 use Rattle.moc_conversion.specs.declared.fault.Fault as input
 use Rattle.moc_conversion.specs.declared.fault.Fault.TheVariants as refused
 use Rattle.moc_program.specs.declared.status.Fault.{Fault}
-use Rattle.moc_program.specs.declared.status.Fault.TheVariants.{Input, Number, Run, Write, Memory}
+use Rattle.moc_program.specs.declared.status.Fault.TheVariants.{Input, Number, Lines, Spawn, Write, Memory}
 use Rattle.moc_program.specs.declared.status.Status.{Status}
 use Rattle.moc_program.specs.declared.status.Status.TheVariants.{Done, Refused, BadWords, Broken}
 
@@ -26,12 +27,17 @@ status_of_input refused.Read = Broken
 status_of_input refused.Memory = Broken
 status_of_input _ = Refused
 
+-- the fault of a crew that ended early
+abbrev pub fault_of_crew : CrewError → Fault
+fault_of_crew (crew.Run error) = Lines error
+fault_of_crew crew.Spawn = Spawn
+
 -- how the program ends with a fault: a device that failed, and memory or a thread that were refused, break it, and all
 -- else is refused
 abbrev pub status_of : Fault → Status
 status_of (Input c) = status_of_input c.fault
 status_of (Number e) = Refused
-status_of (Run (crew.Run (run.LineTooLong line))) = Refused
+status_of (Lines (run.LineTooLong line)) = Refused
 status_of _ = Broken
 
 -- the name of the fault of a number that no cell has
@@ -41,18 +47,18 @@ name_of_cell NotUniq = codes "NotUniq"
 name_of_cell OutOfFace = codes "OutOfFace"
 name_of_cell RingTooLarge = codes "RingTooLarge"
 
--- the name of the fault of a run or a crew that ended early
-abbrev pub name_of_run : CrewError → List ℕ
-name_of_run (crew.Run run.Read) = codes "Read"
-name_of_run (crew.Run run.Write) = codes "Write"
-name_of_run (crew.Run (run.LineTooLong line)) = codes "LineTooLong"
-name_of_run (crew.Run (run.Memory line)) = codes "Memory"
-name_of_run crew.Spawn = codes "Spawn"
+-- the name of the fault of a run that ended early
+abbrev pub name_of_run : RunError → List ℕ
+name_of_run run.Read = codes "Read"
+name_of_run run.Write = codes "Write"
+name_of_run (run.LineTooLong line) = codes "LineTooLong"
+name_of_run (run.Memory line) = codes "Memory"
 
 -- what tells a fault: a complaint of the input, or a line
 abbrev pub fault_text : Fault → List ℕ
 fault_text (Input c) = complaint_text c
 fault_text (Number e) = line_of (name_of_cell e)
-fault_text (Run e) = line_of (name_of_run e)
+fault_text (Lines e) = line_of (name_of_run e)
+fault_text Spawn = line_of (codes "Spawn")
 fault_text Write = line_of (codes "Write")
 fault_text Memory = line_of (codes "Memory")

@@ -3,6 +3,10 @@
 
 mod action;
 mod dispatch;
+mod explaining;
+mod number_lines;
+mod performing;
+mod printing;
 mod status;
 
 pub use dispatch::{program, refuse_words};

@@ -1,10 +1,10 @@
 //! How the program ends, and what it says of that.
-ghost use Rattle.std.specs.Prelude.{◌≡◌, OnOk, false, is_err};
+ghost use Rattle.std.specs.Prelude.{◌≡◌, IfErr, OnOk, false, is_err};
 ghost use Rattle.std.specs.Io.KnownBytes.{Appends};
 ghost use Rattle.moc_conversion.specs.Faults.{line_of};
-ghost use Rattle.moc_program.specs.Statuses.{code_of, fault_text, name_of_cell, name_of_run, status_of};
-ghost use Rattle.moc_program.specs.Statuses.{status_of_input};
-ghost use Rattle.moc_script.specs.declared.crew_error.CrewError.TheVariants as crew;
+ghost use Rattle.moc_program.specs.Statuses.{code_of, fault_of_crew, fault_text, name_of_cell, name_of_run};
+ghost use Rattle.moc_program.specs.Statuses.{status_of, status_of_input};
+ghost use Rattle.moc_program.specs.Private.Ending.{end_of};
 ghost use Rattle.moc_program.specs.declared.status.Fault.TheVariants as fault;
 
 use moc_conversion::{Complaint, Fault as InputFault};
@@ -41,8 +41,10 @@ pub enum Fault {
     Input(Complaint),
     /// A number is that of no cell.
     Number(CellError),
-    /// A script, a schedule, a list of numbers or a crew ended early.
-    Run(CrewError),
+    /// Lines of commands, steps or numbers were not all answered.
+    Lines(RunError),
+    /// A thread could not be started.
+    Spawn,
     /// The output could not be written.
     Write,
     /// Memory was refused.
@@ -56,10 +58,8 @@ impl Fault {
     {
         match self {
             Fault::Input(complaint) => input_status(complaint.fault),
-            Fault::Number(_) | Fault::Run(CrewError::Run(RunError::LineTooLong { .. })) => {
-                Status::Refused
-            }
-            Fault::Run(_) | Fault::Write | Fault::Memory => Status::Broken,
+            Fault::Number(_) | Fault::Lines(RunError::LineTooLong { .. }) => Status::Refused,
+            Fault::Lines(_) | Fault::Spawn | Fault::Write | Fault::Memory => Status::Broken,
         }
     }
 
@@ -72,12 +72,26 @@ impl Fault {
         let line = match self {
             Fault::Input(complaint) => return complaint.tell(faults),
             Fault::Number(error) => cell_line(*error),
-            Fault::Run(error) => run_line(*error),
+            Fault::Lines(error) => run_line(*error),
+            Fault::Spawn => "fault Spawn\n",
             Fault::Write => "fault Write\n",
             Fault::Memory => "fault Memory\n",
         };
         write_all(line.as_bytes(), faults)
     }
+}
+
+/// How the program ends with this outcome, after it has told a fault.
+pub(crate) fn ended<E: Sink>(outcome: Result<(), Fault>, faults: &mut E) -> Status
+    ensures end { result ≡ end_of outcome }
+    ensures told { E.mark faults.old ≡ false → E.mark faults.new ≡ false → IfErr outcome (λ fault.
+        Appends (E.written faults.old) (E.written faults.new) (fault_text fault)) }
+{
+    let Err(fault) = outcome else {
+        return Status::Done;
+    };
+    let _ = fault.tell(faults);
+    fault.status()
 }
 
 /// How the program ends where nothing was made of the input.
@@ -103,15 +117,14 @@ fn cell_line(error: CellError) -> &'static str
 }
 
 /// The line that tells why a run ended early.
-fn run_line(error: CrewError) -> &'static str
+fn run_line(error: RunError) -> &'static str
     ensures { result.now ≡ line_of (name_of_run error) }
 {
     match error {
-        CrewError::Run(RunError::Read) => "fault Read\n",
-        CrewError::Run(RunError::Write) => "fault Write\n",
-        CrewError::Run(RunError::LineTooLong { .. }) => "fault LineTooLong\n",
-        CrewError::Run(RunError::Memory { .. }) => "fault Memory\n",
-        CrewError::Spawn => "fault Spawn\n",
+        RunError::Read => "fault Read\n",
+        RunError::Write => "fault Write\n",
+        RunError::LineTooLong { .. } => "fault LineTooLong\n",
+        RunError::Memory { .. } => "fault Memory\n",
     }
 }
 
@@ -132,18 +145,21 @@ impl From<CellError> for Fault {
 }
 
 impl From<RunError> for Fault {
-    ghost from_gives = { λ error f. f ≡ fault.Run (crew.Run error) };
+    ghost from_gives = { λ error f. f ≡ fault.Lines error };
 
     fn from(error: RunError) -> Fault {
-        Fault::Run(CrewError::Run(error))
+        Fault::Lines(error)
     }
 }
 
 impl From<CrewError> for Fault {
-    ghost from_gives = { λ error f. f ≡ fault.Run error };
+    ghost from_gives = { λ error f. f ≡ fault_of_crew error };
 
     fn from(error: CrewError) -> Fault {
-        Fault::Run(error)
+        match error {
+            CrewError::Run(error) => Fault::Lines(error),
+            CrewError::Spawn => Fault::Spawn,
+        }
     }
 }
 

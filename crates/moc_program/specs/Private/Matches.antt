@@ -4,7 +4,7 @@ use Rattle.std.specs.Io.KnownBytes.{Keeps}
 use Rattle.clap.specs.Words.{App, Row, Text, found_of, rows_of, subcommand_of, subcommand_rows_of}
 use Rattle.clap.specs.declared.parser.matches.ArgMatches.{ArgMatches}
 use Rattle.moc_command_line.specs.CommandLine.{IsCommandLine}
-use Rattle.moc_program.specs.Actions.{Ends}
+use Rattle.moc_program.specs.Actions.{ActionEnds}
 use Rattle.moc_program.specs.Asking.{Asks}
 use Rattle.moc_program.specs.declared.action.Action.{Action}
 use Rattle.moc_program.specs.declared.status.Fault.{Fault}
@@ -29,7 +29,7 @@ pub record AreReadAs (words : List Text) (matches : ArgMatches) : Type 0 where
 abbrev pub MatchedEnd : ArgMatches → Option (List ℕ) → Option (List ℕ) → Option (List ℕ) → Option (List ℕ)
     → Result (Unit {0}) Fault → Type 0
 MatchedEnd matches left left' w w' (Ok _) =
-    (action : Action) × IsAskedIn matches action × Ends action left left' w w' (Ok tt)
+    (action : Action) × IsAskedIn matches action × ActionEnds action left left' w w' (Ok tt)
 MatchedEnd matches left left' w w' (Err fault) =
     ((fault ≡ Memory) × Keeps w w')
-    ⊎ ((action : Action) × IsAskedIn matches action × Ends action left left' w w' (Err fault))
+    ⊎ ((action : Action) × IsAskedIn matches action × ActionEnds action left left' w w' (Err fault))

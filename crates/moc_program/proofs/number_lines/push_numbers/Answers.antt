@@ -2,9 +2,8 @@
 use Rattle.std.proofs.Common.{◌≡◌, ◌∙◌, ◌++◌, ◌∷◌, ℕ, List, take, get_or, sym, ap, append_assoc}
 use Rattle.std.specs.Prelude.{decimal}
 use Rattle.std.specs.String.{string_bytes}
-use Rattle.moc_program.specs.Numbers.{spaced}
-use Rattle.moc_program.proofs.NumberLines.{spaced_more}
-use Rattle.moc_program.proofs.dispatch.push_numbers.Goals as goal
+use Rattle.moc_program.proofs.NumberLines.{spaced, spaced_more}
+use Rattle.moc_program.proofs.number_lines.push_numbers.Goals as goal
 
 pub loop-number-preserved : goal.loop-number-preserved
 loop-number-preserved c =

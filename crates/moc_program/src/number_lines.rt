@@ -1,0 +1,86 @@
+//! The lines of converted numbers.
+ghost use Rattle.std.specs.Prelude.{◌≡◌, ◌++◌, ◌∷◌, [], false, IfErr, IfOk, IsErrOf, IsTrue, OnOk};
+ghost use Rattle.std.specs.String.{string_bytes};
+ghost use Rattle.moc_sphere.specs.Touching.{touching_cells};
+ghost use Rattle.moc_program.specs.Actions.{WritesText};
+ghost use Rattle.moc_program.specs.Numbers.{IsNumberFault, IsNumberLine, IsNumberRefusal, number_list};
+ghost use Rattle.moc_program.specs.Private.Ending.{end_of};
+ghost use Rattle.moc_program.specs.Private.NumberCells.{IsCellOf};
+
+use crate::action::Number;
+use crate::printing::printed;
+use crate::status::{Fault, Status};
+use moc_script::Sink;
+use moc_sphere::{Cell, CellError};
+use std::alloc::{AllocError, Global};
+use std::fmt::Write;
+
+/// Writes the line of a converted number.
+#[tactic(auto, using(crate::proofs::Writing::sent_writes))]
+pub(crate) fn numbered<W: Sink>(alloc: Global, number: Number, output: &mut W) -> Result<(), Fault>
+    requires { W.mark output.old ≡ false }
+    ensures ends { WritesText (IsNumberLine number) (IsNumberRefusal number)
+        (W.written output.old) (W.written output.new) result }
+    ensures flushed { OnOk result (IsTrue (W.flushed output.new)) }
+    ensures write { IsErrOf result Fault.Write → IsTrue (W.mark output.new) }
+    ensures output { IsTrue (W.mark output.new) → end_of result ≡ Status.Broken }
+{
+    let line = number_line(alloc, number)?;
+    printed(line.as_str(), output)
+}
+
+/// The line of a converted number.
+fn number_line(alloc: Global, number: Number) -> Result<String, Fault>
+    ensures line { IfOk result (λ text. IsNumberLine number (string_bytes text)) }
+    ensures fault { IfErr result (IsNumberRefusal number) }
+{
+    let cell = cell_of(number)?;
+    let text = match number {
+        Number::Ring(..) => format!(in alloc; "{}\n", cell.ring()),
+        Number::Nest(..) => format!(in alloc; "{}\n", cell.index()),
+        Number::Uniq(..) => format!(in alloc; "{}\n", cell.uniq()),
+        Number::Near(..) => near_line(alloc, cell),
+        Number::Cell(_) => format!(in alloc; "{cell}\n"),
+    };
+    Ok(text?)
+}
+
+/// The cell that a number is of.
+fn cell_of(number: Number) -> Result<Cell, CellError>
+    ensures cell { IfOk result (λ cell. IsCellOf number cell) }
+    ensures fault { IfErr result (λ error. IsNumberFault number error) }
+{
+    match number {
+        Number::Ring(order, index) | Number::Uniq(order, index) | Number::Near(order, index) => {
+            Cell::new(order, index)
+        }
+        Number::Nest(order, ring) => Cell::from_ring(order, ring),
+        Number::Cell(uniq) => Cell::from_uniq(uniq),
+    }
+}
+
+/// The line of the cells that touch a cell.
+fn near_line(alloc: Global, cell: Cell) -> Result<String, AllocError>
+    ensures { IfOk result (λ text. string_bytes text ≡ number_list (touching_cells cell.order cell.index) ++ 10 ∷ []) }
+{
+    let mut line = String::new(alloc);
+    push_numbers(cell.touching(alloc).as_slice(), &mut line)?;
+    line.push('\n')?;
+    Ok(line)
+}
+
+/// Puts numbers on an empty line, with a blank between any two.
+#[tactic(auto, using(crate::proofs::NumberLines::spaced_more, crate::proofs::NumberLines::spaced_all))]
+fn push_numbers(numbers: &[u64], line: &mut String) -> Result<(), AllocError>
+    requires { string_bytes line.old ≡ [] }
+    ensures { OnOk result (string_bytes line.new ≡ number_list numbers.now) }
+{
+    let Some((first, others)) = numbers.split_first() else {
+        return Ok(());
+    };
+    write!(line, "{first}")?;
+    for number in others {
+        write!(line, " {number}")?;
+    }
+    Ok(())
+}
