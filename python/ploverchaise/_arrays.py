@@ -98,6 +98,11 @@ class PlainArray(Array):
         found = [[number for number in self.numbers[at:at + self.width] if number != NO_NUMBER] for at in starts]
         return found[0] if self.is_one else found
 
+    def columns(self):
+        """The first of each row, the second of each, and so on, with -1 where nothing stands."""
+        numbers = [-1 if number == NO_NUMBER else number for number in self.numbers]
+        return numbers if self.is_one else [numbers[at::self.width] for at in range(self.width)]
+
 
 class NumpyArray(Array):
     """A numpy array, whose answers have its shape. Numbers with a sign go as they are: -1 as the greatest one without a sign, and back."""
@@ -165,6 +170,12 @@ class NumpyArray(Array):
     def rows(self):
         """The rows, with -1 where nothing stands."""
         return self.numbers.view("int64").reshape(*self.shape, self.width)
+
+    def columns(self):
+        """The first of each row, the second of each, and so on, as one array."""
+        import numpy
+
+        return numpy.moveaxis(self.rows(), -1, 0)
 
 
 def numbers_of(given: Numbers) -> PlainArray | NumpyArray:

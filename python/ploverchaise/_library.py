@@ -73,6 +73,7 @@ NUMBER_CALLS = {
     "nest_to_ring": (_ORDER, *_ARRAY, *_ARRAY), "ring_to_nest": (_ORDER, *_ARRAY, *_ARRAY),
     "nest_to_uniq": (_ORDER, *_ARRAY, *_ARRAY), "uniq_to_nest": (*_ARRAY, *_ARRAY, *_ARRAY),
     "nest_to_face_xy": (_ORDER, *_ARRAY, *_ARRAY, *_ARRAY, *_ARRAY), "touching": (_ORDER, *_ARRAY, *_ARRAY),
+    "neighbours": (_ORDER, *_ARRAY, *_ARRAY),
 }
 
 

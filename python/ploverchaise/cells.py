@@ -67,10 +67,22 @@ def pix2xyf(nside: int, ipix: Numbers):
 def neighbours(ipix: Numbers, depth: int):
     """The cells that touch a cell of this order, in a corner or along a side, by rising nested numbers: six to eight.
 
-    Of an array of cells, a row of eight for each, with -1 behind the last; of a list, a list for each. healpy and cdshealpix put them by
-    direction, and cdshealpix the cell itself in their middle. MocError `NoSuchOrder`, or `NoSuchCell` with the place of the first that is
-    no cell."""
+    Of an array of cells, a row of eight for each, with -1 behind the last; of a list, a list for each. cdshealpix puts them in another
+    sequence, with the cell itself in their middle; `get_all_neighbours` has them by direction. MocError `NoSuchOrder`, or `NoSuchCell`
+    with the place of the first that is no cell."""
     given = numbers_of(ipix)
     made = given.room(width=8)
     on_numbers("touching", order_byte(depth), given, made)
     return made.rows()
+
+
+def get_all_neighbours(nside: int, ipix: Numbers):
+    """The neighbours of nested numbers by direction (healpy's call with nest=True): to the south-west, west, north-west, north, north-east,
+    east, south-east and south, with -1 where there is none.
+
+    Of one cell eight numbers; of an array or a list eight of these, each with the neighbours of all cells in one direction. MocError
+    `NoSuchCell` with the place of the first that is no cell."""
+    given = numbers_of(ipix)
+    made = given.room(width=8)
+    on_numbers("neighbours", nside2order(nside), given, made)
+    return made.columns()

@@ -295,6 +295,17 @@ static void numbers(void)
     REFUSED(moc_touching(30, cells, 2, touching, 2), MOC_NO_SUCH_ORDER, 30);
     REFUSED(moc_touching(1, cells, 2, touching, 1), MOC_LENGTHS_DIFFER, 0);
     REFUSED(moc_touching(0, eighteen, 1, touching, 1), MOC_NO_SUCH_CELL, 0);
+
+    /* As healpy 1.16 has them. */
+    const uint64_t four[] = {11, 7, 3, UINT64_MAX, 0, 5, 8, UINT64_MAX}, zero[] = {4, UINT64_MAX, 3, 2, 1, UINT64_MAX, 5, 8};
+    TELLS(moc_neighbours(0, two, 2, touching, 2), 0);
+    CHECK(memcmp(touching[0], zero, sizeof zero) == 0 && memcmp(touching[1], four, sizeof four) == 0);
+    const uint64_t inside[] = {2, 8, 9, 12, 6, 4, 1, 0}, three[] = {3};
+    TELLS(moc_neighbours(2, three, 1, touching, 1), 0);
+    CHECK(memcmp(touching[0], inside, sizeof inside) == 0);
+    REFUSED(moc_neighbours(30, cells, 2, touching, 2), MOC_NO_SUCH_ORDER, 30);
+    REFUSED(moc_neighbours(1, cells, 2, touching, 1), MOC_LENGTHS_DIFFER, 0);
+    REFUSED(moc_neighbours(0, eighteen, 1, touching, 1), MOC_NO_SUCH_CELL, 0);
 }
 
 static void keys(void)

@@ -151,6 +151,8 @@ static void without_arrays(void)
     NULL_AT(7, moc_nest_to_face_xy(0, at.cells, 1, at.faces, 1, at.xs, 1, NULL, 1));
     NULL_AT(1, moc_touching(0, NULL, 1, at.rows, 1));
     NULL_AT(3, moc_touching(0, at.cells, 1, NULL, 1));
+    NULL_AT(1, moc_neighbours(0, NULL, 1, at.rows, 1));
+    NULL_AT(3, moc_neighbours(0, at.cells, 1, NULL, 1));
     NULL_AT(1, moc_map_apply(&seat, NULL, 1));
     NULL_AT(1, moc_map_answer(&seat, NULL, 1));
 }
@@ -195,6 +197,8 @@ static void not_aligned(void *askew)
     ASKEW_AT(1, moc_nest_to_face_xy(0, askew, 1, at.faces, 1, at.xs, 1, at.ys, 1));
     ASKEW_AT(1, moc_touching(0, askew, 1, at.rows, 1));
     ASKEW_AT(3, moc_touching(0, at.cells, 1, askew, 1));
+    ASKEW_AT(1, moc_neighbours(0, askew, 1, at.rows, 1));
+    ASKEW_AT(3, moc_neighbours(0, at.cells, 1, askew, 1));
 
     /* Before all that is wrong but a null pointer, and the first of them. */
     ASKEW_AT(2, moc_from_cells(&desk, 30, askew, 1));
@@ -298,6 +302,12 @@ static void written_over_arrays(void)
     OVERLAP_AT(1, 3, moc_touching(1, words + 23, 2, rows + 1, 2));
     APART(moc_touching(1, words + 6, 2, rows + 1, 2));
     APART(moc_touching(1, words + 24, 2, rows + 1, 2));
+
+    OVERLAP_AT(1, 3, moc_neighbours(1, words + 8, 1, rows + 1, 1));
+    OVERLAP_AT(1, 3, moc_neighbours(1, words + 7, 2, rows + 1, 2));
+    OVERLAP_AT(1, 3, moc_neighbours(1, words + 23, 2, rows + 1, 2));
+    APART(moc_neighbours(1, words + 6, 2, rows + 1, 2));
+    APART(moc_neighbours(1, words + 24, 2, rows + 1, 2));
 }
 
 /* A desk or a seat is written as well: arrays over it, and beside it. */
@@ -425,6 +435,8 @@ static void empty_arrays(void)
     NONE_AT(7, moc_nest_to_face_xy(0, at.cells, 0, at.faces, 0, at.xs, 0, NULL, 0), MOC_DONE, 0, 0);
     NONE_AT(1, moc_touching(0, NULL, 0, at.rows, 0), MOC_DONE, 0, 0);
     NONE_AT(3, moc_touching(0, at.cells, 0, NULL, 0), MOC_DONE, 0, 0);
+    NONE_AT(1, moc_neighbours(0, NULL, 0, at.rows, 0), MOC_DONE, 0, 0);
+    NONE_AT(3, moc_neighbours(0, at.cells, 0, NULL, 0), MOC_DONE, 0, 0);
     CHECK(is(moc_touching(0, at.cells, 1, NULL, 0), MOC_LENGTHS_DIFFER, 0, 0));
     CHECK(is(moc_nest_to_ring(30, NULL, 0, NULL, 0), MOC_NO_SUCH_ORDER, 30, 0));
 

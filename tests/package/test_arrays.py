@@ -2,7 +2,7 @@
 import sys
 import unittest
 
-from ploverchaise import MOC, _arrays, neighbours, nest2ring, nest2uniq, pix2xyf, ring2nest, uniq2nest
+from ploverchaise import MOC, _arrays, get_all_neighbours, neighbours, nest2ring, nest2uniq, pix2xyf, ring2nest, uniq2nest
 
 from .common import NUMBERS, PIXELS, TestCase, cells_in
 
@@ -76,6 +76,7 @@ class WithNumpy(TestCase):
         cells = numpy.arange(24).reshape(2, 3, 4)
         self.assertEqual(nest2ring(2, cells).shape, (2, 3, 4))
         self.assertEqual(neighbours(cells, 1).shape, (2, 3, 4, 8))
+        self.assertEqual(get_all_neighbours(2, cells).shape, (8, 2, 3, 4))
         self.assertEqual(MOC.full().contains(cells).shape, (2, 3, 4))
         self.assertEqual(nest2ring(2, cells.T)[3, 2, 1], nest2ring(2, 23))
         one = nest2ring(2, numpy.int64(3))
@@ -84,6 +85,9 @@ class WithNumpy(TestCase):
 
     def test_neighbours_that_are_not_there(self):
         self.assertArray(neighbours(numpy.array([0, 1]), 1), [[1, 2, 3, 17, 19, 22, 23, 35], [0, 2, 3, 6, 7, 22, 23, -1]], "int64")
+        self.assertArray(get_all_neighbours(2, numpy.int64(1)), [0, 2, 3, 7, 6, -1, 23, 22], "int64")
+        self.assertArray(get_all_neighbours(1, numpy.array([0, 4])), list(zip(
+            [4, -1, 3, 2, 1, -1, 5, 8], [11, 7, 3, -1, 0, 5, 8, -1])), "int64")
 
     def test_pairs_and_triples(self):
         cells = numpy.array(cells_in(20, 500))
@@ -96,6 +100,7 @@ class WithNumpy(TestCase):
     def test_faults_have_their_places(self):
         self.assertFault("NoSuchCell", (1,), nest2ring, 2, numpy.array([0, -1, 48]))
         self.assertFault("NoSuchCell", (3,), neighbours, numpy.array([[0, 1], [2, 48]]), 1)
+        self.assertFault("NoSuchCell", (1,), get_all_neighbours, 2, numpy.array([0, 48]))
         self.assertFault("NotUniq", (0,), uniq2nest, numpy.array([2**63], "uint64"))
         self.assertFault("Backwards", (1,), MOC.from_ranges, numpy.array([[0, 1], [3, 2]]))
         self.assertFault("PixelTooLarge", (0,), MOC.from_ranges, numpy.array([[0, -1]]))

@@ -1,7 +1,7 @@
 """Numbers of cells: worked values, the definitions of Górski and others (2005), and healpy where it is installed."""
 import unittest
 
-from ploverchaise import neighbours, nest2ring, nest2uniq, nside2order, order2nside, pix2xyf, ring2nest, uniq2nest
+from ploverchaise import get_all_neighbours, neighbours, nest2ring, nest2uniq, nside2order, order2nside, pix2xyf, ring2nest, uniq2nest
 
 from .common import PIXELS, TestCase, cells_in
 
@@ -56,6 +56,13 @@ class Worked(TestCase):
         self.assertEqual(neighbours(3, 2), [0, 1, 2, 4, 6, 8, 9, 12])
         self.assertEqual(neighbours([], 5), [])
 
+    def test_neighbours_by_direction(self):
+        # (as healpy 1.16 has them)
+        self.assertEqual(get_all_neighbours(1, 0), [4, -1, 3, 2, 1, -1, 5, 8])
+        self.assertEqual(get_all_neighbours(2, [32, 47]), [[44, 46], [45, 28], [34, 29], [35, 12], [33, 18], [38, 16], [36, 45], [40, 44]])
+        self.assertEqual(get_all_neighbours(4, 3), [2, 8, 9, 12, 6, 4, 1, 0])
+        self.assertEqual(get_all_neighbours(4, []), [[]] * 8)
+
     def test_sides(self):
         for order in range(30):
             self.assertEqual((order2nside(order), nside2order(2**order)), (2**order, order))
@@ -103,6 +110,12 @@ class Defined(TestCase):
             # (eight points of the sphere are corners of three cells alone)
             self.assertEqual([len(row) for row in rows].count(8), 12 * 4**order - 24 if order else 0)
 
+    def test_directions_lead_to_what_touches(self):
+        for order in range(30):
+            cells = cells_in(order, 200)
+            rows = zip(*get_all_neighbours(2**order, cells))
+            self.assertEqual([sorted(cell for cell in row if cell >= 0) for row in rows], neighbours(cells, order))
+
 
 @unittest.skipUnless(healpy, "healpy is not installed")
 class BesideHealpy(TestCase):
@@ -122,3 +135,8 @@ class BesideHealpy(TestCase):
             cells = numpy.array(cells_in(order, 5_000))
             ours = numpy.sort(neighbours(cells, order), axis=1)
             numpy.testing.assert_array_equal(ours, numpy.sort(healpy.get_all_neighbours(2**order, cells, nest=True).T, axis=1))
+
+    def test_neighbours_by_direction(self):
+        for order in range(30):
+            nside, cells = 2**order, numpy.array(cells_in(order, 5_000))
+            numpy.testing.assert_array_equal(get_all_neighbours(nside, cells), healpy.get_all_neighbours(nside, cells, nest=True))

@@ -115,7 +115,7 @@ class WrongArguments(TestCase):
 
     def test_lengths_that_differ(self):
         one, two, room = numbers(0), numbers(0, 0), numbers(*[0] * 16)
-        for name in ("nest_to_ring", "ring_to_nest", "nest_to_uniq", "touching"):
+        for name in ("nest_to_ring", "ring_to_nest", "nest_to_uniq", "touching", "neighbours"):
             for given, length in ((two, 1), (one, 2), (one, 0)):
                 self.assertEqual(self.call(name, 1, given, len(given), room, length), (LENGTHS_DIFFER, 0, 0), name)
         for lengths in ((0, 1), (1, 0), (2, 1), (1, 2)):
@@ -140,7 +140,7 @@ class WrongArguments(TestCase):
 
     def test_nothing_is_right(self):
         none = numbers()
-        for name in ("nest_to_ring", "ring_to_nest", "nest_to_uniq", "touching"):
+        for name in ("nest_to_ring", "ring_to_nest", "nest_to_uniq", "touching", "neighbours"):
             self.assertEqual(self.call(name, 1, none, 0, none, 0), (0, 0, 0))
         self.assertEqual(self.call("uniq_to_nest", none, 0, none, 0, none, 0), (0, 0, 0))
         empty = MOC()
@@ -164,7 +164,7 @@ class WrongArguments(TestCase):
 
     def test_pointers_that_are_not_aligned(self):
         askew = ctypes.addressof(room := numbers(0, 0)) + 1
-        for name in ("nest_to_ring", "ring_to_nest", "nest_to_uniq", "touching"):
+        for name in ("nest_to_ring", "ring_to_nest", "nest_to_uniq", "touching", "neighbours"):
             self.assertEqual(self.call(name, 1, askew, 1, numbers(*[0] * 8), 1), (MISALIGNED, 1, 0), name)
             self.assertEqual(self.call(name, 1, numbers(0), 1, askew, 1), (MISALIGNED, 3, 0), name)
         self.assertEqual(self.call("cells", self.moc._key, askew, 1), (MISALIGNED, 2, 0))
@@ -172,12 +172,12 @@ class WrongArguments(TestCase):
 
     def test_arrays_that_overlap(self):
         room = numbers(*[0] * 16)
-        for name in ("nest_to_ring", "ring_to_nest", "nest_to_uniq", "touching"):
+        for name in ("nest_to_ring", "ring_to_nest", "nest_to_uniq", "touching", "neighbours"):
             self.assertEqual(self.call(name, 1, room, 1, room, 1), (OVERLAP, 3, 0), name)
         self.assertEqual(self.call("contains_all", self.moc._key, room, 1, room, 1), (OVERLAP, 4, 0))
         self.assertEqual(list(room), [0] * 16)
 
     def test_numbers_that_no_cell_has(self):
         room = numbers(*[0] * 32)
-        for name in ("nest_to_ring", "ring_to_nest", "nest_to_uniq", "touching"):
+        for name in ("nest_to_ring", "ring_to_nest", "nest_to_uniq", "touching", "neighbours"):
             self.assertEqual(self.call(name, 1, numbers(0, 48, 49), 3, room, 3), (NO_SUCH_CELL, 1, 0))

@@ -3,7 +3,7 @@ import pickle
 import subprocess
 import sys
 
-from ploverchaise import MOC, MocError, neighbours, nest2ring, nest2uniq, pix2xyf, ring2nest, uniq2nest
+from ploverchaise import MOC, MocError, get_all_neighbours, neighbours, nest2ring, nest2uniq, pix2xyf, ring2nest, uniq2nest
 
 from .common import PIXELS, TestCase
 
@@ -63,7 +63,7 @@ class Faults(TestCase):
             MOC.from_healpix_cells([0, 1], [0])
 
     def test_numbers(self):
-        for call in (nest2ring, ring2nest, nest2uniq, pix2xyf):
+        for call in (nest2ring, ring2nest, nest2uniq, pix2xyf, get_all_neighbours):
             self.assertFault("NoSuchCell", (1,), call, 2, [47, 48, 0])
             self.assertFault("NoSuchCell", (0,), call, 2, -1)
             self.assertFault("NoSuchCell", (0,), call, 2**29, 2**70)

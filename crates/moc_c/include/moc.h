@@ -218,6 +218,9 @@ moc_outcome moc_nest_to_face_xy(uint8_t order, const uint64_t *cells, size_t cou
                                 size_t x_length, uint32_t *ys, size_t y_length);
 /* The cells that touch a cell, in a corner or along a side: a row of eight for each, rising, with UINT64_MAX behind the last. */
 moc_outcome moc_touching(uint8_t order, const uint64_t *cells, size_t count, uint64_t (*out)[8], size_t length);
+/* The same cells by direction, in healpy's order: south-west, west, north-west, north, north-east, east, south-east and south, with
+   UINT64_MAX where there is none. */
+moc_outcome moc_neighbours(uint8_t order, const uint64_t *cells, size_t count, uint64_t (*out)[8], size_t length);
 
 /* ---- A map that threads share: twelve parts, one for each base pixel, which up to 64 clients change and query at the same time. Each
    client sits on a seat of its own. */

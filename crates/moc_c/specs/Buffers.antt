@@ -7,7 +7,8 @@ use Rattle.std.specs.FinSet as set
 use Rattle.std.specs.List.{list_all, AllByRecursion}
 use Rattle.moc_sphere.specs.CellNumber.{CellNumber, cell_count, cell_number, is_uniq, IsCell, uniq_of}
 use Rattle.moc_sphere.specs.Rings.{ring_number}
-use Rattle.moc_sphere.specs.Touching.{touching_cells}
+use Rattle.moc_sphere.specs.Touching.{healpy_place, IsNeighbour, touching_cells}
+use Rattle.moc_sphere.specs.declared.direction.Direction.{Direction}
 use Rattle.moc_ranges.specs.Cells.{cells_of, pixels_of}
 use Rattle.moc_ranges.specs.Faults.{first_fault}
 use Rattle.moc_ranges.specs.Numbers.{NumberSet}
@@ -87,6 +88,20 @@ pub record IsPadded (xs row : List ℕ) : Type 0 where
 abbrev pub AreTouching : ℕ → List ℕ → List (List ℕ) → Type 0
 AreTouching order cells rows =
     EachIndex cells (λ k. IsPadded (touching_cells order (slice_index cells k)) (slice_index_or rows k []))
+
+-- a number tells the neighbour of cell i of order k in a direction: it is that cell, or the largest where there is none
+pub record TellsNeighbour (k i : ℕ) (d : Direction) (x : ℕ) : Type 0 where
+  pub found : (x ≡ 2 ^ 64 - 1) ⊎ IsNeighbour k d i x
+  pub only : (j : ℕ) → IsNeighbour k d i j → x ≡ j
+
+-- a row tells the neighbours of cell i of order k, each at the place that its direction has in healpy's order
+abbrev pub TellsNeighbours : ℕ → ℕ → List ℕ → Type 0
+TellsNeighbours k i row = (d : Direction) → TellsNeighbour k i d (slice_index row (healpy_place d))
+
+-- each row tells the neighbours of the cell at its place
+abbrev pub AreNeighbours : ℕ → List ℕ → List (List ℕ) → Type 0
+AreNeighbours order cells rows =
+    EachIndex cells (λ k. TellsNeighbours order (slice_index cells k) (slice_index_or rows k []))
 
 -- each answer is 1 where the set has the number at its place, and else 0
 abbrev pub AreContained : NumberSet → List ℕ → List ℕ → Type 0

@@ -2,8 +2,8 @@
 ghost use Rattle.std.specs.Prelude.{◌≡◌, ◌≤◌, ◌<◌, ◌∷◌, [], length};
 ghost use Rattle.std.specs.Option.{option_or};
 ghost use Rattle.moc_sphere.specs.Faces.{face_of, x_of, y_of};
-ghost use Rattle.moc_c.specs.Buffers.{AreCellsOf, AreRelated, AreTouching, done_unless, IsConverted, IsPadded};
-ghost use Rattle.moc_c.specs.Buffers.{lengths_fault, numbers_fault, uniqs_fault};
+ghost use Rattle.moc_c.specs.Buffers.{AreCellsOf, AreNeighbours, AreRelated, AreTouching, done_unless, IsConverted};
+ghost use Rattle.moc_c.specs.Buffers.{IsPadded, lengths_fault, numbers_fault, TellsNeighbours, uniqs_fault};
 ghost use Rattle.moc_c.specs.declared.conversion.Conversion.TheVariants.{NestToRing, NestToUniq, RingToNest};
 
 use crate::conversion::Conversion;
@@ -155,6 +155,41 @@ pub extern "C" fn moc_touching(
             return Outcome::of(Fault::NoSuchCell { at });
         };
         out[at] = padded(cell.touching(alloc).as_slice());
+    }
+    Outcome::done()
+}
+
+/// The numbers of the neighbours of a cell by direction, in healpy's order, with the largest number where none is.
+fn around(cell: Cell) -> [u64; 8]
+    ensures { TellsNeighbours cell.order cell.index result }
+{
+    let mut row = [u64::MAX; 8];
+    for (at, near) in cell.neighbours().iter().enumerate() {
+        if let Some(near) = near {
+            row[at] = near.index();
+        }
+    }
+    row
+}
+
+/// The neighbours of each cell of an order by direction, a row of eight for each: south-west, west, north-west, north,
+/// north-east, east, south-east and south, with the largest number where none is; as `moc_nest_to_ring`.
+#[unsafe(no_mangle)]
+pub extern "C" fn moc_neighbours(order: u8, cells: &[u64], out: &mut [[u64; 8]]) -> Outcome
+    ensures outcome { result ≡ done_unless (numbers_fault order cells.now (length out.old ∷ [])) }
+    ensures told { result.code ≡ 0 → AreNeighbours order cells.now out.new }
+{
+    let Some(order) = Order::new(order) else {
+        return Outcome::of(Fault::NoSuchOrder { order });
+    };
+    if cells.len() != out.len() {
+        return Outcome::of(Fault::LengthsDiffer);
+    }
+    for (at, index) in cells.iter().enumerate() {
+        let Ok(cell) = Cell::new(order, *index) else {
+            return Outcome::of(Fault::NoSuchCell { at });
+        };
+        out[at] = around(cell);
     }
     Outcome::done()
 }

@@ -105,8 +105,8 @@ fn neighbour_of(cell: Cell, from: Place, direction: Direction) -> Option<Cell>
     at_step(cell, from, direction.step())
 }
 
-/// The cell at a step from one, which has this place, if there is a cell. Steps are numbered row by row of nine, by x and
-/// then by y; step 4 leads to the cell itself.
+/// The cell at a step from one, which has this place, if there is a cell. Steps are numbered row by row of nine, by x
+/// and then by y; step 4 leads to the cell itself.
 fn at_step(cell: Cell, from: Place, step: u32) -> Option<Cell>
     requires face { from.face < 12 }
     requires place { IsAt cell from.face from.x from.y }
