@@ -1,117 +1,149 @@
 //! What is told of texts. Expected lines are worked out by hand from the texts.
+use crate::shown::is_shown;
 use moc_forms::{
-    Change, Choice, Figures, Form, FormError, NameError, Operation, Place, check, describe, draw,
+    Change, Choice, Figures, Form, FormError, NameError, Operation, Refusal, check, describe, draw,
     draw_two, examine, hint, hint_line, is_blank, place_line, quote,
 };
+use moc_ranges::Coverage;
 use moc_sphere::Order;
 use moc_text::{JsonError, TextError, UniqError};
 use std::alloc::Global;
 use std::fmt::Write;
 use std::process::Abort;
 use std::str::FromStr;
-use std::test::Fail;
 
-/// What is told of the place of a text's fault; nothing where it has none.
-fn told(alloc: Global, form: Form, text: &str) -> Result<String, Fail> {
+/// Checks what is told of a text.
+fn is(rt: &impl Abort, text: &str, seen: &str, told: &str) {
+    assert_eq!(rt; seen, told, "{text:?}");
+}
+
+/// Checks what is told of the place of a text's fault; nothing where it has none.
+fn is_placed(rt: &impl Abort, alloc: Global, form: Form, text: &str, told: &str) {
     let mut line = String::new(alloc);
     if let Err(refusal) = check(alloc, form, text.as_bytes())
         && let Some(place) = refusal.place
     {
-        write!(line, "{place}")?;
+        write!(line, "{place}").expect(rt, "memory");
     }
-    Ok(line)
+    is(rt, text, line.as_str(), told);
 }
 
 /// The figures of a text.
-fn figures(alloc: Global, form: Form, text: &str) -> Result<String, Fail> {
-    let (set, deepest) = form.read(alloc, text.as_bytes())?;
-    Ok(describe(alloc, &set, deepest)?)
+fn figures(rt: &impl Abort, alloc: Global, form: Form, text: &str) -> String {
+    let (set, deepest) = form.read(alloc, text.as_bytes()).expect(rt, "a text");
+    describe(alloc, &set, deepest).expect(rt, "memory")
 }
 
-/// In JSON, lines and columns are those of the byte at which `serde_json` gives up; an empty text has no column.
 #[test]
-fn places(rt: HostRuntime) -> Result<(), Fail> {
-    for (form, text, place) in [
-        (Form::Ascii, "1/0-3", ""),
-        (Form::Ascii, "", ""),
-        (Form::Ascii, "x", "byte 0, line 1, byte 0 of it"),
-        (Form::Ascii, "1/0-3\n2/7-5", "byte 8, line 2, byte 2 of it"),
-        (Form::Ascii, "1/0\n\n\n5", ""),
-        (Form::Ascii, "1/0\n\n\n99", "byte 6, line 4, byte 0 of it"),
-        (Form::Ascii, "1/0 30/", "byte 4, line 1, byte 4 of it"),
-        (Form::Ascii, "1/0\n5-", "byte 6, line 2, byte 2 of it"),
-        (Form::Json, "{\"1\":[0]}", ""),
-        (
-            Form::Json,
-            "{\"9\":[0,1,true],\"1\":[]}",
-            "order 9, number 2",
-        ),
-        (
-            Form::Json,
-            "{\"1\":[],\"10\":[5],\"2\":[0,192]}",
-            "order 2, number 1",
-        ),
-        (Form::Json, "{\"1\":[],\"007\":1}", "order 7"),
-        (Form::Json, "{\"0\":[],\"x\":[]}", "name 1"),
-        (Form::Json, "[]", ""),
-        (Form::Json, "{\"1\":[0,]}", "line 1, column 9"),
-        (Form::Json, "{\n\"1\":[0", "line 2, column 6"),
-        (Form::Json, "", "line 1, column 0"),
-        (Form::Uniq, "4\n\n5", ""),
-        (Form::Uniq, "4\n\n3\n", "line 3"),
-        (Form::Uniq, "4\nx", "line 2"),
+fn places_in_ascii(rt: HostRuntime) {
+    for (text, place) in [
+        ("1/0-3", ""),
+        ("", ""),
+        ("x", "byte 0, line 1, byte 0 of it"),
+        ("1/0-3\n2/7-5", "byte 8, line 2, byte 2 of it"),
+        ("1/0\n\n\n5", ""),
+        ("1/0\n\n\n99", "byte 6, line 4, byte 0 of it"),
+        ("1/0 30/", "byte 4, line 1, byte 4 of it"),
+        ("1/0\n5-", "byte 6, line 2, byte 2 of it"),
     ] {
-        let seen = told(rt.alloc(), form, text)?;
-        assert_eq!(&rt; seen.as_str(), place, "{text:?}");
+        is_placed(&rt, rt.alloc(), Form::Ascii, text, place);
     }
-    Ok(())
+}
+
+/// Lines and columns are those of the byte at which `serde_json` gives up; an empty text has no column.
+#[test]
+fn places_in_json(rt: HostRuntime) {
+    for (text, place) in [
+        ("{\"1\":[0]}", ""),
+        ("{\"9\":[0,1,true],\"1\":[]}", "order 9, number 2"),
+        ("{\"1\":[],\"10\":[5],\"2\":[0,192]}", "order 2, number 1"),
+        ("{\"1\":[],\"007\":1}", "order 7"),
+        ("{\"0\":[],\"x\":[]}", "name 1"),
+        ("[]", ""),
+        ("{\"1\":[0,]}", "line 1, column 9"),
+        ("{\n\"1\":[0", "line 2, column 6"),
+        ("", "line 1, column 0"),
+    ] {
+        is_placed(&rt, rt.alloc(), Form::Json, text, place);
+    }
+}
+
+#[test]
+fn places_in_lists(rt: HostRuntime) {
+    for (text, place) in [("4\n\n5", ""), ("4\n\n3\n", "line 3"), ("4\nx", "line 2")] {
+        is_placed(&rt, rt.alloc(), Form::Uniq, text, place);
+    }
 }
 
 #[test]
 fn texts_that_are_examined(rt: HostRuntime) {
-    let alloc = rt.alloc();
-    let (set, deepest) = examine(alloc, Form::Ascii, b"0/0 2/".as_slice()).expect(&rt, "a text");
+    let read = examine(rt.alloc(), Form::Ascii, b"0/0 2/".as_slice());
+    let (set, deepest) = read.expect(&rt, "a text");
     assert_eq!(&rt; set.count(), 1 << 58);
     assert_eq!(&rt; deepest, Order::new(2));
-    let Err(refusal) = examine(alloc, Form::Ascii, b"\n7".as_slice()) else {
-        panic!(&rt; "a cell without an order is taken")
-    };
-    let text = format!(in alloc; "{refusal}").expect(&rt, "memory");
-    assert_eq!(&rt; text.as_str(), "an item before any order, at 1");
-    for (number, place, quote, told) in [
-        (None, refusal.place, None, "byte 1, line 2, byte 0 of it\n"),
+}
+
+/// Why a text is refused whose first cell stands without an order.
+fn refusal_without_an_order(rt: &impl Abort, alloc: Global) -> Refusal {
+    let read = examine(alloc, Form::Ascii, b"\n7".as_slice());
+    read.err().expect(rt, "a refusal")
+}
+
+/// The line of the place of that fault, beside the number of the text and what is quoted of it.
+fn line_of(rt: &impl Abort, alloc: Global, number: Option<u64>, quote: Option<&str>) -> String {
+    let place = refusal_without_an_order(rt, alloc).place;
+    let line = place_line(alloc, number, place, quote).expect(rt, "memory");
+    line.expect(rt, "a line")
+}
+
+#[test]
+fn lines_of_places(rt: HostRuntime) {
+    let alloc = rt.alloc();
+    let refusal = refusal_without_an_order(&rt, alloc);
+    is_shown(&rt, alloc, &refusal, "an item before any order, at 1");
+    for (number, quote, told) in [
+        (None, None, "byte 1, line 2, byte 0 of it\n"),
         (
             Some(17),
-            refusal.place,
             Some("`7`"),
             "text 17, byte 1, line 2, byte 0 of it: `7`\n",
         ),
-        (Some(17), None, None, "text 17\n"),
-        (None, None, Some("`7`"), ""),
     ] {
-        let line = place_line(alloc, number, place, quote).expect(&rt, "memory");
-        let seen = match &line {
-            Some(line) => line.as_str(),
-            None => "",
-        };
-        assert_eq!(&rt; seen, told);
+        let line = line_of(&rt, alloc, number, quote);
+        assert_eq!(&rt; line.as_str(), told);
     }
+}
+
+#[test]
+fn lines_without_a_place(rt: HostRuntime) {
+    let alloc = rt.alloc();
+    let numbered = place_line(alloc, Some(17), None, None).expect(&rt, "memory");
+    assert_eq!(&rt; numbered.expect(&rt, "a line").as_str(), "text 17\n");
+    let quoted = place_line(alloc, None, None, Some("`7`")).expect(&rt, "memory");
+    assert!(&rt; quoted.is_none());
+}
+
+#[test]
+fn blank_texts(rt: HostRuntime) {
     assert!(&rt; is_blank(b" \t\r\n".as_slice()));
     assert!(&rt; !is_blank(b" ,".as_slice()));
 }
 
-/// What is quoted of a text that is refused; nothing where nothing is.
-fn quoted(alloc: Global, form: Form, text: &[u8]) -> Result<String, Fail> {
-    if let Err(refusal) = check(alloc, form, text)
-        && let Some(quote) = quote(alloc, text, refusal.error)?
-    {
-        return Ok(quote);
+/// Checks what is quoted of a text; nothing where it is not refused.
+fn is_quoted(rt: &impl Abort, alloc: Global, form: Form, text: &[u8], told: &str) {
+    let mut seen = None;
+    if let Err(refusal) = check(alloc, form, text) {
+        seen = quote(alloc, text, refusal.error).expect(rt, "memory");
     }
-    Ok(String::new(alloc))
+    let seen = match &seen {
+        Some(quote) => quote.as_str(),
+        None => "",
+    };
+    assert_eq!(rt; seen, told);
 }
 
 #[test]
-fn quotes(rt: HostRuntime) -> Result<(), Fail> {
+fn quotes(rt: HostRuntime) {
     for (form, text, told) in [
         (Form::Ascii, b"1/0-3".as_slice(), ""),
         (Form::Ascii, b"1/0,2/7-5\n3".as_slice(), "`2/7-5`"),
@@ -133,21 +165,20 @@ fn quotes(rt: HostRuntime) -> Result<(), Fail> {
         (Form::Json, b"{\"1\":[0,48]}".as_slice(), "`48`"),
         (Form::Json, b"[".as_slice(), ""),
     ] {
-        let seen = quoted(rt.alloc(), form, text)?;
-        assert_eq!(&rt; seen.as_str(), told);
+        is_quoted(&rt, rt.alloc(), form, text, told);
     }
-    let text = b"\n7".as_slice();
-    let Err(refusal) = check(rt.alloc(), Form::Ascii, text) else {
-        panic!(&rt; "a cell without an order is taken")
-    };
-    match refusal.line(rt.alloc(), Some(2), text)? {
-        Some(line) => assert_eq!(&rt;
-            line.as_str(),
-            "text 2, byte 1, line 2, byte 0 of it: `7`\n"
-        ),
-        None => panic!(&rt; "no line is told"),
-    }
-    Ok(())
+}
+
+#[test]
+fn a_line_with_all_of_it(rt: HostRuntime) {
+    let refusal = refusal_without_an_order(&rt, rt.alloc());
+    let line = refusal
+        .line(rt.alloc(), Some(2), b"\n7".as_slice())
+        .expect(&rt, "memory");
+    assert_eq!(&rt;
+        line.expect(&rt, "a line").as_str(),
+        "text 2, byte 1, line 2, byte 0 of it: `7`\n"
+    );
 }
 
 #[test]
@@ -161,12 +192,14 @@ fn forms_that_are_found(rt: HostRuntime) {
         ("uniq", "{", Form::Uniq),
         ("ascii", "{", Form::Ascii),
     ] {
-        let Ok(choice) = Choice::from_str(word) else {
-            panic!(&rt; "{word} is no choice")
-        };
+        let choice = Choice::from_str(word).expect(&rt, "a choice");
         assert_eq!(&rt; choice.form(text.as_bytes()), form, "{text:?}");
     }
     assert!(&rt; Choice::from_str("fits") == Err(NameError::NotForm));
+}
+
+#[test]
+fn hints(rt: HostRuntime) {
     for (form, text, told) in [
         (Form::Ascii, " {", "this looks like JSON\n"),
         (Form::Json, "s3/", "this looks like ASCII\n"),
@@ -179,7 +212,7 @@ fn forms_that_are_found(rt: HostRuntime) {
             Some(form) => hint_line(form),
             None => "",
         };
-        assert_eq!(&rt; seen, told, "{text:?}");
+        is(&rt, text, seen, told);
     }
 }
 
@@ -206,27 +239,29 @@ fn errors(rt: HostRuntime) {
     }
 }
 
+/// A text, read and written in a form, with order 2 as its deepest.
+fn rewritten(rt: &impl Abort, alloc: Global, form: Form, text: &str) -> String {
+    let (set, _) = form.read(alloc, text.as_bytes()).expect(rt, "a text");
+    form.write(alloc, &set, Order::new(2)).expect(rt, "memory")
+}
+
 #[test]
-fn forms(rt: HostRuntime) -> Result<(), Fail> {
+fn forms(rt: HostRuntime) {
     let alloc = rt.alloc();
     for (word, text) in [
         ("ascii", "1/0 2/\n"),
         ("json", "{\"1\":[0],\"2\":[]}\n"),
         ("uniq", "16\n"),
     ] {
-        let Ok(form) = Form::from_str(word) else {
-            panic!(&rt; "{word} is no form")
-        };
-        let (set, _) = form.read(alloc, text.as_bytes())?;
-        let written = form.write(alloc, &set, Order::new(2))?;
-        assert_eq!(&rt; written.as_str(), text);
+        let form = Form::from_str(word).expect(&rt, "a form");
+        let written = rewritten(&rt, alloc, form, text);
+        is(&rt, word, written.as_str(), text);
     }
     assert!(&rt; Form::from_str("fits") == Err(NameError::NotForm));
-    Ok(())
 }
 
 #[test]
-fn figures_of_sets(rt: HostRuntime) -> Result<(), Fail> {
+fn figures_of_sets(rt: HostRuntime) {
     let alloc = rt.alloc();
     for (form, text, lines) in [
         (
@@ -255,10 +290,9 @@ fn figures_of_sets(rt: HostRuntime) -> Result<(), Fail> {
             "deepest none\npixels 288230376151711744\nshare 0.083333333333\nranges 1\ncells 1\norder 0 1\n",
         ),
     ] {
-        let seen = figures(alloc, form, text)?;
-        assert_eq!(&rt; seen.as_str(), lines, "{text:?}");
+        let seen = figures(&rt, alloc, form, text);
+        is(&rt, text, seen.as_str(), lines);
     }
-    Ok(())
 }
 
 /// The figures of an ASCII text, as numbers.
@@ -278,16 +312,30 @@ fn figures_one_by_one(rt: HostRuntime) {
     }
 }
 
+/// What an ASCII text says, as if it had come in a form.
+fn said(rt: &impl Abort, alloc: Global, text: &str, form: Form) -> (Coverage, Option<Order>, Form) {
+    let (set, deepest) = Form::Ascii
+        .read(alloc, text.as_bytes())
+        .expect(rt, "a text");
+    (set, deepest, form)
+}
+
 /// The text of two texts that are joined by an operation.
-fn joined(alloc: Global, operation: &str, first: &str, second: &str) -> Result<String, Fail> {
-    let Ok(operation) = Operation::from_str(operation) else {
-        return Ok(String::new(alloc));
-    };
-    let (set, deepest) = Form::Ascii.read(alloc, first.as_bytes())?;
-    let before = operation.join(alloc, None, (set, deepest, Form::Ascii))?;
-    let (set, deepest) = Form::Ascii.read(alloc, second.as_bytes())?;
-    let (set, deepest, form) = operation.join(alloc, Some(before), (set, deepest, Form::Json))?;
-    Ok(form.write(alloc, &set, deepest)?)
+fn joined(
+    rt: &impl Abort,
+    alloc: Global,
+    operation: Operation,
+    first: &str,
+    second: &str,
+) -> String {
+    let first = said(rt, alloc, first, Form::Ascii);
+    let before = operation.join(alloc, None, first).expect(rt, "memory");
+    let second = said(rt, alloc, second, Form::Json);
+    let both = operation
+        .join(alloc, Some(before), second)
+        .expect(rt, "memory");
+    let (set, deepest, form) = both;
+    form.write(alloc, &set, deepest).expect(rt, "memory")
 }
 
 /// The text of what a change makes of a text that names order 3 as its deepest.
@@ -310,28 +358,31 @@ fn changes(rt: HostRuntime) {
 }
 
 #[test]
-fn operations(rt: HostRuntime) -> Result<(), Fail> {
-    let alloc = rt.alloc();
-    for (operation, text) in [
+fn operations(rt: HostRuntime) {
+    for (name, text) in [
         ("union", "0/0-1 2/32\n"),
         ("intersection", "1/3-4 2/20\n"),
         ("difference", "1/0-2 2/21-23\n"),
         ("symmetric", "1/0-2 6-7 2/21-23 32\n"),
-        ("minus", ""),
     ] {
-        let seen = joined(alloc, operation, "0/0 1/4-5", "1/3-4 6-7 2/20 32")?;
-        assert_eq!(&rt; seen.as_str(), text, "{operation}");
+        let operation = Operation::from_str(name).expect(&rt, "an operation");
+        let seen = joined(&rt, rt.alloc(), operation, "0/0 1/4-5", "1/3-4 6-7 2/20 32");
+        is(&rt, name, seen.as_str(), text);
     }
+    assert!(&rt; Operation::from_str("minus").is_err());
+}
+
+#[test]
+fn deepest_orders_of_both(rt: HostRuntime) {
     for (first, second, text) in [
         ("", "", "\n"),
         ("5/", "", "5/\n"),
         ("", "5/", "5/\n"),
         ("7/", "5/", "7/\n"),
     ] {
-        let seen = joined(alloc, "union", first, second)?;
+        let seen = joined(&rt, rt.alloc(), Operation::Union, first, second);
         assert_eq!(&rt; seen.as_str(), text, "{first} and {second}");
     }
-    Ok(())
 }
 
 /// What stands before the four paths of every picture: base pixel 4 lies at both edges, and its number stands at both.
@@ -380,20 +431,21 @@ const BEHIND: &str = "</g>
 ";
 
 /// The picture whose layers of one colour each have these diamonds, with a legend behind.
-fn picture(alloc: Global, layers: &[(&str, &str)], behind: &str) -> Result<String, Fail> {
-    let mut text = String::from_str(alloc, BEFORE)?;
+fn picture(rt: &impl Abort, alloc: Global, layers: &[(&str, &str)], behind: &str) -> String {
+    let mut text = String::from_str(alloc, BEFORE).expect(rt, "memory");
     for (colour, diamonds) in layers {
         write!(
             text,
             "<path fill=\"{colour}\" stroke=\"{colour}\" vector-effect=\"non-scaling-stroke\" d=\"{diamonds}\"/>\n"
-        )?;
+        )
+        .expect(rt, "memory");
     }
-    text.push_str(behind)?;
-    Ok(text)
+    text.push_str(behind).expect(rt, "memory");
+    text
 }
 
 /// The picture whose four shades, from the lightest, have these diamonds.
-fn shaded(alloc: Global, shades: [&str; 4]) -> Result<String, Fail> {
+fn shaded(rt: &impl Abort, alloc: Global, shades: [&str; 4]) -> String {
     let [first, second, third, fourth] = shades;
     let layers = [
         ("#6baed6", first),
@@ -401,68 +453,72 @@ fn shaded(alloc: Global, shades: [&str; 4]) -> Result<String, Fail> {
         ("#2171b5", third),
         ("#08306b", fourth),
     ];
-    picture(alloc, &layers, BEHIND)
+    picture(rt, alloc, &layers, BEHIND)
+}
+
+/// The picture of the set of a text.
+fn drawn(rt: &impl Abort, alloc: Global, text: &str) -> String {
+    let (set, _) = Form::Ascii
+        .read(alloc, text.as_bytes())
+        .expect(rt, "a text");
+    draw(alloc, &set).expect(rt, "memory")
+}
+
+/// Checks the shades of the picture of a text.
+fn is_drawn(rt: &impl Abort, alloc: Global, text: &str, shades: [&str; 4]) {
+    let seen = drawn(rt, alloc, text);
+    let wanted = shaded(rt, alloc, shades);
+    is(rt, text, seen.as_str(), wanted.as_str());
 }
 
 /// The diamonds are worked out by hand from the rows and columns of the cells.
 #[test]
-fn pictures(rt: HostRuntime) -> Result<(), Fail> {
-    for (text, shades) in [
-        ("", ["", "", "", ""]),
-        ("0/5", ["", "", "", "M256 128l128 128-128 128-128-128z"]),
+fn pictures_of_cells(rt: HostRuntime) {
+    for (text, diamonds) in [
+        ("", ""),
+        ("0/5", "M256 128l128 128-128 128-128-128z"),
         // A cell of order 1 at the seam is drawn at both edges.
         (
             "1/16",
-            [
-                "",
-                "",
-                "",
-                "M0 256l64 64-64 64-64-64zM1024 256l64 64-64 64-64-64z",
-            ],
-        ),
-        // A pixel is drawn as its cell of order 7.
-        ("29/0", ["M128 254l1 1-1 1-1-1z", "", "", ""]),
-        // So is one at the seam, in base pixel 4.
-        (
-            "29/1152921504606846976",
-            ["M0 382l1 1-1 1-1-1zM1024 382l1 1-1 1-1-1z", "", "", ""],
-        ),
-        // One, two and three quarters of a cell, and a pixel more, up to the next cell.
-        (
-            "8/0 4-5 8-10",
-            [
-                "M128 254l1 1-1 1-1-1z",
-                "M129 253l1 1-1 1-1-1z",
-                "M127 253l1 1-1 1-1-1z",
-                "",
-            ],
-        ),
-        (
-            "8/0 4-5 8-10 29/4398046511104 26388279066624 48378511622144",
-            [
-                "",
-                "M128 254l1 1-1 1-1-1z",
-                "M129 253l1 1-1 1-1-1z",
-                "M127 253l1 1-1 1-1-1z",
-            ],
+            "M0 256l64 64-64 64-64-64zM1024 256l64 64-64 64-64-64z",
         ),
         // Cells of order 7 or less come before those that are filled in part.
         (
             "0/11 7/5 8/12-14 9/60",
-            [
-                "",
-                "",
-                "",
-                "M896 256l128 128-128 128-128-128zM131 251l1 1-1 1-1-1zM128 252l1 1-1 1-1-1z",
-            ],
+            "M896 256l128 128-128 128-128-128zM131 251l1 1-1 1-1-1zM128 252l1 1-1 1-1-1z",
         ),
     ] {
-        let (set, _) = Form::Ascii.read(rt.alloc(), text.as_bytes())?;
-        let seen = draw(rt.alloc(), &set)?;
-        let wanted = shaded(rt.alloc(), shades)?;
-        assert_eq!(&rt; seen.as_str(), wanted.as_str(), "{text:?}");
+        is_drawn(&rt, rt.alloc(), text, ["", "", "", diamonds]);
     }
-    Ok(())
+}
+
+#[test]
+fn pictures_of_pixels(rt: HostRuntime) {
+    for (text, diamonds) in [
+        // A pixel is drawn as its cell of order 7.
+        ("29/0", "M128 254l1 1-1 1-1-1z"),
+        // So is one at the seam, in base pixel 4.
+        (
+            "29/1152921504606846976",
+            "M0 382l1 1-1 1-1-1zM1024 382l1 1-1 1-1-1z",
+        ),
+    ] {
+        is_drawn(&rt, rt.alloc(), text, [diamonds, "", "", ""]);
+    }
+}
+
+/// One, two and three quarters of a cell; then a pixel more of each, up to the next cell.
+#[test]
+fn pictures_of_shares(rt: HostRuntime) {
+    let (first, second, third) = (
+        "M128 254l1 1-1 1-1-1z",
+        "M129 253l1 1-1 1-1-1z",
+        "M127 253l1 1-1 1-1-1z",
+    );
+    let quarters = "8/0 4-5 8-10";
+    is_drawn(&rt, rt.alloc(), quarters, [first, second, third, ""]);
+    let more = "8/0 4-5 8-10 29/4398046511104 26388279066624 48378511622144";
+    is_drawn(&rt, rt.alloc(), more, ["", first, second, third]);
 }
 
 /// What stands behind the cells of two sets.
@@ -487,7 +543,7 @@ fn drawn_together(rt: &impl Abort, alloc: Global, first: &[u8], second: &[u8]) -
 
 /// Cells of what the first has alone, the second has alone, and both have; the diamonds are worked out by hand.
 #[test]
-fn pictures_of_two(rt: HostRuntime) -> Result<(), Fail> {
+fn pictures_of_two(rt: HostRuntime) {
     let alloc = rt.alloc();
     let layers = [
         ("#0072b2", "M128 254l1 1-1 1-1-1z"),
@@ -497,81 +553,88 @@ fn pictures_of_two(rt: HostRuntime) -> Result<(), Fail> {
         ),
         ("#000", "M256 128l128 128-128 128-128-128z"),
     ];
-    let wanted = picture(alloc, &layers, BEHIND_TWO)?;
+    let wanted = picture(&rt, alloc, &layers, BEHIND_TWO);
     let seen = drawn_together(&rt, alloc, b"0/5 29/0".as_slice(), b"1/16 20-23".as_slice());
     assert_eq!(&rt; seen.as_str(), wanted.as_str());
-    Ok(())
 }
 
-/// They are those of the text that is read, or of want of memory.
+// The texts of a form's errors are those of the text that is read.
 #[test]
-fn texts_of_errors(rt: HostRuntime) -> Result<(), Fail> {
-    let too_large = JsonError::CellTooLarge { name: 1, place: 2 };
+fn texts_of_ascii_errors(rt: HostRuntime) {
     for (error, text) in [
         (
-            FormError::Ascii(TextError::BadByte { at: 7 }),
+            TextError::BadByte { at: 7 },
             "a byte that no word has there, at 7",
         ),
         (
-            FormError::Ascii(TextError::NoOrder { at: 7 }),
+            TextError::NoOrder { at: 7 },
             "an item before any order, at 7",
         ),
         (
-            FormError::Ascii(TextError::OrderTooLarge { at: 7 }),
+            TextError::OrderTooLarge { at: 7 },
             "an order above 29, at 7",
         ),
         (
-            FormError::Ascii(TextError::CellTooLarge { at: 7 }),
+            TextError::CellTooLarge { at: 7 },
             "no cell of the order in force, at 7",
         ),
         (
-            FormError::Ascii(TextError::Backwards { at: 7 }),
+            TextError::Backwards { at: 7 },
             "a range that goes backwards, at 7",
         ),
         (
-            FormError::Ascii(TextError::Unfinished { at: 7 }),
+            TextError::Unfinished { at: 7 },
             "a word that is not finished, at 7",
         ),
-        (FormError::Ascii(TextError::Memory), "out of memory"),
+        (TextError::Memory, "out of memory"),
         (
-            FormError::Ascii(TextError::TooCoarse),
+            TextError::TooCoarse,
             "a cell is deeper than the stated order",
         ),
-        (FormError::Json(JsonError::NotJson), "no JSON"),
-        (FormError::Json(JsonError::NotObject), "no object"),
+    ] {
+        is_shown(&rt, rt.alloc(), &FormError::Ascii(error), text);
+    }
+}
+
+#[test]
+fn texts_of_json_errors(rt: HostRuntime) {
+    for (error, text) in [
+        (JsonError::NotJson, "no JSON"),
+        (JsonError::NotObject, "no object"),
+        (JsonError::BadOrder { name: 1 }, "name 1 is no order"),
+        (JsonError::NotArray { name: 1 }, "name 1 has no array"),
         (
-            FormError::Json(JsonError::BadOrder { name: 1 }),
-            "name 1 is no order",
-        ),
-        (
-            FormError::Json(JsonError::NotArray { name: 1 }),
-            "name 1 has no array",
-        ),
-        (
-            FormError::Json(JsonError::NotWhole { name: 1, place: 2 }),
+            JsonError::NotWhole { name: 1, place: 2 },
             "name 1, item 2 is no whole number",
         ),
         (
-            FormError::Json(too_large),
+            JsonError::CellTooLarge { name: 1, place: 2 },
             "name 1, item 2 is no cell of its order",
         ),
-        (FormError::Json(JsonError::Memory), "out of memory"),
+        (JsonError::Memory, "out of memory"),
         (
-            FormError::Json(JsonError::TooCoarse),
+            JsonError::TooCoarse,
             "a cell is deeper than the stated order",
         ),
+    ] {
+        is_shown(&rt, rt.alloc(), &FormError::Json(error), text);
+    }
+}
+
+#[test]
+fn texts_of_other_errors(rt: HostRuntime) {
+    for (error, text) in [
         (
-            FormError::Uniq(UniqError::BadByte { line: 3 }),
+            UniqError::BadByte { line: 3 },
             "a byte that is no digit, in line 3",
         ),
         (
-            FormError::Uniq(UniqError::NotUniq { line: 3 }),
+            UniqError::NotUniq { line: 3 },
             "a number that is no NUNIQ number, in line 3",
         ),
-        (FormError::Uniq(UniqError::Memory), "out of memory"),
-        (FormError::Memory, "out of memory"),
+        (UniqError::Memory, "out of memory"),
     ] {
-        assert_eq!(rt; format!(in rt.alloc(); "{error}")?.as_str(), text);
+        is_shown(&rt, rt.alloc(), &FormError::Uniq(error), text);
     }
-    Ok(())
+    is_shown(&rt, rt.alloc(), &FormError::Memory, "out of memory");
 }

@@ -6,6 +6,8 @@ mod forms;
 #[cfg(test)]
 mod ranges;
 #[cfg(test)]
+mod shown;
+#[cfg(test)]
 mod sphere;
 #[cfg(test)]
 mod text;

@@ -1,6 +1,7 @@
 //! Coverages of few ranges and of many, each call that takes memory once.
 ghost use Rattle.std.specs.Prelude.{◌≤◌};
 
+use crate::shown::is_shown;
 use moc_ranges::{Coverage, CoverageBuilder, Memory, RangesError, Steps};
 use moc_sphere::{Cell, Order};
 use std::alloc::Global;
@@ -9,6 +10,16 @@ use std::process::Abort;
 /// The set of these pairs.
 fn set_of(rt: &impl Abort, alloc: Global, pairs: &[(u64, u64)]) -> Coverage {
     Coverage::from_ranges(alloc, pairs).expect(rt, "pairs")
+}
+
+/// A copy of a set.
+fn copy_of(rt: &impl Abort, alloc: Global, set: &Coverage) -> Coverage {
+    set.try_copy(alloc).expect(rt, "memory")
+}
+
+/// Why pairs are refused.
+fn refusal(alloc: Global, pairs: &[(u64, u64)]) -> Option<RangesError> {
+    Coverage::from_ranges(alloc, pairs).err()
 }
 
 /// Checks the ranges of a set.
@@ -20,9 +31,17 @@ fn has(rt: &impl Abort, set: &Coverage, ranges: &[(u64, u64)]) {
     assert_eq!(rt; seen.next(), None);
 }
 
-/// Checks the cells at the beginning of a set's list of cells.
-fn begins_with(rt: &impl Abort, cells: &[Cell], wanted: &[(u8, u64)]) {
-    for (cell, (order, index)) in cells.iter().zip(wanted) {
+/// Checks how many cells a set consists of, and those at the beginning.
+fn has_cells(
+    rt: &impl Abort,
+    alloc: Global,
+    set: &Coverage,
+    count: usize,
+    beginning: &[(u8, u64)],
+) {
+    let cells = set.cells(alloc).expect(rt, "memory");
+    assert_eq!(rt; cells.len(), count);
+    for (cell, (order, index)) in cells.iter().zip(beginning) {
         assert_eq!(rt; (cell.order().get(), cell.index()), (*order, *index));
     }
 }
@@ -33,30 +52,47 @@ fn pairs(rt: HostRuntime) {
     has(&rt, &set, &[(0, 9)]);
     assert_eq!(rt; set.count(), 9);
     assert!(rt; set.contains(8) && !set.contains(9));
+}
+
+#[test]
+fn a_pair_of_no_pixels(rt: HostRuntime) {
     let none = set_of(&rt, rt.alloc(), &[(7, 7)]);
     assert!(rt; none.is_empty());
     assert!(rt; none.same(&Coverage::empty(rt.alloc())));
-    assert_eq!(rt; none.cells(rt.alloc()).expect(&rt, "memory").len(), 0);
-    let backwards = Coverage::from_ranges(rt.alloc(), &[(5, 4)]);
-    assert_eq!(rt; backwards.err(), Some(RangesError::Backwards { at: 0 }));
-    let large = Coverage::from_ranges(rt.alloc(), &[(0, 1), (0, 3458764513820540929)]);
-    assert!(rt; matches!(large, Err(RangesError::PixelTooLarge { at: 1 })));
+    has_cells(&rt, rt.alloc(), &none, 0, &[]);
+}
+
+#[test]
+fn pairs_that_are_refused(rt: HostRuntime) {
+    let backwards = refusal(rt.alloc(), &[(5, 4)]);
+    assert_eq!(rt; backwards, Some(RangesError::Backwards { at: 0 }));
+    let large = refusal(rt.alloc(), &[(0, 1), (0, 3458764513820540929)]);
+    assert_eq!(rt; large, Some(RangesError::PixelTooLarge { at: 1 }));
 }
 
 #[test]
 fn lists_of_cells(rt: HostRuntime) {
-    let cells = set_of(&rt, rt.alloc(), &[(3, 9)])
-        .cells(rt.alloc())
-        .expect(&rt, "memory");
-    assert_eq!(rt; cells.len(), 3);
-    begins_with(&rt, &cells, &[(28, 1), (29, 3), (29, 8)]);
-    let rest = set_of(&rt, rt.alloc(), &[(0, 1)])
-        .complement(rt.alloc())
-        .expect(&rt, "memory");
+    let set = set_of(&rt, rt.alloc(), &[(3, 9)]);
+    has_cells(&rt, rt.alloc(), &set, 3, &[(28, 1), (29, 3), (29, 8)]);
+}
+
+/// The whole sky but its first pixel.
+fn all_but_one_pixel(rt: &impl Abort, alloc: Global) -> Coverage {
+    let one = set_of(rt, alloc, &[(0, 1)]);
+    one.complement(alloc).expect(rt, "memory")
+}
+
+#[test]
+fn cells_of_all_but_one_pixel(rt: HostRuntime) {
+    let rest = all_but_one_pixel(&rt, rt.alloc());
+    has_cells(&rt, rt.alloc(), &rest, 98, &[(0, 1)]);
+}
+
+#[test]
+fn the_last_cell_of_all_but_one_pixel(rt: HostRuntime) {
+    let rest = all_but_one_pixel(&rt, rt.alloc());
     let cells = rest.cells(rt.alloc()).expect(&rt, "memory");
-    assert_eq!(rt; cells.len(), 98);
-    begins_with(&rt, &cells, &[(0, 1)]);
-    let last = cells.last().expect(&rt, "last");
+    let last = cells.last().expect(&rt, "a cell");
     assert_eq!(rt; (last.order().get(), last.index()), (29, 3));
 }
 
@@ -68,12 +104,25 @@ fn two_sets(rt: HostRuntime) {
     has(&rt, &either, &[(0, 12)]);
     let both = a.intersection(rt.alloc(), &b).expect(&rt, "memory");
     has(&rt, &both, &[(4, 8)]);
+    assert!(rt; either.covers(&a) && !a.covers(&either));
+}
+
+#[test]
+fn what_two_sets_lack(rt: HostRuntime) {
+    let a = set_of(&rt, rt.alloc(), &[(0, 8)]);
+    let b = set_of(&rt, rt.alloc(), &[(4, 12)]);
     let first = a.difference(rt.alloc(), &b).expect(&rt, "memory");
     has(&rt, &first, &[(0, 4)]);
     let one = a.symmetric(rt.alloc(), &b).expect(&rt, "memory");
     has(&rt, &one, &[(0, 4), (8, 12)]);
+}
+
+#[test]
+fn what_two_sets_share(rt: HostRuntime) {
+    let a = set_of(&rt, rt.alloc(), &[(0, 8)]);
+    let b = set_of(&rt, rt.alloc(), &[(4, 12)]);
     assert_eq!(rt; a.count_common(&b), 4);
-    assert!(rt; a.meets(&b) && either.covers(&a) && !a.covers(&either));
+    assert!(rt; a.meets(&b));
 }
 
 /// Checks which base pixels a set meets, and which it covers.
@@ -110,30 +159,41 @@ fn a_set_of_a_coarser_order(rt: HostRuntime) {
 }
 
 #[test]
-fn cells_and_sets(rt: HostRuntime) {
+fn the_set_of_a_cell(rt: HostRuntime) {
     let last = Cell::new(Order::of(1), 47).expect(&rt, "a cell");
     let one = Coverage::from_cell(rt.alloc(), last).expect(&rt, "memory");
     has(&rt, &one, &[(3386706919782612992, 3458764513820540928)]);
-    assert!(rt; one.try_copy(rt.alloc()).expect(&rt, "memory").same(&one));
+    assert!(rt; copy_of(&rt, rt.alloc(), &one).same(&one));
+}
+
+#[test]
+fn cells_and_sets(rt: HostRuntime) {
     let set = set_of(&rt, rt.alloc(), &[(3, 8)]);
     for (index, meets, contains) in [(0, true, false), (1, true, true), (2, false, false)] {
         let cell = Cell::of(Order::of(28), index);
-        assert_eq!(rt; set.meets_cell(cell), meets);
-        assert_eq!(rt; set.contains_cell(cell), contains);
+        assert_eq!(rt;
+            (set.meets_cell(cell), set.contains_cell(cell)),
+            (meets, contains)
+        );
     }
 }
 
 #[test]
-fn a_set_as_a_value(rt: HostRuntime) {
+fn sets_are_compared(rt: HostRuntime) {
     let set = set_of(&rt, rt.alloc(), &[(3, 8), (12, 13)]);
-    assert!(rt; set == set.try_copy(rt.alloc()).expect(&rt, "memory"));
+    assert!(rt; set == copy_of(&rt, rt.alloc(), &set));
     assert!(rt; set != Coverage::empty(rt.alloc()));
+}
+
+#[test]
+fn ranges_one_by_one(rt: HostRuntime) {
+    let set = set_of(&rt, rt.alloc(), &[(3, 8), (12, 13)]);
+    assert_eq!(rt; set.ranges().size_hint(), (2, Some(2)));
     let mut pixels = 0u64;
     for (from, to) in &set {
         pixels = pixels.saturating_add(to.saturating_sub(from));
     }
     assert_eq!(rt; pixels, 6);
-    assert_eq!(rt; set.ranges().size_hint(), (2, Some(2)));
 }
 
 #[test]
@@ -150,10 +210,8 @@ fn pixels_and_where_that_changes(rt: HostRuntime) {
     ] {
         assert_eq!(rt; set.contains_until(pixel), wanted);
     }
-    assert_eq!(rt;
-        Coverage::empty(rt.alloc()).contains_until(0),
-        (false, u64::MAX)
-    );
+    let none = Coverage::empty(rt.alloc());
+    assert_eq!(rt; none.contains_until(0), (false, u64::MAX));
 }
 
 #[test]
@@ -168,22 +226,19 @@ fn gathered_cells(rt: HostRuntime) {
     builder.add_cells(deepest, 9, 10).expect(&rt, "memory");
     let set = builder.build().expect(&rt, "memory");
     has(&rt, &set, &[(0, 4), (8, 11)]);
-    let mut again = CoverageBuilder::new(rt.alloc());
-    again
-        .extend(
-            [Cell::of(Order::of(29), 3), Cell::of(Order::of(28), 5)]
-                .iter()
-                .copied(),
-        )
+}
+
+#[test]
+fn gathered_lists_of_cells(rt: HostRuntime) {
+    let two = [Cell::of(Order::of(29), 3), Cell::of(Order::of(28), 5)];
+    let cells = set_of(&rt, rt.alloc(), &[(0, 4), (8, 11)])
+        .cells(rt.alloc())
         .expect(&rt, "memory");
-    again
-        .extend(set.cells(rt.alloc()).expect(&rt, "memory"))
-        .expect(&rt, "memory");
-    has(
-        &rt,
-        &again.build().expect(&rt, "memory"),
-        &[(0, 4), (8, 11), (20, 24)],
-    );
+    let mut builder = CoverageBuilder::new(rt.alloc());
+    builder.extend(two.iter().copied()).expect(&rt, "memory");
+    builder.extend(cells).expect(&rt, "memory");
+    let set = builder.build().expect(&rt, "memory");
+    has(&rt, &set, &[(0, 4), (8, 11), (20, 24)]);
 }
 
 #[test]
@@ -202,25 +257,37 @@ fn the_set_of_some_cells(rt: HostRuntime) {
     has(&rt, &none, &[]);
 }
 
+/// Checks the runs of a set's cells of an order.
+fn has_runs(rt: &impl Abort, set: &Coverage, order: u8, runs: &[(u64, u64)])
+    requires { order ≤ 29 }
+{
+    let mut seen = set.cell_ranges(Order::of(order));
+    for run in runs {
+        assert_eq!(rt; seen.next(), Some(*run));
+    }
+    assert_eq!(rt; seen.next(), None);
+}
+
 #[test]
 fn runs_of_cells(rt: HostRuntime) {
     let set = set_of(&rt, rt.alloc(), &[(3, 9), (16, 64)]);
     assert_eq!(rt; set.cell_orders(), (27, 30));
-    let wanted: [(u8, &[(u64, u64)]); 4] = [
-        (26, &[]),
-        (27, &[(1, 4)]),
-        (28, &[(1, 2)]),
-        (29, &[(3, 4), (8, 9)]),
-    ];
-    for (order, runs) in wanted {
-        let mut seen = set.cell_ranges(Order::of(order));
-        for run in runs {
-            assert_eq!(rt; seen.next(), Some(*run));
-        }
-        assert_eq!(rt; seen.next(), None);
-    }
+    has_runs(&rt, &set, 26, &[]);
+    has_runs(&rt, &set, 27, &[(1, 4)]);
+    has_runs(&rt, &set, 28, &[(1, 2)]);
+    has_runs(&rt, &set, 29, &[(3, 4), (8, 9)]);
+}
+
+#[test]
+fn runs_of_cells_of_the_sky(rt: HostRuntime) {
     let sky = Coverage::full(rt.alloc()).expect(&rt, "memory");
     assert_eq!(rt; sky.cell_ranges(Order::of(0)).next(), Some((0, 12)));
+}
+
+/// Checks how many ranges a set has, and the deepest order that it needs.
+fn has_order(rt: &impl Abort, set: &Coverage, ranges: usize, order: u8) {
+    assert_eq!(rt; set.range_count(), ranges);
+    assert_eq!(rt; set.deepest_order().get(), order);
 }
 
 // The order is 29 less half the zeros at the end of all bounds together. Cell 3/10 is the pixels from 10 * 4^26 up to
@@ -238,31 +305,41 @@ fn ranges_and_deepest_orders(rt: HostRuntime) {
     ];
     for (pairs, count, order) in cases {
         let set = set_of(&rt, rt.alloc(), pairs);
-        assert_eq!(rt; set.range_count(), count);
-        assert_eq!(rt; set.deepest_order().get(), order);
+        has_order(&rt, &set, count, order);
     }
     let many = dots(&rt, rt.alloc(), 12800);
-    assert_eq!(rt; many.range_count(), 12800);
-    assert_eq!(rt; many.deepest_order().get(), 29);
+    has_order(&rt, &many, 12800, 29);
 }
 
-// Every third of 6,000 pixels, in an order that jumps back and forth: 7 and 6,000 have no common
-// divisor, so that i * 7 comes to every number below 6,000 once.
-#[test]
-fn many_cells_in_mixed_order(rt: HostRuntime) {
-    let deepest = Order::new(29).expect(&rt, "order");
-    let mut builder = CoverageBuilder::new(rt.alloc());
-    let mut pairs = Vec::new(rt.alloc());
+/// Every third of 6,000 pixels, added in an order that jumps back and forth: 7 and 6,000 have no common divisor, so that
+/// i * 7 comes to every number below 6,000 once.
+fn thirds(rt: &impl Abort, alloc: Global) -> Coverage {
+    let mut builder = CoverageBuilder::new(alloc);
     for i in 0..6000u64 {
         let pixel = i * 7 % 6000;
         if pixel % 3 == 0 {
-            builder
-                .add_cells(deepest, pixel, pixel)
-                .expect(&rt, "memory");
-            pairs.push((pixel, pixel + 1)).expect(&rt, "memory");
+            let added = builder.add_cells(Order::MAX, pixel, pixel);
+            added.expect(rt, "memory");
         }
     }
-    let set = builder.build().expect(&rt, "memory");
+    builder.build().expect(rt, "memory")
+}
+
+/// The same set, of pairs in the same order.
+fn thirds_of_pairs(rt: &impl Abort, alloc: Global) -> Coverage {
+    let mut pairs = Vec::new(alloc);
+    for i in 0..6000u64 {
+        let pixel = i * 7 % 6000;
+        if pixel % 3 == 0 {
+            pairs.push((pixel, pixel + 1)).expect(rt, "memory");
+        }
+    }
+    set_of(rt, alloc, &pairs)
+}
+
+#[test]
+fn many_cells_in_mixed_order(rt: HostRuntime) {
+    let set = thirds(&rt, rt.alloc());
     assert_eq!(rt; set.count(), 2000);
     let mut next = 0u64;
     for (from, to) in set.ranges() {
@@ -270,23 +347,18 @@ fn many_cells_in_mixed_order(rt: HostRuntime) {
         next = next.saturating_add(3);
     }
     assert_eq!(rt; next, 6000);
-    assert!(rt; set_of(&rt, rt.alloc(), &pairs).same(&set));
+    assert!(rt; thirds_of_pairs(&rt, rt.alloc()).same(&set));
 }
 
 #[test]
 fn errors_in_words(rt: HostRuntime) {
-    let memory = format!(in rt.alloc(); "{}", Memory).expect(&rt, "memory");
-    assert_eq!(rt; memory.as_str(), "out of memory");
-    let backwards = format!(in rt.alloc(); "{}", RangesError::Backwards { at: 2 }).expect(
-        &rt, "memory",
-    );
-    assert_eq!(rt; backwards.as_str(), "the pair 2 ends before it begins");
-    let large = format!(in rt.alloc(); "{}", RangesError::PixelTooLarge { at: 0 }).expect(
-        &rt, "memory",
-    );
-    assert_eq!(rt; large.as_str(), "the pair 0 passes the last pixel");
-    let refused = format!(in rt.alloc(); "{}", RangesError::Memory).expect(&rt, "memory");
-    assert_eq!(rt; refused.as_str(), "out of memory");
+    let alloc = rt.alloc();
+    is_shown(&rt, alloc, &Memory, "out of memory");
+    is_shown(&rt, alloc, &RangesError::Memory, "out of memory");
+    let backwards = RangesError::Backwards { at: 2 };
+    is_shown(&rt, alloc, &backwards, "the pair 2 ends before it begins");
+    let large = RangesError::PixelTooLarge { at: 0 };
+    is_shown(&rt, alloc, &large, "the pair 0 passes the last pixel");
 }
 
 /// Every second of the first pixels: the ranges (2j, 2j + 1) for each j below a number.
@@ -297,6 +369,15 @@ fn dots(rt: &impl Abort, alloc: Global, count: u16) -> Coverage {
         pairs.push((from, from + 1)).expect(rt, "memory");
     }
     set_of(rt, alloc, &pairs)
+}
+
+/// Checks the lengths of a set's chunks.
+fn has_chunks(rt: &impl Abort, set: &Coverage, lengths: &[usize]) {
+    let mut chunks = set.chunks();
+    for length in lengths {
+        assert_eq!(rt; chunks.next().expect(rt, "a chunk").len(), *length);
+    }
+    assert!(rt; chunks.next().is_none());
 }
 
 fn number_of_chunks(set: &Coverage) -> usize {
@@ -322,23 +403,25 @@ fn chunks_that_are_joined(rt: HostRuntime) {
         .union(rt.alloc(), &sky)
         .expect(&rt, "memory");
     has(&rt, &whole, &[(0, 25600)]);
-    assert_eq!(rt;
-        (whole.ranges().size_hint(), number_of_chunks(&whole)),
-        ((1, Some(1)), 1)
-    );
+    has_chunks(&rt, &whole, &[1]);
+    assert_eq!(rt; whole.ranges().size_hint(), (1, Some(1)));
 }
 
 #[test]
 fn lengths_of_chunks(rt: HostRuntime) {
     let set = dots(&rt, rt.alloc(), 256);
+    has_chunks(&rt, &set, &[128, 128]);
     let first = set_of(&rt, rt.alloc(), &[(0, 1)]);
     let rest = set.difference(rt.alloc(), &first).expect(&rt, "memory");
-    for (set, length) in [(&set, 128usize), (&rest, 127)] {
-        let mut chunks = set.chunks();
-        assert_eq!(rt; chunks.next().expect(&rt, "a chunk").len(), length);
-        assert_eq!(rt; chunks.next().expect(&rt, "a chunk").len(), 128);
-        assert!(rt; chunks.next().is_none());
-    }
+    has_chunks(&rt, &rest, &[127, 128]);
+}
+
+/// Checks that a pixel is found in so many steps at most, or found to lack.
+fn is_found_within(rt: &impl Abort, set: &Coverage, pixel: u64, most: u64) {
+    let mut steps = Steps::new();
+    let found = set.contains_counting(pixel, &mut steps);
+    assert_eq!(rt; found, set.contains(pixel));
+    assert!(rt; steps.get() <= most);
 }
 
 #[test]
@@ -346,10 +429,7 @@ fn steps_of_look_ups(rt: HostRuntime) {
     for (count, most) in [(0u16, 0u64), (1, 9), (128, 9), (129, 10), (12800, 15)] {
         let set = dots(&rt, rt.alloc(), count);
         for pixel in [0u64, 1, 2, 254, 256, 12800, 12801, 25598, 25599, 25600] {
-            let mut steps = Steps::new();
-            let found = set.contains_counting(pixel, &mut steps);
-            assert_eq!(rt; found, set.contains(pixel));
-            assert!(rt; steps.get() <= most);
+            is_found_within(&rt, &set, pixel, most);
         }
     }
 }
@@ -357,20 +437,43 @@ fn steps_of_look_ups(rt: HostRuntime) {
 #[test]
 fn looking_at_many_blocks(rt: HostRuntime) {
     let set = dots(&rt, rt.alloc(), 12800);
+    assert!(rt; !set.is_empty());
+    assert!(rt; set.same(&copy_of(&rt, rt.alloc(), &set)));
+    assert_eq!(rt; set.next_pixel(12801), Some(12802));
+    assert_eq!(rt; set.next_pixel(25599), None);
+}
+
+/// Checks how many pixels two sets have in common, asked from either side.
+fn have_in_common(rt: &impl Abort, a: &Coverage, b: &Coverage, pixels: u64) {
+    assert_eq!(rt; (a.count_common(b), b.count_common(a)), (pixels, pixels));
+    assert_eq!(rt; (a.meets(b), b.meets(a)), (pixels > 0, pixels > 0));
+}
+
+#[test]
+fn many_blocks_and_few(rt: HostRuntime) {
+    let set = dots(&rt, rt.alloc(), 12800);
     let row = set_of(&rt, rt.alloc(), &[(4001, 9001), (25599, 25600)]);
-    assert_eq!(rt;
-        (set.count_common(&row), row.count_common(&set)),
-        (2500, 2500)
-    );
-    assert!(rt; set.meets(&row) && row.meets(&set) && !set.covers(&row) && !row.covers(&set));
+    have_in_common(&rt, &set, &row, 2500);
+    assert!(rt; !set.covers(&row) && !row.covers(&set));
+    let gaps = set_of(&rt, rt.alloc(), &[(1, 2), (12801, 12802), (25599, 25700)]);
+    have_in_common(&rt, &set, &gaps, 0);
+}
+
+#[test]
+fn many_blocks_cover_few(rt: HostRuntime) {
+    let set = dots(&rt, rt.alloc(), 12800);
     let few = set_of(&rt, rt.alloc(), &[(0, 1), (12800, 12801), (25598, 25599)]);
     assert!(rt; set.covers(&few) && !few.covers(&set) && !few.same(&set));
-    let gaps = set_of(&rt, rt.alloc(), &[(1, 2), (12801, 12802), (25599, 25700)]);
-    assert!(rt; !set.meets(&gaps) && !gaps.meets(&set) && set.count_common(&gaps) == 0);
-    assert!(rt; set.same(&set.try_copy(rt.alloc()).expect(&rt, "memory")) && !set.is_empty());
+}
+
+/// Inserts a range, and checks how many of its pixels are new.
+fn insert(rt: &impl Abort, alloc: Global, set: &mut Coverage, from: u64, to: u64, new: u64)
+    requires { to ≤ 12006 }
+{
     assert_eq!(rt;
-        (set.next_pixel(12801), set.next_pixel(25599)),
-        (Some(12802), None)
+        set.insert_range(alloc, from, to),
+        Ok(new),
+        "{from} to {to}"
     );
 }
 
@@ -380,39 +483,62 @@ fn insert_turns(rt: &impl Abort, alloc: Global, set: &mut Coverage, first: u64, 
 {
     for turn in first..end {
         let from = turn * 1009 % 3001 * 4;
-        let added = set.insert_range(alloc, from, from + 2).expect(rt, "memory");
-        assert_eq!(rt; added, 2);
+        insert(rt, alloc, set, from, from + 2, 2);
     }
+}
+
+/// The set of those with a turn below one.
+fn inserted(rt: &impl Abort, alloc: Global, turns: u64) -> Coverage
+    requires { turns ≤ 3001 }
+{
+    let mut set = Coverage::empty(alloc);
+    insert_turns(rt, alloc, &mut set, 0, turns);
+    set
 }
 
 #[test]
 fn ranges_inserted_one_by_one(rt: HostRuntime) {
-    let alloc = rt.alloc();
-    let mut set = Coverage::empty(alloc);
-    insert_turns(&rt, alloc, &mut set, 0, 3001);
-    assert_eq!(rt; set.range_count(), 3001);
-    assert_eq!(rt; set.count(), 6002);
+    let set = inserted(&rt, rt.alloc(), 3001);
+    assert_eq!(rt; (set.range_count(), set.count()), (3001, 6002));
     assert!(rt; set.contains(12001) && !set.contains(12002));
-    // Of what is there nothing is new; what joins two ranges, or many blocks, is counted once.
-    assert_eq!(rt; set.insert_range(alloc, 400, 402), Ok(0));
-    assert_eq!(rt; set.insert_range(alloc, 7, 7), Ok(0));
-    assert_eq!(rt; set.insert_range(alloc, 401, 405), Ok(2));
+}
+
+// Of what is there nothing is new; what joins two ranges, or many blocks, is counted once.
+#[test]
+fn ranges_inserted_again(rt: HostRuntime) {
+    let alloc = rt.alloc();
+    let mut set = inserted(&rt, alloc, 3001);
+    insert(&rt, alloc, &mut set, 400, 402, 0);
+    insert(&rt, alloc, &mut set, 7, 7, 0);
+    insert(&rt, alloc, &mut set, 401, 405, 2);
     assert_eq!(rt; set.range_count(), 3000);
-    assert_eq!(rt; set.insert_range(alloc, 0, 12002), Ok(5998));
+    insert(&rt, alloc, &mut set, 0, 12002, 5998);
     assert_eq!(rt; set.range_count(), 1);
 }
 
 #[test]
 fn a_copy_stays_while_ranges_are_inserted(rt: HostRuntime) {
     let alloc = rt.alloc();
-    let mut set = Coverage::empty(alloc);
-    insert_turns(&rt, alloc, &mut set, 0, 1500);
-    let copy = set.try_copy(alloc).expect(&rt, "memory");
+    let mut set = inserted(&rt, alloc, 1500);
+    let copy = copy_of(&rt, alloc, &set);
     insert_turns(&rt, alloc, &mut set, 1500, 3001);
     assert_eq!(rt; copy.count(), 3000);
     assert!(rt; set.covers(&copy) && !copy.covers(&set));
-    let mut both = copy.try_copy(alloc).expect(&rt, "memory");
-    assert_eq!(rt; both.insert_all(alloc, &set), Ok(3002));
-    assert!(rt; both.same(&set));
-    assert_eq!(rt; both.insert_all(alloc, &copy), Ok(0));
+}
+
+/// Inserts all of a set, and checks how many of its pixels are new.
+fn insert_all(rt: &impl Abort, alloc: Global, set: &mut Coverage, other: &Coverage, new: u64) {
+    assert_eq!(rt; set.insert_all(alloc, other), Ok(new));
+}
+
+#[test]
+fn all_of_a_set_is_inserted(rt: HostRuntime) {
+    let alloc = rt.alloc();
+    let half = inserted(&rt, alloc, 1500);
+    let mut whole = copy_of(&rt, alloc, &half);
+    insert_turns(&rt, alloc, &mut whole, 1500, 3001);
+    let mut both = copy_of(&rt, alloc, &half);
+    insert_all(&rt, alloc, &mut both, &whole, 3002);
+    assert!(rt; both.same(&whole));
+    insert_all(&rt, alloc, &mut both, &half, 0);
 }

@@ -1,7 +1,8 @@
 //! Numbers of cells: rows worked by hand, and every cell of the small orders.
+use crate::shown::is_shown;
 use moc_sphere::{Cell, CellError, Direction, NameError, Order, OrderError};
 use std::alloc::Global;
-use std::fmt::Display;
+use std::fmt::Debug;
 use std::process::Abort;
 use std::str::FromStr;
 
@@ -15,6 +16,16 @@ fn at(rt: &impl Abort, order: u8, index: u64) -> Cell {
     Cell::new(order_of(rt, order), index).expect(rt, "a cell")
 }
 
+/// Checks what is told of a cell.
+fn is<T: PartialEq + Debug>(rt: &impl Abort, cell: Cell, seen: &T, wanted: &T) {
+    assert_eq!(rt; *seen, *wanted, "of cell {cell}");
+}
+
+/// Checks what is told of a name.
+fn names<T: PartialEq + Debug>(rt: &impl Abort, name: &str, seen: &T, wanted: &T) {
+    assert_eq!(rt; *seen, *wanted, "of {name:?}");
+}
+
 #[test]
 fn uniq_rows(rt: HostRuntime) {
     for (order, index, uniq) in [
@@ -22,11 +33,13 @@ fn uniq_rows(rt: HostRuntime) {
         (3, 10, 266),
         (29, 3458764513820540927, 4611686018427387903),
     ] {
-        assert_eq!(rt; at(&rt, order, index).uniq(), uniq);
-        assert!(rt; Cell::from_uniq(uniq) == Ok(at(&rt, order, index)));
+        let cell = at(&rt, order, index);
+        is(&rt, cell, &cell.uniq(), &uniq);
+        is(&rt, cell, &Cell::from_uniq(uniq), &Ok(cell));
     }
-    assert!(rt; Cell::from_uniq(3) == Err(CellError::NotUniq));
-    assert!(rt; Cell::from_uniq(4611686018427387904) == Err(CellError::NotUniq));
+    for uniq in [3, 4611686018427387904] {
+        assert!(rt; Cell::from_uniq(uniq) == Err(CellError::NotUniq));
+    }
 }
 
 #[test]
@@ -45,14 +58,12 @@ fn ring_rows(rt: HostRuntime) {
         (29, 3170534137668829184, 3458764513820540927),
     ] {
         let cell = at(&rt, order, index);
-        assert_eq!(rt; cell.ring(), ring, "order {order} index {index}");
-        assert!(rt;
-            Cell::from_ring(cell.order(), ring) == Ok(cell),
-            "order {order} ring {ring}"
-        );
+        is(&rt, cell, &cell.ring(), &ring);
+        is(&rt, cell, &Cell::from_ring(cell.order(), ring), &Ok(cell));
     }
     for index in 0..12 {
-        assert_eq!(rt; at(&rt, 0, index).ring(), index);
+        let cell = at(&rt, 0, index);
+        is(&rt, cell, &cell.ring(), &index);
     }
 }
 
@@ -66,9 +77,21 @@ fn plane_rows(rt: HostRuntime) {
         (29, 0, 1073741823, 536870912),
         (29, 3458764513820540927, 1073741825, 3758096384),
     ] {
-        assert!(rt;
-            at(&rt, order, index).row_column() == (row, column),
-            "order {order} index {index}"
+        let cell = at(&rt, order, index);
+        is(&rt, cell, &cell.row_column(), &(row, column));
+    }
+}
+
+/// Checks the indices of the cells that touch a cell, in their sequence.
+fn touches(rt: &impl Abort, alloc: Global, cell: Cell, indices: &[u64]) {
+    let touching = cell.touching_cells(alloc);
+    is(rt, cell, &touching.len(), &indices.len());
+    for (found, index) in touching.as_slice().iter().zip(indices) {
+        is(
+            rt,
+            cell,
+            &(found.order(), found.index()),
+            &(cell.order(), *index),
         );
     }
 }
@@ -81,14 +104,7 @@ fn touching_rows(rt: HostRuntime) {
         (1, 0, [1, 2, 3, 17, 19, 22, 23, 35].as_slice()),
         (1, 1, [0, 2, 3, 6, 7, 22, 23].as_slice()),
     ] {
-        let cells = at(&rt, order, index).touching_cells(rt.alloc());
-        assert_eq!(rt; cells.len(), touching.len());
-        for (cell, index) in cells.as_slice().iter().zip(touching) {
-            assert!(rt;
-                *cell == at(&rt, order, *index),
-                "order {order} index {index}"
-            );
-        }
+        touches(&rt, rt.alloc(), at(&rt, order, index), touching);
     }
 }
 
@@ -100,6 +116,14 @@ fn number(cell: Option<Cell>) -> u64 {
     match cell {
         Some(cell) => cell.index(),
         None => NONE,
+    }
+}
+
+/// Checks the neighbours of a cell, in healpy's order.
+fn has_neighbours(rt: &impl Abort, cell: Cell, wanted: &[u64; 8]) {
+    is(rt, cell, &cell.neighbours().map(number), wanted);
+    for (direction, wanted) in Direction::ALL.iter().zip(wanted) {
+        is(rt, cell, &number(cell.neighbour(*direction)), wanted);
     }
 }
 
@@ -120,17 +144,7 @@ fn neighbours_by_direction(rt: HostRuntime) {
         (1, 47, [46, 28, 29, 12, 18, 16, 45, 44]),
         (2, 3, [2, 8, 9, 12, 6, 4, 1, 0]),
     ] {
-        let cell = at(&rt, order, index);
-        for (direction, wanted) in Direction::ALL.iter().zip(&wanted) {
-            assert_eq!(rt;
-                number(cell.neighbour(*direction)),
-                *wanted,
-                "order {order} index {index}"
-            );
-        }
-        for (cell, wanted) in cell.neighbours().iter().zip(&wanted) {
-            assert_eq!(rt; number(*cell), *wanted, "order {order} index {index}");
-        }
+        has_neighbours(&rt, at(&rt, order, index), &wanted);
     }
 }
 
@@ -191,14 +205,7 @@ fn neighbours_of_pixels(rt: HostRuntime) {
             ],
         ),
     ] {
-        let cell = at(&rt, 29, index);
-        for (direction, wanted) in Direction::ALL.iter().zip(&wanted) {
-            assert_eq!(rt;
-                number(cell.neighbour(*direction)),
-                *wanted,
-                "index {index}"
-            );
-        }
+        has_neighbours(&rt, at(&rt, 29, index), &wanted);
     }
 }
 
@@ -221,14 +228,22 @@ fn neighbours_by_the_names_of_directions(rt: HostRuntime) {
 }
 
 #[test]
-fn refusals_and_spans(rt: HostRuntime) {
+fn refusals(rt: HostRuntime) {
     assert!(rt; Order::new(30).is_none());
     let order = order_of(&rt, 1);
-    assert!(rt; Cell::new(order, 48) == Err(CellError::CellTooLarge));
-    assert!(rt; Cell::from_ring(order, 48) == Err(CellError::RingTooLarge));
-    assert!(rt; Cell::from_face_xy(order, 12, 0, 0) == Err(CellError::OutOfFace));
-    assert!(rt; Cell::from_face_xy(order, 0, 2, 0) == Err(CellError::OutOfFace));
-    assert!(rt; Cell::from_face_xy(order, 0, 0, 2) == Err(CellError::OutOfFace));
+    for (seen, error) in [
+        (Cell::new(order, 48), CellError::CellTooLarge),
+        (Cell::from_ring(order, 48), CellError::RingTooLarge),
+        (Cell::from_face_xy(order, 12, 0, 0), CellError::OutOfFace),
+        (Cell::from_face_xy(order, 0, 2, 0), CellError::OutOfFace),
+        (Cell::from_face_xy(order, 0, 0, 2), CellError::OutOfFace),
+    ] {
+        assert!(rt; seen == Err(error), "{error}");
+    }
+}
+
+#[test]
+fn spans_and_parents(rt: HostRuntime) {
     let last = at(&rt, 1, 47);
     assert_eq!(rt; last.span(), (3386706919782612992, 3458764513820540928));
     assert!(rt; last.parent() == Some(at(&rt, 0, 11)));
@@ -246,44 +261,56 @@ fn cells_that_a_cell_lies_in(rt: HostRuntime) {
         (29, 3458764513820540927, 3, 767),
         (29, 3458764513820540927, 0, 11),
     ] {
-        assert!(rt;
-            at(&rt, order, index).ancestor(order_of(&rt, level)) == Some(at(&rt, level, ancestor)),
-            "order {order} index {index} level {level}"
-        );
+        let cell = at(&rt, order, index);
+        let found = cell.ancestor(order_of(&rt, level));
+        is(&rt, cell, &found, &Some(at(&rt, level, ancestor)));
     }
     assert!(rt; at(&rt, 1, 18).ancestor(order_of(&rt, 2)).is_none());
+}
+
+/// Checks the nside of an order, and that either of its numbers gives it.
+fn has_nside(rt: &impl Abort, order: Order, nside: u64) {
+    assert_eq!(rt; order.nside(), nside);
+    assert!(rt; Order::from_nside(nside) == Ok(order));
+    assert!(rt; Order::try_from(u64::from(order.get())) == Ok(order));
 }
 
 #[test]
 fn orders_and_their_nsides(rt: HostRuntime) {
     for (order, nside) in [(0u8, 1u64), (3, 8), (29, 536870912)] {
-        let order = order_of(&rt, order);
-        assert_eq!(rt; order.nside(), nside);
-        assert!(rt; Order::from_nside(nside) == Ok(order));
-        assert!(rt; Order::try_from(u64::from(order.get())) == Ok(order));
+        has_nside(&rt, order_of(&rt, order), nside);
     }
-    for nside in [0u64, 3, 12, 536870911, 1073741824, 18446744073709551615] {
-        assert!(rt; Order::from_nside(nside) == Err(OrderError::NotNside));
-    }
-    assert!(rt; Order::try_from(30) == Err(OrderError::OrderTooLarge));
-    assert!(rt; Order::try_from(256) == Err(OrderError::OrderTooLarge));
 }
 
 #[test]
-fn orders_and_cells_by_name(rt: HostRuntime) {
+fn numbers_that_are_of_no_order(rt: HostRuntime) {
+    for nside in [0u64, 3, 12, 536870911, 1073741824, 18446744073709551615] {
+        assert!(rt; Order::from_nside(nside) == Err(OrderError::NotNside));
+    }
+    for order in [30u64, 256] {
+        assert!(rt; Order::try_from(order) == Err(OrderError::OrderTooLarge));
+    }
+}
+
+#[test]
+fn orders_by_name(rt: HostRuntime) {
     for (name, order) in [("0", 0u8), ("7", 7), ("29", 29), ("007", 7), ("+7", 7)] {
-        assert!(rt; Order::from_str(name) == Ok(Order::of(order)));
+        names(&rt, name, &Order::from_str(name), &Ok(Order::of(order)));
     }
     for name in ["", "30", "256", "-1", "1 ", "1/2"] {
-        assert!(rt; Order::from_str(name) == Err(NameError::NotOrder));
+        names(&rt, name, &Order::from_str(name), &Err(NameError::NotOrder));
     }
+}
+
+#[test]
+fn cells_by_name(rt: HostRuntime) {
     for (name, order, index) in [
         ("0/0", 0u8, 0u64),
         ("3/10", 3, 10),
         ("1/47", 1, 47),
         ("29/3458764513820540927", 29, 3458764513820540927),
     ] {
-        assert!(rt; Cell::from_str(name) == Ok(at(&rt, order, index)));
+        names(&rt, name, &Cell::from_str(name), &Ok(at(&rt, order, index)));
     }
     for name in [
         "",
@@ -296,48 +323,51 @@ fn orders_and_cells_by_name(rt: HostRuntime) {
         "1/48",
         "0/18446744073709551616",
     ] {
-        assert!(rt; Cell::from_str(name) == Err(NameError::NotCell));
+        names(&rt, name, &Cell::from_str(name), &Err(NameError::NotCell));
     }
 }
 
 #[test]
-fn base_pixels_and_children(rt: HostRuntime) {
+fn base_pixels(rt: HostRuntime) {
     for (order, index, base_pixel) in [
         (0u8, 11u64, 11u8),
         (1, 18, 4),
         (29, 288230376151711743, 0),
         (29, 288230376151711744, 1),
     ] {
-        assert_eq!(rt; at(&rt, order, index).base_pixel(), base_pixel);
+        let cell = at(&rt, order, index);
+        is(&rt, cell, &cell.base_pixel(), &base_pixel);
     }
+}
+
+#[test]
+fn children(rt: HostRuntime) {
     let cell = at(&rt, 3, 10);
     let children = cell.children().expect(&rt, "children");
     let mut index = 40u64;
     for child in children {
-        assert_eq!(rt; (child.order().get(), child.index()), (4, index));
-        assert!(rt; child.parent() == Some(cell));
+        is(
+            &rt,
+            cell,
+            &(child.order().get(), child.index()),
+            &(4, index),
+        );
+        is(&rt, child, &child.parent(), &Some(cell));
         index = index.saturating_add(1);
     }
     assert_eq!(rt; index, 44);
     assert!(rt; Cell::of(Order::MAX, 0).children().is_none());
 }
 
-/// The text that a value is shown by.
-fn shown<T: Display + Drop>(rt: &impl Abort, alloc: Global, value: T) -> String {
-    value.to_string(alloc).expect(rt, "memory")
-}
-
 #[test]
 fn cells_are_ordered_and_shown(rt: HostRuntime) {
-    let alloc = rt.alloc();
     assert!(rt; at(&rt, 0, 11) < at(&rt, 1, 0) && at(&rt, 1, 0) < at(&rt, 1, 1));
-    assert_eq!(rt; shown(&rt, alloc, at(&rt, 29, 17)).as_str(), "29/17");
+    is_shown(&rt, rt.alloc(), &at(&rt, 29, 17), "29/17");
     assert_eq!(rt; Order::MAX.get(), 29);
 }
 
 #[test]
 fn errors_are_shown(rt: HostRuntime) {
-    let alloc = rt.alloc();
     for (error, text) in [
         (
             CellError::CellTooLarge,
@@ -350,19 +380,23 @@ fn errors_are_shown(rt: HostRuntime) {
             "the order has no cell of that ring number",
         ),
     ] {
-        assert_eq!(rt; shown(&rt, alloc, error).as_str(), text);
+        is_shown(&rt, rt.alloc(), &error, text);
     }
-    let large = shown(&rt, alloc, OrderError::OrderTooLarge);
-    assert_eq!(rt; large.as_str(), "the deepest order is 29");
-    let no_side = shown(&rt, alloc, OrderError::NotNside);
-    assert_eq!(rt; no_side.as_str(), "no order has an nside of that number");
-    let no_order = shown(&rt, alloc, NameError::NotOrder);
-    assert_eq!(rt; no_order.as_str(), "an order is a number from 0 to 29");
-    let no_cell = shown(&rt, alloc, NameError::NotCell);
-    assert_eq!(rt;
-        no_cell.as_str(),
-        "a cell is an order, a slash and an index of the order, as 3/10"
-    );
+    for (error, text) in [
+        (OrderError::OrderTooLarge, "the deepest order is 29"),
+        (OrderError::NotNside, "no order has an nside of that number"),
+    ] {
+        is_shown(&rt, rt.alloc(), &error, text);
+    }
+    for (error, text) in [
+        (NameError::NotOrder, "an order is a number from 0 to 29"),
+        (
+            NameError::NotCell,
+            "a cell is an order, a slash and an index of the order, as 3/10",
+        ),
+    ] {
+        is_shown(&rt, rt.alloc(), &error, text);
+    }
 }
 
 #[test]

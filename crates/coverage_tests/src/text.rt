@@ -4,7 +4,9 @@ mod ascii;
 mod json;
 mod uniq;
 
-use std::alloc::{AllocError, Global};
+use moc_ranges::Coverage;
+use moc_sphere::Order;
+use std::alloc::Global;
 use std::fmt::Write;
 use std::process::Abort;
 
@@ -15,14 +17,28 @@ const Q1: u64 = 72057594037927936;
 
 const Q2: u64 = 18014398509481984;
 
+/// Checks the pixels and the deepest order that a text says.
+fn says(
+    rt: &impl Abort,
+    alloc: Global,
+    said: &(Coverage, Option<Order>),
+    ranges: &[(u64, u64)],
+    deepest: Option<u8>,
+) {
+    let (set, found) = said;
+    let wanted = Coverage::from_ranges(alloc, ranges).expect(rt, "ranges");
+    assert!(rt; set.same(&wanted));
+    assert_eq!(rt; *found, deepest.and_then(Order::new));
+}
+
 /// A byte a thousand times, between a front and a back.
-fn repeated(alloc: Global, front: &[u8], byte: u8, back: &[u8]) -> Result<Vec<u8>, AllocError> {
-    let mut text = Vec::from_slice(alloc, front)?;
+fn repeated(rt: &impl Abort, alloc: Global, front: &[u8], byte: u8, back: &[u8]) -> Vec<u8> {
+    let mut text = Vec::from_slice(alloc, front).expect(rt, "memory");
     for _ in 0..1000 {
-        text.push(byte)?;
+        text.push(byte).expect(rt, "memory");
     }
-    text.extend_from_slice(back)?;
-    Ok(text)
+    text.extend_from_slice(back).expect(rt, "memory");
+    text
 }
 
 /// Every second number from `first` on, 1,500 of them, between a front and a back.

@@ -1,5 +1,4 @@
-use super::{Q0, Q1, Q2, every_second, repeated};
-use moc_ranges::Coverage;
+use super::{Q0, Q1, Q2, every_second, repeated, says};
 use moc_sphere::Order;
 use moc_text::{TextError, read_ascii, write_ascii};
 use std::alloc::Global;
@@ -13,10 +12,8 @@ fn is_read(
     ranges: &[(u64, u64)],
     deepest: Option<u8>,
 ) {
-    let (set, found) = read_ascii(alloc, text).expect(rt, "a set");
-    let wanted = Coverage::from_ranges(alloc, ranges).expect(rt, "ranges");
-    assert!(rt; set.same(&wanted));
-    assert_eq!(rt; found.map(|order| order.get()), deepest);
+    let said = read_ascii(alloc, text).expect(rt, "a set");
+    says(rt, alloc, &said, ranges, deepest);
 }
 
 /// The fault of a text, if it has one.
@@ -27,10 +24,21 @@ fn fault(alloc: Global, text: &[u8]) -> Option<TextError> {
     }
 }
 
-/// The text of what a text says.
-fn rewritten(alloc: Global, text: &[u8], stated: Option<u8>) -> Result<String, TextError> {
-    let (set, _) = read_ascii(alloc, text)?;
-    write_ascii(alloc, &set, stated.and_then(Order::new))
+/// Checks the fault of a text, and its place.
+fn is_at_fault(rt: &impl Abort, alloc: Global, text: &str, wanted: TextError, place: usize) {
+    let seen = fault(alloc, text.as_bytes());
+    assert_eq!(rt;
+        (seen, wanted.place()),
+        (Some(wanted), Some(place)),
+        "{text}"
+    );
+}
+
+/// Checks the text of what a text says.
+fn is_rewritten(rt: &impl Abort, alloc: Global, text: &str, stated: Option<u8>, wanted: &str) {
+    let (set, _) = read_ascii(alloc, text.as_bytes()).expect(rt, "a set");
+    let written = write_ascii(alloc, &set, stated.and_then(Order::new)).expect(rt, "a text");
+    assert_eq!(rt; written.as_str(), wanted);
 }
 
 #[test]
@@ -59,60 +67,72 @@ fn texts_that_are_read(rt: HostRuntime) {
 }
 
 #[test]
-fn long_numbers(rt: HostRuntime) {
+fn a_long_number(rt: HostRuntime) {
     let alloc = rt.alloc();
-    let zeros = repeated(alloc, b"0/", b'0', b"5").expect(&rt, "memory");
+    let zeros = repeated(&rt, alloc, b"0/", b'0', b"5");
     is_read(&rt, alloc, &zeros, &[(5 * Q0, 6 * Q0)], Some(0));
-    let nines = repeated(alloc, b"0/", b'9', b"").expect(&rt, "memory");
-    assert_eq!(rt;
-        fault(alloc, &nines),
-        Some(TextError::CellTooLarge { at: 2 })
-    );
-    let order = repeated(alloc, b"s", b'9', b"/0").expect(&rt, "memory");
-    assert_eq!(rt;
-        fault(alloc, &order),
-        Some(TextError::OrderTooLarge { at: 1 })
-    );
 }
 
 #[test]
-fn faults(rt: HostRuntime) {
-    let alloc = rt.alloc();
-    for (text, wanted, place) in [
-        ("5/7-3", TextError::Backwards { at: 2 }, 2),
-        ("7 5/1", TextError::NoOrder { at: 0 }, 0),
-        ("30/0", TextError::OrderTooLarge { at: 0 }, 0),
-        ("s30/0", TextError::OrderTooLarge { at: 1 }, 1),
-        ("5/7-", TextError::Unfinished { at: 4 }, 4),
-        ("5/7x", TextError::BadByte { at: 3 }, 3),
-        ("5-3/", TextError::BadByte { at: 3 }, 3),
-        ("1/5-999", TextError::CellTooLarge { at: 4 }, 4),
-        ("1/50-999", TextError::CellTooLarge { at: 2 }, 2),
-        (
-            "s29/3458764513820540928",
-            TextError::CellTooLarge { at: 4 },
-            4,
-        ),
-        ("1/1 5 /3", TextError::BadByte { at: 6 }, 6),
-        ("s", TextError::Unfinished { at: 1 }, 1),
-        ("1/s", TextError::BadByte { at: 2 }, 2),
-        ("/", TextError::BadByte { at: 0 }, 0),
-        ("1//", TextError::BadByte { at: 2 }, 2),
-        ("1/2/", TextError::BadByte { at: 3 }, 3),
-        ("5/-", TextError::BadByte { at: 2 }, 2),
-        ("1", TextError::NoOrder { at: 0 }, 0),
-        ("1/1-", TextError::Unfinished { at: 4 }, 4),
-        ("1/1-2 4 2/12-", TextError::Unfinished { at: 13 }, 13),
-        ("1/1-2 4 2/12-1", TextError::Backwards { at: 10 }, 10),
+fn numbers_that_are_too_long(rt: HostRuntime) {
+    for (front, back, wanted) in [
+        ("0/", "", TextError::CellTooLarge { at: 2 }),
+        ("s", "/0", TextError::OrderTooLarge { at: 1 }),
     ] {
-        let Some(seen) = fault(alloc, text.as_bytes()) else {
-            panic!(&rt; "{text} is taken")
-        };
-        assert_eq!(rt; seen.place(), Some(place), "{text}");
-        assert_eq!(rt; seen, wanted);
+        let text = repeated(&rt, rt.alloc(), front.as_bytes(), b'9', back.as_bytes());
+        let seen = fault(rt.alloc(), &text);
+        assert_eq!(rt; seen, Some(wanted));
     }
-    assert_eq!(rt; TextError::Memory.place(), None);
-    assert_eq!(rt; TextError::TooCoarse.place(), None);
+}
+
+#[test]
+fn faults_of_bytes(rt: HostRuntime) {
+    for (text, at) in [
+        ("5/7x", 3),
+        ("5-3/", 3),
+        ("1/1 5 /3", 6),
+        ("1/s", 2),
+        ("/", 0),
+        ("1//", 2),
+        ("1/2/", 3),
+        ("5/-", 2),
+    ] {
+        is_at_fault(&rt, rt.alloc(), text, TextError::BadByte { at }, at);
+    }
+    for (text, at) in [("5/7-", 4), ("s", 1), ("1/1-", 4), ("1/1-2 4 2/12-", 13)] {
+        is_at_fault(&rt, rt.alloc(), text, TextError::Unfinished { at }, at);
+    }
+}
+
+#[test]
+fn faults_of_numbers(rt: HostRuntime) {
+    for (text, at) in [("5/7-3", 2), ("1/1-2 4 2/12-1", 10)] {
+        is_at_fault(&rt, rt.alloc(), text, TextError::Backwards { at }, at);
+    }
+    for (text, at) in [
+        ("1/5-999", 4),
+        ("1/50-999", 2),
+        ("s29/3458764513820540928", 4),
+    ] {
+        is_at_fault(&rt, rt.alloc(), text, TextError::CellTooLarge { at }, at);
+    }
+}
+
+#[test]
+fn faults_of_orders(rt: HostRuntime) {
+    for text in ["7 5/1", "1"] {
+        is_at_fault(&rt, rt.alloc(), text, TextError::NoOrder { at: 0 }, 0);
+    }
+    for (text, at) in [("30/0", 0), ("s30/0", 1)] {
+        is_at_fault(&rt, rt.alloc(), text, TextError::OrderTooLarge { at }, at);
+    }
+}
+
+#[test]
+fn faults_without_a_place(rt: HostRuntime) {
+    for error in [TextError::Memory, TextError::TooCoarse] {
+        assert_eq!(rt; error.place(), None);
+    }
 }
 
 #[test]
@@ -134,10 +154,15 @@ fn written_texts(rt: HostRuntime) {
         (cells, Some(2), "0/0 2/"),
         ("29/4-7,8,0-3", None, "28/0-1 29/8"),
     ] {
-        let written = rewritten(alloc, text.as_bytes(), stated).expect(&rt, "a text");
-        assert_eq!(rt; written.as_str(), wanted);
+        is_rewritten(&rt, alloc, text, stated, wanted);
     }
-    let coarse = rewritten(alloc, lines.as_bytes(), Some(1));
+}
+
+#[test]
+fn a_deepest_order_that_is_too_coarse(rt: HostRuntime) {
+    let alloc = rt.alloc();
+    let (set, _) = read_ascii(alloc, b"1/1 2 4\n2/12-14 21 23 25 \n8/").expect(&rt, "a set");
+    let coarse = write_ascii(alloc, &set, Order::new(1));
     assert!(rt; matches!(coarse, Err(TextError::TooCoarse)));
 }
 

@@ -1,5 +1,4 @@
-use super::{Q1, Q2, every_second, repeated};
-use moc_ranges::Coverage;
+use super::{Q1, Q2, every_second, repeated, says};
 use moc_sphere::Order;
 use moc_text::{JsonError, JsonPlace, read_json, write_json};
 use std::alloc::Global;
@@ -13,10 +12,8 @@ fn is_read(
     ranges: &[(u64, u64)],
     deepest: Option<u8>,
 ) {
-    let (set, found) = read_json(alloc, text).expect(rt, "a set");
-    let wanted = Coverage::from_ranges(alloc, ranges).expect(rt, "ranges");
-    assert!(rt; set.same(&wanted));
-    assert_eq!(rt; found.map(|order| order.get()), deepest);
+    let said = read_json(alloc, text).expect(rt, "a set");
+    says(rt, alloc, &said, ranges, deepest);
 }
 
 /// The fault of a text, if it has one.
@@ -25,6 +22,18 @@ fn fault(alloc: Global, text: &[u8]) -> Option<JsonError> {
         Ok(_) => None,
         Err(fault) => Some(fault),
     }
+}
+
+/// Checks the fault of a text, and its place.
+fn is_at_fault(
+    rt: &impl Abort,
+    alloc: Global,
+    text: &str,
+    wanted: JsonError,
+    place: Option<JsonPlace>,
+) {
+    let seen = fault(alloc, text.as_bytes());
+    assert_eq!(rt; (seen, wanted.place()), (Some(wanted), place), "{text}");
 }
 
 /// The place of a name.
@@ -64,50 +73,36 @@ fn objects(rt: HostRuntime) {
 
 // Names stand in byte order, so "10" is name 0 where "2" is name 1.
 #[test]
-fn faults(rt: HostRuntime) {
+fn faults_of_names(rt: HostRuntime) {
     let alloc = rt.alloc();
-    for (text, wanted, place) in [
-        ("[1]", JsonError::NotObject, None),
-        (
-            "{\"1\":[],\"30\":[0]}",
-            JsonError::BadOrder { name: 1 },
-            name(1),
-        ),
-        ("{\"\":[]}", JsonError::BadOrder { name: 0 }, name(0)),
-        ("{\"+1\":[]}", JsonError::BadOrder { name: 0 }, name(0)),
-        ("{\"1\":5}", JsonError::NotArray { name: 0 }, name(0)),
-        (
-            "{\"2\":5,\"10\":[]}",
-            JsonError::NotArray { name: 1 },
-            name(1),
-        ),
-        (
-            "{\"2\":[-1]}",
-            JsonError::NotWhole { name: 0, place: 0 },
-            item(0),
-        ),
-        (
-            "{\"2\":[0,1.5]}",
-            JsonError::NotWhole { name: 0, place: 1 },
-            item(1),
-        ),
-        (
-            "{\"1\":[0,48]}",
-            JsonError::CellTooLarge { name: 0, place: 1 },
-            item(1),
-        ),
-        (
-            "{\"1\":[48,-1]}",
-            JsonError::CellTooLarge { name: 0, place: 0 },
-            item(0),
-        ),
+    for (text, at) in [
+        ("{\"1\":[],\"30\":[0]}", 1),
+        ("{\"\":[]}", 0),
+        ("{\"+1\":[]}", 0),
     ] {
-        let Some(seen) = fault(alloc, text.as_bytes()) else {
-            panic!(&rt; "{text} is taken")
-        };
-        assert_eq!(rt; seen.place(), place, "{text}");
-        assert_eq!(rt; seen, wanted);
+        is_at_fault(&rt, alloc, text, JsonError::BadOrder { name: at }, name(at));
     }
+    for (text, at) in [("{\"1\":5}", 0), ("{\"2\":5,\"10\":[]}", 1)] {
+        is_at_fault(&rt, alloc, text, JsonError::NotArray { name: at }, name(at));
+    }
+    is_at_fault(&rt, alloc, "[1]", JsonError::NotObject, None);
+}
+
+#[test]
+fn faults_of_numbers(rt: HostRuntime) {
+    let alloc = rt.alloc();
+    for (text, place) in [("{\"2\":[-1]}", 0), ("{\"2\":[0,1.5]}", 1)] {
+        let error = JsonError::NotWhole { name: 0, place };
+        is_at_fault(&rt, alloc, text, error, item(place));
+    }
+    for (text, place) in [("{\"1\":[0,48]}", 1), ("{\"1\":[48,-1]}", 0)] {
+        let error = JsonError::CellTooLarge { name: 0, place };
+        is_at_fault(&rt, alloc, text, error, item(place));
+    }
+}
+
+#[test]
+fn faults_without_a_place(rt: HostRuntime) {
     for error in [JsonError::NotJson, JsonError::Memory, JsonError::TooCoarse] {
         assert_eq!(rt; error.place(), None);
     }
@@ -118,7 +113,7 @@ fn not_json(rt: HostRuntime) {
     let alloc = rt.alloc();
     assert_eq!(rt; fault(alloc, b"{\"1\":[0"), Some(JsonError::NotJson));
     assert_eq!(rt; fault(alloc, b"{\"1\":[0]}\xff"), Some(JsonError::NotJson));
-    let brackets = repeated(alloc, b"", b'[', b"").expect(&rt, "memory");
+    let brackets = repeated(&rt, alloc, b"", b'[', b"");
     assert_eq!(rt; fault(alloc, &brackets), Some(JsonError::NotJson));
 }
 
@@ -137,6 +132,11 @@ fn written_texts(rt: HostRuntime) {
     ] {
         is_rewritten(&rt, alloc, text, wanted);
     }
+}
+
+#[test]
+fn a_deepest_order_that_is_too_coarse(rt: HostRuntime) {
+    let alloc = rt.alloc();
     let (set, _) = read_json(alloc, b"{\"2\":[12]}").expect(&rt, "a set");
     assert!(rt;
         matches!(
