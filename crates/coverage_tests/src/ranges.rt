@@ -311,8 +311,8 @@ fn ranges_and_deepest_orders(rt: HostRuntime) {
     has_order(&rt, &many, 12800, 29);
 }
 
-/// Every third of 6,000 pixels, added in an order that jumps back and forth: 7 and 6,000 have no common divisor, so that
-/// i * 7 comes to every number below 6,000 once.
+/// Every third of 6,000 pixels, added in an order that jumps back and forth: 7 and 6,000 have no common divisor, so
+/// that i * 7 comes to every number below 6,000 once.
 fn thirds(rt: &impl Abort, alloc: Global) -> Coverage {
     let mut builder = CoverageBuilder::new(alloc);
     for i in 0..6000u64 {

@@ -7,3 +7,5 @@ mod parts;
 mod shared;
 #[cfg(test)]
 mod steps;
+#[cfg(test)]
+mod told;

@@ -1,4 +1,7 @@
 //! Each call that takes memory once with ample memory, and the footprints of small operands.
+ghost use Rattle.std.specs.Prelude.{◌<◌};
+
+use crate::told::told;
 use moc_parts::{
     Batch, BatchError, Command, Map, Operand, Part, PartSet, Replies, Reply, cut, prepare,
     prepare_changes, reply_of, unite,
@@ -42,45 +45,57 @@ fn has_just(footprint: PartSet, parts: &[u8]) -> bool {
     (0u8..12).all(|b| footprint.contains(Part::of(b)) == parts.contains(&b))
 }
 
+/// Checks that the footprint of a command has just these parts.
+fn touches_just(rt: &impl Abort, alloc: Global, command: Command, parts: &[u8]) {
+    assert!(rt; has_just(command.footprint(alloc), parts), "{parts:?}");
+}
+
 #[test]
-fn footprints(rt: HostRuntime) {
+fn footprints_of_operands(rt: HostRuntime) {
     let alloc = rt.alloc();
     let empty = Command::Add(ranges(&rt, alloc, &[]));
-    assert!(rt; has_just(empty.footprint(alloc), &[0]));
+    touches_just(&rt, alloc, empty, &[0]);
     let pairs = [(3 * BASE, 4 * BASE), (5 * BASE + 3 * (BASE / 4), 6 * BASE)];
     let two = Command::Count(ranges(&rt, alloc, &pairs));
-    assert!(rt; has_just(two.footprint(alloc), &[3, 5]));
-    assert!(rt; has_just(near(&rt, 0, 4).footprint(alloc), &[0, 3, 4, 5, 7, 8, 11]));
-    assert!(rt; has_just(near(&rt, 1, 0).footprint(alloc), &[0, 4, 5, 8]));
-    assert!(rt; has_just(near(&rt, 1, 3).footprint(alloc), &[0, 1, 2, 3]));
+    touches_just(&rt, alloc, two, &[3, 5]);
     let keep = Command::Keep(ranges(&rt, alloc, &[(3 * BASE, 4 * BASE)]));
-    assert!(rt;
-        has_just(
-            keep.footprint(alloc),
-            &[0, 1, 2, 3, 4, 5, 6, 7, 8, 9, 10, 11]
-        )
-    );
+    let all = [0, 1, 2, 3, 4, 5, 6, 7, 8, 9, 10, 11];
+    touches_just(&rt, alloc, keep, &all);
+}
+
+#[test]
+fn footprints_of_cells(rt: HostRuntime) {
+    let alloc = rt.alloc();
+    touches_just(&rt, alloc, near(&rt, 0, 4), &[0, 3, 4, 5, 7, 8, 11]);
+    touches_just(&rt, alloc, near(&rt, 1, 0), &[0, 4, 5, 8]);
+    touches_just(&rt, alloc, near(&rt, 1, 3), &[0, 1, 2, 3]);
+}
+
+/// Checks in which one part an operand lies.
+fn lies_in(rt: &impl Abort, operand: &Operand, part: Option<u8>) {
+    assert_eq!(rt; operand.own_part().map(|part| part.get()), part);
 }
 
 #[test]
 fn an_operand_in_one_part(rt: HostRuntime) {
     let alloc = rt.alloc();
-    let three = ranges(
-        &rt,
-        alloc,
-        &[(3 * BASE, 3 * BASE + 2), (4 * BASE - 1, 4 * BASE)],
-    );
-    assert_eq!(rt; three.own_part(), Some(Part::of(3)));
-    assert_eq!(rt;
-        ranges(&rt, alloc, &[(0, 1), (BASE, BASE + 1)]).own_part(),
-        None
-    );
-    assert_eq!(rt; ranges(&rt, alloc, &[]).own_part(), None);
+    let pairs = [(3 * BASE, 3 * BASE + 2), (4 * BASE - 1, 4 * BASE)];
+    let three = ranges(&rt, alloc, &pairs);
+    lies_in(&rt, &three, Some(3));
     let degraded = Operand {
         coarse: Order::new(0),
         ..three
     };
-    assert_eq!(rt; degraded.own_part(), None);
+    lies_in(&rt, &degraded, None);
+}
+
+#[test]
+fn operands_in_no_one_part(rt: HostRuntime) {
+    let alloc = rt.alloc();
+    let two = ranges(&rt, alloc, &[(0, 1), (BASE, BASE + 1)]);
+    lies_in(&rt, &two, None);
+    let none = ranges(&rt, alloc, &[]);
+    lies_in(&rt, &none, None);
 }
 
 #[test]
@@ -90,61 +105,81 @@ fn parts_of_a_set_rise(rt: HostRuntime) {
         parts.insert(Part::of(number));
     }
     let mut rising = parts.into_iter();
-    assert!(rt; rising.next() == Some(Part::of(0)));
-    assert!(rt; rising.next() == Some(Part::of(5)));
-    assert!(rt; rising.next() == Some(Part::of(11)));
-    assert!(rt; rising.next().is_none());
-    assert!(rt; rising.next().is_none());
+    for number in [0u8, 5, 11] {
+        assert!(rt; rising.next() == Some(Part::of(number)));
+    }
+    for _ in 0..2 {
+        assert!(rt; rising.next().is_none());
+    }
     assert!(rt; PartSet::none().into_iter().next().is_none());
+}
+
+#[test]
+fn all_parts(rt: HostRuntime) {
     for number in 0u8..12 {
         assert_eq!(rt; Part::ALL[usize::from(number)].get(), number);
     }
 }
 
+/// The batch that adds base pixel 3, and then nothing.
+fn two_adds(rt: &impl Abort, alloc: Global) -> Batch {
+    let three = Command::Add(ranges(rt, alloc, &[(3 * BASE, 4 * BASE)]));
+    let none = Command::Add(ranges(rt, alloc, &[]));
+    let commands = vec![in alloc; three, none].expect(rt, "memory");
+    Batch::new(commands).expect(rt, "two commands")
+}
+
 #[test]
 fn a_batch_has_the_parts_of_its_commands(rt: HostRuntime) {
     let alloc = rt.alloc();
-    let mut commands = Vec::new(alloc);
-    commands
-        .push(Command::Add(ranges(&rt, alloc, &[(3 * BASE, 4 * BASE)])))
-        .expect(&rt, "memory");
-    commands
-        .push(Command::Add(ranges(&rt, alloc, &[])))
-        .expect(&rt, "memory");
-    let batch = Batch::new(commands).expect(&rt, "memory");
+    let batch = two_adds(&rt, alloc);
     assert!(rt; has_just(batch.footprint(alloc), &[0, 3]));
     assert!(rt; batch.is_update());
     let copy = batch.try_copy(alloc).expect(&rt, "memory");
-    assert!(rt; copy.commands().len() == 2);
+    assert_eq!(rt; copy.commands().len(), 2);
+}
+
+/// Why so many commands are no batch.
+fn refusal_of(rt: &impl Abort, alloc: Global, count: u8) -> Option<BatchError> {
+    let mut commands = Vec::new(alloc);
+    for _ in 0..count {
+        commands.push(Command::Invert).expect(rt, "memory");
+    }
+    Batch::new(commands).err()
 }
 
 #[test]
 fn batches_of_none_and_of_seventeen(rt: HostRuntime) {
-    let mut commands = Vec::new(rt.alloc());
-    assert!(rt;
-        matches!(
-            Batch::new(Vec::new(rt.alloc())),
-            Err(BatchError::EmptyCommand)
-        )
-    );
-    for _ in 0u8..17 {
-        commands.push(Command::Invert).expect(&rt, "memory");
+    let none = refusal_of(&rt, rt.alloc(), 0);
+    assert!(rt; matches!(none, Some(BatchError::EmptyCommand)));
+    let many = refusal_of(&rt, rt.alloc(), 17);
+    assert!(rt; matches!(many, Some(BatchError::TooManyCommands)));
+}
+
+/// A copy of a set, as the set of a copied reply.
+fn cover_of_copy(rt: &impl Abort, alloc: Global, set: &Coverage) -> Coverage {
+    let reply = Reply::Cover(set.try_copy(alloc).expect(rt, "memory"));
+    match reply.try_copy(alloc).expect(rt, "memory") {
+        Reply::Cover(cover) => cover,
+        _ => panic!(rt; "another reply"),
     }
-    assert!(rt; matches!(Batch::new(commands), Err(BatchError::TooManyCommands)));
+}
+
+/// The operand of a copied command.
+fn operand_of_copy(rt: &impl Abort, alloc: Global, operand: Operand) -> Operand {
+    match Command::Keep(operand).try_copy(alloc).expect(rt, "memory") {
+        Command::Keep(kept) => kept,
+        _ => panic!(rt; "another command"),
+    }
 }
 
 #[test]
 fn copies(rt: HostRuntime) {
     let alloc = rt.alloc();
-    let third = ranges(&rt, alloc, &[(3 * BASE, 4 * BASE)]);
-    let reply = Reply::Cover(third.set.try_copy(alloc).expect(&rt, "memory"));
-    let Reply::Cover(cover) = reply.try_copy(alloc).expect(&rt, "memory") else {
-        panic!(rt; "another reply")
-    };
-    assert!(rt; cover.same(&third.set));
-    let Command::Keep(kept) = Command::Keep(third).try_copy(alloc).expect(&rt, "memory") else {
-        panic!(rt; "another command")
-    };
+    let third = set(&rt, alloc, &[(3 * BASE, 4 * BASE)]);
+    let cover = cover_of_copy(&rt, alloc, &third);
+    assert!(rt; cover.same(&third));
+    let kept = operand_of_copy(&rt, alloc, Operand::from(third));
     assert!(rt; kept.set.same(&cover));
 }
 
@@ -156,23 +191,41 @@ fn changed(replies: &Replies) -> Option<u64> {
     }
 }
 
+/// Checks how many pixels a batch of one command changes.
+fn is_applied(rt: &impl Abort, alloc: Global, map: &mut Map, command: Command, pixels: u64) {
+    let batch = one(rt, alloc, command);
+    let replies = map.apply(alloc, &batch).expect(rt, "memory");
+    assert_eq!(rt; changed(&replies), Some(pixels));
+    let copy = replies.try_copy(alloc).expect(rt, "memory");
+    assert_eq!(rt; changed(&copy), Some(pixels));
+}
+
+/// Checks how many pixels a command changes that is done without a batch.
+fn is_answered(rt: &impl Abort, alloc: Global, map: &mut Map, command: Command, pixels: u64) {
+    let reply = map.answer(alloc, &command).expect(rt, "memory");
+    let Reply::Changed(seen) = reply else {
+        panic!(rt; "another reply")
+    };
+    assert_eq!(rt; seen, pixels);
+}
+
+/// Checks how many pixels a part of a map has.
+fn has_in_part(rt: &impl Abort, map: &Map, number: u8, pixels: u64)
+    requires { number < 12 }
+{
+    assert_eq!(rt; map.part(Part::of(number)).count(), pixels);
+}
+
 #[test]
 fn a_map_does_commands(rt: HostRuntime) {
     let alloc = rt.alloc();
     let mut map = map_of(&rt, alloc, &[(0, BASE)]);
-    let replies = map
-        .apply(alloc, &one(&rt, alloc, Command::Invert))
-        .expect(&rt, "memory");
-    assert_eq!(rt;
-        changed(&replies.try_copy(alloc).expect(&rt, "memory")),
-        Some(12 * BASE)
-    );
-    assert!(rt; map.part(Part::of(0)).is_empty());
-    assert_eq!(rt; map.part(Part::of(11)).count(), BASE);
+    is_applied(&rt, alloc, &mut map, Command::Invert, 12 * BASE);
+    has_in_part(&rt, &map, 0, 0);
+    has_in_part(&rt, &map, 11, BASE);
     let keep = Command::Keep(ranges(&rt, alloc, &[(BASE, BASE + 5)]));
-    let kept = map.answer(alloc, &keep).expect(&rt, "memory");
-    assert!(rt; matches!(kept, Reply::Changed(pixels) if pixels == 11 * BASE - 5));
-    assert!(rt; map.part(Part::of(11)).is_empty());
+    is_answered(&rt, alloc, &mut map, keep, 11 * BASE - 5);
+    has_in_part(&rt, &map, 11, 0);
 }
 
 #[test]
@@ -180,25 +233,22 @@ fn one_add_alone(rt: HostRuntime) {
     let alloc = rt.alloc();
     let mut map = map_of(&rt, alloc, &[(BASE, BASE + 10)]);
     let before = map.part(Part::of(1)).try_copy(alloc).expect(&rt, "memory");
-    let add = one(
-        &rt,
-        alloc,
-        Command::Add(ranges(&rt, alloc, &[(BASE + 5, BASE + 20)])),
-    );
-    let replies = map.apply(alloc, &add).expect(&rt, "memory");
-    assert_eq!(rt; changed(&replies), Some(10));
-    assert_eq!(rt; map.part(Part::of(1)).count(), 20);
+    let add = Command::Add(ranges(&rt, alloc, &[(BASE + 5, BASE + 20)]));
+    is_applied(&rt, alloc, &mut map, add, 10);
+    has_in_part(&rt, &map, 1, 20);
     assert_eq!(rt; before.count(), 10);
-    // Two parts, and a set of two ranges.
+}
+
+#[test]
+fn adds_of_two_parts_and_of_two_ranges(rt: HostRuntime) {
+    let alloc = rt.alloc();
+    let mut map = map_of(&rt, alloc, &[(BASE, BASE + 20)]);
     let across = Command::Add(ranges(&rt, alloc, &[(2 * BASE - 3, 2 * BASE + 3)]));
-    assert!(rt; matches!(map.answer(alloc, &across), Ok(Reply::Changed(6))));
-    let two = Command::Add(ranges(
-        &rt,
-        alloc,
-        &[(3 * BASE, 3 * BASE + 1), (4 * BASE - 1, 4 * BASE)],
-    ));
-    assert!(rt; matches!(map.answer(alloc, &two), Ok(Reply::Changed(2))));
-    assert_eq!(rt; map.part(Part::of(3)).count(), 2);
+    is_answered(&rt, alloc, &mut map, across, 6);
+    let pairs = [(3 * BASE, 3 * BASE + 1), (4 * BASE - 1, 4 * BASE)];
+    let two = Command::Add(ranges(&rt, alloc, &pairs));
+    is_answered(&rt, alloc, &mut map, two, 2);
+    has_in_part(&rt, &map, 3, 2);
 }
 
 #[test]
@@ -209,11 +259,8 @@ fn a_batch_is_prepared_from_a_part(rt: HostRuntime) {
     let found = [
         part, None, None, None, None, None, None, None, None, None, None, None,
     ];
-    let removal = one(
-        &rt,
-        alloc,
-        Command::Remove(ranges(&rt, alloc, &[(5, BASE)])),
-    );
+    let removal = Command::Remove(ranges(&rt, alloc, &[(5, BASE)]));
+    let removal = one(&rt, alloc, removal);
     let mut prepared = prepare(alloc, &removal, &found).expect(&rt, "memory");
     assert_eq!(rt; changed(prepared.reply()), Some(BASE - 5));
     let list = prepared.take(Part::of(0)).expect(&rt, "no list");
@@ -221,6 +268,16 @@ fn a_batch_is_prepared_from_a_part(rt: HostRuntime) {
     assert!(rt; prepared.take(Part::of(0)).is_none());
     assert!(rt; prepared.take(Part::of(1)).is_none());
     assert_eq!(rt; prepared.into_reply().as_slice().len(), 1);
+}
+
+#[test]
+fn a_query_is_answered_from_a_part(rt: HostRuntime) {
+    let alloc = rt.alloc();
+    let map = map_of(&rt, alloc, &[(0, 3 * BASE)]);
+    let part = Some(map.part(Part::of(0)));
+    let found = [
+        part, None, None, None, None, None, None, None, None, None, None, None,
+    ];
     let count = one(&rt, alloc, Command::Count(ranges(&rt, alloc, &[(5, BASE)])));
     assert!(rt; !count.is_update());
     let replies = reply_of(alloc, &count, &found).expect(&rt, "memory");
@@ -257,10 +314,18 @@ fn a_set_is_cut_and_put_together(rt: HostRuntime) {
 
 #[test]
 fn errors_are_told(rt: HostRuntime) {
-    let few = format!(in rt.alloc(); "{}", BatchError::EmptyCommand).expect(&rt, "memory");
-    assert_eq!(rt; few.as_str(), "a batch has a command");
-    let many = format!(in rt.alloc(); "{}", BatchError::TooManyCommands).expect(&rt, "memory");
-    assert_eq!(rt; many.as_str(), "a batch has at most 16 commands");
+    let (few, many) = (BatchError::EmptyCommand, BatchError::TooManyCommands);
+    told(&rt, rt.alloc(), &few, "a batch has a command");
+    told(&rt, rt.alloc(), &many, "a batch has at most 16 commands");
+}
+
+/// Checks the ranges of a set.
+fn has_ranges(rt: &impl Abort, set: &Coverage, pairs: &[(u64, u64)]) {
+    let mut ranges = set.ranges();
+    for pair in pairs {
+        assert_eq!(rt; ranges.next(), Some(*pair));
+    }
+    assert_eq!(rt; ranges.next(), None);
 }
 
 #[test]
@@ -269,10 +334,7 @@ fn a_map_is_one_coverage(rt: HostRuntime) {
     let pairs = [(BASE - 1, BASE + 1), (5 * BASE, 7 * BASE)];
     let map = map_of(&rt, alloc, &pairs);
     let whole = map.coverage(alloc).expect(&rt, "memory");
-    let mut ranges = whole.ranges();
-    assert_eq!(rt; ranges.next(), Some((BASE - 1, BASE + 1)));
-    assert_eq!(rt; ranges.next(), Some((5 * BASE, 7 * BASE)));
-    assert_eq!(rt; ranges.next(), None);
+    has_ranges(&rt, &whole, &pairs);
     let operand = Operand::from(whole);
     assert!(rt; operand.coarse.is_none() && operand.set.count() == 2 * BASE + 2);
 }

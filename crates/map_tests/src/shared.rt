@@ -2,13 +2,13 @@
 ghost use Rattle.std.specs.Prelude.{◌≤◌, All, IfOk, IfSome};
 ghost use Rattle.moc_shared.specs.Clients.{IsClientOf, IsHoldingOf};
 
+use crate::told::told;
 use moc_parts::{Batch, Command, Operand, Part, Replies, Reply};
 use moc_ranges::Coverage;
 use moc_shared::{
     Busy, Client, CloseError, Holding, LookError, NewError, SharedMap, Snapshot, TryError,
 };
 use std::alloc::Global;
-use std::fmt::Display;
 use std::process::Abort;
 use std::sync::Wait;
 use std::thread;
@@ -56,6 +56,46 @@ fn two(rt: &impl Abort, alloc: Global, start: Coverage) -> (SharedMap, Client, C
     (map, a, b)
 }
 
+/// Checks how many pixels a batch of one command changes.
+fn changes(
+    rt: &impl Abort,
+    alloc: Global,
+    map: &SharedMap,
+    client: &mut Client,
+    command: Command,
+    pixels: u64,
+)
+    requires { IsClientOf map.now client.old }
+    ensures { IsClientOf map.now client.new }
+{
+    let batch = one(rt, alloc, command);
+    assert_eq!(rt; changed(map.try_apply(client, &batch)), Some(pixels));
+}
+
+/// Checks how many pixels a batch counts that counts a set.
+fn counts(
+    rt: &impl Abort,
+    alloc: Global,
+    map: &SharedMap,
+    client: &mut Client,
+    counted: Operand,
+    pixels: u64,
+)
+    requires { IsClientOf map.now client.old }
+    ensures { IsClientOf map.now client.new }
+{
+    let batch = one(rt, alloc, Command::Count(counted));
+    assert_eq!(rt; total(map.try_apply(client, &batch)), Some(pixels));
+}
+
+/// Closes a map by the client that is left, and checks its set.
+fn ends_as(rt: &impl Abort, alloc: Global, map: SharedMap, client: Client, pairs: &[(u64, u64)])
+    requires { IsClientOf map client }
+{
+    let end = map.close(client).expect(rt, "the set");
+    assert!(rt; end.same(&set(rt, alloc, pairs)));
+}
+
 /// How many pixels changed.
 fn changed(done: Result<Replies, TryError>) -> Option<u64> {
     match done.ok()?.first() {
@@ -72,24 +112,51 @@ fn total(done: Result<Replies, TryError>) -> Option<u64> {
     }
 }
 
-/// Which part was held, and by whom.
-fn refused(done: Result<Replies, TryError>) -> Option<(u8, u8)> {
-    match done.err()? {
-        TryError::Busy(busy) => Some((busy.part.get(), busy.holder)),
-        TryError::Memory => None,
+/// Checks which part a batch that counts a set finds held, and by whom.
+fn finds_held(
+    rt: &impl Abort,
+    alloc: Global,
+    map: &SharedMap,
+    client: &mut Client,
+    counted: Operand,
+    found: (u8, u8),
+)
+    requires { IsClientOf map.now client.old }
+    ensures { IsClientOf map.now client.new }
+{
+    let batch = one(rt, alloc, Command::Count(counted));
+    let Err(TryError::Busy(busy)) = map.try_apply(client, &batch) else {
+        panic!(rt; "no part is held")
+    };
+    assert_eq!(rt; (busy.part.get(), busy.holder), found);
+}
+
+/// The holding of a client whose batch of one command takes all of its parts.
+fn held(
+    rt: &impl Abort,
+    alloc: Global,
+    map: &SharedMap,
+    client: Client,
+    command: Command,
+) -> Holding
+    requires { IsClientOf map.now client }
+    ensures { IsHoldingOf map.now result }
+{
+    match map.hold(client, one(rt, alloc, command)) {
+        Ok(holding) => holding,
+        Err(_) => panic!(rt; "a part is held"),
     }
 }
 
-/// The client at the end of what others do while it holds a batch.
-fn finished(map: &SharedMap, holding: Holding) -> (Client, Option<u64>)
+/// The client at the end of what others do while it holds a batch, which then changes so many pixels.
+fn finished(rt: &impl Abort, map: &SharedMap, holding: Holding, pixels: u64) -> Client
     requires { IsHoldingOf map.now holding }
-    ensures { IsClientOf map.now result.0 }
+    ensures { IsClientOf map.now result }
 {
     let (client, done) = map.finish(holding);
-    match done {
-        Ok(replies) => (client, changed(Ok(replies))),
-        Err(_) => (client, None),
-    }
+    let replies = done.expect(rt, "replies");
+    assert_eq!(rt; changed(Ok(replies)), Some(pixels));
+    client
 }
 
 #[test]
@@ -99,39 +166,45 @@ fn a_held_part_is_busy_and_the_others_are_not(rt: HostRuntime) {
     let mut c2 = next(&rt, &map, &mut clients);
     let mut c1 = next(&rt, &map, &mut clients);
     let c0 = next(&rt, &map, &mut clients);
-    let Ok(holding) = map.hold(c0, one(&rt, alloc, Command::Add(base(&rt, alloc, 3, 4)))) else {
-        panic!(rt; "held")
-    };
-    let five = one(&rt, alloc, Command::Add(base(&rt, alloc, 5, 6)));
-    assert_eq!(rt; changed(map.try_apply(&mut c1, &five)), Some(BASE));
-    let count = one(&rt, alloc, Command::Count(base(&rt, alloc, 2, 4)));
-    assert_eq!(rt; refused(map.try_apply(&mut c1, &count)), Some((3, 0)));
-    let two = one(&rt, alloc, Command::Add(base(&rt, alloc, 2, 3)));
-    assert_eq!(rt; changed(map.try_apply(&mut c2, &two)), Some(BASE));
-    let (c0, done) = finished(&map, holding);
-    assert_eq!(rt; done, Some(BASE));
-    let ends = set(&rt, alloc, &[(2 * BASE, 4 * BASE), (5 * BASE, 6 * BASE)]);
-    let all = ends.try_copy(alloc).expect(&rt, "a copy");
-    let all = one(&rt, alloc, Command::Count(Operand::from(all)));
-    assert_eq!(rt; total(map.try_apply(&mut c1, &all)), Some(3 * BASE));
-    assert!(rt; map.close(c0).expect(&rt, "the set").same(&ends));
+    let three = Command::Add(base(&rt, alloc, 3, 4));
+    let holding = held(&rt, alloc, &map, c0, three);
+    let five = Command::Add(base(&rt, alloc, 5, 6));
+    changes(&rt, alloc, &map, &mut c1, five, BASE);
+    finds_held(&rt, alloc, &map, &mut c1, base(&rt, alloc, 2, 4), (3, 0));
+    let two = Command::Add(base(&rt, alloc, 2, 3));
+    changes(&rt, alloc, &map, &mut c2, two, BASE);
+    let c0 = finished(&rt, &map, holding, BASE);
+    let pairs = [(2 * BASE, 4 * BASE), (5 * BASE, 6 * BASE)];
+    let all = Operand::from(set(&rt, alloc, &pairs));
+    counts(&rt, alloc, &map, &mut c1, all, 3 * BASE);
+    ends_as(&rt, alloc, map, c0, &pairs);
+}
+
+/// What a batch that claims base pixel 4 is answered: 0 where it was free, or how many of its pixels were taken.
+fn taken(rt: &impl Abort, alloc: Global, map: &SharedMap, client: &mut Client) -> Option<u64>
+    requires { IsClientOf map.now client.old }
+    ensures { IsClientOf map.now client.new }
+{
+    let claim = one(rt, alloc, Command::Claim(base(rt, alloc, 4, 5)));
+    let answer = map.try_apply(client, &claim).expect(rt, "an answer");
+    match answer.first() {
+        Some(Reply::Claimed) => Some(0),
+        Some(Reply::Taken(pixels)) => Some(*pixels),
+        _ => None,
+    }
 }
 
 #[test]
 fn two_clients_meet_and_one_takes_in_the_other(rt: HostRuntime) {
     let alloc = rt.alloc();
     let (map, mut a, mut b) = two(&rt, alloc, Coverage::empty(alloc));
-    let claim = one(&rt, alloc, Command::Claim(base(&rt, alloc, 4, 5)));
-    let first = map.try_apply(&mut a, &claim).expect(&rt, "an answer");
-    assert!(rt; matches!(first.first(), Some(Reply::Claimed)));
-    let second = map.try_apply(&mut b, &claim).expect(&rt, "an answer");
-    assert!(rt; matches!(second.first(), Some(Reply::Taken(BASE))));
+    assert_eq!(rt; taken(&rt, alloc, &map, &mut a), Some(0));
+    assert_eq!(rt; taken(&rt, alloc, &map, &mut b), Some(BASE));
     map.meet(&mut a, &mut b);
-    let nothing = one(&rt, alloc, Command::Add(base(&rt, alloc, 0, 0)));
-    assert_eq!(rt; changed(map.try_apply(&mut b, &nothing)), Some(0));
+    let nothing = Command::Add(base(&rt, alloc, 0, 0));
+    changes(&rt, alloc, &map, &mut b, nothing, 0);
     map.take_in(&mut a, b);
-    let set = set(&rt, alloc, &[(4 * BASE, 5 * BASE)]);
-    assert!(rt; map.close(a).expect(&rt, "the set").same(&set));
+    ends_as(&rt, alloc, map, a, &[(4 * BASE, 5 * BASE)]);
 }
 
 /// The part at which a map was not closed, while a client holds a batch for good.
@@ -152,8 +225,7 @@ fn midway(map: SharedMap, a: Client, b: Client, batch: Batch) -> Option<u8>
 fn a_part_that_stays_held_is_midway(rt: HostRuntime) {
     let alloc = rt.alloc();
     let (map, a, mut b) = two(&rt, alloc, set(&rt, alloc, &[(7 * BASE, 8 * BASE)]));
-    let count = one(&rt, alloc, Command::Count(base(&rt, alloc, 6, 8)));
-    assert_eq!(rt; total(map.try_apply(&mut b, &count)), Some(BASE));
+    counts(&rt, alloc, &map, &mut b, base(&rt, alloc, 6, 8), BASE);
     let add = one(&rt, alloc, Command::Add(base(&rt, alloc, 3, 4)));
     assert_eq!(rt; midway(map, a, b, add), Some(3));
 }
@@ -163,65 +235,95 @@ fn unseen(looked: Result<Snapshot, LookError>) -> Option<LookError> {
     looked.err()
 }
 
+/// What is read of a set, for later.
+fn seen(
+    rt: &impl Abort,
+    alloc: Global,
+    map: &SharedMap,
+    client: &mut Client,
+    read: Operand,
+) -> Snapshot
+    requires { IsClientOf map.now client.old }
+    ensures { IsClientOf map.now client.new }
+{
+    let read = one(rt, alloc, Command::Read(read));
+    map.look(client, &read).expect(rt, "a snapshot")
+}
+
 #[test]
 fn a_snapshot_answers_what_was_there(rt: HostRuntime) {
     let alloc = rt.alloc();
     let (map, mut a, mut b) = two(&rt, alloc, Coverage::empty(alloc));
-    let add = one(&rt, alloc, Command::Add(base(&rt, alloc, 3, 4)));
-    assert_eq!(rt; changed(map.try_apply(&mut b, &add)), Some(BASE));
+    let add = Command::Add(base(&rt, alloc, 3, 4));
+    changes(&rt, alloc, &map, &mut b, add, BASE);
     let both = set(&rt, alloc, &[(3 * BASE, 4 * BASE), (5 * BASE, 6 * BASE)]);
-    let read = one(&rt, alloc, Command::Read(Operand::from(both)));
-    let snapshot = map.look(&mut a, &read).expect(&rt, "a snapshot");
-    let remove = one(&rt, alloc, Command::Remove(base(&rt, alloc, 3, 4)));
-    assert_eq!(rt; changed(map.try_apply(&mut b, &remove)), Some(BASE));
-    is_base_pixel_3(&rt, alloc, &snapshot);
-    is_base_pixel_3(&rt, alloc, &snapshot);
-    let count = one(&rt, alloc, Command::Count(base(&rt, alloc, 3, 4)));
-    assert_eq!(rt; total(map.try_apply(&mut a, &count)), Some(0));
-    let five = one(&rt, alloc, Command::Add(base(&rt, alloc, 5, 6)));
-    assert_eq!(rt; unseen(map.look(&mut a, &five)), Some(LookError::NotQuery));
-    assert!(rt; map.close(a).expect(&rt, "the set").is_empty());
+    let snapshot = seen(&rt, alloc, &map, &mut a, Operand::from(both));
+    let remove = Command::Remove(base(&rt, alloc, 3, 4));
+    changes(&rt, alloc, &map, &mut b, remove, BASE);
+    for _ in 0..2 {
+        answers(&rt, alloc, &snapshot, &[(3 * BASE, 4 * BASE)]);
+    }
+    counts(&rt, alloc, &map, &mut a, base(&rt, alloc, 3, 4), 0);
+    ends_as(&rt, alloc, map, a, &[]);
 }
 
-/// Checks that a snapshot answers with base pixel 3.
-fn is_base_pixel_3(rt: &impl Abort, alloc: Global, snapshot: &Snapshot) {
+#[test]
+fn a_look_is_of_queries(rt: HostRuntime) {
+    let alloc = rt.alloc();
+    let (map, mut a, _) = two(&rt, alloc, Coverage::empty(alloc));
+    let five = one(&rt, alloc, Command::Add(base(&rt, alloc, 5, 6)));
+    assert_eq!(rt; unseen(map.look(&mut a, &five)), Some(LookError::NotQuery));
+    ends_as(&rt, alloc, map, a, &[]);
+}
+
+/// Checks that a snapshot answers with these ranges.
+fn answers(rt: &impl Abort, alloc: Global, snapshot: &Snapshot, pairs: &[(u64, u64)]) {
     let seen = snapshot.answer(alloc).expect(rt, "an answer");
     let Some(Reply::Cover(cover)) = seen.first() else {
         panic!(rt; "a cover")
     };
-    assert!(rt; cover.same(&set(rt, alloc, &[(3 * BASE, 4 * BASE)])));
+    assert!(rt; cover.same(&set(rt, alloc, pairs)));
 }
 
-/// How many pixels a command changed, done without a batch.
-fn changed_alone<R: Wait>(
+/// Checks how many pixels a command changes, done without a batch.
+fn changes_alone<R: Abort + Wait>(
     rt: &R,
     map: &SharedMap,
     client: &mut Client,
     command: Command,
-) -> Option<u64>
+    pixels: u64,
+)
     requires { IsClientOf map.now client.old }
     ensures { IsClientOf map.now client.new }
 {
-    match map.answer(rt, client, command) {
-        Ok(Reply::Changed(pixels)) => Some(pixels),
-        _ => None,
-    }
+    let Ok(Reply::Changed(seen)) = map.answer(rt, client, command) else {
+        panic!(rt; "another answer")
+    };
+    assert_eq!(rt; seen, pixels);
 }
 
-/// How many pixels a command counted, done without a batch.
-fn counted_alone<R: Wait>(
+/// Checks how many pixels are counted without a batch.
+fn counts_alone<R: Abort + Wait>(
     rt: &R,
     map: &SharedMap,
     client: &mut Client,
-    command: Command,
-) -> Option<u64>
+    counted: Operand,
+    pixels: u64,
+)
     requires { IsClientOf map.now client.old }
     ensures { IsClientOf map.now client.new }
 {
-    match map.answer(rt, client, command) {
-        Ok(Reply::Total(pixels)) => Some(pixels),
-        _ => None,
-    }
+    let Ok(Reply::Total(seen)) = map.answer(rt, client, Command::Count(counted)) else {
+        panic!(rt; "another answer")
+    };
+    assert_eq!(rt; seen, pixels);
+}
+
+/// The first cells of order 5 of base pixel 3, as many as two at most.
+fn cells_of_3(rt: &impl Abort, alloc: Global, count: u64) -> Operand
+    requires { count ≤ 2 }
+{
+    Operand::from(set(rt, alloc, &[(3 * BASE, 3 * BASE + count * CELL)]))
 }
 
 #[test]
@@ -229,51 +331,41 @@ fn single_commands(rt: HostRuntime) {
     let alloc = rt.alloc();
     let (map, mut a, mut b) = two(&rt, alloc, Coverage::empty(alloc));
     let three = Command::Add(base(&rt, alloc, 3, 4));
-    assert_eq!(rt; changed_alone(&rt, &map, &mut a, three), Some(BASE));
-    let read = one(&rt, alloc, Command::Read(base(&rt, alloc, 3, 6)));
-    let snapshot = map.look(&mut b, &read).expect(&rt, "a snapshot");
+    changes_alone(&rt, &map, &mut a, three, BASE);
+    let snapshot = seen(&rt, alloc, &map, &mut b, base(&rt, alloc, 3, 6));
     // More than the part that is there already, in two parts, and in one that is new.
     let more = Command::Add(base(&rt, alloc, 3, 5));
-    assert_eq!(rt; changed_alone(&rt, &map, &mut b, more), Some(BASE));
-    let six = Command::Add(Operand::from(set(&rt, alloc, &[(6 * BASE, 6 * BASE + CELL)])));
-    assert_eq!(rt; changed_alone(&rt, &map, &mut a, six), Some(CELL));
-    let taken = Command::Remove(Operand::from(set(&rt, alloc, &[(3 * BASE, 3 * BASE + CELL)])));
-    assert_eq!(rt; changed_alone(&rt, &map, &mut a, taken), Some(CELL));
-    let again = Command::Add(Operand::from(set(&rt, alloc, &[(3 * BASE, 3 * BASE + 2 * CELL)])));
-    assert_eq!(rt; changed_alone(&rt, &map, &mut b, again), Some(CELL));
+    changes_alone(&rt, &map, &mut b, more, BASE);
+    let six = Operand::from(set(&rt, alloc, &[(6 * BASE, 6 * BASE + CELL)]));
+    changes_alone(&rt, &map, &mut a, Command::Add(six), CELL);
+    let taken = Command::Remove(cells_of_3(&rt, alloc, 1));
+    changes_alone(&rt, &map, &mut a, taken, CELL);
+    let again = Command::Add(cells_of_3(&rt, alloc, 2));
+    changes_alone(&rt, &map, &mut b, again, CELL);
     // Of one range in one part, and over parts.
-    let part = Command::Count(base(&rt, alloc, 6, 7));
-    assert_eq!(rt; counted_alone(&rt, &map, &mut a, part), Some(CELL));
-    let parts = Command::Count(base(&rt, alloc, 0, 12));
-    assert_eq!(rt;
-        counted_alone(&rt, &map, &mut b, parts),
-        Some(2 * BASE + CELL)
-    );
-    is_base_pixel_3(&rt, alloc, &snapshot);
+    counts_alone(&rt, &map, &mut a, base(&rt, alloc, 6, 7), CELL);
+    counts_alone(&rt, &map, &mut b, base(&rt, alloc, 0, 12), 2 * BASE + CELL);
+    answers(&rt, alloc, &snapshot, &[(3 * BASE, 4 * BASE)]);
     map.take_in(&mut a, b);
-    let all = set(
+    ends_as(
         &rt,
         alloc,
+        map,
+        a,
         &[(3 * BASE, 5 * BASE), (6 * BASE, 6 * BASE + CELL)],
     );
-    assert!(rt; map.close(a).expect(&rt, "the set").same(&all));
 }
 
 #[test]
 fn one_command_changes_no_snapshot(rt: HostRuntime) {
     let alloc = rt.alloc();
-    let (map, mut a, _) = two(&rt, alloc, set(&rt, alloc, &[(3 * BASE, 4 * BASE - CELL)]));
-    let read = one(&rt, alloc, Command::Read(base(&rt, alloc, 3, 4)));
-    let snapshot = map.look(&mut a, &read).expect(&rt, "a snapshot");
-    let rest = Command::Add(Operand::from(set(&rt, alloc, &[(4 * BASE - 2 * CELL, 4 * BASE)])));
-    assert_eq!(rt; changed_alone(&rt, &map, &mut a, rest), Some(CELL));
-    let seen = snapshot.answer(alloc).expect(&rt, "an answer");
-    let Some(Reply::Cover(cover)) = seen.first() else {
-        panic!(rt; "a cover")
-    };
-    assert!(rt; cover.same(&set(&rt, alloc, &[(3 * BASE, 4 * BASE - CELL)])));
-    let all = Command::Count(base(&rt, alloc, 3, 4));
-    assert_eq!(rt; counted_alone(&rt, &map, &mut a, all), Some(BASE));
+    let most = [(3 * BASE, 4 * BASE - CELL)];
+    let (map, mut a, _) = two(&rt, alloc, set(&rt, alloc, &most));
+    let snapshot = seen(&rt, alloc, &map, &mut a, base(&rt, alloc, 3, 4));
+    let rest = Operand::from(set(&rt, alloc, &[(4 * BASE - 2 * CELL, 4 * BASE)]));
+    changes_alone(&rt, &map, &mut a, Command::Add(rest), CELL);
+    answers(&rt, alloc, &snapshot, &most);
+    counts_alone(&rt, &map, &mut a, base(&rt, alloc, 3, 4), BASE);
 }
 
 /// How many clients a map of so many has.
@@ -439,32 +531,17 @@ fn clients_wait_for_a_part(rt: HostRuntime) {
     assert!(rt; map.close(a).expect(&rt, "the set").is_empty());
 }
 
-/// Checks the text of an error.
-fn told(rt: &impl Abort, alloc: Global, error: impl Display + Drop, text: &str) {
-    let shown = format!(in alloc; "{error}").expect(rt, "memory");
-    assert_eq!(rt; shown.as_str(), text);
-}
-
 #[test]
 fn texts_of_errors(rt: HostRuntime) {
     let alloc = rt.alloc();
+    told(&rt, alloc, &NewError::BadCount, "a map has 1 to 64 clients");
+    told(&rt, alloc, &NewError::Memory, "out of memory");
     let part = Part::of(3);
-    told(
-        &rt,
-        alloc,
-        Busy { part, holder: 7 },
-        "client 7 holds the part",
-    );
-    told(&rt, alloc, NewError::BadCount, "a map has 1 to 64 clients");
-    told(&rt, alloc, NewError::Memory, "out of memory");
     let busy = Busy { part, holder: 7 };
-    told(
-        &rt,
-        alloc,
-        TryError::Busy(busy),
-        "another client holds a part",
-    );
-    told(&rt, alloc, TryError::Memory, "out of memory");
-    told(&rt, alloc, CloseError::Midway { part }, "a part is held");
-    told(&rt, alloc, CloseError::Memory, "out of memory");
+    told(&rt, alloc, &busy, "client 7 holds the part");
+    let busy = TryError::Busy(busy);
+    told(&rt, alloc, &busy, "another client holds a part");
+    told(&rt, alloc, &TryError::Memory, "out of memory");
+    told(&rt, alloc, &CloseError::Midway { part }, "a part is held");
+    told(&rt, alloc, &CloseError::Memory, "out of memory");
 }

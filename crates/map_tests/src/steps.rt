@@ -2,6 +2,7 @@
 ghost use Rattle.std.specs.Prelude.{◌<◌, ◌≤◌, IfOk};
 ghost use Rattle.map_tests.specs.Worlds.{IsMadeInOrder};
 
+use crate::told::told;
 use moc_parts::{Batch, Command, Operand, Part, Replies, Reply};
 use moc_ranges::Coverage;
 use moc_steps::{
@@ -9,7 +10,6 @@ use moc_steps::{
     steps_have_one_order,
 };
 use std::alloc::Global;
-use std::fmt::Display;
 use std::process::Abort;
 
 /// How many pixels a base pixel has: 4^29.
@@ -69,9 +69,9 @@ fn end(rt: &impl Abort, world: &mut World, client: u32) -> Option<u64> {
     pixels(replies.as_ref())
 }
 
-/// The refusal of a step.
-fn refused(world: &mut World, step: Step) -> Option<StepError> {
-    world.step(step).err()
+/// Checks the refusal of a step.
+fn is_refused(rt: &impl Abort, world: &mut World, step: Step, why: StepError) {
+    assert_eq!(rt; world.step(step).err(), Some(why));
 }
 
 /// The pixels that the first reply says were changed or counted.
@@ -98,6 +98,24 @@ fn last_pixels(world: &World) -> Option<u64> {
     pixels(world.order().last()?.reply.as_ref())
 }
 
+/// The set of a world in which nobody is midway.
+fn set_of(rt: &impl Abort, world: &World) -> Coverage {
+    world.coverage().expect(rt, "nobody is midway")
+}
+
+/// How many clients are midway, so that a world has no set.
+fn midway(world: &World) -> Option<usize> {
+    match world.coverage().err()? {
+        CoverError::Midway { n } => Some(n),
+        CoverError::Memory => None,
+    }
+}
+
+/// The world that steps lead to.
+fn played(rt: &impl Abort, alloc: Global, start: &Coverage, steps: &[Step]) -> World {
+    replay(alloc, start, steps).expect(rt, "permitted")
+}
+
 /// The world after the eighth line of the first worked schedule: a count stands behind an add that has given one part
 /// back.
 fn overtaken(rt: &impl Abort, alloc: Global) -> World {
@@ -118,7 +136,7 @@ fn overtaken(rt: &impl Abort, alloc: Global) -> World {
     go(rt, &mut world, give(1, 0));
     go(rt, &mut world, take(2));
     let part = Part::of(1);
-    assert!(rt; refused(&mut world, take(2)) == Some(StepError::PartHeld { part, by: 1 }));
+    is_refused(rt, &mut world, take(2), StepError::PartHeld { part, by: 1 });
     world
 }
 
@@ -127,7 +145,7 @@ fn a_count_waits_for_an_add(rt: HostRuntime) {
     let mut world = overtaken(&rt, rt.alloc());
     assert_eq!(rt; world.part(Part::of(0)).count(), BASE);
     assert!(rt; world.part(Part::of(1)).is_empty());
-    assert!(rt; matches!(world.coverage(), Err(CoverError::Midway { n: 2 })));
+    assert_eq!(rt; midway(&world), Some(2));
     go(&rt, &mut world, edit(1, 1));
     go(&rt, &mut world, give(1, 1));
     go(&rt, &mut world, take(2));
@@ -138,10 +156,7 @@ fn a_count_waits_for_an_add(rt: HostRuntime) {
     go(&rt, &mut world, give(2, 1));
     assert_eq!(rt; end(&rt, &mut world, 2), Some(2 * BASE));
     assert!(rt; stand(&world, &[0, 1]));
-    assert_eq!(rt;
-        world.coverage().expect(&rt, "nobody is midway").count(),
-        2 * BASE
-    );
+    assert_eq!(rt; set_of(&rt, &world).count(), 2 * BASE);
     assert_eq!(rt; world.midway(), 0);
 }
 
@@ -174,22 +189,32 @@ fn a_world_is_drained(rt: HostRuntime) {
 fn refusals(rt: HostRuntime) {
     let alloc = rt.alloc();
     let mut world = empty_world(&rt, alloc);
-    assert!(rt; refused(&mut world, take(7)) == Some(StepError::Idle));
+    is_refused(&rt, &mut world, take(7), StepError::Idle);
     go(&rt, &mut world, begin(&rt, alloc, 7, Command::Invert));
     let again = begin(&rt, alloc, 7, Command::Invert);
-    assert!(rt; refused(&mut world, again) == Some(StepError::NotIdle));
-    assert!(rt; refused(&mut world, edit(7, 0)) == Some(StepError::NotAllTaken));
-    assert!(rt; refused(&mut world, give(7, 0)) == Some(StepError::NotHeld));
-    assert!(rt; refused(&mut world, Step::End { client: 7 }) == Some(StepError::NothingDone));
+    is_refused(&rt, &mut world, again, StepError::NotIdle);
+    is_refused(&rt, &mut world, edit(7, 0), StepError::NotAllTaken);
+    is_refused(&rt, &mut world, give(7, 0), StepError::NotHeld);
+    is_refused(
+        &rt,
+        &mut world,
+        Step::End { client: 7 },
+        StepError::NothingDone,
+    );
     go(&rt, &mut world, take(7));
-    assert!(rt; refused(&mut world, Step::End { client: 7 }) == Some(StepError::StillHolding));
-    assert!(rt; refused(&mut world, give(7, 0)) == Some(StepError::NotEdited));
+    is_refused(
+        &rt,
+        &mut world,
+        Step::End { client: 7 },
+        StepError::StillHolding,
+    );
+    is_refused(&rt, &mut world, give(7, 0), StepError::NotEdited);
     go(&rt, &mut world, Step::Quit { client: 7 });
-    assert!(rt; refused(&mut world, take(7)) == Some(StepError::Quitting));
+    is_refused(&rt, &mut world, take(7), StepError::Quitting);
     go(&rt, &mut world, give(7, 0));
     go(&rt, &mut world, Step::End { client: 7 });
     assert!(rt; world.order().is_empty());
-    assert!(rt; world.coverage().expect(&rt, "nobody is midway").is_empty());
+    assert!(rt; set_of(&rt, &world).is_empty());
 }
 
 #[test]
@@ -199,10 +224,15 @@ fn a_client_that_has_edited(rt: HostRuntime) {
     let read = Command::Read(base_pixels(&rt, alloc, 0, 1));
     go(&rt, &mut world, begin(&rt, alloc, 2, read));
     go(&rt, &mut world, take(2));
-    assert!(rt; refused(&mut world, take(2)) == Some(StepError::AllTaken));
+    is_refused(&rt, &mut world, take(2), StepError::AllTaken);
     go(&rt, &mut world, edit(2, 0));
-    assert!(rt; refused(&mut world, edit(2, 0)) == Some(StepError::AlreadyEdited));
-    assert!(rt; refused(&mut world, Step::Quit { client: 2 }) == Some(StepError::BegunEditing));
+    is_refused(&rt, &mut world, edit(2, 0), StepError::AlreadyEdited);
+    is_refused(
+        &rt,
+        &mut world,
+        Step::Quit { client: 2 },
+        StepError::BegunEditing,
+    );
 }
 
 /// A count that begins before an add and edits behind it.
@@ -228,7 +258,7 @@ fn an_add_goes_first(rt: &impl Abort, alloc: Global) -> Vec<Step> {
 fn the_order_is_by_first_edit(rt: HostRuntime) {
     let alloc = rt.alloc();
     let steps = an_add_goes_first(&rt, alloc);
-    let world = replay(alloc, &Coverage::empty(alloc), &steps).expect(&rt, "permitted");
+    let world = played(&rt, alloc, &Coverage::empty(alloc), &steps);
     assert!(rt; stand(&world, &[1, 0]));
     assert_eq!(rt; last_pixels(&world), Some(BASE));
 }
@@ -271,86 +301,61 @@ fn the_steps_before_a_refused_one(rt: HostRuntime) {
     let alloc = rt.alloc();
     let many = a_take_too_many(&rt, alloc);
     assert_eq!(rt; many.len(), 5);
-    let world = replay(alloc, &Coverage::empty(alloc), &many[..3]).expect(&rt, "permitted");
-    assert!(rt; matches!(world.coverage(), Err(CoverError::Midway { n: 1 })));
+    let world = played(&rt, alloc, &Coverage::empty(alloc), &many[..3]);
+    assert_eq!(rt; midway(&world), Some(1));
 }
 
 #[test]
 fn nothing_is_done_by_no_steps(rt: HostRuntime) {
     let alloc = rt.alloc();
     let start = Coverage::full(alloc).expect(&rt, "memory");
-    let world = replay(alloc, &start, &[]).expect(&rt, "permitted");
+    let world = played(&rt, alloc, &start, &[]);
     assert!(rt; world.order().is_empty());
-    assert!(rt;
-        world
-            .coverage()
-            .expect(&rt, "nobody is midway")
-            .same(&start)
-    );
-}
-
-/// Checks the text of an error.
-fn told(rt: &impl Abort, alloc: Global, error: impl Display + Drop, text: &str) {
-    let shown = format!(in alloc; "{error}").expect(rt, "memory");
-    assert_eq!(rt; shown.as_str(), text);
+    assert!(rt; set_of(&rt, &world).same(&start));
 }
 
 #[test]
 fn texts_of_errors(rt: HostRuntime) {
-    let alloc = rt.alloc();
     let part = Part::of(3);
-    told(&rt, alloc, StepError::NotIdle, "the client is not idle");
-    told(&rt, alloc, StepError::Idle, "the client is idle");
+    for (error, text) in [
+        (StepError::NotIdle, "the client is not idle"),
+        (StepError::Idle, "the client is idle"),
+        (
+            StepError::PartHeld { part, by: 7 },
+            "the part is held by client 7",
+        ),
+        (StepError::AllTaken, "all parts are taken"),
+        (StepError::NotAllTaken, "not all parts are taken"),
+        (StepError::NotHeld, "the part is not held"),
+        (StepError::AlreadyEdited, "the part is edited"),
+        (StepError::NotEdited, "the part is not edited"),
+        (StepError::BegunEditing, "the client has begun to edit"),
+        (StepError::StillHolding, "the client holds a part"),
+        (StepError::NothingDone, "the client has taken nothing"),
+        (StepError::Quitting, "the client quits"),
+        (StepError::Memory, "out of memory"),
+        (StepError::TooMany, "too many operations"),
+    ] {
+        told(&rt, rt.alloc(), &error, text);
+    }
+}
+
+#[test]
+fn texts_of_refusals(rt: HostRuntime) {
+    let alloc = rt.alloc();
     told(
         &rt,
         alloc,
-        StepError::PartHeld { part, by: 7 },
-        "the part is held by client 7",
-    );
-    told(&rt, alloc, StepError::AllTaken, "all parts are taken");
-    told(
-        &rt,
-        alloc,
-        StepError::NotAllTaken,
-        "not all parts are taken",
-    );
-    told(&rt, alloc, StepError::NotHeld, "the part is not held");
-    told(&rt, alloc, StepError::AlreadyEdited, "the part is edited");
-    told(&rt, alloc, StepError::NotEdited, "the part is not edited");
-    told(
-        &rt,
-        alloc,
-        StepError::BegunEditing,
-        "the client has begun to edit",
-    );
-    told(
-        &rt,
-        alloc,
-        StepError::StillHolding,
-        "the client holds a part",
-    );
-    told(
-        &rt,
-        alloc,
-        StepError::NothingDone,
-        "the client has taken nothing",
-    );
-    told(&rt, alloc, StepError::Quitting, "the client quits");
-    told(&rt, alloc, StepError::Memory, "out of memory");
-    told(&rt, alloc, StepError::TooMany, "too many operations");
-    told(
-        &rt,
-        alloc,
-        CoverError::Midway { n: 2 },
+        &CoverError::Midway { n: 2 },
         "2 clients are midway",
     );
-    told(&rt, alloc, CoverError::Memory, "out of memory");
+    told(&rt, alloc, &CoverError::Memory, "out of memory");
     let why = StepError::AllTaken;
     let refusal = ReplayError { at: 4, why };
     told(
         &rt,
         alloc,
-        refusal,
+        &refusal,
         "step 4 is refused: all parts are taken",
     );
 }

@@ -3,6 +3,3 @@ use Rattle.map_tests.proofs.parts.a_batch_is_prepared_from_a_part.Goals as goal
 
 pub prepare-requires : goal.prepare-requires
 prepare-requires g c = first_alone c.part.result.now (found_part _ c.part.result.now c.of.result c.part.ensures.part c.of.ensures)
-
-pub reply_of-requires-clause-parts : goal.reply_of-requires-clause-parts
-reply_of-requires-clause-parts g c = first_alone c.part.result.now (found_part _ c.part.result.now c.of.result c.part.ensures.part c.of.ensures)
