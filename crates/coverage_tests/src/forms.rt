@@ -129,7 +129,7 @@ fn blank_texts(rt: HostRuntime) {
     assert!(&rt; !is_blank(b" ,".as_slice()));
 }
 
-/// Checks what is quoted of a text; nothing where it is not refused.
+/// Checks what is quoted of a text; nothing where it is not refused, or for no place.
 fn is_quoted(rt: &impl Abort, alloc: Global, form: Form, text: &[u8], told: &str) {
     let mut seen = None;
     if let Err(refusal) = check(alloc, form, text) {

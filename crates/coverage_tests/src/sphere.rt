@@ -148,7 +148,7 @@ fn neighbours_by_direction(rt: HostRuntime) {
     }
 }
 
-// By healpy, as above: the southern corner of a base pixel, its northern corner, and cells beside other base pixels.
+// By healpy, as above: the southern cell of base pixel 8, the northern one of 11, and the western ones of 4 and 11.
 #[test]
 fn neighbours_of_pixels(rt: HostRuntime) {
     for (index, wanted) in [

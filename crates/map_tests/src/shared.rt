@@ -180,7 +180,7 @@ fn a_held_part_is_busy_and_the_others_are_not(rt: HostRuntime) {
     ends_as(&rt, alloc, map, c0, &pairs);
 }
 
-/// What a batch that claims base pixel 4 is answered: 0 where it was free, or how many of its pixels were taken.
+/// How many pixels of base pixel 4 are told as taken to a batch that claims it; `None` where it is told as claimed.
 fn taken(rt: &impl Abort, alloc: Global, map: &SharedMap, client: &mut Client) -> Option<u64>
     requires { IsClientOf map.now client.old }
     ensures { IsClientOf map.now client.new }
@@ -188,9 +188,9 @@ fn taken(rt: &impl Abort, alloc: Global, map: &SharedMap, client: &mut Client) -
     let claim = one(rt, alloc, Command::Claim(base(rt, alloc, 4, 5)));
     let answer = map.try_apply(client, &claim).expect(rt, "an answer");
     match answer.first() {
-        Some(Reply::Claimed) => Some(0),
+        Some(Reply::Claimed) => None,
         Some(Reply::Taken(pixels)) => Some(*pixels),
-        _ => None,
+        _ => panic!(rt; "another reply"),
     }
 }
 
@@ -198,7 +198,7 @@ fn taken(rt: &impl Abort, alloc: Global, map: &SharedMap, client: &mut Client) -
 fn two_clients_meet_and_one_takes_in_the_other(rt: HostRuntime) {
     let alloc = rt.alloc();
     let (map, mut a, mut b) = two(&rt, alloc, Coverage::empty(alloc));
-    assert_eq!(rt; taken(&rt, alloc, &map, &mut a), Some(0));
+    assert_eq!(rt; taken(&rt, alloc, &map, &mut a), None);
     assert_eq!(rt; taken(&rt, alloc, &map, &mut b), Some(BASE));
     map.meet(&mut a, &mut b);
     let nothing = Command::Add(base(&rt, alloc, 0, 0));

@@ -19,7 +19,7 @@ FailsOn given Read = Unit {0}
 FailsOn given (TooLong line) = IsTooLong line_limit (lines_of given) line
 FailsOn given (Memory line) = IsBegunLine line given
 
--- the same, as what ends a run
+-- the error of an input as the one of a run
 abbrev pub error_of_input : InputError → RunError
 error_of_input Read = run.Read
 error_of_input (TooLong line) = run.LineTooLong line

@@ -4,7 +4,7 @@ use Rattle.std.specs.Prelude.{IfOk, IfErr, String, string_bytes}
 use Rattle.std.specs.declared.alloc.Global.{Global}
 use Rattle.std.specs.Io.KnownBytes.{Appends, Keeps}
 use Rattle.moc_conversion.specs.declared.complaint.Complaint.{Complaint}
-use Rattle.moc_program.specs.Actions.{WritesText, Complains}
+use Rattle.moc_program.specs.Actions.{PrintsText, Complains}
 use Rattle.moc_program.specs.Private.Writing.{IsSent}
 use Rattle.moc_program.specs.declared.status.Fault.{Fault}
 use Rattle.moc_program.specs.declared.status.Fault.TheVariants.{Input, Write}
@@ -34,7 +34,7 @@ sent_front text front rest w w' (Err fault) failed parts written = (same_fault f
 
 -- an action that writes such a text
 pub sent_writes : (is : List ℕ → Type 0) (refused : Fault → Type 0) (text : List ℕ) (w w' : Option (List ℕ)) (result : Result (Unit {0}) Fault) → is text
-    → IsSent text w w' result → WritesText is refused w w' result
+    → IsSent text w w' result → PrintsText is refused w w' result
 sent_writes is refused text w w' (Ok _) made sent = (text, made, sent)
 sent_writes is refused text w w' (Err fault) made sent = inl (sent.0, sent.1, sent.2, subst is sent.3 made, sent.4)
 
@@ -42,7 +42,7 @@ sent_writes is refused text w w' (Err fault) made sent = inl (sent.0, sent.1, se
 pub answered_by : (is : List ℕ → Type 0) (complains : Complaint → Type 0) (made : Result (String Global) Complaint) (w w' : Option (List ℕ))
     (result : Result (Unit {0}) Fault) → IfOk made (λ t. is (string_bytes t)) → IfErr made complains
     → MatchResult made (λ t. IsSent (string_bytes t) w w' result) (λ c. (result ≡ Err (Input c)) × Keeps w w')
-    → WritesText is (Complains complains) w w' result
+    → PrintsText is (Complains complains) w w' result
 answered_by is complains (Ok t) w w' result made why sent = sent_writes is (Complains complains) (string_bytes t) w w' result made sent
 answered_by is complains (Err c) w w' (Ok u) made why (same, kept) = absurd (no_error (Input c) u (Ok u) refl same)
 answered_by is complains (Err c) w w' (Err fault) made why (same, kept) = inr ((c, same_fault fault (Input c) (Err fault) refl same, why), kept)

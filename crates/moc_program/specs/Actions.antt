@@ -24,10 +24,10 @@ RunEnds fault_of ends (Ok _) = ends (Ok tt)
 RunEnds fault_of ends (Err fault) = (error : _) × (fault ≡ fault_of error) × ends (Err error)
 
 -- such a text was written; or a front of one, where the output failed; or nothing, where such a fault came first
-abbrev pub WritesText :
+abbrev pub PrintsText :
     (List ℕ → Type 0) → (Fault → Type 0) → Option (List ℕ) → Option (List ℕ) → Result (Unit {0}) Fault → Type 0
-WritesText is refused w w' (Ok _) = (text : List ℕ) × is text × Appends w w' text
-WritesText is refused w w' (Err fault) =
+PrintsText is refused w w' (Ok _) = (text : List ℕ) × is text × Appends w w' text
+PrintsText is refused w w' (Err fault) =
     ((fault ≡ told.Write) × (front rest : List ℕ) × is (front ++ rest) × Appends w w' front)
     ⊎ (refused fault × Keeps w w')
 
@@ -44,20 +44,20 @@ ActionEnds Play left left' w w' =
     RunEnds (λ error. told.Lines error) (λ end. IfSome left (λ input. RunsSchedule input left' w w' end))
 ActionEnds (Crew lanes) left left' w w' =
     RunEnds fault_of_crew (λ end. IfSome left (λ input. CrewEnds lanes.number input left' w w' end))
-ActionEnds (Number number) left left' w w' = WritesText (IsNumberLine number) (IsNumberRefusal number) w w'
+ActionEnds (Number number) left left' w w' = PrintsText (IsNumberLine number) (IsNumberRefusal number) w w'
 ActionEnds (Renumber r) left left' w w' =
     RunEnds (λ error. told.Lines error) (λ end. IfSome left (λ input. RunsNumbers r input left' w w' end))
 ActionEnds (Convert from to) left left' w w' =
-    WritesText (ConvertsAll from to left left') (Complains (IsNotConverted from left left')) w w'
+    PrintsText (ConvertsAll from to left left') (Complains (IsNotConverted from left left')) w w'
 ActionEnds (Check choice) left left' w w' =
-    WritesText (λ text. IsSaid choice left left' × (text ≡ codes "ok" ++ 10 ∷ []))
+    PrintsText (λ text. IsSaid choice left left' × (text ≡ codes "ok" ++ 10 ∷ []))
     (Complains (SaysNothing choice left left')) w w'
 ActionEnds (Describe choice) left left' w w' =
-    WritesText (DescribesAll choice left left') (Complains (SaysNothing choice left left')) w w'
+    PrintsText (DescribesAll choice left left') (Complains (SaysNothing choice left left')) w w'
 ActionEnds (Draw choice) left left' w w' =
-    WritesText (DrawsAll choice left left') (Complains (IsNotDrawn choice left left')) w w'
+    PrintsText (DrawsAll choice left left') (Complains (IsNotDrawn choice left left')) w w'
 ActionEnds (Change change choice) left left' w w' =
-    WritesText (ChangesAll change choice left left') (Complains (SaysNothing choice left left')) w w'
+    PrintsText (ChangesAll change choice left left') (Complains (SaysNothing choice left left')) w w'
 ActionEnds (Combine operation choice) left left' w w' =
-    WritesText (CombinesAll operation choice left left') (Complains (SayNothing choice left left')) w w'
-ActionEnds Faults left left' w w' = WritesText (λ text. text ≡ fault_list) (λ _. ⊥) w w'
+    PrintsText (CombinesAll operation choice left left') (Complains (SayNothing choice left left')) w w'
+ActionEnds Faults left left' w w' = PrintsText (λ text. text ≡ fault_list) (λ _. ⊥) w w'

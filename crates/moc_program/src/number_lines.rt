@@ -2,7 +2,7 @@
 ghost use Rattle.std.specs.Prelude.{◌≡◌, ◌++◌, ◌∷◌, [], false, IfErr, IfOk, IsErrOf, IsTrue, OnOk};
 ghost use Rattle.std.specs.String.{string_bytes};
 ghost use Rattle.moc_sphere.specs.Touching.{touching_cells};
-ghost use Rattle.moc_program.specs.Actions.{WritesText};
+ghost use Rattle.moc_program.specs.Actions.{PrintsText};
 ghost use Rattle.moc_program.specs.Numbers.{IsNumberFault, IsNumberLine, IsNumberRefusal, number_list};
 ghost use Rattle.moc_program.specs.Private.Ending.{end_of};
 ghost use Rattle.moc_program.specs.Private.NumberCells.{IsCellOf};
@@ -19,7 +19,7 @@ use std::fmt::Write;
 #[tactic(auto, using(crate::proofs::Writing::sent_writes))]
 pub(crate) fn numbered<W: Sink>(alloc: Global, number: Number, output: &mut W) -> Result<(), Fault>
     requires { W.mark output.old ≡ false }
-    ensures ends { WritesText (IsNumberLine number) (IsNumberRefusal number)
+    ensures ends { PrintsText (IsNumberLine number) (IsNumberRefusal number)
         (W.written output.old) (W.written output.new) result }
     ensures flushed { OnOk result (IsTrue (W.flushed output.new)) }
     ensures write { IsErrOf result Fault.Write → IsTrue (W.mark output.new) }

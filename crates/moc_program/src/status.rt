@@ -41,7 +41,7 @@ pub enum Fault {
     Input(Complaint),
     /// A number is that of no cell.
     Number(CellError),
-    /// Lines of commands, steps or numbers were not all answered.
+    /// A script, a schedule, a crew or a list of numbers ended early.
     Lines(RunError),
     /// A thread could not be started.
     Spawn,

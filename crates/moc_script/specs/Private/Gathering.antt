@@ -41,7 +41,7 @@ NamesLine input (Memory line) = (line ≡ 0) ⊎ IsSaidLine line (lines_of input
 NamesLine input MemoryBehind = Unit {0}
 NamesLine input Spawn = Unit {0}
 
--- what a crew tells of it that has read this input
+-- what a crew that has read this input tells where its lanes ended so
 abbrev pub error_of_lanes : List ℕ → LanesError → CrewError
 error_of_lanes input (Memory line) = crew.Run (run.Memory line)
 error_of_lanes input MemoryBehind = crew.Run (run.Memory (length (lines_of input) + 1))

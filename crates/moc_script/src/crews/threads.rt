@@ -29,7 +29,7 @@ pub(crate) enum LanesError {
 }
 
 impl LanesError {
-    /// What a crew tells of it that has read this input.
+    /// What a crew that has read this input tells where its lanes ended so.
     pub(crate) fn told_of(self, input: &[u8]) -> CrewError
         ensures { result ≡ error_of_lanes input.now self }
     {

@@ -1,5 +1,5 @@
--- Laws of depths, for the proofs of callers: a set that is made of whole cells of an order has no deeper cell. So is
--- what a text says, with the deepest order that it names, and what is made of such sets.
+-- Laws of depths, for the proofs of callers: a set that is made of whole cells of an order has no deeper cell. Such a
+-- set is what a text says, by the deepest order that it names, and what is made of such sets.
 use Rattle.std.proofs.Common.{◌≡◌, ℕ, zero, suc, ◌+◌, ◌-◌, ◌*◌, ◌/◌, ◌<◌, ◌≤◌, Bool, true, false, cond, not, ◌&&◌, ◌||◌}
 use Rattle.std.proofs.Common.{List}
 use Rattle.std.proofs.Common.{[], ◌∷◌, Option, None, Some, refl, sym, ap, ap₂, subst, ◌∙◌, inl, inr, arith}
