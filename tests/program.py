@@ -521,12 +521,17 @@ def refused_line_is_told(tally, shim):
 def refused_crew_is_told(tally, shim):
     """The line that a crew's Memory names, or that no thread could be started; and nothing is written.
 
-    The script's third line is blank, and two lanes answer the four others; 6 is behind all five."""
+    The script's third line is blank, and two lanes answer the four others; 6 is behind all five. Which of two lanes at work meets a refusal
+    is chance, so each growth is refused again until each line was told once, twenty times at most."""
     end = (0, b"the end behind 5 lines\n")
     spawn = (0, b"a thread could not be started behind 0 lines\n")
     refused = [(0, b"out of memory at line %d behind 0 lines\n" % line) for line in range(7)]
-    met = refuse_each(tally, "a crew", built("refusals", "crew"), b"", end, {*refused, spawn, (1, b"")}, shim)
-    for line in [0, 1, 2, 4, 5, 6]:
+    lines, met = [0, 1, 2, 4, 5, 6], set()
+    for _ in range(20):
+        met |= refuse_each(tally, "a crew", built("refusals", "crew"), b"", end, {*refused, spawn, (1, b"")}, shim)
+        if all(refused[line] in met for line in lines):
+            break
+    for line in lines:
         tally.add(f"some refusal of a crew at line {line}", refused[line] in met, met)
 
 
