@@ -16,7 +16,7 @@ import textwrap
 TOP = os.path.dirname(os.path.dirname(os.path.abspath(__file__)))
 PAGE = os.path.join(TOP, "docs", "DEFINITIONS.md")
 # Files of lemmas with their proofs, which callers' proofs use: there is nothing in them to believe.
-LEMMAS = re.compile(r"^moc_ranges/Laws(/|$)|^moc_devices/Laws$|^moc_text/Laws(/|$)")
+LEMMAS = re.compile(r"^moc_\w+/Lemmas(/|$)")
 # What a file takes from another and gives on.
 GIVEN_ON = re.compile(r"^pub use \S+\.\{([^}]*)\}", re.MULTILINE)
 WORD = re.compile(r"^ {0,2}(?:abbrev pub|unfoldable pub|pub record|pub data) (\S+)", re.MULTILINE)

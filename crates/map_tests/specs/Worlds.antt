@@ -4,14 +4,14 @@ use Rattle.moc_ranges.specs.Numbers.{NumberSet}
 use Rattle.moc_parts.specs.Batches.{batches}
 use Rattle.moc_parts.specs.declared.command.Command.{Command}
 use Rattle.moc_steps.specs.Locks.{Step}
-use Rattle.moc_steps.specs.Explains.{Explains, result}
+use Rattle.moc_steps.specs.Explains.{Explains, set_by_order}
 use Rattle.moc_steps.specs.Laws.{led_to}
-use Rattle.moc_steps.specs.Played.{World}
+use Rattle.moc_steps.specs.Played.{BatchWorld}
 
 -- Steps led to the world, its order explains them, and the set is what their operations make, done one by one in it.
-pub record IsMadeInOrder (w : World) (a : NumberSet) : Type 0 where
+pub record IsMadeInOrder (w : BatchWorld) (a : NumberSet) : Type 0 where
   pub start : NumberSet
   pub steps : List (Step (List Command))
   pub leads : led_to batches start steps ≡ w
   pub explained : Explains batches w.order steps start
-  pub made : a ≡ result batches w.order steps start
+  pub made : a ≡ set_by_order batches w.order steps start

@@ -6,7 +6,7 @@ use Rattle.moc_sphere.specs.CellNumber.{cell_count, cell_number, is_uniq}
 use Rattle.moc_ranges.specs.Cells.{pixels_of}
 use Rattle.moc_ranges.specs.Numbers.{NumberSet}
 use Rattle.moc_c.specs.Buffers.{cells_fault, cells_say, done_unless, first_failing, is_index, lengths_fault, numbers_fault, numbers_say, uniqs_fault}
-use Rattle.moc_c.specs.Outcomes.{done, refusal}
+use Rattle.moc_c.specs.Outcomes.{all_well, outcome_of}
 use Rattle.moc_c.specs.declared.outcome.Outcome.{Outcome}
 use Rattle.moc_c.specs.declared.fault.Fault.TheVariants as fault
 
@@ -72,26 +72,26 @@ three_lengths n a b d e f g = rw (eq-eqb n a e, eq-eqb n b f, eq-eqb n d g) refl
 
 -- numbers of an order are told up to the first faulty one
 pub cells_stop : (order : ℕ) (xs ls : List ℕ) (i : ℕ) (o : Outcome) → order ≤ 29 → lengths_fault (length xs) ls ≡ None → i < length xs
-    → ((k : ℕ) → k < i → get_or xs k 0 < cell_count order) → cell_count order ≤ get_or xs i 0 → o ≡ refusal (fault.NoSuchCell i)
+    → ((k : ℕ) → k < i → get_or xs k 0 < cell_count order) → cell_count order ≤ get_or xs i 0 → o ≡ outcome_of (fault.NoSuchCell i)
     → o ≡ done_unless (numbers_fault order xs ls)
 cells_stop order xs ls i o le same lt h fails is =
     is ∙ sym (ap done_unless (numbers_left order xs ls le same ∙ cells_some order xs i lt h fails))
 
 -- or all of them are
 pub cells_end : (order : ℕ) (xs ls : List ℕ) (i : ℕ) (o : Outcome) → order ≤ 29 → lengths_fault (length xs) ls ≡ None → length xs ≤ i
-    → ((k : ℕ) → k < i → get_or xs k 0 < cell_count order) → o ≡ done → o ≡ done_unless (numbers_fault order xs ls)
+    → ((k : ℕ) → k < i → get_or xs k 0 < cell_count order) → o ≡ all_well → o ≡ done_unless (numbers_fault order xs ls)
 cells_end order xs ls i o le same end h is =
     is ∙ sym (ap done_unless (numbers_left order xs ls le same ∙ cells_none order xs (λ k lt. h k (omega arith))))
 
 -- the same for NUNIQ numbers
 pub uniqs_stop : (xs ls : List ℕ) (i : ℕ) (o : Outcome) → lengths_fault (length xs) ls ≡ None → i < length xs
     → ((k : ℕ) → k < i → (4 ≤ get_or xs k 0) × (get_or xs k 0 < 2 ^ 62)) → ((4 ≤ get_or xs i 0) × (get_or xs i 0 < 2 ^ 62) → ⊥)
-    → o ≡ refusal (fault.NotUniq i) → o ≡ done_unless (option_or (lengths_fault (length xs) ls) (uniqs_fault xs))
+    → o ≡ outcome_of (fault.NotUniq i) → o ≡ done_unless (option_or (lengths_fault (length xs) ls) (uniqs_fault xs))
 uniqs_stop xs ls i o same lt h fails is =
     is ∙ sym (ap done_unless (ap (λ x. option_or x (uniqs_fault xs)) same ∙ uniqs_some xs i lt h fails))
 
 pub uniqs_end : (xs ls : List ℕ) (i : ℕ) (o : Outcome) → lengths_fault (length xs) ls ≡ None → length xs ≤ i
-    → ((k : ℕ) → k < i → (4 ≤ get_or xs k 0) × (get_or xs k 0 < 2 ^ 62)) → o ≡ done
+    → ((k : ℕ) → k < i → (4 ≤ get_or xs k 0) × (get_or xs k 0 < 2 ^ 62)) → o ≡ all_well
     → o ≡ done_unless (option_or (lengths_fault (length xs) ls) (uniqs_fault xs))
 uniqs_end xs ls i o same end h is =
     is ∙ sym (ap done_unless (ap (λ x. option_or x (uniqs_fault xs)) same ∙ uniqs_none xs (λ k lt. h k (omega arith))))

@@ -9,7 +9,7 @@ use Rattle.std.specs.List.{AllByRecursion}
 use Rattle.moc_sphere.specs.CellNumber.{CellNumber, cell_number, IsCell, uniq_of}
 use Rattle.moc_ranges.specs.Numbers.{NumberSet}
 use Rattle.moc_ranges.specs.Cells.{pixels_of, span}
-use Rattle.moc_ranges.specs.Laws.{union-assoc, union-empty, pixels_of-append}
+use Rattle.moc_ranges.specs.Lemmas.{union-assoc, union-empty, pixels_of-append}
 
 -- ---- of cells of an order
 

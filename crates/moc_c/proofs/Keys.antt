@@ -10,8 +10,9 @@ use Rattle.std.specs.FinMap as map
 use Rattle.std.specs.FinMap.{find}
 use Rattle.moc_ranges.specs.Numbers.{NumberSet}
 use Rattle.moc_c.specs.Answers.{Frees}
-use Rattle.moc_c.specs.Contents.{at_key, Contents, HasNoneFrom, without_set}
-use Rattle.moc_c.specs.Outcomes.{done, refusal}
+use Rattle.moc_c.specs.Contents.{at_key, Contents, without_set}
+use Rattle.moc_c.specs.Private.Storing.{HasNoneFrom}
+use Rattle.moc_c.specs.Outcomes.{all_well, outcome_of}
 use Rattle.moc_c.specs.declared.fault.Fault.TheVariants.{NoSuchSet}
 use Rattle.moc_c.specs.declared.outcome.Outcome.{Outcome}
 
@@ -63,7 +64,7 @@ remove_none m k none = map.same_map nat_cmp_total map.nat_cmp-IsAntisymmetric _ 
       | false ↦ λ e. refl
     ] refl)
 
-pub freed : (s d e : Contents) (key : ℕ) (found : Bool) (o : Outcome) → s ≡ d → e ≡ without_set s key → found ≡ is_some (at_key s key) → found ≡ true → o ≡ done → Frees d e key o
+pub freed : (s d e : Contents) (key : ℕ) (found : Bool) (o : Outcome) → s ≡ d → e ≡ without_set s key → found ≡ is_some (at_key s key) → found ≡ true → o ≡ all_well → Frees d e key o
 freed s d e key found o same is told some well =
     rest (at_key s key) refl
   where
@@ -71,7 +72,7 @@ freed s d e key found o same is told some well =
     rest (Some a) at = inl (a, sym (ap (λ (c : Contents). at_key c key) same) ∙ at, is ∙ ap (λ (c : Contents). without_set c key) same, well)
     rest None at = let clash : true ≡ false = sym some ∙ told ∙ ap is_some at in absurd cc
 
-pub not_freed : (s d e : Contents) (key : ℕ) (found : Bool) (o : Outcome) → s ≡ d → e ≡ without_set s key → found ≡ is_some (at_key s key) → found ≡ false → o ≡ refusal (NoSuchSet key) → Frees d e key o
+pub not_freed : (s d e : Contents) (key : ℕ) (found : Bool) (o : Outcome) → s ≡ d → e ≡ without_set s key → found ≡ is_some (at_key s key) → found ≡ false → o ≡ outcome_of (NoSuchSet key) → Frees d e key o
 not_freed s d e key found o same is told none well =
     rest (at_key s key) refl
   where

@@ -3,8 +3,9 @@ use Rattle.std.proofs.Common.{◌≡◌, ◌<◌, ◌≤◌, [], ◌∷◌, ℕ,
 use Rattle.std.proofs.lemmas.Bool.Decides.{nat_tests}
 use Rattle.std.specs.FinSet as set
 use Rattle.moc_ranges.specs.Numbers.{NumberSet}
-use Rattle.moc_ranges.specs.RangeList.{BeginsAfter, contains-set_of, in_ranges, IsNormal, set_of}
-use Rattle.moc_ranges.specs.Laws.Ranges.{in_first, not_before}
+use Rattle.moc_ranges.specs.RangeList.{BeginsAfter, IsNormal, set_of}
+use Rattle.moc_ranges.specs.Lemmas.Members.{contains-set_of, in_ranges}
+use Rattle.moc_ranges.specs.Lemmas.Ranges.{in_first, not_before}
 use Rattle.moc_c.specs.Private.Looking.{BeginsFrom, IsRest, Knows}
 
 and_false : (x : Bool) → (x && false) ≡ false

@@ -15,8 +15,11 @@ use Rattle.moc_lines.specs.Language.{command_of}
 use Rattle.moc_c.specs.Answers.{Makes}
 use Rattle.moc_c.specs.Contents.{Contents}
 use Rattle.moc_c.specs.Membership.{Membership}
-use Rattle.moc_c.specs.Outcomes.{refusal, try_fault}
-use Rattle.moc_c.specs.Sharing.{Applies, Begins, Calls, DoesLine, Gives, IsAfter, IsRefused, Joins, LaysSet, MemberEnds, member_at, ReadsSky, Seats, unless_taken, whole_sky, with_member}
+use Rattle.moc_c.specs.Outcomes.{outcome_of}
+use Rattle.moc_c.specs.Private.Making.{try_fault, ReadsSky}
+use Rattle.moc_c.specs.Sharing.{Applies, Begins, Calls, DoesLine, Gives, IsAfter, IsTurnedAway, Joins, LaysSet}
+use Rattle.moc_c.specs.Sharing.{MemberEnds}
+use Rattle.moc_c.specs.Sharing.{seated_member, Seats, unless_taken, whole_sky, with_member}
 use Rattle.moc_c.specs.declared.fault.Fault.{Fault}
 use Rattle.moc_c.specs.declared.fault.Fault.TheVariants as fault
 use Rattle.moc_c.specs.declared.outcome.Outcome.{Outcome}
@@ -24,7 +27,7 @@ use Rattle.moc_c.specs.declared.sitter.Sitter.{Sitter}
 
 -- ---- who sits down
 
-pub begin_taken : (m : Option Membership) (q : Option (List Reply)) (r : Result (NumberSet × ℕ) Fault) (o : Outcome) → is_some m ≡ true → o ≡ refusal fault.SeatTaken
+pub begin_taken : (m : Option Membership) (q : Option (List Reply)) (r : Result (NumberSet × ℕ) Fault) (o : Outcome) → is_some m ≡ true → o ≡ outcome_of fault.SeatTaken
     → Begins (record { member = m; replies = q }) (record { member = m; replies = q }) (unless_taken m r) o
 begin_taken (Some x) q r o some tells = (Err fault.SeatTaken, inl refl, (refl, tells))
 begin_taken None q r o some tells = let clash : false ≡ true = some in absurd cc
@@ -34,21 +37,21 @@ free_seat None r none = refl
 free_seat (Some x) r none = let clash : true ≡ false = none in absurd cc
 
 pub joined : (s t last : Sitter) (m n : Membership) (given : Result Membership Fault) (o : Outcome) → s.member ≡ Some m → is_some t.member ≡ false
-    → Gives m n given → Seats t last given o → Joins s (with_member s n) t last (unless_taken t.member (member_at s)) o
+    → Gives m n given → Seats t last given o → Joins s (with_member s n) t last (unless_taken t.member (seated_member s)) o
 joined s t last m n given o is none gives seats =
-    subst (λ x. Joins s (with_member s n) t last x o) (sym (free_seat t.member (member_at s) none ∙ ap (λ x. ok_or x fault.NoMap) is))
+    subst (λ x. Joins s (with_member s n) t last x o) (sym (free_seat t.member (seated_member s) none ∙ ap (λ x. ok_or x fault.NoMap) is))
     (n, given, gives, refl, seats)
 
 -- ---- calls
 
 pub applied : (s new : Sitter) (m n : Membership) (line : List ℕ) (cs : List Command) (o : Outcome) → s.member ≡ Some m → batch_of command_of line ≡ Ok cs
-    → IsAfter m n → Calls s new m n cs o → Applies s new (member_at s) line o
+    → IsAfter m n → Calls s new m n cs o → Applies s new (seated_member s) line o
 applied s new m n line cs o is says after calls =
     subst (λ x. Applies s new (ok_or x fault.NoMap) line o) (sym is)
     (subst (λ x. DoesLine s new m x o) (sym says) (inl (n, after, calls)))
 
 pub refused : (m n : Membership) (cs : List Command) (e : TryError) (o : Outcome) → AfterError m.map cs e (record_of m.client) (record_of n.client)
-    → o ≡ refusal (try_fault e) → IsRefused m n cs o
+    → o ≡ outcome_of (try_fault e) → IsTurnedAway m n cs o
 refused m n cs (try.Busy b) o after tells = inl (b, after, tells)
 refused m n cs try.Memory o after tells = inr (after, tells)
 
@@ -66,7 +69,7 @@ sky_reply m n cs r is ends =
     (_, last.1 ∙ ap (λ x. (answer last.0 x).1) is)
 
 pub laid : (s : Sitter) (m n : Membership) (desk desk' : Contents) (a : NumberSet) (o : Outcome) → s.member ≡ Some m → ReadsSky m n (Ok a) → Makes desk desk' (Ok a) o
-    → LaysSet s (with_member s n) desk desk' (member_at s) o
+    → LaysSet s (with_member s n) desk desk' (seated_member s) o
 laid s m n desk desk' a o is reads (inl made) =
     subst (λ x. LaysSet s (with_member s n) desk desk' (ok_or x fault.NoMap) o) (sym is)
     (inl (n, reads.0, refl, inl (a, reads.1, made.1, made.0)))
@@ -79,11 +82,11 @@ laid s m n desk desk' a o is reads (inr none) =
     unanswered =
         inr (refl, (Cover a ∷ [], subst (λ k. Ends m.map (entry k whole_sky (Cover a ∷ [])) (record_of m.client) (record_of n.client)) (sym reads.0.own) reads.1))
 
-pub not_laid : (s : Sitter) (m n : Membership) (desk : Contents) (e : TryError) (o : Outcome) → s.member ≡ Some m → ReadsSky m n (Err e) → o ≡ refusal (try_fault e)
-    → LaysSet s (with_member s n) desk desk (member_at s) o
+pub not_laid : (s : Sitter) (m n : Membership) (desk : Contents) (e : TryError) (o : Outcome) → s.member ≡ Some m → ReadsSky m n (Err e) → o ≡ outcome_of (try_fault e)
+    → LaysSet s (with_member s n) desk desk (seated_member s) o
 not_laid s m n desk e o is (inl after) tells =
     subst (λ x. LaysSet s (with_member s n) desk desk (ok_or x fault.NoMap) o) (sym is)
     (inl (n, after.0, refl, inr (refused m n whole_sky e o after.1 tells, refl)))
 not_laid s m n desk e o is (inr same) tells =
     subst (λ x. LaysSet s (with_member s n) desk desk (ok_or x fault.NoMap) o) (sym is)
-    (inr ((λ i. record { member = (ap Some same.0 ∙ sym is) i; replies = s.replies }), refl, tells ∙ ap (λ x. refusal (try_fault x)) same.1))
+    (inr ((λ i. record { member = (ap Some same.0 ∙ sym is) i; replies = s.replies }), refl, tells ∙ ap (λ x. outcome_of (try_fault x)) same.1))

@@ -2,9 +2,8 @@
 use Rattle.std.specs.Prelude.{◌≡◌, ℕ, ◌⊎◌, None, Some, Result, Ok, Err, nat_le, if◌then◌else◌}
 use Rattle.std.specs.Option.{ok_or}
 use Rattle.moc_ranges.specs.Numbers.{NumberSet}
-use Rattle.moc_ranges.specs.declared.errors.Memory.{Memory}
 use Rattle.moc_c.specs.Contents.{Contents, at_key, with_set, without_set}
-use Rattle.moc_c.specs.Outcomes.{done, memory, refusal, told}
+use Rattle.moc_c.specs.Outcomes.{all_well, memory, outcome_of, told}
 use Rattle.moc_c.specs.declared.fault.Fault.{Fault}
 use Rattle.moc_c.specs.declared.fault.Fault.TheVariants.{NoSuchSet, NoSuchOrder}
 use Rattle.moc_c.specs.declared.outcome.Outcome.{Outcome}
@@ -26,7 +25,7 @@ sets_at d a b = both (set_at d a) (set_at d b)
 -- what is asked about tells a number that stands in this relation to it, or the fault is told
 abbrev pub Answers : {X : Type 0} → (X → ℕ → Type 0) → Result X Fault → Outcome → Type 0
 Answers Is (Ok x) o = (n : ℕ) × Is x n × (o ≡ told n)
-Answers Is (Err e) o = o ≡ refusal e
+Answers Is (Err e) o = o ≡ outcome_of e
 
 -- 1 where something holds, and else 0
 abbrev pub IsWhether : Type 0 → ℕ → Type 0
@@ -42,22 +41,17 @@ abbrev pub of_two : {X Y Z : Type 0} → (X → Y → Z) → X × Y → Z
 of_two f x = f x.0 x.1
 
 -- the order of a number, if it is one
-abbrev pub order_at : ℕ → Result ℕ Fault
-order_at k = if nat_le k 29 then Ok k else Err (NoSuchOrder k)
+abbrev pub order_numbered : ℕ → Result ℕ Fault
+order_numbered k = if nat_le k 29 then Ok k else Err (NoSuchOrder k)
 
 -- a set that is wanted was put at the next key, which is told; or the fault is told, or no memory is left, and all is
 -- as it was
 abbrev pub Makes : Contents → Contents → Result NumberSet Fault → Outcome → Type 0
 Makes old new (Ok a) o = ((o ≡ told old.next) × (new ≡ with_set old a)) ⊎ ((o ≡ memory) × (new ≡ old))
-Makes old new (Err e) o = ((o ≡ refusal e) ⊎ (o ≡ memory)) × (new ≡ old)
-
--- the same for a set that was made, where memory sufficed
-abbrev pub MakesIf : Contents → Contents → Result NumberSet Memory → Outcome → Type 0
-MakesIf old new (Ok a) o = Makes old new (Ok a) o
-MakesIf old new (Err e) o = (o ≡ memory) × (new ≡ old)
+Makes old new (Err e) o = ((o ≡ outcome_of e) ⊎ (o ≡ memory)) × (new ≡ old)
 
 -- the set at a key is gone, or there was none, and all is as it was
 abbrev pub Frees : Contents → Contents → ℕ → Outcome → Type 0
 Frees old new key o =
-    ((a : NumberSet) × (at_key old key ≡ Some a) × (new ≡ without_set old key) × (o ≡ done))
-    ⊎ ((at_key old key ≡ None) × (new ≡ old) × (o ≡ refusal (NoSuchSet key)))
+    ((a : NumberSet) × (at_key old key ≡ Some a) × (new ≡ without_set old key) × (o ≡ all_well))
+    ⊎ ((at_key old key ≡ None) × (new ≡ old) × (o ≡ outcome_of (NoSuchSet key)))

@@ -16,7 +16,7 @@ use Rattle.moc_ranges.specs.declared.errors.RangesError.{RangesError}
 use Rattle.moc_ranges.specs.RangeList.{IsNormal, set_of}
 use Rattle.moc_c.specs.Answers.{Makes}
 use Rattle.moc_c.specs.Contents.{Contents}
-use Rattle.moc_c.specs.Outcomes.{done, memory, refusal, told}
+use Rattle.moc_c.specs.Outcomes.{all_well, memory, outcome_of, told}
 use Rattle.moc_c.specs.declared.fault.Fault.{Fault}
 use Rattle.moc_c.specs.declared.fault.Fault.TheVariants as fault
 use Rattle.moc_c.specs.declared.outcome.Outcome.{Outcome}
@@ -35,10 +35,6 @@ first_failing test at (x ∷ xs) = if test x then first_failing test (at + 1) xs
 abbrev pub is_index : ℕ → ℕ → Bool
 is_index order x = nat_lt x (cell_count order)
 
--- an order that is none
-abbrev pub order_fault : ℕ → Option Fault
-order_fault order = if nat_le order 29 then None else Some (fault.NoSuchOrder order)
-
 -- lengths that are not all this one
 abbrev pub lengths_fault : ℕ → List ℕ → Option Fault
 lengths_fault n lengths = if list_all (λ m. n == m) lengths then None else Some fault.LengthsDiffer
@@ -54,12 +50,13 @@ uniqs_fault xs = option_map (λ at. fault.NotUniq at) (first_failing is_uniq 0 x
 -- what is wrong with an order, numbers of its cells, and the lengths of what goes with them
 abbrev pub numbers_fault : ℕ → List ℕ → List ℕ → Option Fault
 numbers_fault order xs lengths =
-    option_or (order_fault order) (option_or (lengths_fault (length xs) lengths) (cells_fault order xs))
+    if nat_le order 29 then option_or (lengths_fault (length xs) lengths) (cells_fault order xs)
+    else Some (fault.NoSuchOrder order)
 
 -- the fault is told, or that all went well
 abbrev pub done_unless : Option Fault → Outcome
-done_unless None = done
-done_unless (Some e) = refusal e
+done_unless None = all_well
+done_unless (Some e) = outcome_of e
 
 -- ---- what arrays tell
 
@@ -103,10 +100,6 @@ abbrev pub AreNeighbours : ℕ → List ℕ → List (List ℕ) → Type 0
 AreNeighbours order cells rows =
     EachIndex cells (λ k. TellsNeighbours order (slice_index cells k) (slice_index_or rows k []))
 
--- each answer is 1 where the set has the number at its place, and else 0
-abbrev pub AreContained : NumberSet → List ℕ → List ℕ → Type 0
-AreContained a xs ys = AreRelated (λ x y. y ≡ (if set.contains a x then 1 else 0)) xs ys
-
 -- ---- what arrays say
 
 -- ranges as pairs
@@ -143,11 +136,6 @@ abbrev pub MakesOfUniqs : Contents → Contents → List ℕ → Outcome → Typ
 MakesOfUniqs old new uniqs o =
     ((said : Result NumberSet Fault) × UniqsSay uniqs said × Makes old new said o) ⊎ ((o ≡ memory) × (new ≡ old))
 
--- the set that was said is made, or the fault is told, and all is as it was
-abbrev pub KeepsSaid : Contents → Contents → Result NumberSet Fault → Outcome → Type 0
-KeepsSaid old new (Ok a) o = Makes old new (Ok a) o
-KeepsSaid old new (Err e) o = (o ≡ refusal e) × (new ≡ old)
-
 -- ---- what is put into buffers
 
 -- items stand at the front of a buffer, and how many is told; or it is shorter, and as it was, and how many are wanted
@@ -155,7 +143,7 @@ KeepsSaid old new (Err e) o = (o ≡ refusal e) × (new ≡ old)
 abbrev pub Fills : {X : Type 0} → List X → List X → List X → Outcome → Type 0
 Fills items old new o =
     ((take (length items) new ≡ items) × (o ≡ told (length items)))
-    ⊎ ((length old < length items) × (new ≡ old) × (o ≡ refusal (fault.NoRoom (length items))))
+    ⊎ ((length old < length items) × (new ≡ old) × (o ≡ outcome_of (fault.NoRoom (length items))))
 
 -- pairs as ranges
 abbrev pub ranges_from : List (ℕ × ℕ) → List Range
@@ -165,16 +153,16 @@ ranges_from pairs = map (λ p. record { from = p.0; to = p.1 }) pairs
 abbrev pub FillsRanges : Result NumberSet Fault → List Range → List Range → Outcome → Type 0
 FillsRanges (Ok a) old new o =
     (ranges : List (ℕ × ℕ)) × IsNormal ranges × (set_of ranges ≡ a) × Fills (ranges_from ranges) old new o
-FillsRanges (Err e) old new o = (new ≡ old) × (o ≡ refusal e)
+FillsRanges (Err e) old new o = (new ≡ old) × (o ≡ outcome_of e)
 
 -- the NUNIQ numbers of a set's cells fill a buffer, or no memory is left, or the fault is told
 abbrev pub FillsCells : Result NumberSet Fault → List ℕ → List ℕ → Outcome → Type 0
 FillsCells (Ok a) old new o = Fills (map uniq_of (cells_of a)) old new o ⊎ ((new ≡ old) × (o ≡ memory))
-FillsCells (Err e) old new o = (new ≡ old) × (o ≡ refusal e)
+FillsCells (Err e) old new o = (new ≡ old) × (o ≡ outcome_of e)
 
--- which of some pixels a set has is told, or the fault is
+-- which of some pixels a set has is told, by 1 for those that it has and 0 for the others; or the fault is
 abbrev pub TellsContained : Result NumberSet Fault → List ℕ → List ℕ → List ℕ → Outcome → Type 0
 TellsContained (Ok a) pixels old new o =
     (o ≡ done_unless (lengths_fault (length pixels) (length old ∷ [])))
-    × (o.code ≡ 0 → AreContained a pixels new)
-TellsContained (Err e) pixels old new o = (new ≡ old) × (o ≡ refusal e)
+    × (o.code ≡ 0 → AreRelated (λ x y. y ≡ (if set.contains a x then 1 else 0)) pixels new)
+TellsContained (Err e) pixels old new o = (new ≡ old) × (o ≡ outcome_of e)

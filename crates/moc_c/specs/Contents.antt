@@ -1,9 +1,7 @@
 -- What lies on a desk.
-use Rattle.std.specs.Prelude.{◌≡◌, ◌≤◌, ◌+◌, ℕ, List, [], Option, None, refl}
+use Rattle.std.specs.Prelude.{◌+◌, ℕ, List, [], Option}
 use Rattle.std.specs.Ordering.{nat_cmp}
 use Rattle.std.specs.FinMap as map
-use Rattle.std.specs.FinSet as set
-use Rattle.std.specs.Coded.{Coded, code_by, coded×, coded_ℕ, coded_list}
 use Rattle.moc_ranges.specs.Numbers.{NumberSet}
 
 -- sets by their keys, the key of the set that is made next, and the text that was made last
@@ -31,14 +29,3 @@ without_set d key = record { sets = map.remove d.sets key; next = d.next; text =
 -- with another text
 abbrev pub with_text : Contents → List ℕ → Contents
 with_text d text = record { sets = d.sets; next = d.next; text = text }
-
--- no set has a key that is still to come
-abbrev pub HasNoneFrom : ℕ → map.FinMap nat_cmp NumberSet → Type 0
-HasNoneFrom next sets = (key : ℕ) → next ≤ key → map.get sets key ≡ None
-
--- how it is stored
-abbrev pub contents_code : Coded Contents
-contents_code =
-    code_by (map.FinMap nat_cmp NumberSet × (ℕ × List ℕ))
-    (coded× (map.code coded_ℕ (set.code coded_ℕ)) (coded× coded_ℕ (coded_list coded_ℕ)))
-    (λ d. (d.sets, (d.next, d.text))) (λ p. record { sets = p.0; next = p.1.0; text = p.1.1 }) (λ _. refl)

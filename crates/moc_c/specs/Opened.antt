@@ -7,6 +7,6 @@ use Rattle.moc_c.specs.Contents.{Contents, bare}
 use Rattle.moc_c.specs.contracts.desk.Desk.{the_row}
 
 -- a desk with nothing on it, or the room that there was
-abbrev pub opened : Bool → Ptr → Fml
-opened true p = fex the_row.Denot (λ d. fsep (feq Contents d.contents bare) (lies_at the_row full_share p d))
-opened false p = room_at the_row p
+abbrev pub desk_or_room : Bool → Ptr → Fml
+desk_or_room true p = fex the_row.Denot (λ d. fsep (feq Contents d.contents bare) (lies_at the_row full_share p d))
+desk_or_room false p = room_at the_row p

@@ -4,3 +4,5 @@ pub mod Lending
 pub mod Looking
 pub mod Seat
 pub mod SeatLending
+pub mod Storing
+pub mod Making

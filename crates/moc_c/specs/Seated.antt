@@ -8,6 +8,6 @@ use Rattle.moc_c.specs.contracts.seat.Seat.{the_row}
 use Rattle.moc_c.specs.declared.sitter.Sitter.{Sitter}
 
 -- a seat on which nobody sits, or the room that there was
-abbrev pub seated : Bool → Ptr → Fml
-seated true p = fex the_row.Denot (λ s. fsep (feq Sitter s.contents nobody) (lies_at the_row full_share p s))
-seated false p = room_at the_row p
+abbrev pub seat_or_room : Bool → Ptr → Fml
+seat_or_room true p = fex the_row.Denot (λ s. fsep (feq Sitter s.contents nobody) (lies_at the_row full_share p s))
+seat_or_room false p = room_at the_row p

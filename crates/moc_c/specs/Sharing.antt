@@ -8,18 +8,16 @@ use Rattle.moc_parts.specs.declared.command.Command.{Command}
 use Rattle.moc_parts.specs.declared.command.Command.TheVariants.{Read}
 use Rattle.moc_parts.specs.declared.reply.Reply.{Reply}
 use Rattle.moc_parts.specs.declared.reply.Reply.TheVariants.{Cover}
-use Rattle.moc_shared.specs.Clients.{AfterError, call_of, Ends, Fails, number_of, record_of, Refuses}
+use Rattle.moc_shared.specs.Clients.{call_of, Ends, Fails, number_of, record_of, Refuses}
 use Rattle.moc_shared.specs.declared.errors.Busy.{Busy}
-use Rattle.moc_shared.specs.declared.errors.TryError.{TryError}
-use Rattle.moc_shared.specs.declared.errors.TryError.TheVariants as try
 use Rattle.moc_lines.specs.Batches.{batch_of}
 use Rattle.moc_lines.specs.Language.{command_of}
 use Rattle.moc_lines.specs.Replies.{replies_text}
 use Rattle.moc_lines.specs.declared.fault.Fault.{Fault as LineFault}
 use Rattle.moc_c.specs.Buffers.{Fills}
 use Rattle.moc_c.specs.Contents.{Contents, with_set}
-use Rattle.moc_c.specs.Membership.{IsNewMember, Membership, with_client, with_spare}
-use Rattle.moc_c.specs.Outcomes.{done, memory, refusal, told}
+use Rattle.moc_c.specs.Membership.{IsNewMember, Membership}
+use Rattle.moc_c.specs.Outcomes.{all_well, memory, outcome_of, told}
 use Rattle.moc_c.specs.declared.fault.Fault.{Fault}
 use Rattle.moc_c.specs.declared.fault.Fault.TheVariants as fault
 use Rattle.moc_c.specs.declared.outcome.Outcome.{Outcome}
@@ -36,8 +34,8 @@ abbrev pub with_member : Sitter → Membership → Sitter
 with_member s m = record { member = Some m; replies = s.replies }
 
 -- the member who sits there, or that there is none
-abbrev pub member_at : Sitter → Result Membership Fault
-member_at s = ok_or s.member fault.NoMap
+abbrev pub seated_member : Sitter → Result Membership Fault
+seated_member s = ok_or s.member fault.NoMap
 
 -- what there is where nobody sits, or that the seat is taken
 abbrev pub unless_taken : {X : Type 0} → Option Membership → Result X Fault → Result X Fault
@@ -45,8 +43,8 @@ unless_taken None r = r
 unless_taken (Some m) r = Err fault.SeatTaken
 
 -- a number of clients that a map may have
-abbrev pub count_at : ℕ → Result ℕ Fault
-count_at n = if nat_le 1 n && nat_le n 64 then Ok n else Err (fault.BadCount n)
+abbrev pub client_count : ℕ → Result ℕ Fault
+client_count n = if nat_le 1 n && nat_le n 64 then Ok n else Err (fault.BadCount n)
 
 -- ---- a new map, and further clients
 
@@ -60,7 +58,7 @@ IsBegun (Err f) (Err e) = (e ≡ f) ⊎ (e ≡ fault.Memory)
 -- the member sits there now, and its client's number is told; or the fault is told, and all is as it was
 abbrev pub Seats : Sitter → Sitter → Result Membership Fault → Outcome → Type 0
 Seats old new (Ok m) o = (new ≡ with_member old m) × (o ≡ told (number_of m.client))
-Seats old new (Err e) o = (new ≡ old) × (o ≡ refusal e)
+Seats old new (Err e) o = (new ≡ old) × (o ≡ outcome_of e)
 
 -- a client of the new map sits there, or the fault is told
 abbrev pub Begins : Sitter → Sitter → Result (NumberSet × ℕ) Fault → Outcome → Type 0
@@ -70,7 +68,7 @@ Begins old new what o = (begun : Result Membership Fault) × IsBegun what begun 
 -- the giver is as it was
 abbrev pub Gives : Membership → Membership → Result Membership Fault → Type 0
 Gives old new (Ok m) =
-    (old.spare ≡ new.spare ++ m.client ∷ []) × (new ≡ with_spare old new.spare)
+    (old.spare ≡ new.spare ++ m.client ∷ []) × (new ≡ record old { spare = new.spare })
     × (m ≡ record { map = old.map; client = m.client; spare = [] })
 Gives old new (Err e) = (new ≡ old) × ((e ≡ fault.Memory) ⊎ ((e ≡ fault.NoClient) × (old.spare ≡ [])))
 
@@ -79,13 +77,13 @@ abbrev pub Joins : Sitter → Sitter → Sitter → Sitter → Result Membership
 Joins old new other last (Ok m) o =
     (n : Membership) × (given : Result Membership Fault) × Gives m n given × (new ≡ with_member old n)
     × Seats other last given o
-Joins old new other last (Err e) o = (new ≡ old) × (last ≡ other) × (o ≡ refusal e)
+Joins old new other last (Err e) o = (new ≡ old) × (last ≡ other) × (o ≡ outcome_of e)
 
 -- ---- calls on the map
 
 -- the member after a call of its client, which has its number
 pub record IsAfter (old new : Membership) : Type 0 where
-  pub same : new ≡ with_client old new.client
+  pub same : new ≡ record old { client = new.client }
   pub number : number_of new.client ≡ number_of old.client
   pub own : (record_of old.client).number ≡ number_of old.client
 
@@ -93,33 +91,28 @@ pub record IsAfter (old new : Membership) : Type 0 where
 abbrev pub MemberEnds : Membership → Membership → List Command → List Reply → Type 0
 MemberEnds old new cs r = Ends old.map (call_of old.client cs r) (record_of old.client) (record_of new.client)
 
--- the same, or why it did not
-abbrev pub Tries : Membership → Membership → List Command → Result (List Reply) TryError → Type 0
-Tries old new cs (Ok r) = IsAfter old new × MemberEnds old new cs r
-Tries old new cs (Err e) = IsAfter old new × AfterError old.map cs e (record_of old.client) (record_of new.client)
-
 -- another client holds a part of theirs: which, and who, is told; or no memory is left
-abbrev pub IsRefused : Membership → Membership → List Command → Outcome → Type 0
-IsRefused old new cs o =
-    ((b : Busy) × Refuses old.map cs b (record_of old.client) (record_of new.client) × (o ≡ refusal (fault.Busy b)))
+abbrev pub IsTurnedAway : Membership → Membership → List Command → Outcome → Type 0
+IsTurnedAway old new cs o =
+    ((b : Busy) × Refuses old.map cs b (record_of old.client) (record_of new.client) × (o ≡ outcome_of (fault.Busy b)))
     ⊎ (Fails old.map cs (record_of old.client) (record_of new.client) × (o ≡ memory))
 
 -- the call went through, and its replies are kept; or it was refused, and the replies of before are kept
 abbrev pub Calls : Sitter → Sitter → Membership → Membership → List Command → Outcome → Type 0
 Calls old new m n cs o =
-    ((r : List Reply) × MemberEnds m n cs r × (new ≡ record { member = Some n; replies = Some r }) × (o ≡ done))
-    ⊎ (IsRefused m n cs o × (new ≡ with_member old n))
+    ((r : List Reply) × MemberEnds m n cs r × (new ≡ record { member = Some n; replies = Some r }) × (o ≡ all_well))
+    ⊎ (IsTurnedAway m n cs o × (new ≡ with_member old n))
 
 -- the commands of a line are called; or the line's fault is told, or no memory is left, and all is as it was
 abbrev pub DoesLine : Sitter → Sitter → Membership → Result (List Command) LineFault → Outcome → Type 0
 DoesLine old new m (Ok cs) o =
     ((n : Membership) × IsAfter m n × Calls old new m n cs o) ⊎ ((new ≡ old) × (o ≡ memory))
-DoesLine old new m (Err e) o = (new ≡ old) × ((o ≡ refusal (fault.Line e)) ⊎ (o ≡ memory))
+DoesLine old new m (Err e) o = (new ≡ old) × ((o ≡ outcome_of (fault.Line e)) ⊎ (o ≡ memory))
 
 -- the same for the member who sits there, or nobody does
 abbrev pub Applies : Sitter → Sitter → Result Membership Fault → List ℕ → Outcome → Type 0
 Applies old new (Ok m) line o = DoesLine old new m (batch_of command_of line) o
-Applies old new (Err e) line o = (new ≡ old) × (o ≡ refusal e)
+Applies old new (Err e) line o = (new ≡ old) × (o ≡ outcome_of e)
 
 -- ---- the set of a map
 
@@ -127,26 +120,19 @@ Applies old new (Err e) line o = (new ≡ old) × (o ≡ refusal e)
 abbrev pub whole_sky : List Command
 whole_sky = Read (record { set = pixels; coarse = None }) ∷ []
 
--- the member's call of it went through, and replied this set; or why it did not, or that it was not made
-abbrev pub ReadsSky : Membership → Membership → Result NumberSet TryError → Type 0
-ReadsSky old new (Ok a) = IsAfter old new × MemberEnds old new whole_sky (Cover a ∷ [])
-ReadsSky old new (Err e) =
-    (IsAfter old new × AfterError old.map whole_sky e (record_of old.client) (record_of new.client))
-    ⊎ ((new ≡ old) × (e ≡ try.Memory))
-
 -- the set that was read is put on the desk, at the next key, which is told; or the call was refused, and all on the
 -- desk is as it was
 abbrev pub LaysRead : Membership → Membership → Contents → Contents → Outcome → Type 0
 LaysRead m n desk desk' o =
     ((a : NumberSet) × MemberEnds m n whole_sky (Cover a ∷ []) × (desk' ≡ with_set desk a) × (o ≡ told desk.next))
-    ⊎ (IsRefused m n whole_sky o × (desk' ≡ desk))
+    ⊎ (IsTurnedAway m n whole_sky o × (desk' ≡ desk))
 
 -- the map's set is put on the desk; or the fault is told, or no memory is left, and all is as it was
 abbrev pub LaysSet : Sitter → Sitter → Contents → Contents → Result Membership Fault → Outcome → Type 0
 LaysSet old new desk desk' (Ok m) o =
     ((n : Membership) × IsAfter m n × (new ≡ with_member old n) × LaysRead m n desk desk' o)
     ⊎ ((new ≡ old) × (desk' ≡ desk) × (o ≡ memory))
-LaysSet old new desk desk' (Err e) o = (new ≡ old) × (desk' ≡ desk) × (o ≡ refusal e)
+LaysSet old new desk desk' (Err e) o = (new ≡ old) × (desk' ≡ desk) × (o ≡ outcome_of e)
 
 -- ---- answers
 

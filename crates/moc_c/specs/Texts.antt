@@ -1,8 +1,6 @@
 -- Texts that are read and made.
-use Rattle.std.specs.Prelude.{◌≡◌, ◌⊎◌, ℕ, List, length, nat_eq, nat_le, if◌then◌else◌}
-use Rattle.std.specs.Prelude.{Option, None, Some, Result, Ok, Err}
-use Rattle.std.specs.Prelude.{String, string_bytes}
-use Rattle.std.specs.declared.alloc.Global.{Global}
+use Rattle.std.specs.Prelude.{◌≡◌, ◌⊎◌, ℕ, List, length, nat_eq, nat_le, if◌then◌else◌, Option, None, Some, Result, Ok}
+use Rattle.std.specs.Prelude.{Err}
 use Rattle.moc_ranges.specs.Numbers.{NumberSet}
 use Rattle.moc_forms.specs.Describing.{Describes}
 use Rattle.moc_forms.specs.Drawing.{picture_of}
@@ -11,7 +9,7 @@ use Rattle.moc_forms.specs.declared.form.Form.{Form}
 use Rattle.moc_forms.specs.declared.form.FormError.{FormError}
 use Rattle.moc_c.specs.Answers.{both, set_at}
 use Rattle.moc_c.specs.Contents.{Contents, with_set, with_text}
-use Rattle.moc_c.specs.Outcomes.{form_refusal, outcome, refusal, told}
+use Rattle.moc_c.specs.Outcomes.{outcome_of_form, outcome, outcome_of, told}
 use Rattle.moc_c.specs.declared.fault.Fault.{Fault}
 use Rattle.moc_c.specs.declared.fault.Fault.TheVariants as fault
 use Rattle.moc_c.specs.declared.outcome.Outcome.{Outcome}
@@ -31,40 +29,35 @@ abbrev pub Reads : Form → List ℕ → Contents → Contents → Outcome → T
 Reads form text old new o =
     ((a : NumberSet) × (deepest : Option ℕ) × FormSays form text a deepest × (new ≡ with_set old a)
     × (o ≡ outcome 0 old.next (order_told deepest)))
-    ⊎ ((e : FormError) × FormFails form text e × (new ≡ old) × (o ≡ form_refusal e))
+    ⊎ ((e : FormError) × FormFails form text e × (new ≡ old) × (o ≡ outcome_of_form e))
 
 -- a text of what there is, or a fault of making one, or what is missing
-abbrev pub IsTextOf : {X : Type 0} → (X → List ℕ → Type 0) → (X → Fault → Type 0) → Result X Fault
+abbrev pub IsMadeText : {X : Type 0} → (X → List ℕ → Type 0) → (X → Fault → Type 0) → Result X Fault
     → Result (List ℕ) Fault → Type 0
-IsTextOf Is Fails (Ok x) (Ok text) = Is x text
-IsTextOf Is Fails (Ok x) (Err e) = Fails x e
-IsTextOf Is Fails (Err e) r = r ≡ Err e
+IsMadeText Is Fails (Ok x) (Ok text) = Is x text
+IsMadeText Is Fails (Ok x) (Err e) = Fails x e
+IsMadeText Is Fails (Err e) r = r ≡ Err e
 
 -- a text that was made is kept, and its length is told; else the fault is told, and all is as it was
 abbrev pub KeepsText : Contents → Contents → Result (List ℕ) Fault → Outcome → Type 0
 KeepsText old new (Ok text) o = (new ≡ with_text old text) × (o ≡ told (length text))
-KeepsText old new (Err e) o = (new ≡ old) × (o ≡ refusal e)
-
--- the bytes of a text that was made
-abbrev pub bytes_made : Result (String Global) Fault → Result (List ℕ) Fault
-bytes_made (Ok t) = Ok (string_bytes t)
-bytes_made (Err e) = Err e
+KeepsText old new (Err e) o = (new ≡ old) × (o ≡ outcome_of e)
 
 -- the text of a set in a form is made, with the order that is stated
 abbrev pub WritesText : Form → Contents → ℕ → ℕ → Result (List ℕ) Fault → Type 0
 WritesText form d key stated r =
-    IsTextOf (λ x text. text ≡ form_text form x.0 x.1)
+    IsMadeText (λ x text. text ≡ form_text form x.0 x.1)
     (λ x e. (f : FormError) × IsUnwritten form x.0 x.1 f × (e ≡ fault.Form f))
     (both (set_at d key) (order_meant stated)) r
 
 -- the figures of a set are made, with the deepest order that its text named
 abbrev pub DescribesText : Contents → ℕ → ℕ → Result (List ℕ) Fault → Type 0
 DescribesText d key deepest r =
-    IsTextOf (λ x text. Describes x.0 x.1 text) (λ x e. e ≡ fault.Memory) (both (set_at d key) (order_meant deepest)) r
+    IsMadeText (λ x text. Describes x.0 x.1 text) (λ x e. e ≡ fault.Memory) (both (set_at d key) (order_meant deepest)) r
 
 -- the picture of a set is made
 abbrev pub DrawsText : Contents → ℕ → Result (List ℕ) Fault → Type 0
-DrawsText d key r = IsTextOf (λ x text. text ≡ picture_of x) (λ x e. e ≡ fault.Memory) (set_at d key) r
+DrawsText d key r = IsMadeText (λ x text. text ≡ picture_of x) (λ x e. e ≡ fault.Memory) (set_at d key) r
 
 -- the text is made and kept, or the call is refused
 abbrev pub KeepsMade : Contents → Contents → (Result (List ℕ) Fault → Type 0) → Outcome → Type 0

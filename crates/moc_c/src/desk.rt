@@ -1,7 +1,8 @@
 //! What C holds: a shelf of coverages.
 ghost use Rattle.std.specs.Prelude.{◌≡◌, IfOk};
 ghost use Rattle.std.specs.Borrow.{sem};
-ghost use Rattle.moc_c.specs.Contents.{bare, Contents, contents_code};
+ghost use Rattle.moc_c.specs.Contents.{bare, Contents};
+ghost use Rattle.moc_c.specs.Private.Storing.{contents_code};
 ghost use Rattle.moc_c.specs.Private.Desk.{desk_owns};
 
 use crate::parts::Parts;

@@ -75,7 +75,7 @@ impl From<AllocError> for Fault {
 
 impl From<TryError> for Fault {
     ghost use Rattle.std.specs.Prelude.{◌≡◌};
-    ghost use Rattle.moc_c.specs.Outcomes.{try_fault};
+    ghost use Rattle.moc_c.specs.Private.Making.{try_fault};
 
     ghost from_gives = { λ error e. e ≡ try_fault error };
 

@@ -2,9 +2,9 @@
 ghost use Rattle.std.specs.Prelude.{◌≡◌, ◌⊎◌, IfOk, MatchResult, Err, Ok, map};
 ghost use Rattle.moc_sphere.specs.CellNumber.{uniq_of};
 ghost use Rattle.moc_c.specs.Answers.{Makes, set_at};
-ghost use Rattle.moc_c.specs.Buffers.{cells_say, Fills, FillsCells, FillsRanges};
-ghost use Rattle.moc_c.specs.Buffers.{KeepsSaid, MakesOfUniqs, pairs_from, ranges_from};
+ghost use Rattle.moc_c.specs.Buffers.{cells_say, Fills, FillsCells, FillsRanges, MakesOfUniqs, pairs_from, ranges_from};
 ghost use Rattle.moc_c.specs.Buffers.{ranges_say, TellsContained, UniqsSay};
+ghost use Rattle.moc_c.specs.Private.Making.{KeepsSaid};
 ghost use Rattle.moc_c.specs.declared.fault.Fault.TheVariants.{Memory as NoMemory};
 
 use crate::desk::Desk;

@@ -6,7 +6,8 @@ ghost use Rattle.moc_ranges.specs.Operations.{complement, symmetric};
 ghost use Rattle.moc_ranges.specs.Pixels.{pixels};
 ghost use Rattle.moc_forms.specs.Combining.{combined};
 ghost use Rattle.moc_forms.specs.Changing.{changed};
-ghost use Rattle.moc_c.specs.Answers.{both, Frees, made_of, Makes, MakesIf, of_two, order_at, set_at, sets_at};
+ghost use Rattle.moc_c.specs.Answers.{both, Frees, made_of, Makes, of_two, order_numbered, set_at, sets_at};
+ghost use Rattle.moc_c.specs.Private.Making.{MakesIf};
 
 use crate::desk::Desk;
 use crate::fault::Fault;
@@ -19,7 +20,7 @@ use std::alloc::Global;
 
 /// The order of a number; refused where it is none.
 pub(crate) fn order_of(number: u8) -> Result<Order, Fault>
-    ensures { result ≡ order_at number }
+    ensures { result ≡ order_numbered number }
 {
     match Order::new(number) {
         Some(order) => Ok(order),
@@ -70,7 +71,7 @@ impl Shelf {
     /// Keeps all pixels of each cell of an order that a set meets.
     fn degrade(&mut self, alloc: Global, a: u64, order: u8) -> Outcome
         ensures { Makes self.old self.new
-            (made_of (of_two degrade) (both (set_at self.old a) (order_at order))) result }
+            (made_of (of_two degrade) (both (set_at self.old a) (order_numbered order))) result }
     {
         match (self.set(a), order_of(order)) {
             (Ok(set), Ok(order)) => {
@@ -151,7 +152,7 @@ pub extern "C" fn moc_complement(alloc: Global, desk: &mut Desk, a: u64) -> Outc
 #[unsafe(no_mangle)]
 pub extern "C" fn moc_degrade(alloc: Global, desk: &mut Desk, a: u64, order: u8) -> Outcome
     ensures { Makes desk.old.contents desk.new.contents
-        (made_of (of_two degrade) (both (set_at desk.old.contents a) (order_at order))) result }
+        (made_of (of_two degrade) (both (set_at desk.old.contents a) (order_numbered order))) result }
 {
     desk.shelf().degrade(alloc, a, order)
 }

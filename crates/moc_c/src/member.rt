@@ -3,7 +3,8 @@ ghost use Rattle.std.specs.Prelude.{◌≡◌, ◌++◌, ◌∷◌, [], ◌<◌,
 ghost use Rattle.moc_ranges.specs.Numbers.{NumberSet};
 ghost use Rattle.moc_parts.specs.declared.reply.Reply.TheVariants.{Cover};
 ghost use Rattle.moc_c.specs.Membership.{IsNewMember};
-ghost use Rattle.moc_c.specs.Sharing.{Gives, ReadsSky, Tries, whole_sky};
+ghost use Rattle.moc_c.specs.Sharing.{Gives, whole_sky};
+ghost use Rattle.moc_c.specs.Private.Making.{ReadsSky, Tries};
 ghost use Rattle.moc_shared.specs.Clients.{IsClientOf, number_of};
 
 use crate::fault::Fault;
@@ -24,7 +25,8 @@ pub struct Member {
 
 impl Model for Member {
     ghost use Rattle.std.specs.Arc.{arc_value};
-    ghost use Rattle.moc_c.specs.Membership.{AreMembers, Membership, membership_code};
+    ghost use Rattle.moc_c.specs.Private.Storing.{AreMembers, membership_code};
+    ghost use Rattle.moc_c.specs.Membership.{Membership};
 
     ghost Value = { Membership };
 

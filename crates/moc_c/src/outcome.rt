@@ -1,7 +1,8 @@
 //! How a call ended.
 ghost use Rattle.std.specs.Prelude.{◌≡◌};
-ghost use Rattle.moc_c.specs.Outcomes.{done, form_refusal, json_refusal, line_refusal, outcome, ranges_refusal};
-ghost use Rattle.moc_c.specs.Outcomes.{refusal, text_refusal, told, uniq_refusal};
+ghost use Rattle.moc_c.specs.Outcomes.{all_well, outcome_of_form, outcome_of_json, outcome_of_line, outcome};
+ghost use Rattle.moc_c.specs.Outcomes.{outcome_of_ranges};
+ghost use Rattle.moc_c.specs.Outcomes.{outcome_of, outcome_of_text, told, outcome_of_uniq};
 
 use crate::codes;
 use crate::fault::Fault;
@@ -41,7 +42,7 @@ impl Outcome {
 
     /// All went well.
     pub(crate) fn done() -> Outcome
-        ensures { result ≡ done }
+        ensures { result ≡ all_well }
     {
         Outcome::new(codes::DONE, 0, 0)
     }
@@ -62,7 +63,7 @@ impl Outcome {
 
     /// The code of a fault, with its place.
     pub(crate) fn of(fault: Fault) -> Outcome
-        ensures { result ≡ refusal fault }
+        ensures { result ≡ outcome_of fault }
     {
         match fault {
             Fault::Memory => Outcome::new(codes::MEMORY, 0, 0),
@@ -89,7 +90,7 @@ impl Outcome {
 
     /// The fault of a text in any form.
     fn of_form(error: FormError) -> Outcome
-        ensures { result ≡ form_refusal error }
+        ensures { result ≡ outcome_of_form error }
     {
         match error {
             FormError::Ascii(error) => Outcome::of_text(error),
@@ -101,7 +102,7 @@ impl Outcome {
 
     /// The fault of an ASCII text, and the place of its byte.
     fn of_text(error: TextError) -> Outcome
-        ensures { result ≡ text_refusal error }
+        ensures { result ≡ outcome_of_text error }
     {
         match error {
             TextError::Memory => Outcome::new(codes::MEMORY, 0, 0),
@@ -117,7 +118,7 @@ impl Outcome {
 
     /// The fault of a JSON text, the number of the name and that of the item.
     fn of_json(error: JsonError) -> Outcome
-        ensures { result ≡ json_refusal error }
+        ensures { result ≡ outcome_of_json error }
     {
         match error {
             JsonError::Memory => Outcome::new(codes::MEMORY, 0, 0),
@@ -137,7 +138,7 @@ impl Outcome {
 
     /// The fault of a NUNIQ list, and the number of its line.
     fn of_uniq(error: UniqError) -> Outcome
-        ensures { result ≡ uniq_refusal error }
+        ensures { result ≡ outcome_of_uniq error }
     {
         match error {
             UniqError::Memory => Outcome::new(codes::MEMORY, 0, 0),
@@ -148,7 +149,7 @@ impl Outcome {
 
     /// The fault of ranges, and the place of the faulty one.
     fn of_ranges(error: RangesError) -> Outcome
-        ensures { result ≡ ranges_refusal error }
+        ensures { result ≡ outcome_of_ranges error }
     {
         match error {
             RangesError::Memory => Outcome::new(codes::MEMORY, 0, 0),
@@ -159,7 +160,7 @@ impl Outcome {
 
     /// The fault of a line of commands.
     fn of_line(fault: LineFault) -> Outcome
-        ensures { result ≡ line_refusal fault }
+        ensures { result ≡ outcome_of_line fault }
     {
         let code = match fault {
             LineFault::UnknownWord => codes::LINE_UNKNOWN_WORD,

@@ -2,7 +2,7 @@
 ghost use Rattle.std.specs.Borrow.{sem};
 ghost use Rattle.std.specs.Ptr.{room_at};
 ghost use Rattle.moc_c.specs.contracts.seat.Seat.{the_row};
-ghost use Rattle.moc_c.specs.Seated.{seated};
+ghost use Rattle.moc_c.specs.Seated.{seat_or_room};
 
 use crate::seat::Seat;
 use std::alloc::Global;
@@ -11,7 +11,7 @@ use std::alloc::Global;
 #[unsafe(no_mangle)]
 pub unsafe extern "C" fn moc_seat_open(alloc: Global, out: *mut Seat) -> bool
     requires* { sem 𝓛 (room_at the_row out) }
-    ensures* { sem 𝓛 (seated result out) }
+    ensures* { sem 𝓛 (seat_or_room result out) }
 {
     match Seat::empty(alloc) {
         Ok(made) => {

@@ -1,8 +1,8 @@
 //! A map that threads of C change and query at the same time, each by a seat of its own.
 ghost use Rattle.std.specs.Prelude.{◌≡◌, IfOk};
 ghost use Rattle.moc_c.specs.Answers.{both, set_at};
-ghost use Rattle.moc_c.specs.Sharing.{answer_of, Applies, Begins, count_at, FillsAnswer, IsBegun, Joins, LaysSet};
-ghost use Rattle.moc_c.specs.Sharing.{member_at, Seats, unless_taken};
+ghost use Rattle.moc_c.specs.Sharing.{answer_of, Applies, Begins, client_count, FillsAnswer, IsBegun, Joins, LaysSet};
+ghost use Rattle.moc_c.specs.Sharing.{seated_member, Seats, unless_taken};
 
 use crate::desk::Desk;
 use crate::fault::Fault;
@@ -21,7 +21,7 @@ const MOST_CLIENTS: u8 = 64;
 
 /// So many clients, where a map may have them.
 fn count_of(clients: u8) -> Result<u8, Fault>
-    ensures { result ≡ count_at clients }
+    ensures { result ≡ client_count clients }
 {
     if 1 <= clients && clients <= MOST_CLIENTS {
         Ok(clients)
@@ -32,7 +32,7 @@ fn count_of(clients: u8) -> Result<u8, Fault>
 
 /// A client of a new map of the set at a key.
 fn begun(alloc: Global, shelf: &Shelf, a: u64, clients: u8) -> Result<Member, Fault>
-    ensures { IsBegun (both (set_at shelf.now a) (count_at clients)) result }
+    ensures { IsBegun (both (set_at shelf.now a) (client_count clients)) result }
 {
     let set = shelf.set(a)?;
     let clients = count_of(clients)?;
@@ -44,7 +44,7 @@ impl Sitter {
     /// A client of a new map of the set at a key sits down.
     fn begin(&mut self, alloc: Global, shelf: &Shelf, a: u64, clients: u8) -> Outcome
         ensures { Begins self.old self.new
-            (unless_taken self.old.member (both (set_at shelf.now a) (count_at clients))) result }
+            (unless_taken self.old.member (both (set_at shelf.now a) (client_count clients))) result }
     {
         if self.member.is_some() {
             return Outcome::of(Fault::SeatTaken);
@@ -55,7 +55,7 @@ impl Sitter {
     /// A further client of the map sits down on another seat.
     fn join(&mut self, alloc: Global, other: &mut Sitter) -> Outcome
         ensures { Joins self.old self.new other.old other.new
-            (unless_taken other.old.member (member_at self.old)) result }
+            (unless_taken other.old.member (seated_member self.old)) result }
     {
         if other.member.is_some() {
             return Outcome::of(Fault::SeatTaken);
@@ -82,7 +82,7 @@ impl Sitter {
 
     /// Does what a line says, and keeps the replies.
     fn apply(&mut self, alloc: Global, line: &[u8]) -> Outcome
-        ensures { Applies self.old self.new (member_at self.old) line.now result }
+        ensures { Applies self.old self.new (seated_member self.old) line.now result }
     {
         let Some(member) = &mut self.member else {
             return Outcome::of(Fault::NoMap);
@@ -103,7 +103,7 @@ impl Sitter {
 
     /// Puts the map's set on a shelf.
     fn lay(&mut self, alloc: Global, shelf: &mut Shelf) -> Outcome
-        ensures { LaysSet self.old self.new shelf.old shelf.new (member_at self.old) result }
+        ensures { LaysSet self.old self.new shelf.old shelf.new (seated_member self.old) result }
     {
         let Some(member) = &mut self.member else {
             return Outcome::of(Fault::NoMap);
@@ -138,7 +138,7 @@ pub extern "C" fn moc_map_begin(
     clients: u8,
 ) -> Outcome
     ensures begins { Begins seat.old.contents seat.new.contents
-        (unless_taken seat.old.contents.member (both (set_at desk.old.contents a) (count_at clients))) result }
+        (unless_taken seat.old.contents.member (both (set_at desk.old.contents a) (client_count clients))) result }
     ensures same { desk.new.contents ≡ desk.old.contents }
 {
     let shelf = desk.shelf();
@@ -153,7 +153,7 @@ pub extern "C" fn moc_map_begin(
 #[unsafe(no_mangle)]
 pub extern "C" fn moc_map_join(alloc: Global, seat: &mut Seat, other: &mut Seat) -> Outcome
     ensures { Joins seat.old.contents seat.new.contents other.old.contents other.new.contents
-        (unless_taken other.old.contents.member (member_at seat.old.contents)) result }
+        (unless_taken other.old.contents.member (seated_member seat.old.contents)) result }
 {
     let joining = other.sitter();
     seat.sitter().join(alloc, joining)
@@ -166,7 +166,7 @@ pub extern "C" fn moc_map_join(alloc: Global, seat: &mut Seat, other: &mut Seat)
 /// look at or change, or where memory runs out: then nothing was changed.
 #[unsafe(no_mangle)]
 pub extern "C" fn moc_map_apply(alloc: Global, seat: &mut Seat, line: &[u8]) -> Outcome
-    ensures { Applies seat.old.contents seat.new.contents (member_at seat.old.contents) line.now result }
+    ensures { Applies seat.old.contents seat.new.contents (seated_member seat.old.contents) line.now result }
 {
     seat.sitter().apply(alloc, line)
 }
@@ -192,7 +192,7 @@ pub extern "C" fn moc_map_answer(alloc: Global, seat: &mut Seat, out: &mut [u8])
 #[unsafe(no_mangle)]
 pub extern "C" fn moc_map_set(alloc: Global, seat: &mut Seat, desk: &mut Desk) -> Outcome
     ensures { LaysSet seat.old.contents seat.new.contents desk.old.contents desk.new.contents
-        (member_at seat.old.contents) result }
+        (seated_member seat.old.contents) result }
 {
     let shelf = desk.shelf();
     seat.sitter().lay(alloc, shelf)

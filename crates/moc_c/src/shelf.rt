@@ -80,7 +80,8 @@ pub struct Shelf {
 impl Model for Shelf {
     ghost use Rattle.std.specs.String.{string_bytes};
     ghost use Rattle.moc_c.specs.Answers.{set_at, sets_at};
-    ghost use Rattle.moc_c.specs.Contents.{Contents, contents_code, HasNoneFrom};
+    ghost use Rattle.moc_c.specs.Contents.{Contents};
+    ghost use Rattle.moc_c.specs.Private.Storing.{contents_code, HasNoneFrom};
 
     ghost Value = { Contents };
 

@@ -2,9 +2,9 @@
 ghost use Rattle.std.specs.Prelude.{◌≡◌};
 ghost use Rattle.moc_forms.specs.declared.form.Form.TheVariants.{Ascii, Json, Uniq};
 ghost use Rattle.moc_c.specs.Buffers.{Fills};
-ghost use Rattle.moc_c.specs.Texts.{bytes_made, DescribesText, DrawsText, KeepsMade, KeepsText};
-ghost use Rattle.moc_c.specs.Texts.{order_meant, order_told};
-ghost use Rattle.moc_c.specs.Texts.{Reads, WritesText};
+ghost use Rattle.moc_c.specs.Private.Making.{bytes_made};
+ghost use Rattle.moc_c.specs.Texts.{DescribesText, DrawsText, KeepsMade, KeepsText, order_meant, order_told, Reads};
+ghost use Rattle.moc_c.specs.Texts.{WritesText};
 
 use crate::desk::Desk;
 use crate::fault::Fault;

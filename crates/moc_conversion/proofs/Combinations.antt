@@ -6,7 +6,9 @@ use Rattle.std.proofs.lemmas.List.Elements.{All-append, All-head, All-tail, Cont
 use Rattle.std.proofs.lemmas.List.Splits.{slice_split-cons_no, slice_split_at, slice_split_none, length-slice_split}
 use Rattle.std.proofs.KnownBytes.{Consumes-trans}
 use Rattle.std.specs.Io.KnownBytes.{Consumes, IsAtEnd}
-use Rattle.moc_forms.specs.Combining.{CombinesTexts, Said, TextSays, are_blanks, is_semicolon, joined, parts_of, texts_among, texts_of, without_blank_end}
+use Rattle.moc_forms.specs.Combining.{CombinesTexts, Said, TextSays, are_blanks, joined, texts_among, texts_of}
+use Rattle.moc_forms.specs.Combining.{without_blank_end}
+use Rattle.moc_text.specs.Lines.{is_semicolon, pieces_of}
 use Rattle.moc_forms.specs.Finding.{form_for}
 use Rattle.moc_forms.specs.declared.combining.Operation.{Operation}
 use Rattle.moc_forms.specs.declared.finding.Choice.{Choice}
@@ -31,11 +33,11 @@ first_stays text [] some = absurd (omega arith)
 first_stays text (next ∷ parts) some = refl
 
 -- what a semicolon ends is a text, and blanks behind the last one are none
-pub parted : (before : Option Said) (text rest : List ℕ) → LacksSemicolons text → texts_behind before (text ++ 59 ∷ rest) ≡ text ∷ without_blank_end (parts_of rest)
+pub parted : (before : Option Said) (text rest : List ℕ) → LacksSemicolons text → texts_behind before (text ++ 59 ∷ rest) ≡ text ∷ without_blank_end (pieces_of rest)
 parted None text rest lacks = ap texts_among (slice_split_at is_semicolon text 59 rest lacks refl)
 parted (Some said) text rest lacks =
     ap without_blank_end (slice_split_at is_semicolon text 59 rest lacks refl)
-    ∙ first_stays text (parts_of rest) (omega (arith, length-slice_split is_semicolon rest))
+    ∙ first_stays text (pieces_of rest) (omega (arith, length-slice_split is_semicolon rest))
 
 -- bytes without a semicolon are one text, but for blanks behind a semicolon
 single : (said : Said) (text : List ℕ) → LacksSemicolons text → texts_behind (Some said) text ≡ (if are_blanks text then [] else text ∷ [])
@@ -87,11 +89,11 @@ first_fails number choice text texts c tells = record {
 
 -- the first part has all bytes before the first semicolon
 first_part : (front rest : List ℕ) → LacksSemicolons front
-    → (part : List ℕ) × (more : List (List ℕ)) × (parts_of (front ++ rest) ≡ part ∷ more) × (length front ≤ length part)
-first_part [] rest lacks = by (parts_of rest) _ refl (length-slice_split is_semicolon rest)
+    → (part : List ℕ) × (more : List (List ℕ)) × (pieces_of (front ++ rest) ≡ part ∷ more) × (length front ≤ length part)
+first_part [] rest lacks = by (pieces_of rest) _ refl (length-slice_split is_semicolon rest)
   where
-    by : (parts : List (List ℕ)) (n : ℕ) → parts_of rest ≡ parts → length parts ≡ n + 1
-        → (part : List ℕ) × (more : List (List ℕ)) × (parts_of rest ≡ part ∷ more) × (0 ≤ length part)
+    by : (parts : List (List ℕ)) (n : ℕ) → pieces_of rest ≡ parts → length parts ≡ n + 1
+        → (part : List ℕ) × (more : List (List ℕ)) × (pieces_of rest ≡ part ∷ more) × (0 ≤ length part)
     by [] n none some = absurd (omega (arith, some))
     by (part ∷ more) n is some = (part, more, is, omega arith)
 first_part (b ∷ front) rest lacks =
@@ -112,7 +114,7 @@ long_front front rest lacks long =
 long_behind : (text rest : List ℕ) → LacksSemicolons text → HasLongPart rest → HasLongPart (text ++ 59 ∷ rest)
 long_behind text rest lacks (part, here, long) = (
   part,
-  subst (λ parts. Contains parts part) (sym (slice_split_at is_semicolon text 59 rest lacks refl)) (Contains-append_right (text ∷ []) (parts_of rest) part here),
+  subst (λ parts. Contains parts part) (sym (slice_split_at is_semicolon text 59 rest lacks refl)) (Contains-append_right (text ∷ []) (pieces_of rest) part here),
   long,
 )
 
@@ -132,9 +134,9 @@ module _ (c d : Combination) (same_operation : d.operation ≡ c.operation) (sam
         (subst (λ t. TextsSay d.operation d.choice d.before (t ++ rest) end) bare later))));
     fails = λ rest complaint later.
         subst (λ texts. TellsFirstFault c.number c.choice texts complaint) (sym (parted c.before c.text.items rest opened.lacks))
-        (later_fails c.number c.choice c.text.items (without_blank_end (parts_of rest)) complaint (more.0, more.1)
-        (subst (λ n. TellsFirstFault n c.choice (without_blank_end (parts_of rest)) complaint) next
-        (subst (λ f. TellsFirstFault d.number f (without_blank_end (parts_of rest)) complaint) same_choice
+        (later_fails c.number c.choice c.text.items (without_blank_end (pieces_of rest)) complaint (more.0, more.1)
+        (subst (λ n. TellsFirstFault n c.choice (without_blank_end (pieces_of rest)) complaint) next
+        (subst (λ f. TellsFirstFault d.number f (without_blank_end (pieces_of rest)) complaint) same_choice
         (subst (λ b. TellsFirstFault d.number d.choice (texts_behind b rest) complaint) before
         (subst (λ t. TellsFirstFault d.number d.choice (texts_behind d.before (t ++ rest)) complaint) bare later)))));
     longer = λ rest long. elim long [
@@ -153,7 +155,7 @@ pub ended_fails : (c : Combination) (complaint : Complaint) → IsOpen c → (co
 ended_fails c complaint opened (inl memory) = inl (inl memory)
 ended_fails c complaint opened (inr tells) = inr (λ rest.
     subst (λ texts. TellsFirstFault c.number c.choice texts complaint) (sym (parted c.before c.text.items rest opened.lacks))
-    (first_fails c.number c.choice c.text.items (without_blank_end (parts_of rest)) complaint tells))
+    (first_fails c.number c.choice c.text.items (without_blank_end (pieces_of rest)) complaint tells))
 
 -- the last text is at fault
 pub last_fails : (c : Combination) (complaint : Complaint) → IsOpen c → (c.before ≡ None) ⊎ (are_blanks c.text.items ≡ false)

@@ -4,9 +4,9 @@ use Rattle.std.specs.Prelude.{⊤, option_map, min, ◌==◌, if◌then◌else�
 use Rattle.moc_ranges.specs.Numbers.{NumberSet}
 use Rattle.moc_text.specs.Ascii.{deeper}
 use Rattle.moc_text.specs.AsciiText.{IsTooCoarse}
-use Rattle.moc_text.specs.Laws.Depths.{HasDepth, not_too_coarse, said_depth, json_depth, union_depth}
-use Rattle.moc_text.specs.Laws.Depths.{intersection_depth}
-use Rattle.moc_text.specs.Laws.Depths.{difference_depth, symmetric_depth, complement_depth, degrade_depth}
+use Rattle.moc_text.specs.Lemmas.Depths.{HasDepth, not_too_coarse, said_depth, json_depth, union_depth}
+use Rattle.moc_text.specs.Lemmas.Depths.{intersection_depth}
+use Rattle.moc_text.specs.Lemmas.Depths.{difference_depth, symmetric_depth, complement_depth, degrade_depth}
 use Rattle.moc_forms.specs.Changing.{changed, order_after}
 use Rattle.moc_forms.specs.Combining.{CombinesTexts, Said, TextSays, combined, joined, texts_of}
 use Rattle.moc_forms.specs.Finding.{first_byte, form_by}

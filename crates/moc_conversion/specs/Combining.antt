@@ -2,7 +2,8 @@
 use Rattle.std.specs.Prelude.{◌≡◌, ℕ, ◌+◌, ◌<◌, ◌≤◌, ◌⊎◌, List, [], ◌++◌, Option, Some, Contains, length}
 use Rattle.std.specs.Io.KnownBytes.{IsAtEnd}
 use Rattle.std.specs.List.{AllByRecursion}
-use Rattle.moc_forms.specs.Combining.{Combines, Said, StandsBehind, parts_of, texts_of}
+use Rattle.moc_forms.specs.Combining.{Combines, Said, StandsBehind, texts_of}
+use Rattle.moc_text.specs.Lines.{pieces_of}
 use Rattle.moc_forms.specs.Finding.{form_for}
 use Rattle.moc_forms.specs.Forms.{form_text}
 use Rattle.moc_forms.specs.declared.combining.Operation.{Operation}
@@ -40,7 +41,7 @@ IsFaultyText choice left left' c =
 
 -- one of the parts of bytes, between their semicolons, is longer than a text may be
 abbrev pub HasLongPart : List ℕ → Type 0
-HasLongPart bytes = (part : List ℕ) × Contains (parts_of bytes) part × (16777216 < length part)
+HasLongPart bytes = (part : List ℕ) × Contains (pieces_of bytes) part × (16777216 < length part)
 
 -- an input of texts could not be had: a part is too long, say, or there are more bytes than are counted
 abbrev pub IsOfTexts : Option (List ℕ) → Option (List ℕ) → Fault → Type 0

@@ -3,7 +3,8 @@ use Rattle.std.specs.Prelude.{◌≡◌, ℕ, ◌<◌, ◌≤◌, ◌⊎◌, tru
 use Rattle.std.specs.List.{All}
 use Rattle.std.specs.Io.KnownBytes.{Consumes, IsAtEnd}
 use Rattle.moc_forms.specs.Changing.{changed, order_after}
-use Rattle.moc_forms.specs.Combining.{Said, TextSays, are_blanks, is_semicolon}
+use Rattle.moc_forms.specs.Combining.{Said, TextSays, are_blanks}
+use Rattle.moc_text.specs.Lines.{is_semicolon}
 use Rattle.moc_forms.specs.Describing.{Describes}
 use Rattle.moc_forms.specs.Drawing.{picture_of, picture_of_two}
 use Rattle.moc_forms.specs.Finding.{form_for, hint_of}

@@ -1,2 +1,2 @@
 pub mod Devices
-pub mod Laws
+pub mod Lemmas

@@ -5,11 +5,11 @@ use Rattle.std.specs.Prelude.{◌&&◌, not, nat_lt, nat_eq, if◌then◌else◌
 use Rattle.std.specs.FinSet as set
 use Rattle.std.proofs.lemmas.Bool.{cases_lt, and_parts, eqb-true}
 use Rattle.moc_sphere.specs.CellNumber.{cell_number, cell_size}
-use Rattle.moc_ranges.specs.Cells.{span, contains-span}
+use Rattle.moc_ranges.specs.Cells.{span}
+use Rattle.moc_ranges.specs.Lemmas.Members.{contains-span, meets-none}
 use Rattle.moc_ranges.specs.Numbers.{NumberSet}
-use Rattle.moc_ranges.specs.Operations.{meets-none}
 use Rattle.moc_ranges.specs.Pixels.{pixel_count}
-use Rattle.moc_forms.specs.Drawing.{Mark, is_partial, partial_below, partial_mark, shade_of}
+use Rattle.moc_forms.specs.Drawing.{Shaded, is_partial, partial_below, partial_mark, shade_of}
 
 -- a cell of order 7 has 4^22 pixels
 size : cell_size 7 ≡ 17592186044416
@@ -56,7 +56,7 @@ no_marks_between a i (suc j) le none = elim (cases_lt i (suc j)) [
   | inl lt ↦
       let le : i ≤ j = omega arith in
       let here : is_partial a j ≡ false = not_partial a j (λ q from to. none q (omega arith) (omega arith)) in
-      ap (λ (marks : List Mark). partial_below a j ++ marks) (no_mark a j here)
+      ap (λ (marks : List Shaded). partial_below a j ++ marks) (no_mark a j here)
       ∙ append-nil (partial_below a j)
       ∙ no_marks_between a i j le (λ q from to. none q from (omega arith))
   | inr ge ↦ let is : i ≡ suc j = omega arith in ap (partial_below a) (sym is)

@@ -1,10 +1,11 @@
 -- Texts that are parted by semicolons, combined from the left.
-use Rattle.std.specs.Prelude.{◌≡◌, ℕ, zero, suc, Bool, ◌==◌, if◌then◌else◌, List, [], ◌∷◌, codes, Option, None, Some}
+use Rattle.std.specs.Prelude.{◌≡◌, ℕ, zero, suc, Bool, if◌then◌else◌, List, [], ◌∷◌, codes, Option, None, Some}
 use Rattle.std.specs.FinSet as set
-use Rattle.std.specs.List.{list_all, slice_split}
+use Rattle.std.specs.List.{list_all}
 use Rattle.moc_ranges.specs.Numbers.{NumberSet}
 use Rattle.moc_ranges.specs.Operations.{symmetric}
 use Rattle.moc_text.specs.Ascii.{deeper}
+use Rattle.moc_text.specs.Lines.{pieces_of}
 use Rattle.moc_forms.specs.Finding.{form_for, is_blank_byte}
 use Rattle.moc_forms.specs.Forms.{FormSays}
 use Rattle.moc_forms.specs.declared.combining.Operation.{Operation}
@@ -40,10 +41,6 @@ abbrev pub joined : Operation → Option Said → Said → Said
 joined operation None said = said
 joined operation (Some before) said = (combined operation before.0 said.0, deeper before.1 said.1, before.2)
 
--- `;`
-abbrev pub is_semicolon : ℕ → Bool
-is_semicolon b = b == 59
-
 -- nothing but spaces, tabs, CR and LF
 abbrev pub are_blanks : List ℕ → Bool
 are_blanks text = list_all is_blank_byte text
@@ -59,13 +56,9 @@ abbrev pub texts_among : List (List ℕ) → List (List ℕ)
 texts_among [] = []
 texts_among (first ∷ behind) = first ∷ without_blank_end behind
 
--- bytes, parted at the semicolons
-abbrev pub parts_of : List ℕ → List (List ℕ)
-parts_of bytes = slice_split is_semicolon bytes
-
 -- the texts of an input: its parts, where blanks behind the last semicolon are no text
 abbrev pub texts_of : List ℕ → List (List ℕ)
-texts_of bytes = texts_among (parts_of bytes)
+texts_of bytes = texts_among (pieces_of bytes)
 
 -- what is said before texts, and after them, where they are taken from the left
 abbrev pub CombinesTexts : Operation → Choice → Option Said → List (List ℕ) → Option Said → Type 0

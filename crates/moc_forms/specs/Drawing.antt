@@ -13,11 +13,11 @@ use Rattle.moc_ranges.specs.Operations.{meets}
 -- ---- which cells are drawn, and how dark
 
 -- a cell that is drawn, and its shade: 1, the lightest, to 4, the darkest
-abbrev pub Mark : Type 0
-Mark = CellNumber × ℕ
+abbrev pub Shaded : Type 0
+Shaded = CellNumber × ℕ
 
 -- the marks of the cells whose order is at most 7: they are drawn whole, in the darkest shade
-unfoldable pub whole_marks : List CellNumber → List Mark
+unfoldable pub whole_marks : List CellNumber → List Shaded
 whole_marks [] = []
 whole_marks (c ∷ cells) = (if nat_le c.order 7 then (c, 4) ∷ [] else []) ++ whole_marks cells
 
@@ -31,17 +31,17 @@ unfoldable pub shade_of : NumberSet → ℕ → ℕ
 shade_of a i = 1 + (set.len (set.intersection a (span 7 i)) - 1) / 4398046511104
 
 -- its mark, if it is one
-abbrev pub partial_mark : NumberSet → ℕ → List Mark
+abbrev pub partial_mark : NumberSet → ℕ → List Shaded
 partial_mark a i = if is_partial a i then (cell_number 7 i, shade_of a i) ∷ [] else []
 
 -- the marks of such cells below a number
-unfoldable pub partial_below : NumberSet → ℕ → List Mark
+unfoldable pub partial_below : NumberSet → ℕ → List Shaded
 partial_below a zero = []
 partial_below a (suc i) = partial_below a i ++ partial_mark a i
 
 -- the marks of a set: of its own cells of order 7 or less, and of the cells of order 7 that its deeper cells fill in
 -- part
-unfoldable pub marks_of : NumberSet → List Mark
+unfoldable pub marks_of : NumberSet → List Shaded
 marks_of a = whole_marks (cells_of a) ++ partial_below a (cell_count 7)
 
 -- ---- diamonds
@@ -65,12 +65,12 @@ unfoldable pub cell_diamonds : CellNumber → List ℕ
 cell_diamonds c = diamonds_at (2 ^ (7 - c.order)) (row_of c.order c.index) (column_of c.order c.index)
 
 -- the diamonds of the marks of a shade
-unfoldable pub shade_diamonds : ℕ → List Mark → List ℕ
+unfoldable pub shade_diamonds : ℕ → List Shaded → List ℕ
 shade_diamonds shade [] = []
 shade_diamonds shade (m ∷ marks) = (if m.1 == shade then cell_diamonds m.0 else []) ++ shade_diamonds shade marks
 
 -- the diamonds of marks, whatever their shades are
-unfoldable pub mark_diamonds : List Mark → List ℕ
+unfoldable pub mark_diamonds : List Shaded → List ℕ
 mark_diamonds [] = []
 mark_diamonds (m ∷ marks) = cell_diamonds m.0 ++ mark_diamonds marks
 
@@ -88,11 +88,11 @@ path_head colour =
     ++ codes "\" vector-effect=\"non-scaling-stroke\" d=\""
 
 -- the path of a shade in its colour
-unfoldable pub shade_path : List Mark → ℕ → List ℕ → List ℕ
+unfoldable pub shade_path : List Shaded → ℕ → List ℕ → List ℕ
 shade_path marks shade colour = path_head colour ++ shade_diamonds shade marks ++ codes "\"/>\n"
 
 -- the path of all marks in one colour
-unfoldable pub marks_path : List Mark → List ℕ → List ℕ
+unfoldable pub marks_path : List Shaded → List ℕ → List ℕ
 marks_path marks colour = path_head colour ++ mark_diamonds marks ++ codes "\"/>\n"
 
 -- the sky: the twelve base pixels in grey, outlined; they are the same from either side
@@ -129,7 +129,7 @@ head =
 
 -- the marks in four shades of blue, mirrored, each with a rim of a screen's pixel so that a single cell is seen at any
 -- size, and with sharp edges
-unfoldable pub shades : List Mark → List ℕ
+unfoldable pub shades : List Shaded → List ℕ
 shades marks =
     codes "<g transform=\"translate(1024 0) scale(-1 1)\" clip-path=\"url(#plane)\" shape-rendering=\"crispEdges\">\n"
     ++ shade_path marks 1 (codes "#6baed6")

@@ -2,6 +2,7 @@
 use Rattle.std.specs.Prelude.{ℕ, Bool, true, false, ◌==◌, ◌&&◌, ◌||◌, nat_le, if◌then◌else◌, List, [], ◌∷◌, codes}
 use Rattle.std.specs.Prelude.{Option, None, Some}
 use Rattle.std.specs.List.{list_any}
+use Rattle.moc_sphere.specs.Names.{is_slash}
 use Rattle.moc_forms.specs.Forms.{form_name}
 use Rattle.moc_forms.specs.declared.finding.Choice.{Choice}
 use Rattle.moc_forms.specs.declared.finding.Choice.TheVariants.{Named, Auto}
@@ -39,10 +40,6 @@ form_for Auto text = form_by (first_byte text)
 -- a digit, `s` or a comma: what an ASCII text may begin with, but for blanks
 abbrev pub begins_word : ℕ → Bool
 begins_word b = nat_le 48 b && nat_le b 57 || b == 115 || b == 44
-
--- `/`
-abbrev pub is_slash : ℕ → Bool
-is_slash b = b == 47
 
 -- the form that a text looks like which begins with this byte, and has a slash or not: JSON with `{`, with a digit, `s`
 -- or a comma ASCII where it has a slash, and else a NUNIQ list

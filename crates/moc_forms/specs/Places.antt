@@ -3,7 +3,7 @@ use Rattle.std.specs.Prelude.{◌≡◌, ℕ, ◌+◌, List, [], ◌∷◌, ◌+
 use Rattle.std.specs.Prelude.{option_map, decimal, codes, count_by, String, string_bytes}
 use Rattle.std.specs.List.{after_last}
 use Rattle.std.specs.declared.alloc.Global.{Global}
-use Rattle.moc_text.specs.JsonForm.{NamesOrder}
+use Rattle.moc_text.specs.JsonForm.{NameIsOrder}
 use Rattle.moc_text.specs.Lines.{is_line_feed}
 use Rattle.moc_text.specs.declared.ascii.error.TextError.{TextError}
 use Rattle.moc_text.specs.declared.ascii.error.TextError.TheVariants as text
@@ -46,7 +46,7 @@ fault_line uniq.Memory = None
 
 -- what is made of the order that a name names, by the number of the name, in a JSON text
 abbrev pub IsOfOrder : List ℕ → ℕ → (ℕ → Place) → Option Place → Type 0
-IsOfOrder bytes name place found = (k : Option ℕ) × NamesOrder bytes name k × (found ≡ option_map place k)
+IsOfOrder bytes name place found = (k : Option ℕ) × NameIsOrder bytes name k × (found ≡ option_map place k)
 
 -- the place of a fault of a JSON text; where no JSON ends is told by `serde_json`, if it is
 abbrev pub IsJsonPlace : List ℕ → JsonError → Option Place → Type 0

@@ -8,7 +8,8 @@ use Rattle.std.proofs.lemmas.List.Sums.{prefix_len-le-length}
 use Rattle.std.proofs.lemmas.List.Splits.{slice_split_first, slice_split-cons_no, length-slice_split}
 use Rattle.moc_parts.specs.declared.command.Command.{Command}
 use Rattle.moc_lines.specs.Language.{◌>>=◌}
-use Rattle.moc_lines.specs.Batches.{is_semicolon, pieces_of, piece_says, commands_of, batch_of}
+use Rattle.moc_text.specs.Lines.{is_semicolon, pieces_of}
+use Rattle.moc_lines.specs.Batches.{piece_says, commands_of, batch_of}
 use Rattle.moc_lines.specs.declared.fault.Fault.TheVariants.{TooManyCommands}
 use Rattle.moc_lines.specs.Readings.{ReadsText}
 use Rattle.moc_lines.specs.declared.fault.Fault.{Fault}

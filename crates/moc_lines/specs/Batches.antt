@@ -1,9 +1,9 @@
 -- A line of a script as a batch of commands.
-use Rattle.std.specs.Prelude.{ℕ, Bool, ◌==◌, nat_lt, List, [], ◌∷◌, ◌++◌, length, Result, Ok, Err, if◌then◌else◌}
-use Rattle.std.specs.List.{slice_split}
+use Rattle.std.specs.Prelude.{ℕ, nat_lt, List, [], ◌∷◌, ◌++◌, length, Result, Ok, Err, if◌then◌else◌}
 use Rattle.moc_ranges.specs.Numbers.{NumberSet}
 use Rattle.moc_parts.specs.Batches.{replies_on, set_after_all}
 use Rattle.moc_parts.specs.declared.command.Command.{Command}
+use Rattle.moc_text.specs.Lines.{pieces_of}
 use Rattle.moc_lines.specs.Words.{is_blank_text}
 use Rattle.moc_lines.specs.Language.{◌>>=◌}
 use Rattle.moc_lines.specs.Faults.{fault_answer}
@@ -12,14 +12,6 @@ use Rattle.moc_lines.specs.declared.fault.Fault.{Fault}
 use Rattle.moc_lines.specs.declared.fault.Fault.TheVariants.{EmptyCommand, TooManyCommands}
 use Rattle.moc_lines.specs.declared.language.Commands.{Commands}
 use Rattle.moc_lines.specs.declared.language.Commands.TheVariants.{One, Several}
-
--- `;`
-abbrev pub is_semicolon : ℕ → Bool
-is_semicolon b = b == 59
-
--- the pieces of a line, parted by semicolons
-abbrev pub pieces_of : List ℕ → List (List ℕ)
-pieces_of line = slice_split is_semicolon line
 
 -- the commands of a line that was read: one, or several
 abbrev pub commands_in : Commands → List Command

@@ -7,16 +7,13 @@ use Rattle.moc_sphere.specs.Rings.{ring_number}
 use Rattle.moc_lines.specs.Words.{is_blank_text, word_of, behind_word, number_spelled}
 use Rattle.moc_lines.specs.Language.{◌>>=◌}
 use Rattle.moc_lines.specs.Faults.{fault_answer}
-use Rattle.moc_lines.specs.Answers.{Rules, script_text}
-use Rattle.moc_lines.specs.Scripts.{line_limit}
-use Rattle.moc_lines.specs.Runs.{Runs}
+use Rattle.moc_lines.specs.Answers.{Rules}
 use Rattle.moc_lines.specs.declared.fault.Fault.{Fault}
 use Rattle.moc_lines.specs.declared.fault.Fault.TheVariants.{WrongCount, BadNumber, CellTooLarge, NotUniq, RingTooLarge}
 use Rattle.moc_lines.specs.declared.fault.Fault.TheVariants.{OtherOrder}
 use Rattle.moc_lines.specs.declared.numbering.Numbering.{Numbering}
 use Rattle.moc_lines.specs.declared.numbering.Numbering.TheVariants.{Nest, Ring, Uniq}
 use Rattle.moc_lines.specs.declared.renumbering.Renumbering.{Renumbering}
-use Rattle.moc_lines.specs.declared.run_error.RunError.{RunError}
 
 -- the word for a numbering
 abbrev pub numbering_name : Numbering → List ℕ
@@ -68,13 +65,3 @@ renumber_rules = record {
   after = λ r line. r;
   closing = λ _. [];
 }
-
-module _ (r : Renumbering) where
-  -- the text that lines of numbers are answered with
-  abbrev pub renumbered_text : List ℕ → List ℕ
-  renumbered_text input = script_text renumber_rules line_limit r input
-
-  -- of an input a run was given a front, and it wrote the answers that its outcome names
-  abbrev pub RunsNumbers : List ℕ → Option (List ℕ) → Option (List ℕ) → Option (List ℕ) → Result (Unit {0}) RunError
-      → Type 0
-  RunsNumbers input left written written' result = Runs line_limit renumber_rules r input left written written' result

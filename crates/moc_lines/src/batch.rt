@@ -2,7 +2,8 @@
 ghost use Rattle.std.specs.Prelude.{◌≡◌, ◌≤◌, length, nat_lt, if◌then◌else◌, OnOk};
 ghost use Rattle.std.specs.List.{count_by, position_or_len};
 ghost use Rattle.moc_lines.specs.Language.{command_of};
-ghost use Rattle.moc_lines.specs.Batches.{is_semicolon, pieces_of, piece_says, batch_of, commands_of};
+ghost use Rattle.moc_text.specs.Lines.{is_semicolon, pieces_of};
+ghost use Rattle.moc_lines.specs.Batches.{piece_says, batch_of, commands_of};
 ghost use Rattle.moc_lines.specs.Readings.{ReadsText};
 
 use crate::bytes::first_or_len;

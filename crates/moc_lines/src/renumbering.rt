@@ -3,8 +3,9 @@ ghost use Rattle.std.specs.Prelude.{◌≡◌, ◌++◌, ◌∷◌, ◌-◌, ◌
 ghost use Rattle.std.specs.Prelude.{IsErrOf, decimal, min};
 ghost use Rattle.std.specs.Io.KnownBytes.{Appends, IsAtEnd};
 ghost use Rattle.std.specs.Result.{result_map_both};
-ghost use Rattle.moc_lines.specs.Runs.{WritesBeginning, Flushes};
-ghost use Rattle.moc_lines.specs.Numberings.{RunsNumbers, number_on, renumber_rules, renumbered, renumbered_text};
+ghost use Rattle.moc_lines.specs.Answers.{script_text};
+ghost use Rattle.moc_lines.specs.Runs.{Flushes, Runs, WritesBeginning};
+ghost use Rattle.moc_lines.specs.Numberings.{number_on, renumber_rules, renumbered};
 ghost use Rattle.moc_lines.specs.Scripts.{line_limit};
 
 use crate::fault::{Fault, push_fault};
@@ -118,14 +119,16 @@ pub fn renumber<R: Source, W: Sink>(
     requires writer { W.mark writer.old ≡ false }
 
     // What is written is the defined answers to what was read, as far as the outcome says.
-    ensures renumbers { IfSome (R.left reader.old) (λ input. RunsNumbers renumbering
-        input (R.left reader.new) (W.written writer.old) (W.written writer.new) result) }
+    ensures renumbers { IfSome (R.left reader.old) (λ input.
+        Runs line_limit renumber_rules renumbering input
+        (R.left reader.new) (W.written writer.old) (W.written writer.new) result) }
 
     // So it is a beginning of the answers to the whole input, and all of them where no fault comes.
     ensures begins { IfSome (R.left reader.old) (λ input.
         WritesBeginning line_limit renumber_rules renumbering input (W.written writer.old) (W.written writer.new)) }
     ensures answers { OnOk result (IfSome (R.left reader.old) (λ input.
-        Appends (W.written writer.old) (W.written writer.new) (renumbered_text renumbering input))) }
+        Appends (W.written writer.old) (W.written writer.new)
+        (script_text renumber_rules line_limit renumbering input))) }
 
     // Only the reader's end ends it without a fault, and then all is flushed, at once.
     ensures end { OnOk result (IsAtEnd (R.left reader.new)) }

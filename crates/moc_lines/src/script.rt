@@ -2,8 +2,8 @@
 ghost use Rattle.std.specs.Prelude.{◌≡◌, ◌⊎◌, IfSome, IsTrue, ◌↔◌, false, OnOk, OnErr, IsErrOf};
 ghost use Rattle.std.specs.Io.KnownBytes.{Appends, IsAtEnd};
 ghost use Rattle.std.specs.FinSet as set;
-ghost use Rattle.moc_lines.specs.Runs.{WritesBeginning, Flushes};
-ghost use Rattle.moc_lines.specs.Scripts.{RunsScript, answers_of, line_limit, script_rules};
+ghost use Rattle.moc_lines.specs.Runs.{Flushes, Runs, WritesBeginning};
+ghost use Rattle.moc_lines.specs.Scripts.{answers_of, line_limit, script_rules};
 
 use crate::run_error::RunError;
 use crate::runner::answer_all_lines;
@@ -52,7 +52,8 @@ pub fn run<R: Source, W: Sink>(
 
     // What is written is the defined answers to what was read, as far as the outcome says.
     ensures runs { IfSome (R.left reader.old) (λ input.
-        RunsScript input (R.left reader.new) (W.written writer.old) (W.written writer.new) result) }
+        Runs line_limit script_rules set.empty input
+        (R.left reader.new) (W.written writer.old) (W.written writer.new) result) }
 
     // So it is a beginning of the answers to the whole input, and all of them where no fault comes.
     ensures begins { IfSome (R.left reader.old) (λ input.

@@ -10,8 +10,9 @@ use Rattle.std.proofs.lemmas.Nat.{div_below}
 use Rattle.moc_sphere.specs.CellNumber.{CellNumber, cell_number, cell_size, IsCell}
 use Rattle.moc_sphere.specs.Faces.{face_of}
 use Rattle.moc_ranges.specs.Pixels.{base_pixel_size}
-use Rattle.moc_ranges.specs.Cells.{span, spans, pixels_of, contains-span}
-use Rattle.moc_ranges.specs.Laws.{spans-one, empty-union, union-empty, pixels_of-append}
+use Rattle.moc_ranges.specs.Cells.{span, spans, pixels_of}
+use Rattle.moc_ranges.specs.Lemmas.Members.{contains-span}
+use Rattle.moc_ranges.specs.Lemmas.{spans-one, empty-union, union-empty, pixels_of-append}
 use Rattle.moc_parts.specs.Objects.{base_pixel}
 use Rattle.moc_parts.specs.Commands.{cells_around, surroundings, parts_around}
 use Rattle.moc_parts.proofs.Members.{clash, has-empty, has-union, and_true, or_true, or_left, or_right}

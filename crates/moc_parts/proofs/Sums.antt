@@ -3,12 +3,14 @@ use Rattle.std.proofs.Common.{◌≡◌, ℕ, ◌+◌, ◌-◌, ◌/◌, ◌≤�
 use Rattle.std.proofs.lemmas.Bool.{lt-ltb}
 use Rattle.std.proofs.lemmas.Bool.Decides.{nat_tests}
 use Rattle.std.specs.FinSet as set
-use Rattle.moc_ranges.specs.Numbers.{NumberSet, same_members}
+use Rattle.moc_ranges.specs.Numbers.{NumberSet}
+use Rattle.moc_ranges.specs.Lemmas.Members.{same_members, contains-part_of, contains-pixels, meets-some, in_ranges}
+use Rattle.moc_ranges.specs.Lemmas.Members.{contains-set_of}
 use Rattle.moc_ranges.specs.Pixels.{pixels, pixel_count, base_pixel_size}
-use Rattle.moc_ranges.specs.Operations.{part_of, contains-part_of, contains-pixels, meets, meets-some, IsWithin}
-use Rattle.moc_ranges.specs.Laws.Sizes.{len_parts}
-use Rattle.moc_ranges.specs.RangeList.{IsNormal, in_ranges, set_of, contains-set_of}
-use Rattle.moc_ranges.specs.Laws.Ranges.{len_bounded}
+use Rattle.moc_ranges.specs.Operations.{part_of, meets, IsWithin}
+use Rattle.moc_ranges.specs.Lemmas.Sizes.{len_parts}
+use Rattle.moc_ranges.specs.RangeList.{IsNormal, set_of}
+use Rattle.moc_ranges.specs.Lemmas.Ranges.{len_bounded}
 use Rattle.std.specs.Cmp.{nat_cmp_total}
 use Rattle.std.specs.Ordering.{nat_cmp}
 use Rattle.moc_parts.proofs.Members.{has-union, has-intersection, has-difference, has-empty, and_true, both, same_test, meets_at, in_part, of_part}

@@ -4,5 +4,4 @@ pub mod Batches
 pub mod Parts
 pub mod Prepared
 pub mod Laws
-pub mod Codes
 pub mod Private

@@ -1,10 +1,12 @@
 -- How what was asked for ends: what is written, or the fault that is told.
 use Rattle.std.specs.Prelude.{◌≡◌, ◌⊎◌, ℕ, List, [], ◌∷◌, ◌++◌, codes, Option, Result, Ok, Err, IfSome}
+use Rattle.std.specs.FinSet as set
 use Rattle.std.specs.Io.KnownBytes.{Appends, Keeps}
 use Rattle.moc_script.specs.Crews.{CrewEnds}
-use Rattle.moc_lines.specs.Numberings.{RunsNumbers}
-use Rattle.moc_script.specs.Schedules.{RunsSchedule}
-use Rattle.moc_lines.specs.Scripts.{RunsScript}
+use Rattle.moc_lines.specs.Numberings.{renumber_rules}
+use Rattle.moc_lines.specs.Runs.{Runs}
+use Rattle.moc_lines.specs.Scripts.{line_limit, script_rules}
+use Rattle.moc_script.specs.Schedules.{schedule_rules, start_schedule}
 use Rattle.moc_conversion.specs.Combining.{CombinesAll, SayNothing}
 use Rattle.moc_conversion.specs.Conversion.{ChangesAll, ConvertsAll, DescribesAll, DrawsAll}
 use Rattle.moc_conversion.specs.Conversion.{IsNotConverted, IsNotDrawn, IsSaid, SaysNothing}
@@ -39,14 +41,17 @@ Complains is fault = (c : Complaint) × (fault ≡ told.Input c) × is c
 abbrev pub ActionEnds :
     Action → Option (List ℕ) → Option (List ℕ) → Option (List ℕ) → Option (List ℕ) → Result (Unit {0}) Fault → Type 0
 ActionEnds Run left left' w w' =
-    RunEnds (λ error. told.Lines error) (λ end. IfSome left (λ input. RunsScript input left' w w' end))
+    RunEnds (λ error. told.Lines error)
+    (λ end. IfSome left (λ input. Runs line_limit script_rules set.empty input left' w w' end))
 ActionEnds Play left left' w w' =
-    RunEnds (λ error. told.Lines error) (λ end. IfSome left (λ input. RunsSchedule input left' w w' end))
+    RunEnds (λ error. told.Lines error)
+    (λ end. IfSome left (λ input. Runs line_limit schedule_rules start_schedule input left' w w' end))
 ActionEnds (Crew lanes) left left' w w' =
     RunEnds fault_of_crew (λ end. IfSome left (λ input. CrewEnds lanes.number input left' w w' end))
 ActionEnds (Number number) left left' w w' = PrintsText (IsNumberLine number) (IsNumberRefusal number) w w'
 ActionEnds (Renumber r) left left' w w' =
-    RunEnds (λ error. told.Lines error) (λ end. IfSome left (λ input. RunsNumbers r input left' w w' end))
+    RunEnds (λ error. told.Lines error)
+    (λ end. IfSome left (λ input. Runs line_limit renumber_rules r input left' w w' end))
 ActionEnds (Convert from to) left left' w w' =
     PrintsText (ConvertsAll from to left left') (Complains (IsNotConverted from left left')) w w'
 ActionEnds (Check choice) left left' w w' =

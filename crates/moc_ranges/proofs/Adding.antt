@@ -9,10 +9,11 @@ use Rattle.std.proofs.lemmas.Bool.{cases_Bool, false≢true}
 use Rattle.std.proofs.lemmas.Bool.Decides.{nat_tests}
 use Rattle.std.proofs.lemmas.List.{take-append-drop, take_rest, take_all}
 use Rattle.moc_ranges.specs.Pixels.{pixel_count}
-use Rattle.moc_ranges.specs.RangeList.{IsNormal, in_range, in_ranges, set_of, contains-set_of}
-use Rattle.moc_ranges.specs.Numbers.{NumberSet, numbers, contains-numbers, same_members}
-use Rattle.moc_ranges.specs.Laws.Sizes.{len_parts}
-use Rattle.moc_ranges.specs.Laws.Ranges.{len-set_of}
+use Rattle.moc_ranges.specs.RangeList.{IsNormal, set_of}
+use Rattle.moc_ranges.specs.Lemmas.Members.{in_range, in_ranges, contains-set_of, contains-numbers, same_members}
+use Rattle.moc_ranges.specs.Numbers.{NumberSet, numbers}
+use Rattle.moc_ranges.specs.Lemmas.Sizes.{len_parts}
+use Rattle.moc_ranges.specs.Lemmas.Ranges.{len-set_of}
 use Rattle.moc_ranges.specs.Private.Blocks.{joining, next_of, last_of, width_of, AreFilled, AreBlocks, IsStored}
 use Rattle.moc_ranges.specs.Private.Built.{EndsBelow, first_length, last_length}
 use Rattle.moc_ranges.specs.Private.Walks.{joined, EndsBy, IsPastAt}

@@ -4,7 +4,7 @@ use Rattle.std.proofs.lemmas.List.{take_more, take-append-drop, take_all}
 use Rattle.std.proofs.lemmas.List.Sums.{sum_by-append, sum_by-cons}
 use Rattle.moc_ranges.specs.Pixels.{pixel_count}
 use Rattle.moc_ranges.specs.RangeList.{IsNormal, BeginsAfter}
-use Rattle.moc_ranges.specs.Laws.Ranges.{len_bounded, len-set_of}
+use Rattle.moc_ranges.specs.Lemmas.Ranges.{len_bounded, len-set_of}
 use Rattle.moc_ranges.specs.Private.Blocks.{joining, first_of, last_of, width_of, rest_of}
 
 pub joining-append : {X : Type 0} (xs ys : List (List X)) → joining (xs ++ ys) ≡ joining xs ++ joining ys

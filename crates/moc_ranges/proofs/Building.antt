@@ -9,7 +9,8 @@ use Rattle.std.proofs.Math.ListN.{set}
 use Rattle.std.proofs.lemmas.List.{length-set, length-take}
 use Rattle.moc_ranges.specs.Pixels.{pixel_count}
 use Rattle.moc_ranges.specs.Private.Sorted.{IsSortedFrom}
-use Rattle.moc_ranges.specs.RangeList.{IsNormal, in_range, in_ranges}
+use Rattle.moc_ranges.specs.RangeList.{IsNormal}
+use Rattle.moc_ranges.specs.Lemmas.Members.{in_range, in_ranges}
 use Rattle.moc_ranges.specs.Private.Blocks.{joining, last_of, AreBlocks}
 use Rattle.moc_ranges.specs.Private.Built.{Growing, ranges_of, IsBuilt, AreGrouped, CanJoin, EndsBelow, BeginsBy, kept_of, first_length, last_length}
 use Rattle.moc_ranges.proofs.Filling.{last_length-append, filled_longer, filled_append, some_blocks, no_nodes}

@@ -8,11 +8,12 @@ use Rattle.std.proofs.lemmas.Bool.{cases_lt, or_cases, or_left, or_right, or_fro
 use Rattle.std.proofs.lemmas.Nat.{div-add-mod', mod-pow-add, or_mod, le_or_l, le_or_r}
 use Rattle.std.proofs.lemmas.Nat.Bits.{bit_at-trailing_zeros}
 use Rattle.std.proofs.Math.Nat.{mul-le-mul_right, le_of_mul-le-mul_right, pow-le-pow_right, pow-succ'}
-use Rattle.moc_sphere.specs.CellNumber.{cell_number, cell_count, cell_size, cell_size-positive}
+use Rattle.moc_sphere.specs.CellNumber.{cell_number, cell_count, cell_size}
+use Rattle.moc_sphere.specs.Lemmas.{cell_size-positive}
 use Rattle.moc_ranges.specs.RangeList.{set_of, IsNormal}
 use Rattle.moc_ranges.specs.Cells.{is_cell_of, cells_below, cells_of}
 use Rattle.moc_ranges.specs.Numbers.{NumberSet}
-use Rattle.moc_ranges.specs.Laws.Cells.{four_parts}
+use Rattle.moc_ranges.specs.Lemmas.Cells.{four_parts}
 use Rattle.moc_ranges.specs.Private.CellRuns.{HasOrders, cells_at}
 use Rattle.moc_ranges.proofs.CellRuns.{fits, fits_any, fits_from, fits_parts, is_part, part_at, is_cell_any, two_pow, filter-map, filter_none}
 

@@ -6,12 +6,13 @@ use Rattle.std.proofs.lemmas.Bool.{cases_lt, and_parts, and_from, lt-ltb, ltb-tr
 use Rattle.std.proofs.lemmas.List.{drop_more, get_or-take, length-take-le}
 use Rattle.std.proofs.lemmas.List.Elements.{filter-append}
 use Rattle.std.proofs.lemmas.Nat.{div-add-mod', mod_below, div_below}
-use Rattle.moc_sphere.specs.CellNumber.{CellNumber, cell_number, cell_count, cell_size, cell_size-positive, IsCell}
+use Rattle.moc_sphere.specs.CellNumber.{CellNumber, cell_number, cell_count, cell_size, IsCell}
+use Rattle.moc_sphere.specs.Lemmas.{cell_size-positive}
 use Rattle.moc_ranges.specs.Numbers.{NumberSet}
 use Rattle.moc_ranges.specs.Pixels.{pixel_count}
 use Rattle.moc_ranges.specs.RangeList.{set_of, IsNormal, BeginsAfter}
 use Rattle.moc_ranges.specs.Cells.{AreOfOrders, cells_in, cells_of, cells_of_range, cells_below, is_cell_of}
-use Rattle.moc_ranges.specs.Laws.Cells.{cells_are, four_parts}
+use Rattle.moc_ranges.specs.Lemmas.Cells.{cells_are, four_parts}
 use Rattle.moc_ranges.specs.Private.CellRuns.{ahead_of, around_parents, AreWhole, HasOrders, cells_at, filled, pieces_along, pieces_of, whole_in}
 use Rattle.moc_ranges.specs.Private.Meeting.{kept_if}
 use Rattle.moc_ranges.proofs.CellRuns.{cells_split, count_bound, four_children, no_cells, run_one, run_top, run_two, whole_is}

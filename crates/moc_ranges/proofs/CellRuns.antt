@@ -10,13 +10,14 @@ use Rattle.std.proofs.lemmas.List.{map-append}
 use Rattle.std.proofs.lemmas.List.FromFn.{map-range_with_len_more}
 use Rattle.std.proofs.lemmas.Nat.{div_below, le-div, div-add-mod', mod_below}
 use Rattle.std.proofs.Math.Nat.{mul-le-mul_right, div-mul-le_self, pow-succ', pow-le-pow_right}
-use Rattle.moc_sphere.specs.CellNumber.{cell_number, cell_count, cell_size, cell_size-positive, cell_size-fills}
+use Rattle.moc_sphere.specs.CellNumber.{cell_number, cell_count, cell_size}
+use Rattle.moc_sphere.specs.Lemmas.{cell_size-positive, cell_size-fills}
 use Rattle.moc_ranges.specs.Pixels.{pixel_count}
-use Rattle.moc_ranges.specs.RangeList.{set_of, contains-set_of, in_ranges, IsNormal, BeginsAfter}
-use Rattle.moc_ranges.specs.Laws.Ranges.{LiesInOne, lies_in_one}
-use Rattle.moc_ranges.specs.Cells.{cells_of_range, span, contains-span, is_cell_of}
-use Rattle.moc_ranges.specs.Laws.Cells.{in_span, four_parts, in_cell_range}
-use Rattle.moc_ranges.specs.Same.{same_truth}
+use Rattle.moc_ranges.specs.RangeList.{set_of, IsNormal, BeginsAfter}
+use Rattle.moc_ranges.specs.Lemmas.Members.{contains-set_of, in_ranges, contains-span, same_truth}
+use Rattle.moc_ranges.specs.Lemmas.Ranges.{LiesInOne, lies_in_one}
+use Rattle.moc_ranges.specs.Cells.{cells_of_range, span, is_cell_of}
+use Rattle.moc_ranges.specs.Lemmas.Cells.{in_span, four_parts, in_cell_range}
 use Rattle.moc_ranges.specs.Private.CellRuns.{cells_at, AreWhole}
 
 -- ---- filters of numbers in a row

@@ -7,11 +7,13 @@ use Rattle.std.specs.Int.Count.{count_trailing_zeros}
 use Rattle.std.proofs.lemmas.Bool.{and_parts, cases_eq, cases_lt, ltb-true, or_cases, or_right, false≢true}
 use Rattle.std.proofs.lemmas.Nat.{div-add-mod', mod_below, mod-pow-add, or_mod, pow_pos}
 use Rattle.std.proofs.lemmas.Nat.Bits.{bit_at-trailing_zeros}
-use Rattle.moc_sphere.specs.CellNumber.{cell_size, cell_size-positive}
-use Rattle.moc_ranges.specs.Numbers.{NumberSet, same_members}
-use Rattle.moc_ranges.specs.RangeList.{set_of, contains-set_of, IsNormal, in_range, in_ranges}
+use Rattle.moc_sphere.specs.CellNumber.{cell_size}
+use Rattle.moc_sphere.specs.Lemmas.{cell_size-positive}
+use Rattle.moc_ranges.specs.Numbers.{NumberSet}
+use Rattle.moc_ranges.specs.Lemmas.Members.{same_members, contains-set_of, in_range, in_ranges}
+use Rattle.moc_ranges.specs.RangeList.{set_of, IsNormal}
 use Rattle.moc_ranges.specs.Cells.{degrade}
-use Rattle.moc_ranges.specs.Laws.Ranges.{later_only, in_first, not_before, at_end}
+use Rattle.moc_ranges.specs.Lemmas.Ranges.{later_only, in_first, not_before, at_end}
 use Rattle.moc_ranges.specs.Private.Widen.{widen}
 use Rattle.moc_ranges.proofs.CellRuns.{two_pow}
 use Rattle.moc_ranges.proofs.CellOrders.{AllMultiples, multiple_of, or_multiple, low_zeros}

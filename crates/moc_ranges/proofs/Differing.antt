@@ -4,9 +4,9 @@ use Rattle.std.specs.Prelude.{nat_le, nat_lt}
 use Rattle.std.proofs.lemmas.Bool.{cases_lt}
 use Rattle.std.proofs.lemmas.Bool.Decides.{nat_tests}
 use Rattle.moc_ranges.specs.Pixels.{pixel_count}
-use Rattle.moc_ranges.specs.Numbers.{same_members}
-use Rattle.moc_ranges.specs.Operations.{symmetric, contains-symmetric}
-use Rattle.moc_ranges.specs.RangeList.{IsNormal, BeginsAfter, in_range, in_ranges, set_of, contains-set_of}
+use Rattle.moc_ranges.specs.Lemmas.Members.{same_members, contains-symmetric, in_range, in_ranges, contains-set_of}
+use Rattle.moc_ranges.specs.Operations.{symmetric}
+use Rattle.moc_ranges.specs.RangeList.{IsNormal, BeginsAfter, set_of}
 use Rattle.moc_ranges.specs.Private.Blocks.{next_of}
 use Rattle.moc_ranges.specs.Private.Built.{CanCarry, Carries, EndsBelow}
 use Rattle.moc_ranges.specs.Private.Differing.{differs, IsParted, IsDiffering}

@@ -3,7 +3,8 @@ use Rattle.std.proofs.Common.{◌≡◌, ℕ, zero, suc, ◌+◌, ◌<◌, ◌�
 use Rattle.std.specs.Prelude.{nat_le, nat_lt}
 use Rattle.std.proofs.lemmas.Bool.{cases_lt}
 use Rattle.std.proofs.lemmas.Bool.Decides.{nat_tests}
-use Rattle.moc_ranges.specs.RangeList.{IsNormal, BeginsAfter, in_ranges}
+use Rattle.moc_ranges.specs.RangeList.{IsNormal, BeginsAfter}
+use Rattle.moc_ranges.specs.Lemmas.Members.{in_ranges}
 use Rattle.moc_ranges.specs.Private.Blocks.{next_of}
 use Rattle.moc_ranges.specs.Private.Built.{EndsBelow}
 use Rattle.moc_ranges.specs.Private.Walks.{EndsBy, Passes}

@@ -5,14 +5,15 @@ use Rattle.std.specs.FinSet as set
 use Rattle.std.specs.Cmp.{nat_cmp_total}
 use Rattle.std.proofs.lemmas.Bool.Decides.{nat_tests}
 use Rattle.moc_sphere.specs.CellNumber.{CellNumber, cell_count, cell_size, cell_number, IsInSpan}
-use Rattle.moc_ranges.specs.Numbers.{NumberSet, numbers, contains-numbers, same_members}
+use Rattle.moc_ranges.specs.Numbers.{NumberSet, numbers}
+use Rattle.moc_ranges.specs.Lemmas.Members.{contains-numbers, same_members, contains-spans, contains-set_of}
 use Rattle.moc_ranges.specs.Pixels.{pixel_count}
-use Rattle.moc_ranges.specs.Cells.{span, spans, pixels_of, contains-spans}
+use Rattle.moc_ranges.specs.Cells.{span, spans, pixels_of}
 use Rattle.std.specs.Option.{option_or}
 use Rattle.moc_ranges.specs.Faults.{first_fault_from, pair_fault}
-use Rattle.moc_ranges.specs.RangeList.{set_of, contains-set_of}
+use Rattle.moc_ranges.specs.RangeList.{set_of}
 use Rattle.moc_ranges.specs.Private.Gathered.{gathered}
-use Rattle.moc_ranges.specs.Laws.{empty-union, union-empty, union-assoc, pixels_of-append, run_of_cells}
+use Rattle.moc_ranges.specs.Lemmas.{empty-union, union-empty, union-assoc, pixels_of-append, run_of_cells}
 use Rattle.moc_ranges.proofs.Sorting.{in_ranges-push, no_fault_parts}
 use Rattle.moc_ranges.proofs.Spans.{span_view}
 

@@ -7,10 +7,12 @@ use Rattle.std.specs.Prelude.{IsTrue}
 use Rattle.std.specs.FinSet as set
 use Rattle.std.specs.Ordering.{nat_cmp}
 use Rattle.std.specs.Cmp.{nat_cmp_total}
-use Rattle.moc_ranges.specs.Numbers.{NumberSet, numbers, contains-numbers, same_members}
+use Rattle.moc_ranges.specs.Numbers.{NumberSet, numbers}
+use Rattle.moc_ranges.specs.Lemmas.Members.{contains-numbers, same_members, meets-some, meets-none, contains-part_of}
+use Rattle.moc_ranges.specs.Lemmas.Members.{contains-pixels, in_ranges, contains-set_of}
 use Rattle.moc_ranges.specs.Pixels.{base_pixel_size, pixel_count, pixels}
-use Rattle.moc_ranges.specs.Operations.{meets, meets-some, meets-none, part_of, contains-part_of, contains-pixels}
-use Rattle.moc_ranges.specs.RangeList.{IsNormal, in_ranges, set_of, contains-set_of}
+use Rattle.moc_ranges.specs.Operations.{meets, part_of}
+use Rattle.moc_ranges.specs.RangeList.{IsNormal, set_of}
 use Rattle.moc_ranges.specs.Private.Blocks.{joining, rest_of, IsStored}
 use Rattle.moc_ranges.specs.Private.Walks.{EndsBy, IsFirstPast, IsNextRange, HasNoneFrom}
 use Rattle.moc_ranges.proofs.Blocking.{IsNormal-suffix, nothing_more}

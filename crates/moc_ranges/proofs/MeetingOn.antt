@@ -7,7 +7,8 @@ use Rattle.std.proofs.lemmas.Bool.Decides.{nat_tests}
 use Rattle.std.proofs.lemmas.List.{drop_more, length-drop, take-set, take-append-drop, take_all}
 use Rattle.std.proofs.lemmas.Grind.{take-set_at}
 use Rattle.moc_ranges.specs.Pixels.{pixel_count}
-use Rattle.moc_ranges.specs.RangeList.{IsNormal, in_range, in_ranges}
+use Rattle.moc_ranges.specs.RangeList.{IsNormal}
+use Rattle.moc_ranges.specs.Lemmas.Members.{in_range, in_ranges}
 use Rattle.moc_ranges.specs.Private.Blocks.{last_of, next_of}
 use Rattle.moc_ranges.specs.Private.Built.{EndsBelow, AddsPart, TakesCommon}
 use Rattle.moc_ranges.specs.Private.Walks.{EndsBy}

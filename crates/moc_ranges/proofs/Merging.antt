@@ -1,7 +1,8 @@
 -- Joining lists of ranges at their ends, block by block.
 use Rattle.std.proofs.Common.{◌≡◌, ℕ, ◌<◌, ◌≤◌, Bool, true, false, ◌||◌, List, [], ◌∷◌, ◌++◌, length, refl, sym, ap, subst, ◌∙◌, arith, length-append}
 use Rattle.std.proofs.lemmas.List.Folds.{list_any-append}
-use Rattle.moc_ranges.specs.RangeList.{IsNormal, in_range, in_ranges}
+use Rattle.moc_ranges.specs.RangeList.{IsNormal}
+use Rattle.moc_ranges.specs.Lemmas.Members.{in_range, in_ranges}
 use Rattle.moc_ranges.specs.Private.Blocks.{last_of, next_of}
 use Rattle.moc_ranges.specs.Private.Built.{Growing, ranges_of, none_grown, CanJoin, CanTake, CanCarry, Carries, TakesOver, EndsBelow, BeginsBy}
 use Rattle.moc_ranges.proofs.Blocking.{IsNormal-suffix}

@@ -4,7 +4,8 @@ use Rattle.std.specs.Prelude.{nat_le, nat_lt}
 use Rattle.std.proofs.lemmas.Bool.{cases_lt}
 use Rattle.std.proofs.lemmas.Bool.Decides.{nat_tests}
 use Rattle.moc_ranges.specs.Pixels.{pixel_count}
-use Rattle.moc_ranges.specs.RangeList.{IsNormal, BeginsAfter, in_range, in_ranges}
+use Rattle.moc_ranges.specs.RangeList.{IsNormal, BeginsAfter}
+use Rattle.moc_ranges.specs.Lemmas.Members.{in_range, in_ranges}
 use Rattle.moc_ranges.specs.Private.Blocks.{next_of}
 use Rattle.moc_ranges.specs.Private.Built.{EndsBelow}
 use Rattle.moc_ranges.specs.Private.Few.{IsSettled}

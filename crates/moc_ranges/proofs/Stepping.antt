@@ -7,7 +7,8 @@ use Rattle.std.specs.FinSet as set
 use Rattle.moc_ranges.specs.Numbers.{NumberSet}
 use Rattle.moc_ranges.specs.Blocks.{IsSearchOf}
 use Rattle.moc_ranges.specs.Pixels.{pixel_count}
-use Rattle.moc_ranges.specs.RangeList.{IsNormal, in_ranges, set_of, contains-set_of}
+use Rattle.moc_ranges.specs.RangeList.{IsNormal, set_of}
+use Rattle.moc_ranges.specs.Lemmas.Members.{in_ranges, contains-set_of}
 use Rattle.moc_ranges.specs.Private.Blocks.{joining, first_of, last_of, width_of, rest_of, AreBlocks, AreStored, IsStored}
 use Rattle.moc_ranges.specs.Private.Walks.{EndsBy}
 use Rattle.moc_ranges.proofs.Blocking.{nothing_more, IsNormal-prefix, IsNormal-suffix, joining-append, joining-last, first_of-append, last_of-append, width_bounded, width-append}

@@ -6,11 +6,12 @@ use Rattle.std.specs.Ordering.{nat_cmp, eq_by_cmp}
 use Rattle.std.specs.Cmp.{nat_cmp_total}
 use Rattle.std.proofs.lemmas.Bool.{cases_lt, false_from_ne_true, or_cases, or_left, or_right, false≢true, lt-ltb}
 use Rattle.std.proofs.lemmas.Bool.Decides.{nat_tests}
-use Rattle.moc_ranges.specs.Numbers.{NumberSet, numbers, contains-numbers, same_members}
+use Rattle.moc_ranges.specs.Numbers.{NumberSet, numbers}
+use Rattle.moc_ranges.specs.Lemmas.Members.{contains-numbers, same_members, in_range, in_ranges, contains-set_of}
 use Rattle.moc_ranges.specs.Pixels.{pixel_count}
-use Rattle.moc_ranges.specs.Laws.Sizes.{len_parts}
-use Rattle.moc_ranges.specs.RangeList.{IsNormal, BeginsAfter, in_range, in_ranges, set_of, contains-set_of}
-use Rattle.moc_ranges.specs.Laws.Ranges.{len_bounded}
+use Rattle.moc_ranges.specs.Lemmas.Sizes.{len_parts}
+use Rattle.moc_ranges.specs.RangeList.{IsNormal, BeginsAfter, set_of}
+use Rattle.moc_ranges.specs.Lemmas.Ranges.{len_bounded}
 use Rattle.moc_ranges.specs.Private.Walks.{common_of, has_all, begun, overlap_of, EndsBy, Advances}
 use Rattle.moc_ranges.proofs.Blocking.{IsNormal-suffix}
 use Rattle.moc_ranges.proofs.Passing.{ends_by_more, overlap_none}

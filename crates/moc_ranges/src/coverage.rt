@@ -551,7 +551,8 @@ impl Coverage {
 }
 
 impl PartialEq for Coverage {
-    ghost use Rattle.moc_ranges.specs.Same.{is_same, is_same-equivalence};
+    ghost use Rattle.moc_ranges.specs.Same.{is_same};
+    ghost use Rattle.moc_ranges.specs.Lemmas.Members.{is_same-equivalence};
 
     ghost eq = { is_same };
 
@@ -563,7 +564,6 @@ impl PartialEq for Coverage {
 }
 
 impl Eq for Coverage {
-    ghost use Rattle.moc_ranges.specs.Same.{is_same-equivalence};
 
     ghost laws = { is_same-equivalence };
 }

@@ -3,7 +3,8 @@ ghost use Rattle.std.specs.Prelude.{◌≡◌, ℕ, ◌*◌, ◌<◌, ◌≤◌,
 ghost use Rattle.std.specs.Prelude.{None, Some};
 ghost use Rattle.moc_ranges.specs.Faults.{first_fault};
 ghost use Rattle.moc_ranges.specs.Private.Sorted.{IsSortedFrom};
-ghost use Rattle.moc_ranges.specs.RangeList.{in_ranges, IsNormal, set_of};
+ghost use Rattle.moc_ranges.specs.Lemmas.Members.{in_ranges};
+ghost use Rattle.moc_ranges.specs.RangeList.{IsNormal, set_of};
 ghost use Rattle.moc_ranges.specs.Private.Blocks.{last_of};
 ghost use Rattle.moc_ranges.specs.Numbers.{numbers};
 ghost use Rattle.moc_ranges.specs.Pixels.{pixel_count};

@@ -1,10 +1,10 @@
 //! Laws of coverages and their cells. Each function does nothing: its contract is the law.
-ghost use Rattle.moc_ranges.specs.Theorems.{HasOneNormalList, CellsAreCells, CellsFillTheSet, CellsRise};
-ghost use Rattle.moc_ranges.specs.Theorems.{ComplementTwiceIsTheSet};
+ghost use Rattle.moc_ranges.specs.Laws.{NormalListIsOne, CellsAreCells, CellsFillTheSet, CellsRise};
+ghost use Rattle.moc_ranges.specs.Laws.{ComplementTwiceIsTheSet};
 
 /// A set has at most one normal list of ranges.
 pub fn normal_list_is_one()
-    ensures { HasOneNormalList }
+    ensures { NormalListIsOne }
 {}
 
 /// The cells of a set are cells of the sky.

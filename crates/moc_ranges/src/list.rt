@@ -1,7 +1,8 @@
 //! The one normal list of ranges of a set, kept in blocks.
 ghost use Rattle.std.specs.Prelude.{◌≡◌, ◌<◌, ◌≤◌, [], ◌∷◌, length, IfOk, OnErr, MatchOption};
 ghost use Rattle.moc_ranges.specs.Pixels.{pixel_count};
-ghost use Rattle.moc_ranges.specs.RangeList.{IsNormal, in_ranges, set_of};
+ghost use Rattle.moc_ranges.specs.RangeList.{IsNormal, set_of};
+ghost use Rattle.moc_ranges.specs.Lemmas.Members.{in_ranges};
 ghost use Rattle.moc_ranges.specs.Blocks.{joining, AreBlocks, IsSearchOf};
 ghost use Rattle.moc_ranges.specs.Private.Blocks.{IsStored, rest_of, width_of};
 ghost use Rattle.moc_ranges.specs.Private.Walks.{EndsBy, IsFirstPast};

@@ -5,7 +5,7 @@ use Rattle.std.proofs.lemmas.Bool.{cases_lt}
 use Rattle.moc_lines.specs.Answers.{Rules}
 use Rattle.moc_lines.specs.Scripts.{script_rules}
 use Rattle.moc_script.specs.Merges.{InLane, in_lane, dealt}
-use Rattle.moc_script.specs.Crews.{answers_in, AreAllAnswered}
+use Rattle.moc_script.specs.Crews.{answers_in, CrewsAnswerEachLine}
 use Rattle.moc_script.proofs.LaneLists.{next_left}
 
 module _ {S : Type 0} (rules : Rules S) where
@@ -29,7 +29,7 @@ no_shorter lanes xs ys same = elim (cases_lt (length xs) (length ys)) [
   | inr high ↦ high
 ]
 
-pub all_answered : AreAllAnswered
+pub all_answered : CrewsAnswerEachLine
 all_answered lanes lines text some told =
     let same : (lane : ℕ) → length (in_lane lane (dealt lanes told.answers)) ≡ length (in_lane lane (dealt lanes lines)) =
     λ lane. sym (ap length (told.answered lane)) ∙ as_many_in script_rules lane set.empty told.order ∙ ap length (told.merged lane) in

@@ -4,7 +4,7 @@ use Rattle.std.specs.Option.{IfSome}
 use Rattle.std.specs.FinSet as set
 use Rattle.std.proofs.lemmas.Bool.{cases_lt}
 use Rattle.std.proofs.lemmas.List.Sums.{sum_by-cons}
-use Rattle.moc_ranges.specs.Blocks.{joining}
+use Rattle.std.specs.List.{concat}
 use Rattle.moc_ranges.specs.Numbers.{NumberSet}
 use Rattle.moc_lines.specs.Scripts.{script_rules}
 use Rattle.moc_script.specs.Merges.{in_lane, dealt}
@@ -20,7 +20,7 @@ use Rattle.moc_lines.specs.Runs.{AreWithin, IsBegunLine}
 use Rattle.moc_lines.specs.Scripts.{line_limit}
 use Rattle.moc_lines.specs.declared.run_error.RunError.TheVariants as run
 use Rattle.moc_script.specs.declared.crew_error.CrewError.TheVariants as crew
-use Rattle.moc_devices.specs.Laws.{Sends-all}
+use Rattle.moc_devices.specs.Lemmas.{Sends-all}
 use Rattle.moc_shared.specs.declared.client.Client.{Client}
 use Rattle.moc_text.specs.Lines.{lines_of}
 use Rattle.moc_script.specs.Private.Input.{lane_lines}
@@ -42,7 +42,7 @@ calls_of-none n lane (e ∷ log) named high =
 pub crew_text : (n : ℕ) (said answers : List (List ℕ)) (log : List BatchEntry) (end : NumberSet) → 0 < n → IsLegal object set.empty log
     → ((e : BatchEntry) → Contains log e → e.client < n) → end ≡ result object set.empty log
     → ((lane : ℕ) → lane < n → Does object script_rules (in_lane lane (dealt n said)) (calls_of lane log) (in_lane lane (dealt n answers)))
-    → IsCrewText n said (joining answers ++ cover_line end)
+    → IsCrewText n said (concat answers ++ cover_line end)
 crew_text n said answers log end some legal named end_is does =
     let all : (lane : ℕ) → Does object script_rules (in_lane lane (dealt n said)) (calls_of lane log) (in_lane lane (dealt n answers)) =
     λ lane. elim (cases_lt lane n) [ inl low ↦ does lane low | inr high ↦ rw (none_above n lane said some high, calls_of-none n lane log named high, none_above n lane answers some high) (refl, refl) ] in
@@ -52,7 +52,7 @@ crew_text n said answers log end some legal named end_is does =
       answers = answers;
       merged = w.merged;
       answered = w.answered;
-      text_is = ap (λ s. joining answers ++ cover_line s) (end_is ∙ sym w.left);
+      text_is = ap (λ s. concat answers ++ cover_line s) (end_is ∙ sym w.left);
     }
 
 Does-length : (lines : List (List ℕ)) (calls : List BatchEntry) (texts : List (List ℕ)) → Does object script_rules lines calls texts → length texts ≡ length lines

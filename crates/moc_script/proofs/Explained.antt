@@ -14,7 +14,7 @@ use Rattle.moc_ranges.specs.Operations.{IsWithin}
 use Rattle.moc_parts.specs.Batches.{batches, AreCommands}
 use Rattle.moc_parts.specs.Commands.{IsOperand, IsCommand}
 use Rattle.moc_parts.specs.Objects.{IsLocal}
-use Rattle.moc_parts.specs.Laws.{AreBatchesLocal}
+use Rattle.moc_parts.specs.Laws.{BatchesAreLocal}
 use Rattle.moc_parts.specs.declared.command.Operand.{Operand}
 use Rattle.moc_parts.specs.declared.command.Command.{Command}
 use Rattle.moc_parts.specs.declared.command.Command.TheVariants.{Near}
@@ -22,15 +22,16 @@ use Rattle.moc_text.specs.declared.ascii.error.TextError.{TextError}
 use Rattle.moc_text.specs.Reading.{reading_of}
 use Rattle.moc_steps.specs.Locks.{Locks, ArePermitted, AreLocal, locks_after, refusal}
 use Rattle.moc_steps.specs.Locks.Step.{Begin, Take, Edit, Give, Quit, End}
-use Rattle.moc_steps.specs.Operations.{Operation, opened, mark, noted, operations_from, midway}
+use Rattle.moc_steps.specs.Operations.{Operation, just_begun, mark, noted, operations_from, midway}
 use Rattle.moc_steps.specs.World.{World, run, world_after, whole}
-use Rattle.moc_steps.specs.Explains.{Explains, result}
+use Rattle.moc_steps.specs.Explains.{Explains, set_by_order}
 use Rattle.moc_steps.specs.Laws.{ArePlayed, HasOneOrder, StepsHaveOneOrder}
 use Rattle.moc_steps.specs.declared.error.StepError.{StepError}
 use Rattle.moc_parts.specs.declared.reply.Reply.{Reply}
 use Rattle.moc_lines.specs.Words.{is_blank_text, word_of, behind_word, number_spelled}
 use Rattle.moc_lines.specs.Language.{◌>>=◌, fault_without_place, coverage_of, order_of, plain_operand_of, ordered_operand_of, operand_by, operand_of, command_named, command_with, degrade_of, near_of, only_field, two_fields, command_of}
-use Rattle.moc_lines.specs.Batches.{is_semicolon, pieces_of, piece_says, commands_of, batch_of}
+use Rattle.moc_text.specs.Lines.{is_semicolon, pieces_of}
+use Rattle.moc_lines.specs.Batches.{piece_says, commands_of, batch_of}
 use Rattle.moc_script.specs.Steps.{BatchStep, as_in_script, client_by, only_client, only_place, step_by, step_at, other_step, begin_by, begin_of, said_step}
 use Rattle.moc_lines.specs.Answers.{after_lines}
 use Rattle.moc_script.specs.Schedules.{Schedule, start_schedule, next_line, begins_after, after_step, after_said, schedule_rules, unless_refused, step_taken, steps_taken}
@@ -40,7 +41,7 @@ use Rattle.moc_lines.specs.declared.fault.Fault.{Fault}
 use Rattle.moc_lines.specs.declared.fault.Fault.TheVariants.{WrongCount, BadNumber, OrderTooLarge, CellTooLarge, EmptyCommand, TooManyCommands}
 use Rattle.moc_script.specs.declared.fault.StepFault.{StepFault}
 use Rattle.moc_script.specs.declared.fault.StepFault.TheVariants.{Line}
-use Rattle.moc_text.specs.Laws.{empty_within, read_within}
+use Rattle.moc_text.specs.Lemmas.{empty_within, read_within}
 
 -- ---- what holds where something was read
 
@@ -159,7 +160,7 @@ commands_proper (piece ∷ pieces) = one (piece_says command_of piece) (commands
 
 -- ---- what a line says is local
 
-module _ (local : AreBatchesLocal) where
+module _ (local : BatchesAreLocal) where
   first_local : (first : Result Command Fault) (later : Result (List Command) Fault) → IfOk first IsCommand → IfOk later AreCommands → IfOk (first_then first later) (IsLocal batches)
   first_local (Err e) later h each = tt
   first_local (Ok c) (Err e) h each = tt
@@ -227,7 +228,7 @@ length-mark c f [] = refl
 length-mark c f (x ∷ xs) = ap suc (length-mark c f xs)
 
 begun_on : (begins : List ℕ) (line : ℕ) (xs : List (Operation (List Command))) (step : BatchStep) → length begins ≡ length xs → length (begins_after begins line step) ≡ length (noted xs step)
-begun_on begins line xs (Begin c op) same = omega (arith, same, length-append begins (line ∷ []), length-append xs (opened c op ∷ []))
+begun_on begins line xs (Begin c op) same = omega (arith, same, length-append begins (line ∷ []), length-append xs (just_begun c op ∷ []))
 begun_on begins line xs (Take c) same = same
 begun_on begins line xs (Edit c b) same = same ∙ sym (length-mark c (λ x. record x { committed = true }) xs)
 begun_on begins line xs (Give c b) same = same
@@ -265,14 +266,14 @@ by_blanks : (s : Schedule) (b : Bool) (r : Result BatchStep StepFault) → IfOk 
 by_blanks s true r alone rest s' h = passed s rest s' h
 by_blanks s false r alone rest s' h = by_saying s r alone rest s' h
 
-lines_take : AreBatchesLocal → (s : Schedule) (lines : List (List ℕ)) → TakesOn s (steps_taken s lines) (after_lines schedule_rules s lines)
+lines_take : BatchesAreLocal → (s : Schedule) (lines : List (List ℕ)) → TakesOn s (steps_taken s lines) (after_lines schedule_rules s lines)
 lines_take local s [] = record { local = tt; permitted = tt; leads = refl; begun = λ xs same. same }
 lines_take local s (line ∷ lines) =
     by_blanks s (is_blank_text line) (said_step line) (said_local local line) (steps_taken (schedule_rules.after s line) lines) _ (lines_take local (schedule_rules.after s line) lines)
 
 -- ---- the law
 
-pub schedules_have_one_order : AreBatchesLocal → StepsHaveOneOrder → SchedulesHaveOneOrder
+pub schedules_have_one_order : BatchesAreLocal → StepsHaveOneOrder → SchedulesHaveOneOrder
 schedules_have_one_order local one_order lines =
     let steps = steps_taken start_schedule lines in
     let takes = lines_take local start_schedule lines in
@@ -284,5 +285,5 @@ schedules_have_one_order local one_order lines =
       explained = subst (λ (w : World (List Command) (List Reply)). Explains batches w.order steps set.empty) takes.leads ordered.explained;
       begun = takes.begun [] refl;
       counted = subst (λ (w : World (List Command) (List Reply)). map.len w.locks.clients ≡ midway steps) takes.leads ordered.counted;
-      together = subst (λ (w : World (List Command) (List Reply)). midway steps ≡ 0 → whole batches w ≡ result batches w.order steps set.empty) takes.leads ordered.together;
+      together = subst (λ (w : World (List Command) (List Reply)). midway steps ≡ 0 → whole batches w ≡ set_by_order batches w.order steps set.empty) takes.leads ordered.together;
     }

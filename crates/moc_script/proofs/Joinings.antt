@@ -9,7 +9,7 @@ use Rattle.std.specs.Result.{IsErr}
 use Rattle.std.specs.Prelude.{IsErrAnd}
 use Rattle.std.proofs.lemmas.List.{get_or_default}
 use Rattle.moc_script.specs.Merges.{in_lane, dealt}
-use Rattle.moc_ranges.specs.Blocks.{joining}
+use Rattle.std.specs.List.{concat}
 use Rattle.std.proofs.KnownBytes.{Appends-nil, Appends-trans}
 use Rattle.moc_devices.specs.Devices.{Sends}
 use Rattle.moc_script.specs.Private.Joining.{AreForLines, IsJoined, SendsTurns, JoinsTo}
@@ -19,9 +19,9 @@ use Rattle.moc_script.proofs.Sending.{Sends-front, Sends-fault, Sends-ok, on_err
 abbrev Texts : Type 0
 Texts = List (List ℕ)
 
-joining-push : (texts : List (List ℕ)) (text : List ℕ) → joining (texts ++ text ∷ []) ≡ joining texts ++ text
+joining-push : (texts : List (List ℕ)) (text : List ℕ) → concat (texts ++ text ∷ []) ≡ concat texts ++ text
 joining-push [] text = append-nil text
-joining-push (t ∷ texts) text = ap (λ l. t ++ l) (joining-push texts text) ∙ sym (append_assoc t (joining texts) text)
+joining-push (t ∷ texts) text = ap (λ l. t ++ l) (joining-push texts text) ∙ sym (append_assoc t (concat texts) text)
 
 -- one more answer
 pub join_more : (lanes lane count : ℕ) (all left : List Texts) (new : Texts) (text answer : List ℕ) → IsJoined lanes all left count text → lane < lanes
@@ -176,7 +176,7 @@ joins_then all behind pending a b c r turns sends count for =
     (turns.sent ++ h.0, h.1, subst (λ (l : List ℕ). Sends l a [] c r) whole (Sends-front turns.sent (pending ++ behind) [] a b c r turns.appended sends))
 
 -- the texts of a lane that is alone are joined as they stand
-pub join_alone : (texts : Texts) (text : List ℕ) (count : ℕ) (all : List Texts) → all ≡ texts ∷ [] → AreForLines 1 all count → text ≡ joining texts → IsJoined 1 all ([] ∷ []) count text
+pub join_alone : (texts : Texts) (text : List ℕ) (count : ℕ) (all : List Texts) → all ≡ texts ∷ [] → AreForLines 1 all count → text ≡ concat texts → IsJoined 1 all ([] ∷ []) count text
 join_alone texts text count all alone (lines, many, shared) is =
     let here : get_or all 0 [] ≡ texts = ap (λ l. get_or l 0 []) alone in
     record {
@@ -196,7 +196,7 @@ only_one (x ∷ []) d one = refl
 only_one (x ∷ y ∷ xs) d one = absurd (omega arith)
 
 -- the same, written with the text behind them
-pub joins_alone : {E : Type 0} (all : List Texts) (text behind : List ℕ) (a b : Option (List ℕ)) (r : Result (Unit {0}) E) → length all ≡ 1 → text ≡ joining (get_or all 0 [])
+pub joins_alone : {E : Type 0} (all : List Texts) (text behind : List ℕ) (a b : Option (List ℕ)) (r : Result (Unit {0}) E) → length all ≡ 1 → text ≡ concat (get_or all 0 [])
     → Sends {E = E} (text ++ behind) a [] b r → JoinsTo {E = E} all behind a b r
 joins_alone all text behind a b r one is sends count for = (
   text,

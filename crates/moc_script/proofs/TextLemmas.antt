@@ -1,7 +1,7 @@
 -- Texts that lie in one buffer.
 use Rattle.std.proofs.Common.{◌≡◌, ℕ, ◌+◌, ◌≤◌, List, [], ◌∷◌, ◌++◌, length, take, drop, refl, ap, ◌∙◌, arith, length-drop}
 use Rattle.std.proofs.lemmas.List.{take-append-le, take-append-drop, drop-append-le, take_all}
-use Rattle.moc_ranges.specs.Blocks.{joining}
+use Rattle.std.specs.List.{concat}
 use Rattle.moc_script.specs.Private.Texts.{cut, total}
 
 -- one text more
@@ -19,7 +19,7 @@ total-push [] len = omega arith
 total-push (first ∷ lens) len = omega (arith, total-push lens len)
 
 -- texts that are cut out of bytes are the bytes, one after another
-pub joining-cut : (lens bytes : List ℕ) → total lens ≡ length bytes → joining (cut lens bytes) ≡ bytes
+pub joining-cut : (lens bytes : List ℕ) → total lens ≡ length bytes → concat (cut lens bytes) ≡ bytes
 joining-cut [] [] sum = refl
 joining-cut [] (b ∷ bytes) sum = absurd (omega arith)
 joining-cut (len ∷ lens) bytes sum =

@@ -6,7 +6,8 @@ use Rattle.std.proofs.lemmas.List.Folds.{list_any-append}
 use Rattle.std.proofs.lemmas.List.Splits.{slice_split-cons_no, slice_split-cons_yes}
 use Rattle.moc_lines.specs.Words.{is_blank_text, is_line_blank, without_blanks, word_of, behind_word}
 use Rattle.moc_lines.specs.Language.{plain_operand_of, operand_by, ordered_operand_of, command_by, command_of}
-use Rattle.moc_lines.specs.Batches.{is_semicolon, pieces_of, piece_says, commands_of, batch_of, answer_to, after_batch}
+use Rattle.moc_text.specs.Lines.{is_semicolon, pieces_of}
+use Rattle.moc_lines.specs.Batches.{piece_says, commands_of, batch_of, answer_to, after_batch}
 use Rattle.moc_script.proofs.Single.{first_then}
 use Rattle.moc_script.specs.Laws.{is_at_sign, LinesWithoutOrder}
 use Rattle.moc_lines.specs.declared.fault.Fault.TheVariants.{EmptyCommand, TooManyCommands}

@@ -4,13 +4,13 @@ use Rattle.std.specs.List.{AllByRecursion, list_all, list_any, onto_first, take_
 use Rattle.std.specs.Str.{bytes_eq}
 use Rattle.std.specs.FinSet as set
 use Rattle.std.proofs.lemmas.List.Sums.{take_while-cons}
-use Rattle.moc_text.specs.Lines.{is_line_feed, lines_of}
+use Rattle.moc_text.specs.Lines.{is_line_feed, lines_of, is_semicolon}
 use Rattle.moc_ranges.specs.Numbers.{NumberSet}
 use Rattle.moc_parts.specs.declared.command.Command.{Command}
 use Rattle.moc_steps.specs.Locks.Step.{Begin}
 use Rattle.moc_lines.specs.Answers.{Rules, is_within, answers_to, after_lines, script_text}
 use Rattle.moc_lines.specs.Words.{is_blank_text, word_of, behind_word}
-use Rattle.moc_lines.specs.Batches.{is_semicolon, batch_of}
+use Rattle.moc_lines.specs.Batches.{batch_of}
 use Rattle.moc_lines.specs.Language.{◌>>=◌, command_of, command_by, plain_operand_of}
 use Rattle.moc_script.specs.Steps.{BatchStep, as_in_script, client_by, begin_of, other_step, said_by, said_step}
 use Rattle.moc_script.specs.Schedules.{Schedule, next_line, answer_to_step, after_said, last_lines, step_rules, start_schedule}

@@ -4,7 +4,7 @@ use Rattle.std.specs.Prelude.{Option, Some, Result, Ok, Err, if◌then◌else◌
 use Rattle.std.specs.FinSet as set
 use Rattle.std.specs.Io.KnownBytes.{Appends, Consumes, Keeps}
 use Rattle.moc_devices.specs.Devices.{CallsMore}
-use Rattle.moc_ranges.specs.Blocks.{joining}
+use Rattle.std.specs.List.{concat}
 use Rattle.moc_ranges.specs.Numbers.{NumberSet}
 use Rattle.moc_text.specs.Lines.{lines_of}
 use Rattle.moc_lines.specs.Words.{is_blank_text}
@@ -45,7 +45,7 @@ pub record IsCrewText (lanes : ℕ) (lines : List (List ℕ)) (text : List ℕ) 
   pub answers : List (List ℕ)
   pub merged : IsMerge order (dealt lanes lines)
   pub answered : IsMerge (answers_in script_rules set.empty order) (dealt lanes answers)
-  pub text_is : text ≡ joining answers ++ cover_line (left_by script_rules set.empty order)
+  pub text_is : text ≡ concat answers ++ cover_line (left_by script_rules set.empty order)
 
 -- the line of this number, counted from 1, is not blank
 pub record IsSaidLine (number : ℕ) (lines : List (List ℕ)) : Type 0 where
@@ -86,7 +86,7 @@ CrewFlushes (Err (Run error)) old new = Flushes (Err error) old new
 CrewFlushes (Err Spawn) old new = CallsMore old new 0
 
 -- lines that are not blank have as many answers, whatever the order was
-abbrev pub AreAllAnswered : Type 0
-AreAllAnswered =
+abbrev pub CrewsAnswerEachLine : Type 0
+CrewsAnswerEachLine =
     (lanes : ℕ) (lines : List (List ℕ)) (text : List ℕ) → 0 < lanes → (told : IsCrewText lanes lines text)
     → length told.answers ≡ length lines

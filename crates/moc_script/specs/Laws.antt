@@ -9,13 +9,14 @@ use Rattle.moc_parts.specs.Commands.{reply_on, set_after}
 use Rattle.moc_parts.specs.declared.command.Command.{Command}
 use Rattle.moc_steps.specs.Operations.{operations, midway}
 use Rattle.moc_steps.specs.World.{whole}
-use Rattle.moc_steps.specs.Explains.{Explains, result}
+use Rattle.moc_steps.specs.Explains.{Explains, set_by_order}
 use Rattle.moc_steps.specs.Laws.{ArePlayed, led_to}
 use Rattle.moc_lines.specs.Words.{is_blank_text}
 use Rattle.moc_lines.specs.Faults.{fault_answer}
 use Rattle.moc_lines.specs.Language.{◌>>=◌, plain_operand_of, command_by, command_of}
 use Rattle.moc_lines.specs.Replies.{reply_text}
-use Rattle.moc_lines.specs.Batches.{is_semicolon, batch_of, line_answer, after_line}
+use Rattle.moc_text.specs.Lines.{is_semicolon}
+use Rattle.moc_lines.specs.Batches.{batch_of, line_answer, after_line}
 use Rattle.moc_lines.specs.Answers.{Rules, after_lines, script_text}
 use Rattle.moc_lines.specs.Scripts.{line_limit, script_rules, answers_of}
 use Rattle.moc_script.specs.Steps.{BatchStep, said_by}
@@ -108,7 +109,7 @@ pub record StandInOrder (steps : List BatchStep) (s : Schedule) : Type 0 where
   -- as many clients are midway as operations
   pub counted : map.len s.world.locks.clients ≡ midway steps
   -- where none is midway, the set is what the operations make, done one by one in the order
-  pub together : midway steps ≡ 0 → whole batches s.world ≡ result batches s.world.order steps set.empty
+  pub together : midway steps ≡ 0 → whole batches s.world ≡ set_by_order batches s.world.order steps set.empty
 
 -- The steps that the lines of a schedule take lead to where it stands behind them, and its last lines explain them.
 abbrev pub SchedulesHaveOneOrder : Type 0

@@ -17,9 +17,7 @@ use Rattle.moc_script.specs.Refusals.{fault_name, refusal_name}
 use Rattle.moc_script.specs.Steps.{BatchStep, said_step}
 use Rattle.moc_lines.specs.Answers.{Rules, script_text}
 use Rattle.moc_lines.specs.Scripts.{line_limit}
-use Rattle.moc_lines.specs.Runs.{Runs}
 use Rattle.moc_script.specs.declared.fault.StepFault.{StepFault}
-use Rattle.moc_lines.specs.declared.run_error.RunError.{RunError}
 
 -- where a schedule stands
 pub record Schedule : Type 0 where
@@ -120,9 +118,3 @@ steps_taken s (line ∷ lines) = taken_by s line ++ steps_taken (schedule_rules.
 -- the text that a schedule is answered with
 abbrev pub schedule_text : List ℕ → List ℕ
 schedule_text input = script_text schedule_rules line_limit start_schedule input
-
--- of an input a run was given a front, and it wrote the answers that its outcome names
-abbrev pub RunsSchedule : List ℕ → Option (List ℕ) → Option (List ℕ) → Option (List ℕ) → Result (Unit {0}) RunError
-    → Type 0
-RunsSchedule input left written written' result =
-    Runs line_limit schedule_rules start_schedule input left written written' result

@@ -1,9 +1,9 @@
 //! Schedules of steps, played from a reader to a writer.
 ghost use Rattle.std.specs.Prelude.{◌≡◌, ◌⊎◌, IfSome, IsTrue, ◌↔◌, false, OnOk, OnErr, IsErrOf};
 ghost use Rattle.std.specs.Io.KnownBytes.{Appends, IsAtEnd};
-ghost use Rattle.moc_lines.specs.Runs.{WritesBeginning, Flushes};
+ghost use Rattle.moc_lines.specs.Runs.{Flushes, Runs, WritesBeginning};
 ghost use Rattle.moc_lines.specs.Scripts.{line_limit};
-ghost use Rattle.moc_script.specs.Schedules.{RunsSchedule, schedule_rules, schedule_text, start_schedule};
+ghost use Rattle.moc_script.specs.Schedules.{schedule_rules, schedule_text, start_schedule};
 
 use crate::player::Player;
 use moc_devices::{Sink, Source};
@@ -43,7 +43,8 @@ pub fn play<R: Source, W: Sink>(
 
     // What is written is the defined answers to what was read, as far as the outcome says.
     ensures plays { IfSome (R.left reader.old) (λ input.
-        RunsSchedule input (R.left reader.new) (W.written writer.old) (W.written writer.new) result) }
+        Runs line_limit schedule_rules start_schedule input
+        (R.left reader.new) (W.written writer.old) (W.written writer.new) result) }
 
     // So it is a beginning of the answers to the whole input, and all of them where no fault comes.
     ensures begins { IfSome (R.left reader.old) (λ input.

@@ -19,7 +19,8 @@ use Rattle.moc_shared.specs.declared.record.Record.{Record}
 use Rattle.moc_shared.specs.declared.record.Note.{Note}
 use Rattle.moc_shared.specs.declared.record.View.{View}
 use Rattle.moc_shared.specs.History.{entry, Fits, StandsFor, stood, result, IsLegal, IsHistory}
-use Rattle.moc_shared.specs.Rule.{index, IsSpare, note, records, Present, stood_in, IsFree, IsHeld, Holding, ViewFits, Kept, parts_of, IsOne}
+use Rattle.moc_shared.specs.Rule.{index, IsSpare, note, records, Present, stood_in, IsFree, IsHeld, Holding, ViewFits}
+use Rattle.moc_shared.specs.Rule.{Kept, noted_parts, IsOne}
 use Rattle.moc_shared.specs.Seats.{IsCarried}
 use Rattle.moc_shared.specs.Private.Answering.{Answers}
 use Rattle.moc_shared.specs.Private.Plays.{with_part, with_miss, with_holds, with_entry, behind_first, TookPart, Took, Gave, Ended, EndsCall}
@@ -405,24 +406,24 @@ module _ {S X O R Y : Type 0} (n : ℕ) (content : S → Y) (part : ℕ → X �
       (λ r h. (r, h, (λ g d m. m), (λ c st. st), (λ g d m. inl m)))
       (λ c. refl)
 
-  part_in : (ts : List (Note Y)) (b : ℕ) (y : Y) → Contains ts (note b y) → Contains (parts_of ts) b
+  part_in : (ts : List (Note Y)) (b : ℕ) (y : Y) → Contains ts (note b y) → Contains (noted_parts ts) b
   part_in [] b y h = absurd (none_in (note b y) h)
   part_in (t ∷ ts) b y h = ⊎_elim
-      (λ (e : t ≡ note b y). subst (λ (c : ℕ). Contains (parts_of (t ∷ ts)) c) (ap (λ (z : Note Y). z.part) e)
-      (here t.part (parts_of ts)))
-      (λ (c : Contains ts (note b y)). there t.part (parts_of ts) b (part_in ts b y c))
+      (λ (e : t ≡ note b y). subst (λ (c : ℕ). Contains (noted_parts (t ∷ ts)) c) (ap (λ (z : Note Y). z.part) e)
+      (here t.part (noted_parts ts)))
+      (λ (c : Contains ts (note b y)). there t.part (noted_parts ts) b (part_in ts b y c))
       (cons_cases t ts (note b y) h)
 
-  note_in : (ts : List (Note Y)) (b : ℕ) → Contains (parts_of ts) b → (y : Y) × Contains ts (note b y)
+  note_in : (ts : List (Note Y)) (b : ℕ) → Contains (noted_parts ts) b → (y : Y) × Contains ts (note b y)
   note_in [] b h = absurd (none_in b h)
   note_in (t ∷ ts) b h = ⊎_elim
       (λ (e : t.part ≡ b). (t.content, subst (λ (c : ℕ). Contains (t ∷ ts) (note c t.content)) e (here t ts)))
-      (λ (c : Contains (parts_of ts) b). let r = note_in ts b c in (r.0, there t ts (note b r.0) r.1))
-      (cons_cases t.part (parts_of ts) b h)
+      (λ (c : Contains (noted_parts ts) b). let r = note_in ts b c in (r.0, there t ts (note b r.0) r.1))
+      (cons_cases t.part (noted_parts ts) b h)
 
   ended_kept : (s : State S V) (k : Rule s) (id : ℕ) (v : V) (b : ℕ) (x : S) (notes : List (Note Y)) (op : O)
       (reply : R) → get_elem? s.views id ≡ some v → v.others ≡ [] → StandsFor v.mine v.mine.number
-      → parts_of v.holds ≡ b ∷ parts_of notes → ¬ Contains (parts_of notes) b
+      → noted_parts v.holds ≡ b ∷ noted_parts notes → ¬ Contains (noted_parts notes) b
       → Answers part answer proper op reply v.holds (note b (content x) ∷ notes)
       → Rule record {
         words = set s.words (index b) 0;
@@ -440,14 +441,14 @@ module _ {S X O R Y : Type 0} (n : ℕ) (content : S → Y) (part : ℕ → X �
       let deep = k.deep in
       let did = done A k.whole (λ c y h. (old.holding c y h).noted) in
       let set_is : result answer start log' ≡ (answer A op).0 = result_with answer start log e in
-      let in_old = λ (c : ℕ) (h : Contains (b ∷ parts_of notes) c). let r : (y : Y) × Contains v.holds (note c y) =
+      let in_old = λ (c : ℕ) (h : Contains (b ∷ noted_parts notes) c). let r : (y : Y) × Contains v.holds (note c y) =
       note_in v.holds c (subst (λ (l : List ℕ). Contains l c) (sym same_parts) h) in r in
-      let in_new = λ (c : ℕ) (y : Y) (h : Contains v.holds (note c y)). let r : Contains (b ∷ parts_of notes) c =
+      let in_new = λ (c : ℕ) (y : Y) (h : Contains v.holds (note c y)). let r : Contains (b ∷ noted_parts notes) c =
       subst (λ (l : List ℕ). Contains l c) same_parts (part_in v.holds c y h) in r in
-      let had = in_old b (here b (parts_of notes)) in
+      let had = in_old b (here b (noted_parts notes)) in
       let now = old.holding b had.0 had.1 in
       let within = now.within in
-      let unheld = λ (c : ℕ) (z : slice_index s.words (index c) ≡ 0). let r : ¬ Contains (parts_of v.holds) c =
+      let unheld = λ (c : ℕ) (z : slice_index s.words (index c) ≡ 0). let r : ¬ Contains (noted_parts v.holds) c =
       (λ h. let q = note_in v.holds c h in let d = (old.holding c q.0 q.1).word_is in absurd (omega arith)) in r in
       one_moved s k id v w at (set s.words (index b) 0) (set s.homes (index b) (some x)) log'
       (legal_with answer start log e k.legal (sym did.0))
@@ -469,8 +470,8 @@ module _ {S X O R Y : Type 0} (n : ℕ) (content : S → Y) (part : ℕ → X �
       (λ (f : IsFree content part A s.words s.homes c). let g = free_apart A s.words s.homes b 0 (some x) c ne f in
       inl (g.0, (g.1.0, g.1.1, g.1.2 ∙ sym (did.2 c (unheld c f.0)))))
       (λ (h : IsHeld s.views c). inr (still_held s.views id v w c at
-      (λ y i. ⊎_elim (λ (q : b ≡ c). absurd (ne (sym q))) (λ (t : Contains (parts_of notes) c). note_in notes c t)
-      (cons_cases b (parts_of notes) c (in_new c y i))) h))
+      (λ y i. ⊎_elim (λ (q : b ≡ c). absurd (ne (sym q))) (λ (t : Contains (noted_parts notes) c). note_in notes c t)
+      (cons_cases b (noted_parts notes) c (in_new c y i))) h))
       (k.each_part c l))))
       record {
         same_map = λ c p. old.same_map c (subst (λ (m : ℕ). 0 < m) (same_sums c) p);
@@ -481,10 +482,10 @@ module _ {S X O R Y : Type 0} (n : ℕ) (content : S → Y) (part : ℕ → X �
             (subst (λ (m : ℕ). 0 < m) (stood_with_call e v.mine log' c)
             (subst (λ (q : Record O R). StandsFor q c) (sym (only_mine w r alone h)) st));
         holding = λ c y h.
-            let i : Contains (parts_of notes) c = part_in notes c y h in
-            let z = in_old c (there b (parts_of notes) c i) in
+            let i : Contains (noted_parts notes) c = part_in notes c y h in
+            let z = in_old c (there b (noted_parts notes) c i) in
             let m = held_apart A s.words s.homes v b 0 (some x) c z.0 (old.holding c z.0 z.1)
-            (λ q. apart (subst (λ (j : ℕ). Contains (parts_of notes) j) q i)) in
+            (λ q. apart (subst (λ (j : ℕ). Contains (noted_parts notes) j) q i)) in
             record {
               within = m.within;
               word_is = m.word_is;
@@ -627,8 +628,8 @@ module _ {S X O R Y : Type 0} (n : ℕ) (content : S → Y) (part : ℕ → X �
       )
 
   pub ends_call : (slots id : ℕ) (me : M) (b : ℕ) (x : S) (cs : List (ℕ × S)) (e : Entry O R) (notes : Notes)
-      → IsOne me.0 → e.client ≡ me.0.mine.number → me.1 ≡ (index b, x) ∷ cs → parts_of me.0.holds ≡ b ∷ parts_of notes
-      → ¬ Contains (parts_of notes) b
+      → IsOne me.0 → e.client ≡ me.0.mine.number → me.1 ≡ (index b, x) ∷ cs → noted_parts me.0.holds ≡ b ∷ noted_parts notes
+      → ¬ Contains (noted_parts notes) b
       → Answers part answer proper e.operation e.reply me.0.holds (note b (content x) ∷ notes)
       → Allows Rule slots id me (index b) (λ _. 0) (λ _. Ended answer e notes (step slots (index b) 0 0 none) me 0)
   ends_call slots id me b x cs e notes one by carried same apart done s k deep at small =
@@ -690,7 +691,7 @@ module _ {S X O R Y : Type 0} (n : ℕ) (content : S → Y) (part : ℕ → X �
 
   pub ends_call_as : (slots id : ℕ) (me : M) (v : V) (i b : ℕ) (x : S) (cs : List (ℕ × S)) (e e' : Entry O R)
       (notes notes' : Notes) → i ≡ index b → e' ≡ e → notes' ≡ notes → (let now : M = (v, (i, x) ∷ cs) in me ≡ now)
-      → IsOne v → e.client ≡ v.mine.number → parts_of v.holds ≡ b ∷ parts_of notes → ¬ Contains (parts_of notes) b
+      → IsOne v → e.client ≡ v.mine.number → noted_parts v.holds ≡ b ∷ noted_parts notes → ¬ Contains (noted_parts notes) b
       → Answers part answer proper e.operation e.reply v.holds (note b (content x) ∷ notes)
       → Allows Rule slots id me i (λ _. 0) (λ _. Ended answer e' notes' (step slots i 0 0 none) me 0)
   ends_call_as slots id me v i b x cs e e' notes notes' at same_e same_notes is one by same apart done =
@@ -702,7 +703,7 @@ module _ {S X O R Y : Type 0} (n : ℕ) (content : S → Y) (part : ℕ → X �
   -- what the step tells, at a seat, a call and notes that are known
   pub ended_is : (slots i : ℕ) (me me' : M) (v : V) (x : S) (cs : List (ℕ × S)) (e e' : Entry O R)
       (notes notes' : Notes) → e' ≡ e → notes' ≡ notes → (let now : M = (v, (i, x) ∷ cs) in me ≡ now)
-      → map (λ c. c.0) cs ≡ map index (parts_of notes)
+      → map (λ c. c.0) cs ≡ map index (noted_parts notes)
       → Ended answer e' notes' (step {S = S} slots i 0 0 none) me 0 me' → IsCarried me'
       × EndsCall answer e notes v me'.0
   ended_is slots i me me' v x cs e e' notes notes' same_e same_notes is carried told =

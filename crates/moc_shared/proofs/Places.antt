@@ -6,7 +6,7 @@ use mathlib.Core.Logic.{dite}
 use native.Mathlib.Decide.{ℕ_discrete}
 use Rattle.moc_ranges.specs.Numbers.{NumberSet}
 use Rattle.moc_parts.specs.declared.command.Command.{Command}
-use Rattle.moc_shared.specs.Rule.{index, note, parts_of}
+use Rattle.moc_shared.specs.Rule.{index, note, noted_parts}
 use Rattle.moc_shared.specs.Seats.{Pointer, PartNote, Sight, shared, note_if, at_place, notes_below, IsCarried}
 use Rattle.moc_shared.specs.Private.Plays.{with_holds, with_miss, with_part, with_parts, behind_first}
 use Rattle.moc_parts.specs.Batches.{footprint_of_all}
@@ -101,7 +101,7 @@ all_given init me contents b is low carried =
     let zero_is : b ≡ 0 = omega arith in
     let now : me.0 ≡ with_holds init [] = is
     ∙ ap (with_holds init) (ap (notes_below contents) zero_is ∙ notes_none contents) in
-    let none : me.1 ≡ [] = none_carried me.1 (carried ∙ ap (λ (v : Sight). map index (parts_of v.holds)) now) in
+    let none : me.1 ≡ [] = none_carried me.1 (carried ∙ ap (λ (v : Sight). map index (noted_parts v.holds)) now) in
     λ i. (now i, none i)
 
 -- no content from b on: the notes are those below b
@@ -227,12 +227,12 @@ pub known_through : (init v : Sight) (notes : List (PartNote)) (h : ℕ) → v �
 known_through init v notes h is below apart =
     subst (λ (x : Sight). (h < x.clients) × ¬ StandsFor x.mine h) is (below, apart)
 
-note_of : (ts : List (PartNote)) (b : ℕ) → Contains (parts_of ts) b → (y : Option NumberSet) × Contains ts (note b y)
+note_of : (ts : List (PartNote)) (b : ℕ) → Contains (noted_parts ts) b → (y : Option NumberSet) × Contains ts (note b y)
 note_of [] b h = absurd (none_in b h)
 note_of (t ∷ ts) b h = ⊎_elim
     (λ (e : t.part ≡ b). (t.content, subst (λ (c : ℕ). Contains (t ∷ ts) (note c t.content)) e (here t ts)))
-    (λ (c : Contains (parts_of ts) b). let r = note_of ts b c in (r.0, there t ts (note b r.0) r.1))
-    (cons_cases t.part (parts_of ts) b h)
+    (λ (c : Contains (noted_parts ts) b). let r = note_of ts b c in (r.0, there t ts (note b r.0) r.1))
+    (cons_cases t.part (noted_parts ts) b h)
 
 -- once the last pointer is taken out, there is none from its place on
 pub none_from : (contents after : List (Option Pointer)) (b : ℕ) → b < length contents
@@ -259,14 +259,14 @@ top_note contents after b x within wide behind some taken =
     ∙ ap (λ (l : List (PartNote)). note b (shared x) ∷ l) (sym rest)
 
 pub apart_top : (after : List (Option Pointer)) (n b : ℕ) → at_place after b ≡ None
-    → Contains (parts_of (notes_below after n)) b → ⊥
+    → Contains (noted_parts (notes_below after n)) b → ⊥
 apart_top after n b none h = let q = note_of (notes_below after n) b h in let p = note_place after n b q.0 q.1 in
     let clash : Some p.0 ≡ None = sym p.1 ∙ none in absurd (cc)
 
-pub part_note : (ts : List PartNote) (b : ℕ) (y : Option NumberSet) → Contains ts (note b y) → Contains (parts_of ts) b
+pub part_note : (ts : List PartNote) (b : ℕ) (y : Option NumberSet) → Contains ts (note b y) → Contains (noted_parts ts) b
 part_note [] b y h = absurd (none_in (note b y) h)
 part_note (t ∷ ts) b y h = ⊎_elim
-    (λ (e : t ≡ note b y). subst (λ (c : ℕ). Contains (parts_of (t ∷ ts)) c) (ap (λ (z : PartNote). z.part) e)
-    (here t.part (parts_of ts)))
-    (λ (c : Contains ts (note b y)). there t.part (parts_of ts) b (part_note ts b y c))
+    (λ (e : t ≡ note b y). subst (λ (c : ℕ). Contains (noted_parts (t ∷ ts)) c) (ap (λ (z : PartNote). z.part) e)
+    (here t.part (noted_parts ts)))
+    (λ (c : Contains ts (note b y)). there t.part (noted_parts ts) b (part_note ts b y c))
     (cons_cases t ts (note b y) h)

@@ -7,20 +7,21 @@ use Rattle.std.proofs.lemmas.Bool.{cases_lt, cases_Bool}
 use Rattle.std.specs.List.{list_any}
 use Rattle.std.specs.Option.{unwrap_or}
 use Rattle.std.specs.FinSet as finset
-use Rattle.moc_ranges.specs.Numbers.{NumberSet, same_members}
+use Rattle.moc_ranges.specs.Numbers.{NumberSet}
+use Rattle.moc_ranges.specs.Lemmas.Members.{same_members, contains-part_of}
 use Rattle.moc_ranges.specs.Pixels.{base_pixel_size, pixels}
-use Rattle.moc_ranges.specs.Operations.{part_of, contains-part_of, IsWithin}
+use Rattle.moc_ranges.specs.Operations.{part_of, IsWithin}
 use Rattle.moc_parts.specs.Objects.{IsLocal, AgreeOn, base_pixel}
 use Rattle.moc_parts.specs.Parts.{union_of}
 use Rattle.moc_parts.specs.Commands.{is_update, set_after}
 use Rattle.moc_parts.specs.Batches.{batches, footprint_of_all, set_after_all, AreCommands}
-use Rattle.moc_parts.specs.Laws.{AreBatchesLocal}
+use Rattle.moc_parts.specs.Laws.{BatchesAreLocal}
 use Rattle.moc_parts.specs.Prepared.{AreChanges, AreRepliesTo, Preparation, kept, found_in}
 use Rattle.moc_parts.specs.declared.command.Command.{Command}
 use Rattle.moc_parts.specs.declared.command.Command.TheVariants.{Add, Remove, Keep, Claim, Invert, Degrade, Count, Read}
 use Rattle.moc_parts.specs.declared.command.Command.TheVariants.{Near}
 use Rattle.moc_parts.specs.declared.reply.Reply.{Reply}
-use Rattle.moc_shared.specs.Rule.{note, parts_of}
+use Rattle.moc_shared.specs.Rule.{note, noted_parts}
 use Rattle.moc_shared.specs.Seats.{Pointer, PartNote, content, shared, part, IsProper, at_place, note_if, notes_below, list_of, AreOwn, IsFootprint}
 use Rattle.moc_shared.specs.Private.Slots.{changed_content, lists_of, AreCopies, Edits, replies_to}
 use Rattle.moc_shared.specs.Batches.{answer}
@@ -42,8 +43,8 @@ some_content (Some p) = refl
 some_content None = refl
 
 -- rows of slots with pointers at the same places are noted with the same parts
-step_parts : (n : ℕ) (o u : Option Pointer) (xs ys : List PartNote) → is_some o ≡ is_some u → parts_of xs ≡ parts_of ys
-    → parts_of (note_if n o xs) ≡ parts_of (note_if n u ys)
+step_parts : (n : ℕ) (o u : Option Pointer) (xs ys : List PartNote) → is_some o ≡ is_some u → noted_parts xs ≡ noted_parts ys
+    → noted_parts (note_if n o xs) ≡ noted_parts (note_if n u ys)
 step_parts n (Some x) (Some y) xs ys same below = ap (λ (l : List ℕ). n ∷ l) below
 step_parts n (Some x) None xs ys same below = absurd (true≢false same)
 step_parts n None (Some y) xs ys same below = absurd (true≢false (sym same))
@@ -51,13 +52,13 @@ step_parts n None None xs ys same below = below
 
 pub parts_same : (xs ys : List (Option Pointer)) (n : ℕ)
     → ((b : ℕ) → b < n → is_some (at_place xs b) ≡ is_some (at_place ys b))
-    → parts_of (notes_below xs n) ≡ parts_of (notes_below ys n)
-parts_same xs ys zero each = ap (λ (l : List PartNote). parts_of l) (notes_none xs ∙ sym (notes_none ys))
+    → noted_parts (notes_below xs n) ≡ noted_parts (notes_below ys n)
+parts_same xs ys zero each = ap (λ (l : List PartNote). noted_parts l) (notes_none xs ∙ sym (notes_none ys))
 parts_same xs ys (suc n) each =
-    ap (λ (l : List PartNote). parts_of l) (notes_next xs n)
+    ap (λ (l : List PartNote). noted_parts l) (notes_next xs n)
     ∙ step_parts n (at_place xs n) (at_place ys n) (notes_below xs n) (notes_below ys n) (each n (omega arith))
     (parts_same xs ys n (λ b l. each b (omega arith)))
-    ∙ sym (ap (λ (l : List PartNote). parts_of l) (notes_next ys n))
+    ∙ sym (ap (λ (l : List PartNote). noted_parts l) (notes_next ys n))
 
 step_notes : (n : ℕ) (o u : Option Pointer) (xs ys : List PartNote) → content o ≡ content u → xs ≡ ys
     → note_if n o xs ≡ note_if n u ys
@@ -114,7 +115,7 @@ and_none false = refl
 pub same_part : (cs : List Command) (slots : List (Option Pointer)) (a b : NumberSet) → IsFootprint cs slots
     → IsWithin a pixels → IsWithin b pixels
     → ((q : ℕ) → footprint_of_all cs (base_pixel q) ≡ false → finset.contains b q ≡ finset.contains a q)
-    → (k : ℕ) → ¬ Contains (parts_of (notes_below slots 12)) k → part k b ≡ part k a
+    → (k : ℕ) → ¬ Contains (noted_parts (notes_below slots 12)) k → part k b ≡ part k a
 unfolding base_pixel part
 same_part cs slots a b whole v w out k none =
     ap (λ (s : NumberSet). Some s)
@@ -274,7 +275,7 @@ leaves cs found copies long own_found whole_found same query local =
     let u : NumberSet = union_of (lists_of copies) in
     let u_within = union_within copies long own in
     record {
-      same_parts = ap (λ (l : List PartNote). parts_of l) (sym (notes_same found copies 12 same));
+      same_parts = ap (λ (l : List PartNote). noted_parts l) (sym (notes_same found copies 12 same));
       answers = λ a v noted. (
         local.reply a u v u_within (λ q t. sym (agrees cs copies a long own whole v noted q t)),
         (λ b y h. noted b y
@@ -286,20 +287,20 @@ leaves cs found copies long own_found whole_found same query local =
     }
 
 pub noted_at : (slots : List (Option Pointer)) (b : ℕ) → b < 12 → is_some (at_place slots b) ≡ true
-    → Contains (parts_of (notes_below slots 12)) b
+    → Contains (noted_parts (notes_below slots 12)) b
 noted_at slots b l some = let s = some_is (at_place slots b) some in
     part_note (notes_below slots 12) b (shared s.0) (place_note slots 12 b s.0 l s.1)
 
 -- a footprint is not empty, and neither is what is made of it
 pub never_none : (found edited : List (Option Pointer)) (b : ℕ) → b < 12 → is_some (at_place found b) ≡ true
-    → parts_of (notes_below edited 12) ≡ parts_of (notes_below found 12) → ((k : ℕ) → at_place edited k ≡ None) → ⊥
+    → noted_parts (notes_below edited 12) ≡ noted_parts (notes_below found 12) → ((k : ℕ) → at_place edited k ≡ None) → ⊥
 never_none found edited b l some same none =
     let empty : notes_below edited 12 ≡ [] = notes_upto edited 0 12 (λ k l. none k) ∙ notes_none edited in
     none_in b
-    (subst (λ (l : List ℕ). Contains l b) (sym same ∙ ap (λ (l : List PartNote). parts_of l) empty)
+    (subst (λ (l : List ℕ). Contains l b) (sym same ∙ ap (λ (l : List PartNote). noted_parts l) empty)
     (noted_at found b l some))
 
-pub local_batch : (cs : List Command) → AreBatchesLocal → 0 < length cs → AreCommands cs → IsLocal batches cs
+pub local_batch : (cs : List Command) → BatchesAreLocal → 0 < length cs → AreCommands cs → IsLocal batches cs
 local_batch [] law some proper = absurd (omega arith)
 local_batch (c ∷ cs) law some proper = law c cs proper
 

@@ -7,9 +7,10 @@ use Rattle.std.proofs.lemmas.Bool.{cases_lt, cases_Bool, ltb-true}
 use Rattle.std.specs.Cmp.{nat_cmp_total}
 use Rattle.std.specs.Ordering.{nat_cmp}
 use Rattle.std.specs.FinSet as finset
-use Rattle.moc_ranges.specs.Numbers.{NumberSet, same_members}
+use Rattle.moc_ranges.specs.Numbers.{NumberSet}
+use Rattle.moc_ranges.specs.Lemmas.Members.{same_members, contains-part_of, contains-pixels}
 use Rattle.moc_ranges.specs.Pixels.{base_pixel_size, pixel_count, pixels}
-use Rattle.moc_ranges.specs.Operations.{part_of, contains-part_of, contains-pixels, IsWithin}
+use Rattle.moc_ranges.specs.Operations.{part_of, IsWithin}
 use Rattle.moc_parts.specs.Parts.{union_of, LieInParts}
 use Rattle.moc_shared.proofs.Owned.{part_again, own_none}
 use Rattle.moc_shared.specs.Seats.{Pointer, content, part, at_place, list_of, IsOwn, AreOwn}

@@ -27,7 +27,7 @@ IsMarked table v b =
 
 -- A part that a view notes as held is marked, in each table that keeps the rule. No step, join or split of other seats
 -- changes the view, and only who has a seat can step with it. So the parts of a holding that is abandoned stay held.
-pub record StayHeld : Type 0 where
+pub record AbandonedPartsStayHeld : Type 0 where
   pub marked : (start : NumberSet) (clients : ℕ) (table : Table) (seat : ℕ) (v : Sight) (b : ℕ) (y : Option NumberSet)
       → IsKept start clients table → HasView table.views seat v → Contains v.holds (note b y) → IsMarked table v b
   pub steps : (table : Table) (seat other : ℕ) (v w : Sight) (word number : ℕ) (carried : List (ℕ × Option Pointer))

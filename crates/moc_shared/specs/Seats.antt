@@ -14,11 +14,11 @@ use Rattle.moc_parts.specs.declared.command.Command.{Command}
 use Rattle.moc_parts.specs.declared.reply.Reply.{Reply}
 use Rattle.moc_shared.specs.declared.record.Note.{Note}
 use Rattle.moc_shared.specs.declared.record.View.{View}
-use Rattle.moc_shared.specs.Rule.{index, note, parts_of}
+use Rattle.moc_shared.specs.Rule.{index, note, noted_parts}
 
 -- the slots that the seat has are the parts that its view holds
 abbrev pub IsCarried : {S X O R Y : Type 0} → Me S (View X O R Y) → Type 0
-IsCarried m = map (λ c. c.0) m.1 ≡ map index (parts_of m.0.holds)
+IsCarried m = map (λ c. c.0) m.1 ≡ map index (noted_parts m.0.holds)
 
 -- a shared set
 abbrev pub Pointer : Type 0

@@ -18,14 +18,11 @@ corner_row n f X Y = row_factor f * n - X - Y
 unfoldable pub belt_column : ℕ → ℕ → ℕ → ℕ → ℕ
 belt_column n f X Y = column_at n f X Y
 
--- How many steps a corner m rows from a pole stands to the east of the western edge of its base pixel.
-abbrev pub steps_from_edge : ℕ → ℕ → ℕ → ℕ
-steps_from_edge m X Y = (X + m - Y) / 2
-
 -- The column of a corner m rows from a pole, in whole steps. The pole itself has the column 0; else 4m steps go round,
--- m for each of the four base pixels that meet at the pole.
+-- m for each of the four base pixels that meet at the pole, and half of X + m - Y lie to the east of the base pixel's
+-- own western edge.
 unfoldable pub polar_column : ℕ → ℕ → ℕ → ℕ → ℕ
-polar_column m f X Y = if m == 0 then 0 else ((f % 4 * m + steps_from_edge m X Y) % (4 * m))
+polar_column m f X Y = if m == 0 then 0 else ((f % 4 * m + (X + m - Y) / 2) % (4 * m))
 
 -- The column of the corner (X, Y) of base pixel f: in the belt for the rows n to 3n, else round the near pole.
 unfoldable pub corner_column : ℕ → ℕ → ℕ → ℕ → ℕ

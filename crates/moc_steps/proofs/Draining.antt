@@ -13,8 +13,8 @@ use Rattle.moc_steps.specs.World as machine
 use Rattle.moc_steps.specs.World.{world_after}
 use Rattle.moc_steps.specs.Laws.{IsReached}
 use Rattle.moc_steps.specs.Operations.{operations}
-use Rattle.moc_steps.specs.Progress.{AreProgress, is_progress, steps_of, steps_left}
-use Rattle.moc_steps.specs.Played.{World, LeadsOn}
+use Rattle.moc_steps.specs.Progress.{AreProgress, is_progress, steps_wanted, steps_left}
+use Rattle.moc_steps.specs.Played.{BatchWorld, LeadsOn}
 use Rattle.moc_steps.proofs.Basics.{same_or, length-map}
 use Rattle.moc_steps.proofs.Kept.{AreSmall}
 use Rattle.std.proofs.lemmas.Bool.Decides.{nat_tests}
@@ -33,7 +33,7 @@ length_on [] x = omega arith
 length_on (y ∷ xs) x = let k : length (xs ++ x ∷ []) ≡ length xs + 1 = length_on xs x in omega arith
 
 -- steps that lead on from a reached world
-on : (old new : World) (steps : List (locks.Step (List Command))) (n : ℕ) → IsReached batches old → length steps ≡ n → ArePermitted batches old.locks steps → AreProgress steps → machine.run batches old steps ≡ new → LeadsOn old n new
+on : (old new : BatchWorld) (steps : List (locks.Step (List Command))) (n : ℕ) → IsReached batches old → length steps ≡ n → ArePermitted batches old.locks steps → AreProgress steps → machine.run batches old steps ≡ new → LeadsOn old n new
 on old new steps n reached count permitted progress leads =
     let inv = reached_explained batches old reached in
     record {
@@ -43,20 +43,20 @@ on old new steps n reached count permitted progress leads =
       progress = progress;
       leads = leads;
       bounded = subst (λ k. k ≤ steps_left batches old.locks.clients) count (steps_bounded batches reached.start (operations reached.steps) old inv.0 inv.1 steps permitted progress);
-      ends = λ start before h e. ends_well batches start before steps h (subst (λ (w : World). ArePermitted batches w.locks steps) (sym e) permitted) progress;
+      ends = λ start before h e. ends_well batches start before steps h (subst (λ (w : BatchWorld). ArePermitted batches w.locks steps) (sym e) permitted) progress;
     }
 
-pub first_on : (old new : World) → IsReached batches old → new ≡ old → LeadsOn old 0 new
+pub first_on : (old new : BatchWorld) → IsReached batches old → new ≡ old → LeadsOn old 0 new
 first_on old new reached same = on old new [] 0 reached refl tt tt (sym same)
 
-pub next_on : (old world new : World) (n : ℕ) (step : locks.Step (List Command)) → IsReached batches old → LeadsOn old n world → refusal batches world.locks step ≡ None → is_progress step ≡ true
+pub next_on : (old world new : BatchWorld) (n : ℕ) (step : locks.Step (List Command)) → IsReached batches old → LeadsOn old n world → refusal batches world.locks step ≡ None → is_progress step ≡ true
     → new ≡ world_after batches world step → LeadsOn old (n + 1) new
 next_on old world new n step reached h permitted progress is =
     on old new (h.steps ++ step ∷ []) (n + 1) reached
     (length_on h.steps step ∙ ap (λ k. k + 1) h.count)
-    (permitted_on batches old h.steps (step ∷ []) h.permitted (ap (λ (w : World). refusal batches w.locks step) h.leads ∙ permitted, tt))
+    (permitted_on batches old h.steps (step ∷ []) h.permitted (ap (λ (w : BatchWorld). refusal batches w.locks step) h.leads ∙ permitted, tt))
     (progress_on h.steps (step ∷ []) h.progress (progress, tt))
-    (run_append batches old h.steps (step ∷ []) ∙ ap (λ (w : World). world_after batches w step) h.leads ∙ sym is)
+    (run_append batches old h.steps (step ∷ []) ∙ ap (λ (w : BatchWorld). world_after batches w step) h.leads ∙ sym is)
 
 -- The way to the end is short: at most 37 steps a client
 
@@ -77,13 +77,13 @@ count_twelve test =
     one true = omega arith
     one false = omega arith
 
-few : (x : Option (Running (List Command))) → steps_of batches x ≤ 37
+few : (x : Option (Running (List Command))) → steps_wanted batches x ≤ 37
 few None = omega arith
 few (Some r) = let k : count_by (batches.footprint r.command) twelve ≤ 12 = count_twelve (batches.footprint r.command) in omega arith
 
 left_short : (m : Clients (List Command)) → length (map.keys m) ≤ 2 ^ 32 → steps_left batches m < 2 ^ 64
 left_short m l =
-    let k : steps_left batches m ≤ 37 * length (map.keys m) = sum_short (λ c. steps_of batches (map.get m c)) 37 (λ c. few (map.get m c)) (map.keys m) in omega arith
+    let k : steps_left batches m ≤ 37 * length (map.keys m) = sum_short (λ c. steps_wanted batches (map.get m c)) 37 (λ c. few (map.get m c)) (map.keys m) in omega arith
 
 less_of : (x y : ℕ) → T (is_lt (nat_cmp x y)) → x < y
 less_of x y h = let t : nat_lt x y ≡ true = go (nat_lt x y) (nat_eq x y) h in grind (arith, nat_tests)

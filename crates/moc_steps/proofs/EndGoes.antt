@@ -11,7 +11,7 @@ use Rattle.moc_steps.specs.Locks.{Running, holds, holds_now, refusal, is_any, en
 use Rattle.moc_steps.specs.World.{world_after, running, answered, completed, replied, reply_to, ended_reply}
 use Rattle.moc_steps.specs.Explains.{names, times, is_committed}
 use Rattle.moc_steps.specs.Private.Standing.{Standing}
-use Rattle.moc_steps.specs.Played.{World, entry_of, entries_of}
+use Rattle.moc_steps.specs.Played.{BatchWorld, entry_of, entries_of}
 use Rattle.moc_steps.specs.Private.Worlds.{HasPlace, IsKept, world_of}
 use Rattle.moc_steps.specs.declared.step.Entry.{Entry}
 use Rattle.moc_steps.proofs.Basics.{clash, some_same, true_or_false, not_true_false, not_of_false, both, same_or, count-append, get-remove_same, get-remove_other}
@@ -110,7 +110,7 @@ module _ (n : ℕ) (m : Table) (ps : List NumberSet) (hs : List (Option ℕ)) (e
   pub end_goes : (c : ℕ) (s : Standing) (es' : List Entry) → map.get m c ≡ Some s → entries_of es' ≡ completed batches (world_of n m ps es) c (Some s.running)
       → refusal batches (world_of n m ps es).locks (locks.Step.End c) ≡ None → Goes n m ps es (locks.Step.End c) n (map.remove m c) ps hs es'
   end_goes c s es' has order_is h =
-      let v : World = world_of n m ps es in
+      let v : BatchWorld = world_of n m ps es in
       let none = end_permitted batches s.running (refused_not c s has h) in
       let is : world_of n (map.remove m c) ps es' ≡ world_after batches v (locks.Step.End c) = (λ i. record {
         locks = record { begun = n; clients = values-remove (λ (s : Standing). s.running) m c i };

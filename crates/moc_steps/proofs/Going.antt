@@ -13,7 +13,7 @@ use Rattle.moc_steps.specs.Locks.{Running, refusal, holds, holds_some, holder, n
 use Rattle.moc_steps.specs.World.{running}
 use Rattle.moc_steps.specs.Laws.{IsReached}
 use Rattle.moc_steps.specs.Progress.{is_progress, client_of}
-use Rattle.moc_steps.specs.Played.{World, step_of}
+use Rattle.moc_steps.specs.Played.{BatchWorld, step_of}
 use Rattle.moc_steps.specs.Private.Worlds.{IsFree, IsHighest}
 use Rattle.moc_steps.specs.declared.step.Step.{Step}
 use Rattle.std.specs.FinMap.{find}
@@ -34,7 +34,7 @@ none_of : (test : ℕ → Bool) (bs : List ℕ) → ((b : ℕ) → is_in b bs �
 none_of test [] h = refl
 none_of test (x ∷ bs) h = ap (λ t. t || list_any test bs) (h x (or_left (nat_eq x x) (is_in x bs) (eq-eqb x x refl))) ∙ none_of test bs (λ b i. h b (or_right (nat_eq x b) (is_in b bs) i))
 
-module _ (w : World) (c : ℕ) (r : Running (List Command)) (was : running batches w c ≡ Some r) where
+module _ (w : BatchWorld) (c : ℕ) (r : Running (List Command)) (was : running batches w c ≡ Some r) where
   -- the client of the highest part that is held
   pub holder_has : (b : ℕ) → IsHighest w c b → holds batches r b ≡ true
   holder_has b h =

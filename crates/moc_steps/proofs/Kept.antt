@@ -12,7 +12,7 @@ use Rattle.moc_steps.specs.World.{world_after, running}
 use Rattle.moc_steps.specs.Explains.{names}
 use Rattle.moc_steps.specs.Laws.{IsReached}
 use Rattle.moc_steps.specs.Private.Standing.{Standing}
-use Rattle.moc_steps.specs.Played.{World, entries_of}
+use Rattle.moc_steps.specs.Played.{BatchWorld, entries_of}
 use Rattle.moc_steps.specs.Private.Worlds.{HasPlace, IsKept, values_by, world_of}
 use Rattle.moc_steps.specs.declared.step.Entry.{Entry}
 use Rattle.moc_steps.proofs.Basics.{clash, some_same, none_or_some, not_true_false, same_or, get-insert_same, get-insert_other, get-remove_same, get-remove_other}
@@ -46,7 +46,7 @@ founds_same m c s s' is e =
     ∙ insert_again (founds_of m) c s.found (get-values (λ (s : Standing). s.found) m c ∙ ap (option_map (λ (s : Standing). s.found)) is)
 
 -- who holds a part
-pub holder_of : (w : World) → IsReached batches w → (c b : ℕ) (r : Running (List Command)) → running batches w c ≡ Some r → holds batches r b ≡ true → holder batches w.locks.clients b ≡ Some c
+pub holder_of : (w : BatchWorld) → IsReached batches w → (c b : ℕ) (r : Running (List Command)) → running batches w c ≡ Some r → holds batches r b ≡ true → holder batches w.locks.clients b ≡ Some c
 holder_of w reached c b r is h =
     let inv = reached_explained batches w reached in
     elim (none_or_some (holder batches w.locks.clients b)) [
@@ -68,7 +68,7 @@ of_now None b h = absurd (cc)
 of_now (Some r) b h = (r, refl, h)
 
 -- a step after which each client holds the part as before
-pub holder_same : (w w' : World) → IsReached batches w' → (b : ℕ) → ((q : ℕ) → holds_now batches (running batches w' q) b ≡ holds_now batches (running batches w q) b)
+pub holder_same : (w w' : BatchWorld) → IsReached batches w' → (b : ℕ) → ((q : ℕ) → holds_now batches (running batches w' q) b ≡ holds_now batches (running batches w q) b)
     → holder batches w'.locks.clients b ≡ holder batches w.locks.clients b
 holder_same w w' reached b same = elim (none_or_some (holder batches w.locks.clients b)) [
   | inl e ↦ holder_nobody w'.locks.clients b (λ q r is. not_true_false (holds batches r b) (λ h.
@@ -125,7 +125,7 @@ kept_on n n' m m' ps ps' hs hs' es es' step kept local small permitted is held p
     record {
       reached = reached;
       held = held reached;
-      small = subst (λ (w : World). AreSmall w.locks.clients) (sym is) (subst (λ (l : Locks (List Command)). AreSmall l.clients) (locks_are batches (world_of n m ps es) step) (small_step (world_of n m ps es).locks step kept.small small));
+      small = subst (λ (w : BatchWorld). AreSmall w.locks.clients) (sym is) (subst (λ (l : Locks (List Command)). AreSmall l.clients) (locks_are batches (world_of n m ps es) step) (small_step (world_of n m ps es).locks step kept.small small));
       placed = placed;
     }
 

@@ -23,7 +23,7 @@ use Rattle.moc_steps.specs.declared.step.Step.TheVariants as step
 use Rattle.moc_steps.specs.Progress.{client_of}
 use Rattle.moc_steps.specs.declared.table.Change.{Change}
 use Rattle.moc_steps.specs.declared.table.Change.TheVariants.{Take, Give, Quit}
-use Rattle.moc_steps.specs.Played.{World, entry_of, entries_of, step_of}
+use Rattle.moc_steps.specs.Played.{BatchWorld, entry_of, entries_of, step_of}
 use Rattle.moc_steps.specs.Private.Worlds.{HasPlace, IsKept, world_of}
 use Rattle.moc_steps.specs.declared.step.Entry.{Entry}
 use Rattle.moc_steps.proofs.Basics.{clash, some_same, true_or_false, not_true_false, not_of_false, is_some_of, or_false, or_right, and_true, both, same_or, same_set, has-empty, map_some_from, get_front, get_last, get-insert_same, get-insert_other, get_set_same, get_set_other, has-insert_same, has-insert_other}
@@ -57,7 +57,7 @@ later_place None ns k x ns' is h = h
 later_place (Some i) ns k x ns' is h = ap (λ ys. slice_get ys i) is ∙ get_front ns k x i h
 
 module _ (n : ℕ) (m : Table) (ps : List NumberSet) (hs : List (Option ℕ)) (es : List Entry) (kept : IsKept n m ps hs es) where
-  w : World
+  w : BatchWorld
   w = world_of n m ps es
 
   -- a client that is midway
@@ -189,7 +189,7 @@ module _ (n : ℕ) (m : Table) (ps : List NumberSet) (hs : List (Option ℕ)) (e
       → HasPlace (names (entries_of es')) s'.running s'.place → ((q : ℕ) (z : Standing) → map.get m q ≡ Some z → HasPlace (names (entries_of es')) z.running z.place)
       → refusal batches (world_of n m ps es).locks (locks.Step.Edit c b) ≡ None → Goes n m ps es (locks.Step.Edit c b) n (map.insert m c s') (set_at ps b list) hs es'
   edit_goes c b s s' list es' has run_is found_e list_is order_is own others h =
-      let v : World = world_of n m ps es in
+      let v : BatchWorld = world_of n m ps es in
       let parts_are : set_at ps b list ≡ edited_parts batches v c (running batches v c) b =
       ap (set_at ps b) (list_is ∙ ap (λ F. part_of (set_after_all F s.running.command) b) (sym (found_is c s has))) ∙ sym (ap (λ x. edited_parts batches v c x b) (runs c s has)) in
       let is : world_of n (map.insert m c s') (set_at ps b list) es' ≡ world_after batches v (locks.Step.Edit c b) = (λ i. record {
@@ -209,7 +209,7 @@ module _ (n : ℕ) (m : Table) (ps : List NumberSet) (hs : List (Option ℕ)) (e
   pub begin_goes : (c : ℕ) (op : List Command) → IsLocal batches op → c < 2 ^ 32 → refusal batches (world_of n m ps es).locks (locks.Step.Begin c op) ≡ None
       → Goes n m ps es (locks.Step.Begin c op) (suc n) (map.insert m c (record { running = begins batches n op; found = set.empty; place = None })) ps hs es
   begin_goes c op local l h =
-      let v : World = world_of n m ps es in
+      let v : BatchWorld = world_of n m ps es in
       let s' : Standing = record { running = begins batches n op; found = set.empty; place = None } in
       let idle : running batches v c ≡ None = idle_of batches v.locks (running batches v c) h in
       let is : world_of (suc n) (map.insert m c s') ps es ≡ world_after batches v (locks.Step.Begin c op) = (λ i. record {
@@ -248,7 +248,7 @@ module _ (n : ℕ) (m : Table) (ps : List NumberSet) (hs : List (Option ℕ)) (e
   pub has_place : (c : ℕ) (s : Standing) → map.get m c ≡ Some s → is_any s.running.edited ≡ true → is_some s.place ≡ true
   has_place c s has any = sym (kept.placed c s has).0 ∙ any
 
-  pub any_edited : (c : ℕ) (s : Standing) (v : World) → map.get m c ≡ Some s → world_of n m ps es ≡ v → IfSome (running batches v c) (λ r. is_any r.edited ≡ true) → is_any s.running.edited ≡ true
+  pub any_edited : (c : ℕ) (s : Standing) (v : BatchWorld) → map.get m c ≡ Some s → world_of n m ps es ≡ v → IfSome (running batches v c) (λ r. is_any r.edited ≡ true) → is_any s.running.edited ≡ true
   any_edited c s v has is h = subst (λ x. IfSome x (λ r. is_any r.edited ≡ true)) (ap (λ v. running batches v c) (sym is) ∙ runs c s has) h
 
   -- a client of which a test is asked is midway
@@ -287,7 +287,7 @@ module _ (n : ℕ) (m : Table) (ps : List NumberSet) (hs : List (Option ℕ)) (e
       (λ q z g. let p = kept.placed q z g in (p.0, later_place z.place (names (entries_of es)) e.begin z.running.operation (names (entries_of (es ++ e ∷ []))) names_are p.1))
       h
 
-  pub committed_at : (c : ℕ) (s : Standing) (v : World) → map.get m c ≡ Some s → world_of n m ps es ≡ v → is_some s.place ≡ true → IfSome (running batches v c) (λ r. is_any r.edited ≡ true)
+  pub committed_at : (c : ℕ) (s : Standing) (v : BatchWorld) → map.get m c ≡ Some s → world_of n m ps es ≡ v → is_some s.place ≡ true → IfSome (running batches v c) (λ r. is_any r.edited ≡ true)
   committed_at c s v has is some = subst (λ x. IfSome x (λ r. is_any r.edited ≡ true)) (sym (ap (λ v. running batches v c) (sym is) ∙ runs c s has)) ((kept.placed c s has).0 ∙ some)
 
   -- a client to which two things are done
@@ -310,7 +310,7 @@ module _ (n : ℕ) (m : Table) (ps : List NumberSet) (hs : List (Option ℕ)) (e
   changed_there m' c s x has is = ap (λ t. map.get t c) (is ∙ table_is m c s x has) ∙ get-insert_same m c (changed s x)
 
   -- the client that the table has, in the machine
-  pub seen_as : (k k' : ℕ) (v : World) (x : Option Standing) → world_of n m ps es ≡ v → k' ≡ k → map.get m k' ≡ x → running batches v k ≡ option_map (λ (s : Standing). s.running) x
+  pub seen_as : (k k' : ℕ) (v : BatchWorld) (x : Option Standing) → world_of n m ps es ≡ v → k' ≡ k → map.get m k' ≡ x → running batches v k ≡ option_map (λ (s : Standing). s.running) x
   seen_as k k' v x is same has = ap (λ v. running batches v k) (sym is) ∙ get-values (λ (s : Standing). s.running) m k ∙ ap (λ j. option_map (λ (s : Standing). s.running) (map.get m j)) (sym same) ∙ ap (option_map (λ (s : Standing). s.running)) has
 
 -- the step of an idle client, if it is no Begin

@@ -296,7 +296,7 @@ impl Midway {
 
 /// The parts of a batch's footprint, rising.
 fn parts_of(alloc: Global, batch: &Batch) -> Result<Vec<Part>, Memory>
-    ensures { IfOk result (λ v. v.items ≡ locks.parts_of batches batch.now) }
+    ensures { IfOk result (λ v. v.items ≡ locks.footprint_parts batches batch.now) }
 {
     let footprint = batch.footprint(alloc);
     let mut parts = Vec::new(alloc);

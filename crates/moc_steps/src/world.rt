@@ -37,8 +37,8 @@ pub struct World {
 }
 
 impl Model for World {
-    ghost use Rattle.moc_steps.specs.Codes.{world_code};
-    ghost use Rattle.moc_steps.specs.Played.{World as Played};
+    ghost use Rattle.moc_steps.specs.Private.Codes.{world_code};
+    ghost use Rattle.moc_steps.specs.Played.{BatchWorld as Played};
     ghost use Rattle.moc_steps.specs.Private.Worlds.{world_of, IsKept};
 
     ghost Value = { Played };

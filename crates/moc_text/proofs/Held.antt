@@ -4,7 +4,7 @@ use Rattle.std.specs.Char.{is_ascii_digit, digit_value}
 use Rattle.std.specs.Int.{IsInRange}
 use Rattle.std.specs.Option.{ForSome}
 use Rattle.std.proofs.lemmas.Bool.{ltb-true, ltb-false}
-use Rattle.moc_text.specs.Ascii.{order_at, last_of, mark_fault, item_fault, item_pixels}
+use Rattle.moc_text.specs.Ascii.{order_in_force, last_of, mark_fault, item_fault, item_pixels}
 use Rattle.moc_sphere.specs.CellNumber.{cell_count}
 use Rattle.moc_ranges.specs.Cells.{spans}
 use Rattle.moc_text.specs.declared.ascii.error.TextError.{TextError}
@@ -81,7 +81,7 @@ order_small n h =
       | false ↦ λ e k. ltb-false 29 n.value e
     ] refl h
 
-pub order_at-held : (before : Option ℕ) (m : Option Number) → mark_fault m ≡ None → order_at before (held_last m) ≡ order_at before m
+pub order_at-held : (before : Option ℕ) (m : Option Number) → mark_fault m ≡ None → order_in_force before (held_last m) ≡ order_in_force before m
 order_at-held before None h = refl
 order_at-held before (Some n) h = ap (λ (v : ℕ). Some v) (held_below (2 ^ 64 - 1) 30 n.value (omega (arith, order_small n h)) (omega arith))
 

@@ -6,10 +6,12 @@ use Rattle.serde_json.specs.Data.{Data, Items, item, Members, member}
 use Rattle.serde_json.specs.Find.{as_array, as_object}
 use Rattle.serde_json.specs.Read.{read}
 use Rattle.moc_ranges.specs.Numbers.{NumberSet}
-use Rattle.moc_ranges.specs.Laws.{union-assoc}
+use Rattle.moc_ranges.specs.Lemmas.{union-assoc}
 use Rattle.moc_text.specs.Ascii.{deeper}
 use Rattle.moc_text.specs.Faults.{Fails}
-use Rattle.moc_text.specs.JsonForm.{order_of_name, whole, cell_pixels, item_fault, items_pixels, items_fault, array_pixels, name_fault, members_pixels, members_fault, object_fault, deepest_name, IsJson, SaysJson, IsJsonFault}
+use Rattle.moc_text.specs.JsonForm.{order_of_name, whole_number, cell_pixels, element_fault, items_pixels}
+use Rattle.moc_text.specs.JsonForm.{elements_fault, array_pixels, name_fault, members_pixels, members_fault}
+use Rattle.moc_text.specs.JsonForm.{object_fault, deepest_name, IsJson, SaysJson, IsJsonFault}
 use Rattle.moc_text.specs.declared.json_form.error.JsonError.{JsonError}
 use Rattle.moc_text.proofs.ReadWords.{deeper_assoc}
 
@@ -20,11 +22,11 @@ first_fails m e f later (inr h) = inr (rw h refl)
 
 -- ---- items
 
-pub item_fine : (k name place : ℕ) (d : Data) (ds : Items) → item_fault k name place (whole d) ≡ None → items_fault k name (place + 1) ds ≡ items_fault k name place (item d ds)
-item_fine k name place d ds h = sym (ap (λ f. option_or f (items_fault k name (place + 1) ds)) h)
+pub item_fine : (k name place : ℕ) (d : Data) (ds : Items) → element_fault k name place (whole_number d) ≡ None → elements_fault k name (place + 1) ds ≡ elements_fault k name place (item d ds)
+item_fine k name place d ds h = sym (ap (λ f. option_or f (elements_fault k name (place + 1) ds)) h)
 
-pub item_added : (k : ℕ) (old new : NumberSet) (d : Data) (ds : Items) → new ≡ set.union old (cell_pixels k (whole d)) → set.union new (items_pixels k ds) ≡ set.union old (items_pixels k (item d ds))
-item_added k old new d ds h = ap (λ (a : NumberSet). set.union a (items_pixels k ds)) h ∙ union-assoc old (cell_pixels k (whole d)) (items_pixels k ds)
+pub item_added : (k : ℕ) (old new : NumberSet) (d : Data) (ds : Items) → new ≡ set.union old (cell_pixels k (whole_number d)) → set.union new (items_pixels k ds) ≡ set.union old (items_pixels k (item d ds))
+item_added k old new d ds h = ap (λ (a : NumberSet). set.union a (items_pixels k ds)) h ∙ union-assoc old (cell_pixels k (whole_number d)) (items_pixels k ds)
 
 -- ---- members
 

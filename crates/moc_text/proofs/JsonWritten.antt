@@ -26,15 +26,17 @@ use Rattle.serde_json.specs.Read.{read, of_json, max_depth}
 use Rattle.serde_json.specs.Written.{outline, items_outline, members_outline, compact_text}
 use Rattle.serde_json.proofs.Texts.{print-outline}
 use Rattle.moc_sphere.specs.CellNumber.{CellNumber, cell_number, cell_count, IsCell}
-use Rattle.moc_ranges.specs.Numbers.{NumberSet, same_members}
+use Rattle.moc_ranges.specs.Numbers.{NumberSet}
+use Rattle.moc_ranges.specs.Lemmas.Members.{same_members}
 use Rattle.moc_ranges.specs.Pixels.{pixels}
 use Rattle.moc_ranges.specs.Operations.{IsWithin}
 use Rattle.moc_ranges.specs.Cells.{span, pixels_of, is_cell_of, cells_below, cells_of}
-use Rattle.moc_ranges.specs.Laws.Cells.{cells_are}
-use Rattle.moc_ranges.specs.Laws.{cells_fill}
+use Rattle.moc_ranges.specs.Lemmas.Cells.{cells_are}
+use Rattle.moc_ranges.specs.Lemmas.{cells_fill}
 use Rattle.moc_text.specs.Ascii.{deeper, IsNumber}
 use Rattle.moc_text.specs.AsciiText.{HasDeeper, IsTooCoarse, deepest_cell, deepest_written, stated_beyond}
-use Rattle.moc_text.specs.JsonForm.{order_of_name, items_pixels, items_fault, array_pixels, name_fault, members_pixels, members_fault, deepest_name, SaysJson}
+use Rattle.moc_text.specs.JsonForm.{order_of_name, items_pixels, elements_fault, array_pixels, name_fault}
+use Rattle.moc_text.specs.JsonForm.{members_pixels, members_fault, deepest_name, SaysJson}
 use Rattle.moc_text.specs.JsonText.{datum, data_at, is_bare, is_name, with_order, members_below, members_of_cells, json_value, json_text}
 use Rattle.moc_text.specs.Private.JsonWriting.{members_along, orders_by_name}
 use Rattle.moc_text.specs.Private.AsciiWriting.{AreRising}
@@ -148,10 +150,10 @@ shallow a stated =
 abbrev of_order : ℕ → List CellNumber → List CellNumber
 of_order k cells = filter (λ c. eqb c.order k) cells
 
-order_fine : (k name place : ℕ) (cells : List CellNumber) → AllByRecursion IsCell cells → items_fault k name place (items_of (map datum (of_order k cells))) ≡ None
+order_fine : (k name place : ℕ) (cells : List CellNumber) → AllByRecursion IsCell cells → elements_fault k name place (items_of (map datum (of_order k cells))) ≡ None
 order_fine k name place [] h = refl
 order_fine k name place (c ∷ cells) h =
-    elim (eqb c.order k) as (λ v. eqb c.order k ≡ v → items_fault k name place (items_of (map datum (cond v (c ∷ of_order k cells) (of_order k cells)))) ≡ None) [
+    elim (eqb c.order k) as (λ v. eqb c.order k ≡ v → elements_fault k name place (items_of (map datum (cond v (c ∷ of_order k cells) (of_order k cells)))) ≡ None) [
       | true ↦ λ e.
           let is : c.order ≡ k = eqb-true c.order k e in
           let fits : ltb c.index (cell_count k) ≡ true = lt-ltb c.index (cell_count k) (subst (λ j. c.index < cell_count j) is (h.0).index_in_range) in

@@ -4,7 +4,10 @@ use Rattle.std.specs.Char.{is_ascii_digit}
 use Rattle.std.specs.Str.{all_ascii_digits}
 use Rattle.std.proofs.lemmas.List.{append-nil}
 use Rattle.std.proofs.lemmas.Bool.Decides.{nat_tests}
-use Rattle.moc_text.specs.Ascii.{Word, words, IsNumber, Mark, prefix, Cells, One, Run, cells_text, AreCells, Shape, JustMark, JustItem, MarkItem, shape_text, IsShape, IsLawful, ShapeFaultAt, HasShapeFault, parts_at, Means, order_at, order_after, fault_of, AreRead, IsFault, IsFirstFault, Says, pixels_said, deepest_of}
+use Rattle.moc_text.specs.Ascii.{Word, words, IsNumber, Mark, prefix, Cells, One, Run, cells_text, AreCells, Shape}
+use Rattle.moc_text.specs.Ascii.{JustMark, JustItem, MarkItem, shape_text, IsShape, IsLawful, ShapeFaultAt}
+use Rattle.moc_text.specs.Ascii.{HasShapeFault, parts_at, Means, order_in_force, order_after, fault_of, AreRead}
+use Rattle.moc_text.specs.Ascii.{IsFault, IsFirstFault, Says, pixels_said, deepest_of}
 use Rattle.moc_ranges.specs.Numbers.{NumberSet}
 use Rattle.moc_text.specs.Private.Scan.{front_digits, past_digits, after_byte, starts_with_digit}
 use Rattle.moc_text.specs.declared.ascii.number.Parts.{Parts}
@@ -173,7 +176,7 @@ one_read before (w ∷ ws) [] ns x y = absurd x
 one_read before (w ∷ ws) (m ∷ ms) [] x y = absurd y
 one_read before (w ∷ ws) (m ∷ ms) (n ∷ ns) x y =
     let e : m ≡ n = one_meaning w m n x.0 y.0 in
-    let t : ms ≡ ns = one_read (order_at before n.mark) ws ms ns (subst (λ (k : Parts). AreRead (order_at before k.mark) ws ms) e x.2) y.2 in
+    let t : ms ≡ ns = one_read (order_in_force before n.mark) ws ms ns (subst (λ (k : Parts). AreRead (order_in_force before k.mark) ws ms) e x.2) y.2 in
     ap (λ (k : Parts). k ∷ ms) e ∙ ap (λ (r : List Parts). n ∷ r) t
 
 read_or_faulty : (before : Option ℕ) (good : List Word) (w : Word) (others : List Word) (ms ns : List Parts) (f : TextError) → AreRead before (good ++ w ∷ others) ns → AreRead before good ms → IsFault (order_after before ms) w f → ⊥
@@ -184,7 +187,7 @@ read_or_faulty before (v ∷ good) w others [] ns f x y z = y
 read_or_faulty before (v ∷ good) w others (m ∷ ms) [] f x y z = x
 read_or_faulty before (v ∷ good) w others (m ∷ ms) (n ∷ ns) f x y z =
     let e : m ≡ n = one_meaning v m n y.0 x.0 in
-    read_or_faulty (order_at before n.mark) good w others ms ns f x.2 (subst (λ (k : Parts). AreRead (order_at before k.mark) good ms) e y.2) (subst (λ (k : Parts). IsFault (order_after (order_at before k.mark) ms) w f) e z)
+    read_or_faulty (order_in_force before n.mark) good w others ms ns f x.2 (subst (λ (k : Parts). AreRead (order_in_force before k.mark) good ms) e y.2) (subst (λ (k : Parts). IsFault (order_after (order_in_force before k.mark) ms) w f) e z)
 
 first_fault : (before : Option ℕ) (a b : List Word) (v w : Word) (x y : List Word) (ms ns : List Parts) (f g : TextError) → a ++ v ∷ x ≡ b ++ w ∷ y → AreRead before a ms → AreRead before b ns → IsFault (order_after before ms) v f → IsFault (order_after before ns) w g → f ≡ g
 first_fault before [] [] v w x y [] [] f g e ra rb p q =
@@ -208,7 +211,7 @@ first_fault before (c ∷ a) (d ∷ b) v w x y (m ∷ ms) (n ∷ ns) f g e ra rb
     let h : c ≡ d = cc in
     let t : a ++ v ∷ x ≡ b ++ w ∷ y = cc in
     let k : m ≡ n = one_meaning d m n (subst (λ (z : Word). Means z m) h ra.0) rb.0 in
-    first_fault (order_at before n.mark) a b v w x y ms ns f g t (subst (λ (z : Parts). AreRead (order_at before z.mark) a ms) k ra.2) rb.2 (subst (λ (z : Parts). IsFault (order_after (order_at before z.mark) ms) v f) k p) q
+    first_fault (order_in_force before n.mark) a b v w x y ms ns f g t (subst (λ (z : Parts). AreRead (order_in_force before z.mark) a ms) k ra.2) rb.2 (subst (λ (z : Parts). IsFault (order_after (order_in_force before z.mark) ms) v f) k p) q
 
 pub one_set : (text : List ℕ) (a b : NumberSet) (j k : Option ℕ) → Says text a j → Says text b k → (a ≡ b) × (j ≡ k)
 one_set text a b j k x y =

@@ -1,7 +1,8 @@
 -- Cells and their pixels within 64 bits.
 use Rattle.std.proofs.Common.{ℕ, ◌*◌, ◌^◌, ◌<◌, ◌≤◌, arith, lit<}
 use Rattle.std.proofs.Math.Nat.{pow-le-pow_right, mul-le-mul_right}
-use Rattle.moc_sphere.specs.CellNumber.{cell_count, cell_size, cell_size-fills}
+use Rattle.moc_sphere.specs.CellNumber.{cell_count, cell_size}
+use Rattle.moc_sphere.specs.Lemmas.{cell_size-fills}
 use Rattle.moc_ranges.specs.Pixels.{pixel_count}
 
 four-pow-le : (k : ℕ) → k ≤ 29 → 4 ^ k ≤ 4 ^ 29

@@ -4,9 +4,11 @@ use Rattle.std.specs.List.{take_while}
 use Rattle.std.specs.Option.{option_or}
 use Rattle.std.specs.FinSet as set
 use Rattle.std.proofs.lemmas.List.{append-nil}
-use Rattle.moc_text.specs.Ascii.{is_separator, Word, words, words_from, Shape, shape_text, IsShape, parts_at, Means, order_at, order_after, mark_fault, item_fault, fault_of, item_pixels, pixels_said, deeper, deepest_of, AreRead, HasShapeFault, IsFirstFault, Says}
+use Rattle.moc_text.specs.Ascii.{is_separator, Word, words, words_from, Shape, shape_text, IsShape, parts_at, Means}
+use Rattle.moc_text.specs.Ascii.{order_in_force, order_after, mark_fault, item_fault, fault_of, item_pixels}
+use Rattle.moc_text.specs.Ascii.{pixels_said, deeper, deepest_of, AreRead, HasShapeFault, IsFirstFault, Says}
 use Rattle.moc_ranges.specs.Numbers.{NumberSet}
-use Rattle.moc_ranges.specs.Laws.{union-assoc, empty-union, union-empty}
+use Rattle.moc_ranges.specs.Lemmas.{union-assoc, empty-union, union-empty}
 use Rattle.moc_text.specs.Private.Scan.{is_end, scan_word}
 use Rattle.moc_text.specs.Private.AsciiReading.{Progress}
 use Rattle.moc_text.specs.declared.ascii.number.Number.{Number}
@@ -21,19 +23,19 @@ use Rattle.moc_text.proofs.Scanning.{Scanned, WordOutcome, word_outcome}
 
 AreRead_push : (before : Option ℕ) (ws : List Word) (ns : List Parts) (w : Word) (n : Parts) → AreRead before ws ns → Means w n → fault_of (order_after before ns) w.at n ≡ None → AreRead before (ws ++ w ∷ []) (ns ++ n ∷ [])
 AreRead_push before [] [] w n h m f = (m, f, tt)
-AreRead_push before (v ∷ ws) (k ∷ ns) w n h m f = (h.0, h.1, AreRead_push (order_at before k.mark) ws ns w n h.2 m f)
+AreRead_push before (v ∷ ws) (k ∷ ns) w n h m f = (h.0, h.1, AreRead_push (order_in_force before k.mark) ws ns w n h.2 m f)
 AreRead_push before [] (k ∷ ns) w n h m f = absurd h
 AreRead_push before (v ∷ ws) [] w n h m f = absurd h
 
-order_after_push : (before : Option ℕ) (ns : List Parts) (n : Parts) → order_after before (ns ++ n ∷ []) ≡ order_at (order_after before ns) n.mark
+order_after_push : (before : Option ℕ) (ns : List Parts) (n : Parts) → order_after before (ns ++ n ∷ []) ≡ order_in_force (order_after before ns) n.mark
 order_after_push before [] n = refl
-order_after_push before (k ∷ ns) n = order_after_push (order_at before k.mark) ns n
+order_after_push before (k ∷ ns) n = order_after_push (order_in_force before k.mark) ns n
 
-pixels_said_push : (before : Option ℕ) (ns : List Parts) (n : Parts) → pixels_said before (ns ++ n ∷ []) ≡ set.union (pixels_said before ns) (item_pixels (order_at (order_after before ns) n.mark) n.item)
-pixels_said_push before [] n = union-empty (item_pixels (order_at before n.mark) n.item) ∙ sym (empty-union (item_pixels (order_at before n.mark) n.item))
+pixels_said_push : (before : Option ℕ) (ns : List Parts) (n : Parts) → pixels_said before (ns ++ n ∷ []) ≡ set.union (pixels_said before ns) (item_pixels (order_in_force (order_after before ns) n.mark) n.item)
+pixels_said_push before [] n = union-empty (item_pixels (order_in_force before n.mark) n.item) ∙ sym (empty-union (item_pixels (order_in_force before n.mark) n.item))
 pixels_said_push before (k ∷ ns) n =
-    ap (set.union (item_pixels (order_at before k.mark) k.item)) (pixels_said_push (order_at before k.mark) ns n)
-    ∙ sym (union-assoc (item_pixels (order_at before k.mark) k.item) (pixels_said (order_at before k.mark) ns) _)
+    ap (set.union (item_pixels (order_in_force before k.mark) k.item)) (pixels_said_push (order_in_force before k.mark) ns n)
+    ∙ sym (union-assoc (item_pixels (order_in_force before k.mark) k.item) (pixels_said (order_in_force before k.mark) ns) _)
 
 pub deeper_assoc : (a b c : Option ℕ) → deeper (deeper a b) c ≡ deeper a (deeper b c)
 deeper_assoc None b c = refl
@@ -45,9 +47,9 @@ pub deeper-None : (a : Option ℕ) → deeper a None ≡ a
 deeper-None None = refl
 deeper-None (Some i) = refl
 
-deepest_of_push : (ns : List Parts) (n : Parts) → deepest_of (ns ++ n ∷ []) ≡ deeper (deepest_of ns) (order_at None n.mark)
-deepest_of_push [] n = deeper-None (order_at None n.mark)
-deepest_of_push (k ∷ ns) n = ap (deeper (order_at None k.mark)) (deepest_of_push ns n) ∙ sym (deeper_assoc (order_at None k.mark) (deepest_of ns) (order_at None n.mark))
+deepest_of_push : (ns : List Parts) (n : Parts) → deepest_of (ns ++ n ∷ []) ≡ deeper (deepest_of ns) (order_in_force None n.mark)
+deepest_of_push [] n = deeper-None (order_in_force None n.mark)
+deepest_of_push (k ∷ ns) n = ap (deeper (order_in_force None k.mark)) (deepest_of_push ns n) ∙ sym (deeper_assoc (order_in_force None k.mark) (deepest_of ns) (order_in_force None n.mark))
 
 -- ---- the loop
 
@@ -109,7 +111,7 @@ first_none : (f g : Option TextError) → option_or f g ≡ None → f ≡ None
 first_none None g h = refl
 first_none (Some f) g h = absurd cc
 
-pub small_order : (before : Option ℕ) (m : Option Number) → IsSmall before → mark_fault m ≡ None → IsSmall (order_at before m)
+pub small_order : (before : Option ℕ) (m : Option Number) → IsSmall before → mark_fault m ≡ None → IsSmall (order_in_force before m)
 small_order before None small h = small
 small_order before (Some n) small h = λ k e.
     let is : n.value ≡ k = cc in
@@ -119,7 +121,7 @@ order_after_small : (before : Option ℕ) (ws : List Word) (ns : List Parts) →
 order_after_small before [] [] small h = small
 order_after_small before [] (n ∷ ns) small h = absurd h
 order_after_small before (w ∷ ws) [] small h = absurd h
-order_after_small before (w ∷ ws) (n ∷ ns) small h = order_after_small (order_at before n.mark) ws ns (small_order before n.mark small (first_none (mark_fault n.mark) (item_fault (order_at before n.mark) w.at n.item) h.1)) h.2
+order_after_small before (w ∷ ws) (n ∷ ns) small h = order_after_small (order_in_force before n.mark) ws ns (small_order before n.mark small (first_none (mark_fault n.mark) (item_fault (order_in_force before n.mark) w.at n.item) h.1)) h.2
 
 none_small : IsSmall None
 none_small k e = absurd cc
@@ -144,29 +146,29 @@ no_fault f g h k = rw h k
 
 pub progress_word : (text rest : List ℕ) (a : NumberSet) (order deepest : Option ℕ) (n : Parts) (after : List ℕ) (a' : NumberSet) (order' deepest' : Option ℕ)
     → IsSmall order → Progress text rest a order deepest → Scanned (length text) rest n after
-    → mark_fault n.mark ≡ None → order' ≡ order_at order n.mark → deepest' ≡ deeper deepest (order_at None n.mark)
+    → mark_fault n.mark ≡ None → order' ≡ order_in_force order n.mark → deepest' ≡ deeper deepest (order_in_force None n.mark)
     → item_fault order' (length text - length rest) n.item ≡ None → a' ≡ set.union a (item_pixels order' n.item)
     → Progress text after a' order' deepest'
 progress_word text rest a order deepest n after a' order' deepest' small p s mf oi di if si =
     let at = length text - length rest in
     let t = parts_at at s.shape in
     let mark : mark_fault t.mark ≡ None = sym (mark_fault-held t.mark) ∙ ap (λ (x : Parts). mark_fault x.mark) (sym s.is) ∙ mf in
-    let o : order' ≡ order_at order t.mark = oi ∙ ap (λ (x : Parts). order_at order x.mark) s.is ∙ order_at-held order t.mark mark in
-    let small' : IsSmall (order_at order t.mark) = small_order order t.mark small mark in
-    let item : item_fault (order_at order t.mark) at t.item ≡ None = sym (item_fault-held (order_at order t.mark) at t.item small') ∙ ap (λ k. item_fault k at (held_maybe t.item)) (sym o) ∙ ap (λ (x : Parts). item_fault order' at x.item) (sym s.is) ∙ if in
-    let added : a' ≡ set.union a (item_pixels (order_at order t.mark) t.item) = si ∙ ap (set.union a) (ap (λ (x : Parts). item_pixels order' x.item) s.is ∙ ap (λ k. item_pixels k (held_maybe t.item)) o ∙ item_pixels-held (order_at order t.mark) at t.item small' item) in
-    let d : deepest' ≡ deeper deepest (order_at None t.mark) = di ∙ ap (deeper deepest) (ap (λ (x : Parts). order_at None x.mark) s.is ∙ order_at-held None t.mark mark) in
+    let o : order' ≡ order_in_force order t.mark = oi ∙ ap (λ (x : Parts). order_in_force order x.mark) s.is ∙ order_at-held order t.mark mark in
+    let small' : IsSmall (order_in_force order t.mark) = small_order order t.mark small mark in
+    let item : item_fault (order_in_force order t.mark) at t.item ≡ None = sym (item_fault-held (order_in_force order t.mark) at t.item small') ∙ ap (λ k. item_fault k at (held_maybe t.item)) (sym o) ∙ ap (λ (x : Parts). item_fault order' at x.item) (sym s.is) ∙ if in
+    let added : a' ≡ set.union a (item_pixels (order_in_force order t.mark) t.item) = si ∙ ap (set.union a) (ap (λ (x : Parts). item_pixels order' x.item) s.is ∙ ap (λ k. item_pixels k (held_maybe t.item)) o ∙ item_pixels-held (order_in_force order t.mark) at t.item small' item) in
+    let d : deepest' ≡ deeper deepest (order_in_force None t.mark) = di ∙ ap (deeper deepest) (ap (λ (x : Parts). order_in_force None x.mark) s.is ∙ order_at-held None t.mark mark) in
     let w : Word = record { at = at; bytes = shape_text s.shape } in
-    let fault : fault_of (order_after None p.numbers) at t ≡ None = ap (λ k. fault_of k at t) (sym p.order_is) ∙ no_fault (mark_fault t.mark) (item_fault (order_at order t.mark) at t.item) mark item in
+    let fault : fault_of (order_after None p.numbers) at t ≡ None = ap (λ k. fault_of k at t) (sym p.order_is) ∙ no_fault (mark_fault t.mark) (item_fault (order_in_force order t.mark) at t.item) mark item in
     record {
       good = p.good ++ w ∷ [];
       numbers = p.numbers ++ t ∷ [];
       within = omega (arith, p.within, after_shorter (length text) rest n after s);
       parts = p.parts ∙ ap (λ (ws : List Word). p.good ++ ws) (words_scanned text rest n after p.within s) ∙ sym (append_assoc p.good (w ∷ []) (words_from (length text - length after) after));
       read = AreRead_push None p.good p.numbers w t p.read (s.shape, s.lawful, refl, refl) fault;
-      set_is = added ∙ ap (λ (r : NumberSet). set.union r (item_pixels (order_at order t.mark) t.item)) p.set_is ∙ ap (λ k. set.union (pixels_said None p.numbers) (item_pixels (order_at k t.mark) t.item)) p.order_is ∙ sym (pixels_said_push None p.numbers t);
-      order_is = o ∙ ap (λ k. order_at k t.mark) p.order_is ∙ sym (order_after_push None p.numbers t);
-      deepest_is = d ∙ ap (λ k. deeper k (order_at None t.mark)) p.deepest_is ∙ sym (deepest_of_push p.numbers t);
+      set_is = added ∙ ap (λ (r : NumberSet). set.union r (item_pixels (order_in_force order t.mark) t.item)) p.set_is ∙ ap (λ k. set.union (pixels_said None p.numbers) (item_pixels (order_in_force k t.mark) t.item)) p.order_is ∙ sym (pixels_said_push None p.numbers t);
+      order_is = o ∙ ap (λ k. order_in_force k t.mark) p.order_is ∙ sym (order_after_push None p.numbers t);
+      deepest_is = d ∙ ap (λ k. deeper k (order_in_force None t.mark)) p.deepest_is ∙ sym (deepest_of_push p.numbers t);
     }
 
 -- ---- faults
@@ -211,14 +213,14 @@ fault_mark text rest a order deepest n after f p s h =
     fault_parts text rest a order deepest n after f p s (rw mark refl)
 
 pub fault_item : (text rest : List ℕ) (a : NumberSet) (order deepest : Option ℕ) (n : Parts) (after : List ℕ) (order' : Option ℕ) (f : TextError)
-    → IsSmall order → Progress text rest a order deepest → Scanned (length text) rest n after → mark_fault n.mark ≡ None → order' ≡ order_at order n.mark → item_fault order' (length text - length rest) n.item ≡ Some f → IsFirstFault text f
+    → IsSmall order → Progress text rest a order deepest → Scanned (length text) rest n after → mark_fault n.mark ≡ None → order' ≡ order_in_force order n.mark → item_fault order' (length text - length rest) n.item ≡ Some f → IsFirstFault text f
 fault_item text rest a order deepest n after order' f small p s mf oi h =
     let at = length text - length rest in
     let t = parts_at at s.shape in
     let mark : mark_fault t.mark ≡ None = sym (mark_fault-held t.mark) ∙ ap (λ (x : Parts). mark_fault x.mark) (sym s.is) ∙ mf in
-    let o : order' ≡ order_at order t.mark = oi ∙ ap (λ (x : Parts). order_at order x.mark) s.is ∙ order_at-held order t.mark mark in
-    let small' : IsSmall (order_at order t.mark) = small_order order t.mark small mark in
-    let item : item_fault (order_at order t.mark) at t.item ≡ Some f = sym (item_fault-held (order_at order t.mark) at t.item small') ∙ ap (λ k. item_fault k at (held_maybe t.item)) (sym o) ∙ ap (λ (x : Parts). item_fault order' at x.item) (sym s.is) ∙ h in
+    let o : order' ≡ order_in_force order t.mark = oi ∙ ap (λ (x : Parts). order_in_force order x.mark) s.is ∙ order_at-held order t.mark mark in
+    let small' : IsSmall (order_in_force order t.mark) = small_order order t.mark small mark in
+    let item : item_fault (order_in_force order t.mark) at t.item ≡ Some f = sym (item_fault-held (order_in_force order t.mark) at t.item small') ∙ ap (λ k. item_fault k at (held_maybe t.item)) (sym o) ∙ ap (λ (x : Parts). item_fault order' at x.item) (sym s.is) ∙ h in
     fault_parts text rest a order deepest n after f p s (rw mark item)
 
 -- ---- what the scanner's answer means in the loop

@@ -6,7 +6,9 @@ use Rattle.std.specs.FinSet as set
 use Rattle.std.specs.Result.{MatchResult}
 use Rattle.std.proofs.lemmas.List.{append-nil}
 use Rattle.moc_ranges.specs.Numbers.{NumberSet}
-use Rattle.moc_text.specs.Ascii.{is_separator, Word, words, Shape, shape_text, IsShape, parts_at, Means, HasShapeFault, IsFault, order_at, order_after, mark_fault, item_fault, fault_of, item_pixels, pixels_said, deeper, deepest_of, AreRead, Says, IsFirstFault}
+use Rattle.moc_text.specs.Ascii.{is_separator, Word, words, Shape, shape_text, IsShape, parts_at, Means, HasShapeFault}
+use Rattle.moc_text.specs.Ascii.{IsFault, order_in_force, order_after, mark_fault, item_fault, fault_of, item_pixels}
+use Rattle.moc_text.specs.Ascii.{pixels_said, deeper, deepest_of, AreRead, Says, IsFirstFault}
 use Rattle.moc_text.specs.Private.Scan.{◌>>=◌, is_end, scan_word}
 use Rattle.moc_text.specs.Private.Scanned.{parts_of, faultless, numbers_of, reading_of}
 use Rattle.moc_text.specs.Reading.{IsReadingOf, ReadingsAreTold}
@@ -69,10 +71,10 @@ or_none (Some f) g h = absurd cc
 
 fault_of-held : (before : Option ℕ) (at : ℕ) (t : Parts) → IsSmall before → fault_of before at (held t) ≡ fault_of before at t
 fault_of-held before at t small =
-    ap (λ f. option_or f (item_fault (order_at before (held_last t.mark)) at (held_maybe t.item))) (mark_fault-held t.mark)
-    ∙ elim (mark_fault t.mark) as (λ v. mark_fault t.mark ≡ v → option_or v (item_fault (order_at before (held_last t.mark)) at (held_maybe t.item)) ≡ option_or v (item_fault (order_at before t.mark) at t.item)) [
+    ap (λ f. option_or f (item_fault (order_in_force before (held_last t.mark)) at (held_maybe t.item))) (mark_fault-held t.mark)
+    ∙ elim (mark_fault t.mark) as (λ v. mark_fault t.mark ≡ v → option_or v (item_fault (order_in_force before (held_last t.mark)) at (held_maybe t.item)) ≡ option_or v (item_fault (order_in_force before t.mark) at t.item)) [
       | Some f ↦ λ e. refl
-      | None ↦ λ e. ap (λ k. item_fault k at (held_maybe t.item)) (order_at-held before t.mark e) ∙ item_fault-held (order_at before t.mark) at t.item (small_order before t.mark small e)
+      | None ↦ λ e. ap (λ k. item_fault k at (held_maybe t.item)) (order_at-held before t.mark e) ∙ item_fault-held (order_in_force before t.mark) at t.item (small_order before t.mark small e)
     ] refl
 
 -- ---- word by word
@@ -92,7 +94,7 @@ Outcome before ws (Err f) = FaultIn before ws f
 
 -- the words after one that is read
 after_word : (before : Option ℕ) (w : Word) (ws : List Word) (t : Parts) → IsSmall before → Means w t → fault_of before w.at t ≡ None
-    → (r : Result (List Parts) TextError) → Outcome (order_at before t.mark) ws r → Outcome before (w ∷ ws) (r >>= (λ ns. Ok (held t ∷ ns)))
+    → (r : Result (List Parts) TextError) → Outcome (order_in_force before t.mark) ws r → Outcome before (w ∷ ws) (r >>= (λ ns. Ok (held t ∷ ns)))
 after_word before w ws t small means none (Err f) o = record {
   good = w ∷ o.good;
   numbers = t ∷ o.numbers;
@@ -103,20 +105,20 @@ after_word before w ws t small means none (Err f) o = record {
   fault = o.fault;
 }
 after_word before w ws t small means none (Ok ns) o =
-    let f = or_none (mark_fault t.mark) (item_fault (order_at before t.mark) w.at t.item) none in
-    let k : order_at before (held_last t.mark) ≡ order_at before t.mark = order_at-held before t.mark f.0 in
-    let small' : IsSmall (order_at before t.mark) = small_order before t.mark small f.0 in (
+    let f = or_none (mark_fault t.mark) (item_fault (order_in_force before t.mark) w.at t.item) none in
+    let k : order_in_force before (held_last t.mark) ≡ order_in_force before t.mark = order_at-held before t.mark f.0 in
+    let small' : IsSmall (order_in_force before t.mark) = small_order before t.mark small f.0 in (
       t ∷ o.0,
       (means, none, o.1),
       ap (λ k. set.union (item_pixels k (held_maybe t.item)) (pixels_said k ns)) k
-          ∙ ap (λ (s : NumberSet). set.union s (pixels_said (order_at before t.mark) ns)) (item_pixels-held (order_at before t.mark) w.at t.item small' f.1)
-          ∙ ap (set.union (item_pixels (order_at before t.mark) t.item)) o.2,
-      ap (λ k. deeper k (deepest_of ns)) (order_at-held None t.mark f.0) ∙ ap (deeper (order_at None t.mark)) o.3,
+          ∙ ap (λ (s : NumberSet). set.union s (pixels_said (order_in_force before t.mark) ns)) (item_pixels-held (order_in_force before t.mark) w.at t.item small' f.1)
+          ∙ ap (set.union (item_pixels (order_in_force before t.mark) t.item)) o.2,
+      ap (λ k. deeper k (deepest_of ns)) (order_at-held None t.mark f.0) ∙ ap (deeper (order_in_force None t.mark)) o.3,
     )
 
 -- the words from one on
 abbrev from_parts : Option ℕ → Word → List Word → Parts → Option TextError → Result (List Parts) TextError
-from_parts before w ws found fault = faultless fault found >>= (λ n. numbers_of (order_at before n.mark) ws >>= (λ ns. Ok (n ∷ ns)))
+from_parts before w ws found fault = faultless fault found >>= (λ n. numbers_of (order_in_force before n.mark) ws >>= (λ ns. Ok (n ∷ ns)))
 
 from_true : (before : Option ℕ) (w : Word) (ws : List Word) (t : Parts) → IsSmall before → Means w t → ((k : Option ℕ) → IsSmall k → Outcome k ws (numbers_of k ws))
     → Outcome before (w ∷ ws) (from_parts before w ws (held t) (fault_of before w.at t))
@@ -124,10 +126,10 @@ from_true before w ws t small means later =
     elim (fault_of before w.at t) as (λ v. fault_of before w.at t ≡ v → Outcome before (w ∷ ws) (from_parts before w ws (held t) v)) [
       | Some f ↦ λ e. record { good = []; numbers = []; bad = w; others = ws; parts = refl; read = tt; fault = inr (t, means, e) }
       | None ↦ λ e.
-          let f = or_none (mark_fault t.mark) (item_fault (order_at before t.mark) w.at t.item) e in
-          let k : order_at before t.mark ≡ order_at before (held_last t.mark) = sym (order_at-held before t.mark f.0) in
-          let o : Outcome (order_at before t.mark) ws (numbers_of (order_at before t.mark) ws) = later (order_at before t.mark) (small_order before t.mark small f.0) in
-          after_word before w ws t small means e (numbers_of (order_at before (held_last t.mark)) ws) (subst (λ j. Outcome (order_at before t.mark) ws (numbers_of j ws)) k o)
+          let f = or_none (mark_fault t.mark) (item_fault (order_in_force before t.mark) w.at t.item) e in
+          let k : order_in_force before t.mark ≡ order_in_force before (held_last t.mark) = sym (order_at-held before t.mark f.0) in
+          let o : Outcome (order_in_force before t.mark) ws (numbers_of (order_in_force before t.mark) ws) = later (order_in_force before t.mark) (small_order before t.mark small f.0) in
+          after_word before w ws t small means e (numbers_of (order_in_force before (held_last t.mark)) ws) (subst (λ j. Outcome (order_in_force before t.mark) ws (numbers_of j ws)) k o)
     ] refl
 
 from_word : (before : Option ℕ) (w : Word) (ws : List Word) → IsSmall before → (r : Result Parts TextError) → PartsOutcome w r → ((k : Option ℕ) → IsSmall k → Outcome k ws (numbers_of k ws))

@@ -16,8 +16,8 @@ use Rattle.moc_ranges.specs.Numbers.{NumberSet}
 use Rattle.moc_ranges.specs.Pixels.{pixels}
 use Rattle.moc_ranges.specs.Operations.{IsWithin}
 use Rattle.moc_ranges.specs.Cells.{span, spans, pixels_of, cells_of}
-use Rattle.moc_ranges.specs.Laws.Cells.{cells_are}
-use Rattle.moc_ranges.specs.Laws.{spans-one, pixels_of-append, cells_fill, union-assoc, empty-union, union-empty}
+use Rattle.moc_ranges.specs.Lemmas.Cells.{cells_are}
+use Rattle.moc_ranges.specs.Lemmas.{spans-one, pixels_of-append, cells_fill, union-assoc, empty-union, union-empty}
 use Rattle.moc_text.specs.Ascii.{IsNumber}
 use Rattle.moc_text.specs.Private.Scan.{front_digits, past_digits, held_after, starts_with_digit}
 use Rattle.moc_text.specs.Lines.{lines_of}

@@ -11,7 +11,10 @@ use Rattle.std.proofs.lemmas.List.{append-nil}
 use Rattle.std.proofs.lemmas.Bool.{cases_lt, le-leb, eqb-true, lt-ltb, le-ltb, ltb-false}
 use Rattle.std.proofs.lemmas.Str.Parse.{digit_from_value}
 use Rattle.std.proofs.lemmas.Fmt.{decimal_is_IsNumeral}
-use Rattle.moc_text.specs.Ascii.{Word, words, words_from, IsNumber, Mark, mark_text, Cells, One, Run, cells_text, AreCells, Shape, JustMark, JustItem, MarkItem, shape_text, IsShape, parts_at, mark_at, item_at, order_at, last_of, mark_fault, item_fault, fault_of, item_pixels, pixels_said, deeper, deepest_of, AreRead, Says}
+use Rattle.moc_text.specs.Ascii.{Word, words, words_from, IsNumber, Mark, mark_text, Cells, One, Run, cells_text}
+use Rattle.moc_text.specs.Ascii.{AreCells, Shape, JustMark, JustItem, MarkItem, shape_text, IsShape, parts_at, mark_at}
+use Rattle.moc_text.specs.Ascii.{item_at, order_in_force, last_of, mark_fault, item_fault, fault_of, item_pixels}
+use Rattle.moc_text.specs.Ascii.{pixels_said, deeper, deepest_of, AreRead, Says}
 use Rattle.moc_text.specs.AsciiText.{one, follows, runs_from, runs_of, run_text, order_text, mark_text_of, stated_beyond, bare_words, words_of, ascii_text, text_of_cells, HasDeeper, IsTooCoarse, deepest_cell, deepest_written}
 use Rattle.moc_text.specs.declared.ascii.number.Item.{Item}
 use Rattle.moc_text.specs.declared.ascii.number.Parts.{Parts}
@@ -23,12 +26,13 @@ use Rattle.moc_text.proofs.ReadWords.{shape_part, shape_some, deeper_assoc, deep
 use Rattle.moc_text.proofs.Powers.{cells_fit}
 use Rattle.moc_text.proofs.Held.{IsSmall}
 use Rattle.moc_sphere.specs.CellNumber.{CellNumber, IsCell, cell_count, cell_size}
-use Rattle.moc_ranges.specs.Numbers.{NumberSet, same_members}
+use Rattle.moc_ranges.specs.Numbers.{NumberSet}
+use Rattle.moc_ranges.specs.Lemmas.Members.{same_members, contains-spans}
 use Rattle.moc_ranges.specs.Pixels.{pixels, pixel_count}
 use Rattle.moc_ranges.specs.Operations.{IsWithin}
-use Rattle.moc_ranges.specs.Cells.{span, spans, pixels_of, cells_of, contains-spans}
-use Rattle.moc_ranges.specs.Laws.Cells.{cells_are}
-use Rattle.moc_ranges.specs.Laws.{spans-one, cells_fill, union-assoc, empty-union}
+use Rattle.moc_ranges.specs.Cells.{span, spans, pixels_of, cells_of}
+use Rattle.moc_ranges.specs.Lemmas.Cells.{cells_are}
+use Rattle.moc_ranges.specs.Lemmas.{spans-one, cells_fill, union-assoc, empty-union}
 use Rattle.std.proofs.lemmas.Bool.Decides.{nat_tests}
 
 -- ---- decimal numbers
@@ -182,8 +186,8 @@ run_item at r h =
 -- what a run's numbers say, where an order was in force or none
 record RunParts (before : Option ℕ) (r : CellRun) (n : Parts) : Type 0 where
   mark : mark_fault n.mark ≡ None
-  order : order_at before n.mark ≡ Some r.order
-  deepest : (x : Option ℕ) → deeper before (deeper (order_at None n.mark) x) ≡ deeper before (deeper (Some r.order) x)
+  order : order_in_force before n.mark ≡ Some r.order
+  deepest : (x : Option ℕ) → deeper before (deeper (order_in_force None n.mark) x) ≡ deeper before (deeper (Some r.order) x)
   item : Item
   item_is : n.item ≡ Some item
   values : RunItem r item
@@ -233,7 +237,7 @@ item_ok k at i r v le lt =
 
 run_fault : (before : Option ℕ) (at : ℕ) (r : CellRun) (n : Parts) → IsRun r → RunParts before r n → fault_of before at n ≡ None
 run_fault before at r n h p =
-    let i : item_fault (order_at before n.mark) at n.item ≡ None = ap (λ k. item_fault k at n.item) p.order ∙ ap (item_fault (Some r.order) at) p.item_is ∙ item_ok r.order at p.item r p.values h.forwards h.last in
+    let i : item_fault (order_in_force before n.mark) at n.item ≡ None = ap (λ k. item_fault k at n.item) p.order ∙ ap (item_fault (Some r.order) at) p.item_is ∙ item_ok r.order at p.item r p.values h.forwards h.last in
     rw (p.mark, i) refl
 
 bare_read : (before bare : Option ℕ) (at : ℕ) → IsSmall bare → AreRead before (placed at (bare_shapes bare)) (numbers at (bare_shapes bare))
@@ -263,7 +267,7 @@ bare_said : (before bare : Option ℕ) (at : ℕ) → pixels_said before (number
 bare_said before None at = refl
 bare_said before (Some k) at = empty-union set.empty
 
-run_said : (before : Option ℕ) (r : CellRun) (n : Parts) → RunParts before r n → item_pixels (order_at before n.mark) n.item ≡ run_pixels r
+run_said : (before : Option ℕ) (r : CellRun) (n : Parts) → RunParts before r n → item_pixels (order_in_force before n.mark) n.item ≡ run_pixels r
 run_said before r n p =
     ap (λ k. item_pixels k n.item) p.order ∙ ap (item_pixels (Some r.order)) p.item_is
     ∙ ap (λ (f : ℕ). spans r.order f (last_of p.item).value) p.values.first
@@ -275,7 +279,7 @@ runs_said stated before (r ∷ rs) at h =
     let n = parts_at at (run_shape before r) in
     let p = run_parts before at r h.0 in
     let others = numbers (at + length (shape_text (run_shape before r)) + 1) (shapes_of stated (Some r.order) rs) in
-    ap (λ (x : NumberSet). set.union x (pixels_said (order_at before n.mark) others)) (run_said before r n p)
+    ap (λ (x : NumberSet). set.union x (pixels_said (order_in_force before n.mark) others)) (run_said before r n p)
     ∙ ap (λ (k : Option ℕ). set.union (run_pixels r) (pixels_said k others)) p.order
     ∙ ap (set.union (run_pixels r)) (runs_said stated (Some r.order) rs (at + length (shape_text (run_shape before r)) + 1) h.1)
 

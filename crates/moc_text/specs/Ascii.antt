@@ -152,9 +152,9 @@ Means w n =
     (shape : Shape) × IsShape shape × (w.bytes ≡ shape_text shape) × (n ≡ parts_at w.at shape)
 
 -- the order in force at a mark or none, where `before` was in force before it
-abbrev pub order_at : Option ℕ → Option Number → Option ℕ
-order_at before None = before
-order_at before (Some n) = Some n.value
+abbrev pub order_in_force : Option ℕ → Option Number → Option ℕ
+order_in_force before None = before
+order_in_force before (Some n) = Some n.value
 
 -- the last cell of an item
 abbrev pub last_of : Item → Number
@@ -179,7 +179,7 @@ item_fault (Some k) at (Some i) =
 -- the first fault of a lawful word's numbers, if there is one
 abbrev pub fault_of : Option ℕ → ℕ → Parts → Option TextError
 fault_of before at n =
-    option_or (mark_fault n.mark) (item_fault (order_at before n.mark) at n.item)
+    option_or (mark_fault n.mark) (item_fault (order_in_force before n.mark) at n.item)
 
 -- The word has this fault, where an order was in force before it or none.
 abbrev pub IsFault : Option ℕ → Word → TextError → Type 0
@@ -192,14 +192,14 @@ IsFault before w f =
 abbrev pub AreRead : Option ℕ → List Word → List Parts → Type 0
 AreRead before [] [] = Unit {0}
 AreRead before (w ∷ ws) (n ∷ ns) =
-    Means w n × (fault_of before w.at n ≡ None) × AreRead (order_at before n.mark) ws ns
+    Means w n × (fault_of before w.at n ≡ None) × AreRead (order_in_force before n.mark) ws ns
 AreRead before [] (n ∷ ns) = ⊥
 AreRead before (w ∷ ws) [] = ⊥
 
 -- the order in force after words with these numbers
 abbrev pub order_after : Option ℕ → List Parts → Option ℕ
 order_after before [] = before
-order_after before (n ∷ ns) = order_after (order_at before n.mark) ns
+order_after before (n ∷ ns) = order_after (order_in_force before n.mark) ns
 
 -- the pixels of an item's cells, in the order in force
 abbrev pub item_pixels : Option ℕ → Option Item → NumberSet
@@ -212,8 +212,8 @@ abbrev pub pixels_said : Option ℕ → List Parts → NumberSet
 pixels_said before [] = set.empty
 pixels_said before (n ∷ ns) =
     set.union
-    (item_pixels (order_at before n.mark) n.item)
-    (pixels_said (order_at before n.mark) ns)
+    (item_pixels (order_in_force before n.mark) n.item)
+    (pixels_said (order_in_force before n.mark) ns)
 
 -- the greater of two orders that may be none
 abbrev pub deeper : Option ℕ → Option ℕ → Option ℕ
@@ -224,7 +224,7 @@ deeper (Some j) (Some k) = Some (max j k)
 -- the greatest order of a mark
 abbrev pub deepest_of : List Parts → Option ℕ
 deepest_of [] = None
-deepest_of (n ∷ ns) = deeper (order_at None n.mark) (deepest_of ns)
+deepest_of (n ∷ ns) = deeper (order_in_force None n.mark) (deepest_of ns)
 
 -- The text says this set and this deepest order.
 pub record Says (text : List ℕ) (a : NumberSet) (deepest : Option ℕ) : Type 0 where

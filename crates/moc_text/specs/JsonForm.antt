@@ -31,8 +31,8 @@ order_of_name name =
     else None
 
 -- a whole number of 64 bits, if the value is one
-abbrev pub whole : Data → Option ℕ
-whole d = option_and_then as_u64 (as_number d)
+abbrev pub whole_number : Data → Option ℕ
+whole_number d = option_and_then as_u64 (as_number d)
 
 -- ---- what an object says
 
@@ -44,7 +44,7 @@ cell_pixels k (Some i) = span k i
 -- the pixels of the cells whose numbers are the items
 abbrev pub items_pixels : ℕ → Items → NumberSet
 items_pixels k no_items = set.empty
-items_pixels k (item d ds) = set.union (cell_pixels k (whole d)) (items_pixels k ds)
+items_pixels k (item d ds) = set.union (cell_pixels k (whole_number d)) (items_pixels k ds)
 
 -- the pixels of the cells of a name, where it is an order and has an array
 abbrev pub array_pixels : Option ℕ → Option Items → NumberSet
@@ -76,22 +76,22 @@ object_member number d = option_and_then (member_at number) (as_object d)
 -- ---- what is wrong with a value
 
 -- of an item, which is a whole number or none, where k is the order: no number, or no cell
-abbrev pub item_fault : ℕ → ℕ → ℕ → Option ℕ → Option JsonError
-item_fault k name place None = Some (NotWhole name place)
-item_fault k name place (Some i) =
+abbrev pub element_fault : ℕ → ℕ → ℕ → Option ℕ → Option JsonError
+element_fault k name place None = Some (NotWhole name place)
+element_fault k name place (Some i) =
     if nat_lt i (cell_count k) then None else Some (CellTooLarge name place)
 
 -- of the first faulty item, where the items are numbered from a place on
-abbrev pub items_fault : ℕ → ℕ → ℕ → Items → Option JsonError
-items_fault k name place no_items = None
-items_fault k name place (item d ds) =
-    option_or (item_fault k name place (whole d)) (items_fault k name (place + 1) ds)
+abbrev pub elements_fault : ℕ → ℕ → ℕ → Items → Option JsonError
+elements_fault k name place no_items = None
+elements_fault k name place (item d ds) =
+    option_or (element_fault k name place (whole_number d)) (elements_fault k name (place + 1) ds)
 
 -- of a name, which is an order or none, and its array, if its value is one
 abbrev pub name_fault : ℕ → Option ℕ → Option Items → Option JsonError
 name_fault name None ds = Some (BadOrder name)
 name_fault name (Some k) None = Some (NotArray name)
-name_fault name (Some k) (Some ds) = items_fault k name 0 ds
+name_fault name (Some k) (Some ds) = elements_fault k name 0 ds
 
 -- of the first faulty name, where the names are numbered from a number on
 abbrev pub members_fault : ℕ → Members → Option JsonError
@@ -116,8 +116,8 @@ abbrev pub IsNotJson : List ℕ → Type 0
 IsNotJson bytes = IsUtf8 bytes → read bytes ≡ None
 
 -- In the text the name of this number, counted from 0 in byte order, names this order, or none.
-abbrev pub NamesOrder : List ℕ → ℕ → Option ℕ → Type 0
-NamesOrder bytes number k =
+abbrev pub NameIsOrder : List ℕ → ℕ → Option ℕ → Type 0
+NameIsOrder bytes number k =
     (d : Data) × IsJson bytes d
     × (k ≡ option_and_then (λ (m : List ℕ × Data). order_of_name m.0) (object_member number d))
 

@@ -8,7 +8,7 @@ pub mod JsonText
 pub mod Faults
 pub mod Places
 pub mod Private
-pub mod Laws
+pub mod Lemmas
 pub use Rattle.moc_sphere.specs.CellNumber
 pub use Rattle.moc_ranges.specs.Numbers
 pub use Rattle.moc_ranges.specs.Cells

@@ -1,6 +1,6 @@
--- The lines of a text.
+-- The lines of a text, and its pieces between semicolons.
 use Rattle.std.specs.Prelude.{ℕ, Bool, ◌==◌, List, [], ◌∷◌, if◌then◌else◌}
-use Rattle.std.specs.List.{onto_first}
+use Rattle.std.specs.List.{onto_first, slice_split}
 
 -- a line feed ends a line
 abbrev pub is_line_feed : ℕ → Bool
@@ -10,3 +10,11 @@ is_line_feed b = b == 10
 abbrev pub lines_of : List ℕ → List (List ℕ)
 lines_of [] = []
 lines_of (b ∷ bytes) = if is_line_feed b then [] ∷ lines_of bytes else onto_first b (lines_of bytes)
+
+-- `;`
+abbrev pub is_semicolon : ℕ → Bool
+is_semicolon b = b == 59
+
+-- the pieces of a text, parted at the semicolons
+abbrev pub pieces_of : List ℕ → List (List ℕ)
+pieces_of text = slice_split is_semicolon text

@@ -2,7 +2,8 @@
 use Rattle.std.specs.Prelude.{◌≡◌, ◌<◌, ◌≤◌, ℕ, List, [], ◌∷◌, nat_le, ⊤}
 use Rattle.std.specs.FinSet as set
 use Rattle.moc_ranges.specs.Numbers.{NumberSet}
-use Rattle.moc_ranges.specs.RangeList.{in_ranges, IsNormal}
+use Rattle.moc_ranges.specs.Lemmas.Members.{in_ranges}
+use Rattle.moc_ranges.specs.RangeList.{IsNormal}
 use Rattle.moc_c.specs.declared.looking.Known.{Known}
 
 -- the first range begins at x, or behind it

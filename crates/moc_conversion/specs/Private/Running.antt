@@ -2,7 +2,8 @@
 use Rattle.std.specs.Prelude.{◌≡◌, ◌⊎◌, ℕ, ◌+◌, ◌<◌, ◌≤◌, List, [], ◌∷◌, ◌++◌, length, Option, None, Some}
 use Rattle.std.specs.Io.KnownBytes.{Consumes}
 use Rattle.std.specs.List.{AllByRecursion}
-use Rattle.moc_forms.specs.Combining.{CombinesTexts, Said, TextSays, joined, parts_of, texts_of, without_blank_end}
+use Rattle.moc_forms.specs.Combining.{CombinesTexts, Said, TextSays, joined, texts_of, without_blank_end}
+use Rattle.moc_text.specs.Lines.{pieces_of}
 use Rattle.moc_forms.specs.declared.combining.Operation.{Operation}
 use Rattle.moc_forms.specs.declared.finding.Choice.{Choice}
 use Rattle.moc_conversion.specs.Combining.{HasLongPart, TellsFirstFault}
@@ -33,7 +34,7 @@ SaysMore c before after =
 -- the texts of bytes behind what was said before, if there was anything
 abbrev pub texts_behind : Option Said → List ℕ → List (List ℕ)
 texts_behind None bytes = texts_of bytes
-texts_behind (Some before) bytes = without_blank_end (parts_of bytes)
+texts_behind (Some before) bytes = without_blank_end (pieces_of bytes)
 
 -- what texts say behind what was said before, where none is too long
 pub record TextsSay (operation : Operation) (choice : Choice) (before : Option Said) (bytes : List ℕ)

@@ -2,7 +2,8 @@
 use Rattle.std.specs.Prelude.{◌≡◌, ℕ, ◌+◌, ◌-◌, ◌<◌, ◌≤◌, ◌||◌, min, Option, None, Some, List, [], ◌∷◌, ◌++◌, length}
 use Rattle.std.specs.Prelude.{get_or, slice_set}
 use Rattle.std.specs.List.{insert}
-use Rattle.moc_ranges.specs.RangeList.{IsNormal, in_range, in_ranges}
+use Rattle.moc_ranges.specs.RangeList.{IsNormal}
+use Rattle.moc_ranges.specs.Lemmas.Members.{in_range, in_ranges}
 use Rattle.moc_ranges.specs.Private.Blocks.{joining, next_of, width_of, AreFilled, AreBlocks, IsStored}
 use Rattle.moc_ranges.specs.Private.Built.{first_length, last_length, EndsBelow}
 use Rattle.moc_ranges.specs.Private.Walks.{joined}

@@ -1,7 +1,8 @@
 -- A list of ranges in blocks while it grows at its end.
 use Rattle.std.specs.Prelude.{◌≡◌, ℕ, ◌+◌, ◌<◌, ◌≤◌, ◌||◌, ◌&&◌, max, List, [], ◌∷◌, ◌++◌, length, ⊤}
 use Rattle.moc_ranges.specs.Pixels.{pixel_count}
-use Rattle.moc_ranges.specs.RangeList.{IsNormal, in_ranges, in_range}
+use Rattle.moc_ranges.specs.RangeList.{IsNormal}
+use Rattle.moc_ranges.specs.Lemmas.Members.{in_ranges, in_range}
 use Rattle.moc_ranges.specs.Private.Walks.{EndsBy}
 use Rattle.moc_ranges.specs.Private.Blocks.{joining, AreFilled, AreBlocks, next_of}
 

@@ -2,7 +2,8 @@
 use Rattle.std.specs.Prelude.{◌≡◌, ℕ, ◌+◌, ◌≤◌, ⊤, Bool, false, List, [], ◌∷◌, ◌++◌, length, drop, Option, None, Some}
 use Rattle.std.specs.Prelude.{nat_le, ◌==◌, if◌then◌else◌}
 use Rattle.moc_ranges.specs.Pixels.{pixel_count}
-use Rattle.moc_ranges.specs.RangeList.{IsNormal, in_ranges}
+use Rattle.moc_ranges.specs.RangeList.{IsNormal}
+use Rattle.moc_ranges.specs.Lemmas.Members.{in_ranges}
 use Rattle.moc_ranges.specs.declared.operations.symmetric.Opened.{Opened}
 use Rattle.moc_ranges.specs.Private.Differing.{differs}
 

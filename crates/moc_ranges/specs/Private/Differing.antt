@@ -1,6 +1,7 @@
 -- What just one of two lists has, while it grows.
 use Rattle.std.specs.Prelude.{◌≡◌, ℕ, ◌<◌, Bool, not, ◌||◌, ◌&&◌, ◌∷◌, min, List}
-use Rattle.moc_ranges.specs.RangeList.{IsNormal, in_ranges}
+use Rattle.moc_ranges.specs.RangeList.{IsNormal}
+use Rattle.moc_ranges.specs.Lemmas.Members.{in_ranges}
 use Rattle.moc_ranges.specs.Private.Blocks.{next_of}
 use Rattle.moc_ranges.specs.Private.Built.{EndsBelow}
 

@@ -1,6 +1,7 @@
 -- Two lists of few ranges, while what an operation keeps of them grows.
 use Rattle.std.specs.Prelude.{◌≡◌, ℕ, ◌<◌, ◌||◌, min, List}
-use Rattle.moc_ranges.specs.RangeList.{IsNormal, in_ranges, in_range}
+use Rattle.moc_ranges.specs.RangeList.{IsNormal}
+use Rattle.moc_ranges.specs.Lemmas.Members.{in_ranges, in_range}
 use Rattle.moc_ranges.specs.Private.Built.{EndsBelow}
 
 -- a range x that ends no later than y was kept, or taken into y, which is z now

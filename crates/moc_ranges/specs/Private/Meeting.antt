@@ -1,6 +1,7 @@
 -- Two lists of ranges, while what they have in common is put behind others.
 use Rattle.std.specs.Prelude.{◌≡◌, ℕ, ◌≤◌, Bool, true, false, ◌||◌, ◌&&◌, max, List, [], ◌∷◌, ◌++◌, ⊤}
-use Rattle.moc_ranges.specs.RangeList.{IsNormal, BeginsAfter, in_ranges}
+use Rattle.moc_ranges.specs.RangeList.{IsNormal, BeginsAfter}
+use Rattle.moc_ranges.specs.Lemmas.Members.{in_ranges}
 use Rattle.moc_ranges.specs.Private.Blocks.{next_of}
 use Rattle.moc_ranges.specs.Private.Built.{EndsBelow}
 

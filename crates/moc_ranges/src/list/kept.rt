@@ -2,7 +2,8 @@
 ghost use Rattle.std.specs.Prelude.{◌≡◌, ◌+◌, ◌<◌, ◌≤◌, ◌++◌, ◌∷◌, ◌||◌, [], List, ℕ, length, IfOk, OnOk};
 ghost use Rattle.std.specs.Bool.{OnTrue, OnFalse};
 ghost use Rattle.moc_ranges.specs.Pixels.{pixel_count};
-ghost use Rattle.moc_ranges.specs.RangeList.{IsNormal, in_ranges, in_range};
+ghost use Rattle.moc_ranges.specs.RangeList.{IsNormal};
+ghost use Rattle.moc_ranges.specs.Lemmas.Members.{in_ranges, in_range};
 ghost use Rattle.moc_ranges.specs.Private.Blocks.{joining, AreBlocks, last_of};
 ghost use Rattle.moc_ranges.specs.Private.Built.{first_length, last_length, CanJoin, EndsBelow};
 ghost use Rattle.moc_ranges.specs.Private.Kept.{all_of, blocks_of, growing, IsKept, AreWide};

@@ -16,7 +16,8 @@ impl Model for Steps {
 }
 
 ghost use Rattle.std.specs.Prelude.{◌≡◌, ◌+◌, ◌<◌, ◌≤◌, ◌^◌, ℕ, length, get_or, MatchOption};
-ghost use Rattle.moc_ranges.specs.RangeList.{IsNormal, in_ranges};
+ghost use Rattle.moc_ranges.specs.RangeList.{IsNormal};
+ghost use Rattle.moc_ranges.specs.Lemmas.Members.{in_ranges};
 ghost use Rattle.moc_ranges.specs.Private.Blocks.{joining, AreStored};
 
 use crate::list::nodes::Nodes;

@@ -3,7 +3,7 @@ ghost use Rattle.std.specs.FinSet as set;
 ghost use Rattle.std.specs.Bool.{OnTrue, OnFalse};
 ghost use Rattle.std.specs.Prelude.{◌≡◌, ◌+◌, ◌<◌, ◌≤◌, ◌||◌, ◌&&◌, ◌⊎◌, max, [], length, ℕ, IfOk, OnOk};
 ghost use Rattle.moc_ranges.specs.RangeList.{IsNormal, set_of};
-ghost use Rattle.moc_ranges.specs.RangeList.{in_ranges};
+ghost use Rattle.moc_ranges.specs.Lemmas.Members.{in_ranges};
 ghost use Rattle.moc_ranges.specs.Private.Built.{ranges_of};
 ghost use Rattle.moc_ranges.specs.Private.Meeting.{gaps_of, CanMeet, LeavesOut, MeetsOn};
 

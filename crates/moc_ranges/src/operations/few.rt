@@ -2,7 +2,8 @@
 ghost use Rattle.std.specs.FinSet as set;
 ghost use Rattle.std.specs.Prelude.{◌≡◌, ◌<◌, ◌≤◌, ◌||◌, ◌++◌, ◌∷◌, ℕ, min, IfOk, OnOk};
 ghost use Rattle.moc_ranges.specs.Pixels.{pixel_count};
-ghost use Rattle.moc_ranges.specs.RangeList.{IsNormal, in_range, in_ranges, set_of};
+ghost use Rattle.moc_ranges.specs.RangeList.{IsNormal, set_of};
+ghost use Rattle.moc_ranges.specs.Lemmas.Members.{in_range, in_ranges};
 ghost use Rattle.moc_ranges.specs.Private.Built.{EndsBelow};
 ghost use Rattle.moc_ranges.specs.Private.Few.{IsSettled};
 

@@ -4,7 +4,8 @@ ghost use Rattle.std.specs.Prelude.{◌≡◌, ◌+◌, ◌<◌, ◌≤◌, ◌+
 ghost use Rattle.std.specs.Prelude.{IfOk, OnOk};
 ghost use Rattle.moc_ranges.specs.Pixels.{pixel_count};
 ghost use Rattle.moc_ranges.specs.Operations.{symmetric};
-ghost use Rattle.moc_ranges.specs.RangeList.{IsNormal, in_ranges, set_of};
+ghost use Rattle.moc_ranges.specs.RangeList.{IsNormal, set_of};
+ghost use Rattle.moc_ranges.specs.Lemmas.Members.{in_ranges};
 ghost use Rattle.moc_ranges.specs.Private.Built.{ranges_of, EndsBelow};
 ghost use Rattle.moc_ranges.specs.Private.Walks.{begun};
 ghost use Rattle.moc_ranges.specs.Private.Differing.{differs, IsDiffering, IsParted};

@@ -1,7 +1,7 @@
 -- The answers of the lanes in the order of the lines.
 use Rattle.std.specs.Prelude.{◌≡◌, ◌<◌, ◌++◌, ℕ, List, [], length, slice_index_or, Option, Result, OnOk, IfSome}
 use Rattle.std.specs.Io.KnownBytes.{Appends}
-use Rattle.moc_ranges.specs.Blocks.{joining}
+use Rattle.std.specs.List.{concat}
 use Rattle.moc_script.specs.Merges.{in_lane, dealt}
 use Rattle.moc_devices.specs.Devices.{Sends}
 use Rattle.moc_text.specs.Lines.{lines_of}
@@ -18,7 +18,7 @@ AreForLines lanes answers count =
 -- the text is made of the lanes' answers in turn, so many, behind which these are left
 pub record IsJoined (lanes : ℕ) (all left : List (List (List ℕ))) (count : ℕ) (text : List ℕ) : Type 0 where
   pub done : List (List ℕ)
-  pub text_is : text ≡ joining done
+  pub text_is : text ≡ concat done
   pub count_is : length done ≡ count
   pub wide : length left ≡ lanes
   pub parts : (lane : ℕ) → lane < lanes

@@ -1,6 +1,6 @@
 //! Many texts in one buffer.
 ghost use Rattle.std.specs.Prelude.{◌≡◌, ◌∷◌, [], None, IfSome, length};
-ghost use Rattle.moc_ranges.specs.Blocks.{joining};
+ghost use Rattle.std.specs.List.{concat};
 ghost use Rattle.moc_script.specs.Private.Texts.{cut, total};
 
 use std::marker::Model;
@@ -34,7 +34,7 @@ impl Texts {
 
     /// The texts, one after another, as they lie in the buffer.
     pub(crate) fn as_bytes(&self) -> &[u8]
-        ensures { result.now ≡ joining self.now }
+        ensures { result.now ≡ concat self.now }
     {
         &self.bytes
     }

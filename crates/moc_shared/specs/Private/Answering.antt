@@ -1,7 +1,7 @@
 -- What an operation answers from the parts that were found.
 use Rattle.std.specs.Prelude.{◌≡◌, ℕ, List, Contains}
 use Rattle.moc_shared.specs.declared.record.Note.{Note}
-use Rattle.moc_shared.specs.Rule.{note, parts_of}
+use Rattle.moc_shared.specs.Rule.{note, noted_parts}
 
 module _ {X O R Y : Type 0} (part : ℕ → X → Y) (answer : X → O → X × R) (proper : X → Type 0) where
   -- From each set that agrees with what was found, the operation has this reply, the parts become what was edited, and
@@ -11,5 +11,5 @@ module _ {X O R Y : Type 0} (part : ℕ → X → Y) (answer : X → O → X × 
       (set : X) → proper set → ((b : ℕ) (y : Y) → Contains found (note b y) → y ≡ part b set)
       → ((answer set op).1 ≡ reply)
       × ((b : ℕ) (y : Y) → Contains edited (note b y) → y ≡ part b (answer set op).0)
-      × ((b : ℕ) → ¬ Contains (parts_of found) b → part b (answer set op).0 ≡ part b set)
+      × ((b : ℕ) → ¬ Contains (noted_parts found) b → part b (answer set op).0 ≡ part b set)
       × proper (answer set op).0

@@ -2,7 +2,7 @@
 ghost use Rattle.std.specs.Prelude.{◌≡◌, false, IfOk, IfErr, OnOk, OnErr, MatchResult};
 ghost use Rattle.std.specs.List.{list_any};
 ghost use Rattle.moc_parts.specs.Commands.{is_update};
-ghost use Rattle.moc_shared.specs.Clients.{number_of, record_of, holder_of, batch_of, call_of};
+ghost use Rattle.moc_shared.specs.Clients.{number_of, record_of, holder_of, held_batch, call_of};
 ghost use Rattle.moc_shared.specs.Clients.{IsClientOf, IsHoldingOf, Ends, Refuses, Undone, FailsHolding};
 ghost use Rattle.moc_shared.specs.Clients.{EndsWaiting, FailsWaiting, AfterError, AfterLook, AfterSnapshot};
 
@@ -122,7 +122,7 @@ impl SharedMap {
     pub fn hold(&self, client: Client, batch: Batch) -> Result<Holding, (Client, Batch, Busy)>
         requires map { IsClientOf self.now client }
         ensures held { IfOk result (λ h. IsHoldingOf self.now h) }
-        ensures same { IfOk result (λ h. (batch_of h ≡ batch) × (number_of (holder_of h) ≡ number_of client)) }
+        ensures same { IfOk result (λ h. (held_batch h ≡ batch) × (number_of (holder_of h) ≡ number_of client)) }
         ensures ok { IfOk result (λ h. Undone batch (record_of client) (record_of (holder_of h))) }
         ensures map { IfErr result (λ e. IsClientOf self.now e.0) }
         ensures back { IfErr result (λ e. (e.1 ≡ batch) × (number_of e.0 ≡ number_of client)) }
@@ -152,9 +152,9 @@ impl SharedMap {
         ensures map { IsClientOf self.now result.0 }
         ensures number { number_of result.0 ≡ number_of (holder_of holding) }
         ensures done { MatchResult result.1
-            (λ r. Ends self.now (call_of (holder_of holding) (batch_of holding) r)
+            (λ r. Ends self.now (call_of (holder_of holding) (held_batch holding) r)
             (record_of (holder_of holding)) (record_of result.0))
-            (λ _. FailsHolding self.now (batch_of holding) (record_of (holder_of holding)) (record_of result.0)) }
+            (λ _. FailsHolding self.now (held_batch holding) (record_of (holder_of holding)) (record_of result.0)) }
         ensures marks { (record_of result.0).marks ≡ (record_of (holder_of holding)).marks }
     {
         let Holding {
@@ -197,9 +197,9 @@ impl SharedMap {
         requires map { IsHoldingOf self.now holding }
         ensures map { IfOk result (λ r. IsClientOf self.now r.0) }
         ensures number { IfOk result (λ r. number_of r.0 ≡ number_of (holder_of holding)) }
-        ensures query { IfOk result (λ _. list_any is_update (batch_of holding) ≡ false) }
+        ensures query { IfOk result (λ _. list_any is_update (held_batch holding) ≡ false) }
         ensures ok { IfOk result
-            (λ r. Ends self.now (call_of (holder_of holding) (batch_of holding) r.1)
+            (λ r. Ends self.now (call_of (holder_of holding) (held_batch holding) r.1)
             (record_of (holder_of holding)) (record_of r.0)) }
         ensures marks { IfOk result (λ r. (record_of r.0).marks ≡ (record_of (holder_of holding)).marks) }
         ensures err { IfErr result (λ e. AfterSnapshot self.now holding e) }

@@ -2,7 +2,7 @@
 ghost use Rattle.std.specs.Prelude.{◌≡◌, suc, ◌<◌, ◌≤◌, List, [], ◌∷◌, Contains, IfOk, IfErr, Option, Some};
 ghost use Rattle.moc_ranges.specs.Numbers.{NumberSet};
 ghost use Rattle.moc_shared.specs.History.{entry, StandsFor};
-ghost use Rattle.moc_shared.specs.Rule.{index, note, parts_of, IsOne};
+ghost use Rattle.moc_shared.specs.Rule.{index, note, noted_parts, IsOne};
 ghost use Rattle.moc_shared.specs.Seats.{IsCarried, content, shared, part, IsProper, IsOwn, PartNote, notes_below};
 ghost use Rattle.moc_shared.specs.Private.Answering.{Answers};
 ghost use Rattle.moc_shared.specs.Private.Plays.{TookPart, with_part, with_miss, with_holds, behind_first};
@@ -83,8 +83,8 @@ pub(crate) fn end_call<C: Closing>(
     requires carried { IsCarried seat.old.me }
     requires call { (C.call ≡ entry seat.old.me.0.mine.number batch.now (replies_to found.now batch.now))
         × (C.notes ≡ notes_below rest.now 12) }
-    requires held { (parts_of seat.old.me.0.holds ≡ b ∷ parts_of (notes_below rest.now 12))
-        × ¬ Contains (parts_of (notes_below rest.now 12)) b }
+    requires held { (noted_parts seat.old.me.0.holds ≡ b ∷ noted_parts (notes_below rest.now 12))
+        × ¬ Contains (noted_parts (notes_below rest.now 12)) b }
     requires answered { Answers part answer IsProper batch.now (replies_to found.now batch.now) seat.old.me.0.holds
         (note b (shared new) ∷ notes_below rest.now 12) }
     ensures same { (seat.new.table_id ≡ seat.old.table_id) × (seat.new.id ≡ seat.old.id) }
@@ -113,7 +113,7 @@ pub(crate) fn end_alone<C: Closing>(
     requires client { IsOne seat.old.me.0 }
     requires carried { IsCarried seat.old.me }
     requires call { (C.call ≡ entry seat.old.me.0.mine.number (command.now ∷ []) (reply.now ∷ [])) × (C.notes ≡ []) }
-    requires held { parts_of seat.old.me.0.holds ≡ b ∷ [] }
+    requires held { noted_parts seat.old.me.0.holds ≡ b ∷ [] }
     requires answered { Answers part answer IsProper (command.now ∷ []) (reply.now ∷ []) seat.old.me.0.holds
         (note b (shared new) ∷ []) }
     ensures same { (seat.new.table_id ≡ seat.old.table_id) × (seat.new.id ≡ seat.old.id) }

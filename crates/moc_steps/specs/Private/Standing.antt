@@ -9,7 +9,7 @@ use Rattle.moc_parts.specs.Parts.{union_of, LieInParts}
 use Rattle.moc_parts.specs.Prepared.{found_in, kept}
 use Rattle.moc_parts.specs.declared.command.Command.{Command}
 use Rattle.moc_parts.specs.declared.reply.Reply.{Reply}
-use Rattle.moc_steps.specs.Locks.{Running, parts_of, is_any, is_in}
+use Rattle.moc_steps.specs.Locks.{Running, footprint_parts, is_any, is_in}
 
 -- a midway client, what it found in the parts that it took, and the place of its entry once it is committed
 pub record Standing : Type 0 where
@@ -43,7 +43,7 @@ IsMade s m = IsMadeOf s.running.command s.found m
 -- what a midway client keeps beside its flags
 pub record KeepsNotes (cs : List Command) (taken : ℕ) (edited : set.FinSet nat_cmp) (parts : List ℕ)
     (found : List (Option NumberSet)) (made : Option Making) : Type 0 where
-  pub rising : parts ≡ parts_of batches cs
+  pub rising : parts ≡ footprint_parts batches cs
   -- it has a list for each part that it took, and for no other
   pub filled : (b : ℕ) → b < 12 → is_some (get_or found b None) ≡ is_in b (take taken parts)
   pub own : LieInParts (notes found)

@@ -9,7 +9,7 @@ use Rattle.moc_parts.specs.Batches.{batches}
 use Rattle.moc_steps.specs.Locks.{Running, holder, is_any}
 use Rattle.moc_steps.specs.Explains.{names}
 use Rattle.moc_steps.specs.Laws.{IsReached}
-use Rattle.moc_steps.specs.Played.{World, entries_of}
+use Rattle.moc_steps.specs.Played.{BatchWorld, entries_of}
 use Rattle.moc_steps.specs.Private.Standing.{Standing}
 use Rattle.moc_steps.specs.declared.step.Entry.{Entry}
 
@@ -18,7 +18,7 @@ unfoldable pub values_by : {X Y : Type 0} → (X → Y) → map.FinMap nat_cmp X
 values_by f m = map.from_sorted (map_list (λ e. (e.0, f e.1)) (map.entries m))
 
 -- the world that the program keeps
-abbrev pub world_of : ℕ → map.FinMap nat_cmp Standing → List NumberSet → List Entry → World
+abbrev pub world_of : ℕ → map.FinMap nat_cmp Standing → List NumberSet → List Entry → BatchWorld
 world_of begun clients parts order = record {
   locks = record { begun = begun; clients = values_by (λ s. s.running) clients };
   parts = parts;
@@ -42,10 +42,10 @@ pub record IsKept (begun : ℕ) (clients : map.FinMap nat_cmp Standing) (parts :
       → HasPlace (names (entries_of order)) s.running s.place
 
 -- nobody holds a part
-abbrev pub IsFree : World → Type 0
+abbrev pub IsFree : BatchWorld → Type 0
 IsFree w = (b : ℕ) → b < 12 → holder batches w.locks.clients b ≡ None
 
 -- a client holds a part, and nobody holds a higher one
-abbrev pub IsHighest : World → ℕ → ℕ → Type 0
+abbrev pub IsHighest : BatchWorld → ℕ → ℕ → Type 0
 IsHighest w c b =
     (holder batches w.locks.clients b ≡ Some c) × ((d : ℕ) → b < d → d < 12 → holder batches w.locks.clients d ≡ None)

@@ -3,7 +3,7 @@ use Rattle.std.specs.Prelude.{ℕ, ◌+◌, List, [], ◌∷◌, length, Option,
 use Rattle.moc_ranges.specs.Numbers.{NumberSet}
 use Rattle.moc_text.specs.declared.ascii.number.Parts.{Parts}
 use Rattle.moc_text.specs.declared.ascii.error.TextError.{TextError}
-use Rattle.moc_text.specs.Ascii.{Word, words, order_at, fault_of, pixels_said, deepest_of}
+use Rattle.moc_text.specs.Ascii.{Word, words, order_in_force, fault_of, pixels_said, deepest_of}
 use Rattle.moc_text.specs.Private.Scan.{◌>>=◌, scan_word}
 
 -- the numbers of a word, or the fault of its shape
@@ -23,7 +23,7 @@ numbers_of before [] = Ok []
 numbers_of before (w ∷ ws) = do
   found ← parts_of w
   n ← faultless (fault_of before w.at found) found
-  ns ← numbers_of (order_at before n.mark) ws
+  ns ← numbers_of (order_in_force before n.mark) ws
   Ok (n ∷ ns)
 
 -- the set and the deepest order that a text says, or its first fault

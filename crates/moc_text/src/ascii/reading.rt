@@ -2,7 +2,7 @@
 ghost use Rattle.std.specs.Prelude.{◌≡◌, ℕ, [], IfOk, IfErr, MatchResult, None, Option, Some, ◌⊎◌};
 ghost use Rattle.std.specs.FinSet as set;
 ghost use Rattle.moc_ranges.specs.Numbers.{NumberSet};
-ghost use Rattle.moc_text.specs.Ascii.{mark_fault, item_fault, item_pixels, order_at, deeper, Says, IsFirstFault};
+ghost use Rattle.moc_text.specs.Ascii.{mark_fault, item_fault, item_pixels, order_in_force, deeper, Says, IsFirstFault};
 ghost use Rattle.moc_text.specs.Faults.{Fails};
 ghost use Rattle.moc_text.specs.Private.AsciiReading.{Progress};
 ghost use Rattle.moc_text.specs.Reading.{IsReadingOf, ReadingsAreTold};
@@ -27,8 +27,8 @@ impl Reading {
     fn enter(&mut self, mark: Option<Number>) -> Result<(), TextError>
         ensures { MatchResult result
             (λ _. (mark_fault mark ≡ None)
-            × (self.new.order ≡ order_at self.old.order mark)
-            × (self.new.deepest ≡ deeper self.old.deepest (order_at None mark))
+            × (self.new.order ≡ order_in_force self.old.order mark)
+            × (self.new.deepest ≡ deeper self.old.deepest (order_in_force None mark))
             × (self.new.cells ≡ self.old.cells))
             (λ e. mark_fault mark ≡ Some e) }
     {

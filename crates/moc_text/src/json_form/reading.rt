@@ -7,10 +7,11 @@ ghost use Rattle.serde_json.specs.View.{view, items_view, members_view};
 ghost use Rattle.moc_ranges.specs.Numbers.{NumberSet};
 ghost use Rattle.moc_text.specs.Ascii.{deeper as deeper_of};
 ghost use Rattle.moc_text.specs.Faults.{Fails};
-ghost use Rattle.moc_text.specs.JsonForm.{order_of_name, whole, cell_pixels, item_fault, items_pixels, items_fault};
+ghost use Rattle.moc_text.specs.JsonForm.{order_of_name, whole_number, cell_pixels, element_fault, items_pixels};
+ghost use Rattle.moc_text.specs.JsonForm.{elements_fault};
 ghost use Rattle.moc_text.specs.JsonForm.{array_pixels, name_fault, members_pixels, members_fault, deepest_name};
 ghost use Rattle.moc_text.specs.JsonForm.{member_at as member_of, HasItem, HasName, IsJson, IsNotJson};
-ghost use Rattle.moc_text.specs.JsonForm.{NamesOrder, SaysJson};
+ghost use Rattle.moc_text.specs.JsonForm.{NameIsOrder, SaysJson};
 ghost use Rattle.moc_text.specs.JsonForm.{IsJsonFault};
 ghost use Rattle.moc_text.specs.Private.JsonReading.{held_order};
 
@@ -56,9 +57,9 @@ fn read_cell(
     value: &Value,
 ) -> Result<(), JsonError>
     ensures { MatchResult result
-        (λ _. (item_fault order name place (whole (view value.now)) ≡ None)
-        × (cells.new ≡ set.union cells.old (cell_pixels order (whole (view value.now)))))
-        (λ e. Fails JsonError.Memory (item_fault order name place (whole (view value.now))) e) }
+        (λ _. (element_fault order name place (whole_number (view value.now)) ≡ None)
+        × (cells.new ≡ set.union cells.old (cell_pixels order (whole_number (view value.now)))))
+        (λ e. Fails JsonError.Memory (element_fault order name place (whole_number (view value.now))) e) }
 {
     let Some(index) = value.as_u64() else {
         return Err(JsonError::NotWhole { name, place });
@@ -78,9 +79,9 @@ fn read_cells(
     values: &[Value],
 ) -> Result<(), JsonError>
     ensures { MatchResult result
-        (λ _. (items_fault order name 0 (items_view values.now) ≡ None)
+        (λ _. (elements_fault order name 0 (items_view values.now) ≡ None)
         × (cells.new ≡ set.union cells.old (items_pixels order (items_view values.now))))
-        (λ e. Fails JsonError.Memory (items_fault order name 0 (items_view values.now)) e) }
+        (λ e. Fails JsonError.Memory (elements_fault order name 0 (items_view values.now)) e) }
 {
     for (place, value) in values.iter().enumerate() {
         read_cell(cells, order, name, place, value)?;
@@ -201,7 +202,7 @@ fn member_at(members: &Map<String, Value>, number: usize) -> Option<(&String, &V
 ///
 /// Refused with `NotJson` and `Memory` as `read_json`, whose first pass it makes again.
 pub fn json_order(alloc: Global, text: &[u8], name: usize) -> Result<Option<Order>, JsonError>
-    ensures order { IfOk result (λ k. NamesOrder text.now name k) }
+    ensures order { IfOk result (λ k. NameIsOrder text.now name k) }
     ensures fault { IfErr result (λ e. (e ≡ JsonError.Memory) ⊎ ((e ≡ JsonError.NotJson) × IsNotJson text.now)) }
 {
     let value = parse(alloc, text)?;

@@ -3,9 +3,9 @@ use Rattle.std.proofs.Common.{◌≡◌, Result, Ok, Err, IfOk, OnOk, sym, subst
 use Rattle.std.specs.FinMap as map
 use Rattle.moc_ranges.specs.Numbers.{NumberSet}
 use Rattle.moc_parts.specs.Batches.{batches}
-use Rattle.moc_steps.specs.Explains.{Explains, result}
+use Rattle.moc_steps.specs.Explains.{Explains, set_by_order}
 use Rattle.moc_steps.specs.Operations.{midway}
-use Rattle.moc_steps.specs.Played.{World}
+use Rattle.moc_steps.specs.Played.{BatchWorld}
 use Rattle.moc_steps.specs.World.{whole}
 use Rattle.map_tests.specs.Worlds.{IsMadeInOrder}
 use Rattle.map_tests.proofs.steps.set_in_order.Goals as goal
@@ -16,15 +16,15 @@ where_ok Q R (Err e) q p f = tt
 
 pub returns : goal.returns
 returns c =
-    let w : World = c.args.world.now in
+    let w : BatchWorld = c.args.world.now in
     let r = c.is_reached.ensures.reached in
     let one = c.steps_have_one_order.ensures r.start r.steps r.played in
-    let counted = subst (λ (v : World). map.len v.locks.clients ≡ midway r.steps) r.leads one.counted in
-    let together = subst (λ (v : World). midway r.steps ≡ 0 → whole batches v ≡ result batches v.order r.steps r.start) r.leads one.together in
+    let counted = subst (λ (v : BatchWorld). map.len v.locks.clients ≡ midway r.steps) r.leads one.counted in
+    let together = subst (λ (v : BatchWorld). midway r.steps ≡ 0 → whole batches v ≡ set_by_order batches v.order r.steps r.start) r.leads one.together in
     where_ok (λ (a : NumberSet). a ≡ whole batches w) (IsMadeInOrder w) c.coverage.result c.coverage.ensures.covered c.coverage.ensures.idle (λ a is idle. record {
       start = r.start;
       steps = r.steps;
       leads = r.leads;
-      explained = subst (λ (v : World). Explains batches v.order r.steps r.start) r.leads one.explained;
+      explained = subst (λ (v : BatchWorld). Explains batches v.order r.steps r.start) r.leads one.explained;
       made = is ∙ together (sym counted ∙ idle);
     })

@@ -2,7 +2,7 @@ use Rattle.std.proofs.Common.{◌≤◌, ◌∙◌, inr, sym, ap, arith, rules, 
 use Rattle.std.specs.FinSet as set
 use Rattle.moc_sphere.specs.CellNumber.{cell_count, cell_number}
 use Rattle.moc_ranges.specs.Cells.{pixels_of}
-use Rattle.moc_ranges.specs.Laws.{empty-union}
+use Rattle.moc_ranges.specs.Lemmas.{empty-union}
 use Rattle.moc_c.proofs.Failing.{cells_said, cells_unsaid}
 use Rattle.moc_c.proofs.Gathering.{one_more, none_left}
 use Rattle.moc_c.proofs.lists.set_of_cells.Goals as goal

@@ -1,11 +1,11 @@
 use Rattle.std.proofs.Common.{◌≡◌, ◌+◌, ◌<◌, ◌≤◌, ℕ, drop, length}
 use Rattle.std.specs.Prelude.{slice_index}
-use Rattle.moc_forms.specs.Describing.{count_at}
+use Rattle.moc_forms.specs.Describing.{cells_of_order}
 use Rattle.moc_forms.proofs.figures.counts.Given as goal
 
 abbrev pub invariant-loop-cell : goal.invariant-loop-cell
 invariant-loop-cell l = record {
   size : length l.counts ≡ 30;
   bounded : (k : ℕ) → k < 30 → slice_index l.counts k ≤ l.cell-index;
-  rest : (k : ℕ) → k < 30 → slice_index l.counts k + count_at (drop l.cell-index l.cells) k ≡ count_at l.cells k;
+  rest : (k : ℕ) → k < 30 → slice_index l.counts k + cells_of_order (drop l.cell-index l.cells) k ≡ cells_of_order l.cells k;
 }

@@ -1,7 +1,7 @@
 -- A line has as many pieces as semicolons, and one more.
 use Rattle.std.proofs.Common.{ap, arith, cond, length, sym}
 use Rattle.std.proofs.lemmas.Bool.{lt-ltb, le-ltb}
-use Rattle.moc_lines.specs.Batches.{pieces_of}
+use Rattle.moc_text.specs.Lines.{pieces_of}
 use Rattle.moc_lines.specs.declared.fault.Fault.TheVariants.{TooManyCommands}
 use Rattle.moc_lines.proofs.Batching.{pieces-counted}
 use Rattle.moc_lines.proofs.batch.fault_of.Goals as goal

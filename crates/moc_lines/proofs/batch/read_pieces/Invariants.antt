@@ -2,7 +2,8 @@
 use Rattle.std.proofs.Common.{◌≡◌, ◌+◌, ◌≤◌, length}
 use Rattle.std.specs.List.{position_or_len}
 use Rattle.moc_lines.specs.Language.{command_of}
-use Rattle.moc_lines.specs.Batches.{is_semicolon, pieces_of, commands_of}
+use Rattle.moc_text.specs.Lines.{is_semicolon, pieces_of}
+use Rattle.moc_lines.specs.Batches.{commands_of}
 use Rattle.moc_lines.proofs.Batching.{behind}
 use Rattle.moc_lines.proofs.batch.read_pieces.Given as goal
 

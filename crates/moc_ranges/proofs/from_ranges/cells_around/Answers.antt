@@ -1,5 +1,5 @@
 use Rattle.std.proofs.Common.{◌-◌, ◌+◌, arith}
-use Rattle.moc_sphere.specs.CellNumber.{cell_size-positive}
+use Rattle.moc_sphere.specs.Lemmas.{cell_size-positive}
 use Rattle.moc_ranges.proofs.Widening.{masked, wide_room}
 use Rattle.moc_ranges.proofs.from_ranges.cells_around.Goals as goal
 

@@ -1,4 +1,4 @@
-use Rattle.moc_ranges.specs.Laws.Cells.{cells_are}
+use Rattle.moc_ranges.specs.Lemmas.Cells.{cells_are}
 use Rattle.moc_ranges.proofs.laws.cells_are_cells.Goals as goal
 
 pub returns : goal.returns

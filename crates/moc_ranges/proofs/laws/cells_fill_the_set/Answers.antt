@@ -1,4 +1,4 @@
-use Rattle.moc_ranges.specs.Laws.{cells_fill}
+use Rattle.moc_ranges.specs.Lemmas.{cells_fill}
 use Rattle.moc_ranges.proofs.laws.cells_fill_the_set.Goals as goal
 
 pub returns : goal.returns

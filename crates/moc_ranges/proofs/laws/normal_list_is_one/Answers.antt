@@ -1,4 +1,4 @@
-use Rattle.moc_ranges.specs.Laws.Ranges.{same_normal}
+use Rattle.moc_ranges.specs.Lemmas.Ranges.{same_normal}
 use Rattle.moc_ranges.proofs.laws.normal_list_is_one.Goals as goal
 
 pub returns : goal.returns

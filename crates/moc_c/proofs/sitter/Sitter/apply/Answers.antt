@@ -1,5 +1,5 @@
 use Rattle.std.proofs.Common.{inl, inr, refl, ap, ◌∙◌}
-use Rattle.moc_c.specs.Outcomes.{refusal}
+use Rattle.moc_c.specs.Outcomes.{outcome_of}
 use Rattle.moc_c.proofs.Sharings.{applied, refused}
 use Rattle.moc_c.proofs.sitter.Sitter.apply.Goals as goal
 
@@ -13,4 +13,4 @@ pub returns : goal.returns
 returns c =
     let fails = c.in-Err.ensures in
     applied c.args.self.now _ c.in-Some.member c.apply.new.self c.args.line.now c.in-Ok.batch c.of-in-Err.result c.in-Some.is c.in-Ok.ensures fails.0
-    (inr (refused c.in-Some.member c.apply.new.self c.in-Ok.batch c.in-Err.error c.of-in-Err.result fails.1 (c.of-in-Err.ensures ∙ ap refusal c.from.ensures), refl))
+    (inr (refused c.in-Some.member c.apply.new.self c.in-Ok.batch c.in-Err.error c.of-in-Err.result fails.1 (c.of-in-Err.ensures ∙ ap outcome_of c.from.ensures), refl))

@@ -1,10 +1,10 @@
 use Rattle.std.proofs.Common.{sym, ◌∙◌}
 use Rattle.moc_c.specs.Answers.{both, set_at}
-use Rattle.moc_c.specs.Sharing.{count_at}
+use Rattle.moc_c.specs.Sharing.{client_count}
 use Rattle.moc_c.proofs.Sharings.{begin_taken}
 use Rattle.moc_c.proofs.sitter.Sitter.begin.Goals as goal
 
 pub returns-then-is_some : goal.returns-then-is_some
 returns-then-is_some c =
-    begin_taken c.args.self.now.member c.args.self.now.replies (both (set_at c.args.shelf.now c.args.a) (count_at c.args.clients)) c.of.result
+    begin_taken c.args.self.now.member c.args.self.now.replies (both (set_at c.args.shelf.now c.args.a) (client_count c.args.clients)) c.of.result
     (sym c.is_some.ensures ∙ c.if-is_some.true) c.of.ensures

@@ -1,5 +1,5 @@
 use Rattle.std.proofs.Common.{ap, ◌∙◌}
-use Rattle.moc_c.specs.Outcomes.{refusal}
+use Rattle.moc_c.specs.Outcomes.{outcome_of}
 use Rattle.moc_c.proofs.Sharings.{laid, not_laid}
 use Rattle.moc_c.proofs.sitter.Sitter.lay.Goals as goal
 
@@ -9,4 +9,4 @@ returns-in-Ok c =
 
 pub returns-in-Err : goal.returns-in-Err
 returns-in-Err c =
-    not_laid c.args.self.now c.in-Some.member c.read.new.self c.args.shelf.now c.in-Err.error c.of-in-Err.result c.in-Some.is c.in-Err.ensures (c.of-in-Err.ensures ∙ ap refusal c.from.ensures)
+    not_laid c.args.self.now c.in-Some.member c.read.new.self c.args.shelf.now c.in-Err.error c.of-in-Err.result c.in-Some.is c.in-Err.ensures (c.of-in-Err.ensures ∙ ap outcome_of c.from.ensures)

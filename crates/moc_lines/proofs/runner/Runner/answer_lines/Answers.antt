@@ -1,7 +1,7 @@
 -- Each turn of the loop, and each way out of it.
 use Rattle.std.proofs.Common.{◌≡◌, ◌∙◌, sym, refl, arith}
 use Rattle.std.proofs.KnownBytes.{Consumes-nil}
-use Rattle.moc_devices.specs.Laws.{CallsMore-none, CallsMore-later}
+use Rattle.moc_devices.specs.Lemmas.{CallsMore-none, CallsMore-later}
 use Rattle.moc_lines.proofs.Outcomes.{at_ok, unmarked}
 use Rattle.moc_lines.proofs.Progress.{at_found, Progress-start, Progress-sent, Progress-line, ReachedEnd-nothing, ReachedEnd-last, Ended-fault, Ended-refused, Ended-uncounted, Ended-closed, Ended-write}
 use Rattle.moc_lines.proofs.runner.Runner.answer_lines.Goals as goal

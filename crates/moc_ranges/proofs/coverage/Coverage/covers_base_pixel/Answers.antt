@@ -1,6 +1,6 @@
 use Rattle.std.proofs.Common.{◌∙◌, ap, sym, arith}
 use Rattle.std.specs.FinSet as set
-use Rattle.moc_ranges.specs.Numbers.{same_members}
+use Rattle.moc_ranges.specs.Lemmas.Members.{same_members}
 use Rattle.moc_ranges.specs.Pixels.{pixels}
 use Rattle.moc_ranges.specs.Operations.{part_of}
 use Rattle.moc_ranges.proofs.Views.{part_past, all_of_none}

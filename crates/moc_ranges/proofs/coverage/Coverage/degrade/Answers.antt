@@ -1,7 +1,6 @@
 use Rattle.std.proofs.Common.{ℕ, ap, ◌∙◌, map}
 use Rattle.moc_ranges.specs.Private.Widen.{widen}
-use Rattle.moc_ranges.specs.Numbers.{same_members}
-use Rattle.moc_ranges.specs.RangeList.{in_ranges, contains-set_of}
+use Rattle.moc_ranges.specs.Lemmas.Members.{same_members, in_ranges, contains-set_of}
 use Rattle.moc_ranges.proofs.Widening.{degraded}
 use Rattle.moc_ranges.proofs.coverage.Coverage.degrade.Goals as goal
 

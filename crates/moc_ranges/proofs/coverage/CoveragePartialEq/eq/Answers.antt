@@ -1,4 +1,4 @@
-use Rattle.moc_ranges.specs.Same.{same_truth, is_same-equal, equal-is_same}
+use Rattle.moc_ranges.specs.Lemmas.Members.{same_truth, is_same-equal, equal-is_same}
 use Rattle.moc_ranges.proofs.coverage.CoveragePartialEq.eq.Goals as goal
 
 pub returns : goal.returns

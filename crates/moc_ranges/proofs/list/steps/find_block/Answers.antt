@@ -1,5 +1,6 @@
 use Rattle.std.proofs.Common.{◌<◌, ◌+◌, ◌-◌, ◌/◌, arith, ap, sym, ◌∙◌, length, subst, List, ℕ}
-use Rattle.moc_ranges.specs.RangeList.{IsNormal, in_ranges}
+use Rattle.moc_ranges.specs.RangeList.{IsNormal}
+use Rattle.moc_ranges.specs.Lemmas.Members.{in_ranges}
 use Rattle.moc_ranges.specs.Private.Blocks.{joining}
 use Rattle.moc_ranges.proofs.Stepping.{narrow_left, narrow_right, block_left, block_right, block_here, block_ok, found_none_blocks, spent_within, spent_after, few_blocks}
 use Rattle.moc_ranges.proofs.list.steps.find_block.Goals as goal

@@ -1,6 +1,7 @@
 use Rattle.std.proofs.Common.{◌∙◌, arith, ap}
 use Rattle.std.proofs.lemmas.Result.{IfOk-weaker}
-use Rattle.moc_ranges.specs.RangeList.{in_ranges, set_of}
+use Rattle.moc_ranges.specs.Lemmas.Members.{in_ranges}
+use Rattle.moc_ranges.specs.RangeList.{set_of}
 use Rattle.moc_ranges.proofs.Blocking.{none_there}
 use Rattle.moc_ranges.proofs.Turning.{first_item}
 use Rattle.moc_ranges.proofs.Views.{union_view}

@@ -1,6 +1,7 @@
 use Rattle.std.proofs.Common.{◌∙◌, ℕ, Option, ap, arith, subst}
 use Rattle.std.proofs.lemmas.Result.{IfOk-weaker}
-use Rattle.moc_ranges.specs.RangeList.{in_ranges, set_of}
+use Rattle.moc_ranges.specs.Lemmas.Members.{in_ranges}
+use Rattle.moc_ranges.specs.RangeList.{set_of}
 use Rattle.moc_ranges.specs.Private.Walks.{begun}
 use Rattle.moc_ranges.specs.Private.Built.{ranges_of}
 use Rattle.moc_ranges.specs.Private.Differing.{IsDiffering}

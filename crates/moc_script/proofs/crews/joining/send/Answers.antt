@@ -3,7 +3,7 @@ use Rattle.std.proofs.Common.{List, ℕ, [], ◌++◌, refl, sym, ap, ◌∙◌,
 use Rattle.std.specs.Io.KnownBytes.{Appends}
 use Rattle.std.proofs.KnownBytes.{Appends-nil}
 use Rattle.moc_devices.specs.Devices.{Sends}
-use Rattle.moc_devices.specs.Laws.{CallsMore-none, CallsMore-later}
+use Rattle.moc_devices.specs.Lemmas.{CallsMore-none, CallsMore-later}
 use Rattle.moc_script.proofs.Sending.{Sends-front, Sends-fails, marked, well, on_err, on_fault}
 use Rattle.moc_script.proofs.crews.joining.send.Goals as goal
 

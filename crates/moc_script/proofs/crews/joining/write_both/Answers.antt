@@ -1,6 +1,6 @@
 -- The text is taken, and what is written of the one behind it stands behind it.
 use Rattle.std.proofs.Common.{[]}
-use Rattle.moc_devices.specs.Laws.{CallsMore-later}
+use Rattle.moc_devices.specs.Lemmas.{CallsMore-later}
 use Rattle.moc_script.proofs.Sending.{Sends-front, Sends-fails, marked, well, on_err, on_fault}
 use Rattle.moc_script.proofs.crews.joining.write_both.Goals as goal
 

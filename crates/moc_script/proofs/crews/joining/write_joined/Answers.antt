@@ -1,7 +1,7 @@
 -- One lane's answers as they stand, or those of several in turn.
 use Rattle.std.proofs.Common.{◌∙◌, List, ℕ, [], Ok, Err, ap, subst, arith}
 use Rattle.std.proofs.lemmas.List.{get_or_default}
-use Rattle.moc_ranges.specs.Blocks.{joining}
+use Rattle.std.specs.List.{concat}
 use Rattle.moc_script.specs.Private.Joining.{JoinsTo}
 use Rattle.moc_devices.specs.declared.device.DeviceFault.{DeviceFault}
 use Rattle.moc_script.specs.declared.crews.joining.JoinError.TheVariants.{Write}
@@ -11,12 +11,12 @@ use Rattle.moc_script.proofs.crews.joining.write_joined.Goals as goal
 pub returns-then-answers-eq1-clause-sends : goal.returns-then-answers-eq1-clause-sends
 returns-then-answers-eq1-clause-sends g c other =
     joins_ok c.args.answers.now c.args.behind.now (g.W.Sink.written c.args.writer.now) (g.W.Sink.written c.write_both.new.writer)
-    (joins_alone c.args.answers.now c.as_bytes.result.now c.args.behind.now _ _ (Ok c.in_ok-write_both.field-0) (omega (arith, c.if-answers-eq1.true)) (c.as_bytes.ensures ∙ ap joining (c.index-answers-0.is ∙ get_or_default c.args.answers.now 0 c.index-answers-0.result [] c.requires.some)) c.in_ok-write_both.ensures.sends)
+    (joins_alone c.args.answers.now c.as_bytes.result.now c.args.behind.now _ _ (Ok c.in_ok-write_both.field-0) (omega (arith, c.if-answers-eq1.true)) (c.as_bytes.ensures ∙ ap concat (c.index-answers-0.is ∙ get_or_default c.args.answers.now 0 c.index-answers-0.result [] c.requires.some)) c.in_ok-write_both.ensures.sends)
 
 pub returns-in_err-write_both-clause-sends : goal.returns-in_err-write_both-clause-sends
 returns-in_err-write_both-clause-sends g c other =
     joins_handed c.args.answers.now c.args.behind.now (g.W.Sink.written c.args.writer.now) (g.W.Sink.written c.write_both.new.writer) c.in_err-write_both.field-0.0 Write c.from_residual.result c.from_residual.ensures.1
-    (joins_alone c.args.answers.now c.as_bytes.result.now c.args.behind.now _ _ (Err c.in_err-write_both.field-0.0) (omega (arith, c.if-answers-eq1.true)) (c.as_bytes.ensures ∙ ap joining (c.index-answers-0.is ∙ get_or_default c.args.answers.now 0 c.index-answers-0.result [] c.requires.some)) c.in_err-write_both.ensures.sends)
+    (joins_alone c.args.answers.now c.as_bytes.result.now c.args.behind.now _ _ (Err c.in_err-write_both.field-0.0) (omega (arith, c.if-answers-eq1.true)) (c.as_bytes.ensures ∙ ap concat (c.index-answers-0.is ∙ get_or_default c.args.answers.now 0 c.index-answers-0.result [] c.requires.some)) c.in_err-write_both.ensures.sends)
 
 pub returns-clause-sends : goal.returns-clause-sends
 returns-clause-sends g c other =

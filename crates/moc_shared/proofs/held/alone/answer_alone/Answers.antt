@@ -1,6 +1,6 @@
 use Rattle.std.proofs.Common.{◌∙◌, List, [], ◌∷◌, map, Some, ap, sym, subst, arith}
 use Rattle.std.specs.Arc.{arc_value}
-use Rattle.moc_shared.specs.Rule.{index, note, parts_of}
+use Rattle.moc_shared.specs.Rule.{index, note, noted_parts}
 use Rattle.moc_shared.specs.Seats.{PartNote, part, IsProper}
 use Rattle.moc_shared.specs.Batches.{answer}
 use Rattle.moc_shared.specs.Private.Answering.{Answers}
@@ -12,7 +12,7 @@ use Rattle.moc_shared.proofs.Alone.{answers_alone}
 use Rattle.moc_shared.proofs.held.alone.answer_alone.Goals as goal
 
 pub end_alone-requires-clause-held : goal.end_alone-requires-clause-held
-end_alone-requires-clause-held c = ap (λ (l : List PartNote). parts_of l) c.requires.held.held
+end_alone-requires-clause-held c = ap (λ (l : List PartNote). noted_parts l) c.requires.held.held
 
 pub end_alone-requires-clause-answered : goal.end_alone-requires-clause-answered
 end_alone-requires-clause-answered c =
@@ -32,8 +32,8 @@ give_part-requires-clause-held c = (
 pub returns-in-Err-clause-idle : goal.returns-in-Err-clause-idle
 returns-in-Err-clause-idle c =
     none_carried c.give_part.new.seat.me.1
-    (c.give_part.ensures.carried ∙ (λ i. map index (parts_of (c.give_part.ensures.gave i).holds))
-    ∙ (λ i. map index (parts_of (behind_first (c.requires.held.held i)))))
+    (c.give_part.ensures.carried ∙ (λ i. map index (noted_parts (c.give_part.ensures.gave i).holds))
+    ∙ (λ i. map index (noted_parts (behind_first (c.requires.held.held i)))))
 
 pub returns-in-Err-clause-err : goal.returns-in-Err-clause-err
 returns-in-Err-clause-err c = c.give_part.ensures.gave

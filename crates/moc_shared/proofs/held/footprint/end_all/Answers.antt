@@ -1,5 +1,5 @@
 use Rattle.std.proofs.Common.{◌<◌, length, List, sym, ap, ◌∙◌, subst, Option, None, arith}
-use Rattle.moc_shared.specs.Rule.{parts_of}
+use Rattle.moc_shared.specs.Rule.{noted_parts}
 use Rattle.moc_shared.specs.Seats.{Pointer, PartNote, part, IsProper, at_place}
 use Rattle.moc_shared.specs.Private.Answering.{Answers}
 use Rattle.moc_shared.specs.Private.Slots.{replies_to}
@@ -20,8 +20,8 @@ end_call-requires-clause-held c =
     let top =
     top_note c.args.edited.now c.take_at.new.slots c.in-Some.b c.in-Some-take_at.pointer h.0 wide h.2
     (sym c.take_at.ensures.0 ∙ c.in-Some-take_at.is) c.take_at.ensures.1 in (
-      ap (λ (l : List PartNote). parts_of l) c.requires.held ∙ sym c.requires.edited.same_parts
-          ∙ ap (λ (l : List PartNote). parts_of l) top,
+      ap (λ (l : List PartNote). noted_parts l) c.requires.held ∙ sym c.requires.edited.same_parts
+          ∙ ap (λ (l : List PartNote). noted_parts l) top,
       apart_top c.take_at.new.slots 12 c.in-Some.b
           (ap (λ (l : List (Option Pointer)). at_place l c.in-Some.b) c.take_at.ensures.1
           ∙ place_set_same c.args.edited.now c.in-Some.b None wide),

@@ -2,7 +2,7 @@ use Rattle.std.specs.FinSet as set_of
 use Rattle.std.proofs.Common.{rules, ◌≡◌, ℕ, suc, ◌+◌, ◌<◌, List, refl, sym, ap, ◌∙◌, subst, arith, Contains, map, set}
 use Rattle.std.proofs.Common.{length, length-set, Option, Some, is_some, true}
 use Rattle.moc_parts.specs.Batches.{footprint_of_all}
-use Rattle.moc_shared.specs.Rule.{index, note, parts_of}
+use Rattle.moc_shared.specs.Rule.{index, note, noted_parts}
 use Rattle.moc_shared.specs.Seats.{Pointer, PartNote, Sight, notes_below, at_place, IsOwn}
 use Rattle.moc_shared.specs.Private.Plays.{with_parts}
 use Rattle.moc_shared.specs.Private.Slots.{IsRefused}
@@ -16,7 +16,7 @@ pub loop-b-init : goal.loop-b-init
 loop-b-init c = record {
   same = (refl, refl);
   carried = ap (λ (l : List (ℕ × Option Pointer)). map (λ x. x.0) l) c.requires.idle.1
-      ∙ sym (ap (λ (l : List PartNote). map index (parts_of l)) c.requires.idle.0);
+      ∙ sym (ap (λ (l : List PartNote). map index (noted_parts l)) c.requires.idle.0);
   view = start_parts c.args.seat.now.me.0 c.args.seat.now.me.0 c.no_slots-found.result refl c.requires.idle.0;
   long = search rules;
   so_far = λ k l. absurd (omega arith);
@@ -78,7 +78,7 @@ loop-b-preserved c =
                   ∙ w.take_slot.ensures.same.1 ∙ inv.same.1,
             );
             carried = (λ i. map (λ x. x.0) (w.seat-is i).me.1) ∙ w.take_slot.ensures.carried
-                ∙ sym (λ i. map index (parts_of (w.seat-is i).me.0.holds));
+                ∙ sym (λ i. map index (noted_parts (w.seat-is i).me.0.holds));
             view = took_part c.args.seat.now.me.0 c.loop-b.seat.me.0 c.if-contains.seat.me.0 c.loop-b.found
                 c.if-contains.found c.loop-b.b (c.loop-b.b + 1) w.in-Ok.pointer inv.view up
                 ((λ i. (w.seat-is i).me.0) ∙ w.in-Ok.ensures.ok.0) put wide;
@@ -93,7 +93,7 @@ loop-b-preserved c =
           }
       | else-contains w ↦ let none = inv.beyond c.loop-b.b (omega arith) in record {
         same = ((λ i. (w.seat-is i).table_id) ∙ inv.same.0, (λ i. (w.seat-is i).id) ∙ inv.same.1);
-        carried = (λ i. map (λ x. x.0) (w.seat-is i).me.1) ∙ inv.carried ∙ sym (λ i. map index (parts_of (w.seat-is i).me.0.holds));
+        carried = (λ i. map (λ x. x.0) (w.seat-is i).me.1) ∙ inv.carried ∙ sym (λ i. map index (noted_parts (w.seat-is i).me.0.holds));
         view = (λ i. (w.seat-is i).me.0)
             ∙ left_out c.args.seat.now.me.0 c.loop-b.seat.me.0 c.loop-b.found c.loop-b.b (c.loop-b.b + 1) inv.view up
             none ∙ sym (λ i. with_parts c.args.seat.now.me.0 (notes_below (w.found-is i) (c.loop-b.b + 1)));

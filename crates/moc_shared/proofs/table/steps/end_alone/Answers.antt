@@ -2,7 +2,7 @@ use Rattle.std.proofs.Common.{rules, ℕ, List, [], ◌∷◌, map, Some, refl, 
 use Rattle.std.specs.FinSet as set
 use Rattle.moc_shared.specs.History.{entry}
 use Rattle.moc_shared.specs.Batches.{answer}
-use Rattle.moc_shared.specs.Rule.{index, parts_of}
+use Rattle.moc_shared.specs.Rule.{index, noted_parts}
 use Rattle.moc_shared.specs.Seats.{content, part, IsProper, Sight}
 use Rattle.moc_shared.proofs.Basics.{none_in}
 use Rattle.moc_shared.proofs.Moves.{ends_call_as, ended_is}
@@ -36,6 +36,6 @@ returns g c = let v = c.args.seat.now.me.0 in
     (rest_parts c.args.seat.now.me.1 (index c.args.b) _ (c.requires.carried ∙ ap (λ (l : List ℕ). map index l) c.requires.held)) c.store.ensures.2 in
     record {
       same = search rules;
-      idle = none_carried c.store.new.seat.me.1 (t.0 ∙ ap (λ (u : Sight). map index (parts_of u.holds)) t.1.1);
+      idle = none_carried c.store.new.seat.me.1 (t.0 ∙ ap (λ (u : Sight). map index (noted_parts u.holds)) t.1.1);
       ended = t.1;
     }

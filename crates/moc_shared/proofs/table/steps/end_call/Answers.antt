@@ -2,7 +2,7 @@ use Rattle.std.proofs.Common.{rules, ℕ, List, ◌∷◌, map, Some, refl, ap, 
 use Rattle.std.specs.FinSet as set
 use Rattle.moc_shared.specs.History.{entry}
 use Rattle.moc_shared.specs.Batches.{answer}
-use Rattle.moc_shared.specs.Rule.{index, parts_of}
+use Rattle.moc_shared.specs.Rule.{index, noted_parts}
 use Rattle.moc_shared.specs.Seats.{content, part, IsProper, notes_below}
 use Rattle.moc_shared.specs.Private.Slots.{replies_to}
 use Rattle.moc_shared.proofs.Moves.{ends_call_as, ended_is}
@@ -14,7 +14,7 @@ exchange-requires g c = (
   c.requires.place.0,
   first_carried c.args.seat.now.me.1 c.index-index.result _
       (c.requires.carried ∙ ap (λ (l : List ℕ). map index l) c.requires.held.0
-      ∙ (λ i. sym c.index-index.ensures i ∷ map index (parts_of (notes_below c.args.rest.now 12)))),
+      ∙ (λ i. sym c.index-index.ensures i ∷ map index (noted_parts (notes_below c.args.rest.now 12)))),
 )
 
 pub store-requires : goal.store-requires

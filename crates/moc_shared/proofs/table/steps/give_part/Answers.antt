@@ -1,6 +1,6 @@
 use Rattle.std.proofs.Common.{rules, List, ◌∷◌, map, Option, Some, ap, ◌∙◌, subst, sym, arith}
 use Rattle.atomic_table.specs.Table.{rest, Me}
-use Rattle.moc_shared.specs.Rule.{index, parts_of}
+use Rattle.moc_shared.specs.Rule.{index, noted_parts}
 use Rattle.moc_shared.specs.Seats.{IsCarried, content, part, IsProper, Pointer, PartNote, Sight}
 use Rattle.moc_shared.specs.Private.Plays.{with_holds, behind_first}
 use Rattle.moc_shared.specs.Batches.{answer}
@@ -11,9 +11,9 @@ use Rattle.moc_shared.proofs.table.steps.give_part.Goals as goal
 pub exchange-requires : goal.exchange-requires
 exchange-requires c = let h = c.requires.held in (
   c.requires.place.0,
-  first_carried c.args.seat.now.me.1 c.index-index.result (map index (parts_of h.0))
-      (c.requires.carried ∙ ap (λ (l : List PartNote). map index (parts_of l)) h.1
-      ∙ (λ i. sym c.index-index.ensures i ∷ map index (parts_of h.0))),
+  first_carried c.args.seat.now.me.1 c.index-index.result (map index (noted_parts h.0))
+      (c.requires.carried ∙ ap (λ (l : List PartNote). map index (noted_parts l)) h.1
+      ∙ (λ i. sym c.index-index.ensures i ∷ map index (noted_parts h.0))),
 )
 
 pub store-requires : goal.store-requires

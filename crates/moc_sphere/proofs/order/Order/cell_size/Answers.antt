@@ -1,5 +1,6 @@
 use Rattle.std.proofs.Common.{◌*◌, ap, ◌∙◌, arith}
-use Rattle.moc_sphere.specs.CellNumber.{cell_count, cell_size, cell_size-fills}
+use Rattle.moc_sphere.specs.CellNumber.{cell_count, cell_size}
+use Rattle.moc_sphere.specs.Lemmas.{cell_size-fills}
 use Rattle.moc_sphere.proofs.CellFacts.{cell_size_code}
 use Rattle.moc_sphere.proofs.order.Order.cell_size.Goals as goal
 

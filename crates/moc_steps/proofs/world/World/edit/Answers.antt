@@ -10,7 +10,7 @@ use Rattle.moc_steps.specs.Private.Standing.{Standing}
 use Rattle.moc_steps.specs.Private.Changes.{IsChangeOf}
 use Rattle.moc_steps.specs.declared.table.Change.TheVariants.{Commit, Edit}
 use Rattle.moc_steps.specs.declared.step.Entry.{Entry}
-use Rattle.moc_steps.specs.Played.{World}
+use Rattle.moc_steps.specs.Played.{BatchWorld}
 use Rattle.moc_steps.specs.Private.Worlds.{world_of}
 use Rattle.moc_steps.proofs.Basics.{is_some_of}
 use Rattle.moc_steps.proofs.AnyObject.{reached_explained}
@@ -21,7 +21,7 @@ pub returns-in_default-clause-after : goal.returns-in_default-clause-after
 returns-in_default-clause-after c =
     let i = c.self.inside in
     is_midway i.begun i.clients i.parts.items i.holders i.order.items c.self.invariant c.args.client (λ r. edit_refusal batches r c.args.part)
-    (ap (λ (w : World). refusal batches w.locks (locks.Step.Edit c.args.client c.args.part)) c.self.view_is ∙ c.requires)
+    (ap (λ (w : BatchWorld). refusal batches w.locks (locks.Step.Edit c.args.client c.args.part)) c.self.view_is ∙ c.requires)
     (sym c.get.ensures ∙ ap option_copied c.in_default.is)
 
 pub edit_again-requires-clause-committed : goal.edit_again-requires-clause-committed
@@ -35,7 +35,7 @@ make-requires c =
     let i = c.self.inside in
     record {
       all = edit_all i.begun i.clients i.parts.items i.holders i.order.items c.self.invariant c.args.client c.args.part c.in-Some.midway.now (sym c.in-Some.ensures)
-          (ap (λ (w : World). refusal batches w.locks (locks.Step.Edit c.args.client c.args.part)) c.self.view_is ∙ c.requires);
+          (ap (λ (w : BatchWorld). refusal batches w.locks (locks.Step.Edit c.args.client c.args.part)) c.self.view_is ∙ c.requires);
     }
 
 pub change-requires : goal.change-requires
@@ -56,7 +56,7 @@ goes c =
     let list : NumberSet = c.in_ok-list.list in
     let made = c.in_ok-made.made in
     let has : map.get i.clients c.args.client ≡ Some s = sym c.in-Some.ensures in
-    let permitted = ap (λ (w : World). refusal batches w.locks (locks.Step.Edit c.args.client c.args.part)) c.self.view_is ∙ c.requires in
+    let permitted = ap (λ (w : BatchWorld). refusal batches w.locks (locks.Step.Edit c.args.client c.args.part)) c.self.view_is ∙ c.requires in
     let fits = edit_footprint i.begun i.clients i.parts.items i.holders i.order.items c.self.invariant c.args.client b s has permitted in
     let none : s.place ≡ None = is_some_of s.place (ap is_some (sym c.place.ensures) ∙ sym c.is_some.ensures ∙ c.if-is_some.false) in
     let place_is : made.place ≡ length i.order.items = (let a : made.place ≡ c.len.result = c.in_ok-made.ensures.place in let d = c.len.ensures in search rules) in
@@ -85,6 +85,6 @@ returns-in_default-list-clause-after c =
     let i = c.self.inside in
     let s : Standing = c.in-Some.midway.now in
     let fits = edit_footprint i.begun i.clients i.parts.items i.holders i.order.items c.self.invariant c.args.client c.args.part s (sym c.in-Some.ensures)
-    (ap (λ (w : World). refusal batches w.locks (locks.Step.Edit c.args.client c.args.part)) c.self.view_is ∙ c.requires) in
+    (ap (λ (w : BatchWorld). refusal batches w.locks (locks.Step.Edit c.args.client c.args.part)) c.self.view_is ∙ c.requires) in
     kept_some i.begun i.clients i.parts.items i.holders i.order.items c.self.invariant s.running.command s.found c.in_ok-made.made.lists c.args.part fits.0 fits.1 c.in_ok-made.ensures.made.parts
     (sym c.list.ensures ∙ ap option_copied c.in_default-list.is)

@@ -9,7 +9,7 @@ use Rattle.moc_steps.specs.World.{world_after}
 use Rattle.moc_steps.specs.Private.Standing.{Standing}
 use Rattle.moc_steps.specs.Private.Changes.{changed, IsChangeOf}
 use Rattle.moc_steps.specs.declared.table.Change.TheVariants.{Edit}
-use Rattle.moc_steps.specs.Played.{World, entries_of}
+use Rattle.moc_steps.specs.Played.{BatchWorld, entries_of}
 use Rattle.moc_steps.specs.Private.Worlds.{world_of}
 use Rattle.moc_steps.proofs.Basics.{some_same}
 use Rattle.moc_steps.proofs.AnyObject.{reached_explained}
@@ -26,7 +26,7 @@ pub returns-in_default-clause-after : goal.returns-in_default-clause-after
 returns-in_default-clause-after c =
     let i = c.self.inside in
     is_midway i.begun i.clients i.parts.items i.holders i.order.items c.self.invariant c.args.client (λ r. edit_refusal batches r c.args.part)
-    (ap (λ (w : World). refusal batches w.locks (locks.Step.Edit c.args.client c.args.part)) c.self.view_is ∙ c.requires.permitted)
+    (ap (λ (w : BatchWorld). refusal batches w.locks (locks.Step.Edit c.args.client c.args.part)) c.self.view_is ∙ c.requires.permitted)
     (sym c.get.ensures ∙ ap option_copied c.in_default.is)
 
 any : (c : goal.In-Some) → is_any c.in-Some.midway.now.running.edited ≡ true
@@ -43,7 +43,7 @@ pub new_list-requires-clause-part : goal.new_list-requires-clause-part
 new_list-requires-clause-part c =
     let i = c.self.inside in
     (edit_footprint i.begun i.clients i.parts.items i.holders i.order.items c.self.invariant c.args.client c.args.part c.in-Some.midway.now (sym c.in-Some.ensures)
-    (ap (λ (w : World). refusal batches w.locks (locks.Step.Edit c.args.client c.args.part)) c.self.view_is ∙ c.requires.permitted)).1
+    (ap (λ (w : BatchWorld). refusal batches w.locks (locks.Step.Edit c.args.client c.args.part)) c.self.view_is ∙ c.requires.permitted)).1
 
 pub change-requires : goal.change-requires
 change-requires c =
@@ -72,7 +72,7 @@ goes c =
     (edit_goes i.begun i.clients i.parts.items i.holders i.order.items c.self.invariant c.args.client c.args.part s (changed s (Edit c.args.part)) c.in_ok-list.list i.order.items has refl refl list_is
     (sym (ap (λ (t : Bool). cond t (entries_of i.order.items) (entries_of i.order.items ++ record { begin = s.running.operation; client = c.args.client; reply = None } ∷ [])) edited))
     (edited_place i.begun i.clients i.parts.items i.holders i.order.items c.self.invariant c.args.client c.args.part s has edited) c.self.invariant.placed
-    (ap (λ (w : World). refusal batches w.locks (locks.Step.Edit c.args.client c.args.part)) c.self.view_is ∙ c.requires.permitted)))
+    (ap (λ (w : BatchWorld). refusal batches w.locks (locks.Step.Edit c.args.client c.args.part)) c.self.view_is ∙ c.requires.permitted)))
 
 pub invariant_of-self : goal.invariant_of-self
 invariant_of-self c = (goes c).1

@@ -1,7 +1,7 @@
 use Rattle.std.proofs.Common.{◌≡◌, ℕ, ◌-◌, ◌<◌, None, get_or, inl, inr, sym, ap, ◌∙◌, arith}
 use Rattle.moc_parts.specs.Batches.{batches}
 use Rattle.moc_steps.specs.Locks.{holder}
-use Rattle.moc_steps.specs.Played.{World}
+use Rattle.moc_steps.specs.Played.{BatchWorld}
 use Rattle.moc_steps.proofs.Basics.{none_or_some, same_or}
 use Rattle.moc_steps.proofs.world.World.next.Goals as goal
 
@@ -14,7 +14,7 @@ step_of_holder-requires c =
     let is : b ≡ 11 - c.loop-above.above = c.of-part.ensures in
     let under : c.loop-above.above < 12 = c.loop-above-test.true in
     let low : b < 12 = omega arith in (
-      sym (ap (λ (w : World). holder batches w.locks.clients b) c.self.view_is) ∙ sym (c.self.invariant.held b low)
+      sym (ap (λ (w : BatchWorld). holder batches w.locks.clients b) c.self.view_is) ∙ sym (c.self.invariant.held b low)
           ∙ ap (λ k. get_or c.self.inside.holders k None) (sym (c.from.ensures ∙ c.get.ensures.value)) ∙ c.in-Some.is,
       λ d l k. c.loop-above.invariant d (omega arith) k,
     )
@@ -26,7 +26,7 @@ loop-above-preserved c = λ d l k.
     let under : c.loop-above.above < 12 = c.loop-above-test.true in
     let low : b < 12 = omega arith in
     elim (same_or d b) [
-      | inl e ↦ ap (holder batches c.args.self.now.locks.clients) e ∙ sym (ap (λ (w : World). holder batches w.locks.clients b) c.self.view_is) ∙ sym (c.self.invariant.held b low)
+      | inl e ↦ ap (holder batches c.args.self.now.locks.clients) e ∙ sym (ap (λ (w : BatchWorld). holder batches w.locks.clients b) c.self.view_is) ∙ sym (c.self.invariant.held b low)
           ∙ elim (none_or_some (get_or c.self.inside.holders b None)) [
             | inl none ↦ none
             | inr some ↦ absurd (c.in_default.not-Some some.0 (ap (λ k. get_or c.self.inside.holders k None) (c.from.ensures ∙ c.get.ensures.value) ∙ some.1))

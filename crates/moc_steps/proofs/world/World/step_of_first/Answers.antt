@@ -4,7 +4,7 @@ use Rattle.moc_parts.specs.Batches.{batches}
 use Rattle.moc_steps.specs.World.{running}
 use Rattle.moc_steps.specs.Laws.{IsReached}
 use Rattle.moc_steps.specs.Private.Standing.{Standing}
-use Rattle.moc_steps.specs.Played.{World}
+use Rattle.moc_steps.specs.Played.{BatchWorld}
 use Rattle.moc_steps.proofs.Values.{len-values}
 use Rattle.moc_steps.proofs.KeptSteps.{seen_as}
 use Rattle.moc_steps.proofs.Going.{free_ends, free_takes}
@@ -13,7 +13,7 @@ use Rattle.moc_steps.proofs.world.World.step_of_first.Goals.{then-quits-via-then
 
 pub returns-in_err-client-clause-none : goal.returns-in_err-client-clause-none
 returns-in_err-client-clause-none c = λ _.
-    sym (ap (λ (w : World). map.len w.locks.clients) c.self.view_is) ∙ len-values (λ (s : Standing). s.running) c.self.inside.clients ∙ c.in_err-client.ensures.none refl
+    sym (ap (λ (w : BatchWorld). map.len w.locks.clients) c.self.view_is) ∙ len-values (λ (s : Standing). s.running) c.self.inside.clients ∙ c.in_err-client.ensures.none refl
 
 pub returns-then-quits-clause-some : goal.returns-then-quits-clause-some
 returns-then-quits-clause-some c =

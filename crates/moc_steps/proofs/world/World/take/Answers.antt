@@ -8,7 +8,7 @@ use Rattle.moc_steps.specs.World.{world_after}
 use Rattle.moc_steps.specs.Private.Standing.{Standing}
 use Rattle.moc_steps.specs.Private.Changes.{IsChangeOf}
 use Rattle.moc_steps.specs.declared.table.Change.TheVariants.{Take}
-use Rattle.moc_steps.specs.Played.{World}
+use Rattle.moc_steps.specs.Played.{BatchWorld}
 use Rattle.moc_steps.specs.Private.Worlds.{world_of}
 use Rattle.moc_steps.proofs.AnyObject.{reached_explained}
 use Rattle.moc_steps.proofs.Notes.{same_default}
@@ -19,7 +19,7 @@ pub returns-in_default-clause-after : goal.returns-in_default-clause-after
 returns-in_default-clause-after c =
     let i = c.self.inside in
     is_midway i.begun i.clients i.parts.items i.holders i.order.items c.self.invariant c.args.client (take_refusal batches (world_of i.begun i.clients i.parts.items i.order.items).locks)
-    (ap (λ (w : World). refusal batches w.locks (locks.Step.Take c.args.client)) c.self.view_is ∙ c.requires)
+    (ap (λ (w : BatchWorld). refusal batches w.locks (locks.Step.Take c.args.client)) c.self.view_is ∙ c.requires)
     (sym c.get.ensures ∙ ap option_copied c.in_default.is)
 
 pub index-requires : goal.index-requires
@@ -57,7 +57,7 @@ goes c =
     subst (λ k. Goes i.begun i.clients i.parts.items i.order.items (locks.Step.Take c.args.client) i.begun c.change.new.self i.parts.items (slice_set i.holders k (Some c.args.client)) i.order.items) (sym (c.from-2.ensures ∙ c.get-3.ensures.value))
     (subst (λ m. Goes i.begun i.clients i.parts.items i.order.items (locks.Step.Take c.args.client) i.begun m i.parts.items (slice_set i.holders q (Some c.args.client)) i.order.items) (sym c.change.ensures)
     (take_goes i.begun i.clients i.parts.items i.holders i.order.items c.self.invariant c.args.client q s c.in_ok-list.list (sym c.in-Some.ensures) (sym c.in-Some-next_part.ensures) is twelve
-    (ap (λ (w : World). refusal batches w.locks (locks.Step.Take c.args.client)) c.self.view_is ∙ c.requires)))
+    (ap (λ (w : BatchWorld). refusal batches w.locks (locks.Step.Take c.args.client)) c.self.view_is ∙ c.requires)))
 
 pub invariant_of-self : goal.invariant_of-self
 invariant_of-self c = (goes c).1
@@ -69,5 +69,5 @@ pub returns-in_default-next_part-clause-after : goal.returns-in_default-next_par
 returns-in_default-next_part-clause-after c =
     let i = c.self.inside in
     takes_some i.begun i.clients i.parts.items i.holders i.order.items c.self.invariant c.args.client c.in-Some.midway.now (sym c.in-Some.ensures)
-    (ap (λ (w : World). refusal batches w.locks (locks.Step.Take c.args.client)) c.self.view_is ∙ c.requires)
+    (ap (λ (w : BatchWorld). refusal batches w.locks (locks.Step.Take c.args.client)) c.self.view_is ∙ c.requires)
     (sym c.next_part.ensures ∙ c.in_default-next_part.is)

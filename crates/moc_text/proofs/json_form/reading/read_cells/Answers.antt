@@ -3,8 +3,8 @@ use Rattle.std.specs.FinSet as set
 use Rattle.std.proofs.lemmas.List.{drop_all}
 use Rattle.serde_json.specs.View.{view, items_view}
 use Rattle.serde_json.specs.declared.value.Value.{Value}
-use Rattle.moc_ranges.specs.Laws.{union-empty}
-use Rattle.moc_text.specs.JsonForm.{items_pixels, items_fault}
+use Rattle.moc_ranges.specs.Lemmas.{union-empty}
+use Rattle.moc_text.specs.JsonForm.{items_pixels, elements_fault}
 use Rattle.moc_text.proofs.JsonMembers.{item_fine, item_added}
 use Rattle.moc_text.proofs.json_form.reading.read_cells.Goals as goal
 
@@ -17,13 +17,13 @@ loop-place-preserved c =
     drop-cons c.args.values.now c.loop-place.place value c.loop-place-test.true ∙ ap (λ (v : Value). v ∷ drop (suc c.loop-place.place) c.args.values.now) (sym c.index-values-place.is) ∙ ap (λ (n : ℕ). value ∷ drop n c.args.values.now) after in
     let read = c.in_ok-read_cell.ensures in
     record {
-      fault = item_fine c.args.order c.args.name c.loop-place.place (view value) (items_view rest) read.0 ∙ ap (λ (vs : List Value). items_fault c.args.order c.args.name c.loop-place.place (items_view vs)) (sym next) ∙ c.loop-place.invariant.fault;
+      fault = item_fine c.args.order c.args.name c.loop-place.place (view value) (items_view rest) read.0 ∙ ap (λ (vs : List Value). elements_fault c.args.order c.args.name c.loop-place.place (items_view vs)) (sym next) ∙ c.loop-place.invariant.fault;
       set = item_added c.args.order c.loop-place.cells c.read_cell.new.cells (view value) (items_view rest) read.1 ∙ ap (λ (vs : List Value). set.union c.loop-place.cells (items_pixels c.args.order (items_view vs))) (sym next) ∙ c.loop-place.invariant.set;
     }
 
 pub returns : goal.returns
 returns c =
     let none : drop c.loop-place.place c.args.values.now ≡ [] = drop_all c.loop-place.place c.args.values.now c.loop-place-test.false in (
-      sym c.loop-place.invariant.fault ∙ ap (λ (vs : List Value). items_fault c.args.order c.args.name c.loop-place.place (items_view vs)) none,
+      sym c.loop-place.invariant.fault ∙ ap (λ (vs : List Value). elements_fault c.args.order c.args.name c.loop-place.place (items_view vs)) none,
       sym (union-empty c.loop-place.cells) ∙ ap (λ (vs : List Value). set.union c.loop-place.cells (items_pixels c.args.order (items_view vs))) (sym none) ∙ c.loop-place.invariant.set,
     )

@@ -3,7 +3,7 @@ use Rattle.std.specs.FinSet as set
 use Rattle.serde_json.specs.Find.{as_object}
 use Rattle.serde_json.specs.View.{view, members_view}
 use Rattle.moc_ranges.specs.Numbers.{NumberSet}
-use Rattle.moc_ranges.specs.Laws.{empty-union}
+use Rattle.moc_ranges.specs.Lemmas.{empty-union}
 use Rattle.moc_text.specs.JsonForm.{members_pixels, SaysJson}
 use Rattle.moc_text.proofs.JsonMembers.{one_members}
 use Rattle.moc_text.proofs.json_form.reading.read_json.Goals as goal

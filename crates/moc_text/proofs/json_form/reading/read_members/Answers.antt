@@ -7,7 +7,7 @@ use Rattle.serde_json.specs.Find.{as_array}
 use Rattle.serde_json.specs.declared.value.Value.{Value}
 use Rattle.std.proofs.lemmas.Map.Iter.{rest_more}
 use Rattle.serde_json.specs.View.{view, members_view}
-use Rattle.moc_ranges.specs.Laws.{union-empty}
+use Rattle.moc_ranges.specs.Lemmas.{union-empty}
 use Rattle.moc_text.specs.Ascii.{deeper}
 use Rattle.moc_text.specs.JsonForm.{order_of_name, array_pixels, name_fault, members_pixels, members_fault, deepest_name}
 use Rattle.moc_text.proofs.JsonMembers.{member_fine, member_added, member_deepest}

@@ -1,6 +1,6 @@
 -- One more answer is sent, the writer failed, or none is left.
 use Rattle.std.proofs.Common.{◌≡◌, inl, inr, ℕ, ◌+◌, ◌<◌, ◌∷◌, [], length, get_or, sym, refl, subst, arith}
-use Rattle.moc_devices.specs.Laws.{CallsMore-none, CallsMore-later}
+use Rattle.moc_devices.specs.Lemmas.{CallsMore-none, CallsMore-later}
 use Rattle.moc_script.proofs.Joinings.{Turns, Turns-start, Turns-more, Turns-end, Turns-fail, next_has, next_none}
 use Rattle.moc_script.proofs.crews.joining.Joiner.write_turns.Goals as goal
 

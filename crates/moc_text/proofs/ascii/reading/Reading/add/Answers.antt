@@ -1,5 +1,5 @@
 use Rattle.std.proofs.Common.{refl, sym}
-use Rattle.moc_ranges.specs.Laws.{union-empty}
+use Rattle.moc_ranges.specs.Lemmas.{union-empty}
 use Rattle.moc_text.proofs.ascii.reading.Reading.add.Goals as goal
 
 pub returns-in_default : goal.returns-in_default

@@ -8,9 +8,10 @@ use Rattle.std.proofs.lemmas.Bool.Decides.{nat_tests}
 use Rattle.std.proofs.lemmas.Bool.{cases_lt}
 use Rattle.std.proofs.lemmas.List.Sums.{sum_by-cons}
 use Rattle.std.proofs.Common.{◌∙◌, zero, suc, ◌+◌, ◌-◌, true, false, cond, refl, sym, ap, arith, inl, inr, sum_by, ◌⊎◌}
-use Rattle.moc_ranges.specs.Numbers.{NumberSet, numbers, contains-numbers, same_members}
+use Rattle.moc_ranges.specs.Numbers.{NumberSet, numbers}
+use Rattle.moc_ranges.specs.Lemmas.Members.{contains-numbers, same_members, contains-set_of, in_ranges}
 use Rattle.moc_ranges.specs.Pixels.{pixel_count}
-use Rattle.moc_ranges.specs.RangeList.{set_of, contains-set_of, BeginsAfter, IsNormal, in_ranges}
+use Rattle.moc_ranges.specs.RangeList.{set_of, BeginsAfter, IsNormal}
 
 -- no number up to the end of a normal list's first range is in a later one
 pub later_only : (x q : ℕ) (ranges : List (ℕ × ℕ)) → IsNormal ranges → BeginsAfter x ranges → q ≤ x

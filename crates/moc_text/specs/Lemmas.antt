@@ -1,4 +1,4 @@
--- A law of readings, for the proofs of callers: the set that a text says lies in the sky.
+-- A lemma on readings, for the proofs of callers: the set that a text says lies in the sky.
 pub mod Depths
 use Rattle.std.proofs.Common.{◌≡◌, ℕ, ◌&&◌, ◌||◌, Bool, true, false, List, [], ◌∷◌, Option, None, Some, Result, Ok, Err}
 use Rattle.std.proofs.Common.{refl, sym, ◌∙◌}
@@ -8,12 +8,12 @@ use Rattle.std.specs.Cmp.{nat_cmp_total}
 use Rattle.std.specs.FinSet as set
 use Rattle.moc_ranges.specs.Numbers.{NumberSet}
 use Rattle.moc_ranges.specs.Pixels.{pixels}
-use Rattle.moc_ranges.specs.Operations.{IsWithin, contains-pixels}
-use Rattle.moc_ranges.specs.Cells.{contains-spans}
+use Rattle.moc_ranges.specs.Operations.{IsWithin}
+use Rattle.moc_ranges.specs.Lemmas.Members.{contains-pixels, contains-spans}
 use Rattle.moc_text.specs.declared.ascii.number.Item.{Item}
 use Rattle.moc_text.specs.declared.ascii.number.Parts.{Parts}
 use Rattle.moc_text.specs.declared.ascii.error.TextError.{TextError}
-use Rattle.moc_text.specs.Ascii.{words, order_at, item_pixels, pixels_said, deepest_of}
+use Rattle.moc_text.specs.Ascii.{words, order_in_force, item_pixels, pixels_said, deepest_of}
 use Rattle.moc_text.specs.Private.Scan.{◌>>=◌}
 use Rattle.moc_text.specs.Private.Scanned.{numbers_of, reading_of}
 
@@ -45,7 +45,7 @@ item_within (Some k) (Some i) = record {
 said_within : (before : Option ℕ) (ns : List Parts) → IsWithin (pixels_said before ns) pixels
 said_within before [] = empty_within
 said_within before (n ∷ ns) =
-    union_within _ _ (item_within (order_at before n.mark) n.item) (said_within (order_at before n.mark) ns)
+    union_within _ _ (item_within (order_in_force before n.mark) n.item) (said_within (order_in_force before n.mark) ns)
 
 of_numbers : (found : Result (List Parts) TextError)
     → IfOk {T = NumberSet × Option ℕ} (found >>= (λ ns. Ok (pixels_said None ns, deepest_of ns)))

@@ -14,20 +14,22 @@ use Rattle.std.proofs.lemmas.Bool.{false≢true}
 use Rattle.std.proofs.lemmas.Nat.{div-mul-add}
 use Rattle.serde_json.specs.Data.{Items, no_items, item, Members, no_members, member}
 use Rattle.serde_json.specs.Find.{as_array}
-use Rattle.moc_sphere.specs.CellNumber.{CellNumber, cell_size, cell_size-positive, IsCell}
+use Rattle.moc_sphere.specs.CellNumber.{CellNumber, cell_size, IsCell}
+use Rattle.moc_sphere.specs.Lemmas.{cell_size-positive}
 use Rattle.moc_ranges.specs.Numbers.{NumberSet}
 use Rattle.moc_ranges.specs.Pixels.{pixel_count}
-use Rattle.moc_ranges.specs.Operations.{symmetric, complement, meets, contains-symmetric, contains-complement}
-use Rattle.moc_ranges.specs.Operations.{meets-some, meets-none}
+use Rattle.moc_ranges.specs.Operations.{symmetric, complement, meets}
+use Rattle.moc_ranges.specs.Lemmas.Members.{contains-symmetric, contains-complement, meets-some, meets-none}
+use Rattle.moc_ranges.specs.Lemmas.Members.{contains-span, contains-spans, contains-degrade}
 use Rattle.moc_ranges.specs.Cells.{span, spans, degrade, cells_of, cells_below, is_cell_of}
-use Rattle.moc_ranges.specs.Cells.{contains-span, contains-spans, contains-degrade}
-use Rattle.moc_ranges.specs.Laws.Cells.{cells_are, parent_of_pixel, in_cell_range, in_span}
+use Rattle.moc_ranges.specs.Lemmas.Cells.{cells_are, parent_of_pixel, in_cell_range, in_span}
 use Rattle.moc_text.specs.declared.ascii.number.Item.{Item}
 use Rattle.moc_text.specs.declared.ascii.number.Number.{Number}
 use Rattle.moc_text.specs.declared.ascii.number.Parts.{Parts}
-use Rattle.moc_text.specs.Ascii.{order_at, item_pixels, pixels_said, deepest_of, deeper, last_of, Says}
+use Rattle.moc_text.specs.Ascii.{order_in_force, item_pixels, pixels_said, deepest_of, deeper, last_of, Says}
 use Rattle.moc_text.specs.AsciiText.{IsTooCoarse}
-use Rattle.moc_text.specs.JsonForm.{order_of_name, whole, cell_pixels, items_pixels, array_pixels, members_pixels}
+use Rattle.moc_text.specs.JsonForm.{order_of_name, whole_number, cell_pixels, items_pixels, array_pixels}
+use Rattle.moc_text.specs.JsonForm.{members_pixels}
 use Rattle.moc_text.specs.JsonForm.{deepest_name, SaysJson}
 
 -- two pixels of one cell of the order are both in the set, or neither
@@ -311,8 +313,8 @@ item_made k j None le = empty_made k
 item_made k None (Some i) le = empty_made k
 item_made k (Some j) (Some i) le = deeper_made j k _ le (spans_made j i.first.value (last_of i).value)
 
-in_force : (before : Option ℕ) (mark : Option Number) (k : ℕ) → IsAtMost before k → IsAtMost (order_at None mark) k
-    → IsAtMost (order_at before mark) k
+in_force : (before : Option ℕ) (mark : Option Number) (k : ℕ) → IsAtMost before k → IsAtMost (order_in_force None mark) k
+    → IsAtMost (order_in_force before mark) k
 in_force before None k le own = le
 in_force before (Some n) k le own = own
 
@@ -320,9 +322,9 @@ said_made : (k : ℕ) (before : Option ℕ) (ns : List Parts) → IsAtMost befor
     → IsMadeOf k (pixels_said before ns)
 said_made k before [] le most = empty_made k
 said_made k before (n ∷ ns) le most =
-    let here = in_force before n.mark k le (at_most_first (order_at None n.mark) (deepest_of ns) k most) in
-    union_made k _ _ (item_made k (order_at before n.mark) n.item here)
-    (said_made k (order_at before n.mark) ns here (at_most_second (order_at None n.mark) (deepest_of ns) k most))
+    let here = in_force before n.mark k le (at_most_first (order_in_force None n.mark) (deepest_of ns) k most) in
+    union_made k _ _ (item_made k (order_in_force before n.mark) n.item here)
+    (said_made k (order_in_force before n.mark) ns here (at_most_second (order_in_force None n.mark) (deepest_of ns) k most))
 
 -- an ASCII text
 pub said_depth : (text : List ℕ) (a : NumberSet) (deepest : Option ℕ) → Says text a deepest → HasDepth a deepest
@@ -336,7 +338,7 @@ cell_made k j (Some i) le = deeper_made j k (span j i) le (span_made j i)
 
 items_made : (k j : ℕ) (ds : Items) → j ≤ k → IsMadeOf k (items_pixels j ds)
 items_made k j no_items le = empty_made k
-items_made k j (item d ds) le = union_made k _ _ (cell_made k j (whole d) le) (items_made k j ds le)
+items_made k j (item d ds) le = union_made k _ _ (cell_made k j (whole_number d) le) (items_made k j ds le)
 
 array_made : (k : ℕ) (j : Option ℕ) (ds : Option Items) → IsAtMost j k → IsMadeOf k (array_pixels j ds)
 array_made k (Some j) (Some ds) le = items_made k j ds le

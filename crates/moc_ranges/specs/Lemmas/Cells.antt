@@ -13,15 +13,15 @@ use Rattle.std.proofs.lemmas.List.Elements.{filter-append}
 use Rattle.std.proofs.lemmas.List.Folds.{list_any-append}
 use Rattle.std.proofs.lemmas.Nat.{div_below, div-mul-add, div-add-mod', mod_below, mul-le}
 use Rattle.std.proofs.Math.Nat.{div-div-eq-div-mul, pow-succ'}
-use Rattle.moc_sphere.specs.CellNumber.{CellNumber, cell_number, cell_count, cell_size, cell_size-positive}
-use Rattle.moc_sphere.specs.CellNumber.{cell_size-fills, IsCell, uniq_of}
-use Rattle.moc_ranges.specs.Numbers.{NumberSet, same_members}
+use Rattle.moc_sphere.specs.CellNumber.{CellNumber, cell_number, cell_count, cell_size, IsCell, uniq_of}
+use Rattle.moc_sphere.specs.Lemmas.{cell_size-positive, cell_size-fills}
+use Rattle.moc_ranges.specs.Numbers.{NumberSet}
+use Rattle.moc_ranges.specs.Lemmas.Members.{same_members, contains-pixels, contains-set_of, in_range, in_ranges}
+use Rattle.moc_ranges.specs.Lemmas.Members.{same_truth, contains-span, cell_range}
 use Rattle.moc_ranges.specs.Pixels.{pixel_count, pixels}
-use Rattle.moc_ranges.specs.Operations.{IsWithin, contains-pixels}
-use Rattle.moc_ranges.specs.RangeList.{set_of, contains-set_of, in_range, in_ranges}
-use Rattle.moc_ranges.specs.Same.{same_truth}
-use Rattle.moc_ranges.specs.Cells.{span, contains-span, is_cell_of, cells_below, cells_of, cell_range, AllUniqFrom}
-use Rattle.moc_ranges.specs.Cells.{IsRisingUniq}
+use Rattle.moc_ranges.specs.Operations.{IsWithin}
+use Rattle.moc_ranges.specs.RangeList.{set_of}
+use Rattle.moc_ranges.specs.Cells.{span, is_cell_of, cells_below, cells_of, AllUniqFrom, IsRisingUniq}
 
 -- ---- cells
 

@@ -1,0 +1,163 @@
+-- What is a member of a set: lemmas on the definitions, for proofs.
+use Rattle.std.specs.Prelude.{◌≡◌, ℕ, zero, suc, ◌+◌, ◌-◌, ◌*◌, ◌/◌, Bool, true, not, ◌&&◌, ◌||◌, nat_le, nat_lt, nat_eq}
+use Rattle.std.specs.Prelude.{List, [], ◌∷◌}
+use Rattle.std.specs.FinSet as set
+use Rattle.std.specs.Ordering.{nat_cmp}
+use Rattle.std.specs.Cmp.{IsEquivalence, nat_cmp_total}
+use Rattle.std.specs.List.{range_with_len, list_any}
+use Rattle.std.proofs.Common.{arith, ◌∙◌, false, refl, sym, ap, inl, inr}
+use Rattle.std.proofs.lemmas.Bool.Decides.{nat_tests}
+use Rattle.std.proofs.lemmas.Bool.{and_parts, and_from, cases_lt, lt-ltb}
+use Rattle.moc_sphere.specs.CellNumber.{CellNumber, cell_size}
+use Rattle.moc_ranges.specs.Numbers.{NumberSet, numbers}
+use Rattle.moc_ranges.specs.Pixels.{base_pixel_size, pixel_count, pixels}
+use Rattle.moc_ranges.specs.Operations.{symmetric, complement, part_of, meets}
+use Rattle.moc_ranges.specs.RangeList.{set_of}
+use Rattle.moc_ranges.specs.Cells.{span, spans, degrade}
+use Rattle.moc_ranges.specs.Same.{is_same}
+
+-- two sets with the same members are one
+pub same_members : (a b : NumberSet) → ((q : ℕ) → set.contains a q ≡ set.contains b q) → a ≡ b
+same_members a b same = set.same_set nat_cmp_total set.nat_cmp-IsAntisymmetric a b same
+
+-- what a test keeps of a set: its numbers that pass
+pub contains-kept : (a : NumberSet) (p : ℕ → Bool) (q : ℕ) → set.contains (set.retain a p) q ≡ (set.contains a q && p q)
+contains-kept a p q = set.contains-retain a p q (λ x tie. ap p (sym (set.nat_cmp-IsAntisymmetric q x tie)))
+
+any-range : (from n q : ℕ) → list_any (λ y. nat_eq y q) (range_with_len from n) ≡ (nat_le from q && nat_lt q (from + n))
+any-range from zero q = grind (arith, nat_tests)
+any-range from (suc n) q = let rest = any-range (from + 1) n q in grind (arith, nat_tests)
+
+-- its members
+pub contains-numbers : (from to q : ℕ) → set.contains (numbers from to) q ≡ (nat_le from q && nat_lt q to)
+unfolding numbers
+contains-numbers from to q =
+    set.contains-from_list_nat (range_with_len from (to - from)) q
+    ∙ any-range from (to - from) q ∙ grind (arith, nat_tests)
+
+-- the members of the set of all pixels
+pub contains-pixels : (q : ℕ) → set.contains pixels q ≡ nat_lt q pixel_count
+unfolding pixels
+contains-pixels q = contains-numbers 0 pixel_count q ∙ grind (arith, nat_tests)
+
+-- the members of a symmetric difference
+pub contains-symmetric : (a b : NumberSet) (q : ℕ)
+    → set.contains (symmetric a b) q
+    ≡ ((set.contains a q && not (set.contains b q)) || (set.contains b q && not (set.contains a q)))
+unfolding symmetric
+contains-symmetric a b q =
+    set.contains-union nat_cmp_total (set.difference a b) (set.difference b a) q
+    ∙ (λ i. set.contains-difference nat_cmp_total a b q i || set.contains-difference nat_cmp_total b a q i)
+
+-- the members of a complement
+pub contains-complement : (a : NumberSet) (q : ℕ)
+    → set.contains (complement a) q ≡ (nat_lt q pixel_count && not (set.contains a q))
+unfolding complement
+contains-complement a q =
+    set.contains-difference nat_cmp_total pixels a q ∙ (λ i. contains-pixels q i && not (set.contains a q))
+
+-- the members of a part
+pub contains-part_of : (a : NumberSet) (b q : ℕ)
+    → set.contains (part_of a b) q ≡ (set.contains a q && nat_eq (q / base_pixel_size) b)
+unfolding part_of
+contains-part_of a b q = contains-kept a (λ p. nat_eq (p / base_pixel_size) b) q
+
+-- two sets meet where a number is in both
+pub meets-some : (a b : NumberSet) (q : ℕ) → set.contains a q ≡ true → set.contains b q ≡ true → meets a b ≡ true
+unfolding meets
+meets-some a b q in_a in_b = elim (cases_lt 0 (set.len (set.intersection a b))) [
+  | inl lt ↦ lt-ltb 0 (set.len (set.intersection a b)) lt
+  | inr none ↦
+      let here : set.contains (set.intersection a b) q ≡ true =
+      set.contains-intersection nat_cmp_total a b q ∙ (λ i. in_a i && in_b i) in
+      let empty : set.contains (set.intersection a b) q ≡ false =
+      ap (λ c. set.contains c q) (set.empty_of_len (set.intersection a b) (omega arith))
+      ∙ set.contains-empty nat_cmp q in
+      absurd (cc)
+]
+
+-- and do not where none is
+pub meets-none : (a b : NumberSet) → ((q : ℕ) → (set.contains a q && set.contains b q) ≡ false) → meets a b ≡ false
+unfolding meets
+meets-none a b none =
+    let empty : set.intersection a b ≡ set.empty =
+    same_members _ _ (λ q.
+    set.contains-intersection nat_cmp_total a b q ∙ none q ∙ sym (set.contains-empty nat_cmp q)) in
+    ap (λ c. nat_lt 0 (set.len c)) empty ∙ ap (λ n. nat_lt 0 n) (set.len-empty nat_cmp)
+
+-- whether q is in a range
+abbrev pub in_range : ℕ × ℕ → ℕ → Bool
+in_range range q = nat_le range.0 q && nat_lt q range.1
+
+-- whether q is in a range of the list
+abbrev pub in_ranges : List (ℕ × ℕ) → ℕ → Bool
+in_ranges ranges q = list_any (λ range. in_range range q) ranges
+
+-- the members of a union of ranges
+pub contains-set_of : (ranges : List (ℕ × ℕ)) (q : ℕ) → set.contains (set_of ranges) q ≡ in_ranges ranges q
+unfolding set_of
+contains-set_of [] q = set.contains-empty nat_cmp q
+contains-set_of (range ∷ ranges) q =
+    set.contains-union nat_cmp_total (numbers range.0 range.1) (set_of ranges) q
+    ∙ (λ i. contains-numbers range.0 range.1 q i || contains-set_of ranges q i)
+
+-- two tests are the same where each holds if the other does
+pub same_truth : (x y : Bool) → (x ≡ true → y ≡ true) → (y ≡ true → x ≡ true) → x ≡ y
+same_truth true y there back = sym (there refl)
+same_truth false true there back = back refl
+same_truth false false there back = refl
+
+is_same-refl : (a : NumberSet) → is_same a a ≡ true
+unfolding is_same
+is_same-refl a = let all = set.contains-is_subset nat_cmp_total a a (λ q has. has) in and_from _ _ all all
+
+-- the test holds just of equal sets
+pub is_same-equal : (a b : NumberSet) → is_same a b ≡ true → a ≡ b
+unfolding is_same
+is_same-equal a b same =
+    let parts = and_parts _ _ same in
+    same_members a b (λ q.
+    same_truth _ _ (set.is_subset-contains nat_cmp_total a b parts.0 q)
+    (set.is_subset-contains nat_cmp_total b a parts.1 q))
+
+-- equal sets pass it
+pub equal-is_same : (a b : NumberSet) → a ≡ b → is_same a b ≡ true
+equal-is_same a b same = ap (is_same a) (sym same) ∙ is_same-refl a
+
+-- the test is an equivalence
+pub is_same-equivalence : IsEquivalence is_same
+is_same-equivalence = record {
+  refl = is_same-refl;
+  symm = λ a b. same_truth _ _ (λ same. equal-is_same b a (sym (is_same-equal a b same)))
+      (λ same. equal-is_same a b (sym (is_same-equal b a same)));
+  congr = λ a b c same. ap (λ x. is_same x c) (is_same-equal a b same);
+}
+
+-- the pixels of a cell, from the first up to, not including, the one after the last
+abbrev pub cell_range : CellNumber → ℕ × ℕ
+cell_range c = (c.index * cell_size c.order, (c.index + 1) * cell_size c.order)
+
+-- the members of a span: the pixels whose cell it is
+pub contains-span : (order index q : ℕ)
+    → set.contains (span order index) q ≡ (nat_lt q pixel_count && nat_eq (q / cell_size order) index)
+unfolding span
+contains-span order index q =
+    contains-kept pixels (λ p. nat_eq (p / cell_size order) index) q
+    ∙ ap (λ b. b && nat_eq (q / cell_size order) index) (contains-pixels q)
+
+-- the members of a degraded set: the pixels whose cell meets it
+pub contains-degrade : (a : NumberSet) (order q : ℕ)
+    → set.contains (degrade a order) q ≡ (nat_lt q pixel_count && meets a (span order (q / cell_size order)))
+unfolding degrade
+contains-degrade a order q =
+    contains-kept pixels (λ p. meets a (span order (p / cell_size order))) q
+    ∙ ap (λ b. b && meets a (span order (q / cell_size order))) (contains-pixels q)
+
+-- the members of a run of spans: the pixels whose cell is one of them
+pub contains-spans : (order first last q : ℕ)
+    → set.contains (spans order first last) q
+    ≡ (nat_lt q pixel_count && (nat_le first (q / cell_size order) && nat_le (q / cell_size order) last))
+unfolding spans
+contains-spans order first last q =
+    contains-kept pixels (λ p. nat_le first (p / cell_size order) && nat_le (p / cell_size order) last) q
+    ∙ ap (λ b. b && (nat_le first (q / cell_size order) && nat_le (q / cell_size order) last)) (contains-pixels q)
