@@ -6,7 +6,8 @@ usage: tests/definitions.py [--index]
 A word is a definition, a record or a data type that its file marks `pub`. Outside `specs/Private` and the files of lemmas each has to be
 named by the page, beside its file, in a table or in the index at its end; and what the page names has to stand there, in `specs/Private`
 too. With `--index` it prints the index that the page should have: all words that no table names. It tells how many lines the files have
-that a reader of all these words goes through. The last line printed is `N passed, M failed`."""
+that a reader of all these words goes through, and how many of these are no imports and not empty. The last line printed is
+`N passed, M failed`."""
 import glob
 import os
 import re
@@ -28,6 +29,11 @@ COLUMNS = 140
 def words_of(path):
     with open(path) as file:
         return WORD.findall(file.read())
+
+
+def lines_of(path):
+    with open(path) as file:
+        return file.readlines()
 
 
 def given_on(path):
@@ -98,8 +104,9 @@ def main():
     for fault in faults:
         print(fault)
     read = {file for file, _ in named}
-    lines = sum(sum(1 for _ in open(path)) for file, path in files() if file in read)
-    print(f"{len(named)} words in {len(read)} files of {lines} lines")
+    lines = [line.strip() for file, path in files() if file in read for line in lines_of(path)]
+    told = sum(bool(line) and not line.startswith(("use ", "pub use ")) for line in lines)
+    print(f"{len(named)} words in {len(read)} files of {len(lines)} lines, {told} of them definitions and comments")
     print(f"{len(named) - min(len(faults), len(named))} passed, {len(faults)} failed")
     sys.exit(bool(faults))
 

@@ -1,5 +1,5 @@
 -- Cells of every order, and what they have to do with a set of pixels (MOC 2.0).
-use Rattle.std.specs.Prelude.{ℕ, zero, suc, ◌+◌, ◌-◌, ◌/◌, ◌<◌, ◌≤◌, ⊤, Bool, not, ◌&&◌, List, [], ◌∷◌, ◌++◌, map}
+use Rattle.std.specs.Prelude.{ℕ, zero, suc, ◌+◌, ◌-◌, ◌/◌, ◌<◌, ◌≤◌, ⊤, Bool, not, ◌&&◌, ◌||◌, List, [], ◌∷◌, ◌++◌, map}
 use Rattle.std.specs.Prelude.{nat_eq, nat_le}
 use Rattle.std.specs.FinSet as set
 use Rattle.std.specs.List.{filter, range_with_len, AllByRecursion}

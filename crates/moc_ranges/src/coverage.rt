@@ -564,6 +564,7 @@ impl PartialEq for Coverage {
 }
 
 impl Eq for Coverage {
+    ghost use Rattle.moc_ranges.specs.Lemmas.Members.{is_same-equivalence};
 
     ghost laws = { is_same-equivalence };
 }
