@@ -194,6 +194,7 @@ fn forms_that_are_found(rt: HostRuntime) {
     ] {
         let choice = Choice::from_str(word).expect(&rt, "a choice");
         assert_eq!(&rt; choice.form(text.as_bytes()), form, "{text:?}");
+        is_shown(&rt, rt.alloc(), &choice, word);
     }
     assert!(&rt; Choice::from_str("fits") == Err(NameError::NotForm));
 }
@@ -256,6 +257,7 @@ fn forms(rt: HostRuntime) {
         let form = Form::from_str(word).expect(&rt, "a form");
         let written = rewritten(&rt, alloc, form, text);
         is(&rt, word, written.as_str(), text);
+        is_shown(&rt, alloc, &form, word);
     }
     assert!(&rt; Form::from_str("fits") == Err(NameError::NotForm));
 }
@@ -368,6 +370,7 @@ fn operations(rt: HostRuntime) {
         let operation = Operation::from_str(name).expect(&rt, "an operation");
         let seen = joined(&rt, rt.alloc(), operation, "0/0 1/4-5", "1/3-4 6-7 2/20 32");
         is(&rt, name, seen.as_str(), text);
+        is_shown(&rt, rt.alloc(), &operation, name);
     }
     assert!(&rt; Operation::from_str("minus").is_err());
 }

@@ -9,10 +9,11 @@ use crate::name_error::NameError;
 use moc_ranges::{Coverage, Memory};
 use moc_sphere::Order;
 use std::alloc::Global;
+use std::fmt;
 use std::str::FromStr;
 
 /// An operation on two sets of pixels.
-#[derive(Clone, Copy, Debug, PartialEq, Eq)]
+#[derive(Clone, Copy, Debug, PartialEq, Eq, Hash)]
 pub enum Operation {
     /// The pixels that any of the two has.
     Union,
@@ -42,6 +43,23 @@ impl FromStr for Operation {
             "difference" => Ok(Operation::Difference),
             "symmetric" => Ok(Operation::Symmetric),
             _ => Err(NameError::NotOperation),
+        }
+    }
+}
+
+/// The word of the command line, which `from_str` takes.
+impl fmt::Display for Operation {
+    ghost use Rattle.std.specs.Prelude.{Some};
+    ghost use Rattle.moc_forms.specs.Combining.{operation_name};
+
+    ghost output = { λ operation. Some (operation_name operation) };
+
+    fn fmt<W: fmt::Write>(&self, f: &mut fmt::Formatter<W>) -> fmt::Result {
+        match self {
+            Operation::Union => write!(f, "union"),
+            Operation::Intersection => write!(f, "intersection"),
+            Operation::Difference => write!(f, "difference"),
+            Operation::Symmetric => write!(f, "symmetric"),
         }
     }
 }

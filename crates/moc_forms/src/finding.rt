@@ -5,10 +5,11 @@ ghost use Rattle.moc_forms.specs.Finding.{is_blank_byte as is_blank_byte_of, loo
 
 use crate::form::Form;
 use crate::name_error::NameError;
+use std::fmt;
 use std::str::FromStr;
 
 /// The form that a text is read in: one that is named, or the one that is found.
-#[derive(Clone, Copy, Debug, PartialEq, Eq)]
+#[derive(Clone, Copy, Debug, PartialEq, Eq, Hash)]
 pub enum Choice {
     /// This form.
     Named(Form),
@@ -33,6 +34,21 @@ impl FromStr for Choice {
             "uniq" => Ok(Choice::Named(Form::Uniq)),
             "auto" => Ok(Choice::Auto),
             _ => Err(NameError::NotForm),
+        }
+    }
+}
+
+/// The word of the command line, which `from_str` takes.
+impl fmt::Display for Choice {
+    ghost use Rattle.std.specs.Prelude.{Some};
+    ghost use Rattle.moc_forms.specs.Finding.{choice_name};
+
+    ghost output = { λ choice. Some (choice_name choice) };
+
+    fn fmt<W: fmt::Write>(&self, f: &mut fmt::Formatter<W>) -> fmt::Result {
+        match self {
+            Choice::Named(form) => write!(f, "{form}"),
+            Choice::Auto => write!(f, "auto"),
         }
     }
 }

@@ -11,11 +11,12 @@ use moc_text::{
     write_uniq,
 };
 use std::alloc::{AllocError, Global};
+use std::fmt;
 use std::str::FromStr;
 use thiserror::Error;
 
 /// A text form.
-#[derive(Clone, Copy, Debug, PartialEq, Eq)]
+#[derive(Clone, Copy, Debug, PartialEq, Eq, Hash)]
 pub enum Form {
     /// The ASCII form of MOC 2.0.
     Ascii,
@@ -109,6 +110,22 @@ impl FromStr for Form {
             "json" => Ok(Form::Json),
             "uniq" => Ok(Form::Uniq),
             _ => Err(NameError::NotForm),
+        }
+    }
+}
+
+/// The word of the command line, which `from_str` takes.
+impl fmt::Display for Form {
+    ghost use Rattle.std.specs.Prelude.{Some};
+    ghost use Rattle.moc_forms.specs.Forms.{form_name};
+
+    ghost output = { λ form. Some (form_name form) };
+
+    fn fmt<W: fmt::Write>(&self, f: &mut fmt::Formatter<W>) -> fmt::Result {
+        match self {
+            Form::Ascii => write!(f, "ascii"),
+            Form::Json => write!(f, "json"),
+            Form::Uniq => write!(f, "uniq"),
         }
     }
 }

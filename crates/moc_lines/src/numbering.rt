@@ -5,11 +5,12 @@ ghost use Rattle.moc_lines.specs.Private.Finding.{FindsCell};
 
 use crate::fault::Fault;
 use moc_sphere::{Cell, Order};
+use std::fmt;
 use std::str::FromStr;
 use thiserror::Error;
 
 /// A numbering of the cells of an order.
-#[derive(Clone, Copy, Debug, PartialEq, Eq)]
+#[derive(Clone, Copy, Debug, PartialEq, Eq, Hash)]
 pub enum Numbering {
     /// HEALPix's nested numbering scheme: from 0, base pixel by base pixel, and in each quarter by quarter.
     Nest,
@@ -42,6 +43,22 @@ impl FromStr for Numbering {
             "ring" => Ok(Numbering::Ring),
             "uniq" => Ok(Numbering::Uniq),
             _ => Err(NameError::NotNumbering),
+        }
+    }
+}
+
+/// The word of the command line, which `from_str` takes.
+impl fmt::Display for Numbering {
+    ghost use Rattle.std.specs.Prelude.{Some};
+    ghost use Rattle.moc_lines.specs.Numberings.{numbering_name};
+
+    ghost output = { λ numbering. Some (numbering_name numbering) };
+
+    fn fmt<W: fmt::Write>(&self, f: &mut fmt::Formatter<W>) -> fmt::Result {
+        match self {
+            Numbering::Nest => write!(f, "nest"),
+            Numbering::Ring => write!(f, "ring"),
+            Numbering::Uniq => write!(f, "uniq"),
         }
     }
 }

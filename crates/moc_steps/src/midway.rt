@@ -20,7 +20,7 @@ use std::alloc::Global;
 use std::marker::Model;
 
 /// A client that is midway: its operation, and how far it has come.
-#[derive(Debug, Drop)]
+#[derive(Drop)]
 pub(crate) struct Midway {
     operation: u64,
     batch: Batch,

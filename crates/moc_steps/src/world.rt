@@ -22,10 +22,11 @@ use crate::table::{Change, Table};
 use moc_parts::{Batch, Part, Replies, batches_are_local, cut};
 use moc_ranges::{Coverage, Memory};
 use std::alloc::Global;
+use std::fmt;
 use std::marker::Model;
 
 /// A map in twelve parts, the clients that are midway, and the order of the operations that have changed it.
-#[derive(Debug, Drop)]
+#[derive(Drop)]
 pub struct World {
     alloc: Global,
     begun: u64,
@@ -377,6 +378,15 @@ impl World {
             return Some(Step::End { client });
         }
         Some(Step::Take { client })
+    }
+}
+
+/// How many operations have begun, and how many clients are midway.
+impl fmt::Debug for World {
+    fn fmt<W: fmt::Write>(&self, f: &mut fmt::Formatter<W>) -> fmt::Result {
+        let begun = self.begun;
+        let midway = self.midway();
+        write!(f, "World {{ begun: {begun}, midway: {midway} }}")
     }
 }
 

@@ -43,6 +43,9 @@ fn cells_of_order_1(alloc: Global, name: &str) -> Result<String, AllocError> {
 #[test]
 fn all_cells_of_order_1(rt: HostRuntime) {
     for from in NAMES {
+        let shown = Numbering::from_str(from).expect(&rt, "a numbering");
+        let text = shown.to_string(rt.alloc()).expect(&rt, "memory");
+        assert_eq!(&rt; text.as_str(), from);
         for to in NAMES {
             let lines = cells_of_order_1(rt.alloc(), from).expect(&rt, "memory");
             let answers = cells_of_order_1(rt.alloc(), to).expect(&rt, "memory");
