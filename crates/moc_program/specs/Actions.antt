@@ -2,7 +2,7 @@
 use Rattle.std.specs.Prelude.{◌≡◌, ◌⊎◌, ℕ, List, [], ◌∷◌, ◌++◌, codes, Option, Result, Ok, Err, IfSome}
 use Rattle.std.specs.FinSet as set
 use Rattle.std.specs.Io.KnownBytes.{Appends, Keeps}
-use Rattle.moc_script.specs.Crews.{CrewEnds}
+use Rattle.moc_script.specs.Crews.{CrewEnds, lane_count}
 use Rattle.moc_lines.specs.Numberings.{renumber_rules}
 use Rattle.moc_lines.specs.Runs.{Runs}
 use Rattle.moc_lines.specs.Scripts.{line_limit, script_rules}
@@ -47,7 +47,7 @@ ActionEnds Play left left' w w' =
     RunEnds (λ error. told.Lines error)
     (λ end. IfSome left (λ input. Runs line_limit schedule_rules start_schedule input left' w w' end))
 ActionEnds (Crew lanes) left left' w w' =
-    RunEnds fault_of_crew (λ end. IfSome left (λ input. CrewEnds lanes.number input left' w w' end))
+    RunEnds fault_of_crew (λ end. IfSome left (λ input. CrewEnds (lane_count lanes) input left' w w' end))
 ActionEnds (Number number) left left' w w' = PrintsText (IsNumberLine number) (IsNumberRefusal number) w w'
 ActionEnds (Renumber r) left left' w w' =
     RunEnds (λ error. told.Lines error)

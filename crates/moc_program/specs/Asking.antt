@@ -7,6 +7,7 @@ use Rattle.moc_forms.specs.Finding.{choice_name}
 use Rattle.moc_forms.specs.Forms.{form_name}
 use Rattle.moc_forms.specs.declared.changing.Change.TheVariants.{Degrade, Complement}
 use Rattle.moc_lines.specs.Numberings.{numbering_name}
+use Rattle.moc_script.specs.Crews.{lane_count}
 use Rattle.moc_command_line.specs.CommandLine.{IsCommandLine}
 use Rattle.moc_program.specs.declared.action.Action.{Action}
 use Rattle.moc_program.specs.declared.action.Action.TheVariants.{Run, Play, Crew, Number, Renumber, Convert, Check}
@@ -25,7 +26,7 @@ HasNumber name values n = (text : Text) × (one_of name values ≡ Some text) ×
 abbrev pub Asks : Text → List Row → Action → Type 0
 Asks word values Run = word ≡ codes "run"
 Asks word values Play = word ≡ codes "play"
-Asks word values (Crew lanes) = (word ≡ codes "crew") × HasNumber (codes "N") values lanes.number
+Asks word values (Crew lanes) = (word ≡ codes "crew") × HasNumber (codes "N") values (lane_count lanes)
 Asks word values (Number (Ring order cell)) =
     (word ≡ codes "ring") × HasNumber (codes "ORDER") values order × HasNumber (codes "CELL") values cell
 Asks word values (Number (Nest order ring)) =

@@ -4,6 +4,7 @@ ghost use Rattle.moc_forms.specs.Combining.{operation_name};
 ghost use Rattle.moc_forms.specs.Finding.{choice_name};
 ghost use Rattle.moc_forms.specs.Forms.{form_name};
 ghost use Rattle.moc_lines.specs.Numberings.{numbering_name};
+ghost use Rattle.moc_script.specs.Crews.{lane_count};
 ghost use Rattle.moc_program.specs.Asking.{Asks, HasNumber, HasWord};
 ghost use Rattle.moc_program.specs.Private.Matches.{IsAskedIn, values_of};
 ghost use Rattle.moc_program.specs.declared.action.Action.TheVariants as action;
@@ -136,7 +137,7 @@ fn numbering(values: &ArgMatches<'_>, id: &str) -> Option<Numbering>
 }
 
 fn lanes(values: &ArgMatches<'_>) -> Option<Lanes>
-    ensures { IfSome result (λ lanes. HasNumber (codes "N") (values_of values.now) lanes.number) }
+    ensures { IfSome result (λ lanes. HasNumber (codes "N") (values_of values.now) (lane_count lanes)) }
 {
     Lanes::new(values.get_one::<u8>("N")?)
 }

@@ -15,7 +15,12 @@ use Rattle.moc_lines.specs.Scripts.{line_limit, script_rules}
 use Rattle.moc_script.specs.Merges.{InLane, placed, dealt, IsMerge}
 use Rattle.moc_lines.specs.declared.run_error.RunError.TheVariants.{Read, Write, LineTooLong, Memory}
 use Rattle.moc_script.specs.declared.crew_error.CrewError.{CrewError}
+use Rattle.moc_script.specs.declared.crews.lanes.Lanes.{Lanes}
 use Rattle.moc_script.specs.declared.crew_error.CrewError.TheVariants.{Run, Spawn}
+
+-- how many lanes there are
+abbrev pub lane_count : Lanes → ℕ
+lane_count lanes = lanes.number
 
 -- the lines that are not blank
 abbrev pub said_lines : List (List ℕ) → List (List ℕ)

@@ -3,7 +3,7 @@ ghost use Rattle.std.specs.Prelude.{◌≡◌, ◌≢◌, ◌⊎◌, ◌<◌, �
 ghost use Rattle.std.specs.Prelude.{Err, IsErrOf, IsTrue, length};
 ghost use Rattle.std.specs.Io.KnownBytes.{IsAtEnd};
 ghost use Rattle.moc_text.specs.Lines.{lines_of};
-ghost use Rattle.moc_script.specs.Crews.{CrewEnds, CrewFlushes, cover_line, said_lines};
+ghost use Rattle.moc_script.specs.Crews.{CrewEnds, CrewFlushes, cover_line, lane_count, said_lines};
 ghost use Rattle.moc_script.specs.Private.Gathering.{NamesLine};
 ghost use Rattle.moc_script.specs.Private.Joining.{EndsTold, IsTold};
 
@@ -52,7 +52,7 @@ fn answer_all<R: Threads + Wait + Sync, G: Gate + Sync>(
     lanes: Lanes,
 ) -> Result<Told, LanesError>
     ensures told { IfOk result (λ told.
-        IsTold lanes.number (said_lines (lines_of input.now)) told.answers.items told.cover.items) }
+        IsTold (lane_count lanes) (said_lines (lines_of input.now)) told.answers.items told.cover.items) }
     ensures line { IfErr result (λ e. NamesLine input.now e) }
 {
     let start = Coverage::empty(alloc);
@@ -115,7 +115,7 @@ pub fn crew<R: Source, W: Sink, G: Gate + Sync, T: Threads + Wait + Sync>(
 
     // What is written is a text that so many lanes may answer the input with, as far as the outcome says.
     ensures ends { IfSome (R.left reader.old) (λ input.
-        CrewEnds lanes.number input (R.left reader.new) (W.written writer.old) (W.written writer.new) result) }
+        CrewEnds (lane_count lanes) input (R.left reader.new) (W.written writer.old) (W.written writer.new) result) }
 
     // Only the reader's end ends a crew without a fault, and then all is flushed, at once.
     ensures end { OnOk result (IsAtEnd (R.left reader.new)) }
