@@ -48,6 +48,29 @@ impl Model for Batch {
     ghost invariant = { λ b. (0 < length b.commands.items) × (length b.commands.items ≤ 16) };
 }
 
+/// The same commands in the same order.
+impl PartialEq for Batch {
+    ghost use Rattle.std.specs.Cmp.{partial_equiv_from_equiv};
+    ghost use Rattle.std.specs.Cmp.Lexicographic.{pointwise, lists_equiv};
+    ghost use Rattle.moc_parts.specs.contracts.command.CommandPartialEq.TheImpl as command_eq;
+    ghost use Rattle.moc_parts.specs.contracts.command.CommandEq.TheImpl.Laws.{laws-law};
+
+    ghost eq = { pointwise (command_eq.ghosts).eq };
+
+    ghost laws = { partial_equiv_from_equiv (lists_equiv laws-law) };
+
+    fn eq(&self, other: &Batch) -> bool {
+        self.commands == other.commands
+    }
+}
+
+impl Eq for Batch {
+    ghost use Rattle.std.specs.Cmp.Lexicographic.{lists_equiv};
+    ghost use Rattle.moc_parts.specs.contracts.command.CommandEq.TheImpl.Laws.{laws-law};
+
+    ghost laws = { lists_equiv laws-law };
+}
+
 impl Batch {
     /// The commands as a batch, if they are 1 to 16; else they are given up. Takes no memory.
     pub fn new(commands: Vec<Command>) -> Result<Batch, BatchError>

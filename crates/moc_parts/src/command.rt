@@ -13,14 +13,14 @@ use moc_sphere::{Cell, Order};
 use std::alloc::Global;
 
 /// What a command works with: a set of pixels, degraded first where an order is given.
-#[derive(Debug, Drop)]
+#[derive(Debug, PartialEq, Eq, Drop)]
 pub struct Operand {
     pub set: Coverage,
     pub coarse: Option<Order>,
 }
 
 /// What a client asks for. Below, S is the operand's set and A the set of the map.
-#[derive(Debug, Drop)]
+#[derive(Debug, PartialEq, Eq, Drop)]
 pub enum Command {
     /// Adds S to A.
     Add(Operand),

@@ -8,7 +8,7 @@ ghost use Rattle.moc_parts.specs.Parts.{rising_parts};
 use std::marker::Model;
 
 /// One of the twelve parts of a map, by its base pixel, 0 to 11.
-#[derive(Clone, Copy, Debug, PartialEq, Eq, PartialOrd, Ord)]
+#[derive(Clone, Copy, Debug, PartialEq, Eq, PartialOrd, Ord, Hash)]
 pub struct Part {
     number: u8,
 }
@@ -69,7 +69,7 @@ impl Part {
 }
 
 /// A set of parts.
-#[derive(Clone, Copy, Debug, PartialEq, Eq)]
+#[derive(Clone, Copy, Debug, PartialEq, Eq, Hash)]
 pub struct PartSet {
     flags: [bool; 12],
 }
@@ -103,8 +103,8 @@ impl PartSet {
         PartSet { flags: [false; 12] }
     }
 
-    /// All twelve parts.
-    pub(crate) fn all() -> PartSet
+    /// All twelve parts. Takes no memory.
+    pub fn all() -> PartSet
         ensures { (b : ℕ) → set.contains result b ≡ nat_lt b 12 }
     {
         PartSet { flags: [true; 12] }
@@ -124,8 +124,8 @@ impl PartSet {
         self.flags[usize::from(part.number)] = true;
     }
 
-    /// The parts of either set.
-    pub(crate) fn union(self, other: PartSet) -> PartSet
+    /// The parts of either set. O(1), takes no memory.
+    pub fn union(self, other: PartSet) -> PartSet
         ensures { result ≡ set.union self other }
     {
         let mut parts = self;

@@ -1,5 +1,5 @@
 //! What a map replies.
-ghost use Rattle.std.specs.Prelude.{◌≡◌, ◌++◌, ◌∷◌, [], IfOk, OnOk, length, slice_get};
+ghost use Rattle.std.specs.Prelude.{◌≡◌, ◌++◌, ◌∷◌, [], ◌⊎◌, ℕ, IfOk, IfSome, OnOk, Some, length, slice_get};
 ghost use Rattle.std.specs.Option.{option_copied};
 
 use moc_ranges::{Coverage, Memory};
@@ -7,7 +7,7 @@ use std::alloc::Global;
 use std::marker::Model;
 
 /// What a command is answered. Counts are of pixels of order 29.
-#[derive(Debug, Drop)]
+#[derive(Debug, PartialEq, Eq, Drop)]
 pub enum Reply {
     /// How many pixels changed.
     Changed(u64),
@@ -24,6 +24,21 @@ pub enum Reply {
 }
 
 impl Reply {
+    /// The number that the reply tells: of pixels that changed, that were there already, or that were counted. None
+    /// where it tells something else. O(1), takes no memory.
+    pub fn pixels(&self) -> Option<u64>
+        ensures changed { (n : ℕ) → self.now ≡ Reply.Changed n → result ≡ Some n }
+        ensures taken { (n : ℕ) → self.now ≡ Reply.Taken n → result ≡ Some n }
+        ensures counted { (n : ℕ) → self.now ≡ Reply.Total n → result ≡ Some n }
+        ensures told { IfSome result (λ n.
+            (self.now ≡ Reply.Changed n) ⊎ (self.now ≡ Reply.Taken n) ⊎ (self.now ≡ Reply.Total n)) }
+    {
+        match self {
+            Reply::Changed(pixels) | Reply::Taken(pixels) | Reply::Total(pixels) => Some(*pixels),
+            Reply::Claimed | Reply::Cover(_) | Reply::Near(_) => None,
+        }
+    }
+
     /// A copy. O(n) for n ranges; refused where memory runs out.
     pub fn try_copy(&self, alloc: Global) -> Result<Reply, Memory>
         ensures { IfOk result (λ x. x ≡ self.now) }
@@ -56,6 +71,29 @@ impl Model for Replies {
     ghost coded = { Prim.hlevel (codes, coverage.the_row.coded) };
 
     ghost view = { λ r. r.replies.items };
+}
+
+/// The same replies in the same order.
+impl PartialEq for Replies {
+    ghost use Rattle.std.specs.Cmp.{partial_equiv_from_equiv};
+    ghost use Rattle.std.specs.Cmp.Lexicographic.{pointwise, lists_equiv};
+    ghost use Rattle.moc_parts.specs.contracts.reply.ReplyPartialEq.TheImpl as reply_eq;
+    ghost use Rattle.moc_parts.specs.contracts.reply.ReplyEq.TheImpl.Laws.{laws-law};
+
+    ghost eq = { pointwise (reply_eq.ghosts).eq };
+
+    ghost laws = { partial_equiv_from_equiv (lists_equiv laws-law) };
+
+    fn eq(&self, other: &Replies) -> bool {
+        self.replies == other.replies
+    }
+}
+
+impl Eq for Replies {
+    ghost use Rattle.std.specs.Cmp.Lexicographic.{lists_equiv};
+    ghost use Rattle.moc_parts.specs.contracts.reply.ReplyEq.TheImpl.Laws.{laws-law};
+
+    ghost laws = { lists_equiv laws-law };
 }
 
 impl Replies {
