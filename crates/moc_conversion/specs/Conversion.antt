@@ -17,10 +17,9 @@ use Rattle.moc_forms.specs.declared.finding.Choice.TheVariants.{Named}
 use Rattle.moc_forms.specs.declared.form.Form.{Form}
 use Rattle.moc_forms.specs.declared.form.FormError.{FormError}
 use Rattle.moc_forms.specs.declared.place.Place.{Place}
-use Rattle.moc_conversion.specs.Faults.{fault_of_form}
 use Rattle.moc_conversion.specs.declared.complaint.Complaint.{Complaint}
 use Rattle.moc_conversion.specs.declared.fault.Fault.{Fault}
-use Rattle.moc_conversion.specs.declared.fault.Fault.TheVariants.{TooLong, Read, Memory}
+use Rattle.moc_conversion.specs.declared.fault.Fault.TheVariants as fault
 
 -- the text is all that was left, and no longer than an input may be
 pub record IsWhole (left left' : Option (List ℕ)) (text : List ℕ) : Type 0 where
@@ -95,7 +94,7 @@ DrawsAll choice left left' picture = IsAll (λ text. IsPictured choice text pict
 pub record TellsFault (form : Form) (text : List ℕ) (number : Option ℕ) (c : Complaint) : Type 0 where
   pub error : FormError
   pub is_fault : IsFormFault form text error
-  pub told : c.fault ≡ fault_of_form error
+  pub told : c.fault ≡ fault.Form error
   pub place : Option Place
   pub is_place : IsPlace text error place
   pub line : IsTold number text error place (line_bytes c.place)
@@ -107,8 +106,8 @@ HasRead is left left' = (given : List ℕ) × Consumes left left' given × is gi
 
 -- an input could not be had: the reader failed, or it is too long by what was read, or memory was refused
 abbrev pub IsOfInput : (List ℕ → Type 0) → Option (List ℕ) → Option (List ℕ) → Fault → Type 0
-IsOfInput is_long left left' fault =
-    (fault ≡ Read) ⊎ ((fault ≡ TooLong) × HasRead is_long left left') ⊎ (fault ≡ Memory)
+IsOfInput is_long left left' f =
+    (f ≡ fault.Read) ⊎ ((f ≡ fault.TooLong) × HasRead is_long left left') ⊎ (f ≡ fault.Memory)
 
 -- an input that is one text could not be had
 abbrev pub IsOfWhole : Option (List ℕ) → Option (List ℕ) → Fault → Type 0
@@ -116,7 +115,7 @@ IsOfWhole = IsOfInput (λ given. 16777216 < length given)
 
 -- the fault is the first of a text in a form
 abbrev pub IsTextFault : Form → List ℕ → Fault → Type 0
-IsTextFault form text fault = (error : FormError) × IsFormFault form text error × (fault ≡ fault_of_form error)
+IsTextFault form text f = (error : FormError) × IsFormFault form text error × (f ≡ fault.Form error)
 
 -- why the input was not converted, which is told alone: it could not be had, or it has the fault that is told
 abbrev pub IsNotConverted : Form → Option (List ℕ) → Option (List ℕ) → Complaint → Type 0

@@ -5,14 +5,13 @@ ghost use Rattle.std.specs.String.{string_bytes};
 ghost use Rattle.moc_text.specs.AsciiText.{IsTooCoarse};
 ghost use Rattle.moc_forms.specs.Combining.{TextSays};
 ghost use Rattle.moc_forms.specs.Finding.{form_for, hint_of};
-ghost use Rattle.moc_forms.specs.Forms.{FormSays, form_text};
+ghost use Rattle.moc_forms.specs.Forms.{FormSays, IsWant, form_text};
 ghost use Rattle.moc_forms.specs.Places.{line_bytes};
 ghost use Rattle.moc_forms.specs.Quotes.{IsTold};
 ghost use Rattle.moc_conversion.specs.Conversion.{AreTexts, ChangesAll, ConvertsAll, DescribesAll, DrawsAll};
 ghost use Rattle.moc_conversion.specs.Conversion.{IsNotConverted, IsNotDrawn, IsOfWhole, IsPictured};
 ghost use Rattle.moc_conversion.specs.Conversion.{IsSaid, IsTextFault, IsWhole, SaysAll, SaysNothing, TellsFault};
 ghost use Rattle.moc_conversion.specs.Conversion.{TellsPictured};
-ghost use Rattle.moc_conversion.specs.Faults.{fault_of_form};
 ghost use Rattle.moc_conversion.specs.Private.Pieces.{BringsPiece, IsParted};
 
 use crate::complaint::Complaint;
@@ -114,7 +113,7 @@ fn complaint_of(
 ) -> Complaint
     ensures memory { result.fault ≡ Fault.Memory → result.place ≡ None }
     ensures told { (result.fault ≡ Fault.Memory)
-        ⊎ ((result.fault ≡ fault_of_form refusal.error)
+        ⊎ ((¬ IsWant refusal.error) × (result.fault ≡ Fault.Form refusal.error)
         × IsTold number text.now refusal.error refusal.place (line_bytes result.place)
         × (result.hint ≡ hint_of form text.now)) }
 {

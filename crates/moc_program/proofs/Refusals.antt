@@ -36,20 +36,8 @@ IsOfFault s = (s ≡ Refused) ⊎ (s ≡ Broken)
 
 of_input : (fault : input.Fault) → IsOfFault (status_of_input fault)
 unfolding IsOfFault
-of_input refused.BadByte = inl refl
-of_input refused.Unfinished = inl refl
-of_input refused.NoOrder = inl refl
-of_input refused.OrderTooLarge = inl refl
-of_input refused.CellTooLarge = inl refl
-of_input refused.Backwards = inl refl
-of_input refused.NotJson = inl refl
-of_input refused.NotObject = inl refl
-of_input refused.BadOrder = inl refl
-of_input refused.NotArray = inl refl
-of_input refused.NotWhole = inl refl
-of_input refused.NotUniq = inl refl
+of_input (refused.Form e) = inl refl
 of_input refused.TooLong = inl refl
-of_input refused.TooCoarse = inl refl
 of_input refused.Read = inr refl
 of_input refused.Memory = inr refl
 

@@ -5,10 +5,11 @@ use Rattle.moc_lines.specs.declared.fault.Fault.TheVariants as said
 use Rattle.moc_lines.specs.declared.run_error.RunError.TheVariants as run
 use Rattle.moc_script.specs.Refusals.{fault_name}
 use Rattle.moc_script.specs.declared.fault.StepFault.TheVariants as step
-use Rattle.moc_conversion.specs.Faults.{line_of, name_of}
-use Rattle.moc_conversion.specs.declared.fault.Fault.TheVariants.{BadByte, Unfinished, NoOrder, OrderTooLarge}
-use Rattle.moc_conversion.specs.declared.fault.Fault.TheVariants.{CellTooLarge, Backwards, NotJson, NotObject, BadOrder}
-use Rattle.moc_conversion.specs.declared.fault.Fault.TheVariants.{NotArray, NotWhole, NotUniq, TooLong, Read, Memory}
+use Rattle.moc_text.specs.declared.ascii.error.TextError.TheVariants as text
+use Rattle.moc_text.specs.declared.json_form.error.JsonError.TheVariants as json
+use Rattle.moc_text.specs.declared.uniq.UniqError.TheVariants as uniq
+use Rattle.moc_conversion.specs.Faults.{line_of, name_of, name_of_json, name_of_text, name_of_uniq}
+use Rattle.moc_conversion.specs.declared.fault.Fault.TheVariants.{TooLong, Read, Memory}
 use Rattle.moc_sphere.specs.declared.cell.CellError.TheVariants as cell
 use Rattle.moc_program.specs.Statuses.{code_of, name_of_cell, name_of_run}
 use Rattle.moc_program.specs.declared.status.Status.{Status}
@@ -54,24 +55,24 @@ fault_list =
     ∷ (script.name_of said.WrongCount, codes "too few or too many fields on a line")
     ∷ [])
     ++ section (codes "Coverages in ASCII") 17 (
-    (name_of BadByte, codes "a byte that no word has at its place")
-    ∷ (name_of Unfinished, codes "a word that ends too early")
-    ∷ (name_of NoOrder, codes "a cell before any order")
-    ∷ (name_of OrderTooLarge, codes "an order above 29")
-    ∷ (name_of CellTooLarge, codes "the order has no such cell")
-    ∷ (name_of Backwards, codes "a-b with b below a")
+    (name_of_text (text.BadByte 0), codes "a byte that no word has at its place")
+    ∷ (name_of_text (text.Unfinished 0), codes "a word that ends too early")
+    ∷ (name_of_text (text.NoOrder 0), codes "a cell before any order")
+    ∷ (name_of_text (text.OrderTooLarge 0), codes "an order above 29")
+    ∷ (name_of_text (text.CellTooLarge 0), codes "the order has no such cell")
+    ∷ (name_of_text (text.Backwards 0), codes "a-b with b below a")
     ∷ [])
     ++ section (codes "Coverages in JSON") 17 (
-    (name_of NotJson, codes "no JSON text")
-    ∷ (name_of NotObject, codes "a JSON text that is no object")
-    ∷ (name_of BadOrder, codes "a name that is no order, 0 to 29")
-    ∷ (name_of NotArray, codes "the value of a name is no array")
-    ∷ (name_of NotWhole, codes "an item that is no whole number")
-    ∷ (name_of CellTooLarge, codes "the order has no such cell")
+    (name_of_json json.NotJson, codes "no JSON text")
+    ∷ (name_of_json json.NotObject, codes "a JSON text that is no object")
+    ∷ (name_of_json (json.BadOrder 0), codes "a name that is no order, 0 to 29")
+    ∷ (name_of_json (json.NotArray 0), codes "the value of a name is no array")
+    ∷ (name_of_json (json.NotWhole 0 0), codes "an item that is no whole number")
+    ∷ (name_of_json (json.CellTooLarge 0 0), codes "the order has no such cell")
     ∷ [])
     ++ section (codes "NUNIQ lists") 17 (
-    (name_of BadByte, codes "a byte that is no digit")
-    ∷ (name_of NotUniq, codes "no cell has this number")
+    (name_of_uniq (uniq.BadByte 0), codes "a byte that is no digit")
+    ∷ (name_of_uniq (uniq.NotUniq 0), codes "no cell has this number")
     ∷ [])
     ++ section (codes "Lengths") 17 (
     (name_of TooLong, codes "a text of more than 16,777,216 bytes")

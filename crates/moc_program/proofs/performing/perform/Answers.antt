@@ -1,4 +1,4 @@
--- A description is written of the figures of the set that the input says.
+-- A description is written of the figures of the set that the input says, and a change of that set as its text.
 use Rattle.std.proofs.Common.{subst, sym}
 use Rattle.moc_program.specs.Actions.{ActionEnds}
 use Rattle.moc_program.proofs.Writing.{answered_by}
@@ -9,3 +9,9 @@ returns-in-Describe-clause-ends g c =
     subst (λ a. ActionEnds a (g.R.Source.left c.args.input.now) (g.R.Source.left c.described.new.input) (g.W.Sink.written c.args.output.now)
     (g.W.Sink.written c.answered-in-Describe.new.output) c.answered-in-Describe.result) (sym c.in-Describe.is)
     (answered_by _ _ c.described.result _ _ _ c.described.ensures.describes c.described.ensures.fault c.answered-in-Describe.ensures.sent)
+
+pub returns-in-Change-clause-ends : goal.returns-in-Change-clause-ends
+returns-in-Change-clause-ends g c =
+    subst (λ a. ActionEnds a (g.R.Source.left c.args.input.now) (g.R.Source.left c.changed.new.input) (g.W.Sink.written c.args.output.now)
+    (g.W.Sink.written c.answered-in-Change.new.output) c.answered-in-Change.result) (sym c.in-Change.is)
+    (answered_by _ _ c.changed.result _ _ _ c.changed.ensures.changes c.changed.ensures.fault c.answered-in-Change.ensures.sent)
