@@ -33,9 +33,8 @@ fn cell(alloc: Global, base_pixel: u8) -> Result<Operand> {
 /// How many pixels the first reply tells of.
 fn pixels(replies: &Replies) -> Option<u64> {
     match replies.first()? {
-        Reply::Changed(pixels) | Reply::Total(pixels) => Some(*pixels),
         Reply::Cover(set) => Some(set.count()),
-        _ => None,
+        reply => reply.pixels(),
     }
 }
 

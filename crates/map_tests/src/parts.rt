@@ -183,6 +183,37 @@ fn copies(rt: HostRuntime) {
     assert!(rt; kept.set.same(&cover));
 }
 
+/// Checks whether the batches of two commands are the same, and those of their copies.
+fn are_same(rt: &impl Abort, alloc: Global, first: Command, second: Command, same: bool) {
+    let first = one(rt, alloc, first);
+    let copy = first.try_copy(alloc).expect(rt, "memory");
+    assert!(rt; first == copy);
+    assert_eq!(rt; copy == one(rt, alloc, second), same);
+}
+
+#[test]
+fn commands_are_compared(rt: HostRuntime) {
+    let alloc = rt.alloc();
+    for (pairs, same) in [(&[(0, 4)], true), (&[(0, 5)], false)] {
+        let first = Command::Add(ranges(&rt, alloc, &[(0, 4)]));
+        let second = Command::Add(ranges(&rt, alloc, pairs));
+        are_same(&rt, alloc, first, second, same);
+    }
+    let keep = Command::Keep(ranges(&rt, alloc, &[(0, 4)]));
+    let remove = Command::Remove(ranges(&rt, alloc, &[(0, 4)]));
+    are_same(&rt, alloc, keep, remove, false);
+    are_same(&rt, alloc, near(&rt, 1, 0), near(&rt, 1, 0), true);
+}
+
+#[test]
+fn sets_of_parts(rt: HostRuntime) {
+    let mut parts = PartSet::none();
+    parts.insert(Part::of(3));
+    assert!(rt; has_just(parts.union(PartSet::none()), &[3]));
+    assert!(rt; has_just(PartSet::none().union(parts), &[3]));
+    assert!(rt; parts.union(PartSet::all()) == PartSet::all());
+}
+
 /// The pixels that the first reply says have changed.
 fn changed(replies: &Replies) -> Option<u64> {
     match replies.first() {
@@ -203,10 +234,7 @@ fn is_applied(rt: &impl Abort, alloc: Global, map: &mut Map, command: Command, p
 /// Checks how many pixels a command changes that is done without a batch.
 fn is_answered(rt: &impl Abort, alloc: Global, map: &mut Map, command: Command, pixels: u64) {
     let reply = map.answer(alloc, &command).expect(rt, "memory");
-    let Reply::Changed(seen) = reply else {
-        panic!(rt; "another reply")
-    };
-    assert_eq!(rt; seen, pixels);
+    assert_eq!(rt; reply, Reply::Changed(pixels));
 }
 
 /// Checks how many pixels a part of a map has.

@@ -3,7 +3,7 @@ ghost use Rattle.std.specs.Prelude.{◌<◌, ◌≤◌, IfOk};
 ghost use Rattle.map_tests.specs.Worlds.{IsMadeInOrder};
 
 use crate::told::told;
-use moc_parts::{Batch, Command, Operand, Part, Replies, Reply};
+use moc_parts::{Batch, Command, Operand, Part, Replies};
 use moc_ranges::Coverage;
 use moc_steps::{
     CoverError, Entry, ReplayError, Step, StepError, World, drain, next_step, replay,
@@ -74,13 +74,9 @@ fn is_refused(rt: &impl Abort, world: &mut World, step: Step, why: StepError) {
     assert_eq!(rt; world.step(step).err(), Some(why));
 }
 
-/// The pixels that the first reply says were changed or counted.
+/// How many pixels the first reply tells of.
 fn pixels(replies: Option<&Replies>) -> Option<u64> {
-    match replies?.first() {
-        Some(Reply::Changed(pixels)) => Some(*pixels),
-        Some(Reply::Total(pixels)) => Some(*pixels),
-        _ => None,
-    }
+    replies?.first()?.pixels()
 }
 
 /// Whether the operations stand in this order.

@@ -16,7 +16,7 @@ ghost use Rattle.moc_shared.specs.Clients.{IsClientOf, IsHoldingOf};
 
 use crate::{CELL, CELLS, gather, have_started};
 use anyhow::{Result, bail};
-use moc_parts::{Batch, Command, Operand, Replies, Reply};
+use moc_parts::{Batch, Command, Operand, Replies};
 use moc_ranges::Coverage;
 use moc_shared::{Client, Holding, LookError, SharedMap, SnapshotError, TryError};
 use std::alloc::Global;
@@ -162,25 +162,19 @@ fn batches_of(alloc: Global, number: u8) -> Option<Vec<Batch>> {
     Some(batches)
 }
 
-/// How many pixels a reply tells of.
-fn pixels(reply: Option<&Reply>) -> Option<u64> {
-    match reply? {
-        Reply::Changed(pixels) | Reply::Total(pixels) => Some(*pixels),
-        _ => None,
-    }
+/// How many pixels the reply to a command of the batch tells of.
+fn pixels(replies: &Replies, command: usize) -> Option<u64> {
+    replies.as_slice().get(command)?.pixels()
 }
 
 /// Whether a batch of the thread may be answered so.
 fn is_right(task: Task, replies: &Replies) -> bool {
-    let replies = replies.as_slice();
-    let first = pixels(replies.first());
+    let first = pixels(replies, 0);
     match task {
         Task::Toggle => first == Some(WIDE * CELL),
         Task::Count => first == Some(0) || first == Some(WIDE * CELL),
         Task::Move => {
-            first == Some(CELL)
-                && pixels(replies.get(1)) == Some(CELL)
-                && pixels(replies.get(2)) == Some(0)
+            first == Some(CELL) && pixels(replies, 1) == Some(CELL) && pixels(replies, 2) == Some(0)
         }
         Task::Seek => first == Some(CELL),
     }
