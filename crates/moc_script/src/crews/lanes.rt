@@ -1,6 +1,5 @@
 //! How many threads a crew has.
 ghost use Rattle.std.specs.Prelude.{◌≡◌, ◌<◌, ◌≤◌, ◌↔◌, IfSome, IsSome};
-ghost use Rattle.moc_script.specs.Crews.{lane_count};
 
 /// A number of lanes: 1 to 64.
 #[derive(Clone, Copy, Debug, PartialEq, Eq)]
@@ -13,7 +12,7 @@ pub struct Lanes {
 impl Lanes {
     /// So many lanes, if they are 1 to 64. Takes no memory.
     pub fn new(number: u8) -> Option<Lanes>
-        ensures number { IfSome result (λ lanes. lane_count lanes ≡ number) }
+        ensures number { IfSome result (λ lanes. lanes.number ≡ number) }
         ensures accepted { IsSome result ↔ ((0 < number) × (number ≤ 64)) }
     {
         if number == 0 || number > 64 {
@@ -24,7 +23,7 @@ impl Lanes {
 
     /// How many. Takes no memory.
     pub fn get(self) -> u8
-        ensures number { result ≡ lane_count self }
+        ensures number { result ≡ self.number }
         ensures some { 0 < result }
         ensures few { result ≤ 64 }
     {
