@@ -10,7 +10,7 @@ use Rattle.moc_forms.specs.Combining.{CombinesTexts, Said, TextSays, are_blanks,
 use Rattle.moc_forms.specs.Finding.{form_for}
 use Rattle.moc_forms.specs.declared.combining.Operation.{Operation}
 use Rattle.moc_forms.specs.declared.finding.Choice.{Choice}
-use Rattle.moc_conversion.specs.Combining.{HasLongPart, SayNothing, SaysTogether, TellsFirstFault}
+use Rattle.moc_conversion.specs.Combining.{HasLongPart, IsNotCombined, SaysTogether, TellsFirstFault}
 use Rattle.moc_conversion.specs.Private.Pieces.{BringsPiece}
 use Rattle.moc_conversion.specs.Conversion.{HasRead, LacksSemicolons, TellsFault}
 use Rattle.moc_conversion.specs.Private.Running.{AreNotTaken, Begins, Ends, Fails, FailsWithin, IsLong, IsOpen, Leads, SaysMore, RunsTo, TextsSay, semicolon, texts_behind}
@@ -327,7 +327,7 @@ module _ (operation : Operation) (choice : Choice) (a b c : Option (List ℕ)) (
   )
 
   -- a text was at fault in a piece
-  pub piece_fails : (complaint : Complaint) → AreNotTaken d piece complaint.fault ⊎ FailsWithin d piece complaint → SayNothing choice a c complaint
+  pub piece_fails : (complaint : Complaint) → AreNotTaken d piece complaint.fault ⊎ FailsWithin d piece complaint → IsNotCombined choice a c complaint
   piece_fails complaint (inl not) = elim (piece_not_taken complaint.fault not) [ inl memory ↦ inl (inr (inr memory)) | inr longer ↦ inl (inr (inl longer)) ]
   piece_fails complaint (inr fails) = inr (
     runs.0 ++ piece,
@@ -348,7 +348,7 @@ module _ (operation : Operation) (choice : Choice) (a b c : Option (List ℕ)) (
         (runs.0, all_consumed, (end, told.within, told.says))
 
     -- the last text was at fault
-    pub all_fails : (complaint : Complaint) → (complaint.fault ≡ Memory) ⊎ Fails d [] complaint → SayNothing choice a c complaint
+    pub all_fails : (complaint : Complaint) → (complaint.fault ≡ Memory) ⊎ Fails d [] complaint → IsNotCombined choice a c complaint
     all_fails complaint (inl memory) = inl (inr (inr memory))
     all_fails complaint (inr fails) = inr (
       runs.0,
