@@ -1,7 +1,7 @@
 -- What a complaint of a text says.
 use Rattle.std.proofs.Common.{◌≡◌, ◌⊎◌, ◌∙◌, ℕ, List, Option, None, Result, Ok, Err, inl, inr, subst, sym}
 use Rattle.std.specs.Prelude.{IfErr, IsErrAnd, IsOkUnless}
-use Rattle.moc_conversion.specs.Combining.{SayNothing}
+use Rattle.moc_conversion.specs.Combining.{IsNotCombined}
 use Rattle.moc_ranges.specs.Numbers.{NumberSet}
 use Rattle.moc_text.specs.AsciiText.{IsTooCoarse}
 use Rattle.moc_forms.specs.Forms.{FormFails, IsUnwritten, IsWant}
@@ -13,7 +13,7 @@ use Rattle.moc_forms.specs.declared.form.Form.{Form}
 use Rattle.moc_forms.specs.declared.form.Form.TheVariants.{Ascii, Json, Uniq}
 use Rattle.moc_forms.specs.declared.form.FormError.{FormError}
 use Rattle.moc_forms.specs.declared.place.Place.{Place}
-use Rattle.moc_conversion.specs.Conversion.{IsAll, IsNotConverted, IsOfWhole, IsTextFault, IsWhole, SaysNothing}
+use Rattle.moc_conversion.specs.Conversion.{IsAll, IsNotConverted, IsNotSaid, IsOfWhole, IsTextFault, IsWhole}
 use Rattle.moc_conversion.specs.Conversion.{TellsFault}
 use Rattle.moc_conversion.specs.Faults.{IsFaultOf}
 use Rattle.moc_conversion.specs.declared.complaint.Complaint.{Complaint}
@@ -25,7 +25,7 @@ module _ (form : Form) (text : List ℕ) (number : Option ℕ) (error : FormErro
     (is_place : IsPlace text error place) where
   IsToldSo : Type 0
   IsToldSo =
-      (¬ IsWant error) × (c.fault ≡ fault.Form error) × IsTold number text error place (line_bytes c.place) × (c.hint ≡ hint_of form text)
+      (¬ IsWant error) × (c.fault ≡ fault.Form error) × IsTold number text error place (line_bytes c.place_line) × (c.hint ≡ hint_of form text)
 
   of_error : FormFails form text error → IsToldSo → (c.fault ≡ fault.Memory) ⊎ TellsFault form text number c
   unfolding IsToldSo
@@ -34,7 +34,7 @@ module _ (form : Form) (text : List ℕ) (number : Option ℕ) (error : FormErro
       inr (record { error = error; is_fault = is_fault; told = told; place = place; is_place = is_place; line = line; hint = hint })
 
   pub told : FormFails form text error
-      → (c.fault ≡ fault.Memory) ⊎ ((¬ IsWant error) × (c.fault ≡ fault.Form error) × IsTold number text error place (line_bytes c.place) × (c.hint ≡ hint_of form text))
+      → (c.fault ≡ fault.Memory) ⊎ ((¬ IsWant error) × (c.fault ≡ fault.Form error) × IsTold number text error place (line_bytes c.place_line) × (c.hint ≡ hint_of form text))
       → (c.fault ≡ fault.Memory) ⊎ TellsFault form text number c
   unfolding IsToldSo
   told fails (inl memory) = inl memory
@@ -42,7 +42,7 @@ module _ (form : Form) (text : List ℕ) (number : Option ℕ) (error : FormErro
 
 -- a complaint of the input, or of the text that it was
 pub of_input : (choice : Choice) (left left' : Option (List ℕ)) (given : List ℕ) (c : Complaint) → IsWhole left left' given
-    → (c.fault ≡ fault.Memory) ⊎ TellsFault (form_for choice given) given None c → SaysNothing choice left left' c
+    → (c.fault ≡ fault.Memory) ⊎ TellsFault (form_for choice given) given None c → IsNotSaid choice left left' c
 of_input choice left left' given c whole (inl memory) = inl (inr (inr memory))
 of_input choice left left' given c whole (inr tells) = inr (given, whole, tells)
 
@@ -52,7 +52,7 @@ Unconverted form left left' f = IsOfWhole left left' f ⊎ IsAll (λ text. IsTex
 
 -- and so tells a complaint of the fault alone
 pub told_alone : {T : Type 0} (r : Result T Complaint) (f : Fault) (form : Form) (left left' : Option (List ℕ))
-    → IsErrAnd r (λ c. (c.fault ≡ f) × (c.place ≡ None) × (c.hint ≡ None)) → Unconverted form left left' f → IfErr r (λ c. IsNotConverted form left left' c)
+    → IsErrAnd r (λ c. (c.fault ≡ f) × (c.place_line ≡ None) × (c.hint ≡ None)) → Unconverted form left left' f → IfErr r (λ c. IsNotConverted form left left' c)
 told_alone (Ok v) f form left left' same why = tt
 told_alone (Err c) f form left left' same why = (same.1, same.2, subst (λ g. Unconverted form left left' g) (sym same.0) why)
 
@@ -98,12 +98,12 @@ unless_memory (Err f) e same want = want_is_memory e f same want
 
 -- want of memory for what is made of an input
 pub no_memory : {T : Type 0} (r : Result T Complaint) (f : Fault) (choice : Choice) (left left' : Option (List ℕ))
-    → IsErrAnd r (λ c. (c.fault ≡ f) × (c.place ≡ None) × (c.hint ≡ None)) → f ≡ fault.Memory → IfErr r (λ c. SaysNothing choice left left' c)
+    → IsErrAnd r (λ c. (c.fault ≡ f) × (c.place_line ≡ None) × (c.hint ≡ None)) → f ≡ fault.Memory → IfErr r (λ c. IsNotSaid choice left left' c)
 no_memory (Ok v) f choice left left' same memory = tt
 no_memory (Err c) f choice left left' same memory = inl (inr (inr (same.0 ∙ memory)))
 
 -- and for what is made of several texts
 pub no_memory_together : {T : Type 0} (r : Result T Complaint) (f : Fault) (choice : Choice) (left left' : Option (List ℕ))
-    → IsErrAnd r (λ c. (c.fault ≡ f) × (c.place ≡ None) × (c.hint ≡ None)) → f ≡ fault.Memory → IfErr r (λ c. SayNothing choice left left' c)
+    → IsErrAnd r (λ c. (c.fault ≡ f) × (c.place_line ≡ None) × (c.hint ≡ None)) → f ≡ fault.Memory → IfErr r (λ c. IsNotCombined choice left left' c)
 no_memory_together (Ok v) f choice left left' same memory = tt
 no_memory_together (Err c) f choice left left' same memory = inl (inr (inr (same.0 ∙ memory)))

@@ -12,7 +12,7 @@ use Rattle.moc_text.specs.Lines.{is_semicolon, pieces_of}
 use Rattle.moc_forms.specs.Finding.{form_for}
 use Rattle.moc_forms.specs.declared.combining.Operation.{Operation}
 use Rattle.moc_forms.specs.declared.finding.Choice.{Choice}
-use Rattle.moc_conversion.specs.Combining.{HasLongPart, SayNothing, SaysTogether, TellsFirstFault}
+use Rattle.moc_conversion.specs.Combining.{HasLongPart, IsNotCombined, SaysTogether, TellsFirstFault}
 use Rattle.moc_conversion.specs.Private.Pieces.{BringsPiece}
 use Rattle.moc_conversion.specs.Conversion.{HasRead, LacksSemicolons, TellsFault}
 use Rattle.moc_conversion.specs.Private.Running.{AreNotTaken, Begins, Ends, Fails, FailsWithin, IsLong, IsOpen, Leads, SaysMore, RunsTo, TextsSay, semicolon, texts_behind}
@@ -329,7 +329,7 @@ module _ (operation : Operation) (choice : Choice) (a b c : Option (List ℕ)) (
   )
 
   -- a text was at fault in a piece
-  pub piece_fails : (complaint : Complaint) → AreNotTaken d piece complaint.fault ⊎ FailsWithin d piece complaint → SayNothing choice a c complaint
+  pub piece_fails : (complaint : Complaint) → AreNotTaken d piece complaint.fault ⊎ FailsWithin d piece complaint → IsNotCombined choice a c complaint
   piece_fails complaint (inl not) = elim (piece_not_taken complaint.fault not) [ inl memory ↦ inl (inr (inr memory)) | inr longer ↦ inl (inr (inl longer)) ]
   piece_fails complaint (inr fails) = inr (
     runs.0 ++ piece,
@@ -350,7 +350,7 @@ module _ (operation : Operation) (choice : Choice) (a b c : Option (List ℕ)) (
         (runs.0, all_consumed, (end, told.within, told.says))
 
     -- the last text was at fault
-    pub all_fails : (complaint : Complaint) → (complaint.fault ≡ Memory) ⊎ Fails d [] complaint → SayNothing choice a c complaint
+    pub all_fails : (complaint : Complaint) → (complaint.fault ≡ Memory) ⊎ Fails d [] complaint → IsNotCombined choice a c complaint
     all_fails complaint (inl memory) = inl (inr (inr memory))
     all_fails complaint (inr fails) = inr (
       runs.0,

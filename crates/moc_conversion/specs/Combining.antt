@@ -8,14 +8,14 @@ use Rattle.moc_forms.specs.Finding.{form_for}
 use Rattle.moc_forms.specs.Forms.{form_text}
 use Rattle.moc_forms.specs.declared.combining.Operation.{Operation}
 use Rattle.moc_forms.specs.declared.finding.Choice.{Choice}
-use Rattle.moc_conversion.specs.Conversion.{HasRead, IsOfInput, TellsFault}
+use Rattle.moc_conversion.specs.Conversion.{HasRead, IsOfInput, TellsFault, input_limit}
 use Rattle.moc_conversion.specs.declared.complaint.Complaint.{Complaint}
 use Rattle.moc_conversion.specs.declared.fault.Fault.{Fault}
 
 -- all that was left was read; none of its texts is too long, and this is what they say together
 abbrev pub SaysTogether : Operation → Choice → Option (List ℕ) → Option (List ℕ) → Said → Type 0
 SaysTogether operation choice left left' said =
-    HasRead (λ given. IsAtEnd left' × AllByRecursion (λ text. length text ≤ 16777216) (texts_of given)
+    HasRead (λ given. IsAtEnd left' × AllByRecursion (λ text. length text ≤ input_limit) (texts_of given)
     × Combines operation choice given said) left left'
 
 -- the text is that of the set which the texts of all that was left say together, with their deepest order stated and in
@@ -41,12 +41,12 @@ IsFaultyText choice left left' c =
 
 -- one of the parts of bytes, between their semicolons, is longer than a text may be
 abbrev pub HasLongPart : List ℕ → Type 0
-HasLongPart bytes = (part : List ℕ) × Contains (pieces_of bytes) part × (16777216 < length part)
+HasLongPart bytes = (part : List ℕ) × Contains (pieces_of bytes) part × (input_limit < length part)
 
 -- an input of texts could not be had: a part is too long, say, or there are more bytes than are counted
 abbrev pub IsOfTexts : Option (List ℕ) → Option (List ℕ) → Fault → Type 0
 IsOfTexts = IsOfInput (λ given. HasLongPart given ⊎ (18446744073709551615 ≤ length given))
 
 -- why texts say no set together: the input or memory could not be had, or a text is too long, or one is at fault
-abbrev pub SayNothing : Choice → Option (List ℕ) → Option (List ℕ) → Complaint → Type 0
-SayNothing choice left left' c = IsOfTexts left left' c.fault ⊎ IsFaultyText choice left left' c
+abbrev pub IsNotCombined : Choice → Option (List ℕ) → Option (List ℕ) → Complaint → Type 0
+IsNotCombined choice left left' c = IsOfTexts left left' c.fault ⊎ IsFaultyText choice left left' c

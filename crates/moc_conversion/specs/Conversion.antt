@@ -21,11 +21,15 @@ use Rattle.moc_conversion.specs.declared.complaint.Complaint.{Complaint}
 use Rattle.moc_conversion.specs.declared.fault.Fault.{Fault}
 use Rattle.moc_conversion.specs.declared.fault.Fault.TheVariants as fault
 
+-- the most bytes of a text
+abbrev pub input_limit : ℕ
+input_limit = 16777216
+
 -- the text is all that was left, and no longer than an input may be
 pub record IsWhole (left left' : Option (List ℕ)) (text : List ℕ) : Type 0 where
   pub consumed : Consumes left left' text
   pub end : IsAtEnd left'
-  pub within : length text ≤ 16777216
+  pub within : length text ≤ input_limit
 
 -- all that was left was read, and it is such a text
 abbrev pub IsAll : (List ℕ → Type 0) → Option (List ℕ) → Option (List ℕ) → Type 0
@@ -97,7 +101,7 @@ pub record TellsFault (form : Form) (text : List ℕ) (number : Option ℕ) (c :
   pub told : c.fault ≡ fault.Form error
   pub place : Option Place
   pub is_place : IsPlace text error place
-  pub line : IsTold number text error place (line_bytes c.place)
+  pub line : IsTold number text error place (line_bytes c.place_line)
   pub hint : c.hint ≡ hint_of form text
 
 -- such bytes of what was left were read
@@ -111,7 +115,7 @@ IsOfInput is_long left left' f =
 
 -- an input that is one text could not be had
 abbrev pub IsOfWhole : Option (List ℕ) → Option (List ℕ) → Fault → Type 0
-IsOfWhole = IsOfInput (λ given. 16777216 < length given)
+IsOfWhole = IsOfInput (λ given. input_limit < length given)
 
 -- the fault is the first of a text in a form
 abbrev pub IsTextFault : Form → List ℕ → Fault → Type 0
@@ -120,12 +124,12 @@ IsTextFault form text f = (error : FormError) × IsFormFault form text error × 
 -- why the input was not converted, which is told alone: it could not be had, or it has the fault that is told
 abbrev pub IsNotConverted : Form → Option (List ℕ) → Option (List ℕ) → Complaint → Type 0
 IsNotConverted form left left' c =
-    (c.place ≡ None) × (c.hint ≡ None)
+    (c.place_line ≡ None) × (c.hint ≡ None)
     × (IsOfWhole left left' c.fault ⊎ IsAll (λ text. IsTextFault form text c.fault) left left')
 
 -- why the input says no set: it or memory could not be had, or it has the fault that is told, at the place that is told
-abbrev pub SaysNothing : Choice → Option (List ℕ) → Option (List ℕ) → Complaint → Type 0
-SaysNothing choice left left' c =
+abbrev pub IsNotSaid : Choice → Option (List ℕ) → Option (List ℕ) → Complaint → Type 0
+IsNotSaid choice left left' c =
     IsOfWhole left left' c.fault ⊎ IsAll (λ text. TellsFault (form_for choice text) text None c) left left'
 
 -- of the texts of a picture, which are counted where there are two, the complaint tells the first that says no set

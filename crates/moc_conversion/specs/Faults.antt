@@ -65,4 +65,4 @@ line_of name = codes "fault " ++ name ++ 10 ∷ []
 -- any
 abbrev pub complaint_text : Complaint → List ℕ
 complaint_text c =
-    line_of (name_of c.fault) ++ option_map_or string_bytes c.place [] ++ option_map_or hint_text c.hint []
+    line_of (name_of c.fault) ++ option_map_or string_bytes c.place_line [] ++ option_map_or hint_text c.hint []

@@ -2,7 +2,7 @@
 ghost use Rattle.std.specs.Prelude.{◌≡◌, ◌≢◌, ◌↔◌, ◌⊎◌, [], false, IfErr, IfOk, IsErrAnd, IsTrue, OnOk, Some};
 ghost use Rattle.std.specs.String.{string_bytes};
 ghost use Rattle.moc_forms.specs.Finding.{form_for};
-ghost use Rattle.moc_conversion.specs.Combining.{CombinesAll, SayNothing, SaysTogether};
+ghost use Rattle.moc_conversion.specs.Combining.{CombinesAll, IsNotCombined, SaysTogether};
 ghost use Rattle.moc_conversion.specs.Conversion.{LacksSemicolons, TellsFault};
 ghost use Rattle.moc_conversion.specs.Private.Running.{Begins, Ends, Fails, FailsWithin, IsOpen, AreNotTaken, Leads};
 ghost use Rattle.moc_conversion.specs.Private.Running.{SaysMore, semicolon};
@@ -48,9 +48,9 @@ impl Combination {
         ensures { (result.fault ≡ Fault.Memory) ⊎ (result.fault ≡ Fault.TooLong) }
     {
         match place_line(alloc, Some(self.number), None, None) {
-            Ok(place) => Complaint {
+            Ok(line) => Complaint {
                 fault: Fault::TooLong,
-                place,
+                place_line: line,
                 hint: None,
             },
             Err(error) => Complaint::from(error),
@@ -151,7 +151,7 @@ fn read_texts<R: Source>(
 ) -> Result<(Coverage, Option<Order>, Form), Complaint>
     requires { R.mark input.old ≡ false }
     ensures read { IsErrAnd result (λ c. c.fault ≡ Fault.Read) ↔ IsTrue (R.mark input.new) }
-    ensures fault { IfErr result (λ c. SayNothing choice (R.left input.old) (R.left input.new) c) }
+    ensures fault { IfErr result (λ c. IsNotCombined choice (R.left input.old) (R.left input.new) c) }
     ensures says { IfOk result (λ r. SaysTogether operation choice (R.left input.old) (R.left input.new) r) }
 {
     let mut room = room(alloc)?;
@@ -182,7 +182,7 @@ pub fn combined<R: Source>(
 ) -> Result<String, Complaint>
     requires { R.mark input.old ≡ false }
     ensures read { IsErrAnd result (λ c. c.fault ≡ Fault.Read) ↔ IsTrue (R.mark input.new) }
-    ensures fault { IfErr result (λ c. SayNothing choice (R.left input.old) (R.left input.new) c) }
+    ensures fault { IfErr result (λ c. IsNotCombined choice (R.left input.old) (R.left input.new) c) }
     ensures combines { IfOk result (λ t.
         CombinesAll operation choice (R.left input.old) (R.left input.new) (string_bytes t)) }
 {

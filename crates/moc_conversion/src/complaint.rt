@@ -17,7 +17,7 @@ use thiserror::Error;
 #[error("{fault}")]
 pub struct Complaint {
     pub fault: Fault,
-    pub place: Option<String>,
+    pub place_line: Option<String>,
     pub hint: Option<Form>,
 }
 
@@ -30,8 +30,8 @@ impl Complaint {
         ensures marks { E.mark faults.old ≡ false → E.mark faults.new ≡ is_err result }
     {
         write_all(self.fault.line().as_bytes(), faults)?;
-        if let Some(place) = &self.place {
-            write_all(place.as_bytes(), faults)?;
+        if let Some(line) = &self.place_line {
+            write_all(line.as_bytes(), faults)?;
         }
         match self.hint {
             Some(form) => write_all(hint_line(form).as_bytes(), faults),
@@ -41,19 +41,19 @@ impl Complaint {
 }
 
 impl From<Fault> for Complaint {
-    ghost from_gives = { λ f c. (c.fault ≡ f) × (c.place ≡ None) × (c.hint ≡ None) };
+    ghost from_gives = { λ f c. (c.fault ≡ f) × (c.place_line ≡ None) × (c.hint ≡ None) };
 
     fn from(fault: Fault) -> Complaint {
         Complaint {
             fault,
-            place: None,
+            place_line: None,
             hint: None,
         }
     }
 }
 
 impl From<MemoryRefused> for Complaint {
-    ghost from_gives = { λ _ c. (c.fault ≡ fault.Memory) × (c.place ≡ None) × (c.hint ≡ None) };
+    ghost from_gives = { λ _ c. (c.fault ≡ fault.Memory) × (c.place_line ≡ None) × (c.hint ≡ None) };
 
     fn from(_error: MemoryRefused) -> Complaint {
         Complaint::from(Fault::Memory)
@@ -61,7 +61,7 @@ impl From<MemoryRefused> for Complaint {
 }
 
 impl From<AllocError> for Complaint {
-    ghost from_gives = { λ _ c. (c.fault ≡ fault.Memory) × (c.place ≡ None) × (c.hint ≡ None) };
+    ghost from_gives = { λ _ c. (c.fault ≡ fault.Memory) × (c.place_line ≡ None) × (c.hint ≡ None) };
 
     fn from(_error: AllocError) -> Complaint {
         Complaint::from(Fault::Memory)

@@ -9,8 +9,8 @@ ghost use Rattle.moc_forms.specs.Forms.{FormSays, IsWant, form_text};
 ghost use Rattle.moc_forms.specs.Places.{line_bytes};
 ghost use Rattle.moc_forms.specs.Quotes.{IsTold};
 ghost use Rattle.moc_conversion.specs.Conversion.{AreTexts, ChangesAll, ConvertsAll, DescribesAll, DrawsAll};
-ghost use Rattle.moc_conversion.specs.Conversion.{IsNotConverted, IsNotDrawn, IsOfWhole, IsPictured};
-ghost use Rattle.moc_conversion.specs.Conversion.{IsSaid, IsTextFault, IsWhole, SaysAll, SaysNothing, TellsFault};
+ghost use Rattle.moc_conversion.specs.Conversion.{IsNotConverted, IsNotDrawn, IsNotSaid, IsOfWhole, IsPictured};
+ghost use Rattle.moc_conversion.specs.Conversion.{IsSaid, IsTextFault, IsWhole, SaysAll, TellsFault};
 ghost use Rattle.moc_conversion.specs.Conversion.{TellsPictured};
 ghost use Rattle.moc_conversion.specs.Private.Pieces.{BringsPiece, IsParted};
 
@@ -111,10 +111,10 @@ fn complaint_of(
     number: Option<u64>,
     refusal: Refusal,
 ) -> Complaint
-    ensures memory { result.fault ≡ Fault.Memory → result.place ≡ None }
+    ensures memory { result.fault ≡ Fault.Memory → result.place_line ≡ None }
     ensures told { (result.fault ≡ Fault.Memory)
         ⊎ ((¬ IsWant refusal.error) × (result.fault ≡ Fault.Form refusal.error)
-        × IsTold number text.now refusal.error refusal.place (line_bytes result.place)
+        × IsTold number text.now refusal.error refusal.place (line_bytes result.place_line)
         × (result.hint ≡ hint_of form text.now)) }
 {
     let fault = Fault::from(refusal.error);
@@ -122,9 +122,9 @@ fn complaint_of(
         return Complaint::from(fault);
     }
     match refusal.line(alloc, number, text) {
-        Ok(place) => Complaint {
+        Ok(place_line) => Complaint {
             fault,
-            place,
+            place_line,
             hint: hint(form, text),
         },
         Err(error) => Complaint::from(error),
@@ -148,7 +148,7 @@ pub fn text_of(
 /// The text in one form of the coverage that the input has in another. The deepest order that it names is stated. Else
 /// the complaint is of the fault alone.
 ///
-/// Reads the input to its end; refused with `Read` where that fails, with `TooLong` behind 16,777,216 bytes, with the
+/// Reads the input to its end; refused with `Read` where that fails, with `TooLong` above 16,777,216 bytes, with the
 /// first fault of the text, or with `Memory`. Time and memory are linear in the input and in what is made of it.
 pub fn converted<R: Source>(
     alloc: Global,
@@ -174,7 +174,7 @@ fn input_says<R: Source>(
 ) -> Result<(Coverage, Option<Order>, Form), Complaint>
     requires { R.mark input.old ≡ false }
     ensures read { IsErrAnd result (λ c. c.fault ≡ Fault.Read) ↔ IsTrue (R.mark input.new) }
-    ensures fault { IfErr result (λ c. SaysNothing choice (R.left input.old) (R.left input.new) c) }
+    ensures fault { IfErr result (λ c. IsNotSaid choice (R.left input.old) (R.left input.new) c) }
     ensures says { IfOk result (λ r. SaysAll choice (R.left input.old) (R.left input.new) r) }
 {
     let text = read_whole(alloc, input)?;
@@ -183,7 +183,7 @@ fn input_says<R: Source>(
 
 /// The figures of the coverage that the input has.
 ///
-/// Reads the input to its end; refused with `Read` where that fails, with `TooLong` behind 16,777,216 bytes, with the
+/// Reads the input to its end; refused with `Read` where that fails, with `TooLong` above 16,777,216 bytes, with the
 /// first fault of the text, or with `Memory`. Time and memory are linear in the input and in what is made of it.
 pub fn described<R: Source>(
     alloc: Global,
@@ -192,7 +192,7 @@ pub fn described<R: Source>(
 ) -> Result<String, Complaint>
     requires { R.mark input.old ≡ false }
     ensures read { IsErrAnd result (λ c. c.fault ≡ Fault.Read) ↔ IsTrue (R.mark input.new) }
-    ensures fault { IfErr result (λ c. SaysNothing choice (R.left input.old) (R.left input.new) c) }
+    ensures fault { IfErr result (λ c. IsNotSaid choice (R.left input.old) (R.left input.new) c) }
     ensures describes { IfOk result (λ t. DescribesAll choice (R.left input.old) (R.left input.new) (string_bytes t)) }
 {
     let (set, deepest, _) = input_says(alloc, choice, input)?;
@@ -201,7 +201,7 @@ pub fn described<R: Source>(
 
 /// The picture of the coverage that the input has, or of the two that its first semicolon parts.
 ///
-/// Reads the input to its end; refused with `Read` where that fails, with `TooLong` behind 16,777,216 bytes, with the
+/// Reads the input to its end; refused with `Read` where that fails, with `TooLong` above 16,777,216 bytes, with the
 /// first fault of the text, or with `Memory`. Time and memory are linear in the input and in what is made of it.
 pub fn drawn<R: Source>(alloc: Global, choice: Choice, input: &mut R) -> Result<String, Complaint>
     requires { R.mark input.old ≡ false }
@@ -253,7 +253,7 @@ pub fn parted(bytes: &[u8]) -> Option<(&[u8], &[u8])>
 /// The text of a change of the coverage that the input has, in the form that it was read in, with the order that is
 /// stated of it.
 ///
-/// Reads the input to its end; refused with `Read` where that fails, with `TooLong` behind 16,777,216 bytes, with the
+/// Reads the input to its end; refused with `Read` where that fails, with `TooLong` above 16,777,216 bytes, with the
 /// first fault of the text, or with `Memory`. Time and memory are linear in the input and in what is made of it.
 pub fn changed<R: Source>(
     alloc: Global,
@@ -263,7 +263,7 @@ pub fn changed<R: Source>(
 ) -> Result<String, Complaint>
     requires { R.mark input.old ≡ false }
     ensures read { IsErrAnd result (λ c. c.fault ≡ Fault.Read) ↔ IsTrue (R.mark input.new) }
-    ensures fault { IfErr result (λ c. SaysNothing choice (R.left input.old) (R.left input.new) c) }
+    ensures fault { IfErr result (λ c. IsNotSaid choice (R.left input.old) (R.left input.new) c) }
     ensures changes { IfOk result (λ t.
         ChangesAll change choice (R.left input.old) (R.left input.new) (string_bytes t)) }
 {
@@ -274,12 +274,12 @@ pub fn changed<R: Source>(
 
 /// Whether the input is a coverage; else its first fault and, in words, where it is.
 ///
-/// Reads the input to its end; refused with `Read` where that fails, with `TooLong` behind 16,777,216 bytes, with the
+/// Reads the input to its end; refused with `Read` where that fails, with `TooLong` above 16,777,216 bytes, with the
 /// first fault of the text, or with `Memory`. Time and memory are linear in the input and in what is made of it.
 pub fn checked<R: Source>(alloc: Global, choice: Choice, input: &mut R) -> Result<(), Complaint>
     requires { R.mark input.old ≡ false }
     ensures read { IsErrAnd result (λ c. c.fault ≡ Fault.Read) ↔ IsTrue (R.mark input.new) }
-    ensures fault { IfErr result (λ c. SaysNothing choice (R.left input.old) (R.left input.new) c) }
+    ensures fault { IfErr result (λ c. IsNotSaid choice (R.left input.old) (R.left input.new) c) }
     ensures says { OnOk result (IsSaid choice (R.left input.old) (R.left input.new)) }
 {
     input_says(alloc, choice, input)?;

@@ -7,9 +7,9 @@ use Rattle.moc_lines.specs.Numberings.{renumber_rules}
 use Rattle.moc_lines.specs.Runs.{Runs}
 use Rattle.moc_lines.specs.Scripts.{line_limit, script_rules}
 use Rattle.moc_script.specs.Schedules.{schedule_rules, start_schedule}
-use Rattle.moc_conversion.specs.Combining.{CombinesAll, SayNothing}
+use Rattle.moc_conversion.specs.Combining.{CombinesAll, IsNotCombined}
 use Rattle.moc_conversion.specs.Conversion.{ChangesAll, ConvertsAll, DescribesAll, DrawsAll}
-use Rattle.moc_conversion.specs.Conversion.{IsNotConverted, IsNotDrawn, IsSaid, SaysNothing}
+use Rattle.moc_conversion.specs.Conversion.{IsNotConverted, IsNotDrawn, IsNotSaid, IsSaid}
 use Rattle.moc_conversion.specs.declared.complaint.Complaint.{Complaint}
 use Rattle.moc_program.specs.Listing.{fault_list}
 use Rattle.moc_program.specs.Numbers.{IsNumberLine, IsNumberRefusal}
@@ -56,13 +56,13 @@ ActionEnds (Convert from to) left left' w w' =
     PrintsText (ConvertsAll from to left left') (Complains (IsNotConverted from left left')) w w'
 ActionEnds (Check choice) left left' w w' =
     PrintsText (λ text. IsSaid choice left left' × (text ≡ codes "ok" ++ 10 ∷ []))
-    (Complains (SaysNothing choice left left')) w w'
+    (Complains (IsNotSaid choice left left')) w w'
 ActionEnds (Describe choice) left left' w w' =
-    PrintsText (DescribesAll choice left left') (Complains (SaysNothing choice left left')) w w'
+    PrintsText (DescribesAll choice left left') (Complains (IsNotSaid choice left left')) w w'
 ActionEnds (Draw choice) left left' w w' =
     PrintsText (DrawsAll choice left left') (Complains (IsNotDrawn choice left left')) w w'
 ActionEnds (Change change choice) left left' w w' =
-    PrintsText (ChangesAll change choice left left') (Complains (SaysNothing choice left left')) w w'
+    PrintsText (ChangesAll change choice left left') (Complains (IsNotSaid choice left left')) w w'
 ActionEnds (Combine operation choice) left left' w w' =
-    PrintsText (CombinesAll operation choice left left') (Complains (SayNothing choice left left')) w w'
+    PrintsText (CombinesAll operation choice left left') (Complains (IsNotCombined choice left left')) w w'
 ActionEnds Faults left left' w w' = PrintsText (λ text. text ≡ fault_list) (λ _. ⊥) w w'

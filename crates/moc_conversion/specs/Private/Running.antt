@@ -7,7 +7,7 @@ use Rattle.moc_text.specs.Lines.{pieces_of}
 use Rattle.moc_forms.specs.declared.combining.Operation.{Operation}
 use Rattle.moc_forms.specs.declared.finding.Choice.{Choice}
 use Rattle.moc_conversion.specs.Combining.{HasLongPart, TellsFirstFault}
-use Rattle.moc_conversion.specs.Conversion.{LacksSemicolons}
+use Rattle.moc_conversion.specs.Conversion.{LacksSemicolons, input_limit}
 use Rattle.moc_conversion.specs.declared.combination.Combination.{Combination}
 use Rattle.moc_conversion.specs.declared.complaint.Complaint.{Complaint}
 use Rattle.moc_conversion.specs.declared.fault.Fault.{Fault}
@@ -16,7 +16,7 @@ use Rattle.moc_conversion.specs.declared.fault.Fault.TheVariants.{TooLong, Memor
 -- the text that has not ended has no semicolon, and is no longer than an input may be
 pub record IsOpen (c : Combination) : Type 0 where
   pub lacks : LacksSemicolons c.text.items
-  pub within : length c.text.items ≤ 16777216
+  pub within : length c.text.items ≤ input_limit
 
 -- a combination that has no text yet
 pub record Begins (op : Operation) (ch : Choice) (c : Combination) : Type 0 where
@@ -40,7 +40,7 @@ texts_behind (Some before) bytes = without_blank_end (pieces_of bytes)
 pub record TextsSay (operation : Operation) (choice : Choice) (before : Option Said) (bytes : List ℕ)
     (after : Option Said) : Type 0 where
   pub says : CombinesTexts operation choice before (texts_behind before bytes) after
-  pub within : AllByRecursion (λ text. length text ≤ 16777216) (texts_behind before bytes)
+  pub within : AllByRecursion (λ text. length text ≤ input_limit) (texts_behind before bytes)
 
 -- what comes of a combination with these bytes behind its text
 abbrev pub Ends : Combination → List ℕ → Option Said → Type 0

@@ -1,5 +1,6 @@
 use Rattle.std.proofs.Common.{◌≡◌, false, ◌+◌, ◌-◌, ◌<◌, length}
 use Rattle.std.specs.Io.KnownBytes.{Consumes}
+use Rattle.moc_conversion.specs.Conversion.{input_limit}
 use Rattle.moc_conversion.proofs.conversion.read_whole.Given as goal
 
 abbrev pub invariant-loop-input : goal.invariant-loop-input
@@ -10,4 +11,4 @@ invariant-loop-input g l = record {
 }
 
 abbrev pub decreases-loop-input : goal.decreases-loop-input
-decreases-loop-input g l = 16777216 + 1 - length l.text.items
+decreases-loop-input g l = input_limit + 1 - length l.text.items
