@@ -1,7 +1,7 @@
 //! Coverages of few ranges and of many, each call that takes memory once.
 ghost use Rattle.std.specs.Prelude.{◌≤◌};
 
-use crate::shown::is_shown;
+use crate::shown::{is_debugged, is_shown};
 use moc_ranges::{Coverage, CoverageBuilder, Memory, RangesError, Steps};
 use moc_sphere::{Cell, Order};
 use std::alloc::Global;
@@ -52,6 +52,18 @@ fn pairs(rt: HostRuntime) {
     has(&rt, &set, &[(0, 9)]);
     assert_eq!(rt; set.count(), 9);
     assert!(rt; set.contains(8) && !set.contains(9));
+}
+
+#[test]
+fn sets_are_debugged_by_their_ranges(rt: HostRuntime) {
+    let alloc = rt.alloc();
+    is_debugged(&rt, alloc, &Coverage::empty(alloc), "{}");
+    let set = set_of(&rt, alloc, &[(0, 4), (6, 8)]);
+    is_debugged(&rt, alloc, &set, "{0..4, 6..8}");
+    is_debugged(&rt, alloc, &set.chunks(), "[2]");
+    let mut ranges = set.ranges();
+    assert_eq!(rt; ranges.next(), Some((0, 4)));
+    is_debugged(&rt, alloc, &ranges, "{6..8}");
 }
 
 #[test]

@@ -12,6 +12,7 @@ use crate::from_ranges::{append, build};
 use crate::list::builder::list_of;
 use moc_sphere::{Cell, Order};
 use std::alloc::{AllocError, Global};
+use std::fmt;
 use std::marker::Model;
 
 /// How many ranges wait at least before they are joined.
@@ -22,7 +23,7 @@ const FEWEST_WAITING: usize = 512;
 /// Cells that rise are joined as they come. The others wait, and are joined when they are as many
 /// as the ranges so far: so the memory that it takes follows the set, and n cells take O(n log n),
 /// or O(n) where they rise.
-#[derive(Debug, Drop)]
+#[derive(Drop)]
 pub struct CoverageBuilder {
     joined: Coverage,
     /// How many ranges are joined.
@@ -165,6 +166,19 @@ impl Extend<Cell> for CoverageBuilder {
             self.add_cell(cell)?;
         }
         Ok(())
+    }
+}
+
+/// How many ranges are joined, and how many are not yet.
+impl fmt::Debug for CoverageBuilder {
+    fn fmt<W: fmt::Write>(&self, f: &mut fmt::Formatter<W>) -> fmt::Result {
+        let joined = self.joined_count;
+        let rising = self.rising.len();
+        let waiting = self.waiting.len();
+        write!(
+            f,
+            "CoverageBuilder {{ joined: {joined}, rising: {rising}, waiting: {waiting} }}"
+        )
     }
 }
 

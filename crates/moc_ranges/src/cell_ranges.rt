@@ -4,6 +4,7 @@ ghost use Rattle.std.specs.Iterator.{YieldsFirst, item_count};
 use crate::list::ranges::Ranges;
 use crate::operations::meeting::keep_at;
 use moc_sphere::Order;
+use std::fmt;
 use std::marker::Model;
 
 /// How many runs are made ahead at most.
@@ -11,7 +12,7 @@ const ROOM: usize = 32;
 
 /// The cells of one order that a set has, as far as they are still to come: ranges (first, end) of their indices, `end`
 /// not included. They rise, none is empty, and none touches the next.
-#[derive(Debug, Drop)]
+#[derive(Drop)]
 pub struct CellRanges<'a> {
     order: Order,
     ranges: Ranges<'a>,
@@ -106,6 +107,13 @@ impl<'a> CellRanges<'a> {
             count: 0,
             given: 0,
         }
+    }
+}
+
+/// Their order.
+impl fmt::Debug for CellRanges<'_> {
+    fn fmt<W: fmt::Write>(&self, f: &mut fmt::Formatter<W>) -> fmt::Result {
+        write!(f, "CellRanges {{ order: {}, .. }}", self.order)
     }
 }
 

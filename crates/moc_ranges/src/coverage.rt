@@ -30,6 +30,7 @@ use crate::operations::walks::{are_same, count_both, holds_all, share_some};
 use crate::pixels::PIXEL_COUNT;
 use moc_sphere::{Cell, Order};
 use std::alloc::{AllocError, Global};
+use std::fmt;
 use std::marker::Model;
 
 /// How many pixels a base pixel has: 4^29.
@@ -41,7 +42,7 @@ const BASE_PIXEL_SIZE: u64 = 288230376151711744;
 /// and more in blocks of 1 to 128, of which two side by side have together more than 128. Nodes have
 /// 1 to 16 blocks, and two side by side together more than 16. Copies and results share the blocks
 /// that they have in common. Below, n and m are the numbers of ranges of the sets that a call takes.
-#[derive(Debug, Drop)]
+#[derive(Drop)]
 pub struct Coverage {
     list: RangeList,
 }
@@ -567,6 +568,13 @@ impl Eq for Coverage {
     ghost use Rattle.moc_ranges.specs.Lemmas.Members.{is_same-equivalence};
 
     ghost laws = { is_same-equivalence };
+}
+
+/// Its ranges, as `{0..4, 6..8}`.
+impl fmt::Debug for Coverage {
+    fn fmt<W: fmt::Write>(&self, f: &mut fmt::Formatter<W>) -> fmt::Result {
+        write!(f, "{:?}", self.ranges())
+    }
 }
 
 impl<'a> IntoIterator for &'a Coverage {

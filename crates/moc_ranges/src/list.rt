@@ -38,7 +38,7 @@ use std::marker::Model;
 /// Up to 128 are kept in one list, and more in blocks of 1 to 128, of which two side by side have together more than
 /// 128. Nodes have 1 to 16 blocks, and two side by side together more than 16. Copies share all blocks, results most of
 /// those that they have in common with what they are made of. Below, n is the number of ranges.
-#[derive(Debug, Drop)]
+#[derive(Drop)]
 pub struct RangeList {
     /// The ranges of a list that has no nodes.
     few: Vec<(u64, u64)>,

@@ -4,8 +4,8 @@ ghost use Rattle.moc_sphere.specs.Touching.{corners_of};
 ghost use Rattle.moc_sphere.specs.Private.Sides.{corners_of_step};
 
 /// Where a neighbour of a cell lies: a cell is a diamond, with a side to the north-east and so on, and a corner to the
-/// north, east, south and west.
-#[derive(Clone, Copy, Debug, PartialEq, Eq)]
+/// north, east, south and west. They are ordered as in `ALL`.
+#[derive(Clone, Copy, Debug, PartialEq, Eq, PartialOrd, Ord, Hash)]
 pub enum Direction {
     SouthWest,
     West,

@@ -6,7 +6,7 @@ use crate::list::block::{Block, LONGEST};
 use crate::list::node::Node;
 
 /// Blocks, and the nodes behind them.
-#[derive(Clone, Copy, Debug)]
+#[derive(Clone, Copy)]
 pub struct Ahead<'a> {
     pub blocks: &'a [Block],
     pub nodes: &'a [Node],

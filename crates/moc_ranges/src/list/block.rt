@@ -17,7 +17,7 @@ pub const LONGEST: usize = 128;
 const ROOM: usize = 16;
 
 /// 1 to 128 ranges in rising order.
-#[derive(Debug, Drop)]
+#[derive(Drop)]
 pub struct Block {
     from: u64,
     to: u64,

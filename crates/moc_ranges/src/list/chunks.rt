@@ -2,11 +2,12 @@
 use crate::list::ahead::Ahead;
 use crate::list::block::Block;
 use crate::list::node::Node;
+use std::fmt;
 use std::marker::Model;
 
 /// The chunks of a set that are still to come, in rising order: slices of its ranges (from, to),
 /// each of 1 to 128, two side by side of more than 128 together.
-#[derive(Debug, Drop)]
+#[derive(Drop)]
 pub struct Chunks<'a> {
     /// The ranges of a set that has no nodes.
     few: &'a [(u64, u64)],
@@ -75,6 +76,26 @@ impl<'a> Chunks<'a> {
     {
         let ahead = Ahead { blocks: &[], nodes };
         Self { few, ahead }
+    }
+}
+
+/// How many ranges each has that is still to come, as `[128, 97]`.
+impl fmt::Debug for Chunks<'_> {
+    fn fmt<W: fmt::Write>(&self, f: &mut fmt::Formatter<W>) -> fmt::Result {
+        let chunks = Chunks {
+            few: self.few,
+            ahead: self.ahead,
+        };
+        let mut first = true;
+        write!(f, "[")?;
+        for chunk in chunks {
+            if !first {
+                write!(f, ", ")?;
+            }
+            write!(f, "{}", chunk.len())?;
+            first = false;
+        }
+        write!(f, "]")
     }
 }
 

@@ -15,7 +15,7 @@ use std::sync::Arc;
 pub const WIDEST: usize = 16;
 
 /// 1 to 16 blocks in rising order.
-#[derive(Debug, Drop)]
+#[derive(Drop)]
 pub struct Node {
     from: u64,
     to: u64,

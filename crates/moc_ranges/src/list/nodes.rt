@@ -12,7 +12,7 @@ use std::alloc::{AllocError, Global};
 use std::marker::Model;
 
 /// Nodes in rising order, beside each how many blocks lie in those before it, and how many pixels and ranges they have.
-#[derive(Debug, Drop)]
+#[derive(Drop)]
 pub struct Nodes {
     nodes: Vec<Node>,
     starts: Vec<usize>,

@@ -8,11 +8,12 @@ use crate::list::ahead::{
 use crate::list::block::{Block, LONGEST};
 use crate::list::node::{Node, count_in_blocks, count_in_nodes};
 use crate::list::runs::{leading_below, pass_ranges};
+use std::fmt;
 use std::marker::Model;
 
 /// The ranges (from, to) of a set that are still to come, in rising order: pixels of order 29 by their nested numbers,
 /// `to` not included.
-#[derive(Debug, Drop)]
+#[derive(Drop)]
 pub struct Ranges<'a> {
     /// The rest of a block that is begun.
     ranges: &'a [(u64, u64)],
@@ -37,7 +38,7 @@ ghost use Rattle.moc_ranges.specs.Private.Blocks.{joining, last_of, next_of, res
 ghost use Rattle.moc_ranges.specs.Private.Walks.{Advances, Passes};
 
 /// What is behind a block that is begun.
-#[derive(Debug, Drop)]
+#[derive(Drop)]
 pub(crate) struct Behind<'a> {
     ahead: Ahead<'a>,
 }
@@ -292,6 +293,26 @@ impl<'a> Ranges<'a> {
         ensures { ((n : ℕ) × Advances (limit, limit) self.old self.new result n) }
     {
         self.advance((limit, limit), reach).next
+    }
+}
+
+/// Those that are still to come, as `{0..4, 6..8}`.
+impl fmt::Debug for Ranges<'_> {
+    fn fmt<W: fmt::Write>(&self, f: &mut fmt::Formatter<W>) -> fmt::Result {
+        let ranges = Ranges {
+            ranges: self.ranges,
+            ahead: self.ahead,
+        };
+        let mut first = true;
+        write!(f, "{{")?;
+        for (from, to) in ranges {
+            if !first {
+                write!(f, ", ")?;
+            }
+            write!(f, "{from}..{to}")?;
+            first = false;
+        }
+        write!(f, "}}")
     }
 }
 
