@@ -13,8 +13,8 @@ use Rattle.moc_forms.specs.Finding.{form_for}
 use Rattle.moc_forms.specs.declared.combining.Operation.{Operation}
 use Rattle.moc_forms.specs.declared.finding.Choice.{Choice}
 use Rattle.moc_conversion.specs.Combining.{HasLongPart, IsNotCombined, SaysTogether, TellsFirstFault}
-use Rattle.moc_conversion.specs.Private.Pieces.{BringsPiece}
-use Rattle.moc_conversion.specs.Conversion.{HasRead, LacksSemicolons, TellsFault}
+use Rattle.moc_conversion.specs.Private.Pieces.{BringsPiece, LacksSemicolons}
+use Rattle.moc_conversion.specs.Conversion.{HasRead, TellsFault}
 use Rattle.moc_conversion.specs.Private.Running.{AreNotTaken, Begins, Ends, Fails, FailsWithin, IsLong, IsOpen, Leads, SaysMore, RunsTo, TextsSay, semicolon, texts_behind}
 use Rattle.moc_conversion.specs.declared.combination.Combination.{Combination}
 use Rattle.moc_conversion.specs.declared.complaint.Complaint.{Complaint}

@@ -1,3 +1,4 @@
 pub mod Checks
 pub mod Combinations
 pub mod Depths
+pub mod Pictures

@@ -1,6 +1,6 @@
 -- Texts of coverages, from the input: converted, described, drawn, checked.
-use Rattle.std.specs.Prelude.{◌≡◌, ℕ, ◌<◌, ◌≤◌, ◌⊎◌, true, false, List, ◌∷◌, ◌++◌, length, Option, None, Some}
-use Rattle.std.specs.List.{All}
+use Rattle.std.specs.Prelude.{◌≡◌, ℕ, ◌<◌, ◌≤◌, ◌⊎◌, if◌then◌else◌, List, length, Option, None, Some}
+use Rattle.std.specs.List.{after_first, before_first}
 use Rattle.std.specs.Io.KnownBytes.{Consumes, IsAtEnd}
 use Rattle.moc_forms.specs.Changing.{changed, order_after}
 use Rattle.moc_forms.specs.Combining.{Said, TextSays, are_blanks}
@@ -63,18 +63,15 @@ ChangesAll change =
 abbrev pub DescribesAll : Choice → Option (List ℕ) → Option (List ℕ) → List ℕ → Type 0
 DescribesAll = MakesAll (λ said text. Describes said.0 said.1 text)
 
--- no byte is a semicolon
-abbrev pub LacksSemicolons : List ℕ → Type 0
-LacksSemicolons bytes = All (λ b. is_semicolon b ≡ false) bytes
+-- the first text of a picture: the bytes before the first semicolon, or all
+abbrev pub first_text : List ℕ → List ℕ
+first_text bytes = before_first is_semicolon bytes
 
--- the texts of a picture: all bytes, or those before the first semicolon and those behind it; blanks alone behind it
--- are no text
-abbrev pub AreTexts : List ℕ → List ℕ → Option (List ℕ) → Type 0
-AreTexts bytes first None =
-    LacksSemicolons first
-    × ((bytes ≡ first) ⊎ ((blanks : List ℕ) × (are_blanks blanks ≡ true) × (bytes ≡ first ++ 59 ∷ blanks)))
-AreTexts bytes first (Some second) =
-    LacksSemicolons first × (are_blanks second ≡ false) × (bytes ≡ first ++ 59 ∷ second)
+-- the second one: those behind that semicolon, if they are more than blanks
+abbrev pub second_text : List ℕ → Option (List ℕ)
+second_text bytes =
+    let behind = after_first is_semicolon bytes in
+    if are_blanks behind then None else Some behind
 
 -- a picture is that of the set which a text says, or of those which two texts say
 abbrev pub IsPictureOf : Choice → List ℕ → Option (List ℕ) → List ℕ → Type 0
@@ -83,15 +80,10 @@ IsPictureOf choice first (Some second) picture =
     (one other : Said) × TextSays choice first one × TextSays choice second other
     × (picture ≡ picture_of_two one.0 other.0)
 
--- a picture is that of the texts that bytes are
-abbrev pub IsPictured : Choice → List ℕ → List ℕ → Type 0
-IsPictured choice bytes picture =
-    (first : List ℕ) × (second : Option (List ℕ)) × AreTexts bytes first second
-    × IsPictureOf choice first second picture
-
 -- the picture is that of the texts that the input is
 abbrev pub DrawsAll : Choice → Option (List ℕ) → Option (List ℕ) → List ℕ → Type 0
-DrawsAll choice left left' picture = IsAll (λ text. IsPictured choice text picture) left left'
+DrawsAll choice left left' picture =
+    IsAll (λ text. IsPictureOf choice (first_text text) (second_text text) picture) left left'
 
 -- the complaint tells the first fault of a text, which may be counted, where it is and what stands there, and which
 -- form the text looks like, if that is another
@@ -139,12 +131,8 @@ TellsTexts choice first (Some second) c =
     TellsFault (form_for choice first) first (Some 1) c
     ⊎ (((said : Said) × TextSays choice first said) × TellsFault (form_for choice second) second (Some 2) c)
 
--- the complaint tells the first fault of the texts that bytes are
-abbrev pub TellsPictured : Choice → List ℕ → Complaint → Type 0
-TellsPictured choice bytes c =
-    (first : List ℕ) × (second : Option (List ℕ)) × AreTexts bytes first second × TellsTexts choice first second c
-
 -- why the input has no picture: it or memory could not be had, or one of its texts has the fault that is told
 abbrev pub IsNotDrawn : Choice → Option (List ℕ) → Option (List ℕ) → Complaint → Type 0
 IsNotDrawn choice left left' c =
-    IsOfWhole left left' c.fault ⊎ IsAll (λ text. TellsPictured choice text c) left left'
+    IsOfWhole left left' c.fault
+    ⊎ IsAll (λ text. TellsTexts choice (first_text text) (second_text text) c) left left'

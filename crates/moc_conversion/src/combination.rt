@@ -3,7 +3,8 @@ ghost use Rattle.std.specs.Prelude.{◌≡◌, ◌≢◌, ◌↔◌, ◌⊎◌, 
 ghost use Rattle.std.specs.String.{string_bytes};
 ghost use Rattle.moc_forms.specs.Finding.{form_for};
 ghost use Rattle.moc_conversion.specs.Combining.{CombinesAll, IsNotCombined, SaysTogether};
-ghost use Rattle.moc_conversion.specs.Conversion.{LacksSemicolons, TellsFault};
+ghost use Rattle.moc_conversion.specs.Conversion.{TellsFault};
+ghost use Rattle.moc_conversion.specs.Private.Pieces.{LacksSemicolons};
 ghost use Rattle.moc_conversion.specs.Private.Running.{Begins, Ends, Fails, FailsWithin, IsOpen, AreNotTaken, Leads};
 ghost use Rattle.moc_conversion.specs.Private.Running.{SaysMore, semicolon};
 

@@ -8,10 +8,10 @@ ghost use Rattle.moc_forms.specs.Finding.{form_for, hint_of};
 ghost use Rattle.moc_forms.specs.Forms.{FormSays, IsWant, form_text};
 ghost use Rattle.moc_forms.specs.Places.{line_bytes};
 ghost use Rattle.moc_forms.specs.Quotes.{IsTold};
-ghost use Rattle.moc_conversion.specs.Conversion.{AreTexts, ChangesAll, ConvertsAll, DescribesAll, DrawsAll};
-ghost use Rattle.moc_conversion.specs.Conversion.{IsNotConverted, IsNotDrawn, IsNotSaid, IsOfWhole, IsPictured};
+ghost use Rattle.moc_conversion.specs.Conversion.{ChangesAll, ConvertsAll, DescribesAll, DrawsAll};
+ghost use Rattle.moc_conversion.specs.Conversion.{IsNotConverted, IsNotDrawn, IsNotSaid, IsOfWhole, IsPictureOf};
 ghost use Rattle.moc_conversion.specs.Conversion.{IsSaid, IsTextFault, IsWhole, SaysAll, TellsFault};
-ghost use Rattle.moc_conversion.specs.Conversion.{TellsPictured};
+ghost use Rattle.moc_conversion.specs.Conversion.{TellsTexts, first_text, second_text};
 ghost use Rattle.moc_conversion.specs.Private.Pieces.{BringsPiece, IsParted};
 
 use crate::complaint::Complaint;
@@ -216,8 +216,10 @@ pub fn drawn<R: Source>(alloc: Global, choice: Choice, input: &mut R) -> Result<
 /// The picture of one text, or of two; else a complaint that tells the first fault of the first that says no set.
 fn pictured(alloc: Global, choice: Choice, text: &[u8]) -> Result<String, Complaint>
     ensures device { IfErr result (λ c. c.fault ≢ Fault.Read) }
-    ensures fault { IfErr result (λ c. (c.fault ≡ Fault.Memory) ⊎ TellsPictured choice text.now c) }
-    ensures picture { IfOk result (λ t. IsPictured choice text.now (string_bytes t)) }
+    ensures fault { IfErr result (λ c. (c.fault ≡ Fault.Memory)
+        ⊎ TellsTexts choice (first_text text.now) (second_text text.now) c) }
+    ensures picture { IfOk result (λ t.
+        IsPictureOf choice (first_text text.now) (second_text text.now) (string_bytes t)) }
 {
     let (first, second) = texts_of_picture(text);
     let Some(second) = second else {
@@ -231,7 +233,8 @@ fn pictured(alloc: Global, choice: Choice, text: &[u8]) -> Result<String, Compla
 
 /// The text, or the two that its first semicolon parts: blanks alone behind it are none.
 fn texts_of_picture(text: &[u8]) -> (&[u8], Option<&[u8]>)
-    ensures { AreTexts text.now result.0.now (option_map (λ second. second.now) result.1) }
+    ensures first { first_text text.now ≡ result.0.now }
+    ensures second { second_text text.now ≡ option_map (λ second. second.now) result.1 }
 {
     let Some((first, behind)) = parted(text) else {
         return (text, None);

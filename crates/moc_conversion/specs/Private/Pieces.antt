@@ -2,7 +2,8 @@
 use Rattle.std.specs.Prelude.{◌≡◌, ◌<◌, ℕ, Bool, true, false, List, ◌∷◌, ◌++◌, length, Option, None, Some}
 use Rattle.std.specs.Borrow.{Bor}
 use Rattle.std.specs.Io.KnownBytes.{Consumes, IsAtEnd}
-use Rattle.moc_conversion.specs.Conversion.{LacksSemicolons}
+use Rattle.std.specs.List.{All}
+use Rattle.moc_forms.specs.Combining.{is_semicolon}
 
 -- a piece came from a reader behind a text, where there was one; there is none only at the end
 pub record BringsPiece (left : Option (List ℕ)) (old : List ℕ) (left' : Option (List ℕ)) (new : List ℕ) (some : Bool)
@@ -12,6 +13,10 @@ pub record BringsPiece (left : Option (List ℕ)) (old : List ℕ) (left' : Opti
   pub text : new ≡ old ++ came
   pub more : some ≡ true → length old < length new
   pub none : some ≡ false → (new ≡ old) × IsAtEnd left'
+
+-- no byte is a semicolon
+abbrev pub LacksSemicolons : List ℕ → Type 0
+LacksSemicolons bytes = All (λ b. is_semicolon b ≡ false) bytes
 
 -- the bytes before the first semicolon and those behind it, or none where there is no semicolon
 abbrev pub IsParted : List ℕ → Option (Bor (List ℕ) × Bor (List ℕ)) → Type 0

@@ -7,7 +7,8 @@ use Rattle.moc_text.specs.Lines.{pieces_of}
 use Rattle.moc_forms.specs.declared.combining.Operation.{Operation}
 use Rattle.moc_forms.specs.declared.finding.Choice.{Choice}
 use Rattle.moc_conversion.specs.Combining.{HasLongPart, TellsFirstFault}
-use Rattle.moc_conversion.specs.Conversion.{LacksSemicolons, input_limit}
+use Rattle.moc_conversion.specs.Conversion.{input_limit}
+use Rattle.moc_conversion.specs.Private.Pieces.{LacksSemicolons}
 use Rattle.moc_conversion.specs.declared.combination.Combination.{Combination}
 use Rattle.moc_conversion.specs.declared.complaint.Complaint.{Complaint}
 use Rattle.moc_conversion.specs.declared.fault.Fault.{Fault}
