@@ -6,7 +6,8 @@ use Rattle.std.proofs.Math.ListN.{get_or-append}
 use Rattle.std.proofs.Math.Seq.{drop-append-add, get_or-append_seam, take-append_seam}
 use Rattle.std.proofs.lemmas.List.{drop_all, take_all}
 use Rattle.std.proofs.lemmas.List.Sums.{position_or_len_is}
-use Rattle.moc_forms.specs.Combining.{are_blanks, is_semicolon}
+use Rattle.moc_forms.specs.Combining.{are_blanks}
+use Rattle.moc_text.specs.Lines.{is_semicolon}
 use Rattle.moc_conversion.specs.Conversion.{first_text, second_text}
 use Rattle.moc_conversion.specs.Private.Pieces.{LacksSemicolons}
 
