@@ -12,7 +12,8 @@ twice the time of processors. Progress is told on standard error: how many funct
 done, by the sizes of files.
 
 MOC_JOBS in the environment is how many jobs all checks have together at most; without it, as many as there are processors, as far as
-memory goes."""
+memory goes. MOC_CHECK_JOBS is how many one check has at most, 4 without it: fewer take less of the processors, and longer where those
+would be idle."""
 import argparse
 import contextlib
 import fcntl
@@ -30,7 +31,7 @@ from crates import PARTS, crates_of, files_of, folder_of, is_current, libraries_
 
 PROGRAM = "moc_cli"
 # More jobs seldom help one check.
-MOST_JOBS = 4
+MOST_JOBS = int(os.environ.get("MOC_CHECK_JOBS") or 4)
 # How much of the longest chain of crates stands behind one that counts as long.
 LONG_CHAIN = 0.8
 # How far a process may give way to others.
