@@ -91,9 +91,9 @@ fn ends_of_orders(rt: HostRuntime) {
     }
 }
 
-// Faults of fields are those of any numbering. A number of more than 64 bits is too large, as one of 64 bits is.
+// Faults of fields are those of any numbering.
 #[test]
-fn faulty_lines(rt: HostRuntime) {
+fn faulty_fields(rt: HostRuntime) {
     let fields = b"1 2\nx 2\n2 x\nx\n-1\n+1\n1x\n1;2\n0x1\n1.0\n";
     let told = b"\
 fault WrongCount
@@ -116,6 +116,11 @@ fault BadNumber
             told,
         );
     }
+}
+
+// A number of more than 64 bits is too large, as one of 64 bits is.
+#[test]
+fn faulty_numbers(rt: HostRuntime) {
     for (from, lines, answers) in [
         (
             "nest",

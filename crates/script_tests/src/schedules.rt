@@ -206,82 +206,41 @@ cover
 // A client that has taken all parts of a footprint holds just those.
 #[test]
 fn footprints(rt: HostRuntime) {
-    for (command, takes, held) in [
-        (
-            "add",
-            1u8,
-            [
-                true, false, false, false, false, false, false, false, false, false, false, false,
-            ],
-        ),
-        (
-            "count 0/3 1/23",
-            2,
-            [
-                false, false, false, true, false, true, false, false, false, false, false, false,
-            ],
-        ),
-        (
-            "near 0 4",
-            7,
-            [
-                true, false, false, true, true, true, false, true, true, false, false, true,
-            ],
-        ),
-        (
-            "near 1 0",
-            4,
-            [
-                true, false, false, false, true, true, false, false, true, false, false, false,
-            ],
-        ),
-        (
-            "near 1 3",
-            4,
-            [
-                true, true, true, true, false, false, false, false, false, false, false, false,
-            ],
-        ),
+    for (command, held) in [
+        ("add", [0usize].as_slice()),
+        ("count 0/3 1/23", [3, 5].as_slice()),
+        ("near 0 4", [0, 3, 4, 5, 7, 8, 11].as_slice()),
+        ("near 1 0", [0, 4, 5, 8].as_slice()),
+        ("near 1 3", [0, 1, 2, 3].as_slice()),
         (
             "keep 0/3",
-            12,
-            [
-                true, true, true, true, true, true, true, true, true, true, true, true,
-            ],
+            [0, 1, 2, 3, 4, 5, 6, 7, 8, 9, 10, 11].as_slice(),
         ),
-        (
-            "add 0/3 ; add",
-            2,
-            [
-                true, false, false, true, false, false, false, false, false, false, false, false,
-            ],
-        ),
+        ("add 0/3 ; add", [0, 3].as_slice()),
     ] {
-        let (schedule, answers) = taken_and_tried(rt.alloc(), command, takes, &held).expect(
-            &rt, "memory",
-        );
+        let (schedule, answers) = taken_and_tried(rt.alloc(), command, held).expect(&rt, "memory");
         expect(&rt, rt.alloc(), schedule.as_bytes(), answers.as_bytes());
     }
 }
 
-// A schedule in which a client takes so many parts, and may take no more, and tries to give each part; and its answers.
+// A schedule in which a client takes as many parts as it should hold, and may take no more, and tries to give each part;
+// and its answers.
 fn taken_and_tried(
     alloc: Global,
     command: &str,
-    takes: u8,
-    held: &[bool; 12],
+    held: &[usize],
 ) -> Result<(String, String), AllocError> {
     let mut schedule = format!(in alloc; "begin 5 {command}\n")?;
     let mut answers = String::from_str(alloc, "ok\n")?;
-    for _ in 0..takes {
+    for _ in held {
         schedule.push_str("take 5\n")?;
         answers.push_str("ok\n")?;
     }
     schedule.push_str("take 5\n")?;
     answers.push_str("refused AllTaken\n")?;
-    for (part, is_held) in held.iter().enumerate() {
+    for part in 0..12usize {
         schedule.push_str(format!(in alloc; "give 5 {part}\n")?.as_str())?;
-        answers.push_str(if *is_held {
+        answers.push_str(if held.contains(&part) {
             "refused NotEdited\n"
         } else {
             "refused NotHeld\n"
