@@ -48,12 +48,12 @@ PLANTS = [
     Plant("crew_tells_spawn_as_memory", "moc_script", "src/crews/threads.rt",
           "return Err(LanesError::Spawn);", "return Err(LanesError::Memory { line: 0 });", "script", "program"),
     # devices
-    Plant("piece_is_read_again_behind_an_error", "moc_conversion", "src/conversion.rt",
+    Plant("piece_is_read_again_behind_an_error", "moc_conversion", "src/reading.rt",
           "        return Err(Fault::Read);\n    };\n    text.extend",
           "        let _ = input.read(room);\n        return Err(Fault::Read);\n    };\n    text.extend", "test", "program_tests"),
     Plant("fault_is_never_told", "moc_program", "src/status.rt",
           "    let _ = fault.tell(faults);", "    let _ = &faults;", "prove"),
-    Plant("longest_input_is_refused", "moc_conversion", "src/conversion.rt",
+    Plant("longest_input_is_refused", "moc_conversion", "src/reading.rt",
           "    while text.len() <= INPUT_LIMIT {", "    while text.len() < INPUT_LIMIT {", "prove"),
     # pages
     Plant("example_of_a_help_text_has_a_wrong_figure", "moc_command_line", "src/help.rt",

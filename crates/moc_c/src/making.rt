@@ -5,7 +5,7 @@ ghost use Rattle.moc_ranges.specs.Cells.{degrade};
 ghost use Rattle.moc_ranges.specs.Operations.{complement, symmetric};
 ghost use Rattle.moc_ranges.specs.Pixels.{pixels};
 ghost use Rattle.moc_forms.specs.Combining.{combined};
-ghost use Rattle.moc_forms.specs.Changing.{changed};
+ghost use Rattle.moc_forms.specs.Changing.{changed_set};
 ghost use Rattle.moc_c.specs.Answers.{both, Frees, made_of, Makes, of_two, order_numbered, set_at, sets_at};
 ghost use Rattle.moc_c.specs.Private.Making.{MakesIf};
 
@@ -57,7 +57,7 @@ impl Shelf {
 
     /// Keeps what a change makes of a set.
     fn change(&mut self, alloc: Global, change: Change, a: u64) -> Outcome
-        ensures { Makes self.old self.new (made_of (changed change) (set_at self.old a)) result }
+        ensures { Makes self.old self.new (made_of (changed_set change) (set_at self.old a)) result }
     {
         match self.set(a) {
             Ok(set) => {

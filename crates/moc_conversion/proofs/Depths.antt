@@ -7,7 +7,7 @@ use Rattle.moc_text.specs.AsciiText.{IsTooCoarse}
 use Rattle.moc_text.specs.Lemmas.Depths.{HasDepth, not_too_coarse, said_depth, json_depth, union_depth}
 use Rattle.moc_text.specs.Lemmas.Depths.{intersection_depth}
 use Rattle.moc_text.specs.Lemmas.Depths.{difference_depth, symmetric_depth, complement_depth, degrade_depth}
-use Rattle.moc_forms.specs.Changing.{changed, order_after}
+use Rattle.moc_forms.specs.Changing.{changed_order, changed_set}
 use Rattle.moc_forms.specs.Combining.{CombinesTexts, Said, TextSays, combined, joined, texts_of}
 use Rattle.moc_forms.specs.Finding.{first_byte, form_by}
 use Rattle.moc_forms.specs.Forms.{FormSays}
@@ -47,7 +47,7 @@ pub text_written : (form : Form) (text : List ℕ) (a : NumberSet) (k : Option �
 text_written form text a k says = fit_written form a k (text_fit form text a k says)
 
 change_fit : (change : Change) (form : Form) (a : NumberSet) (k : Option ℕ) → IsFit form a k
-    → IsFit form (changed change a) (order_after change k)
+    → IsFit form (changed_set change a) (changed_order change k)
 change_fit (Degrade o) Ascii a k fit = degrade_depth a k o fit
 change_fit (Degrade o) Json a k fit = degrade_depth a k o fit
 change_fit (Degrade o) Uniq a k fit = ap (option_map (λ j. min j o)) fit
@@ -57,7 +57,7 @@ change_fit Complement Uniq a k fit = fit
 
 -- and so is what a change makes of it
 pub change_written : (change : Change) (choice : Choice) (left left' : Option (List ℕ)) (said : Said)
-    → SaysAll choice left left' said → IsTooCoarse (changed change said.0) (order_after change said.1) → ⊥
+    → SaysAll choice left left' said → IsTooCoarse (changed_set change said.0) (changed_order change said.1) → ⊥
 change_written change choice left left' said (text, whole, says) =
     fit_written said.2 _ _ (change_fit change said.2 said.0 said.1 (text_fit said.2 text said.0 said.1 says.0))
 

@@ -1,8 +1,8 @@
--- Texts of coverages, from the input: converted, described, drawn, checked.
+-- Texts of coverages, from the input: converted, described, drawn, changed, checked.
 use Rattle.std.specs.Prelude.{◌≡◌, ℕ, ◌<◌, ◌≤◌, ◌⊎◌, if◌then◌else◌, List, length, Option, None, Some}
 use Rattle.std.specs.List.{after_first, before_first}
 use Rattle.std.specs.Io.KnownBytes.{Consumes, IsAtEnd}
-use Rattle.moc_forms.specs.Changing.{changed, order_after}
+use Rattle.moc_forms.specs.Changing.{changed_order, changed_set}
 use Rattle.moc_forms.specs.Combining.{Said, TextSays, are_blanks}
 use Rattle.moc_text.specs.Lines.{is_semicolon}
 use Rattle.moc_forms.specs.Describing.{Describes}
@@ -57,7 +57,7 @@ ConvertsAll from to = MakesAll (λ said text. text ≡ form_text to said.0 said.
 -- it
 abbrev pub ChangesAll : Change → Choice → Option (List ℕ) → Option (List ℕ) → List ℕ → Type 0
 ChangesAll change =
-    MakesAll (λ said text. text ≡ form_text said.2 (changed change said.0) (order_after change said.1))
+    MakesAll (λ said text. text ≡ form_text said.2 (changed_set change said.0) (changed_order change said.1))
 
 -- the text has the figures of the set which the input says
 abbrev pub DescribesAll : Choice → Option (List ℕ) → Option (List ℕ) → List ℕ → Type 0

@@ -48,14 +48,14 @@ name_of_uniq (uniq.NotUniq line) = codes "NotUniq"
 name_of_uniq uniq.Memory = codes "Memory"
 
 -- the name of a fault
-abbrev pub name_of : Fault → List ℕ
-name_of (Form (form.Ascii e)) = name_of_text e
-name_of (Form (form.Json e)) = name_of_json e
-name_of (Form (form.Uniq e)) = name_of_uniq e
-name_of (Form form.Memory) = codes "Memory"
-name_of TooLong = codes "TooLong"
-name_of Read = codes "Read"
-name_of Memory = codes "Memory"
+abbrev pub input_fault_name : Fault → List ℕ
+input_fault_name (Form (form.Ascii e)) = name_of_text e
+input_fault_name (Form (form.Json e)) = name_of_json e
+input_fault_name (Form (form.Uniq e)) = name_of_uniq e
+input_fault_name (Form form.Memory) = codes "Memory"
+input_fault_name TooLong = codes "TooLong"
+input_fault_name Read = codes "Read"
+input_fault_name Memory = codes "Memory"
 
 -- the line that tells a fault of this name
 abbrev pub line_of : List ℕ → List ℕ
@@ -65,4 +65,5 @@ line_of name = codes "fault " ++ name ++ 10 ∷ []
 -- any
 abbrev pub complaint_text : Complaint → List ℕ
 complaint_text c =
-    line_of (name_of c.fault) ++ option_map_or string_bytes c.place_line [] ++ option_map_or hint_text c.hint []
+    line_of (input_fault_name c.fault) ++ option_map_or string_bytes c.place_line []
+    ++ option_map_or hint_text c.hint []

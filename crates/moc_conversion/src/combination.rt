@@ -9,8 +9,9 @@ ghost use Rattle.moc_conversion.specs.Private.Running.{Begins, Ends, Fails, Fail
 ghost use Rattle.moc_conversion.specs.Private.Running.{SaysMore, semicolon};
 
 use crate::complaint::Complaint;
-use crate::conversion::{INPUT_LIMIT, parted, read_piece, room, said_or_told, text_of};
+use crate::conversion::{parted, said_or_told, text_of};
 use crate::fault::Fault;
+use crate::reading::{INPUT_LIMIT, read_piece, room};
 use moc_devices::Source;
 use moc_forms::{Choice, Form, Operation, is_blank, place_line};
 use moc_ranges::Coverage;

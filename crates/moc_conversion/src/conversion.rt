@@ -1,6 +1,6 @@
 //! Texts of coverages, from the input: converted, described, drawn, changed, checked.
-ghost use Rattle.std.specs.Prelude.{◌≡◌, ◌≢◌, ◌<◌, ◌↔◌, ◌⊎◌, Err, false, IfErr, IfOk, IsErrAnd, IsErrOf, IsTrue};
-ghost use Rattle.std.specs.Prelude.{IsOkUnless, length, None, OnOk, option_map};
+ghost use Rattle.std.specs.Prelude.{◌≡◌, ◌≢◌, ◌↔◌, ◌⊎◌, Err, false, IfErr, IfOk, IsErrAnd, IsTrue};
+ghost use Rattle.std.specs.Prelude.{IsOkUnless, None, OnOk, option_map};
 ghost use Rattle.std.specs.String.{string_bytes};
 ghost use Rattle.moc_text.specs.AsciiText.{IsTooCoarse};
 ghost use Rattle.moc_forms.specs.Combining.{TextSays};
@@ -9,72 +9,23 @@ ghost use Rattle.moc_forms.specs.Forms.{FormSays, IsWant, form_text};
 ghost use Rattle.moc_forms.specs.Places.{line_bytes};
 ghost use Rattle.moc_forms.specs.Quotes.{IsTold};
 ghost use Rattle.moc_conversion.specs.Conversion.{ChangesAll, ConvertsAll, DescribesAll, DrawsAll};
-ghost use Rattle.moc_conversion.specs.Conversion.{IsNotConverted, IsNotDrawn, IsNotSaid, IsOfWhole, IsPictureOf};
-ghost use Rattle.moc_conversion.specs.Conversion.{IsSaid, IsTextFault, IsWhole, SaysAll, TellsFault};
+ghost use Rattle.moc_conversion.specs.Conversion.{IsNotConverted, IsNotDrawn, IsNotSaid, IsPictureOf};
+ghost use Rattle.moc_conversion.specs.Conversion.{IsSaid, IsTextFault, SaysAll, TellsFault};
 ghost use Rattle.moc_conversion.specs.Conversion.{TellsTexts, first_text, second_text};
-ghost use Rattle.moc_conversion.specs.Private.Pieces.{BringsPiece, IsParted};
+ghost use Rattle.moc_conversion.specs.Private.Pieces.{IsParted};
 
 use crate::complaint::Complaint;
 use crate::fault::Fault;
+use crate::reading::read_whole;
 use memchr::memchr;
 use moc_devices::Source;
 use moc_forms::{Change, Choice, Form, Refusal, describe, draw, draw_two, examine, hint, is_blank};
 use moc_ranges::Coverage;
 use moc_sphere::Order;
-use std::alloc::{AllocError, Global};
-
-/// The most bytes of an input.
-pub const INPUT_LIMIT: usize = 16_777_216;
-
-/// How many bytes are read at a time.
-const PIECE: usize = 65_536;
-
-/// Room for one piece.
-pub fn room(alloc: Global) -> Result<Vec<u8>, AllocError>
-    ensures { IfOk result (λ v. 0 < length v.items) }
-{
-    vec![in alloc; 0u8; PIECE]
-}
-
-/// Reads one more piece behind the text, and answers whether there was one.
-pub fn read_piece<R: Source>(
-    input: &mut R,
-    room: &mut [u8],
-    text: &mut Vec<u8>,
-) -> Result<bool, Fault>
-    requires room { 0 < length room.old }
-    requires input { R.mark input.old ≡ false }
-    ensures read { IsErrOf result Fault.Read ↔ IsTrue (R.mark input.new) }
-    ensures fault { IfErr result (λ f. (f ≡ Fault.Read) ⊎ (f ≡ Fault.Memory)) }
-    ensures brings { IfOk result (λ some.
-        BringsPiece (R.left input.old) text.old.items (R.left input.new) text.new.items some) }
-{
-    let Ok(count) = input.read(room) else {
-        return Err(Fault::Read);
-    };
-    text.extend_from_slice(&room[..count])?;
-    Ok(count > 0)
-}
-
-/// All bytes of an input of at most 16,777,216 bytes; `TooLong` for a longer one. Read in large pieces into one buffer.
-fn read_whole<R: Source>(alloc: Global, input: &mut R) -> Result<Vec<u8>, Fault>
-    requires { R.mark input.old ≡ false }
-    ensures read { IsErrOf result Fault.Read ↔ IsTrue (R.mark input.new) }
-    ensures fault { IfErr result (λ f. IsOfWhole (R.left input.old) (R.left input.new) f) }
-    ensures whole { IfOk result (λ v. IsWhole (R.left input.old) (R.left input.new) v.items) }
-{
-    let mut room = room(alloc)?;
-    let mut text = Vec::new(alloc);
-    while text.len() <= INPUT_LIMIT {
-        if !read_piece(input, &mut room, &mut text)? {
-            return Ok(text);
-        }
-    }
-    Err(Fault::TooLong)
-}
+use std::alloc::Global;
 
 /// What a text in a form says.
-pub fn said(alloc: Global, form: Form, text: &[u8]) -> Result<(Coverage, Option<Order>), Fault>
+fn said(alloc: Global, form: Form, text: &[u8]) -> Result<(Coverage, Option<Order>), Fault>
     ensures device { result ≢ Err Fault.Read }
     ensures says { IfOk result (λ r. FormSays form text.now r.0 r.1) }
     ensures fault { IfErr result (λ f. (f ≡ Fault.Memory) ⊎ IsTextFault form text.now f) }
@@ -84,7 +35,7 @@ pub fn said(alloc: Global, form: Form, text: &[u8]) -> Result<(Coverage, Option<
 
 /// What a text says, with the form that it is read in; else a complaint that tells its first fault and where it is.
 /// Where texts are counted, the complaint has the number of this one.
-pub fn said_or_told(
+pub(crate) fn said_or_told(
     alloc: Global,
     choice: Choice,
     text: &[u8],
@@ -132,7 +83,7 @@ fn complaint_of(
 }
 
 /// The text of a set in a form, with a stated order that none of its cells is deeper than.
-pub fn text_of(
+pub(crate) fn text_of(
     alloc: Global,
     form: Form,
     set: &Coverage,
@@ -246,7 +197,7 @@ fn texts_of_picture(text: &[u8]) -> (&[u8], Option<&[u8]>)
 }
 
 /// The bytes before the first semicolon and those behind it, if there is one.
-pub fn parted(bytes: &[u8]) -> Option<(&[u8], &[u8])>
+pub(crate) fn parted(bytes: &[u8]) -> Option<(&[u8], &[u8])>
     ensures { IsParted bytes.now result }
 {
     let at = memchr(b';', bytes)?;

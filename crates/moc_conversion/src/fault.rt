@@ -1,6 +1,7 @@
 //! Why nothing was made of an input.
 ghost use Rattle.std.specs.Prelude.{◌≡◌};
-ghost use Rattle.moc_conversion.specs.Faults.{IsFaultOf, line_of, name_of, name_of_json, name_of_text, name_of_uniq};
+ghost use Rattle.moc_conversion.specs.Faults.{IsFaultOf, input_fault_name, line_of};
+ghost use Rattle.moc_conversion.specs.Faults.{name_of_json, name_of_text, name_of_uniq};
 ghost use Rattle.moc_conversion.specs.declared.fault.Fault.TheVariants as fault;
 
 use moc_forms::FormError;
@@ -29,7 +30,7 @@ pub enum Fault {
 impl Fault {
     /// The line that tells it.
     pub fn line(self) -> &'static str
-        ensures { result.now ≡ line_of (name_of self) }
+        ensures { result.now ≡ line_of (input_fault_name self) }
     {
         match self {
             Fault::Form(FormError::Ascii(error)) => text_line(error),

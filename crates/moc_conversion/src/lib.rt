@@ -5,6 +5,7 @@ mod combination;
 mod complaint;
 mod conversion;
 mod fault;
+mod reading;
 
 pub use combination::combined;
 pub use complaint::Complaint;

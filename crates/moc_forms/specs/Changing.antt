@@ -7,12 +7,12 @@ use Rattle.moc_forms.specs.declared.changing.Change.{Change}
 use Rattle.moc_forms.specs.declared.changing.Change.TheVariants.{Degrade, Complement}
 
 -- what a change makes of a set
-abbrev pub changed : Change → NumberSet → NumberSet
-changed (Degrade order) a = degrade a order
-changed Complement a = complement a
+abbrev pub changed_set : Change → NumberSet → NumberSet
+changed_set (Degrade order) a = degrade a order
+changed_set Complement a = complement a
 
 -- the order that is stated of it, by the deepest one that a text of the set names, if it names one: of a degraded set
 -- the coarser of that order and the one that it is degraded to, of a complement that order
-abbrev pub order_after : Change → Option ℕ → Option ℕ
-order_after (Degrade order) deepest = option_map (λ k. min k order) deepest
-order_after Complement deepest = deepest
+abbrev pub changed_order : Change → Option ℕ → Option ℕ
+changed_order (Degrade order) deepest = option_map (λ k. min k order) deepest
+changed_order Complement deepest = deepest

@@ -1,6 +1,6 @@
 //! Changes of what a text says.
 ghost use Rattle.std.specs.Prelude.{◌≡◌, IfOk, min, option_map};
-ghost use Rattle.moc_forms.specs.Changing.{changed, order_after};
+ghost use Rattle.moc_forms.specs.Changing.{changed_order, changed_set};
 
 use moc_ranges::{Coverage, Memory};
 use moc_sphere::Order;
@@ -18,7 +18,7 @@ pub enum Change {
 impl Change {
     /// What the change makes of a set. One pass over its ranges; refused where memory runs out.
     pub fn of(self, alloc: Global, set: &Coverage) -> Result<Coverage, Memory>
-        ensures set { IfOk result (λ c. c ≡ changed self set.now) }
+        ensures set { IfOk result (λ c. c ≡ changed_set self set.now) }
     {
         match self {
             Change::Degrade(order) => set.degrade(alloc, order),
@@ -29,7 +29,7 @@ impl Change {
     /// The order to state of the changed set, where the set's text names this one as the deepest: of a degraded set the
     /// coarser of that order and the one that it is degraded to, of a complement that order.
     pub fn stated(self, deepest: Option<Order>) -> Option<Order>
-        ensures order { result ≡ order_after self deepest }
+        ensures order { result ≡ changed_order self deepest }
     {
         match self {
             Change::Degrade(order) => coarser(deepest, order),

@@ -8,7 +8,7 @@ use Rattle.moc_script.specs.declared.fault.StepFault.TheVariants as step
 use Rattle.moc_text.specs.declared.ascii.error.TextError.TheVariants as text
 use Rattle.moc_text.specs.declared.json_form.error.JsonError.TheVariants as json
 use Rattle.moc_text.specs.declared.uniq.UniqError.TheVariants as uniq
-use Rattle.moc_conversion.specs.Faults.{line_of, name_of, name_of_json, name_of_text, name_of_uniq}
+use Rattle.moc_conversion.specs.Faults.{input_fault_name, line_of, name_of_json, name_of_text, name_of_uniq}
 use Rattle.moc_conversion.specs.declared.fault.Fault.TheVariants.{TooLong, Read, Memory}
 use Rattle.moc_sphere.specs.declared.cell.CellError.TheVariants as cell
 use Rattle.moc_program.specs.Statuses.{code_of, name_of_cell, name_of_run}
@@ -75,7 +75,7 @@ fault_list =
     ∷ (name_of_uniq (uniq.NotUniq 0), codes "no cell has this number")
     ∷ [])
     ++ section (codes "Lengths") 17 (
-    (name_of TooLong, codes "a text of more than 16,777,216 bytes")
+    (input_fault_name TooLong, codes "a text of more than 16,777,216 bytes")
     ∷ (name_of_run (run.LineTooLong 0), codes "a line of more than 1,048,576 bytes")
     ∷ [])
     ++ section (codes "Lines of scripts and schedules") 17 (
@@ -86,8 +86,8 @@ fault_list =
     ∷ (fault_name step.PartTooLarge, codes "a part above 11")
     ∷ [])
     ++ section (codes "Devices") 17 (
-    (name_of Read ++ codes ", " ++ name_of_run run.Write, codes "standard input or output failed")
-    ∷ (name_of Memory, codes "memory was refused")
+    (input_fault_name Read ++ codes ", " ++ name_of_run run.Write, codes "standard input or output failed")
+    ∷ (input_fault_name Memory, codes "memory was refused")
     ∷ (codes "Spawn", codes "a thread was refused")
     ∷ [])
     ++ text_line (codes "Example:") ++ text_line (codes "  moc cell 3") ++ text_line (codes "tells")

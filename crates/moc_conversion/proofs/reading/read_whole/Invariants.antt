@@ -1,7 +1,7 @@
 use Rattle.std.proofs.Common.{◌≡◌, false, ◌+◌, ◌-◌, ◌<◌, length}
 use Rattle.std.specs.Io.KnownBytes.{Consumes}
 use Rattle.moc_conversion.specs.Conversion.{input_limit}
-use Rattle.moc_conversion.proofs.conversion.read_whole.Given as goal
+use Rattle.moc_conversion.proofs.reading.read_whole.Given as goal
 
 abbrev pub invariant-loop-input : goal.invariant-loop-input
 invariant-loop-input g l = record {

@@ -1,0 +1,58 @@
+//! The bytes of an input, in pieces and as a whole.
+ghost use Rattle.std.specs.Prelude.{◌≡◌, ◌<◌, ◌↔◌, ◌⊎◌, false, IfErr, IfOk, IsErrOf, IsTrue, length};
+ghost use Rattle.moc_conversion.specs.Conversion.{IsOfWhole, IsWhole};
+ghost use Rattle.moc_conversion.specs.Private.Pieces.{BringsPiece};
+
+use crate::fault::Fault;
+use moc_devices::Source;
+use std::alloc::{AllocError, Global};
+
+/// The most bytes of an input.
+pub(crate) const INPUT_LIMIT: usize = 16_777_216;
+
+/// How many bytes are read at a time.
+const PIECE: usize = 65_536;
+
+/// Room for one piece.
+pub(crate) fn room(alloc: Global) -> Result<Vec<u8>, AllocError>
+    ensures { IfOk result (λ v. 0 < length v.items) }
+{
+    vec![in alloc; 0u8; PIECE]
+}
+
+/// Reads one more piece behind the text, and answers whether there was one.
+pub(crate) fn read_piece<R: Source>(
+    input: &mut R,
+    room: &mut [u8],
+    text: &mut Vec<u8>,
+) -> Result<bool, Fault>
+    requires room { 0 < length room.old }
+    requires input { R.mark input.old ≡ false }
+    ensures read { IsErrOf result Fault.Read ↔ IsTrue (R.mark input.new) }
+    ensures fault { IfErr result (λ f. (f ≡ Fault.Read) ⊎ (f ≡ Fault.Memory)) }
+    ensures brings { IfOk result (λ some.
+        BringsPiece (R.left input.old) text.old.items (R.left input.new) text.new.items some) }
+{
+    let Ok(count) = input.read(room) else {
+        return Err(Fault::Read);
+    };
+    text.extend_from_slice(&room[..count])?;
+    Ok(count > 0)
+}
+
+/// All bytes of an input of at most 16,777,216 bytes; `TooLong` for a longer one. Read in large pieces into one buffer.
+pub(crate) fn read_whole<R: Source>(alloc: Global, input: &mut R) -> Result<Vec<u8>, Fault>
+    requires { R.mark input.old ≡ false }
+    ensures read { IsErrOf result Fault.Read ↔ IsTrue (R.mark input.new) }
+    ensures fault { IfErr result (λ f. IsOfWhole (R.left input.old) (R.left input.new) f) }
+    ensures whole { IfOk result (λ v. IsWhole (R.left input.old) (R.left input.new) v.items) }
+{
+    let mut room = room(alloc)?;
+    let mut text = Vec::new(alloc);
+    while text.len() <= INPUT_LIMIT {
+        if !read_piece(input, &mut room, &mut text)? {
+            return Ok(text);
+        }
+    }
+    Err(Fault::TooLong)
+}
