@@ -18,14 +18,12 @@ SaysTogether operation choice left left' said =
     HasRead (λ given. IsAtEnd left' × AllByRecursion (λ text. length text ≤ input_limit) (texts_of given)
     × Combines operation choice given said) left left'
 
--- the text is that of the set which the texts of all that was left say together, with their deepest order stated and in
--- the form of the first
+-- the text, in the form of the first, of the set which all texts say together, with their deepest order stated
 abbrev pub CombinesAll : Operation → Choice → Option (List ℕ) → Option (List ℕ) → List ℕ → Type 0
 CombinesAll operation choice left left' text =
     (said : Said) × SaysTogether operation choice left left' said × (text ≡ form_text said.2 said.0 said.1)
 
--- of texts, counted from a number on, the complaint tells the first that says no set: its number, its fault and where
--- that is
+-- of texts, counted from a number on, it tells the first that says no set: its number, its fault and its place
 pub record TellsFirstFault (number : ℕ) (choice : Choice) (texts : List (List ℕ)) (c : Complaint) : Type 0 where
   pub before : ℕ
   pub text : List ℕ

@@ -48,13 +48,11 @@ abbrev pub MakesAll :
     (Said → List ℕ → Type 0) → Choice → Option (List ℕ) → Option (List ℕ) → List ℕ → Type 0
 MakesAll makes choice left left' text = (said : Said) × SaysAll choice left left' said × makes said text
 
--- the text in the one form is that of the set which the input says in the other, with the deepest order that it names
--- stated
+-- the text in one form of the set which the input says in the other, with the deepest order that it names stated
 abbrev pub ConvertsAll : Form → Form → Option (List ℕ) → Option (List ℕ) → List ℕ → Type 0
 ConvertsAll from to = MakesAll (λ said text. text ≡ form_text to said.0 said.1) (Named from)
 
--- the text is that of a change of the set which the input says, in the same form and with the order that is stated of
--- it
+-- the text, in the same form, of a change of the set which the input says, with the order stated of that
 abbrev pub ChangesAll : Change → Choice → Option (List ℕ) → Option (List ℕ) → List ℕ → Type 0
 ChangesAll change =
     MakesAll (λ said text. text ≡ form_text said.2 (changed_set change said.0) (changed_order change said.1))

@@ -61,8 +61,7 @@ input_fault_name Memory = codes "Memory"
 abbrev pub line_of : List ℕ → List ℕ
 line_of name = codes "fault " ++ name ++ 10 ∷ []
 
--- what tells a complaint: the line of its fault, and behind it the line of the place and that of the hint, if there are
--- any
+-- what tells a complaint: the line of its fault, then those of its place and of the hint, if there are any
 abbrev pub complaint_text : Complaint → List ℕ
 complaint_text c =
     line_of (input_fault_name c.fault) ++ option_map_or string_bytes c.place_line []

@@ -10,8 +10,6 @@ use Rattle.moc_ranges.specs.Cells.{cells_of, span}
 use Rattle.moc_ranges.specs.Numbers.{NumberSet}
 use Rattle.moc_ranges.specs.Operations.{meets}
 
--- ---- which cells are drawn, and how dark
-
 -- a cell that is drawn, and its shade: 1, the lightest, to 4, the darkest
 abbrev pub Shaded : Type 0
 Shaded = CellNumber × ℕ
@@ -25,8 +23,7 @@ whole_marks (c ∷ cells) = (if nat_le c.order 7 then (c, 4) ∷ [] else []) ++ 
 unfoldable pub is_partial : NumberSet → ℕ → Bool
 is_partial a i = meets a (span 7 i) && not (set.is_subset (span 7 i) a)
 
--- the shade of such a cell: 1 where the set has up to a quarter of its 4^22 pixels, 2 up to half of them, 3 up to three
--- quarters, and else 4
+-- the shade of such a cell, of 4^22 pixels, by the quarters that the set has of it: 1 up to a quarter, 4 above three
 unfoldable pub shade_of : NumberSet → ℕ → ℕ
 shade_of a i = 1 + (set.len (set.intersection a (span 7 i)) - 1) / 4398046511104
 
@@ -39,23 +36,18 @@ unfoldable pub partial_below : NumberSet → ℕ → List Shaded
 partial_below a zero = []
 partial_below a (suc i) = partial_below a i ++ partial_mark a i
 
--- the marks of a set: of its own cells of order 7 or less, and of the cells of order 7 that its deeper cells fill in
--- part
+-- the marks of a set: its cells of order 7 or less, and those of order 7 that its deeper cells fill in part
 unfoldable pub marks_of : NumberSet → List Shaded
 marks_of a = whole_marks (cells_of a) ++ partial_below a (cell_count 7)
 
--- ---- diamonds
-
--- the diamond that goes h to each side of a middle: from its northern corner by the eastern, the southern and the
--- western
+-- the diamond h to each side of a middle, from its northern corner by the eastern, southern and western
 unfoldable pub diamond : ℕ → ℕ → ℕ → List ℕ
 diamond h x y =
     (codes "M" ++ decimal x) ++ (codes " " ++ decimal (y - h)) ++ (codes "l" ++ decimal h) ++ (codes " " ++ decimal h)
     ++ (codes "-" ++ decimal h) ++ (codes " " ++ decimal h) ++ (codes "-" ++ decimal h) ++ (codes "-" ++ decimal h)
     ++ codes "z"
 
--- the diamond of a cell with half steps of h; where its column is 0, half of it leaves the left edge, and so it is
--- drawn at the right edge as well
+-- the diamond of a cell with half steps of h; at column 0, which the left edge cuts, at the right edge as well
 unfoldable pub diamonds_at : ℕ → ℕ → ℕ → List ℕ
 diamonds_at h row column =
     diamond h (column * h) (row * h) ++ (if column == 0 then diamond h 1024 (row * h) else [])
@@ -78,8 +70,6 @@ mark_diamonds (m ∷ marks) = cell_diamonds m.0 ++ mark_diamonds marks
 unfoldable pub base_diamonds_below : ℕ → List ℕ
 base_diamonds_below zero = []
 base_diamonds_below (suc f) = base_diamonds_below f ++ cell_diamonds (cell_number 0 f)
-
--- ---- the text
 
 -- what a path of cells in a colour begins with
 unfoldable pub path_head : List ℕ → List ℕ
@@ -127,8 +117,7 @@ head =
     ++ codes "<clipPath id=\"plane\"><path d=\"M0 0h1024v512H0z\"/></clipPath>\n"
     ++ codes "<rect x=\"-40\" y=\"-40\" width=\"1104\" height=\"640\" fill=\"#fff\"/>\n"
 
--- the marks in four shades of blue, mirrored, each with a rim of a screen's pixel so that a single cell is seen at any
--- size, and with sharp edges
+-- the marks in four shades of blue, mirrored, with sharp edges and a thin rim, so that a single cell is seen
 unfoldable pub shades : List Shaded → List ℕ
 shades marks =
     codes "<g transform=\"translate(1024 0) scale(-1 1)\" clip-path=\"url(#plane)\" shape-rendering=\"crispEdges\">\n"
@@ -166,8 +155,6 @@ legend =
 -- the picture of a set of pixels
 abbrev pub picture_of : NumberSet → List ℕ
 picture_of a = head ++ outlines ++ labels ++ shades (marks_of a) ++ legend ++ codes "</svg>\n"
-
--- ---- two sets
 
 -- the cells that have pixels of the first set alone, of the second alone, and of both, each over those before it, in
 -- blue, orange and black (Okabe and Ito), mirrored and rimmed as the shades of one set are

@@ -18,8 +18,6 @@ abbrev pub first_byte : List ℕ → Option ℕ
 first_byte [] = None
 first_byte (b ∷ bytes) = if is_blank_byte b then first_byte bytes else Some b
 
--- ---- the form that a text is read in
-
 -- the word for a choice of a form
 abbrev pub choice_name : Choice → List ℕ
 choice_name (Named form) = form_name form
@@ -34,8 +32,6 @@ form_by (Some b) = if b == 123 then Json else Ascii
 abbrev pub form_for : Choice → List ℕ → Form
 form_for (Named form) text = form
 form_for Auto text = form_by (first_byte text)
-
--- ---- the form that a text looks like
 
 -- a digit, `s` or a comma: what an ASCII text may begin with, but for blanks
 abbrev pub begins_word : ℕ → Bool

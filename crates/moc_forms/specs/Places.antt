@@ -16,16 +16,12 @@ use Rattle.moc_forms.specs.declared.form.FormError.TheVariants as error
 use Rattle.moc_forms.specs.declared.place.Place.{Place}
 use Rattle.moc_forms.specs.declared.place.Place.TheVariants.{Byte, Line, Stop, Name, Order, Number}
 
--- ---- of a byte
-
 -- the place of a byte: its line, counted from 1, has one number more than there are line feeds before it, and the bytes
 -- behind the last of these stand before it in its line
 abbrev pub byte_place : List ℕ → ℕ → Place
 byte_place bytes at =
     let before = take at bytes in
     Byte at (1 + count_by is_line_feed before) (length (after_last is_line_feed before))
-
--- ---- of an error
 
 -- the byte of a fault of an ASCII text
 abbrev pub fault_byte : TextError → Option ℕ
@@ -65,8 +61,6 @@ IsPlace bytes (error.Ascii e) found = found ≡ option_map (byte_place bytes) (f
 IsPlace bytes (error.Json e) found = IsJsonPlace bytes e found
 IsPlace bytes (error.Uniq e) found = found ≡ option_map (λ line. Line line) (fault_line e)
 IsPlace bytes error.Memory found = found ≡ None
-
--- ---- what is said
 
 -- a place in words
 abbrev pub place_text : Place → List ℕ

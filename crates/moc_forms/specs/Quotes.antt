@@ -12,8 +12,6 @@ use Rattle.moc_forms.specs.declared.form.FormError.{FormError}
 use Rattle.moc_forms.specs.declared.form.FormError.TheVariants as error
 use Rattle.moc_forms.specs.declared.place.Place.{Place}
 
--- ---- what stands at a fault
-
 -- the word round a place: from behind the last separator before it up to the next one
 abbrev pub word_round : List ℕ → ℕ → List ℕ
 word_round bytes at = after_last is_separator (take at bytes) ++ before_first is_separator (drop at bytes)
@@ -39,8 +37,6 @@ IsPiece bytes (error.Ascii e) piece = piece ≡ option_map (word_round bytes) (f
 IsPiece bytes (error.Json e) piece = IsJsonPiece bytes e piece
 IsPiece bytes (error.Uniq e) piece = piece ≡ option_map (line_numbered bytes) (fault_line e)
 IsPiece bytes error.Memory piece = piece ≡ None
-
--- ---- how it is quoted
 
 -- the digit of a number below 16
 abbrev pub hex_digit : ℕ → ℕ

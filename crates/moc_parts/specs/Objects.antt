@@ -20,8 +20,7 @@ pub record Object (Op Reply : Type 0) : Type 0 where
 abbrev pub AgreeOn : (ℕ → Bool) → NumberSet → NumberSet → Type 0
 AgreeOn parts a b = (p : ℕ) → parts (base_pixel p) ≡ true → set.contains a p ≡ set.contains b p
 
--- An operation is local: its footprint, which has a part, is all that it looks at and all that it changes; and sets of
--- pixels stay such sets.
+-- its footprint, which has a part, is all that it looks at and changes, and sets of pixels stay such sets
 pub record IsLocal {Op Reply : Type 0} (o : Object Op Reply) (op : Op) : Type 0 where
   pub some : (b : ℕ) × (b < 12) × (o.footprint op b ≡ true)
   pub reply : (a b : NumberSet) → IsWithin a pixels → IsWithin b pixels → AgreeOn (o.footprint op) a b

@@ -15,8 +15,7 @@ use Rattle.moc_program.specs.declared.status.Fault.TheVariants as told
 abbrev pub number_list : List ℕ → List ℕ
 number_list numbers = join_by decimal (codes " ") numbers
 
--- the line that answers a number: the ring, nested or NUNIQ number of the cell that it is of, that cell, or the cells
--- that touch it
+-- what answers a number: the ring, nested or NUNIQ number of its cell, that cell, or the cells that touch it
 abbrev pub IsNumberLine : Number → List ℕ → Type 0
 IsNumberLine (Ring order cell) line =
     (cell < cell_count order) × (line ≡ decimal (ring_number order cell) ++ 10 ∷ [])

@@ -32,8 +32,7 @@ abbrev pub fault_of_crew : CrewError → Fault
 fault_of_crew (crew.Run error) = Lines error
 fault_of_crew crew.Spawn = Spawn
 
--- how the program ends with a fault: a device that failed, and memory or a thread that were refused, break it, and all
--- else is refused
+-- a failed device, refused memory and a refused thread break the program, and all else is refused
 abbrev pub status_of : Fault → Status
 status_of (Input c) = status_of_input c.fault
 status_of (Number e) = Refused

@@ -26,15 +26,13 @@ pixels_of (c ∷ cells) = set.union (span c.order c.index) (pixels_of cells)
 unfoldable pub degrade : NumberSet → ℕ → NumberSet
 degrade a order = set.retain pixels (λ p. meets a (span order (p / cell_size order)))
 
--- whether a cell is one of a set's: its pixels are in the set, and it is of order 0 or its parent's
--- pixels are not all in the set
+-- a cell of a set: its pixels are in the set, and it is of order 0 or its parent's are not all in it
 unfoldable pub is_cell_of : NumberSet → CellNumber → Bool
 is_cell_of a c =
     set.is_subset (span c.order c.index) a
     && (nat_eq c.order 0 || not (set.is_subset (span (c.order - 1) (c.index / 4)) a))
 
--- the cells of the orders below `orders`, in rising NUNIQ: order after order, and within an order
--- by rising index
+-- the cells of the orders below `orders`, in rising NUNIQ: by order, and in an order by index
 unfoldable pub cells_below : ℕ → List CellNumber
 cells_below zero = []
 cells_below (suc k) = cells_below k ++ map (cell_number k) (range_with_len 0 (cell_count k))

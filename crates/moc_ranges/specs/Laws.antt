@@ -13,8 +13,7 @@ abbrev pub NormalListIsOne : Type 0
 NormalListIsOne =
     (rs ss : List (ℕ × ℕ)) → IsNormal rs → IsNormal ss → set_of rs ≡ set_of ss → rs ≡ ss
 
--- the cells of a set are cells: their orders are at most 29, and their indices below the count of
--- the order
+-- the cells of a set are cells: the order is at most 29, the index below the number of cells of the order
 abbrev pub CellsAreCells : Type 0
 CellsAreCells = (a : NumberSet) → AllByRecursion IsCell (cells_of a)
 

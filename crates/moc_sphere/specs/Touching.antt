@@ -1,5 +1,4 @@
--- The corner points of cells, and when two cells touch (Górski and others 2005). A point of the sphere is named by its
--- row and its column in that row.
+-- The corner points of cells, by row and column in the row; when two cells touch (Górski and others 2005).
 use Rattle.std.specs.Prelude.{◌≡◌, ◌≢◌, ℕ, ◌+◌, ◌-◌, ◌*◌, ◌/◌, ◌%◌, ◌^◌, ◌<◌, min, List, [], ◌∷◌, Contains, Bool, not}
 use Rattle.std.specs.Prelude.{true, false, map, nat_le, ◌==◌, ◌&&◌, if◌then◌else◌}
 use Rattle.std.specs.List.{filter, list_any, range_with_len}

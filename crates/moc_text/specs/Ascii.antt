@@ -15,8 +15,6 @@ use Rattle.moc_text.specs.declared.ascii.error.TextError.{TextError}
 use Rattle.moc_text.specs.declared.ascii.error.TextError.TheVariants.{BadByte, NoOrder, OrderTooLarge, CellTooLarge}
 use Rattle.moc_text.specs.declared.ascii.error.TextError.TheVariants.{Backwards, Unfinished}
 
--- ---- words
-
 -- space, comma, tab, CR and LF
 abbrev pub is_separator : ℕ → Bool
 is_separator b = b == 32 || b == 44 || b == 9 || b == 13 || b == 10
@@ -43,8 +41,6 @@ words_from at (b ∷ bytes) =
 -- the words of a text, in their sequence
 abbrev pub words : List ℕ → List Word
 words text = words_from 0 text
-
--- ---- the three shapes
 
 -- one digit or more
 abbrev pub IsNumber : List ℕ → Type 0
@@ -100,8 +96,6 @@ IsShape (MarkItem m c) = IsNumber m.order × AreCells c
 abbrev pub IsLawful : List ℕ → Type 0
 IsLawful bytes = (shape : Shape) × IsShape shape × (bytes ≡ shape_text shape)
 
--- ---- the fault of a word that has no shape
-
 -- a beginning of some lawful word
 abbrev pub IsBeginning : List ℕ → Type 0
 IsBeginning p = (more : List ℕ) × IsLawful (p ++ more)
@@ -122,8 +116,6 @@ ShapeFaultAt at p (b ∷ rest) f = f ≡ BadByte (at + length p)
 abbrev pub HasShapeFault : Word → TextError → Type 0
 HasShapeFault w f =
     (p rest : List ℕ) × IsLongestBeginning p rest w.bytes × ShapeFaultAt w.at p rest f
-
--- ---- what a lawful word means
 
 -- a number of a word, with the place of its first digit
 abbrev pub number_at : ℕ → List ℕ → Number
@@ -160,8 +152,6 @@ order_in_force before (Some n) = Some n.value
 abbrev pub last_of : Item → Number
 last_of i = unwrap_or i.last i.first
 
--- ---- faults of a lawful word
-
 -- of a mark, if there is one: an order above 29
 abbrev pub mark_fault : Option Number → Option TextError
 mark_fault None = None
@@ -185,8 +175,6 @@ fault_of before at n =
 abbrev pub IsFault : Option ℕ → Word → TextError → Type 0
 IsFault before w f =
     HasShapeFault w f ⊎ ((n : Parts) × Means w n × (fault_of before w.at n ≡ Some f))
-
--- ---- the text
 
 -- No word is faulty, and these are the numbers of each.
 abbrev pub AreRead : Option ℕ → List Word → List Parts → Type 0

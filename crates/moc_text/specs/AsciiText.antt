@@ -1,5 +1,4 @@
--- Writing the ASCII form of a coverage (MOC 2.0): its cells by rising order, and within an order
--- by rising index.
+-- Writing the ASCII form of a coverage (MOC 2.0): its cells by rising order and index.
 use Rattle.std.specs.Prelude.{ℕ, ◌+◌, Bool, ◌&&◌, ◌==◌, nat_lt, ◌<◌, if◌then◌else◌, List, [], ◌∷◌, ◌++◌, Option, Some}
 use Rattle.std.specs.Prelude.{None, decimal}
 use Rattle.std.specs.List.{Any, join_with_byte}

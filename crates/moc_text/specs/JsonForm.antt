@@ -1,5 +1,4 @@
--- Reading the JSON form of a coverage (MOC 2.0): the names of an object are orders, and their
--- arrays are cells.
+-- Reading the JSON form of a coverage (MOC 2.0): names of an object are orders, their arrays cells.
 use Rattle.std.specs.Prelude.{◌≡◌, ℕ, zero, suc, ◌+◌, ◌&&◌, ◌==◌, not, nat_lt, if◌then◌else◌, List, Option, Some, None}
 use Rattle.std.specs.Prelude.{false, option_and_then, option_map, length, IsUtf8, ◌⊎◌}
 use Rattle.std.specs.Option.{option_or}
@@ -18,8 +17,6 @@ use Rattle.moc_text.specs.declared.json_form.error.JsonError.{JsonError}
 use Rattle.moc_text.specs.declared.json_form.error.JsonError.TheVariants.{NotJson, NotObject, BadOrder, NotArray}
 use Rattle.moc_text.specs.declared.json_form.error.JsonError.TheVariants.{NotWhole, CellTooLarge}
 
--- ---- names and items
-
 -- a number, if it is an order
 abbrev pub order_up_to_29 : ℕ → Option ℕ
 order_up_to_29 k = if nat_lt 29 k then None else Some k
@@ -33,8 +30,6 @@ order_of_name name =
 -- a whole number of 64 bits, if the value is one
 abbrev pub whole_number : Data → Option ℕ
 whole_number d = option_and_then as_u64 (as_number d)
-
--- ---- what an object says
 
 -- the pixels of the cell of a number, if there is one
 abbrev pub cell_pixels : ℕ → Option ℕ → NumberSet
@@ -73,8 +68,6 @@ member_at (suc number) (member name d ms) = member_at number ms
 abbrev pub object_member : ℕ → Data → Option (List ℕ × Data)
 object_member number d = option_and_then (member_at number) (as_object d)
 
--- ---- what is wrong with a value
-
 -- of an item, which is a whole number or none, where k is the order: no number, or no cell
 abbrev pub element_fault : ℕ → ℕ → ℕ → Option ℕ → Option JsonError
 element_fault k name place None = Some (NotWhole name place)
@@ -104,8 +97,6 @@ abbrev pub object_fault : Option Members → Option JsonError
 object_fault None = Some NotObject
 object_fault (Some ms) = members_fault 0 ms
 
--- ---- the text
-
 -- The bytes are the text of this value.
 pub record IsJson (bytes : List ℕ) (d : Data) : Type 0 where
   pub utf8 : IsUtf8 bytes
@@ -132,8 +123,7 @@ IsTextOf None text = text ≡ None
 IsTextOf (Some d) text =
     (bytes : List ℕ) × (text ≡ Some bytes) × (has_float d ≡ false → bytes ≡ compact_text d)
 
--- In the text the item of this place, counted from 0, in the array of the name of this number has this text, if there
--- is such an item.
+-- in the text the item of this place, from 0, in the array of the name of this number has this text, if it is there
 abbrev pub HasItem : List ℕ → ℕ → ℕ → Option (List ℕ) → Type 0
 HasItem bytes number place text =
     (d : Data) × IsJson bytes d

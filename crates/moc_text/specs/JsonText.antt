@@ -1,5 +1,4 @@
--- Writing the JSON form of a coverage (MOC 2.0): an object whose names are orders and whose arrays
--- are cells.
+-- Writing the JSON form of a coverage (MOC 2.0): an object of orders with arrays of cells.
 use Rattle.std.specs.Prelude.{ℕ, zero, suc, Bool, true, false, ◌==◌, if◌then◌else◌, List, [], ◌∷◌, map, Option, Some}
 use Rattle.std.specs.Prelude.{None, decimal}
 use Rattle.std.specs.List.{filter}

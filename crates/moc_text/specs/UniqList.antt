@@ -12,8 +12,6 @@ use Rattle.moc_text.specs.Lines.{lines_of}
 use Rattle.moc_text.specs.declared.uniq.UniqError.{UniqError}
 use Rattle.moc_text.specs.declared.uniq.UniqError.TheVariants.{BadByte, NotUniq}
 
--- ---- reading
-
 -- what is wrong with a number on a line, if anything
 abbrev pub number_fault : ℕ → ℕ → Option UniqError
 number_fault line n = if is_uniq n then None else Some (NotUniq line)
@@ -48,8 +46,6 @@ pub record SaysUniq (text : List ℕ) (a : NumberSet) : Type 0 where
   pub are_cells : AllByRecursion IsCell cells
   pub numbers : map uniq_of cells ≡ numbers_on (lines_of text)
   pub pixels_are : a ≡ pixels_of cells
-
--- ---- writing
 
 -- each number in decimal, and LF
 abbrev pub number_lines : List ℕ → List ℕ
