@@ -23,7 +23,6 @@ fn go_on(coverage: &Coverage, rest: &mut Ranges<'_>, passed: &mut u64, pixel: u6
     ensures rest { IsRest coverage.now rest.new passed.new }
     ensures known { IfSome result (λ k. Knows coverage.now k × (k.from ≤ pixel) × (pixel < k.end)) }
 {
-    let _coverage = coverage;
     if pixel < *passed {
         return None;
     }
