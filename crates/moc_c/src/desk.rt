@@ -5,7 +5,7 @@ ghost use Rattle.moc_c.specs.Contents.{bare, Contents};
 ghost use Rattle.moc_c.specs.Private.Storing.{contents_code};
 ghost use Rattle.moc_c.specs.Private.Desk.{desk_owns};
 
-use crate::parts::Parts;
+use crate::box_parts::BoxParts;
 use crate::shelf::Shelf;
 use std::alloc::{AllocError, Global};
 use std::marker::{Model, Send};
@@ -29,24 +29,24 @@ impl Desk {
     pub(crate) fn bare(alloc: Global) -> Result<Desk, AllocError>
         ensures { IfOk result (λ d. d.contents ≡ bare) }
     {
-        Ok(Desk::of_parts(Parts::of(Box::new(alloc, Shelf::new(alloc))?)))
+        Ok(Desk::of_parts(BoxParts::of(Box::new(alloc, Shelf::new(alloc))?)))
     }
 
-    fn of_parts(parts: Parts<Shelf, Global>) -> Desk
+    fn of_parts(parts: BoxParts<Shelf, Global>) -> Desk
         ensures { result.contents ≡ parts.value }
     {
-        let Parts { ptr, alloc } = parts;
+        let BoxParts { ptr, alloc } = parts;
         Desk {
             ptr: ptr as *mut u8,
             alloc,
         }
     }
 
-    fn into_parts(self) -> Parts<Shelf, Global>
+    fn into_parts(self) -> BoxParts<Shelf, Global>
         ensures { result.value ≡ self.contents }
     {
         let Desk { ptr, alloc } = self;
-        Parts {
+        BoxParts {
             ptr: ptr as *mut Shelf,
             alloc,
         }

@@ -5,6 +5,7 @@
 #![tactic(auto)]
 
 mod asking;
+mod box_parts;
 mod cells;
 mod codes;
 mod conversion;
@@ -16,7 +17,6 @@ mod making;
 mod member;
 mod opening;
 mod outcome;
-mod parts;
 mod range;
 mod seat;
 mod seating;

@@ -104,17 +104,9 @@ impl Member {
     pub(crate) fn read(&mut self, alloc: Global) -> Result<Coverage, TryError>
         ensures { ReadsSky self.old self.new result }
     {
-        let Ok(batch) = whole_sky(alloc) else {
-            return Err(TryError::Memory);
-        };
-        let replies = match self.apply(&batch) {
-            Ok(replies) => replies,
-            Err(error) => return Err(error),
-        };
-        match cover_of(alloc, &replies) {
-            Ok(set) => Ok(set),
-            Err(Memory) => Err(TryError::Memory),
-        }
+        let batch = whole_sky(alloc)?;
+        let replies = self.apply(&batch)?;
+        Ok(cover_of(alloc, &replies)?)
     }
 }
 

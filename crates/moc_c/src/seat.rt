@@ -6,7 +6,7 @@ ghost use Rattle.moc_c.specs.Private.Seat.{seat_owns};
 ghost use Rattle.moc_c.specs.contracts.sitter.Sitter as sitter_row;
 ghost use Rattle.moc_c.specs.declared.sitter.Sitter.{Sitter as SitterValue};
 
-use crate::parts::Parts;
+use crate::box_parts::BoxParts;
 use crate::sitter::Sitter;
 use std::alloc::{AllocError, Global};
 use std::marker::{Model, Send};
@@ -30,24 +30,24 @@ impl Seat {
     pub(crate) fn empty(alloc: Global) -> Result<Seat, AllocError>
         ensures { IfOk result (λ s. s.contents ≡ nobody) }
     {
-        Ok(Seat::of_parts(Parts::of(Box::new(alloc, Sitter::nobody())?)))
+        Ok(Seat::of_parts(BoxParts::of(Box::new(alloc, Sitter::nobody())?)))
     }
 
-    fn of_parts(parts: Parts<Sitter, Global>) -> Seat
+    fn of_parts(parts: BoxParts<Sitter, Global>) -> Seat
         ensures { result.contents ≡ parts.value }
     {
-        let Parts { ptr, alloc } = parts;
+        let BoxParts { ptr, alloc } = parts;
         Seat {
             ptr: ptr as *mut u8,
             alloc,
         }
     }
 
-    fn into_parts(self) -> Parts<Sitter, Global>
+    fn into_parts(self) -> BoxParts<Sitter, Global>
         ensures { result.value ≡ self.contents }
     {
         let Seat { ptr, alloc } = self;
-        Parts {
+        BoxParts {
             ptr: ptr as *mut Sitter,
             alloc,
         }
