@@ -75,10 +75,7 @@ impl SharedMap {
             batch,
             &mut found,
         );
-        match go_through(table, self.alloc, &mut client.seat, batch, &mut found) {
-            Ok(replies) => Ok(replies),
-            Err(memory) => Err(memory),
-        }
+        go_through(table, self.alloc, &mut client.seat, batch, &mut found)
     }
 
     /// What a query sees: as `try_apply`, but its replies are made when they are asked for.
