@@ -17,13 +17,13 @@ pub struct Known {
     pub end: u64,
 }
 
-/// Goes on to the range that ends behind a pixel, where it is among the next ones.
+/// Goes on to the range that ends behind a pixel, where it is among the next ones. The coverage is handed over for the
+/// contract alone, which speaks of it.
 fn go_on(coverage: &Coverage, rest: &mut Ranges<'_>, passed: &mut u64, pixel: u64) -> Option<Known>
     requires { IsRest coverage.now rest.old passed.old }
     ensures rest { IsRest coverage.now rest.new passed.new }
     ensures known { IfSome result (λ k. Knows coverage.now k × (k.from ≤ pixel) × (pixel < k.end)) }
 {
-    let _coverage = coverage;
     if pixel < *passed {
         return None;
     }
