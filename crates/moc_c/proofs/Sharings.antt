@@ -6,7 +6,7 @@ use Rattle.moc_parts.specs.declared.command.Command.{Command}
 use Rattle.moc_parts.specs.declared.reply.Reply.{Reply}
 use Rattle.moc_parts.specs.declared.reply.Reply.TheVariants.{Cover}
 use Rattle.moc_shared.specs.Batches.{answer, BatchEntry}
-use Rattle.moc_shared.specs.Clients.{AfterError, call_of, Ends, Fails, record_of, start_of}
+use Rattle.moc_shared.specs.Clients.{AfterError, call_of, Ends, LacksMemory, record_of, start_of}
 use Rattle.moc_shared.specs.History.{entry, IsLegal}
 use Rattle.moc_shared.specs.declared.errors.TryError.{TryError}
 use Rattle.moc_shared.specs.declared.errors.TryError.TheVariants as try
@@ -78,7 +78,7 @@ laid s m n desk desk' a o is reads (inr none) =
     (inl (n, reads.0, refl, inr (inr (unanswered, none.0), none.1)))
   where
     -- the query went through, and its reply was not handed out
-    unanswered : Fails m.map whole_sky (record_of m.client) (record_of n.client)
+    unanswered : LacksMemory m.map whole_sky (record_of m.client) (record_of n.client)
     unanswered =
         inr (refl, (Cover a ∷ [], subst (λ k. Ends m.map (entry k whole_sky (Cover a ∷ [])) (record_of m.client) (record_of n.client)) (sym reads.0.own) reads.1))
 

@@ -8,7 +8,7 @@ use Rattle.moc_parts.specs.declared.command.Command.{Command}
 use Rattle.moc_parts.specs.declared.command.Command.TheVariants.{Read}
 use Rattle.moc_parts.specs.declared.reply.Reply.{Reply}
 use Rattle.moc_parts.specs.declared.reply.Reply.TheVariants.{Cover}
-use Rattle.moc_shared.specs.Clients.{call_of, Ends, Fails, number_of, record_of, Refuses}
+use Rattle.moc_shared.specs.Clients.{call_of, Ends, LacksMemory, number_of, record_of, Refuses}
 use Rattle.moc_shared.specs.declared.errors.Busy.{Busy}
 use Rattle.moc_lines.specs.Batches.{batch_of}
 use Rattle.moc_lines.specs.Language.{command_of}
@@ -95,7 +95,7 @@ MemberEnds old new cs r = Ends old.map (call_of old.client cs r) (record_of old.
 abbrev pub IsTurnedAway : Membership → Membership → List Command → Outcome → Type 0
 IsTurnedAway old new cs o =
     ((b : Busy) × Refuses old.map cs b (record_of old.client) (record_of new.client) × (o ≡ outcome_of (fault.Busy b)))
-    ⊎ (Fails old.map cs (record_of old.client) (record_of new.client) × (o ≡ memory))
+    ⊎ (LacksMemory old.map cs (record_of old.client) (record_of new.client) × (o ≡ memory))
 
 -- the call went through, and its replies are kept; or it was refused, and the replies of before are kept
 abbrev pub Calls : Sitter → Sitter → Membership → Membership → List Command → Outcome → Type 0

@@ -17,8 +17,8 @@ pub struct Known {
     pub end: u64,
 }
 
-/// Goes on to the range that ends behind a pixel, where it is among the next ones. The set is given for what is promised
-/// of it alone.
+/// Goes on to the range that ends behind a pixel, where it is among the next ones. The coverage is handed over for the
+/// contract alone, which speaks of it.
 fn go_on(coverage: &Coverage, rest: &mut Ranges<'_>, passed: &mut u64, pixel: u64) -> Option<Known>
     requires { IsRest coverage.now rest.old passed.old }
     ensures rest { IsRest coverage.now rest.new passed.new }

@@ -32,7 +32,7 @@ use Rattle.moc_lines.specs.Words.{is_blank_text, word_of, behind_word, number_sp
 use Rattle.moc_lines.specs.Language.{◌>>=◌, fault_without_place, coverage_of, order_of, plain_operand_of, ordered_operand_of, operand_by, operand_of, command_named, command_with, degrade_of, near_of, only_field, two_fields, command_of}
 use Rattle.moc_text.specs.Lines.{is_semicolon, pieces_of}
 use Rattle.moc_lines.specs.Batches.{piece_says, commands_of, batch_of}
-use Rattle.moc_script.specs.Steps.{BatchStep, as_in_script, client_by, only_client, only_place, step_by, step_at, other_step, begin_by, begin_of, said_step}
+use Rattle.moc_script.specs.Steps.{BatchStep, as_in_script, client_by, only_client, only_client_and_part, step_by, step_at, other_step, begin_by, begin_of, said_step}
 use Rattle.moc_lines.specs.Answers.{after_lines}
 use Rattle.moc_script.specs.Schedules.{Schedule, start_schedule, next_line, begins_after, after_step, after_said, schedule_rules, unless_refused, step_taken, steps_taken}
 use Rattle.moc_script.proofs.Single.{first_then}
@@ -190,7 +190,7 @@ module _ (local : BatchesAreLocal) where
   by_local step text each = ok_then Any Alone (only_client text) _ (ok_any (only_client text)) (λ c _. each c)
 
   at_local : (step : ℕ → ℕ → BatchStep) (text : List ℕ) → ((c b : ℕ) → Alone (step c b)) → IfOk (step_at step text) Alone
-  at_local step text each = ok_then Any Alone (only_place text) _ (ok_any (only_place text)) (λ p _. each p.0 p.1)
+  at_local step text each = ok_then Any Alone (only_client_and_part text) _ (ok_any (only_client_and_part text)) (λ p _. each p.0 p.1)
 
   other_local : (word text : List ℕ) → IfOk (other_step word text) Alone
   other_local word text =

@@ -37,8 +37,8 @@ client_by field = do
   client_numbered n
 
 -- the client and the part that two fields name
-abbrev pub place_by : List ℕ → List ℕ → Result (ℕ × ℕ) StepFault
-place_by client part = do
+abbrev pub client_and_part_by : List ℕ → List ℕ → Result (ℕ × ℕ) StepFault
+client_and_part_by client part = do
   n ← ok_or (number_spelled client) (Line BadNumber)
   b ← ok_or (number_spelled part) (Line BadNumber)
   c ← client_numbered n
@@ -52,10 +52,10 @@ only_client text = do
   client_by field
 
 -- the client and the part that a text names: it has just two fields
-abbrev pub only_place : List ℕ → Result (ℕ × ℕ) StepFault
-only_place text = do
+abbrev pub only_client_and_part : List ℕ → Result (ℕ × ℕ) StepFault
+only_client_and_part text = do
   fields ← as_in_script (two_fields text)
-  place_by fields.0 fields.1
+  client_and_part_by fields.0 fields.1
 
 -- a step of a client, which the text names
 abbrev pub step_by : (ℕ → BatchStep) → List ℕ → Result BatchStep StepFault
@@ -66,8 +66,8 @@ step_by step text = do
 -- a step of a client at a part, which the text names
 abbrev pub step_at : (ℕ → ℕ → BatchStep) → List ℕ → Result BatchStep StepFault
 step_at step text = do
-  place ← only_place text
-  Ok (step place.0 place.1)
+  both ← only_client_and_part text
+  Ok (step both.0 both.1)
 
 -- the step of a word that begins no operation, and of what stands behind it
 abbrev pub other_step : List ℕ → List ℕ → Result BatchStep StepFault

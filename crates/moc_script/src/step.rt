@@ -3,7 +3,8 @@ ghost use Rattle.std.specs.Prelude.{◌≤◌, SomeIff};
 ghost use Rattle.moc_steps.specs.Played.{step_of};
 ghost use Rattle.moc_lines.specs.Batches.{batch_of};
 ghost use Rattle.moc_lines.specs.Language.{command_of};
-ghost use Rattle.moc_script.specs.Steps.{begin_by, begin_of, client_by, only_client, place_by, only_place, said_step};
+ghost use Rattle.moc_script.specs.Steps.{begin_by, begin_of, client_by, client_and_part_by, only_client};
+ghost use Rattle.moc_script.specs.Steps.{only_client_and_part, said_step};
 ghost use Rattle.moc_script.specs.Private.StepReading.{ReadsStep};
 
 use crate::fault::{ReadStepError, StepFault};
@@ -38,8 +39,8 @@ fn read_client(field: &[u8]) -> Result<u32, ReadStepError>
 }
 
 /// The client and the part that two fields name.
-fn read_place(client: &[u8], part: &[u8]) -> Result<(u32, Part), ReadStepError>
-    ensures { ReadsStep (λ place. place) result (place_by client.now part.now) }
+fn read_client_and_part(client: &[u8], part: &[u8]) -> Result<(u32, Part), ReadStepError>
+    ensures { ReadsStep (λ both. both) result (client_and_part_by client.now part.now) }
 {
     let client = number_in(client).ok_or(Fault::BadNumber)?;
     let part = number_in(part).ok_or(Fault::BadNumber)?;
@@ -57,11 +58,11 @@ fn only_client(text: &[u8]) -> Result<u32, ReadStepError>
 }
 
 /// The client and the part that a text names: it has just two fields.
-fn only_place(text: &[u8]) -> Result<(u32, Part), ReadStepError>
-    ensures { ReadsStep (λ place. place) result (only_place text.now) }
+fn only_client_and_part(text: &[u8]) -> Result<(u32, Part), ReadStepError>
+    ensures { ReadsStep (λ both. both) result (only_client_and_part text.now) }
 {
     let (client, part) = two_fields(text)?;
-    read_place(client, part)
+    read_client_and_part(client, part)
 }
 
 /// What stands behind `begin`: a client, and a batch of commands.
@@ -88,10 +89,10 @@ pub(crate) fn read_step(alloc: Global, line: &[u8]) -> Result<Step, ReadStepErro
         let client = only_client(text)?;
         Ok(Step::Take { client })
     } else if is_word(word, "edit") {
-        let (client, part) = only_place(text)?;
+        let (client, part) = only_client_and_part(text)?;
         Ok(Step::Edit { client, part })
     } else if is_word(word, "give") {
-        let (client, part) = only_place(text)?;
+        let (client, part) = only_client_and_part(text)?;
         Ok(Step::Give { client, part })
     } else if is_word(word, "quit") {
         let client = only_client(text)?;

@@ -25,7 +25,7 @@ use Rattle.moc_shared.specs.Private.Held.{HoldsJust}
 use Rattle.moc_shared.specs.Private.Plays.{with_part, with_parts, with_misses, with_holds, marked_at}
 use Rattle.moc_shared.specs.Private.Slots.{EndsBatch, AreWaits, just, touched_by}
 use Rattle.moc_shared.specs.Batches.{BatchEntry, BatchRecord, answer}
-use Rattle.moc_shared.specs.Clients.{start_of, clients_of, EndsWaiting, FailsWaiting}
+use Rattle.moc_shared.specs.Clients.{start_of, clients_of, EndsWaiting, LacksMemoryWaiting}
 use Rattle.moc_shared.proofs.Basics.{here, none_in, only}
 use Rattle.moc_shared.proofs.Promises.{Stays, stays_through, stays_ended, stays_given, ends_noted, undone_noted, undone_at_once}
 use Rattle.moc_shared.proofs.Waited.{waits_from, stays_waited}
@@ -172,7 +172,7 @@ module _ (c : Command) (b : ℕ) (met : (k : ℕ) → footprint c k ≡ nat_eq b
 
   pub undone_alone : (the : SharedMap) (init u w : Sight) (y : Option NumberSet) (waits : List (ℕ × ℕ))
       → init.clients ≡ clients_of the → u ≡ with_parts (with_misses init waits) (note b y ∷ [])
-      → AreWaits (just b) init waits → w ≡ with_holds u [] → FailsWaiting the cs init.mine w.mine
+      → AreWaits (just b) init waits → w ≡ with_holds u [] → LacksMemoryWaiting the cs init.mine w.mine
   undone_alone the init u w y waits clients held each gave = (
     (with_misses init waits).mine,
     waits_from the cs init waits clients (waits_alone init waits each),
@@ -238,6 +238,6 @@ pub at_err : {T E P : Type 0} (r : Result T E) → P → OnErr r P
 at_err (Ok x) p = tt
 at_err (Err e) p = p
 
-pub failed_at_once : (the : SharedMap) (cs : List Command) (r : BatchRecord) → FailsWaiting the cs r r
+pub failed_at_once : (the : SharedMap) (cs : List Command) (r : BatchRecord) → LacksMemoryWaiting the cs r r
 failed_at_once the cs r =
     (r, ([], refl, λ h b i. let x : ℕ × ℕ = (h, b) in absurd (none_in x i)), inl (undone_at_once cs r))

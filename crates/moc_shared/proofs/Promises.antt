@@ -19,7 +19,7 @@ use Rattle.moc_shared.specs.History.{MissesMarked}
 use Rattle.moc_parts.specs.Batches.{footprint_of_all}
 use Rattle.moc_shared.specs.Batches.{BatchEntry, BatchRecord, answer}
 use Rattle.moc_shared.specs.Clients.{start_of, clients_of, record_of, IsClientOf, IsHoldingOf, Meets, TakesIn}
-use Rattle.moc_shared.specs.Clients.{AddsMarks, Ends, Refuses, Undone, Fails, FailsHolding}
+use Rattle.moc_shared.specs.Clients.{AddsMarks, Ends, Refuses, Undone, LacksMemory, LacksMemoryHolding}
 use Rattle.moc_shared.proofs.Basics.{here, there, none_in, cons_cases, starts_itself, stood_with_call}
 use Rattle.moc_shared.proofs.Places.{noted_touched}
 
@@ -317,14 +317,14 @@ idle_again the h a' of_h s number table no_slot = record {
 
 pub fails_from : (the : SharedMap) (op : List Command) (v u w : Sight) (found : List (Option Pointer))
     → IsFootprint op found → v.start ≡ start_of the → v.clients ≡ clients_of the
-    → u ≡ with_parts v (notes_below found 12) → GivesUp op u w → Fails the op v.mine w.mine
+    → u ≡ with_parts v (notes_below found 12) → GivesUp op u w → LacksMemory the op v.mine w.mine
 fails_from the op v u w found whole start clients held g = ⊎_elim
     (λ e. inl (undone_from op v u w found whole held e))
     (λ t. inr (t.0, (t.1.0, ends_from the op t.1.0 v.mine.number v u w found whole start clients refl held t.1.1)))
     g
 
 pub fails_held : (the : SharedMap) (op : List Command) (v w : Sight) → v.start ≡ start_of the
-    → v.clients ≡ clients_of the → GivesUp op v w → FailsHolding the op v.mine w.mine
+    → v.clients ≡ clients_of the → GivesUp op v w → LacksMemoryHolding the op v.mine w.mine
 fails_held the op v w start clients g = ⊎_elim
     (λ e. inl (λ i. (e i).mine))
     (λ t. inr (t.0, (t.1.0, ends_now the op t.1.0 v.mine.number v w start clients refl t.1.1)))

@@ -5,7 +5,7 @@ use Rattle.std.specs.FinSet as set
 use Rattle.std.specs.FinMap as map
 use Rattle.moc_ranges.specs.Numbers.{NumberSet}
 use Rattle.moc_ranges.specs.Pixels.{pixels}
-use Rattle.moc_ranges.specs.Operations.{IsWithin, part_of}
+use Rattle.moc_ranges.specs.Operations.{IsWithin}
 use Rattle.moc_parts.specs.Batches.{batches}
 use Rattle.moc_parts.specs.Parts.{parts_below, union_of}
 use Rattle.moc_steps.specs.Laws.{IsReached}

@@ -298,13 +298,9 @@ impl Midway {
 fn parts_of(alloc: Global, batch: &Batch) -> Result<Vec<Part>, Memory>
     ensures { IfOk result (λ v. v.items ≡ locks.footprint_parts batches batch.now) }
 {
-    let footprint = batch.footprint(alloc);
     let mut parts = Vec::new(alloc);
-    for b in 0u8..12 {
-        let part = Part::of(b);
-        if footprint.contains(part) {
-            parts.push(part)?;
-        }
+    for part in batch.footprint(alloc) {
+        parts.push(part)?;
     }
     Ok(parts)
 }

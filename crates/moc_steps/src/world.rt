@@ -330,6 +330,7 @@ impl World {
         ensures reached { IsReached batches self.now }
         ensures short { steps_left batches self.now.locks.clients < 2 ^ 64 }
     {
+        // Read for the proof alone: what every world keeps is known where a field of it is read.
         let _begun = self.begun;
     }
 

@@ -34,7 +34,7 @@ fn update(
     let mut edited = no_slots();
     match edit(alloc, batch, found, &mut edited) {
         Ok(replies) => {
-            // A footprint is never empty, as the law of locality tells.
+            // Both are called for what they promise alone: there are commands, and a footprint is never empty.
             batch.commands();
             batches_are_local();
             end_all(table, seat, batch, found, &mut edited);
@@ -68,7 +68,8 @@ pub(crate) fn observe(
 {
     match copy_all(found, copies) {
         Ok(()) => {
-            // A query is answered alike on all sets with these parts, as the law of locality tells.
+            // Both are called for what they promise alone: the commands are proper, and a query of such is answered
+            // alike on all sets with these parts.
             batch.commands();
             batches_are_local();
             end_all(table, seat, batch, copies, found);

@@ -3,8 +3,8 @@ ghost use Rattle.std.specs.Prelude.{◌≡◌, false, IfOk, IfErr, OnOk, OnErr, 
 ghost use Rattle.std.specs.List.{list_any};
 ghost use Rattle.moc_parts.specs.Commands.{is_update};
 ghost use Rattle.moc_shared.specs.Clients.{number_of, record_of, holder_of, held_batch, call_of};
-ghost use Rattle.moc_shared.specs.Clients.{IsClientOf, IsHoldingOf, Ends, Refuses, Undone, FailsHolding};
-ghost use Rattle.moc_shared.specs.Clients.{EndsWaiting, FailsWaiting, AfterError, AfterLook, AfterSnapshot};
+ghost use Rattle.moc_shared.specs.Clients.{IsClientOf, IsHoldingOf, Ends, Refuses, Undone, LacksMemoryHolding};
+ghost use Rattle.moc_shared.specs.Clients.{EndsWaiting, LacksMemoryWaiting, AfterError, AfterLook, AfterSnapshot};
 
 use crate::client::{Client, Holding};
 use crate::errors::{Busy, LookError, SnapshotError, TryError};
@@ -61,7 +61,7 @@ impl SharedMap {
         ensures number { number_of client.new ≡ number_of client.old }
         ensures ok { IfOk result
             (λ r. EndsWaiting self.now (call_of client.old batch.now r) (record_of client.old) (record_of client.new)) }
-        ensures err { OnErr result (FailsWaiting self.now batch.now (record_of client.old) (record_of client.new)) }
+        ensures err { OnErr result (LacksMemoryWaiting self.now batch.now (record_of client.old) (record_of client.new)) }
     {
         let mark = u64::from(client.number) + 1;
         let table = &self.table.shared;
@@ -75,10 +75,7 @@ impl SharedMap {
             batch,
             &mut found,
         );
-        match go_through(table, self.alloc, &mut client.seat, batch, &mut found) {
-            Ok(replies) => Ok(replies),
-            Err(memory) => Err(memory),
-        }
+        go_through(table, self.alloc, &mut client.seat, batch, &mut found)
     }
 
     /// What a query sees: as `try_apply`, but its replies are made when they are asked for.
@@ -154,7 +151,7 @@ impl SharedMap {
         ensures done { MatchResult result.1
             (λ r. Ends self.now (call_of (holder_of holding) (held_batch holding) r)
             (record_of (holder_of holding)) (record_of result.0))
-            (λ _. FailsHolding self.now (held_batch holding) (record_of (holder_of holding)) (record_of result.0)) }
+            (λ _. LacksMemoryHolding self.now (held_batch holding) (record_of (holder_of holding)) (record_of result.0)) }
         ensures marks { (record_of result.0).marks ≡ (record_of (holder_of holding)).marks }
     {
         let Holding {

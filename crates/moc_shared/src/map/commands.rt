@@ -1,6 +1,6 @@
 //! One command on a map.
 ghost use Rattle.std.specs.Prelude.{◌≡◌, ◌<◌, [], ◌∷◌, IfOk, OnErr};
-ghost use Rattle.moc_shared.specs.Clients.{number_of, record_of, call_of, IsClientOf, EndsWaiting, FailsWaiting};
+ghost use Rattle.moc_shared.specs.Clients.{number_of, record_of, call_of, IsClientOf, EndsWaiting, LacksMemoryWaiting};
 ghost use Rattle.moc_shared.specs.Private.Held.{TakesJust};
 
 use crate::client::Client;
@@ -29,7 +29,7 @@ impl SharedMap {
         ensures ok { IfOk result (λ r. EndsWaiting self.now (call_of client.old (command ∷ []) (r ∷ []))
             (record_of client.old) (record_of client.new)) }
         ensures err { OnErr result
-            (FailsWaiting self.now (command ∷ []) (record_of client.old) (record_of client.new)) }
+            (LacksMemoryWaiting self.now (command ∷ []) (record_of client.old) (record_of client.new)) }
     {
         match place_alone(&command) {
             Some(b) => self.answer_in_part(rt, client, &command, b),
@@ -52,7 +52,7 @@ impl SharedMap {
         ensures ok { IfOk result (λ r. EndsWaiting self.now (call_of client.old (command.now ∷ []) (r ∷ []))
             (record_of client.old) (record_of client.new)) }
         ensures err { OnErr result
-            (FailsWaiting self.now (command.now ∷ []) (record_of client.old) (record_of client.new)) }
+            (LacksMemoryWaiting self.now (command.now ∷ []) (record_of client.old) (record_of client.new)) }
     {
         let mark = u64::from(client.number) + 1;
         let table = &self.table.shared;
@@ -73,7 +73,7 @@ impl SharedMap {
         ensures ok { IfOk result (λ r. EndsWaiting self.now (call_of client.old (command ∷ []) (r ∷ []))
             (record_of client.old) (record_of client.new)) }
         ensures err { OnErr result
-            (FailsWaiting self.now (command ∷ []) (record_of client.old) (record_of client.new)) }
+            (LacksMemoryWaiting self.now (command ∷ []) (record_of client.old) (record_of client.new)) }
     {
         let batch = Batch::one(self.alloc, command)?;
         let replies = self.apply(rt, client, &batch)?;

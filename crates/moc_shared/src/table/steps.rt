@@ -68,7 +68,8 @@ pub(crate) fn give_part(table: &Words, seat: &mut Token, b: usize, new: Pointer)
 
 /// Puts the pointer into the part that was taken last, and gives it back. With that the call goes through.
 ///
-/// Its replies are those to what was found. What is to be given back next is in `rest`.
+/// Its replies are those to what was found. What is to be given back next is in `rest`. These and the batch are handed
+/// over for the contract alone, which speaks of them.
 pub(crate) fn end_call<C: Closing>(
     table: &Words,
     seat: &mut Token,
@@ -92,15 +93,14 @@ pub(crate) fn end_call<C: Closing>(
     ensures ended { EndsBatch batch.now (replies_to found.now batch.now) (notes_below rest.now 12)
         seat.old.me.0 seat.new.me.0 }
 {
-    let _batch = batch;
-    let _found = found;
-    let _rest = rest;
     let index = index(b);
     drop(table.exchange(seat, index, Some(new)));
     table.store::<End<C>>(seat, index, 0);
 }
 
 /// Puts the pointer into the only part that is held, and gives it back. With that the call of one command goes through.
+///
+/// The command and its reply are handed over for the contract alone, which speaks of them.
 pub(crate) fn end_alone<C: Closing>(
     table: &Words,
     seat: &mut Token,
@@ -120,8 +120,6 @@ pub(crate) fn end_alone<C: Closing>(
     ensures idle { seat.new.me.1 ≡ [] }
     ensures ended { EndsBatch (command.now ∷ []) (reply.now ∷ []) [] seat.old.me.0 seat.new.me.0 }
 {
-    let _command = command;
-    let _reply = reply;
     let index = index(b);
     drop(table.exchange(seat, index, Some(new)));
     table.store::<End<C>>(seat, index, 0);

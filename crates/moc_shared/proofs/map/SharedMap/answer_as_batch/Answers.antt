@@ -1,6 +1,6 @@
 use Rattle.std.proofs.Common.{List, [], ◌∷◌, subst}
 use Rattle.moc_parts.specs.declared.command.Command.{Command}
-use Rattle.moc_shared.specs.Clients.{EndsWaiting, FailsWaiting, call_of}
+use Rattle.moc_shared.specs.Clients.{EndsWaiting, LacksMemoryWaiting, call_of}
 use Rattle.moc_shared.proofs.Alone.{at_err, only_reply, one_reply, failed_at_once}
 use Rattle.moc_shared.proofs.map.SharedMap.answer_as_batch.Goals as goal
 
@@ -19,7 +19,7 @@ returns-in_err-batch-clause-err g c =
 pub returns-in_err-replies-clause-err : goal.returns-in_err-replies-clause-err
 returns-in_err-replies-clause-err g c =
     at_err c.from_residual-in_err-replies.result
-    (subst (λ (cs : List Command). FailsWaiting c.args.self.now cs c.args.client.now.seat.me.0.mine
+    (subst (λ (cs : List Command). LacksMemoryWaiting c.args.self.now cs c.args.client.now.seat.me.0.mine
     c.apply.new.client.seat.me.0.mine) c.in_ok-batch.ensures c.in_err-replies.ensures.err)
 
 pub returns-clause-ok : goal.returns-clause-ok
