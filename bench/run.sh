@@ -7,7 +7,7 @@ cd "$(dirname "$0")"
 jars=/usr/share/java/cds.moc.jar:/usr/share/java/cdshealpix.jar:/usr/share/java/healpix.jar
 [ -d data ] || python3 generate.py data > /dev/null
 g++ -O2 -march=x86-64-v2 -std=c++17 -I/usr/include/healpix_cxx peer.cc -o peer -lhealpix_cxx
-(cd ../crates/moc_bench && rt run < /dev/null > /dev/null 2>&1)
+(cd ../crates/moc_bench && rt run -- clients < /dev/null > /dev/null 2>&1)
 javac -nowarn -cp "$jars" -d data PeerJava.java 2> /dev/null
 ./peers.py
 for operation in border13 border29; do
@@ -57,5 +57,4 @@ done
 ./schedules.py
 ./crews.py
 # Calls of the running map, by one client and by several threads.
-(cd ../crates/shared_bench && rt run < /dev/null > /dev/null 2>&1)
-../crates/shared_bench/out/shared_bench 20000
+../crates/moc_bench/out/moc_bench clients 20000

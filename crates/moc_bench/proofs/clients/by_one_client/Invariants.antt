@@ -1,5 +1,5 @@
 use Rattle.moc_shared.specs.Clients.{IsClientOf}
-use Rattle.shared_bench.proofs.by_one_client.Given as goal
+use Rattle.moc_bench.proofs.clients.by_one_client.Given as goal
 
 abbrev pub invariant-loop-batch : goal.invariant-loop-batch
 invariant-loop-batch g l = IsClientOf l.map l.client

@@ -1,5 +1,5 @@
 use Rattle.moc_shared.specs.Clients.{IsClientOf}
-use Rattle.shared_bench.proofs.threads.read.Given as goal
+use Rattle.moc_bench.proofs.clients.threads.read.Given as goal
 
 abbrev pub invariant-loop : goal.invariant-loop
 invariant-loop l = IsClientOf l.map l.client

@@ -1,7 +1,7 @@
 //! What clients do, each on a thread of its own.
 ghost use Rattle.moc_shared.specs.Clients.{IsClientOf, IsHoldingOf};
 
-use crate::figure::Figure;
+use crate::clients::figure::Figure;
 use anyhow::Result;
 use moc_parts::{Batch, Command, Operand, Replies, Reply};
 use moc_ranges::Coverage;

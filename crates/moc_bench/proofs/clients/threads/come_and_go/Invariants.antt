@@ -1,5 +1,5 @@
 use Rattle.moc_shared.specs.Clients.{IsClientOf}
-use Rattle.shared_bench.proofs.threads.come_and_go.Given as goal
+use Rattle.moc_bench.proofs.clients.threads.come_and_go.Given as goal
 
 abbrev pub invariant-loop : goal.invariant-loop
 invariant-loop g l = IsClientOf l.map l.client

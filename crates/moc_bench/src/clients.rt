@@ -1,16 +1,14 @@
-//! `shared_bench CALLS`: how long works on a running map take, of so many calls a thread. A line a work has its name,
-//! how many calls changed just a cell, the least and the median time, and how many readings were answered beside the
-//! latter. Without a number it makes a few calls, and tells no time. `bench/README.md` has what it measured.
-#![tactic(auto)]
-
+//! How long works on a running map take, of so many calls a thread. A line a work has its name, how many calls changed
+//! just a cell, the least and the median time, and how many readings were answered beside the latter. Where no number is
+//! named it makes a few calls, and tells no time. `bench/README.md` has what it measured.
 ghost use Rattle.std.specs.Prelude.{All, IfSome};
 ghost use Rattle.moc_shared.specs.Clients.{IsClientOf};
 
 mod figure;
 mod threads;
 
-use crate::figure::Figure;
-use crate::threads::{CELLS, Job, Plan, cell, changed_a_cell, work};
+use crate::clients::figure::Figure;
+use crate::clients::threads::{CELLS, Job, Plan, cell, changed_a_cell, work};
 use anyhow::{Result, bail};
 use moc_parts::{Batch, Command, Map};
 use moc_ranges::Coverage;
@@ -243,7 +241,7 @@ fn in_turns<R: Threads + Wait + Clock + Sync>(
 }
 
 /// Prints the line of a work.
-fn print_row(rt: &HostRuntime, name: &str, row: &mut Vec<Figure>) -> Result<()> {
+fn print_row(rt: &impl Print, name: &str, row: &mut Vec<Figure>) -> Result<()> {
     row.sort_unstable();
     let least = row.first().copied().unwrap_or(Figure::nothing());
     let median = row.get(row.len() / 2).copied().unwrap_or(least);
@@ -258,16 +256,19 @@ fn print_row(rt: &HostRuntime, name: &str, row: &mut Vec<Figure>) -> Result<()> 
     Ok(())
 }
 
-fn main(rt: HostRuntime) -> Result<()> {
-    let words: Vec<String> = std::env::args(&rt)?.collect(rt.alloc())?;
-    let (calls, repeats) = match words.as_slice() {
-        [_] => (FEW, 1),
-        [_, calls] => (calls.as_str().parse()?, REPEATS),
-        _ => bail!("shared_bench [CALLS]"),
+/// Does each work and prints its line: of so many calls a thread, often enough to tell times, or of a few, once.
+pub fn run<R: Threads + Wait + Clock + Print + Sync>(
+    rt: &R,
+    alloc: Global,
+    calls: Option<u64>,
+) -> Result<()> {
+    let (calls, repeats) = match calls {
+        Some(calls) => (calls, REPEATS),
+        None => (FEW, 1),
     };
-    let mut rows = in_turns(&rt, rt.alloc(), calls, repeats)?;
+    let mut rows = in_turns(rt, alloc, calls, repeats)?;
     for (row, (name, _)) in rows.iter_mut().zip(WORKS) {
-        print_row(&rt, name, row)?;
+        print_row(rt, name, row)?;
     }
     Ok(())
 }
