@@ -83,8 +83,7 @@ abbrev pub DrawsAll : Choice → Option (List ℕ) → Option (List ℕ) → Lis
 DrawsAll choice left left' picture =
     IsAll (λ text. IsPictureOf choice (first_text text) (second_text text) picture) left left'
 
--- the complaint tells the first fault of a text, which may be counted, where it is and what stands there, and which
--- form the text looks like, if that is another
+-- it tells the first fault of a text, counted or not, its place, what stands there and which other form it looks like
 pub record TellsFault (form : Form) (text : List ℕ) (number : Option ℕ) (c : Complaint) : Type 0 where
   pub error : FormError
   pub is_fault : IsFormFault form text error

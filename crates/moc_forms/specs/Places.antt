@@ -78,8 +78,7 @@ abbrev pub quote_behind : Option (List ℕ) → List ℕ
 quote_behind None = []
 quote_behind (Some quote) = codes ": " ++ quote
 
--- the line that says where a fault is: the number of the text, where texts are counted, the place in it, if there is
--- one, and what stands there, if it is quoted
+-- the line of a fault's place: the number of the text, if counted, the place, if there is one, and the quote, if any
 abbrev pub line_of_place : Option ℕ → Option Place → Option (List ℕ) → Option (List ℕ)
 line_of_place None None quote = None
 line_of_place None (Some place) quote = Some (place_text place ++ quote_behind quote ++ 10 ∷ [])

@@ -32,8 +32,7 @@ pub record IsBegunLine (number : ℕ) (given : List ℕ) : Type 0 where
   pub some : number < 18446744073709551615 → number ≤ length (lines_of given)
   pub next : number ≤ length (lines_of given) + 1
 
--- All lines of what was given are answered, and the closing text, which is not empty, was not made:
--- the number is that of the line behind the last.
+-- All lines are answered, and the closing text, which is not empty, was not made: it is the line behind the last.
 pub record IsUnclosed (number : ℕ) (given closing : List ℕ) : Type 0 where
   pub next : number ≡ length (lines_of given) + 1
   pub some : closing ≢ []

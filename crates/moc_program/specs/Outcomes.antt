@@ -49,8 +49,7 @@ BlamesFailed input output (Lines error) = (error ≡ run.Read → IsTrue input) 
 BlamesFailed input output Write = IsTrue output
 BlamesFailed input output _ = Unit {0}
 
--- Words end with a fault: memory was refused before anything was written, or help is asked for and was not written, or
--- what is asked for ends so.
+-- Memory was refused before any output, or help that is asked for was not written, or what is asked for ends so.
 abbrev pub EndWith :
     List Text → Option (List ℕ) → Option (List ℕ) → Option (List ℕ) → Option (List ℕ) → Fault → Type 0
 EndWith words left left' w w' fault =

@@ -74,8 +74,7 @@ touching_cells k i = filter (is_touching k i) (range_with_len 0 (cell_count k))
 unfoldable pub corners_shared : ℕ → ℕ → ℕ → List Bool
 corners_shared k i j = map (λ p. list_any (is_same_point p) (corner_points k j)) (corner_points k i)
 
--- Which of its corners, south, east, west and north, a cell shares with its neighbour in a direction: the two of a
--- side, or the one that lies there.
+-- The corners that a cell shares with its neighbour in a direction: the two of a side, or the one that lies there.
 abbrev pub corners_of : Direction → List Bool
 corners_of SouthWest = true ∷ false ∷ true ∷ false ∷ []
 corners_of West = false ∷ false ∷ true ∷ false ∷ []
