@@ -35,8 +35,7 @@ Said = NumberSet × Option ℕ × Form
 abbrev pub TextSays : Choice → List ℕ → Said → Type 0
 TextSays choice text said = FormSays said.2 text said.0 said.1 × (said.2 ≡ form_for choice text)
 
--- what is said after one more text: just what it says, if it is the first, and else the operation of the sets with the
--- deeper of the orders, in the form of the first
+-- after one more text: what it says, if it is the first; else the sets' operation, the deeper order, the first form
 abbrev pub joined : Operation → Option Said → Said → Said
 joined operation None said = said
 joined operation (Some before) said = (combined operation before.0 said.0, deeper before.1 said.1, before.2)
