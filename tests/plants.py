@@ -4,7 +4,6 @@ prover, or by a test. Most are not seen by any clause, so that a test has to see
 
   prove    the planted crate is not proved any more
   test     a test of the named crate fails, run without proofs
-  program  the named program writes something else than what stands in its `stdout`, run without proofs
   script   the named script of this folder fails on the program as it is built of the planted crates
   nothing  nothing stops it today; it is shown that the planted crate is proved
 
@@ -66,7 +65,7 @@ PLANTS = [
     Plant("query_gives_its_parts_back_as_it_takes_them", "moc_shared", "src/held/footprint.rt",
           "                Ok(pointer) => put_at(&mut found, b, pointer),",
           "                Ok(pointer) => { let Ok(copy) = std::sync::Arc::try_clone(&pointer) else { unreachable!() }; put_at(&mut found, b, copy); "
-          "if batch.is_update() { drop(pointer); } else { give_part(table, seat, b, pointer); } }", "program", "shared_rounds"),
+          "if batch.is_update() { drop(pointer); } else { give_part(table, seat, b, pointer); } }", "test", "map_tests"),
     Plant("waiter_takes_the_parts_from_the_highest_down", "moc_shared", "src/held/waiting.rt",
           "    for b in 0..12usize {\n        if footprint.contains(Part::of(b as u8)) {",
           "    for below in 0..12usize {\n        let b = 11 - below;\n        if footprint.contains(Part::of(b as u8)) {", "prove"),
@@ -127,10 +126,6 @@ def stopped(plant, room):
         status, text = told([f"tests/{plant.where}.py"], top, env={it: os.environ[it] for it in os.environ if it != "MOC"})
         return status == 1, text.splitlines()[0][:160]
     folder = os.path.join(top, "crates", plant.where)
-    if plant.stop == "program":
-        _, text = told(["rt", "try"], folder)
-        with open(os.path.join(folder, "stdout"), encoding="utf-8") as file:
-            return "run=none" not in text and file.read() not in text, text[:160]
     _, text = told(["rt", "try", "--test"], folder)
     names = re.findall(r"^test (\S+) \.\.\. FAILED", text, re.MULTILINE)
     return bool(names) and "test result:" in text, ", ".join(names) or "no test fails"

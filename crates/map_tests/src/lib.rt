@@ -4,6 +4,8 @@
 #[cfg(test)]
 mod parts;
 #[cfg(test)]
+mod rounds;
+#[cfg(test)]
 mod shared;
 #[cfg(test)]
 mod steps;

@@ -14,13 +14,13 @@ use std::sync::Wait;
 use std::thread;
 
 /// How many pixels a base pixel has: 4^29.
-const BASE: u64 = 288230376151711744;
+pub const BASE: u64 = 288230376151711744;
 
 /// How many pixels a cell of order 5 has: 4^24.
-const CELL: u64 = 281474976710656;
+pub const CELL: u64 = 281474976710656;
 
 /// The set of these ranges.
-fn set(rt: &impl Abort, alloc: Global, pairs: &[(u64, u64)]) -> Coverage {
+pub fn set(rt: &impl Abort, alloc: Global, pairs: &[(u64, u64)]) -> Coverage {
     Coverage::from_ranges(alloc, pairs).expect(rt, "ranges")
 }
 
@@ -32,7 +32,7 @@ fn base(rt: &impl Abort, alloc: Global, from: u64, to: u64) -> Operand
 }
 
 /// The batch of one command.
-fn one(rt: &impl Abort, alloc: Global, command: Command) -> Batch {
+pub fn one(rt: &impl Abort, alloc: Global, command: Command) -> Batch {
     Batch::one(alloc, command).expect(rt, "a batch")
 }
 
@@ -97,7 +97,7 @@ fn ends_as(rt: &impl Abort, alloc: Global, map: SharedMap, client: Client, pairs
 }
 
 /// How many pixels changed.
-fn changed(done: Result<Replies, TryError>) -> Option<u64> {
+pub fn changed(done: Result<Replies, TryError>) -> Option<u64> {
     match done.ok()?.first() {
         Some(Reply::Changed(pixels)) => Some(*pixels),
         _ => None,
@@ -427,7 +427,7 @@ fn add_cells(alloc: Global, map: &SharedMap, client: Client) -> (Client, u64)
 }
 
 /// The first client, which has taken the others in, and how often all succeeded.
-fn gather(map: &SharedMap, ended: Vec<(Client, u64)>) -> Option<(Client, u64)>
+pub fn gather(map: &SharedMap, ended: Vec<(Client, u64)>) -> Option<(Client, u64)>
     requires { All (λ e. IsClientOf map.now e.0) ended.items }
     ensures { IfSome result (λ r. IsClientOf map.now r.0) }
 {

@@ -1,5 +1,5 @@
 use Rattle.moc_shared.specs.Clients.{IsClientOf}
-use Rattle.shared_rounds.proofs.make_rounds.Given as goal
+use Rattle.map_tests.proofs.rounds.make_rounds.Given as goal
 
 abbrev pub invariant-loop : goal.invariant-loop
 invariant-loop l = IsClientOf l.map l.client

@@ -1,6 +1,6 @@
 use Rattle.std.proofs.Common.{All, IfSome}
 use Rattle.moc_shared.specs.Clients.{IsClientOf}
-use Rattle.shared_rounds.proofs.common.pairs_of.Given as goal
+use Rattle.map_tests.proofs.rounds.common.pairs_of.Given as goal
 
 -- the clients so far are of the map
 abbrev pub invariant-loop-client : goal.invariant-loop-client

@@ -1,5 +1,5 @@
 use Rattle.moc_shared.specs.Clients.{IsClientOf}
-use Rattle.shared_rounds.proofs.common.take_turns.Given as goal
+use Rattle.map_tests.proofs.rounds.common.take_turns.Given as goal
 
 -- both clients are of the map
 abbrev pub invariant-loop-turn : goal.invariant-loop-turn

@@ -14,22 +14,25 @@
 ghost use Rattle.std.specs.Prelude.{◌<◌, All, IfOk, IfErr, IfSome};
 ghost use Rattle.moc_shared.specs.Clients.{IsClientOf, IsHoldingOf};
 
-use crate::{CELL, CELLS, gather, have_started};
-use anyhow::{Result, bail};
+use crate::rounds::await_start;
+use crate::shared::{BASE, CELL, gather, one, set};
 use moc_parts::{Batch, Command, Operand, Replies};
 use moc_ranges::Coverage;
-use moc_shared::{Client, Holding, LookError, SharedMap, SnapshotError, TryError};
+use moc_shared::{Client, Holding, SharedMap, SnapshotError, TryError};
 use std::alloc::Global;
-use std::marker::Sync;
+use std::process::Abort;
 use std::sync::Wait;
 use std::sync::atomic::AtomicU64;
-use std::thread::{self, Threads};
+use std::thread;
 
 /// How many threads there are.
-pub(crate) const THREADS: u8 = 8;
+const THREADS: u8 = 8;
 
 /// How many turns each makes.
-pub(crate) const TURNS: u64 = 10_000;
+const TURNS: u64 = 10_000;
+
+/// How many cells of order 5 a base pixel has.
+const CELLS: u64 = 1024;
 
 /// After how many turns the two clients of a thread meet.
 const MEETING: u64 = 16;
@@ -91,31 +94,41 @@ fn way_of(turn: u64, is_update: bool) -> Way {
 }
 
 /// The cell of order 5 at this place, in each part from one up to another.
-fn cells(alloc: Global, from: u64, to: u64, place: u64) -> Option<Operand> {
-    let mut set = Coverage::empty(alloc);
+fn cells(rt: &impl Abort, alloc: Global, from: u64, to: u64, place: u64) -> Operand {
+    let mut all = Coverage::empty(alloc);
     for part in from..to {
-        let begin = ((part % 12) * CELLS + place % CELLS) * CELL;
-        let cell = Coverage::from_ranges(alloc, &[(begin, begin + CELL)]).ok()?;
-        set = set.union(alloc, &cell).ok()?;
+        let begin = (part % 12) * BASE + (place % CELLS) * CELL;
+        let cell = set(rt, alloc, &[(begin, begin + CELL)]);
+        all = all.union(alloc, &cell).expect(rt, "a union");
     }
-    Some(Operand { set, coarse: None })
+    Operand::from(all)
+}
+
+/// The cell of this place in each part of a wide batch.
+fn wide(rt: &impl Abort, alloc: Global, place: u64) -> Operand {
+    cells(rt, alloc, 1, 1 + WIDE, place)
 }
 
 /// The batch that moves a token from a part to another, and looks where it was.
-fn move_token(alloc: Global, from: u64, to: u64, place: u64) -> Option<Batch>
+fn move_token(rt: &impl Abort, alloc: Global, from: u64, to: u64, place: u64) -> Batch
     requires { (from < 12) × (to < 12) }
 {
-    let mut commands = Vec::new(alloc);
-    commands
-        .push(Command::Remove(cells(alloc, from, from + 1, place)?))
-        .ok()?;
-    commands
-        .push(Command::Add(cells(alloc, to, to + 1, place)?))
-        .ok()?;
-    commands
-        .push(Command::Count(cells(alloc, from, from + 1, place)?))
-        .ok()?;
-    Batch::new(commands).ok()
+    let remove = Command::Remove(cells(rt, alloc, from, from + 1, place));
+    let add = Command::Add(cells(rt, alloc, to, to + 1, place));
+    let count = Command::Count(cells(rt, alloc, from, from + 1, place));
+    let commands = vec![in alloc; remove, add, count].expect(rt, "memory");
+    Batch::new(commands).expect(rt, "a batch")
+}
+
+/// The batches by which a token goes through all parts, in turn.
+fn moves(rt: &impl Abort, alloc: Global, place: u64) -> Vec<Batch> {
+    let mut batches = Vec::new(alloc);
+    for turn in 0..12u64 {
+        let (from, to) = (5 * turn % 12, 5 * (turn + 1) % 12);
+        let batch = move_token(rt, alloc, from, to, place);
+        batches.push(batch).expect(rt, "memory");
+    }
+    batches
 }
 
 /// Where the token of this thread, or of the one that it looks after, lies.
@@ -124,42 +137,25 @@ fn token_place(number: u8) -> u64 {
 }
 
 /// The batches that a thread does in turn.
-fn batches_of(alloc: Global, number: u8) -> Option<Vec<Batch>> {
+fn batches_of(rt: &impl Abort, alloc: Global, number: u8) -> Vec<Batch> {
     let place = u64::from(number % 2);
-    let mut batches = Vec::new(alloc);
     match task_of(number) {
         Task::Toggle => {
-            let wide = cells(alloc, 1, 1 + WIDE, place)?;
-            batches
-                .push(Batch::one(alloc, Command::Add(wide)).ok()?)
-                .ok()?;
-            let wide = cells(alloc, 1, 1 + WIDE, place)?;
-            batches
-                .push(Batch::one(alloc, Command::Remove(wide)).ok()?)
-                .ok()?;
+            let add = one(rt, alloc, Command::Add(wide(rt, alloc, place)));
+            let remove = one(rt, alloc, Command::Remove(wide(rt, alloc, place)));
+            vec![in alloc; add, remove].expect(rt, "memory")
         }
         Task::Count => {
-            let wide = cells(alloc, 1, 1 + WIDE, place)?;
-            batches
-                .push(Batch::one(alloc, Command::Count(wide)).ok()?)
-                .ok()?;
+            let count = one(rt, alloc, Command::Count(wide(rt, alloc, place)));
+            vec![in alloc; count].expect(rt, "memory")
         }
-        Task::Move => {
-            for turn in 0..12u64 {
-                let (from, to) = (5 * turn % 12, 5 * (turn + 1) % 12);
-                batches
-                    .push(move_token(alloc, from, to, token_place(number))?)
-                    .ok()?;
-            }
-        }
+        Task::Move => moves(rt, alloc, token_place(number)),
         Task::Seek => {
-            let all = cells(alloc, 0, 12, token_place(number))?;
-            batches
-                .push(Batch::one(alloc, Command::Count(all)).ok()?)
-                .ok()?;
+            let all = cells(rt, alloc, 0, 12, token_place(number));
+            let count = one(rt, alloc, Command::Count(all));
+            vec![in alloc; count].expect(rt, "memory")
         }
     }
-    Some(batches)
 }
 
 /// How many pixels the reply to a command of the batch tells of.
@@ -346,7 +342,7 @@ fn take_turns<R: Wait>(
 }
 
 /// A thread's work, once all threads have started. One client comes back, which has taken in the other.
-fn work<R: Wait>(
+fn work<R: Abort + Wait>(
     rt: &R,
     alloc: Global,
     map: &SharedMap,
@@ -357,12 +353,9 @@ fn work<R: Wait>(
     ensures { IsClientOf map.now result.0 }
 {
     let number = pair.0.number() / 2;
-    let batches = batches_of(alloc, number).unwrap_or(Vec::new(alloc));
-    let (pair, good) = if have_started(started, THREADS) {
-        take_turns(rt, alloc, map, pair, &batches, task_of(number))
-    } else {
-        (pair, 0)
-    };
+    let batches = batches_of(rt, alloc, number);
+    await_start(rt, started, THREADS);
+    let (pair, good) = take_turns(rt, alloc, map, pair, &batches, task_of(number));
     let (mut first, second) = pair;
     map.take_in(&mut first, second);
     (first, good)
@@ -389,35 +382,30 @@ fn pairs_of(alloc: Global, map: &SharedMap, clients: Vec<Client>) -> Option<Vec<
 }
 
 /// The two tokens, where they lie at the start.
-fn tokens(alloc: Global) -> Option<Coverage> {
-    let (first, second) = (
-        cells(alloc, 0, 1, token_place(0))?,
-        cells(alloc, 0, 1, token_place(1))?,
-    );
-    first.set.union(alloc, &second.set).ok()
+fn tokens(rt: &impl Abort, alloc: Global) -> Coverage {
+    let first = cells(rt, alloc, 0, 1, token_place(0));
+    let second = cells(rt, alloc, 0, 1, token_place(1));
+    first.set.union(alloc, &second.set).expect(rt, "a union")
 }
 
-/// Runs the threads: how many of their turns were answered right, and how many cells are left.
-pub(crate) fn run<R: Threads + Wait + Sync>(rt: &R, alloc: Global) -> Result<(u64, u64)> {
-    let Some(start) = tokens(alloc) else {
-        bail!("no memory")
-    };
-    let (map, clients) = SharedMap::new(alloc, start, 2 * THREADS)?;
-    let Some(pairs) = pairs_of(alloc, &map, clients) else {
-        bail!("no memory")
-    };
+#[test]
+fn eight_threads_on_common_parts_are_answered_as_by_one_set(rt: HostRuntime) {
+    let alloc = rt.alloc();
+    let start = tokens(&rt, alloc);
+    let (map, clients) = SharedMap::new(alloc, start, 2 * THREADS).expect(&rt, "a map");
+    let pairs = pairs_of(alloc, &map, clients).expect(&rt, "pairs");
     let started = AtomicU64::new(0);
-    let (shared, count) = (&map, &started);
+    let (host, shared, count) = (&rt, &map, &started);
     let ended = thread::map_vec(
-        rt,
+        host,
         pairs,
         &|pair: Pair| -> (Client, u64)
             requires { IsClientOf shared.now pair.0 × IsClientOf shared.now pair.1 }
             ensures { IsClientOf shared.entry.now result.0 }
-        { work(rt, alloc, shared, count, pair) },
-    )?;
-    let Some((first, right)) = gather(&map, ended) else {
-        bail!("no client")
-    };
-    Ok((right, map.close(first)?.count() / CELL))
+        { work(host, alloc, shared, count, pair) },
+    )
+    .expect(&rt, "threads");
+    let (first, right) = gather(&map, ended).expect(&rt, "a client");
+    assert_eq!(rt; right, TURNS * u64::from(THREADS));
+    assert_eq!(rt; map.close(first).expect(&rt, "the set").count(), 2 * CELL);
 }

@@ -1,6 +1,0 @@
-use Rattle.std.proofs.Common.{IfSome}
-use Rattle.moc_shared.specs.Clients.{IsClientOf}
-use Rattle.shared_rounds.proofs.gather.Given as goal
-
-abbrev pub invariant-loop-client : goal.invariant-loop-client
-invariant-loop-client l = IfSome l.all (λ r. IsClientOf l.map r.0)
