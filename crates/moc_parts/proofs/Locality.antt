@@ -2,6 +2,7 @@
 use Rattle.std.proofs.Common.{◌≡◌, ℕ, ◌/◌, ◌<◌, ◌≤◌, Bool, true, false, cond, not, ◌&&◌, ◌||◌, inl, inr, Option, None, Some, IfSome, nat_lt, refl, sym, ap, subst, ◌∙◌, arith, lt-ltb}
 use Rattle.std.specs.FinSet as set
 use Rattle.std.proofs.lemmas.Bool.{cases_Bool}
+use Rattle.std.specs.Option.{option_map_or}
 use Rattle.moc_sphere.specs.CellNumber.{CellNumber, IsCell}
 use Rattle.moc_ranges.specs.Numbers.{NumberSet}
 use Rattle.moc_ranges.specs.Lemmas.Members.{same_members, contains-pixels, contains-complement}
@@ -13,7 +14,7 @@ use Rattle.moc_parts.specs.declared.command.Operand.{Operand}
 use Rattle.moc_parts.specs.declared.command.Command.{Command}
 use Rattle.moc_parts.specs.declared.command.Command.TheVariants.{Add, Remove, Keep, Claim, Invert, Degrade, Count, Read, Near}
 use Rattle.moc_parts.specs.declared.reply.Reply.TheVariants as reply
-use Rattle.moc_parts.specs.Commands.{commands, degraded, operand_set, parts_met, surroundings, parts_around, IsCommand, IsOperand}
+use Rattle.moc_parts.specs.Commands.{commands, operand_set, parts_met, surroundings, parts_around, IsCommand, IsOperand}
 use Rattle.moc_parts.proofs.Members.{has-union, has-empty, has-intersection, has-difference, clash, and_true, or_true, not_true_false, same_test, some_member, is_some, in_part, of_part}
 use Rattle.moc_parts.proofs.Around.{around_surroundings, some_around}
 use Rattle.moc_parts.proofs.Coarse.{of_degrade, one_part, part-degrade}
@@ -111,14 +112,14 @@ met_by_coarse x k p h = go x.coarse k.1 h
     met_at q in_q b e = parts_met_some x.set b (λ none. clash _ (is_some x.set q in_q) (ap (λ (s : NumberSet). nat_lt 0 (set.len s)) none ∙ ap (λ n. nat_lt 0 n) (set.len-empty _)))
         ∙ is_some (part_of x.set b) q (in_part x.set b q in_q e)
 
-    go : (coarse : Option ℕ) → IfSome coarse (λ order. order ≤ 29) → set.contains (degraded x.set coarse) p ≡ true → parts_met x.set (p / base_pixel_size) ≡ true
+    go : (coarse : Option ℕ) → IfSome coarse (λ order. order ≤ 29) → set.contains (option_map_or (degrade x.set) coarse x.set) p ≡ true → parts_met x.set (p / base_pixel_size) ≡ true
     go None l h = met_at p h (p / base_pixel_size) refl
     go (Some order) l h = let m = of_degrade x.set order p h in met_at m.0 m.1 (p / base_pixel_size) (one_part order p m.0 l m.2)
 
 pub coarse_within : (x : Operand) → IsWithin x.set pixels → IsWithin (operand_set x) pixels
 coarse_within x w = go x.coarse
   where
-    go : (coarse : Option ℕ) → IsWithin (degraded x.set coarse) pixels
+    go : (coarse : Option ℕ) → IsWithin (option_map_or (degrade x.set) coarse x.set) pixels
     go None = w
     go (Some order) = record { each = λ q h. contains-pixels q ∙ (of_degrade x.set order q h).3 }
 
@@ -158,7 +159,7 @@ met_degraded x k b = go x.coarse k.1
     filled : (a : NumberSet) → nat_lt 0 (set.len a) ≡ true → a ≡ set.empty → ⊥
     filled a t e = clash _ t (ap (λ (s : NumberSet). nat_lt 0 (set.len s)) e ∙ ap (λ n. nat_lt 0 n) (set.len-empty _))
 
-    go : (coarse : Option ℕ) → IfSome coarse (λ order. order ≤ 29) → parts_met (degraded x.set coarse) b ≡ parts_met x.set b
+    go : (coarse : Option ℕ) → IfSome coarse (λ order. order ≤ 29) → parts_met (option_map_or (degrade x.set) coarse x.set) b ≡ parts_met x.set b
     go None l = refl
     go (Some order) l = elim (cases_Bool (nat_lt 0 (set.len x.set))) [
       | inl t ↦

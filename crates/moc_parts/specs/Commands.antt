@@ -3,6 +3,7 @@ use Rattle.std.specs.Prelude.{ℕ, ◌≤◌, Bool, true, false, nat_lt, nat_eq,
 use Rattle.std.specs.Prelude.{if◌then◌else◌}
 use Rattle.std.specs.List.{list_any}
 use Rattle.std.specs.FinSet as set
+use Rattle.std.specs.Option.{option_map_or}
 use Rattle.moc_sphere.specs.CellNumber.{CellNumber, cell_number, IsCell}
 use Rattle.moc_sphere.specs.Faces.{face_of}
 use Rattle.moc_sphere.specs.Touching.{touching_cells}
@@ -18,14 +19,9 @@ use Rattle.moc_parts.specs.declared.command.Command.TheVariants.{Near}
 use Rattle.moc_parts.specs.declared.reply.Reply.{Reply}
 use Rattle.moc_parts.specs.declared.reply.Reply.TheVariants as reply
 
--- a set, degraded where an order is given
-abbrev pub degraded : NumberSet → Option ℕ → NumberSet
-degraded a None = a
-degraded a (Some order) = degrade a order
-
 -- the set that a command works with: the operand's, degraded where an order is given
 abbrev pub operand_set : Operand → NumberSet
-operand_set x = degraded x.set x.coarse
+operand_set x = option_map_or (degrade x.set) x.coarse x.set
 
 -- the indices of a cell and of the cells that touch it
 abbrev pub cells_around : CellNumber → List ℕ

@@ -1,6 +1,7 @@
 -- Lemmas on pixels and their cells, for the proofs of callers.
 pub mod Cells
 pub mod Members
+pub mod Pixels
 pub mod Ranges
 pub mod Sets
 pub mod Sizes

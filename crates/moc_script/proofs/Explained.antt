@@ -22,7 +22,9 @@ use Rattle.moc_text.specs.declared.ascii.error.TextError.{TextError}
 use Rattle.moc_text.specs.Reading.{reading_of}
 use Rattle.moc_steps.specs.Locks.{Locks, ArePermitted, AreLocal, locks_after, refusal}
 use Rattle.moc_steps.specs.Locks.Step.{Begin, Take, Edit, Give, Quit, End}
-use Rattle.moc_steps.specs.Operations.{Operation, just_begun, mark, noted, operations_from, midway}
+use Rattle.std.specs.Prelude.{fold}
+use Rattle.std.specs.Option.{option_map_or}
+use Rattle.moc_steps.specs.Operations.{Operation, just_begun, mark, noted, midway}
 use Rattle.moc_steps.specs.World.{World, run, world_after, whole}
 use Rattle.moc_steps.specs.Explains.{Explains, set_by_order}
 use Rattle.moc_steps.specs.Laws.{ArePlayed, HasOneOrder, StepsHaveOneOrder}
@@ -34,7 +36,7 @@ use Rattle.moc_text.specs.Lines.{is_semicolon, pieces_of}
 use Rattle.moc_lines.specs.Batches.{piece_says, commands_of, batch_of}
 use Rattle.moc_script.specs.Steps.{BatchStep, as_in_script, client_by, only_client, only_client_and_part, step_by, step_at, other_step, begin_by, begin_of, said_step}
 use Rattle.moc_lines.specs.Answers.{after_lines}
-use Rattle.moc_script.specs.Schedules.{Schedule, start_schedule, next_line, begins_after, after_step, after_said, schedule_rules, unless_refused, step_taken, steps_taken}
+use Rattle.moc_script.specs.Schedules.{Schedule, start_schedule, next_line, begins_after, after_step, after_said, schedule_rules, step_taken, steps_taken}
 use Rattle.moc_script.proofs.Single.{first_then}
 use Rattle.moc_script.specs.Laws.{SchedulesHaveOneOrder}
 use Rattle.moc_lines.specs.declared.fault.Fault.{Fault}
@@ -240,14 +242,14 @@ record TakesOn (s : Schedule) (steps : List BatchStep) (s' : Schedule) : Type 0 
   pub local : AreLocal batches steps
   pub permitted : ArePermitted batches s.world.locks steps
   pub leads : run batches s.world steps ≡ s'.world
-  pub begun : (xs : List (Operation (List Command))) → length s.begins ≡ length xs → length s'.begins ≡ length (operations_from xs steps)
+  pub begun : (xs : List (Operation (List Command))) → length s.begins ≡ length xs → length s'.begins ≡ length (fold noted xs steps)
 
 -- a line that was read and took no step
 passed : (s : Schedule) (rest : List BatchStep) (s' : Schedule) → TakesOn (next_line s) rest s' → TakesOn s rest s'
 passed s rest s' h = record { local = h.local; permitted = h.permitted; leads = h.leads; begun = h.begun }
 
 by_refusal : (s : Schedule) (step : BatchStep) (o : Option StepError) → refusal batches s.world.locks step ≡ o → AreLocal batches (step ∷ [])
-    → (rest : List BatchStep) (s' : Schedule) → TakesOn (after_step o (next_line s) step) rest s' → TakesOn s (unless_refused o step ++ rest) s'
+    → (rest : List BatchStep) (s' : Schedule) → TakesOn (after_step o (next_line s) step) rest s' → TakesOn s (option_map_or (λ why. []) o (step ∷ []) ++ rest) s'
 by_refusal s step (Some why) is alone rest s' h = passed s rest s' h
 by_refusal s step None is alone rest s' h = record {
   local = local_on step rest alone h.local;

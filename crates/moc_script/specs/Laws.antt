@@ -46,11 +46,9 @@ is_at_sign b = b == 64
 
 -- the language without orders: an operand is a coverage alone
 abbrev pub plain_rules : Rules NumberSet
-plain_rules = record {
-  answer = line_answer (command_by plain_operand_of);
-  after = after_line (command_by plain_operand_of);
-  closing = λ _. [];
-}
+plain_rules =
+    let says = command_by plain_operand_of in
+    record { answer = line_answer says; after = after_line says; closing = λ _. [] }
 
 -- A line without `@` is answered as in the language without orders, and leaves the same.
 abbrev pub LinesWithoutOrder : Type 0

@@ -2,6 +2,7 @@
 use Rattle.std.specs.Prelude.{ℕ, suc, ◌==◌, List, [], ◌∷◌, ◌++◌, codes, decimal, get_or, Option, None, Some, Result, Ok}
 use Rattle.std.specs.Prelude.{Err, if◌then◌else◌}
 use Rattle.std.specs.List.{flat_map}
+use Rattle.std.specs.Option.{option_map_or}
 use Rattle.std.specs.FinSet as set
 use Rattle.std.specs.FinMap as map
 use Rattle.moc_parts.specs.Batches.{batches}
@@ -34,8 +35,7 @@ start_schedule = record { world = start_world batches set.empty; lines = 0; begi
 
 -- what is said of a permitted step: the replies of an End that did not quit
 abbrev pub done_text : Option (List Reply) → List ℕ
-done_text None = codes "ok"
-done_text (Some replies) = replies_text replies
+done_text replies = option_map_or replies_text replies (codes "ok")
 
 -- what is said of a step, by its refusal
 abbrev pub step_text : Option StepError → Option (List Reply) → List ℕ
@@ -70,14 +70,9 @@ abbrev pub after_said : Schedule → Result BatchStep StepFault → Schedule
 after_said s (Ok step) = after_step (refusal batches s.world.locks step) s step
 after_said s (Err fault) = s
 
--- the step, unless it is refused
-abbrev pub unless_refused : Option StepError → BatchStep → List BatchStep
-unless_refused (Some why) step = []
-unless_refused None step = step ∷ []
-
 -- the step that is taken by what a line says: none at a fault, and where it is refused
 abbrev pub step_taken : Schedule → Result BatchStep StepFault → List BatchStep
-step_taken s (Ok step) = unless_refused (refusal batches s.world.locks step) step
+step_taken s (Ok step) = option_map_or (λ why. []) (refusal batches s.world.locks step) (step ∷ [])
 step_taken s (Err fault) = []
 
 -- for each entry of the order a space and the line that began its operation

@@ -2,7 +2,8 @@
 use Rattle.std.proofs.Common.{◌≡◌, ◌≢◌, ℕ, zero, suc, ◌+◌, ◌-◌, ◌*◌, ◌/◌, ◌%◌, ◌^◌, ◌<◌, ◌≤◌, ◌↔◌, List, [], ◌∷◌, get_or, Contains, inl, refl, sym, ap, ◌∙◌, arith}
 use Rattle.std.specs.List.Sorted.{IsStrictlyIncreasing}
 use Rattle.moc_sphere.specs.CellNumber.{cell_count}
-use Rattle.moc_sphere.specs.Faces.{face_of, x_of, y_of, spread_of}
+use Rattle.moc_sphere.specs.Faces.{face_of, x_of, y_of}
+use Rattle.moc_sphere.specs.Private.Spread.{spread_of}
 use Rattle.moc_sphere.specs.Private.Sums.{sum_at}
 use Rattle.moc_sphere.specs.Touching.{Touches}
 use Rattle.moc_sphere.proofs.CellFacts.{index_code, index_fits}

@@ -1,7 +1,8 @@
 -- Spread coordinates that are off the border of a base pixel.
 use Rattle.std.proofs.Common.{◌≡◌, ℕ, zero, suc, ◌+◌, ◌-◌, ◌*◌, ◌/◌, ◌%◌, ◌^◌, ◌<◌, ◌≤◌, inl, inr, refl, sym, ap, ◌∙◌, arith}
 use Rattle.std.proofs.lemmas.Bool.{cases_lt}
-use Rattle.moc_sphere.specs.Faces.{x_of, y_of, spread_of}
+use Rattle.moc_sphere.specs.Faces.{x_of, y_of}
+use Rattle.moc_sphere.specs.Private.Spread.{spread_of}
 use Rattle.moc_sphere.proofs.CellFacts.{spread_of-zero, x_of-more}
 use Rattle.moc_sphere.proofs.Places.{pow_suc, x_of-lt, y_of-lt}
 use Rattle.moc_sphere.proofs.Powers.{shl_four}

@@ -2,7 +2,8 @@
 use Rattle.std.proofs.Common.{◌≡◌, ℕ, zero, suc, ◌+◌, ◌-◌, ◌*◌, ◌/◌, ◌%◌, ◌^◌, ◌<◌, inl, inr, refl, ap, sym, ◌∙◌, arith}
 use Rattle.std.specs.Prelude.{bit_and}
 use Rattle.std.proofs.lemmas.Bool.{cases_lt}
-use Rattle.moc_sphere.specs.Faces.{x_of, spread_of}
+use Rattle.moc_sphere.specs.Faces.{x_of}
+use Rattle.moc_sphere.specs.Private.Spread.{spread_of}
 use Rattle.moc_sphere.proofs.BitBlocks.{spaced_ones, spaced_even, comb_1, and_below}
 use Rattle.moc_sphere.proofs.CellFacts.{spread_of-zero}
 use Rattle.moc_sphere.proofs.Places.{pow_suc, x_of-spread}

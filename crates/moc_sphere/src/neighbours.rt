@@ -1,7 +1,8 @@
 //! The cells that touch a cell: HEALPix's neighbours.
 ghost use Rattle.smallvec.specs.SmallVec.{small_vec_len};
 ghost use Rattle.moc_sphere.specs.CellNumber.{cell_number, IsCell};
-ghost use Rattle.moc_sphere.specs.Faces.{IsAt, spread_of, x_of, y_of};
+ghost use Rattle.moc_sphere.specs.Faces.{IsAt, x_of, y_of};
+ghost use Rattle.moc_sphere.specs.Private.Spread.{spread_of};
 ghost use Rattle.moc_sphere.specs.Touching.{IsNeighbour, Touches, healpy_place, touching_cells};
 ghost use Rattle.moc_sphere.specs.Private.Sides.{IsAtStep};
 ghost use Rattle.moc_sphere.specs.declared.direction.Direction.{Direction};

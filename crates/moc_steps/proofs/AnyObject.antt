@@ -1,11 +1,12 @@
 -- The laws of any object.
 use Rattle.std.proofs.Common.{◌≡◌, ℕ, List, [], ◌∷◌, ◌++◌, count_by, None, Some, refl, sym, ap, subst, ◌∙◌}
+use Rattle.std.specs.Prelude.{fold}
 use Rattle.moc_ranges.specs.Numbers.{NumberSet}
 use Rattle.moc_ranges.specs.Pixels.{pixels}
 use Rattle.moc_ranges.specs.Operations.{IsWithin}
 use Rattle.moc_parts.specs.Objects.{Object}
 use Rattle.moc_steps.specs.Locks.{Step, Running, AreLocal, ArePermitted, refusal}
-use Rattle.moc_steps.specs.Operations.{operations, operations_from, is_midway}
+use Rattle.moc_steps.specs.Operations.{operations, is_midway, noted}
 use Rattle.moc_steps.specs.World.{World, start_world, run, running, world_after}
 use Rattle.moc_steps.specs.Progress.{AreProgress}
 use Rattle.moc_steps.specs.Explains.{names, times}
@@ -55,7 +56,7 @@ module _ {Op Reply : Type 0} (o : Object Op Reply) where
       let all_local = local_on steps more h.local (progress_all_local o more progress) in
       let f = run_keeps o start more (operations steps) w e.0 e.1 k (progress_all_local o more progress) in
       let closed = run_closes o start (steps ++ more) [] (start_world o start) start (begins_explained o start covers) (λ n x g. absurd (cc (g))) all all_local in
-      let ops_are : operations (steps ++ more) ≡ operations_from (operations steps) more = operations_append o [] steps more in
+      let ops_are : operations (steps ++ more) ≡ fold noted (operations steps) more = operations_append o [] steps more in
       let world_is : led_to o start (steps ++ more) ≡ run o w more = run_append o (start_world o start) steps more in
       let grows = run_grows o w more in
       record {

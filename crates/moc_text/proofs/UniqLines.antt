@@ -21,7 +21,7 @@ use Rattle.moc_ranges.specs.Lemmas.{spans-one, pixels_of-append, cells_fill, uni
 use Rattle.moc_text.specs.Ascii.{IsNumber}
 use Rattle.moc_text.specs.Private.Scan.{front_digits, past_digits, held_after, starts_with_digit}
 use Rattle.moc_text.specs.Lines.{lines_of}
-use Rattle.moc_text.specs.UniqList.{number_fault, line_fault, fault_from, uniq_fault, numbers_on, SaysUniq, number_lines, uniq_text}
+use Rattle.moc_text.specs.UniqList.{line_fault, fault_from, uniq_fault, numbers_on, SaysUniq, number_lines, uniq_text}
 use Rattle.moc_text.specs.Private.UniqReading.{after_line, IsPart, IsLineRead, LinesSoFar}
 use Rattle.moc_text.specs.declared.uniq.UniqError.{UniqError}
 use Rattle.moc_text.specs.declared.uniq.UniqError.TheVariants.{BadByte, NotUniq}
@@ -179,7 +179,7 @@ numbers_cons [] ls some = absurd (omega arith)
 numbers_cons (b ∷ l) ls some = refl
 
 abbrev line_test : ℕ → Bool → ℕ → Option UniqError
-line_test n digits v = cond (not digits) (Some (BadByte n)) (number_fault n v)
+line_test n digits v = cond (not digits) (Some (BadByte n)) (cond (is_uniq v) None (Some (NotUniq n)))
 
 fault_cons : (n : ℕ) (l : List ℕ) → 0 < length l → line_fault n l ≡ line_test n (all_ascii_digits l) (digits_value 10 l)
 fault_cons n [] some = absurd (omega arith)

@@ -12,16 +12,13 @@ use Rattle.moc_text.specs.Lines.{lines_of}
 use Rattle.moc_text.specs.declared.uniq.UniqError.{UniqError}
 use Rattle.moc_text.specs.declared.uniq.UniqError.TheVariants.{BadByte, NotUniq}
 
--- what is wrong with a number on a line, if anything
-abbrev pub number_fault : ℕ → ℕ → Option UniqError
-number_fault line n = if is_uniq n then None else Some (NotUniq line)
-
 -- what is wrong with the line of a number, if anything; an empty line is skipped
 abbrev pub line_fault : ℕ → List ℕ → Option UniqError
 line_fault number [] = None
 line_fault number (b ∷ line) =
     if not (all_ascii_digits (b ∷ line)) then Some (BadByte number)
-    else number_fault number (digits_value 10 (b ∷ line))
+    else if is_uniq (digits_value 10 (b ∷ line)) then None
+    else Some (NotUniq number)
 
 -- the fault of the first faulty line, where the lines are numbered from a number on
 abbrev pub fault_from : ℕ → List (List ℕ) → Option UniqError

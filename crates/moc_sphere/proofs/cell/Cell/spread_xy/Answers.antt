@@ -1,6 +1,7 @@
 use Rattle.std.proofs.Common.{◌-◌, ◌^◌, ◌/◌, ℕ, ap, ◌∙◌, arith, ◌≤◌}
 use Rattle.moc_sphere.specs.CellNumber.{CellNumber}
-use Rattle.moc_sphere.specs.Faces.{x_of, y_of, spread_of}
+use Rattle.moc_sphere.specs.Faces.{x_of, y_of}
+use Rattle.moc_sphere.specs.Private.Spread.{spread_of}
 use Rattle.moc_sphere.proofs.CellFacts.{within_is, x_code, y_code}
 use Rattle.moc_sphere.proofs.OffBorder.{last_code}
 use Rattle.moc_sphere.proofs.cell.Cell.spread_xy.Goals as goal
