@@ -31,7 +31,7 @@ from crates import PARTS, crates_of, files_of, folder_of, is_current, libraries_
 
 PROGRAM = "moc_cli"
 # More jobs seldom help one check.
-MOST_JOBS = int(os.environ.get("MOC_CHECK_JOBS") or 4)
+MOST_JOBS = max(1, int(os.environ.get("MOC_CHECK_JOBS") or 4))
 # How much of the longest chain of crates stands behind one that counts as long.
 LONG_CHAIN = 0.8
 # How far a process may give way to others.
