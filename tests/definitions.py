@@ -6,8 +6,8 @@ usage: tests/definitions.py [--index]
 A word is a definition, a record or a data type that its file marks `pub`. Outside `specs/Private` and the files of lemmas each has to be
 named by the page, beside its file, in a table or in the index at its end; and what the page names has to stand there, in `specs/Private`
 too. With `--index` it prints the index that the page should have: all words that no table names. It tells how many lines the files have
-that a reader of all these words goes through, and how many of these are no imports and not empty. The last line printed is
-`N passed, M failed`."""
+that a reader of all these words goes through, and how many of these are no imports and not empty. A line of `src` or `specs` with more than
+120 columns is a fault, too. The last line printed is `N passed, M failed`."""
 import glob
 import os
 import re
@@ -24,6 +24,8 @@ WORD = re.compile(r"^ {0,2}(?:abbrev pub|unfoldable pub|pub record|pub data) (\S
 NAMED = re.compile(r"`([^`]+)`")
 INDEX = "## Steps of these definitions"
 COLUMNS = 140
+# The most columns of a line of code or of a definition.
+MOST_COLUMNS = 120
 
 
 def words_of(path):
@@ -47,6 +49,20 @@ def files():
         crate, _, file = os.path.relpath(path, os.path.join(TOP, "crates"))[:-len(".antt")].partition("/specs/")
         if file != "Lib":
             yield f"{crate}/{file}", path
+
+
+def sources():
+    """Each file of code and of specifications, of all crates."""
+    for files in ("src/**/*.rt", "specs/**/*.antt"):
+        yield from sorted(glob.glob(os.path.join(TOP, "crates", "*", files), recursive=True))
+
+
+def long_lines():
+    """The places of the lines that are too long."""
+    for path in sources():
+        for number, line in enumerate(lines_of(path), 1):
+            if len(line.rstrip("\n")) > MOST_COLUMNS:
+                yield f"{os.path.relpath(path, TOP)}:{number}: more than {MOST_COLUMNS} columns"
 
 
 def cells_of(line):
@@ -101,6 +117,7 @@ def main():
     faults = [f"{file}: {word} is not named by the page" for file, word in public if (file, word) not in named]
     faults += [f"{file}: the page names {word}, which does not stand there" for file, word in named if word not in standing.get(file, [])]
     faults += [f"{file}: the page names {word} twice" for file, word in sorted(set(named)) if named.count((file, word)) > 1]
+    faults += long_lines()
     for fault in faults:
         print(fault)
     read = {file for file, _ in named}

@@ -1,6 +1,6 @@
 #!/usr/bin/env python3
 """Plants wrong lines in copies of the crates, one at a time, and shows that each is stopped where it is said to be: by the
-prover, or by a test. Most are not seen by any clause, so that a test has to see them.
+prover, or by a test. Half are seen by no clause, so that a test has to see them.
 
   prove    the planted crate is not proved any more
   test     a test of the named crate fails, run without proofs
@@ -48,8 +48,8 @@ PLANTS = [
           "return Err(LanesError::Spawn);", "return Err(LanesError::Memory { line: 0 });", "script", "program"),
     # devices
     Plant("piece_is_read_again_behind_an_error", "moc_conversion", "src/reading.rt",
-          "        return Err(Fault::Read);\n    };\n    text.extend",
-          "        let _ = input.read(room);\n        return Err(Fault::Read);\n    };\n    text.extend", "test", "program_tests"),
+          "        return Err(InputFault::Read);\n    };\n    text.extend",
+          "        let _ = input.read(room);\n        return Err(InputFault::Read);\n    };\n    text.extend", "test", "program_tests"),
     Plant("fault_is_never_told", "moc_program", "src/status.rt",
           "    let _ = fault.tell(faults);", "    let _ = &faults;", "prove"),
     Plant("longest_input_is_refused", "moc_conversion", "src/reading.rt",
@@ -63,12 +63,13 @@ PLANTS = [
           "coverage_tests"),
     # clients on threads
     Plant("query_gives_its_parts_back_as_it_takes_them", "moc_shared", "src/held/footprint.rt",
-          "                Ok(pointer) => put_at(&mut found, b, pointer),",
-          "                Ok(pointer) => { let Ok(copy) = std::sync::Arc::try_clone(&pointer) else { unreachable!() }; put_at(&mut found, b, copy); "
+          "            Ok(pointer) => put_at(&mut found, b, pointer),",
+          "            Ok(pointer) => { let Ok(copy) = std::sync::Arc::try_clone(&pointer) else { unreachable!() }; put_at(&mut found, b, copy); "
           "if batch.is_update() { drop(pointer); } else { give_part(table, seat, b, pointer); } }", "test", "map_tests"),
     Plant("waiter_takes_the_parts_from_the_highest_down", "moc_shared", "src/held/waiting.rt",
-          "    for b in 0..12usize {\n        if footprint.contains(Part::of(b as u8)) {",
-          "    for below in 0..12usize {\n        let b = 11 - below;\n        if footprint.contains(Part::of(b as u8)) {", "prove"),
+          "    for part in batch.footprint(alloc) {\n        let b = usize::from(part.get());",
+          "    for part in moc_parts::Part::ALL {\n        let b = 11 - usize::from(part.get());\n"
+          "        if !batch.footprint(alloc).contains(moc_parts::Part::of(b as u8)) {\n            continue;\n        }", "prove"),
 ]
 
 

@@ -1,8 +1,8 @@
 //! What is told of texts. Expected lines are worked out by hand from the texts.
 use crate::shown::is_shown;
 use moc_forms::{
-    Change, Choice, Figures, Form, FormError, NameError, Operation, Refusal, check, describe, draw,
-    draw_two, examine, hint, hint_line, is_blank, place_line, quote,
+    Change, Choice, Figures, Form, FormError, FormNameError, Operation, Refusal, check, describe,
+    draw, draw_two, examine, hint, hint_line, is_blank, place_line, quote,
 };
 use moc_ranges::Coverage;
 use moc_sphere::Order;
@@ -196,7 +196,7 @@ fn forms_that_are_found(rt: HostRuntime) {
         assert_eq!(&rt; choice.form(text.as_bytes()), form, "{text:?}");
         is_shown(&rt, rt.alloc(), &choice, word);
     }
-    assert!(&rt; Choice::from_str("fits") == Err(NameError::NotForm));
+    assert!(&rt; Choice::from_str("fits") == Err(FormNameError::NotForm));
 }
 
 #[test]
@@ -259,7 +259,7 @@ fn forms(rt: HostRuntime) {
         is(&rt, word, written.as_str(), text);
         is_shown(&rt, alloc, &form, word);
     }
-    assert!(&rt; Form::from_str("fits") == Err(NameError::NotForm));
+    assert!(&rt; Form::from_str("fits") == Err(FormNameError::NotForm));
 }
 
 #[test]

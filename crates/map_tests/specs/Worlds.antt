@@ -3,8 +3,8 @@ use Rattle.std.specs.Prelude.{◌≡◌, List}
 use Rattle.moc_ranges.specs.Numbers.{NumberSet}
 use Rattle.moc_parts.specs.Batches.{batches}
 use Rattle.moc_parts.specs.declared.command.Command.{Command}
-use Rattle.moc_steps.specs.Locks.{Step}
-use Rattle.moc_steps.specs.Explains.{Explains, set_by_order}
+use Rattle.moc_steps.specs.Machine.{Step}
+use Rattle.moc_steps.specs.Orders.{Explains, set_by_order}
 use Rattle.moc_steps.specs.Laws.{led_to}
 use Rattle.moc_steps.specs.Played.{BatchWorld}
 

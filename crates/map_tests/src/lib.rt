@@ -8,6 +8,6 @@ mod rounds;
 #[cfg(test)]
 mod shared;
 #[cfg(test)]
-mod steps;
+mod shown;
 #[cfg(test)]
-mod told;
+mod steps;

@@ -1,7 +1,7 @@
 //! Each call that takes memory once with ample memory, and the footprints of small operands.
 ghost use Rattle.std.specs.Prelude.{◌<◌};
 
-use crate::told::told;
+use crate::shown::is_shown;
 use moc_parts::{
     Batch, BatchError, Command, Map, Operand, Part, PartSet, Replies, Reply, cut, prepare,
     prepare_changes, reply_of, unite,
@@ -343,8 +343,8 @@ fn a_set_is_cut_and_put_together(rt: HostRuntime) {
 #[test]
 fn errors_are_told(rt: HostRuntime) {
     let (few, many) = (BatchError::EmptyCommand, BatchError::TooManyCommands);
-    told(&rt, rt.alloc(), &few, "a batch has a command");
-    told(&rt, rt.alloc(), &many, "a batch has at most 16 commands");
+    is_shown(&rt, rt.alloc(), &few, "a batch has a command");
+    is_shown(&rt, rt.alloc(), &many, "a batch has at most 16 commands");
 }
 
 /// Checks the ranges of a set.

@@ -1,8 +1,8 @@
 //! What clients of one map are answered.
-ghost use Rattle.std.specs.Prelude.{◌≤◌, All, IfOk, IfSome};
+ghost use Rattle.std.specs.Prelude.{◌≤◌, All, IfSome};
 ghost use Rattle.moc_shared.specs.Clients.{IsClientOf, IsHoldingOf};
 
-use crate::told::told;
+use crate::shown::is_shown;
 use moc_parts::{Batch, Command, Operand, Part, Replies, Reply};
 use moc_ranges::Coverage;
 use moc_shared::{
@@ -534,14 +534,14 @@ fn clients_wait_for_a_part(rt: HostRuntime) {
 #[test]
 fn texts_of_errors(rt: HostRuntime) {
     let alloc = rt.alloc();
-    told(&rt, alloc, &NewError::BadCount, "a map has 1 to 64 clients");
-    told(&rt, alloc, &NewError::Memory, "out of memory");
+    is_shown(&rt, alloc, &NewError::BadCount, "a map has 1 to 64 clients");
+    is_shown(&rt, alloc, &NewError::Memory, "out of memory");
     let part = Part::of(3);
     let busy = Busy { part, holder: 7 };
-    told(&rt, alloc, &busy, "client 7 holds the part");
+    is_shown(&rt, alloc, &busy, "client 7 holds the part");
     let busy = TryError::Busy(busy);
-    told(&rt, alloc, &busy, "another client holds a part");
-    told(&rt, alloc, &TryError::Memory, "out of memory");
-    told(&rt, alloc, &CloseError::Midway { part }, "a part is held");
-    told(&rt, alloc, &CloseError::Memory, "out of memory");
+    is_shown(&rt, alloc, &busy, "another client holds a part");
+    is_shown(&rt, alloc, &TryError::Memory, "out of memory");
+    is_shown(&rt, alloc, &CloseError::Midway { part }, "a part is held");
+    is_shown(&rt, alloc, &CloseError::Memory, "out of memory");
 }

@@ -2,7 +2,7 @@
 ghost use Rattle.std.specs.Prelude.{◌<◌, ◌≤◌, IfOk};
 ghost use Rattle.map_tests.specs.Worlds.{IsMadeInOrder};
 
-use crate::told::told;
+use crate::shown::is_shown;
 use moc_parts::{Batch, Command, Operand, Part, Replies};
 use moc_ranges::Coverage;
 use moc_steps::{
@@ -332,23 +332,23 @@ fn texts_of_errors(rt: HostRuntime) {
         (StepError::Memory, "out of memory"),
         (StepError::TooMany, "too many operations"),
     ] {
-        told(&rt, rt.alloc(), &error, text);
+        is_shown(&rt, rt.alloc(), &error, text);
     }
 }
 
 #[test]
 fn texts_of_refusals(rt: HostRuntime) {
     let alloc = rt.alloc();
-    told(
+    is_shown(
         &rt,
         alloc,
         &CoverError::Midway { n: 2 },
         "2 clients are midway",
     );
-    told(&rt, alloc, &CoverError::Memory, "out of memory");
+    is_shown(&rt, alloc, &CoverError::Memory, "out of memory");
     let why = StepError::AllTaken;
     let refusal = ReplayError { at: 4, why };
-    told(
+    is_shown(
         &rt,
         alloc,
         &refusal,

@@ -1,6 +1,6 @@
 //! How long works on a running map take, of so many calls a thread. A line a work has its name, how many calls changed
-//! just a cell, the least and the median time, and how many readings were answered beside the latter. Where no number is
-//! named it makes a few calls, and tells no time. `bench/README.md` has what it measured.
+//! just a cell, the least and the median time, and how many readings were answered beside the latter. Where no number
+//! is named it makes a few calls, and tells no time. `bench/README.md` has what it measured.
 ghost use Rattle.std.specs.Prelude.{All, IfSome};
 ghost use Rattle.moc_shared.specs.Clients.{IsClientOf};
 

@@ -8,7 +8,7 @@ use Rattle.moc_ranges.specs.Numbers.{NumberSet}
 use Rattle.moc_c.specs.Buffers.{cells_fault, cells_say, done_unless, first_failing, is_index, lengths_fault, numbers_fault, numbers_say, uniqs_fault}
 use Rattle.moc_c.specs.Outcomes.{all_well, outcome_of}
 use Rattle.moc_c.specs.declared.outcome.Outcome.{Outcome}
-use Rattle.moc_c.specs.declared.fault.Fault.TheVariants as fault
+use Rattle.moc_c.specs.declared.fault.CallFault.TheVariants as fault
 
 module _ (test : ℕ → Bool) where
   pub failing_none : (at : ℕ) (xs : List ℕ) → ((k : ℕ) → k < length xs → test (get_or xs k 0) ≡ true) → first_failing test at xs ≡ None

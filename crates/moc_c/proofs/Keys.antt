@@ -13,7 +13,7 @@ use Rattle.moc_c.specs.Answers.{Frees}
 use Rattle.moc_c.specs.Contents.{at_key, Contents, without_set}
 use Rattle.moc_c.specs.Private.Storing.{HasNoneFrom}
 use Rattle.moc_c.specs.Outcomes.{all_well, outcome_of}
-use Rattle.moc_c.specs.declared.fault.Fault.TheVariants.{NoSuchSet}
+use Rattle.moc_c.specs.declared.fault.CallFault.TheVariants.{NoSuchSet}
 use Rattle.moc_c.specs.declared.outcome.Outcome.{Outcome}
 
 find_is : {X : Type 0} (es : List (ℕ × X)) (q : ℕ) → find nat_cmp q es ≡ lookup (is_at (nat_cmp q)) es

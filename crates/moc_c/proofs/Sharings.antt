@@ -1,5 +1,6 @@
 -- What calls of seats promise, of what the calls below promise.
-use Rattle.std.proofs.Common.{◌≡◌, ◌++◌, ◌∷◌, [], true, false, List, ℕ, Option, None, Some, Result, Ok, Err, refl, sym, ap, ◌∙◌, subst, inl, inr, is_some}
+use Rattle.std.proofs.Common.{◌≡◌, ◌++◌, ◌∷◌, [], true, false, List, ℕ, Option, None, Some, Result, Ok, Err, refl, sym}
+use Rattle.std.proofs.Common.{ap, ◌∙◌, subst, inl, inr, is_some}
 use Rattle.std.specs.Option.{ok_or}
 use Rattle.moc_ranges.specs.Numbers.{NumberSet}
 use Rattle.moc_parts.specs.declared.command.Command.{Command}
@@ -10,33 +11,31 @@ use Rattle.moc_shared.specs.Clients.{AfterError, call_of, Ends, LacksMemory, rec
 use Rattle.moc_shared.specs.History.{entry, IsLegal}
 use Rattle.moc_shared.specs.declared.errors.TryError.{TryError}
 use Rattle.moc_shared.specs.declared.errors.TryError.TheVariants as try
-use Rattle.moc_lines.specs.Batches.{batch_of}
-use Rattle.moc_lines.specs.Language.{command_of}
+use Rattle.moc_lines.specs.Language.{batch_of, command_of}
 use Rattle.moc_c.specs.Answers.{Makes}
 use Rattle.moc_c.specs.Contents.{Contents}
 use Rattle.moc_c.specs.Membership.{Membership}
 use Rattle.moc_c.specs.Outcomes.{outcome_of}
 use Rattle.moc_c.specs.Private.Making.{try_fault, ReadsSky}
 use Rattle.moc_c.specs.Sharing.{Applies, Begins, Calls, DoesLine, Gives, IsAfter, IsTurnedAway, Joins, LaysSet}
-use Rattle.moc_c.specs.Sharing.{MemberEnds}
-use Rattle.moc_c.specs.Sharing.{seated_member, Seats, unless_taken, whole_sky, with_member}
-use Rattle.moc_c.specs.declared.fault.Fault.{Fault}
-use Rattle.moc_c.specs.declared.fault.Fault.TheVariants as fault
+use Rattle.moc_c.specs.Sharing.{MemberEnds, seated_member, Seats, unless_taken, whole_sky, with_member}
+use Rattle.moc_c.specs.declared.fault.CallFault.{CallFault}
+use Rattle.moc_c.specs.declared.fault.CallFault.TheVariants as fault
 use Rattle.moc_c.specs.declared.outcome.Outcome.{Outcome}
 use Rattle.moc_c.specs.declared.sitter.Sitter.{Sitter}
 
 -- ---- who sits down
 
-pub begin_taken : (m : Option Membership) (q : Option (List Reply)) (r : Result (NumberSet × ℕ) Fault) (o : Outcome) → is_some m ≡ true → o ≡ outcome_of fault.SeatTaken
+pub begin_taken : (m : Option Membership) (q : Option (List Reply)) (r : Result (NumberSet × ℕ) CallFault) (o : Outcome) → is_some m ≡ true → o ≡ outcome_of fault.SeatTaken
     → Begins (record { member = m; replies = q }) (record { member = m; replies = q }) (unless_taken m r) o
 begin_taken (Some x) q r o some tells = (Err fault.SeatTaken, inl refl, (refl, tells))
 begin_taken None q r o some tells = let clash : false ≡ true = some in absurd cc
 
-free_seat : {X : Type 0} (m : Option Membership) (r : Result X Fault) → is_some m ≡ false → unless_taken m r ≡ r
+free_seat : {X : Type 0} (m : Option Membership) (r : Result X CallFault) → is_some m ≡ false → unless_taken m r ≡ r
 free_seat None r none = refl
 free_seat (Some x) r none = let clash : true ≡ false = none in absurd cc
 
-pub joined : (s t last : Sitter) (m n : Membership) (given : Result Membership Fault) (o : Outcome) → s.member ≡ Some m → is_some t.member ≡ false
+pub joined : (s t last : Sitter) (m n : Membership) (given : Result Membership CallFault) (o : Outcome) → s.member ≡ Some m → is_some t.member ≡ false
     → Gives m n given → Seats t last given o → Joins s (with_member s n) t last (unless_taken t.member (seated_member s)) o
 joined s t last m n given o is none gives seats =
     subst (λ x. Joins s (with_member s n) t last x o) (sym (free_seat t.member (seated_member s) none ∙ ap (λ x. ok_or x fault.NoMap) is))

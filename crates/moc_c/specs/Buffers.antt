@@ -17,8 +17,8 @@ use Rattle.moc_ranges.specs.RangeList.{IsNormal, set_of}
 use Rattle.moc_c.specs.Answers.{Makes}
 use Rattle.moc_c.specs.Contents.{Contents}
 use Rattle.moc_c.specs.Outcomes.{all_well, memory, outcome_of, told}
-use Rattle.moc_c.specs.declared.fault.Fault.{Fault}
-use Rattle.moc_c.specs.declared.fault.Fault.TheVariants as fault
+use Rattle.moc_c.specs.declared.fault.CallFault.{CallFault}
+use Rattle.moc_c.specs.declared.fault.CallFault.TheVariants as fault
 use Rattle.moc_c.specs.declared.outcome.Outcome.{Outcome}
 use Rattle.moc_c.specs.declared.range.Range.{Range}
 use Rattle.moc_c.specs.declared.conversion.Conversion.{Conversion}
@@ -36,25 +36,25 @@ abbrev pub is_index : ℕ → ℕ → Bool
 is_index order x = nat_lt x (cell_count order)
 
 -- lengths that are not all this one
-abbrev pub lengths_fault : ℕ → List ℕ → Option Fault
+abbrev pub lengths_fault : ℕ → List ℕ → Option CallFault
 lengths_fault n lengths = if list_all (λ m. n == m) lengths then None else Some fault.LengthsDiffer
 
 -- numbers of which one is no cell of the order
-abbrev pub cells_fault : ℕ → List ℕ → Option Fault
+abbrev pub cells_fault : ℕ → List ℕ → Option CallFault
 cells_fault order xs = option_map (λ at. fault.NoSuchCell at) (first_failing (is_index order) 0 xs)
 
 -- numbers of which one is no NUNIQ number
-abbrev pub uniqs_fault : List ℕ → Option Fault
+abbrev pub uniqs_fault : List ℕ → Option CallFault
 uniqs_fault xs = option_map (λ at. fault.NotUniq at) (first_failing is_uniq 0 xs)
 
 -- what is wrong with an order, numbers of its cells, and the lengths of what goes with them
-abbrev pub numbers_fault : ℕ → List ℕ → List ℕ → Option Fault
+abbrev pub numbers_fault : ℕ → List ℕ → List ℕ → Option CallFault
 numbers_fault order xs lengths =
     if nat_le order 29 then option_or (lengths_fault (length xs) lengths) (cells_fault order xs)
     else Some (fault.NoSuchOrder order)
 
 -- the fault is told, or that all went well
-abbrev pub done_unless : Option Fault → Outcome
+abbrev pub done_unless : Option CallFault → Outcome
 done_unless None = all_well
 done_unless (Some e) = outcome_of e
 
@@ -107,25 +107,25 @@ abbrev pub pairs_from : List Range → List (ℕ × ℕ)
 pairs_from rs = map (λ r. (r.from, r.to)) rs
 
 -- the set of these pairs, or this fault of theirs
-abbrev pub pairs_say : Option RangesError → List (ℕ × ℕ) → Result NumberSet Fault
+abbrev pub pairs_say : Option RangesError → List (ℕ × ℕ) → Result NumberSet CallFault
 pairs_say None pairs = Ok (set_of pairs)
 pairs_say (Some e) pairs = Err (fault.Ranges e)
 
 -- the set of ranges, or the first fault
-abbrev pub ranges_say : List Range → Result NumberSet Fault
+abbrev pub ranges_say : List Range → Result NumberSet CallFault
 ranges_say rs = pairs_say (first_fault (pairs_from rs)) (pairs_from rs)
 
 -- the pixels of cells of an order, or this fault of theirs
-abbrev pub numbers_say : Option Fault → ℕ → List ℕ → Result NumberSet Fault
+abbrev pub numbers_say : Option CallFault → ℕ → List ℕ → Result NumberSet CallFault
 numbers_say None order xs = Ok (pixels_of (map (cell_number order) xs))
 numbers_say (Some e) order xs = Err e
 
 -- the pixels of cells of an order by their numbers, or the first fault
-abbrev pub cells_say : ℕ → List ℕ → Result NumberSet Fault
+abbrev pub cells_say : ℕ → List ℕ → Result NumberSet CallFault
 cells_say order xs = numbers_say (numbers_fault order xs []) order xs
 
 -- the pixels of the cells of NUNIQ numbers, or the first fault
-abbrev pub UniqsSay : List ℕ → Result NumberSet Fault → Type 0
+abbrev pub UniqsSay : List ℕ → Result NumberSet CallFault → Type 0
 UniqsSay uniqs (Ok a) =
     (uniqs_fault uniqs ≡ None)
     × ((cells : List CellNumber) × AllByRecursion IsCell cells × (map uniq_of cells ≡ uniqs) × (a ≡ pixels_of cells))
@@ -134,7 +134,7 @@ UniqsSay uniqs (Err e) = uniqs_fault uniqs ≡ Some e
 -- what NUNIQ numbers say is made, or no memory is left
 abbrev pub MakesOfUniqs : Contents → Contents → List ℕ → Outcome → Type 0
 MakesOfUniqs old new uniqs o =
-    ((said : Result NumberSet Fault) × UniqsSay uniqs said × Makes old new said o) ⊎ ((o ≡ memory) × (new ≡ old))
+    ((said : Result NumberSet CallFault) × UniqsSay uniqs said × Makes old new said o) ⊎ ((o ≡ memory) × (new ≡ old))
 
 -- ---- what is put into buffers
 
@@ -150,18 +150,18 @@ abbrev pub ranges_from : List (ℕ × ℕ) → List Range
 ranges_from pairs = map (λ p. record { from = p.0; to = p.1 }) pairs
 
 -- the ranges of a set fill a buffer, or the fault is told
-abbrev pub FillsRanges : Result NumberSet Fault → List Range → List Range → Outcome → Type 0
+abbrev pub FillsRanges : Result NumberSet CallFault → List Range → List Range → Outcome → Type 0
 FillsRanges (Ok a) old new o =
     (ranges : List (ℕ × ℕ)) × IsNormal ranges × (set_of ranges ≡ a) × Fills (ranges_from ranges) old new o
 FillsRanges (Err e) old new o = (new ≡ old) × (o ≡ outcome_of e)
 
 -- the NUNIQ numbers of a set's cells fill a buffer, or no memory is left, or the fault is told
-abbrev pub FillsCells : Result NumberSet Fault → List ℕ → List ℕ → Outcome → Type 0
+abbrev pub FillsCells : Result NumberSet CallFault → List ℕ → List ℕ → Outcome → Type 0
 FillsCells (Ok a) old new o = Fills (map uniq_of (cells_of a)) old new o ⊎ ((new ≡ old) × (o ≡ memory))
 FillsCells (Err e) old new o = (new ≡ old) × (o ≡ outcome_of e)
 
 -- which of some pixels a set has is told, by 1 for those that it has and 0 for the others; or the fault is
-abbrev pub TellsContained : Result NumberSet Fault → List ℕ → List ℕ → List ℕ → Outcome → Type 0
+abbrev pub TellsContained : Result NumberSet CallFault → List ℕ → List ℕ → List ℕ → Outcome → Type 0
 TellsContained (Ok a) pixels old new o =
     (o ≡ done_unless (lengths_fault (length pixels) (length old ∷ [])))
     × (o.code ≡ 0 → AreRelated (λ x y. y ≡ (if set.contains a x then 1 else 0)) pixels new)

@@ -10,10 +10,10 @@ use Rattle.moc_text.specs.declared.uniq.UniqError.{UniqError}
 use Rattle.moc_text.specs.declared.uniq.UniqError.TheVariants as uniq
 use Rattle.moc_forms.specs.declared.form.FormError.{FormError}
 use Rattle.moc_forms.specs.declared.form.FormError.TheVariants as form
-use Rattle.moc_lines.specs.declared.fault.Fault.{Fault as LineFault}
-use Rattle.moc_lines.specs.declared.fault.Fault.TheVariants as line
-use Rattle.moc_c.specs.declared.fault.Fault.{Fault}
-use Rattle.moc_c.specs.declared.fault.Fault.TheVariants as fault
+use Rattle.moc_lines.specs.declared.fault.LineFault.{LineFault}
+use Rattle.moc_lines.specs.declared.fault.LineFault.TheVariants as line
+use Rattle.moc_c.specs.declared.fault.CallFault.{CallFault}
+use Rattle.moc_c.specs.declared.fault.CallFault.TheVariants as fault
 use Rattle.moc_c.specs.declared.outcome.Outcome.{Outcome}
 
 -- a code with two numbers
@@ -95,7 +95,7 @@ abbrev pub outcome_of_line : LineFault → Outcome
 outcome_of_line f = outcome (line_code f) 0 0
 
 -- any fault
-abbrev pub outcome_of : Fault → Outcome
+abbrev pub outcome_of : CallFault → Outcome
 outcome_of fault.Memory = memory
 outcome_of (fault.NoRoom wanted) = outcome 2 wanted 0
 outcome_of (fault.NoSuchSet key) = outcome 3 key 0

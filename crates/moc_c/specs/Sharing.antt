@@ -1,6 +1,6 @@
 -- What the calls of seats promise. A seat, and a member who sits there, is written old before a call, and else new.
-use Rattle.std.specs.Prelude.{◌≡◌, ◌⊎◌, ◌++◌, ◌∷◌, [], ℕ, List, nat_le, ◌&&◌, if◌then◌else◌}
-use Rattle.std.specs.Prelude.{Option, None, Some, Result, Ok, Err}
+use Rattle.std.specs.Prelude.{◌≡◌, ◌⊎◌, ◌++◌, ◌∷◌, [], ℕ, List, nat_le, ◌&&◌, if◌then◌else◌, Option, None, Some, Result}
+use Rattle.std.specs.Prelude.{Ok, Err}
 use Rattle.std.specs.Option.{ok_or}
 use Rattle.moc_ranges.specs.Numbers.{NumberSet}
 use Rattle.moc_ranges.specs.Pixels.{pixels}
@@ -10,16 +10,14 @@ use Rattle.moc_parts.specs.declared.reply.Reply.{Reply}
 use Rattle.moc_parts.specs.declared.reply.Reply.TheVariants.{Cover}
 use Rattle.moc_shared.specs.Clients.{call_of, Ends, LacksMemory, number_of, record_of, Refuses}
 use Rattle.moc_shared.specs.declared.errors.Busy.{Busy}
-use Rattle.moc_lines.specs.Batches.{batch_of}
-use Rattle.moc_lines.specs.Language.{command_of}
-use Rattle.moc_lines.specs.Replies.{replies_text}
-use Rattle.moc_lines.specs.declared.fault.Fault.{Fault as LineFault}
+use Rattle.moc_lines.specs.Language.{batch_of, command_of, replies_text}
+use Rattle.moc_lines.specs.declared.fault.LineFault.{LineFault}
 use Rattle.moc_c.specs.Buffers.{Fills}
 use Rattle.moc_c.specs.Contents.{Contents, with_set}
 use Rattle.moc_c.specs.Membership.{IsNewMember, Membership}
 use Rattle.moc_c.specs.Outcomes.{all_well, memory, outcome_of, told}
-use Rattle.moc_c.specs.declared.fault.Fault.{Fault}
-use Rattle.moc_c.specs.declared.fault.Fault.TheVariants as fault
+use Rattle.moc_c.specs.declared.fault.CallFault.{CallFault}
+use Rattle.moc_c.specs.declared.fault.CallFault.TheVariants as fault
 use Rattle.moc_c.specs.declared.outcome.Outcome.{Outcome}
 use Rattle.moc_c.specs.declared.sitter.Sitter.{Sitter}
 
@@ -34,48 +32,48 @@ abbrev pub with_member : Sitter → Membership → Sitter
 with_member s m = record { member = Some m; replies = s.replies }
 
 -- the member who sits there, or that there is none
-abbrev pub seated_member : Sitter → Result Membership Fault
+abbrev pub seated_member : Sitter → Result Membership CallFault
 seated_member s = ok_or s.member fault.NoMap
 
 -- what there is where nobody sits, or that the seat is taken
-abbrev pub unless_taken : {X : Type 0} → Option Membership → Result X Fault → Result X Fault
+abbrev pub unless_taken : {X : Type 0} → Option Membership → Result X CallFault → Result X CallFault
 unless_taken None r = r
 unless_taken (Some m) r = Err fault.SeatTaken
 
 -- a number of clients that a map may have
-abbrev pub client_count : ℕ → Result ℕ Fault
+abbrev pub client_count : ℕ → Result ℕ CallFault
 client_count n = if nat_le 1 n && nat_le n 64 then Ok n else Err (fault.BadCount n)
 
 -- ---- a new map, and further clients
 
 -- a client of a new map of this set, with so many clients; or the fault, or no memory is left
-abbrev pub IsBegun : Result (NumberSet × ℕ) Fault → Result Membership Fault → Type 0
+abbrev pub IsBegun : Result (NumberSet × ℕ) CallFault → Result Membership CallFault → Type 0
 IsBegun (Ok x) (Ok m) = IsNewMember x.0 x.1 m
 IsBegun (Ok x) (Err e) = e ≡ fault.Memory
 IsBegun (Err f) (Ok m) = ⊥
 IsBegun (Err f) (Err e) = (e ≡ f) ⊎ (e ≡ fault.Memory)
 
 -- the member sits there now, and its client's number is told; or the fault is told, and all is as it was
-abbrev pub Seats : Sitter → Sitter → Result Membership Fault → Outcome → Type 0
+abbrev pub Seats : Sitter → Sitter → Result Membership CallFault → Outcome → Type 0
 Seats old new (Ok m) o = (new ≡ with_member old m) × (o ≡ told (number_of m.client))
 Seats old new (Err e) o = (new ≡ old) × (o ≡ outcome_of e)
 
 -- a client of the new map sits there, or the fault is told
-abbrev pub Begins : Sitter → Sitter → Result (NumberSet × ℕ) Fault → Outcome → Type 0
-Begins old new what o = (begun : Result Membership Fault) × IsBegun what begun × Seats old new begun o
+abbrev pub Begins : Sitter → Sitter → Result (NumberSet × ℕ) CallFault → Outcome → Type 0
+Begins old new what o = (begun : Result Membership CallFault) × IsBegun what begun × Seats old new begun o
 
 -- the last client that waits is given away, as a member of the same map; or there is none, or no memory is left, and
 -- the giver is as it was
-abbrev pub Gives : Membership → Membership → Result Membership Fault → Type 0
+abbrev pub Gives : Membership → Membership → Result Membership CallFault → Type 0
 Gives old new (Ok m) =
     (old.spare ≡ new.spare ++ m.client ∷ []) × (new ≡ record old { spare = new.spare })
     × (m ≡ record { map = old.map; client = m.client; spare = [] })
 Gives old new (Err e) = (new ≡ old) × ((e ≡ fault.Memory) ⊎ ((e ≡ fault.NoClient) × (old.spare ≡ [])))
 
 -- the member of one seat gives a client to another seat; or the fault is told, and both are as they were
-abbrev pub Joins : Sitter → Sitter → Sitter → Sitter → Result Membership Fault → Outcome → Type 0
+abbrev pub Joins : Sitter → Sitter → Sitter → Sitter → Result Membership CallFault → Outcome → Type 0
 Joins old new other last (Ok m) o =
-    (n : Membership) × (given : Result Membership Fault) × Gives m n given × (new ≡ with_member old n)
+    (n : Membership) × (given : Result Membership CallFault) × Gives m n given × (new ≡ with_member old n)
     × Seats other last given o
 Joins old new other last (Err e) o = (new ≡ old) × (last ≡ other) × (o ≡ outcome_of e)
 
@@ -110,7 +108,7 @@ DoesLine old new m (Ok cs) o =
 DoesLine old new m (Err e) o = (new ≡ old) × ((o ≡ outcome_of (fault.Line e)) ⊎ (o ≡ memory))
 
 -- the same for the member who sits there, or nobody does
-abbrev pub Applies : Sitter → Sitter → Result Membership Fault → List ℕ → Outcome → Type 0
+abbrev pub Applies : Sitter → Sitter → Result Membership CallFault → List ℕ → Outcome → Type 0
 Applies old new (Ok m) line o = DoesLine old new m (batch_of command_of line) o
 Applies old new (Err e) line o = (new ≡ old) × (o ≡ outcome_of e)
 
@@ -128,7 +126,7 @@ LaysRead m n desk desk' o =
     ⊎ (IsTurnedAway m n whole_sky o × (desk' ≡ desk))
 
 -- the map's set is put on the desk; or the fault is told, or no memory is left, and all is as it was
-abbrev pub LaysSet : Sitter → Sitter → Contents → Contents → Result Membership Fault → Outcome → Type 0
+abbrev pub LaysSet : Sitter → Sitter → Contents → Contents → Result Membership CallFault → Outcome → Type 0
 LaysSet old new desk desk' (Ok m) o =
     ((n : Membership) × IsAfter m n × (new ≡ with_member old n) × LaysRead m n desk desk' o)
     ⊎ ((new ≡ old) × (desk' ≡ desk) × (o ≡ memory))

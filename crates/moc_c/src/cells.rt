@@ -1,5 +1,5 @@
 //! Numbers of cells, as whole arrays. No call takes memory.
-ghost use Rattle.std.specs.Prelude.{◌≡◌, ◌≤◌, ◌<◌, ◌∷◌, [], length};
+ghost use Rattle.std.specs.Prelude.{◌≡◌, ◌≤◌, ◌∷◌, [], length};
 ghost use Rattle.std.specs.Option.{option_or};
 ghost use Rattle.moc_sphere.specs.Faces.{face_of, x_of, y_of};
 ghost use Rattle.moc_c.specs.Buffers.{AreCellsOf, AreNeighbours, AreRelated, AreTouching, done_unless, IsConverted};
@@ -7,7 +7,7 @@ ghost use Rattle.moc_c.specs.Buffers.{IsPadded, lengths_fault, numbers_fault, Te
 ghost use Rattle.moc_c.specs.declared.conversion.Conversion.TheVariants.{NestToRing, NestToUniq, RingToNest};
 
 use crate::conversion::Conversion;
-use crate::fault::Fault;
+use crate::fault::CallFault;
 use crate::outcome::Outcome;
 use moc_sphere::{Cell, Order};
 use std::alloc::Global;
@@ -19,14 +19,14 @@ fn convert(conversion: Conversion, order: u8, numbers: &[u64], out: &mut [u64]) 
     ensures told { result.code ≡ 0 → AreRelated (IsConverted conversion order) numbers.now out.new }
 {
     let Some(order) = Order::new(order) else {
-        return Outcome::of(Fault::NoSuchOrder { order });
+        return Outcome::of(CallFault::NoSuchOrder { order });
     };
     if numbers.len() != out.len() {
-        return Outcome::of(Fault::LengthsDiffer);
+        return Outcome::of(CallFault::LengthsDiffer);
     }
     for (at, number) in numbers.iter().enumerate() {
         let Some(told) = conversion.of(order, *number) else {
-            return Outcome::of(Fault::NoSuchCell { at });
+            return Outcome::of(CallFault::NoSuchCell { at });
         };
         out[at] = told;
     }
@@ -74,11 +74,11 @@ pub extern "C" fn moc_uniq_to_nest(uniqs: &[u64], orders: &mut [u8], cells: &mut
     ensures told { result.code ≡ 0 → AreCellsOf uniqs.now orders.new cells.new }
 {
     if uniqs.len() != orders.len() || uniqs.len() != cells.len() {
-        return Outcome::of(Fault::LengthsDiffer);
+        return Outcome::of(CallFault::LengthsDiffer);
     }
     for (at, uniq) in uniqs.iter().enumerate() {
         let Ok(cell) = Cell::from_uniq(*uniq) else {
-            return Outcome::of(Fault::NotUniq { at });
+            return Outcome::of(CallFault::NotUniq { at });
         };
         orders[at] = cell.order().get();
         cells[at] = cell.index();
@@ -103,14 +103,14 @@ pub extern "C" fn moc_nest_to_face_xy(
     ensures ys { result.code ≡ 0 → AreRelated (λ c y. y ≡ y_of order c) cells.now ys.new }
 {
     let Some(order) = Order::new(order) else {
-        return Outcome::of(Fault::NoSuchOrder { order });
+        return Outcome::of(CallFault::NoSuchOrder { order });
     };
     if cells.len() != faces.len() || cells.len() != xs.len() || cells.len() != ys.len() {
-        return Outcome::of(Fault::LengthsDiffer);
+        return Outcome::of(CallFault::LengthsDiffer);
     }
     for (at, index) in cells.iter().enumerate() {
         let Ok(cell) = Cell::new(order, *index) else {
-            return Outcome::of(Fault::NoSuchCell { at });
+            return Outcome::of(CallFault::NoSuchCell { at });
         };
         let (face, x, y) = cell.face_xy();
         faces[at] = face;
@@ -145,14 +145,14 @@ pub extern "C" fn moc_touching(
     ensures told { result.code ≡ 0 → AreTouching order cells.now out.new }
 {
     let Some(order) = Order::new(order) else {
-        return Outcome::of(Fault::NoSuchOrder { order });
+        return Outcome::of(CallFault::NoSuchOrder { order });
     };
     if cells.len() != out.len() {
-        return Outcome::of(Fault::LengthsDiffer);
+        return Outcome::of(CallFault::LengthsDiffer);
     }
     for (at, index) in cells.iter().enumerate() {
         let Ok(cell) = Cell::new(order, *index) else {
-            return Outcome::of(Fault::NoSuchCell { at });
+            return Outcome::of(CallFault::NoSuchCell { at });
         };
         out[at] = padded(cell.touching(alloc).as_slice());
     }
@@ -180,14 +180,14 @@ pub extern "C" fn moc_neighbours(order: u8, cells: &[u64], out: &mut [[u64; 8]])
     ensures told { result.code ≡ 0 → AreNeighbours order cells.now out.new }
 {
     let Some(order) = Order::new(order) else {
-        return Outcome::of(Fault::NoSuchOrder { order });
+        return Outcome::of(CallFault::NoSuchOrder { order });
     };
     if cells.len() != out.len() {
-        return Outcome::of(Fault::LengthsDiffer);
+        return Outcome::of(CallFault::LengthsDiffer);
     }
     for (at, index) in cells.iter().enumerate() {
         let Ok(cell) = Cell::new(order, *index) else {
-            return Outcome::of(Fault::NoSuchCell { at });
+            return Outcome::of(CallFault::NoSuchCell { at });
         };
         out[at] = around(cell);
     }

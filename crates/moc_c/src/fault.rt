@@ -1,13 +1,13 @@
 //! Why a call is refused.
 use moc_forms::FormError;
-use moc_lines::Fault as LineFault;
+use moc_lines::LineFault;
 use moc_ranges::{Memory as MemoryRefused, RangesError};
 use moc_shared::{Busy, TryError};
 use std::alloc::AllocError;
 
 /// Why a call is refused.
 #[derive(Clone, Copy)]
-pub enum Fault {
+pub enum CallFault {
     /// No memory is left.
     Memory,
     /// A buffer is too short for so many elements.
@@ -40,49 +40,49 @@ pub enum Fault {
     Busy(Busy),
 }
 
-impl From<MemoryRefused> for Fault {
+impl From<MemoryRefused> for CallFault {
     ghost use Rattle.std.specs.Prelude.{◌≡◌};
-    ghost use Rattle.moc_c.specs.declared.fault.Fault.TheVariants as fault;
+    ghost use Rattle.moc_c.specs.declared.fault.CallFault.TheVariants as fault;
 
     ghost from_gives = { λ _ e. e ≡ fault.Memory };
 
-    fn from(_refused: MemoryRefused) -> Fault {
-        Fault::Memory
+    fn from(_refused: MemoryRefused) -> CallFault {
+        CallFault::Memory
     }
 }
 
-impl From<FormError> for Fault {
+impl From<FormError> for CallFault {
     ghost use Rattle.std.specs.Prelude.{◌≡◌};
-    ghost use Rattle.moc_c.specs.declared.fault.Fault.TheVariants as fault;
+    ghost use Rattle.moc_c.specs.declared.fault.CallFault.TheVariants as fault;
 
     ghost from_gives = { λ error e. e ≡ fault.Form error };
 
-    fn from(error: FormError) -> Fault {
-        Fault::Form(error)
+    fn from(error: FormError) -> CallFault {
+        CallFault::Form(error)
     }
 }
 
-impl From<AllocError> for Fault {
+impl From<AllocError> for CallFault {
     ghost use Rattle.std.specs.Prelude.{◌≡◌};
-    ghost use Rattle.moc_c.specs.declared.fault.Fault.TheVariants as fault;
+    ghost use Rattle.moc_c.specs.declared.fault.CallFault.TheVariants as fault;
 
     ghost from_gives = { λ _ e. e ≡ fault.Memory };
 
-    fn from(_refused: AllocError) -> Fault {
-        Fault::Memory
+    fn from(_refused: AllocError) -> CallFault {
+        CallFault::Memory
     }
 }
 
-impl From<TryError> for Fault {
+impl From<TryError> for CallFault {
     ghost use Rattle.std.specs.Prelude.{◌≡◌};
     ghost use Rattle.moc_c.specs.Private.Making.{try_fault};
 
     ghost from_gives = { λ error e. e ≡ try_fault error };
 
-    fn from(error: TryError) -> Fault {
+    fn from(error: TryError) -> CallFault {
         match error {
-            TryError::Busy(busy) => Fault::Busy(busy),
-            TryError::Memory => Fault::Memory,
+            TryError::Busy(busy) => CallFault::Busy(busy),
+            TryError::Memory => CallFault::Memory,
         }
     }
 }

@@ -5,10 +5,10 @@ ghost use Rattle.moc_c.specs.Answers.{Makes, set_at};
 ghost use Rattle.moc_c.specs.Buffers.{cells_say, Fills, FillsCells, FillsRanges, MakesOfUniqs, pairs_from, ranges_from};
 ghost use Rattle.moc_c.specs.Buffers.{ranges_say, TellsContained, UniqsSay};
 ghost use Rattle.moc_c.specs.Private.Making.{KeepsSaid};
-ghost use Rattle.moc_c.specs.declared.fault.Fault.TheVariants.{Memory as NoMemory};
+ghost use Rattle.moc_c.specs.declared.fault.CallFault.TheVariants.{Memory as NoMemory};
 
 use crate::desk::Desk;
-use crate::fault::Fault;
+use crate::fault::CallFault;
 use crate::looking::{Known, look};
 use crate::outcome::Outcome;
 use crate::range::Range;
@@ -29,27 +29,27 @@ fn pairs_of(alloc: Global, ranges: &[Range]) -> Result<Vec<(u64, u64)>, AllocErr
 }
 
 /// The pixels in any of the ranges.
-fn set_of_ranges(alloc: Global, ranges: &[Range]) -> Result<Coverage, Fault>
+fn set_of_ranges(alloc: Global, ranges: &[Range]) -> Result<Coverage, CallFault>
     ensures { MatchResult result (λ a. ranges_say ranges.now ≡ Ok a)
         (λ e. (e ≡ NoMemory) ⊎ (ranges_say ranges.now ≡ Err e)) }
 {
     let pairs = pairs_of(alloc, ranges)?;
     match Coverage::from_ranges(alloc, &pairs) {
         Ok(set) => Ok(set),
-        Err(RangesError::Memory) => Err(Fault::Memory),
-        Err(error) => Err(Fault::Ranges(error)),
+        Err(RangesError::Memory) => Err(CallFault::Memory),
+        Err(error) => Err(CallFault::Ranges(error)),
     }
 }
 
 /// The pixels of cells of an order.
-fn set_of_cells(alloc: Global, order: Order, cells: &[u64]) -> Result<Coverage, Fault>
+fn set_of_cells(alloc: Global, order: Order, cells: &[u64]) -> Result<Coverage, CallFault>
     ensures { MatchResult result (λ a. cells_say order cells.now ≡ Ok a)
         (λ e. (e ≡ NoMemory) ⊎ (cells_say order cells.now ≡ Err e)) }
 {
     let mut builder = CoverageBuilder::new(alloc);
     for (at, index) in cells.iter().enumerate() {
         let Ok(cell) = Cell::new(order, *index) else {
-            return Err(Fault::NoSuchCell { at });
+            return Err(CallFault::NoSuchCell { at });
         };
         builder.add_cell(cell)?;
     }
@@ -57,13 +57,13 @@ fn set_of_cells(alloc: Global, order: Order, cells: &[u64]) -> Result<Coverage, 
 }
 
 /// The pixels of cells by their NUNIQ numbers.
-fn set_of_uniqs(alloc: Global, uniqs: &[u64]) -> Result<Coverage, Fault>
+fn set_of_uniqs(alloc: Global, uniqs: &[u64]) -> Result<Coverage, CallFault>
     ensures { MatchResult result (λ a. UniqsSay uniqs.now (Ok a)) (λ e. (e ≡ NoMemory) ⊎ UniqsSay uniqs.now (Err e)) }
 {
     let mut builder = CoverageBuilder::new(alloc);
     for (at, uniq) in uniqs.iter().enumerate() {
         let Ok(cell) = Cell::from_uniq(*uniq) else {
-            return Err(Fault::NotUniq { at });
+            return Err(CallFault::NotUniq { at });
         };
         builder.add_cell(cell)?;
     }
@@ -72,7 +72,7 @@ fn set_of_uniqs(alloc: Global, uniqs: &[u64]) -> Result<Coverage, Fault>
 
 impl Shelf {
     /// Keeps the set that was said, at the next key.
-    fn keep_said(&mut self, said: Result<Coverage, Fault>) -> Outcome
+    fn keep_said(&mut self, said: Result<Coverage, CallFault>) -> Outcome
         ensures { KeepsSaid self.old self.new said result }
     {
         match said {
@@ -87,7 +87,7 @@ impl Shelf {
     {
         match Order::new(order) {
             Some(order) => self.keep_said(set_of_cells(alloc, order, cells)),
-            None => Outcome::of(Fault::NoSuchOrder { order }),
+            None => Outcome::of(CallFault::NoSuchOrder { order }),
         }
     }
 }
@@ -135,7 +135,7 @@ fn fill_ranges(ranges: Ranges<'_>, out: &mut [Range]) -> Outcome
 {
     let count = ranges.size_hint().0;
     if out.len() < count {
-        return Outcome::of(Fault::NoRoom { wanted: count });
+        return Outcome::of(CallFault::NoRoom { wanted: count });
     }
     let mut at = 0;
     for (from, to) in ranges {
@@ -166,7 +166,7 @@ fn fill_uniqs(cells: &[Cell], out: &mut [u64]) -> Outcome
 {
     let count = cells.len();
     if out.len() < count {
-        return Outcome::of(Fault::NoRoom { wanted: count });
+        return Outcome::of(CallFault::NoRoom { wanted: count });
     }
     for (at, cell) in cells.iter().enumerate() {
         out[at] = cell.uniq();
@@ -180,7 +180,7 @@ fn fill_cells(alloc: Global, set: &Coverage, out: &mut [u64]) -> Outcome
 {
     match set.cells(alloc) {
         Ok(cells) => fill_uniqs(&cells, out),
-        Err(Memory) => Outcome::of(Fault::Memory),
+        Err(Memory) => Outcome::of(CallFault::Memory),
     }
 }
 
@@ -204,7 +204,7 @@ fn tell_contained(set: &Coverage, pixels: &[u64], out: &mut [u8]) -> Outcome
     ensures { TellsContained (Ok set.now) pixels.now out.old out.new result }
 {
     if pixels.len() != out.len() {
-        return Outcome::of(Fault::LengthsDiffer);
+        return Outcome::of(CallFault::LengthsDiffer);
     }
     let (mut rest, mut passed) = (set.ranges(), 0);
     let mut known = Known {

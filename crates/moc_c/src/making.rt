@@ -1,5 +1,5 @@
 //! Sets that are made of sets.
-ghost use Rattle.std.specs.Prelude.{◌≡◌, MatchResult, Ok, Err, is_some};
+ghost use Rattle.std.specs.Prelude.{◌≡◌, Ok, Err};
 ghost use Rattle.std.specs.FinSet as set;
 ghost use Rattle.moc_ranges.specs.Cells.{degrade};
 ghost use Rattle.moc_ranges.specs.Operations.{complement, symmetric};
@@ -10,7 +10,7 @@ ghost use Rattle.moc_c.specs.Answers.{both, Frees, made_of, Makes, of_two, order
 ghost use Rattle.moc_c.specs.Private.Making.{MakesIf};
 
 use crate::desk::Desk;
-use crate::fault::Fault;
+use crate::fault::CallFault;
 use crate::outcome::Outcome;
 use crate::shelf::Shelf;
 use moc_forms::{Change, Operation};
@@ -19,12 +19,12 @@ use moc_sphere::Order;
 use std::alloc::Global;
 
 /// The order of a number; refused where it is none.
-pub(crate) fn order_of(number: u8) -> Result<Order, Fault>
+pub(crate) fn order_of(number: u8) -> Result<Order, CallFault>
     ensures { result ≡ order_numbered number }
 {
     match Order::new(number) {
         Some(order) => Ok(order),
-        None => Err(Fault::NoSuchOrder { order: number }),
+        None => Err(CallFault::NoSuchOrder { order: number }),
     }
 }
 
@@ -34,11 +34,11 @@ impl Shelf {
         ensures { MakesIf self.old self.new made result }
     {
         let Ok(set) = made else {
-            return Outcome::of(Fault::Memory);
+            return Outcome::of(CallFault::Memory);
         };
         match self.put(set) {
             Ok(key) => Outcome::told(key),
-            Err(Memory) => Outcome::of(Fault::Memory),
+            Err(Memory) => Outcome::of(CallFault::Memory),
         }
     }
 
@@ -166,6 +166,6 @@ pub extern "C" fn moc_free(desk: &mut Desk, a: u64) -> Outcome
     if desk.shelf().free(a) {
         Outcome::done()
     } else {
-        Outcome::of(Fault::NoSuchSet { key: a })
+        Outcome::of(CallFault::NoSuchSet { key: a })
     }
 }

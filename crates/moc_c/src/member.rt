@@ -7,7 +7,7 @@ ghost use Rattle.moc_c.specs.Sharing.{Gives, whole_sky};
 ghost use Rattle.moc_c.specs.Private.Making.{ReadsSky, Tries};
 ghost use Rattle.moc_shared.specs.Clients.{IsClientOf, number_of};
 
-use crate::fault::Fault;
+use crate::fault::CallFault;
 use moc_parts::{Batch, Command, Operand, Replies, Reply};
 use moc_ranges::{Coverage, Memory};
 use moc_shared::{Client, NewError, SharedMap, TryError};
@@ -76,11 +76,11 @@ impl Member {
 
     /// One of the clients that wait, as a member of the same map. O(1); refused where there is none, or
     /// where memory runs out.
-    pub(crate) fn give(&mut self, alloc: Global) -> Result<Member, Fault>
+    pub(crate) fn give(&mut self, alloc: Global) -> Result<Member, CallFault>
         ensures { Gives self.old self.new result }
     {
         let Ok(map) = Arc::try_clone(&self.map) else {
-            return Err(Fault::Memory);
+            return Err(CallFault::Memory);
         };
         match self.spare.pop() {
             Some(client) => Ok(Member {
@@ -88,7 +88,7 @@ impl Member {
                 client,
                 spare: Vec::new(alloc),
             }),
-            None => Err(Fault::NoClient),
+            None => Err(CallFault::NoClient),
         }
     }
 

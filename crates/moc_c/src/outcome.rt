@@ -5,9 +5,9 @@ ghost use Rattle.moc_c.specs.Outcomes.{outcome_of_ranges};
 ghost use Rattle.moc_c.specs.Outcomes.{outcome_of, outcome_of_text, told, outcome_of_uniq};
 
 use crate::codes;
-use crate::fault::Fault;
+use crate::fault::CallFault;
 use moc_forms::FormError;
-use moc_lines::Fault as LineFault;
+use moc_lines::LineFault;
 use moc_ranges::RangesError;
 use moc_shared::Busy;
 use moc_text::{JsonError, TextError, UniqError};
@@ -62,27 +62,31 @@ impl Outcome {
     }
 
     /// The code of a fault, with its place.
-    pub(crate) fn of(fault: Fault) -> Outcome
+    pub(crate) fn of(fault: CallFault) -> Outcome
         ensures { result ≡ outcome_of fault }
     {
         match fault {
-            Fault::Memory => Outcome::new(codes::MEMORY, 0, 0),
-            Fault::NoRoom { wanted } => Outcome::at(codes::NO_ROOM, wanted),
-            Fault::NoSuchSet { key } => Outcome::new(codes::NO_SUCH_SET, key, 0),
-            Fault::NoSuchOrder { order } => {
+            CallFault::Memory => Outcome::new(codes::MEMORY, 0, 0),
+            CallFault::NoRoom { wanted } => Outcome::at(codes::NO_ROOM, wanted),
+            CallFault::NoSuchSet { key } => Outcome::new(codes::NO_SUCH_SET, key, 0),
+            CallFault::NoSuchOrder { order } => {
                 Outcome::new(codes::NO_SUCH_ORDER, u64::from(order), 0)
             }
-            Fault::LengthsDiffer => Outcome::new(codes::LENGTHS_DIFFER, 0, 0),
-            Fault::NoSuchCell { at } => Outcome::at(codes::NO_SUCH_CELL, at),
-            Fault::NotUniq { at } => Outcome::at(codes::NOT_UNIQ, at),
-            Fault::Form(error) => Outcome::of_form(error),
-            Fault::Ranges(error) => Outcome::of_ranges(error),
-            Fault::Line(fault) => Outcome::of_line(fault),
-            Fault::NoMap => Outcome::new(codes::NO_MAP, 0, 0),
-            Fault::SeatTaken => Outcome::new(codes::SEAT_TAKEN, 0, 0),
-            Fault::BadCount { clients } => Outcome::new(codes::BAD_COUNT, u64::from(clients), 0),
-            Fault::NoClient => Outcome::new(codes::NO_CLIENT, 0, 0),
-            Fault::Busy(Busy { part, holder }) => {
+            CallFault::LengthsDiffer => Outcome::new(codes::LENGTHS_DIFFER, 0, 0),
+            CallFault::NoSuchCell { at } => Outcome::at(codes::NO_SUCH_CELL, at),
+            CallFault::NotUniq { at } => Outcome::at(codes::NOT_UNIQ, at),
+            CallFault::Form(error) => Outcome::of_form(error),
+            CallFault::Ranges(error) => Outcome::of_ranges(error),
+            CallFault::Line(fault) => Outcome::of_line(fault),
+            CallFault::NoMap => Outcome::new(codes::NO_MAP, 0, 0),
+            CallFault::SeatTaken => Outcome::new(codes::SEAT_TAKEN, 0, 0),
+            CallFault::BadCount { clients } => Outcome::new(
+                codes::BAD_COUNT,
+                u64::from(clients),
+                0,
+            ),
+            CallFault::NoClient => Outcome::new(codes::NO_CLIENT, 0, 0),
+            CallFault::Busy(Busy { part, holder }) => {
                 Outcome::new(codes::BUSY, u64::from(part.get()), u64::from(holder))
             }
         }

@@ -5,7 +5,7 @@ ghost use Rattle.moc_c.specs.Sharing.{answer_of, Applies, Begins, client_count, 
 ghost use Rattle.moc_c.specs.Sharing.{seated_member, Seats, unless_taken};
 
 use crate::desk::Desk;
-use crate::fault::Fault;
+use crate::fault::CallFault;
 use crate::member::Member;
 use crate::outcome::Outcome;
 use crate::seat::Seat;
@@ -20,18 +20,18 @@ use std::alloc::Global;
 const MOST_CLIENTS: u8 = 64;
 
 /// So many clients, where a map may have them.
-fn count_of(clients: u8) -> Result<u8, Fault>
+fn count_of(clients: u8) -> Result<u8, CallFault>
     ensures { result ≡ client_count clients }
 {
     if 1 <= clients && clients <= MOST_CLIENTS {
         Ok(clients)
     } else {
-        Err(Fault::BadCount { clients })
+        Err(CallFault::BadCount { clients })
     }
 }
 
 /// A client of a new map of the set at a key.
-fn begun(alloc: Global, shelf: &Shelf, a: u64, clients: u8) -> Result<Member, Fault>
+fn begun(alloc: Global, shelf: &Shelf, a: u64, clients: u8) -> Result<Member, CallFault>
     ensures { IsBegun (both (set_at shelf.now a) (client_count clients)) result }
 {
     let set = shelf.set(a)?;
@@ -47,7 +47,7 @@ impl Sitter {
             (unless_taken self.old.member (both (set_at shelf.now a) (client_count clients))) result }
     {
         if self.member.is_some() {
-            return Outcome::of(Fault::SeatTaken);
+            return Outcome::of(CallFault::SeatTaken);
         }
         self.sit(begun(alloc, shelf, a, clients))
     }
@@ -58,16 +58,16 @@ impl Sitter {
             (unless_taken other.old.member (seated_member self.old)) result }
     {
         if other.member.is_some() {
-            return Outcome::of(Fault::SeatTaken);
+            return Outcome::of(CallFault::SeatTaken);
         }
         let Some(member) = &mut self.member else {
-            return Outcome::of(Fault::NoMap);
+            return Outcome::of(CallFault::NoMap);
         };
         other.sit(member.give(alloc))
     }
 
     /// A member sits down, and its client's number is told.
-    fn sit(&mut self, member: Result<Member, Fault>) -> Outcome
+    fn sit(&mut self, member: Result<Member, CallFault>) -> Outcome
         ensures { Seats self.old self.new member result }
     {
         match member {
@@ -85,19 +85,19 @@ impl Sitter {
         ensures { Applies self.old self.new (seated_member self.old) line.now result }
     {
         let Some(member) = &mut self.member else {
-            return Outcome::of(Fault::NoMap);
+            return Outcome::of(CallFault::NoMap);
         };
         let batch = match read_batch(alloc, line) {
             Ok(batch) => batch,
-            Err(ReadError::Fault(fault)) => return Outcome::of(Fault::Line(fault)),
-            Err(ReadError::Memory) => return Outcome::of(Fault::Memory),
+            Err(ReadError::Fault(fault)) => return Outcome::of(CallFault::Line(fault)),
+            Err(ReadError::Memory) => return Outcome::of(CallFault::Memory),
         };
         match member.apply(&batch) {
             Ok(replies) => {
                 self.replies = Some(replies);
                 Outcome::done()
             }
-            Err(error) => Outcome::of(Fault::from(error)),
+            Err(error) => Outcome::of(CallFault::from(error)),
         }
     }
 
@@ -106,11 +106,11 @@ impl Sitter {
         ensures { LaysSet self.old self.new shelf.old shelf.new (seated_member self.old) result }
     {
         let Some(member) = &mut self.member else {
-            return Outcome::of(Fault::NoMap);
+            return Outcome::of(CallFault::NoMap);
         };
         match member.read(alloc) {
             Ok(set) => shelf.keep(Ok(set)),
-            Err(error) => Outcome::of(Fault::from(error)),
+            Err(error) => Outcome::of(CallFault::from(error)),
         }
     }
 
@@ -182,7 +182,7 @@ pub extern "C" fn moc_map_answer(alloc: Global, seat: &mut Seat, out: &mut [u8])
 {
     match seat.sitter().answer(alloc) {
         Ok(text) => fill_text(&text, out),
-        Err(Memory) => Outcome::of(Fault::Memory),
+        Err(Memory) => Outcome::of(CallFault::Memory),
     }
 }
 

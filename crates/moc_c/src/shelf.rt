@@ -6,7 +6,7 @@ ghost use Rattle.std.specs.FinMap as map;
 ghost use Rattle.moc_c.specs.Answers.{set_at, sets_at};
 ghost use Rattle.moc_c.specs.Contents.{at_key, bare, with_set, with_text, without_set};
 
-use crate::fault::Fault;
+use crate::fault::CallFault;
 use moc_ranges::{Coverage, Memory};
 use std::alloc::Global;
 use std::collections::BTreeMap;
@@ -105,17 +105,17 @@ impl Shelf {
     }
 
     /// The coverage at a key; refused where there is none. O(log n).
-    pub(crate) fn set(&self, key: u64) -> Result<&Coverage, Fault>
+    pub(crate) fn set(&self, key: u64) -> Result<&Coverage, CallFault>
         ensures { MatchResult result (λ set. set_at self.now key ≡ Ok set.now) (λ e. set_at self.now key ≡ Err e) }
     {
         match self.sets.get(key) {
             Some(set) => Ok(set),
-            None => Err(Fault::NoSuchSet { key }),
+            None => Err(CallFault::NoSuchSet { key }),
         }
     }
 
     /// The coverages at two keys; refused where the first or else the second has none. O(log n).
-    pub(crate) fn two(&self, a: u64, b: u64) -> Result<(&Coverage, &Coverage), Fault>
+    pub(crate) fn two(&self, a: u64, b: u64) -> Result<(&Coverage, &Coverage), CallFault>
         ensures { MatchResult result (λ sets. sets_at self.now a b ≡ Ok (sets.0.now, sets.1.now))
             (λ e. sets_at self.now a b ≡ Err e) }
     {

@@ -7,7 +7,7 @@ ghost use Rattle.moc_c.specs.Texts.{DescribesText, DrawsText, KeepsMade, KeepsTe
 ghost use Rattle.moc_c.specs.Texts.{WritesText};
 
 use crate::desk::Desk;
-use crate::fault::Fault;
+use crate::fault::CallFault;
 use crate::making::order_of;
 use crate::outcome::Outcome;
 use crate::shelf::Shelf;
@@ -30,7 +30,7 @@ fn number_of(order: Option<Order>) -> u64
 }
 
 /// The order of a number, or none; refused where it stands for neither.
-fn order_or_none(number: u8) -> Result<Option<Order>, Fault>
+fn order_or_none(number: u8) -> Result<Option<Order>, CallFault>
     ensures { result ≡ order_meant number }
 {
     if number == NO_ORDER {
@@ -45,7 +45,7 @@ pub(crate) fn fill_text(text: &[u8], out: &mut [u8]) -> Outcome
 {
     let length = text.len();
     if out.len() < length {
-        return Outcome::of(Fault::NoRoom { wanted: length });
+        return Outcome::of(CallFault::NoRoom { wanted: length });
     }
     out[..length].copy_from_slice(text);
     Outcome::told(length as u64)
@@ -59,14 +59,14 @@ impl Shelf {
         match form.read(alloc, text) {
             Ok((set, deepest)) => match self.put(set) {
                 Ok(key) => Outcome::told_both(key, number_of(deepest)),
-                Err(Memory) => Outcome::of(Fault::Memory),
+                Err(Memory) => Outcome::of(CallFault::Memory),
             },
-            Err(error) => Outcome::of(Fault::Form(error)),
+            Err(error) => Outcome::of(CallFault::Form(error)),
         }
     }
 
     /// The text of a set in a form.
-    fn written(&self, alloc: Global, form: Form, key: u64, stated: u8) -> Result<String, Fault>
+    fn written(&self, alloc: Global, form: Form, key: u64, stated: u8) -> Result<String, CallFault>
         ensures { WritesText form self.now key stated (bytes_made result) }
     {
         let set = self.set(key)?;
@@ -75,7 +75,7 @@ impl Shelf {
     }
 
     /// The figures of a set.
-    fn described(&self, alloc: Global, key: u64, deepest: u8) -> Result<String, Fault>
+    fn described(&self, alloc: Global, key: u64, deepest: u8) -> Result<String, CallFault>
         ensures { DescribesText self.now key deepest (bytes_made result) }
     {
         let set = self.set(key)?;
@@ -84,7 +84,7 @@ impl Shelf {
     }
 
     /// The picture of a set.
-    fn drawn(&self, alloc: Global, key: u64) -> Result<String, Fault>
+    fn drawn(&self, alloc: Global, key: u64) -> Result<String, CallFault>
         ensures { DrawsText self.now key (bytes_made result) }
     {
         let set = self.set(key)?;
@@ -92,7 +92,7 @@ impl Shelf {
     }
 
     /// Keeps a text that was made, and tells its length.
-    fn keep_made(&mut self, made: Result<String, Fault>) -> Outcome
+    fn keep_made(&mut self, made: Result<String, CallFault>) -> Outcome
         ensures { KeepsText self.old self.new (bytes_made made) result }
     {
         match made {

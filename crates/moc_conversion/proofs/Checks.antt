@@ -1,10 +1,10 @@
 -- What a complaint of a text says.
-use Rattle.std.proofs.Common.{◌≡◌, ◌⊎◌, ◌∙◌, ℕ, List, Option, None, Result, Ok, Err, inl, inr, subst, sym}
+use Rattle.std.proofs.Common.{◌≡◌, ◌⊎◌, ◌∙◌, ℕ, List, Option, None, Result, Ok, Err, ap, inl, inr, subst, sym}
 use Rattle.std.specs.Prelude.{IfErr, IsErrAnd, IsOkUnless}
 use Rattle.moc_conversion.specs.Combining.{IsNotCombined}
 use Rattle.moc_ranges.specs.Numbers.{NumberSet}
 use Rattle.moc_text.specs.AsciiText.{IsTooCoarse}
-use Rattle.moc_forms.specs.Forms.{FormFails, IsUnwritten, IsWant}
+use Rattle.moc_forms.specs.Forms.{FormFails, IsUnwritten}
 use Rattle.moc_forms.specs.Finding.{form_for, hint_of}
 use Rattle.moc_forms.specs.Places.{IsPlace, line_bytes}
 use Rattle.moc_forms.specs.Quotes.{IsTold}
@@ -12,67 +12,54 @@ use Rattle.moc_forms.specs.declared.finding.Choice.{Choice}
 use Rattle.moc_forms.specs.declared.form.Form.{Form}
 use Rattle.moc_forms.specs.declared.form.Form.TheVariants.{Ascii, Json, Uniq}
 use Rattle.moc_forms.specs.declared.form.FormError.{FormError}
+use Rattle.moc_forms.specs.declared.form.FormError.TheVariants.{Memory}
 use Rattle.moc_forms.specs.declared.place.Place.{Place}
 use Rattle.moc_conversion.specs.Conversion.{IsAll, IsNotConverted, IsNotSaid, IsOfWhole, IsTextFault, IsWhole}
 use Rattle.moc_conversion.specs.Conversion.{TellsFault}
-use Rattle.moc_conversion.specs.Faults.{IsFaultOf}
+use Rattle.moc_conversion.specs.Faults.{want_of_memory}
 use Rattle.moc_conversion.specs.declared.complaint.Complaint.{Complaint}
-use Rattle.moc_conversion.specs.declared.fault.Fault.{Fault}
-use Rattle.moc_conversion.specs.declared.fault.Fault.TheVariants as fault
+use Rattle.moc_conversion.specs.declared.fault.InputFault.{InputFault}
+use Rattle.moc_conversion.specs.declared.fault.InputFault.TheVariants as fault
 
 -- want of memory is told as such, and the first fault of a text with its place
 module _ (form : Form) (text : List ℕ) (number : Option ℕ) (error : FormError) (place : Option Place) (c : Complaint)
     (is_place : IsPlace text error place) where
-  IsToldSo : Type 0
-  IsToldSo =
-      (¬ IsWant error) × (c.fault ≡ fault.Form error) × IsTold number text error place (line_bytes c.place_line) × (c.hint ≡ hint_of form text)
-
-  of_error : FormFails form text error → IsToldSo → (c.fault ≡ fault.Memory) ⊎ TellsFault form text number c
-  unfolding IsToldSo
-  of_error (inl want) (free, told, line, hint) = absurd (free want)
-  of_error (inr is_fault) (free, told, line, hint) =
-      inr (record { error = error; is_fault = is_fault; told = told; place = place; is_place = is_place; line = line; hint = hint })
-
   pub told : FormFails form text error
-      → (c.fault ≡ fault.Memory) ⊎ ((¬ IsWant error) × (c.fault ≡ fault.Form error) × IsTold number text error place (line_bytes c.place_line) × (c.hint ≡ hint_of form text))
-      → (c.fault ≡ fault.Memory) ⊎ TellsFault form text number c
-  unfolding IsToldSo
+      → (c.fault ≡ want_of_memory) ⊎ ((c.fault ≡ fault.Form error) × IsTold number text error place (line_bytes c.place_line) × (c.hint ≡ hint_of form text))
+      → (c.fault ≡ want_of_memory) ⊎ TellsFault form text number c
   told fails (inl memory) = inl memory
-  told fails (inr tells) = of_error fails tells
+  told (inl want) (inr (as_fault, line, hint)) = inl (as_fault ∙ ap (λ e. fault.Form e) want)
+  told (inr is_fault) (inr (as_fault, line, hint)) =
+      inr (record { error = error; is_fault = is_fault; told = as_fault; place = place; is_place = is_place; line = line; hint = hint })
 
 -- a complaint of the input, or of the text that it was
 pub of_input : (choice : Choice) (left left' : Option (List ℕ)) (given : List ℕ) (c : Complaint) → IsWhole left left' given
-    → (c.fault ≡ fault.Memory) ⊎ TellsFault (form_for choice given) given None c → IsNotSaid choice left left' c
+    → (c.fault ≡ want_of_memory) ⊎ TellsFault (form_for choice given) given None c → IsNotSaid choice left left' c
 of_input choice left left' given c whole (inl memory) = inl (inr (inr memory))
 of_input choice left left' given c whole (inr tells) = inr (given, whole, tells)
 
 -- why an input was not converted
-abbrev pub Unconverted : Form → Option (List ℕ) → Option (List ℕ) → Fault → Type 0
+abbrev pub Unconverted : Form → Option (List ℕ) → Option (List ℕ) → InputFault → Type 0
 Unconverted form left left' f = IsOfWhole left left' f ⊎ IsAll (λ text. IsTextFault form text f) left left'
 
 -- and so tells a complaint of the fault alone
-pub told_alone : {T : Type 0} (r : Result T Complaint) (f : Fault) (form : Form) (left left' : Option (List ℕ))
+pub told_alone : {T : Type 0} (r : Result T Complaint) (f : InputFault) (form : Form) (left left' : Option (List ℕ))
     → IsErrAnd r (λ c. (c.fault ≡ f) × (c.place_line ≡ None) × (c.hint ≡ None)) → Unconverted form left left' f → IfErr r (λ c. IsNotConverted form left left' c)
 told_alone (Ok v) f form left left' same why = tt
 told_alone (Err c) f form left left' same why = (same.1, same.2, subst (λ g. Unconverted form left left' g) (sym same.0) why)
 
 -- a fault of a text is one of the input that it was
-pub not_read : (form : Form) (left left' : Option (List ℕ)) (given : List ℕ) (f : Fault) → IsWhole left left' given
-    → (f ≡ fault.Memory) ⊎ IsTextFault form given f → Unconverted form left left' f
+pub not_read : (form : Form) (left left' : Option (List ℕ)) (given : List ℕ) (f : InputFault) → IsWhole left left' given
+    → (f ≡ want_of_memory) ⊎ IsTextFault form given f → Unconverted form left left' f
 not_read form left left' given f whole (inl memory) = inl (inr (inr memory))
 not_read form left left' given f whole (inr is_fault) = inr (given, whole, is_fault)
 
 -- why a text is not said
-text_fault : (form : Form) (text : List ℕ) (e : FormError) (f : Fault) → FormFails form text e → IsFaultOf e f
-    → (f ≡ fault.Memory) ⊎ IsTextFault form text f
-text_fault form text e f fails (inl memory) = inl memory.1
-text_fault form text e f (inl want) (inr told) = absurd (told.0 want)
-text_fault form text e f (inr is_fault) (inr told) = inr (e, is_fault, told.1)
-
-pub not_said : {T : Type 0} (r : Result T Fault) (form : Form) (text : List ℕ) (e : FormError) → IsErrAnd r (λ f. IsFaultOf e f) → FormFails form text e
-    → IfErr r (λ f. (f ≡ fault.Memory) ⊎ IsTextFault form text f)
+pub not_said : {T : Type 0} (r : Result T InputFault) (form : Form) (text : List ℕ) (e : FormError) → IsErrAnd r (λ f. f ≡ fault.Form e) → FormFails form text e
+    → IfErr r (λ f. (f ≡ want_of_memory) ⊎ IsTextFault form text f)
 not_said (Ok v) form text e same fails = tt
-not_said (Err f) form text e same fails = text_fault form text e f fails same
+not_said (Err f) form text e same (inl want) = inl (same ∙ ap (λ x. fault.Form x) want)
+not_said (Err f) form text e same (inr is_fault) = inr (e, is_fault, same)
 
 -- an error that is handed on
 pub handed_on : {T E : Type 0} (r : Result T E) (x : E) (Q : E → Type 0) → IsErrAnd r (λ y. y ≡ x) → Q x → IfErr r Q
@@ -81,29 +68,25 @@ handed_on (Err y) x Q same told = subst Q (sym same) told
 
 -- a writer's refusal is want of memory, or of a cell that is too deep
 pub want_of_writing : (form : Form) (a : NumberSet) (stated : Option ℕ) (e : FormError) → (IsTooCoarse a stated → ⊥)
-    → IsUnwritten form a stated e → IsWant e
+    → IsUnwritten form a stated e → e ≡ Memory
 want_of_writing Ascii a stated e fits (inl want) = want
 want_of_writing Ascii a stated e fits (inr coarse) = absurd (fits coarse.1)
 want_of_writing Json a stated e fits (inl want) = want
 want_of_writing Json a stated e fits (inr coarse) = absurd (fits coarse.1)
 want_of_writing Uniq a stated e fits want = want
 
-want_is_memory : (e : FormError) (f : Fault) → IsFaultOf e f → IsWant e → f ≡ fault.Memory
-want_is_memory e f (inl memory) want = memory.1
-want_is_memory e f (inr told) want = absurd (told.0 want)
-
-pub unless_memory : {T : Type 0} (r : Result T Fault) (e : FormError) → IsErrAnd r (λ f. IsFaultOf e f) → IsWant e → IsOkUnless r fault.Memory
+pub unless_memory : {T : Type 0} (r : Result T InputFault) (e : FormError) → IsErrAnd r (λ f. f ≡ fault.Form e) → e ≡ Memory → IsOkUnless r want_of_memory
 unless_memory (Ok v) e same want = tt
-unless_memory (Err f) e same want = want_is_memory e f same want
+unless_memory (Err f) e same want = same ∙ ap (λ x. fault.Form x) want
 
 -- want of memory for what is made of an input
-pub no_memory : {T : Type 0} (r : Result T Complaint) (f : Fault) (choice : Choice) (left left' : Option (List ℕ))
-    → IsErrAnd r (λ c. (c.fault ≡ f) × (c.place_line ≡ None) × (c.hint ≡ None)) → f ≡ fault.Memory → IfErr r (λ c. IsNotSaid choice left left' c)
+pub no_memory : {T : Type 0} (r : Result T Complaint) (f : InputFault) (choice : Choice) (left left' : Option (List ℕ))
+    → IsErrAnd r (λ c. (c.fault ≡ f) × (c.place_line ≡ None) × (c.hint ≡ None)) → f ≡ want_of_memory → IfErr r (λ c. IsNotSaid choice left left' c)
 no_memory (Ok v) f choice left left' same memory = tt
 no_memory (Err c) f choice left left' same memory = inl (inr (inr (same.0 ∙ memory)))
 
 -- and for what is made of several texts
-pub no_memory_together : {T : Type 0} (r : Result T Complaint) (f : Fault) (choice : Choice) (left left' : Option (List ℕ))
-    → IsErrAnd r (λ c. (c.fault ≡ f) × (c.place_line ≡ None) × (c.hint ≡ None)) → f ≡ fault.Memory → IfErr r (λ c. IsNotCombined choice left left' c)
+pub no_memory_together : {T : Type 0} (r : Result T Complaint) (f : InputFault) (choice : Choice) (left left' : Option (List ℕ))
+    → IsErrAnd r (λ c. (c.fault ≡ f) × (c.place_line ≡ None) × (c.hint ≡ None)) → f ≡ want_of_memory → IfErr r (λ c. IsNotCombined choice left left' c)
 no_memory_together (Ok v) f choice left left' same memory = tt
 no_memory_together (Err c) f choice left left' same memory = inl (inr (inr (same.0 ∙ memory)))

@@ -12,14 +12,15 @@ use Rattle.moc_text.specs.Lines.{is_semicolon, pieces_of}
 use Rattle.moc_forms.specs.Finding.{form_for}
 use Rattle.moc_forms.specs.declared.combining.Operation.{Operation}
 use Rattle.moc_forms.specs.declared.finding.Choice.{Choice}
-use Rattle.moc_conversion.specs.Combining.{HasLongPart, IsNotCombined, SaysTogether, TellsFirstFault}
+use Rattle.moc_conversion.specs.Combining.{HasLongPiece, IsNotCombined, SaysTogether, TellsFirstFault}
 use Rattle.moc_conversion.specs.Private.Pieces.{BringsPiece, LacksSemicolons}
 use Rattle.moc_conversion.specs.Conversion.{HasRead, TellsFault}
 use Rattle.moc_conversion.specs.Private.Running.{AreNotTaken, Begins, Ends, Fails, FailsWithin, IsLong, IsOpen, Leads, SaysMore, RunsTo, TextsSay, semicolon, texts_behind}
 use Rattle.moc_conversion.specs.declared.combination.Combination.{Combination}
 use Rattle.moc_conversion.specs.declared.complaint.Complaint.{Complaint}
-use Rattle.moc_conversion.specs.declared.fault.Fault.{Fault}
-use Rattle.moc_conversion.specs.declared.fault.Fault.TheVariants.{Memory, TooLong}
+use Rattle.moc_conversion.specs.declared.fault.InputFault.{InputFault}
+use Rattle.moc_conversion.specs.declared.fault.InputFault.TheVariants.{TooLong}
+use Rattle.moc_conversion.specs.Faults.{want_of_memory}
 
 -- ---- the texts of bytes
 
@@ -105,13 +106,13 @@ first_part (b ∷ front) rest lacks =
     )
 
 -- it is too long where these bytes are
-pub long_front : (front rest : List ℕ) → LacksSemicolons front → 16777216 < length front → HasLongPart (front ++ rest)
+pub long_front : (front rest : List ℕ) → LacksSemicolons front → 16777216 < length front → HasLongPiece (front ++ rest)
 long_front front rest lacks long =
     let first = first_part front rest lacks in
     (first.0, subst (λ parts. Contains parts first.0) (sym first.2) (0, omega arith, refl), omega (arith, long, first.3))
 
 -- a part behind a semicolon stays one
-long_behind : (text rest : List ℕ) → LacksSemicolons text → HasLongPart rest → HasLongPart (text ++ 59 ∷ rest)
+long_behind : (text rest : List ℕ) → LacksSemicolons text → HasLongPiece rest → HasLongPiece (text ++ 59 ∷ rest)
 long_behind text rest lacks (part, here, long) = (
   part,
   subst (λ parts. Contains parts part) (sym (slice_split_at is_semicolon text 59 rest lacks refl)) (Contains-append_right (text ∷ []) (pieces_of rest) part here),
@@ -140,7 +141,7 @@ module _ (c d : Combination) (same_operation : d.operation ≡ c.operation) (sam
         (subst (λ b. TellsFirstFault d.number d.choice (texts_behind b rest) complaint) before
         (subst (λ t. TellsFirstFault d.number d.choice (texts_behind d.before (t ++ rest)) complaint) bare later)))));
     longer = λ rest long. elim long [
-      | inl part ↦ inl (long_behind c.text.items rest opened.lacks (subst (λ t. HasLongPart (t ++ rest)) bare part))
+      | inl part ↦ inl (long_behind c.text.items rest opened.lacks (subst (λ t. HasLongPiece (t ++ rest)) bare part))
       | inr many ↦ inr (omega (arith, many, next))
     ];
   }
@@ -150,7 +151,7 @@ module _ (c d : Combination) (same_operation : d.operation ≡ c.operation) (sam
       text_ended_so after opened (subst (λ b. SaysMore c b after) same more) bare next_before
 
 -- a text that a semicolon ends is at fault
-pub ended_fails : (c : Combination) (complaint : Complaint) → IsOpen c → (complaint.fault ≡ Memory) ⊎ TellsFault (form_for c.choice c.text.items) c.text.items (Some c.number) complaint
+pub ended_fails : (c : Combination) (complaint : Complaint) → IsOpen c → (complaint.fault ≡ want_of_memory) ⊎ TellsFault (form_for c.choice c.text.items) c.text.items (Some c.number) complaint
     → AreNotTaken c semicolon complaint.fault ⊎ FailsWithin c semicolon complaint
 ended_fails c complaint opened (inl memory) = inl (inl memory)
 ended_fails c complaint opened (inr tells) = inr (λ rest.
@@ -159,7 +160,7 @@ ended_fails c complaint opened (inr tells) = inr (λ rest.
 
 -- the last text is at fault
 pub last_fails : (c : Combination) (complaint : Complaint) → IsOpen c → (c.before ≡ None) ⊎ (are_blanks c.text.items ≡ false)
-    → (complaint.fault ≡ Memory) ⊎ TellsFault (form_for c.choice c.text.items) c.text.items (Some c.number) complaint → (complaint.fault ≡ Memory) ⊎ Fails c [] complaint
+    → (complaint.fault ≡ want_of_memory) ⊎ TellsFault (form_for c.choice c.text.items) c.text.items (Some c.number) complaint → (complaint.fault ≡ want_of_memory) ⊎ Fails c [] complaint
 last_fails c complaint opened why (inl memory) = inl memory
 last_fails c complaint opened why (inr tells) = inr (
     subst (λ t. TellsFirstFault c.number c.choice (texts_behind c.before t) complaint) (sym (append-nil c.text.items))
@@ -224,7 +225,7 @@ led_by c d bytes operation choice number before text = record {
       (subst (λ f. TellsFirstFault c.number f (texts_behind d.before (d.text.items ++ rest)) complaint) choice
       (subst (λ n. TellsFirstFault n d.choice (texts_behind d.before (d.text.items ++ rest)) complaint) number fails)));
   longer = λ rest long. elim long [
-    | inl part ↦ inl (subst HasLongPart (behind rest) part)
+    | inl part ↦ inl (subst HasLongPiece (behind rest) part)
     | inr many ↦ inr (omega (arith, many, number, length-append bytes rest))
   ];
 }
@@ -233,24 +234,24 @@ led_by c d bytes operation choice number before text = record {
     behind rest = ap (λ t. t ++ rest) text ∙ append_assoc c.text.items bytes rest
 
 -- bytes with which the text gets too long are not taken
-pub too_long : (c : Combination) (bytes : List ℕ) (fault : Fault) → IsOpen c → LacksSemicolons bytes → 16777216 < length c.text.items + length bytes
-    → (fault ≡ Memory) ⊎ (fault ≡ TooLong) → AreNotTaken c bytes fault
+pub too_long : (c : Combination) (bytes : List ℕ) (fault : InputFault) → IsOpen c → LacksSemicolons bytes → 16777216 < length c.text.items + length bytes
+    → (fault ≡ want_of_memory) ⊎ (fault ≡ TooLong) → AreNotTaken c bytes fault
 too_long c bytes fault opened lacks long (inl memory) = inl memory
 too_long c bytes fault opened lacks long (inr is) =
     let all : LacksSemicolons (c.text.items ++ bytes) = All-append (λ b. is_semicolon b ≡ false) c.text.items bytes opened.lacks lacks in
     inr (
       is,
-      λ rest. inl (subst HasLongPart (append_assoc c.text.items bytes rest)
+      λ rest. inl (subst HasLongPiece (append_assoc c.text.items bytes rest)
           (long_front (c.text.items ++ bytes) rest all (omega (arith, long, length-append c.text.items bytes)))),
     )
 
 -- a text that cannot be counted does not end
-pub too_many : (c : Combination) (fault : Fault) → 18446744073709551615 ≤ c.number → (fault ≡ Memory) ⊎ (fault ≡ TooLong) → AreNotTaken c semicolon fault
+pub too_many : (c : Combination) (fault : InputFault) → 18446744073709551615 ≤ c.number → (fault ≡ want_of_memory) ⊎ (fault ≡ TooLong) → AreNotTaken c semicolon fault
 too_many c fault many (inl memory) = inl memory
 too_many c fault many (inr is) = inr (is, λ rest. inr (omega (arith, many)))
 
 -- bytes behind those that were taken are not taken
-pub not_taken_on : (a b : Combination) (xs ys behind : List ℕ) (fault : Fault) → Leads a xs b → AreNotTaken b ys fault → AreNotTaken a (xs ++ (ys ++ behind)) fault
+pub not_taken_on : (a b : Combination) (xs ys behind : List ℕ) (fault : InputFault) → Leads a xs b → AreNotTaken b ys fault → AreNotTaken a (xs ++ (ys ++ behind)) fault
 not_taken_on a b xs ys behind fault leads (inl memory) = inl memory
 not_taken_on a b xs ys behind fault leads (inr (is, long)) = inr (
   is,
@@ -288,8 +289,8 @@ module _ (operation : Operation) (choice : Choice) (c : Combination) (begins : B
       (subst (λ t. TextsSay c.operation c.choice c.before t (Some after)) (ap (λ t. t ++ (bytes ++ [])) begins.text ∙ append-nil bytes) told)))
 
   -- and in what is too long
-  pub longer_from_1 : (bytes : List ℕ) → IsLong c bytes → HasLongPart bytes ⊎ (18446744073709551615 ≤ length bytes)
-  longer_from_1 bytes (inl part) = inl (subst (λ t. HasLongPart (t ++ bytes)) begins.text part)
+  pub longer_from_1 : (bytes : List ℕ) → IsLong c bytes → HasLongPiece bytes ⊎ (18446744073709551615 ≤ length bytes)
+  longer_from_1 bytes (inl part) = inl (subst (λ t. HasLongPiece (t ++ bytes)) begins.text part)
   longer_from_1 bytes (inr many) = inr (omega (arith, many, begins.number))
 
   pub fails_from_1 : (bytes : List ℕ) (complaint : Complaint) → Fails c bytes complaint → TellsFirstFault 1 choice (texts_of bytes) complaint
@@ -317,7 +318,7 @@ module _ (operation : Operation) (choice : Choice) (a b c : Option (List ℕ)) (
   taken = runs.0
 
   -- a piece was not taken
-  pub piece_not_taken : (fault : Fault) → AreNotTaken d piece fault → (fault ≡ Memory) ⊎ ((fault ≡ TooLong) × HasRead (λ given. HasLongPart given ⊎ (18446744073709551615 ≤ length given)) a c)
+  pub piece_not_taken : (fault : InputFault) → AreNotTaken d piece fault → (fault ≡ want_of_memory) ⊎ ((fault ≡ TooLong) × HasRead (λ given. HasLongPiece given ⊎ (18446744073709551615 ≤ length given)) a c)
   piece_not_taken fault (inl memory) = inl memory
   piece_not_taken fault (inr (is, long)) = inr (
     is,
@@ -350,7 +351,7 @@ module _ (operation : Operation) (choice : Choice) (a b c : Option (List ℕ)) (
         (runs.0, all_consumed, (end, told.within, told.says))
 
     -- the last text was at fault
-    pub all_fails : (complaint : Complaint) → (complaint.fault ≡ Memory) ⊎ Fails d [] complaint → IsNotCombined choice a c complaint
+    pub all_fails : (complaint : Complaint) → (complaint.fault ≡ want_of_memory) ⊎ Fails d [] complaint → IsNotCombined choice a c complaint
     all_fails complaint (inl memory) = inl (inr (inr memory))
     all_fails complaint (inr fails) = inr (
       runs.0,

@@ -10,7 +10,7 @@ use Rattle.moc_forms.specs.declared.combining.Operation.{Operation}
 use Rattle.moc_forms.specs.declared.finding.Choice.{Choice}
 use Rattle.moc_conversion.specs.Conversion.{HasRead, IsOfInput, TellsFault, input_limit}
 use Rattle.moc_conversion.specs.declared.complaint.Complaint.{Complaint}
-use Rattle.moc_conversion.specs.declared.fault.Fault.{Fault}
+use Rattle.moc_conversion.specs.declared.fault.InputFault.{InputFault}
 
 -- all that was left was read; none of its texts is too long, and this is what they say together
 abbrev pub SaysTogether : Operation → Choice → Option (List ℕ) → Option (List ℕ) → Said → Type 0
@@ -37,13 +37,13 @@ IsFaultyText choice left left' c =
     HasRead (λ given. (rest : List ℕ) → (IsAtEnd left' → rest ≡ [])
     → TellsFirstFault 1 choice (texts_of (given ++ rest)) c) left left'
 
--- one of the parts of bytes, between their semicolons, is longer than a text may be
-abbrev pub HasLongPart : List ℕ → Type 0
-HasLongPart bytes = (part : List ℕ) × Contains (pieces_of bytes) part × (input_limit < length part)
+-- one of the pieces of bytes, between their semicolons, is longer than a text may be
+abbrev pub HasLongPiece : List ℕ → Type 0
+HasLongPiece bytes = (piece : List ℕ) × Contains (pieces_of bytes) piece × (input_limit < length piece)
 
--- an input of texts could not be had: a part is too long, say, or there are more bytes than are counted
-abbrev pub IsOfTexts : Option (List ℕ) → Option (List ℕ) → Fault → Type 0
-IsOfTexts = IsOfInput (λ given. HasLongPart given ⊎ (18446744073709551615 ≤ length given))
+-- an input of texts could not be had: a piece is too long, say, or there are more bytes than are counted
+abbrev pub IsOfTexts : Option (List ℕ) → Option (List ℕ) → InputFault → Type 0
+IsOfTexts = IsOfInput (λ given. HasLongPiece given ⊎ (18446744073709551615 ≤ length given))
 
 -- why texts say no set together: the input or memory could not be had, or a text is too long, or one is at fault
 abbrev pub IsNotCombined : Choice → Option (List ℕ) → Option (List ℕ) → Complaint → Type 0

@@ -17,9 +17,10 @@ use Rattle.moc_forms.specs.declared.finding.Choice.TheVariants.{Named}
 use Rattle.moc_forms.specs.declared.form.Form.{Form}
 use Rattle.moc_forms.specs.declared.form.FormError.{FormError}
 use Rattle.moc_forms.specs.declared.place.Place.{Place}
+use Rattle.moc_conversion.specs.Faults.{want_of_memory}
 use Rattle.moc_conversion.specs.declared.complaint.Complaint.{Complaint}
-use Rattle.moc_conversion.specs.declared.fault.Fault.{Fault}
-use Rattle.moc_conversion.specs.declared.fault.Fault.TheVariants as fault
+use Rattle.moc_conversion.specs.declared.fault.InputFault.{InputFault}
+use Rattle.moc_conversion.specs.declared.fault.InputFault.TheVariants as fault
 
 -- the most bytes of a text
 abbrev pub input_limit : ℕ
@@ -98,16 +99,16 @@ abbrev pub HasRead : (List ℕ → Type 0) → Option (List ℕ) → Option (Lis
 HasRead is left left' = (given : List ℕ) × Consumes left left' given × is given
 
 -- an input could not be had: the reader failed, or it is too long by what was read, or memory was refused
-abbrev pub IsOfInput : (List ℕ → Type 0) → Option (List ℕ) → Option (List ℕ) → Fault → Type 0
+abbrev pub IsOfInput : (List ℕ → Type 0) → Option (List ℕ) → Option (List ℕ) → InputFault → Type 0
 IsOfInput is_long left left' f =
-    (f ≡ fault.Read) ⊎ ((f ≡ fault.TooLong) × HasRead is_long left left') ⊎ (f ≡ fault.Memory)
+    (f ≡ fault.Read) ⊎ ((f ≡ fault.TooLong) × HasRead is_long left left') ⊎ (f ≡ want_of_memory)
 
 -- an input that is one text could not be had
-abbrev pub IsOfWhole : Option (List ℕ) → Option (List ℕ) → Fault → Type 0
+abbrev pub IsOfWhole : Option (List ℕ) → Option (List ℕ) → InputFault → Type 0
 IsOfWhole = IsOfInput (λ given. input_limit < length given)
 
 -- the fault is the first of a text in a form
-abbrev pub IsTextFault : Form → List ℕ → Fault → Type 0
+abbrev pub IsTextFault : Form → List ℕ → InputFault → Type 0
 IsTextFault form text f = (error : FormError) × IsFormFault form text error × (f ≡ fault.Form error)
 
 -- why the input was not converted, which is told alone: it could not be had, or it has the fault that is told

@@ -1,5 +1,5 @@
 -- Why nothing was made of an input: the names of faults, and what tells them.
-use Rattle.std.specs.Prelude.{◌≡◌, ◌⊎◌, ℕ, List, [], ◌∷◌, ◌++◌, string_bytes, codes}
+use Rattle.std.specs.Prelude.{ℕ, List, [], ◌∷◌, ◌++◌, string_bytes, codes}
 use Rattle.std.specs.Option.{option_map_or}
 use Rattle.moc_text.specs.declared.ascii.error.TextError.{TextError}
 use Rattle.moc_text.specs.declared.ascii.error.TextError.TheVariants as text
@@ -8,16 +8,14 @@ use Rattle.moc_text.specs.declared.json_form.error.JsonError.TheVariants as json
 use Rattle.moc_text.specs.declared.uniq.UniqError.{UniqError}
 use Rattle.moc_text.specs.declared.uniq.UniqError.TheVariants as uniq
 use Rattle.moc_forms.specs.Finding.{hint_text}
-use Rattle.moc_forms.specs.Forms.{IsWant}
-use Rattle.moc_forms.specs.declared.form.FormError.{FormError}
 use Rattle.moc_forms.specs.declared.form.FormError.TheVariants as form
 use Rattle.moc_conversion.specs.declared.complaint.Complaint.{Complaint}
-use Rattle.moc_conversion.specs.declared.fault.Fault.{Fault}
-use Rattle.moc_conversion.specs.declared.fault.Fault.TheVariants.{Form, TooLong, Read, Memory}
+use Rattle.moc_conversion.specs.declared.fault.InputFault.{InputFault}
+use Rattle.moc_conversion.specs.declared.fault.InputFault.TheVariants.{Form, TooLong, Read}
 
--- the fault of a text with this error: the error itself, but that want of memory is a fault of its own
-abbrev pub IsFaultOf : FormError → Fault → Type 0
-IsFaultOf error fault = (IsWant error × (fault ≡ Memory)) ⊎ ((¬ IsWant error) × (fault ≡ Form error))
+-- memory was refused
+abbrev pub want_of_memory : InputFault
+want_of_memory = Form form.Memory
 
 -- the name of the fault of a text in the ASCII form
 abbrev pub name_of_text : TextError → List ℕ
@@ -48,14 +46,13 @@ name_of_uniq (uniq.NotUniq line) = codes "NotUniq"
 name_of_uniq uniq.Memory = codes "Memory"
 
 -- the name of a fault
-abbrev pub input_fault_name : Fault → List ℕ
+abbrev pub input_fault_name : InputFault → List ℕ
 input_fault_name (Form (form.Ascii e)) = name_of_text e
 input_fault_name (Form (form.Json e)) = name_of_json e
 input_fault_name (Form (form.Uniq e)) = name_of_uniq e
 input_fault_name (Form form.Memory) = codes "Memory"
 input_fault_name TooLong = codes "TooLong"
 input_fault_name Read = codes "Read"
-input_fault_name Memory = codes "Memory"
 
 -- the line that tells a fault of this name
 abbrev pub line_of : List ℕ → List ℕ

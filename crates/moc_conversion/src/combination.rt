@@ -4,14 +4,15 @@ ghost use Rattle.std.specs.String.{string_bytes};
 ghost use Rattle.moc_forms.specs.Finding.{form_for};
 ghost use Rattle.moc_conversion.specs.Combining.{CombinesAll, IsNotCombined, SaysTogether};
 ghost use Rattle.moc_conversion.specs.Conversion.{TellsFault};
+ghost use Rattle.moc_conversion.specs.Faults.{want_of_memory};
 ghost use Rattle.moc_conversion.specs.Private.Pieces.{LacksSemicolons};
 ghost use Rattle.moc_conversion.specs.Private.Running.{Begins, Ends, Fails, FailsWithin, IsOpen, AreNotTaken, Leads};
 ghost use Rattle.moc_conversion.specs.Private.Running.{SaysMore, semicolon};
 
 use crate::complaint::Complaint;
-use crate::conversion::{parted, said_or_told, text_of};
-use crate::fault::Fault;
-use crate::reading::{INPUT_LIMIT, read_piece, room};
+use crate::fault::InputFault;
+use crate::reading::{INPUT_LIMIT, parted, read_chunk, room};
+use crate::saying::{said_or_told, text_of};
 use moc_devices::Source;
 use moc_forms::{Choice, Form, Operation, is_blank, place_line};
 use moc_ranges::Coverage;
@@ -47,11 +48,11 @@ impl Combination {
 
     /// The complaint that the text gets too long.
     fn too_long(&self, alloc: Global) -> Complaint
-        ensures { (result.fault ≡ Fault.Memory) ⊎ (result.fault ≡ Fault.TooLong) }
+        ensures { (result.fault ≡ want_of_memory) ⊎ (result.fault ≡ InputFault.TooLong) }
     {
         match place_line(alloc, Some(self.number), None, None) {
             Ok(line) => Complaint {
-                fault: Fault::TooLong,
+                fault: InputFault::TooLong,
                 place_line: line,
                 hint: None,
             },
@@ -63,7 +64,7 @@ impl Combination {
     fn extend(&mut self, alloc: Global, bytes: &[u8]) -> Result<(), Complaint>
         requires open { IsOpen self.old }
         requires lacks { LacksSemicolons bytes.now }
-        ensures device { IfErr result (λ c. c.fault ≢ Fault.Read) }
+        ensures device { IfErr result (λ c. c.fault ≢ InputFault.Read) }
         ensures fault { IfErr result (λ c. AreNotTaken self.old bytes.now c.fault) }
         ensures open { OnOk result (IsOpen self.new) }
         ensures leads { OnOk result (Leads self.old bytes.now self.new) }
@@ -80,10 +81,10 @@ impl Combination {
         alloc: Global,
         before: Option<(Coverage, Option<Order>, Form)>,
     ) -> Result<(Coverage, Option<Order>, Form), Complaint>
-        ensures device { IfErr result (λ c. c.fault ≢ Fault.Read) }
+        ensures device { IfErr result (λ c. c.fault ≢ InputFault.Read) }
         ensures says { IfOk result (λ after. SaysMore self.now before after) }
         ensures told { IfErr result (λ c.
-            (c.fault ≡ Fault.Memory) ⊎ TellsFault (form_for self.now.choice self.now.text.items) self.now.text.items
+            (c.fault ≡ want_of_memory) ⊎ TellsFault (form_for self.now.choice self.now.text.items) self.now.text.items
             (Some self.now.number) c) }
     {
         let said = said_or_told(alloc, self.choice, &self.text, Some(self.number))?;
@@ -93,7 +94,7 @@ impl Combination {
     /// Ends the text, and begins the next.
     fn end_text(&mut self, alloc: Global) -> Result<(), Complaint>
         requires { IsOpen self.old }
-        ensures device { IfErr result (λ c. c.fault ≢ Fault.Read) }
+        ensures device { IfErr result (λ c. c.fault ≢ InputFault.Read) }
         ensures fault { IfErr result (λ c. AreNotTaken self.old semicolon c.fault ⊎ FailsWithin self.old semicolon c) }
         ensures open { OnOk result (IsOpen self.new) }
         ensures leads { OnOk result (Leads self.old semicolon self.new) }
@@ -112,7 +113,7 @@ impl Combination {
     /// Takes the bytes that come next, where each semicolon ends a text.
     fn take_bytes(&mut self, alloc: Global, bytes: &[u8]) -> Result<(), Complaint>
         requires { IsOpen self.old }
-        ensures device { IfErr result (λ c. c.fault ≢ Fault.Read) }
+        ensures device { IfErr result (λ c. c.fault ≢ InputFault.Read) }
         ensures fault { IfErr result (λ c. AreNotTaken self.old bytes.now c.fault ⊎ FailsWithin self.old bytes.now c) }
         ensures open { OnOk result (IsOpen self.new) }
         ensures leads { OnOk result (Leads self.old bytes.now self.new) }
@@ -130,8 +131,8 @@ impl Combination {
     /// before is used up.
     fn all_said(&mut self, alloc: Global) -> Result<(Coverage, Option<Order>, Form), Complaint>
         requires { IsOpen self.old }
-        ensures device { IfErr result (λ c. c.fault ≢ Fault.Read) }
-        ensures fault { IfErr result (λ c. (c.fault ≡ Fault.Memory) ⊎ Fails self.old [] c) }
+        ensures device { IfErr result (λ c. c.fault ≢ InputFault.Read) }
+        ensures fault { IfErr result (λ c. (c.fault ≡ want_of_memory) ⊎ Fails self.old [] c) }
         ensures says { IfOk result (λ after. Ends self.old [] (Some after)) }
     {
         let Some(before) = self.before.take() else {
@@ -152,7 +153,7 @@ fn read_texts<R: Source>(
     input: &mut R,
 ) -> Result<(Coverage, Option<Order>, Form), Complaint>
     requires { R.mark input.old ≡ false }
-    ensures read { IsErrAnd result (λ c. c.fault ≡ Fault.Read) ↔ IsTrue (R.mark input.new) }
+    ensures read { IsErrAnd result (λ c. c.fault ≡ InputFault.Read) ↔ IsTrue (R.mark input.new) }
     ensures fault { IfErr result (λ c. IsNotCombined choice (R.left input.old) (R.left input.new) c) }
     ensures says { IfOk result (λ r. SaysTogether operation choice (R.left input.old) (R.left input.new) r) }
 {
@@ -161,12 +162,12 @@ fn read_texts<R: Source>(
     let mut piece = Vec::new(alloc);
     for _piece in 0..u64::MAX {
         piece.clear();
-        if !read_piece(input, &mut room, &mut piece)? {
+        if !read_chunk(input, &mut room, &mut piece)? {
             return texts.all_said(alloc);
         }
         texts.take_bytes(alloc, &piece)?;
     }
-    Err(Complaint::from(Fault::TooLong))
+    Err(Complaint::from(InputFault::TooLong))
 }
 
 /// The text of what the texts of the input say together by an operation, in the form of the first. The deepest order
@@ -183,7 +184,7 @@ pub fn combined<R: Source>(
     input: &mut R,
 ) -> Result<String, Complaint>
     requires { R.mark input.old ≡ false }
-    ensures read { IsErrAnd result (λ c. c.fault ≡ Fault.Read) ↔ IsTrue (R.mark input.new) }
+    ensures read { IsErrAnd result (λ c. c.fault ≡ InputFault.Read) ↔ IsTrue (R.mark input.new) }
     ensures fault { IfErr result (λ c. IsNotCombined choice (R.left input.old) (R.left input.new) c) }
     ensures combines { IfOk result (λ t.
         CombinesAll operation choice (R.left input.old) (R.left input.new) (string_bytes t)) }

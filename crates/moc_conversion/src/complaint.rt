@@ -1,10 +1,9 @@
 //! What is told where nothing was made of an input.
 ghost use Rattle.std.specs.Prelude.{◌≡◌, None, OnOk, false, is_err};
 ghost use Rattle.std.specs.Io.KnownBytes.{Appends};
-ghost use Rattle.moc_conversion.specs.Faults.{complaint_text};
-ghost use Rattle.moc_conversion.specs.declared.fault.Fault.TheVariants as fault;
+ghost use Rattle.moc_conversion.specs.Faults.{complaint_text, want_of_memory};
 
-use crate::fault::Fault;
+use crate::fault::InputFault;
 use moc_devices::{DeviceFault, Sink, write_all};
 use moc_forms::{Form, hint_line};
 use moc_ranges::Memory as MemoryRefused;
@@ -16,7 +15,7 @@ use thiserror::Error;
 #[derive(Debug, Drop, Error)]
 #[error("{fault}")]
 pub struct Complaint {
-    pub fault: Fault,
+    pub fault: InputFault,
     pub place_line: Option<String>,
     pub hint: Option<Form>,
 }
@@ -40,10 +39,10 @@ impl Complaint {
     }
 }
 
-impl From<Fault> for Complaint {
+impl From<InputFault> for Complaint {
     ghost from_gives = { λ f c. (c.fault ≡ f) × (c.place_line ≡ None) × (c.hint ≡ None) };
 
-    fn from(fault: Fault) -> Complaint {
+    fn from(fault: InputFault) -> Complaint {
         Complaint {
             fault,
             place_line: None,
@@ -53,17 +52,17 @@ impl From<Fault> for Complaint {
 }
 
 impl From<MemoryRefused> for Complaint {
-    ghost from_gives = { λ _ c. (c.fault ≡ fault.Memory) × (c.place_line ≡ None) × (c.hint ≡ None) };
+    ghost from_gives = { λ _ c. (c.fault ≡ want_of_memory) × (c.place_line ≡ None) × (c.hint ≡ None) };
 
-    fn from(_error: MemoryRefused) -> Complaint {
-        Complaint::from(Fault::Memory)
+    fn from(error: MemoryRefused) -> Complaint {
+        Complaint::from(InputFault::from(error))
     }
 }
 
 impl From<AllocError> for Complaint {
-    ghost from_gives = { λ _ c. (c.fault ≡ fault.Memory) × (c.place_line ≡ None) × (c.hint ≡ None) };
+    ghost from_gives = { λ _ c. (c.fault ≡ want_of_memory) × (c.place_line ≡ None) × (c.hint ≡ None) };
 
-    fn from(_error: AllocError) -> Complaint {
-        Complaint::from(Fault::Memory)
+    fn from(error: AllocError) -> Complaint {
+        Complaint::from(InputFault::from(error))
     }
 }

@@ -1,8 +1,8 @@
 //! Why nothing was made of an input.
 ghost use Rattle.std.specs.Prelude.{◌≡◌};
-ghost use Rattle.moc_conversion.specs.Faults.{IsFaultOf, input_fault_name, line_of};
+ghost use Rattle.moc_conversion.specs.Faults.{input_fault_name, line_of, want_of_memory};
 ghost use Rattle.moc_conversion.specs.Faults.{name_of_json, name_of_text, name_of_uniq};
-ghost use Rattle.moc_conversion.specs.declared.fault.Fault.TheVariants as fault;
+ghost use Rattle.moc_conversion.specs.declared.fault.InputFault.TheVariants as fault;
 
 use moc_forms::FormError;
 use moc_ranges::Memory as MemoryRefused;
@@ -10,10 +10,11 @@ use moc_text::{JsonError, TextError, UniqError};
 use std::alloc::AllocError;
 use thiserror::Error;
 
-/// Why nothing was made of an input: what its text is refused for, in any form, or why it could not be had.
+/// Why nothing was made of an input: what its text is refused for, in any form, or why it could not be had. Want of
+/// memory is `Form(FormError::Memory)`, wherever memory was wanted.
 #[derive(Clone, Copy, Debug, PartialEq, Eq, Error)]
-pub enum Fault {
-    /// The text is refused for this; want of memory, of which the error has shapes of its own, is `Memory`.
+pub enum InputFault {
+    /// The text is refused for this, or memory was refused.
     #[error("{0}")]
     Form(FormError),
     /// A text has more than 16,777,216 bytes.
@@ -22,23 +23,20 @@ pub enum Fault {
     /// The reader failed.
     #[error("the reader failed")]
     Read,
-    /// A growth was refused.
-    #[error("out of memory")]
-    Memory,
 }
 
-impl Fault {
+impl InputFault {
     /// The line that tells it.
     pub fn line(self) -> &'static str
         ensures { result.now ≡ line_of (input_fault_name self) }
     {
         match self {
-            Fault::Form(FormError::Ascii(error)) => text_line(error),
-            Fault::Form(FormError::Json(error)) => json_line(error),
-            Fault::Form(FormError::Uniq(error)) => uniq_line(error),
-            Fault::TooLong => "fault TooLong\n",
-            Fault::Read => "fault Read\n",
-            Fault::Memory | Fault::Form(FormError::Memory) => "fault Memory\n",
+            InputFault::Form(FormError::Ascii(error)) => text_line(error),
+            InputFault::Form(FormError::Json(error)) => json_line(error),
+            InputFault::Form(FormError::Uniq(error)) => uniq_line(error),
+            InputFault::Form(FormError::Memory) => "fault Memory\n",
+            InputFault::TooLong => "fault TooLong\n",
+            InputFault::Read => "fault Read\n",
         }
     }
 }
@@ -86,32 +84,26 @@ fn uniq_line(error: UniqError) -> &'static str
     }
 }
 
-impl From<FormError> for Fault {
-    ghost from_gives = { λ error f. IsFaultOf error f };
+impl From<FormError> for InputFault {
+    ghost from_gives = { λ error f. f ≡ fault.Form error };
 
-    fn from(error: FormError) -> Fault {
-        match error {
-            FormError::Ascii(TextError::Memory)
-            | FormError::Json(JsonError::Memory)
-            | FormError::Uniq(UniqError::Memory)
-            | FormError::Memory => Fault::Memory,
-            error => Fault::Form(error),
-        }
+    fn from(error: FormError) -> InputFault {
+        InputFault::Form(error)
     }
 }
 
-impl From<AllocError> for Fault {
-    ghost from_gives = { λ _ f. f ≡ fault.Memory };
+impl From<AllocError> for InputFault {
+    ghost from_gives = { λ _ f. f ≡ want_of_memory };
 
-    fn from(_error: AllocError) -> Fault {
-        Fault::Memory
+    fn from(_error: AllocError) -> InputFault {
+        InputFault::Form(FormError::Memory)
     }
 }
 
-impl From<MemoryRefused> for Fault {
-    ghost from_gives = { λ _ f. f ≡ fault.Memory };
+impl From<MemoryRefused> for InputFault {
+    ghost from_gives = { λ _ f. f ≡ want_of_memory };
 
-    fn from(_error: MemoryRefused) -> Fault {
-        Fault::Memory
+    fn from(_error: MemoryRefused) -> InputFault {
+        InputFault::Form(FormError::Memory)
     }
 }

@@ -4,10 +4,13 @@
 mod combination;
 mod complaint;
 mod conversion;
+mod drawing;
 mod fault;
 mod reading;
+mod saying;
 
 pub use combination::combined;
 pub use complaint::Complaint;
-pub use conversion::{changed, checked, converted, described, drawn};
-pub use fault::Fault;
+pub use conversion::{changed, checked, converted, described};
+pub use drawing::drawn;
+pub use fault::InputFault;

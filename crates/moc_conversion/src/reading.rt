@@ -1,9 +1,11 @@
-//! The bytes of an input, in pieces and as a whole.
+//! The bytes of an input, in pieces and as a whole, and parted at a semicolon.
 ghost use Rattle.std.specs.Prelude.{◌≡◌, ◌<◌, ◌↔◌, ◌⊎◌, false, IfErr, IfOk, IsErrOf, IsTrue, length};
 ghost use Rattle.moc_conversion.specs.Conversion.{IsOfWhole, IsWhole};
-ghost use Rattle.moc_conversion.specs.Private.Pieces.{BringsPiece};
+ghost use Rattle.moc_conversion.specs.Faults.{want_of_memory};
+ghost use Rattle.moc_conversion.specs.Private.Pieces.{BringsPiece, IsParted};
 
-use crate::fault::Fault;
+use crate::fault::InputFault;
+use memchr::memchr;
 use moc_devices::Source;
 use std::alloc::{AllocError, Global};
 
@@ -21,38 +23,46 @@ pub(crate) fn room(alloc: Global) -> Result<Vec<u8>, AllocError>
 }
 
 /// Reads one more piece behind the text, and answers whether there was one.
-pub(crate) fn read_piece<R: Source>(
+pub(crate) fn read_chunk<R: Source>(
     input: &mut R,
     room: &mut [u8],
     text: &mut Vec<u8>,
-) -> Result<bool, Fault>
+) -> Result<bool, InputFault>
     requires room { 0 < length room.old }
     requires input { R.mark input.old ≡ false }
-    ensures read { IsErrOf result Fault.Read ↔ IsTrue (R.mark input.new) }
-    ensures fault { IfErr result (λ f. (f ≡ Fault.Read) ⊎ (f ≡ Fault.Memory)) }
+    ensures read { IsErrOf result InputFault.Read ↔ IsTrue (R.mark input.new) }
+    ensures fault { IfErr result (λ f. (f ≡ InputFault.Read) ⊎ (f ≡ want_of_memory)) }
     ensures brings { IfOk result (λ some.
         BringsPiece (R.left input.old) text.old.items (R.left input.new) text.new.items some) }
 {
     let Ok(count) = input.read(room) else {
-        return Err(Fault::Read);
+        return Err(InputFault::Read);
     };
     text.extend_from_slice(&room[..count])?;
     Ok(count > 0)
 }
 
 /// All bytes of an input of at most 16,777,216 bytes; `TooLong` for a longer one. Read in large pieces into one buffer.
-pub(crate) fn read_whole<R: Source>(alloc: Global, input: &mut R) -> Result<Vec<u8>, Fault>
+pub(crate) fn read_whole<R: Source>(alloc: Global, input: &mut R) -> Result<Vec<u8>, InputFault>
     requires { R.mark input.old ≡ false }
-    ensures read { IsErrOf result Fault.Read ↔ IsTrue (R.mark input.new) }
+    ensures read { IsErrOf result InputFault.Read ↔ IsTrue (R.mark input.new) }
     ensures fault { IfErr result (λ f. IsOfWhole (R.left input.old) (R.left input.new) f) }
     ensures whole { IfOk result (λ v. IsWhole (R.left input.old) (R.left input.new) v.items) }
 {
     let mut room = room(alloc)?;
     let mut text = Vec::new(alloc);
     while text.len() <= INPUT_LIMIT {
-        if !read_piece(input, &mut room, &mut text)? {
+        if !read_chunk(input, &mut room, &mut text)? {
             return Ok(text);
         }
     }
-    Err(Fault::TooLong)
+    Err(InputFault::TooLong)
+}
+
+/// The bytes before the first semicolon and those behind it, if there is one.
+pub(crate) fn parted(bytes: &[u8]) -> Option<(&[u8], &[u8])>
+    ensures { IsParted bytes.now result }
+{
+    let at = memchr(b';', bytes)?;
+    Some((&bytes[..at], &bytes[at + 1..]))
 }

@@ -1,7 +1,8 @@
 -- Laws of calls and of what was written, for the proofs of callers.
-use Rattle.std.proofs.Common.{◌≡◌, ℕ, List, [], ◌++◌, Option, Some, None, Ok, sym, ap, ◌∙◌, arith, append-nil, subst}
+use Rattle.std.proofs.Common.{◌≡◌, Bool, false, ℕ, List, [], ◌++◌, Option, Some, None, Ok, sym, ap, ◌∙◌, arith}
+use Rattle.std.proofs.Common.{append-nil, subst}
 use Rattle.std.specs.Io.KnownBytes.{Appends}
-use Rattle.moc_devices.specs.Devices.{CallsMore, Sends}
+use Rattle.moc_devices.specs.Devices.{CallsMore, FlushesNothing, OnlyWrites, Sends}
 
 -- no call more
 pub CallsMore-none : (a : Option ℕ) → CallsMore a a 0
@@ -14,6 +15,33 @@ CallsMore-later a b None count first later = tt
 CallsMore-later a None (Some k) count first later = absurd later
 CallsMore-later None (Some m) (Some k) count first later = absurd first
 CallsMore-later (Some n) (Some m) (Some k) count first later = omega (arith, first, later)
+
+-- nothing was done
+pub FlushesNothing-none : {S : Type 0} {flushed : S → Bool} {flushes : S → Option ℕ} (a : S)
+    → FlushesNothing flushed flushes a a
+FlushesNothing-none {flushes = flushes} a = record { kept = λ is. is; none = CallsMore-none (flushes a) }
+
+-- twice nothing
+pub FlushesNothing-later : {S : Type 0} {flushed : S → Bool} {flushes : S → Option ℕ} {a b c : S}
+    → FlushesNothing flushed flushes a b → FlushesNothing flushed flushes b c → FlushesNothing flushed flushes a c
+FlushesNothing-later {flushes = flushes} {a = a} {b = b} {c = c} first later = record {
+  kept = λ is. first.kept (later.kept is);
+  none = CallsMore-later (flushes a) (flushes b) (flushes c) 0 first.none later.none;
+}
+
+-- nothing is written yet
+pub OnlyWrites-none : {S : Type 0} {mark flushed : S → Bool} {flushes : S → Option ℕ} (a : S)
+    → OnlyWrites mark flushed flushes a a false
+OnlyWrites-none a = record { marks = λ free. free; unflushed = FlushesNothing-none a }
+
+-- more is written, and that may fail
+pub OnlyWrites-later : {S : Type 0} {mark flushed : S → Bool} {flushes : S → Option ℕ} {a b c : S} {failed : Bool}
+    → OnlyWrites mark flushed flushes a b false → OnlyWrites mark flushed flushes b c failed
+    → OnlyWrites mark flushed flushes a c failed
+OnlyWrites-later first later = record {
+  marks = λ free. later.marks (first.marks free);
+  unflushed = FlushesNothing-later first.unflushed later.unflushed;
+}
 
 -- nothing is left
 pub Sends-all : {E : Type 0} (bytes rest : List ℕ) (a b : Option (List ℕ)) → Sends {E = E} bytes a rest b (Ok tt)

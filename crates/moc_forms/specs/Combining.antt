@@ -44,18 +44,18 @@ joined operation (Some before) said = (combined operation before.0 said.0, deepe
 abbrev pub are_blanks : List ℕ → Bool
 are_blanks text = list_all is_blank_byte text
 
--- parts, but for a last one of blanks alone
+-- pieces, but for a last one of blanks alone
 abbrev pub without_blank_end : List (List ℕ) → List (List ℕ)
 without_blank_end [] = []
 without_blank_end (text ∷ []) = if are_blanks text then [] else text ∷ []
 without_blank_end (text ∷ next ∷ texts) = text ∷ without_blank_end (next ∷ texts)
 
--- the texts among parts: the first one, and those behind it, but for a last one of blanks alone
+-- the texts among pieces: the first one, and those behind it, but for a last one of blanks alone
 abbrev pub texts_among : List (List ℕ) → List (List ℕ)
 texts_among [] = []
 texts_among (first ∷ behind) = first ∷ without_blank_end behind
 
--- the texts of an input: its parts, where blanks behind the last semicolon are no text
+-- the texts of an input: its pieces, where blanks behind the last semicolon are no text
 abbrev pub texts_of : List ℕ → List (List ℕ)
 texts_of bytes = texts_among (pieces_of bytes)
 

@@ -3,6 +3,7 @@
 -- sky charts, east is to the left.
 use Rattle.std.specs.Prelude.{ℕ, zero, suc, ◌+◌, ◌-◌, ◌*◌, ◌/◌, ◌^◌, ◌==◌, Bool, not, ◌&&◌, nat_le, if◌then◌else◌}
 use Rattle.std.specs.Prelude.{List, [], ◌∷◌, ◌++◌, decimal, codes}
+use Rattle.std.specs.List.{flat_map}
 use Rattle.std.specs.FinSet as set
 use Rattle.moc_sphere.specs.CellNumber.{CellNumber, cell_number, cell_count}
 use Rattle.moc_sphere.specs.Rings.{row_of, column_of}
@@ -16,8 +17,7 @@ Shaded = CellNumber × ℕ
 
 -- the marks of the cells whose order is at most 7: they are drawn whole, in the darkest shade
 unfoldable pub whole_marks : List CellNumber → List Shaded
-whole_marks [] = []
-whole_marks (c ∷ cells) = (if nat_le c.order 7 then (c, 4) ∷ [] else []) ++ whole_marks cells
+whole_marks cells = flat_map (λ c. if nat_le c.order 7 then (c, 4) ∷ [] else []) cells
 
 -- whether a set has some of the pixels of the cell i of order 7, but not all
 unfoldable pub is_partial : NumberSet → ℕ → Bool
@@ -58,13 +58,11 @@ cell_diamonds c = diamonds_at (2 ^ (7 - c.order)) (row_of c.order c.index) (colu
 
 -- the diamonds of the marks of a shade
 unfoldable pub shade_diamonds : ℕ → List Shaded → List ℕ
-shade_diamonds shade [] = []
-shade_diamonds shade (m ∷ marks) = (if m.1 == shade then cell_diamonds m.0 else []) ++ shade_diamonds shade marks
+shade_diamonds shade marks = flat_map (λ m. if m.1 == shade then cell_diamonds m.0 else []) marks
 
 -- the diamonds of marks, whatever their shades are
 unfoldable pub mark_diamonds : List Shaded → List ℕ
-mark_diamonds [] = []
-mark_diamonds (m ∷ marks) = cell_diamonds m.0 ++ mark_diamonds marks
+mark_diamonds marks = flat_map (λ m. cell_diamonds m.0) marks
 
 -- the diamonds of the base pixels below a number
 unfoldable pub base_diamonds_below : ℕ → List ℕ

@@ -1,5 +1,5 @@
 -- The text forms of a coverage.
-use Rattle.std.specs.Prelude.{◌≡◌, ℕ, List, [], ◌∷◌, ◌++◌, codes, ◌⊎◌, Option, None, Some}
+use Rattle.std.specs.Prelude.{◌≡◌, ◌≢◌, ℕ, List, [], ◌∷◌, ◌++◌, codes, ◌⊎◌, Option, None, Some}
 use Rattle.moc_ranges.specs.Numbers.{NumberSet}
 use Rattle.moc_text.specs.Ascii.{Says, IsFirstFault}
 use Rattle.moc_text.specs.AsciiText.{ascii_text, IsTooCoarse}
@@ -11,7 +11,6 @@ use Rattle.moc_text.specs.declared.ascii.error.TextError.TheVariants as text
 use Rattle.moc_text.specs.declared.json_form.error.JsonError.{JsonError}
 use Rattle.moc_text.specs.declared.json_form.error.JsonError.TheVariants as json
 use Rattle.moc_text.specs.declared.uniq.UniqError.{UniqError}
-use Rattle.moc_text.specs.declared.uniq.UniqError.TheVariants as uniq
 use Rattle.moc_forms.specs.declared.form.Form.{Form}
 use Rattle.moc_forms.specs.declared.form.Form.TheVariants.{Ascii, Json, Uniq}
 use Rattle.moc_forms.specs.declared.form.FormError.{FormError}
@@ -35,14 +34,13 @@ IsFormFault Ascii text e = (fault : TextError) × (e ≡ error.Ascii fault) × I
 IsFormFault Json text e = (fault : JsonError) × (e ≡ error.Json fault) × IsJsonFault text fault
 IsFormFault Uniq text e = (fault : UniqError) × (e ≡ error.Uniq fault) × (uniq_fault text ≡ Some fault)
 
--- memory was refused
-abbrev pub IsWant : FormError → Type 0
-IsWant e =
-    (e ≡ error.Memory) ⊎ (e ≡ error.Ascii text.Memory) ⊎ (e ≡ error.Json json.Memory) ⊎ (e ≡ error.Uniq uniq.Memory)
+-- the error of a form as one of any form: the error itself, but that want of memory has one shape in all forms
+abbrev pub IsFormErrorOf : {E : Type 0} → (E → FormError) → E → E → FormError → Type 0
+IsFormErrorOf in_form memory e f = ((e ≡ memory) × (f ≡ error.Memory)) ⊎ ((e ≢ memory) × (f ≡ in_form e))
 
 -- the error is that no memory was left, or the first fault of the text
 abbrev pub FormFails : Form → List ℕ → FormError → Type 0
-FormFails form text e = IsWant e ⊎ IsFormFault form text e
+FormFails form text e = (e ≡ error.Memory) ⊎ IsFormFault form text e
 
 -- the text of a set in a form, with its last line feed
 abbrev pub form_text : Form → NumberSet → Option ℕ → List ℕ
@@ -52,6 +50,6 @@ form_text Uniq a stated = uniq_text a
 
 -- the error is that no memory was left, or that a cell of the set is deeper than the stated order
 abbrev pub IsUnwritten : Form → NumberSet → Option ℕ → FormError → Type 0
-IsUnwritten Ascii a stated e = IsWant e ⊎ ((e ≡ error.Ascii text.TooCoarse) × IsTooCoarse a stated)
-IsUnwritten Json a stated e = IsWant e ⊎ ((e ≡ error.Json json.TooCoarse) × IsTooCoarse a stated)
-IsUnwritten Uniq a stated e = IsWant e
+IsUnwritten Ascii a stated e = (e ≡ error.Memory) ⊎ ((e ≡ error.Ascii text.TooCoarse) × IsTooCoarse a stated)
+IsUnwritten Json a stated e = (e ≡ error.Memory) ⊎ ((e ≡ error.Json json.TooCoarse) × IsTooCoarse a stated)
+IsUnwritten Uniq a stated e = e ≡ error.Memory

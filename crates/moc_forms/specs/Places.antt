@@ -5,8 +5,7 @@ use Rattle.std.specs.List.{after_last}
 use Rattle.std.specs.declared.alloc.Global.{Global}
 use Rattle.moc_text.specs.JsonForm.{NameIsOrder}
 use Rattle.moc_text.specs.Lines.{is_line_feed}
-use Rattle.moc_text.specs.declared.ascii.error.TextError.{TextError}
-use Rattle.moc_text.specs.declared.ascii.error.TextError.TheVariants as text
+use Rattle.moc_text.specs.Places.{fault_byte}
 use Rattle.moc_text.specs.declared.json_form.error.JsonError.{JsonError}
 use Rattle.moc_text.specs.declared.json_form.error.JsonError.TheVariants as json
 use Rattle.moc_text.specs.declared.uniq.UniqError.{UniqError}
@@ -22,17 +21,6 @@ abbrev pub byte_place : List ℕ → ℕ → Place
 byte_place bytes at =
     let before = take at bytes in
     Byte at (1 + count_by is_line_feed before) (length (after_last is_line_feed before))
-
--- the byte of a fault of an ASCII text
-abbrev pub fault_byte : TextError → Option ℕ
-fault_byte (text.BadByte at) = Some at
-fault_byte (text.NoOrder at) = Some at
-fault_byte (text.OrderTooLarge at) = Some at
-fault_byte (text.CellTooLarge at) = Some at
-fault_byte (text.Backwards at) = Some at
-fault_byte (text.Unfinished at) = Some at
-fault_byte text.Memory = None
-fault_byte text.TooCoarse = None
 
 -- the line of a fault of a NUNIQ list
 abbrev pub fault_line : UniqError → Option ℕ

@@ -1,13 +1,14 @@
 -- What stands in a text at its fault, as it is quoted.
 use Rattle.std.specs.Prelude.{◌≡◌, ℕ, ◌+◌, ◌-◌, ◌/◌, ◌%◌, Bool, not, ◌&&◌, ◌==◌, nat_le, nat_lt, if◌then◌else◌}
 use Rattle.std.specs.Prelude.{List, [], ◌∷◌, ◌++◌, length, slice_index_or, take, drop, codes, Option, None, option_map}
-use Rattle.std.specs.List.{after_last, before_first, slice_split}
+use Rattle.std.specs.List.{after_last, before_first, flat_map, slice_split}
 use Rattle.moc_text.specs.Ascii.{is_separator}
 use Rattle.moc_text.specs.JsonForm.{HasItem, HasName}
 use Rattle.moc_text.specs.Lines.{is_line_feed}
 use Rattle.moc_text.specs.declared.json_form.error.JsonError.{JsonError}
 use Rattle.moc_text.specs.declared.json_form.error.JsonError.TheVariants as json
-use Rattle.moc_forms.specs.Places.{fault_byte, fault_line, line_of_place}
+use Rattle.moc_forms.specs.Places.{fault_line, line_of_place}
+use Rattle.moc_text.specs.Places.{fault_byte}
 use Rattle.moc_forms.specs.declared.form.FormError.{FormError}
 use Rattle.moc_forms.specs.declared.form.FormError.TheVariants as error
 use Rattle.moc_forms.specs.declared.place.Place.{Place}
@@ -21,22 +22,22 @@ abbrev pub line_numbered : List ℕ → ℕ → List ℕ
 line_numbered bytes line = slice_index_or (slice_split is_line_feed bytes) (line - 1) []
 
 -- what stands at the fault of a JSON text: its name, or the item that is at fault
-abbrev pub IsJsonPiece : List ℕ → JsonError → Option (List ℕ) → Type 0
-IsJsonPiece bytes (json.BadOrder name) piece = HasName bytes name piece
-IsJsonPiece bytes (json.NotArray name) piece = HasName bytes name piece
-IsJsonPiece bytes (json.NotWhole name place) piece = HasItem bytes name place piece
-IsJsonPiece bytes (json.CellTooLarge name place) piece = HasItem bytes name place piece
-IsJsonPiece bytes json.NotJson piece = piece ≡ None
-IsJsonPiece bytes json.NotObject piece = piece ≡ None
-IsJsonPiece bytes json.Memory piece = piece ≡ None
-IsJsonPiece bytes json.TooCoarse piece = piece ≡ None
+abbrev pub IsQuotedInJson : List ℕ → JsonError → Option (List ℕ) → Type 0
+IsQuotedInJson bytes (json.BadOrder name) found = HasName bytes name found
+IsQuotedInJson bytes (json.NotArray name) found = HasName bytes name found
+IsQuotedInJson bytes (json.NotWhole name place) found = HasItem bytes name place found
+IsQuotedInJson bytes (json.CellTooLarge name place) found = HasItem bytes name place found
+IsQuotedInJson bytes json.NotJson found = found ≡ None
+IsQuotedInJson bytes json.NotObject found = found ≡ None
+IsQuotedInJson bytes json.Memory found = found ≡ None
+IsQuotedInJson bytes json.TooCoarse found = found ≡ None
 
 -- what stands at the fault of a text: its word, its line, or a name or an item of JSON
-abbrev pub IsPiece : List ℕ → FormError → Option (List ℕ) → Type 0
-IsPiece bytes (error.Ascii e) piece = piece ≡ option_map (word_round bytes) (fault_byte e)
-IsPiece bytes (error.Json e) piece = IsJsonPiece bytes e piece
-IsPiece bytes (error.Uniq e) piece = piece ≡ option_map (line_numbered bytes) (fault_line e)
-IsPiece bytes error.Memory piece = piece ≡ None
+abbrev pub IsQuotedText : List ℕ → FormError → Option (List ℕ) → Type 0
+IsQuotedText bytes (error.Ascii e) found = found ≡ option_map (word_round bytes) (fault_byte e)
+IsQuotedText bytes (error.Json e) found = IsQuotedInJson bytes e found
+IsQuotedText bytes (error.Uniq e) found = found ≡ option_map (line_numbered bytes) (fault_line e)
+IsQuotedText bytes error.Memory found = found ≡ None
 
 -- the digit of a number below 16
 abbrev pub hex_digit : ℕ → ℕ
@@ -52,8 +53,7 @@ byte_quoted b = if is_plain b then b ∷ [] else 92 ∷ 120 ∷ hex_digit (b / 1
 
 -- bytes as they are quoted
 unfoldable pub bytes_quoted : List ℕ → List ℕ
-bytes_quoted [] = []
-bytes_quoted (b ∷ bytes) = byte_quoted b ++ bytes_quoted bytes
+bytes_quoted bytes = flat_map byte_quoted bytes
 
 -- a quote: at most 40 bytes between backquotes, and two points behind it where there are more
 abbrev pub quoted : List ℕ → List ℕ
@@ -61,7 +61,7 @@ quoted bytes = 96 ∷ bytes_quoted (take 40 bytes) ++ 96 ∷ (if nat_lt 40 (leng
 
 -- the quote of what stands at a fault
 abbrev pub IsQuote : List ℕ → FormError → Option (List ℕ) → Type 0
-IsQuote bytes e quote = (piece : Option (List ℕ)) × IsPiece bytes e piece × (quote ≡ option_map quoted piece)
+IsQuote bytes e quote = (found : Option (List ℕ)) × IsQuotedText bytes e found × (quote ≡ option_map quoted found)
 
 -- the line that says where this fault is, which stands at this place, and quotes what stands there
 abbrev pub IsTold : Option ℕ → List ℕ → FormError → Option Place → Option (List ℕ) → Type 0

@@ -2,7 +2,8 @@
 ghost use Rattle.std.specs.Prelude.{◌≡◌, ◌⊎◌, ℕ, IfErr, IfOk, OnOk, Option, option_map};
 ghost use Rattle.moc_ranges.specs.Numbers.{NumberSet};
 ghost use Rattle.moc_forms.specs.Forms.{FormFails, FormSays};
-ghost use Rattle.moc_forms.specs.Places.{IsJsonPlace, IsPlace, byte_place, fault_byte, fault_line, line_bytes};
+ghost use Rattle.moc_forms.specs.Places.{IsJsonPlace, IsPlace, byte_place, fault_line, line_bytes};
+ghost use Rattle.moc_text.specs.Places.{fault_byte};
 ghost use Rattle.moc_forms.specs.Quotes.{IsTold};
 ghost use Rattle.moc_forms.specs.declared.place.Place.TheVariants.{Line};
 
@@ -11,7 +12,7 @@ use crate::place::{Place, place_line};
 use crate::quoting::quote;
 use moc_ranges::{Coverage, Memory};
 use moc_sphere::Order;
-use moc_text::{JsonError, TextError, UniqError, json_order, json_stop};
+use moc_text::{JsonError, TextError, UniqError, json_name_order, json_syntax_error};
 use std::alloc::Global;
 use thiserror::Error;
 
@@ -125,17 +126,17 @@ fn place_in_json(alloc: Global, text: &[u8], fault: JsonError) -> Result<Option<
     ensures { IfOk result (λ place. IsJsonPlace text.now fault place) }
 {
     Ok(match fault {
-        JsonError::NotJson => match json_stop(alloc, text) {
+        JsonError::NotJson => match json_syntax_error(alloc, text) {
             Some((line, column)) => Some(Place::Stop { line, column }),
             None => None,
         },
         JsonError::BadOrder { name } => Some(Place::Name(name)),
-        JsonError::NotArray { name } => match json_order(alloc, text, name)? {
+        JsonError::NotArray { name } => match json_name_order(alloc, text, name)? {
             Some(order) => Some(Place::Order(order)),
             None => None,
         },
         JsonError::NotWhole { name, place } | JsonError::CellTooLarge { name, place } => {
-            match json_order(alloc, text, name)? {
+            match json_name_order(alloc, text, name)? {
                 Some(order) => Some(Place::Number {
                     order,
                     number: place,

@@ -5,7 +5,7 @@ ghost use Rattle.moc_forms.specs.Combining.{are_blanks, combined, joined};
 
 use crate::finding::is_blank_byte;
 use crate::form::Form;
-use crate::name_error::NameError;
+use crate::name_error::FormNameError;
 use moc_ranges::{Coverage, Memory};
 use moc_sphere::Order;
 use std::alloc::Global;
@@ -28,21 +28,21 @@ pub enum Operation {
 /// The operation that the command line calls `union`, `intersection`, `difference` or `symmetric`; refused with
 /// `NotOperation`.
 impl FromStr for Operation {
-    type Err = NameError;
+    type Err = FormNameError;
 
     ghost use Rattle.moc_sphere.specs.Names.{IsNamed};
     ghost use Rattle.moc_forms.specs.Combining.{operation_name};
-    ghost use Rattle.moc_forms.specs.declared.name_error.NameError.TheVariants.{NotOperation};
+    ghost use Rattle.moc_forms.specs.declared.name_error.FormNameError.TheVariants.{NotOperation};
 
     ghost from_str_gives = { IsNamed operation_name NotOperation };
 
-    fn from_str(word: &str) -> Result<Operation, NameError> {
+    fn from_str(word: &str) -> Result<Operation, FormNameError> {
         match word {
             "union" => Ok(Operation::Union),
             "intersection" => Ok(Operation::Intersection),
             "difference" => Ok(Operation::Difference),
             "symmetric" => Ok(Operation::Symmetric),
-            _ => Err(NameError::NotOperation),
+            _ => Err(FormNameError::NotOperation),
         }
     }
 }

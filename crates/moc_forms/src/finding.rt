@@ -1,10 +1,10 @@
 //! Which form a text has, as its first byte that is no blank tells.
 ghost use Rattle.std.specs.Prelude.{◌≡◌};
 ghost use Rattle.moc_forms.specs.Finding.{first_byte as first_byte_of, form_by, form_for, hint_of, hint_text};
-ghost use Rattle.moc_forms.specs.Finding.{is_blank_byte as is_blank_byte_of, looks_by, looks_like, other_form};
+ghost use Rattle.moc_forms.specs.Finding.{is_blank_byte as is_blank_byte_of, looks_by};
 
 use crate::form::Form;
-use crate::name_error::NameError;
+use crate::name_error::FormNameError;
 use std::fmt;
 use std::str::FromStr;
 
@@ -19,21 +19,21 @@ pub enum Choice {
 
 /// The choice that the command line calls `auto`, or by the name of a form; refused with `NotForm`.
 impl FromStr for Choice {
-    type Err = NameError;
+    type Err = FormNameError;
 
     ghost use Rattle.moc_sphere.specs.Names.{IsNamed};
     ghost use Rattle.moc_forms.specs.Finding.{choice_name};
-    ghost use Rattle.moc_forms.specs.declared.name_error.NameError.TheVariants.{NotForm};
+    ghost use Rattle.moc_forms.specs.declared.name_error.FormNameError.TheVariants.{NotForm};
 
     ghost from_str_gives = { IsNamed choice_name NotForm };
 
-    fn from_str(word: &str) -> Result<Choice, NameError> {
+    fn from_str(word: &str) -> Result<Choice, FormNameError> {
         match word {
             "ascii" => Ok(Choice::Named(Form::Ascii)),
             "json" => Ok(Choice::Named(Form::Json)),
             "uniq" => Ok(Choice::Named(Form::Uniq)),
             "auto" => Ok(Choice::Auto),
-            _ => Err(NameError::NotForm),
+            _ => Err(FormNameError::NotForm),
         }
     }
 }

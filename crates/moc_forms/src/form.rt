@@ -1,9 +1,9 @@
 //! The text forms of a coverage as one type.
-ghost use Rattle.std.specs.Prelude.{◌≡◌, IfErr, IfOk, OnOk, Some};
+ghost use Rattle.std.specs.Prelude.{◌≡◌, IfErr, IfOk, Some};
 ghost use Rattle.std.specs.String.{string_bytes};
 ghost use Rattle.moc_forms.specs.Forms.{FormFails, FormSays, IsUnwritten, form_text};
 
-use crate::name_error::NameError;
+use crate::name_error::FormNameError;
 use moc_ranges::{Coverage, Memory as MemoryRefused};
 use moc_sphere::Order;
 use moc_text::{
@@ -26,7 +26,8 @@ pub enum Form {
     Uniq,
 }
 
-/// Why a text in some form could not be read or written.
+/// Why a text in some form could not be read or written: the error of the form, or `Memory`, which stands for want of
+/// memory in any form.
 #[derive(Debug, Clone, Copy, PartialEq, Eq, Error)]
 pub enum FormError {
     #[error("{0}")]
@@ -40,35 +41,47 @@ pub enum FormError {
 }
 
 impl From<TextError> for FormError {
-    ghost use Rattle.std.specs.Prelude.{◌≡◌};
+    ghost use Rattle.moc_text.specs.declared.ascii.error.TextError.TheVariants as text;
+    ghost use Rattle.moc_forms.specs.Forms.{IsFormErrorOf};
     ghost use Rattle.moc_forms.specs.declared.form.FormError.TheVariants as error;
 
-    ghost from_gives = { λ e f. f ≡ error.Ascii e };
+    ghost from_gives = { IsFormErrorOf (λ e. error.Ascii e) text.Memory };
 
     fn from(error: TextError) -> FormError {
-        FormError::Ascii(error)
+        match error {
+            TextError::Memory => FormError::Memory,
+            error => FormError::Ascii(error),
+        }
     }
 }
 
 impl From<JsonError> for FormError {
-    ghost use Rattle.std.specs.Prelude.{◌≡◌};
+    ghost use Rattle.moc_text.specs.declared.json_form.error.JsonError.TheVariants as json;
+    ghost use Rattle.moc_forms.specs.Forms.{IsFormErrorOf};
     ghost use Rattle.moc_forms.specs.declared.form.FormError.TheVariants as error;
 
-    ghost from_gives = { λ e f. f ≡ error.Json e };
+    ghost from_gives = { IsFormErrorOf (λ e. error.Json e) json.Memory };
 
     fn from(error: JsonError) -> FormError {
-        FormError::Json(error)
+        match error {
+            JsonError::Memory => FormError::Memory,
+            error => FormError::Json(error),
+        }
     }
 }
 
 impl From<UniqError> for FormError {
-    ghost use Rattle.std.specs.Prelude.{◌≡◌};
+    ghost use Rattle.moc_text.specs.declared.uniq.UniqError.TheVariants as uniq;
+    ghost use Rattle.moc_forms.specs.Forms.{IsFormErrorOf};
     ghost use Rattle.moc_forms.specs.declared.form.FormError.TheVariants as error;
 
-    ghost from_gives = { λ e f. f ≡ error.Uniq e };
+    ghost from_gives = { IsFormErrorOf (λ e. error.Uniq e) uniq.Memory };
 
     fn from(error: UniqError) -> FormError {
-        FormError::Uniq(error)
+        match error {
+            UniqError::Memory => FormError::Memory,
+            error => FormError::Uniq(error),
+        }
     }
 }
 
@@ -96,20 +109,20 @@ impl From<MemoryRefused> for FormError {
 
 /// The form that the command line calls `ascii`, `json` or `uniq`; refused with `NotForm`.
 impl FromStr for Form {
-    type Err = NameError;
+    type Err = FormNameError;
 
     ghost use Rattle.moc_sphere.specs.Names.{IsNamed};
     ghost use Rattle.moc_forms.specs.Forms.{form_name};
-    ghost use Rattle.moc_forms.specs.declared.name_error.NameError.TheVariants.{NotForm};
+    ghost use Rattle.moc_forms.specs.declared.name_error.FormNameError.TheVariants.{NotForm};
 
     ghost from_str_gives = { IsNamed form_name NotForm };
 
-    fn from_str(word: &str) -> Result<Form, NameError> {
+    fn from_str(word: &str) -> Result<Form, FormNameError> {
         match word {
             "ascii" => Ok(Form::Ascii),
             "json" => Ok(Form::Json),
             "uniq" => Ok(Form::Uniq),
-            _ => Err(NameError::NotForm),
+            _ => Err(FormNameError::NotForm),
         }
     }
 }
@@ -133,7 +146,7 @@ impl fmt::Display for Form {
 impl Form {
     /// Reads a text: the set, and the deepest order that the text names. A NUNIQ list names none.
     ///
-    /// One pass over the bytes. Refused with the form's error: the first fault of the text, or want of memory.
+    /// One pass over the bytes. Refused with the first fault of the text, as the form's error, or with `Memory`.
     pub fn read(self, alloc: Global, text: &[u8]) -> Result<(Coverage, Option<Order>), FormError>
         ensures says { IfOk result (λ r. FormSays self text.now r.0 r.1) }
         ensures fault { IfErr result (λ e. FormFails self text.now e) }
@@ -147,8 +160,8 @@ impl Form {
 
     /// The text of a set with a stated order, ended by a line feed.
     ///
-    /// Linear in the number of cells. Refused with the form's error: `TooCoarse` where a cell is deeper than the stated
-    /// order, which a list never states, or want of memory.
+    /// Linear in the number of cells. Refused with the form's `TooCoarse` where a cell is deeper than the stated order,
+    /// which a list never states, or with `Memory`.
     pub fn write(
         self,
         alloc: Global,

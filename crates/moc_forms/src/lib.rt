@@ -23,7 +23,7 @@ pub use drawing::draw;
 pub use figures::{Figures, describe};
 pub use finding::{Choice, hint, hint_line};
 pub use form::{Form, FormError};
-pub use name_error::NameError;
+pub use name_error::FormNameError;
 pub use pair::draw_two;
 pub use place::{Place, place_line};
 pub use quoting::quote;

@@ -4,13 +4,14 @@ ghost use Rattle.std.specs.List.{after_last, before_first, position_or_len, slic
 ghost use Rattle.std.specs.String.{string_bytes};
 ghost use Rattle.moc_text.specs.Ascii.{is_separator as is_separator_byte};
 ghost use Rattle.moc_text.specs.Lines.{is_line_feed};
-ghost use Rattle.moc_forms.specs.Places.{fault_byte, fault_line, line_bytes};
-ghost use Rattle.moc_forms.specs.Quotes.{IsJsonPiece, IsQuote, byte_quoted, bytes_quoted, hex_digit};
+ghost use Rattle.moc_forms.specs.Places.{fault_line, line_bytes};
+ghost use Rattle.moc_text.specs.Places.{fault_byte};
+ghost use Rattle.moc_forms.specs.Quotes.{IsQuotedInJson, IsQuote, byte_quoted, bytes_quoted, hex_digit};
 ghost use Rattle.moc_forms.specs.Quotes.{is_plain as is_plain_byte, line_numbered, quoted, word_round};
 
 use crate::form::FormError;
 use moc_ranges::Memory;
-use moc_text::{JsonError, TextError, UniqError, json_item, json_name};
+use moc_text::{JsonError, TextError, UniqError, is_separator, json_item, json_name};
 use std::alloc::{AllocError, Global};
 
 /// How many bytes are quoted at most.
@@ -162,13 +163,6 @@ fn first_word(bytes: &[u8]) -> usize
     count
 }
 
-/// Whether a byte parts words: a space, a comma, a tab, CR or LF.
-fn is_separator(byte: u8) -> bool
-    ensures { result ≡ is_separator_byte byte }
-{
-    matches!(byte, b' ' | b',' | b'\t' | b'\r' | b'\n')
-}
-
 /// The line at the fault of a NUNIQ list.
 fn line_at(text: &[u8], fault: UniqError) -> Option<&[u8]>
     ensures { option_map (λ l. l.now) result ≡ option_map (line_numbered text.now) (fault_line fault) }
@@ -212,7 +206,7 @@ fn front_line(bytes: &[u8]) -> &[u8]
 
 /// The name or the item at the fault of a JSON text.
 fn json_piece(alloc: Global, text: &[u8], fault: JsonError) -> Result<Option<String>, JsonError>
-    ensures { IfOk result (λ piece. IsJsonPiece text.now fault (option_map string_bytes piece)) }
+    ensures { IfOk result (λ piece. IsQuotedInJson text.now fault (option_map string_bytes piece)) }
 {
     match fault {
         JsonError::BadOrder { name } | JsonError::NotArray { name } => json_name(alloc, text, name),

@@ -1,5 +1,6 @@
 -- The pieces of a line, read from the left.
-use Rattle.std.proofs.Common.{◌≡◌, ℕ, suc, ◌+◌, ◌<◌, ◌≤◌, Bool, true, false, not, cond, ltb, List, [], ◌∷◌, ◌++◌, length, take, drop, Result, Ok, Err, refl, sym, ap, ◌∙◌, arith, append_assoc, ⊎_elim}
+use Rattle.std.proofs.Common.{◌≡◌, ℕ, suc, ◌+◌, ◌<◌, ◌≤◌, Bool, true, false, not, cond, ltb, List, [], ◌∷◌, ◌++◌}
+use Rattle.std.proofs.Common.{length, take, drop, Result, Ok, Err, refl, sym, ap, ◌∙◌, arith, append_assoc, ⊎_elim}
 use Rattle.std.proofs.lemmas.Bool.{cases_lt, lt-ltb, le-ltb}
 use Rattle.std.specs.Result.{is_err, is_ok}
 use Rattle.std.specs.List.{count_by, position_or_len, onto_first}
@@ -7,12 +8,10 @@ use Rattle.std.proofs.lemmas.List.{drop-drop, take_all}
 use Rattle.std.proofs.lemmas.List.Sums.{prefix_len-le-length}
 use Rattle.std.proofs.lemmas.List.Splits.{slice_split_first, slice_split-cons_no, length-slice_split}
 use Rattle.moc_parts.specs.declared.command.Command.{Command}
-use Rattle.moc_lines.specs.Language.{◌>>=◌}
+use Rattle.moc_lines.specs.Language.{◌>>=◌, piece_says, commands_of, batch_of, ReadsText}
 use Rattle.moc_text.specs.Lines.{is_semicolon, pieces_of}
-use Rattle.moc_lines.specs.Batches.{piece_says, commands_of, batch_of}
-use Rattle.moc_lines.specs.declared.fault.Fault.TheVariants.{TooManyCommands}
-use Rattle.moc_lines.specs.Readings.{ReadsText}
-use Rattle.moc_lines.specs.declared.fault.Fault.{Fault}
+use Rattle.moc_lines.specs.declared.fault.LineFault.TheVariants.{TooManyCommands}
+use Rattle.moc_lines.specs.declared.fault.LineFault.{LineFault}
 use Rattle.moc_lines.specs.declared.fault.ReadError.{ReadError}
 use Rattle.moc_lines.specs.declared.fault.ReadError.TheVariants as error
 
@@ -59,27 +58,27 @@ pieces-next rest back next at first found behind_is next_is =
     ap length (pieces-found rest (omega arith)) ∙ ap (λ l. suc (length (pieces_of (drop 1 l)))) (ap (λ n. drop n rest) (sym first) ∙ sym behind_is) ∙ ap (λ l. suc (length (pieces_of l))) (sym next_is)
 
 -- a command, and those after it, or the first fault
-abbrev pub first_then : Result Command Fault → Result (List Command) Fault → Result (List Command) Fault
+abbrev pub first_then : Result Command LineFault → Result (List Command) LineFault → Result (List Command) LineFault
 first_then first later = first >>= (λ command. later >>= (λ commands. Ok (command ∷ commands)))
 
 -- commands, and then what the rest says
-abbrev pub behind : List Command → Result (List Command) Fault → Result (List Command) Fault
+abbrev pub behind : List Command → Result (List Command) LineFault → Result (List Command) LineFault
 behind commands (Ok later) = Ok (commands ++ later)
 behind commands (Err fault) = Err fault
 
-pub behind-nothing : (commands : List Command) (r : Result (List Command) Fault) → commands ≡ [] → r ≡ behind commands r
+pub behind-nothing : (commands : List Command) (r : Result (List Command) LineFault) → commands ≡ [] → r ≡ behind commands r
 behind-nothing commands (Ok later) none = rw none refl
 behind-nothing commands (Err fault) none = refl
 
-push : (commands : List Command) (command : Command) (later : Result (List Command) Fault) → behind commands (first_then (Ok command) later) ≡ behind (commands ++ command ∷ []) later
-push commands command (Ok later) = ap {B = Result (List Command) Fault} (λ l. Ok l) (sym (append_assoc commands (command ∷ []) later))
+push : (commands : List Command) (command : Command) (later : Result (List Command) LineFault) → behind commands (first_then (Ok command) later) ≡ behind (commands ++ command ∷ []) later
+push commands command (Ok later) = ap {B = Result (List Command) LineFault} (λ l. Ok l) (sym (append_assoc commands (command ∷ []) later))
 push commands command (Err fault) = refl
 
 pub pushed_is : {T E : Type 0} (r : Result T E) (new old more : List Command) → is_err r ≡ false → new ≡ cond (is_ok r) more old → new ≡ more
 pushed_is (Ok x) new old more none is = is
 pushed_is (Err e) new old more none is = cc
 
-module _ (says : List ℕ → Result Command Fault) where
+module _ (says : List ℕ → Result Command LineFault) where
   -- a command and a rest
   pub behind-found : (commands : List Command) (command : Command) (rest piece : List ℕ) (at : ℕ) → at ≡ position_or_len is_semicolon rest → at < length rest → piece ≡ take at rest
       → piece_says says piece ≡ Ok command
@@ -98,13 +97,13 @@ module _ (says : List ℕ → Result Command Fault) where
       → behind commands (commands_of says (pieces_of rest)) ≡ Ok (commands ++ command ∷ [])
   behind-last commands command rest piece at first none same is =
       let all : piece ≡ rest = same ∙ take_all at rest (omega arith) in
-      let nothing : Result (List Command) Fault = Ok [] in
+      let nothing : Result (List Command) LineFault = Ok [] in
       ap (λ ps. behind commands (commands_of says ps)) (pieces-none rest (omega arith))
       ∙ ap (λ l. behind commands (first_then (piece_says says l) nothing)) (sym all)
       ∙ ap (λ r. behind commands (first_then r nothing)) is
 
   -- a faulty piece
-  pub behind-fault : {V : Type 0} (view : V → List Command) (commands : List Command) (rest piece : List ℕ) (at : ℕ) (all : Result (List Command) Fault) (e : ReadError)
+  pub behind-fault : {V : Type 0} (view : V → List Command) (commands : List Command) (rest piece : List ℕ) (at : ℕ) (all : Result (List Command) LineFault) (e : ReadError)
       → at ≡ position_or_len is_semicolon rest → piece ≡ take at rest → all ≡ behind commands (commands_of says (pieces_of rest))
       → ReadsText {X = Command} (λ x. x) (Err e) (piece_says says piece) → ReadsText view (Err e) all
   behind-fault view commands rest piece at all (error.Fault fault) first same is says_fault =
@@ -114,7 +113,7 @@ module _ (says : List ℕ → Result Command Fault) where
       is ∙ ap (λ ps. behind commands (commands_of says ps)) found.1 ∙ ap (λ r. behind commands (first_then r later)) says_so
   behind-fault view commands rest piece at all error.Memory first same is says_fault = tt
 
-  pub behind-next : (commands new : List Command) (command : Command) (rest piece back next : List ℕ) (at : ℕ) (all : Result (List Command) Fault) → at ≡ position_or_len is_semicolon rest → at < length rest
+  pub behind-next : (commands new : List Command) (command : Command) (rest piece back next : List ℕ) (at : ℕ) (all : Result (List Command) LineFault) → at ≡ position_or_len is_semicolon rest → at < length rest
       → piece ≡ take at rest → back ≡ drop at rest → next ≡ drop 1 back → new ≡ commands ++ command ∷ [] → all ≡ behind commands (commands_of says (pieces_of rest))
       → piece_says says piece ≡ Ok command → all ≡ behind new (commands_of says (pieces_of next))
   behind-next commands new command rest piece back next at all first found same behind_is next_is pushed is says_so =
@@ -140,15 +139,15 @@ module _ (says : List ℕ → Result Command Fault) where
   reads-alone line (Err error.Memory) none is = tt
 
   -- the fault of a line that has a faulty piece, or too many
-  pub batch-fault : (line : List ℕ) (fault told : Fault) → (length (pieces_of line) ≤ 16 → commands_of says (pieces_of line) ≡ Err fault)
+  pub batch-fault : (line : List ℕ) (fault told : LineFault) → (length (pieces_of line) ≤ 16 → commands_of says (pieces_of line) ≡ Err fault)
       → told ≡ cond (ltb 16 (length (pieces_of line))) TooManyCommands fault → batch_of says line ≡ Err told
   batch-fault line fault told said is = ⊎_elim
-      (λ many. batch-many line many ∙ ap {B = Result (List Command) Fault} (λ f. Err f) (sym (is ∙ ap (λ b. cond b TooManyCommands fault) (lt-ltb 16 (length (pieces_of line)) many))))
-      (λ few. batch-few line few ∙ said few ∙ ap {B = Result (List Command) Fault} (λ f. Err f) (sym (is ∙ ap (λ b. cond b TooManyCommands fault) (le-ltb 16 (length (pieces_of line)) few))))
+      (λ many. batch-many line many ∙ ap {B = Result (List Command) LineFault} (λ f. Err f) (sym (is ∙ ap (λ b. cond b TooManyCommands fault) (lt-ltb 16 (length (pieces_of line)) many))))
+      (λ few. batch-few line few ∙ said few ∙ ap {B = Result (List Command) LineFault} (λ f. Err f) (sym (is ∙ ap (λ b. cond b TooManyCommands fault) (le-ltb 16 (length (pieces_of line)) few))))
       (cases_lt 16 (length (pieces_of line)))
 
   -- a command for each piece
-  length-first_then : (said : Result Command Fault) (later : Result (List Command) Fault) (pieces : List (List ℕ)) (commands : List Command)
+  length-first_then : (said : Result Command LineFault) (later : Result (List Command) LineFault) (pieces : List (List ℕ)) (commands : List Command)
       → ((rest : List Command) → later ≡ Ok rest → length rest ≡ length pieces) → first_then said later ≡ Ok commands → length commands ≡ suc (length pieces)
   length-first_then (Err fault) later pieces commands each e = absurd cc
   length-first_then (Ok command) (Err fault) pieces commands each e = absurd cc

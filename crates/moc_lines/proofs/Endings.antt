@@ -1,14 +1,16 @@
 -- What a run has written when it ends.
-use Rattle.std.proofs.Common.{◌≡◌, inl, inr, ℕ, true, false, ◌&&◌, cond, leb, le-leb, List, [], ◌∷◌, ◌++◌, length, Option, Some, None, Result, Ok, Err, refl, sym, ap, ◌∙◌, append_assoc, append-nil, ⊎_elim, subst}
+use Rattle.std.proofs.Common.{◌≡◌, inl, inr, ℕ, true, false, ◌&&◌, cond, leb, le-leb, List, [], ◌∷◌, ◌++◌, length}
+use Rattle.std.proofs.Common.{Option, Some, None, Result, Ok, Err, refl, sym, ap, ◌∙◌, append_assoc, append-nil, ⊎_elim}
+use Rattle.std.proofs.Common.{subst}
 use Rattle.std.specs.Option.{IfSome}
 use Rattle.std.specs.List.{list_all, take_while}
 use Rattle.std.proofs.lemmas.List.Sums.{take_while-cons}
 use Rattle.std.specs.Io.KnownBytes.{Appends, Consumes, IsAtEnd, Keeps}
 use Rattle.std.proofs.KnownBytes.{Appends-kept, Appends-trans}
 use Rattle.moc_text.specs.Lines.{lines_of}
-use Rattle.moc_lines.specs.Answers.{Rules, is_within, answers_to, after_lines, closing_behind, script_text}
+use Rattle.moc_lines.specs.Runs.{Rules, is_within, answers_to, after_lines, closing_behind, script_text, AreWithin}
+use Rattle.moc_lines.specs.Runs.{IsWritten, Runs, WritesBeginning}
 use Rattle.moc_devices.specs.Devices.{Sends}
-use Rattle.moc_lines.specs.Runs.{AreWithin, IsWritten, Runs, WritesBeginning}
 use Rattle.moc_lines.specs.Private.Ended.{Ended, text_at}
 use Rattle.moc_lines.specs.declared.run_error.RunError.{RunError}
 use Rattle.moc_lines.specs.declared.run_error.RunError.TheVariants.{Read, Write, LineTooLong, Memory}

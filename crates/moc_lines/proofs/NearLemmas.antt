@@ -1,22 +1,22 @@
 -- Cells that two fields name.
-use Rattle.std.proofs.Common.{◌≡◌, ℕ, List, ◌-◌, ◌^◌, ◌<◌, ◌≤◌, cond, ltb, min, Option, Some, None, Result, Ok, Err, sym, ap, ◌∙◌, arith, lit<}
+use Rattle.std.proofs.Common.{◌≡◌, ℕ, List, ◌-◌, ◌^◌, ◌<◌, ◌≤◌, cond, ltb, min, Option, Some, None, Result, Ok, Err}
+use Rattle.std.proofs.Common.{sym, ap, ◌∙◌, arith, lit<}
 use Rattle.std.proofs.Math.Nat.{pow-le-pow_right}
 use Rattle.std.proofs.lemmas.Bool.Decides.{nat_tests}
 use Rattle.std.specs.Option.{option_map, ok_or}
 use Rattle.moc_sphere.specs.CellNumber.{CellNumber, cell_number, cell_count}
 use Rattle.moc_parts.specs.declared.command.Command.{Command}
 use Rattle.moc_parts.specs.declared.command.Command.TheVariants.{Near}
-use Rattle.moc_lines.specs.Words.{number_spelled}
-use Rattle.moc_lines.specs.Language.{near_by, ◌>>=◌}
-use Rattle.moc_lines.specs.declared.fault.Fault.{Fault}
-use Rattle.moc_lines.specs.declared.fault.Fault.TheVariants.{BadNumber, OrderTooLarge, CellTooLarge}
+use Rattle.moc_lines.specs.Language.{number_spelled, near_by, ◌>>=◌}
+use Rattle.moc_lines.specs.declared.fault.LineFault.{LineFault}
+use Rattle.moc_lines.specs.declared.fault.LineFault.TheVariants.{BadNumber, OrderTooLarge, CellTooLarge}
 
 -- the answer that a cell is read
-abbrev answer_of : CellNumber → Result Command Fault
+abbrev answer_of : CellNumber → Result Command LineFault
 answer_of cell = Ok (Near cell)
 
 -- the command for a cell of an order, if there are both
-abbrev near_at : ℕ → ℕ → Result Command Fault
+abbrev near_at : ℕ → ℕ → Result Command LineFault
 near_at k i = cond (ltb 29 k) (Err OrderTooLarge) (cond (ltb i (cell_count k)) (Ok (Near (cell_number k i))) (Err CellTooLarge))
 
 -- a held number below the greatest is the number

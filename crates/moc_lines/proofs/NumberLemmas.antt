@@ -1,5 +1,7 @@
 -- The number that a field spells.
-use Rattle.std.proofs.Common.{◌≡◌, ℕ, ◌+◌, ◌-◌, ◌*◌, ◌^◌, ◌<◌, ◌≤◌, lit<, Bool, true, false, cond, leb, leb-true, ltb, ◌&&◌, List, [], ◌∷◌, get_or, take, drop, length, min, Some, None, refl, sym, ap, ◌∙◌, arith}
+use Rattle.std.proofs.Common.{◌≡◌, ℕ, ◌+◌, ◌-◌, ◌*◌, ◌^◌, ◌<◌, ◌≤◌, lit<, Bool, true, false, cond, leb, leb-true, ltb}
+use Rattle.std.proofs.Common.{◌&&◌, List, [], ◌∷◌, get_or, take, drop, length, min, Some, None, refl, sym, ap, ◌∙◌}
+use Rattle.std.proofs.Common.{arith}
 use Rattle.std.specs.Char.{is_ascii_digit, digit_value}
 use Rattle.std.specs.Int.{IsInRange}
 use Rattle.std.specs.List.{list_all, position_or_len, before_first}
@@ -12,7 +14,7 @@ use Rattle.std.proofs.lemmas.List.{take_all, drop_all}
 use Rattle.std.proofs.lemmas.Str.{digit_value_digit}
 use Rattle.std.proofs.Math.Nat.{pow-le-pow_right}
 use Rattle.std.proofs.lemmas.Nat.{pow-add}
-use Rattle.moc_lines.specs.Words.{number_spelled, is_line_blank, word_of, behind_word, without_blanks}
+use Rattle.moc_lines.specs.Language.{number_spelled, is_line_blank, word_of, behind_word, without_blanks}
 
 both : (a b : Bool) → a && b ≡ true → (a ≡ true) × (b ≡ true)
 both true b h = (refl, h)

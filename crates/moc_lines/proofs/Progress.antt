@@ -1,5 +1,7 @@
 -- The loop that answers lines.
-use Rattle.std.proofs.Common.{◌≡◌, ◌≢◌, inl, inr, ℕ, suc, true, false, ◌+◌, ◌-◌, ◌<◌, ◌≤◌, List, [], ◌∷◌, ◌++◌, length, take, get_or, Option, Some, None, Result, Ok, Err, refl, sym, ap, ◌∙◌, arith, append_assoc, append-nil, length-append, subst}
+use Rattle.std.proofs.Common.{◌≡◌, ◌≢◌, inl, inr, ℕ, suc, true, false, ◌+◌, ◌-◌, ◌<◌, ◌≤◌, List, [], ◌∷◌, ◌++◌, length}
+use Rattle.std.proofs.Common.{take, get_or, Option, Some, None, Result, Ok, Err, refl, sym, ap, ◌∙◌, arith}
+use Rattle.std.proofs.Common.{append_assoc, append-nil, length-append, subst}
 use Rattle.std.specs.List.{count_by, AllByRecursion}
 use Rattle.std.specs.Result.{is_err, OnOk, OnErr, IfErr}
 use Rattle.std.specs.Io.KnownBytes.{Appends, Consumes, IsAtEnd}
@@ -9,17 +11,18 @@ use Rattle.std.proofs.lemmas.List.{get_or-append-add, take_all}
 use Rattle.moc_text.specs.Lines.{is_line_feed, lines_of}
 use Rattle.moc_lines.specs.Private.Held.{Held, IsUnbroken}
 use Rattle.moc_lines.specs.Private.LineReading.{TakesLine, fault_at}
-use Rattle.moc_lines.specs.Answers.{Rules, answers_to, after_lines}
+use Rattle.moc_lines.specs.Runs.{Rules, answers_to, after_lines, AreWithin, IsTooLong, IsBegunLine, IsUnclosed}
+use Rattle.moc_lines.specs.Runs.{whole_lines_of, lines_before}
 use Rattle.moc_devices.specs.Devices.{Sends}
-use Rattle.moc_lines.specs.Runs.{AreWithin, IsTooLong, IsBegunLine, IsUnclosed, whole_lines_of, lines_before}
 use Rattle.moc_lines.specs.Private.Ended.{Ended, EndsAt, IsSent}
 use Rattle.moc_lines.specs.declared.line_reader.Found.{Found}
-use Rattle.moc_lines.specs.declared.line_reader.LineFault.{LineFault}
+use Rattle.moc_lines.specs.declared.line_reader.NextLineError.{NextLineError}
 use Rattle.moc_lines.specs.declared.run_error.RunError.{RunError}
 use Rattle.moc_lines.specs.declared.line_reader.Found.TheVariants.{Line, LastLine, Nothing}
-use Rattle.moc_lines.specs.declared.line_reader.LineFault.TheVariants as fault
+use Rattle.moc_lines.specs.declared.line_reader.NextLineError.TheVariants as fault
 use Rattle.moc_lines.specs.declared.run_error.RunError.TheVariants.{Read, Write, LineTooLong, Memory}
-use Rattle.moc_lines.proofs.LineLemmas.{count-append, some-lines, count-cons, lines_of-line, lines_of-last, lines_of-long}
+use Rattle.moc_lines.proofs.LineLemmas.{count-append, some-lines, count-cons, lines_of-line, lines_of-last}
+use Rattle.moc_lines.proofs.LineLemmas.{lines_of-long}
 use Rattle.moc_lines.proofs.Outcomes.{at_ok}
 
 -- lines, each with its line feed
@@ -58,8 +61,8 @@ at_end (Some xs) more end is = let same : xs ≡ more = cc in sym same ∙ end
 pub at_found : (limit : ℕ) (old new : Held) (a b : Option (List ℕ)) (found name : Found) → found ≡ name → TakesLine limit old a new b (Ok found) → TakesLine limit old a new b (Ok name)
 at_found limit old new a b found name is takes = subst (λ (f : Found). TakesLine limit old a new b (Ok f)) is takes
 
-pub at_fault : (limit : ℕ) (old new : Held) (a b : Option (List ℕ)) (fault name : LineFault) → fault ≡ name → TakesLine limit old a new b (Err fault) → TakesLine limit old a new b (Err name)
-at_fault limit old new a b fault name is takes = subst (λ (f : LineFault). TakesLine limit old a new b (Err f)) is takes
+pub at_fault : (limit : ℕ) (old new : Held) (a b : Option (List ℕ)) (fault name : NextLineError) → fault ≡ name → TakesLine limit old a new b (Err fault) → TakesLine limit old a new b (Err name)
+at_fault limit old new a b fault name is takes = subst (λ (f : NextLineError). TakesLine limit old a new b (Err f)) is takes
 
 module _ {S : Type 0} (limit : ℕ) (rules : Rules S) where
   pub answers_to-push : (s : S) (lines : List (List ℕ)) (line : List ℕ) → answers_to rules s (lines ++ line ∷ []) ≡ answers_to rules s lines ++ rules.answer (after_lines rules s lines) line
@@ -246,7 +249,7 @@ module _ {S : Type 0} (limit : ℕ) (rules : Rules S) where
         (λ e. e)
 
     -- there is no line
-    pub Ended-fault : (f : LineFault) → TakesLine limit held b held' c (Err f) → (pending' : List ℕ) → pending' ≡ pending → Ended limit rules s a c w v pending' (Err (fault_at number f))
+    pub Ended-fault : (f : NextLineError) → TakesLine limit held b held' c (Err f) → (pending' : List ℕ) → pending' ≡ pending → Ended limit rules s a c w v pending' (Err (fault_at number f))
     Ended-fault fault.Read t pending' same = subst (λ (q : List ℕ). Ended limit rules s a c w v q (Err Read)) (sym same) (read t)
     Ended-fault fault.TooLong t pending' same = subst (λ (q : List ℕ). Ended limit rules s a c w v q (Err (LineTooLong number))) (sym same) (long t)
     Ended-fault fault.Memory t pending' same = memory t.0 t.1 (λ _. t.2) pending' same

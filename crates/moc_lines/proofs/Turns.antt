@@ -9,7 +9,7 @@ use Rattle.moc_text.specs.Lines.{is_line_feed}
 use Rattle.moc_lines.specs.Private.Held.{Held, IsUnbroken}
 use Rattle.moc_lines.specs.Private.LineReading.{Brings, TakesLine}
 use Rattle.moc_lines.specs.declared.line_reader.Found.TheVariants.{Line}
-use Rattle.moc_lines.specs.declared.line_reader.LineFault.TheVariants.{TooLong}
+use Rattle.moc_lines.specs.declared.line_reader.NextLineError.TheVariants.{TooLong}
 use Rattle.moc_lines.proofs.LineLemmas.{count-append, IsUnbroken-before_first, split_at_line_feed, before_first-none, after_first-none}
 
 -- the bytes that came and those that were at hand are the line so far and those at hand; the line has no line feed

@@ -1,13 +1,5 @@
-pub mod Words
-pub mod Faults
 pub mod Language
-pub mod Replies
 pub use Rattle.moc_devices.specs.Devices
-pub mod Answers
-pub mod Batches
-pub mod Readings
 pub mod Runs
-pub mod Scripts
-pub mod Inputs
 pub mod Numberings
 pub mod Private

@@ -4,13 +4,11 @@ use Rattle.std.specs.List.{find, range_with_len}
 use Rattle.std.specs.Option.{ok_or}
 use Rattle.moc_sphere.specs.CellNumber.{cell_count, cell_number, is_uniq, uniq_of}
 use Rattle.moc_sphere.specs.Rings.{ring_number}
-use Rattle.moc_lines.specs.Words.{is_blank_text, word_of, behind_word, number_spelled}
-use Rattle.moc_lines.specs.Language.{◌>>=◌}
-use Rattle.moc_lines.specs.Faults.{fault_answer}
-use Rattle.moc_lines.specs.Answers.{Rules}
-use Rattle.moc_lines.specs.declared.fault.Fault.{Fault}
-use Rattle.moc_lines.specs.declared.fault.Fault.TheVariants.{WrongCount, BadNumber, CellTooLarge, NotUniq, RingTooLarge}
-use Rattle.moc_lines.specs.declared.fault.Fault.TheVariants.{OtherOrder}
+use Rattle.moc_lines.specs.Language.{is_blank_text, word_of, behind_word, number_spelled, ◌>>=◌, fault_answer}
+use Rattle.moc_lines.specs.Runs.{Rules}
+use Rattle.moc_lines.specs.declared.fault.LineFault.{LineFault}
+use Rattle.moc_lines.specs.declared.fault.LineFault.TheVariants.{WrongCount, BadNumber, CellTooLarge, NotUniq}
+use Rattle.moc_lines.specs.declared.fault.LineFault.TheVariants.{RingTooLarge, OtherOrder}
 use Rattle.moc_lines.specs.declared.numbering.Numbering.{Numbering}
 use Rattle.moc_lines.specs.declared.numbering.Numbering.TheVariants.{Nest, Ring, Uniq}
 use Rattle.moc_lines.specs.declared.renumbering.Renumbering.{Renumbering}
@@ -32,29 +30,29 @@ unfoldable pub cell_under : Numbering → ℕ → ℕ → Option ℕ
 cell_under numbering k n = find (λ i. number_under numbering k i == n) (range_with_len 0 (cell_count k))
 
 -- the fault of a number that no cell of the order has
-abbrev pub fault_under : Numbering → ℕ → Fault
+abbrev pub fault_under : Numbering → ℕ → LineFault
 fault_under Nest n = CellTooLarge
 fault_under Ring n = RingTooLarge
 fault_under Uniq n = if is_uniq n then OtherOrder else NotUniq
 
 -- the cell of order k that has the number n, or the fault
-abbrev pub cell_or_fault : Numbering → ℕ → ℕ → Result ℕ Fault
+abbrev pub cell_or_fault : Numbering → ℕ → ℕ → Result ℕ LineFault
 cell_or_fault numbering k n = ok_or (cell_under numbering k n) (fault_under numbering n)
 
 -- the number that a line spells, which has just one field
-abbrev pub number_on : List ℕ → Result ℕ Fault
+abbrev pub number_on : List ℕ → Result ℕ LineFault
 number_on line =
     if is_blank_text (behind_word line) then ok_or (number_spelled (word_of line)) BadNumber else Err WrongCount
 
 -- the number, in the one numbering, of the cell whose number in the other a line spells
-abbrev pub renumbered : Renumbering → List ℕ → Result ℕ Fault
+abbrev pub renumbered : Renumbering → List ℕ → Result ℕ LineFault
 renumbered r line = do
   n ← number_on line
   i ← cell_or_fault r.from r.order n
   Ok (number_under r.to r.order i)
 
 -- a number, or the fault, as a line
-abbrev pub number_line : Result ℕ Fault → List ℕ
+abbrev pub number_line : Result ℕ LineFault → List ℕ
 number_line (Ok n) = decimal n ++ 10 ∷ []
 number_line (Err fault) = fault_answer fault
 

@@ -1,13 +1,73 @@
--- What a run has read and written when it ends.
-use Rattle.std.specs.Prelude.{◌≡◌, ◌≢◌, ℕ, ◌+◌, ◌-◌, ◌<◌, ◌≤◌, ◌⊎◌, List, [], ◌++◌, length, take, Option, Some, Result}
-use Rattle.std.specs.Prelude.{Ok, Err, slice_index_or}
-use Rattle.std.specs.List.{AllByRecursion, count_by}
-use Rattle.std.specs.Io.KnownBytes.{Appends, Consumes}
-use Rattle.moc_text.specs.Lines.{is_line_feed, lines_of}
+-- Scripts, and what a run of one has read and written when it ends.
+use Rattle.std.specs.Prelude.{ℕ, nat_le, Bool, List, [], ◌∷◌, ◌++◌, length, if◌then◌else◌, fold, Result, ◌≡◌, ◌≢◌, ◌+◌}
+use Rattle.std.specs.Prelude.{◌-◌, ◌<◌, ◌≤◌, ◌⊎◌, take, Option, Some, Ok, Err, OnOk, OnErr, IsErrOf, IsTrue, ◌↔◌}
+use Rattle.std.specs.Prelude.{slice_index_or}
+use Rattle.std.specs.List.{list_all, take_while, AllByRecursion, count_by}
+use Rattle.moc_text.specs.Lines.{lines_of, is_line_feed}
+use Rattle.std.specs.FinSet as set
+use Rattle.moc_ranges.specs.Numbers.{NumberSet}
+use Rattle.moc_parts.specs.declared.command.Command.{Command}
+use Rattle.moc_lines.specs.declared.fault.LineFault.{LineFault}
+use Rattle.moc_lines.specs.Language.{command_of, line_answer, after_line}
+use Rattle.std.specs.Io.KnownBytes.{Appends, Consumes, IsAtEnd}
 use Rattle.moc_devices.specs.Devices.{CallsMore}
-use Rattle.moc_lines.specs.Answers.{Rules, answers_to, closing_behind, script_text}
 use Rattle.moc_lines.specs.declared.run_error.RunError.{RunError}
 use Rattle.moc_lines.specs.declared.run_error.RunError.TheVariants.{Read, Write, LineTooLong, Memory}
+use Rattle.moc_lines.specs.declared.reading.InputError.{InputError}
+use Rattle.moc_lines.specs.declared.reading.InputError.TheVariants as input
+
+-- The text that a script is answered with
+
+-- how lines are answered: the answer to a line, what the line leaves, and what is said behind the last line
+pub record Rules (S : Type 0) : Type 0 where
+  pub answer : S → List ℕ → List ℕ
+  pub after : S → List ℕ → S
+  pub closing : S → List ℕ
+
+-- the line has no more bytes than the limit
+abbrev pub is_within : ℕ → List ℕ → Bool
+is_within limit line = nat_le (length line) limit
+
+module _ {S : Type 0} (rules : Rules S) where
+  -- the answers to lines, one after another, each on what the lines before leave
+  abbrev pub answers_to : S → List (List ℕ) → List ℕ
+  answers_to s [] = []
+  answers_to s (line ∷ lines) = rules.answer s line ++ answers_to (rules.after s line) lines
+
+  -- what lines leave
+  abbrev pub after_lines : S → List (List ℕ) → S
+  after_lines s lines = fold rules.after s lines
+
+  -- what is said behind lines
+  abbrev pub closing_behind : S → List (List ℕ) → List ℕ
+  closing_behind s lines = rules.closing (after_lines s lines)
+
+  -- the answers to a script: those to its lines before one over the limit, and, where none is, what closes them
+  abbrev pub script_text : ℕ → S → List ℕ → List ℕ
+  script_text limit s input =
+      let lines = lines_of input in
+      answers_to s (take_while (is_within limit) lines)
+      ++ (if list_all (is_within limit) lines then closing_behind s lines else [])
+
+-- Scripts of commands on a set of pixels
+
+-- the most bytes of a line
+abbrev pub line_limit : ℕ
+line_limit = 1048576
+
+-- how lines are answered whose pieces say their commands so; nothing is said behind the last
+abbrev pub rules_by : (List ℕ → Result Command LineFault) → Rules NumberSet
+rules_by says = record { answer = line_answer says; after = after_line says; closing = λ _. [] }
+
+-- how the lines of a script are answered
+abbrev pub script_rules : Rules NumberSet
+script_rules = rules_by command_of
+
+-- the text that a script is answered with, by a set that starts empty
+abbrev pub answers_of : List ℕ → List ℕ
+answers_of input = script_text script_rules line_limit set.empty input
+
+-- What a run has read and written when it ends
 
 -- no line is over the limit
 abbrev pub AreWithin : ℕ → List (List ℕ) → Type 0
@@ -36,6 +96,19 @@ pub record IsBegunLine (number : ℕ) (given : List ℕ) : Type 0 where
 pub record IsUnclosed (number : ℕ) (given closing : List ℕ) : Type 0 where
   pub next : number ≡ length (lines_of given) + 1
   pub some : closing ≢ []
+
+-- at Ok all was read and all is flushed; at a fault all is flushed only where it was before
+pub record EndsFlushed {T E : Type 0} (result : Result T E) (left' : Option (List ℕ)) (before after : Bool)
+    : Type 0 where
+  pub end : OnOk result (IsAtEnd left')
+  pub flushed : OnOk result (IsTrue after)
+  pub unflushed : OnErr result (IsTrue after → IsTrue before)
+
+-- of a reader and a writer: a fault is told only of one that has failed, and one that has failed is told
+pub record TellsFailed (result : Result (Unit {0}) RunError) (reader writer : Bool) : Type 0 where
+  pub read : IsErrOf result Read → IsTrue reader
+  pub write : IsErrOf result Write ↔ IsTrue writer
+  pub told : IsTrue reader → IsErrOf result Read ⊎ IsErrOf result Write
 
 -- how often a run that ends so flushes: once at the end, perhaps once where the writer failed, and else never
 abbrev pub Flushes : Result (Unit {0}) RunError → Option ℕ → Option ℕ → Type 0
@@ -74,3 +147,21 @@ module _ {S : Type 0} (limit : ℕ) (rules : Rules S) (s : S) where
     pub rest : List ℕ
     pub appended : Appends written written' text
     pub parts : script_text rules limit s input ≡ text ++ rest
+
+-- A script that is read whole
+
+-- all was read, and no line of it has more bytes than the limit
+abbrev pub ReadsAll : Option (List ℕ) → Option (List ℕ) → List ℕ → Type 0
+ReadsAll left left' input = Consumes left left' input × IsAtEnd left' × AreWithin line_limit (lines_of input)
+
+-- the line that is told, of what was given, is over the limit, or is one that was begun
+abbrev pub FailsOn : List ℕ → InputError → Type 0
+FailsOn given input.Read = Unit {0}
+FailsOn given (input.TooLong line) = IsTooLong line_limit (lines_of given) line
+FailsOn given (input.Memory line) = IsBegunLine line given
+
+-- the error of an input as the one of a run
+abbrev pub error_of_input : InputError → RunError
+error_of_input input.Read = Read
+error_of_input (input.TooLong line) = LineTooLong line
+error_of_input (input.Memory line) = Memory line

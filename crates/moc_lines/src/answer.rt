@@ -1,7 +1,7 @@
 //! The answers to lines, by a map.
 ghost use Rattle.std.specs.Prelude.{◌≡◌, ◌++◌, ◌∷◌, [], Ok, OnOk};
-ghost use Rattle.moc_lines.specs.Batches.{after_batch, answer_to};
-ghost use Rattle.moc_lines.specs.Scripts.{script_rules};
+ghost use Rattle.moc_lines.specs.Language.{after_batch, answer_to};
+ghost use Rattle.moc_lines.specs.Runs.{script_rules};
 
 use crate::fault::{ReadError, push_fault};
 use crate::language::{Commands, read_commands};

@@ -1,14 +1,12 @@
 //! The batch of commands that a line says.
 ghost use Rattle.std.specs.Prelude.{◌≡◌, ◌≤◌, length, nat_lt, if◌then◌else◌, OnOk};
 ghost use Rattle.std.specs.List.{count_by, position_or_len};
-ghost use Rattle.moc_lines.specs.Language.{command_of};
+ghost use Rattle.moc_lines.specs.Language.{command_of, piece_says, batch_of, commands_of, ReadsText};
 ghost use Rattle.moc_text.specs.Lines.{is_semicolon, pieces_of};
-ghost use Rattle.moc_lines.specs.Batches.{piece_says, batch_of, commands_of};
-ghost use Rattle.moc_lines.specs.Readings.{ReadsText};
 
 use crate::bytes::first_or_len;
 use crate::command::read_command;
-use crate::fault::{Fault, ReadError};
+use crate::fault::{LineFault, ReadError};
 use crate::words::is_blank_text;
 use moc_parts::{Batch, Command, MOST_COMMANDS};
 use std::alloc::Global;
@@ -33,7 +31,7 @@ pub(crate) fn read_piece(alloc: Global, piece: &[u8]) -> Result<Command, ReadErr
     ensures { ReadsText (λ command. command) result (piece_says command_of piece.now) }
 {
     if is_blank_text(piece) {
-        return Err(Fault::EmptyCommand.into());
+        return Err(LineFault::EmptyCommand.into());
     }
     read_command(alloc, piece)
 }
@@ -65,15 +63,15 @@ fn read_pieces(alloc: Global, line: &[u8], first: usize) -> Result<Vec<Command>,
         rest = behind.split_at(1).1;
         at = first_semicolon(rest);
     }
-    Err(Fault::TooManyCommands.into())
+    Err(LineFault::TooManyCommands.into())
 }
 
 /// The fault of a line one of whose pieces has a fault: that there are too many goes before it.
-fn fault_of(line: &[u8], fault: Fault) -> Fault
-    ensures { result ≡ (if nat_lt 16 (length (pieces_of line.now)) then Fault.TooManyCommands else fault) }
+fn fault_of(line: &[u8], fault: LineFault) -> LineFault
+    ensures { result ≡ (if nat_lt 16 (length (pieces_of line.now)) then LineFault.TooManyCommands else fault) }
 {
     if semicolons_in(line) >= MOST_COMMANDS {
-        Fault::TooManyCommands
+        LineFault::TooManyCommands
     } else {
         fault
     }

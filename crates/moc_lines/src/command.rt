@@ -1,11 +1,10 @@
 //! The commands that pieces of lines say.
 ghost use Rattle.std.specs.Prelude.{◌≡◌};
 ghost use Rattle.moc_lines.specs.Language.{coverage_of, order_of, plain_operand_of, operand_of, invert_of, degrade_of};
-ghost use Rattle.moc_lines.specs.Language.{near_by, near_of, command_named, command_with, command_of};
-ghost use Rattle.moc_lines.specs.Readings.{ReadsText};
+ghost use Rattle.moc_lines.specs.Language.{near_by, near_of, command_named, command_with, command_of, ReadsText};
 ghost use Rattle.moc_lines.specs.Private.Verbs.{made_by, made_by_word};
 
-use crate::fault::{Fault, ReadError};
+use crate::fault::{LineFault, ReadError};
 use crate::fields::{only_field, two_fields};
 use crate::words::{is_blank_text, is_word, number_in, split_word};
 use moc_parts::{Command, Operand};
@@ -26,9 +25,9 @@ fn read_coverage(alloc: Global, text: &[u8]) -> Result<Coverage, ReadError>
 fn read_order(field: &[u8]) -> Result<Order, ReadError>
     ensures { ReadsText (λ order. order) result (order_of field.now) }
 {
-    let number = number_in(field).ok_or(Fault::BadNumber)?;
+    let number = number_in(field).ok_or(LineFault::BadNumber)?;
     let Ok(order) = Order::try_from(number) else {
-        return Err(Fault::OrderTooLarge.into());
+        return Err(LineFault::OrderTooLarge.into());
     };
     Ok(order)
 }
@@ -66,7 +65,7 @@ fn read_invert(text: &[u8]) -> Result<Command, ReadError>
     if is_blank_text(text) {
         Ok(Command::Invert)
     } else {
-        Err(Fault::WrongCount.into())
+        Err(LineFault::WrongCount.into())
     }
 }
 
@@ -83,14 +82,14 @@ fn read_degrade(text: &[u8]) -> Result<Command, ReadError>
 fn read_cell(order: &[u8], index: &[u8]) -> Result<Command, ReadError>
     ensures { ReadsText (λ command. command) result (near_by order.now index.now) }
 {
-    let depth = number_in(order).ok_or(Fault::BadNumber)?;
-    let index = number_in(index).ok_or(Fault::BadNumber)?;
+    let depth = number_in(order).ok_or(LineFault::BadNumber)?;
+    let index = number_in(index).ok_or(LineFault::BadNumber)?;
     let Ok(order) = Order::try_from(depth) else {
-        return Err(Fault::OrderTooLarge.into());
+        return Err(LineFault::OrderTooLarge.into());
     };
     match Cell::new(order, index) {
         Ok(cell) => Ok(Command::Near(cell)),
-        Err(_) => Err(Fault::CellTooLarge.into()),
+        Err(_) => Err(LineFault::CellTooLarge.into()),
     }
 }
 
@@ -155,7 +154,7 @@ fn read_with_operand(alloc: Global, word: &[u8], text: &[u8]) -> Result<Command,
     ensures { ReadsText (λ command. command) result (command_with operand_of word.now text.now) }
 {
     let Some(verb) = Verb::named(word) else {
-        return Err(Fault::UnknownWord.into());
+        return Err(LineFault::UnknownWord.into());
     };
     let operand = read_operand(alloc, text)?;
     Ok(verb.of(operand))

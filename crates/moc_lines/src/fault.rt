@@ -1,6 +1,6 @@
 //! What is wrong with a line.
 ghost use Rattle.std.specs.Prelude.{◌≡◌, ◌++◌, OnOk};
-ghost use Rattle.moc_lines.specs.Faults.{fault_answer, name_of};
+ghost use Rattle.moc_lines.specs.Language.{fault_answer, name_of};
 ghost use Rattle.moc_lines.specs.Private.ReadErrors.{error_of_text};
 ghost use Rattle.moc_lines.specs.declared.fault.ReadError.TheVariants as read;
 
@@ -11,7 +11,7 @@ use thiserror::Error;
 
 /// Why a line is bad. Its answer gives the name.
 #[derive(Clone, Copy, Debug, PartialEq, Eq, Error)]
-pub enum Fault {
+pub enum LineFault {
     /// The first word is no command.
     #[error("the first word is no command")]
     UnknownWord,
@@ -56,32 +56,32 @@ pub enum Fault {
     OtherOrder,
 }
 
-impl Fault {
+impl LineFault {
     /// The name that the answer gives.
     fn name(self) -> &'static str
         ensures { result.now ≡ name_of self }
     {
         match self {
-            Fault::UnknownWord => "UnknownWord",
-            Fault::EmptyCommand => "EmptyCommand",
-            Fault::TooManyCommands => "TooManyCommands",
-            Fault::WrongCount => "WrongCount",
-            Fault::BadNumber => "BadNumber",
-            Fault::OrderTooLarge => "OrderTooLarge",
-            Fault::CellTooLarge => "CellTooLarge",
-            Fault::BadByte => "BadByte",
-            Fault::NoOrder => "NoOrder",
-            Fault::Backwards => "Backwards",
-            Fault::Unfinished => "Unfinished",
-            Fault::NotUniq => "NotUniq",
-            Fault::RingTooLarge => "RingTooLarge",
-            Fault::OtherOrder => "OtherOrder",
+            LineFault::UnknownWord => "UnknownWord",
+            LineFault::EmptyCommand => "EmptyCommand",
+            LineFault::TooManyCommands => "TooManyCommands",
+            LineFault::WrongCount => "WrongCount",
+            LineFault::BadNumber => "BadNumber",
+            LineFault::OrderTooLarge => "OrderTooLarge",
+            LineFault::CellTooLarge => "CellTooLarge",
+            LineFault::BadByte => "BadByte",
+            LineFault::NoOrder => "NoOrder",
+            LineFault::Backwards => "Backwards",
+            LineFault::Unfinished => "Unfinished",
+            LineFault::NotUniq => "NotUniq",
+            LineFault::RingTooLarge => "RingTooLarge",
+            LineFault::OtherOrder => "OtherOrder",
         }
     }
 }
 
 /// Adds the answer to a bad line, `fault NAME` and a line feed. Refused where memory runs out.
-pub fn push_fault(fault: Fault, text: &mut Vec<u8>) -> Result<(), Memory>
+pub fn push_fault(fault: LineFault, text: &mut Vec<u8>) -> Result<(), Memory>
     ensures { OnOk result (text.new.items ≡ text.old.items ++ fault_answer fault) }
 {
     text.extend_from_slice(b"fault ")?;
@@ -95,16 +95,16 @@ pub fn push_fault(fault: Fault, text: &mut Vec<u8>) -> Result<(), Memory>
 pub enum ReadError {
     /// The text is bad.
     #[error("{0}")]
-    Fault(Fault),
+    Fault(LineFault),
     /// Memory was refused.
     #[error("out of memory")]
     Memory,
 }
 
-impl From<Fault> for ReadError {
+impl From<LineFault> for ReadError {
     ghost from_gives = { λ fault e. e ≡ read.Fault fault };
 
-    fn from(fault: Fault) -> ReadError {
+    fn from(fault: LineFault) -> ReadError {
         ReadError::Fault(fault)
     }
 }
@@ -122,13 +122,13 @@ impl From<TextError> for ReadError {
 
     fn from(error: TextError) -> ReadError {
         match error {
-            TextError::BadByte { .. } => ReadError::Fault(Fault::BadByte),
-            TextError::NoOrder { .. } => ReadError::Fault(Fault::NoOrder),
-            TextError::OrderTooLarge { .. } => ReadError::Fault(Fault::OrderTooLarge),
-            TextError::CellTooLarge { .. } => ReadError::Fault(Fault::CellTooLarge),
-            TextError::Backwards { .. } => ReadError::Fault(Fault::Backwards),
+            TextError::BadByte { .. } => ReadError::Fault(LineFault::BadByte),
+            TextError::NoOrder { .. } => ReadError::Fault(LineFault::NoOrder),
+            TextError::OrderTooLarge { .. } => ReadError::Fault(LineFault::OrderTooLarge),
+            TextError::CellTooLarge { .. } => ReadError::Fault(LineFault::CellTooLarge),
+            TextError::Backwards { .. } => ReadError::Fault(LineFault::Backwards),
             TextError::Unfinished { .. } | TextError::TooCoarse => {
-                ReadError::Fault(Fault::Unfinished)
+                ReadError::Fault(LineFault::Unfinished)
             }
             TextError::Memory => ReadError::Memory,
         }

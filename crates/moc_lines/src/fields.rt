@@ -1,8 +1,7 @@
 //! The fields of a command or a step.
-ghost use Rattle.moc_lines.specs.Language.{only_field, two_fields};
-ghost use Rattle.moc_lines.specs.Readings.{ReadsText};
+ghost use Rattle.moc_lines.specs.Language.{only_field, two_fields, ReadsText};
 
-use crate::fault::{Fault, ReadError};
+use crate::fault::{LineFault, ReadError};
 use crate::words::{is_blank_text, split_word};
 
 /// The field of a text that has just one; refused with `WrongCount`. Linear in the text; takes no memory.
@@ -10,13 +9,13 @@ pub fn only_field(text: &[u8]) -> Result<&[u8], ReadError>
     ensures { ReadsText (λ field. field.now) result (only_field text.now) }
 {
     if is_blank_text(text) {
-        return Err(Fault::WrongCount.into());
+        return Err(LineFault::WrongCount.into());
     }
     let (field, behind) = split_word(text);
     if is_blank_text(behind) {
         Ok(field)
     } else {
-        Err(Fault::WrongCount.into())
+        Err(LineFault::WrongCount.into())
     }
 }
 
@@ -26,12 +25,12 @@ pub fn two_fields(text: &[u8]) -> Result<(&[u8], &[u8]), ReadError>
 {
     let (first, rest) = split_word(text);
     if is_blank_text(rest) {
-        return Err(Fault::WrongCount.into());
+        return Err(LineFault::WrongCount.into());
     }
     let (second, behind) = split_word(rest);
     if is_blank_text(behind) {
         Ok((first, second))
     } else {
-        Err(Fault::WrongCount.into())
+        Err(LineFault::WrongCount.into())
     }
 }

@@ -1,9 +1,6 @@
 //! The language of lines, for callers that do commands and batches themselves.
 ghost use Rattle.std.specs.Prelude.{◌≡◌, ◌++◌, ◌∷◌, [], IfOk};
-ghost use Rattle.moc_lines.specs.Batches.{batch_of, commands_in};
-ghost use Rattle.moc_lines.specs.Language.{command_of};
-ghost use Rattle.moc_lines.specs.Readings.{ReadsText};
-ghost use Rattle.moc_lines.specs.Replies.{replies_text};
+ghost use Rattle.moc_lines.specs.Language.{batch_of, commands_in, command_of, ReadsText, replies_text};
 
 use crate::batch::{first_semicolon, read_parted, read_piece};
 use crate::fault::ReadError;

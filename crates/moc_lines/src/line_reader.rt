@@ -29,7 +29,7 @@ pub(crate) enum Found {
 
 /// Why there is no line.
 #[derive(Clone, Copy)]
-pub(crate) enum LineFault {
+pub(crate) enum NextLineError {
     Read,
     TooLong,
     Memory,
@@ -90,24 +90,24 @@ impl LineReader {
     }
 
     /// Moves what is at hand before the first line feed to the end of the line, and drops that line feed.
-    fn take_part(&mut self) -> Result<bool, LineFault>
+    fn take_part(&mut self) -> Result<bool, NextLineError>
         requires { length self.old.line ≤ LINE_LIMIT }
         ensures found { IfOk result (λ found.
             found ≡ nat_lt (position_or_len is_line_feed self.old.unread) (length self.old.unread)) }
         ensures line { OnOk result (self.new.line ≡ self.old.line ++ before_first is_line_feed self.old.unread) }
         ensures unread { OnOk result (self.new.unread ≡ after_first is_line_feed self.old.unread) }
         ensures within { OnOk result (length self.new.line ≤ LINE_LIMIT) }
-        ensures too_long { IsErrOf result LineFault.TooLong
+        ensures too_long { IsErrOf result NextLineError.TooLong
             → LINE_LIMIT < length self.old.line + position_or_len is_line_feed self.old.unread }
-        ensures read { result ≢ Err LineFault.Read }
+        ensures read { result ≢ Err NextLineError.Read }
     {
         let unread = &self.chunk[self.start..self.end];
         let len = self.ahead;
         if len > LINE_LIMIT - self.line.len() {
-            return Err(LineFault::TooLong);
+            return Err(NextLineError::TooLong);
         }
         if self.line.extend_from_slice(&unread[..len]).is_err() {
-            return Err(LineFault::Memory);
+            return Err(NextLineError::Memory);
         }
         if len < unread.len() {
             self.start += len + 1;
@@ -138,10 +138,10 @@ impl LineReader {
     }
 
     /// Takes the next line.
-    pub(crate) fn next_line<R: Source>(&mut self, reader: &mut R) -> Result<Found, LineFault>
+    pub(crate) fn next_line<R: Source>(&mut self, reader: &mut R) -> Result<Found, NextLineError>
         ensures takes { TakesLine LINE_LIMIT self.old (R.left reader.old) self.new (R.left reader.new) result }
-        ensures read { result ≡ Err LineFault.Read → IsTrue (R.mark reader.new) }
-        ensures unmarked { result ≢ Err LineFault.Read → R.mark reader.new ≡ R.mark reader.old }
+        ensures read { result ≡ Err NextLineError.Read → IsTrue (R.mark reader.new) }
+        ensures unmarked { result ≢ Err NextLineError.Read → R.mark reader.new ≡ R.mark reader.old }
     {
         self.line.clear();
         loop {
@@ -149,7 +149,7 @@ impl LineReader {
                 Ok(true) => {}
                 Ok(false) if self.line.is_empty() => return Ok(Found::Nothing),
                 Ok(false) => return Ok(Found::LastLine),
-                Err(DeviceFault) => return Err(LineFault::Read),
+                Err(DeviceFault) => return Err(NextLineError::Read),
             }
             match self.take_part() {
                 Ok(true) => return Ok(Found::Line),

@@ -3,11 +3,11 @@ ghost use Rattle.std.specs.Prelude.{◌≡◌};
 ghost use Rattle.moc_lines.specs.Numberings.{number_under};
 ghost use Rattle.moc_lines.specs.Private.Finding.{FindsCell};
 
-use crate::fault::Fault;
+use crate::fault::LineFault;
+use crate::name_error::NumberingNameError;
 use moc_sphere::{Cell, Order};
 use std::fmt;
 use std::str::FromStr;
-use thiserror::Error;
 
 /// A numbering of the cells of an order.
 #[derive(Clone, Copy, Debug, PartialEq, Eq, Hash)]
@@ -20,29 +20,22 @@ pub enum Numbering {
     Uniq,
 }
 
-/// Why a word names nothing.
-#[derive(Clone, Copy, Debug, PartialEq, Eq, Error)]
-pub enum NameError {
-    #[error("no numbering has that name")]
-    NotNumbering,
-}
-
 /// The numbering that the command line calls `nest`, `ring` or `uniq`; refused with `NotNumbering`.
 impl FromStr for Numbering {
-    type Err = NameError;
+    type Err = NumberingNameError;
 
     ghost use Rattle.moc_sphere.specs.Names.{IsNamed};
     ghost use Rattle.moc_lines.specs.Numberings.{numbering_name};
-    ghost use Rattle.moc_lines.specs.declared.numbering.NameError.TheVariants.{NotNumbering};
+    ghost use Rattle.moc_lines.specs.declared.name_error.NumberingNameError.TheVariants.{NotNumbering};
 
     ghost from_str_gives = { IsNamed numbering_name NotNumbering };
 
-    fn from_str(word: &str) -> Result<Numbering, NameError> {
+    fn from_str(word: &str) -> Result<Numbering, NumberingNameError> {
         match word {
             "nest" => Ok(Numbering::Nest),
             "ring" => Ok(Numbering::Ring),
             "uniq" => Ok(Numbering::Uniq),
-            _ => Err(NameError::NotNumbering),
+            _ => Err(NumberingNameError::NotNumbering),
         }
     }
 }
@@ -76,28 +69,28 @@ impl Numbering {
     }
 
     /// The cell of the order that has this number, or the fault.
-    pub(crate) fn cell(self, order: Order, number: u64) -> Result<Cell, Fault>
+    pub(crate) fn cell(self, order: Order, number: u64) -> Result<Cell, LineFault>
         ensures { FindsCell self order number result }
     {
         match self {
-            Numbering::Nest => Cell::new(order, number).or(Err(Fault::CellTooLarge)),
-            Numbering::Ring => Cell::from_ring(order, number).or(Err(Fault::RingTooLarge)),
+            Numbering::Nest => Cell::new(order, number).or(Err(LineFault::CellTooLarge)),
+            Numbering::Ring => Cell::from_ring(order, number).or(Err(LineFault::RingTooLarge)),
             Numbering::Uniq => cell_of_uniq(order, number),
         }
     }
 }
 
 /// The cell of the order that has this NUNIQ number, or the fault.
-fn cell_of_uniq(order: Order, uniq: u64) -> Result<Cell, Fault>
+fn cell_of_uniq(order: Order, uniq: u64) -> Result<Cell, LineFault>
     ensures { FindsCell Numbering.Uniq order uniq result }
 {
     let depth = order.get();
     let Ok(cell) = Cell::from_uniq(uniq) else {
-        return Err(Fault::NotUniq);
+        return Err(LineFault::NotUniq);
     };
     if cell.order().get() == depth {
         Ok(cell)
     } else {
-        Err(Fault::OtherOrder)
+        Err(LineFault::OtherOrder)
     }
 }

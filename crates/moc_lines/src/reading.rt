@@ -4,7 +4,7 @@ ghost use Rattle.std.specs.Prelude.{IsErrOf, Err, IsTrue, List, ℕ};
 ghost use Rattle.std.specs.List.{count_by};
 ghost use Rattle.std.specs.Io.KnownBytes.{Consumes};
 ghost use Rattle.moc_text.specs.Lines.{is_line_feed, lines_of};
-ghost use Rattle.moc_lines.specs.Inputs.{FailsOn, ReadsAll};
+ghost use Rattle.moc_lines.specs.Runs.{FailsOn, ReadsAll};
 ghost use Rattle.moc_lines.specs.Private.Input.{IsBehindLast, IsHeld};
 
 use crate::bytes::first_or_len;

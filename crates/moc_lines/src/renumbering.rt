@@ -1,14 +1,12 @@
 //! Numbers of cells, told in another numbering, from a reader to a writer.
-ghost use Rattle.std.specs.Prelude.{◌≡◌, ◌++◌, ◌∷◌, ◌-◌, ◌^◌, ◌⊎◌, [], IfSome, IsTrue, ◌↔◌, false, OnOk, OnErr};
-ghost use Rattle.std.specs.Prelude.{IsErrOf, decimal, min};
-ghost use Rattle.std.specs.Io.KnownBytes.{Appends, IsAtEnd};
+ghost use Rattle.std.specs.Prelude.{◌≡◌, ◌++◌, ◌∷◌, ◌-◌, ◌^◌, [], IfSome, false, OnOk, decimal, min};
+ghost use Rattle.std.specs.Io.KnownBytes.{Appends};
 ghost use Rattle.std.specs.Result.{result_map_both};
-ghost use Rattle.moc_lines.specs.Answers.{script_text};
-ghost use Rattle.moc_lines.specs.Runs.{Flushes, Runs, WritesBeginning};
+ghost use Rattle.moc_lines.specs.Runs.{script_text, EndsFlushed, Flushes, Runs, TellsFailed, WritesBeginning};
+ghost use Rattle.moc_lines.specs.Runs.{line_limit};
 ghost use Rattle.moc_lines.specs.Numberings.{number_on, renumber_rules, renumbered};
-ghost use Rattle.moc_lines.specs.Scripts.{line_limit};
 
-use crate::fault::{Fault, push_fault};
+use crate::fault::{LineFault, push_fault};
 use crate::numbering::Numbering;
 use crate::responder::Responder;
 use crate::run_error::RunError;
@@ -33,7 +31,7 @@ pub struct Renumbering {
 
 impl Renumbering {
     /// The number, in the one numbering, of the cell whose number in the other a line spells.
-    fn renumbered(self, line: &[u8]) -> Result<u64, Fault>
+    fn renumbered(self, line: &[u8]) -> Result<u64, LineFault>
         ensures { result ≡ renumbered self line.now }
     {
         // Any order is 29 at most, and so all its numbers have 62 bits at most.
@@ -68,7 +66,7 @@ impl Responder for Renumbering {
 }
 
 /// The number that a line spells, which has just one field, or `u64::MAX` where it is larger.
-fn read_number(line: &[u8]) -> Result<u64, Fault>
+fn read_number(line: &[u8]) -> Result<u64, LineFault>
     ensures { result ≡ result_map_both (λ n. min n (2 ^ 64 - 1)) (λ fault. fault) (number_on line.now) }
 {
     if line.len() <= SAFE_DIGITS {
@@ -78,9 +76,9 @@ fn read_number(line: &[u8]) -> Result<u64, Fault>
     }
     let (field, behind) = split_word(line);
     if !is_blank_text(behind) {
-        return Err(Fault::WrongCount);
+        return Err(LineFault::WrongCount);
     }
-    number_in(field).ok_or(Fault::BadNumber)
+    number_in(field).ok_or(LineFault::BadNumber)
 }
 
 /// Adds a number as a line.
@@ -131,15 +129,11 @@ pub fn renumber<R: Source, W: Sink>(
         (script_text renumber_rules line_limit renumbering input))) }
 
     // Only the reader's end ends it without a fault, and then all is flushed, at once.
-    ensures end { OnOk result (IsAtEnd (R.left reader.new)) }
-    ensures flushed { OnOk result (IsTrue (W.flushed writer.new)) }
-    ensures unflushed { OnErr result (IsTrue (W.flushed writer.new) → IsTrue (W.flushed writer.old)) }
+    ensures end { EndsFlushed result (R.left reader.new) (W.flushed writer.old) (W.flushed writer.new) }
     ensures flushes { Flushes result (W.flushes writer.old) (W.flushes writer.new) }
 
     // The devices' faults are theirs, and a device that failed is told.
-    ensures read { IsErrOf result RunError.Read → IsTrue (R.mark reader.new) }
-    ensures write { IsErrOf result RunError.Write ↔ IsTrue (W.mark writer.new) }
-    ensures told { IsTrue (R.mark reader.new) → IsErrOf result RunError.Read ⊎ IsErrOf result RunError.Write }
+    ensures devices { TellsFailed result (R.mark reader.new) (W.mark writer.new) }
 {
     let mut responder = renumbering;
     answer_all_lines(alloc, &mut responder, reader, writer)

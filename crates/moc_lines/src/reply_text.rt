@@ -1,6 +1,6 @@
 //! The texts of replies.
-ghost use Rattle.std.specs.Prelude.{◌≡◌, ◌++◌, ◌∷◌, [], codes, decimal, OnOk, if◌then◌else◌};
-ghost use Rattle.moc_lines.specs.Replies.{cover_text, replies_text, reply_text};
+ghost use Rattle.std.specs.Prelude.{◌≡◌, ◌++◌, ◌∷◌, [], decimal, OnOk};
+ghost use Rattle.moc_lines.specs.Language.{cover_text, replies_text, reply_text};
 
 use itoa::Buffer;
 use moc_parts::Reply;

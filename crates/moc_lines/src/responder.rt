@@ -1,6 +1,6 @@
 //! What answers lines.
 ghost use Rattle.std.specs.Prelude.{◌≡◌, ◌≢◌, ◌++◌, [], OnOk, OnErr};
-ghost use Rattle.moc_lines.specs.Answers.{Rules};
+ghost use Rattle.moc_lines.specs.Runs.{Rules};
 
 use moc_ranges::Memory;
 use std::alloc::Global;

@@ -1,6 +1,6 @@
 //! Why a run ends early.
 ghost use Rattle.std.specs.Prelude.{◌≡◌};
-ghost use Rattle.moc_lines.specs.Inputs.{error_of_input};
+ghost use Rattle.moc_lines.specs.Runs.{error_of_input};
 
 use crate::reading::InputError;
 use thiserror::Error;

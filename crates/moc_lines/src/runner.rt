@@ -1,15 +1,14 @@
 //! A run under way.
-ghost use Rattle.std.specs.Prelude.{◌≡◌, ◌≢◌, ◌++◌, ◌⊎◌, [], IfOk, IfErr, IfSome, if◌then◌else◌, IsTrue, ◌↔◌, true};
-ghost use Rattle.std.specs.Prelude.{false, OnOk, OnErr, IsErrOf, Err};
-ghost use Rattle.std.specs.Io.KnownBytes.{Appends, IsAtEnd, Keeps};
-ghost use Rattle.moc_devices.specs.Devices.{CallsMore, Sends};
+ghost use Rattle.std.specs.Prelude.{◌≡◌, ◌≢◌, ◌++◌, [], IfOk, IfErr, IfSome, if◌then◌else◌, IsTrue, ◌↔◌, false};
+ghost use Rattle.std.specs.Prelude.{OnOk, OnErr, IsErrOf, Err, is_err};
+ghost use Rattle.std.specs.Io.KnownBytes.{Appends, Keeps};
+ghost use Rattle.moc_devices.specs.Devices.{CallsMore, FlushesNothing, OnlyWrites, Sends};
 ghost use Rattle.moc_lines.specs.Private.LineReading.{TakesLine, fault_at, holds_line};
-ghost use Rattle.moc_lines.specs.Answers.{script_text};
-ghost use Rattle.moc_lines.specs.Runs.{Runs, WritesBeginning, Flushes};
-ghost use Rattle.moc_lines.specs.Scripts.{line_limit};
+ghost use Rattle.moc_lines.specs.Runs.{script_text, EndsFlushed, Flushes, Runs, TellsFailed, WritesBeginning};
+ghost use Rattle.moc_lines.specs.Runs.{line_limit};
 ghost use Rattle.moc_lines.specs.Private.Ended.{Ended};
 
-use crate::line_reader::{Found, LINE_LIMIT, LineFault, LineReader};
+use crate::line_reader::{Found, LINE_LIMIT, LineReader, NextLineError};
 use crate::responder::Responder;
 use crate::run_error::RunError;
 use moc_devices::{DeviceFault, Sink, Source, write_all};
@@ -58,13 +57,9 @@ impl Runner {
         ensures begins { IfSome (R.left reader.old) (λ input.
             WritesBeginning LINE_LIMIT A.rules responder.old input
             (W.written writer.old) (W.written writer.new)) }
-        ensures end { OnOk result (IsAtEnd (R.left reader.new)) }
-        ensures flushed { OnOk result (IsTrue (W.flushed writer.new)) }
-        ensures unflushed { OnErr result (IsTrue (W.flushed writer.new) → IsTrue (W.flushed writer.old)) }
+        ensures end { EndsFlushed result (R.left reader.new) (W.flushed writer.old) (W.flushed writer.new) }
         ensures flushes { Flushes result (W.flushes writer.old) (W.flushes writer.new) }
-        ensures read { IsErrOf result RunError.Read → IsTrue (R.mark reader.new) }
-        ensures write { IsErrOf result RunError.Write ↔ IsTrue (W.mark writer.new) }
-        ensures told { IsTrue (R.mark reader.new) → IsErrOf result RunError.Read ⊎ IsErrOf result RunError.Write }
+        ensures devices { TellsFailed result (R.mark reader.new) (W.mark writer.new) }
     {
         let outcome = self.answer_lines(responder, reader, writer);
         if is_write(&outcome) {
@@ -95,8 +90,7 @@ impl Runner {
             (W.written writer.old) (W.written writer.new) self.new.pending.items result }
         ensures read { IsErrOf result RunError.Read ↔ IsTrue (R.mark reader.new) }
         ensures write { IsErrOf result RunError.Write ↔ IsTrue (W.mark writer.new) }
-        ensures flushed { IsTrue (W.flushed writer.new) → IsTrue (W.flushed writer.old) }
-        ensures flushes { CallsMore (W.flushes writer.old) (W.flushes writer.new) 0 }
+        ensures unflushed { FlushesNothing W.flushed W.flushes writer.old writer.new }
     {
         for line in 1..u64::MAX {
             if self.send_if_due(writer).is_err() {
@@ -124,13 +118,13 @@ impl Runner {
     }
 
     /// Takes the next line. A read may wait, so nothing is pending then: what was answered is written.
-    fn next_line<R: Source>(&mut self, reader: &mut R) -> Result<Found, LineFault>
+    fn next_line<R: Source>(&mut self, reader: &mut R) -> Result<Found, NextLineError>
         requires written { holds_line self.old.lines.unread ≡ false → self.old.pending.items ≡ [] }
         requires reader { R.mark reader.old ≡ false }
         ensures takes { TakesLine LINE_LIMIT self.old.lines (R.left reader.old)
             self.new.lines (R.left reader.new) result }
         ensures pending { self.new.pending.items ≡ self.old.pending.items }
-        ensures read { result ≡ Err LineFault.Read ↔ IsTrue (R.mark reader.new) }
+        ensures read { result ≡ Err NextLineError.Read ↔ IsTrue (R.mark reader.new) }
     {
         self.lines.next_line(reader)
     }
@@ -174,15 +168,11 @@ impl Runner {
 
     /// Writes what is pending, where the next line may have to be read, or much is pending.
     fn send_if_due<W: Sink>(&mut self, writer: &mut W) -> Result<(), DeviceFault>
-        requires writer { W.mark writer.old ≡ false }
         ensures sends { Sends self.old.pending.items (W.written writer.old)
             self.new.pending.items (W.written writer.new) result }
         ensures written { OnOk result (holds_line self.new.lines.unread ≡ false → self.new.pending.items ≡ []) }
         ensures lines { self.new.lines ≡ self.old.lines }
-        ensures marks { OnErr result (IsTrue (W.mark writer.new)) }
-        ensures unmarked { OnOk result (W.mark writer.new ≡ false) }
-        ensures flushed { IsTrue (W.flushed writer.new) → IsTrue (W.flushed writer.old) }
-        ensures flushes { CallsMore (W.flushes writer.old) (W.flushes writer.new) 0 }
+        ensures writes { OnlyWrites W.mark W.flushed W.flushes writer.old writer.new (is_err result) }
     {
         if self.lines.holds_line() && self.pending.len() < FULL {
             return Ok(());
@@ -192,15 +182,11 @@ impl Runner {
 
     /// Writes what is pending, in as many calls as it takes.
     fn send<W: Sink>(&mut self, writer: &mut W) -> Result<(), DeviceFault>
-        requires writer { W.mark writer.old ≡ false }
         ensures sends { Sends self.old.pending.items (W.written writer.old)
             self.new.pending.items (W.written writer.new) result }
         ensures all { OnOk result (self.new.pending.items ≡ []) }
         ensures lines { self.new.lines ≡ self.old.lines }
-        ensures marks { OnErr result (IsTrue (W.mark writer.new)) }
-        ensures unmarked { OnOk result (W.mark writer.new ≡ false) }
-        ensures flushed { IsTrue (W.flushed writer.new) → IsTrue (W.flushed writer.old) }
-        ensures flushes { CallsMore (W.flushes writer.old) (W.flushes writer.new) 0 }
+        ensures writes { OnlyWrites W.mark W.flushed W.flushes writer.old writer.new (is_err result) }
     {
         write_all(&self.pending, writer)?;
         self.pending.clear();
@@ -242,15 +228,11 @@ pub fn answer_all_lines<A: Responder, R: Source, W: Sink>(
         Appends (W.written writer.old) (W.written writer.new) (script_text A.rules line_limit responder.old input))) }
 
     // Only the reader's end ends it without a fault, and then all is flushed, at once.
-    ensures end { OnOk result (IsAtEnd (R.left reader.new)) }
-    ensures flushed { OnOk result (IsTrue (W.flushed writer.new)) }
-    ensures unflushed { OnErr result (IsTrue (W.flushed writer.new) → IsTrue (W.flushed writer.old)) }
+    ensures end { EndsFlushed result (R.left reader.new) (W.flushed writer.old) (W.flushed writer.new) }
     ensures flushes { Flushes result (W.flushes writer.old) (W.flushes writer.new) }
 
     // The devices' faults are theirs, and a device that failed is told.
-    ensures read { IsErrOf result RunError.Read → IsTrue (R.mark reader.new) }
-    ensures write { IsErrOf result RunError.Write ↔ IsTrue (W.mark writer.new) }
-    ensures told { IsTrue (R.mark reader.new) → IsErrOf result RunError.Read ⊎ IsErrOf result RunError.Write }
+    ensures devices { TellsFailed result (R.mark reader.new) (W.mark writer.new) }
 {
     let Ok(mut runner) = Runner::new(alloc) else {
         return Err(RunError::Memory { line: 0 });
@@ -259,13 +241,13 @@ pub fn answer_all_lines<A: Responder, R: Source, W: Sink>(
 }
 
 /// The fault of a run that finds no line of this number.
-fn fault_at(line: u64, fault: LineFault) -> RunError
+fn fault_at(line: u64, fault: NextLineError) -> RunError
     ensures { result ≡ fault_at line fault }
 {
     match fault {
-        LineFault::Read => RunError::Read,
-        LineFault::TooLong => RunError::LineTooLong { line },
-        LineFault::Memory => RunError::Memory { line },
+        NextLineError::Read => RunError::Read,
+        NextLineError::TooLong => RunError::LineTooLong { line },
+        NextLineError::Memory => RunError::Memory { line },
     }
 }
 

@@ -1,9 +1,9 @@
 //! Scripts, run from a reader to a writer.
-ghost use Rattle.std.specs.Prelude.{◌≡◌, ◌⊎◌, IfSome, IsTrue, ◌↔◌, false, OnOk, OnErr, IsErrOf};
-ghost use Rattle.std.specs.Io.KnownBytes.{Appends, IsAtEnd};
+ghost use Rattle.std.specs.Prelude.{◌≡◌, IfSome, false, OnOk};
+ghost use Rattle.std.specs.Io.KnownBytes.{Appends};
 ghost use Rattle.std.specs.FinSet as set;
-ghost use Rattle.moc_lines.specs.Runs.{Flushes, Runs, WritesBeginning};
-ghost use Rattle.moc_lines.specs.Scripts.{answers_of, line_limit, script_rules};
+ghost use Rattle.moc_lines.specs.Runs.{EndsFlushed, Flushes, Runs, TellsFailed, WritesBeginning, answers_of};
+ghost use Rattle.moc_lines.specs.Runs.{line_limit, script_rules};
 
 use crate::run_error::RunError;
 use crate::runner::answer_all_lines;
@@ -62,15 +62,11 @@ pub fn run<R: Source, W: Sink>(
         Appends (W.written writer.old) (W.written writer.new) (answers_of input))) }
 
     // Only the reader's end ends a run without a fault, and then all is flushed, at once.
-    ensures end { OnOk result (IsAtEnd (R.left reader.new)) }
-    ensures flushed { OnOk result (IsTrue (W.flushed writer.new)) }
-    ensures unflushed { OnErr result (IsTrue (W.flushed writer.new) → IsTrue (W.flushed writer.old)) }
+    ensures end { EndsFlushed result (R.left reader.new) (W.flushed writer.old) (W.flushed writer.new) }
     ensures flushes { Flushes result (W.flushes writer.old) (W.flushes writer.new) }
 
     // The devices' faults are theirs, and a device that failed is told.
-    ensures read { IsErrOf result RunError.Read → IsTrue (R.mark reader.new) }
-    ensures write { IsErrOf result RunError.Write ↔ IsTrue (W.mark writer.new) }
-    ensures told { IsTrue (R.mark reader.new) → IsErrOf result RunError.Read ⊎ IsErrOf result RunError.Write }
+    ensures devices { TellsFailed result (R.mark reader.new) (W.mark writer.new) }
 {
     let Ok(mut map) = Map::new(alloc, Coverage::empty(alloc)) else {
         return Err(RunError::Memory { line: 0 });

@@ -1,9 +1,9 @@
 //! The words and numbers of a line.
 ghost use Rattle.std.specs.Prelude.{◌≡◌, ◌-◌, ◌^◌, ◌<◌, ◌≤◌, length, min};
-ghost use Rattle.std.specs.List.{prefix_len, position_or_len, list_any};
+ghost use Rattle.std.specs.List.{prefix_len, position_or_len};
 ghost use Rattle.std.specs.Option.{option_map};
 ghost use Rattle.std.specs.Str.{bytes_eq};
-ghost use Rattle.moc_lines.specs.Words.{is_line_blank, is_blank_text, word_of, behind_word, number_spelled};
+ghost use Rattle.moc_lines.specs.Language.{is_line_blank, is_blank_text, word_of, behind_word, number_spelled};
 
 /// Whether a byte is a blank: a space, a tab or a CR.
 fn is_line_blank(byte: u8) -> bool

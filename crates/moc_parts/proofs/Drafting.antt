@@ -319,12 +319,3 @@ part_was new old whole part b half p = p ∙ ap (λ a. part_of a b) half ∙ par
 
 pub part_becomes : (change : Change) → IsChange change → (old part : NumberSet) (b : ℕ) → part ≡ part_of old b → changed_part change part b ≡ part_of (changed change old) b
 part_becomes change is old part b p = ap (λ q. changed_part change q b) p ∙ sym (part_law change is old b)
-
--- a set lies in the pixels where one does of which the first parts are changed
-pub old_within : (new old whole : NumberSet) (b : ℕ) → whole ≡ half_changed new old b → IsWithin whole pixels → (0 < b → IsWithin old pixels) → IsWithin old pixels
-old_within new old whole b half within earlier = elim (cases_lt 0 b) [
-  | inl more ↦ earlier more
-  | inr first ↦
-      let none : b ≡ 0 = omega arith in
-      subst (λ a. IsWithin a pixels) (half ∙ ap (half_changed new old) none ∙ half-none new old) within
-]

@@ -13,6 +13,6 @@ pub mod Locality
 pub mod BatchLocality
 pub mod InOrder
 pub mod Drafting
+pub mod Changing
 pub mod Placing
-pub mod Rising
 pub mod Putting

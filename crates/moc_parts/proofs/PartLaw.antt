@@ -84,21 +84,3 @@ leave_nothing part s b lies none = same_members _ _ (λ q. has-difference part s
     (λ h. both h (ap not (not_true_false (set.contains s q) (λ t.
     let k = of_part part b q (ap (λ a. set.contains a q) lies ∙ h) in
     clash _ (in_part s b q t k.1) (no_member s b q none))))))
-
--- nor does one that it has already
-pub join_covered : (a s : NumberSet) → set.is_subset s a ≡ true → set.union a s ≡ a
-join_covered a s sub = same_members _ _ (λ q. has-union a s q ∙ same_test _ _
-    (λ h. elim (or_true (set.contains a q) (set.contains s q) h) [ inl e ↦ e | inr e ↦ set.is_subset-contains nat_cmp_total s a sub q e ])
-    (λ h. or_left (set.contains a q) (set.contains s q) h))
-
--- a set that it does not meet takes nothing from it
-pub leave_apart : (a s : NumberSet) → meets a s ≡ false → set.difference a s ≡ a
-leave_apart a s apart = same_members _ _ (λ q. has-difference a s q ∙ same_test _ _
-    (λ h. (and_true (set.contains a q) (not (set.contains s q)) h).0)
-    (λ h. both h (ap not (not_true_false (set.contains s q) (λ t. clash _ (meets-some a s q h t) apart)))))
-
--- a set that has it all keeps it
-pub share_covered : (a s : NumberSet) → set.is_subset a s ≡ true → set.intersection a s ≡ a
-share_covered a s sub = same_members _ _ (λ q. has-intersection a s q ∙ same_test _ _
-    (λ h. (and_true (set.contains a q) (set.contains s q) h).0)
-    (λ h. both h (set.is_subset-contains nat_cmp_total a s sub q h)))

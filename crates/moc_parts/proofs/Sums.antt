@@ -1,5 +1,5 @@
 -- Sizes, part by part.
-use Rattle.std.proofs.Common.{◌≡◌, ℕ, ◌+◌, ◌-◌, ◌/◌, ◌≤◌, Bool, true, false, not, ◌&&◌, ◌||◌, nat_lt, nat_eq, [], ◌∷◌, refl, sym, ap, subst, ◌∙◌, arith}
+use Rattle.std.proofs.Common.{◌≡◌, ℕ, zero, suc, ◌+◌, ◌-◌, ◌/◌, ◌<◌, ◌≤◌, Bool, true, false, not, ◌&&◌, ◌||◌, nat_lt, nat_eq, [], ◌∷◌, refl, sym, ap, subst, ◌∙◌, arith}
 use Rattle.std.proofs.lemmas.Bool.{lt-ltb}
 use Rattle.std.proofs.lemmas.Bool.Decides.{nat_tests}
 use Rattle.std.specs.FinSet as set
@@ -13,8 +13,10 @@ use Rattle.moc_ranges.specs.RangeList.{IsNormal, set_of}
 use Rattle.moc_ranges.specs.Lemmas.Ranges.{len_bounded}
 use Rattle.std.specs.Cmp.{nat_cmp_total}
 use Rattle.std.specs.Ordering.{nat_cmp}
+use Rattle.moc_parts.specs.Commands.{parts_met}
+use Rattle.moc_parts.proofs.Counts.{not_met}
 use Rattle.moc_parts.proofs.Members.{has-union, has-intersection, has-difference, has-empty, and_true, both, same_test, meets_at, in_part, of_part}
-use Rattle.moc_parts.proofs.Twelve.{first_parts, has-first_parts, first_parts-next, first_parts-all, first_parts-none, or_nothing, within_base}
+use Rattle.moc_parts.proofs.Twelve.{first_parts, has-first_parts, first_parts-next, first_parts-none, or_nothing, within_base}
 
 early : (x s : Bool) (r n : ℕ) → (((x && nat_lt r (n + 1)) && s) && (x && nat_lt r n)) ≡ ((x && nat_lt r n) && s)
 early true true r n = grind (arith, nat_tests)
@@ -66,27 +68,21 @@ first_within a n w = record { each = λ q h. w.each q (and_true _ _ (sym (has-fi
 pub common_bound : (a s : NumberSet) → IsWithin a pixels → set.len (set.intersection a s) ≤ pixel_count
 common_bound a s w = let parts = len_parts a s in let bound = len_within a w in omega arith
 
--- what is counted with one part more fits
-pub sum_bound : (a s : NumberSet) (n : ℕ) → IsWithin a pixels → set.len (set.intersection (first_parts a n) s) + set.len (set.intersection (part_of a n) s) ≤ pixel_count
-sum_bound a s n w = let next = len-next a s n in let bound = common_bound (first_parts a (n + 1)) s (first_within a (n + 1) w) in omega arith
-
--- at the start, and at the end
+-- at the start
 pub common-none : (a s : NumberSet) → set.intersection (first_parts a 0) s ≡ set.empty
 common-none a s = same_members _ _ (λ q. has-intersection (first_parts a 0) s q ∙ ap (λ t. set.contains t q && set.contains s q) (first_parts-none a) ∙ ap (λ t. t && set.contains s q) (has-empty q) ∙ sym (has-empty q))
 
 pub len_none : (a s : NumberSet) → 0 ≡ set.len (set.intersection (first_parts a 0) s)
 len_none a s = sym (ap set.len (common-none a s) ∙ set.len-empty nat_cmp)
 
-pub common-all : (a s : NumberSet) → IsWithin a pixels → set.intersection (first_parts a 12) s ≡ set.intersection a s
-common-all a s w = ap (λ t. set.intersection t s) (first_parts-all a w)
-
--- the same where it is the other set that has no more than pixels
+-- what is shared with pixels is pixels
 common_within : (a s : NumberSet) → IsWithin s pixels → IsWithin (set.intersection a s) pixels
 common_within a s w = record { each = λ q h. w.each q (and_true _ _ (sym (has-intersection a s q) ∙ h)).1 }
 
 pub added_bound : (a s : NumberSet) (n : ℕ) → IsWithin s pixels → set.len (set.intersection (first_parts a n) s) + set.len (set.intersection (part_of a n) s) ≤ pixel_count
 added_bound a s n w = let next = len-next a s n in let bound = len_within _ (common_within (first_parts a (n + 1)) s w) in omega arith
 
+-- at the end
 pub common-met : (a s : NumberSet) → IsWithin s pixels → set.intersection (first_parts a 12) s ≡ set.intersection a s
 common-met a s w = same_members _ _ (λ q. has-intersection (first_parts a 12) s q ∙ same_test _ _
     (λ h. let k = and_true _ _ h in has-intersection a s q ∙ both (and_true _ _ (sym (has-first_parts a 12 q) ∙ k.0)).0 k.1)
@@ -170,9 +166,6 @@ pub meets-next : (a s : NumberSet) (n : ℕ) → meets (first_parts a n) s ≡ f
 unfolding meets
 meets-next a s n f g = no_more _ _ _ (len-next a s n) f g
 
-pub meets-all : (a s : NumberSet) → IsWithin a pixels → meets (first_parts a 12) s ≡ meets a s
-meets-all a s w = ap (λ t. meets t s) (first_parts-all a w)
-
 pub meets-part : (a s : NumberSet) (b : ℕ) → meets (part_of a b) s ≡ true → meets a s ≡ true
 meets-part a s b h = let m = meets_at (part_of a b) s h in meets-some a s m.0 (of_part a b m.0 m.1).0 m.2
 
@@ -211,3 +204,33 @@ part-missed a s b missed =
     shifted true false true h = ap (λ t. t && false) h
     shifted true false false h = ap (λ t. t && false) h
     shifted false y e h = ap (λ t. t && y) h
+
+-- ---- parts that are passed over
+
+common_passed : (a s : NumberSet) (n d : ℕ) → ((k : ℕ) → n ≤ k → k < n + d → parts_met s k ≡ false) → set.intersection (first_parts a n) s ≡ set.intersection (first_parts a (n + d)) s
+common_passed a s n zero none = let e : n ≡ n + 0 = omega arith in ap (λ m. set.intersection (first_parts a m) s) e
+common_passed a s n (suc d) none =
+    let e : (n + d) + 1 ≡ n + suc d = omega arith in
+    let nothing : set.intersection (part_of a (n + d)) s ≡ set.empty =
+    set.empty_of_len (set.intersection (part_of a (n + d)) s) (sym (part-missed a s (n + d) (not_met s (n + d) (none (n + d) (omega arith) (omega arith))))) in
+    common_passed a s n d (λ k l m. none k l (omega arith))
+    ∙ sym (union-nothing (set.intersection (first_parts a (n + d)) s) (set.intersection (part_of a (n + d)) s) nothing)
+    ∙ common-next a s (n + d) ∙ ap (λ m. set.intersection (first_parts a m) s) e
+
+-- what the first parts share with a set, as long as it meets none of those that follow
+pub common-upto : (a s : NumberSet) (n b : ℕ) → n ≤ b → ((k : ℕ) → n ≤ k → k < b → parts_met s k ≡ false) → set.intersection (first_parts a n) s ≡ set.intersection (first_parts a b) s
+common-upto a s n b le none =
+    let e : n + (b - n) ≡ b = omega arith in
+    common_passed a s n (b - n) (λ k l m. none k l (omega arith)) ∙ ap (λ m. set.intersection (first_parts a m) s) e
+
+pub len-upto : (a s : NumberSet) (n b : ℕ) → n ≤ b → ((k : ℕ) → n ≤ k → k < b → parts_met s k ≡ false) → set.len (set.intersection (first_parts a n) s) ≡ set.len (set.intersection (first_parts a b) s)
+len-upto a s n b le none = ap set.len (common-upto a s n b le none)
+
+-- parts that the other set does not meet add nothing
+pub meets-upto : (a s : NumberSet) (n b : ℕ) → n ≤ b → ((k : ℕ) → n ≤ k → k < b → parts_met s k ≡ false) → meets (first_parts a n) s ≡ meets (first_parts a b) s
+unfolding meets
+meets-upto a s n b le none = ap (λ m. nat_lt 0 m) (len-upto a s n b le none)
+
+pub meets-met : (a s : NumberSet) → IsWithin s pixels → meets (first_parts a 12) s ≡ meets a s
+unfolding meets
+meets-met a s w = ap (λ t. nat_lt 0 (set.len t)) (common-met a s w)

@@ -1,6 +1,6 @@
 -- Batches: commands that are done in order, as one operation.
-use Rattle.std.specs.Prelude.{ℕ, Bool, List, [], ◌∷◌}
-use Rattle.std.specs.List.{list_any}
+use Rattle.std.specs.Prelude.{ℕ, Bool, List, [], ◌∷◌, fold}
+use Rattle.std.specs.List.{list_any, AllByRecursion}
 use Rattle.moc_ranges.specs.Numbers.{NumberSet}
 use Rattle.moc_parts.specs.Objects.{Object}
 use Rattle.moc_parts.specs.Commands.{footprint, set_after, reply_on, IsCommand}
@@ -9,8 +9,7 @@ use Rattle.moc_parts.specs.declared.reply.Reply.{Reply}
 
 -- the set that commands leave, done in order
 abbrev pub set_after_all : NumberSet → List Command → NumberSet
-set_after_all a [] = a
-set_after_all a (c ∷ cs) = set_after_all (set_after a c) cs
+set_after_all a cs = fold set_after a cs
 
 -- their replies, each on what those before it leave
 abbrev pub replies_on : NumberSet → List Command → List Reply
@@ -27,5 +26,4 @@ batches = record { footprint = footprint_of_all; answer = λ a cs. (set_after_al
 
 -- each is a command of sets of pixels, orders and cells
 abbrev pub AreCommands : List Command → Type 0
-AreCommands [] = Unit {0}
-AreCommands (c ∷ cs) = IsCommand c × AreCommands cs
+AreCommands cs = AllByRecursion IsCommand cs

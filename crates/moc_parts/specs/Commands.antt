@@ -1,5 +1,5 @@
 -- The commands on one set of pixels, and their footprints.
-use Rattle.std.specs.Prelude.{ℕ, ◌≤◌, Bool, true, false, nat_lt, nat_eq, Option, None, Some, IfSome, List, ◌∷◌, map}
+use Rattle.std.specs.Prelude.{ℕ, ◌≤◌, Bool, true, false, nat_lt, nat_eq, IfSome, List, ◌∷◌, map}
 use Rattle.std.specs.Prelude.{if◌then◌else◌}
 use Rattle.std.specs.List.{list_any}
 use Rattle.std.specs.FinSet as set

@@ -22,7 +22,8 @@ BatchesAreLocal = (c : Command) (cs : List Command) → AreCommands (c ∷ cs) �
 
 -- an operand's own set meets the parts that its degraded set meets
 abbrev pub DegradedOperandsMeetTheSameParts : Type 0
-DegradedOperandsMeetTheSameParts = (x : Operand) → IsOperand x → (b : ℕ) → parts_met (operand_set x) b ≡ parts_met x.set b
+DegradedOperandsMeetTheSameParts =
+    (x : Operand) → IsOperand x → (b : ℕ) → parts_met (operand_set x) b ≡ parts_met x.set b
 
 -- a batch without updates leaves the set
 abbrev pub QueriesLeaveTheSet : Type 0

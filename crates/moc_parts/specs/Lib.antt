@@ -3,5 +3,6 @@ pub mod Commands
 pub mod Batches
 pub mod Parts
 pub mod Prepared
+pub mod Lemmas
 pub mod Laws
 pub mod Private

@@ -13,8 +13,7 @@ use Rattle.moc_parts.specs.declared.reply.Reply.{Reply}
 
 -- what was found in a part, and nothing where the part was not looked at
 abbrev pub found_in : Option NumberSet → NumberSet
-found_in None = set.empty
-found_in (Some part) = part
+found_in part = unwrap_or part set.empty
 
 -- what was found in each of the twelve parts
 abbrev pub found_sets : List (Option (Bor NumberSet)) → List NumberSet

@@ -6,7 +6,7 @@ ghost use Rattle.moc_ranges.specs.Operations.{complement, part_of};
 ghost use Rattle.moc_parts.specs.Private.Changes.{changed_part, Alters, IsChange, LeavesOthers};
 
 use crate::footprint::parts_met;
-use crate::part::{Part, PartSet};
+use crate::part::PartSet;
 use moc_ranges::{Coverage, Memory};
 use moc_sphere::Order;
 use std::alloc::Global;
@@ -46,22 +46,12 @@ impl<'a> Change<'a> {
     }
 
     /// What the change makes of the list of one part.
-    pub(crate) fn part(
-        &self,
-        alloc: Global,
-        parts: PartSet,
-        list: &Coverage,
-        b: u8,
-    ) -> Result<Altered, Memory>
+    pub(crate) fn part(&self, alloc: Global, list: &Coverage, b: u8) -> Result<Altered, Memory>
         requires part { b < 12 }
         requires change { IsChange self.now }
-        requires parts { LeavesOthers self.now parts }
         requires list { part_of list.now b ≡ list.now }
         ensures { IfOk result (λ new. Alters list.now (changed_part self.now list.now b) new) }
     {
-        if !parts.contains(Part::of(b)) {
-            return Ok(unaltered());
-        }
         match *self {
             Change::Join(s) => join(alloc, list, &s.part(alloc, b)?),
             Change::Leave(s) => leave(alloc, list, s),

@@ -56,8 +56,8 @@ impl<'a> Draft<'a> {
         ensures { result ≡ record { found = found_sets lists.now; set = union_of (found_sets lists.now) } }
     {
         let mut found = [nothing; 12];
-        for b in 0usize..12 {
-            found[b] = lists[b].unwrap_or(nothing);
+        for (b, list) in lists.iter().enumerate() {
+            found[b] = list.unwrap_or(nothing);
         }
         Draft::unchanged(alloc, found)
     }
@@ -83,7 +83,7 @@ impl<'a> Draft<'a> {
             Some(list) => list,
             None => {
                 let found = &self.found[..];
-                found[b as usize]
+                found[usize::from(b)]
             }
         }
     }
@@ -99,9 +99,18 @@ impl<'a> Draft<'a> {
         Ok(())
     }
 
+    /// The set lies in the sky. Does nothing.
+    fn lies_in_sky(&self)
+        ensures { IsWithin self.now.set pixels }
+    {
+        // Read for the proof alone: what every draft keeps is known where a field of it is read.
+        let _found = self.found;
+    }
+
     /// Changes the set, and tells how many pixels it adds or removes.
     ///
-    /// A part that it leaves is not made anew; an operand is walked over as its part is cut out, counted, and put in.
+    /// A part that it leaves is not made anew, and one that it cannot alter is not looked at; an operand is walked over
+    /// as its part is cut out, counted, and put in.
     pub(crate) fn change(&mut self, alloc: Global, change: &Change<'_>) -> Result<u64, Memory>
         requires { IsChange change.now }
         ensures set { OnOk result (self.new.set ≡ changed change.now self.old.set) }
@@ -109,10 +118,11 @@ impl<'a> Draft<'a> {
         ensures within { OnOk result (IsWithin self.old.set pixels) }
         ensures found { self.new.found ≡ self.old.found }
     {
-        let parts = change.parts();
+        self.lies_in_sky();
         let mut turned = 0;
-        for b in 0u8..12 {
-            let Altered { list: new, pixels } = change.part(alloc, parts, self.part(b), b)?;
+        for part in change.parts() {
+            let b = part.get();
+            let Altered { list: new, pixels } = change.part(alloc, self.part(b), b)?;
             turned += pixels;
             if let Some(list) = new {
                 self.put(b, list)?;
@@ -138,12 +148,9 @@ impl<'a> Draft<'a> {
     pub(crate) fn count_common(&self, other: &Coverage) -> u64
         ensures { result ≡ set.len (set.intersection self.now.set other.now) }
     {
-        let met = parts_met(other);
         let mut total = 0;
-        for b in 0u8..12 {
-            if met.contains(Part::of(b)) {
-                total += self.count_common_in(b, other);
-            }
+        for part in parts_met(other) {
+            total += self.count_common_in(part.get(), other);
         }
         total
     }
@@ -152,10 +159,8 @@ impl<'a> Draft<'a> {
     pub(crate) fn meets(&self, other: &Coverage) -> bool
         ensures { result ≡ meets self.now.set other.now }
     {
-        let met = parts_met(other);
-        for b in 0u8..12 {
-            let part = self.part(b);
-            if met.contains(Part::of(b)) && part.meets(other) {
+        for part in parts_met(other) {
+            if self.part(part.get()).meets(other) {
                 return true;
             }
         }
@@ -181,8 +186,8 @@ impl<'a> Draft<'a> {
         ensures { IfOk result (λ c. c ≡ set.intersection self.now.set other.now) }
     {
         let mut common = Coverage::empty(alloc);
-        for b in 0u8..12 {
-            common = joined(alloc, common, self.common_in(alloc, b, other)?)?;
+        for part in parts_met(other) {
+            common = joined(alloc, common, self.common_in(alloc, part.get(), other)?)?;
         }
         Ok(common)
     }
@@ -207,11 +212,12 @@ impl<'a> Draft<'a> {
     {
         let Draft { found, made } = self;
         let mut lists = made;
-        for b in 0u8..12 {
-            if given[b as usize].is_none() {
+        for part in Part::ALL {
+            let b = part.get();
+            if given[usize::from(b)].is_none() {
                 lists.clear(b);
             } else if lists.get(b).is_none() {
-                lists.put(b, found[b as usize].try_copy(alloc)?)?;
+                lists.put(b, found[usize::from(b)].try_copy(alloc)?)?;
             }
         }
         Ok(lists)

@@ -93,8 +93,8 @@ impl Lists {
 fn place_of(lists: &[(u8, Option<Coverage>)], b: u8) -> Option<usize>
     ensures { result ≡ place_from 0 lists.now b }
 {
-    for i in 0..lists.len() {
-        if lists[i].0 == b {
+    for (i, (part, _)) in lists.iter().enumerate() {
+        if *part == b {
             return Some(i);
         }
     }

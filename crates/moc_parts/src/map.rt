@@ -167,8 +167,8 @@ fn lists(parts: &[Coverage]) -> [Option<&Coverage>; 12]
     ensures { found_sets result ≡ parts.now }
 {
     let mut lists = [None; 12];
-    for b in 0usize..12 {
-        lists[b] = Some(&parts[b]);
+    for (b, part) in parts.iter().enumerate() {
+        lists[b] = Some(part);
     }
     lists
 }
@@ -179,9 +179,9 @@ fn put_all(parts: &mut [Coverage], mut made: Lists)
     requires places { length made ≡ 12 }
     ensures { parts.new ≡ current_lists parts.old made }
 {
-    for b in 0u8..12 {
-        if let Some(list) = made.take(b) {
-            parts[b as usize] = list;
+    for part in Part::ALL {
+        if let Some(list) = made.take(part.get()) {
+            parts[usize::from(part.get())] = list;
         }
     }
 }

@@ -129,9 +129,9 @@ impl PartSet {
         ensures { result ≡ set.union self other }
     {
         let mut parts = self;
-        for b in 0u8..12 {
-            if other.flags[usize::from(b)] {
-                parts.insert(Part { number: b });
+        for part in Part::ALL {
+            if other.flags[usize::from(part.get())] {
+                parts.insert(part);
             }
         }
         parts

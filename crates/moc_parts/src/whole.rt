@@ -5,6 +5,7 @@ ghost use Rattle.moc_ranges.specs.Pixels.{pixels};
 ghost use Rattle.moc_parts.specs.Parts.{parts_below, union_of};
 ghost use Rattle.moc_parts.specs.Prepared.{found_sets};
 
+use crate::part::Part;
 use moc_ranges::{Coverage, Memory};
 use std::alloc::Global;
 
@@ -16,8 +17,8 @@ pub fn cut(alloc: Global, set: &Coverage) -> Result<Vec<Coverage>, Memory>
     ensures within { OnOk result (IsWithin set.now pixels) }
 {
     let mut parts = Vec::with_capacity(alloc, 12)?;
-    for b in 0u8..12 {
-        parts.push(set.part(alloc, b)?)?;
+    for part in Part::ALL {
+        parts.push(set.part(alloc, part.get())?)?;
     }
     Ok(parts)
 }

@@ -13,7 +13,7 @@ use Rattle.moc_program.specs.Asking.{AskFor, HasNumber, HasWord}
 use Rattle.moc_program.specs.Outcomes.{EndWith}
 use Rattle.moc_program.specs.Private.Matches.{AreReadAs, IsAskedIn, MatchedEnd}
 use Rattle.moc_program.specs.declared.action.Action.{Action}
-use Rattle.moc_program.specs.declared.status.Fault.{Fault}
+use Rattle.moc_program.specs.declared.status.ProgramFault.{ProgramFault}
 
 -- the number that was read is one that the value spells
 pub number_read : {E : Type 0} (gives : List ℕ → Result ℕ E → Type 0) (f : Found) (name : Text) (r : Option ℕ) → ((text : List ℕ) (n : ℕ) → gives text (Ok n) → Spells text n)
@@ -49,7 +49,7 @@ word_read name_of none f name word (Err e) o is read same = subst (λ x. IfSome 
 
 -- ---- what the words ask for
 
-pub matched : (m : ArgMatches) (action : Action) (left left' w w' : Option (List ℕ)) (result : Result (Unit {0}) Fault) → IsAskedIn m action
+pub matched : (m : ArgMatches) (action : Action) (left left' w w' : Option (List ℕ)) (result : Result (Unit {0}) ProgramFault) → IsAskedIn m action
     → ActionEnds action left left' w w' result → MatchedEnd m left left' w w' result
 matched m action left left' w w' (Ok u) asked ends = (action, asked, ends)
 matched m action left left' w w' (Err f) asked ends = inr (action, asked, ends)
@@ -68,7 +68,7 @@ pub words_done : (words : List Text) (m : ArgMatches) (left left' w w' : Option 
     → (action : Action) × AskFor words action × ActionEnds action left left' w w' (Ok tt)
 words_done words m left left' w w' read ends = (ends.0, asked_for words m ends.0 read ends.1, ends.2)
 
-pub words_end : (words : List Text) (m : ArgMatches) (left left' w w' : Option (List ℕ)) (fault : Fault) → AreReadAs words m → MatchedEnd m left left' w w' (Err fault)
+pub words_end : (words : List Text) (m : ArgMatches) (left left' w w' : Option (List ℕ)) (fault : ProgramFault) → AreReadAs words m → MatchedEnd m left left' w w' (Err fault)
     → EndWith words left left' w w' fault
 words_end words m left left' w w' fault read (inl memory) = inl memory
 words_end words m left left' w w' fault read (inr ends) = inr (inr (ends.0, asked_for words m ends.0 read ends.1, ends.2))

@@ -3,8 +3,9 @@ use Rattle.std.proofs.Common.{◌≡◌, ◌⊎◌, inl, inr, Bool, false, ℕ, 
 use Rattle.std.specs.Prelude.{IfErr, IsTrue}
 use Rattle.std.specs.Io.KnownBytes.{Appends, Keeps}
 use Rattle.moc_lines.specs.declared.run_error.RunError.TheVariants as run
-use Rattle.moc_conversion.specs.declared.fault.Fault as input
-use Rattle.moc_conversion.specs.declared.fault.Fault.TheVariants as refused
+use Rattle.moc_forms.specs.declared.form.FormError.TheVariants as form
+use Rattle.moc_conversion.specs.declared.fault.InputFault.{InputFault}
+use Rattle.moc_conversion.specs.declared.fault.InputFault.TheVariants as refused
 use Rattle.clap.specs.Words.{Text}
 use Rattle.clap.specs.declared.parser.matches.ArgMatches.{ArgMatches}
 use Rattle.moc_program.specs.Actions.{ActionEnds}
@@ -15,8 +16,8 @@ use Rattle.moc_program.specs.Outcomes.{AskForHelp, BlamesFailed, EndWith, TellsF
 use Rattle.moc_program.specs.Private.Ending.{end_of}
 use Rattle.moc_program.specs.Private.Matches.{AreReadAs, MatchedEnd}
 use Rattle.moc_program.proofs.Asking.{words_done, words_end}
-use Rattle.moc_program.specs.declared.status.Fault.{Fault}
-use Rattle.moc_program.specs.declared.status.Fault.TheVariants.{Input, Number, Lines, Spawn, Write, Memory}
+use Rattle.moc_program.specs.declared.status.ProgramFault.{ProgramFault}
+use Rattle.moc_program.specs.declared.status.ProgramFault.TheVariants.{Input, Number, Lines, Spawn, Write, Memory}
 use Rattle.moc_program.specs.declared.status.Status.{Status}
 use Rattle.moc_program.specs.declared.status.Status.TheVariants.{Done, Refused, BadWords, Broken}
 
@@ -34,14 +35,16 @@ bad s t r same number two = only_bad t (ap code_of (sym same) ∙ sym number ∙
 IsOfFault : Status → Type 0
 IsOfFault s = (s ≡ Refused) ⊎ (s ≡ Broken)
 
-of_input : (fault : input.Fault) → IsOfFault (status_of_input fault)
+of_input : (fault : InputFault) → IsOfFault (status_of_input fault)
 unfolding IsOfFault
-of_input (refused.Form e) = inl refl
+of_input (refused.Form (form.Ascii e)) = inl refl
+of_input (refused.Form (form.Json e)) = inl refl
+of_input (refused.Form (form.Uniq e)) = inl refl
+of_input (refused.Form form.Memory) = inr refl
 of_input refused.TooLong = inl refl
 of_input refused.Read = inr refl
-of_input refused.Memory = inr refl
 
-of_fault : (fault : Fault) → IsOfFault (status_of fault)
+of_fault : (fault : ProgramFault) → IsOfFault (status_of fault)
 unfolding IsOfFault
 of_fault (Input c) = of_input c.fault
 of_fault (Number e) = inl refl
@@ -74,7 +77,7 @@ pub well : (s t : Status) (r : ℕ) → s ≡ t → r ≡ code_of s → r ≡ 0 
 well s t r same number zero = only_done t (ap code_of (sym same) ∙ sym number ∙ zero)
 
 -- a fault that ends the program is told
-pub told_by : (outcome : Result (Unit {0}) Fault) (status : ℕ) (is : Fault → Type 0) (w w' : Option (List ℕ)) → status ≡ code_of (end_of outcome)
+pub told_by : (outcome : Result (Unit {0}) ProgramFault) (status : ℕ) (is : ProgramFault → Type 0) (w w' : Option (List ℕ)) → status ≡ code_of (end_of outcome)
     → IfErr outcome (λ c. Appends w w' (fault_text c)) → IfErr outcome is → (status ≡ 1) ⊎ (status ≡ 3) → TellsFaultOf status is w w'
 told_by (Ok u) status is w w' number told why (inl one) = absurd (omega (arith, number, one))
 told_by (Ok u) status is w w' number told why (inr three) = absurd (omega (arith, number, three))
@@ -83,14 +86,14 @@ told_by (Err c) status is w w' number told why some = (c, sym number, why, told)
 -- the same where the devices are named otherwise
 module _ {I O : Type 0} (left : I → Option (List ℕ)) (written : O → Option (List ℕ)) (i i' : I) (o o' : O) (words : List Text) (m : ArgMatches) (l w : Option (List ℕ))
     (read : AreReadAs words m) (same_i : i' ≡ i) (same_o : o' ≡ o) where
-  pub done_by : (outcome : Result (Unit {0}) Fault) → MatchedEnd m l (left i) w (written o) outcome → end_of outcome ≡ Done
+  pub done_by : (outcome : Result (Unit {0}) ProgramFault) → MatchedEnd m l (left i) w (written o) outcome → end_of outcome ≡ Done
       → (a : Action) × AskFor words a × ActionEnds a l (left i') w (written o') (Ok tt)
   done_by (Ok u) ends e =
       subst (λ (x : I). (a : Action) × AskFor words a × ActionEnds a l (left x) w (written o') (Ok tt)) (sym same_i)
       (subst (λ (y : O). (a : Action) × AskFor words a × ActionEnds a l (left i) w (written y) (Ok tt)) (sym same_o) (words_done words m l (left i) w (written o) read ends))
   done_by (Err fault) ends e = absurd (no_done (status_of fault) (of_fault fault) e)
 
-  pub fails_by : (marked : I → Bool) (marked_out : O → Bool) (outcome : Result (Unit {0}) Fault) → MatchedEnd m l (left i) w (written o) outcome
+  pub fails_by : (marked : I → Bool) (marked_out : O → Bool) (outcome : Result (Unit {0}) ProgramFault) → MatchedEnd m l (left i) w (written o) outcome
       → IfErr outcome (λ f. BlamesFailed (marked i) (marked_out o) f)
       → IfErr outcome (λ f. BlamesFailed (marked i') (marked_out o') f × EndWith words l (left i') w (written o') f)
   fails_by marked marked_out (Ok u) ends blames = tt
@@ -99,17 +102,17 @@ module _ {I O : Type 0} (left : I → Option (List ℕ)) (written : O → Option
       (subst (λ (y : O). BlamesFailed (marked i) (marked_out y) fault × EndWith words l (left i) w (written y) fault) (sym same_o)
       (blames, words_end words m l (left i) w (written o) fault read ends))
 
-pub told_outcome : {F : Type 0} (mark : F → Bool) (written : F → Option (List ℕ)) (f f' : F) (old : Option (List ℕ)) (outcome : Result (Unit {0}) Fault) (status : ℕ) (is : Fault → Type 0)
+pub told_outcome : {F : Type 0} (mark : F → Bool) (written : F → Option (List ℕ)) (f f' : F) (old : Option (List ℕ)) (outcome : Result (Unit {0}) ProgramFault) (status : ℕ) (is : ProgramFault → Type 0)
     → (mark f ≡ false → IfErr outcome (λ c. Appends old (written f) (fault_text c))) → f' ≡ f → status ≡ code_of (end_of outcome) → IfErr outcome is → mark f' ≡ false
     → (status ≡ 1) ⊎ (status ≡ 3) → TellsFaultOf status is old (written f')
 told_outcome {F} mark written f f' old outcome status is told same number why unmarked some =
     subst (λ (x : F). TellsFaultOf status is old (written x)) (sym same) (told_by outcome status is old (written f) number (told (ap mark (sym same) ∙ unmarked)) why some)
 
 -- what is told where there are no matches
-abbrev IsUnhelped : Type 0 → Type 0 → Type 0 → Fault → Type 0
+abbrev IsUnhelped : Type 0 → Type 0 → Type 0 → ProgramFault → Type 0
 IsUnhelped kept failed help fault = ((fault ≡ Memory) × kept) ⊎ ((fault ≡ Write) × failed × help)
 
-unhelped : (input output : Bool) (words : List Text) (l l' w w' : Option (List ℕ)) (help : Type 0) (fault : Fault) → (help → AskForHelp words)
+unhelped : (input output : Bool) (words : List Text) (l l' w w' : Option (List ℕ)) (help : Type 0) (fault : ProgramFault) → (help → AskForHelp words)
     → IsUnhelped (Keeps w w') (IsTrue output) help fault → BlamesFailed input output fault × EndWith words l l' w w' fault
 unhelped input output words l l' w w' help fault asks (inl (memory, kept)) =
     (subst (λ f. BlamesFailed input output f) (sym memory) tt, inl (memory, kept))
@@ -127,7 +130,7 @@ told_status {F} {O} mark told_on marked written f f' o o' input words l l' w old
     (subst (λ (y : O). IsUnhelped (Keeps w (written y)) (IsTrue (marked y)) help here.0) (sym same_o) here.2) in
     (here.0, here.1 ∙ sym number, why, subst (λ (x : F). Appends old (told_on x) (fault_text here.0)) (sym same) here.3)
 
-pub no_outcome : (outcome : Result (Unit {0}) Fault) → end_of outcome ≡ BadWords → ⊥
+pub no_outcome : (outcome : Result (Unit {0}) ProgramFault) → end_of outcome ≡ BadWords → ⊥
 no_outcome (Ok u) e = cc
 no_outcome (Err fault) e = no_bad (status_of fault) (of_fault fault) e
 

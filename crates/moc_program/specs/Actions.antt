@@ -4,12 +4,11 @@ use Rattle.std.specs.FinSet as set
 use Rattle.std.specs.Io.KnownBytes.{Appends, Keeps}
 use Rattle.moc_script.specs.Crews.{CrewEnds, lane_count}
 use Rattle.moc_lines.specs.Numberings.{renumber_rules}
-use Rattle.moc_lines.specs.Runs.{Runs}
-use Rattle.moc_lines.specs.Scripts.{line_limit, script_rules}
+use Rattle.moc_lines.specs.Runs.{Runs, line_limit, script_rules}
 use Rattle.moc_script.specs.Schedules.{schedule_rules, start_schedule}
 use Rattle.moc_conversion.specs.Combining.{CombinesAll, IsNotCombined}
-use Rattle.moc_conversion.specs.Conversion.{ChangesAll, ConvertsAll, DescribesAll, DrawsAll}
-use Rattle.moc_conversion.specs.Conversion.{IsNotConverted, IsNotDrawn, IsNotSaid, IsSaid}
+use Rattle.moc_conversion.specs.Conversion.{ChangesAll, ConvertsAll, DescribesAll, DrawsAll, IsNotConverted, IsNotDrawn}
+use Rattle.moc_conversion.specs.Conversion.{IsNotSaid, IsSaid}
 use Rattle.moc_conversion.specs.declared.complaint.Complaint.{Complaint}
 use Rattle.moc_program.specs.Listing.{fault_list}
 use Rattle.moc_program.specs.Numbers.{IsNumberLine, IsNumberRefusal}
@@ -17,29 +16,32 @@ use Rattle.moc_program.specs.Statuses.{fault_of_crew}
 use Rattle.moc_program.specs.declared.action.Action.{Action}
 use Rattle.moc_program.specs.declared.action.Action.TheVariants.{Run, Play, Crew, Number, Renumber, Convert, Check}
 use Rattle.moc_program.specs.declared.action.Action.TheVariants.{Describe, Draw, Change, Combine, Faults}
-use Rattle.moc_program.specs.declared.status.Fault.{Fault}
-use Rattle.moc_program.specs.declared.status.Fault.TheVariants as told
+use Rattle.moc_program.specs.declared.status.ProgramFault.{ProgramFault}
+use Rattle.moc_program.specs.declared.status.ProgramFault.TheVariants as told
 
 -- a run or a crew ends so, with an error of which such a fault is made
-abbrev pub RunEnds : {E : Type 0} → (E → Fault) → (Result (Unit {0}) E → Type 0) → Result (Unit {0}) Fault → Type 0
+abbrev pub RunEnds :
+    {E : Type 0} → (E → ProgramFault) → (Result (Unit {0}) E → Type 0) → Result (Unit {0}) ProgramFault → Type 0
 RunEnds fault_of ends (Ok _) = ends (Ok tt)
 RunEnds fault_of ends (Err fault) = (error : _) × (fault ≡ fault_of error) × ends (Err error)
 
 -- such a text was written; or a front of one, where the output failed; or nothing, where such a fault came first
 abbrev pub PrintsText :
-    (List ℕ → Type 0) → (Fault → Type 0) → Option (List ℕ) → Option (List ℕ) → Result (Unit {0}) Fault → Type 0
+    (List ℕ → Type 0) → (ProgramFault → Type 0) → Option (List ℕ) → Option (List ℕ)
+    → Result (Unit {0}) ProgramFault → Type 0
 PrintsText is refused w w' (Ok _) = (text : List ℕ) × is text × Appends w w' text
 PrintsText is refused w w' (Err fault) =
     ((fault ≡ told.Write) × (front rest : List ℕ) × is (front ++ rest) × Appends w w' front)
     ⊎ (refused fault × Keeps w w')
 
 -- the fault is such a complaint of the input
-abbrev pub Complains : (Complaint → Type 0) → Fault → Type 0
+abbrev pub Complains : (Complaint → Type 0) → ProgramFault → Type 0
 Complains is fault = (c : Complaint) × (fault ≡ told.Input c) × is c
 
 -- What was asked for ends so, with an input of which this was left and this is, where so much was and is written.
 abbrev pub ActionEnds :
-    Action → Option (List ℕ) → Option (List ℕ) → Option (List ℕ) → Option (List ℕ) → Result (Unit {0}) Fault → Type 0
+    Action → Option (List ℕ) → Option (List ℕ) → Option (List ℕ) → Option (List ℕ)
+    → Result (Unit {0}) ProgramFault → Type 0
 ActionEnds Run left left' w w' =
     RunEnds (λ error. told.Lines error)
     (λ end. IfSome left (λ input. Runs line_limit script_rules set.empty input left' w w' end))

@@ -1,15 +1,16 @@
 -- What the word `faults` prints: the exit statuses, and the faults with what they mean.
 use Rattle.std.specs.Prelude.{ℕ, ◌+◌, ◌-◌, List, [], ◌∷◌, ◌++◌, codes, length, replicate}
-use Rattle.moc_lines.specs.Faults as script
-use Rattle.moc_lines.specs.declared.fault.Fault.TheVariants as said
+use Rattle.moc_lines.specs.Language as script
+use Rattle.moc_lines.specs.declared.fault.LineFault.TheVariants as said
 use Rattle.moc_lines.specs.declared.run_error.RunError.TheVariants as run
-use Rattle.moc_script.specs.Refusals.{fault_name}
+use Rattle.moc_script.specs.Schedules.{fault_name}
 use Rattle.moc_script.specs.declared.fault.StepFault.TheVariants as step
 use Rattle.moc_text.specs.declared.ascii.error.TextError.TheVariants as text
 use Rattle.moc_text.specs.declared.json_form.error.JsonError.TheVariants as json
 use Rattle.moc_text.specs.declared.uniq.UniqError.TheVariants as uniq
 use Rattle.moc_conversion.specs.Faults.{input_fault_name, line_of, name_of_json, name_of_text, name_of_uniq}
-use Rattle.moc_conversion.specs.declared.fault.Fault.TheVariants.{TooLong, Read, Memory}
+use Rattle.moc_conversion.specs.Faults.{want_of_memory}
+use Rattle.moc_conversion.specs.declared.fault.InputFault.TheVariants.{TooLong, Read}
 use Rattle.moc_sphere.specs.declared.cell.CellError.TheVariants as cell
 use Rattle.moc_program.specs.Statuses.{code_of, name_of_cell, name_of_run}
 use Rattle.moc_program.specs.declared.status.Status.{Status}
@@ -87,7 +88,7 @@ fault_list =
     ∷ [])
     ++ section (codes "Devices") 17 (
     (input_fault_name Read ++ codes ", " ++ name_of_run run.Write, codes "standard input or output failed")
-    ∷ (input_fault_name Memory, codes "memory was refused")
+    ∷ (input_fault_name want_of_memory, codes "memory was refused")
     ∷ (codes "Spawn", codes "a thread was refused")
     ∷ [])
     ++ text_line (codes "Example:") ++ text_line (codes "  moc cell 3") ++ text_line (codes "tells")

@@ -8,8 +8,8 @@ use Rattle.moc_sphere.specs.declared.cell.CellError.{CellError}
 use Rattle.moc_sphere.specs.declared.cell.CellError.TheVariants.{CellTooLarge, NotUniq, RingTooLarge}
 use Rattle.moc_program.specs.declared.action.Number.{Number}
 use Rattle.moc_program.specs.declared.action.Number.TheVariants.{Ring, Nest, Uniq, Cell, Near}
-use Rattle.moc_program.specs.declared.status.Fault.{Fault}
-use Rattle.moc_program.specs.declared.status.Fault.TheVariants as told
+use Rattle.moc_program.specs.declared.status.ProgramFault.{ProgramFault}
+use Rattle.moc_program.specs.declared.status.ProgramFault.TheVariants as told
 
 -- numbers with a blank between any two
 abbrev pub number_list : List ℕ → List ℕ
@@ -38,6 +38,6 @@ IsNumberFault (Cell uniq) error = (error ≡ NotUniq) × (is_uniq uniq ≡ false
 IsNumberFault (Near order cell) error = (error ≡ CellTooLarge) × (cell_count order ≤ cell)
 
 -- the fault of a number that is not converted: memory was refused, or no cell has the number
-abbrev pub IsNumberRefusal : Number → Fault → Type 0
+abbrev pub IsNumberRefusal : Number → ProgramFault → Type 0
 IsNumberRefusal number fault =
     (fault ≡ told.Memory) ⊎ ((error : CellError) × IsNumberFault number error × (fault ≡ told.Number error))

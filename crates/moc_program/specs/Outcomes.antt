@@ -6,13 +6,13 @@ use Rattle.clap.specs.declared.error.kind.ErrorKind.{ErrorKind}
 use Rattle.clap.specs.declared.error.kind.ErrorKind.TheVariants.{DisplayHelp, DisplayVersion, OutOfMemory}
 use Rattle.moc_command_line.specs.CommandLine.{IsCommandLine}
 use Rattle.moc_lines.specs.declared.run_error.RunError.TheVariants as run
-use Rattle.moc_conversion.specs.declared.fault.Fault.TheVariants as refused
+use Rattle.moc_conversion.specs.declared.fault.InputFault.TheVariants as refused
 use Rattle.moc_program.specs.Actions.{ActionEnds}
 use Rattle.moc_program.specs.Asking.{AskFor}
 use Rattle.moc_program.specs.Statuses.{code_of, fault_text, status_of}
 use Rattle.moc_program.specs.declared.action.Action.{Action}
-use Rattle.moc_program.specs.declared.status.Fault.{Fault}
-use Rattle.moc_program.specs.declared.status.Fault.TheVariants.{Input, Lines, Write, Memory}
+use Rattle.moc_program.specs.declared.status.ProgramFault.{ProgramFault}
+use Rattle.moc_program.specs.declared.status.ProgramFault.TheVariants.{Input, Lines, Write, Memory}
 
 -- a mistake in the words: neither help nor want of memory
 pub record IsMistake (kind : ErrorKind) : Type 0 where
@@ -43,7 +43,7 @@ pub record AreMistaken (words : List Text) : Type 0 where
   pub all : (app : App) → IsCommandLine app → (kind : ErrorKind) → IsAmong kind (fault_of app words) → IsMistake kind
 
 -- a device of which a fault tells that it failed has failed: the input, the output
-abbrev pub BlamesFailed : Bool → Bool → Fault → Type 0
+abbrev pub BlamesFailed : Bool → Bool → ProgramFault → Type 0
 BlamesFailed input output (Input c) = c.fault ≡ refused.Read → IsTrue input
 BlamesFailed input output (Lines error) = (error ≡ run.Read → IsTrue input) × (error ≡ run.Write → IsTrue output)
 BlamesFailed input output Write = IsTrue output
@@ -51,12 +51,13 @@ BlamesFailed input output _ = Unit {0}
 
 -- Memory was refused before any output, or help that is asked for was not written, or what is asked for ends so.
 abbrev pub EndWith :
-    List Text → Option (List ℕ) → Option (List ℕ) → Option (List ℕ) → Option (List ℕ) → Fault → Type 0
+    List Text → Option (List ℕ) → Option (List ℕ) → Option (List ℕ) → Option (List ℕ) → ProgramFault → Type 0
 EndWith words left left' w w' fault =
     ((fault ≡ Memory) × Keeps w w') ⊎ (AskForHelp words × (fault ≡ Write))
     ⊎ ((action : Action) × AskFor words action × ActionEnds action left left' w w' (Err fault))
 
 -- a fault of which this holds, and which has this status, is told
-abbrev pub TellsFaultOf : ℕ → (Fault → Type 0) → Option (List ℕ) → Option (List ℕ) → Type 0
+abbrev pub TellsFaultOf : ℕ → (ProgramFault → Type 0) → Option (List ℕ) → Option (List ℕ) → Type 0
 TellsFaultOf status is written written' =
-    (fault : Fault) × (code_of (status_of fault) ≡ status) × is fault × Appends written written' (fault_text fault)
+    (fault : ProgramFault) × (code_of (status_of fault) ≡ status) × is fault
+    × Appends written written' (fault_text fault)

@@ -6,11 +6,12 @@ use Rattle.moc_lines.specs.declared.run_error.RunError.TheVariants as run
 use Rattle.moc_lines.specs.declared.run_error.RunError.{RunError}
 use Rattle.moc_script.specs.declared.crew_error.CrewError.{CrewError}
 use Rattle.moc_script.specs.declared.crew_error.CrewError.TheVariants as crew
+use Rattle.moc_forms.specs.declared.form.FormError.TheVariants as form
 use Rattle.moc_conversion.specs.Faults.{complaint_text, line_of}
-use Rattle.moc_conversion.specs.declared.fault.Fault as input
-use Rattle.moc_conversion.specs.declared.fault.Fault.TheVariants as refused
-use Rattle.moc_program.specs.declared.status.Fault.{Fault}
-use Rattle.moc_program.specs.declared.status.Fault.TheVariants.{Input, Number, Lines, Spawn, Write, Memory}
+use Rattle.moc_conversion.specs.declared.fault.InputFault.{InputFault}
+use Rattle.moc_conversion.specs.declared.fault.InputFault.TheVariants as refused
+use Rattle.moc_program.specs.declared.status.ProgramFault.{ProgramFault}
+use Rattle.moc_program.specs.declared.status.ProgramFault.TheVariants.{Input, Number, Lines, Spawn, Write, Memory}
 use Rattle.moc_program.specs.declared.status.Status.{Status}
 use Rattle.moc_program.specs.declared.status.Status.TheVariants.{Done, Refused, BadWords, Broken}
 
@@ -22,18 +23,18 @@ code_of BadWords = 2
 code_of Broken = 3
 
 -- the status with which an input is refused
-abbrev pub status_of_input : input.Fault → Status
+abbrev pub status_of_input : InputFault → Status
 status_of_input refused.Read = Broken
-status_of_input refused.Memory = Broken
+status_of_input (refused.Form form.Memory) = Broken
 status_of_input _ = Refused
 
 -- the fault of a crew that ended early
-abbrev pub fault_of_crew : CrewError → Fault
+abbrev pub fault_of_crew : CrewError → ProgramFault
 fault_of_crew (crew.Run error) = Lines error
 fault_of_crew crew.Spawn = Spawn
 
 -- a failed device, refused memory and a refused thread break the program, and all else is refused
-abbrev pub status_of : Fault → Status
+abbrev pub status_of : ProgramFault → Status
 status_of (Input c) = status_of_input c.fault
 status_of (Number e) = Refused
 status_of (Lines (run.LineTooLong line)) = Refused
@@ -54,7 +55,7 @@ name_of_run (run.LineTooLong line) = codes "LineTooLong"
 name_of_run (run.Memory line) = codes "Memory"
 
 -- what tells a fault: a complaint of the input, or a line
-abbrev pub fault_text : Fault → List ℕ
+abbrev pub fault_text : ProgramFault → List ℕ
 fault_text (Input c) = complaint_text c
 fault_text (Number e) = line_of (name_of_cell e)
 fault_text (Lines e) = line_of (name_of_run e)

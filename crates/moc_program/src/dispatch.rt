@@ -14,7 +14,7 @@ ghost use Rattle.moc_program.specs.declared.action.Action.{Action};
 
 use crate::explaining::explain;
 use crate::performing::act;
-use crate::status::{Fault, Status, ended};
+use crate::status::{ProgramFault, Status, ended};
 use clap::error::ErrorKind;
 use clap::{ArgMatches, Error};
 use moc_command_line::command_line;
@@ -78,10 +78,10 @@ pub fn refuse_words<E: Sink>(error: &io::Error, faults: &mut E) -> u8
     ensures memory { error_kind error.now ≡ IoErrorKind.OutOfMemory → result ≡ 3 }
     ensures not_utf8 { error_kind error.now ≢ IoErrorKind.OutOfMemory → result ≡ 2 }
     ensures told { E.mark faults.old ≡ false → E.mark faults.new ≡ false → result ≡ 3
-        → Appends (E.written faults.old) (E.written faults.new) (fault_text Fault.Memory) }
+        → Appends (E.written faults.old) (E.written faults.new) (fault_text ProgramFault.Memory) }
 {
     if error.kind() == IoErrorKind::OutOfMemory {
-        return ended(Err(Fault::Memory), faults).code();
+        return ended(Err(ProgramFault::Memory), faults).code();
     }
     let _ = write_all(b"error: a word of the command line is not UTF-8\n", faults);
     Status::BadWords.code()

@@ -6,7 +6,7 @@ ghost use Rattle.moc_program.specs.Outcomes.{IsMistake, TellsFaultOf};
 ghost use Rattle.moc_program.specs.Statuses.{code_of};
 
 use crate::printing::printed;
-use crate::status::{Fault, Status, ended};
+use crate::status::{ProgramFault, Status, ended};
 use clap::Error;
 use clap::error::ErrorKind;
 use moc_command_line::meant;
@@ -34,16 +34,16 @@ pub(crate) fn explain<S: AsStr, W: Sink, E: Sink>(
     ensures told { E.mark faults.old ≡ false → E.mark faults.new ≡ false
         → (code_of result ≡ 1) ⊎ (code_of result ≡ 3)
         → TellsFaultOf (code_of result) (λ fault.
-        ((fault ≡ Fault.Memory) × Keeps (W.written output.old) (W.written output.new))
-        ⊎ ((fault ≡ Fault.Write) × IsTrue (W.mark output.new)
+        ((fault ≡ ProgramFault.Memory) × Keeps (W.written output.old) (W.written output.new))
+        ⊎ ((fault ≡ ProgramFault.Write) × IsTrue (W.mark output.new)
         × ((kind_of error.now ≡ ErrorKind.DisplayHelp) ⊎ (kind_of error.now ≡ ErrorKind.DisplayVersion))))
         (E.written faults.old) (E.written faults.new) }
 {
     if error.kind() == ErrorKind::OutOfMemory {
-        return ended(Err(Fault::Memory), faults);
+        return ended(Err(ProgramFault::Memory), faults);
     }
     let Ok(text) = explanation(alloc, words, error) else {
-        return ended(Err(Fault::Memory), faults);
+        return ended(Err(ProgramFault::Memory), faults);
     };
     if error.use_stderr() {
         let _ = write_all(text.as_bytes(), faults);

@@ -9,7 +9,7 @@ ghost use Rattle.moc_program.specs.Private.NumberCells.{IsCellOf};
 
 use crate::action::Number;
 use crate::printing::printed;
-use crate::status::{Fault, Status};
+use crate::status::{ProgramFault, Status};
 use moc_script::Sink;
 use moc_sphere::{Cell, CellError};
 use std::alloc::{AllocError, Global};
@@ -17,12 +17,16 @@ use std::fmt::Write;
 
 /// Writes the line of a converted number.
 #[tactic(auto, using(crate::proofs::Writing::sent_writes))]
-pub(crate) fn numbered<W: Sink>(alloc: Global, number: Number, output: &mut W) -> Result<(), Fault>
+pub(crate) fn numbered<W: Sink>(
+    alloc: Global,
+    number: Number,
+    output: &mut W,
+) -> Result<(), ProgramFault>
     requires { W.mark output.old ≡ false }
     ensures ends { PrintsText (IsNumberLine number) (IsNumberRefusal number)
         (W.written output.old) (W.written output.new) result }
     ensures flushed { OnOk result (IsTrue (W.flushed output.new)) }
-    ensures write { IsErrOf result Fault.Write → IsTrue (W.mark output.new) }
+    ensures write { IsErrOf result ProgramFault.Write → IsTrue (W.mark output.new) }
     ensures output { IsTrue (W.mark output.new) → end_of result ≡ Status.Broken }
 {
     let line = number_line(alloc, number)?;
@@ -30,7 +34,7 @@ pub(crate) fn numbered<W: Sink>(alloc: Global, number: Number, output: &mut W) -
 }
 
 /// The line of a converted number.
-fn number_line(alloc: Global, number: Number) -> Result<String, Fault>
+fn number_line(alloc: Global, number: Number) -> Result<String, ProgramFault>
     ensures line { IfOk result (λ text. IsNumberLine number (string_bytes text)) }
     ensures fault { IfErr result (IsNumberRefusal number) }
 {

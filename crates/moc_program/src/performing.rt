@@ -10,7 +10,7 @@ ghost use Rattle.moc_program.specs.Private.Matches.{MatchedEnd};
 use crate::action::Action;
 use crate::number_lines::numbered;
 use crate::printing::{answered, printed};
-use crate::status::{Fault, Status};
+use crate::status::{ProgramFault, Status};
 use clap::ArgMatches;
 use moc_command_line::FAULTS;
 use moc_conversion::{changed, checked, combined, converted, described, drawn};
@@ -27,7 +27,7 @@ pub(crate) fn act<T: Threads + Wait + Sync, R: Source, W: Sink>(
     matches: &ArgMatches<'_>,
     input: &mut R,
     output: &mut W,
-) -> Result<(), Fault>
+) -> Result<(), ProgramFault>
     requires input { R.mark input.old ≡ false }
     requires output { W.mark output.old ≡ false }
     ensures input { IsTrue (R.mark input.new) → end_of result ≡ Status.Broken }
@@ -39,7 +39,7 @@ pub(crate) fn act<T: Threads + Wait + Sync, R: Source, W: Sink>(
 {
     let Some(action) = Action::from_matches(matches) else {
         // `clap` requires the word and its values, so none is missing.
-        return Err(Fault::Memory);
+        return Err(ProgramFault::Memory);
     };
     perform(rt, alloc, action, input, output)
 }
@@ -52,7 +52,7 @@ fn perform<T: Threads + Wait + Sync, R: Source, W: Sink>(
     action: Action,
     input: &mut R,
     output: &mut W,
-) -> Result<(), Fault>
+) -> Result<(), ProgramFault>
     requires input { R.mark input.old ≡ false }
     requires output { W.mark output.old ≡ false }
     ensures input { IsTrue (R.mark input.new) → end_of result ≡ Status.Broken }
@@ -84,9 +84,9 @@ fn perform<T: Threads + Wait + Sync, R: Source, W: Sink>(
 }
 
 /// The outcome of a run, with the fault of the program.
-fn outcome_of(outcome: Result<(), RunError>) -> Result<(), Fault>
+fn outcome_of(outcome: Result<(), RunError>) -> Result<(), ProgramFault>
     ensures done { OnOk result (outcome ≡ Ok tt) }
-    ensures fault { IfErr result (λ fault. (error : RunError) × (fault ≡ Fault.Lines error)
+    ensures fault { IfErr result (λ fault. (error : RunError) × (fault ≡ ProgramFault.Lines error)
         × (outcome ≡ Err error)) }
     ensures device { IsErrOf outcome RunError.Read ⊎ IsErrOf outcome RunError.Write → end_of result ≡ Status.Broken }
 {
@@ -94,7 +94,7 @@ fn outcome_of(outcome: Result<(), RunError>) -> Result<(), Fault>
 }
 
 /// The outcome of a crew, with the fault of the program.
-fn outcome_of_crew(outcome: Result<(), CrewError>) -> Result<(), Fault>
+fn outcome_of_crew(outcome: Result<(), CrewError>) -> Result<(), ProgramFault>
     ensures done { OnOk result (outcome ≡ Ok tt) }
     ensures fault { IfErr result (λ fault. (error : CrewError) × (fault ≡ fault_of_crew error)
         × (outcome ≡ Err error)) }

@@ -5,20 +5,20 @@ ghost use Rattle.std.specs.String.{string_bytes};
 ghost use Rattle.moc_program.specs.Private.Ending.{end_of};
 ghost use Rattle.moc_program.specs.Private.Writing.{IsSent};
 
-use crate::status::{Fault, Status};
-use moc_conversion::{Complaint, Fault as InputFault};
+use crate::status::{ProgramFault, Status};
+use moc_conversion::{Complaint, InputFault};
 use moc_script::{Sink, write_all};
 
 /// Writes a text that was made of the input; else the fault is that of the complaint.
 pub(crate) fn answered<W: Sink>(
     text: Result<String, Complaint>,
     output: &mut W,
-) -> Result<(), Fault>
+) -> Result<(), ProgramFault>
     requires { W.mark output.old ≡ false }
     ensures sent { MatchResult text
         (λ t. IsSent (string_bytes t) (W.written output.old) (W.written output.new) result)
-        (λ c. (result ≡ Err (Fault.Input c)) × Keeps (W.written output.old) (W.written output.new)) }
-    ensures write { IsErrOf result Fault.Write → IsTrue (W.mark output.new) }
+        (λ c. (result ≡ Err (ProgramFault.Input c)) × Keeps (W.written output.old) (W.written output.new)) }
+    ensures write { IsErrOf result ProgramFault.Write → IsTrue (W.mark output.new) }
     ensures flushed { OnOk result (IsTrue (W.flushed output.new)) }
     ensures input { IsErrAnd text (λ c. c.fault ≡ InputFault.Read) → end_of result ≡ Status.Broken }
     ensures output { IsTrue (W.mark output.new) → end_of result ≡ Status.Broken }
@@ -29,7 +29,7 @@ pub(crate) fn answered<W: Sink>(
 
 /// Writes a text, whole, and sends it on.
 #[tactic(auto, using(crate::proofs::Writing::sent_on, crate::proofs::Writing::sent_front))]
-pub(crate) fn printed<W: Sink>(text: &str, output: &mut W) -> Result<(), Fault>
+pub(crate) fn printed<W: Sink>(text: &str, output: &mut W) -> Result<(), ProgramFault>
     requires { W.mark output.old ≡ false }
     ensures sent { IsSent text.now (W.written output.old) (W.written output.new) result }
     ensures flushed { OnOk result (IsTrue (W.flushed output.new)) }

@@ -5,9 +5,10 @@ ghost use Rattle.moc_conversion.specs.Faults.{line_of};
 ghost use Rattle.moc_program.specs.Statuses.{code_of, fault_of_crew, fault_text, name_of_cell, name_of_run};
 ghost use Rattle.moc_program.specs.Statuses.{status_of, status_of_input};
 ghost use Rattle.moc_program.specs.Private.Ending.{end_of};
-ghost use Rattle.moc_program.specs.declared.status.Fault.TheVariants as fault;
+ghost use Rattle.moc_program.specs.declared.status.ProgramFault.TheVariants as fault;
 
-use moc_conversion::{Complaint, Fault as InputFault};
+use moc_conversion::{Complaint, InputFault};
+use moc_forms::FormError;
 use moc_script::{CrewError, DeviceFault, RunError, Sink, write_all};
 use moc_sphere::CellError;
 use std::alloc::AllocError;
@@ -36,7 +37,7 @@ impl Status {
 
 /// Why the program ends before it is done, but for words that are no command line.
 #[derive(Drop)]
-pub enum Fault {
+pub enum ProgramFault {
     /// Nothing was made of the coverages on the input.
     Input(Complaint),
     /// A number is that of no cell.
@@ -51,15 +52,19 @@ pub enum Fault {
     Memory,
 }
 
-impl Fault {
+impl ProgramFault {
     /// How the program ends then.
     pub fn status(&self) -> Status
         ensures { result ≡ status_of self.now }
     {
         match self {
-            Fault::Input(complaint) => input_status(complaint.fault),
-            Fault::Number(_) | Fault::Lines(RunError::LineTooLong { .. }) => Status::Refused,
-            Fault::Lines(_) | Fault::Spawn | Fault::Write | Fault::Memory => Status::Broken,
+            ProgramFault::Input(complaint) => input_status(complaint.fault),
+            ProgramFault::Number(_) | ProgramFault::Lines(RunError::LineTooLong { .. }) =>
+                Status::Refused,
+            ProgramFault::Lines(_)
+            | ProgramFault::Spawn
+            | ProgramFault::Write
+            | ProgramFault::Memory => Status::Broken,
         }
     }
 
@@ -70,19 +75,19 @@ impl Fault {
         ensures marks { E.mark faults.old ≡ false → E.mark faults.new ≡ is_err result }
     {
         let line = match self {
-            Fault::Input(complaint) => return complaint.tell(faults),
-            Fault::Number(error) => cell_line(*error),
-            Fault::Lines(error) => run_line(*error),
-            Fault::Spawn => "fault Spawn\n",
-            Fault::Write => "fault Write\n",
-            Fault::Memory => "fault Memory\n",
+            ProgramFault::Input(complaint) => return complaint.tell(faults),
+            ProgramFault::Number(error) => cell_line(*error),
+            ProgramFault::Lines(error) => run_line(*error),
+            ProgramFault::Spawn => "fault Spawn\n",
+            ProgramFault::Write => "fault Write\n",
+            ProgramFault::Memory => "fault Memory\n",
         };
         write_all(line.as_bytes(), faults)
     }
 }
 
 /// How the program ends with this outcome, after it has told a fault.
-pub(crate) fn ended<E: Sink>(outcome: Result<(), Fault>, faults: &mut E) -> Status
+pub(crate) fn ended<E: Sink>(outcome: Result<(), ProgramFault>, faults: &mut E) -> Status
     ensures end { result ≡ end_of outcome }
     ensures told { E.mark faults.old ≡ false → E.mark faults.new ≡ false → IfErr outcome (λ fault.
         Appends (E.written faults.old) (E.written faults.new) (fault_text fault)) }
@@ -99,7 +104,7 @@ fn input_status(fault: InputFault) -> Status
     ensures { result ≡ status_of_input fault }
 {
     match fault {
-        InputFault::Read | InputFault::Memory => Status::Broken,
+        InputFault::Read | InputFault::Form(FormError::Memory) => Status::Broken,
         _ => Status::Refused,
     }
 }
@@ -128,54 +133,54 @@ fn run_line(error: RunError) -> &'static str
     }
 }
 
-impl From<Complaint> for Fault {
+impl From<Complaint> for ProgramFault {
     ghost from_gives = { λ c f. f ≡ fault.Input c };
 
-    fn from(complaint: Complaint) -> Fault {
-        Fault::Input(complaint)
+    fn from(complaint: Complaint) -> ProgramFault {
+        ProgramFault::Input(complaint)
     }
 }
 
-impl From<CellError> for Fault {
+impl From<CellError> for ProgramFault {
     ghost from_gives = { λ error f. f ≡ fault.Number error };
 
-    fn from(error: CellError) -> Fault {
-        Fault::Number(error)
+    fn from(error: CellError) -> ProgramFault {
+        ProgramFault::Number(error)
     }
 }
 
-impl From<RunError> for Fault {
+impl From<RunError> for ProgramFault {
     ghost from_gives = { λ error f. f ≡ fault.Lines error };
 
-    fn from(error: RunError) -> Fault {
-        Fault::Lines(error)
+    fn from(error: RunError) -> ProgramFault {
+        ProgramFault::Lines(error)
     }
 }
 
-impl From<CrewError> for Fault {
+impl From<CrewError> for ProgramFault {
     ghost from_gives = { λ error f. f ≡ fault_of_crew error };
 
-    fn from(error: CrewError) -> Fault {
+    fn from(error: CrewError) -> ProgramFault {
         match error {
-            CrewError::Run(error) => Fault::Lines(error),
-            CrewError::Spawn => Fault::Spawn,
+            CrewError::Run(error) => ProgramFault::Lines(error),
+            CrewError::Spawn => ProgramFault::Spawn,
         }
     }
 }
 
 /// A fault of the output: one of the input is told where it is read.
-impl From<DeviceFault> for Fault {
+impl From<DeviceFault> for ProgramFault {
     ghost from_gives = { λ _ f. f ≡ fault.Write };
 
-    fn from(_fault: DeviceFault) -> Fault {
-        Fault::Write
+    fn from(_fault: DeviceFault) -> ProgramFault {
+        ProgramFault::Write
     }
 }
 
-impl From<AllocError> for Fault {
+impl From<AllocError> for ProgramFault {
     ghost from_gives = { λ _ f. f ≡ fault.Memory };
 
-    fn from(_error: AllocError) -> Fault {
-        Fault::Memory
+    fn from(_error: AllocError) -> ProgramFault {
+        ProgramFault::Memory
     }
 }

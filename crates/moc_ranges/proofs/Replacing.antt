@@ -107,9 +107,9 @@ pub none_matched : {X : Type 0} (P : X → Type 0) (Q : Type 0) (o : Option X) �
 none_matched {X} P Q None lacks holds = holds
 none_matched {X} P Q (Some x) lacks holds = absurd (lacks x refl)
 
-pub renewed_still : (from to place added : ℕ) (nodes still nodes' new : List (List (List (ℕ × ℕ)))) (first : List (List (ℕ × ℕ))) (second : Option (List (List (ℕ × ℕ)))) → still ≡ nodes → nodes' ≡ still → IsRenewed from to nodes' place first second added → new ≡ take place still ++ (with_second first second ++ drop (place + 1) still) → HasGrown from to (joining (joining nodes)) (joining (joining new)) added
+pub renewed_still : (from to place added : ℕ) (nodes still nodes' new : List (List (List (ℕ × ℕ)))) (first : List (List (ℕ × ℕ))) (second : Option (List (List (ℕ × ℕ)))) → joining (joining still) ≡ joining (joining nodes) → nodes' ≡ still → IsRenewed from to nodes' place first second added → new ≡ take place still ++ (with_second first second ++ drop (place + 1) still) → HasGrown from to (joining (joining nodes)) (joining (joining new)) added
 renewed_still from to place added nodes still nodes' new first second same is renewed made =
-    subst (λ (l : List (List (List (ℕ × ℕ)))). HasGrown from to (joining (joining l)) (joining (joining new)) added) same
+    subst (λ (l : List (ℕ × ℕ)). HasGrown from to l (joining (joining new)) added) same
     (renewed_grown from to place added still nodes' new first second is renewed made)
 
 -- ---- how many ranges nodes have of which one was replaced

@@ -2,7 +2,7 @@
 use Rattle.std.specs.Prelude.{ℕ, zero, suc, ◌+◌, ◌-◌, ◌/◌, ◌<◌, ◌≤◌, ⊤, Bool, not, ◌&&◌, ◌||◌, List, [], ◌∷◌, ◌++◌, map}
 use Rattle.std.specs.Prelude.{nat_eq, nat_le}
 use Rattle.std.specs.FinSet as set
-use Rattle.std.specs.List.{filter, range_with_len, AllByRecursion}
+use Rattle.std.specs.List.{filter, flat_map, range_with_len, AllByRecursion}
 use Rattle.moc_sphere.specs.CellNumber.{CellNumber, cell_number, cell_count, cell_size, uniq_of}
 use Rattle.moc_ranges.specs.Numbers.{NumberSet}
 use Rattle.moc_ranges.specs.Pixels.{pixels}
@@ -47,8 +47,7 @@ cells_of_range order range = map (cell_number order) (range_with_len range.0 (ra
 
 -- the cells of an order whose indices are in ranges
 abbrev pub cells_in : ℕ → List (ℕ × ℕ) → List CellNumber
-cells_in order [] = []
-cells_in order (range ∷ ranges) = cells_of_range order range ++ cells_in order ranges
+cells_in order ranges = flat_map (cells_of_range order) ranges
 
 -- the cells have orders from the first up to, not including, the one after the last
 abbrev pub AreOfOrders : ℕ → ℕ → List CellNumber → Type 0
@@ -56,8 +55,7 @@ AreOfOrders first last cells = AllByRecursion (λ c. (first ≤ c.order) × (c.o
 
 -- each cell's NUNIQ number is at least `low`
 abbrev pub AllUniqFrom : ℕ → List CellNumber → Type 0
-AllUniqFrom low [] = ⊤
-AllUniqFrom low (c ∷ cells) = (low ≤ uniq_of c) × AllUniqFrom low cells
+AllUniqFrom low cells = AllByRecursion (λ c. low ≤ uniq_of c) cells
 
 -- each cell has a greater NUNIQ number than those before it
 abbrev pub IsRisingUniq : List CellNumber → Type 0

@@ -1,18 +1,21 @@
 //! Sets of pixels, and the operations on them.
-ghost use Rattle.std.specs.Prelude.{◌≡◌, ℕ, true, not, IfSome, MatchOption, ◌+◌, ◌<◌, ◌≤◌, ◌↔◌, nat_lt, IsTrue};
+ghost use Rattle.std.specs.Prelude.{◌≡◌, ℕ, true, not, IfSome, MatchOption, ◌<◌, ◌≤◌, ◌↔◌, IsTrue};
 ghost use Rattle.std.specs.Prelude.{List, length, ◌==◌};
 ghost use Rattle.std.specs.List.{filter};
-ghost use Rattle.std.specs.Prelude.{IfOk, IfErr, OnOk, OnErr, None, unwrap_or};
+ghost use Rattle.std.specs.Prelude.{IfOk, IfErr, OnOk, None, unwrap_or};
 ghost use Rattle.moc_ranges.specs.Faults.{first_fault};
 ghost use Rattle.std.specs.Cmp.{partial_equiv_from_equiv};
 ghost use Rattle.std.specs.FinSet as set;
 ghost use Rattle.moc_ranges.specs.RangeList.{IsNormal, set_of};
-ghost use Rattle.moc_ranges.specs.Operations.{symmetric, complement, part_of, meets, IsWithin};
+ghost use Rattle.moc_ranges.specs.Operations.{symmetric, complement, meets, IsWithin};
 ghost use Rattle.moc_ranges.specs.Pixels.{pixel_count, pixels};
 ghost use Rattle.moc_ranges.specs.Cells.{AreOfOrders, cells_in, cells_of, degrade, span};
 ghost use Rattle.moc_ranges.specs.Numbers.{numbers};
 ghost use Rattle.moc_ranges.specs.Blocks.{joining, AreBlocks, IsSearchOf};
 ghost use Rattle.moc_ranges.specs.Private.Walks.{IsNextRange, HasNoneFrom};
+
+mod base_pixels;
+mod inserting;
 
 use crate::cell_ranges::CellRanges;
 use crate::cells::{deepest_order, orders_with_cells, push_runs};
@@ -32,9 +35,6 @@ use moc_sphere::{Cell, Order};
 use std::alloc::{AllocError, Global};
 use std::fmt;
 use std::marker::Model;
-
-/// How many pixels a base pixel has: 4^29.
-const BASE_PIXEL_SIZE: u64 = 288230376151711744;
 
 /// A set of pixels of order 29, by their nested numbers: a coverage of MOC 2.0.
 ///
@@ -208,79 +208,6 @@ impl Coverage {
         Ok(Coverage { list })
     }
 
-    /// Adds the pixels from one up to, not including, another, and tells how many of them are new.
-    ///
-    /// Mostly O(log n), whatever shares the blocks: the range is put into its block where no other set has that, the
-    /// range touches no other and the block is not full. Else the block is made anew, and the pointers to the others of
-    /// its node are copied where another set shares the node, or the block is cut in two; where it is cut, also a step
-    /// for each node behind. As a union where the range touches more than one block, or no block can take it by the
-    /// rules of lengths. Refused where memory runs out; the set then is as it was.
-    pub fn insert_range(&mut self, alloc: Global, from: u64, to: u64) -> Result<u64, Memory>
-        requires within { to ≤ pixel_count }
-        ensures set { OnOk result (self.new ≡ set.union self.old (numbers from to)) }
-        ensures added { IfOk result (λ n. n ≡ set.len (set.difference (numbers from to) self.old)) }
-        ensures unchanged { OnErr result (self.new ≡ self.old) }
-    {
-        if to <= from {
-            return Ok(0);
-        }
-        if let Some(added) = self.list.insert_in_gap(from, to)? {
-            return Ok(added);
-        }
-        self.insert_in_blocks(alloc, from, to)
-    }
-
-    /// The same where the set lacks any of the range: by a list of few ranges or a block that is made anew, or by a
-    /// union.
-    fn insert_in_blocks(&mut self, alloc: Global, from: u64, to: u64) -> Result<u64, Memory>
-        requires filled { from < to }
-        requires within { to ≤ pixel_count }
-        ensures set { OnOk result (self.new ≡ set.union self.old (numbers from to)) }
-        ensures added { IfOk result (λ n. n ≡ set.len (set.difference (numbers from to) self.old)) }
-        ensures unchanged { OnErr result (self.new ≡ self.old) }
-    {
-        if self.covers_range(from, to) {
-            return Ok(0);
-        }
-        let inserted = self.list.insert(alloc, from, to)?;
-        match inserted {
-            Some(added) => Ok(added),
-            None => self.insert_anew(alloc, from, to),
-        }
-    }
-
-    /// The same by a union.
-    fn insert_anew(&mut self, alloc: Global, from: u64, to: u64) -> Result<u64, Memory>
-        requires filled { from < to }
-        requires within { to ≤ pixel_count }
-        ensures set { OnOk result (self.new ≡ set.union self.old (numbers from to)) }
-        ensures added { IfOk result (λ n. n ≡ set.len (set.difference (numbers from to) self.old)) }
-        ensures unchanged { OnErr result (self.new ≡ self.old) }
-    {
-        let range = [(from, to)];
-        let list = unite(alloc, self.list.ranges(), Ranges::of(&range))?;
-        let added = list.measure() - self.list.measure();
-        self.list = list;
-        Ok(added)
-    }
-
-    /// Adds the pixels of another set, and tells how many of them are new. As `insert_range` where the other is one
-    /// range, and else as `union`. Refused where memory runs out; the set then is as it was.
-    pub fn insert_all(&mut self, alloc: Global, other: &Coverage) -> Result<u64, Memory>
-        ensures set { OnOk result (self.new ≡ set.union self.old other.now) }
-        ensures added { IfOk result (λ n. n ≡ set.len (set.difference other.now self.old)) }
-        ensures unchanged { OnErr result (self.new ≡ self.old) }
-    {
-        if let Some([range]) = other.ranges().few() {
-            return self.insert_range(alloc, range.0, range.1);
-        }
-        let added = other.count() - self.count_common(other);
-        if added > 0 {
-            *self = self.union(alloc, other)?;
-        }
-        Ok(added)
-    }
-
     /// The pixels that both sets have. One pass, O(n + m), in which blocks and nodes that the other
     /// set does not reach are skipped by searching, and those that one range of it covers are mostly
     /// shared: a set of m ranges and one of n take O(m log n), and a step for each node that is shared.
@@ -321,48 +248,6 @@ impl Coverage {
         Ok(Coverage { list })
     }
 
-    /// The pixels of the set in one base pixel, 0 to 11: those p with `p / 4^29` equal to it. Above
-    /// 11 it is the empty set.
-    ///
-    /// O(log n), and a copy of the ranges that it answers, of which whole blocks and nodes are shared;
-    /// refused where memory runs out.
-    pub fn part(&self, alloc: Global, base_pixel: u8) -> Result<Coverage, Memory>
-        ensures part { IfOk result (λ c. c ≡ part_of self.now base_pixel) }
-        ensures within { IsWithin self.now pixels }
-    {
-        if self.is_empty() || base_pixel > 11 {
-            return Ok(Coverage::empty(alloc));
-        }
-        let from = u64::from(base_pixel) * BASE_PIXEL_SIZE;
-        let whole = [(from, from + BASE_PIXEL_SIZE)];
-        let list = intersect(alloc, self.ranges(), Ranges::of(&whole))?;
-        Ok(Coverage { list })
-    }
-
-    /// Whether the set has a pixel in this base pixel; it has none above 11. O(log n), takes no
-    /// memory.
-    pub fn meets_base_pixel(&self, base_pixel: u8) -> bool
-        ensures { result ≡ nat_lt 0 (set.len (part_of self.now base_pixel)) }
-    {
-        if self.is_empty() || base_pixel > 11 {
-            return false;
-        }
-        let from = u64::from(base_pixel) * BASE_PIXEL_SIZE;
-        self.meets_range(from, from + BASE_PIXEL_SIZE)
-    }
-
-    /// Whether the set has every pixel of this base pixel; above 11 there is none. O(log n), takes
-    /// no memory.
-    pub fn covers_base_pixel(&self, base_pixel: u8) -> bool
-        ensures { result ≡ set.is_subset (part_of pixels base_pixel) self.now }
-    {
-        if base_pixel > 11 {
-            return true;
-        }
-        let from = u64::from(base_pixel) * BASE_PIXEL_SIZE;
-        self.covers_range(from, from + BASE_PIXEL_SIZE)
-    }
-
     /// The first pixel of the set from this one on, if there is one. O(log n), takes no memory.
     pub fn next_pixel(&self, from: u64) -> Option<u64>
         ensures found { IfSome result (λ p. (from ≤ p) × (p < pixel_count) × (set.contains self.now p ≡ true)) }
@@ -370,18 +255,6 @@ impl Coverage {
     {
         let (start, _) = self.first_past(from)?;
         Some(start.max(from))
-    }
-
-    /// The first base pixel from this one on that the set has a pixel in, if there is one; there is none above 11.
-    /// O(log n), takes no memory.
-    pub fn next_base_pixel(&self, from: u8) -> Option<u8>
-        ensures found { IfSome result (λ b.
-            (from ≤ b) × (b < 12) × (nat_lt 0 (set.len (part_of self.now b)) ≡ true)) }
-        ensures first { (b : ℕ) → from ≤ b → nat_lt 0 (set.len (part_of self.now b)) ≡ true
-            → MatchOption result ⊥ (λ c. c ≤ b) }
-    {
-        let pixel = self.next_pixel(u64::from(from.min(12)) * BASE_PIXEL_SIZE)?;
-        Some((pixel / BASE_PIXEL_SIZE) as u8)
     }
 
     /// Whether the set has a pixel of this cell. O(log n), takes no memory.

@@ -1,12 +1,12 @@
 //! The one normal list of ranges of a set, kept in blocks.
-ghost use Rattle.std.specs.Prelude.{◌≡◌, ◌<◌, ◌≤◌, [], ◌∷◌, length, IfOk, OnErr, MatchOption};
+ghost use Rattle.std.specs.Prelude.{◌≡◌, ◌<◌, ◌≤◌, [], ◌∷◌, length, IfOk, MatchOption};
 ghost use Rattle.moc_ranges.specs.Pixels.{pixel_count};
 ghost use Rattle.moc_ranges.specs.RangeList.{IsNormal, set_of};
 ghost use Rattle.moc_ranges.specs.Lemmas.Members.{in_ranges};
 ghost use Rattle.moc_ranges.specs.Blocks.{joining, AreBlocks, IsSearchOf};
 ghost use Rattle.moc_ranges.specs.Private.Blocks.{IsStored, rest_of, width_of};
 ghost use Rattle.moc_ranges.specs.Private.Walks.{EndsBy, IsFirstPast};
-ghost use Rattle.moc_ranges.specs.Private.Added.{HasGrown};
+ghost use Rattle.moc_ranges.specs.Private.Added.{Inserts};
 
 pub mod added;
 pub mod ahead;
@@ -188,9 +188,7 @@ impl RangeList {
     pub fn insert_in_gap(&mut self, from: u64, to: u64) -> Result<Option<u64>, AllocError>
         requires filled { from < to }
         requires within { to ≤ pixel_count }
-        ensures inserted { IfOk result (λ n. MatchOption n (self.new ≡ self.old) (λ n.
-            HasGrown from to self.old self.new n)) }
-        ensures unchanged { OnErr result (self.new ≡ self.old) }
+        ensures inserted { Inserts from to self.old self.new result }
         ensures normal_before { IsNormal self.old }
         ensures normal { IsNormal self.new }
     {
@@ -208,9 +206,7 @@ impl RangeList {
     pub fn insert(&mut self, alloc: Global, from: u64, to: u64) -> Result<Option<u64>, AllocError>
         requires filled { from < to }
         requires within { to ≤ pixel_count }
-        ensures inserted { IfOk result (λ n. MatchOption n (self.new ≡ self.old) (λ n.
-            HasGrown from to self.old self.new n)) }
-        ensures unchanged { OnErr result (self.new ≡ self.old) }
+        ensures inserted { Inserts from to self.old self.new result }
         ensures normal_before { IsNormal self.old }
         ensures normal { IsNormal self.new }
     {

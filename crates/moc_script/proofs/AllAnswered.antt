@@ -1,11 +1,10 @@
 -- A crew's lines and its answers are as many.
-use Rattle.std.proofs.Common.{◌≡◌, inl, inr, ℕ, suc, ◌%◌, ◌≤◌, ◌==◌, Bool, true, false, if◌then◌else◌, List, [], ◌∷◌, length, refl, sym, ap, ◌∙◌, arith}
+use Rattle.std.proofs.Common.{◌≡◌, inl, inr, ℕ, suc, ◌%◌, ◌≤◌, ◌==◌, Bool, true, false, if◌then◌else◌, List, [], ◌∷◌}
+use Rattle.std.proofs.Common.{length, refl, sym, ap, ◌∙◌, arith}
 use Rattle.std.specs.FinSet as set
 use Rattle.std.proofs.lemmas.Bool.{cases_lt}
-use Rattle.moc_lines.specs.Answers.{Rules}
-use Rattle.moc_lines.specs.Scripts.{script_rules}
-use Rattle.moc_script.specs.Merges.{InLane, in_lane, dealt}
-use Rattle.moc_script.specs.Crews.{answers_in, CrewsAnswerEachLine}
+use Rattle.moc_lines.specs.Runs.{Rules, script_rules}
+use Rattle.moc_script.specs.Crews.{InLane, in_lane, dealt, answers_in, CrewsAnswerEachLine}
 use Rattle.moc_script.proofs.LaneLists.{next_left}
 
 module _ {S : Type 0} (rules : Rules S) where

@@ -1,23 +1,22 @@
 -- The text of a crew, from what its lanes did and what the closed map tells.
-use Rattle.std.proofs.Common.{◌≡◌, ◌≢◌, inl, inr, ℕ, zero, suc, ◌<◌, ◌≤◌, ◌==◌, eq-eqb, ne_eqb, Bool, cond, count_by, List, [], ◌∷◌, ◌++◌, Contains, refl, sym, ap, ◌∙◌, subst, arith, length, length-append, append-nil, get_or, Option, Some, None, Result, Ok, Err}
+use Rattle.std.proofs.Common.{◌≡◌, ◌≢◌, inl, inr, ℕ, zero, suc, ◌<◌, ◌≤◌, ◌==◌, eq-eqb, ne_eqb, Bool, cond, count_by}
+use Rattle.std.proofs.Common.{List, [], ◌∷◌, ◌++◌, Contains, refl, sym, ap, ◌∙◌, subst, arith, length, length-append}
+use Rattle.std.proofs.Common.{append-nil, get_or, Option, Some, None, Result, Ok, Err}
 use Rattle.std.specs.Option.{IfSome}
 use Rattle.std.specs.FinSet as set
 use Rattle.std.proofs.lemmas.Bool.{cases_lt}
 use Rattle.std.proofs.lemmas.List.Sums.{sum_by-cons}
 use Rattle.std.specs.List.{concat}
 use Rattle.moc_ranges.specs.Numbers.{NumberSet}
-use Rattle.moc_lines.specs.Scripts.{script_rules}
-use Rattle.moc_script.specs.Merges.{in_lane, dealt}
-use Rattle.moc_shared.specs.History.{calls_of, result, IsLegal}
+use Rattle.moc_lines.specs.Runs.{script_rules, AreWithin, IsBegunLine, line_limit}
+use Rattle.moc_script.specs.Crews.{in_lane, dealt, cover_line, said_lines, IsCrewText, IsRefusedLine, CrewEnds}
+use Rattle.moc_shared.specs.History.{calls_of, state_after, IsLegal}
 use Rattle.moc_script.specs.Private.LaneWork.{Does}
 use Rattle.moc_shared.specs.Batches.{BatchEntry, answer as object}
 use Rattle.moc_shared.specs.Clients.{record_of, start_of, clients_of, StandsForAll, Closes}
 use Rattle.moc_shared.specs.declared.map.SharedMap.{SharedMap}
 use Rattle.moc_shared.specs.declared.record.Calls.{Calls}
 use Rattle.std.specs.Io.KnownBytes.{Appends, Consumes, IsAtEnd, Keeps}
-use Rattle.moc_script.specs.Crews.{cover_line, said_lines, IsCrewText, IsRefusedLine, CrewEnds}
-use Rattle.moc_lines.specs.Runs.{AreWithin, IsBegunLine}
-use Rattle.moc_lines.specs.Scripts.{line_limit}
 use Rattle.moc_lines.specs.declared.run_error.RunError.TheVariants as run
 use Rattle.moc_script.specs.declared.crew_error.CrewError.TheVariants as crew
 use Rattle.moc_devices.specs.Lemmas.{Sends-all}
@@ -40,7 +39,7 @@ calls_of-none n lane (e ∷ log) named high =
 
 -- the lanes' lines, with the calls that the closed history holds of each, are answered in one order
 pub crew_text : (n : ℕ) (said answers : List (List ℕ)) (log : List BatchEntry) (end : NumberSet) → 0 < n → IsLegal object set.empty log
-    → ((e : BatchEntry) → Contains log e → e.client < n) → end ≡ result object set.empty log
+    → ((e : BatchEntry) → Contains log e → e.client < n) → end ≡ state_after object set.empty log
     → ((lane : ℕ) → lane < n → Does object script_rules (in_lane lane (dealt n said)) (calls_of lane log) (in_lane lane (dealt n answers)))
     → IsCrewText n said (concat answers ++ cover_line end)
 crew_text n said answers log end some legal named end_is does =
@@ -103,7 +102,7 @@ pub crew_of_lanes : (map : SharedMap) (n : ℕ) (input : List ℕ) (answers left
 crew_of_lanes map n input answers left c end text some lanes all start many closes =
     subst (λ (t : List ℕ). IsCrewText n said (t ++ cover_line end)) (sym all.text_is)
     (crew_text n said all.done closes.0 end some (subst (λ (s : NumberSet). IsLegal object s closes.0) start closes.1.0) (λ e i. subst (λ (m : ℕ). e.client < m) many (closes.1.1 e i))
-    (closes.3 ∙ ap (λ (s : NumberSet). result object s closes.0) start) does)
+    (closes.3 ∙ ap (λ (s : NumberSet). state_after object s closes.0) start) does)
   where
     said : List (List ℕ)
     said = said_lines (lines_of input)

@@ -1,7 +1,8 @@
 -- What the lines of a schedule say is local, and the steps that they take lead to the world that they leave.
-use Rattle.std.proofs.Common.{◌≡◌, ℕ, suc, ◌<◌, ◌≤◌, Bool, true, false, cond, ltb, List, [], ◌∷◌, ◌++◌, length, Option, None, Some, Result, Ok, Err, codes, refl, sym, ap, subst, ◌∙◌, arith, length-append, eqb}
+use Rattle.std.proofs.Common.{◌≡◌, ℕ, suc, ◌<◌, ◌≤◌, Bool, true, false, cond, ltb, List, [], ◌∷◌, ◌++◌, length, Option}
+use Rattle.std.proofs.Common.{None, Some, Result, Ok, Err, codes, refl, sym, ap, subst, ◌∙◌, arith, length-append, eqb}
 use Rattle.std.specs.Result.{IfOk, result_map_both}
-use Rattle.std.specs.Option.{ok_or}
+use Rattle.std.specs.Option.{ok_or, option_map_or}
 use Rattle.std.specs.Str.{bytes_eq}
 use Rattle.std.specs.FinSet as set
 use Rattle.std.specs.FinMap as map
@@ -20,27 +21,28 @@ use Rattle.moc_parts.specs.declared.command.Command.{Command}
 use Rattle.moc_parts.specs.declared.command.Command.TheVariants.{Near}
 use Rattle.moc_text.specs.declared.ascii.error.TextError.{TextError}
 use Rattle.moc_text.specs.Reading.{reading_of}
-use Rattle.moc_steps.specs.Locks.{Locks, ArePermitted, AreLocal, locks_after, refusal}
-use Rattle.moc_steps.specs.Locks.Step.{Begin, Take, Edit, Give, Quit, End}
+use Rattle.moc_steps.specs.Machine.{Locks, ArePermitted, AreLocal, locks_after, refusal, World, run, world_after, whole}
+use Rattle.moc_steps.specs.Machine.Step.{Begin, Take, Edit, Give, Quit, End}
 use Rattle.std.specs.Prelude.{fold}
-use Rattle.std.specs.Option.{option_map_or}
-use Rattle.moc_steps.specs.Operations.{Operation, just_begun, mark, noted, midway}
-use Rattle.moc_steps.specs.World.{World, run, world_after, whole}
-use Rattle.moc_steps.specs.Explains.{Explains, set_by_order}
+use Rattle.moc_steps.specs.Orders.{Operation, just_begun, mark, noted, midway, Explains, set_by_order}
 use Rattle.moc_steps.specs.Laws.{ArePlayed, HasOneOrder, StepsHaveOneOrder}
 use Rattle.moc_steps.specs.declared.error.StepError.{StepError}
 use Rattle.moc_parts.specs.declared.reply.Reply.{Reply}
-use Rattle.moc_lines.specs.Words.{is_blank_text, word_of, behind_word, number_spelled}
-use Rattle.moc_lines.specs.Language.{◌>>=◌, fault_without_place, coverage_of, order_of, plain_operand_of, ordered_operand_of, operand_by, operand_of, command_named, command_with, degrade_of, near_of, only_field, two_fields, command_of}
+use Rattle.moc_lines.specs.Language.{is_blank_text, word_of, behind_word, number_spelled, ◌>>=◌, fault_without_place}
+use Rattle.moc_lines.specs.Language.{coverage_of, order_of, plain_operand_of, ordered_operand_of, operand_by}
+use Rattle.moc_lines.specs.Language.{operand_of, command_named, command_with, degrade_of, near_of, only_field}
+use Rattle.moc_lines.specs.Language.{two_fields, command_of, piece_says, commands_of, batch_of}
 use Rattle.moc_text.specs.Lines.{is_semicolon, pieces_of}
-use Rattle.moc_lines.specs.Batches.{piece_says, commands_of, batch_of}
-use Rattle.moc_script.specs.Steps.{BatchStep, as_in_script, client_by, only_client, only_client_and_part, step_by, step_at, other_step, begin_by, begin_of, said_step}
-use Rattle.moc_lines.specs.Answers.{after_lines}
-use Rattle.moc_script.specs.Schedules.{Schedule, start_schedule, next_line, begins_after, after_step, after_said, schedule_rules, step_taken, steps_taken}
+use Rattle.moc_script.specs.Schedules.{BatchStep, as_in_script, client_by, only_client, only_client_and_part, step_by}
+use Rattle.moc_script.specs.Schedules.{step_at, other_step, begin_by, begin_of, said_step, Schedule, start_schedule}
+use Rattle.moc_script.specs.Schedules.{next_line, begins_after, after_step, after_said, schedule_rules, step_taken}
+use Rattle.moc_script.specs.Schedules.{steps_taken}
+use Rattle.moc_lines.specs.Runs.{after_lines}
 use Rattle.moc_script.proofs.Single.{first_then}
 use Rattle.moc_script.specs.Laws.{SchedulesHaveOneOrder}
-use Rattle.moc_lines.specs.declared.fault.Fault.{Fault}
-use Rattle.moc_lines.specs.declared.fault.Fault.TheVariants.{WrongCount, BadNumber, OrderTooLarge, CellTooLarge, EmptyCommand, TooManyCommands}
+use Rattle.moc_lines.specs.declared.fault.LineFault.{LineFault}
+use Rattle.moc_lines.specs.declared.fault.LineFault.TheVariants.{WrongCount, BadNumber, OrderTooLarge, CellTooLarge}
+use Rattle.moc_lines.specs.declared.fault.LineFault.TheVariants.{EmptyCommand, TooManyCommands}
 use Rattle.moc_script.specs.declared.fault.StepFault.{StepFault}
 use Rattle.moc_script.specs.declared.fault.StepFault.TheVariants.{Line}
 use Rattle.moc_text.specs.Lemmas.{empty_within, read_within}
@@ -63,7 +65,7 @@ ok_any : {A F : Type 0} (r : Result A F) → IfOk r Any
 ok_any (Ok a) = tt
 ok_any (Err e) = tt
 
-ok_in_script : {A : Type 0} (P : A → Type 0) (r : Result A Fault) → IfOk r P → IfOk (as_in_script r) P
+ok_in_script : {A : Type 0} (P : A → Type 0) (r : Result A LineFault) → IfOk r P → IfOk (as_in_script r) P
 ok_in_script P (Ok a) h = h
 ok_in_script P (Err e) h = tt
 
@@ -119,7 +121,7 @@ degrade_proper text =
     ok_then _ IsCommand (order_of field) _ (order_small field) (λ order small. small))
 
 -- the command for a cell of an order, if there are both
-abbrev near_at : ℕ → ℕ → Result Command Fault
+abbrev near_at : ℕ → ℕ → Result Command LineFault
 near_at order index = cond (ltb 29 order) (Err OrderTooLarge) (cond (ltb index (cell_count order)) (Ok (Near (cell_number order index))) (Err CellTooLarge))
 
 near_cell : (order index : ℕ) → IfOk (near_at order index) IsCommand
@@ -155,7 +157,7 @@ commands_proper : (pieces : List (List ℕ)) → IfOk (commands_of command_of pi
 commands_proper [] = tt
 commands_proper (piece ∷ pieces) = one (piece_says command_of piece) (commands_of command_of pieces) (piece_proper piece) (commands_proper pieces)
   where
-    one : (first : Result Command Fault) (later : Result (List Command) Fault) → IfOk first IsCommand → IfOk later AreCommands → IfOk (first_then first later) AreCommands
+    one : (first : Result Command LineFault) (later : Result (List Command) LineFault) → IfOk first IsCommand → IfOk later AreCommands → IfOk (first_then first later) AreCommands
     one (Err e) later h each = tt
     one (Ok c) (Err e) h each = tt
     one (Ok c) (Ok cs) h each = (h, each)
@@ -163,7 +165,7 @@ commands_proper (piece ∷ pieces) = one (piece_says command_of piece) (commands
 -- ---- what a line says is local
 
 module _ (local : BatchesAreLocal) where
-  first_local : (first : Result Command Fault) (later : Result (List Command) Fault) → IfOk first IsCommand → IfOk later AreCommands → IfOk (first_then first later) (IsLocal batches)
+  first_local : (first : Result Command LineFault) (later : Result (List Command) LineFault) → IfOk first IsCommand → IfOk later AreCommands → IfOk (first_then first later) (IsLocal batches)
   first_local (Err e) later h each = tt
   first_local (Ok c) (Err e) h each = tt
   first_local (Ok c) (Ok cs) h each = local c cs (h, each)

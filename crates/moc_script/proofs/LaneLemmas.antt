@@ -1,19 +1,15 @@
 -- What a line of a lane asks and is answered, and lines one after another.
-use Rattle.std.proofs.Common.{◌≡◌, inl, inr, ℕ, eq-eqb, Bool, false, if◌then◌else◌, List, [], ◌∷◌, ◌++◌, Result, Ok, Err, refl, sym, ap, subst, ◌∙◌, append-nil}
+use Rattle.std.proofs.Common.{◌≡◌, inl, inr, ℕ, eq-eqb, Bool, false, if◌then◌else◌, List, [], ◌∷◌, ◌++◌, Result, Ok}
+use Rattle.std.proofs.Common.{Err, refl, sym, ap, subst, ◌∙◌, append-nil}
 use Rattle.moc_ranges.specs.Numbers.{NumberSet}
 use Rattle.moc_parts.specs.declared.command.Command.{Command}
-use Rattle.moc_lines.specs.Words.{is_blank_text}
-use Rattle.moc_lines.specs.Language.{command_of}
-use Rattle.moc_lines.specs.Faults.{fault_answer}
-use Rattle.moc_lines.specs.Replies.{replies_text}
-use Rattle.moc_lines.specs.Batches.{batch_of, commands_in, answer_to, after_batch, line_answer, after_line}
+use Rattle.moc_lines.specs.Language.{is_blank_text, command_of, fault_answer, replies_text, batch_of, commands_in}
+use Rattle.moc_lines.specs.Language.{answer_to, after_batch, line_answer, after_line, ReadsText}
 use Rattle.moc_lines.specs.declared.language.Commands.{Commands}
-use Rattle.moc_lines.specs.Answers.{Rules}
-use Rattle.moc_lines.specs.Scripts.{script_rules}
-use Rattle.moc_lines.specs.declared.fault.Fault.{Fault}
+use Rattle.moc_lines.specs.Runs.{Rules, script_rules}
+use Rattle.moc_lines.specs.declared.fault.LineFault.{LineFault}
 use Rattle.moc_lines.specs.declared.fault.ReadError.{ReadError}
 use Rattle.moc_lines.specs.declared.fault.ReadError.TheVariants as error
-use Rattle.moc_lines.specs.Readings.{ReadsText}
 use Rattle.moc_shared.specs.declared.record.Entry.{Entry}
 use Rattle.moc_shared.specs.History.{entry, own_with}
 use Rattle.moc_script.specs.Private.LaneWork.{IsQuiet, Asks, DoesLine, Does}
@@ -22,9 +18,9 @@ use Rattle.moc_shared.specs.declared.map.SharedMap.{SharedMap}
 use Rattle.moc_shared.specs.Clients.{EndsWaiting}
 use Rattle.moc_shared.specs.Batches.{BatchEntry, BatchRecord, answer as object}
 
-module _ (says : List ℕ → Result Command Fault) where
+module _ (says : List ℕ → Result Command LineFault) where
   -- a line that is not blank is answered as what it says
-  says_line : (a : NumberSet) (line : List ℕ) (r : Result (List Command) Fault) → is_blank_text line ≡ false → batch_of says line ≡ r
+  says_line : (a : NumberSet) (line : List ℕ) (r : Result (List Command) LineFault) → is_blank_text line ≡ false → batch_of says line ≡ r
       → (line_answer says a line ≡ answer_to a r) × (after_line says a line ≡ after_batch a r)
   says_line a line r said is = (
     ap (λ (b : Bool). if b then [] else answer_to a (batch_of says line)) said ∙ ap (answer_to a) is,
@@ -48,10 +44,10 @@ said_line client line commands old new before after said is (replies, text, made
     (answer, text, (e ∷ [], inr (e, refl, asks_line line e answer said is refl), made))
 
 -- and one at fault changes nothing
-quiet_line : (line : List ℕ) (fault : Fault) → is_blank_text line ≡ false → batch_of command_of line ≡ Err fault → IsQuiet object script_rules line (fault_answer fault)
+quiet_line : (line : List ℕ) (fault : LineFault) → is_blank_text line ≡ false → batch_of command_of line ≡ Err fault → IsQuiet object script_rules line (fault_answer fault)
 quiet_line line fault said is s = says_line command_of s line (Err fault) said is
 
-pub quiet_read : (line : List ℕ) (e : ReadError) (fault : Fault) → e ≡ error.Fault fault → is_blank_text line ≡ false
+pub quiet_read : (line : List ℕ) (e : ReadError) (fault : LineFault) → e ≡ error.Fault fault → is_blank_text line ≡ false
     → ReadsText {X = Commands} commands_in (Err e) (batch_of command_of line) → IsQuiet object script_rules line (fault_answer fault)
 quiet_read line e fault is said reads =
     quiet_line line fault said (subst (λ (x : ReadError). ReadsText {X = Commands} commands_in (Err x) (batch_of command_of line)) is reads)

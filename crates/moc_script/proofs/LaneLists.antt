@@ -1,9 +1,11 @@
 -- Elements that are dealt to lanes.
-use Rattle.std.proofs.Common.{◌≡◌, ◌≢◌, ◌⊎◌, inl, inr, ℕ, zero, suc, ◌+◌, ◌-◌, ◌%◌, ◌<◌, ◌≤◌, ◌==◌, eq-eqb, ne_eqb, Bool, true, false, if◌then◌else◌, List, [], ◌∷◌, ◌++◌, length, refl, sym, ap, ◌∙◌, arith, append-nil, append_assoc, length-append, take, drop, length-take, length-drop, add-one}
+use Rattle.std.proofs.Common.{◌≡◌, ◌≢◌, ◌⊎◌, inl, inr, ℕ, zero, suc, ◌+◌, ◌-◌, ◌%◌, ◌<◌, ◌≤◌, ◌==◌, eq-eqb, ne_eqb}
+use Rattle.std.proofs.Common.{Bool, true, false, if◌then◌else◌, List, [], ◌∷◌, ◌++◌, length, refl, sym, ap, ◌∙◌, arith}
+use Rattle.std.proofs.Common.{append-nil, append_assoc, length-append, take, drop, length-take, length-drop, add-one}
 use Rattle.std.proofs.lemmas.Bool.{cases_lt}
 use Rattle.std.proofs.Math.Nat.{mod-one, mod-lt, mod-eq_of_lt, mod_self, suc-mod}
 use Rattle.std.proofs.lemmas.List.{take-append-drop}
-use Rattle.moc_script.specs.Merges.{InLane, placed, in_lane, dealt_from, dealt}
+use Rattle.moc_script.specs.Crews.{InLane, placed, in_lane, dealt_from, dealt}
 use Rattle.moc_script.specs.Private.Input.{in_turn}
 
 -- the next number's rest is one more, or 0 behind the greatest

@@ -1,10 +1,12 @@
 -- The lines of a lane by their numbers, and those at which memory is refused.
-use Rattle.std.proofs.Common.{◌≡◌, ◌∙◌, inl, inr, ℕ, suc, ◌+◌, ◌-◌, ◌<◌, ◌≤◌, ◌⊎◌, Bool, true, false, cond, if◌then◌else◌, List, [], ◌∷◌, ◌++◌, length, take, get_or, Contains, Option, None, Some, Result, Ok, Err, sym, ap, subst, arith, append_assoc, length-append}
+use Rattle.std.proofs.Common.{◌≡◌, ◌∙◌, inl, inr, ℕ, suc, ◌+◌, ◌-◌, ◌<◌, ◌≤◌, ◌⊎◌, Bool, true, false, cond, not}
+use Rattle.std.proofs.Common.{if◌then◌else◌, List, [], ◌∷◌, ◌++◌, length, take, get_or, Contains, Option, None, Some}
+use Rattle.std.proofs.Common.{Result, Ok, Err, sym, ap, subst, arith, append_assoc, length-append}
 use Rattle.std.specs.List.{onto_first}
 use Rattle.std.proofs.lemmas.List.{get_or-append_right, take_more}
 use Rattle.std.proofs.lemmas.List.Elements.{Contains-append_left, Contains-push, Contains-push_cases}
 use Rattle.moc_text.specs.Lines.{is_line_feed, lines_of}
-use Rattle.moc_lines.specs.Words.{is_blank_text}
+use Rattle.moc_lines.specs.Language.{is_blank_text}
 use Rattle.moc_script.specs.Crews.{IsSaidLine, said_lines}
 use Rattle.moc_script.specs.Private.Input.{HasPassed, Passes, in_turn}
 use Rattle.moc_script.specs.Private.Gathering.{IsFirstUnfinished}
@@ -152,13 +154,13 @@ module _ (others : ℕ) (text line rest : List ℕ) (parts : lines_of text ≡ l
   pub blank_passed : (turn : ℕ) → is_blank_text line ≡ true → in_turn others turn (said_lines (lines_of rest)) ≡ in_turn others turn (said_lines (lines_of text))
   blank_passed turn blank =
       sym (ap (λ (l : List (List ℕ)). in_turn others turn (said_lines l)) parts
-      ∙ ap (λ (b : Bool). in_turn others turn (if b then said_lines (lines_of rest) else line ∷ said_lines (lines_of rest))) blank)
+      ∙ ap (λ (b : Bool). in_turn others turn (if not b then line ∷ said_lines (lines_of rest) else said_lines (lines_of rest))) blank)
 
   -- a line of another lane is passed
   pub turn_passed : (turn less : ℕ) → turn ≡ suc less → is_blank_text line ≡ false → in_turn others less (said_lines (lines_of rest)) ≡ in_turn others turn (said_lines (lines_of text))
   turn_passed turn less is said =
       sym (ap (λ (l : List (List ℕ)). in_turn others turn (said_lines l)) parts
-      ∙ ap (λ (b : Bool). in_turn others turn (if b then said_lines (lines_of rest) else line ∷ said_lines (lines_of rest))) said
+      ∙ ap (λ (b : Bool). in_turn others turn (if not b then line ∷ said_lines (lines_of rest) else said_lines (lines_of rest))) said
       ∙ ap (λ (n : ℕ). in_turn others n (line ∷ said_lines (lines_of rest))) is)
 
   -- one more line is counted

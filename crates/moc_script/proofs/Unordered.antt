@@ -1,16 +1,17 @@
 -- A line without `@` has no order in it.
-use Rattle.std.proofs.Common.{◌≡◌, ℕ, ◌||◌, Bool, true, false, cond, List, [], ◌∷◌, take, drop, length, Err, refl, sym, ap, ◌∙◌, ltb}
+use Rattle.std.proofs.Common.{◌≡◌, ℕ, ◌||◌, Bool, true, false, cond, List, [], ◌∷◌, take, drop, length, Err, refl, sym}
+use Rattle.std.proofs.Common.{ap, ◌∙◌, ltb}
 use Rattle.std.specs.List.{list_any, onto_first, prefix_len, position_or_len, AllByRecursion}
 use Rattle.std.proofs.lemmas.List.{take-append-drop}
 use Rattle.std.proofs.lemmas.List.Folds.{list_any-append}
 use Rattle.std.proofs.lemmas.List.Splits.{slice_split-cons_no, slice_split-cons_yes}
-use Rattle.moc_lines.specs.Words.{is_blank_text, is_line_blank, without_blanks, word_of, behind_word}
+use Rattle.moc_lines.specs.Language.{is_blank_text, is_line_blank, without_blanks, word_of, behind_word}
 use Rattle.moc_lines.specs.Language.{plain_operand_of, operand_by, ordered_operand_of, command_by, command_of}
+use Rattle.moc_lines.specs.Language.{piece_says, commands_of, batch_of, answer_to, after_batch}
 use Rattle.moc_text.specs.Lines.{is_semicolon, pieces_of}
-use Rattle.moc_lines.specs.Batches.{piece_says, commands_of, batch_of, answer_to, after_batch}
 use Rattle.moc_script.proofs.Single.{first_then}
 use Rattle.moc_script.specs.Laws.{is_at_sign, LinesWithoutOrder}
-use Rattle.moc_lines.specs.declared.fault.Fault.TheVariants.{EmptyCommand, TooManyCommands}
+use Rattle.moc_lines.specs.declared.fault.LineFault.TheVariants.{EmptyCommand, TooManyCommands}
 
 pub neither : (a b : Bool) → a || b ≡ false → (a ≡ false) × (b ≡ false)
 neither true b e = cc

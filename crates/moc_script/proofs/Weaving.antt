@@ -1,11 +1,11 @@
 -- A legal history whose calls are those of the lanes' lines is a merge of the lanes, lines without a call among them.
-use Rattle.std.proofs.Common.{◌≡◌, ◌≢◌, inl, inr, ℕ, zero, suc, ◌<◌, ◌≤◌, ◌==◌, eq-eqb, ne_eqb, Bool, cond, if◌then◌else◌, List, [], ◌∷◌, Contains, refl, sym, ap, ◌∙◌, subst, arith}
+use Rattle.std.proofs.Common.{◌≡◌, ◌≢◌, inl, inr, ℕ, zero, suc, ◌<◌, ◌≤◌, ◌==◌, eq-eqb, ne_eqb, Bool, cond}
+use Rattle.std.proofs.Common.{if◌then◌else◌, List, [], ◌∷◌, Contains, refl, sym, ap, ◌∙◌, subst, arith}
 use native.Mathlib.Decide.{ℕ_discrete}
 use Rattle.moc_shared.specs.declared.record.Entry.{Entry}
-use Rattle.moc_shared.specs.History.{calls_of, result, IsLegal}
-use Rattle.moc_lines.specs.Answers.{Rules}
-use Rattle.moc_script.specs.Merges.{InLane, placed, in_lane}
-use Rattle.moc_script.specs.Crews.{answers_in, left_by}
+use Rattle.moc_shared.specs.History.{calls_of, state_after, IsLegal}
+use Rattle.moc_lines.specs.Runs.{Rules}
+use Rattle.moc_script.specs.Crews.{InLane, placed, in_lane, answers_in, left_by}
 use Rattle.moc_script.specs.Private.LaneWork.{Asks, Does}
 
 module _ {A : Type 0} where
@@ -154,10 +154,10 @@ module _ {S O R : Type 0} (object : S → O → S × R) (rules : Rules S) where
   -- A legal history of the clients below n, in which each client's calls are those of its lane's lines: there is an
   -- order of all lines.
   pub weave : (n : ℕ) (log : List (Entry O R)) (s : S) → IsLegal object s log → ((e : Entry O R) → Contains log e → e.client < n)
-      → (lines texts : ℕ → List (List ℕ)) → AreDone lines log texts → AreBelow n lines → Woven s lines texts (result object s log)
+      → (lines texts : ℕ → List (List ℕ)) → AreDone lines log texts → AreBelow n lines → Woven s lines texts (state_after object s log)
   weave n [] s legal named lines texts does below = flush n s lines texts does below
   weave n (e ∷ log) s legal named lines texts does below =
-      next_call n e log s (result object (object s e.operation).0 log) (named e (0, omega arith, refl)) legal.0
+      next_call n e log s (state_after object (object s e.operation).0 log) (named e (0, omega arith, refl)) legal.0
       (weave n log (object s e.operation).0 legal.1 (λ f i. named f (suc i.0, (let low = i.1 in omega arith), i.2)))
       (lines e.client) (texts e.client) lines texts refl refl below
       (λ d other. subst (λ (q : List (Entry O R)). Does object rules (lines d) q (texts d)) (calls_of-else e log d other) (does d))

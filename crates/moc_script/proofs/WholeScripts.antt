@@ -1,5 +1,6 @@
 -- Languages that answer each line alike answer scripts and schedules alike.
-use Rattle.std.proofs.Common.{◌≡◌, ℕ, Bool, true, false, cond, List, [], ◌∷◌, ◌++◌, Result, Ok, Err, codes, refl, sym, ap, ◌∙◌}
+use Rattle.std.proofs.Common.{◌≡◌, ℕ, Bool, true, false, cond, List, [], ◌∷◌, ◌++◌, Result, Ok, Err, codes, refl, sym}
+use Rattle.std.proofs.Common.{ap, ◌∙◌}
 use Rattle.std.specs.List.{AllByRecursion, list_all, list_any, onto_first, take_while}
 use Rattle.std.specs.Str.{bytes_eq}
 use Rattle.std.specs.FinSet as set
@@ -7,19 +8,20 @@ use Rattle.std.proofs.lemmas.List.Sums.{take_while-cons}
 use Rattle.moc_text.specs.Lines.{is_line_feed, lines_of, is_semicolon}
 use Rattle.moc_ranges.specs.Numbers.{NumberSet}
 use Rattle.moc_parts.specs.declared.command.Command.{Command}
-use Rattle.moc_steps.specs.Locks.Step.{Begin}
-use Rattle.moc_lines.specs.Answers.{Rules, is_within, answers_to, after_lines, script_text}
-use Rattle.moc_lines.specs.Words.{is_blank_text, word_of, behind_word}
-use Rattle.moc_lines.specs.Batches.{batch_of}
-use Rattle.moc_lines.specs.Language.{◌>>=◌, command_of, command_by, plain_operand_of}
-use Rattle.moc_script.specs.Steps.{BatchStep, as_in_script, client_by, begin_of, other_step, said_by, said_step}
-use Rattle.moc_script.specs.Schedules.{Schedule, next_line, answer_to_step, after_said, last_lines, step_rules, start_schedule}
-use Rattle.moc_lines.specs.declared.fault.Fault.{Fault}
-use Rattle.moc_lines.specs.declared.fault.Fault.TheVariants.{WrongCount}
+use Rattle.moc_steps.specs.Machine.Step.{Begin}
+use Rattle.moc_lines.specs.Runs.{Rules, is_within, answers_to, after_lines, script_text, line_limit, script_rules}
+use Rattle.moc_lines.specs.Language.{is_blank_text, word_of, behind_word, batch_of, ◌>>=◌, command_of, command_by}
+use Rattle.moc_lines.specs.Language.{plain_operand_of}
+use Rattle.moc_script.specs.Schedules.{BatchStep, as_in_script, client_by, begin_of, other_step, said_by, said_step}
+use Rattle.moc_script.specs.Schedules.{Schedule, next_line, answer_to_step, after_said, last_lines, step_rules}
+use Rattle.moc_script.specs.Schedules.{start_schedule}
+use Rattle.moc_lines.specs.declared.fault.LineFault.{LineFault}
+use Rattle.moc_lines.specs.declared.fault.LineFault.TheVariants.{WrongCount}
 use Rattle.moc_script.specs.declared.fault.StepFault.{StepFault}
 use Rattle.moc_script.specs.declared.fault.StepFault.TheVariants.{Line}
-use Rattle.moc_lines.specs.Scripts.{line_limit, script_rules}
-use Rattle.moc_script.specs.Laws.{single_answer, after_single, single_rules, plain_rules, is_at_sign, one_command, ScriptsOfSingleCommands, ScriptsWithoutOrder, SchedulesOfSingleCommands, SchedulesWithoutOrder}
+use Rattle.moc_script.specs.Laws.{single_answer, after_single, single_rules, plain_rules, is_at_sign, one_command}
+use Rattle.moc_script.specs.Laws.{ScriptsOfSingleCommands, ScriptsWithoutOrder, SchedulesOfSingleCommands}
+use Rattle.moc_script.specs.Laws.{SchedulesWithoutOrder}
 use Rattle.moc_script.proofs.Single.{batch-single, lines_of_one_command}
 use Rattle.moc_script.proofs.Unordered.{neither, onto, none_behind, batch_plain, lines_without_order}
 
@@ -100,9 +102,9 @@ module _ (says others : List ℕ → Result BatchStep StepFault) (Q : List ℕ �
       (same_left (step_rules says) (step_rules others) Q same_step start_schedule lines each)
 
 -- Lines whose batches say the same say the same.
-begin_alike : (batch other : List ℕ → Result (List Command) Fault) (text : List ℕ) → (is_blank_text (behind_word text) ≡ false → batch (behind_word text) ≡ other (behind_word text)) → begin_of batch text ≡ begin_of other text
+begin_alike : (batch other : List ℕ → Result (List Command) LineFault) (text : List ℕ) → (is_blank_text (behind_word text) ≡ false → batch (behind_word text) ≡ other (behind_word text)) → begin_of batch text ≡ begin_of other text
 begin_alike batch other text same =
-    let begun : Result (List Command) Fault → Result BatchStep StepFault = λ r. client_by (word_of text) >>= (λ c. as_in_script r >>= (λ commands. Ok (Begin c commands))) in
+    let begun : Result (List Command) LineFault → Result BatchStep StepFault = λ r. client_by (word_of text) >>= (λ c. as_in_script r >>= (λ commands. Ok (Begin c commands))) in
     let step : (b : Bool) → is_blank_text (behind_word text) ≡ b → cond b (Err (Line WrongCount)) (begun (batch (behind_word text))) ≡ cond b (Err (Line WrongCount)) (begun (other (behind_word text))) =
     λ b. elim b as (λ v. is_blank_text (behind_word text) ≡ v → cond v (Err (Line WrongCount)) (begun (batch (behind_word text))) ≡ cond v (Err (Line WrongCount)) (begun (other (behind_word text)))) [
       | true ↦ λ is. refl
@@ -110,7 +112,7 @@ begin_alike batch other text same =
     ] in
     step (is_blank_text (behind_word text)) refl
 
-said_alike : (batch other : List ℕ → Result (List Command) Fault) (line : List ℕ) → (is_blank_text (behind_word (behind_word line)) ≡ false → batch (behind_word (behind_word line)) ≡ other (behind_word (behind_word line))) → said_by batch line ≡ said_by other line
+said_alike : (batch other : List ℕ → Result (List Command) LineFault) (line : List ℕ) → (is_blank_text (behind_word (behind_word line)) ≡ false → batch (behind_word (behind_word line)) ≡ other (behind_word (behind_word line))) → said_by batch line ≡ said_by other line
 said_alike batch other line same =
     ap (λ r. cond (bytes_eq (word_of line) (codes "begin")) r (other_step (word_of line) (behind_word line))) (begin_alike batch other (behind_word line) same)
 

@@ -1,22 +1,50 @@
 -- What a crew of lanes may answer, and what it has written when it ends.
-use Rattle.std.specs.Prelude.{◌≡◌, ◌⊎◌, ◌<◌, ◌≤◌, ◌+◌, ◌-◌, ℕ, false, List, [], ◌∷◌, ◌++◌, length, slice_index_or}
-use Rattle.std.specs.Prelude.{Option, Some, Result, Ok, Err, if◌then◌else◌}
+use Rattle.std.specs.Prelude.{◌≡◌, ◌==◌, ◌%◌, ℕ, suc, List, [], ◌∷◌, if◌then◌else◌, ◌⊎◌, ◌<◌, ◌≤◌, ◌+◌, ◌-◌, false}
+use Rattle.std.specs.Prelude.{◌++◌, length, slice_index_or, Option, Some, Result, Ok, Err, not, filter, fold}
 use Rattle.std.specs.FinSet as set
 use Rattle.std.specs.Io.KnownBytes.{Appends, Consumes, Keeps}
 use Rattle.moc_devices.specs.Devices.{CallsMore}
 use Rattle.std.specs.List.{concat}
 use Rattle.moc_ranges.specs.Numbers.{NumberSet}
 use Rattle.moc_text.specs.Lines.{lines_of}
-use Rattle.moc_lines.specs.Words.{is_blank_text}
-use Rattle.moc_lines.specs.Replies.{cover_text}
-use Rattle.moc_lines.specs.Answers.{Rules}
-use Rattle.moc_lines.specs.Runs.{AreWithin, IsTooLong, IsBegunLine, Flushes}
-use Rattle.moc_lines.specs.Scripts.{line_limit, script_rules}
-use Rattle.moc_script.specs.Merges.{InLane, placed, dealt, IsMerge}
+use Rattle.moc_lines.specs.Language.{is_blank_text, cover_text}
+use Rattle.moc_lines.specs.Runs.{Rules, AreWithin, IsTooLong, IsBegunLine, Flushes, line_limit, script_rules}
 use Rattle.moc_lines.specs.declared.run_error.RunError.TheVariants.{Read, Write, LineTooLong, Memory}
 use Rattle.moc_script.specs.declared.crew_error.CrewError.{CrewError}
 use Rattle.moc_script.specs.declared.crews.lanes.Lanes.{Lanes}
 use Rattle.moc_script.specs.declared.crew_error.CrewError.TheVariants.{Run, Spawn}
+
+-- Lists that are dealt to lanes, and merges of lanes
+
+-- an element, and the lane that has it
+pub record InLane (A : Type 0) : Type 0 where
+  pub lane : ℕ
+  pub it : A
+
+module _ {A : Type 0} where
+  -- an element in a lane
+  abbrev pub placed : ℕ → A → InLane A
+  placed lane x = record { lane = lane; it = x }
+
+  -- what a lane has, in order
+  abbrev pub in_lane : ℕ → List (InLane A) → List A
+  in_lane lane [] = []
+  in_lane lane (x ∷ xs) = if x.lane == lane then x.it ∷ in_lane lane xs else in_lane lane xs
+
+  -- elements dealt to lanes in turn, the first of them to the lane j mod lanes
+  abbrev pub dealt_from : ℕ → ℕ → List A → List (InLane A)
+  dealt_from lanes j [] = []
+  dealt_from lanes j (x ∷ xs) = placed (j % lanes) x ∷ dealt_from lanes (suc j) xs
+
+  -- elements dealt to lanes: the j-th, counted from 0, to the lane j mod lanes
+  abbrev pub dealt : ℕ → List A → List (InLane A)
+  dealt lanes xs = dealt_from lanes 0 xs
+
+  -- both have the same in each lane, in the same order: each is a merge of the other's lanes
+  abbrev pub IsMerge : List (InLane A) → List (InLane A) → Type 0
+  IsMerge xs ys = (lane : ℕ) → in_lane lane xs ≡ in_lane lane ys
+
+-- The text of a crew
 
 -- how many lanes there are
 abbrev pub lane_count : Lanes → ℕ
@@ -24,8 +52,7 @@ lane_count lanes = lanes.number
 
 -- the lines that are not blank
 abbrev pub said_lines : List (List ℕ) → List (List ℕ)
-said_lines [] = []
-said_lines (line ∷ lines) = if is_blank_text line then said_lines lines else line ∷ said_lines lines
+said_lines lines = filter (λ line. not (is_blank_text line)) lines
 
 module _ {S : Type 0} (rules : Rules S) where
   -- the answers to lines that are done in this order, each on what those before it leave
@@ -35,8 +62,7 @@ module _ {S : Type 0} (rules : Rules S) where
 
   -- what lines leave that are done in this order
   abbrev pub left_by : S → List (InLane (List ℕ)) → S
-  left_by s [] = s
-  left_by s (x ∷ xs) = left_by (rules.after s x.it) xs
+  left_by s xs = fold (λ t x. rules.after t x.it) s xs
 
 -- the line that ends a crew's text: the cover of the set
 abbrev pub cover_line : NumberSet → List ℕ

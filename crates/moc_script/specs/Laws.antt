@@ -7,29 +7,24 @@ use Rattle.moc_ranges.specs.Numbers.{NumberSet}
 use Rattle.moc_parts.specs.Batches.{batches}
 use Rattle.moc_parts.specs.Commands.{reply_on, set_after}
 use Rattle.moc_parts.specs.declared.command.Command.{Command}
-use Rattle.moc_steps.specs.Operations.{operations, midway}
-use Rattle.moc_steps.specs.World.{whole}
-use Rattle.moc_steps.specs.Explains.{Explains, set_by_order}
+use Rattle.moc_steps.specs.Orders.{operations, midway, Explains, set_by_order}
+use Rattle.moc_steps.specs.Machine.{whole}
 use Rattle.moc_steps.specs.Laws.{ArePlayed, led_to}
-use Rattle.moc_lines.specs.Words.{is_blank_text}
-use Rattle.moc_lines.specs.Faults.{fault_answer}
-use Rattle.moc_lines.specs.Language.{◌>>=◌, plain_operand_of, command_by, command_of}
-use Rattle.moc_lines.specs.Replies.{reply_text}
+use Rattle.moc_lines.specs.Language.{is_blank_text, fault_answer, ◌>>=◌, plain_operand_of, command_by, command_of}
+use Rattle.moc_lines.specs.Language.{reply_text, batch_of}
 use Rattle.moc_text.specs.Lines.{is_semicolon}
-use Rattle.moc_lines.specs.Batches.{batch_of, line_answer, after_line}
-use Rattle.moc_lines.specs.Answers.{Rules, after_lines, script_text}
-use Rattle.moc_lines.specs.Scripts.{line_limit, script_rules, answers_of}
-use Rattle.moc_script.specs.Steps.{BatchStep, said_by}
-use Rattle.moc_script.specs.Schedules.{Schedule, step_rules, schedule_rules, start_schedule, steps_taken, schedule_text}
-use Rattle.moc_lines.specs.declared.fault.Fault.{Fault}
+use Rattle.moc_lines.specs.Runs.{Rules, after_lines, script_text, line_limit, rules_by, script_rules, answers_of}
+use Rattle.moc_script.specs.Schedules.{BatchStep, said_by, Schedule, step_rules, schedule_rules, start_schedule}
+use Rattle.moc_script.specs.Schedules.{steps_taken, schedule_text}
+use Rattle.moc_lines.specs.declared.fault.LineFault.{LineFault}
 
 -- the answer to a single command
-abbrev pub single_answer : NumberSet → Result Command Fault → List ℕ
+abbrev pub single_answer : NumberSet → Result Command LineFault → List ℕ
 single_answer a (Ok command) = reply_text (reply_on a command) ++ 10 ∷ []
 single_answer a (Err fault) = fault_answer fault
 
 -- what a single command leaves
-abbrev pub after_single : NumberSet → Result Command Fault → NumberSet
+abbrev pub after_single : NumberSet → Result Command LineFault → NumberSet
 after_single a (Ok command) = set_after a command
 after_single a (Err fault) = a
 
@@ -46,9 +41,7 @@ is_at_sign b = b == 64
 
 -- the language without orders: an operand is a coverage alone
 abbrev pub plain_rules : Rules NumberSet
-plain_rules =
-    let says = command_by plain_operand_of in
-    record { answer = line_answer says; after = after_line says; closing = λ _. [] }
+plain_rules = rules_by (command_by plain_operand_of)
 
 -- A line without `@` is answered as in the language without orders, and leaves the same.
 abbrev pub LinesWithoutOrder : Type 0
@@ -77,7 +70,7 @@ ScriptsWithoutOrder =
     → answers_of input ≡ script_text plain_rules line_limit set.empty input
 
 -- a batch of just the command that a text says
-abbrev pub one_command : List ℕ → Result (List Command) Fault
+abbrev pub one_command : List ℕ → Result (List Command) LineFault
 one_command text = do
   command ← command_of text
   Ok (command ∷ [])

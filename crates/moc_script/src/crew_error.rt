@@ -1,6 +1,6 @@
 //! Why a crew ends early.
 ghost use Rattle.std.specs.Prelude.{◌≡◌};
-ghost use Rattle.moc_lines.specs.Inputs.{error_of_input};
+ghost use Rattle.moc_lines.specs.Runs.{error_of_input};
 ghost use Rattle.moc_script.specs.declared.crew_error.CrewError.TheVariants as crew;
 
 use moc_lines::{InputError, RunError};

@@ -1,7 +1,7 @@
 //! Scripts that several threads answer.
-ghost use Rattle.std.specs.Prelude.{◌≡◌, ◌≢◌, ◌⊎◌, ◌<◌, ◌≤◌, ◌↔◌, ℕ, List, false, IfOk, IfSome, IfErr, OnOk, OnErr};
+ghost use Rattle.std.specs.Prelude.{◌≡◌, ◌≢◌, ◌<◌, ◌↔◌, false, IfOk, IfSome, IfErr, OnOk, OnErr};
 ghost use Rattle.std.specs.Prelude.{Err, IsErrOf, IsTrue, length};
-ghost use Rattle.std.specs.Io.KnownBytes.{IsAtEnd};
+ghost use Rattle.moc_lines.specs.Runs.{EndsFlushed};
 ghost use Rattle.moc_text.specs.Lines.{lines_of};
 ghost use Rattle.moc_script.specs.Crews.{CrewEnds, CrewFlushes, cover_line, lane_count, said_lines};
 ghost use Rattle.moc_script.specs.Private.Gathering.{NamesLine};
@@ -118,9 +118,7 @@ pub fn crew<R: Source, W: Sink, G: Gate + Sync, T: Threads + Wait + Sync>(
         CrewEnds (lane_count lanes) input (R.left reader.new) (W.written writer.old) (W.written writer.new) result) }
 
     // Only the reader's end ends a crew without a fault, and then all is flushed, at once.
-    ensures end { OnOk result (IsAtEnd (R.left reader.new)) }
-    ensures flushed { OnOk result (IsTrue (W.flushed writer.new)) }
-    ensures unflushed { OnErr result (IsTrue (W.flushed writer.new) → IsTrue (W.flushed writer.old)) }
+    ensures end { EndsFlushed result (R.left reader.new) (W.flushed writer.old) (W.flushed writer.new) }
     ensures flushes { CrewFlushes result (W.flushes writer.old) (W.flushes writer.new) }
 
     // The devices' faults are theirs, and a device that failed is told.

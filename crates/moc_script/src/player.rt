@@ -1,11 +1,10 @@
 //! The answers to lines, by the step machine.
 ghost use Rattle.std.specs.Prelude.{◌≡◌, ◌++◌, ◌∷◌, [], IfOk, Ok, OnOk, codes, get_or};
-ghost use Rattle.moc_steps.specs.Locks.{refusal};
+ghost use Rattle.moc_steps.specs.Machine.{refusal};
 ghost use Rattle.moc_steps.specs.Played.{entries_of, step_of};
 ghost use Rattle.moc_parts.specs.Batches.{batches};
-ghost use Rattle.moc_script.specs.Refusals.{refusal_name};
-ghost use Rattle.moc_script.specs.Schedules.{after_step, answer_to_step, begin_lines, done_text, end_text};
-ghost use Rattle.moc_script.specs.Schedules.{schedule_rules, start_schedule};
+ghost use Rattle.moc_script.specs.Schedules.{refusal_name, after_step, answer_to_step, begin_lines, done_text};
+ghost use Rattle.moc_script.specs.Schedules.{end_text, schedule_rules, start_schedule};
 
 use crate::fault::{ReadStepError, push_step_fault};
 use crate::step::read_step;

@@ -1,8 +1,7 @@
 //! Schedules of steps, played from a reader to a writer.
-ghost use Rattle.std.specs.Prelude.{◌≡◌, ◌⊎◌, IfSome, IsTrue, ◌↔◌, false, OnOk, OnErr, IsErrOf};
-ghost use Rattle.std.specs.Io.KnownBytes.{Appends, IsAtEnd};
-ghost use Rattle.moc_lines.specs.Runs.{Flushes, Runs, WritesBeginning};
-ghost use Rattle.moc_lines.specs.Scripts.{line_limit};
+ghost use Rattle.std.specs.Prelude.{◌≡◌, IfSome, false, OnOk};
+ghost use Rattle.std.specs.Io.KnownBytes.{Appends};
+ghost use Rattle.moc_lines.specs.Runs.{EndsFlushed, Flushes, Runs, TellsFailed, WritesBeginning, line_limit};
 ghost use Rattle.moc_script.specs.Schedules.{schedule_rules, schedule_text, start_schedule};
 
 use crate::player::Player;
@@ -53,15 +52,11 @@ pub fn play<R: Source, W: Sink>(
         Appends (W.written writer.old) (W.written writer.new) (schedule_text input))) }
 
     // Only the reader's end ends it without a fault, and then all is flushed, at once.
-    ensures end { OnOk result (IsAtEnd (R.left reader.new)) }
-    ensures flushed { OnOk result (IsTrue (W.flushed writer.new)) }
-    ensures unflushed { OnErr result (IsTrue (W.flushed writer.new) → IsTrue (W.flushed writer.old)) }
+    ensures end { EndsFlushed result (R.left reader.new) (W.flushed writer.old) (W.flushed writer.new) }
     ensures flushes { Flushes result (W.flushes writer.old) (W.flushes writer.new) }
 
     // The devices' faults are theirs, and a device that failed is told.
-    ensures read { IsErrOf result RunError.Read → IsTrue (R.mark reader.new) }
-    ensures write { IsErrOf result RunError.Write ↔ IsTrue (W.mark writer.new) }
-    ensures told { IsTrue (R.mark reader.new) → IsErrOf result RunError.Read ⊎ IsErrOf result RunError.Write }
+    ensures devices { TellsFailed result (R.mark reader.new) (W.mark writer.new) }
 {
     let Ok(mut player) = Player::new(alloc) else {
         return Err(RunError::Memory { line: 0 });

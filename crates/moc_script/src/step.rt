@@ -1,15 +1,14 @@
 //! The steps that lines of a schedule say.
 ghost use Rattle.std.specs.Prelude.{◌≤◌, SomeIff};
 ghost use Rattle.moc_steps.specs.Played.{step_of};
-ghost use Rattle.moc_lines.specs.Batches.{batch_of};
-ghost use Rattle.moc_lines.specs.Language.{command_of};
-ghost use Rattle.moc_script.specs.Steps.{begin_by, begin_of, client_by, client_and_part_by, only_client};
-ghost use Rattle.moc_script.specs.Steps.{only_client_and_part, said_step};
+ghost use Rattle.moc_lines.specs.Language.{batch_of, command_of};
+ghost use Rattle.moc_script.specs.Schedules.{begin_by, begin_of, client_by, client_and_part_by, only_client};
+ghost use Rattle.moc_script.specs.Schedules.{only_client_and_part, said_step};
 ghost use Rattle.moc_script.specs.Private.StepReading.{ReadsStep};
 
 use crate::fault::{ReadStepError, StepFault};
 use moc_lines::{
-    Fault, is_blank_text, is_word, number_in, only_field, read_batch, split_word, two_fields,
+    LineFault, is_blank_text, is_word, number_in, only_field, read_batch, split_word, two_fields,
 };
 use moc_parts::Part;
 use moc_steps::Step;
@@ -33,7 +32,7 @@ fn part_of_number(number: u64) -> Option<Part>
 fn read_client(field: &[u8]) -> Result<u32, ReadStepError>
     ensures { ReadsStep (λ client. client) result (client_by field.now) }
 {
-    let number = number_in(field).ok_or(Fault::BadNumber)?;
+    let number = number_in(field).ok_or(LineFault::BadNumber)?;
     let client = client_of_number(number).ok_or(StepFault::ClientTooLarge)?;
     Ok(client)
 }
@@ -42,8 +41,8 @@ fn read_client(field: &[u8]) -> Result<u32, ReadStepError>
 fn read_client_and_part(client: &[u8], part: &[u8]) -> Result<(u32, Part), ReadStepError>
     ensures { ReadsStep (λ both. both) result (client_and_part_by client.now part.now) }
 {
-    let client = number_in(client).ok_or(Fault::BadNumber)?;
-    let part = number_in(part).ok_or(Fault::BadNumber)?;
+    let client = number_in(client).ok_or(LineFault::BadNumber)?;
+    let part = number_in(part).ok_or(LineFault::BadNumber)?;
     let client = client_of_number(client).ok_or(StepFault::ClientTooLarge)?;
     let part = part_of_number(part).ok_or(StepFault::PartTooLarge)?;
     Ok((client, part))
@@ -71,7 +70,7 @@ fn read_begin(alloc: Global, text: &[u8]) -> Result<Step, ReadStepError>
 {
     let (field, line) = split_word(text);
     if is_blank_text(line) {
-        return Err(Fault::WrongCount.into());
+        return Err(LineFault::WrongCount.into());
     }
     let client = read_client(field)?;
     let batch = read_batch(alloc, line)?;
@@ -101,6 +100,6 @@ pub(crate) fn read_step(alloc: Global, line: &[u8]) -> Result<Step, ReadStepErro
         let client = only_client(text)?;
         Ok(Step::End { client })
     } else {
-        Err(Fault::UnknownWord.into())
+        Err(LineFault::UnknownWord.into())
     }
 }

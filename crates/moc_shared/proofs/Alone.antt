@@ -18,8 +18,9 @@ use Rattle.moc_parts.specs.declared.command.Command.{Command}
 use Rattle.moc_parts.specs.declared.reply.Reply.{Reply}
 use Rattle.moc_shared.specs.declared.map.SharedMap.{SharedMap}
 use Rattle.moc_shared.specs.History.{entry, IsLegal}
-use Rattle.moc_shared.specs.Rule.{note, IsOne}
-use Rattle.moc_shared.specs.Seats.{Pointer, PartNote, Sight, IsCarried, part, IsProper}
+use Rattle.moc_shared.specs.Seats.{note, Pointer, Sight}
+use Rattle.moc_shared.specs.Private.Rule.{IsOne}
+use Rattle.moc_shared.specs.Private.Seats.{PartNote, IsCarried, part, IsProper}
 use Rattle.moc_shared.specs.Private.Answering.{Answers}
 use Rattle.moc_shared.specs.Private.Held.{HoldsJust}
 use Rattle.moc_shared.specs.Private.Plays.{with_part, with_parts, with_misses, with_holds, marked_at}

@@ -15,7 +15,8 @@ use Rattle.moc_shared.specs.declared.record.Record.{Record}
 use Rattle.moc_shared.specs.declared.record.Note.{Note}
 use Rattle.moc_shared.specs.declared.record.View.{View}
 use Rattle.moc_shared.specs.History.{Fits, StandsFor, stood, newcomer}
-use Rattle.moc_shared.specs.Rule.{index, note, records, stood_in, stood_by, ViewFits, Kept}
+use Rattle.moc_shared.specs.Seats.{index, note}
+use Rattle.moc_shared.specs.Private.Rule.{records, stood_in, stood_by, ViewFits, Kept}
 use Rattle.moc_shared.specs.Private.Opening.{nobody, seat_for, newcomers, first_view}
 use Rattle.moc_shared.proofs.Basics.{here, none_in, only, cons_cases}
 

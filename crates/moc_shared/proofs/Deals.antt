@@ -17,8 +17,9 @@ use Rattle.moc_parts.specs.declared.reply.Reply.{Reply}
 use Rattle.moc_shared.specs.declared.map.SharedMap.{SharedMap}
 use Rattle.moc_shared.specs.declared.client.Client.{Client}
 use Rattle.moc_shared.specs.History.{StandsFor, newcomer}
-use Rattle.moc_shared.specs.Rule.{index, Kept}
-use Rattle.moc_shared.specs.Seats.{Pointer, Sight, content, part, IsProper}
+use Rattle.moc_shared.specs.Seats.{index, Pointer, Sight}
+use Rattle.moc_shared.specs.Private.Rule.{Kept}
+use Rattle.moc_shared.specs.Private.Seats.{content, part, IsProper}
 use Rattle.moc_shared.specs.Private.Plays.{first_alone}
 use Rattle.moc_shared.specs.Private.Opening.{seat_for, newcomers, first_view, rest_view}
 use Rattle.moc_shared.specs.Batches.{answer}

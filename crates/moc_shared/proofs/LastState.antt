@@ -7,8 +7,9 @@ use Rattle.atomic_table.specs.Table.{Final, Seen}
 use Rattle.moc_shared.specs.declared.record.Entry.{Entry}
 use Rattle.moc_shared.specs.declared.record.Note.{Note}
 use Rattle.moc_shared.specs.declared.record.View.{View}
-use Rattle.moc_shared.specs.History.{Fits, StandsFor, result, IsHistory}
-use Rattle.moc_shared.specs.Rule.{index, note, IsFree, IsHeld, Kept}
+use Rattle.moc_shared.specs.History.{Fits, StandsFor, state_after, IsHistory}
+use Rattle.moc_shared.specs.Seats.{index, note}
+use Rattle.moc_shared.specs.Private.Rule.{IsFree, IsHeld, Kept}
 use Rattle.moc_shared.proofs.Basics.{here, none_in}
 use Rattle.moc_shared.proofs.Apart.{stood_of, one_view}
 
@@ -21,15 +22,15 @@ module _ {S X O R Y : Type 0} (n : ℕ) (content : S → Y) (part : ℕ → X �
   -- no word is another where the client stands for all
   abbrev pub Ended_with : List ℕ → List S → V → Type 0
   Ended_with words xs v =
-      (log : List (Entry O R)) × IsHistory answer start clients log × Fits log v.mine × proper (result answer start log)
+      (log : List (Entry O R)) × IsHistory answer start clients log × Fits log v.mine × proper (state_after answer start log)
       × ((b : ℕ) (x : S) → b < n → slice_index words (index b) ≡ 0 → get_elem? xs (index b) ≡ some x
-      → content x ≡ part b (result answer start log))
+      → content x ≡ part b (state_after answer start log))
       × ((b : ℕ) → b < n → slice_index words (index b) ≢ 0 → ((c : ℕ) → c < clients → StandsFor v.mine c) → ⊥)
 
   pub closes : (words : List ℕ) (xs : List S) (id : ℕ) (v : V) → v.holds ≡ []
       → Final (Seen (λ s. Kept n content part answer proper start clients s) id v) words xs → Ended_with words xs v
   closes words xs id v idle (s, (k, at), same_words, long, values) =
-      let A = result answer start k.log in (
+      let A = state_after answer start k.log in (
         k.log,
         (k.legal, k.named),
         ((k.each_view id v at).fits v.mine (here v.mine v.others)).0,

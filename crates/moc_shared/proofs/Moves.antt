@@ -18,10 +18,11 @@ use Rattle.moc_shared.specs.declared.record.Entry.{Entry}
 use Rattle.moc_shared.specs.declared.record.Record.{Record}
 use Rattle.moc_shared.specs.declared.record.Note.{Note}
 use Rattle.moc_shared.specs.declared.record.View.{View}
-use Rattle.moc_shared.specs.History.{entry, Fits, StandsFor, stood, result, IsLegal, IsHistory}
-use Rattle.moc_shared.specs.Rule.{index, IsSpare, note, records, Present, stood_in, IsFree, IsHeld, Holding, ViewFits}
-use Rattle.moc_shared.specs.Rule.{Kept, noted_parts, IsOne}
-use Rattle.moc_shared.specs.Seats.{IsCarried}
+use Rattle.moc_shared.specs.History.{entry, Fits, StandsFor, stood, state_after, IsLegal, IsHistory}
+use Rattle.moc_shared.specs.Seats.{index, note}
+use Rattle.moc_shared.specs.Private.Rule.{IsSpare, records, Present, stood_in, IsFree, IsHeld, Holding, ViewFits}
+use Rattle.moc_shared.specs.Private.Rule.{Kept, noted_parts, IsOne}
+use Rattle.moc_shared.specs.Private.Seats.{IsCarried}
 use Rattle.moc_shared.specs.Private.Answering.{Answers}
 use Rattle.moc_shared.specs.Private.Plays.{with_part, with_miss, with_holds, with_entry, behind_first, TookPart, Took, Gave, Ended, EndsCall}
 use Rattle.moc_shared.proofs.Basics.{here, there, none_in, only, cons_cases, sum_set_same, stands_by, stood_with_call}
@@ -80,10 +81,10 @@ module _ {S X O R Y : Type 0} (n : ℕ) (content : S → Y) (part : ℕ → X �
       → (words : List ℕ) (homes : List (Option S)) (log : List (Entry O R))
       → IsLegal answer start log
       → ((r : Record O R) × Present (set s.views id w) r × (r.seen ≡ log))
-      → proper (result answer start log)
+      → proper (state_after answer start log)
       → ((e : Entry O R) → Contains log e → e.client < clients)
       → length words ≡ index n → length homes ≡ index n → ((k : ℕ) → IsSpare k → slice_index words k ≡ 0)
-      → ((b : ℕ) → b < n → IsFree content part (result answer start log) words homes b ⊎ IsHeld (set s.views id w) b)
+      → ((b : ℕ) → b < n → IsFree content part (state_after answer start log) words homes b ⊎ IsHeld (set s.views id w) b)
       → FitsIn log words homes w
       → ((j : ℕ) (u : V) → j ≢ id → get_elem? s.views j ≡ some u → FitsIn log words homes u)
       → Grows s.views v w
@@ -133,7 +134,7 @@ module _ {S X O R Y : Type 0} (n : ℕ) (content : S → Y) (part : ℕ → X �
     same_map = f.same_map;
     fits = f.fits;
     known = f.known;
-    holding = λ b' y i. held_apart (result answer start log) words homes u b x h b' y (f.holding b' y i) (apart b' y i);
+    holding = λ b' y i. held_apart (state_after answer start log) words homes u b x h b' y (f.holding b' y i) (apart b' y i);
   }
 
   free_apart : (set_is : X) (words : List ℕ) (homes : List (Option S)) (b x : ℕ) (h : Option S) (b' : ℕ) → b' ≢ b
@@ -190,13 +191,13 @@ module _ {S X O R Y : Type 0} (n : ℕ) (content : S → Y) (part : ℕ → X �
 
   took_kept : (s : State S V) (k : Rule s) (id : ℕ) (v : V) (b : ℕ) (x : S) (mark : ℕ) → get_elem? s.views id ≡ some v
       → v.others ≡ [] → StandsFor v.mine v.mine.number → mark ≡ suc v.mine.number → b < n → slice_index s.words (index b) ≡ 0
-      → get_elem? s.homes (index b) ≡ some (some x) → content x ≡ part b (result answer start k.log)
+      → get_elem? s.homes (index b) ≡ some (some x) → content x ≡ part b (state_after answer start k.log)
       → Rule record
       { words = set s.words (index b) mark; homes = set s.homes (index b) none; views = set s.views id (with_part v b (content x)) }
   took_kept s k id v b x mark at alone stands mark_is within zero_is home is =
       let w = with_part v b (content x) in
       let log = k.log in
-      let A = result answer start log in
+      let A = state_after answer start log in
       let old = k.each_view id v at in
       let wide = k.wide in
       let deep = k.deep in
@@ -261,9 +262,9 @@ module _ {S X O R Y : Type 0} (n : ℕ) (content : S → Y) (part : ℕ → X �
   -- who holds a part
   holder : (s : State S V) (k : Rule s) (b h : ℕ) → b < n → slice_index s.words (index b) ≡ suc h → (i : ℕ) × (u : V) × (y : Y)
       × (get_elem? s.views i ≡ some u) × Contains u.holds (note b y) × (h ≡ u.mine.number)
-      × Held (result answer start k.log) s.words s.homes u b y
+      × Held (state_after answer start k.log) s.words s.homes u b y
   holder s k b h within is = ⊎_elim
-      (λ (f : IsFree content part (result answer start k.log) s.words s.homes b). let z = f.0 in absurd (omega arith))
+      (λ (f : IsFree content part (state_after answer start k.log) s.words s.homes b). let z = f.0 in absurd (omega arith))
       (λ (t : IsHeld s.views b). let d = (k.each_view t.0 t.1 t.3).holding b t.2 t.4 in let w = d.word_is in
       (t.0, t.1, t.2, t.3, t.4, omega arith, d))
       (k.each_part b within)
@@ -276,7 +277,7 @@ module _ {S X O R Y : Type 0} (n : ℕ) (content : S → Y) (part : ℕ → X �
   missed_kept s k id v b h at alone within is apart =
       let w = with_miss v h b in
       let log = k.log in
-      let A = result answer start log in
+      let A = state_after answer start log in
       let old = k.each_view id v at in
       let o = holder s k b h within is in
       let u = o.1 in
@@ -357,7 +358,7 @@ module _ {S X O R Y : Type 0} (n : ℕ) (content : S → Y) (part : ℕ → X �
   gave_kept s k id v b x notes at alone held apart =
       let w = with_holds v notes in
       let log = k.log in
-      let A = result answer start log in
+      let A = state_after answer start log in
       let old = k.each_view id v at in
       let wide = k.wide in
       let deep = k.deep in
@@ -435,12 +436,12 @@ module _ {S X O R Y : Type 0} (n : ℕ) (content : S → Y) (part : ℕ → X �
       let log = k.log in
       let log' = log ++ e ∷ [] in
       let w = with_entry v log e notes in
-      let A = result answer start log in
+      let A = state_after answer start log in
       let old = k.each_view id v at in
       let wide = k.wide in
       let deep = k.deep in
       let did = done A k.whole (λ c y h. (old.holding c y h).noted) in
-      let set_is : result answer start log' ≡ (answer A op).0 = result_with answer start log e in
+      let set_is : state_after answer start log' ≡ (answer A op).0 = result_with answer start log e in
       let in_old = λ (c : ℕ) (h : Contains (b ∷ noted_parts notes) c). let r : (y : Y) × Contains v.holds (note c y) =
       note_in v.holds c (subst (λ (l : List ℕ). Contains l c) (sym same_parts) h) in r in
       let in_new = λ (c : ℕ) (y : Y) (h : Contains v.holds (note c y)). let r : Contains (b ∷ noted_parts notes) c =
@@ -562,7 +563,7 @@ module _ {S X O R Y : Type 0} (n : ℕ) (content : S → Y) (part : ℕ → X �
       let word : ℕ = slice_index s.words (index b) in
       dite (ℕ_discrete word 0)
       (λ hit. ⊎_elim
-      (λ (f : IsFree content part (result answer start k.log) s.words s.homes b).
+      (λ (f : IsFree content part (state_after answer start k.log) s.words s.homes b).
       let x : S = f.1.0 in
       let w : V = with_part v b (content x) in (
         w,
@@ -571,7 +572,7 @@ module _ {S X O R Y : Type 0} (n : ℕ) (content : S → Y) (part : ℕ → X �
         subst (λ (t : Bool). Rule (stepped s (index b) (either t mark word) id me.1 w (takes (index b) x))) (sym (eq-eqb word 0 hit))
             (took_kept s k id v b x mark at one.0 one.1 mark_is within hit f.1.1 f.1.2),
         (λ b' e. told b' e word (w, (index b, x) ∷ me.1)
-            ((λ z. (x, result answer start k.log, f.1.2, refl)), (λ h z. absurd (omega arith)))),
+            ((λ z. (x, state_after answer start k.log, f.1.2, refl)), (λ h z. absurd (omega arith)))),
       ))
       (λ (t : IsHeld s.views b). let d = ((k.each_view t.0 t.1 t.3).holding b t.2 t.4).word_is in absurd (omega arith))
       (k.each_part b within))
@@ -668,7 +669,7 @@ module _ {S X O R Y : Type 0} (n : ℕ) (content : S → Y) (part : ℕ → X �
                 sym (old.same_map v.mine.number (stands_in v one.1)).1 i,
               )) (
                 legal_with answer start log e k.legal
-                    (sym (done (result answer start log) k.whole (λ c y h. (old.holding c y h).noted)).0),
+                    (sym (done (state_after answer start log) k.whole (λ c y h. (old.holding c y h).noted)).0),
                 known,
               ),
           mine.1,

@@ -1,13 +1,18 @@
 -- Slots by place, and the notes of them.
 use Rattle.std.proofs.Common.{◌≡◌, ◌≢◌, ℕ, zero, suc, ◌+◌, ◌<◌, ◌≤◌, List, [], ◌∷◌, length, map, set, refl, sym, ap, ◌∙◌}
 use Rattle.std.proofs.Common.{subst, ⊎_elim, arith, Contains, Option, Some, None, get_or-set_same, get_or-set_other}
-use Rattle.std.proofs.Common.{le_refl, add-zero, ◌-◌, is_some, true, false}
+use Rattle.std.proofs.Common.{le_refl, add-zero, ◌-◌, is_some, true, false, inl, inr, get_or}
+use Rattle.std.proofs.lemmas.Bool.{cases_lt}
 use mathlib.Core.Logic.{dite}
 use native.Mathlib.Decide.{ℕ_discrete}
 use Rattle.moc_ranges.specs.Numbers.{NumberSet}
 use Rattle.moc_parts.specs.declared.command.Command.{Command}
-use Rattle.moc_shared.specs.Rule.{index, note, noted_parts}
-use Rattle.moc_shared.specs.Seats.{Pointer, PartNote, Sight, shared, note_if, at_place, notes_below, IsCarried}
+use Rattle.moc_shared.specs.Seats.{index, note, Pointer, Sight}
+use Rattle.moc_shared.specs.Private.Rule.{noted_parts}
+use Rattle.moc_shared.specs.Private.Seats.{PartNote, content, shared, note_if, at_place, notes_below, IsCarried}
+use Rattle.moc_shared.specs.Private.Slots.{changed_content}
+use Rattle.std.specs.Arc.{arc_value}
+use Rattle.std.specs.Option.{unwrap_or}
 use Rattle.moc_shared.specs.Private.Plays.{with_holds, with_miss, with_part, with_parts, behind_first}
 use Rattle.moc_parts.specs.Batches.{footprint_of_all}
 use Rattle.atomic_table.specs.Table.{Me}
@@ -134,11 +139,6 @@ took_part init v w found after b c x is up took put long =
     ∙ ap (λ (l : List (PartNote)). note b (shared x) ∷ l) (notes_set found b b (Some x) (le_refl b)) in
     took ∙ ap (λ (u : Sight). with_part u b (shared x)) is ∙ ap (with_parts init) (sym same)
 
-pub left_out : (init v : Sight) (found : List (Option Pointer)) (b c : ℕ) → v ≡ with_parts init (notes_below found b)
-    → c ≡ suc b → at_place found b ≡ None → v ≡ with_parts init (notes_below found c)
-left_out init v found b c is up none = is
-    ∙ ap (with_parts init) (sym (ap (notes_below found) up ∙ notes_without found b none))
-
 pub touched_so_far : (op : List Command) (found after : List (Option Pointer)) (b c : ℕ) (x : Pointer)
     → ((k : ℕ) → k < b → is_some (at_place found k) ≡ footprint_of_all op k) → c ≡ suc b → footprint_of_all op b ≡ true
     → after ≡ set found b (Some x) → b < length found → (k : ℕ) → k < c
@@ -151,13 +151,21 @@ touched_so_far op found after b c x so_far up touched put long k l = dite (ℕ_d
     (λ ne. ap (λ (z : List (Option Pointer)). is_some (at_place z k)) put
     ∙ ap (λ (o : Option Pointer). is_some o) (place_set_other found b k (Some x) ne) ∙ so_far k (omega arith))
 
-pub untouched_so_far : (op : List Command) (found : List (Option Pointer)) (b c : ℕ)
-    → ((k : ℕ) → k < b → is_some (at_place found k) ≡ footprint_of_all op k) → c ≡ suc b → footprint_of_all op b ≡ false
-    → at_place found b ≡ None → (k : ℕ) → k < c → is_some (at_place found k) ≡ footprint_of_all op k
-untouched_so_far op found b c so_far up untouched none k l = dite (ℕ_discrete k b)
-    (λ e. ap (λ (j : ℕ). is_some (at_place found j)) e ∙ ap (λ (o : Option Pointer). is_some o) none ∙ sym untouched
-    ∙ ap (footprint_of_all op) (sym e))
-    (λ ne. so_far k (omega arith))
+-- parts that are passed over change nothing of the view
+pub passed_parts : (init v : Sight) (found : List (Option Pointer)) (n b : ℕ)
+    → v ≡ with_parts init (notes_below found n) → n ≤ b → ((k : ℕ) → n ≤ k → at_place found k ≡ None)
+    → v ≡ with_parts init (notes_below found b)
+passed_parts init v found n b is le none = let e : n + (b - n) ≡ b = omega arith in is
+    ∙ ap (with_parts init) (sym (notes_upto found n (b - n) none) ∙ ap (notes_below found) e)
+
+pub passed_so_far : (op : List Command) (found : List (Option Pointer)) (n b : ℕ)
+    → ((k : ℕ) → k < n → is_some (at_place found k) ≡ footprint_of_all op k)
+    → ((k : ℕ) → n ≤ k → at_place found k ≡ None) → ((k : ℕ) → n ≤ k → k < b → footprint_of_all op k ≡ false)
+    → (k : ℕ) → k < b → is_some (at_place found k) ≡ footprint_of_all op k
+passed_so_far op found n b so_far none lacks k l = elim (cases_lt k n) [
+  | inl behind ↦ so_far k behind
+  | inr here ↦ ap (λ (o : Option Pointer). is_some o) (none k here) ∙ sym (lacks k here l)
+]
 
 pub still_beyond : (found after : List (Option Pointer)) (b c : ℕ) (x : Pointer)
     → ((k : ℕ) → b ≤ k → at_place found k ≡ None) → c ≡ suc b → after ≡ set found b (Some x) → (k : ℕ) → c ≤ k
@@ -270,3 +278,24 @@ part_note (t ∷ ts) b y h = ⊎_elim
     (here t.part (noted_parts ts)))
     (λ (c : Contains ts (note b y)). there t.part (noted_parts ts) b (part_note ts b y c))
     (cons_cases t ts (note b y) h)
+
+-- one part more is shared, with the list that was made of it, if there is one
+pub shared_next : (found edited after : List (Option Pointer)) (old now : List (Option NumberSet)) (n b : ℕ)
+    (p new : Pointer) (taken : Option NumberSet)
+    → ((k : ℕ) → k < n → content (at_place edited k) ≡ changed_content (get_or old k None) (content (at_place found k)))
+    → b ≡ n → b < length edited → after ≡ set edited b (Some new) → taken ≡ get_or now b None
+    → get_or now n None ≡ get_or old n None → at_place found b ≡ Some p
+    → arc_value new ≡ unwrap_or taken (arc_value p) → (k : ℕ) → k < n + 1
+    → content (at_place after k) ≡ changed_content (get_or old k None) (content (at_place found k))
+shared_next found edited after old now n b p new taken so_far at wide put was same there is k l = elim (cases_lt k n) [
+  | inl below ↦ ap (λ (z : List (Option Pointer)). content (at_place z k)) put
+      ∙ ap content (place_set_other edited b k (Some new) (λ e. omega arith)) ∙ so_far k below
+  | inr here ↦
+      let e : b ≡ k = omega arith in
+      let from : taken ≡ get_or old b None = was ∙ ap (λ (j : ℕ). get_or now j None) at ∙ same
+      ∙ ap (λ (j : ℕ). get_or old j None) (sym at) in
+      subst (λ (j : ℕ). content (at_place after j) ≡ changed_content (get_or old j None) (content (at_place found j))) e
+      (ap (λ (z : List (Option Pointer)). content (at_place z b)) put
+      ∙ ap content (place_set_same edited b (Some new) wide) ∙ ap (λ (a : NumberSet). Some a) is
+      ∙ (λ i. changed_content (from i) (content (sym there i))))
+]

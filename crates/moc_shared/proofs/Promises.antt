@@ -11,8 +11,9 @@ use Rattle.moc_shared.specs.declared.map.SharedMap.{SharedMap}
 use Rattle.moc_shared.specs.declared.errors.Busy.{Busy}
 use Rattle.moc_shared.specs.Private.Opening.{rest_view}
 use Rattle.moc_shared.specs.History.{entry, StartsWith, Fits, StandsFor, IsHistory}
-use Rattle.moc_shared.specs.Rule.{note, records, IsOne}
-use Rattle.moc_shared.specs.Seats.{IsCarried, Pointer, PartNote, Sight, notes_below, AreOwn, IsFootprint}
+use Rattle.moc_shared.specs.Seats.{note, Pointer, Sight}
+use Rattle.moc_shared.specs.Private.Rule.{records, IsOne}
+use Rattle.moc_shared.specs.Private.Seats.{IsCarried, PartNote, notes_below, AreOwn, IsFootprint}
 use Rattle.moc_shared.specs.Private.Plays.{first_alone, both_views, with_history, seen_to, both_of, GatheredWith, EndsCall, with_entry, with_parts, with_holds, with_miss}
 use Rattle.moc_shared.specs.Private.Slots.{GivesUp, IsRefused, EndsBatch}
 use Rattle.moc_shared.specs.History.{MissesMarked}

@@ -17,7 +17,8 @@ use Rattle.moc_shared.specs.declared.record.Record.{Record}
 use Rattle.moc_shared.specs.declared.record.Note.{Note}
 use Rattle.moc_shared.specs.declared.record.View.{View}
 use Rattle.moc_shared.specs.History.{StartsWith, Fits, StandsFor, stood, IsLegal, IsHistory}
-use Rattle.moc_shared.specs.Rule.{note, records, Present, stood_in, stood_by, IsHeld, ViewFits, Kept}
+use Rattle.moc_shared.specs.Seats.{note}
+use Rattle.moc_shared.specs.Private.Rule.{records, Present, stood_in, stood_by, IsHeld, ViewFits, Kept}
 use Rattle.moc_shared.specs.Private.Plays.{seen_to, both_of, with_history, gathered, both_views, first_alone, Looked, Gathered, GatheredWith}
 use Rattle.moc_shared.specs.Private.Opening.{nobody, idle_view, seat_for}
 use Rattle.moc_shared.specs.History.{MissesMarked}

@@ -21,8 +21,9 @@ use Rattle.moc_parts.specs.declared.command.Command.{Command}
 use Rattle.moc_parts.specs.declared.command.Command.TheVariants.{Add, Remove, Keep, Claim, Invert, Degrade, Count, Read}
 use Rattle.moc_parts.specs.declared.command.Command.TheVariants.{Near}
 use Rattle.moc_parts.specs.declared.reply.Reply.{Reply}
-use Rattle.moc_shared.specs.Rule.{note, noted_parts}
-use Rattle.moc_shared.specs.Seats.{Pointer, PartNote, content, shared, part, IsProper, at_place, note_if, notes_below, list_of, AreOwn, IsFootprint}
+use Rattle.moc_shared.specs.Seats.{note, Pointer}
+use Rattle.moc_shared.specs.Private.Rule.{noted_parts}
+use Rattle.moc_shared.specs.Private.Seats.{PartNote, content, shared, part, IsProper, at_place, note_if, notes_below, list_of, AreOwn, IsFootprint}
 use Rattle.moc_shared.specs.Private.Slots.{changed_content, lists_of, AreCopies, Edits, replies_to}
 use Rattle.moc_shared.specs.Batches.{answer}
 use Rattle.moc_shared.proofs.Basics.{none_in}

@@ -13,7 +13,8 @@ use Rattle.moc_ranges.specs.Pixels.{base_pixel_size, pixel_count, pixels}
 use Rattle.moc_ranges.specs.Operations.{part_of, IsWithin}
 use Rattle.moc_parts.specs.Parts.{union_of, LieInParts}
 use Rattle.moc_shared.proofs.Owned.{part_again, own_none}
-use Rattle.moc_shared.specs.Seats.{Pointer, content, part, at_place, list_of, IsOwn, AreOwn}
+use Rattle.moc_shared.specs.Seats.{Pointer}
+use Rattle.moc_shared.specs.Private.Seats.{content, part, at_place, list_of, IsOwn, AreOwn}
 use Rattle.moc_shared.specs.Private.Slots.{lists_of}
 
 and_false : (x : Bool) → (x && false) ≡ false

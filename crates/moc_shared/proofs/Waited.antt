@@ -5,7 +5,8 @@ use Rattle.std.proofs.lemmas.List.Elements.{Contains-append_cases}
 use Rattle.moc_parts.specs.declared.command.Command.{Command}
 use Rattle.moc_shared.specs.declared.map.SharedMap.{SharedMap}
 use Rattle.moc_shared.specs.History.{StandsFor}
-use Rattle.moc_shared.specs.Seats.{Pointer, Sight, shared, notes_below}
+use Rattle.moc_shared.specs.Seats.{Pointer, Sight}
+use Rattle.moc_shared.specs.Private.Seats.{shared, notes_below}
 use Rattle.moc_shared.specs.Private.Plays.{with_part, with_parts, with_miss, with_misses}
 use Rattle.moc_shared.specs.Private.Slots.{touched_by, just, AreWaits}
 use Rattle.moc_parts.specs.Batches.{footprint_of_all}

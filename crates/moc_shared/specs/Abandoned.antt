@@ -2,19 +2,10 @@
 use Rattle.std.specs.Prelude.{◌≡◌, ℕ, suc, List, [], ◌∷◌, ◌++◌, Contains, Option, slice_index, slice_set}
 use mathlib.Core.Option.{none, some}
 use lib.ListN.{get_elem?}
-use Rattle.atomic_table.specs.Table.{Act, State, stepped}
+use Rattle.atomic_table.specs.Table.{Act, stepped}
 use Rattle.moc_ranges.specs.Numbers.{NumberSet}
-use Rattle.moc_shared.specs.Batches.{answer}
-use Rattle.moc_shared.specs.Rule.{index, note, Kept}
-use Rattle.moc_shared.specs.Seats.{Pointer, Sight, content, part, IsProper}
-
--- the words, slots and views of a map's table
-abbrev pub Table : Type 0
-Table = State (Option Pointer) Sight
-
--- what holds of the table of a map between any two steps
-abbrev pub IsKept : NumberSet → ℕ → Table → Type 0
-IsKept start clients table = Kept 12 content part answer IsProper start clients table
+use Rattle.moc_shared.specs.Seats.{index, note, Pointer, Sight, Table}
+pub use Rattle.moc_shared.specs.Private.Seats.{IsKept}
 
 -- the seat has the view
 abbrev pub HasView : List Sight → ℕ → Sight → Type 0

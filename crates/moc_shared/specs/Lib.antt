@@ -1,6 +1,5 @@
 pub mod History
 pub mod Batches
-pub mod Rule
 pub mod Seats
 pub mod Clients
 pub mod Abandoned

@@ -1,6 +1,6 @@
 //! The shared map: a table of words and slots, one of each for each part.
 ghost use Rattle.std.specs.Prelude.{◌≡◌, ◌≤◌};
-ghost use Rattle.moc_shared.specs.Rule.{index};
+ghost use Rattle.moc_shared.specs.Seats.{index};
 
 pub mod batches;
 pub mod closed;

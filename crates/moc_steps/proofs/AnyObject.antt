@@ -5,14 +5,13 @@ use Rattle.moc_ranges.specs.Numbers.{NumberSet}
 use Rattle.moc_ranges.specs.Pixels.{pixels}
 use Rattle.moc_ranges.specs.Operations.{IsWithin}
 use Rattle.moc_parts.specs.Objects.{Object}
-use Rattle.moc_steps.specs.Locks.{Step, Running, AreLocal, ArePermitted, refusal}
-use Rattle.moc_steps.specs.Operations.{operations, is_midway, noted}
-use Rattle.moc_steps.specs.World.{World, start_world, run, running, world_after}
-use Rattle.moc_steps.specs.Progress.{AreProgress}
-use Rattle.moc_steps.specs.Explains.{names, times}
+use Rattle.moc_steps.specs.Machine.{Step, Running, AreLocal, ArePermitted, refusal, World, start_world, run, running}
+use Rattle.moc_steps.specs.Machine.{world_after}
+use Rattle.moc_steps.specs.Orders.{operations, is_midway, noted, AreProgress, names, times}
 use Rattle.moc_steps.specs.Laws.{ArePlayed, HasOneOrder, CanGoOn, EndsWell, IsReached, RepliesByEntry, led_to}
 use Rattle.moc_steps.proofs.Sky.{covers_of}
-use Rattle.moc_steps.proofs.Headline.{explains, part_inside, together, at_end, run_keeps, run_grows, run_append, operations_append, first_local, rest_local, locks_are, begins_explained}
+use Rattle.moc_steps.proofs.Headline.{explains, part_inside, together, at_end, run_keeps, run_grows, run_append}
+use Rattle.moc_steps.proofs.Headline.{operations_append, first_local, rest_local, locks_are, begins_explained}
 use Rattle.moc_steps.proofs.Adding.{AreClosed, added, run_closes, progress_all_local}
 use Rattle.moc_steps.proofs.Counting.{midway_counted}
 use Rattle.moc_steps.proofs.Progress as progress

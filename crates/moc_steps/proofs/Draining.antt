@@ -1,5 +1,7 @@
 -- The way to the end of a world, step by step.
-use Rattle.std.proofs.Common.{◌≡◌, ℕ, suc, ◌+◌, ◌*◌, ◌^◌, ◌<◌, ◌≤◌, Bool, true, false, cond, ◌&&◌, T, List, [], ◌∷◌, ◌++◌, length, Option, None, Some, nat_eq, nat_lt, inl, inr, ne_eqb, sum_by, count_by, refl, sym, ap, subst, ◌∙◌, arith, eq-eqb}
+use Rattle.std.proofs.Common.{◌≡◌, ℕ, suc, ◌+◌, ◌*◌, ◌^◌, ◌<◌, ◌≤◌, Bool, true, false, cond, ◌&&◌, T, List, [], ◌∷◌}
+use Rattle.std.proofs.Common.{◌++◌, length, Option, None, Some, nat_eq, nat_lt, inl, inr, ne_eqb, sum_by, count_by}
+use Rattle.std.proofs.Common.{refl, sym, ap, subst, ◌∙◌, arith, eq-eqb}
 use Rattle.std.proofs.lemmas.List.Sums.{sum_by-cons}
 use Rattle.std.specs.Ordering.{nat_cmp, is_lt}
 use Rattle.std.specs.FinMap as map
@@ -7,13 +9,10 @@ use Rattle.std.specs.FinMap.{find, is_sorted}
 use Rattle.std.specs.FinMap.Entries.{below_all}
 use Rattle.moc_parts.specs.Batches.{batches}
 use Rattle.moc_parts.specs.declared.command.Command.{Command}
-use Rattle.moc_steps.specs.Locks as locks
-use Rattle.moc_steps.specs.Locks.{Running, Clients, ArePermitted, refusal, twelve}
-use Rattle.moc_steps.specs.World as machine
-use Rattle.moc_steps.specs.World.{world_after}
+use Rattle.moc_steps.specs.Machine.{Running, Clients, ArePermitted, refusal, twelve, world_after}
+use Rattle.moc_steps.specs.Machine as machine
 use Rattle.moc_steps.specs.Laws.{IsReached}
-use Rattle.moc_steps.specs.Operations.{operations}
-use Rattle.moc_steps.specs.Progress.{AreProgress, is_progress, steps_wanted, steps_left}
+use Rattle.moc_steps.specs.Orders.{operations, AreProgress, is_progress, steps_wanted, steps_left}
 use Rattle.moc_steps.specs.Played.{BatchWorld, LeadsOn}
 use Rattle.moc_steps.proofs.Basics.{same_or, length-map}
 use Rattle.moc_steps.proofs.Kept.{AreSmall}
@@ -24,7 +23,7 @@ use Rattle.moc_steps.proofs.Headline.{run_append}
 use Rattle.moc_steps.proofs.Measure.{steps_bounded}
 use Rattle.moc_steps.proofs.AnyObject.{permitted_on, ends_well, reached_explained}
 
-progress_on : (front back : List (locks.Step (List Command))) → AreProgress front → AreProgress back → AreProgress (front ++ back)
+progress_on : (front back : List (machine.Step (List Command))) → AreProgress front → AreProgress back → AreProgress (front ++ back)
 progress_on [] back h k = k
 progress_on (s ∷ front) back h k = (h.0, progress_on front back h.1 k)
 
@@ -33,7 +32,7 @@ length_on [] x = omega arith
 length_on (y ∷ xs) x = let k : length (xs ++ x ∷ []) ≡ length xs + 1 = length_on xs x in omega arith
 
 -- steps that lead on from a reached world
-on : (old new : BatchWorld) (steps : List (locks.Step (List Command))) (n : ℕ) → IsReached batches old → length steps ≡ n → ArePermitted batches old.locks steps → AreProgress steps → machine.run batches old steps ≡ new → LeadsOn old n new
+on : (old new : BatchWorld) (steps : List (machine.Step (List Command))) (n : ℕ) → IsReached batches old → length steps ≡ n → ArePermitted batches old.locks steps → AreProgress steps → machine.run batches old steps ≡ new → LeadsOn old n new
 on old new steps n reached count permitted progress leads =
     let inv = reached_explained batches old reached in
     record {
@@ -49,7 +48,7 @@ on old new steps n reached count permitted progress leads =
 pub first_on : (old new : BatchWorld) → IsReached batches old → new ≡ old → LeadsOn old 0 new
 first_on old new reached same = on old new [] 0 reached refl tt tt (sym same)
 
-pub next_on : (old world new : BatchWorld) (n : ℕ) (step : locks.Step (List Command)) → IsReached batches old → LeadsOn old n world → refusal batches world.locks step ≡ None → is_progress step ≡ true
+pub next_on : (old world new : BatchWorld) (n : ℕ) (step : machine.Step (List Command)) → IsReached batches old → LeadsOn old n world → refusal batches world.locks step ≡ None → is_progress step ≡ true
     → new ≡ world_after batches world step → LeadsOn old (n + 1) new
 next_on old world new n step reached h permitted progress is =
     on old new (h.steps ++ step ∷ []) (n + 1) reached

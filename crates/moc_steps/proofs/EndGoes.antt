@@ -1,20 +1,23 @@
 -- An End of a world of the program is the machine's.
-use Rattle.std.proofs.Common.{◌≡◌, ℕ, zero, suc, ◌+◌, ◌<◌, true, false, cond, inl, inr, List, [], ◌∷◌, map as map_list, length, Option, None, Some, IfSome, is_some, nat_eq, slice_get, get_or, set as set_at, option_map, refl, sym, ap, subst, ◌∙◌, arith, eq-eqb}
+use Rattle.std.proofs.Common.{◌≡◌, ℕ, zero, suc, ◌+◌, ◌<◌, true, false, cond, inl, inr, List, [], ◌∷◌, map as map_list}
+use Rattle.std.proofs.Common.{length, Option, None, Some, IfSome, is_some, nat_eq, slice_get, get_or, set as set_at}
+use Rattle.std.proofs.Common.{option_map, refl, sym, ap, subst, ◌∙◌, arith, eq-eqb}
 use Rattle.std.specs.FinSet as set
 use Rattle.std.specs.FinMap as map
 use Rattle.moc_ranges.specs.Numbers.{NumberSet}
 use Rattle.moc_parts.specs.Batches.{batches, replies_on}
 use Rattle.moc_parts.specs.declared.command.Command.{Command}
 use Rattle.moc_parts.specs.declared.reply.Reply.{Reply}
-use Rattle.moc_steps.specs.Locks as locks
-use Rattle.moc_steps.specs.Locks.{Running, holds, holds_now, refusal, is_any, end_refusal, has_taken}
-use Rattle.moc_steps.specs.World.{world_after, running, answered, completed, replied, reply_to, ended_reply}
-use Rattle.moc_steps.specs.Explains.{names, times, is_committed}
+use Rattle.moc_steps.specs.Machine as machine
+use Rattle.moc_steps.specs.Machine.{Running, holds, holds_now, refusal, is_any, end_refusal, has_taken, world_after}
+use Rattle.moc_steps.specs.Machine.{running, answered, completed, replied, reply_to, ended_reply}
+use Rattle.moc_steps.specs.Orders.{names, times, is_committed}
 use Rattle.moc_steps.specs.Private.Standing.{Standing}
 use Rattle.moc_steps.specs.Played.{BatchWorld, entry_of, entries_of}
 use Rattle.moc_steps.specs.Private.Worlds.{HasPlace, IsKept, world_of}
 use Rattle.moc_steps.specs.declared.step.Entry.{Entry}
-use Rattle.moc_steps.proofs.Basics.{clash, some_same, true_or_false, not_true_false, not_of_false, both, same_or, count-append, get-remove_same, get-remove_other}
+use Rattle.moc_steps.proofs.Basics.{clash, some_same, true_or_false, not_true_false, not_of_false, both, same_or}
+use Rattle.moc_steps.proofs.Basics.{count-append, get-remove_same, get-remove_other}
 use Rattle.moc_steps.proofs.Taking.{in_twelve, taken_footprint, took_one}
 use Rattle.moc_steps.proofs.Invariant.{is_any_of}
 use Rattle.moc_steps.proofs.Permitted.{midway_of, end_permitted, end_taken}
@@ -102,24 +105,24 @@ module _ (n : ℕ) (m : Table) (ps : List NumberSet) (hs : List (Option ℕ)) (e
         | inr q ↦ ap (λ b. names (cond b (entries_of es) (map_list (replied batches r.operation y) (entries_of es)))) q ∙ names_map (replied batches r.operation y) (λ e. replied_begin r.operation y e) (entries_of es)
       ]
 
-  refused_not : (c : ℕ) (s : Standing) → map.get m c ≡ Some s → refusal batches (world_of n m ps es).locks (locks.Step.End c) ≡ None → end_refusal batches s.running ≡ None
+  refused_not : (c : ℕ) (s : Standing) → map.get m c ≡ Some s → refusal batches (world_of n m ps es).locks (machine.Step.End c) ≡ None → end_refusal batches s.running ≡ None
   refused_not c s has h =
       let k = midway_of batches (running batches (world_of n m ps es) c) (end_refusal batches) h in
       ap (end_refusal batches) (some_same (running batches (world_of n m ps es) c) s.running k.0 (runs n m ps hs es kept c s has) k.1) ∙ k.2
 
   pub end_goes : (c : ℕ) (s : Standing) (es' : List Entry) → map.get m c ≡ Some s → entries_of es' ≡ completed batches (world_of n m ps es) c (Some s.running)
-      → refusal batches (world_of n m ps es).locks (locks.Step.End c) ≡ None → Goes n m ps es (locks.Step.End c) n (map.remove m c) ps hs es'
+      → refusal batches (world_of n m ps es).locks (machine.Step.End c) ≡ None → Goes n m ps es (machine.Step.End c) n (map.remove m c) ps hs es'
   end_goes c s es' has order_is h =
       let v : BatchWorld = world_of n m ps es in
       let none = end_permitted batches s.running (refused_not c s has h) in
-      let is : world_of n (map.remove m c) ps es' ≡ world_after batches v (locks.Step.End c) = (λ i. record {
+      let is : world_of n (map.remove m c) ps es' ≡ world_after batches v (machine.Step.End c) = (λ i. record {
         locks = record { begun = n; clients = values-remove (λ (s : Standing). s.running) m c i };
         parts = ps;
         found = values-remove (λ (s : Standing). s.found) m c i;
         order = (order_is ∙ sym (ap (completed batches v c) (runs n m ps hs es kept c s has))) i;
       }) in (
         is,
-        kept_on n n m (map.remove m c) ps ps hs hs es es' (locks.Step.End c) kept tt tt h is
+        kept_on n n m (map.remove m c) ps ps hs hs es es' (machine.Step.End c) kept tt tt h is
             (λ reached d l. kept.held d l ∙ sym (holder_same v (world_of n (map.remove m c) ps es') reached d (λ q. elim (same_or q c) [
               | inl e ↦ ap (λ x. holds_now batches (running batches (world_of n (map.remove m c) ps es') x) d) e
                   ∙ ap (λ x. holds_now batches x d) (get-values (λ (s : Standing). s.running) (map.remove m c) c ∙ ap (option_map (λ (s : Standing). s.running)) (get-remove_same m c))
@@ -133,7 +136,7 @@ module _ (n : ℕ) (m : Table) (ps : List NumberSet) (hs : List (Option ℕ)) (e
       )
 
   -- one that ends and does not quit is committed
-  pub ends_committed : (c : ℕ) (s : Standing) → map.get m c ≡ Some s → refusal batches (world_of n m ps es).locks (locks.Step.End c) ≡ None → s.running.quits ≡ false → is_some s.place ≡ true
+  pub ends_committed : (c : ℕ) (s : Standing) → map.get m c ≡ Some s → refusal batches (world_of n m ps es).locks (machine.Step.End c) ≡ None → s.running.quits ≡ false → is_some s.place ≡ true
   ends_committed c s has h q =
       let r : Running (List Command) = s.running in
       let inv = reached_explained batches (world_of n m ps es) kept.reached in
@@ -153,7 +156,7 @@ module _ (n : ℕ) (m : Table) (ps : List NumberSet) (hs : List (Option ℕ)) (e
       ]
 
   -- and one that quits is not
-  pub quits_uncommitted : (c : ℕ) (s : Standing) → map.get m c ≡ Some s → s.place ≡ None → refusal batches (world_of n m ps es).locks (locks.Step.End c) ≡ None → s.running.quits ≡ true
+  pub quits_uncommitted : (c : ℕ) (s : Standing) → map.get m c ≡ Some s → s.place ≡ None → refusal batches (world_of n m ps es).locks (machine.Step.End c) ≡ None → s.running.quits ≡ true
   quits_uncommitted c s has none h = elim (true_or_false s.running.quits) [
     | inl q ↦ q
     | inr q ↦ absurd (let some : is_some s.place ≡ true = ends_committed c s has h q in let not_some : is_some s.place ≡ false = ap is_some none in clash (is_some s.place) some not_some)
@@ -165,15 +168,15 @@ module _ (n : ℕ) (m : Table) (ps : List NumberSet) (hs : List (Option ℕ)) (e
       let own = inv.1.client c s.running (runs n m ps hs es kept c s has) in
       not_true_false s.running.quits (λ q. clash (is_any s.running.edited) ((kept.placed c s has).0 ∙ some) (own.sound.clean q))
 
-  pub quit_ends : (c : ℕ) (s : Standing) → map.get m c ≡ Some s → s.place ≡ None → refusal batches (world_of n m ps es).locks (locks.Step.End c) ≡ None
-      → Goes n m ps es (locks.Step.End c) n (map.remove m c) ps hs es
+  pub quit_ends : (c : ℕ) (s : Standing) → map.get m c ≡ Some s → s.place ≡ None → refusal batches (world_of n m ps es).locks (machine.Step.End c) ≡ None
+      → Goes n m ps es (machine.Step.End c) n (map.remove m c) ps hs es
   quit_ends c s has none h =
       let r : Running (List Command) = s.running in
       end_goes c s es has
       (sym (ap (λ b. cond b (entries_of es) (map_list (replied batches r.operation (answered batches (world_of n m ps es) c r).1) (entries_of es))) (quits_uncommitted c s has none h))) h
 
-  pub quit_silent : (c : ℕ) (s : Standing) → map.get m c ≡ Some s → s.place ≡ None → refusal batches (world_of n m ps es).locks (locks.Step.End c) ≡ None
-      → reply_to batches (world_of n m ps es) (locks.Step.End c) ≡ None
+  pub quit_silent : (c : ℕ) (s : Standing) → map.get m c ≡ Some s → s.place ≡ None → refusal batches (world_of n m ps es).locks (machine.Step.End c) ≡ None
+      → reply_to batches (world_of n m ps es) (machine.Step.End c) ≡ None
   quit_silent c s has none h =
       ap (ended_reply batches (world_of n m ps es) c) (runs n m ps hs es kept c s has)
       ∙ ap (λ b. cond b None (Some (answered batches (world_of n m ps es) c s.running).1)) (quits_uncommitted c s has none h)
@@ -186,7 +189,7 @@ module _ (n : ℕ) (m : Table) (ps : List NumberSet) (hs : List (Option ℕ)) (e
   reply_is c s has = ap (λ F. replies_on F s.running.command) (found_is n m ps hs es kept c s has)
 
   pub done_ends : (c : ℕ) (s : Standing) (i : ℕ) (e : Entry) (y : List Reply) → map.get m c ≡ Some s → s.place ≡ Some i → slice_get es i ≡ Some e → y ≡ replies_on s.found s.running.command
-      → refusal batches (world_of n m ps es).locks (locks.Step.End c) ≡ None → Goes n m ps es (locks.Step.End c) n (map.remove m c) ps hs (set_at es i (answers e y))
+      → refusal batches (world_of n m ps es).locks (machine.Step.End c) ≡ None → Goes n m ps es (machine.Step.End c) n (map.remove m c) ps hs (set_at es i (answers e y))
   done_ends c s i e y has at there y_is h =
       let r : Running (List Command) = s.running in
       let inv = reached_explained batches (world_of n m ps es) kept.reached in
@@ -199,7 +202,7 @@ module _ (n : ℕ) (m : Table) (ps : List NumberSet) (hs : List (Option ℕ)) (e
       ∙ sym (ap (λ b. cond b (entries_of es) (map_list (replied batches r.operation (answered batches (world_of n m ps es) c r).1) (entries_of es))) (committed_stays c s has some))) h
 
   pub done_tells : (c : ℕ) (s : Standing) (y : List Reply) → map.get m c ≡ Some s → is_some s.place ≡ true → y ≡ replies_on s.found s.running.command
-      → Some y ≡ reply_to batches (world_of n m ps es) (locks.Step.End c)
+      → Some y ≡ reply_to batches (world_of n m ps es) (machine.Step.End c)
   done_tells c s y has some y_is =
       ap (λ z. Some z) (y_is ∙ sym (reply_is c s has))
       ∙ sym (ap (ended_reply batches (world_of n m ps es) c) (runs n m ps hs es kept c s has)

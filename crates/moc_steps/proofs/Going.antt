@@ -1,5 +1,7 @@
 -- The next step of a world in which a client is midway.
-use Rattle.std.proofs.Common.{◌≡◌, ℕ, ◌<◌, Bool, true, false, not, ◌&&◌, ◌||◌, ◌⊎◌, inl, inr, List, [], ◌∷◌, length, Option, None, Some, IfSome, is_some, nat_eq, nat_lt, option_map, refl, sym, ap, ◌∙◌, arith, eq-eqb}
+use Rattle.std.proofs.Common.{◌≡◌, ℕ, ◌<◌, Bool, true, false, not, ◌&&◌, ◌||◌, ◌⊎◌, inl, inr, List, [], ◌∷◌, length}
+use Rattle.std.proofs.Common.{Option, None, Some, IfSome, is_some, nat_eq, nat_lt, option_map, refl, sym, ap, ◌∙◌}
+use Rattle.std.proofs.Common.{arith, eq-eqb}
 use Rattle.std.proofs.lemmas.Bool.Decides.{nat_tests}
 use Rattle.std.specs.List.{list_any}
 use Rattle.std.specs.List.Sorted.{IsStrictlySortedBy}
@@ -8,11 +10,12 @@ use Rattle.std.specs.FinSet as set
 use Rattle.std.specs.FinMap as map
 use Rattle.moc_parts.specs.Batches.{batches}
 use Rattle.moc_parts.specs.declared.command.Command.{Command}
-use Rattle.moc_steps.specs.Locks as locks
-use Rattle.moc_steps.specs.Locks.{Running, refusal, holds, holds_some, holder, next_part, has_taken, is_in, twelve, unless_idle, take_refusal, next_refusal, edit_refusal, give_refusal, end_refusal}
-use Rattle.moc_steps.specs.World.{running}
+use Rattle.moc_steps.specs.Machine as machine
+use Rattle.moc_steps.specs.Machine.{Running, refusal, holds, holds_some, holder, next_part, has_taken, is_in, twelve}
+use Rattle.moc_steps.specs.Machine.{unless_idle, take_refusal, next_refusal, edit_refusal, give_refusal, end_refusal}
+use Rattle.moc_steps.specs.Machine.{running}
 use Rattle.moc_steps.specs.Laws.{IsReached}
-use Rattle.moc_steps.specs.Progress.{is_progress, client_of}
+use Rattle.moc_steps.specs.Orders.{is_progress, client_of}
 use Rattle.moc_steps.specs.Played.{BatchWorld, step_of}
 use Rattle.moc_steps.specs.Private.Worlds.{IsFree, IsHighest}
 use Rattle.moc_steps.specs.declared.step.Step.{Step}
@@ -20,7 +23,8 @@ use Rattle.std.specs.FinMap.{find}
 use Rattle.moc_steps.proofs.Permitted.{midway_of}
 use Rattle.moc_steps.specs.declared.error.StepError.TheVariants.{PartHeld}
 use Rattle.moc_steps.proofs.Basics.{clash, some_same, none_or_some, and_true, or_left, or_right, not_of_true, cond_else}
-use Rattle.moc_steps.proofs.Taking.{of_twelve, has_all, taken_alike, nothing_taken, taken_below, next_footprint, nobody_holds, holder_holds}
+use Rattle.moc_steps.proofs.Taking.{of_twelve, has_all, taken_alike, nothing_taken, taken_below, next_footprint}
+use Rattle.moc_steps.proofs.Taking.{nobody_holds, holder_holds}
 use Rattle.moc_steps.proofs.AnyObject.{reached_explained}
 use Rattle.moc_steps.proofs.Values.{len-entries_of}
 
@@ -41,21 +45,21 @@ module _ (w : BatchWorld) (c : ℕ) (r : Running (List Command)) (was : running 
       let k = holder_holds batches w.locks.clients b c h.0 in
       ap (λ t. holds batches t b) (some_same (running batches w c) r k.0 was k.1) ∙ k.2
 
-  takes : (q : ℕ) → next_part batches r ≡ Some q → r.quits ≡ false → holder batches w.locks.clients q ≡ None → refusal batches w.locks (locks.Step.Take c) ≡ None
+  takes : (q : ℕ) → next_part batches r ≡ Some q → r.quits ≡ false → holder batches w.locks.clients q ≡ None → refusal batches w.locks (machine.Step.Take c) ≡ None
   takes q next stays free =
       ap (λ x. unless_idle batches x (take_refusal batches w.locks)) was ∙ cond_else _ _ _ stays ∙ ap (next_refusal batches w.locks) next ∙ ap (option_map (PartHeld q)) free
 
-  pub highest_takes : (b : ℕ) → IsHighest w c b → is_some (next_part batches r) ≡ true → r.quits ≡ false → refusal batches w.locks (locks.Step.Take c) ≡ None
+  pub highest_takes : (b : ℕ) → IsHighest w c b → is_some (next_part batches r) ≡ true → r.quits ≡ false → refusal batches w.locks (machine.Step.Take c) ≡ None
   highest_takes b h some stays = elim (none_or_some (next_part batches r)) [
     | inl e ↦ clash (is_some (next_part batches r)) some (ap is_some e)
     | inr e ↦ takes e.0 e.1 stays (h.1 e.0 (taken_below batches r e.0 b e.1 (and_true _ _ (holder_has b h)).0) (next_footprint batches r e.0 e.1).0)
   ]
 
-  pub highest_edits : (b : ℕ) → IsHighest w c b → r.quits ≡ false → is_some (next_part batches r) ≡ false → set.contains r.edited b ≡ false → refusal batches w.locks (locks.Step.Edit c b) ≡ None
+  pub highest_edits : (b : ℕ) → IsHighest w c b → r.quits ≡ false → is_some (next_part batches r) ≡ false → set.contains r.edited b ≡ false → refusal batches w.locks (machine.Step.Edit c b) ≡ None
   highest_edits b h stays all unedited =
       ap (λ x. unless_idle batches x (λ t. edit_refusal batches t b)) was ∙ cond_else _ _ _ stays ∙ cond_else _ _ _ all ∙ cond_else _ _ _ (not_of_true (holder_has b h)) ∙ cond_else _ _ _ unedited
 
-  pub highest_gives : (b : ℕ) → IsHighest w c b → (set.contains r.edited b ≡ true) ⊎ (r.quits ≡ true) → refusal batches w.locks (locks.Step.Give c b) ≡ None
+  pub highest_gives : (b : ℕ) → IsHighest w c b → (set.contains r.edited b ≡ true) ⊎ (r.quits ≡ true) → refusal batches w.locks (machine.Step.Give c b) ≡ None
   highest_gives b h done =
       ap (λ x. unless_idle batches x (λ t. give_refusal batches t b)) was ∙ cond_else _ _ _ (not_of_true (holder_has b h)) ∙ cond_else _ _ _ (may (set.contains r.edited b) r.quits done)
     where
@@ -66,7 +70,7 @@ module _ (w : BatchWorld) (c : ℕ) (r : Running (List Command)) (was : running 
       may false false (inr e) = absurd (cc (e))
 
   -- a client where nobody holds a part
-  pub free_ends : IsFree w → (r.quits ≡ true) ⊎ (nat_lt 0 r.taken ≡ true) → refusal batches w.locks (locks.Step.End c) ≡ None
+  pub free_ends : IsFree w → (r.quits ≡ true) ⊎ (nat_lt 0 r.taken ≡ true) → refusal batches w.locks (machine.Step.End c) ≡ None
   free_ends free done =
       ap (λ x. unless_idle batches x (end_refusal batches)) was
       ∙ cond_else _ _ _ (none_of (holds batches r) twelve (λ b i. nobody_holds batches w.locks.clients b c r (free b (of_twelve b i)) was))
@@ -77,7 +81,7 @@ module _ (w : BatchWorld) (c : ℕ) (r : Running (List Command)) (was : running 
       may false k (inl e) = absurd (cc (e))
       may false k (inr e) = grind (arith, nat_tests)
 
-  pub free_takes : IsReached batches w → IsFree w → r.quits ≡ false → nat_lt 0 r.taken ≡ false → refusal batches w.locks (locks.Step.Take c) ≡ None
+  pub free_takes : IsReached batches w → IsFree w → r.quits ≡ false → nat_lt 0 r.taken ≡ false → refusal batches w.locks (machine.Step.Take c) ≡ None
   free_takes reached free stays nothing = elim (none_or_some (next_part batches r)) [
     | inr e ↦ takes e.0 e.1 stays (free e.0 (next_footprint batches r e.0 e.1).0)
     | inl e ↦
@@ -90,13 +94,13 @@ module _ (w : BatchWorld) (c : ℕ) (r : Running (List Command)) (was : running 
   ]
 
 -- a permitted step that is no Begin is one of a client that is midway
-pub progress_running : (l : locks.Locks (List Command)) (s : locks.Step (List Command)) → refusal batches l s ≡ None → is_progress s ≡ true → (r : Running (List Command)) × (map.get l.clients (client_of s) ≡ Some r)
-progress_running l (locks.Step.Begin c op) h p = absurd (cc)
-progress_running l (locks.Step.Take c) h p = let m = midway_of batches (map.get l.clients c) _ h in (m.0, m.1)
-progress_running l (locks.Step.Edit c b) h p = let m = midway_of batches (map.get l.clients c) _ h in (m.0, m.1)
-progress_running l (locks.Step.Give c b) h p = let m = midway_of batches (map.get l.clients c) _ h in (m.0, m.1)
-progress_running l (locks.Step.Quit c) h p = absurd (cc)
-progress_running l (locks.Step.End c) h p = let m = midway_of batches (map.get l.clients c) _ h in (m.0, m.1)
+pub progress_running : (l : machine.Locks (List Command)) (s : machine.Step (List Command)) → refusal batches l s ≡ None → is_progress s ≡ true → (r : Running (List Command)) × (map.get l.clients (client_of s) ≡ Some r)
+progress_running l (machine.Step.Begin c op) h p = absurd (cc)
+progress_running l (machine.Step.Take c) h p = let m = midway_of batches (map.get l.clients c) _ h in (m.0, m.1)
+progress_running l (machine.Step.Edit c b) h p = let m = midway_of batches (map.get l.clients c) _ h in (m.0, m.1)
+progress_running l (machine.Step.Give c b) h p = let m = midway_of batches (map.get l.clients c) _ h in (m.0, m.1)
+progress_running l (machine.Step.Quit c) h p = absurd (cc)
+progress_running l (machine.Step.End c) h p = let m = midway_of batches (map.get l.clients c) _ h in (m.0, m.1)
 
 none_there : {X : Type 0} (m : map.FinMap nat_cmp X) (q : ℕ) → map.len m ≡ 0 → map.get m q ≡ None
 none_there {X} m q h = map.get-entries m q ∙ empty (map.entries m) (sym (map.len-entries m) ∙ h)
@@ -106,7 +110,7 @@ none_there {X} m q h = map.get-entries m q ∙ empty (map.entries m) (sym (map.l
     empty (x ∷ es) e = absurd (omega arith)
 
 -- where nobody is midway there is no such step
-pub no_step : (l : locks.Locks (List Command)) (x : Option Step) → IfSome x (λ s. (refusal batches l (step_of s) ≡ None) × (is_progress (step_of s) ≡ true)) → map.len l.clients ≡ 0 → x ≡ None
+pub no_step : (l : machine.Locks (List Command)) (x : Option Step) → IfSome x (λ s. (refusal batches l (step_of s) ≡ None) × (is_progress (step_of s) ≡ true)) → map.len l.clients ≡ 0 → x ≡ None
 no_step l None h e = refl
 no_step l (Some s) h e =
     let k = progress_running l (step_of s) h.0 h.1 in

@@ -1,21 +1,23 @@
 -- What a world of the program keeps, step by step.
-use Rattle.std.proofs.Common.{◌≡◌, ◌≢◌, ℕ, suc, ◌<◌, ◌^◌, true, false, inl, inr, List, [], ◌∷◌, Option, None, Some, get_or, option_map, refl, sym, ap, subst, ◌∙◌}
+use Rattle.std.proofs.Common.{◌≡◌, ◌≢◌, ℕ, suc, ◌<◌, ◌^◌, true, false, inl, inr, List, [], ◌∷◌, Option, None, Some}
+use Rattle.std.proofs.Common.{get_or, option_map, refl, sym, ap, subst, ◌∙◌}
 use Rattle.std.specs.Ordering.{nat_cmp}
 use Rattle.std.specs.FinSet as set
 use Rattle.std.specs.FinMap as map
 use Rattle.moc_ranges.specs.Numbers.{NumberSet}
 use Rattle.moc_parts.specs.Batches.{batches}
 use Rattle.moc_parts.specs.declared.command.Command.{Command}
-use Rattle.moc_steps.specs.Locks as locks
-use Rattle.moc_steps.specs.Locks.{Running, Locks, Clients, AreLocal, begins, changed, change, holds, holds_now, holder, is_any, refusal}
-use Rattle.moc_steps.specs.World.{world_after, running}
-use Rattle.moc_steps.specs.Explains.{names}
+use Rattle.moc_steps.specs.Machine as machine
+use Rattle.moc_steps.specs.Machine.{Running, Locks, Clients, AreLocal, begins, changed, change, holds, holds_now}
+use Rattle.moc_steps.specs.Machine.{holder, is_any, refusal, world_after, running}
+use Rattle.moc_steps.specs.Orders.{names}
 use Rattle.moc_steps.specs.Laws.{IsReached}
 use Rattle.moc_steps.specs.Private.Standing.{Standing}
 use Rattle.moc_steps.specs.Played.{BatchWorld, entries_of}
 use Rattle.moc_steps.specs.Private.Worlds.{HasPlace, IsKept, values_by, world_of}
 use Rattle.moc_steps.specs.declared.step.Entry.{Entry}
-use Rattle.moc_steps.proofs.Basics.{clash, some_same, none_or_some, not_true_false, same_or, get-insert_same, get-insert_other, get-remove_same, get-remove_other}
+use Rattle.moc_steps.proofs.Basics.{clash, some_same, none_or_some, not_true_false, same_or, get-insert_same}
+use Rattle.moc_steps.proofs.Basics.{get-insert_other, get-remove_same, get-remove_other}
 use Rattle.moc_steps.proofs.Headline.{locks_are}
 use Rattle.moc_steps.proofs.Taking.{nobody_holds, holder_holds}
 use Rattle.moc_steps.proofs.AnyObject.{reached_explained, step_reached}
@@ -80,13 +82,13 @@ holder_same w w' reached b same = elim (none_or_some (holder batches w.locks.cli
 ]
 
 -- the number of a client that begins
-abbrev pub BeginsSmall : locks.Step (List Command) → Type 0
-BeginsSmall (locks.Step.Begin c op) = c < 2 ^ 32
-BeginsSmall (locks.Step.Take c) = Unit {0}
-BeginsSmall (locks.Step.Edit c b) = Unit {0}
-BeginsSmall (locks.Step.Give c b) = Unit {0}
-BeginsSmall (locks.Step.Quit c) = Unit {0}
-BeginsSmall (locks.Step.End c) = Unit {0}
+abbrev pub BeginsSmall : machine.Step (List Command) → Type 0
+BeginsSmall (machine.Step.Begin c op) = c < 2 ^ 32
+BeginsSmall (machine.Step.Take c) = Unit {0}
+BeginsSmall (machine.Step.Edit c b) = Unit {0}
+BeginsSmall (machine.Step.Give c b) = Unit {0}
+BeginsSmall (machine.Step.Quit c) = Unit {0}
+BeginsSmall (machine.Step.End c) = Unit {0}
 
 -- the numbers of these clients are small
 abbrev pub AreSmall : Clients (List Command) → Type 0
@@ -102,19 +104,19 @@ small_change : (m : Clients (List Command)) (c : ℕ) (x : Option (Running (List
 small_change m c None f has h = h
 small_change m c (Some r) f has h = small_insert m c (f r) h (h c r has)
 
-small_step : (l : Locks (List Command)) (step : locks.Step (List Command)) → AreSmall l.clients → BeginsSmall step → AreSmall (locks.locks_after batches l step).clients
-small_step l (locks.Step.Begin c op) h b = small_insert l.clients c (begins batches l.begun op) h b
-small_step l (locks.Step.Take c) h b = small_change l.clients c (map.get l.clients c) (λ r. record r { taken = suc r.taken }) refl h
-small_step l (locks.Step.Edit c p) h b = small_change l.clients c (map.get l.clients c) (λ r. record r { edited = set.insert r.edited p }) refl h
-small_step l (locks.Step.Give c p) h b = small_change l.clients c (map.get l.clients c) (λ r. record r { given = set.insert r.given p }) refl h
-small_step l (locks.Step.Quit c) h b = small_change l.clients c (map.get l.clients c) (λ r. record r { quits = true }) refl h
-small_step l (locks.Step.End c) h b = λ q r is. elim (same_or q c) [
+small_step : (l : Locks (List Command)) (step : machine.Step (List Command)) → AreSmall l.clients → BeginsSmall step → AreSmall (machine.locks_after batches l step).clients
+small_step l (machine.Step.Begin c op) h b = small_insert l.clients c (begins batches l.begun op) h b
+small_step l (machine.Step.Take c) h b = small_change l.clients c (map.get l.clients c) (λ r. record r { taken = suc r.taken }) refl h
+small_step l (machine.Step.Edit c p) h b = small_change l.clients c (map.get l.clients c) (λ r. record r { edited = set.insert r.edited p }) refl h
+small_step l (machine.Step.Give c p) h b = small_change l.clients c (map.get l.clients c) (λ r. record r { given = set.insert r.given p }) refl h
+small_step l (machine.Step.Quit c) h b = small_change l.clients c (map.get l.clients c) (λ r. record r { quits = true }) refl h
+small_step l (machine.Step.End c) h b = λ q r is. elim (same_or q c) [
   | inl e ↦ absurd (let gone : map.get (map.remove l.clients c) q ≡ None = ap (map.get (map.remove l.clients c)) e ∙ get-remove_same l.clients c in cc (gone, is))
   | inr d ↦ h q r (sym (get-remove_other l.clients c q d) ∙ is)
 ]
 
 -- the next world is kept where it knows who holds each part and where the entries stand
-pub kept_on : (n n' : ℕ) (m m' : Table) (ps ps' : List NumberSet) (hs hs' : List (Option ℕ)) (es es' : List Entry) (step : locks.Step (List Command))
+pub kept_on : (n n' : ℕ) (m m' : Table) (ps ps' : List NumberSet) (hs hs' : List (Option ℕ)) (es es' : List Entry) (step : machine.Step (List Command))
     → IsKept n m ps hs es → AreLocal batches (step ∷ []) → BeginsSmall step → refusal batches (world_of n m ps es).locks step ≡ None
     → world_of n' m' ps' es' ≡ world_after batches (world_of n m ps es) step
     → (IsReached batches (world_of n' m' ps' es') → (b : ℕ) → b < 12 → get_or hs' b None ≡ holder batches (clients_of m') b)

@@ -1,5 +1,7 @@
 -- Each step of a world of the program is the machine's, and what it keeps stays.
-use Rattle.std.proofs.Common.{◌≡◌, ℕ, suc, ◌<◌, ◌^◌, Bool, true, false, cond, not, ◌&&◌, ◌||◌, inl, inr, List, [], ◌∷◌, ◌++◌, length, Option, None, Some, IfSome, is_some, nat_eq, slice_get, get_or, set as set_at, option_map, refl, sym, ap, subst, ◌∙◌, arith, eq-eqb, eqb-true, ne_eqb}
+use Rattle.std.proofs.Common.{◌≡◌, ℕ, suc, ◌<◌, ◌^◌, Bool, true, false, cond, not, ◌&&◌, ◌||◌, inl, inr, List, [], ◌∷◌}
+use Rattle.std.proofs.Common.{◌++◌, length, Option, None, Some, IfSome, is_some, nat_eq, slice_get, get_or}
+use Rattle.std.proofs.Common.{set as set_at, option_map, refl, sym, ap, subst, ◌∙◌, arith, eq-eqb, eqb-true, ne_eqb}
 use Rattle.std.specs.Option.{unwrap_or}
 use Rattle.std.specs.Ordering.{nat_cmp}
 use Rattle.std.specs.FinSet as set
@@ -10,34 +12,40 @@ use Rattle.moc_parts.specs.Objects.{IsLocal, base_pixel}
 use Rattle.moc_parts.specs.Batches.{batches, set_after_all, footprint_of_all}
 use Rattle.moc_parts.specs.declared.command.Command.{Command}
 use Rattle.moc_parts.specs.Prepared.{kept as kept_part}
-use Rattle.moc_steps.specs.Locks as locks
-use Rattle.moc_steps.specs.Locks.{Running, Locks, Clients, AreLocal, begins, holds, holds_now, holder, is_any, refusal, has_taken, next_part, twelve, unless_idle, take_refusal, edit_refusal, give_refusal, quit_refusal, end_refusal}
-use Rattle.moc_steps.specs.World.{world_after, running, found_by, part_at, found_next, edited_parts, appended}
-use Rattle.moc_steps.specs.Explains.{names}
+use Rattle.moc_steps.specs.Machine as machine
+use Rattle.moc_steps.specs.Machine.{Running, Locks, Clients, AreLocal, begins, holds, holds_now, holder, is_any}
+use Rattle.moc_steps.specs.Machine.{refusal, has_taken, next_part, twelve, unless_idle, take_refusal, edit_refusal}
+use Rattle.moc_steps.specs.Machine.{give_refusal, quit_refusal, end_refusal, world_after, running, found_by, part_at}
+use Rattle.moc_steps.specs.Machine.{found_next, edited_parts, appended}
+use Rattle.moc_steps.specs.Orders.{names, client_of}
 use Rattle.moc_steps.specs.Private.Standing.{Standing}
 use Rattle.moc_steps.specs.Private.Changes.{IsChangeOf, changed, changed_at, changed_table}
 use Rattle.moc_steps.specs.declared.error.StepError.{StepError}
 use Rattle.moc_steps.specs.declared.error.StepError.TheVariants.{Idle}
 use Rattle.moc_steps.specs.declared.step.Step.{Step}
 use Rattle.moc_steps.specs.declared.step.Step.TheVariants as step
-use Rattle.moc_steps.specs.Progress.{client_of}
 use Rattle.moc_steps.specs.declared.table.Change.{Change}
 use Rattle.moc_steps.specs.declared.table.Change.TheVariants.{Take, Give, Quit}
 use Rattle.moc_steps.specs.Played.{BatchWorld, entry_of, entries_of, step_of}
 use Rattle.moc_steps.specs.Private.Worlds.{HasPlace, IsKept, world_of}
 use Rattle.moc_steps.specs.declared.step.Entry.{Entry}
-use Rattle.moc_steps.proofs.Basics.{clash, some_same, true_or_false, not_true_false, not_of_false, is_some_of, or_false, or_right, and_true, both, same_or, same_set, has-empty, map_some_from, get_front, get_last, get-insert_same, get-insert_other, get_set_same, get_set_other, has-insert_same, has-insert_other}
-use Rattle.moc_steps.proofs.Taking.{taken_alike, taken_footprint, taken-next, taken_below, next_footprint, nothing_taken}
+use Rattle.moc_steps.proofs.Basics.{clash, some_same, true_or_false, not_true_false, not_of_false, is_some_of, or_false}
+use Rattle.moc_steps.proofs.Basics.{or_right, and_true, both, same_or, same_set, has-empty, map_some_from, get_front}
+use Rattle.moc_steps.proofs.Basics.{get_last, get-insert_same, get-insert_other, get_set_same, get_set_other}
+use Rattle.moc_steps.proofs.Basics.{has-insert_same, has-insert_other}
+use Rattle.moc_steps.proofs.Taking.{taken_alike, taken_footprint, taken-next, taken_below, next_footprint}
+use Rattle.moc_steps.proofs.Taking.{nothing_taken}
 use Rattle.moc_steps.proofs.Invariant.{is_any_of, not_any_empty}
 use Rattle.moc_steps.proofs.Beginning.{idle_of}
 use Rattle.moc_steps.proofs.Permitted.{midway_of, take_permitted, edit_permitted, give_permitted}
 use Rattle.moc_steps.proofs.EditStep.{has_part, names_push}
 use Rattle.moc_steps.proofs.AnyObject.{reached_explained}
 use Rattle.moc_steps.proofs.Values.{get-values, values-insert, insert_twice}
-use Rattle.moc_steps.proofs.Kept.{Table, clients_of, founds_of, clients_changed, founds_same, holder_of, holder_nobody, holder_same, same_on, kept_on, at_each}
+use Rattle.moc_steps.proofs.Kept.{Table, clients_of, founds_of, clients_changed, founds_same, holder_of, holder_nobody}
+use Rattle.moc_steps.proofs.Kept.{holder_same, same_on, kept_on, at_each}
 
 -- a step from one world to the next, which keeps what the first kept
-abbrev pub Goes : ℕ → Table → List NumberSet → List Entry → locks.Step (List Command) → ℕ → Table → List NumberSet → List (Option ℕ) → List Entry → Type 0
+abbrev pub Goes : ℕ → Table → List NumberSet → List Entry → machine.Step (List Command) → ℕ → Table → List NumberSet → List (Option ℕ) → List Entry → Type 0
 Goes n m ps es step n' m' ps' hs' es' = (world_of n' m' ps' es' ≡ world_after batches (world_of n m ps es) step) × IsKept n' m' ps' hs' es'
 
 pub table_is : (m : Table) (c : ℕ) (s : Standing) (change : Change) → map.get m c ≡ Some s → changed_table m c change ≡ map.insert m c (changed s change)
@@ -70,27 +78,27 @@ module _ (n : ℕ) (m : Table) (ps : List NumberSet) (hs : List (Option ℕ)) (e
   pub found_is : (c : ℕ) (s : Standing) → map.get m c ≡ Some s → found_by batches (world_of n m ps es) c ≡ s.found
   found_is c s h = ap (λ x. unwrap_or x set.empty) (get-values (λ (s : Standing). s.found) m c ∙ ap (option_map (λ (s : Standing). s.found)) h)
 
-  pub quit_goes : (c : ℕ) → refusal batches (world_of n m ps es).locks (locks.Step.Quit c) ≡ None → Goes n m ps es (locks.Step.Quit c) n (changed_table m c Quit) ps hs es
+  pub quit_goes : (c : ℕ) → refusal batches (world_of n m ps es).locks (machine.Step.Quit c) ≡ None → Goes n m ps es (machine.Step.Quit c) n (changed_table m c Quit) ps hs es
   quit_goes c h =
       let k = midway_of batches (running batches (world_of n m ps es) c) (quit_refusal batches) h in
       let t = standing c k.0 k.1 in
       let s : Standing = t.0 in
       let s' : Standing = changed s Quit in
-      let is : world_of n (map.insert m c s') ps es ≡ world_after batches (world_of n m ps es) (locks.Step.Quit c) = (λ i. record {
+      let is : world_of n (map.insert m c s') ps es ≡ world_after batches (world_of n m ps es) (machine.Step.Quit c) = (λ i. record {
         locks = clients_changed n m c s s' (λ r. record r { quits = true }) t.1 refl i;
         parts = ps;
         found = founds_same m c s s' t.1 refl i;
         order = entries_of es;
       }) in
-      subst (λ m'. Goes n m ps es (locks.Step.Quit c) n m' ps hs es) (sym (table_is m c s Quit t.1)) (
+      subst (λ m'. Goes n m ps es (machine.Step.Quit c) n m' ps hs es) (sym (table_is m c s Quit t.1)) (
         is,
-        kept_on n n m (map.insert m c s') ps ps hs hs es es (locks.Step.Quit c) kept tt tt h is
+        kept_on n n m (map.insert m c s') ps ps hs hs es es (machine.Step.Quit c) kept tt tt h is
             (λ reached b l. kept.held b l ∙ sym (holder_same (world_of n m ps es) (world_of n (map.insert m c s') ps es) reached b
             (same_on n n m ps ps es es c b s s' t.1 (ap (λ x. x && not (set.contains s.running.given b)) (taken_alike batches s'.running s.running refl refl b)))))
             (at_each m c s' (λ q z. HasPlace (names (entries_of es)) z.running z.place) (kept.placed c s t.1) (λ q z d g. kept.placed q z g)),
       )
 
-  pub give_goes : (c b : ℕ) → length hs ≡ 12 → refusal batches (world_of n m ps es).locks (locks.Step.Give c b) ≡ None → Goes n m ps es (locks.Step.Give c b) n (changed_table m c (Give b)) ps (set_at hs b None) es
+  pub give_goes : (c b : ℕ) → length hs ≡ 12 → refusal batches (world_of n m ps es).locks (machine.Step.Give c b) ≡ None → Goes n m ps es (machine.Step.Give c b) n (changed_table m c (Give b)) ps (set_at hs b None) es
   give_goes c b twelve_hs h =
       let k = midway_of batches (running batches (world_of n m ps es) c) (λ r. give_refusal batches r b) h in
       let t = standing c k.0 k.1 in
@@ -98,16 +106,16 @@ module _ (n : ℕ) (m : Table) (ps : List NumberSet) (hs : List (Option ℕ)) (e
       let s' : Standing = changed s (Give b) in
       let g = give_permitted batches s.running b (ap (λ r. give_refusal batches r b) t.2 ∙ k.2) in
       let inv = reached_explained batches (world_of n m ps es) kept.reached in
-      let is : world_of n (map.insert m c s') ps es ≡ world_after batches (world_of n m ps es) (locks.Step.Give c b) = (λ i. record {
+      let is : world_of n (map.insert m c s') ps es ≡ world_after batches (world_of n m ps es) (machine.Step.Give c b) = (λ i. record {
         locks = clients_changed n m c s s' (λ r. record r { given = set.insert r.given b }) t.1 refl i;
         parts = ps;
         found = founds_same m c s s' t.1 refl i;
         order = entries_of es;
       }) in
       let b_low : b < 12 = (taken_footprint batches s.running b (and_true _ _ g.0).0).0 in
-      subst (λ m'. Goes n m ps es (locks.Step.Give c b) n m' ps (set_at hs b None) es) (sym (table_is m c s (Give b) t.1)) (
+      subst (λ m'. Goes n m ps es (machine.Step.Give c b) n m' ps (set_at hs b None) es) (sym (table_is m c s (Give b) t.1)) (
         is,
-        kept_on n n m (map.insert m c s') ps ps hs (set_at hs b None) es es (locks.Step.Give c b) kept tt tt h is
+        kept_on n n m (map.insert m c s') ps ps hs (set_at hs b None) es es (machine.Step.Give c b) kept tt tt h is
             (λ reached d l. elim (same_or d b) [
               | inl e ↦ ap (λ x. get_or (set_at hs b None) x None) e ∙ get_set_same hs b None None (subst (λ x. b < x) (sym twelve_hs) b_low)
                   ∙ sym (ap (holder batches (clients_of (map.insert m c s'))) e ∙ holder_nobody (clients_of (map.insert m c s')) b (λ q r at. elim (same_or q c) [
@@ -147,7 +155,7 @@ module _ (n : ℕ) (m : Table) (ps : List NumberSet) (hs : List (Option ℕ)) (e
       )
 
   pub take_goes : (c q : ℕ) (s : Standing) (list : NumberSet) → map.get m c ≡ Some s → next_part batches s.running ≡ Some q → list ≡ get_or ps q set.empty → length hs ≡ 12
-      → refusal batches (world_of n m ps es).locks (locks.Step.Take c) ≡ None → Goes n m ps es (locks.Step.Take c) n (changed_table m c (Take q list)) ps (set_at hs q (Some c)) es
+      → refusal batches (world_of n m ps es).locks (machine.Step.Take c) ≡ None → Goes n m ps es (machine.Step.Take c) n (changed_table m c (Take q list)) ps (set_at hs q (Some c)) es
   take_goes c q s list has next list_is twelve_hs h =
       let r : Running (List Command) = s.running in
       let k = midway_of batches (running batches (world_of n m ps es) c) (take_refusal batches (world_of n m ps es).locks) h in
@@ -164,15 +172,15 @@ module _ (n : ℕ) (m : Table) (ps : List NumberSet) (hs : List (Option ℕ)) (e
       ap (found_next batches (world_of n m ps es) c) (runs c s has)
       ∙ ap (λ F. set.union F (unwrap_or (option_map (part_at batches (world_of n m ps es)) (next_part batches r)) set.empty)) (found_is c s has)
       ∙ ap (λ x. set.union s.found (unwrap_or (option_map (part_at batches (world_of n m ps es)) x) set.empty)) next ∙ ap (set.union s.found) (sym list_is) in
-      let is : world_of n (map.insert m c s') ps es ≡ world_after batches (world_of n m ps es) (locks.Step.Take c) = (λ i. record {
+      let is : world_of n (map.insert m c s') ps es ≡ world_after batches (world_of n m ps es) (machine.Step.Take c) = (λ i. record {
         locks = clients_changed n m c s s' (λ r. record r { taken = suc r.taken }) has refl i;
         parts = ps;
         found = (values-insert (λ (s : Standing). s.found) m c s' ∙ ap (map.insert (founds_of m) c) (sym found_e)) i;
         order = entries_of es;
       }) in
-      subst (λ m'. Goes n m ps es (locks.Step.Take c) n m' ps (set_at hs q (Some c)) es) (sym (table_is m c s (Take q list) has)) (
+      subst (λ m'. Goes n m ps es (machine.Step.Take c) n m' ps (set_at hs q (Some c)) es) (sym (table_is m c s (Take q list) has)) (
         is,
-        kept_on n n m (map.insert m c s') ps ps hs (set_at hs q (Some c)) es es (locks.Step.Take c) kept tt tt h is
+        kept_on n n m (map.insert m c s') ps ps hs (set_at hs q (Some c)) es es (machine.Step.Take c) kept tt tt h is
             (λ reached d l. elim (same_or d q) [
               | inl e ↦ ap (λ x. get_or (set_at hs q (Some c)) x None) e ∙ get_set_same hs q (Some c) None (subst (λ x. q < x) (sym twelve_hs) (next_footprint batches r q next).0)
                   ∙ sym (ap (holder batches (clients_of (map.insert m c s'))) e ∙ holder_of (world_of n (map.insert m c s') ps es) reached c q s'.running
@@ -187,39 +195,39 @@ module _ (n : ℕ) (m : Table) (ps : List NumberSet) (hs : List (Option ℕ)) (e
   pub edit_goes : (c b : ℕ) (s s' : Standing) (list : NumberSet) (es' : List Entry) → map.get m c ≡ Some s → s'.running ≡ record s.running { edited = set.insert s.running.edited b } → s'.found ≡ s.found
       → list ≡ part_of (set_after_all s.found s.running.command) b → entries_of es' ≡ appended batches (entries_of es) c (Some s.running)
       → HasPlace (names (entries_of es')) s'.running s'.place → ((q : ℕ) (z : Standing) → map.get m q ≡ Some z → HasPlace (names (entries_of es')) z.running z.place)
-      → refusal batches (world_of n m ps es).locks (locks.Step.Edit c b) ≡ None → Goes n m ps es (locks.Step.Edit c b) n (map.insert m c s') (set_at ps b list) hs es'
+      → refusal batches (world_of n m ps es).locks (machine.Step.Edit c b) ≡ None → Goes n m ps es (machine.Step.Edit c b) n (map.insert m c s') (set_at ps b list) hs es'
   edit_goes c b s s' list es' has run_is found_e list_is order_is own others h =
       let v : BatchWorld = world_of n m ps es in
       let parts_are : set_at ps b list ≡ edited_parts batches v c (running batches v c) b =
       ap (set_at ps b) (list_is ∙ ap (λ F. part_of (set_after_all F s.running.command) b) (sym (found_is c s has))) ∙ sym (ap (λ x. edited_parts batches v c x b) (runs c s has)) in
-      let is : world_of n (map.insert m c s') (set_at ps b list) es' ≡ world_after batches v (locks.Step.Edit c b) = (λ i. record {
+      let is : world_of n (map.insert m c s') (set_at ps b list) es' ≡ world_after batches v (machine.Step.Edit c b) = (λ i. record {
         locks = clients_changed n m c s s' (λ r. record r { edited = set.insert r.edited b }) has run_is i;
         parts = parts_are i;
         found = founds_same m c s s' has found_e i;
         order = (order_is ∙ sym (ap (appended batches (entries_of es) c) (runs c s has))) i;
       }) in (
         is,
-        kept_on n n m (map.insert m c s') ps (set_at ps b list) hs hs es es' (locks.Step.Edit c b) kept tt tt h is
+        kept_on n n m (map.insert m c s') ps (set_at ps b list) hs hs es es' (machine.Step.Edit c b) kept tt tt h is
             (λ reached d l. kept.held d l ∙ sym (holder_same v (world_of n (map.insert m c s') (set_at ps b list) es') reached d
             (same_on n n m ps (set_at ps b list) es es' c d s s' has
             (ap (λ r. holds batches r d) run_is ∙ ap (λ x. x && not (set.contains s.running.given d)) (taken_alike batches (record s.running { edited = set.insert s.running.edited b }) s.running refl refl d)))))
             (at_each m c s' (λ q z. HasPlace (names (entries_of es')) z.running z.place) own (λ q z d g. others q z g)),
       )
 
-  pub begin_goes : (c : ℕ) (op : List Command) → IsLocal batches op → c < 2 ^ 32 → refusal batches (world_of n m ps es).locks (locks.Step.Begin c op) ≡ None
-      → Goes n m ps es (locks.Step.Begin c op) (suc n) (map.insert m c (record { running = begins batches n op; found = set.empty; place = None })) ps hs es
+  pub begin_goes : (c : ℕ) (op : List Command) → IsLocal batches op → c < 2 ^ 32 → refusal batches (world_of n m ps es).locks (machine.Step.Begin c op) ≡ None
+      → Goes n m ps es (machine.Step.Begin c op) (suc n) (map.insert m c (record { running = begins batches n op; found = set.empty; place = None })) ps hs es
   begin_goes c op local l h =
       let v : BatchWorld = world_of n m ps es in
       let s' : Standing = record { running = begins batches n op; found = set.empty; place = None } in
       let idle : running batches v c ≡ None = idle_of batches v.locks (running batches v c) h in
-      let is : world_of (suc n) (map.insert m c s') ps es ≡ world_after batches v (locks.Step.Begin c op) = (λ i. record {
+      let is : world_of (suc n) (map.insert m c s') ps es ≡ world_after batches v (machine.Step.Begin c op) = (λ i. record {
         locks = record { begun = suc n; clients = values-insert (λ (s : Standing). s.running) m c s' i };
         parts = ps;
         found = values-insert (λ (s : Standing). s.found) m c s' i;
         order = entries_of es;
       }) in (
         is,
-        kept_on n (suc n) m (map.insert m c s') ps ps hs hs es es (locks.Step.Begin c op) kept (local, tt) l h is
+        kept_on n (suc n) m (map.insert m c s') ps ps hs hs es es (machine.Step.Begin c op) kept (local, tt) l h is
             (λ reached d k. kept.held d k ∙ sym (holder_same v (world_of (suc n) (map.insert m c s') ps es) reached d (λ q. elim (same_or q c) [
               | inl e ↦ ap (λ x. holds_now batches (running batches (world_of (suc n) (map.insert m c s') ps es) x) d) e
                   ∙ ap (λ x. holds_now batches x d) (get-values (λ (s : Standing). s.running) (map.insert m c s') c ∙ ap (option_map (λ (s : Standing). s.running)) (get-insert_same m c s'))
@@ -230,18 +238,18 @@ module _ (n : ℕ) (m : Table) (ps : List NumberSet) (hs : List (Option ℕ)) (e
             (at_each m c s' (λ q z. HasPlace (names (entries_of es)) z.running z.place) (not_any_empty, tt) (λ q z d g. kept.placed q z g)),
       )
 
-  edit_allowed : (c b : ℕ) (s : Standing) → map.get m c ≡ Some s → refusal batches (world_of n m ps es).locks (locks.Step.Edit c b) ≡ None → edit_refusal batches s.running b ≡ None
+  edit_allowed : (c b : ℕ) (s : Standing) → map.get m c ≡ Some s → refusal batches (world_of n m ps es).locks (machine.Step.Edit c b) ≡ None → edit_refusal batches s.running b ≡ None
   edit_allowed c b s has h =
       let k = midway_of batches (running batches (world_of n m ps es) c) (λ r. edit_refusal batches r b) h in
       let r_is : k.0 ≡ s.running = some_same (running batches (world_of n m ps es) c) k.0 s.running k.1 (runs c s has) in
       ap (λ r. edit_refusal batches r b) (sym r_is) ∙ k.2
 
   -- the client of a permitted Edit holds the part
-  pub edit_footprint : (c b : ℕ) (s : Standing) → map.get m c ≡ Some s → refusal batches (world_of n m ps es).locks (locks.Step.Edit c b) ≡ None → (b < 12) × (footprint_of_all s.running.command b ≡ true)
+  pub edit_footprint : (c b : ℕ) (s : Standing) → map.get m c ≡ Some s → refusal batches (world_of n m ps es).locks (machine.Step.Edit c b) ≡ None → (b < 12) × (footprint_of_all s.running.command b ≡ true)
   edit_footprint c b s has h = taken_footprint batches s.running b (and_true _ _ (edit_permitted batches s.running b (edit_allowed c b s has h)).2).0
 
   -- and has taken all its parts
-  pub edit_all : (c b : ℕ) (s : Standing) → map.get m c ≡ Some s → refusal batches (world_of n m ps es).locks (locks.Step.Edit c b) ≡ None → next_part batches s.running ≡ None
+  pub edit_all : (c b : ℕ) (s : Standing) → map.get m c ≡ Some s → refusal batches (world_of n m ps es).locks (machine.Step.Edit c b) ≡ None → next_part batches s.running ≡ None
   edit_all c b s has h = (edit_permitted batches s.running b (edit_allowed c b s has h)).1
 
   -- one that is committed has a place
@@ -261,7 +269,7 @@ module _ (n : ℕ) (m : Table) (ps : List NumberSet) (hs : List (Option ℕ)) (e
   edited_place c b s has any = let p = kept.placed c s has in (is_any_of (set.insert s.running.edited b) b (has-insert_same s.running.edited b) ∙ sym any ∙ p.0, p.1)
 
   -- a client that may take has a next part
-  pub takes_some : {A : Type 0} (c : ℕ) (s : Standing) → map.get m c ≡ Some s → refusal batches (world_of n m ps es).locks (locks.Step.Take c) ≡ None → next_part batches s.running ≡ None → A
+  pub takes_some : {A : Type 0} (c : ℕ) (s : Standing) → map.get m c ≡ Some s → refusal batches (world_of n m ps es).locks (machine.Step.Take c) ≡ None → next_part batches s.running ≡ None → A
   takes_some c s has h none =
       let k = midway_of batches (running batches (world_of n m ps es) c) (take_refusal batches (world_of n m ps es).locks) h in
       let r_is : k.0 ≡ s.running = some_same (running batches (world_of n m ps es) c) k.0 s.running k.1 (runs c s has) in
@@ -271,8 +279,8 @@ module _ (n : ℕ) (m : Table) (ps : List NumberSet) (hs : List (Option ℕ)) (e
   -- the first Edit of a client: it is given its place, and its entry stands last
   pub first_edit_goes : (c b : ℕ) (s : Standing) (place : ℕ) (list : NumberSet) (e : Entry) → map.get m c ≡ Some s → s.place ≡ None → place ≡ length es
       → e.begin ≡ s.running.operation → e.client ≡ c → e.reply ≡ None
-      → list ≡ part_of (set_after_all s.found s.running.command) b → refusal batches (world_of n m ps es).locks (locks.Step.Edit c b) ≡ None
-      → Goes n m ps es (locks.Step.Edit c b) n (map.insert m c (record { running = record s.running { edited = set.insert s.running.edited b }; found = s.found; place = Some place })) (set_at ps b list) hs (es ++ e ∷ [])
+      → list ≡ part_of (set_after_all s.found s.running.command) b → refusal batches (world_of n m ps es).locks (machine.Step.Edit c b) ≡ None
+      → Goes n m ps es (machine.Step.Edit c b) n (map.insert m c (record { running = record s.running { edited = set.insert s.running.edited b }; found = s.found; place = Some place })) (set_at ps b list) hs (es ++ e ∷ [])
   first_edit_goes c b s place list e has none place_is begin_is client_is reply_is list_is h =
       let none_edited : is_any s.running.edited ≡ false = (kept.placed c s has).0 ∙ ap is_some none in
       let order_is : entries_of (es ++ e ∷ []) ≡ appended batches (entries_of es) c (Some s.running) =

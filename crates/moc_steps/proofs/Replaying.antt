@@ -1,13 +1,13 @@
 -- Steps that are taken one by one.
-use Rattle.std.proofs.Common.{◌≡◌, ℕ, zero, suc, ◌+◌, List, [], ◌∷◌, ◌++◌, None, Some, slice_get, take, length, inr, refl, sym, ap, subst, ◌∙◌, arith}
+use Rattle.std.proofs.Common.{◌≡◌, ℕ, zero, suc, ◌+◌, List, [], ◌∷◌, ◌++◌, None, Some, slice_get, take, length, inr}
+use Rattle.std.proofs.Common.{refl, sym, ap, subst, ◌∙◌, arith}
 use Rattle.moc_ranges.specs.Numbers.{NumberSet}
 use Rattle.moc_ranges.specs.Pixels.{pixels}
 use Rattle.moc_ranges.specs.Operations.{IsWithin}
 use Rattle.moc_parts.specs.Batches.{batches}
 use Rattle.moc_parts.specs.Objects.{IsLocal}
 use Rattle.moc_parts.specs.declared.command.Command.{Command}
-use Rattle.moc_steps.specs.Locks.{AreLocal, refusal}
-use Rattle.moc_steps.specs.World.{start_world, world_after}
+use Rattle.moc_steps.specs.Machine.{AreLocal, refusal, start_world, world_after}
 use Rattle.moc_steps.specs.Laws.{led_to, ArePlayed, HasOneOrder}
 use Rattle.moc_steps.specs.Played.{BatchWorld, step_of, steps_of, IsRefused, IsRefusedAt}
 use Rattle.moc_steps.specs.declared.step.Step.{Step}

@@ -1,20 +1,19 @@
--- The world that a set starts, and the set that a world makes.
-use Rattle.std.proofs.Common.{◌≡◌, ℕ, zero, suc, ◌+◌, ◌||◌, List, [], ◌∷◌, ◌++◌, Option, None, Some, slice_get, take, length, option_map, refl, sym, ap, subst, ◌∙◌, arith}
+-- The world that a set starts.
+use Rattle.std.proofs.Common.{◌≡◌, ℕ, List, [], ◌∷◌, ◌++◌, Option, None, Some}
+use Rattle.std.proofs.Common.{length, option_map, refl, sym, ap, subst, ◌∙◌, arith}
 use Rattle.std.specs.Ordering.{nat_cmp}
-use Rattle.std.specs.FinSet as set
 use Rattle.std.specs.FinMap as map
 use Rattle.moc_ranges.specs.Numbers.{NumberSet}
 use Rattle.moc_ranges.specs.Pixels.{pixels}
 use Rattle.moc_ranges.specs.Operations.{IsWithin}
 use Rattle.moc_parts.specs.Batches.{batches}
-use Rattle.moc_parts.specs.Parts.{parts_below, union_of}
+use Rattle.moc_parts.specs.Parts.{parts_below}
 use Rattle.moc_steps.specs.Laws.{IsReached}
-use Rattle.moc_steps.specs.World.{start_world}
+use Rattle.moc_steps.specs.Machine.{start_world}
 use Rattle.moc_steps.specs.Private.Standing.{Standing}
 use Rattle.moc_steps.specs.Played.{entries_of}
 use Rattle.moc_steps.specs.Private.Worlds.{IsKept, world_of}
 use Rattle.moc_steps.specs.declared.step.Entry.{Entry}
-use Rattle.moc_steps.proofs.Basics.{same_set, some_same, has-union, has-empty, or_false, or_again}
 use Rattle.moc_steps.proofs.AnyObject.{start_reached}
 use Rattle.moc_steps.proofs.Loops.{twelve_nones}
 use Rattle.moc_steps.proofs.Values.{get-values, values-empty}
@@ -60,31 +59,3 @@ module _ (m : Table) (ps : List NumberSet) (es : List Entry) (start : NumberSet)
         absurd (cc (gone, h)));
     placed = λ c s h. not_there c s h;
   }
-
--- the union of the first lists, and of one more
-pub union_none : (xs : List NumberSet) → set.empty ≡ union_of (take 0 xs)
-union_none [] = refl
-union_none (x ∷ xs) = refl
-
-union_suc : (xs : List NumberSet) (i : ℕ) (y : NumberSet) → slice_get xs i ≡ Some y → union_of (take (suc i) xs) ≡ set.union (union_of (take i xs)) y
-union_suc [] i y h = absurd (cc)
-union_suc (x ∷ xs) zero y h = same_set _ _ (λ p.
-    has-union x (union_of (take 0 xs)) p ∙ ap (λ s. set.contains x p || set.contains s p) (sym (union_none xs)) ∙ ap (λ b. set.contains x p || b) (has-empty p) ∙ or_false (set.contains x p)
-    ∙ sym (ap (λ b. b || set.contains x p) (has-empty p))
-    ∙ ap (λ s. set.contains (set.empty {R = nat_cmp}) p || set.contains s p) (some_same (Some x) x y refl h) ∙ sym (has-union set.empty y p))
-union_suc (x ∷ xs) (suc i) y h = ap (set.union x) (union_suc xs i y h) ∙ same_set _ _ (λ p.
-    has-union x (set.union (union_of (take i xs)) y) p ∙ ap (λ t. set.contains x p || t) (has-union (union_of (take i xs)) y p)
-    ∙ or_again (set.contains x p) (set.contains (union_of (take i xs)) p) (set.contains y p)
-    ∙ ap (λ t. t || set.contains y p) (sym (has-union x (union_of (take i xs)) p)) ∙ sym (has-union (set.union x (union_of (take i xs))) y p))
-
-pub union_next : (xs : List NumberSet) (i : ℕ) (w y v : NumberSet) → w ≡ union_of (take i xs) → slice_get xs i ≡ Some y → v ≡ set.union w y → v ≡ union_of (take (i + 1) xs)
-union_next xs i w y v h at is =
-    let e : i + 1 ≡ suc i = omega arith in
-    is ∙ ap (λ s. set.union s y) h ∙ sym (union_suc xs i y at) ∙ sym (ap (λ k. union_of (take k xs)) e)
-
-take_all : {X : Type 0} (xs : List X) → take (length xs) xs ≡ xs
-take_all [] = refl
-take_all (x ∷ xs) = ap (λ ys. x ∷ ys) (take_all xs)
-
-pub union_all : (xs : List NumberSet) (i : ℕ) (w : NumberSet) → w ≡ union_of (take i xs) → i ≡ length xs → w ≡ union_of xs
-union_all xs i w h e = h ∙ ap (λ k. union_of (take k xs)) e ∙ ap union_of (take_all xs)

@@ -8,11 +8,10 @@ use Rattle.moc_ranges.specs.Operations.{IsWithin}
 use Rattle.moc_parts.specs.Objects.{Object, base_pixel}
 use Rattle.moc_parts.specs.Batches.{batches}
 use Rattle.moc_parts.specs.declared.command.Command.{Command}
-use Rattle.moc_steps.specs.Locks.{Step, Running, ArePermitted, AreLocal, all_idle, refusal}
-use Rattle.moc_steps.specs.Operations.{operations, midway}
-use Rattle.moc_steps.specs.World.{World, Entry, reply_to, world_after, run, start_world, part_at, whole, running}
-use Rattle.moc_steps.specs.Explains.{Explains, set_by_order, names, times}
-use Rattle.moc_steps.specs.Progress.{AreProgress, is_progress, client_of, steps_left, is_to_come}
+use Rattle.moc_steps.specs.Machine.{Step, Running, ArePermitted, AreLocal, all_idle, refusal, World, Entry, reply_to}
+use Rattle.moc_steps.specs.Machine.{world_after, run, start_world, part_at, whole, running}
+use Rattle.moc_steps.specs.Orders.{operations, midway, Explains, set_by_order, names, times, AreProgress, is_progress}
+use Rattle.moc_steps.specs.Orders.{client_of, steps_left, is_to_come}
 
 module _ {Op Reply : Type 0} (o : Object Op Reply) where
   -- the world that steps lead to
@@ -33,7 +32,8 @@ module _ {Op Reply : Type 0} (o : Object Op Reply) where
     -- as many clients are midway as operations
     pub counted : map.len (led_to start steps).locks.clients ≡ midway steps
     -- where none is midway the parts together are that set
-    pub together : midway steps ≡ 0 → whole o (led_to start steps) ≡ set_by_order o (led_to start steps).order steps start
+    pub together : midway steps ≡ 0
+        → whole o (led_to start steps) ≡ set_by_order o (led_to start steps).order steps start
 
   -- a permitted step of a midway client that is neither a Begin nor a Quit
   abbrev pub CanGoOn : World Op Reply → Type 0

@@ -6,9 +6,9 @@ ghost use Rattle.std.specs.Option.{option_copied};
 ghost use Rattle.std.specs.FinSet as set;
 ghost use Rattle.moc_ranges.specs.Operations.{part_of};
 ghost use Rattle.moc_parts.specs.Batches.{batches, footprint_of_all, set_after_all, replies_on};
-ghost use Rattle.moc_steps.specs.Locks as locks;
-ghost use Rattle.moc_steps.specs.Locks.{begins, holds, holds_some, edit_refusal, give_refusal, quit_refusal};
-ghost use Rattle.moc_steps.specs.Locks.{end_refusal};
+ghost use Rattle.moc_steps.specs.Machine as machine;
+ghost use Rattle.moc_steps.specs.Machine.{begins, holds, holds_some, edit_refusal, give_refusal, quit_refusal};
+ghost use Rattle.moc_steps.specs.Machine.{end_refusal};
 ghost use Rattle.moc_steps.specs.Private.Standing.{IsMade};
 
 use crate::error::StepError;
@@ -99,7 +99,7 @@ impl Midway {
 
     /// The part that it takes next.
     pub(crate) fn next_part(&self) -> Option<Part>
-        ensures { result ≡ locks.next_part batches self.now.running }
+        ensures { result ≡ machine.next_part batches self.now.running }
     {
         part_at(&self.parts, self.taken)
     }
@@ -115,8 +115,8 @@ impl Midway {
     fn holds_some(&self) -> bool
         ensures { result ≡ holds_some batches self.now.running }
     {
-        for b in 0u8..12 {
-            if self.holds(Part::of(b)) {
+        for part in Part::ALL {
+            if self.holds(part) {
                 return true;
             }
         }
@@ -132,7 +132,7 @@ impl Midway {
 
     /// Whether it has edited some part.
     pub(crate) fn is_committed(&self) -> bool
-        ensures { result ≡ locks.is_any self.now.running.edited }
+        ensures { result ≡ machine.is_any self.now.running.edited }
     {
         !self.edited.is_empty()
     }
@@ -202,7 +202,7 @@ impl Midway {
 
     /// What its first Edit makes, for an entry at this place.
     pub(crate) fn make(&self, alloc: Global, place: usize) -> Result<Made, Memory>
-        requires all { locks.next_part batches self.now.running ≡ None }
+        requires all { machine.next_part batches self.now.running ≡ None }
         ensures place { IfOk result (λ m. m.place ≡ place) }
         ensures made { IfOk result (λ m. IsMade self.now m) }
     {
@@ -233,7 +233,7 @@ impl Midway {
 
     /// Takes its next part, and notes what it finds there.
     pub(crate) fn take(&mut self, part: Part, list: Share)
-        requires next { locks.next_part batches self.old.running ≡ Some part }
+        requires next { machine.next_part batches self.old.running ≡ Some part }
         requires own { part_of list part ≡ list }
         requires fresh { part_of self.old.found part ≡ set.empty }
         requires first { self.old.place ≡ None }
@@ -296,7 +296,7 @@ impl Midway {
 
 /// The parts of a batch's footprint, rising.
 fn parts_of(alloc: Global, batch: &Batch) -> Result<Vec<Part>, Memory>
-    ensures { IfOk result (λ v. v.items ≡ locks.footprint_parts batches batch.now) }
+    ensures { IfOk result (λ v. v.items ≡ machine.footprint_parts batches batch.now) }
 {
     let mut parts = Vec::new(alloc);
     for part in batch.footprint(alloc) {

@@ -5,9 +5,8 @@ ghost use Rattle.moc_ranges.specs.Operations.{IsWithin};
 ghost use Rattle.moc_ranges.specs.Pixels.{pixels};
 ghost use Rattle.moc_parts.specs.Batches.{batches};
 ghost use Rattle.moc_steps.specs.Laws.{led_to, ArePlayed, HasOneOrder};
-ghost use Rattle.moc_steps.specs.Locks.{refusal};
-ghost use Rattle.moc_steps.specs.Progress.{is_progress};
-ghost use Rattle.moc_steps.specs.World.{start_world};
+ghost use Rattle.moc_steps.specs.Machine.{refusal, start_world};
+ghost use Rattle.moc_steps.specs.Orders.{is_progress};
 ghost use Rattle.moc_steps.specs.Played.{step_of, steps_of, IsRefusedAt, LeadsOn};
 
 use crate::error::{ReplayError, StepError};

@@ -1,15 +1,15 @@
 //! The world of a schedule: twelve lists, and clients that take, change and give back parts of them.
 ghost use Rattle.std.specs.Prelude.{◌≡◌, ◌<◌, ◌^◌, true, IfOk, IfErr, IfSome, IsSome, OnOk, OnErr, None, Some};
-ghost use Rattle.std.specs.Prelude.{option_map};
+ghost use Rattle.std.specs.Prelude.{length, option_map};
 ghost use Rattle.std.specs.Option.{option_copied};
 ghost use Rattle.std.specs.FinMap as map;
 ghost use Rattle.moc_parts.specs.Batches.{batches};
-ghost use Rattle.moc_steps.specs.Locks as locks;
-ghost use Rattle.moc_steps.specs.Locks.{refusal, begin_refusal, is_any, take_refusal};
-ghost use Rattle.moc_steps.specs.World.{part_at, reply_to, running, start_world, whole, world_after};
+ghost use Rattle.moc_steps.specs.Machine as machine;
+ghost use Rattle.moc_steps.specs.Machine.{refusal, begin_refusal, is_any, take_refusal, part_at, reply_to, running};
+ghost use Rattle.moc_steps.specs.Machine.{start_world, whole, world_after};
 ghost use Rattle.moc_steps.specs.Laws.{IsReached, RepliesByEntry};
-ghost use Rattle.moc_steps.specs.Progress.{is_progress, steps_left};
-ghost use Rattle.moc_parts.specs.Parts.{union_of};
+ghost use Rattle.moc_steps.specs.Orders.{is_progress, steps_left};
+ghost use Rattle.moc_parts.specs.Prepared.{found_sets};
 ghost use Rattle.moc_steps.specs.Played.{entries_of, step_of, IsCoverFault, IsRefused};
 ghost use Rattle.moc_steps.specs.Private.Worlds.{IsFree, IsHighest};
 ghost use Rattle.moc_steps.specs.Private.Standing.{Standing};
@@ -19,7 +19,7 @@ use crate::midway::Midway;
 use crate::share::Share;
 use crate::step::{Entry, Step};
 use crate::table::{Change, Table};
-use moc_parts::{Batch, Part, Replies, batches_are_local, cut};
+use moc_parts::{Batch, Part, Replies, batches_are_local, cut, unite};
 use moc_ranges::{Coverage, Memory};
 use std::alloc::Global;
 use std::fmt;
@@ -103,7 +103,7 @@ impl World {
         if n > 0 {
             return Err(CoverError::Midway { n });
         }
-        Ok(union_of(self.alloc, &self.parts)?)
+        Ok(unite(self.alloc, &lists(&self.parts))?)
     }
 
     /// Why a Begin is refused.
@@ -198,8 +198,8 @@ impl World {
 
     /// A permitted Begin.
     fn begin(&mut self, client: u32, batch: Batch) -> Result<(), Memory>
-        requires { refusal batches self.old.locks (locks.Step.Begin client batch) ≡ None }
-        ensures after { OnOk result (self.new ≡ world_after batches self.old (locks.Step.Begin client batch)) }
+        requires { refusal batches self.old.locks (machine.Step.Begin client batch) ≡ None }
+        ensures after { OnOk result (self.new ≡ world_after batches self.old (machine.Step.Begin client batch)) }
         ensures unchanged { OnErr result (self.new ≡ self.old) }
     {
         // Both are called for what they promise alone: the rules of steps let an operation begin that looks at its
@@ -214,8 +214,8 @@ impl World {
 
     /// A permitted Take. The list is not copied.
     fn take(&mut self, client: u32) -> Result<(), Memory>
-        requires { refusal batches self.old.locks (locks.Step.Take client) ≡ None }
-        ensures after { OnOk result (self.new ≡ world_after batches self.old (locks.Step.Take client)) }
+        requires { refusal batches self.old.locks (machine.Step.Take client) ≡ None }
+        ensures after { OnOk result (self.new ≡ world_after batches self.old (machine.Step.Take client)) }
         ensures unchanged { OnErr result (self.new ≡ self.old) }
     {
         let Some(midway) = self.clients.get(client) else {
@@ -232,8 +232,8 @@ impl World {
 
     /// A permitted Edit. The first one of an operation makes all its lists, and commits it.
     fn edit(&mut self, client: u32, part: Part) -> Result<(), Memory>
-        requires { refusal batches self.old.locks (locks.Step.Edit client part) ≡ None }
-        ensures after { OnOk result (self.new ≡ world_after batches self.old (locks.Step.Edit client part)) }
+        requires { refusal batches self.old.locks (machine.Step.Edit client part) ≡ None }
+        ensures after { OnOk result (self.new ≡ world_after batches self.old (machine.Step.Edit client part)) }
         ensures unchanged { OnErr result (self.new ≡ self.old) }
     {
         let Some(midway) = self.clients.get(client) else {
@@ -262,9 +262,9 @@ impl World {
 
     /// A permitted Edit of an operation that is committed.
     fn edit_again(&mut self, client: u32, part: Part) -> Result<(), Memory>
-        requires permitted { refusal batches self.old.locks (locks.Step.Edit client part) ≡ None }
+        requires permitted { refusal batches self.old.locks (machine.Step.Edit client part) ≡ None }
         requires committed { IfSome (running batches self.old client) (λ r. is_any r.edited ≡ true) }
-        ensures after { OnOk result (self.new ≡ world_after batches self.old (locks.Step.Edit client part)) }
+        ensures after { OnOk result (self.new ≡ world_after batches self.old (machine.Step.Edit client part)) }
         ensures unchanged { OnErr result (self.new ≡ self.old) }
     {
         let Some(midway) = self.clients.get(client) else {
@@ -281,8 +281,8 @@ impl World {
 
     /// A permitted Give.
     fn give(&mut self, client: u32, part: Part)
-        requires { refusal batches self.old.locks (locks.Step.Give client part) ≡ None }
-        ensures { self.new ≡ world_after batches self.old (locks.Step.Give client part) }
+        requires { refusal batches self.old.locks (machine.Step.Give client part) ≡ None }
+        ensures { self.new ≡ world_after batches self.old (machine.Step.Give client part) }
     {
         self.clients.change(client, Change::Give(part));
         self.holders[usize::from(part.get())] = None;
@@ -290,18 +290,18 @@ impl World {
 
     /// A permitted Quit.
     fn quit(&mut self, client: u32)
-        requires { refusal batches self.old.locks (locks.Step.Quit client) ≡ None }
-        ensures { self.new ≡ world_after batches self.old (locks.Step.Quit client) }
+        requires { refusal batches self.old.locks (machine.Step.Quit client) ≡ None }
+        ensures { self.new ≡ world_after batches self.old (machine.Step.Quit client) }
     {
         self.clients.change(client, Change::Quit);
     }
 
     /// A permitted End.
     fn end(&mut self, client: u32) -> Option<Replies>
-        requires { refusal batches self.old.locks (locks.Step.End client) ≡ None }
-        ensures after { self.new ≡ world_after batches self.old (locks.Step.End client) }
-        ensures reply { result ≡ reply_to batches self.old (locks.Step.End client) }
-        ensures entry { RepliesByEntry batches self.old (locks.Step.End client) }
+        requires { refusal batches self.old.locks (machine.Step.End client) ≡ None }
+        ensures after { self.new ≡ world_after batches self.old (machine.Step.End client) }
+        ensures reply { result ≡ reply_to batches self.old (machine.Step.End client) }
+        ensures entry { RepliesByEntry batches self.old (machine.Step.End client) }
     {
         let midway = self.clients.remove(client)?;
         let place = midway.place()?;
@@ -340,10 +340,9 @@ impl World {
             (refusal batches self.now.locks (step_of s) ≡ None) × (is_progress (step_of s) ≡ true)) }
         ensures none { result ≡ None → map.len self.now.locks.clients ≡ 0 }
     {
-        for above in 0u8..12 {
-            let part = Part::of(11 - above);
+        for part in Part::ALL.iter().rev() {
             if let Some(client) = self.holders[usize::from(part.get())] {
-                return self.step_of_holder(client, part);
+                return self.step_of_holder(client, *part);
             }
         }
         self.step_of_first()
@@ -391,13 +390,14 @@ impl fmt::Debug for World {
     }
 }
 
-/// The union of lists.
-fn union_of(alloc: Global, lists: &[Share]) -> Result<Coverage, Memory>
-    ensures { IfOk result (λ a. a ≡ union_of lists.now) }
+/// The lists of all parts.
+fn lists(parts: &[Share]) -> [Option<&Coverage>; 12]
+    requires { length parts.now ≡ 12 }
+    ensures { found_sets result ≡ parts.now }
 {
-    let mut whole = Coverage::empty(alloc);
-    for list in lists {
-        whole = whole.union(alloc, list.list())?;
+    let mut lists = [None; 12];
+    for (b, part) in parts.iter().enumerate() {
+        lists[b] = Some(part.list());
     }
-    Ok(whole)
+    lists
 }

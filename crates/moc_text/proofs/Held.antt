@@ -17,7 +17,7 @@ use Rattle.std.proofs.lemmas.Bool.Decides.{nat_tests}
 use Rattle.moc_text.specs.Private.Scan.{held_after}
 use Rattle.moc_text.specs.declared.ascii.number.Number.{Number}
 use Rattle.moc_text.specs.declared.ascii.number.Item.{Item}
-use Rattle.moc_text.specs.declared.ascii.number.Parts.{Parts}
+use Rattle.moc_text.specs.declared.ascii.number.WordNumbers.{WordNumbers}
 use Rattle.moc_text.proofs.Automaton.{both}
 
 is_digit : (d : ℕ) → is_ascii_digit d ≡ true → IsInRange 48 57 d
@@ -54,7 +54,7 @@ held_maybe None = None
 held_maybe (Some i) = Some (held_item i)
 
 -- numbers of a word as the program has them
-abbrev pub held : Parts → Parts
+abbrev pub held : WordNumbers → WordNumbers
 held n = record { mark = held_last n.mark; item = held_maybe n.item }
 
 -- ---- a held number serves as well

@@ -6,11 +6,11 @@ use Rattle.std.proofs.lemmas.List.{append-nil}
 use Rattle.std.proofs.lemmas.Bool.Decides.{nat_tests}
 use Rattle.moc_text.specs.Ascii.{Word, words, IsNumber, Mark, prefix, Cells, One, Run, cells_text, AreCells, Shape}
 use Rattle.moc_text.specs.Ascii.{JustMark, JustItem, MarkItem, shape_text, IsShape, IsLawful, ShapeFaultAt}
-use Rattle.moc_text.specs.Ascii.{HasShapeFault, parts_at, Means, order_in_force, order_after, fault_of, AreRead}
+use Rattle.moc_text.specs.Ascii.{HasShapeFault, numbers_at, Means, order_in_force, order_after, fault_of, AreRead}
 use Rattle.moc_text.specs.Ascii.{IsFault, IsFirstFault, Says, pixels_said, deepest_of}
 use Rattle.moc_ranges.specs.Numbers.{NumberSet}
 use Rattle.moc_text.specs.Private.Scan.{front_digits, past_digits, after_byte, starts_with_digit}
-use Rattle.moc_text.specs.declared.ascii.number.Parts.{Parts}
+use Rattle.moc_text.specs.declared.ascii.number.WordNumbers.{WordNumbers}
 use Rattle.moc_text.specs.declared.ascii.error.TextError.{TextError}
 use Rattle.moc_text.proofs.Automaton.{both}
 
@@ -113,10 +113,10 @@ shape_of-text (MarkItem m c) h =
     ∙ marked_of-cells m c h.1
     ∙ ap (λ (d : Cells). MarkItem m d) (cells_of-text c h.1)
 
-pub one_meaning : (w : Word) (m n : Parts) → Means w m → Means w n → m ≡ n
+pub one_meaning : (w : Word) (m n : WordNumbers) → Means w m → Means w n → m ≡ n
 one_meaning w m n x y =
     let e : x.0 ≡ y.0 = sym (shape_of-text x.0 x.1) ∙ ap shape_of (sym x.2 ∙ y.2) ∙ shape_of-text y.0 y.1 in
-    x.3 ∙ ap (parts_at w.at) e ∙ sym y.3
+    x.3 ∙ ap (numbers_at w.at) e ∙ sym y.3
 
 -- ---- a word has one fault, or none
 
@@ -144,13 +144,13 @@ lawful_at_end : (w : Word) (p rest : List ℕ) (f : TextError) → w.bytes ≡ p
 lawful_at_end w p [] f e le h x = x.0 (subst IsLawful (e ∙ append-nil p) h)
 lawful_at_end w p (b ∷ rest) f e le h x = omega (arith, ap length e, length-append p (b ∷ rest))
 
-lawful_no_fault : (w : Word) (n : Parts) (f : TextError) → Means w n → HasShapeFault w f → ⊥
+lawful_no_fault : (w : Word) (n : WordNumbers) (f : TextError) → Means w n → HasShapeFault w f → ⊥
 lawful_no_fault w n f m x =
     let lawful : IsLawful w.bytes = (m.0, m.1, m.2) in
     let itself : IsLawful (w.bytes ++ []) = (m.0, m.1, append-nil w.bytes ∙ m.2) in
     lawful_at_end w x.0 x.1 f x.2.parts (x.2.longest w.bytes [] (sym (append-nil w.bytes)) ([], itself)) lawful x.3
 
-read_no_fault : (before : Option ℕ) (w : Word) (n : Parts) (f : TextError) → Means w n → fault_of before w.at n ≡ None → IsFault before w f → ⊥
+read_no_fault : (before : Option ℕ) (w : Word) (n : WordNumbers) (f : TextError) → Means w n → fault_of before w.at n ≡ None → IsFault before w f → ⊥
 read_no_fault before w n f m none (inl x) = lawful_no_fault w n f m x
 read_no_fault before w n f m none (inr x) =
     let e : n ≡ x.0 = one_meaning w n x.0 m x.1 in
@@ -168,7 +168,7 @@ one_fault before w f g (inr x) (inr y) =
 
 -- ---- a text has one meaning
 
-one_read : (before : Option ℕ) (ws : List Word) (ms ns : List Parts) → AreRead before ws ms → AreRead before ws ns → ms ≡ ns
+one_read : (before : Option ℕ) (ws : List Word) (ms ns : List WordNumbers) → AreRead before ws ms → AreRead before ws ns → ms ≡ ns
 one_read before [] [] [] x y = refl
 one_read before [] [] (n ∷ ns) x y = absurd y
 one_read before [] (m ∷ ms) ns x y = absurd x
@@ -176,10 +176,10 @@ one_read before (w ∷ ws) [] ns x y = absurd x
 one_read before (w ∷ ws) (m ∷ ms) [] x y = absurd y
 one_read before (w ∷ ws) (m ∷ ms) (n ∷ ns) x y =
     let e : m ≡ n = one_meaning w m n x.0 y.0 in
-    let t : ms ≡ ns = one_read (order_in_force before n.mark) ws ms ns (subst (λ (k : Parts). AreRead (order_in_force before k.mark) ws ms) e x.2) y.2 in
-    ap (λ (k : Parts). k ∷ ms) e ∙ ap (λ (r : List Parts). n ∷ r) t
+    let t : ms ≡ ns = one_read (order_in_force before n.mark) ws ms ns (subst (λ (k : WordNumbers). AreRead (order_in_force before k.mark) ws ms) e x.2) y.2 in
+    ap (λ (k : WordNumbers). k ∷ ms) e ∙ ap (λ (r : List WordNumbers). n ∷ r) t
 
-read_or_faulty : (before : Option ℕ) (good : List Word) (w : Word) (others : List Word) (ms ns : List Parts) (f : TextError) → AreRead before (good ++ w ∷ others) ns → AreRead before good ms → IsFault (order_after before ms) w f → ⊥
+read_or_faulty : (before : Option ℕ) (good : List Word) (w : Word) (others : List Word) (ms ns : List WordNumbers) (f : TextError) → AreRead before (good ++ w ∷ others) ns → AreRead before good ms → IsFault (order_after before ms) w f → ⊥
 read_or_faulty before [] w others [] [] f x y z = x
 read_or_faulty before [] w others [] (n ∷ ns) f x y z = read_no_fault before w n f x.0 x.1 z
 read_or_faulty before [] w others (m ∷ ms) ns f x y z = y
@@ -187,9 +187,9 @@ read_or_faulty before (v ∷ good) w others [] ns f x y z = y
 read_or_faulty before (v ∷ good) w others (m ∷ ms) [] f x y z = x
 read_or_faulty before (v ∷ good) w others (m ∷ ms) (n ∷ ns) f x y z =
     let e : m ≡ n = one_meaning v m n y.0 x.0 in
-    read_or_faulty (order_in_force before n.mark) good w others ms ns f x.2 (subst (λ (k : Parts). AreRead (order_in_force before k.mark) good ms) e y.2) (subst (λ (k : Parts). IsFault (order_after (order_in_force before k.mark) ms) w f) e z)
+    read_or_faulty (order_in_force before n.mark) good w others ms ns f x.2 (subst (λ (k : WordNumbers). AreRead (order_in_force before k.mark) good ms) e y.2) (subst (λ (k : WordNumbers). IsFault (order_after (order_in_force before k.mark) ms) w f) e z)
 
-first_fault : (before : Option ℕ) (a b : List Word) (v w : Word) (x y : List Word) (ms ns : List Parts) (f g : TextError) → a ++ v ∷ x ≡ b ++ w ∷ y → AreRead before a ms → AreRead before b ns → IsFault (order_after before ms) v f → IsFault (order_after before ns) w g → f ≡ g
+first_fault : (before : Option ℕ) (a b : List Word) (v w : Word) (x y : List Word) (ms ns : List WordNumbers) (f g : TextError) → a ++ v ∷ x ≡ b ++ w ∷ y → AreRead before a ms → AreRead before b ns → IsFault (order_after before ms) v f → IsFault (order_after before ns) w g → f ≡ g
 first_fault before [] [] v w x y [] [] f g e ra rb p q =
     let h : v ≡ w = cc in
     one_fault before w f g (subst (λ (k : Word). IsFault before k f) h p) q
@@ -211,7 +211,7 @@ first_fault before (c ∷ a) (d ∷ b) v w x y (m ∷ ms) (n ∷ ns) f g e ra rb
     let h : c ≡ d = cc in
     let t : a ++ v ∷ x ≡ b ++ w ∷ y = cc in
     let k : m ≡ n = one_meaning d m n (subst (λ (z : Word). Means z m) h ra.0) rb.0 in
-    first_fault (order_in_force before n.mark) a b v w x y ms ns f g t (subst (λ (z : Parts). AreRead (order_in_force before z.mark) a ms) k ra.2) rb.2 (subst (λ (z : Parts). IsFault (order_after (order_in_force before z.mark) ms) v f) k p) q
+    first_fault (order_in_force before n.mark) a b v w x y ms ns f g t (subst (λ (z : WordNumbers). AreRead (order_in_force before z.mark) a ms) k ra.2) rb.2 (subst (λ (z : WordNumbers). IsFault (order_after (order_in_force before z.mark) ms) v f) k p) q
 
 pub one_set : (text : List ℕ) (a b : NumberSet) (j k : Option ℕ) → Says text a j → Says text b k → (a ≡ b) × (j ≡ k)
 one_set text a b j k x y =

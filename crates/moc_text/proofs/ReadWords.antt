@@ -4,7 +4,7 @@ use Rattle.std.specs.List.{take_while}
 use Rattle.std.specs.Option.{option_or}
 use Rattle.std.specs.FinSet as set
 use Rattle.std.proofs.lemmas.List.{append-nil}
-use Rattle.moc_text.specs.Ascii.{is_separator, Word, words, words_from, Shape, shape_text, IsShape, parts_at, Means}
+use Rattle.moc_text.specs.Ascii.{is_separator, Word, words, words_from, Shape, shape_text, IsShape, numbers_at, Means}
 use Rattle.moc_text.specs.Ascii.{order_in_force, order_after, mark_fault, item_fault, fault_of, item_pixels}
 use Rattle.moc_text.specs.Ascii.{pixels_said, deeper, deepest_of, AreRead, HasShapeFault, IsFirstFault, Says}
 use Rattle.moc_ranges.specs.Numbers.{NumberSet}
@@ -12,7 +12,7 @@ use Rattle.moc_ranges.specs.Lemmas.{union-assoc, empty-union, union-empty}
 use Rattle.moc_text.specs.Private.Scan.{is_end, scan_word}
 use Rattle.moc_text.specs.Private.AsciiReading.{Progress}
 use Rattle.moc_text.specs.declared.ascii.number.Number.{Number}
-use Rattle.moc_text.specs.declared.ascii.number.Parts.{Parts}
+use Rattle.moc_text.specs.declared.ascii.number.WordNumbers.{WordNumbers}
 use Rattle.moc_text.specs.declared.ascii.error.TextError.{TextError}
 use Rattle.moc_text.proofs.Automaton.{Start, run, accepts, run-shape}
 use Rattle.moc_text.proofs.Cuts.{is_word_byte, IsWordPart, no_separator, past_word, words_begin, words_skip, words_front}
@@ -21,17 +21,17 @@ use Rattle.moc_text.proofs.Scanning.{Scanned, WordOutcome, word_outcome}
 
 -- ---- one more word
 
-AreRead_push : (before : Option ℕ) (ws : List Word) (ns : List Parts) (w : Word) (n : Parts) → AreRead before ws ns → Means w n → fault_of (order_after before ns) w.at n ≡ None → AreRead before (ws ++ w ∷ []) (ns ++ n ∷ [])
+AreRead_push : (before : Option ℕ) (ws : List Word) (ns : List WordNumbers) (w : Word) (n : WordNumbers) → AreRead before ws ns → Means w n → fault_of (order_after before ns) w.at n ≡ None → AreRead before (ws ++ w ∷ []) (ns ++ n ∷ [])
 AreRead_push before [] [] w n h m f = (m, f, tt)
 AreRead_push before (v ∷ ws) (k ∷ ns) w n h m f = (h.0, h.1, AreRead_push (order_in_force before k.mark) ws ns w n h.2 m f)
 AreRead_push before [] (k ∷ ns) w n h m f = absurd h
 AreRead_push before (v ∷ ws) [] w n h m f = absurd h
 
-order_after_push : (before : Option ℕ) (ns : List Parts) (n : Parts) → order_after before (ns ++ n ∷ []) ≡ order_in_force (order_after before ns) n.mark
+order_after_push : (before : Option ℕ) (ns : List WordNumbers) (n : WordNumbers) → order_after before (ns ++ n ∷ []) ≡ order_in_force (order_after before ns) n.mark
 order_after_push before [] n = refl
 order_after_push before (k ∷ ns) n = order_after_push (order_in_force before k.mark) ns n
 
-pixels_said_push : (before : Option ℕ) (ns : List Parts) (n : Parts) → pixels_said before (ns ++ n ∷ []) ≡ set.union (pixels_said before ns) (item_pixels (order_in_force (order_after before ns) n.mark) n.item)
+pixels_said_push : (before : Option ℕ) (ns : List WordNumbers) (n : WordNumbers) → pixels_said before (ns ++ n ∷ []) ≡ set.union (pixels_said before ns) (item_pixels (order_in_force (order_after before ns) n.mark) n.item)
 pixels_said_push before [] n = union-empty (item_pixels (order_in_force before n.mark) n.item) ∙ sym (empty-union (item_pixels (order_in_force before n.mark) n.item))
 pixels_said_push before (k ∷ ns) n =
     ap (set.union (item_pixels (order_in_force before k.mark) k.item)) (pixels_said_push (order_in_force before k.mark) ns n)
@@ -47,7 +47,7 @@ pub deeper-None : (a : Option ℕ) → deeper a None ≡ a
 deeper-None None = refl
 deeper-None (Some i) = refl
 
-deepest_of_push : (ns : List Parts) (n : Parts) → deepest_of (ns ++ n ∷ []) ≡ deeper (deepest_of ns) (order_in_force None n.mark)
+deepest_of_push : (ns : List WordNumbers) (n : WordNumbers) → deepest_of (ns ++ n ∷ []) ≡ deeper (deepest_of ns) (order_in_force None n.mark)
 deepest_of_push [] n = deeper-None (order_in_force None n.mark)
 deepest_of_push (k ∷ ns) n = ap (deeper (order_in_force None k.mark)) (deepest_of_push ns n) ∙ sym (deeper_assoc (order_in_force None k.mark) (deepest_of ns) (order_in_force None n.mark))
 
@@ -90,11 +90,11 @@ some_bytes (b ∷ w) e = omega arith
 pub shape_some : (s : Shape) → IsShape s → 0 < length (shape_text s)
 shape_some s h = some_bytes (shape_text s) (run-shape s h)
 
-pub after_shorter : (len : ℕ) (bytes : List ℕ) (n : Parts) (rest : List ℕ) → Scanned len bytes n rest → length rest < length bytes
+pub after_shorter : (len : ℕ) (bytes : List ℕ) (n : WordNumbers) (rest : List ℕ) → Scanned len bytes n rest → length rest < length bytes
 after_shorter len bytes n rest s = omega (arith, ap length s.parts, length-append (shape_text s.shape) rest, shape_some s.shape s.lawful)
 
 -- the words, from a scanned one on
-words_scanned : (text rest : List ℕ) (n : Parts) (after : List ℕ) → length rest ≤ length text → (s : Scanned (length text) rest n after)
+words_scanned : (text rest : List ℕ) (n : WordNumbers) (after : List ℕ) → length rest ≤ length text → (s : Scanned (length text) rest n after)
     → words_from (length text - length rest) rest ≡ record { at = length text - length rest; bytes = shape_text s.shape } ∷ words_from (length text - length after) after
 words_scanned text rest n after le s =
     let at = length text - length rest in
@@ -104,8 +104,8 @@ words_scanned text rest n after le s =
     ∙ ap (λ n. record { at = at; bytes = shape_text s.shape } ∷ words_from n after) place
 
 -- the true numbers of a scanned word
-abbrev true_parts : (len : ℕ) (bytes : List ℕ) (n : Parts) (rest : List ℕ) → Scanned len bytes n rest → Parts
-true_parts len bytes n rest s = parts_at (len - length bytes) s.shape
+abbrev true_numbers : (len : ℕ) (bytes : List ℕ) (n : WordNumbers) (rest : List ℕ) → Scanned len bytes n rest → WordNumbers
+true_numbers len bytes n rest s = numbers_at (len - length bytes) s.shape
 
 first_none : (f g : Option TextError) → option_or f g ≡ None → f ≡ None
 first_none None g h = refl
@@ -117,7 +117,7 @@ small_order before (Some n) small h = λ k e.
     let is : n.value ≡ k = cc in
     subst (λ v. v ≤ 29) is (order_small n h)
 
-order_after_small : (before : Option ℕ) (ws : List Word) (ns : List Parts) → IsSmall before → AreRead before ws ns → IsSmall (order_after before ns)
+order_after_small : (before : Option ℕ) (ws : List Word) (ns : List WordNumbers) → IsSmall before → AreRead before ws ns → IsSmall (order_after before ns)
 order_after_small before [] [] small h = small
 order_after_small before [] (n ∷ ns) small h = absurd h
 order_after_small before (w ∷ ws) [] small h = absurd h
@@ -144,20 +144,20 @@ says_all text a order deepest p =
 no_fault : (f g : Option TextError) → f ≡ None → g ≡ None → option_or f g ≡ None
 no_fault f g h k = rw h k
 
-pub progress_word : (text rest : List ℕ) (a : NumberSet) (order deepest : Option ℕ) (n : Parts) (after : List ℕ) (a' : NumberSet) (order' deepest' : Option ℕ)
+pub progress_word : (text rest : List ℕ) (a : NumberSet) (order deepest : Option ℕ) (n : WordNumbers) (after : List ℕ) (a' : NumberSet) (order' deepest' : Option ℕ)
     → IsSmall order → Progress text rest a order deepest → Scanned (length text) rest n after
     → mark_fault n.mark ≡ None → order' ≡ order_in_force order n.mark → deepest' ≡ deeper deepest (order_in_force None n.mark)
     → item_fault order' (length text - length rest) n.item ≡ None → a' ≡ set.union a (item_pixels order' n.item)
     → Progress text after a' order' deepest'
 progress_word text rest a order deepest n after a' order' deepest' small p s mf oi di if si =
     let at = length text - length rest in
-    let t = parts_at at s.shape in
-    let mark : mark_fault t.mark ≡ None = sym (mark_fault-held t.mark) ∙ ap (λ (x : Parts). mark_fault x.mark) (sym s.is) ∙ mf in
-    let o : order' ≡ order_in_force order t.mark = oi ∙ ap (λ (x : Parts). order_in_force order x.mark) s.is ∙ order_at-held order t.mark mark in
+    let t = numbers_at at s.shape in
+    let mark : mark_fault t.mark ≡ None = sym (mark_fault-held t.mark) ∙ ap (λ (x : WordNumbers). mark_fault x.mark) (sym s.is) ∙ mf in
+    let o : order' ≡ order_in_force order t.mark = oi ∙ ap (λ (x : WordNumbers). order_in_force order x.mark) s.is ∙ order_at-held order t.mark mark in
     let small' : IsSmall (order_in_force order t.mark) = small_order order t.mark small mark in
-    let item : item_fault (order_in_force order t.mark) at t.item ≡ None = sym (item_fault-held (order_in_force order t.mark) at t.item small') ∙ ap (λ k. item_fault k at (held_maybe t.item)) (sym o) ∙ ap (λ (x : Parts). item_fault order' at x.item) (sym s.is) ∙ if in
-    let added : a' ≡ set.union a (item_pixels (order_in_force order t.mark) t.item) = si ∙ ap (set.union a) (ap (λ (x : Parts). item_pixels order' x.item) s.is ∙ ap (λ k. item_pixels k (held_maybe t.item)) o ∙ item_pixels-held (order_in_force order t.mark) at t.item small' item) in
-    let d : deepest' ≡ deeper deepest (order_in_force None t.mark) = di ∙ ap (deeper deepest) (ap (λ (x : Parts). order_in_force None x.mark) s.is ∙ order_at-held None t.mark mark) in
+    let item : item_fault (order_in_force order t.mark) at t.item ≡ None = sym (item_fault-held (order_in_force order t.mark) at t.item small') ∙ ap (λ k. item_fault k at (held_maybe t.item)) (sym o) ∙ ap (λ (x : WordNumbers). item_fault order' at x.item) (sym s.is) ∙ if in
+    let added : a' ≡ set.union a (item_pixels (order_in_force order t.mark) t.item) = si ∙ ap (set.union a) (ap (λ (x : WordNumbers). item_pixels order' x.item) s.is ∙ ap (λ k. item_pixels k (held_maybe t.item)) o ∙ item_pixels-held (order_in_force order t.mark) at t.item small' item) in
+    let d : deepest' ≡ deeper deepest (order_in_force None t.mark) = di ∙ ap (deeper deepest) (ap (λ (x : WordNumbers). order_in_force None x.mark) s.is ∙ order_at-held None t.mark mark) in
     let w : Word = record { at = at; bytes = shape_text s.shape } in
     let fault : fault_of (order_after None p.numbers) at t ≡ None = ap (λ k. fault_of k at t) (sym p.order_is) ∙ no_fault (mark_fault t.mark) (item_fault (order_in_force order t.mark) at t.item) mark item in
     record {
@@ -188,12 +188,12 @@ fault_shape text b rest a order deepest f p h fault = record {
 }
 
 -- a lawful word with a fault
-fault_parts : (text rest : List ℕ) (a : NumberSet) (order deepest : Option ℕ) (n : Parts) (after : List ℕ) (f : TextError)
+fault_numbers : (text rest : List ℕ) (a : NumberSet) (order deepest : Option ℕ) (n : WordNumbers) (after : List ℕ) (f : TextError)
     → Progress text rest a order deepest → (s : Scanned (length text) rest n after)
-    → fault_of order (length text - length rest) (parts_at (length text - length rest) s.shape) ≡ Some f → IsFirstFault text f
-fault_parts text rest a order deepest n after f p s fault =
+    → fault_of order (length text - length rest) (numbers_at (length text - length rest) s.shape) ≡ Some f → IsFirstFault text f
+fault_numbers text rest a order deepest n after f p s fault =
     let at = length text - length rest in
-    let t = parts_at at s.shape in
+    let t = numbers_at at s.shape in
     record {
       good = p.good;
       numbers = p.numbers;
@@ -204,24 +204,24 @@ fault_parts text rest a order deepest n after f p s fault =
       fault = inr (t, (s.shape, s.lawful, refl, refl), ap (λ k. fault_of k at t) (sym p.order_is) ∙ fault);
     }
 
-pub fault_mark : (text rest : List ℕ) (a : NumberSet) (order deepest : Option ℕ) (n : Parts) (after : List ℕ) (f : TextError)
+pub fault_mark : (text rest : List ℕ) (a : NumberSet) (order deepest : Option ℕ) (n : WordNumbers) (after : List ℕ) (f : TextError)
     → Progress text rest a order deepest → Scanned (length text) rest n after → mark_fault n.mark ≡ Some f → IsFirstFault text f
 fault_mark text rest a order deepest n after f p s h =
     let at = length text - length rest in
-    let t = parts_at at s.shape in
-    let mark : mark_fault t.mark ≡ Some f = sym (mark_fault-held t.mark) ∙ ap (λ (x : Parts). mark_fault x.mark) (sym s.is) ∙ h in
-    fault_parts text rest a order deepest n after f p s (rw mark refl)
+    let t = numbers_at at s.shape in
+    let mark : mark_fault t.mark ≡ Some f = sym (mark_fault-held t.mark) ∙ ap (λ (x : WordNumbers). mark_fault x.mark) (sym s.is) ∙ h in
+    fault_numbers text rest a order deepest n after f p s (rw mark refl)
 
-pub fault_item : (text rest : List ℕ) (a : NumberSet) (order deepest : Option ℕ) (n : Parts) (after : List ℕ) (order' : Option ℕ) (f : TextError)
+pub fault_item : (text rest : List ℕ) (a : NumberSet) (order deepest : Option ℕ) (n : WordNumbers) (after : List ℕ) (order' : Option ℕ) (f : TextError)
     → IsSmall order → Progress text rest a order deepest → Scanned (length text) rest n after → mark_fault n.mark ≡ None → order' ≡ order_in_force order n.mark → item_fault order' (length text - length rest) n.item ≡ Some f → IsFirstFault text f
 fault_item text rest a order deepest n after order' f small p s mf oi h =
     let at = length text - length rest in
-    let t = parts_at at s.shape in
-    let mark : mark_fault t.mark ≡ None = sym (mark_fault-held t.mark) ∙ ap (λ (x : Parts). mark_fault x.mark) (sym s.is) ∙ mf in
-    let o : order' ≡ order_in_force order t.mark = oi ∙ ap (λ (x : Parts). order_in_force order x.mark) s.is ∙ order_at-held order t.mark mark in
+    let t = numbers_at at s.shape in
+    let mark : mark_fault t.mark ≡ None = sym (mark_fault-held t.mark) ∙ ap (λ (x : WordNumbers). mark_fault x.mark) (sym s.is) ∙ mf in
+    let o : order' ≡ order_in_force order t.mark = oi ∙ ap (λ (x : WordNumbers). order_in_force order x.mark) s.is ∙ order_at-held order t.mark mark in
     let small' : IsSmall (order_in_force order t.mark) = small_order order t.mark small mark in
-    let item : item_fault (order_in_force order t.mark) at t.item ≡ Some f = sym (item_fault-held (order_in_force order t.mark) at t.item small') ∙ ap (λ k. item_fault k at (held_maybe t.item)) (sym o) ∙ ap (λ (x : Parts). item_fault order' at x.item) (sym s.is) ∙ h in
-    fault_parts text rest a order deepest n after f p s (rw mark item)
+    let item : item_fault (order_in_force order t.mark) at t.item ≡ Some f = sym (item_fault-held (order_in_force order t.mark) at t.item small') ∙ ap (λ k. item_fault k at (held_maybe t.item)) (sym o) ∙ ap (λ (x : WordNumbers). item_fault order' at x.item) (sym s.is) ∙ h in
+    fault_numbers text rest a order deepest n after f p s (rw mark item)
 
 -- ---- what the scanner's answer means in the loop
 
@@ -229,7 +229,7 @@ is_end-first : (rest : List ℕ) → 0 < length rest → is_end rest ≡ is_sepa
 is_end-first [] h = absurd (omega arith)
 is_end-first (b ∷ rest) h = refl
 
-pub scanned_word : (len : ℕ) (rest : List ℕ) (n : Parts) (after : List ℕ) → length rest ≤ len → 0 < length rest → is_separator (get_or rest 0 0) ≡ false → scan_word len rest ≡ Ok (n, after) → Scanned len rest n after
+pub scanned_word : (len : ℕ) (rest : List ℕ) (n : WordNumbers) (after : List ℕ) → length rest ≤ len → 0 < length rest → is_separator (get_or rest 0 0) ≡ false → scan_word len rest ≡ Ok (n, after) → Scanned len rest n after
 scanned_word len rest n after le some h e = subst (WordOutcome len rest) e (word_outcome len rest le (is_end-first rest some ∙ h))
 
 pub fault_scanned : (text rest : List ℕ) (a : NumberSet) (order deepest : Option ℕ) (f : TextError) → Progress text rest a order deepest → 0 < length rest → is_separator (get_or rest 0 0) ≡ false → scan_word (length text) rest ≡ Err f → IsFirstFault text f

@@ -6,13 +6,13 @@ use Rattle.std.specs.FinSet as set
 use Rattle.std.specs.Result.{MatchResult}
 use Rattle.std.proofs.lemmas.List.{append-nil}
 use Rattle.moc_ranges.specs.Numbers.{NumberSet}
-use Rattle.moc_text.specs.Ascii.{is_separator, Word, words, Shape, shape_text, IsShape, parts_at, Means, HasShapeFault}
+use Rattle.moc_text.specs.Ascii.{is_separator, Word, words, Shape, shape_text, IsShape, numbers_at, Means, HasShapeFault}
 use Rattle.moc_text.specs.Ascii.{IsFault, order_in_force, order_after, mark_fault, item_fault, fault_of, item_pixels}
 use Rattle.moc_text.specs.Ascii.{pixels_said, deeper, deepest_of, AreRead, Says, IsFirstFault}
 use Rattle.moc_text.specs.Private.Scan.{◌>>=◌, is_end, scan_word}
-use Rattle.moc_text.specs.Private.Scanned.{parts_of, faultless, numbers_of, reading_of}
+use Rattle.moc_text.specs.Private.Scanned.{word_numbers, faultless, numbers_of, reading_of}
 use Rattle.moc_text.specs.Reading.{IsReadingOf, ReadingsAreTold}
-use Rattle.moc_text.specs.declared.ascii.number.Parts.{Parts}
+use Rattle.moc_text.specs.declared.ascii.number.WordNumbers.{WordNumbers}
 use Rattle.moc_text.specs.declared.ascii.error.TextError.{TextError}
 use Rattle.moc_text.specs.declared.ascii.error.TextError.TheVariants.{Memory}
 use Rattle.moc_text.proofs.Automaton.{both}
@@ -41,18 +41,18 @@ no_end (b ∷ bytes) some h =
     let k = both (is_word_byte b) (list_all is_word_byte bytes) h in
     elim (is_separator b) as (λ v. not v ≡ true → v ≡ false) [ true ↦ λ e. absurd cc | false ↦ λ e. refl ] k.0
 
-abbrev PartsOutcome : Word → Result Parts TextError → Type 0
-PartsOutcome w (Ok n) = (shape : Shape) × IsShape shape × (w.bytes ≡ shape_text shape) × (n ≡ held (parts_at w.at shape))
-PartsOutcome w (Err f) = HasShapeFault w f
+abbrev NumbersOutcome : Word → Result WordNumbers TextError → Type 0
+NumbersOutcome w (Ok n) = (shape : Shape) × IsShape shape × (w.bytes ≡ shape_text shape) × (n ≡ held (numbers_at w.at shape))
+NumbersOutcome w (Err f) = HasShapeFault w f
 
-from_scan : (w : Word) → IsWord w → (r : Result (Parts × List ℕ) TextError) → WordOutcome (w.at + length w.bytes) w.bytes r → PartsOutcome w (r >>= (λ scanned. Ok scanned.0))
+from_scan : (w : Word) → IsWord w → (r : Result (WordNumbers × List ℕ) TextError) → WordOutcome (w.at + length w.bytes) w.bytes r → NumbersOutcome w (r >>= (λ scanned. Ok scanned.0))
 from_scan w h (Ok x) o =
     let nothing : x.1 ≡ [] = nothing_after (shape_text o.shape) x.1 (subst IsWordPart o.parts h.1) o.ends in
     let place : w.at + length w.bytes - length w.bytes ≡ w.at = omega arith in (
       o.shape,
       o.lawful,
       o.parts ∙ ap (λ (r : List ℕ). shape_text o.shape ++ r) nothing ∙ append-nil (shape_text o.shape),
-      o.is ∙ ap (λ at. held (parts_at at o.shape)) place,
+      o.is ∙ ap (λ at. held (numbers_at at o.shape)) place,
     )
 from_scan w h (Err f) o =
     let place : w.at + length w.bytes - length w.bytes ≡ w.at = omega arith in
@@ -60,7 +60,7 @@ from_scan w h (Err f) o =
     subst (λ (at : ℕ). HasShapeFault (record { at = at; bytes = w.bytes }) f) place
     (subst (λ (bytes : List ℕ). HasShapeFault (record { at = w.at + length w.bytes - length w.bytes; bytes = bytes }) f) (whole_word w.bytes h.1) o)
 
-word_is : (w : Word) → IsWord w → PartsOutcome w (parts_of w)
+word_is : (w : Word) → IsWord w → NumbersOutcome w (word_numbers w)
 word_is w h = from_scan w h (scan_word (w.at + length w.bytes) w.bytes) (word_outcome (w.at + length w.bytes) w.bytes (omega arith) (no_end w.bytes h.0 h.1))
 
 -- ---- held numbers have the faults of the true ones
@@ -69,7 +69,7 @@ or_none : (f g : Option TextError) → option_or f g ≡ None → (f ≡ None) �
 or_none None g h = (refl, h)
 or_none (Some f) g h = absurd cc
 
-fault_of-held : (before : Option ℕ) (at : ℕ) (t : Parts) → IsSmall before → fault_of before at (held t) ≡ fault_of before at t
+fault_of-held : (before : Option ℕ) (at : ℕ) (t : WordNumbers) → IsSmall before → fault_of before at (held t) ≡ fault_of before at t
 fault_of-held before at t small =
     ap (λ f. option_or f (item_fault (order_in_force before (held_last t.mark)) at (held_maybe t.item))) (mark_fault-held t.mark)
     ∙ elim (mark_fault t.mark) as (λ v. mark_fault t.mark ≡ v → option_or v (item_fault (order_in_force before (held_last t.mark)) at (held_maybe t.item)) ≡ option_or v (item_fault (order_in_force before t.mark) at t.item)) [
@@ -81,20 +81,20 @@ fault_of-held before at t small =
 
 record FaultIn (before : Option ℕ) (ws : List Word) (f : TextError) : Type 0 where
   good : List Word
-  numbers : List Parts
+  numbers : List WordNumbers
   bad : Word
   others : List Word
   parts : ws ≡ good ++ bad ∷ others
   read : AreRead before good numbers
   fault : IsFault (order_after before numbers) bad f
 
-abbrev Outcome : Option ℕ → List Word → Result (List Parts) TextError → Type 0
-Outcome before ws (Ok ns) = (ts : List Parts) × AreRead before ws ts × (pixels_said before ns ≡ pixels_said before ts) × (deepest_of ns ≡ deepest_of ts)
+abbrev Outcome : Option ℕ → List Word → Result (List WordNumbers) TextError → Type 0
+Outcome before ws (Ok ns) = (ts : List WordNumbers) × AreRead before ws ts × (pixels_said before ns ≡ pixels_said before ts) × (deepest_of ns ≡ deepest_of ts)
 Outcome before ws (Err f) = FaultIn before ws f
 
 -- the words after one that is read
-after_word : (before : Option ℕ) (w : Word) (ws : List Word) (t : Parts) → IsSmall before → Means w t → fault_of before w.at t ≡ None
-    → (r : Result (List Parts) TextError) → Outcome (order_in_force before t.mark) ws r → Outcome before (w ∷ ws) (r >>= (λ ns. Ok (held t ∷ ns)))
+after_word : (before : Option ℕ) (w : Word) (ws : List Word) (t : WordNumbers) → IsSmall before → Means w t → fault_of before w.at t ≡ None
+    → (r : Result (List WordNumbers) TextError) → Outcome (order_in_force before t.mark) ws r → Outcome before (w ∷ ws) (r >>= (λ ns. Ok (held t ∷ ns)))
 after_word before w ws t small means none (Err f) o = record {
   good = w ∷ o.good;
   numbers = t ∷ o.numbers;
@@ -117,13 +117,13 @@ after_word before w ws t small means none (Ok ns) o =
     )
 
 -- the words from one on
-abbrev from_parts : Option ℕ → Word → List Word → Parts → Option TextError → Result (List Parts) TextError
-from_parts before w ws found fault = faultless fault found >>= (λ n. numbers_of (order_in_force before n.mark) ws >>= (λ ns. Ok (n ∷ ns)))
+abbrev from_found : Option ℕ → Word → List Word → WordNumbers → Option TextError → Result (List WordNumbers) TextError
+from_found before w ws found fault = faultless fault found >>= (λ n. numbers_of (order_in_force before n.mark) ws >>= (λ ns. Ok (n ∷ ns)))
 
-from_true : (before : Option ℕ) (w : Word) (ws : List Word) (t : Parts) → IsSmall before → Means w t → ((k : Option ℕ) → IsSmall k → Outcome k ws (numbers_of k ws))
-    → Outcome before (w ∷ ws) (from_parts before w ws (held t) (fault_of before w.at t))
+from_true : (before : Option ℕ) (w : Word) (ws : List Word) (t : WordNumbers) → IsSmall before → Means w t → ((k : Option ℕ) → IsSmall k → Outcome k ws (numbers_of k ws))
+    → Outcome before (w ∷ ws) (from_found before w ws (held t) (fault_of before w.at t))
 from_true before w ws t small means later =
-    elim (fault_of before w.at t) as (λ v. fault_of before w.at t ≡ v → Outcome before (w ∷ ws) (from_parts before w ws (held t) v)) [
+    elim (fault_of before w.at t) as (λ v. fault_of before w.at t ≡ v → Outcome before (w ∷ ws) (from_found before w ws (held t) v)) [
       | Some f ↦ λ e. record { good = []; numbers = []; bad = w; others = ws; parts = refl; read = tt; fault = inr (t, means, e) }
       | None ↦ λ e.
           let f = or_none (mark_fault t.mark) (item_fault (order_in_force before t.mark) w.at t.item) e in
@@ -132,24 +132,24 @@ from_true before w ws t small means later =
           after_word before w ws t small means e (numbers_of (order_in_force before (held_last t.mark)) ws) (subst (λ j. Outcome (order_in_force before t.mark) ws (numbers_of j ws)) k o)
     ] refl
 
-from_word : (before : Option ℕ) (w : Word) (ws : List Word) → IsSmall before → (r : Result Parts TextError) → PartsOutcome w r → ((k : Option ℕ) → IsSmall k → Outcome k ws (numbers_of k ws))
-    → Outcome before (w ∷ ws) (r >>= (λ found. from_parts before w ws found (fault_of before w.at found)))
+from_word : (before : Option ℕ) (w : Word) (ws : List Word) → IsSmall before → (r : Result WordNumbers TextError) → NumbersOutcome w r → ((k : Option ℕ) → IsSmall k → Outcome k ws (numbers_of k ws))
+    → Outcome before (w ∷ ws) (r >>= (λ found. from_found before w ws found (fault_of before w.at found)))
 from_word before w ws small (Err f) o later = record { good = []; numbers = []; bad = w; others = ws; parts = refl; read = tt; fault = inl o }
 from_word before w ws small (Ok n) o later =
-    let t = parts_at w.at o.0 in
-    subst (λ (n : Parts). Outcome before (w ∷ ws) (from_parts before w ws n (fault_of before w.at n))) (sym o.3)
-    (subst (λ v. Outcome before (w ∷ ws) (from_parts before w ws (held t) v)) (sym (fault_of-held before w.at t small)) (from_true before w ws t small (o.0, o.1, o.2, refl) later))
+    let t = numbers_at w.at o.0 in
+    subst (λ (n : WordNumbers). Outcome before (w ∷ ws) (from_found before w ws n (fault_of before w.at n))) (sym o.3)
+    (subst (λ v. Outcome before (w ∷ ws) (from_found before w ws (held t) v)) (sym (fault_of-held before w.at t small)) (from_true before w ws t small (o.0, o.1, o.2, refl) later))
 
 numbers_are : (before : Option ℕ) (ws : List Word) → IsSmall before → AllByRecursion IsWord ws → Outcome before ws (numbers_of before ws)
 numbers_are before [] small h = ([], tt, refl, refl)
-numbers_are before (w ∷ ws) small h = from_word before w ws small (parts_of w) (word_is w h.0) (λ k small'. numbers_are k ws small' h.1)
+numbers_are before (w ∷ ws) small h = from_word before w ws small (word_numbers w) (word_is w h.0) (λ k small'. numbers_are k ws small' h.1)
 
 -- ---- the text
 
 abbrev Told : List ℕ → Result (NumberSet × Option ℕ) TextError → Type 0
 Told text r = MatchResult r (λ read. Says text read.0 read.1) (λ fault. IsFirstFault text fault)
 
-from_numbers : (text : List ℕ) (r : Result (List Parts) TextError) → Outcome None (words text) r → Told text (r >>= (λ ns. Ok (pixels_said None ns, deepest_of ns)))
+from_numbers : (text : List ℕ) (r : Result (List WordNumbers) TextError) → Outcome None (words text) r → Told text (r >>= (λ ns. Ok (pixels_said None ns, deepest_of ns)))
 from_numbers text (Ok ns) o = record { numbers = o.0; read = o.1; set_is = o.2; deepest_is = o.3 }
 from_numbers text (Err f) o = record { good = o.good; numbers = o.numbers; bad = o.bad; others = o.others; parts = o.parts; before = o.read; fault = o.fault }
 

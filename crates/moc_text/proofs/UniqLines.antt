@@ -312,7 +312,8 @@ one_set text a b x y =
 lines_numbers : (ns : List ℕ) → AllByRecursion (λ n. n < 2 ^ 62) ns → lines_of (number_lines ns) ≡ map decimal ns
 lines_numbers [] h = refl
 lines_numbers (n ∷ ns) h =
-    lines_cut (decimal n) (number_lines ns) (IsNumber-decimal n (omega (arith, h.0))).1 ∙ ap (λ (ls : List (List ℕ)). decimal n ∷ ls) (lines_numbers ns h.1)
+    ap lines_of (append_assoc (decimal n) (10 ∷ []) (number_lines ns))
+    ∙ lines_cut (decimal n) (number_lines ns) (IsNumber-decimal n (omega (arith, h.0))).1 ∙ ap (λ (ls : List (List ℕ)). decimal n ∷ ls) (lines_numbers ns h.1)
 
 numbers_decimal : (ns : List ℕ) → AllByRecursion (λ n. n < 2 ^ 62) ns → numbers_on (map decimal ns) ≡ ns
 numbers_decimal [] h = refl

@@ -12,12 +12,12 @@ use Rattle.std.proofs.lemmas.Bool.{cases_lt, le-leb, eqb-true, lt-ltb, le-ltb, l
 use Rattle.std.proofs.lemmas.Str.Parse.{digit_from_value}
 use Rattle.std.proofs.lemmas.Fmt.{decimal_is_IsNumeral}
 use Rattle.moc_text.specs.Ascii.{Word, words, words_from, IsNumber, Mark, mark_text, Cells, One, Run, cells_text}
-use Rattle.moc_text.specs.Ascii.{AreCells, Shape, JustMark, JustItem, MarkItem, shape_text, IsShape, parts_at, mark_at}
+use Rattle.moc_text.specs.Ascii.{AreCells, Shape, JustMark, JustItem, MarkItem, shape_text, IsShape, numbers_at, mark_at}
 use Rattle.moc_text.specs.Ascii.{item_at, order_in_force, last_of, mark_fault, item_fault, fault_of, item_pixels}
 use Rattle.moc_text.specs.Ascii.{pixels_said, deeper, deepest_of, AreRead, Says}
 use Rattle.moc_text.specs.AsciiText.{one, follows, runs_from, runs_of, run_text, order_text, mark_text_of, stated_beyond, bare_words, words_of, ascii_text, text_of_cells, HasDeeper, IsTooCoarse, deepest_cell, deepest_written}
 use Rattle.moc_text.specs.declared.ascii.number.Item.{Item}
-use Rattle.moc_text.specs.declared.ascii.number.Parts.{Parts}
+use Rattle.moc_text.specs.declared.ascii.number.WordNumbers.{WordNumbers}
 use Rattle.moc_text.specs.declared.ascii.writing.Run.{Run as CellRun}
 use Rattle.moc_text.specs.declared.ascii.error.TextError.TheVariants.{OrderTooLarge}
 use Rattle.moc_text.proofs.Automaton.{both}
@@ -58,9 +58,9 @@ abbrev placed : ℕ → List Shape → List Word
 placed at [] = []
 placed at (s ∷ ss) = record { at = at; bytes = shape_text s } ∷ placed (at + length (shape_text s) + 1) ss
 
-abbrev numbers : ℕ → List Shape → List Parts
+abbrev numbers : ℕ → List Shape → List WordNumbers
 numbers at [] = []
-numbers at (s ∷ ss) = parts_at at s ∷ numbers (at + length (shape_text s) + 1) ss
+numbers at (s ∷ ss) = numbers_at at s ∷ numbers (at + length (shape_text s) + 1) ss
 
 words-join : (at : ℕ) (ss : List Shape) → AllByRecursion IsShape ss → words_from at (join_with_byte 32 (map shape_text ss)) ≡ placed at ss
 words-join at [] h = refl
@@ -184,7 +184,7 @@ run_item at r h =
     ] refl
 
 -- what a run's numbers say, where an order was in force or none
-record RunParts (before : Option ℕ) (r : CellRun) (n : Parts) : Type 0 where
+record RunParts (before : Option ℕ) (r : CellRun) (n : WordNumbers) : Type 0 where
   mark : mark_fault n.mark ≡ None
   order : order_in_force before n.mark ≡ Some r.order
   deepest : (x : Option ℕ) → deeper before (deeper (order_in_force None n.mark) x) ≡ deeper before (deeper (Some r.order) x)
@@ -198,7 +198,7 @@ order_mark-fault at k h = ap (λ v. cond (ltb 29 v) (Some (OrderTooLarge (at + 0
 order_mark-value : (at k : ℕ) → k ≤ 29 → Some ((mark_at at (order_mark k)).value) ≡ Some k
 order_mark-value at k h = ap (λ (n : ℕ). Some n) (value-decimal k (omega arith))
 
-marked_parts : (before : Option ℕ) (at : ℕ) (r : CellRun) → IsRun r → RunParts before r (parts_at at (MarkItem (order_mark r.order) (run_cells r)))
+marked_parts : (before : Option ℕ) (at : ℕ) (r : CellRun) → IsRun r → RunParts before r (numbers_at at (MarkItem (order_mark r.order) (run_cells r)))
 marked_parts before at r h = record {
   mark = order_mark-fault at r.order h.order;
   order = order_mark-value at r.order h.order;
@@ -211,10 +211,10 @@ marked_parts before at r h = record {
 deeper_same : (j : ℕ) (x : Option ℕ) → deeper (Some j) (deeper (Some j) x) ≡ deeper (Some j) x
 deeper_same j x = sym (deeper_assoc (Some j) (Some j) x) ∙ ap (λ n. deeper (Some n) x) (omega arith)
 
-run_parts : (before : Option ℕ) (at : ℕ) (r : CellRun) → IsRun r → RunParts before r (parts_at at (run_shape before r))
+run_parts : (before : Option ℕ) (at : ℕ) (r : CellRun) → IsRun r → RunParts before r (numbers_at at (run_shape before r))
 run_parts None at r h = marked_parts None at r h
 run_parts (Some j) at r h =
-    elim (eqb j r.order) as (λ v. eqb j r.order ≡ v → RunParts (Some j) r (parts_at at (cond v (JustItem (run_cells r)) (MarkItem (order_mark r.order) (run_cells r))))) [
+    elim (eqb j r.order) as (λ v. eqb j r.order ≡ v → RunParts (Some j) r (numbers_at at (cond v (JustItem (run_cells r)) (MarkItem (order_mark r.order) (run_cells r))))) [
       | true ↦ λ e.
           let same : j ≡ r.order = eqb-true j r.order e in
           record {
@@ -235,7 +235,7 @@ item_ok k at i r v le lt =
     let c : ltb (last_of i).value i.first.value ≡ false = le-ltb _ _ (omega (arith, v.first, v.last)) in
     rw (a, b, c) refl
 
-run_fault : (before : Option ℕ) (at : ℕ) (r : CellRun) (n : Parts) → IsRun r → RunParts before r n → fault_of before at n ≡ None
+run_fault : (before : Option ℕ) (at : ℕ) (r : CellRun) (n : WordNumbers) → IsRun r → RunParts before r n → fault_of before at n ≡ None
 run_fault before at r n h p =
     let i : item_fault (order_in_force before n.mark) at n.item ≡ None = ap (λ k. item_fault k at n.item) p.order ∙ ap (item_fault (Some r.order) at) p.item_is ∙ item_ok r.order at p.item r p.values h.forwards h.last in
     rw (p.mark, i) refl
@@ -250,7 +250,7 @@ runs_read stated before (r ∷ rs) at small h =
     let p = run_parts before at r h.0 in
     let next = at + length (shape_text (run_shape before r)) + 1 in (
       (run_shape before r, run_shape_is before r h.0, refl, refl),
-      run_fault before at r (parts_at at (run_shape before r)) h.0 p,
+      run_fault before at r (numbers_at at (run_shape before r)) h.0 p,
       subst (λ k. AreRead k (placed next (shapes_of stated (Some r.order) rs)) (numbers next (shapes_of stated (Some r.order) rs))) (sym p.order) (runs_read stated (Some r.order) rs next small h.1),
     )
 
@@ -267,7 +267,7 @@ bare_said : (before bare : Option ℕ) (at : ℕ) → pixels_said before (number
 bare_said before None at = refl
 bare_said before (Some k) at = empty-union set.empty
 
-run_said : (before : Option ℕ) (r : CellRun) (n : Parts) → RunParts before r n → item_pixels (order_in_force before n.mark) n.item ≡ run_pixels r
+run_said : (before : Option ℕ) (r : CellRun) (n : WordNumbers) → RunParts before r n → item_pixels (order_in_force before n.mark) n.item ≡ run_pixels r
 run_said before r n p =
     ap (λ k. item_pixels k n.item) p.order ∙ ap (item_pixels (Some r.order)) p.item_is
     ∙ ap (λ (f : ℕ). spans r.order f (last_of p.item).value) p.values.first
@@ -276,7 +276,7 @@ run_said before r n p =
 runs_said : (stated before : Option ℕ) (rs : List CellRun) (at : ℕ) → AllByRecursion IsRun rs → pixels_said before (numbers at (shapes_of stated before rs)) ≡ all_pixels rs
 runs_said stated before [] at h = bare_said before (stated_beyond before stated) at
 runs_said stated before (r ∷ rs) at h =
-    let n = parts_at at (run_shape before r) in
+    let n = numbers_at at (run_shape before r) in
     let p = run_parts before at r h.0 in
     let others = numbers (at + length (shape_text (run_shape before r)) + 1) (shapes_of stated (Some r.order) rs) in
     ap (λ (x : NumberSet). set.union x (pixels_said (order_in_force before n.mark) others)) (run_said before r n p)

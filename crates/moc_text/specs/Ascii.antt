@@ -1,6 +1,6 @@
 -- Reading the ASCII form of a coverage (MOC 2.0): what a text says, or its first fault.
 use Rattle.std.specs.Prelude.{◌≡◌, ℕ, ◌+◌, ◌<◌, ◌≤◌, Bool, true, not, ◌||◌, ◌==◌, nat_lt, if◌then◌else◌, List, [], ◌∷◌}
-use Rattle.std.specs.Prelude.{◌++◌, length, Option, Some, None, unwrap_or, ◌⊎◌, max}
+use Rattle.std.specs.Prelude.{◌++◌, length, Option, Some, None, unwrap_or, ◌⊎◌, max, fold}
 use Rattle.std.specs.Option.{option_or}
 use Rattle.std.specs.Str.{all_ascii_digits}
 use Rattle.std.specs.Str.Parse.{digits_value}
@@ -10,7 +10,7 @@ use Rattle.moc_ranges.specs.Numbers.{NumberSet}
 use Rattle.moc_ranges.specs.Cells.{spans}
 use Rattle.moc_text.specs.declared.ascii.number.Number.{Number}
 use Rattle.moc_text.specs.declared.ascii.number.Item.{Item}
-use Rattle.moc_text.specs.declared.ascii.number.Parts.{Parts}
+use Rattle.moc_text.specs.declared.ascii.number.WordNumbers.{WordNumbers}
 use Rattle.moc_text.specs.declared.ascii.error.TextError.{TextError}
 use Rattle.moc_text.specs.declared.ascii.error.TextError.TheVariants.{BadByte, NoOrder, OrderTooLarge, CellTooLarge}
 use Rattle.moc_text.specs.declared.ascii.error.TextError.TheVariants.{Backwards, Unfinished}
@@ -132,16 +132,16 @@ item_at at (Run a b) =
     record { first = number_at at a; last = Some (number_at (at + length a + 1) b) }
 
 -- the numbers of a word of this shape that begins at a place
-abbrev pub parts_at : ℕ → Shape → Parts
-parts_at at (JustMark m) = record { mark = Some (mark_at at m); item = None }
-parts_at at (JustItem c) = record { mark = None; item = Some (item_at at c) }
-parts_at at (MarkItem m c) =
+abbrev pub numbers_at : ℕ → Shape → WordNumbers
+numbers_at at (JustMark m) = record { mark = Some (mark_at at m); item = None }
+numbers_at at (JustItem c) = record { mark = None; item = Some (item_at at c) }
+numbers_at at (MarkItem m c) =
     record { mark = Some (mark_at at m); item = Some (item_at (at + length (mark_text m)) c) }
 
 -- The word is lawful, and these are its numbers.
-abbrev pub Means : Word → Parts → Type 0
+abbrev pub Means : Word → WordNumbers → Type 0
 Means w n =
-    (shape : Shape) × IsShape shape × (w.bytes ≡ shape_text shape) × (n ≡ parts_at w.at shape)
+    (shape : Shape) × IsShape shape × (w.bytes ≡ shape_text shape) × (n ≡ numbers_at w.at shape)
 
 -- the order in force at a mark or none, where `before` was in force before it
 abbrev pub order_in_force : Option ℕ → Option Number → Option ℕ
@@ -167,17 +167,17 @@ item_fault (Some k) at (Some i) =
     else (if nat_lt (last_of i).value i.first.value then Some (Backwards i.first.at) else None))
 
 -- the first fault of a lawful word's numbers, if there is one
-abbrev pub fault_of : Option ℕ → ℕ → Parts → Option TextError
+abbrev pub fault_of : Option ℕ → ℕ → WordNumbers → Option TextError
 fault_of before at n =
     option_or (mark_fault n.mark) (item_fault (order_in_force before n.mark) at n.item)
 
 -- The word has this fault, where an order was in force before it or none.
 abbrev pub IsFault : Option ℕ → Word → TextError → Type 0
 IsFault before w f =
-    HasShapeFault w f ⊎ ((n : Parts) × Means w n × (fault_of before w.at n ≡ Some f))
+    HasShapeFault w f ⊎ ((n : WordNumbers) × Means w n × (fault_of before w.at n ≡ Some f))
 
 -- No word is faulty, and these are the numbers of each.
-abbrev pub AreRead : Option ℕ → List Word → List Parts → Type 0
+abbrev pub AreRead : Option ℕ → List Word → List WordNumbers → Type 0
 AreRead before [] [] = Unit {0}
 AreRead before (w ∷ ws) (n ∷ ns) =
     Means w n × (fault_of before w.at n ≡ None) × AreRead (order_in_force before n.mark) ws ns
@@ -185,9 +185,8 @@ AreRead before [] (n ∷ ns) = ⊥
 AreRead before (w ∷ ws) [] = ⊥
 
 -- the order in force after words with these numbers
-abbrev pub order_after : Option ℕ → List Parts → Option ℕ
-order_after before [] = before
-order_after before (n ∷ ns) = order_after (order_in_force before n.mark) ns
+abbrev pub order_after : Option ℕ → List WordNumbers → Option ℕ
+order_after before ns = fold (λ k n. order_in_force k n.mark) before ns
 
 -- the pixels of an item's cells, in the order in force
 abbrev pub item_pixels : Option ℕ → Option Item → NumberSet
@@ -196,7 +195,7 @@ item_pixels None (Some i) = set.empty
 item_pixels (Some k) (Some i) = spans k i.first.value (last_of i).value
 
 -- the pixels of all items
-abbrev pub pixels_said : Option ℕ → List Parts → NumberSet
+abbrev pub pixels_said : Option ℕ → List WordNumbers → NumberSet
 pixels_said before [] = set.empty
 pixels_said before (n ∷ ns) =
     set.union
@@ -210,13 +209,13 @@ deeper (Some j) None = Some j
 deeper (Some j) (Some k) = Some (max j k)
 
 -- the greatest order of a mark
-abbrev pub deepest_of : List Parts → Option ℕ
+abbrev pub deepest_of : List WordNumbers → Option ℕ
 deepest_of [] = None
 deepest_of (n ∷ ns) = deeper (order_in_force None n.mark) (deepest_of ns)
 
 -- The text says this set and this deepest order.
 pub record Says (text : List ℕ) (a : NumberSet) (deepest : Option ℕ) : Type 0 where
-  pub numbers : List Parts
+  pub numbers : List WordNumbers
   pub read : AreRead None (words text) numbers
   pub set_is : a ≡ pixels_said None numbers
   pub deepest_is : deepest ≡ deepest_of numbers
@@ -224,7 +223,7 @@ pub record Says (text : List ℕ) (a : NumberSet) (deepest : Option ℕ) : Type 
 -- The text's first faulty word has this fault.
 pub record IsFirstFault (text : List ℕ) (f : TextError) : Type 0 where
   pub good : List Word
-  pub numbers : List Parts
+  pub numbers : List WordNumbers
   pub bad : Word
   pub others : List Word
   pub parts : words text ≡ good ++ bad ∷ others

@@ -11,7 +11,7 @@ use Rattle.moc_ranges.specs.Pixels.{pixels}
 use Rattle.moc_ranges.specs.Operations.{IsWithin}
 use Rattle.moc_ranges.specs.Lemmas.Members.{contains-pixels, contains-spans}
 use Rattle.moc_text.specs.declared.ascii.number.Item.{Item}
-use Rattle.moc_text.specs.declared.ascii.number.Parts.{Parts}
+use Rattle.moc_text.specs.declared.ascii.number.WordNumbers.{WordNumbers}
 use Rattle.moc_text.specs.declared.ascii.error.TextError.{TextError}
 use Rattle.moc_text.specs.Ascii.{words, order_in_force, item_pixels, pixels_said, deepest_of}
 use Rattle.moc_text.specs.Private.Scan.{◌>>=◌}
@@ -42,12 +42,12 @@ item_within (Some k) (Some i) = record {
   each = λ q here. contains-pixels q ∙ first_holds _ _ (sym (contains-spans k _ _ q) ∙ here);
 }
 
-said_within : (before : Option ℕ) (ns : List Parts) → IsWithin (pixels_said before ns) pixels
+said_within : (before : Option ℕ) (ns : List WordNumbers) → IsWithin (pixels_said before ns) pixels
 said_within before [] = empty_within
 said_within before (n ∷ ns) =
     union_within _ _ (item_within (order_in_force before n.mark) n.item) (said_within (order_in_force before n.mark) ns)
 
-of_numbers : (found : Result (List Parts) TextError)
+of_numbers : (found : Result (List WordNumbers) TextError)
     → IfOk {T = NumberSet × Option ℕ} (found >>= (λ ns. Ok (pixels_said None ns, deepest_of ns)))
     (λ r. IsWithin r.0 pixels)
 of_numbers (Ok ns) = said_within None ns

@@ -5,11 +5,16 @@ use Rattle.moc_text.specs.declared.ascii.error.TextError.TheVariants as text
 use Rattle.moc_text.specs.declared.json_form.error.JsonError.{JsonError}
 use Rattle.moc_text.specs.declared.json_form.error.JsonError.TheVariants as json
 
--- the error is one of the six faults of an ASCII text, at this byte
-abbrev pub IsFaultAt : ℕ → TextError → Type 0
-IsFaultAt at e =
-    (e ≡ text.BadByte at) ⊎ (e ≡ text.NoOrder at) ⊎ (e ≡ text.OrderTooLarge at) ⊎ (e ≡ text.CellTooLarge at)
-    ⊎ (e ≡ text.Backwards at) ⊎ (e ≡ text.Unfinished at)
+-- the byte of a fault of an ASCII text
+abbrev pub fault_byte : TextError → Option ℕ
+fault_byte (text.BadByte at) = Some at
+fault_byte (text.NoOrder at) = Some at
+fault_byte (text.OrderTooLarge at) = Some at
+fault_byte (text.CellTooLarge at) = Some at
+fault_byte (text.Backwards at) = Some at
+fault_byte (text.Unfinished at) = Some at
+fault_byte text.Memory = None
+fault_byte text.TooCoarse = None
 
 -- the error is a fault of this name of a JSON object, or of this item of its array
 abbrev pub IsJsonFaultAt : ℕ → Option ℕ → JsonError → Type 0

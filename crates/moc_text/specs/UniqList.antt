@@ -1,7 +1,7 @@
 -- NUNIQ lists: a text with the NUNIQ number of a cell on each line (MOC 2.0 has the numbers).
 use Rattle.std.specs.Prelude.{◌≡◌, ℕ, ◌+◌, not, if◌then◌else◌, List, [], ◌∷◌, ◌++◌, map, decimal}
 use Rattle.std.specs.Prelude.{Option, Some, None}
-use Rattle.std.specs.List.{AllByRecursion}
+use Rattle.std.specs.List.{flat_map, AllByRecursion}
 use Rattle.std.specs.Option.{option_or}
 use Rattle.std.specs.Str.{all_ascii_digits}
 use Rattle.std.specs.Str.Parse.{digits_value}
@@ -46,8 +46,7 @@ pub record SaysUniq (text : List ℕ) (a : NumberSet) : Type 0 where
 
 -- each number in decimal, and LF
 abbrev pub number_lines : List ℕ → List ℕ
-number_lines [] = []
-number_lines (n ∷ ns) = decimal n ++ 10 ∷ number_lines ns
+number_lines ns = flat_map (λ n. decimal n ++ 10 ∷ []) ns
 
 -- the list of a set: the numbers of its cells, rising
 unfoldable pub uniq_text : NumberSet → List ℕ

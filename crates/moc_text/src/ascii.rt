@@ -8,5 +8,5 @@ mod writing;
 
 pub use error::TextError;
 pub use reading::{read_ascii, readings_are_told};
-pub use scan::digits;
+pub use scan::{digits, is_separator};
 pub use writing::{RANGE_ROOM, beyond, deepest_of, depth_of, is_too_coarse, write_ascii};

@@ -2,4 +2,18 @@
 #![tactic(auto)]
 
 #[cfg(test)]
-mod tests;
+mod combining;
+#[cfg(test)]
+mod ended;
+#[cfg(test)]
+mod failing;
+#[cfg(test)]
+mod lines;
+#[cfg(test)]
+mod numbers;
+#[cfg(test)]
+mod pictures;
+#[cfg(test)]
+mod texts;
+#[cfg(test)]
+mod words;

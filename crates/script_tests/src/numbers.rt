@@ -1,7 +1,8 @@
 //! What lines of numbers are answered.
 use crate::between::{Language, expect_answers as expect};
 use moc_script::{
-    LINE_LIMIT, NameError, Numbering, OverReader, OverWriter, Renumbering, RunError, renumber,
+    LINE_LIMIT, Numbering, NumberingNameError, OverReader, OverWriter, Renumbering, RunError,
+    renumber,
 };
 use moc_sphere::Order;
 use std::alloc::{AllocError, Global};
@@ -59,7 +60,7 @@ fn all_cells_of_order_1(rt: HostRuntime) {
             );
         }
     }
-    assert!(rt; Numbering::from_str("nested") == Err(NameError::NotNumbering));
+    assert!(rt; Numbering::from_str("nested") == Err(NumberingNameError::NotNumbering));
 }
 
 // Cells of the least and of the greatest order: the first and the last in some numbering.

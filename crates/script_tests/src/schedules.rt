@@ -223,8 +223,8 @@ fn footprints(rt: HostRuntime) {
     }
 }
 
-// A schedule in which a client takes as many parts as it should hold, and may take no more, and tries to give each part;
-// and its answers.
+// A schedule in which a client takes as many parts as it should hold, and may take no more, and tries to give each
+// part; and its answers.
 fn taken_and_tried(
     alloc: Global,
     command: &str,

@@ -2,8 +2,8 @@
 use crate::between::{Ended, Language, between, expect_answers, expect_end, holds};
 use crate::failing::{Devices, FailsOnce, Failure, PLENTY, failing_reader, failing_writer};
 use moc_script::{
-    CrewError, DeviceFault, Fault, LINE_LIMIT, OverReader, OverWriter, ReadError, RunError, Sink,
-    Source, StepFault, run, write_all,
+    CrewError, DeviceFault, LINE_LIMIT, LineFault, OverReader, OverWriter, ReadError, RunError,
+    Sink, Source, StepFault, run, write_all,
 };
 use std::alloc::{AllocError, Global};
 use std::fmt::Display;
@@ -486,7 +486,7 @@ fn texts_of_errors(rt: HostRuntime) {
     let error = CrewError::Run(RunError::Read);
     expect_text(&rt, alloc, &error, "the input could not be read");
     expect_text(&rt, alloc, &DeviceFault, "a device failed");
-    let fault = ReadError::Fault(Fault::TooManyCommands);
+    let fault = ReadError::Fault(LineFault::TooManyCommands);
     expect_text(&rt, alloc, &fault, "a line has at most 16 commands");
     expect_text(&rt, alloc, &ReadError::Memory, "out of memory");
 }
@@ -494,7 +494,7 @@ fn texts_of_errors(rt: HostRuntime) {
 #[test]
 fn texts_of_step_faults(rt: HostRuntime) {
     let alloc = rt.alloc();
-    let fault = StepFault::Line(Fault::BadNumber);
+    let fault = StepFault::Line(LineFault::BadNumber);
     expect_text(&rt, alloc, &fault, "a field that is no number");
     let fault = StepFault::ClientTooLarge;
     expect_text(&rt, alloc, &fault, "a client above 4294967295");

@@ -14,8 +14,8 @@ use Rattle.moc_c.specs.Contents.{Contents}
 use Rattle.moc_c.specs.Membership.{Membership}
 use Rattle.moc_c.specs.Outcomes.{memory, outcome_of}
 use Rattle.moc_c.specs.Sharing.{IsAfter, MemberEnds, whole_sky}
-use Rattle.moc_c.specs.declared.fault.Fault.{Fault}
-use Rattle.moc_c.specs.declared.fault.Fault.TheVariants as fault
+use Rattle.moc_c.specs.declared.fault.CallFault.{CallFault}
+use Rattle.moc_c.specs.declared.fault.CallFault.TheVariants as fault
 use Rattle.moc_c.specs.declared.outcome.Outcome.{Outcome}
 
 -- a set that was made, where memory sufficed, is put at the next key
@@ -24,12 +24,12 @@ MakesIf old new (Ok a) o = Makes old new (Ok a) o
 MakesIf old new (Err e) o = (o ≡ memory) × (new ≡ old)
 
 -- the set that was said is made, or the fault is told, and all is as it was
-abbrev pub KeepsSaid : Contents → Contents → Result NumberSet Fault → Outcome → Type 0
+abbrev pub KeepsSaid : Contents → Contents → Result NumberSet CallFault → Outcome → Type 0
 KeepsSaid old new (Ok a) o = Makes old new (Ok a) o
 KeepsSaid old new (Err e) o = (o ≡ outcome_of e) × (new ≡ old)
 
 -- why a batch was not done, as a fault
-abbrev pub try_fault : TryError → Fault
+abbrev pub try_fault : TryError → CallFault
 try_fault (try.Busy b) = fault.Busy b
 try_fault try.Memory = fault.Memory
 
@@ -46,6 +46,6 @@ ReadsSky old new (Err e) =
     ⊎ ((new ≡ old) × (e ≡ try.Memory))
 
 -- the bytes of a text that was made
-abbrev pub bytes_made : Result (String Global) Fault → Result (List ℕ) Fault
+abbrev pub bytes_made : Result (String Global) CallFault → Result (List ℕ) CallFault
 bytes_made (Ok t) = Ok (string_bytes t)
 bytes_made (Err e) = Err e

@@ -6,13 +6,14 @@ use Rattle.moc_forms.specs.Combining.{CombinesTexts, Said, TextSays, joined, tex
 use Rattle.moc_text.specs.Lines.{pieces_of}
 use Rattle.moc_forms.specs.declared.combining.Operation.{Operation}
 use Rattle.moc_forms.specs.declared.finding.Choice.{Choice}
-use Rattle.moc_conversion.specs.Combining.{HasLongPart, TellsFirstFault}
+use Rattle.moc_conversion.specs.Combining.{HasLongPiece, TellsFirstFault}
 use Rattle.moc_conversion.specs.Conversion.{input_limit}
+use Rattle.moc_conversion.specs.Faults.{want_of_memory}
 use Rattle.moc_conversion.specs.Private.Pieces.{LacksSemicolons}
 use Rattle.moc_conversion.specs.declared.combination.Combination.{Combination}
 use Rattle.moc_conversion.specs.declared.complaint.Complaint.{Complaint}
-use Rattle.moc_conversion.specs.declared.fault.Fault.{Fault}
-use Rattle.moc_conversion.specs.declared.fault.Fault.TheVariants.{TooLong, Memory}
+use Rattle.moc_conversion.specs.declared.fault.InputFault.{InputFault}
+use Rattle.moc_conversion.specs.declared.fault.InputFault.TheVariants.{TooLong}
 
 -- the text that has not ended has no semicolon, and is no longer than an input may be
 pub record IsOpen (c : Combination) : Type 0 where
@@ -59,12 +60,12 @@ FailsWithin c bytes complaint = (rest : List ℕ) → Fails c (bytes ++ rest) co
 -- with these bytes behind the text of a combination a part is longer than a text may be, or there are more parts than
 -- are counted
 abbrev pub IsLong : Combination → List ℕ → Type 0
-IsLong c bytes = HasLongPart (c.text.items ++ bytes) ⊎ (18446744073709551615 < c.number + length bytes)
+IsLong c bytes = HasLongPiece (c.text.items ++ bytes) ⊎ (18446744073709551615 < c.number + length bytes)
 
 -- bytes were not taken: memory was refused, or something is too long, whatever stands behind them
-abbrev pub AreNotTaken : Combination → List ℕ → Fault → Type 0
+abbrev pub AreNotTaken : Combination → List ℕ → InputFault → Type 0
 AreNotTaken c bytes fault =
-    (fault ≡ Memory) ⊎ ((fault ≡ TooLong) × ((rest : List ℕ) → IsLong c (bytes ++ rest)))
+    (fault ≡ want_of_memory) ⊎ ((fault ≡ TooLong) × ((rest : List ℕ) → IsLong c (bytes ++ rest)))
 
 -- a combination has taken these bytes behind another
 pub record Leads (c : Combination) (bytes : List ℕ) (d : Combination) : Type 0 where

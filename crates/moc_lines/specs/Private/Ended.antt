@@ -2,8 +2,8 @@
 use Rattle.std.specs.Prelude.{◌≡◌, ℕ, ◌⊎◌, List, ◌++◌, Option, Some, Result, Ok, Err}
 use Rattle.std.specs.Io.KnownBytes.{Appends, Consumes, IsAtEnd}
 use Rattle.moc_text.specs.Lines.{lines_of}
-use Rattle.moc_lines.specs.Answers.{Rules, answers_to, closing_behind}
-use Rattle.moc_lines.specs.Runs.{AreWithin, IsTooLong, whole_lines_of, lines_before, IsBegunLine, IsUnclosed}
+use Rattle.moc_lines.specs.Runs.{Rules, answers_to, closing_behind, AreWithin, IsTooLong, whole_lines_of, lines_before}
+use Rattle.moc_lines.specs.Runs.{IsBegunLine, IsUnclosed}
 use Rattle.moc_lines.specs.declared.run_error.RunError.{RunError}
 use Rattle.moc_lines.specs.declared.run_error.RunError.TheVariants.{Read, Write, LineTooLong, Memory}
 

@@ -3,8 +3,7 @@ use Rattle.std.specs.Prelude.{◌≡◌, ℕ, ◌≤◌, List, [], ◌∷◌, �
 use Rattle.std.specs.List.{count_by}
 use Rattle.moc_text.specs.Lines.{is_line_feed, lines_of}
 use Rattle.moc_lines.specs.Private.Held.{IsUnbroken}
-use Rattle.moc_lines.specs.Runs.{AreWithin}
-use Rattle.moc_lines.specs.Scripts.{line_limit}
+use Rattle.moc_lines.specs.Runs.{AreWithin, line_limit}
 
 -- Of these bytes the lines that a line feed ends lie before the start, and are within the limit; the line that is begun
 -- there is so too.

@@ -6,13 +6,13 @@ use Rattle.std.specs.Io.KnownBytes.{Consumes, IsAtEnd}
 use Rattle.moc_lines.specs.Private.Held.{Held, IsUnbroken}
 use Rattle.moc_lines.specs.declared.line_reader.Found.{Found}
 use Rattle.moc_lines.specs.declared.line_reader.Found.TheVariants.{Line, LastLine, Nothing}
-use Rattle.moc_lines.specs.declared.line_reader.LineFault.{LineFault}
-use Rattle.moc_lines.specs.declared.line_reader.LineFault.TheVariants.{Read, TooLong, Memory}
+use Rattle.moc_lines.specs.declared.line_reader.NextLineError.{NextLineError}
+use Rattle.moc_lines.specs.declared.line_reader.NextLineError.TheVariants.{Read, TooLong, Memory}
 use Rattle.moc_lines.specs.declared.run_error.RunError.{RunError}
 use Rattle.moc_lines.specs.declared.run_error.RunError.TheVariants as run
 
 -- the bytes that were at hand or came in this call, `bytes`, are what a line's end leaves of them, or show the fault
-abbrev pub Parts : ℕ → List ℕ → Held → Option (List ℕ) → Result Found LineFault → Type 0
+abbrev pub Parts : ℕ → List ℕ → Held → Option (List ℕ) → Result Found NextLineError → Type 0
 Parts limit bytes held left (Ok Line) =
     (bytes ≡ held.line ++ 10 ∷ held.unread) × IsUnbroken held.line × (length held.line ≤ limit)
 Parts limit bytes held left (Ok LastLine) =
@@ -25,7 +25,7 @@ Parts limit bytes held left (Err TooLong) =
 Parts limit bytes held left (Err Memory) = 0 < length bytes
 
 -- a call that looks for a line's end takes some bytes from the reader, and parts these and those at hand
-abbrev pub TakesLine : ℕ → Held → Option (List ℕ) → Held → Option (List ℕ) → Result Found LineFault → Type 0
+abbrev pub TakesLine : ℕ → Held → Option (List ℕ) → Held → Option (List ℕ) → Result Found NextLineError → Type 0
 TakesLine limit old left new left' result =
     (came : List ℕ) × Consumes left left' came × Parts limit (old.unread ++ came) new left' result
 
@@ -34,7 +34,7 @@ abbrev pub holds_line : List ℕ → Bool
 holds_line unread = nat_lt (position_or_len is_line_feed unread) (length unread)
 
 -- the fault of a run that finds no line of this number
-abbrev pub fault_at : ℕ → LineFault → RunError
+abbrev pub fault_at : ℕ → NextLineError → RunError
 fault_at number Read = run.Read
 fault_at number TooLong = run.LineTooLong number
 fault_at number Memory = run.Memory number

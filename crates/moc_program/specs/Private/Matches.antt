@@ -7,8 +7,8 @@ use Rattle.moc_command_line.specs.CommandLine.{IsCommandLine}
 use Rattle.moc_program.specs.Actions.{ActionEnds}
 use Rattle.moc_program.specs.Asking.{Asks}
 use Rattle.moc_program.specs.declared.action.Action.{Action}
-use Rattle.moc_program.specs.declared.status.Fault.{Fault}
-use Rattle.moc_program.specs.declared.status.Fault.TheVariants.{Memory}
+use Rattle.moc_program.specs.declared.status.ProgramFault.{ProgramFault}
+use Rattle.moc_program.specs.declared.status.ProgramFault.TheVariants.{Memory}
 
 -- the values behind a word
 abbrev pub values_of : ArgMatches → List Row
@@ -27,7 +27,7 @@ pub record AreReadAs (words : List Text) (matches : ArgMatches) : Type 0 where
 
 -- what the word that was found asks for ends so; or memory was refused before anything was written
 abbrev pub MatchedEnd : ArgMatches → Option (List ℕ) → Option (List ℕ) → Option (List ℕ) → Option (List ℕ)
-    → Result (Unit {0}) Fault → Type 0
+    → Result (Unit {0}) ProgramFault → Type 0
 MatchedEnd matches left left' w w' (Ok _) =
     (action : Action) × IsAskedIn matches action × ActionEnds action left left' w w' (Ok tt)
 MatchedEnd matches left left' w w' (Err fault) =

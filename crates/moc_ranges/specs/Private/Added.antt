@@ -1,6 +1,6 @@
 -- A list in blocks with one range more.
 use Rattle.std.specs.Prelude.{◌≡◌, ℕ, ◌+◌, ◌-◌, ◌<◌, ◌≤◌, ◌||◌, min, Option, None, Some, List, [], ◌∷◌, ◌++◌, length}
-use Rattle.std.specs.Prelude.{get_or, slice_set}
+use Rattle.std.specs.Prelude.{get_or, slice_set, Result, MatchOption, MatchResult}
 use Rattle.std.specs.List.{insert}
 use Rattle.moc_ranges.specs.RangeList.{IsNormal}
 use Rattle.moc_ranges.specs.Lemmas.Members.{in_range, in_ranges}
@@ -46,6 +46,11 @@ pub record IsCut {X : Type 0} (most before behind : ℕ) (items first second : L
 pub record HasGrown (from to : ℕ) (old new : List (ℕ × ℕ)) (added : ℕ) : Type 0 where
   pub same : (q : ℕ) → in_ranges new q ≡ (in_ranges old q || in_range (from, to) q)
   pub more : width_of new ≡ width_of old + added
+
+-- what adding a range leaves: ranges that have grown by as many numbers as is told; else, or refused, those there were
+abbrev pub Inserts : {E : Type 0} → ℕ → ℕ → List (ℕ × ℕ) → List (ℕ × ℕ) → Result (Option ℕ) E → Type 0
+Inserts from to old new result =
+    MatchResult result (λ added. MatchOption added (new ≡ old) (HasGrown from to old new)) (λ _. new ≡ old)
 
 -- blocks of a node that took in a range, between blocks before and behind it
 pub record IsRegrown (from to : ℕ) (before behind node blocks : List (List (ℕ × ℕ))) (added : ℕ) : Type 0 where

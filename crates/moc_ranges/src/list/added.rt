@@ -1,7 +1,7 @@
 //! A list in blocks with one range more: it is put into the list of its block, or that block is made anew, and its node
 //! where that is shared or the block is cut; all others stay.
 ghost use Rattle.std.specs.Prelude.{◌≡◌, ◌+◌, ◌<◌, ◌≤◌, ◌++◌, [], ◌∷◌, length, take, drop, min};
-ghost use Rattle.std.specs.Prelude.{IfOk, IfSome, MatchOption, OnOk, OnErr};
+ghost use Rattle.std.specs.Prelude.{IfOk, IfSome, MatchOption, OnOk};
 ghost use Rattle.std.specs.Bool.{OnTrue, OnFalse};
 ghost use Rattle.moc_ranges.specs.Pixels.{pixel_count};
 ghost use Rattle.moc_ranges.specs.RangeList.{IsNormal};
@@ -9,7 +9,7 @@ ghost use Rattle.moc_ranges.specs.Private.Blocks.{joining, next_of, AreBlocks, I
 ghost use Rattle.moc_ranges.specs.Private.Built.{first_length, EndsBelow};
 ghost use Rattle.moc_ranges.specs.Private.Walks.{joined};
 ghost use Rattle.moc_ranges.specs.Private.Added.{pieces};
-ghost use Rattle.moc_ranges.specs.Private.Added.{IsAround, IsReach, HasOneMore, HasGrown, IsCut, IsGrown, IsRegrown};
+ghost use Rattle.moc_ranges.specs.Private.Added.{IsAround, IsReach, HasOneMore, Inserts, IsCut, IsGrown, IsRegrown};
 ghost use Rattle.moc_ranges.specs.Private.Added.{IsGap, IsRenewed, IsSpot};
 
 use crate::list::ahead::{Ahead, front_from};
@@ -390,9 +390,7 @@ pub fn insert_few(
     requires within { to ≤ pixel_count }
     ensures fits { length few.new.items ≤ LONGEST }
     ensures normal { IsNormal few.new.items }
-    ensures inserted { IfOk result (λ n. MatchOption n
-        (few.new.items ≡ few.old.items) (λ n. HasGrown from to few.old.items few.new.items n)) }
-    ensures unchanged { OnErr result (few.new.items ≡ few.old.items) }
+    ensures inserted { Inserts from to few.old.items few.new.items result }
 {
     let ranges = with_range(alloc, few, from, to)?;
     if ranges.len() > LONGEST {

@@ -3,7 +3,7 @@ ghost use Rattle.std.specs.Prelude.{◌≡◌, ◌+◌, ◌<◌, ◌≤◌, ◌+
 ghost use Rattle.std.specs.Prelude.{vec_len, vec_capacity, IfOk, MatchOption, OnErr, OnOk};
 ghost use Rattle.moc_ranges.specs.Pixels.{pixel_count};
 ghost use Rattle.moc_ranges.specs.Private.Blocks.{joining, moved, width_of, AreStored, IsCountBegun, IsStored};
-ghost use Rattle.moc_ranges.specs.Private.Added.{with_second, HasGrown};
+ghost use Rattle.moc_ranges.specs.Private.Added.{with_second, Inserts};
 
 use crate::list::added::{Gap, Renewed, Spot, gap_of, renew, spot_of};
 use crate::list::block::Block;
@@ -199,9 +199,7 @@ impl Nodes {
         requires filled { from < to }
         requires within { to ≤ pixel_count }
         ensures stored { IsStored [] self.new }
-        ensures inserted { IfOk result (λ n. MatchOption n (self.new ≡ self.old) (λ n.
-            HasGrown from to (joining (joining self.old)) (joining (joining self.new)) n)) }
-        ensures unchanged { OnErr result (self.new ≡ self.old) }
+        ensures inserted { Inserts from to (joining (joining self.old)) (joining (joining self.new)) result }
     {
         let Some(Gap { node, block, place }) = gap_of(&self.nodes, from, to) else {
             return Ok(None);
@@ -226,9 +224,7 @@ impl Nodes {
         requires filled { from < to }
         requires within { to ≤ pixel_count }
         ensures stored { IsStored [] self.new }
-        ensures inserted { IfOk result (λ n. MatchOption n (self.new ≡ self.old) (λ n.
-            HasGrown from to (joining (joining self.old)) (joining (joining self.new)) n)) }
-        ensures unchanged { OnErr result (self.new ≡ self.old) }
+        ensures inserted { Inserts from to (joining (joining self.old)) (joining (joining self.new)) result }
     {
         let Some(
             Spot {
@@ -333,9 +329,7 @@ impl Nodes {
         requires filled { from < to }
         requires within { to ≤ pixel_count }
         ensures stored { IsStored [] self.new }
-        ensures inserted { IfOk result (λ n. MatchOption n (self.new ≡ self.old) (λ n.
-            HasGrown from to (joining (joining self.old)) (joining (joining self.new)) n)) }
-        ensures unchanged { OnErr result (self.new ≡ self.old) }
+        ensures inserted { Inserts from to (joining (joining self.old)) (joining (joining self.new)) result }
     {
         if let Some(added) = self.insert_in_place(alloc, from, to)? {
             return Ok(Some(added));

@@ -1,8 +1,7 @@
 -- The lines of a lane.
 use Rattle.std.specs.Prelude.{◌≡◌, ℕ, zero, suc, ◌+◌, List, [], ◌∷◌, ◌++◌, length}
 use Rattle.moc_text.specs.Lines.{lines_of}
-use Rattle.moc_script.specs.Merges.{in_lane, dealt}
-use Rattle.moc_script.specs.Crews.{said_lines}
+use Rattle.moc_script.specs.Crews.{in_lane, dealt, said_lines}
 use Rattle.moc_script.specs.declared.crews.lines.LaneLines.{LaneLines}
 
 -- the lines of a lane, of so many: those that are dealt to it of the lines that are not blank

@@ -2,11 +2,10 @@
 use Rattle.std.specs.Prelude.{◌≡◌, ◌<◌, ◌++◌, ℕ, List, [], length, slice_index_or, Option, Result, OnOk, IfSome}
 use Rattle.std.specs.Io.KnownBytes.{Appends}
 use Rattle.std.specs.List.{concat}
-use Rattle.moc_script.specs.Merges.{in_lane, dealt}
+use Rattle.moc_script.specs.Crews.{in_lane, dealt, CrewEnds, IsCrewText, said_lines}
 use Rattle.moc_devices.specs.Devices.{Sends}
 use Rattle.moc_text.specs.Lines.{lines_of}
-use Rattle.moc_script.specs.Crews.{CrewEnds, IsCrewText, said_lines}
-use Rattle.moc_lines.specs.Inputs.{ReadsAll}
+use Rattle.moc_lines.specs.Runs.{ReadsAll}
 use Rattle.moc_script.specs.declared.crew_error.CrewError.{CrewError}
 
 -- each lane has as many answers as it has lines, of so many lines

@@ -7,9 +7,9 @@ use Rattle.moc_shared.specs.Batches.{BatchEntry, BatchRecord, answer as object}
 use Rattle.moc_shared.specs.Clients.{number_of, record_of, IsClientOf}
 use Rattle.moc_shared.specs.History.{entry}
 use Rattle.moc_text.specs.Lines.{lines_of}
-use Rattle.moc_lines.specs.Replies.{replies_text}
+use Rattle.moc_lines.specs.Language.{replies_text}
 use Rattle.moc_script.specs.Crews.{IsSaidLine}
-use Rattle.moc_lines.specs.Scripts.{script_rules}
+use Rattle.moc_lines.specs.Runs.{script_rules}
 use Rattle.moc_script.specs.Private.Input.{lane_lines}
 use Rattle.moc_script.specs.Private.LaneWork.{DoesLine, Does}
 use Rattle.moc_script.specs.declared.crews.lane.LaneEnd.{LaneEnd}

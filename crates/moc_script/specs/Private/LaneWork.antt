@@ -1,6 +1,6 @@
 -- What the lines of a lane ask of the map, and how they are answered.
 use Rattle.std.specs.Prelude.{◌≡◌, ◌⊎◌, ℕ, List, [], ◌∷◌}
-use Rattle.moc_lines.specs.Answers.{Rules}
+use Rattle.moc_lines.specs.Runs.{Rules}
 use Rattle.moc_shared.specs.declared.record.Entry.{Entry}
 
 module _ {S O R : Type 0} (object : S → O → S × R) (rules : Rules S) where

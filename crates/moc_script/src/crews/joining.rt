@@ -1,8 +1,8 @@
 //! The answers in the order of the lines.
-ghost use Rattle.std.specs.Prelude.{◌≡◌, ◌≢◌, ◌<◌, ◌≤◌, ◌+◌, ◌++◌, ◌↔◌, [], Err, false, length, IfOk, OnOk, OnErr};
-ghost use Rattle.std.specs.Prelude.{IsErrOf, IsTrue, vec_len, vec_capacity};
+ghost use Rattle.std.specs.Prelude.{◌≡◌, ◌≢◌, ◌<◌, ◌≤◌, ◌+◌, ◌++◌, ◌↔◌, [], Err, false, is_err, length, IfOk, IsErrOf};
+ghost use Rattle.std.specs.Prelude.{IsTrue, vec_len, vec_capacity};
 ghost use Rattle.std.specs.Io.KnownBytes.{Keeps};
-ghost use Rattle.moc_devices.specs.Devices.{CallsMore, Sends};
+ghost use Rattle.moc_devices.specs.Devices.{FlushesNothing, OnlyWrites, Sends};
 ghost use Rattle.moc_script.specs.Private.Joining.{JoinsTo, SendsTurns};
 ghost use Rattle.moc_script.specs.declared.crews.joining.JoinError.TheVariants as join;
 
@@ -66,12 +66,8 @@ impl<'a> Joiner<'a> {
     fn write<W: Sink>(mut self, behind: &[u8], writer: &mut W) -> Result<(), DeviceFault>
         requires some { 0 < length self.walks.items }
         requires none { self.pending.items ≡ [] }
-        requires writer { W.mark writer.old ≡ false }
         ensures sends { JoinsTo self.entry.walks.items behind.now (W.written writer.old) (W.written writer.new) result }
-        ensures marks { OnErr result (IsTrue (W.mark writer.new)) }
-        ensures unmarked { OnOk result (W.mark writer.new ≡ false) }
-        ensures flushed { IsTrue (W.flushed writer.new) → IsTrue (W.flushed writer.old) }
-        ensures flushes { CallsMore (W.flushes writer.old) (W.flushes writer.new) 0 }
+        ensures writes { OnlyWrites W.mark W.flushed W.flushes writer.old writer.new (is_err result) }
     {
         self.write_turns(writer)?;
         send(behind, &mut self.pending, writer)?;
@@ -82,13 +78,9 @@ impl<'a> Joiner<'a> {
     fn write_turns<W: Sink>(&mut self, writer: &mut W) -> Result<(), DeviceFault>
         requires some { 0 < length self.old.walks.items }
         requires none { self.old.pending.items ≡ [] }
-        requires writer { W.mark writer.old ≡ false }
         ensures sends { SendsTurns self.old.walks.items (W.written writer.old)
             self.new.pending.items (W.written writer.new) result }
-        ensures marks { OnErr result (IsTrue (W.mark writer.new)) }
-        ensures unmarked { OnOk result (W.mark writer.new ≡ false) }
-        ensures flushed { IsTrue (W.flushed writer.new) → IsTrue (W.flushed writer.old) }
-        ensures flushes { CallsMore (W.flushes writer.old) (W.flushes writer.new) 0 }
+        ensures writes { OnlyWrites W.mark W.flushed W.flushes writer.old writer.new (is_err result) }
     {
         let mut turn = 0;
         while let Some(answer) = self.walks[turn].next_text() {
@@ -105,13 +97,9 @@ impl<'a> Joiner<'a> {
 /// Puts a text behind what is pending. Where there is no room for it, what is pending is written first, and a text that
 /// is longer than all room at once.
 fn send<W: Sink>(text: &[u8], pending: &mut Vec<u8>, writer: &mut W) -> Result<(), DeviceFault>
-    requires writer { W.mark writer.old ≡ false }
     ensures sends { Sends (pending.old.items ++ text.now) (W.written writer.old)
         pending.new.items (W.written writer.new) result }
-    ensures marks { OnErr result (IsTrue (W.mark writer.new)) }
-    ensures unmarked { OnOk result (W.mark writer.new ≡ false) }
-    ensures flushed { IsTrue (W.flushed writer.new) → IsTrue (W.flushed writer.old) }
-    ensures flushes { CallsMore (W.flushes writer.old) (W.flushes writer.new) 0 }
+    ensures writes { OnlyWrites W.mark W.flushed W.flushes writer.old writer.new (is_err result) }
 {
     if text.len() <= pending.capacity() - pending.len() {
         put(text, pending);
@@ -150,8 +138,7 @@ pub(crate) fn write_joined<W: Sink>(
         → JoinsTo answers.now behind.now (W.written writer.old) (W.written writer.new) result }
     ensures kept { result ≡ Err JoinError.Memory → Keeps (W.written writer.old) (W.written writer.new) }
     ensures write { IsErrOf result JoinError.Write ↔ IsTrue (W.mark writer.new) }
-    ensures flushed { IsTrue (W.flushed writer.new) → IsTrue (W.flushed writer.old) }
-    ensures flushes { CallsMore (W.flushes writer.old) (W.flushes writer.new) 0 }
+    ensures unflushed { FlushesNothing W.flushed W.flushes writer.old writer.new }
 {
     if answers.len() == 1 {
         return Ok(write_both(answers[0].as_bytes(), behind, writer)?);
@@ -162,12 +149,8 @@ pub(crate) fn write_joined<W: Sink>(
 
 /// Writes a text and one behind it.
 fn write_both<W: Sink>(text: &[u8], behind: &[u8], writer: &mut W) -> Result<(), DeviceFault>
-    requires writer { W.mark writer.old ≡ false }
     ensures sends { Sends (text.now ++ behind.now) (W.written writer.old) [] (W.written writer.new) result }
-    ensures marks { OnErr result (IsTrue (W.mark writer.new)) }
-    ensures unmarked { OnOk result (W.mark writer.new ≡ false) }
-    ensures flushed { IsTrue (W.flushed writer.new) → IsTrue (W.flushed writer.old) }
-    ensures flushes { CallsMore (W.flushes writer.old) (W.flushes writer.new) 0 }
+    ensures writes { OnlyWrites W.mark W.flushed W.flushes writer.old writer.new (is_err result) }
 {
     write_all(text, writer)?;
     write_all(behind, writer)

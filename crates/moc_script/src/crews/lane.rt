@@ -1,7 +1,7 @@
 //! One lane of a crew: a thread with a client of its own.
 ghost use Rattle.std.specs.Prelude.{◌≡◌, ◌<◌, ◌∷◌, [], false, true, OnOk};
 ghost use Rattle.moc_shared.specs.Clients.{IsClientOf, number_of, record_of};
-ghost use Rattle.moc_lines.specs.Words.{is_blank_text};
+ghost use Rattle.moc_lines.specs.Language.{is_blank_text};
 ghost use Rattle.moc_script.specs.Private.LaneEnds.{Made, AddsAnswer, Answered, GoesBefore, IsLaneEnd, line_at};
 
 use crate::crews::gate::Gate;

@@ -1,7 +1,8 @@
 -- What an operation answers from the parts that were found.
 use Rattle.std.specs.Prelude.{◌≡◌, ℕ, List, Contains}
 use Rattle.moc_shared.specs.declared.record.Note.{Note}
-use Rattle.moc_shared.specs.Rule.{note, noted_parts}
+use Rattle.moc_shared.specs.Seats.{note}
+use Rattle.moc_shared.specs.Private.Rule.{noted_parts}
 
 module _ {X O R Y : Type 0} (part : ℕ → X → Y) (answer : X → O → X × R) (proper : X → Type 0) where
   -- From each set that agrees with what was found, the operation has this reply, the parts become what was edited, and

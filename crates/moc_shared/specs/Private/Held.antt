@@ -5,8 +5,9 @@ use Rattle.moc_ranges.specs.Numbers.{NumberSet}
 use Rattle.moc_parts.specs.Commands.{footprint, operand_set, IsCommand}
 use Rattle.moc_parts.specs.declared.command.Command.{Command}
 use Rattle.moc_parts.specs.declared.command.Command.TheVariants.{Add, Count}
-use Rattle.moc_shared.specs.Rule.{note, IsOne}
-use Rattle.moc_shared.specs.Seats.{IsCarried, notes_below, AreOwn, IsFootprint, Pointer, Sight}
+use Rattle.moc_shared.specs.Seats.{note, Pointer, Sight}
+use Rattle.moc_shared.specs.Private.Rule.{IsOne}
+use Rattle.moc_shared.specs.Private.Seats.{IsCarried, notes_below, AreOwn, IsFootprint}
 
 -- a client alone holds the parts of the batch's footprint, and their lists are those that were found, each in its own
 -- base pixel

@@ -6,7 +6,8 @@ use Rattle.moc_shared.specs.declared.record.Record.{Record}
 use Rattle.moc_shared.specs.declared.record.Note.{Note}
 use Rattle.moc_shared.specs.declared.record.View.{View}
 use Rattle.moc_shared.specs.History.{StartsWith, Fits, StandsFor, MissesMarked, own_with, IsHistory}
-use Rattle.moc_shared.specs.Rule.{index, note, records}
+use Rattle.moc_shared.specs.Seats.{index, note}
+use Rattle.moc_shared.specs.Private.Rule.{records}
 
 -- all but the first
 abbrev pub behind_first : {A : Type 0} → List A → List A

@@ -3,8 +3,8 @@ use Rattle.std.specs.Prelude.{◌≡◌, ℕ, List, length, Option}
 use mathlib.Core.Option.{some}
 use lib.ListN.{get_elem?}
 use Rattle.moc_ranges.specs.Numbers.{NumberSet}
-use Rattle.moc_shared.specs.Rule.{index}
-use Rattle.moc_shared.specs.Seats.{Pointer, content, part}
+use Rattle.moc_shared.specs.Seats.{index, Pointer}
+use Rattle.moc_shared.specs.Private.Seats.{content, part}
 
 -- there are n slots, and those of parts stand for the parts of a set
 abbrev pub StandFor : NumberSet → List (Option Pointer) → ℕ → Type 0

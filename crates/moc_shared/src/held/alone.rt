@@ -3,7 +3,7 @@ ghost use Rattle.std.specs.Prelude.{◌≡◌, ◌<◌, [], ◌∷◌, IfOk, IfS
 ghost use Rattle.std.specs.Arc.{arc_value};
 ghost use Rattle.std.specs.FinSet as set;
 ghost use Rattle.moc_parts.specs.Commands.{reply_on, set_after};
-ghost use Rattle.moc_shared.specs.Rule.{index};
+ghost use Rattle.moc_shared.specs.Private.Seats.{IsOfTable};
 ghost use Rattle.moc_shared.specs.Private.Held.{HoldsJust, TakesJust, IsPlain};
 ghost use Rattle.moc_shared.specs.Private.Plays.{with_holds};
 ghost use Rattle.moc_shared.specs.Private.Slots.{EndsBatch};
@@ -89,7 +89,8 @@ pub(crate) fn answer_alone(
     pointer: Pointer,
     command: &Command,
 ) -> Result<Reply, Memory>
-    requires place { (seat.old.table_id ≡ table.now.table_id) × (table.now.table_id.words ≡ index 12) × (b < 12) }
+    requires place { IsOfTable seat.old.table_id table.now.table_id }
+    requires part { b < 12 }
     requires held { HoldsJust b (arc_value pointer) seat.old.me }
     requires alone { TakesJust command.now b }
     ensures same { (seat.new.table_id ≡ seat.old.table_id) × (seat.new.id ≡ seat.old.id) }

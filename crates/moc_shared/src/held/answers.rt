@@ -3,8 +3,7 @@ ghost use Rattle.std.specs.Prelude.{◌≡◌, ◌<◌, ℕ, false, None, [], If
 ghost use Rattle.std.specs.List.{list_any};
 ghost use Rattle.moc_parts.specs.Commands.{is_update};
 ghost use Rattle.moc_shared.specs.Private.Held.{HoldsFootprint};
-ghost use Rattle.moc_shared.specs.Rule.{index};
-ghost use Rattle.moc_shared.specs.Seats.{at_place, AreOwn};
+ghost use Rattle.moc_shared.specs.Private.Seats.{at_place, AreOwn, IsOfTable};
 ghost use Rattle.moc_shared.specs.Private.Plays.{with_holds};
 ghost use Rattle.moc_shared.specs.Private.Slots.{replies_to, EndsBatch, GivesUp};
 
@@ -24,7 +23,7 @@ fn update(
     batch: &Batch,
     found: &mut Slots,
 ) -> Result<Replies, Memory>
-    requires place { (seat.old.table_id ≡ table.now.table_id) × (table.now.table_id.words ≡ index 12) }
+    requires place { IsOfTable seat.old.table_id table.now.table_id }
     requires held { HoldsFootprint batch.now found.old seat.old.me }
     ensures same { (seat.new.table_id ≡ seat.old.table_id) × (seat.new.id ≡ seat.old.id) }
     ensures idle { seat.new.me.1 ≡ [] }
@@ -56,7 +55,7 @@ pub(crate) fn observe(
     found: &mut Slots,
     copies: &mut Slots,
 ) -> Result<(), Memory>
-    requires place { (seat.old.table_id ≡ table.now.table_id) × (table.now.table_id.words ≡ index 12) }
+    requires place { IsOfTable seat.old.table_id table.now.table_id }
     requires held { HoldsFootprint batch.now found.old seat.old.me }
     requires query { list_any is_update batch.now ≡ false }
     requires blank { (b : ℕ) → at_place copies.old b ≡ None }
@@ -90,7 +89,7 @@ fn query(
     batch: &Batch,
     found: &mut Slots,
 ) -> Result<Replies, Memory>
-    requires place { (seat.old.table_id ≡ table.now.table_id) × (table.now.table_id.words ≡ index 12) }
+    requires place { IsOfTable seat.old.table_id table.now.table_id }
     requires held { HoldsFootprint batch.now found.old seat.old.me }
     requires query { list_any is_update batch.now ≡ false }
     ensures same { (seat.new.table_id ≡ seat.old.table_id) × (seat.new.id ≡ seat.old.id) }
@@ -111,7 +110,7 @@ pub(crate) fn go_through(
     batch: &Batch,
     found: &mut Slots,
 ) -> Result<Replies, Memory>
-    requires place { (seat.old.table_id ≡ table.now.table_id) × (table.now.table_id.words ≡ index 12) }
+    requires place { IsOfTable seat.old.table_id table.now.table_id }
     requires held { HoldsFootprint batch.now found.old seat.old.me }
     ensures same { (seat.new.table_id ≡ seat.old.table_id) × (seat.new.id ≡ seat.old.id) }
     ensures idle { seat.new.me.1 ≡ [] }

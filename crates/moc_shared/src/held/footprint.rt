@@ -1,7 +1,7 @@
 //! All parts of a footprint: taken in rising order, and given back in falling order.
 ghost use Rattle.std.specs.Prelude.{◌≡◌, ℕ, suc, ◌<◌, ◌≤◌, [], None, IfOk, IfErr, is_some, true};
-ghost use Rattle.moc_shared.specs.Rule.{index, IsOne};
-ghost use Rattle.moc_shared.specs.Seats.{IsCarried, notes_below, at_place, AreOwn, IsFootprint};
+ghost use Rattle.moc_shared.specs.Private.Rule.{IsOne};
+ghost use Rattle.moc_shared.specs.Private.Seats.{IsCarried, notes_below, at_place, AreOwn, IsFootprint, IsOfTable};
 ghost use Rattle.moc_shared.specs.Private.Plays.{with_parts, with_holds};
 ghost use Rattle.moc_shared.specs.Private.Slots.{replies_to, Edits, EndsBatch, IsRefused};
 
@@ -9,13 +9,13 @@ use crate::errors::Busy;
 use crate::table::locks::{Token, Words};
 use crate::table::slots::{Slots, end_of, highest, no_slots, put_at, take_at};
 use crate::table::steps::{end_call, give_part, take_slot};
-use moc_parts::{Batch, Part};
+use moc_parts::Batch;
 use std::alloc::Global;
 use std::marker::Brand;
 
 /// Gives back all parts that are held, with these pointers, of which none is at `end` or behind it.
 fn give_below(table: &Words, seat: &mut Token, end: usize, slots: &mut Slots)
-    requires place { (seat.old.table_id ≡ table.now.table_id) × (table.now.table_id.words ≡ index 12) }
+    requires place { IsOfTable seat.old.table_id table.now.table_id }
     requires client { IsOne seat.old.me.0 }
     requires carried { IsCarried seat.old.me }
     requires held { seat.old.me.0.holds ≡ notes_below slots.old 12 }
@@ -34,7 +34,7 @@ fn give_below(table: &Words, seat: &mut Token, end: usize, slots: &mut Slots)
 
 /// Gives back all parts that are held, with these pointers.
 pub(crate) fn give_all(table: &Words, seat: &mut Token, slots: &mut Slots)
-    requires place { (seat.old.table_id ≡ table.now.table_id) × (table.now.table_id.words ≡ index 12) }
+    requires place { IsOfTable seat.old.table_id table.now.table_id }
     requires client { IsOne seat.old.me.0 }
     requires carried { IsCarried seat.old.me }
     requires held { seat.old.me.0.holds ≡ notes_below slots.old 12 }
@@ -52,7 +52,7 @@ pub(crate) fn take_all(
     mark: u64,
     batch: &Batch,
 ) -> Result<Slots, Busy>
-    requires place { (seat.old.table_id ≡ table.now.table_id) × (table.now.table_id.words ≡ index 12) }
+    requires place { IsOfTable seat.old.table_id table.now.table_id }
     requires client { IsOne seat.old.me.0 × (mark ≡ suc seat.old.me.0.mine.number) }
     requires few { seat.old.me.0.clients ≤ 64 }
     requires idle { (seat.old.me.0.holds ≡ []) × (seat.old.me.1 ≡ []) }
@@ -63,17 +63,14 @@ pub(crate) fn take_all(
     ensures err { IfErr result
         (λ busy. (seat.new.me.1 ≡ []) × IsRefused batch.now busy.part busy.holder seat.old.me.0 seat.new.me.0) }
 {
-    let footprint = batch.footprint(alloc);
     let mut found = no_slots();
-    for b in 0..12usize {
-        let part = Part::of(b as u8);
-        if footprint.contains(part) {
-            match take_slot(table, seat, b, mark) {
-                Ok(pointer) => put_at(&mut found, b, pointer),
-                Err(holder) => {
-                    give_all(table, seat, &mut found);
-                    return Err(Busy { part, holder });
-                }
+    for part in batch.footprint(alloc) {
+        let b = usize::from(part.get());
+        match take_slot(table, seat, b, mark) {
+            Ok(pointer) => put_at(&mut found, b, pointer),
+            Err(holder) => {
+                give_all(table, seat, &mut found);
+                return Err(Busy { part, holder });
             }
         }
     }
@@ -89,7 +86,7 @@ pub(crate) fn end_all(
     found: &Slots,
     edited: &mut Slots,
 )
-    requires place { (seat.old.table_id ≡ table.now.table_id) × (table.now.table_id.words ≡ index 12) }
+    requires place { IsOfTable seat.old.table_id table.now.table_id }
     requires client { IsOne seat.old.me.0 }
     requires carried { IsCarried seat.old.me }
     requires held { seat.old.me.0.holds ≡ notes_below found.now 12 }

@@ -3,7 +3,7 @@ ghost use Rattle.std.specs.Prelude.{◌≡◌, ℕ, ◌<◌, IfOk, OnOk, None, g
 ghost use Rattle.std.specs.Arc.{arc_value};
 ghost use Rattle.std.specs.List.{list_any};
 ghost use Rattle.moc_parts.specs.Commands.{is_update};
-ghost use Rattle.moc_shared.specs.Seats.{at_place, content, AreOwn, IsFootprint};
+ghost use Rattle.moc_shared.specs.Private.Seats.{at_place, content, AreOwn, IsFootprint};
 ghost use Rattle.moc_shared.specs.Private.Slots.{changed_content, replies_to, Edits};
 
 use crate::table::locks::Pointer;
@@ -36,9 +36,10 @@ fn share_all(
     ensures lists { OnOk result ((b : ℕ) → b < 12 → content (at_place edited.new b)
         ≡ changed_content (get_or changes.old.lists b None) (content (at_place found.now b))) }
 {
-    for b in 0..12usize {
+    for part in Part::ALL {
+        let b = usize::from(part.get());
         let Some(pointer) = &found[b] else { continue };
-        let new = match changes.take(Part::of(b as u8)) {
+        let new = match changes.take(part) {
             Some(list) => share_changed(alloc, pointer, list)?,
             None => Arc::try_clone(pointer)?,
         };

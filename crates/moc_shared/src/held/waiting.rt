@@ -1,15 +1,17 @@
 //! Taking parts that others hold, by waiting for them.
 ghost use Rattle.std.specs.Prelude.{◌≡◌, ℕ, suc, ◌<◌, ◌≤◌, List, [], Contains, Option, Some, None};
 ghost use Rattle.moc_ranges.specs.Numbers.{NumberSet};
-ghost use Rattle.moc_shared.specs.Rule.{index, note, IsOne};
-ghost use Rattle.moc_shared.specs.Seats.{IsCarried, at_place, shared, notes_below, AreOwn, IsFootprint, IsOwn};
+ghost use Rattle.moc_shared.specs.Seats.{note};
+ghost use Rattle.moc_shared.specs.Private.Rule.{IsOne};
+ghost use Rattle.moc_shared.specs.Private.Seats.{IsCarried, at_place, shared, notes_below, AreOwn, IsFootprint, IsOwn};
+ghost use Rattle.moc_shared.specs.Private.Seats.{IsOfTable};
 ghost use Rattle.moc_shared.specs.Private.Plays.{with_part, with_parts, with_misses};
 ghost use Rattle.moc_shared.specs.Private.Slots.{touched_by, just, AreWaits};
 
 use crate::table::locks::{Pointer, Token, Words};
 use crate::table::slots::{Slots, put_at};
 use crate::table::steps::take_slot;
-use moc_parts::{Batch, Part};
+use moc_parts::Batch;
 use std::alloc::Global;
 use std::sync::Wait;
 use std::thread;
@@ -22,7 +24,8 @@ pub(crate) fn wait_slot<R: Wait>(
     b: usize,
     mark: u64,
 ) -> Pointer
-    requires place { (seat.old.table_id ≡ table.now.table_id) × (table.now.table_id.words ≡ index 12) × (b < 12) }
+    requires place { IsOfTable seat.old.table_id table.now.table_id }
+    requires part { b < 12 }
     requires client { IsOne seat.old.me.0 × (mark ≡ suc seat.old.me.0.mine.number) }
     requires few { seat.old.me.0.clients ≤ 64 }
     requires carried { IsCarried seat.old.me }
@@ -54,7 +57,7 @@ pub(crate) fn wait_all<R: Wait>(
     batch: &Batch,
     found: &mut Slots,
 )
-    requires place { (seat.old.table_id ≡ table.now.table_id) × (table.now.table_id.words ≡ index 12) }
+    requires place { IsOfTable seat.old.table_id table.now.table_id }
     requires client { IsOne seat.old.me.0 × (mark ≡ suc seat.old.me.0.mine.number) }
     requires few { seat.old.me.0.clients ≤ 64 }
     requires idle { (seat.old.me.0.holds ≡ []) × (seat.old.me.1 ≡ []) }
@@ -67,10 +70,8 @@ pub(crate) fn wait_all<R: Wait>(
         × (seat.new.me.0 ≡ with_parts (with_misses seat.old.me.0 waits) (notes_below found.new 12))
         × AreWaits (touched_by batch.now) seat.old.me.0 waits }
 {
-    let footprint = batch.footprint(alloc);
-    for b in 0..12usize {
-        if footprint.contains(Part::of(b as u8)) {
-            put_at(found, b, wait_slot(rt, table, seat, b, mark));
-        }
+    for part in batch.footprint(alloc) {
+        let b = usize::from(part.get());
+        put_at(found, b, wait_slot(rt, table, seat, b, mark));
     }
 }

@@ -61,7 +61,8 @@ impl SharedMap {
         ensures number { number_of client.new ≡ number_of client.old }
         ensures ok { IfOk result
             (λ r. EndsWaiting self.now (call_of client.old batch.now r) (record_of client.old) (record_of client.new)) }
-        ensures err { OnErr result (LacksMemoryWaiting self.now batch.now (record_of client.old) (record_of client.new)) }
+        ensures err { OnErr result
+            (LacksMemoryWaiting self.now batch.now (record_of client.old) (record_of client.new)) }
     {
         let mark = u64::from(client.number) + 1;
         let table = &self.table.shared;
@@ -151,7 +152,8 @@ impl SharedMap {
         ensures done { MatchResult result.1
             (λ r. Ends self.now (call_of (holder_of holding) (held_batch holding) r)
             (record_of (holder_of holding)) (record_of result.0))
-            (λ _. LacksMemoryHolding self.now (held_batch holding) (record_of (holder_of holding)) (record_of result.0)) }
+            (λ _. LacksMemoryHolding self.now (held_batch holding)
+            (record_of (holder_of holding)) (record_of result.0)) }
         ensures marks { (record_of result.0).marks ≡ (record_of (holder_of holding)).marks }
     {
         let Holding {

@@ -4,8 +4,8 @@ ghost use Rattle.std.specs.Slots.{slots_items, slots_filled, slots_len, IsFull};
 ghost use mathlib.Core.Option.{some};
 ghost use lib.ListN.{get_elem?};
 ghost use Rattle.moc_parts.specs.Parts.{union_of};
-ghost use Rattle.moc_shared.specs.Rule.{index};
-ghost use Rattle.moc_shared.specs.Seats.{at_place};
+ghost use Rattle.moc_shared.specs.Seats.{index};
+ghost use Rattle.moc_shared.specs.Private.Seats.{at_place};
 ghost use Rattle.moc_shared.specs.Private.Slots.{lists_of};
 
 use crate::table::layout::{PLACES, index, part_at};
@@ -22,9 +22,9 @@ pub(crate) fn first_held(closed: &Closed<Option<Pointer>, Global>) -> Option<Par
     ensures some { IfSome result (λ b. (b < 12) × (slice_index (slots_items closed.now.words) (index b) ≢ 0)) }
     ensures none { IfNone result ((b : ℕ) → b < 12 → slice_index (slots_items closed.now.words) (index b) ≡ 0) }
 {
-    for b in 0..12usize {
-        if closed.word(index(b)) != 0 {
-            return Some(Part::of(b as u8));
+    for part in Part::ALL {
+        if closed.word(index(usize::from(part.get()))) != 0 {
+            return Some(part);
         }
     }
     None

@@ -2,7 +2,7 @@
 ghost use Rattle.std.specs.Prelude.{◌≡◌, ◌⊎◌, ◌<◌, ◌↔◌, [], All, IfOk, IsErrOf};
 ghost use Rattle.moc_shared.specs.Clients.{start_of, clients_of, IsClientOf, AreNewClients};
 ghost use Rattle.moc_shared.specs.Private.Opening.{first_view};
-ghost use Rattle.moc_shared.specs.Rule.{index};
+ghost use Rattle.moc_shared.specs.Seats.{index};
 ghost use Rattle.moc_shared.specs.Private.Starts.{StandFor};
 
 use crate::client::Client;

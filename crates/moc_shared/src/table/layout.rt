@@ -1,6 +1,6 @@
 //! Where the word and the slot of a part stand in the table.
 ghost use Rattle.std.specs.Prelude.{◌≡◌, ◌≢◌, ◌<◌, ℕ, IfSome, IfNone};
-ghost use Rattle.moc_shared.specs.Rule.{index};
+ghost use Rattle.moc_shared.specs.Seats.{index};
 
 /// From one part to the next: eight words, 64 bytes, so that no line of a processor's cache has two parts in it.
 const APART: usize = 8;

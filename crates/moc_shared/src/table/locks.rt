@@ -33,8 +33,8 @@ pub struct Locks;
 
 impl TableRule<Option<Pointer>, Sight, About> for Locks {
     ghost use Rattle.moc_shared.specs.Batches.{answer};
-    ghost use Rattle.moc_shared.specs.Seats.{content, part, IsProper};
-    ghost use Rattle.moc_shared.specs.Rule.{Kept};
+    ghost use Rattle.moc_shared.specs.Private.Seats.{content, part, IsProper};
+    ghost use Rattle.moc_shared.specs.Private.Rule.{Kept};
     ghost use Rattle.moc_shared.specs.Private.Opening.{first_view};
 
     ghost holds = { λ about s. Kept 12 content part answer IsProper about.start about.clients s };
@@ -46,7 +46,7 @@ impl TableRule<Option<Pointer>, Sight, About> for Locks {
 pub(crate) struct Take;
 
 impl Play<Option<Pointer>, Sight> for Take {
-    ghost use Rattle.moc_shared.specs.Seats.{content, part};
+    ghost use Rattle.moc_shared.specs.Private.Seats.{content, part};
     ghost use Rattle.moc_shared.specs.Private.Plays.{Took};
 
     ghost then = { Took content part };
@@ -65,7 +65,7 @@ impl Play<Option<Pointer>, Sight> for Give {
 pub trait Closing {
     ghost use Rattle.std.specs.Prelude.{List};
     ghost use Rattle.moc_shared.specs.Batches.{BatchEntry};
-    ghost use Rattle.moc_shared.specs.Seats.{PartNote};
+    ghost use Rattle.moc_shared.specs.Private.Seats.{PartNote};
 
     ghost call: { BatchEntry };
 

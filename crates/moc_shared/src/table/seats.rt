@@ -1,7 +1,8 @@
 //! Steps that regroup records: a look at the whole history, a join and a split of seats.
 ghost use Rattle.std.specs.Prelude.{◌≡◌, ◌<◌, [], ◌∷◌};
 ghost use Rattle.moc_shared.specs.History.{StandsFor};
-ghost use Rattle.moc_shared.specs.Rule.{index};
+ghost use Rattle.moc_shared.specs.Seats.{index};
+ghost use Rattle.moc_shared.specs.Private.Seats.{IsOfTable};
 ghost use Rattle.moc_shared.specs.Private.Plays.{GatheredWith, SeesAll, first_alone, both_views};
 ghost use Rattle.moc_shared.specs.Private.Opening.{rest_view};
 ghost use Rattle.moc_shared.specs.Batches.{BatchRecord, answer};
@@ -10,7 +11,7 @@ use crate::table::locks::{Cut, Gather, Glue, Look, Token, Words};
 
 /// Sees the whole history.
 pub(crate) fn look(table: &Words, seat: &mut Token)
-    requires place { (seat.old.table_id ≡ table.now.table_id) × (table.now.table_id.words ≡ index 12) }
+    requires place { IsOfTable seat.old.table_id table.now.table_id }
     requires client { StandsFor seat.old.me.0.mine seat.old.me.0.mine.number }
     ensures same { (seat.new.table_id ≡ seat.old.table_id) × (seat.new.id ≡ seat.old.id) }
     ensures looked { SeesAll answer seat.old.me seat.new.me }
@@ -20,7 +21,7 @@ pub(crate) fn look(table: &Words, seat: &mut Token)
 
 /// Makes one record of the view's own and of the other.
 pub(crate) fn gather(table: &Words, seat: &mut Token)
-    requires place { (seat.old.table_id ≡ table.now.table_id) × (table.now.table_id.words ≡ index 12) }
+    requires place { IsOfTable seat.old.table_id table.now.table_id }
     requires client { StandsFor seat.old.me.0.mine seat.old.me.0.mine.number }
     requires two { (q : BatchRecord) × (seat.old.me.0.others ≡ q ∷ []) }
     ensures same { (seat.new.table_id ≡ seat.old.table_id) × (seat.new.id ≡ seat.old.id) }
@@ -44,7 +45,7 @@ pub(crate) fn join(table: &Words, seat: &mut Token, other: Token)
 
 /// Keeps the first record. A new seat has the others.
 pub(crate) fn split(table: &Words, seat: &mut Token) -> Token
-    requires place { (seat.old.table_id ≡ table.now.table_id) × (table.now.table_id.words ≡ index 12) }
+    requires place { IsOfTable seat.old.table_id table.now.table_id }
     requires client { StandsFor seat.old.me.0.mine seat.old.me.0.mine.number }
     ensures same { (seat.new.table_id ≡ seat.old.table_id) × (seat.new.id ≡ seat.old.id)
         × (result.table_id ≡ seat.old.table_id) }

@@ -3,7 +3,7 @@ ghost use Rattle.std.specs.Prelude.{◌≡◌, ℕ, ◌<◌, ◌≤◌, IfOk, On
 ghost use Rattle.std.specs.Prelude.{length, map, slice_set};
 ghost use Rattle.std.specs.Arc.{arc_value};
 ghost use Rattle.std.specs.Option.{option_copied};
-ghost use Rattle.moc_shared.specs.Seats.{at_place, content, AreOwn};
+ghost use Rattle.moc_shared.specs.Private.Seats.{at_place, content, AreOwn};
 ghost use Rattle.moc_shared.specs.Private.Slots.{AreCopies, NoneBehind};
 
 use crate::table::locks::Pointer;
@@ -88,8 +88,8 @@ pub(crate) fn copy_all(slots: &Slots, copies: &mut Slots) -> Result<(), Memory>
     ensures copied { OnOk result (AreCopies slots.now copies.new) }
     ensures long { length copies.new ≡ 12 }
 {
-    for b in 0..12usize {
-        if let Some(pointer) = &slots[b] {
+    for (b, slot) in slots.iter().enumerate() {
+        if let Some(pointer) = slot {
             put_at(copies, b, Arc::try_clone(pointer)?);
         }
     }

@@ -2,8 +2,10 @@
 ghost use Rattle.std.specs.Prelude.{◌≡◌, suc, ◌<◌, ◌≤◌, List, [], ◌∷◌, Contains, IfOk, IfErr, Option, Some};
 ghost use Rattle.moc_ranges.specs.Numbers.{NumberSet};
 ghost use Rattle.moc_shared.specs.History.{entry, StandsFor};
-ghost use Rattle.moc_shared.specs.Rule.{index, note, noted_parts, IsOne};
-ghost use Rattle.moc_shared.specs.Seats.{IsCarried, content, shared, part, IsProper, IsOwn, PartNote, notes_below};
+ghost use Rattle.moc_shared.specs.Seats.{index, note};
+ghost use Rattle.moc_shared.specs.Private.Rule.{noted_parts, IsOne};
+ghost use Rattle.moc_shared.specs.Private.Seats.{IsCarried, content, shared, part, IsProper, IsOwn, IsOfTable};
+ghost use Rattle.moc_shared.specs.Private.Seats.{PartNote, notes_below};
 ghost use Rattle.moc_shared.specs.Private.Answering.{Answers};
 ghost use Rattle.moc_shared.specs.Private.Plays.{TookPart, with_part, with_miss, with_holds, behind_first};
 ghost use Rattle.moc_shared.specs.Private.Slots.{EndsBatch, replies_to};
@@ -16,7 +18,8 @@ use moc_parts::{Batch, Command, Reply};
 
 /// Sets the client's mark on a part that is free, and holds it; or finds the holder's mark.
 fn take_part(table: &Words, seat: &mut Token, b: usize, mark: u64) -> u64
-    requires place { (seat.old.table_id ≡ table.now.table_id) × (table.now.table_id.words ≡ index 12) × (b < 12) }
+    requires place { IsOfTable seat.old.table_id table.now.table_id }
+    requires part { b < 12 }
     requires client { IsOne seat.old.me.0 × (mark ≡ suc seat.old.me.0.mine.number) }
     requires other { (y : Option NumberSet) → ¬ Contains seat.old.me.0.holds (note b y) }
     ensures same { (seat.new.table_id ≡ seat.old.table_id) × (seat.new.id ≡ seat.old.id) }
@@ -27,7 +30,8 @@ fn take_part(table: &Words, seat: &mut Token, b: usize, mark: u64) -> u64
 
 /// Takes the part with what is in it, or tells whose mark it found.
 pub(crate) fn take_slot(table: &Words, seat: &mut Token, b: usize, mark: u64) -> Result<Pointer, u8>
-    requires place { (seat.old.table_id ≡ table.now.table_id) × (table.now.table_id.words ≡ index 12) × (b < 12) }
+    requires place { IsOfTable seat.old.table_id table.now.table_id }
+    requires part { b < 12 }
     requires client { IsOne seat.old.me.0 × (mark ≡ suc seat.old.me.0.mine.number) }
     requires few { seat.old.me.0.clients ≤ 64 }
     requires carried { IsCarried seat.old.me }
@@ -52,7 +56,8 @@ pub(crate) fn take_slot(table: &Words, seat: &mut Token, b: usize, mark: u64) ->
 
 /// Puts the pointer into the part that was taken last, and gives it back.
 pub(crate) fn give_part(table: &Words, seat: &mut Token, b: usize, new: Pointer)
-    requires place { (seat.old.table_id ≡ table.now.table_id) × (table.now.table_id.words ≡ index 12) × (b < 12) }
+    requires place { IsOfTable seat.old.table_id table.now.table_id }
+    requires part { b < 12 }
     requires client { IsOne seat.old.me.0 }
     requires carried { IsCarried seat.old.me }
     requires held { (notes : List PartNote) × (seat.old.me.0.holds ≡ note b (shared new) ∷ notes)
@@ -79,7 +84,8 @@ pub(crate) fn end_call<C: Closing>(
     found: &Slots,
     rest: &Slots,
 )
-    requires place { (seat.old.table_id ≡ table.now.table_id) × (table.now.table_id.words ≡ index 12) × (b < 12) }
+    requires place { IsOfTable seat.old.table_id table.now.table_id }
+    requires part { b < 12 }
     requires client { IsOne seat.old.me.0 }
     requires carried { IsCarried seat.old.me }
     requires call { (C.call ≡ entry seat.old.me.0.mine.number batch.now (replies_to found.now batch.now))
@@ -109,7 +115,8 @@ pub(crate) fn end_alone<C: Closing>(
     command: &Command,
     reply: &Reply,
 )
-    requires place { (seat.old.table_id ≡ table.now.table_id) × (table.now.table_id.words ≡ index 12) × (b < 12) }
+    requires place { IsOfTable seat.old.table_id table.now.table_id }
+    requires part { b < 12 }
     requires client { IsOne seat.old.me.0 }
     requires carried { IsCarried seat.old.me }
     requires call { (C.call ≡ entry seat.old.me.0.mine.number (command.now ∷ []) (reply.now ∷ [])) × (C.notes ≡ []) }

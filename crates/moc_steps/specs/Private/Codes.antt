@@ -9,8 +9,7 @@ use Rattle.moc_parts.specs.contracts.batch.Batch as batch
 use Rattle.moc_parts.specs.contracts.reply.Replies as replies
 use Rattle.moc_parts.specs.declared.command.Command.{Command}
 use Rattle.moc_parts.specs.declared.reply.Reply.{Reply}
-use Rattle.moc_steps.specs.Locks.{Running, Locks, Clients}
-use Rattle.moc_steps.specs.World.{World, Entry}
+use Rattle.moc_steps.specs.Machine.{Running, Locks, Clients, World, Entry}
 use Rattle.moc_steps.specs.Private.Standing.{Standing, Making}
 
 -- a set of numbers

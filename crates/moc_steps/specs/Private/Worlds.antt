@@ -6,8 +6,8 @@ use Rattle.std.specs.FinMap as map
 use Rattle.moc_ranges.specs.Numbers.{NumberSet}
 use Rattle.moc_parts.specs.declared.command.Command.{Command}
 use Rattle.moc_parts.specs.Batches.{batches}
-use Rattle.moc_steps.specs.Locks.{Running, holder, is_any}
-use Rattle.moc_steps.specs.Explains.{names}
+use Rattle.moc_steps.specs.Machine.{Running, holder, is_any}
+use Rattle.moc_steps.specs.Orders.{names}
 use Rattle.moc_steps.specs.Laws.{IsReached}
 use Rattle.moc_steps.specs.Played.{BatchWorld, entries_of}
 use Rattle.moc_steps.specs.Private.Standing.{Standing}

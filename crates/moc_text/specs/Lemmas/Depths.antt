@@ -25,7 +25,7 @@ use Rattle.moc_ranges.specs.Cells.{span, spans, degrade, cells_of, cells_below, 
 use Rattle.moc_ranges.specs.Lemmas.Cells.{cells_are, parent_of_pixel, in_cell_range, in_span}
 use Rattle.moc_text.specs.declared.ascii.number.Item.{Item}
 use Rattle.moc_text.specs.declared.ascii.number.Number.{Number}
-use Rattle.moc_text.specs.declared.ascii.number.Parts.{Parts}
+use Rattle.moc_text.specs.declared.ascii.number.WordNumbers.{WordNumbers}
 use Rattle.moc_text.specs.Ascii.{order_in_force, item_pixels, pixels_said, deepest_of, deeper, last_of, Says}
 use Rattle.moc_text.specs.AsciiText.{IsTooCoarse}
 use Rattle.moc_text.specs.JsonForm.{order_of_name, whole_number, cell_pixels, items_pixels, array_pixels}
@@ -313,18 +313,19 @@ item_made k j None le = empty_made k
 item_made k None (Some i) le = empty_made k
 item_made k (Some j) (Some i) le = deeper_made j k _ le (spans_made j i.first.value (last_of i).value)
 
-in_force : (before : Option ℕ) (mark : Option Number) (k : ℕ) → IsAtMost before k → IsAtMost (order_in_force None mark) k
-    → IsAtMost (order_in_force before mark) k
+in_force : (before : Option ℕ) (mark : Option Number) (k : ℕ) → IsAtMost before k
+    → IsAtMost (order_in_force None mark) k → IsAtMost (order_in_force before mark) k
 in_force before None k le own = le
 in_force before (Some n) k le own = own
 
-said_made : (k : ℕ) (before : Option ℕ) (ns : List Parts) → IsAtMost before k → IsAtMost (deepest_of ns) k
+said_made : (k : ℕ) (before : Option ℕ) (ns : List WordNumbers) → IsAtMost before k → IsAtMost (deepest_of ns) k
     → IsMadeOf k (pixels_said before ns)
 said_made k before [] le most = empty_made k
 said_made k before (n ∷ ns) le most =
     let here = in_force before n.mark k le (at_most_first (order_in_force None n.mark) (deepest_of ns) k most) in
+    let rest = at_most_second (order_in_force None n.mark) (deepest_of ns) k most in
     union_made k _ _ (item_made k (order_in_force before n.mark) n.item here)
-    (said_made k (order_in_force before n.mark) ns here (at_most_second (order_in_force None n.mark) (deepest_of ns) k most))
+    (said_made k (order_in_force before n.mark) ns here rest)
 
 -- an ASCII text
 pub said_depth : (text : List ℕ) (a : NumberSet) (deepest : Option ℕ) → Says text a deepest → HasDepth a deepest

@@ -1,8 +1,8 @@
 //! Why an ASCII text could not be read or written.
 
-ghost use Rattle.std.specs.Prelude.{◌≡◌, ◌⊎◌, MatchOption};
-ghost use Rattle.moc_text.specs.Places.{IsFaultAt};
-ghost use Rattle.moc_text.specs.declared.ascii.error.TextError.TheVariants.{Memory, TooCoarse};
+ghost use Rattle.std.specs.Prelude.{◌≡◌};
+ghost use Rattle.moc_text.specs.Places.{fault_byte};
+ghost use Rattle.moc_text.specs.declared.ascii.error.TextError.TheVariants.{Memory};
 
 use moc_ranges::Memory as MemoryRefused;
 use std::alloc::{AllocError, AllocFailed};
@@ -33,7 +33,7 @@ impl TextError {
     /// The place of the byte at which the text is at fault, counted from 0; `None` for what is no fault of a text:
     /// `Memory`, and the writer's `TooCoarse`.
     pub fn place(self) -> Option<usize>
-        ensures { MatchOption result ((self ≡ Memory) ⊎ (self ≡ TooCoarse)) (λ at. IsFaultAt at self) }
+        ensures { result ≡ fault_byte self }
     {
         match self {
             TextError::BadByte { at }

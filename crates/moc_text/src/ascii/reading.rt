@@ -96,9 +96,9 @@ fn read_words(alloc: Global, text: &[u8]) -> Result<Reading, TextError>
             continue;
         }
         let at = place(len, rest);
-        let (parts, after) = word(len, rest)?;
-        reading.enter(parts.mark)?;
-        reading.add(at, parts.item)?;
+        let (numbers, after) = word(len, rest)?;
+        reading.enter(numbers.mark)?;
+        reading.add(at, numbers.item)?;
         rest = after;
     }
     Ok(reading)

@@ -10,9 +10,9 @@ ghost use Rattle.moc_text.specs.Private.Scan.{unexpected as unexpected_at, scan_
 ghost use Rattle.moc_text.specs.Private.Scan.{scan_word};
 
 use crate::ascii::error::TextError;
-use crate::ascii::number::{Item, Number, Parts};
+use crate::ascii::number::{Item, Number, WordNumbers};
 
-/// Space, comma, tab, CR and LF part words.
+/// Whether a byte parts the words of an ASCII text (MOC 2.0): a space, a comma, a tab, CR or LF.
 pub fn is_separator(byte: u8) -> bool
     ensures { result ≡ is_separator_byte byte }
 {
@@ -110,17 +110,17 @@ fn item(len: usize, first: Number, bytes: &[u8]) -> Result<(Item, &[u8]), TextEr
 
 /// The word whose mark is read, and what comes after it.
 #[tactic(auto, unfolding(crate::specs::Private::Scan::scan_marked))]
-fn marked(len: usize, mark: Number, bytes: &[u8]) -> Result<(Parts, &[u8]), TextError>
+fn marked(len: usize, mark: Number, bytes: &[u8]) -> Result<(WordNumbers, &[u8]), TextError>
     ensures { Gives (λ x. (x.0, x.1.now)) result (scan_marked len mark bytes.now) }
 {
     let mark = Some(mark);
     if is_end(bytes) {
-        return Ok((Parts { mark, item: None }, bytes));
+        return Ok((WordNumbers { mark, item: None }, bytes));
     }
     let (first, rest) = number(len, bytes)?;
     let (item, rest) = item(len, first, rest)?;
     Ok((
-        Parts {
+        WordNumbers {
             mark,
             item: Some(item),
         },
@@ -130,7 +130,7 @@ fn marked(len: usize, mark: Number, bytes: &[u8]) -> Result<(Parts, &[u8]), Text
 
 /// The word at the front, and what comes after it.
 #[tactic(auto, unfolding(crate::specs::Private::Scan::scan_word))]
-pub fn word(len: usize, bytes: &[u8]) -> Result<(Parts, &[u8]), TextError>
+pub fn word(len: usize, bytes: &[u8]) -> Result<(WordNumbers, &[u8]), TextError>
     ensures { Gives (λ x. (x.0, x.1.now)) result (scan_word len bytes.now) }
 {
     if let Some(rest) = after(b's', bytes) {
@@ -146,7 +146,7 @@ pub fn word(len: usize, bytes: &[u8]) -> Result<(Parts, &[u8]), TextError>
     }
     let (item, rest) = item(len, first, rest)?;
     Ok((
-        Parts {
+        WordNumbers {
             mark: None,
             item: Some(item),
         },

@@ -197,11 +197,12 @@ fn member_at(members: &Map<String, Value>, number: usize) -> Option<(&String, &V
     None
 }
 
-/// The order that a name of a JSON text names, by the number of the name, which a fault tells: counted from 0 in byte
-/// order. `None` where the text is no object, has no such name, or the name is no order.
+/// The order that the name with this number stands for in a JSON text. A fault tells a name by its number, counted from
+/// 0 in byte order; this is for who shows the fault, by what the reader of the text sees. `None` where the text is no
+/// object, has no such name, or the name is no order.
 ///
 /// Refused with `NotJson` and `Memory` as `read_json`, whose first pass it makes again.
-pub fn json_order(alloc: Global, text: &[u8], name: usize) -> Result<Option<Order>, JsonError>
+pub fn json_name_order(alloc: Global, text: &[u8], name: usize) -> Result<Option<Order>, JsonError>
     ensures order { IfOk result (λ k. NameIsOrder text.now name k) }
     ensures fault { IfErr result (λ e. (e ≡ JsonError.Memory) ⊎ ((e ≡ JsonError.NotJson) × IsNotJson text.now)) }
 {
@@ -259,9 +260,10 @@ pub fn json_item(
     }
 }
 
-/// The line, counted from 1, and the column at which `serde_json` stops reading a text that is no JSON. `None` where
-/// the text is JSON, where memory was refused, or where `serde_json` tells no place.
-pub fn json_stop(alloc: Global, text: &[u8]) -> Option<(usize, usize)>
+/// Where a text breaks the grammar of JSON: the line, counted from 1, and the column at which `serde_json` stops
+/// reading it. So `NotJson`, which has no place of its own, can be shown with one. `None` where the text is JSON, where
+/// memory was refused, or where `serde_json` tells no place.
+pub fn json_syntax_error(alloc: Global, text: &[u8]) -> Option<(usize, usize)>
     ensures { IfSome result (λ _. IsNotJson text.now) }
 {
     match Value::from_slice(alloc, text) {

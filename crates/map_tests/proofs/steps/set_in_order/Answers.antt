@@ -3,10 +3,9 @@ use Rattle.std.proofs.Common.{◌≡◌, Result, Ok, Err, IfOk, OnOk, sym, subst
 use Rattle.std.specs.FinMap as map
 use Rattle.moc_ranges.specs.Numbers.{NumberSet}
 use Rattle.moc_parts.specs.Batches.{batches}
-use Rattle.moc_steps.specs.Explains.{Explains, set_by_order}
-use Rattle.moc_steps.specs.Operations.{midway}
+use Rattle.moc_steps.specs.Orders.{Explains, set_by_order, midway}
 use Rattle.moc_steps.specs.Played.{BatchWorld}
-use Rattle.moc_steps.specs.World.{whole}
+use Rattle.moc_steps.specs.Machine.{whole}
 use Rattle.map_tests.specs.Worlds.{IsMadeInOrder}
 use Rattle.map_tests.proofs.steps.set_in_order.Goals as goal
 

@@ -12,11 +12,11 @@ loop-piece-preserved g c = record {
   room = grind (arith, common_steps);
   opened = c.in_ok-take_bytes.ensures.open;
   taken =
-      let brings = c.in_ok-read_piece.ensures.brings in
-      let yes : c.in_ok-read_piece.field-0 ≡ true = search rules in
-      let before : length c.clear.new.self.items < length c.read_piece.new.text.items = brings.more yes in
-      let some : 0 < length c.read_piece.new.text.items = omega (arith, before) in
-      piece_taken _ _ _ _ _ _ c.read_piece.new.text.items _
+      let brings = c.in_ok-read_chunk.ensures.brings in
+      let yes : c.in_ok-read_chunk.field-0 ≡ true = search rules in
+      let before : length c.clear.new.self.items < length c.read_chunk.new.text.items = brings.more yes in
+      let some : 0 < length c.read_chunk.new.text.items = omega (arith, before) in
+      piece_taken _ _ _ _ _ _ c.read_chunk.new.text.items _
       (piece_is _ _ _ _ _ c.clear.ensures.items brings)
       (subst (λ (bytes : List ℕ). Leads c.loop-piece.texts bytes c.take_bytes.new.self) c.deref.ensures.value c.in_ok-take_bytes.ensures.leads)
       some c.loop-piece.invariant.taken;
@@ -24,8 +24,8 @@ loop-piece-preserved g c = record {
 
 pub returns-then-not-branch-clause-says : goal.returns-then-not-branch-clause-says
 returns-then-not-branch-clause-says g c =
-    let brings = c.in_ok-read_piece.ensures.brings in
-    let no : c.in_ok-read_piece.field-0 ≡ false = search rules in
+    let brings = c.in_ok-read_chunk.ensures.brings in
+    let no : c.in_ok-read_chunk.field-0 ≡ false = search rules in
     let none = brings.none no in
     IfOk-weaker c.all_said.result _ _ (λ after ends.
     all_taken c.args.operation c.args.choice _ _ _ _ _ _ c.new-texts.ensures.begins c.loop-piece.invariant.taken.0
@@ -34,8 +34,8 @@ returns-then-not-branch-clause-says g c =
 
 pub returns-then-not-branch-clause-fault : goal.returns-then-not-branch-clause-fault
 returns-then-not-branch-clause-fault g c =
-    let brings = c.in_ok-read_piece.ensures.brings in
-    let no : c.in_ok-read_piece.field-0 ≡ false = search rules in
+    let brings = c.in_ok-read_chunk.ensures.brings in
+    let no : c.in_ok-read_chunk.field-0 ≡ false = search rules in
     let none = brings.none no in
     IfErr-weaker c.all_said.result _ _ (λ complaint told.
     all_fails c.args.operation c.args.choice _ _ _ _ _ _ c.new-texts.ensures.begins c.loop-piece.invariant.taken.0
@@ -47,7 +47,7 @@ returns-in_err-take_bytes-clause-fault g c =
     let told = c.in_err-take_bytes.field-0.0 in
     handed_on c.from_residual-in_err-take_bytes.result told _ c.from_residual-in_err-take_bytes.ensures.1
     (piece_fails c.args.operation c.args.choice _ _ _ _ _ _ c.new-texts.ensures.begins c.loop-piece.invariant.taken.0
-    (piece_is _ _ _ _ _ c.clear.ensures.items c.in_ok-read_piece.ensures.brings) told
+    (piece_is _ _ _ _ _ c.clear.ensures.items c.in_ok-read_chunk.ensures.brings) told
     (subst (λ (bytes : List ℕ). AreNotTaken c.loop-piece.texts bytes told.fault ⊎ FailsWithin c.loop-piece.texts bytes told) c.deref.ensures.value c.in_err-take_bytes.ensures.fault))
 
 pub returns-clause-fault : goal.returns-clause-fault

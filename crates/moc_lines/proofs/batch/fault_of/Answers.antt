@@ -2,7 +2,7 @@
 use Rattle.std.proofs.Common.{ap, arith, cond, length, sym}
 use Rattle.std.proofs.lemmas.Bool.{lt-ltb, le-ltb}
 use Rattle.moc_text.specs.Lines.{pieces_of}
-use Rattle.moc_lines.specs.declared.fault.Fault.TheVariants.{TooManyCommands}
+use Rattle.moc_lines.specs.declared.fault.LineFault.TheVariants.{TooManyCommands}
 use Rattle.moc_lines.proofs.Batching.{pieces-counted}
 use Rattle.moc_lines.proofs.batch.fault_of.Goals as goal
 

@@ -1,10 +1,10 @@
 -- A piece is read.
 use Rattle.std.proofs.Common.{◌≡◌, ◌∙◌, length, sym, ap, Ok, arith, Vec, Global}
 use Rattle.moc_parts.specs.declared.command.Command.{Command}
-use Rattle.moc_lines.specs.Language.{command_of}
+use Rattle.moc_lines.specs.Language.{command_of, commands_of}
 use Rattle.moc_text.specs.Lines.{pieces_of}
-use Rattle.moc_lines.specs.Batches.{commands_of}
-use Rattle.moc_lines.proofs.Batching.{behind-fault, behind-last, behind-next, behind-nothing, first-within, pushed_is, pieces-last, pieces-next, some-pieces}
+use Rattle.moc_lines.proofs.Batching.{behind-fault, behind-last, behind-next, behind-nothing, first-within, pushed_is}
+use Rattle.moc_lines.proofs.Batching.{pieces-last, pieces-next, some-pieces}
 use Rattle.moc_lines.proofs.batch.read_pieces.Goals as goal
 
 pub loop-piece-init : goal.loop-piece-init

@@ -1,9 +1,8 @@
 -- What the line says is the commands so far, and then what the rest says.
 use Rattle.std.proofs.Common.{◌≡◌, ◌+◌, ◌≤◌, length}
 use Rattle.std.specs.List.{position_or_len}
-use Rattle.moc_lines.specs.Language.{command_of}
+use Rattle.moc_lines.specs.Language.{command_of, commands_of}
 use Rattle.moc_text.specs.Lines.{is_semicolon, pieces_of}
-use Rattle.moc_lines.specs.Batches.{commands_of}
 use Rattle.moc_lines.proofs.Batching.{behind}
 use Rattle.moc_lines.proofs.batch.read_pieces.Given as goal
 

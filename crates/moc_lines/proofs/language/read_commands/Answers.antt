@@ -2,16 +2,14 @@
 use Rattle.std.proofs.Common.{◌≡◌, List, Result, Ok, Err, sym, subst, arith}
 use Rattle.std.specs.Prelude.{IsErrAnd}
 use Rattle.moc_parts.specs.declared.command.Command.{Command}
-use Rattle.moc_lines.specs.Language.{command_of}
-use Rattle.moc_lines.specs.Batches.{batch_of, commands_in}
-use Rattle.moc_lines.specs.Readings.{ReadsText}
-use Rattle.moc_lines.specs.declared.fault.Fault.{Fault}
+use Rattle.moc_lines.specs.Language.{command_of, batch_of, commands_in, ReadsText}
+use Rattle.moc_lines.specs.declared.fault.LineFault.{LineFault}
 use Rattle.moc_lines.specs.declared.fault.ReadError.{ReadError}
 use Rattle.moc_lines.specs.declared.language.Commands.{Commands}
 use Rattle.moc_lines.proofs.Batching.{reads-alone}
 use Rattle.moc_lines.proofs.language.read_commands.Goals as goal
 
-handed_on : (r : Result Commands ReadError) (e : ReadError) (says : Result (List Command) Fault) → IsErrAnd r (λ f. f ≡ e) → ReadsText {X = Commands} commands_in (Err e) says → ReadsText commands_in r says
+handed_on : (r : Result Commands ReadError) (e : ReadError) (says : Result (List Command) LineFault) → IsErrAnd r (λ f. f ≡ e) → ReadsText {X = Commands} commands_in (Err e) says → ReadsText commands_in r says
 handed_on (Ok x) e says same reads = absurd same
 handed_on (Err f) e says same reads = subst (λ (f : ReadError). ReadsText {X = Commands} commands_in (Err f) says) (sym same) reads
 

@@ -1,7 +1,7 @@
 -- What is told and the texts of what is left are the texts of all.
 use Rattle.std.proofs.Common.{◌≡◌, ◌++◌, codes, drop}
 use Rattle.std.specs.List.{flat_map}
-use Rattle.moc_lines.specs.Replies.{reply_text, replies_text}
+use Rattle.moc_lines.specs.Language.{reply_text, replies_text}
 use Rattle.moc_lines.proofs.reply_text.push_replies.Given as goal
 
 abbrev pub invariant-loop-reply : goal.invariant-loop-reply

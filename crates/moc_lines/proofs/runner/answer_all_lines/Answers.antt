@@ -8,10 +8,6 @@ returns g c = record {
   begins = c.run.ensures.begins;
   answers = answers-ok _ _ _ _ _ _ _ c.run.result c.run.ensures.runs;
   end = c.run.ensures.end;
-  flushed = c.run.ensures.flushed;
-  unflushed = c.run.ensures.unflushed;
   flushes = c.run.ensures.flushes;
-  read = c.run.ensures.read;
-  write = c.run.ensures.write;
-  told = c.run.ensures.told;
+  devices = c.run.ensures.devices;
 }

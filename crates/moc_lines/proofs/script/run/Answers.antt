@@ -7,10 +7,6 @@ returns g c = record {
   begins = rw (c.in-Ok.ensures, c.empty.ensures) at c.answer_all_lines.ensures.begins;
   answers = rw (c.in-Ok.ensures, c.empty.ensures) at c.answer_all_lines.ensures.answers;
   end = c.answer_all_lines.ensures.end;
-  flushed = c.answer_all_lines.ensures.flushed;
-  unflushed = c.answer_all_lines.ensures.unflushed;
   flushes = c.answer_all_lines.ensures.flushes;
-  read = c.answer_all_lines.ensures.read;
-  write = c.answer_all_lines.ensures.write;
-  told = c.answer_all_lines.ensures.told;
+  devices = c.answer_all_lines.ensures.devices;
 }

@@ -1,7 +1,7 @@
 -- Behind the blanks that were counted stand the others of the front.
 use Rattle.std.proofs.Common.{◌≡◌, ◌+◌, drop}
 use Rattle.std.specs.List.{prefix_len}
-use Rattle.moc_lines.specs.Words.{is_line_blank}
+use Rattle.moc_lines.specs.Language.{is_line_blank}
 use Rattle.moc_lines.proofs.words.blanks_in_front.Given as goal
 
 abbrev pub invariant-loop-byte : goal.invariant-loop-byte

@@ -1,7 +1,7 @@
 -- Behind the bytes that were counted stand the others before the first blank.
 use Rattle.std.proofs.Common.{◌≡◌, ◌+◌, drop}
 use Rattle.std.specs.List.{position_or_len}
-use Rattle.moc_lines.specs.Words.{is_line_blank}
+use Rattle.moc_lines.specs.Language.{is_line_blank}
 use Rattle.moc_lines.proofs.words.bytes_before_blank.Given as goal
 
 abbrev pub invariant-loop-byte : goal.invariant-loop-byte

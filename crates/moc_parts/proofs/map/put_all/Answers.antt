@@ -2,33 +2,37 @@ use Rattle.std.proofs.Common.{◌≡◌, ◌<◌, ℕ, suc, ◌+◌, List, Optio
 use Rattle.std.specs.Prelude.{set as set_at}
 use Rattle.std.proofs.lemmas.List.{get_or-set_other, take_all}
 use Rattle.moc_ranges.specs.Numbers.{NumberSet}
+use Rattle.moc_parts.specs.Lemmas.{all_parts}
 use Rattle.moc_parts.specs.Private.Drafts.{current_lists}
 use Rattle.moc_parts.proofs.Drafting.{current_lists-no, current_lists-put, current_lists-pass}
 use Rattle.moc_parts.proofs.map.put_all.Goals as goal
 use Rattle.moc_parts.proofs.map.put_all.Goals.{in-Some, in_default}
 
-pub loop-b-init : goal.loop-b-init
-loop-b-init c = (sym (current_lists-no c.args.parts.now), λ k le. refl)
+pub loop-part-init : goal.loop-part-init
+loop-part-init c = (sym (current_lists-no c.args.parts.now), λ k le. refl)
 
-pub loop-b-preserved : goal.loop-b-preserved
-loop-b-preserved c =
+pub loop-part-preserved : goal.loop-part-preserved
+loop-part-preserved c =
     let found : List NumberSet = c.args.parts.now in
     let made : List (Option NumberSet) = c.args.made in
-    let b : ℕ = c.loop-b.b in
-    let within : b < length found = subst (λ n. b < n) (sym c.requires.twelve) c.loop-b-test.true in
-    let within_made : b < length made = subst (λ n. b < n) (sym c.requires.places) c.loop-b-test.true in
-    let is : get_or made b None ≡ c.take.result = sym (c.take.ensures.taken ∙ c.loop-b.invariant.1 b (omega arith)) in
+    let b : ℕ = c.loop-part.part-index in
+    let within : b < length found = subst (λ n. b < n) (sym c.requires.twelve) c.loop-part-test.true in
+    let within_made : b < length made = subst (λ n. b < n) (sym c.requires.places) c.loop-part-test.true in
+    let part = all_parts b c.part-item.result c.loop-part-test.true in
+    let at : c.get.result ≡ b = c.get.ensures.value ∙ part in
+    let is : get_or made b None ≡ c.take.result =
+    sym (c.take.ensures.taken ∙ ap (λ n. get_or c.loop-part.made n None) at ∙ c.loop-part.invariant.1 b (omega arith)) in
     let next : suc b ≡ b + 1 = omega arith in
     let parts : c.match-take.parts ≡ current_lists found (take (b + 1) made) = elim c.match-take.branch [
-      | in-Some w ↦ w.parts-is ∙ ap (λ xs. set_at xs b w.in-Some.list) c.loop-b.invariant.0 ∙ sym (current_lists-put found made b w.in-Some.list within within_made (is ∙ w.in-Some.is)) ∙ ap (λ n. current_lists found (take n made)) next
-      | in_default w ↦ w.parts-is ∙ c.loop-b.invariant.0 ∙ sym (current_lists-pass found made b within within_made (is ∙ w.in_default.is)) ∙ ap (λ n. current_lists found (take n made)) next
+      | in-Some w ↦ w.parts-is ∙ (λ i. set_at (c.loop-part.invariant.0 i) ((w.from.ensures ∙ w.get-in-Some.ensures.value ∙ part) i) w.in-Some.list) ∙ sym (current_lists-put found made b w.in-Some.list within within_made (is ∙ w.in-Some.is)) ∙ ap (λ n. current_lists found (take n made)) next
+      | in_default w ↦ w.parts-is ∙ c.loop-part.invariant.0 ∙ sym (current_lists-pass found made b within within_made (is ∙ w.in_default.is)) ∙ ap (λ n. current_lists found (take n made)) next
     ] in (
       parts,
-      λ k le. ap (λ lists. get_or lists k None) c.take.ensures.left ∙ get_or-set_other c.loop-b.made b k None None (λ e. omega arith) ∙ c.loop-b.invariant.1 k (omega arith),
+      λ k le. ap (λ lists. get_or lists k None) (c.take.ensures.left ∙ ap (λ n. set_at c.loop-part.made n None) at) ∙ get_or-set_other c.loop-part.made b k None None (λ e. omega arith) ∙ c.loop-part.invariant.1 k (omega arith),
     )
 
 pub returns : goal.returns
 returns c =
-    let low = c.loop-b-test.false in
+    let low = c.loop-part-test.false in
     let many = c.requires.places in
-    c.loop-b.invariant.0 ∙ ap (current_lists c.args.parts.now) (take_all c.loop-b.b c.args.made (omega arith))
+    c.loop-part.invariant.0 ∙ ap (current_lists c.args.parts.now) (take_all c.loop-part.part-index c.args.made (omega arith))

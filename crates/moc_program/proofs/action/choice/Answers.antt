@@ -1,6 +1,6 @@
 use Rattle.std.proofs.Common.{codes, rules}
 use Rattle.moc_forms.specs.Finding.{choice_name}
-use Rattle.moc_forms.specs.declared.name_error.NameError.TheVariants.{NotForm}
+use Rattle.moc_forms.specs.declared.name_error.FormNameError.TheVariants.{NotForm}
 use Rattle.clap.specs.Words.{found_of}
 use Rattle.moc_program.proofs.Asking.{word_read}
 use Rattle.moc_program.proofs.action.choice.Goals as goal

@@ -3,9 +3,8 @@ use Rattle.std.proofs.Common.{subst}
 use Rattle.std.specs.Option.{IfSome}
 use Rattle.std.specs.Result.{OnOk}
 use Rattle.std.specs.Io.KnownBytes.{Appends}
-use Rattle.moc_lines.specs.Answers.{script_text}
+use Rattle.moc_lines.specs.Runs.{script_text, line_limit}
 use Rattle.moc_script.specs.Schedules.{Schedule, schedule_rules}
-use Rattle.moc_lines.specs.Scripts.{line_limit}
 use Rattle.moc_script.proofs.schedule.play.Goals as goal
 
 pub returns : goal.returns
@@ -16,10 +15,6 @@ returns g c = record {
       Appends (g.W.Sink.written c.args.writer.now) (g.W.Sink.written c.answer_all_lines.new.writer) (script_text schedule_rules line_limit s input))))
       c.in-Ok.ensures c.answer_all_lines.ensures.answers;
   end = c.answer_all_lines.ensures.end;
-  flushed = c.answer_all_lines.ensures.flushed;
-  unflushed = c.answer_all_lines.ensures.unflushed;
   flushes = c.answer_all_lines.ensures.flushes;
-  read = c.answer_all_lines.ensures.read;
-  write = c.answer_all_lines.ensures.write;
-  told = c.answer_all_lines.ensures.told;
+  devices = c.answer_all_lines.ensures.devices;
 }

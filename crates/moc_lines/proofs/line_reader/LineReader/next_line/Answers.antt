@@ -1,8 +1,8 @@
 -- A part of a line was found, the line was ended, or it is too long.
 use Rattle.std.proofs.Common.{◌≡◌, ℕ, zero, suc, ◌+◌, ◌<◌, ◌≤◌, ◌||◌, Bool, true, false, eqb, List, [], ◌∷◌, Option, length, sym, ap, ◌∙◌, Err, refl, arith, length-append}
 use Rattle.std.proofs.lemmas.Bool.{ltb-true, ltb-false, eqb-true}
-use Rattle.moc_lines.specs.declared.line_reader.LineFault.{LineFault}
-use Rattle.moc_lines.specs.declared.line_reader.LineFault.TheVariants.{Read, TooLong, Memory}
+use Rattle.moc_lines.specs.declared.line_reader.NextLineError.{NextLineError}
+use Rattle.moc_lines.specs.declared.line_reader.NextLineError.TheVariants.{Read, TooLong, Memory}
 use Rattle.moc_lines.specs.Private.LineReading.{TakesLine}
 use Rattle.std.specs.List.{count_by, position_or_len}
 use Rattle.moc_text.specs.Lines.{is_line_feed}
@@ -10,7 +10,7 @@ use Rattle.moc_lines.specs.Private.Held.{Held}
 use Rattle.moc_lines.proofs.Turns.{Turn, Turn-brought, Turn-line, Turn-more, Turn-none, Turn-too_long}
 use Rattle.moc_lines.proofs.line_reader.LineReader.next_line.Goals as goal
 
-faulty : (limit : ℕ) (old now next : Held) (a b : Option (List ℕ)) → Turn limit old a now b → (fault : LineFault)
+faulty : (limit : ℕ) (old now next : Held) (a b : Option (List ℕ)) → Turn limit old a now b → (fault : NextLineError)
     → (fault ≡ TooLong → limit < length now.line + position_or_len is_line_feed now.unread) → (fault ≡ Read → ⊥) → 0 < length now.unread → TakesLine limit old a next b (Err fault)
 faulty limit old now next a b turn Read long other some = absurd (other refl)
 faulty limit old now next a b turn TooLong long other some = Turn-too_long limit old now next a b turn (long refl)

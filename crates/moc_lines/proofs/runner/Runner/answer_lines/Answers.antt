@@ -1,7 +1,7 @@
 -- Each turn of the loop, and each way out of it.
 use Rattle.std.proofs.Common.{◌≡◌, ◌∙◌, sym, refl, arith}
 use Rattle.std.proofs.KnownBytes.{Consumes-nil}
-use Rattle.moc_devices.specs.Lemmas.{CallsMore-none, CallsMore-later}
+use Rattle.moc_devices.specs.Lemmas.{FlushesNothing-none, FlushesNothing-later}
 use Rattle.moc_lines.proofs.Outcomes.{at_ok, unmarked}
 use Rattle.moc_lines.proofs.Progress.{at_found, Progress-start, Progress-sent, Progress-line, ReachedEnd-nothing, ReachedEnd-last, Ended-fault, Ended-refused, Ended-uncounted, Ended-closed, Ended-write}
 use Rattle.moc_lines.proofs.runner.Runner.answer_lines.Goals as goal
@@ -11,8 +11,7 @@ loop-line-init g c = record {
   progress = Progress-start _ _ _ _ _ _ _ c.requires.unread c.requires.pending;
   reader = c.requires.reader;
   writer = c.requires.writer;
-  flushed = λ new. new;
-  flushes = CallsMore-none _;
+  unflushed = FlushesNothing-none _;
 }
 
 pub returns-then-is_err-clause-ended : goal.returns-then-is_err-clause-ended
@@ -60,9 +59,8 @@ loop-line-preserved g c =
     record {
       progress = rw answered.lines (Progress-line _ _ _ _ _ _ _ _ _ c.send_if_due.new.self.lines c.next_line.new.self.lines _ _ sent (at_found 1048576 c.send_if_due.new.self.lines c.next_line.new.self.lines _ _ _ _ c.in-Ok-Line.field-0-is c.in-Ok-Line.ensures.takes) _ _ (at_ok c.answer_line-answered.result ok answered.text) (at_ok c.answer_line-answered.result ok answered.after));
       reader = unmarked _ c.next_line.ensures.read.1 (λ is. cc (c.in-Ok-Line.is, is));
-      writer = at_ok c.send_if_due.result (sym c.is_err.ensures.value ∙ c.if-is_err.false) c.send_if_due.ensures.unmarked;
-      flushed = λ new. c.loop-line.invariant.flushed (c.send_if_due.ensures.flushed new);
-      flushes = CallsMore-later _ _ _ 0 c.loop-line.invariant.flushes c.send_if_due.ensures.flushes;
+      writer = c.send_if_due.ensures.writes.marks c.loop-line.invariant.writer ∙ sym c.is_err.ensures.value ∙ c.if-is_err.false;
+      unflushed = FlushesNothing-later c.loop-line.invariant.unflushed c.send_if_due.ensures.writes.unflushed;
     }
 
 pub returns-clause-ended : goal.returns-clause-ended

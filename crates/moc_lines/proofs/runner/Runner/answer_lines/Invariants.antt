@@ -1,7 +1,6 @@
 -- The lines so far are answered, and nothing has failed.
 use Rattle.std.proofs.Common.{◌≡◌, false}
-use Rattle.std.specs.Bool.{IsTrue}
-use Rattle.moc_devices.specs.Devices.{CallsMore}
+use Rattle.moc_devices.specs.Devices.{FlushesNothing}
 use Rattle.moc_lines.proofs.Progress.{Progress}
 use Rattle.moc_lines.proofs.runner.Runner.answer_lines.Given as goal
 
@@ -11,6 +10,5 @@ invariant-loop-line g l = record {
       (g.W.Sink.written l.fn.writer) (g.W.Sink.written l.writer) l.self.lines.unread l.self.pending.items l.line;
   reader : g.R.Source.mark l.reader ≡ false;
   writer : g.W.Sink.mark l.writer ≡ false;
-  flushed : IsTrue (g.W.Sink.flushed l.writer) → IsTrue (g.W.Sink.flushed l.fn.writer);
-  flushes : CallsMore (g.W.Sink.flushes l.fn.writer) (g.W.Sink.flushes l.writer) 0;
+  unflushed : FlushesNothing g.W.Sink.flushed g.W.Sink.flushes l.fn.writer l.writer;
 }

@@ -1,20 +1,38 @@
-use Rattle.std.proofs.Common.{◌≡◌, ◌∙◌, sym, ap, arith}
+use Rattle.std.proofs.Common.{◌≡◌, ◌+◌, ◌∙◌, ℕ, sym, ap}
 use Rattle.std.specs.FinSet as set
 use Rattle.moc_ranges.specs.Numbers.{NumberSet}
+use Rattle.moc_ranges.specs.Operations.{part_of}
+use Rattle.moc_parts.specs.Commands.{parts_met}
+use Rattle.moc_parts.specs.Lemmas.{IsNext, all_ahead, next_ahead, none_ahead}
 use Rattle.moc_parts.proofs.Twelve.{first_parts}
-use Rattle.moc_parts.proofs.Sums.{common-none, common-next, common-all}
+use Rattle.moc_parts.proofs.Sums.{common-none, common-next, common-upto, common-met}
 use Rattle.moc_parts.proofs.draft.Draft.common.Goals as goal
 
-pub loop-b-init : goal.loop-b-init
-loop-b-init c = (c.empty-common.ensures ∙ sym (common-none c.args.self.now.set c.args.other.now), λ later. absurd (omega arith))
+pub loop-part-init : goal.loop-part-init
+loop-part-init c = (
+  0,
+  all_ahead (parts_met c.args.other.now) c.parts_met-part-items.result c.into_iter-part-iterator.result c.parts_met-part-items.ensures.parts c.into_iter-part-iterator.ensures.into_iter_gives,
+  c.empty-common.ensures ∙ sym (common-none c.args.self.now.set c.args.other.now),
+)
 
-pub loop-b-preserved : goal.loop-b-preserved
-loop-b-preserved c =
+pub loop-part-preserved : goal.loop-part-preserved
+loop-part-preserved c =
     let a : NumberSet = c.args.self.now.set in
     let s : NumberSet = c.args.other.now in
-    (c.in_ok-common.ensures ∙ (λ i. set.union (c.loop-b.invariant.0 i) (c.in_ok-common_in.ensures.common i)) ∙ common-next a s c.loop-b.b, λ later. c.common_in.ensures.within)
+    let b : ℕ = c.in-Some.part in
+    let n : ℕ = c.loop-part.invariant.0 in
+    let next : IsNext (parts_met s) n b c.next.new.self = next_ahead (parts_met s) n b c.loop-part.part-iterator c.next.new.self c.loop-part.invariant.1 c.in-Some.ensures.steps in
+    let old : c.loop-part.common ≡ set.intersection (first_parts a b) s = c.loop-part.invariant.2 ∙ common-upto a s n b next.after next.between in
+    let new : c.in_ok-common_in.field-0 ≡ set.intersection (part_of a b) s =
+    c.in_ok-common_in.ensures.common ∙ ap (λ k. set.intersection (part_of a k) s) c.get.ensures.value in
+    (b + 1, next.ahead, c.in_ok-common.ensures ∙ (λ i. set.union (old i) (new i)) ∙ common-next a s b)
 
 pub returns : goal.returns
 returns c =
-    let twelve : c.loop-b.b ≡ 12 = (let low = c.loop-b-test.false in let high = c.loop-b.auto.b-end in omega arith) in
-    c.loop-b.invariant.0 ∙ ap (λ n. set.intersection (first_parts c.args.self.now.set n) c.args.other.now) twelve ∙ common-all c.args.self.now.set c.args.other.now (c.loop-b.invariant.1 (omega arith))
+    let a : NumberSet = c.args.self.now.set in
+    let s : NumberSet = c.args.other.now in
+    let n : ℕ = c.loop-part.invariant.0 in
+    let ahead = c.loop-part.invariant.1 in
+    c.loop-part.invariant.2
+    ∙ common-upto a s n 12 ahead.within (none_ahead (parts_met s) n c.loop-part.part-iterator ahead c.in-None.ensures.steps.0)
+    ∙ common-met a s c.parts_met-part-items.ensures.within

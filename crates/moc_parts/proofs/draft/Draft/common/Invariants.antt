@@ -1,9 +1,11 @@
-use Rattle.std.proofs.Common.{◌≡◌, ◌<◌}
+use Rattle.std.proofs.Common.{◌≡◌, ℕ}
 use Rattle.std.specs.FinSet as set
-use Rattle.moc_ranges.specs.Operations.{IsWithin}
-use Rattle.moc_ranges.specs.Pixels.{pixels}
+use Rattle.moc_parts.specs.Commands.{parts_met}
+use Rattle.moc_parts.specs.Lemmas.{IsAhead}
 use Rattle.moc_parts.proofs.Twelve.{first_parts}
 use Rattle.moc_parts.proofs.draft.Draft.common.Given as goal
 
-abbrev pub invariant-loop-b : goal.invariant-loop-b
-invariant-loop-b l = (l.common ≡ set.intersection (first_parts l.self.set l.b) l.other) × (0 < l.b → IsWithin l.self.set pixels)
+-- the parts from one on are still to come, and what those before it have in common is there
+abbrev pub invariant-loop-part : goal.invariant-loop-part
+invariant-loop-part l =
+    (n : ℕ) × IsAhead (parts_met l.other) n l.part-iterator × (l.common ≡ set.intersection (first_parts l.self.set n) l.other)

@@ -1,45 +1,50 @@
-use Rattle.std.proofs.Common.{◌≡◌, ◌+◌, ℕ, sym, ap, ◌∙◌, arith}
+use Rattle.std.proofs.Common.{◌≡◌, ◌+◌, ℕ, ap, ◌∙◌, arith}
 use Rattle.std.specs.FinSet as set
 use Rattle.moc_ranges.specs.Numbers.{NumberSet}
 use Rattle.moc_ranges.specs.Operations.{part_of}
-use Rattle.moc_parts.proofs.Counts.{not_met}
+use Rattle.moc_parts.specs.Commands.{parts_met}
+use Rattle.moc_parts.specs.Lemmas.{IsNext, all_ahead, next_ahead, none_ahead}
 use Rattle.moc_parts.proofs.Twelve.{first_parts}
-use Rattle.moc_parts.proofs.Sums.{len_none, len-next, added_bound, common-met, part-missed}
+use Rattle.moc_parts.proofs.Sums.{len_none, len-next, len-upto, added_bound, common-met}
 use Rattle.moc_parts.proofs.draft.Draft.count_common.Goals as goal
-use Rattle.moc_parts.proofs.draft.Draft.count_common.Goals.{then-contains, else-contains}
 
-pub loop-b-init : goal.loop-b-init
-loop-b-init c = len_none c.args.self.now.set c.args.other.now
+pub loop-part-init : goal.loop-part-init
+loop-part-init c = (
+  0,
+  all_ahead (parts_met c.args.other.now) c.parts_met-part-items.result c.into_iter-part-iterator.result c.parts_met-part-items.ensures.parts c.into_iter-part-iterator.ensures.into_iter_gives,
+  len_none c.args.self.now.set c.args.other.now,
+)
 
-pub loop-b-preserved : goal.loop-b-preserved
-loop-b-preserved c =
+pub loop-part-preserved : goal.loop-part-preserved
+loop-part-preserved c =
     let a : NumberSet = c.args.self.now.set in
     let s : NumberSet = c.args.other.now in
-    let b : ℕ = c.loop-b.b in
-    let old : c.loop-b.total ≡ set.len (set.intersection (first_parts a b) s) = c.loop-b.invariant in
-    let next = len-next a s b in
-    elim c.if-contains.branch [
-      | then-contains w ↦
-          let new : w.count_common_in-total.result ≡ set.len (set.intersection (part_of a b) s) = w.count_common_in-total.ensures in
-          w.total-is ∙ (λ i. old i + new i) ∙ next
-      | else-contains w ↦
-          let none = part-missed a s b (not_met s b (sym (c.parts_met-met.ensures.parts b c.loop-b-test.true) ∙ ap (set.contains c.parts_met-met.result) (sym c.of.ensures) ∙ sym c.contains.ensures ∙ w.if-contains.false)) in
-          let is = w.total-is in
-          omega (arith, old, next, none, is)
-    ]
+    let b : ℕ = c.in-Some.part in
+    let n : ℕ = c.loop-part.invariant.0 in
+    let next : IsNext (parts_met s) n b c.next.new.self = next_ahead (parts_met s) n b c.loop-part.part-iterator c.next.new.self c.loop-part.invariant.1 c.in-Some.ensures.steps in
+    let old : c.loop-part.total ≡ set.len (set.intersection (first_parts a b) s) = c.loop-part.invariant.2 ∙ len-upto a s n b next.after next.between in
+    let new : c.count_common_in-total.result ≡ set.len (set.intersection (part_of a b) s) =
+    c.count_common_in-total.ensures ∙ ap (λ k. set.len (set.intersection (part_of a k) s)) c.get.ensures.value in
+    (b + 1, next.ahead, (λ i. old i + new i) ∙ len-next a s b)
 
 pub overflow_add-total : goal.overflow_add-total
 overflow_add-total c =
     let a : NumberSet = c.args.self.now.set in
     let s : NumberSet = c.args.other.now in
-    let bound = added_bound a s c.loop-b.b c.parts_met-met.ensures.within in
-    let old : c.loop-b.total ≡ set.len (set.intersection (first_parts a c.loop-b.b) s) = c.loop-b.invariant in
-    let new : c.count_common_in-total.result ≡ set.len (set.intersection (part_of a c.loop-b.b) s) = c.count_common_in-total.ensures in
-    omega (arith, old, new, bound)
+    let b : ℕ = c.in-Some.part in
+    let n : ℕ = c.loop-part.invariant.0 in
+    let next : IsNext (parts_met s) n b c.next.new.self = next_ahead (parts_met s) n b c.loop-part.part-iterator c.next.new.self c.loop-part.invariant.1 c.in-Some.ensures.steps in
+    let old : c.loop-part.total ≡ set.len (set.intersection (first_parts a b) s) = c.loop-part.invariant.2 ∙ len-upto a s n b next.after next.between in
+    let new : c.count_common_in-total.result ≡ set.len (set.intersection (part_of a b) s) =
+    c.count_common_in-total.ensures ∙ ap (λ k. set.len (set.intersection (part_of a k) s)) c.get.ensures.value in
+    omega (arith, old, new, added_bound a s b c.parts_met-part-items.ensures.within)
 
 pub returns : goal.returns
 returns c =
     let a : NumberSet = c.args.self.now.set in
     let s : NumberSet = c.args.other.now in
-    let twelve : c.loop-b.b ≡ 12 = (let low = c.loop-b-test.false in let high = c.loop-b.auto.b-end in omega arith) in
-    c.loop-b.invariant ∙ ap (λ n. set.len (set.intersection (first_parts a n) s)) twelve ∙ ap set.len (common-met a s c.parts_met-met.ensures.within)
+    let n : ℕ = c.loop-part.invariant.0 in
+    let ahead = c.loop-part.invariant.1 in
+    c.loop-part.invariant.2
+    ∙ len-upto a s n 12 ahead.within (none_ahead (parts_met s) n c.loop-part.part-iterator ahead c.in-None.ensures.steps.0)
+    ∙ ap set.len (common-met a s c.parts_met-part-items.ensures.within)

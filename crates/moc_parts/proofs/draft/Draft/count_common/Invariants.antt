@@ -1,7 +1,12 @@
-use Rattle.std.proofs.Common.{◌≡◌}
+use Rattle.std.proofs.Common.{◌≡◌, ℕ}
 use Rattle.std.specs.FinSet as set
+use Rattle.moc_parts.specs.Commands.{parts_met}
+use Rattle.moc_parts.specs.Lemmas.{IsAhead}
 use Rattle.moc_parts.proofs.Twelve.{first_parts}
 use Rattle.moc_parts.proofs.draft.Draft.count_common.Given as goal
 
-abbrev pub invariant-loop-b : goal.invariant-loop-b
-invariant-loop-b l = l.total ≡ set.len (set.intersection (first_parts l.self.set l.b) l.other)
+-- the parts from one on are still to come, and those before it are counted
+abbrev pub invariant-loop-part : goal.invariant-loop-part
+invariant-loop-part l =
+    (n : ℕ) × IsAhead (parts_met l.other) n l.part-iterator
+    × (l.total ≡ set.len (set.intersection (first_parts l.self.set n) l.other))

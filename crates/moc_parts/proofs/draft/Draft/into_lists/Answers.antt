@@ -5,6 +5,7 @@ use Rattle.std.specs.Option.{option_copied}
 use Rattle.std.proofs.lemmas.List.{length-map, get_or_default}
 use Rattle.moc_ranges.specs.Numbers.{NumberSet}
 use Rattle.moc_ranges.specs.Operations.{part_of}
+use Rattle.moc_parts.specs.Lemmas.{all_parts}
 use Rattle.moc_parts.specs.Private.Drafts.{sets_of}
 use Rattle.moc_parts.specs.Prepared.{is_given, kept}
 use Rattle.moc_parts.proofs.Drafting.{AreDoneBelow, found_twelve, found_part, own_part, some_copied, one_done, none_done}
@@ -15,43 +16,50 @@ use Rattle.moc_parts.proofs.draft.Draft.into_lists.Goals.{
   else-is_none+else-is_none-2,
 }
 
-pub loop-b-init : goal.loop-b-init
-loop-b-init c = (c.self.invariant.1, λ k lt. absurd (omega arith), λ k le. refl)
+pub loop-part-init : goal.loop-part-init
+loop-part-init c = (c.self.invariant.1, λ k lt. absurd (omega arith), λ k le. refl)
 
-pub loop-b-preserved : goal.loop-b-preserved
-loop-b-preserved c =
-    let b : ℕ = c.loop-b.b in
+pub loop-part-preserved : goal.loop-part-preserved
+loop-part-preserved c =
+    let b : ℕ = c.loop-part.part-index in
     let given = c.args.given.now in
     let found : List (Bor NumberSet) = c.self.inside.found in
     let made : List (Option NumberSet) = c.self.inside.made in
-    let lists : List (Option NumberSet) = c.loop-b.lists in
+    let lists : List (Option NumberSet) = c.loop-part.lists in
     let set_now : NumberSet = c.args.self.set in
     let is : ℕ → Option NumberSet = λ k. kept (is_given given k) set_now k in
+    let at : c.get-b.result ≡ b = c.get-b.ensures.value ∙ all_parts b c.part-item.result c.loop-part-test.true in
+    let from : c.from.result ≡ b = c.from.ensures ∙ at in
     let given_is : is_given given b ≡ not c.is_none.result =
-    ap is_some (get_or_default given b None c.index-given-b.result (subst (λ n. b < n) (sym c.told-given) c.loop-b-test.true)) ∙ c.is_none.ensures in
-    let inv = c.loop-b.invariant in
+    ap (is_given given) (sym from)
+    ∙ ap is_some (get_or_default given c.from.result None c.index-given-from.result (subst (λ n. c.from.result < n) (sym c.told-given) (subst (λ n. n < 12) (sym from) c.loop-part-test.true)))
+    ∙ c.is_none.ensures in
+    let inv = c.loop-part.invariant in
     let same = inv.2 b (omega arith) in
     let next : List (Option NumberSet) = c.if-is_none.lists in
     let left_out : next ≡ set_at lists b None → c.is_none.result ≡ true → AreDoneBelow made next is (b + 1) =
-    λ put none. one_done made lists next is b None c.loop-b-test.true put (sym (ap (λ t. kept t set_now b) (given_is ∙ ap not none))) inv in
+    λ put none. one_done made lists next is b None c.loop-part-test.true put (sym (ap (λ t. kept t set_now b) (given_is ∙ ap not none))) inv in
     elim c.if-is_none.branch [
-      | then-is_none w ↦ left_out (w.lists-is ∙ w.clear.ensures) w.if-is_none.true
+      | then-is_none w ↦ left_out (w.lists-is ∙ w.clear.ensures ∙ ap (λ n. set_at lists n None) at) w.if-is_none.true
       | else-is_none+then-is_none-2+in_ok-try_copy+in_ok-put w ↦
-          let list : Bor NumberSet = get_or found b w.index-found-b.result in
+          let found_from : w.from-then-is_none-2.result ≡ b = w.from-then-is_none-2.ensures ∙ at in
+          let item : Bor NumberSet = w.index-found-from.result in
+          let list : Bor NumberSet = get_or found w.from-then-is_none-2.result item in
           let many : length found ≡ 12 = sym (length-map found (λ l. l.now)) ∙ found_twelve (sets_of found) made c.self.invariant.0 in
           let copied : w.in_ok-try_copy.field-0 ≡ part_of set_now b =
           w.in_ok-try_copy.ensures.same
-          ∙ found_part found made b (option_copied w.get.result) list c.self.invariant.0 c.self.invariant.1 c.loop-b-test.true (w.get.ensures ∙ same)
-          (some_copied w.get.result ∙ w.is_none-else-is_none.ensures ∙ ap not w.if-is_none-2.true) (get_or_default found b w.index-found-b.result list (subst (λ n. b < n) (sym many) c.loop-b-test.true))
+          ∙ found_part found made b (option_copied w.get.result) list c.self.invariant.0 c.self.invariant.1 c.loop-part-test.true (w.get.ensures ∙ ap (λ n. get_or lists n None) at ∙ same)
+          (some_copied w.get.result ∙ w.is_none-else-is_none.ensures ∙ ap not w.if-is_none-2.true)
+          (ap (λ n. get_or found n item) found_from ∙ get_or_default found b item list (subst (λ n. b < n) (sym many) c.loop-part-test.true))
           ∙ ap (λ d. part_of d.set b) c.self.view_is in
-          one_done made lists next is b (Some w.in_ok-try_copy.field-0) c.loop-b-test.true (w.lists-is ∙ w.in_ok-put.ensures.put)
+          one_done made lists next is b (Some w.in_ok-try_copy.field-0) c.loop-part-test.true (w.lists-is ∙ w.in_ok-put.ensures.put ∙ ap (λ n. set_at lists n (Some w.in_ok-try_copy.field-0)) at)
           (ap Some copied ∙ sym (ap (λ t. kept t set_now b) (given_is ∙ ap not w.if-is_none.false))) inv
       | else-is_none+else-is_none-2 w ↦ none_done made lists next is b w.lists-is
-          (sym w.get.ensures
-          ∙ own_part (sets_of found) made b (option_copied w.get.result) c.self.invariant.0 c.self.invariant.1 c.loop-b-test.true (w.get.ensures ∙ same)
+          (ap (λ n. get_or lists n None) (sym at) ∙ sym w.get.ensures
+          ∙ own_part (sets_of found) made b (option_copied w.get.result) c.self.invariant.0 c.self.invariant.1 c.loop-part-test.true (w.get.ensures ∙ ap (λ n. get_or lists n None) at ∙ same)
           (some_copied w.get.result ∙ w.is_none-else-is_none.ensures ∙ ap not w.if-is_none-2.false)
           ∙ ap (λ d. Some (part_of d.set b)) c.self.view_is ∙ sym (ap (λ t. kept t set_now b) (given_is ∙ ap not w.if-is_none.false))) inv
     ]
 
 pub returns : goal.returns
-returns c = λ b l. let low = c.loop-b-test.false in c.loop-b.invariant.1 b (omega arith)
+returns c = λ b l. let low = c.loop-part-test.false in c.loop-part.invariant.1 b (omega arith)

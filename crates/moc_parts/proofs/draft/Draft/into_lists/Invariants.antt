@@ -2,5 +2,5 @@ use Rattle.moc_parts.specs.Prepared.{is_given, kept}
 use Rattle.moc_parts.proofs.Drafting.{AreDoneBelow}
 use Rattle.moc_parts.proofs.draft.Draft.into_lists.Given as goal
 
-abbrev pub invariant-loop-b : goal.invariant-loop-b
-invariant-loop-b l = AreDoneBelow l.initial.lists l.lists (λ k. kept (is_given l.given k) l.fn.self.set k) l.b
+abbrev pub invariant-loop-part : goal.invariant-loop-part
+invariant-loop-part l = AreDoneBelow l.initial.lists l.lists (λ k. kept (is_given l.given k) l.fn.self.set k) l.part-index

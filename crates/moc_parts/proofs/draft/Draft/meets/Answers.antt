@@ -1,34 +1,43 @@
-use Rattle.std.proofs.Common.{◌≡◌, ◌∙◌, ℕ, false, sym, ap, arith}
-use Rattle.std.specs.FinSet as set
+use Rattle.std.proofs.Common.{◌≡◌, ◌+◌, ◌∙◌, ℕ, false, sym, ap}
 use Rattle.moc_ranges.specs.Numbers.{NumberSet}
 use Rattle.moc_ranges.specs.Operations.{meets, part_of}
-use Rattle.moc_parts.proofs.Counts.{meets_no_common, not_met}
+use Rattle.moc_parts.specs.Commands.{parts_met}
+use Rattle.moc_parts.specs.Lemmas.{IsNext, all_ahead, next_ahead, none_ahead}
 use Rattle.moc_parts.proofs.Twelve.{first_parts}
-use Rattle.moc_parts.proofs.Sums.{meets-none, meets-next, meets-all, meets-part, part-missed}
+use Rattle.moc_parts.proofs.Sums.{meets-none, meets-next, meets-upto, meets-met, meets-part}
 use Rattle.moc_parts.proofs.draft.Draft.meets.Goals as goal
-use Rattle.moc_parts.proofs.draft.Draft.meets.Goals.{else-contains-via-then-contains+else-meets, else-contains-via-else-contains}
 
-pub loop-b-init : goal.loop-b-init
-loop-b-init c = (meets-none c.args.self.now.set c.args.other.now, λ later. absurd (omega arith))
+pub loop-part-init : goal.loop-part-init
+loop-part-init c = (
+  0,
+  all_ahead (parts_met c.args.other.now) c.parts_met-part-items.result c.into_iter-part-iterator.result c.parts_met-part-items.ensures.parts c.into_iter-part-iterator.ensures.into_iter_gives,
+  meets-none c.args.self.now.set c.args.other.now,
+)
 
 pub returns-then-meets : goal.returns-then-meets
-returns-then-meets c = sym (meets-part c.args.self.now.set c.args.other.now c.loop-b.b (ap (λ p. meets p c.args.other.now) (sym c.part-part.ensures.list) ∙ sym c.meets.ensures.some ∙ c.if-meets.true))
+returns-then-meets c =
+    let b : ℕ = c.in-Some.part in
+    sym (meets-part c.args.self.now.set c.args.other.now b
+    (ap (λ p. meets p c.args.other.now) (sym (c.part.ensures.list ∙ ap (part_of c.args.self.now.set) c.get.ensures.value)) ∙ sym c.meets.ensures.some ∙ c.if-meets.true))
 
-pub loop-b-preserved : goal.loop-b-preserved
-loop-b-preserved c =
+pub loop-part-preserved : goal.loop-part-preserved
+loop-part-preserved c =
     let a : NumberSet = c.args.self.now.set in
     let s : NumberSet = c.args.other.now in
-    let b : ℕ = c.loop-b.b in
-    let apart : meets (part_of a b) s ≡ false = elim c.else-contains.branch [
-      | else-contains-via-then-contains+else-meets w ↦
-          ap (λ p. meets p s) (sym c.part-part.ensures.list) ∙ sym w.meets.ensures.some ∙ w.if-meets.false
-      | else-contains-via-else-contains w ↦
-          let missed = not_met s b (sym (c.parts_met-met.ensures.parts b c.loop-b-test.true) ∙ ap (set.contains c.parts_met-met.result) (sym c.of.ensures) ∙ sym c.contains.ensures ∙ w.if-contains.false) in
-          meets_no_common (part_of a b) s 0 (part-missed a s b missed) (omega arith)
-    ] in
-    (meets-next a s b c.loop-b.invariant.0 apart, λ later. c.part-part.ensures.within)
+    let b : ℕ = c.in-Some.part in
+    let n : ℕ = c.loop-part.invariant.0 in
+    let next : IsNext (parts_met s) n b c.next.new.self = next_ahead (parts_met s) n b c.loop-part.part-iterator c.next.new.self c.loop-part.invariant.1 c.in-Some.ensures.steps in
+    let before : meets (first_parts a b) s ≡ false = sym (meets-upto a s n b next.after next.between) ∙ c.loop-part.invariant.2 in
+    let apart : meets (part_of a b) s ≡ false =
+    ap (λ p. meets p s) (sym (c.part.ensures.list ∙ ap (part_of a) c.get.ensures.value)) ∙ sym c.meets.ensures.some ∙ c.if-meets.false in
+    (b + 1, next.ahead, meets-next a s b before apart)
 
 pub returns : goal.returns
 returns c =
-    let twelve : c.loop-b.b ≡ 12 = (let low = c.loop-b-test.false in let high = c.loop-b.auto.b-end in omega arith) in
-    sym (sym (meets-all c.args.self.now.set c.args.other.now (c.loop-b.invariant.1 (omega arith))) ∙ ap (λ n. meets (first_parts c.args.self.now.set n) c.args.other.now) (sym twelve) ∙ c.loop-b.invariant.0)
+    let a : NumberSet = c.args.self.now.set in
+    let s : NumberSet = c.args.other.now in
+    let n : ℕ = c.loop-part.invariant.0 in
+    let ahead = c.loop-part.invariant.1 in
+    sym (sym (meets-met a s c.parts_met-part-items.ensures.within)
+    ∙ sym (meets-upto a s n 12 ahead.within (none_ahead (parts_met s) n c.loop-part.part-iterator ahead c.in-None.ensures.steps.0))
+    ∙ c.loop-part.invariant.2)

@@ -24,10 +24,10 @@ pub returns-in-None : goal.returns-in-None
 returns-in-None c =
     let lists = c.self.inside.found in
     let made = c.self.inside.made in
-    let list = c.index-found-b.result in
+    let list = c.index-found-from.result in
     let twelve : length lists ≡ 12 = sym (length-map lists (λ l. l.now)) ∙ found_twelve (sets_of lists) made c.self.invariant.0 in
     record {
-      list = ap (λ l. l.now) c.index-found-b.is ∙ sym (get_or-map (λ l. l.now) lists c.args.b list list.now (subst (λ n. c.args.b < n) (sym twelve) c.requires))
+      list = ap (λ l. l.now) (c.index-found-from.is ∙ ap (λ n. get_or lists n list) c.from.ensures) ∙ sym (get_or-map (λ l. l.now) lists c.args.b list list.now (subst (λ n. c.args.b < n) (sym twelve) c.requires))
           ∙ ap (λ l. unwrap_or l (get_or (sets_of lists) c.args.b list.now)) (ap option_copied (sym c.in-None.is) ∙ c.get.ensures)
           ∙ current_part (sets_of lists) made c.args.b list.now None c.self.invariant.0 c.self.invariant.1 c.requires
           ∙ ap (λ d. part_of d.set c.args.b) c.self.view_is;

@@ -1,7 +1,7 @@
 -- The first part from a number on that is one of the set is the first of the list.
 use Rattle.std.proofs.Common.{◌∙◌, sym, ap}
 use Rattle.std.specs.FinSet as set
-use Rattle.moc_parts.proofs.Rising.{rising_parts-in, rising_parts-out}
+use Rattle.moc_parts.specs.Lemmas.{rising_parts-in, rising_parts-out}
 use Rattle.moc_parts.proofs.part.PartSet.first_from.Goals as goal
 
 pub returns-then-contains : goal.returns-then-contains

@@ -3,17 +3,14 @@ use Rattle.std.proofs.Common.{List, ℕ, [], ◌++◌, refl, sym, ap, ◌∙◌,
 use Rattle.std.specs.Io.KnownBytes.{Appends}
 use Rattle.std.proofs.KnownBytes.{Appends-nil}
 use Rattle.moc_devices.specs.Devices.{Sends}
-use Rattle.moc_devices.specs.Lemmas.{CallsMore-none, CallsMore-later}
-use Rattle.moc_script.proofs.Sending.{Sends-front, Sends-fails, marked, well, on_err, on_fault}
+use Rattle.moc_devices.specs.Lemmas.{OnlyWrites-none, OnlyWrites-later}
+use Rattle.moc_script.proofs.Sending.{Sends-front, Sends-fails}
 use Rattle.moc_script.proofs.crews.joining.send.Goals as goal
 
 pub returns-then-text-capacity : goal.returns-then-text-capacity
 returns-then-text-capacity g c = record {
   sends = record { sent = []; rest = c.args.pending.now.items ++ c.args.text.now; parts = refl; appended = Appends-nil (g.W.Sink.written c.args.writer.now); pending = c.put.ensures };
-  marks = tt;
-  unmarked = c.requires.writer;
-  flushed = λ new. new;
-  flushes = CallsMore-none (g.W.Sink.flushes c.args.writer.now);
+  writes = OnlyWrites-none c.args.writer.now;
 }
 
 pub returns-in_err-write_all : goal.returns-in_err-write_all
@@ -23,10 +20,7 @@ returns-in_err-write_all g c =
     record {
       sends = subst (λ (l : List ℕ). Sends (l ++ c.args.text.now) (g.W.Sink.written c.args.writer.now) old (g.W.Sink.written c.write_all.new.writer) c.from_residual.result) c.deref.ensures.value
           (Sends-fails c.deref.result.now c.args.text.now [] old _ _ c.write_all.result c.from_residual.result failed c.write_all.ensures.sends);
-      marks = on_fault c.from_residual.result (c.in_err-write_all.ensures.marks c.requires.writer);
-      unmarked = on_err _ c.from_residual.result failed;
-      flushed = c.write_all.ensures.flushed;
-      flushes = c.write_all.ensures.flushes;
+      writes = rw failed c.in_err-write_all.ensures.writes;
     }
 
 pub returns-then-text-capacity-2 : goal.returns-then-text-capacity-2
@@ -34,15 +28,11 @@ returns-then-text-capacity-2 g c =
     let text = c.args.text.now in
     let old = c.args.pending.now.items in
     let last = c.write_all-then-text-capacity-2 in
-    let told = last.ensures.marks (c.in_ok-write_all.ensures.marks c.requires.writer) in
     record {
       sends = subst (λ (n : List ℕ). Sends (old ++ text) (g.W.Sink.written c.args.writer.now) n (g.W.Sink.written last.new.writer) last.result) (sym c.clear.ensures.items)
           (Sends-front old text [] (g.W.Sink.written c.args.writer.now) (g.W.Sink.written c.write_all.new.writer) (g.W.Sink.written last.new.writer) last.result
           (subst (Appends (g.W.Sink.written c.args.writer.now) (g.W.Sink.written c.write_all.new.writer)) c.deref.ensures.value c.in_ok-write_all.ensures.written) last.ensures.sends);
-      marks = marked last.result _ told;
-      unmarked = well last.result _ told;
-      flushed = λ new. c.write_all.ensures.flushed (last.ensures.flushed new);
-      flushes = CallsMore-later _ _ _ 0 c.write_all.ensures.flushes last.ensures.flushes;
+      writes = OnlyWrites-later c.in_ok-write_all.ensures.writes last.ensures.writes;
     }
 
 pub returns : goal.returns
@@ -54,8 +44,5 @@ returns g c = record {
     appended = subst (Appends (g.W.Sink.written c.args.writer.now) (g.W.Sink.written c.write_all.new.writer)) c.deref.ensures.value c.in_ok-write_all.ensures.written;
     pending = c.put-2.ensures ∙ ap (λ l. l ++ c.args.text.now) c.clear.ensures.items;
   };
-  marks = tt;
-  unmarked = c.in_ok-write_all.ensures.marks c.requires.writer;
-  flushed = c.write_all.ensures.flushed;
-  flushes = c.write_all.ensures.flushes;
+  writes = c.in_ok-write_all.ensures.writes;
 }

@@ -1,6 +1,6 @@
 -- The batch is one call more.
 use Rattle.std.proofs.Common.{◌≡◌, ◌∙◌, refl, ap, [], ◌∷◌, ◌++◌}
-use Rattle.moc_lines.specs.Replies.{replies_text}
+use Rattle.moc_lines.specs.Language.{replies_text}
 use Rattle.moc_shared.specs.Batches.{BatchEntry}
 use Rattle.moc_shared.specs.History.{entry}
 use Rattle.moc_script.proofs.Sending.{on_ok}

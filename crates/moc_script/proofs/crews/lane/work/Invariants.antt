@@ -2,7 +2,7 @@
 use Rattle.std.proofs.Common.{◌≡◌, ◌++◌, ℕ, List, length}
 use Rattle.moc_shared.specs.Batches.{BatchEntry, answer as object}
 use Rattle.moc_shared.specs.Clients.{number_of, record_of, IsClientOf}
-use Rattle.moc_lines.specs.Scripts.{script_rules}
+use Rattle.moc_lines.specs.Runs.{script_rules}
 use Rattle.moc_script.specs.Private.Input.{HasPassed, lane_lines, lines_left}
 use Rattle.moc_script.specs.Private.LaneWork.{Does}
 use Rattle.moc_script.specs.Private.LaneEnds.{Made}

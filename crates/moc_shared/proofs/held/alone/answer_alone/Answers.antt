@@ -1,7 +1,8 @@
 use Rattle.std.proofs.Common.{◌∙◌, List, [], ◌∷◌, map, Some, ap, sym, subst, arith}
 use Rattle.std.specs.Arc.{arc_value}
-use Rattle.moc_shared.specs.Rule.{index, note, noted_parts}
-use Rattle.moc_shared.specs.Seats.{PartNote, part, IsProper}
+use Rattle.moc_shared.specs.Seats.{index, note}
+use Rattle.moc_shared.specs.Private.Rule.{noted_parts}
+use Rattle.moc_shared.specs.Private.Seats.{PartNote, part, IsProper}
 use Rattle.moc_shared.specs.Batches.{answer}
 use Rattle.moc_shared.specs.Private.Answering.{Answers}
 use Rattle.moc_shared.specs.Private.Plays.{with_holds, behind_first}

@@ -1,6 +1,7 @@
 use Rattle.std.proofs.Common.{◌<◌, length, List, sym, ap, ◌∙◌, subst, Option, None, arith}
-use Rattle.moc_shared.specs.Rule.{noted_parts}
-use Rattle.moc_shared.specs.Seats.{Pointer, PartNote, part, IsProper, at_place}
+use Rattle.moc_shared.specs.Private.Rule.{noted_parts}
+use Rattle.moc_shared.specs.Seats.{Pointer}
+use Rattle.moc_shared.specs.Private.Seats.{PartNote, part, IsProper, at_place}
 use Rattle.moc_shared.specs.Private.Answering.{Answers}
 use Rattle.moc_shared.specs.Private.Slots.{replies_to}
 use Rattle.moc_shared.specs.Batches.{answer}

@@ -1,5 +1,5 @@
 use Rattle.moc_shared.specs.History.{entry}
-use Rattle.moc_shared.specs.Seats.{notes_below}
+use Rattle.moc_shared.specs.Private.Seats.{notes_below}
 use Rattle.moc_shared.specs.Private.Slots.{replies_to}
 use Rattle.moc_shared.proofs.held.footprint.end_all.Given as goal
 

@@ -1,5 +1,6 @@
 use Rattle.std.proofs.Common.{rules, ◌≡◌, suc, ◌-◌, sym, ap, ◌∙◌, arith, length-set, length, List, Option, None}
-use Rattle.moc_shared.specs.Seats.{notes_below, Pointer}
+use Rattle.moc_shared.specs.Seats.{Pointer}
+use Rattle.moc_shared.specs.Private.Seats.{notes_below}
 use Rattle.moc_shared.proofs.Places.{held_upto, next_note, given_back, passed_over, all_given, not_below}
 use Rattle.moc_shared.proofs.held.footprint.give_below.Goals as goal
 

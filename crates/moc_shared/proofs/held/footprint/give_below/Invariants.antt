@@ -1,5 +1,5 @@
 use Rattle.std.proofs.Common.{◌≡◌, ◌≤◌, length}
-use Rattle.moc_shared.specs.Seats.{IsCarried, notes_below}
+use Rattle.moc_shared.specs.Private.Seats.{IsCarried, notes_below}
 use Rattle.moc_shared.specs.Private.Plays.{with_holds}
 use Rattle.moc_shared.proofs.held.footprint.give_below.Given as goal
 

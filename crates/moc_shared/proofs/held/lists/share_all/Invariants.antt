@@ -1,14 +1,14 @@
 use Rattle.std.proofs.Common.{◌≡◌, ◌<◌, ◌≤◌, ℕ, length, None, get_or}
-use Rattle.moc_shared.specs.Seats.{at_place, content}
+use Rattle.moc_shared.specs.Private.Seats.{at_place, content}
 use Rattle.moc_shared.specs.Private.Slots.{changed_content}
 use Rattle.moc_shared.proofs.held.lists.share_all.Given as goal
 
-abbrev pub invariant-loop-b : goal.invariant-loop-b
-invariant-loop-b l = record {
+abbrev pub invariant-loop-part : goal.invariant-loop-part
+invariant-loop-part l = record {
   replies : l.changes.replies ≡ l.initial.changes.replies;
   long : length l.edited ≡ 12;
-  shared : (k : ℕ) → k < l.b
+  shared : (k : ℕ) → k < l.part-index
       → content (at_place l.edited k) ≡ changed_content (get_or l.initial.changes.lists k None) (content (at_place l.found k));
-  left : (k : ℕ) → l.b ≤ k → get_or l.changes.lists k None ≡ get_or l.initial.changes.lists k None;
-  blank : (k : ℕ) → l.b ≤ k → at_place l.edited k ≡ None;
+  left : (k : ℕ) → l.part-index ≤ k → get_or l.changes.lists k None ≡ get_or l.initial.changes.lists k None;
+  blank : (k : ℕ) → l.part-index ≤ k → at_place l.edited k ≡ None;
 }

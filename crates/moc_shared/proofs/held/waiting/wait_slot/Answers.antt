@@ -1,6 +1,5 @@
 use Rattle.std.proofs.Common.{rules, subst, Contains}
-use Rattle.moc_shared.specs.Rule.{note}
-use Rattle.moc_shared.specs.Seats.{Sight}
+use Rattle.moc_shared.specs.Seats.{note, Sight}
 use Rattle.moc_shared.proofs.Waited.{one_wait}
 use Rattle.moc_shared.proofs.held.waiting.wait_slot.Goals as goal
 

@@ -1,5 +1,5 @@
 use Rattle.std.proofs.Common.{◌≡◌, ℕ, List}
-use Rattle.moc_shared.specs.Seats.{IsCarried}
+use Rattle.moc_shared.specs.Private.Seats.{IsCarried}
 use Rattle.moc_shared.specs.Private.Plays.{with_misses}
 use Rattle.moc_shared.specs.Private.Slots.{just, AreWaits}
 use Rattle.moc_shared.proofs.held.waiting.wait_slot.Given as goal

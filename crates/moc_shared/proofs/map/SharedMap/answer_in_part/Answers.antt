@@ -1,8 +1,9 @@
 use Rattle.std.proofs.Common.{ℕ, List, [], ◌∷◌, map, Option, refl, ap, sym, ◌∙◌, subst, Contains}
 use Rattle.std.proofs.lemmas.Result.{IfOk-weaker, on_err_weaker}
 use Rattle.std.specs.Arc.{arc_value}
-use Rattle.moc_shared.specs.Rule.{index, note, noted_parts}
-use Rattle.moc_shared.specs.Seats.{Pointer, PartNote, shared}
+use Rattle.moc_shared.specs.Seats.{index, note, Pointer}
+use Rattle.moc_shared.specs.Private.Rule.{noted_parts}
+use Rattle.moc_shared.specs.Private.Seats.{PartNote, shared}
 use Rattle.moc_shared.specs.Private.Plays.{with_misses}
 use Rattle.moc_shared.proofs.Basics.{none_in}
 use Rattle.moc_shared.proofs.Promises.{idle_after}

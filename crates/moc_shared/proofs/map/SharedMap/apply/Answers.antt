@@ -4,7 +4,7 @@ use Rattle.moc_shared.specs.History.{entry}
 use Rattle.moc_shared.proofs.Promises.{ends_from, fails_from, idle_after, stays_through, stays_done}
 use Rattle.moc_shared.proofs.Waited.{waits_from, stays_waited}
 use Rattle.moc_shared.specs.Clients.{EndsWaiting}
-use Rattle.moc_shared.specs.Seats.{notes_below}
+use Rattle.moc_shared.specs.Private.Seats.{notes_below}
 use Rattle.moc_shared.specs.Private.Plays.{with_misses}
 use Rattle.moc_shared.specs.Private.Slots.{EndsBatch}
 use Rattle.moc_shared.proofs.map.SharedMap.apply.Goals as goal

@@ -1,6 +1,6 @@
 use Rattle.std.proofs.Common.{◌≡◌, ◌+◌, ◌<◌, length, subst, arith, rules}
 use Rattle.std.specs.Slots.{slots_items}
-use Rattle.moc_shared.specs.Rule.{index}
+use Rattle.moc_shared.specs.Seats.{index}
 use Rattle.moc_shared.proofs.Reading.{AreRead, one_slot_more, no_slot_more}
 use Rattle.moc_shared.proofs.map.closed.read_all.Goals as goal
 use Rattle.moc_shared.proofs.map.closed.read_all.Goals.{in-Some, in-None}

@@ -1,6 +1,6 @@
 use Rattle.std.proofs.Common.{◌≡◌, ◌≤◌, ◌<◌, ℕ, length, false, true, get_or}
 use Rattle.std.specs.Slots.{slots_items, slots_filled, slots_len}
-use Rattle.moc_shared.specs.Rule.{index}
+use Rattle.moc_shared.specs.Seats.{index}
 use Rattle.moc_shared.proofs.Reading.{AreRead}
 use Rattle.moc_shared.proofs.map.closed.read_all.Given as goal
 

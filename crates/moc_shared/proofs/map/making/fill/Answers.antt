@@ -1,6 +1,6 @@
 use Rattle.std.proofs.Common.{◌≡◌, ℕ, ap, ◌∙◌, arith}
-use Rattle.moc_shared.specs.Rule.{index}
-use Rattle.moc_shared.specs.Seats.{content, part}
+use Rattle.moc_shared.specs.Seats.{index}
+use Rattle.moc_shared.specs.Private.Seats.{content, part}
 use Rattle.moc_shared.proofs.Deals.{one_slot, part_shared}
 use Rattle.moc_shared.proofs.map.making.fill.Goals as goal
 use Rattle.moc_shared.proofs.map.making.fill.Goals.{in-Some+in_ok-part-in-Some+in_ok-share-in-Some, in-None}

@@ -1,6 +1,6 @@
 use Rattle.std.proofs.Common.{rules, refl}
 use Rattle.moc_shared.specs.Batches.{answer}
-use Rattle.moc_shared.specs.Seats.{content, part, IsProper}
+use Rattle.moc_shared.specs.Private.Seats.{content, part, IsProper}
 use Rattle.moc_shared.proofs.Regroups.{joins}
 use Rattle.moc_shared.proofs.table.seats.join.Goals as goal
 

@@ -1,6 +1,6 @@
 use Rattle.std.proofs.Common.{rules}
 use Rattle.moc_shared.specs.Batches.{answer}
-use Rattle.moc_shared.specs.Seats.{content, part, IsProper}
+use Rattle.moc_shared.specs.Private.Seats.{content, part, IsProper}
 use Rattle.moc_shared.proofs.Regroups.{looks}
 use Rattle.moc_shared.proofs.table.seats.look.Goals as goal
 

@@ -1,5 +1,5 @@
 use Rattle.std.proofs.Common.{◌≡◌, ◌<◌, ◌≤◌, ℕ, length, None}
-use Rattle.moc_shared.specs.Seats.{at_place, content}
+use Rattle.moc_shared.specs.Private.Seats.{at_place, content}
 use Rattle.moc_shared.proofs.table.slots.copy_all.Given as goal
 
 abbrev pub invariant-loop-b : goal.invariant-loop-b

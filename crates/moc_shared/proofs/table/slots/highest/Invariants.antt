@@ -1,5 +1,5 @@
 use Rattle.std.proofs.Common.{◌≡◌, ◌≤◌, ℕ, None}
-use Rattle.moc_shared.specs.Seats.{at_place}
+use Rattle.moc_shared.specs.Private.Seats.{at_place}
 use Rattle.moc_shared.proofs.table.slots.highest.Given as goal
 
 abbrev pub invariant-loop-b : goal.invariant-loop-b

@@ -1,5 +1,6 @@
 use Rattle.std.proofs.Common.{sym, ap, drop, ◌≡◌, List, [], Option, map, arith}
-use Rattle.moc_shared.specs.Seats.{Pointer, content}
+use Rattle.moc_shared.specs.Seats.{Pointer}
+use Rattle.moc_shared.specs.Private.Seats.{content}
 use Rattle.moc_shared.proofs.Owned.{one_content, drop_all}
 use Rattle.moc_shared.proofs.table.slots.lists.Goals as goal
 

@@ -2,8 +2,9 @@ use Rattle.std.proofs.Common.{rules, ℕ, List, [], ◌∷◌, map, Some, refl, 
 use Rattle.std.specs.FinSet as set
 use Rattle.moc_shared.specs.History.{entry}
 use Rattle.moc_shared.specs.Batches.{answer}
-use Rattle.moc_shared.specs.Rule.{index, noted_parts}
-use Rattle.moc_shared.specs.Seats.{content, part, IsProper, Sight}
+use Rattle.moc_shared.specs.Seats.{index, Sight}
+use Rattle.moc_shared.specs.Private.Rule.{noted_parts}
+use Rattle.moc_shared.specs.Private.Seats.{content, part, IsProper}
 use Rattle.moc_shared.proofs.Basics.{none_in}
 use Rattle.moc_shared.proofs.Moves.{ends_call_as, ended_is}
 use Rattle.moc_shared.proofs.Carried.{first_carried, none_carried, rest_parts}

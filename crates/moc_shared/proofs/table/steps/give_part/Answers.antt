@@ -1,7 +1,8 @@
 use Rattle.std.proofs.Common.{rules, List, ◌∷◌, map, Option, Some, ap, ◌∙◌, subst, sym, arith}
 use Rattle.atomic_table.specs.Table.{rest, Me}
-use Rattle.moc_shared.specs.Rule.{index, noted_parts}
-use Rattle.moc_shared.specs.Seats.{IsCarried, content, part, IsProper, Pointer, PartNote, Sight}
+use Rattle.moc_shared.specs.Seats.{index, Pointer, Sight}
+use Rattle.moc_shared.specs.Private.Rule.{noted_parts}
+use Rattle.moc_shared.specs.Private.Seats.{IsCarried, content, part, IsProper, PartNote}
 use Rattle.moc_shared.specs.Private.Plays.{with_holds, behind_first}
 use Rattle.moc_shared.specs.Batches.{answer}
 use Rattle.moc_shared.proofs.Moves.{gives_part_as}

@@ -1,6 +1,7 @@
 use Rattle.std.proofs.Common.{◌≡◌, suc, ◌-◌, ◌<◌, Option, Some, sym, ap, ◌∙◌, subst, arith}
 use Rattle.atomic_table.specs.Table.{Me}
-use Rattle.moc_shared.specs.Seats.{Pointer, Sight, content, IsCarried}
+use Rattle.moc_shared.specs.Seats.{Pointer, Sight}
+use Rattle.moc_shared.specs.Private.Seats.{content, IsCarried}
 use Rattle.moc_shared.specs.Private.Plays.{with_part}
 use Rattle.moc_shared.proofs.Owned.{never_out, own_part, taken_out}
 use Rattle.moc_shared.proofs.table.steps.take_slot.Goals as goal

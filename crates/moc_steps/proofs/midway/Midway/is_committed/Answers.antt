@@ -1,7 +1,7 @@
 use Rattle.std.proofs.Common.{◌≡◌, Bool, true, false, not, nat_eq, refl, sym, ap, ◌∙◌, eqb-true}
 use Rattle.std.specs.Ordering.{nat_cmp}
 use Rattle.std.specs.FinSet as set
-use Rattle.moc_steps.specs.Locks.{is_any}
+use Rattle.moc_steps.specs.Machine.{is_any}
 use Rattle.moc_steps.proofs.Invariant.{not_any_empty}
 use Rattle.moc_steps.proofs.midway.Midway.is_committed.Goals as goal
 

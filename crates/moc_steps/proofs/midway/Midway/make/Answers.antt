@@ -1,7 +1,7 @@
 use Rattle.std.proofs.Common.{List, ap, ◌∙◌}
 use Rattle.moc_parts.specs.Batches.{batches}
 use Rattle.moc_parts.specs.declared.command.Command.{Command}
-use Rattle.moc_steps.specs.Locks.{Running, next_part}
+use Rattle.moc_steps.specs.Machine.{Running, next_part}
 use Rattle.moc_steps.specs.Private.Standing.{Standing}
 use Rattle.moc_steps.proofs.Taken.{taken_is}
 use Rattle.moc_steps.proofs.Taking.{all_taken}

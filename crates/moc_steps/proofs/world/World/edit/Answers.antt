@@ -1,11 +1,11 @@
-use Rattle.std.proofs.Common.{◌≡◌, ◌<◌, ℕ, rules, None, Some, ◌++◌, ◌∷◌, [], IfSome, is_some, length, slice_set, set as set_at, refl, sym, ap, subst, ◌∙◌}
+use Rattle.std.proofs.Common.{◌≡◌, ◌<◌, ℕ, rules, None, Some, ◌++◌, ◌∷◌, [], IfSome, is_some, length, slice_set}
+use Rattle.std.proofs.Common.{set as set_at, refl, sym, ap, subst, ◌∙◌}
 use Rattle.std.specs.Option.{option_copied}
 use Rattle.std.specs.FinMap as map
 use Rattle.moc_ranges.specs.Numbers.{NumberSet}
 use Rattle.moc_parts.specs.Batches.{batches}
-use Rattle.moc_steps.specs.Locks as locks
-use Rattle.moc_steps.specs.Locks.{refusal, edit_refusal}
-use Rattle.moc_steps.specs.World.{world_after}
+use Rattle.moc_steps.specs.Machine as machine
+use Rattle.moc_steps.specs.Machine.{refusal, edit_refusal, world_after}
 use Rattle.moc_steps.specs.Private.Standing.{Standing}
 use Rattle.moc_steps.specs.Private.Changes.{IsChangeOf}
 use Rattle.moc_steps.specs.declared.table.Change.TheVariants.{Commit, Edit}
@@ -14,14 +14,15 @@ use Rattle.moc_steps.specs.Played.{BatchWorld}
 use Rattle.moc_steps.specs.Private.Worlds.{world_of}
 use Rattle.moc_steps.proofs.Basics.{is_some_of}
 use Rattle.moc_steps.proofs.AnyObject.{reached_explained}
-use Rattle.moc_steps.proofs.KeptSteps.{Goes, first_edit_goes, edit_footprint, edit_all, committed_at, table_twice, kept_list, kept_some, changed_there, is_midway}
+use Rattle.moc_steps.proofs.KeptSteps.{Goes, first_edit_goes, edit_footprint, edit_all, committed_at, table_twice}
+use Rattle.moc_steps.proofs.KeptSteps.{kept_list, kept_some, changed_there, is_midway}
 use Rattle.moc_steps.proofs.world.World.edit.Goals as goal
 
 pub returns-in_default-clause-after : goal.returns-in_default-clause-after
 returns-in_default-clause-after c =
     let i = c.self.inside in
     is_midway i.begun i.clients i.parts.items i.holders i.order.items c.self.invariant c.args.client (λ r. edit_refusal batches r c.args.part)
-    (ap (λ (w : BatchWorld). refusal batches w.locks (locks.Step.Edit c.args.client c.args.part)) c.self.view_is ∙ c.requires)
+    (ap (λ (w : BatchWorld). refusal batches w.locks (machine.Step.Edit c.args.client c.args.part)) c.self.view_is ∙ c.requires)
     (sym c.get.ensures ∙ ap option_copied c.in_default.is)
 
 pub edit_again-requires-clause-committed : goal.edit_again-requires-clause-committed
@@ -35,7 +36,7 @@ make-requires c =
     let i = c.self.inside in
     record {
       all = edit_all i.begun i.clients i.parts.items i.holders i.order.items c.self.invariant c.args.client c.args.part c.in-Some.midway.now (sym c.in-Some.ensures)
-          (ap (λ (w : BatchWorld). refusal batches w.locks (locks.Step.Edit c.args.client c.args.part)) c.self.view_is ∙ c.requires);
+          (ap (λ (w : BatchWorld). refusal batches w.locks (machine.Step.Edit c.args.client c.args.part)) c.self.view_is ∙ c.requires);
     }
 
 pub change-requires : goal.change-requires
@@ -48,7 +49,7 @@ index_mut-requires c =
     let twelve : length i.parts.items ≡ 12 = inv.1.size in
     let low : c.from.result < 12 = subst (λ k. k < 12) (sym c.from.ensures) c.get-2.ensures.in_range in search rules
 
-goes : (c : goal.After-drop-index_mut) → Goes c.self.inside.begun c.self.inside.clients c.self.inside.parts.items c.self.inside.order.items (locks.Step.Edit c.args.client c.args.part) c.self.inside.begun c.change-2.new.self (slice_set c.self.inside.parts.items c.from.result c.in_ok-list.list) c.self.inside.holders c.push.new.self.items
+goes : (c : goal.After-drop-index_mut) → Goes c.self.inside.begun c.self.inside.clients c.self.inside.parts.items c.self.inside.order.items (machine.Step.Edit c.args.client c.args.part) c.self.inside.begun c.change-2.new.self (slice_set c.self.inside.parts.items c.from.result c.in_ok-list.list) c.self.inside.holders c.push.new.self.items
 goes c =
     let i = c.self.inside in
     let s : Standing = c.in-Some.midway.now in
@@ -56,15 +57,15 @@ goes c =
     let list : NumberSet = c.in_ok-list.list in
     let made = c.in_ok-made.made in
     let has : map.get i.clients c.args.client ≡ Some s = sym c.in-Some.ensures in
-    let permitted = ap (λ (w : BatchWorld). refusal batches w.locks (locks.Step.Edit c.args.client c.args.part)) c.self.view_is ∙ c.requires in
+    let permitted = ap (λ (w : BatchWorld). refusal batches w.locks (machine.Step.Edit c.args.client c.args.part)) c.self.view_is ∙ c.requires in
     let fits = edit_footprint i.begun i.clients i.parts.items i.holders i.order.items c.self.invariant c.args.client b s has permitted in
     let none : s.place ≡ None = is_some_of s.place (ap is_some (sym c.place.ensures) ∙ sym c.is_some.ensures ∙ c.if-is_some.false) in
     let place_is : made.place ≡ length i.order.items = (let a : made.place ≡ c.len.result = c.in_ok-made.ensures.place in let d = c.len.ensures in search rules) in
     let list_is = c.in_ok-list.ensures ∙ kept_list i.begun i.clients i.parts.items i.holders i.order.items c.self.invariant s.running.command s.found c.in-Some-list.list.now made.lists b fits.0 fits.1 c.in_ok-made.ensures.made.parts c.in-Some-list.ensures in
     let entry : Entry = record { begin = c.operation-begin.result; client = c.args.client; reply = None } in
-    subst (λ es. Goes i.begun i.clients i.parts.items i.order.items (locks.Step.Edit c.args.client b) i.begun c.change-2.new.self (slice_set i.parts.items c.from.result list) i.holders es) (sym c.in_ok-push.ensures.items)
-    (subst (λ k. Goes i.begun i.clients i.parts.items i.order.items (locks.Step.Edit c.args.client b) i.begun c.change-2.new.self (slice_set i.parts.items k list) i.holders (i.order.items ++ entry ∷ [])) (sym (c.from.ensures ∙ c.get-2.ensures.value))
-    (subst (λ m. Goes i.begun i.clients i.parts.items i.order.items (locks.Step.Edit c.args.client b) i.begun m (set_at i.parts.items b list) i.holders (i.order.items ++ entry ∷ []))
+    subst (λ es. Goes i.begun i.clients i.parts.items i.order.items (machine.Step.Edit c.args.client b) i.begun c.change-2.new.self (slice_set i.parts.items c.from.result list) i.holders es) (sym c.in_ok-push.ensures.items)
+    (subst (λ k. Goes i.begun i.clients i.parts.items i.order.items (machine.Step.Edit c.args.client b) i.begun c.change-2.new.self (slice_set i.parts.items k list) i.holders (i.order.items ++ entry ∷ [])) (sym (c.from.ensures ∙ c.get-2.ensures.value))
+    (subst (λ m. Goes i.begun i.clients i.parts.items i.order.items (machine.Step.Edit c.args.client b) i.begun m (set_at i.parts.items b list) i.holders (i.order.items ++ entry ∷ []))
     (sym (table_twice i.begun i.clients i.parts.items i.holders i.order.items c.self.invariant c.change.new.self c.change-2.new.self c.args.client s (Commit made) (Edit b) has c.change.ensures c.change-2.ensures))
     (first_edit_goes i.begun i.clients i.parts.items i.holders i.order.items c.self.invariant c.args.client b s made.place list entry has none place_is c.operation-begin.ensures refl refl list_is permitted)))
 
@@ -72,7 +73,7 @@ pub invariant_of-self-2 : goal.invariant_of-self-2
 invariant_of-self-2 c = (goes c).1
 
 pub returns-clause-after : goal.returns-clause-after
-returns-clause-after c = (goes c).0 ∙ ap (λ w. world_after batches w (locks.Step.Edit c.args.client c.args.part)) c.self.view_is
+returns-clause-after c = (goes c).0 ∙ ap (λ w. world_after batches w (machine.Step.Edit c.args.client c.args.part)) c.self.view_is
 
 pub change-requires-2 : goal.change-requires-2
 change-requires-2 c =
@@ -85,6 +86,6 @@ returns-in_default-list-clause-after c =
     let i = c.self.inside in
     let s : Standing = c.in-Some.midway.now in
     let fits = edit_footprint i.begun i.clients i.parts.items i.holders i.order.items c.self.invariant c.args.client c.args.part s (sym c.in-Some.ensures)
-    (ap (λ (w : BatchWorld). refusal batches w.locks (locks.Step.Edit c.args.client c.args.part)) c.self.view_is ∙ c.requires) in
+    (ap (λ (w : BatchWorld). refusal batches w.locks (machine.Step.Edit c.args.client c.args.part)) c.self.view_is ∙ c.requires) in
     kept_some i.begun i.clients i.parts.items i.holders i.order.items c.self.invariant s.running.command s.found c.in_ok-made.made.lists c.args.part fits.0 fits.1 c.in_ok-made.ensures.made.parts
     (sym c.list.ensures ∙ ap option_copied c.in_default-list.is)

@@ -1,11 +1,11 @@
-use Rattle.std.proofs.Common.{◌≡◌, ◌<◌, cond, Bool, ◌++◌, ◌∷◌, [], true, None, Some, Option, rules, IfSome, IsSome, is_some, length, slice_set, set as set_at, refl, sym, ap, subst, ◌∙◌}
+use Rattle.std.proofs.Common.{◌≡◌, ◌<◌, cond, Bool, ◌++◌, ◌∷◌, [], true, None, Some, Option, rules, IfSome, IsSome}
+use Rattle.std.proofs.Common.{is_some, length, slice_set, set as set_at, refl, sym, ap, subst, ◌∙◌}
 use Rattle.std.specs.Option.{option_copied}
 use Rattle.std.specs.FinMap as map
 use Rattle.moc_ranges.specs.Operations.{part_of}
 use Rattle.moc_parts.specs.Batches.{batches, set_after_all}
-use Rattle.moc_steps.specs.Locks as locks
-use Rattle.moc_steps.specs.Locks.{refusal, edit_refusal, is_any}
-use Rattle.moc_steps.specs.World.{world_after}
+use Rattle.moc_steps.specs.Machine as machine
+use Rattle.moc_steps.specs.Machine.{refusal, edit_refusal, is_any, world_after}
 use Rattle.moc_steps.specs.Private.Standing.{Standing}
 use Rattle.moc_steps.specs.Private.Changes.{changed, IsChangeOf}
 use Rattle.moc_steps.specs.declared.table.Change.TheVariants.{Edit}
@@ -13,7 +13,8 @@ use Rattle.moc_steps.specs.Played.{BatchWorld, entries_of}
 use Rattle.moc_steps.specs.Private.Worlds.{world_of}
 use Rattle.moc_steps.proofs.Basics.{some_same}
 use Rattle.moc_steps.proofs.AnyObject.{reached_explained}
-use Rattle.moc_steps.proofs.KeptSteps.{Goes, edit_goes, edit_footprint, has_place, any_edited, edited_place, is_midway, table_is}
+use Rattle.moc_steps.proofs.KeptSteps.{Goes, edit_goes, edit_footprint, has_place, any_edited, edited_place, is_midway}
+use Rattle.moc_steps.proofs.KeptSteps.{table_is}
 use Rattle.moc_steps.proofs.world.World.edit_again.Goals as goal
 
 is_Some : {A : Type 0} (x : Option A) → is_some x ≡ true → IsSome x
@@ -26,7 +27,7 @@ pub returns-in_default-clause-after : goal.returns-in_default-clause-after
 returns-in_default-clause-after c =
     let i = c.self.inside in
     is_midway i.begun i.clients i.parts.items i.holders i.order.items c.self.invariant c.args.client (λ r. edit_refusal batches r c.args.part)
-    (ap (λ (w : BatchWorld). refusal batches w.locks (locks.Step.Edit c.args.client c.args.part)) c.self.view_is ∙ c.requires.permitted)
+    (ap (λ (w : BatchWorld). refusal batches w.locks (machine.Step.Edit c.args.client c.args.part)) c.self.view_is ∙ c.requires.permitted)
     (sym c.get.ensures ∙ ap option_copied c.in_default.is)
 
 any : (c : goal.In-Some) → is_any c.in-Some.midway.now.running.edited ≡ true
@@ -43,7 +44,7 @@ pub new_list-requires-clause-part : goal.new_list-requires-clause-part
 new_list-requires-clause-part c =
     let i = c.self.inside in
     (edit_footprint i.begun i.clients i.parts.items i.holders i.order.items c.self.invariant c.args.client c.args.part c.in-Some.midway.now (sym c.in-Some.ensures)
-    (ap (λ (w : BatchWorld). refusal batches w.locks (locks.Step.Edit c.args.client c.args.part)) c.self.view_is ∙ c.requires.permitted)).1
+    (ap (λ (w : BatchWorld). refusal batches w.locks (machine.Step.Edit c.args.client c.args.part)) c.self.view_is ∙ c.requires.permitted)).1
 
 pub change-requires : goal.change-requires
 change-requires c =
@@ -59,23 +60,23 @@ index_mut-requires c =
     let twelve : length i.parts.items ≡ 12 = inv.1.size in
     let low : c.from.result < 12 = subst (λ k. k < 12) (sym c.from.ensures) c.get-2.ensures.in_range in search rules
 
-goes : (c : goal.After-drop-index_mut) → Goes c.self.inside.begun c.self.inside.clients c.self.inside.parts.items c.self.inside.order.items (locks.Step.Edit c.args.client c.args.part) c.self.inside.begun c.change.new.self (slice_set c.self.inside.parts.items c.from.result c.in_ok-list.list) c.self.inside.holders c.self.inside.order.items
+goes : (c : goal.After-drop-index_mut) → Goes c.self.inside.begun c.self.inside.clients c.self.inside.parts.items c.self.inside.order.items (machine.Step.Edit c.args.client c.args.part) c.self.inside.begun c.change.new.self (slice_set c.self.inside.parts.items c.from.result c.in_ok-list.list) c.self.inside.holders c.self.inside.order.items
 goes c =
     let i = c.self.inside in
     let s : Standing = c.in-Some.midway.now in
     let has : map.get i.clients c.args.client ≡ Some s = sym c.in-Some.ensures in
     let list_is : c.in_ok-list.list ≡ part_of (set_after_all s.found s.running.command) c.args.part = c.in_ok-list.ensures ∙ some_is _ _ c.in-Some-new_list.ensures in
     let edited = any_edited i.begun i.clients i.parts.items i.holders i.order.items c.self.invariant c.args.client s c.args.self.now has c.self.view_is c.requires.committed in
-    subst (λ k. Goes i.begun i.clients i.parts.items i.order.items (locks.Step.Edit c.args.client c.args.part) i.begun c.change.new.self (slice_set i.parts.items k c.in_ok-list.list) i.holders i.order.items) (sym (c.from.ensures ∙ c.get-2.ensures.value))
-    (subst (λ m. Goes i.begun i.clients i.parts.items i.order.items (locks.Step.Edit c.args.client c.args.part) i.begun m (set_at i.parts.items c.args.part c.in_ok-list.list) i.holders i.order.items)
+    subst (λ k. Goes i.begun i.clients i.parts.items i.order.items (machine.Step.Edit c.args.client c.args.part) i.begun c.change.new.self (slice_set i.parts.items k c.in_ok-list.list) i.holders i.order.items) (sym (c.from.ensures ∙ c.get-2.ensures.value))
+    (subst (λ m. Goes i.begun i.clients i.parts.items i.order.items (machine.Step.Edit c.args.client c.args.part) i.begun m (set_at i.parts.items c.args.part c.in_ok-list.list) i.holders i.order.items)
     (sym (c.change.ensures ∙ table_is i.clients c.args.client s (Edit c.args.part) has))
     (edit_goes i.begun i.clients i.parts.items i.holders i.order.items c.self.invariant c.args.client c.args.part s (changed s (Edit c.args.part)) c.in_ok-list.list i.order.items has refl refl list_is
     (sym (ap (λ (t : Bool). cond t (entries_of i.order.items) (entries_of i.order.items ++ record { begin = s.running.operation; client = c.args.client; reply = None } ∷ [])) edited))
     (edited_place i.begun i.clients i.parts.items i.holders i.order.items c.self.invariant c.args.client c.args.part s has edited) c.self.invariant.placed
-    (ap (λ (w : BatchWorld). refusal batches w.locks (locks.Step.Edit c.args.client c.args.part)) c.self.view_is ∙ c.requires.permitted)))
+    (ap (λ (w : BatchWorld). refusal batches w.locks (machine.Step.Edit c.args.client c.args.part)) c.self.view_is ∙ c.requires.permitted)))
 
 pub invariant_of-self : goal.invariant_of-self
 invariant_of-self c = (goes c).1
 
 pub returns-clause-after : goal.returns-clause-after
-returns-clause-after c = (goes c).0 ∙ ap (λ w. world_after batches w (locks.Step.Edit c.args.client c.args.part)) c.self.view_is
+returns-clause-after c = (goes c).0 ∙ ap (λ w. world_after batches w (machine.Step.Edit c.args.client c.args.part)) c.self.view_is

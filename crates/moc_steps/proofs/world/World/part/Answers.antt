@@ -1,7 +1,7 @@
 use Rattle.std.proofs.Common.{◌≡◌, ◌<◌, rules, length, get_or, subst, sym, ap, ◌∙◌}
 use Rattle.std.specs.FinSet as set
 use Rattle.moc_parts.specs.Batches.{batches}
-use Rattle.moc_steps.specs.World.{part_at}
+use Rattle.moc_steps.specs.Machine.{part_at}
 use Rattle.moc_steps.specs.Played.{BatchWorld}
 use Rattle.moc_steps.specs.Private.Worlds.{world_of}
 use Rattle.moc_steps.proofs.AnyObject.{reached_explained}

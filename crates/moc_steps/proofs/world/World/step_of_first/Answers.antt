@@ -1,7 +1,7 @@
 use Rattle.std.proofs.Common.{◌≡◌, Some, inl, inr, refl, sym, ap, subst, ◌∙◌}
 use Rattle.std.specs.FinMap as map
 use Rattle.moc_parts.specs.Batches.{batches}
-use Rattle.moc_steps.specs.World.{running}
+use Rattle.moc_steps.specs.Machine.{running}
 use Rattle.moc_steps.specs.Laws.{IsReached}
 use Rattle.moc_steps.specs.Private.Standing.{Standing}
 use Rattle.moc_steps.specs.Played.{BatchWorld}
@@ -9,7 +9,8 @@ use Rattle.moc_steps.proofs.Values.{len-values}
 use Rattle.moc_steps.proofs.KeptSteps.{seen_as}
 use Rattle.moc_steps.proofs.Going.{free_ends, free_takes}
 use Rattle.moc_steps.proofs.world.World.step_of_first.Goals as goal
-use Rattle.moc_steps.proofs.world.World.step_of_first.Goals.{then-quits-via-then-quits, then-quits-via-else-quits+then-has_taken_some}
+use Rattle.moc_steps.proofs.world.World.step_of_first.Goals.{then-quits-via-then-quits}
+use Rattle.moc_steps.proofs.world.World.step_of_first.Goals.{then-quits-via-else-quits+then-has_taken_some}
 
 pub returns-in_err-client-clause-none : goal.returns-in_err-client-clause-none
 returns-in_err-client-clause-none c = λ _.

@@ -1,13 +1,16 @@
 use Rattle.std.proofs.Common.{◌≡◌, Some, None, inl, inr, refl, sym, ap, ◌∙◌}
 use Rattle.std.specs.Option.{is_some}
 use Rattle.moc_parts.specs.Batches.{batches}
-use Rattle.moc_steps.specs.World.{running}
+use Rattle.moc_steps.specs.Machine.{running}
 use Rattle.moc_steps.proofs.Basics.{clash}
 use Rattle.moc_steps.proofs.Taking.{holder_holds}
 use Rattle.moc_steps.proofs.KeptSteps.{seen_as}
 use Rattle.moc_steps.proofs.Going.{highest_takes, highest_edits, highest_gives}
 use Rattle.moc_steps.proofs.world.World.step_of_holder.Goals as goal
-use Rattle.moc_steps.proofs.world.World.step_of_holder.Goals.{else-not-quits-via-then-not-quits+else-is_some, else-not-quits-via-else-not-quits, else-not-quits-2-via-then-not-quits-2+else-not-has_edited, else-not-quits-2-via-else-not-quits-2}
+use Rattle.moc_steps.proofs.world.World.step_of_holder.Goals.{else-not-quits-via-then-not-quits+else-is_some}
+use Rattle.moc_steps.proofs.world.World.step_of_holder.Goals.{else-not-quits-via-else-not-quits}
+use Rattle.moc_steps.proofs.world.World.step_of_holder.Goals.{else-not-quits-2-via-then-not-quits-2+else-not-has_edited}
+use Rattle.moc_steps.proofs.world.World.step_of_holder.Goals.{else-not-quits-2-via-else-not-quits-2}
 
 pub returns-in_err-midway-clause-is : goal.returns-in_err-midway-clause-is
 returns-in_err-midway-clause-is c =

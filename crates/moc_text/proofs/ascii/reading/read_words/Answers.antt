@@ -7,46 +7,46 @@ use Rattle.moc_text.specs.declared.ascii.error.TextError.TheVariants.{Memory}
 use Rattle.moc_text.proofs.Scanning.{Scanned}
 use Rattle.moc_text.proofs.ReadWords.{progress_none, progress_word, after_shorter, scanned_word, fault_scanned, fault_mark, fault_item, small_in_force}
 use Rattle.moc_text.proofs.ascii.reading.read_words.Goals as goal
-use Rattle.moc_text.proofs.ascii.reading.read_words.Goals.{In_ok-parts}
+use Rattle.moc_text.proofs.ascii.reading.read_words.Goals.{In_ok-numbers}
 
 pub loop-rest-init : goal.loop-rest-init
 loop-rest-init c = rw c.new.ensures (progress_none c.args.text.now)
 
-pub returns-in_err-parts-clause-fault : goal.returns-in_err-parts-clause-fault
-returns-in_err-parts-clause-fault c =
+pub returns-in_err-numbers-clause-fault : goal.returns-in_err-numbers-clause-fault
+returns-in_err-numbers-clause-fault c =
     let p = err_from_is_err_and c.from_residual.result c.from_residual.ensures.1 in
     let sep : is_separator (get_or c.loop-rest.rest.now 0 0) ≡ false = cc in
-    rw (p.1, p.2) (inr (fault_scanned c.args.text.now c.loop-rest.rest.now _ _ _ c.in_err-parts.field-0.0 c.loop-rest.invariant c.in-len1-up.len_at_least sep c.in_err-parts.ensures))
+    rw (p.1, p.2) (inr (fault_scanned c.args.text.now c.loop-rest.rest.now _ _ _ c.in_err-numbers.field-0.0 c.loop-rest.invariant c.in-len1-up.len_at_least sep c.in_err-numbers.ensures))
 
-scanned : (c : In_ok-parts) → Scanned (length c.args.text.now) c.loop-rest.rest.now c.in_ok-parts.parts c.in_ok-parts.after.now
+scanned : (c : In_ok-numbers) → Scanned (length c.args.text.now) c.loop-rest.rest.now c.in_ok-numbers.numbers c.in_ok-numbers.after.now
 scanned c =
     let sep : is_separator (get_or c.loop-rest.rest.now 0 0) ≡ false = cc in
-    scanned_word (length c.args.text.now) c.loop-rest.rest.now c.in_ok-parts.parts c.in_ok-parts.after.now c.loop-rest.invariant.within c.in-len1-up.len_at_least sep c.in_ok-parts.ensures
+    scanned_word (length c.args.text.now) c.loop-rest.rest.now c.in_ok-numbers.numbers c.in_ok-numbers.after.now c.loop-rest.invariant.within c.in-len1-up.len_at_least sep c.in_ok-numbers.ensures
 
 pub returns-in_err-enter-clause-fault : goal.returns-in_err-enter-clause-fault
 returns-in_err-enter-clause-fault c =
     let p = err_from_is_err_and c.from_residual-in_err-enter.result c.from_residual-in_err-enter.ensures.1 in
-    rw (p.1, p.2) (inr (fault_mark c.args.text.now c.loop-rest.rest.now _ _ _ c.in_ok-parts.parts c.in_ok-parts.after.now c.in_err-enter.field-0.0 c.loop-rest.invariant (scanned (goal.at.returns-in_err-enter-clause-fault c).In_ok-parts) c.in_err-enter.ensures))
+    rw (p.1, p.2) (inr (fault_mark c.args.text.now c.loop-rest.rest.now _ _ _ c.in_ok-numbers.numbers c.in_ok-numbers.after.now c.in_err-enter.field-0.0 c.loop-rest.invariant (scanned (goal.at.returns-in_err-enter-clause-fault c).In_ok-numbers) c.in_err-enter.ensures))
 
 pub returns-in_err-add-clause-fault : goal.returns-in_err-add-clause-fault
 returns-in_err-add-clause-fault c =
     let p = err_from_is_err_and c.from_residual-in_err-add.result c.from_residual-in_err-add.ensures.1 in
-    let s = scanned (goal.at.returns-in_err-add-clause-fault c).In_ok-parts in
+    let s = scanned (goal.at.returns-in_err-add-clause-fault c).In_ok-numbers in
     let entered = c.in_ok-enter.ensures in
     rw (p.1, p.2) (elim (c.in_err-add.ensures) as (λ _. c.in_err-add.field-0.0 ≡ Memory ⊎ IsFirstFault c.args.text.now c.in_err-add.field-0.0) [
       | inl memory ↦ inl memory
-      | inr fault ↦ inr (fault_item c.args.text.now c.loop-rest.rest.now _ _ _ c.in_ok-parts.parts c.in_ok-parts.after.now c.enter.new.self.order c.in_err-add.field-0.0 (small_in_force c.args.text.now c.loop-rest.rest.now _ _ _ c.loop-rest.invariant) c.loop-rest.invariant s entered.0 entered.1 (ap (λ n. item_fault c.enter.new.self.order n c.in_ok-parts.parts.item) (sym c.place-at.ensures) ∙ fault))
+      | inr fault ↦ inr (fault_item c.args.text.now c.loop-rest.rest.now _ _ _ c.in_ok-numbers.numbers c.in_ok-numbers.after.now c.enter.new.self.order c.in_err-add.field-0.0 (small_in_force c.args.text.now c.loop-rest.rest.now _ _ _ c.loop-rest.invariant) c.loop-rest.invariant s entered.0 entered.1 (ap (λ n. item_fault c.enter.new.self.order n c.in_ok-numbers.numbers.item) (sym c.place-at.ensures) ∙ fault))
     ])
 
 pub loop-rest-smaller : goal.loop-rest-smaller
-loop-rest-smaller c = after_shorter (length c.args.text.now) c.loop-rest.rest.now c.in_ok-parts.parts c.in_ok-parts.after.now (scanned (goal.at.loop-rest-smaller c).In_ok-parts)
+loop-rest-smaller c = after_shorter (length c.args.text.now) c.loop-rest.rest.now c.in_ok-numbers.numbers c.in_ok-numbers.after.now (scanned (goal.at.loop-rest-smaller c).In_ok-numbers)
 
 pub loop-rest-preserved : goal.loop-rest-preserved
 loop-rest-preserved c =
     let entered = c.in_ok-enter.ensures in
     let added = c.in_ok-add.ensures in
-    progress_word c.args.text.now c.loop-rest.rest.now c.loop-rest.reading.cells c.loop-rest.reading.order c.loop-rest.reading.deepest c.in_ok-parts.parts c.in_ok-parts.after.now
-    c.add.new.self.cells c.add.new.self.order c.add.new.self.deepest (small_in_force c.args.text.now c.loop-rest.rest.now _ _ _ c.loop-rest.invariant) c.loop-rest.invariant (scanned (goal.at.loop-rest-preserved c).In_ok-parts)
+    progress_word c.args.text.now c.loop-rest.rest.now c.loop-rest.reading.cells c.loop-rest.reading.order c.loop-rest.reading.deepest c.in_ok-numbers.numbers c.in_ok-numbers.after.now
+    c.add.new.self.cells c.add.new.self.order c.add.new.self.deepest (small_in_force c.args.text.now c.loop-rest.rest.now _ _ _ c.loop-rest.invariant) c.loop-rest.invariant (scanned (goal.at.loop-rest-preserved c).In_ok-numbers)
     entered.0 (added.1 ∙ entered.1) (added.2 ∙ entered.2)
-    (ap (λ n. item_fault c.add.new.self.order n c.in_ok-parts.parts.item) (sym c.place-at.ensures) ∙ ap (λ k. item_fault k c.place-at.result c.in_ok-parts.parts.item) added.1 ∙ added.0)
-    (added.3 ∙ ap (λ (a : NumberSet). set.union a (item_pixels c.enter.new.self.order c.in_ok-parts.parts.item)) entered.3 ∙ ap (λ k. set.union c.loop-rest.reading.cells (item_pixels k c.in_ok-parts.parts.item)) (sym added.1))
+    (ap (λ n. item_fault c.add.new.self.order n c.in_ok-numbers.numbers.item) (sym c.place-at.ensures) ∙ ap (λ k. item_fault k c.place-at.result c.in_ok-numbers.numbers.item) added.1 ∙ added.0)
+    (added.3 ∙ ap (λ (a : NumberSet). set.union a (item_pixels c.enter.new.self.order c.in_ok-numbers.numbers.item)) entered.3 ∙ ap (λ k. set.union c.loop-rest.reading.cells (item_pixels k c.in_ok-numbers.numbers.item)) (sym added.1))

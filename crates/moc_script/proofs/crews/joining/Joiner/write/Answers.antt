@@ -1,6 +1,7 @@
 -- The ways in which the writing ends.
 use Rattle.std.proofs.Common.{List, ℕ, [], ◌++◌, subst}
 use Rattle.moc_devices.specs.Devices.{Sends}
+use Rattle.moc_devices.specs.Lemmas.{OnlyWrites-later}
 use Rattle.moc_script.proofs.Sending.{Sends-fault, Sends-then}
 use Rattle.moc_script.proofs.Joinings.{joins_fail, joins_then}
 use Rattle.moc_script.proofs.crews.joining.Joiner.write.Goals as goal
@@ -22,3 +23,12 @@ returns-clause-sends g c =
     joins_then c.args.self.walks.items c.args.behind.now pending _ _ _ c.write_all.result c.in_ok-write_turns.ensures.sends
     (Sends-then (pending ++ c.args.behind.now) last [] (g.W.Sink.written c.write_turns.new.writer) (g.W.Sink.written c.send.new.writer) (g.W.Sink.written c.write_all.new.writer) c.write_all.result c.in_ok-send.ensures.sends
     (subst (λ (l : List ℕ). Sends l (g.W.Sink.written c.send.new.writer) [] (g.W.Sink.written c.write_all.new.writer) c.write_all.result) c.deref.ensures.value c.write_all.ensures.sends))
+
+pub returns-in_err-write_turns-clause-writes : goal.returns-in_err-write_turns-clause-writes
+returns-in_err-write_turns-clause-writes g c = rw c.from_residual.ensures.0 c.in_err-write_turns.ensures.writes
+
+pub returns-in_err-send-clause-writes : goal.returns-in_err-send-clause-writes
+returns-in_err-send-clause-writes g c = rw c.from_residual-in_err-send.ensures.0 (OnlyWrites-later c.in_ok-write_turns.ensures.writes c.in_err-send.ensures.writes)
+
+pub returns-clause-writes : goal.returns-clause-writes
+returns-clause-writes g c = OnlyWrites-later c.in_ok-write_turns.ensures.writes (OnlyWrites-later c.in_ok-send.ensures.writes c.write_all.ensures.writes)

@@ -1,6 +1,6 @@
 -- One more answer is sent, the writer failed, or none is left.
 use Rattle.std.proofs.Common.{◌≡◌, inl, inr, ℕ, ◌+◌, ◌<◌, ◌∷◌, [], length, get_or, sym, refl, subst, arith}
-use Rattle.moc_devices.specs.Lemmas.{CallsMore-none, CallsMore-later}
+use Rattle.moc_devices.specs.Lemmas.{OnlyWrites-none, OnlyWrites-later}
 use Rattle.moc_script.proofs.Joinings.{Turns, Turns-start, Turns-more, Turns-end, Turns-fail, next_has, next_none}
 use Rattle.moc_script.proofs.crews.joining.Joiner.write_turns.Goals as goal
 
@@ -9,9 +9,7 @@ loop-answer-init g c = record {
   turns = subst (Turns c.args.self.now.walks.items c.args.self.now.walks.items 0 (g.W.Sink.written c.args.writer.now) (g.W.Sink.written c.args.writer.now)) (sym c.requires.none)
       (Turns-start c.args.self.now.walks.items (g.W.Sink.written c.args.writer.now) c.requires.some);
   low = c.requires.some;
-  mark = c.requires.writer;
-  flushed = λ h. h;
-  flushes = CallsMore-none (g.W.Sink.flushes c.args.writer.now);
+  writes = OnlyWrites-none c.args.writer.now;
 }
 
 pub returns-in_err-send-clause-sends : goal.returns-in_err-send-clause-sends
@@ -24,6 +22,9 @@ returns-in_err-send-clause-sends g c =
     Turns-fail c.args.self.now.walks.items walks turn _ _ _ c.loop-answer.self.pending.items was.turns c.send.new.pending.items c.send.new.pending.items c.in-Some.answer.now c.next_text.new.self c.send.result c.from_residual.result
     c.from_residual.ensures.0 was.low here c.send.ensures.sends
 
+pub returns-in_err-send-clause-writes : goal.returns-in_err-send-clause-writes
+returns-in_err-send-clause-writes g c = rw c.from_residual.ensures.0 (OnlyWrites-later c.loop-answer.invariant.writes c.in_err-send.ensures.writes)
+
 pub loop-answer-preserved-then-turn-len : goal.loop-answer-preserved-then-turn-len
 loop-answer-preserved-then-turn-len g c =
     let was = c.loop-answer.invariant in
@@ -35,9 +36,7 @@ loop-answer-preserved-then-turn-len g c =
       turns = Turns-more c.args.self.now.walks.items walks turn _ _ _ c.loop-answer.self.pending.items was.turns 0 c.send.new.pending.items c.in-Some.answer.now c.next_text.new.self was.low here c.in_ok-send.ensures.sends
           (inr (omega (arith, c.if-turn-len.true, c.len.ensures, c.loop-answer.self.walks.ok, was.turns.joined.wide), refl));
       low = c.requires.some;
-      mark = c.in_ok-send.ensures.unmarked;
-      flushed = λ h. was.flushed (c.send.ensures.flushed h);
-      flushes = CallsMore-later _ _ _ 0 was.flushes c.send.ensures.flushes;
+      writes = OnlyWrites-later was.writes c.in_ok-send.ensures.writes;
     }
 
 pub loop-answer-preserved : goal.loop-answer-preserved
@@ -52,9 +51,7 @@ loop-answer-preserved g c =
       turns = Turns-more c.args.self.now.walks.items walks turn _ _ _ c.loop-answer.self.pending.items was.turns (turn + 1) c.send.new.pending.items c.in-Some.answer.now c.next_text.new.self was.low here c.in_ok-send.ensures.sends
           (inl (more, refl));
       low = more;
-      mark = c.in_ok-send.ensures.unmarked;
-      flushed = λ h. was.flushed (c.send.ensures.flushed h);
-      flushes = CallsMore-later _ _ _ 0 was.flushes c.send.ensures.flushes;
+      writes = OnlyWrites-later was.writes c.in_ok-send.ensures.writes;
     }
 
 pub returns-clause-sends : goal.returns-clause-sends

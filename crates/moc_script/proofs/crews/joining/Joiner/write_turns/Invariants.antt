@@ -1,8 +1,7 @@
 -- The answers so far are written but for what is pending.
-use Rattle.std.proofs.Common.{◌≡◌, ◌<◌, ℕ, List, false, length}
-use Rattle.std.specs.Bool.{IsTrue}
+use Rattle.std.proofs.Common.{◌<◌, ℕ, List, false, length}
 use Rattle.std.specs.List.{sum_by}
-use Rattle.moc_devices.specs.Devices.{CallsMore}
+use Rattle.moc_devices.specs.Devices.{OnlyWrites}
 use Rattle.moc_script.proofs.Joinings.{Turns}
 use Rattle.moc_script.proofs.crews.joining.Joiner.write_turns.Given as goal
 
@@ -10,9 +9,7 @@ abbrev pub invariant-loop-answer : goal.invariant-loop-answer
 invariant-loop-answer g l = record {
   turns : Turns l.fn.self.walks.items l.self.walks.items l.turn (g.W.Sink.written l.fn.writer) (g.W.Sink.written l.writer) l.self.pending.items;
   low : l.turn < length l.fn.self.walks.items;
-  mark : g.W.Sink.mark l.writer ≡ false;
-  flushed : IsTrue (g.W.Sink.flushed l.writer) → IsTrue (g.W.Sink.flushed l.fn.writer);
-  flushes : CallsMore (g.W.Sink.flushes l.fn.writer) (g.W.Sink.flushes l.writer) 0;
+  writes : OnlyWrites g.W.Sink.mark g.W.Sink.flushed g.W.Sink.flushes l.fn.writer l.writer false;
 }
 
 abbrev pub decreases-loop-answer : goal.decreases-loop-answer

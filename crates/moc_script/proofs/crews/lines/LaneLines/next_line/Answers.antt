@@ -1,6 +1,6 @@
 -- A line that is not the lane's is passed.
 use Rattle.std.proofs.Common.{◌≡◌, ◌∙◌, ◌-◌, suc, true, false, arith, sym}
-use Rattle.moc_lines.specs.Words.{is_blank_text}
+use Rattle.moc_lines.specs.Language.{is_blank_text}
 use Rattle.moc_script.proofs.Passing.{blank_passed, counted_more, turn_passed}
 use Rattle.moc_script.proofs.crews.lines.LaneLines.next_line.Goals as goal
 

@@ -1,0 +1,70 @@
+//! Sets of pixels, base pixel by base pixel.
+ghost use Rattle.std.specs.Prelude.{◌≡◌, ℕ, true, ◌<◌, ◌≤◌, nat_lt, IfOk, IfSome, MatchOption};
+ghost use Rattle.std.specs.FinSet as set;
+ghost use Rattle.moc_ranges.specs.Operations.{part_of, IsWithin};
+ghost use Rattle.moc_ranges.specs.Pixels.{pixels};
+
+use crate::coverage::Coverage;
+use crate::errors::Memory;
+use crate::list::ranges::Ranges;
+use crate::operations::intersection::intersect;
+use std::alloc::Global;
+
+/// How many pixels a base pixel has: 4^29.
+const BASE_PIXEL_SIZE: u64 = 288230376151711744;
+
+impl Coverage {
+    /// The pixels of the set in one base pixel, 0 to 11: those p with `p / 4^29` equal to it. Above
+    /// 11 it is the empty set.
+    ///
+    /// O(log n), and a copy of the ranges that it answers, of which whole blocks and nodes are shared;
+    /// refused where memory runs out.
+    pub fn part(&self, alloc: Global, base_pixel: u8) -> Result<Coverage, Memory>
+        ensures part { IfOk result (λ c. c ≡ part_of self.now base_pixel) }
+        ensures within { IsWithin self.now pixels }
+    {
+        if self.is_empty() || base_pixel > 11 {
+            return Ok(Coverage::empty(alloc));
+        }
+        let from = u64::from(base_pixel) * BASE_PIXEL_SIZE;
+        let whole = [(from, from + BASE_PIXEL_SIZE)];
+        let list = intersect(alloc, self.ranges(), Ranges::of(&whole))?;
+        Ok(Coverage { list })
+    }
+
+    /// Whether the set has a pixel in this base pixel; it has none above 11. O(log n), takes no
+    /// memory.
+    pub fn meets_base_pixel(&self, base_pixel: u8) -> bool
+        ensures { result ≡ nat_lt 0 (set.len (part_of self.now base_pixel)) }
+    {
+        if self.is_empty() || base_pixel > 11 {
+            return false;
+        }
+        let from = u64::from(base_pixel) * BASE_PIXEL_SIZE;
+        self.meets_range(from, from + BASE_PIXEL_SIZE)
+    }
+
+    /// Whether the set has every pixel of this base pixel; above 11 there is none. O(log n), takes
+    /// no memory.
+    pub fn covers_base_pixel(&self, base_pixel: u8) -> bool
+        ensures { result ≡ set.is_subset (part_of pixels base_pixel) self.now }
+    {
+        if base_pixel > 11 {
+            return true;
+        }
+        let from = u64::from(base_pixel) * BASE_PIXEL_SIZE;
+        self.covers_range(from, from + BASE_PIXEL_SIZE)
+    }
+
+    /// The first base pixel from this one on that the set has a pixel in, if there is one; there is none above 11.
+    /// O(log n), takes no memory.
+    pub fn next_base_pixel(&self, from: u8) -> Option<u8>
+        ensures found { IfSome result (λ b.
+            (from ≤ b) × (b < 12) × (nat_lt 0 (set.len (part_of self.now b)) ≡ true)) }
+        ensures first { (b : ℕ) → from ≤ b → nat_lt 0 (set.len (part_of self.now b)) ≡ true
+            → MatchOption result ⊥ (λ c. c ≤ b) }
+    {
+        let pixel = self.next_pixel(u64::from(from.min(12)) * BASE_PIXEL_SIZE)?;
+        Some((pixel / BASE_PIXEL_SIZE) as u8)
+    }
+}

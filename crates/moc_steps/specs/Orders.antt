@@ -1,0 +1,154 @@
+-- The operations of steps, and what it means that an order of them explains the steps.
+use Rattle.std.specs.Prelude.{ℕ, Bool, true, false, not, ◌&&◌, nat_eq, List, [], ◌∷◌, ◌++◌, map as map_list}
+use Rattle.std.specs.Prelude.{if◌then◌else◌, count_by, fold, ◌≡◌, ◌<◌, ◌≤◌, length, Option, None, Some, option_map}
+use Rattle.std.specs.Prelude.{slice_get, ◌+◌, ◌*◌, sum_by}
+use Rattle.moc_steps.specs.Machine.{Step, Entry, Running, Clients, twelve}
+use Rattle.moc_steps.specs.Machine.Step.{Begin, Take, Edit, Give, Quit, End}
+use Rattle.std.specs.Option.{option_map_or}
+use Rattle.moc_ranges.specs.Numbers.{NumberSet}
+use Rattle.moc_parts.specs.Objects.{Object}
+use Rattle.std.specs.List.{AllByRecursion}
+use Rattle.std.specs.FinMap as map
+
+-- The operations of steps
+
+-- what became of an operation
+pub record Operation (Op : Type 0) : Type 0 where
+  pub client : ℕ
+  pub command : Op
+  -- it has edited a part
+  pub committed : Bool
+  pub quits : Bool
+  pub ended : Bool
+
+module _ {Op : Type 0} where
+  -- an operation that begins
+  abbrev pub just_begun : ℕ → Op → Operation Op
+  just_begun c op = record { client = c; command = op; committed = false; quits = false; ended = false }
+
+  -- an operation of the client that has not ended
+  abbrev pub is_open : ℕ → Operation Op → Bool
+  is_open c x = nat_eq x.client c && not x.ended
+
+  -- a change of the client's operation that has not ended
+  abbrev pub mark : ℕ → (Operation Op → Operation Op) → List (Operation Op) → List (Operation Op)
+  mark c f xs = map_list (λ x. if is_open c x then f x else x) xs
+
+  -- the operations after one more step
+  abbrev pub noted : List (Operation Op) → Step Op → List (Operation Op)
+  noted xs (Begin c op) = xs ++ just_begun c op ∷ []
+  noted xs (Take c) = xs
+  noted xs (Edit c b) = mark c (λ x. record x { committed = true }) xs
+  noted xs (Give c b) = xs
+  noted xs (Quit c) = mark c (λ x. record x { quits = true }) xs
+  noted xs (End c) = mark c (λ x. record x { ended = true }) xs
+
+  -- operation n stands at place n
+  abbrev pub operations : List (Step Op) → List (Operation Op)
+  operations steps = fold noted [] steps
+
+  -- it has not ended
+  abbrev pub is_midway : Operation Op → Bool
+  is_midway x = not x.ended
+
+  -- it has ended and did not quit
+  abbrev pub is_finished : Operation Op → Bool
+  is_finished x = x.ended && not x.quits
+
+  -- how many operations are midway
+  abbrev pub midway : List (Step Op) → ℕ
+  midway steps = count_by is_midway (operations steps)
+
+-- Orders that explain steps
+
+-- how often n stands in the list
+abbrev pub times : ℕ → List ℕ → ℕ
+times n ns = count_by (λ x. nat_eq x n) ns
+
+-- the numbers of the operations in their order
+abbrev pub names : {Reply : Type 0} → List (Entry Reply) → List ℕ
+names order = map_list (λ e. e.begin) order
+
+-- a stands before b
+abbrev pub StandsBefore : ℕ → ℕ → List ℕ → Type 0
+StandsBefore a b ns = (front back : List ℕ) × (ns ≡ front ++ back) × (0 < times a front) × (0 < times b back)
+
+module _ {Op : Type 0} where
+  -- an operation, if there is one, has edited a part
+  abbrev pub is_committed : Option (Operation Op) → Bool
+  is_committed o = option_map_or (λ x. x.committed) o false
+
+  -- a's End stands before b's Begin: at some moment a has ended and b has not begun
+  abbrev pub EndsBefore : ℕ → ℕ → List (Step Op) → Type 0
+  EndsBefore a b steps =
+      (front back : List (Step Op)) × (steps ≡ front ++ back)
+      × (option_map_or (λ x. x.ended) (slice_get (operations front) a) false ≡ true) × (length (operations front) ≤ b)
+
+module _ {Op Reply : Type 0} (o : Object Op Reply) where
+  -- the set and the reply of an operation, done alone
+  abbrev pub done_alone : NumberSet → Option (Operation Op) → NumberSet × Option Reply
+  done_alone A None = (A, None)
+  done_alone A (Some x) = let answer = o.answer A x.command in (answer.0, if is_finished x then Some answer.1 else None)
+
+  -- each entry names an operation of its client, and has the reply of that operation done alone after those before it
+  abbrev pub HaveReplies : List (Operation Op) → List (Entry Reply) → NumberSet → Type 0
+  HaveReplies xs [] A = Unit {0}
+  HaveReplies xs (e ∷ order) A =
+      (option_map (λ x. x.client) (slice_get xs e.begin) ≡ Some e.client)
+      × (e.reply ≡ (done_alone A (slice_get xs e.begin)).1)
+      × HaveReplies xs order (done_alone A (slice_get xs e.begin)).0
+
+  -- the set after the operations, done one by one in their order
+  abbrev pub result_of : List (Operation Op) → List (Entry Reply) → NumberSet → NumberSet
+  result_of xs order A = fold (λ B e. (done_alone B (slice_get xs e.begin)).0) A order
+
+  -- the set after the operations of the steps, done one by one in the order
+  abbrev pub set_by_order : List (Entry Reply) → List (Step Op) → NumberSet → NumberSet
+  set_by_order order steps start = result_of (operations steps) order start
+
+  -- The order explains the steps: it names the committed operations, in time, with their replies.
+  pub record Explains (order : List (Entry Reply)) (steps : List (Step Op)) (start : NumberSet) : Type 0 where
+    -- each committed operation is named once, and no other
+    pub named : (n : ℕ) → times n (names order) ≡ (if is_committed (slice_get (operations steps) n) then 1 else 0)
+    -- what ended before another began stands before it
+    pub in_time : (a b : ℕ) → 0 < times a (names order) → 0 < times b (names order) → EndsBefore a b steps
+        → StandsBefore a b (names order)
+    pub replies : HaveReplies (operations steps) order start
+
+-- Steps that bring midway clients to their ends
+
+module _ {Op : Type 0} where
+  -- neither a Begin nor a Quit
+  abbrev pub is_progress : Step Op → Bool
+  is_progress (Begin c op) = false
+  is_progress (Take c) = true
+  is_progress (Edit c b) = true
+  is_progress (Give c b) = true
+  is_progress (Quit c) = false
+  is_progress (End c) = true
+
+  -- the client that steps
+  abbrev pub client_of : Step Op → ℕ
+  client_of (Begin c op) = c
+  client_of (Take c) = c
+  client_of (Edit c b) = c
+  client_of (Give c b) = c
+  client_of (Quit c) = c
+  client_of (End c) = c
+
+  -- no step is a Begin or a Quit
+  abbrev pub AreProgress : List (Step Op) → Type 0
+  AreProgress steps = AllByRecursion (λ step. is_progress step ≡ true) steps
+
+module _ {Op Reply : Type 0} (o : Object Op Reply) where
+  -- a Take, an Edit and a Give for each part of the footprint, and an End
+  abbrev pub steps_wanted : Option (Running Op) → ℕ
+  steps_wanted r = option_map_or (λ r. 3 * count_by (o.footprint r.command) twelve + 1) r 0
+
+  -- enough steps to bring all midway clients to their ends
+  abbrev pub steps_left : Clients Op → ℕ
+  steps_left m = sum_by (λ c. steps_wanted (map.get m c)) (map.keys m)
+
+-- an operation that is midway, does not quit and has not edited
+abbrev pub is_to_come : {Op : Type 0} → Option (Operation Op) → Bool
+is_to_come o = option_map_or (λ x. not x.ended && (not x.quits && not x.committed)) o false

@@ -1,0 +1,87 @@
+//! Words that ask for help, or for nothing that there is.
+use crate::ended::{expect, run_words};
+use moc_program::refuse_words;
+use moc_script::{OverReader, OverWriter};
+use std::alloc::Global;
+use std::io::{self, ErrorKind};
+use std::marker::Sync;
+use std::process::Abort;
+use std::sync::Wait;
+use std::thread::Threads;
+
+/// Checks the status and the text of words that could not be had.
+fn expect_no_words(rt: &impl Abort, alloc: Global, kind: ErrorKind, status: u8, text: &str) {
+    let mut told = Vec::new(alloc);
+    let answered = refuse_words(&io::Error::from(kind), &mut OverWriter::new(&mut told));
+    assert_eq!(rt; answered, status);
+    assert_eq!(rt; told.as_slice(), text.as_bytes());
+}
+
+#[test]
+fn words_that_are_not_utf8(rt: HostRuntime) {
+    let text = "error: a word of the command line is not UTF-8\n";
+    expect_no_words(&rt, rt.alloc(), ErrorKind::InvalidData, 2, text);
+    expect_no_words(&rt, rt.alloc(), ErrorKind::OutOfMemory, 3, "fault Memory\n");
+}
+
+#[test]
+fn wrong_words(rt: HostRuntime) {
+    let tip = "error: unrecognized subcommand 'union'\n\n  tip: what does it is 'combine union'\n\n\
+               Usage: moc <COMMAND>\n\nFor more information, try '--help'.\n";
+    expect(&rt, rt.alloc(), &["union", "ascii"], "", 2, "", tip);
+    expect(&rt, rt.alloc(), &["help", "union"], "", 2, "", tip);
+    let control = "error: a word of the command line has a control character\n";
+    expect(&rt, rt.alloc(), &["\x1b[1mring"], "", 2, "", control);
+}
+
+/// Checks the status of words without an input, and that they write, or that they are mistaken and tell why.
+fn expect_status<T: Abort + Threads + Wait + Sync>(
+    rt: &T,
+    alloc: Global,
+    words: &[&str],
+    status: u8,
+) {
+    let ended = run_words(rt, alloc, words, &mut OverReader::new(b"".as_slice()));
+    assert_eq!(rt; ended.status, status, "{words:?}");
+    assert_eq!(rt; ended.written.is_empty(), status == 2, "{words:?}");
+    assert_eq!(rt; ended.told.is_empty(), status == 0, "{words:?}");
+}
+
+#[test]
+fn help(rt: HostRuntime) {
+    for words in [
+        ["--help"].as_slice(),
+        ["help"].as_slice(),
+        ["ring", "--help"].as_slice(),
+        ["--version"].as_slice(),
+        ["faults"].as_slice(),
+        ["help", "faults"].as_slice(),
+        ["crew", "--help"].as_slice(),
+        ["combine", "--help"].as_slice(),
+        ["renumber", "--help"].as_slice(),
+    ] {
+        expect_status(&rt, rt.alloc(), words, 0);
+    }
+}
+
+#[test]
+fn mistakes(rt: HostRuntime) {
+    expect_status(&rt, rt.alloc(), &[], 2);
+    for words in [
+        ["ring", "30", "0"].as_slice(),
+        ["fly"].as_slice(),
+        ["crew"].as_slice(),
+        ["crew", "0"].as_slice(),
+        ["crew", "65"].as_slice(),
+        ["check"].as_slice(),
+        ["describe", "fits"].as_slice(),
+        ["combine", "union"].as_slice(),
+        ["combine", "minus", "ascii"].as_slice(),
+        ["draw"].as_slice(),
+        ["degrade", "ascii"].as_slice(),
+        ["complement", "fits"].as_slice(),
+        ["renumber", "nest", "cell", "1"].as_slice(),
+    ] {
+        expect_status(&rt, rt.alloc(), words, 2);
+    }
+}
