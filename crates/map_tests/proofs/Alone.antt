@@ -2,10 +2,10 @@
 use Rattle.std.proofs.Common.{◌≡◌, ℕ, zero, suc, ◌<◌, ◌/◌, ◌&&◌, List, ◌∷◌, [], get_or, replicate, nat_eq, refl, sym, ap, ◌∙◌, arith}
 use Rattle.std.specs.FinSet as set
 use Rattle.std.proofs.lemmas.List.{get_or-replicate}
-use Rattle.moc_ranges.specs.Numbers.{NumberSet}
-use Rattle.moc_ranges.specs.Lemmas.Members.{same_members, contains-part_of}
-use Rattle.moc_ranges.specs.Pixels.{base_pixel_size}
-use Rattle.moc_ranges.specs.Operations.{part_of}
+use Rattle.moc_lists.specs.RangeList.{NumberSet}
+use Rattle.moc_lists.specs.Lemmas.Members.{same_members}
+use Rattle.moc_ranges.specs.Lemmas.Members.{contains-part_of}
+use Rattle.moc_ranges.specs.Operations.{base_pixel_size, part_of}
 use Rattle.moc_parts.specs.Parts.{LieInParts}
 use Rattle.moc_parts.proofs.Members.{has-empty}
 use Rattle.moc_parts.proofs.Drafting.{part_lies}

@@ -1,6 +1,6 @@
 -- What a test concludes of a world that it was handed.
 use Rattle.std.specs.Prelude.{◌≡◌, List}
-use Rattle.moc_ranges.specs.Numbers.{NumberSet}
+use Rattle.moc_lists.specs.RangeList.{NumberSet}
 use Rattle.moc_parts.specs.Batches.{batches}
 use Rattle.moc_parts.specs.declared.command.Command.{Command}
 use Rattle.moc_steps.specs.Machine.{Step}

@@ -4,7 +4,7 @@ use Rattle.std.proofs.lemmas.Bool.Decides.{nat_tests}
 use Rattle.std.specs.Option.{option_or}
 use Rattle.moc_sphere.specs.CellNumber.{cell_count, cell_number, is_uniq}
 use Rattle.moc_ranges.specs.Cells.{pixels_of}
-use Rattle.moc_ranges.specs.Numbers.{NumberSet}
+use Rattle.moc_lists.specs.RangeList.{NumberSet}
 use Rattle.moc_c.specs.Buffers.{cells_fault, cells_say, done_unless, first_failing, is_index, lengths_fault, numbers_fault, numbers_say, uniqs_fault}
 use Rattle.moc_c.specs.Outcomes.{all_well, outcome_of}
 use Rattle.moc_c.specs.declared.outcome.Outcome.{Outcome}

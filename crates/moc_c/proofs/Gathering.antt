@@ -7,7 +7,7 @@ use Rattle.std.proofs.lemmas.List.{drop_all, take_all, take_more}
 use Rattle.std.specs.FinSet as set
 use Rattle.std.specs.List.{AllByRecursion}
 use Rattle.moc_sphere.specs.CellNumber.{CellNumber, cell_number, IsCell, uniq_of}
-use Rattle.moc_ranges.specs.Numbers.{NumberSet}
+use Rattle.moc_lists.specs.RangeList.{NumberSet}
 use Rattle.moc_ranges.specs.Cells.{pixels_of, span}
 use Rattle.moc_ranges.specs.Lemmas.{union-assoc, union-empty, pixels_of-append}
 

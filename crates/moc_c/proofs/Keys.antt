@@ -8,7 +8,7 @@ use Rattle.std.specs.BTreeMap as tree
 use Rattle.std.specs.BTreeMap.{BTreeMap, is_at}
 use Rattle.std.specs.FinMap as map
 use Rattle.std.specs.FinMap.{find}
-use Rattle.moc_ranges.specs.Numbers.{NumberSet}
+use Rattle.moc_lists.specs.RangeList.{NumberSet}
 use Rattle.moc_c.specs.Answers.{Frees}
 use Rattle.moc_c.specs.Contents.{at_key, Contents, without_set}
 use Rattle.moc_c.specs.Private.Storing.{HasNoneFrom}

@@ -2,9 +2,8 @@
 use Rattle.std.proofs.Common.{◌≡◌, ◌<◌, ◌≤◌, [], ◌∷◌, ℕ, Bool, true, false, List, refl, sym, ap, ◌∙◌, arith, nat_le, nat_lt, ◌&&◌, ◌||◌}
 use Rattle.std.proofs.lemmas.Bool.Decides.{nat_tests}
 use Rattle.std.specs.FinSet as set
-use Rattle.moc_ranges.specs.Numbers.{NumberSet}
-use Rattle.moc_ranges.specs.RangeList.{BeginsAfter, IsNormal, set_of}
-use Rattle.moc_ranges.specs.Lemmas.Members.{contains-set_of, in_ranges}
+use Rattle.moc_lists.specs.RangeList.{NumberSet, BeginsAfter, IsNormal, set_of}
+use Rattle.moc_lists.specs.Lemmas.Members.{contains-set_of, in_ranges}
 use Rattle.moc_ranges.specs.Lemmas.Ranges.{in_first, not_before}
 use Rattle.moc_c.specs.Private.Looking.{BeginsFrom, IsRest, Knows}
 

@@ -1,7 +1,7 @@
 -- What calls answer of the sets on a desk, and what they make.
 use Rattle.std.specs.Prelude.{◌≡◌, ℕ, ◌⊎◌, None, Some, Result, Ok, Err, nat_le, if◌then◌else◌}
 use Rattle.std.specs.Option.{ok_or}
-use Rattle.moc_ranges.specs.Numbers.{NumberSet}
+use Rattle.moc_lists.specs.RangeList.{NumberSet}
 use Rattle.moc_c.specs.Contents.{Contents, at_key, with_set, without_set}
 use Rattle.moc_c.specs.Outcomes.{all_well, memory, outcome_of, told}
 use Rattle.moc_c.specs.declared.fault.CallFault.{CallFault}

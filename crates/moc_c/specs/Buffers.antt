@@ -11,9 +11,8 @@ use Rattle.moc_sphere.specs.Touching.{healpy_place, IsNeighbour, touching_cells}
 use Rattle.moc_sphere.specs.declared.direction.Direction.{Direction}
 use Rattle.moc_ranges.specs.Cells.{cells_of, pixels_of}
 use Rattle.moc_ranges.specs.Faults.{first_fault}
-use Rattle.moc_ranges.specs.Numbers.{NumberSet}
+use Rattle.moc_lists.specs.RangeList.{NumberSet, IsNormal, set_of}
 use Rattle.moc_ranges.specs.declared.errors.RangesError.{RangesError}
-use Rattle.moc_ranges.specs.RangeList.{IsNormal, set_of}
 use Rattle.moc_c.specs.Answers.{Makes}
 use Rattle.moc_c.specs.Contents.{Contents}
 use Rattle.moc_c.specs.Outcomes.{all_well, memory, outcome_of, told}

@@ -1,6 +1,6 @@
 -- A client of a map that threads share, with what it needs to make calls.
 use Rattle.std.specs.Prelude.{◌≡◌, ◌++◌, ◌∷◌, [], ℕ, List}
-use Rattle.moc_ranges.specs.Numbers.{NumberSet}
+use Rattle.moc_lists.specs.RangeList.{NumberSet}
 use Rattle.moc_shared.specs.Clients.{AreNewClients, clients_of, start_of}
 use Rattle.moc_shared.specs.declared.client.Client.{Client}
 use Rattle.moc_shared.specs.declared.map.SharedMap.{SharedMap}

@@ -1,7 +1,7 @@
 -- Texts that are read and made.
 use Rattle.std.specs.Prelude.{◌≡◌, ◌⊎◌, ℕ, List, length, nat_eq, nat_le, if◌then◌else◌, Option, None, Some, Result, Ok}
 use Rattle.std.specs.Prelude.{Err}
-use Rattle.moc_ranges.specs.Numbers.{NumberSet}
+use Rattle.moc_lists.specs.RangeList.{NumberSet}
 use Rattle.moc_forms.specs.Describing.{Describes}
 use Rattle.moc_forms.specs.Drawing.{picture_of}
 use Rattle.moc_forms.specs.Forms.{FormFails, FormSays, form_text, IsUnwritten}

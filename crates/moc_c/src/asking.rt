@@ -3,7 +3,7 @@ ghost use Rattle.std.specs.Prelude.{◌≡◌, ◌≤◌, ℕ, List, length, if�
 ghost use Rattle.std.specs.FinSet as set;
 ghost use Rattle.moc_ranges.specs.Cells.{degrade};
 ghost use Rattle.moc_ranges.specs.Operations.{meets};
-ghost use Rattle.moc_ranges.specs.RangeList.{IsNormal, set_of};
+ghost use Rattle.moc_lists.specs.RangeList.{IsNormal, set_of};
 ghost use Rattle.moc_c.specs.Answers.{Answers, IsWhether, set_at, sets_at};
 
 use crate::desk::Desk;

@@ -2,8 +2,7 @@
 ghost use Rattle.std.specs.Prelude.{◌≡◌, Ok, Err};
 ghost use Rattle.std.specs.FinSet as set;
 ghost use Rattle.moc_ranges.specs.Cells.{degrade};
-ghost use Rattle.moc_ranges.specs.Operations.{complement, symmetric};
-ghost use Rattle.moc_ranges.specs.Pixels.{pixels};
+ghost use Rattle.moc_ranges.specs.Operations.{complement, symmetric, pixels};
 ghost use Rattle.moc_forms.specs.Combining.{combined};
 ghost use Rattle.moc_forms.specs.Changing.{changed_set};
 ghost use Rattle.moc_c.specs.Answers.{both, Frees, made_of, Makes, of_two, order_numbered, set_at, sets_at};

@@ -1,6 +1,6 @@
 //! A client of a map, with the pointer to the map that its threads share.
 ghost use Rattle.std.specs.Prelude.{◌≡◌, ◌++◌, ◌∷◌, [], ◌<◌, ◌≤◌, All, IfOk, length};
-ghost use Rattle.moc_ranges.specs.Numbers.{NumberSet};
+ghost use Rattle.moc_lists.specs.RangeList.{NumberSet};
 ghost use Rattle.moc_parts.specs.declared.reply.Reply.TheVariants.{Cover};
 ghost use Rattle.moc_c.specs.Membership.{IsNewMember};
 ghost use Rattle.moc_c.specs.Sharing.{Gives, whole_sky};

@@ -23,7 +23,7 @@ impl Model for Sets {
     ghost use Rattle.std.specs.FinMap as map;
     ghost use Rattle.std.specs.FinSet as set;
     ghost use Rattle.std.specs.Ordering.{nat_cmp};
-    ghost use Rattle.moc_ranges.specs.Numbers.{NumberSet};
+    ghost use Rattle.moc_lists.specs.RangeList.{NumberSet};
 
     ghost Value = { map.FinMap nat_cmp NumberSet };
 

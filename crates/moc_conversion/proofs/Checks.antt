@@ -2,7 +2,7 @@
 use Rattle.std.proofs.Common.{◌≡◌, ◌⊎◌, ◌∙◌, ℕ, List, Option, None, Result, Ok, Err, ap, inl, inr, subst, sym}
 use Rattle.std.specs.Prelude.{IfErr, IsErrAnd, IsOkUnless}
 use Rattle.moc_conversion.specs.Combining.{IsNotCombined}
-use Rattle.moc_ranges.specs.Numbers.{NumberSet}
+use Rattle.moc_lists.specs.RangeList.{NumberSet}
 use Rattle.moc_text.specs.AsciiText.{IsTooCoarse}
 use Rattle.moc_forms.specs.Forms.{FormFails, IsUnwritten}
 use Rattle.moc_forms.specs.Finding.{form_for, hint_of}

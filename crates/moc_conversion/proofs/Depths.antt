@@ -1,7 +1,7 @@
 -- What texts say, and what is made of it, has no cell that is deeper than the order that is stated of it.
 use Rattle.std.proofs.Common.{◌≡◌, ℕ, Bool, true, false, List, [], ◌∷◌, Option, None, Some, sym, ap, ap₂, subst}
 use Rattle.std.specs.Prelude.{⊤, option_map, min, ◌==◌, if◌then◌else◌}
-use Rattle.moc_ranges.specs.Numbers.{NumberSet}
+use Rattle.moc_lists.specs.RangeList.{NumberSet}
 use Rattle.moc_text.specs.Ascii.{deeper}
 use Rattle.moc_text.specs.AsciiText.{IsTooCoarse}
 use Rattle.moc_text.specs.Lemmas.Depths.{HasDepth, not_too_coarse, said_depth, json_depth, union_depth}

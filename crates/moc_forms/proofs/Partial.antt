@@ -7,8 +7,7 @@ use Rattle.std.proofs.lemmas.Bool.{cases_lt, and_parts, eqb-true}
 use Rattle.moc_sphere.specs.CellNumber.{cell_number, cell_size}
 use Rattle.moc_ranges.specs.Cells.{span}
 use Rattle.moc_ranges.specs.Lemmas.Members.{contains-span, meets-none}
-use Rattle.moc_ranges.specs.Numbers.{NumberSet}
-use Rattle.moc_ranges.specs.Pixels.{pixel_count}
+use Rattle.moc_lists.specs.RangeList.{NumberSet, pixel_count}
 use Rattle.moc_forms.specs.Drawing.{Shaded, is_partial, partial_below, partial_mark, shade_of}
 
 -- a cell of order 7 has 4^22 pixels

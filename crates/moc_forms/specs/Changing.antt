@@ -1,7 +1,7 @@
 -- Changes of one set, and the order that is stated of what comes of it.
 use Rattle.std.specs.Prelude.{ℕ, min, Option, option_map}
 use Rattle.moc_ranges.specs.Cells.{degrade}
-use Rattle.moc_ranges.specs.Numbers.{NumberSet}
+use Rattle.moc_lists.specs.RangeList.{NumberSet}
 use Rattle.moc_ranges.specs.Operations.{complement}
 use Rattle.moc_forms.specs.declared.changing.Change.{Change}
 use Rattle.moc_forms.specs.declared.changing.Change.TheVariants.{Degrade, Complement}

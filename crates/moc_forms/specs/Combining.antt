@@ -2,7 +2,7 @@
 use Rattle.std.specs.Prelude.{◌≡◌, ℕ, zero, suc, Bool, if◌then◌else◌, List, [], ◌∷◌, codes, Option, None, Some}
 use Rattle.std.specs.FinSet as set
 use Rattle.std.specs.List.{list_all}
-use Rattle.moc_ranges.specs.Numbers.{NumberSet}
+use Rattle.moc_lists.specs.RangeList.{NumberSet}
 use Rattle.moc_ranges.specs.Operations.{symmetric}
 use Rattle.moc_text.specs.Ascii.{deeper}
 use Rattle.moc_text.specs.Lines.{pieces_of}

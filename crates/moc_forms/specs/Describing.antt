@@ -5,9 +5,7 @@ use Rattle.std.specs.List.{range_with_len}
 use Rattle.std.specs.FinSet as set
 use Rattle.moc_sphere.specs.CellNumber.{CellNumber}
 use Rattle.moc_ranges.specs.Cells.{cells_of}
-use Rattle.moc_ranges.specs.Numbers.{NumberSet}
-use Rattle.moc_ranges.specs.Pixels.{pixel_count}
-use Rattle.moc_ranges.specs.RangeList.{IsNormal, set_of}
+use Rattle.moc_lists.specs.RangeList.{NumberSet, pixel_count, IsNormal, set_of}
 use Rattle.moc_forms.specs.declared.figures.Figures.{Figures}
 
 -- the line of the deepest order that a text names

@@ -8,7 +8,7 @@ use Rattle.std.specs.FinSet as set
 use Rattle.moc_sphere.specs.CellNumber.{CellNumber, cell_number, cell_count}
 use Rattle.moc_sphere.specs.Rings.{row_of, column_of}
 use Rattle.moc_ranges.specs.Cells.{cells_of, span}
-use Rattle.moc_ranges.specs.Numbers.{NumberSet}
+use Rattle.moc_lists.specs.RangeList.{NumberSet}
 use Rattle.moc_ranges.specs.Operations.{meets}
 
 -- a cell that is drawn, and its shade: 1, the lightest, to 4, the darkest

@@ -1,6 +1,6 @@
 -- The text forms of a coverage.
 use Rattle.std.specs.Prelude.{◌≡◌, ◌≢◌, ℕ, List, [], ◌∷◌, ◌++◌, codes, ◌⊎◌, Option, None, Some}
-use Rattle.moc_ranges.specs.Numbers.{NumberSet}
+use Rattle.moc_lists.specs.RangeList.{NumberSet}
 use Rattle.moc_text.specs.Ascii.{Says, IsFirstFault}
 use Rattle.moc_text.specs.AsciiText.{ascii_text, IsTooCoarse}
 use Rattle.moc_text.specs.JsonForm.{SaysJson, IsJsonFault}

@@ -1,6 +1,6 @@
 //! Whether a text is a coverage, and else where it is at fault.
 ghost use Rattle.std.specs.Prelude.{◌≡◌, ◌⊎◌, ℕ, IfErr, IfOk, OnOk, Option, option_map};
-ghost use Rattle.moc_ranges.specs.Numbers.{NumberSet};
+ghost use Rattle.moc_lists.specs.RangeList.{NumberSet};
 ghost use Rattle.moc_forms.specs.Forms.{FormFails, FormSays};
 ghost use Rattle.moc_forms.specs.Places.{IsJsonPlace, IsPlace, byte_place, fault_line, line_bytes};
 ghost use Rattle.moc_text.specs.Places.{fault_byte};

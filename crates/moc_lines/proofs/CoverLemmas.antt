@@ -2,7 +2,7 @@
 use Rattle.std.proofs.Common.{◌≡◌, eqb, false, ◌++◌, codes, None, refl, ap, ◌∙◌}
 use Rattle.std.specs.FinSet as set
 use Rattle.std.specs.Ordering.{nat_cmp}
-use Rattle.moc_ranges.specs.Numbers.{NumberSet}
+use Rattle.moc_lists.specs.RangeList.{NumberSet}
 use Rattle.moc_text.specs.AsciiText.{ascii_text}
 use Rattle.moc_lines.specs.Language.{cover_text}
 use Rattle.moc_lines.proofs.LineLemmas.{not_true}

@@ -10,7 +10,7 @@ use Rattle.moc_lines.specs.declared.fault.LineFault.TheVariants.{BadNumber, Orde
 use Rattle.moc_lines.specs.declared.fault.LineFault.TheVariants.{NoOrder, Backwards, Unfinished, NotUniq, RingTooLarge}
 use Rattle.moc_lines.specs.declared.fault.LineFault.TheVariants.{OtherOrder}
 use Rattle.std.specs.FinSet as set
-use Rattle.moc_ranges.specs.Numbers.{NumberSet}
+use Rattle.moc_lists.specs.RangeList.{NumberSet}
 use Rattle.moc_parts.specs.declared.reply.Reply.{Reply}
 use Rattle.moc_parts.specs.declared.reply.Reply.TheVariants as reply
 use Rattle.moc_text.specs.AsciiText.{ascii_text}

@@ -9,7 +9,7 @@ use Rattle.std.proofs.Math.Nat.{one-le-pow}
 use Rattle.std.proofs.lemmas.Nat.{div_below}
 use Rattle.moc_sphere.specs.CellNumber.{CellNumber, cell_number, cell_size, IsCell}
 use Rattle.moc_sphere.specs.Faces.{face_of}
-use Rattle.moc_ranges.specs.Pixels.{base_pixel_size}
+use Rattle.moc_ranges.specs.Operations.{base_pixel_size}
 use Rattle.moc_ranges.specs.Cells.{span, spans, pixels_of}
 use Rattle.moc_ranges.specs.Lemmas.Members.{contains-span}
 use Rattle.moc_ranges.specs.Lemmas.{spans-one, empty-union, union-empty, pixels_of-append}

@@ -3,10 +3,9 @@ use Rattle.std.proofs.Common.{◌≡◌, ℕ, ◌/◌, ◌<◌, true, false, inl
 use Rattle.moc_parts.specs.Prepared.{AreRepliesTo, IsToldBy}
 use Rattle.std.specs.FinSet as set
 use Rattle.std.proofs.lemmas.Bool.{cases_Bool}
-use Rattle.moc_ranges.specs.Numbers.{NumberSet}
-use Rattle.moc_ranges.specs.Lemmas.Members.{same_members}
-use Rattle.moc_ranges.specs.Pixels.{pixels, base_pixel_size}
-use Rattle.moc_ranges.specs.Operations.{IsWithin, part_of}
+use Rattle.moc_lists.specs.RangeList.{NumberSet}
+use Rattle.moc_lists.specs.Lemmas.Members.{same_members}
+use Rattle.moc_ranges.specs.Operations.{pixels, base_pixel_size, IsWithin, part_of}
 use Rattle.moc_parts.specs.Objects.{IsLocal, AgreeOn, base_pixel}
 use Rattle.moc_parts.specs.declared.command.Command.{Command}
 use Rattle.moc_parts.specs.declared.reply.Reply.{Reply}

@@ -2,9 +2,8 @@
 use Rattle.std.proofs.Common.{◌≡◌, ℕ, zero, suc, ◌+◌, ◌-◌, ◌<◌, ◌≤◌, false, List, [], ◌∷◌, refl, sym, ap, ◌∙◌, arith}
 use Rattle.std.specs.Prelude.{None}
 use Rattle.std.specs.FinSet as set
-use Rattle.moc_ranges.specs.Numbers.{NumberSet}
-use Rattle.moc_ranges.specs.Pixels.{pixels}
-use Rattle.moc_ranges.specs.Operations.{part_of, symmetric, IsWithin}
+use Rattle.moc_lists.specs.RangeList.{NumberSet}
+use Rattle.moc_ranges.specs.Operations.{pixels, part_of, symmetric, IsWithin}
 use Rattle.moc_parts.specs.Parts.{rising_parts}
 use Rattle.moc_parts.specs.Lemmas.{IsAhead, all_ahead, next_ahead, none_ahead}
 use Rattle.moc_parts.specs.declared.change.Change.{Change}

@@ -2,10 +2,10 @@
 use Rattle.std.proofs.Common.{◌≡◌, ℕ, ◌+◌, ◌-◌, ◌*◌, ◌/◌, ◌^◌, ◌≤◌, true, nat_lt, sym, ap, ◌∙◌, arith, eq-eqb, eqb-true, pow-add}
 use native.Mathlib.Nat.{div-div-eq-div-mul}
 use Rattle.std.specs.FinSet as set
-use Rattle.moc_ranges.specs.Numbers.{NumberSet}
-use Rattle.moc_ranges.specs.Lemmas.Members.{same_members, meets-some, contains-span, contains-degrade}
-use Rattle.moc_ranges.specs.Pixels.{pixel_count, base_pixel_size}
-use Rattle.moc_ranges.specs.Operations.{part_of}
+use Rattle.moc_lists.specs.RangeList.{NumberSet, pixel_count}
+use Rattle.moc_lists.specs.Lemmas.Members.{same_members}
+use Rattle.moc_ranges.specs.Lemmas.Members.{meets-some, contains-span, contains-degrade}
+use Rattle.moc_ranges.specs.Operations.{base_pixel_size, part_of}
 use Rattle.moc_sphere.specs.CellNumber.{cell_size}
 use Rattle.moc_ranges.specs.Cells.{span, degrade}
 use Rattle.moc_parts.proofs.Members.{and_true, both, same_test, meets_at, in_part, of_part}

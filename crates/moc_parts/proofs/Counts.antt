@@ -4,12 +4,12 @@ use Rattle.std.specs.Ordering.{nat_cmp}
 use Rattle.std.proofs.lemmas.Bool.{cases_Bool}
 use Rattle.moc_parts.specs.Commands.{parts_met}
 use Rattle.std.specs.FinSet as set
-use Rattle.moc_ranges.specs.Numbers.{NumberSet}
-use Rattle.moc_ranges.specs.Lemmas.Members.{same_members, contains-pixels, contains-part_of}
-use Rattle.moc_ranges.specs.Pixels.{pixels, base_pixel_size}
-use Rattle.moc_ranges.specs.Operations.{IsWithin, meets, part_of}
+use Rattle.moc_lists.specs.RangeList.{NumberSet}
+use Rattle.moc_lists.specs.Lemmas.Members.{same_members}
+use Rattle.moc_ranges.specs.Lemmas.Members.{contains-pixels, contains-part_of}
+use Rattle.moc_ranges.specs.Operations.{pixels, base_pixel_size, IsWithin, meets, part_of}
 use Rattle.moc_ranges.specs.Cells.{degrade}
-use Rattle.moc_ranges.specs.Lemmas.Sizes.{len_parts}
+use Rattle.moc_lists.specs.Lemmas.Sizes.{len_parts}
 use Rattle.moc_parts.proofs.Members.{has-intersection, and_true, both, same_test}
 use Rattle.moc_parts.proofs.Coarse.{to_degrade}
 

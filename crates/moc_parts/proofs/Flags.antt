@@ -8,7 +8,7 @@ use Rattle.std.specs.FinSet as set
 use Rattle.std.proofs.lemmas.Bool.{cases_eq, cases_lt, lt-ltb}
 use Rattle.std.proofs.lemmas.Bool.Decides.{nat_tests}
 use Rattle.std.proofs.lemmas.List.{get_or-replicate, get_or-set_same, get_or-set_other}
-use Rattle.moc_ranges.specs.Lemmas.Members.{same_members, contains-kept}
+use Rattle.moc_lists.specs.Lemmas.Members.{same_members, contains-kept}
 use Rattle.moc_parts.specs.Private.PartSets.{flagged, flags_of, contains-flagged, contains-flagged_below, flags_of-flagged}
 
 -- one flag set is one part put in

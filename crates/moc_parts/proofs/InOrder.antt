@@ -1,8 +1,7 @@
 -- Commands in order, one more at the end.
 use Rattle.std.proofs.Common.{◌≡◌, ◌<◌, ℕ, zero, suc, List, [], ◌∷◌, ◌++◌, length, get_or, refl, sym, ap, subst, arith}
-use Rattle.moc_ranges.specs.Numbers.{NumberSet}
-use Rattle.moc_ranges.specs.Pixels.{pixels}
-use Rattle.moc_ranges.specs.Operations.{IsWithin}
+use Rattle.moc_lists.specs.RangeList.{NumberSet}
+use Rattle.moc_ranges.specs.Operations.{pixels, IsWithin}
 use Rattle.moc_parts.specs.Commands.{set_after, reply_on, operand_set, IsCommand, IsOperand}
 use Rattle.moc_parts.specs.Batches.{set_after_all, replies_on, AreCommands}
 use Rattle.moc_parts.specs.declared.command.Operand.{Operand}

@@ -4,10 +4,10 @@ use Rattle.std.specs.FinSet as set
 use Rattle.std.proofs.lemmas.Bool.{cases_Bool}
 use Rattle.std.specs.Option.{option_map_or}
 use Rattle.moc_sphere.specs.CellNumber.{CellNumber, IsCell}
-use Rattle.moc_ranges.specs.Numbers.{NumberSet}
-use Rattle.moc_ranges.specs.Lemmas.Members.{same_members, contains-pixels, contains-complement}
-use Rattle.moc_ranges.specs.Pixels.{pixels, pixel_count, base_pixel_size}
-use Rattle.moc_ranges.specs.Operations.{IsWithin, part_of, meets}
+use Rattle.moc_lists.specs.RangeList.{NumberSet, pixel_count}
+use Rattle.moc_lists.specs.Lemmas.Members.{same_members}
+use Rattle.moc_ranges.specs.Lemmas.Members.{contains-pixels, contains-complement}
+use Rattle.moc_ranges.specs.Operations.{pixels, base_pixel_size, IsWithin, part_of, meets}
 use Rattle.moc_ranges.specs.Cells.{degrade}
 use Rattle.moc_parts.specs.Objects.{Object, IsLocal, AgreeOn, base_pixel}
 use Rattle.moc_parts.specs.declared.command.Operand.{Operand}

@@ -5,10 +5,10 @@ use Rattle.std.specs.Ordering.{nat_cmp, eq_by_cmp}
 use Rattle.std.specs.List.{list_any}
 use Rattle.std.specs.FinSet as set
 use Rattle.std.proofs.lemmas.Bool.{cases_lt, lt-ltb}
-use Rattle.moc_ranges.specs.Numbers.{NumberSet}
-use Rattle.moc_ranges.specs.Lemmas.Members.{same_members, contains-part_of}
-use Rattle.moc_ranges.specs.Pixels.{base_pixel_size}
-use Rattle.moc_ranges.specs.Operations.{part_of, meets}
+use Rattle.moc_lists.specs.RangeList.{NumberSet}
+use Rattle.moc_lists.specs.Lemmas.Members.{same_members}
+use Rattle.moc_ranges.specs.Lemmas.Members.{contains-part_of}
+use Rattle.moc_ranges.specs.Operations.{base_pixel_size, part_of, meets}
 
 pub has-union : (a b : NumberSet) (q : ℕ) → set.contains (set.union a b) q ≡ (set.contains a q || set.contains b q)
 has-union a b q = set.contains-union nat_cmp_total a b q

@@ -4,10 +4,10 @@ use Rattle.std.specs.Prelude.{is_some, nat_eq, nat_lt, set as set_at}
 use Rattle.std.specs.FinSet as set
 use Rattle.std.proofs.lemmas.Bool.{cases_Bool, cases_eq}
 use Rattle.std.proofs.lemmas.Bool.Decides.{nat_tests}
-use Rattle.moc_ranges.specs.Numbers.{NumberSet}
-use Rattle.moc_ranges.specs.Lemmas.Members.{same_members, contains-kept, contains-part_of}
-use Rattle.moc_ranges.specs.Pixels.{base_pixel_size, pixels}
-use Rattle.moc_ranges.specs.Operations.{part_of, IsWithin}
+use Rattle.moc_lists.specs.RangeList.{NumberSet}
+use Rattle.moc_lists.specs.Lemmas.Members.{same_members, contains-kept}
+use Rattle.moc_ranges.specs.Lemmas.Members.{contains-part_of}
+use Rattle.moc_ranges.specs.Operations.{base_pixel_size, pixels, part_of, IsWithin}
 use Rattle.moc_parts.specs.Commands.{parts_met}
 use Rattle.moc_parts.specs.Parts.{union_of, parts_below, AreParts}
 use Rattle.moc_parts.specs.Private.Drafts.{with_part}

@@ -3,14 +3,12 @@ use Rattle.std.proofs.Common.{◌≡◌, ℕ, zero, suc, ◌+◌, ◌-◌, ◌/�
 use Rattle.std.proofs.lemmas.Bool.{lt-ltb}
 use Rattle.std.proofs.lemmas.Bool.Decides.{nat_tests}
 use Rattle.std.specs.FinSet as set
-use Rattle.moc_ranges.specs.Numbers.{NumberSet}
-use Rattle.moc_ranges.specs.Lemmas.Members.{same_members, contains-part_of, contains-pixels, meets-some, in_ranges}
-use Rattle.moc_ranges.specs.Lemmas.Members.{contains-set_of}
-use Rattle.moc_ranges.specs.Pixels.{pixels, pixel_count, base_pixel_size}
-use Rattle.moc_ranges.specs.Operations.{part_of, meets, IsWithin}
-use Rattle.moc_ranges.specs.Lemmas.Sizes.{len_parts}
-use Rattle.moc_ranges.specs.RangeList.{IsNormal, set_of}
-use Rattle.moc_ranges.specs.Lemmas.Ranges.{len_bounded}
+use Rattle.moc_lists.specs.RangeList.{NumberSet, pixel_count, IsNormal, set_of}
+use Rattle.moc_lists.specs.Lemmas.Members.{same_members, in_ranges, contains-set_of}
+use Rattle.moc_ranges.specs.Lemmas.Members.{contains-part_of, contains-pixels, meets-some}
+use Rattle.moc_ranges.specs.Operations.{pixels, base_pixel_size, part_of, meets, IsWithin}
+use Rattle.moc_lists.specs.Lemmas.Sizes.{len_parts}
+use Rattle.moc_lists.specs.Lemmas.Ranges.{len_bounded}
 use Rattle.std.specs.Cmp.{nat_cmp_total}
 use Rattle.std.specs.Ordering.{nat_cmp}
 use Rattle.moc_parts.specs.Commands.{parts_met}

@@ -3,12 +3,12 @@ use Rattle.std.proofs.Common.{◌≡◌, ℕ, ◌+◌, ◌-◌, ◌/◌, Bool, t
 use Rattle.std.specs.Prelude.{None}
 use Rattle.std.specs.Ordering.{nat_cmp}
 use Rattle.std.specs.FinSet as set
-use Rattle.moc_ranges.specs.Numbers.{NumberSet}
-use Rattle.moc_ranges.specs.Lemmas.Members.{same_members, contains-complement, contains-part_of, contains-symmetric}
-use Rattle.moc_ranges.specs.Pixels.{pixels, pixel_count, base_pixel_size}
-use Rattle.moc_ranges.specs.Operations.{complement, part_of, symmetric, IsWithin}
+use Rattle.moc_lists.specs.RangeList.{NumberSet, pixel_count}
+use Rattle.moc_lists.specs.Lemmas.Members.{same_members}
+use Rattle.moc_ranges.specs.Lemmas.Members.{contains-complement, contains-part_of, contains-symmetric}
+use Rattle.moc_ranges.specs.Operations.{pixels, base_pixel_size, complement, part_of, symmetric, IsWithin}
 use Rattle.moc_ranges.specs.Cells.{degrade}
-use Rattle.moc_ranges.specs.Lemmas.Sizes.{len_parts}
+use Rattle.moc_lists.specs.Lemmas.Sizes.{len_parts}
 use Rattle.moc_parts.specs.declared.change.Altered.{Altered}
 use Rattle.moc_parts.specs.Private.Changes.{Alters}
 use Rattle.moc_parts.proofs.Members.{has-union, has-intersection, has-difference, has-empty, and_true, or_true}

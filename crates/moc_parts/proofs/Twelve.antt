@@ -5,11 +5,11 @@ use Rattle.std.proofs.lemmas.List.{ext_get_or, get_or_append_left}
 use Rattle.std.proofs.lemmas.Bool.Decides.{nat_tests}
 use Rattle.std.specs.Ordering.{nat_cmp}
 use Rattle.std.specs.FinSet as set
-use Rattle.moc_ranges.specs.Numbers.{NumberSet}
-use Rattle.moc_ranges.specs.Lemmas.Members.{same_members, contains-kept, contains-part_of, contains-pixels}
+use Rattle.moc_lists.specs.RangeList.{NumberSet}
+use Rattle.moc_lists.specs.Lemmas.Members.{same_members, contains-kept}
+use Rattle.moc_ranges.specs.Lemmas.Members.{contains-part_of, contains-pixels}
 use Rattle.moc_ranges.specs.Lemmas.{in_base_pixels, is_pixel}
-use Rattle.moc_ranges.specs.Pixels.{pixels, base_pixel_size}
-use Rattle.moc_ranges.specs.Operations.{part_of, IsWithin}
+use Rattle.moc_ranges.specs.Operations.{pixels, base_pixel_size, part_of, IsWithin}
 use Rattle.moc_parts.specs.Objects.{base_pixel}
 use Rattle.moc_parts.specs.Parts.{union_of, parts_below, AreParts, LieInParts}
 use Rattle.moc_parts.proofs.Members.{has-union, has-empty, and_true, or_true, or_left, or_right, both, same_test, clash, in_part, of_part}

@@ -1,7 +1,7 @@
 -- Batches: commands that are done in order, as one operation.
 use Rattle.std.specs.Prelude.{ℕ, Bool, List, [], ◌∷◌, fold}
 use Rattle.std.specs.List.{list_any, AllByRecursion}
-use Rattle.moc_ranges.specs.Numbers.{NumberSet}
+use Rattle.moc_lists.specs.RangeList.{NumberSet}
 use Rattle.moc_parts.specs.Objects.{Object}
 use Rattle.moc_parts.specs.Commands.{footprint, set_after, reply_on, IsCommand}
 use Rattle.moc_parts.specs.declared.command.Command.{Command}

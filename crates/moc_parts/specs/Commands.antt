@@ -7,9 +7,8 @@ use Rattle.std.specs.Option.{option_map_or}
 use Rattle.moc_sphere.specs.CellNumber.{CellNumber, cell_number, IsCell}
 use Rattle.moc_sphere.specs.Faces.{face_of}
 use Rattle.moc_sphere.specs.Touching.{touching_cells}
-use Rattle.moc_ranges.specs.Numbers.{NumberSet}
-use Rattle.moc_ranges.specs.Pixels.{pixel_count, pixels}
-use Rattle.moc_ranges.specs.Operations.{complement, part_of, meets, IsWithin}
+use Rattle.moc_lists.specs.RangeList.{NumberSet, pixel_count}
+use Rattle.moc_ranges.specs.Operations.{pixels, complement, part_of, meets, IsWithin}
 use Rattle.moc_ranges.specs.Cells.{degrade, pixels_of}
 use Rattle.moc_parts.specs.Objects.{Object}
 use Rattle.moc_parts.specs.declared.command.Operand.{Operand}

@@ -2,9 +2,8 @@
 use Rattle.std.specs.Prelude.{◌≡◌, ◌<◌, ℕ, false, List, ◌∷◌, get_or, length}
 use Rattle.std.specs.List.{list_any}
 use Rattle.std.specs.FinSet as set
-use Rattle.moc_ranges.specs.Numbers.{NumberSet}
-use Rattle.moc_ranges.specs.Operations.{part_of, IsWithin}
-use Rattle.moc_ranges.specs.Pixels.{pixels}
+use Rattle.moc_lists.specs.RangeList.{NumberSet}
+use Rattle.moc_ranges.specs.Operations.{part_of, IsWithin, pixels}
 use Rattle.moc_parts.specs.Objects.{base_pixel, IsLocal}
 use Rattle.moc_parts.specs.Commands.{commands, is_update, operand_set, parts_met, IsCommand, IsOperand}
 use Rattle.moc_parts.specs.Batches.{batches, set_after_all, AreCommands}

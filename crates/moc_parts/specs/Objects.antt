@@ -1,9 +1,8 @@
 -- A sequential object on one set of pixels: what an operation answers, and in which of the twelve parts it looks.
 use Rattle.std.specs.Prelude.{◌≡◌, ℕ, ◌/◌, ◌<◌, Bool, true, false}
 use Rattle.std.specs.FinSet as set
-use Rattle.moc_ranges.specs.Numbers.{NumberSet}
-use Rattle.moc_ranges.specs.Pixels.{base_pixel_size, pixels}
-use Rattle.moc_ranges.specs.Operations.{IsWithin}
+use Rattle.moc_lists.specs.RangeList.{NumberSet}
+use Rattle.moc_ranges.specs.Operations.{base_pixel_size, pixels, IsWithin}
 
 -- the base pixel that a pixel lies in
 unfoldable pub base_pixel : ℕ → ℕ

@@ -3,9 +3,8 @@ use Rattle.std.specs.Prelude.{◌≡◌, ◌<◌, ℕ, Bool, true, false, get_or
 use Rattle.std.specs.Borrow.{Bor}
 use Rattle.std.specs.Option.{option_copied, unwrap_or}
 use Rattle.std.specs.FinSet as set
-use Rattle.moc_ranges.specs.Numbers.{NumberSet}
-use Rattle.moc_ranges.specs.Pixels.{pixels}
-use Rattle.moc_ranges.specs.Operations.{IsWithin, part_of}
+use Rattle.moc_lists.specs.RangeList.{NumberSet}
+use Rattle.moc_ranges.specs.Operations.{pixels, IsWithin, part_of}
 use Rattle.moc_parts.specs.Objects.{AgreeOn, base_pixel}
 use Rattle.moc_parts.specs.Batches.{set_after_all, replies_on, footprint_of_all}
 use Rattle.moc_parts.specs.declared.command.Command.{Command}

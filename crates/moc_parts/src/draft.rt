@@ -1,8 +1,7 @@
 //! A set in twelve parts while a batch is done on it.
 ghost use Rattle.std.specs.Prelude.{◌≡◌, ◌<◌, ℕ, IfOk, OnOk, None, get_or, length};
 ghost use Rattle.std.specs.FinSet as set;
-ghost use Rattle.moc_ranges.specs.Operations.{meets, part_of, symmetric, IsWithin};
-ghost use Rattle.moc_ranges.specs.Pixels.{pixels};
+ghost use Rattle.moc_ranges.specs.Operations.{meets, part_of, symmetric, IsWithin, pixels};
 ghost use Rattle.moc_parts.specs.Private.Changes.{changed, IsChange};
 ghost use Rattle.moc_parts.specs.Commands.{parts_met};
 ghost use Rattle.moc_parts.specs.Private.Drafts.{current_lists, sets_of, with_part};

@@ -2,8 +2,7 @@
 ghost use Rattle.std.specs.Prelude.{◌≡◌, ◌<◌, ℕ, nat_eq, IfSome};
 ghost use Rattle.std.specs.FinSet as set;
 ghost use Rattle.moc_parts.specs.Commands.{parts_around, parts_met};
-ghost use Rattle.moc_ranges.specs.Operations.{part_of, IsWithin};
-ghost use Rattle.moc_ranges.specs.Pixels.{pixels};
+ghost use Rattle.moc_ranges.specs.Operations.{part_of, IsWithin, pixels};
 ghost use Rattle.moc_sphere.specs.Faces.{face_of};
 
 use crate::part::{Part, PartSet};

@@ -17,7 +17,7 @@ impl Model for Lists {
     ghost use Rattle.std.specs.Prelude.{List, Option};
     ghost use Rattle.std.specs.Coded.{coded_list, coded_option, coded_ℕ};
     ghost use Rattle.std.specs.FinSet as set;
-    ghost use Rattle.moc_ranges.specs.Numbers.{NumberSet};
+    ghost use Rattle.moc_lists.specs.RangeList.{NumberSet};
     ghost use Rattle.moc_parts.specs.Private.Drafts.{twelve_lists};
 
     ghost Value = { List (Option NumberSet) };

@@ -1,8 +1,7 @@
 //! A set of pixels in twelve parts.
 ghost use Rattle.std.specs.Prelude.{◌≡◌, ◌<◌, [], ◌∷◌, IfOk, MatchOption, OnOk, OnErr, length};
 ghost use Rattle.std.specs.FinSet as set;
-ghost use Rattle.moc_ranges.specs.Operations.{part_of, IsWithin};
-ghost use Rattle.moc_ranges.specs.Pixels.{pixels};
+ghost use Rattle.moc_ranges.specs.Operations.{part_of, IsWithin, pixels};
 ghost use Rattle.moc_parts.specs.Batches.{replies_on, set_after_all};
 ghost use Rattle.moc_parts.specs.Commands.{operand_set, reply_on, set_after};
 ghost use Rattle.moc_parts.specs.declared.reply.Reply.TheVariants as reply;

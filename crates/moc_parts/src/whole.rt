@@ -1,7 +1,6 @@
 //! A set cut into its twelve parts, and put together from them.
 ghost use Rattle.std.specs.Prelude.{◌≡◌, IfOk, OnOk};
-ghost use Rattle.moc_ranges.specs.Operations.{IsWithin};
-ghost use Rattle.moc_ranges.specs.Pixels.{pixels};
+ghost use Rattle.moc_ranges.specs.Operations.{IsWithin, pixels};
 ghost use Rattle.moc_parts.specs.Parts.{parts_below, union_of};
 ghost use Rattle.moc_parts.specs.Prepared.{found_sets};
 

@@ -1,25 +1,11 @@
 -- Nodes and blocks that are carried over.
-use Rattle.std.proofs.Common.{◌≡◌, ℕ, ◌<◌, List, [], ◌++◌, length, refl, sym, ap, subst, ◌∙◌, arith, append_assoc}
-use Rattle.moc_ranges.specs.RangeList.{IsNormal}
-use Rattle.moc_ranges.specs.Private.Blocks.{last_of, next_of}
-use Rattle.moc_ranges.specs.Private.Built.{EndsBelow, CanCarry, Carries}
-use Rattle.moc_ranges.proofs.Blocking.{IsNormal-prefix, IsNormal-suffix, nothing_more}
-use Rattle.moc_ranges.proofs.Merging.{normal_append, ends_by_last, ends_next, next_append, next_later, EndsBelow-append, EndsBelow-more}
-
--- what comes next in a list can stand behind what is built
-pub carry_room : (kept xs block xs' : List (ℕ × ℕ)) → IsNormal kept → IsNormal xs → xs ≡ block ++ xs' → 0 < length block → EndsBelow (next_of xs) kept → IsNormal (kept ++ block)
-carry_room kept xs block xs' built normal parts some after =
-    normal_append kept block built (IsNormal-prefix block xs' (subst IsNormal parts normal))
-    (subst (λ f. EndsBelow f kept) (ap next_of parts ∙ next_append block xs' some) after)
-
-pub carries_one : (ks ks' xs block xs' : List (ℕ × ℕ)) (limit : ℕ) → IsNormal xs → xs ≡ block ++ xs' → last_of block < limit → IsNormal ks' → ks' ≡ ks ++ block → Carries xs xs' limit ks ks'
-carries_one ks ks' xs block xs' limit normal parts below built kept = record {
-  gone = block;
-  parts = parts;
-  below = ends_by_last limit block (IsNormal-prefix block xs' (subst IsNormal parts normal)) below;
-  built = built;
-  kept = kept;
-}
+use Rattle.std.proofs.Common.{ℕ, List, [], ◌++◌, refl, sym, ap, subst, ◌∙◌, arith, append_assoc}
+use Rattle.moc_lists.specs.RangeList.{IsNormal}
+use Rattle.moc_lists.specs.Private.Blocks.{next_of}
+use Rattle.moc_lists.specs.Private.Built.{EndsBelow, CanCarry, Carries}
+use Rattle.moc_lists.proofs.Blocking.{IsNormal-suffix, nothing_more}
+use Rattle.moc_lists.proofs.Merging.{ends_next, EndsBelow-append, EndsBelow-more}
+use Rattle.moc_ranges.proofs.Merging.{next_later}
 
 pub carries_none : (ks xs : List (ℕ × ℕ)) (limit : ℕ) → IsNormal ks → Carries xs xs limit ks ks
 carries_none ks xs limit built = record { gone = []; parts = refl; below = tt; built = built; kept = sym (nothing_more ks) }

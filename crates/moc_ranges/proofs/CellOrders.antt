@@ -1,21 +1,24 @@
 -- Which orders the cells of a set can have: none whose cells are wider than its widest range, and none whose parents' sizes divide all bounds.
-use Rattle.std.proofs.Common.{◌≡◌, ℕ, zero, suc, ◌+◌, ◌-◌, ◌*◌, ◌/◌, ◌%◌, ◌^◌, ◌<◌, ◌≤◌, Bool, true, false, not, ◌&&◌, ◌||◌, List, [], ◌∷◌, ◌++◌, min, max, refl, sym, ap, subst, ◌∙◌, inl, inr, arith, map, append-nil, ◌⊎◌}
+use Rattle.std.proofs.Common.{◌≡◌, ℕ, zero, suc, ◌+◌, ◌-◌, ◌*◌, ◌/◌, ◌%◌, ◌^◌, ◌<◌, ◌≤◌, Bool, true, false, not, ◌&&◌}
+use Rattle.std.proofs.Common.{◌||◌, List, [], ◌∷◌, ◌++◌, min, max, refl, sym, ap, subst, ◌∙◌, inl, inr, arith, map}
+use Rattle.std.proofs.Common.{append-nil, ◌⊎◌}
 use Rattle.std.specs.Prelude.{nat_eq, bit_or, ⊤}
 use Rattle.std.specs.List.{list_any, filter, range_with_len}
 use Rattle.std.proofs.lemmas.List.Elements.{filter-append}
 use Rattle.std.specs.Int.{w64, trailing_zeros, bit_at}
-use Rattle.std.proofs.lemmas.Bool.{cases_lt, or_cases, or_left, or_right, or_from, and_parts, false≢true, ne_eqb, false_from_ne_true}
+use Rattle.std.proofs.lemmas.Bool.{cases_lt, or_cases, or_left, or_right, or_from, and_parts, false≢true, ne_eqb}
+use Rattle.std.proofs.lemmas.Bool.{false_from_ne_true}
 use Rattle.std.proofs.lemmas.Nat.{div-add-mod', mod-pow-add, or_mod, le_or_l, le_or_r}
 use Rattle.std.proofs.lemmas.Nat.Bits.{bit_at-trailing_zeros}
 use Rattle.std.proofs.Math.Nat.{mul-le-mul_right, le_of_mul-le-mul_right, pow-le-pow_right, pow-succ'}
 use Rattle.moc_sphere.specs.CellNumber.{cell_number, cell_count, cell_size}
 use Rattle.moc_sphere.specs.Lemmas.{cell_size-positive}
-use Rattle.moc_ranges.specs.RangeList.{set_of, IsNormal}
+use Rattle.moc_lists.specs.RangeList.{set_of, IsNormal, NumberSet}
 use Rattle.moc_ranges.specs.Cells.{is_cell_of, cells_below, cells_of}
-use Rattle.moc_ranges.specs.Numbers.{NumberSet}
 use Rattle.moc_ranges.specs.Lemmas.Cells.{four_parts}
 use Rattle.moc_ranges.specs.Private.CellRuns.{HasOrders, cells_at}
-use Rattle.moc_ranges.proofs.CellRuns.{fits, fits_any, fits_from, fits_parts, is_part, part_at, is_cell_any, two_pow, filter-map, filter_none}
+use Rattle.moc_ranges.proofs.CellRuns.{fits, fits_any, fits_from, fits_parts, is_part, part_at, is_cell_any, two_pow}
+use Rattle.moc_ranges.proofs.CellRuns.{filter-map, filter_none}
 
 -- both bounds of each range are multiples of n
 abbrev pub AllMultiples : ℕ → List (ℕ × ℕ) → Type 0
@@ -34,9 +37,6 @@ pub record Scanning (ends widest : ℕ) (rest whole : List (ℕ × ℕ)) : Type 
   pub normal : IsNormal rest
   pub multiples : (s : ℕ) → ends % 2 ^ s ≡ 0 → AllMultiples (2 ^ s) rest → AllMultiples (2 ^ s) whole
   pub narrow : (n : ℕ) → widest ≤ n → AllNarrow n rest → AllNarrow n whole
-
-pub scan_start : (rs : List (ℕ × ℕ)) → IsNormal rs → Scanning 0 0 rs rs
-scan_start rs normal = record { normal = normal; multiples = λ s none all. all; narrow = λ n le all. all }
 
 pub or_multiple : (a b s : ℕ) → bit_or a b % 2 ^ s ≡ 0 → (a % 2 ^ s ≡ 0) × (b % 2 ^ s ≡ 0)
 or_multiple a b s none =

@@ -1,5 +1,7 @@
 -- The cells of an order of ranges are those of their pieces, which are a normal list.
-use Rattle.std.proofs.Common.{◌≡◌, ℕ, zero, suc, ◌+◌, ◌-◌, ◌*◌, ◌/◌, ◌<◌, ◌≤◌, Bool, true, false, cond, ◌&&◌, List, [], ◌∷◌, ◌++◌, length, take, get_or, map, refl, sym, ap, subst, ◌∙◌, inl, inr, arith, append-nil, append_assoc, eqb}
+use Rattle.std.proofs.Common.{◌≡◌, ℕ, zero, suc, ◌+◌, ◌-◌, ◌*◌, ◌/◌, ◌<◌, ◌≤◌, Bool, true, false, cond, ◌&&◌, List, []}
+use Rattle.std.proofs.Common.{◌∷◌, ◌++◌, length, take, get_or, map, refl, sym, ap, subst, ◌∙◌, inl, inr, arith}
+use Rattle.std.proofs.Common.{append-nil, append_assoc, eqb}
 use Rattle.std.specs.Prelude.{nat_lt}
 use Rattle.std.specs.List.{filter, range_with_len, AllByRecursion}
 use Rattle.std.proofs.lemmas.Bool.{cases_lt, and_parts, and_from, lt-ltb, ltb-true, le-ltb, eq-eqb, ne_eqb}
@@ -8,14 +10,14 @@ use Rattle.std.proofs.lemmas.List.Elements.{filter-append}
 use Rattle.std.proofs.lemmas.Nat.{div-add-mod', mod_below, div_below}
 use Rattle.moc_sphere.specs.CellNumber.{CellNumber, cell_number, cell_count, cell_size, IsCell}
 use Rattle.moc_sphere.specs.Lemmas.{cell_size-positive}
-use Rattle.moc_ranges.specs.Numbers.{NumberSet}
-use Rattle.moc_ranges.specs.Pixels.{pixel_count}
-use Rattle.moc_ranges.specs.RangeList.{set_of, IsNormal, BeginsAfter}
+use Rattle.moc_lists.specs.RangeList.{NumberSet, pixel_count, set_of, IsNormal, BeginsAfter}
 use Rattle.moc_ranges.specs.Cells.{AreOfOrders, cells_in, cells_of, cells_of_range, cells_below, is_cell_of}
 use Rattle.moc_ranges.specs.Lemmas.Cells.{cells_are, four_parts}
-use Rattle.moc_ranges.specs.Private.CellRuns.{ahead_of, around_parents, AreWhole, HasOrders, cells_at, filled, pieces_along, pieces_of, whole_in}
+use Rattle.moc_ranges.specs.Private.CellRuns.{ahead_of, around_parents, AreWhole, HasOrders, cells_at, filled}
+use Rattle.moc_ranges.specs.Private.CellRuns.{pieces_along, pieces_of, whole_in}
 use Rattle.moc_ranges.specs.Private.Meeting.{kept_if}
-use Rattle.moc_ranges.proofs.CellRuns.{cells_split, count_bound, four_children, no_cells, run_one, run_top, run_two, whole_is}
+use Rattle.moc_ranges.proofs.CellRuns.{cells_split, count_bound, four_children, no_cells, run_one, run_top, run_two}
+use Rattle.moc_ranges.proofs.CellRuns.{whole_is}
 use Rattle.moc_ranges.proofs.CellOrders.{cells_step}
 
 -- ---- the cells of pieces

@@ -1,10 +1,13 @@
 -- The cells of one order of a set are, range after range, those that lie whole in the range while their parent does not.
-use Rattle.std.proofs.Common.{◌≡◌, ℕ, zero, suc, ◌+◌, ◌-◌, ◌*◌, ◌/◌, ◌^◌, ◌<◌, ◌≤◌, Bool, true, false, cond, not, ◌&&◌, ◌||◌, List, [], ◌∷◌, ◌++◌, map, refl, sym, ap, ◌∙◌, inl, inr, arith}
+use Rattle.std.proofs.Common.{◌≡◌, ℕ, zero, suc, ◌+◌, ◌-◌, ◌*◌, ◌/◌, ◌^◌, ◌<◌, ◌≤◌, Bool, true, false, cond, not, ◌&&◌}
+use Rattle.std.proofs.Common.{◌||◌, List, [], ◌∷◌, ◌++◌, map, refl, sym, ap, ◌∙◌, inl, inr, arith}
 use Rattle.std.specs.Prelude.{nat_eq, nat_le, nat_lt}
 use Rattle.std.specs.FinSet as set
 use Rattle.std.specs.Cmp.{nat_cmp_total}
 use Rattle.std.specs.List.{filter, range_with_len, list_any}
-use Rattle.std.proofs.lemmas.Bool.{cases_Bool, cases_lt, and_parts, and_from, and_left, or_from, or_parts, or_cases, or_left, or_right, lt-ltb, ltb-true, le-leb, lt-leb, leb-true, ne_eqb, eqb-true, false≢true, false_from_ne_true}
+use Rattle.std.proofs.lemmas.Bool.{cases_Bool, cases_lt, and_parts, and_from, and_left, or_from, or_parts, or_cases}
+use Rattle.std.proofs.lemmas.Bool.{or_left, or_right, lt-ltb, ltb-true, le-leb, lt-leb, leb-true, ne_eqb, eqb-true}
+use Rattle.std.proofs.lemmas.Bool.{false≢true, false_from_ne_true}
 use Rattle.std.proofs.lemmas.Bool.Decides.{nat_tests}
 use Rattle.std.proofs.lemmas.List.{map-append}
 use Rattle.std.proofs.lemmas.List.FromFn.{map-range_with_len_more}
@@ -12,9 +15,9 @@ use Rattle.std.proofs.lemmas.Nat.{div_below, le-div, div-add-mod', mod_below}
 use Rattle.std.proofs.Math.Nat.{mul-le-mul_right, div-mul-le_self, pow-succ', pow-le-pow_right}
 use Rattle.moc_sphere.specs.CellNumber.{cell_number, cell_count, cell_size}
 use Rattle.moc_sphere.specs.Lemmas.{cell_size-positive, cell_size-fills}
-use Rattle.moc_ranges.specs.Pixels.{pixel_count}
-use Rattle.moc_ranges.specs.RangeList.{set_of, IsNormal, BeginsAfter}
-use Rattle.moc_ranges.specs.Lemmas.Members.{contains-set_of, in_ranges, contains-span, same_truth}
+use Rattle.moc_lists.specs.RangeList.{pixel_count, set_of, IsNormal, BeginsAfter}
+use Rattle.moc_lists.specs.Lemmas.Members.{contains-set_of, in_ranges}
+use Rattle.moc_ranges.specs.Lemmas.Members.{contains-span, same_truth}
 use Rattle.moc_ranges.specs.Lemmas.Ranges.{LiesInOne, lies_in_one}
 use Rattle.moc_ranges.specs.Cells.{cells_of_range, span, is_cell_of}
 use Rattle.moc_ranges.specs.Lemmas.Cells.{in_span, four_parts, in_cell_range}

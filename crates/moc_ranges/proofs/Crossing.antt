@@ -1,5 +1,7 @@
 -- What just one of two lists of ranges has, bound by bound.
-use Rattle.std.proofs.Common.{◌≡◌, ℕ, zero, suc, ◌+◌, ◌-◌, ◌*◌, ◌/◌, ◌%◌, ◌<◌, ◌≤◌, Bool, true, false, not, ◌||◌, ◌&&◌, List, [], ◌∷◌, ◌++◌, Option, None, Some, length, get_or, take, drop, min, refl, sym, ap, subst, ◌∙◌, arith, append_assoc, drop-drop, length-append, inl, inr, ◌⊎◌}
+use Rattle.std.proofs.Common.{◌≡◌, ℕ, zero, suc, ◌+◌, ◌-◌, ◌*◌, ◌/◌, ◌%◌, ◌<◌, ◌≤◌, Bool, true, false, not, ◌||◌, ◌&&◌}
+use Rattle.std.proofs.Common.{List, [], ◌∷◌, ◌++◌, Option, None, Some, length, get_or, take, drop, min, refl, sym, ap}
+use Rattle.std.proofs.Common.{subst, ◌∙◌, arith, append_assoc, drop-drop, length-append, inl, inr, ◌⊎◌}
 use mir.Val.{bool_byte}
 use Rattle.std.specs.Prelude.{nat_eq, nat_le, nat_lt, slice_set}
 use Rattle.std.proofs.lemmas.Bool.{cases_lt, eq-eqb, le-leb, lt-leb, ne_eqb}
@@ -7,17 +9,16 @@ use Rattle.std.proofs.lemmas.Bool.Decides.{nat_tests}
 use Rattle.std.proofs.lemmas.List.{drop-append-le, length-drop, length-take, take-append-drop, take-set, take_all}
 use Rattle.std.proofs.lemmas.Grind.{take-set_at}
 use Rattle.std.proofs.Math.Seq.{drop-cons}
-use Rattle.moc_ranges.specs.Pixels.{pixel_count}
-use Rattle.moc_ranges.specs.RangeList.{IsNormal}
-use Rattle.moc_ranges.specs.Lemmas.Members.{in_ranges}
-use Rattle.moc_ranges.specs.Private.Blocks.{next_of}
-use Rattle.moc_ranges.specs.Private.Built.{CanCarry, EndsBelow}
+use Rattle.moc_lists.specs.RangeList.{pixel_count, IsNormal}
+use Rattle.moc_lists.specs.Lemmas.Members.{in_ranges}
+use Rattle.moc_lists.specs.Private.Blocks.{next_of}
+use Rattle.moc_lists.specs.Private.Built.{CanCarry, EndsBelow}
 use Rattle.moc_ranges.specs.Private.Differing.{differs, IsDiffering}
 use Rattle.moc_ranges.specs.Private.Crossing.{bounds_of, is_odd_at, Rises, open_of, restored_of, AreBounds, IsCrossed}
 use Rattle.moc_ranges.specs.Private.Walks.{begun}
-use Rattle.moc_ranges.proofs.Walking.{later_only}
-use Rattle.moc_ranges.proofs.Blocking.{IsNormal-prefix, IsNormal-suffix, nothing_more}
-use Rattle.moc_ranges.proofs.Merging.{normal_append, ends_next, EndsBelow-more}
+use Rattle.moc_lists.proofs.Walking.{later_only}
+use Rattle.moc_lists.proofs.Blocking.{IsNormal-prefix, IsNormal-suffix, nothing_more}
+use Rattle.moc_lists.proofs.Merging.{normal_append, ends_next, EndsBelow-more}
 use Rattle.moc_ranges.proofs.Differing.{differs_gone, differs_none, differs_swap, differing_swap, ends_both}
 
 -- ---- of two things just one

@@ -1,5 +1,6 @@
 -- The least order of whose cells a set is a union: the least whose cells' size divides all bounds.
-use Rattle.std.proofs.Common.{◌≡◌, ℕ, zero, suc, ◌+◌, ◌-◌, ◌*◌, ◌/◌, ◌%◌, ◌^◌, ◌<◌, ◌≤◌, true, List, [], ◌∷◌, min, leb, ltb, refl, sym, ap, subst, ◌∙◌, inl, inr, arith, map}
+use Rattle.std.proofs.Common.{◌≡◌, ℕ, zero, suc, ◌+◌, ◌-◌, ◌*◌, ◌/◌, ◌%◌, ◌^◌, ◌<◌, ◌≤◌, true, List, [], ◌∷◌, min, leb}
+use Rattle.std.proofs.Common.{ltb, refl, sym, ap, subst, ◌∙◌, inl, inr, arith, map}
 use Rattle.std.specs.Prelude.{bit_or}
 use Rattle.std.specs.FinSet as set
 use Rattle.std.specs.Int.{w64, trailing_zeros, bit_at}
@@ -9,11 +10,11 @@ use Rattle.std.proofs.lemmas.Nat.{div-add-mod', mod_below, mod-pow-add, or_mod, 
 use Rattle.std.proofs.lemmas.Nat.Bits.{bit_at-trailing_zeros}
 use Rattle.moc_sphere.specs.CellNumber.{cell_size}
 use Rattle.moc_sphere.specs.Lemmas.{cell_size-positive}
-use Rattle.moc_ranges.specs.Numbers.{NumberSet}
-use Rattle.moc_ranges.specs.Lemmas.Members.{same_members, contains-set_of, in_range, in_ranges}
-use Rattle.moc_ranges.specs.RangeList.{set_of, IsNormal}
+use Rattle.moc_lists.specs.RangeList.{NumberSet, set_of, IsNormal}
+use Rattle.moc_lists.specs.Lemmas.Members.{same_members, contains-set_of, in_range, in_ranges}
 use Rattle.moc_ranges.specs.Cells.{degrade}
-use Rattle.moc_ranges.specs.Lemmas.Ranges.{later_only, in_first, not_before, at_end}
+use Rattle.moc_lists.specs.Lemmas.Ranges.{later_only}
+use Rattle.moc_ranges.specs.Lemmas.Ranges.{in_first, not_before, at_end}
 use Rattle.moc_ranges.specs.Private.Widen.{widen}
 use Rattle.moc_ranges.proofs.CellRuns.{two_pow}
 use Rattle.moc_ranges.proofs.CellOrders.{AllMultiples, multiple_of, or_multiple, low_zeros}

@@ -1,21 +1,24 @@
 -- What just one of two lists of ranges has, range by range.
-use Rattle.std.proofs.Common.{◌≡◌, ℕ, ◌<◌, ◌≤◌, Bool, true, false, not, ◌||◌, ◌&&◌, List, [], ◌∷◌, ◌++◌, min, max, refl, sym, ap, subst, ◌∙◌, arith, append_assoc, inl, inr}
+use Rattle.std.proofs.Common.{◌≡◌, ℕ, ◌<◌, ◌≤◌, Bool, true, false, not, ◌||◌, ◌&&◌, List, [], ◌∷◌, ◌++◌, min, max}
+use Rattle.std.proofs.Common.{refl, sym, ap, subst, ◌∙◌, arith, append_assoc, inl, inr}
 use Rattle.std.specs.Prelude.{nat_le, nat_lt}
 use Rattle.std.proofs.lemmas.Bool.{cases_lt}
 use Rattle.std.proofs.lemmas.Bool.Decides.{nat_tests}
-use Rattle.moc_ranges.specs.Pixels.{pixel_count}
-use Rattle.moc_ranges.specs.Lemmas.Members.{same_members, contains-symmetric, in_range, in_ranges, contains-set_of}
+use Rattle.moc_lists.specs.RangeList.{pixel_count, IsNormal, BeginsAfter, set_of}
+use Rattle.moc_lists.specs.Lemmas.Members.{same_members, in_range, in_ranges, contains-set_of}
+use Rattle.moc_ranges.specs.Lemmas.Members.{contains-symmetric}
 use Rattle.moc_ranges.specs.Operations.{symmetric}
-use Rattle.moc_ranges.specs.RangeList.{IsNormal, BeginsAfter, set_of}
-use Rattle.moc_ranges.specs.Private.Blocks.{next_of}
-use Rattle.moc_ranges.specs.Private.Built.{CanCarry, Carries, EndsBelow}
+use Rattle.moc_lists.specs.Private.Blocks.{next_of}
+use Rattle.moc_lists.specs.Private.Built.{CanCarry, Carries, EndsBelow}
 use Rattle.moc_ranges.specs.Private.Differing.{differs, IsParted, IsDiffering}
-use Rattle.moc_ranges.proofs.Merging.{normal_append, ends_next, next_later, or_false, in_ranges-append, EndsBelow-append, EndsBelow-more}
-use Rattle.moc_ranges.proofs.Blocking.{IsNormal-prefix, IsNormal-suffix}
+use Rattle.moc_lists.proofs.Merging.{normal_append, ends_next, or_false, in_ranges-append, EndsBelow-append}
+use Rattle.moc_lists.proofs.Merging.{EndsBelow-more}
+use Rattle.moc_ranges.proofs.Merging.{next_later}
+use Rattle.moc_lists.proofs.Blocking.{IsNormal-prefix, IsNormal-suffix}
 use Rattle.moc_ranges.proofs.Lacking.{none_before, range_from}
-use Rattle.moc_ranges.proofs.Building.{pushed_normal}
+use Rattle.moc_lists.proofs.Building.{pushed_normal}
 use Rattle.moc_ranges.proofs.Turning.{or_first}
-use Rattle.moc_ranges.proofs.Walking.{later_only}
+use Rattle.moc_lists.proofs.Walking.{later_only}
 
 pub differs_view : (xs ys zs : List (ℕ × ℕ)) → ((q : ℕ) → in_ranges zs q ≡ differs (in_ranges xs q) (in_ranges ys q)) → set_of zs ≡ symmetric (set_of xs) (set_of ys)
 differs_view xs ys zs each = same_members _ _ (λ q.
@@ -128,10 +131,6 @@ differing_swap kept xs ys whole_xs whole_ys s = record {
   same = λ q. ap (λ b. in_ranges kept q || b) (differs_swap (in_ranges ys q) (in_ranges xs q)) ∙ s.same q ∙ differs_swap (in_ranges whole_xs q) (in_ranges whole_ys q);
 }
 
-pub differing_at : (kept xs xs' ys ys' whole_xs whole_ys : List (ℕ × ℕ)) → IsDiffering kept xs ys whole_xs whole_ys → xs ≡ xs' → ys ≡ ys' → IsDiffering kept xs' ys' whole_xs whole_ys
-differing_at kept xs xs' ys ys' whole_xs whole_ys s ex ey =
-    subst (λ (l : List (ℕ × ℕ)). IsDiffering kept l ys' whole_xs whole_ys) ex (subst (λ (l : List (ℕ × ℕ)). IsDiffering kept xs l whole_xs whole_ys) ey s)
-
 -- the range that ends first was parted
 pub differing_parted : (kept kept' xs ys whole_xs whole_ys : List (ℕ × ℕ)) (x y z : ℕ × ℕ) → IsDiffering kept (x ∷ xs) (y ∷ ys) whole_xs whole_ys → IsParted x y z kept kept' → IsDiffering kept' xs (z ∷ ys) whole_xs whole_ys
 differing_parted kept kept' xs ys whole_xs whole_ys x y z s t =
@@ -213,9 +212,6 @@ pub differed : (kept xs ys whole_xs whole_ys : List (ℕ × ℕ)) → IsDifferin
 differed kept xs ys whole_xs whole_ys s none q =
     in_ranges-append kept ys q ∙ ap (λ b. in_ranges kept q || b) (differs_none (in_ranges ys q))
     ∙ ap (λ (l : List (ℕ × ℕ)). in_ranges kept q || differs (in_ranges l q) (in_ranges ys q)) (sym none) ∙ s.same q
-
-pub differ_first : (xs ys : List (ℕ × ℕ)) → xs ≡ [] → (q : ℕ) → in_ranges ys q ≡ differs (in_ranges xs q) (in_ranges ys q)
-differ_first xs ys none q = differs_none (in_ranges ys q) ∙ ap (λ (l : List (ℕ × ℕ)). differs (in_ranges l q) (in_ranges ys q)) (sym none)
 
 -- ---- what is left of one list
 

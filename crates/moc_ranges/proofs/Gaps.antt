@@ -1,17 +1,20 @@
 -- The gaps of a list of ranges.
-use Rattle.std.proofs.Common.{◌≡◌, ℕ, zero, suc, ◌+◌, ◌<◌, ◌≤◌, Bool, true, false, not, ◌||◌, ◌&&◌, List, [], ◌∷◌, ◌++◌, max, take, drop, length, get_or, append_assoc, ◌⊎◌, inl, inr, refl, sym, ap, subst, ◌∙◌, arith}
+use Rattle.std.proofs.Common.{◌≡◌, ℕ, zero, suc, ◌+◌, ◌<◌, ◌≤◌, Bool, true, false, not, ◌||◌, ◌&&◌, List, [], ◌∷◌}
+use Rattle.std.proofs.Common.{◌++◌, max, take, drop, length, get_or, append_assoc, ◌⊎◌, inl, inr, refl, sym, ap, subst}
+use Rattle.std.proofs.Common.{◌∙◌, arith}
 use Rattle.std.specs.Prelude.{nat_le, nat_lt}
 use Rattle.std.proofs.lemmas.Bool.{cases_lt}
 use Rattle.std.proofs.lemmas.Bool.Decides.{nat_tests}
-use Rattle.moc_ranges.specs.RangeList.{IsNormal, BeginsAfter}
-use Rattle.moc_ranges.specs.Lemmas.Members.{in_ranges}
-use Rattle.moc_ranges.specs.Private.Blocks.{next_of}
-use Rattle.moc_ranges.specs.Private.Built.{EndsBelow}
-use Rattle.moc_ranges.specs.Private.Walks.{EndsBy, Passes}
+use Rattle.moc_lists.specs.RangeList.{IsNormal, BeginsAfter}
+use Rattle.moc_lists.specs.Lemmas.Members.{in_ranges}
+use Rattle.moc_lists.specs.Private.Blocks.{next_of}
+use Rattle.moc_lists.specs.Private.Built.{EndsBelow}
+use Rattle.moc_lists.specs.Private.Walks.{EndsBy, Passes}
 use Rattle.moc_ranges.specs.Private.Meeting.{IsRising, CanMeet, MeetsOn, LeavesOut, gaps_before, gaps_of, end_of}
-use Rattle.moc_ranges.proofs.Blocking.{IsNormal-suffix, nothing_more}
-use Rattle.moc_ranges.proofs.Merging.{ends_next, next_later, in_ranges-append, EndsBelow-append, EndsBelow-more}
-use Rattle.moc_ranges.proofs.Walking.{later_only}
+use Rattle.moc_lists.proofs.Blocking.{IsNormal-suffix, nothing_more}
+use Rattle.moc_lists.proofs.Merging.{ends_next, in_ranges-append, EndsBelow-append, EndsBelow-more}
+use Rattle.moc_ranges.proofs.Merging.{next_later}
+use Rattle.moc_lists.proofs.Walking.{later_only}
 use Rattle.moc_ranges.proofs.Views.{normal_below}
 use Rattle.moc_ranges.proofs.Meeting.{normal_from}
 
@@ -181,10 +184,6 @@ can_end ks xs ys low can ny =
       below = EndsBelow-more (max (next_of xs) (next_of (gaps_of low ys))) (max (next_of xs) low) ks can.below (omega (arith, next_gap low ys));
     }
 
-or_none : (a : Bool) → (a || false) ≡ a
-or_none true = refl
-or_none false = refl
-
 lacked_end : (xs ys : List (ℕ × ℕ)) (low q : ℕ) → (xs ≡ []) ⊎ (ys ≡ []) → (in_ranges xs q && in_ranges (gaps_of low []) q) ≡ (in_ranges xs q && in_ranges (gaps_of low ys) q)
 lacked_end xs ys low q ended = elim ended [
   | inl none ↦ ap (λ (l : List (ℕ × ℕ)). in_ranges l q && in_ranges (gaps_of low []) q) none ∙ ap (λ (l : List (ℕ × ℕ)). in_ranges l q && in_ranges (gaps_of low ys) q) (sym none)
@@ -194,7 +193,3 @@ lacked_end xs ys low q ended = elim ended [
 pub lacked_all : (ks made xs xs' ys ys' : List (ℕ × ℕ)) (low : ℕ) → IsNormal xs → IsNormal ys → MeetsOn xs xs' (gaps_of 0 ys) (gaps_of low ys') [] ks → (xs' ≡ []) ⊎ (ys' ≡ []) → ((q : ℕ) → in_ranges made q ≡ (in_ranges ks q || (in_ranges xs' q && in_ranges (gaps_of low []) q))) → (q : ℕ) → in_ranges made q ≡ (in_ranges xs q && not (in_ranges ys q))
 lacked_all ks made xs xs' ys ys' low nx ny m ended made_is q =
     made_is q ∙ ap (λ k. in_ranges ks q || k) (lacked_end xs' ys' low q ended) ∙ m.same q ∙ common_gaps xs ys q nx ny
-
-pub lacked_rest : (ks ks' xs xs' gaps : List (ℕ × ℕ)) → MeetsOn xs xs' gaps gaps ks ks' → xs' ≡ [] → (q : ℕ) → in_ranges ks' q ≡ (in_ranges ks q || (in_ranges xs q && in_ranges gaps q))
-lacked_rest ks ks' xs xs' gaps m none q =
-    sym (or_none (in_ranges ks' q)) ∙ ap (λ (l : List (ℕ × ℕ)). in_ranges ks' q || (in_ranges l q && in_ranges gaps q)) (sym none) ∙ m.same q

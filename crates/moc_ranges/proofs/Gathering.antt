@@ -1,17 +1,17 @@
 -- Gathering cells: what is joined, and what waits.
-use Rattle.std.proofs.Common.{◌≡◌, ℕ, ◌+◌, ◌*◌, ◌<◌, ◌≤◌, ◌↔◌, Bool, true, false, ◌||◌, List, [], ◌∷◌, ◌++◌, length, refl, sym, ap, ◌∙◌, arith}
+use Rattle.std.proofs.Common.{◌≡◌, ℕ, ◌+◌, ◌*◌, ◌<◌, ◌≤◌, ◌↔◌, Bool, true, false, ◌||◌, List, [], ◌∷◌, ◌++◌, length}
+use Rattle.std.proofs.Common.{refl, sym, ap, ◌∙◌, arith}
 use Rattle.std.specs.Prelude.{None}
 use Rattle.std.specs.FinSet as set
 use Rattle.std.specs.Cmp.{nat_cmp_total}
 use Rattle.std.proofs.lemmas.Bool.Decides.{nat_tests}
 use Rattle.moc_sphere.specs.CellNumber.{CellNumber, cell_count, cell_size, cell_number, IsInSpan}
-use Rattle.moc_ranges.specs.Numbers.{NumberSet, numbers}
-use Rattle.moc_ranges.specs.Lemmas.Members.{contains-numbers, same_members, contains-spans, contains-set_of}
-use Rattle.moc_ranges.specs.Pixels.{pixel_count}
+use Rattle.moc_lists.specs.RangeList.{NumberSet, numbers, pixel_count, set_of}
+use Rattle.moc_lists.specs.Lemmas.Members.{contains-numbers, same_members, contains-set_of}
+use Rattle.moc_ranges.specs.Lemmas.Members.{contains-spans}
 use Rattle.moc_ranges.specs.Cells.{span, spans, pixels_of}
 use Rattle.std.specs.Option.{option_or}
 use Rattle.moc_ranges.specs.Faults.{first_fault_from, pair_fault}
-use Rattle.moc_ranges.specs.RangeList.{set_of}
 use Rattle.moc_ranges.specs.Private.Gathered.{gathered}
 use Rattle.moc_ranges.specs.Lemmas.{empty-union, union-empty, union-assoc, pixels_of-append, run_of_cells}
 use Rattle.moc_ranges.proofs.Sorting.{in_ranges-push, no_fault_parts}
@@ -19,11 +19,6 @@ use Rattle.moc_ranges.proofs.Spans.{span_view}
 
 in_union : (a b : NumberSet) (q : ℕ) → set.contains (set.union a b) q ≡ (set.contains a q || set.contains b q)
 in_union a b q = set.contains-union nat_cmp_total a b q
-
--- nothing is gathered yet
-pub none_gathered : set.union set.empty (set_of []) ≡ set.empty
-unfolding set_of
-none_gathered = empty-union set.empty
 
 -- nothing waits
 pub none_waits : (joined : NumberSet) → set.union joined (set_of []) ≡ joined

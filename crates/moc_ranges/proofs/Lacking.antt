@@ -1,17 +1,21 @@
 -- What one list of ranges has and another lacks, range by range.
-use Rattle.std.proofs.Common.{◌≡◌, ℕ, ◌<◌, ◌≤◌, Bool, true, false, not, ◌||◌, ◌&&◌, List, [], ◌∷◌, ◌++◌, min, refl, sym, ap, subst, ◌∙◌, arith, inl, inr, Option, None, Some}
+use Rattle.std.proofs.Common.{◌≡◌, ℕ, ◌<◌, ◌≤◌, Bool, true, false, not, ◌||◌, ◌&&◌, List, [], ◌∷◌, ◌++◌, min, refl}
+use Rattle.std.proofs.Common.{sym, ap, subst, ◌∙◌, arith, inl, inr, Option, None, Some}
 use Rattle.std.specs.Prelude.{nat_le, nat_lt}
 use Rattle.std.proofs.lemmas.Bool.{cases_lt, and_parts, and_from, leb-true, ltb-true, le-leb, lt-ltb, false≢true}
 use Rattle.std.proofs.lemmas.Bool.Decides.{nat_tests}
-use Rattle.moc_ranges.specs.RangeList.{IsNormal}
-use Rattle.moc_ranges.specs.Lemmas.Members.{in_range, in_ranges}
-use Rattle.moc_ranges.specs.Private.Blocks.{next_of}
-use Rattle.moc_ranges.specs.Private.Built.{EndsBelow, Carries}
-use Rattle.moc_ranges.specs.Private.Walks.{begun, EndsBy, Advances}
-use Rattle.moc_ranges.proofs.Merging.{ends_next, or_false, next_later, in_ranges-append, EndsBelow-append, EndsBelow-more}
-use Rattle.moc_ranges.proofs.Blocking.{IsNormal-suffix}
+use Rattle.moc_lists.specs.RangeList.{IsNormal}
+use Rattle.moc_lists.specs.Lemmas.Members.{in_range, in_ranges}
+use Rattle.moc_lists.specs.Private.Blocks.{next_of}
+use Rattle.moc_lists.specs.Private.Built.{EndsBelow, Carries}
+use Rattle.moc_ranges.specs.Private.Walks.{begun}
+use Rattle.moc_lists.specs.Private.Walks.{EndsBy, Advances}
+use Rattle.moc_lists.proofs.Merging.{ends_next, or_false, in_ranges-append, EndsBelow-append, EndsBelow-more}
+use Rattle.moc_ranges.proofs.Merging.{next_later}
+use Rattle.moc_lists.proofs.Blocking.{IsNormal-suffix}
 use Rattle.moc_ranges.proofs.Turning.{or_first}
-use Rattle.moc_ranges.proofs.Walking.{later_only, Steps, begun_is}
+use Rattle.moc_lists.proofs.Walking.{later_only}
+use Rattle.moc_ranges.proofs.Walking.{Steps, begun_is}
 
 -- a range of the second list that ends before the first
 past_early : (a b c d q : ℕ) (later more : Bool) → q < a → later ≡ false → (((nat_le a q && nat_lt q b) || later) && not ((nat_le c q && nat_lt q d) || more)) ≡ (((nat_le a q && nat_lt q b) || later) && not more)

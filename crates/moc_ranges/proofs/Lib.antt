@@ -1,6 +1,4 @@
 pub mod Views
-pub mod Blocking
-pub mod Filling
 pub mod Building
 pub mod Merging
 pub mod Turning
@@ -16,16 +14,11 @@ pub mod CellRuns
 pub mod CellOrders
 pub mod CellPieces
 pub mod Gathering
-pub mod Passing
 pub mod CarriedOver
 pub mod Looking
-pub mod Stepping
-pub mod Places
 pub mod Slices
 pub mod Shortening
 pub mod Differing
 pub mod Crossing
 pub mod Deepest
 pub mod Adding
-pub mod Replacing
-pub mod Inserting

@@ -1,24 +1,26 @@
 -- What look-ups in a set find.
-use Rattle.std.proofs.Common.{◌≡◌, ℕ, ◌+◌, ◌<◌, ◌≤◌, ◌*◌, ◌/◌, Bool, true, false, not, ◌&&◌, ◌||◌, ◌⊎◌, List, [], ◌∷◌, ◌++◌, length, nat_eq, nat_le, nat_lt, max, Option, None, Some, MatchOption, inl, inr, refl, sym, ap, subst, ◌∙◌, arith}
-use Rattle.std.proofs.lemmas.Bool.{cases_lt, cases_Bool, false≢true, false_from_ne_true, and_parts, leb-true, ltb-true, lt-ltb}
+use Rattle.std.proofs.Common.{◌≡◌, ℕ, ◌+◌, ◌<◌, ◌≤◌, ◌*◌, ◌/◌, Bool, true, false, not, ◌&&◌, ◌||◌, ◌⊎◌, List, [], ◌∷◌}
+use Rattle.std.proofs.Common.{◌++◌, nat_eq, nat_le, nat_lt, max, Option, None, Some, MatchOption, inl, inr, refl, sym}
+use Rattle.std.proofs.Common.{ap, subst, ◌∙◌, arith}
+use Rattle.std.proofs.lemmas.Bool.{cases_lt, cases_Bool, false≢true, false_from_ne_true, and_parts, leb-true, ltb-true}
+use Rattle.std.proofs.lemmas.Bool.{lt-ltb}
 use Rattle.std.proofs.lemmas.Bool.Decides.{nat_tests}
 use Rattle.std.specs.Option.{is_some}
 use Rattle.std.specs.Prelude.{IsTrue}
 use Rattle.std.specs.FinSet as set
 use Rattle.std.specs.Ordering.{nat_cmp}
 use Rattle.std.specs.Cmp.{nat_cmp_total}
-use Rattle.moc_ranges.specs.Numbers.{NumberSet, numbers}
-use Rattle.moc_ranges.specs.Lemmas.Members.{contains-numbers, same_members, meets-some, meets-none, contains-part_of}
-use Rattle.moc_ranges.specs.Lemmas.Members.{contains-pixels, in_ranges, contains-set_of}
-use Rattle.moc_ranges.specs.Pixels.{base_pixel_size, pixel_count, pixels}
-use Rattle.moc_ranges.specs.Operations.{meets, part_of}
-use Rattle.moc_ranges.specs.RangeList.{IsNormal, set_of}
-use Rattle.moc_ranges.specs.Private.Blocks.{joining, rest_of, IsStored}
-use Rattle.moc_ranges.specs.Private.Walks.{EndsBy, IsFirstPast, IsNextRange, HasNoneFrom}
-use Rattle.moc_ranges.proofs.Blocking.{IsNormal-suffix, nothing_more}
-use Rattle.moc_ranges.proofs.Merging.{in_ranges-append}
-use Rattle.moc_ranges.proofs.Walking.{later_only}
+use Rattle.moc_lists.specs.RangeList.{NumberSet, numbers, pixel_count, IsNormal, set_of}
+use Rattle.moc_lists.specs.Lemmas.Members.{contains-numbers, same_members, in_ranges, contains-set_of}
+use Rattle.moc_ranges.specs.Lemmas.Members.{meets-some, meets-none, contains-part_of, contains-pixels}
+use Rattle.moc_ranges.specs.Operations.{base_pixel_size, pixels, meets, part_of}
+use Rattle.moc_lists.specs.Private.Walks.{EndsBy, IsFirstPast}
+use Rattle.moc_ranges.specs.Private.Walks.{IsNextRange, HasNoneFrom}
+use Rattle.moc_lists.proofs.Blocking.{IsNormal-suffix}
+use Rattle.moc_lists.proofs.Merging.{in_ranges-append}
+use Rattle.moc_lists.proofs.Walking.{later_only}
 use Rattle.moc_ranges.proofs.Views.{and_no, none_in_part}
+use Rattle.moc_lists.proofs.Looking.{none_ended}
 
 -- the ranges that a search has passed
 pub record IsSearching (limit : ℕ) (rest whole : List (ℕ × ℕ)) : Type 0 where
@@ -26,10 +28,6 @@ pub record IsSearching (limit : ℕ) (rest whole : List (ℕ × ℕ)) : Type 0 w
   pub parts : whole ≡ gone ++ rest
   pub ended : EndsBy limit gone
   pub normal : IsNormal whole
-
-pub none_ended : (limit q : ℕ) (rs : List (ℕ × ℕ)) → EndsBy limit rs → limit ≤ q → in_ranges rs q ≡ false
-none_ended limit q [] e le = refl
-none_ended limit q (r ∷ rs) e le = let rest = none_ended limit q rs e.1 le in let here = e.0 in grind (arith, nat_tests)
 
 left_in : (limit q : ℕ) (rest whole : List (ℕ × ℕ)) → IsSearching limit rest whole → limit ≤ q → in_ranges whole q ≡ in_ranges rest q
 left_in limit q rest whole i le =
@@ -126,20 +124,6 @@ pub covers_none_left : (a : NumberSet) (from to : ℕ) → HasNoneFrom from a �
 covers_none_left a from to n rising =
     false_from_ne_true _ (λ all. false≢true (sym (n.none from (omega arith)) ∙ set.is_subset-contains nat_cmp_total (numbers from to) a all from (in_numbers from to from (omega arith) rising)))
 
--- the first pixel from one on
-pub found_next : (a : NumberSet) (from p : ℕ) (range : ℕ × ℕ) → IsNextRange from a range → p ≡ max from range.0 → (from ≤ p) × (p < pixel_count) × (set.contains a p ≡ true)
-found_next a from p range n is =
-    let filled = n.filled in
-    let past = n.past in
-    let within = n.within in
-    (omega arith, omega arith, next_has from p a range n (omega arith) (omega arith) (omega arith))
-
-pub first_next : (a : NumberSet) (from p : ℕ) (range : ℕ × ℕ) → IsNextRange from a range → p ≡ max from range.0 → (q : ℕ) → from ≤ q → set.contains a q ≡ true → p ≤ q
-first_next a from p range n is q low has = elim (cases_lt q p) [
-  | inl lt ↦ absurd (false≢true (sym (next_lacks from q a range n low (omega arith)) ∙ has))
-  | inr ge ↦ ge
-]
-
 -- ---- base pixels
 
 in_base : (b q : ℕ) → nat_eq (q / base_pixel_size) b ≡ (nat_le (b * base_pixel_size) q && nat_lt q (b * base_pixel_size + base_pixel_size))
@@ -212,12 +196,3 @@ empty_seen None true s t a is normal e same = ((λ yes. nothing_in s a is e.0), 
 empty_seen None false s t a is normal e same = absurd (false≢true same)
 empty_seen (Some x) true s t a is normal e same = absurd (false≢true (sym same))
 empty_seen (Some x) false s t a is normal e same = ((λ yes. absurd (false≢true yes)), (λ none. absurd (something_in x s t a is normal e none)))
-
--- the ranges of a set with nodes, and of one without
-pub without_nodes : (few : List (ℕ × ℕ)) (nodes : List (List (List (ℕ × ℕ)))) → length nodes ≡ 0 → rest_of few [] nodes ≡ few
-without_nodes few [] none = nothing_more few
-without_nodes few (n ∷ nodes) none = absurd (omega arith)
-
-pub with_nodes : (few : List (ℕ × ℕ)) (nodes : List (List (List (ℕ × ℕ)))) → IsStored few nodes → 0 < length nodes → rest_of few [] nodes ≡ joining (joining nodes)
-with_nodes [] nodes s some = refl
-with_nodes (r ∷ few) nodes s some = absurd (let none = s.alone (omega arith) in omega (arith, some, ap length none))

@@ -1,19 +1,23 @@
 -- What two lists of ranges have in common, range by range.
-use Rattle.std.proofs.Common.{◌≡◌, ℕ, ◌+◌, ◌<◌, ◌≤◌, Bool, true, false, ◌||◌, ◌&&◌, List, [], ◌∷◌, ◌++◌, min, max, refl, sym, ap, subst, ◌∙◌, arith, inl, inr, Option, None}
+use Rattle.std.proofs.Common.{◌≡◌, ℕ, ◌+◌, ◌<◌, ◌≤◌, Bool, true, false, ◌||◌, ◌&&◌, List, [], ◌∷◌, ◌++◌, min, max}
+use Rattle.std.proofs.Common.{refl, sym, ap, subst, ◌∙◌, arith, inl, inr, Option, None}
 use Rattle.std.specs.Prelude.{nat_le, nat_lt}
 use Rattle.std.proofs.lemmas.Bool.{cases_lt, or_cases, and_parts, leb-true, ltb-true}
 use Rattle.std.proofs.lemmas.Bool.Decides.{nat_tests}
-use Rattle.moc_ranges.specs.RangeList.{IsNormal, BeginsAfter}
-use Rattle.moc_ranges.specs.Lemmas.Members.{in_range, in_ranges}
-use Rattle.moc_ranges.specs.Private.Blocks.{next_of}
-use Rattle.moc_ranges.specs.Private.Built.{EndsBelow, Carries, TakesCommon}
+use Rattle.moc_lists.specs.RangeList.{IsNormal, BeginsAfter}
+use Rattle.moc_lists.specs.Lemmas.Members.{in_range, in_ranges}
+use Rattle.moc_lists.specs.Private.Blocks.{next_of}
+use Rattle.moc_lists.specs.Private.Built.{EndsBelow, Carries}
+use Rattle.moc_ranges.specs.Private.Taking.{TakesCommon}
 use Rattle.moc_ranges.specs.Private.Meeting.{IsRising}
-use Rattle.moc_ranges.specs.Private.Walks.{begun, EndsBy, Advances, Passes}
-use Rattle.moc_ranges.proofs.Merging.{next_later, ends_next, in_ranges-append, or_false, EndsBelow-append, EndsBelow-more}
-use Rattle.moc_ranges.proofs.Blocking.{IsNormal-suffix}
+use Rattle.moc_ranges.specs.Private.Walks.{begun}
+use Rattle.moc_lists.specs.Private.Walks.{EndsBy, Advances, Passes}
+use Rattle.moc_ranges.proofs.Merging.{next_later}
+use Rattle.moc_lists.proofs.Merging.{ends_next, in_ranges-append, or_false, EndsBelow-append, EndsBelow-more}
+use Rattle.moc_lists.proofs.Blocking.{IsNormal-suffix}
 use Rattle.moc_ranges.proofs.CarriedOver.{carried_after}
 use Rattle.moc_ranges.proofs.Turning.{or_first}
-use Rattle.moc_ranges.proofs.Walking.{and_swap, Steps, begun_is}
+use Rattle.moc_ranges.proofs.Walking.{and_swap, begun_is}
 
 inside : (a b c d from to q : ℕ) (later more : Bool) → b ≤ d → from ≡ max a c → to ≡ min b d → q < b → more ≡ false → (((nat_le a q && nat_lt q b) || later) && ((nat_le c q && nat_lt q d) || more)) ≡ ((nat_le from q && nat_lt q to) || (later && ((nat_le c q && nat_lt q d) || more)))
 inside a b c d from to q later more ends f w lt none = grind (arith, nat_tests)
@@ -56,20 +60,6 @@ pub record IsMeeting (ks xs ys whole_xs whole_ys : List (ℕ × ℕ)) : Type 0 w
   pub second_normal : IsNormal ys
   pub below : EndsBelow (max (next_of xs) (next_of ys)) ks
   pub same : (q : ℕ) → (in_ranges ks q || (in_ranges xs q && in_ranges ys q)) ≡ (in_ranges whole_xs q && in_ranges whole_ys q)
-
-pub meeting_start : (ks xs ys t u : List (ℕ × ℕ)) (r s : Option (ℕ × ℕ)) → ks ≡ [] → IsNormal xs → IsNormal ys → Steps xs r t → Steps ys s u → IsMeeting ks (begun r t) (begun s u) xs ys
-meeting_start ks xs ys t u r s n nx ny rt su =
-    let bx = begun_is xs r t rt in
-    let by = begun_is ys s u su in
-    let start : IsMeeting [] xs ys xs ys = record {
-      built = tt;
-      first_normal = nx;
-      second_normal = ny;
-      below = tt;
-      same = λ q. refl;
-    } in
-    subst (λ (l : List (ℕ × ℕ)). IsMeeting ks l (begun s u) xs ys) (sym bx)
-    (subst (λ (l : List (ℕ × ℕ)). IsMeeting ks xs l xs ys) (sym by) (rw n start))
 
 -- the first list's next range gave what it has in common with the second's
 pub meeting_kept : (ks ks' xs ys whole_xs whole_ys : List (ℕ × ℕ)) (x y : ℕ × ℕ) → IsMeeting ks (x ∷ xs) (y ∷ ys) whole_xs whole_ys → x.1 ≤ y.1 → IsNormal ks' → ((f : ℕ) → max x.0 y.0 ≤ f → min x.1 y.1 < f → EndsBelow f ks') → ((q : ℕ) → in_ranges ks' q ≡ (in_ranges ks q || in_range (max x.0 y.0, min x.1 y.1) q)) → IsMeeting ks' xs (y ∷ ys) whole_xs whole_ys
@@ -172,16 +162,6 @@ pub taken_past : (ks xs t : List (ℕ × ℕ)) (y : ℕ × ℕ) (r : Option (ℕ
 taken_past ks xs t y r n normal rises built after a =
     subst (λ (l : List (ℕ × ℕ)). TakesCommon xs l y ks ks) (sym (begun_is a.rest r t a.step)) (taken_passed ks xs a.rest y n normal rises built after a.passed)
 
-pub taken_nothing : (ks xs : List (ℕ × ℕ)) (y : ℕ × ℕ) → IsNormal ks → EndsBelow (max (next_of xs) y.0) ks → TakesCommon xs xs y ks ks
-taken_nothing ks xs y built after = record {
-  gone = [];
-  parts = refl;
-  ended = tt;
-  built = built;
-  below = after;
-  same = λ q. sym (or_false (in_ranges ks q));
-}
-
 inside_bool : (k g y : Bool) → (g ≡ true → y ≡ true) → (k || g) ≡ (k || (g && y))
 inside_bool true g y all = refl
 inside_bool false true y all = sym (all refl)
@@ -237,11 +217,6 @@ common_after kept from from' below is = subst (λ (n : ℕ). EndsBelow n kept) (
 pub common_below : (kept kept' : List (ℕ × ℕ)) (from to from' to' f : ℕ) → EndsBelow from kept → kept' ≡ kept ++ (from', to') ∷ [] → from' ≡ from → to' ≡ to → from ≤ f → to < f → EndsBelow f kept'
 common_below kept kept' from to from' to' f below is ef et le lt =
     subst (λ (l : List (ℕ × ℕ)). EndsBelow f l) (sym is) (EndsBelow-append f kept ((from', to') ∷ []) (EndsBelow-more from f kept below le) (omega arith, tt))
-
-pub common_same : (kept kept' : List (ℕ × ℕ)) (from to from' to' q : ℕ) → kept' ≡ kept ++ (from', to') ∷ [] → from' ≡ from → to' ≡ to → in_ranges kept' q ≡ (in_ranges kept q || in_range (from, to) q)
-common_same kept kept' from to from' to' q is ef et =
-    ap (λ (l : List (ℕ × ℕ)). in_ranges l q) is ∙ in_ranges-append kept ((from', to') ∷ []) q ∙ ap (λ b. in_ranges kept q || b) (or_false (in_range (from', to') q))
-    ∙ (λ i. in_ranges kept q || in_range (ef i, et i) q)
 
 pub common_nothing : (kept : List (ℕ × ℕ)) (from to from' to' q : ℕ) → from' ≡ from → to' ≡ to → to' ≤ from' → in_ranges kept q ≡ (in_ranges kept q || in_range (from, to) q)
 common_nothing kept from to from' to' q f t le = nothing_in from to q (in_ranges kept q) (omega arith)

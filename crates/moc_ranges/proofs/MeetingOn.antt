@@ -1,24 +1,29 @@
 -- Two lists of ranges that meet, a step at a time.
-use Rattle.std.proofs.Common.{◌≡◌, ℕ, ◌+◌, ◌-◌, ◌<◌, ◌≤◌, Bool, true, false, ◌||◌, ◌&&◌, List, [], ◌∷◌, ◌++◌, min, max, take, drop, length, get_or, slice_set, inl, inr, refl, sym, ap, subst, ◌∙◌, arith, append_assoc, length-append, ◌⊎◌}
+use Rattle.std.proofs.Common.{◌≡◌, ℕ, ◌+◌, ◌-◌, ◌<◌, ◌≤◌, Bool, true, false, ◌||◌, ◌&&◌, List, [], ◌∷◌, ◌++◌, min, max}
+use Rattle.std.proofs.Common.{take, drop, length, get_or, slice_set, inl, inr, refl, sym, ap, subst, ◌∙◌, arith}
+use Rattle.std.proofs.Common.{append_assoc, length-append, ◌⊎◌}
 use Rattle.std.specs.Prelude.{nat_le, nat_lt, Option, None, Some, MatchOption, IfSome}
 use mir.Val.{bool_byte}
 use Rattle.std.proofs.lemmas.Bool.{cases_lt, lt-ltb}
 use Rattle.std.proofs.lemmas.Bool.Decides.{nat_tests}
 use Rattle.std.proofs.lemmas.List.{drop_more, length-drop, take-set, take-append-drop, take_all}
 use Rattle.std.proofs.lemmas.Grind.{take-set_at}
-use Rattle.moc_ranges.specs.Pixels.{pixel_count}
-use Rattle.moc_ranges.specs.RangeList.{IsNormal}
-use Rattle.moc_ranges.specs.Lemmas.Members.{in_range, in_ranges}
-use Rattle.moc_ranges.specs.Private.Blocks.{last_of, next_of}
-use Rattle.moc_ranges.specs.Private.Built.{EndsBelow, AddsPart, TakesCommon}
-use Rattle.moc_ranges.specs.Private.Walks.{EndsBy}
+use Rattle.moc_lists.specs.RangeList.{pixel_count, IsNormal}
+use Rattle.moc_lists.specs.Lemmas.Members.{in_range, in_ranges}
+use Rattle.moc_lists.specs.Private.Blocks.{last_of, next_of}
+use Rattle.moc_lists.specs.Private.Built.{EndsBelow}
+use Rattle.moc_ranges.specs.Private.Taking.{AddsPart, TakesCommon}
+use Rattle.moc_lists.specs.Private.Walks.{EndsBy}
 use Rattle.moc_ranges.specs.Private.Meeting.{IsRising, kept_if, CanMeet, MeetsOn, LeavesOut}
-use Rattle.moc_ranges.proofs.Blocking.{IsNormal-prefix, IsNormal-suffix, IsNormal-rest, nothing_more}
-use Rattle.moc_ranges.proofs.Merging.{ends_by_last, ends_next, next_later, or_false, EndsBelow-more}
-use Rattle.moc_ranges.proofs.Building.{pushed_normal}
+use Rattle.moc_lists.proofs.Blocking.{IsNormal-prefix, IsNormal-suffix, IsNormal-rest, nothing_more}
+use Rattle.moc_lists.proofs.Merging.{ends_by_last, ends_next, or_false, EndsBelow-more}
+use Rattle.moc_ranges.proofs.Merging.{next_later}
+use Rattle.moc_lists.proofs.Building.{pushed_normal}
 use Rattle.moc_ranges.proofs.Turning.{or_first}
 use Rattle.moc_ranges.proofs.Walking.{and_swap}
-use Rattle.moc_ranges.proofs.Meeting.{rising_normal, taken_ended, pieces_rising, pieces_back, common_parts, common_below, common_same, common_nothing}
+use Rattle.moc_ranges.proofs.Meeting.{rising_normal, taken_ended, pieces_rising, pieces_back, common_parts}
+use Rattle.moc_ranges.proofs.Meeting.{common_below, common_nothing}
+use Rattle.moc_lists.proofs.Meeting.{common_same}
 
 -- a range behind those that are made
 lt_byte : (a b n : ℕ) → n ≡ bool_byte (nat_lt a b) → a < b → n ≡ 1
@@ -191,10 +196,6 @@ met_begun xs ys bx by whole_xs whole_ys us vs before after made i j ex ey can me
     subst (λ (l : List (ℕ × ℕ)). MeetsOn whole_xs us whole_ys vs before l) (sym ea)
     (meets_as _ _ _ _ _ _ _ _ _ _ refl (sym eu) refl (sym ev) (met_here xs ys bx by whole_xs whole_ys before made i j ex ey can met))
 
--- ranges were taken off a list, and what they have in common with the other's next one put behind others
-pub can_after : (xs ys rest ks : List (ℕ × ℕ)) (y : ℕ × ℕ) → CanMeet xs ys ks → ys ≡ y ∷ rest → EndsBelow (max (next_of xs) y.0) ks
-can_after xs ys rest ks y can is = subst (λ (l : List (ℕ × ℕ)). EndsBelow (max (next_of xs) (next_of l)) ks) is can.below
-
 pub meets_taken : (ks ks' xs xs' ys rest : List (ℕ × ℕ)) (y : ℕ × ℕ) → CanMeet xs ys ks → ys ≡ y ∷ rest → TakesCommon xs xs' y ks ks' → MeetsOn xs xs' ys ys ks ks'
 meets_taken ks ks' xs xs' ys rest y can0 is t =
     let can = subst (λ (l : List (ℕ × ℕ)). CanMeet xs l ks) is can0 in
@@ -226,9 +227,6 @@ left_of {A} ranges (Some r) limit xs xs' normal parts below = record {
   parts = parts;
   below = ends_by_last limit (ranges r) (IsNormal-prefix (ranges r) xs' (subst IsNormal parts normal)) below;
 }
-
-pub left_none : (limit : ℕ) (xs : List (ℕ × ℕ)) → LeavesOut limit xs xs
-left_none limit xs = record { gone = []; parts = refl; below = tt }
 
 meets_left_at : (ks xs xs' ys : List (ℕ × ℕ)) → CanMeet xs ys ks → LeavesOut (next_of ys) xs xs' → MeetsOn xs xs' ys ys ks ks
 meets_left_at ks xs xs' [] can l = record {

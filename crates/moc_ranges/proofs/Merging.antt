@@ -1,62 +1,18 @@
 -- Joining lists of ranges at their ends, block by block.
-use Rattle.std.proofs.Common.{◌≡◌, ℕ, ◌<◌, ◌≤◌, Bool, true, false, ◌||◌, List, [], ◌∷◌, ◌++◌, length, refl, sym, ap, subst, ◌∙◌, arith, length-append}
-use Rattle.std.proofs.lemmas.List.Folds.{list_any-append}
-use Rattle.moc_ranges.specs.RangeList.{IsNormal}
-use Rattle.moc_ranges.specs.Lemmas.Members.{in_range, in_ranges}
-use Rattle.moc_ranges.specs.Private.Blocks.{last_of, next_of}
-use Rattle.moc_ranges.specs.Private.Built.{Growing, ranges_of, none_grown, CanJoin, CanTake, CanCarry, Carries, TakesOver, EndsBelow, BeginsBy}
-use Rattle.moc_ranges.proofs.Blocking.{IsNormal-suffix}
-
-pub in_ranges-append : (rs ss : List (ℕ × ℕ)) (q : ℕ) → in_ranges (rs ++ ss) q ≡ (in_ranges rs q || in_ranges ss q)
-in_ranges-append rs ss q = list_any-append (λ range. in_range range q) rs ss
-
-pub EndsBelow-more : (f g : ℕ) (rs : List (ℕ × ℕ)) → EndsBelow f rs → f ≤ g → EndsBelow g rs
-EndsBelow-more f g [] all le = tt
-EndsBelow-more f g (r ∷ rs) all le = (omega arith, EndsBelow-more f g rs all.1 le)
+use Rattle.std.proofs.Common.{◌≡◌, ℕ, ◌<◌, ◌≤◌, Bool, true, false, ◌||◌, List, [], ◌∷◌, ◌++◌, length, refl, sym, ap}
+use Rattle.std.proofs.Common.{subst, ◌∙◌, arith, length-append}
+use Rattle.moc_lists.specs.RangeList.{IsNormal}
+use Rattle.moc_lists.specs.Lemmas.Members.{in_range, in_ranges}
+use Rattle.moc_lists.specs.Private.Blocks.{next_of}
+use Rattle.moc_lists.specs.Private.Built.{Growing, ranges_of, CanJoin, CanCarry, Carries, EndsBelow, BeginsBy}
+use Rattle.moc_ranges.specs.Private.Taking.{CanTake, TakesOver}
+use Rattle.moc_lists.proofs.Blocking.{IsNormal-suffix}
+use Rattle.moc_lists.proofs.Merging.{in_ranges-append, EndsBelow-more, EndsBelow-append, EndsBelow-first, ends_second}
+use Rattle.moc_lists.proofs.Merging.{begins_of_ends, ends_next, or_false}
 
 pub BeginsBy-more : (f g : ℕ) (rs : List (ℕ × ℕ)) → BeginsBy f rs → f ≤ g → BeginsBy g rs
 BeginsBy-more f g [] all le = tt
 BeginsBy-more f g (r ∷ rs) all le = (omega arith, BeginsBy-more f g rs all.1 le)
-
-pub EndsBelow-append : (f : ℕ) (rs ss : List (ℕ × ℕ)) → EndsBelow f rs → EndsBelow f ss → EndsBelow f (rs ++ ss)
-EndsBelow-append f [] ss all more = more
-EndsBelow-append f (r ∷ rs) ss all more = (all.0, EndsBelow-append f rs ss all.1 more)
-
-pub EndsBelow-first : (f : ℕ) (rs ss : List (ℕ × ℕ)) → EndsBelow f (rs ++ ss) → EndsBelow f rs
-EndsBelow-first f [] ss all = tt
-EndsBelow-first f (r ∷ rs) ss all = (all.0, EndsBelow-first f rs ss all.1)
-
-first_le_last : (r : ℕ × ℕ) (rs : List (ℕ × ℕ)) → IsNormal (r ∷ rs) → r.1 ≤ last_of (r ∷ rs)
-first_le_last r [] normal = omega arith
-first_le_last r (s ∷ rs) normal = let rest = first_le_last s rs normal.3 in omega arith
-
-pub ends_second : (f : ℕ) (rs ss : List (ℕ × ℕ)) → EndsBelow f (rs ++ ss) → EndsBelow f ss
-ends_second f [] ss all = all
-ends_second f (r ∷ rs) ss all = ends_second f rs ss all.1
-
-pub begins_of_ends : (f : ℕ) (rs : List (ℕ × ℕ)) → IsNormal rs → EndsBelow f rs → BeginsBy f rs
-begins_of_ends f [] normal all = tt
-begins_of_ends f (r ∷ rs) normal all = (omega (arith, normal.0, all.0), begins_of_ends f rs normal.3 all.1)
-
--- where the last range ends below f, each does
-pub ends_by_last : (f : ℕ) (rs : List (ℕ × ℕ)) → IsNormal rs → last_of rs < f → EndsBelow f rs
-ends_by_last f [] normal lt = tt
-ends_by_last f (r ∷ []) normal lt = (lt, tt)
-ends_by_last f (r ∷ (s ∷ rs)) normal lt = let rest = first_le_last s rs normal.3 in (omega arith, ends_by_last f (s ∷ rs) normal.3 lt)
-
--- ranges end below where the next begins
-pub ends_next : (rs ss : List (ℕ × ℕ)) → IsNormal (rs ++ ss) → EndsBelow (next_of ss) rs
-ends_next [] ss normal = tt
-ends_next (r ∷ []) [] normal = (omega arith, tt)
-ends_next (r ∷ []) (s ∷ ss) normal = (normal.2, tt)
-ends_next (r ∷ (r' ∷ rs)) ss normal = let rest = ends_next (r' ∷ rs) ss normal.3 in (omega arith, rest)
-
--- two normal lists, of which the first ends before the second begins
-pub normal_append : (rs ss : List (ℕ × ℕ)) → IsNormal rs → IsNormal ss → EndsBelow (next_of ss) rs → IsNormal (rs ++ ss)
-normal_append [] ss nr ns below = ns
-normal_append (r ∷ []) [] nr ns below = nr
-normal_append (r ∷ []) (s ∷ ss) nr ns below = (nr.0, nr.1, below.0, ns)
-normal_append (r ∷ (r' ∷ rs)) ss nr ns below = (nr.0, nr.1, nr.2, normal_append (r' ∷ rs) ss nr.3 ns below.1)
 
 pub next_later : (rs ss : List (ℕ × ℕ)) → IsNormal (rs ++ ss) → next_of (rs ++ ss) ≤ next_of ss
 next_later [] ss normal = omega arith
@@ -64,17 +20,9 @@ next_later (r ∷ []) [] normal = omega arith
 next_later (r ∷ []) (s ∷ ss) normal = omega arith
 next_later (r ∷ (r' ∷ rs)) ss normal = let rest = next_later (r' ∷ rs) ss normal.3 in omega arith
 
-pub next_append : (rs ss : List (ℕ × ℕ)) → 0 < length rs → next_of (rs ++ ss) ≡ next_of rs
-next_append [] ss some = absurd (omega arith)
-next_append (r ∷ rs) ss some = refl
-
 pub none_next : (rs : List (ℕ × ℕ)) → IsNormal rs → 18446744073709551615 ≤ next_of rs → rs ≡ []
 none_next [] normal le = refl
 none_next (r ∷ rs) normal le = absurd (omega arith)
-
-pub some_next : (rs : List (ℕ × ℕ)) → next_of rs < 18446744073709551615 → 0 < length rs
-some_next [] lt = absurd (omega arith)
-some_next (r ∷ rs) lt = omega arith
 
 pub CanJoin-more : (u : Growing) (f g : ℕ) → CanJoin u f → f ≤ g → CanJoin u g
 CanJoin-more u f g can le = record { before = EndsBelow-more f g u.closed can.before le; begun = BeginsBy-more f g u.loose can.begun le }
@@ -115,10 +63,6 @@ carried u u' xs xs' limit can apart c fewer =
       can_limit = can_at limit can.first c.below;
     }
 
-pub or_false : (b : Bool) → (b || false) ≡ b
-or_false true = refl
-or_false false = refl
-
 -- a range was joined
 pub joined_over : (u u' : Growing) (xs xs' : List (ℕ × ℕ)) (range : ℕ × ℕ) (limit : ℕ) → IsNormal xs → xs ≡ range ∷ xs' → next_of xs ≤ limit → IsNormal (ranges_of u') → ((q : ℕ) → in_ranges (ranges_of u') q ≡ (in_ranges (ranges_of u) q || in_range range q)) → CanJoin u' range.0 → TakesOver xs xs' limit u u'
 joined_over u u' xs xs' range limit normal parts first built' same can =
@@ -143,18 +87,6 @@ pub record IsUniting (u : Growing) (xs ys whole_xs whole_ys : List (ℕ × ℕ))
   pub can_first : CanJoin u (next_of xs)
   pub can_second : CanJoin u (next_of ys)
   pub same : (q : ℕ) → (in_ranges (ranges_of u) q || (in_ranges xs q || in_ranges ys q)) ≡ (in_ranges whole_xs q || in_ranges whole_ys q)
-
-pub uniting_start : (u : Growing) (xs ys : List (ℕ × ℕ)) → u ≡ none_grown → IsNormal xs → IsNormal ys → IsUniting u xs ys xs ys
-uniting_start u xs ys is nx ny =
-    let start : IsUniting none_grown xs ys xs ys = record {
-      built = tt;
-      first_normal = nx;
-      second_normal = ny;
-      can_first = record { before = tt; begun = tt };
-      can_second = record { before = tt; begun = tt };
-      same = λ q. refl;
-    } in
-    subst (λ (w : Growing). IsUniting w xs ys xs ys) (sym is) start
 
 or_assoc : (a b c : Bool) → (a || (b || c)) ≡ ((a || b) || c)
 or_assoc true b c = refl
@@ -195,9 +127,6 @@ uniting_second u u' xs ys ys' whole_xs whole_ys limit s is t = record {
       ∙ ap (λ b. in_ranges (ranges_of u) q || (in_ranges xs q || b)) (sym (in_ranges-append t.gone ys' q) ∙ ap (λ (l : List (ℕ × ℕ)). in_ranges l q) (sym t.parts))
       ∙ s.same q;
 }
-
-pub taken_onward : (xs xs' : List (ℕ × ℕ)) (limit : ℕ) (u u' : Growing) → TakesOver xs xs' limit u u' → length xs' < length xs
-taken_onward xs xs' limit u u' t = omega (arith, ap length t.parts, length-append t.gone xs', t.some)
 
 pub united : (u : Growing) (xs ys whole_xs whole_ys : List (ℕ × ℕ)) → IsUniting u xs ys whole_xs whole_ys → xs ≡ [] → ys ≡ [] → (q : ℕ) → in_ranges (ranges_of u) q ≡ (in_ranges whole_xs q || in_ranges whole_ys q)
 united u xs ys whole_xs whole_ys s x y q =

@@ -1,7 +1,9 @@
 -- Lists of ranges that a step of a walk made shorter.
-use Rattle.std.proofs.Common.{◌≡◌, ℕ, ◌+◌, ◌<◌, ◌≤◌, List, ◌++◌, length, ap, arith, length-append, Option, Some}
-use Rattle.moc_ranges.specs.Private.Built.{Carries, TakesCommon, TakesOver, Growing}
-use Rattle.moc_ranges.specs.Private.Walks.{begun, Advances}
+use Rattle.std.proofs.Common.{◌≡◌, ℕ, ◌+◌, ◌<◌, ◌≤◌, List, length, ap, arith, length-append, Option, Some}
+use Rattle.moc_lists.specs.Private.Built.{Carries, Growing}
+use Rattle.moc_ranges.specs.Private.Taking.{TakesCommon, TakesOver}
+use Rattle.moc_ranges.specs.Private.Walks.{begun}
+use Rattle.moc_lists.specs.Private.Walks.{Advances}
 use Rattle.moc_ranges.proofs.Walking.{begun_is}
 
 -- a list of which a range was taken off
@@ -19,6 +21,3 @@ taken_shorter {xs' = xs'} t = omega (arith, ap length t.parts, length-append t.g
 
 pub over_shorter : {b b' : Growing} {xs xs' : List (ℕ × ℕ)} {limit : ℕ} → TakesOver xs xs' limit b b' → length xs' < length xs
 over_shorter {xs' = xs'} t = omega (arith, ap length t.parts, length-append t.gone xs', t.some)
-
-pub part_shorter : (xs part xs' : List (ℕ × ℕ)) → xs ≡ part ++ xs' → 0 < length part → length xs' < length xs
-part_shorter xs part xs' parts some = omega (arith, ap length parts, length-append part xs')

@@ -1,16 +1,17 @@
 -- Two slices of ranges, while what an operation keeps of them grows.
-use Rattle.std.proofs.Common.{◌≡◌, ℕ, ◌<◌, ◌≤◌, Bool, true, false, not, ◌||◌, ◌&&◌, List, [], ◌∷◌, ◌++◌, min, max, refl, sym, ap, subst, ◌∙◌, arith, inl, inr}
+use Rattle.std.proofs.Common.{◌≡◌, ℕ, ◌<◌, ◌≤◌, Bool, true, false, not, ◌||◌, ◌&&◌, List, [], ◌∷◌, ◌++◌, min, max}
+use Rattle.std.proofs.Common.{refl, sym, ap, subst, ◌∙◌, arith, inl, inr}
 use Rattle.std.specs.Prelude.{nat_le, nat_lt}
 use Rattle.std.proofs.lemmas.Bool.{cases_lt}
 use Rattle.std.proofs.lemmas.Bool.Decides.{nat_tests}
-use Rattle.moc_ranges.specs.Pixels.{pixel_count}
-use Rattle.moc_ranges.specs.RangeList.{IsNormal, BeginsAfter}
-use Rattle.moc_ranges.specs.Lemmas.Members.{in_range, in_ranges}
-use Rattle.moc_ranges.specs.Private.Blocks.{next_of}
-use Rattle.moc_ranges.specs.Private.Built.{EndsBelow}
+use Rattle.moc_lists.specs.RangeList.{pixel_count, IsNormal, BeginsAfter}
+use Rattle.moc_lists.specs.Lemmas.Members.{in_range, in_ranges}
+use Rattle.moc_lists.specs.Private.Blocks.{next_of}
+use Rattle.moc_lists.specs.Private.Built.{EndsBelow}
 use Rattle.moc_ranges.specs.Private.Few.{IsSettled}
-use Rattle.moc_ranges.proofs.Merging.{normal_append, ends_next, or_false, in_ranges-append, EndsBelow-append, EndsBelow-more}
-use Rattle.moc_ranges.proofs.Building.{pushed_normal}
+use Rattle.moc_lists.proofs.Merging.{normal_append, ends_next, or_false, in_ranges-append, EndsBelow-append}
+use Rattle.moc_lists.proofs.Merging.{EndsBelow-more}
+use Rattle.moc_lists.proofs.Building.{pushed_normal}
 use Rattle.moc_ranges.proofs.Turning.{or_first}
 use Rattle.moc_ranges.proofs.Walking.{and_swap}
 use Rattle.moc_ranges.proofs.Meeting.{pieces}
@@ -121,15 +122,6 @@ pub record IsMeetingFew (kept xs ys whole_xs whole_ys : List (ℕ × ℕ)) : Typ
   pub second_normal : IsNormal ys
   pub below : EndsBelow (max (next_of xs) (next_of ys)) kept
   pub same : (q : ℕ) → (in_ranges kept q || (in_ranges xs q && in_ranges ys q)) ≡ (in_ranges whole_xs q && in_ranges whole_ys q)
-
-pub meeting_few_start : (kept xs ys : List (ℕ × ℕ)) → kept ≡ [] → IsNormal xs → IsNormal ys → IsMeetingFew kept xs ys xs ys
-meeting_few_start kept xs ys none nx ny = subst (λ (k : List (ℕ × ℕ)). IsMeetingFew k xs ys xs ys) (sym none) (record {
-  normal = tt;
-  first_normal = nx;
-  second_normal = ny;
-  below = tt;
-  same = λ q. refl;
-})
 
 pub meeting_few_swap : (kept xs ys whole_xs whole_ys : List (ℕ × ℕ)) → IsMeetingFew kept xs ys whole_xs whole_ys → IsMeetingFew kept ys xs whole_ys whole_xs
 meeting_few_swap kept xs ys whole_xs whole_ys s = record {

@@ -5,10 +5,10 @@ use Rattle.std.proofs.lemmas.Bool.{cases_lt, eq-eqb, eqb-true, false_from_ne_tru
 use Rattle.std.proofs.lemmas.Bool.Decides.{nat_tests}
 use Rattle.std.specs.FinSet as set
 use Rattle.moc_sphere.specs.CellNumber.{cell_number, IsInSpan, cell_size}
-use Rattle.moc_ranges.specs.Lemmas.Members.{same_members, contains-span, contains-set_of, in_ranges}
-use Rattle.moc_ranges.specs.Pixels.{pixel_count}
+use Rattle.moc_lists.specs.Lemmas.Members.{same_members, contains-set_of, in_ranges}
+use Rattle.moc_ranges.specs.Lemmas.Members.{contains-span}
+use Rattle.moc_lists.specs.RangeList.{pixel_count, set_of}
 use Rattle.moc_ranges.specs.Cells.{span}
-use Rattle.moc_ranges.specs.RangeList.{set_of}
 
 abbrev IsSpanned : ℕ → ℕ → ℕ → ℕ → Type 0
 IsSpanned order index from to = (p : ℕ) → ((from ≤ p) × (p < to)) ↔ IsInSpan (cell_number order index) p

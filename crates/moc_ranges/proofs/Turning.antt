@@ -1,19 +1,13 @@
 -- Joining the ranges of two begun blocks.
-use Rattle.std.proofs.Common.{◌≡◌, ℕ, suc, ◌-◌, ◌≤◌, Bool, true, false, ◌||◌, List, [], ◌∷◌, ◌++◌, length, get_or, take, drop, refl, sym, ap, subst, ◌∙◌, arith, append_assoc}
-use Rattle.std.proofs.lemmas.List.{take_all}
-use Rattle.moc_ranges.specs.RangeList.{IsNormal}
-use Rattle.moc_ranges.specs.Lemmas.Members.{in_range, in_ranges}
-use Rattle.moc_ranges.specs.Private.Blocks.{next_of}
-use Rattle.moc_ranges.specs.Private.Built.{Growing, ranges_of, IsTurn, IsJoining, TakesBoth, CanJoin, BeginsBy}
+use Rattle.std.proofs.Common.{◌≡◌, ℕ, ◌-◌, ◌≤◌, Bool, true, false, ◌||◌, List, [], ◌∷◌, ◌++◌, refl, sym, ap, subst}
+use Rattle.std.proofs.Common.{◌∙◌, arith, append_assoc}
+use Rattle.moc_lists.specs.RangeList.{IsNormal}
+use Rattle.moc_lists.specs.Lemmas.Members.{in_range, in_ranges}
+use Rattle.moc_lists.specs.Private.Blocks.{next_of}
+use Rattle.moc_lists.specs.Private.Built.{Growing, ranges_of, CanJoin, BeginsBy}
+use Rattle.moc_ranges.specs.Private.Taking.{IsTurn, IsJoining, TakesBoth}
 use Rattle.moc_ranges.proofs.Merging.{next_later, CanJoin-more, IsUniting}
-use Rattle.moc_ranges.proofs.Building.{last_begins, pushed_can}
-
-pub first_item : (xs : List (ℕ × ℕ)) (d : ℕ × ℕ) → 1 ≤ length xs → xs ≡ get_or xs 0 d ∷ take (length xs - 1) (drop 1 xs)
-first_item [] d some = absurd (omega arith)
-first_item (y ∷ ys) d some =
-    let e : suc (length ys) - 1 ≡ length ys = omega arith in
-    let whole : take (suc (length ys) - 1) ys ≡ ys = ap (λ n. take n ys) e ∙ take_all (length ys) ys (omega arith) in
-    λ i. y ∷ sym whole i
+use Rattle.moc_lists.proofs.Building.{last_begins, pushed_can}
 
 pub or_first : (a b c : Bool) → ((a || b) || c) ≡ (a || (b || c))
 or_first true b c = refl
@@ -65,17 +59,6 @@ turn_second xs ys more more' bx by x y ex ey le n m =
     let head : next_of (xs ++ bx) ≡ x.0 = ap (λ (l : List (ℕ × ℕ)). next_of (l ++ bx)) ex in
     subst (λ (l : List (ℕ × ℕ)). IsTurn (xs ++ bx) (l ++ by) y (xs ++ bx) (more' ++ by)) (sym ey)
     (turn_other y (xs ++ bx) (more' ++ by) n (subst (λ (l : List (ℕ × ℕ)). IsNormal (l ++ by)) ey m) (omega arith))
-
-pub joining_start : (ks xs ys : List (ℕ × ℕ)) (last : ℕ × ℕ) → IsNormal (ks ++ last ∷ []) → IsNormal xs → IsNormal ys → last.0 ≤ next_of xs → last.0 ≤ next_of ys → IsJoining ks last xs ys (ks ++ last ∷ []) xs ys
-joining_start ks xs ys last opened n m a b = record {
-  opened = opened;
-  first_normal = n;
-  second_normal = m;
-  first_later = a;
-  second_later = b;
-  same = λ q. refl;
-  fewer = omega arith;
-}
 
 pub joining_step : (ks ks' xs xs' ys ys' whole whole_xs whole_ys : List (ℕ × ℕ)) (last last' range : ℕ × ℕ) → IsJoining ks last xs ys whole whole_xs whole_ys → IsTurn xs ys range xs' ys' → IsNormal (ks' ++ last' ∷ []) → last'.0 ≤ range.0 → ((q : ℕ) → in_ranges (ks' ++ last' ∷ []) q ≡ (in_ranges (ks ++ last ∷ []) q || in_range range q)) → IsJoining ks' last' xs' ys' whole whole_xs whole_ys
 joining_step ks ks' xs xs' ys ys' whole whole_xs whole_ys last last' range s t opened later same = record {

@@ -1,25 +1,22 @@
 -- Walks over two lists of ranges: what one step does to what they have in common.
-use Rattle.std.proofs.Common.{◌≡◌, ℕ, zero, suc, ◌+◌, ◌-◌, ◌<◌, ◌≤◌, Bool, true, false, cond, ◌&&◌, ◌||◌, List, [], ◌∷◌, ◌++◌, min, max, refl, sym, ap, subst, ◌∙◌, arith, inl, inr, Option, None, Some, MatchOption, drop}
+use Rattle.std.proofs.Common.{◌≡◌, ℕ, zero, suc, ◌+◌, ◌-◌, ◌<◌, ◌≤◌, Bool, true, false, cond, ◌&&◌, ◌||◌, List, []}
+use Rattle.std.proofs.Common.{◌∷◌, ◌++◌, min, max, refl, sym, ap, subst, ◌∙◌, arith, inl, inr, Option, None, Some}
+use Rattle.std.proofs.Common.{MatchOption}
 use Rattle.std.specs.Prelude.{nat_le, nat_lt}
 use Rattle.std.specs.FinSet as set
 use Rattle.std.specs.Ordering.{nat_cmp, eq_by_cmp}
 use Rattle.std.specs.Cmp.{nat_cmp_total}
 use Rattle.std.proofs.lemmas.Bool.{cases_lt, false_from_ne_true, or_cases, or_left, or_right, false≢true, lt-ltb}
 use Rattle.std.proofs.lemmas.Bool.Decides.{nat_tests}
-use Rattle.moc_ranges.specs.Numbers.{NumberSet, numbers}
-use Rattle.moc_ranges.specs.Lemmas.Members.{contains-numbers, same_members, in_range, in_ranges, contains-set_of}
-use Rattle.moc_ranges.specs.Pixels.{pixel_count}
-use Rattle.moc_ranges.specs.Lemmas.Sizes.{len_parts}
-use Rattle.moc_ranges.specs.RangeList.{IsNormal, BeginsAfter, set_of}
-use Rattle.moc_ranges.specs.Lemmas.Ranges.{len_bounded}
-use Rattle.moc_ranges.specs.Private.Walks.{common_of, has_all, begun, overlap_of, EndsBy, Advances}
-use Rattle.moc_ranges.proofs.Blocking.{IsNormal-suffix}
-use Rattle.moc_ranges.proofs.Passing.{ends_by_more, overlap_none}
-
--- no number up to the end of a normal list's first range is in a later one
-pub later_only : (x q : ℕ) (ranges : List (ℕ × ℕ)) → IsNormal ranges → BeginsAfter x ranges → q ≤ x → in_ranges ranges q ≡ false
-later_only x q [] normal after le = refl
-later_only x q (range ∷ ranges) normal after le = let rest = later_only range.1 q ranges normal.3 normal.2 (omega arith) in grind (arith, nat_tests)
+use Rattle.moc_lists.specs.RangeList.{NumberSet, numbers, pixel_count, IsNormal, BeginsAfter, set_of}
+use Rattle.moc_lists.specs.Lemmas.Members.{contains-numbers, same_members, in_range, in_ranges, contains-set_of}
+use Rattle.moc_lists.specs.Lemmas.Sizes.{len_parts}
+use Rattle.moc_lists.specs.Lemmas.Ranges.{len_bounded}
+use Rattle.moc_ranges.specs.Private.Walks.{common_of, has_all, begun}
+use Rattle.moc_lists.specs.Private.Walks.{overlap_of, EndsBy, Advances}
+use Rattle.moc_lists.proofs.Blocking.{IsNormal-suffix}
+use Rattle.moc_lists.proofs.Passing.{ends_by_more, overlap_none}
+use Rattle.moc_lists.proofs.Walking.{later_only}
 
 none_more : (from q : ℕ) (b : Bool) → ((nat_le from q && nat_lt q (from + 0)) || b) ≡ b
 none_more from q b = grind (arith, nat_tests)
@@ -309,43 +306,11 @@ holding_ends f s xs ys whole_xs whole_ys h none =
 
 -- ---- the same ranges
 
-pub same_start : (xs ys : List (ℕ × ℕ)) → AreSameFrom xs ys xs ys
-same_start xs ys = record { there = λ e. e; back = λ e. e }
-
-pub same_more : (x y : ℕ × ℕ) (xs ys xs' ys' whole_xs whole_ys : List (ℕ × ℕ)) → AreSameFrom xs ys whole_xs whole_ys → xs ≡ x ∷ xs' → ys ≡ y ∷ ys' → x.0 ≡ y.0 → x.1 ≡ y.1 → AreSameFrom xs' ys' whole_xs whole_ys
-same_more x y xs ys xs' ys' whole_xs whole_ys s ex ey from to = record {
-  there = λ e. ap (λ (l : List (ℕ × ℕ)). drop 1 l) (sym ex ∙ s.there e ∙ ey);
-  back = λ e. s.back (ex ∙ (λ i. (from i, to i) ∷ e i) ∙ sym ey);
-}
-
-first_or : List (ℕ × ℕ) → ℕ × ℕ
-first_or [] = (0, 0)
-first_or (x ∷ xs) = x
-
-pub heads_differ : (x y : ℕ × ℕ) (xs ys xs' ys' whole_xs whole_ys : List (ℕ × ℕ)) → AreSameFrom xs ys whole_xs whole_ys → xs ≡ x ∷ xs' → ys ≡ y ∷ ys' → whole_xs ≡ whole_ys → (x.0 ≡ y.0) × (x.1 ≡ y.1)
-unfolding first_or
-heads_differ x y xs ys xs' ys' whole_xs whole_ys s ex ey e =
-    let all : x ∷ xs' ≡ y ∷ ys' = sym ex ∙ s.there e ∙ ey in
-    (ap (λ (l : List (ℕ × ℕ)). (first_or l).0) all, ap (λ (l : List (ℕ × ℕ)). (first_or l).1) all)
-
-pub lengths_differ : (x : ℕ × ℕ) (xs ys xs' whole_xs whole_ys : List (ℕ × ℕ)) → AreSameFrom xs ys whole_xs whole_ys → xs ≡ x ∷ xs' → ys ≡ [] → whole_xs ≡ whole_ys → ⊥
-lengths_differ x xs ys xs' whole_xs whole_ys s ex ey e =
-    let all : x ∷ xs' ≡ [] = sym ex ∙ s.there e ∙ ey in
-    cc
-
-pub lengths_differ_back : (y : ℕ × ℕ) (xs ys ys' whole_xs whole_ys : List (ℕ × ℕ)) → AreSameFrom xs ys whole_xs whole_ys → xs ≡ [] → ys ≡ y ∷ ys' → whole_xs ≡ whole_ys → ⊥
-lengths_differ_back y xs ys ys' whole_xs whole_ys s ex ey e =
-    let all : [] ≡ y ∷ ys' = sym ex ∙ s.there e ∙ ey in
-    cc
-
 pub shares_some : (w : ℕ) (x y : ℕ × ℕ) (xs ys whole_xs whole_ys : List (ℕ × ℕ)) → IsCounting 0 (x ∷ xs) (y ∷ ys) whole_xs whole_ys → w ≡ min x.1 y.1 - max x.0 y.0 → 0 < w → true ≡ nat_lt 0 (common_of whole_xs whole_ys)
 shares_some w x y xs ys whole_xs whole_ys s is some = sym (lt-ltb 0 (common_of whole_xs whole_ys) (omega (arith, counting_room 0 w x y xs ys whole_xs whole_ys s is)))
 
 pub shares_none : (n : ℕ) → 0 ≡ n → false ≡ nat_lt 0 n
 shares_none n e = ap (λ m. nat_lt 0 m) e
-
-pub counting_same : (total w : ℕ) (xs ys whole_xs whole_ys : List (ℕ × ℕ)) → IsCounting (total + w) xs ys whole_xs whole_ys → w ≡ 0 → IsCounting total xs ys whole_xs whole_ys
-counting_same total w xs ys whole_xs whole_ys s none = let e : total + w ≡ total = omega arith in subst (λ n. IsCounting n xs ys whole_xs whole_ys) e s
 
 -- a range that ends by where the other begins shares nothing
 pub sharing_first : (n : ℕ) (x y : ℕ × ℕ) (xs ys t whole_xs whole_ys : List (ℕ × ℕ)) (r : Option (ℕ × ℕ)) → IsCounting 0 (x ∷ xs) (y ∷ ys) whole_xs whole_ys → x.1 ≤ y.0 → Advances (y.0, y.0) xs t r n → IsCounting 0 (begun r t) (y ∷ ys) whole_xs whole_ys

@@ -1,25 +1,23 @@
 -- Widening ranges to whole cells.
-use Rattle.std.proofs.Common.{◌^◌, max, ◌≡◌, ℕ, ◌+◌, ◌-◌, ◌*◌, ◌/◌, ◌<◌, ◌≤◌, Bool, true, false, ◌&&◌, leb, ltb, List, [], ◌∷◌, refl, sym, ap, subst, ◌∙◌, arith, inl, inr, map}
-use Rattle.std.proofs.lemmas.Nat.{div-add-mod', div_below, le-div}
-use Rattle.std.proofs.Math.Nat.{mul-le-mul_right}
-use Rattle.std.proofs.Math.Nat.{pow-le-pow_right, mod-eq_of_lt}
+use Rattle.std.proofs.Common.{◌^◌, max, ◌≡◌, ℕ, ◌+◌, ◌-◌, ◌*◌, ◌/◌, ◌<◌, ◌≤◌, Bool, true, false, ◌&&◌, leb, ltb, List}
+use Rattle.std.proofs.Common.{[], ◌∷◌, refl, sym, ap, subst, ◌∙◌, arith, inl, inr, map}
+use Rattle.std.proofs.lemmas.Nat.{div-add-mod', div_below, le-div, pow_pos, shr_below}
+use Rattle.std.proofs.Math.Nat.{mul-le-mul_right, pow-le-pow_right, mod-eq_of_lt}
 use Rattle.std.specs.FinSet as set
 use Rattle.moc_sphere.specs.CellNumber.{cell_size}
 use Rattle.moc_sphere.specs.Lemmas.{cell_size-positive, cell_size-fills}
-use Rattle.moc_ranges.specs.Numbers.{NumberSet}
-use Rattle.moc_ranges.specs.Lemmas.Members.{meets-some, meets-none, contains-span, contains-degrade, contains-set_of}
-use Rattle.moc_ranges.specs.Lemmas.Members.{in_range, in_ranges}
+use Rattle.moc_lists.specs.RangeList.{NumberSet, pixel_count, set_of, IsNormal, BeginsAfter}
+use Rattle.moc_ranges.specs.Lemmas.Members.{meets-some, meets-none, contains-span, contains-degrade}
+use Rattle.moc_lists.specs.Lemmas.Members.{contains-set_of, in_range, in_ranges}
 use Rattle.moc_ranges.specs.Cells.{span, degrade}
 use Rattle.moc_ranges.proofs.Sorting.{IsSortedFrom-less}
-use Rattle.std.proofs.lemmas.Bool.{cases_Bool, false≢true, false_from_ne_true, eqb-true, eq-eqb, or_cases, or_left, or_right, and_parts, and_from, leb-true, ltb-true, le-leb, lt-ltb}
-use Rattle.moc_ranges.specs.Pixels.{pixel_count}
+use Rattle.std.proofs.lemmas.Bool.{cases_Bool, false≢true, false_from_ne_true, eqb-true, eq-eqb, or_cases, or_left}
+use Rattle.std.proofs.lemmas.Bool.{or_right, and_parts, and_from, leb-true, ltb-true, le-leb, lt-ltb}
 use Rattle.moc_ranges.specs.Private.Sorted.{IsSortedFrom}
 use Rattle.moc_ranges.specs.Private.Widen.{IsCellSize, widen}
 use Rattle.std.specs.Prelude.{bit_and}
-use Rattle.std.proofs.lemmas.Nat.{pow_pos, shr_below}
 use Rattle.std.proofs.lemmas.Nat.Bits.{and_high}
 use Rattle.moc_ranges.proofs.CellRuns.{two_pow}
-use Rattle.moc_ranges.specs.RangeList.{set_of, IsNormal, BeginsAfter}
 
 floor_le : (w q : ℕ) → q / w * w ≤ q
 floor_le w q = omega (arith, div-add-mod' q w)

@@ -1,12 +1,11 @@
 -- Cells of every order, and what they have to do with a set of pixels (MOC 2.0).
-use Rattle.std.specs.Prelude.{ℕ, zero, suc, ◌+◌, ◌-◌, ◌/◌, ◌<◌, ◌≤◌, ⊤, Bool, not, ◌&&◌, ◌||◌, List, [], ◌∷◌, ◌++◌, map}
-use Rattle.std.specs.Prelude.{nat_eq, nat_le}
+use Rattle.std.specs.Prelude.{ℕ, zero, suc, ◌+◌, ◌-◌, ◌/◌, ◌<◌, ◌≤◌, ⊤, Bool, not, ◌&&◌, ◌||◌, List, [], ◌∷◌, ◌++◌}
+use Rattle.std.specs.Prelude.{map, nat_eq, nat_le}
 use Rattle.std.specs.FinSet as set
 use Rattle.std.specs.List.{filter, flat_map, range_with_len, AllByRecursion}
 use Rattle.moc_sphere.specs.CellNumber.{CellNumber, cell_number, cell_count, cell_size, uniq_of}
-use Rattle.moc_ranges.specs.Numbers.{NumberSet}
-use Rattle.moc_ranges.specs.Pixels.{pixels}
-use Rattle.moc_ranges.specs.Operations.{meets}
+use Rattle.moc_lists.specs.RangeList.{NumberSet}
+use Rattle.moc_ranges.specs.Operations.{pixels, meets}
 
 -- the pixels of a cell
 unfoldable pub span : ℕ → ℕ → NumberSet

@@ -2,10 +2,8 @@
 use Rattle.std.specs.Prelude.{◌≡◌, ℕ, List}
 use Rattle.std.specs.List.{AllByRecursion}
 use Rattle.moc_sphere.specs.CellNumber.{IsCell}
-use Rattle.moc_ranges.specs.Numbers.{NumberSet}
-use Rattle.moc_ranges.specs.Pixels.{pixels}
-use Rattle.moc_ranges.specs.Operations.{complement, IsWithin}
-use Rattle.moc_ranges.specs.RangeList.{IsNormal, set_of}
+use Rattle.moc_lists.specs.RangeList.{NumberSet, IsNormal, set_of}
+use Rattle.moc_ranges.specs.Operations.{pixels, complement, IsWithin}
 use Rattle.moc_ranges.specs.Cells.{cells_of, pixels_of, IsRisingUniq}
 
 -- two normal range lists of one set are the same list

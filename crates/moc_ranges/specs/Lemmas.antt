@@ -4,7 +4,6 @@ pub mod Members
 pub mod Pixels
 pub mod Ranges
 pub mod Sets
-pub mod Sizes
 use Rattle.std.proofs.Common.{◌≡◌, ℕ, ◌/◌, ◌*◌, ◌+◌, ◌<◌, ◌≤◌, Bool, true, false, ◌||◌, ◌&&◌, List, [], ◌∷◌, ◌++◌, map}
 use Rattle.std.proofs.Common.{refl, sym, ap, ◌∙◌, arith, inl, inr, div-lt_iff_lt-mul}
 use Rattle.std.specs.Prelude.{nat_le, nat_lt, nat_eq}
@@ -17,12 +16,10 @@ use Rattle.std.proofs.lemmas.Bool.{cases_lt, leb-true, lt-ltb}
 use Rattle.std.proofs.lemmas.Nat.{div-add-mod', mod_below, mul-le}
 use Rattle.moc_sphere.specs.CellNumber.{CellNumber, IsCell, cell_count, cell_size}
 use Rattle.moc_sphere.specs.Lemmas.{cell_size-positive, cell_size-fills}
-use Rattle.moc_ranges.specs.Numbers.{NumberSet, numbers}
-use Rattle.moc_ranges.specs.Lemmas.Members.{contains-numbers, same_members, in_range, contains-span, contains-spans}
-use Rattle.moc_ranges.specs.Lemmas.Members.{cell_range}
-use Rattle.moc_ranges.specs.Pixels.{base_pixel_size, pixel_count, pixels}
-use Rattle.moc_ranges.specs.Operations.{IsWithin}
-use Rattle.moc_ranges.specs.RangeList.{set_of}
+use Rattle.moc_lists.specs.RangeList.{NumberSet, numbers, pixel_count, set_of}
+use Rattle.moc_lists.specs.Lemmas.Members.{contains-numbers, same_members, in_range}
+use Rattle.moc_ranges.specs.Lemmas.Members.{contains-span, contains-spans, cell_range}
+use Rattle.moc_ranges.specs.Operations.{base_pixel_size, pixels, IsWithin}
 use Rattle.moc_ranges.specs.Cells.{span, spans, pixels_of, cells_of}
 use Rattle.moc_ranges.specs.Lemmas.Cells.{cells_are}
 use Rattle.moc_ranges.specs.Lemmas.Cells as by_ranges

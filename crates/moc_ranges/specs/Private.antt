@@ -2,13 +2,10 @@
 pub mod Sorted
 pub mod Widen
 pub mod CellRuns
-pub mod Blocks
-pub mod Built
-pub mod Kept
 pub mod Walks
 pub mod Gathered
 pub mod Few
 pub mod Differing
 pub mod Crossing
 pub mod Meeting
-pub mod Added
+pub mod Taking

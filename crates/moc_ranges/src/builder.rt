@@ -3,13 +3,13 @@ ghost use Rattle.std.specs.Prelude.{◌≡◌, ◌<◌, ◌≤◌, ◌*◌, ◌+
 ghost use Rattle.std.specs.FinSet as set;
 ghost use Rattle.moc_sphere.specs.CellNumber.{cell_count};
 ghost use Rattle.moc_ranges.specs.Cells.{span, spans, pixels_of};
-ghost use Rattle.moc_ranges.specs.Numbers.{numbers};
-ghost use Rattle.moc_ranges.specs.Pixels.{pixel_count};
+ghost use Rattle.moc_lists.specs.RangeList.{numbers};
+ghost use Rattle.moc_lists.specs.RangeList.{pixel_count};
 
 use crate::coverage::Coverage;
 use crate::errors::Memory;
 use crate::from_ranges::{append, build};
-use crate::list::builder::list_of;
+use moc_lists::list_of;
 use moc_sphere::{Cell, Order};
 use std::alloc::{AllocError, Global};
 use std::fmt;

@@ -1,8 +1,8 @@
 //! The cells of one order of a set, as runs of consecutive indices.
 ghost use Rattle.std.specs.Iterator.{YieldsFirst, item_count};
 
-use crate::list::ranges::Ranges;
 use crate::operations::meeting::keep_at;
+use moc_lists::Ranges;
 use moc_sphere::Order;
 use std::fmt;
 use std::marker::Model;
@@ -25,7 +25,7 @@ pub struct CellRanges<'a> {
 
 impl<'a> Model for CellRanges<'a> {
     ghost use Rattle.std.specs.Prelude.{List, ℕ, ◌≡◌, ◌++◌, ◌≤◌, length};
-    ghost use Rattle.moc_ranges.specs.RangeList.{IsNormal};
+    ghost use Rattle.moc_lists.specs.RangeList.{IsNormal};
     ghost use Rattle.moc_ranges.specs.Private.CellRuns.{ahead_of, pieces_along};
 
     ghost Value = { List (ℕ × ℕ) };
@@ -36,9 +36,9 @@ impl<'a> Model for CellRanges<'a> {
 }
 
 ghost use Rattle.std.specs.Prelude.{◌≡◌, ◌++◌, ◌<◌, ◌≤◌, [], length, take};
-ghost use Rattle.moc_ranges.specs.RangeList.{IsNormal};
+ghost use Rattle.moc_lists.specs.RangeList.{IsNormal};
 ghost use Rattle.moc_ranges.specs.Private.CellRuns.{pieces_along, pieces_of, whole_in};
-ghost use Rattle.moc_ranges.specs.Pixels.{pixel_count};
+ghost use Rattle.moc_lists.specs.RangeList.{pixel_count};
 
 /// The cells of an order that lie whole in a range: the index of the first, and the one after the
 /// last.

@@ -6,12 +6,13 @@ ghost use Rattle.std.specs.Prelude.{IfOk, IfErr, OnOk, None, unwrap_or};
 ghost use Rattle.moc_ranges.specs.Faults.{first_fault};
 ghost use Rattle.std.specs.Cmp.{partial_equiv_from_equiv};
 ghost use Rattle.std.specs.FinSet as set;
-ghost use Rattle.moc_ranges.specs.RangeList.{IsNormal, set_of};
+ghost use Rattle.moc_lists.specs.RangeList.{IsNormal, set_of};
 ghost use Rattle.moc_ranges.specs.Operations.{symmetric, complement, meets, IsWithin};
-ghost use Rattle.moc_ranges.specs.Pixels.{pixel_count, pixels};
+ghost use Rattle.moc_lists.specs.RangeList.{pixel_count};
+ghost use Rattle.moc_ranges.specs.Operations.{pixels};
 ghost use Rattle.moc_ranges.specs.Cells.{AreOfOrders, cells_in, cells_of, degrade, span};
-ghost use Rattle.moc_ranges.specs.Numbers.{numbers};
-ghost use Rattle.moc_ranges.specs.Blocks.{joining, AreBlocks, IsSearchOf};
+ghost use Rattle.moc_lists.specs.RangeList.{numbers};
+ghost use Rattle.moc_lists.specs.Blocks.{joining, AreBlocks, IsSearchOf};
 ghost use Rattle.moc_ranges.specs.Private.Walks.{IsNextRange, HasNoneFrom};
 
 mod base_pixels;
@@ -21,16 +22,13 @@ use crate::cell_ranges::CellRanges;
 use crate::cells::{deepest_order, orders_with_cells, push_runs};
 use crate::errors::{Memory, RangesError};
 use crate::from_ranges::{build, build_widened, filled_by_start, refuse_faulty};
-use crate::list::RangeList;
-use crate::list::chunks::Chunks;
-use crate::list::ranges::Ranges;
-use crate::list::steps::Steps;
 use crate::operations::difference::subtract;
 use crate::operations::intersection::intersect;
 use crate::operations::symmetric::differ;
 use crate::operations::union::unite;
 use crate::operations::walks::{are_same, count_both, holds_all, share_some};
 use crate::pixels::PIXEL_COUNT;
+use moc_lists::{Chunks, RangeList, Ranges, Steps};
 use moc_sphere::{Cell, Order};
 use std::alloc::{AllocError, Global};
 use std::fmt;
@@ -51,7 +49,7 @@ impl Model for Coverage {
     ghost use Rattle.std.specs.Ordering.{nat_cmp};
     ghost use Rattle.std.specs.FinSet as set;
     ghost use Rattle.std.specs.Coded.{coded_ℕ};
-    ghost use Rattle.moc_ranges.specs.RangeList.{set_of};
+    ghost use Rattle.moc_lists.specs.RangeList.{set_of};
 
     ghost Value = { set.FinSet nat_cmp };
 
@@ -425,7 +423,7 @@ impl Coverage {
 }
 
 impl PartialEq for Coverage {
-    ghost use Rattle.moc_ranges.specs.Same.{is_same};
+    ghost use Rattle.moc_ranges.specs.Operations.{is_same};
     ghost use Rattle.moc_ranges.specs.Lemmas.Members.{is_same-equivalence};
 
     ghost eq = { is_same };

@@ -3,20 +3,17 @@ ghost use Rattle.std.specs.Prelude.{◌≡◌, ℕ, ◌*◌, ◌<◌, ◌≤◌,
 ghost use Rattle.std.specs.Prelude.{None, Some};
 ghost use Rattle.moc_ranges.specs.Faults.{first_fault};
 ghost use Rattle.moc_ranges.specs.Private.Sorted.{IsSortedFrom};
-ghost use Rattle.moc_ranges.specs.Lemmas.Members.{in_ranges};
-ghost use Rattle.moc_ranges.specs.RangeList.{IsNormal, set_of};
-ghost use Rattle.moc_ranges.specs.Private.Blocks.{last_of};
-ghost use Rattle.moc_ranges.specs.Numbers.{numbers};
-ghost use Rattle.moc_ranges.specs.Pixels.{pixel_count};
+ghost use Rattle.moc_lists.specs.Lemmas.Members.{in_ranges};
+ghost use Rattle.moc_lists.specs.RangeList.{IsNormal, set_of};
+ghost use Rattle.moc_lists.specs.Private.Blocks.{last_of};
+ghost use Rattle.moc_lists.specs.RangeList.{numbers};
+ghost use Rattle.moc_lists.specs.RangeList.{pixel_count};
 ghost use Rattle.std.specs.FinSet as set;
 ghost use Rattle.moc_ranges.specs.Private.Widen.{IsCellSize, widen};
 
 use crate::errors::RangesError;
-use crate::list::RangeList;
-use crate::list::builder::{ListBuilder, lengthen};
-use crate::list::kept::end_below;
-use crate::list::ranges::Ranges;
 use crate::pixels::PIXEL_COUNT;
+use moc_lists::{ListBuilder, RangeList, Ranges, end_below, lengthen};
 use std::alloc::{AllocError, Global};
 
 /// Refuses the first faulty pair.

@@ -7,7 +7,7 @@ use Rattle.std.specs.FinSet as set
 use Rattle.std.proofs.lemmas.Bool.{cases_lt}
 use Rattle.std.proofs.lemmas.List.Sums.{sum_by-cons}
 use Rattle.std.specs.List.{concat}
-use Rattle.moc_ranges.specs.Numbers.{NumberSet}
+use Rattle.moc_lists.specs.RangeList.{NumberSet}
 use Rattle.moc_lines.specs.Runs.{script_rules, AreWithin, IsBegunLine, line_limit}
 use Rattle.moc_script.specs.Crews.{in_lane, dealt, cover_line, said_lines, IsCrewText, IsRefusedLine, CrewEnds}
 use Rattle.moc_shared.specs.History.{calls_of, state_after, IsLegal}

@@ -1,7 +1,7 @@
 -- What a line of a lane asks and is answered, and lines one after another.
 use Rattle.std.proofs.Common.{◌≡◌, inl, inr, ℕ, eq-eqb, Bool, false, if◌then◌else◌, List, [], ◌∷◌, ◌++◌, Result, Ok}
 use Rattle.std.proofs.Common.{Err, refl, sym, ap, subst, ◌∙◌, append-nil}
-use Rattle.moc_ranges.specs.Numbers.{NumberSet}
+use Rattle.moc_lists.specs.RangeList.{NumberSet}
 use Rattle.moc_parts.specs.declared.command.Command.{Command}
 use Rattle.moc_lines.specs.Language.{is_blank_text, command_of, fault_answer, replies_text, batch_of, commands_in}
 use Rattle.moc_lines.specs.Language.{answer_to, after_batch, line_answer, after_line, ReadsText}

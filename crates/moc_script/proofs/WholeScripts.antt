@@ -6,7 +6,7 @@ use Rattle.std.specs.Str.{bytes_eq}
 use Rattle.std.specs.FinSet as set
 use Rattle.std.proofs.lemmas.List.Sums.{take_while-cons}
 use Rattle.moc_text.specs.Lines.{is_line_feed, lines_of, is_semicolon}
-use Rattle.moc_ranges.specs.Numbers.{NumberSet}
+use Rattle.moc_lists.specs.RangeList.{NumberSet}
 use Rattle.moc_parts.specs.declared.command.Command.{Command}
 use Rattle.moc_steps.specs.Machine.Step.{Begin}
 use Rattle.moc_lines.specs.Runs.{Rules, is_within, answers_to, after_lines, script_text, line_limit, script_rules}

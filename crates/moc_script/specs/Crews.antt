@@ -5,7 +5,7 @@ use Rattle.std.specs.FinSet as set
 use Rattle.std.specs.Io.KnownBytes.{Appends, Consumes, Keeps}
 use Rattle.moc_devices.specs.Devices.{CallsMore}
 use Rattle.std.specs.List.{concat}
-use Rattle.moc_ranges.specs.Numbers.{NumberSet}
+use Rattle.moc_lists.specs.RangeList.{NumberSet}
 use Rattle.moc_text.specs.Lines.{lines_of}
 use Rattle.moc_lines.specs.Language.{is_blank_text, cover_text}
 use Rattle.moc_lines.specs.Runs.{Rules, AreWithin, IsTooLong, IsBegunLine, Flushes, line_limit, script_rules}

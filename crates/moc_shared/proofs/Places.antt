@@ -5,7 +5,7 @@ use Rattle.std.proofs.Common.{le_refl, add-zero, ◌-◌, is_some, true, false, 
 use Rattle.std.proofs.lemmas.Bool.{cases_lt}
 use mathlib.Core.Logic.{dite}
 use native.Mathlib.Decide.{ℕ_discrete}
-use Rattle.moc_ranges.specs.Numbers.{NumberSet}
+use Rattle.moc_lists.specs.RangeList.{NumberSet}
 use Rattle.moc_parts.specs.declared.command.Command.{Command}
 use Rattle.moc_shared.specs.Seats.{index, note, Pointer, Sight}
 use Rattle.moc_shared.specs.Private.Rule.{noted_parts}

@@ -7,10 +7,10 @@ use Rattle.std.proofs.lemmas.Bool.{cases_lt, cases_Bool, ltb-true}
 use Rattle.std.specs.Cmp.{nat_cmp_total}
 use Rattle.std.specs.Ordering.{nat_cmp}
 use Rattle.std.specs.FinSet as finset
-use Rattle.moc_ranges.specs.Numbers.{NumberSet}
-use Rattle.moc_ranges.specs.Lemmas.Members.{same_members, contains-part_of, contains-pixels}
-use Rattle.moc_ranges.specs.Pixels.{base_pixel_size, pixel_count, pixels}
-use Rattle.moc_ranges.specs.Operations.{part_of, IsWithin}
+use Rattle.moc_lists.specs.RangeList.{NumberSet, pixel_count}
+use Rattle.moc_lists.specs.Lemmas.Members.{same_members}
+use Rattle.moc_ranges.specs.Lemmas.Members.{contains-part_of, contains-pixels}
+use Rattle.moc_ranges.specs.Operations.{base_pixel_size, pixels, part_of, IsWithin}
 use Rattle.moc_parts.specs.Parts.{union_of, LieInParts}
 use Rattle.moc_shared.proofs.Owned.{part_again, own_none}
 use Rattle.moc_shared.specs.Seats.{Pointer}

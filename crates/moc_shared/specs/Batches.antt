@@ -1,6 +1,6 @@
 -- Calls of batches, and what they answer.
 use Rattle.std.specs.Prelude.{List}
-use Rattle.moc_ranges.specs.Numbers.{NumberSet}
+use Rattle.moc_lists.specs.RangeList.{NumberSet}
 use Rattle.moc_parts.specs.Batches.{set_after_all, replies_on}
 use Rattle.moc_parts.specs.declared.command.Command.{Command}
 use Rattle.moc_parts.specs.declared.reply.Reply.{Reply}

@@ -2,9 +2,8 @@
 use Rattle.std.specs.Prelude.{◌≡◌, ℕ, ◌+◌, ◌≤◌, true, List, [], ◌∷◌, ◌++◌, length, slice_get, if◌then◌else◌, None, Some}
 use Rattle.std.specs.FinSet as set
 use Rattle.std.specs.FinMap as map
-use Rattle.moc_ranges.specs.Numbers.{NumberSet}
-use Rattle.moc_ranges.specs.Pixels.{pixels}
-use Rattle.moc_ranges.specs.Operations.{IsWithin}
+use Rattle.moc_lists.specs.RangeList.{NumberSet}
+use Rattle.moc_ranges.specs.Operations.{pixels, IsWithin}
 use Rattle.moc_parts.specs.Objects.{Object, base_pixel}
 use Rattle.moc_parts.specs.Batches.{batches}
 use Rattle.moc_parts.specs.declared.command.Command.{Command}

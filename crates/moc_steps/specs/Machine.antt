@@ -12,7 +12,7 @@ use Rattle.moc_steps.specs.declared.error.StepError.{StepError}
 use Rattle.moc_steps.specs.declared.error.StepError.TheVariants.{NotIdle, Idle, PartHeld, AllTaken, NotAllTaken}
 use Rattle.moc_steps.specs.declared.error.StepError.TheVariants.{NotHeld, AlreadyEdited, NotEdited, BegunEditing}
 use Rattle.moc_steps.specs.declared.error.StepError.TheVariants.{StillHolding, NothingDone, Quitting, TooMany}
-use Rattle.moc_ranges.specs.Numbers.{NumberSet}
+use Rattle.moc_lists.specs.RangeList.{NumberSet}
 use Rattle.moc_ranges.specs.Operations.{part_of}
 use Rattle.moc_parts.specs.Parts.{union_of, parts_below}
 

@@ -5,7 +5,7 @@ use Rattle.std.specs.Prelude.{slice_get, ◌+◌, ◌*◌, sum_by}
 use Rattle.moc_steps.specs.Machine.{Step, Entry, Running, Clients, twelve}
 use Rattle.moc_steps.specs.Machine.Step.{Begin, Take, Edit, Give, Quit, End}
 use Rattle.std.specs.Option.{option_map_or}
-use Rattle.moc_ranges.specs.Numbers.{NumberSet}
+use Rattle.moc_lists.specs.RangeList.{NumberSet}
 use Rattle.moc_parts.specs.Objects.{Object}
 use Rattle.std.specs.List.{AllByRecursion}
 use Rattle.std.specs.FinMap as map

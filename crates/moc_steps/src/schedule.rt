@@ -1,8 +1,7 @@
 //! Lists of steps, and the way to the end.
 ghost use Rattle.std.specs.Prelude.{◌≡◌, ◌↔◌, IfOk, IfErr, IfSome, OnOk, OnErr, None, ℕ, true};
 ghost use Rattle.std.specs.FinMap as map;
-ghost use Rattle.moc_ranges.specs.Operations.{IsWithin};
-ghost use Rattle.moc_ranges.specs.Pixels.{pixels};
+ghost use Rattle.moc_ranges.specs.Operations.{IsWithin, pixels};
 ghost use Rattle.moc_parts.specs.Batches.{batches};
 ghost use Rattle.moc_steps.specs.Laws.{led_to, ArePlayed, HasOneOrder};
 ghost use Rattle.moc_steps.specs.Machine.{refusal, start_world};

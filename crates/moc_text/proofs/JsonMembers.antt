@@ -5,7 +5,7 @@ use Rattle.std.specs.FinSet as set
 use Rattle.serde_json.specs.Data.{Data, Items, item, Members, member}
 use Rattle.serde_json.specs.Find.{as_array, as_object}
 use Rattle.serde_json.specs.Read.{read}
-use Rattle.moc_ranges.specs.Numbers.{NumberSet}
+use Rattle.moc_lists.specs.RangeList.{NumberSet}
 use Rattle.moc_ranges.specs.Lemmas.{union-assoc}
 use Rattle.moc_text.specs.Ascii.{deeper}
 use Rattle.moc_text.specs.Faults.{Fails}

@@ -13,7 +13,7 @@ use Rattle.serde_json.specs.View.{items_of}
 use Rattle.serde_json.specs.Written.{comma_if, members_text}
 use Rattle.moc_sphere.specs.CellNumber.{CellNumber, cell_number}
 use Rattle.moc_ranges.specs.Cells.{AreOfOrders, cells_in, cells_of_range}
-use Rattle.moc_ranges.specs.RangeList.{IsNormal}
+use Rattle.moc_lists.specs.RangeList.{IsNormal}
 use Rattle.moc_text.specs.JsonText.{datum, data_at, is_name}
 use Rattle.moc_text.specs.Private.JsonWriting.{array_rest, member_before, members_along}
 use Rattle.moc_text.proofs.Runs.{of_order}

@@ -26,10 +26,9 @@ use Rattle.serde_json.specs.Read.{read, of_json, max_depth}
 use Rattle.serde_json.specs.Written.{outline, items_outline, members_outline, compact_text}
 use Rattle.serde_json.proofs.Texts.{print-outline}
 use Rattle.moc_sphere.specs.CellNumber.{CellNumber, cell_number, cell_count, IsCell}
-use Rattle.moc_ranges.specs.Numbers.{NumberSet}
-use Rattle.moc_ranges.specs.Lemmas.Members.{same_members}
-use Rattle.moc_ranges.specs.Pixels.{pixels}
-use Rattle.moc_ranges.specs.Operations.{IsWithin}
+use Rattle.moc_lists.specs.RangeList.{NumberSet}
+use Rattle.moc_lists.specs.Lemmas.Members.{same_members}
+use Rattle.moc_ranges.specs.Operations.{pixels, IsWithin}
 use Rattle.moc_ranges.specs.Cells.{span, pixels_of, is_cell_of, cells_below, cells_of}
 use Rattle.moc_ranges.specs.Lemmas.Cells.{cells_are}
 use Rattle.moc_ranges.specs.Lemmas.{cells_fill}

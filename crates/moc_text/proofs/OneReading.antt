@@ -8,7 +8,7 @@ use Rattle.moc_text.specs.Ascii.{Word, words, IsNumber, Mark, prefix, Cells, One
 use Rattle.moc_text.specs.Ascii.{JustMark, JustItem, MarkItem, shape_text, IsShape, IsLawful, ShapeFaultAt}
 use Rattle.moc_text.specs.Ascii.{HasShapeFault, numbers_at, Means, order_in_force, order_after, fault_of, AreRead}
 use Rattle.moc_text.specs.Ascii.{IsFault, IsFirstFault, Says, pixels_said, deepest_of}
-use Rattle.moc_ranges.specs.Numbers.{NumberSet}
+use Rattle.moc_lists.specs.RangeList.{NumberSet}
 use Rattle.moc_text.specs.Private.Scan.{front_digits, past_digits, after_byte, starts_with_digit}
 use Rattle.moc_text.specs.declared.ascii.number.WordNumbers.{WordNumbers}
 use Rattle.moc_text.specs.declared.ascii.error.TextError.{TextError}

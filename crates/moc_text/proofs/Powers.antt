@@ -3,7 +3,7 @@ use Rattle.std.proofs.Common.{ℕ, ◌*◌, ◌^◌, ◌<◌, ◌≤◌, arith, 
 use Rattle.std.proofs.Math.Nat.{pow-le-pow_right, mul-le-mul_right}
 use Rattle.moc_sphere.specs.CellNumber.{cell_count, cell_size}
 use Rattle.moc_sphere.specs.Lemmas.{cell_size-fills}
-use Rattle.moc_ranges.specs.Pixels.{pixel_count}
+use Rattle.moc_lists.specs.RangeList.{pixel_count}
 
 four-pow-le : (k : ℕ) → k ≤ 29 → 4 ^ k ≤ 4 ^ 29
 four-pow-le k h = pow-le-pow_right (lit< tt) h

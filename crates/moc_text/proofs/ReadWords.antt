@@ -7,7 +7,7 @@ use Rattle.std.proofs.lemmas.List.{append-nil}
 use Rattle.moc_text.specs.Ascii.{is_separator, Word, words, words_from, Shape, shape_text, IsShape, numbers_at, Means}
 use Rattle.moc_text.specs.Ascii.{order_in_force, order_after, mark_fault, item_fault, fault_of, item_pixels}
 use Rattle.moc_text.specs.Ascii.{pixels_said, deeper, deepest_of, AreRead, HasShapeFault, IsFirstFault, Says}
-use Rattle.moc_ranges.specs.Numbers.{NumberSet}
+use Rattle.moc_lists.specs.RangeList.{NumberSet}
 use Rattle.moc_ranges.specs.Lemmas.{union-assoc, empty-union, union-empty}
 use Rattle.moc_text.specs.Private.Scan.{is_end, scan_word}
 use Rattle.moc_text.specs.Private.AsciiReading.{Progress}

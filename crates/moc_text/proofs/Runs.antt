@@ -5,7 +5,7 @@ use Rattle.std.specs.Iterator.{YieldsFirst}
 use Rattle.std.specs.List.{filter, range_with_len, AllByRecursion}
 use Rattle.std.proofs.lemmas.Bool.{cases_lt, eq-eqb, ne_eqb, eqb-true, le-leb, lt-leb, leb-true}
 use Rattle.moc_sphere.specs.CellNumber.{CellNumber, cell_number}
-use Rattle.moc_ranges.specs.RangeList.{IsNormal, BeginsAfter}
+use Rattle.moc_lists.specs.RangeList.{IsNormal, BeginsAfter}
 use Rattle.moc_ranges.specs.Cells.{AreOfOrders, cells_in}
 use Rattle.moc_text.specs.Ascii.{deeper}
 use Rattle.moc_text.specs.AsciiText.{one, follows, runs_from, runs_of, deepest_cell}

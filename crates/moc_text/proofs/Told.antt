@@ -5,7 +5,7 @@ use Rattle.std.specs.Option.{option_or}
 use Rattle.std.specs.FinSet as set
 use Rattle.std.specs.Result.{MatchResult}
 use Rattle.std.proofs.lemmas.List.{append-nil}
-use Rattle.moc_ranges.specs.Numbers.{NumberSet}
+use Rattle.moc_lists.specs.RangeList.{NumberSet}
 use Rattle.moc_text.specs.Ascii.{is_separator, Word, words, Shape, shape_text, IsShape, numbers_at, Means, HasShapeFault}
 use Rattle.moc_text.specs.Ascii.{IsFault, order_in_force, order_after, mark_fault, item_fault, fault_of, item_pixels}
 use Rattle.moc_text.specs.Ascii.{pixels_said, deeper, deepest_of, AreRead, Says, IsFirstFault}

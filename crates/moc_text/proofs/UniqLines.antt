@@ -12,9 +12,8 @@ use Rattle.std.proofs.lemmas.Bool.{cases_lt, cases_order, eqb-true, le-leb, le-l
 use Rattle.std.proofs.lemmas.Bool.Decides.{nat_tests}
 use Rattle.std.proofs.lemmas.List.{append-nil, map-append}
 use Rattle.moc_sphere.specs.CellNumber.{CellNumber, cell_number, is_uniq, IsCell, uniq_of}
-use Rattle.moc_ranges.specs.Numbers.{NumberSet}
-use Rattle.moc_ranges.specs.Pixels.{pixels}
-use Rattle.moc_ranges.specs.Operations.{IsWithin}
+use Rattle.moc_lists.specs.RangeList.{NumberSet}
+use Rattle.moc_ranges.specs.Operations.{pixels, IsWithin}
 use Rattle.moc_ranges.specs.Cells.{span, spans, pixels_of, cells_of}
 use Rattle.moc_ranges.specs.Lemmas.Cells.{cells_are}
 use Rattle.moc_ranges.specs.Lemmas.{spans-one, pixels_of-append, cells_fill, union-assoc, empty-union, union-empty}

@@ -26,10 +26,10 @@ use Rattle.moc_text.proofs.ReadWords.{shape_part, shape_some, deeper_assoc, deep
 use Rattle.moc_text.proofs.Powers.{cells_fit}
 use Rattle.moc_text.proofs.Held.{IsSmall}
 use Rattle.moc_sphere.specs.CellNumber.{CellNumber, IsCell, cell_count, cell_size}
-use Rattle.moc_ranges.specs.Numbers.{NumberSet}
-use Rattle.moc_ranges.specs.Lemmas.Members.{same_members, contains-spans}
-use Rattle.moc_ranges.specs.Pixels.{pixels, pixel_count}
-use Rattle.moc_ranges.specs.Operations.{IsWithin}
+use Rattle.moc_lists.specs.RangeList.{NumberSet, pixel_count}
+use Rattle.moc_lists.specs.Lemmas.Members.{same_members}
+use Rattle.moc_ranges.specs.Lemmas.Members.{contains-spans}
+use Rattle.moc_ranges.specs.Operations.{pixels, IsWithin}
 use Rattle.moc_ranges.specs.Cells.{span, spans, pixels_of, cells_of}
 use Rattle.moc_ranges.specs.Lemmas.Cells.{cells_are}
 use Rattle.moc_ranges.specs.Lemmas.{spans-one, cells_fill, union-assoc, empty-union}

@@ -3,7 +3,7 @@ use Rattle.std.specs.Prelude.{ℕ, ◌+◌, Bool, ◌&&◌, ◌==◌, nat_lt, �
 use Rattle.std.specs.Prelude.{None, decimal}
 use Rattle.std.specs.List.{Any, join_with_byte}
 use Rattle.moc_sphere.specs.CellNumber.{CellNumber}
-use Rattle.moc_ranges.specs.Numbers.{NumberSet}
+use Rattle.moc_lists.specs.RangeList.{NumberSet}
 use Rattle.moc_ranges.specs.Cells.{cells_of}
 use Rattle.moc_text.specs.Ascii.{deeper}
 use Rattle.moc_text.specs.declared.ascii.writing.Run.{Run}

@@ -10,7 +10,7 @@ use Rattle.serde_json.specs.Find.{as_number, as_u64, as_array, as_object, at}
 use Rattle.serde_json.specs.Read.{read}
 use Rattle.serde_json.specs.Written.{compact_text, has_float}
 use Rattle.moc_sphere.specs.CellNumber.{cell_count}
-use Rattle.moc_ranges.specs.Numbers.{NumberSet}
+use Rattle.moc_lists.specs.RangeList.{NumberSet}
 use Rattle.moc_ranges.specs.Cells.{span}
 use Rattle.moc_text.specs.Ascii.{deeper}
 use Rattle.moc_text.specs.declared.json_form.error.JsonError.{JsonError}

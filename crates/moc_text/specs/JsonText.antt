@@ -6,7 +6,7 @@ use Rattle.serde_json.specs.Data.{Data, number, unsigned, array, object, Members
 use Rattle.serde_json.specs.View.{items_of}
 use Rattle.serde_json.specs.Written.{compact_text}
 use Rattle.moc_sphere.specs.CellNumber.{CellNumber}
-use Rattle.moc_ranges.specs.Numbers.{NumberSet}
+use Rattle.moc_lists.specs.RangeList.{NumberSet}
 use Rattle.moc_ranges.specs.Cells.{cells_of}
 use Rattle.moc_text.specs.AsciiText.{deepest_cell, stated_beyond}
 

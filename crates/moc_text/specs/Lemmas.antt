@@ -6,9 +6,8 @@ use Rattle.std.specs.Result.{IfOk}
 use Rattle.std.specs.Ordering.{nat_cmp}
 use Rattle.std.specs.Cmp.{nat_cmp_total}
 use Rattle.std.specs.FinSet as set
-use Rattle.moc_ranges.specs.Numbers.{NumberSet}
-use Rattle.moc_ranges.specs.Pixels.{pixels}
-use Rattle.moc_ranges.specs.Operations.{IsWithin}
+use Rattle.moc_lists.specs.RangeList.{NumberSet}
+use Rattle.moc_ranges.specs.Operations.{pixels, IsWithin}
 use Rattle.moc_ranges.specs.Lemmas.Members.{contains-pixels, contains-spans}
 use Rattle.moc_text.specs.declared.ascii.number.Item.{Item}
 use Rattle.moc_text.specs.declared.ascii.number.WordNumbers.{WordNumbers}

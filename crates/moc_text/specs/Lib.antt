@@ -10,5 +10,5 @@ pub mod Places
 pub mod Private
 pub mod Lemmas
 pub use Rattle.moc_sphere.specs.CellNumber
-pub use Rattle.moc_ranges.specs.Numbers
+pub use Rattle.moc_lists.specs.RangeList
 pub use Rattle.moc_ranges.specs.Cells

@@ -1,7 +1,7 @@
 -- The reading of an ASCII text as a function. That each text has just one reading, which is what it says or its first
 -- fault, fixes the function, however it is written (`Private/Scanned`).
 use Rattle.std.specs.Prelude.{◌≡◌, ℕ, List, Option, Result, Ok, Err, MatchResult, ◌⊎◌}
-use Rattle.moc_ranges.specs.Numbers.{NumberSet}
+use Rattle.moc_lists.specs.RangeList.{NumberSet}
 use Rattle.moc_text.specs.declared.ascii.error.TextError.{TextError}
 use Rattle.moc_text.specs.declared.ascii.error.TextError.TheVariants.{Memory}
 use Rattle.moc_text.specs.Ascii.{Says, IsFirstFault}

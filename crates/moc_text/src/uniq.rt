@@ -4,7 +4,7 @@ ghost use Rattle.std.specs.Prelude.{MatchResult, OnOk};
 ghost use Rattle.std.specs.Option.{option_copied};
 ghost use Rattle.std.specs.String.{string_bytes};
 ghost use Rattle.moc_sphere.specs.CellNumber.{uniq_of};
-ghost use Rattle.moc_ranges.specs.Numbers.{NumberSet};
+ghost use Rattle.moc_lists.specs.RangeList.{NumberSet};
 ghost use Rattle.moc_text.specs.Lines.{lines_of};
 ghost use Rattle.moc_text.specs.Private.UniqReading.{after_line, IsLineRead};
 ghost use Rattle.moc_text.specs.Faults.{Fails};

@@ -1,9 +1,8 @@
 -- Walks over the ranges of a set.
 use Rattle.std.specs.Prelude.{◌≡◌, ◌<◌, ◌≤◌, ℕ, List, [], ◌∷◌, nat_le, ⊤}
 use Rattle.std.specs.FinSet as set
-use Rattle.moc_ranges.specs.Numbers.{NumberSet}
-use Rattle.moc_ranges.specs.Lemmas.Members.{in_ranges}
-use Rattle.moc_ranges.specs.RangeList.{IsNormal}
+use Rattle.moc_lists.specs.RangeList.{NumberSet, IsNormal}
+use Rattle.moc_lists.specs.Lemmas.Members.{in_ranges}
 use Rattle.moc_c.specs.declared.looking.Known.{Known}
 
 -- the first range begins at x, or behind it

@@ -2,9 +2,8 @@
 use Rattle.std.specs.Prelude.{◌≡◌, ℕ, ◌≤◌, ◌<◌, false}
 use Rattle.std.specs.Option.{unwrap_or}
 use Rattle.std.specs.FinSet as set
-use Rattle.moc_ranges.specs.Numbers.{NumberSet}
-use Rattle.moc_ranges.specs.Pixels.{pixels}
-use Rattle.moc_ranges.specs.Operations.{complement, part_of, symmetric, IsWithin}
+use Rattle.moc_lists.specs.RangeList.{NumberSet}
+use Rattle.moc_ranges.specs.Operations.{pixels, complement, part_of, symmetric, IsWithin}
 use Rattle.moc_ranges.specs.Cells.{degrade}
 use Rattle.moc_parts.specs.declared.change.Altered.{Altered}
 use Rattle.moc_parts.specs.declared.change.Change.{Change}

@@ -8,8 +8,8 @@ use Rattle.std.proofs.lemmas.Bool.{lt-ltb}
 use Rattle.std.proofs.lemmas.Bool.Decides.{nat_tests}
 use Rattle.std.proofs.lemmas.List.{ext_get_or}
 use Rattle.std.proofs.lemmas.List.FromFn.{get_or-map-range_with_len, length-map-range_with_len}
-use Rattle.moc_ranges.specs.Numbers.{numbers}
-use Rattle.moc_ranges.specs.Lemmas.Members.{contains-numbers, contains-kept}
+use Rattle.moc_lists.specs.RangeList.{numbers}
+use Rattle.moc_lists.specs.Lemmas.Members.{contains-numbers, contains-kept}
 
 -- the parts whose flags are set
 unfoldable pub flagged : List Bool → set.FinSet nat_cmp

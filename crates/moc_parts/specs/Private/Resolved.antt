@@ -1,5 +1,5 @@
 -- The set that an operand stands for, in the program.
-use Rattle.moc_ranges.specs.Numbers.{NumberSet}
+use Rattle.moc_lists.specs.RangeList.{NumberSet}
 use Rattle.moc_parts.specs.declared.resolved.Resolved.{Resolved}
 use Rattle.moc_parts.specs.declared.resolved.Resolved.TheVariants.{Own, Degraded}
 

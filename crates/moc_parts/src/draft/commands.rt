@@ -3,7 +3,7 @@ ghost use Rattle.std.specs.Prelude.{◌≡◌, ◌≤◌, IfOk, OnOk, if◌then�
 ghost use Rattle.std.specs.FinSet as set;
 ghost use Rattle.moc_ranges.specs.Cells.{degrade};
 ghost use Rattle.moc_ranges.specs.Operations.{complement, meets};
-ghost use Rattle.moc_ranges.specs.Pixels.{pixel_count};
+ghost use Rattle.moc_lists.specs.RangeList.{pixel_count};
 ghost use Rattle.moc_parts.specs.Batches.{replies_on, set_after_all, AreCommands};
 ghost use Rattle.moc_parts.specs.Commands.{operand_set, reply_on, set_after, surroundings, IsCommand, IsOperand};
 ghost use Rattle.moc_parts.specs.declared.reply.Reply.TheVariants as reply;

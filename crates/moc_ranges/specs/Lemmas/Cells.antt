@@ -1,7 +1,7 @@
 -- What callers know of the cells of a set: they are cells, in rising NUNIQ, and their pixels are
 -- just the set's.
-use Rattle.std.proofs.Common.{◌≡◌, ℕ, zero, suc, ◌+◌, ◌-◌, ◌*◌, ◌/◌, ◌^◌, ◌<◌, ◌≤◌, Bool, true, false, cond, ◌||◌, List}
-use Rattle.std.proofs.Common.{[], ◌∷◌, ◌++◌, map, refl, sym, ap, subst, ◌∙◌, inl, inr, arith}
+use Rattle.std.proofs.Common.{◌≡◌, ℕ, zero, suc, ◌+◌, ◌-◌, ◌*◌, ◌/◌, ◌^◌, ◌<◌, ◌≤◌, Bool, true, false, cond, ◌||◌}
+use Rattle.std.proofs.Common.{List, [], ◌∷◌, ◌++◌, map, refl, sym, ap, subst, ◌∙◌, inl, inr, arith}
 use Rattle.std.specs.Prelude.{nat_le, nat_lt, ⊤}
 use Rattle.std.specs.FinSet as set
 use Rattle.std.specs.Cmp.{nat_cmp_total}
@@ -15,12 +15,10 @@ use Rattle.std.proofs.lemmas.Nat.{div_below, div-mul-add, div-add-mod', mod_belo
 use Rattle.std.proofs.Math.Nat.{div-div-eq-div-mul, pow-succ'}
 use Rattle.moc_sphere.specs.CellNumber.{CellNumber, cell_number, cell_count, cell_size, IsCell, uniq_of}
 use Rattle.moc_sphere.specs.Lemmas.{cell_size-positive, cell_size-fills}
-use Rattle.moc_ranges.specs.Numbers.{NumberSet}
-use Rattle.moc_ranges.specs.Lemmas.Members.{same_members, contains-pixels, contains-set_of, in_range, in_ranges}
-use Rattle.moc_ranges.specs.Lemmas.Members.{same_truth, contains-span, cell_range}
-use Rattle.moc_ranges.specs.Pixels.{pixel_count, pixels}
-use Rattle.moc_ranges.specs.Operations.{IsWithin}
-use Rattle.moc_ranges.specs.RangeList.{set_of}
+use Rattle.moc_lists.specs.RangeList.{NumberSet, pixel_count, set_of}
+use Rattle.moc_lists.specs.Lemmas.Members.{same_members, contains-set_of, in_range, in_ranges}
+use Rattle.moc_ranges.specs.Lemmas.Members.{contains-pixels, same_truth, contains-span, cell_range}
+use Rattle.moc_ranges.specs.Operations.{pixels, IsWithin}
 use Rattle.moc_ranges.specs.Cells.{span, is_cell_of, cells_below, cells_of, AllUniqFrom, IsRisingUniq}
 
 -- ---- cells

@@ -1,39 +1,16 @@
 -- What is a member of a set: lemmas on the definitions, for proofs.
-use Rattle.std.specs.Prelude.{◌≡◌, ℕ, zero, suc, ◌+◌, ◌-◌, ◌*◌, ◌/◌, List, [], ◌∷◌}
-use Rattle.std.specs.Prelude.{Bool, true, not, ◌&&◌, ◌||◌, nat_le, nat_lt, nat_eq}
+use Rattle.std.specs.Prelude.{◌≡◌, ℕ, ◌+◌, ◌-◌, ◌*◌, ◌/◌, Bool, true, not, ◌&&◌, ◌||◌, nat_le, nat_lt, nat_eq}
 use Rattle.std.specs.FinSet as set
 use Rattle.std.specs.Ordering.{nat_cmp}
 use Rattle.std.specs.Cmp.{IsEquivalence, nat_cmp_total}
-use Rattle.std.specs.List.{range_with_len, list_any}
 use Rattle.std.proofs.Common.{arith, ◌∙◌, false, refl, sym, ap, inl, inr}
 use Rattle.std.proofs.lemmas.Bool.Decides.{nat_tests}
 use Rattle.std.proofs.lemmas.Bool.{and_parts, and_from, cases_lt, lt-ltb}
 use Rattle.moc_sphere.specs.CellNumber.{CellNumber, cell_size}
-use Rattle.moc_ranges.specs.Numbers.{NumberSet, numbers}
-use Rattle.moc_ranges.specs.Pixels.{base_pixel_size, pixel_count, pixels}
-use Rattle.moc_ranges.specs.Operations.{symmetric, complement, part_of, meets}
-use Rattle.moc_ranges.specs.RangeList.{set_of}
+use Rattle.moc_lists.specs.RangeList.{NumberSet, pixel_count}
+use Rattle.moc_ranges.specs.Operations.{base_pixel_size, pixels, symmetric, complement, part_of, meets, is_same}
 use Rattle.moc_ranges.specs.Cells.{span, spans, degrade}
-use Rattle.moc_ranges.specs.Same.{is_same}
-
--- two sets with the same members are one
-pub same_members : (a b : NumberSet) → ((q : ℕ) → set.contains a q ≡ set.contains b q) → a ≡ b
-same_members a b same = set.same_set nat_cmp_total set.nat_cmp-IsAntisymmetric a b same
-
--- what a test keeps of a set: its numbers that pass
-pub contains-kept : (a : NumberSet) (p : ℕ → Bool) (q : ℕ) → set.contains (set.retain a p) q ≡ (set.contains a q && p q)
-contains-kept a p q = set.contains-retain a p q (λ x tie. ap p (sym (set.nat_cmp-IsAntisymmetric q x tie)))
-
-any-range : (from n q : ℕ) → list_any (λ y. nat_eq y q) (range_with_len from n) ≡ (nat_le from q && nat_lt q (from + n))
-any-range from zero q = grind (arith, nat_tests)
-any-range from (suc n) q = let rest = any-range (from + 1) n q in grind (arith, nat_tests)
-
--- its members
-pub contains-numbers : (from to q : ℕ) → set.contains (numbers from to) q ≡ (nat_le from q && nat_lt q to)
-unfolding numbers
-contains-numbers from to q =
-    set.contains-from_list_nat (range_with_len from (to - from)) q
-    ∙ any-range from (to - from) q ∙ grind (arith, nat_tests)
+use Rattle.moc_lists.specs.Lemmas.Members.{same_members, contains-kept, contains-numbers}
 
 -- the members of the set of all pixels
 pub contains-pixels : (q : ℕ) → set.contains pixels q ≡ nat_lt q pixel_count
@@ -84,22 +61,6 @@ meets-none a b none =
     same_members _ _ (λ q.
     set.contains-intersection nat_cmp_total a b q ∙ none q ∙ sym (set.contains-empty nat_cmp q)) in
     ap (λ c. nat_lt 0 (set.len c)) empty ∙ ap (λ n. nat_lt 0 n) (set.len-empty nat_cmp)
-
--- whether q is in a range
-abbrev pub in_range : ℕ × ℕ → ℕ → Bool
-in_range range q = nat_le range.0 q && nat_lt q range.1
-
--- whether q is in a range of the list
-abbrev pub in_ranges : List (ℕ × ℕ) → ℕ → Bool
-in_ranges ranges q = list_any (λ range. in_range range q) ranges
-
--- the members of a union of ranges
-pub contains-set_of : (ranges : List (ℕ × ℕ)) (q : ℕ) → set.contains (set_of ranges) q ≡ in_ranges ranges q
-unfolding set_of
-contains-set_of [] q = set.contains-empty nat_cmp q
-contains-set_of (range ∷ ranges) q =
-    set.contains-union nat_cmp_total (numbers range.0 range.1) (set_of ranges) q
-    ∙ (λ i. contains-numbers range.0 range.1 q i || contains-set_of ranges q i)
 
 -- two tests are the same where each holds if the other does
 pub same_truth : (x y : Bool) → (x ≡ true → y ≡ true) → (y ≡ true → x ≡ true) → x ≡ y

@@ -1,9 +1,9 @@
 -- The cells of one order of a set, as they are found range by range.
-use Rattle.std.specs.Prelude.{◌≡◌, ℕ, ◌+◌, ◌-◌, ◌*◌, ◌/◌, ◌<◌, ◌≤◌, ◌↔◌, true, ◌&&◌, if◌then◌else◌, nat_lt}
-use Rattle.std.specs.Prelude.{List, [], ◌∷◌, ◌++◌, drop, map, take}
+use Rattle.std.specs.Prelude.{◌≡◌, ℕ, ◌+◌, ◌-◌, ◌*◌, ◌/◌, ◌<◌, ◌≤◌, ◌↔◌, true, ◌&&◌, if◌then◌else◌, nat_lt, List, []}
+use Rattle.std.specs.Prelude.{◌∷◌, ◌++◌, drop, map, take}
 use Rattle.std.specs.List.{filter, range_with_len}
 use Rattle.moc_sphere.specs.CellNumber.{CellNumber, cell_number, cell_count, cell_size}
-use Rattle.moc_ranges.specs.Numbers.{NumberSet}
+use Rattle.moc_lists.specs.RangeList.{NumberSet}
 use Rattle.moc_ranges.specs.Cells.{is_cell_of}
 use Rattle.moc_ranges.specs.Private.Meeting.{kept_if}
 

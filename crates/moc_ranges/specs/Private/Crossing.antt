@@ -1,9 +1,8 @@
 -- The bounds of ranges, of which an odd number lies at a number in a range or before it.
 use Rattle.std.specs.Prelude.{◌≡◌, ℕ, ◌+◌, ◌≤◌, ⊤, Bool, false, List, [], ◌∷◌, ◌++◌, length, drop, Option, None, Some}
 use Rattle.std.specs.Prelude.{nat_le, ◌==◌, if◌then◌else◌}
-use Rattle.moc_ranges.specs.Pixels.{pixel_count}
-use Rattle.moc_ranges.specs.RangeList.{IsNormal}
-use Rattle.moc_ranges.specs.Lemmas.Members.{in_ranges}
+use Rattle.moc_lists.specs.RangeList.{pixel_count, IsNormal}
+use Rattle.moc_lists.specs.Lemmas.Members.{in_ranges}
 use Rattle.moc_ranges.specs.declared.operations.symmetric.Opened.{Opened}
 use Rattle.moc_ranges.specs.Private.Differing.{differs}
 

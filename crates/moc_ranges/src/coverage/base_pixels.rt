@@ -2,12 +2,12 @@
 ghost use Rattle.std.specs.Prelude.{◌≡◌, ℕ, true, ◌<◌, ◌≤◌, nat_lt, IfOk, IfSome, MatchOption};
 ghost use Rattle.std.specs.FinSet as set;
 ghost use Rattle.moc_ranges.specs.Operations.{part_of, IsWithin};
-ghost use Rattle.moc_ranges.specs.Pixels.{pixels};
+ghost use Rattle.moc_ranges.specs.Operations.{pixels};
 
 use crate::coverage::Coverage;
 use crate::errors::Memory;
-use crate::list::ranges::Ranges;
 use crate::operations::intersection::intersect;
+use moc_lists::Ranges;
 use std::alloc::Global;
 
 /// How many pixels a base pixel has: 4^29.

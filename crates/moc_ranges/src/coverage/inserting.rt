@@ -1,13 +1,13 @@
 //! Sets of pixels that take in others in place.
 ghost use Rattle.std.specs.Prelude.{◌≡◌, ◌≤◌, IfOk, OnErr, OnOk};
 ghost use Rattle.std.specs.FinSet as set;
-ghost use Rattle.moc_ranges.specs.Numbers.{numbers};
-ghost use Rattle.moc_ranges.specs.Pixels.{pixel_count};
+ghost use Rattle.moc_lists.specs.RangeList.{numbers};
+ghost use Rattle.moc_lists.specs.RangeList.{pixel_count};
 
 use crate::coverage::Coverage;
 use crate::errors::Memory;
-use crate::list::ranges::Ranges;
 use crate::operations::union::unite;
+use moc_lists::Ranges;
 use std::alloc::Global;
 
 impl Coverage {

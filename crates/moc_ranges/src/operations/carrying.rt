@@ -1,15 +1,15 @@
 //! What is put behind what is built: whole nodes and blocks of a list, carried over, and parts of ranges.
 ghost use Rattle.std.specs.Bool.{OnTrue};
 ghost use Rattle.std.specs.Prelude.{◌≡◌, ◌+◌, ◌<◌, ◌≤◌, List, ℕ, length, max, IfOk, OnOk};
-ghost use Rattle.moc_ranges.specs.Pixels.{pixel_count};
-ghost use Rattle.moc_ranges.specs.RangeList.{IsNormal};
-ghost use Rattle.moc_ranges.specs.Private.Blocks.{next_of};
-ghost use Rattle.moc_ranges.specs.Private.Built.{ranges_of, AddsPart, CanCarry, Carries, EndsBelow, TakesCommon};
+ghost use Rattle.moc_lists.specs.RangeList.{pixel_count};
+ghost use Rattle.moc_lists.specs.RangeList.{IsNormal};
+ghost use Rattle.moc_lists.specs.Private.Blocks.{next_of};
+ghost use Rattle.moc_lists.specs.Private.Built.{ranges_of, CanCarry, Carries, EndsBelow};
+ghost use Rattle.moc_ranges.specs.Private.Taking.{AddsPart, TakesCommon};
 ghost use Rattle.moc_ranges.specs.Private.Meeting.{LeavesOut};
 ghost use Rattle.moc_ranges.specs.Private.Walks.{begun};
 
-use crate::list::builder::ListBuilder;
-use crate::list::ranges::Ranges;
+use moc_lists::{ListBuilder, Ranges};
 use std::alloc::{AllocError, Global};
 
 /// Carries over the next nodes and blocks that end below the limit, where none is begun.

@@ -2,19 +2,17 @@
 ghost use Rattle.std.specs.FinSet as set;
 ghost use Rattle.std.specs.Bool.{OnTrue, OnFalse};
 ghost use Rattle.std.specs.Prelude.{◌≡◌, ◌+◌, ◌<◌, ◌≤◌, ◌||◌, ◌&&◌, ◌⊎◌, max, [], length, ℕ, IfOk, OnOk};
-ghost use Rattle.moc_ranges.specs.RangeList.{IsNormal, set_of};
-ghost use Rattle.moc_ranges.specs.Lemmas.Members.{in_ranges};
-ghost use Rattle.moc_ranges.specs.Private.Built.{ranges_of};
+ghost use Rattle.moc_lists.specs.RangeList.{IsNormal, set_of};
+ghost use Rattle.moc_lists.specs.Lemmas.Members.{in_ranges};
+ghost use Rattle.moc_lists.specs.Private.Built.{ranges_of};
 ghost use Rattle.moc_ranges.specs.Private.Meeting.{gaps_of, CanMeet, LeavesOut, MeetsOn};
 
-use crate::list::RangeList;
-use crate::list::builder::ListBuilder;
-use crate::list::ranges::Ranges;
 use crate::operations::carrying::{leave_out, next_carrying, push_part, start_of, take_whole};
 use crate::operations::few::subtract_few;
 use crate::operations::gaps::Gaps;
 use crate::operations::meeting::{ROOM, meet_begun};
 use crate::operations::reach::{FAR, NEAR, are_even};
+use moc_lists::{ListBuilder, RangeList, Ranges};
 use std::alloc::{AllocError, Global};
 
 /// The pixels in the ranges of the first list that the second lacks, range by range.

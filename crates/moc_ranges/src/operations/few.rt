@@ -1,14 +1,13 @@
 //! Operations on two sets of few ranges, which are in no blocks: one loop over two slices.
 ghost use Rattle.std.specs.FinSet as set;
 ghost use Rattle.std.specs.Prelude.{◌≡◌, ◌<◌, ◌≤◌, ◌||◌, ◌++◌, ◌∷◌, ℕ, min, IfOk, OnOk};
-ghost use Rattle.moc_ranges.specs.Pixels.{pixel_count};
-ghost use Rattle.moc_ranges.specs.RangeList.{IsNormal, set_of};
-ghost use Rattle.moc_ranges.specs.Lemmas.Members.{in_range, in_ranges};
-ghost use Rattle.moc_ranges.specs.Private.Built.{EndsBelow};
+ghost use Rattle.moc_lists.specs.RangeList.{pixel_count};
+ghost use Rattle.moc_lists.specs.RangeList.{IsNormal, set_of};
+ghost use Rattle.moc_lists.specs.Lemmas.Members.{in_range, in_ranges};
+ghost use Rattle.moc_lists.specs.Private.Built.{EndsBelow};
 ghost use Rattle.moc_ranges.specs.Private.Few.{IsSettled};
 
-use crate::list::RangeList;
-use crate::list::builder::list_of;
+use moc_lists::{RangeList, list_of};
 use std::alloc::{AllocError, Global};
 
 /// Adds a range, where it is not empty, behind those that are kept.

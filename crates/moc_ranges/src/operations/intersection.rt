@@ -2,20 +2,19 @@
 ghost use Rattle.std.specs.FinSet as set;
 ghost use Rattle.std.specs.Bool.{OnTrue, OnFalse};
 ghost use Rattle.std.specs.Prelude.{◌≡◌, ◌+◌, ◌<◌, ◌≤◌, ◌⊎◌, List, ℕ, [], length, min, max, IfOk, OnOk};
-ghost use Rattle.moc_ranges.specs.Pixels.{pixel_count};
-ghost use Rattle.moc_ranges.specs.RangeList.{IsNormal, set_of};
-ghost use Rattle.moc_ranges.specs.Private.Blocks.{next_of};
+ghost use Rattle.moc_lists.specs.RangeList.{pixel_count};
+ghost use Rattle.moc_lists.specs.RangeList.{IsNormal, set_of};
+ghost use Rattle.moc_lists.specs.Private.Blocks.{next_of};
 ghost use Rattle.moc_ranges.specs.Private.Walks.{begun};
-ghost use Rattle.moc_ranges.specs.Private.Built.{ranges_of, AddsPart, EndsBelow, TakesCommon};
+ghost use Rattle.moc_lists.specs.Private.Built.{ranges_of, EndsBelow};
+ghost use Rattle.moc_ranges.specs.Private.Taking.{AddsPart, TakesCommon};
 ghost use Rattle.moc_ranges.specs.Private.Meeting.{CanMeet, MeetsOn};
 
-use crate::list::RangeList;
-use crate::list::builder::ListBuilder;
-use crate::list::ranges::Ranges;
 use crate::operations::carrying::{leave_out, next_carrying, take_whole};
 use crate::operations::few::intersect_few;
 use crate::operations::meeting::{ROOM, meet_begun};
 use crate::operations::reach::{FAR, NEAR, are_even};
+use moc_lists::{ListBuilder, RangeList, Ranges};
 use std::alloc::{AllocError, Global};
 
 /// Adds what two ranges have in common, where that is something; it begins behind what is built.

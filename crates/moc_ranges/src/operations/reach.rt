@@ -1,5 +1,5 @@
 //! How far a walk over two lists looks ahead before it searches.
-use crate::list::ranges::Ranges;
+use moc_lists::Ranges;
 
 /// How many ranges ahead a walk looks before it searches, where a list has many times as many as the other.
 pub const NEAR: usize = 3;

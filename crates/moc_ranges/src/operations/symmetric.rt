@@ -2,22 +2,19 @@
 ghost use Rattle.std.specs.Bool.{OnTrue, OnFalse};
 ghost use Rattle.std.specs.Prelude.{◌≡◌, ◌+◌, ◌<◌, ◌≤◌, ◌++◌, ◌∷◌, ◌⊎◌, [], List, ℕ, length, min, take, drop};
 ghost use Rattle.std.specs.Prelude.{IfOk, OnOk};
-ghost use Rattle.moc_ranges.specs.Pixels.{pixel_count};
+ghost use Rattle.moc_lists.specs.RangeList.{pixel_count};
 ghost use Rattle.moc_ranges.specs.Operations.{symmetric};
-ghost use Rattle.moc_ranges.specs.RangeList.{IsNormal, set_of};
-ghost use Rattle.moc_ranges.specs.Lemmas.Members.{in_ranges};
-ghost use Rattle.moc_ranges.specs.Private.Built.{ranges_of, EndsBelow};
+ghost use Rattle.moc_lists.specs.RangeList.{IsNormal, set_of};
+ghost use Rattle.moc_lists.specs.Lemmas.Members.{in_ranges};
+ghost use Rattle.moc_lists.specs.Private.Built.{ranges_of, EndsBelow};
 ghost use Rattle.moc_ranges.specs.Private.Walks.{begun};
 ghost use Rattle.moc_ranges.specs.Private.Differing.{differs, IsDiffering, IsParted};
 ghost use Rattle.moc_ranges.specs.Private.Crossing.{restored_of, CanCross, CrossesOn, IsCrossed};
 
-use crate::list::RangeList;
-use crate::list::block::LONGEST;
-use crate::list::builder::ListBuilder;
-use crate::list::ranges::{Ranges, Started};
 use crate::operations::carrying::{carry_below, next_carrying, push_part, start_of};
 use crate::operations::crossing::{BOUNDS, cross_begun, push_pairs};
 use crate::operations::reach::are_even;
+use moc_lists::{LONGEST, ListBuilder, RangeList, Ranges, Started};
 use std::alloc::{AllocError, Global};
 
 /// Takes a range off both that ends before another, and adds what just one of the two has of it to what is built.

@@ -2,15 +2,14 @@
 ghost use Rattle.std.specs.FinSet as set;
 ghost use Rattle.std.specs.Prelude.{◌≡◌, ◌+◌, ◌<◌, ◌≤◌, ◌||◌, not, ◌++◌, ◌∷◌, [], List, ℕ};
 ghost use Rattle.std.specs.Prelude.{IfOk, IfSome, OnOk};
-ghost use Rattle.moc_ranges.specs.RangeList.{IsNormal, set_of};
-ghost use Rattle.moc_ranges.specs.Private.Blocks.{next_of};
-ghost use Rattle.moc_ranges.specs.Private.Built.{ranges_of, CanJoin, CanTake, TakesOver, IsTurn, IsJoining, TakesBoth};
+ghost use Rattle.moc_lists.specs.RangeList.{IsNormal, set_of};
+ghost use Rattle.moc_lists.specs.Private.Blocks.{next_of};
+ghost use Rattle.moc_lists.specs.Private.Built.{ranges_of, CanJoin};
+ghost use Rattle.moc_ranges.specs.Private.Taking.{CanTake, TakesOver, IsTurn, IsJoining, TakesBoth};
 
-use crate::list::RangeList;
-use crate::list::builder::{ListBuilder, lengthen};
-use crate::list::ranges::{Ranges, Started};
 use crate::operations::few::unite_few;
 use crate::operations::reach::are_uneven;
+use moc_lists::{ListBuilder, RangeList, Ranges, Started, lengthen};
 use std::alloc::{AllocError, Global};
 
 /// Takes the next range of a list over into what is built; the limit bounds where it begins.

@@ -1,10 +1,10 @@
 //! Walks over the ranges of two sets, which take no memory.
 ghost use Rattle.std.specs.Prelude.{◌≡◌, ◌-◌, ◌<◌, ◌↔◌, IsTrue, nat_lt, min, max};
-ghost use Rattle.moc_ranges.specs.RangeList.{IsNormal};
+ghost use Rattle.moc_lists.specs.RangeList.{IsNormal};
 ghost use Rattle.moc_ranges.specs.Private.Walks.{common_of, has_all};
 
-use crate::list::ranges::Ranges;
 use crate::operations::reach::NEAR;
+use moc_lists::Ranges;
 
 /// How many pixels two ranges have in common.
 #[inline]

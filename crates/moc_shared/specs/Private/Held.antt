@@ -1,7 +1,7 @@
 -- What a client has in its hands while it answers a batch, or one command.
 use Rattle.std.specs.Prelude.{◌≡◌, ℕ, nat_eq, List, [], ◌∷◌, Option, Some}
 use Rattle.atomic_table.specs.Table.{Me}
-use Rattle.moc_ranges.specs.Numbers.{NumberSet}
+use Rattle.moc_lists.specs.RangeList.{NumberSet}
 use Rattle.moc_parts.specs.Commands.{footprint, operand_set, IsCommand}
 use Rattle.moc_parts.specs.declared.command.Command.{Command}
 use Rattle.moc_parts.specs.declared.command.Command.TheVariants.{Add, Count}

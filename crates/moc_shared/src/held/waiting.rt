@@ -1,6 +1,6 @@
 //! Taking parts that others hold, by waiting for them.
 ghost use Rattle.std.specs.Prelude.{◌≡◌, ℕ, suc, ◌<◌, ◌≤◌, List, [], Contains, Option, Some, None};
-ghost use Rattle.moc_ranges.specs.Numbers.{NumberSet};
+ghost use Rattle.moc_lists.specs.RangeList.{NumberSet};
 ghost use Rattle.moc_shared.specs.Seats.{note};
 ghost use Rattle.moc_shared.specs.Private.Rule.{IsOne};
 ghost use Rattle.moc_shared.specs.Private.Seats.{IsCarried, at_place, shared, notes_below, AreOwn, IsFootprint, IsOwn};

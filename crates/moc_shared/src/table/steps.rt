@@ -1,6 +1,6 @@
 //! The steps on a part's word, each over plain data.
 ghost use Rattle.std.specs.Prelude.{◌≡◌, suc, ◌<◌, ◌≤◌, List, [], ◌∷◌, Contains, IfOk, IfErr, Option, Some};
-ghost use Rattle.moc_ranges.specs.Numbers.{NumberSet};
+ghost use Rattle.moc_lists.specs.RangeList.{NumberSet};
 ghost use Rattle.moc_shared.specs.History.{entry, StandsFor};
 ghost use Rattle.moc_shared.specs.Seats.{index, note};
 ghost use Rattle.moc_shared.specs.Private.Rule.{noted_parts, IsOne};

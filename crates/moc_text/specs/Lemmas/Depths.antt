@@ -16,8 +16,7 @@ use Rattle.serde_json.specs.Data.{Items, no_items, item, Members, no_members, me
 use Rattle.serde_json.specs.Find.{as_array}
 use Rattle.moc_sphere.specs.CellNumber.{CellNumber, cell_size, IsCell}
 use Rattle.moc_sphere.specs.Lemmas.{cell_size-positive}
-use Rattle.moc_ranges.specs.Numbers.{NumberSet}
-use Rattle.moc_ranges.specs.Pixels.{pixel_count}
+use Rattle.moc_lists.specs.RangeList.{NumberSet, pixel_count}
 use Rattle.moc_ranges.specs.Operations.{symmetric, complement, meets}
 use Rattle.moc_ranges.specs.Lemmas.Members.{contains-symmetric, contains-complement, meets-some, meets-none}
 use Rattle.moc_ranges.specs.Lemmas.Members.{contains-span, contains-spans, contains-degrade}

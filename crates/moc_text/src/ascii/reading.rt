@@ -1,7 +1,7 @@
 //! Reading the ASCII form.
 ghost use Rattle.std.specs.Prelude.{◌≡◌, ℕ, [], IfOk, IfErr, MatchResult, None, Option, Some, ◌⊎◌};
 ghost use Rattle.std.specs.FinSet as set;
-ghost use Rattle.moc_ranges.specs.Numbers.{NumberSet};
+ghost use Rattle.moc_lists.specs.RangeList.{NumberSet};
 ghost use Rattle.moc_text.specs.Ascii.{mark_fault, item_fault, item_pixels, order_in_force, deeper, Says, IsFirstFault};
 ghost use Rattle.moc_text.specs.Faults.{Fails};
 ghost use Rattle.moc_text.specs.Private.AsciiReading.{Progress};

@@ -5,7 +5,7 @@ ghost use Rattle.std.specs.Option.{ForSome};
 ghost use Rattle.std.specs.String.{string_bytes};
 ghost use Rattle.moc_sphere.specs.CellNumber.{CellNumber};
 ghost use Rattle.moc_ranges.specs.Cells.{AreOfOrders, cells_of};
-ghost use Rattle.moc_ranges.specs.RangeList.{IsNormal};
+ghost use Rattle.moc_lists.specs.RangeList.{IsNormal};
 ghost use Rattle.moc_text.specs.Ascii.{Says};
 ghost use Rattle.moc_text.specs.AsciiText.{ascii_text, deepest_cell, deepest_written, HasDeeper, IsTooCoarse};
 ghost use Rattle.moc_text.specs.AsciiText.{run_text, stated_beyond, text_of_cells};

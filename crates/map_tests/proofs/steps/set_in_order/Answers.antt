@@ -1,7 +1,7 @@
 -- The steps that led to the world have one order, and where nobody is midway the parts are what it makes.
 use Rattle.std.proofs.Common.{◌≡◌, Result, Ok, Err, IfOk, OnOk, sym, subst, ◌∙◌}
 use Rattle.std.specs.FinMap as map
-use Rattle.moc_ranges.specs.Numbers.{NumberSet}
+use Rattle.moc_lists.specs.RangeList.{NumberSet}
 use Rattle.moc_parts.specs.Batches.{batches}
 use Rattle.moc_steps.specs.Orders.{Explains, set_by_order, midway}
 use Rattle.moc_steps.specs.Played.{BatchWorld}

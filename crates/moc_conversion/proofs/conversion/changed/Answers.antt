@@ -1,5 +1,5 @@
 use Rattle.std.proofs.Common.{◌∙◌, ℕ, Option, ap₂, subst₂}
-use Rattle.moc_ranges.specs.Numbers.{NumberSet}
+use Rattle.moc_lists.specs.RangeList.{NumberSet}
 use Rattle.moc_text.specs.AsciiText.{IsTooCoarse}
 use Rattle.moc_forms.specs.Forms.{form_text}
 use Rattle.moc_conversion.proofs.Checks.{no_memory}

@@ -1,7 +1,7 @@
 use Rattle.std.proofs.Common.{◌≡◌, ◌<◌, ℕ, suc, ◌+◌, List, Option, None, get_or, length, take, refl, sym, ap, subst, ◌∙◌, arith}
 use Rattle.std.specs.Prelude.{set as set_at}
 use Rattle.std.proofs.lemmas.List.{get_or-set_other, take_all}
-use Rattle.moc_ranges.specs.Numbers.{NumberSet}
+use Rattle.moc_lists.specs.RangeList.{NumberSet}
 use Rattle.moc_parts.specs.Lemmas.{all_parts}
 use Rattle.moc_parts.specs.Private.Drafts.{current_lists}
 use Rattle.moc_parts.proofs.Drafting.{current_lists-no, current_lists-put, current_lists-pass}

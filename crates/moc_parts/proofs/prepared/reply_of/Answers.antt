@@ -1,5 +1,5 @@
 use Rattle.std.proofs.Common.{List, ◌∙◌}
-use Rattle.moc_ranges.specs.Numbers.{NumberSet}
+use Rattle.moc_lists.specs.RangeList.{NumberSet}
 use Rattle.moc_parts.specs.declared.command.Command.{Command}
 use Rattle.moc_parts.specs.Batches.{replies_on}
 use Rattle.moc_parts.specs.Parts.{union_of}

@@ -4,7 +4,7 @@ use Rattle.std.specs.Prelude.{Contains, IfOk, Result, Ok, Err}
 use Rattle.std.proofs.lemmas.List.Elements.{Contains-get_or}
 use Rattle.std.proofs.lemmas.List.{take_all, take_more}
 use Rattle.moc_sphere.specs.CellNumber.{cell_count, cell_number}
-use Rattle.moc_ranges.specs.Numbers.{NumberSet}
+use Rattle.moc_lists.specs.RangeList.{NumberSet}
 use Rattle.moc_ranges.specs.Cells.{spans, pixels_of}
 use Rattle.moc_parts.specs.Commands.{surroundings}
 use Rattle.moc_parts.proofs.Around.{one_cell, one_cell_more}

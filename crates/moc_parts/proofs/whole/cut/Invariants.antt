@@ -1,6 +1,5 @@
 use Rattle.std.proofs.Common.{◌≡◌, ◌<◌}
-use Rattle.moc_ranges.specs.Operations.{IsWithin}
-use Rattle.moc_ranges.specs.Pixels.{pixels}
+use Rattle.moc_ranges.specs.Operations.{IsWithin, pixels}
 use Rattle.moc_parts.specs.Parts.{parts_below}
 use Rattle.moc_parts.proofs.whole.cut.Given as goal
 

@@ -1,7 +1,7 @@
 -- The lanes' ends are gathered, the map is closed, and the answers in turn are those of a merge.
 use Rattle.std.proofs.Common.{◌≡◌, ◌∙◌, ℕ, ◌<◌, List, ◌++◌, length, sym, ap, subst, arith, Err, ⊎_elim}
 use Rattle.std.specs.FinSet as set
-use Rattle.moc_ranges.specs.Numbers.{NumberSet}
+use Rattle.moc_lists.specs.RangeList.{NumberSet}
 use Rattle.moc_text.specs.Lines.{lines_of}
 use Rattle.moc_shared.specs.Clients.{record_of, start_of, AfterClose}
 use Rattle.moc_shared.specs.declared.errors.CloseError.{CloseError}

@@ -3,7 +3,7 @@ use Rattle.std.specs.Prelude.{set as set_at}
 use Rattle.std.specs.Borrow.{Bor}
 use Rattle.std.specs.Option.{option_copied}
 use Rattle.std.proofs.lemmas.List.{get_or-map}
-use Rattle.moc_ranges.specs.Numbers.{NumberSet}
+use Rattle.moc_lists.specs.RangeList.{NumberSet}
 use Rattle.moc_steps.specs.Private.Standing.{notes}
 use Rattle.moc_steps.proofs.Basics.{get_set_same, get_set_other, length_set, length-map}
 use Rattle.moc_steps.proofs.Loops.{filled_none, filled_next, twelve_nones, copied-at, copied_all, found_copied}

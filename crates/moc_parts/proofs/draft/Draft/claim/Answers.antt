@@ -1,6 +1,6 @@
 use Rattle.std.proofs.Common.{◌≡◌, cond, sym, ap, subst, ◌∙◌}
 use Rattle.std.specs.FinSet as set
-use Rattle.moc_ranges.specs.Numbers.{NumberSet}
+use Rattle.moc_lists.specs.RangeList.{NumberSet}
 use Rattle.moc_parts.specs.declared.reply.Reply.{Reply}
 use Rattle.moc_parts.specs.declared.reply.Reply.TheVariants.{Taken, Claimed}
 use Rattle.moc_ranges.specs.Operations.{meets}

@@ -1,7 +1,7 @@
 use Rattle.std.proofs.Common.{◌<◌, get_or, length, List, sym, ap, subst, ◌∙◌}
 use Rattle.std.specs.FinSet as set
 use Rattle.std.proofs.lemmas.List.{get_or-map}
-use Rattle.moc_ranges.specs.Numbers.{NumberSet}
+use Rattle.moc_lists.specs.RangeList.{NumberSet}
 use Rattle.std.specs.Option.{option_copied}
 use Rattle.moc_parts.specs.Parts.{union_of, AreParts}
 use Rattle.moc_parts.specs.Prepared.{found_in, found_sets}

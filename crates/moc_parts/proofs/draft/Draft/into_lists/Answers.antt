@@ -3,7 +3,7 @@ use Rattle.std.specs.Prelude.{set as set_at}
 use Rattle.std.specs.Borrow.{Bor}
 use Rattle.std.specs.Option.{option_copied}
 use Rattle.std.proofs.lemmas.List.{length-map, get_or_default}
-use Rattle.moc_ranges.specs.Numbers.{NumberSet}
+use Rattle.moc_lists.specs.RangeList.{NumberSet}
 use Rattle.moc_ranges.specs.Operations.{part_of}
 use Rattle.moc_parts.specs.Lemmas.{all_parts}
 use Rattle.moc_parts.specs.Private.Drafts.{sets_of}

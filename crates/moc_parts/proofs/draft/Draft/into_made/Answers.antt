@@ -1,6 +1,5 @@
 use Rattle.std.proofs.Common.{subst}
-use Rattle.moc_ranges.specs.Pixels.{pixels}
-use Rattle.moc_ranges.specs.Operations.{IsWithin}
+use Rattle.moc_ranges.specs.Operations.{pixels, IsWithin}
 use Rattle.moc_parts.specs.Private.Drafts.{current_lists, sets_of}
 use Rattle.moc_parts.proofs.Twelve.{parts_within}
 use Rattle.moc_parts.proofs.draft.Draft.into_made.Goals as goal

@@ -1,7 +1,7 @@
 use Rattle.std.proofs.Common.{◌≡◌, ◌∙◌, ap, sym, subst, length, Some}
 use Rattle.std.specs.Prelude.{set as set_at}
 use Rattle.std.proofs.lemmas.List.{length-set}
-use Rattle.moc_ranges.specs.Numbers.{NumberSet}
+use Rattle.moc_lists.specs.RangeList.{NumberSet}
 use Rattle.moc_parts.specs.Private.Drafts.{current_lists, sets_of, with_part}
 use Rattle.moc_parts.specs.Parts.{union_of, AreParts}
 use Rattle.moc_parts.proofs.Twelve.{parts_within, made_parts, made_union}

@@ -1,5 +1,5 @@
 use Rattle.std.proofs.Common.{◌≡◌, length, sym, ap, subst, ◌∙◌}
-use Rattle.moc_ranges.specs.Numbers.{NumberSet}
+use Rattle.moc_lists.specs.RangeList.{NumberSet}
 use Rattle.std.specs.Prelude.{List}
 use Rattle.moc_parts.specs.Private.Drafts.{current_lists, sets_of}
 use Rattle.moc_parts.specs.Parts.{AreParts, union_of}

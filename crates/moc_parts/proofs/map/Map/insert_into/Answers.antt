@@ -1,7 +1,7 @@
 use Rattle.std.proofs.Common.{rules, ◌≡◌, ◌<◌, ◌∙◌, ap, arith, length, get_or}
 use Rattle.std.specs.Prelude.{set as set_at}
 use Rattle.std.specs.FinSet as set
-use Rattle.moc_ranges.specs.Numbers.{NumberSet}
+use Rattle.moc_lists.specs.RangeList.{NumberSet}
 use Rattle.moc_parts.specs.Parts.{union_of}
 use Rattle.moc_parts.proofs.Twelve.{parts_length, get-parts, made_parts, made_union}
 use Rattle.moc_parts.proofs.Putting.{put_into, more_within, new_in_part}

@@ -1,6 +1,5 @@
 use Rattle.std.proofs.Common.{rules, ◌≡◌, ◌<◌, length, get_or, subst, ap, ◌∙◌}
-use Rattle.moc_ranges.specs.Operations.{part_of, IsWithin}
-use Rattle.moc_ranges.specs.Pixels.{pixels}
+use Rattle.moc_ranges.specs.Operations.{part_of, IsWithin, pixels}
 use Rattle.moc_parts.proofs.Twelve.{parts_length, parts_within, get-parts}
 use Rattle.moc_parts.proofs.map.Map.part.Goals as goal
 

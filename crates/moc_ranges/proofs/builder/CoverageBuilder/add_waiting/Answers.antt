@@ -1,10 +1,10 @@
 use Rattle.std.proofs.Common.{◌∙◌, arith, ap}
 use Rattle.std.specs.FinSet as set
-use Rattle.moc_ranges.specs.Numbers.{numbers}
-use Rattle.moc_ranges.specs.RangeList.{set_of}
+use Rattle.moc_lists.specs.RangeList.{numbers, set_of}
 use Rattle.moc_ranges.proofs.Gathering.{waits_more, faultless-push}
 use Rattle.moc_ranges.proofs.builder.CoverageBuilder.add_waiting.Goals as goal
-use Rattle.moc_ranges.proofs.builder.CoverageBuilder.add_waiting.Goals.{then-len-limit+in_ok-join_waiting, else-len-limit}
+use Rattle.moc_ranges.proofs.builder.CoverageBuilder.add_waiting.Goals.{then-len-limit+in_ok-join_waiting}
+use Rattle.moc_ranges.proofs.builder.CoverageBuilder.add_waiting.Goals.{else-len-limit}
 
 pub invariant_of-self-2 : goal.invariant_of-self-2
 invariant_of-self-2 c = record {

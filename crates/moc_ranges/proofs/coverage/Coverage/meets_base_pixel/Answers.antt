@@ -2,7 +2,8 @@ use Rattle.std.proofs.Common.{◌∙◌, inl, inr}
 use Rattle.moc_ranges.proofs.Views.{no_part, none_in_part}
 use Rattle.moc_ranges.proofs.Looking.{meets_base}
 use Rattle.moc_ranges.proofs.coverage.Coverage.meets_base_pixel.Goals as goal
-use Rattle.moc_ranges.proofs.coverage.Coverage.meets_base_pixel.Goals.{then-is_empty-via-then-is_empty, then-is_empty-via-else-is_empty+then-base_pixel-gt11}
+use Rattle.moc_ranges.proofs.coverage.Coverage.meets_base_pixel.Goals.{then-is_empty-via-then-is_empty}
+use Rattle.moc_ranges.proofs.coverage.Coverage.meets_base_pixel.Goals.{then-is_empty-via-else-is_empty+then-base_pixel-gt11}
 
 pub returns : goal.returns
 returns c = rw c.from-from.ensures at c.meets_range.ensures ∙ meets_base c.args.self.now c.args.base_pixel

@@ -1,6 +1,6 @@
 use Rattle.std.proofs.Common.{◌≤◌, arith}
-use Rattle.moc_ranges.specs.Private.Blocks.{next_of}
-use Rattle.moc_ranges.proofs.Merging.{EndsBelow-more}
+use Rattle.moc_lists.specs.Private.Blocks.{next_of}
+use Rattle.moc_lists.proofs.Merging.{EndsBelow-more}
 use Rattle.moc_ranges.proofs.Meeting.{taken_passed, taken_carried}
 use Rattle.moc_ranges.proofs.operations.carrying.take_whole.Goals as goal
 

@@ -1,6 +1,6 @@
 use Rattle.std.proofs.Common.{◌≡◌, ◌∷◌, ◌≤◌, min, [], List, ℕ, Some, subst, sym, refl, arith}
 use Rattle.moc_ranges.specs.Private.Meeting.{CanMeet, MeetsOn, gaps_of}
-use Rattle.moc_ranges.specs.Private.Built.{ranges_of}
+use Rattle.moc_lists.specs.Private.Built.{ranges_of}
 use Rattle.moc_ranges.proofs.Walking.{begun_is}
 use Rattle.moc_ranges.proofs.MeetingOn.{meets_none, meets_more, meets_taken, meets_first}
 use Rattle.moc_ranges.proofs.operations.difference.finish_lacking.Goals as goal

@@ -1,5 +1,5 @@
 use Rattle.std.proofs.Common.{arith}
-use Rattle.moc_ranges.proofs.Merging.{EndsBelow-more}
+use Rattle.moc_lists.proofs.Merging.{EndsBelow-more}
 use Rattle.moc_ranges.proofs.Shortening.{taken_shorter}
 use Rattle.moc_ranges.proofs.MeetingOn.{left_normal, left_shorter, meets_more, meets_taken}
 use Rattle.moc_ranges.proofs.Gaps.{first_gap, gap_rest, lacks_left, next_gap, rising_low}

@@ -1,13 +1,14 @@
 use Rattle.std.proofs.lemmas.Result.{IfOk-weaker}
 use Rattle.std.proofs.Common.{◌∙◌, ◌∷◌, [], ◌<◌, List, ℕ, ap, arith, refl, subst, sym, Option, Some}
-use Rattle.moc_ranges.specs.RangeList.{set_of}
+use Rattle.moc_lists.specs.RangeList.{set_of}
 use Rattle.moc_ranges.specs.Private.Walks.{begun}
-use Rattle.moc_ranges.specs.Private.Blocks.{next_of}
-use Rattle.moc_ranges.proofs.Merging.{ends_next}
-use Rattle.moc_ranges.specs.Private.Built.{ranges_of}
+use Rattle.moc_lists.specs.Private.Blocks.{next_of}
+use Rattle.moc_lists.proofs.Merging.{ends_next}
+use Rattle.moc_lists.specs.Private.Built.{ranges_of}
 use Rattle.moc_ranges.proofs.Walking.{at_both}
 use Rattle.moc_ranges.proofs.Views.{first_only_view}
-use Rattle.moc_ranges.proofs.Lacking.{IsLacking, lacked, lacking_begin, lacking_carried, lacking_all, lacking_skipped, lacking_trim, lacking_kept, lacking_passed}
+use Rattle.moc_ranges.proofs.Lacking.{IsLacking, lacked, lacking_begin, lacking_carried, lacking_all, lacking_skipped}
+use Rattle.moc_ranges.proofs.Lacking.{lacking_trim, lacking_kept, lacking_passed}
 use Rattle.moc_ranges.proofs.Shortening.{length_begun, advanced_shorter, carried_shorter}
 use Rattle.moc_ranges.proofs.operations.difference.subtract_lists.Goals as goal
 

@@ -1,11 +1,12 @@
 use Rattle.std.proofs.Common.{◌∙◌, arith, ap}
 use Rattle.std.proofs.lemmas.Result.{IfOk-weaker}
-use Rattle.moc_ranges.specs.Lemmas.Members.{in_ranges}
-use Rattle.moc_ranges.specs.RangeList.{set_of}
-use Rattle.moc_ranges.proofs.Blocking.{none_there}
-use Rattle.moc_ranges.proofs.Turning.{first_item}
+use Rattle.moc_lists.specs.Lemmas.Members.{in_ranges}
+use Rattle.moc_lists.specs.RangeList.{set_of}
+use Rattle.moc_lists.proofs.Blocking.{none_there}
+use Rattle.moc_lists.proofs.Turning.{first_item}
 use Rattle.moc_ranges.proofs.Views.{union_view}
-use Rattle.moc_ranges.proofs.Slices.{or_swap, uniting_few_swap, uniting_few_settled, uniting_few_at, united_few_normal, united_few, none_joined, joined_none, uniting_few_start}
+use Rattle.moc_ranges.proofs.Slices.{or_swap, uniting_few_swap, uniting_few_settled, uniting_few_at, united_few_normal}
+use Rattle.moc_ranges.proofs.Slices.{united_few, none_joined, joined_none, uniting_few_start}
 use Rattle.moc_ranges.proofs.operations.few.unite_few.Goals as goal
 
 pub returns-in_default : goal.returns-in_default

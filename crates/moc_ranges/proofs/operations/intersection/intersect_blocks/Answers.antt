@@ -1,8 +1,8 @@
 use Rattle.std.proofs.Common.{◌≡◌, ◌⊎◌, List, ℕ, [], Bool, subst, sym, ap, ◌∙◌}
 use Rattle.std.proofs.lemmas.Result.{IfOk-weaker}
 use Rattle.std.specs.Bool.{OnFalse}
-use Rattle.moc_ranges.specs.RangeList.{set_of}
-use Rattle.moc_ranges.specs.Private.Built.{ranges_of}
+use Rattle.moc_lists.specs.RangeList.{set_of}
+use Rattle.moc_lists.specs.Private.Built.{ranges_of}
 use Rattle.moc_ranges.specs.Private.Meeting.{CanMeet, MeetsOn}
 use Rattle.moc_ranges.proofs.Meeting.{rising_normal}
 use Rattle.moc_ranges.proofs.MeetingOn.{meets_start, meets_more, meets_swap, can_swap, met_all}

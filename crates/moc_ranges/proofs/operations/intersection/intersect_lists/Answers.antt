@@ -1,10 +1,11 @@
 use Rattle.std.proofs.lemmas.Result.{IfOk-weaker}
 use Rattle.std.proofs.Common.{◌∙◌, arith, ap}
-use Rattle.moc_ranges.specs.RangeList.{set_of}
-use Rattle.moc_ranges.specs.Private.Built.{ranges_of}
+use Rattle.moc_lists.specs.RangeList.{set_of}
+use Rattle.moc_lists.specs.Private.Built.{ranges_of}
 use Rattle.moc_ranges.proofs.Walking.{at_both}
 use Rattle.moc_ranges.proofs.Views.{common_view}
-use Rattle.moc_ranges.proofs.Meeting.{IsMeeting, met_first, met_second, meeting_kept, meeting_kept_back, meeting_taken, meeting_swap}
+use Rattle.moc_ranges.proofs.Meeting.{IsMeeting, met_first, met_second, meeting_kept, meeting_kept_back, meeting_taken}
+use Rattle.moc_ranges.proofs.Meeting.{meeting_swap}
 use Rattle.moc_ranges.proofs.Shortening.{length_begun, taken_shorter}
 use Rattle.moc_ranges.proofs.operations.intersection.intersect_lists.Goals as goal
 

@@ -1,6 +1,6 @@
 use Rattle.std.proofs.Common.{◌+◌, length}
 use Rattle.moc_ranges.specs.Private.Walks.{begun}
-use Rattle.moc_ranges.specs.Private.Built.{ranges_of}
+use Rattle.moc_lists.specs.Private.Built.{ranges_of}
 use Rattle.moc_ranges.proofs.Meeting.{IsMeeting}
 use Rattle.moc_ranges.proofs.operations.intersection.intersect_lists.Given as goal
 

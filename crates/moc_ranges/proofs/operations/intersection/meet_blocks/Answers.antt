@@ -1,5 +1,5 @@
 use Rattle.std.proofs.Common.{◌∙◌, subst, sym}
-use Rattle.moc_ranges.specs.RangeList.{IsNormal}
+use Rattle.moc_lists.specs.RangeList.{IsNormal}
 use Rattle.moc_ranges.proofs.MeetingOn.{met_begun, rest_is, rest_normal}
 use Rattle.moc_ranges.proofs.operations.intersection.meet_blocks.Goals as goal
 

@@ -1,8 +1,8 @@
 use Rattle.std.proofs.Common.{◌+◌, arith}
 use Rattle.std.proofs.lemmas.Result.{IfOk-weaker}
-use Rattle.moc_ranges.specs.Private.Blocks.{next_of}
+use Rattle.moc_lists.specs.Private.Blocks.{next_of}
 use Rattle.moc_ranges.specs.Private.Walks.{begun}
-use Rattle.moc_ranges.proofs.Merging.{EndsBelow-more}
+use Rattle.moc_lists.proofs.Merging.{EndsBelow-more}
 use Rattle.moc_ranges.proofs.Meeting.{taken_past, taken_carried}
 use Rattle.moc_ranges.proofs.operations.intersection.next_meeting.Goals as goal
 

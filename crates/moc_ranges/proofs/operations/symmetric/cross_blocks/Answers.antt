@@ -1,6 +1,6 @@
 use Rattle.std.proofs.Common.{take, arith}
 use Rattle.std.proofs.lemmas.List.{length-take-le}
-use Rattle.moc_ranges.specs.Private.Built.{ranges_of}
+use Rattle.moc_lists.specs.Private.Built.{ranges_of}
 use Rattle.moc_ranges.proofs.Crossing.{HasFront, crossed_next, kernel_crossing, kernel_rises}
 use Rattle.moc_ranges.proofs.operations.symmetric.cross_blocks.Goals as goal
 

@@ -1,5 +1,5 @@
 use Rattle.std.proofs.Common.{◌+◌, length}
-use Rattle.moc_ranges.specs.Private.Built.{ranges_of}
+use Rattle.moc_lists.specs.Private.Built.{ranges_of}
 use Rattle.moc_ranges.specs.Private.Crossing.{IsCrossed}
 use Rattle.moc_ranges.proofs.operations.symmetric.differ_blocks.Given as goal
 

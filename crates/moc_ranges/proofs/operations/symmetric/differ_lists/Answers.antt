@@ -1,13 +1,14 @@
 use Rattle.std.proofs.Common.{◌∙◌, ℕ, Option, ap, arith, subst}
 use Rattle.std.proofs.lemmas.Result.{IfOk-weaker}
-use Rattle.moc_ranges.specs.Lemmas.Members.{in_ranges}
-use Rattle.moc_ranges.specs.RangeList.{set_of}
+use Rattle.moc_lists.specs.Lemmas.Members.{in_ranges}
+use Rattle.moc_lists.specs.RangeList.{set_of}
 use Rattle.moc_ranges.specs.Private.Walks.{begun}
-use Rattle.moc_ranges.specs.Private.Built.{ranges_of}
+use Rattle.moc_lists.specs.Private.Built.{ranges_of}
 use Rattle.moc_ranges.specs.Private.Differing.{IsDiffering}
-use Rattle.moc_ranges.proofs.Merging.{EndsBelow-more}
+use Rattle.moc_lists.proofs.Merging.{EndsBelow-more}
 use Rattle.moc_ranges.proofs.Walking.{at_both}
-use Rattle.moc_ranges.proofs.Differing.{differs_swap, differs_view, differed, differed_normal, differing_both, differing_carried, differing_start, differing_swap}
+use Rattle.moc_ranges.proofs.Differing.{differs_swap, differs_view, differed, differed_normal, differing_both}
+use Rattle.moc_ranges.proofs.Differing.{differing_carried, differing_start, differing_swap}
 use Rattle.moc_ranges.proofs.operations.symmetric.differ_lists.Goals as goal
 
 pub loop-first-init : goal.loop-first-init

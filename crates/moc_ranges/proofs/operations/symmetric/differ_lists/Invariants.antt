@@ -1,6 +1,6 @@
 use Rattle.std.proofs.Common.{◌+◌, length}
 use Rattle.moc_ranges.specs.Private.Walks.{begun}
-use Rattle.moc_ranges.specs.Private.Built.{ranges_of}
+use Rattle.moc_lists.specs.Private.Built.{ranges_of}
 use Rattle.moc_ranges.specs.Private.Differing.{IsDiffering}
 use Rattle.moc_ranges.proofs.operations.symmetric.differ_lists.Given as goal
 

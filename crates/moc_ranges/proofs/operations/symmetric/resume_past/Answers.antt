@@ -1,5 +1,5 @@
 use Rattle.std.proofs.Common.{◌++◌, List, ℕ, sym, subst}
-use Rattle.moc_ranges.specs.RangeList.{IsNormal}
+use Rattle.moc_lists.specs.RangeList.{IsNormal}
 use Rattle.moc_ranges.proofs.Crossing.{normal_next, take_rest}
 use Rattle.moc_ranges.proofs.operations.symmetric.resume_past.Goals as goal
 

@@ -1,5 +1,6 @@
 use Rattle.std.proofs.Common.{◌+◌, ◌++◌, ◌∷◌, [], length}
-use Rattle.moc_ranges.specs.Private.Built.{IsJoining, ranges_of}
+use Rattle.moc_ranges.specs.Private.Taking.{IsJoining}
+use Rattle.moc_lists.specs.Private.Built.{ranges_of}
 use Rattle.moc_ranges.proofs.operations.union.join_begun.Given as goal
 
 abbrev pub invariant-loop-turn : goal.invariant-loop-turn

@@ -1,5 +1,6 @@
 use Rattle.std.proofs.Common.{get_or, arith}
-use Rattle.moc_ranges.proofs.Turning.{first_item, turn_first, turn_second}
+use Rattle.moc_lists.proofs.Turning.{first_item}
+use Rattle.moc_ranges.proofs.Turning.{turn_first, turn_second}
 use Rattle.moc_ranges.proofs.operations.union.next_turn.Goals as goal
 
 pub returns-then-x-y : goal.returns-then-x-y

@@ -1,6 +1,6 @@
 use Rattle.std.proofs.Common.{◌<◌, Bool, length, subst}
 use Rattle.std.specs.Bool.{OnTrue}
-use Rattle.moc_ranges.specs.Private.Built.{EndsBelow}
+use Rattle.moc_lists.specs.Private.Built.{EndsBelow}
 use Rattle.moc_ranges.proofs.Merging.{can_carry, carried}
 use Rattle.moc_ranges.proofs.operations.union.take_blocks_over.Goals as goal
 

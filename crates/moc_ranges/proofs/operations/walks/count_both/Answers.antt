@@ -1,6 +1,7 @@
 use Rattle.std.proofs.Common.{arith}
 use Rattle.moc_ranges.specs.Private.Walks.{begun}
-use Rattle.moc_ranges.proofs.Walking.{IsCounting, at_both, counting_first, counting_second, counting_room, counted_first, counted_second, counted_within, common_bounded}
+use Rattle.moc_ranges.proofs.Walking.{IsCounting, at_both, counting_first, counting_second, counting_room}
+use Rattle.moc_ranges.proofs.Walking.{counted_first, counted_second, counted_within, common_bounded}
 use Rattle.moc_ranges.proofs.operations.walks.count_both.Goals as goal
 
 pub returns-in_default-second : goal.returns-in_default-second

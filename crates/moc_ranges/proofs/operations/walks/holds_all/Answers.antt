@@ -1,5 +1,6 @@
 use Rattle.std.proofs.Common.{arith}
-use Rattle.moc_ranges.proofs.Walking.{IsHolding, at_both, holding_skips, holding_takes, holding_fails, holding_lacks, holding_ends}
+use Rattle.moc_ranges.proofs.Walking.{IsHolding, at_both, holding_skips, holding_takes, holding_fails, holding_lacks}
+use Rattle.moc_ranges.proofs.Walking.{holding_ends}
 use Rattle.moc_ranges.proofs.operations.walks.holds_all.Goals as goal
 
 pub returns-in_default-first : goal.returns-in_default-first

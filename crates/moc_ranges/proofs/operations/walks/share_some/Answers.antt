@@ -1,5 +1,6 @@
 use Rattle.moc_ranges.specs.Private.Walks.{begun}
-use Rattle.moc_ranges.proofs.Walking.{IsCounting, at_both, sharing_first, sharing_second, shares, counted_first, counted_second, shares_none}
+use Rattle.moc_ranges.proofs.Walking.{IsCounting, at_both, sharing_first, sharing_second, shares, counted_first}
+use Rattle.moc_ranges.proofs.Walking.{counted_second, shares_none}
 use Rattle.moc_ranges.proofs.operations.walks.share_some.Goals as goal
 
 pub returns-in_default-second : goal.returns-in_default-second

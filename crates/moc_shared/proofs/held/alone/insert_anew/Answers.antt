@@ -1,7 +1,7 @@
 use Rattle.std.proofs.Common.{◌≡◌, true, ap, sym, ◌∙◌}
 use Rattle.std.specs.Arc.{arc_value}
 use Rattle.std.specs.FinSet as set
-use Rattle.moc_ranges.specs.Numbers.{NumberSet}
+use Rattle.moc_lists.specs.RangeList.{NumberSet}
 use Rattle.moc_shared.proofs.Alone.{union_there, none_new}
 use Rattle.moc_shared.proofs.held.alone.insert_anew.Goals as goal
 use Rattle.moc_shared.proofs.held.alone.insert_anew.Goals.{Then-covers}

@@ -1,5 +1,5 @@
 use Rattle.std.proofs.Common.{sym, ◌∙◌, subst, List}
-use Rattle.moc_ranges.specs.Numbers.{NumberSet}
+use Rattle.moc_lists.specs.RangeList.{NumberSet}
 use Rattle.moc_parts.specs.Parts.{LieInParts, union_of}
 use Rattle.moc_parts.specs.Prepared.{AreChanges}
 use Rattle.moc_shared.specs.Private.Slots.{lists_of}

@@ -1,7 +1,7 @@
 use Rattle.std.proofs.Common.{◌≡◌, length, get_or, ◌⊎◌, inl, inr, false, sym, ap, ◌∙◌}
 use Rattle.std.specs.FinSet as set
 use Rattle.std.proofs.lemmas.Result.{err_from_is_err_and}
-use Rattle.moc_ranges.specs.Numbers.{NumberSet}
+use Rattle.moc_lists.specs.RangeList.{NumberSet}
 use Rattle.moc_text.specs.Ascii.{is_separator, item_fault, item_pixels, IsFirstFault}
 use Rattle.moc_text.specs.declared.ascii.error.TextError.TheVariants.{Memory}
 use Rattle.moc_text.proofs.Scanning.{Scanned}

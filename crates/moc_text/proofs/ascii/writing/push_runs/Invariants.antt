@@ -1,5 +1,5 @@
 use Rattle.std.proofs.Common.{◌≡◌, ◌++◌, List, Option, ℕ}
-use Rattle.moc_ranges.specs.RangeList.{IsNormal}
+use Rattle.moc_lists.specs.RangeList.{IsNormal}
 use Rattle.moc_text.specs.Private.AsciiWriting.{onward, runs_in}
 use Rattle.moc_text.specs.declared.ascii.writing.Run.{Run}
 use Rattle.moc_text.proofs.ascii.writing.push_runs.Given as goal

@@ -1,0 +1,19 @@
+use Rattle.std.proofs.Common.{◌≡◌, ◌++◌, ◌∷◌, [], List, ℕ, arith, ap, subst, ◌∙◌, append_assoc}
+use Rattle.moc_lists.specs.Blocks.{joining}
+use Rattle.moc_lists.specs.Private.Built.{last_length}
+use Rattle.moc_lists.specs.RangeList.{IsNormal}
+use Rattle.moc_lists.proofs.Blocking.{IsNormal-suffix, joining-last}
+use Rattle.moc_lists.proofs.Filling.{last_length-append}
+use Rattle.moc_lists.proofs.kept.join_last.Goals as goal
+
+pub followed_by-requires-clause-normal : goal.followed_by-requires-clause-normal
+followed_by-requires-clause-normal c =
+    let bs = c.pop.new.self.items in
+    let parts : joining c.args.blocks.now.items ++ c.args.block ≡ joining bs ++ (c.in-Some.last ++ c.args.block) =
+    ap (λ (l : List (ℕ × ℕ)). l ++ c.args.block) (ap joining c.in-Some.ensures.items ∙ joining-last bs c.in-Some.last) ∙ append_assoc (joining bs) c.in-Some.last c.args.block in
+    IsNormal-suffix (joining bs) (c.in-Some.last ++ c.args.block) (subst IsNormal parts c.requires.normal)
+
+pub followed_by-requires-clause-room : goal.followed_by-requires-clause-room
+followed_by-requires-clause-room c =
+    let len = ap last_length c.in-Some.ensures.items ∙ last_length-append c.pop.new.self.items (c.in-Some.last ∷ []) (omega arith) in
+    omega (arith, len, c.requires.room)

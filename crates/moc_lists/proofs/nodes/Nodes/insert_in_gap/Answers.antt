@@ -1,0 +1,38 @@
+use Rattle.std.proofs.Common.{[], List, ℕ, sym, subst, arith, slice_set, ◌-◌}
+use Rattle.moc_lists.specs.Private.Added.{HasGrown}
+use Rattle.moc_lists.specs.Blocks.{joining}
+use Rattle.moc_lists.specs.Private.Blocks.{IsStored}
+use Rattle.moc_lists.proofs.Blocking.{few_ranges, width_bounded}
+use Rattle.moc_lists.proofs.Inserting.{gap_can, gap_put, on_true}
+use Rattle.moc_lists.proofs.nodes.Nodes.insert_in_gap.Goals as goal
+
+pub insert-requires : goal.insert-requires
+insert-requires c = gap_can c.args.from c.args.to _ _ _ c.self.inside.nodes.items c.deref.result.now c.index_mut.result.now c.deref.ensures.value c.in-Some.ensures c.index_mut.ensures.value
+
+pub overflow_add-self : goal.overflow_add-self
+overflow_add-self c =
+    let stored = subst (λ (l : List (List (List (ℕ × ℕ)))). IsStored [] l) (sym c.self.view_is) c.requires.stored in
+    let put = gap_put c.args.from c.args.to _ _ _ _ _ c.self.inside.nodes.items c.deref.result.now _ c.index_mut.result.now c.insert.new.self c.requires.filled stored c.self.invariant c.deref.ensures.value c.in-Some.ensures c.index_mut.ensures.value (on_true _ c.if-not-branch.false c.in_ok-insert.ensures.put) in
+    omega (arith, put.index.measured, width_bounded _ put.stored.normal)
+
+pub overflow_add-self-2 : goal.overflow_add-self-2
+overflow_add-self-2 c =
+    let stored = subst (λ (l : List (List (List (ℕ × ℕ)))). IsStored [] l) (sym c.self.view_is) c.requires.stored in
+    let put = gap_put c.args.from c.args.to _ _ _ _ _ c.self.inside.nodes.items c.deref.result.now _ c.index_mut.result.now c.insert.new.self c.requires.filled stored c.self.invariant c.deref.ensures.value c.in-Some.ensures c.index_mut.ensures.value (on_true _ c.if-not-branch.false c.in_ok-insert.ensures.put) in
+    omega (arith, put.index.counted, few_ranges _ put.stored.normal)
+
+pub invariant_of-self-2 : goal.invariant_of-self-2
+invariant_of-self-2 c =
+    let stored = subst (λ (l : List (List (List (ℕ × ℕ)))). IsStored [] l) (sym c.self.view_is) c.requires.stored in
+    (gap_put c.args.from c.args.to _ _ _ _ _ c.self.inside.nodes.items c.deref.result.now _ c.index_mut.result.now c.insert.new.self c.requires.filled stored c.self.invariant c.deref.ensures.value c.in-Some.ensures c.index_mut.ensures.value (on_true _ c.if-not-branch.false c.in_ok-insert.ensures.put)).index
+
+pub returns-clause-stored : goal.returns-clause-stored
+returns-clause-stored c =
+    let stored = subst (λ (l : List (List (List (ℕ × ℕ)))). IsStored [] l) (sym c.self.view_is) c.requires.stored in
+    (gap_put c.args.from c.args.to _ _ _ _ _ c.self.inside.nodes.items c.deref.result.now _ c.index_mut.result.now c.insert.new.self c.requires.filled stored c.self.invariant c.deref.ensures.value c.in-Some.ensures c.index_mut.ensures.value (on_true _ c.if-not-branch.false c.in_ok-insert.ensures.put)).stored
+
+pub returns-clause-inserted : goal.returns-clause-inserted
+returns-clause-inserted c =
+    let stored = subst (λ (l : List (List (List (ℕ × ℕ)))). IsStored [] l) (sym c.self.view_is) c.requires.stored in
+    let put = gap_put c.args.from c.args.to _ _ _ _ _ c.self.inside.nodes.items c.deref.result.now _ c.index_mut.result.now c.insert.new.self c.requires.filled stored c.self.invariant c.deref.ensures.value c.in-Some.ensures c.index_mut.ensures.value (on_true _ c.if-not-branch.false c.in_ok-insert.ensures.put) in
+    subst (λ (l : List (List (List (ℕ × ℕ)))). HasGrown c.args.from c.args.to (joining (joining l)) (joining (joining (slice_set c.self.inside.nodes.items c.in-Some.field-0.node c.insert.new.self))) (c.args.to - c.args.from)) c.self.view_is put.grown

@@ -1,0 +1,5 @@
+use Rattle.moc_lists.proofs.Passing.{passes_normal}
+use Rattle.moc_lists.proofs.ranges.Ranges.pass.Goals as goal
+
+pub invariant_of-self : goal.invariant_of-self
+invariant_of-self c = passes_normal c.args.range _ _ _ c.self.invariant c.pass_ranges-passed.ensures

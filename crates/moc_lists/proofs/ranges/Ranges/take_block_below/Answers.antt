@@ -1,0 +1,7 @@
+use Rattle.std.proofs.Common.{subst}
+use Rattle.moc_lists.specs.RangeList.{IsNormal}
+use Rattle.moc_lists.proofs.Blocking.{IsNormal-suffix}
+use Rattle.moc_lists.proofs.ranges.Ranges.take_block_below.Goals as goal
+
+pub invariant_of-self : goal.invariant_of-self
+invariant_of-self c = IsNormal-suffix (c.in_ok-whole.whole.block.now) _ (subst IsNormal c.in_ok-whole.ensures.parts c.self.invariant)

@@ -1,0 +1,120 @@
+//! The blocks of a coverage, as lists of ranges.
+use crate::ahead::Ahead;
+use crate::block::Block;
+use crate::node::Node;
+use std::fmt;
+use std::marker::Model;
+
+/// The chunks of a set that are still to come, in rising order: slices of its ranges (from, to),
+/// each of 1 to 128, two side by side of more than 128 together.
+#[derive(Drop)]
+pub struct Chunks<'a> {
+    /// The ranges of a set that has no nodes.
+    few: &'a [(u64, u64)],
+    ahead: Ahead<'a>,
+}
+
+impl<'a> Model for Chunks<'a> {
+    ghost use Rattle.std.specs.Prelude.{List, ℕ};
+    ghost use Rattle.moc_lists.specs.Private.Blocks.{chunks_of};
+
+    ghost Value = { List (List (ℕ × ℕ)) };
+
+    ghost view = { λ c. chunks_of c.few.now c.ahead.blocks.now c.ahead.nodes.now };
+}
+
+ghost use Rattle.std.specs.Prelude.{◌≡◌, ◌++◌, [], ◌∷◌, MatchOption};
+ghost use Rattle.std.specs.Iterator.{item_count};
+ghost use Rattle.moc_lists.specs.Blocks.{joining};
+ghost use Rattle.moc_lists.specs.Private.Blocks.{chunks_of};
+
+/// A block, and what is behind it.
+#[derive(Clone, Copy)]
+struct NextBlock<'a> {
+    block: &'a Block,
+    ahead: Ahead<'a>,
+}
+
+/// The first block of nodes, if there is one.
+fn first_block(nodes: &[Node]) -> Option<NextBlock<'_>>
+    ensures { MatchOption result (joining nodes.entry.now ≡ []) (λ n.
+        joining nodes.entry.now ≡ n.block.now ∷ (n.ahead.blocks.now ++ joining n.ahead.nodes.now)) }
+{
+    let [node, nodes @ ..] = nodes else {
+        return None;
+    };
+    let [block, blocks @ ..] = node.blocks() else {
+        return None;
+    };
+    Some(NextBlock {
+        block,
+        ahead: Ahead { blocks, nodes },
+    })
+}
+
+/// The next block, if there is one.
+fn next_block(ahead: Ahead<'_>) -> Option<NextBlock<'_>>
+    ensures { MatchOption result (ahead.entry.blocks.now ++ joining ahead.entry.nodes.now ≡ []) (λ n.
+        ahead.entry.blocks.now ++ joining ahead.entry.nodes.now
+        ≡ n.block.now ∷ (n.ahead.blocks.now ++ joining n.ahead.nodes.now)) }
+{
+    let [block, blocks @ ..] = ahead.blocks else {
+        return first_block(ahead.nodes);
+    };
+    Some(NextBlock {
+        block,
+        ahead: Ahead {
+            blocks,
+            nodes: ahead.nodes,
+        },
+    })
+}
+
+impl<'a> Chunks<'a> {
+    /// These ranges as a chunk, if there are any, and the blocks of the nodes.
+    pub(crate) fn new(few: &'a [(u64, u64)], nodes: &'a [Node]) -> Self
+        ensures { result ≡ chunks_of few.now [] nodes.now }
+    {
+        let ahead = Ahead { blocks: &[], nodes };
+        Self { few, ahead }
+    }
+}
+
+/// How many ranges each has that is still to come, as `[128, 97]`.
+impl fmt::Debug for Chunks<'_> {
+    fn fmt<W: fmt::Write>(&self, f: &mut fmt::Formatter<W>) -> fmt::Result {
+        let chunks = Chunks {
+            few: self.few,
+            ahead: self.ahead,
+        };
+        let mut first = true;
+        write!(f, "[")?;
+        for chunk in chunks {
+            if !first {
+                write!(f, ", ")?;
+            }
+            write!(f, "{}", chunk.len())?;
+            first = false;
+        }
+        write!(f, "]")
+    }
+}
+
+impl<'a> Iterator for Chunks<'a> {
+    type Item = &'a [(u64, u64)];
+
+    ghost next_gives = { λ s r t. MatchOption r ((s ≡ []) × (t ≡ [])) (λ x. s ≡ x.now ∷ t) };
+
+    ghost remaining = { item_count (λ s. s) };
+
+    fn next(&mut self) -> Option<&'a [(u64, u64)]> {
+        let few = self.few;
+        if !few.is_empty() {
+            self.few = &[];
+            return Some(few);
+        }
+        let next = next_block(self.ahead)?;
+        self.ahead = next.ahead;
+        Some(next.block.ranges())
+    }
+}

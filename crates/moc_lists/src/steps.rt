@@ -1,0 +1,103 @@
+//! Looking up a pixel, and counting what that takes.
+use std::marker::Model;
+
+/// How many comparisons of a pixel with the bounds of a range or a block look-ups have made.
+#[derive(Debug, Drop)]
+pub struct Steps {
+    count: u64,
+}
+
+impl Model for Steps {
+    ghost use Rattle.std.specs.Prelude.{ℕ};
+
+    ghost Value = { ℕ };
+
+    ghost view = { λ s. s.count };
+}
+
+ghost use Rattle.std.specs.Prelude.{◌≡◌, ◌+◌, ◌<◌, ◌≤◌, ◌^◌, ℕ, length, get_or, MatchOption};
+ghost use Rattle.moc_lists.specs.RangeList.{IsNormal};
+ghost use Rattle.moc_lists.specs.Lemmas.Members.{in_ranges};
+ghost use Rattle.moc_lists.specs.Blocks.{joining};
+ghost use Rattle.moc_lists.specs.Private.Blocks.{AreStored};
+
+use crate::nodes::Nodes;
+
+impl Steps {
+    /// None so far.
+    pub fn new() -> Self
+        ensures { result ≡ 0 }
+    {
+        Self { count: 0 }
+    }
+
+    /// How many there were.
+    pub fn get(&self) -> u64
+        ensures { result ≡ self.now }
+    {
+        self.count
+    }
+
+    /// Counts one more.
+    #[inline]
+    fn step(&mut self)
+        requires { self.old < 9223372036854776000 }
+        ensures { self.new ≡ self.old + 1 }
+    {
+        self.count += 1;
+    }
+}
+
+/// Whether a range has the pixel.
+pub(crate) fn find_range(ranges: &[(u64, u64)], pixel: u64, steps: &mut Steps) -> bool
+    requires normal { IsNormal ranges.now }
+    requires fits { length ranges.now ≤ 128 }
+    requires room { steps.old < 9223372036854775900 }
+    ensures found { result ≡ in_ranges ranges.now pixel }
+    ensures rises { steps.old ≤ steps.new }
+    ensures cost { (d : ℕ) → length ranges.now < 2 ^ d → steps.new ≤ steps.old + d }
+{
+    let mut low = 0;
+    let mut high = ranges.len();
+    while low < high {
+        let middle = low + (high - low) / 2;
+        let range = ranges[middle];
+        steps.step();
+        if pixel < range.0 {
+            high = middle;
+        } else if range.1 <= pixel {
+            low = middle + 1;
+        } else {
+            return true;
+        }
+    }
+    false
+}
+
+/// Whether a block of the nodes has the pixel. It halves all their blocks by their numbers: to go from a node to its
+/// blocks would take a step too many where the nodes are not full. Finding a block by its number compares no pixel.
+pub(crate) fn find_block(nodes: &Nodes, pixel: u64, steps: &mut Steps) -> bool
+    requires stored { AreStored (joining nodes.now) }
+    requires room { steps.old < 9223372036854775808 }
+    ensures found { result ≡ in_ranges (joining (joining nodes.now)) pixel }
+    ensures rises { steps.old ≤ steps.new }
+    ensures cost { (d : ℕ) → length (joining nodes.now) < 2 ^ d → steps.new ≤ steps.old + d + 8 }
+{
+    let mut low = 0;
+    let mut high = nodes.count_blocks();
+    while low < high {
+        let middle = low + (high - low) / 2;
+        let Some(block) = nodes.block_at(middle) else {
+            return false;
+        };
+        steps.step();
+        if pixel < block.from() {
+            high = middle;
+        } else if block.to() <= pixel {
+            low = middle + 1;
+        } else {
+            return find_range(block.ranges(), pixel, steps);
+        }
+    }
+    false
+}

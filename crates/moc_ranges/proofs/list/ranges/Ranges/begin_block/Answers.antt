@@ -1,6 +1,0 @@
-use Rattle.std.proofs.Common.{subst, sym}
-use Rattle.moc_ranges.specs.RangeList.{IsNormal}
-use Rattle.moc_ranges.proofs.list.ranges.Ranges.begin_block.Goals as goal
-
-pub resume-requires : goal.resume-requires
-resume-requires c = subst IsNormal (sym c.in-Some.ensures.0) c.requires

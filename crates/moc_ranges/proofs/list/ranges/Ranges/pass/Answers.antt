@@ -1,5 +1,0 @@
-use Rattle.moc_ranges.proofs.Passing.{passes_normal}
-use Rattle.moc_ranges.proofs.list.ranges.Ranges.pass.Goals as goal
-
-pub invariant_of-self : goal.invariant_of-self
-invariant_of-self c = passes_normal c.args.range _ _ _ c.self.invariant c.pass_ranges-passed.ensures

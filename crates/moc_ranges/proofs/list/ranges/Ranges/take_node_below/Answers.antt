@@ -1,8 +1,0 @@
-use Rattle.std.proofs.Common.{subst}
-use Rattle.moc_ranges.specs.RangeList.{IsNormal}
-use Rattle.moc_ranges.specs.Private.Blocks.{joining}
-use Rattle.moc_ranges.proofs.Blocking.{IsNormal-suffix}
-use Rattle.moc_ranges.proofs.list.ranges.Ranges.take_node_below.Goals as goal
-
-pub invariant_of-self : goal.invariant_of-self
-invariant_of-self c = IsNormal-suffix (joining c.in_ok-whole.whole.node.now) _ (subst IsNormal c.in_ok-whole.ensures.parts c.self.invariant)
