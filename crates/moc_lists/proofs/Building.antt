@@ -74,16 +74,16 @@ pub longer_begins : (f : ℕ) (rs : List (ℕ × ℕ)) (last : ℕ × ℕ) (to :
 longer_begins f [] last to all = (all.0, tt)
 longer_begins f (r ∷ rs) last to all = (all.0, longer_begins f rs last to all.1)
 
-last_of-last : (rs : List (ℕ × ℕ)) (last : ℕ × ℕ) → last_of (rs ++ last ∷ []) ≡ last.1
+pub last_of-last : (rs : List (ℕ × ℕ)) (last : ℕ × ℕ) → last_of (rs ++ last ∷ []) ≡ last.1
 last_of-last [] last = refl
 last_of-last (r ∷ []) last = refl
 last_of-last (r ∷ (r' ∷ rs)) last = last_of-last (r' ∷ rs) last
 
-longer_range : (a b from to q : ℕ) (k : Bool) → a ≤ from → from ≤ b → a < b → from < to → (k || (in_range (a, max b to) q || false)) ≡ ((k || (in_range (a, b) q || false)) || in_range (from, to) q)
+pub longer_range : (a b from to q : ℕ) (k : Bool) → a ≤ from → from ≤ b → a < b → from < to → (k || (in_range (a, max b to) q || false)) ≡ ((k || (in_range (a, b) q || false)) || in_range (from, to) q)
 longer_range a b from to q true af fb ab ft = refl
 longer_range a b from to q false af fb ab ft = grind (arith, nat_tests)
 
-last_filled : (rs : List (ℕ × ℕ)) (last : ℕ × ℕ) → IsNormal (rs ++ last ∷ []) → last.0 < last.1
+pub last_filled : (rs : List (ℕ × ℕ)) (last : ℕ × ℕ) → IsNormal (rs ++ last ∷ []) → last.0 < last.1
 last_filled rs last normal = (IsNormal-suffix rs (last ∷ []) normal).0
 
 -- the last range was joined with one that begins in it
