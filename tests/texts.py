@@ -1,0 +1,63 @@
+#!/usr/bin/env python3
+"""Looks whether texts are where others take them to be, without running anything.
+
+- The programs beside the gate, `always_refused.py` and `plants.py`, put wrong lines in place of right ones: each right one has to stand
+  in its source, so that they can be run whenever one likes.
+- No line of a page is longer than 140 columns, but for the rows of tables.
+
+usage: tests/texts.py
+
+The last line printed is `N passed, M failed`."""
+import glob
+import os
+import re
+import sys
+
+TOP = os.path.dirname(os.path.dirname(os.path.abspath(__file__)))
+sys.path.insert(0, os.path.join(TOP, "tests"))
+import always_refused  # noqa: E402
+import plants  # noqa: E402
+
+# The most columns of a line of a page.
+MOST_COLUMNS = 140
+PAGES = ("README.md", "docs/*.md", "bench/*.md", "crates/*/CALLING.md", "python/*.md")
+
+
+def source(crate, file):
+    with open(os.path.join(TOP, "crates", crate, file), encoding="utf-8") as text:
+        return text.read()
+
+
+def planted_calls():
+    """Each call that is given a body which always refuses, and whether it stands once."""
+    for crate, file, call, answer, _ in always_refused.PLANTS:
+        found = re.findall(rf"^ *pub fn {call}\b", source(crate, f"src/{file}.rt"), re.MULTILINE)
+        yield f"{crate}/{file}: {call} stands once, to answer {answer}", len(found) == 1
+
+
+def planted_lines():
+    """Each line in place of which a wrong one is planted, and whether it stands once."""
+    for it in plants.PLANTS:
+        yield f"{it.crate}/{it.file}: the line of {it.name} stands once", source(it.crate, it.file).count(it.old) == 1
+
+
+def pages():
+    """Each page, and whether its lines are short."""
+    for path in sorted(page for pages in PAGES for page in glob.glob(os.path.join(TOP, pages))):
+        with open(path, encoding="utf-8") as page:
+            long = [number for number, line in enumerate(page, 1) if len(line.rstrip("\n")) > MOST_COLUMNS and not line.startswith("|")]
+        yield f"{os.path.relpath(path, TOP)}: no line is longer than {MOST_COLUMNS} columns, but {long}", not long
+
+
+def main():
+    passed = failed = 0
+    for what, is_so in (*planted_calls(), *planted_lines(), *pages()):
+        passed, failed = passed + is_so, failed + (not is_so)
+        if not is_so:
+            print(f"not so: {what}")
+    print(f"{passed} passed, {failed} failed")
+    return 1 if failed else 0
+
+
+if __name__ == "__main__":
+    sys.exit(main())
