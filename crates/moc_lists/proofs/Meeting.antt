@@ -1,5 +1,5 @@
 -- What two lists of ranges have in common, range by range.
-use Rattle.std.proofs.Common.{◌≡◌, ℕ, ◌+◌, ◌||◌, List, [], ◌∷◌, ◌++◌, ap, ◌∙◌}
+use Rattle.std.proofs.Common.{◌≡◌, ℕ, ◌||◌, List, [], ◌∷◌, ◌++◌, ap, ◌∙◌}
 use Rattle.moc_lists.specs.Lemmas.Members.{in_range, in_ranges}
 use Rattle.moc_lists.proofs.Merging.{in_ranges-append, or_false}
 

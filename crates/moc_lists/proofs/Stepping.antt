@@ -4,7 +4,6 @@ use Rattle.std.proofs.Common.{◌∷◌, ◌++◌, length, take, drop, get_or, r
 use Rattle.std.proofs.lemmas.Bool.Decides.{nat_tests}
 use Rattle.std.proofs.lemmas.List.{take_more, drop_more, take-append-drop, take_all}
 use Rattle.std.proofs.lemmas.List.Sums.{sum_by-cons}
-use Rattle.std.specs.FinSet as set
 use Rattle.moc_lists.specs.RangeList.{NumberSet, pixel_count, IsNormal, set_of}
 use Rattle.moc_lists.specs.Blocks.{IsSearchOf, joining, AreBlocks}
 use Rattle.moc_lists.specs.Lemmas.Members.{in_ranges}

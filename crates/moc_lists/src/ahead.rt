@@ -115,7 +115,11 @@ pub(crate) struct WholeNode<'a> {
 }
 
 /// The next node, where none is begun and it ends below the limit.
-pub(crate) fn node_below<'a>(ranges: &[(u64, u64)], ahead: Ahead<'a>, limit: u64) -> Option<WholeNode<'a>>
+pub(crate) fn node_below<'a>(
+    ranges: &[(u64, u64)],
+    ahead: Ahead<'a>,
+    limit: u64,
+) -> Option<WholeNode<'a>>
     ensures parts { IfSome result (λ w.
         rest_of ranges.entry.now ahead.entry.blocks.now ahead.entry.nodes.now
         ≡ joining w.node.now ++ rest_of [] [] w.nodes.now) }

@@ -7,9 +7,9 @@ ghost use Rattle.moc_lists.specs.Lemmas.Members.{in_ranges, in_range};
 ghost use Rattle.moc_lists.specs.Blocks.{joining};
 ghost use Rattle.moc_lists.specs.Private.Built.{ranges_of, none_grown, CanJoin, CanCarry, Carries, EndsBelow};
 
-use crate::list::RangeList;
 use crate::block::{Block, LONGEST};
 use crate::kept::{Kept, trimmed};
+use crate::list::RangeList;
 use crate::node::Node;
 use crate::ranges::Ranges;
 use std::alloc::{AllocError, Global};

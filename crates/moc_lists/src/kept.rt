@@ -9,9 +9,9 @@ ghost use Rattle.moc_lists.specs.Private.Blocks.{last_of};
 ghost use Rattle.moc_lists.specs.Private.Built.{first_length, last_length, CanJoin, EndsBelow};
 ghost use Rattle.moc_lists.specs.Private.Kept.{all_of, blocks_of, growing, IsKept, AreWide};
 
-use crate::list::RangeList;
 use crate::block::{Block, LONGEST};
 use crate::lengths::{length_of_first, length_of_last, width_of_last};
+use crate::list::RangeList;
 use crate::node::{Node, WIDEST, share_blocks};
 use std::alloc::{AllocError, Global};
 
@@ -74,7 +74,11 @@ impl Kept {
     }
 
     /// Adds ranges of a set behind all others.
-    pub(crate) fn push_all(&mut self, alloc: Global, ranges: &[(u64, u64)]) -> Result<(), AllocError>
+    pub(crate) fn push_all(
+        &mut self,
+        alloc: Global,
+        ranges: &[(u64, u64)],
+    ) -> Result<(), AllocError>
         requires built { IsKept self.old }
         requires normal { IsNormal (all_of self.old ++ ranges.now) }
         ensures built { OnOk result (IsKept self.new) }

@@ -6,7 +6,8 @@ ghost use Rattle.moc_lists.specs.Blocks.{joining};
 ghost use Rattle.moc_lists.specs.Private.Blocks.{moved, width_of, AreStored, IsCountBegun, IsStored};
 ghost use Rattle.moc_lists.specs.Private.Added.{with_second, Inserts};
 
-use crate::added::{Gap, Renewed, Spot, gap_of, renew, spot_of};
+use crate::added::anew::{Renewed, Spot, renew, spot_of};
+use crate::added::gap::{Gap, gap_of};
 use crate::block::Block;
 use crate::node::{Node, share_nodes};
 use std::alloc::{AllocError, Global};
@@ -325,7 +326,12 @@ impl Nodes {
 
     /// Adds a range where that changes one block alone, which is made anew, and tells how many numbers are new. None
     /// where it does not, or a rule of lengths would be broken; the nodes then are as they were.
-    pub(crate) fn insert(&mut self, alloc: Global, from: u64, to: u64) -> Result<Option<u64>, AllocError>
+    pub(crate) fn insert(
+        &mut self,
+        alloc: Global,
+        from: u64,
+        to: u64,
+    ) -> Result<Option<u64>, AllocError>
         requires stored { IsStored [] self.old }
         requires filled { from < to }
         requires within { to ≤ pixel_count }

@@ -2,9 +2,7 @@
 ghost use Rattle.std.specs.Iterator.{YieldsFirst, UpTo, at_most, item_count};
 ghost use Rattle.std.specs.Iterator.SizeHint.{IsWithinCount};
 
-use crate::ahead::{
-    Ahead, Begun, block_ahead, block_below, front_from, next_ahead, node_below,
-};
+use crate::ahead::{Ahead, Begun, block_ahead, block_below, front_from, next_ahead, node_below};
 use crate::block::{Block, LONGEST};
 use crate::node::{Node, count_in_blocks, count_in_nodes};
 use crate::runs::{leading_below, pass_ranges};

@@ -1,5 +1,5 @@
 -- A list of ranges in blocks while it grows at its end.
-use Rattle.std.specs.Prelude.{◌≡◌, ℕ, ◌+◌, ◌<◌, ◌≤◌, List, [], ◌∷◌, ◌++◌, length, ⊤}
+use Rattle.std.specs.Prelude.{◌≡◌, ℕ, ◌<◌, ◌≤◌, List, [], ◌∷◌, ◌++◌, length, ⊤}
 use Rattle.moc_lists.specs.RangeList.{IsNormal}
 use Rattle.moc_lists.specs.Blocks.{joining, AreFilled, AreBlocks}
 use Rattle.moc_lists.specs.Private.Blocks.{next_of}

@@ -4,7 +4,7 @@ use Rattle.moc_lists.specs.Blocks.{joining, AreBlocks}
 use Rattle.moc_lists.specs.Private.Built.{EndsBelow}
 use Rattle.moc_lists.proofs.Passing.{joined-nodes}
 use Rattle.moc_lists.proofs.Adding.{parted}
-use Rattle.moc_lists.proofs.added.spot_of.Goals as goal
+use Rattle.moc_lists.proofs.added.anew.spot_of.Goals as goal
 
 pub place_of-requires : goal.place_of-requires
 place_of-requires c = subst IsNormal (sym (joined-nodes c.args.nodes.now)) c.requires.stored.normal

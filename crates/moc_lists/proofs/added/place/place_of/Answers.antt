@@ -1,7 +1,7 @@
 use Rattle.std.proofs.Common.{arith, subst, take}
 use Rattle.moc_lists.specs.Private.Walks.{joined, EndsBy}
 use Rattle.moc_lists.proofs.Adding.{around_at}
-use Rattle.moc_lists.proofs.added.place_of.Goals as goal
+use Rattle.moc_lists.proofs.added.place.place_of.Goals as goal
 
 pub returns : goal.returns
 returns g c =

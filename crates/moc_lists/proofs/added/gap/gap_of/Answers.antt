@@ -8,7 +8,7 @@ use Rattle.moc_lists.specs.Private.Walks.{joined, EndsBy, IsPastAt}
 use Rattle.moc_lists.proofs.Passing.{joined-nodes, joined-blocks, joined-ranges}
 use Rattle.moc_lists.proofs.Adding.{parted, node_normal, run_normal}
 use Rattle.moc_lists.proofs.Inserting.{gap_here}
-use Rattle.moc_lists.proofs.added.gap_of.Goals as goal
+use Rattle.moc_lists.proofs.added.gap.gap_of.Goals as goal
 
 pub place_of-requires : goal.place_of-requires
 place_of-requires c = subst IsNormal (sym (joined-nodes c.args.nodes.now)) c.requires.stored.normal

@@ -7,7 +7,7 @@ use Rattle.moc_lists.specs.Private.Added.{IsReach}
 use Rattle.moc_lists.proofs.Blocking.{IsNormal-suffix}
 use Rattle.moc_lists.proofs.Passing.{joined-ranges}
 use Rattle.moc_lists.proofs.Adding.{one_more_cut}
-use Rattle.moc_lists.proofs.added.with_range.Goals as goal
+use Rattle.moc_lists.proofs.added.reach.with_range.Goals as goal
 
 pub count_ended-ended-requires : goal.count_ended-ended-requires
 count_ended-ended-requires c = subst IsNormal (sym (joined-ranges c.args.ranges.now)) c.requires.normal

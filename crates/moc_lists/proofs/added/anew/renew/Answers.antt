@@ -5,7 +5,7 @@ use Rattle.moc_lists.specs.Private.Built.{EndsBelow}
 use Rattle.moc_lists.proofs.Passing.{joined-nodes}
 use Rattle.moc_lists.proofs.Adding.{some_of, parted, first_sized, second_sized, first_normal, second_normal}
 use Rattle.moc_lists.proofs.Adding.{renewed_all}
-use Rattle.moc_lists.proofs.added.renew.Goals as goal
+use Rattle.moc_lists.proofs.added.anew.renew.Goals as goal
 
 pub place_of-requires : goal.place_of-requires
 place_of-requires c = subst IsNormal (sym (joined-nodes c.args.nodes.now)) c.requires.stored.normal

@@ -1,7 +1,7 @@
 use Rattle.std.proofs.Common.{◌++◌, ◌∷◌, [], List, ℕ, ap, sym, ◌∙◌, append_assoc, take}
 use Rattle.std.proofs.lemmas.List.{take_more, take_all}
 use Rattle.moc_lists.proofs.Blocking.{nothing_more}
-use Rattle.moc_lists.proofs.added.push_shared.Goals as goal
+use Rattle.moc_lists.proofs.added.anew.push_shared.Goals as goal
 
 pub loop-block-init : goal.loop-block-init
 loop-block-init c = sym (nothing_more c.args.blocks.now.items)

@@ -2,8 +2,8 @@ use Rattle.std.proofs.Common.{arith}
 use Rattle.moc_lists.proofs.Blocking.{none_there}
 use Rattle.moc_lists.proofs.Turning.{first_item}
 use Rattle.moc_lists.proofs.Adding.{reaching_step, reach_past, reach_all}
-use Rattle.moc_lists.proofs.added.reached.Goals as goal
-use Rattle.moc_lists.proofs.added.reached.Goals.{in_default, in-len1-up+then-end-range}
+use Rattle.moc_lists.proofs.added.reach.reached.Goals as goal
+use Rattle.moc_lists.proofs.added.reach.reached.Goals.{in_default, in-len1-up+then-end-range}
 
 pub loop-rest-preserved : goal.loop-rest-preserved
 loop-rest-preserved c = reaching_step _ _ _ _ _ _ _ _ (first_item c.loop-rest.rest.now (0, 0) c.in-len1-up.len_at_least) c.loop-rest.invariant (omega (arith, c.if-end-range.false)) c.max-end.ensures

@@ -6,7 +6,7 @@ use Rattle.moc_lists.specs.Private.Added.{HasOneMore}
 use Rattle.moc_lists.proofs.Passing.{joined-blocks}
 use Rattle.moc_lists.specs.Private.Built.{EndsBelow}
 use Rattle.moc_lists.proofs.Adding.{some_of, node_normal, run_normal, one_wider, regrown_all}
-use Rattle.moc_lists.proofs.added.grow.Goals as goal
+use Rattle.moc_lists.proofs.added.anew.grow.Goals as goal
 
 pub place_of-requires : goal.place_of-requires
 place_of-requires c = subst IsNormal (sym (joined-blocks c.blocks-2.result.now)) (node_normal (joining c.args.before.now) c.blocks-2.result.now c.args.node.now (joining c.args.behind.now) c.blocks-2.ensures.value c.requires.normal)
