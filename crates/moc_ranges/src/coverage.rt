@@ -1,35 +1,23 @@
-//! Sets of pixels, and the operations on them.
-ghost use Rattle.std.specs.Prelude.{◌≡◌, ℕ, true, not, IfSome, MatchOption, ◌<◌, ◌≤◌, ◌↔◌, IsTrue};
-ghost use Rattle.std.specs.Prelude.{List, length, ◌==◌};
-ghost use Rattle.std.specs.List.{filter};
+//! Sets of pixels, and how one is made and asked.
+ghost use Rattle.std.specs.Prelude.{◌≡◌, ℕ, true, not, IfSome, MatchOption, ◌<◌, ◌≤◌, ◌↔◌, IsTrue, List, length};
 ghost use Rattle.std.specs.Prelude.{IfOk, IfErr, OnOk, None, unwrap_or};
 ghost use Rattle.moc_ranges.specs.Faults.{first_fault};
 ghost use Rattle.std.specs.Cmp.{partial_equiv_from_equiv};
 ghost use Rattle.std.specs.FinSet as set;
-ghost use Rattle.moc_lists.specs.RangeList.{IsNormal, set_of};
-ghost use Rattle.moc_ranges.specs.Operations.{symmetric, complement, meets, IsWithin};
-ghost use Rattle.moc_lists.specs.RangeList.{pixel_count};
-ghost use Rattle.moc_ranges.specs.Operations.{pixels};
-ghost use Rattle.moc_ranges.specs.Cells.{AreOfOrders, cells_in, cells_of, degrade, span};
-ghost use Rattle.moc_lists.specs.RangeList.{numbers};
+ghost use Rattle.moc_lists.specs.RangeList.{IsNormal, set_of, pixel_count, numbers};
+ghost use Rattle.moc_ranges.specs.Operations.{meets, IsWithin, pixels};
 ghost use Rattle.moc_lists.specs.Blocks.{joining, AreBlocks, IsSearchOf};
 ghost use Rattle.moc_ranges.specs.Private.Walks.{IsNextRange, HasNoneFrom};
 
 mod base_pixels;
+mod cells;
 mod inserting;
+mod sets;
 
-use crate::cell_ranges::CellRanges;
-use crate::cells::{deepest_order, orders_with_cells, push_runs};
 use crate::errors::{Memory, RangesError};
-use crate::from_ranges::{build, build_widened, filled_by_start, refuse_faulty};
-use crate::operations::difference::subtract;
-use crate::operations::intersection::intersect;
-use crate::operations::symmetric::differ;
-use crate::operations::union::unite;
-use crate::operations::walks::{are_same, count_both, holds_all, share_some};
+use crate::from_ranges::{build, filled_by_start, refuse_faulty};
 use crate::pixels::PIXEL_COUNT;
 use moc_lists::{Chunks, RangeList, Ranges, Steps};
-use moc_sphere::{Cell, Order};
 use std::alloc::{AllocError, Global};
 use std::fmt;
 use std::marker::Model;
@@ -187,65 +175,6 @@ impl Coverage {
         self.list.count()
     }
 
-    /// The least order of whose cells the set is a union: the MOC order that the set itself needs (MOC 2.0). 0 for
-    /// the empty set, a union of no cells. One pass, O(n); takes no memory.
-    pub fn deepest_order(&self) -> Order
-        ensures whole { degrade self.now result ≡ self.now }
-        ensures least { (k : ℕ) → degrade self.now k ≡ self.now → result ≤ k }
-    {
-        deepest_order(self.ranges())
-    }
-
-    /// The pixels of either set. One pass, O(n + m), in which blocks and nodes of one set that end
-    /// before the next range of the other are mostly shared, not copied: a set of m ranges and one of n take
-    /// O(m + n / 128). Refused where memory runs out.
-    pub fn union(&self, alloc: Global, other: &Coverage) -> Result<Coverage, Memory>
-        ensures set { IfOk result (λ c. c ≡ set.union self.now other.now) }
-    {
-        let list = unite(alloc, self.ranges(), other.ranges())?;
-        Ok(Coverage { list })
-    }
-
-    /// The pixels that both sets have. One pass, O(n + m), in which blocks and nodes that the other
-    /// set does not reach are skipped by searching, and those that one range of it covers are mostly
-    /// shared: a set of m ranges and one of n take O(m log n), and a step for each node that is shared.
-    /// Refused where memory runs out.
-    pub fn intersection(&self, alloc: Global, other: &Coverage) -> Result<Coverage, Memory>
-        ensures set { IfOk result (λ c. c ≡ set.intersection self.now other.now) }
-    {
-        let list = intersect(alloc, self.ranges(), other.ranges())?;
-        Ok(Coverage { list })
-    }
-
-    /// The pixels of this set that the other lacks. One pass, O(n + m), in which blocks and nodes of
-    /// this set that the other does not reach are mostly shared, and those of the other that this set
-    /// does not reach are skipped. Refused where memory runs out.
-    pub fn difference(&self, alloc: Global, other: &Coverage) -> Result<Coverage, Memory>
-        ensures set { IfOk result (λ c. c ≡ set.difference self.now other.now) }
-    {
-        let list = subtract(alloc, self.ranges(), other.ranges())?;
-        Ok(Coverage { list })
-    }
-
-    /// The pixels that just one of the two sets has. One pass, O(n + m), in which blocks and nodes of one set that end
-    /// before the next range of the other are mostly shared, where no block is begun. Refused where memory runs out.
-    pub fn symmetric(&self, alloc: Global, other: &Coverage) -> Result<Coverage, Memory>
-        ensures set { IfOk result (λ c. c ≡ symmetric self.now other.now) }
-    {
-        let list = differ(alloc, self.ranges(), other.ranges())?;
-        Ok(Coverage { list })
-    }
-
-    /// The pixels of the sky that the set lacks. One pass, O(n); refused where memory runs out.
-    pub fn complement(&self, alloc: Global) -> Result<Coverage, Memory>
-        ensures set { IfOk result (λ c. c ≡ complement self.now) }
-        ensures within { IsWithin self.now pixels }
-    {
-        let sky = [(0, PIXEL_COUNT)];
-        let list = subtract(alloc, Ranges::of(&sky), self.ranges())?;
-        Ok(Coverage { list })
-    }
-
     /// The first pixel of the set from this one on, if there is one. O(log n), takes no memory.
     pub fn next_pixel(&self, from: u64) -> Option<u64>
         ensures found { IfSome result (λ p. (from ≤ p) × (p < pixel_count) × (set.contains self.now p ≡ true)) }
@@ -253,22 +182,6 @@ impl Coverage {
     {
         let (start, _) = self.first_past(from)?;
         Some(start.max(from))
-    }
-
-    /// Whether the set has a pixel of this cell. O(log n), takes no memory.
-    pub fn meets_cell(&self, cell: Cell) -> bool
-        ensures { result ≡ meets self.now (span cell.order cell.index) }
-    {
-        let (from, to) = cell.span();
-        self.meets_range(from, to)
-    }
-
-    /// Whether the set has every pixel of this cell. O(log n), takes no memory.
-    pub fn contains_cell(&self, cell: Cell) -> bool
-        ensures { result ≡ set.is_subset (span cell.order cell.index) self.now }
-    {
-        let (from, to) = cell.span();
-        self.covers_range(from, to)
     }
 
     /// The first range of the set that ends after the limit, if there is one.
@@ -303,112 +216,12 @@ impl Coverage {
         }
     }
 
-    /// The set as cells of an order see it: all pixels of each cell of that order that it meets
-    /// (MOC 2.0: degradation).
-    ///
-    /// One pass, O(n); refused where memory runs out.
-    pub fn degrade(&self, alloc: Global, order: Order) -> Result<Coverage, Memory>
-        ensures { IfOk result (λ c. c ≡ degrade self.now order) }
-    {
-        let list = build_widened(alloc, order.cell_size(), self.ranges())?;
-        Ok(Coverage { list })
-    }
-
-    /// How many pixels of order 29 two sets have in common. One pass over both that skips blocks and
-    /// nodes which the next range of the other does not reach or covers: a set of m ranges and one of
-    /// n take O(m log n) and a step for each node that one range covers, and never more than O(n + m).
-    /// Takes no memory.
-    pub fn count_common(&self, other: &Coverage) -> u64
-        ensures size { result ≡ set.len (set.intersection self.now other.now) }
-    {
-        count_both(self.ranges(), other.ranges())
-    }
-
-    /// Whether two sets have a pixel in common. One pass up to the first over both that skips what
-    /// ends before the next range of the other: O(m log n) and O(n + m). Takes no memory.
-    pub fn meets(&self, other: &Coverage) -> bool
-        ensures some { result ≡ meets self.now other.now }
-    {
-        share_some(self.ranges(), other.ranges())
-    }
-
-    /// Whether this set has every pixel of the other. One pass up to the first that it lacks over
-    /// both that skips what ends before the next range of the other, or lies in one range of this
-    /// set: O(m log n) and O(n + m). Takes no memory.
-    pub fn covers(&self, other: &Coverage) -> bool
-        ensures all { result ≡ set.is_subset other.now self.now }
-    {
-        holds_all(self.ranges(), other.ranges())
-    }
-
-    /// Whether two sets have the same pixels. O(n), and less where they differ in their sizes; takes no memory.
-    pub fn same(&self, other: &Coverage) -> bool
-        ensures { IsTrue result ↔ (self.now ≡ other.now) }
-    {
-        self.is_as_large(other) && are_same(self.ranges(), other.ranges())
-    }
-
-    /// Whether two sets have as many ranges, or as many pixels where one of them is in blocks. O(1).
-    fn is_as_large(&self, other: &Coverage) -> bool
-        ensures { self.now ≡ other.now → IsTrue result }
-    {
-        match (self.ranges().few(), other.ranges().few()) {
-            (Some(few), Some(others)) => few.len() == others.len(),
-            _ => self.count() == other.count(),
-        }
-    }
-
     /// The set of all pixels of the sky; refused where memory runs out.
     pub fn full(alloc: Global) -> Result<Coverage, Memory>
         ensures { IfOk result (λ c. c ≡ pixels) }
     {
         let list = RangeList::of_range(alloc, 0, PIXEL_COUNT)?;
         Ok(Coverage { list })
-    }
-
-    /// The pixels of order 29 in one cell; refused where memory runs out.
-    pub fn from_cell(alloc: Global, cell: Cell) -> Result<Coverage, Memory>
-        ensures { IfOk result (λ c. c ≡ span cell.order cell.index) }
-    {
-        let (from, to) = cell.span();
-        let list = RangeList::of_range(alloc, from, to)?;
-        Ok(Coverage { list })
-    }
-
-    /// The cells of the set, in rising NUNIQ: those whose pixels the set has, while it lacks one of
-    /// their parent's or they are of order 0 (MOC 2.0: the normal form).
-    ///
-    /// One pass over the ranges for each order that can have cells; refused where memory runs out.
-    pub fn cells(&self, alloc: Global) -> Result<Vec<Cell>, Memory>
-        ensures cells { IfOk result (λ v. v.items ≡ cells_of self.now) }
-        ensures within { IsWithin self.now pixels }
-    {
-        let (first, end) = orders_with_cells(self.ranges());
-        let mut cells = Vec::with_capacity(alloc, self.range_count())?;
-        for level in first..end {
-            let order = Order::of(level);
-            push_runs(&mut cells, order, self.cell_ranges(order))?;
-        }
-        Ok(cells)
-    }
-
-    /// The orders that cells of the set can have: the first, and the one after the last; no cell has another. One pass,
-    /// O(n); takes no memory.
-    pub fn cell_orders(&self) -> (u8, u8)
-        ensures each { AreOfOrders result.0 result.1 (cells_of self.now) }
-        ensures in_range { result.1 ≤ 30 }
-        ensures within { IsWithin self.now pixels }
-    {
-        orders_with_cells(self.ranges())
-    }
-
-    /// The cells of the set that are of this order, by ranges (first, end) of their indices, `end` not included: the
-    /// longest runs, in rising order. One pass over the ranges of the set as it goes, O(n); takes no memory.
-    pub fn cell_ranges(&self, order: Order) -> CellRanges<'_>
-        ensures cells { cells_in order result ≡ filter (λ c. c.order == order) (cells_of self.now) }
-        ensures normal { IsNormal result }
-    {
-        CellRanges::new(order, self.ranges())
     }
 
     /// A copy of the set, which shares its blocks: O(n) for up to 128 ranges, and else for its nodes
