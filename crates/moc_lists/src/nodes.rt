@@ -4,7 +4,7 @@ ghost use Rattle.std.specs.Prelude.{vec_len, vec_capacity, IfOk, MatchOption, On
 ghost use Rattle.moc_lists.specs.RangeList.{pixel_count};
 ghost use Rattle.moc_lists.specs.Blocks.{joining};
 ghost use Rattle.moc_lists.specs.Private.Blocks.{moved, width_of, AreStored, IsCountBegun, IsStored};
-ghost use Rattle.moc_lists.specs.Private.Added.{with_second, Inserts};
+ghost use Rattle.moc_lists.specs.Private.Added.{replacing, with_second, GrowsBy, Inserts};
 
 use crate::added::anew::{Renewed, Spot, renew, spot_of};
 use crate::added::gap::{Gap, gap_of};
@@ -37,7 +37,7 @@ impl Model for Nodes {
 fn put_two(nodes: &mut Vec<Node>, place: usize, first: Node, second: Node) -> Result<(), AllocError>
     requires { place < length nodes.old.items }
     ensures new { OnOk result (nodes.new.items
-        ≡ take place nodes.old.items ++ (first ∷ (second ∷ drop (place + 1) nodes.old.items))) }
+        ≡ replacing nodes.old.items place (first ∷ (second ∷ []))) }
     ensures unchanged { OnErr result (nodes.new.items ≡ nodes.old.items) }
 {
     nodes.insert(place + 1, second)?;
@@ -48,7 +48,7 @@ fn put_two(nodes: &mut Vec<Node>, place: usize, first: Node, second: Node) -> Re
 /// Puts a node in place of one.
 fn put_one(nodes: &mut Vec<Node>, place: usize, first: Node)
     requires { place < length nodes.old.items }
-    ensures { nodes.new.items ≡ take place nodes.old.items ++ (first ∷ drop (place + 1) nodes.old.items) }
+    ensures { nodes.new.items ≡ replacing nodes.old.items place (first ∷ []) }
 {
     nodes[place] = first;
 }
@@ -253,10 +253,9 @@ impl Nodes {
     fn put_node(&mut self, place: usize, node: Node, added: u64)
         requires place { place < length self.old }
         requires before { IsStored [] self.old }
-        requires stored { IsStored [] (take place self.old ++ (node ∷ drop (place + 1) self.old)) }
-        requires grown { width_of (joining (joining (take place self.old ++ (node ∷ drop (place + 1) self.old))))
-            ≡ width_of (joining (joining self.old)) + added }
-        ensures { self.new ≡ take place self.old ++ (node ∷ drop (place + 1) self.old) }
+        requires stored { IsStored [] (replacing self.old place (node ∷ [])) }
+        requires grown { GrowsBy added self.old (replacing self.old place (node ∷ [])) }
+        ensures { self.new ≡ replacing self.old place (node ∷ []) }
     {
         let others = self.count - self.nodes[place].count();
         let blocks = self.nodes[place].blocks().len();
@@ -276,11 +275,9 @@ impl Nodes {
     ) -> Result<(), AllocError>
         requires place { place < length self.old }
         requires before { IsStored [] self.old }
-        requires stored { IsStored [] (take place self.old ++ (first ∷ (second ∷ drop (place + 1) self.old))) }
-        requires grown { width_of (joining (joining (take place self.old
-            ++ (first ∷ (second ∷ drop (place + 1) self.old))))) ≡ width_of (joining (joining self.old)) + added }
-        ensures new { OnOk result (self.new
-            ≡ take place self.old ++ (first ∷ (second ∷ drop (place + 1) self.old))) }
+        requires stored { IsStored [] (replacing self.old place (first ∷ (second ∷ []))) }
+        requires grown { GrowsBy added self.old (replacing self.old place (first ∷ (second ∷ []))) }
+        ensures new { OnOk result (self.new ≡ replacing self.old place (first ∷ (second ∷ []))) }
         ensures unchanged { OnErr result (self.new ≡ self.old) }
     {
         let others = self.count - self.nodes[place].count();
@@ -302,13 +299,11 @@ impl Nodes {
     fn put(&mut self, renewed: Renewed) -> Result<(), AllocError>
         requires place { renewed.place < length self.old }
         requires before { IsStored [] self.old }
-        requires stored { IsStored [] (take renewed.place self.old
-            ++ (with_second renewed.first renewed.second ++ drop (renewed.place + 1) self.old)) }
-        requires grown { width_of (joining (joining (take renewed.place self.old
-            ++ (with_second renewed.first renewed.second ++ drop (renewed.place + 1) self.old))))
-            ≡ width_of (joining (joining self.old)) + renewed.added }
-        ensures new { OnOk result (self.new ≡ take renewed.place self.old
-            ++ (with_second renewed.first renewed.second ++ drop (renewed.place + 1) self.old)) }
+        requires stored { IsStored [] (replacing self.old renewed.place (with_second renewed.first renewed.second)) }
+        requires grown { GrowsBy renewed.added self.old
+            (replacing self.old renewed.place (with_second renewed.first renewed.second)) }
+        ensures new { OnOk result (self.new
+            ≡ replacing self.old renewed.place (with_second renewed.first renewed.second)) }
         ensures unchanged { OnErr result (self.new ≡ self.old) }
     {
         let Renewed {

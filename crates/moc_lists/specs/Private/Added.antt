@@ -1,6 +1,6 @@
 -- A list in blocks with one range more.
 use Rattle.std.specs.Prelude.{◌≡◌, ℕ, ◌+◌, ◌-◌, ◌<◌, ◌≤◌, ◌||◌, min, Option, None, Some, List, [], ◌∷◌, ◌++◌, length}
-use Rattle.std.specs.Prelude.{get_or, slice_set, Result, MatchOption, MatchResult}
+use Rattle.std.specs.Prelude.{get_or, slice_set, take, drop, Result, MatchOption, MatchResult}
 use Rattle.std.specs.List.{insert}
 use Rattle.moc_lists.specs.RangeList.{IsNormal}
 use Rattle.moc_lists.specs.Lemmas.Members.{in_range, in_ranges}
@@ -119,3 +119,11 @@ pub record IsRenewed (from to : ℕ) (nodes : List (List (List (ℕ × ℕ)))) (
   pub stored : IsStored [] (before ++ (with_second first second ++ behind))
   pub grown : HasGrown from to (joining (joining nodes))
       (joining (joining (before ++ (with_second first second ++ behind)))) added
+
+-- a list with others in place of the one at a place
+abbrev pub replacing : {X : Type 0} → List X → ℕ → List X → List X
+replacing xs place new = take place xs ++ (new ++ drop (place + 1) xs)
+
+-- the ranges in nodes have so many numbers more than those in others
+abbrev pub GrowsBy : ℕ → List (List (List (ℕ × ℕ))) → List (List (List (ℕ × ℕ))) → Type 0
+GrowsBy added old new = width_of (joining (joining new)) ≡ width_of (joining (joining old)) + added
