@@ -1,10 +1,9 @@
 //! What is told of texts. Expected lines are worked out by hand from the texts.
 use crate::shown::is_shown;
 use moc_forms::{
-    Change, Choice, Figures, Form, FormError, FormNameError, Operation, Refusal, check, describe,
-    draw, draw_two, examine, hint, hint_line, is_blank, place_line, quote,
+    Change, Choice, Figures, Form, FormError, FormNameError, Operation, Refusal, Said, check,
+    describe, draw, draw_two, examine, hint, hint_line, is_blank, place_line, quote,
 };
-use moc_ranges::Coverage;
 use moc_sphere::Order;
 use moc_text::{JsonError, TextError, UniqError};
 use std::alloc::Global;
@@ -315,11 +314,11 @@ fn figures_one_by_one(rt: HostRuntime) {
 }
 
 /// What an ASCII text says, as if it had come in a form.
-fn said(rt: &impl Abort, alloc: Global, text: &str, form: Form) -> (Coverage, Option<Order>, Form) {
+fn said(rt: &impl Abort, alloc: Global, text: &str, form: Form) -> Said {
     let (set, deepest) = Form::Ascii
         .read(alloc, text.as_bytes())
         .expect(rt, "a text");
-    (set, deepest, form)
+    Said { set, deepest, form }
 }
 
 /// The text of two texts that are joined by an operation.
@@ -336,8 +335,9 @@ fn joined(
     let both = operation
         .join(alloc, Some(before), second)
         .expect(rt, "memory");
-    let (set, deepest, form) = both;
-    form.write(alloc, &set, deepest).expect(rt, "memory")
+    both.form
+        .write(alloc, &both.set, both.deepest)
+        .expect(rt, "memory")
 }
 
 /// The text of what a change makes of a text that names order 3 as its deepest.

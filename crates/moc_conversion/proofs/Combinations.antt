@@ -6,7 +6,8 @@ use Rattle.std.proofs.lemmas.List.Elements.{All-append, All-head, All-tail, Cont
 use Rattle.std.proofs.lemmas.List.Splits.{slice_split-cons_no, slice_split_at, slice_split_none, length-slice_split}
 use Rattle.std.proofs.KnownBytes.{Consumes-trans}
 use Rattle.std.specs.Io.KnownBytes.{Consumes, IsAtEnd}
-use Rattle.moc_forms.specs.Combining.{CombinesTexts, Said, TextSays, are_blanks, joined, texts_among, texts_of}
+use Rattle.moc_forms.specs.Combining.{CombinesTexts, TextSays, are_blanks, joined, texts_among, texts_of}
+use Rattle.moc_forms.specs.declared.combining.Said.{Said}
 use Rattle.moc_forms.specs.Combining.{without_blank_end}
 use Rattle.moc_text.specs.Lines.{is_semicolon, pieces_of}
 use Rattle.moc_forms.specs.Finding.{form_for}

@@ -8,7 +8,8 @@ use Rattle.moc_text.specs.Lemmas.Depths.{HasDepth, not_too_coarse, said_depth, j
 use Rattle.moc_text.specs.Lemmas.Depths.{intersection_depth}
 use Rattle.moc_text.specs.Lemmas.Depths.{difference_depth, symmetric_depth, complement_depth, degrade_depth}
 use Rattle.moc_forms.specs.Changing.{changed_order, changed_set}
-use Rattle.moc_forms.specs.Combining.{CombinesTexts, Said, TextSays, combined, joined, texts_of}
+use Rattle.moc_forms.specs.Combining.{CombinesTexts, TextSays, combined, joined, texts_of}
+use Rattle.moc_forms.specs.declared.combining.Said.{Said}
 use Rattle.moc_forms.specs.Finding.{first_byte, form_by}
 use Rattle.moc_forms.specs.Forms.{FormSays}
 use Rattle.moc_forms.specs.declared.changing.Change.{Change}
@@ -57,17 +58,17 @@ change_fit Complement Uniq a k fit = fit
 
 -- and so is what a change makes of it
 pub change_written : (change : Change) (choice : Choice) (left left' : Option (List ℕ)) (said : Said)
-    → SaysAll choice left left' said → IsTooCoarse (changed_set change said.0) (changed_order change said.1) → ⊥
+    → SaysAll choice left left' said → IsTooCoarse (changed_set change said.set) (changed_order change said.deepest) → ⊥
 change_written change choice left left' said (text, whole, says) =
-    fit_written said.2 _ _ (change_fit change said.2 said.0 said.1 (text_fit said.2 text said.0 said.1 says.0))
+    fit_written said.form _ _ (change_fit change said.form said.set said.deepest (text_fit said.form text said.set said.deepest says.0))
 
 -- ---- texts together
 
 -- what is said of texts in forms of a choice: of lists no order is stated, and of others, which Auto reads alone, the
 -- set has its depth
 abbrev AreFit : Choice → Said → Type 0
-AreFit Auto said = HasDepth said.0 said.1
-AreFit (Named form) said = IsFit form said.0 said.1
+AreFit Auto said = HasDepth said.set said.deepest
+AreFit (Named form) said = IsFit form said.set said.deepest
 
 -- such a text is no list
 auto_fit : (b : Option ℕ) (a : NumberSet) (k : Option ℕ) → IsFit (form_by b) a k → HasDepth a k
@@ -80,10 +81,10 @@ auto_fit (Some b) a k fit = one (b == 123) fit
 
 said_fit : (choice : Choice) (text : List ℕ) (said : Said) → TextSays choice text said → AreFit choice said
 said_fit Auto text said says =
-    auto_fit (first_byte text) said.0 said.1
-    (subst (λ (form : Form). IsFit form said.0 said.1) says.1 (text_fit said.2 text said.0 said.1 says.0))
+    auto_fit (first_byte text) said.set said.deepest
+    (subst (λ (form : Form). IsFit form said.set said.deepest) says.1 (text_fit said.form text said.set said.deepest says.0))
 said_fit (Named form) text said says =
-    subst (λ (f : Form). IsFit f said.0 said.1) says.1 (text_fit said.2 text said.0 said.1 says.0)
+    subst (λ (f : Form). IsFit f said.set said.deepest) says.1 (text_fit said.form text said.set said.deepest says.0)
 
 depth_combined : (operation : Operation) (a b : NumberSet) (x y : Option ℕ) → HasDepth a x → HasDepth b y
     → HasDepth (combined operation a b) (deeper x y)
@@ -94,11 +95,11 @@ depth_combined Symmetric a b x y of_a of_b = symmetric_depth a b x y of_a of_b
 
 joined_fit : (operation : Operation) (choice : Choice) (before said : Said) → AreFit choice before → AreFit choice said
     → AreFit choice (joined operation (Some before) said)
-joined_fit operation Auto before said old new = depth_combined operation before.0 said.0 before.1 said.1 old new
+joined_fit operation Auto before said old new = depth_combined operation before.set said.set before.deepest said.deepest old new
 joined_fit operation (Named Ascii) before said old new =
-    depth_combined operation before.0 said.0 before.1 said.1 old new
+    depth_combined operation before.set said.set before.deepest said.deepest old new
 joined_fit operation (Named Json) before said old new =
-    depth_combined operation before.0 said.0 before.1 said.1 old new
+    depth_combined operation before.set said.set before.deepest said.deepest old new
 joined_fit operation (Named Uniq) before said old new = ap₂ deeper old new
 
 abbrev AreAllFit : Choice → Option Said → Type 0
@@ -117,12 +118,12 @@ texts_fit operation choice before (text ∷ texts) after fit (said, says, later)
     texts_fit operation choice (Some (joined operation before said)) texts after
     (joined_behind operation choice before said fit (said_fit choice text said says)) later
 
-all_written : (choice : Choice) (said : Said) → AreFit choice said → IsTooCoarse said.0 said.1 → ⊥
-all_written Auto said fit = not_too_coarse said.0 said.1 fit
-all_written (Named form) said fit = fit_written form said.0 said.1 fit
+all_written : (choice : Choice) (said : Said) → AreFit choice said → IsTooCoarse said.set said.deepest → ⊥
+all_written Auto said fit = not_too_coarse said.set said.deepest fit
+all_written (Named form) said fit = fit_written form said.set said.deepest fit
 
 -- what texts say together is written
 pub together_written : (operation : Operation) (choice : Choice) (left left' : Option (List ℕ)) (said : Said)
-    → SaysTogether operation choice left left' said → IsTooCoarse said.0 said.1 → ⊥
+    → SaysTogether operation choice left left' said → IsTooCoarse said.set said.deepest → ⊥
 together_written operation choice left left' said (given, consumed, (at_end, within, combines)) =
     all_written choice said (texts_fit operation choice None (texts_of given) (Some said) tt combines)

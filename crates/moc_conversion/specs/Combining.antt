@@ -2,7 +2,8 @@
 use Rattle.std.specs.Prelude.{◌≡◌, ℕ, ◌+◌, ◌<◌, ◌≤◌, ◌⊎◌, List, [], ◌++◌, Option, Some, Contains, length}
 use Rattle.std.specs.Io.KnownBytes.{IsAtEnd}
 use Rattle.std.specs.List.{AllByRecursion}
-use Rattle.moc_forms.specs.Combining.{Combines, Said, StandsBehind, texts_of}
+use Rattle.moc_forms.specs.Combining.{Combines, StandsBehind, texts_of}
+use Rattle.moc_forms.specs.declared.combining.Said.{Said}
 use Rattle.moc_text.specs.Lines.{pieces_of}
 use Rattle.moc_forms.specs.Finding.{form_for}
 use Rattle.moc_forms.specs.Forms.{form_text}
@@ -21,7 +22,7 @@ SaysTogether operation choice left left' said =
 -- the text, in the form of the first, of the set which all texts say together, with their deepest order stated
 abbrev pub CombinesAll : Operation → Choice → Option (List ℕ) → Option (List ℕ) → List ℕ → Type 0
 CombinesAll operation choice left left' text =
-    (said : Said) × SaysTogether operation choice left left' said × (text ≡ form_text said.2 said.0 said.1)
+    (said : Said) × SaysTogether operation choice left left' said × (text ≡ form_text said.form said.set said.deepest)
 
 -- of texts, counted from a number on, it tells the first that says no set: its number, its fault and its place
 pub record TellsFirstFault (number : ℕ) (choice : Choice) (texts : List (List ℕ)) (c : Complaint) : Type 0 where

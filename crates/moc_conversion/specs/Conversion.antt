@@ -3,7 +3,8 @@ use Rattle.std.specs.Prelude.{◌≡◌, ℕ, ◌<◌, ◌≤◌, ◌⊎◌, if�
 use Rattle.std.specs.List.{after_first, before_first}
 use Rattle.std.specs.Io.KnownBytes.{Consumes, IsAtEnd}
 use Rattle.moc_forms.specs.Changing.{changed_order, changed_set}
-use Rattle.moc_forms.specs.Combining.{Said, TextSays, are_blanks}
+use Rattle.moc_forms.specs.Combining.{TextSays, are_blanks}
+use Rattle.moc_forms.specs.declared.combining.Said.{Said}
 use Rattle.moc_text.specs.Lines.{is_semicolon}
 use Rattle.moc_forms.specs.Describing.{Describes}
 use Rattle.moc_forms.specs.Drawing.{picture_of, picture_of_two}
@@ -51,16 +52,16 @@ MakesAll makes choice left left' text = (said : Said) × SaysAll choice left lef
 
 -- the text in one form of the set which the input says in the other, with the deepest order that it names stated
 abbrev pub ConvertsAll : Form → Form → Option (List ℕ) → Option (List ℕ) → List ℕ → Type 0
-ConvertsAll from to = MakesAll (λ said text. text ≡ form_text to said.0 said.1) (Named from)
+ConvertsAll from to = MakesAll (λ said text. text ≡ form_text to said.set said.deepest) (Named from)
 
 -- the text, in the same form, of a change of the set which the input says, with the order stated of that
 abbrev pub ChangesAll : Change → Choice → Option (List ℕ) → Option (List ℕ) → List ℕ → Type 0
 ChangesAll change =
-    MakesAll (λ said text. text ≡ form_text said.2 (changed_set change said.0) (changed_order change said.1))
+    MakesAll (λ said text. text ≡ form_text said.form (changed_set change said.set) (changed_order change said.deepest))
 
 -- the text has the figures of the set which the input says
 abbrev pub DescribesAll : Choice → Option (List ℕ) → Option (List ℕ) → List ℕ → Type 0
-DescribesAll = MakesAll (λ said text. Describes said.0 said.1 text)
+DescribesAll = MakesAll (λ said text. Describes said.set said.deepest text)
 
 -- the first text of a picture: the bytes before the first semicolon, or all
 abbrev pub first_text : List ℕ → List ℕ
@@ -74,10 +75,10 @@ second_text bytes =
 
 -- a picture is that of the set which a text says, or of those which two texts say
 abbrev pub IsPictureOf : Choice → List ℕ → Option (List ℕ) → List ℕ → Type 0
-IsPictureOf choice first None picture = (said : Said) × TextSays choice first said × (picture ≡ picture_of said.0)
+IsPictureOf choice first None picture = (said : Said) × TextSays choice first said × (picture ≡ picture_of said.set)
 IsPictureOf choice first (Some second) picture =
     (one other : Said) × TextSays choice first one × TextSays choice second other
-    × (picture ≡ picture_of_two one.0 other.0)
+    × (picture ≡ picture_of_two one.set other.set)
 
 -- the picture is that of the texts that the input is
 abbrev pub DrawsAll : Choice → Option (List ℕ) → Option (List ℕ) → List ℕ → Type 0

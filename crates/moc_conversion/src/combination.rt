@@ -14,9 +14,7 @@ use crate::fault::InputFault;
 use crate::reading::{INPUT_LIMIT, parted, read_chunk, room};
 use crate::saying::{said_or_told, text_of};
 use moc_devices::Source;
-use moc_forms::{Choice, Form, Operation, is_blank, place_line};
-use moc_ranges::Coverage;
-use moc_sphere::Order;
+use moc_forms::{Choice, Operation, Said, is_blank, place_line};
 use std::alloc::Global;
 
 /// Texts, as their bytes come, and what those that have ended say together.
@@ -29,7 +27,7 @@ struct Combination {
     /// The text that has not ended.
     text: Vec<u8>,
     /// What the texts before it say together.
-    before: Option<(Coverage, Option<Order>, Form)>,
+    before: Option<Said>,
 }
 
 impl Combination {
@@ -76,11 +74,7 @@ impl Combination {
     }
 
     /// What the text that has not ended says together with what was said before it.
-    fn join(
-        &self,
-        alloc: Global,
-        before: Option<(Coverage, Option<Order>, Form)>,
-    ) -> Result<(Coverage, Option<Order>, Form), Complaint>
+    fn join(&self, alloc: Global, before: Option<Said>) -> Result<Said, Complaint>
         ensures device { IfErr result (λ c. c.fault ≢ InputFault.Read) }
         ensures says { IfOk result (λ after. SaysMore self.now before after) }
         ensures told { IfErr result (λ c.
@@ -129,7 +123,7 @@ impl Combination {
 
     /// What all texts say together, where all have come: blanks alone behind a semicolon are no text. What was said
     /// before is used up.
-    fn all_said(&mut self, alloc: Global) -> Result<(Coverage, Option<Order>, Form), Complaint>
+    fn all_said(&mut self, alloc: Global) -> Result<Said, Complaint>
         requires { IsOpen self.old }
         ensures device { IfErr result (λ c. c.fault ≢ InputFault.Read) }
         ensures fault { IfErr result (λ c. (c.fault ≡ want_of_memory) ⊎ Fails self.old [] c) }
@@ -151,7 +145,7 @@ fn read_texts<R: Source>(
     operation: Operation,
     choice: Choice,
     input: &mut R,
-) -> Result<(Coverage, Option<Order>, Form), Complaint>
+) -> Result<Said, Complaint>
     requires { R.mark input.old ≡ false }
     ensures read { IsErrAnd result (λ c. c.fault ≡ InputFault.Read) ↔ IsTrue (R.mark input.new) }
     ensures fault { IfErr result (λ c. IsNotCombined choice (R.left input.old) (R.left input.new) c) }
@@ -189,6 +183,6 @@ pub fn combined<R: Source>(
     ensures combines { IfOk result (λ t.
         CombinesAll operation choice (R.left input.old) (R.left input.new) (string_bytes t)) }
 {
-    let (set, deepest, form) = read_texts(alloc, operation, choice, input)?;
-    Ok(text_of(alloc, form, &set, deepest)?)
+    let said = read_texts(alloc, operation, choice, input)?;
+    Ok(text_of(alloc, said.form, &said.set, said.deepest)?)
 }

@@ -49,8 +49,8 @@ pub fn described<R: Source>(
     ensures fault { IfErr result (λ c. IsNotSaid choice (R.left input.old) (R.left input.new) c) }
     ensures describes { IfOk result (λ t. DescribesAll choice (R.left input.old) (R.left input.new) (string_bytes t)) }
 {
-    let (set, deepest, _) = input_says(alloc, choice, input)?;
-    Ok(describe(alloc, &set, deepest)?)
+    let said = input_says(alloc, choice, input)?;
+    Ok(describe(alloc, &said.set, said.deepest)?)
 }
 
 /// The text of a change of the coverage that the input has, in the form that it was read in, with the order that is
@@ -71,9 +71,10 @@ pub fn changed<R: Source>(
     ensures changes { IfOk result (λ t.
         ChangesAll change choice (R.left input.old) (R.left input.new) (string_bytes t)) }
 {
-    let (set, deepest, form) = input_says(alloc, choice, input)?;
-    let after = change.of(alloc, &set)?;
-    Ok(text_of(alloc, form, &after, change.stated(deepest))?)
+    let said = input_says(alloc, choice, input)?;
+    let after = change.of(alloc, &said.set)?;
+    let stated = change.stated(said.deepest);
+    Ok(text_of(alloc, said.form, &after, stated)?)
 }
 
 /// Whether the input is a coverage; else its first fault and, in words, where it is.

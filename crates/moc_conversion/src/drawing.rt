@@ -38,12 +38,12 @@ fn pictured(alloc: Global, choice: Choice, text: &[u8]) -> Result<String, Compla
 {
     let (first, second) = texts_of_picture(text);
     let Some(second) = second else {
-        let (set, _, _) = said_or_told(alloc, choice, first, None)?;
-        return Ok(draw(alloc, &set)?);
+        let said = said_or_told(alloc, choice, first, None)?;
+        return Ok(draw(alloc, &said.set)?);
     };
-    let (one, _, _) = said_or_told(alloc, choice, first, Some(1))?;
-    let (other, _, _) = said_or_told(alloc, choice, second, Some(2))?;
-    Ok(draw_two(alloc, &one, &other)?)
+    let one = said_or_told(alloc, choice, first, Some(1))?;
+    let other = said_or_told(alloc, choice, second, Some(2))?;
+    Ok(draw_two(alloc, &one.set, &other.set)?)
 }
 
 /// The text, or the two that its first semicolon parts: blanks alone behind it are none.

@@ -14,7 +14,7 @@ use crate::complaint::Complaint;
 use crate::fault::InputFault;
 use crate::reading::read_whole;
 use moc_devices::Source;
-use moc_forms::{Choice, Form, FormError, Refusal, examine, hint};
+use moc_forms::{Choice, Form, FormError, Refusal, Said, examine, hint};
 use moc_ranges::Coverage;
 use moc_sphere::Order;
 use std::alloc::Global;
@@ -39,7 +39,7 @@ pub(crate) fn said_or_told(
     choice: Choice,
     text: &[u8],
     number: Option<u64>,
-) -> Result<(Coverage, Option<Order>, Form), Complaint>
+) -> Result<Said, Complaint>
     ensures device { IfErr result (λ c. c.fault ≢ InputFault.Read) }
     ensures says { IfOk result (λ r. TextSays choice text.now r) }
     ensures told { IfErr result (λ c. (c.fault ≡ want_of_memory)
@@ -47,7 +47,7 @@ pub(crate) fn said_or_told(
 {
     let form = choice.form(text);
     match examine(alloc, form, text) {
-        Ok((set, deepest)) => Ok((set, deepest, form)),
+        Ok((set, deepest)) => Ok(Said { set, deepest, form }),
         Err(refusal) => Err(complaint_of(alloc, form, text, number, refusal)),
     }
 }
@@ -100,7 +100,7 @@ pub(crate) fn input_says<R: Source>(
     alloc: Global,
     choice: Choice,
     input: &mut R,
-) -> Result<(Coverage, Option<Order>, Form), Complaint>
+) -> Result<Said, Complaint>
     requires { R.mark input.old ≡ false }
     ensures read { IsErrAnd result (λ c. c.fault ≡ InputFault.Read) ↔ IsTrue (R.mark input.new) }
     ensures fault { IfErr result (λ c. IsNotSaid choice (R.left input.old) (R.left input.new) c) }

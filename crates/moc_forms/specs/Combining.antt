@@ -10,8 +10,8 @@ use Rattle.moc_forms.specs.Finding.{form_for, is_blank_byte}
 use Rattle.moc_forms.specs.Forms.{FormSays}
 use Rattle.moc_forms.specs.declared.combining.Operation.{Operation}
 use Rattle.moc_forms.specs.declared.combining.Operation.TheVariants.{Union, Intersection, Difference, Symmetric}
+use Rattle.moc_forms.specs.declared.combining.Said.{Said}
 use Rattle.moc_forms.specs.declared.finding.Choice.{Choice}
-use Rattle.moc_forms.specs.declared.form.Form.{Form}
 
 -- the word for an operation
 abbrev pub operation_name : Operation → List ℕ
@@ -27,18 +27,18 @@ combined Intersection a b = set.intersection a b
 combined Difference a b = set.difference a b
 combined Symmetric a b = symmetric a b
 
--- a set, the deepest order that is named with it, and the form that it is written in
-abbrev pub Said : Type 0
-Said = NumberSet × Option ℕ × Form
-
 -- what a text says that is read in a form of this choice
 abbrev pub TextSays : Choice → List ℕ → Said → Type 0
-TextSays choice text said = FormSays said.2 text said.0 said.1 × (said.2 ≡ form_for choice text)
+TextSays choice text said = FormSays said.form text said.set said.deepest × (said.form ≡ form_for choice text)
 
 -- after one more text: what it says, if it is the first; else the sets' operation, the deeper order, the first form
 abbrev pub joined : Operation → Option Said → Said → Said
 joined operation None said = said
-joined operation (Some before) said = (combined operation before.0 said.0, deeper before.1 said.1, before.2)
+joined operation (Some before) said = record {
+  set = combined operation before.set said.set;
+  deepest = deeper before.deepest said.deepest;
+  form = before.form;
+}
 
 -- nothing but spaces, tabs, CR and LF
 abbrev pub are_blanks : List ℕ → Bool

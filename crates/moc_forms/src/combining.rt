@@ -64,6 +64,14 @@ impl fmt::Display for Operation {
     }
 }
 
+/// What a text says: its set, the deepest order that it names, and the form that it is read in.
+#[derive(Drop)]
+pub struct Said {
+    pub set: Coverage,
+    pub deepest: Option<Order>,
+    pub form: Form,
+}
+
 impl Operation {
     /// What the operation makes of two sets. One pass, O(n); refused where memory runs out.
     pub fn of(self, alloc: Global, first: &Coverage, second: &Coverage) -> Result<Coverage, Memory>
@@ -81,20 +89,18 @@ impl Operation {
     /// the form of the first. Before the first text there is nothing, and it stands for itself.
     ///
     /// As `of`; refused where memory runs out.
-    pub fn join(
-        self,
-        alloc: Global,
-        before: Option<(Coverage, Option<Order>, Form)>,
-        said: (Coverage, Option<Order>, Form),
-    ) -> Result<(Coverage, Option<Order>, Form), Memory>
+    pub fn join(self, alloc: Global, before: Option<Said>, said: Said) -> Result<Said, Memory>
         ensures joined { IfOk result (λ after. after ≡ joined self before said) }
     {
-        let Some((earlier, order, form)) = before else {
+        let Some(before) = before else {
             return Ok(said);
         };
-        let (set, deepest, _) = said;
-        let all = self.of(alloc, &earlier, &set)?;
-        Ok((all, deeper(order, deepest), form))
+        let set = self.of(alloc, &before.set, &said.set)?;
+        Ok(Said {
+            set,
+            deepest: deeper(before.deepest, said.deepest),
+            form: before.form,
+        })
     }
 }
 

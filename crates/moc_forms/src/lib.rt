@@ -18,7 +18,7 @@ mod texts;
 
 pub use changing::Change;
 pub use checking::{Refusal, check, examine};
-pub use combining::{Operation, is_blank};
+pub use combining::{Operation, Said, is_blank};
 pub use drawing::draw;
 pub use figures::{Figures, describe};
 pub use finding::{Choice, hint, hint_line};

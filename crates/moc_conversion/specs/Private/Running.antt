@@ -2,7 +2,8 @@
 use Rattle.std.specs.Prelude.{◌≡◌, ◌⊎◌, ℕ, ◌+◌, ◌<◌, ◌≤◌, List, [], ◌∷◌, ◌++◌, length, Option, None, Some}
 use Rattle.std.specs.Io.KnownBytes.{Consumes}
 use Rattle.std.specs.List.{AllByRecursion}
-use Rattle.moc_forms.specs.Combining.{CombinesTexts, Said, TextSays, joined, texts_of, without_blank_end}
+use Rattle.moc_forms.specs.Combining.{CombinesTexts, TextSays, joined, texts_of, without_blank_end}
+use Rattle.moc_forms.specs.declared.combining.Said.{Said}
 use Rattle.moc_text.specs.Lines.{pieces_of}
 use Rattle.moc_forms.specs.declared.combining.Operation.{Operation}
 use Rattle.moc_forms.specs.declared.finding.Choice.{Choice}

@@ -5,20 +5,20 @@ use Rattle.moc_conversion.proofs.combination.combined.Goals as goal
 pub text_of-requires : goal.text_of-requires
 text_of-requires g c = record {
   fits =
-      together_written c.args.operation c.args.choice _ _ (c.in_ok-set.set, c.in_ok-set.deepest, c.in_ok-set.form)
-      c.in_ok-set.ensures.says;
+      together_written c.args.operation c.args.choice _ _ c.in_ok-said.said
+      c.in_ok-said.ensures.says;
 }
 
 pub returns-clause-combines : goal.returns-clause-combines
 returns-clause-combines g c = (
-  (c.in_ok-set.set, c.in_ok-set.deepest, c.in_ok-set.form),
-  c.in_ok-set.ensures.says,
+  c.in_ok-said.said,
+  c.in_ok-said.ensures.says,
   c.in_ok-text_of.ensures.text,
 )
 
-pub returns-in_err-set-clause-fault : goal.returns-in_err-set-clause-fault
-returns-in_err-set-clause-fault g c =
-    handed_on c.from_residual.result c.in_err-set.field-0.0 _ c.from_residual.ensures.1 c.in_err-set.ensures.fault
+pub returns-in_err-said-clause-fault : goal.returns-in_err-said-clause-fault
+returns-in_err-said-clause-fault g c =
+    handed_on c.from_residual.result c.in_err-said.field-0.0 _ c.from_residual.ensures.1 c.in_err-said.ensures.fault
 
 pub returns-in_err-text_of-clause-fault : goal.returns-in_err-text_of-clause-fault
 returns-in_err-text_of-clause-fault g c =

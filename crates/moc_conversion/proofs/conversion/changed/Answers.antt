@@ -9,16 +9,16 @@ use Rattle.moc_conversion.proofs.conversion.changed.Goals as goal
 pub text_of-requires : goal.text_of-requires
 text_of-requires g c = record {
   fits = λ coarse.
-      change_written c.args.change c.args.choice _ _ (c.in_ok-set.set, c.in_ok-set.deepest, c.in_ok-set.form)
-      c.in_ok-set.ensures.says
+      change_written c.args.change c.args.choice _ _ c.in_ok-said.said
+      c.in_ok-said.ensures.says
       (subst₂ (λ (a : NumberSet) (k : Option ℕ). IsTooCoarse a k) c.in_ok-after.ensures.set c.stated.ensures.order coarse);
 }
 
 pub returns-clause-changes : goal.returns-clause-changes
 returns-clause-changes g c = (
-  (c.in_ok-set.set, c.in_ok-set.deepest, c.in_ok-set.form),
-  c.in_ok-set.ensures.says,
-  c.in_ok-text_of.ensures.text ∙ ap₂ (form_text c.in_ok-set.form) c.in_ok-after.ensures.set c.stated.ensures.order,
+  c.in_ok-said.said,
+  c.in_ok-said.ensures.says,
+  c.in_ok-text_of.ensures.text ∙ ap₂ (form_text c.in_ok-said.said.form) c.in_ok-after.ensures.set c.stated.ensures.order,
 )
 
 pub returns-in_err-text_of-clause-fault : goal.returns-in_err-text_of-clause-fault

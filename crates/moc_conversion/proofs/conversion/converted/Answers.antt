@@ -25,7 +25,7 @@ returns-in_err-text_of-clause-fault g c =
 
 pub returns-clause-converts : goal.returns-clause-converts
 returns-clause-converts g c = (
-  (c.in_ok-set.set, c.in_ok-set.deepest, c.args.from),
+  record { set = c.in_ok-set.set; deepest = c.in_ok-set.deepest; form = c.args.from },
   (
     c.in_ok-text.text.items,
     c.in_ok-text.ensures.whole,

@@ -1,7 +1,8 @@
 use Rattle.std.proofs.Common.{◌≡◌, ◌⊎◌, ◌∙◌, ℕ, List, Option, None, Some, ap, inl, inr, subst₂, sym}
 use Rattle.std.specs.Prelude.{option_map, string_bytes}
 use Rattle.std.specs.Borrow.{Bor}
-use Rattle.moc_forms.specs.Combining.{Said, TextSays}
+use Rattle.moc_forms.specs.Combining.{TextSays}
+use Rattle.moc_forms.specs.declared.combining.Said.{Said}
 use Rattle.moc_forms.specs.Finding.{form_for}
 use Rattle.moc_forms.specs.declared.finding.Choice.{Choice}
 use Rattle.moc_conversion.specs.Conversion.{IsPictureOf, TellsFault, TellsTexts, first_text, second_text}
@@ -36,18 +37,18 @@ second_fails : (choice : Choice) (first second : List ℕ) (c : Complaint) → (
 second_fails choice first second c says (inl memory) = inl memory
 second_fails choice first second c says (inr tells) = inr (inr (says, tells))
 
-pub returns-in_err-set-clause-fault : goal.returns-in_err-set-clause-fault
-returns-in_err-set-clause-fault c =
-    let told = c.in_err-set.field-0.0 in
+pub returns-in_err-said-clause-fault : goal.returns-in_err-said-clause-fault
+returns-in_err-said-clause-fault c =
+    let told = c.in_err-said.field-0.0 in
     handed_on c.from_residual.result told _ c.from_residual.ensures.1
     (faulty c.args.choice c.args.text.now c.texts_of_picture.result.0.now None c.texts_of_picture.result.1 told c.texts_of_picture.ensures.first c.texts_of_picture.ensures.second
-    (ap bytes_of c.in_default.is) c.in_err-set.ensures.told)
+    (ap bytes_of c.in_default.is) c.in_err-said.ensures.told)
 
 pub returns-in_default-clause-picture : goal.returns-in_default-clause-picture
 returns-in_default-clause-picture c =
     of_texts (λ x y. IsPictureOf c.args.choice x y (string_bytes c.in_ok-draw.field-0)) c.args.text.now c.texts_of_picture.result.0.now None c.texts_of_picture.result.1
     c.texts_of_picture.ensures.first c.texts_of_picture.ensures.second (ap bytes_of c.in_default.is)
-    ((c.in_ok-set.set, c.in_ok-set.field-0-1, c.in_ok-set.field-0-2), c.in_ok-set.ensures.says, c.in_ok-draw.ensures)
+    (c.in_ok-said.said, c.in_ok-said.ensures.says, c.in_ok-draw.ensures)
 
 pub returns-in_err-one-clause-fault : goal.returns-in_err-one-clause-fault
 returns-in_err-one-clause-fault c =
@@ -64,14 +65,14 @@ returns-in_err-other-clause-fault c =
     (faulty c.args.choice c.args.text.now c.texts_of_picture.result.0.now (Some c.in-Some.second.now) c.texts_of_picture.result.1 told
     c.texts_of_picture.ensures.first c.texts_of_picture.ensures.second (ap bytes_of c.in-Some.is)
     (second_fails c.args.choice c.texts_of_picture.result.0.now c.in-Some.second.now told
-    ((c.in_ok-one.one, c.in_ok-one.field-0-1, c.in_ok-one.field-0-2), c.in_ok-one.ensures.says) c.in_err-other.ensures.told))
+    (c.in_ok-one.one, c.in_ok-one.ensures.says) c.in_err-other.ensures.told))
 
 pub returns-clause-picture : goal.returns-clause-picture
 returns-clause-picture c =
     of_texts (λ x y. IsPictureOf c.args.choice x y (string_bytes c.in_ok-draw_two.field-0)) c.args.text.now c.texts_of_picture.result.0.now (Some c.in-Some.second.now) c.texts_of_picture.result.1
     c.texts_of_picture.ensures.first c.texts_of_picture.ensures.second (ap bytes_of c.in-Some.is) (
-      (c.in_ok-one.one, c.in_ok-one.field-0-1, c.in_ok-one.field-0-2),
-      (c.in_ok-other.other, c.in_ok-other.field-0-1, c.in_ok-other.field-0-2),
+      c.in_ok-one.one,
+      c.in_ok-other.other,
       c.in_ok-one.ensures.says,
       c.in_ok-other.ensures.says,
       c.in_ok-draw_two.ensures,
