@@ -18,7 +18,7 @@ use std::alloc::Global;
 /// Reads the input to its end; refused with `Read` where that fails, with `TooLong` above 16,777,216 bytes, with the
 /// first fault of the text, or with `FormError::Memory`. Time and memory are linear in the input and in what is made of
 /// it.
-pub fn converted<R: Source>(
+pub fn convert_input<R: Source>(
     alloc: Global,
     from: Form,
     to: Form,
@@ -39,7 +39,7 @@ pub fn converted<R: Source>(
 /// Reads the input to its end; refused with `Read` where that fails, with `TooLong` above 16,777,216 bytes, with the
 /// first fault of the text, or with `FormError::Memory`. Time and memory are linear in the input and in what is made of
 /// it.
-pub fn described<R: Source>(
+pub fn describe_input<R: Source>(
     alloc: Global,
     choice: Choice,
     input: &mut R,
@@ -59,7 +59,7 @@ pub fn described<R: Source>(
 /// Reads the input to its end; refused with `Read` where that fails, with `TooLong` above 16,777,216 bytes, with the
 /// first fault of the text, or with `FormError::Memory`. Time and memory are linear in the input and in what is made of
 /// it.
-pub fn changed<R: Source>(
+pub fn change_input<R: Source>(
     alloc: Global,
     change: Change,
     choice: Choice,
@@ -82,7 +82,7 @@ pub fn changed<R: Source>(
 /// Reads the input to its end; refused with `Read` where that fails, with `TooLong` above 16,777,216 bytes, with the
 /// first fault of the text, or with `FormError::Memory`. Time and memory are linear in the input and in what is made of
 /// it.
-pub fn checked<R: Source>(alloc: Global, choice: Choice, input: &mut R) -> Result<(), Complaint>
+pub fn check_input<R: Source>(alloc: Global, choice: Choice, input: &mut R) -> Result<(), Complaint>
     requires { R.mark input.old ≡ false }
     ensures read { IsErrAnd result (λ c. c.fault ≡ InputFault.Read) ↔ IsTrue (R.mark input.new) }
     ensures fault { IfErr result (λ c. IsNotSaid choice (R.left input.old) (R.left input.new) c) }

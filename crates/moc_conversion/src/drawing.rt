@@ -18,7 +18,11 @@ use std::alloc::Global;
 /// Reads the input to its end; refused with `Read` where that fails, with `TooLong` above 16,777,216 bytes, with the
 /// first fault of the text, or with `FormError::Memory`. Time and memory are linear in the input and in what is made of
 /// it.
-pub fn drawn<R: Source>(alloc: Global, choice: Choice, input: &mut R) -> Result<String, Complaint>
+pub fn draw_input<R: Source>(
+    alloc: Global,
+    choice: Choice,
+    input: &mut R,
+) -> Result<String, Complaint>
     requires { R.mark input.old ≡ false }
     ensures read { IsErrAnd result (λ c. c.fault ≡ InputFault.Read) ↔ IsTrue (R.mark input.new) }
     ensures fault { IfErr result (λ c. IsNotDrawn choice (R.left input.old) (R.left input.new) c) }

@@ -9,8 +9,8 @@ mod fault;
 mod reading;
 mod saying;
 
-pub use combination::combined;
+pub use combination::combine_input;
 pub use complaint::Complaint;
-pub use conversion::{changed, checked, converted, described};
-pub use drawing::drawn;
+pub use conversion::{change_input, check_input, convert_input, describe_input};
+pub use drawing::draw_input;
 pub use fault::InputFault;

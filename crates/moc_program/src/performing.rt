@@ -13,7 +13,9 @@ use crate::printing::{answered, printed};
 use crate::status::{ProgramFault, Status};
 use clap::ArgMatches;
 use moc_command_line::FAULTS;
-use moc_conversion::{changed, checked, combined, converted, described, drawn};
+use moc_conversion::{
+    change_input, check_input, combine_input, convert_input, describe_input, draw_input,
+};
 use moc_script::{CrewError, OpenGate, RunError, Sink, Source, crew, play, renumber, run};
 use std::alloc::Global;
 use std::marker::Sync;
@@ -68,16 +70,19 @@ fn perform<T: Threads + Wait + Sync, R: Source, W: Sink>(
         Action::Crew(lanes) => outcome_of_crew(crew(rt, alloc, input, output, lanes, &OpenGate)),
         Action::Renumber(renumbering) => outcome_of(renumber(alloc, input, output, renumbering)),
         Action::Number(number) => numbered(alloc, number, output),
-        Action::Convert(from, to) => answered(converted(alloc, from, to, input), output),
+        Action::Convert(from, to) => answered(convert_input(alloc, from, to, input), output),
         Action::Check(choice) => {
-            checked(alloc, choice, input)?;
+            check_input(alloc, choice, input)?;
             printed("ok\n", output)
         }
-        Action::Describe(choice) => answered(described(alloc, choice, input), output),
-        Action::Draw(choice) => answered(drawn(alloc, choice, input), output),
-        Action::Change(change, choice) => answered(changed(alloc, change, choice, input), output),
+        Action::Describe(choice) => answered(describe_input(alloc, choice, input), output),
+        Action::Draw(choice) => answered(draw_input(alloc, choice, input), output),
+        Action::Change(change, choice) => answered(
+            change_input(alloc, change, choice, input),
+            output,
+        ),
         Action::Combine(operation, choice) => {
-            answered(combined(alloc, operation, choice, input), output)
+            answered(combine_input(alloc, operation, choice, input), output)
         }
         Action::Faults => printed(listed(), output),
     }

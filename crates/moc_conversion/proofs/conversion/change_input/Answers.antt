@@ -4,7 +4,7 @@ use Rattle.moc_text.specs.AsciiText.{IsTooCoarse}
 use Rattle.moc_forms.specs.Forms.{form_text}
 use Rattle.moc_conversion.proofs.Checks.{no_memory}
 use Rattle.moc_conversion.proofs.Depths.{change_written}
-use Rattle.moc_conversion.proofs.conversion.changed.Goals as goal
+use Rattle.moc_conversion.proofs.conversion.change_input.Goals as goal
 
 pub text_of-requires : goal.text_of-requires
 text_of-requires g c = record {

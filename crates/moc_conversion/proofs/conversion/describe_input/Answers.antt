@@ -1,4 +1,4 @@
-use Rattle.moc_conversion.proofs.conversion.described.Goals as goal
+use Rattle.moc_conversion.proofs.conversion.describe_input.Goals as goal
 
 pub returns-clause-describes : goal.returns-clause-describes
 returns-clause-describes g c = (

@@ -1,6 +1,6 @@
 use Rattle.moc_conversion.proofs.Checks.{handed_on, no_memory_together}
 use Rattle.moc_conversion.proofs.Depths.{together_written}
-use Rattle.moc_conversion.proofs.combination.combined.Goals as goal
+use Rattle.moc_conversion.proofs.combination.combine_input.Goals as goal
 
 pub text_of-requires : goal.text_of-requires
 text_of-requires g c = record {

@@ -4,7 +4,7 @@ use Rattle.moc_conversion.specs.Conversion.{IsTextFault}
 use Rattle.moc_conversion.specs.Faults.{want_of_memory}
 use Rattle.moc_conversion.proofs.Checks.{not_read, told_alone}
 use Rattle.moc_conversion.proofs.Depths.{text_written}
-use Rattle.moc_conversion.proofs.conversion.converted.Goals as goal
+use Rattle.moc_conversion.proofs.conversion.convert_input.Goals as goal
 
 pub returns-in_err-set-clause-fault : goal.returns-in_err-set-clause-fault
 returns-in_err-set-clause-fault g c =
