@@ -13,4 +13,4 @@ pub use combination::combined;
 pub use complaint::Complaint;
 pub use conversion::{changed, checked, converted, described};
 pub use drawing::drawn;
-pub use fault::InputFault;
+pub use fault::{InputFault, tell_fault};
