@@ -41,8 +41,7 @@ impl InputFault {
 /// Tells a fault by its name, `fault NAME` and a line feed. Refused where the writer fails; what was told before that
 /// stays.
 pub fn tell_fault<E: Sink>(name: &str, faults: &mut E) -> Result<(), DeviceFault>
-    ensures told { OnOk result (E.mark faults.old ≡ false →
-        Appends (E.written faults.old) (E.written faults.new) (line_of name.now)) }
+    ensures told { OnOk result (Appends (E.written faults.old) (E.written faults.new) (line_of name.now)) }
     ensures marks { E.mark faults.old ≡ false → E.mark faults.new ≡ is_err result }
 {
     write_all(b"fault ", faults)?;

@@ -33,7 +33,7 @@ pub enum LineFault {
     /// A number that no cell of the order has.
     #[error("no cell of the order has that number")]
     CellTooLarge,
-    /// The coverage of an operand is at fault, at a byte of the text behind the words before it.
+    /// The coverage of an operand is at fault. Its place is counted from behind the word before it.
     #[error(transparent)]
     Coverage(TextError),
     /// A number that no cell has as its NUNIQ number.
