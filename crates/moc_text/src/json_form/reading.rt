@@ -11,8 +11,8 @@ ghost use Rattle.moc_text.specs.Faults.{Fails};
 ghost use Rattle.moc_text.specs.JsonForm.{order_of_name, whole_number, cell_pixels, element_fault, items_pixels};
 ghost use Rattle.moc_text.specs.JsonForm.{elements_fault};
 ghost use Rattle.moc_text.specs.JsonForm.{array_pixels, name_fault, members_pixels, members_fault, deepest_name};
-ghost use Rattle.moc_text.specs.JsonForm.{member_at as member_of, HasText, IsJson, IsJsonFault, IsNotJson, IsTextAt};
-ghost use Rattle.moc_text.specs.JsonForm.{NameIsOrder, SaysJson};
+ghost use Rattle.moc_text.specs.JsonForm.{member_at as member_numbered, HasText, IsJson, IsJsonFault, IsNotJson};
+ghost use Rattle.moc_text.specs.JsonForm.{IsTextAt, NameIsOrder, SaysJson, object_member};
 ghost use Rattle.moc_text.specs.Private.JsonReading.{held_order};
 
 use crate::json_form::error::{JsonError, JsonPlace};
@@ -185,7 +185,7 @@ pub fn read_json(alloc: Global, text: &[u8]) -> Result<(Coverage, Option<Order>)
 /// The name of this number, with its value; `None` where there is no such name.
 fn member_at(members: &Map<String, Value>, number: usize) -> Option<(&String, &Value)>
     ensures { option_map (λ m. (string_bytes m.0.now, view m.1.now)) result
-        ≡ member_of number (members_view members.now.entries) }
+        ≡ member_numbered number (members_view members.now.entries) }
 {
     let mut before = number;
     for (name, value) in members.iter() {
@@ -206,6 +206,16 @@ pub struct JsonSite {
     pub text: Option<String>,
 }
 
+/// The name of this number of an object, with its value; `None` where the value is no object, or has no such name.
+fn member_of(value: &Value, number: usize) -> Option<(&String, &Value)>
+    ensures { option_map (λ m. (string_bytes m.0.now, view m.1.now)) result ≡ object_member number (view value.now) }
+{
+    match value.as_object() {
+        Some(members) => member_at(members, number),
+        None => None,
+    }
+}
+
 /// What stands at a place that a fault of a JSON text tells (`JsonError::place`). Where the text is no object, nothing
 /// stands at any place.
 ///
@@ -216,11 +226,7 @@ pub fn json_site(alloc: Global, text: &[u8], place: JsonPlace) -> Result<JsonSit
     ensures fault { IfErr result (λ e. (e ≡ JsonError.Memory) ⊎ ((e ≡ JsonError.NotJson) × IsNotJson text.now)) }
 {
     let value = parse(alloc, text)?;
-    let member = match value.as_object() {
-        Some(members) => member_at(members, place.name),
-        None => None,
-    };
-    match member {
+    match member_of(&value, place.name) {
         Some((name, value)) => site_in(alloc, name, value, place.item),
         None => Ok(JsonSite {
             order: None,
