@@ -73,6 +73,17 @@ outcome_of_ranges ranges.Memory = memory
 outcome_of_ranges (ranges.Backwards at) = outcome 40 at 0
 outcome_of_ranges (ranges.PixelTooLarge at) = outcome 41 at 0
 
+-- the code of the fault of a coverage in a line; the last is for those that no text has
+abbrev pub code_of_coverage : TextError → ℕ
+code_of_coverage (text.OrderTooLarge at) = 55
+code_of_coverage (text.CellTooLarge at) = 56
+code_of_coverage (text.BadByte at) = 57
+code_of_coverage (text.NoOrder at) = 58
+code_of_coverage (text.Backwards at) = 59
+code_of_coverage (text.Unfinished at) = 60
+code_of_coverage text.Memory = 61
+code_of_coverage text.TooCoarse = 61
+
 -- the code of a line's fault; the last is for those that no line of commands has
 abbrev pub line_code : LineFault → ℕ
 line_code line.UnknownWord = 50
@@ -82,10 +93,7 @@ line_code line.WrongCount = 53
 line_code line.BadNumber = 54
 line_code line.OrderTooLarge = 55
 line_code line.CellTooLarge = 56
-line_code line.BadByte = 57
-line_code line.NoOrder = 58
-line_code line.Backwards = 59
-line_code line.Unfinished = 60
+line_code (line.Coverage e) = code_of_coverage e
 line_code line.NotUniq = 61
 line_code line.RingTooLarge = 61
 line_code line.OtherOrder = 61

@@ -1,7 +1,7 @@
 //! How a call ended.
 ghost use Rattle.std.specs.Prelude.{◌≡◌};
 ghost use Rattle.moc_c.specs.Outcomes.{all_well, outcome_of_form, outcome_of_json, outcome_of_line, outcome};
-ghost use Rattle.moc_c.specs.Outcomes.{outcome_of_ranges};
+ghost use Rattle.moc_c.specs.Outcomes.{code_of_coverage, outcome_of_ranges};
 ghost use Rattle.moc_c.specs.Outcomes.{outcome_of, outcome_of_text, told, outcome_of_uniq};
 
 use crate::codes;
@@ -174,14 +174,26 @@ impl Outcome {
             LineFault::BadNumber => codes::LINE_BAD_NUMBER,
             LineFault::OrderTooLarge => codes::LINE_ORDER_TOO_LARGE,
             LineFault::CellTooLarge => codes::LINE_CELL_TOO_LARGE,
-            LineFault::BadByte => codes::LINE_BAD_BYTE,
-            LineFault::NoOrder => codes::LINE_NO_ORDER,
-            LineFault::Backwards => codes::LINE_BACKWARDS,
-            LineFault::Unfinished => codes::LINE_UNFINISHED,
+            LineFault::Coverage(error) => coverage_code(error),
             LineFault::NotUniq | LineFault::RingTooLarge | LineFault::OtherOrder => {
                 codes::LINE_OTHER
             }
         };
         Outcome::new(code, 0, 0)
+    }
+}
+
+/// The code of the fault of a coverage in a line of commands.
+fn coverage_code(error: TextError) -> u32
+    ensures { result ≡ code_of_coverage error }
+{
+    match error {
+        TextError::OrderTooLarge { .. } => codes::LINE_ORDER_TOO_LARGE,
+        TextError::CellTooLarge { .. } => codes::LINE_CELL_TOO_LARGE,
+        TextError::BadByte { .. } => codes::LINE_BAD_BYTE,
+        TextError::NoOrder { .. } => codes::LINE_NO_ORDER,
+        TextError::Backwards { .. } => codes::LINE_BACKWARDS,
+        TextError::Unfinished { .. } => codes::LINE_UNFINISHED,
+        TextError::Memory | TextError::TooCoarse => codes::LINE_OTHER,
     }
 }

@@ -3,7 +3,7 @@ ghost use Rattle.std.specs.Prelude.{◌≡◌, None, OnOk, false, is_err};
 ghost use Rattle.std.specs.Io.KnownBytes.{Appends};
 ghost use Rattle.moc_conversion.specs.Faults.{complaint_text, want_of_memory};
 
-use crate::fault::InputFault;
+use crate::fault::{InputFault, tell_fault};
 use moc_devices::{DeviceFault, Sink, write_all};
 use moc_forms::{Form, hint_line};
 use moc_ranges::Memory as MemoryRefused;
@@ -28,7 +28,7 @@ impl Complaint {
             Appends (E.written faults.old) (E.written faults.new) (complaint_text self.now)) }
         ensures marks { E.mark faults.old ≡ false → E.mark faults.new ≡ is_err result }
     {
-        write_all(self.fault.line().as_bytes(), faults)?;
+        tell_fault(self.fault.name(), faults)?;
         if let Some(line) = &self.place_line {
             write_all(line.as_bytes(), faults)?;
         }

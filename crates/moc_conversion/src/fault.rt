@@ -1,12 +1,12 @@
 //! Why nothing was made of an input.
-ghost use Rattle.std.specs.Prelude.{◌≡◌};
+ghost use Rattle.std.specs.Prelude.{◌≡◌, OnOk, false, is_err};
+ghost use Rattle.std.specs.Io.KnownBytes.{Appends};
 ghost use Rattle.moc_conversion.specs.Faults.{input_fault_name, line_of, want_of_memory};
-ghost use Rattle.moc_conversion.specs.Faults.{name_of_json, name_of_text, name_of_uniq};
 ghost use Rattle.moc_conversion.specs.declared.fault.InputFault.TheVariants as fault;
 
+use moc_devices::{DeviceFault, Sink, write_all};
 use moc_forms::FormError;
 use moc_ranges::Memory as MemoryRefused;
-use moc_text::{JsonError, TextError, UniqError};
 use std::alloc::AllocError;
 use thiserror::Error;
 
@@ -26,62 +26,27 @@ pub enum InputFault {
 }
 
 impl InputFault {
-    /// The line that tells it.
-    pub fn line(self) -> &'static str
-        ensures { result.now ≡ line_of (input_fault_name self) }
+    /// The name of the fault, as it is printed.
+    pub fn name(self) -> &'static str
+        ensures { result.now ≡ input_fault_name self }
     {
         match self {
-            InputFault::Form(FormError::Ascii(error)) => text_line(error),
-            InputFault::Form(FormError::Json(error)) => json_line(error),
-            InputFault::Form(FormError::Uniq(error)) => uniq_line(error),
-            InputFault::Form(FormError::Memory) => "fault Memory\n",
-            InputFault::TooLong => "fault TooLong\n",
-            InputFault::Read => "fault Read\n",
+            InputFault::Form(error) => error.name(),
+            InputFault::TooLong => "TooLong",
+            InputFault::Read => "Read",
         }
     }
 }
 
-/// The line that tells the fault of an ASCII text.
-fn text_line(error: TextError) -> &'static str
-    ensures { result.now ≡ line_of (name_of_text error) }
+/// Tells a fault by its name, `fault NAME` and a line feed. Refused where the writer fails; what was told before that
+/// stays.
+pub fn tell_fault<E: Sink>(name: &str, faults: &mut E) -> Result<(), DeviceFault>
+    ensures told { OnOk result (Appends (E.written faults.old) (E.written faults.new) (line_of name.now)) }
+    ensures marks { E.mark faults.old ≡ false → E.mark faults.new ≡ is_err result }
 {
-    match error {
-        TextError::BadByte { .. } => "fault BadByte\n",
-        TextError::NoOrder { .. } => "fault NoOrder\n",
-        TextError::OrderTooLarge { .. } => "fault OrderTooLarge\n",
-        TextError::CellTooLarge { .. } => "fault CellTooLarge\n",
-        TextError::Backwards { .. } => "fault Backwards\n",
-        TextError::Unfinished { .. } => "fault Unfinished\n",
-        TextError::Memory => "fault Memory\n",
-        TextError::TooCoarse => "fault TooCoarse\n",
-    }
-}
-
-/// The line that tells the fault of a JSON text.
-fn json_line(error: JsonError) -> &'static str
-    ensures { result.now ≡ line_of (name_of_json error) }
-{
-    match error {
-        JsonError::NotJson => "fault NotJson\n",
-        JsonError::NotObject => "fault NotObject\n",
-        JsonError::BadOrder { .. } => "fault BadOrder\n",
-        JsonError::NotArray { .. } => "fault NotArray\n",
-        JsonError::NotWhole { .. } => "fault NotWhole\n",
-        JsonError::CellTooLarge { .. } => "fault CellTooLarge\n",
-        JsonError::Memory => "fault Memory\n",
-        JsonError::TooCoarse => "fault TooCoarse\n",
-    }
-}
-
-/// The line that tells the fault of a NUNIQ list.
-fn uniq_line(error: UniqError) -> &'static str
-    ensures { result.now ≡ line_of (name_of_uniq error) }
-{
-    match error {
-        UniqError::BadByte { .. } => "fault BadByte\n",
-        UniqError::NotUniq { .. } => "fault NotUniq\n",
-        UniqError::Memory => "fault Memory\n",
-    }
+    write_all(b"fault ", faults)?;
+    write_all(name.as_bytes(), faults)?;
+    write_all(b"\n", faults)
 }
 
 impl From<FormError> for InputFault {

@@ -13,4 +13,4 @@ pub use combination::combine_input;
 pub use complaint::Complaint;
 pub use conversion::{change_input, check_input, convert_input, describe_input};
 pub use drawing::draw_input;
-pub use fault::InputFault;
+pub use fault::{InputFault, tell_fault};

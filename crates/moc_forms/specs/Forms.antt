@@ -5,6 +5,7 @@ use Rattle.moc_text.specs.Ascii.{Says, IsFirstFault}
 use Rattle.moc_text.specs.AsciiText.{ascii_text, IsTooCoarse}
 use Rattle.moc_text.specs.JsonForm.{SaysJson, IsJsonFault}
 use Rattle.moc_text.specs.JsonText.{json_text}
+use Rattle.moc_text.specs.Names.{name_of_json, name_of_text, name_of_uniq}
 use Rattle.moc_text.specs.UniqList.{SaysUniq, uniq_fault, uniq_text}
 use Rattle.moc_text.specs.declared.ascii.error.TextError.{TextError}
 use Rattle.moc_text.specs.declared.ascii.error.TextError.TheVariants as text
@@ -37,6 +38,13 @@ IsFormFault Uniq text e = (fault : UniqError) × (e ≡ error.Uniq fault) × (un
 -- the error of a form as one of any form: the error itself, but that want of memory has one shape in all forms
 abbrev pub IsFormErrorOf : {E : Type 0} → (E → FormError) → E → E → FormError → Type 0
 IsFormErrorOf in_form memory e f = ((e ≡ memory) × (f ≡ error.Memory)) ⊎ ((e ≢ memory) × (f ≡ in_form e))
+
+-- the name of the error, as it is printed
+abbrev pub name_of_form_error : FormError → List ℕ
+name_of_form_error (error.Ascii e) = name_of_text e
+name_of_form_error (error.Json e) = name_of_json e
+name_of_form_error (error.Uniq e) = name_of_uniq e
+name_of_form_error error.Memory = codes "Memory"
 
 -- the error is that no memory was left, or the first fault of the text
 abbrev pub FormFails : Form → List ℕ → FormError → Type 0

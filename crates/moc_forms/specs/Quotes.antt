@@ -1,9 +1,10 @@
 -- What stands in a text at its fault, as it is quoted.
 use Rattle.std.specs.Prelude.{◌≡◌, ℕ, ◌+◌, ◌-◌, ◌/◌, ◌%◌, Bool, not, ◌&&◌, ◌==◌, nat_le, nat_lt, if◌then◌else◌}
-use Rattle.std.specs.Prelude.{List, [], ◌∷◌, ◌++◌, length, slice_index_or, take, drop, codes, Option, None, option_map}
+use Rattle.std.specs.Prelude.{List, [], ◌∷◌, ◌++◌, length, slice_index_or, take, drop, codes, Option, None, Some}
+use Rattle.std.specs.Prelude.{option_map}
 use Rattle.std.specs.List.{after_last, before_first, flat_map, slice_split}
 use Rattle.moc_text.specs.Ascii.{is_separator}
-use Rattle.moc_text.specs.JsonForm.{HasItem, HasName}
+use Rattle.moc_text.specs.JsonForm.{HasText}
 use Rattle.moc_text.specs.Lines.{is_line_feed}
 use Rattle.moc_text.specs.declared.json_form.error.JsonError.{JsonError}
 use Rattle.moc_text.specs.declared.json_form.error.JsonError.TheVariants as json
@@ -23,10 +24,10 @@ line_numbered bytes line = slice_index_or (slice_split is_line_feed bytes) (line
 
 -- what stands at the fault of a JSON text: its name, or the item that is at fault
 abbrev pub IsQuotedInJson : List ℕ → JsonError → Option (List ℕ) → Type 0
-IsQuotedInJson bytes (json.BadOrder name) found = HasName bytes name found
-IsQuotedInJson bytes (json.NotArray name) found = HasName bytes name found
-IsQuotedInJson bytes (json.NotWhole name place) found = HasItem bytes name place found
-IsQuotedInJson bytes (json.CellTooLarge name place) found = HasItem bytes name place found
+IsQuotedInJson bytes (json.BadOrder name) found = HasText bytes name None found
+IsQuotedInJson bytes (json.NotArray name) found = HasText bytes name None found
+IsQuotedInJson bytes (json.NotWhole name place) found = HasText bytes name (Some place) found
+IsQuotedInJson bytes (json.CellTooLarge name place) found = HasText bytes name (Some place) found
 IsQuotedInJson bytes json.NotJson found = found ≡ None
 IsQuotedInJson bytes json.NotObject found = found ≡ None
 IsQuotedInJson bytes json.Memory found = found ≡ None

@@ -3,6 +3,7 @@ ghost use Rattle.std.specs.Prelude.{◌≡◌, ◌⊎◌, ℕ, IfErr, IfOk, OnOk
 ghost use Rattle.moc_lists.specs.RangeList.{NumberSet};
 ghost use Rattle.moc_forms.specs.Forms.{FormFails, FormSays};
 ghost use Rattle.moc_forms.specs.Places.{IsJsonPlace, IsPlace, byte_place, fault_line, line_bytes};
+ghost use Rattle.moc_text.specs.JsonForm.{NameIsOrder};
 ghost use Rattle.moc_text.specs.Places.{fault_byte};
 ghost use Rattle.moc_forms.specs.Quotes.{IsTold};
 ghost use Rattle.moc_forms.specs.declared.place.Place.TheVariants.{Line};
@@ -12,7 +13,7 @@ use crate::place::{Place, place_line};
 use crate::quoting::quote;
 use moc_ranges::{Coverage, Memory};
 use moc_sphere::Order;
-use moc_text::{JsonError, TextError, UniqError, json_name_order, json_syntax_error};
+use moc_text::{JsonError, JsonPlace, TextError, UniqError, json_site, json_syntax_error};
 use std::alloc::Global;
 use thiserror::Error;
 
@@ -131,12 +132,12 @@ fn place_in_json(alloc: Global, text: &[u8], fault: JsonError) -> Result<Option<
             None => None,
         },
         JsonError::BadOrder { name } => Some(Place::Name(name)),
-        JsonError::NotArray { name } => match json_name_order(alloc, text, name)? {
+        JsonError::NotArray { name } => match order_at(alloc, text, name)? {
             Some(order) => Some(Place::Order(order)),
             None => None,
         },
         JsonError::NotWhole { name, place } | JsonError::CellTooLarge { name, place } => {
-            match json_name_order(alloc, text, name)? {
+            match order_at(alloc, text, name)? {
                 Some(order) => Some(Place::Number {
                     order,
                     number: place,
@@ -146,4 +147,12 @@ fn place_in_json(alloc: Global, text: &[u8], fault: JsonError) -> Result<Option<
         }
         JsonError::NotObject | JsonError::Memory | JsonError::TooCoarse => None,
     })
+}
+
+/// The order that the name of this number in a JSON text stands for.
+fn order_at(alloc: Global, text: &[u8], name: usize) -> Result<Option<Order>, JsonError>
+    ensures { IfOk result (λ order. NameIsOrder text.now name order) }
+{
+    let site = json_site(alloc, text, JsonPlace { name, item: None })?;
+    Ok(site.order)
 }

@@ -1,7 +1,7 @@
 //! The text forms of a coverage as one type.
 ghost use Rattle.std.specs.Prelude.{◌≡◌, IfErr, IfOk, Some};
 ghost use Rattle.std.specs.String.{string_bytes};
-ghost use Rattle.moc_forms.specs.Forms.{FormFails, FormSays, IsUnwritten, form_text};
+ghost use Rattle.moc_forms.specs.Forms.{FormFails, FormSays, IsUnwritten, form_text, name_of_form_error};
 
 use crate::name_error::FormNameError;
 use moc_ranges::{Coverage, Memory as MemoryRefused};
@@ -38,6 +38,20 @@ pub enum FormError {
     Uniq(UniqError),
     #[error("out of memory")]
     Memory,
+}
+
+impl FormError {
+    /// The name of the error, as it is printed.
+    pub fn name(self) -> &'static str
+        ensures { result.now ≡ name_of_form_error self }
+    {
+        match self {
+            FormError::Ascii(error) => error.name(),
+            FormError::Json(error) => error.name(),
+            FormError::Uniq(error) => error.name(),
+            FormError::Memory => "Memory",
+        }
+    }
 }
 
 impl From<TextError> for FormError {

@@ -3,6 +3,7 @@ ghost use Rattle.std.specs.Prelude.{◌≡◌, ◌++◌, ◌<◌, ◌≤◌, [],
 ghost use Rattle.std.specs.List.{after_last, before_first, position_or_len, slice_split};
 ghost use Rattle.std.specs.String.{string_bytes};
 ghost use Rattle.moc_text.specs.Ascii.{is_separator as is_separator_byte};
+ghost use Rattle.moc_text.specs.JsonForm.{HasText};
 ghost use Rattle.moc_text.specs.Lines.{is_line_feed};
 ghost use Rattle.moc_forms.specs.Places.{fault_line, line_bytes};
 ghost use Rattle.moc_text.specs.Places.{fault_byte};
@@ -11,7 +12,7 @@ ghost use Rattle.moc_forms.specs.Quotes.{is_plain as is_plain_byte, line_numbere
 
 use crate::form::FormError;
 use moc_ranges::Memory;
-use moc_text::{JsonError, TextError, UniqError, is_separator, json_item, json_name};
+use moc_text::{JsonError, JsonPlace, TextError, UniqError, is_separator, json_site};
 use std::alloc::{AllocError, Global};
 
 /// How many bytes are quoted at most.
@@ -209,12 +210,27 @@ fn json_piece(alloc: Global, text: &[u8], fault: JsonError) -> Result<Option<Str
     ensures { IfOk result (λ piece. IsQuotedInJson text.now fault (option_map string_bytes piece)) }
 {
     match fault {
-        JsonError::BadOrder { name } | JsonError::NotArray { name } => json_name(alloc, text, name),
+        JsonError::BadOrder { name } | JsonError::NotArray { name } => {
+            text_at(alloc, text, name, None)
+        }
         JsonError::NotWhole { name, place } | JsonError::CellTooLarge { name, place } => {
-            json_item(alloc, text, name, place)
+            text_at(alloc, text, name, Some(place))
         }
         JsonError::NotJson | JsonError::NotObject | JsonError::Memory | JsonError::TooCoarse => {
             Ok(None)
         }
     }
+}
+
+/// The name of this number in a JSON text, or the item of this place in its array.
+fn text_at(
+    alloc: Global,
+    text: &[u8],
+    name: usize,
+    item: Option<usize>,
+) -> Result<Option<String>, JsonError>
+    ensures { IfOk result (λ piece. HasText text.now name item (option_map string_bytes piece)) }
+{
+    let site = json_site(alloc, text, JsonPlace { name, item })?;
+    Ok(site.text)
 }

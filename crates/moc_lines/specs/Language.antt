@@ -6,9 +6,8 @@ use Rattle.std.specs.Char.{is_ascii_digit}
 use Rattle.std.specs.Str.Parse.{digits_value}
 use Rattle.moc_lines.specs.declared.fault.LineFault.{LineFault}
 use Rattle.moc_lines.specs.declared.fault.LineFault.TheVariants.{UnknownWord, EmptyCommand, TooManyCommands, WrongCount}
-use Rattle.moc_lines.specs.declared.fault.LineFault.TheVariants.{BadNumber, OrderTooLarge, CellTooLarge, BadByte}
-use Rattle.moc_lines.specs.declared.fault.LineFault.TheVariants.{NoOrder, Backwards, Unfinished, NotUniq, RingTooLarge}
-use Rattle.moc_lines.specs.declared.fault.LineFault.TheVariants.{OtherOrder}
+use Rattle.moc_lines.specs.declared.fault.LineFault.TheVariants.{BadNumber, OrderTooLarge, CellTooLarge, Coverage}
+use Rattle.moc_lines.specs.declared.fault.LineFault.TheVariants.{NotUniq, RingTooLarge, OtherOrder}
 use Rattle.std.specs.FinSet as set
 use Rattle.moc_lists.specs.RangeList.{NumberSet}
 use Rattle.moc_parts.specs.declared.reply.Reply.{Reply}
@@ -24,8 +23,7 @@ use Rattle.moc_parts.specs.declared.command.Operand.{Operand}
 use Rattle.moc_parts.specs.declared.command.Command.{Command}
 use Rattle.moc_parts.specs.declared.command.Command.TheVariants.{Add, Remove, Keep, Claim, Invert, Degrade, Count, Read}
 use Rattle.moc_parts.specs.declared.command.Command.TheVariants.{Near}
-use Rattle.moc_text.specs.declared.ascii.error.TextError.{TextError}
-use Rattle.moc_text.specs.declared.ascii.error.TextError.TheVariants as text
+use Rattle.moc_text.specs.Names.{name_of_text}
 use Rattle.moc_text.specs.Reading.{reading_of}
 use Rattle.moc_parts.specs.Batches.{replies_on, set_after_all}
 use Rattle.moc_text.specs.Lines.{pieces_of}
@@ -70,10 +68,7 @@ name_of WrongCount = codes "WrongCount"
 name_of BadNumber = codes "BadNumber"
 name_of OrderTooLarge = codes "OrderTooLarge"
 name_of CellTooLarge = codes "CellTooLarge"
-name_of BadByte = codes "BadByte"
-name_of NoOrder = codes "NoOrder"
-name_of Backwards = codes "Backwards"
-name_of Unfinished = codes "Unfinished"
+name_of (Coverage e) = name_of_text e
 name_of NotUniq = codes "NotUniq"
 name_of RingTooLarge = codes "RingTooLarge"
 name_of OtherOrder = codes "OtherOrder"
@@ -130,20 +125,9 @@ two_fields text =
     if is_blank_text rest then Err WrongCount
     else (if is_blank_text (behind_word rest) then Ok (word_of text, word_of rest) else Err WrongCount)
 
--- the fault of a text that is no coverage, without its place (a text has neither of the last two)
-abbrev pub fault_without_place : TextError → LineFault
-fault_without_place (text.BadByte at) = BadByte
-fault_without_place (text.NoOrder at) = NoOrder
-fault_without_place (text.OrderTooLarge at) = OrderTooLarge
-fault_without_place (text.CellTooLarge at) = CellTooLarge
-fault_without_place (text.Backwards at) = Backwards
-fault_without_place (text.Unfinished at) = Unfinished
-fault_without_place text.Memory = Unfinished
-fault_without_place text.TooCoarse = Unfinished
-
--- the set that a text says in the ASCII form of MOC 2.0, or the fault without its place
+-- the set that a text says in the ASCII form of MOC 2.0, or its fault
 abbrev pub coverage_of : List ℕ → Result NumberSet LineFault
-coverage_of text = result_map_both (λ read. read.0) fault_without_place (reading_of text)
+coverage_of text = result_map_both (λ read. read.0) (λ e. Coverage e) (reading_of text)
 
 -- the order that a field names: a number of 0 to 29
 abbrev pub order_of : List ℕ → Result ℕ LineFault

@@ -1,7 +1,7 @@
 -- Scripts, and what a run of one has read and written when it ends.
 use Rattle.std.specs.Prelude.{ℕ, nat_le, Bool, List, [], ◌∷◌, ◌++◌, length, if◌then◌else◌, fold, Result, ◌≡◌, ◌≢◌, ◌+◌}
 use Rattle.std.specs.Prelude.{◌-◌, ◌<◌, ◌≤◌, ◌⊎◌, take, Option, Some, Ok, Err, OnOk, OnErr, IsErrOf, IsTrue, ◌↔◌}
-use Rattle.std.specs.Prelude.{slice_index_or}
+use Rattle.std.specs.Prelude.{slice_index_or, codes}
 use Rattle.std.specs.List.{list_all, take_while, AllByRecursion, count_by}
 use Rattle.moc_text.specs.Lines.{lines_of, is_line_feed}
 use Rattle.std.specs.FinSet as set
@@ -159,6 +159,13 @@ abbrev pub FailsOn : List ℕ → InputError → Type 0
 FailsOn given input.Read = Unit {0}
 FailsOn given (input.TooLong line) = IsTooLong line_limit (lines_of given) line
 FailsOn given (input.Memory line) = IsBegunLine line given
+
+-- the name of the fault of a run that ended early
+abbrev pub name_of_run : RunError → List ℕ
+name_of_run Read = codes "Read"
+name_of_run Write = codes "Write"
+name_of_run (LineTooLong line) = codes "LineTooLong"
+name_of_run (Memory line) = codes "Memory"
 
 -- the error of an input as the one of a run
 abbrev pub error_of_input : InputError → RunError

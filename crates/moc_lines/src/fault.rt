@@ -33,18 +33,9 @@ pub enum LineFault {
     /// A number that no cell of the order has.
     #[error("no cell of the order has that number")]
     CellTooLarge,
-    /// A byte that no word of a coverage has there.
-    #[error("a byte that no word of a coverage has there")]
-    BadByte,
-    /// A cell before any order.
-    #[error("a cell before any order")]
-    NoOrder,
-    /// A range of cells that goes backwards.
-    #[error("a range that goes backwards")]
-    Backwards,
-    /// A word of a coverage that is not finished.
-    #[error("a word that is not finished")]
-    Unfinished,
+    /// The coverage of an operand is at fault. Its place is counted from behind the word before it.
+    #[error(transparent)]
+    Coverage(TextError),
     /// A number that no cell has as its NUNIQ number.
     #[error("a number that is no NUNIQ number")]
     NotUniq,
@@ -58,7 +49,7 @@ pub enum LineFault {
 
 impl LineFault {
     /// The name that the answer gives.
-    fn name(self) -> &'static str
+    pub fn name(self) -> &'static str
         ensures { result.now ≡ name_of self }
     {
         match self {
@@ -69,10 +60,7 @@ impl LineFault {
             LineFault::BadNumber => "BadNumber",
             LineFault::OrderTooLarge => "OrderTooLarge",
             LineFault::CellTooLarge => "CellTooLarge",
-            LineFault::BadByte => "BadByte",
-            LineFault::NoOrder => "NoOrder",
-            LineFault::Backwards => "Backwards",
-            LineFault::Unfinished => "Unfinished",
+            LineFault::Coverage(error) => error.name(),
             LineFault::NotUniq => "NotUniq",
             LineFault::RingTooLarge => "RingTooLarge",
             LineFault::OtherOrder => "OtherOrder",
@@ -122,15 +110,8 @@ impl From<TextError> for ReadError {
 
     fn from(error: TextError) -> ReadError {
         match error {
-            TextError::BadByte { .. } => ReadError::Fault(LineFault::BadByte),
-            TextError::NoOrder { .. } => ReadError::Fault(LineFault::NoOrder),
-            TextError::OrderTooLarge { .. } => ReadError::Fault(LineFault::OrderTooLarge),
-            TextError::CellTooLarge { .. } => ReadError::Fault(LineFault::CellTooLarge),
-            TextError::Backwards { .. } => ReadError::Fault(LineFault::Backwards),
-            TextError::Unfinished { .. } | TextError::TooCoarse => {
-                ReadError::Fault(LineFault::Unfinished)
-            }
             TextError::Memory => ReadError::Memory,
+            error => ReadError::Fault(LineFault::Coverage(error)),
         }
     }
 }

@@ -1,6 +1,6 @@
 //! Why a run ends early.
 ghost use Rattle.std.specs.Prelude.{◌≡◌};
-ghost use Rattle.moc_lines.specs.Runs.{error_of_input};
+ghost use Rattle.moc_lines.specs.Runs.{error_of_input, name_of_run};
 
 use crate::reading::InputError;
 use thiserror::Error;
@@ -21,6 +21,20 @@ pub enum RunError {
     /// answered, at one more than the lines.
     #[error("out of memory at line {line}")]
     Memory { line: u64 },
+}
+
+impl RunError {
+    /// The name of the fault, as it is printed.
+    pub fn name(self) -> &'static str
+        ensures { result.now ≡ name_of_run self }
+    {
+        match self {
+            RunError::Read => "Read",
+            RunError::Write => "Write",
+            RunError::LineTooLong { .. } => "LineTooLong",
+            RunError::Memory { .. } => "Memory",
+        }
+    }
 }
 
 impl From<InputError> for RunError {

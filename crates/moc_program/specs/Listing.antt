@@ -1,6 +1,7 @@
 -- What the word `faults` prints: the exit statuses, and the faults with what they mean.
 use Rattle.std.specs.Prelude.{ℕ, ◌+◌, ◌-◌, List, [], ◌∷◌, ◌++◌, codes, length, replicate}
 use Rattle.moc_lines.specs.Language as script
+use Rattle.moc_lines.specs.Runs.{name_of_run}
 use Rattle.moc_lines.specs.declared.fault.LineFault.TheVariants as said
 use Rattle.moc_lines.specs.declared.run_error.RunError.TheVariants as run
 use Rattle.moc_script.specs.Schedules.{fault_name}
@@ -8,11 +9,11 @@ use Rattle.moc_script.specs.declared.fault.StepFault.TheVariants as step
 use Rattle.moc_text.specs.declared.ascii.error.TextError.TheVariants as text
 use Rattle.moc_text.specs.declared.json_form.error.JsonError.TheVariants as json
 use Rattle.moc_text.specs.declared.uniq.UniqError.TheVariants as uniq
-use Rattle.moc_conversion.specs.Faults.{input_fault_name, line_of, name_of_json, name_of_text, name_of_uniq}
-use Rattle.moc_conversion.specs.Faults.{want_of_memory}
+use Rattle.moc_text.specs.Names.{name_of_json, name_of_text, name_of_uniq}
+use Rattle.moc_conversion.specs.Faults.{input_fault_name, line_of, want_of_memory}
 use Rattle.moc_conversion.specs.declared.fault.InputFault.TheVariants.{TooLong, Read}
 use Rattle.moc_sphere.specs.declared.cell.CellError.TheVariants as cell
-use Rattle.moc_program.specs.Statuses.{code_of, name_of_cell, name_of_run}
+use Rattle.moc_program.specs.Statuses.{code_of, name_of_cell}
 use Rattle.moc_program.specs.declared.status.Status.{Status}
 use Rattle.moc_program.specs.declared.status.Status.TheVariants.{Done, Refused, BadWords, Broken}
 

@@ -3,7 +3,7 @@ use Rattle.std.specs.Prelude.{ℕ, List, codes}
 use Rattle.moc_sphere.specs.declared.cell.CellError.{CellError}
 use Rattle.moc_sphere.specs.declared.cell.CellError.TheVariants.{CellTooLarge, NotUniq, OutOfFace, RingTooLarge}
 use Rattle.moc_lines.specs.declared.run_error.RunError.TheVariants as run
-use Rattle.moc_lines.specs.declared.run_error.RunError.{RunError}
+use Rattle.moc_lines.specs.Runs.{name_of_run}
 use Rattle.moc_script.specs.declared.crew_error.CrewError.{CrewError}
 use Rattle.moc_script.specs.declared.crew_error.CrewError.TheVariants as crew
 use Rattle.moc_forms.specs.declared.form.FormError.TheVariants as form
@@ -46,13 +46,6 @@ name_of_cell CellTooLarge = codes "CellTooLarge"
 name_of_cell NotUniq = codes "NotUniq"
 name_of_cell OutOfFace = codes "OutOfFace"
 name_of_cell RingTooLarge = codes "RingTooLarge"
-
--- the name of the fault of a run that ended early
-abbrev pub name_of_run : RunError → List ℕ
-name_of_run run.Read = codes "Read"
-name_of_run run.Write = codes "Write"
-name_of_run (run.LineTooLong line) = codes "LineTooLong"
-name_of_run (run.Memory line) = codes "Memory"
 
 -- what tells a fault: a complaint of the input, or a line
 abbrev pub fault_text : ProgramFault → List ℕ

@@ -1,15 +1,14 @@
 //! How the program ends, and what it says of that.
 ghost use Rattle.std.specs.Prelude.{◌≡◌, IfErr, OnOk, false, is_err};
 ghost use Rattle.std.specs.Io.KnownBytes.{Appends};
-ghost use Rattle.moc_conversion.specs.Faults.{line_of};
-ghost use Rattle.moc_program.specs.Statuses.{code_of, fault_of_crew, fault_text, name_of_cell, name_of_run};
+ghost use Rattle.moc_program.specs.Statuses.{code_of, fault_of_crew, fault_text, name_of_cell};
 ghost use Rattle.moc_program.specs.Statuses.{status_of, status_of_input};
 ghost use Rattle.moc_program.specs.Private.Ending.{end_of};
 ghost use Rattle.moc_program.specs.declared.status.ProgramFault.TheVariants as fault;
 
-use moc_conversion::{Complaint, InputFault};
+use moc_conversion::{Complaint, InputFault, tell_fault};
 use moc_forms::FormError;
-use moc_script::{CrewError, DeviceFault, RunError, Sink, write_all};
+use moc_script::{CrewError, DeviceFault, RunError, Sink};
 use moc_sphere::CellError;
 use std::alloc::AllocError;
 
@@ -74,15 +73,14 @@ impl ProgramFault {
             Appends (E.written faults.old) (E.written faults.new) (fault_text self.now)) }
         ensures marks { E.mark faults.old ≡ false → E.mark faults.new ≡ is_err result }
     {
-        let line = match self {
-            ProgramFault::Input(complaint) => return complaint.tell(faults),
-            ProgramFault::Number(error) => cell_line(*error),
-            ProgramFault::Lines(error) => run_line(*error),
-            ProgramFault::Spawn => "fault Spawn\n",
-            ProgramFault::Write => "fault Write\n",
-            ProgramFault::Memory => "fault Memory\n",
-        };
-        write_all(line.as_bytes(), faults)
+        match self {
+            ProgramFault::Input(complaint) => complaint.tell(faults),
+            ProgramFault::Number(error) => tell_fault(cell_name(*error), faults),
+            ProgramFault::Lines(error) => tell_fault(error.name(), faults),
+            ProgramFault::Spawn => tell_fault("Spawn", faults),
+            ProgramFault::Write => tell_fault("Write", faults),
+            ProgramFault::Memory => tell_fault("Memory", faults),
+        }
     }
 }
 
@@ -109,27 +107,15 @@ fn input_status(fault: InputFault) -> Status
     }
 }
 
-/// The line that tells a number that no cell has.
-fn cell_line(error: CellError) -> &'static str
-    ensures { result.now ≡ line_of (name_of_cell error) }
+/// The name of the fault of a number that no cell has.
+fn cell_name(error: CellError) -> &'static str
+    ensures { result.now ≡ name_of_cell error }
 {
     match error {
-        CellError::CellTooLarge => "fault CellTooLarge\n",
-        CellError::NotUniq => "fault NotUniq\n",
-        CellError::OutOfFace => "fault OutOfFace\n",
-        CellError::RingTooLarge => "fault RingTooLarge\n",
-    }
-}
-
-/// The line that tells why a run ended early.
-fn run_line(error: RunError) -> &'static str
-    ensures { result.now ≡ line_of (name_of_run error) }
-{
-    match error {
-        RunError::Read => "fault Read\n",
-        RunError::Write => "fault Write\n",
-        RunError::LineTooLong { .. } => "fault LineTooLong\n",
-        RunError::Memory { .. } => "fault Memory\n",
+        CellError::CellTooLarge => "CellTooLarge",
+        CellError::NotUniq => "NotUniq",
+        CellError::OutOfFace => "OutOfFace",
+        CellError::RingTooLarge => "RingTooLarge",
     }
 }
 

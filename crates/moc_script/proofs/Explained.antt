@@ -27,7 +27,7 @@ use Rattle.moc_steps.specs.Orders.{Operation, just_begun, mark, noted, midway, E
 use Rattle.moc_steps.specs.Laws.{ArePlayed, HasOneOrder, StepsHaveOneOrder}
 use Rattle.moc_steps.specs.declared.error.StepError.{StepError}
 use Rattle.moc_parts.specs.declared.reply.Reply.{Reply}
-use Rattle.moc_lines.specs.Language.{is_blank_text, word_of, behind_word, number_spelled, ◌>>=◌, fault_without_place}
+use Rattle.moc_lines.specs.Language.{is_blank_text, word_of, behind_word, number_spelled, ◌>>=◌}
 use Rattle.moc_lines.specs.Language.{coverage_of, order_of, plain_operand_of, ordered_operand_of, operand_by}
 use Rattle.moc_lines.specs.Language.{operand_of, command_named, command_with, degrade_of, near_of, only_field}
 use Rattle.moc_lines.specs.Language.{two_fields, command_of, piece_says, commands_of, batch_of}
@@ -41,7 +41,7 @@ use Rattle.moc_script.proofs.Single.{first_then}
 use Rattle.moc_script.specs.Laws.{SchedulesHaveOneOrder}
 use Rattle.moc_lines.specs.declared.fault.LineFault.{LineFault}
 use Rattle.moc_lines.specs.declared.fault.LineFault.TheVariants.{WrongCount, BadNumber, OrderTooLarge, CellTooLarge}
-use Rattle.moc_lines.specs.declared.fault.LineFault.TheVariants.{EmptyCommand, TooManyCommands}
+use Rattle.moc_lines.specs.declared.fault.LineFault.TheVariants.{Coverage, EmptyCommand, TooManyCommands}
 use Rattle.moc_script.specs.declared.fault.StepFault.{StepFault}
 use Rattle.moc_script.specs.declared.fault.StepFault.TheVariants.{Line}
 use Rattle.moc_text.specs.Lemmas.{empty_within, read_within}
@@ -73,7 +73,7 @@ ok_in_script P (Err e) h = tt
 coverage_within : (text : List ℕ) → IfOk (coverage_of text) (λ a. IsWithin a pixels)
 coverage_within text = found (reading_of text) (read_within text)
   where
-    found : (r : Result (NumberSet × Option ℕ) TextError) → IfOk r (λ r. IsWithin r.0 pixels) → IfOk (result_map_both (λ read. read.0) fault_without_place r) (λ a. IsWithin a pixels)
+    found : (r : Result (NumberSet × Option ℕ) TextError) → IfOk r (λ r. IsWithin r.0 pixels) → IfOk (result_map_both (λ read. read.0) (λ e. Coverage e) r) (λ a. IsWithin a pixels)
     found (Ok r) h = h
     found (Err e) h = tt
 

@@ -112,22 +112,21 @@ NameIsOrder bytes number k =
     (d : Data) × IsJson bytes d
     × (k ≡ option_and_then (λ (m : List ℕ × Data). order_of_name m.0) (object_member number d))
 
--- In the text the name of this number, counted from 0 in byte order, is this one, if there is such a name.
-abbrev pub HasName : List ℕ → ℕ → Option (List ℕ) → Type 0
-HasName bytes number name =
-    (d : Data) × IsJson bytes d × (name ≡ option_map (λ (m : List ℕ × Data). m.0) (object_member number d))
-
 -- The text of a value, if there is one; how numbers with a fraction or an exponent are printed is not said.
 abbrev pub IsTextOf : Option Data → Option (List ℕ) → Type 0
 IsTextOf None text = text ≡ None
 IsTextOf (Some d) text =
     (bytes : List ℕ) × (text ≡ Some bytes) × (has_float d ≡ false → bytes ≡ compact_text d)
 
--- in the text the item of this place, from 0, in the array of the name of this number has this text, if it is there
-abbrev pub HasItem : List ℕ → ℕ → ℕ → Option (List ℕ) → Type 0
-HasItem bytes number place text =
-    (d : Data) × IsJson bytes d
-    × IsTextOf (option_and_then (λ (m : List ℕ × Data). at place m.1) (object_member number d)) text
+-- The text of a name, or of the item of this place in its array, where the name is given with its value.
+abbrev pub IsTextAt : Option ℕ → Option (List ℕ × Data) → Option (List ℕ) → Type 0
+IsTextAt None member text = text ≡ option_map (λ (m : List ℕ × Data). m.0) member
+IsTextAt (Some place) member text = IsTextOf (option_and_then (λ (m : List ℕ × Data). at place m.1) member) text
+
+-- In the text the name of this number, counted from 0 in byte order, or the item of this place, from 0, in its array
+-- has this text, if it is there.
+abbrev pub HasText : List ℕ → ℕ → Option ℕ → Option (List ℕ) → Type 0
+HasText bytes number item text = (d : Data) × IsJson bytes d × IsTextAt item (object_member number d) text
 
 -- The text is an object without a fault, which says this set and this deepest order.
 pub record SaysJson (bytes : List ℕ) (a : NumberSet) (deepest : Option ℕ) : Type 0 where

@@ -6,6 +6,7 @@ pub mod UniqList
 pub mod JsonForm
 pub mod JsonText
 pub mod Faults
+pub mod Names
 pub mod Places
 pub mod Private
 pub mod Lemmas

@@ -5,5 +5,5 @@ mod reading;
 mod writing;
 
 pub use error::{JsonError, JsonPlace};
-pub use reading::{json_item, json_name, json_name_order, json_syntax_error, read_json};
+pub use reading::{JsonSite, json_site, json_syntax_error, read_json};
 pub use writing::write_json;

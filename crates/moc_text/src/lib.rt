@@ -8,7 +8,6 @@ mod uniq;
 
 pub use ascii::{TextError, is_separator, read_ascii, readings_are_told, write_ascii};
 pub use json_form::{
-    JsonError, JsonPlace, json_item, json_name, json_name_order, json_syntax_error, read_json,
-    write_json,
+    JsonError, JsonPlace, JsonSite, json_site, json_syntax_error, read_json, write_json,
 };
 pub use uniq::{UniqError, read_uniq, write_uniq};

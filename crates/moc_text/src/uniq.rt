@@ -6,6 +6,7 @@ ghost use Rattle.std.specs.String.{string_bytes};
 ghost use Rattle.moc_sphere.specs.CellNumber.{uniq_of};
 ghost use Rattle.moc_lists.specs.RangeList.{NumberSet};
 ghost use Rattle.moc_text.specs.Lines.{lines_of};
+ghost use Rattle.moc_text.specs.Names.{name_of_uniq};
 ghost use Rattle.moc_text.specs.Private.UniqReading.{after_line, IsLineRead};
 ghost use Rattle.moc_text.specs.Faults.{Fails};
 ghost use Rattle.moc_text.specs.declared.uniq.UniqError.TheVariants.{BadByte, Memory, NotUniq};
@@ -30,6 +31,17 @@ pub enum UniqError {
 }
 
 impl UniqError {
+    /// The name of the fault, as it is printed.
+    pub fn name(self) -> &'static str
+        ensures { result.now ≡ name_of_uniq self }
+    {
+        match self {
+            UniqError::BadByte { .. } => "BadByte",
+            UniqError::NotUniq { .. } => "NotUniq",
+            UniqError::Memory => "Memory",
+        }
+    }
+
     /// The number of the line that is at fault, counted from 1; `None` for `Memory`.
     pub fn line(self) -> Option<usize>
         ensures { MatchOption result (self ≡ Memory) (λ line. (self ≡ BadByte line) ⊎ (self ≡ NotUniq line)) }

@@ -1,6 +1,7 @@
 //! Why an ASCII text could not be read or written.
 
 ghost use Rattle.std.specs.Prelude.{◌≡◌};
+ghost use Rattle.moc_text.specs.Names.{name_of_text};
 ghost use Rattle.moc_text.specs.Places.{fault_byte};
 ghost use Rattle.moc_text.specs.declared.ascii.error.TextError.TheVariants.{Memory};
 
@@ -30,6 +31,22 @@ pub enum TextError {
 }
 
 impl TextError {
+    /// The name of the fault, as it is printed.
+    pub fn name(self) -> &'static str
+        ensures { result.now ≡ name_of_text self }
+    {
+        match self {
+            TextError::BadByte { .. } => "BadByte",
+            TextError::NoOrder { .. } => "NoOrder",
+            TextError::OrderTooLarge { .. } => "OrderTooLarge",
+            TextError::CellTooLarge { .. } => "CellTooLarge",
+            TextError::Backwards { .. } => "Backwards",
+            TextError::Unfinished { .. } => "Unfinished",
+            TextError::Memory => "Memory",
+            TextError::TooCoarse => "TooCoarse",
+        }
+    }
+
     /// The place of the byte at which the text is at fault, counted from 0; `None` for what is no fault of a text:
     /// `Memory`, and the writer's `TooCoarse`.
     pub fn place(self) -> Option<usize>

@@ -1,6 +1,7 @@
 //! Why a JSON text could not be read or written.
 
 ghost use Rattle.std.specs.Prelude.{◌≡◌, ◌⊎◌, MatchOption};
+ghost use Rattle.moc_text.specs.Names.{name_of_json};
 ghost use Rattle.moc_text.specs.Places.{IsJsonFaultAt};
 ghost use Rattle.moc_text.specs.declared.json_form.error.JsonError.TheVariants.{Memory, NotJson, NotObject, TooCoarse};
 
@@ -38,6 +39,22 @@ pub struct JsonPlace {
 }
 
 impl JsonError {
+    /// The name of the fault, as it is printed.
+    pub fn name(self) -> &'static str
+        ensures { result.now ≡ name_of_json self }
+    {
+        match self {
+            JsonError::NotJson => "NotJson",
+            JsonError::NotObject => "NotObject",
+            JsonError::BadOrder { .. } => "BadOrder",
+            JsonError::NotArray { .. } => "NotArray",
+            JsonError::NotWhole { .. } => "NotWhole",
+            JsonError::CellTooLarge { .. } => "CellTooLarge",
+            JsonError::Memory => "Memory",
+            JsonError::TooCoarse => "TooCoarse",
+        }
+    }
+
     /// The place at which the text is at fault; `None` for what is no fault at a place: `NotJson` and `NotObject`,
     /// `Memory`, and the writer's `TooCoarse`.
     pub fn place(self) -> Option<JsonPlace>

@@ -1,5 +1,6 @@
 //! Reading the JSON form.
-ghost use Rattle.std.specs.Prelude.{◌≡◌, ℕ, IfErr, IfOk, IfSome, MatchResult, None, Option, Some, option_map, ◌⊎◌};
+ghost use Rattle.std.specs.Prelude.{◌≡◌, ℕ, IfErr, IfOk, IfSome, IsOkUnless, MatchResult, None, Option, Some, ◌⊎◌};
+ghost use Rattle.std.specs.Prelude.{option_map};
 ghost use Rattle.std.specs.String.{string_bytes};
 ghost use Rattle.std.specs.FinSet as set;
 ghost use Rattle.serde_json.specs.Find.{as_array};
@@ -10,12 +11,11 @@ ghost use Rattle.moc_text.specs.Faults.{Fails};
 ghost use Rattle.moc_text.specs.JsonForm.{order_of_name, whole_number, cell_pixels, element_fault, items_pixels};
 ghost use Rattle.moc_text.specs.JsonForm.{elements_fault};
 ghost use Rattle.moc_text.specs.JsonForm.{array_pixels, name_fault, members_pixels, members_fault, deepest_name};
-ghost use Rattle.moc_text.specs.JsonForm.{member_at as member_of, HasItem, HasName, IsJson, IsNotJson};
-ghost use Rattle.moc_text.specs.JsonForm.{NameIsOrder, SaysJson};
-ghost use Rattle.moc_text.specs.JsonForm.{IsJsonFault};
+ghost use Rattle.moc_text.specs.JsonForm.{member_at as member_numbered, HasText, IsJson, IsJsonFault, IsNotJson};
+ghost use Rattle.moc_text.specs.JsonForm.{IsTextAt, NameIsOrder, SaysJson, object_member};
 ghost use Rattle.moc_text.specs.Private.JsonReading.{held_order};
 
-use crate::json_form::error::JsonError;
+use crate::json_form::error::{JsonError, JsonPlace};
 use moc_ranges::{Coverage, CoverageBuilder};
 use moc_sphere::Order;
 use serde_json::{Map, Value};
@@ -185,7 +185,7 @@ pub fn read_json(alloc: Global, text: &[u8]) -> Result<(Coverage, Option<Order>)
 /// The name of this number, with its value; `None` where there is no such name.
 fn member_at(members: &Map<String, Value>, number: usize) -> Option<(&String, &Value)>
     ensures { option_map (λ m. (string_bytes m.0.now, view m.1.now)) result
-        ≡ member_of number (members_view members.now.entries) }
+        ≡ member_numbered number (members_view members.now.entries) }
 {
     let mut before = number;
     for (name, value) in members.iter() {
@@ -197,67 +197,67 @@ fn member_at(members: &Map<String, Value>, number: usize) -> Option<(&String, &V
     None
 }
 
-/// The order that the name with this number stands for in a JSON text. A fault tells a name by its number, counted from
-/// 0 in byte order; this is for who shows the fault, by what the reader of the text sees. `None` where the text is no
-/// object, has no such name, or the name is no order.
-///
-/// Refused with `NotJson` and `Memory` as `read_json`, whose first pass it makes again.
-pub fn json_name_order(alloc: Global, text: &[u8], name: usize) -> Result<Option<Order>, JsonError>
-    ensures order { IfOk result (λ k. NameIsOrder text.now name k) }
-    ensures fault { IfErr result (λ e. (e ≡ JsonError.Memory) ⊎ ((e ≡ JsonError.NotJson) × IsNotJson text.now)) }
+/// What stands at a place of a JSON text, for who shows a fault by what the reader of the text sees.
+#[derive(Debug, Drop)]
+pub struct JsonSite {
+    /// The order that the name stands for; `None` where it is no order, or there is no such name.
+    pub order: Option<Order>,
+    /// The name; of an item its text, compact as `serde_json` prints it. `None` where there is no such name or item.
+    pub text: Option<String>,
+}
+
+/// The name of this number of an object, with its value; `None` where the value is no object, or has no such name.
+fn member_of(value: &Value, number: usize) -> Option<(&String, &Value)>
+    ensures { option_map (λ m. (string_bytes m.0.now, view m.1.now)) result ≡ object_member number (view value.now) }
 {
-    let value = parse(alloc, text)?;
-    let Some(members) = value.as_object() else {
-        return Ok(None);
-    };
-    match member_at(members, name) {
-        Some((found, _)) => Ok(order_of(found.as_str())),
-        None => Ok(None),
+    match value.as_object() {
+        Some(members) => member_at(members, number),
+        None => None,
     }
 }
 
-/// The name of a JSON text that has this number, which a fault tells: counted from 0 in byte order. `None` where the
-/// text is no object, or has no such name.
+/// What stands at a place that a fault of a JSON text tells (`JsonError::place`). Where the text is no object, nothing
+/// stands at any place.
 ///
 /// Refused with `NotJson` and `Memory` as `read_json`, whose first pass it makes again.
-pub fn json_name(alloc: Global, text: &[u8], name: usize) -> Result<Option<String>, JsonError>
-    ensures name { IfOk result (λ found. HasName text.now name (option_map string_bytes found)) }
+pub fn json_site(alloc: Global, text: &[u8], place: JsonPlace) -> Result<JsonSite, JsonError>
+    ensures order { IfOk result (λ site. NameIsOrder text.now place.name site.order) }
+    ensures text { IfOk result (λ site. HasText text.now place.name place.item (option_map string_bytes site.text)) }
     ensures fault { IfErr result (λ e. (e ≡ JsonError.Memory) ⊎ ((e ≡ JsonError.NotJson) × IsNotJson text.now)) }
 {
     let value = parse(alloc, text)?;
-    let Some(members) = value.as_object() else {
-        return Ok(None);
-    };
-    match member_at(members, name) {
-        Some((found, _)) => Ok(Some(String::from_str(alloc, found.as_str())?)),
-        None => Ok(None),
+    match member_of(&value, place.name) {
+        Some((name, value)) => site_in(alloc, name, value, place.item),
+        None => Ok(JsonSite {
+            order: None,
+            text: None,
+        }),
     }
 }
 
-/// The text of an item, compact as `serde_json` prints it, by its place in the array of the name of this number, which
-/// a fault tells, both counted from 0. `None` where there is no such item.
-///
-/// Refused with `NotJson` and `Memory` as `read_json`, whose first pass it makes again.
-pub fn json_item(
+/// What stands at a name with this value, or at an item of it.
+fn site_in(
     alloc: Global,
-    text: &[u8],
-    name: usize,
-    place: usize,
-) -> Result<Option<String>, JsonError>
-    ensures item { IfOk result (λ found. HasItem text.now name place (option_map string_bytes found)) }
-    ensures fault { IfErr result (λ e. (e ≡ JsonError.Memory) ⊎ ((e ≡ JsonError.NotJson) × IsNotJson text.now)) }
+    name: &String,
+    value: &Value,
+    item: Option<usize>,
+) -> Result<JsonSite, JsonError>
+    ensures order { IfOk result (λ site. site.order ≡ order_of_name (string_bytes name.now)) }
+    ensures text { IfOk result (λ site. IsTextAt item (Some (string_bytes name.now, view value.now))
+        (option_map string_bytes site.text)) }
+    ensures memory { IsOkUnless result JsonError.Memory }
 {
-    let value = parse(alloc, text)?;
-    let Some(members) = value.as_object() else {
-        return Ok(None);
+    let text = match item {
+        None => Some(String::from_str(alloc, name.as_str())?),
+        Some(place) => match value.get(place) {
+            Some(item) => Some(item.to_string(alloc)?),
+            None => None,
+        },
     };
-    let Some((_, array)) = member_at(members, name) else {
-        return Ok(None);
-    };
-    match array.get(place) {
-        Some(item) => Ok(Some(item.to_string(alloc)?)),
-        None => Ok(None),
-    }
+    Ok(JsonSite {
+        order: order_of(name.as_str()),
+        text,
+    })
 }
 
 /// Where a text breaks the grammar of JSON: the line, counted from 1, and the column at which `serde_json` stops
