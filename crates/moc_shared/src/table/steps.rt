@@ -107,7 +107,7 @@ pub(crate) fn end_call<C: Closing>(
 /// Puts the pointer into the only part that is held, and gives it back. With that the call of one command goes through.
 ///
 /// The command and its reply are handed over for the contract alone, which speaks of them.
-pub(crate) fn end_alone<C: Closing>(
+pub(crate) fn end_single<C: Closing>(
     table: &Words,
     seat: &mut Token,
     b: usize,

@@ -16,48 +16,51 @@ wait_slot-pointer-requires-clause-carried g c = ap (λ (l : List (ℕ × Option 
 
 pub wait_slot-pointer-requires-clause-other : goal.wait_slot-pointer-requires-clause-other
 wait_slot-pointer-requires-clause-other g c =
-    λ y h. none_in (note c.args.b y) (subst (λ (l : List PartNote). Contains l (note c.args.b y)) c.requires.map.no_part h)
+    λ y h. none_in (note c.from-b.result y) (subst (λ (l : List PartNote). Contains l (note c.from-b.result y)) c.requires.map.no_part h)
 
-pub answer_alone-requires-clause-held : goal.answer_alone-requires-clause-held
-answer_alone-requires-clause-held g c =
+pub answer_single-requires-clause-held : goal.answer_single-requires-clause-held
+answer_single-requires-clause-held g c =
     let t = c.wait_slot-pointer.ensures.took in
     let v = with_misses c.args.client.now.seat.me.0 t.0 in
-    holds_alone c.args.client.now.seat.me.0 c.wait_slot-pointer.new.seat.me c.args.b (arc_value c.wait_slot-pointer.result) t.0
-    c.requires.map.one (one_held v c.wait_slot-pointer.new.seat.me.0 c.args.b (shared c.wait_slot-pointer.result) c.requires.map.no_part t.1)
+    holds_alone c.args.client.now.seat.me.0 c.wait_slot-pointer.new.seat.me c.from-b.result (arc_value c.wait_slot-pointer.result) t.0
+    c.requires.map.one (one_held v c.wait_slot-pointer.new.seat.me.0 c.from-b.result (shared c.wait_slot-pointer.result) c.requires.map.no_part t.1)
     c.wait_slot-pointer.ensures.carried
+
+pub answer_single-requires-clause-single : goal.answer_single-requires-clause-single
+answer_single-requires-clause-single g c = subst (λ (b : ℕ). TakesJust c.args.command.now b) (sym (c.from-b.ensures ∙ c.get.ensures.value)) c.requires.single
 
 pub returns-clause-map : goal.returns-clause-map
 returns-clause-map g c =
     let t = c.wait_slot-pointer.ensures.took in
     let v = with_misses c.args.client.now.seat.me.0 t.0 in
     idle_after c.args.self.now c.args.client.now record
-    { number = c.args.client.now.number; seat = c.answer_alone.new.seat } c.requires.map
-    (stays_alone c.args.client.now.seat.me.0 c.wait_slot-pointer.new.seat.me.0 c.answer_alone.new.seat.me.0 c.args.b
+    { number = c.args.client.now.number; seat = c.answer_single.new.seat } c.requires.map
+    (stays_alone c.args.client.now.seat.me.0 c.wait_slot-pointer.new.seat.me.0 c.answer_single.new.seat.me.0 c.from-b.result
     (shared c.wait_slot-pointer.result) t.0
-    (one_held v c.wait_slot-pointer.new.seat.me.0 c.args.b (shared c.wait_slot-pointer.result) c.requires.map.no_part t.1)
-    (stays_answered (c.args.command.now ∷ []) c.wait_slot-pointer.new.seat.me.0 c.answer_alone.new.seat.me.0 c.answer_alone.result
-    c.answer_alone.ensures.ok c.answer_alone.ensures.err))
-    refl (c.answer_alone.ensures.same.0 ∙ c.wait_slot-pointer.ensures.same.0 ∙ c.requires.map.table)
-    c.answer_alone.ensures.idle
+    (one_held v c.wait_slot-pointer.new.seat.me.0 c.from-b.result (shared c.wait_slot-pointer.result) c.requires.map.no_part t.1)
+    (stays_answered (c.args.command.now ∷ []) c.wait_slot-pointer.new.seat.me.0 c.answer_single.new.seat.me.0 c.answer_single.result
+    c.answer_single.ensures.ok c.answer_single.ensures.err))
+    refl (c.answer_single.ensures.same.0 ∙ c.wait_slot-pointer.ensures.same.0 ∙ c.requires.map.table)
+    c.answer_single.ensures.idle
 
 pub returns-clause-ok : goal.returns-clause-ok
 returns-clause-ok g c =
     let t = c.wait_slot-pointer.ensures.took in
     let v = with_misses c.args.client.now.seat.me.0 t.0 in
-    IfOk-weaker c.answer_alone.result _ _
-    (λ reply told. ended_alone c.args.command.now c.args.b c.requires.alone.1.met c.args.self.now reply
-    c.args.client.now.number c.args.client.now.seat.me.0 c.wait_slot-pointer.new.seat.me.0 c.answer_alone.new.seat.me.0
+    IfOk-weaker c.answer_single.result _ _
+    (λ reply told. ended_alone c.args.command.now c.from-b.result (taken c).met c.args.self.now reply
+    c.args.client.now.number c.args.client.now.seat.me.0 c.wait_slot-pointer.new.seat.me.0 c.answer_single.new.seat.me.0
     (shared c.wait_slot-pointer.result) t.0 c.requires.map.start c.requires.map.clients c.requires.map.number
-    (one_held v c.wait_slot-pointer.new.seat.me.0 c.args.b (shared c.wait_slot-pointer.result) c.requires.map.no_part t.1) t.2 told)
-    c.answer_alone.ensures.ok
+    (one_held v c.wait_slot-pointer.new.seat.me.0 c.from-b.result (shared c.wait_slot-pointer.result) c.requires.map.no_part t.1) t.2 told)
+    c.answer_single.ensures.ok
 
 pub returns-clause-err : goal.returns-clause-err
 returns-clause-err g c =
     let t = c.wait_slot-pointer.ensures.took in
     let v = with_misses c.args.client.now.seat.me.0 t.0 in
-    on_err_weaker c.answer_alone.result
-    (λ gave. undone_alone c.args.command.now c.args.b c.requires.alone.1.met c.args.self.now
-    c.args.client.now.seat.me.0 c.wait_slot-pointer.new.seat.me.0 c.answer_alone.new.seat.me.0 (shared c.wait_slot-pointer.result) t.0
+    on_err_weaker c.answer_single.result
+    (λ gave. undone_alone c.args.command.now c.from-b.result (taken c).met c.args.self.now
+    c.args.client.now.seat.me.0 c.wait_slot-pointer.new.seat.me.0 c.answer_single.new.seat.me.0 (shared c.wait_slot-pointer.result) t.0
     c.requires.map.clients
-    (one_held v c.wait_slot-pointer.new.seat.me.0 c.args.b (shared c.wait_slot-pointer.result) c.requires.map.no_part t.1) t.2 gave)
-    c.answer_alone.ensures.err
+    (one_held v c.wait_slot-pointer.new.seat.me.0 c.from-b.result (shared c.wait_slot-pointer.result) c.requires.map.no_part t.1) t.2 gave)
+    c.answer_single.ensures.err
