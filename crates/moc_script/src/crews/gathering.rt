@@ -107,6 +107,7 @@ pub(crate) fn take_in_all(
     }
     match all {
         Some(client) => Ok((client, answers)),
+        // There is a lane.
         None => unreachable!(),
     }
 }

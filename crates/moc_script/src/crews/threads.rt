@@ -113,6 +113,7 @@ fn work_alone<R: Wait, G: Gate>(
         return Err(LanesError::Memory { line: 0 });
     };
     let mut clients = clients;
+    // One lane has one client.
     let Some(client) = clients.pop() else {
         unreachable!()
     };

@@ -91,6 +91,7 @@ pub(crate) fn end_all(
     ensures ended { (seat.new.me.1 ≡ [])
         × EndsBatch batch.now (replies_to found.now batch.now) [] seat.old.me.0 seat.new.me.0 }
 {
+    // A footprint is never empty, and there is a pointer at the highest place that has one.
     let Some(b) = highest(edited) else {
         unreachable!()
     };

@@ -68,6 +68,7 @@ fn answer_in(alloc: Global, command: &Command, pointer: &mut Pointer) -> Result<
     match command {
         Command::Add(x) => Ok(Reply::Changed(insert_shared(alloc, pointer, &x.set)?)),
         Command::Count(x) => Ok(Reply::Total(pointer.count_common(&x.set))),
+        // Only these two take a single part.
         _ => unreachable!(),
     }
 }

@@ -43,6 +43,7 @@ pub(crate) fn wait_slot<R: Wait>(
             Err(_) => thread::yield_now(),
         }
     }
+    // The loop has no end.
     unreachable!()
 }
 

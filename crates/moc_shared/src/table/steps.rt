@@ -45,6 +45,7 @@ pub(crate) fn take_slot(table: &Words, seat: &mut Token, b: usize, mark: u64) ->
 {
     let found = take_part(table, seat, b, mark);
     if found == 0 {
+        // The slot of a part that is free has its pointer.
         let Some(pointer) = table.exchange(seat, index(b), None) else {
             unreachable!()
         };

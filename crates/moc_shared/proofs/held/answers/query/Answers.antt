@@ -1,3 +1,4 @@
+use Rattle.std.proofs.Common.{rules}
 use Rattle.moc_shared.specs.Private.Slots.{replies_to}
 use Rattle.moc_shared.proofs.Promises.{ends_replied}
 use Rattle.moc_shared.proofs.held.answers.query.Goals as goal
