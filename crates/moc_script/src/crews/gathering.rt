@@ -37,10 +37,7 @@ fn first_unfinished(ends: &[Ending]) -> Option<Unfinished>
 }
 
 /// The lanes' ends, if all went well; or the line at which the first lane was refused memory, or else stopped.
-pub(crate) fn all_done(
-    alloc: Global,
-    ends: Vec<Ending>,
-) -> Result<Vec<LaneEnd>, LanesError>
+pub(crate) fn all_done(alloc: Global, ends: Vec<Ending>) -> Result<Vec<LaneEnd>, LanesError>
     ensures done { IfOk result (λ done. (map : SharedMap) (lanes : ℕ) (input : List ℕ)
         → AreLaneEnds map lanes input ends.items → AreDone map lanes input done.items) }
     ensures first { IfErr result (λ e. NamesFirst ends.items e) }
