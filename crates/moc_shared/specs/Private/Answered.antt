@@ -8,8 +8,8 @@ use Rattle.moc_shared.specs.declared.map.SharedMap.{SharedMap}
 use Rattle.moc_shared.specs.Clients.{number_of, record_of, call_of, IsClientOf, EndsWaiting, LacksMemoryWaiting}
 
 -- the client asked the map a command: its call went through with this reply, or memory ran out
-pub record IsAnswered (of : SharedMap) (c : Command) (old new : Client) (result : Result Reply Memory) : Type 0 where
-  pub map : IsClientOf of new
+pub record IsAnswered (the : SharedMap) (c : Command) (old new : Client) (result : Result Reply Memory) : Type 0 where
+  pub map : IsClientOf the new
   pub number : number_of new ≡ number_of old
-  pub ok : IfOk result (λ r. EndsWaiting of (call_of old (c ∷ []) (r ∷ [])) (record_of old) (record_of new))
-  pub err : OnErr result (LacksMemoryWaiting of (c ∷ []) (record_of old) (record_of new))
+  pub ok : IfOk result (λ r. EndsWaiting the (call_of old (c ∷ []) (r ∷ [])) (record_of old) (record_of new))
+  pub err : OnErr result (LacksMemoryWaiting the (c ∷ []) (record_of old) (record_of new))
