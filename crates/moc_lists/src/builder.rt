@@ -1,8 +1,7 @@
 //! A list of ranges while it grows at its end.
 ghost use Rattle.std.specs.Prelude.{◌≡◌, ◌<◌, ◌≤◌, ◌++◌, ◌∷◌, ◌||◌, [], List, ℕ, length, IfOk, OnOk, MatchOption};
 ghost use Rattle.std.specs.Bool.{OnTrue, OnFalse};
-ghost use Rattle.moc_lists.specs.RangeList.{pixel_count};
-ghost use Rattle.moc_lists.specs.RangeList.{IsNormal};
+ghost use Rattle.moc_lists.specs.RangeList.{pixel_count, IsNormal};
 ghost use Rattle.moc_lists.specs.Lemmas.Members.{in_ranges, in_range};
 ghost use Rattle.moc_lists.specs.Blocks.{joining};
 ghost use Rattle.moc_lists.specs.Private.Built.{ranges_of, none_grown, CanJoin, CanCarry, Carries, EndsBelow};

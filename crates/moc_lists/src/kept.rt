@@ -1,8 +1,7 @@
 //! The ranges of a list while it grows at its end: in nodes, in blocks, and behind them.
 ghost use Rattle.std.specs.Prelude.{◌≡◌, ◌+◌, ◌<◌, ◌≤◌, ◌++◌, ◌∷◌, ◌||◌, [], List, ℕ, length, IfOk, OnOk};
 ghost use Rattle.std.specs.Bool.{OnTrue, OnFalse};
-ghost use Rattle.moc_lists.specs.RangeList.{pixel_count};
-ghost use Rattle.moc_lists.specs.RangeList.{IsNormal};
+ghost use Rattle.moc_lists.specs.RangeList.{pixel_count, IsNormal};
 ghost use Rattle.moc_lists.specs.Lemmas.Members.{in_ranges, in_range};
 ghost use Rattle.moc_lists.specs.Blocks.{joining, AreBlocks};
 ghost use Rattle.moc_lists.specs.Private.Blocks.{last_of};

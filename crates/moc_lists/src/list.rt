@@ -1,7 +1,6 @@
 //! The one normal list of ranges of a set, kept in blocks.
 ghost use Rattle.std.specs.Prelude.{◌≡◌, ◌<◌, ◌≤◌, [], ◌∷◌, length, IfOk, MatchOption};
-ghost use Rattle.moc_lists.specs.RangeList.{pixel_count};
-ghost use Rattle.moc_lists.specs.RangeList.{IsNormal, set_of};
+ghost use Rattle.moc_lists.specs.RangeList.{pixel_count, IsNormal, set_of};
 ghost use Rattle.moc_lists.specs.Lemmas.Members.{in_ranges};
 ghost use Rattle.moc_lists.specs.Blocks.{joining, AreBlocks, IsSearchOf};
 ghost use Rattle.moc_lists.specs.Private.Blocks.{IsStored, rest_of, width_of};

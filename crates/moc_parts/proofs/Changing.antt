@@ -86,10 +86,10 @@ walk_begins change old parts coming leaves is = record {
   count = size_none (symmetric (changed change old) old);
 }
 
-pub turn_comes : (change : Change) → IsChange change → (old now : NumberSet) (turned n p b : ℕ) (coming others : List ℕ) → b ≡ p → coming ≡ p ∷ others
+pub turn_comes : (change : Change) → IsChange change → (old now : NumberSet) (turned n b : ℕ) (coming others : List ℕ) → coming ≡ b ∷ others
     → IsHalfway change old now turned n coming → IsTurn change old now turned b others
-turn_comes change is old now turned n p b coming others same next h =
-    let at = next_ahead (λ k. set.contains h.parts k) n b coming others h.ahead (next ∙ ap (λ k. k ∷ others) (sym same)) in
+turn_comes change is old now turned n b coming others next h =
+    let at = next_ahead (λ k. set.contains h.parts k) n b coming others h.ahead next in
     let below = at.below in
     let stays = left change is old h.parts h.leaves n b at.after (omega arith) at.between in
     record {

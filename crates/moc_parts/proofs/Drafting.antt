@@ -149,6 +149,11 @@ pub found_of : (part : Option (Bor NumberSet)) (nothing : Bor NumberSet) → not
 found_of None nothing e = e
 found_of (Some list) nothing e = refl
 
+-- the list that was made, or else the one that was found
+pub copied_or : (list : Option (Bor NumberSet)) (found : Bor NumberSet) → (unwrap_or list found).now ≡ unwrap_or (option_copied list) found.now
+copied_or None found = refl
+copied_or (Some list) found = refl
+
 -- ---- a draft
 
 pub found_twelve : (found : List NumberSet) (made : List (Option NumberSet)) → AreParts (current_lists found made) → length found ≡ 12

@@ -1,12 +1,12 @@
 //! Changes of a set that are made part by part.
-ghost use Rattle.std.specs.Prelude.{◌≡◌, ◌<◌, IfOk, None};
+ghost use Rattle.std.specs.Prelude.{◌≡◌, IfOk, None};
 ghost use Rattle.std.specs.FinSet as set;
 ghost use Rattle.moc_ranges.specs.Cells.{degrade};
 ghost use Rattle.moc_ranges.specs.Operations.{complement, part_of};
 ghost use Rattle.moc_parts.specs.Private.Changes.{changed_part, Alters, IsChange, LeavesOthers};
 
 use crate::footprint::parts_met;
-use crate::part::PartSet;
+use crate::part::{Part, PartSet};
 use moc_ranges::{Coverage, Memory};
 use moc_sphere::Order;
 use std::alloc::Global;
@@ -46,17 +46,16 @@ impl<'a> Change<'a> {
     }
 
     /// What the change makes of the list of one part.
-    pub(crate) fn part(&self, alloc: Global, list: &Coverage, b: u8) -> Result<Altered, Memory>
-        requires part { b < 12 }
+    pub(crate) fn part(&self, alloc: Global, list: &Coverage, part: Part) -> Result<Altered, Memory>
         requires change { IsChange self.now }
-        requires list { part_of list.now b ≡ list.now }
-        ensures { IfOk result (λ new. Alters list.now (changed_part self.now list.now b) new) }
+        requires list { part_of list.now part ≡ list.now }
+        ensures { IfOk result (λ new. Alters list.now (changed_part self.now list.now part) new) }
     {
         match *self {
-            Change::Join(s) => join(alloc, list, &s.part(alloc, b)?),
+            Change::Join(s) => join(alloc, list, &s.part(alloc, part.get())?),
             Change::Leave(s) => leave(alloc, list, s),
             Change::Share(s) => share(alloc, list, s),
-            Change::Invert => invert(alloc, list, b),
+            Change::Invert => invert(alloc, list, part),
             Change::Degrade(order) => degrade(alloc, list, order),
         }
     }
@@ -109,10 +108,10 @@ fn share(alloc: Global, list: &Coverage, others: &Coverage) -> Result<Altered, M
 }
 
 /// The pixels of a part that its list lacks.
-fn invert(alloc: Global, list: &Coverage, b: u8) -> Result<Altered, Memory>
-    ensures { IfOk result (λ new. Alters list.now (part_of (complement list.now) b) new) }
+fn invert(alloc: Global, list: &Coverage, part: Part) -> Result<Altered, Memory>
+    ensures { IfOk result (λ new. Alters list.now (part_of (complement list.now) part) new) }
 {
-    let new = list.complement(alloc)?.part(alloc, b)?;
+    let new = list.complement(alloc)?.part(alloc, part.get())?;
     Ok(Altered {
         pixels: list.count() + new.count(),
         list: Some(new),

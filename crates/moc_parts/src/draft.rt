@@ -73,28 +73,22 @@ impl<'a> Draft<'a> {
     }
 
     /// The set of one part.
-    fn part(&self, b: u8) -> &Coverage
-        requires { b < 12 }
-        ensures list { result.now ≡ part_of self.now.set b }
+    fn part(&self, part: Part) -> &Coverage
+        ensures list { result.now ≡ part_of self.now.set part }
         ensures within { IsWithin self.now.set pixels }
     {
-        match self.made.get(b) {
-            Some(list) => list,
-            None => {
-                let found = &self.found[..];
-                found[usize::from(b)]
-            }
-        }
+        let found = &self.found[..];
+        let found = found[usize::from(part.get())];
+        self.made.get(part).unwrap_or(found)
     }
 
     /// Makes the list of one part anew. Refused where memory runs out.
-    fn put(&mut self, b: u8, list: Coverage) -> Result<(), Memory>
-        requires part { b < 12 }
-        requires list { part_of list b ≡ list }
-        ensures set { OnOk result (self.new.set ≡ with_part self.old.set b list) }
+    fn put(&mut self, part: Part, list: Coverage) -> Result<(), Memory>
+        requires { part_of list part ≡ list }
+        ensures set { OnOk result (self.new.set ≡ with_part self.old.set part list) }
         ensures found { self.new.found ≡ self.old.found }
     {
-        self.made.put(b, list)?;
+        self.made.put(part, list)?;
         Ok(())
     }
 
@@ -120,26 +114,24 @@ impl<'a> Draft<'a> {
         self.lies_in_sky();
         let mut turned = 0;
         for part in change.parts() {
-            let b = part.get();
-            let Altered { list: new, pixels } = change.part(alloc, self.part(b), b)?;
+            let Altered { list: new, pixels } = change.part(alloc, self.part(part), part)?;
             turned += pixels;
             if let Some(list) = new {
-                self.put(b, list)?;
+                self.put(part, list)?;
             }
         }
         Ok(turned)
     }
 
     /// How many pixels of one part the set has in common with another.
-    fn count_common_in(&self, b: u8, other: &Coverage) -> u64
-        requires { b < 12 }
-        ensures { result ≡ set.len (set.intersection (part_of self.now.set b) other.now) }
+    fn count_common_in(&self, part: Part, other: &Coverage) -> u64
+        ensures { result ≡ set.len (set.intersection (part_of self.now.set part) other.now) }
     {
-        let part = self.part(b);
-        if other.covers_base_pixel(b) {
-            part.count()
+        let list = self.part(part);
+        if other.covers_base_pixel(part.get()) {
+            list.count()
         } else {
-            part.count_common(other)
+            list.count_common(other)
         }
     }
 
@@ -149,7 +141,7 @@ impl<'a> Draft<'a> {
     {
         let mut total = 0;
         for part in parts_met(other) {
-            total += self.count_common_in(part.get(), other);
+            total += self.count_common_in(part, other);
         }
         total
     }
@@ -159,7 +151,7 @@ impl<'a> Draft<'a> {
         ensures { result ≡ meets self.now.set other.now }
     {
         for part in parts_met(other) {
-            if self.part(part.get()).meets(other) {
+            if self.part(part).meets(other) {
                 return true;
             }
         }
@@ -167,16 +159,15 @@ impl<'a> Draft<'a> {
     }
 
     /// The pixels of one part that the set has in common with another. A part that the other covers is copied whole.
-    fn common_in(&self, alloc: Global, b: u8, other: &Coverage) -> Result<Coverage, Memory>
-        requires { b < 12 }
-        ensures common { IfOk result (λ c. c ≡ set.intersection (part_of self.now.set b) other.now) }
+    fn common_in(&self, alloc: Global, part: Part, other: &Coverage) -> Result<Coverage, Memory>
+        ensures common { IfOk result (λ c. c ≡ set.intersection (part_of self.now.set part) other.now) }
         ensures within { IsWithin self.now.set pixels }
     {
-        let part = self.part(b);
-        if other.covers_base_pixel(b) {
-            Ok(part.try_copy(alloc)?)
+        let list = self.part(part);
+        if other.covers_base_pixel(part.get()) {
+            Ok(list.try_copy(alloc)?)
         } else {
-            Ok(part.intersection(alloc, other)?)
+            Ok(list.intersection(alloc, other)?)
         }
     }
 
@@ -186,7 +177,7 @@ impl<'a> Draft<'a> {
     {
         let mut common = Coverage::empty(alloc);
         for part in parts_met(other) {
-            common = joined(alloc, common, self.common_in(alloc, part.get(), other)?)?;
+            common = joined(alloc, common, self.common_in(alloc, part, other)?)?;
         }
         Ok(common)
     }
@@ -212,11 +203,11 @@ impl<'a> Draft<'a> {
         let Draft { found, made } = self;
         let mut lists = made;
         for part in Part::ALL {
-            let b = part.get();
-            if given[usize::from(b)].is_none() {
-                lists.clear(b);
-            } else if lists.get(b).is_none() {
-                lists.put(b, found[usize::from(b)].try_copy(alloc)?)?;
+            let b = usize::from(part.get());
+            if given[b].is_none() {
+                lists.clear(part);
+            } else if lists.get(part).is_none() {
+                lists.put(part, found[b].try_copy(alloc)?)?;
             }
         }
         Ok(lists)

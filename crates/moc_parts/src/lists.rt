@@ -3,6 +3,7 @@ ghost use Rattle.std.specs.Prelude.{◌≡◌, ◌<◌, None, Some, OnOk, OnErr,
 ghost use Rattle.std.specs.Option.{option_copied};
 ghost use Rattle.moc_parts.specs.Private.Drafts.{place_from};
 
+use crate::part::Part;
 use moc_ranges::{Coverage, Memory};
 use std::alloc::Global;
 use std::marker::Model;
@@ -10,7 +11,7 @@ use std::marker::Model;
 /// Lists of some of the twelve parts, each with its part. Contracts see them as twelve places.
 #[derive(Debug, Drop)]
 pub(crate) struct Lists {
-    lists: Vec<(u8, Option<Coverage>)>,
+    lists: Vec<(Part, Option<Coverage>)>,
 }
 
 impl Model for Lists {
@@ -38,51 +39,48 @@ impl Lists {
     }
 
     /// The list of a part.
-    pub(crate) fn get(&self, b: u8) -> Option<&Coverage>
-        requires { b < 12 }
-        ensures { option_copied result ≡ get_or self.now b None }
+    pub(crate) fn get(&self, part: Part) -> Option<&Coverage>
+        ensures { option_copied result ≡ get_or self.now part None }
     {
-        match place_of(&self.lists, b) {
+        match place_of(&self.lists, part) {
             Some(i) => self.lists[i].1.as_ref(),
             None => None,
         }
     }
 
     /// Puts a list into the place of a part, over the one that was there. Refused where memory runs out.
-    pub(crate) fn put(&mut self, b: u8, list: Coverage) -> Result<(), Memory>
-        requires { b < 12 }
-        ensures put { OnOk result (self.new ≡ set_at self.old b (Some list)) }
+    pub(crate) fn put(&mut self, part: Part, list: Coverage) -> Result<(), Memory>
+        ensures put { OnOk result (self.new ≡ set_at self.old part (Some list)) }
         ensures unchanged { OnErr result (self.new ≡ self.old) }
+        ensures in_range { part < 12 }
     {
-        match place_of(&self.lists, b) {
+        match place_of(&self.lists, part) {
             Some(i) => {
                 self.lists[i].1 = Some(list);
                 Ok(())
             }
             None => {
-                self.lists.push((b, Some(list)))?;
+                self.lists.push((part, Some(list)))?;
                 Ok(())
             }
         }
     }
 
     /// Leaves the place of a part empty. Takes no memory.
-    pub(crate) fn clear(&mut self, b: u8)
-        requires { b < 12 }
-        ensures { self.new ≡ set_at self.old b None }
+    pub(crate) fn clear(&mut self, part: Part)
+        ensures { self.new ≡ set_at self.old part None }
     {
-        if let Some(i) = place_of(&self.lists, b) {
+        if let Some(i) = place_of(&self.lists, part) {
             self.lists[i].1 = None;
         }
     }
 
     /// Takes the list of a part out of its place. Takes no memory.
-    pub(crate) fn take(&mut self, b: u8) -> Option<Coverage>
-        requires { b < 12 }
-        ensures taken { result ≡ get_or self.old b None }
-        ensures left { self.new ≡ set_at self.old b None }
+    pub(crate) fn take(&mut self, part: Part) -> Option<Coverage>
+        ensures taken { result ≡ get_or self.old part None }
+        ensures left { self.new ≡ set_at self.old part None }
     {
-        match place_of(&self.lists, b) {
+        match place_of(&self.lists, part) {
             Some(i) => self.lists[i].1.take(),
             None => None,
         }
@@ -90,11 +88,13 @@ impl Lists {
 }
 
 /// Where the list of a part is: the first with that part.
-fn place_of(lists: &[(u8, Option<Coverage>)], b: u8) -> Option<usize>
-    ensures { result ≡ place_from 0 lists.now b }
+fn place_of(lists: &[(Part, Option<Coverage>)], part: Part) -> Option<usize>
+    ensures place { result ≡ place_from 0 lists.now part }
+    ensures in_range { part < 12 }
 {
-    for (i, (part, _)) in lists.iter().enumerate() {
-        if *part == b {
+    let number = part.get();
+    for (i, (other, _)) in lists.iter().enumerate() {
+        if other.get() == number {
             return Some(i);
         }
     }

@@ -179,7 +179,7 @@ fn put_all(parts: &mut [Coverage], mut made: Lists)
     ensures { parts.new ≡ current_lists parts.old made }
 {
     for part in Part::ALL {
-        if let Some(list) = made.take(part.get()) {
+        if let Some(list) = made.take(part) {
             parts[usize::from(part.get())] = list;
         }
     }

@@ -49,7 +49,7 @@ impl Prepared {
         ensures left { self.new.lists ≡ set_at self.old.lists part None }
         ensures replies { self.new.replies ≡ self.old.replies }
     {
-        self.lists.take(part.get())
+        self.lists.take(part)
     }
 
     /// The replies alone; the lists that were not taken are given up. Takes no memory.

@@ -36,9 +36,8 @@ impl<'a> Model for CellRanges<'a> {
 }
 
 ghost use Rattle.std.specs.Prelude.{◌≡◌, ◌++◌, ◌<◌, ◌≤◌, [], length, take};
-ghost use Rattle.moc_lists.specs.RangeList.{IsNormal};
+ghost use Rattle.moc_lists.specs.RangeList.{IsNormal, pixel_count};
 ghost use Rattle.moc_ranges.specs.Private.CellRuns.{pieces_along, pieces_of, whole_in};
-ghost use Rattle.moc_lists.specs.RangeList.{pixel_count};
 
 /// The cells of an order that lie whole in a range: the index of the first, and the one after the
 /// last.

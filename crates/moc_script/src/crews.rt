@@ -59,6 +59,7 @@ fn answer_all<R: Threads + Wait + Sync, G: Gate + Sync>(
     let lanes = lanes.get();
     let (map, clients) = match SharedMap::new(alloc, start, lanes) {
         Ok((map, clients)) => (map, clients),
+        // Lanes are 1 to 64.
         Err(NewError::BadCount) => unreachable!(),
         Err(NewError::Memory) => return Err(LanesError::Memory { line: 0 }),
     };
@@ -69,6 +70,7 @@ fn answer_all<R: Threads + Wait + Sync, G: Gate + Sync>(
     };
     let set = match map.close(client) {
         Ok(set) => set,
+        // The client stands for all, and holds no part.
         Err(CloseError::Midway { part: _ }) => unreachable!(),
         Err(CloseError::Memory) => return Err(LanesError::MemoryBehind),
     };

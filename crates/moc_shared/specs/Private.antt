@@ -8,3 +8,4 @@ pub mod Opening
 pub mod Slots
 pub mod Starts
 pub mod Held
+pub mod Answered

@@ -148,7 +148,8 @@ impl World {
             return Some(StepError::Idle);
         };
         match step {
-            Step::Begin { .. } => None,
+            // Asked above.
+            Step::Begin { .. } => unreachable!(),
             Step::Take { .. } => self.take_refusal(client),
             Step::Edit { part, .. } => client.edit_refusal(*part),
             Step::Give { part, .. } => client.give_refusal(*part),
@@ -218,11 +219,13 @@ impl World {
         ensures after { OnOk result (self.new ≡ world_after batches self.old (machine.Step.Take client)) }
         ensures unchanged { OnErr result (self.new ≡ self.old) }
     {
+        // A step that is permitted is one of a client that is midway.
         let Some(midway) = self.clients.get(client) else {
-            return Ok(());
+            unreachable!()
         };
+        // It is permitted where there is a part left to take.
         let Some(part) = midway.next_part() else {
-            return Ok(());
+            unreachable!()
         };
         let list = self.parts[usize::from(part.get())].share()?;
         self.clients.change(client, Change::Take(part, list));
@@ -236,16 +239,18 @@ impl World {
         ensures after { OnOk result (self.new ≡ world_after batches self.old (machine.Step.Edit client part)) }
         ensures unchanged { OnErr result (self.new ≡ self.old) }
     {
+        // A step that is permitted is one of a client that is midway.
         let Some(midway) = self.clients.get(client) else {
-            return Ok(());
+            unreachable!()
         };
         if midway.place().is_some() {
             return self.edit_again(client, part);
         }
         let begin = midway.operation();
         let made = midway.make(self.alloc, self.order.len())?;
+        // A part that is held is in the footprint, and has a list.
         let Some(list) = made.list(part) else {
-            return Ok(());
+            unreachable!()
         };
         let list = list.share()?;
         let reply = None;
@@ -267,11 +272,13 @@ impl World {
         ensures after { OnOk result (self.new ≡ world_after batches self.old (machine.Step.Edit client part)) }
         ensures unchanged { OnErr result (self.new ≡ self.old) }
     {
+        // A step that is permitted is one of a client that is midway.
         let Some(midway) = self.clients.get(client) else {
-            return Ok(());
+            unreachable!()
         };
+        // A part that is held is in the footprint, and has a list.
         let Some(list) = midway.new_list(part) else {
-            return Ok(());
+            unreachable!()
         };
         let list = list.share()?;
         self.clients.change(client, Change::Edit(part));

@@ -1,8 +1,7 @@
 //! Sets of pixels, base pixel by base pixel.
 ghost use Rattle.std.specs.Prelude.{◌≡◌, ℕ, true, ◌<◌, ◌≤◌, nat_lt, IfOk, IfSome, MatchOption};
 ghost use Rattle.std.specs.FinSet as set;
-ghost use Rattle.moc_ranges.specs.Operations.{part_of, IsWithin};
-ghost use Rattle.moc_ranges.specs.Operations.{pixels};
+ghost use Rattle.moc_ranges.specs.Operations.{part_of, IsWithin, pixels};
 
 use crate::coverage::Coverage;
 use crate::errors::Memory;

@@ -1,8 +1,7 @@
 //! Operations on two sets of few ranges, which are in no blocks: one loop over two slices.
 ghost use Rattle.std.specs.FinSet as set;
 ghost use Rattle.std.specs.Prelude.{◌≡◌, ◌<◌, ◌≤◌, ◌||◌, ◌++◌, ◌∷◌, ℕ, min, IfOk, OnOk};
-ghost use Rattle.moc_lists.specs.RangeList.{pixel_count};
-ghost use Rattle.moc_lists.specs.RangeList.{IsNormal, set_of};
+ghost use Rattle.moc_lists.specs.RangeList.{pixel_count, IsNormal, set_of};
 ghost use Rattle.moc_lists.specs.Lemmas.Members.{in_range, in_ranges};
 ghost use Rattle.moc_lists.specs.Private.Built.{EndsBelow};
 ghost use Rattle.moc_ranges.specs.Private.Few.{IsSettled};

@@ -2,9 +2,8 @@
 ghost use Rattle.std.specs.Bool.{OnTrue, OnFalse};
 ghost use Rattle.std.specs.Prelude.{◌≡◌, ◌+◌, ◌<◌, ◌≤◌, ◌++◌, ◌∷◌, ◌⊎◌, [], List, ℕ, length, min, take, drop};
 ghost use Rattle.std.specs.Prelude.{IfOk, OnOk};
-ghost use Rattle.moc_lists.specs.RangeList.{pixel_count};
+ghost use Rattle.moc_lists.specs.RangeList.{pixel_count, IsNormal, set_of};
 ghost use Rattle.moc_ranges.specs.Operations.{symmetric};
-ghost use Rattle.moc_lists.specs.RangeList.{IsNormal, set_of};
 ghost use Rattle.moc_lists.specs.Lemmas.Members.{in_ranges};
 ghost use Rattle.moc_lists.specs.Private.Built.{ranges_of, EndsBelow};
 ghost use Rattle.moc_ranges.specs.Private.Walks.{begun};

@@ -4,18 +4,18 @@ use Rattle.std.specs.declared.thread.PromisedHandle.{PromisedHandle}
 use Rattle.moc_shared.specs.declared.map.SharedMap.{SharedMap}
 use Rattle.moc_script.specs.declared.crews.lane.LaneEnd.{LaneEnd}
 use Rattle.moc_script.specs.declared.crews.lane.Unfinished.{Unfinished}
-use Rattle.moc_script.specs.declared.crews.threads.Task.{Task}
+use Rattle.moc_script.specs.declared.crews.threads.Work.{Work}
 
--- the task is that of this lane
-pub record IsTaskOf (map : SharedMap) (lanes : ℕ) (input : List ℕ) (lane : ℕ) (task : Task) : Type 0 where
-  pub map_is : task.map.now ≡ map
-  pub input_is : task.input.now ≡ input
-  pub lanes_are : task.lanes ≡ lanes
-  pub lane_is : task.lane ≡ lane
+-- the work is that of this lane
+pub record IsWorkOf (map : SharedMap) (lanes : ℕ) (input : List ℕ) (lane : ℕ) (work : Work) : Type 0 where
+  pub map_is : work.map.now ≡ map
+  pub input_is : work.input.now ≡ input
+  pub lanes_are : work.lanes ≡ lanes
+  pub lane_is : work.lane ≡ lane
 
 -- each handle promises the end of its lane
-abbrev pub ArePromised : SharedMap → ℕ → List ℕ → List (PromisedHandle (Result LaneEnd Unfinished) Task) → Type 0
+abbrev pub ArePromised : SharedMap → ℕ → List ℕ → List (PromisedHandle (Result LaneEnd Unfinished) Work) → Type 0
 ArePromised map lanes input handles =
     (length handles ≡ lanes)
-    × ((lane : ℕ) (d : PromisedHandle (Result LaneEnd Unfinished) Task) → lane < lanes
-    → IsTaskOf map lanes input lane (slice_index_or handles lane d).promise)
+    × ((lane : ℕ) (d : PromisedHandle (Result LaneEnd Unfinished) Work) → lane < lanes
+    → IsWorkOf map lanes input lane (slice_index_or handles lane d).promise)

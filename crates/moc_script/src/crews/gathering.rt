@@ -5,7 +5,7 @@ ghost use Rattle.moc_shared.specs.Clients.{IsClientOf};
 ghost use Rattle.moc_script.specs.Private.LaneEnds.{AreLaneEnds, GoesBefore};
 ghost use Rattle.moc_script.specs.Private.Gathering.{AreDone, HasBoth, HasLanes, IsFirstUnfinished, NamesFirst};
 
-use crate::crews::lane::{LaneEnd, Unfinished};
+use crate::crews::lane::{Ending, LaneEnd, Unfinished};
 use crate::crews::texts::Texts;
 use crate::crews::threads::LanesError;
 use moc_ranges::Memory;
@@ -21,7 +21,7 @@ fn first_of(one: Unfinished, other: Unfinished) -> Unfinished
 }
 
 /// The first end of a lane that has not done its lines, if there is one.
-fn first_unfinished(ends: &[Result<LaneEnd, Unfinished>]) -> Option<Unfinished>
+fn first_unfinished(ends: &[Ending]) -> Option<Unfinished>
     ensures { IsFirstUnfinished ends.now result }
 {
     let mut first = None;
@@ -37,10 +37,7 @@ fn first_unfinished(ends: &[Result<LaneEnd, Unfinished>]) -> Option<Unfinished>
 }
 
 /// The lanes' ends, if all went well; or the line at which the first lane was refused memory, or else stopped.
-pub(crate) fn all_done(
-    alloc: Global,
-    ends: Vec<Result<LaneEnd, Unfinished>>,
-) -> Result<Vec<LaneEnd>, LanesError>
+pub(crate) fn all_done(alloc: Global, ends: Vec<Ending>) -> Result<Vec<LaneEnd>, LanesError>
     ensures done { IfOk result (λ done. (map : SharedMap) (lanes : ℕ) (input : List ℕ)
         → AreLaneEnds map lanes input ends.items → AreDone map lanes input done.items) }
     ensures first { IfErr result (λ e. NamesFirst ends.items e) }
@@ -107,6 +104,7 @@ pub(crate) fn take_in_all(
     }
     match all {
         Some(client) => Ok((client, answers)),
+        // There is a lane.
         None => unreachable!(),
     }
 }

@@ -119,6 +119,7 @@ fn put(text: &[u8], pending: &mut Vec<u8>)
     requires { vec_len pending.old + length text.now ≤ vec_capacity pending.old }
     ensures { pending.new.items ≡ pending.old.items ++ text.now }
 {
+    // What has room takes no memory.
     let Ok(()) = pending.extend_from_slice(text) else {
         unreachable!()
     };

@@ -32,6 +32,9 @@ pub(crate) enum Unfinished {
     Stopped { line: u64 },
 }
 
+/// How a lane ends.
+pub(crate) type Ending = Result<LaneEnd, Unfinished>;
+
 impl Unfinished {
     /// The line at which the lane ended.
     pub(crate) fn line(self) -> u64
@@ -131,7 +134,7 @@ fn refused(stop: &AtomicBool, line: u64) -> Unfinished
 }
 
 /// Does the lines of the client's lane, of so many, in order; before each it looks whether it is to stop.
-pub(crate) fn work<R: Wait, G: Gate>(
+pub(crate) fn do_lines<R: Wait, G: Gate>(
     rt: &R,
     alloc: Global,
     gate: &G,
@@ -140,7 +143,7 @@ pub(crate) fn work<R: Wait, G: Gate>(
     lanes: u8,
     client: Client,
     stop: &AtomicBool,
-) -> Result<LaneEnd, Unfinished>
+) -> Ending
     requires map { IsClientOf map.now client }
     requires lane { number_of client < lanes }
     requires fresh { Made (number_of client) [] (record_of client) }

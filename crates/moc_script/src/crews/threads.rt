@@ -7,7 +7,7 @@ ghost use Rattle.moc_script.specs.Private.Promises.{ArePromised};
 
 use crate::crew_error::CrewError;
 use crate::crews::gate::Gate;
-use crate::crews::lane::{LaneEnd, Unfinished, work};
+use crate::crews::lane::{Ending, do_lines};
 use moc_lines::{RunError, number_behind_last};
 use moc_shared::{Client, SharedMap};
 use std::alloc::Global;
@@ -44,18 +44,18 @@ impl LanesError {
     }
 }
 
-/// What a lane is given: the map, the script, how many lanes answer it, and its own number.
+/// What a lane does: its lines of a script, of so many lanes, on a map.
 #[derive(Clone, Copy)]
-pub(crate) struct Task<'a> {
+pub(crate) struct Work<'a> {
     pub(crate) map: &'a SharedMap,
     pub(crate) input: &'a [u8],
     pub(crate) lanes: u8,
     pub(crate) lane: u8,
 }
 
-impl<'a> Promise<Result<LaneEnd, Unfinished>> for Task<'a> {
-    ghost kept_by = { λ task end.
-        IsLaneEnd task.map.now task.lanes task.input.now task.lane end };
+impl<'a> Promise<Ending> for Work<'a> {
+    ghost kept_by = { λ work end.
+        IsLaneEnd work.map.now work.lanes work.input.now work.lane end };
 }
 
 /// Starts a thread for each client; where one cannot be started, those before it are told to stop.
@@ -69,7 +69,7 @@ fn start<'s, E, R: Wait + Sync, G: Gate + Sync>(
     lanes: u8,
     clients: Vec<Client>,
     stop: &'s AtomicBool,
-) -> Result<Vec<PromisedHandle<Result<LaneEnd, Unfinished>, Task<'s>>>, LanesError>
+) -> Result<Vec<PromisedHandle<Ending, Work<'s>>>, LanesError>
     requires clients { AreNewClients map.now clients.items lanes }
     ensures promised { IfOk result (λ handles. ArePromised map.now lanes input.now handles.items) }
     ensures line { IfErr result (λ e. NamesLine input.now e) }
@@ -79,14 +79,14 @@ fn start<'s, E, R: Wait + Sync, G: Gate + Sync>(
     };
     for client in clients {
         let lane = client.number();
-        let task = Task {
+        let work = Work {
             map,
             input,
             lanes,
             lane,
         };
-        let Ok(handle) = scope.spawn_with(task, move || {
-            work(rt, alloc, gate, map, input, lanes, client, stop)
+        let Ok(handle) = scope.spawn_with(work, move || {
+            do_lines(rt, alloc, gate, map, input, lanes, client, stop)
         }) else {
             stop.store(true, Ordering::SeqCst);
             return Err(LanesError::Spawn);
@@ -104,7 +104,7 @@ fn work_alone<R: Wait, G: Gate>(
     map: &SharedMap,
     input: &[u8],
     clients: Vec<Client>,
-) -> Result<Vec<Result<LaneEnd, Unfinished>>, LanesError>
+) -> Result<Vec<Ending>, LanesError>
     requires clients { AreNewClients map.now clients.items 1 }
     ensures ends { IfOk result (λ ends. AreLaneEnds map.now 1 input.now ends.items) }
     ensures line { IfErr result (λ e. NamesLine input.now e) }
@@ -113,11 +113,12 @@ fn work_alone<R: Wait, G: Gate>(
         return Err(LanesError::Memory { line: 0 });
     };
     let mut clients = clients;
+    // One lane has one client.
     let Some(client) = clients.pop() else {
         unreachable!()
     };
     let stop = AtomicBool::new(false);
-    ends.push_reserved(work(rt, alloc, gate, map, input, 1, client, &stop));
+    ends.push_reserved(do_lines(rt, alloc, gate, map, input, 1, client, &stop));
     Ok(ends)
 }
 
@@ -131,7 +132,7 @@ pub(crate) fn run_lanes<R: Threads + Wait + Sync, G: Gate + Sync>(
     input: &[u8],
     lanes: u8,
     clients: Vec<Client>,
-) -> Result<Vec<Result<LaneEnd, Unfinished>>, LanesError>
+) -> Result<Vec<Ending>, LanesError>
     requires clients { AreNewClients map.now clients.items lanes }
     ensures ends { IfOk result (λ ends. AreLaneEnds map.now lanes input.now ends.items) }
     ensures line { IfErr result (λ e. NamesLine input.now e) }
@@ -143,7 +144,7 @@ pub(crate) fn run_lanes<R: Threads + Wait + Sync, G: Gate + Sync>(
     thread::scope(
         thread::scope_env(),
         rt,
-        |scope| -> Result<Vec<Result<LaneEnd, Unfinished>>, LanesError>
+        |scope| -> Result<Vec<Ending>, LanesError>
             requires { AreNewClients map.now clients.items lanes }
             ensures ends { IfOk result (λ ends. AreLaneEnds map.entry.now lanes input.entry.now ends.items) }
             ensures line { IfErr result (λ e. NamesLine input.entry.now e) }

@@ -1,8 +1,8 @@
 //! Batches on the parts that are held.
-ghost use Rattle.std.specs.Prelude.{◌≡◌, ◌<◌, ℕ, false, None, [], IfOk, OnOk, OnErr};
+ghost use Rattle.std.specs.Prelude.{◌≡◌, ℕ, false, None, [], OnOk, OnErr};
 ghost use Rattle.std.specs.List.{list_any};
 ghost use Rattle.moc_parts.specs.Commands.{is_update};
-ghost use Rattle.moc_shared.specs.Private.Held.{HoldsFootprint};
+ghost use Rattle.moc_shared.specs.Private.Held.{GoesThrough, HoldsFootprint};
 ghost use Rattle.moc_shared.specs.Private.Seats.{at_place, AreOwn, IsOfTable};
 ghost use Rattle.moc_shared.specs.Private.Plays.{with_holds};
 ghost use Rattle.moc_shared.specs.Private.Slots.{replies_to, EndsBatch, GivesUp};
@@ -26,9 +26,7 @@ fn update(
     requires place { IsOfTable seat.old.table_id table.now.table_id }
     requires held { HoldsFootprint batch.now found.old seat.old.me }
     ensures same { (seat.new.table_id ≡ seat.old.table_id) × (seat.new.id ≡ seat.old.id) }
-    ensures idle { seat.new.me.1 ≡ [] }
-    ensures ok { IfOk result (λ r. EndsBatch batch.now r [] seat.old.me.0 seat.new.me.0) }
-    ensures err { OnErr result (seat.new.me.0 ≡ with_holds seat.old.me.0 []) }
+    ensures through { GoesThrough batch.now (λ v w. w ≡ with_holds v []) seat.old.me seat.new.me result }
 {
     let mut edited = no_slots();
     match edit(alloc, batch, found, &mut edited) {
@@ -93,9 +91,7 @@ fn query(
     requires held { HoldsFootprint batch.now found.old seat.old.me }
     requires query { list_any is_update batch.now ≡ false }
     ensures same { (seat.new.table_id ≡ seat.old.table_id) × (seat.new.id ≡ seat.old.id) }
-    ensures idle { seat.new.me.1 ≡ [] }
-    ensures ok { IfOk result (λ r. EndsBatch batch.now r [] seat.old.me.0 seat.new.me.0) }
-    ensures err { OnErr result (GivesUp batch.now seat.old.me.0 seat.new.me.0) }
+    ensures through { GoesThrough batch.now (GivesUp batch.now) seat.old.me seat.new.me result }
 {
     let mut copies = no_slots();
     observe(table, seat, batch, found, &mut copies)?;
@@ -113,9 +109,7 @@ pub(crate) fn go_through(
     requires place { IsOfTable seat.old.table_id table.now.table_id }
     requires held { HoldsFootprint batch.now found.old seat.old.me }
     ensures same { (seat.new.table_id ≡ seat.old.table_id) × (seat.new.id ≡ seat.old.id) }
-    ensures idle { seat.new.me.1 ≡ [] }
-    ensures ok { IfOk result (λ r. EndsBatch batch.now r [] seat.old.me.0 seat.new.me.0) }
-    ensures err { OnErr result (GivesUp batch.now seat.old.me.0 seat.new.me.0) }
+    ensures through { GoesThrough batch.now (GivesUp batch.now) seat.old.me seat.new.me result }
 {
     if batch.is_update() {
         update(table, alloc, seat, batch, found)

@@ -1,5 +1,6 @@
 //! All parts of a footprint: taken in rising order, and given back in falling order.
 ghost use Rattle.std.specs.Prelude.{◌≡◌, ℕ, suc, ◌<◌, ◌≤◌, [], None, IfOk, IfErr, is_some, true};
+ghost use Rattle.moc_shared.specs.Private.Held.{HoldsAll};
 ghost use Rattle.moc_shared.specs.Private.Rule.{IsOne};
 ghost use Rattle.moc_shared.specs.Private.Seats.{IsCarried, notes_below, at_place, AreOwn, IsFootprint, IsOfTable};
 ghost use Rattle.moc_shared.specs.Private.Plays.{with_parts, with_holds};
@@ -16,9 +17,7 @@ use std::marker::Brand;
 /// Gives back all parts that are held, with these pointers, of which none is at `end` or behind it.
 fn give_below(table: &Words, seat: &mut Token, end: usize, slots: &mut Slots)
     requires place { IsOfTable seat.old.table_id table.now.table_id }
-    requires client { IsOne seat.old.me.0 }
-    requires carried { IsCarried seat.old.me }
-    requires held { seat.old.me.0.holds ≡ notes_below slots.old 12 }
+    requires held { HoldsAll slots.old seat.old.me }
     requires end { (end ≤ 12) × ((k : ℕ) → end ≤ k → at_place slots.old k ≡ None) }
     ensures same { (seat.new.table_id ≡ seat.old.table_id) × (seat.new.id ≡ seat.old.id) }
     ensures gave { seat.new.me ≡ (with_holds seat.old.me.0 [], []) }
@@ -35,9 +34,7 @@ fn give_below(table: &Words, seat: &mut Token, end: usize, slots: &mut Slots)
 /// Gives back all parts that are held, with these pointers.
 pub(crate) fn give_all(table: &Words, seat: &mut Token, slots: &mut Slots)
     requires place { IsOfTable seat.old.table_id table.now.table_id }
-    requires client { IsOne seat.old.me.0 }
-    requires carried { IsCarried seat.old.me }
-    requires held { seat.old.me.0.holds ≡ notes_below slots.old 12 }
+    requires held { HoldsAll slots.old seat.old.me }
     ensures same { (seat.new.table_id ≡ seat.old.table_id) × (seat.new.id ≡ seat.old.id) }
     ensures gave { seat.new.me ≡ (with_holds seat.old.me.0 [], []) }
 {
@@ -87,15 +84,14 @@ pub(crate) fn end_all(
     edited: &mut Slots,
 )
     requires place { IsOfTable seat.old.table_id table.now.table_id }
-    requires client { IsOne seat.old.me.0 }
-    requires carried { IsCarried seat.old.me }
-    requires held { seat.old.me.0.holds ≡ notes_below found.now 12 }
+    requires held { HoldsAll found.now seat.old.me }
     requires some { (b : ℕ) × (b < 12) × (is_some (at_place found.now b) ≡ true) }
     requires edited { Edits batch.now found.now edited.old }
     ensures same { (seat.new.table_id ≡ seat.old.table_id) × (seat.new.id ≡ seat.old.id) }
     ensures ended { (seat.new.me.1 ≡ [])
         × EndsBatch batch.now (replies_to found.now batch.now) [] seat.old.me.0 seat.new.me.0 }
 {
+    // A footprint is never empty, and there is a pointer at the highest place that has one.
     let Some(b) = highest(edited) else {
         unreachable!()
     };

@@ -1,15 +1,15 @@
 //! Taking parts that others hold, by waiting for them.
-ghost use Rattle.std.specs.Prelude.{◌≡◌, ℕ, suc, ◌<◌, ◌≤◌, List, [], Contains, Option, Some, None};
+ghost use Rattle.std.specs.Prelude.{◌≡◌, ℕ, suc, ◌<◌, ◌≤◌, List, [], Contains, Option, Some};
 ghost use Rattle.moc_lists.specs.RangeList.{NumberSet};
 ghost use Rattle.moc_shared.specs.Seats.{note};
 ghost use Rattle.moc_shared.specs.Private.Rule.{IsOne};
-ghost use Rattle.moc_shared.specs.Private.Seats.{IsCarried, at_place, shared, notes_below, AreOwn, IsFootprint, IsOwn};
+ghost use Rattle.moc_shared.specs.Private.Seats.{IsCarried, shared, notes_below, AreOwn, IsFootprint, IsOwn};
 ghost use Rattle.moc_shared.specs.Private.Seats.{IsOfTable};
 ghost use Rattle.moc_shared.specs.Private.Plays.{with_part, with_parts, with_misses};
 ghost use Rattle.moc_shared.specs.Private.Slots.{touched_by, just, AreWaits};
 
 use crate::table::locks::{Pointer, Token, Words};
-use crate::table::slots::{Slots, put_at};
+use crate::table::slots::{Slots, no_slots, put_at};
 use crate::table::steps::take_slot;
 use moc_parts::Batch;
 use std::alloc::Global;
@@ -43,11 +43,11 @@ pub(crate) fn wait_slot<R: Wait>(
             Err(_) => thread::yield_now(),
         }
     }
+    // The loop has no end.
     unreachable!()
 }
 
-/// Takes the footprint of a batch in rising order, waiting at each part that is held, and puts what it found there into
-/// empty slots.
+/// Takes the footprint of a batch in rising order, waiting at each part that is held.
 pub(crate) fn wait_all<R: Wait>(
     rt: &R,
     table: &Words,
@@ -55,23 +55,22 @@ pub(crate) fn wait_all<R: Wait>(
     seat: &mut Token,
     mark: u64,
     batch: &Batch,
-    found: &mut Slots,
-)
+) -> Slots
     requires place { IsOfTable seat.old.table_id table.now.table_id }
     requires client { IsOne seat.old.me.0 × (mark ≡ suc seat.old.me.0.mine.number) }
     requires few { seat.old.me.0.clients ≤ 64 }
     requires idle { (seat.old.me.0.holds ≡ []) × (seat.old.me.1 ≡ []) }
-    requires blank { (b : ℕ) → at_place found.old b ≡ None }
-    requires own { AreOwn found.old }
     ensures same { (seat.new.table_id ≡ seat.old.table_id) × (seat.new.id ≡ seat.old.id) }
     ensures carried { IsCarried seat.new.me }
-    ensures found { IsFootprint batch.now found.new × AreOwn found.new }
+    ensures found { IsFootprint batch.now result × AreOwn result }
     ensures took { (waits : List (ℕ × ℕ))
-        × (seat.new.me.0 ≡ with_parts (with_misses seat.old.me.0 waits) (notes_below found.new 12))
+        × (seat.new.me.0 ≡ with_parts (with_misses seat.old.me.0 waits) (notes_below result 12))
         × AreWaits (touched_by batch.now) seat.old.me.0 waits }
 {
+    let mut found = no_slots();
     for part in batch.footprint(alloc) {
         let b = usize::from(part.get());
-        put_at(found, b, wait_slot(rt, table, seat, b, mark));
+        put_at(&mut found, b, wait_slot(rt, table, seat, b, mark));
     }
+    found
 }

@@ -32,7 +32,7 @@ impl SharedMap {
         ensures err { IfErr result
             (λ e. AfterError self.now batch.now e (record_of client.old) (record_of client.new)) }
     {
-        let mark = u64::from(client.number) + 1;
+        let mark = client.mark();
         let table = &self.table.shared;
         match take_all(table, self.alloc, &mut client.seat, mark, batch) {
             Ok(mut found) => match go_through(
@@ -64,18 +64,9 @@ impl SharedMap {
         ensures err { OnErr result
             (LacksMemoryWaiting self.now batch.now (record_of client.old) (record_of client.new)) }
     {
-        let mark = u64::from(client.number) + 1;
+        let mark = client.mark();
         let table = &self.table.shared;
-        let mut found = no_slots();
-        wait_all(
-            rt,
-            table,
-            self.alloc,
-            &mut client.seat,
-            mark,
-            batch,
-            &mut found,
-        );
+        let mut found = wait_all(rt, table, self.alloc, &mut client.seat, mark, batch);
         go_through(table, self.alloc, &mut client.seat, batch, &mut found)
     }
 
@@ -100,7 +91,7 @@ impl SharedMap {
         let Ok(batch) = batch.try_copy(self.alloc) else {
             return Err(LookError::Memory);
         };
-        let mark = u64::from(client.number) + 1;
+        let mark = client.mark();
         let table = &self.table.shared;
         let mut found = match take_all(table, self.alloc, &mut client.seat, mark, &batch) {
             Ok(found) => found,
@@ -127,7 +118,7 @@ impl SharedMap {
         ensures busy { IfErr result (λ e. Refuses self.now batch e.2 (record_of client) (record_of e.0)) }
     {
         let mut client = client;
-        let mark = u64::from(client.number) + 1;
+        let mark = client.mark();
         match take_all(
             &self.table.shared,
             self.alloc,

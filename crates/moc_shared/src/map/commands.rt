@@ -1,13 +1,14 @@
 //! One command on a map.
-ghost use Rattle.std.specs.Prelude.{◌≡◌, ◌<◌, [], ◌∷◌, IfOk, OnErr};
+ghost use Rattle.std.specs.Prelude.{◌≡◌, [], ◌∷◌, IfOk, OnErr};
 ghost use Rattle.moc_shared.specs.Clients.{number_of, record_of, call_of, IsClientOf, EndsWaiting, LacksMemoryWaiting};
+ghost use Rattle.moc_shared.specs.Private.Answered.{IsAnswered};
 ghost use Rattle.moc_shared.specs.Private.Held.{TakesJust};
 
 use crate::client::Client;
-use crate::held::alone::{answer_alone, place_alone};
+use crate::held::single::{answer_single, single_part};
 use crate::held::waiting::wait_slot;
 use crate::map::SharedMap;
-use moc_parts::{Batch, Command, Reply};
+use moc_parts::{Batch, Command, Part, Reply};
 use moc_ranges::Memory;
 use std::sync::Wait;
 
@@ -31,33 +32,29 @@ impl SharedMap {
         ensures err { OnErr result
             (LacksMemoryWaiting self.now (command ∷ []) (record_of client.old) (record_of client.new)) }
     {
-        match place_alone(&command) {
-            Some(b) => self.answer_in_part(rt, client, &command, b),
+        match single_part(&command) {
+            Some(part) => self.answer_in_part(rt, client, &command, part),
             None => self.answer_as_batch(rt, client, command),
         }
     }
 
-    /// The same of a command that takes part b alone.
+    /// The same of a command that takes a single part.
     fn answer_in_part<R: Wait>(
         &self,
         rt: &R,
         client: &mut Client,
         command: &Command,
-        b: usize,
+        part: Part,
     ) -> Result<Reply, Memory>
         requires map { IsClientOf self.now client.old }
-        requires alone { (b < 12) × TakesJust command.now b }
-        ensures map { IsClientOf self.now client.new }
-        ensures number { number_of client.new ≡ number_of client.old }
-        ensures ok { IfOk result (λ r. EndsWaiting self.now (call_of client.old (command.now ∷ []) (r ∷ []))
-            (record_of client.old) (record_of client.new)) }
-        ensures err { OnErr result
-            (LacksMemoryWaiting self.now (command.now ∷ []) (record_of client.old) (record_of client.new)) }
+        requires single { TakesJust command.now part }
+        ensures { IsAnswered self.now command.now client.old client.new result }
     {
-        let mark = u64::from(client.number) + 1;
+        let mark = client.mark();
         let table = &self.table.shared;
+        let b = usize::from(part.get());
         let pointer = wait_slot(rt, table, &mut client.seat, b, mark);
-        answer_alone(table, self.alloc, &mut client.seat, b, pointer, command)
+        answer_single(table, self.alloc, &mut client.seat, b, pointer, command)
     }
 
     /// The same by the batch of the command.
@@ -67,13 +64,8 @@ impl SharedMap {
         client: &mut Client,
         command: Command,
     ) -> Result<Reply, Memory>
-        requires map { IsClientOf self.now client.old }
-        ensures map { IsClientOf self.now client.new }
-        ensures number { number_of client.new ≡ number_of client.old }
-        ensures ok { IfOk result (λ r. EndsWaiting self.now (call_of client.old (command ∷ []) (r ∷ []))
-            (record_of client.old) (record_of client.new)) }
-        ensures err { OnErr result
-            (LacksMemoryWaiting self.now (command ∷ []) (record_of client.old) (record_of client.new)) }
+        requires { IsClientOf self.now client.old }
+        ensures { IsAnswered self.now command client.old client.new result }
     {
         let batch = Batch::one(self.alloc, command)?;
         let replies = self.apply(rt, client, &batch)?;

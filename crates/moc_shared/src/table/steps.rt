@@ -45,6 +45,7 @@ pub(crate) fn take_slot(table: &Words, seat: &mut Token, b: usize, mark: u64) ->
 {
     let found = take_part(table, seat, b, mark);
     if found == 0 {
+        // The slot of a part that is free has its pointer.
         let Some(pointer) = table.exchange(seat, index(b), None) else {
             unreachable!()
         };
@@ -107,7 +108,7 @@ pub(crate) fn end_call<C: Closing>(
 /// Puts the pointer into the only part that is held, and gives it back. With that the call of one command goes through.
 ///
 /// The command and its reply are handed over for the contract alone, which speaks of them.
-pub(crate) fn end_alone<C: Closing>(
+pub(crate) fn end_single<C: Closing>(
     table: &Words,
     seat: &mut Token,
     b: usize,

@@ -8,6 +8,7 @@ use Rattle.moc_parts.proofs.change.invert.Goals as goal
 pub returns : goal.returns
 returns c =
     let list : NumberSet = c.args.list.now in
-    let new : c.in_ok-new.new ≡ part_of (complement list) c.args.b =
-    c.in_ok-new.ensures.part ∙ ap (λ (a : NumberSet). part_of a c.args.b) c.in_ok-complement.ensures.set in
-    (new, (λ i. c.count.ensures.size i + (c.count-2.ensures.size ∙ ap set.len new) i) ∙ turned-complement list c.args.b)
+    let new : c.in_ok-new.new ≡ part_of (complement list) c.args.part =
+    c.in_ok-new.ensures.part ∙ ap (λ (a : NumberSet). part_of a c.get.result) c.in_ok-complement.ensures.set
+    ∙ ap (part_of (complement list)) c.get.ensures.value in
+    (new, (λ i. c.count.ensures.size i + (c.count-2.ensures.size ∙ ap set.len new) i) ∙ turned-complement list c.args.part)

@@ -19,16 +19,15 @@ loop-part-preserved c =
     let within : b < length found = subst (λ n. b < n) (sym c.requires.twelve) c.loop-part-test.true in
     let within_made : b < length made = subst (λ n. b < n) (sym c.requires.places) c.loop-part-test.true in
     let part = all_parts b c.part-item.result c.loop-part-test.true in
-    let at : c.get.result ≡ b = c.get.ensures.value ∙ part in
     let is : get_or made b None ≡ c.take.result =
-    sym (c.take.ensures.taken ∙ ap (λ n. get_or c.loop-part.made n None) at ∙ c.loop-part.invariant.1 b (omega arith)) in
+    sym (c.take.ensures.taken ∙ ap (λ n. get_or c.loop-part.made n None) part ∙ c.loop-part.invariant.1 b (omega arith)) in
     let next : suc b ≡ b + 1 = omega arith in
     let parts : c.match-take.parts ≡ current_lists found (take (b + 1) made) = elim c.match-take.branch [
-      | in-Some w ↦ w.parts-is ∙ (λ i. set_at (c.loop-part.invariant.0 i) ((w.from.ensures ∙ w.get-in-Some.ensures.value ∙ part) i) w.in-Some.list) ∙ sym (current_lists-put found made b w.in-Some.list within within_made (is ∙ w.in-Some.is)) ∙ ap (λ n. current_lists found (take n made)) next
+      | in-Some w ↦ w.parts-is ∙ (λ i. set_at (c.loop-part.invariant.0 i) ((w.from.ensures ∙ w.get.ensures.value ∙ part) i) w.in-Some.list) ∙ sym (current_lists-put found made b w.in-Some.list within within_made (is ∙ w.in-Some.is)) ∙ ap (λ n. current_lists found (take n made)) next
       | in_default w ↦ w.parts-is ∙ c.loop-part.invariant.0 ∙ sym (current_lists-pass found made b within within_made (is ∙ w.in_default.is)) ∙ ap (λ n. current_lists found (take n made)) next
     ] in (
       parts,
-      λ k le. ap (λ lists. get_or lists k None) (c.take.ensures.left ∙ ap (λ n. set_at c.loop-part.made n None) at) ∙ get_or-set_other c.loop-part.made b k None None (λ e. omega arith) ∙ c.loop-part.invariant.1 k (omega arith),
+      λ k le. ap (λ lists. get_or lists k None) (c.take.ensures.left ∙ ap (λ n. set_at c.loop-part.made n None) part) ∙ get_or-set_other c.loop-part.made b k None None (λ e. omega arith) ∙ c.loop-part.invariant.1 k (omega arith),
     )
 
 pub returns : goal.returns

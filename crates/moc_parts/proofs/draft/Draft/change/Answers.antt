@@ -18,7 +18,7 @@ loop-part-init c =
 
 pub part-requires-in-loop-part-clause-list : goal.part-requires-in-loop-part-clause-list
 part-requires-in-loop-part-clause-list c =
-    let b : ℕ = c.get-b.result in
+    let b : ℕ = c.in-Some.part in
     ap (λ p. part_of p b) c.part.ensures.list ∙ part_lies c.loop-part.self.set b ∙ sym c.part.ensures.list
 
 pub overflow_add-turned : goal.overflow_add-turned
@@ -26,10 +26,10 @@ overflow_add-turned c =
     let change = c.args.change.now in
     let old : NumberSet = c.args.self.now.set in
     let new : NumberSet = changed change old in
-    let b : ℕ = c.get-b.result in
+    let b : ℕ = c.in-Some.part in
     let turn : IsTurn change old c.loop-part.self.set c.loop-part.turned b c.next.new.self =
-    turn_comes change c.requires old c.loop-part.self.set c.loop-part.turned c.loop-part.invariant.0 c.in-Some.part b c.loop-part.part-iterator c.next.new.self
-    c.get-b.ensures.value c.in-Some.ensures.steps c.loop-part.invariant.1 in
+    turn_comes change c.requires old c.loop-part.self.set c.loop-part.turned c.loop-part.invariant.0 b c.loop-part.part-iterator c.next.new.self
+    c.in-Some.ensures.steps c.loop-part.invariant.1 in
     let part : c.part.result.now ≡ part_of old b = part_was new old c.loop-part.self.set c.part.result.now b turn.half c.part.ensures.list in
     let becomes = part_becomes change c.requires old c.part.result.now b part in
     let more : c.in_ok-new.field-0.pixels ≡ set.len (part_of (symmetric new old) b) =
@@ -38,15 +38,15 @@ overflow_add-turned c =
     let bound = size_bound (symmetric new old) b (turned_within new old (changed_within change old c.requires within) within) in
     omega (arith, turn.count, more, bound)
 
-pub put-requires-clause-list : goal.put-requires-clause-list
-put-requires-clause-list c =
+pub put-requires : goal.put-requires
+put-requires c =
     let change = c.args.change.now in
     let old : NumberSet = c.args.self.now.set in
     let new : NumberSet = changed change old in
-    let b : ℕ = c.get-b.result in
+    let b : ℕ = c.in-Some.part in
     let turn : IsTurn change old c.loop-part.self.set c.loop-part.turned b c.next.new.self =
-    turn_comes change c.requires old c.loop-part.self.set c.loop-part.turned c.loop-part.invariant.0 c.in-Some.part b c.loop-part.part-iterator c.next.new.self
-    c.get-b.ensures.value c.in-Some.ensures.steps c.loop-part.invariant.1 in
+    turn_comes change c.requires old c.loop-part.self.set c.loop-part.turned c.loop-part.invariant.0 b c.loop-part.part-iterator c.next.new.self
+    c.in-Some.ensures.steps c.loop-part.invariant.1 in
     let part : c.part.result.now ≡ part_of old b = part_was new old c.loop-part.self.set c.part.result.now b turn.half c.part.ensures.list in
     let becomes = part_becomes change c.requires old c.part.result.now b part in
     let made : unwrap_or c.in_ok-new.field-0.list c.part.result.now ≡ part_of new b = c.in_ok-new.ensures.0 ∙ becomes in
@@ -58,10 +58,10 @@ loop-part-preserved-in-Continue-branch-2 c =
     let change = c.args.change.now in
     let old : NumberSet = c.args.self.now.set in
     let new : NumberSet = changed change old in
-    let b : ℕ = c.get-b.result in
+    let b : ℕ = c.in-Some.part in
     let turn : IsTurn change old c.loop-part.self.set c.loop-part.turned b c.next.new.self =
-    turn_comes change c.requires old c.loop-part.self.set c.loop-part.turned c.loop-part.invariant.0 c.in-Some.part b c.loop-part.part-iterator c.next.new.self
-    c.get-b.ensures.value c.in-Some.ensures.steps c.loop-part.invariant.1 in
+    turn_comes change c.requires old c.loop-part.self.set c.loop-part.turned c.loop-part.invariant.0 b c.loop-part.part-iterator c.next.new.self
+    c.in-Some.ensures.steps c.loop-part.invariant.1 in
     let part : c.part.result.now ≡ part_of old b = part_was new old c.loop-part.self.set c.part.result.now b turn.half c.part.ensures.list in
     let becomes = part_becomes change c.requires old c.part.result.now b part in
     let more : c.in_ok-new.field-0.pixels ≡ set.len (part_of (symmetric new old) b) =
@@ -79,10 +79,10 @@ loop-part-preserved c =
     let change = c.args.change.now in
     let old : NumberSet = c.args.self.now.set in
     let new : NumberSet = changed change old in
-    let b : ℕ = c.get-b.result in
+    let b : ℕ = c.in-Some.part in
     let turn : IsTurn change old c.loop-part.self.set c.loop-part.turned b c.next.new.self =
-    turn_comes change c.requires old c.loop-part.self.set c.loop-part.turned c.loop-part.invariant.0 c.in-Some.part b c.loop-part.part-iterator c.next.new.self
-    c.get-b.ensures.value c.in-Some.ensures.steps c.loop-part.invariant.1 in
+    turn_comes change c.requires old c.loop-part.self.set c.loop-part.turned c.loop-part.invariant.0 b c.loop-part.part-iterator c.next.new.self
+    c.in-Some.ensures.steps c.loop-part.invariant.1 in
     let part : c.part.result.now ≡ part_of old b = part_was new old c.loop-part.self.set c.part.result.now b turn.half c.part.ensures.list in
     let becomes = part_becomes change c.requires old c.part.result.now b part in
     let more : c.in_ok-new.field-0.pixels ≡ set.len (part_of (symmetric new old) b) =

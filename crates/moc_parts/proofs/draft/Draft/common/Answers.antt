@@ -23,9 +23,7 @@ loop-part-preserved c =
     let n : ℕ = c.loop-part.invariant.0 in
     let next : IsNext (parts_met s) n b c.next.new.self = next_ahead (parts_met s) n b c.loop-part.part-iterator c.next.new.self c.loop-part.invariant.1 c.in-Some.ensures.steps in
     let old : c.loop-part.common ≡ set.intersection (first_parts a b) s = c.loop-part.invariant.2 ∙ common-upto a s n b next.after next.between in
-    let new : c.in_ok-common_in.field-0 ≡ set.intersection (part_of a b) s =
-    c.in_ok-common_in.ensures.common ∙ ap (λ k. set.intersection (part_of a k) s) c.get.ensures.value in
-    (b + 1, next.ahead, c.in_ok-common.ensures ∙ (λ i. set.union (old i) (new i)) ∙ common-next a s b)
+    (b + 1, next.ahead, c.in_ok-common.ensures ∙ (λ i. set.union (old i) (c.in_ok-common_in.ensures.common i)) ∙ common-next a s b)
 
 pub returns : goal.returns
 returns c =

@@ -23,9 +23,7 @@ loop-part-preserved c =
     let n : ℕ = c.loop-part.invariant.0 in
     let next : IsNext (parts_met s) n b c.next.new.self = next_ahead (parts_met s) n b c.loop-part.part-iterator c.next.new.self c.loop-part.invariant.1 c.in-Some.ensures.steps in
     let old : c.loop-part.total ≡ set.len (set.intersection (first_parts a b) s) = c.loop-part.invariant.2 ∙ len-upto a s n b next.after next.between in
-    let new : c.count_common_in-total.result ≡ set.len (set.intersection (part_of a b) s) =
-    c.count_common_in-total.ensures ∙ ap (λ k. set.len (set.intersection (part_of a k) s)) c.get.ensures.value in
-    (b + 1, next.ahead, (λ i. old i + new i) ∙ len-next a s b)
+    (b + 1, next.ahead, (λ i. old i + c.count_common_in-total.ensures i) ∙ len-next a s b)
 
 pub overflow_add-total : goal.overflow_add-total
 overflow_add-total c =
@@ -35,9 +33,7 @@ overflow_add-total c =
     let n : ℕ = c.loop-part.invariant.0 in
     let next : IsNext (parts_met s) n b c.next.new.self = next_ahead (parts_met s) n b c.loop-part.part-iterator c.next.new.self c.loop-part.invariant.1 c.in-Some.ensures.steps in
     let old : c.loop-part.total ≡ set.len (set.intersection (first_parts a b) s) = c.loop-part.invariant.2 ∙ len-upto a s n b next.after next.between in
-    let new : c.count_common_in-total.result ≡ set.len (set.intersection (part_of a b) s) =
-    c.count_common_in-total.ensures ∙ ap (λ k. set.len (set.intersection (part_of a k) s)) c.get.ensures.value in
-    omega (arith, old, new, added_bound a s b c.parts_met-part-items.ensures.within)
+    omega (arith, old, c.count_common_in-total.ensures, added_bound a s b c.parts_met-part-items.ensures.within)
 
 pub returns : goal.returns
 returns c =

@@ -18,7 +18,7 @@ pub returns-then-meets : goal.returns-then-meets
 returns-then-meets c =
     let b : ℕ = c.in-Some.part in
     sym (meets-part c.args.self.now.set c.args.other.now b
-    (ap (λ p. meets p c.args.other.now) (sym (c.part.ensures.list ∙ ap (part_of c.args.self.now.set) c.get.ensures.value)) ∙ sym c.meets.ensures.some ∙ c.if-meets.true))
+    (ap (λ p. meets p c.args.other.now) (sym c.part.ensures.list) ∙ sym c.meets.ensures.some ∙ c.if-meets.true))
 
 pub loop-part-preserved : goal.loop-part-preserved
 loop-part-preserved c =
@@ -29,7 +29,7 @@ loop-part-preserved c =
     let next : IsNext (parts_met s) n b c.next.new.self = next_ahead (parts_met s) n b c.loop-part.part-iterator c.next.new.self c.loop-part.invariant.1 c.in-Some.ensures.steps in
     let before : meets (first_parts a b) s ≡ false = sym (meets-upto a s n b next.after next.between) ∙ c.loop-part.invariant.2 in
     let apart : meets (part_of a b) s ≡ false =
-    ap (λ p. meets p s) (sym (c.part.ensures.list ∙ ap (part_of a) c.get.ensures.value)) ∙ sym c.meets.ensures.some ∙ c.if-meets.false in
+    ap (λ p. meets p s) (sym c.part.ensures.list) ∙ sym c.meets.ensures.some ∙ c.if-meets.false in
     (b + 1, next.ahead, meets-next a s b before apart)
 
 pub returns : goal.returns

@@ -14,10 +14,10 @@ invariant_of-self-2 c =
     let made = c.self.inside.made in
     let whole : NumberSet = union_of (current_lists found made) in
     subst (λ lists. AreParts (current_lists found lists) × (length lists ≡ 12)) (sym c.in_ok-put.ensures.put) (
-      made_parts (current_lists found (set_at made c.args.b (Some c.args.list))) (with_part whole c.args.b c.args.list)
-          (newest_set found made c.args.b c.args.list c.self.invariant.0 c.self.invariant.1 c.requires.part c.requires.list)
-          (with_part_within whole c.args.b c.args.list c.requires.part (parts_within (current_lists found made) c.self.invariant.0) c.requires.list),
-      length-set made c.args.b (Some c.args.list) ∙ c.self.invariant.1,
+      made_parts (current_lists found (set_at made c.args.part (Some c.args.list))) (with_part whole c.args.part c.args.list)
+          (newest_set found made c.args.part c.args.list c.self.invariant.0 c.self.invariant.1 c.in_ok-put.ensures.in_range c.requires)
+          (with_part_within whole c.args.part c.args.list c.in_ok-put.ensures.in_range (parts_within (current_lists found made) c.self.invariant.0) c.requires),
+      length-set made c.args.part (Some c.args.list) ∙ c.self.invariant.1,
     )
 
 pub returns-clause-set : goal.returns-clause-set
@@ -26,7 +26,7 @@ returns-clause-set c =
     let made = c.self.inside.made in
     let whole : NumberSet = union_of (current_lists found made) in
     ap (λ lists. union_of (current_lists found lists)) c.in_ok-put.ensures.put
-    ∙ made_union (current_lists found (set_at made c.args.b (Some c.args.list))) (with_part whole c.args.b c.args.list)
-    (newest_set found made c.args.b c.args.list c.self.invariant.0 c.self.invariant.1 c.requires.part c.requires.list)
-    (with_part_within whole c.args.b c.args.list c.requires.part (parts_within (current_lists found made) c.self.invariant.0) c.requires.list)
-    ∙ ap (λ d. with_part d.set c.args.b c.args.list) c.self.view_is
+    ∙ made_union (current_lists found (set_at made c.args.part (Some c.args.list))) (with_part whole c.args.part c.args.list)
+    (newest_set found made c.args.part c.args.list c.self.invariant.0 c.self.invariant.1 c.in_ok-put.ensures.in_range c.requires)
+    (with_part_within whole c.args.part c.args.list c.in_ok-put.ensures.in_range (parts_within (current_lists found made) c.self.invariant.0) c.requires)
+    ∙ ap (λ d. with_part d.set c.args.part c.args.list) c.self.view_is

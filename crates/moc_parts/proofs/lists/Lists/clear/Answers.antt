@@ -7,16 +7,16 @@ use Rattle.moc_parts.proofs.lists.Lists.clear.Goals.{in-Some-1, in-None-1}
 
 pub index_mut-requires : goal.index_mut-requires
 index_mut-requires c =
-    let within = (is_first c.deref.result.now c.args.b c.in-Some.i (sym c.place_of.ensures ∙ c.in-Some.is)).within in
+    let within = (is_first c.deref.result.now c.args.part c.in-Some.i (sym c.place_of.ensures.place ∙ c.in-Some.is)).within in
     subst (λ n. c.in-Some.i < n) c.deref.ensures.len within
 
 pub returns-in-Some : goal.returns-in-Some
 returns-in-Some c =
     let lists = c.self.inside.lists.items in
-    let place = ap (λ xs. place_from 0 xs c.args.b) (sym c.deref.ensures.value) ∙ sym c.place_of.ensures ∙ c.in-Some.is in
-    let left = put_at lists c.args.b c.in-Some.i (c.index_mut.result.now.0, None) c.requires place
-    (ap (λ e. e.0) c.index_mut.ensures.value ∙ (is_first lists c.args.b c.in-Some.i place).part c.index_mut.result.now)
-    ∙ ap (λ l. set_at l c.args.b None) c.self.view_is in
+    let place = ap (λ xs. place_from 0 xs c.args.part) (sym c.deref.ensures.value) ∙ sym c.place_of.ensures.place ∙ c.in-Some.is in
+    let left = put_at lists c.args.part c.in-Some.i (c.index_mut.result.now.0, None) c.place_of.ensures.in_range place
+    (ap (λ e. e.0) c.index_mut.ensures.value ∙ (is_first lists c.args.part c.in-Some.i place).part c.index_mut.result.now)
+    ∙ ap (λ l. set_at l c.args.part None) c.self.view_is in
     elim c.match-index_mut.branch [
       | in-Some-1 w ↦ w.self-is ∙ left
       | in-None-1 w ↦ w.self-is ∙ left
@@ -25,5 +25,5 @@ returns-in-Some c =
 pub returns-in_default : goal.returns-in_default
 returns-in_default c =
     let lists = c.self.inside.lists.items in
-    let place = ap (λ xs. place_from 0 xs c.args.b) (sym c.deref.ensures.value) ∙ sym c.place_of.ensures ∙ c.in_default.is in
-    sym c.self.view_is ∙ none_left lists c.args.b c.requires place ∙ ap (λ l. set_at l c.args.b None) c.self.view_is
+    let place = ap (λ xs. place_from 0 xs c.args.part) (sym c.deref.ensures.value) ∙ sym c.place_of.ensures.place ∙ c.in_default.is in
+    sym c.self.view_is ∙ none_left lists c.args.part c.place_of.ensures.in_range place ∙ ap (λ l. set_at l c.args.part None) c.self.view_is

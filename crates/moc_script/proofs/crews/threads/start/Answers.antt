@@ -4,7 +4,7 @@ use Rattle.std.specs.Vec.Iter.{into_iter_items, into_iter_len}
 use Rattle.std.proofs.Common.{rules, arith, below_more, ap, ◌∙◌, sym, subst}
 use Rattle.std.proofs.lemmas.List.{get_or_append_left, get_or-append_right}
 use Rattle.moc_shared.specs.Clients.{IsNewClient}
-use Rattle.moc_script.specs.Private.Promises.{IsTaskOf}
+use Rattle.moc_script.specs.Private.Promises.{IsWorkOf}
 use Rattle.moc_script.proofs.crews.threads.start.Goals as goal
 
 pushed_here : {A : Type 0} (xs : List A) (x d : A) (n : ℕ) → length xs ≡ n → get_or (xs ++ x ∷ []) n d ≡ x
@@ -31,9 +31,9 @@ loop-client-preserved g c =
           let place : done + (k + 1) ≡ vec_len c.push_reserved.new.self + k = omega arith in
           subst (λ (n : ℕ). IsNewClient map n (get_or (into_iter_items left) k d)) place
           (subst (IsNewClient map (done + (k + 1))) (sym shifted) (was.1 (k + 1) d (search rules)))),
-      (λ k d below. below_more (λ i. IsTaskOf c.args.map.now c.args.lanes c.args.input.now i (get_or all i d).promise) done
-          (λ i low. let e = ap (λ l. get_or l i d) c.push_reserved.ensures.items ∙ get_or_append_left (vec_items c.loop-client.handles) _ d i (omega (arith, low, c.loop-client.handles.ok)) in subst (λ h. IsTaskOf c.args.map.now c.args.lanes c.args.input.now i h.promise) (sym e) (was.2 i d low))
-          (subst (λ h. IsTaskOf c.args.map.now c.args.lanes c.args.input.now done h.promise) (sym (ap (λ l. get_or l done d) c.push_reserved.ensures.items ∙ pushed_here (vec_items c.loop-client.handles) _ d done (omega (arith, c.loop-client.handles.ok))))
+      (λ k d below. below_more (λ i. IsWorkOf c.args.map.now c.args.lanes c.args.input.now i (get_or all i d).promise) done
+          (λ i low. let e = ap (λ l. get_or l i d) c.push_reserved.ensures.items ∙ get_or_append_left (vec_items c.loop-client.handles) _ d i (omega (arith, low, c.loop-client.handles.ok)) in subst (λ h. IsWorkOf c.args.map.now c.args.lanes c.args.input.now i h.promise) (sym e) (was.2 i d low))
+          (subst (λ h. IsWorkOf c.args.map.now c.args.lanes c.args.input.now done h.promise) (sym (ap (λ l. get_or l done d) c.push_reserved.ensures.items ∙ pushed_here (vec_items c.loop-client.handles) _ d done (omega (arith, c.loop-client.handles.ok))))
           (let told = c.in-Ok-spawn_with.ensures.ok in
           record {
             map_is = ap (λ t. t.map.now) told;

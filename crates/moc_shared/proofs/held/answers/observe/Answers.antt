@@ -3,8 +3,13 @@ use Rattle.moc_shared.proofs.Replying.{notes_same, local_batch, some_found, foot
 use Rattle.moc_shared.proofs.held.answers.observe.Goals as goal
 
 pub end_all-requires-clause-held : goal.end_all-requires-clause-held
-end_all-requires-clause-held c = c.requires.held.held
-    ∙ sym (notes_same c.args.found.now c.copy_all.new.copies 12 c.in-Ok.ensures.copied)
+end_all-requires-clause-held c =
+    let all = c.requires.held.all in
+    record {
+      client = all.client;
+      carried = all.carried;
+      held = all.held ∙ sym (notes_same c.args.found.now c.copy_all.new.copies 12 c.in-Ok.ensures.copied);
+    }
 
 pub end_all-requires-clause-some : goal.end_all-requires-clause-some
 end_all-requires-clause-some c =

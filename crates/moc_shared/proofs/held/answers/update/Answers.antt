@@ -10,7 +10,10 @@ end_all-requires-clause-some c =
     local_batch c.args.batch.now c.batches_are_local.ensures c.commands.ensures.some c.commands.ensures.proper in
     some_found c.args.batch.now c.args.found.now c.requires.held.footprint local
 
-pub returns-in-Ok-clause-ok : goal.returns-in-Ok-clause-ok
-returns-in-Ok-clause-ok c =
-    subst (λ (r : List Reply). EndsBatch c.args.batch.now r [] c.args.seat.now.me.0 c.end_all.new.seat.me.0)
-    (sym c.in-Ok.ensures.replies) c.end_all.ensures.ended.1
+pub returns-in-Ok-clause-through : goal.returns-in-Ok-clause-through
+returns-in-Ok-clause-through c = record {
+  idle = c.end_all.ensures.ended.0;
+  ok = subst (λ (r : List Reply). EndsBatch c.args.batch.now r [] c.args.seat.now.me.0 c.end_all.new.seat.me.0)
+      (sym c.in-Ok.ensures.replies) c.end_all.ensures.ended.1;
+  err = tt;
+}

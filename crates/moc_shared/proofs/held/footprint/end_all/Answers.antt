@@ -21,7 +21,7 @@ end_call-requires-clause-held c =
     let top =
     top_note c.args.edited.now c.take_at.new.slots c.in-Some.b c.in-Some-take_at.pointer h.0 wide h.2
     (sym c.take_at.ensures.0 ∙ c.in-Some-take_at.is) c.take_at.ensures.1 in (
-      ap (λ (l : List PartNote). noted_parts l) c.requires.held ∙ sym c.requires.edited.same_parts
+      ap (λ (l : List PartNote). noted_parts l) c.requires.held.held ∙ sym c.requires.edited.same_parts
           ∙ ap (λ (l : List PartNote). noted_parts l) top,
       apart_top c.take_at.new.slots 12 c.in-Some.b
           (ap (λ (l : List (Option Pointer)). at_place l c.in-Some.b) c.take_at.ensures.1
@@ -36,7 +36,7 @@ end_call-requires-clause-answered c =
     top_note c.args.edited.now c.take_at.new.slots c.in-Some.b c.in-Some-take_at.pointer h.0 wide h.2
     (sym c.take_at.ensures.0 ∙ c.in-Some-take_at.is) c.take_at.ensures.1 in
     subst (λ (z : List PartNote × List PartNote). Answers part answer IsProper c.args.batch.now
-    (replies_to c.args.found.now c.args.batch.now) z.0 z.1) (λ i. (sym c.requires.held i, top i))
+    (replies_to c.args.found.now c.args.batch.now) z.0 z.1) (λ i. (sym c.requires.held.held i, top i))
     c.requires.edited.answers
 
 pub give_below-requires-clause-end : goal.give_below-requires-clause-end

@@ -10,8 +10,8 @@ loop-b-init c =
     let b = c.args.end in
     record {
       same = search rules;
-      carried = c.requires.carried;
-      holds = held_upto c.args.seat.now.me.0 slots b c.requires.held c.requires.end.0 c.requires.end.1;
+      carried = c.requires.held.carried;
+      holds = held_upto c.args.seat.now.me.0 slots b c.requires.held.held c.requires.end.0 c.requires.end.1;
       within = c.requires.end.0;
       long = search rules;
     }

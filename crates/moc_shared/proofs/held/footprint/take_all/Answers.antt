@@ -42,9 +42,13 @@ give_all-requires-clause-held c =
     let is : b ≡ c.in-Some.part = c.from-b.ensures ∙ c.get.ensures.value in
     let to = next_ahead (footprint_of_all c.args.batch.now) inv.next c.in-Some.part c.loop-part.part-iterator c.next.new.self inv.ahead c.in-Some.ensures.steps in
     let after : inv.next ≤ b = omega (arith, to.after, is) in
-    holds_upto c.args.seat.now.me.0 c.loop-part.seat.me.0 c.take_slot.new.seat.me.0 c.loop-part.found b c.in-Err.holder
-    (passed_parts c.args.seat.now.me.0 c.loop-part.seat.me.0 c.loop-part.found inv.next b inv.view after inv.beyond)
-    c.in-Err.ensures.err.0 (omega (arith, to.below, is)) (λ k l. inv.beyond k (omega (arith, after, l)))
+    record {
+      client = search rules;
+      carried = c.take_slot.ensures.carried;
+      held = holds_upto c.args.seat.now.me.0 c.loop-part.seat.me.0 c.take_slot.new.seat.me.0 c.loop-part.found b c.in-Err.holder
+          (passed_parts c.args.seat.now.me.0 c.loop-part.seat.me.0 c.loop-part.found inv.next b inv.view after inv.beyond)
+          c.in-Err.ensures.err.0 (omega (arith, to.below, is)) (λ k l. inv.beyond k (omega (arith, after, l)));
+    }
 
 pub returns-in-Err-clause-err : goal.returns-in-Err-clause-err
 returns-in-Err-clause-err c =

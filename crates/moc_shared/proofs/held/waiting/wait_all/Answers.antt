@@ -21,13 +21,13 @@ loop-part-init g c = record {
       ∙ sym (ap (λ (l : List PartNote). map index (noted_parts l)) c.requires.idle.0);
   view = (
     [],
-    start_parts c.args.seat.now.me.0 c.args.seat.now.me.0 c.args.found.now refl c.requires.idle.0,
+    start_parts c.args.seat.now.me.0 c.args.seat.now.me.0 c.no_slots-found.result refl c.requires.idle.0,
     no_wait (touched_by c.args.batch.now) c.args.seat.now.me.0,
   );
   long = search rules;
   so_far = λ k l. absurd (omega arith);
-  beyond = λ k l. c.requires.blank k;
-  own = c.requires.own;
+  beyond = λ k l. c.no_slots-found.ensures.none k;
+  own = c.no_slots-found.ensures.own;
 }
 
 pub wait_slot-requires-clause-other : goal.wait_slot-requires-clause-other

@@ -18,8 +18,8 @@ use Rattle.moc_steps.proofs.KeptSteps.{Goes, first_edit_goes, edit_footprint, ed
 use Rattle.moc_steps.proofs.KeptSteps.{kept_list, kept_some, changed_there, is_midway}
 use Rattle.moc_steps.proofs.world.World.edit.Goals as goal
 
-pub returns-in_default-clause-after : goal.returns-in_default-clause-after
-returns-in_default-clause-after c =
+pub unreachable-requires : goal.unreachable-requires
+unreachable-requires c =
     let i = c.self.inside in
     is_midway i.begun i.clients i.parts.items i.holders i.order.items c.self.invariant c.args.client (λ r. edit_refusal batches r c.args.part)
     (ap (λ (w : BatchWorld). refusal batches w.locks (machine.Step.Edit c.args.client c.args.part)) c.self.view_is ∙ c.requires)
@@ -81,8 +81,8 @@ change-requires-2 c =
     subst (λ x. IfSome x (λ s. IsChangeOf s (Edit c.args.part)))
     (sym (changed_there i.begun i.clients i.parts.items i.holders i.order.items c.self.invariant c.change.new.self c.args.client c.in-Some.midway.now (Commit c.in_ok-made.made) (sym c.in-Some.ensures) c.change.ensures)) refl
 
-pub returns-in_default-list-clause-after : goal.returns-in_default-list-clause-after
-returns-in_default-list-clause-after c =
+pub unreachable-requires-in_default-list : goal.unreachable-requires-in_default-list
+unreachable-requires-in_default-list c =
     let i = c.self.inside in
     let s : Standing = c.in-Some.midway.now in
     let fits = edit_footprint i.begun i.clients i.parts.items i.holders i.order.items c.self.invariant c.args.client c.args.part s (sym c.in-Some.ensures)

@@ -14,8 +14,8 @@ use Rattle.moc_steps.proofs.Notes.{same_default}
 use Rattle.moc_steps.proofs.KeptSteps.{Goes, take_goes, take_asks, is_midway, takes_some}
 use Rattle.moc_steps.proofs.world.World.take.Goals as goal
 
-pub returns-in_default-clause-after : goal.returns-in_default-clause-after
-returns-in_default-clause-after c =
+pub unreachable-requires : goal.unreachable-requires
+unreachable-requires c =
     let i = c.self.inside in
     is_midway i.begun i.clients i.parts.items i.holders i.order.items c.self.invariant c.args.client (take_refusal batches (world_of i.begun i.clients i.parts.items i.order.items).locks)
     (ap (λ (w : BatchWorld). refusal batches w.locks (machine.Step.Take c.args.client)) c.self.view_is ∙ c.requires)
@@ -64,8 +64,8 @@ invariant_of-self c = (goes c).1
 pub returns-clause-after : goal.returns-clause-after
 returns-clause-after c = (goes c).0 ∙ ap (λ w. world_after batches w (machine.Step.Take c.args.client)) c.self.view_is
 
-pub returns-in_default-next_part-clause-after : goal.returns-in_default-next_part-clause-after
-returns-in_default-next_part-clause-after c =
+pub unreachable-requires-in_default-next_part : goal.unreachable-requires-in_default-next_part
+unreachable-requires-in_default-next_part c =
     let i = c.self.inside in
     takes_some i.begun i.clients i.parts.items i.holders i.order.items c.self.invariant c.args.client c.in-Some.midway.now (sym c.in-Some.ensures)
     (ap (λ (w : BatchWorld). refusal batches w.locks (machine.Step.Take c.args.client)) c.self.view_is ∙ c.requires)

@@ -1,7 +1,7 @@
 use Rattle.std.proofs.Common.{[], ◌∷◌}
 use Rattle.moc_shared.specs.History.{entry}
-use Rattle.moc_shared.proofs.held.alone.answer_alone.Given as goal
+use Rattle.moc_shared.proofs.held.single.answer_single.Given as goal
 
-abbrev pub ghosts-end_alone : goal.ghosts-end_alone
-ghosts-end_alone a =
+abbrev pub ghosts-end_single : goal.ghosts-end_single
+ghosts-end_single a =
     record { call = entry a.seat.now.me.0.mine.number (a.command.now ∷ []) (a.reply.now ∷ []); notes = [] }

@@ -11,7 +11,7 @@ use Rattle.moc_script.specs.Private.Texts.{cut, total}
 use Rattle.moc_script.proofs.LaneLemmas.{Does-push}
 use Rattle.moc_script.proofs.TextLemmas.{cut-push, total-push}
 use Rattle.moc_script.proofs.Passing.{lines_few, passed_more}
-use Rattle.moc_script.proofs.crews.lane.work.Goals as goal
+use Rattle.moc_script.proofs.crews.lane.do_lines.Goals as goal
 
 pub next_line-requires : goal.next_line-requires
 next_line-requires g c =

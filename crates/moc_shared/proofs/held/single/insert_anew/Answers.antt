@@ -3,8 +3,8 @@ use Rattle.std.specs.Arc.{arc_value}
 use Rattle.std.specs.FinSet as set
 use Rattle.moc_lists.specs.RangeList.{NumberSet}
 use Rattle.moc_shared.proofs.Alone.{union_there, none_new}
-use Rattle.moc_shared.proofs.held.alone.insert_anew.Goals as goal
-use Rattle.moc_shared.proofs.held.alone.insert_anew.Goals.{Then-covers}
+use Rattle.moc_shared.proofs.held.single.insert_anew.Goals as goal
+use Rattle.moc_shared.proofs.held.single.insert_anew.Goals.{Then-covers}
 
 all_there : (c : Then-covers) → set.is_subset c.args.more.now (arc_value c.args.pointer.now) ≡ true
 all_there c = ap (λ (s : NumberSet). set.is_subset c.args.more.now s) (sym c.deref.ensures) ∙ sym c.covers.ensures.all ∙ c.if-covers.true

@@ -7,7 +7,7 @@ use Rattle.moc_script.specs.Private.Input.{HasPassed, lane_lines, lines_left}
 use Rattle.moc_script.specs.Private.LaneWork.{Does}
 use Rattle.moc_script.specs.Private.LaneEnds.{Made}
 use Rattle.moc_script.specs.Private.Texts.{cut, total}
-use Rattle.moc_script.proofs.crews.lane.work.Given as goal
+use Rattle.moc_script.proofs.crews.lane.do_lines.Given as goal
 
 abbrev pub invariant-loop-number : goal.invariant-loop-number
 invariant-loop-number g l = record {

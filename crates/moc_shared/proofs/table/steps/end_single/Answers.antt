@@ -8,7 +8,7 @@ use Rattle.moc_shared.specs.Private.Seats.{content, part, IsProper}
 use Rattle.moc_shared.proofs.Basics.{none_in}
 use Rattle.moc_shared.proofs.Moves.{ends_call_as, ended_is}
 use Rattle.moc_shared.proofs.Carried.{first_carried, none_carried, rest_parts}
-use Rattle.moc_shared.proofs.table.steps.end_alone.Goals as goal
+use Rattle.moc_shared.proofs.table.steps.end_single.Goals as goal
 
 pub exchange-requires : goal.exchange-requires
 exchange-requires g c = (

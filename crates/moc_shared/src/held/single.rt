@@ -1,4 +1,4 @@
-//! One command on the one part that it takes, without a batch.
+//! One command on the single part that it takes, without a batch.
 ghost use Rattle.std.specs.Prelude.{◌≡◌, ◌<◌, [], ◌∷◌, IfOk, IfSome, OnOk, OnErr};
 ghost use Rattle.std.specs.Arc.{arc_value};
 ghost use Rattle.std.specs.FinSet as set;
@@ -10,16 +10,16 @@ ghost use Rattle.moc_shared.specs.Private.Slots.{EndsBatch};
 
 use crate::table::locks::{Pointer, Token, Words};
 use crate::table::slots::share;
-use crate::table::steps::{end_alone, give_part};
+use crate::table::steps::{end_single, give_part};
 use moc_parts::{Command, Part, Reply, batches_are_local};
 use moc_ranges::{Coverage, Memory};
 use std::alloc::Global;
 use std::marker::Brand;
 use std::sync::Arc;
 
-/// The part that a command takes, where it adds a set that lies in one part, or counts one range there, and the set is
-/// not degraded.
-fn part_alone(command: &Command) -> Option<Part>
+/// The single part that a command takes, where it adds a set that lies in one part, or counts one range there, and the
+/// set is not degraded.
+pub(crate) fn single_part(command: &Command) -> Option<Part>
     ensures { IfSome result (λ b. TakesJust command.now b) }
 {
     match command {
@@ -28,14 +28,6 @@ fn part_alone(command: &Command) -> Option<Part>
         Command::Count(x) if x.set.range_count() == 1 => x.own_part(),
         _ => None,
     }
-}
-
-/// The place of the part that a command takes alone.
-pub(crate) fn place_alone(command: &Command) -> Option<usize>
-    ensures { IfSome result (λ b. (b < 12) × TakesJust command.now b) }
-{
-    let part = part_alone(command)?;
-    Some(usize::from(part.get()))
 }
 
 /// Adds a set to the one that a pointer shares, and tells how many pixels are new: to the list itself where nobody else
@@ -76,12 +68,13 @@ fn answer_in(alloc: Global, command: &Command, pointer: &mut Pointer) -> Result<
     match command {
         Command::Add(x) => Ok(Reply::Changed(insert_shared(alloc, pointer, &x.set)?)),
         Command::Count(x) => Ok(Reply::Total(pointer.count_common(&x.set))),
+        // Only these two take a single part.
         _ => unreachable!(),
     }
 }
 
-/// Does the command on the one part that is held, and gives the part back: it went through, or nothing changed.
-pub(crate) fn answer_alone(
+/// Does the command on the single part that is held, and gives the part back: it went through, or nothing changed.
+pub(crate) fn answer_single(
     table: &Words,
     alloc: Global,
     seat: &mut Token,
@@ -92,7 +85,7 @@ pub(crate) fn answer_alone(
     requires place { IsOfTable seat.old.table_id table.now.table_id }
     requires part { b < 12 }
     requires held { HoldsJust b (arc_value pointer) seat.old.me }
-    requires alone { TakesJust command.now b }
+    requires single { TakesJust command.now b }
     ensures same { (seat.new.table_id ≡ seat.old.table_id) × (seat.new.id ≡ seat.old.id) }
     ensures idle { seat.new.me.1 ≡ [] }
     ensures ok { IfOk result (λ r. EndsBatch (command.now ∷ []) (r ∷ []) [] seat.old.me.0 seat.new.me.0) }
@@ -103,7 +96,7 @@ pub(crate) fn answer_alone(
         Ok(reply) => {
             // It is answered alike on all sets with this part, as the law of locality tells.
             batches_are_local();
-            end_alone::<Brand>(table, seat, b, pointer, command, &reply);
+            end_single::<Brand>(table, seat, b, pointer, command, &reply);
             Ok(reply)
         }
         Err(memory) => {

@@ -10,13 +10,13 @@ use Rattle.moc_shared.proofs.Basics.{none_in}
 use Rattle.moc_shared.proofs.Carried.{none_carried}
 use Rattle.moc_shared.proofs.Replying.{local_batch}
 use Rattle.moc_shared.proofs.Alone.{answers_alone}
-use Rattle.moc_shared.proofs.held.alone.answer_alone.Goals as goal
+use Rattle.moc_shared.proofs.held.single.answer_single.Goals as goal
 
-pub end_alone-requires-clause-held : goal.end_alone-requires-clause-held
-end_alone-requires-clause-held c = ap (λ (l : List PartNote). noted_parts l) c.requires.held.held
+pub end_single-requires-clause-held : goal.end_single-requires-clause-held
+end_single-requires-clause-held c = ap (λ (l : List PartNote). noted_parts l) c.requires.held.held
 
-pub end_alone-requires-clause-answered : goal.end_alone-requires-clause-answered
-end_alone-requires-clause-answered c =
+pub end_single-requires-clause-answered : goal.end_single-requires-clause-answered
+end_single-requires-clause-answered c =
     let local = local_batch (c.args.command.now ∷ []) c.batches_are_local.ensures (omega arith) (c.requires.alone.proper, tt) in
     subst (λ (l : List PartNote). Answers part answer IsProper (c.args.command.now ∷ []) (c.in-Ok.reply ∷ []) l
     (note c.args.b (Some (arc_value c.answer_in.new.pointer)) ∷ [])) (sym c.requires.held.held)
