@@ -20,7 +20,7 @@ const CLIENTS: u8 = 12;
 const ROUNDS: u64 = 10_000;
 
 /// How often a thread looks whether the others have started.
-const LOOKS: u64 = 1_000_000;
+const LOOKS: u64 = 100_000_000;
 
 /// The first cell of order 5 in a base pixel.
 fn first_cell(rt: &impl Abort, alloc: Global, base_pixel: u8) -> Operand {

@@ -393,12 +393,12 @@ fn add_cell(alloc: Global, index: u64) -> Option<Batch> {
     Batch::one(alloc, Command::Add(Operand { set, coarse: None })).ok()
 }
 
-/// Does a batch, again while one of its parts is held, at most a million times: how many pixels it changed.
+/// Does a batch, again while one of its parts is held, at most a hundred million times: how many pixels it changed.
 fn insist(map: &SharedMap, client: &mut Client, batch: &Batch) -> Option<u64>
     requires { IsClientOf map.now client.old }
     ensures { IsClientOf map.now client.new }
 {
-    for _ in 0u64..1_000_000 {
+    for _ in 0u64..100_000_000 {
         let done = changed(map.try_apply(client, batch));
         if done.is_some() {
             return done;

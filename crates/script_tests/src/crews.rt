@@ -14,7 +14,7 @@ use std::sync::atomic::{AtomicU64, Ordering};
 use std::thread;
 use std::thread::Threads;
 
-const MOST_TURNS: u64 = 1_000_000;
+const MOST_TURNS: u64 = 100_000_000;
 
 const SCRIPT: &[u8] = b"add 0/0\nadd 0/1\ncount 0/0\ncount 0/1\n";
 
