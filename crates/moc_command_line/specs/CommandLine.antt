@@ -14,10 +14,6 @@ required_rule name parser = record (new_rule name) { required = true; parser = S
 abbrev pub order_rule : Rule
 order_rule = required_rule (codes "ORDER") (Signed (pos 0) (pos 29))
 
--- a required number of threads, 1 to 64
-abbrev pub lanes_rule : Rule
-lanes_rule = required_rule (codes "N") (Signed (pos 1) (pos 64))
-
 -- a required number of 64 bits
 abbrev pub number_rule : Text → Rule
 number_rule name = required_rule name (Unsigned 0 18446744073709551615)
@@ -61,7 +57,7 @@ word_shapes parsers =
     ∷ word_shape (codes "draw") (choice ∷ [])
     ∷ word_shape (codes "run") []
     ∷ word_shape (codes "play") []
-    ∷ word_shape (codes "crew") (lanes_rule ∷ [])
+    ∷ word_shape (codes "crew") (required_rule (codes "N") (Signed (pos 1) (pos 64)) ∷ [])
     ∷ word_shape (codes "ring") (order_rule ∷ number_rule (codes "CELL") ∷ [])
     ∷ word_shape (codes "nest") (order_rule ∷ number_rule (codes "RING") ∷ [])
     ∷ word_shape (codes "uniq") (order_rule ∷ number_rule (codes "CELL") ∷ [])

@@ -250,11 +250,9 @@ cost_few few nodes a old new is s some rises cost =
     let most = cost 8 small in
     record {
       blocks = few ∷ [];
-      kept = record {
-        sized = (some, s.fits, tt, tt);
-        normal = subst IsNormal (alone ∙ sym (nothing_more few)) s.normal;
-        set = ap set_of (nothing_more few ∙ sym alone) ∙ is;
-      };
+      sized = (some, s.fits, tt, tt);
+      normal = subst IsNormal (alone ∙ sym (nothing_more few)) s.normal;
+      set = ap set_of (nothing_more few ∙ sym alone) ∙ is;
       rises = rises;
       cost = λ digits lt. omega (arith, most);
     }

@@ -22,16 +22,12 @@ AreFilled most (list ∷ lists) =
 abbrev pub AreBlocks : List (List (ℕ × ℕ)) → Type 0
 AreBlocks blocks = AreFilled 128 blocks
 
--- blocks that keep a set: their ranges, one block after the other, are its normal range list
-pub record AreBlocksOf (a : NumberSet) (blocks : List (List (ℕ × ℕ))) : Type 0 where
+-- a search counted on from `old` to `new`: it takes none back, and adds at most 8 more than the number of blocks has
+-- binary digits, for some blocks whose ranges, one block after the other, are the normal range list of the set
+pub record IsSearchOf (a : NumberSet) (old new : ℕ) : Type 0 where
+  pub blocks : List (List (ℕ × ℕ))
   pub sized : AreBlocks blocks
   pub normal : IsNormal (joining blocks)
   pub set : set_of (joining blocks) ≡ a
-
--- a search counted on from `old` to `new`: it takes none back, and adds at most 8 more than the number of blocks has
--- binary digits, for some blocks that keep the set
-pub record IsSearchOf (a : NumberSet) (old new : ℕ) : Type 0 where
-  pub blocks : List (List (ℕ × ℕ))
-  pub kept : AreBlocksOf a blocks
   pub rises : old ≤ new
   pub cost : (digits : ℕ) → length blocks < 2 ^ digits → new ≤ old + digits + 8

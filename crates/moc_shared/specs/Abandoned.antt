@@ -11,16 +11,13 @@ pub use Rattle.moc_shared.specs.Private.Seats.{IsKept}
 abbrev pub HasView : List Sight → ℕ → Sight → Type 0
 HasView views seat v = get_elem? views seat ≡ some v
 
--- the word of the part has the mark of the view's client, and its slot is out
-abbrev pub IsMarked : Table → Sight → ℕ → Type 0
-IsMarked table v b =
-    (slice_index table.words (index b) ≡ suc v.mine.number) × (get_elem? table.homes (index b) ≡ some none)
-
--- A part that a view notes as held is marked, in each table that keeps the rule. No step, join or split of other seats
+-- Of a part that a view notes as held the word has the mark of the view's client, and its slot is out, in each table
+-- that keeps the rule. No step, join or split of other seats
 -- changes the view, and only who has a seat can step with it. So the parts of a holding that is abandoned stay held.
 pub record AbandonedPartsStayHeld : Type 0 where
   pub marked : (start : NumberSet) (clients : ℕ) (table : Table) (seat : ℕ) (v : Sight) (b : ℕ) (y : Option NumberSet)
-      → IsKept start clients table → HasView table.views seat v → Contains v.holds (note b y) → IsMarked table v b
+      → IsKept start clients table → HasView table.views seat v → Contains v.holds (note b y)
+      → (slice_index table.words (index b) ≡ suc v.mine.number) × (get_elem? table.homes (index b) ≡ some none)
   pub steps : (table : Table) (seat other : ℕ) (v w : Sight) (word number : ℕ) (carried : List (ℕ × Option Pointer))
       (act : Act (Option Pointer)) → HasView table.views seat v → ¬ (seat ≡ other)
       → HasView (stepped table word number other carried w act).views seat v

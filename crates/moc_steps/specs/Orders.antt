@@ -51,10 +51,6 @@ module _ {Op : Type 0} where
   abbrev pub is_midway : Operation Op → Bool
   is_midway x = not x.ended
 
-  -- it has ended and did not quit
-  abbrev pub is_finished : Operation Op → Bool
-  is_finished x = x.ended && not x.quits
-
   -- how many operations are midway
   abbrev pub midway : List (Step Op) → ℕ
   midway steps = count_by is_midway (operations steps)
@@ -85,10 +81,11 @@ module _ {Op : Type 0} where
       × (option_map_or (λ x. x.ended) (slice_get (operations front) a) false ≡ true) × (length (operations front) ≤ b)
 
 module _ {Op Reply : Type 0} (o : Object Op Reply) where
-  -- the set and the reply of an operation, done alone
+  -- the set of an operation, done alone, and its reply if it has ended and did not quit
   abbrev pub done_alone : NumberSet → Option (Operation Op) → NumberSet × Option Reply
   done_alone A None = (A, None)
-  done_alone A (Some x) = let answer = o.answer A x.command in (answer.0, if is_finished x then Some answer.1 else None)
+  done_alone A (Some x) =
+      let answer = o.answer A x.command in (answer.0, if x.ended && not x.quits then Some answer.1 else None)
 
   -- each entry names an operation of its client, and has the reply of that operation done alone after those before it
   abbrev pub HaveReplies : List (Operation Op) → List (Entry Reply) → NumberSet → Type 0
