@@ -120,13 +120,13 @@ IsTextOf (Some d) text =
 
 -- The text of a name, or of the item of this place in its array, where the name is given with its value.
 abbrev pub IsTextAt : Option ℕ → Option (List ℕ × Data) → Option (List ℕ) → Type 0
-IsTextAt None member text = text ≡ option_map (λ (m : List ℕ × Data). m.0) member
-IsTextAt (Some place) member text = IsTextOf (option_and_then (λ (m : List ℕ × Data). at place m.1) member) text
+IsTextAt None found text = text ≡ option_map (λ (m : List ℕ × Data). m.0) found
+IsTextAt (Some place) found text = IsTextOf (option_and_then (λ (m : List ℕ × Data). at place m.1) found) text
 
 -- In the text the name of this number, counted from 0 in byte order, or the item of this place, from 0, in its array
 -- has this text, if it is there.
 abbrev pub HasText : List ℕ → ℕ → Option ℕ → Option (List ℕ) → Type 0
-HasText bytes number item text = (d : Data) × IsJson bytes d × IsTextAt item (object_member number d) text
+HasText bytes number place text = (d : Data) × IsJson bytes d × IsTextAt place (object_member number d) text
 
 -- The text is an object without a fault, which says this set and this deepest order.
 pub record SaysJson (bytes : List ℕ) (a : NumberSet) (deepest : Option ℕ) : Type 0 where
