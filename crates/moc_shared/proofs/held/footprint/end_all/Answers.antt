@@ -1,4 +1,4 @@
-use Rattle.std.proofs.Common.{◌<◌, length, List, sym, ap, ◌∙◌, subst, Option, None, arith}
+use Rattle.std.proofs.Common.{rules, ◌<◌, length, List, sym, ap, ◌∙◌, subst, Option, None, arith}
 use Rattle.moc_shared.specs.Private.Rule.{noted_parts}
 use Rattle.moc_shared.specs.Seats.{Pointer}
 use Rattle.moc_shared.specs.Private.Seats.{PartNote, part, IsProper, at_place}
@@ -38,6 +38,9 @@ end_call-requires-clause-answered c =
     subst (λ (z : List PartNote × List PartNote). Answers part answer IsProper c.args.batch.now
     (replies_to c.args.found.now c.args.batch.now) z.0 z.1) (λ i. (sym c.requires.held.held i, top i))
     c.requires.edited.answers
+
+pub give_below-requires-clause-held : goal.give_below-requires-clause-held
+give_below-requires-clause-held c = record { client = search rules; carried = c.end_call.ensures.carried; held = search rules }
 
 pub give_below-requires-clause-end : goal.give_below-requires-clause-end
 give_below-requires-clause-end c =
