@@ -275,6 +275,12 @@ stays_ended e v w (log, is, starts, legal, fits) = stays_is v (with_entry v log 
   stands = λ st. subst (λ (n : ℕ). 0 < n) (sym (stood_with_call e v.mine (log ++ e ∷ []) v.mine.number)) st;
 }
 
+-- a client stays one while it gives parts back
+pub one_ended : (e : BatchEntry) (notes : List PartNote) (v w : Sight) → IsOne v → EndsCall answer e notes v w → IsOne w
+one_ended e notes v w one (log, is, starts, legal, fits) =
+    subst (λ (x : Sight). IsOne x) (sym is)
+    (one.0, subst (λ (n : ℕ). 0 < n) (sym (stood_with_call e v.mine (log ++ e ∷ []) v.mine.number)) one.1)
+
 pub stays_up : (cs : List Command) (v w : Sight) → GivesUp cs v w → Stays v w
 stays_up cs v w g = ⊎_elim (λ e. stays_given v w e) (λ t. stays_ended (entry v.mine.number cs t.1.0) v w t.1.1) g
 

@@ -1,11 +1,13 @@
 use Rattle.std.proofs.Common.{◌<◌, length, List, sym, ap, ◌∙◌, subst, Option, None, arith}
+use Rattle.moc_shared.specs.History.{entry}
 use Rattle.moc_shared.specs.Private.Rule.{noted_parts}
-use Rattle.moc_shared.specs.Seats.{Pointer}
-use Rattle.moc_shared.specs.Private.Seats.{PartNote, part, IsProper, at_place}
+use Rattle.moc_shared.specs.Seats.{Pointer, Sight}
+use Rattle.moc_shared.specs.Private.Seats.{PartNote, part, IsProper, at_place, notes_below}
 use Rattle.moc_shared.specs.Private.Answering.{Answers}
 use Rattle.moc_shared.specs.Private.Slots.{replies_to}
 use Rattle.moc_shared.specs.Batches.{answer}
 use Rattle.moc_shared.proofs.Places.{top_note, none_from, apart_top, place_set_same}
+use Rattle.moc_shared.proofs.Promises.{one_ended}
 use Rattle.moc_shared.proofs.Replying.{never_none}
 use Rattle.moc_shared.proofs.held.footprint.end_all.Goals as goal
 
@@ -38,6 +40,18 @@ end_call-requires-clause-answered c =
     subst (λ (z : List PartNote × List PartNote). Answers part answer IsProper c.args.batch.now
     (replies_to c.args.found.now c.args.batch.now) z.0 z.1) (λ i. (sym c.requires.held.held i, top i))
     c.requires.edited.answers
+
+pub give_below-requires-clause-held : goal.give_below-requires-clause-held
+give_below-requires-clause-held c =
+    let v : Sight = c.args.seat.now.me.0 in
+    let cs = c.args.batch.now in
+    let ended = c.end_call.ensures.ended in
+    record {
+      client = one_ended (entry v.mine.number cs (replies_to c.args.found.now cs)) (notes_below c.take_at.new.slots 12) v c.end_call.new.seat.me.0
+          c.requires.held.client ended;
+      carried = c.end_call.ensures.carried;
+      held = ap (λ (v : Sight). v.holds) ended.1;
+    }
 
 pub give_below-requires-clause-end : goal.give_below-requires-clause-end
 give_below-requires-clause-end c =

@@ -17,10 +17,10 @@ end_single-requires-clause-held c = ap (λ (l : List PartNote). noted_parts l) c
 
 pub end_single-requires-clause-answered : goal.end_single-requires-clause-answered
 end_single-requires-clause-answered c =
-    let local = local_batch (c.args.command.now ∷ []) c.batches_are_local.ensures (omega arith) (c.requires.alone.proper, tt) in
+    let local = local_batch (c.args.command.now ∷ []) c.batches_are_local.ensures (omega arith) (c.requires.single.proper, tt) in
     subst (λ (l : List PartNote). Answers part answer IsProper (c.args.command.now ∷ []) (c.in-Ok.reply ∷ []) l
     (note c.args.b (Some (arc_value c.answer_in.new.pointer)) ∷ [])) (sym c.requires.held.held)
-    (answers_alone c.args.command.now c.args.b c.requires.alone.met (arc_value c.args.pointer)
+    (answers_alone c.args.command.now c.args.b c.requires.single.met (arc_value c.args.pointer)
     (arc_value c.answer_in.new.pointer) c.in-Ok.reply local c.in-Ok.ensures.set c.in-Ok.ensures.reply)
 
 pub give_part-requires-clause-held : goal.give_part-requires-clause-held
