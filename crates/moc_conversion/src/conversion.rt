@@ -73,8 +73,7 @@ pub fn change_input<R: Source>(
 {
     let said = input_says(alloc, choice, input)?;
     let after = change.of(alloc, &said.set)?;
-    let stated = change.stated(said.deepest);
-    Ok(text_of(alloc, said.form, &after, stated)?)
+    Ok(text_of(alloc, said.form, &after, change.stated(said.deepest))?)
 }
 
 /// Whether the input is a coverage; else its first fault and, in words, where it is.
