@@ -2,15 +2,11 @@ pub mod Blocking
 pub mod Filling
 pub mod Building
 pub mod Merging
-pub mod Turning
-pub mod Meeting
-pub mod Walking
+pub mod Basics
 pub mod Passing
 pub mod CarriedOver
-pub mod Looking
 pub mod Stepping
 pub mod Places
-pub mod Shortening
 pub mod Adding
 pub mod Replacing
 pub mod Inserting

@@ -13,8 +13,7 @@ use Rattle.moc_lists.proofs.Blocking.{nothing_more, IsNormal-prefix, IsNormal-su
 use Rattle.moc_lists.proofs.Blocking.{first_of-append, last_of-append, width_bounded, width-append}
 use Rattle.moc_lists.proofs.Merging.{in_ranges-append}
 use Rattle.moc_lists.proofs.Passing.{ends_by_last}
-use Rattle.moc_lists.proofs.Looking.{none_ended}
-use Rattle.moc_lists.proofs.Walking.{later_only}
+use Rattle.moc_lists.proofs.Basics.{none_ended, later_only}
 
 -- nothing before the first range, nothing from the end of the last
 none_before : (rs : List (ℕ × ℕ)) (q : ℕ) → IsNormal rs → q < first_of rs → in_ranges rs q ≡ false

@@ -1,4 +1,4 @@
--- What serves the contracts of private functions alone.
+-- What serves this crate and `moc_ranges` alone, which was one with it.
 pub mod Blocks
 pub mod Built
 pub mod Kept

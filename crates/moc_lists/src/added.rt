@@ -1,5 +1,5 @@
-//! A list in blocks with one range more: it is put into the list of its block, or that block is made anew, and its node
-//! where that is shared or the block is cut; all others stay.
+//! A list with one range more. Without blocks it is made anew here. In blocks the range is put into the list of its
+//! block (`gap`), or that block is made anew, and its node where that is shared or the block is cut (`anew`).
 ghost use Rattle.std.specs.Prelude.{◌<◌, ◌≤◌, length};
 ghost use Rattle.moc_lists.specs.RangeList.{pixel_count, IsNormal};
 ghost use Rattle.moc_lists.specs.Private.Added.{Inserts};

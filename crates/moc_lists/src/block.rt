@@ -37,7 +37,7 @@ impl Model for Block {
     ghost invariant = { λ b. IsBlock b.from b.to b.size (arc_value b.ranges).items };
 }
 
-/// How many pixels lie in ranges.
+/// How many numbers lie in ranges.
 pub(crate) fn measure_ranges(ranges: &[(u64, u64)]) -> u64
     requires { IsNormal ranges.now }
     ensures { result ≡ width_of ranges.now }

@@ -1,4 +1,4 @@
-//! The blocks of a coverage, as lists of ranges.
+//! The blocks of a list, as slices of ranges.
 use crate::ahead::Ahead;
 use crate::block::Block;
 use crate::node::Node;

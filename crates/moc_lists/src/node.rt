@@ -37,7 +37,7 @@ impl Model for Node {
     ghost invariant = { λ n. IsNode n.from n.to n.size n.count (arc_value n.blocks).items };
 }
 
-/// How many pixels lie in blocks.
+/// How many numbers lie in blocks.
 fn measure(blocks: &[Block]) -> u64
     requires { IsNormal (joining blocks.now) }
     ensures { result ≡ width_of (joining blocks.now) }

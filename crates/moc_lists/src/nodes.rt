@@ -13,7 +13,7 @@ use crate::node::{Node, share_nodes};
 use std::alloc::{AllocError, Global};
 use std::marker::Model;
 
-/// Nodes in rising order, beside each how many blocks lie in those before it, and how many pixels and ranges they have.
+/// Nodes in rising order, beside each how many blocks lie in those before it, and how many numbers and ranges they have.
 #[derive(Drop)]
 pub(crate) struct Nodes {
     nodes: Vec<Node>,
@@ -141,7 +141,7 @@ impl Nodes {
         })
     }
 
-    /// How many pixels lie in the nodes. O(1).
+    /// How many numbers lie in the nodes. O(1).
     #[inline]
     pub(crate) fn size(&self) -> u64
         ensures { result ≡ width_of (joining (joining self.now)) }

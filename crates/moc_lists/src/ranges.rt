@@ -1,4 +1,4 @@
-//! The ranges of a coverage.
+//! What is still to come of a list.
 ghost use Rattle.std.specs.Iterator.{YieldsFirst, UpTo, at_most, item_count};
 ghost use Rattle.std.specs.Iterator.SizeHint.{IsWithinCount};
 
@@ -9,8 +9,8 @@ use crate::runs::{leading_below, pass_ranges};
 use std::fmt;
 use std::marker::Model;
 
-/// The ranges (from, to) of a set that are still to come, in rising order: pixels of order 29 by their nested numbers,
-/// `to` not included.
+/// The ranges (from, to) of a list that are still to come, in rising order, `to` not included. Those of a coverage are
+/// pixels of order 29 by their nested numbers.
 #[derive(Drop)]
 pub struct Ranges<'a> {
     /// The rest of a block that is begun.
@@ -58,7 +58,7 @@ pub struct Started<'a> {
     pub behind: Behind<'a>,
 }
 
-/// How many pixels were passed, and the next range.
+/// How many numbers were passed, and the next range.
 #[derive(Clone, Copy)]
 pub struct Advance {
     pub common: u64,
@@ -242,7 +242,7 @@ impl<'a> Ranges<'a> {
     }
 
     /// Leaves out the ranges that end where the range begins, and those after them that lie in it,
-    /// and answers how many pixels these have. O(log n), and the nodes, blocks and ranges in it.
+    /// and answers how many numbers these have. O(log n), and the nodes, blocks and ranges in it.
     #[inline(never)]
     pub fn pass(&mut self, range: (u64, u64)) -> u64
         requires { range.0 ≤ range.1 }
@@ -285,7 +285,7 @@ impl<'a> Ranges<'a> {
         }
     }
 
-    /// The same as `advance` to where a range without pixels begins: a range behind some that end by
+    /// The same as `advance` to where a range without numbers begins: a range behind some that end by
     /// the limit.
     #[inline(always)]
     pub fn next_past(&mut self, limit: u64, reach: usize) -> Option<(u64, u64)>

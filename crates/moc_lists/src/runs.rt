@@ -26,7 +26,7 @@ pub(crate) trait Run {
         ensures value { result ≡ last_of (ranges self.now) }
         ensures some { 0 < length (ranges self.now) };
 
-    /// How many pixels it has.
+    /// How many numbers it has.
     fn width(&self) -> u64
         requires { IsNormal (ranges self.now) }
         ensures value { result ≡ width_of (ranges self.now) }
@@ -188,7 +188,7 @@ pub(crate) fn leading_below(ranges: &[(u64, u64)], limit: u64) -> Option<Leading
     })
 }
 
-/// How many pixels were passed, and the runs behind them.
+/// How many numbers were passed, and the runs behind them.
 #[derive(Clone, Copy)]
 struct Passed<'a, T> {
     common: u64,
@@ -218,7 +218,7 @@ fn pass_runs<T: Run>(runs: &[T], range: (u64, u64)) -> Passed<'_, T>
     }
 }
 
-/// How many pixels were passed, and the blocks and nodes behind them.
+/// How many numbers were passed, and the blocks and nodes behind them.
 #[derive(Clone, Copy)]
 struct PassedBlocks<'a> {
     common: u64,
@@ -259,7 +259,7 @@ fn pass_blocks(ahead: Ahead<'_>, range: (u64, u64)) -> PassedBlocks<'_>
     }
 }
 
-/// How many pixels were passed, and what is behind them.
+/// How many numbers were passed, and what is behind them.
 #[derive(Clone, Copy)]
 pub(crate) struct PassedRanges<'a> {
     pub common: u64,

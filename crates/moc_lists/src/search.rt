@@ -1,4 +1,4 @@
-//! Looking up pixels.
+//! The first range that ends after a number.
 ghost use Rattle.std.specs.Prelude.{MatchOption, [], ◌∷◌};
 ghost use Rattle.moc_lists.specs.RangeList.{IsNormal};
 ghost use Rattle.moc_lists.specs.Blocks.{joining};

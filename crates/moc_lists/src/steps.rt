@@ -1,7 +1,7 @@
-//! Looking up a pixel, and counting what that takes.
+//! Looking up a number, and counting what that takes.
 use std::marker::Model;
 
-/// How many comparisons of a pixel with the bounds of a range or a block look-ups have made.
+/// How many comparisons of a number with the bounds of a range or a block look-ups have made.
 #[derive(Debug, Drop)]
 pub struct Steps {
     count: u64,
@@ -15,7 +15,7 @@ impl Model for Steps {
     ghost view = { λ s. s.count };
 }
 
-ghost use Rattle.std.specs.Prelude.{◌≡◌, ◌+◌, ◌<◌, ◌≤◌, ◌^◌, ℕ, length, get_or, MatchOption};
+ghost use Rattle.std.specs.Prelude.{◌≡◌, ◌+◌, ◌<◌, ◌≤◌, ◌^◌, ℕ, length};
 ghost use Rattle.moc_lists.specs.RangeList.{IsNormal};
 ghost use Rattle.moc_lists.specs.Lemmas.Members.{in_ranges};
 ghost use Rattle.moc_lists.specs.Blocks.{joining};
@@ -48,7 +48,7 @@ impl Steps {
     }
 }
 
-/// Whether a range has the pixel.
+/// Whether a range has the number.
 pub(crate) fn find_range(ranges: &[(u64, u64)], pixel: u64, steps: &mut Steps) -> bool
     requires normal { IsNormal ranges.now }
     requires fits { length ranges.now ≤ 128 }
@@ -74,8 +74,8 @@ pub(crate) fn find_range(ranges: &[(u64, u64)], pixel: u64, steps: &mut Steps) -
     false
 }
 
-/// Whether a block of the nodes has the pixel. It halves all their blocks by their numbers: to go from a node to its
-/// blocks would take a step too many where the nodes are not full. Finding a block by its number compares no pixel.
+/// Whether a block of the nodes has the number. It halves all their blocks by their numbers: to go from a node to its
+/// blocks would take a step too many where the nodes are not full. Finding a block by its place compares none.
 pub(crate) fn find_block(nodes: &Nodes, pixel: u64, steps: &mut Steps) -> bool
     requires stored { AreStored (joining nodes.now) }
     requires room { steps.old < 9223372036854775808 }

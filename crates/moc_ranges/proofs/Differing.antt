@@ -18,7 +18,7 @@ use Rattle.moc_lists.proofs.Blocking.{IsNormal-prefix, IsNormal-suffix}
 use Rattle.moc_ranges.proofs.Lacking.{none_before, range_from}
 use Rattle.moc_lists.proofs.Building.{pushed_normal}
 use Rattle.moc_ranges.proofs.Turning.{or_first}
-use Rattle.moc_lists.proofs.Walking.{later_only}
+use Rattle.moc_lists.proofs.Basics.{later_only}
 
 pub differs_view : (xs ys zs : List (ℕ × ℕ)) → ((q : ℕ) → in_ranges zs q ≡ differs (in_ranges xs q) (in_ranges ys q)) → set_of zs ≡ symmetric (set_of xs) (set_of ys)
 differs_view xs ys zs each = same_members _ _ (λ q.

@@ -14,7 +14,7 @@ use Rattle.moc_ranges.specs.Private.Meeting.{IsRising, CanMeet, MeetsOn, LeavesO
 use Rattle.moc_lists.proofs.Blocking.{IsNormal-suffix, nothing_more}
 use Rattle.moc_lists.proofs.Merging.{ends_next, in_ranges-append, EndsBelow-append, EndsBelow-more}
 use Rattle.moc_ranges.proofs.Merging.{next_later}
-use Rattle.moc_lists.proofs.Walking.{later_only}
+use Rattle.moc_lists.proofs.Basics.{later_only}
 use Rattle.moc_ranges.proofs.Views.{normal_below}
 use Rattle.moc_ranges.proofs.Meeting.{normal_from}
 

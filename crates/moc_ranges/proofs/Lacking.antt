@@ -14,7 +14,7 @@ use Rattle.moc_lists.proofs.Merging.{ends_next, or_false, in_ranges-append, Ends
 use Rattle.moc_ranges.proofs.Merging.{next_later}
 use Rattle.moc_lists.proofs.Blocking.{IsNormal-suffix}
 use Rattle.moc_ranges.proofs.Turning.{or_first}
-use Rattle.moc_lists.proofs.Walking.{later_only}
+use Rattle.moc_lists.proofs.Basics.{later_only}
 use Rattle.moc_ranges.proofs.Walking.{Steps, begun_is}
 
 -- a range of the second list that ends before the first

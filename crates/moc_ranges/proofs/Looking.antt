@@ -18,9 +18,8 @@ use Rattle.moc_lists.specs.Private.Walks.{EndsBy, IsFirstPast}
 use Rattle.moc_ranges.specs.Private.Walks.{IsNextRange, HasNoneFrom}
 use Rattle.moc_lists.proofs.Blocking.{IsNormal-suffix}
 use Rattle.moc_lists.proofs.Merging.{in_ranges-append}
-use Rattle.moc_lists.proofs.Walking.{later_only}
+use Rattle.moc_lists.proofs.Basics.{later_only, none_ended}
 use Rattle.moc_ranges.proofs.Views.{and_no, none_in_part}
-use Rattle.moc_lists.proofs.Looking.{none_ended}
 
 -- the ranges that a search has passed
 pub record IsSearching (limit : ℕ) (rest whole : List (ℕ × ℕ)) : Type 0 where

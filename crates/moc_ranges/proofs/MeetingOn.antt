@@ -23,7 +23,7 @@ use Rattle.moc_ranges.proofs.Turning.{or_first}
 use Rattle.moc_ranges.proofs.Walking.{and_swap}
 use Rattle.moc_ranges.proofs.Meeting.{rising_normal, taken_ended, pieces_rising, pieces_back, common_parts}
 use Rattle.moc_ranges.proofs.Meeting.{common_below, common_nothing}
-use Rattle.moc_lists.proofs.Meeting.{common_same}
+use Rattle.moc_lists.proofs.Basics.{common_same}
 
 -- a range behind those that are made
 lt_byte : (a b n : ℕ) → n ≡ bool_byte (nat_lt a b) → a < b → n ≡ 1

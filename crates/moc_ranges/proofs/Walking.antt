@@ -16,7 +16,7 @@ use Rattle.moc_ranges.specs.Private.Walks.{common_of, has_all, begun}
 use Rattle.moc_lists.specs.Private.Walks.{overlap_of, EndsBy, Advances}
 use Rattle.moc_lists.proofs.Blocking.{IsNormal-suffix}
 use Rattle.moc_lists.proofs.Passing.{ends_by_more, overlap_none}
-use Rattle.moc_lists.proofs.Walking.{later_only}
+use Rattle.moc_lists.proofs.Basics.{later_only}
 
 none_more : (from q : ℕ) (b : Bool) → ((nat_le from q && nat_lt q (from + 0)) || b) ≡ b
 none_more from q b = grind (arith, nat_tests)

@@ -1,4 +1,4 @@
--- What walks over two lists of ranges find.
+-- What a walk over a list of ranges leaves out and finds.
 use Rattle.std.specs.Prelude.{◌≡◌, ℕ, ◌+◌, ◌-◌, ◌<◌, ◌≤◌, ⊤, List, [], ◌∷◌, ◌++◌, length, get_or, Option, MatchOption}
 use Rattle.std.specs.Prelude.{min, max, take}
 use Rattle.moc_lists.specs.Private.Blocks.{last_of}

@@ -65,7 +65,7 @@ fn push_shared(blocks: &mut Vec<Block>, more: &[Block]) -> Result<(), AllocError
     Ok(())
 }
 
-/// The blocks of a node that took in a range, and how many pixels are new.
+/// The blocks of a node that took in a range, and how many numbers are new.
 #[derive(Drop)]
 struct Regrown {
     blocks: Vec<Block>,
@@ -90,7 +90,7 @@ fn replaced(
     Ok(blocks)
 }
 
-/// A block of a node that took in a range: what stands around it, what its ranges were cut into, and how many pixels
+/// A block of a node that took in a range: what stands around it, what its ranges were cut into, and how many numbers
 /// are new.
 #[derive(Drop)]
 struct Grown<'a> {
@@ -162,7 +162,7 @@ fn regrow(
     Ok(Some(Regrown { blocks, added }))
 }
 
-/// What stands in place of a node that took in a range: one node or two, and how many pixels are new.
+/// What stands in place of a node that took in a range: one node or two, and how many numbers are new.
 #[derive(Drop)]
 pub(crate) struct Renewed {
     pub place: usize,
@@ -230,7 +230,7 @@ pub(crate) fn renew(
 }
 
 /// A block that took in a range and is one block still: the place of its node, its own in that node, its ranges, and
-/// how many pixels are new.
+/// how many numbers are new.
 #[derive(Drop)]
 pub(crate) struct Spot {
     pub node: usize,

@@ -1,6 +1,6 @@
 use Rattle.std.proofs.Common.{arith}
 use Rattle.moc_lists.proofs.Blocking.{none_there}
-use Rattle.moc_lists.proofs.Turning.{first_item}
+use Rattle.moc_lists.proofs.Basics.{first_item}
 use Rattle.moc_lists.proofs.Adding.{reaching_step, reach_past, reach_all}
 use Rattle.moc_lists.proofs.added.reach.reached.Goals as goal
 use Rattle.moc_lists.proofs.added.reach.reached.Goals.{in_default, in-len1-up+then-end-range}

@@ -3,7 +3,7 @@ use Rattle.moc_lists.specs.Blocks.{joining}
 use Rattle.moc_lists.proofs.Merging.{EndsBelow-append}
 use Rattle.moc_lists.proofs.Building.{ranges_normal, longer_same, longer_built, longer_can, pushed_can}
 use Rattle.moc_lists.specs.Private.Built.{grown}
-use Rattle.moc_lists.proofs.Meeting.{common_same}
+use Rattle.moc_lists.proofs.Basics.{common_same}
 use Rattle.moc_lists.proofs.kept.Kept.join.Goals as goal
 
 pub is_apart-requires : goal.is_apart-requires

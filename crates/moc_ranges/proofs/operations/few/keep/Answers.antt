@@ -3,7 +3,7 @@ use Rattle.moc_lists.specs.RangeList.{IsNormal}
 use Rattle.moc_lists.proofs.Merging.{EndsBelow-more}
 use Rattle.moc_lists.proofs.Building.{pushed_normal}
 use Rattle.moc_ranges.proofs.Meeting.{common_below, common_nothing}
-use Rattle.moc_lists.proofs.Meeting.{common_same}
+use Rattle.moc_lists.proofs.Basics.{common_same}
 use Rattle.moc_ranges.proofs.operations.few.keep.Goals as goal
 
 pub returns-then-to-from-clause-below : goal.returns-then-to-from-clause-below

@@ -3,7 +3,7 @@ use Rattle.std.proofs.lemmas.Result.{IfOk-weaker}
 use Rattle.moc_lists.specs.Lemmas.Members.{in_ranges}
 use Rattle.moc_lists.specs.RangeList.{set_of}
 use Rattle.moc_lists.proofs.Blocking.{none_there}
-use Rattle.moc_lists.proofs.Turning.{first_item}
+use Rattle.moc_lists.proofs.Basics.{first_item}
 use Rattle.moc_ranges.proofs.Views.{union_view}
 use Rattle.moc_ranges.proofs.Slices.{or_swap, uniting_few_swap, uniting_few_settled, uniting_few_at, united_few_normal}
 use Rattle.moc_ranges.proofs.Slices.{united_few, none_joined, joined_none, uniting_few_start}

@@ -1,7 +1,7 @@
 use Rattle.std.proofs.Common.{arith}
 use Rattle.moc_lists.proofs.Merging.{EndsBelow-more}
 use Rattle.moc_ranges.proofs.Meeting.{common_after, common_below, common_nothing}
-use Rattle.moc_lists.proofs.Meeting.{common_same}
+use Rattle.moc_lists.proofs.Basics.{common_same}
 use Rattle.moc_ranges.proofs.operations.intersection.push_common.Goals as goal
 
 pub returns-then-to-from : goal.returns-then-to-from

@@ -1,5 +1,5 @@
 use Rattle.std.proofs.Common.{get_or, arith}
-use Rattle.moc_lists.proofs.Turning.{first_item}
+use Rattle.moc_lists.proofs.Basics.{first_item}
 use Rattle.moc_ranges.proofs.Turning.{turn_first, turn_second}
 use Rattle.moc_ranges.proofs.operations.union.next_turn.Goals as goal
 

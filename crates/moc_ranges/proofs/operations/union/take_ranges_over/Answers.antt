@@ -2,7 +2,7 @@ use Rattle.std.proofs.Common.{subst}
 use Rattle.moc_lists.specs.Private.Built.{EndsBelow}
 use Rattle.moc_lists.proofs.CarriedOver.{carry_room, carries_one}
 use Rattle.moc_ranges.proofs.Merging.{can_carry, carried}
-use Rattle.moc_lists.proofs.Shortening.{part_shorter}
+use Rattle.moc_lists.proofs.Basics.{part_shorter}
 use Rattle.moc_ranges.proofs.operations.union.take_ranges_over.Goals as goal
 
 pub push_all-requires : goal.push_all-requires

@@ -1,0 +1,32 @@
+-- Members of lists of ranges, their first ranges, and their lengths.
+use Rattle.std.proofs.Common.{◌≡◌, ℕ, ◌≤◌, false, List, [], ◌∷◌, refl, arith, suc, ◌-◌, length, get_or, take, drop, sym, ap, ◌∙◌, ◌||◌, ◌++◌, ◌<◌, length-append}
+use Rattle.std.proofs.lemmas.Bool.Decides.{nat_tests}
+use Rattle.std.proofs.lemmas.List.{take_all}
+use Rattle.moc_lists.specs.Lemmas.Members.{in_ranges, in_range}
+use Rattle.moc_lists.specs.RangeList.{IsNormal, BeginsAfter}
+use Rattle.moc_lists.specs.Private.Walks.{EndsBy}
+use Rattle.moc_lists.proofs.Merging.{in_ranges-append, or_false}
+
+-- no number up to the end of a normal list's first range is in a later one
+pub later_only : (x q : ℕ) (ranges : List (ℕ × ℕ)) → IsNormal ranges → BeginsAfter x ranges → q ≤ x → in_ranges ranges q ≡ false
+later_only x q [] normal after le = refl
+later_only x q (range ∷ ranges) normal after le = let rest = later_only range.1 q ranges normal.3 normal.2 (omega arith) in grind (arith, nat_tests)
+
+pub first_item : (xs : List (ℕ × ℕ)) (d : ℕ × ℕ) → 1 ≤ length xs → xs ≡ get_or xs 0 d ∷ take (length xs - 1) (drop 1 xs)
+first_item [] d some = absurd (omega arith)
+first_item (y ∷ ys) d some =
+    let e : suc (length ys) - 1 ≡ length ys = omega arith in
+    let whole : take (suc (length ys) - 1) ys ≡ ys = ap (λ n. take n ys) e ∙ take_all (length ys) ys (omega arith) in
+    λ i. y ∷ sym whole i
+
+pub none_ended : (limit q : ℕ) (rs : List (ℕ × ℕ)) → EndsBy limit rs → limit ≤ q → in_ranges rs q ≡ false
+none_ended limit q [] e le = refl
+none_ended limit q (r ∷ rs) e le = let rest = none_ended limit q rs e.1 le in let here = e.0 in grind (arith, nat_tests)
+
+pub common_same : (kept kept' : List (ℕ × ℕ)) (from to from' to' q : ℕ) → kept' ≡ kept ++ (from', to') ∷ [] → from' ≡ from → to' ≡ to → in_ranges kept' q ≡ (in_ranges kept q || in_range (from, to) q)
+common_same kept kept' from to from' to' q is ef et =
+    ap (λ (l : List (ℕ × ℕ)). in_ranges l q) is ∙ in_ranges-append kept ((from', to') ∷ []) q ∙ ap (λ b. in_ranges kept q || b) (or_false (in_range (from', to') q))
+    ∙ (λ i. in_ranges kept q || in_range (ef i, et i) q)
+
+pub part_shorter : (xs part xs' : List (ℕ × ℕ)) → xs ≡ part ++ xs' → 0 < length part → length xs' < length xs
+part_shorter xs part xs' parts some = omega (arith, ap length parts, length-append part xs')
