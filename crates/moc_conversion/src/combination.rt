@@ -169,8 +169,8 @@ fn read_texts<R: Source>(
 /// the place in it.
 ///
 /// Reads the input to its end; refused with `Read` where that fails, with `TooLong` where a text has more than
-/// 16,777,216 bytes, with the first fault of a text, or with `FormError::Memory`. Time is linear in the input, memory in the
-/// longest text, in the sets so far and in what is made of them.
+/// 16,777,216 bytes, with the first fault of a text, or with `FormError::Memory`. Time is linear in the input, memory
+/// in the longest text, in the sets so far and in what is made of them.
 pub fn combine_input<R: Source>(
     alloc: Global,
     operation: Operation,

@@ -13,7 +13,8 @@ use crate::node::{Node, share_nodes};
 use std::alloc::{AllocError, Global};
 use std::marker::Model;
 
-/// Nodes in rising order, beside each how many blocks lie in those before it, and how many numbers and ranges they have.
+/// Nodes in rising order, beside each how many blocks lie in those before it, and how many numbers and ranges they
+/// have.
 #[derive(Drop)]
 pub(crate) struct Nodes {
     nodes: Vec<Node>,
