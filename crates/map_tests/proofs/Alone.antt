@@ -1,5 +1,5 @@
 -- A list that lies in part 0, beside nothing.
-use Rattle.std.proofs.Common.{◌≡◌, ℕ, zero, suc, ◌<◌, ◌/◌, ◌&&◌, List, ◌∷◌, [], get_or, replicate, nat_eq, refl, sym, ap, ◌∙◌, arith}
+use Rattle.std.proofs.Common.{◌≡◌, ℕ, zero, suc, ◌<◌, ◌/◌, ◌&&◌, ◌∷◌, get_or, replicate, nat_eq, refl, sym, ap, ◌∙◌, arith}
 use Rattle.std.specs.FinSet as set
 use Rattle.std.proofs.lemmas.List.{get_or-replicate}
 use Rattle.moc_lists.specs.RangeList.{NumberSet}

@@ -6,9 +6,9 @@ use Rattle.moc_lists.specs.RangeList.{NumberSet}
 use Rattle.moc_parts.specs.declared.command.Command.{Command}
 use Rattle.moc_parts.specs.declared.reply.Reply.{Reply}
 use Rattle.moc_parts.specs.declared.reply.Reply.TheVariants.{Cover}
-use Rattle.moc_shared.specs.Batches.{answer, BatchEntry}
+use Rattle.moc_shared.specs.Batches.{answer, BatchCall}
 use Rattle.moc_shared.specs.Clients.{AfterError, call_of, Ends, LacksMemory, record_of, start_of}
-use Rattle.moc_shared.specs.History.{entry, IsLegal}
+use Rattle.moc_shared.specs.History.{call_by, IsLegal}
 use Rattle.moc_shared.specs.declared.errors.TryError.{TryError}
 use Rattle.moc_shared.specs.declared.errors.TryError.TheVariants as try
 use Rattle.moc_lines.specs.Language.{batch_of, command_of}
@@ -56,7 +56,7 @@ refused m n cs try.Memory o after tells = inr (after, tells)
 
 -- ---- the set of a map
 
-legal_last : (a : NumberSet) (log : List BatchEntry) (e : BatchEntry) → IsLegal answer a (log ++ e ∷ []) → (b : NumberSet) × (e.reply ≡ (answer b e.operation).1)
+legal_last : (a : NumberSet) (log : List BatchCall) (e : BatchCall) → IsLegal answer a (log ++ e ∷ []) → (b : NumberSet) × (e.reply ≡ (answer b e.operation).1)
 legal_last a [] e h = (a, h.0)
 legal_last a (x ∷ xs) e h = legal_last (answer a x.operation).0 xs e h.1
 
@@ -79,7 +79,7 @@ laid s m n desk desk' a o is reads (inr none) =
     -- the query went through, and its reply was not handed out
     unanswered : LacksMemory m.map whole_sky (record_of m.client) (record_of n.client)
     unanswered =
-        inr (refl, (Cover a ∷ [], subst (λ k. Ends m.map (entry k whole_sky (Cover a ∷ [])) (record_of m.client) (record_of n.client)) (sym reads.0.own) reads.1))
+        inr (refl, (Cover a ∷ [], subst (λ k. Ends m.map (call_by k whole_sky (Cover a ∷ [])) (record_of m.client) (record_of n.client)) (sym reads.0.own) reads.1))
 
 pub not_laid : (s : Sitter) (m n : Membership) (desk : Contents) (e : TryError) (o : Outcome) → s.member ≡ Some m → ReadsSky m n (Err e) → o ≡ outcome_of (try_fault e)
     → LaysSet s (with_member s n) desk desk (seated_member s) o

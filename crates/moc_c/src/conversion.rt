@@ -1,5 +1,5 @@
 //! From a number of a cell to another number of it.
-ghost use Rattle.std.specs.Prelude.{◌≡◌, ◌<◌, ◌≤◌, MatchOption};
+ghost use Rattle.std.specs.Prelude.{◌<◌, ◌≤◌, MatchOption};
 ghost use Rattle.moc_sphere.specs.CellNumber.{cell_count};
 ghost use Rattle.moc_c.specs.Buffers.{IsConverted};
 

@@ -1,7 +1,6 @@
 -- What stands in a text at its fault, as it is quoted.
-use Rattle.std.specs.Prelude.{◌≡◌, ℕ, ◌+◌, ◌-◌, ◌/◌, ◌%◌, Bool, not, ◌&&◌, ◌==◌, nat_le, nat_lt, if◌then◌else◌}
-use Rattle.std.specs.Prelude.{List, [], ◌∷◌, ◌++◌, length, slice_index_or, take, drop, codes, Option, None, Some}
-use Rattle.std.specs.Prelude.{option_map}
+use Rattle.std.specs.Prelude.{◌≡◌, ℕ, ◌+◌, ◌-◌, ◌/◌, ◌%◌, Bool, not, ◌&&◌, ◌==◌, nat_le, nat_lt, if◌then◌else◌, List}
+use Rattle.std.specs.Prelude.{[], ◌∷◌, ◌++◌, length, slice_index_or, take, drop, codes, Option, None, Some, option_map}
 use Rattle.std.specs.List.{after_last, before_first, flat_map, slice_split}
 use Rattle.moc_text.specs.Ascii.{is_separator}
 use Rattle.moc_text.specs.JsonForm.{HasText}

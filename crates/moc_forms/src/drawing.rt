@@ -1,12 +1,9 @@
 //! A set of pixels as a picture.
 ghost use Rattle.std.specs.Prelude.{◌≡◌, ◌++◌, ◌<◌, ◌≤◌, ◌*◌, ◌^◌, IfOk, OnOk};
 ghost use Rattle.std.specs.String.{string_bytes};
-ghost use Rattle.moc_sphere.specs.CellNumber.{cell_number};
-ghost use Rattle.moc_forms.specs.Drawing.{base_diamonds_below, cell_diamonds, diamond, diamonds_at};
-ghost use Rattle.moc_forms.specs.Drawing.{head, label, labels};
-ghost use Rattle.moc_forms.specs.Drawing.{labels_at, labels_below, legend, legend_entry, outlines};
-ghost use Rattle.moc_forms.specs.Drawing.{path_head, picture_of};
-ghost use Rattle.moc_forms.specs.Drawing.{shade_diamonds, shade_path, shades};
+ghost use Rattle.moc_forms.specs.Drawing.{base_diamonds_below, cell_diamonds, diamond, diamonds_at, head, label};
+ghost use Rattle.moc_forms.specs.Drawing.{labels, labels_at, labels_below, legend, legend_entry, outlines, path_head};
+ghost use Rattle.moc_forms.specs.Drawing.{picture_of, shade_diamonds, shade_path, shades};
 
 use crate::marks::marks;
 use crate::texts::push_count;

@@ -3,8 +3,7 @@ ghost use Rattle.std.specs.Prelude.{◌≡◌, IfOk, slice_index};
 ghost use Rattle.std.specs.Fmt.{WritesOnOk};
 ghost use Rattle.std.specs.String.{string_bytes};
 ghost use Rattle.moc_forms.specs.Describing.{AreFigures, Describes, counts_of, deepest_line, order_line};
-ghost use Rattle.moc_forms.specs.Describing.{order_lines_below};
-ghost use Rattle.moc_forms.specs.Describing.{share_line, share_of};
+ghost use Rattle.moc_forms.specs.Describing.{order_lines_below, share_line, share_of};
 
 use moc_ranges::{Coverage, Memory, PIXEL_COUNT};
 use moc_sphere::{Cell, Order};

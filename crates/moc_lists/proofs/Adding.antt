@@ -7,9 +7,9 @@ use Rattle.std.specs.List.{insert}
 use Rattle.std.specs.FinSet as set
 use Rattle.std.specs.Cmp.{nat_cmp_total}
 use Rattle.std.proofs.lemmas.Bool.Decides.{nat_tests}
-use Rattle.std.proofs.lemmas.List.{take-append-drop, take_rest, take_all}
+use Rattle.std.proofs.lemmas.List.{take-append-drop, take_rest}
 use Rattle.moc_lists.specs.RangeList.{pixel_count, IsNormal, set_of, numbers}
-use Rattle.moc_lists.specs.Lemmas.Members.{in_range, in_ranges, contains-set_of, contains-numbers, same_members}
+use Rattle.moc_lists.specs.Lemmas.Members.{in_range, in_ranges, contains-set_of, contains-numbers, same_members, in_ranges-append, or_assoc}
 use Rattle.moc_lists.specs.Lemmas.Sizes.{len_parts}
 use Rattle.moc_lists.specs.Lemmas.Ranges.{len-set_of}
 use Rattle.moc_lists.specs.Blocks.{joining, AreFilled, AreBlocks}
@@ -18,11 +18,11 @@ use Rattle.moc_lists.specs.Private.Built.{EndsBelow, first_length, last_length}
 use Rattle.moc_lists.specs.Private.Walks.{joined, EndsBy, IsPastAt}
 use Rattle.moc_lists.specs.Private.Added.{pieces, with_second, IsAround, IsReach, HasOneMore, IsCut, HasGrown}
 use Rattle.moc_lists.specs.Private.Added.{IsRegrown, IsRenewed}
-use Rattle.moc_lists.proofs.Blocking.{IsNormal-prefix, IsNormal-suffix, joining-append, nothing_more, width-append}
+use Rattle.moc_lists.proofs.Blocking.{IsNormal-prefix, IsNormal-suffix, joining-append, nothing_more, width-append, split_first}
 use Rattle.moc_lists.proofs.Filling.{filled_suffix}
-use Rattle.moc_lists.proofs.Merging.{in_ranges-append, EndsBelow-append, EndsBelow-first, ends_second, ends_next}
-use Rattle.moc_lists.proofs.Merging.{normal_append}
-use Rattle.moc_lists.proofs.Passing.{joined-parts, joined-ranges}
+use Rattle.moc_lists.proofs.Merging.{EndsBelow-append, EndsBelow-first, ends_second, ends_next}
+use Rattle.moc_lists.proofs.Merging.{normal_append, next_append}
+use Rattle.moc_lists.proofs.Passing.{joined-parts, joined-ranges, ends_by-left, ends_by-right, ends_by-append}
 
 -- how far a range has taken in those that it reaches
 pub record IsReaching (start to : ℕ) (whole : List (ℕ × ℕ)) (end : ℕ) (rest : List (ℕ × ℕ)) : Type 0 where
@@ -97,24 +97,12 @@ ends_strictly : (from : ℕ) (rs : List (ℕ × ℕ)) → IsNormal rs → EndsBy
 ends_strictly from [] normal all = tt
 ends_strictly from (r ∷ rs) normal all = (omega (arith, normal.0, all.0), ends_strictly from rs normal.3 all.1)
 
-ends_by-first : (limit : ℕ) (rs ss : List (ℕ × ℕ)) → EndsBy limit (rs ++ ss) → EndsBy limit rs
-ends_by-first limit [] ss all = tt
-ends_by-first limit (r ∷ rs) ss all = (all.0, ends_by-first limit rs ss all.1)
-
-ends_by-second : (limit : ℕ) (rs ss : List (ℕ × ℕ)) → EndsBy limit (rs ++ ss) → EndsBy limit ss
-ends_by-second limit [] ss all = all
-ends_by-second limit (r ∷ rs) ss all = ends_by-second limit rs ss all.1
-
-ends_by-both : (limit : ℕ) (rs ss : List (ℕ × ℕ)) → EndsBy limit rs → EndsBy limit ss → EndsBy limit (rs ++ ss)
-ends_by-both limit [] ss all more = more
-ends_by-both limit (r ∷ rs) ss all more = (all.0, ends_by-both limit rs ss all.1 more)
-
 ended_sooner : {T : Type 0} (f : T → List (ℕ × ℕ)) (runs : List T) (limit m n : ℕ) → m ≤ n → EndsBy limit (joined f (take n runs)) → EndsBy limit (joined f (take m runs))
 ended_sooner {T} f [] limit zero n le all = tt
 ended_sooner {T} f [] limit (suc m) n le all = tt
 ended_sooner {T} f (x ∷ runs) limit zero n le all = tt
 ended_sooner {T} f (x ∷ runs) limit (suc m) zero le all = absurd (omega arith)
-ended_sooner {T} f (x ∷ runs) limit (suc m) (suc n) le all = ends_by-both limit (f x) (joined f (take m runs)) (ends_by-first limit (f x) (joined f (take n runs)) all) (ended_sooner f runs limit m n (omega arith) (ends_by-second limit (f x) (joined f (take n runs)) all))
+ended_sooner {T} f (x ∷ runs) limit (suc m) (suc n) le all = ends_by-append limit (f x) (joined f (take m runs)) (ends_by-left limit (f x) (joined f (take n runs)) all) (ended_sooner f runs limit m n (omega arith) (ends_by-right limit (f x) (joined f (take n runs)) all))
 
 pub ended_below : {T : Type 0} (f : T → List (ℕ × ℕ)) (runs : List T) (from m n : ℕ) → IsNormal (joined f runs) → m ≤ n → EndsBy (from - 1) (joined f (take n runs)) → EndsBelow from (joined f (take m runs))
 ended_below {T} f runs from m n normal le all =
@@ -139,10 +127,6 @@ started from to start q (r ∷ rs) filled within is past =
     let reached : from ≤ r.1 = past r rs refl in
     let b : Bool = in_ranges rs q in
     begun from to start q r.0 r.1 b filled is reached
-
-or_assoc : (a b c : Bool) → ((a || b) || c) ≡ (a || (b || c))
-or_assoc true b c = refl
-or_assoc false b c = refl
 
 ends_min : (f g start : ℕ) (rs : List (ℕ × ℕ)) → EndsBelow f rs → EndsBelow g rs → start ≡ min f g → EndsBelow start rs
 ends_min f g start [] all more is = tt
@@ -177,16 +161,9 @@ one_more_cut from to start end k ranges rest new normal filled within ended past
 
 -- ---- around a run
 
-item_first : {X : Type 0} (xs : List X) (x : X) → 1 ≤ length xs → x ≡ get_or xs 0 x → xs ≡ x ∷ take (length xs - 1) (drop 1 xs)
-item_first {X} [] x some is = absurd (omega arith)
-item_first {X} (y ∷ ys) x some is =
-    let e : suc (length ys) - 1 ≡ length ys = omega arith in
-    let whole : take (suc (length ys) - 1) ys ≡ ys = ap (λ n. take n ys) e ∙ take_all (length ys) ys (omega arith) in
-    λ i. sym is i ∷ sym whole i
-
 pub around_at : {T : Type 0} (f : T → List (ℕ × ℕ)) (runs : List T) (from m n : ℕ) (run : T) → IsNormal (joined f runs) → m ≤ n → EndsBy (from - 1) (joined f (take n runs)) → 1 ≤ length (take (length runs - m) (drop m runs)) → run ≡ get_or (take (length runs - m) (drop m runs)) 0 run → IsAround f from runs (take m runs) run (take (length (take (length runs - m) (drop m runs)) - 1) (drop 1 (take (length runs - m) (drop m runs))))
 around_at {T} f runs from m n run normal le all some is = record {
-  parts = sym (take-append-drop m runs) ∙ ap (λ (l : List T). take m runs ++ l) (sym (take_rest runs m) ∙ item_first _ run some is);
+  parts = sym (take-append-drop m runs) ∙ ap (λ (l : List T). take m runs ++ l) (sym (take_rest runs m) ∙ split_first _ run some is);
   below = ended_below f runs from m n normal le all;
 }
 
@@ -267,17 +244,13 @@ run_normal before node node' first second behind run is parts normal =
     let whole = subst (λ (l : List (List (ℕ × ℕ))). IsNormal (joining l)) parts (node_normal before node node' behind is normal) in
     IsNormal-prefix run (joining second) (IsNormal-suffix (joining first) (run ++ joining second) (subst IsNormal (joining-append first (run ∷ second)) whole))
 
-next_first : (rs ss : List (ℕ × ℕ)) → 0 < length rs → next_of (rs ++ ss) ≡ next_of rs
-next_first [] ss some = absurd (omega arith)
-next_first (r ∷ rs) ss some = refl
-
 pub replaced_normal : (from to : ℕ) (before behind run ranges : List (ℕ × ℕ)) → IsNormal (before ++ (run ++ behind)) → 0 < length run → EndsBelow from before → to < next_of behind → HasOneMore from to run ranges → IsNormal (before ++ (ranges ++ behind))
 replaced_normal from to before behind run ranges normal some below above more =
     let tail = IsNormal-suffix before (run ++ behind) normal in
     let rest = normal_append ranges behind more.normal (IsNormal-suffix run behind tail) (more.below (next_of behind) above (ends_next run behind tail)) in
-    let run_below : EndsBelow (next_of run) before = subst (λ n. EndsBelow n before) (next_first run behind some) (ends_next before (run ++ behind) normal) in
+    let run_below : EndsBelow (next_of run) before = subst (λ n. EndsBelow n before) (next_append run behind some) (ends_next before (run ++ behind) normal) in
     normal_append before (ranges ++ behind) (IsNormal-prefix before (run ++ behind) normal) rest
-    (ends_min from (next_of run) (next_of (ranges ++ behind)) before below run_below (next_first ranges behind more.some ∙ more.first))
+    (ends_min from (next_of run) (next_of (ranges ++ behind)) before below run_below (next_append ranges behind more.some ∙ more.first))
 
 more_last : (a r z x : Bool) → (a || ((r || x) || z)) ≡ ((a || (r || z)) || x)
 more_last true r z x = refl

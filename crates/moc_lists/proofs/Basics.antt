@@ -2,15 +2,8 @@
 use Rattle.std.proofs.Common.{◌≡◌, ℕ, ◌≤◌, false, List, [], ◌∷◌, refl, arith, suc, ◌-◌, length, get_or, take, drop, sym, ap, ◌∙◌, ◌||◌, ◌++◌, ◌<◌, length-append}
 use Rattle.std.proofs.lemmas.Bool.Decides.{nat_tests}
 use Rattle.std.proofs.lemmas.List.{take_all}
-use Rattle.moc_lists.specs.Lemmas.Members.{in_ranges, in_range}
-use Rattle.moc_lists.specs.RangeList.{IsNormal, BeginsAfter}
+use Rattle.moc_lists.specs.Lemmas.Members.{in_ranges, in_range, in_ranges-append, or_false}
 use Rattle.moc_lists.specs.Private.Walks.{EndsBy}
-use Rattle.moc_lists.proofs.Merging.{in_ranges-append, or_false}
-
--- no number up to the end of a normal list's first range is in a later one
-pub later_only : (x q : ℕ) (ranges : List (ℕ × ℕ)) → IsNormal ranges → BeginsAfter x ranges → q ≤ x → in_ranges ranges q ≡ false
-later_only x q [] normal after le = refl
-later_only x q (range ∷ ranges) normal after le = let rest = later_only range.1 q ranges normal.3 normal.2 (omega arith) in grind (arith, nat_tests)
 
 pub first_item : (xs : List (ℕ × ℕ)) (d : ℕ × ℕ) → 1 ≤ length xs → xs ≡ get_or xs 0 d ∷ take (length xs - 1) (drop 1 xs)
 first_item [] d some = absurd (omega arith)

@@ -7,7 +7,7 @@ use Rattle.std.specs.Bool.{OnTrue, OnFalse}
 use Rattle.std.specs.Prelude.{nat_lt}
 use Rattle.std.proofs.lemmas.List.{take_more, take-append-drop, length-take}
 use Rattle.moc_lists.specs.RangeList.{pixel_count, IsNormal}
-use Rattle.moc_lists.specs.Lemmas.Members.{in_range, in_ranges}
+use Rattle.moc_lists.specs.Lemmas.Members.{in_range, in_ranges, in_ranges-append, or_false}
 use Rattle.moc_lists.specs.Blocks.{joining, AreBlocks}
 use Rattle.moc_lists.specs.Private.Blocks.{last_of}
 use Rattle.moc_lists.specs.Private.Built.{Growing, ranges_of, IsBuilt, AreGrouped, CanJoin, EndsBelow, BeginsBy}
@@ -15,8 +15,8 @@ use Rattle.moc_lists.specs.Private.Built.{kept_of, first_length, last_length}
 use Rattle.moc_lists.proofs.Filling.{last_length-append, filled_longer, filled_append, some_blocks}
 use Rattle.moc_lists.proofs.Blocking.{IsNormal-prefix, IsNormal-suffix, nothing_more, joining-append, joining-last}
 use Rattle.moc_lists.proofs.Blocking.{last_of-get}
-use Rattle.moc_lists.proofs.Merging.{ends_by_last, normal_append, in_ranges-append, EndsBelow-append, EndsBelow-first}
-use Rattle.moc_lists.proofs.Merging.{EndsBelow-more, ends_second, begins_of_ends, ends_next, or_false}
+use Rattle.moc_lists.proofs.Merging.{ends_by_last, normal_append, EndsBelow-append, EndsBelow-first}
+use Rattle.moc_lists.proofs.Merging.{EndsBelow-more, ends_second, begins_of_ends, ends_next}
 
 length_in : (ns : List (List (List (ℕ × ℕ)))) (d : List (List (ℕ × ℕ))) (i : ℕ) → i < length ns → 0 < length (get_or ns i d) → 0 < length (joining ns)
 length_in [] d i lt filled = absurd (omega arith)

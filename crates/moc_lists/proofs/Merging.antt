@@ -1,13 +1,8 @@
 -- Joining lists of ranges at their ends, block by block.
-use Rattle.std.proofs.Common.{◌≡◌, ℕ, ◌<◌, ◌≤◌, Bool, true, false, ◌||◌, List, [], ◌∷◌, ◌++◌, length, refl, arith}
-use Rattle.std.proofs.lemmas.List.Folds.{list_any-append}
+use Rattle.std.proofs.Common.{◌≡◌, ℕ, ◌<◌, ◌≤◌, List, [], ◌∷◌, ◌++◌, length, refl, arith}
 use Rattle.moc_lists.specs.RangeList.{IsNormal}
-use Rattle.moc_lists.specs.Lemmas.Members.{in_range, in_ranges}
 use Rattle.moc_lists.specs.Private.Blocks.{last_of, next_of}
 use Rattle.moc_lists.specs.Private.Built.{EndsBelow, BeginsBy}
-
-pub in_ranges-append : (rs ss : List (ℕ × ℕ)) (q : ℕ) → in_ranges (rs ++ ss) q ≡ (in_ranges rs q || in_ranges ss q)
-in_ranges-append rs ss q = list_any-append (λ range. in_range range q) rs ss
 
 pub EndsBelow-more : (f g : ℕ) (rs : List (ℕ × ℕ)) → EndsBelow f rs → f ≤ g → EndsBelow g rs
 EndsBelow-more f g [] all le = tt
@@ -56,7 +51,3 @@ normal_append (r ∷ (r' ∷ rs)) ss nr ns below = (nr.0, nr.1, nr.2, normal_app
 pub next_append : (rs ss : List (ℕ × ℕ)) → 0 < length rs → next_of (rs ++ ss) ≡ next_of rs
 next_append [] ss some = absurd (omega arith)
 next_append (r ∷ rs) ss some = refl
-
-pub or_false : (b : Bool) → (b || false) ≡ b
-or_false true = refl
-or_false false = refl

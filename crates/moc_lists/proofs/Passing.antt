@@ -56,11 +56,11 @@ ended_more {T} f xs i limit x normal lt is some le =
     let ends : last_of (joined f (take (i + 1) xs)) ≤ limit = omega (arith, ap last_of same ∙ last_of-append (joined f (take i xs)) (f x) some, le) in
     ends_by_last limit _ whole ends
 
-ends_by-left : (limit : ℕ) (rs ss : List (ℕ × ℕ)) → EndsBy limit (rs ++ ss) → EndsBy limit rs
+pub ends_by-left : (limit : ℕ) (rs ss : List (ℕ × ℕ)) → EndsBy limit (rs ++ ss) → EndsBy limit rs
 ends_by-left limit [] ss e = tt
 ends_by-left limit (r ∷ rs) ss e = (e.0, ends_by-left limit rs ss e.1)
 
-ends_by-right : (limit : ℕ) (rs ss : List (ℕ × ℕ)) → EndsBy limit (rs ++ ss) → EndsBy limit ss
+pub ends_by-right : (limit : ℕ) (rs ss : List (ℕ × ℕ)) → EndsBy limit (rs ++ ss) → EndsBy limit ss
 ends_by-right limit [] ss e = e
 ends_by-right limit (r ∷ rs) ss e = ends_by-right limit rs ss e.1
 

@@ -1,19 +1,19 @@
 -- Halving a list of ranges, or of blocks, in search of a number.
-use Rattle.std.proofs.Common.{◌≡◌, ℕ, zero, suc, ◌+◌, ◌-◌, ◌*◌, ◌/◌, ◌^◌, ◌<◌, ◌≤◌, Bool, true, false, ◌||◌, List, []}
+use Rattle.std.proofs.Common.{◌≡◌, ℕ, zero, suc, ◌+◌, ◌-◌, ◌*◌, ◌/◌, ◌^◌, ◌<◌, ◌≤◌, true, false, ◌||◌, List, []}
 use Rattle.std.proofs.Common.{◌∷◌, ◌++◌, length, take, drop, get_or, refl, sym, ap, subst, ◌∙◌, arith, length-append}
 use Rattle.std.proofs.lemmas.Bool.Decides.{nat_tests}
 use Rattle.std.proofs.lemmas.List.{take_more, drop_more, take-append-drop, take_all}
 use Rattle.std.proofs.lemmas.List.Sums.{sum_by-cons}
 use Rattle.moc_lists.specs.RangeList.{NumberSet, pixel_count, IsNormal, set_of}
 use Rattle.moc_lists.specs.Blocks.{IsSearchOf, joining, AreBlocks}
-use Rattle.moc_lists.specs.Lemmas.Members.{in_ranges}
+use Rattle.moc_lists.specs.Lemmas.Members.{in_ranges, in_ranges-append, or_false}
 use Rattle.moc_lists.specs.Private.Blocks.{first_of, last_of, width_of, rest_of, AreStored, IsStored}
 use Rattle.moc_lists.specs.Private.Walks.{EndsBy}
+use Rattle.moc_lists.specs.Lemmas.Ranges.{later_only}
 use Rattle.moc_lists.proofs.Blocking.{nothing_more, IsNormal-prefix, IsNormal-suffix, joining-append, joining-last}
 use Rattle.moc_lists.proofs.Blocking.{first_of-append, last_of-append, width_bounded, width-append}
-use Rattle.moc_lists.proofs.Merging.{in_ranges-append}
 use Rattle.moc_lists.proofs.Passing.{ends_by_last}
-use Rattle.moc_lists.proofs.Basics.{none_ended, later_only}
+use Rattle.moc_lists.proofs.Basics.{none_ended}
 
 -- nothing before the first range, nothing from the end of the last
 none_before : (rs : List (ℕ × ℕ)) (q : ℕ) → IsNormal rs → q < first_of rs → in_ranges rs q ≡ false
@@ -43,10 +43,6 @@ begins_after [] c q normal some lt = absurd (omega arith)
 begins_after (r ∷ []) c q normal some lt = later_only r.1 q c normal.3 normal.2 (omega arith)
 begins_after (r ∷ (s ∷ b)) c q normal some lt = begins_after (s ∷ b) c q normal.3 (omega arith) lt
 
-or_none : (b : Bool) → (b || false) ≡ b
-or_none true = refl
-or_none false = refl
-
 more_some : (b c : List (ℕ × ℕ)) → 0 < length b → 0 < length (b ++ c)
 more_some [] c some = absurd (omega arith)
 more_some (r ∷ b) c some = omega arith
@@ -55,7 +51,7 @@ pub only_here : (a b c : List (ℕ × ℕ)) (q : ℕ) → IsNormal (a ++ (b ++ c
 only_here a b c q normal some from to =
     let a_none = none_ended (first_of (b ++ c)) q a (ends_before a (b ++ c) normal (more_some b c some)) (omega (arith, first_of-append b c some)) in
     let c_none = begins_after b c q (IsNormal-suffix a (b ++ c) normal) some to in
-    in_ranges-append a (b ++ c) q ∙ (λ i. a_none i || in_ranges-append b c q i) ∙ ap (λ x. in_ranges b q || x) c_none ∙ or_none (in_ranges b q)
+    in_ranges-append a (b ++ c) q ∙ (λ i. a_none i || in_ranges-append b c q i) ∙ ap (λ x. in_ranges b q || x) c_none ∙ or_false (in_ranges b q)
 
 -- a search that is narrowed to the places from low to high
 pub record IsNarrowed (before after : List (ℕ × ℕ)) (q low high len start steps : ℕ) : Type 0 where

@@ -4,6 +4,7 @@ ghost use Rattle.std.specs.Bool.{OnTrue, OnFalse};
 ghost use Rattle.moc_lists.specs.RangeList.{pixel_count, IsNormal};
 ghost use Rattle.moc_lists.specs.Lemmas.Members.{in_ranges, in_range};
 ghost use Rattle.moc_lists.specs.Blocks.{joining};
+ghost use Rattle.moc_lists.specs.Private.Blocks.{last_of};
 ghost use Rattle.moc_lists.specs.Private.Built.{ranges_of, none_grown, CanJoin, CanCarry, Carries, EndsBelow};
 
 use crate::block::{Block, LONGEST};
@@ -136,6 +137,7 @@ impl ListBuilder {
     #[inline]
     pub fn is_apart(&self, f: u64) -> bool
         ensures below { OnTrue result (EndsBelow f self.now.loose) }
+        ensures reached { OnFalse result (f ≤ last_of self.now.loose) }
     {
         self.kept.is_apart(f)
     }

@@ -30,7 +30,7 @@ impl<'a> Model for Ranges<'a> {
     ghost invariant = { λ r. IsNormal (rest_of r.ranges.now r.ahead.blocks.now r.ahead.nodes.now) };
 }
 
-ghost use Rattle.std.specs.Prelude.{ℕ, ◌≡◌, ◌<◌, ◌≤◌, ◌++◌, ◌∷◌, [], List, length, MatchOption, IfSome, Some};
+ghost use Rattle.std.specs.Prelude.{ℕ, ◌≡◌, ◌<◌, ◌≤◌, ◌++◌, ◌∷◌, [], List, length, MatchOption, IfSome, Some, min};
 ghost use Rattle.moc_lists.specs.RangeList.{IsNormal};
 ghost use Rattle.moc_lists.specs.Blocks.{joining};
 ghost use Rattle.moc_lists.specs.Private.Blocks.{last_of, next_of, rest_of};
@@ -90,7 +90,8 @@ impl<'a> Ranges<'a> {
     /// How many ranges there are, or as many as fit into a block where some are in blocks.
     #[inline]
     pub fn room(&self) -> usize
-        ensures { result ≤ LONGEST }
+        ensures fits { result ≤ LONGEST }
+        ensures enough { min (length self.now) LONGEST ≤ result }
     {
         if self.ahead.blocks.is_empty() && self.ahead.nodes.is_empty() {
             self.ranges.len().min(LONGEST)

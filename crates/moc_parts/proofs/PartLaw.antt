@@ -1,15 +1,14 @@
 -- A change of a set, part by part.
 use Rattle.std.proofs.Common.{◌≡◌, ℕ, ◌/◌, Bool, true, false, not, ◌&&◌, ◌||◌, nat_lt, nat_eq, inl, inr, refl, sym, ap, ◌∙◌}
-use Rattle.std.specs.Cmp.{nat_cmp_total}
 use Rattle.std.specs.FinSet as set
 use Rattle.moc_lists.specs.RangeList.{NumberSet, pixel_count}
 use Rattle.moc_lists.specs.Lemmas.Members.{same_members}
-use Rattle.moc_ranges.specs.Lemmas.Members.{contains-part_of, contains-complement, contains-pixels, meets-some}
-use Rattle.moc_ranges.specs.Operations.{pixels, base_pixel_size, complement, part_of, meets, IsWithin}
+use Rattle.moc_ranges.specs.Lemmas.Members.{contains-part_of, contains-complement, contains-pixels}
+use Rattle.moc_ranges.specs.Operations.{pixels, base_pixel_size, complement, part_of, IsWithin}
 use Rattle.moc_parts.specs.declared.change.Change.{Change}
 use Rattle.moc_parts.specs.declared.change.Change.TheVariants.{Join, Leave, Share, Invert, Degrade}
 use Rattle.moc_parts.specs.Private.Changes.{changed, changed_part, IsChange}
-use Rattle.moc_parts.proofs.Members.{has-union, has-intersection, has-difference, or_true, or_left, and_true, both, clash, not_true_false, same_test, is_some, in_part, of_part}
+use Rattle.moc_parts.proofs.Members.{has-union, has-intersection, has-difference, or_true, and_true, both, clash, not_true_false, same_test, is_some, in_part, of_part}
 use Rattle.moc_parts.proofs.Twelve.{or_nothing}
 use Rattle.moc_parts.proofs.Coarse.{part-degrade, of_degrade}
 

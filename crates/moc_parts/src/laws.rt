@@ -1,7 +1,6 @@
 //! Laws of the commands, and of the parts of sets. The calls do nothing.
 ghost use Rattle.moc_parts.specs.Laws.{BatchesAreLocal, CommandsAreLocal, DegradedOperandsMeetTheSameParts};
-ghost use Rattle.moc_parts.specs.Laws.{SetsHaveTwelveParts, SetsAreUnitedByParts};
-ghost use Rattle.moc_parts.specs.Laws.{QueriesLeaveTheSet};
+ghost use Rattle.moc_parts.specs.Laws.{SetsHaveTwelveParts, SetsAreUnitedByParts, QueriesLeaveTheSet};
 
 /// The footprint of a command is all that it looks at and all that it changes.
 pub fn commands_are_local()

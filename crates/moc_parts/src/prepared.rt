@@ -1,5 +1,5 @@
 //! What a batch makes of the parts in its footprint, from what was found there.
-ghost use Rattle.std.specs.Prelude.{◌≡◌, ◌<◌, ℕ, IfOk, None, false, get_or, set as set_at};
+ghost use Rattle.std.specs.Prelude.{◌≡◌, ◌<◌, IfOk, None, false, get_or, set as set_at};
 ghost use Rattle.std.specs.List.{list_any};
 ghost use Rattle.moc_parts.specs.Commands.{is_update};
 ghost use Rattle.moc_parts.specs.Parts.{union_of, LieInParts};

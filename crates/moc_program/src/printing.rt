@@ -1,5 +1,5 @@
 //! Texts on the output.
-ghost use Rattle.std.specs.Prelude.{◌≡◌, false, true, Err, IsErrAnd, IsErrOf, IsTrue, MatchResult, OnOk, is_err};
+ghost use Rattle.std.specs.Prelude.{◌≡◌, false, Err, IsErrAnd, IsErrOf, IsTrue, MatchResult, OnOk, is_err};
 ghost use Rattle.std.specs.Io.KnownBytes.{Keeps};
 ghost use Rattle.std.specs.String.{string_bytes};
 ghost use Rattle.moc_program.specs.Private.Ending.{end_of};

@@ -13,6 +13,7 @@ use Rattle.moc_lists.specs.Lemmas.Sizes.{len_parts}
 use Rattle.moc_lists.specs.Private.Blocks.{width_of}
 use Rattle.moc_lists.specs.Private.Added.{HasGrown}
 use Rattle.moc_ranges.proofs.Views.{range_view}
+use Rattle.moc_ranges.proofs.Walking.{and_swap}
 use Rattle.moc_lists.proofs.Adding.{grown_width}
 
 -- ---- sets
@@ -49,12 +50,6 @@ backwards from to q le = grind (arith, nat_tests)
 
 pub no_numbers : (from to : ℕ) (a : NumberSet) → to ≤ from → (q : ℕ) → set.contains (numbers from to) q ≡ true → set.contains a q ≡ true
 no_numbers from to a le q has = absurd (false≢true (sym (contains-numbers from to q ∙ backwards from to q le) ∙ has))
-
-and_swap : (a b : Bool) → (a && b) ≡ (b && a)
-and_swap true true = refl
-and_swap true false = refl
-and_swap false true = refl
-and_swap false false = refl
 
 pub new_count : (a b : NumberSet) (n m k : ℕ) → n ≡ set.len b → m ≡ set.len (set.intersection a b) → k ≡ n - m → k ≡ set.len (set.difference b a)
 new_count a b n m k is_n is_m is_k =

@@ -1,15 +1,15 @@
 -- What is built, block by block.
-use Rattle.std.proofs.Common.{◌≡◌, ℕ, ◌+◌, ◌<◌, ◌≤◌, Bool, true, false, ◌||◌, List, [], ◌∷◌, ◌++◌, length, get_or}
-use Rattle.std.proofs.Common.{take, max, refl, sym, ap, subst, ◌∙◌, arith}
+use Rattle.std.proofs.Common.{◌≡◌, ℕ, ◌+◌, ◌<◌, ◌≤◌, ◌||◌, List, [], ◌∷◌, ◌++◌, length, get_or}
+use Rattle.std.proofs.Common.{take, max, sym, ap, subst, ◌∙◌, arith}
 use Rattle.std.proofs.lemmas.List.{take_more, take_all, take_more_set, length-set}
 use Rattle.std.proofs.Math.ListN.{set}
 use Rattle.moc_lists.specs.RangeList.{pixel_count, IsNormal}
 use Rattle.moc_ranges.specs.Private.Sorted.{IsSortedFrom}
-use Rattle.moc_lists.specs.Lemmas.Members.{in_range, in_ranges}
+use Rattle.moc_lists.specs.Lemmas.Members.{in_range, in_ranges, in_ranges-append, or_false, or_assoc}
 use Rattle.moc_lists.specs.Private.Blocks.{last_of}
 use Rattle.moc_lists.proofs.Blocking.{IsNormal-suffix}
-use Rattle.moc_lists.proofs.Merging.{in_ranges-append, or_false}
 use Rattle.moc_lists.proofs.Building.{longer_normal, last_of-last, longer_range, last_filled}
+use Rattle.moc_ranges.proofs.Sorting.{IsSortedFrom-less}
 
 -- the last range of some, made longer in its place
 pub last_split : (rs : List (ℕ × ℕ)) (i : ℕ) (last : ℕ × ℕ) → i + 1 ≡ length rs → last ≡ get_or rs i last → rs ≡ take i rs ++ last ∷ []
@@ -53,20 +53,12 @@ lengthened_start ks rest whole last n sorted is =
     } in
     rw n start
 
-or_behind : (a b c : Bool) → ((a || b) || c) ≡ (a || (b || c))
-or_behind true b c = refl
-or_behind false b c = refl
-
-sorted_less : (low lower : ℕ) (rest : List (ℕ × ℕ)) → lower ≤ low → IsSortedFrom low rest → IsSortedFrom lower rest
-sorted_less low lower [] le s = tt
-sorted_less low lower (pair ∷ rest) le s = (omega arith, s.1, s.2, s.3)
-
 pub lengthened_more : (ks ks' rest rest' whole : List (ℕ × ℕ)) (last last' range : ℕ × ℕ) → IsLengthened ks last rest whole → rest ≡ range ∷ rest' → IsNormal (ks' ++ last' ∷ []) → last'.0 ≤ range.0 → ((q : ℕ) → in_ranges (ks' ++ last' ∷ []) q ≡ (in_ranges (ks ++ last ∷ []) q || in_range range q)) → IsLengthened ks' last' rest' whole
 lengthened_more ks ks' rest rest' whole last last' range s is opened later same = record {
   opened = opened;
-  sorted = sorted_less range.0 last'.0 rest' later (subst (λ (l : List (ℕ × ℕ)). IsSortedFrom last.0 l) is s.sorted).3;
+  sorted = IsSortedFrom-less range.0 last'.0 rest' later (subst (λ (l : List (ℕ × ℕ)). IsSortedFrom last.0 l) is s.sorted).3;
   same = λ q. ap (λ b. b || in_ranges rest' q) (same q)
-      ∙ or_behind (in_ranges (ks ++ last ∷ []) q) (in_range range q) (in_ranges rest' q)
+      ∙ or_assoc (in_ranges (ks ++ last ∷ []) q) (in_range range q) (in_ranges rest' q)
       ∙ ap (λ (l : List (ℕ × ℕ)). in_ranges (ks ++ last ∷ []) q || in_ranges l q) (sym is) ∙ s.same q;
 }
 

@@ -16,7 +16,7 @@ use Rattle.moc_lists.specs.Private.Built.{CanCarry, EndsBelow}
 use Rattle.moc_ranges.specs.Private.Differing.{differs, IsDiffering}
 use Rattle.moc_ranges.specs.Private.Crossing.{bounds_of, is_odd_at, Rises, open_of, restored_of, AreBounds, IsCrossed}
 use Rattle.moc_ranges.specs.Private.Walks.{begun}
-use Rattle.moc_lists.proofs.Basics.{later_only}
+use Rattle.moc_lists.specs.Lemmas.Ranges.{later_only}
 use Rattle.moc_lists.proofs.Blocking.{IsNormal-prefix, IsNormal-suffix, nothing_more}
 use Rattle.moc_lists.proofs.Merging.{normal_append, ends_next, EndsBelow-more}
 use Rattle.moc_ranges.proofs.Differing.{differs_gone, differs_none, differs_swap, differing_swap, ends_both}

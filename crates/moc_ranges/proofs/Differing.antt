@@ -5,20 +5,18 @@ use Rattle.std.specs.Prelude.{nat_le, nat_lt}
 use Rattle.std.proofs.lemmas.Bool.{cases_lt}
 use Rattle.std.proofs.lemmas.Bool.Decides.{nat_tests}
 use Rattle.moc_lists.specs.RangeList.{pixel_count, IsNormal, BeginsAfter, set_of}
-use Rattle.moc_lists.specs.Lemmas.Members.{same_members, in_range, in_ranges, contains-set_of}
+use Rattle.moc_lists.specs.Lemmas.Members.{same_members, in_range, in_ranges, contains-set_of, in_ranges-append, or_false, or_assoc}
 use Rattle.moc_ranges.specs.Lemmas.Members.{contains-symmetric}
 use Rattle.moc_ranges.specs.Operations.{symmetric}
 use Rattle.moc_lists.specs.Private.Blocks.{next_of}
 use Rattle.moc_lists.specs.Private.Built.{CanCarry, Carries, EndsBelow}
+use Rattle.moc_lists.specs.Lemmas.Ranges.{later_only}
 use Rattle.moc_ranges.specs.Private.Differing.{differs, IsParted, IsDiffering}
-use Rattle.moc_lists.proofs.Merging.{normal_append, ends_next, or_false, in_ranges-append, EndsBelow-append}
-use Rattle.moc_lists.proofs.Merging.{EndsBelow-more}
+use Rattle.moc_lists.proofs.Merging.{normal_append, ends_next, EndsBelow-append, EndsBelow-more}
 use Rattle.moc_ranges.proofs.Merging.{next_later}
 use Rattle.moc_lists.proofs.Blocking.{IsNormal-prefix, IsNormal-suffix}
 use Rattle.moc_ranges.proofs.Lacking.{none_before, range_from}
 use Rattle.moc_lists.proofs.Building.{pushed_normal}
-use Rattle.moc_ranges.proofs.Turning.{or_first}
-use Rattle.moc_lists.proofs.Basics.{later_only}
 
 pub differs_view : (xs ys zs : List (ℕ × ℕ)) → ((q : ℕ) → in_ranges zs q ≡ differs (in_ranges xs q) (in_ranges ys q)) → set_of zs ≡ symmetric (set_of xs) (set_of ys)
 differs_view xs ys zs each = same_members _ _ (λ q.
@@ -89,7 +87,7 @@ parted_apart x y kept kept' normal filled other within after lt is =
       filled = other;
       below = λ f low. EndsBelow-append (min f y.0) kept (x ∷ []) (EndsBelow-more x.0 (min f y.0) kept first (omega arith)) (omega arith, tt);
       same = λ xs ys q nx ny. ap (λ b. b || differs (in_ranges xs q) (in_ranges (y ∷ ys) q)) (in_ranges-append kept (x ∷ []) q ∙ ap (λ b. in_ranges kept q || b) (or_false (in_range x q)))
-          ∙ or_first (in_ranges kept q) (in_range x q) (differs (in_ranges xs q) (in_ranges (y ∷ ys) q))
+          ∙ or_assoc (in_ranges kept q) (in_range x q) (differs (in_ranges xs q) (in_ranges (y ∷ ys) q))
           ∙ ap (λ b. in_ranges kept q || b) (sym (apart x y xs ys q nx ny lt));
     })
 
@@ -109,7 +107,7 @@ parted_over x y from to kept kept' filled ends reach f t normal below same = rec
   filled = ends;
   below = λ g low. below (min g x.1) (omega arith) (omega arith);
   same = λ xs ys q nx ny. ap (λ b. b || differs (in_ranges xs q) (in_ranges ((x.1, y.1) ∷ ys) q)) (same q)
-      ∙ or_first (in_ranges kept q) (in_range (from, to) q) (differs (in_ranges xs q) (in_ranges ((x.1, y.1) ∷ ys) q))
+      ∙ or_assoc (in_ranges kept q) (in_range (from, to) q) (differs (in_ranges xs q) (in_ranges ((x.1, y.1) ∷ ys) q))
       ∙ ap (λ b. in_ranges kept q || b) (sym (over x y xs ys from to q nx ny reach (omega arith) f t));
 }
 
@@ -156,7 +154,7 @@ differing_both kept kept' xs ys whole_xs whole_ys x y from to s at f t normal be
       second_normal = s.second_normal.3;
       below = below (min (next_of xs) (next_of ys)) (omega arith) (omega arith);
       same = λ q. ap (λ b. b || differs (in_ranges xs q) (in_ranges ys q)) (same q)
-          ∙ or_first (in_ranges kept q) (in_range (from, to) q) (differs (in_ranges xs q) (in_ranges ys q))
+          ∙ or_assoc (in_ranges kept q) (in_range (from, to) q) (differs (in_ranges xs q) (in_ranges ys q))
           ∙ ap (λ b. in_ranges kept q || b) (sym (over_both x y xs ys from to q s.first_normal s.second_normal at f t))
           ∙ s.same q;
     }
@@ -192,7 +190,7 @@ differing_carried kept kept' xs xs' ys whole_xs whole_ys limit s le c =
           (EndsBelow-more (min (next_of xs) (next_of ys)) (min (next_of xs') (next_of ys)) kept s.below (omega (arith, ap next_of c.parts, later)))
           (ends_both (next_of xs') (next_of ys) c.gone (ends_next c.gone xs' whole) before));
       same = λ q. ap (λ b. b || differs (in_ranges xs' q) (in_ranges ys q)) (ap (λ (k : List (ℕ × ℕ)). in_ranges k q) c.kept ∙ in_ranges-append kept c.gone q)
-          ∙ or_first (in_ranges kept q) (in_ranges c.gone q) (differs (in_ranges xs' q) (in_ranges ys q))
+          ∙ or_assoc (in_ranges kept q) (in_ranges c.gone q) (differs (in_ranges xs' q) (in_ranges ys q))
           ∙ ap (λ b. in_ranges kept q || b)
           (sym (differs_gone c.gone xs' ys q s.second_normal before)
           ∙ ap (λ (k : List (ℕ × ℕ)). differs (in_ranges k q) (in_ranges ys q)) (sym c.parts))

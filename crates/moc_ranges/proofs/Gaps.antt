@@ -6,15 +6,15 @@ use Rattle.std.specs.Prelude.{nat_le, nat_lt}
 use Rattle.std.proofs.lemmas.Bool.{cases_lt}
 use Rattle.std.proofs.lemmas.Bool.Decides.{nat_tests}
 use Rattle.moc_lists.specs.RangeList.{IsNormal, BeginsAfter}
-use Rattle.moc_lists.specs.Lemmas.Members.{in_ranges}
+use Rattle.moc_lists.specs.Lemmas.Members.{in_ranges, in_ranges-append}
 use Rattle.moc_lists.specs.Private.Blocks.{next_of}
 use Rattle.moc_lists.specs.Private.Built.{EndsBelow}
 use Rattle.moc_lists.specs.Private.Walks.{EndsBy, Passes}
+use Rattle.moc_lists.specs.Lemmas.Ranges.{later_only}
 use Rattle.moc_ranges.specs.Private.Meeting.{IsRising, CanMeet, MeetsOn, LeavesOut, gaps_before, gaps_of, end_of}
 use Rattle.moc_lists.proofs.Blocking.{IsNormal-suffix, nothing_more}
-use Rattle.moc_lists.proofs.Merging.{ends_next, in_ranges-append, EndsBelow-append, EndsBelow-more}
+use Rattle.moc_lists.proofs.Merging.{ends_next, EndsBelow-append, EndsBelow-more}
 use Rattle.moc_ranges.proofs.Merging.{next_later}
-use Rattle.moc_lists.proofs.Basics.{later_only}
 use Rattle.moc_ranges.proofs.Views.{normal_below}
 use Rattle.moc_ranges.proofs.Meeting.{normal_from}
 

@@ -13,12 +13,9 @@ use Rattle.moc_ranges.specs.Cells.{span, spans, pixels_of}
 use Rattle.std.specs.Option.{option_or}
 use Rattle.moc_ranges.specs.Faults.{first_fault_from, pair_fault}
 use Rattle.moc_ranges.specs.Private.Gathered.{gathered}
-use Rattle.moc_ranges.specs.Lemmas.{empty-union, union-empty, union-assoc, pixels_of-append, run_of_cells}
+use Rattle.moc_ranges.specs.Lemmas.{empty-union, union-empty, union-assoc, pixels_of-append, run_of_cells, in_union}
 use Rattle.moc_ranges.proofs.Sorting.{in_ranges-push, no_fault_parts}
 use Rattle.moc_ranges.proofs.Spans.{span_view}
-
-in_union : (a b : NumberSet) (q : ℕ) → set.contains (set.union a b) q ≡ (set.contains a q || set.contains b q)
-in_union a b q = set.contains-union nat_cmp_total a b q
 
 -- nothing waits
 pub none_waits : (joined : NumberSet) → set.union joined (set_of []) ≡ joined

@@ -5,16 +5,15 @@ use Rattle.std.specs.Prelude.{nat_le, nat_lt}
 use Rattle.std.proofs.lemmas.Bool.{cases_lt, and_parts, and_from, leb-true, ltb-true, le-leb, lt-ltb, false≢true}
 use Rattle.std.proofs.lemmas.Bool.Decides.{nat_tests}
 use Rattle.moc_lists.specs.RangeList.{IsNormal}
-use Rattle.moc_lists.specs.Lemmas.Members.{in_range, in_ranges}
+use Rattle.moc_lists.specs.Lemmas.Members.{in_range, in_ranges, in_ranges-append, or_false, or_assoc, and_false}
 use Rattle.moc_lists.specs.Private.Blocks.{next_of}
 use Rattle.moc_lists.specs.Private.Built.{EndsBelow, Carries}
 use Rattle.moc_ranges.specs.Private.Walks.{begun}
 use Rattle.moc_lists.specs.Private.Walks.{EndsBy, Advances}
-use Rattle.moc_lists.proofs.Merging.{ends_next, or_false, in_ranges-append, EndsBelow-append, EndsBelow-more}
+use Rattle.moc_lists.specs.Lemmas.Ranges.{later_only}
+use Rattle.moc_lists.proofs.Merging.{ends_next, EndsBelow-append, EndsBelow-more}
 use Rattle.moc_ranges.proofs.Merging.{next_later}
 use Rattle.moc_lists.proofs.Blocking.{IsNormal-suffix}
-use Rattle.moc_ranges.proofs.Turning.{or_first}
-use Rattle.moc_lists.proofs.Basics.{later_only}
 use Rattle.moc_ranges.proofs.Walking.{Steps, begun_is}
 
 -- a range of the second list that ends before the first
@@ -90,7 +89,7 @@ lacking_trim ks ks' xs ys t whole_xs whole_ys x y to r l reach ends is built bel
       second_normal = l.second_normal.3;
       below = below y.1 (omega arith) (omega (arith, is));
       same = λ q. ap (λ k. k || (in_ranges ((y.1, x.1) ∷ xs) q && not (in_ranges ys q))) (same q)
-          ∙ or_first (in_ranges ks q) (in_range (x.0, to) q) (in_ranges ((y.1, x.1) ∷ xs) q && not (in_ranges ys q))
+          ∙ or_assoc (in_ranges ks q) (in_range (x.0, to) q) (in_ranges ((y.1, x.1) ∷ xs) q && not (in_ranges ys q))
           ∙ ap (λ k. in_ranges ks q || k) (sym (trim x y xs ys to q l.first_normal l.second_normal reach ends is))
           ∙ l.same q;
     })
@@ -113,10 +112,6 @@ none_before (y ∷ ys) q normal lt =
 carried_bool : (r all ys gone xs : Bool) → (all && not ys) ≡ (gone || (xs && not ys)) → (r ≡ true → ys ≡ false) → ((r || all) && not ys) ≡ ((r || gone) || (xs && not ys))
 carried_bool true all ys gone xs rest alone = ap not (alone refl)
 carried_bool false all ys gone xs rest alone = rest
-
-and_false : (b : Bool) → (b && false) ≡ false
-and_false true = refl
-and_false false = refl
 
 passed_bool : (r xs y ys all : Bool) → (xs && not (y || ys)) ≡ (all && not (y || ys)) → (r ≡ true → y ≡ true) → (xs && not (y || ys)) ≡ ((r || all) && not (y || ys))
 passed_bool false xs y ys all rest inside = rest
@@ -144,7 +139,7 @@ lacking_carried ks ks' xs xs' ys whole_xs whole_ys limit l is c =
           (EndsBelow-append (next_of xs') ks c.gone
           (EndsBelow-more (next_of xs) (next_of xs') ks l.below (omega (arith, ap next_of c.parts, later))) (ends_next c.gone xs' normal));
       same = λ q. ap (λ k. k || (in_ranges xs' q && not (in_ranges ys q))) (ap (λ (k : List (ℕ × ℕ)). in_ranges k q) c.kept ∙ in_ranges-append ks c.gone q)
-          ∙ or_first (in_ranges ks q) (in_ranges c.gone q) (in_ranges xs' q && not (in_ranges ys q))
+          ∙ or_assoc (in_ranges ks q) (in_ranges c.gone q) (in_ranges xs' q && not (in_ranges ys q))
           ∙ ap (λ k. in_ranges ks q || k)
           (sym (carried_has c.gone xs' ys q normal l.second_normal (subst (λ f. EndsBelow f c.gone) is c.below))
           ∙ ap (λ (k : List (ℕ × ℕ)). in_ranges k q && not (in_ranges ys q)) (sym c.parts))
@@ -213,7 +208,7 @@ lacking_kept ks ks' xs ys whole_xs whole_ys x y to l ends is built below same =
       second_normal = l.second_normal;
       below = below (next_of xs) (omega arith) (omega (arith, is));
       same = λ q. ap (λ k. k || (in_ranges xs q && not (in_ranges (y ∷ ys) q))) (same q)
-          ∙ or_first (in_ranges ks q) (in_range (x.0, to) q) (in_ranges xs q && not (in_ranges (y ∷ ys) q))
+          ∙ or_assoc (in_ranges ks q) (in_range (x.0, to) q) (in_ranges xs q && not (in_ranges (y ∷ ys) q))
           ∙ ap (λ k. in_ranges ks q || k) (sym (gone x y xs ys to q l.first_normal l.second_normal ends is))
           ∙ l.same q;
     }
@@ -231,7 +226,7 @@ lacking_all ks ks' xs ys whole_xs whole_ys x s from none built below same =
       second_normal = tt;
       below = below (next_of xs) (omega arith) next;
       same = λ q. ap (λ k. k || (in_ranges xs q && not (in_ranges [] q))) (same q)
-          ∙ or_first (in_ranges ks q) (in_range (x.0, x.1) q) (in_ranges xs q && not (in_ranges [] q))
+          ∙ or_assoc (in_ranges ks q) (in_range (x.0, x.1) q) (in_ranges xs q && not (in_ranges [] q))
           ∙ ap (λ k. in_ranges ks q || k) (sym (whole (in_range x q) (in_ranges xs q)))
           ∙ l.same q;
     }

@@ -11,15 +11,16 @@ use Rattle.std.specs.FinSet as set
 use Rattle.std.specs.Ordering.{nat_cmp}
 use Rattle.std.specs.Cmp.{nat_cmp_total}
 use Rattle.moc_lists.specs.RangeList.{NumberSet, numbers, pixel_count, IsNormal, set_of}
-use Rattle.moc_lists.specs.Lemmas.Members.{contains-numbers, same_members, in_ranges, contains-set_of}
+use Rattle.moc_lists.specs.Lemmas.Members.{contains-numbers, same_members, in_ranges, contains-set_of, in_ranges-append, and_false}
 use Rattle.moc_ranges.specs.Lemmas.Members.{meets-some, meets-none, contains-part_of, contains-pixels}
 use Rattle.moc_ranges.specs.Operations.{base_pixel_size, pixels, meets, part_of}
 use Rattle.moc_lists.specs.Private.Walks.{EndsBy, IsFirstPast}
+use Rattle.moc_lists.specs.Lemmas.Ranges.{later_only}
 use Rattle.moc_ranges.specs.Private.Walks.{IsNextRange, HasNoneFrom}
+use Rattle.moc_ranges.specs.Lemmas.Ranges.{at_end}
 use Rattle.moc_lists.proofs.Blocking.{IsNormal-suffix}
-use Rattle.moc_lists.proofs.Merging.{in_ranges-append}
-use Rattle.moc_lists.proofs.Basics.{later_only, none_ended}
-use Rattle.moc_ranges.proofs.Views.{and_no, none_in_part}
+use Rattle.moc_lists.proofs.Basics.{none_ended}
+use Rattle.moc_ranges.proofs.Views.{and_no, none_in_part, in_base}
 
 -- the ranges that a search has passed
 pub record IsSearching (limit : ℕ) (rest whole : List (ℕ × ℕ)) : Type 0 where
@@ -39,9 +40,6 @@ search_none limit whole ended = record { none = λ q le. contains-set_of whole q
 first_has : (range : ℕ × ℕ) (rest : List (ℕ × ℕ)) (q : ℕ) → IsNormal (range ∷ rest) → q < range.1 → in_ranges (range ∷ rest) q ≡ nat_le range.0 q
 first_has range rest q normal lt = let later = later_only range.1 q rest normal.3 normal.2 (omega arith) in grind (arith, nat_tests)
 
-first_ends : (range : ℕ × ℕ) (rest : List (ℕ × ℕ)) → IsNormal (range ∷ rest) → in_ranges (range ∷ rest) range.1 ≡ false
-first_ends range rest normal = let later = later_only range.1 range.1 rest normal.3 normal.2 (omega arith) in grind (arith, nat_tests)
-
 search_some : (limit : ℕ) (range : ℕ × ℕ) (s rest whole : List (ℕ × ℕ)) → IsSearching limit s whole → s ≡ range ∷ rest → limit < range.1 → IsNextRange limit (set_of whole) range
 search_some limit range s rest whole i e lt =
     let left : IsNormal (range ∷ rest) = subst IsNormal e (IsNormal-suffix i.gone s (subst IsNormal i.parts i.normal)) in
@@ -50,7 +48,7 @@ search_some limit range s rest whole i e lt =
       filled = left.0;
       within = left.1;
       has = λ q low high. contains-set_of whole q ∙ left_in limit q s whole i low ∙ ap (λ (l : List (ℕ × ℕ)). in_ranges l q) e ∙ first_has range rest q left high;
-      ends = contains-set_of whole range.1 ∙ left_in limit range.1 s whole i (omega arith) ∙ ap (λ (l : List (ℕ × ℕ)). in_ranges l range.1) e ∙ first_ends range rest left;
+      ends = contains-set_of whole range.1 ∙ left_in limit range.1 s whole i (omega arith) ∙ ap (λ (l : List (ℕ × ℕ)). in_ranges l range.1) e ∙ at_end range rest left;
     }
 
 -- the first range that ends after the limit, of a normal list
@@ -78,11 +76,6 @@ from_numbers : (from to q : ℕ) → set.contains (numbers from to) q ≡ true �
 from_numbers from to q has =
     let parts = and_parts (nat_le from q) (nat_lt q to) (sym (contains-numbers from to q) ∙ has) in
     (leb-true from q parts.0, ltb-true q to parts.1)
-
--- numbers in a row, of which the set has none
-and_false : (b : Bool) → (b && false) ≡ false
-and_false true = refl
-and_false false = refl
 
 meets_no : (a : NumberSet) (from to : ℕ) → ((q : ℕ) → from ≤ q → q < to → set.contains a q ≡ false) → meets a (numbers from to) ≡ false
 meets_no a from to none = meets-none a (numbers from to) (λ q. elim (cases_Bool (set.contains (numbers from to) q)) [
@@ -124,9 +117,6 @@ covers_none_left a from to n rising =
     false_from_ne_true _ (λ all. false≢true (sym (n.none from (omega arith)) ∙ set.is_subset-contains nat_cmp_total (numbers from to) a all from (in_numbers from to from (omega arith) rising)))
 
 -- ---- base pixels
-
-in_base : (b q : ℕ) → nat_eq (q / base_pixel_size) b ≡ (nat_le (b * base_pixel_size) q && nat_lt q (b * base_pixel_size + base_pixel_size))
-in_base b q = grind (arith, nat_tests)
 
 -- a set has a pixel of a base pixel where it meets that base pixel's numbers
 pub meets_base : (a : NumberSet) (b : ℕ) → meets a (numbers (b * base_pixel_size) (b * base_pixel_size + base_pixel_size)) ≡ nat_lt 0 (set.len (part_of a b))

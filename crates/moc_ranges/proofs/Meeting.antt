@@ -5,7 +5,7 @@ use Rattle.std.specs.Prelude.{nat_le, nat_lt}
 use Rattle.std.proofs.lemmas.Bool.{cases_lt, or_cases, and_parts, leb-true, ltb-true}
 use Rattle.std.proofs.lemmas.Bool.Decides.{nat_tests}
 use Rattle.moc_lists.specs.RangeList.{IsNormal, BeginsAfter}
-use Rattle.moc_lists.specs.Lemmas.Members.{in_range, in_ranges}
+use Rattle.moc_lists.specs.Lemmas.Members.{in_range, in_ranges, in_ranges-append, or_false, or_assoc, and_false}
 use Rattle.moc_lists.specs.Private.Blocks.{next_of}
 use Rattle.moc_lists.specs.Private.Built.{EndsBelow, Carries}
 use Rattle.moc_ranges.specs.Private.Taking.{TakesCommon}
@@ -13,10 +13,10 @@ use Rattle.moc_ranges.specs.Private.Meeting.{IsRising}
 use Rattle.moc_ranges.specs.Private.Walks.{begun}
 use Rattle.moc_lists.specs.Private.Walks.{EndsBy, Advances, Passes}
 use Rattle.moc_ranges.proofs.Merging.{next_later}
-use Rattle.moc_lists.proofs.Merging.{ends_next, in_ranges-append, or_false, EndsBelow-append, EndsBelow-more}
+use Rattle.moc_lists.proofs.Merging.{ends_next, EndsBelow-append, EndsBelow-more}
 use Rattle.moc_lists.proofs.Blocking.{IsNormal-suffix}
+use Rattle.moc_lists.proofs.Passing.{ends_by_more}
 use Rattle.moc_ranges.proofs.CarriedOver.{carried_after}
-use Rattle.moc_ranges.proofs.Turning.{or_first}
 use Rattle.moc_ranges.proofs.Walking.{and_swap, begun_is}
 
 inside : (a b c d from to q : ℕ) (later more : Bool) → b ≤ d → from ≡ max a c → to ≡ min b d → q < b → more ≡ false → (((nat_le a q && nat_lt q b) || later) && ((nat_le c q && nat_lt q d) || more)) ≡ ((nat_le from q && nat_lt q to) || (later && ((nat_le c q && nat_lt q d) || more)))
@@ -72,7 +72,7 @@ meeting_kept ks ks' xs ys whole_xs whole_ys x y s ends built below same =
       second_normal = s.second_normal;
       below = below (max (next_of xs) y.0) (omega arith) (omega arith);
       same = λ q. ap (λ k. k || (in_ranges xs q && in_ranges (y ∷ ys) q)) (same q)
-          ∙ or_first (in_ranges ks q) (in_range (max x.0 y.0, min x.1 y.1) q) (in_ranges xs q && in_ranges (y ∷ ys) q)
+          ∙ or_assoc (in_ranges ks q) (in_range (max x.0 y.0, min x.1 y.1) q) (in_ranges xs q && in_ranges (y ∷ ys) q)
           ∙ ap (λ k. in_ranges ks q || k) (sym (pieces x y xs ys (max x.0 y.0) (min x.1 y.1) q s.second_normal ends refl refl))
           ∙ s.same q;
     }
@@ -121,7 +121,7 @@ meeting_taken ks ks' xs xs' ys whole_xs whole_ys y s t = record {
   second_normal = s.second_normal;
   below = t.below;
   same = λ q. ap (λ k. k || (in_ranges xs' q && in_ranges (y ∷ ys) q)) (t.same q)
-      ∙ or_first (in_ranges ks q) (in_ranges t.gone q && in_range y q) (in_ranges xs' q && in_ranges (y ∷ ys) q)
+      ∙ or_assoc (in_ranges ks q) (in_ranges t.gone q && in_range y q) (in_ranges xs' q && in_ranges (y ∷ ys) q)
       ∙ ap (λ k. in_ranges ks q || k) (sym (common_parts t.gone xs' ys y q (rising_normal (y ∷ ys) s.second_normal) t.ended) ∙ ap (λ (l : List (ℕ × ℕ)). in_ranges l q && in_ranges (y ∷ ys) q) (sym t.parts))
       ∙ s.same q;
 }
@@ -135,10 +135,6 @@ ended_bool false false y none = refl
 before_range : (y : ℕ × ℕ) (q : ℕ) → q < y.0 → in_range y q ≡ false
 before_range y q lt = grind (arith, nat_tests)
 
-EndsBy-more : (low high : ℕ) (rs : List (ℕ × ℕ)) → low ≤ high → EndsBy low rs → EndsBy high rs
-EndsBy-more low high [] le ended = tt
-EndsBy-more low high (r ∷ rs) le ended = (omega (arith, ended.0), EndsBy-more low high rs le ended.1)
-
 ends_by-below : (limit : ℕ) (rs : List (ℕ × ℕ)) → EndsBelow (limit + 1) rs → EndsBy limit rs
 ends_by-below limit [] below = tt
 ends_by-below limit (r ∷ rs) below = (omega (arith, below.0), ends_by-below limit rs below.1)
@@ -149,7 +145,7 @@ taken_ended ks xs xs' gone y normal rises built after parts ended =
     record {
       gone = gone;
       parts = parts;
-      ended = EndsBy-more y.0 y.1 gone rises ended;
+      ended = ends_by_more y.0 y.1 gone rises ended;
       built = built;
       below = EndsBelow-more (max (next_of xs) y.0) (max (next_of xs') y.0) ks after (omega (arith, ap next_of parts, next_later gone xs' whole));
       same = λ q. ended_bool (in_ranges ks q) (in_ranges gone q) (in_range y q) (λ here. before_range y q (ends_by_in y.0 gone q ended here));
@@ -195,10 +191,6 @@ taken_carried ks ks' xs xs' y limit normal from is after c =
           (λ here. range_holds y q (omega (arith, from, ap next_of c.parts, normal_from c.gone xs' q whole here)) (ends_by_in y.1 c.gone q ended here));
     }
 
-and_none : (a : Bool) → (a && false) ≡ false
-and_none true = refl
-and_none false = refl
-
 pub met_first : (ks xs ys whole_xs whole_ys : List (ℕ × ℕ)) (f : Option (ℕ × ℕ)) → IsMeeting ks (begun f xs) ys whole_xs whole_ys → f ≡ None → (q : ℕ) → in_ranges ks q ≡ (in_ranges whole_xs q && in_ranges whole_ys q)
 met_first ks xs ys whole_xs whole_ys f s none q =
     sym (or_false (in_ranges ks q))
@@ -207,7 +199,7 @@ met_first ks xs ys whole_xs whole_ys f s none q =
 pub met_second : (ks xs ys whole_xs whole_ys : List (ℕ × ℕ)) (f : Option (ℕ × ℕ)) → IsMeeting ks xs (begun f ys) whole_xs whole_ys → f ≡ None → (q : ℕ) → in_ranges ks q ≡ (in_ranges whole_xs q && in_ranges whole_ys q)
 met_second ks xs ys whole_xs whole_ys f s none q =
     sym (or_false (in_ranges ks q))
-    ∙ ap (λ k. in_ranges ks q || k) (sym (and_none (in_ranges xs q)))
+    ∙ ap (λ k. in_ranges ks q || k) (sym (and_false (in_ranges xs q)))
     ∙ (λ i. in_ranges ks q || (in_ranges xs q && in_ranges (begun (sym none i) ys) q)) ∙ s.same q
 
 -- what is built after two ranges gave what they have in common

@@ -1,5 +1,5 @@
 -- Two lists of ranges that meet, a step at a time.
-use Rattle.std.proofs.Common.{◌≡◌, ℕ, ◌+◌, ◌-◌, ◌<◌, ◌≤◌, Bool, true, false, ◌||◌, ◌&&◌, List, [], ◌∷◌, ◌++◌, min, max}
+use Rattle.std.proofs.Common.{◌≡◌, ℕ, ◌+◌, ◌-◌, ◌<◌, ◌≤◌, Bool, false, ◌||◌, ◌&&◌, List, [], ◌∷◌, ◌++◌, min, max}
 use Rattle.std.proofs.Common.{take, drop, length, get_or, slice_set, inl, inr, refl, sym, ap, subst, ◌∙◌, arith}
 use Rattle.std.proofs.Common.{append_assoc, length-append, ◌⊎◌}
 use Rattle.std.specs.Prelude.{nat_le, nat_lt, Option, None, Some, MatchOption, IfSome}
@@ -9,17 +9,16 @@ use Rattle.std.proofs.lemmas.Bool.Decides.{nat_tests}
 use Rattle.std.proofs.lemmas.List.{drop_more, length-drop, take-set, take-append-drop, take_all}
 use Rattle.std.proofs.lemmas.Grind.{take-set_at}
 use Rattle.moc_lists.specs.RangeList.{pixel_count, IsNormal}
-use Rattle.moc_lists.specs.Lemmas.Members.{in_range, in_ranges}
+use Rattle.moc_lists.specs.Lemmas.Members.{in_range, in_ranges, or_false, or_assoc, and_false}
 use Rattle.moc_lists.specs.Private.Blocks.{last_of, next_of}
 use Rattle.moc_lists.specs.Private.Built.{EndsBelow}
 use Rattle.moc_ranges.specs.Private.Taking.{AddsPart, TakesCommon}
 use Rattle.moc_lists.specs.Private.Walks.{EndsBy}
 use Rattle.moc_ranges.specs.Private.Meeting.{IsRising, kept_if, CanMeet, MeetsOn, LeavesOut}
 use Rattle.moc_lists.proofs.Blocking.{IsNormal-prefix, IsNormal-suffix, IsNormal-rest, nothing_more}
-use Rattle.moc_lists.proofs.Merging.{ends_by_last, ends_next, or_false, EndsBelow-more}
+use Rattle.moc_lists.proofs.Merging.{ends_by_last, ends_next, EndsBelow-more}
 use Rattle.moc_ranges.proofs.Merging.{next_later}
 use Rattle.moc_lists.proofs.Building.{pushed_normal}
-use Rattle.moc_ranges.proofs.Turning.{or_first}
 use Rattle.moc_ranges.proofs.Walking.{and_swap}
 use Rattle.moc_ranges.proofs.Meeting.{rising_normal, taken_ended, pieces_rising, pieces_back, common_parts}
 use Rattle.moc_ranges.proofs.Meeting.{common_below, common_nothing}
@@ -91,7 +90,7 @@ meets_first ks ks' xs ys x y from to s ends is_from is_to a =
         below = a.below (max (next_of xs) y.0) (omega arith) (omega arith);
       };
       same = λ q. ap (λ k. k || (in_ranges xs q && in_ranges (y ∷ ys) q)) (a.same q)
-          ∙ or_first (in_ranges ks q) (in_range (from, to) q) (in_ranges xs q && in_ranges (y ∷ ys) q)
+          ∙ or_assoc (in_ranges ks q) (in_range (from, to) q) (in_ranges xs q && in_ranges (y ∷ ys) q)
           ∙ ap (λ k. in_ranges ks q || k) (sym (pieces_rising x y xs ys from to q s.second_rising ends is_from is_to));
     }
 
@@ -108,7 +107,7 @@ meets_second ks ks' xs ys x y from to s ends is_from is_to a =
         below = a.below (max x.0 (next_of ys)) (omega arith) (omega arith);
       };
       same = λ q. ap (λ k. k || (in_ranges (x ∷ xs) q && in_ranges ys q)) (a.same q)
-          ∙ or_first (in_ranges ks q) (in_range (from, to) q) (in_ranges (x ∷ xs) q && in_ranges ys q)
+          ∙ or_assoc (in_ranges ks q) (in_range (from, to) q) (in_ranges (x ∷ xs) q && in_ranges ys q)
           ∙ ap (λ k. in_ranges ks q || k) (sym (pieces_back x y xs ys from to q s.first_normal ends is_from is_to));
     }
 
@@ -207,13 +206,9 @@ meets_taken ks ks' xs xs' ys rest y can0 is t =
         below = t.below;
       };
       same = λ q. ap (λ k. k || (in_ranges xs' q && in_ranges (y ∷ rest) q)) (t.same q)
-          ∙ or_first (in_ranges ks q) (in_ranges t.gone q && in_range y q) (in_ranges xs' q && in_ranges (y ∷ rest) q)
+          ∙ or_assoc (in_ranges ks q) (in_ranges t.gone q && in_range y q) (in_ranges xs' q && in_ranges (y ∷ rest) q)
           ∙ ap (λ k. in_ranges ks q || k) (sym (common_parts t.gone xs' rest y q can.second_rising t.ended) ∙ ap (λ (l : List (ℕ × ℕ)). in_ranges l q && in_ranges (y ∷ rest) q) (sym t.parts));
     })
-
-and_none : (a : Bool) → (a && false) ≡ false
-and_none true = refl
-and_none false = refl
 
 -- ranges that end before the other list's next one were left out
 ends_by_low : (f : ℕ) (rs : List (ℕ × ℕ)) → EndsBelow f rs → EndsBy f rs
@@ -236,7 +231,7 @@ meets_left_at ks xs xs' [] can l = record {
     second_rising = tt;
     below = EndsBelow-more (max (next_of xs) (next_of [])) (max (next_of xs') (next_of [])) ks can.below (omega (arith, ap next_of l.parts, next_later l.gone xs' (subst IsNormal l.parts can.first_normal)));
   };
-  same = λ q. ap (λ k. in_ranges ks q || k) (and_none (in_ranges xs' q) ∙ sym (and_none (in_ranges xs q)));
+  same = λ q. ap (λ k. in_ranges ks q || k) (and_false (in_ranges xs' q) ∙ sym (and_false (in_ranges xs q)));
 }
 meets_left_at ks xs xs' (y ∷ ys) can l =
     meets_taken ks ks xs xs' (y ∷ ys) ys y can refl (taken_ended ks xs xs' l.gone y can.first_normal can.second_rising.0 can.built can.below l.parts (ends_by_low y.0 l.gone l.below))
@@ -281,6 +276,6 @@ meets_start xs ys ks none normal rising = subst (λ (k : List (ℕ × ℕ)). Mee
 pub met_all : (xs xs' ys ys' ks : List (ℕ × ℕ)) → MeetsOn xs xs' ys ys' [] ks → (xs' ≡ []) ⊎ (ys' ≡ []) → (q : ℕ) → in_ranges ks q ≡ (in_ranges xs q && in_ranges ys q)
 met_all xs xs' ys ys' ks m ended q = elim ended [
   | inl none ↦ sym (or_false (in_ranges ks q)) ∙ ap (λ (l : List (ℕ × ℕ)). in_ranges ks q || (in_ranges l q && in_ranges ys' q)) (sym none) ∙ m.same q
-  | inr none ↦ sym (or_false (in_ranges ks q)) ∙ ap (λ k. in_ranges ks q || k) (sym (and_none (in_ranges xs' q)))
+  | inr none ↦ sym (or_false (in_ranges ks q)) ∙ ap (λ k. in_ranges ks q || k) (sym (and_false (in_ranges xs' q)))
       ∙ ap (λ (l : List (ℕ × ℕ)). in_ranges ks q || (in_ranges xs' q && in_ranges l q)) (sym none) ∙ m.same q
 ]

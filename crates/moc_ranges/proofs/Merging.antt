@@ -2,13 +2,13 @@
 use Rattle.std.proofs.Common.{◌≡◌, ℕ, ◌<◌, ◌≤◌, Bool, true, false, ◌||◌, List, [], ◌∷◌, ◌++◌, length, refl, sym, ap}
 use Rattle.std.proofs.Common.{subst, ◌∙◌, arith, length-append}
 use Rattle.moc_lists.specs.RangeList.{IsNormal}
-use Rattle.moc_lists.specs.Lemmas.Members.{in_range, in_ranges}
+use Rattle.moc_lists.specs.Lemmas.Members.{in_range, in_ranges, in_ranges-append, or_false, or_assoc}
 use Rattle.moc_lists.specs.Private.Blocks.{next_of}
 use Rattle.moc_lists.specs.Private.Built.{Growing, ranges_of, CanJoin, CanCarry, Carries, EndsBelow, BeginsBy}
 use Rattle.moc_ranges.specs.Private.Taking.{CanTake, TakesOver}
 use Rattle.moc_lists.proofs.Blocking.{IsNormal-suffix}
-use Rattle.moc_lists.proofs.Merging.{in_ranges-append, EndsBelow-more, EndsBelow-append, EndsBelow-first, ends_second}
-use Rattle.moc_lists.proofs.Merging.{begins_of_ends, ends_next, or_false}
+use Rattle.moc_lists.proofs.Merging.{EndsBelow-more, EndsBelow-append, EndsBelow-first, ends_second}
+use Rattle.moc_lists.proofs.Merging.{begins_of_ends, ends_next}
 
 pub BeginsBy-more : (f g : ℕ) (rs : List (ℕ × ℕ)) → BeginsBy f rs → f ≤ g → BeginsBy g rs
 BeginsBy-more f g [] all le = tt
@@ -88,13 +88,9 @@ pub record IsUniting (u : Growing) (xs ys whole_xs whole_ys : List (ℕ × ℕ))
   pub can_second : CanJoin u (next_of ys)
   pub same : (q : ℕ) → (in_ranges (ranges_of u) q || (in_ranges xs q || in_ranges ys q)) ≡ (in_ranges whole_xs q || in_ranges whole_ys q)
 
-or_assoc : (a b c : Bool) → (a || (b || c)) ≡ ((a || b) || c)
-or_assoc true b c = refl
-or_assoc false b c = refl
-
 or_moves : (k g x y : Bool) → ((k || g) || (x || y)) ≡ (k || ((g || x) || y))
 or_moves true g x y = refl
-or_moves false g x y = or_assoc g x y
+or_moves false g x y = sym (or_assoc g x y)
 
 or_swaps : (k g x y : Bool) → ((k || g) || (x || y)) ≡ (k || (x || (g || y)))
 or_swaps true g x y = refl

@@ -5,14 +5,12 @@ use Rattle.std.specs.Prelude.{nat_le, nat_lt}
 use Rattle.std.proofs.lemmas.Bool.{cases_lt}
 use Rattle.std.proofs.lemmas.Bool.Decides.{nat_tests}
 use Rattle.moc_lists.specs.RangeList.{pixel_count, IsNormal, BeginsAfter}
-use Rattle.moc_lists.specs.Lemmas.Members.{in_range, in_ranges}
+use Rattle.moc_lists.specs.Lemmas.Members.{in_range, in_ranges, in_ranges-append, or_false, or_assoc, and_false}
 use Rattle.moc_lists.specs.Private.Blocks.{next_of}
 use Rattle.moc_lists.specs.Private.Built.{EndsBelow}
 use Rattle.moc_ranges.specs.Private.Few.{IsSettled}
-use Rattle.moc_lists.proofs.Merging.{normal_append, ends_next, or_false, in_ranges-append, EndsBelow-append}
-use Rattle.moc_lists.proofs.Merging.{EndsBelow-more}
+use Rattle.moc_lists.proofs.Merging.{normal_append, ends_next, EndsBelow-append, EndsBelow-more}
 use Rattle.moc_lists.proofs.Building.{pushed_normal}
-use Rattle.moc_ranges.proofs.Turning.{or_first}
 use Rattle.moc_ranges.proofs.Walking.{and_swap}
 use Rattle.moc_ranges.proofs.Meeting.{pieces}
 use Rattle.moc_ranges.proofs.Lacking.{gone, trim, past}
@@ -27,7 +25,7 @@ settled_apart x y kept kept' normal filled other within after apart is =
       filled = other;
       below = λ f lt. EndsBelow-append (min f y.0) kept (x ∷ []) (EndsBelow-more x.0 (min f y.0) kept first (omega arith)) (omega arith, tt);
       same = λ q. ap (λ b. b || in_range y q) (in_ranges-append kept (x ∷ []) q ∙ ap (λ b. in_ranges kept q || b) (or_false (in_range x q)))
-          ∙ or_first (in_ranges kept q) (in_range x q) (in_range y q);
+          ∙ or_assoc (in_ranges kept q) (in_range x q) (in_range y q);
     })
 
 both_in : (a b c d from q : ℕ) (k : Bool) → c ≤ b → b ≤ d → from ≡ min a c → (k || (nat_le from q && nat_lt q d)) ≡ (k || ((nat_le a q && nat_lt q b) || (nat_le c q && nat_lt q d)))
@@ -148,14 +146,10 @@ meeting_few_kept kept kept' xs ys whole_xs whole_ys x y from to s ends is_from i
       second_normal = s.second_normal;
       below = below (max (next_of xs) y.0) (omega arith) (omega arith);
       same = λ q. ap (λ k. k || (in_ranges xs q && in_ranges (y ∷ ys) q)) (same q)
-          ∙ or_first (in_ranges kept q) (in_range (from, to) q) (in_ranges xs q && in_ranges (y ∷ ys) q)
+          ∙ or_assoc (in_ranges kept q) (in_range (from, to) q) (in_ranges xs q && in_ranges (y ∷ ys) q)
           ∙ ap (λ k. in_ranges kept q || k) (sym (pieces x y xs ys from to q s.second_normal ends is_from is_to))
           ∙ s.same q;
     }
-
-and_none : (a : Bool) → (a && false) ≡ false
-and_none true = refl
-and_none false = refl
 
 pub met_few_first : (kept xs ys whole_xs whole_ys : List (ℕ × ℕ)) → IsMeetingFew kept xs ys whole_xs whole_ys → xs ≡ [] → (q : ℕ) → in_ranges kept q ≡ (in_ranges whole_xs q && in_ranges whole_ys q)
 met_few_first kept xs ys whole_xs whole_ys s none q =
@@ -163,7 +157,7 @@ met_few_first kept xs ys whole_xs whole_ys s none q =
 
 pub met_few_second : (kept xs ys whole_xs whole_ys : List (ℕ × ℕ)) → IsMeetingFew kept xs ys whole_xs whole_ys → ys ≡ [] → (q : ℕ) → in_ranges kept q ≡ (in_ranges whole_xs q && in_ranges whole_ys q)
 met_few_second kept xs ys whole_xs whole_ys s none q =
-    sym (or_false (in_ranges kept q)) ∙ ap (λ k. in_ranges kept q || k) (sym (and_none (in_ranges xs q)))
+    sym (or_false (in_ranges kept q)) ∙ ap (λ k. in_ranges kept q || k) (sym (and_false (in_ranges xs q)))
     ∙ ap (λ (l : List (ℕ × ℕ)). in_ranges kept q || (in_ranges xs q && in_ranges l q)) (sym none) ∙ s.same q
 
 -- how far a difference of two slices has come
@@ -209,7 +203,7 @@ lacking_few_cut kept kept' xs ys ys' whole_xs whole_ys x y to from s0 ey ends is
       second_normal = s.second_normal.3;
       below = below from (omega arith) (omega arith);
       same = λ q. ap (λ k. k || (in_ranges ((from, x.1) ∷ xs) q && not (in_ranges ys' q))) (same q)
-          ∙ or_first (in_ranges kept q) (in_range (x.0, to) q) (in_ranges ((from, x.1) ∷ xs) q && not (in_ranges ys' q))
+          ∙ or_assoc (in_ranges kept q) (in_range (x.0, to) q) (in_ranges ((from, x.1) ∷ xs) q && not (in_ranges ys' q))
           ∙ ap (λ k. in_ranges kept q || k) (sym (cut x y xs ys' to from q s.first_normal s.second_normal ends is_to is_from))
           ∙ s.same q;
     }
@@ -226,7 +220,7 @@ lacking_few_kept kept kept' xs ys ys' whole_xs whole_ys x y to s0 ey ends is nor
       second_normal = s.second_normal;
       below = below (next_of xs) (omega arith) (omega arith);
       same = λ q. ap (λ k. k || (in_ranges xs q && not (in_ranges (y ∷ ys') q))) (same q)
-          ∙ or_first (in_ranges kept q) (in_range (x.0, to) q) (in_ranges xs q && not (in_ranges (y ∷ ys') q))
+          ∙ or_assoc (in_ranges kept q) (in_range (x.0, to) q) (in_ranges xs q && not (in_ranges (y ∷ ys') q))
           ∙ ap (λ k. in_ranges kept q || k) (sym (gone x y xs ys' to q s.first_normal s.second_normal ends is))
           ∙ s.same q;
     })

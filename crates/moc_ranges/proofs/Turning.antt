@@ -2,16 +2,12 @@
 use Rattle.std.proofs.Common.{◌≡◌, ℕ, ◌-◌, ◌≤◌, Bool, true, false, ◌||◌, List, [], ◌∷◌, ◌++◌, refl, sym, ap, subst}
 use Rattle.std.proofs.Common.{◌∙◌, arith, append_assoc}
 use Rattle.moc_lists.specs.RangeList.{IsNormal}
-use Rattle.moc_lists.specs.Lemmas.Members.{in_range, in_ranges}
+use Rattle.moc_lists.specs.Lemmas.Members.{in_range, in_ranges, or_assoc}
 use Rattle.moc_lists.specs.Private.Blocks.{next_of}
 use Rattle.moc_lists.specs.Private.Built.{Growing, ranges_of, CanJoin, BeginsBy}
 use Rattle.moc_ranges.specs.Private.Taking.{IsTurn, IsJoining, TakesBoth}
 use Rattle.moc_ranges.proofs.Merging.{next_later, CanJoin-more, IsUniting}
 use Rattle.moc_lists.proofs.Building.{last_begins, pushed_can}
-
-pub or_first : (a b c : Bool) → ((a || b) || c) ≡ (a || (b || c))
-or_first true b c = refl
-or_first false b c = refl
 
 or_second : (a b c : Bool) → (a || (b || c)) ≡ (b || (a || c))
 or_second true true c = refl
@@ -29,7 +25,7 @@ turn_at x xs ys n m le =
       first_later = later;
       second_later = le;
       lower = λ low a b. a;
-      same = λ q. or_first (in_range x q) (in_ranges xs q) (in_ranges ys q);
+      same = λ q. or_assoc (in_range x q) (in_ranges xs q) (in_ranges ys q);
       onward = omega arith;
     }
 
@@ -68,7 +64,7 @@ joining_step ks ks' xs xs' ys ys' whole whole_xs whole_ys last last' range s t o
   first_later = let a = t.first_later in omega arith;
   second_later = let a = t.second_later in omega arith;
   same = λ q. ap (λ b. b || (in_ranges xs' q || in_ranges ys' q)) (same q)
-      ∙ or_first (in_ranges (ks ++ last ∷ []) q) (in_range range q) (in_ranges xs' q || in_ranges ys' q)
+      ∙ or_assoc (in_ranges (ks ++ last ∷ []) q) (in_range range q) (in_ranges xs' q || in_ranges ys' q)
       ∙ ap (λ b. in_ranges (ks ++ last ∷ []) q || b) (sym (t.same q))
       ∙ s.same q;
   fewer = omega (arith, s.fewer, t.onward);

@@ -1,45 +1,21 @@
 -- Walks over two lists of ranges: what one step does to what they have in common.
-use Rattle.std.proofs.Common.{◌≡◌, ℕ, zero, suc, ◌+◌, ◌-◌, ◌<◌, ◌≤◌, Bool, true, false, cond, ◌&&◌, ◌||◌, List, []}
-use Rattle.std.proofs.Common.{◌∷◌, ◌++◌, min, max, refl, sym, ap, subst, ◌∙◌, arith, inl, inr, Option, None, Some}
-use Rattle.std.proofs.Common.{MatchOption}
+use Rattle.std.proofs.Common.{◌≡◌, ℕ, ◌+◌, ◌-◌, ◌<◌, ◌≤◌, Bool, true, false, ◌&&◌, ◌||◌, List, [], ◌∷◌, ◌++◌, min, max}
+use Rattle.std.proofs.Common.{refl, sym, ap, subst, ◌∙◌, arith, inl, inr, Option, None, Some, MatchOption}
 use Rattle.std.specs.Prelude.{nat_le, nat_lt}
 use Rattle.std.specs.FinSet as set
-use Rattle.std.specs.Ordering.{nat_cmp, eq_by_cmp}
+use Rattle.std.specs.Ordering.{nat_cmp}
 use Rattle.std.specs.Cmp.{nat_cmp_total}
 use Rattle.std.proofs.lemmas.Bool.{cases_lt, false_from_ne_true, or_cases, or_left, or_right, false≢true, lt-ltb}
 use Rattle.std.proofs.lemmas.Bool.Decides.{nat_tests}
 use Rattle.moc_lists.specs.RangeList.{NumberSet, numbers, pixel_count, IsNormal, BeginsAfter, set_of}
 use Rattle.moc_lists.specs.Lemmas.Members.{contains-numbers, same_members, in_range, in_ranges, contains-set_of}
 use Rattle.moc_lists.specs.Lemmas.Sizes.{len_parts}
-use Rattle.moc_lists.specs.Lemmas.Ranges.{len_bounded}
+use Rattle.moc_lists.specs.Lemmas.Ranges.{len_bounded, later_only, len-more}
 use Rattle.moc_ranges.specs.Private.Walks.{common_of, has_all, begun}
+use Rattle.moc_ranges.specs.Lemmas.Members.{same_truth}
 use Rattle.moc_lists.specs.Private.Walks.{overlap_of, EndsBy, Advances}
 use Rattle.moc_lists.proofs.Blocking.{IsNormal-suffix}
 use Rattle.moc_lists.proofs.Passing.{ends_by_more, overlap_none}
-use Rattle.moc_lists.proofs.Basics.{later_only}
-
-none_more : (from q : ℕ) (b : Bool) → ((nat_le from q && nat_lt q (from + 0)) || b) ≡ b
-none_more from q b = grind (arith, nat_tests)
-
-one_more : (from n q : ℕ) (b : Bool) → ((nat_le from q && nat_lt q (from + suc n)) || b) ≡ (eq_by_cmp nat_cmp q from || ((nat_le (from + 1) q && nat_lt q (from + 1 + n)) || b))
-one_more from n q b = grind (arith, nat_tests)
-
--- a set grows by n where n numbers that it lacks are added
-len-more : (from n : ℕ) (a : NumberSet) → ((q : ℕ) → from ≤ q → q < from + n → set.contains a q ≡ false) → set.len (set.union (numbers from (from + n)) a) ≡ n + set.len a
-len-more from zero a none =
-    let same : set.union (numbers from (from + 0)) a ≡ a = same_members _ _ (λ q. set.contains-union nat_cmp_total (numbers from (from + 0)) a q ∙ ap (λ b. b || set.contains a q) (contains-numbers from (from + 0) q) ∙ none_more from q (set.contains a q)) in
-    ap set.len same ∙ omega arith
-len-more from (suc n) a none =
-    let rest = set.union (numbers (from + 1) (from + 1 + n)) a in
-    let same : set.union (numbers from (from + suc n)) a ≡ set.insert rest from = same_members _ _ (λ q.
-    set.contains-union nat_cmp_total (numbers from (from + suc n)) a q
-    ∙ ap (λ b. b || set.contains a q) (contains-numbers from (from + suc n) q)
-    ∙ one_more from n q (set.contains a q)
-    ∙ (λ i. eq_by_cmp nat_cmp q from || sym (set.contains-union nat_cmp_total (numbers (from + 1) (from + 1 + n)) a q ∙ ap (λ b. b || set.contains a q) (contains-numbers (from + 1) (from + 1 + n) q)) i)
-    ∙ sym (set.contains-insert nat_cmp_total rest from q)) in
-    let lacks : set.contains rest from ≡ false = set.contains-union nat_cmp_total (numbers (from + 1) (from + 1 + n)) a from ∙ (λ i. contains-numbers (from + 1) (from + 1 + n) from i || none from (omega arith) (omega arith) i) ∙ grind (arith, nat_tests) in
-    let fewer = len-more (from + 1) n a (λ q low high. none q (omega arith) (omega arith)) in
-    ap set.len same ∙ set.len-insert nat_cmp_total rest from ∙ ap (λ b. cond b (set.len rest) (set.len rest + 1)) lacks ∙ omega arith
 
 contains_both : (xs ys : List (ℕ × ℕ)) (q : ℕ) → set.contains (set.intersection (set_of xs) (set_of ys)) q ≡ (in_ranges xs q && in_ranges ys q)
 contains_both xs ys q = set.contains-intersection nat_cmp_total (set_of xs) (set_of ys) q ∙ (λ i. contains-set_of xs q i && contains-set_of ys q i)
@@ -202,11 +178,6 @@ all_in xs ys all q has = sym (contains-set_of xs q) ∙ set.is_subset-contains n
 
 all_from : (xs ys : List (ℕ × ℕ)) → ((q : ℕ) → in_ranges ys q ≡ true → in_ranges xs q ≡ true) → has_all xs ys ≡ true
 all_from xs ys each = set.contains-is_subset nat_cmp_total (set_of ys) (set_of xs) (λ q has. contains-set_of xs q ∙ each q (sym (contains-set_of ys q) ∙ has))
-
-same_truth : (x y : Bool) → (x ≡ true → y ≡ true) → (y ≡ true → x ≡ true) → x ≡ y
-same_truth true y there back = sym (there refl)
-same_truth false true there back = back refl
-same_truth false false there back = refl
 
 later : (x : ℕ × ℕ) (xs : List (ℕ × ℕ)) (q : ℕ) → in_ranges xs q ≡ true → in_ranges (x ∷ xs) q ≡ true
 later x xs q has = or_right (in_range x q) (in_ranges xs q) has

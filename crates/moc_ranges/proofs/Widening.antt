@@ -1,5 +1,5 @@
 -- Widening ranges to whole cells.
-use Rattle.std.proofs.Common.{◌^◌, max, ◌≡◌, ℕ, ◌+◌, ◌-◌, ◌*◌, ◌/◌, ◌<◌, ◌≤◌, Bool, true, false, ◌&&◌, leb, ltb, List}
+use Rattle.std.proofs.Common.{◌^◌, max, ◌≡◌, ℕ, ◌+◌, ◌-◌, ◌*◌, ◌/◌, ◌<◌, ◌≤◌, true, ◌&&◌, ltb, List}
 use Rattle.std.proofs.Common.{[], ◌∷◌, refl, sym, ap, subst, ◌∙◌, arith, inl, inr, map}
 use Rattle.std.proofs.lemmas.Nat.{div-add-mod', div_below, le-div, pow_pos, shr_below}
 use Rattle.std.proofs.Math.Nat.{mul-le-mul_right, pow-le-pow_right, mod-eq_of_lt}
@@ -8,16 +8,18 @@ use Rattle.moc_sphere.specs.CellNumber.{cell_size}
 use Rattle.moc_sphere.specs.Lemmas.{cell_size-positive, cell_size-fills}
 use Rattle.moc_lists.specs.RangeList.{NumberSet, pixel_count, set_of, IsNormal, BeginsAfter}
 use Rattle.moc_ranges.specs.Lemmas.Members.{meets-some, meets-none, contains-span, contains-degrade}
-use Rattle.moc_lists.specs.Lemmas.Members.{contains-set_of, in_range, in_ranges}
+use Rattle.moc_lists.specs.Lemmas.Members.{contains-set_of, in_range, in_ranges, and_false}
 use Rattle.moc_ranges.specs.Cells.{span, degrade}
 use Rattle.moc_ranges.proofs.Sorting.{IsSortedFrom-less}
 use Rattle.std.proofs.lemmas.Bool.{cases_Bool, false≢true, false_from_ne_true, eqb-true, eq-eqb, or_cases, or_left}
-use Rattle.std.proofs.lemmas.Bool.{or_right, and_parts, and_from, leb-true, ltb-true, le-leb, lt-ltb}
+use Rattle.std.proofs.lemmas.Bool.{or_right, and_parts, and_from, lt-ltb}
 use Rattle.moc_ranges.specs.Private.Sorted.{IsSortedFrom}
 use Rattle.moc_ranges.specs.Private.Widen.{IsCellSize, widen}
 use Rattle.std.specs.Prelude.{bit_and}
 use Rattle.std.proofs.lemmas.Nat.Bits.{and_high}
 use Rattle.moc_ranges.proofs.CellRuns.{two_pow}
+use Rattle.moc_ranges.proofs.Lacking.{range_from, range_is}
+use Rattle.moc_ranges.proofs.Views.{normal_below, and_no}
 
 floor_le : (w q : ℕ) → q / w * w ≤ q
 floor_le w q = omega (arith, div-add-mod' q w)
@@ -54,12 +56,6 @@ widened_has w f t p q some low high same =
     let a = mul-le-mul_right w from in
     let b = mul-le-mul_right w to in
     (omega (arith, floor_le w q), omega (arith, floor_gt w q some))
-
-range_from : (r : ℕ × ℕ) (q : ℕ) → in_range r q ≡ true → (r.0 ≤ q) × (q < r.1)
-range_from r q e = let parts = and_parts (leb r.0 q) (ltb q r.1) e in (leb-true r.0 q parts.0, ltb-true q r.1 parts.1)
-
-range_is : (r : ℕ × ℕ) (q : ℕ) → r.0 ≤ q → q < r.1 → in_range r q ≡ true
-range_is r q low high = and_from (leb r.0 q) (ltb q r.1) (le-leb r.0 q low) (lt-ltb q r.1 high)
 
 pub in_widened_from : (w : ℕ) (rs : List (ℕ × ℕ)) (q : ℕ) → 0 < w → IsNormal rs → in_ranges (map (widen w) rs) q ≡ true → (p : ℕ) × (in_ranges rs p ≡ true) × (p / w ≡ q / w)
 in_widened_from w [] q some normal e = absurd (cc)
@@ -98,21 +94,6 @@ IsSortedFrom-widened w m x (r ∷ rs) some whole normal after =
       omega arith,
       IsSortedFrom-widened w m r.0 rs some whole normal.3 (λ s rest e. let n = normal.2 in begins_after r.1 rs s rest e normal.2 (omega (arith, normal.0))),
     )
-
-and_no : (a b : Bool) → (a ≡ true → b ≡ false) → (a && b) ≡ false
-and_no true b say = say refl
-and_no false b say = refl
-
-and_false : (b : Bool) → (b && false) ≡ false
-and_false true = refl
-and_false false = refl
-
-normal_below : (rs : List (ℕ × ℕ)) (q : ℕ) → IsNormal rs → in_ranges rs q ≡ true → q < pixel_count
-normal_below [] q normal e = absurd (cc)
-normal_below (r ∷ rs) q normal e = elim (or_cases (in_range r q) (in_ranges rs q) e) [
-  | inl here ↦ omega (arith, range_from r q here, normal.1)
-  | inr later ↦ normal_below rs q normal.3 later
-]
 
 sorted_below : (low : ℕ) (rs : List (ℕ × ℕ)) (q : ℕ) → IsSortedFrom low rs → in_ranges rs q ≡ true → q < pixel_count
 sorted_below low [] q s e = absurd (cc)

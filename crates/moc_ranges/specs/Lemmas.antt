@@ -17,7 +17,7 @@ use Rattle.std.proofs.lemmas.Nat.{div-add-mod', mod_below, mul-le}
 use Rattle.moc_sphere.specs.CellNumber.{CellNumber, IsCell, cell_count, cell_size}
 use Rattle.moc_sphere.specs.Lemmas.{cell_size-positive, cell_size-fills}
 use Rattle.moc_lists.specs.RangeList.{NumberSet, numbers, pixel_count, set_of}
-use Rattle.moc_lists.specs.Lemmas.Members.{contains-numbers, same_members, in_range}
+use Rattle.moc_lists.specs.Lemmas.Members.{contains-numbers, same_members, in_range, or_assoc, or_false}
 use Rattle.moc_ranges.specs.Lemmas.Members.{contains-span, contains-spans, cell_range}
 use Rattle.moc_ranges.specs.Operations.{base_pixel_size, pixels, IsWithin}
 use Rattle.moc_ranges.specs.Cells.{span, spans, pixels_of, cells_of}
@@ -26,15 +26,7 @@ use Rattle.moc_ranges.specs.Lemmas.Cells as by_ranges
 
 -- ---- unions
 
-or_assoc : (a b c : Bool) → ((a || b) || c) ≡ (a || (b || c))
-or_assoc true b c = refl
-or_assoc false b c = refl
-
-or_false : (b : Bool) → (b || false) ≡ b
-or_false true = refl
-or_false false = refl
-
-in_union : (a b : NumberSet) (q : ℕ) → set.contains (set.union a b) q ≡ (set.contains a q || set.contains b q)
+pub in_union : (a b : NumberSet) (q : ℕ) → set.contains (set.union a b) q ≡ (set.contains a q || set.contains b q)
 in_union a b q = set.contains-union nat_cmp_total a b q
 
 -- union is associative

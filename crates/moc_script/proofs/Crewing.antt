@@ -12,7 +12,7 @@ use Rattle.moc_lines.specs.Runs.{script_rules, AreWithin, IsBegunLine, line_limi
 use Rattle.moc_script.specs.Crews.{in_lane, dealt, cover_line, said_lines, IsCrewText, IsRefusedLine, CrewEnds}
 use Rattle.moc_shared.specs.History.{calls_of, state_after, IsLegal}
 use Rattle.moc_script.specs.Private.LaneWork.{Does}
-use Rattle.moc_shared.specs.Batches.{BatchEntry, answer as object}
+use Rattle.moc_shared.specs.Batches.{BatchCall, answer as object}
 use Rattle.moc_shared.specs.Clients.{record_of, start_of, clients_of, StandsForAll, Closes}
 use Rattle.moc_shared.specs.declared.map.SharedMap.{SharedMap}
 use Rattle.moc_shared.specs.declared.record.Calls.{Calls}
@@ -29,7 +29,7 @@ use Rattle.moc_script.proofs.LaneLists.{none_above, as_long}
 use Rattle.moc_script.proofs.Weaving.{weave}
 
 -- a history has no calls of clients that there are not
-calls_of-none : (n lane : ℕ) (log : List BatchEntry) → ((e : BatchEntry) → Contains log e → e.client < n) → n ≤ lane → calls_of lane log ≡ []
+calls_of-none : (n lane : ℕ) (log : List BatchCall) → ((e : BatchCall) → Contains log e → e.client < n) → n ≤ lane → calls_of lane log ≡ []
 calls_of-none n lane [] named high = refl
 calls_of-none n lane (e ∷ log) named high =
     let low = named e (0, omega arith, refl) in
@@ -38,8 +38,8 @@ calls_of-none n lane (e ∷ log) named high =
     ∙ calls_of-none n lane log (λ f i. named f (suc i.0, (let l = i.1 in omega arith), i.2)) high
 
 -- the lanes' lines, with the calls that the closed history holds of each, are answered in one order
-pub crew_text : (n : ℕ) (said answers : List (List ℕ)) (log : List BatchEntry) (end : NumberSet) → 0 < n → IsLegal object set.empty log
-    → ((e : BatchEntry) → Contains log e → e.client < n) → end ≡ state_after object set.empty log
+pub crew_text : (n : ℕ) (said answers : List (List ℕ)) (log : List BatchCall) (end : NumberSet) → 0 < n → IsLegal object set.empty log
+    → ((e : BatchCall) → Contains log e → e.client < n) → end ≡ state_after object set.empty log
     → ((lane : ℕ) → lane < n → Does object script_rules (in_lane lane (dealt n said)) (calls_of lane log) (in_lane lane (dealt n answers)))
     → IsCrewText n said (concat answers ++ cover_line end)
 crew_text n said answers log end some legal named end_is does =
@@ -54,7 +54,7 @@ crew_text n said answers log end some legal named end_is does =
       text_is = ap (λ s. concat answers ++ cover_line s) (end_is ∙ sym w.left);
     }
 
-Does-length : (lines : List (List ℕ)) (calls : List BatchEntry) (texts : List (List ℕ)) → Does object script_rules lines calls texts → length texts ≡ length lines
+Does-length : (lines : List (List ℕ)) (calls : List BatchCall) (texts : List (List ℕ)) → Does object script_rules lines calls texts → length texts ≡ length lines
 Does-length [] calls texts (none, empty) = ap length empty
 Does-length (line ∷ lines) calls texts (t, rest, is, inl (quiet, does)) = ap length is ∙ ap suc (Does-length lines calls rest does)
 Does-length (line ∷ lines) calls texts (t, rest, is, inr (e, later, calls_are, asks, does)) = ap length is ∙ ap suc (Does-length lines later rest does)
@@ -119,7 +119,7 @@ crew_of_lanes map n input answers left c end text some lanes all start many clos
         let none : get_or left lane [] ≡ [] =
         none_left (in_lane lane (dealt n all.done)) (get_or left lane []) (sym (ap length parts) ∙ long_texts ∙ as_long n lane said all.done as_many) in
         let whole : get_or answers lane [] ≡ in_lane lane (dealt n all.done) = parts ∙ ap (λ l. in_lane lane (dealt n all.done) ++ l) none ∙ append-nil (in_lane lane (dealt n all.done)) in
-        subst (λ (l : List BatchEntry). Does object script_rules (lane_lines n input lane) l (in_lane lane (dealt n all.done))) (sym calls)
+        subst (λ (l : List BatchCall). Does object script_rules (lane_lines n input lane) l (in_lane lane (dealt n all.done))) (sym calls)
         (subst (λ (l : List (List ℕ)). Does object script_rules (lane_lines n input lane) has.0 l) whole has.2)
 
 whole_input : (xs items : List ℕ) (b : Option (List ℕ)) → Consumes (Some xs) b items → IsAtEnd b → items ≡ xs

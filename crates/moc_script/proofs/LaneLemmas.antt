@@ -10,13 +10,13 @@ use Rattle.moc_lines.specs.Runs.{Rules, script_rules}
 use Rattle.moc_lines.specs.declared.fault.LineFault.{LineFault}
 use Rattle.moc_lines.specs.declared.fault.ReadError.{ReadError}
 use Rattle.moc_lines.specs.declared.fault.ReadError.TheVariants as error
-use Rattle.moc_shared.specs.declared.record.Entry.{Entry}
-use Rattle.moc_shared.specs.History.{entry, own_with}
+use Rattle.moc_shared.specs.declared.record.Call.{Call}
+use Rattle.moc_shared.specs.History.{call_by, own_with}
 use Rattle.moc_script.specs.Private.LaneWork.{IsQuiet, Asks, DoesLine, Does}
 use Rattle.moc_script.specs.Private.LaneEnds.{Made, Answers, AddsAnswer, Answered}
 use Rattle.moc_shared.specs.declared.map.SharedMap.{SharedMap}
 use Rattle.moc_shared.specs.Clients.{EndsWaiting}
-use Rattle.moc_shared.specs.Batches.{BatchEntry, BatchRecord, answer as object}
+use Rattle.moc_shared.specs.Batches.{BatchCall, BatchRecord, answer as object}
 
 module _ (says : List ℕ → Result Command LineFault) where
   -- a line that is not blank is answered as what it says
@@ -28,7 +28,7 @@ module _ (says : List ℕ → Result Command LineFault) where
   )
 
 -- a line that says commands asks for them
-pub asks_line : (line : List ℕ) (e : BatchEntry) (text : List ℕ) → is_blank_text line ≡ false → batch_of command_of line ≡ Ok e.operation
+pub asks_line : (line : List ℕ) (e : BatchCall) (text : List ℕ) → is_blank_text line ≡ false → batch_of command_of line ≡ Ok e.operation
     → text ≡ replies_text e.reply ++ 10 ∷ [] → Asks object script_rules line e text
 unfolding object
 asks_line line e text said is text_is s =
@@ -39,7 +39,7 @@ asks_line line e text said is text_is s =
 pub said_line : (client : ℕ) (line : List ℕ) (commands : List Command) (old new : BatchRecord) (before after : List ℕ) → is_blank_text line ≡ false → batch_of command_of line ≡ Ok commands
     → Answered client commands old new before after → AddsAnswer client line old new before after
 said_line client line commands old new before after said is (replies, text, made) =
-    let e : BatchEntry = entry client commands replies in
+    let e : BatchCall = call_by client commands replies in
     let answer = replies_text replies ++ 10 ∷ [] in
     (answer, text, (e ∷ [], inr (e, refl, asks_line line e answer said is refl), made))
 
@@ -57,18 +57,18 @@ pub no_call : (client : ℕ) (old new : BatchRecord) (line text : List ℕ) → 
 no_call client old new line text same quiet = ([], inl (refl, quiet), λ made was. ap (λ (r : BatchRecord). r.own) same ∙ was ∙ ap (λ l. record { client = client; made = l } ∷ []) (sym (append-nil made)))
 
 -- a call that ended after waits is one more of the own calls
-pub waited_own : (map : SharedMap) (e : BatchEntry) (old new : BatchRecord) → EndsWaiting map e old new → new.own ≡ own_with e old.own
+pub waited_own : (map : SharedMap) (e : BatchCall) (old new : BatchRecord) → EndsWaiting map e old new → new.own ≡ own_with e old.own
 waited_own map e old new (mid, waited, ends) = ends.own ∙ ap (λ (r : BatchRecord). own_with e r.own) waited.1
 
 -- one more call of the record's own client
-pub call_made : (client : ℕ) (e : BatchEntry) (old new : BatchRecord) → e.client ≡ client → new.own ≡ own_with e old.own → (made : List BatchEntry)
+pub call_made : (client : ℕ) (e : BatchCall) (old new : BatchRecord) → e.client ≡ client → new.own ≡ own_with e old.own → (made : List BatchCall)
     → Made client made old → Made client (made ++ e ∷ []) new
 call_made client e old new mine own made was =
     own ∙ ap (own_with e) was ∙ ap (λ (b : Bool). record { client = client; made = if b then made ++ e ∷ [] else made } ∷ []) (eq-eqb client e.client (sym mine))
 
 module _ {S O R : Type 0} (object : S → O → S × R) (rules : Rules S) where
   -- one more line
-  pub Does-push : (lines : List (List ℕ)) (line : List ℕ) (calls more : List (Entry O R)) (texts : List (List ℕ)) (text : List ℕ)
+  pub Does-push : (lines : List (List ℕ)) (line : List ℕ) (calls more : List (Call O R)) (texts : List (List ℕ)) (text : List ℕ)
       → Does object rules lines calls texts → DoesLine object rules line more text
       → Does object rules (lines ++ line ∷ []) (calls ++ more) (texts ++ text ∷ [])
   Does-push [] line calls more texts text (none, empty) (inl (no_call, quiet)) =

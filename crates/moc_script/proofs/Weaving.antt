@@ -2,7 +2,7 @@
 use Rattle.std.proofs.Common.{◌≡◌, ◌≢◌, inl, inr, ℕ, zero, suc, ◌<◌, ◌≤◌, ◌==◌, eq-eqb, ne_eqb, Bool, cond}
 use Rattle.std.proofs.Common.{if◌then◌else◌, List, [], ◌∷◌, Contains, refl, sym, ap, ◌∙◌, subst, arith}
 use native.Mathlib.Decide.{ℕ_discrete}
-use Rattle.moc_shared.specs.declared.record.Entry.{Entry}
+use Rattle.moc_shared.specs.declared.record.Call.{Call}
 use Rattle.moc_shared.specs.History.{calls_of, state_after, IsLegal}
 use Rattle.moc_lines.specs.Runs.{Rules}
 use Rattle.moc_script.specs.Crews.{InLane, placed, in_lane, answers_in, left_by}
@@ -65,11 +65,11 @@ module _ {S O R : Type 0} (object : S → O → S × R) (rules : Rules S) where
       answered d (no other) = ap (in_lane d) front ∙ in_lane-else lane d text tail other ∙ w.answered d ∙ with_lane-else lane later texts d other
 
   -- what is left of the lanes fits what is left of the history
-  abbrev AreDone : (ℕ → List (List ℕ)) → List (Entry O R) → (ℕ → List (List ℕ)) → Type 0
+  abbrev AreDone : (ℕ → List (List ℕ)) → List (Call O R) → (ℕ → List (List ℕ)) → Type 0
   AreDone lines log texts = (lane : ℕ) → Does object rules (lines lane) (calls_of lane log) (texts lane)
 
   -- of one lane
-  with_done : (lines texts : ℕ → List (List ℕ)) (log : List (Entry O R)) (lane : ℕ) (rest later : List (List ℕ))
+  with_done : (lines texts : ℕ → List (List ℕ)) (log : List (Call O R)) (lane : ℕ) (rest later : List (List ℕ))
       → ((d : ℕ) → d ≢ lane → Does object rules (lines d) (calls_of d log) (texts d)) → Does object rules rest (calls_of lane log) later
       → AreDone (with_lane lane rest lines) log (with_lane lane later texts)
   with_done lines texts log lane rest later others here d = cases (ℕ_discrete d lane)
@@ -88,7 +88,7 @@ module _ {S O R : Type 0} (object : S → O → S × R) (rules : Rules S) where
   with_below n lane rest lines low below d high = with_lane-else lane rest lines d (λ e. omega arith) ∙ below d high
 
   -- lines of one lane, up to its next call
-  next_call : (n : ℕ) (e : Entry O R) (log : List (Entry O R)) (s end : S) → e.client < n → e.reply ≡ (object s e.operation).1
+  next_call : (n : ℕ) (e : Call O R) (log : List (Call O R)) (s end : S) → e.client < n → e.reply ≡ (object s e.operation).1
       → ((lines texts : ℕ → List (List ℕ)) → AreDone lines log texts → AreBelow n lines → Woven (object s e.operation).0 lines texts end)
       → (here there : List (List ℕ)) (lines texts : ℕ → List (List ℕ)) → lines e.client ≡ here → texts e.client ≡ there → AreBelow n lines
       → ((d : ℕ) → d ≢ e.client → Does object rules (lines d) (calls_of d log) (texts d))
@@ -103,10 +103,10 @@ module _ {S O R : Type 0} (object : S → O → S × R) (rules : Rules S) where
   next_call n e log s end low legal later (line ∷ here) there lines texts h t below others (text, rest, is, inr (f, calls, same, asks, does)) =
       let call_is : f ≡ e = cc in
       let calls_are : calls ≡ calls_of e.client log = cc in
-      let asked : Asks object rules line e text = subst (λ (q : Entry O R). Asks object rules line q text) call_is asks in
+      let asked : Asks object rules line e text = subst (λ (q : Call O R). Asks object rules line q text) call_is asks in
       put s (object s e.operation).0 end lines texts e.client line text here rest h (t ∙ is) ((asked s).1 legal) (asked s).0
       (later (with_lane e.client here lines) (with_lane e.client rest texts)
-      (with_done lines texts log e.client here rest others (subst (λ (q : List (Entry O R)). Does object rules here q rest) calls_are does))
+      (with_done lines texts log e.client here rest others (subst (λ (q : List (Call O R)). Does object rules here q rest) calls_are does))
       (with_below n e.client here lines low below))
 
   -- the lines of the last lane, when no call is left
@@ -145,20 +145,20 @@ module _ {S O R : Type 0} (object : S → O → S × R) (rules : Rules S) where
   flush (suc n) s lines texts does below =
       flush_lane n s (flush n s) (lines n) (texts n) lines texts refl refl below (λ d other. does d) (does n)
 
-  calls_of-here : (e : Entry O R) (log : List (Entry O R)) → calls_of e.client (e ∷ log) ≡ e ∷ calls_of e.client log
+  calls_of-here : (e : Call O R) (log : List (Call O R)) → calls_of e.client (e ∷ log) ≡ e ∷ calls_of e.client log
   calls_of-here e log = ap (λ (b : Bool). cond b (e ∷ calls_of e.client log) (calls_of e.client log)) (eq-eqb e.client e.client refl)
 
-  calls_of-else : (e : Entry O R) (log : List (Entry O R)) (d : ℕ) → d ≢ e.client → calls_of d (e ∷ log) ≡ calls_of d log
+  calls_of-else : (e : Call O R) (log : List (Call O R)) (d : ℕ) → d ≢ e.client → calls_of d (e ∷ log) ≡ calls_of d log
   calls_of-else e log d other = ap (λ (b : Bool). cond b (e ∷ calls_of d log) (calls_of d log)) (ne_eqb e.client d (λ s. other (sym s)))
 
   -- A legal history of the clients below n, in which each client's calls are those of its lane's lines: there is an
   -- order of all lines.
-  pub weave : (n : ℕ) (log : List (Entry O R)) (s : S) → IsLegal object s log → ((e : Entry O R) → Contains log e → e.client < n)
+  pub weave : (n : ℕ) (log : List (Call O R)) (s : S) → IsLegal object s log → ((e : Call O R) → Contains log e → e.client < n)
       → (lines texts : ℕ → List (List ℕ)) → AreDone lines log texts → AreBelow n lines → Woven s lines texts (state_after object s log)
   weave n [] s legal named lines texts does below = flush n s lines texts does below
   weave n (e ∷ log) s legal named lines texts does below =
       next_call n e log s (state_after object (object s e.operation).0 log) (named e (0, omega arith, refl)) legal.0
       (weave n log (object s e.operation).0 legal.1 (λ f i. named f (suc i.0, (let low = i.1 in omega arith), i.2)))
       (lines e.client) (texts e.client) lines texts refl refl below
-      (λ d other. subst (λ (q : List (Entry O R)). Does object rules (lines d) q (texts d)) (calls_of-else e log d other) (does d))
-      (subst (λ (q : List (Entry O R)). Does object rules (lines e.client) q (texts e.client)) (calls_of-here e log) (does e.client))
+      (λ d other. subst (λ (q : List (Call O R)). Does object rules (lines d) q (texts d)) (calls_of-else e log d other) (does d))
+      (subst (λ (q : List (Call O R)). Does object rules (lines e.client) q (texts e.client)) (calls_of-here e log) (does e.client))

@@ -2,7 +2,7 @@
 ghost use Rattle.std.specs.Prelude.{◌≤◌, SomeIff};
 ghost use Rattle.moc_steps.specs.Played.{step_of};
 ghost use Rattle.moc_lines.specs.Language.{batch_of, command_of};
-ghost use Rattle.moc_script.specs.Schedules.{begin_by, begin_of, client_by, client_and_part_by, only_client};
+ghost use Rattle.moc_script.specs.Schedules.{begin_of, client_by, client_and_part_by, only_client};
 ghost use Rattle.moc_script.specs.Schedules.{only_client_and_part, said_step};
 ghost use Rattle.moc_script.specs.Private.StepReading.{ReadsStep};
 

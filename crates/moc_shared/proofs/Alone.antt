@@ -17,7 +17,7 @@ use Rattle.moc_parts.specs.Batches.{batches, footprint_of_all}
 use Rattle.moc_parts.specs.declared.command.Command.{Command}
 use Rattle.moc_parts.specs.declared.reply.Reply.{Reply}
 use Rattle.moc_shared.specs.declared.map.SharedMap.{SharedMap}
-use Rattle.moc_shared.specs.History.{entry, IsLegal}
+use Rattle.moc_shared.specs.History.{call_by, IsLegal}
 use Rattle.moc_shared.specs.Seats.{note, Pointer, Sight}
 use Rattle.moc_shared.specs.Private.Rule.{IsOne}
 use Rattle.moc_shared.specs.Private.Seats.{PartNote, IsCarried, part, IsProper}
@@ -25,7 +25,7 @@ use Rattle.moc_shared.specs.Private.Answering.{Answers}
 use Rattle.moc_shared.specs.Private.Held.{HoldsJust}
 use Rattle.moc_shared.specs.Private.Plays.{with_part, with_parts, with_misses, with_holds, marked_at}
 use Rattle.moc_shared.specs.Private.Slots.{EndsBatch, AreWaits, just, touched_by}
-use Rattle.moc_shared.specs.Batches.{BatchEntry, BatchRecord, answer}
+use Rattle.moc_shared.specs.Batches.{BatchCall, BatchRecord, answer}
 use Rattle.moc_shared.specs.Clients.{start_of, clients_of, EndsWaiting, LacksMemoryWaiting}
 use Rattle.moc_shared.proofs.Basics.{here, none_in, only}
 use Rattle.moc_shared.proofs.Promises.{Stays, stays_through, stays_ended, stays_given, ends_noted, undone_noted, undone_at_once}
@@ -163,7 +163,7 @@ module _ (c : Command) (b : ℕ) (met : (k : ℕ) → footprint c k ≡ nat_eq b
   pub ended_alone : (the : SharedMap) (reply : Reply) (number : ℕ) (init u w : Sight) (y : Option NumberSet)
       (waits : List (ℕ × ℕ)) → init.start ≡ start_of the → init.clients ≡ clients_of the → number ≡ init.mine.number
       → u ≡ with_parts (with_misses init waits) (note b y ∷ []) → AreWaits (just b) init waits
-      → EndsBatch cs (reply ∷ []) [] u w → EndsWaiting the (entry number cs (reply ∷ [])) init.mine w.mine
+      → EndsBatch cs (reply ∷ []) [] u w → EndsWaiting the (call_by number cs (reply ∷ [])) init.mine w.mine
   ended_alone the reply number init u w y waits start clients number_is held each told = (
     (with_misses init waits).mine,
     waits_from the cs init waits clients (waits_alone init waits each),
@@ -199,7 +199,7 @@ stays_alone init u w b y waits held s =
 
 pub stays_answered : {E : Type 0} (cs : List Command) (v w : Sight) (r : Result Reply E)
     → IfOk r (λ x. EndsBatch cs (x ∷ []) [] v w) → OnErr r (w ≡ with_holds v []) → Stays v w
-stays_answered all v w (Ok x) ok err = stays_ended (entry v.mine.number all (x ∷ [])) v w ok
+stays_answered all v w (Ok x) ok err = stays_ended (call_by v.mine.number all (x ∷ [])) v w ok
 stays_answered all v w (Err e) ok err = stays_given v w err
 
 pub holds_alone : (init : Sight) (me : Me (Option Pointer) Sight) (b : ℕ) (a : NumberSet) (waits : List (ℕ × ℕ))
@@ -213,27 +213,27 @@ holds_alone init me b a waits one is carried = record {
 
 -- ---- the replies of a batch of one command
 
-last_reply : (a : NumberSet) (log : List BatchEntry) (e : BatchEntry) → IsLegal answer a (log ++ e ∷ [])
+last_reply : (a : NumberSet) (log : List BatchCall) (e : BatchCall) → IsLegal answer a (log ++ e ∷ [])
     → (s : NumberSet) × (e.reply ≡ (answer s e.operation).1)
 last_reply a [] e h = (a, h.0)
 last_reply a (x ∷ xs) e h = last_reply (answer a x.operation).0 xs e h.1
 
 pub only_reply : (the : SharedMap) (c : Command) (replies : List Reply) (number : ℕ) (old new : BatchRecord)
-    → EndsWaiting the (entry number (c ∷ []) replies) old new → length replies ≡ 1
+    → EndsWaiting the (call_by number (c ∷ []) replies) old new → length replies ≡ 1
 unfolding answer
 only_reply the c replies number old new (mid, waited, ends) =
-    let e : BatchEntry = entry number (c ∷ []) replies in
+    let e : BatchCall = call_by number (c ∷ []) replies in
     let legal : IsLegal answer (start_of the) ((mid.seen ++ ends.between) ++ e ∷ []) =
-    subst (λ (l : List BatchEntry). IsLegal answer (start_of the) l) ends.seen ends.history.0 in
+    subst (λ (l : List BatchCall). IsLegal answer (start_of the) l) ends.seen ends.history.0 in
     let r = last_reply (start_of the) (mid.seen ++ ends.between) e legal in
     ap (λ (l : List Reply). length l) r.1
 
 -- the call of it, by the batch and the replies that it is made of
 pub one_reply : (the : SharedMap) (number : ℕ) (batch : List Command) (c : Command) (replies : List Reply) (r : Reply)
-    (old new : BatchRecord) → batch ≡ c ∷ [] → replies ≡ r ∷ [] → EndsWaiting the (entry number batch replies) old new
-    → EndsWaiting the (entry number (c ∷ []) (r ∷ [])) old new
+    (old new : BatchRecord) → batch ≡ c ∷ [] → replies ≡ r ∷ [] → EndsWaiting the (call_by number batch replies) old new
+    → EndsWaiting the (call_by number (c ∷ []) (r ∷ [])) old new
 one_reply the number batch c replies r old new is told ends =
-    subst (λ (z : List Command × List Reply). EndsWaiting the (entry number z.0 z.1) old new) (λ i. (is i, told i)) ends
+    subst (λ (z : List Command × List Reply). EndsWaiting the (call_by number z.0 z.1) old new) (λ i. (is i, told i)) ends
 
 pub at_err : {T E P : Type 0} (r : Result T E) → P → OnErr r P
 at_err (Ok x) p = tt

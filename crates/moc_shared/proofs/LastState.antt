@@ -4,7 +4,7 @@ use Rattle.std.specs.Prelude.{slice_index}
 use mathlib.Core.Option.{some, some-injective}
 use lib.ListN.{get_elem?}
 use Rattle.atomic_table.specs.Table.{Final, Seen}
-use Rattle.moc_shared.specs.declared.record.Entry.{Entry}
+use Rattle.moc_shared.specs.declared.record.Call.{Call}
 use Rattle.moc_shared.specs.declared.record.Note.{Note}
 use Rattle.moc_shared.specs.declared.record.View.{View}
 use Rattle.moc_shared.specs.History.{Fits, StandsFor, state_after, IsHistory}
@@ -22,7 +22,7 @@ module _ {S X O R Y : Type 0} (n : ℕ) (content : S → Y) (part : ℕ → X �
   -- no word is another where the client stands for all
   abbrev pub Ended_with : List ℕ → List S → V → Type 0
   Ended_with words xs v =
-      (log : List (Entry O R)) × IsHistory answer start clients log × Fits log v.mine × proper (state_after answer start log)
+      (log : List (Call O R)) × IsHistory answer start clients log × Fits log v.mine × proper (state_after answer start log)
       × ((b : ℕ) (x : S) → b < n → slice_index words (index b) ≡ 0 → get_elem? xs (index b) ≡ some x
       → content x ≡ part b (state_after answer start log))
       × ((b : ℕ) → b < n → slice_index words (index b) ≢ 0 → ((c : ℕ) → c < clients → StandsFor v.mine c) → ⊥)

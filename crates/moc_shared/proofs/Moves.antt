@@ -14,17 +14,17 @@ use Rattle.std.proofs.lemmas.List.Elements.{Contains-push_cases}
 use Rattle.atomic_table.specs.Table.{State, Me, step, stepped, Allows}
 use Rattle.atomic_table.specs.Table.Act.{keeps, takes, gives}
 use Rattle.atomic_table.proofs.Lists.{at_set, set_here, set_else}
-use Rattle.moc_shared.specs.declared.record.Entry.{Entry}
+use Rattle.moc_shared.specs.declared.record.Call.{Call}
 use Rattle.moc_shared.specs.declared.record.Record.{Record}
 use Rattle.moc_shared.specs.declared.record.Note.{Note}
 use Rattle.moc_shared.specs.declared.record.View.{View}
-use Rattle.moc_shared.specs.History.{entry, Fits, StandsFor, stood, state_after, IsLegal, IsHistory}
+use Rattle.moc_shared.specs.History.{call_by, Fits, StandsFor, stood, state_after, IsLegal, IsHistory}
 use Rattle.moc_shared.specs.Seats.{index, note}
 use Rattle.moc_shared.specs.Private.Rule.{IsSpare, records, Present, stood_in, IsFree, IsHeld, Holding, ViewFits}
 use Rattle.moc_shared.specs.Private.Rule.{Kept, noted_parts, IsOne}
 use Rattle.moc_shared.specs.Private.Seats.{IsCarried}
 use Rattle.moc_shared.specs.Private.Answering.{Answers}
-use Rattle.moc_shared.specs.Private.Plays.{with_part, with_miss, with_holds, with_entry, behind_first, TookPart, Took, Gave, Ended, EndsCall}
+use Rattle.moc_shared.specs.Private.Plays.{with_part, with_miss, with_holds, after_call, behind_first, TookPart, Took, Gave, Ended, EndsCall}
 use Rattle.moc_shared.proofs.Basics.{here, there, none_in, only, cons_cases, sum_set_same, stands_by, stood_with_call}
 use Rattle.moc_shared.proofs.Basics.{fits_longer, fits_with_call, starts_itself, result_with, legal_with}
 use Rattle.moc_shared.proofs.Apart.{stood_of, one_view, one_record, present_cases}
@@ -48,7 +48,7 @@ module _ {S X O R Y : Type 0} (n : ℕ) (content : S → Y) (part : ℕ → X �
   abbrev Held : X → List ℕ → List (Option S) → V → ℕ → Y → Type 0
   Held set words homes v b y = Holding {S = S} n content part answer proper start clients set words homes v b y
 
-  abbrev FitsIn : List (Entry O R) → List ℕ → List (Option S) → V → Type 0
+  abbrev FitsIn : List (Call O R) → List ℕ → List (Option S) → V → Type 0
   FitsIn log words homes v = ViewFits n content part answer proper start clients log words homes v
 
   -- what the records of the new view owe to those of the old one
@@ -78,11 +78,11 @@ module _ {S X O R Y : Type 0} (n : ℕ) (content : S → Y) (part : ℕ → X �
 
   -- one view was replaced
   one_moved : (s : State S V) (k : Rule s) (id : ℕ) (v w : V) → get_elem? s.views id ≡ some v
-      → (words : List ℕ) (homes : List (Option S)) (log : List (Entry O R))
+      → (words : List ℕ) (homes : List (Option S)) (log : List (Call O R))
       → IsLegal answer start log
       → ((r : Record O R) × Present (set s.views id w) r × (r.seen ≡ log))
       → proper (state_after answer start log)
-      → ((e : Entry O R) → Contains log e → e.client < clients)
+      → ((e : Call O R) → Contains log e → e.client < clients)
       → length words ≡ index n → length homes ≡ index n → ((k : ℕ) → IsSpare k → slice_index words k ≡ 0)
       → ((b : ℕ) → b < n → IsFree content part (state_after answer start log) words homes b ⊎ IsHeld (set s.views id w) b)
       → FitsIn log words homes w
@@ -128,7 +128,7 @@ module _ {S X O R Y : Type 0} (n : ℕ) (content : S → Y) (part : ℕ → X �
     stands = k.stands;
   }
 
-  fits_apart : (log : List (Entry O R)) (words : List ℕ) (homes : List (Option S)) (u : V) (b x : ℕ) (h : Option S)
+  fits_apart : (log : List (Call O R)) (words : List ℕ) (homes : List (Option S)) (u : V) (b x : ℕ) (h : Option S)
       → FitsIn log words homes u → Free_of u b → FitsIn log (set words (index b) x) (set homes (index b) h) u
   fits_apart log words homes u b x h f apart = record {
     same_map = f.same_map;
@@ -429,13 +429,13 @@ module _ {S X O R Y : Type 0} (n : ℕ) (content : S → Y) (part : ℕ → X �
       → Rule record {
         words = set s.words (index b) 0;
         homes = set s.homes (index b) (some x);
-        views = set s.views id (with_entry v k.log (entry v.mine.number op reply) notes);
+        views = set s.views id (after_call v k.log (call_by v.mine.number op reply) notes);
       }
   ended_kept s k id v b x notes op reply at alone stands same_parts apart done =
-      let e : Entry O R = entry v.mine.number op reply in
+      let e : Call O R = call_by v.mine.number op reply in
       let log = k.log in
       let log' = log ++ e ∷ [] in
-      let w = with_entry v log e notes in
+      let w = after_call v log e notes in
       let A = state_after answer start log in
       let old = k.each_view id v at in
       let wide = k.wide in
@@ -456,7 +456,7 @@ module _ {S X O R Y : Type 0} (n : ℕ) (content : S → Y) (part : ℕ → X �
       (w.mine, (id, w, at_new s.views id v w at, here w.mine w.others), refl)
       (subst proper (sym set_is) did.3)
       (λ q h. ⊎_elim (λ (o : Contains log q). k.named q o)
-      (λ (t : e ≡ q). subst (λ (z : Entry O R). z.client < clients) t
+      (λ (t : e ≡ q). subst (λ (z : Call O R). z.client < clients) t
       (old.known v.mine (here v.mine v.others) v.mine.number stands)) (Contains-push_cases log e q h))
       (length-set s.words (index b) 0 ∙ wide) (length-set s.homes (index b) (some x) ∙ deep) (spare_apart s.words b 0 k.spare)
       (λ c l. subst
@@ -535,10 +535,10 @@ module _ {S X O R Y : Type 0} (n : ℕ) (content : S → Y) (part : ℕ → X �
       ))
       (λ c. same_sums c)
     where
-      same_sums : (c : ℕ) → stood_in c (with_entry v k.log (entry v.mine.number op reply) notes) ≡ stood_in c v
+      same_sums : (c : ℕ) → stood_in c (after_call v k.log (call_by v.mine.number op reply) notes) ≡ stood_in c v
       same_sums c =
           ap (λ (m : ℕ). fold (λ (a : ℕ) (r : Record O R). a + stood c r) (0 + m) v.others)
-          (stood_with_call (entry v.mine.number op reply) v.mine [] c)
+          (stood_with_call (call_by v.mine.number op reply) v.mine [] c)
 
   abbrev M : Type 0
   M = Me S V
@@ -628,31 +628,31 @@ module _ {S X O R Y : Type 0} (n : ℕ) (content : S → Y) (part : ℕ → X �
         refl,
       )
 
-  pub ends_call : (slots id : ℕ) (me : M) (b : ℕ) (x : S) (cs : List (ℕ × S)) (e : Entry O R) (notes : Notes)
+  pub ends_call : (slots id : ℕ) (me : M) (b : ℕ) (x : S) (cs : List (ℕ × S)) (e : Call O R) (notes : Notes)
       → IsOne me.0 → e.client ≡ me.0.mine.number → me.1 ≡ (index b, x) ∷ cs → noted_parts me.0.holds ≡ b ∷ noted_parts notes
       → ¬ Contains (noted_parts notes) b
       → Answers part answer proper e.operation e.reply me.0.holds (note b (content x) ∷ notes)
       → Allows Rule slots id me (index b) (λ _. 0) (λ _. Ended answer e notes (step slots (index b) 0 0 none) me 0)
   ends_call slots id me b x cs e notes one by carried same apart done s k deep at small =
       let v : V = me.0 in
-      let own : entry v.mine.number e.operation e.reply ≡ e =
+      let own : call_by v.mine.number e.operation e.reply ≡ e =
       (λ i. record { client = sym by i; operation = e.operation; reply = e.reply }) in
       let log = k.log in
       let old = k.each_view id v at in
-      let w : V = with_entry v log e notes in
+      let w : V = after_call v log e notes in
       let new : Rule record { words = set s.words (index b) 0; homes = set s.homes (index b) (some x); views = set s.views id w } =
-      subst (λ (d : Entry O R). Rule record {
+      subst (λ (d : Call O R). Rule record {
         words = set s.words (index b) 0;
         homes = set s.homes (index b) (some x);
-        views = set s.views id (with_entry v log d notes);
+        views = set s.views id (after_call v log d notes);
       }) own
       (ended_kept s k id v b x notes e.operation e.reply at one.0 one.1 same apart done) in
       let kept : Rule (stepped s (index b) 0 id me.1 w gives) =
       subst (λ (l : List (ℕ × S)). Rule (stepped s (index b) 0 id l w gives)) (sym carried) new in
       let mine = (kept.each_view id w (at_new s.views id v w at)).fits w.mine (here w.mine w.others) in
-      let known = λ (q : Entry O R) (h : Contains (log ++ e ∷ []) q). let r : q.client < clients =
+      let known = λ (q : Call O R) (h : Contains (log ++ e ∷ []) q). let r : q.client < clients =
       ⊎_elim (λ (o : Contains log q). k.named q o)
-      (λ (t : e ≡ q). subst (λ (z : Entry O R). z.client < clients) t
+      (λ (t : e ≡ q). subst (λ (z : Call O R). z.client < clients) t
       (subst (λ (m : ℕ). m < clients) (sym by) (old.known v.mine (here v.mine v.others) v.mine.number one.1)))
       (Contains-push_cases log e q h) in r in (
         w,
@@ -690,19 +690,19 @@ module _ {S X O R Y : Type 0} (n : ℕ) (content : S → Y) (part : ℕ → X �
       (λ k. (sym (there_is v i b x cs at me is) k, sym at k))
       (gives_part slots id (v, (index b, x) ∷ cs) b x cs notes one refl held apart)
 
-  pub ends_call_as : (slots id : ℕ) (me : M) (v : V) (i b : ℕ) (x : S) (cs : List (ℕ × S)) (e e' : Entry O R)
+  pub ends_call_as : (slots id : ℕ) (me : M) (v : V) (i b : ℕ) (x : S) (cs : List (ℕ × S)) (e e' : Call O R)
       (notes notes' : Notes) → i ≡ index b → e' ≡ e → notes' ≡ notes → (let now : M = (v, (i, x) ∷ cs) in me ≡ now)
       → IsOne v → e.client ≡ v.mine.number → noted_parts v.holds ≡ b ∷ noted_parts notes → ¬ Contains (noted_parts notes) b
       → Answers part answer proper e.operation e.reply v.holds (note b (content x) ∷ notes)
       → Allows Rule slots id me i (λ _. 0) (λ _. Ended answer e' notes' (step slots i 0 0 none) me 0)
   ends_call_as slots id me v i b x cs e e' notes notes' at same_e same_notes is one by same apart done =
-      subst (λ (z : M × Entry O R × Notes × ℕ). Allows Rule slots id z.0 z.3 (λ _. 0)
+      subst (λ (z : M × Call O R × Notes × ℕ). Allows Rule slots id z.0 z.3 (λ _. 0)
       (λ _. Ended answer z.1 z.2 (step slots z.3 0 0 none) z.0 0))
       (λ k. (sym (there_is v i b x cs at me is) k, sym same_e k, sym same_notes k, sym at k))
       (ends_call slots id (v, (index b, x) ∷ cs) b x cs e notes one by refl same apart done)
 
   -- what the step tells, at a seat, a call and notes that are known
-  pub ended_is : (slots i : ℕ) (me me' : M) (v : V) (x : S) (cs : List (ℕ × S)) (e e' : Entry O R)
+  pub ended_is : (slots i : ℕ) (me me' : M) (v : V) (x : S) (cs : List (ℕ × S)) (e e' : Call O R)
       (notes notes' : Notes) → e' ≡ e → notes' ≡ notes → (let now : M = (v, (i, x) ∷ cs) in me ≡ now)
       → map (λ c. c.0) cs ≡ map index (noted_parts notes)
       → Ended answer e' notes' (step {S = S} slots i 0 0 none) me 0 me' → IsCarried me'
@@ -710,7 +710,7 @@ module _ {S X O R Y : Type 0} (n : ℕ) (content : S → Y) (part : ℕ → X �
   ended_is slots i me me' v x cs e e' notes notes' same_e same_notes is carried told =
       let now : M = (v, (i, x) ∷ cs) in
       let t : Ended answer e notes (step {S = S} slots i 0 0 none) now 0 me' =
-      subst (λ (z : M × Entry O R × Notes). Ended answer z.1 z.2 (step {S = S} slots i 0 0 none) z.0 0 me')
+      subst (λ (z : M × Call O R × Notes). Ended answer z.1 z.2 (step {S = S} slots i 0 0 none) z.0 0 me')
       (λ k. (is k, same_e k, same_notes k)) told in (
         subst (λ (m : M). IsCarried m) (sym t.1) carried,
         (t.0, (λ k. (t.1 k).0), t.2, t.3, t.4),

@@ -11,17 +11,16 @@ use Rattle.std.proofs.lemmas.List.Sums.{sum_by-cons, sum_by-append, sum_by_push}
 use Rattle.atomic_table.specs.Table.{State, Me, step, Allows, Joins, Splits}
 use Rattle.atomic_table.specs.Table.Act.{keeps}
 use Rattle.atomic_table.proofs.Lists.{at_set, set_else, at_snoc, at_longer, at_last}
-use Rattle.moc_shared.specs.declared.record.Entry.{Entry}
+use Rattle.moc_shared.specs.declared.record.Call.{Call}
 use Rattle.moc_shared.specs.declared.record.Calls.{Calls}
 use Rattle.moc_shared.specs.declared.record.Record.{Record}
 use Rattle.moc_shared.specs.declared.record.Note.{Note}
 use Rattle.moc_shared.specs.declared.record.View.{View}
-use Rattle.moc_shared.specs.History.{StartsWith, Fits, StandsFor, stood, IsLegal, IsHistory}
+use Rattle.moc_shared.specs.History.{StartsWith, Fits, StandsFor, stood, IsLegal, IsHistory, MissesMarked}
 use Rattle.moc_shared.specs.Seats.{note}
 use Rattle.moc_shared.specs.Private.Rule.{records, Present, stood_in, stood_by, IsHeld, ViewFits, Kept}
 use Rattle.moc_shared.specs.Private.Plays.{seen_to, both_of, with_history, gathered, both_views, first_alone, Looked, Gathered, GatheredWith}
 use Rattle.moc_shared.specs.Private.Opening.{nobody, idle_view, seat_for}
-use Rattle.moc_shared.specs.History.{MissesMarked}
 use Rattle.moc_shared.proofs.Basics.{here, there, none_in, only, cons_cases, sum_set, sum_set_same, starts_itself}
 use Rattle.moc_shared.proofs.Apart.{stood_of, present_cases}
 
@@ -33,7 +32,7 @@ module _ {S X O R Y : Type 0} (n : ℕ) (content : S → Y) (part : ℕ → X �
   abbrev Rule : State S V → Type 0
   Rule s = Kept n content part answer proper start clients s
 
-  abbrev FitsIn : List (Entry O R) → List ℕ → List (Option S) → V → Type 0
+  abbrev FitsIn : List (Call O R) → List ℕ → List (Option S) → V → Type 0
   FitsIn log words homes v = ViewFits n content part answer proper start clients log words homes v
 
   -- each record that stands for h has the marks of one that did
@@ -88,7 +87,7 @@ module _ {S X O R Y : Type 0} (n : ℕ) (content : S → Y) (part : ℕ → X �
       ))
       (λ other. (i, u, y, set_else views id i w other ∙ e, h))
 
-  seen_cases : (log : List (Entry O R)) (rs : List (Record O R)) (r : Record O R) → Contains (map (seen_to log) rs) r
+  seen_cases : (log : List (Call O R)) (rs : List (Record O R)) (r : Record O R) → Contains (map (seen_to log) rs) r
       → (q : Record O R) × Contains rs q × (seen_to log q ≡ r)
   seen_cases log [] r h = absurd (none_in r h)
   seen_cases log (x ∷ xs) r h =
@@ -96,7 +95,7 @@ module _ {S X O R Y : Type 0} (n : ℕ) (content : S → Y) (part : ℕ → X �
       (λ (t : Contains (map (seen_to log) xs) r). let u = seen_cases log xs r t in (u.0, there x xs u.0 u.1, u.2))
       (cons_cases (seen_to log x) (map (seen_to log) xs) r h)
 
-  seen_stood : (log : List (Entry O R)) (c : ℕ) (rs : List (Record O R))
+  seen_stood : (log : List (Call O R)) (c : ℕ) (rs : List (Record O R))
       → sum_by (stood c) (map (seen_to log) rs) ≡ sum_by (stood c) rs
   seen_stood log c [] = refl
   seen_stood log c (x ∷ xs) = sum_by-cons (stood c) (seen_to log x) (map (seen_to log) xs)
@@ -151,7 +150,7 @@ module _ {S X O R Y : Type 0} (n : ℕ) (content : S → Y) (part : ℕ → X �
       (λ c. let e = sum_set_same (stood_in c) s.views id v w at (same_sums c) in omega arith)
       (w.mine, (id, w, at_new s.views id v w at, here w.mine w.others), refl)
 
-  stood_both : (c : ℕ) (r q : Record O R) (log : List (Entry O R)) → stood c (both_of r q log) ≡ stood c r + stood c q
+  stood_both : (c : ℕ) (r q : Record O R) (log : List (Call O R)) → stood c (both_of r q log) ≡ stood c r + stood c q
   stood_both c r q log = sum_by-append (λ (k : Calls O R). cond (eqb k.client c) 1 0) r.own q.own
 
   stood_two : (c : ℕ) (v : V) (q : Record O R) → v.others ≡ q ∷ [] → stood_in c v ≡ stood c v.mine + stood c q

@@ -12,8 +12,8 @@ abbrev pub HasView : List Sight → ℕ → Sight → Type 0
 HasView views seat v = get_elem? views seat ≡ some v
 
 -- Of a part that a view notes as held the word has the mark of the view's client, and its slot is out, in each table
--- that keeps the rule. No step, join or split of other seats
--- changes the view, and only who has a seat can step with it. So the parts of a holding that is abandoned stay held.
+-- that keeps the rule. No step, join or split of other seats changes the view, and only who has a seat can step with
+-- it. So the parts of a holding that is abandoned stay held.
 pub record AbandonedPartsStayHeld : Type 0 where
   pub marked : (start : NumberSet) (clients : ℕ) (table : Table) (seat : ℕ) (v : Sight) (b : ℕ) (y : Option NumberSet)
       → IsKept start clients table → HasView table.views seat v → Contains v.holds (note b y)

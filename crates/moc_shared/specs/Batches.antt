@@ -4,12 +4,12 @@ use Rattle.moc_lists.specs.RangeList.{NumberSet}
 use Rattle.moc_parts.specs.Batches.{set_after_all, replies_on}
 use Rattle.moc_parts.specs.declared.command.Command.{Command}
 use Rattle.moc_parts.specs.declared.reply.Reply.{Reply}
-use Rattle.moc_shared.specs.declared.record.Entry.{Entry}
+use Rattle.moc_shared.specs.declared.record.Call.{Call}
 use Rattle.moc_shared.specs.declared.record.Record.{Record}
 
 -- a call of a batch, with its replies
-abbrev pub BatchEntry : Type 0
-BatchEntry = Entry (List Command) (List Reply)
+abbrev pub BatchCall : Type 0
+BatchCall = Call (List Command) (List Reply)
 
 -- what a client has seen and done
 abbrev pub BatchRecord : Type 0

@@ -13,7 +13,7 @@ use crate::bits::{spread_after, spread_before};
 use crate::cell::Cell;
 use crate::direction::Direction;
 use crate::rising::{insert_rising, sums_around};
-use crate::sides::{Place, beside};
+use crate::sides::{Xyf, beside};
 use smallvec::SmallVec;
 use std::alloc::Global;
 
@@ -66,7 +66,7 @@ impl Cell {
         ensures touch { IfSome result (λ c. Touches self.order self.index c.index) }
     {
         let (face, x, y) = self.face_xy();
-        neighbour_of(self, Place::new(u32::from(face), x, y), direction)
+        neighbour_of(self, Xyf::new(u32::from(face), x, y), direction)
     }
 
     /// The neighbours in all directions, in healpy's order: south-west, west, north-west, north, north-east, east,
@@ -79,7 +79,7 @@ impl Cell {
         ensures touch { All (λ cell. IfSome cell (λ c. Touches self.order self.index c.index)) result }
     {
         let (face, x, y) = self.face_xy();
-        let from = Place::new(u32::from(face), x, y);
+        let from = Xyf::new(u32::from(face), x, y);
         [
             neighbour_of(self, from, Direction::SouthWest),
             neighbour_of(self, from, Direction::West),
@@ -94,7 +94,7 @@ impl Cell {
 }
 
 /// The neighbour of a cell, which has this place, in a direction.
-fn neighbour_of(cell: Cell, from: Place, direction: Direction) -> Option<Cell>
+fn neighbour_of(cell: Cell, from: Xyf, direction: Direction) -> Option<Cell>
     requires face { from.face < 12 }
     requires place { IsAt cell from.face from.x from.y }
     requires x { from.x < 2 ^ cell.order }
@@ -108,7 +108,7 @@ fn neighbour_of(cell: Cell, from: Place, direction: Direction) -> Option<Cell>
 
 /// The cell at a step from one, which has this place, if there is a cell. Steps are numbered row by row of nine, by x
 /// and then by y; step 4 leads to the cell itself.
-fn at_step(cell: Cell, from: Place, step: u32) -> Option<Cell>
+fn at_step(cell: Cell, from: Xyf, step: u32) -> Option<Cell>
     requires face { from.face < 12 }
     requires place { IsAt cell from.face from.x from.y }
     requires x { from.x < 2 ^ cell.order }
@@ -155,7 +155,7 @@ fn touching_across(cell: Cell, face: u8, x: u32, y: u32, alloc: Global) -> Small
     ensures few { small_vec_len result ≤ 8 }
     ensures inline { result.capacity ≡ 8 }
 {
-    let from = Place::new(u32::from(face), x, y);
+    let from = Xyf::new(u32::from(face), x, y);
     let mut cells = SmallVec::new(alloc);
     for step in 0u32..9 {
         if step != 4 {

@@ -8,123 +8,123 @@ ghost use Rattle.std.specs.Prelude.{◌≡◌, ℕ, ◌+◌, ◌<◌, ◌≤◌,
 
 /// A base pixel, and the place (x, y) of a cell in it.
 #[derive(Clone, Copy)]
-pub struct Place {
+pub struct Xyf {
     pub face: u32,
     pub x: u32,
     pub y: u32,
 }
 
-impl Place {
-    pub fn new(face: u32, x: u32, y: u32) -> Place
+impl Xyf {
+    pub fn new(face: u32, x: u32, y: u32) -> Xyf
         ensures { result ≡ record { face = face; x = x; y = y } }
     {
-        Place { face, x, y }
+        Xyf { face, x, y }
     }
 }
 
-fn beyond_north_east(last: u32, face: u32, along: u32) -> Place
+fn beyond_north_east(last: u32, face: u32, along: u32) -> Xyf
     requires { face < 12 }
     ensures { IsBeyondNorthEast last face along result.face result.x result.y }
 {
     if face < 4 {
-        Place::new((face + 1) % 4, along, last)
+        Xyf::new((face + 1) % 4, along, last)
     } else if face < 8 {
-        Place::new(face - 4, 0, along)
+        Xyf::new(face - 4, 0, along)
     } else {
-        Place::new(4 + (face + 1) % 4, 0, along)
+        Xyf::new(4 + (face + 1) % 4, 0, along)
     }
 }
 
-fn beyond_south_west(last: u32, face: u32, along: u32) -> Place
+fn beyond_south_west(last: u32, face: u32, along: u32) -> Xyf
     requires { face < 12 }
     ensures { IsBeyondSouthWest last face along result.face result.x result.y }
 {
     if face < 4 {
-        Place::new(face + 4, last, along)
+        Xyf::new(face + 4, last, along)
     } else if face < 8 {
-        Place::new(8 + (face + 3) % 4, last, along)
+        Xyf::new(8 + (face + 3) % 4, last, along)
     } else {
-        Place::new(8 + (face + 3) % 4, along, 0)
+        Xyf::new(8 + (face + 3) % 4, along, 0)
     }
 }
 
-fn beyond_north_west(last: u32, face: u32, along: u32) -> Place
+fn beyond_north_west(last: u32, face: u32, along: u32) -> Xyf
     requires { face < 12 }
     ensures { IsBeyondNorthWest last face along result.face result.x result.y }
 {
     if face < 4 {
-        Place::new((face + 3) % 4, last, along)
+        Xyf::new((face + 3) % 4, last, along)
     } else if face < 8 {
-        Place::new((face + 3) % 4, along, 0)
+        Xyf::new((face + 3) % 4, along, 0)
     } else {
-        Place::new(face - 4, along, 0)
+        Xyf::new(face - 4, along, 0)
     }
 }
 
-fn beyond_south_east(last: u32, face: u32, along: u32) -> Place
+fn beyond_south_east(last: u32, face: u32, along: u32) -> Xyf
     requires { face < 12 }
     ensures { IsBeyondSouthEast last face along result.face result.x result.y }
 {
     if face < 4 {
-        Place::new(4 + (face + 1) % 4, along, last)
+        Xyf::new(4 + (face + 1) % 4, along, last)
     } else if face < 8 {
-        Place::new(face + 4, along, last)
+        Xyf::new(face + 4, along, last)
     } else {
-        Place::new(8 + (face + 1) % 4, 0, along)
+        Xyf::new(8 + (face + 1) % 4, 0, along)
     }
 }
 
-fn beyond_north(last: u32, face: u32) -> Option<Place>
+fn beyond_north(last: u32, face: u32) -> Option<Xyf>
     requires { face < 12 }
     ensures { MatchOption result
         ((g z w : ℕ) → IsBeyondNorth last face g z w → ⊥)
         (λ to. IsBeyondNorth last face to.face to.x to.y) }
 {
     if face < 4 {
-        Some(Place::new((face + 2) % 4, last, last))
+        Some(Xyf::new((face + 2) % 4, last, last))
     } else if face < 8 {
         None
     } else {
-        Some(Place::new(face - 8, 0, 0))
+        Some(Xyf::new(face - 8, 0, 0))
     }
 }
 
-fn beyond_south(last: u32, face: u32) -> Option<Place>
+fn beyond_south(last: u32, face: u32) -> Option<Xyf>
     requires { face < 12 }
     ensures { MatchOption result
         ((g z w : ℕ) → IsBeyondSouth last face g z w → ⊥)
         (λ to. IsBeyondSouth last face to.face to.x to.y) }
 {
     if face < 4 {
-        Some(Place::new(face + 8, last, last))
+        Some(Xyf::new(face + 8, last, last))
     } else if face < 8 {
         None
     } else {
-        Some(Place::new(8 + (face + 2) % 4, 0, 0))
+        Some(Xyf::new(8 + (face + 2) % 4, 0, 0))
     }
 }
 
-fn beyond_east(last: u32, face: u32) -> Option<Place>
+fn beyond_east(last: u32, face: u32) -> Option<Xyf>
     requires { face < 12 }
     ensures { MatchOption result
         ((g z w : ℕ) → IsBeyondEast last face g z w → ⊥)
         (λ to. IsBeyondEast last face to.face to.x to.y) }
 {
     if 4 <= face && face < 8 {
-        Some(Place::new(4 + (face + 1) % 4, 0, last))
+        Some(Xyf::new(4 + (face + 1) % 4, 0, last))
     } else {
         None
     }
 }
 
-fn beyond_west(last: u32, face: u32) -> Option<Place>
+fn beyond_west(last: u32, face: u32) -> Option<Xyf>
     requires { face < 12 }
     ensures { MatchOption result
         ((g z w : ℕ) → IsBeyondWest last face g z w → ⊥)
         (λ to. IsBeyondWest last face to.face to.x to.y) }
 {
     if 4 <= face && face < 8 {
-        Some(Place::new(4 + (face + 3) % 4, last, 0))
+        Some(Xyf::new(4 + (face + 3) % 4, last, 0))
     } else {
         None
     }
@@ -132,7 +132,7 @@ fn beyond_west(last: u32, face: u32) -> Option<Place>
 
 /// The cell that a step of `a - 1` in x and `b - 1` in y leads to, or None where three base pixels meet and
 /// nothing lies across the vertex. `n` is the side of a base pixel.
-pub(crate) fn beside(n: u32, from: Place, a: u32, b: u32) -> Option<Place>
+pub(crate) fn beside(n: u32, from: Xyf, a: u32, b: u32) -> Option<Xyf>
     requires some { 0 < n }
     requires few { n ≤ 2 ^ 29 }
     requires face { from.face < 12 }
@@ -168,6 +168,6 @@ pub(crate) fn beside(n: u32, from: Place, a: u32, b: u32) -> Option<Place>
     } else if t > n {
         Some(beyond_north_west(last, face, s - 1))
     } else {
-        Some(Place::new(face, s - 1, t - 1))
+        Some(Xyf::new(face, s - 1, t - 1))
     }
 }

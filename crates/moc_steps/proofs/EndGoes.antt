@@ -9,7 +9,7 @@ use Rattle.moc_parts.specs.Batches.{batches, replies_on}
 use Rattle.moc_parts.specs.declared.command.Command.{Command}
 use Rattle.moc_parts.specs.declared.reply.Reply.{Reply}
 use Rattle.moc_steps.specs.Machine as machine
-use Rattle.moc_steps.specs.Machine.{Running, holds, holds_now, refusal, is_any, end_refusal, has_taken, world_after}
+use Rattle.moc_steps.specs.Machine.{Running, holds, holds_now, refusal, is_any, end_refusal, world_after}
 use Rattle.moc_steps.specs.Machine.{running, answered, completed, replied, reply_to, ended_reply}
 use Rattle.moc_steps.specs.Orders.{names, times, is_committed}
 use Rattle.moc_steps.specs.Private.Standing.{Standing}

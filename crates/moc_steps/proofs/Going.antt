@@ -11,7 +11,7 @@ use Rattle.std.specs.FinMap as map
 use Rattle.moc_parts.specs.Batches.{batches}
 use Rattle.moc_parts.specs.declared.command.Command.{Command}
 use Rattle.moc_steps.specs.Machine as machine
-use Rattle.moc_steps.specs.Machine.{Running, refusal, holds, holds_some, holder, next_part, has_taken, is_in, twelve}
+use Rattle.moc_steps.specs.Machine.{Running, refusal, holds, holder, next_part, has_taken, is_in, twelve}
 use Rattle.moc_steps.specs.Machine.{unless_idle, take_refusal, next_refusal, edit_refusal, give_refusal, end_refusal}
 use Rattle.moc_steps.specs.Machine.{running}
 use Rattle.moc_steps.specs.Laws.{IsReached}

@@ -9,7 +9,7 @@ use Rattle.moc_parts.specs.Batches.{batches}
 use Rattle.moc_parts.specs.declared.command.Command.{Command}
 use Rattle.moc_steps.specs.Machine as machine
 use Rattle.moc_steps.specs.Machine.{Running, Locks, Clients, AreLocal, begins, changed, change, holds, holds_now}
-use Rattle.moc_steps.specs.Machine.{holder, is_any, refusal, world_after, running}
+use Rattle.moc_steps.specs.Machine.{holder, refusal, world_after, running}
 use Rattle.moc_steps.specs.Orders.{names}
 use Rattle.moc_steps.specs.Laws.{IsReached}
 use Rattle.moc_steps.specs.Private.Standing.{Standing}

@@ -13,19 +13,19 @@ use Rattle.moc_parts.specs.Batches.{batches, set_after_all, footprint_of_all}
 use Rattle.moc_parts.specs.declared.command.Command.{Command}
 use Rattle.moc_parts.specs.Prepared.{kept as kept_part}
 use Rattle.moc_steps.specs.Machine as machine
-use Rattle.moc_steps.specs.Machine.{Running, Locks, Clients, AreLocal, begins, holds, holds_now, holder, is_any}
-use Rattle.moc_steps.specs.Machine.{refusal, has_taken, next_part, twelve, unless_idle, take_refusal, edit_refusal}
+use Rattle.moc_steps.specs.Machine.{Running, Locks, begins, holds, holds_now, holder, is_any}
+use Rattle.moc_steps.specs.Machine.{refusal, has_taken, next_part, unless_idle, take_refusal, edit_refusal}
 use Rattle.moc_steps.specs.Machine.{give_refusal, quit_refusal, end_refusal, world_after, running, found_by, part_at}
 use Rattle.moc_steps.specs.Machine.{found_next, edited_parts, appended}
 use Rattle.moc_steps.specs.Orders.{names, client_of}
 use Rattle.moc_steps.specs.Private.Standing.{Standing}
-use Rattle.moc_steps.specs.Private.Changes.{IsChangeOf, changed, changed_at, changed_table}
+use Rattle.moc_steps.specs.Private.Effects.{IsEffectOf, changed, changed_at, changed_table}
 use Rattle.moc_steps.specs.declared.error.StepError.{StepError}
 use Rattle.moc_steps.specs.declared.error.StepError.TheVariants.{Idle}
 use Rattle.moc_steps.specs.declared.step.Step.{Step}
 use Rattle.moc_steps.specs.declared.step.Step.TheVariants as step
-use Rattle.moc_steps.specs.declared.table.Change.{Change}
-use Rattle.moc_steps.specs.declared.table.Change.TheVariants.{Take, Give, Quit}
+use Rattle.moc_steps.specs.declared.table.Effect.{Effect}
+use Rattle.moc_steps.specs.declared.table.Effect.TheVariants.{Take, Give, Quit}
 use Rattle.moc_steps.specs.Played.{BatchWorld, entry_of, entries_of, step_of}
 use Rattle.moc_steps.specs.Private.Worlds.{HasPlace, IsKept, world_of}
 use Rattle.moc_steps.specs.declared.step.Entry.{Entry}
@@ -48,7 +48,7 @@ use Rattle.moc_steps.proofs.Kept.{holder_same, same_on, kept_on, at_each}
 abbrev pub Goes : ℕ → Table → List NumberSet → List Entry → machine.Step (List Command) → ℕ → Table → List NumberSet → List (Option ℕ) → List Entry → Type 0
 Goes n m ps es step n' m' ps' hs' es' = (world_of n' m' ps' es' ≡ world_after batches (world_of n m ps es) step) × IsKept n' m' ps' hs' es'
 
-pub table_is : (m : Table) (c : ℕ) (s : Standing) (change : Change) → map.get m c ≡ Some s → changed_table m c change ≡ map.insert m c (changed s change)
+pub table_is : (m : Table) (c : ℕ) (s : Standing) (change : Effect) → map.get m c ≡ Some s → changed_table m c change ≡ map.insert m c (changed s change)
 table_is m c s change h = ap (λ x. changed_at m c x change) h
 
 entries_push : (es : List Entry) (e : Entry) → entries_of (es ++ e ∷ []) ≡ entries_of es ++ entry_of e ∷ []
@@ -137,7 +137,7 @@ module _ (n : ℕ) (m : Table) (ps : List NumberSet) (hs : List (Option ℕ)) (e
       and_false false = refl
 
   pub take_asks : (c q : ℕ) (s : Standing) (list : NumberSet) → map.get m c ≡ Some s → next_part batches s.running ≡ Some q → list ≡ get_or ps q set.empty
-      → IsChangeOf s (Take q list)
+      → IsEffectOf s (Take q list)
   take_asks c q s list has next list_is =
       let inv = reached_explained batches (world_of n m ps es) kept.reached in
       let own = inv.1.client c s.running (runs c s has) in
@@ -299,7 +299,7 @@ module _ (n : ℕ) (m : Table) (ps : List NumberSet) (hs : List (Option ℕ)) (e
   committed_at c s v has is some = subst (λ x. IfSome x (λ r. is_any r.edited ≡ true)) (sym (ap (λ v. running batches v c) (sym is) ∙ runs c s has)) ((kept.placed c s has).0 ∙ some)
 
   -- a client to which two things are done
-  pub table_twice : (m' m'' : Table) (c : ℕ) (s : Standing) (x y : Change) → map.get m c ≡ Some s → m' ≡ changed_table m c x → m'' ≡ changed_table m' c y → m'' ≡ map.insert m c (changed (changed s x) y)
+  pub table_twice : (m' m'' : Table) (c : ℕ) (s : Standing) (x y : Effect) → map.get m c ≡ Some s → m' ≡ changed_table m c x → m'' ≡ changed_table m' c y → m'' ≡ map.insert m c (changed (changed s x) y)
   table_twice m' m'' c s x y has first second =
       second ∙ ap (λ t. changed_table t c y) (first ∙ table_is m c s x has) ∙ table_is (map.insert m c (changed s x)) c (changed s x) y (get-insert_same m c (changed s x))
       ∙ insert_twice m c (changed s x) (changed (changed s x) y)
@@ -314,7 +314,7 @@ module _ (n : ℕ) (m : Table) (ps : List NumberSet) (hs : List (Option ℕ)) (e
   kept_some cs found lists b low has each none =
       let is : None ≡ Some (part_of (set_after_all found cs) b) = sym none ∙ each b low ∙ ap (λ t. kept_part t (set_after_all found cs) b) has in absurd (cc (is))
 
-  pub changed_there : (m' : Table) (c : ℕ) (s : Standing) (x : Change) → map.get m c ≡ Some s → m' ≡ changed_table m c x → map.get m' c ≡ Some (changed s x)
+  pub changed_there : (m' : Table) (c : ℕ) (s : Standing) (x : Effect) → map.get m c ≡ Some s → m' ≡ changed_table m c x → map.get m' c ≡ Some (changed s x)
   changed_there m' c s x has is = ap (λ t. map.get t c) (is ∙ table_is m c s x has) ∙ get-insert_same m c (changed s x)
 
   -- the client that the table has, in the machine

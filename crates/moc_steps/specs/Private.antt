@@ -1,5 +1,5 @@
 -- What serves the contracts of private functions alone.
 pub mod Standing
-pub mod Changes
+pub mod Effects
 pub mod Worlds
 pub mod Codes

@@ -1,5 +1,5 @@
 //! Clients that are midway.
-ghost use Rattle.std.specs.Prelude.{◌≡◌, ◌<◌, ◌+◌, ℕ, true, suc, IfOk, IfSome, IsSome, None, Some, take, slice_get};
+ghost use Rattle.std.specs.Prelude.{◌≡◌, ◌<◌, ◌+◌, true, suc, IfOk, IsSome, None, Some, take, slice_get};
 ghost use Rattle.std.specs.Prelude.{nat_eq, nat_lt, option_map};
 ghost use Rattle.std.specs.List.{list_any};
 ghost use Rattle.std.specs.Option.{option_copied};

@@ -18,7 +18,7 @@ use crate::error::{CoverError, StepError};
 use crate::midway::Midway;
 use crate::share::Share;
 use crate::step::{Entry, Step};
-use crate::table::{Change, Table};
+use crate::table::{Effect, Table};
 use moc_parts::{Batch, Part, Replies, batches_are_local, cut, unite};
 use moc_ranges::{Coverage, Memory};
 use std::alloc::Global;
@@ -228,7 +228,7 @@ impl World {
             unreachable!()
         };
         let list = self.parts[usize::from(part.get())].share()?;
-        self.clients.change(client, Change::Take(part, list));
+        self.clients.change(client, Effect::Take(part, list));
         self.holders[usize::from(part.get())] = Some(client);
         Ok(())
     }
@@ -259,8 +259,8 @@ impl World {
             client,
             reply,
         })?;
-        self.clients.change(client, Change::Commit(made));
-        self.clients.change(client, Change::Edit(part));
+        self.clients.change(client, Effect::Commit(made));
+        self.clients.change(client, Effect::Edit(part));
         self.parts[usize::from(part.get())] = list;
         Ok(())
     }
@@ -281,7 +281,7 @@ impl World {
             unreachable!()
         };
         let list = list.share()?;
-        self.clients.change(client, Change::Edit(part));
+        self.clients.change(client, Effect::Edit(part));
         self.parts[usize::from(part.get())] = list;
         Ok(())
     }
@@ -291,7 +291,7 @@ impl World {
         requires { refusal batches self.old.locks (machine.Step.Give client part) ≡ None }
         ensures { self.new ≡ world_after batches self.old (machine.Step.Give client part) }
     {
-        self.clients.change(client, Change::Give(part));
+        self.clients.change(client, Effect::Give(part));
         self.holders[usize::from(part.get())] = None;
     }
 
@@ -300,7 +300,7 @@ impl World {
         requires { refusal batches self.old.locks (machine.Step.Quit client) ≡ None }
         ensures { self.new ≡ world_after batches self.old (machine.Step.Quit client) }
     {
-        self.clients.change(client, Change::Quit);
+        self.clients.change(client, Effect::Quit);
     }
 
     /// A permitted End.

@@ -15,7 +15,7 @@ use Rattle.std.specs.Str.Parse.{digits_value_after, digits_value}
 use Rattle.std.proofs.lemmas.Str.{digit_value_digit}
 use Rattle.std.proofs.lemmas.Bool.Decides.{nat_tests}
 use Rattle.moc_text.specs.Private.Scan.{held_after}
-use Rattle.moc_text.specs.declared.ascii.number.Number.{Number}
+use Rattle.moc_text.specs.declared.ascii.number.Numeral.{Numeral}
 use Rattle.moc_text.specs.declared.ascii.number.Item.{Item}
 use Rattle.moc_text.specs.declared.ascii.number.WordNumbers.{WordNumbers}
 use Rattle.moc_text.proofs.Automaton.{both}
@@ -39,10 +39,10 @@ held-digits v (d ∷ ds) h =
 pub held_is : (ds : List ℕ) → all_ascii_digits ds ≡ true → held_after 0 ds ≡ min (digits_value 10 ds) (2 ^ 64 - 1)
 held_is ds h = held-digits 0 ds h
 
-abbrev pub held_number : Number → Number
+abbrev pub held_number : Numeral → Numeral
 held_number n = record { at = n.at; value = min n.value (2 ^ 64 - 1) }
 
-abbrev pub held_last : Option Number → Option Number
+abbrev pub held_last : Option Numeral → Option Numeral
 held_last None = None
 held_last (Some n) = Some (held_number n)
 
@@ -69,19 +69,19 @@ held-ltb top n v h = grind (arith, nat_tests)
 held_below : (top n v : ℕ) → v < n → n ≤ top → min v top ≡ v
 held_below top n v lt le = omega arith
 
-pub mark_fault-held : (m : Option Number) → mark_fault (held_last m) ≡ mark_fault m
+pub mark_fault-held : (m : Option Numeral) → mark_fault (held_last m) ≡ mark_fault m
 mark_fault-held None = refl
 mark_fault-held (Some n) = ap (λ v. cond v (Some (OrderTooLarge n.at)) None) (held-ltb (2 ^ 64 - 1) 29 n.value (omega arith))
 
 -- an order that is not refused
-pub order_small : (n : Number) → mark_fault (Some n) ≡ None → n.value ≤ 29
+pub order_small : (n : Numeral) → mark_fault (Some n) ≡ None → n.value ≤ 29
 order_small n h =
     elim (ltb 29 n.value) as (λ v. ltb 29 n.value ≡ v → cond v (Some (OrderTooLarge n.at)) None ≡ None → n.value ≤ 29) [
       | true ↦ λ e k. absurd cc
       | false ↦ λ e k. ltb-false 29 n.value e
     ] refl h
 
-pub order_at-held : (before : Option ℕ) (m : Option Number) → mark_fault m ≡ None → order_in_force before (held_last m) ≡ order_in_force before m
+pub order_at-held : (before : Option ℕ) (m : Option Numeral) → mark_fault m ≡ None → order_in_force before (held_last m) ≡ order_in_force before m
 order_at-held before None h = refl
 order_at-held before (Some n) h = ap (λ (v : ℕ). Some v) (held_below (2 ^ 64 - 1) 30 n.value (omega (arith, order_small n h)) (omega arith))
 
@@ -89,13 +89,13 @@ last_of-held : (i : Item) → last_of (held_item i) ≡ held_number (last_of i)
 last_of-held i = elim i.last as (λ l. unwrap_or (held_last l) (held_number i.first) ≡ held_number (unwrap_or l i.first)) [ None ↦ refl | Some n ↦ refl ]
 
 -- the tests of an item, on its numbers
-abbrev tests : ℕ → Number → Number → Option TextError
+abbrev tests : ℕ → Numeral → Numeral → Option TextError
 tests cells first last =
     cond (not (ltb first.value cells)) (Some (CellTooLarge first.at))
     (cond (not (ltb last.value cells)) (Some (CellTooLarge last.at))
     (cond (ltb last.value first.value) (Some (Backwards first.at)) None))
 
-tests-held : (cells : ℕ) (first last : Number) → cells ≤ 2 ^ 64 - 1 → tests cells (held_number first) (held_number last) ≡ tests cells first last
+tests-held : (cells : ℕ) (first last : Numeral) → cells ≤ 2 ^ 64 - 1 → tests cells (held_number first) (held_number last) ≡ tests cells first last
 tests-held cells first last le =
     let a : ltb (min first.value (2 ^ 64 - 1)) cells ≡ ltb first.value cells = ltb-held (2 ^ 64 - 1) cells first.value le in
     let b : ltb (min last.value (2 ^ 64 - 1)) cells ≡ ltb last.value cells = ltb-held (2 ^ 64 - 1) cells last.value le in
@@ -124,7 +124,7 @@ item_fault-held (Some k) at (Some i) h =
     ap (tests (cell_count k) (held_number i.first)) (last_of-held i) ∙ tests-held (cell_count k) i.first (last_of i) (omega (arith, cells_fit k (h k refl)))
 
 -- the numbers of an item that is not refused are cells
-tests_pass : (cells : ℕ) (first last : Number) → tests cells first last ≡ None → (first.value < cells) × (last.value < cells) × (first.value ≤ last.value)
+tests_pass : (cells : ℕ) (first last : Numeral) → tests cells first last ≡ None → (first.value < cells) × (last.value < cells) × (first.value ≤ last.value)
 tests_pass cells first last h =
     elim (ltb first.value cells) as (λ v. ltb first.value cells ≡ v → cond (not v) (Some (CellTooLarge first.at)) (cond (not (ltb last.value cells)) (Some (CellTooLarge last.at)) (cond (ltb last.value first.value) (Some (Backwards first.at)) None)) ≡ None → (first.value < cells) × (last.value < cells) × (first.value ≤ last.value)) [
       | false ↦ λ e h. absurd cc
@@ -149,5 +149,5 @@ item_pixels-held (Some k) at (Some i) small h =
     let fit : cell_count k ≤ 2 ^ 64 - 1 = omega (arith, cells_fit k (small k refl)) in
     let x : min i.first.value (2 ^ 64 - 1) ≡ i.first.value = held_below (2 ^ 64 - 1) (cell_count k) i.first.value p.0 fit in
     let y : min (last_of i).value (2 ^ 64 - 1) ≡ (last_of i).value = held_below (2 ^ 64 - 1) (cell_count k) (last_of i).value p.1 fit in
-    let z : (last_of (held_item i)).value ≡ (last_of i).value = ap (λ (n : Number). n.value) (last_of-held i) ∙ y in
+    let z : (last_of (held_item i)).value ≡ (last_of i).value = ap (λ (n : Numeral). n.value) (last_of-held i) ∙ y in
     ap (λ (f : ℕ). spans k f (last_of (held_item i)).value) x ∙ ap (spans k i.first.value) z

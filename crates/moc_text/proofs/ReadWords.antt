@@ -11,7 +11,7 @@ use Rattle.moc_lists.specs.RangeList.{NumberSet}
 use Rattle.moc_ranges.specs.Lemmas.{union-assoc, empty-union, union-empty}
 use Rattle.moc_text.specs.Private.Scan.{is_end, scan_word}
 use Rattle.moc_text.specs.Private.AsciiReading.{Progress}
-use Rattle.moc_text.specs.declared.ascii.number.Number.{Number}
+use Rattle.moc_text.specs.declared.ascii.number.Numeral.{Numeral}
 use Rattle.moc_text.specs.declared.ascii.number.WordNumbers.{WordNumbers}
 use Rattle.moc_text.specs.declared.ascii.error.TextError.{TextError}
 use Rattle.moc_text.proofs.Automaton.{Start, run, accepts, run-shape}
@@ -111,7 +111,7 @@ first_none : (f g : Option TextError) → option_or f g ≡ None → f ≡ None
 first_none None g h = refl
 first_none (Some f) g h = absurd cc
 
-pub small_order : (before : Option ℕ) (m : Option Number) → IsSmall before → mark_fault m ≡ None → IsSmall (order_in_force before m)
+pub small_order : (before : Option ℕ) (m : Option Numeral) → IsSmall before → mark_fault m ≡ None → IsSmall (order_in_force before m)
 small_order before None small h = small
 small_order before (Some n) small h = λ k e.
     let is : n.value ≡ k = cc in

@@ -8,7 +8,7 @@ use Rattle.std.specs.FinSet as set
 use Rattle.moc_sphere.specs.CellNumber.{cell_count}
 use Rattle.moc_lists.specs.RangeList.{NumberSet}
 use Rattle.moc_ranges.specs.Cells.{spans}
-use Rattle.moc_text.specs.declared.ascii.number.Number.{Number}
+use Rattle.moc_text.specs.declared.ascii.number.Numeral.{Numeral}
 use Rattle.moc_text.specs.declared.ascii.number.Item.{Item}
 use Rattle.moc_text.specs.declared.ascii.number.WordNumbers.{WordNumbers}
 use Rattle.moc_text.specs.declared.ascii.error.TextError.{TextError}
@@ -118,11 +118,11 @@ HasShapeFault w f =
     (p rest : List ℕ) × IsLongestBeginning p rest w.bytes × ShapeFaultAt w.at p rest f
 
 -- a number of a word, with the place of its first digit
-abbrev pub number_at : ℕ → List ℕ → Number
+abbrev pub number_at : ℕ → List ℕ → Numeral
 number_at at digits = record { at = at; value = digits_value 10 digits }
 
 -- the number of a mark that begins at a place
-abbrev pub mark_at : ℕ → Mark → Number
+abbrev pub mark_at : ℕ → Mark → Numeral
 mark_at at m = number_at (at + length (prefix m.prefixed)) m.order
 
 -- the numbers of an item that begins at a place
@@ -144,16 +144,16 @@ Means w n =
     (shape : Shape) × IsShape shape × (w.bytes ≡ shape_text shape) × (n ≡ numbers_at w.at shape)
 
 -- the order in force at a mark or none, where `before` was in force before it
-abbrev pub order_in_force : Option ℕ → Option Number → Option ℕ
+abbrev pub order_in_force : Option ℕ → Option Numeral → Option ℕ
 order_in_force before None = before
 order_in_force before (Some n) = Some n.value
 
 -- the last cell of an item
-abbrev pub last_of : Item → Number
+abbrev pub last_of : Item → Numeral
 last_of i = unwrap_or i.last i.first
 
 -- of a mark, if there is one: an order above 29
-abbrev pub mark_fault : Option Number → Option TextError
+abbrev pub mark_fault : Option Numeral → Option TextError
 mark_fault None = None
 mark_fault (Some n) = if nat_lt 29 n.value then Some (OrderTooLarge n.at) else None
 

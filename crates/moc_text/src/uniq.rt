@@ -1,5 +1,5 @@
 //! NUNIQ lists: the NUNIQ number of a cell on each line.
-ghost use Rattle.std.specs.Prelude.{◌≡◌, ◌++◌, ◌<◌, ◌⊎◌, decimal, map, IfErr, IfOk, IsOkUnless, length, MatchOption};
+ghost use Rattle.std.specs.Prelude.{◌≡◌, ◌++◌, ◌<◌, ◌⊎◌, map, IfErr, IfOk, IsOkUnless, length, MatchOption};
 ghost use Rattle.std.specs.Prelude.{MatchResult, OnOk};
 ghost use Rattle.std.specs.Option.{option_copied};
 ghost use Rattle.std.specs.String.{string_bytes};

@@ -4,8 +4,9 @@ use Rattle.std.specs.FinSet as set
 use Rattle.std.specs.Ordering.{nat_cmp}
 use Rattle.std.specs.Cmp.{nat_cmp_total}
 use Rattle.std.specs.List.{range_with_len, list_any}
-use Rattle.std.proofs.Common.{arith, ◌∙◌, sym, ap}
+use Rattle.std.proofs.Common.{arith, ◌∙◌, sym, ap, refl, true, false, ◌++◌}
 use Rattle.std.proofs.lemmas.Bool.Decides.{nat_tests}
+use Rattle.std.proofs.lemmas.List.Folds.{list_any-append}
 use Rattle.moc_lists.specs.RangeList.{NumberSet, numbers, set_of}
 
 -- two sets with the same members are one
@@ -42,3 +43,21 @@ contains-set_of [] q = set.contains-empty nat_cmp q
 contains-set_of (range ∷ ranges) q =
     set.contains-union nat_cmp_total (numbers range.0 range.1) (set_of ranges) q
     ∙ (λ i. contains-numbers range.0 range.1 q i || contains-set_of ranges q i)
+
+-- the members of two lists, one behind the other
+pub in_ranges-append : (rs ss : List (ℕ × ℕ)) (q : ℕ) → in_ranges (rs ++ ss) q ≡ (in_ranges rs q || in_ranges ss q)
+in_ranges-append rs ss q = list_any-append (λ range. in_range range q) rs ss
+
+-- ---- laws of truth values, for what is in one list or another
+
+pub or_false : (b : Bool) → (b || false) ≡ b
+or_false true = refl
+or_false false = refl
+
+pub or_assoc : (a b c : Bool) → ((a || b) || c) ≡ (a || (b || c))
+or_assoc true b c = refl
+or_assoc false b c = refl
+
+pub and_false : (b : Bool) → (b && false) ≡ false
+and_false true = refl
+and_false false = refl

@@ -29,7 +29,7 @@ unfolding set_of
 len_nothing = set.len-empty nat_cmp
 
 -- a set grows by n where n numbers that it lacks are added
-len-more : (from n : ℕ) (a : NumberSet) → ((q : ℕ) → from ≤ q → q < from + n → set.contains a q ≡ false)
+pub len-more : (from n : ℕ) (a : NumberSet) → ((q : ℕ) → from ≤ q → q < from + n → set.contains a q ≡ false)
     → set.len (set.union (numbers from (from + n)) a) ≡ n + set.len a
 len-more from zero a none =
     let same : set.union (numbers from (from + 0)) a ≡ a =

@@ -7,11 +7,7 @@ use Rattle.std.specs.Cmp.{nat_cmp_total}
 use Rattle.std.proofs.lemmas.Bool.{cases_Bool, cases_eq}
 use Rattle.std.proofs.lemmas.Bool.Decides.{nat_tests}
 use Rattle.moc_lists.specs.RangeList.{NumberSet}
-use Rattle.moc_lists.specs.Lemmas.Members.{contains-kept, same_members}
-
-and_false : (b : Bool) → (b && false) ≡ false
-and_false true = refl
-and_false false = refl
+use Rattle.moc_lists.specs.Lemmas.Members.{contains-kept, same_members, and_false}
 
 insert_step : (e s pq pk : Bool) → (e ≡ true → pq ≡ pk) → ((e || s) && pq) ≡ cond pk (e || (s && pq)) (s && pq)
 insert_step true s pq true same = same refl

@@ -1,6 +1,6 @@
 -- What callers know of the cells of a set: they are cells, in rising NUNIQ, and their pixels are
 -- just the set's.
-use Rattle.std.proofs.Common.{◌≡◌, ℕ, zero, suc, ◌+◌, ◌-◌, ◌*◌, ◌/◌, ◌^◌, ◌<◌, ◌≤◌, Bool, true, false, cond, ◌||◌}
+use Rattle.std.proofs.Common.{◌≡◌, ℕ, zero, suc, ◌+◌, ◌-◌, ◌*◌, ◌/◌, ◌^◌, ◌<◌, ◌≤◌, Bool, true, false, cond}
 use Rattle.std.proofs.Common.{List, [], ◌∷◌, ◌++◌, map, refl, sym, ap, subst, ◌∙◌, inl, inr, arith}
 use Rattle.std.specs.Prelude.{nat_le, nat_lt, ⊤}
 use Rattle.std.specs.FinSet as set
@@ -10,13 +10,12 @@ use Rattle.std.proofs.lemmas.Bool.{cases_Bool, cases_eq, and_parts, and_from, or
 use Rattle.std.proofs.lemmas.Bool.{ltb-true, le-leb, leb-true, eq-eqb, eqb-true, not_from_false, false≢true}
 use Rattle.std.proofs.lemmas.List.{map-append}
 use Rattle.std.proofs.lemmas.List.Elements.{filter-append}
-use Rattle.std.proofs.lemmas.List.Folds.{list_any-append}
 use Rattle.std.proofs.lemmas.Nat.{div_below, div-mul-add, div-add-mod', mod_below, mul-le}
 use Rattle.std.proofs.Math.Nat.{div-div-eq-div-mul, pow-succ'}
 use Rattle.moc_sphere.specs.CellNumber.{CellNumber, cell_number, cell_count, cell_size, IsCell, uniq_of}
 use Rattle.moc_sphere.specs.Lemmas.{cell_size-positive, cell_size-fills}
 use Rattle.moc_lists.specs.RangeList.{NumberSet, pixel_count, set_of}
-use Rattle.moc_lists.specs.Lemmas.Members.{same_members, contains-set_of, in_range, in_ranges}
+use Rattle.moc_lists.specs.Lemmas.Members.{same_members, contains-set_of, in_range, in_ranges, in_ranges-append}
 use Rattle.moc_ranges.specs.Lemmas.Members.{contains-pixels, same_truth, contains-span, cell_range}
 use Rattle.moc_ranges.specs.Operations.{pixels, IsWithin}
 use Rattle.moc_ranges.specs.Cells.{span, is_cell_of, cells_below, cells_of, AllUniqFrom, IsRisingUniq}
@@ -188,9 +187,6 @@ kept_range p k i from (suc n) q low high is has =
             | false ↦ later
           ]
     ]
-
-in_ranges-append : (rs ss : List (ℕ × ℕ)) (q : ℕ) → in_ranges (rs ++ ss) q ≡ (in_ranges rs q || in_ranges ss q)
-in_ranges-append rs ss q = list_any-append (λ range. in_range range q) rs ss
 
 kept_below : (p : CellNumber → Bool) (k i orders q : ℕ) → k < orders → i < cell_count k → p (cell_number k i) ≡ true
     → in_range (cell_range (cell_number k i)) q ≡ true

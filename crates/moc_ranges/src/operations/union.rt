@@ -1,7 +1,6 @@
 //! Union of lists in blocks, which carries over the blocks that the other list does not meet.
 ghost use Rattle.std.specs.FinSet as set;
-ghost use Rattle.std.specs.Prelude.{◌≡◌, ◌+◌, ◌<◌, ◌≤◌, ◌||◌, ◌++◌, ◌∷◌, [], List, ℕ};
-ghost use Rattle.std.specs.Prelude.{IfOk, IfSome, OnOk};
+ghost use Rattle.std.specs.Prelude.{◌≡◌, ◌+◌, ◌<◌, ◌≤◌, ◌||◌, ◌++◌, ◌∷◌, [], List, ℕ, IfOk, IfSome, OnOk};
 ghost use Rattle.moc_lists.specs.RangeList.{IsNormal, set_of};
 ghost use Rattle.moc_lists.specs.Private.Blocks.{next_of};
 ghost use Rattle.moc_lists.specs.Private.Built.{ranges_of, CanJoin};

@@ -6,7 +6,7 @@ use Rattle.moc_parts.specs.declared.reply.Reply.{Reply}
 use Rattle.moc_shared.specs.declared.client.Client.{Client}
 use Rattle.moc_shared.specs.declared.map.SharedMap.{SharedMap}
 use Rattle.moc_shared.specs.declared.record.Calls.{Calls}
-use Rattle.moc_shared.specs.Batches.{BatchEntry, BatchRecord, answer as object}
+use Rattle.moc_shared.specs.Batches.{BatchCall, BatchRecord, answer as object}
 use Rattle.moc_shared.specs.Clients.{record_of, IsClientOf}
 use Rattle.moc_lines.specs.Runs.{script_rules}
 use Rattle.moc_script.specs.Private.Input.{lane_lines}
@@ -61,7 +61,7 @@ CallsMade = Calls (List Command) (List Reply)
 -- the record has these calls of the lane's client, which are those of the lane's lines with these answers
 abbrev pub HasLane : BatchRecord → ℕ → List (List ℕ) → List (List ℕ) → Type 0
 HasLane r lane lines texts =
-    (made : List BatchEntry) × Contains r.own (record { client = lane; made = made })
+    (made : List BatchCall) × Contains r.own (record { client = lane; made = made })
     × Does object script_rules lines made texts
 
 -- all that the first stands for, where there is one, and all that the second stands for

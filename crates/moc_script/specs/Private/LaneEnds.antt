@@ -3,9 +3,9 @@ use Rattle.std.specs.Prelude.{◌≡◌, ◌<◌, ◌≤◌, ℕ, List, [], ◌�
 use Rattle.moc_parts.specs.declared.command.Command.{Command}
 use Rattle.moc_parts.specs.declared.reply.Reply.{Reply}
 use Rattle.moc_shared.specs.declared.map.SharedMap.{SharedMap}
-use Rattle.moc_shared.specs.Batches.{BatchEntry, BatchRecord, answer as object}
+use Rattle.moc_shared.specs.Batches.{BatchCall, BatchRecord, answer as object}
 use Rattle.moc_shared.specs.Clients.{number_of, record_of, IsClientOf}
-use Rattle.moc_shared.specs.History.{entry}
+use Rattle.moc_shared.specs.History.{call_by}
 use Rattle.moc_text.specs.Lines.{lines_of}
 use Rattle.moc_lines.specs.Language.{replies_text}
 use Rattle.moc_script.specs.Crews.{IsSaidLine}
@@ -17,14 +17,14 @@ use Rattle.moc_script.specs.declared.crews.lane.Unfinished.{Unfinished}
 use Rattle.moc_script.specs.declared.crews.lane.Unfinished.TheVariants.{Refused, Stopped}
 
 -- the record stands for this client alone, which made these calls
-abbrev pub Made : ℕ → List BatchEntry → BatchRecord → Type 0
+abbrev pub Made : ℕ → List BatchCall → BatchRecord → Type 0
 Made client calls r = r.own ≡ record { client = client; made = calls } ∷ []
 
 -- the line made these calls, behind the former ones, and has this answer
 abbrev pub Answers : ℕ → List ℕ → BatchRecord → BatchRecord → List ℕ → Type 0
 Answers client line old new text =
-    (calls : List BatchEntry) × DoesLine object script_rules line calls text
-    × ((made : List BatchEntry) → Made client made old → Made client (made ++ calls) new)
+    (calls : List BatchCall) × DoesLine object script_rules line calls text
+    × ((made : List BatchCall) → Made client made old → Made client (made ++ calls) new)
 
 -- the same, where the answer stands behind others
 abbrev pub AddsAnswer : ℕ → List ℕ → BatchRecord → BatchRecord → List ℕ → List ℕ → Type 0
@@ -35,7 +35,7 @@ AddsAnswer client line old new before after =
 abbrev pub Answered : ℕ → List Command → BatchRecord → BatchRecord → List ℕ → List ℕ → Type 0
 Answered client commands old new before after =
     (replies : List Reply) × (after ≡ before ++ (replies_text replies ++ 10 ∷ []))
-    × ((made : List BatchEntry) → Made client made old → Made client (made ++ entry client commands replies ∷ []) new)
+    × ((made : List BatchCall) → Made client made old → Made client (made ++ call_by client commands replies ∷ []) new)
 
 -- the line at which a lane was refused memory, or stopped
 abbrev pub line_at : Unfinished → ℕ
@@ -54,7 +54,7 @@ GoesBefore (Stopped line) (Stopped other) = line ≤ other
 abbrev pub IsLaneEnd : SharedMap → ℕ → List ℕ → ℕ → Result LaneEnd Unfinished → Type 0
 IsLaneEnd map lanes input lane (Ok end) =
     IsClientOf map end.client × (number_of end.client ≡ lane)
-    × ((made : List BatchEntry) × Made lane made (record_of end.client)
+    × ((made : List BatchCall) × Made lane made (record_of end.client)
     × Does object script_rules (lane_lines lanes input lane) made end.answers)
 IsLaneEnd map lanes input lane (Err e) = IsSaidLine (line_at e) (lines_of input)
 

@@ -1,5 +1,5 @@
 //! The lines of a lane.
-ghost use Rattle.std.specs.Prelude.{◌≡◌, ◌<◌, ◌≤◌, ◌+◌, ◌^◌, ◌∷◌, [], None, IfSome, false, length};
+ghost use Rattle.std.specs.Prelude.{◌≡◌, ◌<◌, ◌+◌, ◌^◌, ◌∷◌, [], None, IfSome, false, length};
 ghost use Rattle.moc_text.specs.Lines.{lines_of};
 ghost use Rattle.moc_lines.specs.Language.{is_blank_text};
 ghost use Rattle.moc_script.specs.Private.Input.{Passes, lane_lines, lines_left};

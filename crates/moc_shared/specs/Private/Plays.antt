@@ -1,7 +1,7 @@
 -- What each kind of step does to the acting seat, and tells it. A seat's view is written v, and w afterwards.
 use Rattle.std.specs.Prelude.{◌≡◌, ℕ, suc, ◌<◌, List, [], ◌∷◌, ◌++◌, map, Contains}
 use Rattle.atomic_table.specs.Table.{Me, Step, rest}
-use Rattle.moc_shared.specs.declared.record.Entry.{Entry}
+use Rattle.moc_shared.specs.declared.record.Call.{Call}
 use Rattle.moc_shared.specs.declared.record.Record.{Record}
 use Rattle.moc_shared.specs.declared.record.Note.{Note}
 use Rattle.moc_shared.specs.declared.record.View.{View}
@@ -24,15 +24,15 @@ module _ {O R : Type 0} where
   missed_at more r = record r { misses = more ++ r.misses }
 
   -- the record after the call e, at the end of the history log
-  abbrev pub ended_by : List (Entry O R) → Entry O R → Record O R → Record O R
+  abbrev pub ended_by : List (Call O R) → Call O R → Record O R → Record O R
   ended_by log e r = record r { seen = log ++ e ∷ []; own = own_with e r.own }
 
   -- the record, once this history was seen
-  abbrev pub seen_to : List (Entry O R) → Record O R → Record O R
+  abbrev pub seen_to : List (Call O R) → Record O R → Record O R
   seen_to log r = record r { seen = log }
 
   -- the record of two, once this history was seen
-  abbrev pub both_of : Record O R → Record O R → List (Entry O R) → Record O R
+  abbrev pub both_of : Record O R → Record O R → List (Call O R) → Record O R
   both_of r q log =
       record r { seen = log; own = r.own ++ q.own; marks = r.marks ++ q.marks; misses = r.misses ++ q.misses }
 
@@ -60,15 +60,15 @@ module _ {X O R Y : Type 0} where
   with_holds v notes = record v { holds = notes }
 
   -- the whole history and one call more have been seen, and these parts are still held
-  abbrev pub with_entry : View X O R Y → List (Entry O R) → Entry O R → List (Note Y) → View X O R Y
-  with_entry v log e notes = record v { mine = ended_by log e v.mine; holds = notes }
+  abbrev pub after_call : View X O R Y → List (Call O R) → Call O R → List (Note Y) → View X O R Y
+  after_call v log e notes = record v { mine = ended_by log e v.mine; holds = notes }
 
   -- the whole history has been seen
-  abbrev pub with_history : View X O R Y → List (Entry O R) → View X O R Y
+  abbrev pub with_history : View X O R Y → List (Call O R) → View X O R Y
   with_history v log = record v { mine = seen_to log v.mine; others = map (seen_to log) v.others }
 
   -- one record of the view's own and of q, once this history was seen
-  abbrev pub gathered : View X O R Y → Record O R → List (Entry O R) → View X O R Y
+  abbrev pub gathered : View X O R Y → Record O R → List (Call O R) → View X O R Y
   gathered v q log = record v { mine = both_of v.mine q log; others = [] }
 
   -- two views in one
@@ -96,9 +96,9 @@ module _ {X O R Y : Type 0} where
   -- The view after the call e: a legal history of the map's clients that begins with all that was seen and ends with
   -- the call has been seen, in which the client's calls are the former ones and this one. The notes are of the parts
   -- that are still held.
-  abbrev pub EndsCall : (X → O → X × R) → Entry O R → List (Note Y) → View X O R Y → View X O R Y → Type 0
+  abbrev pub EndsCall : (X → O → X × R) → Call O R → List (Note Y) → View X O R Y → View X O R Y → Type 0
   EndsCall answer e notes v w =
-      (log : List (Entry O R)) × (w ≡ with_entry v log e notes) × StartsWith log v.mine.seen
+      (log : List (Call O R)) × (w ≡ after_call v log e notes) × StartsWith log v.mine.seen
       × IsHistory answer v.start v.clients (log ++ e ∷ []) × Fits w.mine.seen w.mine
 
 module _ {S X O R Y : Type 0} where
@@ -108,17 +108,17 @@ module _ {S X O R Y : Type 0} where
 
   -- The slot that was taken last is at home again, and the call e stands at the end of a legal history of the map's
   -- clients, which begins with all that was seen; the notes are of the parts that are still held.
-  abbrev pub Ended : (X → O → X × R) → Entry O R → List (Note Y)
+  abbrev pub Ended : (X → O → X × R) → Call O R → List (Note Y)
       → Step S → Me S (View X O R Y) → ℕ → Me S (View X O R Y) → Type 0
   Ended answer e notes st m found m' =
-      (log : List (Entry O R)) × (m' ≡ (with_entry m.0 log e notes, rest m.1)) × StartsWith log m.0.mine.seen
+      (log : List (Call O R)) × (m' ≡ (after_call m.0 log e notes, rest m.1)) × StartsWith log m.0.mine.seen
       × IsHistory answer m.0.start m.0.clients (log ++ e ∷ []) × Fits m'.0.mine.seen m'.0.mine
 
   -- The whole history was seen: a legal one of the map's clients, which begins with what each record of the view had
   -- seen, and which each of them fits.
   abbrev pub SeesAll : (X → O → X × R) → Me S (View X O R Y) → Me S (View X O R Y) → Type 0
   SeesAll answer m m' =
-      (log : List (Entry O R)) × (m' ≡ (with_history m.0 log, m.1)) × IsHistory answer m.0.start m.0.clients log
+      (log : List (Call O R)) × (m' ≡ (with_history m.0 log, m.1)) × IsHistory answer m.0.start m.0.clients log
       × ((r : Record O R) → Contains (records m.0) r → StartsWith log r.seen × Fits log r)
 
   -- a look at the whole history
@@ -129,7 +129,7 @@ module _ {S X O R Y : Type 0} where
   -- history begins with what each had seen, the record of both fits it, and its misses of its own clients are marked.
   abbrev pub GatheredWith : (X → O → X × R) → Record O R → Me S (View X O R Y) → Me S (View X O R Y) → Type 0
   GatheredWith answer q m m' =
-      (log : List (Entry O R)) × (m' ≡ (gathered m.0 q log, m.1)) × IsHistory answer m.0.start m.0.clients log
+      (log : List (Call O R)) × (m' ≡ (gathered m.0 q log, m.1)) × IsHistory answer m.0.start m.0.clients log
       × StartsWith log m.0.mine.seen × StartsWith log q.seen
       × Fits log (both_of m.0.mine q log) × MissesMarked (both_of m.0.mine q log)
 

@@ -3,8 +3,7 @@ ghost use Rattle.std.specs.Prelude.{◌≡◌, ℕ, suc, ◌<◌, ◌≤◌, Lis
 ghost use Rattle.moc_lists.specs.RangeList.{NumberSet};
 ghost use Rattle.moc_shared.specs.Seats.{note};
 ghost use Rattle.moc_shared.specs.Private.Rule.{IsOne};
-ghost use Rattle.moc_shared.specs.Private.Seats.{IsCarried, shared, notes_below, AreOwn, IsFootprint, IsOwn};
-ghost use Rattle.moc_shared.specs.Private.Seats.{IsOfTable};
+ghost use Rattle.moc_shared.specs.Private.Seats.{IsCarried, shared, notes_below, AreOwn, IsFootprint, IsOwn, IsOfTable};
 ghost use Rattle.moc_shared.specs.Private.Plays.{with_part, with_parts, with_misses};
 ghost use Rattle.moc_shared.specs.Private.Slots.{touched_by, just, AreWaits};
 

@@ -1,5 +1,5 @@
 //! The table of locks, its rule, and what each step tells.
-use crate::record::{Entry, Note, View};
+use crate::record::{Call, Note, View};
 use atomic_table::{Join, Play, Seat, Shared, Split, TableRule};
 use moc_parts::{Batch, Replies};
 use moc_ranges::Coverage;
@@ -64,10 +64,10 @@ impl Play<Option<Pointer>, Sight> for Give {
 /// The call that a first give-back ends, and what is noted of the parts that are still held.
 pub trait Closing {
     ghost use Rattle.std.specs.Prelude.{List};
-    ghost use Rattle.moc_shared.specs.Batches.{BatchEntry};
+    ghost use Rattle.moc_shared.specs.Batches.{BatchCall};
     ghost use Rattle.moc_shared.specs.Private.Seats.{PartNote};
 
-    ghost call: { BatchEntry };
+    ghost call: { BatchCall };
 
     ghost notes: { List PartNote };
 }

@@ -1,7 +1,7 @@
 //! The steps on a part's word, each over plain data.
 ghost use Rattle.std.specs.Prelude.{◌≡◌, suc, ◌<◌, ◌≤◌, List, [], ◌∷◌, Contains, IfOk, IfErr, Option, Some};
 ghost use Rattle.moc_lists.specs.RangeList.{NumberSet};
-ghost use Rattle.moc_shared.specs.History.{entry, StandsFor};
+ghost use Rattle.moc_shared.specs.History.{call_by, StandsFor};
 ghost use Rattle.moc_shared.specs.Seats.{index, note};
 ghost use Rattle.moc_shared.specs.Private.Rule.{noted_parts, IsOne};
 ghost use Rattle.moc_shared.specs.Private.Seats.{IsCarried, content, shared, part, IsProper, IsOwn, IsOfTable};
@@ -89,7 +89,7 @@ pub(crate) fn end_call<C: Closing>(
     requires part { b < 12 }
     requires client { IsOne seat.old.me.0 }
     requires carried { IsCarried seat.old.me }
-    requires call { (C.call ≡ entry seat.old.me.0.mine.number batch.now (replies_to found.now batch.now))
+    requires call { (C.call ≡ call_by seat.old.me.0.mine.number batch.now (replies_to found.now batch.now))
         × (C.notes ≡ notes_below rest.now 12) }
     requires held { (noted_parts seat.old.me.0.holds ≡ b ∷ noted_parts (notes_below rest.now 12))
         × ¬ Contains (noted_parts (notes_below rest.now 12)) b }
@@ -120,7 +120,7 @@ pub(crate) fn end_single<C: Closing>(
     requires part { b < 12 }
     requires client { IsOne seat.old.me.0 }
     requires carried { IsCarried seat.old.me }
-    requires call { (C.call ≡ entry seat.old.me.0.mine.number (command.now ∷ []) (reply.now ∷ [])) × (C.notes ≡ []) }
+    requires call { (C.call ≡ call_by seat.old.me.0.mine.number (command.now ∷ []) (reply.now ∷ [])) × (C.notes ≡ []) }
     requires held { noted_parts seat.old.me.0.holds ≡ b ∷ [] }
     requires answered { Answers part answer IsProper (command.now ∷ []) (reply.now ∷ []) seat.old.me.0.holds
         (note b (shared new) ∷ []) }

@@ -1,16 +1,14 @@
 -- Laws of depths, for the proofs of callers: a set that is made of whole cells of an order has no deeper cell. Such a
 -- set is what a text says, by the deepest order that it names, and what is made of such sets.
 use Rattle.std.proofs.Common.{◌≡◌, ℕ, zero, suc, ◌+◌, ◌-◌, ◌*◌, ◌/◌, ◌<◌, ◌≤◌, Bool, true, false, cond, not, ◌&&◌, ◌||◌}
-use Rattle.std.proofs.Common.{List}
-use Rattle.std.proofs.Common.{[], ◌∷◌, Option, None, Some, refl, sym, ap, ap₂, subst, ◌∙◌, inl, inr, arith}
+use Rattle.std.proofs.Common.{List, [], ◌∷◌, Option, None, Some, refl, sym, ap, ap₂, subst, ◌∙◌, inl, inr, arith}
 use Rattle.std.specs.Prelude.{nat_eq, nat_le, nat_lt, ⊤, slice_index_or, length, min, option_map, ◌^◌}
 use Rattle.std.specs.FinSet as set
 use Rattle.std.specs.Ordering.{nat_cmp}
 use Rattle.std.specs.Cmp.{nat_cmp_total}
 use Rattle.std.specs.List.{AllByRecursion, filter}
 use Rattle.std.proofs.lemmas.Bool.{cases_Bool, cases_lt, and_parts, and_from, or_cases, lt-ltb, ltb-true, eq-eqb}
-use Rattle.std.proofs.lemmas.Bool.{eqb-true}
-use Rattle.std.proofs.lemmas.Bool.{false≢true}
+use Rattle.std.proofs.lemmas.Bool.{eqb-true, false≢true}
 use Rattle.std.proofs.lemmas.Nat.{div-mul-add}
 use Rattle.serde_json.specs.Data.{Items, no_items, item, Members, no_members, member}
 use Rattle.serde_json.specs.Find.{as_array}
@@ -23,13 +21,12 @@ use Rattle.moc_ranges.specs.Lemmas.Members.{contains-span, contains-spans, conta
 use Rattle.moc_ranges.specs.Cells.{span, spans, degrade, cells_of, cells_below, is_cell_of}
 use Rattle.moc_ranges.specs.Lemmas.Cells.{cells_are, parent_of_pixel, in_cell_range, in_span}
 use Rattle.moc_text.specs.declared.ascii.number.Item.{Item}
-use Rattle.moc_text.specs.declared.ascii.number.Number.{Number}
+use Rattle.moc_text.specs.declared.ascii.number.Numeral.{Numeral}
 use Rattle.moc_text.specs.declared.ascii.number.WordNumbers.{WordNumbers}
 use Rattle.moc_text.specs.Ascii.{order_in_force, item_pixels, pixels_said, deepest_of, deeper, last_of, Says}
 use Rattle.moc_text.specs.AsciiText.{IsTooCoarse}
 use Rattle.moc_text.specs.JsonForm.{order_of_name, whole_number, cell_pixels, items_pixels, array_pixels}
-use Rattle.moc_text.specs.JsonForm.{members_pixels}
-use Rattle.moc_text.specs.JsonForm.{deepest_name, SaysJson}
+use Rattle.moc_text.specs.JsonForm.{members_pixels, deepest_name, SaysJson}
 
 -- two pixels of one cell of the order are both in the set, or neither
 pub record IsMadeOf (k : ℕ) (a : NumberSet) : Type 0 where
@@ -312,7 +309,7 @@ item_made k j None le = empty_made k
 item_made k None (Some i) le = empty_made k
 item_made k (Some j) (Some i) le = deeper_made j k _ le (spans_made j i.first.value (last_of i).value)
 
-in_force : (before : Option ℕ) (mark : Option Number) (k : ℕ) → IsAtMost before k
+in_force : (before : Option ℕ) (mark : Option Numeral) (k : ℕ) → IsAtMost before k
     → IsAtMost (order_in_force None mark) k → IsAtMost (order_in_force before mark) k
 in_force before None k le own = le
 in_force before (Some n) k le own = own

@@ -8,7 +8,7 @@ ghost use Rattle.moc_text.specs.Private.AsciiReading.{Progress};
 ghost use Rattle.moc_text.specs.Reading.{IsReadingOf, ReadingsAreTold};
 
 use crate::ascii::error::TextError;
-use crate::ascii::number::{Item, Number};
+use crate::ascii::number::{Item, Numeral};
 use crate::ascii::scan::{is_separator, place, word};
 use moc_ranges::{Coverage, CoverageBuilder};
 use moc_sphere::Order;
@@ -24,7 +24,7 @@ struct Reading {
 
 impl Reading {
     /// Goes on to the order of a mark, where there is one.
-    fn enter(&mut self, mark: Option<Number>) -> Result<(), TextError>
+    fn enter(&mut self, mark: Option<Numeral>) -> Result<(), TextError>
         ensures { MatchResult result
             (λ _. (mark_fault mark ≡ None)
             × (self.new.order ≡ order_in_force self.old.order mark)

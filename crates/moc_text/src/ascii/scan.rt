@@ -5,12 +5,11 @@ ghost use Rattle.std.specs.Prelude.{◌≡◌, ◌-◌, length};
 ghost use Rattle.std.specs.Option.{option_copied};
 ghost use Rattle.moc_text.specs.Ascii.{is_separator as is_separator_byte};
 ghost use Rattle.moc_text.specs.Private.Scan.{Gives, is_end as is_end_of, after_byte, front_digits, past_digits};
-ghost use Rattle.moc_text.specs.Private.Scan.{held_after};
-ghost use Rattle.moc_text.specs.Private.Scan.{unexpected as unexpected_at, scan_number, scan_item, scan_marked};
-ghost use Rattle.moc_text.specs.Private.Scan.{scan_word};
+ghost use Rattle.moc_text.specs.Private.Scan.{held_after, unexpected as unexpected_at, scan_number, scan_item};
+ghost use Rattle.moc_text.specs.Private.Scan.{scan_marked, scan_word};
 
 use crate::ascii::error::TextError;
-use crate::ascii::number::{Item, Number, WordNumbers};
+use crate::ascii::number::{Item, Numeral, WordNumbers};
 
 /// Whether a byte parts the words of an ASCII text (MOC 2.0): a space, a comma, a tab, CR or LF.
 pub fn is_separator(byte: u8) -> bool
@@ -77,14 +76,14 @@ pub fn digits(bytes: &[u8]) -> (u64, &[u8])
 
 /// The number at the front, and what comes after it.
 #[tactic(auto, unfolding(crate::specs::Private::Scan::scan_number))]
-fn number(len: usize, bytes: &[u8]) -> Result<(Number, &[u8]), TextError>
+fn number(len: usize, bytes: &[u8]) -> Result<(Numeral, &[u8]), TextError>
     ensures { Gives (λ x. (x.0, x.1.now)) result (scan_number len bytes.now) }
 {
     match bytes {
         [b'0'..=b'9', ..] => {
             let at = place(len, bytes);
             let (value, rest) = digits(bytes);
-            Ok((Number { at, value }, rest))
+            Ok((Numeral { at, value }, rest))
         }
         _ => Err(unexpected(len, bytes)),
     }
@@ -92,7 +91,7 @@ fn number(len: usize, bytes: &[u8]) -> Result<(Number, &[u8]), TextError>
 
 /// The item whose first number is read, and what comes after it.
 #[tactic(auto, unfolding(crate::specs::Private::Scan::scan_item, crate::specs::Private::Scan::finish_item))]
-fn item(len: usize, first: Number, bytes: &[u8]) -> Result<(Item, &[u8]), TextError>
+fn item(len: usize, first: Numeral, bytes: &[u8]) -> Result<(Item, &[u8]), TextError>
     ensures { Gives (λ x. (x.0, x.1.now)) result (scan_item len first bytes.now) }
 {
     let (last, rest) = match after(b'-', bytes) {
@@ -110,7 +109,7 @@ fn item(len: usize, first: Number, bytes: &[u8]) -> Result<(Item, &[u8]), TextEr
 
 /// The word whose mark is read, and what comes after it.
 #[tactic(auto, unfolding(crate::specs::Private::Scan::scan_marked))]
-fn marked(len: usize, mark: Number, bytes: &[u8]) -> Result<(WordNumbers, &[u8]), TextError>
+fn marked(len: usize, mark: Numeral, bytes: &[u8]) -> Result<(WordNumbers, &[u8]), TextError>
     ensures { Gives (λ x. (x.0, x.1.now)) result (scan_marked len mark bytes.now) }
 {
     let mark = Some(mark);

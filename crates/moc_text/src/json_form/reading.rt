@@ -9,10 +9,9 @@ ghost use Rattle.moc_lists.specs.RangeList.{NumberSet};
 ghost use Rattle.moc_text.specs.Ascii.{deeper as deeper_of};
 ghost use Rattle.moc_text.specs.Faults.{Fails};
 ghost use Rattle.moc_text.specs.JsonForm.{order_of_name, whole_number, cell_pixels, element_fault, items_pixels};
-ghost use Rattle.moc_text.specs.JsonForm.{elements_fault};
-ghost use Rattle.moc_text.specs.JsonForm.{array_pixels, name_fault, members_pixels, members_fault, deepest_name};
-ghost use Rattle.moc_text.specs.JsonForm.{member_at as member_numbered, HasText, IsJson, IsJsonFault, IsNotJson};
-ghost use Rattle.moc_text.specs.JsonForm.{IsTextAt, NameIsOrder, SaysJson, object_member};
+ghost use Rattle.moc_text.specs.JsonForm.{elements_fault, array_pixels, name_fault, members_pixels, members_fault};
+ghost use Rattle.moc_text.specs.JsonForm.{deepest_name, member_at as member_numbered, HasText, IsJson, IsJsonFault};
+ghost use Rattle.moc_text.specs.JsonForm.{IsNotJson, IsTextAt, NameIsOrder, SaysJson, object_member};
 ghost use Rattle.moc_text.specs.Private.JsonReading.{held_order};
 
 use crate::json_form::error::{JsonError, JsonPlace};

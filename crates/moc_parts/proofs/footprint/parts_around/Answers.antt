@@ -1,8 +1,7 @@
-use Rattle.std.proofs.Common.{◌<◌, ℕ, List, get_or, sym, subst}
+use Rattle.std.proofs.Common.{◌<◌, ℕ, List, get_or, sym, subst, ◌≡◌, ◌||◌, Bool, ℕ, nat_eq, take, ap, sym, ◌∙◌}
 use Rattle.std.specs.Prelude.{Contains}
 use Rattle.std.proofs.lemmas.List.Elements.{Contains-get_or}
 use Rattle.moc_sphere.specs.CellNumber.{cell_count}
-use Rattle.std.proofs.Common.{◌≡◌, ◌||◌, Bool, ℕ, nat_eq, take, ap, sym, ◌∙◌}
 use Rattle.std.specs.List.{list_any}
 use Rattle.std.proofs.lemmas.List.{take_more}
 use Rattle.moc_sphere.specs.Faces.{face_of}

@@ -1,7 +1,6 @@
 use Rattle.std.proofs.Common.{◌≡◌, ◌<◌, None, get_or, length, sym, ap, subst, ◌∙◌}
-use Rattle.std.specs.Option.{unwrap_or, option_copied}
+use Rattle.std.specs.Option.{unwrap_or}
 use Rattle.std.proofs.lemmas.List.{length-map, get_or-map}
-use Rattle.moc_lists.specs.RangeList.{NumberSet}
 use Rattle.moc_ranges.specs.Operations.{part_of, IsWithin, pixels}
 use Rattle.moc_parts.specs.Private.Drafts.{sets_of}
 use Rattle.moc_parts.proofs.Twelve.{parts_within}

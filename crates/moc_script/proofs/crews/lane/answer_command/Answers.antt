@@ -1,8 +1,8 @@
 -- The command is one call more.
 use Rattle.std.proofs.Common.{◌≡◌, ◌∙◌, refl, ap, [], ◌∷◌, ◌++◌}
 use Rattle.moc_lines.specs.Language.{replies_text}
-use Rattle.moc_shared.specs.Batches.{BatchEntry}
-use Rattle.moc_shared.specs.History.{entry}
+use Rattle.moc_shared.specs.Batches.{BatchCall}
+use Rattle.moc_shared.specs.History.{call_by}
 use Rattle.moc_script.proofs.Sending.{on_ok}
 use Rattle.moc_script.proofs.LaneLemmas.{waited_own, call_made}
 use Rattle.moc_script.proofs.crews.lane.answer_command.Goals as goal
@@ -10,7 +10,7 @@ use Rattle.moc_script.proofs.crews.lane.answer_command.Goals as goal
 pub returns-clause-answers : goal.returns-clause-answers
 returns-clause-answers g c =
     let reply = c.in_ok-reply.reply in
-    let e : BatchEntry = entry c.args.client.now.number (c.args.command ∷ []) (reply ∷ []) in
+    let e : BatchCall = call_by c.args.client.now.number (c.args.command ∷ []) (reply ∷ []) in
     on_ok c.push_reply_line.result (λ (told : c.push_reply_line.new.text.items ≡ c.args.answers.now.items ++ (replies_text c.from_ref.result.now ++ 10 ∷ [])). (
       e.reply,
       told ∙ ap (λ l. c.args.answers.now.items ++ (replies_text l ++ 10 ∷ [])) c.from_ref.ensures.value,

@@ -1,6 +1,6 @@
 -- The lines so far are done, by calls of the lane's client.
 use Rattle.std.proofs.Common.{◌≡◌, ◌++◌, ℕ, List, length}
-use Rattle.moc_shared.specs.Batches.{BatchEntry, answer as object}
+use Rattle.moc_shared.specs.Batches.{BatchCall, answer as object}
 use Rattle.moc_shared.specs.Clients.{number_of, record_of, IsClientOf}
 use Rattle.moc_lines.specs.Runs.{script_rules}
 use Rattle.moc_script.specs.Private.Input.{HasPassed, lane_lines, lines_left}
@@ -15,7 +15,7 @@ invariant-loop-number g l = record {
   number : number_of l.client ≡ l.lane;
   sum : total l.lens.items ≡ length l.bytes.items;
   passed : HasPassed l.input l.left.passed l.left.bytes.now;
-  done : (lines : List (List ℕ)) × (made : List BatchEntry) × (lane_lines l.lanes l.input l.lane ≡ lines ++ lines_left l.left) × Made l.lane made (record_of l.client)
+  done : (lines : List (List ℕ)) × (made : List BatchCall) × (lane_lines l.lanes l.input l.lane ≡ lines ++ lines_left l.left) × Made l.lane made (record_of l.client)
       × Does object script_rules lines made (cut l.lens.items l.bytes.items);
 }
 

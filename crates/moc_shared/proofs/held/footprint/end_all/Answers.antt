@@ -1,5 +1,5 @@
 use Rattle.std.proofs.Common.{◌<◌, length, List, sym, ap, ◌∙◌, subst, Option, None, arith}
-use Rattle.moc_shared.specs.History.{entry}
+use Rattle.moc_shared.specs.History.{call_by}
 use Rattle.moc_shared.specs.Private.Rule.{noted_parts}
 use Rattle.moc_shared.specs.Seats.{Pointer, Sight}
 use Rattle.moc_shared.specs.Private.Seats.{PartNote, part, IsProper, at_place, notes_below}
@@ -47,7 +47,7 @@ give_below-requires-clause-held c =
     let cs = c.args.batch.now in
     let ended = c.end_call.ensures.ended in
     record {
-      client = one_ended (entry v.mine.number cs (replies_to c.args.found.now cs)) (notes_below c.take_at.new.slots 12) v c.end_call.new.seat.me.0
+      client = one_ended (call_by v.mine.number cs (replies_to c.args.found.now cs)) (notes_below c.take_at.new.slots 12) v c.end_call.new.seat.me.0
           c.requires.held.client ended;
       carried = c.end_call.ensures.carried;
       held = ap (λ (v : Sight). v.holds) ended.1;

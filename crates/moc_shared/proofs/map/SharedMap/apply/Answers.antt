@@ -1,6 +1,6 @@
 use Rattle.std.proofs.Common.{[], refl, ◌∙◌}
 use Rattle.std.proofs.lemmas.Result.{IfOk-weaker, on_err_weaker}
-use Rattle.moc_shared.specs.History.{entry}
+use Rattle.moc_shared.specs.History.{call_by}
 use Rattle.moc_shared.proofs.Promises.{ends_from, fails_from, idle_after, stays_through, stays_done}
 use Rattle.moc_shared.proofs.Waited.{waits_from, stays_waited}
 use Rattle.moc_shared.specs.Clients.{EndsWaiting}
@@ -16,7 +16,7 @@ returns-clause-ok g c =
     let v = with_misses c.args.client.now.seat.me.0 t.0 in
     IfOk-weaker c.go_through.result
     (λ r. EndsBatch c.args.batch.now r [] c.wait_all-found.new.seat.me.0 c.go_through.new.seat.me.0)
-    (λ r. EndsWaiting c.args.self.now (entry c.args.client.now.number c.args.batch.now r)
+    (λ r. EndsWaiting c.args.self.now (call_by c.args.client.now.number c.args.batch.now r)
     c.args.client.now.seat.me.0.mine c.go_through.new.seat.me.0.mine)
     (λ r ended. (
       v.mine,

@@ -1,6 +1,6 @@
 use Rattle.std.proofs.Common.{rules, ℕ, List, ◌∷◌, map, Some, refl, ap, sym, ◌∙◌, arith}
 use Rattle.std.specs.FinSet as set
-use Rattle.moc_shared.specs.History.{entry}
+use Rattle.moc_shared.specs.History.{call_by}
 use Rattle.moc_shared.specs.Batches.{answer}
 use Rattle.moc_shared.specs.Seats.{index}
 use Rattle.moc_shared.specs.Private.Rule.{noted_parts}
@@ -23,7 +23,7 @@ store-requires g c = let h = c.requires.held in let v = c.args.seat.now.me.0 in 
   search rules,
   (let i = c.index-index.ensures in let w = c.requires.place.1 in omega arith),
   ends_call_as 12 content part answer IsProper _ _ _ _ _ v _ _ (Some c.args.new) _
-      (entry v.mine.number c.args.batch.now (replies_to c.args.found.now c.args.batch.now)) g.C.Closing.call
+      (call_by v.mine.number c.args.batch.now (replies_to c.args.found.now c.args.batch.now)) g.C.Closing.call
       (notes_below c.args.rest.now 12) g.C.Closing.notes c.index-index.ensures c.requires.call.0 c.requires.call.1
       c.exchange.ensures.3 c.requires.client refl h.0 h.1 c.requires.answered,
 )
@@ -32,7 +32,7 @@ pub returns : goal.returns
 returns g c = let h = c.requires.held in let v = c.args.seat.now.me.0 in
     let t = ended_is 12 content part answer IsProper set.empty 0 c.args.table.now.table_id.slots c.index-index.result _
     c.store.new.seat.me v (Some c.args.new) _
-    (entry v.mine.number c.args.batch.now (replies_to c.args.found.now c.args.batch.now)) g.C.Closing.call
+    (call_by v.mine.number c.args.batch.now (replies_to c.args.found.now c.args.batch.now)) g.C.Closing.call
     (notes_below c.args.rest.now 12) g.C.Closing.notes c.requires.call.0 c.requires.call.1 c.exchange.ensures.3
     (rest_parts c.args.seat.now.me.1 (index c.args.b) _ (c.requires.carried ∙ ap (λ (l : List ℕ). map index l) h.0)) c.store.ensures.2 in
     record { same = search rules; carried = t.0; ended = t.1 }

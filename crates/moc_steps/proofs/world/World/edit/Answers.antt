@@ -7,8 +7,8 @@ use Rattle.moc_parts.specs.Batches.{batches}
 use Rattle.moc_steps.specs.Machine as machine
 use Rattle.moc_steps.specs.Machine.{refusal, edit_refusal, world_after}
 use Rattle.moc_steps.specs.Private.Standing.{Standing}
-use Rattle.moc_steps.specs.Private.Changes.{IsChangeOf}
-use Rattle.moc_steps.specs.declared.table.Change.TheVariants.{Commit, Edit}
+use Rattle.moc_steps.specs.Private.Effects.{IsEffectOf}
+use Rattle.moc_steps.specs.declared.table.Effect.TheVariants.{Commit, Edit}
 use Rattle.moc_steps.specs.declared.step.Entry.{Entry}
 use Rattle.moc_steps.specs.Played.{BatchWorld}
 use Rattle.moc_steps.specs.Private.Worlds.{world_of}
@@ -40,7 +40,7 @@ make-requires c =
     }
 
 pub change-requires : goal.change-requires
-change-requires c = subst (λ x. IfSome x (λ s. IsChangeOf s (Commit c.in_ok-made.made))) c.in-Some.ensures c.in_ok-made.ensures.made
+change-requires c = subst (λ x. IfSome x (λ s. IsEffectOf s (Commit c.in_ok-made.made))) c.in-Some.ensures c.in_ok-made.ensures.made
 
 pub index_mut-requires : goal.index_mut-requires
 index_mut-requires c =
@@ -78,7 +78,7 @@ returns-clause-after c = (goes c).0 ∙ ap (λ w. world_after batches w (machine
 pub change-requires-2 : goal.change-requires-2
 change-requires-2 c =
     let i = c.self.inside in
-    subst (λ x. IfSome x (λ s. IsChangeOf s (Edit c.args.part)))
+    subst (λ x. IfSome x (λ s. IsEffectOf s (Edit c.args.part)))
     (sym (changed_there i.begun i.clients i.parts.items i.holders i.order.items c.self.invariant c.change.new.self c.args.client c.in-Some.midway.now (Commit c.in_ok-made.made) (sym c.in-Some.ensures) c.change.ensures)) refl
 
 pub unreachable-requires-in_default-list : goal.unreachable-requires-in_default-list

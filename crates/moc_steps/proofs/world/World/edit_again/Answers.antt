@@ -7,8 +7,8 @@ use Rattle.moc_parts.specs.Batches.{batches, set_after_all}
 use Rattle.moc_steps.specs.Machine as machine
 use Rattle.moc_steps.specs.Machine.{refusal, edit_refusal, is_any, world_after}
 use Rattle.moc_steps.specs.Private.Standing.{Standing}
-use Rattle.moc_steps.specs.Private.Changes.{changed, IsChangeOf}
-use Rattle.moc_steps.specs.declared.table.Change.TheVariants.{Edit}
+use Rattle.moc_steps.specs.Private.Effects.{changed, IsEffectOf}
+use Rattle.moc_steps.specs.declared.table.Effect.TheVariants.{Edit}
 use Rattle.moc_steps.specs.Played.{BatchWorld, entries_of}
 use Rattle.moc_steps.specs.Private.Worlds.{world_of}
 use Rattle.moc_steps.proofs.Basics.{some_same}
@@ -51,7 +51,7 @@ change-requires c =
     let i = c.self.inside in
     let has : map.get i.clients c.args.client ≡ Some c.in-Some.midway.now = sym c.in-Some.ensures in
     let edited = any_edited i.begun i.clients i.parts.items i.holders i.order.items c.self.invariant c.args.client c.in-Some.midway.now c.args.self.now has c.self.view_is c.requires.committed in
-    subst (λ x. IfSome x (λ s. IsChangeOf s (Edit c.args.part))) (sym has) (has_place i.begun i.clients i.parts.items i.holders i.order.items c.self.invariant c.args.client c.in-Some.midway.now has edited)
+    subst (λ x. IfSome x (λ s. IsEffectOf s (Edit c.args.part))) (sym has) (has_place i.begun i.clients i.parts.items i.holders i.order.items c.self.invariant c.args.client c.in-Some.midway.now has edited)
 
 pub index_mut-requires : goal.index_mut-requires
 index_mut-requires c =

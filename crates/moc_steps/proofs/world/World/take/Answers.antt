@@ -5,8 +5,8 @@ use Rattle.moc_parts.specs.Batches.{batches}
 use Rattle.moc_steps.specs.Machine as machine
 use Rattle.moc_steps.specs.Machine.{refusal, take_refusal, next_part, world_after}
 use Rattle.moc_steps.specs.Private.Standing.{Standing}
-use Rattle.moc_steps.specs.Private.Changes.{IsChangeOf}
-use Rattle.moc_steps.specs.declared.table.Change.TheVariants.{Take}
+use Rattle.moc_steps.specs.Private.Effects.{IsEffectOf}
+use Rattle.moc_steps.specs.declared.table.Effect.TheVariants.{Take}
 use Rattle.moc_steps.specs.Played.{BatchWorld}
 use Rattle.moc_steps.specs.Private.Worlds.{world_of}
 use Rattle.moc_steps.proofs.AnyObject.{reached_explained}
@@ -39,7 +39,7 @@ pub change-requires : goal.change-requires
 change-requires c =
     let i = c.self.inside in
     let s : Standing = c.in-Some.midway.now in
-    subst (λ x. IfSome x (λ s. IsChangeOf s (Take c.in-Some-next_part.part c.in_ok-list.list))) c.in-Some.ensures
+    subst (λ x. IfSome x (λ s. IsEffectOf s (Take c.in-Some-next_part.part c.in_ok-list.list))) c.in-Some.ensures
     (take_asks i.begun i.clients i.parts.items i.holders i.order.items c.self.invariant c.args.client c.in-Some-next_part.part s c.in_ok-list.list (sym c.in-Some.ensures) (sym c.in-Some-next_part.ensures) (list_is c))
 
 goes : (c : goal.After-way_told-1) → Goes c.self.inside.begun c.self.inside.clients c.self.inside.parts.items c.self.inside.order.items (machine.Step.Take c.args.client) c.self.inside.begun c.change.new.self c.self.inside.parts.items (slice_set c.self.inside.holders c.from-2.result (Some c.args.client)) c.self.inside.order.items
