@@ -5,7 +5,7 @@ use moc_forms::{
     describe, draw, draw_two, examine, hint, hint_line, is_blank, place_line, quote,
 };
 use moc_sphere::Order;
-use moc_text::{JsonError, TextError, UniqError};
+use moc_text::{JsonError, TextError, UniqError, WriteError};
 use std::alloc::Global;
 use std::fmt::Write;
 use std::process::Abort;
@@ -590,10 +590,6 @@ fn texts_of_ascii_errors(rt: HostRuntime) {
             "a word that is not finished, at 7",
         ),
         (TextError::Memory, "out of memory"),
-        (
-            TextError::TooCoarse,
-            "a cell is deeper than the stated order",
-        ),
     ] {
         is_shown(&rt, rt.alloc(), &FormError::Ascii(error), text);
     }
@@ -615,10 +611,6 @@ fn texts_of_json_errors(rt: HostRuntime) {
             "name 1, item 2 is no cell of its order",
         ),
         (JsonError::Memory, "out of memory"),
-        (
-            JsonError::TooCoarse,
-            "a cell is deeper than the stated order",
-        ),
     ] {
         is_shown(&rt, rt.alloc(), &FormError::Json(error), text);
     }
@@ -639,5 +631,11 @@ fn texts_of_other_errors(rt: HostRuntime) {
     ] {
         is_shown(&rt, rt.alloc(), &FormError::Uniq(error), text);
     }
-    is_shown(&rt, rt.alloc(), &FormError::Memory, "out of memory");
+    for (error, text) in [
+        (WriteError::TooCoarse, "a cell is deeper than the stated order"),
+        (WriteError::Memory, "out of memory"),
+    ] {
+        is_shown(&rt, rt.alloc(), &error, text);
+        is_shown(&rt, rt.alloc(), &FormError::from(error), text);
+    }
 }

@@ -35,7 +35,6 @@ memory = outcome 1 0 0
 -- the fault of an ASCII text, at a byte
 abbrev pub outcome_of_text : TextError → Outcome
 outcome_of_text text.Memory = memory
-outcome_of_text text.TooCoarse = outcome 8 0 0
 outcome_of_text (text.BadByte at) = outcome 10 at 0
 outcome_of_text (text.NoOrder at) = outcome 11 at 0
 outcome_of_text (text.OrderTooLarge at) = outcome 12 at 0
@@ -46,7 +45,6 @@ outcome_of_text (text.Unfinished at) = outcome 15 at 0
 -- the fault of a JSON text, at a name and an item
 abbrev pub outcome_of_json : JsonError → Outcome
 outcome_of_json json.Memory = memory
-outcome_of_json json.TooCoarse = outcome 8 0 0
 outcome_of_json json.NotJson = outcome 20 0 0
 outcome_of_json json.NotObject = outcome 21 0 0
 outcome_of_json (json.BadOrder name) = outcome 22 name 0
@@ -65,6 +63,7 @@ abbrev pub outcome_of_form : FormError → Outcome
 outcome_of_form (form.Ascii e) = outcome_of_text e
 outcome_of_form (form.Json e) = outcome_of_json e
 outcome_of_form (form.Uniq e) = outcome_of_uniq e
+outcome_of_form form.TooCoarse = outcome 8 0 0
 outcome_of_form form.Memory = memory
 
 -- the fault of ranges, at one of them
@@ -73,7 +72,7 @@ outcome_of_ranges ranges.Memory = memory
 outcome_of_ranges (ranges.Backwards at) = outcome 40 at 0
 outcome_of_ranges (ranges.PixelTooLarge at) = outcome 41 at 0
 
--- the code of the fault of a coverage in a line; the last is for those that no text has
+-- the code of the fault of a coverage in a line; the last is for want of memory, which no text has
 abbrev pub code_of_coverage : TextError → ℕ
 code_of_coverage (text.OrderTooLarge at) = 55
 code_of_coverage (text.CellTooLarge at) = 56
@@ -82,7 +81,6 @@ code_of_coverage (text.NoOrder at) = 58
 code_of_coverage (text.Backwards at) = 59
 code_of_coverage (text.Unfinished at) = 60
 code_of_coverage text.Memory = 61
-code_of_coverage text.TooCoarse = 61
 
 -- the code of a line's fault; the last is for those that no line of commands has
 abbrev pub line_code : LineFault → ℕ

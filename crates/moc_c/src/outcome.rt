@@ -100,6 +100,7 @@ impl Outcome {
             FormError::Ascii(error) => Outcome::of_text(error),
             FormError::Json(error) => Outcome::of_json(error),
             FormError::Uniq(error) => Outcome::of_uniq(error),
+            FormError::TooCoarse => Outcome::new(codes::TOO_COARSE, 0, 0),
             FormError::Memory => Outcome::new(codes::MEMORY, 0, 0),
         }
     }
@@ -110,7 +111,6 @@ impl Outcome {
     {
         match error {
             TextError::Memory => Outcome::new(codes::MEMORY, 0, 0),
-            TextError::TooCoarse => Outcome::new(codes::TOO_COARSE, 0, 0),
             TextError::BadByte { at } => Outcome::at(codes::ASCII_BAD_BYTE, at),
             TextError::NoOrder { at } => Outcome::at(codes::ASCII_NO_ORDER, at),
             TextError::OrderTooLarge { at } => Outcome::at(codes::ASCII_ORDER_TOO_LARGE, at),
@@ -126,7 +126,6 @@ impl Outcome {
     {
         match error {
             JsonError::Memory => Outcome::new(codes::MEMORY, 0, 0),
-            JsonError::TooCoarse => Outcome::new(codes::TOO_COARSE, 0, 0),
             JsonError::NotJson => Outcome::new(codes::JSON_NOT_JSON, 0, 0),
             JsonError::NotObject => Outcome::new(codes::JSON_NOT_OBJECT, 0, 0),
             JsonError::BadOrder { name } => Outcome::at(codes::JSON_BAD_ORDER, name),
@@ -194,6 +193,6 @@ fn coverage_code(error: TextError) -> u32
         TextError::NoOrder { .. } => codes::LINE_NO_ORDER,
         TextError::Backwards { .. } => codes::LINE_BACKWARDS,
         TextError::Unfinished { .. } => codes::LINE_UNFINISHED,
-        TextError::Memory | TextError::TooCoarse => codes::LINE_OTHER,
+        TextError::Memory => codes::LINE_OTHER,
     }
 }

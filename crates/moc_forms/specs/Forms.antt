@@ -44,6 +44,7 @@ abbrev pub name_of_form_error : FormError → List ℕ
 name_of_form_error (error.Ascii e) = name_of_text e
 name_of_form_error (error.Json e) = name_of_json e
 name_of_form_error (error.Uniq e) = name_of_uniq e
+name_of_form_error error.TooCoarse = codes "TooCoarse"
 name_of_form_error error.Memory = codes "Memory"
 
 -- the error is that no memory was left, or the first fault of the text
@@ -58,6 +59,6 @@ form_text Uniq a stated = uniq_text a
 
 -- the error is that no memory was left, or that a cell of the set is deeper than the stated order
 abbrev pub IsUnwritten : Form → NumberSet → Option ℕ → FormError → Type 0
-IsUnwritten Ascii a stated e = (e ≡ error.Memory) ⊎ ((e ≡ error.Ascii text.TooCoarse) × IsTooCoarse a stated)
-IsUnwritten Json a stated e = (e ≡ error.Memory) ⊎ ((e ≡ error.Json json.TooCoarse) × IsTooCoarse a stated)
+IsUnwritten Ascii a stated e = (e ≡ error.Memory) ⊎ ((e ≡ error.TooCoarse) × IsTooCoarse a stated)
+IsUnwritten Json a stated e = (e ≡ error.Memory) ⊎ ((e ≡ error.TooCoarse) × IsTooCoarse a stated)
 IsUnwritten Uniq a stated e = e ≡ error.Memory

@@ -41,13 +41,13 @@ IsJsonPlace bytes (json.NotArray name) found = IsOfOrder bytes name (λ k. Order
 IsJsonPlace bytes (json.NotWhole name number) found = IsOfOrder bytes name (λ k. Number k number) found
 IsJsonPlace bytes (json.CellTooLarge name number) found = IsOfOrder bytes name (λ k. Number k number) found
 IsJsonPlace bytes json.Memory found = found ≡ None
-IsJsonPlace bytes json.TooCoarse found = found ≡ None
 
 -- the place of a fault of a text in a form
 abbrev pub IsPlace : List ℕ → FormError → Option Place → Type 0
 IsPlace bytes (error.Ascii e) found = found ≡ option_map (byte_place bytes) (fault_byte e)
 IsPlace bytes (error.Json e) found = IsJsonPlace bytes e found
 IsPlace bytes (error.Uniq e) found = found ≡ option_map (λ line. Line line) (fault_line e)
+IsPlace bytes error.TooCoarse found = found ≡ None
 IsPlace bytes error.Memory found = found ≡ None
 
 -- a place in words

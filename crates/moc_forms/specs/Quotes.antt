@@ -30,13 +30,13 @@ IsQuotedInJson bytes (json.CellTooLarge name place) found = HasText bytes name (
 IsQuotedInJson bytes json.NotJson found = found ≡ None
 IsQuotedInJson bytes json.NotObject found = found ≡ None
 IsQuotedInJson bytes json.Memory found = found ≡ None
-IsQuotedInJson bytes json.TooCoarse found = found ≡ None
 
 -- what stands at the fault of a text: its word, its line, or a name or an item of JSON
 abbrev pub IsQuotedText : List ℕ → FormError → Option (List ℕ) → Type 0
 IsQuotedText bytes (error.Ascii e) found = found ≡ option_map (word_round bytes) (fault_byte e)
 IsQuotedText bytes (error.Json e) found = IsQuotedInJson bytes e found
 IsQuotedText bytes (error.Uniq e) found = found ≡ option_map (line_numbered bytes) (fault_line e)
+IsQuotedText bytes error.TooCoarse found = found ≡ None
 IsQuotedText bytes error.Memory found = found ≡ None
 
 -- the digit of a number below 16

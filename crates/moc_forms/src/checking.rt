@@ -98,7 +98,7 @@ fn place_of(alloc: Global, text: &[u8], error: FormError) -> Result<Option<Place
         FormError::Ascii(fault) => Ok(place_in_ascii(text, fault)),
         FormError::Json(fault) => place_in_json(alloc, text, fault),
         FormError::Uniq(fault) => Ok(place_in_list(fault)),
-        FormError::Memory => Ok(None),
+        FormError::TooCoarse | FormError::Memory => Ok(None),
     }
 }
 
@@ -145,7 +145,7 @@ fn place_in_json(alloc: Global, text: &[u8], fault: JsonError) -> Result<Option<
                 None => None,
             }
         }
-        JsonError::NotObject | JsonError::Memory | JsonError::TooCoarse => None,
+        JsonError::NotObject | JsonError::Memory => None,
     })
 }
 

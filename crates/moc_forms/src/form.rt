@@ -7,8 +7,8 @@ use crate::name_error::FormNameError;
 use moc_ranges::{Coverage, Memory as MemoryRefused};
 use moc_sphere::Order;
 use moc_text::{
-    JsonError, TextError, UniqError, read_ascii, read_json, read_uniq, write_ascii, write_json,
-    write_uniq,
+    JsonError, TextError, UniqError, WriteError, read_ascii, read_json, read_uniq, write_ascii,
+    write_json, write_uniq,
 };
 use std::alloc::{AllocError, Global};
 use std::fmt;
@@ -26,8 +26,8 @@ pub enum Form {
     Uniq,
 }
 
-/// Why a text in some form could not be read or written: the error of the form, or `Memory`, which stands for want of
-/// memory in any form.
+/// Why a text in some form could not be read or written: the error of the form's reader, the writers' `TooCoarse`, or
+/// `Memory`, which stands for want of memory in any form.
 #[derive(Debug, Clone, Copy, PartialEq, Eq, Error)]
 pub enum FormError {
     #[error("{0}")]
@@ -36,6 +36,8 @@ pub enum FormError {
     Json(JsonError),
     #[error("{0}")]
     Uniq(UniqError),
+    #[error("a cell is deeper than the stated order")]
+    TooCoarse,
     #[error("out of memory")]
     Memory,
 }
@@ -49,6 +51,7 @@ impl FormError {
             FormError::Ascii(error) => error.name(),
             FormError::Json(error) => error.name(),
             FormError::Uniq(error) => error.name(),
+            FormError::TooCoarse => "TooCoarse",
             FormError::Memory => "Memory",
         }
     }
@@ -95,6 +98,22 @@ impl From<UniqError> for FormError {
         match error {
             UniqError::Memory => FormError::Memory,
             error => FormError::Uniq(error),
+        }
+    }
+}
+
+impl From<WriteError> for FormError {
+    ghost use Rattle.std.specs.Prelude.{◌≡◌, ◌⊎◌};
+    ghost use Rattle.moc_text.specs.declared.write_error.WriteError.TheVariants as write;
+    ghost use Rattle.moc_forms.specs.declared.form.FormError.TheVariants as error;
+
+    ghost from_gives = { λ e f. ((e ≡ write.Memory) × (f ≡ error.Memory))
+        ⊎ ((e ≡ write.TooCoarse) × (f ≡ error.TooCoarse)) };
+
+    fn from(error: WriteError) -> FormError {
+        match error {
+            WriteError::Memory => FormError::Memory,
+            WriteError::TooCoarse => FormError::TooCoarse,
         }
     }
 }
@@ -174,8 +193,8 @@ impl Form {
 
     /// The text of a set with a stated order, ended by a line feed.
     ///
-    /// Linear in the number of cells. Refused with the form's `TooCoarse` where a cell is deeper than the stated order,
-    /// which a list never states, or with `Memory`.
+    /// Linear in the number of cells. Refused with `TooCoarse` where a cell is deeper than the stated order, which a
+    /// list never states, or with `Memory`.
     pub fn write(
         self,
         alloc: Global,

@@ -35,7 +35,7 @@ pub fn quote(alloc: Global, text: &[u8], error: FormError) -> Result<Option<Stri
             Ok(None) => Ok(None),
             Err(_) => Err(Memory),
         },
-        FormError::Memory => Ok(None),
+        FormError::TooCoarse | FormError::Memory => Ok(None),
     }
 }
 
@@ -216,9 +216,7 @@ fn json_piece(alloc: Global, text: &[u8], fault: JsonError) -> Result<Option<Str
         JsonError::NotWhole { name, place } | JsonError::CellTooLarge { name, place } => {
             text_at(alloc, text, name, Some(place))
         }
-        JsonError::NotJson | JsonError::NotObject | JsonError::Memory | JsonError::TooCoarse => {
-            Ok(None)
-        }
+        JsonError::NotJson | JsonError::NotObject | JsonError::Memory => Ok(None),
     }
 }
 

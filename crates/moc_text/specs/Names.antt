@@ -6,6 +6,8 @@ use Rattle.moc_text.specs.declared.json_form.error.JsonError.{JsonError}
 use Rattle.moc_text.specs.declared.json_form.error.JsonError.TheVariants as json
 use Rattle.moc_text.specs.declared.uniq.UniqError.{UniqError}
 use Rattle.moc_text.specs.declared.uniq.UniqError.TheVariants as uniq
+use Rattle.moc_text.specs.declared.write_error.WriteError.{WriteError}
+use Rattle.moc_text.specs.declared.write_error.WriteError.TheVariants as write
 
 -- the name of the fault of a text in the ASCII form
 abbrev pub name_of_text : TextError → List ℕ
@@ -16,7 +18,6 @@ name_of_text (text.CellTooLarge at) = codes "CellTooLarge"
 name_of_text (text.Backwards at) = codes "Backwards"
 name_of_text (text.Unfinished at) = codes "Unfinished"
 name_of_text text.Memory = codes "Memory"
-name_of_text text.TooCoarse = codes "TooCoarse"
 
 -- the name of the fault of a text in the JSON form
 abbrev pub name_of_json : JsonError → List ℕ
@@ -27,10 +28,14 @@ name_of_json (json.NotArray name) = codes "NotArray"
 name_of_json (json.NotWhole name place) = codes "NotWhole"
 name_of_json (json.CellTooLarge name place) = codes "CellTooLarge"
 name_of_json json.Memory = codes "Memory"
-name_of_json json.TooCoarse = codes "TooCoarse"
 
 -- the name of the fault of a NUNIQ list
 abbrev pub name_of_uniq : UniqError → List ℕ
 name_of_uniq (uniq.BadByte line) = codes "BadByte"
 name_of_uniq (uniq.NotUniq line) = codes "NotUniq"
 name_of_uniq uniq.Memory = codes "Memory"
+
+-- the name of why a set was not written
+abbrev pub name_of_write_error : WriteError → List ℕ
+name_of_write_error write.TooCoarse = codes "TooCoarse"
+name_of_write_error write.Memory = codes "Memory"

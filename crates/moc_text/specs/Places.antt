@@ -14,7 +14,6 @@ fault_byte (text.CellTooLarge at) = Some at
 fault_byte (text.Backwards at) = Some at
 fault_byte (text.Unfinished at) = Some at
 fault_byte text.Memory = None
-fault_byte text.TooCoarse = None
 
 -- the error is a fault of this name of a JSON object, or of this item of its array
 abbrev pub IsJsonFaultAt : ℕ → Option ℕ → JsonError → Type 0

@@ -5,9 +5,11 @@ mod ascii;
 mod json_form;
 mod text_writer;
 mod uniq;
+mod write_error;
 
 pub use ascii::{TextError, is_separator, read_ascii, readings_are_told, write_ascii};
 pub use json_form::{
     JsonError, JsonPlace, JsonSite, json_site, json_syntax_error, read_json, write_json,
 };
 pub use uniq::{UniqError, read_uniq, write_uniq};
+pub use write_error::WriteError;

@@ -1,5 +1,5 @@
 //! NUNIQ lists: the NUNIQ number of a cell on each line.
-ghost use Rattle.std.specs.Prelude.{◌≡◌, ◌++◌, ◌<◌, ◌⊎◌, map, IfErr, IfOk, IsOkUnless, length, MatchOption};
+ghost use Rattle.std.specs.Prelude.{◌≡◌, ◌++◌, ◌<◌, ◌⊎◌, map, IfErr, IfOk, length, MatchOption};
 ghost use Rattle.std.specs.Prelude.{MatchResult, OnOk};
 ghost use Rattle.std.specs.Option.{option_copied};
 ghost use Rattle.std.specs.String.{string_bytes};
@@ -16,7 +16,7 @@ use crate::ascii::digits;
 use itoa::Buffer;
 use moc_ranges::{Coverage, CoverageBuilder, Memory as MemoryRefused};
 use moc_sphere::Cell;
-use std::alloc::{AllocError, AllocFailed, Global};
+use std::alloc::{AllocError, Global};
 use thiserror::Error;
 
 /// A fault of a NUNIQ list, with the number of a line, counted from 1.
@@ -50,28 +50,6 @@ impl UniqError {
             UniqError::BadByte { line } | UniqError::NotUniq { line } => Some(line),
             UniqError::Memory => None,
         }
-    }
-}
-
-impl From<AllocError> for UniqError {
-    ghost use Rattle.std.specs.Prelude.{◌≡◌};
-    ghost use Rattle.moc_text.specs.declared.uniq.UniqError.TheVariants.{Memory};
-
-    ghost from_gives = { λ _ e. e ≡ Memory };
-
-    fn from(_e: AllocError) -> UniqError {
-        UniqError::Memory
-    }
-}
-
-impl<T: Drop> From<AllocFailed<T>> for UniqError {
-    ghost use Rattle.std.specs.Prelude.{◌≡◌};
-    ghost use Rattle.moc_text.specs.declared.uniq.UniqError.TheVariants.{Memory};
-
-    ghost from_gives = { λ _ e. e ≡ Memory };
-
-    fn from(_e: AllocFailed<T>) -> UniqError {
-        UniqError::Memory
     }
 }
 
@@ -169,9 +147,8 @@ fn room_for(cells: &[Cell]) -> usize {
 /// Writes the NUNIQ list of the set: the numbers of its cells, rising, each in decimal and followed by LF.
 /// Linear in the number of cells.
 #[tactic(auto, unfolding(crate::specs::UniqList::uniq_text))]
-pub fn write_uniq(alloc: Global, set: &Coverage) -> Result<String, UniqError>
+pub fn write_uniq(alloc: Global, set: &Coverage) -> Result<String, MemoryRefused>
     ensures text { IfOk result (λ t. string_bytes t ≡ uniq_text set.now) }
-    ensures memory { IsOkUnless result UniqError.Memory }
 
     // A written list says the set that was written, so it is read as that set.
     ensures reads_back { IfOk result (λ t. SaysUniq (string_bytes t) set.now) }

@@ -1,6 +1,6 @@
 use super::{Q0, Q1, Q2, every_second, repeated, says};
 use moc_sphere::Order;
-use moc_text::{TextError, read_ascii, write_ascii};
+use moc_text::{TextError, WriteError, read_ascii, write_ascii};
 use std::alloc::Global;
 use std::process::Abort;
 
@@ -130,9 +130,7 @@ fn faults_of_orders(rt: HostRuntime) {
 
 #[test]
 fn faults_without_a_place(rt: HostRuntime) {
-    for error in [TextError::Memory, TextError::TooCoarse] {
-        assert_eq!(rt; error.place(), None);
-    }
+    assert_eq!(rt; TextError::Memory.place(), None);
 }
 
 #[test]
@@ -163,7 +161,7 @@ fn a_deepest_order_that_is_too_coarse(rt: HostRuntime) {
     let alloc = rt.alloc();
     let (set, _) = read_ascii(alloc, b"1/1 2 4\n2/12-14 21 23 25 \n8/").expect(&rt, "a set");
     let coarse = write_ascii(alloc, &set, Order::new(1));
-    assert!(rt; matches!(coarse, Err(TextError::TooCoarse)));
+    assert!(rt; matches!(coarse, Err(WriteError::TooCoarse)));
 }
 
 // No two of these cells touch, so each is an item of its own, and the set has as many pixels.

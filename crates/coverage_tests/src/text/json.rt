@@ -1,6 +1,6 @@
 use super::{Q1, Q2, every_second, repeated, says};
 use moc_sphere::Order;
-use moc_text::{JsonError, JsonPlace, read_json, write_json};
+use moc_text::{JsonError, JsonPlace, WriteError, read_json, write_json};
 use std::alloc::Global;
 use std::process::Abort;
 
@@ -103,7 +103,7 @@ fn faults_of_numbers(rt: HostRuntime) {
 
 #[test]
 fn faults_without_a_place(rt: HostRuntime) {
-    for error in [JsonError::NotJson, JsonError::Memory, JsonError::TooCoarse] {
+    for error in [JsonError::NotJson, JsonError::NotObject, JsonError::Memory] {
         assert_eq!(rt; error.place(), None);
     }
 }
@@ -141,7 +141,7 @@ fn a_deepest_order_that_is_too_coarse(rt: HostRuntime) {
     assert!(rt;
         matches!(
             write_json(alloc, &set, Order::new(1)),
-            Err(JsonError::TooCoarse)
+            Err(WriteError::TooCoarse)
         )
     );
 }

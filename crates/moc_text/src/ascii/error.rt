@@ -1,4 +1,4 @@
-//! Why an ASCII text could not be read or written.
+//! Why an ASCII text could not be read.
 
 ghost use Rattle.std.specs.Prelude.{◌≡◌};
 ghost use Rattle.moc_text.specs.Names.{name_of_text};
@@ -6,7 +6,6 @@ ghost use Rattle.moc_text.specs.Places.{fault_byte};
 ghost use Rattle.moc_text.specs.declared.ascii.error.TextError.TheVariants.{Memory};
 
 use moc_ranges::Memory as MemoryRefused;
-use std::alloc::{AllocError, AllocFailed};
 use thiserror::Error;
 
 /// A fault of an ASCII text, with the place of a byte, counted from 0.
@@ -26,8 +25,6 @@ pub enum TextError {
     Unfinished { at: usize },
     #[error("out of memory")]
     Memory,
-    #[error("a cell is deeper than the stated order")]
-    TooCoarse,
 }
 
 impl TextError {
@@ -43,12 +40,10 @@ impl TextError {
             TextError::Backwards { .. } => "Backwards",
             TextError::Unfinished { .. } => "Unfinished",
             TextError::Memory => "Memory",
-            TextError::TooCoarse => "TooCoarse",
         }
     }
 
-    /// The place of the byte at which the text is at fault, counted from 0; `None` for what is no fault of a text:
-    /// `Memory`, and the writer's `TooCoarse`.
+    /// The place of the byte at which the text is at fault, counted from 0; `None` for `Memory`.
     pub fn place(self) -> Option<usize>
         ensures { result ≡ fault_byte self }
     {
@@ -59,24 +54,8 @@ impl TextError {
             | TextError::CellTooLarge { at }
             | TextError::Backwards { at }
             | TextError::Unfinished { at } => Some(at),
-            TextError::Memory | TextError::TooCoarse => None,
+            TextError::Memory => None,
         }
-    }
-}
-
-impl From<AllocError> for TextError {
-    ghost from_gives = { λ _ e. e ≡ Memory };
-
-    fn from(_e: AllocError) -> TextError {
-        TextError::Memory
-    }
-}
-
-impl<T: Drop> From<AllocFailed<T>> for TextError {
-    ghost from_gives = { λ _ e. e ≡ Memory };
-
-    fn from(_e: AllocFailed<T>) -> TextError {
-        TextError::Memory
     }
 }
 

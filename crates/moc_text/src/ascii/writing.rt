@@ -12,8 +12,8 @@ ghost use Rattle.moc_text.specs.AsciiText.{run_text, stated_beyond, text_of_cell
 ghost use Rattle.moc_text.specs.Private.AsciiWriting.{gap, onward, run_part, runs_in, stated_part};
 ghost use Rattle.moc_text.specs.declared.ascii.writing.Run.{Run as CellRun};
 
-use crate::ascii::error::TextError;
 use crate::text_writer::TextWriter;
+use crate::write_error::WriteError;
 use itoa::Buffer;
 use moc_ranges::{CellRanges, Coverage};
 use moc_sphere::Order;
@@ -178,11 +178,11 @@ pub fn write_ascii(
     alloc: Global,
     set: &Coverage,
     stated: Option<Order>,
-) -> Result<String, TextError>
+) -> Result<String, WriteError>
     ensures text { IfOk result (λ t. string_bytes t ≡ ascii_text set.now stated) }
     ensures fits { OnOk result (¬ IsTooCoarse set.now stated) }
-    ensures fault { IfErr result (λ e. (e ≡ TextError.Memory)
-        ⊎ ((e ≡ TextError.TooCoarse) × IsTooCoarse set.now stated)) }
+    ensures fault { IfErr result (λ e. (e ≡ WriteError.Memory)
+        ⊎ ((e ≡ WriteError.TooCoarse) × IsTooCoarse set.now stated)) }
 
     // A written text says the set that was written, and the stated order, or else the deepest order written.
     ensures reads_back { IfOk result (λ t. Says (string_bytes t) set.now (deepest_written set.now stated)) }
@@ -190,7 +190,7 @@ pub fn write_ascii(
     let stated = depth_of(stated);
     let orders = set.cell_orders();
     if is_too_coarse(deepest_of(set, orders), stated) {
-        return Err(TextError::TooCoarse);
+        return Err(WriteError::TooCoarse);
     }
     let room = set.range_count().saturating_mul(RANGE_ROOM);
     let mut text = TextWriter::with_capacity(alloc, room)?;

@@ -1,9 +1,9 @@
-//! Why a JSON text could not be read or written.
+//! Why a JSON text could not be read.
 
 ghost use Rattle.std.specs.Prelude.{◌≡◌, ◌⊎◌, MatchOption};
 ghost use Rattle.moc_text.specs.Names.{name_of_json};
 ghost use Rattle.moc_text.specs.Places.{IsJsonFaultAt};
-ghost use Rattle.moc_text.specs.declared.json_form.error.JsonError.TheVariants.{Memory, NotJson, NotObject, TooCoarse};
+ghost use Rattle.moc_text.specs.declared.json_form.error.JsonError.TheVariants.{Memory, NotJson, NotObject};
 
 use moc_ranges::Memory as MemoryRefused;
 use std::alloc::{AllocError, AllocFailed};
@@ -26,8 +26,6 @@ pub enum JsonError {
     CellTooLarge { name: usize, place: usize },
     #[error("out of memory")]
     Memory,
-    #[error("a cell is deeper than the stated order")]
-    TooCoarse,
 }
 
 /// Where a JSON text is at fault: a name of its object, counted from 0 in byte order, and an item of the name's array,
@@ -51,15 +49,14 @@ impl JsonError {
             JsonError::NotWhole { .. } => "NotWhole",
             JsonError::CellTooLarge { .. } => "CellTooLarge",
             JsonError::Memory => "Memory",
-            JsonError::TooCoarse => "TooCoarse",
         }
     }
 
-    /// The place at which the text is at fault; `None` for what is no fault at a place: `NotJson` and `NotObject`,
-    /// `Memory`, and the writer's `TooCoarse`.
+    /// The place at which the text is at fault; `None` for what is no fault at a place: `NotJson`, `NotObject`
+    /// and `Memory`.
     pub fn place(self) -> Option<JsonPlace>
         ensures { MatchOption result
-            ((self ≡ NotJson) ⊎ (self ≡ NotObject) ⊎ (self ≡ Memory) ⊎ (self ≡ TooCoarse))
+            ((self ≡ NotJson) ⊎ (self ≡ NotObject) ⊎ (self ≡ Memory))
             (λ place. IsJsonFaultAt place.name place.item self) }
     {
         match self {
@@ -72,8 +69,7 @@ impl JsonError {
                     item: Some(place),
                 })
             }
-            JsonError::NotJson | JsonError::NotObject | JsonError::Memory | JsonError::TooCoarse =>
-                None,
+            JsonError::NotJson | JsonError::NotObject | JsonError::Memory => None,
         }
     }
 }

@@ -12,8 +12,8 @@ ghost use Rattle.moc_text.specs.JsonText.{data_at, json_text};
 ghost use Rattle.moc_text.specs.Private.JsonWriting.{array_rest, member_before, members_along, orders_by_name};
 
 use crate::ascii::{RANGE_ROOM, beyond, deepest_of, depth_of, is_too_coarse};
-use crate::json_form::error::JsonError;
 use crate::text_writer::TextWriter;
+use crate::write_error::WriteError;
 use moc_ranges::{CellRanges, Coverage};
 use moc_sphere::Order;
 use std::alloc::{AllocError, Global};
@@ -157,11 +157,15 @@ fn object_text(
 /// array; names stand in byte order. Refused with `TooCoarse` where the set has a cell of a deeper order than the
 /// stated one. One pass over the ranges of the set for each order that can have cells and up to two before, and linear
 /// in the length of the text; no list of cells is made.
-pub fn write_json(alloc: Global, set: &Coverage, stated: Option<Order>) -> Result<String, JsonError>
+pub fn write_json(
+    alloc: Global,
+    set: &Coverage,
+    stated: Option<Order>,
+) -> Result<String, WriteError>
     ensures text { IfOk result (λ t. string_bytes t ≡ json_text set.now stated) }
     ensures fits { OnOk result (¬ IsTooCoarse set.now stated) }
-    ensures fault { IfErr result (λ e. (e ≡ JsonError.Memory)
-        ⊎ ((e ≡ JsonError.TooCoarse) × IsTooCoarse set.now stated)) }
+    ensures fault { IfErr result (λ e. (e ≡ WriteError.Memory)
+        ⊎ ((e ≡ WriteError.TooCoarse) × IsTooCoarse set.now stated)) }
 
     // A written text says the set that was written, and the stated order, or else the deepest order written.
     ensures reads_back { IfOk result (λ t. SaysJson (string_bytes t) set.now (deepest_written set.now stated)) }
@@ -170,7 +174,7 @@ pub fn write_json(alloc: Global, set: &Coverage, stated: Option<Order>) -> Resul
     let orders = set.cell_orders();
     let deepest = deepest_of(set, orders);
     if is_too_coarse(deepest, stated) {
-        return Err(JsonError::TooCoarse);
+        return Err(WriteError::TooCoarse);
     }
     let bare = beyond(deepest, stated);
     Ok(object_text(alloc, set, orders, bare)?)
