@@ -11,9 +11,8 @@ use Rattle.std.specs.FinMap as map
 use Rattle.moc_parts.specs.Batches.{batches}
 use Rattle.moc_parts.specs.declared.command.Command.{Command}
 use Rattle.moc_steps.specs.Machine as machine
-use Rattle.moc_steps.specs.Machine.{Running, refusal, holds, holder, next_part, has_taken, is_in, twelve}
-use Rattle.moc_steps.specs.Machine.{unless_idle, take_refusal, next_refusal, edit_refusal, give_refusal, end_refusal}
-use Rattle.moc_steps.specs.Machine.{running}
+use Rattle.moc_steps.specs.Machine.{Running, refusal, holds, holder, next_part, has_taken, is_in, twelve, unless_idle}
+use Rattle.moc_steps.specs.Machine.{take_refusal, next_refusal, edit_refusal, give_refusal, end_refusal, running}
 use Rattle.moc_steps.specs.Laws.{IsReached}
 use Rattle.moc_steps.specs.Orders.{is_progress, client_of}
 use Rattle.moc_steps.specs.Played.{BatchWorld, step_of}
