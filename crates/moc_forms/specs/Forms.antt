@@ -8,9 +8,7 @@ use Rattle.moc_text.specs.JsonText.{json_text}
 use Rattle.moc_text.specs.Names.{name_of_json, name_of_text, name_of_uniq}
 use Rattle.moc_text.specs.UniqList.{SaysUniq, uniq_fault, uniq_text}
 use Rattle.moc_text.specs.declared.ascii.error.TextError.{TextError}
-use Rattle.moc_text.specs.declared.ascii.error.TextError.TheVariants as text
 use Rattle.moc_text.specs.declared.json_form.error.JsonError.{JsonError}
-use Rattle.moc_text.specs.declared.json_form.error.JsonError.TheVariants as json
 use Rattle.moc_text.specs.declared.uniq.UniqError.{UniqError}
 use Rattle.moc_forms.specs.declared.form.Form.{Form}
 use Rattle.moc_forms.specs.declared.form.Form.TheVariants.{Ascii, Json, Uniq}
