@@ -97,7 +97,7 @@ lacking_trim ks ks' xs ys t whole_xs whole_ys x y to r l reach ends is built bel
 pub range_from : (r : ℕ × ℕ) (q : ℕ) → in_range r q ≡ true → (r.0 ≤ q) × (q < r.1)
 range_from r q e = let parts = and_parts (nat_le r.0 q) (nat_lt q r.1) e in (leb-true r.0 q parts.0, ltb-true q r.1 parts.1)
 
-range_is : (r : ℕ × ℕ) (q : ℕ) → r.0 ≤ q → q < r.1 → in_range r q ≡ true
+pub range_is : (r : ℕ × ℕ) (q : ℕ) → r.0 ≤ q → q < r.1 → in_range r q ≡ true
 range_is r q low high = and_from (nat_le r.0 q) (nat_lt q r.1) (le-leb r.0 q low) (lt-ltb q r.1 high)
 
 before_one : (a b q : ℕ) (later : Bool) → q < a → later ≡ false → ((nat_le a q && nat_lt q b) || later) ≡ false
