@@ -40,6 +40,7 @@ unfolding IsOfFault
 of_input (refused.Form (form.Ascii e)) = inl refl
 of_input (refused.Form (form.Json e)) = inl refl
 of_input (refused.Form (form.Uniq e)) = inl refl
+of_input (refused.Form form.TooCoarse) = inl refl
 of_input (refused.Form form.Memory) = inr refl
 of_input refused.TooLong = inl refl
 of_input refused.Read = inr refl
