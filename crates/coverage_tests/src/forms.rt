@@ -632,7 +632,10 @@ fn texts_of_other_errors(rt: HostRuntime) {
         is_shown(&rt, rt.alloc(), &FormError::Uniq(error), text);
     }
     for (error, text) in [
-        (WriteError::TooCoarse, "a cell is deeper than the stated order"),
+        (
+            WriteError::TooCoarse,
+            "a cell is deeper than the stated order",
+        ),
         (WriteError::Memory, "out of memory"),
     ] {
         is_shown(&rt, rt.alloc(), &error, text);
