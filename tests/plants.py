@@ -63,13 +63,13 @@ PLANTS = [
           "coverage_tests"),
     # clients on threads
     Plant("query_gives_its_parts_back_as_it_takes_them", "moc_shared", "src/held/footprint.rt",
-          "            Ok(pointer) => put_at(&mut found, b, pointer),",
-          "            Ok(pointer) => { let Ok(copy) = std::sync::Arc::try_clone(&pointer) else { unreachable!() }; put_at(&mut found, b, copy); "
-          "if batch.is_update() { drop(pointer); } else { give_part(table, seat, b, pointer); } }", "test", "map_tests"),
+          "            Ok(pointer) => put_at(&mut found, part, pointer),",
+          "            Ok(pointer) => { let Ok(copy) = std::sync::Arc::try_clone(&pointer) else { unreachable!() }; put_at(&mut found, part, copy); "
+          "if batch.is_update() { drop(pointer); } else { give_part(table, seat, part, pointer); } }", "test", "map_tests"),
     Plant("waiter_takes_the_parts_from_the_highest_down", "moc_shared", "src/held/waiting.rt",
-          "    for part in batch.footprint(alloc) {\n        let b = usize::from(part.get());",
-          "    for part in moc_parts::Part::ALL {\n        let b = 11 - usize::from(part.get());\n"
-          "        if !batch.footprint(alloc).contains(moc_parts::Part::of(b as u8)) {\n            continue;\n        }", "prove"),
+          "    for part in batch.footprint(alloc) {",
+          "    for part in Part::ALL {\n        let part = Part::of(11 - part.get());\n"
+          "        if !batch.footprint(alloc).contains(part) {\n            continue;\n        }", "prove"),
 ]
 
 

@@ -299,3 +299,16 @@ shared_next found edited after old now n b p new taken so_far at wide put was sa
       ∙ ap content (place_set_same edited b (Some new) wide) ∙ ap (λ (a : NumberSet). Some a) is
       ∙ (λ i. changed_content (from i) (content (sym there i))))
 ]
+
+-- nothing is shared of a part where nothing was found
+pub shared_not : (found edited : List (Option Pointer)) (old : List (Option NumberSet)) (n : ℕ)
+    → ((k : ℕ) → k < n → content (at_place edited k) ≡ changed_content (get_or old k None) (content (at_place found k)))
+    → at_place edited n ≡ None → at_place found n ≡ None → (k : ℕ) → k < n + 1
+    → content (at_place edited k) ≡ changed_content (get_or old k None) (content (at_place found k))
+shared_not found edited old n so_far blank none k l = elim (cases_lt k n) [
+  | inl below ↦ so_far k below
+  | inr here ↦
+      let e : n ≡ k = omega arith in
+      subst (λ (j : ℕ). content (at_place edited j) ≡ changed_content (get_or old j None) (content (at_place found j))) e
+      (ap content blank ∙ sym (ap (λ (o : Option Pointer). changed_content (get_or old n None) (content o)) none))
+]

@@ -10,23 +10,22 @@ use crate::errors::Busy;
 use crate::table::locks::{Token, Words};
 use crate::table::slots::{Slots, end_of, highest, no_slots, put_at, take_at};
 use crate::table::steps::{end_call, give_part, take_slot};
-use moc_parts::Batch;
+use moc_parts::{Batch, Part};
 use std::alloc::Global;
 use std::marker::Brand;
 
 /// Gives back all parts that are held, with these pointers, of which none is at `end` or behind it.
-fn give_below(table: &Words, seat: &mut Token, end: usize, slots: &mut Slots)
+fn give_below(table: &Words, seat: &mut Token, end: u8, slots: &mut Slots)
     requires place { IsOfTable seat.old.table_id table.now.table_id }
     requires held { HoldsAll slots.old seat.old.me }
     requires end { (end ≤ 12) × ((k : ℕ) → end ≤ k → at_place slots.old k ≡ None) }
     ensures same { (seat.new.table_id ≡ seat.old.table_id) × (seat.new.id ≡ seat.old.id) }
     ensures gave { seat.new.me ≡ (with_holds seat.old.me.0 [], []) }
 {
-    let mut b = end;
-    while b > 0 {
-        b -= 1;
-        if let Some(pointer) = take_at(slots, b) {
-            give_part(table, seat, b, pointer);
+    for number in (0..end).rev() {
+        let part = Part::of(number);
+        if let Some(pointer) = take_at(slots, part) {
+            give_part(table, seat, part, pointer);
         }
     }
 }
@@ -62,9 +61,8 @@ pub(crate) fn take_all(
 {
     let mut found = no_slots();
     for part in batch.footprint(alloc) {
-        let b = usize::from(part.get());
-        match take_slot(table, seat, b, mark) {
-            Ok(pointer) => put_at(&mut found, b, pointer),
+        match take_slot(table, seat, part, mark) {
+            Ok(pointer) => put_at(&mut found, part, pointer),
             Err(holder) => {
                 give_all(table, seat, &mut found);
                 return Err(Busy { part, holder });
@@ -92,12 +90,12 @@ pub(crate) fn end_all(
         × EndsBatch batch.now (replies_to found.now batch.now) [] seat.old.me.0 seat.new.me.0 }
 {
     // A footprint is never empty, and there is a pointer at the highest place that has one.
-    let Some(b) = highest(edited) else {
+    let Some(part) = highest(edited) else {
         unreachable!()
     };
-    let Some(pointer) = take_at(edited, b) else {
+    let Some(pointer) = take_at(edited, part) else {
         unreachable!()
     };
-    end_call::<Brand>(table, seat, b, pointer, batch, found, edited);
-    give_below(table, seat, b, edited);
+    end_call::<Brand>(table, seat, part, pointer, batch, found, edited);
+    give_below(table, seat, part.get(), edited);
 }

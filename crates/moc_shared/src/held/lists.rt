@@ -7,7 +7,7 @@ ghost use Rattle.moc_shared.specs.Private.Seats.{at_place, content, AreOwn, IsFo
 ghost use Rattle.moc_shared.specs.Private.Slots.{changed_content, replies_to, Edits};
 
 use crate::table::locks::Pointer;
-use crate::table::slots::{Slots, lists, put_at, share};
+use crate::table::slots::{Slots, lists, pointer_at, put_at, share};
 use moc_parts::{Batch, Part, Prepared, Replies, prepare_changes, reply_of};
 use moc_ranges::{Coverage, Memory};
 use std::alloc::Global;
@@ -37,13 +37,14 @@ fn share_all(
         ≡ changed_content (get_or changes.old.lists b None) (content (at_place found.now b))) }
 {
     for part in Part::ALL {
-        let b = usize::from(part.get());
-        let Some(pointer) = &found[b] else { continue };
+        let Some(pointer) = pointer_at(found, part) else {
+            continue
+        };
         let new = match changes.take(part) {
             Some(list) => share_changed(alloc, pointer, list)?,
             None => Arc::try_clone(pointer)?,
         };
-        put_at(edited, b, new);
+        put_at(edited, part, new);
     }
     Ok(())
 }

@@ -1,5 +1,5 @@
 //! One command on the single part that it takes, without a batch.
-ghost use Rattle.std.specs.Prelude.{◌≡◌, ◌<◌, [], ◌∷◌, IfOk, IfSome, OnOk, OnErr};
+ghost use Rattle.std.specs.Prelude.{◌≡◌, [], ◌∷◌, IfOk, IfSome, OnOk, OnErr};
 ghost use Rattle.std.specs.Arc.{arc_value};
 ghost use Rattle.std.specs.FinSet as set;
 ghost use Rattle.moc_parts.specs.Commands.{reply_on, set_after};
@@ -78,14 +78,13 @@ pub(crate) fn answer_single(
     table: &Words,
     alloc: Global,
     seat: &mut Token,
-    b: usize,
+    part: Part,
     pointer: Pointer,
     command: &Command,
 ) -> Result<Reply, Memory>
     requires place { IsOfTable seat.old.table_id table.now.table_id }
-    requires part { b < 12 }
-    requires held { HoldsJust b (arc_value pointer) seat.old.me }
-    requires single { TakesJust command.now b }
+    requires held { HoldsJust part (arc_value pointer) seat.old.me }
+    requires single { TakesJust command.now part }
     ensures same { (seat.new.table_id ≡ seat.old.table_id) × (seat.new.id ≡ seat.old.id) }
     ensures idle { seat.new.me.1 ≡ [] }
     ensures ok { IfOk result (λ r. EndsBatch (command.now ∷ []) (r ∷ []) [] seat.old.me.0 seat.new.me.0) }
@@ -96,11 +95,11 @@ pub(crate) fn answer_single(
         Ok(reply) => {
             // It is answered alike on all sets with this part, as the law of locality tells.
             batches_are_local();
-            end_single::<Brand>(table, seat, b, pointer, command, &reply);
+            end_single::<Brand>(table, seat, part, pointer, command, &reply);
             Ok(reply)
         }
         Err(memory) => {
-            give_part(table, seat, b, pointer);
+            give_part(table, seat, part, pointer);
             Err(memory)
         }
     }

@@ -1,5 +1,5 @@
 //! Taking parts that others hold, by waiting for them.
-ghost use Rattle.std.specs.Prelude.{◌≡◌, ℕ, suc, ◌<◌, ◌≤◌, List, [], Contains, Option, Some};
+ghost use Rattle.std.specs.Prelude.{◌≡◌, ℕ, suc, ◌≤◌, List, [], Contains, Option, Some};
 ghost use Rattle.moc_lists.specs.RangeList.{NumberSet};
 ghost use Rattle.moc_shared.specs.Seats.{note};
 ghost use Rattle.moc_shared.specs.Private.Rule.{IsOne};
@@ -10,7 +10,7 @@ ghost use Rattle.moc_shared.specs.Private.Slots.{touched_by, just, AreWaits};
 use crate::table::locks::{Pointer, Token, Words};
 use crate::table::slots::{Slots, no_slots, put_at};
 use crate::table::steps::take_slot;
-use moc_parts::Batch;
+use moc_parts::{Batch, Part};
 use std::alloc::Global;
 use std::sync::Wait;
 use std::thread;
@@ -20,24 +20,23 @@ pub(crate) fn wait_slot<R: Wait>(
     rt: &R,
     table: &Words,
     seat: &mut Token,
-    b: usize,
+    part: Part,
     mark: u64,
 ) -> Pointer
     requires place { IsOfTable seat.old.table_id table.now.table_id }
-    requires part { b < 12 }
     requires client { IsOne seat.old.me.0 × (mark ≡ suc seat.old.me.0.mine.number) }
     requires few { seat.old.me.0.clients ≤ 64 }
     requires carried { IsCarried seat.old.me }
-    requires other { (y : Option NumberSet) → ¬ Contains seat.old.me.0.holds (note b y) }
+    requires other { (y : Option NumberSet) → ¬ Contains seat.old.me.0.holds (note part y) }
     ensures same { (seat.new.table_id ≡ seat.old.table_id) × (seat.new.id ≡ seat.old.id) }
     ensures carried { IsCarried seat.new.me }
-    ensures own { IsOwn b (Some result) }
+    ensures own { IsOwn part (Some result) }
     ensures took { (waits : List (ℕ × ℕ))
-        × (seat.new.me.0 ≡ with_part (with_misses seat.old.me.0 waits) b (shared result))
-        × AreWaits (just b) seat.old.me.0 waits }
+        × (seat.new.me.0 ≡ with_part (with_misses seat.old.me.0 waits) part (shared result))
+        × AreWaits (just part) seat.old.me.0 waits }
 {
     for _ in rt.forever() {
-        match take_slot(table, seat, b, mark) {
+        match take_slot(table, seat, part, mark) {
             Ok(pointer) => return pointer,
             Err(_) => thread::yield_now(),
         }
@@ -68,8 +67,7 @@ pub(crate) fn wait_all<R: Wait>(
 {
     let mut found = no_slots();
     for part in batch.footprint(alloc) {
-        let b = usize::from(part.get());
-        put_at(&mut found, b, wait_slot(rt, table, seat, b, mark));
+        put_at(&mut found, part, wait_slot(rt, table, seat, part, mark));
     }
     found
 }

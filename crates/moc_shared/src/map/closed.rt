@@ -23,7 +23,7 @@ pub(crate) fn first_held(closed: &Closed<Option<Pointer>, Global>) -> Option<Par
     ensures none { IfNone result ((b : ℕ) → b < 12 → slice_index (slots_items closed.now.words) (index b) ≡ 0) }
 {
     for part in Part::ALL {
-        if closed.word(index(usize::from(part.get()))) != 0 {
+        if closed.word(index(part)) != 0 {
             return Some(part);
         }
     }
@@ -42,7 +42,7 @@ pub(crate) fn read_all(closed: &mut Closed<Option<Pointer>, Global>) -> Slots
     for k in 0..PLACES {
         let slot = closed.take(k);
         match part_at(k) {
-            Some(b) => set_at(&mut slots, b, slot),
+            Some(part) => set_at(&mut slots, part, slot),
             None => drop(slot),
         }
     }

@@ -52,9 +52,8 @@ impl SharedMap {
     {
         let mark = client.mark();
         let table = &self.table.shared;
-        let b = usize::from(part.get());
-        let pointer = wait_slot(rt, table, &mut client.seat, b, mark);
-        answer_single(table, self.alloc, &mut client.seat, b, pointer, command)
+        let pointer = wait_slot(rt, table, &mut client.seat, part, mark);
+        answer_single(table, self.alloc, &mut client.seat, part, pointer, command)
     }
 
     /// The same by the batch of the command.

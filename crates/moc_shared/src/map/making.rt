@@ -23,7 +23,7 @@ fn fill(alloc: Global, start: &Coverage) -> Result<Vec<Option<Pointer>>, Memory>
     let mut slots = Vec::new(alloc);
     for k in 0..PLACES {
         let slot = match part_at(k) {
-            Some(b) => Some(share(alloc, start.part(alloc, b as u8)?)?),
+            Some(part) => Some(share(alloc, start.part(alloc, part.get())?)?),
             None => None,
         };
         slots.push(slot)?;

@@ -2,6 +2,8 @@
 ghost use Rattle.std.specs.Prelude.{◌≡◌, ◌≢◌, ◌<◌, ℕ, IfSome, IfNone};
 ghost use Rattle.moc_shared.specs.Seats.{index};
 
+use moc_parts::Part;
+
 /// From one part to the next: eight words, 64 bytes, so that no line of a processor's cache has two parts in it.
 const APART: usize = 8;
 
@@ -9,20 +11,21 @@ const APART: usize = 8;
 pub(crate) const PLACES: usize = 12 * APART;
 
 /// Where the word and the slot of a part stand.
-pub(crate) fn index(b: usize) -> usize
-    requires { b < 12 }
-    ensures { result ≡ index b }
+pub(crate) fn index(part: Part) -> usize
+    ensures place { result ≡ index part }
+    ensures in_range { part < 12 }
 {
-    APART * b
+    APART * usize::from(part.get())
 }
 
 /// The part whose word and slot stand at a place, if there is one.
-pub(crate) fn part_at(k: usize) -> Option<usize>
+pub(crate) fn part_at(k: usize) -> Option<Part>
+    requires { k < index 12 }
     ensures some { IfSome result (λ b. index b ≡ k) }
     ensures none { IfNone result ((b : ℕ) → index b ≢ k) }
 {
     if k % APART == 0 {
-        Some(k / APART)
+        Some(Part::of((k / APART) as u8))
     } else {
         None
     }

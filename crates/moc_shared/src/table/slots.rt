@@ -7,6 +7,7 @@ ghost use Rattle.moc_shared.specs.Private.Seats.{at_place, content, AreOwn};
 ghost use Rattle.moc_shared.specs.Private.Slots.{AreCopies, NoneBehind};
 
 use crate::table::locks::Pointer;
+use moc_parts::Part;
 use moc_ranges::{Coverage, Memory};
 use std::alloc::Global;
 use std::sync::Arc;
@@ -25,44 +26,47 @@ pub(crate) fn no_slots() -> Slots
     ]
 }
 
-/// Takes out the pointer at a place.
-pub(crate) fn take_at(slots: &mut Slots, b: usize) -> Option<Pointer>
-    requires { b < 12 }
-    ensures { (result ≡ at_place slots.old b) × (slots.new ≡ slice_set slots.old b None) }
+/// The pointer of a part.
+pub(crate) fn pointer_at(slots: &Slots, part: Part) -> Option<&Pointer>
+    ensures { option_copied result ≡ at_place slots.now part }
 {
-    std::mem::replace(&mut slots[b], None)
+    slots[usize::from(part.get())].as_ref()
 }
 
-/// Puts a pointer into a place.
-pub(crate) fn put_at(slots: &mut Slots, b: usize, pointer: Pointer)
-    requires { b < 12 }
-    ensures { slots.new ≡ slice_set slots.old b (Some pointer) }
+/// Takes out the pointer of a part.
+pub(crate) fn take_at(slots: &mut Slots, part: Part) -> Option<Pointer>
+    ensures { (result ≡ at_place slots.old part) × (slots.new ≡ slice_set slots.old part None) }
 {
-    slots[b] = Some(pointer);
+    std::mem::replace(&mut slots[usize::from(part.get())], None)
 }
 
-/// The last place with a pointer.
-pub(crate) fn highest(slots: &Slots) -> Option<usize>
+/// Puts in the pointer of a part.
+pub(crate) fn put_at(slots: &mut Slots, part: Part, pointer: Pointer)
+    ensures { slots.new ≡ slice_set slots.old part (Some pointer) }
+{
+    slots[usize::from(part.get())] = Some(pointer);
+}
+
+/// The last part with a pointer.
+pub(crate) fn highest(slots: &Slots) -> Option<Part>
     ensures some { IfSome result (λ b. (b < 12) × IsSome (at_place slots.now b) × NoneBehind slots.now b) }
     ensures none { IfNone result ((k : ℕ) → at_place slots.now k ≡ None) }
     ensures long { length slots.now ≡ 12 }
 {
-    let mut b = 12;
-    while b > 0 {
-        b -= 1;
-        if slots[b].is_some() {
-            return Some(b);
+    for number in (0..12).rev() {
+        if slots[usize::from(number)].is_some() {
+            return Some(Part::of(number));
         }
     }
     None
 }
 
-/// The place behind the last pointer.
-pub(crate) fn end_of(slots: &Slots) -> usize
+/// The number behind that of the last part with a pointer.
+pub(crate) fn end_of(slots: &Slots) -> u8
     ensures { (result ≤ 12) × ((k : ℕ) → result ≤ k → at_place slots.now k ≡ None) }
 {
     match highest(slots) {
-        Some(b) => b + 1,
+        Some(part) => part.get() + 1,
         None => 0,
     }
 }
@@ -74,12 +78,11 @@ pub(crate) fn share(alloc: Global, list: Coverage) -> Result<Pointer, Memory>
     Ok(Arc::new(alloc, list)?)
 }
 
-/// Puts what is there, or nothing, into a place.
-pub(crate) fn set_at(slots: &mut Slots, b: usize, slot: Option<Pointer>)
-    requires { b < 12 }
-    ensures { slots.new ≡ slice_set slots.old b slot }
+/// Puts in what is there of a part, or nothing.
+pub(crate) fn set_at(slots: &mut Slots, part: Part, slot: Option<Pointer>)
+    ensures { slots.new ≡ slice_set slots.old part slot }
 {
-    slots[b] = slot;
+    slots[usize::from(part.get())] = slot;
 }
 
 /// Makes a copy of each pointer, where there is none yet. Refused where a count is full.
@@ -90,7 +93,7 @@ pub(crate) fn copy_all(slots: &Slots, copies: &mut Slots) -> Result<(), Memory>
 {
     for (b, slot) in slots.iter().enumerate() {
         if let Some(pointer) = slot {
-            put_at(copies, b, Arc::try_clone(pointer)?);
+            copies[b] = Some(Arc::try_clone(pointer)?);
         }
     }
     Ok(())

@@ -19,23 +19,23 @@ unreachable-requires c = let s = c.requires.some in
 pub end_call-requires-clause-held : goal.end_call-requires-clause-held
 end_call-requires-clause-held c =
     let h = c.in-Some.ensures.some in
-    let wide : c.in-Some.b < length c.args.edited.now = omega (arith, h.0, c.highest.ensures.long) in
+    let wide : c.in-Some.part < length c.args.edited.now = omega (arith, h.0, c.highest.ensures.long) in
     let top =
-    top_note c.args.edited.now c.take_at.new.slots c.in-Some.b c.in-Some-take_at.pointer h.0 wide h.2
+    top_note c.args.edited.now c.take_at.new.slots c.in-Some.part c.in-Some-take_at.pointer h.0 wide h.2
     (sym c.take_at.ensures.0 ∙ c.in-Some-take_at.is) c.take_at.ensures.1 in (
       ap (λ (l : List PartNote). noted_parts l) c.requires.held.held ∙ sym c.requires.edited.same_parts
           ∙ ap (λ (l : List PartNote). noted_parts l) top,
-      apart_top c.take_at.new.slots 12 c.in-Some.b
-          (ap (λ (l : List (Option Pointer)). at_place l c.in-Some.b) c.take_at.ensures.1
-          ∙ place_set_same c.args.edited.now c.in-Some.b None wide),
+      apart_top c.take_at.new.slots 12 c.in-Some.part
+          (ap (λ (l : List (Option Pointer)). at_place l c.in-Some.part) c.take_at.ensures.1
+          ∙ place_set_same c.args.edited.now c.in-Some.part None wide),
     )
 
 pub end_call-requires-clause-answered : goal.end_call-requires-clause-answered
 end_call-requires-clause-answered c =
     let h = c.in-Some.ensures.some in
-    let wide : c.in-Some.b < length c.args.edited.now = omega (arith, h.0, c.highest.ensures.long) in
+    let wide : c.in-Some.part < length c.args.edited.now = omega (arith, h.0, c.highest.ensures.long) in
     let top =
-    top_note c.args.edited.now c.take_at.new.slots c.in-Some.b c.in-Some-take_at.pointer h.0 wide h.2
+    top_note c.args.edited.now c.take_at.new.slots c.in-Some.part c.in-Some-take_at.pointer h.0 wide h.2
     (sym c.take_at.ensures.0 ∙ c.in-Some-take_at.is) c.take_at.ensures.1 in
     subst (λ (z : List PartNote × List PartNote). Answers part answer IsProper c.args.batch.now
     (replies_to c.args.found.now c.args.batch.now) z.0 z.1) (λ i. (sym c.requires.held.held i, top i))
@@ -56,7 +56,8 @@ give_below-requires-clause-held c =
 pub give_below-requires-clause-end : goal.give_below-requires-clause-end
 give_below-requires-clause-end c =
     let h = c.in-Some.ensures.some in
-    let wide : c.in-Some.b < length c.args.edited.now = omega (arith, h.0, c.highest.ensures.long) in (
-      omega (arith, h.0),
-      none_from c.args.edited.now c.take_at.new.slots c.in-Some.b wide h.2 c.take_at.ensures.1,
+    let wide : c.in-Some.part < length c.args.edited.now = omega (arith, h.0, c.highest.ensures.long) in (
+      omega (arith, h.0, c.get.ensures.value),
+      λ k l. none_from c.args.edited.now c.take_at.new.slots c.in-Some.part wide h.2 c.take_at.ensures.1 k
+          (omega (arith, l, c.get.ensures.value)),
     )

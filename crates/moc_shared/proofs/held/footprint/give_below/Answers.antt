@@ -1,11 +1,12 @@
-use Rattle.std.proofs.Common.{rules, ◌≡◌, suc, ◌-◌, sym, ap, ◌∙◌, arith, length-set, length, List, Option, None}
+use Rattle.std.proofs.Common.{rules, ◌≡◌, ℕ, suc, sym, ap, ◌∙◌, arith, length-set, length, List, Option, None}
 use Rattle.moc_shared.specs.Seats.{Pointer}
 use Rattle.moc_shared.specs.Private.Seats.{notes_below}
+use Rattle.moc_shared.specs.Private.Plays.{with_holds}
 use Rattle.moc_shared.proofs.Places.{held_upto, next_note, given_back, passed_over, all_given, not_below}
 use Rattle.moc_shared.proofs.held.footprint.give_below.Goals as goal
 
-pub loop-b-init : goal.loop-b-init
-loop-b-init c =
+pub loop-number-init : goal.loop-number-init
+loop-number-init c =
     let slots = c.args.slots.now in
     let b = c.args.end in
     record {
@@ -18,42 +19,46 @@ loop-b-init c =
 
 pub give_part-requires-clause-held : goal.give_part-requires-clause-held
 give_part-requires-clause-held c =
-    let up : c.loop-b.b ≡ suc (c.loop-b.b - 1) = omega arith in (
-      notes_below c.loop-b.slots (c.loop-b.b - 1),
-      next_note c.args.seat.now.me.0 c.loop-b.seat.me.0 c.loop-b.slots
-          c.loop-b.b _ c.in-Some.pointer c.loop-b.invariant.holds up (sym c.take_at.ensures.0 ∙ c.in-Some.is),
-      not_below
-          c.loop-b.slots (c.loop-b.b - 1),
+    let b : ℕ = c.of-part.result in
+    let up : c.loop-number.number ≡ suc b = omega (arith, c.of-part.ensures) in (
+      notes_below c.loop-number.slots b,
+      next_note c.args.seat.now.me.0 c.loop-number.seat.me.0 c.loop-number.slots
+          c.loop-number.number b c.in-Some.pointer c.loop-number.invariant.holds up (sym c.take_at.ensures.0 ∙ c.in-Some.is),
+      not_below c.loop-number.slots b,
     )
 
-pub loop-b-preserved-in-Some : goal.loop-b-preserved-in-Some
-loop-b-preserved-in-Some c =
-    let up : c.loop-b.b ≡ suc (c.loop-b.b - 1) = omega arith in
+pub loop-number-preserved-in-Some : goal.loop-number-preserved-in-Some
+loop-number-preserved-in-Some c =
+    let b : ℕ = c.of-part.result in
+    let up : c.loop-number.number ≡ suc b = omega (arith, c.of-part.ensures) in
     record {
       same = search rules;
       carried = c.give_part.ensures.carried;
-      holds = given_back c.args.seat.now.me.0 c.loop-b.seat.me.0 _ c.loop-b.slots c.take_at.new.slots c.loop-b.b
-          (c.loop-b.b - 1) c.in-Some.pointer c.loop-b.invariant.holds up (sym c.take_at.ensures.0 ∙ c.in-Some.is)
-          c.take_at.ensures.1 c.give_part.ensures.gave;
+      holds = given_back c.args.seat.now.me.0 c.loop-number.seat.me.0 _ c.loop-number.slots c.take_at.new.slots
+          c.loop-number.number b c.in-Some.pointer c.loop-number.invariant.holds up (sym c.take_at.ensures.0 ∙ c.in-Some.is)
+          c.take_at.ensures.1 c.give_part.ensures.gave
+          ∙ ap (λ j. with_holds c.args.seat.now.me.0 (notes_below c.take_at.new.slots j)) c.of-part.ensures;
       within = search rules;
       long = ap (λ (l : List (Option Pointer)). length l) c.take_at.ensures.1
-          ∙ length-set c.loop-b.slots (c.loop-b.b - 1) None ∙ c.loop-b.invariant.long;
+          ∙ length-set c.loop-number.slots b None ∙ c.loop-number.invariant.long;
     }
 
-pub loop-b-preserved : goal.loop-b-preserved
-loop-b-preserved c =
-    let up : c.loop-b.b ≡ suc (c.loop-b.b - 1) = omega arith in
+pub loop-number-preserved : goal.loop-number-preserved
+loop-number-preserved c =
+    let b : ℕ = c.of-part.result in
+    let up : c.loop-number.number ≡ suc b = omega (arith, c.of-part.ensures) in
     record {
-      same = c.loop-b.invariant.same;
-      carried = c.loop-b.invariant.carried;
-      holds = passed_over c.args.seat.now.me.0 c.loop-b.seat.me.0 c.loop-b.slots c.take_at.new.slots c.loop-b.b
-          (c.loop-b.b - 1) c.loop-b.invariant.holds up (sym c.take_at.ensures.0 ∙ c.in_default.is) c.take_at.ensures.1;
+      same = c.loop-number.invariant.same;
+      carried = c.loop-number.invariant.carried;
+      holds = passed_over c.args.seat.now.me.0 c.loop-number.seat.me.0 c.loop-number.slots c.take_at.new.slots
+          c.loop-number.number b c.loop-number.invariant.holds up (sym c.take_at.ensures.0 ∙ c.in_default.is) c.take_at.ensures.1
+          ∙ ap (λ j. with_holds c.args.seat.now.me.0 (notes_below c.take_at.new.slots j)) c.of-part.ensures;
       within = search rules;
       long = ap (λ (l : List (Option Pointer)). length l) c.take_at.ensures.1
-          ∙ length-set c.loop-b.slots (c.loop-b.b - 1) None ∙ c.loop-b.invariant.long;
+          ∙ length-set c.loop-number.slots b None ∙ c.loop-number.invariant.long;
     }
 
 pub returns-clause-gave : goal.returns-clause-gave
 returns-clause-gave c =
-    all_given c.args.seat.now.me.0 c.loop-b.seat.me c.loop-b.slots c.loop-b.b c.loop-b.invariant.holds (search rules)
-    c.loop-b.invariant.carried
+    all_given c.args.seat.now.me.0 c.loop-number.seat.me c.loop-number.slots c.loop-number.number
+    c.loop-number.invariant.holds (search rules) c.loop-number.invariant.carried

@@ -1,5 +1,5 @@
-use Rattle.std.proofs.Common.{rules, ◌≡◌, ℕ, suc, ◌+◌, ◌<◌, ◌≤◌, List, refl, sym, ap, ◌∙◌, subst, arith, Contains, map, set}
-use Rattle.std.proofs.Common.{length, length-set, Option, Some, true}
+use Rattle.std.proofs.Common.{rules, ◌≡◌, ℕ, suc, ◌+◌, ◌<◌, List, refl, sym, ap, ◌∙◌, subst, arith, Contains, map, set}
+use Rattle.std.proofs.Common.{length, length-set, Option, Some}
 use Rattle.moc_parts.specs.Batches.{footprint_of_all}
 use Rattle.moc_parts.specs.Lemmas.{IsNext, all_ahead, next_ahead, none_ahead}
 use Rattle.moc_shared.specs.Seats.{index, note, Pointer, Sight}
@@ -28,87 +28,81 @@ loop-part-init c = record {
 pub take_slot-requires-clause-other : goal.take_slot-requires-clause-other
 take_slot-requires-clause-other c =
     let inv = c.loop-part.invariant in
-    let b : ℕ = c.from-b.result in
-    let is : b ≡ c.in-Some.part = c.from-b.ensures ∙ c.get.ensures.value in
+    let b : ℕ = c.in-Some.part in
     let to = next_ahead (footprint_of_all c.args.batch.now) inv.next c.in-Some.part c.loop-part.part-iterator c.next.new.self inv.ahead c.in-Some.ensures.steps in
     λ y h. not_below c.loop-part.found b y
     (subst (λ (v : Sight). Contains v.holds (note b y))
-    (passed_parts c.args.seat.now.me.0 c.loop-part.seat.me.0 c.loop-part.found inv.next b inv.view (omega (arith, to.after, is)) inv.beyond) h)
+    (passed_parts c.args.seat.now.me.0 c.loop-part.seat.me.0 c.loop-part.found inv.next b inv.view to.after inv.beyond) h)
 
 pub give_all-requires-clause-held : goal.give_all-requires-clause-held
 give_all-requires-clause-held c =
     let inv = c.loop-part.invariant in
-    let b : ℕ = c.from-b.result in
-    let is : b ≡ c.in-Some.part = c.from-b.ensures ∙ c.get.ensures.value in
+    let b : ℕ = c.in-Some.part in
     let to = next_ahead (footprint_of_all c.args.batch.now) inv.next c.in-Some.part c.loop-part.part-iterator c.next.new.self inv.ahead c.in-Some.ensures.steps in
-    let after : inv.next ≤ b = omega (arith, to.after, is) in
+    let after = to.after in
     record {
       client = search rules;
       carried = c.take_slot.ensures.carried;
       held = holds_upto c.args.seat.now.me.0 c.loop-part.seat.me.0 c.take_slot.new.seat.me.0 c.loop-part.found b c.in-Err.holder
           (passed_parts c.args.seat.now.me.0 c.loop-part.seat.me.0 c.loop-part.found inv.next b inv.view after inv.beyond)
-          c.in-Err.ensures.err.0 (omega (arith, to.below, is)) (λ k l. inv.beyond k (omega (arith, after, l)));
+          c.in-Err.ensures.err.0 to.below (λ k l. inv.beyond k (omega (arith, after, l)));
     }
 
 pub returns-in-Err-clause-err : goal.returns-in-Err-clause-err
 returns-in-Err-clause-err c =
     let inv = c.loop-part.invariant in
     let cs = c.args.batch.now in
-    let b : ℕ = c.from-b.result in
-    let is : b ≡ c.in-Some.part = c.from-b.ensures ∙ c.get.ensures.value in
+    let b : ℕ = c.in-Some.part in
     let to = next_ahead (footprint_of_all cs) inv.next c.in-Some.part c.loop-part.part-iterator c.next.new.self inv.ahead c.in-Some.ensures.steps in
-    let after : inv.next ≤ b = omega (arith, to.after, is) in
+    let after = to.after in
     let init = c.args.seat.now.me.0 in
     let found = c.loop-part.found in
     let view = passed_parts init c.loop-part.seat.me.0 found inv.next b inv.view after inv.beyond in
     let known =
     known_through init c.loop-part.seat.me.0 (notes_below found b) c.in-Err.holder view c.in-Err.ensures.err.1
     c.in-Err.ensures.err.2 in
-    let so_far = passed_so_far cs found inv.next b inv.so_far inv.beyond (λ k l m. to.between k l (omega (arith, m, is))) in
+    let so_far = passed_so_far cs found inv.next b inv.so_far inv.beyond to.between in
     let refused : IsRefused cs b c.in-Err.holder init c.give_all.new.seat.me.0 = (
       notes_below found b,
       refused_view init c.loop-part.seat.me.0 c.take_slot.new.seat.me.0 c.give_all.new.seat.me.0 found b
           c.in-Err.holder view c.in-Err.ensures.err.0 (λ i. (c.give_all.ensures.gave i).0),
       (λ p y h. noted_touched cs found b p y so_far h),
-      ap (footprint_of_all cs) is ∙ to.passes,
-      omega (arith, to.below, is),
+      to.passes,
+      to.below,
       known.0,
       known.1,
     ) in (
       (λ i. (c.give_all.ensures.gave i).1),
-      subst (λ (p : ℕ). IsRefused cs p c.in-Err.holder init c.give_all.new.seat.me.0) is refused,
+      refused,
     )
 
 pub loop-part-preserved : goal.loop-part-preserved
 loop-part-preserved c =
     let inv = c.loop-part.invariant in
     let cs = c.args.batch.now in
-    let part : ℕ = c.in-Some.part in
-    let b : ℕ = c.from-b.result in
-    let is : b ≡ part = c.from-b.ensures ∙ c.get.ensures.value in
-    let to : IsNext (footprint_of_all cs) inv.next part c.next.new.self =
-    next_ahead (footprint_of_all cs) inv.next part c.loop-part.part-iterator c.next.new.self inv.ahead c.in-Some.ensures.steps in
-    let up : part + 1 ≡ suc b = omega arith in
-    let after : inv.next ≤ b = omega (arith, to.after) in
-    let touched : footprint_of_all cs b ≡ true = ap (footprint_of_all cs) is ∙ to.passes in
+    let b : ℕ = c.in-Some.part in
+    let to : IsNext (footprint_of_all cs) inv.next b c.next.new.self =
+    next_ahead (footprint_of_all cs) inv.next b c.loop-part.part-iterator c.next.new.self inv.ahead c.in-Some.ensures.steps in
+    let up : b + 1 ≡ suc b = omega arith in
+    let after = to.after in
     let found = c.loop-part.found in
     let new = c.put_at.new.slots in
     let pointer = c.in-Ok.pointer in
     let put : new ≡ set found b (Some pointer) = c.put_at.ensures in
-    let wide : b < length found = omega (arith, inv.long, to.below, is) in
+    let wide : b < length found = omega (arith, inv.long, to.below) in
     record {
-      next = part + 1;
+      next = b + 1;
       ahead = to.ahead;
       same = (c.take_slot.ensures.same.0 ∙ inv.same.0, c.take_slot.ensures.same.1 ∙ inv.same.1);
       carried = c.take_slot.ensures.carried;
-      view = took_part c.args.seat.now.me.0 c.loop-part.seat.me.0 c.take_slot.new.seat.me.0 found new b (part + 1) pointer
+      view = took_part c.args.seat.now.me.0 c.loop-part.seat.me.0 c.take_slot.new.seat.me.0 found new b (b + 1) pointer
           (passed_parts c.args.seat.now.me.0 c.loop-part.seat.me.0 found inv.next b inv.view after inv.beyond) up
           c.in-Ok.ensures.ok.0 put wide;
       long = ap (λ (l : List (Option Pointer)). length l) put ∙ length-set found b (Some pointer) ∙ inv.long;
-      so_far = touched_so_far cs found new b (part + 1) pointer
-          (passed_so_far cs found inv.next b inv.so_far inv.beyond (λ k l m. to.between k l (omega (arith, m, is))))
-          up touched put wide;
-      beyond = still_beyond found new b (part + 1) pointer (λ k l. inv.beyond k (omega (arith, after, l))) up put;
+      so_far = touched_so_far cs found new b (b + 1) pointer
+          (passed_so_far cs found inv.next b inv.so_far inv.beyond to.between)
+          up to.passes put wide;
+      beyond = still_beyond found new b (b + 1) pointer (λ k l. inv.beyond k (omega (arith, after, l))) up put;
       own = own_set found new b pointer inv.own put wide c.in-Ok.ensures.ok.1;
     }
 

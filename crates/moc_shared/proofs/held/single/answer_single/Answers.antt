@@ -19,15 +19,15 @@ pub end_single-requires-clause-answered : goal.end_single-requires-clause-answer
 end_single-requires-clause-answered c =
     let local = local_batch (c.args.command.now ∷ []) c.batches_are_local.ensures (omega arith) (c.requires.single.proper, tt) in
     subst (λ (l : List PartNote). Answers part answer IsProper (c.args.command.now ∷ []) (c.in-Ok.reply ∷ []) l
-    (note c.args.b (Some (arc_value c.answer_in.new.pointer)) ∷ [])) (sym c.requires.held.held)
-    (answers_alone c.args.command.now c.args.b c.requires.single.met (arc_value c.args.pointer)
+    (note c.args.part (Some (arc_value c.answer_in.new.pointer)) ∷ [])) (sym c.requires.held.held)
+    (answers_alone c.args.command.now c.args.part c.requires.single.met (arc_value c.args.pointer)
     (arc_value c.answer_in.new.pointer) c.in-Ok.reply local c.in-Ok.ensures.set c.in-Ok.ensures.reply)
 
 pub give_part-requires-clause-held : goal.give_part-requires-clause-held
 give_part-requires-clause-held c = (
   [],
-  c.requires.held.held ∙ (λ i. note c.args.b (Some (sym c.in-Err.ensures.unchanged i)) ∷ []),
-  λ y h. none_in (note c.args.b y) h,
+  c.requires.held.held ∙ (λ i. note c.args.part (Some (sym c.in-Err.ensures.unchanged i)) ∷ []),
+  λ y h. none_in (note c.args.part y) h,
 )
 
 pub returns-in-Err-clause-idle : goal.returns-in-Err-clause-idle

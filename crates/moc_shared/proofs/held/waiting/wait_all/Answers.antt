@@ -1,5 +1,5 @@
-use Rattle.std.proofs.Common.{rules, ◌≡◌, ℕ, suc, ◌+◌, ◌<◌, ◌≤◌, List, [], refl, sym, ap, ◌∙◌, subst, arith, Contains, map}
-use Rattle.std.proofs.Common.{set, length, length-set, Option, Some, true}
+use Rattle.std.proofs.Common.{rules, ◌≡◌, ℕ, suc, ◌+◌, ◌<◌, List, [], refl, sym, ap, ◌∙◌, subst, arith, Contains, map}
+use Rattle.std.proofs.Common.{set, length, length-set, Option, Some}
 use Rattle.moc_parts.specs.Batches.{footprint_of_all}
 use Rattle.moc_parts.specs.Lemmas.{IsNext, all_ahead, next_ahead, none_ahead}
 use Rattle.moc_shared.specs.Seats.{index, note, Pointer, Sight}
@@ -33,47 +33,43 @@ loop-part-init g c = record {
 pub wait_slot-requires-clause-other : goal.wait_slot-requires-clause-other
 wait_slot-requires-clause-other g c =
     let inv = c.loop-part.invariant in
-    let b : ℕ = c.from-b.result in
-    let is : b ≡ c.in-Some.part = c.from-b.ensures ∙ c.get.ensures.value in
+    let b : ℕ = c.in-Some.part in
     let to = next_ahead (footprint_of_all c.args.batch.now) inv.next c.in-Some.part c.loop-part.part-iterator c.next.new.self inv.ahead c.in-Some.ensures.steps in
     let v = inv.view in
     λ y h. not_below c.loop-part.found b y
     (subst (λ (v : Sight). Contains v.holds (note b y))
-    (passed_parts (with_misses c.args.seat.now.me.0 v.0) c.loop-part.seat.me.0 c.loop-part.found inv.next b v.1 (omega (arith, to.after, is)) inv.beyond) h)
+    (passed_parts (with_misses c.args.seat.now.me.0 v.0) c.loop-part.seat.me.0 c.loop-part.found inv.next b v.1 to.after inv.beyond) h)
 
 pub loop-part-preserved : goal.loop-part-preserved
 loop-part-preserved g c =
     let inv = c.loop-part.invariant in
     let cs = c.args.batch.now in
-    let part : ℕ = c.in-Some.part in
-    let b : ℕ = c.from-b.result in
-    let is : b ≡ part = c.from-b.ensures ∙ c.get.ensures.value in
-    let to : IsNext (footprint_of_all cs) inv.next part c.next.new.self =
-    next_ahead (footprint_of_all cs) inv.next part c.loop-part.part-iterator c.next.new.self inv.ahead c.in-Some.ensures.steps in
-    let up : part + 1 ≡ suc b = omega arith in
-    let after : inv.next ≤ b = omega (arith, to.after) in
-    let touched : footprint_of_all cs b ≡ true = ap (footprint_of_all cs) is ∙ to.passes in
+    let b : ℕ = c.in-Some.part in
+    let to : IsNext (footprint_of_all cs) inv.next b c.next.new.self =
+    next_ahead (footprint_of_all cs) inv.next b c.loop-part.part-iterator c.next.new.self inv.ahead c.in-Some.ensures.steps in
+    let up : b + 1 ≡ suc b = omega arith in
+    let after = to.after in
     let init = c.args.seat.now.me.0 in
     let v = inv.view in
     let found = c.loop-part.found in
     let new = c.put_at.new.slots in
     let put : new ≡ set found b (Some c.wait_slot.result) = c.put_at.ensures in
-    let wide : b < length found = omega (arith, inv.long, to.below, is) in
+    let wide : b < length found = omega (arith, inv.long, to.below) in
     let t = c.wait_slot.ensures.took in
     record {
-      next = part + 1;
+      next = b + 1;
       ahead = to.ahead;
       same = (c.wait_slot.ensures.same.0 ∙ inv.same.0, c.wait_slot.ensures.same.1 ∙ inv.same.1);
       carried = c.wait_slot.ensures.carried;
-      view = took_after cs init c.loop-part.seat.me.0 c.wait_slot.new.seat.me.0 found new b (part + 1)
+      view = took_after cs init c.loop-part.seat.me.0 c.wait_slot.new.seat.me.0 found new b (b + 1)
           c.wait_slot.result v.0 t.0
           (passed_parts (with_misses init v.0) c.loop-part.seat.me.0 found inv.next b v.1 after inv.beyond) v.2
-          t.1 t.2 touched up put wide;
+          t.1 t.2 to.passes up put wide;
       long = ap (λ (l : List (Option Pointer)). length l) put ∙ length-set found b (Some c.wait_slot.result) ∙ inv.long;
-      so_far = touched_so_far cs found new b (part + 1) c.wait_slot.result
-          (passed_so_far cs found inv.next b inv.so_far inv.beyond (λ k l m. to.between k l (omega (arith, m, is))))
-          up touched put wide;
-      beyond = still_beyond found new b (part + 1) c.wait_slot.result (λ k l. inv.beyond k (omega (arith, after, l))) up put;
+      so_far = touched_so_far cs found new b (b + 1) c.wait_slot.result
+          (passed_so_far cs found inv.next b inv.so_far inv.beyond to.between)
+          up to.passes put wide;
+      beyond = still_beyond found new b (b + 1) c.wait_slot.result (λ k l. inv.beyond k (omega (arith, after, l))) up put;
       own = own_set found new b c.wait_slot.result inv.own put wide c.wait_slot.ensures.own;
     }
 

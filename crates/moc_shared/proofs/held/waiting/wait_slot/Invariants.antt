@@ -9,5 +9,5 @@ invariant-loop g l = record {
   same : (l.seat.table_id ≡ l.initial.seat.table_id) × (l.seat.id ≡ l.initial.seat.id);
   carried : IsCarried l.seat.me;
   view : (waits : List (ℕ × ℕ)) × (l.seat.me.0 ≡ with_misses l.initial.seat.me.0 waits)
-      × AreWaits (just l.b) l.initial.seat.me.0 waits;
+      × AreWaits (just l.part) l.initial.seat.me.0 waits;
 }

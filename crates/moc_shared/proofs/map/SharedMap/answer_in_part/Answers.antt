@@ -2,7 +2,6 @@ use Rattle.std.proofs.Common.{ℕ, List, [], ◌∷◌, map, Option, refl, ap, s
 use Rattle.std.proofs.lemmas.Result.{IfOk-weaker, on_err_weaker}
 use Rattle.std.specs.Arc.{arc_value}
 use Rattle.moc_shared.specs.Seats.{index, note, Pointer}
-use Rattle.moc_shared.specs.Private.Held.{TakesJust}
 use Rattle.moc_shared.specs.Private.Rule.{noted_parts}
 use Rattle.moc_shared.specs.Private.Seats.{PartNote, shared}
 use Rattle.moc_shared.specs.Private.Plays.{with_misses}
@@ -17,41 +16,37 @@ wait_slot-pointer-requires-clause-carried g c = ap (λ (l : List (ℕ × Option 
 
 pub wait_slot-pointer-requires-clause-other : goal.wait_slot-pointer-requires-clause-other
 wait_slot-pointer-requires-clause-other g c =
-    λ y h. none_in (note c.from-b.result y) (subst (λ (l : List PartNote). Contains l (note c.from-b.result y)) c.requires.map.no_part h)
+    λ y h. none_in (note c.args.part y) (subst (λ (l : List PartNote). Contains l (note c.args.part y)) c.requires.map.no_part h)
 
 pub answer_single-requires-clause-held : goal.answer_single-requires-clause-held
 answer_single-requires-clause-held g c =
     let t = c.wait_slot-pointer.ensures.took in
     let v = with_misses c.args.client.now.seat.me.0 t.0 in
-    holds_alone c.args.client.now.seat.me.0 c.wait_slot-pointer.new.seat.me c.from-b.result (arc_value c.wait_slot-pointer.result) t.0
-    c.requires.map.one (one_held v c.wait_slot-pointer.new.seat.me.0 c.from-b.result (shared c.wait_slot-pointer.result) c.requires.map.no_part t.1)
+    holds_alone c.args.client.now.seat.me.0 c.wait_slot-pointer.new.seat.me c.args.part (arc_value c.wait_slot-pointer.result) t.0
+    c.requires.map.one (one_held v c.wait_slot-pointer.new.seat.me.0 c.args.part (shared c.wait_slot-pointer.result) c.requires.map.no_part t.1)
     c.wait_slot-pointer.ensures.carried
-
-pub answer_single-requires-clause-single : goal.answer_single-requires-clause-single
-answer_single-requires-clause-single g c = subst (λ (b : ℕ). TakesJust c.args.command.now b) (sym (c.from-b.ensures ∙ c.get.ensures.value)) c.requires.single
 
 pub returns : goal.returns
 returns g c =
     let t = c.wait_slot-pointer.ensures.took in
-    let b : ℕ = c.from-b.result in
+    let part = c.args.part in
     let found = shared c.wait_slot-pointer.result in
     let old = c.args.client.now.seat.me.0 in
     let mid = c.wait_slot-pointer.new.seat.me.0 in
     let new = c.answer_single.new.seat.me.0 in
-    let held = one_held (with_misses old t.0) mid b found c.requires.map.no_part t.1 in
-    let takes : TakesJust c.args.command.now b = subst (λ (b : ℕ). TakesJust c.args.command.now b) (sym (c.from-b.ensures ∙ c.get.ensures.value)) c.requires.single in
+    let held = one_held (with_misses old t.0) mid part found c.requires.map.no_part t.1 in
     record {
       map = idle_after c.args.self.now c.args.client.now record { number = c.args.client.now.number; seat = c.answer_single.new.seat } c.requires.map
-          (stays_alone old mid new b found t.0 held
+          (stays_alone old mid new part found t.0 held
           (stays_answered (c.args.command.now ∷ []) mid new c.answer_single.result c.answer_single.ensures.ok c.answer_single.ensures.err))
           refl (c.answer_single.ensures.same.0 ∙ c.wait_slot-pointer.ensures.same.0 ∙ c.requires.map.table)
           c.answer_single.ensures.idle;
       number = refl;
       ok = IfOk-weaker c.answer_single.result _ _
-          (λ reply told. ended_alone c.args.command.now b takes.met c.args.self.now reply c.args.client.now.number old mid new found t.0
+          (λ reply told. ended_alone c.args.command.now part c.requires.single.met c.args.self.now reply c.args.client.now.number old mid new found t.0
           c.requires.map.start c.requires.map.clients c.requires.map.number held t.2 told)
           c.answer_single.ensures.ok;
       err = on_err_weaker c.answer_single.result
-          (λ gave. undone_alone c.args.command.now b takes.met c.args.self.now old mid new found t.0 c.requires.map.clients held t.2 gave)
+          (λ gave. undone_alone c.args.command.now part c.requires.single.met c.args.self.now old mid new found t.0 c.requires.map.clients held t.2 gave)
           c.answer_single.ensures.err;
     }

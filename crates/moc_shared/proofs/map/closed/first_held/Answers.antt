@@ -1,4 +1,4 @@
-use Rattle.std.proofs.Common.{◌≡◌, sym, ap, ◌∙◌, arith}
+use Rattle.std.proofs.Common.{sym, ap, ◌∙◌}
 use Rattle.std.specs.Prelude.{slice_index}
 use Rattle.moc_shared.specs.Seats.{index}
 use Rattle.std.specs.Slots.{slots_items}
@@ -8,16 +8,15 @@ use Rattle.moc_shared.proofs.map.closed.first_held.Goals as goal
 
 pub loop-part-preserved : goal.loop-part-preserved
 loop-part-preserved c =
-    let is : c.from.result ≡ c.loop-part.part-index =
-    c.from.ensures ∙ c.get.ensures.value ∙ all_parts c.loop-part.part-index c.part-item.result c.loop-part-test.true in
+    let is = all_parts c.loop-part.part-index c.part-item.result c.loop-part-test.true in
     one_word_more (slots_items c.args.closed.now.words) c.loop-part.part-index c.index.result c.word.result
-    (c.index.ensures ∙ ap index is) c.loop-part.invariant c.word.ensures c.if-word-ne0.false
+    (c.index.ensures.place ∙ ap index is) c.loop-part.invariant c.word.ensures c.if-word-ne0.false
 
 pub returns-then-word-ne0-clause-some : goal.returns-then-word-ne0-clause-some
 returns-then-word-ne0-clause-some c =
     let words = slots_items c.args.closed.now.words in (
-      omega (arith, all_parts c.loop-part.part-index c.part-item.result c.loop-part-test.true, c.loop-part-test.true),
+      c.index.ensures.in_range,
       λ z. c.if-word-ne0.true
           (sym (read_at words c.index.result c.word.result c.word.ensures)
-          ∙ ap (slice_index words) (c.index.ensures ∙ ap index (c.from.ensures ∙ c.get.ensures.value)) ∙ z),
+          ∙ ap (slice_index words) c.index.ensures.place ∙ z),
     )

@@ -16,9 +16,9 @@ loop-k-preserved c =
     ] in
     let read : AreRead items c.match-part_at.slots (k + 1) = elim c.match-part_at.branch [
       | in-Some w ↦
-          let at : index w.in-Some.b ≡ k = w.in-Some.ensures.some in
-          let l : w.in-Some.b < 12 = omega (arith, at, c.loop-k-test.true) in
-          one_slot_more items c.loop-k.slots c.match-part_at.slots w.in-Some.b k c.take-slot.result at inv.wide l
+          let at : index w.in-Some.part ≡ k = w.in-Some.ensures.some in
+          let l : w.in-Some.part < 12 = omega (arith, at, c.loop-k-test.true) in
+          one_slot_more items c.loop-k.slots c.match-part_at.slots w.in-Some.part k c.take-slot.result at inv.wide l
           (search rules) (search rules) inv.read
       | in-None w ↦ subst (λ s. AreRead items s (k + 1)) (search rules)
           (no_slot_more items c.loop-k.slots k w.in-None.ensures.none inv.read)

@@ -10,8 +10,8 @@ loop-k-preserved c =
     let k = c.loop-k.k in
     let stands : (b : ℕ) → index b ≡ k → content c.match-part_at.slot ≡ part b c.args.start.now = elim c.match-part_at.branch [
       | in-Some+in_ok-part-in-Some+in_ok-share-in-Some w ↦ λ b at. ap content w.slot-is
-          ∙ part_shared w.in_ok-share-in-Some.field-0 c.args.start.now w.in-Some.b (w.in_ok-share-in-Some.ensures ∙ w.in_ok-part-in-Some.ensures.part)
-          ∙ ap (λ (j : ℕ). part j c.args.start.now) (omega (arith, w.in-Some.ensures.some, at))
+          ∙ part_shared w.in_ok-share-in-Some.field-0 c.args.start.now w.get.result (w.in_ok-share-in-Some.ensures ∙ w.in_ok-part-in-Some.ensures.part)
+          ∙ ap (λ (j : ℕ). part j c.args.start.now) (omega (arith, w.get.ensures.value, w.in-Some.ensures.some, at))
       | in-None w ↦ λ b at. absurd (w.in-None.ensures.none b at)
     ] in
     one_slot c.args.start.now c.loop-k.slots.items c.push.new.self.items k c.match-part_at.slot c.in_ok-push.ensures.items

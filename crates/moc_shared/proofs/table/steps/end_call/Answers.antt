@@ -15,16 +15,16 @@ exchange-requires g c = (
   c.requires.place.0,
   first_carried c.args.seat.now.me.1 c.index-index.result _
       (c.requires.carried ∙ ap (λ (l : List ℕ). map index l) c.requires.held.0
-      ∙ (λ i. sym c.index-index.ensures i ∷ map index (noted_parts (notes_below c.args.rest.now 12)))),
+      ∙ (λ i. sym c.index-index.ensures.place i ∷ map index (noted_parts (notes_below c.args.rest.now 12)))),
 )
 
 pub store-requires : goal.store-requires
 store-requires g c = let h = c.requires.held in let v = c.args.seat.now.me.0 in (
   search rules,
-  (let i = c.index-index.ensures in let w = c.requires.place.1 in omega arith),
+  omega (arith, c.index-index.ensures.place, c.index-index.ensures.in_range, c.requires.place.1),
   ends_call_as 12 content part answer IsProper _ _ _ _ _ v _ _ (Some c.args.new) _
       (call_by v.mine.number c.args.batch.now (replies_to c.args.found.now c.args.batch.now)) g.C.Closing.call
-      (notes_below c.args.rest.now 12) g.C.Closing.notes c.index-index.ensures c.requires.call.0 c.requires.call.1
+      (notes_below c.args.rest.now 12) g.C.Closing.notes c.index-index.ensures.place c.requires.call.0 c.requires.call.1
       c.exchange.ensures.3 c.requires.client refl h.0 h.1 c.requires.answered,
 )
 
@@ -34,5 +34,5 @@ returns g c = let h = c.requires.held in let v = c.args.seat.now.me.0 in
     c.store.new.seat.me v (Some c.args.new) _
     (call_by v.mine.number c.args.batch.now (replies_to c.args.found.now c.args.batch.now)) g.C.Closing.call
     (notes_below c.args.rest.now 12) g.C.Closing.notes c.requires.call.0 c.requires.call.1 c.exchange.ensures.3
-    (rest_parts c.args.seat.now.me.1 (index c.args.b) _ (c.requires.carried ∙ ap (λ (l : List ℕ). map index l) h.0)) c.store.ensures.2 in
+    (rest_parts c.args.seat.now.me.1 (index c.args.part) _ (c.requires.carried ∙ ap (λ (l : List ℕ). map index l) h.0)) c.store.ensures.2 in
     record { same = search rules; carried = t.0; ended = t.1 }

@@ -15,17 +15,17 @@ exchange-requires g c = (
   c.requires.place.0,
   first_carried c.args.seat.now.me.1 c.index-index.result _
       (c.requires.carried ∙ ap (λ (l : List ℕ). map index l) c.requires.held
-      ∙ (λ i. sym c.index-index.ensures i ∷ [])),
+      ∙ (λ i. sym c.index-index.ensures.place i ∷ [])),
 )
 
 pub store-requires : goal.store-requires
 store-requires g c = let v = c.args.seat.now.me.0 in (
   search rules,
-  (let i = c.index-index.ensures in let w = c.requires.place.1 in omega arith),
+  omega (arith, c.index-index.ensures.place, c.index-index.ensures.in_range, c.requires.place.1),
   ends_call_as 12 content part answer IsProper _ _ _ _ _ v _ _ (Some c.args.new) _
       (call_by v.mine.number (c.args.command.now ∷ []) (c.args.reply.now ∷ [])) g.C.Closing.call
-      [] g.C.Closing.notes c.index-index.ensures c.requires.call.0 c.requires.call.1
-      c.exchange.ensures.3 c.requires.client refl c.requires.held (λ h. none_in c.args.b h) c.requires.answered,
+      [] g.C.Closing.notes c.index-index.ensures.place c.requires.call.0 c.requires.call.1
+      c.exchange.ensures.3 c.requires.client refl c.requires.held (λ h. none_in c.args.part h) c.requires.answered,
 )
 
 pub returns : goal.returns
@@ -34,7 +34,7 @@ returns g c = let v = c.args.seat.now.me.0 in
     c.store.new.seat.me v (Some c.args.new) _
     (call_by v.mine.number (c.args.command.now ∷ []) (c.args.reply.now ∷ [])) g.C.Closing.call
     [] g.C.Closing.notes c.requires.call.0 c.requires.call.1 c.exchange.ensures.3
-    (rest_parts c.args.seat.now.me.1 (index c.args.b) _ (c.requires.carried ∙ ap (λ (l : List ℕ). map index l) c.requires.held)) c.store.ensures.2 in
+    (rest_parts c.args.seat.now.me.1 (index c.args.part) _ (c.requires.carried ∙ ap (λ (l : List ℕ). map index l) c.requires.held)) c.store.ensures.2 in
     record {
       same = search rules;
       idle = none_carried c.store.new.seat.me.1 (t.0 ∙ ap (λ (u : Sight). map index (noted_parts u.holds)) t.1.1);

@@ -14,15 +14,15 @@ exchange-requires c = let h = c.requires.held in (
   c.requires.place.0,
   first_carried c.args.seat.now.me.1 c.index-index.result (map index (noted_parts h.0))
       (c.requires.carried ∙ ap (λ (l : List PartNote). map index (noted_parts l)) h.1
-      ∙ (λ i. sym c.index-index.ensures i ∷ map index (noted_parts h.0))),
+      ∙ (λ i. sym c.index-index.ensures.place i ∷ map index (noted_parts h.0))),
 )
 
 pub store-requires : goal.store-requires
 store-requires c = let h = c.requires.held in let x = c.exchange.ensures in (
   search rules,
-  (let i = c.index-index.ensures in let w = c.requires.place.1 in omega arith),
+  omega (arith, c.index-index.ensures.place, c.index-index.ensures.in_range, c.requires.place.1),
   gives_part_as 12 content part answer IsProper _ _ _ _ _ c.args.seat.now.me.0 _ _ (Some c.args.new) _ h.0
-      c.index-index.ensures x.3
+      c.index-index.ensures.place x.3
       c.requires.client h.1 h.2,
 )
 

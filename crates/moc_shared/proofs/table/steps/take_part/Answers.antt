@@ -7,10 +7,10 @@ use Rattle.moc_shared.proofs.table.steps.take_part.Goals as goal
 pub compare_exchange-requires : goal.compare_exchange-requires
 compare_exchange-requires c = (
   search rules,
-  (let i = c.index.ensures in let w = c.requires.place.1 in omega arith),
-  takes_part 12 content part answer IsProper _ _ _ _ _ _ _ _ c.index.ensures c.requires.part
+  omega (arith, c.index.ensures.place, c.index.ensures.in_range, c.requires.place.1),
+  takes_part 12 content part answer IsProper _ _ _ _ _ _ _ _ c.index.ensures.place c.index.ensures.in_range
       c.requires.client.0 c.requires.client.1 c.requires.other,
 )
 
 pub returns-clause-took : goal.returns-clause-took
-returns-clause-took c = c.compare_exchange.ensures.2 c.args.b c.index.ensures
+returns-clause-took c = c.compare_exchange.ensures.2 c.args.part c.index.ensures.place

@@ -12,7 +12,7 @@ unreachable-requires c =
     let same : t.0 ≡ c.exchange.result =
     taken_out c.take_part-found.new.seat.me.1 _ _ t.0 c.exchange.result _ _ (λ i. (t.3 i).1)
     c.exchange.ensures.2 in
-    never_out c.exchange.result c.args.b t.1 (ap content (sym same) ∙ t.2) c.in_default.is
+    never_out c.exchange.result c.args.part t.1 (ap content (sym same) ∙ t.2) c.in_default.is
 
 pub overflow_cast-result : goal.overflow_cast-result
 overflow_cast-result c =
@@ -30,8 +30,8 @@ returns-in-Some-clause-ok c =
     c.exchange.ensures.2 in
     let is : content t.0 ≡ content (Some c.in-Some.pointer) = ap content (same ∙ c.in-Some.is) in (
       (λ i. (c.exchange.ensures.3 i).0) ∙ (λ i. (t.3 i).0)
-          ∙ ap (λ (y : Option _). with_part c.args.seat.now.me.0 c.args.b y) is,
-      own_part c.in-Some.pointer c.args.b t.1
+          ∙ ap (λ (y : Option _). with_part c.args.seat.now.me.0 c.args.part y) is,
+      own_part c.in-Some.pointer c.args.part t.1
           (sym is ∙ t.2),
     )
 
