@@ -3,7 +3,8 @@
 
 - The programs beside the gate, `always_refused.py` and `plants.py`, put wrong lines in place of right ones: each right one has to stand
   in its source, so that they can be run whenever one likes.
-- No line of a page is longer than 140 columns, but for the rows of tables.
+- No line of a page is longer than 140 columns, but for the rows of tables, of which no cell is longer than 120.
+- Each line of README's program stands in the first example, which the gate proves and runs.
 
 usage: tests/texts.py
 
@@ -18,8 +19,8 @@ sys.path.insert(0, os.path.join(TOP, "tests"))
 import always_refused  # noqa: E402
 import plants  # noqa: E402
 
-# The most columns of a line of a page.
-MOST_COLUMNS = 140
+# The most columns of a line of a page, and of a cell of a table.
+MOST_COLUMNS, MOST_OF_CELL = 140, 120
 PAGES = ("README.md", "docs/*.md", "bench/*.md", "crates/*/CALLING.md", "python/*.md")
 
 
@@ -49,9 +50,37 @@ def pages():
         yield f"{os.path.relpath(path, TOP)}: no line is longer than {MOST_COLUMNS} columns, but {long}", not long
 
 
+def cells(line):
+    """The cells of a row of a table."""
+    return [cell.strip() for cell in re.split(r"(?<!\\)\|", line)[1:-1]]
+
+
+def tables():
+    """Each page, and whether the cells of its tables are short."""
+    for path in sorted(page for pages in PAGES for page in glob.glob(os.path.join(TOP, pages))):
+        with open(path, encoding="utf-8") as page:
+            long = [number for number, line in enumerate(page, 1)
+                    if line.startswith("|") and any(len(cell) > MOST_OF_CELL for cell in cells(line))]
+        yield f"{os.path.relpath(path, TOP)}: no cell is longer than {MOST_OF_CELL} columns, but in {long}", not long
+
+
+def bare(code):
+    """Code without its comments, blanks and borrows, and without the comma that a layout over several lines puts last."""
+    return re.sub(r"[\s&]", "", re.sub(r"//.*", "", code)).replace(",)", ")")
+
+
+def shown_lines():
+    """Each line of README's program, and whether it stands in the first example."""
+    example = bare(source("example_library", "src/main.rt"))
+    with open(os.path.join(TOP, "README.md"), encoding="utf-8") as page:
+        (program,) = re.findall(r"^```rust\n(.*?)^```$", page.read(), re.DOTALL | re.MULTILINE)
+    for line in filter(bare, program.splitlines()):
+        yield f"README.md: {line.strip()} stands in the first example", bare(line) in example
+
+
 def main():
     passed = failed = 0
-    for what, is_so in (*planted_calls(), *planted_lines(), *pages()):
+    for what, is_so in (*planted_calls(), *planted_lines(), *pages(), *tables(), *shown_lines()):
         passed, failed = passed + is_so, failed + (not is_so)
         if not is_so:
             print(f"not so: {what}")

@@ -1,8 +1,9 @@
-//! A first program over the library: it reads texts, compares and counts sets, grows one by neighbours, asks a map, and
-//! writes. No proof file stands beside it.
+//! A first program over the library: it reads texts, compares, counts and measures sets, grows one by neighbours, asks a
+//! map, and writes. No proof file stands beside it.
 #![tactic(auto)]
 
 use anyhow::Result;
+use moc_forms::Figures;
 use moc_parts::{Command, Map, Operand, Reply};
 use moc_ranges::{Coverage, CoverageBuilder, Memory, PIXEL_COUNT};
 use moc_sphere::{Cell, Direction, Order};
@@ -29,6 +30,27 @@ fn north_east(rt: &HostRuntime, cell: Cell) -> Result<()> {
     }
     if let Some(base) = cell.ancestor(Order::default()) {
         println!(rt; "in cell {} of order {}", base.index(), base.order())?;
+    }
+    Ok(())
+}
+
+/// A cell by its nside and a number, and what a set of two of its children needs and shows.
+fn family(rt: &HostRuntime) -> Result<()> {
+    let alloc = rt.alloc();
+    let cell = Cell::new(Order::from_nside(8)?, 10)?;
+    println!(rt;
+        "{cell}: nside {}, base pixel {}",
+        cell.order().nside(),
+        cell.base_pixel()
+    )?;
+    if let Some([first, second, _, _]) = cell.children() {
+        let both = Coverage::from_cells(alloc, &[first, second])?;
+        println!(rt;
+            "{first} {second}: order {}, ranges {}",
+            both.deepest_order(),
+            both.range_count()
+        )?;
+        print!(rt; "{}", Figures::of(alloc, &both, None)?)?;
     }
     Ok(())
 }
@@ -70,6 +92,7 @@ fn main(rt: HostRuntime) -> Result<()> {
     let grown = around(alloc, cell)?;
     println!(rt; "{}", write_json(alloc, &grown, None)?.as_str())?;
     north_east(&rt, cell)?;
+    family(&rt)?;
     if let Err(error) = read_ascii(alloc, b"1/1-2 4 2/12-14x") {
         println!(rt; "{error}, so at {:?}", error.place())?;
     }

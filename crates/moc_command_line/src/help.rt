@@ -41,11 +41,9 @@ Pixels are cells of order 29. A coverage is written as in the ASCII form of
 MOC 2.0, as 3/10 12-15 4/2.
 
 Example:
-  printf 'add 0/0 2\\ncount 1/0-7\\nread 0/2-3\\n' | moc run
+  echo '0/0;1/3' | moc combine difference ascii
 prints
-  changed 576460752303423488
-  total 288230376151711744
-  cover 0/2";
+  1/0-2";
 
 /// What the help of a word tells below the usage.
 #[derive(Clone, Copy)]
@@ -133,6 +131,20 @@ A step that is not permitted is answered `refused` with the cause, a bad line
 `fault` with the fault's name, and neither changes anything. Behind the last
 line come `order`, with the lines that began the batches in the order in which
 they stand, and the coverage, or how many clients are midway.
+
+Why a step is refused:
+  NotIdle, Idle   the client has a batch; it has none
+  PartHeld        another client has the next part
+  AllTaken        the client has taken all parts of its batch
+  NotAllTaken     it has not yet
+  NotHeld         it does not have the part
+  AlreadyEdited   it has changed the part
+  NotEdited       it has not yet, and does not quit
+  BegunEditing    it has changed a part, so that it cannot quit
+  Quitting        it has quit: it can only give and end
+  StillHolding    it has a part yet
+  NothingDone     it has taken no part, and not quit
+  TooMany         2^64 - 1 batches have begun
 
 Example:
   printf 'begin 1 add 0/3\\ntake 1\\nedit 1 3\\ngive 1 3\\nend 1\\n' | moc play

@@ -1,4 +1,4 @@
-//! The words of the command line, over memory and over devices that fail.
+//! The words of the command line, and the calls for an input, over memory and over devices that fail.
 #![tactic(auto)]
 
 #[cfg(test)]
@@ -7,6 +7,8 @@ mod combining;
 mod ended;
 #[cfg(test)]
 mod failing;
+#[cfg(test)]
+mod inputs;
 #[cfg(test)]
 mod lines;
 #[cfg(test)]

@@ -64,6 +64,11 @@ pub fn expect_answers(
     expect_end(rt, &ended, Ok(()), answers, 1);
 }
 
+/// Checks what was read or written.
+pub fn has_text(rt: &impl Abort, seen: &[u8], text: &str) {
+    assert_eq!(rt; seen, text.as_bytes(), "{text:?}");
+}
+
 /// Whether a text stands at the front of a room, and nothing behind it.
 pub fn holds(room: &[u8], text: &[u8]) -> bool {
     let (front, rest) = room.split_at(text.len().min(room.len()));

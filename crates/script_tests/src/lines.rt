@@ -1,0 +1,191 @@
+//! The calls of `moc_lines` for a language of one's own: words and fields, commands, answers, and inputs that are read
+//! whole.
+use crate::between::has_text;
+use moc_lines::{
+    Commands, InputError, LINE_LIMIT, LineFault, OverReader, OverWriter, ReadError,
+    answer_all_lines, answer_text, is_blank_text, is_word, number_behind_last, number_in,
+    only_field, push_count, push_cover, push_fault, push_reply_line, read_all, read_batch,
+    read_commands, split_line, split_word, two_fields,
+};
+use moc_parts::{Map, Reply};
+use moc_ranges::Coverage;
+use moc_sphere::{Cell, Order};
+use std::alloc::Global;
+use std::process::Abort;
+
+#[test]
+fn words(rt: HostRuntime) {
+    for (text, word, behind) in [
+        (" \tadd 0/0", "add", " 0/0"),
+        ("take", "take", ""),
+        ("\r \t", "", ""),
+        ("", "", ""),
+    ] {
+        let (seen, rest) = split_word(text.as_bytes());
+        has_text(&rt, seen, word);
+        has_text(&rt, rest, behind);
+    }
+    for (text, word, is) in [("add", "add", true), ("adds", "add", false)] {
+        assert_eq!(rt; is_word(text.as_bytes(), word), is, "{text}");
+    }
+    for (text, is) in [(" \t\r", true), ("", true), (" x", false), ("\n", false)] {
+        assert_eq!(rt; is_blank_text(text.as_bytes()), is, "{text:?}");
+    }
+}
+
+#[test]
+fn numbers_of_fields(rt: HostRuntime) {
+    for (field, number) in [
+        ("0018", Some(18)),
+        ("18446744073709551615", Some(u64::MAX)),
+        ("99999999999999999999999", Some(u64::MAX)),
+        ("0000000000000000000000007", Some(7)),
+        ("", None),
+        ("+1", None),
+        ("1x", None),
+        ("1234567890123456789012345x", None),
+    ] {
+        assert_eq!(rt; number_in(field.as_bytes()), number, "{field}");
+    }
+}
+
+#[test]
+fn fields(rt: HostRuntime) {
+    has_text(&rt, only_field(b" 7\t").expect(&rt, "one field"), "7");
+    let (first, second) = two_fields(b"7 18 ").expect(&rt, "two fields");
+    has_text(&rt, first, "7");
+    has_text(&rt, second, "18");
+    for text in ["", " ", "7 8"] {
+        assert!(rt;
+            only_field(text.as_bytes()) == Err(ReadError::Fault(LineFault::WrongCount)),
+            "{text:?}"
+        );
+    }
+    for text in ["", "7", "7 8 9"] {
+        assert!(rt;
+            two_fields(text.as_bytes()) == Err(ReadError::Fault(LineFault::WrongCount)),
+            "{text:?}"
+        );
+    }
+}
+
+/// The answer to a line by a map of base pixels 0 and 1.
+fn answer(rt: &impl Abort, alloc: Global, line: &str) -> Vec<u8> {
+    let start = read_set(rt, alloc, 2);
+    let mut map = Map::new(alloc, start).expect(rt, "memory");
+    let batch = read_batch(alloc, line.as_bytes()).expect(rt, "a line of commands");
+    let replies = map.apply(alloc, &batch).expect(rt, "memory");
+    answer_text(alloc, &replies).expect(rt, "memory")
+}
+
+/// The first base pixels, so many of them.
+fn read_set(rt: &impl Abort, alloc: Global, base_pixels: u64) -> Coverage {
+    let mut cells = Vec::new(alloc);
+    for index in 0..base_pixels {
+        let cell = Cell::new(Order::default(), index).expect(rt, "a base pixel");
+        cells.push(cell).expect(rt, "memory");
+    }
+    Coverage::from_cells(alloc, &cells).expect(rt, "memory")
+}
+
+#[test]
+fn batches(rt: HostRuntime) {
+    for (line, told) in [
+        (
+            "add 0/2 ; count 0/0-3",
+            "changed 288230376151711744 ; total 864691128455135232\n",
+        ),
+        ("claim 0/1-2", "taken 288230376151711744\n"),
+        ("claim 0/5", "claimed\n"),
+        ("near 0 4", "near yes\n"),
+        ("near 0 10", "near no\n"),
+        ("read 0/1-7", "cover 0/1\n"),
+    ] {
+        has_text(&rt, &answer(&rt, rt.alloc(), line), told);
+    }
+    for (line, several) in [("invert", false), ("invert;invert", true)] {
+        let commands = read_commands(rt.alloc(), line.as_bytes()).expect(&rt, "commands");
+        assert_eq!(rt;
+            matches!(&commands, Commands::Several(_)),
+            several,
+            "{line}"
+        );
+    }
+    for (line, fault) in [
+        ("", LineFault::EmptyCommand),
+        ("add 0/0;", LineFault::EmptyCommand),
+        ("hop", LineFault::UnknownWord),
+        ("degrade 30", LineFault::OrderTooLarge),
+        ("near 0 12", LineFault::CellTooLarge),
+    ] {
+        let read = read_batch(rt.alloc(), line.as_bytes());
+        assert!(rt;
+            matches!(read, Err(ReadError::Fault(seen)) if seen == fault),
+            "{line}"
+        );
+    }
+}
+
+#[test]
+fn texts_of_answers(rt: HostRuntime) {
+    let alloc = rt.alloc();
+    let mut text = Vec::new(alloc);
+    let replies = [Reply::Changed(7), Reply::Near(true)];
+    push_reply_line(alloc, &replies, &mut text).expect(&rt, "memory");
+    push_count(b"midway ", 2, &mut text).expect(&rt, "memory");
+    push_fault(LineFault::WrongCount, &mut text).expect(&rt, "memory");
+    push_cover(alloc, &read_set(&rt, alloc, 0), &mut text).expect(&rt, "memory");
+    push_cover(alloc, &read_set(&rt, alloc, 3), &mut text).expect(&rt, "memory");
+    has_text(
+        &rt,
+        &text,
+        "changed 7 ; near yes\nmidway 2fault WrongCount\ncovercover 0/0-2",
+    );
+}
+
+#[test]
+fn whole_inputs(rt: HostRuntime) {
+    let text = b"add 0/0\n\nread 0/0";
+    let all = read_all(rt.alloc(), &mut OverReader::new(text.as_slice())).expect(&rt, "lines");
+    has_text(&rt, &all, "add 0/0\n\nread 0/0");
+    assert_eq!(rt; number_behind_last(&all), 4);
+    for (text, line, behind) in [("a\nb\n", "a", "b\n"), ("\n", "", ""), ("a", "a", "")] {
+        let (seen, rest) = split_line(text.as_bytes());
+        has_text(&rt, seen, line);
+        has_text(&rt, rest, behind);
+    }
+    for (text, number) in [("", 1), ("a", 2), ("a\n", 2), ("a\nb", 3)] {
+        assert_eq!(rt; number_behind_last(text.as_bytes()), number, "{text:?}");
+    }
+}
+
+#[test]
+fn a_line_too_long_is_numbered(rt: HostRuntime) {
+    let mut text = vec![in rt.alloc(); b'x'; LINE_LIMIT].expect(&rt, "memory");
+    text.insert(0, b'\n').expect(&rt, "memory");
+    let all = read_all(rt.alloc(), &mut OverReader::new(text.as_slice()));
+    assert!(rt; all.is_ok());
+    text.push(b'x').expect(&rt, "memory");
+    let all = read_all(rt.alloc(), &mut OverReader::new(text.as_slice()));
+    assert!(rt; matches!(all, Err(InputError::TooLong { line: 2 })));
+}
+
+#[test]
+fn a_map_answers_lines(rt: HostRuntime) {
+    let alloc = rt.alloc();
+    let mut map = Map::new(alloc, read_set(&rt, alloc, 1)).expect(&rt, "memory");
+    let mut written = Vec::new(alloc);
+    let script = b"read 0/0-1\n\nhop\ninvert";
+    answer_all_lines(
+        alloc,
+        &mut map,
+        &mut OverReader::new(script.as_slice()),
+        &mut OverWriter::new(&mut written),
+    )
+    .expect(&rt, "no fault");
+    has_text(
+        &rt,
+        &written,
+        "cover 0/0\nfault UnknownWord\nchanged 3458764513820540928\n",
+    );
+}
