@@ -133,7 +133,7 @@ fn complaints(rt: HostRuntime) {
     }
     let mut seen = Vec::new(rt.alloc());
     tell_fault("Spawn", &mut OverWriter::new(&mut seen)).expect(&rt, "memory");
-    assert_eq!(rt; seen.as_slice(), b"fault Spawn\n");
+    assert_eq!(rt; seen.as_slice(), b"fault Spawn\n".as_slice());
 }
 
 #[test]
