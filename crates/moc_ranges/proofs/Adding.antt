@@ -13,7 +13,7 @@ use Rattle.moc_lists.specs.Lemmas.Sizes.{len_parts}
 use Rattle.moc_lists.specs.Private.Blocks.{width_of}
 use Rattle.moc_lists.specs.Private.Added.{HasGrown}
 use Rattle.moc_ranges.proofs.Views.{range_view}
-use Rattle.moc_ranges.proofs.Walking.{and_swap}
+use Rattle.moc_operations.proofs.Walking.{and_swap}
 use Rattle.moc_lists.proofs.Adding.{grown_width}
 
 -- ---- sets

@@ -15,7 +15,7 @@ use Rattle.moc_ranges.specs.Cells.{AreOfOrders, cells_in, cells_of, cells_of_ran
 use Rattle.moc_ranges.specs.Lemmas.Cells.{cells_are, four_parts}
 use Rattle.moc_ranges.specs.Private.CellRuns.{ahead_of, around_parents, AreWhole, HasOrders, cells_at, filled}
 use Rattle.moc_ranges.specs.Private.CellRuns.{pieces_along, pieces_of, whole_in}
-use Rattle.moc_ranges.specs.Private.Meeting.{kept_if}
+use Rattle.moc_operations.specs.Private.Meeting.{kept_if}
 use Rattle.moc_ranges.proofs.CellRuns.{cells_split, count_bound, four_children, no_cells, run_one, run_top, run_two}
 use Rattle.moc_ranges.proofs.CellRuns.{whole_is}
 use Rattle.moc_ranges.proofs.CellOrders.{cells_step}

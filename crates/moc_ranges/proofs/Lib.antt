@@ -1,12 +1,5 @@
 pub mod Views
 pub mod Building
-pub mod Merging
-pub mod Turning
-pub mod Meeting
-pub mod MeetingOn
-pub mod Gaps
-pub mod Lacking
-pub mod Walking
 pub mod Sorting
 pub mod Widening
 pub mod Spans
@@ -14,11 +7,6 @@ pub mod CellRuns
 pub mod CellOrders
 pub mod CellPieces
 pub mod Gathering
-pub mod CarriedOver
 pub mod Looking
-pub mod Slices
-pub mod Shortening
-pub mod Differing
-pub mod Crossing
 pub mod Deepest
 pub mod Adding

@@ -18,8 +18,9 @@ use Rattle.moc_ranges.specs.Private.Widen.{IsCellSize, widen}
 use Rattle.std.specs.Prelude.{bit_and}
 use Rattle.std.proofs.lemmas.Nat.Bits.{and_high}
 use Rattle.moc_ranges.proofs.CellRuns.{two_pow}
-use Rattle.moc_ranges.proofs.Lacking.{range_from, range_is}
-use Rattle.moc_ranges.proofs.Views.{normal_below, and_no}
+use Rattle.moc_operations.proofs.Lacking.{range_from, range_is}
+use Rattle.moc_ranges.proofs.Views.{and_no}
+use Rattle.moc_operations.proofs.Views.{normal_below}
 
 floor_le : (w q : ℕ) → q / w * w ≤ q
 floor_le w q = omega (arith, div-add-mod' q w)

@@ -4,8 +4,3 @@ pub mod Widen
 pub mod CellRuns
 pub mod Walks
 pub mod Gathered
-pub mod Few
-pub mod Differing
-pub mod Crossing
-pub mod Meeting
-pub mod Taking

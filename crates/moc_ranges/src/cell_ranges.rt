@@ -1,8 +1,8 @@
 //! The cells of one order of a set, as runs of consecutive indices.
 ghost use Rattle.std.specs.Iterator.{YieldsFirst, item_count};
 
-use crate::operations::meeting::keep_at;
 use moc_lists::Ranges;
+use moc_operations::keep_at;
 use moc_sphere::Order;
 use std::fmt;
 use std::marker::Model;

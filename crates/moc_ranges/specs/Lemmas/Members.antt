@@ -1,5 +1,5 @@
 -- What is a member of a set: lemmas on the definitions, for proofs.
-use Rattle.std.specs.Prelude.{◌≡◌, ℕ, ◌+◌, ◌-◌, ◌*◌, ◌/◌, Bool, true, not, ◌&&◌, ◌||◌, nat_le, nat_lt, nat_eq}
+use Rattle.std.specs.Prelude.{◌≡◌, ℕ, ◌+◌, ◌-◌, ◌*◌, ◌/◌, true, not, ◌&&◌, nat_le, nat_lt, nat_eq}
 use Rattle.std.specs.FinSet as set
 use Rattle.std.specs.Ordering.{nat_cmp}
 use Rattle.std.specs.Cmp.{IsEquivalence, nat_cmp_total}
@@ -8,23 +8,15 @@ use Rattle.std.proofs.lemmas.Bool.Decides.{nat_tests}
 use Rattle.std.proofs.lemmas.Bool.{and_parts, and_from, cases_lt, lt-ltb}
 use Rattle.moc_sphere.specs.CellNumber.{CellNumber, cell_size}
 use Rattle.moc_lists.specs.RangeList.{NumberSet, pixel_count}
-use Rattle.moc_ranges.specs.Operations.{base_pixel_size, pixels, symmetric, complement, part_of, meets, is_same}
+use Rattle.moc_ranges.specs.Operations.{base_pixel_size, pixels, complement, part_of, meets, is_same}
 use Rattle.moc_ranges.specs.Cells.{span, spans, degrade}
 use Rattle.moc_lists.specs.Lemmas.Members.{same_members, contains-kept, contains-numbers}
+pub use Rattle.moc_operations.specs.Lemmas.Members.{contains-symmetric, same_truth}
 
 -- the members of the set of all pixels
 pub contains-pixels : (q : ℕ) → set.contains pixels q ≡ nat_lt q pixel_count
 unfolding pixels
 contains-pixels q = contains-numbers 0 pixel_count q ∙ grind (arith, nat_tests)
-
--- the members of a symmetric difference
-pub contains-symmetric : (a b : NumberSet) (q : ℕ)
-    → set.contains (symmetric a b) q
-    ≡ ((set.contains a q && not (set.contains b q)) || (set.contains b q && not (set.contains a q)))
-unfolding symmetric
-contains-symmetric a b q =
-    set.contains-union nat_cmp_total (set.difference a b) (set.difference b a) q
-    ∙ (λ i. set.contains-difference nat_cmp_total a b q i || set.contains-difference nat_cmp_total b a q i)
 
 -- the members of a complement
 pub contains-complement : (a : NumberSet) (q : ℕ)
@@ -61,12 +53,6 @@ meets-none a b none =
     same_members _ _ (λ q.
     set.contains-intersection nat_cmp_total a b q ∙ none q ∙ sym (set.contains-empty nat_cmp q)) in
     ap (λ c. nat_lt 0 (set.len c)) empty ∙ ap (λ n. nat_lt 0 n) (set.len-empty nat_cmp)
-
--- two tests are the same where each holds if the other does
-pub same_truth : (x y : Bool) → (x ≡ true → y ≡ true) → (y ≡ true → x ≡ true) → x ≡ y
-same_truth true y there back = sym (there refl)
-same_truth false true there back = back refl
-same_truth false false there back = refl
 
 is_same-refl : (a : NumberSet) → is_same a a ≡ true
 unfolding is_same

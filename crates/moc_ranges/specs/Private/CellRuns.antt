@@ -5,7 +5,7 @@ use Rattle.std.specs.List.{filter, range_with_len}
 use Rattle.moc_sphere.specs.CellNumber.{CellNumber, cell_number, cell_count, cell_size}
 use Rattle.moc_lists.specs.RangeList.{NumberSet}
 use Rattle.moc_ranges.specs.Cells.{is_cell_of}
-use Rattle.moc_ranges.specs.Private.Meeting.{kept_if}
+use Rattle.moc_operations.specs.Private.Meeting.{kept_if}
 
 -- the cells of one order of a set
 unfoldable pub cells_at : NumberSet → ℕ → List CellNumber

@@ -5,8 +5,8 @@ ghost use Rattle.moc_ranges.specs.Operations.{part_of, IsWithin, pixels};
 
 use crate::coverage::Coverage;
 use crate::errors::Memory;
-use crate::operations::intersection::intersect;
 use moc_lists::Ranges;
+use moc_operations::intersect;
 use std::alloc::Global;
 
 /// How many pixels a base pixel has: 4^29.

@@ -5,8 +5,8 @@ ghost use Rattle.moc_lists.specs.RangeList.{numbers, pixel_count};
 
 use crate::coverage::Coverage;
 use crate::errors::Memory;
-use crate::operations::union::unite;
 use moc_lists::Ranges;
+use moc_operations::unite;
 use std::alloc::Global;
 
 impl Coverage {

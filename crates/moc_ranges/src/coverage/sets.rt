@@ -5,13 +5,11 @@ ghost use Rattle.moc_ranges.specs.Operations.{symmetric, complement, meets, IsWi
 
 use crate::coverage::Coverage;
 use crate::errors::Memory;
-use crate::operations::difference::subtract;
-use crate::operations::intersection::intersect;
-use crate::operations::symmetric::differ;
-use crate::operations::union::unite;
-use crate::operations::walks::{are_same, count_both, holds_all, share_some};
 use crate::pixels::PIXEL_COUNT;
 use moc_lists::Ranges;
+use moc_operations::{
+    are_same, count_both, differ, holds_all, intersect, share_some, subtract, unite,
+};
 use std::alloc::Global;
 
 impl Coverage {

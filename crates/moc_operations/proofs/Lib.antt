@@ -1,0 +1,13 @@
+pub mod Views
+pub mod Merging
+pub mod Turning
+pub mod InCommon
+pub mod MeetingOn
+pub mod GapsOf
+pub mod Lacking
+pub mod Walking
+pub mod CarriedOver
+pub mod Slices
+pub mod Shortening
+pub mod Differing
+pub mod Bounds

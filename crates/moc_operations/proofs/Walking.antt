@@ -1,0 +1,301 @@
+-- Walks over two lists of ranges: what one step does to what they have in common.
+use Rattle.std.proofs.Common.{◌≡◌, ℕ, ◌+◌, ◌-◌, ◌<◌, ◌≤◌, Bool, true, false, ◌&&◌, ◌||◌, List, [], ◌∷◌, ◌++◌, min, max}
+use Rattle.std.proofs.Common.{refl, sym, ap, subst, ◌∙◌, arith, inl, inr, Option, None, Some, MatchOption}
+use Rattle.std.specs.Prelude.{nat_le, nat_lt}
+use Rattle.std.specs.FinSet as set
+use Rattle.std.specs.Ordering.{nat_cmp}
+use Rattle.std.specs.Cmp.{nat_cmp_total}
+use Rattle.std.proofs.lemmas.Bool.{cases_lt, false_from_ne_true, or_cases, or_left, or_right, false≢true, lt-ltb}
+use Rattle.std.proofs.lemmas.Bool.Decides.{nat_tests}
+use Rattle.moc_lists.specs.RangeList.{NumberSet, numbers, pixel_count, IsNormal, BeginsAfter, set_of}
+use Rattle.moc_lists.specs.Lemmas.Members.{contains-numbers, same_members, in_range, in_ranges, contains-set_of}
+use Rattle.moc_lists.specs.Lemmas.Sizes.{len_parts}
+use Rattle.moc_lists.specs.Lemmas.Ranges.{len_bounded, later_only, len-more}
+use Rattle.moc_operations.specs.Private.Walks.{common_of, has_all, begun}
+use Rattle.moc_operations.specs.Lemmas.Members.{same_truth}
+use Rattle.moc_lists.specs.Private.Walks.{overlap_of, EndsBy, Advances}
+use Rattle.moc_lists.proofs.Blocking.{IsNormal-suffix}
+use Rattle.moc_lists.proofs.Passing.{ends_by_more, overlap_none}
+
+contains_both : (xs ys : List (ℕ × ℕ)) (q : ℕ) → set.contains (set.intersection (set_of xs) (set_of ys)) q ≡ (in_ranges xs q && in_ranges ys q)
+contains_both xs ys q = set.contains-intersection nat_cmp_total (set_of xs) (set_of ys) q ∙ (λ i. contains-set_of xs q i && contains-set_of ys q i)
+
+-- the numbers of the range (a, b) that are in (c, d) or later
+inside_piece : (a b c d from n q : ℕ) (later more : Bool) → b ≤ d → from ≡ max a c → n ≡ min b d - max a c → q < b → more ≡ false → (((nat_le a q && nat_lt q b) || later) && ((nat_le c q && nat_lt q d) || more)) ≡ ((nat_le from q && nat_lt q (from + n)) || (later && ((nat_le c q && nat_lt q d) || more)))
+inside_piece a b c d from n q later more ends f w lt none = grind (arith, nat_tests)
+
+outside_piece : (a b c d from n q : ℕ) (later more : Bool) → b ≤ d → from ≡ max a c → n ≡ min b d - max a c → b ≤ q → (((nat_le a q && nat_lt q b) || later) && ((nat_le c q && nat_lt q d) || more)) ≡ ((nat_le from q && nat_lt q (from + n)) || (later && ((nat_le c q && nat_lt q d) || more)))
+outside_piece a b c d from n q later more ends f w ge = grind (arith, nat_tests)
+
+below_end : (b d from n q : ℕ) → b ≤ d → n ≡ min b d - from → from ≤ q → q < from + n → q < b
+below_end b d from n q ends w low high = omega arith
+
+-- the range that ends first shares with the other list just what it shares with the other list's first range
+pub common_step : (x y : ℕ × ℕ) (xs ys : List (ℕ × ℕ)) → IsNormal (x ∷ xs) → IsNormal (y ∷ ys) → x.1 ≤ y.1 → common_of (x ∷ xs) (y ∷ ys) ≡ (min x.1 y.1 - max x.0 y.0) + common_of xs (y ∷ ys)
+common_step x y xs ys nx ny ends =
+    let from : ℕ = max x.0 y.0 in
+    let n : ℕ = min x.1 y.1 - max x.0 y.0 in
+    let rest : NumberSet = set.intersection (set_of xs) (set_of (y ∷ ys)) in
+    let same : set.intersection (set_of (x ∷ xs)) (set_of (y ∷ ys)) ≡ set.union (numbers from (from + n)) rest = same_members _ _ (λ q.
+    contains_both (x ∷ xs) (y ∷ ys) q
+    ∙ elim (cases_lt q x.1) [
+      | inl lt ↦ inside_piece x.0 x.1 y.0 y.1 from n q (in_ranges xs q) (in_ranges ys q) ends refl refl lt (later_only y.1 q ys ny.3 ny.2 (omega arith))
+      | inr ge ↦ outside_piece x.0 x.1 y.0 y.1 from n q (in_ranges xs q) (in_ranges ys q) ends refl refl ge
+    ]
+    ∙ (λ i. sym (contains-numbers from (from + n) q) i || sym (contains_both xs (y ∷ ys) q) i)
+    ∙ sym (set.contains-union nat_cmp_total (numbers from (from + n)) rest q)) in
+    ap set.len same
+    ∙ len-more from n rest (λ q low high. contains_both xs (y ∷ ys) q ∙ ap (λ b. b && in_ranges (y ∷ ys) q) (later_only x.1 q xs nx.3 nx.2 (omega (arith, below_end x.1 y.1 from n q ends refl low high))))
+
+pub and_swap : (a b : Bool) → (a && b) ≡ (b && a)
+and_swap true true = refl
+and_swap true false = refl
+and_swap false true = refl
+and_swap false false = refl
+
+common_swap : (xs ys : List (ℕ × ℕ)) → common_of xs ys ≡ common_of ys xs
+common_swap xs ys = ap set.len (same_members _ _ (λ q. contains_both xs ys q ∙ and_swap (in_ranges xs q) (in_ranges ys q) ∙ sym (contains_both ys xs q)))
+
+pub common_step_back : (x y : ℕ × ℕ) (xs ys : List (ℕ × ℕ)) → IsNormal (x ∷ xs) → IsNormal (y ∷ ys) → y.1 ≤ x.1 → common_of (x ∷ xs) (y ∷ ys) ≡ (min x.1 y.1 - max x.0 y.0) + common_of (x ∷ xs) ys
+common_step_back x y xs ys nx ny ends =
+    let width : min y.1 x.1 - max y.0 x.0 ≡ min x.1 y.1 - max x.0 y.0 = omega arith in
+    common_swap (x ∷ xs) (y ∷ ys) ∙ common_step y x ys xs ny nx ends ∙ (λ i. width i + common_swap ys (x ∷ xs) i)
+
+nothing_first : (ys : List (ℕ × ℕ)) → common_of [] ys ≡ 0
+nothing_first ys = ap set.len (same_members _ set.empty (λ q. contains_both [] ys q ∙ sym (set.contains-empty nat_cmp q))) ∙ set.len-empty nat_cmp
+
+pub common_none : (xs ys : List (ℕ × ℕ)) → xs ≡ [] → common_of xs ys ≡ 0
+common_none xs ys e = ap (λ (l : List (ℕ × ℕ)). common_of l ys) e ∙ nothing_first ys
+
+pub common_none_back : (xs ys : List (ℕ × ℕ)) → ys ≡ [] → common_of xs ys ≡ 0
+common_none_back xs ys e = common_swap xs ys ∙ common_none ys xs e
+
+pub common_bounded : (xs ys : List (ℕ × ℕ)) → IsNormal xs → common_of xs ys ≤ pixel_count
+common_bounded xs ys normal = omega (arith, len_parts (set_of xs) (set_of ys), len_bounded xs normal)
+
+-- how far a count has come
+pub record IsCounting (total : ℕ) (xs ys whole_xs whole_ys : List (ℕ × ℕ)) : Type 0 where
+  pub first_normal : IsNormal xs
+  pub second_normal : IsNormal ys
+  pub sum : total + common_of xs ys ≡ common_of whole_xs whole_ys
+
+-- how far a comparison has come
+pub record IsHolding (xs ys whole_xs whole_ys : List (ℕ × ℕ)) : Type 0 where
+  pub first_normal : IsNormal xs
+  pub second_normal : IsNormal ys
+  pub same : has_all xs ys ≡ has_all whole_xs whole_ys
+
+-- two lists are one where what is left of them is
+pub record AreSameFrom (xs ys whole_xs whole_ys : List (ℕ × ℕ)) : Type 0 where
+  pub there : whole_xs ≡ whole_ys → xs ≡ ys
+  pub back : xs ≡ ys → whole_xs ≡ whole_ys
+
+-- a call of next gave r and left t of s
+abbrev pub Steps : List (ℕ × ℕ) → Option (ℕ × ℕ) → List (ℕ × ℕ) → Type 0
+Steps s r t = MatchOption r ((s ≡ []) × (t ≡ [])) (λ x. s ≡ x ∷ t)
+
+pub begun_is : (s : List (ℕ × ℕ)) (r : Option (ℕ × ℕ)) (t : List (ℕ × ℕ)) → Steps s r t → begun r t ≡ s
+begun_is s None t e = sym e.0
+begun_is s (Some x) t e = sym e
+
+pub at_both : (f s : Option (ℕ × ℕ)) (x y : ℕ × ℕ) (xs ys : List (ℕ × ℕ)) (P : List (ℕ × ℕ) → List (ℕ × ℕ) → Type 0) → f ≡ Some x → s ≡ Some y → P (begun f xs) (begun s ys) → P (x ∷ xs) (y ∷ ys)
+at_both f s x y xs ys P e g p =
+    subst (λ (o : Option (ℕ × ℕ)). P (begun o xs) (y ∷ ys)) e (subst (λ (o : Option (ℕ × ℕ)). P (begun f xs) (begun o ys)) g p)
+
+-- what was passed has in common with the other list just what it has with its first range
+common_passed : (y : ℕ × ℕ) (gone rest ys : List (ℕ × ℕ)) → IsNormal (gone ++ rest) → IsNormal (y ∷ ys) → EndsBy y.1 gone → common_of (gone ++ rest) (y ∷ ys) ≡ overlap_of y gone + common_of rest (y ∷ ys)
+common_passed y [] rest ys nx ny e = omega arith
+common_passed y (x ∷ gone) rest ys nx ny e =
+    omega (arith, common_step x y (gone ++ rest) ys nx ny e.0, common_passed y gone rest ys nx.3 ny e.1)
+
+-- what is left after an advance is normal
+pub advanced_normal : (range : ℕ × ℕ) (xs t : List (ℕ × ℕ)) (r : Option (ℕ × ℕ)) (c : ℕ) → IsNormal xs → Advances range xs t r c → IsNormal (begun r t)
+advanced_normal range xs t r c normal a = subst IsNormal (sym (begun_is a.rest r t a.step)) (IsNormal-suffix a.passed.gone a.rest (subst IsNormal a.passed.parts normal))
+
+common_advanced : (y : ℕ × ℕ) (xs t ys : List (ℕ × ℕ)) (r : Option (ℕ × ℕ)) (c : ℕ) → IsNormal xs → IsNormal (y ∷ ys) → Advances y xs t r c → common_of xs (y ∷ ys) ≡ c + common_of (begun r t) (y ∷ ys)
+common_advanced y xs t ys r c nx ny a =
+    let n = subst IsNormal a.passed.parts nx in
+    let passed = common_passed y a.passed.gone a.rest ys n ny a.passed.ended in
+    let parts = ap (λ (l : List (ℕ × ℕ)). common_of l (y ∷ ys)) a.passed.parts in
+    let left = ap (λ (l : List (ℕ × ℕ)). common_of l (y ∷ ys)) (begun_is a.rest r t a.step) in
+    omega (arith, passed, parts, left, a.passed.counted)
+
+pub counting_first : (total w c : ℕ) (x y : ℕ × ℕ) (xs ys t whole_xs whole_ys : List (ℕ × ℕ)) (r : Option (ℕ × ℕ)) → IsCounting total (x ∷ xs) (y ∷ ys) whole_xs whole_ys → w ≡ min x.1 y.1 - max x.0 y.0 → x.1 ≤ y.1 → Advances y xs t r c → IsCounting (total + w + c) (begun r t) (y ∷ ys) whole_xs whole_ys
+counting_first total w c x y xs ys t whole_xs whole_ys r s is le a = record {
+  first_normal = advanced_normal y xs t r c s.first_normal.3 a;
+  second_normal = s.second_normal;
+  sum = omega (arith, common_step x y xs ys s.first_normal s.second_normal le, common_advanced y xs t ys r c s.first_normal.3 s.second_normal a, s.sum, is);
+}
+
+counting_swap : (total : ℕ) (xs ys whole_xs whole_ys : List (ℕ × ℕ)) → IsCounting total xs ys whole_xs whole_ys → IsCounting total ys xs whole_ys whole_xs
+counting_swap total xs ys whole_xs whole_ys s = record {
+  first_normal = s.second_normal;
+  second_normal = s.first_normal;
+  sum = ap (λ n. total + n) (common_swap ys xs) ∙ s.sum ∙ common_swap whole_xs whole_ys;
+}
+
+pub counting_second : (total w c : ℕ) (x y : ℕ × ℕ) (xs ys t whole_xs whole_ys : List (ℕ × ℕ)) (r : Option (ℕ × ℕ)) → IsCounting total (x ∷ xs) (y ∷ ys) whole_xs whole_ys → w ≡ min x.1 y.1 - max x.0 y.0 → y.1 ≤ x.1 → Advances x ys t r c → IsCounting (total + w + c) (x ∷ xs) (begun r t) whole_xs whole_ys
+counting_second total w c x y xs ys t whole_xs whole_ys r s is le a =
+    counting_swap _ _ _ _ _ (counting_first total w c y x ys xs t whole_ys whole_xs r (counting_swap _ _ _ _ _ s) (omega (arith, is)) le a)
+
+pub counted_within : (total : ℕ) (xs ys whole_xs whole_ys : List (ℕ × ℕ)) → IsCounting total xs ys whole_xs whole_ys → total ≤ common_of whole_xs whole_ys
+counted_within total xs ys whole_xs whole_ys s = omega (arith, s.sum)
+
+-- what ends where a range begins has nothing of it
+pub advances_past : (y : ℕ × ℕ) (xs t : List (ℕ × ℕ)) (r : Option (ℕ × ℕ)) (n : ℕ) → y.0 ≤ y.1 → Advances (y.0, y.0) xs t r n → Advances y xs t r 0
+advances_past y xs t r n le a = record {
+  rest = a.rest;
+  passed = record {
+    gone = a.passed.gone;
+    parts = a.passed.parts;
+    ended = ends_by_more y.0 y.1 a.passed.gone le a.passed.ended;
+    counted = overlap_none y a.passed.gone a.passed.ended;
+  };
+  step = a.step;
+}
+
+-- what two first ranges have in common is counted at most once
+pub counting_room : (total w : ℕ) (x y : ℕ × ℕ) (xs ys whole_xs whole_ys : List (ℕ × ℕ)) → IsCounting total (x ∷ xs) (y ∷ ys) whole_xs whole_ys → w ≡ min x.1 y.1 - max x.0 y.0 → total + w ≤ common_of whole_xs whole_ys
+counting_room total w x y xs ys whole_xs whole_ys s is = elim (cases_lt y.1 x.1) [
+  | inl lt ↦ omega (arith, common_step_back x y xs ys s.first_normal s.second_normal (omega arith), s.sum, is)
+  | inr ge ↦ omega (arith, common_step x y xs ys s.first_normal s.second_normal ge, s.sum, is)
+]
+
+pub counted_first : (total : ℕ) (xs ys whole_xs whole_ys : List (ℕ × ℕ)) (f : Option (ℕ × ℕ)) → IsCounting total (begun f xs) ys whole_xs whole_ys → f ≡ None → total ≡ common_of whole_xs whole_ys
+counted_first total xs ys whole_xs whole_ys f s none =
+    let e : begun f xs ≡ [] = ap (λ o. begun o xs) none in
+    omega (arith, common_none (begun f xs) ys e, s.sum)
+
+pub counted_second : (total : ℕ) (xs ys whole_xs whole_ys : List (ℕ × ℕ)) (f : Option (ℕ × ℕ)) → IsCounting total xs (begun f ys) whole_xs whole_ys → f ≡ None → total ≡ common_of whole_xs whole_ys
+counted_second total xs ys whole_xs whole_ys f s none =
+    let e : begun f ys ≡ [] = ap (λ o. begun o ys) none in
+    omega (arith, common_none_back xs (begun f ys) e, s.sum)
+
+-- ---- one list has all of another
+
+all_in : (xs ys : List (ℕ × ℕ)) → has_all xs ys ≡ true → (q : ℕ) → in_ranges ys q ≡ true → in_ranges xs q ≡ true
+all_in xs ys all q has = sym (contains-set_of xs q) ∙ set.is_subset-contains nat_cmp_total (set_of ys) (set_of xs) all q (contains-set_of ys q ∙ has)
+
+all_from : (xs ys : List (ℕ × ℕ)) → ((q : ℕ) → in_ranges ys q ≡ true → in_ranges xs q ≡ true) → has_all xs ys ≡ true
+all_from xs ys each = set.contains-is_subset nat_cmp_total (set_of ys) (set_of xs) (λ q has. contains-set_of xs q ∙ each q (sym (contains-set_of ys q) ∙ has))
+
+later : (x : ℕ × ℕ) (xs : List (ℕ × ℕ)) (q : ℕ) → in_ranges xs q ≡ true → in_ranges (x ∷ xs) q ≡ true
+later x xs q has = or_right (in_range x q) (in_ranges xs q) has
+
+-- a range that ends before the other list's first holds none of that
+hold_past : (x y : ℕ × ℕ) (xs ys : List (ℕ × ℕ)) → IsNormal (x ∷ xs) → IsNormal (y ∷ ys) → x.1 < y.1 → ((q : ℕ) → in_ranges (y ∷ ys) q ≡ true → in_ranges (x ∷ xs) q ≡ true) → (q : ℕ) → in_ranges (y ∷ ys) q ≡ true → in_ranges xs q ≡ true
+hold_past x y xs ys nx ny lt all q has = elim (cases_lt q x.1) [
+  | inl early ↦
+      let none = later_only y.1 q ys ny.3 ny.2 (omega arith) in
+      let from : y.0 ≤ q = grind (arith, nat_tests) in
+      let end : in_ranges (y ∷ ys) x.1 ≡ true = grind (arith, nat_tests) in
+      let out = later_only x.1 x.1 xs nx.3 nx.2 (omega arith) in
+      let no : in_ranges (x ∷ xs) x.1 ≡ false = grind (arith, nat_tests) in
+      let yes = all x.1 end in
+      absurd (cc)
+  | inr ge ↦ let here = all q has in grind (arith, nat_tests)
+]
+
+hold_skip : (x y : ℕ × ℕ) (xs ys : List (ℕ × ℕ)) → IsNormal (x ∷ xs) → IsNormal (y ∷ ys) → x.1 < y.1 → has_all (x ∷ xs) (y ∷ ys) ≡ has_all xs (y ∷ ys)
+hold_skip x y xs ys nx ny lt = same_truth _ _
+    (λ all. all_from xs (y ∷ ys) (hold_past x y xs ys nx ny lt (all_in (x ∷ xs) (y ∷ ys) all)))
+    (λ all. all_from (x ∷ xs) (y ∷ ys) (λ q has. later x xs q (all_in xs (y ∷ ys) all q has)))
+
+in_both : (x y : ℕ × ℕ) (xs ys : List (ℕ × ℕ)) (q : ℕ) → y.1 ≤ x.1 → x.0 ≤ y.0 → (in_ranges ys q ≡ true → in_ranges (x ∷ xs) q ≡ true) → in_ranges (y ∷ ys) q ≡ true → in_ranges (x ∷ xs) q ≡ true
+in_both x y xs ys q ends begins rest has = elim (or_cases (in_range y q) (in_ranges ys q) has) [
+  | inl here ↦ let in_x : in_range x q ≡ true = grind (arith, nat_tests) in or_left (in_range x q) (in_ranges xs q) in_x
+  | inr more ↦ rest more
+]
+
+hold_take : (x y : ℕ × ℕ) (xs ys : List (ℕ × ℕ)) → y.1 ≤ x.1 → x.0 ≤ y.0 → has_all (x ∷ xs) (y ∷ ys) ≡ has_all (x ∷ xs) ys
+hold_take x y xs ys ends begins = same_truth _ _
+    (λ all. all_from (x ∷ xs) ys (λ q has. all_in (x ∷ xs) (y ∷ ys) all q (later y ys q has)))
+    (λ all. all_from (x ∷ xs) (y ∷ ys) (λ q has. in_both x y xs ys q ends begins (all_in (x ∷ xs) ys all q) has))
+
+first_in : (y : ℕ × ℕ) (ys : List (ℕ × ℕ)) → y.0 < y.1 → in_ranges (y ∷ ys) y.0 ≡ true
+first_in y ys lt = grind (arith, nat_tests)
+
+not_yet : (x : ℕ × ℕ) (xs : List (ℕ × ℕ)) (q : ℕ) → IsNormal (x ∷ xs) → q < x.0 → in_ranges (x ∷ xs) q ≡ false
+not_yet x xs q normal lt = let none = later_only x.1 q xs normal.3 normal.2 (omega arith) in grind (arith, nat_tests)
+
+hold_fail : (x y : ℕ × ℕ) (xs ys : List (ℕ × ℕ)) → IsNormal (x ∷ xs) → IsNormal (y ∷ ys) → y.0 < x.0 → has_all (x ∷ xs) (y ∷ ys) ≡ false
+hold_fail x y xs ys nx ny lt = false_from_ne_true (has_all (x ∷ xs) (y ∷ ys)) (λ all.
+    let yes = all_in (x ∷ xs) (y ∷ ys) all y.0 (first_in y ys ny.0) in
+    let no = not_yet x xs y.0 nx lt in
+    false≢true (sym no ∙ yes))
+
+hold_none : (y : ℕ × ℕ) (ys : List (ℕ × ℕ)) → IsNormal (y ∷ ys) → has_all [] (y ∷ ys) ≡ false
+hold_none y ys ny = false_from_ne_true (has_all [] (y ∷ ys)) (λ all. false≢true (all_in [] (y ∷ ys) all y.0 (first_in y ys ny.0)))
+
+hold_skip_all : (y : ℕ × ℕ) (gone rest ys : List (ℕ × ℕ)) → IsNormal (gone ++ rest) → IsNormal (y ∷ ys) → EndsBy y.0 gone → has_all (gone ++ rest) (y ∷ ys) ≡ has_all rest (y ∷ ys)
+hold_skip_all y [] rest ys nx ny e = refl
+hold_skip_all y (x ∷ gone) rest ys nx ny e =
+    hold_skip x y (gone ++ rest) ys nx ny (omega (arith, e.0, ny.0)) ∙ hold_skip_all y gone rest ys nx.3 ny e.1
+
+hold_take_all : (x : ℕ × ℕ) (b : ℕ) (xs gone rest : List (ℕ × ℕ)) → IsNormal (gone ++ rest) → BeginsAfter b (gone ++ rest) → x.0 ≤ b → EndsBy x.1 gone → has_all (x ∷ xs) (gone ++ rest) ≡ has_all (x ∷ xs) rest
+hold_take_all x b xs [] rest normal after le e = refl
+hold_take_all x b xs (y ∷ gone) rest normal after le e =
+    hold_take x y xs (gone ++ rest) e.0 (omega arith)
+    ∙ hold_take_all x y.1 xs gone rest normal.3 normal.2 (omega (arith, normal.0)) e.1
+
+pub holding_skips : (n : ℕ) (x y : ℕ × ℕ) (xs ys t whole_xs whole_ys : List (ℕ × ℕ)) (r : Option (ℕ × ℕ)) → IsHolding (x ∷ xs) (y ∷ ys) whole_xs whole_ys → x.1 < y.1 → Advances (y.0, y.0) xs t r n → IsHolding (begun r t) (y ∷ ys) whole_xs whole_ys
+holding_skips n x y xs ys t whole_xs whole_ys r s lt a =
+    let nx = s.first_normal.3 in
+    record {
+      first_normal = advanced_normal (y.0, y.0) xs t r n nx a;
+      second_normal = s.second_normal;
+      same = ap (λ (l : List (ℕ × ℕ)). has_all l (y ∷ ys)) (begun_is a.rest r t a.step)
+          ∙ sym (hold_skip_all y a.passed.gone a.rest ys (subst IsNormal a.passed.parts nx) s.second_normal a.passed.ended)
+          ∙ ap (λ (l : List (ℕ × ℕ)). has_all l (y ∷ ys)) (sym a.passed.parts)
+          ∙ sym (hold_skip x y xs ys s.first_normal s.second_normal lt) ∙ s.same;
+    }
+
+pub holding_takes : (n : ℕ) (x y : ℕ × ℕ) (xs ys t whole_xs whole_ys : List (ℕ × ℕ)) (r : Option (ℕ × ℕ)) → IsHolding (x ∷ xs) (y ∷ ys) whole_xs whole_ys → y.1 ≤ x.1 → x.0 ≤ y.0 → Advances (x.1, x.1) ys t r n → IsHolding (x ∷ xs) (begun r t) whole_xs whole_ys
+holding_takes n x y xs ys t whole_xs whole_ys r s ends begins a =
+    let ny = s.second_normal.3 in
+    let after : BeginsAfter y.1 (a.passed.gone ++ a.rest) = subst (BeginsAfter y.1) a.passed.parts s.second_normal.2 in
+    record {
+      first_normal = s.first_normal;
+      second_normal = advanced_normal (x.1, x.1) ys t r n ny a;
+      same = ap (λ (l : List (ℕ × ℕ)). has_all (x ∷ xs) l) (begun_is a.rest r t a.step)
+          ∙ sym (hold_take_all x y.1 xs a.passed.gone a.rest (subst IsNormal a.passed.parts ny) after (omega (arith, begins, s.second_normal.0)) a.passed.ended)
+          ∙ ap (λ (l : List (ℕ × ℕ)). has_all (x ∷ xs) l) (sym a.passed.parts)
+          ∙ sym (hold_take x y xs ys ends begins) ∙ s.same;
+    }
+
+pub holding_fails : (x y : ℕ × ℕ) (xs ys whole_xs whole_ys : List (ℕ × ℕ)) → IsHolding (x ∷ xs) (y ∷ ys) whole_xs whole_ys → y.0 < x.0 → false ≡ has_all whole_xs whole_ys
+holding_fails x y xs ys whole_xs whole_ys s lt = sym (hold_fail x y xs ys s.first_normal s.second_normal lt) ∙ s.same
+
+pub holding_lacks : (f s : Option (ℕ × ℕ)) (y : ℕ × ℕ) (xs ys whole_xs whole_ys : List (ℕ × ℕ)) → IsHolding (begun f xs) (begun s ys) whole_xs whole_ys → f ≡ None → s ≡ Some y → false ≡ has_all whole_xs whole_ys
+holding_lacks f s y xs ys whole_xs whole_ys h none is =
+    let normal : IsNormal (y ∷ ys) = subst (λ (o : Option (ℕ × ℕ)). IsNormal (begun o ys)) is h.second_normal in
+    sym (hold_none y ys normal) ∙ (λ i. has_all (begun (sym none i) xs) (begun (sym is i) ys)) ∙ h.same
+
+pub holding_ends : (f s : Option (ℕ × ℕ)) (xs ys whole_xs whole_ys : List (ℕ × ℕ)) → IsHolding (begun f xs) (begun s ys) whole_xs whole_ys → s ≡ None → true ≡ has_all whole_xs whole_ys
+holding_ends f s xs ys whole_xs whole_ys h none =
+    sym (all_from (begun f xs) [] (λ q has. absurd (false≢true has))) ∙ (λ i. has_all (begun f xs) (begun (sym none i) ys)) ∙ h.same
+
+-- ---- the same ranges
+
+pub shares_some : (w : ℕ) (x y : ℕ × ℕ) (xs ys whole_xs whole_ys : List (ℕ × ℕ)) → IsCounting 0 (x ∷ xs) (y ∷ ys) whole_xs whole_ys → w ≡ min x.1 y.1 - max x.0 y.0 → 0 < w → true ≡ nat_lt 0 (common_of whole_xs whole_ys)
+shares_some w x y xs ys whole_xs whole_ys s is some = sym (lt-ltb 0 (common_of whole_xs whole_ys) (omega (arith, counting_room 0 w x y xs ys whole_xs whole_ys s is)))
+
+pub shares_none : (n : ℕ) → 0 ≡ n → false ≡ nat_lt 0 n
+shares_none n e = ap (λ m. nat_lt 0 m) e
+
+-- a range that ends by where the other begins shares nothing
+pub sharing_first : (n : ℕ) (x y : ℕ × ℕ) (xs ys t whole_xs whole_ys : List (ℕ × ℕ)) (r : Option (ℕ × ℕ)) → IsCounting 0 (x ∷ xs) (y ∷ ys) whole_xs whole_ys → x.1 ≤ y.0 → Advances (y.0, y.0) xs t r n → IsCounting 0 (begun r t) (y ∷ ys) whole_xs whole_ys
+sharing_first n x y xs ys t whole_xs whole_ys r s le a =
+    let filled = s.second_normal.0 in
+    counting_first 0 0 0 x y xs ys t whole_xs whole_ys r s (omega arith) (omega arith) (advances_past y xs t r n (omega arith) a)
+
+pub sharing_second : (n : ℕ) (x y : ℕ × ℕ) (xs ys t whole_xs whole_ys : List (ℕ × ℕ)) (r : Option (ℕ × ℕ)) → IsCounting 0 (x ∷ xs) (y ∷ ys) whole_xs whole_ys → y.1 ≤ x.0 → Advances (x.0, x.0) ys t r n → IsCounting 0 (x ∷ xs) (begun r t) whole_xs whole_ys
+sharing_second n x y xs ys t whole_xs whole_ys r s le a =
+    let filled = s.first_normal.0 in
+    counting_second 0 0 0 x y xs ys t whole_xs whole_ys r s (omega arith) (omega arith) (advances_past x ys t r n (omega arith) a)
+
+pub shares : (x y : ℕ × ℕ) (xs ys whole_xs whole_ys : List (ℕ × ℕ)) → IsCounting 0 (x ∷ xs) (y ∷ ys) whole_xs whole_ys → y.0 < x.1 → x.0 < y.1 → true ≡ nat_lt 0 (common_of whole_xs whole_ys)
+shares x y xs ys whole_xs whole_ys s lt gt =
+    let first = s.first_normal.0 in
+    let second = s.second_normal.0 in
+    shares_some (min x.1 y.1 - max x.0 y.0) x y xs ys whole_xs whole_ys s refl (omega arith)

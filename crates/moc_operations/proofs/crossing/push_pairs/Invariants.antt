@@ -1,0 +1,10 @@
+use Rattle.std.proofs.Common.{◌≡◌, ◌++◌, length}
+use Rattle.moc_lists.specs.Private.Built.{ranges_of}
+use Rattle.moc_operations.specs.Private.Crossing.{bounds_of}
+use Rattle.moc_operations.proofs.crossing.push_pairs.Given as goal
+
+abbrev pub invariant-loop-rest : goal.invariant-loop-rest
+invariant-loop-rest l = bounds_of (ranges_of l.built) ++ l.rest ≡ bounds_of (ranges_of l.fn.built) ++ l.bounds
+
+abbrev pub decreases-loop-rest : goal.decreases-loop-rest
+decreases-loop-rest l = length l.rest

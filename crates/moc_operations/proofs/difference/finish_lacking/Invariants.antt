@@ -1,0 +1,10 @@
+use Rattle.std.proofs.Common.{[], length}
+use Rattle.moc_lists.specs.Private.Built.{ranges_of}
+use Rattle.moc_operations.specs.Private.Meeting.{MeetsOn, gaps_of}
+use Rattle.moc_operations.proofs.difference.finish_lacking.Given as goal
+
+abbrev pub invariant-loop-built : goal.invariant-loop-built
+invariant-loop-built l = MeetsOn l.fn.xs l.xs (gaps_of l.low []) (gaps_of l.low []) (ranges_of l.fn.built) (ranges_of l.built)
+
+abbrev pub decreases-loop-built : goal.decreases-loop-built
+decreases-loop-built l = length l.xs

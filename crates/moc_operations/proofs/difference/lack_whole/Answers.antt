@@ -1,0 +1,27 @@
+use Rattle.std.proofs.Common.{arith}
+use Rattle.moc_lists.proofs.Merging.{EndsBelow-more}
+use Rattle.moc_operations.proofs.Shortening.{taken_shorter}
+use Rattle.moc_operations.proofs.MeetingOn.{left_normal, left_shorter, meets_more, meets_taken}
+use Rattle.moc_operations.proofs.GapsOf.{first_gap, gap_rest, lacks_left, next_gap, rising_low}
+use Rattle.moc_operations.proofs.difference.lack_whole.Goals as goal
+
+pub take_whole-requires-clause-rising : goal.take_whole-requires-clause-rising
+take_whole-requires-clause-rising c =
+    let m = lacks_left _ c.args.xs.now c.args.ys.now _ c.args.low c.next_from.result c.requires.can c.requires.second_normal c.next_from.ensures c.leave_out_by.ensures in
+    omega (arith, rising_low c.args.low _ m.can.second_rising, c.next_from-next.ensures)
+
+pub take_whole-requires-clause-after : goal.take_whole-requires-clause-after
+take_whole-requires-clause-after c =
+    let m = lacks_left _ c.args.xs.now c.args.ys.now _ c.args.low c.next_from.result c.requires.can c.requires.second_normal c.next_from.ensures c.leave_out_by.ensures in
+    EndsBelow-more _ _ _ m.can.below (omega (arith, next_gap c.args.low c.leave_out_by.new.ys))
+
+pub returns-clause-met : goal.returns-clause-met
+returns-clause-met c =
+    let m = lacks_left _ c.args.xs.now c.args.ys.now _ c.args.low c.next_from.result c.requires.can c.requires.second_normal c.next_from.ensures c.leave_out_by.ensures in
+    meets_more _ _ _ _ _ _ _ _ _ m (meets_taken _ _ c.args.xs.now _ _ (gap_rest c.leave_out_by.new.ys) (c.args.low, c.next_from-next.result) m.can (first_gap c.args.low c.next_from-next.result c.leave_out_by.new.ys c.next_from-next.ensures) c.in_ok-take_whole.ensures)
+
+pub returns-clause-second_normal : goal.returns-clause-second_normal
+returns-clause-second_normal c = left_normal _ _ _ c.requires.second_normal c.leave_out_by.ensures
+
+pub returns-clause-fewer : goal.returns-clause-fewer
+returns-clause-fewer c = omega (arith, left_shorter _ _ _ c.leave_out_by.ensures, taken_shorter c.in_ok-take_whole.ensures)

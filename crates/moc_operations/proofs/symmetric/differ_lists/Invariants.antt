@@ -1,0 +1,11 @@
+use Rattle.std.proofs.Common.{◌+◌, length}
+use Rattle.moc_operations.specs.Private.Walks.{begun}
+use Rattle.moc_lists.specs.Private.Built.{ranges_of}
+use Rattle.moc_operations.specs.Private.Differing.{IsDiffering}
+use Rattle.moc_operations.proofs.symmetric.differ_lists.Given as goal
+
+abbrev pub invariant-loop-first : goal.invariant-loop-first
+invariant-loop-first l = IsDiffering (ranges_of l.built) (begun l.first l.xs) (begun l.second l.ys) l.fn.xs l.fn.ys
+
+abbrev pub decreases-loop-first : goal.decreases-loop-first
+decreases-loop-first l = length (begun l.first l.xs) + length (begun l.second l.ys)

@@ -1,0 +1,17 @@
+use Rattle.std.proofs.Common.{subst}
+use Rattle.moc_lists.specs.Private.Built.{EndsBelow}
+use Rattle.moc_lists.proofs.CarriedOver.{carry_room, carries_one}
+use Rattle.moc_operations.proofs.Merging.{can_carry, carried}
+use Rattle.moc_lists.proofs.Basics.{part_shorter}
+use Rattle.moc_operations.proofs.union.take_ranges_over.Goals as goal
+
+pub push_all-requires : goal.push_all-requires
+push_all-requires c =
+    let can = can_carry _ _ c.args.limit c.requires (subst (λ f. EndsBelow f c.args.built.now.loose) c.next_from.ensures c.if-is_apart.ensures.below) in
+    record { normal = carry_room _ c.args.xs.now c.in-Some.ranges.now c.take_ranges_below.new.self can.built can.normal c.in-Some.ensures.parts c.in-Some.ensures.some can.after }
+
+pub returns-in-Some : goal.returns-in-Some
+returns-in-Some c =
+    carried _ _ c.args.xs.now c.take_ranges_below.new.self c.args.limit c.requires (subst (λ f. EndsBelow f c.args.built.now.loose) c.next_from.ensures c.if-is_apart.ensures.below)
+    (carries_one _ _ c.args.xs.now c.in-Some.ranges.now c.take_ranges_below.new.self c.args.limit c.requires.normal c.in-Some.ensures.parts c.in-Some.ensures.below c.in_ok-push_all.ensures.built c.in_ok-push_all.ensures.kept)
+    (part_shorter _ _ _ c.in-Some.ensures.parts c.in-Some.ensures.some)
