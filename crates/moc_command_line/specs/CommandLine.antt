@@ -1,5 +1,5 @@
 -- The command line of the program, as `clap` reads it.
-use Rattle.std.specs.Prelude.{◌≡◌, ℕ, pos, true, false, List, [], ◌∷◌, map, Some, codes}
+use Rattle.std.specs.Prelude.{◌≡◌, ℕ, ◌-◌, ◌^◌, pos, true, false, List, [], ◌∷◌, map, Some, codes}
 use Rattle.std.specs.Borrow.{Bor}
 use Rattle.clap.specs.Words.{App, Rule, Shape, Text, new_rule}
 use Rattle.clap.specs.Simple.{new_shape}
@@ -16,7 +16,7 @@ order_rule = required_rule (codes "ORDER") (Signed (pos 0) (pos 29))
 
 -- a required number of 64 bits
 abbrev pub number_rule : Text → Rule
-number_rule name = required_rule name (Unsigned 0 18446744073709551615)
+number_rule name = required_rule name (Unsigned 0 (2 ^ 64 - 1))
 
 -- a parser takes these words, and no other
 abbrev pub TakesJust : ValueParser → List Text → Type 0

@@ -17,7 +17,7 @@ use Rattle.moc_program.specs.declared.action.Action.{Action}
 use Rattle.moc_program.specs.declared.action.Action.TheVariants.{Run, Play, Crew, Number, Renumber, Convert, Check}
 use Rattle.moc_program.specs.declared.action.Action.TheVariants.{Describe, Draw, Change, Combine, Faults}
 use Rattle.moc_program.specs.declared.status.ProgramFault.{ProgramFault}
-use Rattle.moc_program.specs.declared.status.ProgramFault.TheVariants as told
+use Rattle.moc_program.specs.declared.status.ProgramFault.TheVariants as program
 
 -- a run or a crew ends so, with an error of which such a fault is made
 abbrev pub RunEnds :
@@ -31,28 +31,28 @@ abbrev pub PrintsText :
     → Result (Unit {0}) ProgramFault → Type 0
 PrintsText is refused w w' (Ok _) = (text : List ℕ) × is text × Appends w w' text
 PrintsText is refused w w' (Err fault) =
-    ((fault ≡ told.Write) × (front rest : List ℕ) × is (front ++ rest) × Appends w w' front)
+    ((fault ≡ program.Write) × (front rest : List ℕ) × is (front ++ rest) × Appends w w' front)
     ⊎ (refused fault × Keeps w w')
 
 -- the fault is such a complaint of the input
 abbrev pub Complains : (Complaint → Type 0) → ProgramFault → Type 0
-Complains is fault = (c : Complaint) × (fault ≡ told.Input c) × is c
+Complains is fault = (c : Complaint) × (fault ≡ program.Input c) × is c
 
 -- What was asked for ends so, with an input of which this was left and this is, where so much was and is written.
 abbrev pub ActionEnds :
     Action → Option (List ℕ) → Option (List ℕ) → Option (List ℕ) → Option (List ℕ)
     → Result (Unit {0}) ProgramFault → Type 0
 ActionEnds Run left left' w w' =
-    RunEnds (λ error. told.Lines error)
+    RunEnds (λ error. program.Lines error)
     (λ end. IfSome left (λ input. Runs line_limit script_rules set.empty input left' w w' end))
 ActionEnds Play left left' w w' =
-    RunEnds (λ error. told.Lines error)
+    RunEnds (λ error. program.Lines error)
     (λ end. IfSome left (λ input. Runs line_limit schedule_rules start_schedule input left' w w' end))
 ActionEnds (Crew lanes) left left' w w' =
     RunEnds fault_of_crew (λ end. IfSome left (λ input. CrewEnds (lane_count lanes) input left' w w' end))
 ActionEnds (Number number) left left' w w' = PrintsText (IsNumberLine number) (IsNumberRefusal number) w w'
 ActionEnds (Renumber r) left left' w w' =
-    RunEnds (λ error. told.Lines error)
+    RunEnds (λ error. program.Lines error)
     (λ end. IfSome left (λ input. Runs line_limit renumber_rules r input left' w w' end))
 ActionEnds (Convert from to) left left' w w' =
     PrintsText (ConvertsAll from to left left') (Complains (IsNotConverted from left left')) w w'

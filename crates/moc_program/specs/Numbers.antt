@@ -9,7 +9,7 @@ use Rattle.moc_sphere.specs.declared.cell.CellError.TheVariants.{CellTooLarge, N
 use Rattle.moc_program.specs.declared.action.Number.{Number}
 use Rattle.moc_program.specs.declared.action.Number.TheVariants.{Ring, Nest, Uniq, Cell, Near}
 use Rattle.moc_program.specs.declared.status.ProgramFault.{ProgramFault}
-use Rattle.moc_program.specs.declared.status.ProgramFault.TheVariants as told
+use Rattle.moc_program.specs.declared.status.ProgramFault.TheVariants as program
 
 -- numbers with a blank between any two
 abbrev pub number_list : List ℕ → List ℕ
@@ -40,4 +40,4 @@ IsNumberFault (Near order cell) error = (error ≡ CellTooLarge) × (cell_count 
 -- the fault of a number that is not converted: memory was refused, or no cell has the number
 abbrev pub IsNumberRefusal : Number → ProgramFault → Type 0
 IsNumberRefusal number fault =
-    (fault ≡ told.Memory) ⊎ ((error : CellError) × IsNumberFault number error × (fault ≡ told.Number error))
+    (fault ≡ program.Memory) ⊎ ((error : CellError) × IsNumberFault number error × (fault ≡ program.Number error))

@@ -6,7 +6,7 @@ use Rattle.clap.specs.declared.error.kind.ErrorKind.{ErrorKind}
 use Rattle.clap.specs.declared.error.kind.ErrorKind.TheVariants.{DisplayHelp, DisplayVersion, OutOfMemory}
 use Rattle.moc_command_line.specs.CommandLine.{IsCommandLine}
 use Rattle.moc_lines.specs.declared.run_error.RunError.TheVariants as run
-use Rattle.moc_conversion.specs.declared.fault.InputFault.TheVariants as refused
+use Rattle.moc_conversion.specs.declared.fault.InputFault.TheVariants as input_fault
 use Rattle.moc_program.specs.Actions.{ActionEnds}
 use Rattle.moc_program.specs.Asking.{AskFor}
 use Rattle.moc_program.specs.Statuses.{code_of, fault_text, status_of}
@@ -44,7 +44,7 @@ pub record AreMistaken (words : List Text) : Type 0 where
 
 -- a device of which a fault tells that it failed has failed: the input, the output
 abbrev pub BlamesFailed : Bool → Bool → ProgramFault → Type 0
-BlamesFailed input output (Input c) = c.fault ≡ refused.Read → IsTrue input
+BlamesFailed input output (Input c) = c.fault ≡ input_fault.Read → IsTrue input
 BlamesFailed input output (Lines error) = (error ≡ run.Read → IsTrue input) × (error ≡ run.Write → IsTrue output)
 BlamesFailed input output Write = IsTrue output
 BlamesFailed input output _ = Unit {0}

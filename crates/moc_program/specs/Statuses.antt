@@ -9,7 +9,7 @@ use Rattle.moc_script.specs.declared.crew_error.CrewError.TheVariants as crew
 use Rattle.moc_forms.specs.declared.form.FormError.TheVariants as form
 use Rattle.moc_conversion.specs.Faults.{complaint_text, line_of}
 use Rattle.moc_conversion.specs.declared.fault.InputFault.{InputFault}
-use Rattle.moc_conversion.specs.declared.fault.InputFault.TheVariants as refused
+use Rattle.moc_conversion.specs.declared.fault.InputFault.TheVariants as input_fault
 use Rattle.moc_program.specs.declared.status.ProgramFault.{ProgramFault}
 use Rattle.moc_program.specs.declared.status.ProgramFault.TheVariants.{Input, Number, Lines, Spawn, Write, Memory}
 use Rattle.moc_program.specs.declared.status.Status.{Status}
@@ -24,8 +24,8 @@ code_of Broken = 3
 
 -- the status with which an input is refused
 abbrev pub status_of_input : InputFault → Status
-status_of_input refused.Read = Broken
-status_of_input (refused.Form form.Memory) = Broken
+status_of_input input_fault.Read = Broken
+status_of_input (input_fault.Form form.Memory) = Broken
 status_of_input _ = Refused
 
 -- the fault of a crew that ended early
