@@ -1,5 +1,5 @@
 //! The ranges of a list while it grows at its end: in nodes, in blocks, and behind them.
-ghost use Rattle.std.specs.Prelude.{◌≡◌, ◌+◌, ◌<◌, ◌≤◌, ◌++◌, ◌∷◌, ◌||◌, [], List, ℕ, length, IfOk, OnOk};
+ghost use Rattle.std.specs.Prelude.{◌≡◌, ◌+◌, ◌<◌, ◌≤◌, ◌++◌, ◌∷◌, ◌||◌, [], List, ℕ, length, IfOk, OnOk, MatchOption};
 ghost use Rattle.std.specs.Bool.{OnTrue, OnFalse};
 ghost use Rattle.moc_lists.specs.RangeList.{pixel_count, IsNormal};
 ghost use Rattle.moc_lists.specs.Lemmas.Members.{in_ranges, in_range};
@@ -365,6 +365,18 @@ impl Kept {
             self.ranges.push((last.0, last.1.max(to)))?;
         }
         Ok(())
+    }
+
+    /// Takes the last of the ranges that are in no block.
+    #[inline]
+    pub(crate) fn pop(&mut self) -> Option<(u64, u64)>
+        requires { IsKept self.old }
+        ensures built { IsKept self.new }
+        ensures taken { MatchOption result (growing self.new ≡ growing self.old) (λ last.
+            ((growing self.new).closed ≡ (growing self.old).closed)
+            × (self.old.ranges.items ≡ self.new.ranges.items ++ last ∷ [])) }
+    {
+        self.ranges.pop()
     }
 
     /// The list of all ranges.
