@@ -101,8 +101,7 @@ impl Kept {
         if self.ranges.len() < LONGEST {
             return Ok(());
         }
-        self.seal(alloc)?;
-        Ok(())
+        self.seal(alloc)
     }
 
     /// Makes a block of the ranges that are in none.
@@ -117,8 +116,7 @@ impl Kept {
         }
         let ranges = taken(alloc, &mut self.ranges)?;
         let block = Block::new(alloc, ranges)?;
-        self.push_block(alloc, block)?;
-        Ok(())
+        self.push_block(alloc, block)
     }
 
     /// Whether a block with so many ranges joins the last.
@@ -146,8 +144,7 @@ impl Kept {
         if self.blocks.len() < WIDEST {
             return Ok(());
         }
-        self.seal_node(alloc)?;
-        Ok(())
+        self.seal_node(alloc)
     }
 
     /// Makes blocks of the last node where there are none behind it.
@@ -181,8 +178,7 @@ impl Kept {
     {
         if self.joins(block.ranges().len()) {
             self.reopen(alloc)?;
-            join_last(alloc, &mut self.blocks, block)?;
-            return Ok(());
+            return join_last(alloc, &mut self.blocks, block);
         }
         self.make_room(alloc)?;
         self.blocks.push(block)?;
@@ -243,8 +239,7 @@ impl Kept {
     {
         self.seal(alloc)?;
         let shared = block.share()?;
-        self.push_block(alloc, shared)?;
-        Ok(())
+        self.push_block(alloc, shared)
     }
 
     /// Whether a node can stand behind the blocks as it is: its first block joins none, and its
@@ -315,12 +310,10 @@ impl Kept {
     {
         self.seal(alloc)?;
         if !self.takes_whole(node) {
-            self.carry_each(alloc, node.blocks())?;
-            return Ok(());
+            return self.carry_each(alloc, node.blocks());
         }
         self.seal_node(alloc)?;
-        self.push_node(alloc, node)?;
-        Ok(())
+        self.push_node(alloc, node)
     }
 
     /// Whether the ranges that are in no block all end below f.
@@ -358,8 +351,7 @@ impl Kept {
         ensures can { OnOk result (CanJoin (growing self.new) from) }
     {
         if self.is_apart(from) {
-            self.push(alloc, from, to)?;
-            return Ok(());
+            return self.push(alloc, from, to);
         }
         if let Some(last) = self.ranges.pop() {
             self.ranges.push((last.0, last.1.max(to)))?;
