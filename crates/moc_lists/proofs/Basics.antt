@@ -4,6 +4,21 @@ use Rattle.std.proofs.lemmas.Bool.Decides.{nat_tests}
 use Rattle.std.proofs.lemmas.List.{take_all}
 use Rattle.moc_lists.specs.Lemmas.Members.{in_ranges, in_range, in_ranges-append, or_false}
 use Rattle.moc_lists.specs.Private.Walks.{EndsBy}
+use Rattle.std.specs.Prelude.{OnOk, Result, Ok, Err}
+
+-- what follows from a fact that holds where a call was not refused
+pub from_ok : {T E P Q : Type 0} (r : Result T E) → OnOk r P → (P → Q) → OnOk r Q
+from_ok (Ok x) p f = f p
+from_ok (Err e) p f = tt
+
+-- what follows from two such facts, or from three
+pub from_two_ok : {T E P Q R : Type 0} (r : Result T E) → OnOk r P → OnOk r Q → (P → Q → R) → OnOk r R
+from_two_ok (Ok x) p q f = f p q
+from_two_ok (Err e) p q f = tt
+
+pub from_three_ok : {T E P Q R S : Type 0} (r : Result T E) → OnOk r P → OnOk r Q → OnOk r R → (P → Q → R → S) → OnOk r S
+from_three_ok (Ok x) p q s f = f p q s
+from_three_ok (Err e) p q s f = tt
 
 pub first_item : (xs : List (ℕ × ℕ)) (d : ℕ × ℕ) → 1 ≤ length xs → xs ≡ get_or xs 0 d ∷ take (length xs - 1) (drop 1 xs)
 first_item [] d some = absurd (omega arith)

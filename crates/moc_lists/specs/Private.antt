@@ -1,4 +1,4 @@
--- What serves this crate and `moc_ranges` alone, which was one with it.
+-- What serves this crate, `moc_operations` and `moc_ranges` alone, which were one.
 pub mod Blocks
 pub mod Built
 pub mod Kept

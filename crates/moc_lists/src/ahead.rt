@@ -41,6 +41,9 @@ pub(crate) fn begin_node(ahead: Ahead<'_>) -> Ahead<'_>
     ensures same { rest_of [] result.blocks.now result.nodes.now ≡ rest_of [] ahead.entry.blocks.now
         ahead.entry.nodes.now }
     ensures begun { length result.blocks.now < 1 → rest_of [] ahead.entry.blocks.now ahead.entry.nodes.now ≡ [] }
+    ensures blocks { result.blocks.now ++ joining result.nodes.now ≡ ahead.entry.blocks.now
+        ++ joining ahead.entry.nodes.now }
+    ensures none { length result.blocks.now < 1 → ahead.entry.blocks.now ++ joining ahead.entry.nodes.now ≡ [] }
 {
     let [] = ahead.blocks else {
         return ahead;
@@ -52,6 +55,36 @@ pub(crate) fn begin_node(ahead: Ahead<'_>) -> Ahead<'_>
         blocks: node.blocks(),
         nodes,
     }
+}
+
+/// A block, and what is behind it.
+#[derive(Clone, Copy)]
+pub(crate) struct WholeBlock<'a> {
+    pub block: &'a Block,
+    pub ahead: Ahead<'a>,
+}
+
+/// The next block, if there is one.
+#[inline]
+pub(crate) fn next_block(ahead: Ahead<'_>) -> Option<WholeBlock<'_>>
+    ensures blocks { MatchOption result (ahead.entry.blocks.now ++ joining ahead.entry.nodes.now ≡ []) (λ w.
+        ahead.entry.blocks.now ++ joining ahead.entry.nodes.now
+        ≡ w.block.now ∷ (w.ahead.blocks.now ++ joining w.ahead.nodes.now)) }
+    ensures ranges { MatchOption result (rest_of [] ahead.entry.blocks.now ahead.entry.nodes.now ≡ []) (λ w.
+        rest_of [] ahead.entry.blocks.now ahead.entry.nodes.now
+        ≡ w.block.now ++ rest_of [] w.ahead.blocks.now w.ahead.nodes.now) }
+{
+    let ahead = begin_node(ahead);
+    let [block, blocks @ ..] = ahead.blocks else {
+        return None;
+    };
+    Some(WholeBlock {
+        block,
+        ahead: Ahead {
+            blocks,
+            nodes: ahead.nodes,
+        },
+    })
 }
 
 /// Where the next range begins; the largest number if there is none.
@@ -71,20 +104,14 @@ pub(crate) fn next_ahead(ahead: Ahead<'_>) -> Option<Front<'_>>
         ahead.entry.blocks.now ahead.entry.nodes.now ≡ f.range ∷ rest_of f.ranges.now f.ahead.blocks.now
         f.ahead.nodes.now) }
 {
-    let ahead = begin_node(ahead);
-    let [block, blocks @ ..] = ahead.blocks else {
-        return None;
-    };
-    let [range, ranges @ ..] = block.ranges() else {
+    let next = next_block(ahead)?;
+    let [range, ranges @ ..] = next.block.ranges() else {
         return None;
     };
     Some(Front {
         range: *range,
         ranges,
-        ahead: Ahead {
-            blocks,
-            nodes: ahead.nodes,
-        },
+        ahead: next.ahead,
     })
 }
 
@@ -94,16 +121,10 @@ pub(crate) fn block_ahead(ahead: Ahead<'_>) -> Option<Begun<'_>>
         (rest_of b.ranges.now b.ahead.blocks.now b.ahead.nodes.now
         ≡ rest_of [] ahead.entry.blocks.now ahead.entry.nodes.now) × (0 < length b.ranges.now)) }
 {
-    let ahead = begin_node(ahead);
-    let [block, blocks @ ..] = ahead.blocks else {
-        return None;
-    };
+    let next = next_block(ahead)?;
     Some(Begun {
-        ranges: block.ranges(),
-        ahead: Ahead {
-            blocks,
-            nodes: ahead.nodes,
-        },
+        ranges: next.block.ranges(),
+        ahead: next.ahead,
     })
 }
 
@@ -142,13 +163,6 @@ pub(crate) fn node_below<'a>(
     }
 }
 
-/// A block, and what is behind it.
-#[derive(Clone, Copy)]
-pub(crate) struct WholeBlock<'a> {
-    pub block: &'a Block,
-    pub ahead: Ahead<'a>,
-}
-
 /// The next block, where none is begun and it ends below the limit.
 pub(crate) fn block_below<'a>(
     ranges: &[(u64, u64)],
@@ -165,18 +179,9 @@ pub(crate) fn block_below<'a>(
     let [] = ranges else {
         return None;
     };
-    let ahead = begin_node(ahead);
-    let [block, blocks @ ..] = ahead.blocks else {
-        return None;
-    };
-    if block.to() < limit {
-        Some(WholeBlock {
-            block,
-            ahead: Ahead {
-                blocks,
-                nodes: ahead.nodes,
-            },
-        })
+    let next = next_block(ahead)?;
+    if next.block.to() < limit {
+        Some(next)
     } else {
         None
     }

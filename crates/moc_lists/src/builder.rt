@@ -5,6 +5,7 @@ ghost use Rattle.moc_lists.specs.RangeList.{pixel_count, IsNormal};
 ghost use Rattle.moc_lists.specs.Lemmas.Members.{in_ranges, in_range};
 ghost use Rattle.moc_lists.specs.Blocks.{joining};
 ghost use Rattle.moc_lists.specs.Private.Blocks.{last_of};
+ghost use Rattle.moc_lists.specs.Private.Kept.{IsKept};
 ghost use Rattle.moc_lists.specs.Private.Built.{ranges_of, none_grown, CanJoin, CanCarry, Carries, EndsBelow};
 
 use crate::block::{Block, LONGEST};
@@ -33,6 +34,20 @@ impl Model for ListBuilder {
     ghost invariant = { λ b. IsKept b.kept };
 }
 
+/// Answers what a change answered; where that was refused, all that is gathered is dropped.
+#[inline]
+fn kept_or_cleared(kept: &mut Kept, done: Result<(), AllocError>) -> Result<(), AllocError>
+    requires { OnOk done (IsKept kept.old) }
+    ensures built { IsKept kept.new }
+    ensures same { result ≡ done }
+    ensures kept { OnOk result (kept.new ≡ kept.old) }
+{
+    if done.is_err() {
+        kept.clear();
+    }
+    done
+}
+
 impl ListBuilder {
     /// Nothing yet, with room for so many ranges, or for a block where that is more.
     #[inline]
@@ -53,13 +68,8 @@ impl ListBuilder {
         ensures kept { OnOk result (ranges_of self.new ≡ ranges_of self.old ++ (from, to) ∷ []) }
         ensures last { OnOk result ((init : List (ℕ × ℕ)) × (self.new.loose ≡ init ++ (from, to) ∷ [])) }
     {
-        match self.kept.push(alloc, from, to) {
-            Ok(()) => Ok(()),
-            Err(refused) => {
-                self.kept.clear();
-                Err(refused)
-            }
-        }
+        let done = self.kept.push(alloc, from, to);
+        kept_or_cleared(&mut self.kept, done)
     }
 
     /// Adds ranges of a list behind all others.
@@ -68,13 +78,8 @@ impl ListBuilder {
         ensures built { OnOk result (IsNormal (ranges_of self.new)) }
         ensures kept { OnOk result (ranges_of self.new ≡ ranges_of self.old ++ ranges.now) }
     {
-        match self.kept.push_all(alloc, ranges) {
-            Ok(()) => Ok(()),
-            Err(refused) => {
-                self.kept.clear();
-                Err(refused)
-            }
-        }
+        let done = self.kept.push_all(alloc, ranges);
+        kept_or_cleared(&mut self.kept, done)
     }
 
     /// Adds a block of a list behind all others.
@@ -85,13 +90,8 @@ impl ListBuilder {
         ensures built { OnOk result (IsNormal (ranges_of self.new)) }
         ensures kept { OnOk result (ranges_of self.new ≡ ranges_of self.old ++ block.now) }
     {
-        match self.kept.carry(alloc, block) {
-            Ok(()) => Ok(()),
-            Err(refused) => {
-                self.kept.clear();
-                Err(refused)
-            }
-        }
+        let done = self.kept.carry(alloc, block);
+        kept_or_cleared(&mut self.kept, done)
     }
 
     /// Adds the blocks of a node behind all others.
@@ -100,13 +100,8 @@ impl ListBuilder {
         ensures built { OnOk result (IsNormal (ranges_of self.new)) }
         ensures kept { OnOk result (ranges_of self.new ≡ ranges_of self.old ++ joining node.now) }
     {
-        match self.kept.carry_node(alloc, node) {
-            Ok(()) => Ok(()),
-            Err(refused) => {
-                self.kept.clear();
-                Err(refused)
-            }
-        }
+        let done = self.kept.carry_node(alloc, node);
+        kept_or_cleared(&mut self.kept, done)
     }
 
     /// Carries over the next node or block of a list, where none is begun and it ends below the limit, and answers
@@ -153,13 +148,8 @@ impl ListBuilder {
             (in_ranges (ranges_of self.old) q || in_range (from, to) q)) }
         ensures can { OnOk result (CanJoin self.new from) }
     {
-        match self.kept.join(alloc, from, to) {
-            Ok(()) => Ok(()),
-            Err(refused) => {
-                self.kept.clear();
-                Err(refused)
-            }
-        }
+        let done = self.kept.join(alloc, from, to);
+        kept_or_cleared(&mut self.kept, done)
     }
 
     /// Takes the last range back, where it may still be made longer.
@@ -168,7 +158,7 @@ impl ListBuilder {
         ensures { MatchOption result (self.new ≡ self.old) (λ last.
             (self.new.closed ≡ self.old.closed) × (self.old.loose ≡ self.new.loose ++ last ∷ [])) }
     {
-        self.kept.ranges.pop()
+        self.kept.pop()
     }
 
     /// The list of all ranges.

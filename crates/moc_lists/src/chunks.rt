@@ -1,6 +1,5 @@
 //! The blocks of a list, as slices of ranges.
-use crate::ahead::Ahead;
-use crate::block::Block;
+use crate::ahead::{Ahead, next_block};
 use crate::node::Node;
 use std::fmt;
 use std::marker::Model;
@@ -23,52 +22,9 @@ impl<'a> Model for Chunks<'a> {
     ghost view = { λ c. chunks_of c.few.now c.ahead.blocks.now c.ahead.nodes.now };
 }
 
-ghost use Rattle.std.specs.Prelude.{◌≡◌, ◌++◌, [], ◌∷◌, MatchOption};
+ghost use Rattle.std.specs.Prelude.{◌≡◌, [], ◌∷◌, MatchOption};
 ghost use Rattle.std.specs.Iterator.{item_count};
-ghost use Rattle.moc_lists.specs.Blocks.{joining};
 ghost use Rattle.moc_lists.specs.Private.Blocks.{chunks_of};
-
-/// A block, and what is behind it.
-#[derive(Clone, Copy)]
-struct NextBlock<'a> {
-    block: &'a Block,
-    ahead: Ahead<'a>,
-}
-
-/// The first block of nodes, if there is one.
-fn first_block(nodes: &[Node]) -> Option<NextBlock<'_>>
-    ensures { MatchOption result (joining nodes.entry.now ≡ []) (λ n.
-        joining nodes.entry.now ≡ n.block.now ∷ (n.ahead.blocks.now ++ joining n.ahead.nodes.now)) }
-{
-    let [node, nodes @ ..] = nodes else {
-        return None;
-    };
-    let [block, blocks @ ..] = node.blocks() else {
-        return None;
-    };
-    Some(NextBlock {
-        block,
-        ahead: Ahead { blocks, nodes },
-    })
-}
-
-/// The next block, if there is one.
-fn next_block(ahead: Ahead<'_>) -> Option<NextBlock<'_>>
-    ensures { MatchOption result (ahead.entry.blocks.now ++ joining ahead.entry.nodes.now ≡ []) (λ n.
-        ahead.entry.blocks.now ++ joining ahead.entry.nodes.now
-        ≡ n.block.now ∷ (n.ahead.blocks.now ++ joining n.ahead.nodes.now)) }
-{
-    let [block, blocks @ ..] = ahead.blocks else {
-        return first_block(ahead.nodes);
-    };
-    Some(NextBlock {
-        block,
-        ahead: Ahead {
-            blocks,
-            nodes: ahead.nodes,
-        },
-    })
-}
 
 impl<'a> Chunks<'a> {
     /// These ranges as a chunk, if there are any, and the blocks of the nodes.

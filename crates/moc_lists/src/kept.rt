@@ -1,5 +1,5 @@
 //! The ranges of a list while it grows at its end: in nodes, in blocks, and behind them.
-ghost use Rattle.std.specs.Prelude.{◌≡◌, ◌+◌, ◌<◌, ◌≤◌, ◌++◌, ◌∷◌, ◌||◌, [], List, ℕ, length, IfOk, OnOk};
+ghost use Rattle.std.specs.Prelude.{◌≡◌, ◌+◌, ◌<◌, ◌≤◌, ◌++◌, ◌∷◌, ◌||◌, [], List, ℕ, length, IfOk, OnOk, MatchOption};
 ghost use Rattle.std.specs.Bool.{OnTrue, OnFalse};
 ghost use Rattle.moc_lists.specs.RangeList.{pixel_count, IsNormal};
 ghost use Rattle.moc_lists.specs.Lemmas.Members.{in_ranges, in_range};
@@ -101,8 +101,7 @@ impl Kept {
         if self.ranges.len() < LONGEST {
             return Ok(());
         }
-        self.seal(alloc)?;
-        Ok(())
+        self.seal(alloc)
     }
 
     /// Makes a block of the ranges that are in none.
@@ -117,8 +116,7 @@ impl Kept {
         }
         let ranges = taken(alloc, &mut self.ranges)?;
         let block = Block::new(alloc, ranges)?;
-        self.push_block(alloc, block)?;
-        Ok(())
+        self.push_block(alloc, block)
     }
 
     /// Whether a block with so many ranges joins the last.
@@ -146,8 +144,7 @@ impl Kept {
         if self.blocks.len() < WIDEST {
             return Ok(());
         }
-        self.seal_node(alloc)?;
-        Ok(())
+        self.seal_node(alloc)
     }
 
     /// Makes blocks of the last node where there are none behind it.
@@ -181,8 +178,7 @@ impl Kept {
     {
         if self.joins(block.ranges().len()) {
             self.reopen(alloc)?;
-            join_last(alloc, &mut self.blocks, block)?;
-            return Ok(());
+            return join_last(alloc, &mut self.blocks, block);
         }
         self.make_room(alloc)?;
         self.blocks.push(block)?;
@@ -243,8 +239,7 @@ impl Kept {
     {
         self.seal(alloc)?;
         let shared = block.share()?;
-        self.push_block(alloc, shared)?;
-        Ok(())
+        self.push_block(alloc, shared)
     }
 
     /// Whether a node can stand behind the blocks as it is: its first block joins none, and its
@@ -315,12 +310,10 @@ impl Kept {
     {
         self.seal(alloc)?;
         if !self.takes_whole(node) {
-            self.carry_each(alloc, node.blocks())?;
-            return Ok(());
+            return self.carry_each(alloc, node.blocks());
         }
         self.seal_node(alloc)?;
-        self.push_node(alloc, node)?;
-        Ok(())
+        self.push_node(alloc, node)
     }
 
     /// Whether the ranges that are in no block all end below f.
@@ -358,13 +351,24 @@ impl Kept {
         ensures can { OnOk result (CanJoin (growing self.new) from) }
     {
         if self.is_apart(from) {
-            self.push(alloc, from, to)?;
-            return Ok(());
+            return self.push(alloc, from, to);
         }
         if let Some(last) = self.ranges.pop() {
             self.ranges.push((last.0, last.1.max(to)))?;
         }
         Ok(())
+    }
+
+    /// Takes the last of the ranges that are in no block.
+    #[inline]
+    pub(crate) fn pop(&mut self) -> Option<(u64, u64)>
+        requires { IsKept self.old }
+        ensures built { IsKept self.new }
+        ensures taken { MatchOption result (growing self.new ≡ growing self.old) (λ last.
+            ((growing self.new).closed ≡ (growing self.old).closed)
+            × (self.old.ranges.items ≡ self.new.ranges.items ++ last ∷ [])) }
+    {
+        self.ranges.pop()
     }
 
     /// The list of all ranges.

@@ -290,7 +290,9 @@ impl Nodes {
         put_two(&mut self.nodes, place, first, second)?;
         move_behind(&mut self.starts, place, blocks, new_blocks);
         // There is room.
-        let _ = self.starts.insert(place + 1, start);
+        let Ok(()) = self.starts.insert(place + 1, start) else {
+            unreachable!()
+        };
         self.size += added;
         self.count = others + ranges;
         Ok(())

@@ -249,21 +249,25 @@ impl<'a> Ranges<'a> {
         requires { range.0 ≤ range.1 }
         ensures { Passes range self.old self.new result }
     {
-        let begun = Begun {
-            ranges: self.ranges,
-            ahead: self.ahead,
-        };
-        let passed = pass_ranges(begun, range);
+        let passed = pass_ranges(self.begun(), range);
         self.ranges = passed.begun.ranges;
         self.ahead = passed.begun.ahead;
         passed.common
+    }
+
+    /// Leaves out the ranges that end by a number. O(log n).
+    #[inline]
+    pub fn skip_to(&mut self, limit: u64)
+        ensures { ((n : ℕ) × Passes (limit, limit) self.old self.new n) }
+    {
+        self.pass((limit, limit));
     }
 
     /// Whether the range that stands `reach` ahead in the block that is begun ends after the limit: to go on one
     /// by one then costs less than a search.
     #[inline(always)]
     pub fn is_near(&self, limit: u64, reach: usize) -> bool {
-        match self.begun().ranges.get(reach) {
+        match self.ranges.get(reach) {
             Some(range) => limit < range.1,
             None => self.is_in_block(),
         }

@@ -80,8 +80,7 @@ pub fn push_part(
     if to <= from {
         return Ok(());
     }
-    built.push(alloc, from, to)?;
-    Ok(())
+    built.push(alloc, from, to)
 }
 
 /// Where a range begins, or the largest number where there is none.
@@ -125,9 +124,8 @@ pub fn take_whole(
         return Ok(());
     }
     if xs.next_from() < range.0 {
-        let _ = xs.pass((range.0, range.0));
+        xs.skip_to(range.0);
         return Ok(());
     }
-    carry_all(alloc, xs, limit, built)?;
-    Ok(())
+    carry_all(alloc, xs, limit, built)
 }

@@ -61,7 +61,7 @@ fn leave_out_by(ys: &mut Ranges<'_>, limit: u64)
     if ys.is_in_block() {
         return;
     }
-    let _ = ys.pass((limit, limit));
+    ys.skip_to(limit);
 }
 
 /// Goes to where the other list has come to: of the second list leaves out what ends before the first's next range, and
@@ -83,8 +83,7 @@ fn lack_whole(
 {
     leave_out_by(ys, xs.next_from());
     let next = ys.next_from();
-    take_whole(alloc, xs, (low, next), next, built)?;
-    Ok(())
+    take_whole(alloc, xs, (low, next), next, built)
 }
 
 /// Adds what the begun or next block of a list has in the gaps of the other's, until one of these has no more; `low` is
@@ -172,10 +171,10 @@ pub fn subtract(alloc: Global, xs: Ranges<'_>, ys: Ranges<'_>) -> Result<RangeLi
     requires ys { IsNormal ys }
     ensures { IfOk result (λ l. set_of l ≡ set.difference (set_of xs.entry) (set_of ys.entry)) }
 {
-    if let Some(few) = xs.few() {
-        if let Some(others) = ys.few() {
-            return subtract_few(alloc, few, others);
-        }
+    if let Some(few) = xs.few()
+        && let Some(others) = ys.few()
+    {
+        return subtract_few(alloc, few, others);
     }
     if are_even(&xs, &ys) {
         return subtract_blocks(alloc, xs, ys);

@@ -9,7 +9,7 @@ ghost use Rattle.moc_lists.specs.Private.Built.{ranges_of, EndsBelow};
 ghost use Rattle.moc_operations.specs.Private.Taking.{AddsPart, TakesCommon};
 ghost use Rattle.moc_operations.specs.Private.Meeting.{CanMeet, MeetsOn};
 
-use crate::carrying::{leave_out, next_carrying, take_whole};
+use crate::carrying::{leave_out, next_carrying, push_part, take_whole};
 use crate::few::intersect_few;
 use crate::meeting::{ROOM, meet_begun};
 use crate::reach::{FAR, NEAR, are_even};
@@ -29,13 +29,7 @@ fn push_common(
     requires after { EndsBelow (max x.0 y.0) (ranges_of built.old) }
     ensures { OnOk result (AddsPart (max x.0 y.0) (min x.1 y.1) (ranges_of built.old) (ranges_of built.new)) }
 {
-    let from = x.0.max(y.0);
-    let to = x.1.min(y.1);
-    if to <= from {
-        return Ok(());
-    }
-    built.push(alloc, from, to)?;
-    Ok(())
+    push_part(alloc, x.0.max(y.0), x.1.min(y.1), built)
 }
 
 /// The next range behind one that ended at `end`, where the other list has come to a range. Those that end before
@@ -170,8 +164,7 @@ fn meet_whole(
     let Some(other) = ys.begun_range() else {
         return Ok(());
     };
-    take_whole(alloc, xs, other, other.1 + 1, built)?;
-    Ok(())
+    take_whole(alloc, xs, other, other.1 + 1, built)
 }
 
 /// The pixels that the ranges of both lists have, block by block.
@@ -203,10 +196,10 @@ pub fn intersect(alloc: Global, xs: Ranges<'_>, ys: Ranges<'_>) -> Result<RangeL
     requires ys { IsNormal ys }
     ensures { IfOk result (λ l. set_of l ≡ set.intersection (set_of xs.entry) (set_of ys.entry)) }
 {
-    if let Some(few) = xs.few() {
-        if let Some(others) = ys.few() {
-            return intersect_few(alloc, few, others);
-        }
+    if let Some(few) = xs.few()
+        && let Some(others) = ys.few()
+    {
+        return intersect_few(alloc, few, others);
     }
     if are_even(&xs, &ys) {
         return intersect_blocks(alloc, xs, ys);

@@ -41,12 +41,10 @@ fn take_ranges_over(
 {
     if built.is_apart(xs.next_from()) {
         if let Some(ranges) = xs.take_ranges_below(limit) {
-            built.push_all(alloc, ranges)?;
-            return Ok(());
+            return built.push_all(alloc, ranges);
         }
     }
-    join_next(alloc, xs, limit, built)?;
-    Ok(())
+    join_next(alloc, xs, limit, built)
 }
 
 /// Takes the next node or block of a list, where it ends below the limit, or just the next range, over into what is
@@ -66,8 +64,7 @@ fn take_blocks_over(
             return Ok(());
         }
     }
-    join_next(alloc, xs, limit, built)?;
-    Ok(())
+    join_next(alloc, xs, limit, built)
 }
 
 /// Takes the next range of a list, or the next ranges, block or node where they end below the limit, over into what is
@@ -83,11 +80,9 @@ fn take_over(
     ensures { OnOk result (TakesOver xs.old xs.new limit built.old built.new) }
 {
     if xs.is_in_block() {
-        take_ranges_over(alloc, xs, limit, built)?;
-        return Ok(());
+        return take_ranges_over(alloc, xs, limit, built);
     }
-    take_blocks_over(alloc, xs, limit, built)?;
-    Ok(())
+    take_blocks_over(alloc, xs, limit, built)
 }
 
 /// A range, and what is left of two begun blocks behind it.
@@ -229,10 +224,10 @@ pub fn unite(alloc: Global, xs: Ranges<'_>, ys: Ranges<'_>) -> Result<RangeList,
     requires ys { IsNormal ys }
     ensures { IfOk result (λ l. set_of l ≡ set.union (set_of xs.entry) (set_of ys.entry)) }
 {
-    if let Some(few) = xs.few() {
-        if let Some(others) = ys.few() {
-            return unite_few(alloc, few, others);
-        }
+    if let Some(few) = xs.few()
+        && let Some(others) = ys.few()
+    {
+        return unite_few(alloc, few, others);
     }
     let turns = !are_uneven(&xs, &ys);
     unite_lists(alloc, xs, ys, turns)

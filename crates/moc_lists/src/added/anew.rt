@@ -103,34 +103,35 @@ struct Grown<'a> {
 /// block, or a rule of lengths would be broken.
 fn grow<'a>(
     alloc: Global,
-    before: &[Node],
-    node: &'a Node,
-    behind: &[Node],
+    around: &Around<'a, Node>,
     from: u64,
     to: u64,
 ) -> Result<Option<Grown<'a>>, AllocError>
-    requires sized { AreBlocks (joining before.now ++ (node.now ++ joining behind.now)) }
-    requires normal { IsNormal (joining (joining before.now ++ (node.now ++ joining behind.now))) }
+    requires sized { AreBlocks (joining around.now.before.now
+        ++ (around.now.run.now ++ joining around.now.behind.now)) }
+    requires normal { IsNormal (joining (joining around.now.before.now
+        ++ (around.now.run.now ++ joining around.now.behind.now))) }
     requires filled { from < to }
     requires within { to ≤ pixel_count }
-    requires below { EndsBelow from (joining (joining before.now)) }
-    ensures { IfOk result (λ g. IfSome g (λ g. IsGrown from to (joining before.now) (joining behind.now) node.entry.now
-        g.place.before.now g.place.run.now g.place.behind.now g.cut.first.items g.cut.second.items g.added)) }
+    requires below { EndsBelow from (joining (joining around.now.before.now)) }
+    ensures { IfOk result (λ g. IfSome g (λ g. IsGrown from to (joining around.now.before.now)
+        (joining around.now.behind.now) around.now.run.now g.place.before.now g.place.run.now g.place.behind.now
+        g.cut.first.items g.cut.second.items g.added)) }
 {
-    let Some(place) = place_of(node.blocks(), from) else {
+    let Some(place) = place_of(around.run.blocks(), from) else {
         return Ok(None);
     };
     let ahead = Ahead {
         blocks: place.behind,
-        nodes: behind,
+        nodes: around.behind,
     };
     if front_from(ahead) <= to {
         return Ok(None);
     }
     let ranges = with_range(alloc, place.run.ranges(), from, to)?;
     let added = measure_ranges(&ranges) - place.run.size();
-    let front = length_of_last(before, place.before);
-    let back = length_of_next(place.behind, behind);
+    let front = length_of_last(around.before, place.before);
+    let back = length_of_next(place.behind, around.behind);
     let Some(cut) = cut_list(alloc, ranges, LONGEST, front, back)? else {
         return Ok(None);
     };
@@ -141,21 +142,22 @@ fn grow<'a>(
 /// and the rules of lengths are kept.
 fn regrow(
     alloc: Global,
-    before: &[Node],
-    node: &Node,
-    behind: &[Node],
+    around: &Around<'_, Node>,
     from: u64,
     to: u64,
 ) -> Result<Option<Regrown>, AllocError>
-    requires sized { AreBlocks (joining before.now ++ (node.now ++ joining behind.now)) }
-    requires normal { IsNormal (joining (joining before.now ++ (node.now ++ joining behind.now))) }
+    requires sized { AreBlocks (joining around.now.before.now
+        ++ (around.now.run.now ++ joining around.now.behind.now)) }
+    requires normal { IsNormal (joining (joining around.now.before.now
+        ++ (around.now.run.now ++ joining around.now.behind.now))) }
     requires filled { from < to }
     requires within { to ≤ pixel_count }
-    requires below { EndsBelow from (joining (joining before.now)) }
+    requires below { EndsBelow from (joining (joining around.now.before.now)) }
     ensures { IfOk result (λ r. IfSome r (λ r.
-        IsRegrown from to (joining before.now) (joining behind.now) node.now r.blocks.items r.added)) }
+        IsRegrown from to (joining around.now.before.now) (joining around.now.behind.now)
+        around.now.run.now r.blocks.items r.added)) }
 {
-    let Some(Grown { place, cut, added }) = grow(alloc, before, node, behind, from, to)? else {
+    let Some(Grown { place, cut, added }) = grow(alloc, around, from, to)? else {
         return Ok(None);
     };
     let blocks = replaced(alloc, place, cut)?;
@@ -203,15 +205,7 @@ pub(crate) fn renew(
     let Some(place) = place_of(nodes, from) else {
         return Ok(None);
     };
-    let Some(Regrown { blocks, added }) = regrow(
-        alloc,
-        place.before,
-        place.run,
-        place.behind,
-        from,
-        to,
-    )?
-    else {
+    let Some(Regrown { blocks, added }) = regrow(alloc, &place, from, to)? else {
         return Ok(None);
     };
     let front = width_of_last(place.before);
@@ -261,7 +255,7 @@ pub(crate) fn spot_of(
             cut,
             added,
         },
-    ) = grow(alloc, place.before, place.run, place.behind, from, to)?
+    ) = grow(alloc, &place, from, to)?
     else {
         return Ok(None);
     };

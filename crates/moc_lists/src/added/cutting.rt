@@ -17,7 +17,7 @@ fn are_apart(most: usize, first: usize, second: usize) -> bool
     requires { most ≤ 128 }
     ensures { OnTrue result (0 < first → most < first + second) }
 {
-    first == 0 || second > most || first > most - second
+    first == 0 || first > most.saturating_sub(second)
 }
 
 /// Where to cut so many items, of which one list has at most so many, behind a list of some length.

@@ -1,7 +1,7 @@
 use Rattle.std.proofs.Common.{arith, refl}
 use Rattle.moc_lists.proofs.Merging.{EndsBelow-more}
 use Rattle.moc_operations.proofs.InCommon.{common_below, common_nothing}
-use Rattle.moc_lists.proofs.Basics.{common_same}
+use Rattle.moc_lists.proofs.Basics.{common_same, from_two_ok}
 use Rattle.moc_operations.proofs.carrying.push_part.Goals as goal
 
 pub returns-then-to-from : goal.returns-then-to-from
@@ -12,8 +12,8 @@ returns-then-to-from c = record {
 }
 
 pub returns : goal.returns
-returns c = record {
-  built = c.in_ok-push.ensures.built;
-  below = λ f le lt. common_below _ _ _ _ _ _ f c.requires.after c.in_ok-push.ensures.kept refl refl le lt;
-  same = λ q. common_same _ _ _ _ _ _ q c.in_ok-push.ensures.kept refl refl;
-}
+returns c = from_two_ok c.push.result c.push.ensures.built c.push.ensures.kept (λ built kept. record {
+  built = built;
+  below = λ f le lt. common_below _ _ _ _ _ _ f c.requires.after kept refl refl le lt;
+  same = λ q. common_same _ _ _ _ _ _ q kept refl refl;
+})

@@ -1,14 +1,15 @@
 use Rattle.std.proofs.Common.{◌≤◌, arith}
 use Rattle.moc_lists.specs.Private.Blocks.{next_of}
 use Rattle.moc_lists.proofs.Merging.{EndsBelow-more}
+use Rattle.moc_lists.proofs.Basics.{from_ok}
 use Rattle.moc_operations.proofs.InCommon.{taken_passed, taken_carried}
 use Rattle.moc_operations.proofs.carrying.take_whole.Goals as goal
 
 pub returns-then-next_from-range : goal.returns-then-next_from-range
-returns-then-next_from-range c = taken_passed _ c.args.xs.now c.pass.new.self c.args.range c.pass.result c.requires.normal c.requires.rising c.requires.built c.requires.after c.pass.ensures
+returns-then-next_from-range c = taken_passed _ c.args.xs.now c.skip_to.new.self c.args.range c.skip_to.ensures.0 c.requires.normal c.requires.rising c.requires.built c.requires.after c.skip_to.ensures.1
 
 pub returns : goal.returns
 returns c =
     let from : c.args.range.0 ≤ next_of c.args.xs.now = omega (arith, c.next_from.ensures, c.if-next_from-range.false) in
     let after = EndsBelow-more _ (next_of c.args.xs.now) _ c.requires.after (omega (arith, from)) in
-    taken_carried _ _ c.args.xs.now c.carry_all.new.xs c.args.range c.args.limit c.requires.normal from c.requires.within after c.in_ok-carry_all.ensures
+    from_ok c.carry_all.result c.carry_all.ensures (taken_carried _ _ c.args.xs.now c.carry_all.new.xs c.args.range c.args.limit c.requires.normal from c.requires.within after)

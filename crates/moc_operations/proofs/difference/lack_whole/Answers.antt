@@ -1,5 +1,6 @@
 use Rattle.std.proofs.Common.{arith}
 use Rattle.moc_lists.proofs.Merging.{EndsBelow-more}
+use Rattle.moc_lists.proofs.Basics.{from_ok}
 use Rattle.moc_operations.proofs.Shortening.{taken_shorter}
 use Rattle.moc_operations.proofs.MeetingOn.{left_normal, left_shorter, meets_more, meets_taken}
 use Rattle.moc_operations.proofs.GapsOf.{first_gap, gap_rest, lacks_left, next_gap, rising_low}
@@ -18,10 +19,12 @@ take_whole-requires-clause-after c =
 pub returns-clause-met : goal.returns-clause-met
 returns-clause-met c =
     let m = lacks_left _ c.args.xs.now c.args.ys.now _ c.args.low c.next_from.result c.requires.can c.requires.second_normal c.next_from.ensures c.leave_out_by.ensures in
-    meets_more _ _ _ _ _ _ _ _ _ m (meets_taken _ _ c.args.xs.now _ _ (gap_rest c.leave_out_by.new.ys) (c.args.low, c.next_from-next.result) m.can (first_gap c.args.low c.next_from-next.result c.leave_out_by.new.ys c.next_from-next.ensures) c.in_ok-take_whole.ensures)
+    from_ok c.take_whole.result c.take_whole.ensures (λ taken. meets_more _ _ _ _ _ _ _ _ _ m (meets_taken _ _ c.args.xs.now _ _ (gap_rest c.leave_out_by.new.ys) (c.args.low, c.next_from-next.result) m.can (first_gap c.args.low c.next_from-next.result c.leave_out_by.new.ys c.next_from-next.ensures) taken))
 
 pub returns-clause-second_normal : goal.returns-clause-second_normal
-returns-clause-second_normal c = left_normal _ _ _ c.requires.second_normal c.leave_out_by.ensures
+returns-clause-second_normal c =
+    from_ok c.take_whole.result c.take_whole.ensures (λ taken. left_normal _ _ _ c.requires.second_normal c.leave_out_by.ensures)
 
 pub returns-clause-fewer : goal.returns-clause-fewer
-returns-clause-fewer c = omega (arith, left_shorter _ _ _ c.leave_out_by.ensures, taken_shorter c.in_ok-take_whole.ensures)
+returns-clause-fewer c = from_ok c.take_whole.result c.take_whole.ensures (λ taken.
+    omega (arith, left_shorter _ _ _ c.leave_out_by.ensures, taken_shorter taken))

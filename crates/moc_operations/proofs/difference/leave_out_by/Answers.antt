@@ -6,4 +6,4 @@ pub returns-then-is_in_block : goal.returns-then-is_in_block
 returns-then-is_in_block c = left_weaker c.args.limit _ _ _ c.leave_out.ensures.out (omega arith)
 
 pub returns : goal.returns
-returns c = left_more c.args.limit _ _ _ _ c.leave_out.ensures.out (omega arith) (left_by c.args.limit _ _ c.pass.result c.pass.ensures)
+returns c = left_more c.args.limit _ _ _ _ c.leave_out.ensures.out (omega arith) (left_by c.args.limit _ _ c.skip_to.ensures.0 c.skip_to.ensures.1)

@@ -2,22 +2,25 @@ use Rattle.std.proofs.Common.{◌++◌, ◌∙◌}
 use Rattle.moc_lists.specs.Blocks.{joining}
 use Rattle.moc_lists.specs.Private.Built.{kept_of}
 use Rattle.moc_lists.proofs.Building.{stack_noded, node_kept, node_built, sealed_all}
+use Rattle.moc_lists.proofs.Basics.{from_ok, from_three_ok}
 use Rattle.moc_lists.proofs.kept.Kept.carry_node.Goals as goal
 
 pub returns-clause-built : goal.returns-clause-built
 returns-clause-built c =
+    let pushed = c.push_node.ensures in
+    from_three_ok c.push_node.result pushed.blocks pushed.sized pushed.wide (λ blocks sized wide.
     let stack = joining c.seal.new.self.nodes.items ++ c.seal.new.self.blocks.items in
     let kept = kept_of c.args.self.now.nodes.items c.args.self.now.blocks.items c.args.self.now.ranges.items in
-    let made = stack_noded c.seal_node.new.self.nodes.items c.push_node.new.self.nodes.items c.args.node.now c.seal_node.new.self.blocks.items c.push_node.new.self.blocks.items stack c.in_ok-seal_node.ensures.blocks c.in_ok-seal_node.ensures.none c.in_ok-push_node.ensures.blocks in
-    let none = c.in_ok-push_node.ensures.ranges ∙ c.in_ok-seal_node.ensures.ranges ∙ c.in_ok-seal.ensures.none in
+    let made = stack_noded c.seal_node.new.self.nodes.items c.push_node.new.self.nodes.items c.args.node.now c.seal_node.new.self.blocks.items c.push_node.new.self.blocks.items stack c.in_ok-seal_node.ensures.blocks c.in_ok-seal_node.ensures.none blocks in
+    let none = c.push_node.ensures.ranges ∙ c.in_ok-seal_node.ensures.ranges ∙ c.in_ok-seal.ensures.none in
     let all = sealed_all (joining stack) c.seal.new.self.ranges.items kept c.in_ok-seal.ensures.kept c.in_ok-seal.ensures.none in
-    node_built c.push_node.new.self.nodes.items c.push_node.new.self.blocks.items stack c.args.node.now c.push_node.new.self.ranges.items kept made none all c.in_ok-seal.ensures.built.sized c.in_ok-push_node.ensures.sized c.if-not-takes_whole.ensures c.in_ok-push_node.ensures.wide c.requires.normal
+    node_built c.push_node.new.self.nodes.items c.push_node.new.self.blocks.items stack c.args.node.now c.push_node.new.self.ranges.items kept made none all c.in_ok-seal.ensures.built.sized sized c.if-not-takes_whole.ensures wide c.requires.normal)
 
 pub returns-clause-kept : goal.returns-clause-kept
-returns-clause-kept c =
+returns-clause-kept c = from_ok c.push_node.result c.push_node.ensures.blocks (λ blocks.
     let stack = joining c.seal.new.self.nodes.items ++ c.seal.new.self.blocks.items in
     let kept = kept_of c.args.self.now.nodes.items c.args.self.now.blocks.items c.args.self.now.ranges.items in
-    let made = stack_noded c.seal_node.new.self.nodes.items c.push_node.new.self.nodes.items c.args.node.now c.seal_node.new.self.blocks.items c.push_node.new.self.blocks.items stack c.in_ok-seal_node.ensures.blocks c.in_ok-seal_node.ensures.none c.in_ok-push_node.ensures.blocks in
-    let none = c.in_ok-push_node.ensures.ranges ∙ c.in_ok-seal_node.ensures.ranges ∙ c.in_ok-seal.ensures.none in
+    let made = stack_noded c.seal_node.new.self.nodes.items c.push_node.new.self.nodes.items c.args.node.now c.seal_node.new.self.blocks.items c.push_node.new.self.blocks.items stack c.in_ok-seal_node.ensures.blocks c.in_ok-seal_node.ensures.none blocks in
+    let none = c.push_node.ensures.ranges ∙ c.in_ok-seal_node.ensures.ranges ∙ c.in_ok-seal.ensures.none in
     let all = sealed_all (joining stack) c.seal.new.self.ranges.items kept c.in_ok-seal.ensures.kept c.in_ok-seal.ensures.none in
-    node_kept c.push_node.new.self.nodes.items c.push_node.new.self.blocks.items stack c.args.node.now c.push_node.new.self.ranges.items kept made none all
+    node_kept c.push_node.new.self.nodes.items c.push_node.new.self.blocks.items stack c.args.node.now c.push_node.new.self.ranges.items kept made none all)

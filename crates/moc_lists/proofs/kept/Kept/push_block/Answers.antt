@@ -3,6 +3,7 @@ use Rattle.moc_lists.specs.Blocks.{joining, AreBlocks}
 use Rattle.moc_lists.proofs.Building.{joined_sized, joined_all, suffix_normal, last_length-suffix, pushed_all}
 use Rattle.moc_lists.proofs.Filling.{filled_add}
 use Rattle.moc_lists.proofs.Blocking.{joining-last, IsNormal-prefix}
+use Rattle.moc_lists.proofs.Basics.{from_ok}
 use Rattle.moc_lists.proofs.kept.Kept.push_block.Goals as goal
 
 pub join_last-requires-clause-normal : goal.join_last-requires-clause-normal
@@ -15,14 +16,12 @@ join_last-requires-clause-room c =
     omega (arith, same, c.if-joins.ensures.fits, ap length c.ranges-2.ensures.value)
 
 pub returns-then-joins-clause-sized : goal.returns-then-joins-clause-sized
-returns-then-joins-clause-sized c =
-    let j = c.in_ok-join_last.ensures.joined in
-    joined_sized (joining c.reopen.new.self.nodes.items) j.0 c.reopen.new.self.blocks.items c.join_last.new.blocks.items _ j.1 c.args.block c.in_ok-reopen.ensures.blocks c.requires.sized j.2 j.3 (omega (arith, c.if-joins.ensures.fits, ap length c.ranges-2.ensures.value))
+returns-then-joins-clause-sized c = from_ok c.join_last.result c.join_last.ensures.joined (λ j.
+    joined_sized (joining c.reopen.new.self.nodes.items) j.0 c.reopen.new.self.blocks.items c.join_last.new.blocks.items _ j.1 c.args.block c.in_ok-reopen.ensures.blocks c.requires.sized j.2 j.3 (omega (arith, c.if-joins.ensures.fits, ap length c.ranges-2.ensures.value)))
 
 pub returns-then-joins-clause-joining : goal.returns-then-joins-clause-joining
-returns-then-joins-clause-joining c =
-    let j = c.in_ok-join_last.ensures.joined in
-    joined_all (joining c.reopen.new.self.nodes.items) j.0 c.reopen.new.self.blocks.items c.join_last.new.blocks.items _ j.1 c.args.block c.in_ok-reopen.ensures.blocks j.2 j.3
+returns-then-joins-clause-joining c = from_ok c.join_last.result c.join_last.ensures.joined (λ j.
+    joined_all (joining c.reopen.new.self.nodes.items) j.0 c.reopen.new.self.blocks.items c.join_last.new.blocks.items _ j.1 c.args.block c.in_ok-reopen.ensures.blocks j.2 j.3)
 
 pub make_room-requires-clause-normal : goal.make_room-requires-clause-normal
 make_room-requires-clause-normal c = IsNormal-prefix (joining (joining c.args.self.now.nodes.items ++ c.args.self.now.blocks.items)) c.args.block c.requires.normal

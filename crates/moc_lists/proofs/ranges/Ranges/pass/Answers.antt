@@ -1,5 +1,8 @@
+use Rattle.std.proofs.Common.{◌∙◌, subst, sym}
+use Rattle.moc_lists.specs.RangeList.{IsNormal}
 use Rattle.moc_lists.proofs.Passing.{passes_normal}
 use Rattle.moc_lists.proofs.ranges.Ranges.pass.Goals as goal
 
 pub invariant_of-self : goal.invariant_of-self
-invariant_of-self c = passes_normal c.args.range _ _ _ c.self.invariant c.pass_ranges-passed.ensures
+invariant_of-self c =
+    passes_normal c.args.range _ _ _ (subst IsNormal (c.self.view_is ∙ sym c.begun.ensures) c.self.invariant) c.pass_ranges-passed.ensures
