@@ -4,13 +4,13 @@ use Rattle.moc_lines.specs.Language as script
 use Rattle.moc_lines.specs.Runs.{name_of_run}
 use Rattle.moc_lines.specs.declared.fault.LineFault.TheVariants as said
 use Rattle.moc_lines.specs.declared.run_error.RunError.TheVariants as run
-use Rattle.moc_script.specs.Schedules.{fault_name}
+use Rattle.moc_script.specs.Schedules.{name_of_step}
 use Rattle.moc_script.specs.declared.fault.StepFault.TheVariants as step
 use Rattle.moc_text.specs.declared.ascii.error.TextError.TheVariants as text
 use Rattle.moc_text.specs.declared.json_form.error.JsonError.TheVariants as json
 use Rattle.moc_text.specs.declared.uniq.UniqError.TheVariants as uniq
 use Rattle.moc_text.specs.Names.{name_of_json, name_of_text, name_of_uniq}
-use Rattle.moc_conversion.specs.Faults.{input_fault_name, line_of, want_of_memory}
+use Rattle.moc_conversion.specs.Faults.{input_name_of_step, line_of, want_of_memory}
 use Rattle.moc_conversion.specs.declared.fault.InputFault.TheVariants.{TooLong, Read}
 use Rattle.moc_sphere.specs.declared.cell.CellError.TheVariants as cell
 use Rattle.moc_program.specs.Statuses.{code_of, name_of_cell}
@@ -77,19 +77,19 @@ fault_list =
     ∷ (name_of_uniq (uniq.NotUniq 0), codes "no cell has this number")
     ∷ [])
     ++ section (codes "Lengths") 17 (
-    (input_fault_name TooLong, codes "a text of more than 16,777,216 bytes")
+    (input_name_of_step TooLong, codes "a text of more than 16,777,216 bytes")
     ∷ (name_of_run (run.LineTooLong 0), codes "a line of more than 1,048,576 bytes")
     ∷ [])
     ++ section (codes "Lines of scripts and schedules") 17 (
     (script.name_of said.UnknownWord, codes "no such command")
     ∷ (script.name_of said.EmptyCommand, codes "nothing before, between or behind `;`")
     ∷ (script.name_of said.TooManyCommands, codes "more than 16 commands on a line")
-    ∷ (fault_name step.ClientTooLarge, codes "a client above 4294967295")
-    ∷ (fault_name step.PartTooLarge, codes "a part above 11")
+    ∷ (name_of_step step.ClientTooLarge, codes "a client above 4294967295")
+    ∷ (name_of_step step.PartTooLarge, codes "a part above 11")
     ∷ [])
     ++ section (codes "Devices") 17 (
-    (input_fault_name Read ++ codes ", " ++ name_of_run run.Write, codes "standard input or output failed")
-    ∷ (input_fault_name want_of_memory, codes "memory was refused")
+    (input_name_of_step Read ++ codes ", " ++ name_of_run run.Write, codes "standard input or output failed")
+    ∷ (input_name_of_step want_of_memory, codes "memory was refused")
     ∷ (codes "Spawn", codes "a thread was refused")
     ∷ [])
     ++ text_line (codes "Example:") ++ text_line (codes "  moc cell 3") ++ text_line (codes "tells")
