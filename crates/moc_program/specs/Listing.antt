@@ -4,7 +4,7 @@ use Rattle.moc_lines.specs.Language as script
 use Rattle.moc_lines.specs.Runs.{name_of_run}
 use Rattle.moc_lines.specs.declared.fault.LineFault.TheVariants as line
 use Rattle.moc_lines.specs.declared.run_error.RunError.TheVariants as run
-use Rattle.moc_script.specs.Schedules.{fault_name}
+use Rattle.moc_script.specs.Schedules.{name_of_step}
 use Rattle.moc_script.specs.declared.fault.StepFault.TheVariants as step
 use Rattle.moc_text.specs.declared.ascii.error.TextError.TheVariants as text
 use Rattle.moc_text.specs.declared.json_form.error.JsonError.TheVariants as json
@@ -84,8 +84,8 @@ fault_list =
     (script.name_of line.UnknownWord, codes "no such command")
     ∷ (script.name_of line.EmptyCommand, codes "nothing before, between or behind `;`")
     ∷ (script.name_of line.TooManyCommands, codes "more than 16 commands on a line")
-    ∷ (fault_name step.ClientTooLarge, codes "a client above 4294967295")
-    ∷ (fault_name step.PartTooLarge, codes "a part above 11")
+    ∷ (name_of_step step.ClientTooLarge, codes "a client above 4294967295")
+    ∷ (name_of_step step.PartTooLarge, codes "a part above 11")
     ∷ [])
     ++ section (codes "Devices") 17 (
     (input_fault_name Read ++ codes ", " ++ name_of_run run.Write, codes "standard input or output failed")

@@ -23,7 +23,7 @@ use Rattle.moc_text.specs.Reading.{reading_of}
 use Rattle.moc_steps.specs.Machine.{Locks, ArePermitted, AreLocal, locks_after, refusal, World, run, world_after, whole}
 use Rattle.moc_steps.specs.Machine.Step.{Begin, Take, Edit, Give, Quit, End}
 use Rattle.std.specs.Prelude.{fold}
-use Rattle.moc_steps.specs.Orders.{Operation, just_begun, mark, noted, midway, Explains, set_by_order}
+use Rattle.moc_steps.specs.Orders.{Fate, just_begun, with_open, noted, midway, Explains, set_by_order}
 use Rattle.moc_steps.specs.Laws.{ArePlayed, HasOneOrder, StepsHaveOneOrder}
 use Rattle.moc_steps.specs.declared.error.StepError.{StepError}
 use Rattle.moc_parts.specs.declared.reply.Reply.{Reply}
@@ -226,11 +226,11 @@ same_locks w (Give c b) = refl
 same_locks w (Quit c) = refl
 same_locks w (End c) = refl
 
-length-mark : (c : ℕ) (f : Operation (List Command) → Operation (List Command)) (xs : List (Operation (List Command))) → length (mark c f xs) ≡ length xs
+length-mark : (c : ℕ) (f : Fate (List Command) → Fate (List Command)) (xs : List (Fate (List Command))) → length (with_open c f xs) ≡ length xs
 length-mark c f [] = refl
 length-mark c f (x ∷ xs) = ap suc (length-mark c f xs)
 
-begun_on : (begins : List ℕ) (line : ℕ) (xs : List (Operation (List Command))) (step : BatchStep) → length begins ≡ length xs → length (begins_after begins line step) ≡ length (noted xs step)
+begun_on : (begins : List ℕ) (line : ℕ) (xs : List (Fate (List Command))) (step : BatchStep) → length begins ≡ length xs → length (begins_after begins line step) ≡ length (noted xs step)
 begun_on begins line xs (Begin c op) same = omega (arith, same, length-append begins (line ∷ []), length-append xs (just_begun c op ∷ []))
 begun_on begins line xs (Take c) same = same
 begun_on begins line xs (Edit c b) same = same ∙ sym (length-mark c (λ x. record x { committed = true }) xs)
@@ -243,7 +243,7 @@ record TakesOn (s : Schedule) (steps : List BatchStep) (s' : Schedule) : Type 0 
   pub local : AreLocal batches steps
   pub permitted : ArePermitted batches s.world.locks steps
   pub leads : run batches s.world steps ≡ s'.world
-  pub begun : (xs : List (Operation (List Command))) → length s.begins ≡ length xs → length s'.begins ≡ length (fold noted xs steps)
+  pub begun : (xs : List (Fate (List Command))) → length s.begins ≡ length xs → length s'.begins ≡ length (fold noted xs steps)
 
 -- a line that was read and took no step
 passed : (s : Schedule) (rest : List BatchStep) (s' : Schedule) → TakesOn (next_line s) rest s' → TakesOn s rest s'

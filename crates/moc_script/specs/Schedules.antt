@@ -27,27 +27,27 @@ use Rattle.moc_lines.specs.Runs.{Rules, script_text, line_limit}
 -- Faults and refusals
 
 -- the name of the fault of a line
-abbrev pub fault_name : StepFault → List ℕ
-fault_name (Line fault) = name_of fault
-fault_name ClientTooLarge = codes "ClientTooLarge"
-fault_name PartTooLarge = codes "PartTooLarge"
+abbrev pub name_of_step : StepFault → List ℕ
+name_of_step (Line fault) = name_of fault
+name_of_step ClientTooLarge = codes "ClientTooLarge"
+name_of_step PartTooLarge = codes "PartTooLarge"
 
 -- the name of a refusal, without its numbers; Memory is never answered as a refusal, since it ends the schedule
-abbrev pub refusal_name : StepError → List ℕ
-refusal_name NotIdle = codes "NotIdle"
-refusal_name Idle = codes "Idle"
-refusal_name (PartHeld part by) = codes "PartHeld"
-refusal_name AllTaken = codes "AllTaken"
-refusal_name NotAllTaken = codes "NotAllTaken"
-refusal_name NotHeld = codes "NotHeld"
-refusal_name AlreadyEdited = codes "AlreadyEdited"
-refusal_name NotEdited = codes "NotEdited"
-refusal_name BegunEditing = codes "BegunEditing"
-refusal_name StillHolding = codes "StillHolding"
-refusal_name NothingDone = codes "NothingDone"
-refusal_name Quitting = codes "Quitting"
-refusal_name Memory = codes "Memory"
-refusal_name TooMany = codes "TooMany"
+abbrev pub name_of_refusal : StepError → List ℕ
+name_of_refusal NotIdle = codes "NotIdle"
+name_of_refusal Idle = codes "Idle"
+name_of_refusal (PartHeld part by) = codes "PartHeld"
+name_of_refusal AllTaken = codes "AllTaken"
+name_of_refusal NotAllTaken = codes "NotAllTaken"
+name_of_refusal NotHeld = codes "NotHeld"
+name_of_refusal AlreadyEdited = codes "AlreadyEdited"
+name_of_refusal NotEdited = codes "NotEdited"
+name_of_refusal BegunEditing = codes "BegunEditing"
+name_of_refusal StillHolding = codes "StillHolding"
+name_of_refusal NothingDone = codes "NothingDone"
+name_of_refusal Quitting = codes "Quitting"
+name_of_refusal Memory = codes "Memory"
+name_of_refusal TooMany = codes "TooMany"
 
 -- What a line says
 
@@ -59,28 +59,19 @@ BatchStep = Step (List Command)
 abbrev pub as_in_script : {A : Type 0} → Result A LineFault → Result A StepFault
 as_in_script said = result_map_both (λ x. x) (λ fault. Line fault) said
 
--- the client of this number: it has 32 bits
-abbrev pub client_numbered : ℕ → Result ℕ StepFault
-client_numbered n = if nat_lt 4294967295 n then Err ClientTooLarge else Ok n
-
--- the part of this number: one of twelve
-abbrev pub part_numbered : ℕ → Result ℕ StepFault
-part_numbered n = if nat_lt 11 n then Err PartTooLarge else Ok n
-
--- the client that a field names
+-- the client that a field names: a number of 32 bits
 abbrev pub client_by : List ℕ → Result ℕ StepFault
 client_by field = do
-  n ← ok_or (number_spelled field) (Line BadNumber)
-  client_numbered n
+  client ← ok_or (number_spelled field) (Line BadNumber)
+  if nat_lt 4294967295 client then Err ClientTooLarge else Ok client
 
--- the client and the part that two fields name
+-- the client and the part that two fields name: the part is one of twelve
 abbrev pub client_and_part_by : List ℕ → List ℕ → Result (ℕ × ℕ) StepFault
 client_and_part_by client part = do
-  n ← ok_or (number_spelled client) (Line BadNumber)
+  c ← ok_or (number_spelled client) (Line BadNumber)
   b ← ok_or (number_spelled part) (Line BadNumber)
-  c ← client_numbered n
-  p ← part_numbered b
-  Ok (c, p)
+  if nat_lt 4294967295 c then Err ClientTooLarge
+      else (if nat_lt 11 b then Err PartTooLarge else Ok (c, b))
 
 -- the client that a text names: it has just one field
 abbrev pub only_client : List ℕ → Result ℕ StepFault
@@ -158,31 +149,27 @@ start_schedule = record { world = start_world batches set.empty; lines = 0; begi
 abbrev pub done_text : Option (List Reply) → List ℕ
 done_text replies = option_map_or replies_text replies (codes "ok")
 
--- what is said of a step, by its refusal
-abbrev pub step_text : Option StepError → Option (List Reply) → List ℕ
-step_text (Some why) reply = codes "refused " ++ refusal_name why
-step_text None reply = done_text reply
-
--- the answer to what a line says, with its line feed
+-- the answer to what a line says, with its line feed: a step is refused, or done
 abbrev pub answer_to_step : Schedule → Result BatchStep StepFault → List ℕ
-answer_to_step s (Ok step) = step_text (refusal batches s.world.locks step) (reply_to batches s.world step) ++ 10 ∷ []
-answer_to_step s (Err fault) = codes "fault " ++ fault_name fault ++ 10 ∷ []
+answer_to_step s (Ok step) =
+    option_map_or (λ why. codes "refused " ++ name_of_refusal why) (refusal batches s.world.locks step)
+    (done_text (reply_to batches s.world step)) ++ 10 ∷ []
+answer_to_step s (Err fault) = codes "fault " ++ name_of_step fault ++ 10 ∷ []
 
 -- one more line was read
 abbrev pub next_line : Schedule → Schedule
-next_line s = record { world = s.world; lines = suc s.lines; begins = s.begins }
+next_line s = record s { lines = suc s.lines }
 
--- the lines that began operations, after a step of this line
+-- the lines that began operations, after a step of the line of this number
 abbrev pub begins_after : List ℕ → ℕ → BatchStep → List ℕ
-begins_after begins line (Begin c commands) = begins ++ line ∷ []
-begins_after begins line step = begins
+begins_after begins number (Begin c commands) = begins ++ number ∷ []
+begins_after begins number step = begins
 
 -- what a step leaves, by its refusal: one that is refused changes nothing
 abbrev pub after_step : Option StepError → Schedule → BatchStep → Schedule
 after_step (Some why) s step = s
-after_step None s step = record {
+after_step None s step = record s {
   world = world_after batches s.world step;
-  lines = s.lines;
   begins = begins_after s.begins s.lines step;
 }
 
@@ -222,14 +209,12 @@ step_rules says = record {
 abbrev pub schedule_rules : Rules Schedule
 schedule_rules = step_rules said_step
 
--- the step that a line takes, if it takes one
-abbrev pub taken_by : Schedule → List ℕ → List BatchStep
-taken_by s line = if is_blank_text line then [] else step_taken s (said_step line)
-
 -- the steps that lines take, each on what those before it leave
 abbrev pub steps_taken : Schedule → List (List ℕ) → List BatchStep
 steps_taken s [] = []
-steps_taken s (line ∷ lines) = taken_by s line ++ steps_taken (schedule_rules.after s line) lines
+steps_taken s (line ∷ lines) =
+    (if is_blank_text line then [] else step_taken s (said_step line))
+    ++ steps_taken (schedule_rules.after s line) lines
 
 -- the text that a schedule is answered with
 abbrev pub schedule_text : List ℕ → List ℕ

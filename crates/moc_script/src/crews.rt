@@ -21,6 +21,7 @@ use crate::crew_error::CrewError;
 pub use gate::{Gate, OpenGate};
 use gathering::{all_done, take_in_all};
 use joining::{JoinError, write_joined};
+use lane::Job;
 pub use lanes::Lanes;
 pub use laws::crews_answer_each_line;
 use moc_devices::{Sink, Source};
@@ -63,20 +64,21 @@ fn answer_all<R: Threads + Wait + Sync, G: Gate + Sync>(
         Err(NewError::BadCount) => unreachable!(),
         Err(NewError::Memory) => return Err(LanesError::Memory { line: 0 }),
     };
-    let ends = run_lanes(rt, alloc, gate, &map, input, lanes, clients)?;
-    let done = all_done(alloc, ends)?;
-    let Ok((client, answers)) = take_in_all(alloc, &map, input, lanes, done) else {
-        return Err(LanesError::MemoryBehind);
+    let job = Job {
+        map: &map,
+        input,
+        lanes,
     };
+    let ends = run_lanes(rt, alloc, gate, job, clients)?;
+    let done = all_done(alloc, ends)?;
+    let (client, answers) = take_in_all(alloc, job, done)?;
     let set = match map.close(client) {
         Ok(set) => set,
         // The client stands for all, and holds no part.
         Err(CloseError::Midway { part: _ }) => unreachable!(),
         Err(CloseError::Memory) => return Err(LanesError::MemoryBehind),
     };
-    let Ok(cover) = line_of_cover(alloc, &set) else {
-        return Err(LanesError::MemoryBehind);
-    };
+    let cover = line_of_cover(alloc, &set)?;
     Ok(Told { answers, cover })
 }
 

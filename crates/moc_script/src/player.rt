@@ -3,8 +3,8 @@ ghost use Rattle.std.specs.Prelude.{◌≡◌, ◌++◌, ◌∷◌, [], IfOk, Ok
 ghost use Rattle.moc_steps.specs.Machine.{refusal};
 ghost use Rattle.moc_steps.specs.Played.{entries_of, step_of};
 ghost use Rattle.moc_parts.specs.Batches.{batches};
-ghost use Rattle.moc_script.specs.Schedules.{refusal_name, after_step, answer_to_step, begin_lines, done_text};
-ghost use Rattle.moc_script.specs.Schedules.{end_text, schedule_rules, start_schedule};
+ghost use Rattle.moc_script.specs.Schedules.{after_step, answer_to_step, begin_lines, done_text};
+ghost use Rattle.moc_script.specs.Schedules.{end_text, name_of_refusal, schedule_rules, start_schedule};
 
 use crate::fault::{ReadStepError, push_step_fault};
 use crate::step::read_step;
@@ -109,7 +109,7 @@ fn push_done(alloc: Global, replies: Option<Replies>, text: &mut Vec<u8>) -> Res
 
 /// Adds what is said of a refused step.
 fn push_refused(why: StepError, text: &mut Vec<u8>) -> Result<(), Memory>
-    ensures { OnOk result (text.new.items ≡ text.old.items ++ (codes "refused " ++ refusal_name why ++ 10 ∷ [])) }
+    ensures { OnOk result (text.new.items ≡ text.old.items ++ (codes "refused " ++ name_of_refusal why ++ 10 ∷ [])) }
 {
     text.extend_from_slice(b"refused ")?;
     text.extend_from_slice(name_of_refusal(why).as_bytes())?;
@@ -119,7 +119,7 @@ fn push_refused(why: StepError, text: &mut Vec<u8>) -> Result<(), Memory>
 
 /// The name of a refusal, without its numbers.
 fn name_of_refusal(why: StepError) -> &'static str
-    ensures { result.now ≡ refusal_name why }
+    ensures { result.now ≡ name_of_refusal why }
 {
     match why {
         StepError::NotIdle => "NotIdle",

@@ -6,7 +6,7 @@ use Rattle.moc_ranges.specs.Operations.{pixels, IsWithin}
 use Rattle.moc_parts.specs.Objects.{Object}
 use Rattle.moc_steps.specs.Machine.{Step, Running, AreLocal, ArePermitted, refusal, World, start_world, run, running}
 use Rattle.moc_steps.specs.Machine.{world_after}
-use Rattle.moc_steps.specs.Orders.{operations, is_midway, noted, AreProgress, names, times}
+use Rattle.moc_steps.specs.Orders.{operations, is_midway, noted, AreProgress, numbers_in, times}
 use Rattle.moc_steps.specs.Laws.{ArePlayed, HasOneOrder, CanGoOn, EndsWell, IsReached, RepliesByEntry, led_to}
 use Rattle.moc_steps.proofs.Sky.{covers_of}
 use Rattle.moc_steps.proofs.Headline.{explains, part_inside, together, at_end, run_keeps, run_grows, run_append}
@@ -59,8 +59,8 @@ module _ {Op Reply : Type 0} (o : Object Op Reply) where
       let grows = run_grows o w more in
       record {
         bounded = steps_bounded o start (operations steps) w e.0 e.1 more k progress;
-        kept = (grows.0, ap (λ (v : World Op Reply). names v.order) world_is ∙ grows.1);
-        added = λ none n. ap (λ (v : World Op Reply). times n (names v.order)) world_is
+        kept = (grows.0, ap (λ (v : World Op Reply). numbers_in v.order) world_is ∙ grows.1);
+        added = λ none n. ap (λ (v : World Op Reply). times n (numbers_in v.order)) world_is
             ∙ added o start more (operations steps) w (run o w more) e.0 f.0 e.1 f.1 (subst AreClosed ops_are closed) progress (ap (count_by is_midway) (sym ops_are) ∙ none) n;
       }
 

@@ -10,12 +10,13 @@ use Rattle.moc_parts.specs.declared.command.Command.{Command}
 use Rattle.moc_parts.specs.declared.reply.Reply.{Reply}
 use Rattle.moc_steps.specs.Machine as machine
 use Rattle.moc_steps.specs.Machine.{Running, holds, holds_now, refusal, is_any, end_refusal, world_after}
-use Rattle.moc_steps.specs.Machine.{running, answered, completed, replied, reply_to, ended_reply}
-use Rattle.moc_steps.specs.Orders.{names, times, is_committed}
+use Rattle.moc_steps.specs.Machine.{running, answered, completed, replied, reply_to}
+use Rattle.moc_steps.specs.Orders.{numbers_in, times, is_committed}
 use Rattle.moc_steps.specs.Private.Standing.{Standing}
-use Rattle.moc_steps.specs.Played.{BatchWorld, entry_of, entries_of}
+use Rattle.moc_steps.specs.Played.{BatchWorld, entries_of}
 use Rattle.moc_steps.specs.Private.Worlds.{HasPlace, IsKept, world_of}
 use Rattle.moc_steps.specs.declared.step.Entry.{Entry}
+use Rattle.moc_steps.proofs.Cases.{ended_reply}
 use Rattle.moc_steps.proofs.Basics.{clash, some_same, true_or_false, not_true_false, not_of_false, both, same_or}
 use Rattle.moc_steps.proofs.Basics.{count-append, get-remove_same, get-remove_other}
 use Rattle.moc_steps.proofs.Taking.{in_twelve, taken_footprint, took_one}
@@ -25,7 +26,7 @@ use Rattle.moc_steps.proofs.EndStep.{replied_begin, names_map}
 use Rattle.moc_steps.proofs.AnyObject.{reached_explained}
 use Rattle.moc_steps.proofs.Values.{get-values, values-remove}
 use Rattle.moc_steps.proofs.Kept.{Table, holder_same, kept_on}
-use Rattle.moc_steps.proofs.KeptSteps.{Goes, runs, found_is}
+use Rattle.moc_steps.proofs.KeptSteps.{Goes, entry_of, runs, found_is}
 
 -- an entry that is answered
 abbrev pub answers : Entry → List Reply → Entry
@@ -45,11 +46,11 @@ times_next : (x n : ℕ) (ns : List ℕ) → times n (x ∷ ns) ≡ one x n + ti
 times_next x n ns = let head : 0 + one x n ≡ one x n = omega arith in count-append (λ z. nat_eq z n) (x ∷ []) ns ∙ ap (λ k. k + times n ns) head
 
 -- where the name does not stand nothing is answered
-replied_none : (n : ℕ) (y : List Reply) (es : List Entry) → times n (names (entries_of es)) ≡ 0 → map_list (replied batches n y) (entries_of es) ≡ entries_of es
+replied_none : (n : ℕ) (y : List Reply) (es : List Entry) → times n (numbers_in (entries_of es)) ≡ 0 → map_list (replied batches n y) (entries_of es) ≡ entries_of es
 replied_none n y [] h = refl
 replied_none n y (e ∷ es) h =
-    let whole : times n (names (entries_of (e ∷ es))) ≡ one e.begin n + times n (names (entries_of es)) = times_next e.begin n (names (entries_of es)) in
-    let rest : times n (names (entries_of es)) ≡ 0 = omega arith in
+    let whole : times n (numbers_in (entries_of (e ∷ es))) ≡ one e.begin n + times n (numbers_in (entries_of es)) = times_next e.begin n (numbers_in (entries_of es)) in
+    let rest : times n (numbers_in (entries_of es)) ≡ 0 = omega arith in
     elim (true_or_false (nat_eq e.begin n)) [
       | inl t ↦ (let o : one e.begin n ≡ 1 = ap (λ b. cond b 1 0) t in absurd (omega arith))
       | inr f ↦ (λ i. cond (f i) (record { begin = e.begin; client = e.client; reply = Some y }) (entry_of e) ∷ replied_none n y es rest i)
@@ -66,7 +67,7 @@ stands_once (x ∷ ns) (suc i) n h =
     let whole : times n (x ∷ ns) ≡ one x n + times n ns = times_next x n ns in omega arith
 
 -- the entry at the place of a name that stands once is the one that is answered
-pub replied_at : (n : ℕ) (y : List Reply) (es : List Entry) (i : ℕ) (e : Entry) → slice_get es i ≡ Some e → slice_get (names (entries_of es)) i ≡ Some n → times n (names (entries_of es)) ≡ 1
+pub replied_at : (n : ℕ) (y : List Reply) (es : List Entry) (i : ℕ) (e : Entry) → slice_get es i ≡ Some e → slice_get (numbers_in (entries_of es)) i ≡ Some n → times n (numbers_in (entries_of es)) ≡ 1
     → entries_of (set_at es i (answers e y)) ≡ map_list (replied batches n y) (entries_of es)
 replied_at n y [] i e is at once = absurd (cc)
 replied_at n y (x ∷ es) zero e is at once =
@@ -74,21 +75,21 @@ replied_at n y (x ∷ es) zero e is at once =
     let named : x.begin ≡ n = some_same (Some x.begin) x.begin n refl at in
     let t : nat_eq x.begin n ≡ true = eq-eqb x.begin n named in
     let o : one x.begin n ≡ 1 = one_is x.begin n named in
-    let whole : times n (names (entries_of (x ∷ es))) ≡ one x.begin n + times n (names (entries_of es)) = times_next x.begin n (names (entries_of es)) in
-    let rest : times n (names (entries_of es)) ≡ 0 = omega arith in
+    let whole : times n (numbers_in (entries_of (x ∷ es))) ≡ one x.begin n + times n (numbers_in (entries_of es)) = times_next x.begin n (numbers_in (entries_of es)) in
+    let rest : times n (numbers_in (entries_of es)) ≡ 0 = omega arith in
     ap (λ (z : Entry). entry_of (answers z y) ∷ entries_of es) (sym same)
     ∙ (λ j. cond (sym t j) (record { begin = x.begin; client = x.client; reply = Some y }) (entry_of x) ∷ sym (replied_none n y es rest) j)
 replied_at n y (x ∷ es) (suc i) e is at once =
-    let whole : times n (names (entries_of (x ∷ es))) ≡ one x.begin n + times n (names (entries_of es)) = times_next x.begin n (names (entries_of es)) in
+    let whole : times n (numbers_in (entries_of (x ∷ es))) ≡ one x.begin n + times n (numbers_in (entries_of es)) = times_next x.begin n (numbers_in (entries_of es)) in
     elim (true_or_false (nat_eq x.begin n)) [
-      | inl t ↦ (let o : one x.begin n ≡ 1 = ap (λ b. cond b 1 0) t in let l : 0 < times n (names (entries_of es)) = stands_once (names (entries_of es)) i n at in absurd (omega arith))
+      | inl t ↦ (let o : one x.begin n ≡ 1 = ap (λ b. cond b 1 0) t in let l : 0 < times n (numbers_in (entries_of es)) = stands_once (numbers_in (entries_of es)) i n at in absurd (omega arith))
       | inr f ↦
           let o : one x.begin n ≡ 0 = one_no x.begin n f in
-          let rest : times n (names (entries_of es)) ≡ 1 = omega arith in
+          let rest : times n (numbers_in (entries_of es)) ≡ 1 = omega arith in
           (λ j. cond (sym f j) (record { begin = x.begin; client = x.client; reply = Some y }) (entry_of x) ∷ replied_at n y es i e is at rest j)
     ]
 
-below_names : (es : List Entry) (i n : ℕ) → slice_get (names (entries_of es)) i ≡ Some n → i < length es
+below_names : (es : List Entry) (i n : ℕ) → slice_get (numbers_in (entries_of es)) i ≡ Some n → i < length es
 below_names [] i n h = absurd (cc)
 below_names (x ∷ es) zero n h = omega arith
 below_names (x ∷ es) (suc i) n h = let l = below_names es i n h in omega arith
@@ -97,12 +98,12 @@ some_name : (place : Option ℕ) (i : ℕ) (ns : List ℕ) (n : ℕ) → place �
 some_name place i ns n e h = subst (λ x. IfSome x (λ j. slice_get ns j ≡ Some n)) e h
 
 module _ (n : ℕ) (m : Table) (ps : List NumberSet) (hs : List (Option ℕ)) (es : List Entry) (kept : IsKept n m ps hs es) where
-  same_names : (c : ℕ) (r : Running (List Command)) → names (completed batches (world_of n m ps es) c (Some r)) ≡ names (entries_of es)
+  same_names : (c : ℕ) (r : Running (List Command)) → numbers_in (completed batches (world_of n m ps es) c (Some r)) ≡ numbers_in (entries_of es)
   same_names c r =
       let y : List Reply = (answered batches (world_of n m ps es) c r).1 in
-      elim (true_or_false r.quits) as (λ _. names (cond r.quits (entries_of es) (map_list (replied batches r.operation y) (entries_of es))) ≡ names (entries_of es)) [
-        | inl q ↦ ap (λ b. names (cond b (entries_of es) (map_list (replied batches r.operation y) (entries_of es)))) q
-        | inr q ↦ ap (λ b. names (cond b (entries_of es) (map_list (replied batches r.operation y) (entries_of es)))) q ∙ names_map (replied batches r.operation y) (λ e. replied_begin r.operation y e) (entries_of es)
+      elim (true_or_false r.quits) as (λ _. numbers_in (cond r.quits (entries_of es) (map_list (replied batches r.operation y) (entries_of es))) ≡ numbers_in (entries_of es)) [
+        | inl q ↦ ap (λ b. numbers_in (cond b (entries_of es) (map_list (replied batches r.operation y) (entries_of es)))) q
+        | inr q ↦ ap (λ b. numbers_in (cond b (entries_of es) (map_list (replied batches r.operation y) (entries_of es)))) q ∙ names_map (replied batches r.operation y) (λ e. replied_begin r.operation y e) (entries_of es)
       ]
 
   refused_not : (c : ℕ) (s : Standing) → map.get m c ≡ Some s → refusal batches (world_of n m ps es).locks (machine.Step.End c) ≡ None → end_refusal batches s.running ≡ None
@@ -131,7 +132,7 @@ module _ (n : ℕ) (m : Table) (ps : List NumberSet) (hs : List (Option ℕ)) (e
             ])))
             (λ q z g. elim (same_or q c) [
               | inl e ↦ absurd (let gone : map.get (map.remove m c) q ≡ None = ap (map.get (map.remove m c)) e ∙ get-remove_same m c in cc (g, gone))
-              | inr f ↦ subst (λ ns. HasPlace ns z.running z.place) (sym (ap names order_is ∙ same_names c s.running)) (kept.placed q z (sym (get-remove_other m c q f) ∙ g))
+              | inr f ↦ subst (λ ns. HasPlace ns z.running z.place) (sym (ap numbers_in order_is ∙ same_names c s.running)) (kept.placed q z (sym (get-remove_other m c q f) ∙ g))
             ]),
       )
 
@@ -183,7 +184,7 @@ module _ (n : ℕ) (m : Table) (ps : List NumberSet) (hs : List (Option ℕ)) (e
 
   -- where its entry stands
   pub entry_place : (c : ℕ) (s : Standing) (i : ℕ) → map.get m c ≡ Some s → s.place ≡ Some i → i < length es
-  entry_place c s i has at = below_names es i s.running.operation (some_name s.place i (names (entries_of es)) s.running.operation at (kept.placed c s has).1)
+  entry_place c s i has at = below_names es i s.running.operation (some_name s.place i (numbers_in (entries_of es)) s.running.operation at (kept.placed c s has).1)
 
   reply_is : (c : ℕ) (s : Standing) → map.get m c ≡ Some s → (answered batches (world_of n m ps es) c s.running).1 ≡ replies_on s.found s.running.command
   reply_is c s has = ap (λ F. replies_on F s.running.command) (found_is n m ps hs es kept c s has)
@@ -195,9 +196,9 @@ module _ (n : ℕ) (m : Table) (ps : List NumberSet) (hs : List (Option ℕ)) (e
       let inv = reached_explained batches (world_of n m ps es) kept.reached in
       let some : is_some s.place ≡ true = ap is_some at in
       let own = inv.1.client c r (runs n m ps hs es kept c s has) in
-      let once : times r.operation (names (entries_of es)) ≡ 1 = inv.1.named r.operation ∙ ap (λ x. cond (is_committed x) 1 0) own.opened ∙ ap (λ b. cond b 1 0) ((kept.placed c s has).0 ∙ some) in
+      let once : times r.operation (numbers_in (entries_of es)) ≡ 1 = inv.1.named r.operation ∙ ap (λ x. cond (is_committed x) 1 0) own.opened ∙ ap (λ b. cond b 1 0) ((kept.placed c s has).0 ∙ some) in
       end_goes c s (set_at es i (answers e y)) has
-      (replied_at r.operation y es i e there (some_name s.place i (names (entries_of es)) r.operation at (kept.placed c s has).1) once
+      (replied_at r.operation y es i e there (some_name s.place i (numbers_in (entries_of es)) r.operation at (kept.placed c s has).1) once
       ∙ ap (λ z. map_list (replied batches r.operation z) (entries_of es)) (y_is ∙ sym (reply_is c s has))
       ∙ sym (ap (λ b. cond b (entries_of es) (map_list (replied batches r.operation (answered batches (world_of n m ps es) c r).1) (entries_of es))) (committed_stays c s has some))) h
 

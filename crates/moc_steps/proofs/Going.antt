@@ -12,13 +12,14 @@ use Rattle.moc_parts.specs.Batches.{batches}
 use Rattle.moc_parts.specs.declared.command.Command.{Command}
 use Rattle.moc_steps.specs.Machine as machine
 use Rattle.moc_steps.specs.Machine.{Running, refusal, holds, holder, next_part, has_taken, is_in, twelve, unless_idle}
-use Rattle.moc_steps.specs.Machine.{take_refusal, next_refusal, edit_refusal, give_refusal, end_refusal, running}
+use Rattle.moc_steps.specs.Machine.{take_refusal, edit_refusal, give_refusal, end_refusal, running}
 use Rattle.moc_steps.specs.Laws.{IsReached}
 use Rattle.moc_steps.specs.Orders.{is_progress, client_of}
 use Rattle.moc_steps.specs.Played.{BatchWorld, step_of}
 use Rattle.moc_steps.specs.Private.Worlds.{IsFree, IsHighest}
 use Rattle.moc_steps.specs.declared.step.Step.{Step}
 use Rattle.std.specs.FinMap.{find}
+use Rattle.moc_steps.proofs.Cases.{next_refusal}
 use Rattle.moc_steps.proofs.Permitted.{midway_of}
 use Rattle.moc_steps.specs.declared.error.StepError.TheVariants.{PartHeld}
 use Rattle.moc_steps.proofs.Basics.{clash, some_same, none_or_some, and_true, or_left, or_right, not_of_true, cond_else}

@@ -8,14 +8,15 @@ use Rattle.moc_lists.specs.RangeList.{NumberSet}
 use Rattle.moc_parts.specs.Batches.{batches}
 use Rattle.moc_parts.specs.declared.command.Command.{Command}
 use Rattle.moc_steps.specs.Machine as machine
-use Rattle.moc_steps.specs.Machine.{Running, Locks, Clients, AreLocal, begins, changed, change, holds, holds_now}
+use Rattle.moc_steps.specs.Machine.{Running, Locks, Clients, AreLocal, begins, change, holds, holds_now}
 use Rattle.moc_steps.specs.Machine.{holder, refusal, world_after, running}
-use Rattle.moc_steps.specs.Orders.{names}
+use Rattle.moc_steps.specs.Orders.{numbers_in}
 use Rattle.moc_steps.specs.Laws.{IsReached}
 use Rattle.moc_steps.specs.Private.Standing.{Standing}
 use Rattle.moc_steps.specs.Played.{BatchWorld, entries_of}
 use Rattle.moc_steps.specs.Private.Worlds.{HasPlace, IsKept, values_by, world_of}
 use Rattle.moc_steps.specs.declared.step.Entry.{Entry}
+use Rattle.moc_steps.proofs.Cases.{changed}
 use Rattle.moc_steps.proofs.Basics.{clash, some_same, none_or_some, not_true_false, same_or, get-insert_same}
 use Rattle.moc_steps.proofs.Basics.{get-insert_other, get-remove_same, get-remove_other}
 use Rattle.moc_steps.proofs.Headline.{locks_are}
@@ -120,7 +121,7 @@ pub kept_on : (n n' : ℕ) (m m' : Table) (ps ps' : List NumberSet) (hs hs' : Li
     → IsKept n m ps hs es → AreLocal batches (step ∷ []) → BeginsSmall step → refusal batches (world_of n m ps es).locks step ≡ None
     → world_of n' m' ps' es' ≡ world_after batches (world_of n m ps es) step
     → (IsReached batches (world_of n' m' ps' es') → (b : ℕ) → b < 12 → get_or hs' b None ≡ holder batches (clients_of m') b)
-    → ((c : ℕ) (s : Standing) → map.get m' c ≡ Some s → HasPlace (names (entries_of es')) s.running s.place)
+    → ((c : ℕ) (s : Standing) → map.get m' c ≡ Some s → HasPlace (numbers_in (entries_of es')) s.running s.place)
     → IsKept n' m' ps' hs' es'
 kept_on n n' m m' ps ps' hs hs' es es' step kept local small permitted is held placed =
     let reached : IsReached batches (world_of n' m' ps' es') = subst (λ w. IsReached batches w) (sym is) (step_reached batches (world_of n m ps es) step kept.reached local permitted) in

@@ -16,8 +16,8 @@ use Rattle.moc_steps.specs.Machine as machine
 use Rattle.moc_steps.specs.Machine.{Running, Locks, begins, holds, holds_now, holder, is_any}
 use Rattle.moc_steps.specs.Machine.{refusal, has_taken, next_part, unless_idle, take_refusal, edit_refusal}
 use Rattle.moc_steps.specs.Machine.{give_refusal, quit_refusal, end_refusal, world_after, running, found_by, part_at}
-use Rattle.moc_steps.specs.Machine.{found_next, edited_parts, appended}
-use Rattle.moc_steps.specs.Orders.{names, client_of}
+use Rattle.moc_steps.specs.Machine.{appended}
+use Rattle.moc_steps.specs.Orders.{numbers_in, client_of}
 use Rattle.moc_steps.specs.Private.Standing.{Standing}
 use Rattle.moc_steps.specs.Private.Effects.{IsEffectOf, changed, changed_at, changed_table}
 use Rattle.moc_steps.specs.declared.error.StepError.{StepError}
@@ -26,9 +26,11 @@ use Rattle.moc_steps.specs.declared.step.Step.{Step}
 use Rattle.moc_steps.specs.declared.step.Step.TheVariants as step
 use Rattle.moc_steps.specs.declared.table.Effect.{Effect}
 use Rattle.moc_steps.specs.declared.table.Effect.TheVariants.{Take, Give, Quit}
-use Rattle.moc_steps.specs.Played.{BatchWorld, entry_of, entries_of, step_of}
+use Rattle.moc_steps.specs.Played.{BatchWorld, entries_of, step_of}
 use Rattle.moc_steps.specs.Private.Worlds.{HasPlace, IsKept, world_of}
+use Rattle.moc_parts.specs.declared.reply.Reply.{Reply}
 use Rattle.moc_steps.specs.declared.step.Entry.{Entry}
+use Rattle.moc_steps.proofs.Cases.{found_next, edited_parts}
 use Rattle.moc_steps.proofs.Basics.{clash, some_same, true_or_false, not_true_false, not_of_false, is_some_of, or_false}
 use Rattle.moc_steps.proofs.Basics.{or_right, and_true, both, same_or, same_set, has-empty, map_some_from, get_front}
 use Rattle.moc_steps.proofs.Basics.{get_last, get-insert_same, get-insert_other, get_set_same, get_set_other}
@@ -51,11 +53,15 @@ Goes n m ps es step n' m' ps' hs' es' = (world_of n' m' ps' es' ≡ world_after 
 pub table_is : (m : Table) (c : ℕ) (s : Standing) (change : Effect) → map.get m c ≡ Some s → changed_table m c change ≡ map.insert m c (changed s change)
 table_is m c s change h = ap (λ x. changed_at m c x change) h
 
+-- the entry of the machine
+abbrev pub entry_of : Entry → machine.Entry (List Reply)
+entry_of e = record { begin = e.begin; client = e.client; reply = e.reply }
+
 entries_push : (es : List Entry) (e : Entry) → entries_of (es ++ e ∷ []) ≡ entries_of es ++ entry_of e ∷ []
 entries_push [] e = refl
 entries_push (x ∷ es) e = ap (λ ys. entry_of x ∷ ys) (entries_push es e)
 
-length-names : (es : List Entry) → length (names (entries_of es)) ≡ length es
+length-names : (es : List Entry) → length (numbers_in (entries_of es)) ≡ length es
 length-names [] = refl
 length-names (x ∷ es) = ap suc (length-names es)
 
@@ -95,7 +101,7 @@ module _ (n : ℕ) (m : Table) (ps : List NumberSet) (hs : List (Option ℕ)) (e
         kept_on n n m (map.insert m c s') ps ps hs hs es es (machine.Step.Quit c) kept tt tt h is
             (λ reached b l. kept.held b l ∙ sym (holder_same (world_of n m ps es) (world_of n (map.insert m c s') ps es) reached b
             (same_on n n m ps ps es es c b s s' t.1 (ap (λ x. x && not (set.contains s.running.given b)) (taken_alike batches s'.running s.running refl refl b)))))
-            (at_each m c s' (λ q z. HasPlace (names (entries_of es)) z.running z.place) (kept.placed c s t.1) (λ q z d g. kept.placed q z g)),
+            (at_each m c s' (λ q z. HasPlace (numbers_in (entries_of es)) z.running z.place) (kept.placed c s t.1) (λ q z d g. kept.placed q z g)),
       )
 
   pub give_goes : (c b : ℕ) → length hs ≡ 12 → refusal batches (world_of n m ps es).locks (machine.Step.Give c b) ≡ None → Goes n m ps es (machine.Step.Give c b) n (changed_table m c (Give b)) ps (set_at hs b None) es
@@ -129,7 +135,7 @@ module _ (n : ℕ) (m : Table) (ps : List NumberSet) (hs : List (Option ℕ)) (e
               | inr e ↦ get_set_other hs b d None None e ∙ kept.held d l ∙ sym (holder_same (world_of n m ps es) (world_of n (map.insert m c s') ps es) reached d
                   (same_on n n m ps ps es es c d s s' t.1 ((λ i. taken_alike batches s'.running s.running refl refl d i && not (has-insert_other s.running.given b d e i)))))
             ])
-            (at_each m c s' (λ q z. HasPlace (names (entries_of es)) z.running z.place) (kept.placed c s t.1) (λ q z d g. kept.placed q z g)),
+            (at_each m c s' (λ q z. HasPlace (numbers_in (entries_of es)) z.running z.place) (kept.placed c s t.1) (λ q z d g. kept.placed q z g)),
       )
     where
       and_false : (x : Bool) → (x && false) ≡ false
@@ -189,12 +195,12 @@ module _ (n : ℕ) (m : Table) (ps : List NumberSet) (hs : List (Option ℕ)) (e
               | inr e ↦ get_set_other hs q d (Some c) None e ∙ kept.held d l ∙ sym (holder_same (world_of n m ps es) (world_of n (map.insert m c s') ps es) reached d
                   (same_on n n m ps ps es es c d s s' has (ap (λ x. x && not (set.contains r.given d)) (taken-next batches r q d next ∙ ap (λ x. has_taken batches r d || x) (ne_eqb q d (λ x. e (sym x))) ∙ or_false (has_taken batches r d)))))
             ])
-            (at_each m c s' (λ q z. HasPlace (names (entries_of es)) z.running z.place) (kept.placed c s has) (λ q z d g. kept.placed q z g)),
+            (at_each m c s' (λ q z. HasPlace (numbers_in (entries_of es)) z.running z.place) (kept.placed c s has) (λ q z d g. kept.placed q z g)),
       )
 
   pub edit_goes : (c b : ℕ) (s s' : Standing) (list : NumberSet) (es' : List Entry) → map.get m c ≡ Some s → s'.running ≡ record s.running { edited = set.insert s.running.edited b } → s'.found ≡ s.found
       → list ≡ part_of (set_after_all s.found s.running.command) b → entries_of es' ≡ appended batches (entries_of es) c (Some s.running)
-      → HasPlace (names (entries_of es')) s'.running s'.place → ((q : ℕ) (z : Standing) → map.get m q ≡ Some z → HasPlace (names (entries_of es')) z.running z.place)
+      → HasPlace (numbers_in (entries_of es')) s'.running s'.place → ((q : ℕ) (z : Standing) → map.get m q ≡ Some z → HasPlace (numbers_in (entries_of es')) z.running z.place)
       → refusal batches (world_of n m ps es).locks (machine.Step.Edit c b) ≡ None → Goes n m ps es (machine.Step.Edit c b) n (map.insert m c s') (set_at ps b list) hs es'
   edit_goes c b s s' list es' has run_is found_e list_is order_is own others h =
       let v : BatchWorld = world_of n m ps es in
@@ -211,7 +217,7 @@ module _ (n : ℕ) (m : Table) (ps : List NumberSet) (hs : List (Option ℕ)) (e
             (λ reached d l. kept.held d l ∙ sym (holder_same v (world_of n (map.insert m c s') (set_at ps b list) es') reached d
             (same_on n n m ps (set_at ps b list) es es' c d s s' has
             (ap (λ r. holds batches r d) run_is ∙ ap (λ x. x && not (set.contains s.running.given d)) (taken_alike batches (record s.running { edited = set.insert s.running.edited b }) s.running refl refl d)))))
-            (at_each m c s' (λ q z. HasPlace (names (entries_of es')) z.running z.place) own (λ q z d g. others q z g)),
+            (at_each m c s' (λ q z. HasPlace (numbers_in (entries_of es')) z.running z.place) own (λ q z d g. others q z g)),
       )
 
   pub begin_goes : (c : ℕ) (op : List Command) → IsLocal batches op → c < 2 ^ 32 → refusal batches (world_of n m ps es).locks (machine.Step.Begin c op) ≡ None
@@ -235,7 +241,7 @@ module _ (n : ℕ) (m : Table) (ps : List NumberSet) (hs : List (Option ℕ)) (e
                   ∙ sym (ap (λ x. holds_now batches (running batches v x) d) e ∙ ap (λ x. holds_now batches x d) idle)
               | inr f ↦ ap (λ x. holds_now batches x d) (get-values (λ (s : Standing). s.running) (map.insert m c s') q ∙ ap (option_map (λ (s : Standing). s.running)) (get-insert_other m c s' q f) ∙ sym (get-values (λ (s : Standing). s.running) m q))
             ])))
-            (at_each m c s' (λ q z. HasPlace (names (entries_of es)) z.running z.place) (not_any_empty, tt) (λ q z d g. kept.placed q z g)),
+            (at_each m c s' (λ q z. HasPlace (numbers_in (entries_of es)) z.running z.place) (not_any_empty, tt) (λ q z d g. kept.placed q z g)),
       )
 
   edit_allowed : (c b : ℕ) (s : Standing) → map.get m c ≡ Some s → refusal batches (world_of n m ps es).locks (machine.Step.Edit c b) ≡ None → edit_refusal batches s.running b ≡ None
@@ -265,7 +271,7 @@ module _ (n : ℕ) (m : Table) (ps : List NumberSet) (hs : List (Option ℕ)) (e
       let k = midway_of batches (running batches (world_of n m ps es) c) test h in
       let t = standing c k.0 k.1 in absurd (cc (t.1, none))
 
-  pub edited_place : (c b : ℕ) (s : Standing) → map.get m c ≡ Some s → is_any s.running.edited ≡ true → HasPlace (names (entries_of es)) (record s.running { edited = set.insert s.running.edited b }) s.place
+  pub edited_place : (c b : ℕ) (s : Standing) → map.get m c ≡ Some s → is_any s.running.edited ≡ true → HasPlace (numbers_in (entries_of es)) (record s.running { edited = set.insert s.running.edited b }) s.place
   edited_place c b s has any = let p = kept.placed c s has in (is_any_of (set.insert s.running.edited b) b (has-insert_same s.running.edited b) ∙ sym any ∙ p.0, p.1)
 
   -- a client that may take has a next part
@@ -286,13 +292,13 @@ module _ (n : ℕ) (m : Table) (ps : List NumberSet) (hs : List (Option ℕ)) (e
       let order_is : entries_of (es ++ e ∷ []) ≡ appended batches (entries_of es) c (Some s.running) =
       entries_push es e ∙ (λ i. entries_of es ++ record { begin = begin_is i; client = client_is i; reply = reply_is i } ∷ [])
       ∙ sym (ap (λ (t : Bool). cond t (entries_of es) (entries_of es ++ record { begin = s.running.operation; client = c; reply = None } ∷ [])) none_edited) in
-      let names_are : names (entries_of (es ++ e ∷ [])) ≡ names (entries_of es) ++ e.begin ∷ [] = ap names (entries_push es e) ∙ names_push (entries_of es) (entry_of e) in
+      let names_are : numbers_in (entries_of (es ++ e ∷ [])) ≡ numbers_in (entries_of es) ++ e.begin ∷ [] = ap numbers_in (entries_push es e) ∙ names_push (entries_of es) (entry_of e) in
       edit_goes c b s (record { running = record s.running { edited = set.insert s.running.edited b }; found = s.found; place = Some place }) list (es ++ e ∷ []) has refl refl list_is order_is (
         is_any_of (set.insert s.running.edited b) b (has-insert_same s.running.edited b),
-        ap (λ ns. slice_get ns place) names_are ∙ ap (slice_get (names (entries_of es) ++ e.begin ∷ [])) (place_is ∙ sym (length-names es))
-            ∙ get_last (names (entries_of es)) e.begin ∙ ap (λ k. Some k) begin_is,
+        ap (λ ns. slice_get ns place) names_are ∙ ap (slice_get (numbers_in (entries_of es) ++ e.begin ∷ [])) (place_is ∙ sym (length-names es))
+            ∙ get_last (numbers_in (entries_of es)) e.begin ∙ ap (λ k. Some k) begin_is,
       )
-      (λ q z g. let p = kept.placed q z g in (p.0, later_place z.place (names (entries_of es)) e.begin z.running.operation (names (entries_of (es ++ e ∷ []))) names_are p.1))
+      (λ q z g. let p = kept.placed q z g in (p.0, later_place z.place (numbers_in (entries_of es)) e.begin z.running.operation (numbers_in (entries_of (es ++ e ∷ []))) names_are p.1))
       h
 
   pub committed_at : (c : ℕ) (s : Standing) (v : BatchWorld) → map.get m c ≡ Some s → world_of n m ps es ≡ v → is_some s.place ≡ true → IfSome (running batches v c) (λ r. is_any r.edited ≡ true)

@@ -1,4 +1,5 @@
 pub mod Basics
+pub mod Cases
 pub mod Rising
 pub mod Sky
 pub mod Taking

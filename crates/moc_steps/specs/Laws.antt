@@ -9,7 +9,8 @@ use Rattle.moc_parts.specs.Batches.{batches}
 use Rattle.moc_parts.specs.declared.command.Command.{Command}
 use Rattle.moc_steps.specs.Machine.{Step, Running, ArePermitted, AreLocal, all_idle, refusal, World, Entry, reply_to}
 use Rattle.moc_steps.specs.Machine.{world_after, run, start_world, part_at, whole, running}
-use Rattle.moc_steps.specs.Orders.{operations, midway, Explains, set_by_order, names, times, AreProgress, is_progress}
+use Rattle.moc_steps.specs.Orders.{operations, midway, Explains, set_by_order, numbers_in, times, AreProgress}
+use Rattle.moc_steps.specs.Orders.{is_progress}
 use Rattle.moc_steps.specs.Orders.{client_of, steps_left, is_to_come}
 
 module _ {Op Reply : Type 0} (o : Object Op Reply) where
@@ -42,10 +43,12 @@ module _ {Op Reply : Type 0} (o : Object Op Reply) where
   -- more steps are bounded, keep the order, and add to it what was to come
   pub record EndsWell (start : NumberSet) (steps more : List (Step Op)) : Type 0 where
     pub bounded : length more ≤ steps_left o (led_to start steps).locks.clients
-    pub kept : (new : List ℕ) × (names (led_to start (steps ++ more)).order ≡ names (led_to start steps).order ++ new)
+    pub kept : (new : List ℕ)
+        × (numbers_in (led_to start (steps ++ more)).order ≡ numbers_in (led_to start steps).order ++ new)
     pub added : midway (steps ++ more) ≡ 0 → (n : ℕ)
-        → times n (names (led_to start (steps ++ more)).order)
-        ≡ times n (names (led_to start steps).order) + (if is_to_come (slice_get (operations steps) n) then 1 else 0)
+        → times n (numbers_in (led_to start (steps ++ more)).order)
+        ≡ times n (numbers_in (led_to start steps).order)
+        + (if is_to_come (slice_get (operations steps) n) then 1 else 0)
 
   -- what stands for operation n in the order has this reply
   abbrev pub HasReply : ℕ → Reply → List (Entry Reply) → Type 0
@@ -56,7 +59,7 @@ module _ {Op Reply : Type 0} (o : Object Op Reply) where
   abbrev pub RepliesByEntry : World Op Reply → Step Op → Type 0
   RepliesByEntry w step = (y : Reply) → reply_to o w step ≡ Some y
       → (r : Running Op) × (running o w (client_of step) ≡ Some r)
-      × (times r.operation (names (world_after o w step).order) ≡ 1)
+      × (times r.operation (numbers_in (world_after o w step).order) ≡ 1)
       × HasReply r.operation y (world_after o w step).order
 
   -- permitted steps lead to the world

@@ -2,11 +2,11 @@
 use Rattle.std.specs.Prelude.{◌≡◌, ℕ, suc, ◌-◌, ◌^◌, Bool, true, false, not, ◌&&◌, nat_eq, List, [], ◌∷◌, Option, None}
 use Rattle.std.specs.Prelude.{Some, if◌then◌else◌, is_some, option_map, take, slice_get, ◌++◌, map as map_list, get_or}
 use Rattle.std.specs.Prelude.{set as set_at, fold}
-use Rattle.std.specs.List.{filter, list_any}
+use Rattle.std.specs.List.{filter, find, list_any}
 use Rattle.std.specs.Ordering.{nat_cmp}
 use Rattle.std.specs.FinSet as set
 use Rattle.std.specs.FinMap as map
-use Rattle.std.specs.Option.{option_map_or, unwrap_or}
+use Rattle.std.specs.Option.{option_and_then, option_map_or, unwrap_or}
 use Rattle.moc_parts.specs.Objects.{Object, IsLocal}
 use Rattle.moc_steps.specs.declared.error.StepError.{StepError}
 use Rattle.moc_steps.specs.declared.error.StepError.TheVariants.{NotIdle, Idle, PartHeld, AllTaken, NotAllTaken}
@@ -86,28 +86,20 @@ module _ {Op Reply : Type 0} (o : Object Op Reply) where
   abbrev pub holds_now : Option (Running Op) → ℕ → Bool
   holds_now r b = option_map_or (λ r. holds r b) r false
 
-  -- the first of these clients that holds a part
-  abbrev pub holder_among : Clients Op → List ℕ → ℕ → Option ℕ
-  holder_among m [] b = None
-  holder_among m (c ∷ cs) b = if holds_now (map.get m c) b then Some c else holder_among m cs b
-
   -- the client that holds a part, if one does
   unfoldable pub holder : Clients Op → ℕ → Option ℕ
-  holder m b = holder_among m (map.keys m) b
+  holder m b = find (λ c. holds_now (map.get m c) b) (map.keys m)
 
   -- of a Begin, by the client, if it is midway
   abbrev pub begin_refusal : Locks Op → Option (Running Op) → Option StepError
-  begin_refusal s (Some r) = Some NotIdle
-  begin_refusal s None = if nat_eq s.begun (2 ^ 64 - 1) then Some TooMany else None
+  begin_refusal s r =
+      if is_some r then Some NotIdle else if nat_eq s.begun (2 ^ 64 - 1) then Some TooMany else None
 
-  -- of a Take, by the next part, if there is one
-  abbrev pub next_refusal : Locks Op → Option ℕ → Option StepError
-  next_refusal s None = Some AllTaken
-  next_refusal s (Some b) = option_map (PartHeld b) (holder s.clients b)
-
-  -- of a Take
+  -- of a Take: of one that does not quit by the next part, if one is left
   abbrev pub take_refusal : Locks Op → Running Op → Option StepError
-  take_refusal s r = if r.quits then Some Quitting else next_refusal s (next_part r)
+  take_refusal s r =
+      if r.quits then Some Quitting
+      else option_map_or (λ b. option_map (PartHeld b) (holder s.clients b)) (next_part r) (Some AllTaken)
 
   -- of an Edit of a part
   abbrev pub edit_refusal : Running Op → ℕ → Option StepError
@@ -151,14 +143,11 @@ module _ {Op Reply : Type 0} (o : Object Op Reply) where
   abbrev pub begins : ℕ → Op → Running Op
   begins n op = record { operation = n; command = op; taken = 0; edited = set.empty; given = set.empty; quits = false }
 
-  -- the clients with one of them changed, if it is midway
-  abbrev pub changed : Clients Op → ℕ → Option (Running Op) → (Running Op → Running Op) → Clients Op
-  changed m c None f = m
-  changed m c (Some r) f = map.insert m c (f r)
-
-  -- the clients with one of them changed
+  -- a client changed, if it is midway
   abbrev pub change : Locks Op → ℕ → (Running Op → Running Op) → Locks Op
-  change s c f = record { begun = s.begun; clients = changed s.clients c (map.get s.clients c) f }
+  change s c f = record s {
+    clients = option_map_or (λ r. map.insert s.clients c (f r)) (map.get s.clients c) s.clients;
+  }
 
   -- what a permitted step leaves
   abbrev pub locks_after : Locks Op → Step Op → Locks Op
@@ -223,21 +212,12 @@ module _ {Op Reply : Type 0} (o : Object Op Reply) where
   abbrev pub answered : World Op Reply → ℕ → Running Op → NumberSet × Reply
   answered w c r = o.answer (found_by w c) r.command
 
-  -- what is noted at a Take
-  abbrev pub found_next : World Op Reply → ℕ → Option (Running Op) → NumberSet
-  found_next w c None = found_by w c
-  found_next w c (Some r) = set.union (found_by w c) (unwrap_or (option_map (part_at w) (next_part o r)) set.empty)
-
-  -- the parts after an Edit: one part is replaced by the answer's
-  abbrev pub edited_parts : World Op Reply → ℕ → Option (Running Op) → ℕ → List NumberSet
-  edited_parts w c None b = w.parts
-  edited_parts w c (Some r) b = set_at w.parts b (part_of (answered w c r).0 b)
-
   -- the order after an Edit: the first one of an operation appends its entry
   abbrev pub appended : List (Entry Reply) → ℕ → Option (Running Op) → List (Entry Reply)
-  appended order c None = order
-  appended order c (Some r) =
-      if is_any r.edited then order else (order ++ record { begin = r.operation; client = c; reply = None } ∷ [])
+  appended order c r = option_map_or
+      (λ r. if is_any r.edited then order
+      else (order ++ record { begin = r.operation; client = c; reply = None } ∷ []))
+      r order
 
   -- the entry with a reply, if it is that of operation n
   abbrev pub replied : ℕ → Reply → Entry Reply → Entry Reply
@@ -245,10 +225,11 @@ module _ {Op Reply : Type 0} (o : Object Op Reply) where
 
   -- the order after an End: its operation's entry gets the reply, unless it quits
   abbrev pub completed : World Op Reply → ℕ → Option (Running Op) → List (Entry Reply)
-  completed w c None = w.order
-  completed w c (Some r) = if r.quits then w.order else map_list (replied r.operation (answered w c r).1) w.order
+  completed w c r = option_map_or
+      (λ r. if r.quits then w.order else map_list (replied r.operation (answered w c r).1) w.order)
+      r w.order
 
-  -- what a permitted step leaves
+  -- What a permitted step leaves. A Take notes what the part holds; an Edit puts the answer's part in the part's place.
   abbrev pub world_after : World Op Reply → Step Op → World Op Reply
   world_after w (Begin c op) = record w {
     locks = locks_after o w.locks (Begin c op);
@@ -256,11 +237,13 @@ module _ {Op Reply : Type 0} (o : Object Op Reply) where
   }
   world_after w (Take c) = record w {
     locks = locks_after o w.locks (Take c);
-    found = map.insert w.found c (found_next w c (running w c));
+    found = map.insert w.found c (option_map_or
+        (λ r. set.union (found_by w c) (unwrap_or (option_map (part_at w) (next_part o r)) set.empty))
+        (running w c) (found_by w c));
   }
   world_after w (Edit c b) = record w {
     locks = locks_after o w.locks (Edit c b);
-    parts = edited_parts w c (running w c) b;
+    parts = option_map_or (λ r. set_at w.parts b (part_of (answered w c r).0 b)) (running w c) w.parts;
     order = appended w.order c (running w c);
   }
   world_after w (Give c b) = record w { locks = locks_after o w.locks (Give c b) }
@@ -271,18 +254,13 @@ module _ {Op Reply : Type 0} (o : Object Op Reply) where
     order = completed w c (running w c);
   }
 
-  -- the world that steps lead to
+  -- the world after steps, from this one
   abbrev pub run : World Op Reply → List (Step Op) → World Op Reply
   run w steps = fold world_after w steps
 
-  -- the reply that the step gives: that of an End that did not quit
-  abbrev pub ended_reply : World Op Reply → ℕ → Option (Running Op) → Option Reply
-  ended_reply w c None = None
-  ended_reply w c (Some r) = if r.quits then None else Some (answered w c r).1
-
-  -- the reply that a step gives
+  -- the reply that a step gives: an End's, of an operation that does not quit
   abbrev pub reply_to : World Op Reply → Step Op → Option Reply
-  reply_to w (End c) = ended_reply w c (running w c)
+  reply_to w (End c) = option_and_then (λ r. if r.quits then None else Some (answered w c r).1) (running w c)
   reply_to w step = None
 
   -- the union of the twelve sets

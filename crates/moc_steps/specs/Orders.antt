@@ -13,7 +13,7 @@ use Rattle.std.specs.FinMap as map
 -- The operations of steps
 
 -- what became of an operation
-pub record Operation (Op : Type 0) : Type 0 where
+pub record Fate (Op : Type 0) : Type 0 where
   pub client : ℕ
   pub command : Op
   -- it has edited a part
@@ -23,32 +23,32 @@ pub record Operation (Op : Type 0) : Type 0 where
 
 module _ {Op : Type 0} where
   -- an operation that begins
-  abbrev pub just_begun : ℕ → Op → Operation Op
+  abbrev pub just_begun : ℕ → Op → Fate Op
   just_begun c op = record { client = c; command = op; committed = false; quits = false; ended = false }
 
   -- an operation of the client that has not ended
-  abbrev pub is_open : ℕ → Operation Op → Bool
+  abbrev pub is_open : ℕ → Fate Op → Bool
   is_open c x = nat_eq x.client c && not x.ended
 
   -- a change of the client's operation that has not ended
-  abbrev pub mark : ℕ → (Operation Op → Operation Op) → List (Operation Op) → List (Operation Op)
-  mark c f xs = map_list (λ x. if is_open c x then f x else x) xs
+  abbrev pub with_open : ℕ → (Fate Op → Fate Op) → List (Fate Op) → List (Fate Op)
+  with_open c f xs = map_list (λ x. if is_open c x then f x else x) xs
 
   -- the operations after one more step
-  abbrev pub noted : List (Operation Op) → Step Op → List (Operation Op)
+  abbrev pub noted : List (Fate Op) → Step Op → List (Fate Op)
   noted xs (Begin c op) = xs ++ just_begun c op ∷ []
   noted xs (Take c) = xs
-  noted xs (Edit c b) = mark c (λ x. record x { committed = true }) xs
+  noted xs (Edit c b) = with_open c (λ x. record x { committed = true }) xs
   noted xs (Give c b) = xs
-  noted xs (Quit c) = mark c (λ x. record x { quits = true }) xs
-  noted xs (End c) = mark c (λ x. record x { ended = true }) xs
+  noted xs (Quit c) = with_open c (λ x. record x { quits = true }) xs
+  noted xs (End c) = with_open c (λ x. record x { ended = true }) xs
 
   -- operation n stands at place n
-  abbrev pub operations : List (Step Op) → List (Operation Op)
+  abbrev pub operations : List (Step Op) → List (Fate Op)
   operations steps = fold noted [] steps
 
   -- it has not ended
-  abbrev pub is_midway : Operation Op → Bool
+  abbrev pub is_midway : Fate Op → Bool
   is_midway x = not x.ended
 
   -- how many operations are midway
@@ -62,8 +62,8 @@ abbrev pub times : ℕ → List ℕ → ℕ
 times n ns = count_by (λ x. nat_eq x n) ns
 
 -- the numbers of the operations in their order
-abbrev pub names : {Reply : Type 0} → List (Entry Reply) → List ℕ
-names order = map_list (λ e. e.begin) order
+abbrev pub numbers_in : {Reply : Type 0} → List (Entry Reply) → List ℕ
+numbers_in order = map_list (λ e. e.begin) order
 
 -- a stands before b
 abbrev pub StandsBefore : ℕ → ℕ → List ℕ → Type 0
@@ -71,7 +71,7 @@ StandsBefore a b ns = (front back : List ℕ) × (ns ≡ front ++ back) × (0 < 
 
 module _ {Op : Type 0} where
   -- an operation, if there is one, has edited a part
-  abbrev pub is_committed : Option (Operation Op) → Bool
+  abbrev pub is_committed : Option (Fate Op) → Bool
   is_committed o = option_map_or (λ x. x.committed) o false
 
   -- a's End stands before b's Begin: at some moment a has ended and b has not begun
@@ -82,13 +82,13 @@ module _ {Op : Type 0} where
 
 module _ {Op Reply : Type 0} (o : Object Op Reply) where
   -- the set of an operation, done alone, and its reply if it has ended and did not quit
-  abbrev pub done_alone : NumberSet → Option (Operation Op) → NumberSet × Option Reply
+  abbrev pub done_alone : NumberSet → Option (Fate Op) → NumberSet × Option Reply
   done_alone A None = (A, None)
   done_alone A (Some x) =
       let answer = o.answer A x.command in (answer.0, if x.ended && not x.quits then Some answer.1 else None)
 
   -- each entry names an operation of its client, and has the reply of that operation done alone after those before it
-  abbrev pub HaveReplies : List (Operation Op) → List (Entry Reply) → NumberSet → Type 0
+  abbrev pub HaveReplies : List (Fate Op) → List (Entry Reply) → NumberSet → Type 0
   HaveReplies xs [] A = Unit {0}
   HaveReplies xs (e ∷ order) A =
       (option_map (λ x. x.client) (slice_get xs e.begin) ≡ Some e.client)
@@ -96,7 +96,7 @@ module _ {Op Reply : Type 0} (o : Object Op Reply) where
       × HaveReplies xs order (done_alone A (slice_get xs e.begin)).0
 
   -- the set after the operations, done one by one in their order
-  abbrev pub result_of : List (Operation Op) → List (Entry Reply) → NumberSet → NumberSet
+  abbrev pub result_of : List (Fate Op) → List (Entry Reply) → NumberSet → NumberSet
   result_of xs order A = fold (λ B e. (done_alone B (slice_get xs e.begin)).0) A order
 
   -- the set after the operations of the steps, done one by one in the order
@@ -106,10 +106,10 @@ module _ {Op Reply : Type 0} (o : Object Op Reply) where
   -- The order explains the steps: it names the committed operations, in time, with their replies.
   pub record Explains (order : List (Entry Reply)) (steps : List (Step Op)) (start : NumberSet) : Type 0 where
     -- each committed operation is named once, and no other
-    pub named : (n : ℕ) → times n (names order) ≡ (if is_committed (slice_get (operations steps) n) then 1 else 0)
+    pub named : (n : ℕ) → times n (numbers_in order) ≡ (if is_committed (slice_get (operations steps) n) then 1 else 0)
     -- what ended before another began stands before it
-    pub in_time : (a b : ℕ) → 0 < times a (names order) → 0 < times b (names order) → EndsBefore a b steps
-        → StandsBefore a b (names order)
+    pub in_time : (a b : ℕ) → 0 < times a (numbers_in order) → 0 < times b (numbers_in order) → EndsBefore a b steps
+        → StandsBefore a b (numbers_in order)
     pub replies : HaveReplies (operations steps) order start
 
 -- Steps that bring midway clients to their ends
@@ -147,5 +147,5 @@ module _ {Op Reply : Type 0} (o : Object Op Reply) where
   steps_left m = sum_by (λ c. steps_wanted (map.get m c)) (map.keys m)
 
 -- an operation that is midway, does not quit and has not edited
-abbrev pub is_to_come : {Op : Type 0} → Option (Operation Op) → Bool
+abbrev pub is_to_come : {Op : Type 0} → Option (Fate Op) → Bool
 is_to_come o = option_map_or (λ x. not x.ended && (not x.quits && not x.committed)) o false

@@ -16,7 +16,8 @@ use std::alloc::Global;
 
 /// Takes steps in order from a start, up to the first that is refused.
 ///
-/// `Memory` comes at the making of the world, which is place 0, or at a permitted Begin, Take or Edit.
+/// `Memory` comes at the making of the world, which is place 0, or at a permitted Begin, Take or Edit. Linear in the
+/// steps, besides their own work.
 pub fn replay(alloc: Global, start: &Coverage, steps: &[Step]) -> Result<World, ReplayError>
     ensures leads { IfOk result (λ w. w ≡ led_to batches start.now (steps_of steps.now)) }
     ensures permitted { OnOk result (ArePlayed batches start.now (steps_of steps.now)) }
@@ -68,7 +69,7 @@ pub fn next_step(world: &World) -> Option<Step>
 /// Takes the steps that `next_step` names until no client is midway, and answers how many.
 ///
 /// They are at most three for each part of the footprints of the clients that were midway, and one for each. Where
-/// memory runs out the world is where the steps so far left it.
+/// memory runs out the world is where the steps so far left it. Linear in the steps, besides their own work.
 pub fn drain(world: &mut World) -> Result<u64, Memory>
     ensures drained { IfOk result (λ n. LeadsOn world.old n world.new) }
     ensures ended { OnOk result (map.len world.new.locks.clients ≡ 0) }

@@ -93,7 +93,7 @@ impl World {
 
     /// The set of the twelve parts, where no client is midway.
     ///
-    /// Refused with `Midway` exactly where some are; with `Memory` where memory runs out.
+    /// Refused with `Midway` exactly where some are; with `Memory` where memory runs out. A union for each part.
     pub fn coverage(&self) -> Result<Coverage, CoverError>
         ensures covered { IfOk result (λ a. a ≡ whole batches self.now) }
         ensures idle { OnOk result (map.len self.now.locks.clients ≡ 0) }

@@ -8,9 +8,9 @@ use Rattle.moc_script.specs.declared.crews.threads.Work.{Work}
 
 -- the work is that of this lane
 pub record IsWorkOf (map : SharedMap) (lanes : ℕ) (input : List ℕ) (lane : ℕ) (work : Work) : Type 0 where
-  pub map_is : work.map.now ≡ map
-  pub input_is : work.input.now ≡ input
-  pub lanes_are : work.lanes ≡ lanes
+  pub map_is : work.job.map.now ≡ map
+  pub input_is : work.job.input.now ≡ input
+  pub lanes_are : work.job.lanes ≡ lanes
   pub lane_is : work.lane ≡ lane
 
 -- each handle promises the end of its lane

@@ -5,7 +5,7 @@ ghost use Rattle.moc_shared.specs.Clients.{IsClientOf};
 ghost use Rattle.moc_script.specs.Private.LaneEnds.{AreLaneEnds, GoesBefore};
 ghost use Rattle.moc_script.specs.Private.Gathering.{AreDone, HasBoth, HasLanes, IsFirstUnfinished, NamesFirst};
 
-use crate::crews::lane::{Ending, LaneEnd, Unfinished};
+use crate::crews::lane::{Ending, Job, LaneEnd, Unfinished};
 use crate::crews::texts::Texts;
 use crate::crews::threads::LanesError;
 use moc_ranges::Memory;
@@ -42,19 +42,16 @@ pub(crate) fn all_done(alloc: Global, ends: Vec<Ending>) -> Result<Vec<LaneEnd>,
         → AreLaneEnds map lanes input ends.items → AreDone map lanes input done.items) }
     ensures first { IfErr result (λ e. NamesFirst ends.items e) }
 {
-    let fault = match first_unfinished(&ends) {
-        Some(unfinished) => LanesError::Memory {
-            line: unfinished.line(),
-        },
-        None => LanesError::MemoryBehind,
-    };
+    if let Some(unfinished) = first_unfinished(&ends) {
+        let line = unfinished.line();
+        return Err(LanesError::Memory { line });
+    }
     let mut done = Vec::new(alloc);
     for end in ends {
-        let Ok(end) = end else {
-            return Err(fault);
-        };
+        // No lane is unfinished.
+        let Ok(end) = end else { unreachable!() };
         let Ok(()) = done.push(end) else {
-            return Err(fault);
+            return Err(LanesError::MemoryBehind);
         };
     }
     Ok(done)
@@ -79,16 +76,14 @@ fn both(map: &SharedMap, first: Option<Client>, second: Client) -> Client
 /// One client with the records of all, and the answers of the lanes in order.
 pub(crate) fn take_in_all(
     alloc: Global,
-    map: &SharedMap,
-    input: &[u8],
-    lanes: u8,
+    job: Job<'_>,
     done: Vec<LaneEnd>,
 ) -> Result<(Client, Vec<Texts>), Memory>
-    requires some { 0 < lanes }
-    requires done { AreDone map.now lanes input.now done.items }
-    ensures map { IfOk result (λ r. IsClientOf map.now r.0) }
-    ensures wide { IfOk result (λ r. length r.1.items ≡ lanes) }
-    ensures lanes { IfOk result (λ r. HasLanes lanes lanes input.now r.1.items r.0) }
+    requires some { 0 < job.lanes }
+    requires done { AreDone job.map.now job.lanes job.input.now done.items }
+    ensures map { IfOk result (λ r. IsClientOf job.entry.map.now r.0) }
+    ensures wide { IfOk result (λ r. length r.1.items ≡ job.entry.lanes) }
+    ensures lanes { IfOk result (λ r. HasLanes job.entry.lanes job.entry.lanes job.entry.input.now r.1.items r.0) }
 {
     let mut all = None;
     let mut answers = Vec::new(alloc);
@@ -97,7 +92,7 @@ pub(crate) fn take_in_all(
             client,
             answers: texts,
         } = end;
-        all = Some(both(map, all, client));
+        all = Some(both(job.map, all, client));
         let Ok(()) = answers.push(texts) else {
             return Err(Memory);
         };

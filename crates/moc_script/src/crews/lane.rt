@@ -16,6 +16,14 @@ use std::slice;
 use std::sync::Wait;
 use std::sync::atomic::{AtomicBool, Ordering};
 
+/// What all lanes do: the lines of a script, which are dealt to so many lanes, on a map.
+#[derive(Clone, Copy)]
+pub(crate) struct Job<'a> {
+    pub(crate) map: &'a SharedMap,
+    pub(crate) input: &'a [u8],
+    pub(crate) lanes: u8,
+}
+
 /// What a lane has when its lines are done: its client, and its answers in order.
 #[derive(Drop)]
 pub(crate) struct LaneEnd {
@@ -133,25 +141,23 @@ fn refused(stop: &AtomicBool, line: u64) -> Unfinished
     Unfinished::Refused { line }
 }
 
-/// Does the lines of the client's lane, of so many, in order; before each it looks whether it is to stop.
+/// Does the lines of the client's lane in order; before each it looks whether it is to stop.
 pub(crate) fn do_lines<R: Wait, G: Gate>(
     rt: &R,
     alloc: Global,
     gate: &G,
-    map: &SharedMap,
-    input: &[u8],
-    lanes: u8,
+    job: Job<'_>,
     client: Client,
     stop: &AtomicBool,
 ) -> Ending
-    requires map { IsClientOf map.now client }
-    requires lane { number_of client < lanes }
+    requires map { IsClientOf job.map.now client }
+    requires lane { number_of client < job.lanes }
     requires fresh { Made (number_of client) [] (record_of client) }
-    ensures { IsLaneEnd map.now lanes input.now (number_of client) result }
+    ensures { IsLaneEnd job.entry.map.now job.entry.lanes job.entry.input.now (number_of client) result }
 {
     let mut client = client;
     let lane = client.number();
-    let mut left = LaneLines::new(input, lanes, lane);
+    let mut left = LaneLines::new(job.input, job.lanes, lane);
     let mut lens = Vec::new(alloc);
     let mut bytes = Vec::new(alloc);
     while let Some((number, line)) = left.next_line() {
@@ -160,7 +166,7 @@ pub(crate) fn do_lines<R: Wait, G: Gate>(
         }
         gate.pass(lane, number);
         let before = bytes.len();
-        let Ok(()) = answer_line(rt, alloc, map, &mut client, line, &mut bytes) else {
+        let Ok(()) = answer_line(rt, alloc, job.map, &mut client, line, &mut bytes) else {
             return Err(refused(stop, number));
         };
         let Ok(()) = lens.push(bytes.len() - before) else {

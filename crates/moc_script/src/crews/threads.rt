@@ -4,12 +4,14 @@ ghost use Rattle.moc_shared.specs.Clients.{AreNewClients};
 ghost use Rattle.moc_script.specs.Private.Gathering.{NamesLine, error_of_lanes};
 ghost use Rattle.moc_script.specs.Private.LaneEnds.{IsLaneEnd, AreLaneEnds};
 ghost use Rattle.moc_script.specs.Private.Promises.{ArePromised};
+ghost use Rattle.moc_script.specs.declared.crews.threads.LanesError.TheVariants as lanes;
 
 use crate::crew_error::CrewError;
 use crate::crews::gate::Gate;
-use crate::crews::lane::{Ending, do_lines};
+use crate::crews::lane::{Ending, Job, do_lines};
 use moc_lines::{RunError, number_behind_last};
-use moc_shared::{Client, SharedMap};
+use moc_ranges::Memory;
+use moc_shared::Client;
 use std::alloc::Global;
 use std::marker::{Send, Sync};
 use std::sync::Wait;
@@ -28,6 +30,14 @@ pub(crate) enum LanesError {
     MemoryBehind,
 }
 
+impl From<Memory> for LanesError {
+    ghost from_gives = { λ _ e. e ≡ lanes.MemoryBehind };
+
+    fn from(_refused: Memory) -> LanesError {
+        LanesError::MemoryBehind
+    }
+}
+
 impl LanesError {
     /// What a crew that has read this input tells where its lanes ended so.
     pub(crate) fn told_of(self, input: &[u8]) -> CrewError
@@ -44,18 +54,16 @@ impl LanesError {
     }
 }
 
-/// What a lane does: its lines of a script, of so many lanes, on a map.
+/// What one lane does: its lines of the job.
 #[derive(Clone, Copy)]
 pub(crate) struct Work<'a> {
-    pub(crate) map: &'a SharedMap,
-    pub(crate) input: &'a [u8],
-    pub(crate) lanes: u8,
+    pub(crate) job: Job<'a>,
     pub(crate) lane: u8,
 }
 
 impl<'a> Promise<Ending> for Work<'a> {
     ghost kept_by = { λ work end.
-        IsLaneEnd work.map.now work.lanes work.input.now work.lane end };
+        IsLaneEnd work.job.map.now work.job.lanes work.job.input.now work.lane end };
 }
 
 /// Starts a thread for each client; where one cannot be started, those before it are told to stop.
@@ -64,29 +72,25 @@ fn start<'s, E, R: Wait + Sync, G: Gate + Sync>(
     alloc: Global,
     gate: &'s G,
     scope: &Scope<'s, E>,
-    map: &'s SharedMap,
-    input: &'s [u8],
-    lanes: u8,
+    job: Job<'s>,
     clients: Vec<Client>,
     stop: &'s AtomicBool,
 ) -> Result<Vec<PromisedHandle<Ending, Work<'s>>>, LanesError>
-    requires clients { AreNewClients map.now clients.items lanes }
-    ensures promised { IfOk result (λ handles. ArePromised map.now lanes input.now handles.items) }
-    ensures line { IfErr result (λ e. NamesLine input.now e) }
+    requires clients { AreNewClients job.map.now clients.items job.lanes }
+    ensures promised { IfOk result (λ handles.
+        ArePromised job.entry.map.now job.entry.lanes job.entry.input.now handles.items) }
+    ensures line { IfErr result (λ e. NamesLine job.entry.input.now e) }
 {
+    let Job { map, input, lanes } = job;
     let Ok(mut handles) = Vec::with_capacity(alloc, usize::from(lanes)) else {
         return Err(LanesError::Memory { line: 0 });
     };
     for client in clients {
         let lane = client.number();
-        let work = Work {
-            map,
-            input,
-            lanes,
-            lane,
-        };
+        let work = Work { job, lane };
         let Ok(handle) = scope.spawn_with(work, move || {
-            do_lines(rt, alloc, gate, map, input, lanes, client, stop)
+            let job = Job { map, input, lanes };
+            do_lines(rt, alloc, gate, job, client, stop)
         }) else {
             stop.store(true, Ordering::SeqCst);
             return Err(LanesError::Spawn);
@@ -101,13 +105,13 @@ fn work_alone<R: Wait, G: Gate>(
     rt: &R,
     alloc: Global,
     gate: &G,
-    map: &SharedMap,
-    input: &[u8],
+    job: Job<'_>,
     clients: Vec<Client>,
 ) -> Result<Vec<Ending>, LanesError>
-    requires clients { AreNewClients map.now clients.items 1 }
-    ensures ends { IfOk result (λ ends. AreLaneEnds map.now 1 input.now ends.items) }
-    ensures line { IfErr result (λ e. NamesLine input.now e) }
+    requires alone { job.lanes ≡ 1 }
+    requires clients { AreNewClients job.map.now clients.items job.lanes }
+    ensures ends { IfOk result (λ ends. AreLaneEnds job.entry.map.now job.entry.lanes job.entry.input.now ends.items) }
+    ensures line { IfErr result (λ e. NamesLine job.entry.input.now e) }
 {
     let Ok(mut ends) = Vec::with_capacity(alloc, 1) else {
         return Err(LanesError::Memory { line: 0 });
@@ -118,7 +122,7 @@ fn work_alone<R: Wait, G: Gate>(
         unreachable!()
     };
     let stop = AtomicBool::new(false);
-    ends.push_reserved(do_lines(rt, alloc, gate, map, input, 1, client, &stop));
+    ends.push_reserved(do_lines(rt, alloc, gate, job, client, &stop));
     Ok(ends)
 }
 
@@ -128,18 +132,17 @@ pub(crate) fn run_lanes<R: Threads + Wait + Sync, G: Gate + Sync>(
     rt: &R,
     alloc: Global,
     gate: &G,
-    map: &SharedMap,
-    input: &[u8],
-    lanes: u8,
+    job: Job<'_>,
     clients: Vec<Client>,
 ) -> Result<Vec<Ending>, LanesError>
-    requires clients { AreNewClients map.now clients.items lanes }
-    ensures ends { IfOk result (λ ends. AreLaneEnds map.now lanes input.now ends.items) }
-    ensures line { IfErr result (λ e. NamesLine input.now e) }
+    requires clients { AreNewClients job.map.now clients.items job.lanes }
+    ensures ends { IfOk result (λ ends. AreLaneEnds job.entry.map.now job.entry.lanes job.entry.input.now ends.items) }
+    ensures line { IfErr result (λ e. NamesLine job.entry.input.now e) }
 {
-    if lanes == 1 {
-        return work_alone(rt, alloc, gate, map, input, clients);
+    if job.lanes == 1 {
+        return work_alone(rt, alloc, gate, job, clients);
     }
+    let Job { map, input, lanes } = job;
     let stop = AtomicBool::new(false);
     thread::scope(
         thread::scope_env(),
@@ -149,7 +152,8 @@ pub(crate) fn run_lanes<R: Threads + Wait + Sync, G: Gate + Sync>(
             ensures ends { IfOk result (λ ends. AreLaneEnds map.entry.now lanes input.entry.now ends.items) }
             ensures line { IfErr result (λ e. NamesLine input.entry.now e) }
         {
-            let handles = start(rt, alloc, gate, scope, map, input, lanes, clients, &stop)?;
+            let job = Job { map, input, lanes };
+            let handles = start(rt, alloc, gate, scope, job, clients, &stop)?;
             match thread::join_promised(rt, handles) {
                 Ok(ends) => Ok(ends),
                 Err(_) => {

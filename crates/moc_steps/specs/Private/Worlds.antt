@@ -7,7 +7,7 @@ use Rattle.moc_lists.specs.RangeList.{NumberSet}
 use Rattle.moc_parts.specs.declared.command.Command.{Command}
 use Rattle.moc_parts.specs.Batches.{batches}
 use Rattle.moc_steps.specs.Machine.{Running, holder, is_any}
-use Rattle.moc_steps.specs.Orders.{names}
+use Rattle.moc_steps.specs.Orders.{numbers_in}
 use Rattle.moc_steps.specs.Laws.{IsReached}
 use Rattle.moc_steps.specs.Played.{BatchWorld, entries_of}
 use Rattle.moc_steps.specs.Private.Standing.{Standing}
@@ -39,7 +39,7 @@ pub record IsKept (begun : ℕ) (clients : map.FinMap nat_cmp Standing) (parts :
   pub small : (c : ℕ) (r : Running (List Command)) → map.get (values_by (λ s. s.running) clients) c ≡ Some r
       → c < 2 ^ 32
   pub placed : (c : ℕ) (s : Standing) → map.get clients c ≡ Some s
-      → HasPlace (names (entries_of order)) s.running s.place
+      → HasPlace (numbers_in (entries_of order)) s.running s.place
 
 -- nobody holds a part
 abbrev pub IsFree : BatchWorld → Type 0

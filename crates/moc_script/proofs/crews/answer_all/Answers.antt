@@ -25,10 +25,10 @@ pub unreachable-requires-in-Err-Midway : goal.unreachable-requires-in-Err-Midway
 unreachable-requires-in-Err-Midway g c =
     let map = c.in-Ok.map in
     let n : ℕ = c.get-lanes.result in
-    let client = c.in-Ok-take_in_all.client in
+    let client = c.in_ok-client.client in
     let midway : AfterClose map (record_of client) (Err (Midway c.in-Err-Midway.field-0-0)) =
     subst (λ (e : CloseError). AfterClose map (record_of client) (Err e)) c.in-Err-Midway.field-0-is c.in-Err-Midway.ensures in
-    midway.1 (stands_for_all map n c.args.input.now c.in-Ok-take_in_all.answers.items client c.in-Ok.ensures.begins.1 c.in-Ok-take_in_all.ensures.lanes)
+    midway.1 (stands_for_all map n c.args.input.now c.in_ok-client.answers.items client c.in-Ok.ensures.begins.1 c.in_ok-client.ensures.lanes)
 
 pub returns-in_err-done-clause-line : goal.returns-in_err-done-clause-line
 returns-in_err-done-clause-line g c =
@@ -42,16 +42,16 @@ returns-clause-told g c =
     let n : ℕ = c.get-lanes.result in
     let input = c.args.input.now in
     let said : List (List ℕ) = said_lines (lines_of input) in
-    let answers = c.in-Ok-take_in_all.answers.items in
-    let client = c.in-Ok-take_in_all.client in
+    let answers = c.in_ok-client.answers.items in
+    let client = c.in_ok-client.client in
     let end : NumberSet = c.in-Ok-close.set in
-    let lanes : HasLanes n n input answers client = c.in-Ok-take_in_all.ensures.lanes in
-    let wide : length answers ≡ n = c.in-Ok-take_in_all.ensures.wide in
+    let lanes : HasLanes n n input answers client = c.in_ok-client.ensures.lanes in
+    let wide : length answers ≡ n = c.in_ok-client.ensures.wide in
     let start : start_of map ≡ set.empty = c.in-Ok.ensures.begins.0 ∙ c.empty-start.ensures in
-    subst (λ (m : ℕ). IsTold m said answers c.in-Ok-line_of_cover.cover.items) c.get-lanes.ensures.number (record {
+    subst (λ (m : ℕ). IsTold m said answers c.in_ok-cover.cover.items) c.get-lanes.ensures.number (record {
       wide = wide;
       for_lines = as_answers n input answers client lanes;
-      text = λ front all. subst (λ (l : List ℕ). IsCrewText n said (front ++ l)) (sym c.in-Ok-line_of_cover.ensures)
+      text = λ front all. subst (λ (l : List ℕ). IsCrewText n said (front ++ l)) (sym c.in_ok-cover.ensures)
           (crew_of_lanes map n input answers all.left client end front c.get-lanes.ensures.some lanes (subst (λ (m : ℕ). IsJoined m answers all.left (length said) front) wide all.joined) start c.in-Ok.ensures.begins.1
           c.in-Ok-close.ensures);
     })

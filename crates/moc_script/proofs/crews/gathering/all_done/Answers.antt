@@ -1,16 +1,17 @@
 -- One more end, and all of them.
-use Rattle.std.specs.Prelude.{◌≡◌, ◌+◌, ◌<◌, get_or, vec_items, vec_len, length, ℕ, List, Option, None, Some, Result, Ok}
+use Rattle.std.specs.Prelude.{◌≡◌, ◌+◌, ◌<◌, get_or, vec_items, vec_len, length, ℕ, List, Option, None, Result, Ok, Err}
 use Rattle.std.specs.Vec.Iter.{into_iter_items, into_iter_len}
 use Rattle.std.proofs.Common.{rules, arith, below_more, ap, ◌∙◌, sym, subst}
 use Rattle.std.proofs.lemmas.List.{get_or_default}
-use Rattle.moc_script.specs.Private.LaneEnds.{IsLaneEnd, line_at}
+use Rattle.moc_script.specs.Private.LaneEnds.{IsLaneEnd}
 use Rattle.moc_script.specs.declared.crews.lane.LaneEnd.{LaneEnd}
 use Rattle.moc_script.specs.declared.crews.lane.Unfinished.{Unfinished}
-use Rattle.moc_script.specs.Private.Gathering.{IsFirstUnfinished, NamesFirst}
-use Rattle.moc_script.specs.declared.crews.threads.LanesError.{LanesError}
-use Rattle.moc_script.specs.declared.crews.threads.LanesError.TheVariants.{Memory, MemoryBehind}
+use Rattle.moc_script.specs.Private.Gathering.{IsFirstUnfinished}
 use Rattle.moc_script.proofs.crews.gathering.all_done.Goals as goal
-use Rattle.moc_script.proofs.crews.gathering.all_done.Goals.{in-Some, in-None}
+
+-- there is no first one, so none is unfinished
+none_first : {l ends : List (Result LaneEnd Unfinished)} (first : Option Unfinished) → l ≡ ends → IsFirstUnfinished l first → first ≡ None → IsFirstUnfinished ends None
+none_first {l} {ends} first same is none = subst (λ x. IsFirstUnfinished x None) same (subst (IsFirstUnfinished l) none is)
 
 pub loop-end-preserved : goal.loop-end-preserved
 loop-end-preserved c =
@@ -36,36 +37,25 @@ loop-end-preserved c =
           (get_or_default ends done e c.in-Some-end.end inside ∙ found ∙ ap Ok (sym (c.in-Ok-push.ensures.by_index.1 d (search rules)))) k (omega arith),
     )
 
--- the fault names the line of the first end of a lane that has not done its lines
-some_named : (ends : List (Result LaneEnd Unfinished)) (first : Option Unfinished) (u : Unfinished) (line : ℕ) (fault : LanesError) → IsFirstUnfinished ends first
-    → first ≡ Some u → line ≡ line_at u → fault ≡ Memory line → NamesFirst ends fault
-some_named ends first u line fault is some at names =
-    subst (NamesFirst ends) (sym names) (u, subst (IsFirstUnfinished ends) some is, at)
-
--- or there is none
-none_named : (ends : List (Result LaneEnd Unfinished)) (first : Option Unfinished) (fault : LanesError) → IsFirstUnfinished ends first
-    → first ≡ None → fault ≡ MemoryBehind → NamesFirst ends fault
-none_named ends first fault is none names = subst (NamesFirst ends) (sym names) (subst (IsFirstUnfinished ends) none is)
-
-pub returns-in_default-clause-first : goal.returns-in_default-clause-first
-returns-in_default-clause-first c =
-    let ends = c.args.ends.items in
-    let first = c.first_unfinished.result in
-    let is : IsFirstUnfinished ends first = subst (λ l. IsFirstUnfinished l first) c.deref.ensures.value c.first_unfinished.ensures in
-    elim c.match-first_unfinished.branch [
-      | in-Some w ↦ some_named ends first w.in-Some.unfinished w.line.result _ is w.in-Some.is w.line.ensures w.fault-is
-      | in-None w ↦ none_named ends first _ is w.in-None.is w.fault-is
-    ]
+-- no end is a fault where none is the first
+pub unreachable-requires : goal.unreachable-requires
+unreachable-requires c =
+    let was = c.loop-end.invariant in
+    let done = vec_len c.loop-end.done in
+    let rest = c.loop-end.end-iterator in
+    let ends = vec_items c.args.ends in
+    let end = c.in-Some-end.end in
+    let some : 0 < into_iter_len rest = search rules in
+    let first : get_or (into_iter_items rest) 0 end ≡ end = grind rules in
+    let zero_more : done + 0 ≡ done = omega arith in
+    let found : get_or ends done end ≡ end = ap (λ n. get_or ends n end) (sym zero_more) ∙ sym (was.1 0 end some) ∙ first in
+    let inside : done < length ends = omega (arith, was.0, c.args.ends.ok) in
+    let e : Unfinished = c.in_default-end.field-0 in
+    let failed : get_or ends done (Err e) ≡ Err e = get_or_default ends done (Err e) end inside ∙ found ∙ c.in_default-end.is in
+    none_first c.first_unfinished.result c.deref.ensures.value c.first_unfinished.ensures c.in_default.is e (done, inside, failed)
 
 pub returns-in_default-push-clause-first : goal.returns-in_default-push-clause-first
-returns-in_default-push-clause-first c =
-    let ends = c.args.ends.items in
-    let first = c.first_unfinished.result in
-    let is : IsFirstUnfinished ends first = subst (λ l. IsFirstUnfinished l first) c.deref.ensures.value c.first_unfinished.ensures in
-    elim c.match-first_unfinished.branch [
-      | in-Some w ↦ some_named ends first w.in-Some.unfinished w.line.result _ is w.in-Some.is w.line.ensures w.fault-is
-      | in-None w ↦ none_named ends first _ is w.in-None.is w.fault-is
-    ]
+returns-in_default-push-clause-first c = none_first c.first_unfinished.result c.deref.ensures.value c.first_unfinished.ensures c.in_default.is
 
 pub returns-clause-done : goal.returns-clause-done
 returns-clause-done c map lanes input ends =

@@ -18,8 +18,8 @@ loop-end-init c =
       omega (arith, none, long, c.requires.done.0),
       (λ j d low.
           let place : j ≡ vec_len c.new-answers.result + j = omega (arith, none) in
-          subst (λ (n : ℕ). IsLaneEnd c.args.map.now c.args.lanes c.args.input.now n (Ok (get_or (into_iter_items rest) j d))) place
-          (subst (λ (l : List LaneEnd). IsLaneEnd c.args.map.now c.args.lanes c.args.input.now j (Ok (get_or l j d))) (sym same)
+          subst (λ (n : ℕ). IsLaneEnd c.args.job.map.now c.args.job.lanes c.args.job.input.now n (Ok (get_or (into_iter_items rest) j d))) place
+          (subst (λ (l : List LaneEnd). IsLaneEnd c.args.job.map.now c.args.job.lanes c.args.job.input.now j (Ok (get_or l j d))) (sym same)
           (c.requires.done.1 j d (omega (arith, long, c.requires.done.0))))),
       none,
     )
@@ -30,14 +30,14 @@ both-requires-clause-second c =
     let some : 0 < into_iter_len rest = search rules in
     let first : get_or (into_iter_items rest) 0 c.in-Some.end ≡ c.in-Some.end = grind rules in
     let found = c.loop-end.invariant.1 0 c.in-Some.end some in
-    subst (λ (q : LaneEnd). IsClientOf c.args.map.now q.client) first found.0
+    subst (λ (q : LaneEnd). IsClientOf c.args.job.map.now q.client) first found.0
 
 pub loop-end-preserved : goal.loop-end-preserved
 loop-end-preserved c =
     let was = c.loop-end.invariant in
-    let map = c.args.map.now in
-    let lanes : ℕ = c.args.lanes in
-    let input = c.args.input.now in
+    let map = c.args.job.map.now in
+    let lanes : ℕ = c.args.job.lanes in
+    let input = c.args.job.input.now in
     let k = vec_len c.loop-end.answers in
     let rest = c.loop-end.end-iterator in
     let left = c.next.new.self in

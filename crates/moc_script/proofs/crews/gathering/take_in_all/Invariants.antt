@@ -8,6 +8,6 @@ use Rattle.moc_script.proofs.crews.gathering.take_in_all.Given as goal
 abbrev pub invariant-loop-end : goal.invariant-loop-end
 invariant-loop-end l =
     let k = vec_len l.answers in let rest = l.end-iterator in
-    (k + into_iter_len rest ≡ l.lanes)
-    × ((j : ℕ) (d : _) → j < into_iter_len rest → IsLaneEnd l.map l.lanes l.input (k + j) (Ok (get_or (into_iter_items rest) j d)))
-    × IsGathered l.map k l.lanes l.input (vec_items l.answers) l.all
+    (k + into_iter_len rest ≡ l.job.lanes)
+    × ((j : ℕ) (d : _) → j < into_iter_len rest → IsLaneEnd l.job.map.now l.job.lanes l.job.input.now (k + j) (Ok (get_or (into_iter_items rest) j d)))
+    × IsGathered l.job.map.now k l.job.lanes l.job.input.now (vec_items l.answers) l.all

@@ -17,8 +17,8 @@ pub next_line-requires : goal.next_line-requires
 next_line-requires g c =
     let was = c.loop-number.invariant.passed in
     let left = lines_of c.loop-number.left.bytes.now in
-    let few = lines_few c.args.input.now in
-    record { few = omega (arith, few, c.type_inv.input, was.count_is, ap length was.lines, length-append was.passed left) }
+    let few = lines_few c.args.job.input.now in
+    record { few = omega (arith, few, c.new-left.type_inv, was.count_is, ap length was.lines, length-append was.passed left) }
 
 pub loop-number-preserved : goal.loop-number-preserved
 loop-number-preserved g c =
@@ -41,7 +41,7 @@ loop-number-preserved g c =
       of_map = c.answer_line.ensures.map;
       number = c.answer_line.ensures.number ∙ c.loop-number.invariant.number;
       sum = ap total pushed ∙ total-push lens (length text) ∙ ap (λ n. n + length text) c.loop-number.invariant.sum ∙ sym more;
-      passed = passed_more c.args.input.now c.loop-number.left c.next_line.new.self c.in-Some.number line c.loop-number.invariant.passed c.in-Some.ensures.number;
+      passed = passed_more c.args.job.input.now c.loop-number.left c.next_line.new.self c.in-Some.number line c.loop-number.invariant.passed c.in-Some.ensures.number;
       done = (
         was.0 ++ line ∷ [],
         was.1 ++ said.2.0,

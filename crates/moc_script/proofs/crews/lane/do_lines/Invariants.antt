@@ -11,11 +11,11 @@ use Rattle.moc_script.proofs.crews.lane.do_lines.Given as goal
 
 abbrev pub invariant-loop-number : goal.invariant-loop-number
 invariant-loop-number g l = record {
-  of_map : IsClientOf l.map l.client;
+  of_map : IsClientOf l.job.map.now l.client;
   number : number_of l.client ≡ l.lane;
   sum : total l.lens.items ≡ length l.bytes.items;
-  passed : HasPassed l.input l.left.passed l.left.bytes.now;
-  done : (lines : List (List ℕ)) × (made : List BatchCall) × (lane_lines l.lanes l.input l.lane ≡ lines ++ lines_left l.left) × Made l.lane made (record_of l.client)
+  passed : HasPassed l.job.input.now l.left.passed l.left.bytes.now;
+  done : (lines : List (List ℕ)) × (made : List BatchCall) × (lane_lines l.job.lanes l.job.input.now l.lane ≡ lines ++ lines_left l.left) × Made l.lane made (record_of l.client)
       × Does object script_rules lines made (cut l.lens.items l.bytes.items);
 }
 

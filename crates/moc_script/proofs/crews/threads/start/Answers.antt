@@ -15,7 +15,7 @@ pushed_here xs x d n is =
 pub loop-client-preserved : goal.loop-client-preserved
 loop-client-preserved g c =
     let was = c.loop-client.invariant in
-    let map = c.args.map.now in
+    let map = c.args.job.map.now in
     let done = vec_len c.loop-client.handles in
     let rest = c.loop-client.client-iterator in
     let left = c.next.new.self in
@@ -31,14 +31,14 @@ loop-client-preserved g c =
           let place : done + (k + 1) ≡ vec_len c.push_reserved.new.self + k = omega arith in
           subst (λ (n : ℕ). IsNewClient map n (get_or (into_iter_items left) k d)) place
           (subst (IsNewClient map (done + (k + 1))) (sym shifted) (was.1 (k + 1) d (search rules)))),
-      (λ k d below. below_more (λ i. IsWorkOf c.args.map.now c.args.lanes c.args.input.now i (get_or all i d).promise) done
-          (λ i low. let e = ap (λ l. get_or l i d) c.push_reserved.ensures.items ∙ get_or_append_left (vec_items c.loop-client.handles) _ d i (omega (arith, low, c.loop-client.handles.ok)) in subst (λ h. IsWorkOf c.args.map.now c.args.lanes c.args.input.now i h.promise) (sym e) (was.2 i d low))
-          (subst (λ h. IsWorkOf c.args.map.now c.args.lanes c.args.input.now done h.promise) (sym (ap (λ l. get_or l done d) c.push_reserved.ensures.items ∙ pushed_here (vec_items c.loop-client.handles) _ d done (omega (arith, c.loop-client.handles.ok))))
+      (λ k d below. below_more (λ i. IsWorkOf c.args.job.map.now c.args.job.lanes c.args.job.input.now i (get_or all i d).promise) done
+          (λ i low. let e = ap (λ l. get_or l i d) c.push_reserved.ensures.items ∙ get_or_append_left (vec_items c.loop-client.handles) _ d i (omega (arith, low, c.loop-client.handles.ok)) in subst (λ h. IsWorkOf c.args.job.map.now c.args.job.lanes c.args.job.input.now i h.promise) (sym e) (was.2 i d low))
+          (subst (λ h. IsWorkOf c.args.job.map.now c.args.job.lanes c.args.job.input.now done h.promise) (sym (ap (λ l. get_or l done d) c.push_reserved.ensures.items ∙ pushed_here (vec_items c.loop-client.handles) _ d done (omega (arith, c.loop-client.handles.ok))))
           (let told = c.in-Ok-spawn_with.ensures.ok in
           record {
-            map_is = ap (λ t. t.map.now) told;
-            input_is = ap (λ t. t.input.now) told;
-            lanes_are = ap (λ t. t.lanes) told;
+            map_is = ap (λ t. t.job.map.now) told;
+            input_is = ap (λ t. t.job.input.now) told;
+            lanes_are = ap (λ t. t.job.lanes) told;
             lane_is = ap (λ t. t.lane) told ∙ lane_is;
           }))
           k (omega arith)),

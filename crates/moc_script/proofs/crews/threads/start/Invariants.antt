@@ -8,7 +8,7 @@ use Rattle.moc_script.proofs.crews.threads.start.Given as goal
 abbrev pub invariant-loop-client : goal.invariant-loop-client
 invariant-loop-client g l =
     let done = vec_len l.handles in let rest = l.client-iterator in
-    (done + into_iter_len rest ≡ l.lanes)
-    × ((k : ℕ) (d : _) → k < into_iter_len rest → IsNewClient l.map (done + k) (get_or (into_iter_items rest) k d))
-    × ((k : ℕ) (d : _) → k < done → IsWorkOf l.map l.lanes l.input k (get_or (vec_items l.handles) k d).promise)
-    × (l.lanes ≤ vec_capacity l.handles)
+    (done + into_iter_len rest ≡ l.job.lanes)
+    × ((k : ℕ) (d : _) → k < into_iter_len rest → IsNewClient l.job.map.now (done + k) (get_or (into_iter_items rest) k d))
+    × ((k : ℕ) (d : _) → k < done → IsWorkOf l.job.map.now l.job.lanes l.job.input.now k (get_or (vec_items l.handles) k d).promise)
+    × (l.job.lanes ≤ vec_capacity l.handles)
