@@ -124,8 +124,8 @@ fn write_order(
 fn write_orders(text: &mut TextWriter, shown: Shown<'_>) -> Result<(), AllocError>
     requires each { AreOfOrders shown.orders.0 shown.orders.1 (cells_of shown.set.now) }
     requires in_range { shown.orders.1 ≤ 30 }
-    ensures { OnOk result (text.new
-        ≡ text.old ++ members_text false (members_along (cells_of shown.entry.set.now) shown.entry.bare orders_by_name)) }
+    ensures { OnOk result (text.new ≡ text.old
+        ++ members_text false (members_along (cells_of shown.entry.set.now) shown.entry.bare orders_by_name)) }
 {
     let mut behind = false;
     for depth in ORDERS {
