@@ -1,5 +1,5 @@
 -- What a complaint of a text says.
-use Rattle.std.proofs.Common.{◌≡◌, ◌⊎◌, ◌∙◌, ℕ, List, Option, None, Result, Ok, Err, ap, inl, inr, subst, sym}
+use Rattle.std.proofs.Common.{◌≡◌, ◌⊎◌, ◌∙◌, ℕ, List, Option, None, Result, Ok, Err, ap, inl, inr, refl, subst, sym}
 use Rattle.std.specs.Prelude.{IfErr, IsErrAnd, IsOkUnless}
 use Rattle.moc_conversion.specs.Combining.{IsNotCombined}
 use Rattle.moc_lists.specs.RangeList.{NumberSet}
@@ -48,18 +48,11 @@ pub told_alone : {T : Type 0} (r : Result T Complaint) (f : InputFault) (form : 
 told_alone (Ok v) f form left left' same why = tt
 told_alone (Err c) f form left left' same why = (same.1, same.2, subst (λ g. Unconverted form left left' g) (sym same.0) why)
 
--- a fault of a text is one of the input that it was
-pub not_read : (form : Form) (left left' : Option (List ℕ)) (given : List ℕ) (f : InputFault) → IsWhole left left' given
-    → (f ≡ want_of_memory) ⊎ IsTextFault form given f → Unconverted form left left' f
-not_read form left left' given f whole (inl memory) = inl (inr (inr memory))
-not_read form left left' given f whole (inr is_fault) = inr (given, whole, is_fault)
-
--- why a text is not said
-pub not_said : {T : Type 0} (r : Result T InputFault) (form : Form) (text : List ℕ) (e : FormError) → IsErrAnd r (λ f. f ≡ fault.Form e) → FormFails form text e
-    → IfErr r (λ f. (f ≡ want_of_memory) ⊎ IsTextFault form text f)
-not_said (Ok v) form text e same fails = tt
-not_said (Err f) form text e same (inl want) = inl (same ∙ ap (λ x. fault.Form x) want)
-not_said (Err f) form text e same (inr is_fault) = inr (e, is_fault, same)
+-- what a text is refused for is why the input that it was is not converted
+pub not_read : (form : Form) (left left' : Option (List ℕ)) (given : List ℕ) (e : FormError) → IsWhole left left' given
+    → FormFails form given e → Unconverted form left left' (fault.Form e)
+not_read form left left' given e whole (inl want) = inl (inr (inr (ap (λ x. fault.Form x) want)))
+not_read form left left' given e whole (inr is_fault) = inr (given, whole, (e, is_fault, refl))
 
 -- an error that is handed on
 pub handed_on : {T E : Type 0} (r : Result T E) (x : E) (Q : E → Type 0) → IsErrAnd r (λ y. y ≡ x) → Q x → IfErr r Q

@@ -1,6 +1,7 @@
 -- Why nothing was made of an input: the names of faults, and what tells them.
-use Rattle.std.specs.Prelude.{ℕ, List, [], ◌∷◌, ◌++◌, string_bytes, codes}
+use Rattle.std.specs.Prelude.{ℕ, List, [], ◌++◌, string_bytes, codes}
 use Rattle.std.specs.Option.{option_map_or}
+use Rattle.moc_text.specs.Names.{told_fault}
 use Rattle.moc_forms.specs.Finding.{hint_text}
 use Rattle.moc_forms.specs.Forms.{name_of_form_error}
 use Rattle.moc_forms.specs.declared.form.FormError.TheVariants as form
@@ -13,17 +14,13 @@ abbrev pub want_of_memory : InputFault
 want_of_memory = Form form.Memory
 
 -- the name of a fault
-abbrev pub input_fault_name : InputFault → List ℕ
-input_fault_name (Form e) = name_of_form_error e
-input_fault_name TooLong = codes "TooLong"
-input_fault_name Read = codes "Read"
-
--- the line that tells a fault of this name
-abbrev pub line_of : List ℕ → List ℕ
-line_of name = codes "fault " ++ name ++ 10 ∷ []
+abbrev pub name_of_input : InputFault → List ℕ
+name_of_input (Form e) = name_of_form_error e
+name_of_input TooLong = codes "TooLong"
+name_of_input Read = codes "Read"
 
 -- what tells a complaint: the line of its fault, then those of its place and of the hint, if there are any
 abbrev pub complaint_text : Complaint → List ℕ
 complaint_text c =
-    line_of (input_fault_name c.fault) ++ option_map_or string_bytes c.place_line []
+    told_fault (name_of_input c.fault) ++ option_map_or string_bytes c.place_line []
     ++ option_map_or hint_text c.hint []

@@ -2,10 +2,11 @@
 ghost use Rattle.std.specs.Prelude.{◌≡◌, None, OnOk, false, is_err};
 ghost use Rattle.std.specs.Io.KnownBytes.{Appends};
 ghost use Rattle.moc_conversion.specs.Faults.{complaint_text, want_of_memory};
+ghost use Rattle.moc_conversion.specs.declared.fault.InputFault.TheVariants as refused;
 
 use crate::fault::{InputFault, tell_fault};
 use moc_devices::{DeviceFault, Sink, write_all};
-use moc_forms::{Form, hint_line};
+use moc_forms::{Form, FormError, hint_line};
 use moc_ranges::Memory as MemoryRefused;
 use std::alloc::AllocError;
 use thiserror::Error;
@@ -15,8 +16,11 @@ use thiserror::Error;
 #[derive(Debug, Drop, Error)]
 #[error("{fault}")]
 pub struct Complaint {
+    /// The fault.
     pub fault: InputFault,
+    /// The line that says where it is, ended by a line feed (`Refusal::line`); `None` where it is not told.
     pub place_line: Option<String>,
+    /// The form that the text looks like; `None` where that is the one it was read in, or is not told.
     pub hint: Option<Form>,
 }
 
@@ -48,6 +52,14 @@ impl From<InputFault> for Complaint {
             place_line: None,
             hint: None,
         }
+    }
+}
+
+impl From<FormError> for Complaint {
+    ghost from_gives = { λ e c. (c.fault ≡ refused.Form e) × (c.place_line ≡ None) × (c.hint ≡ None) };
+
+    fn from(error: FormError) -> Complaint {
+        Complaint::from(InputFault::from(error))
     }
 }
 

@@ -7,7 +7,7 @@ ghost use Rattle.moc_conversion.specs.Conversion.{IsNotConverted, IsNotSaid, IsS
 use crate::complaint::Complaint;
 use crate::fault::InputFault;
 use crate::reading::read_whole;
-use crate::saying::{input_says, said, text_of};
+use crate::saying::{input_says, text_of};
 use moc_devices::Source;
 use moc_forms::{Change, Choice, Form, describe};
 use std::alloc::Global;
@@ -30,7 +30,7 @@ pub fn convert_input<R: Source>(
     ensures converts { IfOk result (λ t. ConvertsAll from to (R.left input.old) (R.left input.new) (string_bytes t)) }
 {
     let text = read_whole(alloc, input)?;
-    let (set, deepest) = said(alloc, from, &text)?;
+    let (set, deepest) = from.read(alloc, &text)?;
     Ok(text_of(alloc, to, &set, deepest)?)
 }
 

@@ -1,7 +1,8 @@
 //! Why nothing was made of an input.
 ghost use Rattle.std.specs.Prelude.{◌≡◌, OnOk, false, is_err};
 ghost use Rattle.std.specs.Io.KnownBytes.{Appends};
-ghost use Rattle.moc_conversion.specs.Faults.{input_fault_name, line_of, want_of_memory};
+ghost use Rattle.moc_text.specs.Names.{told_fault};
+ghost use Rattle.moc_conversion.specs.Faults.{name_of_input, want_of_memory};
 ghost use Rattle.moc_conversion.specs.declared.fault.InputFault.TheVariants as fault;
 
 use moc_devices::{DeviceFault, Sink, write_all};
@@ -28,7 +29,7 @@ pub enum InputFault {
 impl InputFault {
     /// The name of the fault, as it is printed.
     pub fn name(self) -> &'static str
-        ensures { result.now ≡ input_fault_name self }
+        ensures { result.now ≡ name_of_input self }
     {
         match self {
             InputFault::Form(error) => error.name(),
@@ -41,7 +42,7 @@ impl InputFault {
 /// Tells a fault by its name, `fault NAME` and a line feed. Refused where the writer fails; what was told before that
 /// stays.
 pub fn tell_fault<E: Sink>(name: &str, faults: &mut E) -> Result<(), DeviceFault>
-    ensures told { OnOk result (Appends (E.written faults.old) (E.written faults.new) (line_of name.now)) }
+    ensures told { OnOk result (Appends (E.written faults.old) (E.written faults.new) (told_fault name.now)) }
     ensures marks { E.mark faults.old ≡ false → E.mark faults.new ≡ is_err result }
 {
     write_all(b"fault ", faults)?;

@@ -1,13 +1,13 @@
 //! What texts and inputs say, and the text of what is said.
-ghost use Rattle.std.specs.Prelude.{◌≡◌, ◌≢◌, ◌↔◌, ◌⊎◌, Err, false, IfErr, IfOk, IsErrAnd, IsOkUnless, IsTrue, None};
+ghost use Rattle.std.specs.Prelude.{◌≡◌, ◌≢◌, ◌↔◌, ◌⊎◌, false, IfErr, IfOk, IsErrAnd, IsOkUnless, IsTrue, None};
 ghost use Rattle.std.specs.String.{string_bytes};
 ghost use Rattle.moc_text.specs.AsciiText.{IsTooCoarse};
 ghost use Rattle.moc_forms.specs.Combining.{TextSays};
 ghost use Rattle.moc_forms.specs.Finding.{form_for, hint_of};
-ghost use Rattle.moc_forms.specs.Forms.{FormSays, form_text};
+ghost use Rattle.moc_forms.specs.Forms.{form_text};
 ghost use Rattle.moc_forms.specs.Places.{line_bytes};
 ghost use Rattle.moc_forms.specs.Quotes.{IsTold};
-ghost use Rattle.moc_conversion.specs.Conversion.{IsNotSaid, IsTextFault, SaysAll, TellsFault};
+ghost use Rattle.moc_conversion.specs.Conversion.{IsNotSaid, SaysAll, TellsFault};
 ghost use Rattle.moc_conversion.specs.Faults.{want_of_memory};
 
 use crate::complaint::Complaint;
@@ -18,19 +18,6 @@ use moc_forms::{Choice, Form, FormError, Refusal, Said, examine, hint};
 use moc_ranges::Coverage;
 use moc_sphere::Order;
 use std::alloc::Global;
-
-/// What a text in a form says.
-pub(crate) fn said(
-    alloc: Global,
-    form: Form,
-    text: &[u8],
-) -> Result<(Coverage, Option<Order>), InputFault>
-    ensures device { result ≢ Err InputFault.Read }
-    ensures says { IfOk result (λ r. FormSays form text.now r.0 r.1) }
-    ensures fault { IfErr result (λ f. (f ≡ want_of_memory) ⊎ IsTextFault form text.now f) }
-{
-    Ok(form.read(alloc, text)?)
-}
 
 /// What a text says, with the form that it is read in; else a complaint that tells its first fault and where it is.
 /// Where texts are counted, the complaint has the number of this one.

@@ -115,10 +115,15 @@ head =
     ++ codes "<clipPath id=\"plane\"><path d=\"M0 0h1024v512H0z\"/></clipPath>\n"
     ++ codes "<rect x=\"-40\" y=\"-40\" width=\"1104\" height=\"640\" fill=\"#fff\"/>\n"
 
+-- what the group of the cells begins with: mirrored, within the plane, with sharp edges
+abbrev pub mirror : List ℕ
+mirror =
+    codes "<g transform=\"translate(1024 0) scale(-1 1)\" clip-path=\"url(#plane)\" shape-rendering=\"crispEdges\">\n"
+
 -- the marks in four shades of blue, mirrored, with sharp edges and a thin rim, so that a single cell is seen
 unfoldable pub shades : List Shaded → List ℕ
 shades marks =
-    codes "<g transform=\"translate(1024 0) scale(-1 1)\" clip-path=\"url(#plane)\" shape-rendering=\"crispEdges\">\n"
+    mirror
     ++ shade_path marks 1 (codes "#6baed6")
     ++ shade_path marks 2 (codes "#4292c6")
     ++ shade_path marks 3 (codes "#2171b5")
@@ -158,7 +163,7 @@ picture_of a = head ++ outlines ++ labels ++ shades (marks_of a) ++ legend ++ co
 -- blue, orange and black (Okabe and Ito), mirrored and rimmed as the shades of one set are
 unfoldable pub kinds : NumberSet → NumberSet → List ℕ
 kinds a b =
-    codes "<g transform=\"translate(1024 0) scale(-1 1)\" clip-path=\"url(#plane)\" shape-rendering=\"crispEdges\">\n"
+    mirror
     ++ marks_path (marks_of (set.difference a b)) (codes "#0072b2")
     ++ marks_path (marks_of (set.difference b a)) (codes "#e69f00")
     ++ marks_path (marks_of (set.intersection a b)) (codes "#000")

@@ -1,6 +1,6 @@
 -- Which form a text has, as its first byte that is no blank tells.
 use Rattle.std.specs.Prelude.{ℕ, Bool, true, false, ◌==◌, ◌&&◌, ◌||◌, nat_le, if◌then◌else◌, List, [], ◌∷◌, codes}
-use Rattle.std.specs.Prelude.{Option, None, Some}
+use Rattle.std.specs.Prelude.{Option, None, Some, option_and_then}
 use Rattle.std.specs.List.{list_any}
 use Rattle.moc_sphere.specs.Names.{is_slash}
 use Rattle.moc_forms.specs.Forms.{form_name}
@@ -56,14 +56,9 @@ same_form Json Json = true
 same_form Uniq Uniq = true
 same_form a b = false
 
--- a form, if there is one and it is another than this
-abbrev pub other_form : Form → Option Form → Option Form
-other_form form None = None
-other_form form (Some seen) = if same_form form seen then None else Some seen
-
 -- the form that a text looks like, where it is read in another
 abbrev pub hint_of : Form → List ℕ → Option Form
-hint_of form text = other_form form (looks_like text)
+hint_of form text = option_and_then (λ seen. if same_form form seen then None else Some seen) (looks_like text)
 
 -- what is said of a form that a text looks like
 abbrev pub hint_text : Form → List ℕ

@@ -2,6 +2,7 @@
 use Rattle.std.specs.Prelude.{◌≡◌, ℕ, ◌+◌, List, [], ◌∷◌, ◌++◌, ◌⊎◌, length, take, Option, None, Some}
 use Rattle.std.specs.Prelude.{option_map, decimal, codes, count_by, String, string_bytes}
 use Rattle.std.specs.List.{after_last}
+use Rattle.std.specs.Option.{option_map_or}
 use Rattle.std.specs.declared.alloc.Global.{Global}
 use Rattle.moc_text.specs.JsonForm.{NameIsOrder}
 use Rattle.moc_text.specs.Lines.{is_line_feed}
@@ -63,8 +64,7 @@ place_text (Number order number) = (codes "order " ++ decimal order) ++ (codes "
 
 -- a quote behind a place, if there is one
 abbrev pub quote_behind : Option (List ℕ) → List ℕ
-quote_behind None = []
-quote_behind (Some quote) = codes ": " ++ quote
+quote_behind quote = option_map_or (λ q. codes ": " ++ q) quote []
 
 -- the line of a fault's place: the number of the text, if counted, the place, if there is one, and the quote, if any
 abbrev pub line_of_place : Option ℕ → Option Place → Option (List ℕ) → Option (List ℕ)

@@ -21,8 +21,10 @@ use thiserror::Error;
 #[derive(Clone, Copy, Debug, PartialEq, Eq, Error)]
 #[error("{error}")]
 pub struct Refusal {
+    /// The first fault of the text, or `Memory`.
     pub error: FormError,
-    /// `None` for `NotObject`, for want of memory, and for `NotJson` where `serde_json` tells no place.
+    /// Where the text is at fault; `None` for `NotObject`, for want of memory, and for `NotJson` where `serde_json`
+    /// tells no place.
     pub place: Option<Place>,
 }
 

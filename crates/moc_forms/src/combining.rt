@@ -1,6 +1,5 @@
 //! Operations on what texts say.
 ghost use Rattle.std.specs.Prelude.{◌≡◌, IfOk, Some};
-ghost use Rattle.moc_text.specs.Ascii.{deeper as deeper_of};
 ghost use Rattle.moc_forms.specs.Combining.{are_blanks, combined, joined};
 
 use crate::finding::is_blank_byte;
@@ -8,6 +7,7 @@ use crate::form::Form;
 use crate::name_error::FormNameError;
 use moc_ranges::{Coverage, Memory};
 use moc_sphere::Order;
+use moc_text::deeper;
 use std::alloc::Global;
 use std::fmt;
 use std::str::FromStr;
@@ -67,8 +67,11 @@ impl fmt::Display for Operation {
 /// What a text says: its set, the deepest order that it names, and the form that it is read in.
 #[derive(Drop)]
 pub struct Said {
+    /// The set.
     pub set: Coverage,
+    /// The deepest order that the text names; `None` where it names none.
     pub deepest: Option<Order>,
+    /// The form of the text.
     pub form: Form,
 }
 
@@ -116,15 +119,4 @@ pub fn is_blank(text: &[u8]) -> bool
         }
     }
     true
-}
-
-/// The deeper of two orders that may be none.
-fn deeper(first: Option<Order>, second: Option<Order>) -> Option<Order>
-    ensures { result ≡ deeper_of first second }
-{
-    match (first, second) {
-        (Some(first), Some(second)) => Some(first.max(second)),
-        (Some(first), None) => Some(first),
-        (None, _) => second,
-    }
 }

@@ -2,8 +2,8 @@
 ghost use Rattle.std.specs.Prelude.{◌≡◌, ◌++◌, ◌<◌, ◌≤◌, ◌*◌, ◌^◌, IfOk, OnOk};
 ghost use Rattle.std.specs.String.{string_bytes};
 ghost use Rattle.moc_forms.specs.Drawing.{base_diamonds_below, cell_diamonds, diamond, diamonds_at, head, label};
-ghost use Rattle.moc_forms.specs.Drawing.{labels, labels_at, labels_below, legend, legend_entry, outlines, path_head};
-ghost use Rattle.moc_forms.specs.Drawing.{picture_of, shade_diamonds, shade_path, shades};
+ghost use Rattle.moc_forms.specs.Drawing.{labels, labels_at, labels_below, legend, legend_entry, mirror, outlines};
+ghost use Rattle.moc_forms.specs.Drawing.{path_head, picture_of, shade_diamonds, shade_path, shades};
 
 use crate::marks::marks;
 use crate::texts::push_count;
@@ -48,14 +48,21 @@ pub fn push_head(text: &mut String) -> Result<(), AllocError>
     Ok(())
 }
 
+/// Adds what the group of the cells begins with.
+pub fn push_mirror(text: &mut String) -> Result<(), AllocError>
+    ensures { OnOk result (string_bytes text.new ≡ string_bytes text.old ++ mirror) }
+{
+    text.push_str(
+        "<g transform=\"translate(1024 0) scale(-1 1)\" clip-path=\"url(#plane)\" shape-rendering=\"crispEdges\">\n",
+    )
+}
+
 /// Adds the marks in their shades.
 #[tactic(auto, unfolding(crate::specs::Drawing::shades))]
 fn push_shades(text: &mut String, marks: &[(Cell, u64)]) -> Result<(), AllocError>
     ensures { OnOk result (string_bytes text.new ≡ string_bytes text.old ++ shades marks.now) }
 {
-    text.push_str(
-        "<g transform=\"translate(1024 0) scale(-1 1)\" clip-path=\"url(#plane)\" shape-rendering=\"crispEdges\">\n",
-    )?;
+    push_mirror(text)?;
     push_shade(text, marks, 1, "#6baed6")?;
     push_shade(text, marks, 2, "#4292c6")?;
     push_shade(text, marks, 3, "#2171b5")?;

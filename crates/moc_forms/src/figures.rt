@@ -77,8 +77,8 @@ impl Figures {
         self.orders[usize::from(order.get())]
     }
 
-    /// The share of the sky, in parts of 10^12, cut off.
-    fn share(&self) -> u64
+    /// The share of the sky in parts of 10^12, cut off: 88541666666 for 0.088541666666. O(1), takes no memory.
+    pub fn share(&self) -> u64
         ensures { result ≡ share_of self.now.pixels }
     {
         let parts = u128::from(self.pixels) * u128::from(PARTS) / u128::from(PIXEL_COUNT);

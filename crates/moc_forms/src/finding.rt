@@ -1,6 +1,6 @@
 //! Which form a text has, as its first byte that is no blank tells.
 ghost use Rattle.std.specs.Prelude.{◌≡◌};
-ghost use Rattle.moc_forms.specs.Finding.{first_byte as first_byte_of, form_by, form_for, hint_of, hint_text};
+ghost use Rattle.moc_forms.specs.Finding.{first_byte as first_byte_of, form_for, hint_of, hint_text};
 ghost use Rattle.moc_forms.specs.Finding.{is_blank_byte as is_blank_byte_of, looks_by};
 
 use crate::form::Form;
@@ -29,11 +29,8 @@ impl FromStr for Choice {
 
     fn from_str(word: &str) -> Result<Choice, FormNameError> {
         match word {
-            "ascii" => Ok(Choice::Named(Form::Ascii)),
-            "json" => Ok(Choice::Named(Form::Json)),
-            "uniq" => Ok(Choice::Named(Form::Uniq)),
             "auto" => Ok(Choice::Auto),
-            _ => Err(FormNameError::NotForm),
+            _ => Ok(Choice::Named(Form::from_str(word)?)),
         }
     }
 }
@@ -60,18 +57,11 @@ impl Choice {
     {
         match self {
             Choice::Named(form) => form,
-            Choice::Auto => beginning(first_byte(text)),
+            Choice::Auto => match first_byte(text) {
+                Some(b'{') => Form::Json,
+                _ => Form::Ascii,
+            },
         }
-    }
-}
-
-/// The form of a text that begins with this byte.
-fn beginning(byte: Option<u8>) -> Form
-    ensures { result ≡ form_by byte }
-{
-    match byte {
-        Some(b'{') => Form::Json,
-        _ => Form::Ascii,
     }
 }
 

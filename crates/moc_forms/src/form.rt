@@ -30,14 +30,19 @@ pub enum Form {
 /// `Memory`, which stands for want of memory in any form.
 #[derive(Debug, Clone, Copy, PartialEq, Eq, Error)]
 pub enum FormError {
+    /// A fault of a text in the ASCII form; never `TextError::Memory`.
     #[error("{0}")]
     Ascii(TextError),
+    /// A fault of a text in the JSON form; never `JsonError::Memory`.
     #[error("{0}")]
     Json(JsonError),
+    /// A fault of a NUNIQ list; never `UniqError::Memory`.
     #[error("{0}")]
     Uniq(UniqError),
+    /// The set to be written has a cell of a deeper order than the stated one.
     #[error("a cell is deeper than the stated order")]
     TooCoarse,
+    /// Memory was refused.
     #[error("out of memory")]
     Memory,
 }

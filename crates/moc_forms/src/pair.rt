@@ -4,7 +4,7 @@ ghost use Rattle.std.specs.String.{string_bytes};
 ghost use Rattle.moc_forms.specs.Drawing.{kinds, legend_of_two, mark_diamonds, marks_of, marks_path, picture_of_two};
 
 use crate::drawing::{
-    push_cell, push_entry, push_head, push_labels, push_outlines, push_path_head,
+    push_cell, push_entry, push_head, push_labels, push_mirror, push_outlines, push_path_head,
 };
 use crate::marks::marks;
 use moc_ranges::{Coverage, Memory};
@@ -39,9 +39,7 @@ fn push_kinds(
 ) -> Result<(), Memory>
     ensures { OnOk result (string_bytes text.new ≡ string_bytes text.old ++ kinds first.now second.now) }
 {
-    text.push_str(
-        "<g transform=\"translate(1024 0) scale(-1 1)\" clip-path=\"url(#plane)\" shape-rendering=\"crispEdges\">\n",
-    )?;
+    push_mirror(text)?;
     push_set(alloc, text, &first.difference(alloc, second)?, "#0072b2")?;
     push_set(alloc, text, &second.difference(alloc, first)?, "#e69f00")?;
     push_set(alloc, text, &first.intersection(alloc, second)?, "#000")?;

@@ -8,20 +8,25 @@ use moc_sphere::Order;
 use std::alloc::{AllocError, Global};
 use std::fmt::{self, Write};
 
-/// Where a text is at fault. Lines are counted from 1, and so is a column; all else from 0.
+/// Where a text is at fault. Lines are counted from 1, and so is the column of `Stop`; all else from 0.
 #[derive(Clone, Copy, Debug, PartialEq, Eq)]
 pub enum Place {
-    /// A byte of an ASCII text: its place in the text, its line, and how many bytes of the line stand before it.
+    /// A byte of an ASCII text.
     Byte {
+        /// Its place in the text.
         at: usize,
+        /// The number of its line.
         line: usize,
+        /// How many bytes of the line stand before it.
         column: usize,
     },
     /// A line of a NUNIQ list.
     Line(usize),
     /// Where `serde_json` stops reading.
     Stop {
+        /// The number of the line.
         line: usize,
+        /// The column in the line, as `serde_json` counts it.
         column: usize,
     },
     /// A name of a JSON object that is no order, in byte order.
@@ -30,7 +35,9 @@ pub enum Place {
     Order(Order),
     /// A number in the array of an order of a JSON object.
     Number {
+        /// The order.
         order: Order,
+        /// Which number of the array it is.
         number: usize,
     },
 }

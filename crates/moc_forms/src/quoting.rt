@@ -56,19 +56,12 @@ fn push_quoted(text: &mut String, piece: &[u8]) -> Result<(), AllocError>
     ensures { OnOk result (string_bytes text.new ≡ string_bytes text.old ++ quoted piece.now) }
 {
     text.push('`')?;
-    push_bytes(text, front(piece))?;
+    push_bytes(text, &piece[..piece.len().min(QUOTED)])?;
     text.push('`')?;
     if piece.len() > QUOTED {
         text.push_str("..")?;
     }
     Ok(())
-}
-
-/// The first bytes, as many as are quoted.
-fn front(piece: &[u8]) -> &[u8]
-    ensures { result.now ≡ take 40 piece.now }
-{
-    &piece[..piece.len().min(QUOTED)]
 }
 
 /// Adds bytes as they are quoted.

@@ -1,5 +1,5 @@
 //! Parts of texts.
-ghost use Rattle.std.specs.Prelude.{◌≡◌, ◌++◌, ◌∷◌, [], decimal, OnOk};
+ghost use Rattle.std.specs.Prelude.{◌≡◌, ◌++◌, decimal, OnOk};
 ghost use Rattle.std.specs.String.{string_bytes};
 
 use itoa::Buffer;
@@ -12,12 +12,4 @@ pub fn push_count(text: &mut String, word: &str, number: u64) -> Result<(), Allo
     text.push_str(word)?;
     text.push_str(Buffer::new().format(number))?;
     Ok(())
-}
-
-/// Adds a line of a word and a number.
-pub fn push_line(text: &mut String, word: &str, number: u64) -> Result<(), AllocError>
-    ensures { OnOk result (string_bytes text.new ≡ string_bytes text.old ++ (word.now ++ decimal number ++ 10 ∷ [])) }
-{
-    push_count(text, word, number)?;
-    text.push('\n')
 }

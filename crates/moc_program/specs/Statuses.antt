@@ -7,7 +7,8 @@ use Rattle.moc_lines.specs.Runs.{name_of_run}
 use Rattle.moc_script.specs.declared.crew_error.CrewError.{CrewError}
 use Rattle.moc_script.specs.declared.crew_error.CrewError.TheVariants as crew
 use Rattle.moc_forms.specs.declared.form.FormError.TheVariants as form
-use Rattle.moc_conversion.specs.Faults.{complaint_text, line_of}
+use Rattle.moc_text.specs.Names.{told_fault}
+use Rattle.moc_conversion.specs.Faults.{complaint_text}
 use Rattle.moc_conversion.specs.declared.fault.InputFault.{InputFault}
 use Rattle.moc_conversion.specs.declared.fault.InputFault.TheVariants as input_fault
 use Rattle.moc_program.specs.declared.status.ProgramFault.{ProgramFault}
@@ -50,8 +51,8 @@ name_of_cell RingTooLarge = codes "RingTooLarge"
 -- what tells a fault: a complaint of the input, or a line
 abbrev pub fault_text : ProgramFault → List ℕ
 fault_text (Input c) = complaint_text c
-fault_text (Number e) = line_of (name_of_cell e)
-fault_text (Lines e) = line_of (name_of_run e)
-fault_text Spawn = line_of (codes "Spawn")
-fault_text Write = line_of (codes "Write")
-fault_text Memory = line_of (codes "Memory")
+fault_text (Number e) = told_fault (name_of_cell e)
+fault_text (Lines e) = told_fault (name_of_run e)
+fault_text Spawn = told_fault (codes "Spawn")
+fault_text Write = told_fault (codes "Write")
+fault_text Memory = told_fault (codes "Memory")

@@ -1,8 +1,8 @@
 -- The text in the order in which it is written is its words, parted by spaces.
-use Rattle.std.proofs.Common.{◌≡◌, ℕ, List, [], ◌∷◌, ◌++◌, Option, Some, None, refl, sym, ap, ◌∙◌}
+use Rattle.std.proofs.Common.{◌≡◌, ℕ, List, [], ◌∷◌, ◌++◌, Option, Some, None, option_map, option_to_list, refl, sym, ap, ◌∙◌}
 use Rattle.std.specs.List.{join_with_byte}
 use Rattle.std.proofs.lemmas.List.{append-nil}
-use Rattle.moc_text.specs.AsciiText.{order_text, mark_text_of, run_text, stated_beyond, bare_words, words_of}
+use Rattle.moc_text.specs.AsciiText.{order_text, mark_text_of, run_text, stated_beyond, words_of}
 use Rattle.moc_text.specs.Private.AsciiWriting.{run_part, spaced, onward}
 use Rattle.moc_text.specs.declared.ascii.writing.Run.{Run}
 
@@ -15,7 +15,7 @@ join-cons : (w : List ℕ) (ws : List (List ℕ)) → join_with_byte 32 (w ∷ w
 join-cons w [] = sym (append-nil w)
 join-cons w (v ∷ ws) = refl
 
-bare-behind : (j : ℕ) (bare : Option ℕ) → spaced (Some j) (bare_words bare) ≡ behind (bare_words bare)
+bare-behind : (j : ℕ) (bare : Option ℕ) → spaced (Some j) (option_to_list (option_map order_text bare)) ≡ behind (option_to_list (option_map order_text bare))
 bare-behind j None = refl
 bare-behind j (Some k) = refl
 

@@ -1,6 +1,6 @@
 -- The members of an object, one by one.
 use Rattle.std.proofs.Common.{◌≡◌, ℕ, ◌+◌, List, Option, Some, None, refl, sym, ap, ◌∙◌, inl, inr}
-use Rattle.std.specs.Option.{option_or}
+use Rattle.std.specs.Option.{option_map_or, option_or}
 use Rattle.std.specs.FinSet as set
 use Rattle.serde_json.specs.Data.{Data, Items, item, Members, member}
 use Rattle.serde_json.specs.Find.{as_array, as_object}
@@ -11,8 +11,9 @@ use Rattle.moc_text.specs.Ascii.{deeper}
 use Rattle.moc_text.specs.Faults.{Fails}
 use Rattle.moc_text.specs.JsonForm.{order_of_name, whole_number, cell_pixels, element_fault, items_pixels}
 use Rattle.moc_text.specs.JsonForm.{elements_fault, array_pixels, name_fault, members_pixels, members_fault}
-use Rattle.moc_text.specs.JsonForm.{object_fault, deepest_name, IsJson, SaysJson, IsJsonFault}
+use Rattle.moc_text.specs.JsonForm.{deepest_name, IsJson, SaysJson, IsJsonFault}
 use Rattle.moc_text.specs.declared.json_form.error.JsonError.{JsonError}
+use Rattle.moc_text.specs.declared.json_form.error.JsonError.TheVariants.{NotObject}
 use Rattle.moc_text.proofs.ReadWords.{deeper_assoc}
 
 -- a fault comes before later ones
@@ -62,6 +63,8 @@ faulty_says_nothing bytes a k e s (inl nothing) =
     absurd cc
 faulty_says_nothing bytes a k e s (inr d) =
     let value = one_value bytes s.value d.0 s.json d.1 in
-    let fault : object_fault (Some s.members) ≡ Some e = ap object_fault (sym s.object ∙ ap as_object value) ∙ d.2 in
+    let fault : members_fault 0 s.members ≡ Some e =
+    ap (λ (o : Option Members). option_map_or (members_fault 0) o (Some NotObject)) (sym s.object ∙ ap as_object value)
+    ∙ d.2 in
     let none : members_fault 0 s.members ≡ None = s.faultless in
     absurd cc

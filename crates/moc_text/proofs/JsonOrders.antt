@@ -1,5 +1,5 @@
 -- Digits that name an order.
-use Rattle.std.proofs.Common.{◌≡◌, ℕ, ◌+◌, ◌-◌, ◌*◌, ◌≤◌, Bool, true, false, cond, not, eqb, ltb, leb, leb-true, ◌&&◌, List, [], ◌∷◌, length, min, Some, None, refl, sym, ap, ◌∙◌, arith}
+use Rattle.std.proofs.Common.{◌≡◌, ℕ, ◌+◌, ◌-◌, ◌*◌, ◌≤◌, Bool, true, false, cond, not, eqb, ltb, leb, leb-true, ◌&&◌, List, [], ◌∷◌, length, min, Option, Some, None, refl, sym, ap, ◌∙◌, arith}
 use Rattle.std.specs.Char.{is_ascii_digit, digit_value}
 use Rattle.std.specs.Int.{IsInRange}
 use Rattle.std.specs.Str.{all_ascii_digits}
@@ -7,8 +7,12 @@ use Rattle.std.specs.Str.Parse.{digits_value_after, digits_value}
 use Rattle.std.proofs.lemmas.Str.{digit_value_digit}
 use Rattle.std.proofs.lemmas.Bool.{ltb-false}
 use Rattle.std.proofs.lemmas.Bool.Decides.{nat_tests}
-use Rattle.moc_text.specs.JsonForm.{order_up_to_29, order_of_name}
+use Rattle.moc_text.specs.JsonForm.{order_of_name}
 use Rattle.moc_text.specs.Private.JsonReading.{held_order}
+
+-- a number, if it is an order
+abbrev order_up_to_29 : ℕ → Option ℕ
+order_up_to_29 k = cond (ltb 29 k) None (Some k)
 
 both : (a b : Bool) → (a && b) ≡ true → (a ≡ true) × (b ≡ true)
 both true b h = (refl, h)

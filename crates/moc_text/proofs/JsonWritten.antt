@@ -35,7 +35,7 @@ use Rattle.moc_text.specs.Ascii.{deeper, IsNumber}
 use Rattle.moc_text.specs.AsciiText.{HasDeeper, IsTooCoarse, deepest_cell, deepest_written, stated_beyond}
 use Rattle.moc_text.specs.JsonForm.{order_of_name, items_pixels, elements_fault, array_pixels, name_fault}
 use Rattle.moc_text.specs.JsonForm.{members_pixels, members_fault, deepest_name, SaysJson}
-use Rattle.moc_text.specs.JsonText.{datum, data_at, is_bare, is_name, with_order, members_below, members_of_cells, json_value, json_text}
+use Rattle.moc_text.specs.JsonText.{datum, data_at, is_name, with_order, members_below, members_of_cells, json_value, json_text}
 use Rattle.moc_text.specs.Private.JsonWriting.{members_along, orders_by_name}
 use Rattle.moc_text.specs.Private.AsciiWriting.{AreRising}
 use Rattle.moc_text.proofs.JsonNames.{along_numbers, members_by_name, members_back}
@@ -355,7 +355,7 @@ no_cells : (k : ℕ) (cells : List CellNumber) → AllByRecursion (λ c. c.order
 no_cells k [] h = refl
 no_cells k (c ∷ cells) h = rw (ne_eqb c.order k (λ e. omega (arith, h.0, e))) (no_cells k cells h.1)
 
-unnamed : (k : ℕ) (stated : Option ℕ) (ds : List Data) → ds ≡ [] → is_bare k stated ≡ false → is_name k stated ds ≡ false
+unnamed : (k : ℕ) (stated : Option ℕ) (ds : List Data) → ds ≡ [] → is_name k stated [] ≡ false → is_name k stated ds ≡ false
 unnamed k stated [] e s = s
 unnamed k stated (d ∷ ds) e s = absurd cc
 

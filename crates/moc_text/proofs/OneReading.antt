@@ -4,7 +4,7 @@ use Rattle.std.specs.Char.{is_ascii_digit}
 use Rattle.std.specs.Str.{all_ascii_digits}
 use Rattle.std.proofs.lemmas.List.{append-nil}
 use Rattle.std.proofs.lemmas.Bool.Decides.{nat_tests}
-use Rattle.moc_text.specs.Ascii.{Word, words, IsNumber, Mark, prefix, Cells, One, Run, cells_text, AreCells, Shape}
+use Rattle.moc_text.specs.Ascii.{Word, words, IsNumber, Mark, prefix, ItemText, OneCell, CellRange, item_text, IsItemText, Shape}
 use Rattle.moc_text.specs.Ascii.{JustMark, JustItem, MarkItem, shape_text, IsShape, IsLawful, ShapeFaultAt}
 use Rattle.moc_text.specs.Ascii.{HasShapeFault, numbers_at, Means, order_in_force, order_after, fault_of, AreRead}
 use Rattle.moc_text.specs.Ascii.{IsFault, IsFirstFault, Says, pixels_said, deepest_of}
@@ -47,19 +47,19 @@ number_no_s (d ∷ ds) rest h =
     rw (digit_no_s d p.0) refl
 
 -- the cells that a text spells
-abbrev cells_after : List ℕ → Option (List ℕ) → Cells
-cells_after a None = One a
-cells_after a (Some more) = Run a (front_digits more)
+abbrev cells_after : List ℕ → Option (List ℕ) → ItemText
+cells_after a None = OneCell a
+cells_after a (Some more) = CellRange a (front_digits more)
 
-abbrev cells_of : List ℕ → Cells
+abbrev cells_of : List ℕ → ItemText
 cells_of bytes = cells_after (front_digits bytes) (after_byte 45 (past_digits bytes))
 
-cells_of-text : (c : Cells) → AreCells c → cells_of (cells_text c) ≡ c
-cells_of-text (One a) h = ap (λ (r : List ℕ). cells_after (front_digits a) (after_byte 45 r)) (past_whole a h.1) ∙ ap (λ (r : List ℕ). One r) (front_whole a h.1)
-cells_of-text (Run a b) h =
+cells_of-text : (c : ItemText) → IsItemText c → cells_of (item_text c) ≡ c
+cells_of-text (OneCell a) h = ap (λ (r : List ℕ). cells_after (front_digits a) (after_byte 45 r)) (past_whole a h.1) ∙ ap (λ (r : List ℕ). OneCell r) (front_whole a h.1)
+cells_of-text (CellRange a b) h =
     ap (λ (r : List ℕ). cells_after (front_digits (a ++ 45 ∷ b)) (after_byte 45 r)) (past_all a (45 ∷ b) h.0.1 refl)
-    ∙ ap (λ (r : List ℕ). Run r (front_digits b)) (front_all a (45 ∷ b) h.0.1 refl)
-    ∙ ap (λ (r : List ℕ). Run a r) (front_whole b h.1.1)
+    ∙ ap (λ (r : List ℕ). CellRange r (front_digits b)) (front_all a (45 ∷ b) h.0.1 refl)
+    ∙ ap (λ (r : List ℕ). CellRange a r) (front_whole b h.1.1)
 
 abbrev marked_of : Mark → List ℕ → Shape
 marked_of m [] = JustMark m
@@ -70,7 +70,7 @@ mark_after prefixed order None other = other
 mark_after prefixed order (Some rest) other = marked_of (record { prefixed = prefixed; order = order }) rest
 
 abbrev shape_after : List ℕ → Option (List ℕ) → Shape
-shape_after bytes (Some more) = mark_after true (front_digits more) (after_byte 47 (past_digits more)) (JustItem (One []))
+shape_after bytes (Some more) = mark_after true (front_digits more) (after_byte 47 (past_digits more)) (JustItem (OneCell []))
 shape_after bytes None = mark_after false (front_digits bytes) (after_byte 47 (past_digits bytes)) (JustItem (cells_of bytes))
 
 abbrev shape_of : List ℕ → Shape
@@ -79,7 +79,7 @@ shape_of bytes = shape_after bytes (after_byte 115 bytes)
 -- a mark, and what follows it
 shape_of-mark : (prefixed : Bool) (order rest : List ℕ) → IsNumber order → shape_of ((prefix prefixed ++ order) ++ 47 ∷ rest) ≡ marked_of (record { prefixed = prefixed; order = order }) rest
 shape_of-mark true order rest h =
-    ap (λ (r : List ℕ). mark_after true (front_digits (order ++ 47 ∷ rest)) (after_byte 47 r) (JustItem (One []))) (past_all order (47 ∷ rest) h.1 refl)
+    ap (λ (r : List ℕ). mark_after true (front_digits (order ++ 47 ∷ rest)) (after_byte 47 r) (JustItem (OneCell []))) (past_all order (47 ∷ rest) h.1 refl)
     ∙ ap (λ (r : List ℕ). marked_of (record { prefixed = true; order = r }) rest) (front_all order (47 ∷ rest) h.1 refl)
 shape_of-mark false order rest h =
     ap (shape_after (order ++ 47 ∷ rest)) (number_no_s order (47 ∷ rest) h)
@@ -87,31 +87,31 @@ shape_of-mark false order rest h =
     ∙ ap (λ (r : List ℕ). marked_of (record { prefixed = false; order = r }) rest) (front_all order (47 ∷ rest) h.1 refl)
 
 -- cells begin with a number
-first_number : (c : Cells) → AreCells c → (a : List ℕ) × (rest : List ℕ) × IsNumber a × (cells_text c ≡ a ++ rest) × (starts_with_digit rest ≡ false) × (after_byte 47 rest ≡ None)
-first_number (One a) h = (a, [], h, sym (append-nil a), refl, refl)
-first_number (Run a b) h = (a, 45 ∷ b, h.0, refl, refl, refl)
+first_number : (c : ItemText) → IsItemText c → (a : List ℕ) × (rest : List ℕ) × IsNumber a × (item_text c ≡ a ++ rest) × (starts_with_digit rest ≡ false) × (after_byte 47 rest ≡ None)
+first_number (OneCell a) h = (a, [], h, sym (append-nil a), refl, refl)
+first_number (CellRange a b) h = (a, 45 ∷ b, h.0, refl, refl, refl)
 
-shape_of-cells : (c : Cells) → AreCells c → shape_of (cells_text c) ≡ JustItem (cells_of (cells_text c))
+shape_of-cells : (c : ItemText) → IsItemText c → shape_of (item_text c) ≡ JustItem (cells_of (item_text c))
 shape_of-cells c h =
     let f = first_number c h in
-    let no_s : after_byte 115 (cells_text c) ≡ None = ap (after_byte 115) f.3 ∙ number_no_s f.0 f.1 f.2 in
-    let no_slash : after_byte 47 (past_digits (cells_text c)) ≡ None = ap (λ (r : List ℕ). after_byte 47 (past_digits r)) f.3 ∙ ap (after_byte 47) (past_all f.0 f.1 f.2.1 f.4) ∙ f.5 in
-    ap (shape_after (cells_text c)) no_s ∙ ap (λ o. mark_after false (front_digits (cells_text c)) o (JustItem (cells_of (cells_text c)))) no_slash
+    let no_s : after_byte 115 (item_text c) ≡ None = ap (after_byte 115) f.3 ∙ number_no_s f.0 f.1 f.2 in
+    let no_slash : after_byte 47 (past_digits (item_text c)) ≡ None = ap (λ (r : List ℕ). after_byte 47 (past_digits r)) f.3 ∙ ap (after_byte 47) (past_all f.0 f.1 f.2.1 f.4) ∙ f.5 in
+    ap (shape_after (item_text c)) no_s ∙ ap (λ o. mark_after false (front_digits (item_text c)) o (JustItem (cells_of (item_text c)))) no_slash
 
-marked_of-cells : (m : Mark) (c : Cells) → AreCells c → marked_of m (cells_text c) ≡ MarkItem m (cells_of (cells_text c))
-marked_of-cells m (One []) h = absurd (omega (arith, h.0))
-marked_of-cells m (One (d ∷ a)) h = refl
-marked_of-cells m (Run [] b) h = absurd (omega (arith, h.0.0))
-marked_of-cells m (Run (d ∷ a) b) h = refl
+marked_of-cells : (m : Mark) (c : ItemText) → IsItemText c → marked_of m (item_text c) ≡ MarkItem m (cells_of (item_text c))
+marked_of-cells m (OneCell []) h = absurd (omega (arith, h.0))
+marked_of-cells m (OneCell (d ∷ a)) h = refl
+marked_of-cells m (CellRange [] b) h = absurd (omega (arith, h.0.0))
+marked_of-cells m (CellRange (d ∷ a) b) h = refl
 
 pub shape_of-text : (s : Shape) → IsShape s → shape_of (shape_text s) ≡ s
 shape_of-text (JustMark m) h = shape_of-mark m.prefixed m.order [] h
-shape_of-text (JustItem c) h = shape_of-cells c h ∙ ap (λ (d : Cells). JustItem d) (cells_of-text c h)
+shape_of-text (JustItem c) h = shape_of-cells c h ∙ ap (λ (d : ItemText). JustItem d) (cells_of-text c h)
 shape_of-text (MarkItem m c) h =
-    ap shape_of (append_assoc (prefix m.prefixed ++ m.order) (47 ∷ []) (cells_text c))
-    ∙ shape_of-mark m.prefixed m.order (cells_text c) h.0
+    ap shape_of (append_assoc (prefix m.prefixed ++ m.order) (47 ∷ []) (item_text c))
+    ∙ shape_of-mark m.prefixed m.order (item_text c) h.0
     ∙ marked_of-cells m c h.1
-    ∙ ap (λ (d : Cells). MarkItem m d) (cells_of-text c h.1)
+    ∙ ap (λ (d : ItemText). MarkItem m d) (cells_of-text c h.1)
 
 pub one_meaning : (w : Word) (m n : WordNumbers) → Means w m → Means w n → m ≡ n
 one_meaning w m n x y =

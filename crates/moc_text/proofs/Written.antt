@@ -1,5 +1,5 @@
 -- A written text is read as it was meant.
-use Rattle.std.proofs.Common.{◌≡◌, ℕ, suc, ◌+◌, ◌^◌, ◌<◌, ◌≤◌, Bool, true, false, cond, eqb, leb, ltb, ◌&&◌, ◌||◌, ◌/◌, List, [], ◌∷◌, ◌++◌, length, map, max, Option, Some, None, refl, sym, ap, subst, ◌∙◌, arith, inl, inr}
+use Rattle.std.proofs.Common.{◌≡◌, ℕ, suc, ◌+◌, ◌^◌, ◌<◌, ◌≤◌, Bool, true, false, cond, eqb, leb, ltb, ◌&&◌, ◌||◌, ◌/◌, List, [], ◌∷◌, ◌++◌, length, map, max, Option, Some, None, option_map, option_to_list, refl, sym, ap, subst, ◌∙◌, arith, inl, inr}
 use Rattle.std.specs.Prelude.{decimal}
 use Rattle.std.specs.Str.{all_ascii_digits}
 use Rattle.std.specs.Str.Parse.{digits_value, AllDigits}
@@ -11,11 +11,11 @@ use Rattle.std.proofs.lemmas.List.{append-nil}
 use Rattle.std.proofs.lemmas.Bool.{cases_lt, le-leb, eqb-true, lt-ltb, le-ltb, ltb-false}
 use Rattle.std.proofs.lemmas.Str.Parse.{digit_from_value}
 use Rattle.std.proofs.lemmas.Fmt.{decimal_is_IsNumeral}
-use Rattle.moc_text.specs.Ascii.{Word, words, words_from, IsNumber, Mark, mark_text, Cells, One, Run, cells_text}
-use Rattle.moc_text.specs.Ascii.{AreCells, Shape, JustMark, JustItem, MarkItem, shape_text, IsShape, numbers_at, mark_at}
+use Rattle.moc_text.specs.Ascii.{Word, words, words_from, IsNumber, Mark, mark_text, ItemText, OneCell, CellRange, item_text}
+use Rattle.moc_text.specs.Ascii.{IsItemText, Shape, JustMark, JustItem, MarkItem, shape_text, IsShape, numbers_at, mark_at}
 use Rattle.moc_text.specs.Ascii.{item_at, order_in_force, last_of, mark_fault, item_fault, fault_of, item_pixels}
 use Rattle.moc_text.specs.Ascii.{pixels_said, deeper, deepest_of, AreRead, Says}
-use Rattle.moc_text.specs.AsciiText.{one, follows, runs_from, runs_of, run_text, order_text, mark_text_of, stated_beyond, bare_words, words_of, ascii_text, text_of_cells, HasDeeper, IsTooCoarse, deepest_cell, deepest_written}
+use Rattle.moc_text.specs.AsciiText.{one, follows, runs_from, runs_of, run_text, order_text, mark_text_of, stated_beyond, words_of, ascii_text, text_of_cells, HasDeeper, IsTooCoarse, deepest_cell, deepest_written}
 use Rattle.moc_text.specs.declared.ascii.number.Item.{Item}
 use Rattle.moc_text.specs.declared.ascii.number.WordNumbers.{WordNumbers}
 use Rattle.moc_text.specs.declared.ascii.writing.Run.{Run as CellRun}
@@ -75,8 +75,8 @@ words-join at (s ∷ t ∷ ss) h =
 abbrev order_mark : ℕ → Mark
 order_mark k = record { prefixed = false; order = decimal k }
 
-abbrev run_cells : CellRun → Cells
-run_cells r = cond (eqb r.first r.last) (One (decimal r.first)) (Run (decimal r.first) (decimal r.last))
+abbrev run_cells : CellRun → ItemText
+run_cells r = cond (eqb r.first r.last) (OneCell (decimal r.first)) (CellRange (decimal r.first) (decimal r.last))
 
 abbrev run_shape : Option ℕ → CellRun → Shape
 run_shape None r = MarkItem (order_mark r.order) (run_cells r)
@@ -90,8 +90,8 @@ abbrev shapes_of : Option ℕ → Option ℕ → List CellRun → List Shape
 shapes_of stated before [] = bare_shapes (stated_beyond before stated)
 shapes_of stated before (r ∷ rs) = run_shape before r ∷ shapes_of stated (Some r.order) rs
 
-run_cells-text : (r : CellRun) → cells_text (run_cells r) ≡ run_text r
-run_cells-text r = elim (eqb r.first r.last) as (λ v. cells_text (cond v (One (decimal r.first)) (Run (decimal r.first) (decimal r.last))) ≡ cond v (decimal r.first) (decimal r.first ++ 45 ∷ decimal r.last)) [ true ↦ refl | false ↦ refl ]
+run_cells-text : (r : CellRun) → item_text (run_cells r) ≡ run_text r
+run_cells-text r = elim (eqb r.first r.last) as (λ v. item_text (cond v (OneCell (decimal r.first)) (CellRange (decimal r.first) (decimal r.last))) ≡ cond v (decimal r.first) (decimal r.first ++ 45 ∷ decimal r.last)) [ true ↦ refl | false ↦ refl ]
 
 run_shape-text : (before : Option ℕ) (r : CellRun) → shape_text (run_shape before r) ≡ mark_text_of before r.order ++ run_text r
 run_shape-text None r = ap (λ (t : List ℕ). order_text r.order ++ t) (run_cells-text r)
@@ -101,7 +101,7 @@ run_shape-text (Some j) r =
       | false ↦ ap (λ (t : List ℕ). order_text r.order ++ t) (run_cells-text r)
     ]
 
-bare_shapes-text : (bare : Option ℕ) → map shape_text (bare_shapes bare) ≡ bare_words bare
+bare_shapes-text : (bare : Option ℕ) → map shape_text (bare_shapes bare) ≡ option_to_list (option_map order_text bare)
 bare_shapes-text None = refl
 bare_shapes-text (Some k) = refl
 
@@ -139,12 +139,12 @@ runs_of-all (c ∷ cs) all =
 
 -- ---- the shapes are lawful
 
-run_cells_are : (r : CellRun) → IsRun r → AreCells (run_cells r)
+run_cells_are : (r : CellRun) → IsRun r → IsItemText (run_cells r)
 run_cells_are r h =
     let fit = cells_fit r.order h.order in
     let a : IsNumber (decimal r.first) = IsNumber-decimal r.first (omega (arith, h.forwards, h.last)) in
     let b : IsNumber (decimal r.last) = IsNumber-decimal r.last (omega (arith, h.last)) in
-    elim (eqb r.first r.last) as (λ v. AreCells (cond v (One (decimal r.first)) (Run (decimal r.first) (decimal r.last)))) [ true ↦ a | false ↦ (a, b) ]
+    elim (eqb r.first r.last) as (λ v. IsItemText (cond v (OneCell (decimal r.first)) (CellRange (decimal r.first) (decimal r.last)))) [ true ↦ a | false ↦ (a, b) ]
 
 order_number : (k : ℕ) → k ≤ 29 → IsNumber (decimal k)
 order_number k h = IsNumber-decimal k (omega arith)
@@ -178,7 +178,7 @@ run_item at r h =
     let fit = cells_fit r.order h.order in
     let a : digits_value 10 (decimal r.first) ≡ r.first = value-decimal r.first (omega (arith, h.forwards, h.last)) in
     let b : digits_value 10 (decimal r.last) ≡ r.last = value-decimal r.last (omega (arith, h.last)) in
-    elim (eqb r.first r.last) as (λ v. eqb r.first r.last ≡ v → RunItem r (item_at at (cond v (One (decimal r.first)) (Run (decimal r.first) (decimal r.last))))) [
+    elim (eqb r.first r.last) as (λ v. eqb r.first r.last ≡ v → RunItem r (item_at at (cond v (OneCell (decimal r.first)) (CellRange (decimal r.first) (decimal r.last))))) [
       | true ↦ λ e. record { first = a; last = a ∙ eqb-true r.first r.last e }
       | false ↦ λ e. record { first = a; last = b }
     ] refl

@@ -60,37 +60,37 @@ abbrev pub mark_text : Mark → List ℕ
 mark_text m = prefix m.prefixed ++ m.order ++ 47 ∷ []
 
 -- a number; or a number, `-`, a number
-pub data Cells : Type 0 where
-  One : List ℕ → Cells
-  Run : List ℕ → List ℕ → Cells
+pub data ItemText : Type 0 where
+  OneCell : List ℕ → ItemText
+  CellRange : List ℕ → List ℕ → ItemText
 
 -- the bytes of an item
-abbrev pub cells_text : Cells → List ℕ
-cells_text (One a) = a
-cells_text (Run a b) = a ++ 45 ∷ b
+abbrev pub item_text : ItemText → List ℕ
+item_text (OneCell a) = a
+item_text (CellRange a b) = a ++ 45 ∷ b
 
 -- Its parts are numbers.
-abbrev pub AreCells : Cells → Type 0
-AreCells (One a) = IsNumber a
-AreCells (Run a b) = IsNumber a × IsNumber b
+abbrev pub IsItemText : ItemText → Type 0
+IsItemText (OneCell a) = IsNumber a
+IsItemText (CellRange a b) = IsNumber a × IsNumber b
 
 -- a mark, an item, or a mark directly followed by an item
 pub data Shape : Type 0 where
   JustMark : Mark → Shape
-  JustItem : Cells → Shape
-  MarkItem : Mark → Cells → Shape
+  JustItem : ItemText → Shape
+  MarkItem : Mark → ItemText → Shape
 
 -- the bytes of a word of this shape
 abbrev pub shape_text : Shape → List ℕ
 shape_text (JustMark m) = mark_text m
-shape_text (JustItem c) = cells_text c
-shape_text (MarkItem m c) = mark_text m ++ cells_text c
+shape_text (JustItem c) = item_text c
+shape_text (MarkItem m c) = mark_text m ++ item_text c
 
 -- What stands for numbers are numbers.
 abbrev pub IsShape : Shape → Type 0
 IsShape (JustMark m) = IsNumber m.order
-IsShape (JustItem c) = AreCells c
-IsShape (MarkItem m c) = IsNumber m.order × AreCells c
+IsShape (JustItem c) = IsItemText c
+IsShape (MarkItem m c) = IsNumber m.order × IsItemText c
 
 -- The bytes have one of the shapes.
 abbrev pub IsLawful : List ℕ → Type 0
@@ -126,9 +126,9 @@ abbrev pub mark_at : ℕ → Mark → Numeral
 mark_at at m = number_at (at + length (prefix m.prefixed)) m.order
 
 -- the numbers of an item that begins at a place
-abbrev pub item_at : ℕ → Cells → Item
-item_at at (One a) = record { first = number_at at a; last = None }
-item_at at (Run a b) =
+abbrev pub item_at : ℕ → ItemText → Item
+item_at at (OneCell a) = record { first = number_at at a; last = None }
+item_at at (CellRange a b) =
     record { first = number_at at a; last = Some (number_at (at + length a + 1) b) }
 
 -- the numbers of a word of this shape that begins at a place

@@ -1,6 +1,6 @@
 -- Writing the ASCII form of a coverage (MOC 2.0): its cells by rising order and index.
 use Rattle.std.specs.Prelude.{ℕ, ◌+◌, Bool, ◌&&◌, ◌==◌, nat_lt, ◌<◌, if◌then◌else◌, List, [], ◌∷◌, ◌++◌, Option, Some}
-use Rattle.std.specs.Prelude.{None, decimal}
+use Rattle.std.specs.Prelude.{None, option_map, option_to_list, decimal}
 use Rattle.std.specs.List.{Any, join_with_byte}
 use Rattle.moc_sphere.specs.CellNumber.{CellNumber}
 use Rattle.moc_lists.specs.RangeList.{NumberSet}
@@ -47,14 +47,9 @@ stated_beyond before None = None
 stated_beyond None (Some k) = Some k
 stated_beyond (Some j) (Some k) = if nat_lt j k then Some k else None
 
--- the word of an order that has no cells, if there is one
-abbrev pub bare_words : Option ℕ → List (List ℕ)
-bare_words None = []
-bare_words (Some k) = order_text k ∷ []
-
--- the words of runs, and then that of the stated order; `before` was written last
+-- the words of runs, and then that of the stated order, where it stands alone; `before` was written last
 abbrev pub words_of : Option ℕ → Option ℕ → List Run → List (List ℕ)
-words_of stated before [] = bare_words (stated_beyond before stated)
+words_of stated before [] = option_to_list (option_map order_text (stated_beyond before stated))
 words_of stated before (r ∷ rs) =
     (mark_text_of before r.order ++ run_text r) ∷ words_of stated (Some r.order) rs
 

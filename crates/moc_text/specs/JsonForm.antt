@@ -1,7 +1,7 @@
 -- Reading the JSON form of a coverage (MOC 2.0): names of an object are orders, their arrays cells.
 use Rattle.std.specs.Prelude.{◌≡◌, ℕ, zero, suc, ◌+◌, ◌&&◌, ◌==◌, not, nat_lt, if◌then◌else◌, List, Option, Some, None}
 use Rattle.std.specs.Prelude.{false, option_and_then, option_map, length, IsUtf8, ◌⊎◌}
-use Rattle.std.specs.Option.{option_or}
+use Rattle.std.specs.Option.{option_map_or, option_or}
 use Rattle.std.specs.Str.{all_ascii_digits}
 use Rattle.std.specs.Str.Parse.{digits_value}
 use Rattle.std.specs.FinSet as set
@@ -17,14 +17,11 @@ use Rattle.moc_text.specs.declared.json_form.error.JsonError.{JsonError}
 use Rattle.moc_text.specs.declared.json_form.error.JsonError.TheVariants.{NotJson, NotObject, BadOrder, NotArray}
 use Rattle.moc_text.specs.declared.json_form.error.JsonError.TheVariants.{NotWhole, CellTooLarge}
 
--- a number, if it is an order
-abbrev pub order_up_to_29 : ℕ → Option ℕ
-order_up_to_29 k = if nat_lt 29 k then None else Some k
-
--- the order that a name of one digit or more names, if it does
+-- the order that a name of one digit or more names, if it does: a number up to 29
 abbrev pub order_of_name : List ℕ → Option ℕ
 order_of_name name =
-    if not (length name == 0) && all_ascii_digits name then order_up_to_29 (digits_value 10 name)
+    if not (length name == 0) && all_ascii_digits name
+    then (if nat_lt 29 (digits_value 10 name) then None else Some (digits_value 10 name))
     else None
 
 -- a whole number of 64 bits, if the value is one
@@ -33,8 +30,7 @@ whole_number d = option_and_then as_u64 (as_number d)
 
 -- the pixels of the cell of a number, if there is one
 abbrev pub cell_pixels : ℕ → Option ℕ → NumberSet
-cell_pixels k None = set.empty
-cell_pixels k (Some i) = span k i
+cell_pixels k i = option_map_or (span k) i set.empty
 
 -- the pixels of the cells whose numbers are the items
 abbrev pub items_pixels : ℕ → Items → NumberSet
@@ -43,9 +39,7 @@ items_pixels k (item d ds) = set.union (cell_pixels k (whole_number d)) (items_p
 
 -- the pixels of the cells of a name, where it is an order and has an array
 abbrev pub array_pixels : Option ℕ → Option Items → NumberSet
-array_pixels (Some k) (Some ds) = items_pixels k ds
-array_pixels None ds = set.empty
-array_pixels (Some k) None = set.empty
+array_pixels order ds = option_map_or (λ k. option_map_or (items_pixels k) ds set.empty) order set.empty
 
 -- the pixels of the cells of all names
 abbrev pub members_pixels : Members → NumberSet
@@ -70,32 +64,27 @@ object_member number d = option_and_then (member_at number) (as_object d)
 
 -- of an item, which is a whole number or none, where k is the order: no number, or no cell
 abbrev pub element_fault : ℕ → ℕ → ℕ → Option ℕ → Option JsonError
-element_fault k name place None = Some (NotWhole name place)
-element_fault k name place (Some i) =
-    if nat_lt i (cell_count k) then None else Some (CellTooLarge name place)
+element_fault k number place None = Some (NotWhole number place)
+element_fault k number place (Some i) =
+    if nat_lt i (cell_count k) then None else Some (CellTooLarge number place)
 
 -- of the first faulty item, where the items are numbered from a place on
 abbrev pub elements_fault : ℕ → ℕ → ℕ → Items → Option JsonError
-elements_fault k name place no_items = None
-elements_fault k name place (item d ds) =
-    option_or (element_fault k name place (whole_number d)) (elements_fault k name (place + 1) ds)
+elements_fault k number place no_items = None
+elements_fault k number place (item d ds) =
+    option_or (element_fault k number place (whole_number d)) (elements_fault k number (place + 1) ds)
 
--- of a name, which is an order or none, and its array, if its value is one
+-- of the name of a number, which is an order or none, and its array, if its value is one
 abbrev pub name_fault : ℕ → Option ℕ → Option Items → Option JsonError
-name_fault name None ds = Some (BadOrder name)
-name_fault name (Some k) None = Some (NotArray name)
-name_fault name (Some k) (Some ds) = elements_fault k name 0 ds
+name_fault number None ds = Some (BadOrder number)
+name_fault number (Some k) None = Some (NotArray number)
+name_fault number (Some k) (Some ds) = elements_fault k number 0 ds
 
 -- of the first faulty name, where the names are numbered from a number on
 abbrev pub members_fault : ℕ → Members → Option JsonError
-members_fault name no_members = None
-members_fault name (member text d ms) =
-    option_or (name_fault name (order_of_name text) (as_array d)) (members_fault (name + 1) ms)
-
--- of a value that is an object or none
-abbrev pub object_fault : Option Members → Option JsonError
-object_fault None = Some NotObject
-object_fault (Some ms) = members_fault 0 ms
+members_fault number no_members = None
+members_fault number (member name d ms) =
+    option_or (name_fault number (order_of_name name) (as_array d)) (members_fault (number + 1) ms)
 
 -- The bytes are the text of this value.
 pub record IsJson (bytes : List ℕ) (d : Data) : Type 0 where
@@ -138,8 +127,8 @@ pub record SaysJson (bytes : List ℕ) (a : NumberSet) (deepest : Option ℕ) : 
   pub set_is : a ≡ members_pixels members
   pub deepest_is : deepest ≡ deepest_name members
 
--- The text has this fault.
+-- The text has this fault: it is no JSON, no object, or an object with a faulty name.
 abbrev pub IsJsonFault : List ℕ → JsonError → Type 0
 IsJsonFault bytes e =
     ((e ≡ NotJson) × IsNotJson bytes)
-    ⊎ ((d : Data) × IsJson bytes d × (object_fault (as_object d) ≡ Some e))
+    ⊎ ((d : Data) × IsJson bytes d × (option_map_or (members_fault 0) (as_object d) (Some NotObject) ≡ Some e))

@@ -1,7 +1,8 @@
 -- Writing the JSON form of a coverage (MOC 2.0): an object of orders with arrays of cells.
-use Rattle.std.specs.Prelude.{ℕ, zero, suc, Bool, true, false, ◌==◌, if◌then◌else◌, List, [], ◌∷◌, map, Option, Some}
-use Rattle.std.specs.Prelude.{None, decimal}
+use Rattle.std.specs.Prelude.{ℕ, zero, suc, Bool, true, false, ◌==◌, if◌then◌else◌, List, [], ◌∷◌, map, Option}
+use Rattle.std.specs.Prelude.{decimal}
 use Rattle.std.specs.List.{filter}
+use Rattle.std.specs.Option.{option_map_or}
 use Rattle.serde_json.specs.Data.{Data, number, unsigned, array, object, Members, no_members, put}
 use Rattle.serde_json.specs.View.{items_of}
 use Rattle.serde_json.specs.Written.{compact_text}
@@ -18,14 +19,9 @@ datum c = number (unsigned c.index)
 abbrev pub data_at : ℕ → List CellNumber → List Data
 data_at k cells = map datum (filter (λ c. c.order == k) cells)
 
--- whether the order is the one without cells, if there is one
-abbrev pub is_bare : ℕ → Option ℕ → Bool
-is_bare k None = false
-is_bare k (Some j) = k == j
-
--- whether an order is a name: it has cells, or is the one without cells
+-- whether an order is a name: it has cells, or is the one without cells, if there is one
 abbrev pub is_name : ℕ → Option ℕ → List Data → Bool
-is_name k bare [] = is_bare k bare
+is_name k bare [] = option_map_or (λ j. k == j) bare false
 is_name k bare (d ∷ ds) = true
 
 -- the members with those of an order, if it is a name; `put` keeps the names in byte order

@@ -1,5 +1,5 @@
 -- The names of faults, as they are printed.
-use Rattle.std.specs.Prelude.{ℕ, List, codes}
+use Rattle.std.specs.Prelude.{ℕ, List, [], ◌∷◌, ◌++◌, codes}
 use Rattle.moc_text.specs.declared.ascii.error.TextError.{TextError}
 use Rattle.moc_text.specs.declared.ascii.error.TextError.TheVariants as text
 use Rattle.moc_text.specs.declared.json_form.error.JsonError.{JsonError}
@@ -39,3 +39,7 @@ name_of_uniq uniq.Memory = codes "Memory"
 abbrev pub name_of_write_error : WriteError → List ℕ
 name_of_write_error write.TooCoarse = codes "TooCoarse"
 name_of_write_error write.Memory = codes "Memory"
+
+-- the line that tells a fault of this name
+abbrev pub told_fault : List ℕ → List ℕ
+told_fault name = codes "fault " ++ name ++ 10 ∷ []

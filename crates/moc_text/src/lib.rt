@@ -2,12 +2,14 @@
 #![tactic(auto)]
 
 mod ascii;
+mod depth;
 mod json_form;
 mod text_writer;
 mod uniq;
 mod write_error;
 
 pub use ascii::{TextError, is_separator, read_ascii, readings_are_told, write_ascii};
+pub use depth::deeper;
 pub use json_form::{
     JsonError, JsonPlace, JsonSite, json_site, json_syntax_error, read_json, write_json,
 };

@@ -21,10 +21,19 @@ use thiserror::Error;
 /// A fault of a NUNIQ list, with the number of a line, counted from 1.
 #[derive(Debug, Clone, Copy, PartialEq, Eq, Error)]
 pub enum UniqError {
+    /// A line with a byte that is no digit.
     #[error("a byte that is no digit, in line {line}")]
-    BadByte { line: usize },
+    BadByte {
+        /// The number of the line.
+        line: usize,
+    },
+    /// A line whose number is below 4, or 2^62 or more.
     #[error("a number that is no NUNIQ number, in line {line}")]
-    NotUniq { line: usize },
+    NotUniq {
+        /// The number of the line.
+        line: usize,
+    },
+    /// Memory was refused.
     #[error("out of memory")]
     Memory,
 }
@@ -100,8 +109,13 @@ fn read_line<'a>(
 }
 
 /// Reads a NUNIQ list: the pixels of the cells whose numbers (MOC 2.0) stand on the lines, in any sequence. A
-/// line ends at LF, and an empty line is skipped. Refused for the first faulty line: with `BadByte` where it has
-/// a byte that is no digit, with `NotUniq` where its number is below 4, or 2^62 or more. One pass.
+/// line ends at LF, and an empty line is skipped.
+///
+/// Refused for the first faulty line: with `BadByte` where it has a byte that is no digit, with `NotUniq` where its
+/// number is below 4, or 2^62 or more. `Memory` where memory was refused.
+///
+/// One pass over the bytes; the cells as `CoverageBuilder` takes them, in O(n log n), or O(n) where they rise. The
+/// memory follows the set and not the text.
 pub fn read_uniq(alloc: Global, text: &[u8]) -> Result<Coverage, UniqError>
     // What is read is what the text says.
     ensures set { IfOk result (λ c. SaysUniq text.now c) }
@@ -144,7 +158,7 @@ fn room_for(cells: &[Cell]) -> usize {
 }
 
 /// Writes the NUNIQ list of the set: the numbers of its cells, rising, each in decimal and followed by LF.
-/// Linear in the number of cells.
+/// Linear in the number of cells, of which a list is made. `Memory` where memory was refused.
 #[tactic(auto, unfolding(crate::specs::UniqList::uniq_text))]
 pub fn write_uniq(alloc: Global, set: &Coverage) -> Result<String, MemoryRefused>
     ensures text { IfOk result (λ t. string_bytes t ≡ uniq_text set.now) }

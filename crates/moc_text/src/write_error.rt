@@ -10,8 +10,10 @@ use thiserror::Error;
 /// Why a set was not written as a text.
 #[derive(Debug, Clone, Copy, PartialEq, Eq, Error)]
 pub enum WriteError {
+    /// The set has a cell of a deeper order than the stated one.
     #[error("a cell is deeper than the stated order")]
     TooCoarse,
+    /// Memory was refused.
     #[error("out of memory")]
     Memory,
 }

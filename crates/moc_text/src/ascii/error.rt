@@ -11,18 +11,43 @@ use thiserror::Error;
 /// A fault of an ASCII text, with the place of a byte, counted from 0.
 #[derive(Debug, Clone, Copy, PartialEq, Eq, Error)]
 pub enum TextError {
+    /// A byte at which a word goes on as none does.
     #[error("a byte that no word has there, at {at}")]
-    BadByte { at: usize },
+    BadByte {
+        /// The place of that byte.
+        at: usize,
+    },
+    /// An item before any order.
     #[error("an item before any order, at {at}")]
-    NoOrder { at: usize },
+    NoOrder {
+        /// The place at which its word begins.
+        at: usize,
+    },
+    /// An order above 29.
     #[error("an order above 29, at {at}")]
-    OrderTooLarge { at: usize },
+    OrderTooLarge {
+        /// The place of its first digit.
+        at: usize,
+    },
+    /// A number that no cell of the order in force has.
     #[error("no cell of the order in force, at {at}")]
-    CellTooLarge { at: usize },
+    CellTooLarge {
+        /// The place of its first digit.
+        at: usize,
+    },
+    /// A range whose last cell is before its first.
     #[error("a range that goes backwards, at {at}")]
-    Backwards { at: usize },
+    Backwards {
+        /// The place of the first digit of its first cell.
+        at: usize,
+    },
+    /// A word that ends before it is whole.
     #[error("a word that is not finished, at {at}")]
-    Unfinished { at: usize },
+    Unfinished {
+        /// The place behind its last byte.
+        at: usize,
+    },
+    /// Memory was refused.
     #[error("out of memory")]
     Memory,
 }

@@ -2,7 +2,8 @@
 ghost use Rattle.std.specs.Prelude.{◌≡◌, ℕ, [], IfOk, IfErr, MatchResult, None, Option, Some, ◌⊎◌};
 ghost use Rattle.std.specs.FinSet as set;
 ghost use Rattle.moc_lists.specs.RangeList.{NumberSet};
-ghost use Rattle.moc_text.specs.Ascii.{mark_fault, item_fault, item_pixels, order_in_force, deeper, Says, IsFirstFault};
+ghost use Rattle.moc_text.specs.Ascii.{mark_fault, item_fault, item_pixels, order_in_force, deeper as deeper_of};
+ghost use Rattle.moc_text.specs.Ascii.{Says, IsFirstFault};
 ghost use Rattle.moc_text.specs.Faults.{Fails};
 ghost use Rattle.moc_text.specs.Private.AsciiReading.{Progress};
 ghost use Rattle.moc_text.specs.Reading.{IsReadingOf, ReadingsAreTold};
@@ -10,6 +11,7 @@ ghost use Rattle.moc_text.specs.Reading.{IsReadingOf, ReadingsAreTold};
 use crate::ascii::error::TextError;
 use crate::ascii::number::{Item, Numeral};
 use crate::ascii::scan::{is_separator, place, word};
+use crate::depth::deeper;
 use moc_ranges::{Coverage, CoverageBuilder};
 use moc_sphere::Order;
 use std::alloc::Global;
@@ -28,7 +30,7 @@ impl Reading {
         ensures { MatchResult result
             (λ _. (mark_fault mark ≡ None)
             × (self.new.order ≡ order_in_force self.old.order mark)
-            × (self.new.deepest ≡ deeper self.old.deepest (order_in_force None mark))
+            × (self.new.deepest ≡ deeper_of self.old.deepest (order_in_force None mark))
             × (self.new.cells ≡ self.old.cells))
             (λ e. mark_fault mark ≡ Some e) }
     {
@@ -39,10 +41,7 @@ impl Reading {
             return Err(TextError::OrderTooLarge { at: mark.at });
         };
         self.order = Some(order);
-        self.deepest = match self.deepest {
-            Some(deepest) => Some(deepest.max(order)),
-            None => Some(order),
-        };
+        self.deepest = deeper(self.deepest, self.order);
         Ok(())
     }
 
@@ -104,12 +103,15 @@ fn read_words(alloc: Global, text: &[u8]) -> Result<Reading, TextError>
     Ok(reading)
 }
 
-/// Reads the ASCII form (MOC 2.0): the set, and the deepest order that the text names. One pass over the bytes.
+/// Reads the ASCII form (MOC 2.0): the set, and the deepest order that the text names.
 ///
 /// Refused for the first faulty word, with a place counted in bytes from 0: `BadByte` or `Unfinished` where the
 /// word goes on or ends as no word does, `OrderTooLarge` for an order above 29, `NoOrder` for an item before any
 /// order, `CellTooLarge` for a number that the order in force lacks, `Backwards` for a range that ends before it
 /// begins. `Memory` where memory was refused.
+///
+/// One pass over the bytes; the cells as `CoverageBuilder` takes them, in O(n log n), or O(n) where they rise. The
+/// memory follows the set and not the text.
 pub fn read_ascii(alloc: Global, text: &[u8]) -> Result<(Coverage, Option<Order>), TextError>
     // What is read is what the text says.
     ensures set { IfOk result (λ r. Says text.now r.0 r.1) }

@@ -172,7 +172,7 @@ fn push_all(
 /// runs of consecutive cells joined, and then the stated order, if it is deeper than these. Refused with
 /// `TooCoarse` where the set has a cell of a deeper order than the stated one. One pass over the ranges of the set
 /// for each order that can have cells and up to two before, and linear in the length of the text; no list of cells
-/// is made.
+/// is made. `Memory` where memory was refused.
 #[tactic(auto, unfolding(crate::specs::AsciiText::ascii_text))]
 pub fn write_ascii(
     alloc: Global,

@@ -12,27 +12,53 @@ use thiserror::Error;
 /// A fault of a JSON text. Names are numbered from 0 in byte order, the items of an array from 0 as they stand.
 #[derive(Debug, Clone, Copy, PartialEq, Eq, Error)]
 pub enum JsonError {
+    /// The text of no value, as `serde_json` reads it.
     #[error("no JSON")]
     NotJson,
+    /// A value that is no object.
     #[error("no object")]
     NotObject,
+    /// A name that is no number up to 29.
     #[error("name {name} is no order")]
-    BadOrder { name: usize },
+    BadOrder {
+        /// The number of the name.
+        name: usize,
+    },
+    /// A name whose value is no array.
     #[error("name {name} has no array")]
-    NotArray { name: usize },
+    NotArray {
+        /// The number of the name.
+        name: usize,
+    },
+    /// An item that is no whole number of 64 bits.
     #[error("name {name}, item {place} is no whole number")]
-    NotWhole { name: usize, place: usize },
+    NotWhole {
+        /// The number of the name.
+        name: usize,
+        /// The number of the item.
+        place: usize,
+    },
+    /// An item that is no cell of the order that the name is.
     #[error("name {name}, item {place} is no cell of its order")]
-    CellTooLarge { name: usize, place: usize },
+    CellTooLarge {
+        /// The number of the name.
+        name: usize,
+        /// The number of the item.
+        place: usize,
+    },
+    /// Memory was refused.
     #[error("out of memory")]
     Memory,
 }
 
 /// Where a JSON text is at fault: a name of its object, counted from 0 in byte order, and an item of the name's array,
-/// counted from 0, where one of them is at fault.
+/// counted from 0 as they stand, where one of them is at fault.
 #[derive(Debug, Clone, Copy, PartialEq, Eq)]
 pub struct JsonPlace {
+    /// The number of the name.
     pub name: usize,
+    /// The number of the item in the name's array; `None` where the name itself, or what it has in place of an array,
+    /// is at fault.
     pub item: Option<usize>,
 }
 

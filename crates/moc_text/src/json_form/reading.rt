@@ -6,7 +6,6 @@ ghost use Rattle.std.specs.FinSet as set;
 ghost use Rattle.serde_json.specs.Find.{as_array};
 ghost use Rattle.serde_json.specs.View.{view, items_view, members_view};
 ghost use Rattle.moc_lists.specs.RangeList.{NumberSet};
-ghost use Rattle.moc_text.specs.Ascii.{deeper as deeper_of};
 ghost use Rattle.moc_text.specs.Faults.{Fails};
 ghost use Rattle.moc_text.specs.JsonForm.{order_of_name, whole_number, cell_pixels, element_fault, items_pixels};
 ghost use Rattle.moc_text.specs.JsonForm.{elements_fault, array_pixels, name_fault, members_pixels, members_fault};
@@ -14,6 +13,7 @@ ghost use Rattle.moc_text.specs.JsonForm.{deepest_name, member_at as member_numb
 ghost use Rattle.moc_text.specs.JsonForm.{IsNotJson, IsTextAt, NameIsOrder, SaysJson, object_member};
 ghost use Rattle.moc_text.specs.Private.JsonReading.{held_order};
 
+use crate::depth::deeper;
 use crate::json_form::error::{JsonError, JsonPlace};
 use moc_ranges::{Coverage, CoverageBuilder};
 use moc_sphere::Order;
@@ -111,16 +111,6 @@ fn read_member(
     Ok(order)
 }
 
-/// The greater of two orders, of which the first may be none.
-fn deeper(deepest: Option<Order>, order: Order) -> Option<Order>
-    ensures { result ≡ deeper_of deepest (Some order) }
-{
-    match deepest {
-        Some(deepest) => Some(deepest.max(order)),
-        None => Some(order),
-    }
-}
-
 /// Adds the cells of all members, and answers the deepest order.
 fn read_members(
     cells: &mut CoverageBuilder,
@@ -136,7 +126,7 @@ fn read_members(
     let mut name = 0;
     for (text, value) in members.iter() {
         let order = read_member(cells, name, text.as_str(), value)?;
-        deepest = deeper(deepest, order);
+        deepest = deeper(deepest, Some(order));
         name += 1;
     }
     Ok(deepest)
@@ -160,6 +150,10 @@ fn parse(alloc: Global, text: &[u8]) -> Result<Value, JsonError>
 /// Refused with `NotJson` where `serde_json` reads no value, with `NotObject` where the value is none; then for the
 /// first faulty name: `BadOrder` where it is no number up to 29, `NotArray` for its value, and for the first faulty
 /// item `NotWhole` or `CellTooLarge`. `Memory` where memory was refused.
+///
+/// One pass over the bytes by `serde_json`, which sorts the names, and one over its value; the cells as
+/// `CoverageBuilder` takes them, in O(n log n), or O(n) where they rise. The memory follows the text, whose value
+/// stands until the set is made.
 pub fn read_json(alloc: Global, text: &[u8]) -> Result<(Coverage, Option<Order>), JsonError>
     // What is read is what the text says.
     ensures set { IfOk result (λ r. SaysJson text.now r.0 r.1) }

@@ -18,6 +18,14 @@ use moc_ranges::{CellRanges, Coverage};
 use moc_sphere::Order;
 use std::alloc::{AllocError, Global};
 
+/// What is written: the cells of a set, the orders that they can have, and the order without cells that is a name.
+#[derive(Clone, Copy)]
+struct Shown<'a> {
+    set: &'a Coverage,
+    orders: (u8, u8),
+    bare: Option<u8>,
+}
+
 /// The orders, where their names stand in byte order.
 const ORDERS: &[u8] = &[
     0, 1, 10, 11, 12, 13, 14, 15, 16, 17, 18, 19, 2, 20, 21, 22, 23, 24, 25, 26, 27, 28, 29, 3, 4,
@@ -84,27 +92,26 @@ fn write_bare(
     Ok(true)
 }
 
-/// Writes the name of an order and its array, where it has cells or is the one without cells. The set's cells are
-/// of the orders given. Answers whether a name stands there then.
+/// Writes the name of an order and its array, where it has cells or is the one without cells. Answers whether a name
+/// stands there then.
 fn write_order(
     text: &mut TextWriter,
     depth: u8,
-    bare: Option<u8>,
-    set: &Coverage,
-    orders: (u8, u8),
+    shown: Shown<'_>,
     behind: bool,
 ) -> Result<bool, AllocError>
-    requires each { AreOfOrders orders.0 orders.1 (cells_of set.now) }
-    requires in_range { orders.1 ≤ 30 }
-    ensures { IfOk result (λ after. (members : Members) → text.new ++ members_text after members
-        ≡ text.old ++ members_text behind (member_before depth bare (data_at depth (cells_of set.now)) members)) }
+    requires each { AreOfOrders shown.orders.0 shown.orders.1 (cells_of shown.set.now) }
+    requires in_range { shown.orders.1 ≤ 30 }
+    ensures { IfOk result (λ after. (members : Members) →
+        text.new ++ members_text after members ≡ text.old ++ members_text behind
+        (member_before depth shown.entry.bare (data_at depth (cells_of shown.entry.set.now)) members)) }
 {
-    if depth < orders.0 || orders.1 <= depth {
-        return write_bare(text, depth, bare, behind);
+    if depth < shown.orders.0 || shown.orders.1 <= depth {
+        return write_bare(text, depth, shown.bare, behind);
     }
-    let mut ranges = set.cell_ranges(Order::of(depth));
+    let mut ranges = shown.set.cell_ranges(Order::of(depth));
     let Some((first, end)) = ranges.next() else {
-        return write_bare(text, depth, bare, behind);
+        return write_bare(text, depth, shown.bare, behind);
     };
     write_name(text, depth, behind)?;
     text.push_number(b'[', first)?;
@@ -113,42 +120,31 @@ fn write_order(
     Ok(true)
 }
 
-/// Writes the names of the cells of a set, whose orders are given, and of an order without cells, and the end of the
-/// object.
-fn write_orders(
-    text: &mut TextWriter,
-    set: &Coverage,
-    orders: (u8, u8),
-    bare: Option<u8>,
-) -> Result<(), AllocError>
-    requires each { AreOfOrders orders.0 orders.1 (cells_of set.now) }
-    requires in_range { orders.1 ≤ 30 }
-    ensures { OnOk result (text.new
-        ≡ text.old ++ members_text false (members_along (cells_of set.now) bare orders_by_name)) }
+/// Writes the names of the orders, and the end of the object.
+fn write_orders(text: &mut TextWriter, shown: Shown<'_>) -> Result<(), AllocError>
+    requires each { AreOfOrders shown.orders.0 shown.orders.1 (cells_of shown.set.now) }
+    requires in_range { shown.orders.1 ≤ 30 }
+    ensures { OnOk result (text.new ≡ text.old
+        ++ members_text false (members_along (cells_of shown.entry.set.now) shown.entry.bare orders_by_name)) }
 {
     let mut behind = false;
     for depth in ORDERS {
-        behind = write_order(text, *depth, bare, set, orders, behind)?;
+        behind = write_order(text, *depth, shown, behind)?;
     }
     text.push_str("}")
 }
 
-/// The object of the cells of a set, whose orders are given, and of an order without cells.
-fn object_text(
-    alloc: Global,
-    set: &Coverage,
-    orders: (u8, u8),
-    bare: Option<u8>,
-) -> Result<String, AllocError>
-    requires each { AreOfOrders orders.0 orders.1 (cells_of set.now) }
-    requires in_range { orders.1 ≤ 30 }
+/// The object of the orders.
+fn object_text(alloc: Global, shown: Shown<'_>) -> Result<String, AllocError>
+    requires each { AreOfOrders shown.orders.0 shown.orders.1 (cells_of shown.set.now) }
+    requires in_range { shown.orders.1 ≤ 30 }
     ensures { IfOk result (λ t. string_bytes t
-        ≡ compact_text (object (members_along (cells_of set.now) bare orders_by_name))) }
+        ≡ compact_text (object (members_along (cells_of shown.entry.set.now) shown.entry.bare orders_by_name))) }
 {
-    let room = set.range_count().saturating_mul(RANGE_ROOM);
+    let room = shown.set.range_count().saturating_mul(RANGE_ROOM);
     let mut text = TextWriter::with_capacity(alloc, room)?;
     text.push_str("{")?;
-    write_orders(&mut text, set, orders, bare)?;
+    write_orders(&mut text, shown)?;
     text.finish()
 }
 
@@ -156,7 +152,7 @@ fn object_text(
 /// name, and its value is the array of its cells, rising; a stated order that is deeper than these has an empty
 /// array; names stand in byte order. Refused with `TooCoarse` where the set has a cell of a deeper order than the
 /// stated one. One pass over the ranges of the set for each order that can have cells and up to two before, and linear
-/// in the length of the text; no list of cells is made.
+/// in the length of the text; no list of cells is made. `Memory` where memory was refused.
 pub fn write_json(
     alloc: Global,
     set: &Coverage,
@@ -177,5 +173,5 @@ pub fn write_json(
         return Err(WriteError::TooCoarse);
     }
     let bare = beyond(deepest, stated);
-    Ok(object_text(alloc, set, orders, bare)?)
+    Ok(object_text(alloc, Shown { set, orders, bare })?)
 }

@@ -1,17 +1,16 @@
-use Rattle.std.proofs.Common.{◌≡◌, ◌⊎◌, ℕ, List, inl, inr, refl, subst}
-use Rattle.moc_forms.specs.Forms.{FormSays}
-use Rattle.moc_conversion.specs.Conversion.{IsTextFault}
-use Rattle.moc_conversion.specs.Faults.{want_of_memory}
+use Rattle.std.proofs.Common.{ℕ, List, inl, inr, refl, subst}
+use Rattle.moc_forms.specs.Forms.{FormFails, FormSays}
+use Rattle.moc_conversion.specs.declared.fault.InputFault.TheVariants as fault
 use Rattle.moc_conversion.proofs.Checks.{not_read, told_alone}
 use Rattle.moc_conversion.proofs.Depths.{text_written}
 use Rattle.moc_conversion.proofs.conversion.convert_input.Goals as goal
 
 pub returns-in_err-set-clause-fault : goal.returns-in_err-set-clause-fault
 returns-in_err-set-clause-fault g c =
-    let told = c.in_err-set.field-0.0 in
-    told_alone c.from_residual-in_err-set.result told c.args.from _ _ c.from_residual-in_err-set.ensures.1
-    (not_read c.args.from _ _ c.in_ok-text.text.items told c.in_ok-text.ensures.whole
-    (subst (λ (bytes : List ℕ). (told ≡ want_of_memory) ⊎ IsTextFault c.args.from bytes told) c.deref.ensures.value c.in_err-set.ensures.fault))
+    let error = c.in_err-set.field-0.0 in
+    told_alone c.from_residual-in_err-set.result (fault.Form error) c.args.from _ _ c.from_residual-in_err-set.ensures.1
+    (not_read c.args.from _ _ c.in_ok-text.text.items error c.in_ok-text.ensures.whole
+    (subst (λ (bytes : List ℕ). FormFails c.args.from bytes error) c.deref.ensures.value c.in_err-set.ensures.fault))
 
 pub text_of-requires : goal.text_of-requires
 text_of-requires g c = record {

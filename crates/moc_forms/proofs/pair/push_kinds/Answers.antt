@@ -6,11 +6,11 @@ pub returns : goal.returns
 unfolding kinds
 returns c =
     rw (
-      c.in_ok-push_str-2.ensures.bytes,
+      c.in_ok-push_str.ensures.bytes,
       c.in_ok-push_set-3.ensures,
       c.in_ok-push_set-2.ensures,
       c.in_ok-push_set.ensures,
-      c.in_ok-push_str.ensures.bytes,
+      c.in_ok-push_mirror.ensures,
       c.in_ok-intersection.ensures.set,
       c.in_ok-difference-2.ensures.set,
       c.in_ok-difference.ensures.set,

@@ -13,18 +13,18 @@ use Rattle.moc_text.proofs.json_form.writing.write_order.Goals as goal
 pub returns : goal.returns
 returns c = λ members.
     let k = c.args.depth in
-    let cells = cells_of c.args.set.now in
+    let cells = cells_of c.args.shown.set.now in
     let s = c.cell_ranges-ranges.result in
     let is : cells_in k s ≡ of_order k cells = subst (λ (n : ℕ). cells_in n s ≡ of_order n cells) c.of.ensures c.cell_ranges-ranges.ensures.cells in
-    order_written k c.args.bare c.args.behind (c.in-Some.first, c.in-Some.end) s c.next.new.self (of_order k cells) c.args.text.now c.write_name.new.text c.push_number.new.self c.write_run.new.text c.write_runs.new.text members
+    order_written k c.args.shown.bare c.args.behind (c.in-Some.first, c.in-Some.end) s c.next.new.self (of_order k cells) c.args.text.now c.write_name.new.text c.push_number.new.self c.write_run.new.text c.write_runs.new.text members
     c.cell_ranges-ranges.ensures.normal c.in-Some.ensures.steps is c.in_ok-write_name.ensures c.in_ok-push_number.ensures c.in_ok-write_run.ensures c.in_ok-write_runs.ensures
 
-pub returns-then-depth-orders : goal.returns-then-depth-orders
-returns-then-depth-orders c =
+pub returns-then-depth-shown : goal.returns-then-depth-shown
+returns-then-depth-shown c =
     let k = c.args.depth in
-    let cells = cells_of c.args.set.now in
-    let none : of_order k cells ≡ [] = no_cells_of c.args.orders.0 c.args.orders.1 k cells c.requires.each (λ low high. elim c.then-depth-orders.either [
+    let cells = cells_of c.args.shown.set.now in
+    let none : of_order k cells ≡ [] = no_cells_of c.args.shown.orders.0 c.args.shown.orders.1 k cells c.requires.each (λ low high. elim c.then-depth-shown.either [
       | inl before ↦ omega (arith, low, before)
       | inr past ↦ omega (arith, high, past.1)
     ]) in
-    subst (λ (l : List CellNumber). IfOk c.write_bare.result (λ after. (members : Members) → c.write_bare.new.text ++ members_text after members ≡ c.args.text.now ++ members_text c.args.behind (member_before k c.args.bare (map datum l) members))) (sym none) c.write_bare.ensures
+    subst (λ (l : List CellNumber). IfOk c.write_bare.result (λ after. (members : Members) → c.write_bare.new.text ++ members_text after members ≡ c.args.text.now ++ members_text c.args.behind (member_before k c.args.shown.bare (map datum l) members))) (sym none) c.write_bare.ensures

@@ -7,5 +7,5 @@ use Rattle.moc_text.proofs.json_form.writing.write_orders.Given as goal
 -- what is written so far and the orders from here on are the whole
 abbrev pub invariant-loop-depth : goal.invariant-loop-depth
 invariant-loop-depth l =
-    l.text ++ members_text l.behind (members_along (cells_of l.set) l.bare (drop l.depth-index orders_by_name))
-    ≡ l.fn.text ++ members_text false (members_along (cells_of l.set) l.bare orders_by_name)
+    l.text ++ members_text l.behind (members_along (cells_of l.shown.set.now) l.shown.bare (drop l.depth-index orders_by_name))
+    ≡ l.fn.text ++ members_text false (members_along (cells_of l.shown.set.now) l.shown.bare orders_by_name)
