@@ -1,10 +1,10 @@
 -- Nodes and blocks that are carried over.
 use Rattle.std.proofs.Common.{◌≡◌, ℕ, ◌<◌, List, ◌++◌, length, ap, subst, ◌∙◌}
-use Rattle.moc_lists.specs.RangeList.{IsNormal}
-use Rattle.moc_lists.specs.Private.Blocks.{last_of, next_of}
-use Rattle.moc_lists.specs.Private.Built.{EndsBelow, Carries}
-use Rattle.moc_lists.proofs.Blocking.{IsNormal-prefix}
-use Rattle.moc_lists.proofs.Merging.{normal_append, ends_by_last, next_append}
+use Rattle.moc_blocks.specs.RangeList.{IsNormal}
+use Rattle.moc_blocks.specs.Private.Blocks.{last_of, next_of}
+use Rattle.moc_blocks.specs.Private.Built.{EndsBelow, Carries}
+use Rattle.moc_blocks.proofs.Blocking.{IsNormal-prefix}
+use Rattle.moc_blocks.proofs.Merging.{normal_append, ends_by_last, next_append}
 
 -- what comes next in a list can stand behind what is built
 pub carry_room : (kept xs block xs' : List (ℕ × ℕ)) → IsNormal kept → IsNormal xs → xs ≡ block ++ xs' → 0 < length block → EndsBelow (next_of xs) kept → IsNormal (kept ++ block)

@@ -1,12 +1,1 @@
-pub mod Blocking
-pub mod Filling
-pub mod Building
-pub mod Merging
-pub mod Basics
-pub mod Passing
 pub mod CarriedOver
-pub mod Stepping
-pub mod Places
-pub mod Adding
-pub mod Replacing
-pub mod Inserting

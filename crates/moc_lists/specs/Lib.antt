@@ -1,4 +1,3 @@
-pub mod RangeList
-pub mod Blocks
-pub mod Lemmas
+pub use Rattle.moc_blocks.specs.RangeList
+pub use Rattle.moc_blocks.specs.Blocks
 pub mod Private

@@ -1,6 +1,2 @@
--- What serves this crate, `moc_operations` and `moc_ranges` alone, which were one.
-pub mod Blocks
-pub mod Built
+-- What serves this crate and `moc_ranges` alone, which was one with it.
 pub mod Kept
-pub mod Walks
-pub mod Added

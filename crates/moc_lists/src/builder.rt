@@ -1,18 +1,17 @@
 //! A list of ranges while it grows at its end.
 ghost use Rattle.std.specs.Prelude.{◌≡◌, ◌<◌, ◌≤◌, ◌++◌, ◌∷◌, ◌||◌, [], List, ℕ, length, IfOk, OnOk, MatchOption};
 ghost use Rattle.std.specs.Bool.{OnTrue, OnFalse};
-ghost use Rattle.moc_lists.specs.RangeList.{pixel_count, IsNormal};
-ghost use Rattle.moc_lists.specs.Lemmas.Members.{in_ranges, in_range};
-ghost use Rattle.moc_lists.specs.Blocks.{joining};
-ghost use Rattle.moc_lists.specs.Private.Blocks.{last_of};
+ghost use Rattle.moc_blocks.specs.RangeList.{pixel_count, IsNormal};
+ghost use Rattle.moc_blocks.specs.Lemmas.Members.{in_ranges, in_range};
+ghost use Rattle.moc_blocks.specs.Blocks.{joining};
+ghost use Rattle.moc_blocks.specs.Private.Blocks.{last_of};
 ghost use Rattle.moc_lists.specs.Private.Kept.{IsKept};
-ghost use Rattle.moc_lists.specs.Private.Built.{ranges_of, none_grown, CanJoin, CanCarry, Carries, EndsBelow};
+ghost use Rattle.moc_blocks.specs.Private.Built.{ranges_of, none_grown, CanJoin, CanCarry, Carries, EndsBelow};
 
-use crate::block::{Block, LONGEST};
 use crate::kept::{Kept, trimmed};
 use crate::list::RangeList;
-use crate::node::Node;
 use crate::ranges::Ranges;
+use moc_blocks::{Block, LONGEST, Node};
 use std::alloc::{AllocError, Global};
 use std::marker::Model;
 
@@ -24,7 +23,7 @@ pub struct ListBuilder {
 }
 
 impl Model for ListBuilder {
-    ghost use Rattle.moc_lists.specs.Private.Built.{Growing};
+    ghost use Rattle.moc_blocks.specs.Private.Built.{Growing};
     ghost use Rattle.moc_lists.specs.Private.Kept.{growing, IsKept};
 
     ghost Value = { Growing };

@@ -1,6 +1,5 @@
 //! The blocks of a list, as slices of ranges.
-use crate::ahead::{Ahead, next_block};
-use crate::node::Node;
+use moc_blocks::{Ahead, Node, next_block};
 use std::fmt;
 use std::marker::Model;
 
@@ -15,7 +14,7 @@ pub struct Chunks<'a> {
 
 impl<'a> Model for Chunks<'a> {
     ghost use Rattle.std.specs.Prelude.{List, ℕ};
-    ghost use Rattle.moc_lists.specs.Private.Blocks.{chunks_of};
+    ghost use Rattle.moc_blocks.specs.Private.Blocks.{chunks_of};
 
     ghost Value = { List (List (ℕ × ℕ)) };
 
@@ -24,7 +23,7 @@ impl<'a> Model for Chunks<'a> {
 
 ghost use Rattle.std.specs.Prelude.{◌≡◌, [], ◌∷◌, MatchOption};
 ghost use Rattle.std.specs.Iterator.{item_count};
-ghost use Rattle.moc_lists.specs.Private.Blocks.{chunks_of};
+ghost use Rattle.moc_blocks.specs.Private.Blocks.{chunks_of};
 
 impl<'a> Chunks<'a> {
     /// These ranges as a chunk, if there are any, and the blocks of the nodes.

@@ -1,17 +1,17 @@
 //! The ranges of a list while it grows at its end: in nodes, in blocks, and behind them.
 ghost use Rattle.std.specs.Prelude.{◌≡◌, ◌+◌, ◌<◌, ◌≤◌, ◌++◌, ◌∷◌, ◌||◌, [], List, ℕ, length, IfOk, OnOk, MatchOption};
 ghost use Rattle.std.specs.Bool.{OnTrue, OnFalse};
-ghost use Rattle.moc_lists.specs.RangeList.{pixel_count, IsNormal};
-ghost use Rattle.moc_lists.specs.Lemmas.Members.{in_ranges, in_range};
-ghost use Rattle.moc_lists.specs.Blocks.{joining, AreBlocks};
-ghost use Rattle.moc_lists.specs.Private.Blocks.{last_of};
-ghost use Rattle.moc_lists.specs.Private.Built.{first_length, last_length, CanJoin, EndsBelow};
+ghost use Rattle.moc_blocks.specs.RangeList.{pixel_count, IsNormal};
+ghost use Rattle.moc_blocks.specs.Lemmas.Members.{in_ranges, in_range};
+ghost use Rattle.moc_blocks.specs.Blocks.{joining, AreBlocks};
+ghost use Rattle.moc_blocks.specs.Private.Blocks.{last_of};
+ghost use Rattle.moc_blocks.specs.Private.Built.{first_length, last_length, CanJoin, EndsBelow};
 ghost use Rattle.moc_lists.specs.Private.Kept.{all_of, blocks_of, growing, IsKept, AreWide};
 
-use crate::block::{Block, LONGEST};
-use crate::lengths::{length_of_first, length_of_last, width_of_last};
 use crate::list::RangeList;
-use crate::node::{Node, WIDEST, share_blocks};
+use moc_blocks::{
+    Block, LONGEST, Node, WIDEST, length_of_first, length_of_last, share_blocks, width_of_last,
+};
 use std::alloc::{AllocError, Global};
 
 /// Finished nodes, then blocks that are not yet a node, then ranges that are not yet a block.

@@ -1,20 +1,17 @@
 //! The one normal list of ranges of a set, kept in blocks.
 ghost use Rattle.std.specs.Prelude.{◌≡◌, ◌<◌, ◌≤◌, [], ◌∷◌, length, IfOk, MatchOption};
-ghost use Rattle.moc_lists.specs.RangeList.{pixel_count, IsNormal, set_of};
-ghost use Rattle.moc_lists.specs.Lemmas.Members.{in_ranges};
-ghost use Rattle.moc_lists.specs.Blocks.{joining, AreBlocks, IsSearchOf};
-ghost use Rattle.moc_lists.specs.Private.Blocks.{IsStored, rest_of, width_of};
-ghost use Rattle.moc_lists.specs.Private.Walks.{EndsBy, IsFirstPast};
-ghost use Rattle.moc_lists.specs.Private.Added.{Inserts};
+ghost use Rattle.moc_blocks.specs.RangeList.{pixel_count, IsNormal, set_of};
+ghost use Rattle.moc_blocks.specs.Lemmas.Members.{in_ranges};
+ghost use Rattle.moc_blocks.specs.Blocks.{joining, AreBlocks, IsSearchOf};
+ghost use Rattle.moc_blocks.specs.Private.Blocks.{IsStored, rest_of, width_of};
+ghost use Rattle.moc_blocks.specs.Private.Walks.{EndsBy, IsFirstPast};
+ghost use Rattle.moc_blocks.specs.Private.Added.{Inserts};
 
-use crate::added::insert_few;
-use crate::block::measure_ranges;
 use crate::chunks::Chunks;
-use crate::node::Node;
 use crate::nodes::Nodes;
 use crate::ranges::Ranges;
-use crate::search::{range_of_nodes_past, range_past};
 use crate::steps::{Steps, find_block, find_range};
+use moc_blocks::{Node, insert_few, measure_ranges, range_of_nodes_past, range_past};
 use std::alloc::{AllocError, Global};
 use std::marker::Model;
 
@@ -32,7 +29,7 @@ pub struct RangeList {
 
 impl Model for RangeList {
     ghost use Rattle.std.specs.Prelude.{List, ℕ, []};
-    ghost use Rattle.moc_lists.specs.Private.Blocks.{IsStored, rest_of};
+    ghost use Rattle.moc_blocks.specs.Private.Blocks.{IsStored, rest_of};
 
     ghost Value = { List (ℕ × ℕ) };
 

@@ -1,15 +1,12 @@
 //! The nodes of a list, whose blocks are found by their numbers.
 ghost use Rattle.std.specs.Prelude.{◌≡◌, ◌+◌, ◌<◌, ◌≤◌, ◌++◌, [], ◌∷◌, ℕ, length, get_or, take, drop};
 ghost use Rattle.std.specs.Prelude.{vec_len, vec_capacity, IfOk, MatchOption, OnErr, OnOk};
-ghost use Rattle.moc_lists.specs.RangeList.{pixel_count};
-ghost use Rattle.moc_lists.specs.Blocks.{joining};
-ghost use Rattle.moc_lists.specs.Private.Blocks.{moved, width_of, AreStored, IsCountBegun, IsStored};
-ghost use Rattle.moc_lists.specs.Private.Added.{replacing, with_second, GrowsBy, Inserts};
+ghost use Rattle.moc_blocks.specs.RangeList.{pixel_count};
+ghost use Rattle.moc_blocks.specs.Blocks.{joining};
+ghost use Rattle.moc_blocks.specs.Private.Blocks.{moved, width_of, AreStored, IsCountBegun, IsStored};
+ghost use Rattle.moc_blocks.specs.Private.Added.{replacing, with_second, GrowsBy, Inserts};
 
-use crate::added::anew::{Renewed, Spot, renew, spot_of};
-use crate::added::gap::{Gap, gap_of};
-use crate::block::Block;
-use crate::node::{Node, share_nodes};
+use moc_blocks::{Block, Gap, Node, Renewed, Spot, gap_of, renew, share_nodes, spot_of};
 use std::alloc::{AllocError, Global};
 use std::marker::Model;
 
@@ -25,7 +22,7 @@ pub(crate) struct Nodes {
 
 impl Model for Nodes {
     ghost use Rattle.std.specs.Prelude.{◌≡◌, List, ℕ};
-    ghost use Rattle.moc_lists.specs.Private.Blocks.{AreNodes};
+    ghost use Rattle.moc_blocks.specs.Private.Blocks.{AreNodes};
 
     ghost Value = { List (List (List (ℕ × ℕ))) };
 

@@ -2,10 +2,10 @@
 ghost use Rattle.std.specs.Iterator.{YieldsFirst, UpTo, at_most, item_count};
 ghost use Rattle.std.specs.Iterator.SizeHint.{IsWithinCount};
 
-use crate::ahead::{Ahead, Begun, block_ahead, block_below, front_from, next_ahead, node_below};
-use crate::block::{Block, LONGEST};
-use crate::node::{Node, count_in_blocks, count_in_nodes};
-use crate::runs::{leading_below, pass_ranges};
+use moc_blocks::{
+    Ahead, Begun, Block, LONGEST, Node, block_ahead, block_below, count_in_blocks, count_in_nodes,
+    front_from, leading_below, next_ahead, node_below, pass_ranges,
+};
 use std::fmt;
 use std::marker::Model;
 
@@ -20,8 +20,8 @@ pub struct Ranges<'a> {
 
 impl<'a> Model for Ranges<'a> {
     ghost use Rattle.std.specs.Prelude.{List, ℕ};
-    ghost use Rattle.moc_lists.specs.Private.Blocks.{rest_of};
-    ghost use Rattle.moc_lists.specs.RangeList.{IsNormal};
+    ghost use Rattle.moc_blocks.specs.Private.Blocks.{rest_of};
+    ghost use Rattle.moc_blocks.specs.RangeList.{IsNormal};
 
     ghost Value = { List (ℕ × ℕ) };
 
@@ -31,10 +31,10 @@ impl<'a> Model for Ranges<'a> {
 }
 
 ghost use Rattle.std.specs.Prelude.{ℕ, ◌≡◌, ◌<◌, ◌≤◌, ◌++◌, ◌∷◌, [], List, length, MatchOption, IfSome, Some, min};
-ghost use Rattle.moc_lists.specs.RangeList.{IsNormal};
-ghost use Rattle.moc_lists.specs.Blocks.{joining};
-ghost use Rattle.moc_lists.specs.Private.Blocks.{last_of, next_of, rest_of};
-ghost use Rattle.moc_lists.specs.Private.Walks.{Advances, Passes};
+ghost use Rattle.moc_blocks.specs.RangeList.{IsNormal};
+ghost use Rattle.moc_blocks.specs.Blocks.{joining};
+ghost use Rattle.moc_blocks.specs.Private.Blocks.{last_of, next_of, rest_of};
+ghost use Rattle.moc_blocks.specs.Private.Walks.{Advances, Passes};
 
 /// What is behind a block that is begun.
 #[derive(Drop)]
@@ -44,7 +44,7 @@ pub struct Behind<'a> {
 
 impl<'a> Model for Behind<'a> {
     ghost use Rattle.std.specs.Prelude.{List, ℕ, []};
-    ghost use Rattle.moc_lists.specs.Private.Blocks.{rest_of};
+    ghost use Rattle.moc_blocks.specs.Private.Blocks.{rest_of};
 
     ghost Value = { List (ℕ × ℕ) };
 

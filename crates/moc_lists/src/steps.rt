@@ -16,10 +16,10 @@ impl Model for Steps {
 }
 
 ghost use Rattle.std.specs.Prelude.{◌≡◌, ◌+◌, ◌<◌, ◌≤◌, ◌^◌, ℕ, length};
-ghost use Rattle.moc_lists.specs.RangeList.{IsNormal};
-ghost use Rattle.moc_lists.specs.Lemmas.Members.{in_ranges};
-ghost use Rattle.moc_lists.specs.Blocks.{joining};
-ghost use Rattle.moc_lists.specs.Private.Blocks.{AreStored};
+ghost use Rattle.moc_blocks.specs.RangeList.{IsNormal};
+ghost use Rattle.moc_blocks.specs.Lemmas.Members.{in_ranges};
+ghost use Rattle.moc_blocks.specs.Blocks.{joining};
+ghost use Rattle.moc_blocks.specs.Private.Blocks.{AreStored};
 
 use crate::nodes::Nodes;
 

@@ -9,16 +9,16 @@ use Rattle.std.proofs.lemmas.Bool.Decides.{nat_tests}
 use Rattle.std.proofs.lemmas.List.{drop-append-le, length-drop, length-take, take-append-drop, take-set, take_all}
 use Rattle.std.proofs.lemmas.Grind.{take-set_at}
 use Rattle.std.proofs.Math.Seq.{drop-cons}
-use Rattle.moc_lists.specs.RangeList.{pixel_count, IsNormal}
-use Rattle.moc_lists.specs.Lemmas.Members.{in_ranges}
-use Rattle.moc_lists.specs.Private.Blocks.{next_of}
-use Rattle.moc_lists.specs.Private.Built.{CanCarry, EndsBelow}
+use Rattle.moc_blocks.specs.RangeList.{pixel_count, IsNormal}
+use Rattle.moc_blocks.specs.Lemmas.Members.{in_ranges}
+use Rattle.moc_blocks.specs.Private.Blocks.{next_of}
+use Rattle.moc_blocks.specs.Private.Built.{CanCarry, EndsBelow}
 use Rattle.moc_operations.specs.Private.Differing.{differs, IsDiffering}
 use Rattle.moc_operations.specs.Private.Crossing.{bounds_of, is_odd_at, Rises, open_of, restored_of, AreBounds, IsCrossed}
 use Rattle.moc_operations.specs.Private.Walks.{begun}
-use Rattle.moc_lists.specs.Lemmas.Ranges.{later_only}
-use Rattle.moc_lists.proofs.Blocking.{IsNormal-prefix, IsNormal-suffix, nothing_more}
-use Rattle.moc_lists.proofs.Merging.{normal_append, ends_next, EndsBelow-more}
+use Rattle.moc_blocks.specs.Lemmas.Ranges.{later_only}
+use Rattle.moc_blocks.proofs.Blocking.{IsNormal-prefix, IsNormal-suffix, nothing_more}
+use Rattle.moc_blocks.proofs.Merging.{normal_append, ends_next, EndsBelow-more}
 use Rattle.moc_operations.proofs.Differing.{differs_gone, differs_none, differs_swap, differing_swap, ends_both}
 
 -- ---- of two things just one

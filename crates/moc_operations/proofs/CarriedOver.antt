@@ -1,10 +1,10 @@
 -- Nodes and blocks that are carried over.
 use Rattle.std.proofs.Common.{ℕ, List, [], ◌++◌, refl, sym, ap, subst, ◌∙◌, arith, append_assoc}
-use Rattle.moc_lists.specs.RangeList.{IsNormal}
-use Rattle.moc_lists.specs.Private.Blocks.{next_of}
-use Rattle.moc_lists.specs.Private.Built.{EndsBelow, CanCarry, Carries}
-use Rattle.moc_lists.proofs.Blocking.{IsNormal-suffix, nothing_more}
-use Rattle.moc_lists.proofs.Merging.{ends_next, EndsBelow-append, EndsBelow-more}
+use Rattle.moc_blocks.specs.RangeList.{IsNormal}
+use Rattle.moc_blocks.specs.Private.Blocks.{next_of}
+use Rattle.moc_blocks.specs.Private.Built.{EndsBelow, CanCarry, Carries}
+use Rattle.moc_blocks.proofs.Blocking.{IsNormal-suffix, nothing_more}
+use Rattle.moc_blocks.proofs.Merging.{ends_next, EndsBelow-append, EndsBelow-more}
 use Rattle.moc_operations.proofs.Merging.{next_later}
 
 pub carries_none : (ks xs : List (ℕ × ℕ)) (limit : ℕ) → IsNormal ks → Carries xs xs limit ks ks

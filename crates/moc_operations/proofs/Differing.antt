@@ -4,19 +4,19 @@ use Rattle.std.proofs.Common.{refl, sym, ap, subst, ◌∙◌, arith, append_ass
 use Rattle.std.specs.Prelude.{nat_le, nat_lt}
 use Rattle.std.proofs.lemmas.Bool.{cases_lt}
 use Rattle.std.proofs.lemmas.Bool.Decides.{nat_tests}
-use Rattle.moc_lists.specs.RangeList.{pixel_count, IsNormal, BeginsAfter, set_of}
-use Rattle.moc_lists.specs.Lemmas.Members.{same_members, in_range, in_ranges, contains-set_of, in_ranges-append, or_false, or_assoc}
+use Rattle.moc_blocks.specs.RangeList.{pixel_count, IsNormal, BeginsAfter, set_of}
+use Rattle.moc_blocks.specs.Lemmas.Members.{same_members, in_range, in_ranges, contains-set_of, in_ranges-append, or_false, or_assoc}
 use Rattle.moc_operations.specs.Lemmas.Members.{contains-symmetric}
 use Rattle.moc_operations.specs.Operations.{symmetric}
-use Rattle.moc_lists.specs.Private.Blocks.{next_of}
-use Rattle.moc_lists.specs.Private.Built.{CanCarry, Carries, EndsBelow}
-use Rattle.moc_lists.specs.Lemmas.Ranges.{later_only}
+use Rattle.moc_blocks.specs.Private.Blocks.{next_of}
+use Rattle.moc_blocks.specs.Private.Built.{CanCarry, Carries, EndsBelow}
+use Rattle.moc_blocks.specs.Lemmas.Ranges.{later_only}
 use Rattle.moc_operations.specs.Private.Differing.{differs, IsParted, IsDiffering}
-use Rattle.moc_lists.proofs.Merging.{normal_append, ends_next, EndsBelow-append, EndsBelow-more}
+use Rattle.moc_blocks.proofs.Merging.{normal_append, ends_next, EndsBelow-append, EndsBelow-more}
 use Rattle.moc_operations.proofs.Merging.{next_later}
-use Rattle.moc_lists.proofs.Blocking.{IsNormal-prefix, IsNormal-suffix}
+use Rattle.moc_blocks.proofs.Blocking.{IsNormal-prefix, IsNormal-suffix}
 use Rattle.moc_operations.proofs.Lacking.{none_before, range_from}
-use Rattle.moc_lists.proofs.Building.{pushed_normal}
+use Rattle.moc_blocks.proofs.Building.{pushed_normal}
 
 pub differs_view : (xs ys zs : List (ℕ × ℕ)) → ((q : ℕ) → in_ranges zs q ≡ differs (in_ranges xs q) (in_ranges ys q)) → set_of zs ≡ symmetric (set_of xs) (set_of ys)
 differs_view xs ys zs each = same_members _ _ (λ q.

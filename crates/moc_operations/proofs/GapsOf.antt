@@ -5,15 +5,15 @@ use Rattle.std.proofs.Common.{◌∙◌, arith}
 use Rattle.std.specs.Prelude.{nat_le, nat_lt}
 use Rattle.std.proofs.lemmas.Bool.{cases_lt}
 use Rattle.std.proofs.lemmas.Bool.Decides.{nat_tests}
-use Rattle.moc_lists.specs.RangeList.{IsNormal, BeginsAfter}
-use Rattle.moc_lists.specs.Lemmas.Members.{in_ranges, in_ranges-append}
-use Rattle.moc_lists.specs.Private.Blocks.{next_of}
-use Rattle.moc_lists.specs.Private.Built.{EndsBelow}
-use Rattle.moc_lists.specs.Private.Walks.{EndsBy, Passes}
-use Rattle.moc_lists.specs.Lemmas.Ranges.{later_only}
+use Rattle.moc_blocks.specs.RangeList.{IsNormal, BeginsAfter}
+use Rattle.moc_blocks.specs.Lemmas.Members.{in_ranges, in_ranges-append}
+use Rattle.moc_blocks.specs.Private.Blocks.{next_of}
+use Rattle.moc_blocks.specs.Private.Built.{EndsBelow}
+use Rattle.moc_blocks.specs.Private.Walks.{EndsBy, Passes}
+use Rattle.moc_blocks.specs.Lemmas.Ranges.{later_only}
 use Rattle.moc_operations.specs.Private.Meeting.{IsRising, CanMeet, MeetsOn, LeavesOut, gaps_before, gaps_of, end_of}
-use Rattle.moc_lists.proofs.Blocking.{IsNormal-suffix, nothing_more}
-use Rattle.moc_lists.proofs.Merging.{ends_next, EndsBelow-append, EndsBelow-more}
+use Rattle.moc_blocks.proofs.Blocking.{IsNormal-suffix, nothing_more}
+use Rattle.moc_blocks.proofs.Merging.{ends_next, EndsBelow-append, EndsBelow-more}
 use Rattle.moc_operations.proofs.Merging.{next_later}
 use Rattle.moc_operations.proofs.Views.{normal_below}
 use Rattle.moc_operations.proofs.InCommon.{normal_from}

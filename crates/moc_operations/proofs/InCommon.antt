@@ -4,18 +4,18 @@ use Rattle.std.proofs.Common.{refl, sym, ap, subst, ◌∙◌, arith, inl, inr, 
 use Rattle.std.specs.Prelude.{nat_le, nat_lt}
 use Rattle.std.proofs.lemmas.Bool.{cases_lt, or_cases, and_parts, leb-true, ltb-true}
 use Rattle.std.proofs.lemmas.Bool.Decides.{nat_tests}
-use Rattle.moc_lists.specs.RangeList.{IsNormal, BeginsAfter}
-use Rattle.moc_lists.specs.Lemmas.Members.{in_range, in_ranges, in_ranges-append, or_false, or_assoc, and_false}
-use Rattle.moc_lists.specs.Private.Blocks.{next_of}
-use Rattle.moc_lists.specs.Private.Built.{EndsBelow, Carries}
+use Rattle.moc_blocks.specs.RangeList.{IsNormal, BeginsAfter}
+use Rattle.moc_blocks.specs.Lemmas.Members.{in_range, in_ranges, in_ranges-append, or_false, or_assoc, and_false}
+use Rattle.moc_blocks.specs.Private.Blocks.{next_of}
+use Rattle.moc_blocks.specs.Private.Built.{EndsBelow, Carries}
 use Rattle.moc_operations.specs.Private.Taking.{TakesCommon}
 use Rattle.moc_operations.specs.Private.Meeting.{IsRising}
 use Rattle.moc_operations.specs.Private.Walks.{begun}
-use Rattle.moc_lists.specs.Private.Walks.{EndsBy, Advances, Passes}
+use Rattle.moc_blocks.specs.Private.Walks.{EndsBy, Advances, Passes}
 use Rattle.moc_operations.proofs.Merging.{next_later}
-use Rattle.moc_lists.proofs.Merging.{ends_next, EndsBelow-append, EndsBelow-more}
-use Rattle.moc_lists.proofs.Blocking.{IsNormal-suffix}
-use Rattle.moc_lists.proofs.Passing.{ends_by_more}
+use Rattle.moc_blocks.proofs.Merging.{ends_next, EndsBelow-append, EndsBelow-more}
+use Rattle.moc_blocks.proofs.Blocking.{IsNormal-suffix}
+use Rattle.moc_blocks.proofs.Passing.{ends_by_more}
 use Rattle.moc_operations.proofs.CarriedOver.{carried_after}
 use Rattle.moc_operations.proofs.Walking.{and_swap, begun_is}
 

@@ -4,16 +4,16 @@ use Rattle.std.proofs.Common.{sym, ap, subst, ◌∙◌, arith, inl, inr, Option
 use Rattle.std.specs.Prelude.{nat_le, nat_lt}
 use Rattle.std.proofs.lemmas.Bool.{cases_lt, and_parts, and_from, leb-true, ltb-true, le-leb, lt-ltb, false≢true}
 use Rattle.std.proofs.lemmas.Bool.Decides.{nat_tests}
-use Rattle.moc_lists.specs.RangeList.{IsNormal}
-use Rattle.moc_lists.specs.Lemmas.Members.{in_range, in_ranges, in_ranges-append, or_false, or_assoc, and_false}
-use Rattle.moc_lists.specs.Private.Blocks.{next_of}
-use Rattle.moc_lists.specs.Private.Built.{EndsBelow, Carries}
+use Rattle.moc_blocks.specs.RangeList.{IsNormal}
+use Rattle.moc_blocks.specs.Lemmas.Members.{in_range, in_ranges, in_ranges-append, or_false, or_assoc, and_false}
+use Rattle.moc_blocks.specs.Private.Blocks.{next_of}
+use Rattle.moc_blocks.specs.Private.Built.{EndsBelow, Carries}
 use Rattle.moc_operations.specs.Private.Walks.{begun}
-use Rattle.moc_lists.specs.Private.Walks.{EndsBy, Advances}
-use Rattle.moc_lists.specs.Lemmas.Ranges.{later_only}
-use Rattle.moc_lists.proofs.Merging.{ends_next, EndsBelow-append, EndsBelow-more}
+use Rattle.moc_blocks.specs.Private.Walks.{EndsBy, Advances}
+use Rattle.moc_blocks.specs.Lemmas.Ranges.{later_only}
+use Rattle.moc_blocks.proofs.Merging.{ends_next, EndsBelow-append, EndsBelow-more}
 use Rattle.moc_operations.proofs.Merging.{next_later}
-use Rattle.moc_lists.proofs.Blocking.{IsNormal-suffix}
+use Rattle.moc_blocks.proofs.Blocking.{IsNormal-suffix}
 use Rattle.moc_operations.proofs.Walking.{Steps, begun_is}
 
 -- a range of the second list that ends before the first

@@ -8,21 +8,21 @@ use Rattle.std.proofs.lemmas.Bool.{cases_lt, lt-ltb}
 use Rattle.std.proofs.lemmas.Bool.Decides.{nat_tests}
 use Rattle.std.proofs.lemmas.List.{drop_more, length-drop, take-set, take-append-drop, take_all}
 use Rattle.std.proofs.lemmas.Grind.{take-set_at}
-use Rattle.moc_lists.specs.RangeList.{pixel_count, IsNormal}
-use Rattle.moc_lists.specs.Lemmas.Members.{in_range, in_ranges, or_false, or_assoc, and_false}
-use Rattle.moc_lists.specs.Private.Blocks.{last_of, next_of}
-use Rattle.moc_lists.specs.Private.Built.{EndsBelow}
+use Rattle.moc_blocks.specs.RangeList.{pixel_count, IsNormal}
+use Rattle.moc_blocks.specs.Lemmas.Members.{in_range, in_ranges, or_false, or_assoc, and_false}
+use Rattle.moc_blocks.specs.Private.Blocks.{last_of, next_of}
+use Rattle.moc_blocks.specs.Private.Built.{EndsBelow}
 use Rattle.moc_operations.specs.Private.Taking.{AddsPart, TakesCommon}
-use Rattle.moc_lists.specs.Private.Walks.{EndsBy}
+use Rattle.moc_blocks.specs.Private.Walks.{EndsBy}
 use Rattle.moc_operations.specs.Private.Meeting.{IsRising, kept_if, CanMeet, MeetsOn, LeavesOut}
-use Rattle.moc_lists.proofs.Blocking.{IsNormal-prefix, IsNormal-suffix, IsNormal-rest, nothing_more}
-use Rattle.moc_lists.proofs.Merging.{ends_by_last, ends_next, EndsBelow-more}
+use Rattle.moc_blocks.proofs.Blocking.{IsNormal-prefix, IsNormal-suffix, IsNormal-rest, nothing_more}
+use Rattle.moc_blocks.proofs.Merging.{ends_by_last, ends_next, EndsBelow-more}
 use Rattle.moc_operations.proofs.Merging.{next_later}
-use Rattle.moc_lists.proofs.Building.{pushed_normal}
+use Rattle.moc_blocks.proofs.Building.{pushed_normal}
 use Rattle.moc_operations.proofs.Walking.{and_swap}
 use Rattle.moc_operations.proofs.InCommon.{rising_normal, taken_ended, pieces_rising, pieces_back, common_parts}
 use Rattle.moc_operations.proofs.InCommon.{common_below, common_nothing}
-use Rattle.moc_lists.proofs.Basics.{common_same}
+use Rattle.moc_blocks.proofs.Basics.{common_same}
 
 -- a range behind those that are made
 lt_byte : (a b n : ℕ) → n ≡ bool_byte (nat_lt a b) → a < b → n ≡ 1

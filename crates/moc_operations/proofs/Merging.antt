@@ -1,14 +1,14 @@
 -- Joining lists of ranges at their ends, block by block.
 use Rattle.std.proofs.Common.{◌≡◌, ℕ, ◌<◌, ◌≤◌, Bool, true, false, ◌||◌, List, [], ◌∷◌, ◌++◌, length, refl, sym, ap}
 use Rattle.std.proofs.Common.{subst, ◌∙◌, arith, length-append}
-use Rattle.moc_lists.specs.RangeList.{IsNormal}
-use Rattle.moc_lists.specs.Lemmas.Members.{in_range, in_ranges, in_ranges-append, or_false, or_assoc}
-use Rattle.moc_lists.specs.Private.Blocks.{next_of}
-use Rattle.moc_lists.specs.Private.Built.{Growing, ranges_of, CanJoin, CanCarry, Carries, EndsBelow, BeginsBy}
+use Rattle.moc_blocks.specs.RangeList.{IsNormal}
+use Rattle.moc_blocks.specs.Lemmas.Members.{in_range, in_ranges, in_ranges-append, or_false, or_assoc}
+use Rattle.moc_blocks.specs.Private.Blocks.{next_of}
+use Rattle.moc_blocks.specs.Private.Built.{Growing, ranges_of, CanJoin, CanCarry, Carries, EndsBelow, BeginsBy}
 use Rattle.moc_operations.specs.Private.Taking.{CanTake, TakesOver}
-use Rattle.moc_lists.proofs.Blocking.{IsNormal-suffix}
-use Rattle.moc_lists.proofs.Merging.{EndsBelow-more, EndsBelow-append, EndsBelow-first, ends_second}
-use Rattle.moc_lists.proofs.Merging.{begins_of_ends, ends_next}
+use Rattle.moc_blocks.proofs.Blocking.{IsNormal-suffix}
+use Rattle.moc_blocks.proofs.Merging.{EndsBelow-more, EndsBelow-append, EndsBelow-first, ends_second}
+use Rattle.moc_blocks.proofs.Merging.{begins_of_ends, ends_next}
 
 pub BeginsBy-more : (f g : ℕ) (rs : List (ℕ × ℕ)) → BeginsBy f rs → f ≤ g → BeginsBy g rs
 BeginsBy-more f g [] all le = tt

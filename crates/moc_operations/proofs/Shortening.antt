@@ -1,9 +1,9 @@
 -- Lists of ranges that a step of a walk made shorter.
 use Rattle.std.proofs.Common.{◌≡◌, ℕ, ◌+◌, ◌<◌, ◌≤◌, List, length, ap, arith, length-append, Option, Some}
-use Rattle.moc_lists.specs.Private.Built.{Carries, Growing}
+use Rattle.moc_blocks.specs.Private.Built.{Carries, Growing}
 use Rattle.moc_operations.specs.Private.Taking.{TakesCommon, TakesOver}
 use Rattle.moc_operations.specs.Private.Walks.{begun}
-use Rattle.moc_lists.specs.Private.Walks.{Advances}
+use Rattle.moc_blocks.specs.Private.Walks.{Advances}
 use Rattle.moc_operations.proofs.Walking.{begun_is}
 
 -- a list of which a range was taken off

@@ -4,13 +4,13 @@ use Rattle.std.proofs.Common.{refl, sym, ap, subst, ◌∙◌, arith, inl, inr}
 use Rattle.std.specs.Prelude.{nat_le, nat_lt}
 use Rattle.std.proofs.lemmas.Bool.{cases_lt}
 use Rattle.std.proofs.lemmas.Bool.Decides.{nat_tests}
-use Rattle.moc_lists.specs.RangeList.{pixel_count, IsNormal, BeginsAfter}
-use Rattle.moc_lists.specs.Lemmas.Members.{in_range, in_ranges, in_ranges-append, or_false, or_assoc, and_false}
-use Rattle.moc_lists.specs.Private.Blocks.{next_of}
-use Rattle.moc_lists.specs.Private.Built.{EndsBelow}
+use Rattle.moc_blocks.specs.RangeList.{pixel_count, IsNormal, BeginsAfter}
+use Rattle.moc_blocks.specs.Lemmas.Members.{in_range, in_ranges, in_ranges-append, or_false, or_assoc, and_false}
+use Rattle.moc_blocks.specs.Private.Blocks.{next_of}
+use Rattle.moc_blocks.specs.Private.Built.{EndsBelow}
 use Rattle.moc_operations.specs.Private.Few.{IsSettled}
-use Rattle.moc_lists.proofs.Merging.{normal_append, ends_next, EndsBelow-append, EndsBelow-more}
-use Rattle.moc_lists.proofs.Building.{pushed_normal}
+use Rattle.moc_blocks.proofs.Merging.{normal_append, ends_next, EndsBelow-append, EndsBelow-more}
+use Rattle.moc_blocks.proofs.Building.{pushed_normal}
 use Rattle.moc_operations.proofs.Walking.{and_swap}
 use Rattle.moc_operations.proofs.InCommon.{pieces}
 use Rattle.moc_operations.proofs.Lacking.{gone, trim, past}

@@ -1,13 +1,13 @@
 -- Joining the ranges of two begun blocks.
 use Rattle.std.proofs.Common.{◌≡◌, ℕ, ◌-◌, ◌≤◌, Bool, true, false, ◌||◌, List, [], ◌∷◌, ◌++◌, refl, sym, ap, subst}
 use Rattle.std.proofs.Common.{◌∙◌, arith, append_assoc}
-use Rattle.moc_lists.specs.RangeList.{IsNormal}
-use Rattle.moc_lists.specs.Lemmas.Members.{in_range, in_ranges, or_assoc}
-use Rattle.moc_lists.specs.Private.Blocks.{next_of}
-use Rattle.moc_lists.specs.Private.Built.{Growing, ranges_of, CanJoin, BeginsBy}
+use Rattle.moc_blocks.specs.RangeList.{IsNormal}
+use Rattle.moc_blocks.specs.Lemmas.Members.{in_range, in_ranges, or_assoc}
+use Rattle.moc_blocks.specs.Private.Blocks.{next_of}
+use Rattle.moc_blocks.specs.Private.Built.{Growing, ranges_of, CanJoin, BeginsBy}
 use Rattle.moc_operations.specs.Private.Taking.{IsTurn, IsJoining, TakesBoth}
 use Rattle.moc_operations.proofs.Merging.{next_later, CanJoin-more, IsUniting}
-use Rattle.moc_lists.proofs.Building.{last_begins, pushed_can}
+use Rattle.moc_blocks.proofs.Building.{last_begins, pushed_can}
 
 or_second : (a b c : Bool) → (a || (b || c)) ≡ (b || (a || c))
 or_second true true c = refl

@@ -3,8 +3,8 @@ use Rattle.std.proofs.Common.{List, [], arith, true, inl, inr, not, sym, ℕ, �
 use Rattle.std.specs.FinSet as set
 use Rattle.std.specs.Cmp.{nat_cmp_total}
 use Rattle.std.proofs.lemmas.Bool.{ltb-true, or_cases, and_parts}
-use Rattle.moc_lists.specs.RangeList.{pixel_count, IsNormal, set_of}
-use Rattle.moc_lists.specs.Lemmas.Members.{same_members, in_range, in_ranges, contains-set_of}
+use Rattle.moc_blocks.specs.RangeList.{pixel_count, IsNormal, set_of}
+use Rattle.moc_blocks.specs.Lemmas.Members.{same_members, in_range, in_ranges, contains-set_of}
 
 pub union_view : (xs ys zs : List (ℕ × ℕ)) → ((q : ℕ) → in_ranges zs q ≡ (in_ranges xs q || in_ranges ys q)) → set_of zs ≡ set.union (set_of xs) (set_of ys)
 union_view xs ys zs each = same_members _ _ (λ q.

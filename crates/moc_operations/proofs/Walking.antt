@@ -7,15 +7,15 @@ use Rattle.std.specs.Ordering.{nat_cmp}
 use Rattle.std.specs.Cmp.{nat_cmp_total}
 use Rattle.std.proofs.lemmas.Bool.{cases_lt, false_from_ne_true, or_cases, or_left, or_right, false≢true, lt-ltb}
 use Rattle.std.proofs.lemmas.Bool.Decides.{nat_tests}
-use Rattle.moc_lists.specs.RangeList.{NumberSet, numbers, pixel_count, IsNormal, BeginsAfter, set_of}
-use Rattle.moc_lists.specs.Lemmas.Members.{contains-numbers, same_members, in_range, in_ranges, contains-set_of}
-use Rattle.moc_lists.specs.Lemmas.Sizes.{len_parts}
-use Rattle.moc_lists.specs.Lemmas.Ranges.{len_bounded, later_only, len-more}
+use Rattle.moc_blocks.specs.RangeList.{NumberSet, numbers, pixel_count, IsNormal, BeginsAfter, set_of}
+use Rattle.moc_blocks.specs.Lemmas.Members.{contains-numbers, same_members, in_range, in_ranges, contains-set_of}
+use Rattle.moc_blocks.specs.Lemmas.Sizes.{len_parts}
+use Rattle.moc_blocks.specs.Lemmas.Ranges.{len_bounded, later_only, len-more}
 use Rattle.moc_operations.specs.Private.Walks.{common_of, has_all, begun}
 use Rattle.moc_operations.specs.Lemmas.Members.{same_truth}
-use Rattle.moc_lists.specs.Private.Walks.{overlap_of, EndsBy, Advances}
-use Rattle.moc_lists.proofs.Blocking.{IsNormal-suffix}
-use Rattle.moc_lists.proofs.Passing.{ends_by_more, overlap_none}
+use Rattle.moc_blocks.specs.Private.Walks.{overlap_of, EndsBy, Advances}
+use Rattle.moc_blocks.proofs.Blocking.{IsNormal-suffix}
+use Rattle.moc_blocks.proofs.Passing.{ends_by_more, overlap_none}
 
 contains_both : (xs ys : List (ℕ × ℕ)) (q : ℕ) → set.contains (set.intersection (set_of xs) (set_of ys)) q ≡ (in_ranges xs q && in_ranges ys q)
 contains_both xs ys q = set.contains-intersection nat_cmp_total (set_of xs) (set_of ys) q ∙ (λ i. contains-set_of xs q i && contains-set_of ys q i)

@@ -1,9 +1,9 @@
 //! What is put behind what is built: whole nodes and blocks of a list, carried over, and parts of ranges.
 ghost use Rattle.std.specs.Bool.{OnTrue};
 ghost use Rattle.std.specs.Prelude.{◌≡◌, ◌+◌, ◌<◌, ◌≤◌, List, ℕ, length, max, IfOk, OnOk};
-ghost use Rattle.moc_lists.specs.RangeList.{pixel_count, IsNormal};
-ghost use Rattle.moc_lists.specs.Private.Blocks.{next_of};
-ghost use Rattle.moc_lists.specs.Private.Built.{ranges_of, CanCarry, Carries, EndsBelow};
+ghost use Rattle.moc_blocks.specs.RangeList.{pixel_count, IsNormal};
+ghost use Rattle.moc_blocks.specs.Private.Blocks.{next_of};
+ghost use Rattle.moc_blocks.specs.Private.Built.{ranges_of, CanCarry, Carries, EndsBelow};
 ghost use Rattle.moc_operations.specs.Private.Taking.{AddsPart, TakesCommon};
 ghost use Rattle.moc_operations.specs.Private.Meeting.{LeavesOut};
 ghost use Rattle.moc_operations.specs.Private.Walks.{begun};

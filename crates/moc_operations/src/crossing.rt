@@ -1,7 +1,7 @@
 //! What just one of two blocks has: their bounds in rising order, where equal ones drop out. No branch is on where a
 //! range lies: that is hard to foretell.
 ghost use Rattle.std.specs.Prelude.{◌≡◌, ◌+◌, ◌*◌, ◌<◌, ◌≤◌, ◌++◌, ◌⊎◌, List, ℕ, take, drop, get_or, length, IfOk};
-ghost use Rattle.moc_lists.specs.Private.Built.{ranges_of};
+ghost use Rattle.moc_blocks.specs.Private.Built.{ranges_of};
 ghost use Rattle.moc_operations.specs.Private.Crossing.{bounds_of, open_of, AreBounds, Rises};
 
 use moc_lists::{LONGEST, ListBuilder};

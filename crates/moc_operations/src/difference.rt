@@ -2,9 +2,9 @@
 ghost use Rattle.std.specs.FinSet as set;
 ghost use Rattle.std.specs.Bool.{OnTrue, OnFalse};
 ghost use Rattle.std.specs.Prelude.{◌≡◌, ◌+◌, ◌<◌, ◌≤◌, ◌||◌, ◌&&◌, ◌⊎◌, max, [], length, ℕ, IfOk, OnOk};
-ghost use Rattle.moc_lists.specs.RangeList.{IsNormal, set_of};
-ghost use Rattle.moc_lists.specs.Lemmas.Members.{in_ranges};
-ghost use Rattle.moc_lists.specs.Private.Built.{ranges_of};
+ghost use Rattle.moc_blocks.specs.RangeList.{IsNormal, set_of};
+ghost use Rattle.moc_blocks.specs.Lemmas.Members.{in_ranges};
+ghost use Rattle.moc_blocks.specs.Private.Built.{ranges_of};
 ghost use Rattle.moc_operations.specs.Private.Meeting.{gaps_of, CanMeet, LeavesOut, MeetsOn};
 
 use crate::carrying::{leave_out, next_carrying, push_part, start_of, take_whole};

@@ -1,9 +1,9 @@
 //! Operations on two sets of few ranges, which are in no blocks: one loop over two slices.
 ghost use Rattle.std.specs.FinSet as set;
 ghost use Rattle.std.specs.Prelude.{◌≡◌, ◌<◌, ◌≤◌, ◌||◌, ◌++◌, ◌∷◌, ℕ, min, IfOk, OnOk};
-ghost use Rattle.moc_lists.specs.RangeList.{pixel_count, IsNormal, set_of};
-ghost use Rattle.moc_lists.specs.Lemmas.Members.{in_range, in_ranges};
-ghost use Rattle.moc_lists.specs.Private.Built.{EndsBelow};
+ghost use Rattle.moc_blocks.specs.RangeList.{pixel_count, IsNormal, set_of};
+ghost use Rattle.moc_blocks.specs.Lemmas.Members.{in_range, in_ranges};
+ghost use Rattle.moc_blocks.specs.Private.Built.{EndsBelow};
 ghost use Rattle.moc_operations.specs.Private.Few.{IsSettled};
 
 use moc_lists::{RangeList, list_of};

@@ -2,10 +2,10 @@
 ghost use Rattle.std.specs.FinSet as set;
 ghost use Rattle.std.specs.Bool.{OnTrue, OnFalse};
 ghost use Rattle.std.specs.Prelude.{◌≡◌, ◌+◌, ◌<◌, ◌≤◌, ◌⊎◌, List, ℕ, [], length, min, max, IfOk, OnOk};
-ghost use Rattle.moc_lists.specs.RangeList.{pixel_count, IsNormal, set_of};
-ghost use Rattle.moc_lists.specs.Private.Blocks.{next_of};
+ghost use Rattle.moc_blocks.specs.RangeList.{pixel_count, IsNormal, set_of};
+ghost use Rattle.moc_blocks.specs.Private.Blocks.{next_of};
 ghost use Rattle.moc_operations.specs.Private.Walks.{begun};
-ghost use Rattle.moc_lists.specs.Private.Built.{ranges_of, EndsBelow};
+ghost use Rattle.moc_blocks.specs.Private.Built.{ranges_of, EndsBelow};
 ghost use Rattle.moc_operations.specs.Private.Taking.{AddsPart, TakesCommon};
 ghost use Rattle.moc_operations.specs.Private.Meeting.{CanMeet, MeetsOn};
 

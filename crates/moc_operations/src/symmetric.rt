@@ -2,10 +2,10 @@
 ghost use Rattle.std.specs.Bool.{OnTrue, OnFalse};
 ghost use Rattle.std.specs.Prelude.{◌≡◌, ◌+◌, ◌<◌, ◌≤◌, ◌++◌, ◌∷◌, ◌⊎◌, [], List, ℕ, length, min, take, drop};
 ghost use Rattle.std.specs.Prelude.{IfOk, OnOk};
-ghost use Rattle.moc_lists.specs.RangeList.{pixel_count, IsNormal, set_of};
+ghost use Rattle.moc_blocks.specs.RangeList.{pixel_count, IsNormal, set_of};
 ghost use Rattle.moc_operations.specs.Operations.{symmetric};
-ghost use Rattle.moc_lists.specs.Lemmas.Members.{in_ranges};
-ghost use Rattle.moc_lists.specs.Private.Built.{ranges_of, EndsBelow};
+ghost use Rattle.moc_blocks.specs.Lemmas.Members.{in_ranges};
+ghost use Rattle.moc_blocks.specs.Private.Built.{ranges_of, EndsBelow};
 ghost use Rattle.moc_operations.specs.Private.Walks.{begun};
 ghost use Rattle.moc_operations.specs.Private.Differing.{differs, IsDiffering, IsParted};
 ghost use Rattle.moc_operations.specs.Private.Crossing.{restored_of, CanCross, CrossesOn, IsCrossed};

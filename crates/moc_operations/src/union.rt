@@ -1,9 +1,9 @@
 //! Union of lists in blocks, which carries over the blocks that the other list does not meet.
 ghost use Rattle.std.specs.FinSet as set;
 ghost use Rattle.std.specs.Prelude.{◌≡◌, ◌+◌, ◌<◌, ◌≤◌, ◌||◌, ◌++◌, ◌∷◌, [], List, ℕ, IfOk, IfSome, OnOk};
-ghost use Rattle.moc_lists.specs.RangeList.{IsNormal, set_of};
-ghost use Rattle.moc_lists.specs.Private.Blocks.{next_of};
-ghost use Rattle.moc_lists.specs.Private.Built.{ranges_of, CanJoin};
+ghost use Rattle.moc_blocks.specs.RangeList.{IsNormal, set_of};
+ghost use Rattle.moc_blocks.specs.Private.Blocks.{next_of};
+ghost use Rattle.moc_blocks.specs.Private.Built.{ranges_of, CanJoin};
 ghost use Rattle.moc_operations.specs.Private.Taking.{CanTake, TakesOver, IsTurn, IsJoining, TakesBoth};
 
 use crate::few::unite_few;

@@ -1,6 +1,6 @@
 //! Walks over the ranges of two sets, which take no memory.
 ghost use Rattle.std.specs.Prelude.{◌≡◌, ◌-◌, ◌<◌, ◌↔◌, IsTrue, nat_lt, min, max};
-ghost use Rattle.moc_lists.specs.RangeList.{IsNormal};
+ghost use Rattle.moc_blocks.specs.RangeList.{IsNormal};
 ghost use Rattle.moc_operations.specs.Private.Walks.{common_of, has_all};
 
 use crate::reach::NEAR;

@@ -7,14 +7,14 @@ use Rattle.std.specs.Cmp.{nat_cmp_total}
 use Rattle.std.specs.Ordering.{nat_cmp}
 use Rattle.std.proofs.lemmas.Bool.{cases_Bool, false≢true}
 use Rattle.std.proofs.lemmas.Bool.Decides.{nat_tests}
-use Rattle.moc_lists.specs.RangeList.{IsNormal, set_of, NumberSet, numbers}
-use Rattle.moc_lists.specs.Lemmas.Members.{in_range, in_ranges, contains-set_of, contains-numbers, same_members}
-use Rattle.moc_lists.specs.Lemmas.Sizes.{len_parts}
-use Rattle.moc_lists.specs.Private.Blocks.{width_of}
-use Rattle.moc_lists.specs.Private.Added.{HasGrown}
+use Rattle.moc_blocks.specs.RangeList.{IsNormal, set_of, NumberSet, numbers}
+use Rattle.moc_blocks.specs.Lemmas.Members.{in_range, in_ranges, contains-set_of, contains-numbers, same_members}
+use Rattle.moc_blocks.specs.Lemmas.Sizes.{len_parts}
+use Rattle.moc_blocks.specs.Private.Blocks.{width_of}
+use Rattle.moc_blocks.specs.Private.Added.{HasGrown}
 use Rattle.moc_ranges.proofs.Views.{range_view}
 use Rattle.moc_operations.proofs.Walking.{and_swap}
-use Rattle.moc_lists.proofs.Adding.{grown_width}
+use Rattle.moc_blocks.proofs.Adding.{grown_width}
 
 -- ---- sets
 

@@ -3,12 +3,12 @@ use Rattle.std.proofs.Common.{◌≡◌, ℕ, ◌+◌, ◌<◌, ◌≤◌, ◌||
 use Rattle.std.proofs.Common.{take, max, sym, ap, subst, ◌∙◌, arith}
 use Rattle.std.proofs.lemmas.List.{take_more, take_all, take_more_set, length-set}
 use Rattle.std.proofs.Math.ListN.{set}
-use Rattle.moc_lists.specs.RangeList.{pixel_count, IsNormal}
+use Rattle.moc_blocks.specs.RangeList.{pixel_count, IsNormal}
 use Rattle.moc_ranges.specs.Private.Sorted.{IsSortedFrom}
-use Rattle.moc_lists.specs.Lemmas.Members.{in_range, in_ranges, in_ranges-append, or_false, or_assoc}
-use Rattle.moc_lists.specs.Private.Blocks.{last_of}
-use Rattle.moc_lists.proofs.Blocking.{IsNormal-suffix}
-use Rattle.moc_lists.proofs.Building.{longer_normal, last_of-last, longer_range, last_filled}
+use Rattle.moc_blocks.specs.Lemmas.Members.{in_range, in_ranges, in_ranges-append, or_false, or_assoc}
+use Rattle.moc_blocks.specs.Private.Blocks.{last_of}
+use Rattle.moc_blocks.proofs.Blocking.{IsNormal-suffix}
+use Rattle.moc_blocks.proofs.Building.{longer_normal, last_of-last, longer_range, last_filled}
 use Rattle.moc_ranges.proofs.Sorting.{IsSortedFrom-less}
 
 -- the last range of some, made longer in its place

@@ -13,7 +13,7 @@ use Rattle.std.proofs.lemmas.Nat.Bits.{bit_at-trailing_zeros}
 use Rattle.std.proofs.Math.Nat.{mul-le-mul_right, le_of_mul-le-mul_right, pow-le-pow_right, pow-succ'}
 use Rattle.moc_sphere.specs.CellNumber.{cell_number, cell_count, cell_size}
 use Rattle.moc_sphere.specs.Lemmas.{cell_size-positive}
-use Rattle.moc_lists.specs.RangeList.{set_of, IsNormal, NumberSet}
+use Rattle.moc_blocks.specs.RangeList.{set_of, IsNormal, NumberSet}
 use Rattle.moc_ranges.specs.Cells.{is_cell_of, cells_below, cells_of}
 use Rattle.moc_ranges.specs.Lemmas.Cells.{four_parts}
 use Rattle.moc_ranges.specs.Private.CellRuns.{HasOrders, cells_at}

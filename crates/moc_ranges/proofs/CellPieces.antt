@@ -10,7 +10,7 @@ use Rattle.std.proofs.lemmas.List.Elements.{filter-append}
 use Rattle.std.proofs.lemmas.Nat.{div-add-mod', mod_below, div_below}
 use Rattle.moc_sphere.specs.CellNumber.{CellNumber, cell_number, cell_count, cell_size, IsCell}
 use Rattle.moc_sphere.specs.Lemmas.{cell_size-positive}
-use Rattle.moc_lists.specs.RangeList.{NumberSet, pixel_count, set_of, IsNormal, BeginsAfter}
+use Rattle.moc_blocks.specs.RangeList.{NumberSet, pixel_count, set_of, IsNormal, BeginsAfter}
 use Rattle.moc_ranges.specs.Cells.{AreOfOrders, cells_in, cells_of, cells_of_range, cells_below, is_cell_of}
 use Rattle.moc_ranges.specs.Lemmas.Cells.{cells_are, four_parts}
 use Rattle.moc_ranges.specs.Private.CellRuns.{ahead_of, around_parents, AreWhole, HasOrders, cells_at, filled}

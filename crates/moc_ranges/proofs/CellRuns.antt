@@ -15,8 +15,8 @@ use Rattle.std.proofs.lemmas.Nat.{div_below, le-div, div-add-mod', mod_below}
 use Rattle.std.proofs.Math.Nat.{mul-le-mul_right, div-mul-le_self, pow-succ', pow-le-pow_right}
 use Rattle.moc_sphere.specs.CellNumber.{cell_number, cell_count, cell_size}
 use Rattle.moc_sphere.specs.Lemmas.{cell_size-positive, cell_size-fills}
-use Rattle.moc_lists.specs.RangeList.{pixel_count, set_of, IsNormal, BeginsAfter}
-use Rattle.moc_lists.specs.Lemmas.Members.{contains-set_of, in_ranges}
+use Rattle.moc_blocks.specs.RangeList.{pixel_count, set_of, IsNormal, BeginsAfter}
+use Rattle.moc_blocks.specs.Lemmas.Members.{contains-set_of, in_ranges}
 use Rattle.moc_ranges.specs.Lemmas.Members.{contains-span, same_truth}
 use Rattle.moc_ranges.specs.Lemmas.Ranges.{LiesInOne, lies_in_one}
 use Rattle.moc_ranges.specs.Cells.{cells_of_range, span, is_cell_of}

@@ -10,10 +10,10 @@ use Rattle.std.proofs.lemmas.Nat.{div-add-mod', mod_below, mod-pow-add, or_mod, 
 use Rattle.std.proofs.lemmas.Nat.Bits.{bit_at-trailing_zeros}
 use Rattle.moc_sphere.specs.CellNumber.{cell_size}
 use Rattle.moc_sphere.specs.Lemmas.{cell_size-positive}
-use Rattle.moc_lists.specs.RangeList.{NumberSet, set_of, IsNormal}
-use Rattle.moc_lists.specs.Lemmas.Members.{same_members, contains-set_of, in_range, in_ranges}
+use Rattle.moc_blocks.specs.RangeList.{NumberSet, set_of, IsNormal}
+use Rattle.moc_blocks.specs.Lemmas.Members.{same_members, contains-set_of, in_range, in_ranges}
 use Rattle.moc_ranges.specs.Cells.{degrade}
-use Rattle.moc_lists.specs.Lemmas.Ranges.{later_only}
+use Rattle.moc_blocks.specs.Lemmas.Ranges.{later_only}
 use Rattle.moc_ranges.specs.Lemmas.Ranges.{in_first, not_before, at_end}
 use Rattle.moc_ranges.specs.Private.Widen.{widen}
 use Rattle.moc_ranges.proofs.CellRuns.{two_pow}

@@ -6,8 +6,8 @@ use Rattle.std.specs.FinSet as set
 use Rattle.std.specs.Cmp.{nat_cmp_total}
 use Rattle.std.proofs.lemmas.Bool.Decides.{nat_tests}
 use Rattle.moc_sphere.specs.CellNumber.{CellNumber, cell_count, cell_size, cell_number, IsInSpan}
-use Rattle.moc_lists.specs.RangeList.{NumberSet, numbers, pixel_count, set_of}
-use Rattle.moc_lists.specs.Lemmas.Members.{contains-numbers, same_members, contains-set_of}
+use Rattle.moc_blocks.specs.RangeList.{NumberSet, numbers, pixel_count, set_of}
+use Rattle.moc_blocks.specs.Lemmas.Members.{contains-numbers, same_members, contains-set_of}
 use Rattle.moc_ranges.specs.Lemmas.Members.{contains-spans}
 use Rattle.moc_ranges.specs.Cells.{span, spans, pixels_of}
 use Rattle.std.specs.Option.{option_or}

@@ -10,16 +10,16 @@ use Rattle.std.specs.Prelude.{IsTrue}
 use Rattle.std.specs.FinSet as set
 use Rattle.std.specs.Ordering.{nat_cmp}
 use Rattle.std.specs.Cmp.{nat_cmp_total}
-use Rattle.moc_lists.specs.RangeList.{NumberSet, numbers, pixel_count, IsNormal, set_of}
-use Rattle.moc_lists.specs.Lemmas.Members.{contains-numbers, same_members, in_ranges, contains-set_of, in_ranges-append, and_false}
+use Rattle.moc_blocks.specs.RangeList.{NumberSet, numbers, pixel_count, IsNormal, set_of}
+use Rattle.moc_blocks.specs.Lemmas.Members.{contains-numbers, same_members, in_ranges, contains-set_of, in_ranges-append, and_false}
 use Rattle.moc_ranges.specs.Lemmas.Members.{meets-some, meets-none, contains-part_of, contains-pixels}
 use Rattle.moc_ranges.specs.Operations.{base_pixel_size, pixels, meets, part_of}
-use Rattle.moc_lists.specs.Private.Walks.{EndsBy, IsFirstPast}
-use Rattle.moc_lists.specs.Lemmas.Ranges.{later_only}
+use Rattle.moc_blocks.specs.Private.Walks.{EndsBy, IsFirstPast}
+use Rattle.moc_blocks.specs.Lemmas.Ranges.{later_only}
 use Rattle.moc_ranges.specs.Private.Walks.{IsNextRange, HasNoneFrom}
 use Rattle.moc_ranges.specs.Lemmas.Ranges.{at_end}
-use Rattle.moc_lists.proofs.Blocking.{IsNormal-suffix}
-use Rattle.moc_lists.proofs.Basics.{none_ended}
+use Rattle.moc_blocks.proofs.Blocking.{IsNormal-suffix}
+use Rattle.moc_blocks.proofs.Basics.{none_ended}
 use Rattle.moc_ranges.proofs.Views.{and_no, none_in_part, in_base}
 
 -- the ranges that a search has passed

@@ -5,9 +5,9 @@ use Rattle.std.proofs.lemmas.Bool.{cases_lt, eq-eqb, eqb-true, false_from_ne_tru
 use Rattle.std.proofs.lemmas.Bool.Decides.{nat_tests}
 use Rattle.std.specs.FinSet as set
 use Rattle.moc_sphere.specs.CellNumber.{cell_number, IsInSpan, cell_size}
-use Rattle.moc_lists.specs.Lemmas.Members.{same_members, contains-set_of, in_ranges}
+use Rattle.moc_blocks.specs.Lemmas.Members.{same_members, contains-set_of, in_ranges}
 use Rattle.moc_ranges.specs.Lemmas.Members.{contains-span}
-use Rattle.moc_lists.specs.RangeList.{pixel_count, set_of}
+use Rattle.moc_blocks.specs.RangeList.{pixel_count, set_of}
 use Rattle.moc_ranges.specs.Cells.{span}
 
 abbrev IsSpanned : ℕ → ℕ → ℕ → ℕ → Type 0

@@ -6,9 +6,9 @@ use Rattle.std.proofs.Math.Nat.{mul-le-mul_right, pow-le-pow_right, mod-eq_of_lt
 use Rattle.std.specs.FinSet as set
 use Rattle.moc_sphere.specs.CellNumber.{cell_size}
 use Rattle.moc_sphere.specs.Lemmas.{cell_size-positive, cell_size-fills}
-use Rattle.moc_lists.specs.RangeList.{NumberSet, pixel_count, set_of, IsNormal, BeginsAfter}
+use Rattle.moc_blocks.specs.RangeList.{NumberSet, pixel_count, set_of, IsNormal, BeginsAfter}
 use Rattle.moc_ranges.specs.Lemmas.Members.{meets-some, meets-none, contains-span, contains-degrade}
-use Rattle.moc_lists.specs.Lemmas.Members.{contains-set_of, in_range, in_ranges, and_false}
+use Rattle.moc_blocks.specs.Lemmas.Members.{contains-set_of, in_range, in_ranges, and_false}
 use Rattle.moc_ranges.specs.Cells.{span, degrade}
 use Rattle.moc_ranges.proofs.Sorting.{IsSortedFrom-less}
 use Rattle.std.proofs.lemmas.Bool.{cases_Bool, false≢true, false_from_ne_true, eqb-true, eq-eqb, or_cases, or_left}

@@ -4,7 +4,7 @@ use Rattle.std.specs.Prelude.{map, nat_eq, nat_le}
 use Rattle.std.specs.FinSet as set
 use Rattle.std.specs.List.{filter, flat_map, range_with_len, AllByRecursion}
 use Rattle.moc_sphere.specs.CellNumber.{CellNumber, cell_number, cell_count, cell_size, uniq_of}
-use Rattle.moc_lists.specs.RangeList.{NumberSet}
+use Rattle.moc_blocks.specs.RangeList.{NumberSet}
 use Rattle.moc_ranges.specs.Operations.{pixels, meets}
 
 -- the pixels of a cell

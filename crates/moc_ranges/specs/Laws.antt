@@ -2,7 +2,7 @@
 use Rattle.std.specs.Prelude.{◌≡◌, ℕ, List}
 use Rattle.std.specs.List.{AllByRecursion}
 use Rattle.moc_sphere.specs.CellNumber.{IsCell}
-use Rattle.moc_lists.specs.RangeList.{NumberSet, IsNormal, set_of}
+use Rattle.moc_blocks.specs.RangeList.{NumberSet, IsNormal, set_of}
 use Rattle.moc_ranges.specs.Operations.{pixels, complement, IsWithin}
 use Rattle.moc_ranges.specs.Cells.{cells_of, pixels_of, IsRisingUniq}
 

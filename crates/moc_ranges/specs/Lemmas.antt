@@ -16,8 +16,8 @@ use Rattle.std.proofs.lemmas.Bool.{cases_lt, leb-true, lt-ltb}
 use Rattle.std.proofs.lemmas.Nat.{div-add-mod', mod_below, mul-le}
 use Rattle.moc_sphere.specs.CellNumber.{CellNumber, IsCell, cell_count, cell_size}
 use Rattle.moc_sphere.specs.Lemmas.{cell_size-positive, cell_size-fills}
-use Rattle.moc_lists.specs.RangeList.{NumberSet, numbers, pixel_count, set_of}
-use Rattle.moc_lists.specs.Lemmas.Members.{contains-numbers, same_members, in_range, or_assoc, or_false}
+use Rattle.moc_blocks.specs.RangeList.{NumberSet, numbers, pixel_count, set_of}
+use Rattle.moc_blocks.specs.Lemmas.Members.{contains-numbers, same_members, in_range, or_assoc, or_false}
 use Rattle.moc_ranges.specs.Lemmas.Members.{contains-span, contains-spans, cell_range}
 use Rattle.moc_ranges.specs.Operations.{base_pixel_size, pixels, IsWithin}
 use Rattle.moc_ranges.specs.Cells.{span, spans, pixels_of, cells_of}

@@ -3,7 +3,7 @@ ghost use Rattle.std.specs.Prelude.{◌≡◌, ◌<◌, ◌≤◌, ◌*◌, ◌+
 ghost use Rattle.std.specs.FinSet as set;
 ghost use Rattle.moc_sphere.specs.CellNumber.{cell_count};
 ghost use Rattle.moc_ranges.specs.Cells.{span, spans, pixels_of};
-ghost use Rattle.moc_lists.specs.RangeList.{numbers, pixel_count};
+ghost use Rattle.moc_blocks.specs.RangeList.{numbers, pixel_count};
 
 use crate::coverage::Coverage;
 use crate::errors::Memory;

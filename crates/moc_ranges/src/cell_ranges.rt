@@ -25,7 +25,7 @@ pub struct CellRanges<'a> {
 
 impl<'a> Model for CellRanges<'a> {
     ghost use Rattle.std.specs.Prelude.{List, ℕ, ◌≡◌, ◌++◌, ◌≤◌, length};
-    ghost use Rattle.moc_lists.specs.RangeList.{IsNormal};
+    ghost use Rattle.moc_blocks.specs.RangeList.{IsNormal};
     ghost use Rattle.moc_ranges.specs.Private.CellRuns.{ahead_of, pieces_along};
 
     ghost Value = { List (ℕ × ℕ) };
@@ -36,7 +36,7 @@ impl<'a> Model for CellRanges<'a> {
 }
 
 ghost use Rattle.std.specs.Prelude.{◌≡◌, ◌++◌, ◌<◌, ◌≤◌, [], length, take};
-ghost use Rattle.moc_lists.specs.RangeList.{IsNormal, pixel_count};
+ghost use Rattle.moc_blocks.specs.RangeList.{IsNormal, pixel_count};
 ghost use Rattle.moc_ranges.specs.Private.CellRuns.{pieces_along, pieces_of, whole_in};
 
 /// The cells of an order that lie whole in a range: the index of the first, and the one after the

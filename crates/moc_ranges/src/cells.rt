@@ -4,7 +4,7 @@ ghost use Rattle.std.specs.List.{AllByRecursion};
 ghost use Rattle.moc_sphere.specs.CellNumber.{cell_count, IsCell};
 ghost use Rattle.moc_ranges.specs.Cells.{cells_in, cells_of_range, degrade};
 ghost use Rattle.moc_ranges.specs.Private.CellRuns.{HasOrders};
-ghost use Rattle.moc_lists.specs.RangeList.{IsNormal, set_of};
+ghost use Rattle.moc_blocks.specs.RangeList.{IsNormal, set_of};
 
 use crate::cell_ranges::CellRanges;
 use moc_lists::Ranges;

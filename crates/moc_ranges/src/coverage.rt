@@ -4,9 +4,9 @@ ghost use Rattle.std.specs.Prelude.{IfOk, IfErr, OnOk, None, unwrap_or};
 ghost use Rattle.moc_ranges.specs.Faults.{first_fault};
 ghost use Rattle.std.specs.Cmp.{partial_equiv_from_equiv};
 ghost use Rattle.std.specs.FinSet as set;
-ghost use Rattle.moc_lists.specs.RangeList.{IsNormal, set_of, pixel_count, numbers};
+ghost use Rattle.moc_blocks.specs.RangeList.{IsNormal, set_of, pixel_count, numbers};
 ghost use Rattle.moc_ranges.specs.Operations.{meets, IsWithin, pixels};
-ghost use Rattle.moc_lists.specs.Blocks.{joining, AreBlocks, IsSearchOf};
+ghost use Rattle.moc_blocks.specs.Blocks.{joining, AreBlocks, IsSearchOf};
 ghost use Rattle.moc_ranges.specs.Private.Walks.{IsNextRange, HasNoneFrom};
 
 mod base_pixels;
@@ -37,7 +37,7 @@ impl Model for Coverage {
     ghost use Rattle.std.specs.Ordering.{nat_cmp};
     ghost use Rattle.std.specs.FinSet as set;
     ghost use Rattle.std.specs.Coded.{coded_ℕ};
-    ghost use Rattle.moc_lists.specs.RangeList.{set_of};
+    ghost use Rattle.moc_blocks.specs.RangeList.{set_of};
 
     ghost Value = { set.FinSet nat_cmp };
 

@@ -3,9 +3,9 @@ ghost use Rattle.std.specs.Prelude.{◌≡◌, ℕ, ◌*◌, ◌<◌, ◌≤◌,
 ghost use Rattle.std.specs.Prelude.{None, Some};
 ghost use Rattle.moc_ranges.specs.Faults.{first_fault};
 ghost use Rattle.moc_ranges.specs.Private.Sorted.{IsSortedFrom};
-ghost use Rattle.moc_lists.specs.Lemmas.Members.{in_ranges};
-ghost use Rattle.moc_lists.specs.RangeList.{IsNormal, set_of, numbers, pixel_count};
-ghost use Rattle.moc_lists.specs.Private.Blocks.{last_of};
+ghost use Rattle.moc_blocks.specs.Lemmas.Members.{in_ranges};
+ghost use Rattle.moc_blocks.specs.RangeList.{IsNormal, set_of, numbers, pixel_count};
+ghost use Rattle.moc_blocks.specs.Private.Blocks.{last_of};
 ghost use Rattle.std.specs.FinSet as set;
 ghost use Rattle.moc_ranges.specs.Private.Widen.{IsCellSize, widen};
 

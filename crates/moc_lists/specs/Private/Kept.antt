@@ -1,8 +1,8 @@
 -- What a list keeps while it grows: nodes, blocks that are not yet a node, and ranges that are not yet a block.
 use Rattle.std.specs.Prelude.{ℕ, List, ◌++◌}
 use Rattle.moc_lists.specs.declared.kept.Kept.{Kept}
-use Rattle.moc_lists.specs.Blocks.{joining}
-use Rattle.moc_lists.specs.Private.Built.{Growing, grown, kept_of, IsBuilt, AreGrouped}
+use Rattle.moc_blocks.specs.Blocks.{joining}
+use Rattle.moc_blocks.specs.Private.Built.{Growing, grown, kept_of, IsBuilt, AreGrouped}
 
 -- all its ranges
 abbrev pub all_of : Kept → List (ℕ × ℕ)

@@ -3,7 +3,7 @@ use Rattle.std.specs.Prelude.{◌≡◌, ℕ, Bool, true, not, ◌&&◌, ◌||�
 use Rattle.std.specs.FinSet as set
 use Rattle.std.specs.Cmp.{nat_cmp_total}
 use Rattle.std.proofs.Common.{◌∙◌, false, refl, sym}
-use Rattle.moc_lists.specs.RangeList.{NumberSet}
+use Rattle.moc_blocks.specs.RangeList.{NumberSet}
 use Rattle.moc_operations.specs.Operations.{symmetric}
 
 -- the members of a symmetric difference

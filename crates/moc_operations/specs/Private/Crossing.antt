@@ -1,8 +1,8 @@
 -- The bounds of ranges, of which an odd number lies at a number in a range or before it.
 use Rattle.std.specs.Prelude.{◌≡◌, ℕ, ◌+◌, ◌≤◌, ⊤, Bool, false, List, [], ◌∷◌, ◌++◌, length, drop, Option, None, Some}
 use Rattle.std.specs.Prelude.{nat_le, ◌==◌, if◌then◌else◌}
-use Rattle.moc_lists.specs.RangeList.{pixel_count, IsNormal}
-use Rattle.moc_lists.specs.Lemmas.Members.{in_ranges}
+use Rattle.moc_blocks.specs.RangeList.{pixel_count, IsNormal}
+use Rattle.moc_blocks.specs.Lemmas.Members.{in_ranges}
 use Rattle.moc_operations.specs.declared.symmetric.Opened.{Opened}
 use Rattle.moc_operations.specs.Private.Differing.{differs}
 

@@ -1,8 +1,8 @@
 -- Two lists of few ranges, while what an operation keeps of them grows.
 use Rattle.std.specs.Prelude.{◌≡◌, ℕ, ◌<◌, ◌||◌, min, List}
-use Rattle.moc_lists.specs.RangeList.{IsNormal}
-use Rattle.moc_lists.specs.Lemmas.Members.{in_ranges, in_range}
-use Rattle.moc_lists.specs.Private.Built.{EndsBelow}
+use Rattle.moc_blocks.specs.RangeList.{IsNormal}
+use Rattle.moc_blocks.specs.Lemmas.Members.{in_ranges, in_range}
+use Rattle.moc_blocks.specs.Private.Built.{EndsBelow}
 
 -- a range x that ends no later than y was kept, or taken into y, which is z now
 pub record IsSettled (x y z : ℕ × ℕ) (kept kept' : List (ℕ × ℕ)) : Type 0 where

@@ -1,9 +1,9 @@
 -- Two lists of ranges, while what they have in common is put behind others.
 use Rattle.std.specs.Prelude.{◌≡◌, ℕ, ◌≤◌, Bool, true, false, ◌||◌, ◌&&◌, max, List, [], ◌∷◌, ◌++◌, ⊤}
-use Rattle.moc_lists.specs.RangeList.{IsNormal, BeginsAfter}
-use Rattle.moc_lists.specs.Lemmas.Members.{in_ranges}
-use Rattle.moc_lists.specs.Private.Blocks.{next_of}
-use Rattle.moc_lists.specs.Private.Built.{EndsBelow}
+use Rattle.moc_blocks.specs.RangeList.{IsNormal, BeginsAfter}
+use Rattle.moc_blocks.specs.Lemmas.Members.{in_ranges}
+use Rattle.moc_blocks.specs.Private.Blocks.{next_of}
+use Rattle.moc_blocks.specs.Private.Built.{EndsBelow}
 
 -- each range of a list ends before the next begins, and may be empty
 abbrev pub IsRising : List (ℕ × ℕ) → Type 0

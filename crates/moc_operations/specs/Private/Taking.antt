@@ -1,10 +1,10 @@
 -- A list of ranges in blocks while it grows at its end.
 use Rattle.std.specs.Prelude.{◌≡◌, ℕ, ◌+◌, ◌<◌, ◌≤◌, ◌||◌, ◌&&◌, max, List, [], ◌∷◌, ◌++◌, length}
-use Rattle.moc_lists.specs.RangeList.{pixel_count, IsNormal}
-use Rattle.moc_lists.specs.Lemmas.Members.{in_ranges, in_range}
-use Rattle.moc_lists.specs.Private.Walks.{EndsBy}
-use Rattle.moc_lists.specs.Private.Blocks.{next_of}
-use Rattle.moc_lists.specs.Private.Built.{EndsBelow, Growing, ranges_of, CanJoin}
+use Rattle.moc_blocks.specs.RangeList.{pixel_count, IsNormal}
+use Rattle.moc_blocks.specs.Lemmas.Members.{in_ranges, in_range}
+use Rattle.moc_blocks.specs.Private.Walks.{EndsBy}
+use Rattle.moc_blocks.specs.Private.Blocks.{next_of}
+use Rattle.moc_blocks.specs.Private.Built.{EndsBelow, Growing, ranges_of, CanJoin}
 
 -- ranges were taken off a list and joined to one that grows
 pub record TakesOver (xs xs' : List (ℕ × ℕ)) (limit : ℕ) (old new : Growing) : Type 0 where

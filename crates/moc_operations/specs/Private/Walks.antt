@@ -1,7 +1,7 @@
 -- What walks over two lists of ranges find.
 use Rattle.std.specs.Prelude.{ℕ, Bool, List, [], ◌∷◌, Option, None, Some}
 use Rattle.std.specs.FinSet as set
-use Rattle.moc_lists.specs.RangeList.{set_of}
+use Rattle.moc_blocks.specs.RangeList.{set_of}
 
 -- how many numbers two lists of ranges have in common
 abbrev pub common_of : List (ℕ × ℕ) → List (ℕ × ℕ) → ℕ

@@ -14,8 +14,8 @@ use Rattle.std.proofs.lemmas.Nat.{div_below, div-mul-add, div-add-mod', mod_belo
 use Rattle.std.proofs.Math.Nat.{div-div-eq-div-mul, pow-succ'}
 use Rattle.moc_sphere.specs.CellNumber.{CellNumber, cell_number, cell_count, cell_size, IsCell, uniq_of}
 use Rattle.moc_sphere.specs.Lemmas.{cell_size-positive, cell_size-fills}
-use Rattle.moc_lists.specs.RangeList.{NumberSet, pixel_count, set_of}
-use Rattle.moc_lists.specs.Lemmas.Members.{same_members, contains-set_of, in_range, in_ranges, in_ranges-append}
+use Rattle.moc_blocks.specs.RangeList.{NumberSet, pixel_count, set_of}
+use Rattle.moc_blocks.specs.Lemmas.Members.{same_members, contains-set_of, in_range, in_ranges, in_ranges-append}
 use Rattle.moc_ranges.specs.Lemmas.Members.{contains-pixels, same_truth, contains-span, cell_range}
 use Rattle.moc_ranges.specs.Operations.{pixels, IsWithin}
 use Rattle.moc_ranges.specs.Cells.{span, is_cell_of, cells_below, cells_of, AllUniqFrom, IsRisingUniq}

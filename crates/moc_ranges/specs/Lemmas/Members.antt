@@ -7,10 +7,10 @@ use Rattle.std.proofs.Common.{arith, ◌∙◌, false, refl, sym, ap, inl, inr}
 use Rattle.std.proofs.lemmas.Bool.Decides.{nat_tests}
 use Rattle.std.proofs.lemmas.Bool.{and_parts, and_from, cases_lt, lt-ltb}
 use Rattle.moc_sphere.specs.CellNumber.{CellNumber, cell_size}
-use Rattle.moc_lists.specs.RangeList.{NumberSet, pixel_count}
+use Rattle.moc_blocks.specs.RangeList.{NumberSet, pixel_count}
 use Rattle.moc_ranges.specs.Operations.{base_pixel_size, pixels, complement, part_of, meets, is_same}
 use Rattle.moc_ranges.specs.Cells.{span, spans, degrade}
-use Rattle.moc_lists.specs.Lemmas.Members.{same_members, contains-kept, contains-numbers}
+use Rattle.moc_blocks.specs.Lemmas.Members.{same_members, contains-kept, contains-numbers}
 pub use Rattle.moc_operations.specs.Lemmas.Members.{contains-symmetric, same_truth}
 
 -- the members of the set of all pixels

@@ -3,7 +3,7 @@ use Rattle.std.specs.Prelude.{◌≡◌}
 use Rattle.std.proofs.Common.{refl}
 use Rattle.moc_sphere.specs.CellNumber.{cell_count, cell_size}
 use Rattle.moc_ranges.specs.Operations.{base_pixel_size}
-use Rattle.moc_lists.specs.RangeList.{pixel_count}
+use Rattle.moc_blocks.specs.RangeList.{pixel_count}
 
 -- the pixels are the cells of order 29
 pub pixel_count-cells : pixel_count ≡ cell_count 29

@@ -4,9 +4,9 @@ use Rattle.std.specs.FinSet as set
 use Rattle.std.proofs.lemmas.Bool.Decides.{nat_tests}
 use Rattle.std.proofs.lemmas.Bool.{cases_lt}
 use Rattle.std.proofs.Common.{◌∙◌, ◌-◌, true, false, refl, sym, ap, arith, inl, inr, ◌⊎◌}
-use Rattle.moc_lists.specs.Lemmas.Members.{contains-set_of, in_ranges}
-use Rattle.moc_lists.specs.RangeList.{set_of, IsNormal}
-use Rattle.moc_lists.specs.Lemmas.Ranges.{later_only}
+use Rattle.moc_blocks.specs.Lemmas.Members.{contains-set_of, in_ranges}
+use Rattle.moc_blocks.specs.RangeList.{set_of, IsNormal}
+use Rattle.moc_blocks.specs.Lemmas.Ranges.{later_only}
 
 pub in_first : (range : ℕ × ℕ) (ranges : List (ℕ × ℕ)) (q : ℕ) → range.0 ≤ q → q < range.1
     → in_ranges (range ∷ ranges) q ≡ true

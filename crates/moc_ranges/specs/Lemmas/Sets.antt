@@ -2,9 +2,9 @@
 use Rattle.std.specs.Prelude.{◌≡◌, Bool, true, false, not, ◌&&◌, nat_lt}
 use Rattle.std.specs.FinSet as set
 use Rattle.std.proofs.Common.{◌∙◌, ap, sym, refl}
-use Rattle.moc_lists.specs.Lemmas.Members.{same_members}
+use Rattle.moc_blocks.specs.Lemmas.Members.{same_members}
 use Rattle.moc_ranges.specs.Lemmas.Members.{contains-complement, contains-pixels}
-use Rattle.moc_lists.specs.RangeList.{NumberSet, pixel_count}
+use Rattle.moc_blocks.specs.RangeList.{NumberSet, pixel_count}
 use Rattle.moc_ranges.specs.Operations.{pixels, complement, IsWithin}
 
 double_not : (x a : Bool) → (a ≡ true → x ≡ true) → (x && not (x && not a)) ≡ a

@@ -2,7 +2,7 @@
 use Rattle.std.specs.Prelude.{◌≡◌, ℕ, List, None}
 use Rattle.std.specs.FinSet as set
 use Rattle.moc_ranges.specs.Faults.{first_fault}
-use Rattle.moc_lists.specs.RangeList.{NumberSet, IsNormal, set_of}
+use Rattle.moc_blocks.specs.RangeList.{NumberSet, IsNormal, set_of}
 
 -- ranges that rose as they came, and ranges that wait
 pub record IsGathered (rising waiting : List (ℕ × ℕ)) : Type 0 where

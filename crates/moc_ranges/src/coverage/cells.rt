@@ -2,7 +2,7 @@
 ghost use Rattle.std.specs.Prelude.{◌≡◌, ℕ, ◌<◌, ◌≤◌, ◌==◌, IfOk};
 ghost use Rattle.std.specs.List.{filter};
 ghost use Rattle.std.specs.FinSet as set;
-ghost use Rattle.moc_lists.specs.RangeList.{IsNormal};
+ghost use Rattle.moc_blocks.specs.RangeList.{IsNormal};
 ghost use Rattle.moc_ranges.specs.Operations.{meets, IsWithin, pixels};
 ghost use Rattle.moc_ranges.specs.Cells.{AreOfOrders, cells_in, cells_of, degrade, span};
 

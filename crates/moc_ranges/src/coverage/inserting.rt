@@ -1,7 +1,7 @@
 //! Sets of pixels that take in others in place.
 ghost use Rattle.std.specs.Prelude.{◌≡◌, ◌≤◌, IfOk, OnErr, OnOk};
 ghost use Rattle.std.specs.FinSet as set;
-ghost use Rattle.moc_lists.specs.RangeList.{numbers, pixel_count};
+ghost use Rattle.moc_blocks.specs.RangeList.{numbers, pixel_count};
 
 use crate::coverage::Coverage;
 use crate::errors::Memory;

@@ -1,6 +1,6 @@
 use Rattle.std.proofs.Common.{arith}
-use Rattle.moc_lists.proofs.Building.{open_longer, open_longer-same, open_filled, open_within, open_after, open_next}
-use Rattle.moc_lists.proofs.Building.{open_next-same}
+use Rattle.moc_blocks.proofs.Building.{open_longer, open_longer-same, open_filled, open_within, open_after, open_next}
+use Rattle.moc_blocks.proofs.Building.{open_next-same}
 use Rattle.moc_lists.proofs.builder.lengthen.Goals as goal
 
 pub returns-then-range-last-clause-opened : goal.returns-then-range-last-clause-opened

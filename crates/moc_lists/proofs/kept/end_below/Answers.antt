@@ -1,5 +1,5 @@
 use Rattle.std.proofs.Common.{◌-◌, length, arith}
-use Rattle.moc_lists.proofs.Building.{test_below, test_reached}
+use Rattle.moc_blocks.proofs.Building.{test_below, test_reached}
 use Rattle.moc_lists.proofs.kept.end_below.Goals as goal
 
 pub returns-in-len1-up-clause-below : goal.returns-in-len1-up-clause-below

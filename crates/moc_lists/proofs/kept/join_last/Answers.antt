@@ -1,9 +1,9 @@
 use Rattle.std.proofs.Common.{◌≡◌, ◌++◌, ◌∷◌, [], List, ℕ, arith, ap, subst, ◌∙◌, append_assoc}
-use Rattle.moc_lists.specs.Blocks.{joining}
-use Rattle.moc_lists.specs.Private.Built.{last_length}
-use Rattle.moc_lists.specs.RangeList.{IsNormal}
-use Rattle.moc_lists.proofs.Blocking.{IsNormal-suffix, joining-last}
-use Rattle.moc_lists.proofs.Filling.{last_length-append}
+use Rattle.moc_blocks.specs.Blocks.{joining}
+use Rattle.moc_blocks.specs.Private.Built.{last_length}
+use Rattle.moc_blocks.specs.RangeList.{IsNormal}
+use Rattle.moc_blocks.proofs.Blocking.{IsNormal-suffix, joining-last}
+use Rattle.moc_blocks.proofs.Filling.{last_length-append}
 use Rattle.moc_lists.proofs.kept.join_last.Goals as goal
 
 pub followed_by-requires-clause-normal : goal.followed_by-requires-clause-normal

@@ -1,5 +1,5 @@
 use Rattle.std.proofs.Common.{◌+◌, arith}
-use Rattle.moc_lists.proofs.Places.{moved_part, part_fits}
+use Rattle.moc_blocks.proofs.Places.{moved_part, part_fits}
 use Rattle.moc_lists.proofs.nodes.move_behind.Goals as goal
 
 pub slice_bounds-move_each-start : goal.slice_bounds-move_each-start

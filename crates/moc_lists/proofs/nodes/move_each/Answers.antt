@@ -1,5 +1,5 @@
 use Rattle.std.proofs.Common.{◌<◌, length, arith}
-use Rattle.moc_lists.proofs.Places.{moved_none, moved_here, moved_step, moved_all}
+use Rattle.moc_blocks.proofs.Places.{moved_none, moved_here, moved_step, moved_all}
 use Rattle.moc_lists.proofs.nodes.move_each.Goals as goal
 
 pub returns-then-less-more : goal.returns-then-less-more

@@ -1,5 +1,5 @@
 use Rattle.std.proofs.Common.{◌≡◌, ◌++◌, take, drop}
-use Rattle.moc_lists.specs.Private.Blocks.{moved}
+use Rattle.moc_blocks.specs.Private.Blocks.{moved}
 use Rattle.moc_lists.proofs.nodes.move_each.Given as goal
 
 abbrev pub invariant-loop-start : goal.invariant-loop-start

@@ -1,4 +1,4 @@
-use Rattle.moc_lists.proofs.Adding.{set_split}
+use Rattle.moc_blocks.proofs.Adding.{set_split}
 use Rattle.moc_lists.proofs.nodes.put_one.Goals as goal
 
 pub returns : goal.returns

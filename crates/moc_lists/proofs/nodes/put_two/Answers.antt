@@ -1,4 +1,4 @@
-use Rattle.moc_lists.proofs.Adding.{set_inserted}
+use Rattle.moc_blocks.proofs.Adding.{set_inserted}
 use Rattle.moc_lists.proofs.nodes.put_two.Goals as goal
 
 pub returns-clause-new : goal.returns-clause-new

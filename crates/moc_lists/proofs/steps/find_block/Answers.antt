@@ -1,9 +1,9 @@
 use Rattle.std.proofs.Common.{◌<◌, ◌+◌, ◌-◌, ◌/◌, arith, ap, sym, ◌∙◌, length, subst, List, ℕ}
-use Rattle.moc_lists.specs.RangeList.{IsNormal}
-use Rattle.moc_lists.specs.Lemmas.Members.{in_ranges}
-use Rattle.moc_lists.specs.Blocks.{joining}
-use Rattle.moc_lists.proofs.Stepping.{narrow_left, narrow_right, block_left, block_right, block_here, block_ok}
-use Rattle.moc_lists.proofs.Stepping.{found_none_blocks, spent_within, spent_after, few_blocks}
+use Rattle.moc_blocks.specs.RangeList.{IsNormal}
+use Rattle.moc_blocks.specs.Lemmas.Members.{in_ranges}
+use Rattle.moc_blocks.specs.Blocks.{joining}
+use Rattle.moc_blocks.proofs.Stepping.{narrow_left, narrow_right, block_left, block_right, block_here, block_ok}
+use Rattle.moc_blocks.proofs.Stepping.{found_none_blocks, spent_within, spent_after, few_blocks}
 use Rattle.moc_lists.proofs.steps.find_block.Goals as goal
 
 pub step-requires : goal.step-requires

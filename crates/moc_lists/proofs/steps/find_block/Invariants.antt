@@ -1,6 +1,6 @@
 use Rattle.std.proofs.Common.{length, take, drop, ◌-◌}
-use Rattle.moc_lists.specs.Blocks.{joining}
-use Rattle.moc_lists.proofs.Stepping.{IsNarrowed}
+use Rattle.moc_blocks.specs.Blocks.{joining}
+use Rattle.moc_blocks.proofs.Stepping.{IsNarrowed}
 use Rattle.moc_lists.proofs.steps.find_block.Given as goal
 
 abbrev pub invariant-loop-low : goal.invariant-loop-low

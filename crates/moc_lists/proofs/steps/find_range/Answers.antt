@@ -1,6 +1,6 @@
 use Rattle.std.proofs.Common.{◌+◌, ◌-◌, ◌/◌, arith, sym}
-use Rattle.moc_lists.proofs.Stepping.{narrow_left, narrow_right, range_left, range_right, range_here, found_none}
-use Rattle.moc_lists.proofs.Stepping.{spent_within}
+use Rattle.moc_blocks.proofs.Stepping.{narrow_left, narrow_right, range_left, range_right, range_here, found_none}
+use Rattle.moc_blocks.proofs.Stepping.{spent_within}
 use Rattle.moc_lists.proofs.steps.find_range.Goals as goal
 
 pub step-requires : goal.step-requires

@@ -1,5 +1,5 @@
 use Rattle.std.proofs.Common.{length, take, drop, ◌-◌}
-use Rattle.moc_lists.proofs.Stepping.{IsNarrowed}
+use Rattle.moc_blocks.proofs.Stepping.{IsNarrowed}
 use Rattle.moc_lists.proofs.steps.find_range.Given as goal
 
 abbrev pub invariant-loop-low : goal.invariant-loop-low

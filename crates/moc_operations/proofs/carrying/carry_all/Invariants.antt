@@ -1,5 +1,5 @@
 use Rattle.std.proofs.Common.{length}
-use Rattle.moc_lists.specs.Private.Built.{ranges_of}
+use Rattle.moc_blocks.specs.Private.Built.{ranges_of}
 use Rattle.moc_operations.proofs.CarriedOver.{IsCarrying}
 use Rattle.moc_operations.proofs.carrying.carry_all.Given as goal
 

@@ -1,7 +1,7 @@
 use Rattle.std.proofs.Common.{arith, refl}
-use Rattle.moc_lists.proofs.Merging.{EndsBelow-more}
+use Rattle.moc_blocks.proofs.Merging.{EndsBelow-more}
 use Rattle.moc_operations.proofs.InCommon.{common_below, common_nothing}
-use Rattle.moc_lists.proofs.Basics.{common_same, from_two_ok}
+use Rattle.moc_blocks.proofs.Basics.{common_same, from_two_ok}
 use Rattle.moc_operations.proofs.carrying.push_part.Goals as goal
 
 pub returns-then-to-from : goal.returns-then-to-from

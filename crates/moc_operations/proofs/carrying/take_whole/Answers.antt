@@ -1,7 +1,7 @@
 use Rattle.std.proofs.Common.{◌≤◌, arith}
-use Rattle.moc_lists.specs.Private.Blocks.{next_of}
-use Rattle.moc_lists.proofs.Merging.{EndsBelow-more}
-use Rattle.moc_lists.proofs.Basics.{from_ok}
+use Rattle.moc_blocks.specs.Private.Blocks.{next_of}
+use Rattle.moc_blocks.proofs.Merging.{EndsBelow-more}
+use Rattle.moc_blocks.proofs.Basics.{from_ok}
 use Rattle.moc_operations.proofs.InCommon.{taken_passed, taken_carried}
 use Rattle.moc_operations.proofs.carrying.take_whole.Goals as goal
 

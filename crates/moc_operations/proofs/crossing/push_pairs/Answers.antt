@@ -1,5 +1,5 @@
 use Rattle.std.proofs.Common.{◌++◌, subst, sym, ap, ◌∙◌}
-use Rattle.moc_lists.specs.Private.Built.{ranges_of}
+use Rattle.moc_blocks.specs.Private.Built.{ranges_of}
 use Rattle.moc_operations.specs.Private.Crossing.{bounds_of, Rises}
 use Rattle.moc_operations.proofs.Bounds.{pairs_head, pairs_on, two_items}
 use Rattle.moc_operations.proofs.crossing.push_pairs.Goals as goal

@@ -1,6 +1,6 @@
 use Rattle.std.proofs.Common.{◌≡◌, ◌∷◌, ◌≤◌, min, [], List, ℕ, Some, subst, sym, refl, arith}
 use Rattle.moc_operations.specs.Private.Meeting.{CanMeet, MeetsOn, gaps_of}
-use Rattle.moc_lists.specs.Private.Built.{ranges_of}
+use Rattle.moc_blocks.specs.Private.Built.{ranges_of}
 use Rattle.moc_operations.proofs.Walking.{begun_is}
 use Rattle.moc_operations.proofs.MeetingOn.{meets_none, meets_more, meets_taken, meets_first}
 use Rattle.moc_operations.proofs.difference.finish_lacking.Goals as goal

@@ -1,5 +1,5 @@
 use Rattle.std.proofs.Common.{◌∙◌, subst, sym, arith}
-use Rattle.moc_lists.specs.RangeList.{IsNormal}
+use Rattle.moc_blocks.specs.RangeList.{IsNormal}
 use Rattle.moc_operations.specs.Private.Meeting.{gaps_before, gaps_of, end_of}
 use Rattle.moc_operations.proofs.MeetingOn.{met_begun, met_here, rest_is, rest_normal, rest_shorter}
 use Rattle.moc_operations.proofs.GapsOf.{length_gaps, gaps_split, gaps_left}

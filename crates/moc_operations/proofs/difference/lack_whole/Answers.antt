@@ -1,6 +1,6 @@
 use Rattle.std.proofs.Common.{arith}
-use Rattle.moc_lists.proofs.Merging.{EndsBelow-more}
-use Rattle.moc_lists.proofs.Basics.{from_ok}
+use Rattle.moc_blocks.proofs.Merging.{EndsBelow-more}
+use Rattle.moc_blocks.proofs.Basics.{from_ok}
 use Rattle.moc_operations.proofs.Shortening.{taken_shorter}
 use Rattle.moc_operations.proofs.MeetingOn.{left_normal, left_shorter, meets_more, meets_taken}
 use Rattle.moc_operations.proofs.GapsOf.{first_gap, gap_rest, lacks_left, next_gap, rising_low}

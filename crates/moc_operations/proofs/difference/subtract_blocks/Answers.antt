@@ -1,7 +1,7 @@
 use Rattle.std.proofs.Common.{◌≡◌, ◌⊎◌, [], Bool, subst, ap, arith}
 use Rattle.std.proofs.lemmas.Result.{IfOk-weaker}
 use Rattle.std.specs.Bool.{OnFalse}
-use Rattle.moc_lists.specs.Private.Built.{ranges_of}
+use Rattle.moc_blocks.specs.Private.Built.{ranges_of}
 use Rattle.moc_operations.proofs.GapsOf.{gaps_rising, can_end, lacked_all}
 use Rattle.moc_operations.proofs.MeetingOn.{meets_start, meets_more}
 use Rattle.moc_operations.proofs.Views.{first_only_view}

@@ -1,10 +1,10 @@
 use Rattle.std.proofs.lemmas.Result.{IfOk-weaker}
 use Rattle.std.proofs.Common.{◌∙◌, ◌∷◌, [], ◌<◌, List, ℕ, ap, arith, refl, subst, sym, Option, Some}
-use Rattle.moc_lists.specs.RangeList.{set_of}
+use Rattle.moc_blocks.specs.RangeList.{set_of}
 use Rattle.moc_operations.specs.Private.Walks.{begun}
-use Rattle.moc_lists.specs.Private.Blocks.{next_of}
-use Rattle.moc_lists.proofs.Merging.{ends_next}
-use Rattle.moc_lists.specs.Private.Built.{ranges_of}
+use Rattle.moc_blocks.specs.Private.Blocks.{next_of}
+use Rattle.moc_blocks.proofs.Merging.{ends_next}
+use Rattle.moc_blocks.specs.Private.Built.{ranges_of}
 use Rattle.moc_operations.proofs.Walking.{at_both}
 use Rattle.moc_operations.proofs.Views.{first_only_view}
 use Rattle.moc_operations.proofs.Lacking.{IsLacking, lacked, lacking_begin, lacking_carried, lacking_all, lacking_skipped}

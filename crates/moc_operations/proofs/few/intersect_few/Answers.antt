@@ -1,8 +1,8 @@
 use Rattle.std.proofs.Common.{◌∙◌, arith, refl, sym, get_or, ap}
 use Rattle.std.proofs.lemmas.Result.{IfOk-weaker}
-use Rattle.moc_lists.specs.RangeList.{set_of}
-use Rattle.moc_lists.proofs.Blocking.{none_there}
-use Rattle.moc_lists.proofs.Basics.{first_item}
+use Rattle.moc_blocks.specs.RangeList.{set_of}
+use Rattle.moc_blocks.proofs.Blocking.{none_there}
+use Rattle.moc_blocks.proofs.Basics.{first_item}
 use Rattle.moc_operations.proofs.Views.{common_view}
 use Rattle.moc_operations.proofs.Slices.{meeting_few_swap, meeting_few_at, meeting_few_kept, met_few_first, met_few_second}
 use Rattle.moc_operations.proofs.few.intersect_few.Goals as goal

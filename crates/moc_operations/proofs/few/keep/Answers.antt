@@ -1,9 +1,9 @@
 use Rattle.std.proofs.Common.{arith, refl, subst, sym}
-use Rattle.moc_lists.specs.RangeList.{IsNormal}
-use Rattle.moc_lists.proofs.Merging.{EndsBelow-more}
-use Rattle.moc_lists.proofs.Building.{pushed_normal}
+use Rattle.moc_blocks.specs.RangeList.{IsNormal}
+use Rattle.moc_blocks.proofs.Merging.{EndsBelow-more}
+use Rattle.moc_blocks.proofs.Building.{pushed_normal}
 use Rattle.moc_operations.proofs.InCommon.{common_below, common_nothing}
-use Rattle.moc_lists.proofs.Basics.{common_same}
+use Rattle.moc_blocks.proofs.Basics.{common_same}
 use Rattle.moc_operations.proofs.few.keep.Goals as goal
 
 pub returns-then-to-from-clause-below : goal.returns-then-to-from-clause-below

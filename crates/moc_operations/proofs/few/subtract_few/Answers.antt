@@ -1,8 +1,8 @@
 use Rattle.std.proofs.Common.{◌∙◌, arith, get_or, ap}
 use Rattle.std.proofs.lemmas.Result.{IfOk-weaker}
-use Rattle.moc_lists.specs.RangeList.{set_of}
-use Rattle.moc_lists.proofs.Blocking.{none_there}
-use Rattle.moc_lists.proofs.Basics.{first_item}
+use Rattle.moc_blocks.specs.RangeList.{set_of}
+use Rattle.moc_blocks.proofs.Blocking.{none_there}
+use Rattle.moc_blocks.proofs.Basics.{first_item}
 use Rattle.moc_operations.proofs.Views.{first_only_view}
 use Rattle.moc_operations.proofs.Slices.{lacking_few_at, lacking_few_cut, lacking_few_kept, lacked_few, lacked_few_rest}
 use Rattle.moc_operations.proofs.Slices.{lacked_few_normal, none_lacked, lacking_few_start}

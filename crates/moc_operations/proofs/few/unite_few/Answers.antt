@@ -1,9 +1,9 @@
 use Rattle.std.proofs.Common.{◌∙◌, arith, ap}
 use Rattle.std.proofs.lemmas.Result.{IfOk-weaker}
-use Rattle.moc_lists.specs.Lemmas.Members.{in_ranges}
-use Rattle.moc_lists.specs.RangeList.{set_of}
-use Rattle.moc_lists.proofs.Blocking.{none_there}
-use Rattle.moc_lists.proofs.Basics.{first_item}
+use Rattle.moc_blocks.specs.Lemmas.Members.{in_ranges}
+use Rattle.moc_blocks.specs.RangeList.{set_of}
+use Rattle.moc_blocks.proofs.Blocking.{none_there}
+use Rattle.moc_blocks.proofs.Basics.{first_item}
 use Rattle.moc_operations.proofs.Views.{union_view}
 use Rattle.moc_operations.proofs.Slices.{or_swap, uniting_few_swap, uniting_few_settled, uniting_few_at, united_few_normal}
 use Rattle.moc_operations.proofs.Slices.{united_few, none_joined, joined_none, uniting_few_start}

@@ -1,8 +1,8 @@
 use Rattle.std.proofs.Common.{◌≡◌, ◌⊎◌, List, ℕ, [], Bool, subst, sym, ap, ◌∙◌}
 use Rattle.std.proofs.lemmas.Result.{IfOk-weaker}
 use Rattle.std.specs.Bool.{OnFalse}
-use Rattle.moc_lists.specs.RangeList.{set_of}
-use Rattle.moc_lists.specs.Private.Built.{ranges_of}
+use Rattle.moc_blocks.specs.RangeList.{set_of}
+use Rattle.moc_blocks.specs.Private.Built.{ranges_of}
 use Rattle.moc_operations.specs.Private.Meeting.{CanMeet, MeetsOn}
 use Rattle.moc_operations.proofs.InCommon.{rising_normal}
 use Rattle.moc_operations.proofs.MeetingOn.{meets_start, meets_more, meets_swap, can_swap, met_all}

@@ -1,6 +1,6 @@
 use Rattle.std.proofs.Common.{◌+◌, [], length}
-use Rattle.moc_lists.specs.RangeList.{IsNormal}
-use Rattle.moc_lists.specs.Private.Built.{ranges_of}
+use Rattle.moc_blocks.specs.RangeList.{IsNormal}
+use Rattle.moc_blocks.specs.Private.Built.{ranges_of}
 use Rattle.moc_operations.specs.Private.Meeting.{MeetsOn}
 use Rattle.moc_operations.proofs.intersection.intersect_blocks.Given as goal
 

@@ -1,7 +1,7 @@
 use Rattle.std.proofs.lemmas.Result.{IfOk-weaker}
 use Rattle.std.proofs.Common.{◌∙◌, arith, ap}
-use Rattle.moc_lists.specs.RangeList.{set_of}
-use Rattle.moc_lists.specs.Private.Built.{ranges_of}
+use Rattle.moc_blocks.specs.RangeList.{set_of}
+use Rattle.moc_blocks.specs.Private.Built.{ranges_of}
 use Rattle.moc_operations.proofs.Walking.{at_both}
 use Rattle.moc_operations.proofs.Views.{common_view}
 use Rattle.moc_operations.proofs.InCommon.{IsMeeting, met_first, met_second, meeting_kept, meeting_kept_back, meeting_taken}

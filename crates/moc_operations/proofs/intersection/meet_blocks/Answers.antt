@@ -1,5 +1,5 @@
 use Rattle.std.proofs.Common.{◌∙◌, subst, sym}
-use Rattle.moc_lists.specs.RangeList.{IsNormal}
+use Rattle.moc_blocks.specs.RangeList.{IsNormal}
 use Rattle.moc_operations.proofs.MeetingOn.{met_begun, rest_is, rest_normal}
 use Rattle.moc_operations.proofs.intersection.meet_blocks.Goals as goal
 

@@ -1,4 +1,4 @@
-use Rattle.moc_lists.specs.Private.Built.{ranges_of}
+use Rattle.moc_blocks.specs.Private.Built.{ranges_of}
 use Rattle.moc_operations.proofs.intersection.meet_next.Goals as goal
 
 pub returns-then-leave_leading-clause-met : goal.returns-then-leave_leading-clause-met

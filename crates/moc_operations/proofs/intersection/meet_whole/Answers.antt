@@ -1,4 +1,4 @@
-use Rattle.moc_lists.proofs.Basics.{from_ok}
+use Rattle.moc_blocks.proofs.Basics.{from_ok}
 use Rattle.moc_operations.proofs.MeetingOn.{meets_taken}
 use Rattle.moc_operations.proofs.intersection.meet_whole.Goals as goal
 

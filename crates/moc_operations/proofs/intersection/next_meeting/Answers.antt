@@ -1,8 +1,8 @@
 use Rattle.std.proofs.Common.{◌+◌, arith}
 use Rattle.std.proofs.lemmas.Result.{IfOk-weaker}
-use Rattle.moc_lists.specs.Private.Blocks.{next_of}
+use Rattle.moc_blocks.specs.Private.Blocks.{next_of}
 use Rattle.moc_operations.specs.Private.Walks.{begun}
-use Rattle.moc_lists.proofs.Merging.{EndsBelow-more}
+use Rattle.moc_blocks.proofs.Merging.{EndsBelow-more}
 use Rattle.moc_operations.proofs.InCommon.{taken_past, taken_carried}
 use Rattle.moc_operations.proofs.intersection.next_meeting.Goals as goal
 

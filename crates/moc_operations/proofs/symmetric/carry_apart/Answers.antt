@@ -1,6 +1,6 @@
 use Rattle.std.proofs.Common.{◌≡◌, ◌≤◌, Option, None, List, ℕ, length, length-append, ap, arith}
-use Rattle.moc_lists.specs.Private.Blocks.{next_of}
-use Rattle.moc_lists.specs.Private.Built.{Carries}
+use Rattle.moc_blocks.specs.Private.Blocks.{next_of}
+use Rattle.moc_blocks.specs.Private.Built.{Carries}
 use Rattle.moc_operations.specs.Private.Crossing.{IsCrossed}
 use Rattle.moc_operations.proofs.Differing.{differing_carried, differing_swap}
 use Rattle.moc_operations.proofs.Bounds.{apart_crossed, apart_differing, apart_zero, can_first}

@@ -1,5 +1,5 @@
 use Rattle.std.proofs.Common.{◌≤◌, ◌+◌, length}
-use Rattle.moc_lists.specs.Private.Built.{ranges_of}
+use Rattle.moc_blocks.specs.Private.Built.{ranges_of}
 use Rattle.moc_operations.specs.Private.Crossing.{CrossesOn}
 use Rattle.moc_operations.proofs.symmetric.carry_apart.Given as goal
 

@@ -1,6 +1,6 @@
 use Rattle.std.proofs.Common.{take, arith}
 use Rattle.std.proofs.lemmas.List.{length-take-le}
-use Rattle.moc_lists.specs.Private.Built.{ranges_of}
+use Rattle.moc_blocks.specs.Private.Built.{ranges_of}
 use Rattle.moc_operations.proofs.Bounds.{HasFront, crossed_next, kernel_crossing, kernel_rises}
 use Rattle.moc_operations.proofs.symmetric.cross_blocks.Goals as goal
 

@@ -1,6 +1,6 @@
 use Rattle.std.proofs.Common.{ap}
 use Rattle.std.proofs.lemmas.Result.{IfOk-weaker}
-use Rattle.moc_lists.specs.Private.Built.{ranges_of}
+use Rattle.moc_blocks.specs.Private.Built.{ranges_of}
 use Rattle.moc_operations.proofs.Differing.{differing_start, differs_view}
 use Rattle.moc_operations.proofs.Bounds.{crossing_of}
 use Rattle.moc_operations.proofs.symmetric.differ_blocks.Goals as goal

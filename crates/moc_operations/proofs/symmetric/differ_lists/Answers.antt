@@ -1,11 +1,11 @@
 use Rattle.std.proofs.Common.{◌∙◌, ℕ, Option, ap, arith, subst}
 use Rattle.std.proofs.lemmas.Result.{IfOk-weaker}
-use Rattle.moc_lists.specs.Lemmas.Members.{in_ranges}
-use Rattle.moc_lists.specs.RangeList.{set_of}
+use Rattle.moc_blocks.specs.Lemmas.Members.{in_ranges}
+use Rattle.moc_blocks.specs.RangeList.{set_of}
 use Rattle.moc_operations.specs.Private.Walks.{begun}
-use Rattle.moc_lists.specs.Private.Built.{ranges_of}
+use Rattle.moc_blocks.specs.Private.Built.{ranges_of}
 use Rattle.moc_operations.specs.Private.Differing.{IsDiffering}
-use Rattle.moc_lists.proofs.Merging.{EndsBelow-more}
+use Rattle.moc_blocks.proofs.Merging.{EndsBelow-more}
 use Rattle.moc_operations.proofs.Walking.{at_both}
 use Rattle.moc_operations.proofs.Differing.{differs_swap, differs_view, differed, differed_normal, differing_both}
 use Rattle.moc_operations.proofs.Differing.{differing_carried, differing_start, differing_swap}

@@ -1,6 +1,6 @@
 use Rattle.std.proofs.Common.{◌∙◌, List, ℕ, Option, ap, sym}
 use Rattle.std.proofs.lemmas.Result.{IfOk-weaker}
-use Rattle.moc_lists.specs.Lemmas.Members.{in_ranges}
+use Rattle.moc_blocks.specs.Lemmas.Members.{in_ranges}
 use Rattle.moc_operations.specs.Private.Walks.{begun}
 use Rattle.moc_operations.proofs.Walking.{begun_is}
 use Rattle.moc_operations.proofs.Differing.{differed, differed_normal, differing_swap, differs_swap}

@@ -1,6 +1,6 @@
 use Rattle.std.proofs.Common.{◌<◌, ◌∷◌, [], arith}
-use Rattle.moc_lists.specs.Private.Blocks.{next_of}
-use Rattle.moc_lists.proofs.Merging.{ends_next, EndsBelow-more}
+use Rattle.moc_blocks.specs.Private.Blocks.{next_of}
+use Rattle.moc_blocks.proofs.Merging.{ends_next, EndsBelow-more}
 use Rattle.moc_operations.proofs.Differing.{differing_carried, differing_parted}
 use Rattle.moc_operations.proofs.symmetric.pass_first.Goals as goal
 

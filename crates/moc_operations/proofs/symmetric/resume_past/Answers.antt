@@ -1,5 +1,5 @@
 use Rattle.std.proofs.Common.{◌++◌, List, ℕ, sym, subst}
-use Rattle.moc_lists.specs.RangeList.{IsNormal}
+use Rattle.moc_blocks.specs.RangeList.{IsNormal}
 use Rattle.moc_operations.proofs.Bounds.{normal_next, take_rest}
 use Rattle.moc_operations.proofs.symmetric.resume_past.Goals as goal
 

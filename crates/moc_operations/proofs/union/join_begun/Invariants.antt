@@ -1,6 +1,6 @@
 use Rattle.std.proofs.Common.{◌+◌, ◌++◌, ◌∷◌, [], length}
 use Rattle.moc_operations.specs.Private.Taking.{IsJoining}
-use Rattle.moc_lists.specs.Private.Built.{ranges_of}
+use Rattle.moc_blocks.specs.Private.Built.{ranges_of}
 use Rattle.moc_operations.proofs.union.join_begun.Given as goal
 
 abbrev pub invariant-loop-turn : goal.invariant-loop-turn

@@ -1,6 +1,6 @@
 use Rattle.std.proofs.Common.{◌≤◌, List, ℕ, subst, sym}
-use Rattle.moc_lists.specs.Private.Blocks.{next_of}
-use Rattle.moc_lists.proofs.Building.{open_filled, open_within, open_after}
+use Rattle.moc_blocks.specs.Private.Blocks.{next_of}
+use Rattle.moc_blocks.proofs.Building.{open_filled, open_within, open_after}
 use Rattle.moc_operations.proofs.Turning.{open_popped, popped_open, popped_later, takes_both, takes_as}
 use Rattle.moc_operations.proofs.union.join_both.Goals as goal
 

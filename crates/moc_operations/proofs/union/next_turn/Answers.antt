@@ -1,5 +1,5 @@
 use Rattle.std.proofs.Common.{get_or, arith}
-use Rattle.moc_lists.proofs.Basics.{first_item}
+use Rattle.moc_blocks.proofs.Basics.{first_item}
 use Rattle.moc_operations.proofs.Turning.{turn_first, turn_second}
 use Rattle.moc_operations.proofs.union.next_turn.Goals as goal
 

@@ -1,6 +1,6 @@
 use Rattle.std.proofs.Common.{◌<◌, Bool, length, subst}
 use Rattle.std.specs.Bool.{OnTrue}
-use Rattle.moc_lists.specs.Private.Built.{EndsBelow}
+use Rattle.moc_blocks.specs.Private.Built.{EndsBelow}
 use Rattle.moc_operations.proofs.Merging.{can_carry, carried}
 use Rattle.moc_operations.proofs.union.take_blocks_over.Goals as goal
 

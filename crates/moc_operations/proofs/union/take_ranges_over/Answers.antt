@@ -1,8 +1,8 @@
 use Rattle.std.proofs.Common.{subst}
-use Rattle.moc_lists.specs.Private.Built.{EndsBelow}
+use Rattle.moc_blocks.specs.Private.Built.{EndsBelow}
 use Rattle.moc_lists.proofs.CarriedOver.{carry_room, carries_one}
 use Rattle.moc_operations.proofs.Merging.{can_carry, carried}
-use Rattle.moc_lists.proofs.Basics.{part_shorter, from_two_ok}
+use Rattle.moc_blocks.proofs.Basics.{part_shorter, from_two_ok}
 use Rattle.moc_operations.proofs.union.take_ranges_over.Goals as goal
 
 pub push_all-requires : goal.push_all-requires

@@ -1,6 +1,6 @@
 use Rattle.std.proofs.Common.{◌∙◌, arith, ap}
 use Rattle.std.proofs.lemmas.Result.{IfOk-weaker}
-use Rattle.moc_lists.specs.RangeList.{set_of}
+use Rattle.moc_blocks.specs.RangeList.{set_of}
 use Rattle.moc_operations.proofs.Merging.{none_next, united, uniting_first, uniting_second}
 use Rattle.moc_operations.proofs.Turning.{uniting_both}
 use Rattle.moc_operations.proofs.Views.{union_view}

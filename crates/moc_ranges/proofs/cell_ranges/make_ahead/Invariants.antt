@@ -1,5 +1,5 @@
 use Rattle.std.proofs.Common.{◌≡◌, ◌≤◌, ◌++◌, length, take}
-use Rattle.moc_lists.specs.RangeList.{IsNormal}
+use Rattle.moc_blocks.specs.RangeList.{IsNormal}
 use Rattle.moc_ranges.specs.Private.CellRuns.{pieces_along}
 use Rattle.moc_ranges.proofs.cell_ranges.make_ahead.Given as goal
 

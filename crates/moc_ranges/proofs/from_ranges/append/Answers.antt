@@ -1,7 +1,7 @@
 use Rattle.std.proofs.Common.{◌∙◌, List, ℕ, ap, sym, subst}
-use Rattle.moc_lists.specs.RangeList.{IsNormal, set_of}
-use Rattle.moc_lists.specs.Private.Built.{EndsBelow}
-use Rattle.moc_lists.proofs.Building.{pushed_normal}
+use Rattle.moc_blocks.specs.RangeList.{IsNormal, set_of}
+use Rattle.moc_blocks.specs.Private.Built.{EndsBelow}
+use Rattle.moc_blocks.proofs.Building.{pushed_normal}
 use Rattle.moc_ranges.proofs.Gathering.{set_of-push}
 use Rattle.moc_ranges.proofs.from_ranges.append.Goals as goal
 

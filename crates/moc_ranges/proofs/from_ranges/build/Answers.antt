@@ -1,13 +1,13 @@
 use Rattle.std.proofs.Common.{◌∙◌, ◌-◌, take, drop, length, get_or, ap, sym, arith}
 use Rattle.std.proofs.lemmas.Result.{IfOk-weaker}
 use Rattle.std.proofs.lemmas.List.{drop_more, drop_all}
-use Rattle.moc_lists.proofs.Building.{open_filled, open_within, open_after}
+use Rattle.moc_blocks.proofs.Building.{open_filled, open_within, open_after}
 use Rattle.moc_ranges.proofs.Building.{lengthened_start, lengthened_more, lengthened_all, lengthened_next}
-use Rattle.moc_lists.proofs.Basics.{first_item}
+use Rattle.moc_blocks.proofs.Basics.{first_item}
 use Rattle.moc_ranges.proofs.Views.{same_view}
-use Rattle.moc_lists.specs.RangeList.{set_of}
-use Rattle.moc_lists.specs.Private.Built.{ranges_of}
-use Rattle.moc_lists.proofs.Blocking.{none_there}
+use Rattle.moc_blocks.specs.RangeList.{set_of}
+use Rattle.moc_blocks.specs.Private.Built.{ranges_of}
+use Rattle.moc_blocks.proofs.Blocking.{none_there}
 use Rattle.moc_ranges.proofs.from_ranges.build.Goals as goal
 
 pub loop-pair-init : goal.loop-pair-init

@@ -1,5 +1,5 @@
 use Rattle.std.proofs.Common.{drop}
-use Rattle.moc_lists.specs.Private.Built.{ranges_of}
+use Rattle.moc_blocks.specs.Private.Built.{ranges_of}
 use Rattle.moc_ranges.proofs.Building.{IsLengthened}
 use Rattle.moc_ranges.proofs.from_ranges.build.Given as goal
 

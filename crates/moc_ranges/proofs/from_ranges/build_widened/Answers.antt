@@ -1,9 +1,9 @@
 use Rattle.std.proofs.Common.{◌≡◌, ◌∙◌, ◌∷◌, List, ℕ, ap, sym, subst, map}
 use Rattle.std.proofs.lemmas.Result.{IfOk-weaker}
-use Rattle.moc_lists.specs.RangeList.{IsNormal, set_of}
+use Rattle.moc_blocks.specs.RangeList.{IsNormal, set_of}
 use Rattle.moc_ranges.specs.Private.Widen.{widen}
-use Rattle.moc_lists.specs.Private.Built.{ranges_of}
-use Rattle.moc_lists.proofs.Building.{open_filled, open_within, open_after}
+use Rattle.moc_blocks.specs.Private.Built.{ranges_of}
+use Rattle.moc_blocks.proofs.Building.{open_filled, open_within, open_after}
 use Rattle.moc_ranges.proofs.Building.{lengthened_start, lengthened_more, lengthened_all}
 use Rattle.moc_ranges.proofs.Views.{same_view}
 use Rattle.moc_ranges.proofs.Widening.{size_sorted}

@@ -1,7 +1,7 @@
 use Rattle.std.proofs.Common.{map}
-use Rattle.moc_lists.specs.RangeList.{IsNormal}
+use Rattle.moc_blocks.specs.RangeList.{IsNormal}
 use Rattle.moc_ranges.specs.Private.Widen.{widen}
-use Rattle.moc_lists.specs.Private.Built.{ranges_of}
+use Rattle.moc_blocks.specs.Private.Built.{ranges_of}
 use Rattle.moc_ranges.proofs.Building.{IsLengthened}
 use Rattle.moc_ranges.proofs.from_ranges.build_widened.Given as goal
 

@@ -1,7 +1,7 @@
 use Rattle.std.proofs.Common.{◌∙◌, sym}
-use Rattle.moc_lists.specs.Blocks.{joining}
+use Rattle.moc_blocks.specs.Blocks.{joining}
 use Rattle.moc_lists.proofs.CarriedOver.{carry_room, carries_one}
-use Rattle.moc_lists.proofs.Basics.{part_shorter}
+use Rattle.moc_blocks.proofs.Basics.{part_shorter}
 use Rattle.moc_lists.proofs.builder.ListBuilder.carry_next.Goals as goal
 
 pub carry_node-requires : goal.carry_node-requires

@@ -1,4 +1,4 @@
-use Rattle.moc_lists.proofs.Building.{ranges_normal}
+use Rattle.moc_blocks.proofs.Building.{ranges_normal}
 use Rattle.moc_lists.proofs.builder.ListBuilder.is_apart.Goals as goal
 
 pub is_apart-requires : goal.is_apart-requires

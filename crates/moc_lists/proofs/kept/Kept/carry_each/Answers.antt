@@ -1,7 +1,7 @@
 use Rattle.std.proofs.Common.{◌++◌, List, ℕ, ap, sym, subst, ◌∙◌}
-use Rattle.moc_lists.specs.Blocks.{joining}
-use Rattle.moc_lists.specs.RangeList.{IsNormal}
-use Rattle.moc_lists.proofs.Building.{each_normal, each_more}
+use Rattle.moc_blocks.specs.Blocks.{joining}
+use Rattle.moc_blocks.specs.RangeList.{IsNormal}
+use Rattle.moc_blocks.proofs.Building.{each_normal, each_more}
 use Rattle.moc_lists.proofs.kept.Kept.carry_each.Goals as goal
 
 pub push_block-requires-clause-normal : goal.push_block-requires-clause-normal

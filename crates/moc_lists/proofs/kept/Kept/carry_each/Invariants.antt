@@ -1,6 +1,6 @@
 use Rattle.std.proofs.Common.{◌≡◌, ◌++◌, take}
-use Rattle.moc_lists.specs.Blocks.{joining, AreBlocks}
-use Rattle.moc_lists.specs.Private.Built.{AreGrouped}
+use Rattle.moc_blocks.specs.Blocks.{joining, AreBlocks}
+use Rattle.moc_blocks.specs.Private.Built.{AreGrouped}
 use Rattle.moc_lists.proofs.kept.Kept.carry_each.Given as goal
 
 abbrev pub invariant-loop-block : goal.invariant-loop-block

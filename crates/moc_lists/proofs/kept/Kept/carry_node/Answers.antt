@@ -1,8 +1,8 @@
 use Rattle.std.proofs.Common.{◌++◌, ◌∙◌}
-use Rattle.moc_lists.specs.Blocks.{joining}
-use Rattle.moc_lists.specs.Private.Built.{kept_of}
-use Rattle.moc_lists.proofs.Building.{stack_noded, node_kept, node_built, sealed_all}
-use Rattle.moc_lists.proofs.Basics.{from_ok, from_three_ok}
+use Rattle.moc_blocks.specs.Blocks.{joining}
+use Rattle.moc_blocks.specs.Private.Built.{kept_of}
+use Rattle.moc_blocks.proofs.Building.{stack_noded, node_kept, node_built, sealed_all}
+use Rattle.moc_blocks.proofs.Basics.{from_ok, from_three_ok}
 use Rattle.moc_lists.proofs.kept.Kept.carry_node.Goals as goal
 
 pub returns-clause-built : goal.returns-clause-built

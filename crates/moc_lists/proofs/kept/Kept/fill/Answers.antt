@@ -1,5 +1,5 @@
 use Rattle.std.proofs.Common.{arith}
-use Rattle.moc_lists.proofs.Building.{filled_built}
+use Rattle.moc_blocks.proofs.Building.{filled_built}
 use Rattle.std.proofs.lemmas.Grind.{common_steps}
 use Rattle.moc_lists.proofs.kept.Kept.fill.Goals as goal
 

@@ -1,9 +1,9 @@
 use Rattle.std.proofs.Common.{◌++◌, ◌∷◌, [], ap, ◌∙◌, refl}
-use Rattle.moc_lists.specs.Blocks.{joining}
-use Rattle.moc_lists.proofs.Merging.{EndsBelow-append}
-use Rattle.moc_lists.proofs.Building.{ranges_normal, longer_same, longer_built, longer_can, pushed_can}
-use Rattle.moc_lists.specs.Private.Built.{grown}
-use Rattle.moc_lists.proofs.Basics.{common_same, from_ok, from_two_ok}
+use Rattle.moc_blocks.specs.Blocks.{joining}
+use Rattle.moc_blocks.proofs.Merging.{EndsBelow-append}
+use Rattle.moc_blocks.proofs.Building.{ranges_normal, longer_same, longer_built, longer_can, pushed_can}
+use Rattle.moc_blocks.specs.Private.Built.{grown}
+use Rattle.moc_blocks.proofs.Basics.{common_same, from_ok, from_two_ok}
 use Rattle.moc_lists.proofs.kept.Kept.join.Goals as goal
 
 pub is_apart-requires : goal.is_apart-requires

@@ -1,4 +1,4 @@
-use Rattle.moc_lists.proofs.Building.{pushed_built}
+use Rattle.moc_blocks.proofs.Building.{pushed_built}
 use Rattle.moc_lists.proofs.kept.Kept.push.Goals as goal
 
 pub returns-clause-built : goal.returns-clause-built

@@ -1,5 +1,5 @@
 use Rattle.std.proofs.Common.{◌≡◌, ◌++◌, length}
-use Rattle.moc_lists.specs.Private.Built.{IsBuilt, kept_of}
+use Rattle.moc_blocks.specs.Private.Built.{IsBuilt, kept_of}
 use Rattle.moc_lists.proofs.kept.Kept.push_all.Given as goal
 
 abbrev pub invariant-loop-rest : goal.invariant-loop-rest

@@ -1,9 +1,9 @@
 use Rattle.std.proofs.Common.{◌++◌, length, arith, ap, sym, subst, ◌∙◌}
-use Rattle.moc_lists.specs.Blocks.{joining, AreBlocks}
-use Rattle.moc_lists.proofs.Building.{joined_sized, joined_all, suffix_normal, last_length-suffix, pushed_all}
-use Rattle.moc_lists.proofs.Filling.{filled_add}
-use Rattle.moc_lists.proofs.Blocking.{joining-last, IsNormal-prefix}
-use Rattle.moc_lists.proofs.Basics.{from_ok}
+use Rattle.moc_blocks.specs.Blocks.{joining, AreBlocks}
+use Rattle.moc_blocks.proofs.Building.{joined_sized, joined_all, suffix_normal, last_length-suffix, pushed_all}
+use Rattle.moc_blocks.proofs.Filling.{filled_add}
+use Rattle.moc_blocks.proofs.Blocking.{joining-last, IsNormal-prefix}
+use Rattle.moc_blocks.proofs.Basics.{from_ok}
 use Rattle.moc_lists.proofs.kept.Kept.push_block.Goals as goal
 
 pub join_last-requires-clause-normal : goal.join_last-requires-clause-normal

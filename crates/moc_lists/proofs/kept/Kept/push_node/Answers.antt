@@ -1,5 +1,5 @@
 use Rattle.std.proofs.Common.{◌++◌, ◌∷◌, [], List, ℕ, ap, ◌∙◌}
-use Rattle.moc_lists.proofs.Filling.{some_blocks, nodes_added, nodes_added_all}
+use Rattle.moc_blocks.proofs.Filling.{some_blocks, nodes_added, nodes_added_all}
 use Rattle.moc_lists.proofs.kept.Kept.push_node.Goals as goal
 
 pub returns-clause-blocks : goal.returns-clause-blocks

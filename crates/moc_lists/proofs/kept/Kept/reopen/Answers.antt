@@ -1,7 +1,7 @@
 use Rattle.std.proofs.Common.{arith, ◌∙◌, ap, length}
-use Rattle.moc_lists.proofs.Building.{reopened}
-use Rattle.moc_lists.proofs.Filling.{some_blocks, nodes_popped, nodes_last}
-use Rattle.moc_lists.proofs.Blocking.{none_there}
+use Rattle.moc_blocks.proofs.Building.{reopened}
+use Rattle.moc_blocks.proofs.Filling.{some_blocks, nodes_popped, nodes_last}
+use Rattle.moc_blocks.proofs.Blocking.{none_there}
 use Rattle.std.proofs.lemmas.Grind.{common_steps}
 use Rattle.moc_lists.proofs.kept.Kept.reopen.Goals as goal
 

@@ -1,7 +1,7 @@
 use Rattle.std.proofs.Common.{sym, subst, rules}
-use Rattle.moc_lists.specs.RangeList.{IsNormal}
-use Rattle.moc_lists.proofs.Building.{ranges_normal}
-use Rattle.moc_lists.proofs.Blocking.{none_there}
+use Rattle.moc_blocks.specs.RangeList.{IsNormal}
+use Rattle.moc_blocks.proofs.Building.{ranges_normal}
+use Rattle.moc_blocks.proofs.Blocking.{none_there}
 use Rattle.moc_lists.proofs.kept.Kept.seal.Goals as goal
 
 pub new-requires-clause-normal : goal.new-requires-clause-normal

@@ -1,9 +1,9 @@
 use Rattle.std.proofs.Common.{List, ℕ, ap, sym, subst, ◌∙◌, rules}
-use Rattle.moc_lists.specs.Blocks.{joining, AreBlocks}
-use Rattle.moc_lists.specs.RangeList.{IsNormal}
-use Rattle.moc_lists.proofs.Building.{noded}
-use Rattle.moc_lists.proofs.Filling.{filled_suffix, nodes_sealed}
-use Rattle.moc_lists.proofs.Blocking.{IsNormal-suffix, joining-append}
+use Rattle.moc_blocks.specs.Blocks.{joining, AreBlocks}
+use Rattle.moc_blocks.specs.RangeList.{IsNormal}
+use Rattle.moc_blocks.proofs.Building.{noded}
+use Rattle.moc_blocks.proofs.Filling.{filled_suffix, nodes_sealed}
+use Rattle.moc_blocks.proofs.Blocking.{IsNormal-suffix, joining-append}
 use Rattle.moc_lists.proofs.kept.Kept.seal_node.Goals as goal
 
 pub new-requires-clause-normal : goal.new-requires-clause-normal

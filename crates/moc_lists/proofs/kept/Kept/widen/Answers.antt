@@ -1,6 +1,6 @@
 use Rattle.std.proofs.Common.{◌++◌, ◌∷◌, [], List, ℕ, length, length-append, ap, ◌∙◌, arith}
-use Rattle.moc_lists.specs.Private.Built.{last_length}
-use Rattle.moc_lists.proofs.Filling.{last_length-append, nodes_popped, nodes_last, nodes_widened}
+use Rattle.moc_blocks.specs.Private.Built.{last_length}
+use Rattle.moc_blocks.proofs.Filling.{last_length-append, nodes_popped, nodes_last, nodes_widened}
 use Rattle.moc_lists.proofs.kept.Kept.widen.Goals as goal
 
 pub returns-in_ok-append-clause-blocks : goal.returns-in_ok-append-clause-blocks

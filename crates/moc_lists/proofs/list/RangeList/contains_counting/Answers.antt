@@ -1,6 +1,6 @@
 use Rattle.std.proofs.Common.{ap, arith, length}
-use Rattle.moc_lists.specs.RangeList.{set_of}
-use Rattle.moc_lists.proofs.Stepping.{cost_few}
+use Rattle.moc_blocks.specs.RangeList.{set_of}
+use Rattle.moc_blocks.proofs.Stepping.{cost_few}
 use Rattle.moc_lists.proofs.list.RangeList.contains_counting.Goals as goal
 
 pub returns-in_default-clause-cost : goal.returns-in_default-clause-cost

@@ -1,6 +1,6 @@
 use Rattle.std.proofs.Common.{ℕ, ◌-◌, List, length, get_or, ap, ◌∙◌, arith}
-use Rattle.moc_lists.proofs.Stepping.{block_found}
-use Rattle.moc_lists.proofs.Places.{none_begun, none_left, start_here, inside_starts}
+use Rattle.moc_blocks.proofs.Stepping.{block_found}
+use Rattle.moc_blocks.proofs.Places.{none_begun, none_left, start_here, inside_starts}
 use Rattle.moc_lists.proofs.nodes.Nodes.block_at.Goals as goal
 
 pub returns-then-begun-eq0 : goal.returns-then-begun-eq0

@@ -1,7 +1,7 @@
 use Rattle.std.proofs.Common.{leb, subst, ◌∙◌, rules}
 use Rattle.std.proofs.lemmas.List.Sorted.{IsPartitionPoint-from_clause}
-use Rattle.moc_lists.specs.Private.Blocks.{IsCountBegun}
-use Rattle.moc_lists.proofs.Places.{starts_parted, begun_at}
+use Rattle.moc_blocks.specs.Private.Blocks.{IsCountBegun}
+use Rattle.moc_blocks.proofs.Places.{starts_parted, begun_at}
 use Rattle.moc_lists.proofs.nodes.Nodes.count_begun.Goals as goal
 
 pub returns : goal.returns

@@ -1,7 +1,7 @@
 use Rattle.std.proofs.Common.{◌+◌, length, ap, ◌∙◌, arith}
-use Rattle.moc_lists.specs.Blocks.{joining}
-use Rattle.moc_lists.proofs.Stepping.{few_blocks}
-use Rattle.moc_lists.proofs.Places.{starts_length, count_all}
+use Rattle.moc_blocks.specs.Blocks.{joining}
+use Rattle.moc_blocks.proofs.Stepping.{few_blocks}
+use Rattle.moc_blocks.proofs.Places.{starts_length, count_all}
 use Rattle.moc_lists.proofs.nodes.Nodes.count_blocks.Goals as goal
 
 pub index-requires : goal.index-requires

@@ -1,6 +1,6 @@
 use Rattle.std.proofs.Common.{refl}
-use Rattle.moc_lists.proofs.Adding.{some_of, renewed_stored, renewed_grown}
-use Rattle.moc_lists.proofs.Replacing.{none_matched, renewed_still}
+use Rattle.moc_blocks.proofs.Adding.{some_of, renewed_stored, renewed_grown}
+use Rattle.moc_blocks.proofs.Replacing.{none_matched, renewed_still}
 use Rattle.moc_lists.proofs.nodes.Nodes.insert.Goals as goal
 
 pub put-requires-clause-stored : goal.put-requires-clause-stored

@@ -1,9 +1,9 @@
 use Rattle.std.proofs.Common.{[], List, ℕ, sym, subst, arith, slice_set, ◌-◌}
-use Rattle.moc_lists.specs.Private.Added.{HasGrown}
-use Rattle.moc_lists.specs.Blocks.{joining}
-use Rattle.moc_lists.specs.Private.Blocks.{IsStored}
-use Rattle.moc_lists.proofs.Blocking.{few_ranges, width_bounded}
-use Rattle.moc_lists.proofs.Inserting.{gap_can, gap_put, on_true}
+use Rattle.moc_blocks.specs.Private.Added.{HasGrown}
+use Rattle.moc_blocks.specs.Blocks.{joining}
+use Rattle.moc_blocks.specs.Private.Blocks.{IsStored}
+use Rattle.moc_blocks.proofs.Blocking.{few_ranges, width_bounded}
+use Rattle.moc_blocks.proofs.Inserting.{gap_can, gap_put, on_true}
 use Rattle.moc_lists.proofs.nodes.Nodes.insert_in_gap.Goals as goal
 
 pub insert-requires : goal.insert-requires

@@ -1,12 +1,12 @@
 use Rattle.std.proofs.Common.{[], List, ℕ, length, slice_set, refl, ap, sym, subst, ◌∙◌, arith}
-use Rattle.moc_lists.specs.Blocks.{joining}
-use Rattle.moc_lists.specs.Private.Blocks.{AreNodes, IsStored}
-use Rattle.moc_lists.specs.Private.Added.{HasGrown}
-use Rattle.moc_lists.proofs.Adding.{some_of}
-use Rattle.moc_lists.proofs.Blocking.{few_ranges, width_bounded}
-use Rattle.moc_lists.proofs.Replacing.{as_many, set_same, node_part, count_set, spot_inside, spot_normal, spot_sized}
-use Rattle.moc_lists.proofs.Replacing.{spot_put}
-use Rattle.moc_lists.proofs.Places.{starts_set}
+use Rattle.moc_blocks.specs.Blocks.{joining}
+use Rattle.moc_blocks.specs.Private.Blocks.{AreNodes, IsStored}
+use Rattle.moc_blocks.specs.Private.Added.{HasGrown}
+use Rattle.moc_blocks.proofs.Adding.{some_of}
+use Rattle.moc_blocks.proofs.Blocking.{few_ranges, width_bounded}
+use Rattle.moc_blocks.proofs.Replacing.{as_many, set_same, node_part, count_set, spot_inside, spot_normal, spot_sized}
+use Rattle.moc_blocks.proofs.Replacing.{spot_put}
+use Rattle.moc_blocks.proofs.Places.{starts_set}
 use Rattle.moc_lists.proofs.nodes.Nodes.insert_in_place.Goals as goal
 
 pub overflow_sub-others : goal.overflow_sub-others

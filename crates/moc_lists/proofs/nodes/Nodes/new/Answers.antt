@@ -1,10 +1,10 @@
 use Rattle.std.proofs.Common.{◌<◌, ◌≤◌, ◌++◌, [], ◌∷◌, ℕ, List, length, take, get_or, ap, ◌∙◌, arith}
 use Rattle.std.proofs.lemmas.List.{take_all}
-use Rattle.moc_lists.specs.Blocks.{joining}
-use Rattle.moc_lists.specs.Private.Blocks.{starts_from}
-use Rattle.moc_lists.proofs.Blocking.{node_step, nodes_done, length_node_step, length_nodes_done}
-use Rattle.moc_lists.proofs.Stepping.{nodes_taken, few_blocks}
-use Rattle.moc_lists.proofs.Places.{starts_more}
+use Rattle.moc_blocks.specs.Blocks.{joining}
+use Rattle.moc_blocks.specs.Private.Blocks.{starts_from}
+use Rattle.moc_blocks.proofs.Blocking.{node_step, nodes_done, length_node_step, length_nodes_done}
+use Rattle.moc_blocks.proofs.Stepping.{nodes_taken, few_blocks}
+use Rattle.moc_blocks.proofs.Places.{starts_more}
 use Rattle.moc_lists.proofs.nodes.Nodes.new.Goals as goal
 
 pub overflow_add-blocks : goal.overflow_add-blocks

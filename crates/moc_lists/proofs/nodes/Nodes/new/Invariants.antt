@@ -1,6 +1,6 @@
 use Rattle.std.proofs.Common.{◌≡◌, length, take}
-use Rattle.moc_lists.specs.Blocks.{joining}
-use Rattle.moc_lists.specs.Private.Blocks.{starts_from, width_of}
+use Rattle.moc_blocks.specs.Blocks.{joining}
+use Rattle.moc_blocks.specs.Private.Blocks.{starts_from, width_of}
 use Rattle.moc_lists.proofs.nodes.Nodes.new.Given as goal
 
 abbrev pub invariant-loop-node : goal.invariant-loop-node

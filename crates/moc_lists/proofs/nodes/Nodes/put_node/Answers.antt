@@ -1,7 +1,7 @@
 use Rattle.std.proofs.Common.{◌<◌, [], ◌∷◌, List, ℕ, length, refl, sym, subst, ap, arith}
-use Rattle.moc_lists.specs.Private.Blocks.{IsStored}
-use Rattle.moc_lists.proofs.Replacing.{node_part, kept_renewed, renewed_bounds, one_count}
-use Rattle.moc_lists.proofs.Places.{starts_length, starts_fit, placed_one, stored_blocks}
+use Rattle.moc_blocks.specs.Private.Blocks.{IsStored}
+use Rattle.moc_blocks.proofs.Replacing.{node_part, kept_renewed, renewed_bounds, one_count}
+use Rattle.moc_blocks.proofs.Places.{starts_length, starts_fit, placed_one, stored_blocks}
 use Rattle.moc_lists.proofs.nodes.Nodes.put_node.Goals as goal
 
 pub overflow_sub-others : goal.overflow_sub-others

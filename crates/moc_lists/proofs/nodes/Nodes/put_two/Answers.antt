@@ -1,8 +1,8 @@
 use Rattle.std.proofs.Common.{◌<◌, ◌+◌, [], ◌∷◌, List, ℕ, length, get_or, sym, subst, ap, ◌∙◌, arith}
 use Rattle.std.specs.Prelude.{vec_len, vec_capacity}
-use Rattle.moc_lists.specs.Private.Blocks.{AreNodes, IsStored}
-use Rattle.moc_lists.proofs.Replacing.{node_part, kept_renewed, renewed_bounds, two_count}
-use Rattle.moc_lists.proofs.Places.{starts_length, starts_fit, start_bound, placed_two, stored_blocks}
+use Rattle.moc_blocks.specs.Private.Blocks.{AreNodes, IsStored}
+use Rattle.moc_blocks.proofs.Replacing.{node_part, kept_renewed, renewed_bounds, two_count}
+use Rattle.moc_blocks.proofs.Places.{starts_length, starts_fit, start_bound, placed_two, stored_blocks}
 use Rattle.moc_lists.proofs.nodes.Nodes.put_two.Goals as goal
 
 pub overflow_sub-others : goal.overflow_sub-others

@@ -1,5 +1,5 @@
 use Rattle.std.proofs.Common.{subst, sym}
-use Rattle.moc_lists.specs.RangeList.{IsNormal}
+use Rattle.moc_blocks.specs.RangeList.{IsNormal}
 use Rattle.moc_lists.proofs.ranges.Ranges.begin_block.Goals as goal
 
 pub resume-requires : goal.resume-requires

@@ -1,6 +1,6 @@
 use Rattle.std.proofs.Common.{◌-◌, ◌++◌, List, ℕ, length, take, drop, sym, ap, ◌∙◌}
-use Rattle.moc_lists.specs.Blocks.{joining}
-use Rattle.moc_lists.proofs.Basics.{first_item}
+use Rattle.moc_blocks.specs.Blocks.{joining}
+use Rattle.moc_blocks.proofs.Basics.{first_item}
 use Rattle.moc_lists.proofs.ranges.Ranges.begun_range.Goals as goal
 
 pub returns-in-len1-up : goal.returns-in-len1-up

@@ -1,6 +1,6 @@
 use Rattle.std.proofs.Common.{◌∙◌, subst, sym}
-use Rattle.moc_lists.specs.RangeList.{IsNormal}
-use Rattle.moc_lists.proofs.Passing.{passes_normal}
+use Rattle.moc_blocks.specs.RangeList.{IsNormal}
+use Rattle.moc_blocks.proofs.Passing.{passes_normal}
 use Rattle.moc_lists.proofs.ranges.Ranges.pass.Goals as goal
 
 pub invariant_of-self : goal.invariant_of-self

@@ -1,6 +1,6 @@
 use Rattle.std.proofs.Common.{subst}
-use Rattle.moc_lists.specs.RangeList.{IsNormal}
-use Rattle.moc_lists.proofs.Blocking.{IsNormal-suffix}
+use Rattle.moc_blocks.specs.RangeList.{IsNormal}
+use Rattle.moc_blocks.proofs.Blocking.{IsNormal-suffix}
 use Rattle.moc_lists.proofs.ranges.Ranges.take_block_below.Goals as goal
 
 pub invariant_of-self : goal.invariant_of-self

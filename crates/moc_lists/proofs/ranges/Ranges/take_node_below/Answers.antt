@@ -1,7 +1,7 @@
 use Rattle.std.proofs.Common.{subst}
-use Rattle.moc_lists.specs.RangeList.{IsNormal}
-use Rattle.moc_lists.specs.Blocks.{joining}
-use Rattle.moc_lists.proofs.Blocking.{IsNormal-suffix}
+use Rattle.moc_blocks.specs.RangeList.{IsNormal}
+use Rattle.moc_blocks.specs.Blocks.{joining}
+use Rattle.moc_blocks.proofs.Blocking.{IsNormal-suffix}
 use Rattle.moc_lists.proofs.ranges.Ranges.take_node_below.Goals as goal
 
 pub invariant_of-self : goal.invariant_of-self

@@ -1,4 +1,4 @@
-use Rattle.moc_lists.proofs.Blocking.{IsNormal-prefix, IsNormal-rest}
+use Rattle.moc_blocks.proofs.Blocking.{IsNormal-prefix, IsNormal-rest}
 use Rattle.moc_lists.proofs.ranges.Ranges.take_ranges_below.Goals as goal
 
 pub leading_below-requires : goal.leading_below-requires

@@ -1,6 +1,6 @@
 use Rattle.std.proofs.Common.{arith}
-use Rattle.moc_lists.specs.Private.Blocks.{rest_of}
-use Rattle.moc_lists.proofs.Blocking.{rest_blocks, rest_nodes, length-rest, few_ranges}
+use Rattle.moc_blocks.specs.Private.Blocks.{rest_of}
+use Rattle.moc_blocks.proofs.Blocking.{rest_blocks, rest_nodes, length-rest, few_ranges}
 use Rattle.moc_lists.proofs.ranges.RangesIterator.size_hint.Goals as goal
 
 pub count_in_blocks-requires : goal.count_in_blocks-requires

@@ -1,7 +1,7 @@
 use Rattle.std.proofs.Common.{◌∙◌, ap}
 use Rattle.std.specs.Prelude.{if◌then◌else◌}
 use Rattle.std.specs.FinSet as set
-use Rattle.moc_lists.specs.RangeList.{numbers, set_of}
+use Rattle.moc_blocks.specs.RangeList.{numbers, set_of}
 use Rattle.moc_ranges.proofs.Gathering.{gathered_risen}
 use Rattle.moc_ranges.proofs.builder.CoverageBuilder.add_range.Goals as goal
 

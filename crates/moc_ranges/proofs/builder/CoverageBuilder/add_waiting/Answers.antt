@@ -1,6 +1,6 @@
 use Rattle.std.proofs.Common.{◌∙◌, arith, ap}
 use Rattle.std.specs.FinSet as set
-use Rattle.moc_lists.specs.RangeList.{numbers, set_of}
+use Rattle.moc_blocks.specs.RangeList.{numbers, set_of}
 use Rattle.moc_ranges.proofs.Gathering.{waits_more, faultless-push}
 use Rattle.moc_ranges.proofs.builder.CoverageBuilder.add_waiting.Goals as goal
 use Rattle.moc_ranges.proofs.builder.CoverageBuilder.add_waiting.Goals.{then-len-limit+in_ok-join_waiting}

@@ -1,5 +1,5 @@
 use Rattle.std.proofs.Common.{◌∙◌, ◌≡◌, ap, arith, eqb-true, sym, vec_len}
-use Rattle.moc_lists.specs.RangeList.{set_of}
+use Rattle.moc_blocks.specs.RangeList.{set_of}
 use Rattle.moc_ranges.proofs.Gathering.{gathered_rising}
 use Rattle.moc_ranges.proofs.builder.CoverageBuilder.build.Goals as goal
 

@@ -1,6 +1,6 @@
 use Rattle.std.proofs.Common.{ap, ◌∙◌}
 use Rattle.std.specs.FinSet as set
-use Rattle.moc_lists.specs.RangeList.{NumberSet}
+use Rattle.moc_blocks.specs.RangeList.{NumberSet}
 use Rattle.moc_ranges.specs.Cells.{span}
 use Rattle.moc_ranges.proofs.Gathering.{no_cells_added, cell_added}
 use Rattle.moc_ranges.proofs.builder.CoverageBuilderExtendCell.extend.Goals as goal

@@ -1,5 +1,5 @@
 use Rattle.std.proofs.Common.{subst}
-use Rattle.moc_lists.specs.RangeList.{NumberSet}
+use Rattle.moc_blocks.specs.RangeList.{NumberSet}
 use Rattle.moc_ranges.specs.Private.CellRuns.{HasOrders}
 use Rattle.moc_ranges.proofs.CellPieces.{orders_of_cells}
 use Rattle.moc_ranges.proofs.coverage.Coverage.cell_orders.Goals as goal

@@ -1,5 +1,5 @@
 use Rattle.std.proofs.Common.{subst, ap, sym, ◌∙◌, List, ℕ, arith}
-use Rattle.moc_lists.specs.RangeList.{NumberSet, IsNormal}
+use Rattle.moc_blocks.specs.RangeList.{NumberSet, IsNormal}
 use Rattle.moc_ranges.specs.Cells.{cells_in}
 use Rattle.moc_ranges.specs.Private.CellRuns.{cells_at}
 use Rattle.moc_ranges.proofs.CellPieces.{cells_of_order, pieces_cells, pieces_normal}

@@ -1,7 +1,7 @@
 use Rattle.std.proofs.Common.{◌++◌, ◌-◌, sym, subst, ap, ◌∙◌, arith, add-one}
 use Rattle.std.specs.List.{AllByRecursion}
 use Rattle.moc_sphere.specs.CellNumber.{IsCell}
-use Rattle.moc_lists.specs.RangeList.{NumberSet}
+use Rattle.moc_blocks.specs.RangeList.{NumberSet}
 use Rattle.moc_ranges.specs.Private.CellRuns.{HasOrders, cells_at}
 use Rattle.moc_ranges.proofs.CellOrders.{cells_step, cells_before, cells_after}
 use Rattle.moc_ranges.proofs.CellPieces.{cells_of_order, order_cells}

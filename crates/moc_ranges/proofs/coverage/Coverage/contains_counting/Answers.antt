@@ -1,7 +1,7 @@
 use Rattle.std.proofs.Common.{◌∙◌, ap, sym}
 use Rattle.std.specs.FinSet as set
-use Rattle.moc_lists.specs.RangeList.{NumberSet}
-use Rattle.moc_lists.specs.Lemmas.Members.{contains-set_of}
+use Rattle.moc_blocks.specs.RangeList.{NumberSet}
+use Rattle.moc_blocks.specs.Lemmas.Members.{contains-set_of}
 use Rattle.moc_ranges.proofs.coverage.Coverage.contains_counting.Goals as goal
 
 pub returns-clause-found : goal.returns-clause-found

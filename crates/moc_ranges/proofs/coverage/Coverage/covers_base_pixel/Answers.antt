@@ -1,6 +1,6 @@
 use Rattle.std.proofs.Common.{◌∙◌, ap, sym, arith}
 use Rattle.std.specs.FinSet as set
-use Rattle.moc_lists.specs.Lemmas.Members.{same_members}
+use Rattle.moc_blocks.specs.Lemmas.Members.{same_members}
 use Rattle.moc_ranges.specs.Operations.{pixels, part_of}
 use Rattle.moc_ranges.proofs.Views.{part_past, all_of_none}
 use Rattle.moc_ranges.proofs.Looking.{base_members}

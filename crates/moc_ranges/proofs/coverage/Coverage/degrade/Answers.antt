@@ -1,6 +1,6 @@
 use Rattle.std.proofs.Common.{ℕ, ap, ◌∙◌, map}
 use Rattle.moc_ranges.specs.Private.Widen.{widen}
-use Rattle.moc_lists.specs.Lemmas.Members.{same_members, in_ranges, contains-set_of}
+use Rattle.moc_blocks.specs.Lemmas.Members.{same_members, in_ranges, contains-set_of}
 use Rattle.moc_ranges.proofs.Widening.{degraded}
 use Rattle.moc_ranges.proofs.coverage.Coverage.degrade.Goals as goal
 

@@ -1,5 +1,5 @@
 use Rattle.std.proofs.Common.{◌∙◌, ap}
-use Rattle.moc_lists.specs.RangeList.{set_of}
+use Rattle.moc_blocks.specs.RangeList.{set_of}
 use Rattle.moc_ranges.proofs.Spans.{span_view}
 use Rattle.moc_ranges.proofs.coverage.Coverage.from_cell.Goals as goal
 

@@ -1,7 +1,7 @@
 use Rattle.std.proofs.Common.{◌≡◌, arith, sym, subst, refl}
 use Rattle.std.specs.Prelude.{OnOk, IfOk}
 use Rattle.std.specs.FinSet as set
-use Rattle.moc_lists.specs.RangeList.{NumberSet}
+use Rattle.moc_blocks.specs.RangeList.{NumberSet}
 use Rattle.moc_ranges.proofs.Adding.{only_range, common_fewer, new_count, none_new, there_union}
 use Rattle.moc_ranges.proofs.coverage.Coverage.insert_all.Goals as goal
 

@@ -1,11 +1,11 @@
 use Rattle.std.proofs.Common.{◌≡◌, ◌∙◌, ap, sym, true, arith}
 use Rattle.std.specs.FinSet as set
 use Rattle.std.specs.Cmp.{nat_cmp_total}
-use Rattle.moc_lists.specs.RangeList.{numbers, NumberSet, set_of}
+use Rattle.moc_blocks.specs.RangeList.{numbers, NumberSet, set_of}
 use Rattle.moc_ranges.proofs.Views.{range_view}
 use Rattle.moc_ranges.proofs.Adding.{no_numbers, there_union, there_count, match_some, grown_set, grown_count}
 use Rattle.moc_ranges.proofs.Adding.{union_width}
-use Rattle.moc_lists.proofs.Replacing.{none_matched}
+use Rattle.moc_blocks.proofs.Replacing.{none_matched}
 use Rattle.moc_ranges.proofs.coverage.Coverage.insert_range.Goals as goal
 
 pub returns-then-to-from-clause-set : goal.returns-then-to-from-clause-set

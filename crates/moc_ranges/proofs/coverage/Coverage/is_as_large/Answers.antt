@@ -1,6 +1,6 @@
 use Rattle.std.proofs.Common.{◌∙◌, ap, length, sym}
 use Rattle.std.proofs.lemmas.Bool.{eq-eqb}
-use Rattle.moc_lists.specs.RangeList.{set_of}
+use Rattle.moc_blocks.specs.RangeList.{set_of}
 use Rattle.moc_ranges.specs.Lemmas.Ranges.{same_normal}
 use Rattle.moc_ranges.proofs.coverage.Coverage.is_as_large.Goals as goal
 

@@ -1,0 +1,182 @@
+-- One range more in the list of a block.
+use Rattle.std.proofs.Common.{◌≡◌, ℕ, zero, suc, ◌+◌, ◌-◌, ◌<◌, ◌≤◌, Bool, true, List, [], ◌∷◌, ◌++◌, length, get_or}
+use Rattle.std.proofs.Common.{take, drop, refl, sym, ap, subst, ◌∙◌, arith, append_assoc, length-append, length-drop}
+use Rattle.std.proofs.Common.{length-take-le}
+use Rattle.std.specs.Prelude.{slice_set}
+use Rattle.std.specs.Bool.{OnTrue}
+use Rattle.std.specs.List.{insert}
+use Rattle.std.proofs.lemmas.List.{take-append-drop}
+use Rattle.std.proofs.lemmas.List.Edits.{get_or-insert_at}
+use Rattle.std.proofs.lemmas.List.Sums.{sum_by-cons}
+use Rattle.moc_blocks.specs.RangeList.{pixel_count, IsNormal}
+use Rattle.moc_blocks.specs.Blocks.{joining, AreBlocks}
+use Rattle.moc_blocks.specs.Private.Blocks.{next_of, width_of, AreNodes, IsStored}
+use Rattle.moc_blocks.specs.Private.Built.{EndsBelow, first_length, last_length}
+use Rattle.moc_blocks.specs.Private.Walks.{joined, EndsBy, IsPastAt}
+use Rattle.moc_blocks.specs.Private.Added.{inserted, IsCut, IsGap, HasGap, HasGrown, HasOneMore}
+use Rattle.moc_blocks.proofs.Blocking.{IsNormal-prefix, IsNormal-suffix, nothing_more, range_at, width-append}
+use Rattle.moc_blocks.proofs.Adding.{one_more_cut, parted, reaching_start, reach_done, regrown_all, run_normal}
+use Rattle.moc_blocks.proofs.Filling.{filled_suffix}
+use Rattle.moc_blocks.proofs.Places.{starts_set}
+use Rattle.moc_blocks.proofs.Replacing.{as_many, beside_last, beside_next, get_between, length_replaced, width_replaced}
+use Rattle.moc_blocks.proofs.Replacing.{node_set, spot_inside, spot_node, spot_normal, spot_put, spot_sized}
+
+pub insert_length : {X : Type 0} (xs : List X) (i : ℕ) (x : X) → i ≤ length xs → length (insert xs i x) ≡ length xs + 1
+insert_length xs i x le = omega (arith, length-append (take i xs) (x ∷ drop i xs), length-take-le i xs le, length-drop i xs)
+
+pub insert_width : (rs : List (ℕ × ℕ)) (i : ℕ) (r : ℕ × ℕ) → width_of (insert rs i r) ≡ width_of rs + (r.1 - r.0)
+insert_width rs i r =
+    omega (arith, width-append (take i rs) (r ∷ drop i rs), width-append (take i rs) (drop i rs), ap width_of (take-append-drop i rs), sum_by-cons (λ (range : ℕ × ℕ). range.1 - range.0) r (drop i rs))
+
+get_same : {X : Type 0} (xs : List X) (i : ℕ) (d : X) → i < length xs → get_or xs i d ≡ get_or xs i (get_or xs i d)
+get_same {X} [] i d lt = refl
+get_same {X} (x ∷ xs) zero d lt = refl
+get_same {X} (x ∷ xs) (suc i) d lt = get_same xs i d (omega arith)
+
+-- a range between those that end below it and those that begin behind it
+gap_more : (from to k : ℕ) (run : List (ℕ × ℕ)) → IsNormal run → from < to → to ≤ pixel_count → to < next_of (drop k run) → EndsBy (from - 1) (joined (λ (r : ℕ × ℕ). r ∷ []) (take k run)) → IsPastAt (λ (r : ℕ × ℕ). r ∷ []) run (from - 1) k → HasOneMore from to run (insert run k (from, to))
+gap_more from to k run normal filled within above ended past =
+    let rest = drop k run in
+    let rest_normal = IsNormal-suffix (take k run) rest (subst IsNormal (sym (take-append-drop k run)) normal) in
+    one_more_cut from to from to k run rest (insert run k (from, to)) normal filled within ended past (omega arith)
+    (reach_done from to to rest rest (reaching_start from to rest rest_normal filled within (omega arith)) above) refl
+
+gap_cut : (before behind : List (List (ℕ × ℕ))) (run ranges : List (ℕ × ℕ)) → AreBlocks (before ++ run ∷ behind) → length ranges ≡ length run + 1 → length run < 128 → IsCut 128 (last_length before) (first_length behind) ranges ranges []
+gap_cut before behind run ranges sized more room =
+    let here = filled_suffix 128 before (run ∷ behind) sized in
+    record {
+      parts = nothing_more ranges;
+      filled = (omega arith, omega arith, tt, tt);
+      front = λ some. omega (arith, beside_last 128 before behind run sized some);
+      back = λ some. omega (arith, beside_next 128 behind run here some);
+    }
+
+around : (before left right behind : List (List (ℕ × ℕ))) (run : List (ℕ × ℕ)) → before ++ ((left ++ run ∷ right) ++ behind) ≡ (before ++ left) ++ run ∷ (right ++ behind)
+around before left right behind run =
+    ap (λ (l : List (List (ℕ × ℕ))). before ++ l) (append_assoc left (run ∷ right) behind) ∙ sym (append_assoc before left (run ∷ (right ++ behind)))
+
+pub gap_here : (from to k : ℕ) (nodes before behind : List (List (List (ℕ × ℕ)))) (node left right : List (List (ℕ × ℕ))) (run : List (ℕ × ℕ)) → IsStored [] nodes → nodes ≡ before ++ node ∷ behind → EndsBelow from (joining (joining before)) → node ≡ left ++ run ∷ right → EndsBelow from (joining left) → from < to → to ≤ pixel_count → to < next_of (joining right ++ joining (joining behind)) → to < next_of (drop k run) → EndsBy (from - 1) (joined (λ (r : ℕ × ℕ). r ∷ []) (take k run)) → IsPastAt (λ (r : ℕ × ℕ). r ∷ []) run (from - 1) k → length run < 128 → k ≤ length run → IsGap from to nodes (length before) (length left) k
+gap_here from to k nodes before behind node left right run stored parts below1 here below2 filled within above next ended past room inside =
+    let sized = subst AreBlocks (parted nodes before behind node parts) stored.sized in
+    let normal = subst (λ (l : List (List (ℕ × ℕ))). IsNormal (joining l)) (parted nodes before behind node parts) stored.normal in
+    let flat = subst AreBlocks (ap (λ (l : List (List (ℕ × ℕ))). joining before ++ (l ++ joining behind)) here ∙ around (joining before) left right (joining behind) run) sized in
+    let one : IsNormal run = run_normal (joining before) node node left right (joining behind) run refl here normal in
+    let more = gap_more from to k run one filled within next ended past in
+    let ranges = insert run k (from, to) in
+    let many : length ranges ≡ length run + 1 = insert_length run k (from, to) inside in
+    record {
+      ranges = ranges;
+      spot = record {
+        before = before;
+        old = node;
+        behind = behind;
+        parts = parts;
+        at = refl;
+        left = left;
+        run = run;
+        right = right;
+        place = refl;
+        grown = record {
+          parts = here;
+          filled = (gap_cut (joining before ++ left) (right ++ joining behind) run ranges flat many room).filled;
+          normal = subst IsNormal (sym (nothing_more ranges)) more.normal;
+          regrown = regrown_all from to (joining before) (joining behind) node left right run ranges ranges [] _ _ (to - from) (left ++ ranges ∷ right) sized normal here below1 below2 above more (insert_width run k (from, to)) refl refl
+              (gap_cut (joining before ++ left) (right ++ joining behind) run ranges flat many room) refl;
+        };
+      };
+      inside = inside;
+      room = room;
+      made = refl;
+    }
+
+-- ---- the range put there
+
+-- the block of the gap, as the code finds it
+gap_run : (from to node block place : ℕ) (nodes nodes' : List (List (List (ℕ × ℕ)))) (found : List (List (ℕ × ℕ))) → nodes' ≡ nodes → (g : IsGap from to nodes' node block place) → found ≡ get_or nodes node found → get_or found block [] ≡ g.spot.run
+gap_run from to node block place nodes nodes' found same g is =
+    let whole = spot_node from to node block (to - from) nodes nodes' g.ranges found same g.spot is ∙ g.spot.grown.parts in
+    ap (λ (l : List (List (ℕ × ℕ))). get_or l block []) whole ∙ get_between g.spot.left g.spot.right g.spot.run [] block g.spot.place
+
+gap_ranges : (from to node block place : ℕ) (nodes nodes' : List (List (List (ℕ × ℕ)))) (found : List (List (ℕ × ℕ))) → nodes' ≡ nodes → (g : IsGap from to nodes' node block place) → found ≡ get_or nodes node found → insert (get_or found block []) place (from, to) ≡ g.ranges
+gap_ranges from to node block place nodes nodes' found same g is =
+    ap (λ (l : List (ℕ × ℕ)). insert l place (from, to)) (gap_run from to node block place nodes nodes' found same g is) ∙ sym g.made
+
+-- a block with one range more is one of its node
+inserted_there : (node : List (List (ℕ × ℕ))) (block : ℕ) (run : List (ℕ × ℕ)) → block < length node → IsNormal (joining (slice_set node block run)) → IsNormal run
+inserted_there [] block run there normal = absurd (omega arith)
+inserted_there (b ∷ bs) zero run there normal = IsNormal-prefix run (joining bs) normal
+inserted_there (b ∷ bs) (suc block) run there normal = inserted_there bs block run (omega arith) (IsNormal-suffix b (joining (slice_set bs block run)) normal)
+
+-- what putting a range there asks of the block
+pub gap_normal : (node : List (List (ℕ × ℕ))) (block place : ℕ) (range : ℕ × ℕ) → HasGap node block place range → IsNormal (insert (get_or node block []) place range)
+gap_normal node block place range gap = inserted_there node block (insert (get_or node block []) place range) gap.there gap.normal
+
+pub gap_filled : (node : List (List (ℕ × ℕ))) (block place : ℕ) (range : ℕ × ℕ) → HasGap node block place range → range.0 < range.1
+gap_filled node block place range gap =
+    let run = get_or node block [] in
+    subst (λ (r : ℕ × ℕ). r.0 < r.1) (get_or-insert_at run place range range gap.inside)
+    (range_at (insert run place range) place range (gap_normal node block place range gap) (omega (arith, insert_length run place range gap.inside, gap.inside)))
+
+-- what putting it there asks of the node
+pub gap_can : (from to node block place : ℕ) (nodes nodes' : List (List (List (ℕ × ℕ)))) (found : List (List (ℕ × ℕ))) → nodes' ≡ nodes → IsGap from to nodes' node block place → found ≡ get_or nodes node found → HasGap found block place (from, to)
+gap_can from to node block place nodes nodes' found same g is =
+    let run = gap_run from to node block place nodes nodes' found same g is in
+    let made = gap_ranges from to node block place nodes nodes' found same g is in
+    let whole = spot_node from to node block (to - from) nodes nodes' g.ranges found same g.spot is ∙ g.spot.grown.parts in
+    record {
+      there = omega (arith, ap length whole, length-append g.spot.left (g.spot.run ∷ g.spot.right), g.spot.place);
+      inside = omega (arith, ap length run, g.inside);
+      room = omega (arith, ap length run, g.room);
+      normal = spot_normal from to node block (to - from) nodes nodes' g.ranges _ found same g.spot is made;
+      sized = spot_sized from to node block (to - from) nodes nodes' g.ranges _ found same g.spot is made;
+    }
+
+-- the nodes with the range
+pub record IsPut (from to : ℕ) (nodes new : List (List (List (ℕ × ℕ)))) (starts : List ℕ) (size count : ℕ) : Type 0 where
+  pub stored : IsStored [] new
+  pub grown : HasGrown from to (joining (joining nodes)) (joining (joining new)) (to - from)
+  pub index : AreNodes starts (size + (to - from)) (count + 1) new
+
+pub gap_put : (from to node block place size count : ℕ) (nodes nodes' : List (List (List (ℕ × ℕ)))) (starts : List ℕ) (found put : List (List (ℕ × ℕ))) → from < to → IsStored [] nodes → AreNodes starts size count nodes → nodes' ≡ nodes → IsGap from to nodes' node block place → found ≡ get_or nodes node found → put ≡ inserted found block place (from, to) → IsPut from to nodes (slice_set nodes node put) starts size count
+gap_put from to node block place size count nodes nodes' starts found put filled stored index same g is done =
+    let run = gap_run from to node block place nodes nodes' found same g is in
+    let made = gap_ranges from to node block place nodes nodes' found same g is in
+    let can = gap_can from to node block place nodes nodes' found same g is in
+    let inside = spot_inside from to node block (to - from) nodes nodes' g.ranges same g.spot in
+    let new = spot_put from to node block (to - from) nodes nodes' g.ranges _ found put stored same g.spot is made done in
+    let longer = length_replaced found block (get_or found block []) (insert (get_or found block []) place (from, to)) can.there (get_same found block [] can.there) in
+    let many = insert_length (get_or found block []) place (from, to) can.inside in
+    record {
+      stored = new.0;
+      grown = new.1;
+      index = record {
+        placed = index.placed ∙ sym (starts_set 0 nodes node found put is (ap length done ∙ as_many found block _));
+        measured = omega (arith, new.1.more, index.measured);
+        counted = omega (arith, node_set nodes node found put inside is, ap (λ (l : List (List (ℕ × ℕ))). length (joining l)) done, longer, many, index.counted);
+      };
+    }
+
+-- ---- the node with the range
+
+same_at : {X : Type 0} (xs : List X) (i : ℕ) (x d : X) → i < length xs → x ≡ get_or xs i x → x ≡ get_or xs i d
+same_at {X} [] i x d lt is = absurd (omega arith)
+same_at {X} (y ∷ xs) zero x d lt is = is
+same_at {X} (y ∷ xs) (suc i) x d lt is = same_at xs i x d (omega arith) is
+
+pub inserted_is : (blocks node : List (List (ℕ × ℕ))) (block place : ℕ) (range : ℕ × ℕ) (found new : List (ℕ × ℕ)) → blocks ≡ node → block < length node → found ≡ get_or blocks block found → new ≡ insert found place range → slice_set blocks block new ≡ inserted node block place range
+inserted_is blocks node block place range found new same lt is made =
+    let there : found ≡ get_or node block [] = same_at node block found [] lt (is ∙ ap (λ (l : List (List (ℕ × ℕ))). get_or l block found) same) in
+    λ i. slice_set (same i) block ((made ∙ ap (λ (l : List (ℕ × ℕ)). insert l place range) there) i)
+
+pub inserted_width : (node : List (List (ℕ × ℕ))) (block place : ℕ) (range : ℕ × ℕ) → block < length node → width_of (joining (inserted node block place range)) ≡ width_of (joining node) + (range.1 - range.0)
+inserted_width node block place range lt =
+    let run = get_or node block [] in
+    omega (arith, width_replaced node block run (insert run place range) lt (get_same node block [] lt), insert_width run place range)
+
+pub inserted_count : (node : List (List (ℕ × ℕ))) (block place : ℕ) (range : ℕ × ℕ) → block < length node → place ≤ length (get_or node block []) → length (joining (inserted node block place range)) ≡ length (joining node) + 1
+inserted_count node block place range lt inside =
+    let run = get_or node block [] in
+    omega (arith, length_replaced node block run (insert run place range) lt (get_same node block [] lt), insert_length run place range inside)
+
+pub on_true : {P : Type 0} (b : Bool) → b ≡ true → OnTrue b P → P
+on_true {P} b is holds = subst (λ (t : Bool). OnTrue t P) is holds

@@ -1,0 +1,11 @@
+pub mod Adding
+pub mod Basics
+pub mod Blocking
+pub mod Building
+pub mod Filling
+pub mod Inserting
+pub mod Merging
+pub mod Passing
+pub mod Places
+pub mod Replacing
+pub mod Stepping

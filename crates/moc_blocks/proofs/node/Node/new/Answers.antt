@@ -1,0 +1,28 @@
+use Rattle.std.proofs.Common.{◌≡◌, ◌<◌, arith, ap, sym, ◌∙◌, [], length, List, ℕ, subst}
+use Rattle.std.proofs.lemmas.List.{get_or_read}
+use Rattle.std.specs.Arc.{arc_value}
+use Rattle.moc_blocks.specs.Private.Blocks.{IsNode, width_of, first_of, last_of}
+use Rattle.moc_blocks.specs.Blocks.{joining}
+use Rattle.moc_blocks.proofs.Blocking.{first_of-joining, last_of-joining, length_last}
+use Rattle.moc_blocks.proofs.node.Node.new.Goals as goal
+
+pub invariant_of-result : goal.invariant_of-result
+invariant_of-result c =
+    let bs = c.args.blocks.items in
+    let none : List (ℕ × ℕ) = [] in
+    let same : (arc_value c.in_ok-blocks.blocks).items ≡ bs = ap (λ v. v.items) c.in_ok-blocks.ensures.ok in
+    let first = get_or_read bs _ _ (omega arith) c.index.ensures none in
+    let last = get_or_read bs _ _ (omega arith) c.index-2.ensures none in
+    let filled_first = subst (λ (b : List (ℕ × ℕ)). 0 < length b) first c.from-from.ensures.some in
+    let filled_last = subst (λ (b : List (ℕ × ℕ)). 0 < length b) last c.to-to.ensures.some in
+    subst (λ (l : List (List (ℕ × ℕ))). IsNode c.from-from.result c.to-to.result c.measure-size.result c.count_in_blocks-count.result l) (sym same) (record {
+      sized = c.requires.sized;
+      fits = c.requires.fits;
+      counted = c.count_in_blocks-count.ensures ∙ ap (λ (l : List (List (ℕ × ℕ))). length (joining l)) c.deref-2.ensures.value;
+      summary = record {
+        some = length_last bs none 0 (omega (arith, c.requires.some)) filled_first;
+        first = c.from-from.ensures.value ∙ ap first_of first ∙ sym (first_of-joining bs none (omega (arith, c.requires.some)) filled_first);
+        last = c.to-to.ensures.value ∙ ap last_of last ∙ sym (last_of-joining bs none _ (omega arith) filled_last);
+        measured = c.measure-size.ensures ∙ ap (λ (l : List (List (ℕ × ℕ))). width_of (joining l)) c.deref.ensures.value;
+      };
+    })

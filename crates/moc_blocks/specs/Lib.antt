@@ -1,0 +1,4 @@
+pub mod RangeList
+pub mod Blocks
+pub mod Lemmas
+pub mod Private

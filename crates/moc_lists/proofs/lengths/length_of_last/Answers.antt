@@ -1,7 +1,0 @@
-use Rattle.std.proofs.Common.{arith, sym, ◌∙◌}
-use Rattle.moc_lists.specs.Blocks.{joining}
-use Rattle.moc_lists.proofs.Filling.{last_length-append}
-use Rattle.moc_lists.proofs.lengths.length_of_last.Goals as goal
-
-pub returns-in_default : goal.returns-in_default
-returns-in_default c = c.length_of_block.ensures ∙ sym (last_length-append (joining c.args.nodes.now) c.args.blocks.now (omega (arith, c.in_default.len_at_least)))
