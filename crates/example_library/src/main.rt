@@ -1,5 +1,5 @@
-//! A first program over the library: it reads texts, compares, counts and measures sets, grows one by neighbours, asks a
-//! map, and writes. No proof file stands beside it.
+//! A first program over the library: it reads texts, compares, counts and measures sets, grows one by neighbours, asks
+//! a map, and writes. No proof file stands beside it.
 #![tactic(auto)]
 
 use anyhow::Result;

@@ -1,5 +1,5 @@
-//! Blocks of ranges and nodes of blocks, in which a normal list of ranges lies: how they are made, searched, walked over,
-//! and how a range is put into them. They serve `moc_lists` alone.
+//! Blocks of ranges and nodes of blocks, in which a normal list of ranges lies: how they are made, searched and walked
+//! over, and how a range is put into them. They serve `moc_lists` alone.
 #![tactic(auto)]
 
 mod added;
