@@ -11,7 +11,7 @@ use Rattle.moc_blocks.specs.Lemmas.Members.{contains-numbers, same_members, cont
 use Rattle.moc_ranges.specs.Lemmas.Members.{contains-spans}
 use Rattle.moc_ranges.specs.Cells.{span, spans, pixels_of}
 use Rattle.std.specs.Option.{option_or}
-use Rattle.moc_ranges.specs.Faults.{first_fault_from, pair_fault}
+use Rattle.moc_ranges.specs.Faults.{first_fault_of, pair_fault}
 use Rattle.moc_ranges.specs.Private.Gathered.{gathered}
 use Rattle.moc_ranges.specs.Lemmas.{empty-union, union-empty, union-assoc, pixels_of-append, run_of_cells, in_union}
 use Rattle.moc_ranges.proofs.Sorting.{in_ranges-push, no_fault_parts}
@@ -88,11 +88,11 @@ no_cell k first last q none = contains-spans k first last q ∙ grind (arith, na
 pub no_row : (a : NumberSet) (k first last : ℕ) → last < first → a ≡ set.union a (spans k first last)
 no_row a k first last none = same_members _ _ (λ q. sym (set.contains-union nat_cmp_total a (spans k first last) q ∙ or_nothing _ _ (no_cell k first last q none)))
 
-pub faultless-push : (at : ℕ) (pairs : List (ℕ × ℕ)) (pair : ℕ × ℕ) → first_fault_from at pairs ≡ None → pair.0 ≤ pair.1 → pair.1 ≤ pixel_count → first_fault_from at (pairs ++ pair ∷ []) ≡ None
+pub faultless-push : (at : ℕ) (pairs : List (ℕ × ℕ)) (pair : ℕ × ℕ) → first_fault_of pair_fault at pairs ≡ None → pair.0 ≤ pair.1 → pair.1 ≤ pixel_count → first_fault_of pair_fault at (pairs ++ pair ∷ []) ≡ None
 faultless-push at [] pair none rising within = grind (arith, nat_tests)
 faultless-push at (p ∷ pairs) pair none rising within =
-    let parts = no_fault_parts (pair_fault at p) (first_fault_from (at + 1) pairs) none in
-    ap (λ f. option_or f (first_fault_from (at + 1) (pairs ++ pair ∷ []))) parts.0 ∙ faultless-push (at + 1) pairs pair parts.1 rising within
+    let parts = no_fault_parts (pair_fault at p) (first_fault_of pair_fault (at + 1) pairs) none in
+    ap (λ f. option_or f (first_fault_of pair_fault (at + 1) (pairs ++ pair ∷ []))) parts.0 ∙ faultless-push (at + 1) pairs pair parts.1 rising within
 
 -- no cell is added yet
 pub no_cells_added : (a : NumberSet) → a ≡ set.union a (pixels_of [])

@@ -20,7 +20,8 @@ use Rattle.moc_ranges.specs.Lemmas.{spans-one, pixels_of-append, cells_fill, uni
 use Rattle.moc_text.specs.Ascii.{IsNumber}
 use Rattle.moc_text.specs.Private.Scan.{front_digits, past_digits, held_after, starts_with_digit}
 use Rattle.moc_text.specs.Lines.{lines_of}
-use Rattle.moc_text.specs.UniqList.{line_fault, fault_from, uniq_fault, numbers_on, SaysUniq, number_lines, uniq_text}
+use Rattle.moc_ranges.specs.Faults.{first_fault_of}
+use Rattle.moc_text.specs.UniqList.{line_fault, uniq_fault, numbers_on, SaysUniq, number_lines, uniq_text}
 use Rattle.moc_text.specs.Private.UniqReading.{after_line, IsPart, IsLineRead, LinesSoFar}
 use Rattle.moc_text.specs.declared.uniq.UniqError.{UniqError}
 use Rattle.moc_text.specs.declared.uniq.UniqError.TheVariants.{BadByte, NotUniq}
@@ -158,14 +159,14 @@ bad_byte : (n : ℕ) (line : List ℕ) → all_ascii_digits line ≡ false → l
 bad_byte n [] h = absurd cc
 bad_byte n (b ∷ line) h = rw h refl
 
-bad_after : (n : ℕ) (ds after : List ℕ) → all_ascii_digits ds ≡ true → starts_with_digit after ≡ false → after_line after ≡ None → fault_from n (lines_of (ds ++ after)) ≡ Some (BadByte n)
+bad_after : (n : ℕ) (ds after : List ℕ) → all_ascii_digits ds ≡ true → starts_with_digit after ≡ false → after_line after ≡ None → first_fault_of line_fault n (lines_of (ds ++ after)) ≡ Some (BadByte n)
 bad_after n ds [] h stops none = absurd cc
 bad_after n ds (b ∷ more) h stops none =
     let f = lines_bad ds b more h (no_line_end b more none) in
-    ap (fault_from n) f.2 ∙ ap (λ x. option_or x (fault_from (n + 1) f.1)) (bad_byte n (ds ++ b ∷ f.0) (not_digits ds b f.0 stops))
+    ap (first_fault_of line_fault n) f.2 ∙ ap (λ x. option_or x (first_fault_of line_fault (n + 1) f.1)) (bad_byte n (ds ++ b ∷ f.0) (not_digits ds b f.0 stops))
 
-pub line_bad : (n : ℕ) (bytes : List ℕ) → after_line (past_digits bytes) ≡ None → fault_from n (lines_of bytes) ≡ Some (BadByte n)
-line_bad n bytes none = ap (λ (b : List ℕ). fault_from n (lines_of b)) (digits-split bytes) ∙ bad_after n (front_digits bytes) (past_digits bytes) (front-digits bytes) (past-digits bytes) none
+pub line_bad : (n : ℕ) (bytes : List ℕ) → after_line (past_digits bytes) ≡ None → first_fault_of line_fault n (lines_of bytes) ≡ Some (BadByte n)
+line_bad n bytes none = ap (λ (b : List ℕ). first_fault_of line_fault n (lines_of b)) (digits-split bytes) ∙ bad_after n (front_digits bytes) (past_digits bytes) (front-digits bytes) (past-digits bytes) none
 
 -- ---- a line of digits
 
@@ -206,7 +207,7 @@ line_empty n bytes rest old some e same =
     record {
       shorter = shorter bytes rest some e;
       part = record { cells = []; are_cells = tt; numbers = ap numbers_on lines; set_is = sym (union-empty old) };
-      fault = ap (fault_from n) lines;
+      fault = ap (first_fault_of line_fault n) lines;
     }
 
 some_digits : (bytes : List ℕ) → (length (past_digits bytes) ≡ length bytes → ⊥) → 0 < length (front_digits bytes)
@@ -236,7 +237,7 @@ line_cell n bytes rest old new c some e digits is number added =
         numbers = ap numbers_on lines ∙ numbers_cons ds (lines_of rest) h.0 ∙ ap (λ v. v ∷ numbers_on (lines_of rest)) value;
         set_is = added ∙ ap (set.union old) (spans-one c.order c.index ∙ sym (union-empty (span c.order c.index)));
       };
-      fault = ap (fault_from n) lines ∙ ap (λ x. option_or x (fault_from (n + 1) (lines_of rest))) (line_fine n ds h (omega (arith, value, range.0)) (omega (arith, value, range.1)));
+      fault = ap (first_fault_of line_fault n) lines ∙ ap (λ x. option_or x (first_fault_of line_fault (n + 1) (lines_of rest))) (line_fine n ds h (omega (arith, value, range.0)) (omega (arith, value, range.1)));
     }
 
 wrong_number : (v top : ℕ) → 2 ^ 62 ≤ top → ((4 ≤ min v top) × (min v top < 2 ^ 62) → ⊥) → is_uniq v ≡ false
@@ -250,14 +251,14 @@ wrong_number v top le h = elim (cases_lt v 4) [
 
 -- a line with another number
 pub line_wrong : (n : ℕ) (bytes rest : List ℕ) → 0 < length bytes → after_line (past_digits bytes) ≡ Some rest → (length (past_digits bytes) ≡ length bytes → ⊥)
-    → ((4 ≤ held_after 0 (front_digits bytes)) × (held_after 0 (front_digits bytes) < 2 ^ 62) → ⊥) → fault_from n (lines_of bytes) ≡ Some (NotUniq n)
+    → ((4 ≤ held_after 0 (front_digits bytes)) × (held_after 0 (front_digits bytes) < 2 ^ 62) → ⊥) → first_fault_of line_fault n (lines_of bytes) ≡ Some (NotUniq n)
 line_wrong n bytes rest some e digits wrong =
     let ds = front_digits bytes in
     let h : IsNumber ds = (some_digits bytes digits, front-digits bytes) in
     let held : held_after 0 ds ≡ min (digits_value 10 ds) (2 ^ 64 - 1) = held_is ds h.1 in
     let w : is_uniq (digits_value 10 ds) ≡ false = wrong_number (digits_value 10 ds) (2 ^ 64 - 1) (omega arith) (λ r. wrong (omega (arith, held, r.0), omega (arith, held, r.1))) in
     let f : line_fault n ds ≡ Some (NotUniq n) = fault_cons n ds h.0 ∙ rw (h.1, w) refl in
-    ap (fault_from n) (front_lines bytes rest some e) ∙ ap (λ x. option_or x (fault_from (n + 1) (lines_of rest))) f
+    ap (first_fault_of line_fault n) (front_lines bytes rest some e) ∙ ap (λ x. option_or x (first_fault_of line_fault (n + 1) (lines_of rest))) f
 
 -- ---- all lines
 
@@ -325,13 +326,13 @@ small_numbers : (cells : List CellNumber) → AllByRecursion IsCell cells → Al
 small_numbers [] h = tt
 small_numbers (c ∷ cells) h = ((uniq_range c h.0).1, small_numbers cells h.1)
 
-decimals_fine : (at : ℕ) (cells : List CellNumber) → AllByRecursion IsCell cells → fault_from at (map decimal (map uniq_of cells)) ≡ None
+decimals_fine : (at : ℕ) (cells : List CellNumber) → AllByRecursion IsCell cells → first_fault_of line_fault at (map decimal (map uniq_of cells)) ≡ None
 decimals_fine at [] h = refl
 decimals_fine at (c ∷ cells) h =
     let range = uniq_range c h.0 in
     let n : IsNumber (decimal (uniq_of c)) = IsNumber-decimal (uniq_of c) (omega (arith, range.1)) in
     let value = value-decimal (uniq_of c) (omega (arith, range.1)) in
-    ap (λ x. option_or x (fault_from (at + 1) (map decimal (map uniq_of cells)))) (line_fine at (decimal (uniq_of c)) n (omega (arith, value, range.0)) (omega (arith, value, range.1)))
+    ap (λ x. option_or x (first_fault_of line_fault (at + 1) (map decimal (map uniq_of cells)))) (line_fine at (decimal (uniq_of c)) n (omega (arith, value, range.0)) (omega (arith, value, range.1)))
     ∙ decimals_fine (at + 1) cells h.1
 
 pub written_uniq_is_read : (a : NumberSet) → IsWithin a pixels → SaysUniq (uniq_text a) a
@@ -341,7 +342,7 @@ written_uniq_is_read a in_pixels =
     let are : AllByRecursion IsCell cells = cells_are a in
     let lines : lines_of (number_lines (map uniq_of cells)) ≡ map decimal (map uniq_of cells) = lines_numbers (map uniq_of cells) (small_numbers cells are) in
     record {
-      faultless = ap (fault_from 1) lines ∙ decimals_fine 1 cells are;
+      faultless = ap (first_fault_of line_fault 1) lines ∙ decimals_fine 1 cells are;
       cells = cells;
       are_cells = are;
       numbers = sym (ap numbers_on lines ∙ numbers_decimal (map uniq_of cells) (small_numbers cells are));

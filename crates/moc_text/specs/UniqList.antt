@@ -1,12 +1,12 @@
 -- NUNIQ lists: a text with the NUNIQ number of a cell on each line (MOC 2.0 has the numbers).
-use Rattle.std.specs.Prelude.{◌≡◌, ℕ, ◌+◌, not, if◌then◌else◌, List, [], ◌∷◌, ◌++◌, map, decimal, Option, Some, None}
+use Rattle.std.specs.Prelude.{◌≡◌, ℕ, not, if◌then◌else◌, List, [], ◌∷◌, ◌++◌, map, decimal, Option, Some, None}
 use Rattle.std.specs.List.{flat_map, AllByRecursion}
-use Rattle.std.specs.Option.{option_or}
 use Rattle.std.specs.Str.{all_ascii_digits}
 use Rattle.std.specs.Str.Parse.{digits_value}
 use Rattle.moc_sphere.specs.CellNumber.{CellNumber, is_uniq, IsCell, uniq_of}
 use Rattle.moc_lists.specs.RangeList.{NumberSet}
 use Rattle.moc_ranges.specs.Cells.{cells_of, pixels_of}
+use Rattle.moc_ranges.specs.Faults.{first_fault_of}
 use Rattle.moc_text.specs.Lines.{lines_of}
 use Rattle.moc_text.specs.declared.uniq.UniqError.{UniqError}
 use Rattle.moc_text.specs.declared.uniq.UniqError.TheVariants.{BadByte, NotUniq}
@@ -19,15 +19,9 @@ line_fault number (b ∷ line) =
     else if is_uniq (digits_value 10 (b ∷ line)) then None
     else Some (NotUniq number)
 
--- the fault of the first faulty line, where the lines are numbered from a number on
-abbrev pub fault_from : ℕ → List (List ℕ) → Option UniqError
-fault_from number [] = None
-fault_from number (line ∷ lines) =
-    option_or (line_fault number line) (fault_from (number + 1) lines)
-
 -- the fault of the first faulty line of a text
 unfoldable pub uniq_fault : List ℕ → Option UniqError
-uniq_fault text = fault_from 1 (lines_of text)
+uniq_fault text = first_fault_of line_fault 1 (lines_of text)
 
 -- the numbers of the lines that are not empty
 abbrev pub numbers_on : List (List ℕ) → List ℕ

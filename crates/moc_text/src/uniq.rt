@@ -9,7 +9,8 @@ ghost use Rattle.moc_text.specs.Names.{name_of_uniq};
 ghost use Rattle.moc_text.specs.Private.UniqReading.{after_line, IsLineRead};
 ghost use Rattle.moc_text.specs.Faults.{Fails};
 ghost use Rattle.moc_text.specs.declared.uniq.UniqError.TheVariants.{BadByte, Memory, NotUniq};
-ghost use Rattle.moc_text.specs.UniqList.{fault_from, number_lines, SaysUniq, uniq_fault, uniq_text};
+ghost use Rattle.moc_ranges.specs.Faults.{first_fault_of};
+ghost use Rattle.moc_text.specs.UniqList.{line_fault, number_lines, SaysUniq, uniq_fault, uniq_text};
 
 use crate::ascii::digits;
 use itoa::Buffer;
@@ -92,7 +93,7 @@ fn read_line<'a>(
     requires { 0 < length bytes.now }
     ensures { MatchResult result
         (λ rest. IsLineRead line bytes.now cells.old rest.now cells.new)
-        (λ e. Fails UniqError.Memory (fault_from line (lines_of bytes.now)) e) }
+        (λ e. Fails UniqError.Memory (first_fault_of line_fault line (lines_of bytes.now)) e) }
 {
     let (value, after) = digits(bytes);
     let Some(rest) = past_line(after) else {
