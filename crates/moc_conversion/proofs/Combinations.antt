@@ -16,7 +16,7 @@ use Rattle.moc_forms.specs.declared.finding.Choice.{Choice}
 use Rattle.moc_conversion.specs.Combining.{HasLongPiece, IsNotCombined, SaysTogether, TellsFirstFault}
 use Rattle.moc_conversion.specs.Private.Pieces.{BringsPiece, LacksSemicolons}
 use Rattle.moc_conversion.specs.Conversion.{HasRead, TellsFault}
-use Rattle.moc_conversion.specs.Private.Running.{AreNotTaken, Begins, Ends, Fails, FailsWithin, IsLong, IsOpen, Leads, SaysMore, RunsTo, TextsSay, semicolon, texts_behind}
+use Rattle.moc_conversion.specs.Private.Running.{AreNotTaken, BeginsCombination, EndsCombination, FailsCombination, FailsWithin, IsLong, IsOpen, Leads, SaysMore, RunsTo, TextsSay, semicolon, texts_behind}
 use Rattle.moc_conversion.specs.declared.combination.Combination.{Combination}
 use Rattle.moc_conversion.specs.declared.complaint.Complaint.{Complaint}
 use Rattle.moc_conversion.specs.declared.fault.InputFault.{InputFault}
@@ -161,7 +161,7 @@ ended_fails c complaint opened (inr tells) = inr (λ rest.
 
 -- the last text is at fault
 pub last_fails : (c : Combination) (complaint : Complaint) → IsOpen c → (c.before ≡ None) ⊎ (are_blanks c.text.items ≡ false)
-    → (complaint.fault ≡ want_of_memory) ⊎ TellsFault (form_for c.choice c.text.items) c.text.items (Some c.number) complaint → (complaint.fault ≡ want_of_memory) ⊎ Fails c [] complaint
+    → (complaint.fault ≡ want_of_memory) ⊎ TellsFault (form_for c.choice c.text.items) c.text.items (Some c.number) complaint → (complaint.fault ≡ want_of_memory) ⊎ FailsCombination c [] complaint
 last_fails c complaint opened why (inl memory) = inl memory
 last_fails c complaint opened why (inr tells) = inr (
     subst (λ t. TellsFirstFault c.number c.choice (texts_behind c.before t) complaint) (sym (append-nil c.text.items))
@@ -169,18 +169,18 @@ last_fails c complaint opened why (inr tells) = inr (
     (first_fails c.number c.choice c.text.items [] complaint tells)))
 
 -- the last text says something
-last_says_so : (c : Combination) (after : Said) → IsOpen c → (c.before ≡ None) ⊎ (are_blanks c.text.items ≡ false) → SaysMore c c.before after → Ends c [] (Some after)
+last_says_so : (c : Combination) (after : Said) → IsOpen c → (c.before ≡ None) ⊎ (are_blanks c.text.items ≡ false) → SaysMore c c.before after → EndsCombination c [] (Some after)
 last_says_so c after opened why more =
     subst (λ t. TextsSay c.operation c.choice c.before t (Some after)) (sym (append-nil c.text.items))
     (subst (λ s. TextsSay c.operation c.choice c.before c.text.items (Some s)) (sym more.2)
     (last c.operation c.choice c.before c.text.items more.0 opened.lacks opened.within more.1 (alone c.before c.text.items opened.lacks why)))
 
 pub last_says : (c : Combination) (before : Option Said) (after : Said) → before ≡ c.before → IsOpen c → (c.before ≡ None) ⊎ (are_blanks c.text.items ≡ false)
-    → SaysMore c before after → Ends c [] (Some after)
+    → SaysMore c before after → EndsCombination c [] (Some after)
 last_says c before after same opened why more = last_says_so c after opened why (subst (λ b. SaysMore c b after) same more)
 
 -- blanks behind the last semicolon say nothing more
-pub blanks_say : (c : Combination) (after : Said) → IsOpen c → c.before ≡ Some after → are_blanks c.text.items ≡ true → Ends c [] (Some after)
+pub blanks_say : (c : Combination) (after : Said) → IsOpen c → c.before ≡ Some after → are_blanks c.text.items ≡ true → EndsCombination c [] (Some after)
 blanks_say c after opened before blank =
     let none : texts_behind (Some after) c.text.items ≡ [] =
     single after c.text.items opened.lacks ∙ ap (λ b. if b then [] else c.text.items ∷ []) blank in
@@ -201,10 +201,10 @@ led_on a b c xs ys first second = record {
   operation = second.operation ∙ first.operation;
   choice = second.choice ∙ first.choice;
   ends = λ rest after end.
-      subst (λ bytes. Ends a bytes after) (sym (append_assoc xs ys rest))
+      subst (λ bytes. EndsCombination a bytes after) (sym (append_assoc xs ys rest))
       (first.ends (ys ++ rest) after (second.ends rest after end));
   fails = λ rest complaint fails.
-      subst (λ bytes. Fails a bytes complaint) (sym (append_assoc xs ys rest))
+      subst (λ bytes. FailsCombination a bytes complaint) (sym (append_assoc xs ys rest))
       (first.fails (ys ++ rest) complaint (second.fails rest complaint fails));
   longer = λ rest long. subst (IsLong a) (sym (append_assoc xs ys rest)) (first.longer (ys ++ rest) (second.longer rest long));
 }
@@ -266,11 +266,11 @@ pub failed_on : (a b : Combination) (xs ys behind : List ℕ) (complaint : Compl
     → AreNotTaken a (xs ++ (ys ++ behind)) complaint.fault ⊎ FailsWithin a (xs ++ (ys ++ behind)) complaint
 failed_on a b xs ys behind complaint leads (inl not) = inl (not_taken_on a b xs ys behind complaint.fault leads not)
 failed_on a b xs ys behind complaint leads (inr fails) = inr (λ rest.
-    subst (λ bytes. Fails a bytes complaint) (ap (λ more. xs ++ more) (sym (append_assoc ys behind rest)) ∙ sym (append_assoc xs (ys ++ behind) rest))
+    subst (λ bytes. FailsCombination a bytes complaint) (ap (λ more. xs ++ more) (sym (append_assoc ys behind rest)) ∙ sym (append_assoc xs (ys ++ behind) rest))
     (leads.fails (ys ++ (behind ++ rest)) complaint (fails (behind ++ rest))))
 
 -- a combination that begins, in what it says and in its faults
-module _ (operation : Operation) (choice : Choice) (c : Combination) (begins : Begins operation choice c) where
+module _ (operation : Operation) (choice : Choice) (c : Combination) (begins : BeginsCombination operation choice c) where
   pub begun : IsOpen c
   begun = record {
     lacks = subst LacksSemicolons (sym begins.text) (λ k d below. absurd (omega arith));
@@ -281,7 +281,7 @@ module _ (operation : Operation) (choice : Choice) (c : Combination) (begins : B
   begins_texts bytes = ap (λ b. texts_behind b (c.text.items ++ bytes)) begins.before ∙ ap (λ t. texts_of (t ++ bytes)) begins.text
 
   -- all bytes that were taken, where all texts have come
-  pub whole : (d : Combination) (bytes : List ℕ) (after : Said) → Leads c bytes d → Ends d [] (Some after) → TextsSay operation choice None bytes (Some after)
+  pub whole : (d : Combination) (bytes : List ℕ) (after : Said) → Leads c bytes d → EndsCombination d [] (Some after) → TextsSay operation choice None bytes (Some after)
   whole d bytes after leads all =
       let told = leads.ends [] (Some after) all in
       subst (λ o. TextsSay o choice None bytes (Some after)) begins.operation
@@ -294,7 +294,7 @@ module _ (operation : Operation) (choice : Choice) (c : Combination) (begins : B
   longer_from_1 bytes (inl part) = inl (subst (λ t. HasLongPiece (t ++ bytes)) begins.text part)
   longer_from_1 bytes (inr many) = inr (omega (arith, many, begins.number))
 
-  pub fails_from_1 : (bytes : List ℕ) (complaint : Complaint) → Fails c bytes complaint → TellsFirstFault 1 choice (texts_of bytes) complaint
+  pub fails_from_1 : (bytes : List ℕ) (complaint : Complaint) → FailsCombination c bytes complaint → TellsFirstFault 1 choice (texts_of bytes) complaint
   fails_from_1 bytes complaint fails =
       subst (λ n. TellsFirstFault n choice (texts_of bytes) complaint) begins.number
       (subst (λ f. TellsFirstFault c.number f (texts_of bytes) complaint) begins.choice
@@ -314,7 +314,7 @@ piece_taken a b c start d e piece pieces consumed leads some ((taken, (before, l
 )
 
 module _ (operation : Operation) (choice : Choice) (a b c : Option (List ℕ)) (start d : Combination) (piece : List ℕ)
-    (begins : Begins operation choice start) (runs : RunsTo a b start d) (consumed : Consumes b c piece) where
+    (begins : BeginsCombination operation choice start) (runs : RunsTo a b start d) (consumed : Consumes b c piece) where
   taken : List ℕ
   taken = runs.0
 
@@ -346,13 +346,13 @@ module _ (operation : Operation) (choice : Choice) (a b c : Option (List ℕ)) (
     all_consumed : Consumes a c runs.0
     all_consumed = subst (Consumes a c) (ap (λ p. runs.0 ++ p) empty ∙ append-nil runs.0) (Consumes-trans a b c runs.0 piece runs.1.0 consumed)
 
-    pub all_taken : (after : Said) → Ends d [] (Some after) → SaysTogether operation choice a c after
+    pub all_taken : (after : Said) → EndsCombination d [] (Some after) → SaysTogether operation choice a c after
     all_taken after ends =
         let told = whole operation choice start begins d runs.0 after runs.1.1 ends in
         (runs.0, all_consumed, (end, told.within, told.says))
 
     -- the last text was at fault
-    pub all_fails : (complaint : Complaint) → (complaint.fault ≡ want_of_memory) ⊎ Fails d [] complaint → IsNotCombined choice a c complaint
+    pub all_fails : (complaint : Complaint) → (complaint.fault ≡ want_of_memory) ⊎ FailsCombination d [] complaint → IsNotCombined choice a c complaint
     all_fails complaint (inl memory) = inl (inr (inr memory))
     all_fails complaint (inr fails) = inr (
       runs.0,

@@ -6,7 +6,7 @@ ghost use Rattle.moc_conversion.specs.Combining.{CombinesAll, IsNotCombined, Say
 ghost use Rattle.moc_conversion.specs.Conversion.{TellsFault};
 ghost use Rattle.moc_conversion.specs.Faults.{want_of_memory};
 ghost use Rattle.moc_conversion.specs.Private.Pieces.{LacksSemicolons};
-ghost use Rattle.moc_conversion.specs.Private.Running.{Begins, Ends, Fails, FailsWithin, IsOpen, AreNotTaken, Leads};
+ghost use Rattle.moc_conversion.specs.Private.Running.{BeginsCombination, EndsCombination, FailsCombination, FailsWithin, IsOpen, AreNotTaken, Leads};
 ghost use Rattle.moc_conversion.specs.Private.Running.{SaysMore, semicolon};
 
 use crate::complaint::Complaint;
@@ -33,7 +33,7 @@ struct Combination {
 impl Combination {
     /// No text has ended, and none of the first has come.
     fn new(alloc: Global, operation: Operation, choice: Choice) -> Combination
-        ensures begins { Begins operation choice result }
+        ensures begins { BeginsCombination operation choice result }
     {
         Combination {
             operation,
@@ -85,7 +85,7 @@ impl Combination {
         Ok(self.operation.join(alloc, before, said)?)
     }
 
-    /// Ends the text, and begins the next.
+    /// EndsCombination the text, and begins the next.
     fn end_text(&mut self, alloc: Global) -> Result<(), Complaint>
         requires { IsOpen self.old }
         ensures device { IfErr result (λ c. c.fault ≢ InputFault.Read) }
@@ -126,8 +126,8 @@ impl Combination {
     fn all_said(&mut self, alloc: Global) -> Result<Said, Complaint>
         requires { IsOpen self.old }
         ensures device { IfErr result (λ c. c.fault ≢ InputFault.Read) }
-        ensures fault { IfErr result (λ c. (c.fault ≡ want_of_memory) ⊎ Fails self.old [] c) }
-        ensures says { IfOk result (λ after. Ends self.old [] (Some after)) }
+        ensures fault { IfErr result (λ c. (c.fault ≡ want_of_memory) ⊎ FailsCombination self.old [] c) }
+        ensures says { IfOk result (λ after. EndsCombination self.old [] (Some after)) }
     {
         let Some(before) = self.before.take() else {
             return self.join(alloc, None);

@@ -2,7 +2,7 @@
 use Rattle.std.proofs.Common.{◌≡◌, ℕ, ◌+◌, ◌-◌, ◌*◌, ◌/◌, ◌%◌, ◌<◌, ◌≤◌, ◌⊎◌, inl, inr, arith, refl, ap, ◌&&◌, ◌==◌, Bool, true}
 use Rattle.std.proofs.lemmas.Bool.{agree_below_at, and_parts, eqb-true}
 use Rattle.std.proofs.Math.Nat.{mul-le-mul_right}
-use Rattle.moc_sphere.specs.Private.Sides.{Meets}
+use Rattle.moc_sphere.specs.Private.Sides.{NamesOnePoint}
 use Rattle.moc_sphere.specs.Rings.{row_factor, column_factor}
 use Rattle.moc_sphere.specs.Touching.{corner_row, belt_column}
 use Rattle.moc_sphere.proofs.Lattice.{Hop, split, same_rest}
@@ -15,9 +15,9 @@ IsSquare f a b =
     ⊎ ((8 ≤ f) × (f < 12) × (a + 8 ≡ f) × (b + f ≡ 11)))
 
 -- A hop in the lattice is one of the names of a point.
-pub Meets-hop : (n f g a b c d X Y Z W : ℕ) → 0 < n → IsSquare f a b → IsSquare g c d
-    → X ≤ n → Y ≤ n → Z ≤ n → W ≤ n → Hop n a b c d X Y Z W → Meets n f X Y g Z W
-Meets-hop n f g a b c d X Y Z W pos p q xn yn zn wn hop = grind arith
+pub NamesOnePoint-hop : (n f g a b c d X Y Z W : ℕ) → 0 < n → IsSquare f a b → IsSquare g c d
+    → X ≤ n → Y ≤ n → Z ≤ n → W ≤ n → Hop n a b c d X Y Z W → NamesOnePoint n f X Y g Z W
+NamesOnePoint-hop n f g a b c d X Y Z W pos p q xn yn zn wn hop = grind arith
 
 abbrev tables_agree : ℕ → Bool
 tables_agree f = (row_factor f == 2 + f / 4) && (column_factor f + f / 4 % 2 == 2 * (f % 4) + 1)
@@ -66,12 +66,12 @@ hop_from_columns n J K a b L M c d X Y Z W pos xn yn zn wn j k jlow kfew l m llo
     ]
 
 -- Two corners in the belt that have one row and one column are two names of one point.
-pub Meets-belt : (n f g X Y Z W : ℕ) → 0 < n → f < 12 → g < 12 → X ≤ n → Y ≤ n → Z ≤ n → W ≤ n
-    → corner_row n f X Y ≡ corner_row n g Z W → belt_column n f X Y ≡ belt_column n g Z W → Meets n f X Y g Z W
+pub NamesOnePoint-belt : (n f g X Y Z W : ℕ) → 0 < n → f < 12 → g < 12 → X ≤ n → Y ≤ n → Z ≤ n → W ≤ n
+    → corner_row n f X Y ≡ corner_row n g Z W → belt_column n f X Y ≡ belt_column n g Z W → NamesOnePoint n f X Y g Z W
 unfolding corner_row belt_column
-Meets-belt n f g X Y Z W pos fn gn xn yn zn wn rows columns =
+NamesOnePoint-belt n f g X Y Z W pos fn gn xn yn zn wn rows columns =
     let s = square_of f fn in
     let t = square_of g gn in
-    Meets-hop n f g _ _ _ _ X Y Z W pos s.is t.is xn yn zn wn
+    NamesOnePoint-hop n f g _ _ _ _ X Y Z W pos s.is t.is xn yn zn wn
     (hop_from_columns n (row_factor f) (column_factor f) _ _ (row_factor g) (column_factor g) _ _ X Y Z W pos xn yn zn wn
     s.rows s.columns s.low s.few t.rows t.columns t.low t.few rows columns)

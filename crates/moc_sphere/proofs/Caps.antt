@@ -1,7 +1,7 @@
 -- The polar caps: four triangles round a pole, each m long at m rows from it.
 use Rattle.std.proofs.Common.{◌≡◌, ℕ, ◌+◌, ◌-◌, ◌*◌, ◌%◌, ◌<◌, ◌≤◌, ◌⊎◌, inl, inr, arith}
 use Rattle.std.proofs.Math.Nat.{mul-le-mul_right}
-use Rattle.moc_sphere.specs.Private.Sides.{Meets}
+use Rattle.moc_sphere.specs.Private.Sides.{NamesOnePoint}
 use Rattle.moc_sphere.proofs.Lattice.{Split, split, same_rest}
 
 -- The places s of the triangle a and t of the triangle c are one, on a circle of four.
@@ -19,16 +19,16 @@ turn_from_columns m a c s t pos an cn sn tn columns =
       | inr (inr e) ↦ inr (inr (split m (a + 4) c s t pos sn tn (omega arith)))
     ]
 
-pub Meets-north : (n m f g X Y Z W : ℕ) → f < 4 → g < 4 → X ≤ n → Y ≤ n → Z ≤ n → W ≤ n
-    → m + X + Y ≡ 2 * n → m + Z + W ≡ 2 * n → Turn m f g (n - Y) (n - W) → Meets n f X Y g Z W
-Meets-north n m f g X Y Z W fn gn xn yn zn wn e h turn = grind arith
+pub NamesOnePoint-north : (n m f g X Y Z W : ℕ) → f < 4 → g < 4 → X ≤ n → Y ≤ n → Z ≤ n → W ≤ n
+    → m + X + Y ≡ 2 * n → m + Z + W ≡ 2 * n → Turn m f g (n - Y) (n - W) → NamesOnePoint n f X Y g Z W
+NamesOnePoint-north n m f g X Y Z W fn gn xn yn zn wn e h turn = grind arith
 
-pub Meets-north_pole : (n f g : ℕ) → f < 4 → g < 4 → Meets n f n n g n n
-Meets-north_pole n f g fn gn = grind arith
+pub NamesOnePoint-north_pole : (n f g : ℕ) → f < 4 → g < 4 → NamesOnePoint n f n n g n n
+NamesOnePoint-north_pole n f g fn gn = grind arith
 
-pub Meets-south : (n m f g X Y Z W : ℕ) → 8 ≤ f → f < 12 → 8 ≤ g → g < 12 → X ≤ n → Y ≤ n → Z ≤ n → W ≤ n
-    → m ≡ X + Y → m ≡ Z + W → Turn m (f - 8) (g - 8) X Z → Meets n f X Y g Z W
-Meets-south n m f g X Y Z W fl fn gl gn xn yn zn wn e h turn = grind arith
+pub NamesOnePoint-south : (n m f g X Y Z W : ℕ) → 8 ≤ f → f < 12 → 8 ≤ g → g < 12 → X ≤ n → Y ≤ n → Z ≤ n → W ≤ n
+    → m ≡ X + Y → m ≡ Z + W → Turn m (f - 8) (g - 8) X Z → NamesOnePoint n f X Y g Z W
+NamesOnePoint-south n m f g X Y Z W fl fn gl gn xn yn zn wn e h turn = grind arith
 
-pub Meets-south_pole : (n f g : ℕ) → 8 ≤ f → f < 12 → 8 ≤ g → g < 12 → Meets n f 0 0 g 0 0
-Meets-south_pole n f g fl fn gl gn = grind arith
+pub NamesOnePoint-south_pole : (n f g : ℕ) → 8 ≤ f → f < 12 → 8 ≤ g → g < 12 → NamesOnePoint n f 0 0 g 0 0
+NamesOnePoint-south_pole n f g fl fn gl gn = grind arith

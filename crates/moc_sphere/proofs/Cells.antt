@@ -1,6 +1,6 @@
 -- From corners to cells: two cells share a corner exactly where the one lies beside the other.
 use Rattle.std.proofs.Common.{◌≡◌, ℕ, ◌+◌, ◌-◌, ◌<◌, ◌≤◌, inl, inr, arith, refl, max}
-use Rattle.moc_sphere.specs.Private.Sides.{Meets, IsBeside, IsBeyondNorthEast, IsBeyondSouthWest, IsBeyondNorthWest, IsBeyondSouthEast, IsBeyondNorth, IsBeyondSouth, IsBeyondEast, IsBeyondWest}
+use Rattle.moc_sphere.specs.Private.Sides.{NamesOnePoint, IsBeside, IsBeyondNorthEast, IsBeyondSouthWest, IsBeyondNorthWest, IsBeyondSouthEast, IsBeyondNorth, IsBeyondSouth, IsBeyondEast, IsBeyondWest}
 use Rattle.moc_sphere.proofs.Shared.{IsCorner}
 
 -- the cell (z, w) lies beyond a side, at a place p along it that is at most one from the place u
@@ -76,7 +76,7 @@ reach_south_east n f x y g z w xn yn at (p, pn, above, below, h) =
     (p + 1 - x, 0, omega arith, omega arith, inr (inr (inr (inr (inl (omega arith, omega arith, omega arith, rw e h))))))
 
 pub Reaches-from_corners : (n f x y X Y g z w Z W : ℕ) → f < 12 → x < n → y < n → z < n → w < n
-    → IsCorner x y X Y → IsCorner z w Z W → Meets n f X Y g Z W → Reaches n f x y g z w
+    → IsCorner x y X Y → IsCorner z w Z W → NamesOnePoint n f X Y g Z W → Reaches n f x y g z w
 Reaches-from_corners n f x y X Y g z w Z W fn xn yn zn wn c d m =
     elim m [
       | inl h ↦ (z + 1 - x, w + 1 - y, omega arith, omega arith, inl (omega arith, omega arith, omega arith, omega arith, omega arith, omega arith, omega arith))
@@ -107,13 +107,13 @@ pub record IsCornerOf (n f X Y g z w : ℕ) : Type 0 where
   pub Z : ℕ
   pub W : ℕ
   pub corner : IsCorner z w Z W
-  pub meets : Meets n f X Y g Z W
+  pub meets : NamesOnePoint n f X Y g Z W
 
-corner_of_at : (n f X Y g z w Z W : ℕ) → z ≤ Z → Z ≤ z + 1 → w ≤ W → W ≤ w + 1 → Meets n f X Y g Z W → IsCornerOf n f X Y g z w
+corner_of_at : (n f X Y g z w Z W : ℕ) → z ≤ Z → Z ≤ z + 1 → w ≤ W → W ≤ w + 1 → NamesOnePoint n f X Y g Z W → IsCornerOf n f X Y g z w
 corner_of_at n f X Y g z w Z W a b c d m =
     record { Z = Z; W = W; corner = record { from_x = a; to_x = b; from_y = c; to_y = d }; meets = m }
 
-shares_north_east : (n f U g Z W : ℕ) → IsBeyondNorthEast n f U g Z W → Meets n f n U g Z W
+shares_north_east : (n f U g Z W : ℕ) → IsBeyondNorthEast n f U g Z W → NamesOnePoint n f n U g Z W
 shares_north_east n f U g Z W h = inr (inl (refl, h))
 
 corner_of_north_east : (n f U g z w p : ℕ) → p < n → p ≤ U → U ≤ p + 1 → IsBeyondNorthEast (n - 1) f p g z w → IsCornerOf n f n U g z w
@@ -124,7 +124,7 @@ corner_of_north_east n f U g z w p pn low high h =
       | inr (inr a) ↦ corner_of_at n f n U g z w 0 U (omega arith) (omega arith) (omega arith) (omega arith) (shares_north_east n f U g 0 U (grind arith))
     ]
 
-shares_south_west : (n f U g Z W : ℕ) → IsBeyondSouthWest n f U g Z W → Meets n f 0 U g Z W
+shares_south_west : (n f U g Z W : ℕ) → IsBeyondSouthWest n f U g Z W → NamesOnePoint n f 0 U g Z W
 shares_south_west n f U g Z W h = inr (inr (inl (refl, h)))
 
 corner_of_south_west : (n f U g z w p : ℕ) → p < n → p ≤ U → U ≤ p + 1 → IsBeyondSouthWest (n - 1) f p g z w → IsCornerOf n f 0 U g z w
@@ -135,7 +135,7 @@ corner_of_south_west n f U g z w p pn low high h =
       | inr (inr a) ↦ corner_of_at n f 0 U g z w U 0 (omega arith) (omega arith) (omega arith) (omega arith) (shares_south_west n f U g U 0 (grind arith))
     ]
 
-shares_north_west : (n f U g Z W : ℕ) → IsBeyondNorthWest n f U g Z W → Meets n f U n g Z W
+shares_north_west : (n f U g Z W : ℕ) → IsBeyondNorthWest n f U g Z W → NamesOnePoint n f U n g Z W
 shares_north_west n f U g Z W h = inr (inr (inr (inl (refl, h))))
 
 corner_of_north_west : (n f U g z w p : ℕ) → p < n → p ≤ U → U ≤ p + 1 → IsBeyondNorthWest (n - 1) f p g z w → IsCornerOf n f U n g z w
@@ -146,7 +146,7 @@ corner_of_north_west n f U g z w p pn low high h =
       | inr (inr a) ↦ corner_of_at n f U n g z w U 0 (omega arith) (omega arith) (omega arith) (omega arith) (shares_north_west n f U g U 0 (grind arith))
     ]
 
-shares_south_east : (n f U g Z W : ℕ) → IsBeyondSouthEast n f U g Z W → Meets n f U 0 g Z W
+shares_south_east : (n f U g Z W : ℕ) → IsBeyondSouthEast n f U g Z W → NamesOnePoint n f U 0 g Z W
 shares_south_east n f U g Z W h = inr (inr (inr (inr (inl (refl, h)))))
 
 corner_of_south_east : (n f U g z w p : ℕ) → p < n → p ≤ U → U ≤ p + 1 → IsBeyondSouthEast (n - 1) f p g z w → IsCornerOf n f U 0 g z w
@@ -157,7 +157,7 @@ corner_of_south_east n f U g z w p pn low high h =
       | inr (inr a) ↦ corner_of_at n f U 0 g z w 0 U (omega arith) (omega arith) (omega arith) (omega arith) (shares_south_east n f U g 0 U (grind arith))
     ]
 
-shares_north : (n f g Z W : ℕ) → IsBeyondNorth n f g Z W → Meets n f n n g Z W
+shares_north : (n f g Z W : ℕ) → IsBeyondNorth n f g Z W → NamesOnePoint n f n n g Z W
 shares_north n f g Z W h = inr (inr (inr (inr (inr (inl (refl, refl, h))))))
 
 corner_of_north : (n f g z w : ℕ) → 0 < n → IsBeyondNorth (n - 1) f g z w → IsCornerOf n f n n g z w
@@ -167,7 +167,7 @@ corner_of_north n f g z w pos h =
       | inr a ↦ corner_of_at n f n n g z w 0 0 (omega arith) (omega arith) (omega arith) (omega arith) (shares_north n f g 0 0 (grind arith))
     ]
 
-shares_south : (n f g Z W : ℕ) → IsBeyondSouth n f g Z W → Meets n f 0 0 g Z W
+shares_south : (n f g Z W : ℕ) → IsBeyondSouth n f g Z W → NamesOnePoint n f 0 0 g Z W
 shares_south n f g Z W h = inr (inr (inr (inr (inr (inr (inl (refl, refl, h)))))))
 
 corner_of_south : (n f g z w : ℕ) → 0 < n → IsBeyondSouth (n - 1) f g z w → IsCornerOf n f 0 0 g z w
@@ -177,14 +177,14 @@ corner_of_south n f g z w pos h =
       | inr a ↦ corner_of_at n f 0 0 g z w 0 0 (omega arith) (omega arith) (omega arith) (omega arith) (shares_south n f g 0 0 (grind arith))
     ]
 
-shares_east : (n f g Z W : ℕ) → IsBeyondEast n f g Z W → Meets n f n 0 g Z W
+shares_east : (n f g Z W : ℕ) → IsBeyondEast n f g Z W → NamesOnePoint n f n 0 g Z W
 shares_east n f g Z W h = inr (inr (inr (inr (inr (inr (inr (inl (refl, refl, h))))))))
 
 corner_of_east : (n f g z w : ℕ) → 0 < n → IsBeyondEast (n - 1) f g z w → IsCornerOf n f n 0 g z w
 corner_of_east n f g z w pos h =
     corner_of_at n f n 0 g z w 0 n (omega arith) (omega arith) (omega arith) (omega arith) (shares_east n f g 0 n (grind arith))
 
-shares_west : (n f g Z W : ℕ) → IsBeyondWest n f g Z W → Meets n f 0 n g Z W
+shares_west : (n f g Z W : ℕ) → IsBeyondWest n f g Z W → NamesOnePoint n f 0 n g Z W
 shares_west n f g Z W h = inr (inr (inr (inr (inr (inr (inr (inr ((refl, refl, h)))))))))
 
 corner_of_west : (n f g z w : ℕ) → 0 < n → IsBeyondWest (n - 1) f g z w → IsCornerOf n f 0 n g z w
@@ -216,7 +216,7 @@ corner_of_beside n f X Y s t g z w pos xn yn (xs, sx) (yt, ty) b =
 
 -- Two corners, one of the cell beside: the corner is one of that cell on the plane too.
 module _ (n f X Y s t g z w Z W : ℕ) (pos : 0 < n) (fn : f < 12) (xn : X ≤ n) (yn : Y ≤ n) (zn : z < n) (wn : w < n)
-    (c : IsCorner z w Z W) (m : Meets n f X Y g Z W) where
+    (c : IsCorner z w Z W) (m : NamesOnePoint n f X Y g Z W) where
   adjoins_inside : ((1 ≤ s) × (s ≤ n) × (1 ≤ t) × (t ≤ n) × (g ≡ f) × (z + 1 ≡ s) × (w + 1 ≡ t)) → Adjoins X s × Adjoins Y t
   adjoins_inside a = grind arith
 
@@ -266,7 +266,7 @@ pub record Shared (n f x y g z w : ℕ) : Type 0 where
   pub W : ℕ
   pub mine : IsCorner x y X Y
   pub yours : IsCorner z w Z W
-  pub meets : Meets n f X Y g Z W
+  pub meets : NamesOnePoint n f X Y g Z W
 
 pub Shared-from_beside : (n f x y a b g z w : ℕ) → f < 12 → x < n → y < n → a < 3 → b < 3
     → IsBeside n f (x + a) (y + b) g z w → Shared n f x y g z w

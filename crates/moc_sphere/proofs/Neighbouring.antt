@@ -10,7 +10,7 @@ use Rattle.moc_sphere.specs.Touching.{Point, corner_point, corner_points, corner
 use Rattle.moc_sphere.specs.Private.Sides.{corners_of_step, goes_down, goes_up, IsAtStep, IsBeside}
 use Rattle.moc_sphere.specs.declared.direction.Direction.{Direction}
 use Rattle.moc_sphere.proofs.Shared.{IsCorner, at_corner, corner_in, found_in, same_from_test, same_point, Touches-from_test}
-use Rattle.moc_sphere.proofs.Points.{Meets-from_same_point}
+use Rattle.moc_sphere.proofs.Points.{NamesOnePoint-from_same_point}
 use Rattle.moc_sphere.proofs.Names.{same_point-from_Meets}
 use Rattle.moc_sphere.proofs.Cells.{Adjoins, adjoins_from_beside, corner_of_beside}
 use Rattle.moc_sphere.proofs.FaceBounds.{face_of-below, x_of-below, y_of-below, side_positive}
@@ -83,7 +83,7 @@ module _ (k i j a b : ℕ) (al : a < 3) (bl : b < 3) (ib : i < 12 * 4 ^ k) (jb :
       let v = at_corner k j (corner X Y) (Contains-from_any (λ p q. same_from_test p q) (corner X Y) (corner_points k j) h) in
       let zc = v.corner.to_x in
       let wc = v.corner.to_y in
-      let m = Meets-from_same_point (2 ^ k) (face_of k i) (face_of k j) X Y v.X v.Y (side_positive k) (face_of-below k i ib) (face_of-below k j jb)
+      let m = NamesOnePoint-from_same_point (2 ^ k) (face_of k i) (face_of k j) X Y v.X v.Y (side_positive k) (face_of-below k i ib) (face_of-below k j jb)
       (omega arith) (omega arith) (omega arith) (omega arith) (record { row = ap (λ p. p.row) (sym v.is); column = ap (λ p. p.column) (sym v.is) }) in
       adjoins_from_beside (2 ^ k) (face_of k i) X Y (x_of k i + a) (y_of k i + b) (face_of k j) (x_of k j) (y_of k j) v.X v.Y (side_positive k) (face_of-below k i ib)
       (omega arith) (omega arith) zn wn v.corner m at

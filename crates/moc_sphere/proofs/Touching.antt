@@ -4,7 +4,7 @@ use Rattle.moc_sphere.specs.Faces.{face_of, x_of, y_of}
 use Rattle.moc_sphere.specs.Touching.{Touches}
 use Rattle.moc_sphere.proofs.Shared.{Touches-from_shared, shared_from_Touches}
 use Rattle.moc_sphere.specs.Private.Sides.{IsAtStep, IsBeside}
-use Rattle.moc_sphere.proofs.Points.{Meets-from_same_point}
+use Rattle.moc_sphere.proofs.Points.{NamesOnePoint-from_same_point}
 use Rattle.moc_sphere.proofs.Names.{same_point-from_Meets}
 use Rattle.moc_sphere.proofs.Cells.{Reaches, Reaches-from_corners, Shared-from_beside, apart_from_beside}
 use Rattle.moc_sphere.proofs.FaceBounds.{face_of-below, x_of-below, y_of-below, side_positive, same_cell}
@@ -60,7 +60,7 @@ step_from_Touches k i j t =
     let my = v.mine.to_y in
     let yx = v.yours.to_x in
     let yy = v.yours.to_y in
-    let m = Meets-from_same_point (2 ^ k) (face_of k i) (face_of k j) v.X v.Y v.Z v.W (side_positive k) f g
+    let m = NamesOnePoint-from_same_point (2 ^ k) (face_of k i) (face_of k j) v.X v.Y v.Z v.W (side_positive k) f g
     (omega arith) (omega arith) (omega arith) (omega arith) v.point in
     let r = Reaches-from_corners (2 ^ k) (face_of k i) (x_of k i) (y_of k i) v.X v.Y (face_of k j) (x_of k j) (y_of k j) v.Z v.W f x y z w
     v.mine v.yours m in

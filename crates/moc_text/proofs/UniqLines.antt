@@ -22,7 +22,7 @@ use Rattle.moc_text.specs.Private.Scan.{front_digits, past_digits, held_after, s
 use Rattle.moc_text.specs.Lines.{lines_of}
 use Rattle.moc_ranges.specs.Faults.{first_fault_of}
 use Rattle.moc_text.specs.UniqList.{line_fault, uniq_fault, numbers_on, SaysUniq, number_lines, uniq_text}
-use Rattle.moc_text.specs.Private.UniqReading.{after_line, IsPart, IsLineRead, LinesSoFar}
+use Rattle.moc_text.specs.Private.UniqReading.{behind_line_feed, IsPart, IsLineRead, LinesSoFar}
 use Rattle.moc_text.specs.declared.uniq.UniqError.{UniqError}
 use Rattle.moc_text.specs.declared.uniq.UniqError.TheVariants.{BadByte, NotUniq}
 use Rattle.moc_text.proofs.Automaton.{both}
@@ -111,17 +111,17 @@ lines_last (d ∷ e ∷ ds) some h =
     rw (digit_no_end d p.0) (ap (onto_first d) (lines_last (e ∷ ds) (omega arith) p.1))
 
 -- what ends a line
-line_end : (b : ℕ) (more rest : List ℕ) → after_line (b ∷ more) ≡ Some rest → (b ≡ 10) × (more ≡ rest)
+line_end : (b : ℕ) (more rest : List ℕ) → behind_line_feed (b ∷ more) ≡ Some rest → (b ≡ 10) × (more ≡ rest)
 line_end b more rest h =
     elim (eqb b 10) as (λ v. eqb b 10 ≡ v → cond v (Some more) None ≡ Some rest → (b ≡ 10) × (more ≡ rest)) [
       | true ↦ λ e k. let same : more ≡ rest = cc in (eqb-true b 10 e, same)
       | false ↦ λ e k. absurd cc
     ] refl h
 
-no_line_end : (b : ℕ) (more : List ℕ) → after_line (b ∷ more) ≡ None → eqb b 10 ≡ false
+no_line_end : (b : ℕ) (more : List ℕ) → behind_line_feed (b ∷ more) ≡ None → eqb b 10 ≡ false
 no_line_end b more h = elim (eqb b 10) as (λ v. cond v (Some more) None ≡ None → v ≡ false) [ true ↦ λ k. absurd cc | false ↦ λ k. refl ] h
 
-front_line : (ds after rest : List ℕ) → 0 < length (ds ++ after) → all_ascii_digits ds ≡ true → after_line after ≡ Some rest → (lines_of (ds ++ after) ≡ ds ∷ lines_of rest) × (length rest ≤ length after)
+front_line : (ds after rest : List ℕ) → 0 < length (ds ++ after) → all_ascii_digits ds ≡ true → behind_line_feed after ≡ Some rest → (lines_of (ds ++ after) ≡ ds ∷ lines_of rest) × (length rest ≤ length after)
 front_line ds [] rest some h e =
     let none : [] ≡ rest = cc in
     let whole : ds ++ [] ≡ ds = append-nil ds in
@@ -130,7 +130,7 @@ front_line ds (b ∷ more) rest some h e =
     let k = line_end b more rest e in
     (ap (λ (n : ℕ). lines_of (ds ++ n ∷ more)) k.0 ∙ lines_cut ds more h ∙ ap (λ (r : List ℕ). ds ∷ lines_of r) k.1, omega (arith, ap length k.1))
 
-front_lines : (bytes rest : List ℕ) → 0 < length bytes → after_line (past_digits bytes) ≡ Some rest → lines_of bytes ≡ front_digits bytes ∷ lines_of rest
+front_lines : (bytes rest : List ℕ) → 0 < length bytes → behind_line_feed (past_digits bytes) ≡ Some rest → lines_of bytes ≡ front_digits bytes ∷ lines_of rest
 front_lines bytes rest some e =
     let split = digits-split bytes in
     ap lines_of split ∙ (front_line (front_digits bytes) (past_digits bytes) rest (omega (arith, some, ap length split)) (front-digits bytes) e).0
@@ -159,13 +159,13 @@ bad_byte : (n : ℕ) (line : List ℕ) → all_ascii_digits line ≡ false → l
 bad_byte n [] h = absurd cc
 bad_byte n (b ∷ line) h = rw h refl
 
-bad_after : (n : ℕ) (ds after : List ℕ) → all_ascii_digits ds ≡ true → starts_with_digit after ≡ false → after_line after ≡ None → first_fault_of line_fault n (lines_of (ds ++ after)) ≡ Some (BadByte n)
+bad_after : (n : ℕ) (ds after : List ℕ) → all_ascii_digits ds ≡ true → starts_with_digit after ≡ false → behind_line_feed after ≡ None → first_fault_of line_fault n (lines_of (ds ++ after)) ≡ Some (BadByte n)
 bad_after n ds [] h stops none = absurd cc
 bad_after n ds (b ∷ more) h stops none =
     let f = lines_bad ds b more h (no_line_end b more none) in
     ap (first_fault_of line_fault n) f.2 ∙ ap (λ x. option_or x (first_fault_of line_fault (n + 1) f.1)) (bad_byte n (ds ++ b ∷ f.0) (not_digits ds b f.0 stops))
 
-pub line_bad : (n : ℕ) (bytes : List ℕ) → after_line (past_digits bytes) ≡ None → first_fault_of line_fault n (lines_of bytes) ≡ Some (BadByte n)
+pub line_bad : (n : ℕ) (bytes : List ℕ) → behind_line_feed (past_digits bytes) ≡ None → first_fault_of line_fault n (lines_of bytes) ≡ Some (BadByte n)
 line_bad n bytes none = ap (λ (b : List ℕ). first_fault_of line_fault n (lines_of b)) (digits-split bytes) ∙ bad_after n (front_digits bytes) (past_digits bytes) (front-digits bytes) (past-digits bytes) none
 
 -- ---- a line of digits
@@ -188,18 +188,18 @@ fault_cons n (b ∷ l) some = refl
 line_fine : (n : ℕ) (l : List ℕ) → IsNumber l → 4 ≤ digits_value 10 l → digits_value 10 l < 2 ^ 62 → line_fault n l ≡ None
 line_fine n l h low high = fault_cons n l h.0 ∙ rw (h.1, le-leb 4 (digits_value 10 l) low, lt-ltb (digits_value 10 l) (2 ^ 62) high) refl
 
-shorter : (bytes rest : List ℕ) → 0 < length bytes → after_line (past_digits bytes) ≡ Some rest → length rest < length bytes
+shorter : (bytes rest : List ℕ) → 0 < length bytes → behind_line_feed (past_digits bytes) ≡ Some rest → length rest < length bytes
 shorter bytes rest some e = shorter_parts (front_digits bytes) (past_digits bytes) rest (omega (arith, some, ap length split)) e (ap length split)
   where
     split : bytes ≡ front_digits bytes ++ past_digits bytes
     split = digits-split bytes
 
-    shorter_parts : (ds after rest : List ℕ) → 0 < length (ds ++ after) → after_line after ≡ Some rest → length bytes ≡ length (ds ++ after) → length rest < length bytes
+    shorter_parts : (ds after rest : List ℕ) → 0 < length (ds ++ after) → behind_line_feed after ≡ Some rest → length bytes ≡ length (ds ++ after) → length rest < length bytes
     shorter_parts ds [] rest some e is = let none : [] ≡ rest = cc in omega (arith, ap length none)
     shorter_parts ds (b ∷ more) rest some e is = omega (arith, ap length (line_end b more rest e).1, length-append ds (b ∷ more))
 
 -- an empty line
-pub line_empty : (n : ℕ) (bytes rest : List ℕ) (old : NumberSet) → 0 < length bytes → after_line (past_digits bytes) ≡ Some rest → length (past_digits bytes) ≡ length bytes → IsLineRead n bytes old rest old
+pub line_empty : (n : ℕ) (bytes rest : List ℕ) (old : NumberSet) → 0 < length bytes → behind_line_feed (past_digits bytes) ≡ Some rest → length (past_digits bytes) ≡ length bytes → IsLineRead n bytes old rest old
 unfolding pixels_of
 line_empty n bytes rest old some e same =
     let none : front_digits bytes ≡ [] = no_digits (front_digits bytes) (omega (arith, same, ap length (digits-split bytes), length-append (front_digits bytes) (past_digits bytes))) in
@@ -220,7 +220,7 @@ below_top : (v top n : ℕ) → n < top → min v top ≡ n → v ≡ n
 below_top v top n lt e = omega arith
 
 -- a line with the number of a cell
-pub line_cell : (n : ℕ) (bytes rest : List ℕ) (old new : NumberSet) (c : CellNumber) → 0 < length bytes → after_line (past_digits bytes) ≡ Some rest → (length (past_digits bytes) ≡ length bytes → ⊥) → IsCell c → uniq_of c ≡ held_after 0 (front_digits bytes)
+pub line_cell : (n : ℕ) (bytes rest : List ℕ) (old new : NumberSet) (c : CellNumber) → 0 < length bytes → behind_line_feed (past_digits bytes) ≡ Some rest → (length (past_digits bytes) ≡ length bytes → ⊥) → IsCell c → uniq_of c ≡ held_after 0 (front_digits bytes)
     → new ≡ set.union old (spans c.order c.index c.index) → IsLineRead n bytes old rest new
 unfolding pixels_of
 line_cell n bytes rest old new c some e digits is number added =
@@ -250,7 +250,7 @@ wrong_number v top le h = elim (cases_lt v 4) [
 ]
 
 -- a line with another number
-pub line_wrong : (n : ℕ) (bytes rest : List ℕ) → 0 < length bytes → after_line (past_digits bytes) ≡ Some rest → (length (past_digits bytes) ≡ length bytes → ⊥)
+pub line_wrong : (n : ℕ) (bytes rest : List ℕ) → 0 < length bytes → behind_line_feed (past_digits bytes) ≡ Some rest → (length (past_digits bytes) ≡ length bytes → ⊥)
     → ((4 ≤ held_after 0 (front_digits bytes)) × (held_after 0 (front_digits bytes) < 2 ^ 62) → ⊥) → first_fault_of line_fault n (lines_of bytes) ≡ Some (NotUniq n)
 line_wrong n bytes rest some e digits wrong =
     let ds = front_digits bytes in

@@ -6,7 +6,7 @@ ghost use Rattle.moc_sphere.specs.CellNumber.{uniq_of};
 ghost use Rattle.moc_lists.specs.RangeList.{NumberSet};
 ghost use Rattle.moc_text.specs.Lines.{lines_of};
 ghost use Rattle.moc_text.specs.Names.{name_of_uniq};
-ghost use Rattle.moc_text.specs.Private.UniqReading.{after_line, IsLineRead};
+ghost use Rattle.moc_text.specs.Private.UniqReading.{behind_line_feed, IsLineRead};
 ghost use Rattle.moc_text.specs.Faults.{Fails};
 ghost use Rattle.moc_text.specs.declared.uniq.UniqError.TheVariants.{BadByte, Memory, NotUniq};
 ghost use Rattle.moc_ranges.specs.Faults.{first_fault_of};
@@ -75,7 +75,7 @@ impl From<MemoryRefused> for UniqError {
 
 /// What comes after a line that ends where the bytes begin.
 fn past_line(bytes: &[u8]) -> Option<&[u8]>
-    ensures { option_copied result ≡ after_line bytes.now }
+    ensures { option_copied result ≡ behind_line_feed bytes.now }
 {
     match bytes {
         [] => Some(bytes),

@@ -22,7 +22,7 @@ pub record IsOpen (c : Combination) : Type 0 where
   pub within : length c.text.items ≤ input_limit
 
 -- a combination that has no text yet
-pub record Begins (op : Operation) (ch : Choice) (c : Combination) : Type 0 where
+pub record BeginsCombination (op : Operation) (ch : Choice) (c : Combination) : Type 0 where
   pub operation : c.operation ≡ op
   pub choice : c.choice ≡ ch
   pub number : c.number ≡ 1
@@ -46,17 +46,17 @@ pub record TextsSay (operation : Operation) (choice : Choice) (before : Option S
   pub within : AllByRecursion (λ text. length text ≤ input_limit) (texts_behind before bytes)
 
 -- what comes of a combination with these bytes behind its text
-abbrev pub Ends : Combination → List ℕ → Option Said → Type 0
-Ends c rest after = TextsSay c.operation c.choice c.before (c.text.items ++ rest) after
+abbrev pub EndsCombination : Combination → List ℕ → Option Said → Type 0
+EndsCombination c rest after = TextsSay c.operation c.choice c.before (c.text.items ++ rest) after
 
 -- a complaint tells the first of the texts that says no set, with these bytes behind the text of a combination
-abbrev pub Fails : Combination → List ℕ → Complaint → Type 0
-Fails c rest complaint =
+abbrev pub FailsCombination : Combination → List ℕ → Complaint → Type 0
+FailsCombination c rest complaint =
     TellsFirstFault c.number c.choice (texts_behind c.before (c.text.items ++ rest)) complaint
 
 -- the same, whatever stands behind the bytes
 abbrev pub FailsWithin : Combination → List ℕ → Complaint → Type 0
-FailsWithin c bytes complaint = (rest : List ℕ) → Fails c (bytes ++ rest) complaint
+FailsWithin c bytes complaint = (rest : List ℕ) → FailsCombination c (bytes ++ rest) complaint
 
 -- with these bytes behind the text of a combination a part is longer than a text may be, or there are more parts than
 -- are counted
@@ -72,8 +72,8 @@ AreNotTaken c bytes fault =
 pub record Leads (c : Combination) (bytes : List ℕ) (d : Combination) : Type 0 where
   pub operation : d.operation ≡ c.operation
   pub choice : d.choice ≡ c.choice
-  pub ends : (rest : List ℕ) (after : Option Said) → Ends d rest after → Ends c (bytes ++ rest) after
-  pub fails : (rest : List ℕ) (complaint : Complaint) → Fails d rest complaint → Fails c (bytes ++ rest) complaint
+  pub ends : (rest : List ℕ) (after : Option Said) → EndsCombination d rest after → EndsCombination c (bytes ++ rest) after
+  pub fails : (rest : List ℕ) (complaint : Complaint) → FailsCombination d rest complaint → FailsCombination c (bytes ++ rest) complaint
   pub longer : (rest : List ℕ) → IsLong d rest → IsLong c (bytes ++ rest)
 
 -- the bytes that were left and are no more, and what a combination has become that took them

@@ -11,9 +11,9 @@ use Rattle.moc_ranges.specs.Faults.{first_fault_of}
 use Rattle.moc_text.specs.UniqList.{line_fault, numbers_on, uniq_fault}
 
 -- what comes after a line that ends where the bytes begin
-abbrev pub after_line : List ℕ → Option (List ℕ)
-after_line [] = Some []
-after_line (b ∷ bytes) = if is_line_feed b then Some bytes else None
+abbrev pub behind_line_feed : List ℕ → Option (List ℕ)
+behind_line_feed [] = Some []
+behind_line_feed (b ∷ bytes) = if is_line_feed b then Some bytes else None
 
 -- These cells were added, whose numbers are those of the lines before the rest.
 pub record IsPart (bytes : List ℕ) (old : NumberSet) (rest : List ℕ) (new : NumberSet)

@@ -4,7 +4,7 @@
 ghost use Rattle.std.specs.Prelude.{◌≡◌, ◌-◌, length};
 ghost use Rattle.std.specs.Option.{option_copied};
 ghost use Rattle.moc_text.specs.Ascii.{is_separator as is_separator_byte};
-ghost use Rattle.moc_text.specs.Private.Scan.{Gives, is_end as is_end_of, after_byte, front_digits, past_digits};
+ghost use Rattle.moc_text.specs.Private.Scan.{IsScanned, is_end as is_end_of, after_byte, front_digits, past_digits};
 ghost use Rattle.moc_text.specs.Private.Scan.{held_after, unexpected as unexpected_at, scan_number, scan_item};
 ghost use Rattle.moc_text.specs.Private.Scan.{scan_marked, scan_word};
 
@@ -77,7 +77,7 @@ pub fn digits(bytes: &[u8]) -> (u64, &[u8])
 /// The number at the front, and what comes after it.
 #[tactic(auto, unfolding(crate::specs::Private::Scan::scan_number))]
 fn number(len: usize, bytes: &[u8]) -> Result<(Numeral, &[u8]), TextError>
-    ensures { Gives (λ x. (x.0, x.1.now)) result (scan_number len bytes.now) }
+    ensures { IsScanned (λ x. (x.0, x.1.now)) result (scan_number len bytes.now) }
 {
     match bytes {
         [b'0'..=b'9', ..] => {
@@ -92,7 +92,7 @@ fn number(len: usize, bytes: &[u8]) -> Result<(Numeral, &[u8]), TextError>
 /// The item whose first number is read, and what comes after it.
 #[tactic(auto, unfolding(crate::specs::Private::Scan::scan_item, crate::specs::Private::Scan::finish_item))]
 fn item(len: usize, first: Numeral, bytes: &[u8]) -> Result<(Item, &[u8]), TextError>
-    ensures { Gives (λ x. (x.0, x.1.now)) result (scan_item len first bytes.now) }
+    ensures { IsScanned (λ x. (x.0, x.1.now)) result (scan_item len first bytes.now) }
 {
     let (last, rest) = match after(b'-', bytes) {
         Some(rest) => {
@@ -110,7 +110,7 @@ fn item(len: usize, first: Numeral, bytes: &[u8]) -> Result<(Item, &[u8]), TextE
 /// The word whose mark is read, and what comes after it.
 #[tactic(auto, unfolding(crate::specs::Private::Scan::scan_marked))]
 fn marked(len: usize, mark: Numeral, bytes: &[u8]) -> Result<(WordNumbers, &[u8]), TextError>
-    ensures { Gives (λ x. (x.0, x.1.now)) result (scan_marked len mark bytes.now) }
+    ensures { IsScanned (λ x. (x.0, x.1.now)) result (scan_marked len mark bytes.now) }
 {
     let mark = Some(mark);
     if is_end(bytes) {
@@ -130,7 +130,7 @@ fn marked(len: usize, mark: Numeral, bytes: &[u8]) -> Result<(WordNumbers, &[u8]
 /// The word at the front, and what comes after it.
 #[tactic(auto, unfolding(crate::specs::Private::Scan::scan_word))]
 pub fn word(len: usize, bytes: &[u8]) -> Result<(WordNumbers, &[u8]), TextError>
-    ensures { Gives (λ x. (x.0, x.1.now)) result (scan_word len bytes.now) }
+    ensures { IsScanned (λ x. (x.0, x.1.now)) result (scan_word len bytes.now) }
 {
     if let Some(rest) = after(b's', bytes) {
         let (mark, rest) = number(len, rest)?;
