@@ -6,7 +6,8 @@ ghost use Rattle.moc_conversion.specs.Combining.{CombinesAll, IsNotCombined, Say
 ghost use Rattle.moc_conversion.specs.Conversion.{TellsFault};
 ghost use Rattle.moc_conversion.specs.Faults.{want_of_memory};
 ghost use Rattle.moc_conversion.specs.Private.Pieces.{LacksSemicolons};
-ghost use Rattle.moc_conversion.specs.Private.Running.{BeginsCombination, EndsCombination, FailsCombination, FailsWithin, IsOpen, AreNotTaken, Leads};
+ghost use Rattle.moc_conversion.specs.Private.Running.{AreNotTaken, BeginsCombination, EndsCombination};
+ghost use Rattle.moc_conversion.specs.Private.Running.{FailsCombination, FailsWithin, IsOpen, Leads};
 ghost use Rattle.moc_conversion.specs.Private.Running.{SaysMore, semicolon};
 
 use crate::complaint::Complaint;

@@ -72,8 +72,10 @@ AreNotTaken c bytes fault =
 pub record Leads (c : Combination) (bytes : List ℕ) (d : Combination) : Type 0 where
   pub operation : d.operation ≡ c.operation
   pub choice : d.choice ≡ c.choice
-  pub ends : (rest : List ℕ) (after : Option Said) → EndsCombination d rest after → EndsCombination c (bytes ++ rest) after
-  pub fails : (rest : List ℕ) (complaint : Complaint) → FailsCombination d rest complaint → FailsCombination c (bytes ++ rest) complaint
+  pub ends : (rest : List ℕ) (after : Option Said) → EndsCombination d rest after
+      → EndsCombination c (bytes ++ rest) after
+  pub fails : (rest : List ℕ) (complaint : Complaint) → FailsCombination d rest complaint
+      → FailsCombination c (bytes ++ rest) complaint
   pub longer : (rest : List ℕ) → IsLong d rest → IsLong c (bytes ++ rest)
 
 -- the bytes that were left and are no more, and what a combination has become that took them
