@@ -1,9 +1,9 @@
 -- Cells of every order, and what they have to do with a set of pixels (MOC 2.0).
-use Rattle.std.specs.Prelude.{ℕ, zero, suc, ◌+◌, ◌-◌, ◌/◌, ◌<◌, ◌≤◌, ⊤, Bool, not, ◌&&◌, ◌||◌, List, [], ◌∷◌, ◌++◌}
+use Rattle.std.specs.Prelude.{ℕ, zero, suc, ◌+◌, ◌-◌, ◌/◌, ◌<◌, ◌≤◌, Bool, not, ◌&&◌, ◌||◌, List, [], ◌∷◌, ◌++◌}
 use Rattle.std.specs.Prelude.{map, nat_eq, nat_le}
 use Rattle.std.specs.FinSet as set
 use Rattle.std.specs.List.{filter, flat_map, range_with_len, AllByRecursion}
-use Rattle.moc_sphere.specs.CellNumber.{CellNumber, cell_number, cell_count, cell_size, uniq_of}
+use Rattle.moc_sphere.specs.CellNumber.{CellNumber, cell_number, cell_count, cell_size}
 use Rattle.moc_blocks.specs.RangeList.{NumberSet}
 use Rattle.moc_ranges.specs.Operations.{pixels, meets}
 
@@ -51,12 +51,3 @@ cells_in order ranges = flat_map (cells_of_range order) ranges
 -- the cells have orders from the first up to, not including, the one after the last
 abbrev pub AreOfOrders : ℕ → ℕ → List CellNumber → Type 0
 AreOfOrders first last cells = AllByRecursion (λ c. (first ≤ c.order) × (c.order < last)) cells
-
--- each cell's NUNIQ number is at least `low`
-abbrev pub AllUniqFrom : ℕ → List CellNumber → Type 0
-AllUniqFrom low cells = AllByRecursion (λ c. low ≤ uniq_of c) cells
-
--- each cell has a greater NUNIQ number than those before it
-abbrev pub IsRisingUniq : List CellNumber → Type 0
-IsRisingUniq [] = ⊤
-IsRisingUniq (c ∷ cells) = AllUniqFrom (uniq_of c + 1) cells × IsRisingUniq cells

@@ -1,10 +1,11 @@
 -- What the functions say that are laws.
-use Rattle.std.specs.Prelude.{◌≡◌, ℕ, List}
+use Rattle.std.specs.Prelude.{◌≡◌, ℕ, List, map}
 use Rattle.std.specs.List.{AllByRecursion}
-use Rattle.moc_sphere.specs.CellNumber.{IsCell}
-use Rattle.moc_blocks.specs.RangeList.{NumberSet, IsNormal, set_of}
-use Rattle.moc_ranges.specs.Operations.{pixels, complement, IsWithin}
-use Rattle.moc_ranges.specs.Cells.{cells_of, pixels_of, IsRisingUniq}
+use Rattle.std.specs.List.Sorted.{IsStrictlyIncreasing}
+use Rattle.moc_sphere.specs.CellNumber.{IsCell, cell_count, cell_size, uniq_of}
+use Rattle.moc_blocks.specs.RangeList.{NumberSet, IsNormal, pixel_count, set_of}
+use Rattle.moc_ranges.specs.Operations.{base_pixel_size, pixels, complement, IsWithin}
+use Rattle.moc_ranges.specs.Cells.{cells_of, pixels_of}
 
 -- two normal range lists of one set are the same list
 abbrev pub NormalListIsOne : Type 0
@@ -21,8 +22,12 @@ CellsFillTheSet = (a : NumberSet) → IsWithin a pixels → pixels_of (cells_of 
 
 -- the cells of a set are in rising NUNIQ
 abbrev pub CellsRise : Type 0
-CellsRise = (a : NumberSet) → IsRisingUniq (cells_of a)
+CellsRise = (a : NumberSet) → IsStrictlyIncreasing (map uniq_of (cells_of a))
 
 -- the complement of the complement of a set of pixels is the set
 abbrev pub ComplementTwiceIsTheSet : Type 0
 ComplementTwiceIsTheSet = (a : NumberSet) → IsWithin a pixels → complement (complement a) ≡ a
+
+-- the pixels are the cells of order 29, and a base pixel has as many of them as a cell of order 0
+abbrev pub PixelsAreCells : Type 0
+PixelsAreCells = (pixel_count ≡ cell_count 29) × (base_pixel_size ≡ cell_size 0)

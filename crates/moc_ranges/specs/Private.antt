@@ -4,3 +4,4 @@ pub mod Widen
 pub mod CellRuns
 pub mod Walks
 pub mod Gathered
+pub mod RisingCells

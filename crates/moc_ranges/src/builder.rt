@@ -25,8 +25,6 @@ const FEWEST_WAITING: usize = 512;
 #[derive(Drop)]
 pub struct CoverageBuilder {
     joined: Coverage,
-    /// How many ranges are joined.
-    joined_count: usize,
     /// Ranges that rise and do not touch.
     rising: Vec<(u64, u64)>,
     waiting: Vec<(u64, u64)>,
@@ -54,14 +52,13 @@ impl CoverageBuilder {
     {
         Self {
             joined: Coverage::empty(alloc),
-            joined_count: 0,
             rising: Vec::new(alloc),
             waiting: Vec::new(alloc),
         }
     }
 
     /// Adds the cells of an order from the first to the last, both included; none where the last is
-    /// before the first.
+    /// before the first. They cost as much as one of `add_cell`.
     ///
     /// Where memory runs out, what was gathered is as it was.
     pub fn add_cells(&mut self, order: Order, first: u64, last: u64) -> Result<(), Memory>
@@ -76,7 +73,8 @@ impl CoverageBuilder {
         self.add_range(first * size, (last + 1) * size)
     }
 
-    /// Adds one cell. Where memory runs out, what was gathered is as it was.
+    /// Adds one cell: O(1) on average where it does not begin before the last that rose, else O(log n) on average.
+    /// Where memory runs out, what was gathered is as it was.
     pub fn add_cell(&mut self, cell: Cell) -> Result<(), Memory>
         ensures added { OnOk result (self.new ≡ set.union self.old (span cell.order cell.index)) }
         ensures kept { OnErr result (self.new ≡ self.old) }
@@ -85,7 +83,8 @@ impl CoverageBuilder {
         self.add_range(from, to)
     }
 
-    /// The coverage of all cells that were added; refused where memory runs out.
+    /// The coverage of all cells that were added: O(n log n) in those that wait, O(n) in the ranges of the others.
+    /// Refused where memory runs out.
     pub fn build(self) -> Result<Coverage, Memory>
         ensures { IfOk result (λ c. c ≡ self) }
     {
@@ -131,7 +130,6 @@ impl CoverageBuilder {
     {
         let alloc = *self.waiting.allocator();
         self.joined = self.all_gathered(alloc)?;
-        self.joined_count = self.joined.range_count();
         self.rising.clear();
         self.waiting.clear();
         Ok(())
@@ -139,7 +137,10 @@ impl CoverageBuilder {
 
     /// How many ranges may wait.
     fn limit(&self) -> usize {
-        self.rising.len().max(self.joined_count).max(FEWEST_WAITING)
+        self.rising
+            .len()
+            .max(self.joined.range_count())
+            .max(FEWEST_WAITING)
     }
 
     /// What is joined and what waits, as one coverage.
@@ -171,7 +172,7 @@ impl Extend<Cell> for CoverageBuilder {
 /// How many ranges are joined, and how many are not yet.
 impl fmt::Debug for CoverageBuilder {
     fn fmt<W: fmt::Write>(&self, f: &mut fmt::Formatter<W>) -> fmt::Result {
-        let joined = self.joined_count;
+        let joined = self.joined.range_count();
         let rising = self.rising.len();
         let waiting = self.waiting.len();
         write!(

@@ -1,6 +1,6 @@
 //! Laws of coverages and their cells. Each function does nothing: its contract is the law.
 ghost use Rattle.moc_ranges.specs.Laws.{NormalListIsOne, CellsAreCells, CellsFillTheSet, CellsRise};
-ghost use Rattle.moc_ranges.specs.Laws.{ComplementTwiceIsTheSet};
+ghost use Rattle.moc_ranges.specs.Laws.{ComplementTwiceIsTheSet, PixelsAreCells};
 
 /// A set has at most one normal list of ranges.
 pub fn normal_list_is_one()
@@ -25,4 +25,9 @@ pub fn cells_rise()
 /// The complement of the complement of a set is the set.
 pub fn complement_twice_is_the_set()
     ensures { ComplementTwiceIsTheSet }
+{}
+
+/// The pixels are the cells of order 29, and a base pixel has as many as a cell of order 0.
+pub fn pixels_are_cells()
+    ensures { PixelsAreCells }
 {}

@@ -3,8 +3,8 @@ use Rattle.std.proofs.Common.{◌≡◌, ℕ, ◌+◌, ◌-◌, ◌*◌, ◌/◌
 use Rattle.std.proofs.lemmas.Bool.{agree_below_at, and_parts, eqb-true}
 use Rattle.std.proofs.Math.Nat.{mul-le-mul_right}
 use Rattle.moc_sphere.specs.Private.Sides.{NamesOnePoint}
-use Rattle.moc_sphere.specs.Rings.{row_factor, column_factor}
-use Rattle.moc_sphere.specs.Touching.{corner_row, belt_column}
+use Rattle.moc_sphere.specs.Rings.{row_factor, column_factor, column_at}
+use Rattle.moc_sphere.specs.Touching.{corner_row}
 use Rattle.moc_sphere.proofs.Lattice.{Hop, split, same_rest}
 
 -- Base pixel f is the square (a, b) of the lattice.
@@ -67,8 +67,8 @@ hop_from_columns n J K a b L M c d X Y Z W pos xn yn zn wn j k jlow kfew l m llo
 
 -- Two corners in the belt that have one row and one column are two names of one point.
 pub NamesOnePoint-belt : (n f g X Y Z W : ℕ) → 0 < n → f < 12 → g < 12 → X ≤ n → Y ≤ n → Z ≤ n → W ≤ n
-    → corner_row n f X Y ≡ corner_row n g Z W → belt_column n f X Y ≡ belt_column n g Z W → NamesOnePoint n f X Y g Z W
-unfolding corner_row belt_column
+    → corner_row n f X Y ≡ corner_row n g Z W → column_at n f X Y ≡ column_at n g Z W → NamesOnePoint n f X Y g Z W
+unfolding corner_row
 NamesOnePoint-belt n f g X Y Z W pos fn gn xn yn zn wn rows columns =
     let s = square_of f fn in
     let t = square_of g gn in

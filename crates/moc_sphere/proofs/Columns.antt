@@ -2,8 +2,8 @@
 use Rattle.std.proofs.Common.{◌≡◌, ℕ, ◌+◌, ◌-◌, ◌*◌, ◌/◌, ◌%◌, ◌<◌, ◌≤◌, arith, ap, ◌∙◌}
 use Rattle.std.proofs.lemmas.Bool.{and_from, and_left, and_right, le-leb, lt-leb, cond-true, cond-false, ne_eqb, eq-eqb}
 use Rattle.std.proofs.Math.Nat.{min-eq_left, min-eq_right}
-use Rattle.moc_sphere.specs.Rings.{row_factor}
-use Rattle.moc_sphere.specs.Touching.{corner_row, corner_column, belt_column, polar_column}
+use Rattle.moc_sphere.specs.Rings.{row_factor, column_at}
+use Rattle.moc_sphere.specs.Touching.{corner_row, corner_column, polar_column}
 use Rattle.moc_sphere.proofs.Belt.{row_factor_is}
 
 pub row_north : (n f X Y : ℕ) → f < 4 → corner_row n f X Y ≡ 2 * n - X - Y
@@ -24,7 +24,7 @@ row_south n f X Y l h =
     let j : row_factor f ≡ 4 = omega (arith, row_factor_is f (omega arith)) in
     ap (λ t. t * n - X - Y) j
 
-pub column_in_belt : (n f X Y : ℕ) → n ≤ corner_row n f X Y → corner_row n f X Y ≤ 3 * n → corner_column n f X Y ≡ belt_column n f X Y
+pub column_in_belt : (n f X Y : ℕ) → n ≤ corner_row n f X Y → corner_row n f X Y ≤ 3 * n → corner_column n f X Y ≡ column_at n f X Y
 unfolding corner_column
 column_in_belt n f X Y low high =
     cond-true _ _ _ (and_from _ _ (le-leb _ _ low) (le-leb _ _ high))

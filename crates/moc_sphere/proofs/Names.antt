@@ -3,8 +3,8 @@ use Rattle.std.proofs.Common.{◌≡◌, ℕ, ◌+◌, ◌-◌, ◌*◌, ◌%◌
 use Rattle.std.proofs.lemmas.Bool.{cases_lt}
 use Rattle.std.proofs.Math.Nat.{add-mod_right}
 use Rattle.moc_sphere.specs.Private.Sides.{NamesOnePoint}
-use Rattle.moc_sphere.specs.Rings.{column_factor}
-use Rattle.moc_sphere.specs.Touching.{corner_row, corner_column, belt_column, polar_column}
+use Rattle.moc_sphere.specs.Rings.{column_factor, column_at}
+use Rattle.moc_sphere.specs.Touching.{corner_row, corner_column, polar_column}
 use Rattle.moc_sphere.proofs.Shared.{IsSamePoint}
 use Rattle.moc_sphere.proofs.Lattice.{Hop, Split}
 use Rattle.moc_sphere.proofs.Belt.{IsSquare, square_of}
@@ -89,8 +89,7 @@ module _ (n f g X Y Z W : ℕ) (pos : 0 < n) (fn : f < 12) (xn : X ≤ n) (yn : 
       let t = NamesOnePoint-names n f g X Y Z W fn xn yn h in
       NamesOnePoint-row n f g X Y Z W _ _ xn yn h (kind n f X Y fn xn yn) (kind n g Z W t.0 t.1 t.2)
 
-  same_in_belt : n ≤ corner_row n f X Y → corner_row n f X Y ≤ 3 * n → belt_column n f X Y ≡ belt_column n g Z W
-  unfolding belt_column
+  same_in_belt : n ≤ corner_row n f X Y → corner_row n f X Y ≤ 3 * n → column_at n f X Y ≡ column_at n g Z W
   same_in_belt low high =
       let t = NamesOnePoint-names n f g X Y Z W fn xn yn h in
       let p = square_of f fn in

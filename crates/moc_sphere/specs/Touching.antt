@@ -13,21 +13,18 @@ use Rattle.moc_sphere.specs.declared.direction.Direction.TheVariants.{NorthEast,
 unfoldable pub corner_row : ℕ → ℕ → ℕ → ℕ → ℕ
 corner_row n f X Y = row_factor f * n - X - Y
 
--- The column of a corner in the belt, counted as that of a cell is: in half steps, of which 8n go round.
-unfoldable pub belt_column : ℕ → ℕ → ℕ → ℕ → ℕ
-belt_column n f X Y = column_at n f X Y
-
 -- The column of a corner m rows from a pole, in whole steps. The pole itself has the column 0; else 4m steps go round,
 -- m for each of the four base pixels that meet at the pole, and half of X + m - Y lie to the east of the base pixel's
 -- own western edge.
 unfoldable pub polar_column : ℕ → ℕ → ℕ → ℕ → ℕ
 polar_column m f X Y = if m == 0 then 0 else ((f % 4 * m + (X + m - Y) / 2) % (4 * m))
 
--- The column of the corner (X, Y) of base pixel f: in the belt for the rows n to 3n, else round the near pole.
+-- The column of the corner (X, Y) of base pixel f: in the belt, for the rows n to 3n, counted as that of a cell is, in
+-- half steps, of which 8n go round; else round the near pole.
 unfoldable pub corner_column : ℕ → ℕ → ℕ → ℕ → ℕ
 corner_column n f X Y =
     let R = corner_row n f X Y in
-    if nat_le n R && nat_le R (3 * n) then belt_column n f X Y else polar_column (min R (4 * n - R)) f X Y
+    if nat_le n R && nat_le R (3 * n) then column_at n f X Y else polar_column (min R (4 * n - R)) f X Y
 
 -- A point of the sphere, by its row and its column in that row.
 pub record Point : Type 0 where

@@ -1,11 +1,12 @@
 -- What callers know of the cells of a set: they are cells, in rising NUNIQ, and their pixels are
 -- just the set's.
 use Rattle.std.proofs.Common.{◌≡◌, ℕ, zero, suc, ◌+◌, ◌-◌, ◌*◌, ◌/◌, ◌^◌, ◌<◌, ◌≤◌, Bool, true, false, cond}
-use Rattle.std.proofs.Common.{List, [], ◌∷◌, ◌++◌, map, refl, sym, ap, subst, ◌∙◌, inl, inr, arith}
+use Rattle.std.proofs.Common.{List, [], ◌∷◌, ◌++◌, get_or, map, refl, sym, ap, subst, ◌∙◌, inl, inr, arith}
 use Rattle.std.specs.Prelude.{nat_le, nat_lt, ⊤}
 use Rattle.std.specs.FinSet as set
 use Rattle.std.specs.Cmp.{nat_cmp_total}
 use Rattle.std.specs.List.{AllByRecursion, filter, range_with_len}
+use Rattle.std.specs.List.Sorted.{IsStrictlyIncreasing}
 use Rattle.std.proofs.lemmas.Bool.{cases_Bool, cases_eq, and_parts, and_from, or_cases, or_left, or_right, lt-ltb}
 use Rattle.std.proofs.lemmas.Bool.{ltb-true, le-leb, leb-true, eq-eqb, eqb-true, not_from_false, false≢true}
 use Rattle.std.proofs.lemmas.List.{map-append}
@@ -18,7 +19,8 @@ use Rattle.moc_blocks.specs.RangeList.{NumberSet, pixel_count, set_of}
 use Rattle.moc_blocks.specs.Lemmas.Members.{same_members, contains-set_of, in_range, in_ranges, in_ranges-append}
 use Rattle.moc_ranges.specs.Lemmas.Members.{contains-pixels, same_truth, contains-span, cell_range}
 use Rattle.moc_ranges.specs.Operations.{pixels, IsWithin}
-use Rattle.moc_ranges.specs.Cells.{span, is_cell_of, cells_below, cells_of, AllUniqFrom, IsRisingUniq}
+use Rattle.moc_ranges.specs.Cells.{span, is_cell_of, cells_below, cells_of}
+use Rattle.moc_ranges.specs.Private.RisingCells.{AllUniqFrom, IsRisingUniq}
 
 -- ---- cells
 
@@ -317,7 +319,21 @@ cells_below-rise (suc k) =
           (order_below k 0 (cell_count k) (4 ^ (suc k + 1)) (omega arith)),
     )
 
--- the cells of a set are in rising NUNIQ
-pub cells_rise : (a : NumberSet) → IsRisingUniq (cells_of a)
+cells_of-rise : (a : NumberSet) → IsRisingUniq (cells_of a)
 unfolding cells_of
-cells_rise a = IsRisingUniq-filter (is_cell_of a) (cells_below 30) (cells_below-rise 30).0
+cells_of-rise a = IsRisingUniq-filter (is_cell_of a) (cells_below 30) (cells_below-rise 30).0
+
+-- so the number of each is below that of the next
+increasing : (cells : List CellNumber) → IsRisingUniq cells → IsStrictlyIncreasing (map uniq_of cells)
+increasing [] up k within = absurd (omega arith)
+increasing (c ∷ []) up k within = absurd (omega arith)
+increasing (c ∷ (d ∷ cells)) up zero within = omega (arith, up.0.0)
+increasing (c ∷ (d ∷ cells)) up (suc k) within =
+    let rest = map uniq_of (d ∷ cells) in
+    let next : suc (k + 1) ≡ suc k + 1 = omega arith in
+    subst (λ n. get_or rest k 0 < get_or (uniq_of c ∷ rest) n 0) next
+        (increasing (d ∷ cells) up.1 k (omega (arith, within)))
+
+-- the cells of a set are in rising NUNIQ
+pub cells_rise : (a : NumberSet) → IsStrictlyIncreasing (map uniq_of (cells_of a))
+cells_rise a = increasing (cells_of a) (cells_of-rise a)
