@@ -7,7 +7,8 @@ use Rattle.std.specs.Option.{option_map, ok_or}
 use Rattle.moc_sphere.specs.CellNumber.{CellNumber, cell_number, cell_count}
 use Rattle.moc_parts.specs.declared.command.Command.{Command}
 use Rattle.moc_parts.specs.declared.command.Command.TheVariants.{Near}
-use Rattle.moc_lines.specs.Language.{number_spelled, near_by, ◌>>=◌}
+use Rattle.moc_lines.specs.Language.{number_spelled, ◌>>=◌}
+use Rattle.moc_lines.specs.Private.Verbs.{near_by}
 use Rattle.moc_lines.specs.declared.fault.LineFault.{LineFault}
 use Rattle.moc_lines.specs.declared.fault.LineFault.TheVariants.{BadNumber, OrderTooLarge, CellTooLarge}
 

@@ -3,7 +3,7 @@ use Rattle.std.proofs.Common.{◌≡◌, ◌≢◌, inl, inr, ℕ, suc, true, fa
 use Rattle.std.proofs.Common.{take, get_or, Option, Some, None, Result, Ok, Err, refl, sym, ap, ◌∙◌, arith}
 use Rattle.std.proofs.Common.{append_assoc, append-nil, length-append, subst}
 use Rattle.std.specs.List.{count_by, AllByRecursion}
-use Rattle.std.specs.Result.{is_err, OnOk, OnErr, IfErr}
+use Rattle.std.specs.Result.{is_err, IsErrAnd, OnOk, OnErr, IfErr}
 use Rattle.std.specs.Io.KnownBytes.{Appends, Consumes, IsAtEnd}
 use Rattle.std.proofs.KnownBytes.{Appends-nil, Appends-trans, Consumes-nil, Consumes-trans}
 use Rattle.std.proofs.Math.Seq.{take-append_seam}
@@ -298,11 +298,11 @@ module _ {S : Type 0} (limit : ℕ) (rules : Rules S) where
         }
 
     -- a line was not answered
-    pub Ended-refused : (found : Found) → TakesLine limit held b held' c (Ok found) → (found ≡ Nothing → ⊥) → (pending' : List ℕ) (r : Result (Unit {0}) RunError) → is_err r ≡ true
-        → IfErr r (λ e. e ≡ Memory number) → OnErr r (pending' ≡ pending) → Ended limit rules s a c w v pending' r
-    Ended-refused found t some pending' (Ok u) is refused same = cc
-    Ended-refused found t some pending' (Err e) is refused same =
-        subst (λ (f : RunError). Ended limit rules s a c w v pending' (Err f)) (sym refused) (Ended-unanswered found t some pending' same)
+    pub Ended-refused : (found : Found) → TakesLine limit held b held' c (Ok found) → (found ≡ Nothing → ⊥) → (pending' : List ℕ) (r : Result (Unit {0}) RunError) (e : RunError)
+        → IsErrAnd r (λ f. f ≡ e) → e ≡ Memory number → pending' ≡ pending → Ended limit rules s a c w v pending' r
+    Ended-refused found t some pending' (Ok u) e told refused same = absurd told
+    Ended-refused found t some pending' (Err f) e told refused same =
+        subst (λ (q : RunError). Ended limit rules s a c w v pending' (Err q)) (sym (told ∙ refused)) (Ended-unanswered found t some pending' same)
 
   -- all lines are answered, and what is said behind them was made or refused
   pub Ended-closed : (s now : S) (a c w v : Option (List ℕ)) (pending pending' : List ℕ) (number : ℕ) (r : Result (Unit {0}) RunError) → ReachedEnd s now a c w v pending number

@@ -60,22 +60,22 @@ number_spelled field =
 -- Faults
 
 -- the name of a fault, as an answer gives it
-abbrev pub name_of : LineFault → List ℕ
-name_of UnknownWord = codes "UnknownWord"
-name_of EmptyCommand = codes "EmptyCommand"
-name_of TooManyCommands = codes "TooManyCommands"
-name_of WrongCount = codes "WrongCount"
-name_of BadNumber = codes "BadNumber"
-name_of OrderTooLarge = codes "OrderTooLarge"
-name_of CellTooLarge = codes "CellTooLarge"
-name_of (Coverage e) = name_of_text e
-name_of NotUniq = codes "NotUniq"
-name_of RingTooLarge = codes "RingTooLarge"
-name_of OtherOrder = codes "OtherOrder"
+abbrev pub name_of_line : LineFault → List ℕ
+name_of_line UnknownWord = codes "UnknownWord"
+name_of_line EmptyCommand = codes "EmptyCommand"
+name_of_line TooManyCommands = codes "TooManyCommands"
+name_of_line WrongCount = codes "WrongCount"
+name_of_line BadNumber = codes "BadNumber"
+name_of_line OrderTooLarge = codes "OrderTooLarge"
+name_of_line CellTooLarge = codes "CellTooLarge"
+name_of_line (Coverage e) = name_of_text e
+name_of_line NotUniq = codes "NotUniq"
+name_of_line RingTooLarge = codes "RingTooLarge"
+name_of_line OtherOrder = codes "OtherOrder"
 
 -- the answer to a bad line
 abbrev pub fault_answer : LineFault → List ℕ
-fault_answer fault = codes "fault " ++ name_of fault ++ 10 ∷ []
+fault_answer fault = codes "fault " ++ name_of_line fault ++ 10 ∷ []
 
 -- Replies
 
@@ -186,19 +186,14 @@ degrade_of text = do
   order ← order_of field
   Ok (Degrade order)
 
--- the cell that two fields name, an order and a number
-abbrev pub near_by : List ℕ → List ℕ → Result Command LineFault
-near_by order index = do
-  k ← ok_or (number_spelled order) BadNumber
-  i ← ok_or (number_spelled index) BadNumber
-  if nat_lt 29 k then Err OrderTooLarge
-      else (if nat_lt i (cell_count k) then Ok (Near (cell_number k i)) else Err CellTooLarge)
-
--- what stands behind `near`: just two fields
+-- what stands behind `near`: just two fields, an order and the number of one of its cells
 abbrev pub near_of : List ℕ → Result Command LineFault
 near_of text = do
   fields ← two_fields text
-  near_by fields.0 fields.1
+  k ← ok_or (number_spelled fields.0) BadNumber
+  i ← ok_or (number_spelled fields.1) BadNumber
+  if nat_lt 29 k then Err OrderTooLarge
+      else (if nat_lt i (cell_count k) then Ok (Near (cell_number k i)) else Err CellTooLarge)
 
 -- the command that a piece says, where operands are read so
 abbrev pub command_by : (List ℕ → Result Operand LineFault) → List ℕ → Result Command LineFault
@@ -248,10 +243,11 @@ module _ (says : List ℕ → Result Command LineFault) where
   abbrev pub batch_of : List ℕ → Result (List Command) LineFault
   batch_of line = if nat_lt 16 (length (pieces_of line)) then Err TooManyCommands else commands_of (pieces_of line)
 
+module _ (says : List ℕ → Result (List Command) LineFault) where
   -- the answer to a line, with its line feed; a blank line has none
   abbrev pub line_answer : NumberSet → List ℕ → List ℕ
-  line_answer a line = if is_blank_text line then [] else answer_to a (batch_of line)
+  line_answer a line = if is_blank_text line then [] else answer_to a (says line)
 
   -- what a line leaves
   abbrev pub after_line : NumberSet → List ℕ → NumberSet
-  after_line a line = if is_blank_text line then a else after_batch a (batch_of line)
+  after_line a line = if is_blank_text line then a else after_batch a (says line)

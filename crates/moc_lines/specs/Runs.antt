@@ -2,13 +2,13 @@
 use Rattle.std.specs.Prelude.{ℕ, nat_le, Bool, List, [], ◌∷◌, ◌++◌, length, if◌then◌else◌, fold, Result, ◌≡◌, ◌≢◌, ◌+◌}
 use Rattle.std.specs.Prelude.{◌-◌, ◌<◌, ◌≤◌, ◌⊎◌, take, Option, Some, Ok, Err, OnOk, OnErr, IsErrOf, IsTrue, ◌↔◌}
 use Rattle.std.specs.Prelude.{slice_index_or, codes}
-use Rattle.std.specs.List.{list_all, take_while, AllByRecursion, count_by}
+use Rattle.std.specs.List.{list_all, take_while, AllByRecursion, concat, count_by, scan}
 use Rattle.moc_text.specs.Lines.{lines_of, is_line_feed}
 use Rattle.std.specs.FinSet as set
 use Rattle.moc_lists.specs.RangeList.{NumberSet}
 use Rattle.moc_parts.specs.declared.command.Command.{Command}
 use Rattle.moc_lines.specs.declared.fault.LineFault.{LineFault}
-use Rattle.moc_lines.specs.Language.{command_of, line_answer, after_line}
+use Rattle.moc_lines.specs.Language.{batch_of, command_of, line_answer, after_line}
 use Rattle.std.specs.Io.KnownBytes.{Appends, Consumes, IsAtEnd}
 use Rattle.moc_devices.specs.Devices.{CallsMore}
 use Rattle.moc_lines.specs.declared.run_error.RunError.{RunError}
@@ -31,8 +31,7 @@ is_within limit line = nat_le (length line) limit
 module _ {S : Type 0} (rules : Rules S) where
   -- the answers to lines, one after another, each on what the lines before leave
   abbrev pub answers_to : S → List (List ℕ) → List ℕ
-  answers_to s [] = []
-  answers_to s (line ∷ lines) = rules.answer s line ++ answers_to (rules.after s line) lines
+  answers_to s lines = concat (scan rules.after rules.answer s lines)
 
   -- what lines leave
   abbrev pub after_lines : S → List (List ℕ) → S
@@ -55,13 +54,13 @@ module _ {S : Type 0} (rules : Rules S) where
 abbrev pub line_limit : ℕ
 line_limit = 1048576
 
--- how lines are answered whose pieces say their commands so; nothing is said behind the last
-abbrev pub rules_by : (List ℕ → Result Command LineFault) → Rules NumberSet
+-- how lines are answered that say their commands so; nothing is said behind the last
+abbrev pub rules_by : (List ℕ → Result (List Command) LineFault) → Rules NumberSet
 rules_by says = record { answer = line_answer says; after = after_line says; closing = λ _. [] }
 
 -- how the lines of a script are answered
 abbrev pub script_rules : Rules NumberSet
-script_rules = rules_by command_of
+script_rules = rules_by (batch_of command_of)
 
 -- the text that a script is answered with, by a set that starts empty
 abbrev pub answers_of : List ℕ → List ℕ

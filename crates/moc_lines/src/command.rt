@@ -1,8 +1,8 @@
 //! The commands that pieces of lines say.
 ghost use Rattle.std.specs.Prelude.{◌≡◌};
 ghost use Rattle.moc_lines.specs.Language.{coverage_of, order_of, plain_operand_of, operand_of, invert_of, degrade_of};
-ghost use Rattle.moc_lines.specs.Language.{near_by, near_of, command_named, command_with, command_of, ReadsText};
-ghost use Rattle.moc_lines.specs.Private.Verbs.{made_by, made_by_word};
+ghost use Rattle.moc_lines.specs.Language.{near_of, command_named, command_with, command_of, ReadsText};
+ghost use Rattle.moc_lines.specs.Private.Verbs.{made_by, made_by_word, near_by};
 
 use crate::fault::{LineFault, ReadError};
 use crate::fields::{only_field, two_fields};

@@ -1,6 +1,6 @@
 //! What is wrong with a line.
 ghost use Rattle.std.specs.Prelude.{◌≡◌, ◌++◌, OnOk};
-ghost use Rattle.moc_lines.specs.Language.{fault_answer, name_of};
+ghost use Rattle.moc_lines.specs.Language.{fault_answer, name_of_line};
 ghost use Rattle.moc_lines.specs.Private.ReadErrors.{error_of_text};
 ghost use Rattle.moc_lines.specs.declared.fault.ReadError.TheVariants as read;
 
@@ -50,7 +50,7 @@ pub enum LineFault {
 impl LineFault {
     /// The name that the answer gives.
     pub fn name(self) -> &'static str
-        ensures { result.now ≡ name_of self }
+        ensures { result.now ≡ name_of_line self }
     {
         match self {
             LineFault::UnknownWord => "UnknownWord",

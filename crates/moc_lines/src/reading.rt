@@ -33,10 +33,16 @@ pub enum InputError {
     Read,
     /// A line is over the limit. Lines are counted from 1.
     #[error("line {line} is too long")]
-    TooLong { line: u64 },
+    TooLong {
+        /// Its number.
+        line: u64,
+    },
     /// Memory was refused while this line was read; before the first, at 0.
     #[error("out of memory at line {line}")]
-    Memory { line: u64 },
+    Memory {
+        /// Its number, from 1; or 0.
+        line: u64,
+    },
 }
 
 impl Script {

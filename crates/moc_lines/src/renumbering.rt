@@ -24,8 +24,11 @@ const LINE: usize = 21;
 /// From which numbering to which, of the cells of which order.
 #[derive(Clone, Copy, Debug, PartialEq, Eq)]
 pub struct Renumbering {
+    /// The numbering of the numbers that are read.
     pub from: Numbering,
+    /// The numbering of those that are written.
     pub to: Numbering,
+    /// The order of the cells.
     pub order: Order,
 }
 

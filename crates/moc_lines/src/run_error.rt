@@ -16,11 +16,17 @@ pub enum RunError {
     Write,
     /// A line is over the limit. Lines are counted from 1.
     #[error("line {line} is too long")]
-    LineTooLong { line: u64 },
+    LineTooLong {
+        /// Its number.
+        line: u64,
+    },
     /// A growth was refused while this line was read or answered; before the first line, at 0; once all lines are
     /// answered, at one more than the lines.
     #[error("out of memory at line {line}")]
-    Memory { line: u64 },
+    Memory {
+        /// Its number, from 1; or 0.
+        line: u64,
+    },
 }
 
 impl RunError {

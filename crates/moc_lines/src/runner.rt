@@ -97,17 +97,9 @@ impl Runner {
                 return Err(RunError::Write);
             }
             match self.next_line(reader) {
-                Ok(Found::Line) => {
-                    let answered = self.answer_line(line, responder);
-                    if answered.is_err() {
-                        return answered;
-                    }
-                }
+                Ok(Found::Line) => self.answer_line(line, responder)?,
                 Ok(Found::LastLine) => {
-                    let answered = self.answer_line(line, responder);
-                    if answered.is_err() {
-                        return answered;
-                    }
+                    self.answer_line(line, responder)?;
                     return self.close(line + 1, responder);
                 }
                 Ok(Found::Nothing) => return self.close(line, responder),

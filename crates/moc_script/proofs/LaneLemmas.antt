@@ -18,13 +18,13 @@ use Rattle.moc_shared.specs.declared.map.SharedMap.{SharedMap}
 use Rattle.moc_shared.specs.Clients.{EndsWaiting}
 use Rattle.moc_shared.specs.Batches.{BatchCall, BatchRecord, answer as object}
 
-module _ (says : List ℕ → Result Command LineFault) where
+module _ (says : List ℕ → Result (List Command) LineFault) where
   -- a line that is not blank is answered as what it says
-  says_line : (a : NumberSet) (line : List ℕ) (r : Result (List Command) LineFault) → is_blank_text line ≡ false → batch_of says line ≡ r
+  says_line : (a : NumberSet) (line : List ℕ) (r : Result (List Command) LineFault) → is_blank_text line ≡ false → says line ≡ r
       → (line_answer says a line ≡ answer_to a r) × (after_line says a line ≡ after_batch a r)
   says_line a line r said is = (
-    ap (λ (b : Bool). if b then [] else answer_to a (batch_of says line)) said ∙ ap (answer_to a) is,
-    ap (λ (b : Bool). if b then a else after_batch a (batch_of says line)) said ∙ ap (after_batch a) is,
+    ap (λ (b : Bool). if b then [] else answer_to a (says line)) said ∙ ap (answer_to a) is,
+    ap (λ (b : Bool). if b then a else after_batch a (says line)) said ∙ ap (after_batch a) is,
   )
 
 -- a line that says commands asks for them
@@ -32,7 +32,7 @@ pub asks_line : (line : List ℕ) (e : BatchCall) (text : List ℕ) → is_blank
     → text ≡ replies_text e.reply ++ 10 ∷ [] → Asks object script_rules line e text
 unfolding object
 asks_line line e text said is text_is s =
-    let h = says_line command_of s line (Ok e.operation) said is in
+    let h = says_line (batch_of command_of) s line (Ok e.operation) said is in
     (h.1, λ reply. h.0 ∙ ap (λ r. replies_text r ++ 10 ∷ []) (sym reply) ∙ sym text_is)
 
 -- a line that says commands, which made a call
@@ -45,7 +45,7 @@ said_line client line commands old new before after said is (replies, text, made
 
 -- and one at fault changes nothing
 quiet_line : (line : List ℕ) (fault : LineFault) → is_blank_text line ≡ false → batch_of command_of line ≡ Err fault → IsQuiet object script_rules line (fault_answer fault)
-quiet_line line fault said is s = says_line command_of s line (Err fault) said is
+quiet_line line fault said is s = says_line (batch_of command_of) s line (Err fault) said is
 
 pub quiet_read : (line : List ℕ) (e : ReadError) (fault : LineFault) → e ≡ error.Fault fault → is_blank_text line ≡ false
     → ReadsText {X = Commands} commands_in (Err e) (batch_of command_of line) → IsQuiet object script_rules line (fault_answer fault)

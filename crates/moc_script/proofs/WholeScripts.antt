@@ -9,8 +9,8 @@ use Rattle.moc_text.specs.Lines.{is_line_feed, lines_of, is_semicolon}
 use Rattle.moc_lists.specs.RangeList.{NumberSet}
 use Rattle.moc_parts.specs.declared.command.Command.{Command}
 use Rattle.moc_steps.specs.Machine.Step.{Begin}
-use Rattle.moc_lines.specs.Runs.{Rules, is_within, answers_to, after_lines, script_text, line_limit, script_rules}
-use Rattle.moc_lines.specs.Language.{is_blank_text, word_of, behind_word, batch_of, ◌>>=◌, command_of, command_by}
+use Rattle.moc_lines.specs.Runs.{Rules, is_within, answers_to, after_lines, script_text, line_limit, rules_by, script_rules}
+use Rattle.moc_lines.specs.Language.{answer_to, after_batch, is_blank_text, word_of, behind_word, batch_of, ◌>>=◌, command_of, command_by}
 use Rattle.moc_lines.specs.Language.{plain_operand_of}
 use Rattle.moc_script.specs.Schedules.{BatchStep, as_in_script, client_by, begin_of, other_step, said_by, said_step}
 use Rattle.moc_script.specs.Schedules.{Schedule, next_line, answer_to_step, after_said, last_lines, step_rules}
@@ -19,7 +19,7 @@ use Rattle.moc_lines.specs.declared.fault.LineFault.{LineFault}
 use Rattle.moc_lines.specs.declared.fault.LineFault.TheVariants.{WrongCount}
 use Rattle.moc_script.specs.declared.fault.StepFault.{StepFault}
 use Rattle.moc_script.specs.declared.fault.StepFault.TheVariants.{Line}
-use Rattle.moc_script.specs.Laws.{single_answer, after_single, single_rules, plain_rules, is_at_sign, one_command}
+use Rattle.moc_script.specs.Laws.{plain_rules, is_at_sign, one_command}
 use Rattle.moc_script.specs.Laws.{ScriptsOfSingleCommands, ScriptsWithoutOrder, SchedulesOfSingleCommands}
 use Rattle.moc_script.specs.Laws.{SchedulesWithoutOrder}
 use Rattle.moc_script.proofs.Single.{batch-single, lines_of_one_command}
@@ -60,14 +60,14 @@ module _ {S : Type 0} (rules others : Rules S) (Q : List ℕ → Type 0)
 
 -- a line without a semicolon, blank or not
 single_line : (a : NumberSet) (line : List ℕ) → list_any is_semicolon line ≡ false
-    → (script_rules.answer a line ≡ single_rules.answer a line) × (script_rules.after a line ≡ single_rules.after a line)
+    → (script_rules.answer a line ≡ (rules_by one_command).answer a line) × (script_rules.after a line ≡ (rules_by one_command).after a line)
 single_line a line none =
-    let step : (b : Bool) → is_blank_text line ≡ b → (script_rules.answer a line ≡ single_rules.answer a line) × (script_rules.after a line ≡ single_rules.after a line) =
-    λ b. elim b as (λ v. is_blank_text line ≡ v → (script_rules.answer a line ≡ single_rules.answer a line) × (script_rules.after a line ≡ single_rules.after a line)) [
+    let step : (b : Bool) → is_blank_text line ≡ b → (script_rules.answer a line ≡ (rules_by one_command).answer a line) × (script_rules.after a line ≡ (rules_by one_command).after a line) =
+    λ b. elim b as (λ v. is_blank_text line ≡ v → (script_rules.answer a line ≡ (rules_by one_command).answer a line) × (script_rules.after a line ≡ (rules_by one_command).after a line)) [
       | true ↦ λ is. rw is (refl, refl)
-      | false ↦ λ is. let law = lines_of_one_command a line none is in (
-        law.0 ∙ sym (ap (λ v. cond v [] (single_answer a (command_of line))) is),
-        law.1 ∙ sym (ap (λ v. cond v a (after_single a (command_of line))) is),
+      | false ↦ λ is. let law = lines_of_one_command line none is in (
+        ap (λ r. cond (is_blank_text line) [] (answer_to a r)) law,
+        ap (λ r. cond (is_blank_text line) a (after_batch a r)) law,
       )
     ] in
     step (is_blank_text line) refl
@@ -75,7 +75,7 @@ single_line a line none =
 pub scripts_of_single_commands : ScriptsOfSingleCommands
 scripts_of_single_commands input none =
     ap (λ text. text ++ cond (list_all (is_within line_limit) (lines_of input)) [] [])
-    (same_answers script_rules single_rules (λ l. list_any is_semicolon l ≡ false) single_line set.empty _
+    (same_answers script_rules (rules_by one_command) (λ l. list_any is_semicolon l ≡ false) single_line set.empty _
     (each-take_while _ (is_within line_limit) (lines_of input) (none_in_lines is_semicolon input none)))
 
 pub scripts_without_order : ScriptsWithoutOrder

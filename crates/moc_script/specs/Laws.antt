@@ -1,39 +1,33 @@
 -- Laws of the languages of scripts and schedules.
-use Rattle.std.specs.Prelude.{◌≡◌, ℕ, Bool, false, ◌==◌, List, ◌++◌, ◌∷◌, [], length, if◌then◌else◌, Result, Ok, Err}
+use Rattle.std.specs.Prelude.{◌≡◌, ℕ, Bool, false, ◌==◌, List, ◌∷◌, [], length, Result, Ok}
 use Rattle.std.specs.List.{list_any}
 use Rattle.std.specs.FinSet as set
 use Rattle.std.specs.FinMap as map
 use Rattle.moc_lists.specs.RangeList.{NumberSet}
 use Rattle.moc_parts.specs.Batches.{batches}
-use Rattle.moc_parts.specs.Commands.{reply_on, set_after}
 use Rattle.moc_parts.specs.declared.command.Command.{Command}
 use Rattle.moc_steps.specs.Orders.{operations, midway, Explains, set_by_order}
 use Rattle.moc_steps.specs.Machine.{whole}
 use Rattle.moc_steps.specs.Laws.{ArePlayed, led_to}
-use Rattle.moc_lines.specs.Language.{is_blank_text, fault_answer, ◌>>=◌, plain_operand_of, command_by, command_of}
-use Rattle.moc_lines.specs.Language.{reply_text, batch_of}
+use Rattle.moc_lines.specs.Language.{is_blank_text, ◌>>=◌, plain_operand_of, command_by, command_of}
+use Rattle.moc_lines.specs.Language.{batch_of}
 use Rattle.moc_text.specs.Lines.{is_semicolon}
 use Rattle.moc_lines.specs.Runs.{Rules, after_lines, script_text, line_limit, rules_by, script_rules, answers_of}
 use Rattle.moc_script.specs.Schedules.{BatchStep, said_by, Schedule, step_rules, schedule_rules, start_schedule}
 use Rattle.moc_script.specs.Schedules.{steps_taken, schedule_text}
 use Rattle.moc_lines.specs.declared.fault.LineFault.{LineFault}
 
--- the answer to a single command
-abbrev pub single_answer : NumberSet → Result Command LineFault → List ℕ
-single_answer a (Ok command) = reply_text (reply_on a command) ++ 10 ∷ []
-single_answer a (Err fault) = fault_answer fault
+-- a batch of just the command that a text says
+abbrev pub one_command : List ℕ → Result (List Command) LineFault
+one_command text = do
+  command ← command_of text
+  Ok (command ∷ [])
 
--- what a single command leaves
-abbrev pub after_single : NumberSet → Result Command LineFault → NumberSet
-after_single a (Ok command) = set_after a command
-after_single a (Err fault) = a
-
--- A line without a semicolon that is not blank is answered as the one command that it says, and leaves what it leaves.
+-- A line without a semicolon that is not blank says just the command that it says as one piece.
 abbrev pub LinesOfOneCommand : Type 0
 LinesOfOneCommand =
-    (a : NumberSet) (line : List ℕ) → list_any is_semicolon line ≡ false → is_blank_text line ≡ false
-    → (script_rules.answer a line ≡ single_answer a (command_of line))
-    × (script_rules.after a line ≡ after_single a (command_of line))
+    (line : List ℕ) → list_any is_semicolon line ≡ false → is_blank_text line ≡ false
+    → batch_of command_of line ≡ one_command line
 
 -- `@`
 abbrev pub is_at_sign : ℕ → Bool
@@ -41,7 +35,7 @@ is_at_sign b = b == 64
 
 -- the language without orders: an operand is a coverage alone
 abbrev pub plain_rules : Rules NumberSet
-plain_rules = rules_by (command_by plain_operand_of)
+plain_rules = rules_by (batch_of (command_by plain_operand_of))
 
 -- A line without `@` is answered as in the language without orders, and leaves the same.
 abbrev pub LinesWithoutOrder : Type 0
@@ -49,31 +43,17 @@ LinesWithoutOrder =
     (a : NumberSet) (line : List ℕ) → list_any is_at_sign line ≡ false
     → (script_rules.answer a line ≡ plain_rules.answer a line) × (script_rules.after a line ≡ plain_rules.after a line)
 
--- the language without batches: a line is blank, or one command
-abbrev pub single_rules : Rules NumberSet
-single_rules = record {
-  answer = λ a line. if is_blank_text line then [] else single_answer a (command_of line);
-  after = λ a line. if is_blank_text line then a else after_single a (command_of line);
-  closing = λ _. [];
-}
-
--- A script without a semicolon is answered as in the language without batches.
+-- A script without a semicolon is answered as in the language without batches, where a line is one command.
 abbrev pub ScriptsOfSingleCommands : Type 0
 ScriptsOfSingleCommands =
     (input : List ℕ) → list_any is_semicolon input ≡ false
-    → answers_of input ≡ script_text single_rules line_limit set.empty input
+    → answers_of input ≡ script_text (rules_by one_command) line_limit set.empty input
 
 -- A script without `@` is answered as in the language without orders.
 abbrev pub ScriptsWithoutOrder : Type 0
 ScriptsWithoutOrder =
     (input : List ℕ) → list_any is_at_sign input ≡ false
     → answers_of input ≡ script_text plain_rules line_limit set.empty input
-
--- a batch of just the command that a text says
-abbrev pub one_command : List ℕ → Result (List Command) LineFault
-one_command text = do
-  command ← command_of text
-  Ok (command ∷ [])
 
 -- A schedule without a semicolon is answered as in the language without batches.
 abbrev pub SchedulesOfSingleCommands : Type 0

@@ -1,8 +1,8 @@
 -- Schedules of steps on the step machine: what their lines say, and the texts that answer them.
 use Rattle.std.specs.Prelude.{ℕ, List, codes, nat_lt, Result, Ok, Err, if◌then◌else◌, suc, ◌==◌, [], ◌∷◌, ◌++◌, decimal}
 use Rattle.std.specs.Prelude.{get_or, Option, None, Some}
-use Rattle.moc_lines.specs.Language.{name_of, is_blank_text, word_of, behind_word, number_spelled, ◌>>=◌, only_field}
-use Rattle.moc_lines.specs.Language.{two_fields, command_of, batch_of, cover_text, replies_text}
+use Rattle.moc_lines.specs.Language.{name_of_line, is_blank_text, word_of, behind_word, number_spelled, ◌>>=◌}
+use Rattle.moc_lines.specs.Language.{only_field, two_fields, command_of, batch_of, cover_text, replies_text}
 use Rattle.moc_script.specs.declared.fault.StepFault.{StepFault}
 use Rattle.moc_script.specs.declared.fault.StepFault.TheVariants.{Line, ClientTooLarge, PartTooLarge}
 use Rattle.moc_steps.specs.declared.error.StepError.{StepError}
@@ -28,7 +28,7 @@ use Rattle.moc_lines.specs.Runs.{Rules, script_text, line_limit}
 
 -- the name of the fault of a line
 abbrev pub name_of_step : StepFault → List ℕ
-name_of_step (Line fault) = name_of fault
+name_of_step (Line fault) = name_of_line fault
 name_of_step ClientTooLarge = codes "ClientTooLarge"
 name_of_step PartTooLarge = codes "PartTooLarge"
 

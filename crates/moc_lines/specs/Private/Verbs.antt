@@ -1,10 +1,13 @@
--- The words of commands that take an operand.
-use Rattle.std.specs.Prelude.{Option, Some, None, Result, Ok, Err}
+-- The words of commands that take an operand, and the fields of `near`.
+use Rattle.std.specs.Prelude.{ℕ, List, nat_lt, if◌then◌else◌, Option, Some, None, Result, Ok, Err}
+use Rattle.std.specs.Option.{ok_or}
+use Rattle.moc_sphere.specs.CellNumber.{cell_count, cell_number}
+use Rattle.moc_lines.specs.Language.{number_spelled, ◌>>=◌}
 use Rattle.moc_parts.specs.declared.command.Operand.{Operand}
 use Rattle.moc_parts.specs.declared.command.Command.{Command}
 use Rattle.moc_parts.specs.declared.command.Command.TheVariants as command
 use Rattle.moc_lines.specs.declared.fault.LineFault.{LineFault}
-use Rattle.moc_lines.specs.declared.fault.LineFault.TheVariants.{UnknownWord}
+use Rattle.moc_lines.specs.declared.fault.LineFault.TheVariants.{UnknownWord, BadNumber, OrderTooLarge, CellTooLarge}
 use Rattle.moc_lines.specs.declared.command.Verb.{Verb}
 use Rattle.moc_lines.specs.declared.command.Verb.TheVariants.{Add, Remove, Keep, Claim, Count, Read}
 
@@ -21,3 +24,11 @@ made_by Read = λ operand. command.Read operand
 abbrev pub made_by_word : Option Verb → Result (Operand → Command) LineFault
 made_by_word None = Err UnknownWord
 made_by_word (Some verb) = Ok (made_by verb)
+
+-- the cell that two fields name, an order and a number
+abbrev pub near_by : List ℕ → List ℕ → Result Command LineFault
+near_by order index = do
+  k ← ok_or (number_spelled order) BadNumber
+  i ← ok_or (number_spelled index) BadNumber
+  if nat_lt 29 k then Err OrderTooLarge
+      else (if nat_lt i (cell_count k) then Ok (command.Near (cell_number k i)) else Err CellTooLarge)

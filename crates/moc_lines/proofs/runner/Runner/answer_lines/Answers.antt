@@ -2,7 +2,7 @@
 use Rattle.std.proofs.Common.{◌≡◌, ◌∙◌, sym, refl, arith}
 use Rattle.std.proofs.KnownBytes.{Consumes-nil}
 use Rattle.moc_devices.specs.Lemmas.{FlushesNothing-none, FlushesNothing-later}
-use Rattle.moc_lines.proofs.Outcomes.{at_ok, unmarked}
+use Rattle.moc_lines.proofs.Outcomes.{unmarked}
 use Rattle.moc_lines.proofs.Progress.{at_found, Progress-start, Progress-sent, Progress-line, ReachedEnd-nothing, ReachedEnd-last, Ended-fault, Ended-refused, Ended-uncounted, Ended-closed, Ended-write}
 use Rattle.moc_lines.proofs.runner.Runner.answer_lines.Goals as goal
 
@@ -34,30 +34,26 @@ pub returns-in-Ok-LastLine-clause-ended : goal.returns-in-Ok-LastLine-clause-end
 returns-in-Ok-LastLine-clause-ended g c =
     let sent = Progress-sent _ _ _ _ _ _ _ _ _ c.loop-line.self.lines c.send_if_due.new.self.lines _ _ _ _ c.send_if_due.result c.loop-line.invariant.progress (sym c.is_err.ensures.value ∙ c.if-is_err.false) c.send_if_due.ensures.sends c.send_if_due.ensures.lines c.next_line.ensures.pending in
     let takes = at_found 1048576 c.send_if_due.new.self.lines c.next_line.new.self.lines _ _ _ _ c.in-Ok-LastLine.field-0-is c.in-Ok-LastLine.ensures.takes in
-    let line = c.answer_line-answered-in-Ok-LastLine in
-    let ok = sym c.is_err-in-Ok-LastLine.ensures.value ∙ c.if-is_err-3.false in
-    let answered = ReachedEnd-last _ _ _ _ _ _ _ _ _ c.send_if_due.new.self.lines c.next_line.new.self.lines _ _ sent takes _ _ (at_ok line.result ok line.ensures.text) (at_ok line.result ok line.ensures.after) in
+    let line = c.in_ok-answer_line-in-Ok-LastLine.ensures in
+    let answered = ReachedEnd-last _ _ _ _ _ _ _ _ _ c.send_if_due.new.self.lines c.next_line.new.self.lines _ _ sent takes _ _ line.text line.after in
     Ended-closed _ _ _ _ _ _ _ _ _ _ _ c.close.result answered c.close.ensures.text c.close.ensures.memory c.close.ensures.err c.close.ensures.some
 
-pub returns-then-is_err-2-clause-ended : goal.returns-then-is_err-2-clause-ended
-returns-then-is_err-2-clause-ended g c =
+pub returns-in_err-answer_line-in-Ok-Line-clause-ended : goal.returns-in_err-answer_line-in-Ok-Line-clause-ended
+returns-in_err-answer_line-in-Ok-Line-clause-ended g c =
     let sent = Progress-sent _ _ _ _ _ _ _ _ _ c.loop-line.self.lines c.send_if_due.new.self.lines _ _ _ _ c.send_if_due.result c.loop-line.invariant.progress (sym c.is_err.ensures.value ∙ c.if-is_err.false) c.send_if_due.ensures.sends c.send_if_due.ensures.lines c.next_line.ensures.pending in
-    let line = c.answer_line-answered in
-    Ended-refused _ _ _ _ _ _ _ _ _ c.send_if_due.new.self.lines c.next_line.new.self.lines _ _ sent _ c.in-Ok-Line.ensures.takes (λ none. cc (none, c.in-Ok-Line.field-0-is)) _ line.result (sym c.is_err-in-Ok-Line.ensures.value ∙ c.if-is_err-2.true) line.ensures.memory line.ensures.err
+    Ended-refused _ _ _ _ _ _ _ _ _ c.send_if_due.new.self.lines c.next_line.new.self.lines _ _ sent _ c.in-Ok-Line.ensures.takes (λ none. cc (none, c.in-Ok-Line.field-0-is)) _ c.from_residual.result c.in_err-answer_line-in-Ok-Line.field-0.0 c.from_residual.ensures.1 c.in_err-answer_line-in-Ok-Line.ensures.memory c.in_err-answer_line-in-Ok-Line.ensures.err
 
-pub returns-then-is_err-3-clause-ended : goal.returns-then-is_err-3-clause-ended
-returns-then-is_err-3-clause-ended g c =
+pub returns-in_err-answer_line-in-Ok-LastLine-clause-ended : goal.returns-in_err-answer_line-in-Ok-LastLine-clause-ended
+returns-in_err-answer_line-in-Ok-LastLine-clause-ended g c =
     let sent = Progress-sent _ _ _ _ _ _ _ _ _ c.loop-line.self.lines c.send_if_due.new.self.lines _ _ _ _ c.send_if_due.result c.loop-line.invariant.progress (sym c.is_err.ensures.value ∙ c.if-is_err.false) c.send_if_due.ensures.sends c.send_if_due.ensures.lines c.next_line.ensures.pending in
-    let line = c.answer_line-answered-in-Ok-LastLine in
-    Ended-refused _ _ _ _ _ _ _ _ _ c.send_if_due.new.self.lines c.next_line.new.self.lines _ _ sent _ c.in-Ok-LastLine.ensures.takes (λ none. cc (none, c.in-Ok-LastLine.field-0-is)) _ line.result (sym c.is_err-in-Ok-LastLine.ensures.value ∙ c.if-is_err-3.true) line.ensures.memory line.ensures.err
+    Ended-refused _ _ _ _ _ _ _ _ _ c.send_if_due.new.self.lines c.next_line.new.self.lines _ _ sent _ c.in-Ok-LastLine.ensures.takes (λ none. cc (none, c.in-Ok-LastLine.field-0-is)) _ c.from_residual-in_err-answer_line-in-Ok-LastLine.result c.in_err-answer_line-in-Ok-LastLine.field-0.0 c.from_residual-in_err-answer_line-in-Ok-LastLine.ensures.1 c.in_err-answer_line-in-Ok-LastLine.ensures.memory c.in_err-answer_line-in-Ok-LastLine.ensures.err
 
 pub loop-line-preserved : goal.loop-line-preserved
 loop-line-preserved g c =
     let sent = Progress-sent _ _ _ _ _ _ _ _ _ c.loop-line.self.lines c.send_if_due.new.self.lines _ _ _ _ c.send_if_due.result c.loop-line.invariant.progress (sym c.is_err.ensures.value ∙ c.if-is_err.false) c.send_if_due.ensures.sends c.send_if_due.ensures.lines c.next_line.ensures.pending in
-    let answered = c.answer_line-answered.ensures in
-    let ok = sym c.is_err-in-Ok-Line.ensures.value ∙ c.if-is_err-2.false in
+    let answered = c.in_ok-answer_line-in-Ok-Line.ensures in
     record {
-      progress = rw answered.lines (Progress-line _ _ _ _ _ _ _ _ _ c.send_if_due.new.self.lines c.next_line.new.self.lines _ _ sent (at_found 1048576 c.send_if_due.new.self.lines c.next_line.new.self.lines _ _ _ _ c.in-Ok-Line.field-0-is c.in-Ok-Line.ensures.takes) _ _ (at_ok c.answer_line-answered.result ok answered.text) (at_ok c.answer_line-answered.result ok answered.after));
+      progress = rw answered.lines (Progress-line _ _ _ _ _ _ _ _ _ c.send_if_due.new.self.lines c.next_line.new.self.lines _ _ sent (at_found 1048576 c.send_if_due.new.self.lines c.next_line.new.self.lines _ _ _ _ c.in-Ok-Line.field-0-is c.in-Ok-Line.ensures.takes) _ _ answered.text answered.after);
       reader = unmarked _ c.next_line.ensures.read.1 (λ is. cc (c.in-Ok-Line.is, is));
       writer = c.send_if_due.ensures.writes.marks c.loop-line.invariant.writer ∙ sym c.is_err.ensures.value ∙ c.if-is_err.false;
       unflushed = FlushesNothing-later c.loop-line.invariant.unflushed c.send_if_due.ensures.writes.unflushed;
