@@ -6,7 +6,7 @@ use Rattle.moc_lists.specs.RangeList.{NumberSet}
 use Rattle.moc_parts.specs.declared.command.Command.{Command}
 use Rattle.moc_parts.specs.declared.reply.Reply.{Reply}
 use Rattle.moc_parts.specs.declared.reply.Reply.TheVariants.{Cover}
-use Rattle.moc_shared.specs.Batches.{answer, BatchCall}
+use Rattle.moc_shared.specs.Batches.{batch_answer, BatchCall}
 use Rattle.moc_shared.specs.Clients.{AfterError, call_of, Ends, LacksMemory, record_of, start_of}
 use Rattle.moc_shared.specs.History.{call_by, IsLegal}
 use Rattle.moc_shared.specs.declared.errors.TryError.{TryError}
@@ -56,16 +56,16 @@ refused m n cs try.Memory o after tells = inr (after, tells)
 
 -- ---- the set of a map
 
-legal_last : (a : NumberSet) (log : List BatchCall) (e : BatchCall) → IsLegal answer a (log ++ e ∷ []) → (b : NumberSet) × (e.reply ≡ (answer b e.operation).1)
+legal_last : (a : NumberSet) (log : List BatchCall) (e : BatchCall) → IsLegal batch_answer a (log ++ e ∷ []) → (b : NumberSet) × (e.reply ≡ (batch_answer b e.operation).1)
 legal_last a [] e h = (a, h.0)
-legal_last a (x ∷ xs) e h = legal_last (answer a x.operation).0 xs e h.1
+legal_last a (x ∷ xs) e h = legal_last (batch_answer a x.operation).0 xs e h.1
 
 -- a query of the whole sky has one reply, a cover
 pub sky_reply : (m n : Membership) (cs : List Command) (r : List Reply) → cs ≡ whole_sky → MemberEnds m n cs r → (a : NumberSet) × (r ≡ Cover a ∷ [])
-unfolding answer
+unfolding batch_answer
 sky_reply m n cs r is ends =
-    let last = legal_last (start_of m.map) ((record_of m.client).seen ++ ends.between) (call_of m.client cs r) (subst (IsLegal answer (start_of m.map)) ends.seen ends.history.0) in
-    (_, last.1 ∙ ap (λ x. (answer last.0 x).1) is)
+    let last = legal_last (start_of m.map) ((record_of m.client).seen ++ ends.between) (call_of m.client cs r) (subst (IsLegal batch_answer (start_of m.map)) ends.seen ends.history.0) in
+    (_, last.1 ∙ ap (λ x. (batch_answer last.0 x).1) is)
 
 pub laid : (s : Sitter) (m n : Membership) (desk desk' : Contents) (a : NumberSet) (o : Outcome) → s.member ≡ Some m → ReadsSky m n (Ok a) → Makes desk desk' (Ok a) o
     → LaysSet s (with_member s n) desk desk' (seated_member s) o

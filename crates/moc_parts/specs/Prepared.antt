@@ -27,10 +27,10 @@ pub record Preparation : Type 0 where
   pub lists : List (Option NumberSet)
   pub replies : List Reply
 
--- a part of a set, if it is kept
-abbrev pub kept : Bool → NumberSet → ℕ → Option NumberSet
-kept true a b = Some (part_of a b)
-kept false a b = None
+-- a part of a set, if it is wanted
+abbrev pub part_if : Bool → NumberSet → ℕ → Option NumberSet
+part_if true a b = Some (part_of a b)
+part_if false a b = None
 
 -- the replies are those on every set that agrees in the footprint with what was found
 abbrev pub AreRepliesTo : List Command → NumberSet → List Reply → Type 0
@@ -50,7 +50,7 @@ pub record IsToldBy (cs : List Command) (found : NumberSet) (replies : List Repl
 -- the replies, and the new contents of the parts that were given and of no other
 pub record IsPrepared (cs : List Command) (given : ℕ → Bool) (found : NumberSet) (p : Preparation) : Type 0 where
   pub told : IsToldBy cs found p.replies
-  pub parts : (b : ℕ) → b < 12 → get_or p.lists b None ≡ kept (given b) (set_after_all found cs) b
+  pub parts : (b : ℕ) → b < 12 → get_or p.lists b None ≡ part_if (given b) (set_after_all found cs) b
 
 -- the replies, and the new contents of parts; a part without one is left as it was found
 pub record AreChanges (cs : List Command) (found : NumberSet) (p : Preparation) : Type 0 where

@@ -72,7 +72,8 @@ impl Eq for Batch {
 }
 
 impl Batch {
-    /// The commands as a batch, if they are 1 to 16; else they are given up. Takes no memory.
+    /// The commands as a batch, if they are 1 to 16; else they are given up, refused with `EmptyCommand` for none and
+    /// `TooManyCommands` above 16. Takes no memory.
     pub fn new(commands: Vec<Command>) -> Result<Batch, BatchError>
         ensures made { IfOk result (λ b. b ≡ commands.items) }
         ensures accepted { OnOk result ((0 < length commands.items) × (length commands.items ≤ MOST_COMMANDS)) }

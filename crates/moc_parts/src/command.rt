@@ -15,7 +15,9 @@ use std::alloc::Global;
 /// What a command works with: a set of pixels, degraded first where an order is given.
 #[derive(Debug, PartialEq, Eq, Drop)]
 pub struct Operand {
+    /// The set of pixels.
     pub set: Coverage,
+    /// The order to degrade it to first, if any.
     pub coarse: Option<Order>,
 }
 

@@ -6,7 +6,7 @@ ghost use Rattle.moc_parts.specs.Private.Changes.{changed, IsChange};
 ghost use Rattle.moc_parts.specs.Commands.{parts_met};
 ghost use Rattle.moc_parts.specs.Private.Drafts.{current_lists, sets_of, with_part};
 ghost use Rattle.moc_parts.specs.Parts.{union_of, parts_below, AreParts};
-ghost use Rattle.moc_parts.specs.Prepared.{found_sets, is_given, kept};
+ghost use Rattle.moc_parts.specs.Prepared.{found_sets, is_given, part_if};
 
 mod commands;
 
@@ -198,7 +198,7 @@ impl<'a> Draft<'a> {
         given: &[Option<&Coverage>; 12],
     ) -> Result<Lists, Memory>
         ensures { IfOk result (λ lists.
-            (b : ℕ) → b < 12 → get_or lists b None ≡ kept (is_given given.now b) self.entry.set b) }
+            (b : ℕ) → b < 12 → get_or lists b None ≡ part_if (is_given given.now b) self.entry.set b) }
     {
         let Draft { found, made } = self;
         let mut lists = made;

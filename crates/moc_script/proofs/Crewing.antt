@@ -12,7 +12,7 @@ use Rattle.moc_lines.specs.Runs.{script_rules, AreWithin, IsBegunLine, line_limi
 use Rattle.moc_script.specs.Crews.{in_lane, dealt, cover_line, said_lines, IsCrewText, IsRefusedLine, CrewEnds}
 use Rattle.moc_shared.specs.History.{calls_of, state_after, IsLegal}
 use Rattle.moc_script.specs.Private.LaneWork.{Does}
-use Rattle.moc_shared.specs.Batches.{BatchCall, answer as object}
+use Rattle.moc_shared.specs.Batches.{BatchCall, batch_answer as object}
 use Rattle.moc_shared.specs.Clients.{record_of, start_of, clients_of, StandsForAll, Closes}
 use Rattle.moc_shared.specs.declared.map.SharedMap.{SharedMap}
 use Rattle.moc_shared.specs.declared.record.Calls.{Calls}

@@ -16,7 +16,7 @@ use Rattle.moc_script.specs.Private.LaneWork.{IsQuiet, Asks, DoesLine, Does}
 use Rattle.moc_script.specs.Private.LaneEnds.{Made, Answers, AddsAnswer, Answered}
 use Rattle.moc_shared.specs.declared.map.SharedMap.{SharedMap}
 use Rattle.moc_shared.specs.Clients.{EndsWaiting}
-use Rattle.moc_shared.specs.Batches.{BatchCall, BatchRecord, answer as object}
+use Rattle.moc_shared.specs.Batches.{BatchCall, BatchRecord, batch_answer as object}
 
 module _ (says : List ℕ → Result (List Command) LineFault) where
   -- a line that is not blank is answered as what it says

@@ -25,7 +25,7 @@ use Rattle.moc_shared.specs.Private.Answering.{Answers}
 use Rattle.moc_shared.specs.Private.Held.{HoldsJust}
 use Rattle.moc_shared.specs.Private.Plays.{with_part, with_parts, with_misses, with_holds, marked_at}
 use Rattle.moc_shared.specs.Private.Slots.{EndsBatch, AreWaits, just, touched_by}
-use Rattle.moc_shared.specs.Batches.{BatchCall, BatchRecord, answer}
+use Rattle.moc_shared.specs.Batches.{BatchCall, BatchRecord, batch_answer}
 use Rattle.moc_shared.specs.Clients.{start_of, clients_of, EndsWaiting, LacksMemoryWaiting}
 use Rattle.moc_shared.proofs.Basics.{here, none_in, only}
 use Rattle.moc_shared.proofs.Promises.{Stays, stays_through, stays_ended, stays_given, ends_noted, undone_noted, undone_at_once}
@@ -133,8 +133,8 @@ module _ (c : Command) (b : ℕ) (met : (k : ℕ) → footprint c k ≡ nat_eq b
 
   -- what was found in the part tells all
   pub answers_alone : (x y : NumberSet) (r : Reply) → IsLocal batches cs → y ≡ set_after x c → r ≡ reply_on x c
-      → Answers part answer IsProper cs (r ∷ []) (note b (Some x) ∷ []) (note b (Some y) ∷ [])
-  unfolding answer part
+      → Answers part batch_answer IsProper cs (r ∷ []) (note b (Some x) ∷ []) (note b (Some y) ∷ [])
+  unfolding batch_answer part
   answers_alone x y r local new told s w noted =
       let is : x ≡ part_of s b = some_inside x (part_of s b) (noted b (Some x) (here (note b (Some x)) [])) in (
         local.reply s (part_of s b) w (within_part s w) (λ q t. sym (agrees_there s q t))
@@ -213,18 +213,18 @@ holds_alone init me b a waits one is carried = record {
 
 -- ---- the replies of a batch of one command
 
-last_reply : (a : NumberSet) (log : List BatchCall) (e : BatchCall) → IsLegal answer a (log ++ e ∷ [])
-    → (s : NumberSet) × (e.reply ≡ (answer s e.operation).1)
+last_reply : (a : NumberSet) (log : List BatchCall) (e : BatchCall) → IsLegal batch_answer a (log ++ e ∷ [])
+    → (s : NumberSet) × (e.reply ≡ (batch_answer s e.operation).1)
 last_reply a [] e h = (a, h.0)
-last_reply a (x ∷ xs) e h = last_reply (answer a x.operation).0 xs e h.1
+last_reply a (x ∷ xs) e h = last_reply (batch_answer a x.operation).0 xs e h.1
 
 pub only_reply : (the : SharedMap) (c : Command) (replies : List Reply) (number : ℕ) (old new : BatchRecord)
     → EndsWaiting the (call_by number (c ∷ []) replies) old new → length replies ≡ 1
-unfolding answer
+unfolding batch_answer
 only_reply the c replies number old new (mid, waited, ends) =
     let e : BatchCall = call_by number (c ∷ []) replies in
-    let legal : IsLegal answer (start_of the) ((mid.seen ++ ends.between) ++ e ∷ []) =
-    subst (λ (l : List BatchCall). IsLegal answer (start_of the) l) ends.seen ends.history.0 in
+    let legal : IsLegal batch_answer (start_of the) ((mid.seen ++ ends.between) ++ e ∷ []) =
+    subst (λ (l : List BatchCall). IsLegal batch_answer (start_of the) l) ends.seen ends.history.0 in
     let r = last_reply (start_of the) (mid.seen ++ ends.between) e legal in
     ap (λ (l : List Reply). length l) r.1
 

@@ -15,7 +15,7 @@ use Rattle.moc_shared.specs.declared.record.Record.{Record}
 use Rattle.moc_shared.specs.declared.record.Note.{Note}
 use Rattle.moc_shared.specs.declared.record.View.{View}
 use Rattle.moc_shared.specs.History.{Fits, StandsFor, stood, newcomer}
-use Rattle.moc_shared.specs.Seats.{index, note}
+use Rattle.moc_shared.specs.Seats.{table_place, note}
 use Rattle.moc_shared.specs.Private.Rule.{records, stood_in, stood_by, ViewFits, Kept}
 use Rattle.moc_shared.specs.Private.Opening.{nobody, seat_for, newcomers, first_view}
 use Rattle.moc_shared.proofs.Basics.{here, none_in, only, cons_cases}
@@ -85,8 +85,8 @@ module _ {S X O R Y : Type 0} (n : ℕ) (content : S → Y) (part : ℕ → X �
       (λ (t : (d : ℕ) × (d < 0 + clients) × (newcomer d ≡ r)). none_in (h, b)
       (subst (λ (q : Record O R). Contains q.misses (h, b)) (sym t.2) m)) w
 
-  pub begins : (words : List ℕ) (xs : List S) → length words ≡ index n → length xs ≡ index n → ((b : ℕ) → slice_index words b ≡ 0)
-      → ((b : ℕ) (x : S) → get_elem? (map some xs) (index b) ≡ some (some x) → content x ≡ part b start) → proper start
+  pub begins : (words : List ℕ) (xs : List S) → length words ≡ table_place n → length xs ≡ table_place n → ((b : ℕ) → slice_index words b ≡ 0)
+      → ((b : ℕ) (x : S) → get_elem? (map some xs) (table_place b) ≡ some (some x) → content x ≡ part b start) → proper start
       → Kept n content part answer proper start clients (opening words xs (first_view start clients))
   begins words xs wide deep zeros contents whole =
       let first : V = first_view start clients in
@@ -104,7 +104,7 @@ module _ {S X O R Y : Type 0} (n : ℕ) (content : S → Y) (part : ℕ → X �
         wide = wide;
         deep = mapped_length xs ∙ deep;
         spare = λ b spare. zeros b;
-        each_part = λ b l. let t = some_there xs (index b) (omega arith) in inl (zeros (index b), (t.0, t.1, contents b t.0 t.1));
+        each_part = λ b l. let t = some_there xs (table_place b) (omega arith) in inl (zeros (table_place b), (t.0, t.1, contents b t.0 t.1));
         each_view =
             λ i v e. subst (λ (u : V). ViewFits n content part answer proper start clients [] words (map some xs) u)
             (which i v e) record {

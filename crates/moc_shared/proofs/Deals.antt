@@ -17,12 +17,12 @@ use Rattle.moc_parts.specs.declared.reply.Reply.{Reply}
 use Rattle.moc_shared.specs.declared.map.SharedMap.{SharedMap}
 use Rattle.moc_shared.specs.declared.client.Client.{Client}
 use Rattle.moc_shared.specs.History.{StandsFor, newcomer}
-use Rattle.moc_shared.specs.Seats.{index, Pointer, Sight}
+use Rattle.moc_shared.specs.Seats.{table_place, Pointer, Sight}
 use Rattle.moc_shared.specs.Private.Rule.{Kept}
 use Rattle.moc_shared.specs.Private.Seats.{content, part, IsProper}
 use Rattle.moc_shared.specs.Private.Plays.{first_alone}
 use Rattle.moc_shared.specs.Private.Opening.{seat_for, newcomers, first_view, rest_view}
-use Rattle.moc_shared.specs.Batches.{answer}
+use Rattle.moc_shared.specs.Batches.{batch_answer}
 use Rattle.moc_shared.specs.Private.Starts.{StandFor}
 use Rattle.moc_shared.specs.Clients.{start_of, clients_of, IsClientOf, IsNewClient, AreNewClients}
 use Rattle.moc_shared.proofs.Begins.{begins, stood_same}
@@ -33,12 +33,12 @@ unmapped [] b x e = absurd (some-ne-none (some x) (sym e))
 unmapped (y ∷ ys) zero x e = some-injective (some y) (some x) e
 unmapped (y ∷ ys) (suc b) x e = unmapped ys b x e
 
-pub made : (words : List ℕ) (start : NumberSet) (slots : List (Option Pointer)) (clients : ℕ) → length words ≡ index 12
-    → ((b : ℕ) → slice_index words b ≡ 0) → StandFor start slots (index 12) → IsProper start
-    → Kept 12 content part answer IsProper start clients (opening words slots (first_view start clients))
+pub made : (words : List ℕ) (start : NumberSet) (slots : List (Option Pointer)) (clients : ℕ) → length words ≡ table_place 12
+    → ((b : ℕ) → slice_index words b ≡ 0) → StandFor start slots (table_place 12) → IsProper start
+    → Kept 12 content part batch_answer IsProper start clients (opening words slots (first_view start clients))
 made words start slots clients wide zeros stand within =
-    begins 12 content part answer IsProper start clients words slots wide stand.0 zeros
-    (λ b x e. stand.1 b x (unmapped slots (index b) x e)) within
+    begins 12 content part batch_answer IsProper start clients words slots wide stand.0 zeros
+    (λ b x e. stand.1 b x (unmapped slots (table_place b) x e)) within
 
 last_one : (xs : List (Option Pointer)) (x y : Option Pointer) (b : ℕ) → get_elem? (xs ++ x ∷ []) b ≡ some y
     → (get_elem? xs b ≡ some y) ⊎ ((b ≡ length xs) × (x ≡ y))
@@ -48,12 +48,12 @@ last_one (z ∷ zs) x y zero e = inl e
 last_one (z ∷ zs) x y (suc b) e = ⊎_elim (λ l. inl l) (λ t. inr (ap suc t.0, t.1)) (last_one zs x y b e)
 
 pub one_slot : (a : NumberSet) (slots after : List (Option Pointer)) (k : ℕ) (x : Option Pointer)
-    → after ≡ slots ++ x ∷ [] → ((b : ℕ) → index b ≡ k → content x ≡ part b a) → StandFor a slots k
+    → after ≡ slots ++ x ∷ [] → ((b : ℕ) → table_place b ≡ k → content x ≡ part b a) → StandFor a slots k
     → StandFor a after (k + 1)
 one_slot a slots after k x is new before = (
   ap (λ (l : List (Option Pointer)). length l) is ∙ length-append slots (x ∷ []) ∙ (let e = before.0 in omega arith),
   λ b y e. ⊎_elim (λ o. before.1 b y o) (λ t. ap content (sym t.1) ∙ new b (t.0 ∙ before.0))
-      (last_one slots x y (index b) (subst (λ (l : List (Option Pointer)). get_elem? l (index b) ≡ some y) is e)),
+      (last_one slots x y (table_place b) (subst (λ (l : List (Option Pointer)). get_elem? l (table_place b) ≡ some y) is e)),
 )
 
 dealing : (start : NumberSet) (n c : ℕ) (v : Sight) → v ≡ seat_for start n (newcomers c (n - c)) → c < n

@@ -8,7 +8,7 @@ use Rattle.moc_shared.specs.declared.record.Call.{Call}
 use Rattle.moc_shared.specs.declared.record.Note.{Note}
 use Rattle.moc_shared.specs.declared.record.View.{View}
 use Rattle.moc_shared.specs.History.{Fits, StandsFor, state_after, IsHistory}
-use Rattle.moc_shared.specs.Seats.{index, note}
+use Rattle.moc_shared.specs.Seats.{table_place, note}
 use Rattle.moc_shared.specs.Private.Rule.{IsFree, IsHeld, Kept}
 use Rattle.moc_shared.proofs.Basics.{here, none_in}
 use Rattle.moc_shared.proofs.Apart.{stood_of, one_view}
@@ -23,9 +23,9 @@ module _ {S X O R Y : Type 0} (n : ℕ) (content : S → Y) (part : ℕ → X �
   abbrev pub Ended_with : List ℕ → List S → V → Type 0
   Ended_with words xs v =
       (log : List (Call O R)) × IsHistory answer start clients log × Fits log v.mine × proper (state_after answer start log)
-      × ((b : ℕ) (x : S) → b < n → slice_index words (index b) ≡ 0 → get_elem? xs (index b) ≡ some x
+      × ((b : ℕ) (x : S) → b < n → slice_index words (table_place b) ≡ 0 → get_elem? xs (table_place b) ≡ some x
       → content x ≡ part b (state_after answer start log))
-      × ((b : ℕ) → b < n → slice_index words (index b) ≢ 0 → ((c : ℕ) → c < clients → StandsFor v.mine c) → ⊥)
+      × ((b : ℕ) → b < n → slice_index words (table_place b) ≢ 0 → ((c : ℕ) → c < clients → StandsFor v.mine c) → ⊥)
 
   pub closes : (words : List ℕ) (xs : List S) (id : ℕ) (v : V) → v.holds ≡ []
       → Final (Seen (λ s. Kept n content part answer proper start clients s) id v) words xs → Ended_with words xs v
@@ -35,14 +35,14 @@ module _ {S X O R Y : Type 0} (n : ℕ) (content : S → Y) (part : ℕ → X �
         (k.legal, k.named),
         ((k.each_view id v at).fits v.mine (here v.mine v.others)).0,
         k.whole,
-        (λ b x l z e. let z' : slice_index s.words (index b) ≡ 0 = ap (λ (w : List ℕ). slice_index w (index b)) same_words ∙ z in ⊎_elim
+        (λ b x l z e. let z' : slice_index s.words (table_place b) ≡ 0 = ap (λ (w : List ℕ). slice_index w (table_place b)) same_words ∙ z in ⊎_elim
             (λ (f : IsFree content part A s.words s.homes b). let q : f.1.0 ≡ x = some-injective f.1.0 x
-            (sym (values (index b) f.1.0 f.1.1) ∙ e) in sym (ap content q) ∙ f.1.2)
+            (sym (values (table_place b) f.1.0 f.1.1) ∙ e) in sym (ap content q) ∙ f.1.2)
             (λ (h : IsHeld s.views b). let w = ((k.each_view h.0 h.1 h.3).holding b h.2 h.4).word_is in
             absurd (omega arith))
             (k.each_part b l)),
-        (λ b l nz all. let nz' : slice_index s.words (index b) ≢ 0 =
-            (λ z. nz (sym (ap (λ (w : List ℕ). slice_index w (index b)) same_words) ∙ z)) in ⊎_elim
+        (λ b l nz all. let nz' : slice_index s.words (table_place b) ≢ 0 =
+            (λ z. nz (sym (ap (λ (w : List ℕ). slice_index w (table_place b)) same_words) ∙ z)) in ⊎_elim
             (λ (f : IsFree content part A s.words s.homes b). absurd (nz' f.0))
             (λ (h : IsHeld s.views b).
             let u = h.1 in

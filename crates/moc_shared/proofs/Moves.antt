@@ -19,7 +19,7 @@ use Rattle.moc_shared.specs.declared.record.Record.{Record}
 use Rattle.moc_shared.specs.declared.record.Note.{Note}
 use Rattle.moc_shared.specs.declared.record.View.{View}
 use Rattle.moc_shared.specs.History.{call_by, Fits, StandsFor, stood, state_after, IsLegal, IsHistory}
-use Rattle.moc_shared.specs.Seats.{index, note}
+use Rattle.moc_shared.specs.Seats.{table_place, note}
 use Rattle.moc_shared.specs.Private.Rule.{IsSpare, records, Present, stood_in, IsFree, IsHeld, Holding, ViewFits}
 use Rattle.moc_shared.specs.Private.Rule.{Kept, noted_parts, IsOne}
 use Rattle.moc_shared.specs.Private.Seats.{IsCarried}
@@ -30,12 +30,12 @@ use Rattle.moc_shared.proofs.Basics.{fits_longer, fits_with_call, starts_itself,
 use Rattle.moc_shared.proofs.Apart.{stood_of, one_view, one_record, present_cases}
 
 -- the words and slots of two parts are two
-pub far : (b' b : ℕ) → b' ≢ b → index b' ≢ index b
+pub far : (b' b : ℕ) → b' ≢ b → table_place b' ≢ table_place b
 far b' b ne e = ne (omega arith)
 
 -- a part's word is no spare one
-spare_apart : (words : List ℕ) (b x : ℕ) → ((k : ℕ) → IsSpare k → slice_index words k ≡ 0) → (k : ℕ) → IsSpare k → slice_index (set words (index b) x) k ≡ 0
-spare_apart words b x zeros k spare = get_or-set_other words (index b) k x 0 (λ e. spare b (sym e)) ∙ zeros k spare
+spare_apart : (words : List ℕ) (b x : ℕ) → ((k : ℕ) → IsSpare k → slice_index words k ≡ 0) → (k : ℕ) → IsSpare k → slice_index (set words (table_place b) x) k ≡ 0
+spare_apart words b x zeros k spare = get_or-set_other words (table_place b) k x 0 (λ e. spare b (sym e)) ∙ zeros k spare
 
 module _ {S X O R Y : Type 0} (n : ℕ) (content : S → Y) (part : ℕ → X → Y) (answer : X → O → X × R)
     (proper : X → Type 0) (start : X) (clients : ℕ) where
@@ -83,7 +83,7 @@ module _ {S X O R Y : Type 0} (n : ℕ) (content : S → Y) (part : ℕ → X �
       → ((r : Record O R) × Present (set s.views id w) r × (r.seen ≡ log))
       → proper (state_after answer start log)
       → ((e : Call O R) → Contains log e → e.client < clients)
-      → length words ≡ index n → length homes ≡ index n → ((k : ℕ) → IsSpare k → slice_index words k ≡ 0)
+      → length words ≡ table_place n → length homes ≡ table_place n → ((k : ℕ) → IsSpare k → slice_index words k ≡ 0)
       → ((b : ℕ) → b < n → IsFree content part (state_after answer start log) words homes b ⊎ IsHeld (set s.views id w) b)
       → FitsIn log words homes w
       → ((j : ℕ) (u : V) → j ≢ id → get_elem? s.views j ≡ some u → FitsIn log words homes u)
@@ -118,18 +118,18 @@ module _ {S X O R Y : Type 0} (n : ℕ) (content : S → Y) (part : ℕ → X �
   Free_of v b = (b' : ℕ) (y : Y) → Contains v.holds (note b' y) → b' ≢ b
 
   held_apart : (set_is : X) (words : List ℕ) (homes : List (Option S)) (u : V) (b x : ℕ) (h : Option S) (b' : ℕ) (y : Y)
-      → Held set_is words homes u b' y → b' ≢ b → Held set_is (set words (index b) x) (set homes (index b) h) u b' y
+      → Held set_is words homes u b' y → b' ≢ b → Held set_is (set words (table_place b) x) (set homes (table_place b) h) u b' y
   held_apart set_is words homes u b x h b' y k ne = record {
     within = k.within;
-    word_is = get_or-set_other words (index b) (index b') x 0 (far b' b ne) ∙ k.word_is;
-    out = set_else homes (index b) (index b') h (far b' b ne) ∙ k.out;
+    word_is = get_or-set_other words (table_place b) (table_place b') x 0 (far b' b ne) ∙ k.word_is;
+    out = set_else homes (table_place b) (table_place b') h (far b' b ne) ∙ k.out;
     noted = k.noted;
     marked = k.marked;
     stands = k.stands;
   }
 
   fits_apart : (log : List (Call O R)) (words : List ℕ) (homes : List (Option S)) (u : V) (b x : ℕ) (h : Option S)
-      → FitsIn log words homes u → Free_of u b → FitsIn log (set words (index b) x) (set homes (index b) h) u
+      → FitsIn log words homes u → Free_of u b → FitsIn log (set words (table_place b) x) (set homes (table_place b) h) u
   fits_apart log words homes u b x h f apart = record {
     same_map = f.same_map;
     fits = f.fits;
@@ -138,9 +138,9 @@ module _ {S X O R Y : Type 0} (n : ℕ) (content : S → Y) (part : ℕ → X �
   }
 
   free_apart : (set_is : X) (words : List ℕ) (homes : List (Option S)) (b x : ℕ) (h : Option S) (b' : ℕ) → b' ≢ b
-      → IsFree content part set_is words homes b' → IsFree content part set_is (set words (index b) x) (set homes (index b) h) b'
+      → IsFree content part set_is words homes b' → IsFree content part set_is (set words (table_place b) x) (set homes (table_place b) h) b'
   free_apart set_is words homes b x h b' ne f =
-      (get_or-set_other words (index b) (index b') x 0 (far b' b ne) ∙ f.0, (f.1.0, set_else homes (index b) (index b') h (far b' b ne) ∙ f.1.1, f.1.2))
+      (get_or-set_other words (table_place b) (table_place b') x 0 (far b' b ne) ∙ f.0, (f.1.0, set_else homes (table_place b) (table_place b') h (far b' b ne) ∙ f.1.1, f.1.2))
 
   at_new : (views : List V) (id : ℕ) (v w : V) → get_elem? views id ≡ some v → get_elem? (set views id w) id ≡ some w
   at_new [] id v w e = absurd (some-ne-none v (sym e))
@@ -185,15 +185,15 @@ module _ {S X O R Y : Type 0} (n : ℕ) (content : S → Y) (part : ℕ → X �
 
   -- the word of a part that is held is not 0
   never_zero : (set_is : X) (words : List ℕ) (homes : List (Option S)) (u : V) (b b' : ℕ) (y : Y)
-      → slice_index words (index b) ≡ 0 → Held set_is words homes u b' y → b' ≢ b
+      → slice_index words (table_place b) ≡ 0 → Held set_is words homes u b' y → b' ≢ b
   never_zero set_is words homes u b b' y z k e = let w = k.word_is in
-      let s : slice_index words (index b') ≡ slice_index words (index b) = ap (λ (j : ℕ). slice_index words (index j)) e in absurd (omega arith)
+      let s : slice_index words (table_place b') ≡ slice_index words (table_place b) = ap (λ (j : ℕ). slice_index words (table_place j)) e in absurd (omega arith)
 
   took_kept : (s : State S V) (k : Rule s) (id : ℕ) (v : V) (b : ℕ) (x : S) (mark : ℕ) → get_elem? s.views id ≡ some v
-      → v.others ≡ [] → StandsFor v.mine v.mine.number → mark ≡ suc v.mine.number → b < n → slice_index s.words (index b) ≡ 0
-      → get_elem? s.homes (index b) ≡ some (some x) → content x ≡ part b (state_after answer start k.log)
+      → v.others ≡ [] → StandsFor v.mine v.mine.number → mark ≡ suc v.mine.number → b < n → slice_index s.words (table_place b) ≡ 0
+      → get_elem? s.homes (table_place b) ≡ some (some x) → content x ≡ part b (state_after answer start k.log)
       → Rule record
-      { words = set s.words (index b) mark; homes = set s.homes (index b) none; views = set s.views id (with_part v b (content x)) }
+      { words = set s.words (table_place b) mark; homes = set s.homes (table_place b) none; views = set s.views id (with_part v b (content x)) }
   took_kept s k id v b x mark at alone stands mark_is within zero_is home is =
       let w = with_part v b (content x) in
       let log = k.log in
@@ -201,19 +201,19 @@ module _ {S X O R Y : Type 0} (n : ℕ) (content : S → Y) (part : ℕ → X �
       let old = k.each_view id v at in
       let wide = k.wide in
       let deep = k.deep in
-      let new : Held A (set s.words (index b) mark) (set s.homes (index b) none) w b (content x) = record {
+      let new : Held A (set s.words (table_place b) mark) (set s.homes (table_place b) none) w b (content x) = record {
         within = within;
-        word_is = get_or-set_same s.words (index b) mark 0 (omega arith) ∙ mark_is;
-        out = set_here s.homes (index b) none (omega arith);
+        word_is = get_or-set_same s.words (table_place b) mark 0 (omega arith) ∙ mark_is;
+        out = set_here s.homes (table_place b) none (omega arith);
         noted = is;
         marked = here (v.mine.number, b) v.mine.marks;
         stands = stands;
       } in
       let older = λ (b' : ℕ) (y : Y) (h : Contains v.holds (note b' y)). let o = old.holding b' y h in
-      let m : Held A (set s.words (index b) mark) (set s.homes (index b) none) v b' y =
+      let m : Held A (set s.words (table_place b) mark) (set s.homes (table_place b) none) v b' y =
       held_apart A s.words s.homes v b mark none b' y o (never_zero A s.words s.homes v b b' y zero_is o) in m in
-      one_moved s k id v w at (set s.words (index b) mark) (set s.homes (index b) none) log k.legal (one_shown s k id v w at alone refl)
-      k.whole k.named (length-set s.words (index b) mark ∙ wide) (length-set s.homes (index b) none ∙ deep) (spare_apart s.words b mark k.spare)
+      one_moved s k id v w at (set s.words (table_place b) mark) (set s.homes (table_place b) none) log k.legal (one_shown s k id v w at alone refl)
+      k.whole k.named (length-set s.words (table_place b) mark ∙ wide) (length-set s.homes (table_place b) none ∙ deep) (spare_apart s.words b mark k.spare)
       (λ b' l. dite (ℕ_discrete b' b)
       (λ e. inr (
         id,
@@ -234,7 +234,7 @@ module _ {S X O R Y : Type 0} (n : ℕ) (content : S → Y) (part : ℕ → X �
             (subst (λ (q : Record O R). StandsFor q c) (sym (only_mine w r alone h)) st);
         holding = λ b' y h. ⊎_elim
             (λ (e : note b (content x) ≡ note b' y). subst
-            (λ (t : Note Y). Held A (set s.words (index b) mark) (set s.homes (index b) none) w t.part t.content) e new)
+            (λ (t : Note Y). Held A (set s.words (table_place b) mark) (set s.homes (table_place b) none) w t.part t.content) e new)
             (λ (c : Contains v.holds (note b' y)). let m = older b' y c in
             record {
               within = m.within;
@@ -260,7 +260,7 @@ module _ {S X O R Y : Type 0} (n : ℕ) (content : S → Y) (part : ℕ → X �
       (λ c. refl)
 
   -- who holds a part
-  holder : (s : State S V) (k : Rule s) (b h : ℕ) → b < n → slice_index s.words (index b) ≡ suc h → (i : ℕ) × (u : V) × (y : Y)
+  holder : (s : State S V) (k : Rule s) (b h : ℕ) → b < n → slice_index s.words (table_place b) ≡ suc h → (i : ℕ) × (u : V) × (y : Y)
       × (get_elem? s.views i ≡ some u) × Contains u.holds (note b y) × (h ≡ u.mine.number)
       × Held (state_after answer start k.log) s.words s.homes u b y
   holder s k b h within is = ⊎_elim
@@ -270,9 +270,9 @@ module _ {S X O R Y : Type 0} (n : ℕ) (content : S → Y) (part : ℕ → X �
       (k.each_part b within)
 
   missed_kept : (s : State S V) (k : Rule s) (id : ℕ) (v : V) (b h : ℕ) → get_elem? s.views id ≡ some v → v.others ≡ []
-      → b < n → slice_index s.words (index b) ≡ suc h → ((y : Y) → ¬ Contains v.holds (note b y))
+      → b < n → slice_index s.words (table_place b) ≡ suc h → ((y : Y) → ¬ Contains v.holds (note b y))
       → Rule record
-      { words = set s.words (index b) (slice_index s.words (index b)); homes = s.homes; views = set s.views id (with_miss v h b) }
+      { words = set s.words (table_place b) (slice_index s.words (table_place b)); homes = s.homes; views = set s.views id (with_miss v h b) }
       × (h < clients) × ¬ StandsFor v.mine h
   missed_kept s k id v b h at alone within is apart =
       let w = with_miss v h b in
@@ -291,7 +291,7 @@ module _ {S X O R Y : Type 0} (n : ℕ) (content : S → Y) (part : ℕ → X �
       let same : o.0 ≡ id = one_view h s.views id o.0 v u (k.alone h) at o.3 (omega arith) (omega arith) in
       let one : u ≡ v = some-injective u v (sym o.3 ∙ subst (λ (j : ℕ). get_elem? s.views j ≡ some v) (sym same) at) in
       apart o.2 (subst (λ (x : V). Contains x.holds (note b o.2)) one o.4) in
-      let still : set s.words (index b) (slice_index s.words (index b)) ≡ s.words = set-get_or s.words (index b) 0 in (
+      let still : set s.words (table_place b) (slice_index s.words (table_place b)) ≡ s.words = set-get_or s.words (table_place b) 0 in (
         subst (λ (l : List ℕ). Rule record { words = l; homes = s.homes; views = set s.views id w }) (sym still)
             (one_moved s k id v w at s.words s.homes log k.legal (one_shown s k id v w at alone refl) k.whole k.named
             k.wide k.deep k.spare
@@ -354,7 +354,7 @@ module _ {S X O R Y : Type 0} (n : ℕ) (content : S → Y) (part : ℕ → X �
       → get_elem? s.views id ≡ some v → v.others ≡ [] → v.holds ≡ note b (content x) ∷ notes
       → ((y : Y) → ¬ Contains notes (note b y))
       → Rule record
-      { words = set s.words (index b) 0; homes = set s.homes (index b) (some x); views = set s.views id (with_holds v notes) }
+      { words = set s.words (table_place b) 0; homes = set s.homes (table_place b) (some x); views = set s.views id (with_holds v notes) }
   gave_kept s k id v b x notes at alone held apart =
       let w = with_holds v notes in
       let log = k.log in
@@ -371,13 +371,13 @@ module _ {S X O R Y : Type 0} (n : ℕ) (content : S → Y) (part : ℕ → X �
       let within = now.within in
       let others_apart = λ (b' : ℕ) (y : Y) (h : Contains notes (note b' y)). let m : b' ≢ b =
       (λ e. apart y (subst (λ (j : ℕ). Contains notes (note j y)) e h)) in m in
-      one_moved s k id v w at (set s.words (index b) 0) (set s.homes (index b) (some x)) log k.legal
-      (one_shown s k id v w at alone refl) k.whole k.named (length-set s.words (index b) 0 ∙ wide)
-      (length-set s.homes (index b) (some x) ∙ deep) (spare_apart s.words b 0 k.spare)
+      one_moved s k id v w at (set s.words (table_place b) 0) (set s.homes (table_place b) (some x)) log k.legal
+      (one_shown s k id v w at alone refl) k.whole k.named (length-set s.words (table_place b) 0 ∙ wide)
+      (length-set s.homes (table_place b) (some x) ∙ deep) (spare_apart s.words b 0 k.spare)
       (λ b' l. dite (ℕ_discrete b' b)
       (λ e. inl
-      (subst (λ (j : ℕ). IsFree content part A (set s.words (index b) 0) (set s.homes (index b) (some x)) j) (sym e)
-      (get_or-set_same s.words (index b) 0 0 (omega arith), (x, set_here s.homes (index b) (some x) (omega arith), now.noted))))
+      (subst (λ (j : ℕ). IsFree content part A (set s.words (table_place b) 0) (set s.homes (table_place b) (some x)) j) (sym e)
+      (get_or-set_same s.words (table_place b) 0 0 (omega arith), (x, set_here s.homes (table_place b) (some x) (omega arith), now.noted))))
       (λ ne. ⊎_elim (λ f. inl (free_apart A s.words s.homes b 0 (some x) b' ne f))
       (λ h. inr (still_held s.views id v w b' at
       (λ y c. ⊎_elim (λ (e : note b (content x) ≡ note b' y). absurd (ne (sym (ap (λ (t : Note Y). t.part) e))))
@@ -427,8 +427,8 @@ module _ {S X O R Y : Type 0} (n : ℕ) (content : S → Y) (part : ℕ → X �
       → noted_parts v.holds ≡ b ∷ noted_parts notes → ¬ Contains (noted_parts notes) b
       → Answers part answer proper op reply v.holds (note b (content x) ∷ notes)
       → Rule record {
-        words = set s.words (index b) 0;
-        homes = set s.homes (index b) (some x);
+        words = set s.words (table_place b) 0;
+        homes = set s.homes (table_place b) (some x);
         views = set s.views id (after_call v k.log (call_by v.mine.number op reply) notes);
       }
   ended_kept s k id v b x notes op reply at alone stands same_parts apart done =
@@ -449,23 +449,23 @@ module _ {S X O R Y : Type 0} (n : ℕ) (content : S → Y) (part : ℕ → X �
       let had = in_old b (here b (noted_parts notes)) in
       let now = old.holding b had.0 had.1 in
       let within = now.within in
-      let unheld = λ (c : ℕ) (z : slice_index s.words (index c) ≡ 0). let r : ¬ Contains (noted_parts v.holds) c =
+      let unheld = λ (c : ℕ) (z : slice_index s.words (table_place c) ≡ 0). let r : ¬ Contains (noted_parts v.holds) c =
       (λ h. let q = note_in v.holds c h in let d = (old.holding c q.0 q.1).word_is in absurd (omega arith)) in r in
-      one_moved s k id v w at (set s.words (index b) 0) (set s.homes (index b) (some x)) log'
+      one_moved s k id v w at (set s.words (table_place b) 0) (set s.homes (table_place b) (some x)) log'
       (legal_with answer start log e k.legal (sym did.0))
       (w.mine, (id, w, at_new s.views id v w at, here w.mine w.others), refl)
       (subst proper (sym set_is) did.3)
       (λ q h. ⊎_elim (λ (o : Contains log q). k.named q o)
       (λ (t : e ≡ q). subst (λ (z : Call O R). z.client < clients) t
       (old.known v.mine (here v.mine v.others) v.mine.number stands)) (Contains-push_cases log e q h))
-      (length-set s.words (index b) 0 ∙ wide) (length-set s.homes (index b) (some x) ∙ deep) (spare_apart s.words b 0 k.spare)
+      (length-set s.words (table_place b) 0 ∙ wide) (length-set s.homes (table_place b) (some x) ∙ deep) (spare_apart s.words b 0 k.spare)
       (λ c l. subst
-      (λ (a : X). IsFree content part a (set s.words (index b) 0) (set s.homes (index b) (some x)) c ⊎ IsHeld (set s.views id w) c)
+      (λ (a : X). IsFree content part a (set s.words (table_place b) 0) (set s.homes (table_place b) (some x)) c ⊎ IsHeld (set s.views id w) c)
       (sym set_is) (dite (ℕ_discrete c b)
       (λ q. inl
-      (subst (λ (j : ℕ). IsFree content part (answer A op).0 (set s.words (index b) 0) (set s.homes (index b) (some x)) j) (sym q) (
-        get_or-set_same s.words (index b) 0 0 (omega arith),
-        (x, set_here s.homes (index b) (some x) (omega arith), did.1 b (content x) (here (note b (content x)) notes)),
+      (subst (λ (j : ℕ). IsFree content part (answer A op).0 (set s.words (table_place b) 0) (set s.homes (table_place b) (some x)) j) (sym q) (
+        get_or-set_same s.words (table_place b) 0 0 (omega arith),
+        (x, set_here s.homes (table_place b) (some x) (omega arith), did.1 b (content x) (here (note b (content x)) notes)),
       )))
       (λ ne. ⊎_elim
       (λ (f : IsFree content part A s.words s.homes c). let g = free_apart A s.words s.homes b 0 (some x) c ne f in
@@ -556,22 +556,22 @@ module _ {S X O R Y : Type 0} (n : ℕ) (content : S → Y) (part : ℕ → X �
 
   takes_there : (slots id : ℕ) (me : M) (b mark : ℕ) → b < n → IsOne me.0 → mark ≡ suc me.0.mine.number
       → ((y : Y) → ¬ Contains me.0.holds (note b y))
-      → Allows Rule slots id me (index b) (λ x. either (eqb x 0) mark x)
-      (Took content part (step slots (index b) 0 mark none) me)
+      → Allows Rule slots id me (table_place b) (λ x. either (eqb x 0) mark x)
+      (Took content part (step slots (table_place b) 0 mark none) me)
   takes_there slots id me b mark within one mark_is apart s k deep at small =
       let v : V = me.0 in
-      let word : ℕ = slice_index s.words (index b) in
+      let word : ℕ = slice_index s.words (table_place b) in
       dite (ℕ_discrete word 0)
       (λ hit. ⊎_elim
       (λ (f : IsFree content part (state_after answer start k.log) s.words s.homes b).
       let x : S = f.1.0 in
       let w : V = with_part v b (content x) in (
         w,
-        takes (index b) x,
+        takes (table_place b) x,
         f.1.1,
-        subst (λ (t : Bool). Rule (stepped s (index b) (either t mark word) id me.1 w (takes (index b) x))) (sym (eq-eqb word 0 hit))
+        subst (λ (t : Bool). Rule (stepped s (table_place b) (either t mark word) id me.1 w (takes (table_place b) x))) (sym (eq-eqb word 0 hit))
             (took_kept s k id v b x mark at one.0 one.1 mark_is within hit f.1.1 f.1.2),
-        (λ b' e. told b' e word (w, (index b, x) ∷ me.1)
+        (λ b' e. told b' e word (w, (table_place b, x) ∷ me.1)
             ((λ z. (x, state_after answer start k.log, f.1.2, refl)), (λ h z. absurd (omega arith)))),
       ))
       (λ (t : IsHeld s.views b). let d = ((k.each_view t.0 t.1 t.3).holding b t.2 t.4).word_is in absurd (omega arith))
@@ -584,7 +584,7 @@ module _ {S X O R Y : Type 0} (n : ℕ) (content : S → Y) (part : ℕ → X �
         w,
         keeps,
         tt,
-        subst (λ (t : Bool). Rule (stepped s (index b) (either t mark word) id me.1 w keeps)) (sym (ne_eqb word 0 miss)) m.0,
+        subst (λ (t : Bool). Rule (stepped s (table_place b) (either t mark word) id me.1 w keeps)) (sym (ne_eqb word 0 miss)) m.0,
         λ b' e. told b' e word (w, me.1) (
           (λ z. absurd (miss z)),
           (λ g z. let same : h ≡ g = omega arith in
@@ -598,12 +598,12 @@ module _ {S X O R Y : Type 0} (n : ℕ) (content : S → Y) (part : ℕ → X �
       ))
     where
       -- the word is that of no other part
-      told : (b' : ℕ) → index b ≡ index b' → (found : ℕ) (me' : M) → TookPart content part b me found me'
+      told : (b' : ℕ) → table_place b ≡ table_place b' → (found : ℕ) (me' : M) → TookPart content part b me found me'
           → TookPart content part b' me found me'
       told b' e found me' t = let same : b ≡ b' = omega arith in
           subst (λ (j : ℕ). TookPart content part j me found me') same t
 
-  pub takes_part : (slots id : ℕ) (me : M) (i b mark : ℕ) → i ≡ index b → b < n → IsOne me.0
+  pub takes_part : (slots id : ℕ) (me : M) (i b mark : ℕ) → i ≡ table_place b → b < n → IsOne me.0
       → mark ≡ suc me.0.mine.number → ((y : Y) → ¬ Contains me.0.holds (note b y))
       → Allows Rule slots id me i (λ x. either (eqb x 0) mark x) (Took content part (step slots i 0 mark none) me)
   takes_part slots id me i b mark at within one mark_is apart =
@@ -612,8 +612,8 @@ module _ {S X O R Y : Type 0} (n : ℕ) (content : S → Y) (part : ℕ → X �
       (sym at) (takes_there slots id me b mark within one mark_is apart)
 
   pub gives_part : (slots id : ℕ) (me : M) (b : ℕ) (x : S) (cs : List (ℕ × S)) (notes : Notes) → IsOne me.0
-      → me.1 ≡ (index b, x) ∷ cs → me.0.holds ≡ note b (content x) ∷ notes → ((y : Y) → ¬ Contains notes (note b y))
-      → Allows Rule slots id me (index b) (λ _. 0) (λ _. Gave (step slots (index b) 0 0 none) me 0)
+      → me.1 ≡ (table_place b, x) ∷ cs → me.0.holds ≡ note b (content x) ∷ notes → ((y : Y) → ¬ Contains notes (note b y))
+      → Allows Rule slots id me (table_place b) (λ _. 0) (λ _. Gave (step slots (table_place b) 0 0 none) me 0)
   gives_part slots id me b x cs notes one carried held apart s k deep at small =
       let v : V = me.0 in
       let w : V = with_holds v (behind_first v.holds) in
@@ -621,18 +621,18 @@ module _ {S X O R Y : Type 0} (n : ℕ) (content : S → Y) (part : ℕ → X �
         w,
         gives,
         tt,
-        subst (λ (l : List (ℕ × S)). Rule (stepped s (index b) 0 id l w gives)) (sym carried)
+        subst (λ (l : List (ℕ × S)). Rule (stepped s (table_place b) 0 id l w gives)) (sym carried)
             (subst (λ (l : Notes). Rule record
-            { words = set s.words (index b) 0; homes = set s.homes (index b) (some x); views = set s.views id (with_holds v l) }) same
+            { words = set s.words (table_place b) 0; homes = set s.homes (table_place b) (some x); views = set s.views id (with_holds v l) }) same
             (gave_kept s k id v b x notes at one.0 held apart)),
         refl,
       )
 
   pub ends_call : (slots id : ℕ) (me : M) (b : ℕ) (x : S) (cs : List (ℕ × S)) (e : Call O R) (notes : Notes)
-      → IsOne me.0 → e.client ≡ me.0.mine.number → me.1 ≡ (index b, x) ∷ cs → noted_parts me.0.holds ≡ b ∷ noted_parts notes
+      → IsOne me.0 → e.client ≡ me.0.mine.number → me.1 ≡ (table_place b, x) ∷ cs → noted_parts me.0.holds ≡ b ∷ noted_parts notes
       → ¬ Contains (noted_parts notes) b
       → Answers part answer proper e.operation e.reply me.0.holds (note b (content x) ∷ notes)
-      → Allows Rule slots id me (index b) (λ _. 0) (λ _. Ended answer e notes (step slots (index b) 0 0 none) me 0)
+      → Allows Rule slots id me (table_place b) (λ _. 0) (λ _. Ended answer e notes (step slots (table_place b) 0 0 none) me 0)
   ends_call slots id me b x cs e notes one by carried same apart done s k deep at small =
       let v : V = me.0 in
       let own : call_by v.mine.number e.operation e.reply ≡ e =
@@ -640,15 +640,15 @@ module _ {S X O R Y : Type 0} (n : ℕ) (content : S → Y) (part : ℕ → X �
       let log = k.log in
       let old = k.each_view id v at in
       let w : V = after_call v log e notes in
-      let new : Rule record { words = set s.words (index b) 0; homes = set s.homes (index b) (some x); views = set s.views id w } =
+      let new : Rule record { words = set s.words (table_place b) 0; homes = set s.homes (table_place b) (some x); views = set s.views id w } =
       subst (λ (d : Call O R). Rule record {
-        words = set s.words (index b) 0;
-        homes = set s.homes (index b) (some x);
+        words = set s.words (table_place b) 0;
+        homes = set s.homes (table_place b) (some x);
         views = set s.views id (after_call v log d notes);
       }) own
       (ended_kept s k id v b x notes e.operation e.reply at one.0 one.1 same apart done) in
-      let kept : Rule (stepped s (index b) 0 id me.1 w gives) =
-      subst (λ (l : List (ℕ × S)). Rule (stepped s (index b) 0 id l w gives)) (sym carried) new in
+      let kept : Rule (stepped s (table_place b) 0 id me.1 w gives) =
+      subst (λ (l : List (ℕ × S)). Rule (stepped s (table_place b) 0 id l w gives)) (sym carried) new in
       let mine = (kept.each_view id w (at_new s.views id v w at)).fits w.mine (here w.mine w.others) in
       let known = λ (q : Call O R) (h : Contains (log ++ e ∷ []) q). let r : q.client < clients =
       ⊎_elim (λ (o : Contains log q). k.named q o)
@@ -676,22 +676,22 @@ module _ {S X O R Y : Type 0} (n : ℕ) (content : S → Y) (part : ℕ → X �
         ),
       )
 
-  there_is : (v : V) (i b : ℕ) (x : S) (cs : List (ℕ × S)) → i ≡ index b → (me : M)
-      → (let now : M = (v, (i, x) ∷ cs) in me ≡ now) → (let now : M = (v, (index b, x) ∷ cs) in me ≡ now)
+  there_is : (v : V) (i b : ℕ) (x : S) (cs : List (ℕ × S)) → i ≡ table_place b → (me : M)
+      → (let now : M = (v, (i, x) ∷ cs) in me ≡ now) → (let now : M = (v, (table_place b, x) ∷ cs) in me ≡ now)
   there_is v i b x cs at me is = is ∙ (λ k. (v, (at k, x) ∷ cs))
 
   -- the same, at a word and a seat that are known
   pub gives_part_as : (slots id : ℕ) (me : M) (v : V) (i b : ℕ) (x : S) (cs : List (ℕ × S)) (notes : Notes)
-      → i ≡ index b → (let now : M = (v, (i, x) ∷ cs) in me ≡ now) → IsOne v → v.holds ≡ note b (content x) ∷ notes
+      → i ≡ table_place b → (let now : M = (v, (i, x) ∷ cs) in me ≡ now) → IsOne v → v.holds ≡ note b (content x) ∷ notes
       → ((y : Y) → ¬ Contains notes (note b y))
       → Allows Rule slots id me i (λ _. 0) (λ _. Gave (step slots i 0 0 none) me 0)
   gives_part_as slots id me v i b x cs notes at is one held apart =
       subst (λ (z : M × ℕ). Allows Rule slots id z.0 z.1 (λ _. 0) (λ _. Gave (step slots z.1 0 0 none) z.0 0))
       (λ k. (sym (there_is v i b x cs at me is) k, sym at k))
-      (gives_part slots id (v, (index b, x) ∷ cs) b x cs notes one refl held apart)
+      (gives_part slots id (v, (table_place b, x) ∷ cs) b x cs notes one refl held apart)
 
   pub ends_call_as : (slots id : ℕ) (me : M) (v : V) (i b : ℕ) (x : S) (cs : List (ℕ × S)) (e e' : Call O R)
-      (notes notes' : Notes) → i ≡ index b → e' ≡ e → notes' ≡ notes → (let now : M = (v, (i, x) ∷ cs) in me ≡ now)
+      (notes notes' : Notes) → i ≡ table_place b → e' ≡ e → notes' ≡ notes → (let now : M = (v, (i, x) ∷ cs) in me ≡ now)
       → IsOne v → e.client ≡ v.mine.number → noted_parts v.holds ≡ b ∷ noted_parts notes → ¬ Contains (noted_parts notes) b
       → Answers part answer proper e.operation e.reply v.holds (note b (content x) ∷ notes)
       → Allows Rule slots id me i (λ _. 0) (λ _. Ended answer e' notes' (step slots i 0 0 none) me 0)
@@ -699,12 +699,12 @@ module _ {S X O R Y : Type 0} (n : ℕ) (content : S → Y) (part : ℕ → X �
       subst (λ (z : M × Call O R × Notes × ℕ). Allows Rule slots id z.0 z.3 (λ _. 0)
       (λ _. Ended answer z.1 z.2 (step slots z.3 0 0 none) z.0 0))
       (λ k. (sym (there_is v i b x cs at me is) k, sym same_e k, sym same_notes k, sym at k))
-      (ends_call slots id (v, (index b, x) ∷ cs) b x cs e notes one by refl same apart done)
+      (ends_call slots id (v, (table_place b, x) ∷ cs) b x cs e notes one by refl same apart done)
 
   -- what the step tells, at a seat, a call and notes that are known
   pub ended_is : (slots i : ℕ) (me me' : M) (v : V) (x : S) (cs : List (ℕ × S)) (e e' : Call O R)
       (notes notes' : Notes) → e' ≡ e → notes' ≡ notes → (let now : M = (v, (i, x) ∷ cs) in me ≡ now)
-      → map (λ c. c.0) cs ≡ map index (noted_parts notes)
+      → map (λ c. c.0) cs ≡ map table_place (noted_parts notes)
       → Ended answer e' notes' (step {S = S} slots i 0 0 none) me 0 me' → IsCarried me'
       × EndsCall answer e notes v me'.0
   ended_is slots i me me' v x cs e e' notes notes' same_e same_notes is carried told =

@@ -7,7 +7,7 @@ use mathlib.Core.Logic.{dite}
 use native.Mathlib.Decide.{ℕ_discrete}
 use Rattle.moc_lists.specs.RangeList.{NumberSet}
 use Rattle.moc_parts.specs.declared.command.Command.{Command}
-use Rattle.moc_shared.specs.Seats.{index, note, Pointer, Sight}
+use Rattle.moc_shared.specs.Seats.{table_place, note, Pointer, Sight}
 use Rattle.moc_shared.specs.Private.Rule.{noted_parts}
 use Rattle.moc_shared.specs.Private.Seats.{PartNote, content, shared, note_if, at_place, notes_below, IsCarried}
 use Rattle.moc_shared.specs.Private.Slots.{changed_content}
@@ -106,7 +106,7 @@ all_given init me contents b is low carried =
     let zero_is : b ≡ 0 = omega arith in
     let now : me.0 ≡ with_holds init [] = is
     ∙ ap (with_holds init) (ap (notes_below contents) zero_is ∙ notes_none contents) in
-    let none : me.1 ≡ [] = none_carried me.1 (carried ∙ ap (λ (v : Sight). map index (noted_parts v.holds)) now) in
+    let none : me.1 ≡ [] = none_carried me.1 (carried ∙ ap (λ (v : Sight). map table_place (noted_parts v.holds)) now) in
     λ i. (now i, none i)
 
 -- no content from b on: the notes are those below b

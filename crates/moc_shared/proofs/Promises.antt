@@ -17,7 +17,7 @@ use Rattle.moc_shared.specs.Private.Seats.{IsCarried, PartNote, notes_below, Are
 use Rattle.moc_shared.specs.Private.Plays.{first_alone, both_views, with_history, seen_to, both_of, GatheredWith, EndsCall, after_call, with_parts, with_holds, with_miss}
 use Rattle.moc_shared.specs.Private.Slots.{GivesUp, IsRefused, EndsBatch}
 use Rattle.moc_parts.specs.Batches.{footprint_of_all}
-use Rattle.moc_shared.specs.Batches.{BatchCall, BatchRecord, answer}
+use Rattle.moc_shared.specs.Batches.{BatchCall, BatchRecord, batch_answer}
 use Rattle.moc_shared.specs.Clients.{start_of, clients_of, record_of, IsClientOf, IsHoldingOf, Meets, TakesIn}
 use Rattle.moc_shared.specs.Clients.{AddsMarks, Ends, Refuses, Undone, LacksMemory, LacksMemoryHolding}
 use Rattle.moc_shared.proofs.Basics.{here, there, none_in, cons_cases, starts_itself, stood_with_call}
@@ -57,19 +57,19 @@ pub ends_noted : (the : SharedMap) (op : List Command) (reply : List Reply) (num
     (notes : List PartNote)
     → ((p : ℕ) (y : Option NumberSet) → Contains notes (note p y) → IsTrue (footprint_of_all op p))
     → v.start ≡ start_of the → v.clients ≡ clients_of the → number ≡ v.mine.number → u ≡ with_parts v notes
-    → EndsCall answer (call_by u.mine.number op reply) [] u w → Ends the (call_by number op reply) v.mine w.mine
+    → EndsCall batch_answer (call_by u.mine.number op reply) [] u w → Ends the (call_by number op reply) v.mine w.mine
 ends_noted the op reply number v u w notes touched start clients number_is held told =
     let e : BatchCall = call_by v.mine.number op reply in
     let now : Sight = with_parts v notes in
-    let t : EndsCall answer e [] now w =
-    subst (λ (x : Sight). EndsCall answer (call_by x.mine.number op reply) [] x w) held told in
+    let t : EndsCall batch_answer e [] now w =
+    subst (λ (x : Sight). EndsCall batch_answer (call_by x.mine.number op reply) [] x w) held told in
     let log : List BatchCall = t.0 in
     let is : w.mine ≡ (after_call now log e []).mine = (λ i. (t.1 i).mine) in
     let ended : Ends the e v.mine (after_call now log e []).mine = record {
       number = refl;
       between = t.2.0;
       seen = ap (λ (l : List BatchCall). l ++ e ∷ []) t.2.1;
-      history = subst (λ (m : NumberSet × ℕ). IsHistory answer m.0 m.1 (log ++ e ∷ []))
+      history = subst (λ (m : NumberSet × ℕ). IsHistory batch_answer m.0 m.1 (log ++ e ∷ []))
           (λ i. (start i, clients i)) t.3;
       own = refl;
       fits = subst (λ (r : BatchRecord). Fits r.seen r) is t.4;
@@ -82,7 +82,7 @@ ends_noted the op reply number v u w notes touched start clients number_is held 
 pub ends_from : (the : SharedMap) (op : List Command) (reply : List Reply) (number : ℕ) (v u w : Sight)
     (found : List (Option Pointer)) → IsFootprint op found → v.start ≡ start_of the → v.clients ≡ clients_of the
     → number ≡ v.mine.number → u ≡ with_parts v (notes_below found 12)
-    → EndsCall answer (call_by u.mine.number op reply) [] u w → Ends the (call_by number op reply) v.mine w.mine
+    → EndsCall batch_answer (call_by u.mine.number op reply) [] u w → Ends the (call_by number op reply) v.mine w.mine
 ends_from the op reply number v u w found whole =
     ends_noted the op reply number v u w (notes_below found 12) (λ p y h. noted_touched op found 12 p y whole h)
 
@@ -117,7 +117,7 @@ refuses_from the op b v w clients (notes, is, touched, part_touched, within, kno
 -- two clients meet: b's seat takes in a's, sees the history, and gives a's record to a new seat
 pub met_from : (the : SharedMap) (a a' b b' : Client) (b1 b2 b3 : Sight) → IsClientOf the a → IsClientOf the b
     → b1 ≡ first_alone b.seat.me.0 → b2 ≡ both_views b1 a.seat.me.0
-    → (looked : (log : List BatchCall) × (b3 ≡ with_history b2 log) × IsHistory answer b2.start b2.clients log
+    → (looked : (log : List BatchCall) × (b3 ≡ with_history b2 log) × IsHistory batch_answer b2.start b2.clients log
     × ((r : BatchRecord) → Contains (records b2) r → StartsWith log r.seen × Fits log r))
     → b'.seat.me.0 ≡ first_alone b3 → a'.seat.me.0 ≡ rest_view b3
     → Meets the (record_of a) (record_of a') (record_of b) (record_of b')
@@ -138,7 +138,7 @@ met_from the a a' b b' b1 b2 b3 of_a of_b e1 e2 looked e4 e5 =
       log,
       is_a,
       is_b,
-      subst (λ (m : NumberSet × ℕ). IsHistory answer m.0 m.1 log)
+      subst (λ (m : NumberSet × ℕ). IsHistory batch_answer m.0 m.1 log)
           (λ i. (((λ j. (is2 j).start) ∙ of_b.start) i, ((λ j. (is2 j).clients) ∙ of_b.clients) i)) looked.2,
       fa.0,
       fb.0,
@@ -151,7 +151,7 @@ pub one_other : (the : SharedMap) (a b : Client) (a1 : Sight) → IsClientOf the
 one_other the a b a1 of_a of_b e = (λ i. (e i).others) ∙ (λ i. of_a.one.0 i ++ b.seat.me.0.mine ∷ of_b.one.0 i)
 
 pub taken_from : (the : SharedMap) (a b : Client) (a1 : Sight) (m m' : Me (Option Pointer) Sight) → IsClientOf the a
-    → IsClientOf the b → a1 ≡ both_views a.seat.me.0 b.seat.me.0 → m.0 ≡ a1 → GatheredWith answer (record_of b) m m'
+    → IsClientOf the b → a1 ≡ both_views a.seat.me.0 b.seat.me.0 → m.0 ≡ a1 → GatheredWith batch_answer (record_of b) m m'
     → TakesIn the (record_of a) (record_of b) m'.0.mine
 taken_from the a b a1 m m' of_a of_b e same told =
     let mine : m.0.mine ≡ record_of a = (λ i. (same i).mine) ∙ (λ i. (e i).mine) in
@@ -164,7 +164,7 @@ taken_from the a b a1 m m' of_a of_b e same told =
     × MissesMarked (both_of r (record_of b) log)) mine (told.3, told.5, told.6) in (
       log,
       is,
-      subst (λ (m : NumberSet × ℕ). IsHistory answer m.0 m.1 log)
+      subst (λ (m : NumberSet × ℕ). IsHistory batch_answer m.0 m.1 log)
           (λ i. (
             ((λ j. (same j).start) ∙ (λ j. (e j).start) ∙ of_a.start) i,
             ((λ j. (same j).clients) ∙ (λ j. (e j).clients) ∙ of_a.clients) i,
@@ -187,7 +187,7 @@ undone_at_once op r =
 -- the same, where nothing was taken in this call
 pub ends_now : (the : SharedMap) (op : List Command) (reply : List Reply) (number : ℕ) (v w : Sight)
     → v.start ≡ start_of the → v.clients ≡ clients_of the → number ≡ v.mine.number
-    → EndsCall answer (call_by v.mine.number op reply) [] v w → Ends the (call_by number op reply) v.mine w.mine
+    → EndsCall batch_answer (call_by v.mine.number op reply) [] v w → Ends the (call_by number op reply) v.mine w.mine
 ends_now the op reply number v w start clients number_is t =
     let e : BatchCall = call_by v.mine.number op reply in
     let log : List BatchCall = t.0 in
@@ -196,7 +196,7 @@ ends_now the op reply number v w start clients number_is t =
       number = refl;
       between = t.2.0;
       seen = ap (λ (l : List BatchCall). l ++ e ∷ []) t.2.1;
-      history = subst (λ (m : NumberSet × ℕ). IsHistory answer m.0 m.1 (log ++ e ∷ []))
+      history = subst (λ (m : NumberSet × ℕ). IsHistory batch_answer m.0 m.1 (log ++ e ∷ []))
           (λ i. (start i, clients i)) t.3;
       own = refl;
       fits = subst (λ (r : BatchRecord). Fits r.seen r) is t.4;
@@ -264,7 +264,7 @@ stays_given v w e =
     stays_is v (with_holds v []) w (sym e) record
     { others = refl; no_part = refl; start = refl; clients = refl; number = refl; stands = λ st. st }
 
-pub stays_ended : (e : BatchCall) (v w : Sight) → EndsCall answer e [] v w → Stays v w
+pub stays_ended : (e : BatchCall) (v w : Sight) → EndsCall batch_answer e [] v w → Stays v w
 stays_ended e v w (log, is, starts, legal, fits) = stays_is v (after_call v log e []) w (sym is) record {
   others = refl;
   no_part = refl;
@@ -275,7 +275,7 @@ stays_ended e v w (log, is, starts, legal, fits) = stays_is v (after_call v log 
 }
 
 -- a client stays one while it gives parts back
-pub one_ended : (e : BatchCall) (notes : List PartNote) (v w : Sight) → IsOne v → EndsCall answer e notes v w → IsOne w
+pub one_ended : (e : BatchCall) (notes : List PartNote) (v w : Sight) → IsOne v → EndsCall batch_answer e notes v w → IsOne w
 one_ended e notes v w one (log, is, starts, legal, fits) =
     subst (λ (x : Sight). IsOne x) (sym is)
     (one.0, subst (λ (n : ℕ). 0 < n) (sym (stood_with_call e v.mine (log ++ e ∷ []) v.mine.number)) one.1)
@@ -337,18 +337,18 @@ fails_held the op v w start clients g = ⊎_elim
     g
 
 -- a call that gives all parts back adds no marks
-marks_ended : (e : BatchCall) (v w : Sight) → EndsCall answer e [] v w → w.mine.marks ≡ v.mine.marks
+marks_ended : (e : BatchCall) (v w : Sight) → EndsCall batch_answer e [] v w → w.mine.marks ≡ v.mine.marks
 marks_ended e v w t = λ i. (t.1 i).mine.marks
 
 pub marks_done : {E : Type 0} (cs : List Command) (v w : Sight) (r : Result (List Reply) E)
-    → IfOk r (λ x. EndsCall answer (call_by v.mine.number cs x) [] v w) → OnErr r (GivesUp cs v w)
+    → IfOk r (λ x. EndsCall batch_answer (call_by v.mine.number cs x) [] v w) → OnErr r (GivesUp cs v w)
     → w.mine.marks ≡ v.mine.marks
 marks_done cs v w (Ok x) ok err = marks_ended (call_by v.mine.number cs x) v w ok
 marks_done cs v w (Err e) ok err =
     ⊎_elim (λ g. λ i. (g i).mine.marks) (λ t. marks_ended (call_by v.mine.number cs t.1.0) v w t.1.1) err
 
 pub stays_done : {E : Type 0} (cs : List Command) (v w : Sight) (r : Result (List Reply) E)
-    → IfOk r (λ x. EndsCall answer (call_by v.mine.number cs x) [] v w) → OnErr r (GivesUp cs v w) → Stays v w
+    → IfOk r (λ x. EndsCall batch_answer (call_by v.mine.number cs x) [] v w) → OnErr r (GivesUp cs v w) → Stays v w
 stays_done cs v w (Ok x) ok err = stays_ended (call_by v.mine.number cs x) v w ok
 stays_done cs v w (Err e) ok err = stays_up cs v w err
 

@@ -16,7 +16,7 @@ use Rattle.moc_parts.specs.Parts.{union_of}
 use Rattle.moc_parts.specs.Commands.{is_update, set_after}
 use Rattle.moc_parts.specs.Batches.{batches, footprint_of_all, set_after_all, AreCommands}
 use Rattle.moc_parts.specs.Laws.{BatchesAreLocal}
-use Rattle.moc_parts.specs.Prepared.{AreChanges, AreRepliesTo, Preparation, kept, found_in}
+use Rattle.moc_parts.specs.Prepared.{AreChanges, AreRepliesTo, Preparation, part_if, found_in}
 use Rattle.moc_parts.specs.declared.command.Command.{Command}
 use Rattle.moc_parts.specs.declared.command.Command.TheVariants.{Add, Remove, Keep, Claim, Invert, Degrade, Count, Read}
 use Rattle.moc_parts.specs.declared.command.Command.TheVariants.{Near}
@@ -25,7 +25,7 @@ use Rattle.moc_shared.specs.Seats.{note, Pointer}
 use Rattle.moc_shared.specs.Private.Rule.{noted_parts}
 use Rattle.moc_shared.specs.Private.Seats.{PartNote, content, shared, part, IsProper, at_place, note_if, notes_below, list_of, AreOwn, IsFootprint}
 use Rattle.moc_shared.specs.Private.Slots.{changed_content, lists_of, AreCopies, Edits, replies_to}
-use Rattle.moc_shared.specs.Batches.{answer}
+use Rattle.moc_shared.specs.Batches.{batch_answer}
 use Rattle.moc_shared.proofs.Basics.{none_in}
 use Rattle.moc_shared.proofs.Places.{notes_none, notes_next, notes_upto, note_place, place_note, notes_below_lt}
 use Rattle.moc_shared.proofs.Places.{part_note}
@@ -151,18 +151,18 @@ unfolding replies_to
 replies_same cs slots r long own each =
     each (union_of (lists_of slots)) (union_within slots long own) (itself cs (union_of (lists_of slots)))
 
-kept_some : (t : Bool) (a : NumberSet) (b : ℕ) (y : Option NumberSet) → is_some y ≡ true → y ≡ kept t a b → y ≡ part b a
+part_if_some : (t : Bool) (a : NumberSet) (b : ℕ) (y : Option NumberSet) → is_some y ≡ true → y ≡ part_if t a b → y ≡ part b a
 unfolding part
-kept_some true a b y some e = e
-kept_some false a b y some e = absurd (true≢false (sym some ∙ ap (λ (o : Option NumberSet). is_some o) e))
+part_if_some true a b y some e = e
+part_if_some false a b y some e = absurd (true≢false (sym some ∙ ap (λ (o : Option NumberSet). is_some o) e))
 
-some_kept : (t : Bool) (a : NumberSet) (b : ℕ) → is_some (kept t a b) ≡ t
-some_kept true a b = refl
-some_kept false a b = refl
+some_part_if : (t : Bool) (a : NumberSet) (b : ℕ) → is_some (part_if t a b) ≡ t
+some_part_if true a b = refl
+some_part_if false a b = refl
 
-kept_alike : (t : Bool) (a b : NumberSet) (n : ℕ) → (t ≡ true → part_of a n ≡ part_of b n) → kept t a n ≡ kept t b n
-kept_alike true a b n same = ap Some (same refl)
-kept_alike false a b n same = refl
+part_if_alike : (t : Bool) (a b : NumberSet) (n : ℕ) → (t ≡ true → part_of a n ≡ part_of b n) → part_if t a n ≡ part_if t b n
+part_if_alike true a b n same = ap Some (same refl)
+part_if_alike false a b n same = refl
 
 -- the set of a slot is its part of all
 part_found : (slots : List (Option Pointer)) (b : ℕ) → AreOwn slots
@@ -190,7 +190,7 @@ part_found slots b own =
 -- what a part that was found becomes
 changed_is : (s : Option Pointer) (new : Option NumberSet) (found after : NumberSet) (b : ℕ) (t : Bool)
     → list_of s ≡ found → is_some s ≡ t → unwrap_or new found ≡ part_of after b
-    → changed_content new (content s) ≡ kept t after b
+    → changed_content new (content s) ≡ part_if t after b
 changed_is (Some p) new found after b true same some is = ap (λ (a : NumberSet). Some (unwrap_or new a)) same ∙ ap Some is
 changed_is (Some p) new found after b false same some is = absurd (true≢false some)
 changed_is None new found after b true same some is = absurd (true≢false (sym some))
@@ -202,31 +202,31 @@ pub edits_from : (cs : List Command) (found edited : List (Option Pointer)) (p :
     → ((b : ℕ) → b < 12
     → content (at_place edited b) ≡ changed_content (get_or p.lists b None) (content (at_place found b)))
     → Edits cs found edited
-unfolding answer replies_to
+unfolding batch_answer replies_to
 edits_from cs found edited p long own whole changes each =
     let u : NumberSet = union_of (lists_of found) in
     let u_within = union_within found long own in
     let told = changes.told in
     let now =
     λ (a : NumberSet) (v : IsWithin a pixels) (agree : AgreeOn (footprint_of_all cs) u a) (b : ℕ) (l : b < 12).
-    let e : content (at_place edited b) ≡ kept (footprint_of_all cs b) (set_after_all a cs) b = each b l
+    let e : content (at_place edited b) ≡ part_if (footprint_of_all cs b) (set_after_all a cs) b = each b l
     ∙ changed_is (at_place found b) (get_or p.lists b None) (part_of u b) (set_after_all u cs) b (footprint_of_all cs b)
     (sym (part_found found b own)) (whole b l) (changes.parts b l)
-    ∙ kept_alike (footprint_of_all cs b) (set_after_all u cs) (set_after_all a cs) b (told.inside a v agree b) in
+    ∙ part_if_alike (footprint_of_all cs b) (set_after_all u cs) (set_after_all a cs) b (told.inside a v agree b) in
     e in
     record {
       same_parts =
           parts_same edited found 12
           (λ b l. sym (some_content (at_place edited b))
           ∙ ap (λ (o : Option NumberSet). is_some o) (now u u_within (itself cs u) b l)
-          ∙ some_kept (footprint_of_all cs b) (set_after_all u cs) b ∙ sym (whole b l));
+          ∙ some_part_if (footprint_of_all cs b) (set_after_all u cs) b ∙ sym (whole b l));
       answers = λ a v noted.
           let agree = agrees cs found a long own whole v noted in (
             sym (told.replied a v agree) ∙ told.replied u u_within (itself cs u),
             (λ b y h.
                 let q = note_place edited 12 b y h in
                 let l = notes_below_lt edited 12 b y h in
-                kept_some (footprint_of_all cs b) (set_after_all a cs) b y
+                part_if_some (footprint_of_all cs b) (set_after_all a cs) b y
                 (ap (λ (o : Option NumberSet). is_some o) (sym q.2))
                 (sym q.2 ∙ ap content (sym q.1) ∙ now a v agree b l)),
             (λ k none. same_part cs found a (set_after_all a cs) whole v (told.stays a v) (told.outside a v) k
@@ -269,7 +269,7 @@ footprint_copies cs found copies same whole b l = sym (some_content (at_place co
 pub leaves : (cs : List Command) (found copies : List (Option Pointer)) → length copies ≡ 12 → AreOwn found
     → IsFootprint cs found → AreCopies found copies → list_any is_update cs ≡ false → IsLocal batches cs
     → Edits cs copies found
-unfolding answer replies_to
+unfolding batch_answer replies_to
 leaves cs found copies long own_found whole_found same query local =
     let own = own_copies found copies same own_found in
     let whole = footprint_copies cs found copies same whole_found in

@@ -4,7 +4,7 @@ use mathlib.Core.Option.{none, some}
 use lib.ListN.{get_elem?}
 use Rattle.atomic_table.specs.Table.{Act, stepped}
 use Rattle.moc_lists.specs.RangeList.{NumberSet}
-use Rattle.moc_shared.specs.Seats.{index, note, Pointer, Sight, Table}
+use Rattle.moc_shared.specs.Seats.{table_place, note, Pointer, Sight, Table}
 pub use Rattle.moc_shared.specs.Private.Seats.{IsKept}
 
 -- the seat has the view
@@ -17,7 +17,8 @@ HasView views seat v = get_elem? views seat ≡ some v
 pub record AbandonedPartsStayHeld : Type 0 where
   pub marked : (start : NumberSet) (clients : ℕ) (table : Table) (seat : ℕ) (v : Sight) (b : ℕ) (y : Option NumberSet)
       → IsKept start clients table → HasView table.views seat v → Contains v.holds (note b y)
-      → (slice_index table.words (index b) ≡ suc v.mine.number) × (get_elem? table.homes (index b) ≡ some none)
+      → (slice_index table.words (table_place b) ≡ suc v.mine.number)
+      × (get_elem? table.homes (table_place b) ≡ some none)
   pub steps : (table : Table) (seat other : ℕ) (v w : Sight) (word number : ℕ) (carried : List (ℕ × Option Pointer))
       (act : Act (Option Pointer)) → HasView table.views seat v → ¬ (seat ≡ other)
       → HasView (stepped table word number other carried w act).views seat v

@@ -16,5 +16,5 @@ abbrev pub BatchRecord : Type 0
 BatchRecord = Record (List Command) (List Reply)
 
 -- the set that a batch leaves, and its replies
-unfoldable pub answer : NumberSet → List Command → NumberSet × List Reply
-answer a cs = (set_after_all a cs, replies_on a cs)
+unfoldable pub batch_answer : NumberSet → List Command → NumberSet × List Reply
+batch_answer a cs = (set_after_all a cs, replies_on a cs)

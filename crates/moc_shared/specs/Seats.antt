@@ -9,9 +9,10 @@ use Rattle.moc_parts.specs.declared.reply.Reply.{Reply}
 use Rattle.moc_shared.specs.declared.record.Note.{Note}
 use Rattle.moc_shared.specs.declared.record.View.{View}
 
--- where the word and the slot of part b stand, far enough from those of the next for a line of a processor's cache
-abbrev pub index : ℕ → ℕ
-index b = 8 * b
+-- where the word and the slot of part b stand in the table, far enough from those of the next for a line of a
+-- processor's cache
+abbrev pub table_place : ℕ → ℕ
+table_place b = 8 * b
 
 -- what is noted of a part that is held
 abbrev pub note : {Y : Type 0} → ℕ → Y → Note Y

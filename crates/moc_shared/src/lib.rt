@@ -14,5 +14,6 @@ pub use client::{Client, Holding};
 pub use errors::{Busy, CloseError, LookError, NewError, SnapshotError, TryError};
 pub use laws::{abandoned_parts_stay_held, clients_stand_for_themselves};
 pub use map::SharedMap;
+pub use map::making::MOST_CLIENTS;
 pub use record::{Call, Calls, Record};
 pub use snapshot::Snapshot;

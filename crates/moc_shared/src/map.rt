@@ -1,6 +1,6 @@
 //! The shared map: a table of words and slots, one of each for each part.
 ghost use Rattle.std.specs.Prelude.{◌≡◌, ◌≤◌};
-ghost use Rattle.moc_shared.specs.Seats.{index};
+ghost use Rattle.moc_shared.specs.Seats.{table_place};
 
 pub mod batches;
 pub mod closed;
@@ -17,7 +17,7 @@ use std::alloc::Global;
 pub struct SharedMap {
     pub(crate) table: Table<Option<Pointer>, Sight, About, Locks, Global>,
     pub(crate) alloc: Global,
-    ghost wide: { table.shared.table_id.words ≡ index 12 },
-    ghost deep: { table.shared.table_id.slots ≡ index 12 },
+    ghost wide: { table.shared.table_id.words ≡ table_place 12 },
+    ghost deep: { table.shared.table_id.slots ≡ table_place 12 },
     ghost few: { table.shared.key.clients ≤ 64 },
 }

@@ -6,7 +6,7 @@ use Rattle.moc_parts.specs.declared.reply.Reply.{Reply}
 use Rattle.moc_shared.specs.declared.client.Client.{Client}
 use Rattle.moc_shared.specs.declared.map.SharedMap.{SharedMap}
 use Rattle.moc_shared.specs.declared.record.Calls.{Calls}
-use Rattle.moc_shared.specs.Batches.{BatchCall, BatchRecord, answer as object}
+use Rattle.moc_shared.specs.Batches.{BatchCall, BatchRecord, batch_answer as object}
 use Rattle.moc_shared.specs.Clients.{record_of, IsClientOf}
 use Rattle.moc_lines.specs.Runs.{script_rules}
 use Rattle.moc_script.specs.Private.Input.{lane_lines}

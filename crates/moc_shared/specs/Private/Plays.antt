@@ -6,7 +6,7 @@ use Rattle.moc_shared.specs.declared.record.Record.{Record}
 use Rattle.moc_shared.specs.declared.record.Note.{Note}
 use Rattle.moc_shared.specs.declared.record.View.{View}
 use Rattle.moc_shared.specs.History.{StartsWith, Fits, StandsFor, MissesMarked, own_with, IsHistory}
-use Rattle.moc_shared.specs.Seats.{index, note}
+use Rattle.moc_shared.specs.Seats.{table_place, note}
 use Rattle.moc_shared.specs.Private.Rule.{records}
 
 -- all but the first
@@ -85,12 +85,12 @@ module _ {S X O R Y : Type 0} (content : S → Y) (part : ℕ → X → Y) where
   abbrev pub TookPart : ℕ → Me S (View X O R Y) → ℕ → Me S (View X O R Y) → Type 0
   TookPart b m found m' =
       (found ≡ 0
-      → (x : S) × (set : X) × (content x ≡ part b set) × (m' ≡ (with_part m.0 b (content x), (index b, x) ∷ m.1)))
+      → (x : S) × (set : X) × (content x ≡ part b set) × (m' ≡ (with_part m.0 b (content x), (table_place b, x) ∷ m.1)))
       × ((h : ℕ) → found ≡ suc h → (m' ≡ (with_miss m.0 h b, m.1)) × (h < m.0.clients) × ¬ StandsFor m.0.mine h)
 
   -- the same of the part whose word it is
   abbrev pub Took : Step S → Me S (View X O R Y) → ℕ → Me S (View X O R Y) → Type 0
-  Took st m found m' = (b : ℕ) → st.word ≡ index b → TookPart b m found m'
+  Took st m found m' = (b : ℕ) → st.word ≡ table_place b → TookPart b m found m'
 
 module _ {X O R Y : Type 0} where
   -- The view after the call e: a legal history of the map's clients that begins with all that was seen and ends with

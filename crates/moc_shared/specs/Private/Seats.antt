@@ -10,17 +10,17 @@ use Rattle.moc_parts.specs.Prepared.{found_in}
 use Rattle.moc_parts.specs.declared.command.Command.{Command}
 use Rattle.moc_shared.specs.declared.record.Note.{Note}
 use Rattle.moc_shared.specs.declared.record.View.{View}
-use Rattle.moc_shared.specs.Batches.{answer}
-use Rattle.moc_shared.specs.Seats.{index, note, Pointer, Table}
+use Rattle.moc_shared.specs.Batches.{batch_answer}
+use Rattle.moc_shared.specs.Seats.{table_place, note, Pointer, Table}
 use Rattle.moc_shared.specs.Private.Rule.{noted_parts, Kept}
 
 -- the slots that the seat has are the parts that its view holds
 abbrev pub IsCarried : {S X O R Y : Type 0} → Me S (View X O R Y) → Type 0
-IsCarried m = map (λ c. c.0) m.1 ≡ map index (noted_parts m.0.holds)
+IsCarried m = map (λ c. c.0) m.1 ≡ map table_place (noted_parts m.0.holds)
 
 -- the seat is of this table, which is one of twelve parts
 abbrev pub IsOfTable : TableId → TableId → Type 0
-IsOfTable seat table = (seat ≡ table) × (table.words ≡ index 12)
+IsOfTable seat table = (seat ≡ table) × (table.words ≡ table_place 12)
 
 -- a part that is held, with its set
 abbrev pub PartNote : Type 0
@@ -75,4 +75,4 @@ AreOwn slots = (b : ℕ) → IsOwn b (at_place slots b)
 
 -- what holds of the table of a map between any two steps
 abbrev pub IsKept : NumberSet → ℕ → Table → Type 0
-IsKept start clients table = Kept 12 content part answer IsProper start clients table
+IsKept start clients table = Kept 12 content part batch_answer IsProper start clients table

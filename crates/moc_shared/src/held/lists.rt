@@ -73,6 +73,5 @@ pub(crate) fn answer(alloc: Global, batch: &Batch, found: &Slots) -> Result<Repl
     requires own { AreOwn found.now }
     ensures { IfOk result (λ r. r ≡ replies_to found.now batch.now) }
 {
-    let replies = reply_of(alloc, batch, &lists(found))?;
-    Ok(replies)
+    reply_of(alloc, batch, &lists(found))
 }

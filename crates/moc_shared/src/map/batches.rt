@@ -22,7 +22,8 @@ impl SharedMap {
     /// Takes the parts of the batch in rising order, once each, does it and gives them back; or gives back all that it
     /// took.
     ///
-    /// Waits for nobody. Refused where a part is held by another client, and where memory runs out.
+    /// Waits for nobody. `Busy` names the first part that was not free and who holds it; nothing is held then. Refused
+    /// also where memory runs out. Costs what `Map::apply` does, and a compare-exchange for each part.
     pub fn try_apply(&self, client: &mut Client, batch: &Batch) -> Result<Replies, TryError>
         requires map { IsClientOf self.now client.old }
         ensures map { IsClientOf self.now client.new }
@@ -49,7 +50,8 @@ impl SharedMap {
         }
     }
 
-    /// As `try_apply`, waiting at each part that is held. It never gives back a part to wait for another.
+    /// As `try_apply`, waiting at each part that is held. It never gives back a part to wait for another. Refused with
+    /// `Memory` alone. May wait without a bound.
     pub fn apply<R: Wait>(
         &self,
         rt: &R,
@@ -74,7 +76,7 @@ impl SharedMap {
     ///
     /// Waits for nobody. A batch that may change the map is refused, and nothing is then done. Refused also where a
     /// part is held by another client, and where memory runs out; the client's calls are then as they were. The batch
-    /// is copied.
+    /// is copied; besides, a step for each part.
     pub fn look(&self, client: &mut Client, batch: &Batch) -> Result<Snapshot, LookError>
         requires map { IsClientOf self.now client.old }
         ensures map { IsClientOf self.now client.new }
@@ -107,7 +109,8 @@ impl SharedMap {
         }
     }
 
-    /// Takes all parts of the batch, or hands it back with the client. Waits for nobody, takes no memory.
+    /// Takes all parts of the batch, or hands it back with the client; `Busy` is as in `try_apply`. Waits for nobody,
+    /// takes no memory. A step for each part.
     pub fn hold(&self, client: Client, batch: Batch) -> Result<Holding, (Client, Batch, Busy)>
         requires map { IsClientOf self.now client }
         ensures held { IfOk result (λ h. IsHoldingOf self.now h) }
@@ -135,7 +138,8 @@ impl SharedMap {
         }
     }
 
-    /// Does the batch, and gives all parts back. Refused where memory runs out.
+    /// Does the batch, and gives all parts back. Refused where memory runs out. A step for each part, besides the
+    /// batch's own work.
     pub fn finish(&self, holding: Holding) -> (Client, Result<Replies, Memory>)
         requires map { IsHoldingOf self.now holding }
         ensures map { IsClientOf self.now result.0 }
@@ -152,19 +156,17 @@ impl SharedMap {
             batch,
             mut found,
         } = holding;
-        match go_through(
+        let done = go_through(
             &self.table.shared,
             self.alloc,
             &mut client.seat,
             &batch,
             &mut found,
-        ) {
-            Ok(replies) => (client, Ok(replies)),
-            Err(memory) => (client, Err(memory)),
-        }
+        );
+        (client, done)
     }
 
-    /// Gives all parts back unchanged. Takes no memory.
+    /// Gives all parts back unchanged. Takes no memory. A step for each part.
     pub fn let_go(&self, holding: Holding) -> Client
         requires map { IsHoldingOf self.now holding }
         ensures map { IsClientOf self.now result }
@@ -182,7 +184,8 @@ impl SharedMap {
 
     /// Gives all parts of a query back, with what it saw.
     ///
-    /// A batch that may change the map is refused, with its holding. Refused also where the copy of a pointer is.
+    /// A batch that may change the map is refused, with its holding. Refused with `Memory` where a pointer could not be
+    /// copied; all parts were given back then. A step for each part.
     pub fn snapshot(&self, holding: Holding) -> Result<(Client, Snapshot), SnapshotError>
         requires map { IsHoldingOf self.now holding }
         ensures map { IfOk result (λ r. IsClientOf self.now r.0) }

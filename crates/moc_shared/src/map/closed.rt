@@ -4,7 +4,7 @@ ghost use Rattle.std.specs.Slots.{slots_items, slots_filled, slots_len, IsFull};
 ghost use mathlib.Core.Option.{some};
 ghost use lib.ListN.{get_elem?};
 ghost use Rattle.moc_parts.specs.Parts.{union_of};
-ghost use Rattle.moc_shared.specs.Seats.{index};
+ghost use Rattle.moc_shared.specs.Seats.{table_place};
 ghost use Rattle.moc_shared.specs.Private.Seats.{at_place};
 ghost use Rattle.moc_shared.specs.Private.Slots.{lists_of};
 
@@ -18,9 +18,9 @@ use std::alloc::Global;
 
 /// The first part that is held.
 pub(crate) fn first_held(closed: &Closed<Option<Pointer>, Global>) -> Option<Part>
-    requires { (slots_len closed.now.words ≡ index 12) × IsFull closed.now.words }
-    ensures some { IfSome result (λ b. (b < 12) × (slice_index (slots_items closed.now.words) (index b) ≢ 0)) }
-    ensures none { IfNone result ((b : ℕ) → b < 12 → slice_index (slots_items closed.now.words) (index b) ≡ 0) }
+    requires { (slots_len closed.now.words ≡ table_place 12) × IsFull closed.now.words }
+    ensures some { IfSome result (λ b. (b < 12) × (slice_index (slots_items closed.now.words) (table_place b) ≢ 0)) }
+    ensures none { IfNone result ((b : ℕ) → b < 12 → slice_index (slots_items closed.now.words) (table_place b) ≡ 0) }
 {
     for part in Part::ALL {
         if closed.word(index(part)) != 0 {
@@ -32,11 +32,12 @@ pub(crate) fn first_held(closed: &Closed<Option<Pointer>, Global>) -> Option<Par
 
 /// What is in the slots of all parts. Nothing is left in any slot.
 pub(crate) fn read_all(closed: &mut Closed<Option<Pointer>, Global>) -> Slots
-    requires { (slots_len closed.old.slots ≡ index 12) × IsFull closed.old.slots }
-    ensures items { (b : ℕ) → b < 12 → get_elem? (slots_items closed.old.slots) (index b) ≡ some (at_place result b) }
+    requires { (slots_len closed.old.slots ≡ table_place 12) × IsFull closed.old.slots }
+    ensures items { (b : ℕ) → b < 12
+        → get_elem? (slots_items closed.old.slots) (table_place b) ≡ some (at_place result b) }
     ensures long { length result ≡ 12 }
-    ensures empty { (slots_len closed.new.slots ≡ index 12)
-        × ((k : ℕ) → k < index 12 → slice_index_or (slots_filled closed.new.slots) k false ≡ false) }
+    ensures empty { (slots_len closed.new.slots ≡ table_place 12)
+        × ((k : ℕ) → k < table_place 12 → slice_index_or (slots_filled closed.new.slots) k false ≡ false) }
 {
     let mut slots = no_slots();
     for k in 0..PLACES {
@@ -53,6 +54,5 @@ pub(crate) fn read_all(closed: &mut Closed<Option<Pointer>, Global>) -> Slots
 pub(crate) fn union_all(alloc: Global, slots: &Slots) -> Result<Coverage, Memory>
     ensures { IfOk result (λ c. c ≡ union_of (lists_of slots.now)) }
 {
-    let set = unite(alloc, &lists(slots))?;
-    Ok(set)
+    unite(alloc, &lists(slots))
 }

@@ -2,7 +2,7 @@
 ghost use Rattle.std.specs.Prelude.{◌≡◌, ◌⊎◌, ◌<◌, ◌↔◌, [], All, IfOk, IsErrOf};
 ghost use Rattle.moc_shared.specs.Clients.{start_of, clients_of, IsClientOf, AreNewClients};
 ghost use Rattle.moc_shared.specs.Private.Opening.{first_view};
-ghost use Rattle.moc_shared.specs.Seats.{index};
+ghost use Rattle.moc_shared.specs.Seats.{table_place};
 ghost use Rattle.moc_shared.specs.Private.Starts.{StandFor};
 
 use crate::client::Client;
@@ -16,9 +16,12 @@ use atomic_table::Table;
 use moc_ranges::{Coverage, Memory};
 use std::alloc::Global;
 
+/// The most clients of a map.
+pub const MOST_CLIENTS: u8 = 64;
+
 /// The slots of a map that begins with a set: those of parts have its parts, the others are empty.
 fn fill(alloc: Global, start: &Coverage) -> Result<Vec<Option<Pointer>>, Memory>
-    ensures { IfOk result (λ v. StandFor start.now v.items (index 12)) }
+    ensures { IfOk result (λ v. StandFor start.now v.items (table_place 12)) }
 {
     let mut slots = Vec::new(alloc);
     for k in 0..PLACES {
@@ -64,7 +67,7 @@ impl SharedMap {
         ensures of_map { IfOk result (λ r. All (λ c. IsClientOf r.0 c) r.1.items) }
         ensures bad_count { IsErrOf result NewError.BadCount ↔ ((clients ≡ 0) ⊎ (64 < clients)) }
     {
-        if clients == 0 || clients > 64 {
+        if clients == 0 || clients > MOST_CLIENTS {
             return Err(NewError::BadCount);
         }
         // A coverage lies in the sky, as `is_empty` tells.

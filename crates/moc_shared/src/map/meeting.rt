@@ -10,7 +10,8 @@ use crate::table::seats::{gather, join, look, split};
 use moc_ranges::Coverage;
 
 impl SharedMap {
-    /// Afterwards both have seen one history. Takes no memory.
+    /// Afterwards both have seen one history, so that the calls of either stand before what both do next. A fixed
+    /// number of steps. Takes no memory.
     pub fn meet(&self, a: &mut Client, b: &mut Client)
         requires first { IsClientOf self.now a.old }
         requires second { IsClientOf self.now b.old }
@@ -26,7 +27,8 @@ impl SharedMap {
         a.seat = split(table, &mut b.seat);
     }
 
-    /// Afterwards the first has the record of both. Takes no memory.
+    /// Afterwards the first has the record of both, so that the calls of either stand before what it does next. A fixed
+    /// number of steps. Takes no memory.
     pub fn take_in(&self, a: &mut Client, b: Client)
         requires first { IsClientOf self.now a.old }
         requires second { IsClientOf self.now b }
@@ -40,7 +42,8 @@ impl SharedMap {
 
     /// The map's set after a history that the client's record fits.
     ///
-    /// Refused where a part is held, and where memory runs out; the map is then given up.
+    /// Refused where a part is held, and where memory runs out; the map is then given up. `Midway` names the first part
+    /// that is held. A union for each part.
     pub fn close(self, client: Client) -> Result<Coverage, CloseError>
         requires { IsClientOf self client }
         ensures { AfterClose self (record_of client) result }
@@ -53,10 +56,7 @@ impl SharedMap {
         closed.free();
         match held {
             Some(part) => Err(CloseError::Midway { part }),
-            None => match union_all(alloc, &slots) {
-                Ok(set) => Ok(set),
-                Err(_) => Err(CloseError::Memory),
-            },
+            None => Ok(union_all(alloc, &slots)?),
         }
     }
 }

@@ -1,6 +1,6 @@
 //! Where the word and the slot of a part stand in the table.
 ghost use Rattle.std.specs.Prelude.{◌≡◌, ◌≢◌, ◌<◌, ℕ, IfSome, IfNone};
-ghost use Rattle.moc_shared.specs.Seats.{index};
+ghost use Rattle.moc_shared.specs.Seats.{table_place};
 
 use moc_parts::Part;
 
@@ -12,7 +12,7 @@ pub(crate) const PLACES: usize = 12 * APART;
 
 /// Where the word and the slot of a part stand.
 pub(crate) fn index(part: Part) -> usize
-    ensures place { result ≡ index part }
+    ensures place { result ≡ table_place part }
     ensures in_range { part < 12 }
 {
     APART * usize::from(part.get())
@@ -20,9 +20,9 @@ pub(crate) fn index(part: Part) -> usize
 
 /// The part whose word and slot stand at a place, if there is one.
 pub(crate) fn part_at(k: usize) -> Option<Part>
-    requires { k < index 12 }
-    ensures some { IfSome result (λ b. index b ≡ k) }
-    ensures none { IfNone result ((b : ℕ) → index b ≢ k) }
+    requires { k < table_place 12 }
+    ensures some { IfSome result (λ b. table_place b ≡ k) }
+    ensures none { IfNone result ((b : ℕ) → table_place b ≢ k) }
 {
     if k % APART == 0 {
         Some(Part::of((k / APART) as u8))

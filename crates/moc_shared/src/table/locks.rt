@@ -32,12 +32,12 @@ pub type Words = Shared<Option<Pointer>, Sight, About, Locks>;
 pub struct Locks;
 
 impl TableRule<Option<Pointer>, Sight, About> for Locks {
-    ghost use Rattle.moc_shared.specs.Batches.{answer};
+    ghost use Rattle.moc_shared.specs.Batches.{batch_answer};
     ghost use Rattle.moc_shared.specs.Private.Seats.{content, part, IsProper};
     ghost use Rattle.moc_shared.specs.Private.Rule.{Kept};
     ghost use Rattle.moc_shared.specs.Private.Opening.{first_view};
 
-    ghost holds = { λ about s. Kept 12 content part answer IsProper about.start about.clients s };
+    ghost holds = { λ about s. Kept 12 content part batch_answer IsProper about.start about.clients s };
 
     ghost first = { λ about. first_view about.start about.clients };
 }
@@ -87,30 +87,30 @@ pub(crate) struct End<C> {
 }
 
 impl<C: Closing> Play<Option<Pointer>, Sight> for End<C> {
-    ghost use Rattle.moc_shared.specs.Batches.{answer};
+    ghost use Rattle.moc_shared.specs.Batches.{batch_answer};
     ghost use Rattle.moc_shared.specs.Private.Plays.{Ended};
 
-    ghost then = { Ended answer C.call C.notes };
+    ghost then = { Ended batch_answer C.call C.notes };
 }
 
 /// Looks at the whole history.
 pub(crate) struct Look;
 
 impl Play<Option<Pointer>, Sight> for Look {
-    ghost use Rattle.moc_shared.specs.Batches.{answer};
+    ghost use Rattle.moc_shared.specs.Batches.{batch_answer};
     ghost use Rattle.moc_shared.specs.Private.Plays.{Looked};
 
-    ghost then = { Looked answer };
+    ghost then = { Looked batch_answer };
 }
 
 /// Makes one record of two.
 pub(crate) struct Gather;
 
 impl Play<Option<Pointer>, Sight> for Gather {
-    ghost use Rattle.moc_shared.specs.Batches.{answer};
+    ghost use Rattle.moc_shared.specs.Batches.{batch_answer};
     ghost use Rattle.moc_shared.specs.Private.Plays.{Gathered};
 
-    ghost then = { Gathered answer };
+    ghost then = { Gathered batch_answer };
 }
 
 /// Cuts off all records but the first.

@@ -1,11 +1,11 @@
 //! Steps that regroup records: a look at the whole history, a join and a split of seats.
 ghost use Rattle.std.specs.Prelude.{◌≡◌, ◌<◌, [], ◌∷◌};
 ghost use Rattle.moc_shared.specs.History.{StandsFor};
-ghost use Rattle.moc_shared.specs.Seats.{index};
+ghost use Rattle.moc_shared.specs.Seats.{table_place};
 ghost use Rattle.moc_shared.specs.Private.Seats.{IsOfTable};
 ghost use Rattle.moc_shared.specs.Private.Plays.{GatheredWith, SeesAll, first_alone, both_views};
 ghost use Rattle.moc_shared.specs.Private.Opening.{rest_view};
-ghost use Rattle.moc_shared.specs.Batches.{BatchRecord, answer};
+ghost use Rattle.moc_shared.specs.Batches.{BatchRecord, batch_answer};
 
 use crate::table::locks::{Cut, Gather, Glue, Look, Token, Words};
 
@@ -14,7 +14,7 @@ pub(crate) fn look(table: &Words, seat: &mut Token)
     requires place { IsOfTable seat.old.table_id table.now.table_id }
     requires client { StandsFor seat.old.me.0.mine seat.old.me.0.mine.number }
     ensures same { (seat.new.table_id ≡ seat.old.table_id) × (seat.new.id ≡ seat.old.id) }
-    ensures looked { SeesAll answer seat.old.me seat.new.me }
+    ensures looked { SeesAll batch_answer seat.old.me seat.new.me }
 {
     table.load::<Look>(seat, 0);
 }
@@ -26,7 +26,7 @@ pub(crate) fn gather(table: &Words, seat: &mut Token)
     requires two { (q : BatchRecord) × (seat.old.me.0.others ≡ q ∷ []) }
     ensures same { (seat.new.table_id ≡ seat.old.table_id) × (seat.new.id ≡ seat.old.id) }
     ensures gathered { (q : BatchRecord) → seat.old.me.0.others ≡ q ∷ []
-        → GatheredWith answer q seat.old.me seat.new.me }
+        → GatheredWith batch_answer q seat.old.me seat.new.me }
 {
     table.load::<Gather>(seat, 0);
 }
@@ -34,7 +34,7 @@ pub(crate) fn gather(table: &Words, seat: &mut Token)
 /// Takes the other seat's records behind the own.
 pub(crate) fn join(table: &Words, seat: &mut Token, other: Token)
     requires place { (seat.old.table_id ≡ table.now.table_id) × (other.table_id ≡ table.now.table_id)
-        × (table.now.table_id.words ≡ index 12) }
+        × (table.now.table_id.words ≡ table_place 12) }
     requires client { StandsFor seat.old.me.0.mine seat.old.me.0.mine.number }
     requires idle { (other.me.0.holds ≡ []) × (other.me.1 ≡ []) }
     ensures same { (seat.new.table_id ≡ seat.old.table_id) × (seat.new.id ≡ seat.old.id) }

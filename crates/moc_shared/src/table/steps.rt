@@ -2,7 +2,7 @@
 ghost use Rattle.std.specs.Prelude.{◌≡◌, suc, ◌<◌, ◌≤◌, List, [], ◌∷◌, Contains, IfOk, IfErr, Option, Some};
 ghost use Rattle.moc_lists.specs.RangeList.{NumberSet};
 ghost use Rattle.moc_shared.specs.History.{call_by, StandsFor};
-ghost use Rattle.moc_shared.specs.Seats.{index, note};
+ghost use Rattle.moc_shared.specs.Seats.{table_place, note};
 ghost use Rattle.moc_shared.specs.Private.Rule.{noted_parts, IsOne};
 ghost use Rattle.moc_shared.specs.Private.Seats.{IsCarried, content, shared, IsProper, IsOwn, IsOfTable};
 ghost use Rattle.moc_shared.specs.Private.Seats.{PartNote, notes_below};
@@ -10,7 +10,7 @@ ghost use Rattle.moc_shared.specs.Private.Seats as seats;
 ghost use Rattle.moc_shared.specs.Private.Answering.{Answers};
 ghost use Rattle.moc_shared.specs.Private.Plays.{TookPart, with_part, with_miss, with_holds, behind_first};
 ghost use Rattle.moc_shared.specs.Private.Slots.{EndsBatch, replies_to};
-ghost use Rattle.moc_shared.specs.Batches.{answer};
+ghost use Rattle.moc_shared.specs.Batches.{batch_answer};
 
 use crate::table::layout::index;
 use crate::table::locks::{Closing, End, Give, Pointer, Take, Token, Words};
@@ -96,7 +96,7 @@ pub(crate) fn end_call<C: Closing>(
         × (C.notes ≡ notes_below rest.now 12) }
     requires held { (noted_parts seat.old.me.0.holds ≡ part ∷ noted_parts (notes_below rest.now 12))
         × ¬ Contains (noted_parts (notes_below rest.now 12)) part }
-    requires answered { Answers seats.part answer IsProper batch.now (replies_to found.now batch.now)
+    requires answered { Answers seats.part batch_answer IsProper batch.now (replies_to found.now batch.now)
         seat.old.me.0.holds (note part (shared new) ∷ notes_below rest.now 12) }
     ensures same { (seat.new.table_id ≡ seat.old.table_id) × (seat.new.id ≡ seat.old.id) }
     ensures carried { IsCarried seat.new.me }
@@ -124,7 +124,7 @@ pub(crate) fn end_single<C: Closing>(
     requires carried { IsCarried seat.old.me }
     requires call { (C.call ≡ call_by seat.old.me.0.mine.number (command.now ∷ []) (reply.now ∷ [])) × (C.notes ≡ []) }
     requires held { noted_parts seat.old.me.0.holds ≡ part ∷ [] }
-    requires answered { Answers seats.part answer IsProper (command.now ∷ []) (reply.now ∷ []) seat.old.me.0.holds
+    requires answered { Answers seats.part batch_answer IsProper (command.now ∷ []) (reply.now ∷ []) seat.old.me.0.holds
         (note part (shared new) ∷ []) }
     ensures same { (seat.new.table_id ≡ seat.old.table_id) × (seat.new.id ≡ seat.old.id) }
     ensures idle { seat.new.me.1 ≡ [] }

@@ -3,7 +3,7 @@ use Rattle.moc_lists.specs.RangeList.{NumberSet}
 use Rattle.moc_parts.specs.declared.command.Command.{Command}
 use Rattle.moc_parts.specs.Batches.{set_after_all, replies_on}
 use Rattle.moc_parts.specs.Parts.{union_of}
-use Rattle.moc_parts.specs.Prepared.{found_sets, is_given, kept}
+use Rattle.moc_parts.specs.Prepared.{found_sets, is_given, part_if}
 use Rattle.moc_parts.proofs.Twelve.{lying_parts, parts_within}
 use Rattle.moc_parts.proofs.BatchLocality.{told}
 use Rattle.moc_parts.proofs.prepared.prepare.Goals as goal
@@ -17,7 +17,7 @@ returns c =
     record {
       told = told cs found found c.in_ok-replies.replies c.commands.ensures.proper (parts_within sets (lying_parts sets c.requires)) (λ i. found)
           (c.in_ok-replies.ensures.replies ∙ (λ i. replies_on (c.from_found-draft.ensures i).set (c.commands.ensures.commands i)));
-      parts = λ b l. c.in_ok-lists.ensures b l ∙ ap (λ a. kept (is_given c.args.found.now b) a b) after;
+      parts = λ b l. c.in_ok-lists.ensures b l ∙ ap (λ a. part_if (is_given c.args.found.now b) a b) after;
     }
 
 pub from_found-draft-requires-clause-parts : goal.from_found-draft-requires-clause-parts

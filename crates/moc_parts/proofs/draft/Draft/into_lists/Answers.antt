@@ -7,7 +7,7 @@ use Rattle.moc_lists.specs.RangeList.{NumberSet}
 use Rattle.moc_ranges.specs.Operations.{part_of}
 use Rattle.moc_parts.specs.Lemmas.{all_parts}
 use Rattle.moc_parts.specs.Private.Drafts.{sets_of}
-use Rattle.moc_parts.specs.Prepared.{is_given, kept}
+use Rattle.moc_parts.specs.Prepared.{is_given, part_if}
 use Rattle.moc_parts.proofs.Drafting.{AreDoneBelow, found_twelve, found_part, own_part, some_copied, one_done, none_done}
 use Rattle.moc_parts.proofs.draft.Draft.into_lists.Goals as goal
 use Rattle.moc_parts.proofs.draft.Draft.into_lists.Goals.{
@@ -27,7 +27,7 @@ loop-part-preserved c =
     let made : List (Option NumberSet) = c.self.inside.made in
     let lists : List (Option NumberSet) = c.loop-part.lists in
     let set_now : NumberSet = c.args.self.set in
-    let is : ℕ → Option NumberSet = λ k. kept (is_given given k) set_now k in
+    let is : ℕ → Option NumberSet = λ k. part_if (is_given given k) set_now k in
     let part = all_parts b c.part-item.result c.loop-part-test.true in
     let at : c.from-b.result ≡ b = c.from-b.ensures ∙ c.get.ensures.value ∙ part in
     let given_is : is_given given b ≡ not c.is_none.result =
@@ -38,7 +38,7 @@ loop-part-preserved c =
     let same = inv.2 b (omega arith) in
     let next : List (Option NumberSet) = c.if-is_none.lists in
     let left_out : next ≡ set_at lists b None → c.is_none.result ≡ true → AreDoneBelow made next is (b + 1) =
-    λ put none. one_done made lists next is b None c.loop-part-test.true put (sym (ap (λ t. kept t set_now b) (given_is ∙ ap not none))) inv in
+    λ put none. one_done made lists next is b None c.loop-part-test.true put (sym (ap (λ t. part_if t set_now b) (given_is ∙ ap not none))) inv in
     elim c.if-is_none.branch [
       | then-is_none w ↦ left_out (w.lists-is ∙ w.clear.ensures ∙ ap (λ n. set_at lists n None) part) w.if-is_none.true
       | else-is_none+then-is_none-2+in_ok-try_copy+in_ok-put w ↦
@@ -52,12 +52,12 @@ loop-part-preserved c =
           (ap (λ n. get_or found n item) at ∙ get_or_default found b item list (subst (λ n. b < n) (sym many) c.loop-part-test.true))
           ∙ ap (λ d. part_of d.set b) c.self.view_is in
           one_done made lists next is b (Some w.in_ok-try_copy.field-0) c.loop-part-test.true (w.lists-is ∙ w.in_ok-put.ensures.put ∙ ap (λ n. set_at lists n (Some w.in_ok-try_copy.field-0)) part)
-          (ap Some copied ∙ sym (ap (λ t. kept t set_now b) (given_is ∙ ap not w.if-is_none.false))) inv
+          (ap Some copied ∙ sym (ap (λ t. part_if t set_now b) (given_is ∙ ap not w.if-is_none.false))) inv
       | else-is_none+else-is_none-2 w ↦ none_done made lists next is b w.lists-is
           (ap (λ n. get_or lists n None) (sym part) ∙ sym w.get-else-is_none.ensures
           ∙ own_part (sets_of found) made b (option_copied w.get-else-is_none.result) c.self.invariant.0 c.self.invariant.1 c.loop-part-test.true (w.get-else-is_none.ensures ∙ ap (λ n. get_or lists n None) part ∙ same)
           (some_copied w.get-else-is_none.result ∙ w.is_none-else-is_none.ensures ∙ ap not w.if-is_none-2.false)
-          ∙ ap (λ d. Some (part_of d.set b)) c.self.view_is ∙ sym (ap (λ t. kept t set_now b) (given_is ∙ ap not w.if-is_none.false))) inv
+          ∙ ap (λ d. Some (part_of d.set b)) c.self.view_is ∙ sym (ap (λ t. part_if t set_now b) (given_is ∙ ap not w.if-is_none.false))) inv
     ]
 
 pub returns : goal.returns

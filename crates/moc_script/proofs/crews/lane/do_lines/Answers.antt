@@ -2,7 +2,7 @@
 use Rattle.std.proofs.Common.{◌≡◌, ◌∙◌, ℕ, ◌+◌, ◌-◌, [], ◌∷◌, ◌++◌, length, sym, ap, subst, arith, append_assoc}
 use Rattle.std.proofs.Common.{length-append}
 use Rattle.moc_text.specs.Lines.{lines_of}
-use Rattle.moc_shared.specs.Batches.{answer as object}
+use Rattle.moc_shared.specs.Batches.{batch_answer as object}
 use Rattle.moc_lines.specs.Runs.{script_rules}
 use Rattle.moc_script.specs.Private.Input.{lines_left}
 use Rattle.moc_script.specs.Private.LaneEnds.{AddsAnswer}

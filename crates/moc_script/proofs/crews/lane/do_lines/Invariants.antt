@@ -1,6 +1,6 @@
 -- The lines so far are done, by calls of the lane's client.
 use Rattle.std.proofs.Common.{◌≡◌, ◌++◌, ℕ, List, length}
-use Rattle.moc_shared.specs.Batches.{BatchCall, answer as object}
+use Rattle.moc_shared.specs.Batches.{BatchCall, batch_answer as object}
 use Rattle.moc_shared.specs.Clients.{number_of, record_of, IsClientOf}
 use Rattle.moc_lines.specs.Runs.{script_rules}
 use Rattle.moc_script.specs.Private.Input.{HasPassed, lane_lines, lines_left}

@@ -1,4 +1,5 @@
 use Rattle.std.proofs.Common.{sym, subst, List}
+use Rattle.std.proofs.lemmas.Result.{IfOk-weaker}
 use Rattle.moc_lists.specs.RangeList.{NumberSet}
 use Rattle.moc_parts.specs.Parts.{LieInParts, union_of}
 use Rattle.moc_parts.specs.Prepared.{AreRepliesTo}
@@ -14,6 +15,7 @@ reply_of-requires-clause-parts c =
 
 pub returns : goal.returns
 returns c =
-    replies_same c.args.batch.now c.args.found.now c.in_ok-replies.replies c.type_inv.found c.requires.own
-    (subst (λ (l : List NumberSet). AreRepliesTo c.args.batch.now (union_of l) c.in_ok-replies.replies)
-    (sets_alike c.lists.result c.args.found.now c.lists.ensures) c.in_ok-replies.ensures)
+    IfOk-weaker c.reply_of.result _ _ (λ replies are.
+    replies_same c.args.batch.now c.args.found.now replies c.type_inv.found c.requires.own
+    (subst (λ (l : List NumberSet). AreRepliesTo c.args.batch.now (union_of l) replies)
+    (sets_alike c.lists.result c.args.found.now c.lists.ensures) are)) c.reply_of.ensures

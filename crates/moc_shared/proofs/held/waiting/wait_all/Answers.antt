@@ -2,7 +2,7 @@ use Rattle.std.proofs.Common.{rules, ◌≡◌, ℕ, suc, ◌+◌, ◌<◌, List
 use Rattle.std.proofs.Common.{set, length, length-set, Option, Some}
 use Rattle.moc_parts.specs.Batches.{footprint_of_all}
 use Rattle.moc_parts.specs.Lemmas.{IsNext, all_ahead, next_ahead, none_ahead}
-use Rattle.moc_shared.specs.Seats.{index, note, Pointer, Sight}
+use Rattle.moc_shared.specs.Seats.{table_place, note, Pointer, Sight}
 use Rattle.moc_shared.specs.Private.Rule.{noted_parts}
 use Rattle.moc_shared.specs.Private.Seats.{PartNote}
 use Rattle.moc_shared.specs.Private.Plays.{with_misses}
@@ -18,7 +18,7 @@ loop-part-init g c = record {
   ahead = all_ahead (footprint_of_all c.args.batch.now) c.footprint-part-items.result c.into_iter-part-iterator.result c.footprint-part-items.ensures.parts c.into_iter-part-iterator.ensures.into_iter_gives;
   same = (refl, refl);
   carried = ap (λ (l : List (ℕ × Option Pointer)). map (λ x. x.0) l) c.requires.idle.1
-      ∙ sym (ap (λ (l : List PartNote). map index (noted_parts l)) c.requires.idle.0);
+      ∙ sym (ap (λ (l : List PartNote). map table_place (noted_parts l)) c.requires.idle.0);
   view = (
     [],
     start_parts c.args.seat.now.me.0 c.args.seat.now.me.0 c.no_slots-found.result refl c.requires.idle.0,

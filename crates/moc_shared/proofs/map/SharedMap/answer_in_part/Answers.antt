@@ -1,7 +1,7 @@
 use Rattle.std.proofs.Common.{ℕ, List, [], ◌∷◌, map, Option, refl, ap, sym, ◌∙◌, subst, Contains}
 use Rattle.std.proofs.lemmas.Result.{IfOk-weaker, on_err_weaker}
 use Rattle.std.specs.Arc.{arc_value}
-use Rattle.moc_shared.specs.Seats.{index, note, Pointer}
+use Rattle.moc_shared.specs.Seats.{table_place, note, Pointer}
 use Rattle.moc_shared.specs.Private.Rule.{noted_parts}
 use Rattle.moc_shared.specs.Private.Seats.{PartNote, shared}
 use Rattle.moc_shared.specs.Private.Plays.{with_misses}
@@ -12,7 +12,7 @@ use Rattle.moc_shared.proofs.map.SharedMap.answer_in_part.Goals as goal
 
 pub wait_slot-pointer-requires-clause-carried : goal.wait_slot-pointer-requires-clause-carried
 wait_slot-pointer-requires-clause-carried g c = ap (λ (l : List (ℕ × Option Pointer)). map (λ x. x.0) l) c.requires.map.no_slot
-    ∙ sym (ap (λ (l : List PartNote). map index (noted_parts l)) c.requires.map.no_part)
+    ∙ sym (ap (λ (l : List PartNote). map table_place (noted_parts l)) c.requires.map.no_part)
 
 pub wait_slot-pointer-requires-clause-other : goal.wait_slot-pointer-requires-clause-other
 wait_slot-pointer-requires-clause-other g c =

@@ -1,6 +1,6 @@
 use Rattle.std.proofs.Common.{sym, ap, ◌∙◌}
 use Rattle.std.specs.Prelude.{slice_index}
-use Rattle.moc_shared.specs.Seats.{index}
+use Rattle.moc_shared.specs.Seats.{table_place}
 use Rattle.std.specs.Slots.{slots_items}
 use Rattle.moc_parts.specs.Lemmas.{all_parts}
 use Rattle.moc_shared.proofs.Reading.{read_at, one_word_more}
@@ -10,7 +10,7 @@ pub loop-part-preserved : goal.loop-part-preserved
 loop-part-preserved c =
     let is = all_parts c.loop-part.part-index c.part-item.result c.loop-part-test.true in
     one_word_more (slots_items c.args.closed.now.words) c.loop-part.part-index c.index.result c.word.result
-    (c.index.ensures.place ∙ ap index is) c.loop-part.invariant c.word.ensures c.if-word-ne0.false
+    (c.index.ensures.place ∙ ap table_place is) c.loop-part.invariant c.word.ensures c.if-word-ne0.false
 
 pub returns-then-word-ne0-clause-some : goal.returns-then-word-ne0-clause-some
 returns-then-word-ne0-clause-some c =

@@ -1,6 +1,6 @@
 use Rattle.std.proofs.Common.{◌≡◌, ◌+◌, ◌<◌, length, subst, arith, rules}
 use Rattle.std.specs.Slots.{slots_items}
-use Rattle.moc_shared.specs.Seats.{index}
+use Rattle.moc_shared.specs.Seats.{table_place}
 use Rattle.moc_shared.proofs.Reading.{AreRead, one_slot_more, no_slot_more}
 use Rattle.moc_shared.proofs.map.closed.read_all.Goals as goal
 use Rattle.moc_shared.proofs.map.closed.read_all.Goals.{in-Some, in-None}
@@ -16,7 +16,7 @@ loop-k-preserved c =
     ] in
     let read : AreRead items c.match-part_at.slots (k + 1) = elim c.match-part_at.branch [
       | in-Some w ↦
-          let at : index w.in-Some.part ≡ k = w.in-Some.ensures.some in
+          let at : table_place w.in-Some.part ≡ k = w.in-Some.ensures.some in
           let l : w.in-Some.part < 12 = omega (arith, at, c.loop-k-test.true) in
           one_slot_more items c.loop-k.slots c.match-part_at.slots w.in-Some.part k c.take-slot.result at inv.wide l
           (search rules) (search rules) inv.read

@@ -1,7 +1,10 @@
 use Rattle.std.proofs.Common.{ap, ◌∙◌}
+use Rattle.std.proofs.lemmas.Result.{IfOk-weaker}
 use Rattle.moc_parts.specs.Parts.{union_of}
 use Rattle.moc_shared.proofs.Owned.{sets_alike}
 use Rattle.moc_shared.proofs.map.closed.union_all.Goals as goal
 
 pub returns : goal.returns
-returns c = c.in_ok-set.ensures ∙ ap union_of (sets_alike c.lists.result c.args.slots.now c.lists.ensures)
+returns c =
+    IfOk-weaker c.unite.result _ _
+    (λ set is. is ∙ ap union_of (sets_alike c.lists.result c.args.slots.now c.lists.ensures)) c.unite.ensures

@@ -1,5 +1,5 @@
 use Rattle.std.proofs.Common.{rules, arith}
-use Rattle.moc_shared.specs.Batches.{answer}
+use Rattle.moc_shared.specs.Batches.{batch_answer}
 use Rattle.moc_shared.specs.Private.Seats.{content, part, IsProper}
 use Rattle.moc_shared.proofs.Moves.{takes_part}
 use Rattle.moc_shared.proofs.table.steps.take_part.Goals as goal
@@ -8,7 +8,7 @@ pub compare_exchange-requires : goal.compare_exchange-requires
 compare_exchange-requires c = (
   search rules,
   omega (arith, c.index.ensures.place, c.index.ensures.in_range, c.requires.place.1),
-  takes_part 12 content part answer IsProper _ _ _ _ _ _ _ _ c.index.ensures.place c.index.ensures.in_range
+  takes_part 12 content part batch_answer IsProper _ _ _ _ _ _ _ _ c.index.ensures.place c.index.ensures.in_range
       c.requires.client.0 c.requires.client.1 c.requires.other,
 )
 
