@@ -1,6 +1,6 @@
 -- What the word `faults` prints: the exit statuses, and the faults with what they mean.
 use Rattle.std.specs.Prelude.{ℕ, ◌+◌, ◌-◌, List, [], ◌∷◌, ◌++◌, codes, length, replicate}
-use Rattle.moc_lines.specs.Language as script
+use Rattle.moc_lines.specs.Language.{name_of_line}
 use Rattle.moc_lines.specs.Runs.{name_of_run}
 use Rattle.moc_lines.specs.declared.fault.LineFault.TheVariants as line
 use Rattle.moc_lines.specs.declared.run_error.RunError.TheVariants as run
@@ -52,9 +52,9 @@ fault_list =
     (name_of_cell cell.CellTooLarge, codes "the order has no such cell; order k has 12 times 4^k, from 0")
     ∷ (name_of_cell cell.RingTooLarge, codes "the order has no such ring number, of 12 times 4^k from 0")
     ∷ (name_of_cell cell.NotUniq, codes "no cell has this NUNIQ number, 4 to 2^62 - 1")
-    ∷ (script.name_of_line said.OtherOrder, codes "a NUNIQ number of another order (renumber)")
-    ∷ (script.name_of_line said.BadNumber, codes "digits alone make a number")
-    ∷ (script.name_of_line said.WrongCount, codes "too few or too many fields on a line")
+    ∷ (name_of_line line.OtherOrder, codes "a NUNIQ number of another order (renumber)")
+    ∷ (name_of_line line.BadNumber, codes "digits alone make a number")
+    ∷ (name_of_line line.WrongCount, codes "too few or too many fields on a line")
     ∷ [])
     ++ section (codes "Coverages in ASCII") 17 (
     (name_of_text (text.BadByte 0), codes "a byte that no word has at its place")
@@ -81,9 +81,9 @@ fault_list =
     ∷ (name_of_run (run.LineTooLong 0), codes "a line of more than 1,048,576 bytes")
     ∷ [])
     ++ section (codes "Lines of scripts and schedules") 17 (
-    (script.name_of_line said.UnknownWord, codes "no such command")
-    ∷ (script.name_of_line said.EmptyCommand, codes "nothing before, between or behind `;`")
-    ∷ (script.name_of_line said.TooManyCommands, codes "more than 16 commands on a line")
+    (name_of_line line.UnknownWord, codes "no such command")
+    ∷ (name_of_line line.EmptyCommand, codes "nothing before, between or behind `;`")
+    ∷ (name_of_line line.TooManyCommands, codes "more than 16 commands on a line")
     ∷ (name_of_step step.ClientTooLarge, codes "a client above 4294967295")
     ∷ (name_of_step step.PartTooLarge, codes "a part above 11")
     ∷ [])
