@@ -177,6 +177,12 @@ length_step bs i b normal lt is =
     sym (length-append (joining (take (i + 1) bs)) (joining (drop (i + 1) bs))) ∙ ap length (sym (joining-append (take (i + 1) bs) (drop (i + 1) bs))) ∙ ap (λ (l : List (List (ℕ × ℕ))). length (joining l)) (take-append-drop (i + 1) bs) in
     (more, omega (arith, more, parts, few_ranges (joining bs) normal))
 
+-- how many elements lists have with one list more
+pub joined_step : {X : Type 0} (ls : List (List X)) (i : ℕ) (l : List X) → i < length ls → l ≡ get_or ls i l → length (joining (take (i + 1) ls)) ≡ length (joining (take i ls)) + length l
+joined_step {X} ls i l lt is =
+    ap (λ (k : List (List X)). length (joining k)) (take_more ls i l lt) ∙ ap length (joining-last (take i ls) (get_or ls i l))
+    ∙ length-append (joining (take i ls)) (get_or ls i l) ∙ ap (λ (k : List X). length (joining (take i ls)) + length k) (sym is)
+
 pub length_done : (bs : List (List (ℕ × ℕ))) (i : ℕ) → length bs ≤ i → length (joining (take i bs)) ≡ length (joining bs)
 length_done bs i le = ap (λ (l : List (List (ℕ × ℕ))). length (joining l)) (take_all i bs le)
 

@@ -1,6 +1,6 @@
 //! A node: some blocks behind an `Arc`.
 
-ghost use Rattle.std.specs.Prelude.{◌≡◌, ◌+◌, ◌<◌, ◌≤◌, ℕ, length, slice_set, false, true, IfOk, OnErr};
+ghost use Rattle.std.specs.Prelude.{◌≡◌, ◌+◌, ◌*◌, ◌<◌, ◌≤◌, ℕ, length, slice_set, false, true, IfOk, OnErr};
 ghost use Rattle.std.specs.Bool.{OnTrue, OnFalse};
 ghost use Rattle.moc_blocks.specs.RangeList.{IsNormal};
 ghost use Rattle.moc_blocks.specs.Private.Blocks.{first_of, last_of, width_of};
@@ -69,6 +69,18 @@ pub fn count_in_nodes(nodes: &[Node]) -> usize
     let mut total = 0;
     for node in nodes {
         total += node.count();
+    }
+    total
+}
+
+/// How many blocks nodes have.
+pub(crate) fn blocks_in_nodes(nodes: &[Node]) -> usize
+    ensures value { result ≡ length (joining nodes.now) }
+    ensures bound { result ≤ WIDEST * length nodes.now }
+{
+    let mut total = 0;
+    for node in nodes {
+        total += node.blocks().len();
     }
     total
 }

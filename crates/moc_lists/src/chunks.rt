@@ -1,5 +1,6 @@
 //! The blocks of a list, as slices of ranges.
-use moc_blocks::{Ahead, Node, next_block};
+use crate::ahead::{Ahead, next_block};
+use crate::node::{Node, blocks_in_nodes};
 use std::fmt;
 use std::marker::Model;
 
@@ -21,8 +22,9 @@ impl<'a> Model for Chunks<'a> {
     ghost view = { λ c. chunks_of c.few.now c.ahead.blocks.now c.ahead.nodes.now };
 }
 
-ghost use Rattle.std.specs.Prelude.{◌≡◌, [], ◌∷◌, MatchOption};
-ghost use Rattle.std.specs.Iterator.{item_count};
+ghost use Rattle.std.specs.Prelude.{◌≡◌, [], ◌∷◌, length, MatchOption, IfSome, Some};
+ghost use Rattle.std.specs.Iterator.{UpTo, at_most, item_count};
+ghost use Rattle.std.specs.Iterator.SizeHint.{IsWithinCount};
 ghost use Rattle.moc_blocks.specs.Private.Blocks.{chunks_of};
 
 impl<'a> Chunks<'a> {
@@ -71,5 +73,16 @@ impl<'a> Iterator for Chunks<'a> {
         let next = next_block(self.ahead)?;
         self.ahead = next.ahead;
         Some(next.block.ranges())
+    }
+
+    /// Just how many they are: O(n/16) in those that are in nodes.
+    fn size_hint(&self) -> (usize, Option<usize>)
+        ensures lower { IsWithinCount result.0 (at_most (length self.now)) }
+        ensures upper { IfSome result.1 (UpTo (at_most (length self.now))) }
+        ensures exact { result ≡ (length self.now, Some (length self.now)) }
+    {
+        let alone = if self.few.is_empty() { 0 } else { 1 };
+        let count = alone + self.ahead.blocks.len() + blocks_in_nodes(self.ahead.nodes);
+        (count, Some(count))
     }
 }

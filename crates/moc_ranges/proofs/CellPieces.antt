@@ -5,7 +5,7 @@ use Rattle.std.proofs.Common.{append-nil, append_assoc, eqb}
 use Rattle.std.specs.Prelude.{nat_lt}
 use Rattle.std.specs.List.{filter, range_with_len, AllByRecursion}
 use Rattle.std.proofs.lemmas.Bool.{cases_lt, and_parts, and_from, lt-ltb, ltb-true, le-ltb, eq-eqb, ne_eqb}
-use Rattle.std.proofs.lemmas.List.{drop_more, get_or-take, length-take-le}
+use Rattle.std.proofs.lemmas.List.{drop_more, get_or-take, length-append, length-drop, length-take-le}
 use Rattle.std.proofs.lemmas.List.Elements.{filter-append}
 use Rattle.std.proofs.lemmas.Nat.{div-add-mod', mod_below, div_below}
 use Rattle.moc_sphere.specs.CellNumber.{CellNumber, cell_number, cell_count, cell_size, IsCell}
@@ -293,3 +293,28 @@ order_cells a k = kept (cells_of a) (cells_are a)
           | true ↦ (are.0, kept cells are.1)
           | false ↦ kept cells are.1
         ]
+
+-- ---- how many they are
+
+kept_one : (b : Bool) (range : ℕ × ℕ) → length (kept_if b range) ≤ 1
+kept_one true range = omega arith
+kept_one false range = omega arith
+
+pub pieces_count : (k : ℕ) (rs : List (ℕ × ℕ)) → length (pieces_along k rs) ≤ 2 * length rs
+pieces_count k [] = omega arith
+pieces_count k (r ∷ rs) =
+    let p = pieces_of k r in
+    omega (
+      arith,
+      length-append (filled p.0) (filled p.1 ++ pieces_along k rs),
+      length-append (filled p.1) (pieces_along k rs),
+      kept_one (nat_lt p.0.0 p.0.1) p.0,
+      kept_one (nat_lt p.1.0 p.1.1) p.1,
+      pieces_count k rs,
+    )
+
+-- those that are made and not given yet, and the others behind them
+pub ahead_count : (made rest : List (ℕ × ℕ)) (given count : ℕ) → count ≤ length made
+    → length (ahead_of made given count ++ rest) ≡ (count - given) + length rest
+ahead_count made rest given count fits =
+    omega (arith, length-append (ahead_of made given count) rest, length-drop given (take count made), length-take-le count made fits)

@@ -1,5 +1,6 @@
 //! The cells of one order of a set, as runs of consecutive indices.
-ghost use Rattle.std.specs.Iterator.{YieldsFirst, item_count};
+ghost use Rattle.std.specs.Iterator.{YieldsFirst, UpTo, at_most, item_count};
+ghost use Rattle.std.specs.Iterator.SizeHint.{IsWithinCount};
 
 use moc_lists::Ranges;
 use moc_operations::keep_at;
@@ -35,7 +36,7 @@ impl<'a> Model for CellRanges<'a> {
     ghost invariant = { λ c. IsNormal c.ranges × (length c.made ≡ 32) × (c.count ≤ 32) × (c.given ≤ c.count) };
 }
 
-ghost use Rattle.std.specs.Prelude.{◌≡◌, ◌++◌, ◌<◌, ◌≤◌, [], length, take};
+ghost use Rattle.std.specs.Prelude.{◌≡◌, ◌++◌, ◌<◌, ◌≤◌, [], length, take, IfSome};
 ghost use Rattle.moc_blocks.specs.RangeList.{IsNormal, pixel_count};
 ghost use Rattle.moc_ranges.specs.Private.CellRuns.{pieces_along, pieces_of, whole_in};
 
@@ -137,5 +138,15 @@ impl<'a> Iterator for CellRanges<'a> {
         self.count = count;
         self.given = 1;
         Some(self.made[0])
+    }
+
+    /// Those that are made ahead at least, and two more at most for each range behind.
+    fn size_hint(&self) -> (usize, Option<usize>)
+        ensures lower { IsWithinCount result.0 (at_most (length self.now)) }
+        ensures upper { IfSome result.1 (UpTo (at_most (length self.now))) }
+    {
+        let ahead = self.count - self.given;
+        let ranges = self.ranges.size_hint().0;
+        (ahead, Some(ahead + 2 * ranges))
     }
 }

@@ -332,7 +332,7 @@ increasing (c ∷ (d ∷ cells)) up (suc k) within =
     let rest = map uniq_of (d ∷ cells) in
     let next : suc (k + 1) ≡ suc k + 1 = omega arith in
     subst (λ n. get_or rest k 0 < get_or (uniq_of c ∷ rest) n 0) next
-        (increasing (d ∷ cells) up.1 k (omega (arith, within)))
+    (increasing (d ∷ cells) up.1 k (omega (arith, within)))
 
 -- the cells of a set are in rising NUNIQ
 pub cells_rise : (a : NumberSet) → IsStrictlyIncreasing (map uniq_of (cells_of a))
