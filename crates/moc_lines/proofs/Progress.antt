@@ -10,16 +10,16 @@ use Rattle.std.proofs.Math.Seq.{take-append_seam}
 use Rattle.std.proofs.lemmas.List.{get_or-append-add, take_all}
 use Rattle.moc_text.specs.Lines.{is_line_feed, lines_of}
 use Rattle.moc_lines.specs.Private.Held.{Held, IsUnbroken}
-use Rattle.moc_lines.specs.Private.LineReading.{TakesLine, fault_at}
-use Rattle.moc_lines.specs.Runs.{Rules, answers_to, after_lines, AreWithin, IsTooLong, IsBegunLine, IsUnclosed}
+use Rattle.moc_lines.specs.Private.LineReading.{IsOfLine, TakesLine}
+use Rattle.moc_lines.specs.Runs.{Rules, answers_to, after_lines, AreWithin, IsTooLong, IsBegunLine, IsUnclosed, error_of_input}
 use Rattle.moc_lines.specs.Runs.{whole_lines_of, lines_before}
 use Rattle.moc_devices.specs.Devices.{Sends}
 use Rattle.moc_lines.specs.Private.Ended.{Ended, EndsAt, IsSent}
 use Rattle.moc_lines.specs.declared.line_reader.Found.{Found}
-use Rattle.moc_lines.specs.declared.line_reader.NextLineError.{NextLineError}
+use Rattle.moc_lines.specs.declared.reading.InputError.{InputError}
 use Rattle.moc_lines.specs.declared.run_error.RunError.{RunError}
 use Rattle.moc_lines.specs.declared.line_reader.Found.TheVariants.{Line, LastLine, Nothing}
-use Rattle.moc_lines.specs.declared.line_reader.NextLineError.TheVariants as fault
+use Rattle.moc_lines.specs.declared.reading.InputError.TheVariants as fault
 use Rattle.moc_lines.specs.declared.run_error.RunError.TheVariants.{Read, Write, LineTooLong, Memory}
 use Rattle.moc_lines.proofs.LineLemmas.{count-append, some-lines, count-cons, lines_of-line, lines_of-last}
 use Rattle.moc_lines.proofs.LineLemmas.{lines_of-long}
@@ -60,9 +60,6 @@ at_end (Some xs) more end is = let same : xs ≡ more = cc in sym same ∙ end
 -- what was found, or the fault, by its name
 pub at_found : (limit : ℕ) (old new : Held) (a b : Option (List ℕ)) (found name : Found) → found ≡ name → TakesLine limit old a new b (Ok found) → TakesLine limit old a new b (Ok name)
 at_found limit old new a b found name is takes = subst (λ (f : Found). TakesLine limit old a new b (Ok f)) is takes
-
-pub at_fault : (limit : ℕ) (old new : Held) (a b : Option (List ℕ)) (fault name : NextLineError) → fault ≡ name → TakesLine limit old a new b (Err fault) → TakesLine limit old a new b (Err name)
-at_fault limit old new a b fault name is takes = subst (λ (f : NextLineError). TakesLine limit old a new b (Err f)) is takes
 
 module _ {S : Type 0} (limit : ℕ) (rules : Rules S) where
   pub answers_to-push : (s : S) (lines : List (List ℕ)) (line : List ℕ) → answers_to rules s (lines ++ line ∷ []) ≡ answers_to rules s lines ++ rules.answer (after_lines rules s lines) line
@@ -237,8 +234,8 @@ module _ {S : Type 0} (limit : ℕ) (rules : Rules S) where
     read : TakesLine limit held b held' c (Err fault.Read) → Ended limit rules s a c w v pending (Err Read)
     read t = faulty t.0 t.1 pending Read refl (whole p.lines (p.given ++ t.0) (held.unread ++ t.0) (split_with t.0) p.unbroken t.2) (λ e. e)
 
-    long : TakesLine limit held b held' c (Err fault.TooLong) → Ended limit rules s a c w v pending (Err (LineTooLong number))
-    long t =
+    long : (line : ℕ) → TakesLine limit held b held' c (Err (fault.TooLong line)) → Ended limit rules s a c w v pending (Err (LineTooLong number))
+    long line t =
         let parts = t.2 in
         let found = lines_of-long limit parts.0 parts.1 parts.3 parts.4 in
         let split = split_with t.0 in
@@ -249,10 +246,13 @@ module _ {S : Type 0} (limit : ℕ) (rules : Rules S) where
         (λ e. e)
 
     -- there is no line
-    pub Ended-fault : (f : NextLineError) → TakesLine limit held b held' c (Err f) → (pending' : List ℕ) → pending' ≡ pending → Ended limit rules s a c w v pending' (Err (fault_at number f))
-    Ended-fault fault.Read t pending' same = subst (λ (q : List ℕ). Ended limit rules s a c w v q (Err Read)) (sym same) (read t)
-    Ended-fault fault.TooLong t pending' same = subst (λ (q : List ℕ). Ended limit rules s a c w v q (Err (LineTooLong number))) (sym same) (long t)
-    Ended-fault fault.Memory t pending' same = memory t.0 t.1 (λ _. t.2) pending' same
+    pub Ended-fault : (f : InputError) → TakesLine limit held b held' c (Err f) → IsOfLine number f → (pending' : List ℕ) → pending' ≡ pending → Ended limit rules s a c w v pending' (Err (error_of_input f))
+    Ended-fault fault.Read t of pending' same = subst (λ (q : List ℕ). Ended limit rules s a c w v q (Err Read)) (sym same) (read t)
+    Ended-fault (fault.TooLong line) t of pending' same =
+        subst (λ (n : ℕ). Ended limit rules s a c w v pending' (Err (LineTooLong n))) (sym of)
+        (subst (λ (q : List ℕ). Ended limit rules s a c w v q (Err (LineTooLong number))) (sym same) (long line t))
+    Ended-fault (fault.Memory line) t of pending' same =
+        subst (λ (n : ℕ). Ended limit rules s a c w v pending' (Err (Memory n))) (sym of) (memory t.0 t.1 (λ _. t.2) pending' same)
 
     -- there is no line
     pub ReachedEnd-nothing : TakesLine limit held b held' c (Ok Nothing) → ReachedEnd s now a c w v pending number

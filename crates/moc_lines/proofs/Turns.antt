@@ -9,7 +9,7 @@ use Rattle.moc_text.specs.Lines.{is_line_feed}
 use Rattle.moc_lines.specs.Private.Held.{Held, IsUnbroken}
 use Rattle.moc_lines.specs.Private.LineReading.{Brings, TakesLine}
 use Rattle.moc_lines.specs.declared.line_reader.Found.TheVariants.{Line}
-use Rattle.moc_lines.specs.declared.line_reader.NextLineError.TheVariants.{TooLong}
+use Rattle.moc_lines.specs.declared.reading.InputError.TheVariants.{TooLong}
 use Rattle.moc_lines.proofs.LineLemmas.{count-append, IsUnbroken-before_first, split_at_line_feed, before_first-none, after_first-none}
 
 -- the bytes that came and those that were at hand are the line so far and those at hand; the line has no line feed
@@ -63,8 +63,8 @@ Turn-more limit old now next a b turn parted none = record {
   within = parted.within;
 }
 
-pub Turn-too_long : (limit : ℕ) (old now next : Held) (a b : Option (List ℕ)) → Turn limit old a now b → limit < length now.line + position_or_len is_line_feed now.unread → TakesLine limit old a next b (Err TooLong)
-Turn-too_long limit old now next a b turn long = (
+pub Turn-too_long : (limit : ℕ) (old now next : Held) (a b : Option (List ℕ)) → Turn limit old a now b → (number : ℕ) → limit < length now.line + position_or_len is_line_feed now.unread → TakesLine limit old a next b (Err (TooLong number))
+Turn-too_long limit old now next a b turn number long = (
   turn.came,
   turn.consumed,
   (

@@ -1,11 +1,12 @@
 //! The lines of a reader, one at a time.
 ghost use Rattle.std.specs.Prelude.{◌≡◌, ◌+◌, ◌<◌, ◌≤◌, ◌≢◌, ◌||◌, ◌++◌, [], false, true, IfOk, OnOk, OnErr};
-ghost use Rattle.std.specs.Prelude.{IsErrOf, is_err, length, nat_lt, IsTrue, Err, Ok};
+ghost use Rattle.std.specs.Prelude.{IfErr, is_err, length, nat_lt, IsTrue, Err, Ok};
 ghost use Rattle.std.specs.List.{position_or_len, before_first, after_first};
 ghost use Rattle.std.specs.Io.KnownBytes.{IsAtEnd};
 ghost use Rattle.moc_text.specs.Lines.{is_line_feed};
 
 use crate::bytes::first_or_len;
+use crate::reading::InputError;
 use moc_devices::{DeviceFault, Source};
 use std::alloc::{AllocError, Global};
 use std::marker::Model;
@@ -25,14 +26,6 @@ pub(crate) enum Found {
     LastLine,
     /// The reader's end.
     Nothing,
-}
-
-/// Why there is no line.
-#[derive(Clone, Copy)]
-pub(crate) enum NextLineError {
-    Read,
-    TooLong,
-    Memory,
 }
 
 /// The bytes that were read and not yet taken, and the line that was taken last.
@@ -61,7 +54,7 @@ impl Model for LineReader {
 }
 
 impl LineReader {
-    ghost use Rattle.moc_lines.specs.Private.LineReading.{Brings, TakesLine, holds_line};
+    ghost use Rattle.moc_lines.specs.Private.LineReading.{Brings, FailsPart, IsOfLine, TakesLine, holds_line};
 
     pub(crate) fn new(alloc: Global) -> Result<LineReader, AllocError>
         ensures { IfOk result (λ r. r.unread ≡ []) }
@@ -89,25 +82,25 @@ impl LineReader {
         self.ahead < self.end - self.start
     }
 
-    /// Moves what is at hand before the first line feed to the end of the line, and drops that line feed.
-    fn take_part(&mut self) -> Result<bool, NextLineError>
+    /// Moves what is at hand before the first line feed to the end of the line of this number, and drops that line
+    /// feed.
+    fn take_part(&mut self, number: u64) -> Result<bool, InputError>
         requires { length self.old.line ≤ LINE_LIMIT }
         ensures found { IfOk result (λ found.
             found ≡ nat_lt (position_or_len is_line_feed self.old.unread) (length self.old.unread)) }
         ensures line { OnOk result (self.new.line ≡ self.old.line ++ before_first is_line_feed self.old.unread) }
         ensures unread { OnOk result (self.new.unread ≡ after_first is_line_feed self.old.unread) }
         ensures within { OnOk result (length self.new.line ≤ LINE_LIMIT) }
-        ensures too_long { IsErrOf result NextLineError.TooLong
-            → LINE_LIMIT < length self.old.line + position_or_len is_line_feed self.old.unread }
-        ensures read { result ≢ Err NextLineError.Read }
+        ensures fails { IfErr result (λ e. FailsPart number LINE_LIMIT self.old e) }
+        ensures read { result ≢ Err InputError.Read }
     {
         let unread = &self.chunk[self.start..self.end];
         let len = self.ahead;
         if len > LINE_LIMIT - self.line.len() {
-            return Err(NextLineError::TooLong);
+            return Err(InputError::TooLong { line: number });
         }
         if self.line.extend_from_slice(&unread[..len]).is_err() {
-            return Err(NextLineError::Memory);
+            return Err(InputError::Memory { line: number });
         }
         if len < unread.len() {
             self.start += len + 1;
@@ -137,11 +130,16 @@ impl LineReader {
         Ok(self.start < self.end)
     }
 
-    /// Takes the next line.
-    pub(crate) fn next_line<R: Source>(&mut self, reader: &mut R) -> Result<Found, NextLineError>
+    /// Takes the next line, whose number this is.
+    pub(crate) fn next_line<R: Source>(
+        &mut self,
+        number: u64,
+        reader: &mut R,
+    ) -> Result<Found, InputError>
         ensures takes { TakesLine LINE_LIMIT self.old (R.left reader.old) self.new (R.left reader.new) result }
-        ensures read { result ≡ Err NextLineError.Read → IsTrue (R.mark reader.new) }
-        ensures unmarked { result ≢ Err NextLineError.Read → R.mark reader.new ≡ R.mark reader.old }
+        ensures number { IfErr result (λ e. IsOfLine number e) }
+        ensures read { result ≡ Err InputError.Read → IsTrue (R.mark reader.new) }
+        ensures unmarked { result ≢ Err InputError.Read → R.mark reader.new ≡ R.mark reader.old }
     {
         self.line.clear();
         loop {
@@ -149,9 +147,9 @@ impl LineReader {
                 Ok(true) => {}
                 Ok(false) if self.line.is_empty() => return Ok(Found::Nothing),
                 Ok(false) => return Ok(Found::LastLine),
-                Err(DeviceFault) => return Err(NextLineError::Read),
+                Err(DeviceFault) => return Err(InputError::Read),
             }
-            match self.take_part() {
+            match self.take_part(number) {
                 Ok(true) => return Ok(Found::Line),
                 Ok(false) => {}
                 Err(fault) => return Err(fault),

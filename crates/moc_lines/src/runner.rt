@@ -3,12 +3,13 @@ ghost use Rattle.std.specs.Prelude.{◌≡◌, ◌≢◌, ◌++◌, [], IfOk, If
 ghost use Rattle.std.specs.Prelude.{OnOk, OnErr, IsErrOf, Err, is_err};
 ghost use Rattle.std.specs.Io.KnownBytes.{Appends, Keeps};
 ghost use Rattle.moc_devices.specs.Devices.{CallsMore, FlushesNothing, OnlyWrites, Sends};
-ghost use Rattle.moc_lines.specs.Private.LineReading.{TakesLine, fault_at, holds_line};
+ghost use Rattle.moc_lines.specs.Private.LineReading.{IsOfLine, TakesLine, holds_line};
 ghost use Rattle.moc_lines.specs.Runs.{script_text, EndsFlushed, Flushes, Runs, TellsFailed, WritesBeginning};
 ghost use Rattle.moc_lines.specs.Runs.{line_limit};
 ghost use Rattle.moc_lines.specs.Private.Ended.{Ended};
 
-use crate::line_reader::{Found, LINE_LIMIT, LineReader, NextLineError};
+use crate::line_reader::{Found, LINE_LIMIT, LineReader};
+use crate::reading::InputError;
 use crate::responder::Responder;
 use crate::run_error::RunError;
 use moc_devices::{DeviceFault, Sink, Source, write_all};
@@ -96,29 +97,31 @@ impl Runner {
             if self.send_if_due(writer).is_err() {
                 return Err(RunError::Write);
             }
-            match self.next_line(reader) {
+            match self.next_line(line, reader) {
                 Ok(Found::Line) => self.answer_line(line, responder)?,
                 Ok(Found::LastLine) => {
                     self.answer_line(line, responder)?;
                     return self.close(line + 1, responder);
                 }
                 Ok(Found::Nothing) => return self.close(line, responder),
-                Err(fault) => return Err(fault_at(line, fault)),
+                Err(fault) => return Err(RunError::from(fault)),
             }
         }
         Err(RunError::Memory { line: u64::MAX })
     }
 
-    /// Takes the next line. A read may wait, so nothing is pending then: what was answered is written.
-    fn next_line<R: Source>(&mut self, reader: &mut R) -> Result<Found, NextLineError>
+    /// Takes the next line, whose number this is. A read may wait, so nothing is pending then: what was answered is
+    /// written.
+    fn next_line<R: Source>(&mut self, number: u64, reader: &mut R) -> Result<Found, InputError>
         requires written { holds_line self.old.lines.unread ≡ false → self.old.pending.items ≡ [] }
         requires reader { R.mark reader.old ≡ false }
         ensures takes { TakesLine LINE_LIMIT self.old.lines (R.left reader.old)
             self.new.lines (R.left reader.new) result }
         ensures pending { self.new.pending.items ≡ self.old.pending.items }
-        ensures read { result ≡ Err NextLineError.Read ↔ IsTrue (R.mark reader.new) }
+        ensures number { IfErr result (λ e. IsOfLine number e) }
+        ensures read { result ≡ Err InputError.Read ↔ IsTrue (R.mark reader.new) }
     {
-        self.lines.next_line(reader)
+        self.lines.next_line(number, reader)
     }
 
     /// Does what the line of this number says, which was taken last, and adds the whole answer to what is pending, or
@@ -230,17 +233,6 @@ pub fn answer_all_lines<A: Responder, R: Source, W: Sink>(
         return Err(RunError::Memory { line: 0 });
     };
     runner.run(responder, reader, writer)
-}
-
-/// The fault of a run that finds no line of this number.
-fn fault_at(line: u64, fault: NextLineError) -> RunError
-    ensures { result ≡ fault_at line fault }
-{
-    match fault {
-        NextLineError::Read => RunError::Read,
-        NextLineError::TooLong => RunError::LineTooLong { line },
-        NextLineError::Memory => RunError::Memory { line },
-    }
 }
 
 /// Whether the writer failed.

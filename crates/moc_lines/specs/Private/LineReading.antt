@@ -1,18 +1,16 @@
 -- What a line reader takes from its reader.
-use Rattle.std.specs.Prelude.{◌≡◌, ℕ, Bool, nat_lt, ◌<◌, ◌≤◌, List, [], ◌∷◌, ◌++◌, length, Option, Result, Ok, Err}
+use Rattle.std.specs.Prelude.{◌≡◌, ℕ, Bool, nat_lt, ◌+◌, ◌<◌, ◌≤◌, List, [], ◌∷◌, ◌++◌, length, Option, Result, Ok, Err}
 use Rattle.std.specs.List.{position_or_len}
 use Rattle.moc_text.specs.Lines.{is_line_feed}
 use Rattle.std.specs.Io.KnownBytes.{Consumes, IsAtEnd}
 use Rattle.moc_lines.specs.Private.Held.{Held, IsUnbroken}
 use Rattle.moc_lines.specs.declared.line_reader.Found.{Found}
 use Rattle.moc_lines.specs.declared.line_reader.Found.TheVariants.{Line, LastLine, Nothing}
-use Rattle.moc_lines.specs.declared.line_reader.NextLineError.{NextLineError}
-use Rattle.moc_lines.specs.declared.line_reader.NextLineError.TheVariants.{Read, TooLong, Memory}
-use Rattle.moc_lines.specs.declared.run_error.RunError.{RunError}
-use Rattle.moc_lines.specs.declared.run_error.RunError.TheVariants as run
+use Rattle.moc_lines.specs.declared.reading.InputError.{InputError}
+use Rattle.moc_lines.specs.declared.reading.InputError.TheVariants.{Read, TooLong, Memory}
 
 -- the bytes that were at hand or came in this call, `bytes`, are what a line's end leaves of them, or show the fault
-abbrev pub Parts : ℕ → List ℕ → Held → Option (List ℕ) → Result Found NextLineError → Type 0
+abbrev pub Parts : ℕ → List ℕ → Held → Option (List ℕ) → Result Found InputError → Type 0
 Parts limit bytes held left (Ok Line) =
     (bytes ≡ held.line ++ 10 ∷ held.unread) × IsUnbroken held.line × (length held.line ≤ limit)
 Parts limit bytes held left (Ok LastLine) =
@@ -20,12 +18,12 @@ Parts limit bytes held left (Ok LastLine) =
     × (held.unread ≡ []) × IsAtEnd left
 Parts limit bytes held left (Ok Nothing) = (bytes ≡ []) × (held.unread ≡ []) × IsAtEnd left
 Parts limit bytes held left (Err Read) = IsUnbroken bytes
-Parts limit bytes held left (Err TooLong) =
+Parts limit bytes held left (Err (TooLong number)) =
     (line rest : List ℕ) × (bytes ≡ line ++ rest) × IsUnbroken line × (limit < length line)
-Parts limit bytes held left (Err Memory) = 0 < length bytes
+Parts limit bytes held left (Err (Memory number)) = 0 < length bytes
 
 -- a call that looks for a line's end takes some bytes from the reader, and parts these and those at hand
-abbrev pub TakesLine : ℕ → Held → Option (List ℕ) → Held → Option (List ℕ) → Result Found NextLineError → Type 0
+abbrev pub TakesLine : ℕ → Held → Option (List ℕ) → Held → Option (List ℕ) → Result Found InputError → Type 0
 TakesLine limit old left new left' result =
     (came : List ℕ) × Consumes left left' came × Parts limit (old.unread ++ came) new left' result
 
@@ -33,11 +31,18 @@ TakesLine limit old left new left' result =
 abbrev pub holds_line : List ℕ → Bool
 holds_line unread = nat_lt (position_or_len is_line_feed unread) (length unread)
 
--- the fault of a run that finds no line of this number
-abbrev pub fault_at : ℕ → NextLineError → RunError
-fault_at number Read = run.Read
-fault_at number TooLong = run.LineTooLong number
-fault_at number Memory = run.Memory number
+-- the fault names the line of this number, if it names one
+abbrev pub IsOfLine : ℕ → InputError → Type 0
+IsOfLine number Read = Unit {0}
+IsOfLine number (TooLong line) = line ≡ number
+IsOfLine number (Memory line) = line ≡ number
+
+-- why what is at hand is not added to the line of this number: it goes over the limit, or memory was refused
+abbrev pub FailsPart : ℕ → ℕ → Held → InputError → Type 0
+FailsPart number limit held Read = ⊥
+FailsPart number limit held (TooLong line) =
+    (line ≡ number) × (limit < length held.line + position_or_len is_line_feed held.unread)
+FailsPart number limit held (Memory line) = line ≡ number
 
 -- bytes came from the reader, behind those at hand
 pub record Brings (old : Held) (left : Option (List ℕ)) (new : Held) (left' : Option (List ℕ)) : Type 0 where

@@ -1,20 +1,25 @@
 -- A part of a line was found, the line was ended, or it is too long.
 use Rattle.std.proofs.Common.{◌≡◌, ℕ, zero, suc, ◌+◌, ◌<◌, ◌≤◌, ◌||◌, Bool, true, false, eqb, List, [], ◌∷◌, Option, length, sym, ap, ◌∙◌, Err, refl, arith, length-append}
 use Rattle.std.proofs.lemmas.Bool.{ltb-true, ltb-false, eqb-true}
-use Rattle.moc_lines.specs.declared.line_reader.NextLineError.{NextLineError}
-use Rattle.moc_lines.specs.declared.line_reader.NextLineError.TheVariants.{Read, TooLong, Memory}
-use Rattle.moc_lines.specs.Private.LineReading.{TakesLine}
+use Rattle.moc_lines.specs.declared.reading.InputError.{InputError}
+use Rattle.moc_lines.specs.declared.reading.InputError.TheVariants.{Read, TooLong, Memory}
+use Rattle.moc_lines.specs.Private.LineReading.{FailsPart, IsOfLine, TakesLine}
 use Rattle.std.specs.List.{count_by, position_or_len}
 use Rattle.moc_text.specs.Lines.{is_line_feed}
 use Rattle.moc_lines.specs.Private.Held.{Held}
 use Rattle.moc_lines.proofs.Turns.{Turn, Turn-brought, Turn-line, Turn-more, Turn-none, Turn-too_long}
 use Rattle.moc_lines.proofs.line_reader.LineReader.next_line.Goals as goal
 
-faulty : (limit : ℕ) (old now next : Held) (a b : Option (List ℕ)) → Turn limit old a now b → (fault : NextLineError)
-    → (fault ≡ TooLong → limit < length now.line + position_or_len is_line_feed now.unread) → (fault ≡ Read → ⊥) → 0 < length now.unread → TakesLine limit old a next b (Err fault)
-faulty limit old now next a b turn Read long other some = absurd (other refl)
-faulty limit old now next a b turn TooLong long other some = Turn-too_long limit old now next a b turn (long refl)
-faulty limit old now next a b turn Memory long other some = (turn.came, turn.consumed, rw turn.parts (omega (arith, some, length-append now.line now.unread)))
+faulty : (limit : ℕ) (old now next : Held) (a b : Option (List ℕ)) → Turn limit old a now b → (number : ℕ) (fault : InputError)
+    → FailsPart number limit now fault → 0 < length now.unread → TakesLine limit old a next b (Err fault)
+faulty limit old now next a b turn number Read fails some = absurd fails
+faulty limit old now next a b turn number (TooLong line) fails some = Turn-too_long limit old now next a b turn line fails.1
+faulty limit old now next a b turn number (Memory line) fails some = (turn.came, turn.consumed, rw turn.parts (omega (arith, some, length-append now.line now.unread)))
+
+of_line : (number limit : ℕ) (now : Held) (fault : InputError) → FailsPart number limit now fault → IsOfLine number fault
+of_line number limit now Read fails = tt
+of_line number limit now (TooLong line) fails = fails.0
+of_line number limit now (Memory line) fails = fails
 
 none : (xs : List ℕ) → length xs ≤ 0 → xs ≡ []
 none [] few = refl
@@ -51,13 +56,17 @@ pub returns-in-Err-take_part-clause-takes : goal.returns-in-Err-take_part-clause
 returns-in-Err-take_part-clause-takes g c =
     let part = c.in-Err-take_part.ensures in
     let turn = Turn-brought _ _ _ _ _ _ _ c.loop-self.invariant.turn c.fill_chunk.ensures.brings in
-    faulty _ _ _ c.take_part.new.self _ _ turn c.in-Err-take_part.fault (λ e. part.too_long (ap Err e)) (λ e. part.read (ap Err e)) (ltb-true _ _ (sym c.in-Ok-true.ensures.some ∙ c.in-Ok-true.field-0-test))
+    faulty _ _ _ c.take_part.new.self _ _ turn c.args.number c.in-Err-take_part.fault part.fails (ltb-true _ _ (sym c.in-Ok-true.ensures.some ∙ c.in-Ok-true.field-0-test))
+
+pub returns-in-Err-take_part-clause-number : goal.returns-in-Err-take_part-clause-number
+returns-in-Err-take_part-clause-number g c = of_line c.args.number 1048576 c.fill_chunk.new.self c.in-Err-take_part.fault c.in-Err-take_part.ensures.fails
 
 pub returns-in-Err : goal.returns-in-Err
 returns-in-Err g c =
     let turn = Turn-brought _ _ _ _ _ _ _ c.loop-self.invariant.turn c.fill_chunk.ensures.brings in
     record {
       takes = (turn.came, turn.consumed, ap (count_by is_line_feed) (Turn-none _ _ _ _ _ turn c.in-Err.ensures.err) ∙ turn.unbroken);
+      number = tt;
       read = λ _. failed _ _ c.in-Err.ensures.marks;
       unmarked = λ other. absurd (other refl);
     }
@@ -70,6 +79,7 @@ returns-in-Ok-false g c =
     omega (arith, ap (λ (h : Held). length h.line) c.self-in-loop-self.view_is, c.self-in-loop-self.inside.line.ok, eqb-true _ 0 (sym c.is_empty.ensures ∙ c.if-is_empty.true)) in
     record {
       takes = (turn.came, turn.consumed, (Turn-none _ _ _ _ _ turn unread ∙ none _ empty, unread, c.in-Ok-false.ensures.end c.in-Ok-false.field-0-test));
+      number = tt;
       read = λ e. cc;
       unmarked = λ _. unmarked _ _ c.in-Ok-false.ensures.marks ∙ c.loop-self.invariant.marks;
     }
@@ -82,6 +92,7 @@ returns-in-Ok-false-2 g c =
     omega (arith, ap (λ (h : Held). length h.line) c.self-in-loop-self.view_is, c.self-in-loop-self.inside.line.ok, some _ (sym c.is_empty.ensures ∙ c.if-is_empty.false)) in
     record {
       takes = (turn.came, turn.consumed, (Turn-none _ _ _ _ _ turn unread, turn.unbroken, turn.within, filled, unread, c.in-Ok-false.ensures.end c.in-Ok-false.field-0-test));
+      number = tt;
       read = λ e. cc;
       unmarked = λ _. unmarked _ _ c.in-Ok-false.ensures.marks ∙ c.loop-self.invariant.marks;
     }

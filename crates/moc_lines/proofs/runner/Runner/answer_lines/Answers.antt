@@ -20,7 +20,7 @@ returns-then-is_err-clause-ended g c = Ended-write _ _ _ _ _ _ _ _ _ _ _ _ _ _ c
 pub returns-in-Err-clause-ended : goal.returns-in-Err-clause-ended
 returns-in-Err-clause-ended g c =
     let sent = Progress-sent _ _ _ _ _ _ _ _ _ c.loop-line.self.lines c.send_if_due.new.self.lines _ _ _ _ c.send_if_due.result c.loop-line.invariant.progress (sym c.is_err.ensures.value ∙ c.if-is_err.false) c.send_if_due.ensures.sends c.send_if_due.ensures.lines c.next_line.ensures.pending in
-    rw c.fault_at.ensures (Ended-fault _ _ _ _ _ _ _ _ _ c.send_if_due.new.self.lines c.next_line.new.self.lines _ _ sent c.in-Err.fault c.in-Err.ensures.takes _ refl)
+    rw c.from.ensures (Ended-fault _ _ _ _ _ _ _ _ _ c.send_if_due.new.self.lines c.next_line.new.self.lines _ _ sent c.in-Err.fault c.in-Err.ensures.takes c.in-Err.ensures.number _ refl)
 
 pub returns-in-Ok-Nothing-clause-ended : goal.returns-in-Ok-Nothing-clause-ended
 returns-in-Ok-Nothing-clause-ended g c =
