@@ -1,13 +1,14 @@
 -- The first number of an array that fails a test, and what is told of it.
-use Rattle.std.proofs.Common.{◌≡◌, ℕ, zero, suc, ◌+◌, ◌<◌, ◌≤◌, ◌^◌, Bool, true, false, nat_le, nat_lt, List, [], ◌∷◌, length, get_or, None, Some, option_map, refl, sym, ap, ◌∙◌, arith, eq-eqb, Ok, Err, map}
+use Rattle.std.proofs.Common.{◌≡◌, ℕ, zero, suc, ◌+◌, ◌<◌, ◌≤◌, ◌^◌, Bool, true, false, nat_le, nat_lt, List, [], ◌∷◌, length, get_or, Option, None, Some, Result, option_map, refl, sym, ap, ◌∙◌, arith, eq-eqb, Ok, Err, map}
 use Rattle.std.proofs.lemmas.Bool.Decides.{nat_tests}
-use Rattle.std.specs.Option.{option_or}
+use Rattle.std.specs.Option.{option_map_or, option_or}
 use Rattle.moc_sphere.specs.CellNumber.{cell_count, cell_number, is_uniq}
 use Rattle.moc_ranges.specs.Cells.{pixels_of}
 use Rattle.moc_lists.specs.RangeList.{NumberSet}
-use Rattle.moc_c.specs.Buffers.{cells_fault, cells_say, done_unless, first_failing, is_index, lengths_fault, numbers_fault, numbers_say, uniqs_fault}
+use Rattle.moc_c.specs.Buffers.{cells_fault, cells_say, done_unless, first_failing, lengths_fault, numbers_fault, uniqs_fault}
 use Rattle.moc_c.specs.Outcomes.{all_well, outcome_of}
 use Rattle.moc_c.specs.declared.outcome.Outcome.{Outcome}
+use Rattle.moc_c.specs.declared.fault.CallFault.{CallFault}
 use Rattle.moc_c.specs.declared.fault.CallFault.TheVariants as fault
 
 module _ (test : ℕ → Bool) where
@@ -21,6 +22,14 @@ module _ (test : ℕ → Bool) where
   failing_some at (x ∷ xs) zero lt h fails = rw fails (ap (λ n. Some n) (omega arith))
   failing_some at (x ∷ xs) (suc i) lt h fails =
       rw (h 0 (omega arith)) (failing_some (at + 1) xs i (omega arith) (λ k below. h (suc k) (omega arith)) fails ∙ ap (λ n. Some n) (omega arith))
+
+-- whether the order has a cell of this number
+abbrev is_index : ℕ → ℕ → Bool
+is_index order x = nat_lt x (cell_count order)
+
+-- what cells say whose fault is this one, if they have one
+abbrev numbers_say : Option CallFault → ℕ → List ℕ → Result NumberSet CallFault
+numbers_say f order xs = option_map_or (λ e. Err e) f (Ok (pixels_of (map (cell_number order) xs)))
 
 index_true : (order x : ℕ) → x < cell_count order → is_index order x ≡ true
 index_true order x lt = grind (arith, nat_tests)

@@ -1,6 +1,7 @@
 -- What calls answer of the sets on a desk, and what they make.
 use Rattle.std.specs.Prelude.{◌≡◌, ℕ, ◌⊎◌, None, Some, Result, Ok, Err, nat_le, if◌then◌else◌}
 use Rattle.std.specs.Option.{ok_or}
+use Rattle.std.specs.Result.{result_map_both}
 use Rattle.moc_lists.specs.RangeList.{NumberSet}
 use Rattle.moc_c.specs.Contents.{Contents, at_key, with_set, without_set}
 use Rattle.moc_c.specs.Outcomes.{all_well, memory, outcome_of, told}
@@ -33,8 +34,7 @@ IsWhether P n = ((n ≡ 1) × P) ⊎ ((n ≡ 0) × (P → ⊥))
 
 -- the set that is made of what there is, or the fault
 abbrev pub made_of : {X : Type 0} → (X → NumberSet) → Result X CallFault → Result NumberSet CallFault
-made_of f (Ok x) = Ok (f x)
-made_of f (Err e) = Err e
+made_of f r = result_map_both f (λ e. e) r
 
 -- two things as two arguments
 abbrev pub of_two : {X Y Z : Type 0} → (X → Y → Z) → X × Y → Z

@@ -2,7 +2,7 @@
 use Rattle.std.specs.Prelude.{◌≡◌, ◌⊎◌, ◌<◌, ◌≤◌, ◌+◌, ◌-◌, ◌^◌, ℕ, Bool, List, [], ◌∷◌, length, map, take}
 use Rattle.std.specs.Prelude.{nat_le, nat_lt, ◌==◌, EachIndex, slice_index, slice_index_or, if◌then◌else◌, option_map}
 use Rattle.std.specs.Prelude.{Option, None, Some, Result, Ok, Err}
-use Rattle.std.specs.Option.{option_or}
+use Rattle.std.specs.Option.{option_map_or, option_or}
 use Rattle.std.specs.FinSet as set
 use Rattle.std.specs.List.{list_all, AllByRecursion}
 use Rattle.moc_sphere.specs.CellNumber.{CellNumber, cell_count, cell_number, is_uniq, IsCell, uniq_of}
@@ -12,7 +12,6 @@ use Rattle.moc_sphere.specs.declared.direction.Direction.{Direction}
 use Rattle.moc_ranges.specs.Cells.{cells_of, pixels_of}
 use Rattle.moc_ranges.specs.Faults.{first_fault}
 use Rattle.moc_lists.specs.RangeList.{NumberSet, IsNormal, set_of}
-use Rattle.moc_ranges.specs.declared.errors.RangesError.{RangesError}
 use Rattle.moc_c.specs.Answers.{Makes}
 use Rattle.moc_c.specs.Contents.{Contents}
 use Rattle.moc_c.specs.Outcomes.{all_well, memory, outcome_of, told}
@@ -30,17 +29,14 @@ abbrev pub first_failing : (ℕ → Bool) → ℕ → List ℕ → Option ℕ
 first_failing test at [] = None
 first_failing test at (x ∷ xs) = if test x then first_failing test (at + 1) xs else Some at
 
--- whether the order has a cell of this number
-abbrev pub is_index : ℕ → ℕ → Bool
-is_index order x = nat_lt x (cell_count order)
-
 -- lengths that are not all this one
 abbrev pub lengths_fault : ℕ → List ℕ → Option CallFault
 lengths_fault n lengths = if list_all (λ m. n == m) lengths then None else Some fault.LengthsDiffer
 
 -- numbers of which one is no cell of the order
 abbrev pub cells_fault : ℕ → List ℕ → Option CallFault
-cells_fault order xs = option_map (λ at. fault.NoSuchCell at) (first_failing (is_index order) 0 xs)
+cells_fault order xs =
+    option_map (λ at. fault.NoSuchCell at) (first_failing (λ x. nat_lt x (cell_count order)) 0 xs)
 
 -- numbers of which one is no NUNIQ number
 abbrev pub uniqs_fault : List ℕ → Option CallFault
@@ -54,8 +50,7 @@ numbers_fault order xs lengths =
 
 -- the fault is told, or that all went well
 abbrev pub done_unless : Option CallFault → Outcome
-done_unless None = all_well
-done_unless (Some e) = outcome_of e
+done_unless e = option_map_or outcome_of e all_well
 
 -- ---- what arrays tell
 
@@ -105,23 +100,15 @@ AreNeighbours order cells rows =
 abbrev pub pairs_from : List Range → List (ℕ × ℕ)
 pairs_from rs = map (λ r. (r.from, r.to)) rs
 
--- the set of these pairs, or this fault of theirs
-abbrev pub pairs_say : Option RangesError → List (ℕ × ℕ) → Result NumberSet CallFault
-pairs_say None pairs = Ok (set_of pairs)
-pairs_say (Some e) pairs = Err (fault.Ranges e)
-
 -- the set of ranges, or the first fault
 abbrev pub ranges_say : List Range → Result NumberSet CallFault
-ranges_say rs = pairs_say (first_fault (pairs_from rs)) (pairs_from rs)
-
--- the pixels of cells of an order, or this fault of theirs
-abbrev pub numbers_say : Option CallFault → ℕ → List ℕ → Result NumberSet CallFault
-numbers_say None order xs = Ok (pixels_of (map (cell_number order) xs))
-numbers_say (Some e) order xs = Err e
+ranges_say rs =
+    option_map_or (λ e. Err (fault.Ranges e)) (first_fault (pairs_from rs)) (Ok (set_of (pairs_from rs)))
 
 -- the pixels of cells of an order by their numbers, or the first fault
 abbrev pub cells_say : ℕ → List ℕ → Result NumberSet CallFault
-cells_say order xs = numbers_say (numbers_fault order xs []) order xs
+cells_say order xs =
+    option_map_or (λ e. Err e) (numbers_fault order xs []) (Ok (pixels_of (map (cell_number order) xs)))
 
 -- the pixels of the cells of NUNIQ numbers, or the first fault
 abbrev pub UniqsSay : List ℕ → Result NumberSet CallFault → Type 0

@@ -6,3 +6,4 @@ pub mod Seat
 pub mod SeatLending
 pub mod Storing
 pub mod Making
+pub mod Rows

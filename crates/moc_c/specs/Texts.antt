@@ -34,9 +34,9 @@ Reads form text old new o =
 -- a text of what there is, or a fault of making one, or what is missing
 abbrev pub IsMadeText : {X : Type 0} → (X → List ℕ → Type 0) → (X → CallFault → Type 0) → Result X CallFault
     → Result (List ℕ) CallFault → Type 0
-IsMadeText Is Fails (Ok x) (Ok text) = Is x text
-IsMadeText Is Fails (Ok x) (Err e) = Fails x e
-IsMadeText Is Fails (Err e) r = r ≡ Err e
+IsMadeText Is Refuses (Ok x) (Ok text) = Is x text
+IsMadeText Is Refuses (Ok x) (Err e) = Refuses x e
+IsMadeText Is Refuses (Err e) r = r ≡ Err e
 
 -- a text that was made is kept, and its length is told; else the fault is told, and all is as it was
 abbrev pub KeepsText : Contents → Contents → Result (List ℕ) CallFault → Outcome → Type 0

@@ -4,6 +4,7 @@ ghost use Rattle.std.specs.Option.{option_or};
 ghost use Rattle.moc_sphere.specs.Faces.{face_of, x_of, y_of};
 ghost use Rattle.moc_c.specs.Buffers.{AreCellsOf, AreNeighbours, AreRelated, AreTouching, done_unless, IsConverted};
 ghost use Rattle.moc_c.specs.Buffers.{IsPadded, lengths_fault, numbers_fault, TellsNeighbours, uniqs_fault};
+ghost use Rattle.moc_c.specs.Private.Rows.{AreRowsOf, IsRowOf};
 ghost use Rattle.moc_c.specs.declared.conversion.Conversion.TheVariants.{NestToRing, NestToUniq, RingToNest};
 
 use crate::conversion::Conversion;
@@ -132,33 +133,6 @@ fn padded(near: &[u64]) -> [u64; 8]
     row
 }
 
-/// The cells that touch each cell of an order, a row of eight for each: rising, and behind them the largest number;
-/// as `moc_nest_to_ring`.
-#[unsafe(no_mangle)]
-pub extern "C" fn moc_touching(
-    alloc: Global,
-    order: u8,
-    cells: &[u64],
-    out: &mut [[u64; 8]],
-) -> Outcome
-    ensures outcome { result ≡ done_unless (numbers_fault order cells.now (length out.old ∷ [])) }
-    ensures told { result.code ≡ 0 → AreTouching order cells.now out.new }
-{
-    let Some(order) = Order::new(order) else {
-        return Outcome::of(CallFault::NoSuchOrder { order });
-    };
-    if cells.len() != out.len() {
-        return Outcome::of(CallFault::LengthsDiffer);
-    }
-    for (at, index) in cells.iter().enumerate() {
-        let Ok(cell) = Cell::new(order, *index) else {
-            return Outcome::of(CallFault::NoSuchCell { at });
-        };
-        out[at] = padded(cell.touching(alloc).as_slice());
-    }
-    Outcome::done()
-}
-
 /// The numbers of the neighbours of a cell by direction, in healpy's order, with the largest number where none is.
 fn around(cell: Cell) -> [u64; 8]
     ensures { TellsNeighbours cell.order cell.index result }
@@ -172,12 +146,29 @@ fn around(cell: Cell) -> [u64; 8]
     row
 }
 
-/// The neighbours of each cell of an order by direction, a row of eight for each: south-west, west, north-west, north,
-/// north-east, east, south-east and south, with the largest number where none is; as `moc_nest_to_ring`.
-#[unsafe(no_mangle)]
-pub extern "C" fn moc_neighbours(order: u8, cells: &[u64], out: &mut [[u64; 8]]) -> Outcome
+/// Which cells the row of a cell tells.
+#[derive(Clone, Copy)]
+enum Near {
+    /// Those that touch it.
+    Touching(Global),
+    /// Its neighbours by direction.
+    Neighbours,
+}
+
+/// The row of a cell.
+fn row(near: Near, cell: Cell) -> [u64; 8]
+    ensures { IsRowOf near cell.order cell.index result }
+{
+    match near {
+        Near::Touching(alloc) => padded(cell.touching(alloc).as_slice()),
+        Near::Neighbours => around(cell),
+    }
+}
+
+/// The row of each cell of an order.
+fn rows(near: Near, order: u8, cells: &[u64], out: &mut [[u64; 8]]) -> Outcome
     ensures outcome { result ≡ done_unless (numbers_fault order cells.now (length out.old ∷ [])) }
-    ensures told { result.code ≡ 0 → AreNeighbours order cells.now out.new }
+    ensures told { result.code ≡ 0 → AreRowsOf near order cells.now out.new }
 {
     let Some(order) = Order::new(order) else {
         return Outcome::of(CallFault::NoSuchOrder { order });
@@ -189,7 +180,32 @@ pub extern "C" fn moc_neighbours(order: u8, cells: &[u64], out: &mut [[u64; 8]])
         let Ok(cell) = Cell::new(order, *index) else {
             return Outcome::of(CallFault::NoSuchCell { at });
         };
-        out[at] = around(cell);
+        out[at] = row(near, cell);
     }
     Outcome::done()
+}
+
+/// The cells that touch each cell of an order, a row of eight for each: rising, and behind them the largest number;
+/// as `moc_nest_to_ring`.
+#[unsafe(no_mangle)]
+pub extern "C" fn moc_touching(
+    alloc: Global,
+    order: u8,
+    cells: &[u64],
+    out: &mut [[u64; 8]],
+) -> Outcome
+    ensures outcome { result ≡ done_unless (numbers_fault order cells.now (length out.old ∷ [])) }
+    ensures told { result.code ≡ 0 → AreTouching order cells.now out.new }
+{
+    rows(Near::Touching(alloc), order, cells, out)
+}
+
+/// The neighbours of each cell of an order by direction, a row of eight for each: south-west, west, north-west, north,
+/// north-east, east, south-east and south, with the largest number where none is; as `moc_nest_to_ring`.
+#[unsafe(no_mangle)]
+pub extern "C" fn moc_neighbours(order: u8, cells: &[u64], out: &mut [[u64; 8]]) -> Outcome
+    ensures outcome { result ≡ done_unless (numbers_fault order cells.now (length out.old ∷ [])) }
+    ensures told { result.code ≡ 0 → AreNeighbours order cells.now out.new }
+{
+    rows(Near::Neighbours, order, cells, out)
 }

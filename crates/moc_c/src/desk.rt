@@ -5,7 +5,7 @@ ghost use Rattle.moc_c.specs.Contents.{bare, Contents};
 ghost use Rattle.moc_c.specs.Private.Storing.{contents_code};
 ghost use Rattle.moc_c.specs.Private.Desk.{desk_owns};
 
-use crate::box_parts::BoxParts;
+use crate::box_parts::{BoxParts, sendable};
 use crate::shelf::Shelf;
 use std::alloc::{AllocError, Global};
 use std::marker::{Model, Send};
@@ -76,8 +76,6 @@ unsafe impl Send for Desk {}
 pub extern "C" fn moc_close(desk: Desk) {
     drop(desk);
 }
-
-fn sendable<T: Send>(_x: &T) {}
 
 /// A desk may go to another thread.
 pub(crate) fn desks_are_sent(desk: &Desk) {

@@ -4,7 +4,6 @@ ghost use Rattle.moc_sphere.specs.CellNumber.{uniq_of};
 ghost use Rattle.moc_c.specs.Answers.{Makes, set_at};
 ghost use Rattle.moc_c.specs.Buffers.{cells_say, Fills, FillsCells, FillsRanges, MakesOfUniqs, pairs_from, ranges_from};
 ghost use Rattle.moc_c.specs.Buffers.{ranges_say, TellsContained, UniqsSay};
-ghost use Rattle.moc_c.specs.Private.Making.{KeepsSaid};
 ghost use Rattle.moc_c.specs.declared.fault.CallFault.TheVariants.{Memory as NoMemory};
 
 use crate::desk::Desk;
@@ -71,16 +70,6 @@ fn set_of_uniqs(alloc: Global, uniqs: &[u64]) -> Result<Coverage, CallFault>
 }
 
 impl Shelf {
-    /// Keeps the set that was said, at the next key.
-    fn keep_said(&mut self, said: Result<Coverage, CallFault>) -> Outcome
-        ensures { KeepsSaid self.old self.new said result }
-    {
-        match said {
-            Ok(set) => self.keep(Ok(set)),
-            Err(fault) => Outcome::of(fault),
-        }
-    }
-
     /// Keeps the pixels of cells of an order.
     fn keep_cells(&mut self, alloc: Global, order: u8, cells: &[u64]) -> Outcome
         ensures { Makes self.old self.new (cells_say order cells.now) result }

@@ -6,41 +6,16 @@ ghost use Rattle.moc_ranges.specs.Operations.{complement, symmetric, pixels};
 ghost use Rattle.moc_forms.specs.Combining.{combined};
 ghost use Rattle.moc_forms.specs.Changing.{changed_set};
 ghost use Rattle.moc_c.specs.Answers.{both, Frees, made_of, Makes, of_two, order_numbered, set_at, sets_at};
-ghost use Rattle.moc_c.specs.Private.Making.{MakesIf};
 
 use crate::desk::Desk;
 use crate::fault::CallFault;
 use crate::outcome::Outcome;
-use crate::shelf::Shelf;
+use crate::shelf::{Shelf, order_of};
 use moc_forms::{Change, Operation};
-use moc_ranges::{Coverage, Memory};
-use moc_sphere::Order;
+use moc_ranges::Coverage;
 use std::alloc::Global;
 
-/// The order of a number; refused where it is none.
-pub(crate) fn order_of(number: u8) -> Result<Order, CallFault>
-    ensures { result ≡ order_numbered number }
-{
-    match Order::new(number) {
-        Some(order) => Ok(order),
-        None => Err(CallFault::NoSuchOrder { order: number }),
-    }
-}
-
 impl Shelf {
-    /// Keeps a set that was made, at the next key.
-    pub(crate) fn keep(&mut self, made: Result<Coverage, Memory>) -> Outcome
-        ensures { MakesIf self.old self.new made result }
-    {
-        let Ok(set) = made else {
-            return Outcome::of(CallFault::Memory);
-        };
-        match self.put(set) {
-            Ok(key) => Outcome::told(key),
-            Err(Memory) => Outcome::of(CallFault::Memory),
-        }
-    }
-
     /// Keeps what an operation makes of two sets.
     fn combine(&mut self, alloc: Global, operation: Operation, a: u64, b: u64) -> Outcome
         ensures { Makes self.old self.new (made_of (of_two (combined operation)) (sets_at self.old a b)) result }

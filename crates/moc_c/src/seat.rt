@@ -6,7 +6,7 @@ ghost use Rattle.moc_c.specs.Private.Seat.{seat_owns};
 ghost use Rattle.moc_c.specs.contracts.sitter.Sitter as sitter_row;
 ghost use Rattle.moc_c.specs.declared.sitter.Sitter.{Sitter as SitterValue};
 
-use crate::box_parts::BoxParts;
+use crate::box_parts::{BoxParts, sendable};
 use crate::sitter::Sitter;
 use std::alloc::{AllocError, Global};
 use std::marker::{Model, Send};
@@ -77,8 +77,6 @@ unsafe impl Send for Seat {}
 pub extern "C" fn moc_seat_close(seat: Seat) {
     drop(seat);
 }
-
-fn sendable<T: Send>(_x: &T) {}
 
 /// A seat may go to another thread.
 pub(crate) fn seats_are_sent(seat: &Seat) {

@@ -3,14 +3,27 @@ ghost use Rattle.std.specs.Prelude.{◌≡◌, Err, MatchResult, Ok, OnErr, OnOk
 ghost use Rattle.std.specs.Option.{option_copied, is_some};
 ghost use Rattle.std.specs.String.{string_bytes};
 ghost use Rattle.std.specs.FinMap as map;
-ghost use Rattle.moc_c.specs.Answers.{set_at, sets_at};
+ghost use Rattle.moc_c.specs.Answers.{order_numbered, set_at, sets_at};
+ghost use Rattle.moc_c.specs.Private.Making.{KeepsSaid, MakesIf};
 ghost use Rattle.moc_c.specs.Contents.{at_key, bare, with_set, with_text, without_set};
 
 use crate::fault::CallFault;
+use crate::outcome::Outcome;
 use moc_ranges::{Coverage, Memory};
+use moc_sphere::Order;
 use std::alloc::Global;
 use std::collections::BTreeMap;
 use std::marker::Model;
+
+/// The order of a number; refused where it is none.
+pub(crate) fn order_of(number: u8) -> Result<Order, CallFault>
+    ensures { result ≡ order_numbered number }
+{
+    match Order::new(number) {
+        Some(order) => Ok(order),
+        None => Err(CallFault::NoSuchOrder { order: number }),
+    }
+}
 
 /// Coverages in a tree by their keys.
 #[derive(Drop)]
@@ -135,6 +148,29 @@ impl Shelf {
         self.sets.insert(key, set)?;
         self.next = next;
         Ok(key)
+    }
+
+    /// Keeps a set that was made, at the next key.
+    pub(crate) fn keep(&mut self, made: Result<Coverage, Memory>) -> Outcome
+        ensures { MakesIf self.old self.new made result }
+    {
+        let Ok(set) = made else {
+            return Outcome::of(CallFault::Memory);
+        };
+        match self.put(set) {
+            Ok(key) => Outcome::told(key),
+            Err(Memory) => Outcome::of(CallFault::Memory),
+        }
+    }
+
+    /// Keeps the set that was said, at the next key.
+    pub(crate) fn keep_said(&mut self, said: Result<Coverage, CallFault>) -> Outcome
+        ensures { KeepsSaid self.old self.new said result }
+    {
+        match said {
+            Ok(set) => self.keep(Ok(set)),
+            Err(fault) => Outcome::of(fault),
+        }
     }
 
     /// Takes the coverage at a key away, and tells whether there was one. O(log n), takes no memory.

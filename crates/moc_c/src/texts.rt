@@ -8,9 +8,8 @@ ghost use Rattle.moc_c.specs.Texts.{WritesText};
 
 use crate::desk::Desk;
 use crate::fault::CallFault;
-use crate::making::order_of;
 use crate::outcome::Outcome;
-use crate::shelf::Shelf;
+use crate::shelf::{Shelf, order_of};
 use moc_forms::{Form, describe, draw};
 use moc_ranges::Memory;
 use moc_sphere::Order;

@@ -1,7 +1,7 @@
 use Rattle.std.proofs.Common.{◌≤◌, ◌∷◌, [], length, get_or, rules}
 use Rattle.moc_sphere.specs.CellNumber.{cell_count}
 use Rattle.moc_c.proofs.Failing.{cells_end, cells_stop, one_length}
-use Rattle.moc_c.proofs.cells.moc_neighbours.Goals as goal
+use Rattle.moc_c.proofs.cells.rows.Goals as goal
 
 pub returns-in_default-new-clause-outcome : goal.returns-in_default-new-clause-outcome
 returns-in_default-new-clause-outcome c =
