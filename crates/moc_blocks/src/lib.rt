@@ -19,6 +19,8 @@ pub use ahead::{
 };
 pub use block::{Block, LONGEST, measure_ranges};
 pub use lengths::{length_of_first, length_of_last, width_of_last};
-pub use node::{Node, WIDEST, count_in_blocks, count_in_nodes, share_blocks, share_nodes};
+pub use node::{
+    Node, WIDEST, blocks_in_nodes, count_in_blocks, count_in_nodes, share_blocks, share_nodes,
+};
 pub use runs::{Leading, PassedRanges, leading_below, pass_ranges};
 pub use search::{range_of_nodes_past, range_past};

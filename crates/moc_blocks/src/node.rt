@@ -74,7 +74,7 @@ pub fn count_in_nodes(nodes: &[Node]) -> usize
 }
 
 /// How many blocks nodes have.
-pub(crate) fn blocks_in_nodes(nodes: &[Node]) -> usize
+pub fn blocks_in_nodes(nodes: &[Node]) -> usize
     ensures value { result ≡ length (joining nodes.now) }
     ensures bound { result ≤ WIDEST * length nodes.now }
 {

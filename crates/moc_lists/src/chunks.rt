@@ -1,6 +1,5 @@
 //! The blocks of a list, as slices of ranges.
-use crate::ahead::{Ahead, next_block};
-use crate::node::{Node, blocks_in_nodes};
+use moc_blocks::{Ahead, Node, blocks_in_nodes, next_block};
 use std::fmt;
 use std::marker::Model;
 
