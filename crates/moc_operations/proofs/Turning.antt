@@ -1,5 +1,5 @@
 -- Joining the ranges of two begun blocks.
-use Rattle.std.proofs.Common.{◌≡◌, ℕ, ◌-◌, ◌≤◌, Bool, true, false, ◌||◌, List, [], ◌∷◌, ◌++◌, refl, sym, ap, subst}
+use Rattle.std.proofs.Common.{◌≡◌, ℕ, ◌≤◌, Bool, true, false, ◌||◌, List, [], ◌∷◌, ◌++◌, refl, sym, ap, subst}
 use Rattle.std.proofs.Common.{◌∙◌, arith, append_assoc}
 use Rattle.moc_blocks.specs.RangeList.{IsNormal}
 use Rattle.moc_blocks.specs.Lemmas.Members.{in_range, in_ranges, or_assoc}

@@ -3,7 +3,7 @@ use Rattle.std.specs.Prelude.{◌≡◌, ℕ, ◌<◌, ◌≤◌, List, [], ◌�
 use Rattle.std.specs.FinSet as set
 use Rattle.std.proofs.lemmas.Bool.Decides.{nat_tests}
 use Rattle.std.proofs.lemmas.Bool.{cases_lt}
-use Rattle.std.proofs.Common.{◌∙◌, ◌-◌, true, false, refl, sym, ap, arith, inl, inr, ◌⊎◌}
+use Rattle.std.proofs.Common.{◌∙◌, true, false, refl, sym, ap, arith, inl, inr, ◌⊎◌}
 use Rattle.moc_blocks.specs.Lemmas.Members.{contains-set_of, in_ranges}
 use Rattle.moc_blocks.specs.RangeList.{set_of, IsNormal}
 use Rattle.moc_blocks.specs.Lemmas.Ranges.{later_only}
