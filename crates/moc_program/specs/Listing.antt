@@ -9,8 +9,8 @@ use Rattle.moc_script.specs.declared.fault.StepFault.TheVariants as step
 use Rattle.moc_text.specs.declared.ascii.error.TextError.TheVariants as text
 use Rattle.moc_text.specs.declared.json_form.error.JsonError.TheVariants as json
 use Rattle.moc_text.specs.declared.uniq.UniqError.TheVariants as uniq
-use Rattle.moc_text.specs.Names.{name_of_json, name_of_text, name_of_uniq}
-use Rattle.moc_conversion.specs.Faults.{input_fault_name, line_of, want_of_memory}
+use Rattle.moc_text.specs.Names.{name_of_json, name_of_text, name_of_uniq, told_fault}
+use Rattle.moc_conversion.specs.Faults.{name_of_input, want_of_memory}
 use Rattle.moc_conversion.specs.declared.fault.InputFault.TheVariants.{TooLong, Read}
 use Rattle.moc_sphere.specs.declared.cell.CellError.TheVariants as cell
 use Rattle.moc_program.specs.Statuses.{code_of, name_of_cell}
@@ -77,7 +77,7 @@ fault_list =
     ∷ (name_of_uniq (uniq.NotUniq 0), codes "no cell has this number")
     ∷ [])
     ++ section (codes "Lengths") 17 (
-    (input_fault_name TooLong, codes "a text of more than 16,777,216 bytes")
+    (name_of_input TooLong, codes "a text of more than 16,777,216 bytes")
     ∷ (name_of_run (run.LineTooLong 0), codes "a line of more than 1,048,576 bytes")
     ∷ [])
     ++ section (codes "Lines of scripts and schedules") 17 (
@@ -88,8 +88,8 @@ fault_list =
     ∷ (name_of_step step.PartTooLarge, codes "a part above 11")
     ∷ [])
     ++ section (codes "Devices") 17 (
-    (input_fault_name Read ++ codes ", " ++ name_of_run run.Write, codes "standard input or output failed")
-    ∷ (input_fault_name want_of_memory, codes "memory was refused")
+    (name_of_input Read ++ codes ", " ++ name_of_run run.Write, codes "standard input or output failed")
+    ∷ (name_of_input want_of_memory, codes "memory was refused")
     ∷ (codes "Spawn", codes "a thread was refused")
     ∷ [])
     ++ text_line (codes "Example:") ++ text_line (codes "  moc cell 3") ++ text_line (codes "tells")
