@@ -1,6 +1,6 @@
 use Rattle.std.proofs.Common.{◌≡◌, ◌≤◌, ◌*◌, take, length}
 use Rattle.moc_blocks.specs.Blocks.{joining}
-use Rattle.moc_lists.proofs.node.blocks_in_nodes.Given as goal
+use Rattle.moc_blocks.proofs.node.blocks_in_nodes.Given as goal
 
 abbrev pub invariant-loop-node : goal.invariant-loop-node
 invariant-loop-node l = (l.total ≡ length (joining (take l.node-index l.nodes))) × (l.total ≤ 16 * l.node-index)

@@ -1,6 +1,6 @@
 use Rattle.std.proofs.Common.{arith, ap, length}
 use Rattle.moc_blocks.proofs.Blocking.{joined_step}
-use Rattle.moc_lists.proofs.node.blocks_in_nodes.Goals as goal
+use Rattle.moc_blocks.proofs.node.blocks_in_nodes.Goals as goal
 
 pub loop-node-preserved : goal.loop-node-preserved
 loop-node-preserved c =
