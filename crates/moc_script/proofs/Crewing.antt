@@ -24,7 +24,7 @@ use Rattle.moc_shared.specs.declared.client.Client.{Client}
 use Rattle.moc_text.specs.Lines.{lines_of}
 use Rattle.moc_script.specs.Private.Input.{lane_lines}
 use Rattle.moc_script.specs.Private.Gathering.{HasLanes}
-use Rattle.moc_script.specs.Private.Joining.{AreForLines, IsJoined, IsTold, JoinsTo}
+use Rattle.moc_script.specs.Private.Joining.{AreForLines, IsJoined, AreTold, JoinsTo}
 use Rattle.moc_script.proofs.LaneLists.{none_above, as_long}
 use Rattle.moc_script.proofs.Weaving.{weave}
 
@@ -144,7 +144,7 @@ Appends-kept (Some x) None c bs p q = absurd p
 Appends-kept (Some x) (Some y) None bs p q = absurd q
 Appends-kept (Some x) (Some y) (Some z) bs p q = q ∙ p
 
-module _ (lanes : ℕ) (items cover : List ℕ) (answers : List Texts) (told : IsTold lanes (said_lines (lines_of items)) answers cover) (b w0 w1 w2 : Option (List ℕ)) (end : IsAtEnd b) where
+module _ (lanes : ℕ) (items cover : List ℕ) (answers : List Texts) (told : AreTold lanes (said_lines (lines_of items)) answers cover) (b w0 w1 w2 : Option (List ℕ)) (end : IsAtEnd b) where
   for : AreForLines (length answers) answers (length (said_lines (lines_of items)))
   for = subst (λ (n : ℕ). AreForLines n answers (length (said_lines (lines_of items)))) (sym told.wide) told.for_lines
 

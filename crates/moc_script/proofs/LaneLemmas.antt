@@ -12,8 +12,8 @@ use Rattle.moc_lines.specs.declared.fault.ReadError.{ReadError}
 use Rattle.moc_lines.specs.declared.fault.ReadError.TheVariants as error
 use Rattle.moc_shared.specs.declared.record.Call.{Call}
 use Rattle.moc_shared.specs.History.{call_by, own_with}
-use Rattle.moc_script.specs.Private.LaneWork.{IsQuiet, Asks, DoesLine, Does}
-use Rattle.moc_script.specs.Private.LaneEnds.{Made, Answers, AddsAnswer, Answered}
+use Rattle.moc_script.specs.Private.LaneWork.{IsQuiet, IsAskedBy, MadeByLine, Does}
+use Rattle.moc_script.specs.Private.LaneEnds.{Made, IsLineAnswer, AddsAnswer, Answered}
 use Rattle.moc_shared.specs.declared.map.SharedMap.{SharedMap}
 use Rattle.moc_shared.specs.Clients.{EndsWaiting}
 use Rattle.moc_shared.specs.Batches.{BatchCall, BatchRecord, batch_answer as object}
@@ -29,7 +29,7 @@ module _ (says : List ℕ → Result (List Command) LineFault) where
 
 -- a line that says commands asks for them
 pub asks_line : (line : List ℕ) (e : BatchCall) (text : List ℕ) → is_blank_text line ≡ false → batch_of command_of line ≡ Ok e.operation
-    → text ≡ replies_text e.reply ++ 10 ∷ [] → Asks object script_rules line e text
+    → text ≡ replies_text e.reply ++ 10 ∷ [] → IsAskedBy object script_rules line e text
 unfolding object
 asks_line line e text said is text_is s =
     let h = says_line (batch_of command_of) s line (Ok e.operation) said is in
@@ -53,7 +53,7 @@ quiet_read line e fault is said reads =
     quiet_line line fault said (subst (λ (x : ReadError). ReadsText {X = Commands} commands_in (Err x) (batch_of command_of line)) is reads)
 
 -- a line without a call
-pub no_call : (client : ℕ) (old new : BatchRecord) (line text : List ℕ) → new ≡ old → IsQuiet object script_rules line text → Answers client line old new text
+pub no_call : (client : ℕ) (old new : BatchRecord) (line text : List ℕ) → new ≡ old → IsQuiet object script_rules line text → IsLineAnswer client line old new text
 no_call client old new line text same quiet = ([], inl (refl, quiet), λ made was. ap (λ (r : BatchRecord). r.own) same ∙ was ∙ ap (λ l. record { client = client; made = l } ∷ []) (sym (append-nil made)))
 
 -- a call that ended after waits is one more of the own calls
@@ -69,7 +69,7 @@ call_made client e old new mine own made was =
 module _ {S O R : Type 0} (object : S → O → S × R) (rules : Rules S) where
   -- one more line
   pub Does-push : (lines : List (List ℕ)) (line : List ℕ) (calls more : List (Call O R)) (texts : List (List ℕ)) (text : List ℕ)
-      → Does object rules lines calls texts → DoesLine object rules line more text
+      → Does object rules lines calls texts → MadeByLine object rules line more text
       → Does object rules (lines ++ line ∷ []) (calls ++ more) (texts ++ text ∷ [])
   Does-push [] line calls more texts text (none, empty) (inl (no_call, quiet)) =
       (text, [], ap (λ l. l ++ text ∷ []) empty, inl (quiet, (ap (λ l. l ++ more) none ∙ no_call, refl)))

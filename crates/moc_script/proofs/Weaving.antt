@@ -6,7 +6,7 @@ use Rattle.moc_shared.specs.declared.record.Call.{Call}
 use Rattle.moc_shared.specs.History.{calls_of, state_after, IsLegal}
 use Rattle.moc_lines.specs.Runs.{Rules}
 use Rattle.moc_script.specs.Crews.{InLane, placed, in_lane, answers_in, left_by}
-use Rattle.moc_script.specs.Private.LaneWork.{Asks, Does}
+use Rattle.moc_script.specs.Private.LaneWork.{IsAskedBy, Does}
 
 module _ {A : Type 0} where
   -- the list of one lane in the place of its former one
@@ -103,7 +103,7 @@ module _ {S O R : Type 0} (object : S → O → S × R) (rules : Rules S) where
   next_call n e log s end low legal later (line ∷ here) there lines texts h t below others (text, rest, is, inr (f, calls, same, asks, does)) =
       let call_is : f ≡ e = cc in
       let calls_are : calls ≡ calls_of e.client log = cc in
-      let asked : Asks object rules line e text = subst (λ (q : Call O R). Asks object rules line q text) call_is asks in
+      let asked : IsAskedBy object rules line e text = subst (λ (q : Call O R). IsAskedBy object rules line q text) call_is asks in
       put s (object s e.operation).0 end lines texts e.client line text here rest h (t ∙ is) ((asked s).1 legal) (asked s).0
       (later (with_lane e.client here lines) (with_lane e.client rest texts)
       (with_done lines texts log e.client here rest others (subst (λ (q : List (Call O R)). Does object rules here q rest) calls_are does))

@@ -5,7 +5,7 @@ ghost use Rattle.moc_lines.specs.Runs.{EndsFlushed};
 ghost use Rattle.moc_text.specs.Lines.{lines_of};
 ghost use Rattle.moc_script.specs.Crews.{CrewEnds, CrewFlushes, cover_line, lane_count, said_lines};
 ghost use Rattle.moc_script.specs.Private.Gathering.{NamesLine};
-ghost use Rattle.moc_script.specs.Private.Joining.{EndsTold, IsTold};
+ghost use Rattle.moc_script.specs.Private.Joining.{EndsTold, AreTold};
 
 mod gate;
 mod gathering;
@@ -53,7 +53,7 @@ fn answer_all<R: Threads + Wait + Sync, G: Gate + Sync>(
     lanes: Lanes,
 ) -> Result<Told, LanesError>
     ensures told { IfOk result (λ told.
-        IsTold (lane_count lanes) (said_lines (lines_of input.now)) told.answers.items told.cover.items) }
+        AreTold (lane_count lanes) (said_lines (lines_of input.now)) told.answers.items told.cover.items) }
     ensures line { IfErr result (λ e. NamesLine input.now e) }
 {
     let start = Coverage::empty(alloc);

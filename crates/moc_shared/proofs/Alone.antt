@@ -21,7 +21,7 @@ use Rattle.moc_shared.specs.History.{call_by, IsLegal}
 use Rattle.moc_shared.specs.Seats.{note, Pointer, Sight}
 use Rattle.moc_shared.specs.Private.Rule.{IsOne}
 use Rattle.moc_shared.specs.Private.Seats.{PartNote, IsCarried, part, IsProper}
-use Rattle.moc_shared.specs.Private.Answering.{Answers}
+use Rattle.moc_shared.specs.Private.Answering.{AnswersRightly}
 use Rattle.moc_shared.specs.Private.Held.{HoldsJust}
 use Rattle.moc_shared.specs.Private.Plays.{with_part, with_parts, with_misses, with_holds, marked_at}
 use Rattle.moc_shared.specs.Private.Slots.{EndsBatch, AreWaits, just, touched_by}
@@ -133,7 +133,7 @@ module _ (c : Command) (b : ℕ) (met : (k : ℕ) → footprint c k ≡ nat_eq b
 
   -- what was found in the part tells all
   pub answers_alone : (x y : NumberSet) (r : Reply) → IsLocal batches cs → y ≡ set_after x c → r ≡ reply_on x c
-      → Answers part batch_answer IsProper cs (r ∷ []) (note b (Some x) ∷ []) (note b (Some y) ∷ [])
+      → AnswersRightly part batch_answer IsProper cs (r ∷ []) (note b (Some x) ∷ []) (note b (Some y) ∷ [])
   unfolding batch_answer part
   answers_alone x y r local new told s w noted =
       let is : x ≡ part_of s b = some_inside x (part_of s b) (noted b (Some x) (here (note b (Some x)) [])) in (

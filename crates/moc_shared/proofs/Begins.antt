@@ -17,7 +17,7 @@ use Rattle.moc_shared.specs.declared.record.View.{View}
 use Rattle.moc_shared.specs.History.{Fits, StandsFor, stood, newcomer}
 use Rattle.moc_shared.specs.Seats.{table_place, note}
 use Rattle.moc_shared.specs.Private.Rule.{records, stood_in, stood_by, ViewFits, Kept}
-use Rattle.moc_shared.specs.Private.Opening.{nobody, seat_for, newcomers, first_view}
+use Rattle.moc_shared.specs.Private.Opening.{no_client, seat_for, newcomers, first_view}
 use Rattle.moc_shared.proofs.Basics.{here, none_in, only, cons_cases}
 
 module _ {O R : Type 0} where
@@ -60,8 +60,8 @@ module _ {S X O R Y : Type 0} (n : ℕ) (content : S → Y) (part : ℕ → X �
   V = View X O R Y
 
   records_are : (rs : List (Record O R)) (r : Record O R)
-      → Contains (records (let v : V = seat_for start clients rs in v)) r → (nobody ≡ r) ⊎ Contains rs r
-  records_are [] r h = inl (only nobody r h)
+      → Contains (records (let v : V = seat_for start clients rs in v)) r → (no_client ≡ r) ⊎ Contains rs r
+  records_are [] r h = inl (only no_client r h)
   records_are (q ∷ qs) r h = inr h
 
   sums_are : (rs : List (Record O R)) (c : ℕ)
@@ -78,10 +78,10 @@ module _ {S X O R Y : Type 0} (n : ℕ) (content : S → Y) (part : ℕ → X �
   map_is [] = (refl, refl)
   map_is (q ∷ qs) = (refl, refl)
 
-  misses_none : (r : Record O R) (h b : ℕ) → (nobody ≡ r) ⊎ ((d : ℕ) × (d < 0 + clients) × (newcomer d ≡ r))
+  misses_none : (r : Record O R) (h b : ℕ) → (no_client ≡ r) ⊎ ((d : ℕ) × (d < 0 + clients) × (newcomer d ≡ r))
       → Contains r.misses (h, b) → ⊥
   misses_none r h b w m =
-      ⊎_elim (λ (e : nobody ≡ r). none_in (h, b) (subst (λ (q : Record O R). Contains q.misses (h, b)) (sym e) m))
+      ⊎_elim (λ (e : no_client ≡ r). none_in (h, b) (subst (λ (q : Record O R). Contains q.misses (h, b)) (sym e) m))
       (λ (t : (d : ℕ) × (d < 0 + clients) × (newcomer d ≡ r)). none_in (h, b)
       (subst (λ (q : Record O R). Contains q.misses (h, b)) (sym t.2) m)) w
 
@@ -92,7 +92,7 @@ module _ {S X O R Y : Type 0} (n : ℕ) (content : S → Y) (part : ℕ → X �
       let first : V = first_view start clients in
       let rs : List (Record O R) = newcomers 0 clients in
       let which = λ (i : ℕ) (v : V) (e : get_elem? (first ∷ []) i ≡ some v). let r : first ≡ v = one i v e in r in
-      let kind = λ (r : Record O R) (h : Contains (records first) r). let q : (nobody ≡ r)
+      let kind = λ (r : Record O R) (h : Contains (records first) r). let q : (no_client ≡ r)
       ⊎ ((d : ℕ) × (d < 0 + clients) × (newcomer d ≡ r)) =
       ⊎_elim (λ z. inl z) (λ t. inr (newcomer_is 0 clients r t)) (records_are rs r h) in q in
       record {
@@ -110,13 +110,13 @@ module _ {S X O R Y : Type 0} (n : ℕ) (content : S → Y) (part : ℕ → X �
             (which i v e) record {
               same_map = λ c p. map_is rs;
               fits = λ r h. ⊎_elim
-                  (λ (z : nobody ≡ r). subst (λ (q : Record O R). Fits [] q × Fits q.seen q) z
+                  (λ (z : no_client ≡ r). subst (λ (q : Record O R). Fits [] q × Fits q.seen q) z
                   ((([], refl), λ c i. absurd (none_in c i)), (([], refl), λ c i. absurd (none_in c i))))
                   (λ (t : (d : ℕ) × (d < 0 + clients) × (newcomer d ≡ r)). subst
                   (λ (q : Record O R). Fits [] q × Fits q.seen q) t.2 (fresh t.0, fresh t.0))
                   (kind r h);
               known = λ r h c st. ⊎_elim
-                  (λ (z : nobody ≡ r). let st' : StandsFor (nobody {O = O} {R = R}) c = subst
+                  (λ (z : no_client ≡ r). let st' : StandsFor (no_client {O = O} {R = R}) c = subst
                   (λ (q : Record O R). StandsFor q c) (sym z) st in absurd (omega arith))
                   (λ (t : (d : ℕ) × (d < 0 + clients) × (newcomer d ≡ r)). let l = t.1 in
                   let same = stands_is O R c t.0 (subst (λ (q : Record O R). StandsFor q c) (sym t.2) st) in

@@ -23,7 +23,7 @@ use Rattle.moc_shared.specs.Seats.{table_place, note}
 use Rattle.moc_shared.specs.Private.Rule.{IsSpare, records, Present, stood_in, IsFree, IsHeld, Holding, ViewFits}
 use Rattle.moc_shared.specs.Private.Rule.{Kept, noted_parts, IsOne}
 use Rattle.moc_shared.specs.Private.Seats.{IsCarried}
-use Rattle.moc_shared.specs.Private.Answering.{Answers}
+use Rattle.moc_shared.specs.Private.Answering.{AnswersRightly}
 use Rattle.moc_shared.specs.Private.Plays.{with_part, with_miss, with_holds, after_call, behind_first, TookPart, Took, Gave, Ended, EndsCall}
 use Rattle.moc_shared.proofs.Basics.{here, there, none_in, only, cons_cases, sum_set_same, stands_by, stood_with_call}
 use Rattle.moc_shared.proofs.Basics.{fits_longer, fits_with_call, starts_itself, result_with, legal_with}
@@ -425,7 +425,7 @@ module _ {S X O R Y : Type 0} (n : ℕ) (content : S → Y) (part : ℕ → X �
   ended_kept : (s : State S V) (k : Rule s) (id : ℕ) (v : V) (b : ℕ) (x : S) (notes : List (Note Y)) (op : O)
       (reply : R) → get_elem? s.views id ≡ some v → v.others ≡ [] → StandsFor v.mine v.mine.number
       → noted_parts v.holds ≡ b ∷ noted_parts notes → ¬ Contains (noted_parts notes) b
-      → Answers part answer proper op reply v.holds (note b (content x) ∷ notes)
+      → AnswersRightly part answer proper op reply v.holds (note b (content x) ∷ notes)
       → Rule record {
         words = set s.words (table_place b) 0;
         homes = set s.homes (table_place b) (some x);
@@ -631,7 +631,7 @@ module _ {S X O R Y : Type 0} (n : ℕ) (content : S → Y) (part : ℕ → X �
   pub ends_call : (slots id : ℕ) (me : M) (b : ℕ) (x : S) (cs : List (ℕ × S)) (e : Call O R) (notes : Notes)
       → IsOne me.0 → e.client ≡ me.0.mine.number → me.1 ≡ (table_place b, x) ∷ cs → noted_parts me.0.holds ≡ b ∷ noted_parts notes
       → ¬ Contains (noted_parts notes) b
-      → Answers part answer proper e.operation e.reply me.0.holds (note b (content x) ∷ notes)
+      → AnswersRightly part answer proper e.operation e.reply me.0.holds (note b (content x) ∷ notes)
       → Allows Rule slots id me (table_place b) (λ _. 0) (λ _. Ended answer e notes (step slots (table_place b) 0 0 none) me 0)
   ends_call slots id me b x cs e notes one by carried same apart done s k deep at small =
       let v : V = me.0 in
@@ -693,7 +693,7 @@ module _ {S X O R Y : Type 0} (n : ℕ) (content : S → Y) (part : ℕ → X �
   pub ends_call_as : (slots id : ℕ) (me : M) (v : V) (i b : ℕ) (x : S) (cs : List (ℕ × S)) (e e' : Call O R)
       (notes notes' : Notes) → i ≡ table_place b → e' ≡ e → notes' ≡ notes → (let now : M = (v, (i, x) ∷ cs) in me ≡ now)
       → IsOne v → e.client ≡ v.mine.number → noted_parts v.holds ≡ b ∷ noted_parts notes → ¬ Contains (noted_parts notes) b
-      → Answers part answer proper e.operation e.reply v.holds (note b (content x) ∷ notes)
+      → AnswersRightly part answer proper e.operation e.reply v.holds (note b (content x) ∷ notes)
       → Allows Rule slots id me i (λ _. 0) (λ _. Ended answer e' notes' (step slots i 0 0 none) me 0)
   ends_call_as slots id me v i b x cs e e' notes notes' at same_e same_notes is one by same apart done =
       subst (λ (z : M × Call O R × Notes × ℕ). Allows Rule slots id z.0 z.3 (λ _. 0)

@@ -15,7 +15,7 @@ use Rattle.moc_shared.specs.Seats.{note, Pointer, Sight}
 use Rattle.moc_shared.specs.Private.Rule.{records, IsOne}
 use Rattle.moc_shared.specs.Private.Seats.{IsCarried, PartNote, notes_below, AreOwn, IsFootprint}
 use Rattle.moc_shared.specs.Private.Plays.{first_alone, both_views, with_history, seen_to, both_of, GatheredWith, EndsCall, after_call, with_parts, with_holds, with_miss}
-use Rattle.moc_shared.specs.Private.Slots.{GivesUp, IsRefused, EndsBatch}
+use Rattle.moc_shared.specs.Private.Slots.{GivesUp, RefusesTaking, EndsBatch}
 use Rattle.moc_parts.specs.Batches.{footprint_of_all}
 use Rattle.moc_shared.specs.Batches.{BatchCall, BatchRecord, batch_answer}
 use Rattle.moc_shared.specs.Clients.{start_of, clients_of, record_of, IsClientOf, IsHoldingOf, Meets, TakesIn}
@@ -101,7 +101,7 @@ undone_from op v u w found whole =
     undone_noted op v u w (notes_below found 12) (λ p y h. noted_touched op found 12 p y whole h)
 
 pub refuses_from : (the : SharedMap) (op : List Command) (b : Busy) (v w : Sight) → v.clients ≡ clients_of the
-    → IsRefused op b.part b.holder v w → Refuses the op b v.mine w.mine
+    → RefusesTaking op b.part b.holder v w → Refuses the op b v.mine w.mine
 refuses_from the op b v w clients (notes, is, touched, part_touched, within, known, other) =
     let refused : Refuses the op b v.mine (with_holds (with_miss (with_parts v notes) b.holder b.part) []).mine =
     record {
@@ -235,7 +235,7 @@ holds_now the a h of_a number table view carried footprint own = record {
 
 pub refused_client : (the : SharedMap) (a a' : Client) (b h : ℕ) (op : List Command) → IsClientOf the a
     → a'.number ≡ a.number → a'.seat.table_id ≡ the.table.shared.table_id → a'.seat.me.1 ≡ []
-    → IsRefused op b h a.seat.me.0 a'.seat.me.0 → IsClientOf the a'
+    → RefusesTaking op b h a.seat.me.0 a'.seat.me.0 → IsClientOf the a'
 refused_client the a a' b h op of_a number table no_slot (notes, view, touched, part_touched, within, known, other) =
     record {
       table = table;

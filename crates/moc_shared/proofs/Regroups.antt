@@ -20,7 +20,7 @@ use Rattle.moc_shared.specs.History.{StartsWith, Fits, StandsFor, stood, IsLegal
 use Rattle.moc_shared.specs.Seats.{note}
 use Rattle.moc_shared.specs.Private.Rule.{records, Present, stood_in, stood_by, IsHeld, ViewFits, Kept}
 use Rattle.moc_shared.specs.Private.Plays.{seen_to, both_of, with_history, gathered, both_views, first_alone, Looked, Gathered, GatheredWith}
-use Rattle.moc_shared.specs.Private.Opening.{nobody, idle_view, seat_for}
+use Rattle.moc_shared.specs.Private.Opening.{no_client, idle_view, seat_for}
 use Rattle.moc_shared.proofs.Basics.{here, there, none_in, only, cons_cases, sum_set, sum_set_same, starts_itself}
 use Rattle.moc_shared.proofs.Apart.{stood_of, present_cases}
 
@@ -259,11 +259,11 @@ module _ {S X O R Y : Type 0} (n : ℕ) (content : S → Y) (part : ℕ → X �
                 (Contains-append_left v.mine.marks q.marks (h, b) m),
           ))
 
-  none_stood : (c : ℕ) → StandsFor (nobody {O = O} {R = R}) c → ⊥
+  none_stood : (c : ℕ) → StandsFor (no_client {O = O} {R = R}) c → ⊥
   none_stood c st = omega arith
 
   joined_kept : (s : State S V) (k : Rule s) (id : ℕ) (v : V) (other : ℕ) (w spent : V) → StandsFor v.mine v.mine.number
-      → spent.mine ≡ nobody → spent.others ≡ [] → spent.holds ≡ [] → w.holds ≡ [] → get_elem? s.views id ≡ some v
+      → spent.mine ≡ no_client → spent.others ≡ [] → spent.holds ≡ [] → w.holds ≡ [] → get_elem? s.views id ≡ some v
       → other ≢ id → get_elem? s.views other ≡ some w
       → Rule record { words = s.words; homes = s.homes; views = set (set s.views id (both_views v w)) other spent }
   joined_kept s k id v other w spent stands blank lone empty free at apart there_is =
@@ -275,10 +275,10 @@ module _ {S X O R Y : Type 0} (n : ℕ) (content : S → Y) (part : ℕ → X �
       let at_mid : get_elem? mid other ≡ some w = set_else s.views id other u apart ∙ there_is in
       let from = λ (r : Record O R) (h : Contains (records u) r). let t : Contains (records v) r
       ⊎ Contains (records w) r = Contains-append_cases (records v) (records w) r h in t in
-      let spent_is : (r : Record O R) → Contains (records spent) r → nobody ≡ r =
+      let spent_is : (r : Record O R) → Contains (records spent) r → no_client ≡ r =
       (λ r h. sym blank ∙ only spent.mine r (subst (λ (l : List (Record O R)). Contains (spent.mine ∷ l) r) lone h))
       in
-      let was : (r : Record O R) → Present (set mid other spent) r → (nobody ≡ r) ⊎ Present s.views r = (λ r p. ⊎_elim
+      let was : (r : Record O R) → Present (set mid other spent) r → (no_client ≡ r) ⊎ Present s.views r = (λ r p. ⊎_elim
       (λ (h : Contains (records spent) r). inl (spent_is r h))
       (λ (m : Present mid r). ⊎_elim
       (λ (h : Contains (records u) r). ⊎_elim (λ (a : Contains (records v) r). inr (id, v, at, a))
@@ -323,10 +323,10 @@ module _ {S X O R Y : Type 0} (n : ℕ) (content : S → Y) (part : ℕ → X �
       (at_set s.views id j u x t.1))
       (at_set mid other j spent x e))
       (λ r h p st. ⊎_elim
-      (λ (z : nobody ≡ r). absurd (none_stood h (subst (λ (q : Record O R). StandsFor q h) (sym z) st)))
+      (λ (z : no_client ≡ r). absurd (none_stood h (subst (λ (q : Record O R). StandsFor q h) (sym z) st)))
       (λ (o : Present s.views r). (r, o, st, λ b m. m)) (was r p))
       (λ r h b p m. ⊎_elim
-      (λ (z : nobody ≡ r). absurd (none_in (h, b) (subst (λ (q : Record O R). Contains q.misses (h, b)) (sym z) m)))
+      (λ (z : no_client ≡ r). absurd (none_in (h, b) (subst (λ (q : Record O R). Contains q.misses (h, b)) (sym z) m)))
       (λ (o : Present s.views r). (r, o, m)) (was r p))
       (λ c. let a = sum_set (stood_in c) s.views id v u at in let b = sum_set (stood_in c) mid other w spent at_mid in
       let d = sum_u c in let e = sum_spent c in omega arith)
@@ -403,7 +403,7 @@ module _ {S X O R Y : Type 0} (n : ℕ) (content : S → Y) (part : ℕ → X �
 
   cut_kept : (s : State S V) (k : Rule s) (id : ℕ) (v right : V) → StandsFor v.mine v.mine.number
       → get_elem? s.views id ≡ some v → right.start ≡ v.start → right.clients ≡ v.clients → right.holds ≡ []
-      → ((r : Record O R) → Contains (records right) r → (nobody ≡ r) ⊎ Contains v.others r)
+      → ((r : Record O R) → Contains (records right) r → (no_client ≡ r) ⊎ Contains v.others r)
       → ((r : Record O R) → Contains v.others r → Contains (records right) r)
       → ((c : ℕ) → stood_in c right ≡ sum_by (stood c) v.others)
       → Rule record { words = s.words; homes = s.homes; views = set s.views id (first_alone v) ++ right ∷ [] }
@@ -418,9 +418,9 @@ module _ {S X O R Y : Type 0} (n : ℕ) (content : S → Y) (part : ℕ → X �
       (λ c. sum_by-cons (stood c) v.mine v.others) in
       let in_old = λ (r : Record O R) (h : Contains v.others r). let t : Present s.views r =
       (id, v, at, there v.mine v.others r h) in t in
-      let right_was = λ (r : Record O R) (h : Contains (records right) r). let t : (nobody ≡ r) ⊎ Present s.views r =
+      let right_was = λ (r : Record O R) (h : Contains (records right) r). let t : (no_client ≡ r) ⊎ Present s.views r =
       ⊎_elim (λ z. inl z) (λ o. inr (in_old r o)) (theirs r h) in t in
-      let was : (r : Record O R) → Present (mid ++ right ∷ []) r → (nobody ≡ r) ⊎ Present s.views r = (λ r p. ⊎_elim
+      let was : (r : Record O R) → Present (mid ++ right ∷ []) r → (no_client ≡ r) ⊎ Present s.views r = (λ r p. ⊎_elim
       (λ (e : get_elem? mid p.0 ≡ some p.1). ⊎_elim
       (λ (h : Contains (records left) r). inr
       (id, v, at, subst (λ (q : Record O R). Contains (records v) q) (only v.mine r h) first))
@@ -453,20 +453,20 @@ module _ {S X O R Y : Type 0} (n : ℕ) (content : S → Y) (part : ℕ → X �
       (λ (q : right ≡ x). subst (FitsIn log s.words s.homes) q record {
         same_map = λ c p. (same_start ∙ map_of.0, same_clients ∙ map_of.1);
         fits = λ r h. ⊎_elim
-            (λ (z : nobody ≡ r). subst (λ (y : Record O R). Fits log y × Fits y.seen y) z
+            (λ (z : no_client ≡ r). subst (λ (y : Record O R). Fits log y × Fits y.seen y) z
             (((log, refl), λ c i. absurd (none_in c i)), (([], refl), λ c i. absurd (none_in c i))))
             (λ (o : Contains v.others r). old.fits r (there v.mine v.others r o)) (theirs r h);
         known = λ r h c st. ⊎_elim
-            (λ (z : nobody ≡ r). absurd (none_stood c (subst (λ (y : Record O R). StandsFor y c) (sym z) st)))
+            (λ (z : no_client ≡ r). absurd (none_stood c (subst (λ (y : Record O R). StandsFor y c) (sym z) st)))
             (λ (o : Contains v.others r). old.known r (there v.mine v.others r o) c st) (theirs r h);
         holding = λ b y h. absurd (none_in (note b y) (subst (λ (l : List (Note Y)). Contains l (note b y)) empty h));
       })
       (at_snoc mid right x j e))
       (λ r h p st. ⊎_elim
-      (λ (z : nobody ≡ r). absurd (none_stood h (subst (λ (q : Record O R). StandsFor q h) (sym z) st)))
+      (λ (z : no_client ≡ r). absurd (none_stood h (subst (λ (q : Record O R). StandsFor q h) (sym z) st)))
       (λ (o : Present s.views r). (r, o, st, λ b m. m)) (was r p))
       (λ r h b p m. ⊎_elim
-      (λ (z : nobody ≡ r). absurd (none_in (h, b) (subst (λ (q : Record O R). Contains q.misses (h, b)) (sym z) m)))
+      (λ (z : no_client ≡ r). absurd (none_in (h, b) (subst (λ (q : Record O R). Contains q.misses (h, b)) (sym z) m)))
       (λ (o : Present s.views r). (r, o, m)) (was r p))
       (λ c. let a = sum_set (stood_in c) s.views id v left at in let b = sum_by_push (stood_in c) mid right in
       let d = two c in let e = sums c in let f : stood_in c left ≡ stood c v.mine = zero-add (stood c v.mine) in
@@ -527,7 +527,7 @@ module _ {S X O R Y : Type 0} (n : ℕ) (content : S → Y) (part : ℕ → X �
             views = set s.views id (first_alone v) ++ seat_for v.start v.clients rs ∷ [];
           }
       cut [] e =
-          cut_kept s k id v (idle_view v.start v.clients) stands at refl refl refl (λ r h. inl (only nobody r h))
+          cut_kept s k id v (idle_view v.start v.clients) stands at refl refl refl (λ r h. inl (only no_client r h))
           (λ r h. absurd (none_in r (subst (λ (l : List (Record O R)). Contains l r) e h)))
           (λ c. sym (ap (sum_by (stood c)) e))
       cut (r ∷ rs) e =
@@ -578,7 +578,7 @@ module _ {S X O R Y : Type 0} (n : ℕ) (content : S → Y) (part : ℕ → X �
             (k.log, refl, history_of s k id v at stands, g.1, g.2, g.3, g.4),
       )
 
-  pub joins : (id : ℕ) (v : V) (other : ℕ) (w spent : V) → StandsFor v.mine v.mine.number → spent.mine ≡ nobody
+  pub joins : (id : ℕ) (v : V) (other : ℕ) (w spent : V) → StandsFor v.mine v.mine.number → spent.mine ≡ no_client
       → spent.others ≡ [] → spent.holds ≡ [] → w.holds ≡ [] → Joins Rule id v other w (both_views v w) spent
   joins id v other w spent stands blank lone empty free s k at apart there_is =
       joined_kept s k id v other w spent stands blank lone empty free at apart

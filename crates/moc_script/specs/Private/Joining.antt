@@ -44,7 +44,7 @@ JoinsTo all behind written written' result =
     → (text : List ℕ) × AreJoined all count text × Sends (text ++ behind) written [] written' result
 
 -- so many lanes have these answers, which in turn, with the text behind them, may answer the lines
-pub record IsTold (lanes : ℕ) (said : List (List ℕ)) (answers : List (List (List ℕ))) (behind : List ℕ) : Type 0 where
+pub record AreTold (lanes : ℕ) (said : List (List ℕ)) (answers : List (List (List ℕ))) (behind : List ℕ) : Type 0 where
   pub wide : length answers ≡ lanes
   pub for_lines : AreForLines lanes answers (length said)
   pub text : (front : List ℕ) → AreJoined answers (length said) front → IsCrewText lanes said (front ++ behind)
@@ -54,5 +54,5 @@ abbrev pub EndsTold : List ℕ → List (List (List ℕ)) → List ℕ → Optio
     → Result (Unit {0}) CrewError → Type 0
 EndsTold input answers cover written written' result =
     (lanes : ℕ) (left left' : Option (List ℕ))
-    → IsTold lanes (said_lines (lines_of input)) answers cover → ReadsAll left left' input
+    → AreTold lanes (said_lines (lines_of input)) answers cover → ReadsAll left left' input
     → IfSome left (λ whole. CrewEnds lanes whole left' written written' result)

@@ -11,7 +11,7 @@ use Rattle.moc_lines.specs.Language.{replies_text}
 use Rattle.moc_script.specs.Crews.{IsSaidLine}
 use Rattle.moc_lines.specs.Runs.{script_rules}
 use Rattle.moc_script.specs.Private.Input.{lane_lines}
-use Rattle.moc_script.specs.Private.LaneWork.{DoesLine, Does}
+use Rattle.moc_script.specs.Private.LaneWork.{MadeByLine, Does}
 use Rattle.moc_script.specs.declared.crews.lane.LaneEnd.{LaneEnd}
 use Rattle.moc_script.specs.declared.crews.lane.Unfinished.{Unfinished}
 use Rattle.moc_script.specs.declared.crews.lane.Unfinished.TheVariants.{Refused, Stopped}
@@ -21,15 +21,15 @@ abbrev pub Made : ℕ → List BatchCall → BatchRecord → Type 0
 Made client calls r = r.own ≡ record { client = client; made = calls } ∷ []
 
 -- the line made these calls, behind the former ones, and has this answer
-abbrev pub Answers : ℕ → List ℕ → BatchRecord → BatchRecord → List ℕ → Type 0
-Answers client line old new text =
-    (calls : List BatchCall) × DoesLine object script_rules line calls text
+abbrev pub IsLineAnswer : ℕ → List ℕ → BatchRecord → BatchRecord → List ℕ → Type 0
+IsLineAnswer client line old new text =
+    (calls : List BatchCall) × MadeByLine object script_rules line calls text
     × ((made : List BatchCall) → Made client made old → Made client (made ++ calls) new)
 
 -- the same, where the answer stands behind others
 abbrev pub AddsAnswer : ℕ → List ℕ → BatchRecord → BatchRecord → List ℕ → List ℕ → Type 0
 AddsAnswer client line old new before after =
-    (text : List ℕ) × (after ≡ before ++ text) × Answers client line old new text
+    (text : List ℕ) × (after ≡ before ++ text) × IsLineAnswer client line old new text
 
 -- the commands made one call of the client, behind the former ones, and its answer stands behind others
 abbrev pub Answered : ℕ → List Command → BatchRecord → BatchRecord → List ℕ → List ℕ → Type 0

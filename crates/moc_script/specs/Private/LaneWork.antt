@@ -9,15 +9,15 @@ module _ {S O R : Type 0} (object : S → O → S × R) (rules : Rules S) where
   IsQuiet line text = (s : S) → (rules.answer s line ≡ text) × (rules.after s line ≡ s)
 
   -- on each set the line leaves what the call leaves, and where the call has this reply, the line has this answer
-  abbrev pub Asks : List ℕ → Call O R → List ℕ → Type 0
-  Asks line e text =
+  abbrev pub IsAskedBy : List ℕ → Call O R → List ℕ → Type 0
+  IsAskedBy line e text =
       (s : S) → (rules.after s line ≡ (object s e.operation).0)
       × (e.reply ≡ (object s e.operation).1 → rules.answer s line ≡ text)
 
   -- the line made these calls, one or none, and has this answer
-  abbrev pub DoesLine : List ℕ → List (Call O R) → List ℕ → Type 0
-  DoesLine line calls text =
-      ((calls ≡ []) × IsQuiet line text) ⊎ ((e : Call O R) × (calls ≡ e ∷ []) × Asks line e text)
+  abbrev pub MadeByLine : List ℕ → List (Call O R) → List ℕ → Type 0
+  MadeByLine line calls text =
+      ((calls ≡ []) × IsQuiet line text) ⊎ ((e : Call O R) × (calls ≡ e ∷ []) × IsAskedBy line e text)
 
   -- the lines, in order, made these calls and have these answers
   abbrev pub Does : List (List ℕ) → List (Call O R) → List (List ℕ) → Type 0
@@ -25,4 +25,5 @@ module _ {S O R : Type 0} (object : S → O → S × R) (rules : Rules S) where
   Does (line ∷ lines) calls texts =
       (text : List ℕ) × (rest : List (List ℕ)) × (texts ≡ text ∷ rest)
       × ((IsQuiet line text × Does lines calls rest)
-      ⊎ ((e : Call O R) × (later : List (Call O R)) × (calls ≡ e ∷ later) × Asks line e text × Does lines later rest))
+      ⊎ ((e : Call O R) × (later : List (Call O R)) × (calls ≡ e ∷ later)
+      × IsAskedBy line e text × Does lines later rest))

@@ -40,7 +40,7 @@ IsPlain (Count x) = operand_set x ≡ x.set
 IsPlain _ = ⊥
 
 -- such a command takes just this part
-pub record TakesJust (c : Command) (b : ℕ) : Type 0 where
+pub record NeedsJust (c : Command) (b : ℕ) : Type 0 where
   pub met : (k : ℕ) → footprint c k ≡ nat_eq b k
   pub plain : IsPlain c
   pub proper : IsCommand c

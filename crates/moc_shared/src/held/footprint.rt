@@ -4,7 +4,7 @@ ghost use Rattle.moc_shared.specs.Private.Held.{HoldsAll};
 ghost use Rattle.moc_shared.specs.Private.Rule.{IsOne};
 ghost use Rattle.moc_shared.specs.Private.Seats.{IsCarried, notes_below, at_place, AreOwn, IsFootprint, IsOfTable};
 ghost use Rattle.moc_shared.specs.Private.Plays.{with_parts, with_holds};
-ghost use Rattle.moc_shared.specs.Private.Slots.{replies_to, Edits, EndsBatch, IsRefused};
+ghost use Rattle.moc_shared.specs.Private.Slots.{replies_to, Edits, EndsBatch, RefusesTaking};
 
 use crate::errors::Busy;
 use crate::table::locks::{Token, Words};
@@ -57,7 +57,7 @@ pub(crate) fn take_all(
         (λ found. (seat.new.me.0 ≡ with_parts seat.old.me.0 (notes_below found 12)) × IsCarried seat.new.me
         × IsFootprint batch.now found × AreOwn found) }
     ensures err { IfErr result
-        (λ busy. (seat.new.me.1 ≡ []) × IsRefused batch.now busy.part busy.holder seat.old.me.0 seat.new.me.0) }
+        (λ busy. (seat.new.me.1 ≡ []) × RefusesTaking batch.now busy.part busy.holder seat.old.me.0 seat.new.me.0) }
 {
     let mut found = no_slots();
     for part in batch.footprint(alloc) {

@@ -4,7 +4,7 @@ ghost use Rattle.std.specs.Arc.{arc_value};
 ghost use Rattle.std.specs.FinSet as set;
 ghost use Rattle.moc_parts.specs.Commands.{reply_on, set_after};
 ghost use Rattle.moc_shared.specs.Private.Seats.{IsOfTable};
-ghost use Rattle.moc_shared.specs.Private.Held.{HoldsJust, TakesJust, IsPlain};
+ghost use Rattle.moc_shared.specs.Private.Held.{HoldsJust, NeedsJust, IsPlain};
 ghost use Rattle.moc_shared.specs.Private.Plays.{with_holds};
 ghost use Rattle.moc_shared.specs.Private.Slots.{EndsBatch};
 
@@ -20,7 +20,7 @@ use std::sync::Arc;
 /// The single part that a command takes, where it adds a set that lies in one part, or counts one range there, and the
 /// set is not degraded.
 pub(crate) fn single_part(command: &Command) -> Option<Part>
-    ensures { IfSome result (λ b. TakesJust command.now b) }
+    ensures { IfSome result (λ b. NeedsJust command.now b) }
 {
     match command {
         Command::Add(x) => x.own_part(),
@@ -84,7 +84,7 @@ pub(crate) fn answer_single(
 ) -> Result<Reply, Memory>
     requires place { IsOfTable seat.old.table_id table.now.table_id }
     requires held { HoldsJust part (arc_value pointer) seat.old.me }
-    requires single { TakesJust command.now part }
+    requires single { NeedsJust command.now part }
     ensures same { (seat.new.table_id ≡ seat.old.table_id) × (seat.new.id ≡ seat.old.id) }
     ensures idle { seat.new.me.1 ≡ [] }
     ensures ok { IfOk result (λ r. EndsBatch (command.now ∷ []) (r ∷ []) [] seat.old.me.0 seat.new.me.0) }

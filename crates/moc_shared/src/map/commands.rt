@@ -2,7 +2,7 @@
 ghost use Rattle.std.specs.Prelude.{◌≡◌, [], ◌∷◌, IfOk, OnErr};
 ghost use Rattle.moc_shared.specs.Clients.{number_of, record_of, call_of, IsClientOf, EndsWaiting, LacksMemoryWaiting};
 ghost use Rattle.moc_shared.specs.Private.Answered.{IsAnswered};
-ghost use Rattle.moc_shared.specs.Private.Held.{TakesJust};
+ghost use Rattle.moc_shared.specs.Private.Held.{NeedsJust};
 
 use crate::client::Client;
 use crate::held::single::{answer_single, single_part};
@@ -47,7 +47,7 @@ impl SharedMap {
         part: Part,
     ) -> Result<Reply, Memory>
         requires map { IsClientOf self.now client.old }
-        requires single { TakesJust command.now part }
+        requires single { NeedsJust command.now part }
         ensures { IsAnswered self.now command.now client.old client.new result }
     {
         let mark = client.mark();

@@ -7,7 +7,7 @@ ghost use Rattle.moc_shared.specs.Private.Rule.{noted_parts, IsOne};
 ghost use Rattle.moc_shared.specs.Private.Seats.{IsCarried, content, shared, IsProper, IsOwn, IsOfTable};
 ghost use Rattle.moc_shared.specs.Private.Seats.{PartNote, notes_below};
 ghost use Rattle.moc_shared.specs.Private.Seats as seats;
-ghost use Rattle.moc_shared.specs.Private.Answering.{Answers};
+ghost use Rattle.moc_shared.specs.Private.Answering.{AnswersRightly};
 ghost use Rattle.moc_shared.specs.Private.Plays.{TookPart, with_part, with_miss, with_holds, behind_first};
 ghost use Rattle.moc_shared.specs.Private.Slots.{EndsBatch, replies_to};
 ghost use Rattle.moc_shared.specs.Batches.{batch_answer};
@@ -96,7 +96,7 @@ pub(crate) fn end_call<C: Closing>(
         × (C.notes ≡ notes_below rest.now 12) }
     requires held { (noted_parts seat.old.me.0.holds ≡ part ∷ noted_parts (notes_below rest.now 12))
         × ¬ Contains (noted_parts (notes_below rest.now 12)) part }
-    requires answered { Answers seats.part batch_answer IsProper batch.now (replies_to found.now batch.now)
+    requires answered { AnswersRightly seats.part batch_answer IsProper batch.now (replies_to found.now batch.now)
         seat.old.me.0.holds (note part (shared new) ∷ notes_below rest.now 12) }
     ensures same { (seat.new.table_id ≡ seat.old.table_id) × (seat.new.id ≡ seat.old.id) }
     ensures carried { IsCarried seat.new.me }
@@ -124,8 +124,8 @@ pub(crate) fn end_single<C: Closing>(
     requires carried { IsCarried seat.old.me }
     requires call { (C.call ≡ call_by seat.old.me.0.mine.number (command.now ∷ []) (reply.now ∷ [])) × (C.notes ≡ []) }
     requires held { noted_parts seat.old.me.0.holds ≡ part ∷ [] }
-    requires answered { Answers seats.part batch_answer IsProper (command.now ∷ []) (reply.now ∷ []) seat.old.me.0.holds
-        (note part (shared new) ∷ []) }
+    requires answered { AnswersRightly seats.part batch_answer IsProper (command.now ∷ []) (reply.now ∷ [])
+        seat.old.me.0.holds (note part (shared new) ∷ []) }
     ensures same { (seat.new.table_id ≡ seat.old.table_id) × (seat.new.id ≡ seat.old.id) }
     ensures idle { seat.new.me.1 ≡ [] }
     ensures ended { EndsBatch (command.now ∷ []) (reply.now ∷ []) [] seat.old.me.0 seat.new.me.0 }

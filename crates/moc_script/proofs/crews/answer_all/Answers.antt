@@ -8,7 +8,7 @@ use Rattle.moc_shared.specs.declared.errors.CloseError.{CloseError}
 use Rattle.moc_shared.specs.declared.errors.CloseError.TheVariants.{Midway}
 use Rattle.moc_script.specs.Crews.{said_lines, IsCrewText}
 use Rattle.moc_script.specs.Private.Gathering.{HasLanes, NamesLine}
-use Rattle.moc_script.specs.Private.Joining.{IsJoined, IsTold}
+use Rattle.moc_script.specs.Private.Joining.{IsJoined, AreTold}
 use Rattle.moc_script.proofs.Crewing.{crew_of_lanes, stands_for_all, as_answers}
 use Rattle.moc_script.proofs.Gathered.{first_named, handed_on}
 use Rattle.moc_script.proofs.crews.answer_all.Goals as goal
@@ -48,7 +48,7 @@ returns-clause-told g c =
     let lanes : HasLanes n n input answers client = c.in_ok-client.ensures.lanes in
     let wide : length answers ≡ n = c.in_ok-client.ensures.wide in
     let start : start_of map ≡ set.empty = c.in-Ok.ensures.begins.0 ∙ c.empty-start.ensures in
-    subst (λ (m : ℕ). IsTold m said answers c.in_ok-cover.cover.items) c.get-lanes.ensures.number (record {
+    subst (λ (m : ℕ). AreTold m said answers c.in_ok-cover.cover.items) c.get-lanes.ensures.number (record {
       wide = wide;
       for_lines = as_answers n input answers client lanes;
       text = λ front all. subst (λ (l : List ℕ). IsCrewText n said (front ++ l)) (sym c.in_ok-cover.ensures)

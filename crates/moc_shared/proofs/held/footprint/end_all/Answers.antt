@@ -3,7 +3,7 @@ use Rattle.moc_shared.specs.History.{call_by}
 use Rattle.moc_shared.specs.Private.Rule.{noted_parts}
 use Rattle.moc_shared.specs.Seats.{Pointer, Sight}
 use Rattle.moc_shared.specs.Private.Seats.{PartNote, part, IsProper, at_place, notes_below}
-use Rattle.moc_shared.specs.Private.Answering.{Answers}
+use Rattle.moc_shared.specs.Private.Answering.{AnswersRightly}
 use Rattle.moc_shared.specs.Private.Slots.{replies_to}
 use Rattle.moc_shared.specs.Batches.{batch_answer}
 use Rattle.moc_shared.proofs.Places.{top_note, none_from, apart_top, place_set_same}
@@ -37,7 +37,7 @@ end_call-requires-clause-answered c =
     let top =
     top_note c.args.edited.now c.take_at.new.slots c.in-Some.part c.in-Some-take_at.pointer h.0 wide h.2
     (sym c.take_at.ensures.0 ∙ c.in-Some-take_at.is) c.take_at.ensures.1 in
-    subst (λ (z : List PartNote × List PartNote). Answers part batch_answer IsProper c.args.batch.now
+    subst (λ (z : List PartNote × List PartNote). AnswersRightly part batch_answer IsProper c.args.batch.now
     (replies_to c.args.found.now c.args.batch.now) z.0 z.1) (λ i. (sym c.requires.held.held i, top i))
     c.requires.edited.answers
 

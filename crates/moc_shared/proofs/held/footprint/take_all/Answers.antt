@@ -5,7 +5,7 @@ use Rattle.moc_parts.specs.Lemmas.{IsNext, all_ahead, next_ahead, none_ahead}
 use Rattle.moc_shared.specs.Seats.{table_place, note, Pointer, Sight}
 use Rattle.moc_shared.specs.Private.Rule.{noted_parts}
 use Rattle.moc_shared.specs.Private.Seats.{PartNote, notes_below}
-use Rattle.moc_shared.specs.Private.Slots.{IsRefused}
+use Rattle.moc_shared.specs.Private.Slots.{RefusesTaking}
 use Rattle.moc_shared.proofs.Owned.{own_set}
 use Rattle.moc_shared.proofs.Places.{start_parts, took_part, passed_parts, passed_so_far, touched_so_far, still_beyond}
 use Rattle.moc_shared.proofs.Places.{not_below, noted_touched, holds_upto, refused_view, known_through}
@@ -62,7 +62,7 @@ returns-in-Err-clause-err c =
     known_through init c.loop-part.seat.me.0 (notes_below found b) c.in-Err.holder view c.in-Err.ensures.err.1
     c.in-Err.ensures.err.2 in
     let so_far = passed_so_far cs found inv.next b inv.so_far inv.beyond to.between in
-    let refused : IsRefused cs b c.in-Err.holder init c.give_all.new.seat.me.0 = (
+    let refused : RefusesTaking cs b c.in-Err.holder init c.give_all.new.seat.me.0 = (
       notes_below found b,
       refused_view init c.loop-part.seat.me.0 c.take_slot.new.seat.me.0 c.give_all.new.seat.me.0 found b
           c.in-Err.holder view c.in-Err.ensures.err.0 (λ i. (c.give_all.ensures.gave i).0),

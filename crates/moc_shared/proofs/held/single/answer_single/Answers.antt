@@ -4,7 +4,7 @@ use Rattle.moc_shared.specs.Seats.{table_place, note}
 use Rattle.moc_shared.specs.Private.Rule.{noted_parts}
 use Rattle.moc_shared.specs.Private.Seats.{PartNote, part, IsProper}
 use Rattle.moc_shared.specs.Batches.{batch_answer}
-use Rattle.moc_shared.specs.Private.Answering.{Answers}
+use Rattle.moc_shared.specs.Private.Answering.{AnswersRightly}
 use Rattle.moc_shared.specs.Private.Plays.{with_holds, behind_first}
 use Rattle.moc_shared.proofs.Basics.{none_in}
 use Rattle.moc_shared.proofs.Carried.{none_carried}
@@ -18,7 +18,7 @@ end_single-requires-clause-held c = ap (λ (l : List PartNote). noted_parts l) c
 pub end_single-requires-clause-answered : goal.end_single-requires-clause-answered
 end_single-requires-clause-answered c =
     let local = local_batch (c.args.command.now ∷ []) c.batches_are_local.ensures (omega arith) (c.requires.single.proper, tt) in
-    subst (λ (l : List PartNote). Answers part batch_answer IsProper (c.args.command.now ∷ []) (c.in-Ok.reply ∷ []) l
+    subst (λ (l : List PartNote). AnswersRightly part batch_answer IsProper (c.args.command.now ∷ []) (c.in-Ok.reply ∷ []) l
     (note c.args.part (Some (arc_value c.answer_in.new.pointer)) ∷ [])) (sym c.requires.held.held)
     (answers_alone c.args.command.now c.args.part c.requires.single.met (arc_value c.args.pointer)
     (arc_value c.answer_in.new.pointer) c.in-Ok.reply local c.in-Ok.ensures.set c.in-Ok.ensures.reply)
