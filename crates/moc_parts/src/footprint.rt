@@ -60,6 +60,5 @@ pub(crate) fn parts_around(cell: Cell, alloc: Global) -> PartSet
 fn part_of_cell(cell: Cell) -> Part
     ensures { result ≡ face_of cell.order cell.index }
 {
-    let (face, _, _) = cell.face_xy();
-    Part::of(face)
+    Part::of(cell.base_pixel())
 }

@@ -14,7 +14,7 @@ use Rattle.moc_program.specs.declared.action.Action.{Action}
 use Rattle.moc_program.specs.declared.status.ProgramFault.{ProgramFault}
 use Rattle.moc_program.specs.declared.status.ProgramFault.TheVariants.{Input, Lines, Write, Memory}
 
--- a mistake in the words: neither help nor want of memory
+-- a mistake in the words: neither help nor the version nor want of memory
 pub record IsMistake (kind : ErrorKind) : Type 0 where
   pub words : kind ≢ OutOfMemory
   pub help : kind ≢ DisplayHelp

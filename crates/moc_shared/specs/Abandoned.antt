@@ -11,14 +11,18 @@ pub use Rattle.moc_shared.specs.Private.Seats.{IsKept}
 abbrev pub HasView : List Sight → ℕ → Sight → Type 0
 HasView views seat v = get_elem? views seat ≡ some v
 
--- Of a part that a view notes as held the word has the mark of the view's client, and its slot is out, in each table
--- that keeps the rule. No step, join or split of other seats changes the view, and only who has a seat can step with
--- it. So the parts of a holding that is abandoned stay held.
+-- in the table a client holds a part: the part's word has the client's mark, and its slot is out
+abbrev pub IsHeldIn : Table → ℕ → ℕ → Type 0
+IsHeldIn table c b =
+    (slice_index table.words (table_place b) ≡ suc c) × (get_elem? table.homes (table_place b) ≡ some none)
+
+-- A part that a view notes as held is held by the view's client in each table that keeps the rule. No step, join or
+-- split of other seats changes the view, and only who has a seat can step with it. So the parts of a holding that is
+-- abandoned stay held.
 pub record AbandonedPartsStayHeld : Type 0 where
   pub marked : (start : NumberSet) (clients : ℕ) (table : Table) (seat : ℕ) (v : Sight) (b : ℕ) (y : Option NumberSet)
       → IsKept start clients table → HasView table.views seat v → Contains v.holds (note b y)
-      → (slice_index table.words (table_place b) ≡ suc v.mine.number)
-      × (get_elem? table.homes (table_place b) ≡ some none)
+      → IsHeldIn table v.mine.number b
   pub steps : (table : Table) (seat other : ℕ) (v w : Sight) (word number : ℕ) (carried : List (ℕ × Option Pointer))
       (act : Act (Option Pointer)) → HasView table.views seat v → ¬ (seat ≡ other)
       → HasView (stepped table word number other carried w act).views seat v

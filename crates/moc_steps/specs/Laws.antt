@@ -31,7 +31,7 @@ module _ {Op Reply : Type 0} (o : Object Op Reply) where
     pub inside : (b p : ℕ) → set.contains (part_at o (led_to start steps) b) p ≡ true → base_pixel p ≡ b
     -- as many clients are midway as operations
     pub counted : map.len (led_to start steps).locks.clients ≡ midway steps
-    -- where none is midway the parts together are that set
+    -- where none is midway the parts together are the set after the operations, done one by one in the order
     pub together : midway steps ≡ 0
         → whole o (led_to start steps) ≡ set_by_order o (led_to start steps).order steps start
 

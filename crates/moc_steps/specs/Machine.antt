@@ -42,7 +42,7 @@ pub record Running (Op : Type 0) : Type 0 where
 abbrev pub Clients : Type 0 → Type 0
 Clients Op = map.FinMap nat_cmp (Running Op)
 
--- the state of the lock machine
+-- what the step machine knows of clients and parts, without the sets
 pub record Locks (Op : Type 0) : Type 0 where
   -- how many operations have begun
   pub begun : ℕ
@@ -181,7 +181,7 @@ pub record Entry (Reply : Type 0) : Type 0 where
   pub client : ℕ
   pub reply : Option Reply
 
--- the state of the parts machine
+-- the state of the step machine
 pub record World (Op Reply : Type 0) : Type 0 where
   pub locks : Locks Op
   -- the twelve sets
