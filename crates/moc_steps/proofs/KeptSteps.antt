@@ -11,7 +11,7 @@ use Rattle.moc_ranges.specs.Operations.{part_of}
 use Rattle.moc_parts.specs.Objects.{IsLocal, base_pixel}
 use Rattle.moc_parts.specs.Batches.{batches, set_after_all, footprint_of_all}
 use Rattle.moc_parts.specs.declared.command.Command.{Command}
-use Rattle.moc_parts.specs.Prepared.{kept as kept_part}
+use Rattle.moc_parts.specs.Prepared.{part_if as kept_part}
 use Rattle.moc_steps.specs.Machine as machine
 use Rattle.moc_steps.specs.Machine.{Running, Locks, begins, holds, holds_now, holder, is_any}
 use Rattle.moc_steps.specs.Machine.{refusal, has_taken, next_part, unless_idle, take_refusal, edit_refusal}

@@ -6,7 +6,7 @@ use Rattle.std.specs.FinSet as set
 use Rattle.moc_lists.specs.RangeList.{NumberSet}
 use Rattle.moc_parts.specs.Batches.{batches, footprint_of_all, set_after_all, replies_on}
 use Rattle.moc_parts.specs.Parts.{union_of, LieInParts}
-use Rattle.moc_parts.specs.Prepared.{found_in, kept}
+use Rattle.moc_parts.specs.Prepared.{found_in, part_if}
 use Rattle.moc_parts.specs.declared.command.Command.{Command}
 use Rattle.moc_parts.specs.declared.reply.Reply.{Reply}
 use Rattle.moc_steps.specs.Machine.{Running, footprint_parts, is_any, is_in}
@@ -30,7 +30,7 @@ notes found = map_list found_in found
 -- what a batch makes of a set: its replies, and its content of the footprint's parts
 pub record IsMadeOf (cs : List Command) (found : NumberSet) (m : Making) : Type 0 where
   pub replied : m.replies ≡ replies_on found cs
-  pub parts : (b : ℕ) → b < 12 → get_or m.lists b None ≡ kept (footprint_of_all cs b) (set_after_all found cs) b
+  pub parts : (b : ℕ) → b < 12 → get_or m.lists b None ≡ part_if (footprint_of_all cs b) (set_after_all found cs) b
 
 -- the same, from what was found in each part
 abbrev pub IsMadeFrom : List Command → List NumberSet → Making → Type 0
