@@ -14,10 +14,8 @@ use crate::sitter::Sitter;
 use crate::texts::fill_text;
 use moc_lines::{ReadError, answer_text, read_batch};
 use moc_ranges::Memory;
+use moc_shared::MOST_CLIENTS;
 use std::alloc::Global;
-
-/// The most clients of a map.
-const MOST_CLIENTS: u8 = 64;
 
 /// So many clients, where a map may have them.
 fn count_of(clients: u8) -> Result<u8, CallFault>

@@ -1,6 +1,8 @@
 //! How many threads a crew has.
 ghost use Rattle.std.specs.Prelude.{◌≡◌, ◌<◌, ◌≤◌, ◌↔◌, IfSome, IsSome};
 
+use moc_shared::MOST_CLIENTS;
+
 /// A number of lanes: 1 to 64.
 #[derive(Clone, Copy, Debug, PartialEq, Eq)]
 pub struct Lanes {
@@ -15,7 +17,7 @@ impl Lanes {
         ensures number { IfSome result (λ lanes. lanes.number ≡ number) }
         ensures accepted { IsSome result ↔ ((0 < number) × (number ≤ 64)) }
     {
-        if number == 0 || number > 64 {
+        if number == 0 || number > MOST_CLIENTS {
             return None;
         }
         Some(Lanes { number })
