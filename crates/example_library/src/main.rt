@@ -43,7 +43,8 @@ fn family(rt: &HostRuntime) -> Result<()> {
         cell.order().nside(),
         cell.base_pixel()
     )?;
-    if let Some([first, second, _, _]) = cell.children() {
+    if let Some(children) = cell.children() {
+        let [first, second, _, _] = children;
         let both = Coverage::from_cells(alloc, &[first, second])?;
         println!(rt;
             "{first} {second}: order {}, ranges {}",
