@@ -4,7 +4,7 @@ use moc_conversion::{
     draw_input, tell_fault,
 };
 use moc_devices::{OverReader, OverWriter};
-use moc_forms::{Change, Choice, Form, FormError, Operation};
+use moc_forms::{Change, Choice, Form, Operation};
 use moc_sphere::Order;
 use std::alloc::Global;
 use std::process::Abort;
@@ -152,7 +152,4 @@ fn an_input_too_long(rt: HostRuntime) {
         &mut OverReader::new(text.as_slice()),
     );
     assert!(rt; matches!(&read, Err(complaint) if complaint.fault == InputFault::TooLong));
-    assert!(rt;
-        !matches!(&read, Err(complaint) if complaint.fault == InputFault::Form(FormError::Memory))
-    );
 }

@@ -81,7 +81,7 @@ fn start<'s, E, R: Wait + Sync, G: Gate + Sync>(
         ArePromised job.entry.map.now job.entry.lanes job.entry.input.now handles.items) }
     ensures line { IfErr result (λ e. NamesLine job.entry.input.now e) }
 {
-    // The threads' closures take references: what is proved of one that takes a record does not name its fields.
+    // The threads' closures take the references of the job: those that took the job itself were not proved.
     let Job { map, input, lanes } = job;
     let Ok(mut handles) = Vec::with_capacity(alloc, usize::from(lanes)) else {
         return Err(LanesError::Memory { line: 0 });
