@@ -1,4 +1,5 @@
-"""Numbers of HEALPix cells, by healpy's and cdshealpix's names. A call over an array lets other threads run."""
+"""Numbers of HEALPix cells, by healpy's and cdshealpix's names. A call over an array lets other threads run, and takes a fixed number of
+steps for each number; one that is passed an nside refuses another number as `nside2order` does."""
 from __future__ import annotations
 
 import operator

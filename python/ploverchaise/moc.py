@@ -58,7 +58,7 @@ class MOC:
 
     @classmethod
     def new_empty(cls, max_depth: int = 29) -> MOC:
-        """The set without pixels. (mocpy keeps the order with it; here it is looked at alone.)"""
+        """The set without pixels. (mocpy keeps the order with it; here it is looked at alone.) MocError NoSuchOrder above 29."""
         order_byte(max_depth)
         return cls()
 
@@ -72,7 +72,8 @@ class MOC:
         """What a text says, in the form `ascii`, `json` or `uniq`, a list of NUNIQ numbers, one a line.
 
         MocError at its first fault: BadByte, NoOrder, OrderTooLarge, CellTooLarge, Backwards, Unfinished with a byte; NotJson, NotObject
-        with no place, BadOrder, NotArray with a name, NotWhole, CellTooLarge with a name and an item; BadByte, NotUniq with a line."""
+        with no place, BadOrder, NotArray with a name, NotWhole, CellTooLarge with a name and an item; BadByte, NotUniq with a line.
+        ValueError for another form."""
         if format not in _READERS:
             raise ValueError(f"a form is one of {', '.join(_READERS)}, not {format}")
         return cls._made(_READERS[format], value.encode() if isinstance(value, str) else bytes(memoryview(value)))
@@ -92,7 +93,9 @@ class MOC:
 
     @classmethod
     def from_depth29_ranges(cls, max_depth: int, ranges: Iterable[tuple[int, int]] | numpy.ndarray) -> MOC:
-        """As `from_ranges`, and then all of each cell of the order `max_depth` that it has a pixel of; 29 leaves it as it is."""
+        """As `from_ranges`, and then all of each cell of the order `max_depth` that it has a pixel of; 29 leaves it as it is.
+
+        MocError as of `from_ranges`, and NoSuchOrder."""
         order_byte(max_depth)
         made = cls.from_ranges(ranges)
         return made if max_depth == 29 else made.degrade_to_order(max_depth)
@@ -101,7 +104,8 @@ class MOC:
     def from_healpix_cells(cls, ipix: Numbers, depth: int | Numbers, max_depth: int = 29) -> MOC:
         """The pixels of cells by their nested numbers, of one order `depth` or each of its own; then as `from_depth29_ranges`.
 
-        MocError NoSuchOrder; NoSuchCell with the place of the first number that is no cell, of those of the least order that has one."""
+        MocError NoSuchOrder; NoSuchCell with the place of the first number that is no cell, of those of the least order that has one.
+        ValueError where there are not as many orders as cells."""
         order_byte(max_depth)
         if hasattr(depth, "__iter__"):
             made = cls._of_orders(numbers_of(ipix), numbers_of(depth))
@@ -139,7 +143,7 @@ class MOC:
         return made
 
     def union(self, *others: MOC) -> MOC:
-        """The pixels that any has."""
+        """The pixels that any has. As the three behind it: a pass over the ranges of each; TypeError for what is no MOC."""
         return self._joined("union", *others)
 
     def intersection(self, *others: MOC) -> MOC:
@@ -223,7 +227,8 @@ class MOC:
 
     def contains(self, pixels: Numbers):
         """Whether it has each of these pixels of order 29, a bool for each; a number that is no pixel it has not. Rising pixels are looked
-        up fastest; those of an array of more than 1,000 that are in no sequence are brought into one, where the set is large."""
+        up fastest; those of an array of more than 1,000 that are in no sequence are brought into one, where the set is large. O(log n) a
+        pixel for n ranges, and less where they rise; TypeError for what is no whole number."""
         given = numbers_of(pixels)
         found = given.room("B")
         if self.range_count() > _FEW_RANGES and given.is_scattered():
@@ -305,7 +310,7 @@ class MOC:
         """Its text in the form `ascii`, `json` or `uniq`, without a line feed at its end.
 
         max_order: the order that ASCII and JSON state, as MOC 2.0 asks where a set was made of deeper cells than it needs; a set does
-            not keep it. MocError NoSuchOrder, or TooCoarse where the set has a deeper cell."""
+            not keep it. MocError NoSuchOrder, or TooCoarse where the set has a deeper cell; ValueError for another form."""
         if format == "uniq":
             text = text_of("write_uniq", self._key)
         elif format in _READERS:
@@ -315,7 +320,8 @@ class MOC:
         return text.removesuffix("\n")
 
     def serialize(self, format: str = "json") -> dict[str, list[int]] | str:
-        """A dict with a list of cells for each order (`json`), or the text in ASCII (`str`). (mocpy's `fits` is not here.)"""
+        """A dict with a list of cells for each order (`json`), or the text in ASCII (`str`). (mocpy's `fits` is not here.) ValueError for
+        another form."""
         if format not in ("json", "str"):
             raise ValueError(f"a form is one of json, str, not {format}")
         return json.loads(self.to_string("json")) if format == "json" else self.to_string()

@@ -79,7 +79,7 @@ class SharedMap:
     """A set of pixels that threads change and query at the same time, each by a client of its own, without a lock round it.
 
     start: the set that it begins with; the one without pixels, where there is none.
-    clients: how many clients `client` gives, 1 to 63.
+    clients: how many clients `client` gives, 1 to 63; else ValueError.
 
     What a client sees is one history, which begins with all that it had seen: each line is done as a whole, and each answer is that of the
     one set after the lines before. A client that nobody has any more is gone, and `client` gives no other for it. In the forked child of a

@@ -1,8 +1,8 @@
 //! What is told of texts. Expected lines are worked out by hand from the texts.
 use crate::shown::is_shown;
 use moc_forms::{
-    Change, Choice, Figures, Form, FormError, FormNameError, Operation, Refusal, Said, check,
-    describe, draw, draw_two, examine, hint, hint_line, is_blank, place_line, quote,
+    Change, Choice, Figures, Form, FormError, FormNameError, Operation, Place, Refusal, Said,
+    check, describe, draw, draw_two, examine, hint, hint_line, is_blank, place_line, quote,
 };
 use moc_sphere::Order;
 use moc_text::{JsonError, TextError, UniqError, WriteError};
@@ -46,6 +46,19 @@ fn places_in_ascii(rt: HostRuntime) {
         ("1/0\n5-", "byte 6, line 2, byte 2 of it"),
     ] {
         is_placed(&rt, rt.alloc(), Form::Ascii, text, place);
+    }
+}
+
+/// The end of a text is a place, too.
+#[test]
+fn places_of_bytes(rt: HostRuntime) {
+    let text = b"1/0\n5-".as_slice();
+    for (at, told) in [
+        (3, "byte 3, line 1, byte 3 of it"),
+        (4, "byte 4, line 2, byte 0 of it"),
+        (6, "byte 6, line 2, byte 2 of it"),
+    ] {
+        is_shown(&rt, rt.alloc(), &Place::of_byte(text, at), told);
     }
 }
 

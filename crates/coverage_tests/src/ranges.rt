@@ -163,6 +163,24 @@ fn no_part_of_the_sky(rt: HostRuntime) {
 }
 
 #[test]
+fn base_pixels_one_by_one(rt: HostRuntime) {
+    let pairs = [
+        (288230376151711743, 288230376151711745),
+        (864691128455135232, 864691128455135233),
+    ];
+    let set = set_of(&rt, rt.alloc(), &pairs);
+    for (from, found) in [
+        (0u8, Some(0u8)),
+        (1, Some(1)),
+        (2, Some(3)),
+        (4, None),
+        (12, None),
+    ] {
+        assert_eq!(rt; set.next_base_pixel(from), found);
+    }
+}
+
+#[test]
 fn a_set_of_a_coarser_order(rt: HostRuntime) {
     let wide = set_of(&rt, rt.alloc(), &[(3, 4)])
         .degrade(rt.alloc(), Order::of(28))

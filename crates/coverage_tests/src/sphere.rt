@@ -283,6 +283,18 @@ fn orders_and_their_nsides(rt: HostRuntime) {
 }
 
 #[test]
+fn cells_and_pixels_of_orders(rt: HostRuntime) {
+    for (order, cells, pixels) in [
+        (0u8, 12u64, 288230376151711744u64),
+        (3, 768, 4503599627370496),
+        (29, 3458764513820540928, 1),
+    ] {
+        let order = order_of(&rt, order);
+        assert_eq!(rt; (order.cell_count(), order.cell_size()), (cells, pixels));
+    }
+}
+
+#[test]
 fn numbers_that_are_of_no_order(rt: HostRuntime) {
     for nside in [0u64, 3, 12, 536870911, 1073741824, 18446744073709551615] {
         assert!(rt; Order::from_nside(nside) == Err(OrderError::NotNside));

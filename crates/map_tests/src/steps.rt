@@ -59,6 +59,7 @@ fn give(client: u32, b: u8) -> Step
 
 /// Takes a step that is permitted and gives no reply.
 fn go(rt: &impl Abort, world: &mut World, step: Step) {
+    assert!(rt; world.permits(&step).is_ok());
     let reply = world.step(step).expect(rt, "permitted");
     assert!(rt; reply.is_none());
 }
@@ -71,6 +72,7 @@ fn end(rt: &impl Abort, world: &mut World, client: u32) -> Option<u64> {
 
 /// Checks the refusal of a step.
 fn is_refused(rt: &impl Abort, world: &mut World, step: Step, why: StepError) {
+    assert_eq!(rt; world.permits(&step).err(), Some(why));
     assert_eq!(rt; world.step(step).err(), Some(why));
 }
 

@@ -124,7 +124,9 @@ bool moc_open(moc_desk *out);
 /* Ends a desk with all that lies on it; nothing where it is zeroed. */
 void moc_close(moc_desk desk);
 
-/* ---- Making sets. Each answers a new key as `first`; keys are 0, 1, 2 and so on, and no key is given twice. */
+/* ---- Making sets. Each answers a new key as `first`; keys are 0, 1, 2 and so on, and no key is given twice. Look at `code` before `first`
+   is used as a key: of a fault it is a place. MOC_MEMORY where no memory is left. n cells or ranges take O(n log n), or O(n) where they
+   rise; an operation is linear in the ranges of its sets. */
 
 /* The set without pixels. */
 moc_outcome moc_empty(moc_desk *desk);
@@ -149,15 +151,16 @@ moc_outcome moc_union(moc_desk *desk, uint64_t a, uint64_t b);
 moc_outcome moc_intersection(moc_desk *desk, uint64_t a, uint64_t b);
 moc_outcome moc_difference(moc_desk *desk, uint64_t a, uint64_t b);
 moc_outcome moc_symmetric(moc_desk *desk, uint64_t a, uint64_t b);
-/* The pixels of the sky that the set lacks. */
+/* The pixels of the sky that the set lacks. MOC_NO_SUCH_SET. */
 moc_outcome moc_complement(moc_desk *desk, uint64_t a);
 /* All pixels of each cell of an order that the set has a pixel of. MOC_NO_SUCH_SET, and else MOC_NO_SUCH_ORDER. */
 moc_outcome moc_degrade(moc_desk *desk, uint64_t a, uint8_t order);
 
-/* Frees the set at a key, which is never given again. */
+/* Frees the set at a key, which is never given again. MOC_NO_SUCH_SET. */
 moc_outcome moc_free(moc_desk *desk, uint64_t a);
 
-/* ---- Asking of sets. Each answers as `first`, and takes no memory; yes is 1, and no is 0. */
+/* ---- Asking of sets. Each answers as `first`, and takes no memory; yes is 1, and no is 0. MOC_NO_SUCH_SET for the first key without a
+   set. A pixel is looked up in time logarithmic in the ranges of the set; all else takes a pass over the ranges at most. */
 
 /* How many pixels of order 29 a set has; and how many two have in common. */
 moc_outcome moc_count(moc_desk *desk, uint64_t a);
@@ -175,7 +178,7 @@ moc_outcome moc_meets(moc_desk *desk, uint64_t a, uint64_t b);
 moc_outcome moc_covers(moc_desk *desk, uint64_t a, uint64_t b);
 moc_outcome moc_same(moc_desk *desk, uint64_t a, uint64_t b);
 
-/* ---- Sets to arrays. */
+/* ---- Sets to arrays. MOC_NO_SUCH_SET. Linear in what is written; for pixels, O(log n) for each and n ranges, and less where they rise. */
 
 /* For each pixel of order 29 whether the set has it, 1 or 0, at its place in `out`. It takes no memory.
    MOC_LENGTHS_DIFFER where `length` is not `count`. */
@@ -187,7 +190,8 @@ moc_outcome moc_ranges(moc_desk *desk, uint64_t a, moc_range *out, size_t length
 moc_outcome moc_cells(moc_desk *desk, uint64_t a, uint64_t *out, size_t length);
 
 /* ---- Sets to texts. Each makes a text, which the desk keeps until it makes the next one, and answers its length as `first`; then
-   `moc_text` copies it. Texts have no 0 at their end. Where the call is refused, the text of before is kept. */
+   `moc_text` copies it. Texts have no 0 at their end. Where the call is refused, the text of before is kept. MOC_MEMORY where no memory
+   is left. A pass over the ranges for each order that has cells, and linear in the text. */
 
 /* The set in a text form, ended by a line feed; a list has one behind each number. `stated` is the order that is to be stated, as MOC 2.0
    asks where a set was made of deeper cells than it needs, or MOC_NONE. MOC_NO_SUCH_SET, then MOC_NO_SUCH_ORDER, then MOC_TOO_COARSE. */
@@ -197,14 +201,15 @@ moc_outcome moc_write_uniq(moc_desk *desk, uint64_t a);
 /* The figures of the set, a line each, as the program `moc describe` tells them: `deepest` is the deepest order that its text named, or
    MOC_NONE. MOC_NO_SUCH_SET, then MOC_NO_SUCH_ORDER. */
 moc_outcome moc_describe(moc_desk *desk, uint64_t a, uint8_t deepest);
-/* A picture of the set, as SVG, as the program `moc draw` makes it. */
+/* A picture of the set, as SVG, as the program `moc draw` makes it. MOC_NO_SUCH_SET. */
 moc_outcome moc_draw(moc_desk *desk, uint64_t a);
 /* Copies the text that the desk keeps, or nothing before the first one, to the front of `out`; `first` is its length.
    MOC_NO_ROOM, with nothing written, where `length` is less. */
 moc_outcome moc_text(moc_desk *desk, uint8_t *out, size_t length);
 
-/* ---- Numbers of cells, as whole arrays: what is told of a number stands at its place. They need no desk and take no memory.
-   MOC_NO_SUCH_ORDER, then MOC_LENGTHS_DIFFER, then MOC_NO_SUCH_CELL or MOC_NOT_UNIQ; what is told then has no meaning. */
+/* ---- Numbers of cells, as whole arrays: what is told of a number stands at its place. They need no desk and take no memory, and a fixed
+   number of steps for each number. MOC_NO_SUCH_ORDER, then MOC_LENGTHS_DIFFER, then MOC_NO_SUCH_CELL or MOC_NOT_UNIQ; what is told then has
+   no meaning. */
 
 /* Ring numbers of nested numbers, and back. */
 moc_outcome moc_nest_to_ring(uint8_t order, const uint64_t *cells, size_t count, uint64_t *out, size_t length);

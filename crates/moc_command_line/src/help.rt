@@ -94,8 +94,8 @@ impl Topic {
 
 /// What `moc run --help` says below the usage.
 const SCRIPT: &str = "\
-The script is read from standard input, a command a line, on one coverage that
-starts empty:
+The script is read from standard input, a command a line, on one map, a coverage
+that starts empty:
   add MOC     adds the coverage, and answers how many pixels it added
   remove MOC  removes the coverage, and answers how many pixels it removed
   keep MOC    removes all but the coverage, and answers how many it removed
@@ -118,8 +118,8 @@ prints
 
 /// What `moc play --help` says below the usage.
 const SCHEDULE: &str = "\
-The schedule is read from standard input, a step a line, on one coverage that
-starts empty:
+The schedule is read from standard input, a step a line, on one map, a
+coverage that starts empty:
   begin C BATCH  client C begins a batch of commands, written as in `moc run`
   take C         takes the next part that its batch looks at or changes (parts
                  are the base pixels, 0 to 11, rising)

@@ -86,7 +86,7 @@ impl Combination {
         Ok(self.operation.join(alloc, before, said)?)
     }
 
-    /// EndsCombination the text, and begins the next.
+    /// Ends the text, and begins the next.
     fn end_text(&mut self, alloc: Global) -> Result<(), Complaint>
         requires { IsOpen self.old }
         ensures device { IfErr result (λ c. c.fault ≢ InputFault.Read) }
@@ -170,8 +170,9 @@ fn read_texts<R: Source>(
 /// the place in it.
 ///
 /// Reads the input to its end; refused with `Read` where that fails, with `TooLong` where a text has more than
-/// 16,777,216 bytes, with the first fault of a text, or with `FormError::Memory`. Time is linear in the input, memory
-/// in the longest text, in the sets so far and in what is made of them.
+/// 16,777,216 bytes, with the first fault of a text, or with `FormError::Memory`. Time as the readers of the texts
+/// take, and for each text one operation on the set so far; memory in the longest text, in the sets so far and in what
+/// is made of them. Wants an input of which no call has failed.
 pub fn combine_input<R: Source>(
     alloc: Global,
     operation: Operation,

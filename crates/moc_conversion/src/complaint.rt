@@ -26,7 +26,7 @@ pub struct Complaint {
 
 impl Complaint {
     /// Tells the fault, behind it where it is, and which form the text looks like. Refused where the writer fails; what
-    /// was told before that stays.
+    /// was told before that stays. Linear in the text that is written, takes no memory.
     pub fn tell<E: Sink>(&self, faults: &mut E) -> Result<(), DeviceFault>
         ensures told { OnOk result (E.mark faults.old ≡ false →
             Appends (E.written faults.old) (E.written faults.new) (complaint_text self.now)) }

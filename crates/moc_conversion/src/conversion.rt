@@ -16,8 +16,9 @@ use std::alloc::Global;
 /// the complaint is of the fault alone.
 ///
 /// Reads the input to its end; refused with `Read` where that fails, with `TooLong` above 16,777,216 bytes, with the
-/// first fault of the text, or with `FormError::Memory`. Time and memory are linear in the input and in what is made of
-/// it.
+/// first fault of the text, or with `FormError::Memory`. Time as the form's reader and the other's writer take, O(n log
+/// n) for n cells, or O(n) where they rise; memory linear in the input and in what is made of it. Wants an input of
+/// which no call has failed.
 pub fn convert_input<R: Source>(
     alloc: Global,
     from: Form,
@@ -37,8 +38,8 @@ pub fn convert_input<R: Source>(
 /// The figures of the coverage that the input has.
 ///
 /// Reads the input to its end; refused with `Read` where that fails, with `TooLong` above 16,777,216 bytes, with the
-/// first fault of the text, or with `FormError::Memory`. Time and memory are linear in the input and in what is made of
-/// it.
+/// first fault of the text, or with `FormError::Memory`. Time as the form's reader and `describe` take; memory linear
+/// in the input and in what is made of it. Wants an input of which no call has failed.
 pub fn describe_input<R: Source>(
     alloc: Global,
     choice: Choice,
@@ -57,8 +58,8 @@ pub fn describe_input<R: Source>(
 /// stated of it.
 ///
 /// Reads the input to its end; refused with `Read` where that fails, with `TooLong` above 16,777,216 bytes, with the
-/// first fault of the text, or with `FormError::Memory`. Time and memory are linear in the input and in what is made of
-/// it.
+/// first fault of the text, or with `FormError::Memory`. Time as the form's reader and writer take, and a pass over the
+/// ranges; memory linear in the input and in what is made of it. Wants an input of which no call has failed.
 pub fn change_input<R: Source>(
     alloc: Global,
     change: Change,
@@ -79,8 +80,8 @@ pub fn change_input<R: Source>(
 /// Whether the input is a coverage; else its first fault and, in words, where it is.
 ///
 /// Reads the input to its end; refused with `Read` where that fails, with `TooLong` above 16,777,216 bytes, with the
-/// first fault of the text, or with `FormError::Memory`. Time and memory are linear in the input and in what is made of
-/// it.
+/// first fault of the text, or with `FormError::Memory`. Time as `check` takes; memory linear in the input. Wants an
+/// input of which no call has failed.
 pub fn check_input<R: Source>(alloc: Global, choice: Choice, input: &mut R) -> Result<(), Complaint>
     requires { R.mark input.old ≡ false }
     ensures read { IsErrAnd result (λ c. c.fault ≡ InputFault.Read) ↔ IsTrue (R.mark input.new) }

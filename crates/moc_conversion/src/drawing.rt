@@ -16,8 +16,8 @@ use std::alloc::Global;
 /// The picture of the coverage that the input has, or of the two that its first semicolon parts.
 ///
 /// Reads the input to its end; refused with `Read` where that fails, with `TooLong` above 16,777,216 bytes, with the
-/// first fault of the text, or with `FormError::Memory`. Time and memory are linear in the input and in what is made of
-/// it.
+/// first fault of the text, or with `FormError::Memory`. Time as the form's reader and `draw` take; memory linear in
+/// the input and in what is made of it. Wants an input of which no call has failed.
 pub fn draw_input<R: Source>(
     alloc: Global,
     choice: Choice,

@@ -40,7 +40,7 @@ impl InputFault {
 }
 
 /// Tells a fault by its name, `fault NAME` and a line feed. Refused where the writer fails; what was told before that
-/// stays.
+/// stays. Linear in the name, takes no memory.
 pub fn tell_fault<E: Sink>(name: &str, faults: &mut E) -> Result<(), DeviceFault>
     ensures told { OnOk result (Appends (E.written faults.old) (E.written faults.new) (told_fault name.now)) }
     ensures marks { E.mark faults.old ≡ false → E.mark faults.new ≡ is_err result }

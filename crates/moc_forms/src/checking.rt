@@ -55,7 +55,8 @@ impl Refusal {
 /// its place.
 ///
 /// One pass over the bytes, as reading takes; at a fault of an ASCII text another over the bytes before it, and at one
-/// of a JSON text a second parse. Memory follows the set, and of a JSON text the text.
+/// of a JSON text a second parse. Memory follows the set, and of a JSON text the text. Refused with a `Refusal`: the
+/// first fault of the text with its place, or `FormError::Memory` without one.
 pub fn examine(alloc: Global, form: Form, text: &[u8]) -> Result<(Coverage, Option<Order>), Refusal>
     ensures says { IfOk result (λ r. FormSays form text.now r.0 r.1) }
     ensures fault { IfErr result (λ r. FormFails form text.now r.error) }
@@ -68,7 +69,7 @@ pub fn examine(alloc: Global, form: Form, text: &[u8]) -> Result<(Coverage, Opti
 }
 
 /// Tells whether a text is a coverage in a form, and else its first fault with its place; as `examine`, which gives the
-/// set besides.
+/// set besides. Refused as `examine`, and as dear.
 pub fn check(alloc: Global, form: Form, text: &[u8]) -> Result<(), Refusal>
     ensures says { OnOk result ((a : NumberSet) × (k : Option ℕ) × FormSays form text.now a k) }
     ensures fault { IfErr result (λ r. FormFails form text.now r.error) }

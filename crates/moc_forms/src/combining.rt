@@ -76,7 +76,8 @@ pub struct Said {
 }
 
 impl Operation {
-    /// What the operation makes of two sets. One pass, O(n); refused where memory runs out.
+    /// What the operation makes of two sets. O(n + m) for n and m ranges, as the call of `Coverage`; refused where
+    /// memory runs out.
     pub fn of(self, alloc: Global, first: &Coverage, second: &Coverage) -> Result<Coverage, Memory>
         ensures set { IfOk result (λ c. c ≡ combined self first.now second.now) }
     {

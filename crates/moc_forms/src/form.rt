@@ -184,7 +184,8 @@ impl fmt::Display for Form {
 impl Form {
     /// Reads a text: the set, and the deepest order that the text names. A NUNIQ list names none.
     ///
-    /// One pass over the bytes. Refused with the first fault of the text, as the form's error, or with `Memory`.
+    /// Time and memory as `read_ascii`, `read_json` or `read_uniq` take. Refused with the first fault of the text, as
+    /// the form's error, or with `Memory`.
     pub fn read(self, alloc: Global, text: &[u8]) -> Result<(Coverage, Option<Order>), FormError>
         ensures says { IfOk result (λ r. FormSays self text.now r.0 r.1) }
         ensures fault { IfErr result (λ e. FormFails self text.now e) }

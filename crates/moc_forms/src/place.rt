@@ -84,6 +84,7 @@ impl fmt::Display for Place {
 
 /// The line that says where a fault is: the number of the text, where texts are counted, the place in it, if there is
 /// one, and what stands there, if it is quoted; `None` where there is nothing to say. Refused where memory runs out.
+/// Linear in the text that is made.
 pub fn place_line(
     alloc: Global,
     number: Option<u64>,

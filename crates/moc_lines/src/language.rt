@@ -28,7 +28,7 @@ pub fn read_batch(alloc: Global, line: &[u8]) -> Result<Batch, ReadError>
     read_parted(alloc, line, first_semicolon(line))
 }
 
-/// What a line says, as [`read_batch`] reads it; for one command no list is made.
+/// What a line says, as [`read_batch`] reads it; for one command no list is made. Refused as that is, and as dear.
 pub fn read_commands(alloc: Global, line: &[u8]) -> Result<Commands, ReadError>
     ensures { ReadsText commands_in result (batch_of command_of line.now) }
 {

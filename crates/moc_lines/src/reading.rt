@@ -128,8 +128,8 @@ fn behind_last(chunk: &[u8]) -> usize
 /// Reads all lines, into one buffer, as they stand.
 ///
 /// Refused where the reader fails, at a line of more bytes than [`LINE_LIMIT`](crate::LINE_LIMIT), and where memory
-/// runs out. Of what is read at a time only the first and the last line feed are looked for. Takes memory linear in the
-/// bytes.
+/// runs out. Of what is read at a time only the first and the last line feed are looked for. Takes time and memory
+/// linear in the bytes. Wants a reader of which no call has failed.
 pub fn read_all<R: Source>(alloc: Global, reader: &mut R) -> Result<Vec<u8>, InputError>
     requires reader { R.mark reader.old ≡ false }
     ensures all { IfOk result (λ input. ReadsAll (R.left reader.old) (R.left reader.new) input.items) }

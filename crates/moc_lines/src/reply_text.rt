@@ -49,7 +49,7 @@ fn push_reply(alloc: Global, reply: &Reply, text: &mut Vec<u8>) -> Result<(), Me
     Ok(())
 }
 
-/// Adds a word and a number in base ten. Refused where memory runs out.
+/// Adds a word and a number in base ten. Refused where memory runs out. Linear in the text that is added.
 pub fn push_count(word: &[u8], count: u64, text: &mut Vec<u8>) -> Result<(), Memory>
     ensures { OnOk result (text.new.items ≡ text.old.items ++ (word.now ++ decimal count)) }
 {

@@ -12,7 +12,8 @@ fn is_line_blank(byte: u8) -> bool
     matches!(byte, b' ' | b'\t' | b'\r')
 }
 
-/// Whether a text is nothing, or blanks alone: spaces, tabs and CRs. Takes no memory.
+/// Whether a text is nothing, or blanks alone: spaces, tabs and CRs. Takes no memory. Linear in the blanks at its
+/// front.
 pub fn is_blank_text(text: &[u8]) -> bool
     ensures { result ≡ is_blank_text text.now }
 {
@@ -59,7 +60,7 @@ pub fn split_word(text: &[u8]) -> (&[u8], &[u8])
     front.split_at(bytes_before_blank(front))
 }
 
-/// Whether a word is this one, by which the commands and the steps are told apart. Takes no memory.
+/// Whether a word is this one, by which the commands and the steps are told apart. Takes no memory. Linear in the word.
 pub fn is_word(word: &[u8], this: &str) -> bool
     ensures { result ≡ bytes_eq word.now this.now }
 {
@@ -70,7 +71,7 @@ pub fn is_word(word: &[u8], this: &str) -> bool
 pub(crate) const SAFE_DIGITS: usize = 19;
 
 /// The number that a field spells in base ten, or `u64::MAX` where it is larger; `None` where it spells none. Takes no
-/// memory.
+/// memory. Linear in the word.
 pub fn number_in(field: &[u8]) -> Option<u64>
     ensures { result ≡ option_map (λ n. min n (2 ^ 64 - 1)) (number_spelled field.now) }
 {

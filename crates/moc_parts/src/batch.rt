@@ -73,7 +73,7 @@ impl Eq for Batch {
 
 impl Batch {
     /// The commands as a batch, if they are 1 to 16; else they are given up, refused with `EmptyCommand` for none and
-    /// `TooManyCommands` above 16. Takes no memory.
+    /// `TooManyCommands` above 16. Takes no memory. A step for each command.
     pub fn new(commands: Vec<Command>) -> Result<Batch, BatchError>
         ensures made { IfOk result (λ b. b ≡ commands.items) }
         ensures accepted { OnOk result ((0 < length commands.items) × (length commands.items ≤ MOST_COMMANDS)) }
@@ -90,7 +90,7 @@ impl Batch {
         }
     }
 
-    /// The batch of one command. Refused where memory runs out; the command is then given up.
+    /// The batch of one command. Refused where memory runs out; the command is then given up. O(1).
     pub fn one(alloc: Global, command: Command) -> Result<Batch, Memory>
         ensures { IfOk result (λ b. b ≡ command ∷ []) }
     {
@@ -108,7 +108,7 @@ impl Batch {
         Batch { commands }
     }
 
-    /// The commands, in order. Takes no memory.
+    /// The commands, in order. Takes no memory. A step for each command.
     pub fn commands(&self) -> &[Command]
         ensures commands { result.now ≡ self.now }
         ensures some { 0 < length self.now }
@@ -121,14 +121,15 @@ impl Batch {
         &self.commands
     }
 
-    /// Whether some command may change the set. Takes no memory.
+    /// Whether some command may change the set. Takes no memory. A step for each command.
     pub fn is_update(&self) -> bool
         ensures { result ≡ list_any is_update self.now }
     {
         self.commands.iter().any(|command| command.is_update())
     }
 
-    /// The parts that any of the commands looks at and changes. Takes no memory.
+    /// The parts that any of the commands looks at and changes. Takes no memory. O(log n) for each command, for n
+    /// ranges of its operand.
     pub fn footprint(&self, alloc: Global) -> PartSet
         ensures parts { (b : ℕ) → b < 12 → set.contains result b ≡ footprint_of_all self.now b }
 

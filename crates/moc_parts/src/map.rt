@@ -49,7 +49,7 @@ impl Map {
         Ok(Map { parts })
     }
 
-    /// The pixels of one part. Takes no memory.
+    /// The pixels of one part. Takes no memory. O(1).
     pub fn part(&self, part: Part) -> &Coverage
         ensures part { result.now ≡ part_of self.now part }
 
@@ -131,7 +131,7 @@ impl Map {
     /// Does one command, and replies to it: as `apply` does the batch of it, without a batch. An `add` or a `count`
     /// whose operand lies in one part, and is not degraded, looks at the list of that part alone.
     ///
-    /// Refused where memory runs out; the map then is as it was.
+    /// Refused where memory runs out; the map then is as it was. Costs what `apply` does.
     pub fn answer(&mut self, alloc: Global, command: &Command) -> Result<Reply, Memory>
         ensures set { OnOk result (self.new ≡ set_after self.old command.now) }
         ensures reply { IfOk result (λ r. r ≡ reply_on self.old command.now) }

@@ -7,7 +7,7 @@ ghost use Rattle.moc_parts.specs.Parts.{rising_parts};
 
 use std::marker::Model;
 
-/// One of the twelve parts of a map, by its base pixel, 0 to 11.
+/// One of the twelve parts of a map, by its base pixel, 0 to 11. Each call of it takes a step, and none takes memory.
 #[derive(Clone, Copy, Debug, PartialEq, Eq, PartialOrd, Ord, Hash)]
 pub struct Part {
     number: u8,

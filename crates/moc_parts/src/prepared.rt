@@ -43,7 +43,7 @@ impl Prepared {
         &self.replies
     }
 
-    /// The new list of a part: `None` where there is none, and where it was taken before. Takes no memory.
+    /// The new list of a part: `None` where there is none, and where it was taken before. Takes no memory. O(1).
     pub fn take(&mut self, part: Part) -> Option<Coverage>
         ensures taken { result ≡ get_or self.old.lists part None }
         ensures left { self.new.lists ≡ set_at self.old.lists part None }
@@ -52,7 +52,8 @@ impl Prepared {
         self.lists.take(part)
     }
 
-    /// The replies alone; the lists that were not taken are given up. Takes no memory.
+    /// The replies alone; the lists that were not taken are given up. Takes no memory. Linear in the lists that are
+    /// given up.
     pub fn into_reply(self) -> Replies
         ensures { result ≡ self.replies }
     {
@@ -63,7 +64,8 @@ impl Prepared {
 /// The new lists of the parts in the footprint of a batch, and its replies, from the lists that were found there.
 ///
 /// The parts of the footprint are given, each in its own base pixel. What is given outside of the footprint has no say
-/// in it, and is handed on as it was found. Lists that do not change are copied. Refused where memory runs out.
+/// in it, and is handed on as it was found. Lists that do not change are copied. Refused where memory runs out. One
+/// pass over a list for each command that changes it.
 pub fn prepare(
     alloc: Global,
     batch: &Batch,
@@ -82,7 +84,7 @@ pub fn prepare(
 }
 
 /// As `prepare`, but without a list for a part that no command of the batch changes, so that no list is copied. Refused
-/// where memory runs out.
+/// where memory runs out. As many passes as `prepare`.
 pub fn prepare_changes(
     alloc: Global,
     batch: &Batch,
@@ -100,7 +102,7 @@ pub fn prepare_changes(
 
 /// The replies to a batch that is no update, from the lists that were found in its footprint, as `prepare` has them.
 ///
-/// Copies no list. Refused where memory runs out.
+/// Copies no list. Refused where memory runs out. Linear in what the queries look at.
 pub fn reply_of(
     alloc: Global,
     batch: &Batch,

@@ -145,7 +145,7 @@ impl Replies {
         self.replies.first()
     }
 
-    /// The only reply, for a caller that knows there to be one. Takes no memory.
+    /// The only reply, for a caller that knows there to be one. Takes no memory. O(1).
     pub fn into_only(self) -> Reply
         requires { length self ≡ 1 }
         ensures { self ≡ result ∷ [] }

@@ -57,10 +57,11 @@ impl CoverageBuilder {
         }
     }
 
-    /// Adds the cells of an order from the first to the last, both included; none where the last is
-    /// before the first. They cost as much as one of `add_cell`.
+    /// Adds the cells of an order from the first to the last, both included; none where the last is before the first.
+    /// They cost as much as one of `add_cell`.
     ///
-    /// Where memory runs out, what was gathered is as it was.
+    /// Wants `last` below `order.cell_count()`. Refused with `Memory` where memory runs out; what was gathered is then
+    /// as it was.
     pub fn add_cells(&mut self, order: Order, first: u64, last: u64) -> Result<(), Memory>
         requires { last < cell_count order }
         ensures added { OnOk result (self.new ≡ set.union self.old (spans order first last)) }
@@ -74,7 +75,7 @@ impl CoverageBuilder {
     }
 
     /// Adds one cell: O(1) on average where it does not begin before the last that rose, else O(log n) on average.
-    /// Where memory runs out, what was gathered is as it was.
+    /// Refused with `Memory` where memory runs out; what was gathered is then as it was.
     pub fn add_cell(&mut self, cell: Cell) -> Result<(), Memory>
         ensures added { OnOk result (self.new ≡ set.union self.old (span cell.order cell.index)) }
         ensures kept { OnErr result (self.new ≡ self.old) }

@@ -84,7 +84,7 @@ impl Coverage {
 
     /// The same as `contains`, and counts each comparison of the pixel with the bounds of a range or a chunk: at most
     /// the binary digits of the number of chunks, and 8. Not counted is how a chunk is found by its number, by
-    /// comparisons of numbers of chunks. O((log n)²), takes no memory.
+    /// comparisons of numbers of chunks. O((log n)²), takes no memory. Wants `steps` to have counted fewer than 2^63.
     pub fn contains_counting(&self, pixel: u64, steps: &mut Steps) -> bool
         requires { steps.old < 9223372036854775808 }
         ensures found { result ≡ set.contains self.now pixel }
@@ -93,8 +93,8 @@ impl Coverage {
         self.list.contains_counting(pixel, steps)
     }
 
-    /// The ranges of the set as it keeps them, in chunks of 1 to 128, of which two side by side have
-    /// together more than 128. One after the other they are what `ranges` gives. Takes no memory.
+    /// The ranges of the set as it keeps them, in chunks of 1 to 128, of which two side by side have together more than
+    /// 128. One after the other they are what `ranges` gives. Takes no memory. O(1) to begin, O(n) to the end.
     pub fn chunks(&self) -> Chunks<'_>
         ensures normal { IsNormal (joining result) }
         ensures set { set_of (joining result) ≡ self.now }
@@ -111,8 +111,8 @@ impl Coverage {
         self.ranges().next().is_none()
     }
 
-    /// The ranges of the set, rising, none empty, and none touching the next: the one normal list
-    /// of this set. Takes no memory.
+    /// The ranges of the set, rising, none empty, and none touching the next: the one normal list of this set. Takes no
+    /// memory. O(1) to begin, O(n) to the end.
     pub fn ranges(&self) -> Ranges<'_>
         ensures normal { IsNormal result }
         ensures set { set_of result ≡ self.now }
@@ -216,7 +216,7 @@ impl Coverage {
         }
     }
 
-    /// The set of all pixels of the sky; refused where memory runs out.
+    /// The set of all pixels of the sky; refused where memory runs out. O(1).
     pub fn full(alloc: Global) -> Result<Coverage, Memory>
         ensures { IfOk result (λ c. c ≡ pixels) }
     {

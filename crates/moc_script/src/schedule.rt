@@ -31,7 +31,8 @@ use std::alloc::Global;
 ///
 /// Faults end the call as those of `run` do; what is written then is exactly the answers to the lines before. The two
 /// last lines are made before either is written: where memory is refused for them, `Memory` names the line behind the
-/// last.
+/// last. A step takes O(log n) for n clients midway, besides the batch's own work at its first `edit`; memory is linear
+/// in the sets, the clients midway, the committed batches, and the longest line and answer.
 pub fn play<R: Source, W: Sink>(
     alloc: Global,
     reader: &mut R,

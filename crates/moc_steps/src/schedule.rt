@@ -57,7 +57,7 @@ fn start_of(alloc: Global, start: &Coverage) -> Result<World, Memory>
 /// memory.
 ///
 /// It is a step of the client that holds the highest part that is held; where no part is held, of the first client
-/// midway.
+/// midway. At most twelve steps, and O(log n) for n clients midway.
 pub fn next_step(world: &World) -> Option<Step>
     ensures some { IfSome result (λ s.
         (refusal batches world.now.locks (step_of s) ≡ None) × (is_progress (step_of s) ≡ true)) }
@@ -68,8 +68,8 @@ pub fn next_step(world: &World) -> Option<Step>
 
 /// Takes the steps that `next_step` names until no client is midway, and answers how many.
 ///
-/// They are at most three for each part of the footprints of the clients that were midway, and one for each. Where
-/// memory runs out the world is where the steps so far left it. Linear in the steps, besides their own work.
+/// They are at most three for each part of the footprints of the clients that were midway, and one for each. Refused
+/// with `Memory` alone; the world is then where the steps so far left it. Linear in the steps, besides their own work.
 pub fn drain(world: &mut World) -> Result<u64, Memory>
     ensures drained { IfOk result (λ n. LeadsOn world.old n world.new) }
     ensures ended { OnOk result (map.len world.new.locks.clients ≡ 0) }

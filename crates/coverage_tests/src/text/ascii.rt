@@ -1,6 +1,6 @@
 use super::{Q0, Q1, Q2, every_second, repeated, says};
 use moc_sphere::Order;
-use moc_text::{TextError, WriteError, read_ascii, write_ascii};
+use moc_text::{TextError, WriteError, is_separator, read_ascii, write_ascii};
 use std::alloc::Global;
 use std::process::Abort;
 
@@ -39,6 +39,16 @@ fn is_rewritten(rt: &impl Abort, alloc: Global, text: &str, stated: Option<u8>, 
     let (set, _) = read_ascii(alloc, text.as_bytes()).expect(rt, "a set");
     let written = write_ascii(alloc, &set, stated.and_then(Order::new)).expect(rt, "a text");
     assert_eq!(rt; written.as_str(), wanted);
+}
+
+#[test]
+fn separators(rt: HostRuntime) {
+    for byte in [b' ', b',', b'\t', b'\r', b'\n'] {
+        assert!(rt; is_separator(byte));
+    }
+    for byte in [b'/', b'-', b';', b'\x0b', b'0'] {
+        assert!(rt; !is_separator(byte));
+    }
 }
 
 #[test]

@@ -1,6 +1,8 @@
 use super::{Q1, Q2, every_second, repeated, says};
 use moc_sphere::Order;
-use moc_text::{JsonError, JsonPlace, WriteError, read_json, write_json};
+use moc_text::{
+    JsonError, JsonPlace, WriteError, json_site, json_syntax_error, read_json, write_json,
+};
 use std::alloc::Global;
 use std::process::Abort;
 
@@ -54,6 +56,45 @@ fn is_rewritten(rt: &impl Abort, alloc: Global, text: &str, wanted: &str) {
     let (set, deepest) = read_json(alloc, text.as_bytes()).expect(rt, "a set");
     let written = write_json(alloc, &set, deepest).expect(rt, "a text");
     assert_eq!(rt; written.as_str(), wanted);
+}
+
+/// Checks what stands at a place of a text whose names are 1, 10 and 2 in byte order.
+fn has_site(
+    rt: &impl Abort,
+    alloc: Global,
+    place: Option<JsonPlace>,
+    order: Option<u8>,
+    text: Option<&str>,
+) {
+    let place = place.expect(rt, "a place");
+    let json = b"{\"1\":[],\"10\":[5],\"2\":[0,192]}".as_slice();
+    let site = json_site(alloc, json, place).expect(rt, "JSON");
+    assert_eq!(rt; site.order, order.and_then(Order::new));
+    assert_eq!(rt; site.text.as_deref(), text);
+}
+
+#[test]
+fn sites_of_faults(rt: HostRuntime) {
+    let alloc = rt.alloc();
+    has_site(&rt, alloc, name(1), Some(10), Some("10"));
+    has_site(&rt, alloc, name(3), None, None);
+    let item = Some(JsonPlace {
+        name: 2,
+        item: Some(1),
+    });
+    has_site(&rt, alloc, item, Some(2), Some("192"));
+}
+
+/// Where the grammar breaks is where `serde_json` stops.
+#[test]
+fn texts_that_are_no_json(rt: HostRuntime) {
+    for (text, at) in [
+        ("{\"1\":[0,]}", Some((1, 9))),
+        ("{\n\"1\":[0", Some((2, 6))),
+        ("{\"1\":[99]}", None),
+    ] {
+        assert_eq!(rt; json_syntax_error(rt.alloc(), text.as_bytes()), at);
+    }
 }
 
 #[test]

@@ -16,7 +16,7 @@ use moc_sphere::{Cell, Order};
 use std::alloc::Global;
 
 impl Coverage {
-    /// The pixels of order 29 in one cell; refused where memory runs out.
+    /// The pixels of order 29 in one cell; refused where memory runs out. O(1).
     pub fn from_cell(alloc: Global, cell: Cell) -> Result<Coverage, Memory>
         ensures { IfOk result (λ c. c ≡ span cell.order cell.index) }
     {

@@ -16,7 +16,8 @@ impl Coverage {
     /// range touches no other and the block is not full. Else the block is made anew, and the pointers to the others of
     /// its node are copied where another set shares the node, or the block is cut in two; where it is cut, also a step
     /// for each node behind. As a union where the range touches more than one block, or no block can take it by the
-    /// rules of lengths. Refused where memory runs out; the set then is as it was.
+    /// rules of lengths. Refused where memory runs out; the set then is as it was. Wants `to` at or below
+    /// `PIXEL_COUNT`; where it is not above `from` nothing is added.
     pub fn insert_range(&mut self, alloc: Global, from: u64, to: u64) -> Result<u64, Memory>
         requires within { to ≤ pixel_count }
         ensures set { OnOk result (self.new ≡ set.union self.old (numbers from to)) }

@@ -51,7 +51,7 @@ impl SharedMap {
     }
 
     /// As `try_apply`, waiting at each part that is held. It never gives back a part to wait for another. Refused with
-    /// `Memory` alone. May wait without a bound.
+    /// `Memory` alone. May wait without a bound. Costs what `try_apply` does, besides the waiting.
     pub fn apply<R: Wait>(
         &self,
         rt: &R,
@@ -109,8 +109,8 @@ impl SharedMap {
         }
     }
 
-    /// Takes all parts of the batch, or hands it back with the client; `Busy` is as in `try_apply`. Waits for nobody,
-    /// takes no memory. A step for each part.
+    /// Takes all parts of the batch. Refused where one is held by another client, with the client, the batch and `Busy`
+    /// as in `try_apply`; nothing is held then. Waits for nobody, takes no memory. A step for each part.
     pub fn hold(&self, client: Client, batch: Batch) -> Result<Holding, (Client, Batch, Busy)>
         requires map { IsClientOf self.now client }
         ensures held { IfOk result (λ h. IsHoldingOf self.now h) }

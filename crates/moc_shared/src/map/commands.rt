@@ -17,7 +17,8 @@ impl SharedMap {
     ///
     /// An `add` whose operand lies in one part and is not degraded, and a `count` of one range there, make no batch:
     /// they take that part alone. One range goes into the part's list itself where nobody shares that, and into a copy
-    /// else; several are a union. The command is given up. Refused where memory runs out.
+    /// else; several are a union. The command is given up. Refused where memory runs out. May wait without a bound.
+    /// Costs what `Map::answer` of `moc_parts` does, and a compare-exchange for each part.
     pub fn answer<R: Wait>(
         &self,
         rt: &R,
