@@ -246,8 +246,7 @@ cost_few few nodes a old new is s some rises cost =
     record {
       blocks = few ∷ [];
       sized = (some, s.fits, tt, tt);
-      normal = subst IsNormal (alone ∙ sym (nothing_more few)) s.normal;
-      set = ap set_of (nothing_more few ∙ sym alone) ∙ is;
+      ranges = (subst IsNormal (alone ∙ sym (nothing_more few)) s.normal, ap set_of (nothing_more few ∙ sym alone) ∙ is);
       rises = rises;
       cost = λ digits lt. omega (arith, most);
     }

@@ -1,6 +1,6 @@
 -- A set that is kept in blocks of ranges.
 use Rattle.std.specs.Prelude.{◌≡◌, ℕ, ◌+◌, ◌<◌, ◌≤◌, ◌^◌, List, [], ◌∷◌, ◌++◌, length, ⊤}
-use Rattle.moc_blocks.specs.RangeList.{NumberSet, IsNormal, set_of}
+use Rattle.moc_blocks.specs.RangeList.{NumberSet, AreRangesOf}
 
 -- lists, one after the other
 abbrev pub joining : {X : Type 0} → List (List X) → List X
@@ -27,7 +27,6 @@ AreBlocks blocks = AreFilled 128 blocks
 pub record IsSearchOf (a : NumberSet) (old new : ℕ) : Type 0 where
   pub blocks : List (List (ℕ × ℕ))
   pub sized : AreBlocks blocks
-  pub normal : IsNormal (joining blocks)
-  pub set : set_of (joining blocks) ≡ a
+  pub ranges : AreRangesOf a (joining blocks)
   pub rises : old ≤ new
   pub cost : (digits : ℕ) → length blocks < 2 ^ digits → new ≤ old + digits + 8

@@ -1,5 +1,5 @@
 -- Sets of numbers, and lists of ranges (from, to), `to` not included, that keep them.
-use Rattle.std.specs.Prelude.{ℕ, ◌-◌, ◌<◌, ◌≤◌, List, [], ◌∷◌, ⊤}
+use Rattle.std.specs.Prelude.{◌≡◌, ℕ, ◌-◌, ◌<◌, ◌≤◌, List, [], ◌∷◌, ⊤}
 use Rattle.std.specs.Ordering.{nat_cmp}
 use Rattle.std.specs.FinSet as set
 use Rattle.std.specs.List.{range_with_len}
@@ -30,3 +30,7 @@ BeginsAfter x (range ∷ ranges) = x < range.0
 abbrev pub IsNormal : List (ℕ × ℕ) → Type 0
 IsNormal [] = ⊤
 IsNormal (range ∷ ranges) = (range.0 < range.1) × (range.1 ≤ pixel_count) × BeginsAfter range.1 ranges × IsNormal ranges
+
+-- the ranges are the normal range list of the set
+abbrev pub AreRangesOf : NumberSet → List (ℕ × ℕ) → Type 0
+AreRangesOf a ranges = IsNormal ranges × (set_of ranges ≡ a)

@@ -5,7 +5,7 @@ use Rattle.std.specs.List.{range_with_len}
 use Rattle.std.specs.FinSet as set
 use Rattle.moc_sphere.specs.CellNumber.{CellNumber}
 use Rattle.moc_ranges.specs.Cells.{cells_of}
-use Rattle.moc_lists.specs.RangeList.{NumberSet, pixel_count, IsNormal, set_of}
+use Rattle.moc_lists.specs.RangeList.{NumberSet, pixel_count, AreRangesOf}
 use Rattle.moc_forms.specs.declared.figures.Figures.{Figures}
 
 -- the line of the deepest order that a text names
@@ -34,8 +34,7 @@ pub record AreFigures (a : NumberSet) (deepest : Option ℕ) (f : Figures) : Typ
   pub deepest_is : f.deepest ≡ deepest
   pub pixels_are : f.pixels ≡ set.len a
   pub ranges : List (ℕ × ℕ)
-  pub normal : IsNormal ranges
-  pub set_is : set_of ranges ≡ a
+  pub list_is : AreRangesOf a ranges
   pub ranges_are : f.ranges ≡ length ranges
   pub cells_are : f.cells ≡ length (cells_of a)
   pub orders_are : f.orders ≡ counts_of (cells_of a)

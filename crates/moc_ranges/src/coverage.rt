@@ -4,7 +4,7 @@ ghost use Rattle.std.specs.Prelude.{IfOk, IfErr, OnOk, None, unwrap_or};
 ghost use Rattle.moc_ranges.specs.Faults.{first_fault};
 ghost use Rattle.std.specs.Cmp.{partial_equiv_from_equiv};
 ghost use Rattle.std.specs.FinSet as set;
-ghost use Rattle.moc_blocks.specs.RangeList.{IsNormal, set_of, pixel_count, numbers};
+ghost use Rattle.moc_blocks.specs.RangeList.{IsNormal, AreRangesOf, set_of, pixel_count, numbers};
 ghost use Rattle.moc_ranges.specs.Operations.{meets, IsWithin, pixels};
 ghost use Rattle.moc_blocks.specs.Blocks.{joining, AreBlocks, IsSearchOf};
 ghost use Rattle.moc_ranges.specs.Private.Walks.{IsNextRange, HasNoneFrom};
@@ -170,7 +170,7 @@ impl Coverage {
 
     /// How many ranges the set has in its one normal list. O(1), takes no memory.
     pub fn range_count(&self) -> usize
-        ensures { (ranges : List (ℕ × ℕ)) × IsNormal ranges × (set_of ranges ≡ self.now) × (result ≡ length ranges) }
+        ensures { (ranges : List (ℕ × ℕ)) × AreRangesOf self.now ranges × (result ≡ length ranges) }
     {
         self.list.count()
     }

@@ -10,9 +10,8 @@ returns c =
       deepest_is = refl;
       pixels_are = c.count.ensures.size;
       ranges = c.range_count.ensures.0;
-      normal = c.range_count.ensures.1;
-      set_is = c.range_count.ensures.2;
-      ranges_are = c.range_count.ensures.3;
+      list_is = c.range_count.ensures.1;
+      ranges_are = c.range_count.ensures.2;
       cells_are = search rules;
       orders_are = c.counts.ensures ∙ ap counts_of cells;
     }
