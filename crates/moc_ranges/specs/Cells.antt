@@ -48,6 +48,6 @@ cells_of_range order range = map (cell_number order) (range_with_len range.0 (ra
 abbrev pub cells_in : ℕ → List (ℕ × ℕ) → List CellNumber
 cells_in order ranges = flat_map (cells_of_range order) ranges
 
--- the cells have orders from the first up to, not including, the one after the last
+-- the cells have orders from one up to, not including, another
 abbrev pub AreOfOrders : ℕ → ℕ → List CellNumber → Type 0
-AreOfOrders first last cells = AllByRecursion (λ c. (first ≤ c.order) × (c.order < last)) cells
+AreOfOrders from to cells = AllByRecursion (λ c. (from ≤ c.order) × (c.order < to)) cells
