@@ -78,7 +78,7 @@ impl<'a> Draft<'a> {
         ensures within { IsWithin self.now.set pixels }
     {
         let found = &self.found[..];
-        let found = found[usize::from(part.get())];
+        let found = found[part.index()];
         self.made.get(part).unwrap_or(found)
     }
 
@@ -203,7 +203,7 @@ impl<'a> Draft<'a> {
         let Draft { found, made } = self;
         let mut lists = made;
         for part in Part::ALL {
-            let b = usize::from(part.get());
+            let b = part.index();
             if given[b].is_none() {
                 lists.clear(part);
             } else if lists.get(part).is_none() {

@@ -56,7 +56,7 @@ impl Map {
         // What lets a caller put the map together from its parts.
         ensures within { IsWithin self.now pixels }
     {
-        &self.parts[usize::from(part.get())]
+        &self.parts[part.index()]
     }
 
     /// The pixels of all parts. A union for each part; refused where memory runs out.
@@ -116,7 +116,7 @@ impl Map {
         ensures added { IfOk result (λ n. n ≡ set.len (set.difference more.now self.old)) }
         ensures unchanged { OnErr result (self.new ≡ self.old) }
     {
-        let added = self.parts[usize::from(part.get())].insert_all(alloc, more)?;
+        let added = self.parts[part.index()].insert_all(alloc, more)?;
         Ok(added)
     }
 
@@ -180,7 +180,7 @@ fn put_all(parts: &mut [Coverage], mut made: Lists)
 {
     for part in Part::ALL {
         if let Some(list) = made.take(part) {
-            parts[usize::from(part.get())] = list;
+            parts[part.index()] = list;
         }
     }
 }

@@ -66,6 +66,14 @@ impl Part {
     {
         self.number
     }
+
+    /// The same number as a place in a row of twelve.
+    pub fn index(self) -> usize
+        ensures value { result ≡ self }
+        ensures in_range { result < 12 }
+    {
+        usize::from(self.number)
+    }
 }
 
 /// A set of parts.
@@ -121,7 +129,7 @@ impl PartSet {
     pub fn insert(&mut self, part: Part)
         ensures { self.new ≡ set.insert self.old part }
     {
-        self.flags[usize::from(part.number)] = true;
+        self.flags[part.index()] = true;
     }
 
     /// The parts of either set. O(1), takes no memory.
@@ -130,7 +138,7 @@ impl PartSet {
     {
         let mut parts = self;
         for part in Part::ALL {
-            if other.flags[usize::from(part.get())] {
+            if other.flags[part.index()] {
                 parts.insert(part);
             }
         }
@@ -155,7 +163,7 @@ impl PartSet {
     pub fn contains(self, part: Part) -> bool
         ensures { result ≡ set.contains self part }
     {
-        self.flags[usize::from(part.get())]
+        self.flags[part.index()]
     }
 }
 

@@ -20,10 +20,10 @@ use Rattle.moc_parts.specs.declared.command.Command.{Command}
 use Rattle.moc_parts.specs.declared.command.Command.TheVariants.{Near}
 use Rattle.moc_text.specs.declared.ascii.error.TextError.{TextError}
 use Rattle.moc_text.specs.Reading.{reading_of}
-use Rattle.moc_steps.specs.Machine.{Locks, ArePermitted, AreLocal, locks_after, refusal, World, run, world_after, whole}
+use Rattle.moc_steps.specs.Machine.{Locks, ArePermitted, AreLocal, locks_after, refusal, World, world_after_all, world_after, whole}
 use Rattle.moc_steps.specs.Machine.Step.{Begin, Take, Edit, Give, Quit, End}
 use Rattle.std.specs.Prelude.{fold}
-use Rattle.moc_steps.specs.Orders.{Fate, just_begun, with_open, noted, midway, Explains, set_by_order}
+use Rattle.moc_steps.specs.Orders.{Fate, just_begun, with_open, fates_after, midway, Explains, set_by_order}
 use Rattle.moc_steps.specs.Laws.{ArePlayed, HasOneOrder, StepsHaveOneOrder}
 use Rattle.moc_steps.specs.declared.error.StepError.{StepError}
 use Rattle.moc_parts.specs.declared.reply.Reply.{Reply}
@@ -230,7 +230,7 @@ length-mark : (c : ℕ) (f : Fate (List Command) → Fate (List Command)) (xs : 
 length-mark c f [] = refl
 length-mark c f (x ∷ xs) = ap suc (length-mark c f xs)
 
-begun_on : (begins : List ℕ) (line : ℕ) (xs : List (Fate (List Command))) (step : BatchStep) → length begins ≡ length xs → length (begins_after begins line step) ≡ length (noted xs step)
+begun_on : (begins : List ℕ) (line : ℕ) (xs : List (Fate (List Command))) (step : BatchStep) → length begins ≡ length xs → length (begins_after begins line step) ≡ length (fates_after xs step)
 begun_on begins line xs (Begin c op) same = omega (arith, same, length-append begins (line ∷ []), length-append xs (just_begun c op ∷ []))
 begun_on begins line xs (Take c) same = same
 begun_on begins line xs (Edit c b) same = same ∙ sym (length-mark c (λ x. record x { committed = true }) xs)
@@ -242,8 +242,8 @@ begun_on begins line xs (End c) same = same ∙ sym (length-mark c (λ x. record
 record TakesOn (s : Schedule) (steps : List BatchStep) (s' : Schedule) : Type 0 where
   pub local : AreLocal batches steps
   pub permitted : ArePermitted batches s.world.locks steps
-  pub leads : run batches s.world steps ≡ s'.world
-  pub begun : (xs : List (Fate (List Command))) → length s.begins ≡ length xs → length s'.begins ≡ length (fold noted xs steps)
+  pub leads : world_after_all batches s.world steps ≡ s'.world
+  pub begun : (xs : List (Fate (List Command))) → length s.begins ≡ length xs → length s'.begins ≡ length (fold fates_after xs steps)
 
 -- a line that was read and took no step
 passed : (s : Schedule) (rest : List BatchStep) (s' : Schedule) → TakesOn (next_line s) rest s' → TakesOn s rest s'
@@ -256,7 +256,7 @@ by_refusal s step None is alone rest s' h = record {
   local = local_on step rest alone h.local;
   permitted = (is, subst (λ (l : Locks (List Command)). ArePermitted batches l rest) (sym (same_locks s.world step)) h.permitted);
   leads = h.leads;
-  begun = λ xs same. h.begun (noted xs step) (begun_on s.begins (suc s.lines) xs step same);
+  begun = λ xs same. h.begun (fates_after xs step) (begun_on s.begins (suc s.lines) xs step same);
 }
 
 by_saying : (s : Schedule) (r : Result BatchStep StepFault) → IfOk r (λ step. AreLocal batches (step ∷ []))

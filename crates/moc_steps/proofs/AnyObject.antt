@@ -4,10 +4,11 @@ use Rattle.std.specs.Prelude.{fold}
 use Rattle.moc_lists.specs.RangeList.{NumberSet}
 use Rattle.moc_ranges.specs.Operations.{pixels, IsWithin}
 use Rattle.moc_parts.specs.Objects.{Object}
-use Rattle.moc_steps.specs.Machine.{Step, Running, AreLocal, ArePermitted, refusal, World, start_world, run, running}
+use Rattle.moc_steps.specs.Machine.{Step, Running, AreLocal, ArePermitted, refusal, World, start_world, world_after_all, client_at}
 use Rattle.moc_steps.specs.Machine.{world_after}
-use Rattle.moc_steps.specs.Orders.{operations, is_midway, noted, AreProgress, numbers_in, times}
+use Rattle.moc_steps.specs.Orders.{operations, fates_after, AreProgress, numbers_in, times}
 use Rattle.moc_steps.specs.Laws.{ArePlayed, HasOneOrder, CanGoOn, EndsWell, IsReached, RepliesByEntry, led_to}
+use Rattle.moc_steps.proofs.Cases.{is_midway}
 use Rattle.moc_steps.proofs.Sky.{covers_of}
 use Rattle.moc_steps.proofs.Headline.{explains, part_inside, together, at_end, run_keeps, run_grows, run_append}
 use Rattle.moc_steps.proofs.Headline.{operations_append, first_local, rest_local, locks_are, begins_explained}
@@ -31,12 +32,12 @@ module _ {Op Reply : Type 0} (o : Object Op Reply) where
   pub ends_explained : (start : NumberSet) (steps : List (Step Op)) → ArePlayed o start steps → (Z : NumberSet) × Explained o start (operations steps) (led_to o start steps) Z
   ends_explained start steps h = at_end o start steps (covers_of start h.within) h.permitted h.local
 
-  pub never_stuck : (start : NumberSet) (steps : List (Step Op)) → ArePlayed o start steps → (c : ℕ) (r : Running Op) → running o (led_to o start steps) c ≡ Some r → CanGoOn o (led_to o start steps)
+  pub never_stuck : (start : NumberSet) (steps : List (Step Op)) → ArePlayed o start steps → (c : ℕ) (r : Running Op) → client_at o (led_to o start steps) c ≡ Some r → CanGoOn o (led_to o start steps)
   never_stuck start steps h c r is =
       let e = ends_explained start steps h in
       progress.never_stuck o start (operations steps) (led_to o start steps) e.0 e.1 c r is
 
-  pub permitted_on : (w : World Op Reply) (front back : List (Step Op)) → ArePermitted o w.locks front → ArePermitted o (run o w front).locks back → ArePermitted o w.locks (front ++ back)
+  pub permitted_on : (w : World Op Reply) (front back : List (Step Op)) → ArePermitted o w.locks front → ArePermitted o (world_after_all o w front).locks back → ArePermitted o w.locks (front ++ back)
   permitted_on w [] back h k = k
   permitted_on w (step ∷ front) back h k =
       (h.0, subst (λ s. ArePermitted o s (front ++ back)) (sym (locks_are o w step)) (permitted_on (world_after o w step) front back (subst (λ s. ArePermitted o s front) (locks_are o w step) h.1) k))
@@ -54,14 +55,14 @@ module _ {Op Reply : Type 0} (o : Object Op Reply) where
       let all_local = local_on steps more h.local (progress_all_local o more progress) in
       let f = run_keeps o start more (operations steps) w e.0 e.1 k (progress_all_local o more progress) in
       let closed = run_closes o start (steps ++ more) [] (start_world o start) start (begins_explained o start covers) (λ n x g. absurd (cc (g))) all all_local in
-      let ops_are : operations (steps ++ more) ≡ fold noted (operations steps) more = operations_append o [] steps more in
-      let world_is : led_to o start (steps ++ more) ≡ run o w more = run_append o (start_world o start) steps more in
+      let ops_are : operations (steps ++ more) ≡ fold fates_after (operations steps) more = operations_append o [] steps more in
+      let world_is : led_to o start (steps ++ more) ≡ world_after_all o w more = run_append o (start_world o start) steps more in
       let grows = run_grows o w more in
       record {
         bounded = steps_bounded o start (operations steps) w e.0 e.1 more k progress;
         kept = (grows.0, ap (λ (v : World Op Reply). numbers_in v.order) world_is ∙ grows.1);
         added = λ none n. ap (λ (v : World Op Reply). times n (numbers_in v.order)) world_is
-            ∙ added o start more (operations steps) w (run o w more) e.0 f.0 e.1 f.1 (subst AreClosed ops_are closed) progress (ap (count_by is_midway) (sym ops_are) ∙ none) n;
+            ∙ added o start more (operations steps) w (world_after_all o w more) e.0 f.0 e.1 f.1 (subst AreClosed ops_are closed) progress (ap (count_by is_midway) (sym ops_are) ∙ none) n;
       }
 
   pub answered_by_entry : (start : NumberSet) (steps : List (Step Op)) (step : Step Op) → ArePlayed o start steps → refusal o (led_to o start steps).locks step ≡ None → RepliesByEntry o (led_to o start steps) step
@@ -92,7 +93,7 @@ module _ {Op Reply : Type 0} (o : Object Op Reply) where
   reached_explained w h = subst (λ u. (Z : NumberSet) × Explained o h.start (operations h.steps) u Z) h.leads (ends_explained h.start h.steps h.played)
 
   -- in a reached world somebody can go on where somebody is midway
-  pub reached_goes_on : (w : World Op Reply) → IsReached o w → (c : ℕ) (r : Running Op) → running o w c ≡ Some r → CanGoOn o w
+  pub reached_goes_on : (w : World Op Reply) → IsReached o w → (c : ℕ) (r : Running Op) → client_at o w c ≡ Some r → CanGoOn o w
   reached_goes_on w h c r is = let e = reached_explained w h in progress.never_stuck o h.start (operations h.steps) w e.0 e.1 c r is
 
   -- in a reached world what a permitted step replies is in its operation's entry

@@ -12,8 +12,9 @@ use Rattle.moc_parts.specs.declared.command.Command.{Command}
 use Rattle.moc_steps.specs.Machine.{Running, Clients, ArePermitted, refusal, twelve, world_after}
 use Rattle.moc_steps.specs.Machine as machine
 use Rattle.moc_steps.specs.Laws.{IsReached}
-use Rattle.moc_steps.specs.Orders.{operations, AreProgress, is_progress, steps_wanted, steps_left}
+use Rattle.moc_steps.specs.Orders.{operations, AreProgress, is_progress, steps_left}
 use Rattle.moc_steps.specs.Played.{BatchWorld, LeadsOn}
+use Rattle.moc_steps.proofs.Cases.{steps_wanted}
 use Rattle.moc_steps.proofs.Basics.{same_or, length-map}
 use Rattle.moc_steps.proofs.Kept.{AreSmall}
 use Rattle.std.proofs.lemmas.Bool.Decides.{nat_tests}
@@ -32,7 +33,7 @@ length_on [] x = omega arith
 length_on (y ∷ xs) x = let k : length (xs ++ x ∷ []) ≡ length xs + 1 = length_on xs x in omega arith
 
 -- steps that lead on from a reached world
-on : (old new : BatchWorld) (steps : List (machine.Step (List Command))) (n : ℕ) → IsReached batches old → length steps ≡ n → ArePermitted batches old.locks steps → AreProgress steps → machine.run batches old steps ≡ new → LeadsOn old n new
+on : (old new : BatchWorld) (steps : List (machine.Step (List Command))) (n : ℕ) → IsReached batches old → length steps ≡ n → ArePermitted batches old.locks steps → AreProgress steps → machine.world_after_all batches old steps ≡ new → LeadsOn old n new
 on old new steps n reached count permitted progress leads =
     let inv = reached_explained batches old reached in
     record {
@@ -78,7 +79,7 @@ count_twelve test =
 
 few : (x : Option (Running (List Command))) → steps_wanted batches x ≤ 37
 few None = omega arith
-few (Some r) = let k : count_by (batches.footprint r.command) twelve ≤ 12 = count_twelve (batches.footprint r.command) in omega arith
+few (Some r) = let k : count_by (batches.footprint r.operation) twelve ≤ 12 = count_twelve (batches.footprint r.operation) in omega arith
 
 left_short : (m : Clients (List Command)) → length (map.keys m) ≤ 2 ^ 32 → steps_left batches m < 2 ^ 64
 left_short m l =

@@ -9,14 +9,14 @@ use Rattle.moc_parts.specs.Batches.{batches, replies_on}
 use Rattle.moc_parts.specs.declared.command.Command.{Command}
 use Rattle.moc_parts.specs.declared.reply.Reply.{Reply}
 use Rattle.moc_steps.specs.Machine as machine
-use Rattle.moc_steps.specs.Machine.{Running, holds, holds_now, refusal, is_any, end_refusal, world_after}
-use Rattle.moc_steps.specs.Machine.{running, answered, completed, replied, reply_to}
+use Rattle.moc_steps.specs.Machine.{Running, holds, refusal, is_any, end_refusal, world_after}
+use Rattle.moc_steps.specs.Machine.{client_at, answer_on_found, with_reply, reply_to}
 use Rattle.moc_steps.specs.Orders.{numbers_in, times, is_committed}
 use Rattle.moc_steps.specs.Private.Standing.{Standing}
 use Rattle.moc_steps.specs.Played.{BatchWorld, entries_of}
-use Rattle.moc_steps.specs.Private.Worlds.{HasPlace, IsKept, world_of}
+use Rattle.moc_steps.specs.Private.Worlds.{HasPlace, IsWorld, world_of}
 use Rattle.moc_steps.specs.declared.step.Entry.{Entry}
-use Rattle.moc_steps.proofs.Cases.{ended_reply}
+use Rattle.moc_steps.proofs.Cases.{ended_reply, holds_now, completed}
 use Rattle.moc_steps.proofs.Basics.{clash, some_same, true_or_false, not_true_false, not_of_false, both, same_or}
 use Rattle.moc_steps.proofs.Basics.{count-append, get-remove_same, get-remove_other}
 use Rattle.moc_steps.proofs.Taking.{in_twelve, taken_footprint, took_one}
@@ -46,7 +46,7 @@ times_next : (x n : ℕ) (ns : List ℕ) → times n (x ∷ ns) ≡ one x n + ti
 times_next x n ns = let head : 0 + one x n ≡ one x n = omega arith in count-append (λ z. nat_eq z n) (x ∷ []) ns ∙ ap (λ k. k + times n ns) head
 
 -- where the name does not stand nothing is answered
-replied_none : (n : ℕ) (y : List Reply) (es : List Entry) → times n (numbers_in (entries_of es)) ≡ 0 → map_list (replied batches n y) (entries_of es) ≡ entries_of es
+replied_none : (n : ℕ) (y : List Reply) (es : List Entry) → times n (numbers_in (entries_of es)) ≡ 0 → map_list (with_reply batches n y) (entries_of es) ≡ entries_of es
 replied_none n y [] h = refl
 replied_none n y (e ∷ es) h =
     let whole : times n (numbers_in (entries_of (e ∷ es))) ≡ one e.begin n + times n (numbers_in (entries_of es)) = times_next e.begin n (numbers_in (entries_of es)) in
@@ -68,7 +68,7 @@ stands_once (x ∷ ns) (suc i) n h =
 
 -- the entry at the place of a name that stands once is the one that is answered
 pub replied_at : (n : ℕ) (y : List Reply) (es : List Entry) (i : ℕ) (e : Entry) → slice_get es i ≡ Some e → slice_get (numbers_in (entries_of es)) i ≡ Some n → times n (numbers_in (entries_of es)) ≡ 1
-    → entries_of (set_at es i (answers e y)) ≡ map_list (replied batches n y) (entries_of es)
+    → entries_of (set_at es i (answers e y)) ≡ map_list (with_reply batches n y) (entries_of es)
 replied_at n y [] i e is at once = absurd (cc)
 replied_at n y (x ∷ es) zero e is at once =
     let same : x ≡ e = some_same (Some x) x e refl is in
@@ -97,19 +97,19 @@ below_names (x ∷ es) (suc i) n h = let l = below_names es i n h in omega arith
 some_name : (place : Option ℕ) (i : ℕ) (ns : List ℕ) (n : ℕ) → place ≡ Some i → IfSome place (λ j. slice_get ns j ≡ Some n) → slice_get ns i ≡ Some n
 some_name place i ns n e h = subst (λ x. IfSome x (λ j. slice_get ns j ≡ Some n)) e h
 
-module _ (n : ℕ) (m : Table) (ps : List NumberSet) (hs : List (Option ℕ)) (es : List Entry) (kept : IsKept n m ps hs es) where
+module _ (n : ℕ) (m : Table) (ps : List NumberSet) (hs : List (Option ℕ)) (es : List Entry) (kept : IsWorld n m ps hs es) where
   same_names : (c : ℕ) (r : Running (List Command)) → numbers_in (completed batches (world_of n m ps es) c (Some r)) ≡ numbers_in (entries_of es)
   same_names c r =
-      let y : List Reply = (answered batches (world_of n m ps es) c r).1 in
-      elim (true_or_false r.quits) as (λ _. numbers_in (cond r.quits (entries_of es) (map_list (replied batches r.operation y) (entries_of es))) ≡ numbers_in (entries_of es)) [
-        | inl q ↦ ap (λ b. numbers_in (cond b (entries_of es) (map_list (replied batches r.operation y) (entries_of es)))) q
-        | inr q ↦ ap (λ b. numbers_in (cond b (entries_of es) (map_list (replied batches r.operation y) (entries_of es)))) q ∙ names_map (replied batches r.operation y) (λ e. replied_begin r.operation y e) (entries_of es)
+      let y : List Reply = (answer_on_found batches (world_of n m ps es) c r).1 in
+      elim (true_or_false r.quits) as (λ _. numbers_in (cond r.quits (entries_of es) (map_list (with_reply batches r.number y) (entries_of es))) ≡ numbers_in (entries_of es)) [
+        | inl q ↦ ap (λ b. numbers_in (cond b (entries_of es) (map_list (with_reply batches r.number y) (entries_of es)))) q
+        | inr q ↦ ap (λ b. numbers_in (cond b (entries_of es) (map_list (with_reply batches r.number y) (entries_of es)))) q ∙ names_map (with_reply batches r.number y) (λ e. replied_begin r.number y e) (entries_of es)
       ]
 
   refused_not : (c : ℕ) (s : Standing) → map.get m c ≡ Some s → refusal batches (world_of n m ps es).locks (machine.Step.End c) ≡ None → end_refusal batches s.running ≡ None
   refused_not c s has h =
-      let k = midway_of batches (running batches (world_of n m ps es) c) (end_refusal batches) h in
-      ap (end_refusal batches) (some_same (running batches (world_of n m ps es) c) s.running k.0 (runs n m ps hs es kept c s has) k.1) ∙ k.2
+      let k = midway_of batches (client_at batches (world_of n m ps es) c) (end_refusal batches) h in
+      ap (end_refusal batches) (some_same (client_at batches (world_of n m ps es) c) s.running k.0 (runs n m ps hs es kept c s has) k.1) ∙ k.2
 
   pub end_goes : (c : ℕ) (s : Standing) (es' : List Entry) → map.get m c ≡ Some s → entries_of es' ≡ completed batches (world_of n m ps es) c (Some s.running)
       → refusal batches (world_of n m ps es).locks (machine.Step.End c) ≡ None → Goes n m ps es (machine.Step.End c) n (map.remove m c) ps hs es'
@@ -125,9 +125,9 @@ module _ (n : ℕ) (m : Table) (ps : List NumberSet) (hs : List (Option ℕ)) (e
         is,
         kept_on n n m (map.remove m c) ps ps hs hs es es' (machine.Step.End c) kept tt tt h is
             (λ reached d l. kept.held d l ∙ sym (holder_same v (world_of n (map.remove m c) ps es') reached d (λ q. elim (same_or q c) [
-              | inl e ↦ ap (λ x. holds_now batches (running batches (world_of n (map.remove m c) ps es') x) d) e
+              | inl e ↦ ap (λ x. holds_now batches (client_at batches (world_of n (map.remove m c) ps es') x) d) e
                   ∙ ap (λ x. holds_now batches x d) (get-values (λ (s : Standing). s.running) (map.remove m c) c ∙ ap (option_map (λ (s : Standing). s.running)) (get-remove_same m c))
-                  ∙ sym (ap (λ x. holds_now batches (running batches v x) d) e ∙ ap (λ x. holds_now batches x d) (runs n m ps hs es kept c s has) ∙ none d (in_twelve d l))
+                  ∙ sym (ap (λ x. holds_now batches (client_at batches v x) d) e ∙ ap (λ x. holds_now batches x d) (runs n m ps hs es kept c s has) ∙ none d (in_twelve d l))
               | inr f ↦ ap (λ x. holds_now batches x d) (get-values (λ (s : Standing). s.running) (map.remove m c) q ∙ ap (option_map (λ (s : Standing). s.running)) (get-remove_other m c q f) ∙ sym (get-values (λ (s : Standing). s.running) m q))
             ])))
             (λ q z g. elim (same_or q c) [
@@ -174,44 +174,40 @@ module _ (n : ℕ) (m : Table) (ps : List NumberSet) (hs : List (Option ℕ)) (e
   quit_ends c s has none h =
       let r : Running (List Command) = s.running in
       end_goes c s es has
-      (sym (ap (λ b. cond b (entries_of es) (map_list (replied batches r.operation (answered batches (world_of n m ps es) c r).1) (entries_of es))) (quits_uncommitted c s has none h))) h
+      (sym (ap (λ b. cond b (entries_of es) (map_list (with_reply batches r.number (answer_on_found batches (world_of n m ps es) c r).1) (entries_of es))) (quits_uncommitted c s has none h))) h
 
   pub quit_silent : (c : ℕ) (s : Standing) → map.get m c ≡ Some s → s.place ≡ None → refusal batches (world_of n m ps es).locks (machine.Step.End c) ≡ None
       → reply_to batches (world_of n m ps es) (machine.Step.End c) ≡ None
   quit_silent c s has none h =
       ap (ended_reply batches (world_of n m ps es) c) (runs n m ps hs es kept c s has)
-      ∙ ap (λ b. cond b None (Some (answered batches (world_of n m ps es) c s.running).1)) (quits_uncommitted c s has none h)
+      ∙ ap (λ b. cond b None (Some (answer_on_found batches (world_of n m ps es) c s.running).1)) (quits_uncommitted c s has none h)
 
   -- where its entry stands
   pub entry_place : (c : ℕ) (s : Standing) (i : ℕ) → map.get m c ≡ Some s → s.place ≡ Some i → i < length es
-  entry_place c s i has at = below_names es i s.running.operation (some_name s.place i (numbers_in (entries_of es)) s.running.operation at (kept.placed c s has).1)
+  entry_place c s i has at = below_names es i s.running.number (some_name s.place i (numbers_in (entries_of es)) s.running.number at (kept.placed c s has).1)
 
-  reply_is : (c : ℕ) (s : Standing) → map.get m c ≡ Some s → (answered batches (world_of n m ps es) c s.running).1 ≡ replies_on s.found s.running.command
-  reply_is c s has = ap (λ F. replies_on F s.running.command) (found_is n m ps hs es kept c s has)
+  reply_is : (c : ℕ) (s : Standing) → map.get m c ≡ Some s → (answer_on_found batches (world_of n m ps es) c s.running).1 ≡ replies_on s.found s.running.operation
+  reply_is c s has = ap (λ F. replies_on F s.running.operation) (found_is n m ps hs es kept c s has)
 
-  pub done_ends : (c : ℕ) (s : Standing) (i : ℕ) (e : Entry) (y : List Reply) → map.get m c ≡ Some s → s.place ≡ Some i → slice_get es i ≡ Some e → y ≡ replies_on s.found s.running.command
+  pub done_ends : (c : ℕ) (s : Standing) (i : ℕ) (e : Entry) (y : List Reply) → map.get m c ≡ Some s → s.place ≡ Some i → slice_get es i ≡ Some e → y ≡ replies_on s.found s.running.operation
       → refusal batches (world_of n m ps es).locks (machine.Step.End c) ≡ None → Goes n m ps es (machine.Step.End c) n (map.remove m c) ps hs (set_at es i (answers e y))
   done_ends c s i e y has at there y_is h =
       let r : Running (List Command) = s.running in
       let inv = reached_explained batches (world_of n m ps es) kept.reached in
       let some : is_some s.place ≡ true = ap is_some at in
       let own = inv.1.client c r (runs n m ps hs es kept c s has) in
-      let once : times r.operation (numbers_in (entries_of es)) ≡ 1 = inv.1.named r.operation ∙ ap (λ x. cond (is_committed x) 1 0) own.opened ∙ ap (λ b. cond b 1 0) ((kept.placed c s has).0 ∙ some) in
+      let once : times r.number (numbers_in (entries_of es)) ≡ 1 = inv.1.named r.number ∙ ap (λ x. cond (is_committed x) 1 0) own.opened ∙ ap (λ b. cond b 1 0) ((kept.placed c s has).0 ∙ some) in
       end_goes c s (set_at es i (answers e y)) has
-      (replied_at r.operation y es i e there (some_name s.place i (numbers_in (entries_of es)) r.operation at (kept.placed c s has).1) once
-      ∙ ap (λ z. map_list (replied batches r.operation z) (entries_of es)) (y_is ∙ sym (reply_is c s has))
-      ∙ sym (ap (λ b. cond b (entries_of es) (map_list (replied batches r.operation (answered batches (world_of n m ps es) c r).1) (entries_of es))) (committed_stays c s has some))) h
+      (replied_at r.number y es i e there (some_name s.place i (numbers_in (entries_of es)) r.number at (kept.placed c s has).1) once
+      ∙ ap (λ z. map_list (with_reply batches r.number z) (entries_of es)) (y_is ∙ sym (reply_is c s has))
+      ∙ sym (ap (λ b. cond b (entries_of es) (map_list (with_reply batches r.number (answer_on_found batches (world_of n m ps es) c r).1) (entries_of es))) (committed_stays c s has some))) h
 
-  pub done_tells : (c : ℕ) (s : Standing) (y : List Reply) → map.get m c ≡ Some s → is_some s.place ≡ true → y ≡ replies_on s.found s.running.command
+  pub done_tells : (c : ℕ) (s : Standing) (y : List Reply) → map.get m c ≡ Some s → is_some s.place ≡ true → y ≡ replies_on s.found s.running.operation
       → Some y ≡ reply_to batches (world_of n m ps es) (machine.Step.End c)
   done_tells c s y has some y_is =
       ap (λ z. Some z) (y_is ∙ sym (reply_is c s has))
       ∙ sym (ap (ended_reply batches (world_of n m ps es) c) (runs n m ps hs es kept c s has)
-      ∙ ap (λ b. cond b None (Some (answered batches (world_of n m ps es) c s.running).1)) (committed_stays c s has some))
-
-pub pair_of : (x : Option ℕ) (p q : List Reply × List Reply) → Some p ≡ option_map (λ (_ : ℕ). q) x → p ≡ q
-pair_of None p q h = absurd (cc)
-pair_of (Some i) p q h = some_same (Some p) p q refl h
+      ∙ ap (λ b. cond b None (Some (answer_on_found batches (world_of n m ps es) c s.running).1)) (committed_stays c s has some))
 
 pub read_at : {X : Type 0} (xs : List X) (i : ℕ) (x : X) → i < length xs → x ≡ get_or xs i x → slice_get xs i ≡ Some x
 read_at [] i x l h = absurd (omega arith)

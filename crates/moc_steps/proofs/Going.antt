@@ -11,15 +11,15 @@ use Rattle.std.specs.FinMap as map
 use Rattle.moc_parts.specs.Batches.{batches}
 use Rattle.moc_parts.specs.declared.command.Command.{Command}
 use Rattle.moc_steps.specs.Machine as machine
-use Rattle.moc_steps.specs.Machine.{Running, refusal, holds, holder, next_part, has_taken, is_in, twelve, unless_idle}
-use Rattle.moc_steps.specs.Machine.{take_refusal, edit_refusal, give_refusal, end_refusal, running}
+use Rattle.moc_steps.specs.Machine.{Running, refusal, holds, holder, next_part, has_taken, twelve, unless_idle}
+use Rattle.moc_steps.specs.Machine.{take_refusal, edit_refusal, give_refusal, end_refusal, client_at}
 use Rattle.moc_steps.specs.Laws.{IsReached}
 use Rattle.moc_steps.specs.Orders.{is_progress, client_of}
 use Rattle.moc_steps.specs.Played.{BatchWorld, step_of}
-use Rattle.moc_steps.specs.Private.Worlds.{IsFree, IsHighest}
+use Rattle.moc_steps.specs.Private.Worlds.{NoneHeld, IsHighest}
 use Rattle.moc_steps.specs.declared.step.Step.{Step}
 use Rattle.std.specs.FinMap.{find}
-use Rattle.moc_steps.proofs.Cases.{next_refusal}
+use Rattle.moc_steps.proofs.Cases.{next_refusal, is_in}
 use Rattle.moc_steps.proofs.Permitted.{midway_of}
 use Rattle.moc_steps.specs.declared.error.StepError.TheVariants.{PartHeld}
 use Rattle.moc_steps.proofs.Basics.{clash, some_same, none_or_some, and_true, or_left, or_right, not_of_true, cond_else}
@@ -38,12 +38,12 @@ none_of : (test : ℕ → Bool) (bs : List ℕ) → ((b : ℕ) → is_in b bs �
 none_of test [] h = refl
 none_of test (x ∷ bs) h = ap (λ t. t || list_any test bs) (h x (or_left (nat_eq x x) (is_in x bs) (eq-eqb x x refl))) ∙ none_of test bs (λ b i. h b (or_right (nat_eq x b) (is_in b bs) i))
 
-module _ (w : BatchWorld) (c : ℕ) (r : Running (List Command)) (was : running batches w c ≡ Some r) where
+module _ (w : BatchWorld) (c : ℕ) (r : Running (List Command)) (was : client_at batches w c ≡ Some r) where
   -- the client of the highest part that is held
   pub holder_has : (b : ℕ) → IsHighest w c b → holds batches r b ≡ true
   holder_has b h =
       let k = holder_holds batches w.locks.clients b c h.0 in
-      ap (λ t. holds batches t b) (some_same (running batches w c) r k.0 was k.1) ∙ k.2
+      ap (λ t. holds batches t b) (some_same (client_at batches w c) r k.0 was k.1) ∙ k.2
 
   takes : (q : ℕ) → next_part batches r ≡ Some q → r.quits ≡ false → holder batches w.locks.clients q ≡ None → refusal batches w.locks (machine.Step.Take c) ≡ None
   takes q next stays free =
@@ -70,7 +70,7 @@ module _ (w : BatchWorld) (c : ℕ) (r : Running (List Command)) (was : running 
       may false false (inr e) = absurd (cc (e))
 
   -- a client where nobody holds a part
-  pub free_ends : IsFree w → (r.quits ≡ true) ⊎ (nat_lt 0 r.taken ≡ true) → refusal batches w.locks (machine.Step.End c) ≡ None
+  pub free_ends : NoneHeld w → (r.quits ≡ true) ⊎ (nat_lt 0 r.taken ≡ true) → refusal batches w.locks (machine.Step.End c) ≡ None
   free_ends free done =
       ap (λ x. unless_idle batches x (end_refusal batches)) was
       ∙ cond_else _ _ _ (none_of (holds batches r) twelve (λ b i. nobody_holds batches w.locks.clients b c r (free b (of_twelve b i)) was))
@@ -81,7 +81,7 @@ module _ (w : BatchWorld) (c : ℕ) (r : Running (List Command)) (was : running 
       may false k (inl e) = absurd (cc (e))
       may false k (inr e) = grind (arith, nat_tests)
 
-  pub free_takes : IsReached batches w → IsFree w → r.quits ≡ false → nat_lt 0 r.taken ≡ false → refusal batches w.locks (machine.Step.Take c) ≡ None
+  pub free_takes : IsReached batches w → NoneHeld w → r.quits ≡ false → nat_lt 0 r.taken ≡ false → refusal batches w.locks (machine.Step.Take c) ≡ None
   free_takes reached free stays nothing = elim (none_or_some (next_part batches r)) [
     | inr e ↦ takes e.0 e.1 stays (free e.0 (next_footprint batches r e.0 e.1).0)
     | inl e ↦
@@ -89,8 +89,8 @@ module _ (w : BatchWorld) (c : ℕ) (r : Running (List Command)) (was : running 
         let f = (inv.1.client c r was).local.some in
         let zero : r.taken ≡ 0 = grind (arith, nat_tests) in
         clash (has_taken batches r f.0) (has_all batches r f.0 e f.1 f.2)
-        (taken_alike batches r (record { operation = r.operation; command = r.command; taken = 0; edited = r.edited; given = r.given; quits = r.quits }) refl zero f.0
-        ∙ nothing_taken batches r.operation r.command r.edited r.given r.quits f.0)
+        (taken_alike batches r (record { number = r.number; operation = r.operation; taken = 0; edited = r.edited; given = r.given; quits = r.quits }) refl zero f.0
+        ∙ nothing_taken batches r.number r.operation r.edited r.given r.quits f.0)
   ]
 
 -- a permitted step that is no Begin is one of a client that is midway

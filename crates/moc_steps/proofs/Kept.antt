@@ -8,15 +8,15 @@ use Rattle.moc_lists.specs.RangeList.{NumberSet}
 use Rattle.moc_parts.specs.Batches.{batches}
 use Rattle.moc_parts.specs.declared.command.Command.{Command}
 use Rattle.moc_steps.specs.Machine as machine
-use Rattle.moc_steps.specs.Machine.{Running, Locks, Clients, AreLocal, begins, change, holds, holds_now}
-use Rattle.moc_steps.specs.Machine.{holder, refusal, world_after, running}
+use Rattle.moc_steps.specs.Machine.{Running, Locks, Clients, AreLocal, new_running, with_client, holds}
+use Rattle.moc_steps.specs.Machine.{holder, refusal, world_after, client_at}
 use Rattle.moc_steps.specs.Orders.{numbers_in}
 use Rattle.moc_steps.specs.Laws.{IsReached}
 use Rattle.moc_steps.specs.Private.Standing.{Standing}
 use Rattle.moc_steps.specs.Played.{BatchWorld, entries_of}
-use Rattle.moc_steps.specs.Private.Worlds.{HasPlace, IsKept, values_by, world_of}
+use Rattle.moc_steps.specs.Private.Worlds.{HasPlace, IsWorld, values_by, world_of}
 use Rattle.moc_steps.specs.declared.step.Entry.{Entry}
-use Rattle.moc_steps.proofs.Cases.{changed}
+use Rattle.moc_steps.proofs.Cases.{changed, holds_now}
 use Rattle.moc_steps.proofs.Basics.{clash, some_same, none_or_some, not_true_false, same_or, get-insert_same}
 use Rattle.moc_steps.proofs.Basics.{get-insert_other, get-remove_same, get-remove_other}
 use Rattle.moc_steps.proofs.Headline.{locks_are}
@@ -35,7 +35,7 @@ founds_of m = values_by (λ s. s.found) m
 
 -- a client that is changed, among the machine's clients
 pub clients_changed : (n : ℕ) (m : Table) (c : ℕ) (s s' : Standing) (f : Running (List Command) → Running (List Command)) → map.get m c ≡ Some s → s'.running ≡ f s.running
-    → record { begun = n; clients = clients_of (map.insert m c s') } ≡ change batches (record { begun = n; clients = clients_of m }) c f
+    → record { begun = n; clients = clients_of (map.insert m c s') } ≡ with_client batches (record { begun = n; clients = clients_of m }) c f
 clients_changed n m c s s' f is e =
     let x : Option (Running (List Command)) = map.get (clients_of m) c in
     let x_is : x ≡ Some s.running = get-values (λ (s : Standing). s.running) m c ∙ ap (option_map (λ (s : Standing). s.running)) is in
@@ -49,7 +49,7 @@ founds_same m c s s' is e =
     ∙ insert_again (founds_of m) c s.found (get-values (λ (s : Standing). s.found) m c ∙ ap (option_map (λ (s : Standing). s.found)) is)
 
 -- who holds a part
-pub holder_of : (w : BatchWorld) → IsReached batches w → (c b : ℕ) (r : Running (List Command)) → running batches w c ≡ Some r → holds batches r b ≡ true → holder batches w.locks.clients b ≡ Some c
+pub holder_of : (w : BatchWorld) → IsReached batches w → (c b : ℕ) (r : Running (List Command)) → client_at batches w c ≡ Some r → holds batches r b ≡ true → holder batches w.locks.clients b ≡ Some c
 holder_of w reached c b r is h =
     let inv = reached_explained batches w reached in
     elim (none_or_some (holder batches w.locks.clients b)) [
@@ -71,14 +71,14 @@ of_now None b h = absurd (cc)
 of_now (Some r) b h = (r, refl, h)
 
 -- a step after which each client holds the part as before
-pub holder_same : (w w' : BatchWorld) → IsReached batches w' → (b : ℕ) → ((q : ℕ) → holds_now batches (running batches w' q) b ≡ holds_now batches (running batches w q) b)
+pub holder_same : (w w' : BatchWorld) → IsReached batches w' → (b : ℕ) → ((q : ℕ) → holds_now batches (client_at batches w' q) b ≡ holds_now batches (client_at batches w q) b)
     → holder batches w'.locks.clients b ≡ holder batches w.locks.clients b
 holder_same w w' reached b same = elim (none_or_some (holder batches w.locks.clients b)) [
   | inl e ↦ holder_nobody w'.locks.clients b (λ q r is. not_true_false (holds batches r b) (λ h.
-      let k = of_now (running batches w q) b (sym (same q) ∙ now_of (running batches w' q) b r is ∙ h) in clash (holds batches k.0 b) k.2 (nobody_holds batches w.locks.clients b q k.0 e k.1))) ∙ sym e
+      let k = of_now (client_at batches w q) b (sym (same q) ∙ now_of (client_at batches w' q) b r is ∙ h) in clash (holds batches k.0 b) k.2 (nobody_holds batches w.locks.clients b q k.0 e k.1))) ∙ sym e
   | inr e ↦
       let k = holder_holds batches w.locks.clients b e.0 e.1 in
-      let t = of_now (running batches w' e.0) b (same e.0 ∙ now_of (running batches w e.0) b k.0 k.1 ∙ k.2) in
+      let t = of_now (client_at batches w' e.0) b (same e.0 ∙ now_of (client_at batches w e.0) b k.0 k.1 ∙ k.2) in
       holder_of w' reached e.0 b t.0 t.1 t.2 ∙ sym e.1
 ]
 
@@ -106,7 +106,7 @@ small_change m c None f has h = h
 small_change m c (Some r) f has h = small_insert m c (f r) h (h c r has)
 
 small_step : (l : Locks (List Command)) (step : machine.Step (List Command)) → AreSmall l.clients → BeginsSmall step → AreSmall (machine.locks_after batches l step).clients
-small_step l (machine.Step.Begin c op) h b = small_insert l.clients c (begins batches l.begun op) h b
+small_step l (machine.Step.Begin c op) h b = small_insert l.clients c (new_running batches l.begun op) h b
 small_step l (machine.Step.Take c) h b = small_change l.clients c (map.get l.clients c) (λ r. record r { taken = suc r.taken }) refl h
 small_step l (machine.Step.Edit c p) h b = small_change l.clients c (map.get l.clients c) (λ r. record r { edited = set.insert r.edited p }) refl h
 small_step l (machine.Step.Give c p) h b = small_change l.clients c (map.get l.clients c) (λ r. record r { given = set.insert r.given p }) refl h
@@ -118,11 +118,11 @@ small_step l (machine.Step.End c) h b = λ q r is. elim (same_or q c) [
 
 -- the next world is kept where it knows who holds each part and where the entries stand
 pub kept_on : (n n' : ℕ) (m m' : Table) (ps ps' : List NumberSet) (hs hs' : List (Option ℕ)) (es es' : List Entry) (step : machine.Step (List Command))
-    → IsKept n m ps hs es → AreLocal batches (step ∷ []) → BeginsSmall step → refusal batches (world_of n m ps es).locks step ≡ None
+    → IsWorld n m ps hs es → AreLocal batches (step ∷ []) → BeginsSmall step → refusal batches (world_of n m ps es).locks step ≡ None
     → world_of n' m' ps' es' ≡ world_after batches (world_of n m ps es) step
     → (IsReached batches (world_of n' m' ps' es') → (b : ℕ) → b < 12 → get_or hs' b None ≡ holder batches (clients_of m') b)
     → ((c : ℕ) (s : Standing) → map.get m' c ≡ Some s → HasPlace (numbers_in (entries_of es')) s.running s.place)
-    → IsKept n' m' ps' hs' es'
+    → IsWorld n' m' ps' hs' es'
 kept_on n n' m m' ps ps' hs hs' es es' step kept local small permitted is held placed =
     let reached : IsReached batches (world_of n' m' ps' es') = subst (λ w. IsReached batches w) (sym is) (step_reached batches (world_of n m ps es) step kept.reached local permitted) in
     record {
@@ -139,12 +139,12 @@ at_each m c s' P own others q s h = elim (same_or q c) [
   | inr d ↦ others q s d (sym (get-insert_other m c s' q d) ∙ h)
 ]
 
-pub running_of : (n : ℕ) (m : Table) (ps : List NumberSet) (es : List Entry) (q : ℕ) → running batches (world_of n m ps es) q ≡ option_map (λ (s : Standing). s.running) (map.get m q)
+pub running_of : (n : ℕ) (m : Table) (ps : List NumberSet) (es : List Entry) (q : ℕ) → client_at batches (world_of n m ps es) q ≡ option_map (λ (s : Standing). s.running) (map.get m q)
 running_of n m ps es q = get-values (λ (s : Standing). s.running) m q
 
 -- a client that comes to hold what it held
 pub same_on : (n n' : ℕ) (m : Table) (ps ps' : List NumberSet) (es es' : List Entry) (c b : ℕ) (s s' : Standing) → map.get m c ≡ Some s → holds batches s'.running b ≡ holds batches s.running b
-    → (q : ℕ) → holds_now batches (running batches (world_of n' (map.insert m c s') ps' es') q) b ≡ holds_now batches (running batches (world_of n m ps es) q) b
+    → (q : ℕ) → holds_now batches (client_at batches (world_of n' (map.insert m c s') ps' es') q) b ≡ holds_now batches (client_at batches (world_of n m ps es) q) b
 same_on n n' m ps ps' es es' c b s s' is same q =
     ap (λ x. holds_now batches x b) (running_of n' (map.insert m c s') ps' es' q)
     ∙ elim (same_or q c) [

@@ -13,10 +13,9 @@ use Rattle.moc_parts.specs.Batches.{batches, set_after_all, footprint_of_all}
 use Rattle.moc_parts.specs.declared.command.Command.{Command}
 use Rattle.moc_parts.specs.Prepared.{part_if as kept_part}
 use Rattle.moc_steps.specs.Machine as machine
-use Rattle.moc_steps.specs.Machine.{Running, Locks, begins, holds, holds_now, holder, is_any}
+use Rattle.moc_steps.specs.Machine.{Running, Locks, new_running, holds, holder, is_any}
 use Rattle.moc_steps.specs.Machine.{refusal, has_taken, next_part, unless_idle, take_refusal, edit_refusal}
-use Rattle.moc_steps.specs.Machine.{give_refusal, quit_refusal, end_refusal, world_after, running, found_by, part_at}
-use Rattle.moc_steps.specs.Machine.{appended}
+use Rattle.moc_steps.specs.Machine.{give_refusal, quit_refusal, end_refusal, world_after, client_at, found_by, part_at}
 use Rattle.moc_steps.specs.Orders.{numbers_in, client_of}
 use Rattle.moc_steps.specs.Private.Standing.{Standing}
 use Rattle.moc_steps.specs.Private.Effects.{IsEffectOf, changed, changed_at, changed_table}
@@ -27,10 +26,10 @@ use Rattle.moc_steps.specs.declared.step.Step.TheVariants as step
 use Rattle.moc_steps.specs.declared.table.Effect.{Effect}
 use Rattle.moc_steps.specs.declared.table.Effect.TheVariants.{Take, Give, Quit}
 use Rattle.moc_steps.specs.Played.{BatchWorld, entries_of, step_of}
-use Rattle.moc_steps.specs.Private.Worlds.{HasPlace, IsKept, world_of}
+use Rattle.moc_steps.specs.Private.Worlds.{HasPlace, IsWorld, world_of}
 use Rattle.moc_parts.specs.declared.reply.Reply.{Reply}
 use Rattle.moc_steps.specs.declared.step.Entry.{Entry}
-use Rattle.moc_steps.proofs.Cases.{found_next, edited_parts}
+use Rattle.moc_steps.proofs.Cases.{found_next, edited_parts, holds_now, appended}
 use Rattle.moc_steps.proofs.Basics.{clash, some_same, true_or_false, not_true_false, not_of_false, is_some_of, or_false}
 use Rattle.moc_steps.proofs.Basics.{or_right, and_true, both, same_or, same_set, has-empty, map_some_from, get_front}
 use Rattle.moc_steps.proofs.Basics.{get_last, get-insert_same, get-insert_other, get_set_same, get_set_other}
@@ -42,13 +41,13 @@ use Rattle.moc_steps.proofs.Beginning.{idle_of}
 use Rattle.moc_steps.proofs.Permitted.{midway_of, take_permitted, edit_permitted, give_permitted}
 use Rattle.moc_steps.proofs.EditStep.{has_part, names_push}
 use Rattle.moc_steps.proofs.AnyObject.{reached_explained}
-use Rattle.moc_steps.proofs.Values.{get-values, values-insert, insert_twice}
+use Rattle.moc_steps.proofs.Values.{get-values, values-insert}
 use Rattle.moc_steps.proofs.Kept.{Table, clients_of, founds_of, clients_changed, founds_same, holder_of, holder_nobody}
 use Rattle.moc_steps.proofs.Kept.{holder_same, same_on, kept_on, at_each}
 
 -- a step from one world to the next, which keeps what the first kept
 abbrev pub Goes : ℕ → Table → List NumberSet → List Entry → machine.Step (List Command) → ℕ → Table → List NumberSet → List (Option ℕ) → List Entry → Type 0
-Goes n m ps es step n' m' ps' hs' es' = (world_of n' m' ps' es' ≡ world_after batches (world_of n m ps es) step) × IsKept n' m' ps' hs' es'
+Goes n m ps es step n' m' ps' hs' es' = (world_of n' m' ps' es' ≡ world_after batches (world_of n m ps es) step) × IsWorld n' m' ps' hs' es'
 
 pub table_is : (m : Table) (c : ℕ) (s : Standing) (change : Effect) → map.get m c ≡ Some s → changed_table m c change ≡ map.insert m c (changed s change)
 table_is m c s change h = ap (λ x. changed_at m c x change) h
@@ -70,15 +69,15 @@ later_place : (place : Option ℕ) (ns : List ℕ) (k x : ℕ) (ns' : List ℕ) 
 later_place None ns k x ns' is h = h
 later_place (Some i) ns k x ns' is h = ap (λ ys. slice_get ys i) is ∙ get_front ns k x i h
 
-module _ (n : ℕ) (m : Table) (ps : List NumberSet) (hs : List (Option ℕ)) (es : List Entry) (kept : IsKept n m ps hs es) where
+module _ (n : ℕ) (m : Table) (ps : List NumberSet) (hs : List (Option ℕ)) (es : List Entry) (kept : IsWorld n m ps hs es) where
   w : BatchWorld
   w = world_of n m ps es
 
   -- a client that is midway
-  pub standing : (c : ℕ) (r : Running (List Command)) → running batches (world_of n m ps es) c ≡ Some r → (s : Standing) × (map.get m c ≡ Some s) × (s.running ≡ r)
+  pub standing : (c : ℕ) (r : Running (List Command)) → client_at batches (world_of n m ps es) c ≡ Some r → (s : Standing) × (map.get m c ≡ Some s) × (s.running ≡ r)
   standing c r h = map_some_from (λ s. s.running) (map.get m c) r (sym (get-values (λ (s : Standing). s.running) m c) ∙ h)
 
-  pub runs : (c : ℕ) (s : Standing) → map.get m c ≡ Some s → running batches (world_of n m ps es) c ≡ Some s.running
+  pub runs : (c : ℕ) (s : Standing) → map.get m c ≡ Some s → client_at batches (world_of n m ps es) c ≡ Some s.running
   runs c s h = get-values (λ (s : Standing). s.running) m c ∙ ap (option_map (λ (s : Standing). s.running)) h
 
   pub found_is : (c : ℕ) (s : Standing) → map.get m c ≡ Some s → found_by batches (world_of n m ps es) c ≡ s.found
@@ -86,7 +85,7 @@ module _ (n : ℕ) (m : Table) (ps : List NumberSet) (hs : List (Option ℕ)) (e
 
   pub quit_goes : (c : ℕ) → refusal batches (world_of n m ps es).locks (machine.Step.Quit c) ≡ None → Goes n m ps es (machine.Step.Quit c) n (changed_table m c Quit) ps hs es
   quit_goes c h =
-      let k = midway_of batches (running batches (world_of n m ps es) c) (quit_refusal batches) h in
+      let k = midway_of batches (client_at batches (world_of n m ps es) c) (quit_refusal batches) h in
       let t = standing c k.0 k.1 in
       let s : Standing = t.0 in
       let s' : Standing = changed s Quit in
@@ -106,7 +105,7 @@ module _ (n : ℕ) (m : Table) (ps : List NumberSet) (hs : List (Option ℕ)) (e
 
   pub give_goes : (c b : ℕ) → length hs ≡ 12 → refusal batches (world_of n m ps es).locks (machine.Step.Give c b) ≡ None → Goes n m ps es (machine.Step.Give c b) n (changed_table m c (Give b)) ps (set_at hs b None) es
   give_goes c b twelve_hs h =
-      let k = midway_of batches (running batches (world_of n m ps es) c) (λ r. give_refusal batches r b) h in
+      let k = midway_of batches (client_at batches (world_of n m ps es) c) (λ r. give_refusal batches r b) h in
       let t = standing c k.0 k.1 in
       let s : Standing = t.0 in
       let s' : Standing = changed s (Give b) in
@@ -164,8 +163,8 @@ module _ (n : ℕ) (m : Table) (ps : List NumberSet) (hs : List (Option ℕ)) (e
       → refusal batches (world_of n m ps es).locks (machine.Step.Take c) ≡ None → Goes n m ps es (machine.Step.Take c) n (changed_table m c (Take q list)) ps (set_at hs q (Some c)) es
   take_goes c q s list has next list_is twelve_hs h =
       let r : Running (List Command) = s.running in
-      let k = midway_of batches (running batches (world_of n m ps es) c) (take_refusal batches (world_of n m ps es).locks) h in
-      let r_is : k.0 ≡ r = some_same (running batches (world_of n m ps es) c) k.0 r k.1 (runs c s has) in
+      let k = midway_of batches (client_at batches (world_of n m ps es) c) (take_refusal batches (world_of n m ps es).locks) h in
+      let r_is : k.0 ≡ r = some_same (client_at batches (world_of n m ps es) c) k.0 r k.1 (runs c s has) in
       let p = take_permitted batches (world_of n m ps es).locks r (ap (take_refusal batches (world_of n m ps es).locks) (sym r_is) ∙ k.2) in
       let s' : Standing = changed s (Take q list) in
       let inv = reached_explained batches (world_of n m ps es) kept.reached in
@@ -174,7 +173,7 @@ module _ (n : ℕ) (m : Table) (ps : List NumberSet) (hs : List (Option ℕ)) (e
         | inl e ↦ absurd (cc (next, own.sound.all (is_any_of r.edited q e)))
         | inr e ↦ clash r.quits e p.0
       ]) in
-      let found_e : found_next batches (world_of n m ps es) c (running batches (world_of n m ps es) c) ≡ set.union s.found list =
+      let found_e : found_next batches (world_of n m ps es) c (client_at batches (world_of n m ps es) c) ≡ set.union s.found list =
       ap (found_next batches (world_of n m ps es) c) (runs c s has)
       ∙ ap (λ F. set.union F (unwrap_or (option_map (part_at batches (world_of n m ps es)) (next_part batches r)) set.empty)) (found_is c s has)
       ∙ ap (λ x. set.union s.found (unwrap_or (option_map (part_at batches (world_of n m ps es)) x) set.empty)) next ∙ ap (set.union s.found) (sym list_is) in
@@ -199,13 +198,13 @@ module _ (n : ℕ) (m : Table) (ps : List NumberSet) (hs : List (Option ℕ)) (e
       )
 
   pub edit_goes : (c b : ℕ) (s s' : Standing) (list : NumberSet) (es' : List Entry) → map.get m c ≡ Some s → s'.running ≡ record s.running { edited = set.insert s.running.edited b } → s'.found ≡ s.found
-      → list ≡ part_of (set_after_all s.found s.running.command) b → entries_of es' ≡ appended batches (entries_of es) c (Some s.running)
+      → list ≡ part_of (set_after_all s.found s.running.operation) b → entries_of es' ≡ appended batches (entries_of es) c (Some s.running)
       → HasPlace (numbers_in (entries_of es')) s'.running s'.place → ((q : ℕ) (z : Standing) → map.get m q ≡ Some z → HasPlace (numbers_in (entries_of es')) z.running z.place)
       → refusal batches (world_of n m ps es).locks (machine.Step.Edit c b) ≡ None → Goes n m ps es (machine.Step.Edit c b) n (map.insert m c s') (set_at ps b list) hs es'
   edit_goes c b s s' list es' has run_is found_e list_is order_is own others h =
       let v : BatchWorld = world_of n m ps es in
-      let parts_are : set_at ps b list ≡ edited_parts batches v c (running batches v c) b =
-      ap (set_at ps b) (list_is ∙ ap (λ F. part_of (set_after_all F s.running.command) b) (sym (found_is c s has))) ∙ sym (ap (λ x. edited_parts batches v c x b) (runs c s has)) in
+      let parts_are : set_at ps b list ≡ edited_parts batches v c (client_at batches v c) b =
+      ap (set_at ps b) (list_is ∙ ap (λ F. part_of (set_after_all F s.running.operation) b) (sym (found_is c s has))) ∙ sym (ap (λ x. edited_parts batches v c x b) (runs c s has)) in
       let is : world_of n (map.insert m c s') (set_at ps b list) es' ≡ world_after batches v (machine.Step.Edit c b) = (λ i. record {
         locks = clients_changed n m c s s' (λ r. record r { edited = set.insert r.edited b }) has run_is i;
         parts = parts_are i;
@@ -221,11 +220,11 @@ module _ (n : ℕ) (m : Table) (ps : List NumberSet) (hs : List (Option ℕ)) (e
       )
 
   pub begin_goes : (c : ℕ) (op : List Command) → IsLocal batches op → c < 2 ^ 32 → refusal batches (world_of n m ps es).locks (machine.Step.Begin c op) ≡ None
-      → Goes n m ps es (machine.Step.Begin c op) (suc n) (map.insert m c (record { running = begins batches n op; found = set.empty; place = None })) ps hs es
+      → Goes n m ps es (machine.Step.Begin c op) (suc n) (map.insert m c (record { running = new_running batches n op; found = set.empty; place = None })) ps hs es
   begin_goes c op local l h =
       let v : BatchWorld = world_of n m ps es in
-      let s' : Standing = record { running = begins batches n op; found = set.empty; place = None } in
-      let idle : running batches v c ≡ None = idle_of batches v.locks (running batches v c) h in
+      let s' : Standing = record { running = new_running batches n op; found = set.empty; place = None } in
+      let idle : client_at batches v c ≡ None = idle_of batches v.locks (client_at batches v c) h in
       let is : world_of (suc n) (map.insert m c s') ps es ≡ world_after batches v (machine.Step.Begin c op) = (λ i. record {
         locks = record { begun = suc n; clients = values-insert (λ (s : Standing). s.running) m c s' i };
         parts = ps;
@@ -235,10 +234,10 @@ module _ (n : ℕ) (m : Table) (ps : List NumberSet) (hs : List (Option ℕ)) (e
         is,
         kept_on n (suc n) m (map.insert m c s') ps ps hs hs es es (machine.Step.Begin c op) kept (local, tt) l h is
             (λ reached d k. kept.held d k ∙ sym (holder_same v (world_of (suc n) (map.insert m c s') ps es) reached d (λ q. elim (same_or q c) [
-              | inl e ↦ ap (λ x. holds_now batches (running batches (world_of (suc n) (map.insert m c s') ps es) x) d) e
+              | inl e ↦ ap (λ x. holds_now batches (client_at batches (world_of (suc n) (map.insert m c s') ps es) x) d) e
                   ∙ ap (λ x. holds_now batches x d) (get-values (λ (s : Standing). s.running) (map.insert m c s') c ∙ ap (option_map (λ (s : Standing). s.running)) (get-insert_same m c s'))
                   ∙ ap (λ x. x && not (set.contains (set.empty {R = nat_cmp}) d)) (nothing_taken batches n op set.empty set.empty false d)
-                  ∙ sym (ap (λ x. holds_now batches (running batches v x) d) e ∙ ap (λ x. holds_now batches x d) idle)
+                  ∙ sym (ap (λ x. holds_now batches (client_at batches v x) d) e ∙ ap (λ x. holds_now batches x d) idle)
               | inr f ↦ ap (λ x. holds_now batches x d) (get-values (λ (s : Standing). s.running) (map.insert m c s') q ∙ ap (option_map (λ (s : Standing). s.running)) (get-insert_other m c s' q f) ∙ sym (get-values (λ (s : Standing). s.running) m q))
             ])))
             (at_each m c s' (λ q z. HasPlace (numbers_in (entries_of es)) z.running z.place) (not_any_empty, tt) (λ q z d g. kept.placed q z g)),
@@ -246,12 +245,12 @@ module _ (n : ℕ) (m : Table) (ps : List NumberSet) (hs : List (Option ℕ)) (e
 
   edit_allowed : (c b : ℕ) (s : Standing) → map.get m c ≡ Some s → refusal batches (world_of n m ps es).locks (machine.Step.Edit c b) ≡ None → edit_refusal batches s.running b ≡ None
   edit_allowed c b s has h =
-      let k = midway_of batches (running batches (world_of n m ps es) c) (λ r. edit_refusal batches r b) h in
-      let r_is : k.0 ≡ s.running = some_same (running batches (world_of n m ps es) c) k.0 s.running k.1 (runs c s has) in
+      let k = midway_of batches (client_at batches (world_of n m ps es) c) (λ r. edit_refusal batches r b) h in
+      let r_is : k.0 ≡ s.running = some_same (client_at batches (world_of n m ps es) c) k.0 s.running k.1 (runs c s has) in
       ap (λ r. edit_refusal batches r b) (sym r_is) ∙ k.2
 
   -- the client of a permitted Edit holds the part
-  pub edit_footprint : (c b : ℕ) (s : Standing) → map.get m c ≡ Some s → refusal batches (world_of n m ps es).locks (machine.Step.Edit c b) ≡ None → (b < 12) × (footprint_of_all s.running.command b ≡ true)
+  pub edit_footprint : (c b : ℕ) (s : Standing) → map.get m c ≡ Some s → refusal batches (world_of n m ps es).locks (machine.Step.Edit c b) ≡ None → (b < 12) × (footprint_of_all s.running.operation b ≡ true)
   edit_footprint c b s has h = taken_footprint batches s.running b (and_true _ _ (edit_permitted batches s.running b (edit_allowed c b s has h)).2).0
 
   -- and has taken all its parts
@@ -262,53 +261,46 @@ module _ (n : ℕ) (m : Table) (ps : List NumberSet) (hs : List (Option ℕ)) (e
   pub has_place : (c : ℕ) (s : Standing) → map.get m c ≡ Some s → is_any s.running.edited ≡ true → is_some s.place ≡ true
   has_place c s has any = sym (kept.placed c s has).0 ∙ any
 
-  pub any_edited : (c : ℕ) (s : Standing) (v : BatchWorld) → map.get m c ≡ Some s → world_of n m ps es ≡ v → IfSome (running batches v c) (λ r. is_any r.edited ≡ true) → is_any s.running.edited ≡ true
-  any_edited c s v has is h = subst (λ x. IfSome x (λ r. is_any r.edited ≡ true)) (ap (λ v. running batches v c) (sym is) ∙ runs c s has) h
+  pub any_edited : (c : ℕ) (s : Standing) (v : BatchWorld) → map.get m c ≡ Some s → world_of n m ps es ≡ v → IfSome (client_at batches v c) (λ r. is_any r.edited ≡ true) → is_any s.running.edited ≡ true
+  any_edited c s v has is h = subst (λ x. IfSome x (λ r. is_any r.edited ≡ true)) (ap (λ v. client_at batches v c) (sym is) ∙ runs c s has) h
 
   -- a client of which a test is asked is midway
-  pub is_midway : {A : Type 0} (c : ℕ) (test : Running (List Command) → Option StepError) → unless_idle batches (running batches (world_of n m ps es) c) test ≡ None → map.get m c ≡ None → A
+  pub is_midway : {A : Type 0} (c : ℕ) (test : Running (List Command) → Option StepError) → unless_idle batches (client_at batches (world_of n m ps es) c) test ≡ None → map.get m c ≡ None → A
   is_midway c test h none =
-      let k = midway_of batches (running batches (world_of n m ps es) c) test h in
+      let k = midway_of batches (client_at batches (world_of n m ps es) c) test h in
       let t = standing c k.0 k.1 in absurd (cc (t.1, none))
 
   pub edited_place : (c b : ℕ) (s : Standing) → map.get m c ≡ Some s → is_any s.running.edited ≡ true → HasPlace (numbers_in (entries_of es)) (record s.running { edited = set.insert s.running.edited b }) s.place
   edited_place c b s has any = let p = kept.placed c s has in (is_any_of (set.insert s.running.edited b) b (has-insert_same s.running.edited b) ∙ sym any ∙ p.0, p.1)
 
-  -- a client that may take has a next part
-  pub takes_some : {A : Type 0} (c : ℕ) (s : Standing) → map.get m c ≡ Some s → refusal batches (world_of n m ps es).locks (machine.Step.Take c) ≡ None → next_part batches s.running ≡ None → A
-  takes_some c s has h none =
-      let k = midway_of batches (running batches (world_of n m ps es) c) (take_refusal batches (world_of n m ps es).locks) h in
-      let r_is : k.0 ≡ s.running = some_same (running batches (world_of n m ps es) c) k.0 s.running k.1 (runs c s has) in
-      let p = take_permitted batches (world_of n m ps es).locks s.running (ap (take_refusal batches (world_of n m ps es).locks) (sym r_is) ∙ k.2) in
-      absurd (cc (p.2, none))
+  -- a client that may take is not refused
+  pub may_take : (c : ℕ) (s : Standing) → map.get m c ≡ Some s → refusal batches (world_of n m ps es).locks (machine.Step.Take c) ≡ None → take_refusal batches (world_of n m ps es).locks s.running ≡ None
+  may_take c s has h =
+      let k = midway_of batches (client_at batches (world_of n m ps es) c) (take_refusal batches (world_of n m ps es).locks) h in
+      let r_is : k.0 ≡ s.running = some_same (client_at batches (world_of n m ps es) c) k.0 s.running k.1 (runs c s has) in
+      ap (take_refusal batches (world_of n m ps es).locks) (sym r_is) ∙ k.2
 
   -- the first Edit of a client: it is given its place, and its entry stands last
   pub first_edit_goes : (c b : ℕ) (s : Standing) (place : ℕ) (list : NumberSet) (e : Entry) → map.get m c ≡ Some s → s.place ≡ None → place ≡ length es
-      → e.begin ≡ s.running.operation → e.client ≡ c → e.reply ≡ None
-      → list ≡ part_of (set_after_all s.found s.running.command) b → refusal batches (world_of n m ps es).locks (machine.Step.Edit c b) ≡ None
+      → e.begin ≡ s.running.number → e.client ≡ c → e.reply ≡ None
+      → list ≡ part_of (set_after_all s.found s.running.operation) b → refusal batches (world_of n m ps es).locks (machine.Step.Edit c b) ≡ None
       → Goes n m ps es (machine.Step.Edit c b) n (map.insert m c (record { running = record s.running { edited = set.insert s.running.edited b }; found = s.found; place = Some place })) (set_at ps b list) hs (es ++ e ∷ [])
   first_edit_goes c b s place list e has none place_is begin_is client_is reply_is list_is h =
       let none_edited : is_any s.running.edited ≡ false = (kept.placed c s has).0 ∙ ap is_some none in
       let order_is : entries_of (es ++ e ∷ []) ≡ appended batches (entries_of es) c (Some s.running) =
       entries_push es e ∙ (λ i. entries_of es ++ record { begin = begin_is i; client = client_is i; reply = reply_is i } ∷ [])
-      ∙ sym (ap (λ (t : Bool). cond t (entries_of es) (entries_of es ++ record { begin = s.running.operation; client = c; reply = None } ∷ [])) none_edited) in
+      ∙ sym (ap (λ (t : Bool). cond t (entries_of es) (entries_of es ++ record { begin = s.running.number; client = c; reply = None } ∷ [])) none_edited) in
       let names_are : numbers_in (entries_of (es ++ e ∷ [])) ≡ numbers_in (entries_of es) ++ e.begin ∷ [] = ap numbers_in (entries_push es e) ∙ names_push (entries_of es) (entry_of e) in
       edit_goes c b s (record { running = record s.running { edited = set.insert s.running.edited b }; found = s.found; place = Some place }) list (es ++ e ∷ []) has refl refl list_is order_is (
         is_any_of (set.insert s.running.edited b) b (has-insert_same s.running.edited b),
         ap (λ ns. slice_get ns place) names_are ∙ ap (slice_get (numbers_in (entries_of es) ++ e.begin ∷ [])) (place_is ∙ sym (length-names es))
             ∙ get_last (numbers_in (entries_of es)) e.begin ∙ ap (λ k. Some k) begin_is,
       )
-      (λ q z g. let p = kept.placed q z g in (p.0, later_place z.place (numbers_in (entries_of es)) e.begin z.running.operation (numbers_in (entries_of (es ++ e ∷ []))) names_are p.1))
+      (λ q z g. let p = kept.placed q z g in (p.0, later_place z.place (numbers_in (entries_of es)) e.begin z.running.number (numbers_in (entries_of (es ++ e ∷ []))) names_are p.1))
       h
 
-  pub committed_at : (c : ℕ) (s : Standing) (v : BatchWorld) → map.get m c ≡ Some s → world_of n m ps es ≡ v → is_some s.place ≡ true → IfSome (running batches v c) (λ r. is_any r.edited ≡ true)
-  committed_at c s v has is some = subst (λ x. IfSome x (λ r. is_any r.edited ≡ true)) (sym (ap (λ v. running batches v c) (sym is) ∙ runs c s has)) ((kept.placed c s has).0 ∙ some)
-
-  -- a client to which two things are done
-  pub table_twice : (m' m'' : Table) (c : ℕ) (s : Standing) (x y : Effect) → map.get m c ≡ Some s → m' ≡ changed_table m c x → m'' ≡ changed_table m' c y → m'' ≡ map.insert m c (changed (changed s x) y)
-  table_twice m' m'' c s x y has first second =
-      second ∙ ap (λ t. changed_table t c y) (first ∙ table_is m c s x has) ∙ table_is (map.insert m c (changed s x)) c (changed s x) y (get-insert_same m c (changed s x))
-      ∙ insert_twice m c (changed s x) (changed (changed s x) y)
+  pub committed_at : (c : ℕ) (s : Standing) (v : BatchWorld) → map.get m c ≡ Some s → world_of n m ps es ≡ v → is_some s.place ≡ true → IfSome (client_at batches v c) (λ r. is_any r.edited ≡ true)
+  committed_at c s v has is some = subst (λ x. IfSome x (λ r. is_any r.edited ≡ true)) (sym (ap (λ v. client_at batches v c) (sym is) ∙ runs c s has)) ((kept.placed c s has).0 ∙ some)
 
   pub kept_list : (cs : List Command) (found list : NumberSet) (lists : List (Option NumberSet)) (b : ℕ) → b < 12 → footprint_of_all cs b ≡ true
       → ((b : ℕ) → b < 12 → get_or lists b None ≡ kept_part (footprint_of_all cs b) (set_after_all found cs) b) → Some list ≡ get_or lists b None → list ≡ part_of (set_after_all found cs) b
@@ -320,12 +312,9 @@ module _ (n : ℕ) (m : Table) (ps : List NumberSet) (hs : List (Option ℕ)) (e
   kept_some cs found lists b low has each none =
       let is : None ≡ Some (part_of (set_after_all found cs) b) = sym none ∙ each b low ∙ ap (λ t. kept_part t (set_after_all found cs) b) has in absurd (cc (is))
 
-  pub changed_there : (m' : Table) (c : ℕ) (s : Standing) (x : Effect) → map.get m c ≡ Some s → m' ≡ changed_table m c x → map.get m' c ≡ Some (changed s x)
-  changed_there m' c s x has is = ap (λ t. map.get t c) (is ∙ table_is m c s x has) ∙ get-insert_same m c (changed s x)
-
   -- the client that the table has, in the machine
-  pub seen_as : (k k' : ℕ) (v : BatchWorld) (x : Option Standing) → world_of n m ps es ≡ v → k' ≡ k → map.get m k' ≡ x → running batches v k ≡ option_map (λ (s : Standing). s.running) x
-  seen_as k k' v x is same has = ap (λ v. running batches v k) (sym is) ∙ get-values (λ (s : Standing). s.running) m k ∙ ap (λ j. option_map (λ (s : Standing). s.running) (map.get m j)) (sym same) ∙ ap (option_map (λ (s : Standing). s.running)) has
+  pub seen_as : (k k' : ℕ) (v : BatchWorld) (x : Option Standing) → world_of n m ps es ≡ v → k' ≡ k → map.get m k' ≡ x → client_at batches v k ≡ option_map (λ (s : Standing). s.running) x
+  seen_as k k' v x is same has = ap (λ v. client_at batches v k) (sym is) ∙ get-values (λ (s : Standing). s.running) m k ∙ ap (λ j. option_map (λ (s : Standing). s.running) (map.get m j)) (sym same) ∙ ap (option_map (λ (s : Standing). s.running)) has
 
 -- the step of an idle client, if it is no Begin
 pub idle_refusal : (l : Locks (List Command)) (s : Step) → ((c : ℕ) (op : List Command) → s ≡ step.Begin c op → ⊥) → map.get l.clients (client_of (step_of s)) ≡ None → Some Idle ≡ refusal batches l (step_of s)

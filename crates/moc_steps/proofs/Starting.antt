@@ -11,7 +11,7 @@ use Rattle.moc_steps.specs.Laws.{IsReached}
 use Rattle.moc_steps.specs.Machine.{start_world}
 use Rattle.moc_steps.specs.Private.Standing.{Standing}
 use Rattle.moc_steps.specs.Played.{entries_of}
-use Rattle.moc_steps.specs.Private.Worlds.{IsKept, world_of}
+use Rattle.moc_steps.specs.Private.Worlds.{IsWorld, world_of}
 use Rattle.moc_steps.specs.declared.step.Entry.{Entry}
 use Rattle.moc_steps.proofs.AnyObject.{start_reached}
 use Rattle.moc_steps.proofs.Loops.{twelve_nones}
@@ -47,7 +47,7 @@ module _ (m : Table) (ps : List NumberSet) (es : List Entry) (start : NumberSet)
   not_there : {A : Type 0} (c : ℕ) (s : Standing) → map.get m c ≡ Some s → A
   not_there c s h = let gone : map.get m c ≡ None = ap (λ (t : Table). map.get t c) idle ∙ map.get-empty nat_cmp c in absurd (cc (gone, h))
 
-  pub start_kept : IsWithin start pixels → IsKept 0 m ps nobody es
+  pub start_kept : IsWithin start pixels → IsWorld 0 m ps nobody es
   start_kept within = record {
     reached = subst (λ w. IsReached batches w) (sym starts) (start_reached batches start within);
     held = λ b l. twelve_nones b ∙ sym (holder_nobody (clients_of m) b (λ c r h. (

@@ -8,7 +8,7 @@ use Rattle.moc_parts.specs.Objects.{Object, base_pixel}
 use Rattle.moc_parts.specs.Batches.{batches}
 use Rattle.moc_parts.specs.declared.command.Command.{Command}
 use Rattle.moc_steps.specs.Machine.{Step, Running, ArePermitted, AreLocal, all_idle, refusal, World, Entry, reply_to}
-use Rattle.moc_steps.specs.Machine.{world_after, run, start_world, part_at, whole, running}
+use Rattle.moc_steps.specs.Machine.{world_after, world_after_all, start_world, part_at, whole, client_at}
 use Rattle.moc_steps.specs.Orders.{operations, midway, Explains, set_by_order, numbers_in, times, AreProgress}
 use Rattle.moc_steps.specs.Orders.{is_progress}
 use Rattle.moc_steps.specs.Orders.{client_of, steps_left, is_to_come}
@@ -16,7 +16,7 @@ use Rattle.moc_steps.specs.Orders.{client_of, steps_left, is_to_come}
 module _ {Op Reply : Type 0} (o : Object Op Reply) where
   -- the world that steps lead to
   abbrev pub led_to : NumberSet → List (Step Op) → World Op Reply
-  led_to start steps = run o (start_world o start) steps
+  led_to start steps = world_after_all o (start_world o start) steps
 
   -- steps by local operations, each permitted when it is taken, from a set of pixels
   pub record ArePlayed (start : NumberSet) (steps : List (Step Op)) : Type 0 where
@@ -38,7 +38,7 @@ module _ {Op Reply : Type 0} (o : Object Op Reply) where
   -- a permitted step of a midway client that is neither a Begin nor a Quit
   abbrev pub CanGoOn : World Op Reply → Type 0
   CanGoOn w = (step : Step Op) × (refusal o w.locks step ≡ None) × (is_progress step ≡ true)
-      × (r : Running Op) × (running o w (client_of step) ≡ Some r)
+      × (r : Running Op) × (client_at o w (client_of step) ≡ Some r)
 
   -- more steps are bounded, keep the order, and add to it what was to come
   pub record EndsWell (start : NumberSet) (steps more : List (Step Op)) : Type 0 where
@@ -58,9 +58,9 @@ module _ {Op Reply : Type 0} (o : Object Op Reply) where
   -- the reply that a step gives is the one in the entry of its client's operation
   abbrev pub RepliesByEntry : World Op Reply → Step Op → Type 0
   RepliesByEntry w step = (y : Reply) → reply_to o w step ≡ Some y
-      → (r : Running Op) × (running o w (client_of step) ≡ Some r)
-      × (times r.operation (numbers_in (world_after o w step).order) ≡ 1)
-      × HasReply r.operation y (world_after o w step).order
+      → (r : Running Op) × (client_at o w (client_of step) ≡ Some r)
+      × (times r.number (numbers_in (world_after o w step).order) ≡ 1)
+      × HasReply r.number y (world_after o w step).order
 
   -- permitted steps lead to the world
   pub record IsReached (w : World Op Reply) : Type 0 where
@@ -79,7 +79,7 @@ StepsHaveOneOrder = (start : NumberSet) (steps : List (Step (List Command))) →
 -- where a client is midway somebody can go on
 abbrev pub WorldsAreNeverStuck : Type 0
 WorldsAreNeverStuck = (start : NumberSet) (steps : List (Step (List Command))) → ArePlayed batches start steps
-    → (c : ℕ) (r : Running (List Command)) → running batches (led_to batches start steps) c ≡ Some r
+    → (c : ℕ) (r : Running (List Command)) → client_at batches (led_to batches start steps) c ≡ Some r
     → CanGoOn batches (led_to batches start steps)
 
 -- from a world that permitted steps lead to, more steps that are neither Begins nor Quits

@@ -29,9 +29,9 @@ pub data Step (Op : Type 0) : Type 0 where
 
 -- a client that is midway
 pub record Running (Op : Type 0) : Type 0 where
-  -- its operation is named by how many Begins stand before its own
-  pub operation : ℕ
-  pub command : Op
+  -- how many Begins stand before its own
+  pub number : ℕ
+  pub operation : Op
   -- how many parts of its footprint it has taken, in rising order
   pub taken : ℕ
   pub edited : set.FinSet nat_cmp
@@ -53,10 +53,6 @@ pub record Locks (Op : Type 0) : Type 0 where
 abbrev pub twelve : List ℕ
 twelve = 0 ∷ 1 ∷ 2 ∷ 3 ∷ 4 ∷ 5 ∷ 6 ∷ 7 ∷ 8 ∷ 9 ∷ 10 ∷ 11 ∷ []
 
--- a number is one of a list
-abbrev pub is_in : ℕ → List ℕ → Bool
-is_in b bs = list_any (λ x. nat_eq x b) bs
-
 -- whether the set has a member
 abbrev pub is_any : set.FinSet nat_cmp → Bool
 is_any s = not (nat_eq (set.len s) 0)
@@ -68,11 +64,11 @@ module _ {Op Reply : Type 0} (o : Object Op Reply) where
 
   -- the part that the client takes next, if any is left
   unfoldable pub next_part : Running Op → Option ℕ
-  next_part r = slice_get (footprint_parts r.command) r.taken
+  next_part r = slice_get (footprint_parts r.operation) r.taken
 
   -- the client has taken the part
   unfoldable pub has_taken : Running Op → ℕ → Bool
-  has_taken r b = is_in b (take r.taken (footprint_parts r.command))
+  has_taken r b = list_any (λ x. nat_eq x b) (take r.taken (footprint_parts r.operation))
 
   -- it has taken the part and not given it back
   abbrev pub holds : Running Op → ℕ → Bool
@@ -82,13 +78,9 @@ module _ {Op Reply : Type 0} (o : Object Op Reply) where
   abbrev pub holds_some : Running Op → Bool
   holds_some r = list_any (holds r) twelve
 
-  -- a client, if it is midway, holds the part
-  abbrev pub holds_now : Option (Running Op) → ℕ → Bool
-  holds_now r b = option_map_or (λ r. holds r b) r false
-
   -- the client that holds a part, if one does
   unfoldable pub holder : Clients Op → ℕ → Option ℕ
-  holder m b = find (λ c. holds_now (map.get m c) b) (map.keys m)
+  holder m b = find (λ c. option_map_or (λ r. holds r b) (map.get m c) false) (map.keys m)
 
   -- of a Begin, by the client, if it is midway
   abbrev pub begin_refusal : Locks Op → Option (Running Op) → Option StepError
@@ -140,22 +132,23 @@ module _ {Op Reply : Type 0} (o : Object Op Reply) where
   refusal s (End c) = unless_idle (map.get s.clients c) end_refusal
 
   -- a client that begins an operation
-  abbrev pub begins : ℕ → Op → Running Op
-  begins n op = record { operation = n; command = op; taken = 0; edited = set.empty; given = set.empty; quits = false }
+  abbrev pub new_running : ℕ → Op → Running Op
+  new_running n op =
+      record { number = n; operation = op; taken = 0; edited = set.empty; given = set.empty; quits = false }
 
   -- a client changed, if it is midway
-  abbrev pub change : Locks Op → ℕ → (Running Op → Running Op) → Locks Op
-  change s c f = record s {
+  abbrev pub with_client : Locks Op → ℕ → (Running Op → Running Op) → Locks Op
+  with_client s c f = record s {
     clients = option_map_or (λ r. map.insert s.clients c (f r)) (map.get s.clients c) s.clients;
   }
 
   -- what a permitted step leaves
   abbrev pub locks_after : Locks Op → Step Op → Locks Op
-  locks_after s (Begin c op) = record { begun = suc s.begun; clients = map.insert s.clients c (begins s.begun op) }
-  locks_after s (Take c) = change s c (λ r. record r { taken = suc r.taken })
-  locks_after s (Edit c b) = change s c (λ r. record r { edited = set.insert r.edited b })
-  locks_after s (Give c b) = change s c (λ r. record r { given = set.insert r.given b })
-  locks_after s (Quit c) = change s c (λ r. record r { quits = true })
+  locks_after s (Begin c op) = record { begun = suc s.begun; clients = map.insert s.clients c (new_running s.begun op) }
+  locks_after s (Take c) = with_client s c (λ r. record r { taken = suc r.taken })
+  locks_after s (Edit c b) = with_client s c (λ r. record r { edited = set.insert r.edited b })
+  locks_after s (Give c b) = with_client s c (λ r. record r { given = set.insert r.given b })
+  locks_after s (Quit c) = with_client s c (λ r. record r { quits = true })
   locks_after s (End c) = record { begun = s.begun; clients = map.remove s.clients c }
 
   -- no operation has begun
@@ -201,66 +194,63 @@ module _ {Op Reply : Type 0} (o : Object Op Reply) where
   part_at w b = get_or w.parts b set.empty
 
   -- a client, if it is midway
-  abbrev pub running : World Op Reply → ℕ → Option (Running Op)
-  running w c = map.get w.locks.clients c
+  abbrev pub client_at : World Op Reply → ℕ → Option (Running Op)
+  client_at w c = map.get w.locks.clients c
 
   -- what a client found in the parts that it took
   abbrev pub found_by : World Op Reply → ℕ → NumberSet
   found_by w c = unwrap_or (map.get w.found c) set.empty
 
   -- the set and the reply of the client's operation, from what it found
-  abbrev pub answered : World Op Reply → ℕ → Running Op → NumberSet × Reply
-  answered w c r = o.answer (found_by w c) r.command
-
-  -- the order after an Edit: the first one of an operation appends its entry
-  abbrev pub appended : List (Entry Reply) → ℕ → Option (Running Op) → List (Entry Reply)
-  appended order c r = option_map_or
-      (λ r. if is_any r.edited then order
-      else (order ++ record { begin = r.operation; client = c; reply = None } ∷ []))
-      r order
+  abbrev pub answer_on_found : World Op Reply → ℕ → Running Op → NumberSet × Reply
+  answer_on_found w c r = o.answer (found_by w c) r.operation
 
   -- the entry with a reply, if it is that of operation n
-  abbrev pub replied : ℕ → Reply → Entry Reply → Entry Reply
-  replied n reply e = if nat_eq e.begin n then record { begin = e.begin; client = e.client; reply = Some reply } else e
+  abbrev pub with_reply : ℕ → Reply → Entry Reply → Entry Reply
+  with_reply n reply e = if nat_eq e.begin n then record e { reply = Some reply } else e
 
-  -- the order after an End: its operation's entry gets the reply, unless it quits
-  abbrev pub completed : World Op Reply → ℕ → Option (Running Op) → List (Entry Reply)
-  completed w c r = option_map_or
-      (λ r. if r.quits then w.order else map_list (replied r.operation (answered w c r).1) w.order)
-      r w.order
+  -- the parts after a step: an Edit puts the answer's part in the part's place
+  abbrev pub parts_after : World Op Reply → Step Op → List NumberSet
+  parts_after w (Edit c b) =
+      option_map_or (λ r. set_at w.parts b (part_of (answer_on_found w c r).0 b)) (client_at w c) w.parts
+  parts_after w step = w.parts
 
-  -- What a permitted step leaves. A Take notes what the part holds; an Edit puts the answer's part in the part's place.
+  -- what midway clients have found after a step: a Take adds what the part holds
+  abbrev pub found_after : World Op Reply → Step Op → map.FinMap nat_cmp NumberSet
+  found_after w (Begin c op) = map.insert w.found c set.empty
+  found_after w (Take c) = map.insert w.found c (option_map_or
+      (λ r. set.union (found_by w c) (unwrap_or (option_map (part_at w) (next_part o r)) set.empty))
+      (client_at w c) (found_by w c))
+  found_after w (End c) = map.remove w.found c
+  found_after w step = w.found
+
+  -- the order after a step: an operation's first Edit appends its entry, its End, unless it quits, adds the reply
+  abbrev pub entries_after : World Op Reply → Step Op → List (Entry Reply)
+  entries_after w (Edit c b) = option_map_or
+      (λ r. if is_any r.edited then w.order
+      else (w.order ++ record { begin = r.number; client = c; reply = None } ∷ []))
+      (client_at w c) w.order
+  entries_after w (End c) = option_map_or
+      (λ r. if r.quits then w.order else map_list (with_reply r.number (answer_on_found w c r).1) w.order)
+      (client_at w c) w.order
+  entries_after w step = w.order
+
+  -- what a permitted step leaves
   abbrev pub world_after : World Op Reply → Step Op → World Op Reply
-  world_after w (Begin c op) = record w {
-    locks = locks_after o w.locks (Begin c op);
-    found = map.insert w.found c set.empty;
-  }
-  world_after w (Take c) = record w {
-    locks = locks_after o w.locks (Take c);
-    found = map.insert w.found c (option_map_or
-        (λ r. set.union (found_by w c) (unwrap_or (option_map (part_at w) (next_part o r)) set.empty))
-        (running w c) (found_by w c));
-  }
-  world_after w (Edit c b) = record w {
-    locks = locks_after o w.locks (Edit c b);
-    parts = option_map_or (λ r. set_at w.parts b (part_of (answered w c r).0 b)) (running w c) w.parts;
-    order = appended w.order c (running w c);
-  }
-  world_after w (Give c b) = record w { locks = locks_after o w.locks (Give c b) }
-  world_after w (Quit c) = record w { locks = locks_after o w.locks (Quit c) }
-  world_after w (End c) = record w {
-    locks = locks_after o w.locks (End c);
-    found = map.remove w.found c;
-    order = completed w c (running w c);
+  world_after w step = record {
+    locks = locks_after o w.locks step;
+    parts = parts_after w step;
+    found = found_after w step;
+    order = entries_after w step;
   }
 
   -- the world after steps, from this one
-  abbrev pub run : World Op Reply → List (Step Op) → World Op Reply
-  run w steps = fold world_after w steps
+  abbrev pub world_after_all : World Op Reply → List (Step Op) → World Op Reply
+  world_after_all w steps = fold world_after w steps
 
   -- the reply that a step gives: an End's, of an operation that does not quit
   abbrev pub reply_to : World Op Reply → Step Op → Option Reply
-  reply_to w (End c) = option_and_then (λ r. if r.quits then None else Some (answered w c r).1) (running w c)
+  reply_to w (End c) = option_and_then (λ r. if r.quits then None else Some (answer_on_found w c r).1) (client_at w c)
   reply_to w step = None
 
   -- the union of the twelve sets

@@ -2,7 +2,7 @@
 use Rattle.std.specs.Prelude.{ℕ, Bool, true, false, not, ◌&&◌, nat_eq, List, [], ◌∷◌, ◌++◌, map as map_list}
 use Rattle.std.specs.Prelude.{if◌then◌else◌, count_by, fold, ◌≡◌, ◌<◌, ◌≤◌, length, Option, None, Some, option_map}
 use Rattle.std.specs.Prelude.{slice_get, ◌+◌, ◌*◌, sum_by}
-use Rattle.moc_steps.specs.Machine.{Step, Entry, Running, Clients, twelve}
+use Rattle.moc_steps.specs.Machine.{Step, Entry, Clients, twelve}
 use Rattle.moc_steps.specs.Machine.Step.{Begin, Take, Edit, Give, Quit, End}
 use Rattle.std.specs.Option.{option_map_or}
 use Rattle.moc_lists.specs.RangeList.{NumberSet}
@@ -15,7 +15,7 @@ use Rattle.std.specs.FinMap as map
 -- what became of an operation
 pub record Fate (Op : Type 0) : Type 0 where
   pub client : ℕ
-  pub command : Op
+  pub operation : Op
   -- it has edited a part
   pub committed : Bool
   pub quits : Bool
@@ -24,7 +24,7 @@ pub record Fate (Op : Type 0) : Type 0 where
 module _ {Op : Type 0} where
   -- an operation that begins
   abbrev pub just_begun : ℕ → Op → Fate Op
-  just_begun c op = record { client = c; command = op; committed = false; quits = false; ended = false }
+  just_begun c op = record { client = c; operation = op; committed = false; quits = false; ended = false }
 
   -- an operation of the client that has not ended
   abbrev pub is_open : ℕ → Fate Op → Bool
@@ -35,25 +35,20 @@ module _ {Op : Type 0} where
   with_open c f xs = map_list (λ x. if is_open c x then f x else x) xs
 
   -- the operations after one more step
-  abbrev pub noted : List (Fate Op) → Step Op → List (Fate Op)
-  noted xs (Begin c op) = xs ++ just_begun c op ∷ []
-  noted xs (Take c) = xs
-  noted xs (Edit c b) = with_open c (λ x. record x { committed = true }) xs
-  noted xs (Give c b) = xs
-  noted xs (Quit c) = with_open c (λ x. record x { quits = true }) xs
-  noted xs (End c) = with_open c (λ x. record x { ended = true }) xs
+  abbrev pub fates_after : List (Fate Op) → Step Op → List (Fate Op)
+  fates_after xs (Begin c op) = xs ++ just_begun c op ∷ []
+  fates_after xs (Edit c b) = with_open c (λ x. record x { committed = true }) xs
+  fates_after xs (Quit c) = with_open c (λ x. record x { quits = true }) xs
+  fates_after xs (End c) = with_open c (λ x. record x { ended = true }) xs
+  fates_after xs step = xs
 
   -- operation n stands at place n
   abbrev pub operations : List (Step Op) → List (Fate Op)
-  operations steps = fold noted [] steps
+  operations steps = fold fates_after [] steps
 
-  -- it has not ended
-  abbrev pub is_midway : Fate Op → Bool
-  is_midway x = not x.ended
-
-  -- how many operations are midway
+  -- how many operations are midway: they have not ended
   abbrev pub midway : List (Step Op) → ℕ
-  midway steps = count_by is_midway (operations steps)
+  midway steps = count_by (λ x. not x.ended) (operations steps)
 
 -- Orders that explain steps
 
@@ -85,7 +80,7 @@ module _ {Op Reply : Type 0} (o : Object Op Reply) where
   abbrev pub done_alone : NumberSet → Option (Fate Op) → NumberSet × Option Reply
   done_alone A None = (A, None)
   done_alone A (Some x) =
-      let answer = o.answer A x.command in (answer.0, if x.ended && not x.quits then Some answer.1 else None)
+      let answer = o.answer A x.operation in (answer.0, if x.ended && not x.quits then Some answer.1 else None)
 
   -- each entry names an operation of its client, and has the reply of that operation done alone after those before it
   abbrev pub HaveReplies : List (Fate Op) → List (Entry Reply) → NumberSet → Type 0
@@ -95,13 +90,10 @@ module _ {Op Reply : Type 0} (o : Object Op Reply) where
       × (e.reply ≡ (done_alone A (slice_get xs e.begin)).1)
       × HaveReplies xs order (done_alone A (slice_get xs e.begin)).0
 
-  -- the set after the operations, done one by one in their order
-  abbrev pub result_of : List (Fate Op) → List (Entry Reply) → NumberSet → NumberSet
-  result_of xs order A = fold (λ B e. (done_alone B (slice_get xs e.begin)).0) A order
-
   -- the set after the operations of the steps, done one by one in the order
   abbrev pub set_by_order : List (Entry Reply) → List (Step Op) → NumberSet → NumberSet
-  set_by_order order steps start = result_of (operations steps) order start
+  set_by_order order steps start =
+      fold (λ A e. (done_alone A (slice_get (operations steps) e.begin)).0) start order
 
   -- The order explains the steps: it names the committed operations, in time, with their replies.
   pub record Explains (order : List (Entry Reply)) (steps : List (Step Op)) (start : NumberSet) : Type 0 where
@@ -118,11 +110,8 @@ module _ {Op : Type 0} where
   -- neither a Begin nor a Quit
   abbrev pub is_progress : Step Op → Bool
   is_progress (Begin c op) = false
-  is_progress (Take c) = true
-  is_progress (Edit c b) = true
-  is_progress (Give c b) = true
   is_progress (Quit c) = false
-  is_progress (End c) = true
+  is_progress step = true
 
   -- the client that steps
   abbrev pub client_of : Step Op → ℕ
@@ -138,13 +127,10 @@ module _ {Op : Type 0} where
   AreProgress steps = AllByRecursion (λ step. is_progress step ≡ true) steps
 
 module _ {Op Reply : Type 0} (o : Object Op Reply) where
-  -- a Take, an Edit and a Give for each part of the footprint, and an End
-  abbrev pub steps_wanted : Option (Running Op) → ℕ
-  steps_wanted r = option_map_or (λ r. 3 * count_by (o.footprint r.command) twelve + 1) r 0
-
-  -- enough steps to bring all midway clients to their ends
+  -- of each midway client a Take, an Edit and a Give for each part of its footprint, and an End
   abbrev pub steps_left : Clients Op → ℕ
-  steps_left m = sum_by (λ c. steps_wanted (map.get m c)) (map.keys m)
+  steps_left m = sum_by
+      (λ c. option_map_or (λ r. 3 * count_by (o.footprint r.operation) twelve + 1) (map.get m c) 0) (map.keys m)
 
 -- an operation that is midway, does not quit and has not edited
 abbrev pub is_to_come : {Op : Type 0} → Option (Fate Op) → Bool

@@ -1,20 +1,20 @@
 //! Clients that are midway.
-ghost use Rattle.std.specs.Prelude.{◌≡◌, ◌<◌, ◌+◌, true, suc, IfOk, IsSome, None, Some, take, slice_get};
+ghost use Rattle.std.specs.Prelude.{◌≡◌, ◌<◌, ◌+◌, true, suc, IfOk, IfSome, IsSome, None, Some, take, slice_get};
 ghost use Rattle.std.specs.Prelude.{nat_eq, nat_lt, option_map};
 ghost use Rattle.std.specs.List.{list_any};
 ghost use Rattle.std.specs.Option.{option_copied};
 ghost use Rattle.std.specs.FinSet as set;
 ghost use Rattle.moc_ranges.specs.Operations.{part_of};
-ghost use Rattle.moc_parts.specs.Batches.{batches, footprint_of_all, set_after_all, replies_on};
+ghost use Rattle.moc_parts.specs.Batches.{batches, footprint_of_all, set_after_all};
 ghost use Rattle.moc_steps.specs.Machine as machine;
-ghost use Rattle.moc_steps.specs.Machine.{begins, holds, holds_some, edit_refusal, give_refusal, quit_refusal};
+ghost use Rattle.moc_steps.specs.Machine.{new_running, holds, holds_some, edit_refusal, give_refusal, quit_refusal};
 ghost use Rattle.moc_steps.specs.Machine.{end_refusal};
-ghost use Rattle.moc_steps.specs.Private.Standing.{IsMade};
+ghost use Rattle.moc_steps.specs.Private.Standing.{Making, IsMade};
 
 use crate::error::StepError;
 use crate::made::{Made, no_lists};
 use crate::share::Share;
-use moc_parts::{Batch, Part, PartSet, Replies};
+use moc_parts::{Batch, Part, PartSet};
 use moc_ranges::Memory;
 use std::alloc::Global;
 use std::marker::Model;
@@ -22,7 +22,7 @@ use std::marker::Model;
 /// A client that is midway: its operation, and how far it has come.
 #[derive(Drop)]
 pub(crate) struct Midway {
-    operation: u64,
+    number: u64,
     batch: Batch,
     /// The parts of its footprint, rising.
     parts: Vec<Part>,
@@ -49,8 +49,8 @@ impl Model for Midway {
 
     ghost view = { λ m. record {
       running = record {
-        operation = m.operation;
-        command = m.batch;
+        number = m.number;
+        operation = m.batch;
         taken = m.taken;
         edited = m.edited;
         given = m.given;
@@ -65,13 +65,13 @@ impl Model for Midway {
 
 impl Midway {
     /// A client that begins.
-    pub(crate) fn new(alloc: Global, operation: u64, batch: Batch) -> Result<Midway, Memory>
+    pub(crate) fn new(alloc: Global, number: u64, batch: Batch) -> Result<Midway, Memory>
         ensures { IfOk result (λ m.
-            m ≡ record { running = begins batches operation batch; found = set.empty; place = None }) }
+            m ≡ record { running = new_running batches number batch; found = set.empty; place = None }) }
     {
         let parts = parts_of(alloc, &batch)?;
         Ok(Midway {
-            operation,
+            number,
             batch,
             parts,
             taken: 0,
@@ -84,10 +84,10 @@ impl Midway {
     }
 
     /// How many operations had begun before its own.
-    pub(crate) fn operation(&self) -> u64
-        ensures { result ≡ self.now.running.operation }
+    pub(crate) fn number(&self) -> u64
+        ensures { result ≡ self.now.running.number }
     {
-        self.operation
+        self.number
     }
 
     /// Whether it quits.
@@ -213,22 +213,16 @@ impl Midway {
     pub(crate) fn place(&self) -> Option<usize>
         ensures { result ≡ self.now.place }
     {
-        match &self.made {
-            Some(made) => Some(made.place()),
-            None => None,
-        }
+        Some(self.made.as_ref()?.place())
     }
 
     /// The new list of a part of its footprint, once that is made.
     pub(crate) fn new_list(&self, part: Part) -> Option<&Share>
         requires made { IsSome self.now.place }
-        requires part { footprint_of_all self.now.running.command part ≡ true }
-        ensures { option_copied result ≡ Some (part_of (set_after_all self.now.found self.now.running.command) part) }
+        requires part { footprint_of_all self.now.running.operation part ≡ true }
+        ensures { option_copied result ≡ Some (part_of (set_after_all self.now.found self.now.running.operation) part) }
     {
-        match &self.made {
-            Some(made) => made.list(part),
-            None => None,
-        }
+        self.made.as_ref()?.list(part)
     }
 
     /// Takes its next part, and notes what it finds there.
@@ -242,19 +236,24 @@ impl Midway {
           found = set.union self.old.found list;
         } }
     {
-        self.found[usize::from(part.get())] = Some(list);
+        self.found[part.index()] = Some(list);
         self.taken += 1;
     }
 
-    /// Keeps what its first Edit made.
-    pub(crate) fn commit(&mut self, made: Made)
+    /// Has edited its first part, and keeps what that made.
+    pub(crate) fn commit(&mut self, made: Made, part: Part)
         requires { IsMade self.old made }
-        ensures { self.new ≡ record { running = self.old.running; found = self.old.found; place = Some made.place } }
+        ensures { self.new ≡ record {
+          running = record self.old.running { edited = set.insert self.old.running.edited part };
+          found = self.old.found;
+          place = Some made.place;
+        } }
     {
         self.made = Some(made);
+        self.edited.insert(part);
     }
 
-    /// Has edited a part.
+    /// Has edited one part more.
     pub(crate) fn edit(&mut self, part: Part)
         requires { IsSome self.old.place }
         ensures { self.new ≡ record self.old {
@@ -280,17 +279,13 @@ impl Midway {
         self.quits = true;
     }
 
-    /// Its replies and a copy of them, if it is committed.
-    pub(crate) fn into_replies(self) -> Option<(Replies, Replies)>
-        ensures { result ≡ option_map
-            (λ place. (replies_on self.found self.running.command, replies_on self.found self.running.command))
-            self.place }
+    /// What its first Edit made, if it is committed.
+    pub(crate) fn into_made(self) -> Option<Made>
+        ensures place { option_map (λ (m : Making). m.place) result ≡ self.place }
+        ensures made { IfSome result (λ m. IsMade self m) }
     {
         let Midway { made, .. } = self;
-        match made {
-            Some(made) => Some(made.into_replies()),
-            None => None,
-        }
+        made
     }
 }
 

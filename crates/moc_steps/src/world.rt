@@ -5,14 +5,15 @@ ghost use Rattle.std.specs.Option.{option_copied};
 ghost use Rattle.std.specs.FinMap as map;
 ghost use Rattle.moc_parts.specs.Batches.{batches};
 ghost use Rattle.moc_steps.specs.Machine as machine;
-ghost use Rattle.moc_steps.specs.Machine.{refusal, begin_refusal, is_any, take_refusal, part_at, reply_to, running};
+ghost use Rattle.moc_steps.specs.Machine.{refusal, begin_refusal, is_any, take_refusal, part_at, reply_to, client_at};
 ghost use Rattle.moc_steps.specs.Machine.{start_world, whole, world_after};
 ghost use Rattle.moc_steps.specs.Laws.{IsReached, RepliesByEntry};
 ghost use Rattle.moc_steps.specs.Orders.{is_progress, steps_left};
 ghost use Rattle.moc_parts.specs.Prepared.{found_sets};
 ghost use Rattle.moc_steps.specs.Played.{entries_of, step_of, IsCoverFault, IsRefused};
-ghost use Rattle.moc_steps.specs.Private.Worlds.{IsFree, IsHighest};
+ghost use Rattle.moc_steps.specs.Private.Worlds.{NoneHeld, IsHighest};
 ghost use Rattle.moc_steps.specs.Private.Standing.{Standing};
+ghost use Rattle.moc_steps.specs.declared.error.StepError.TheVariants as fault;
 
 use crate::error::{CoverError, StepError};
 use crate::midway::Midway;
@@ -40,7 +41,7 @@ pub struct World {
 impl Model for World {
     ghost use Rattle.moc_steps.specs.Private.Codes.{world_code};
     ghost use Rattle.moc_steps.specs.Played.{BatchWorld as Played};
-    ghost use Rattle.moc_steps.specs.Private.Worlds.{world_of, IsKept};
+    ghost use Rattle.moc_steps.specs.Private.Worlds.{world_of, IsWorld};
 
     ghost Value = { Played };
 
@@ -48,7 +49,7 @@ impl Model for World {
 
     ghost view = { λ w. world_of w.begun w.clients w.parts.items w.order.items };
 
-    ghost invariant = { λ w. IsKept w.begun w.clients w.parts.items w.holders w.order.items };
+    ghost invariant = { λ w. IsWorld w.begun w.clients w.parts.items w.holders w.order.items };
 }
 
 impl World {
@@ -74,7 +75,7 @@ impl World {
     pub fn part(&self, part: Part) -> &Coverage
         ensures { result.now ≡ part_at batches self.now part }
     {
-        self.parts[usize::from(part.get())].list()
+        self.parts[part.index()].list()
     }
 
     /// How many clients are midway. O(1), takes no memory.
@@ -120,19 +121,21 @@ impl World {
         }
     }
 
-    /// Why a midway client may not take its next part.
-    fn take_refusal(&self, client: &Midway) -> Option<StepError>
-        ensures { result ≡ take_refusal batches self.now.locks client.now.running }
+    /// The part that a midway client may take, or why it may not take one.
+    fn part_to_take(&self, client: &Midway) -> Result<Part, StepError>
+        ensures next { IfOk result (λ b. machine.next_part batches client.now.running ≡ Some b) }
+        ensures permitted { OnOk result (take_refusal batches self.now.locks client.now.running ≡ None) }
+        ensures refused { IfErr result (λ why. take_refusal batches self.now.locks client.now.running ≡ Some why) }
     {
         if client.quits() {
-            return Some(StepError::Quitting);
+            return Err(StepError::Quitting);
         }
         let Some(part) = client.next_part() else {
-            return Some(StepError::AllTaken);
+            return Err(StepError::AllTaken);
         };
-        match self.holders[usize::from(part.get())] {
-            Some(by) => Some(StepError::PartHeld { part, by }),
-            None => None,
+        match self.holders[part.index()] {
+            Some(by) => Err(StepError::PartHeld { part, by }),
+            None => Ok(part),
         }
     }
 
@@ -140,21 +143,14 @@ impl World {
     fn refusal(&self, step: &Step) -> Option<StepError>
         ensures { result ≡ refusal batches self.now.locks (step_of step.now) }
     {
-        let client = self.clients.get(step.client());
-        if let Step::Begin { .. } = step {
-            return self.begin_refusal(client);
-        }
-        let Some(client) = client else {
-            return Some(StepError::Idle);
-        };
-        match step {
-            // Asked above.
-            Step::Begin { .. } => unreachable!(),
-            Step::Take { .. } => self.take_refusal(client),
-            Step::Edit { part, .. } => client.edit_refusal(*part),
-            Step::Give { part, .. } => client.give_refusal(*part),
-            Step::Quit { .. } => client.quit_refusal(),
-            Step::End { .. } => client.end_refusal(),
+        match (step, self.clients.get(step.client())) {
+            (Step::Begin { .. }, client) => self.begin_refusal(client),
+            (_, None) => Some(StepError::Idle),
+            (Step::Take { .. }, Some(client)) => self.part_to_take(client).err(),
+            (Step::Edit { part, .. }, Some(client)) => client.edit_refusal(*part),
+            (Step::Give { part, .. }, Some(client)) => client.give_refusal(*part),
+            (Step::Quit { .. }, Some(client)) => client.quit_refusal(),
+            (Step::End { .. }, Some(client)) => client.end_refusal(),
         }
     }
 
@@ -214,22 +210,18 @@ impl World {
     }
 
     /// A permitted Take. The list is not copied.
-    fn take(&mut self, client: u32) -> Result<(), Memory>
+    fn take(&mut self, client: u32) -> Result<(), StepError>
         requires { refusal batches self.old.locks (machine.Step.Take client) ≡ None }
         ensures after { OnOk result (self.new ≡ world_after batches self.old (machine.Step.Take client)) }
+        ensures refused { IfErr result (λ why. why ≡ fault.Memory) }
         ensures unchanged { OnErr result (self.new ≡ self.old) }
     {
-        // A step that is permitted is one of a client that is midway.
-        let Some(midway) = self.clients.get(client) else {
-            unreachable!()
-        };
-        // It is permitted where there is a part left to take.
-        let Some(part) = midway.next_part() else {
-            unreachable!()
-        };
-        let list = self.parts[usize::from(part.get())].share()?;
+        // Neither comes, as the step is permitted.
+        let midway = self.clients.get(client).ok_or(StepError::Idle)?;
+        let part = self.part_to_take(midway)?;
+        let list = self.parts[part.index()].share()?;
         self.clients.change(client, Effect::Take(part, list));
-        self.holders[usize::from(part.get())] = Some(client);
+        self.holders[part.index()] = Some(client);
         Ok(())
     }
 
@@ -246,7 +238,7 @@ impl World {
         if midway.place().is_some() {
             return self.edit_again(client, part);
         }
-        let begin = midway.operation();
+        let begin = midway.number();
         let made = midway.make(self.alloc, self.order.len())?;
         // A part that is held is in the footprint, and has a list.
         let Some(list) = made.list(part) else {
@@ -259,16 +251,15 @@ impl World {
             client,
             reply,
         })?;
-        self.clients.change(client, Effect::Commit(made));
-        self.clients.change(client, Effect::Edit(part));
-        self.parts[usize::from(part.get())] = list;
+        self.clients.change(client, Effect::Commit(made, part));
+        self.parts[part.index()] = list;
         Ok(())
     }
 
     /// A permitted Edit of an operation that is committed.
     fn edit_again(&mut self, client: u32, part: Part) -> Result<(), Memory>
         requires permitted { refusal batches self.old.locks (machine.Step.Edit client part) ≡ None }
-        requires committed { IfSome (running batches self.old client) (λ r. is_any r.edited ≡ true) }
+        requires committed { IfSome (client_at batches self.old client) (λ r. is_any r.edited ≡ true) }
         ensures after { OnOk result (self.new ≡ world_after batches self.old (machine.Step.Edit client part)) }
         ensures unchanged { OnErr result (self.new ≡ self.old) }
     {
@@ -282,7 +273,7 @@ impl World {
         };
         let list = list.share()?;
         self.clients.change(client, Effect::Edit(part));
-        self.parts[usize::from(part.get())] = list;
+        self.parts[part.index()] = list;
         Ok(())
     }
 
@@ -292,7 +283,7 @@ impl World {
         ensures { self.new ≡ world_after batches self.old (machine.Step.Give client part) }
     {
         self.clients.change(client, Effect::Give(part));
-        self.holders[usize::from(part.get())] = None;
+        self.holders[part.index()] = None;
     }
 
     /// A permitted Quit.
@@ -311,8 +302,9 @@ impl World {
         ensures entry { RepliesByEntry batches self.old (machine.Step.End client) }
     {
         let midway = self.clients.remove(client)?;
-        let place = midway.place()?;
-        let (replies, copy) = midway.into_replies()?;
+        let made = midway.into_made()?;
+        let place = made.place();
+        let (replies, copy) = made.into_replies();
         self.order[place].reply = Some(copy);
         Some(replies)
     }
@@ -348,7 +340,7 @@ impl World {
         ensures none { result ≡ None → map.len self.now.locks.clients ≡ 0 }
     {
         for part in Part::ALL.iter().rev() {
-            if let Some(client) = self.holders[usize::from(part.get())] {
+            if let Some(client) = self.holders[part.index()] {
                 return self.step_of_holder(client, *part);
             }
         }
@@ -374,7 +366,7 @@ impl World {
 
     /// The next step of the first midway client, where no part is held.
     fn step_of_first(&self) -> Option<Step>
-        requires { IsFree self.now }
+        requires { NoneHeld self.now }
         ensures some { IfSome result (λ s.
             (refusal batches self.now.locks (step_of s) ≡ None) × (is_progress (step_of s) ≡ true)) }
         ensures none { result ≡ None → map.len self.now.locks.clients ≡ 0 }

@@ -22,10 +22,10 @@ module _ {Op : Type 0} (op_code : Coded Op) where
   running_code =
       code_by (ℕ × (Op × (ℕ × (NumberSet × (NumberSet × Bool)))))
       (coded× coded_ℕ (coded× op_code (coded× coded_ℕ (coded× numbers_code (coded× numbers_code coded_bool)))))
-      (λ r. (r.operation, (r.command, (r.taken, (r.edited, (r.given, r.quits))))))
+      (λ r. (r.number, (r.operation, (r.taken, (r.edited, (r.given, r.quits))))))
       (λ p. record {
-        operation = p.0;
-        command = p.1.0;
+        number = p.0;
+        operation = p.1.0;
         taken = p.1.1.0;
         edited = p.1.1.1.0;
         given = p.1.1.1.1.0;

@@ -1,6 +1,7 @@
 -- How far a midway client has come.
-use Rattle.std.specs.Prelude.{◌≡◌, ℕ, ◌<◌, true, List, Option, None, IfSome, IsSome, is_some, get_or, take}
+use Rattle.std.specs.Prelude.{◌≡◌, ℕ, ◌<◌, true, List, Option, None, IfSome, IsSome, is_some, get_or, nat_eq, take}
 use Rattle.std.specs.Prelude.{map as map_list}
+use Rattle.std.specs.List.{list_any}
 use Rattle.std.specs.Ordering.{nat_cmp}
 use Rattle.std.specs.FinSet as set
 use Rattle.moc_lists.specs.RangeList.{NumberSet}
@@ -9,7 +10,7 @@ use Rattle.moc_parts.specs.Parts.{union_of, LieInParts}
 use Rattle.moc_parts.specs.Prepared.{found_in, part_if}
 use Rattle.moc_parts.specs.declared.command.Command.{Command}
 use Rattle.moc_parts.specs.declared.reply.Reply.{Reply}
-use Rattle.moc_steps.specs.Machine.{Running, footprint_parts, is_any, is_in}
+use Rattle.moc_steps.specs.Machine.{Running, footprint_parts, is_any}
 
 -- a midway client, what it found in the parts that it took, and the place of its entry once it is committed
 pub record Standing : Type 0 where
@@ -38,14 +39,14 @@ IsMadeFrom cs found m = IsMadeOf cs (union_of found) m
 
 -- the same, of a client that is midway
 abbrev pub IsMade : Standing → Making → Type 0
-IsMade s m = IsMadeOf s.running.command s.found m
+IsMade s m = IsMadeOf s.running.operation s.found m
 
 -- what a midway client keeps beside its flags
 pub record KeepsNotes (cs : List Command) (taken : ℕ) (edited : set.FinSet nat_cmp) (parts : List ℕ)
     (found : List (Option NumberSet)) (made : Option Making) : Type 0 where
   pub rising : parts ≡ footprint_parts batches cs
   -- it has a list for each part that it took, and for no other
-  pub filled : (b : ℕ) → b < 12 → is_some (get_or found b None) ≡ is_in b (take taken parts)
+  pub filled : (b : ℕ) → b < 12 → is_some (get_or found b None) ≡ list_any (λ x. nat_eq x b) (take taken parts)
   pub own : LieInParts (notes found)
   pub ready : IfSome made (λ m. IsMadeFrom cs (notes found) m)
   pub committed : is_any edited ≡ true → IsSome made

@@ -28,11 +28,11 @@ world_of begun clients parts order = record {
 
 -- a committed client knows the place of its entry, and the others have none
 abbrev pub HasPlace : List ℕ → Running (List Command) → Option ℕ → Type 0
-HasPlace ns r place = (is_any r.edited ≡ is_some place) × IfSome place (λ i. slice_get ns i ≡ Some r.operation)
+HasPlace ns r place = (is_any r.edited ≡ is_some place) × IfSome place (λ i. slice_get ns i ≡ Some r.number)
 
 -- what a world keeps: steps lead to it, it knows who holds each part, its clients' numbers are below 2^32, and it knows
 -- where their entries stand
-pub record IsKept (begun : ℕ) (clients : map.FinMap nat_cmp Standing) (parts : List NumberSet)
+pub record IsWorld (begun : ℕ) (clients : map.FinMap nat_cmp Standing) (parts : List NumberSet)
     (holders : List (Option ℕ)) (order : List Entry) : Type 0 where
   pub reached : IsReached batches (world_of begun clients parts order)
   pub held : (b : ℕ) → b < 12 → get_or holders b None ≡ holder batches (values_by (λ s. s.running) clients) b
@@ -42,8 +42,8 @@ pub record IsKept (begun : ℕ) (clients : map.FinMap nat_cmp Standing) (parts :
       → HasPlace (numbers_in (entries_of order)) s.running s.place
 
 -- nobody holds a part
-abbrev pub IsFree : BatchWorld → Type 0
-IsFree w = (b : ℕ) → b < 12 → holder batches w.locks.clients b ≡ None
+abbrev pub NoneHeld : BatchWorld → Type 0
+NoneHeld w = (b : ℕ) → b < 12 → holder batches w.locks.clients b ≡ None
 
 -- a client holds a part, and nobody holds a higher one
 abbrev pub IsHighest : BatchWorld → ℕ → ℕ → Type 0

@@ -23,7 +23,7 @@ loop-part-preserved c =
     sym (c.take.ensures.taken ∙ ap (λ n. get_or c.loop-part.made n None) part ∙ c.loop-part.invariant.1 b (omega arith)) in
     let next : suc b ≡ b + 1 = omega arith in
     let parts : c.match-take.parts ≡ current_lists found (take (b + 1) made) = elim c.match-take.branch [
-      | in-Some w ↦ w.parts-is ∙ (λ i. set_at (c.loop-part.invariant.0 i) ((w.from.ensures ∙ w.get.ensures.value ∙ part) i) w.in-Some.list) ∙ sym (current_lists-put found made b w.in-Some.list within within_made (is ∙ w.in-Some.is)) ∙ ap (λ n. current_lists found (take n made)) next
+      | in-Some w ↦ w.parts-is ∙ (λ i. set_at (c.loop-part.invariant.0 i) ((w.index.ensures.value ∙ part) i) w.in-Some.list) ∙ sym (current_lists-put found made b w.in-Some.list within within_made (is ∙ w.in-Some.is)) ∙ ap (λ n. current_lists found (take n made)) next
       | in_default w ↦ w.parts-is ∙ c.loop-part.invariant.0 ∙ sym (current_lists-pass found made b within within_made (is ∙ w.in_default.is)) ∙ ap (λ n. current_lists found (take n made)) next
     ] in (
       parts,

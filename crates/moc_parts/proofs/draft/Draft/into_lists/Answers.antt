@@ -29,10 +29,10 @@ loop-part-preserved c =
     let set_now : NumberSet = c.args.self.set in
     let is : ℕ → Option NumberSet = λ k. part_if (is_given given k) set_now k in
     let part = all_parts b c.part-item.result c.loop-part-test.true in
-    let at : c.from-b.result ≡ b = c.from-b.ensures ∙ c.get.ensures.value ∙ part in
+    let at : c.index-b.result ≡ b = c.index-b.ensures.value ∙ part in
     let given_is : is_given given b ≡ not c.is_none.result =
     ap (is_given given) (sym at)
-    ∙ ap is_some (get_or_default given c.from-b.result None c.index-given-b.result (subst (λ n. c.from-b.result < n) (sym c.told-given) (subst (λ n. n < 12) (sym at) c.loop-part-test.true)))
+    ∙ ap is_some (get_or_default given c.index-b.result None c.index-given-b.result (subst (λ n. c.index-b.result < n) (sym c.told-given) (subst (λ n. n < 12) (sym at) c.loop-part-test.true)))
     ∙ c.is_none.ensures in
     let inv = c.loop-part.invariant in
     let same = inv.2 b (omega arith) in
@@ -43,20 +43,20 @@ loop-part-preserved c =
       | then-is_none w ↦ left_out (w.lists-is ∙ w.clear.ensures ∙ ap (λ n. set_at lists n None) part) w.if-is_none.true
       | else-is_none+then-is_none-2+in_ok-try_copy+in_ok-put w ↦
           let item : Bor NumberSet = w.index-found-b.result in
-          let list : Bor NumberSet = get_or found c.from-b.result item in
+          let list : Bor NumberSet = get_or found c.index-b.result item in
           let many : length found ≡ 12 = sym (length-map found (λ l. l.now)) ∙ found_twelve (sets_of found) made c.self.invariant.0 in
           let copied : w.in_ok-try_copy.field-0 ≡ part_of set_now b =
           w.in_ok-try_copy.ensures.same
-          ∙ found_part found made b (option_copied w.get-else-is_none.result) list c.self.invariant.0 c.self.invariant.1 c.loop-part-test.true (w.get-else-is_none.ensures ∙ ap (λ n. get_or lists n None) part ∙ same)
-          (some_copied w.get-else-is_none.result ∙ w.is_none-else-is_none.ensures ∙ ap not w.if-is_none-2.true)
+          ∙ found_part found made b (option_copied w.get.result) list c.self.invariant.0 c.self.invariant.1 c.loop-part-test.true (w.get.ensures ∙ ap (λ n. get_or lists n None) part ∙ same)
+          (some_copied w.get.result ∙ w.is_none-else-is_none.ensures ∙ ap not w.if-is_none-2.true)
           (ap (λ n. get_or found n item) at ∙ get_or_default found b item list (subst (λ n. b < n) (sym many) c.loop-part-test.true))
           ∙ ap (λ d. part_of d.set b) c.self.view_is in
           one_done made lists next is b (Some w.in_ok-try_copy.field-0) c.loop-part-test.true (w.lists-is ∙ w.in_ok-put.ensures.put ∙ ap (λ n. set_at lists n (Some w.in_ok-try_copy.field-0)) part)
           (ap Some copied ∙ sym (ap (λ t. part_if t set_now b) (given_is ∙ ap not w.if-is_none.false))) inv
       | else-is_none+else-is_none-2 w ↦ none_done made lists next is b w.lists-is
-          (ap (λ n. get_or lists n None) (sym part) ∙ sym w.get-else-is_none.ensures
-          ∙ own_part (sets_of found) made b (option_copied w.get-else-is_none.result) c.self.invariant.0 c.self.invariant.1 c.loop-part-test.true (w.get-else-is_none.ensures ∙ ap (λ n. get_or lists n None) part ∙ same)
-          (some_copied w.get-else-is_none.result ∙ w.is_none-else-is_none.ensures ∙ ap not w.if-is_none-2.false)
+          (ap (λ n. get_or lists n None) (sym part) ∙ sym w.get.ensures
+          ∙ own_part (sets_of found) made b (option_copied w.get.result) c.self.invariant.0 c.self.invariant.1 c.loop-part-test.true (w.get.ensures ∙ ap (λ n. get_or lists n None) part ∙ same)
+          (some_copied w.get.result ∙ w.is_none-else-is_none.ensures ∙ ap not w.if-is_none-2.false)
           ∙ ap (λ d. Some (part_of d.set b)) c.self.view_is ∙ sym (ap (λ t. part_if t set_now b) (given_is ∙ ap not w.if-is_none.false))) inv
     ]
 

@@ -12,14 +12,14 @@ returns c =
     let lists = c.self.inside.found in
     let made = c.self.inside.made in
     let b = c.args.part in
-    let list = c.index-found-from.result in
-    let small : b < 12 = subst (λ n. n < 12) c.get.ensures.value c.get.ensures.in_range in
+    let list = c.index-found-index.result in
+    let small : b < 12 = subst (λ n. n < 12) c.index.ensures.value c.index.ensures.in_range in
     let twelve : length lists ≡ 12 = sym (length-map lists (λ l. l.now)) ∙ found_twelve (sets_of lists) made c.self.invariant.0 in
-    let at = c.index-found-from.is ∙ ap (λ n. get_or lists n list) (c.from.ensures ∙ c.get.ensures.value) in
+    let at = c.index-found-index.is ∙ ap (λ n. get_or lists n list) c.index.ensures.value in
     let found : list.now ≡ get_or (sets_of lists) b list.now = ap (λ l. l.now) at ∙ sym (get_or-map (λ l. l.now) lists b list list.now (subst (λ n. b < n) (sym twelve) small)) in
     record {
-      list = ap (λ l. l.now) c.unwrap_or.ensures ∙ copied_or c.get-2.result list
-          ∙ (λ i. unwrap_or (c.get-2.ensures i) (found i))
+      list = ap (λ l. l.now) c.unwrap_or.ensures ∙ copied_or c.get.result list
+          ∙ (λ i. unwrap_or (c.get.ensures i) (found i))
           ∙ current_part (sets_of lists) made b list.now None c.self.invariant.0 c.self.invariant.1 small
           ∙ ap (λ d. part_of d.set b) c.self.view_is;
       within = subst (λ d. IsWithin d.set pixels) c.self.view_is (parts_within _ c.self.invariant.0);

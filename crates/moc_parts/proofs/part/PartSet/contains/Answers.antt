@@ -6,6 +6,6 @@ use Rattle.moc_parts.proofs.part.PartSet.contains.Goals as goal
 pub returns : goal.returns
 returns c =
     let flags = c.self.inside.flags in
-    ap (λ b. get_or flags b false) (c.from.ensures ∙ c.get.ensures.value)
-    ∙ sym (contains-flagged_below flags c.args.part (subst (λ b. b < 12) c.get.ensures.value c.get.ensures.in_range))
+    ap (λ b. get_or flags b false) c.index.ensures.value
+    ∙ sym (contains-flagged_below flags c.args.part (subst (λ b. b < 12) c.index.ensures.value c.index.ensures.in_range))
     ∙ ap (λ s. set.contains s c.args.part) c.self.view_is

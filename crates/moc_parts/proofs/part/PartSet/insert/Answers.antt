@@ -1,4 +1,4 @@
-use Rattle.std.proofs.Common.{◌≡◌, ◌<◌, true, set as set_at, subst, ap, ◌∙◌}
+use Rattle.std.proofs.Common.{◌<◌, true, set as set_at, subst, ap, ◌∙◌}
 use Rattle.std.specs.FinSet as set
 use Rattle.moc_parts.specs.Private.PartSets.{flagged}
 use Rattle.moc_parts.proofs.Flags.{flagged-set}
@@ -7,7 +7,6 @@ use Rattle.moc_parts.proofs.part.PartSet.insert.Goals as goal
 pub returns : goal.returns
 returns c =
     let flags = c.self.inside.flags in
-    let number : c.part.inside.number ≡ c.args.part = c.part.view_is in
-    ap (λ b. flagged (set_at flags b true)) (c.from.ensures ∙ number)
-    ∙ flagged-set flags c.args.part (subst (λ b. b < 12) number c.part.invariant) c.self.invariant
+    ap (λ b. flagged (set_at flags b true)) c.index.ensures.value
+    ∙ flagged-set flags c.args.part (subst (λ b. b < 12) c.index.ensures.value c.index.ensures.in_range) c.self.invariant
     ∙ ap (λ s. set.insert s c.args.part) c.self.view_is

@@ -3,7 +3,7 @@ use Rattle.std.specs.FinSet as set
 use Rattle.moc_parts.specs.Lemmas.{all_parts}
 use Rattle.moc_parts.proofs.Flags.{flagged_until, until-none, until-all, until-set, until-unset}
 use Rattle.moc_parts.proofs.part.PartSet.union.Goals as goal
-use Rattle.moc_parts.proofs.part.PartSet.union.Goals.{then-other-from, else-other-from}
+use Rattle.moc_parts.proofs.part.PartSet.union.Goals.{then-other-index, else-other-index}
 
 pub loop-part-init : goal.loop-part-init
 loop-part-init c = until-none c.args.self c.other.inside.flags
@@ -14,13 +14,13 @@ loop-part-preserved c =
     let flags = c.other.inside.flags in
     let b : ℕ = c.loop-part.part-index in
     let part = all_parts b c.part-item.result c.loop-part-test.true in
-    let at : c.from.result ≡ b = c.from.ensures ∙ c.get.ensures.value ∙ part in
-    elim c.if-other-from.branch [
-      | then-other-from w ↦
-          let is : get_or flags b false ≡ true = ap (λ n. get_or flags n false) (sym at) ∙ w.if-other-from.true in
+    let at : c.index.result ≡ b = c.index.ensures.value ∙ part in
+    elim c.if-other-index.branch [
+      | then-other-index w ↦
+          let is : get_or flags b false ≡ true = ap (λ n. get_or flags n false) (sym at) ∙ w.if-other-index.true in
           w.parts-is ∙ w.insert.ensures ∙ (λ i. set.insert (c.loop-part.invariant i) (part i)) ∙ until-set a flags b c.loop-part-test.true is
-      | else-other-from w ↦
-          let is : get_or flags b false ≡ false = ap (λ n. get_or flags n false) (sym at) ∙ w.if-other-from.false in
+      | else-other-index w ↦
+          let is : get_or flags b false ≡ false = ap (λ n. get_or flags n false) (sym at) ∙ w.if-other-index.false in
           w.parts-is ∙ c.loop-part.invariant ∙ until-unset a flags b is
     ]
 

@@ -10,5 +10,5 @@ use Rattle.moc_steps.proofs.midway.Midway.make.Goals as goal
 pub new-requires-clause-footprint : goal.new-requires-clause-footprint
 new-requires-clause-footprint c b l =
     let i = c.self.inside in
-    let r : Running (List Command) = record { operation = i.operation; command = i.batch; taken = i.taken; edited = i.edited; given = i.given; quits = i.quits } in
+    let r : Running (List Command) = record { number = i.number; operation = i.batch; taken = i.taken; edited = i.edited; given = i.given; quits = i.quits } in
     c.self.invariant.filled b l ∙ taken_is r i.parts.items b c.self.invariant.rising ∙ all_taken batches r b (ap (λ (z : Standing). next_part batches z.running) c.self.view_is ∙ c.requires.all) l

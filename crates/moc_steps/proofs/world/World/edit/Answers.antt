@@ -1,4 +1,4 @@
-use Rattle.std.proofs.Common.{◌≡◌, ◌<◌, ℕ, rules, None, Some, ◌++◌, ◌∷◌, [], IfSome, is_some, length, slice_set}
+use Rattle.std.proofs.Common.{◌≡◌, ℕ, rules, None, Some, ◌++◌, ◌∷◌, [], IfSome, is_some, length, slice_set}
 use Rattle.std.proofs.Common.{set as set_at, refl, sym, ap, subst, ◌∙◌}
 use Rattle.std.specs.Option.{option_copied}
 use Rattle.std.specs.FinMap as map
@@ -8,14 +8,14 @@ use Rattle.moc_steps.specs.Machine as machine
 use Rattle.moc_steps.specs.Machine.{refusal, edit_refusal, world_after}
 use Rattle.moc_steps.specs.Private.Standing.{Standing}
 use Rattle.moc_steps.specs.Private.Effects.{IsEffectOf}
-use Rattle.moc_steps.specs.declared.table.Effect.TheVariants.{Commit, Edit}
+use Rattle.moc_steps.specs.declared.table.Effect.TheVariants.{Commit}
 use Rattle.moc_steps.specs.declared.step.Entry.{Entry}
 use Rattle.moc_steps.specs.Played.{BatchWorld}
 use Rattle.moc_steps.specs.Private.Worlds.{world_of}
 use Rattle.moc_steps.proofs.Basics.{is_some_of}
 use Rattle.moc_steps.proofs.AnyObject.{reached_explained}
-use Rattle.moc_steps.proofs.KeptSteps.{Goes, first_edit_goes, edit_footprint, edit_all, committed_at, table_twice}
-use Rattle.moc_steps.proofs.KeptSteps.{kept_list, kept_some, changed_there, is_midway}
+use Rattle.moc_steps.proofs.KeptSteps.{Goes, first_edit_goes, edit_footprint, edit_all, committed_at, table_is}
+use Rattle.moc_steps.proofs.KeptSteps.{kept_list, kept_some, is_midway}
 use Rattle.moc_steps.proofs.world.World.edit.Goals as goal
 
 pub unreachable-requires : goal.unreachable-requires
@@ -40,16 +40,16 @@ make-requires c =
     }
 
 pub change-requires : goal.change-requires
-change-requires c = subst (λ x. IfSome x (λ s. IsEffectOf s (Commit c.in_ok-made.made))) c.in-Some.ensures c.in_ok-made.ensures.made
+change-requires c = subst (λ x. IfSome x (λ s. IsEffectOf s (Commit c.in_ok-made.made c.args.part))) c.in-Some.ensures c.in_ok-made.ensures.made
 
 pub index_mut-requires : goal.index_mut-requires
 index_mut-requires c =
     let i = c.self.inside in
     let inv = reached_explained batches (world_of i.begun i.clients i.parts.items i.order.items) c.self.invariant.reached in
     let twelve : length i.parts.items ≡ 12 = inv.1.size in
-    let low : c.from.result < 12 = subst (λ k. k < 12) (sym c.from.ensures) c.get-2.ensures.in_range in search rules
+    let low = c.index.ensures.in_range in search rules
 
-goes : (c : goal.After-drop-index_mut) → Goes c.self.inside.begun c.self.inside.clients c.self.inside.parts.items c.self.inside.order.items (machine.Step.Edit c.args.client c.args.part) c.self.inside.begun c.change-2.new.self (slice_set c.self.inside.parts.items c.from.result c.in_ok-list.list) c.self.inside.holders c.push.new.self.items
+goes : (c : goal.After-drop-index_mut) → Goes c.self.inside.begun c.self.inside.clients c.self.inside.parts.items c.self.inside.order.items (machine.Step.Edit c.args.client c.args.part) c.self.inside.begun c.change.new.self (slice_set c.self.inside.parts.items c.index.result c.in_ok-list.list) c.self.inside.holders c.push.new.self.items
 goes c =
     let i = c.self.inside in
     let s : Standing = c.in-Some.midway.now in
@@ -61,13 +61,13 @@ goes c =
     let fits = edit_footprint i.begun i.clients i.parts.items i.holders i.order.items c.self.invariant c.args.client b s has permitted in
     let none : s.place ≡ None = is_some_of s.place (ap is_some (sym c.place.ensures) ∙ sym c.is_some.ensures ∙ c.if-is_some.false) in
     let place_is : made.place ≡ length i.order.items = (let a : made.place ≡ c.len.result = c.in_ok-made.ensures.place in let d = c.len.ensures in search rules) in
-    let list_is = c.in_ok-list.ensures ∙ kept_list i.begun i.clients i.parts.items i.holders i.order.items c.self.invariant s.running.command s.found c.in-Some-list.list.now made.lists b fits.0 fits.1 c.in_ok-made.ensures.made.parts c.in-Some-list.ensures in
-    let entry : Entry = record { begin = c.operation-begin.result; client = c.args.client; reply = None } in
-    subst (λ es. Goes i.begun i.clients i.parts.items i.order.items (machine.Step.Edit c.args.client b) i.begun c.change-2.new.self (slice_set i.parts.items c.from.result list) i.holders es) (sym c.in_ok-push.ensures.items)
-    (subst (λ k. Goes i.begun i.clients i.parts.items i.order.items (machine.Step.Edit c.args.client b) i.begun c.change-2.new.self (slice_set i.parts.items k list) i.holders (i.order.items ++ entry ∷ [])) (sym (c.from.ensures ∙ c.get-2.ensures.value))
+    let list_is = c.in_ok-list.ensures ∙ kept_list i.begun i.clients i.parts.items i.holders i.order.items c.self.invariant s.running.operation s.found c.in-Some-list.list.now made.lists b fits.0 fits.1 c.in_ok-made.ensures.made.parts c.in-Some-list.ensures in
+    let entry : Entry = record { begin = c.number-begin.result; client = c.args.client; reply = None } in
+    subst (λ es. Goes i.begun i.clients i.parts.items i.order.items (machine.Step.Edit c.args.client b) i.begun c.change.new.self (slice_set i.parts.items c.index.result list) i.holders es) (sym c.in_ok-push.ensures.items)
+    (subst (λ k. Goes i.begun i.clients i.parts.items i.order.items (machine.Step.Edit c.args.client b) i.begun c.change.new.self (slice_set i.parts.items k list) i.holders (i.order.items ++ entry ∷ [])) (sym c.index.ensures.value)
     (subst (λ m. Goes i.begun i.clients i.parts.items i.order.items (machine.Step.Edit c.args.client b) i.begun m (set_at i.parts.items b list) i.holders (i.order.items ++ entry ∷ []))
-    (sym (table_twice i.begun i.clients i.parts.items i.holders i.order.items c.self.invariant c.change.new.self c.change-2.new.self c.args.client s (Commit made) (Edit b) has c.change.ensures c.change-2.ensures))
-    (first_edit_goes i.begun i.clients i.parts.items i.holders i.order.items c.self.invariant c.args.client b s made.place list entry has none place_is c.operation-begin.ensures refl refl list_is permitted)))
+    (sym (c.change.ensures ∙ table_is i.clients c.args.client s (Commit made b) has))
+    (first_edit_goes i.begun i.clients i.parts.items i.holders i.order.items c.self.invariant c.args.client b s made.place list entry has none place_is c.number-begin.ensures refl refl list_is permitted)))
 
 pub invariant_of-self-2 : goal.invariant_of-self-2
 invariant_of-self-2 c = (goes c).1
@@ -75,17 +75,11 @@ invariant_of-self-2 c = (goes c).1
 pub returns-clause-after : goal.returns-clause-after
 returns-clause-after c = (goes c).0 ∙ ap (λ w. world_after batches w (machine.Step.Edit c.args.client c.args.part)) c.self.view_is
 
-pub change-requires-2 : goal.change-requires-2
-change-requires-2 c =
-    let i = c.self.inside in
-    subst (λ x. IfSome x (λ s. IsEffectOf s (Edit c.args.part)))
-    (sym (changed_there i.begun i.clients i.parts.items i.holders i.order.items c.self.invariant c.change.new.self c.args.client c.in-Some.midway.now (Commit c.in_ok-made.made) (sym c.in-Some.ensures) c.change.ensures)) refl
-
 pub unreachable-requires-in_default-list : goal.unreachable-requires-in_default-list
 unreachable-requires-in_default-list c =
     let i = c.self.inside in
     let s : Standing = c.in-Some.midway.now in
     let fits = edit_footprint i.begun i.clients i.parts.items i.holders i.order.items c.self.invariant c.args.client c.args.part s (sym c.in-Some.ensures)
     (ap (λ (w : BatchWorld). refusal batches w.locks (machine.Step.Edit c.args.client c.args.part)) c.self.view_is ∙ c.requires) in
-    kept_some i.begun i.clients i.parts.items i.holders i.order.items c.self.invariant s.running.command s.found c.in_ok-made.made.lists c.args.part fits.0 fits.1 c.in_ok-made.ensures.made.parts
+    kept_some i.begun i.clients i.parts.items i.holders i.order.items c.self.invariant s.running.operation s.found c.in_ok-made.made.lists c.args.part fits.0 fits.1 c.in_ok-made.ensures.made.parts
     (sym c.list.ensures ∙ ap option_copied c.in_default-list.is)

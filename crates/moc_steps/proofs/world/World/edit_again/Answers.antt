@@ -1,4 +1,4 @@
-use Rattle.std.proofs.Common.{◌≡◌, ◌<◌, cond, Bool, ◌++◌, ◌∷◌, [], true, None, Some, Option, rules, IfSome, IsSome}
+use Rattle.std.proofs.Common.{◌≡◌, cond, Bool, ◌++◌, ◌∷◌, [], true, None, Some, Option, rules, IfSome, IsSome}
 use Rattle.std.proofs.Common.{is_some, length, slice_set, set as set_at, refl, sym, ap, subst, ◌∙◌}
 use Rattle.std.specs.Option.{option_copied}
 use Rattle.std.specs.FinMap as map
@@ -58,20 +58,20 @@ index_mut-requires c =
     let i = c.self.inside in
     let inv = reached_explained batches (world_of i.begun i.clients i.parts.items i.order.items) c.self.invariant.reached in
     let twelve : length i.parts.items ≡ 12 = inv.1.size in
-    let low : c.from.result < 12 = subst (λ k. k < 12) (sym c.from.ensures) c.get-2.ensures.in_range in search rules
+    let low = c.index.ensures.in_range in search rules
 
-goes : (c : goal.After-drop-index_mut) → Goes c.self.inside.begun c.self.inside.clients c.self.inside.parts.items c.self.inside.order.items (machine.Step.Edit c.args.client c.args.part) c.self.inside.begun c.change.new.self (slice_set c.self.inside.parts.items c.from.result c.in_ok-list.list) c.self.inside.holders c.self.inside.order.items
+goes : (c : goal.After-drop-index_mut) → Goes c.self.inside.begun c.self.inside.clients c.self.inside.parts.items c.self.inside.order.items (machine.Step.Edit c.args.client c.args.part) c.self.inside.begun c.change.new.self (slice_set c.self.inside.parts.items c.index.result c.in_ok-list.list) c.self.inside.holders c.self.inside.order.items
 goes c =
     let i = c.self.inside in
     let s : Standing = c.in-Some.midway.now in
     let has : map.get i.clients c.args.client ≡ Some s = sym c.in-Some.ensures in
-    let list_is : c.in_ok-list.list ≡ part_of (set_after_all s.found s.running.command) c.args.part = c.in_ok-list.ensures ∙ some_is _ _ c.in-Some-new_list.ensures in
+    let list_is : c.in_ok-list.list ≡ part_of (set_after_all s.found s.running.operation) c.args.part = c.in_ok-list.ensures ∙ some_is _ _ c.in-Some-new_list.ensures in
     let edited = any_edited i.begun i.clients i.parts.items i.holders i.order.items c.self.invariant c.args.client s c.args.self.now has c.self.view_is c.requires.committed in
-    subst (λ k. Goes i.begun i.clients i.parts.items i.order.items (machine.Step.Edit c.args.client c.args.part) i.begun c.change.new.self (slice_set i.parts.items k c.in_ok-list.list) i.holders i.order.items) (sym (c.from.ensures ∙ c.get-2.ensures.value))
+    subst (λ k. Goes i.begun i.clients i.parts.items i.order.items (machine.Step.Edit c.args.client c.args.part) i.begun c.change.new.self (slice_set i.parts.items k c.in_ok-list.list) i.holders i.order.items) (sym c.index.ensures.value)
     (subst (λ m. Goes i.begun i.clients i.parts.items i.order.items (machine.Step.Edit c.args.client c.args.part) i.begun m (set_at i.parts.items c.args.part c.in_ok-list.list) i.holders i.order.items)
     (sym (c.change.ensures ∙ table_is i.clients c.args.client s (Edit c.args.part) has))
     (edit_goes i.begun i.clients i.parts.items i.holders i.order.items c.self.invariant c.args.client c.args.part s (changed s (Edit c.args.part)) c.in_ok-list.list i.order.items has refl refl list_is
-    (sym (ap (λ (t : Bool). cond t (entries_of i.order.items) (entries_of i.order.items ++ record { begin = s.running.operation; client = c.args.client; reply = None } ∷ [])) edited))
+    (sym (ap (λ (t : Bool). cond t (entries_of i.order.items) (entries_of i.order.items ++ record { begin = s.running.number; client = c.args.client; reply = None } ∷ [])) edited))
     (edited_place i.begun i.clients i.parts.items i.holders i.order.items c.self.invariant c.args.client c.args.part s has edited) c.self.invariant.placed
     (ap (λ (w : BatchWorld). refusal batches w.locks (machine.Step.Edit c.args.client c.args.part)) c.self.view_is ∙ c.requires.permitted)))
 

@@ -20,7 +20,7 @@ step_of_holder-requires c =
     let taken : IsTaken c.loop-part.part-iterator.iter.rest.now c.next.new.self.iter.rest.now b =
     last_taken c.loop-part.part-iterator.iter.rest.now c.next.new.self.iter.rest.now b c.in-Some.ensures.steps c.loop-part.invariant.0 in (
       sym (ap (λ (w : BatchWorld). holder batches w.locks.clients b) c.self.view_is) ∙ sym (c.self.invariant.held b taken.below)
-          ∙ ap (λ k. get_or c.self.inside.holders k None) (sym (c.from.ensures ∙ c.get.ensures.value)) ∙ c.in-Some-holders.is,
+          ∙ ap (λ k. get_or c.self.inside.holders k None) (sym c.index.ensures.value) ∙ c.in-Some-holders.is,
       λ d l k. c.loop-part.invariant.1 d (omega (arith, taken.fewer, l)) k,
     )
 
@@ -34,7 +34,7 @@ loop-part-preserved c =
         | inl e ↦ ap (holder batches c.args.self.now.locks.clients) e ∙ sym (ap (λ (w : BatchWorld). holder batches w.locks.clients b) c.self.view_is) ∙ sym (c.self.invariant.held b taken.below)
             ∙ elim (none_or_some (get_or c.self.inside.holders b None)) [
               | inl none ↦ none
-              | inr some ↦ absurd (c.in_default.not-Some some.0 (ap (λ k. get_or c.self.inside.holders k None) (c.from.ensures ∙ c.get.ensures.value) ∙ some.1))
+              | inr some ↦ absurd (c.in_default.not-Some some.0 (ap (λ k. get_or c.self.inside.holders k None) c.index.ensures.value ∙ some.1))
             ]
         | inr other ↦ c.loop-part.invariant.1 d (omega (arith, taken.fewer, taken.left, l, other)) k
       ],

@@ -1,7 +1,7 @@
 use Rattle.std.proofs.Common.{◌≡◌, Some, inl, inr, refl, sym, ap, subst, ◌∙◌}
 use Rattle.std.specs.FinMap as map
 use Rattle.moc_parts.specs.Batches.{batches}
-use Rattle.moc_steps.specs.Machine.{running}
+use Rattle.moc_steps.specs.Machine.{client_at}
 use Rattle.moc_steps.specs.Laws.{IsReached}
 use Rattle.moc_steps.specs.Private.Standing.{Standing}
 use Rattle.moc_steps.specs.Played.{BatchWorld}
@@ -19,7 +19,7 @@ returns-in_err-client-clause-none c = λ _.
 pub returns-then-quits-clause-some : goal.returns-then-quits-clause-some
 returns-then-quits-clause-some c =
     let i = c.self.inside in
-    let was : running batches c.args.self.now c.in_ok-client.client ≡ Some c.in_ok-midway.midway.now.running =
+    let was : client_at batches c.args.self.now c.in_ok-client.client ≡ Some c.in_ok-midway.midway.now.running =
     seen_as i.begun i.clients i.parts.items i.holders i.order.items c.self.invariant c.in_ok-client.client c.in_ok-client.client c.args.self.now (Some c.in_ok-midway.midway.now) c.self.view_is refl (sym c.in_ok-midway.ensures) in (
       free_ends c.args.self.now c.in_ok-client.client c.in_ok-midway.midway.now.running was c.requires (elim c.then-quits.branch [
         | then-quits-via-then-quits w ↦ inl (sym c.quits.ensures ∙ w.if-quits.true)
@@ -31,7 +31,7 @@ returns-then-quits-clause-some c =
 pub returns-clause-some : goal.returns-clause-some
 returns-clause-some c =
     let i = c.self.inside in
-    let was : running batches c.args.self.now c.in_ok-client.client ≡ Some c.in_ok-midway.midway.now.running =
+    let was : client_at batches c.args.self.now c.in_ok-client.client ≡ Some c.in_ok-midway.midway.now.running =
     seen_as i.begun i.clients i.parts.items i.holders i.order.items c.self.invariant c.in_ok-client.client c.in_ok-client.client c.args.self.now (Some c.in_ok-midway.midway.now) c.self.view_is refl (sym c.in_ok-midway.ensures) in (
       free_takes c.args.self.now c.in_ok-client.client c.in_ok-midway.midway.now.running was (subst (λ w. IsReached batches w) c.self.view_is c.self.invariant.reached) c.requires
           (sym c.quits.ensures ∙ c.if-quits.false) (sym c.has_taken_some.ensures ∙ c.if-has_taken_some.false),

@@ -1,7 +1,7 @@
 use Rattle.std.proofs.Common.{◌≡◌, Some, None, inl, inr, refl, sym, ap, ◌∙◌}
 use Rattle.std.specs.Option.{is_some}
 use Rattle.moc_parts.specs.Batches.{batches}
-use Rattle.moc_steps.specs.Machine.{running}
+use Rattle.moc_steps.specs.Machine.{client_at}
 use Rattle.moc_steps.proofs.Basics.{clash}
 use Rattle.moc_steps.proofs.Taking.{holder_holds}
 use Rattle.moc_steps.proofs.KeptSteps.{seen_as}
@@ -15,7 +15,7 @@ use Rattle.moc_steps.proofs.world.World.step_of_holder.Goals.{else-not-quits-2-v
 pub returns-in_err-midway-clause-is : goal.returns-in_err-midway-clause-is
 returns-in_err-midway-clause-is c =
     let i = c.self.inside in
-    let gone : running batches c.args.self.now c.args.client ≡ None =
+    let gone : client_at batches c.args.self.now c.args.client ≡ None =
     seen_as i.begun i.clients i.parts.items i.holders i.order.items c.self.invariant c.args.client c.args.client c.args.self.now None c.self.view_is refl (sym c.in_err-midway.ensures) in
     let k = holder_holds batches c.args.self.now.locks.clients c.args.part c.args.client c.requires.0 in
     absurd (cc (gone, k.1))
@@ -23,7 +23,7 @@ returns-in_err-midway-clause-is c =
 pub returns-then-is_some-clause-step : goal.returns-then-is_some-clause-step
 returns-then-is_some-clause-step c =
     let i = c.self.inside in
-    let was : running batches c.args.self.now c.args.client ≡ Some c.in_ok-midway.midway.now.running =
+    let was : client_at batches c.args.self.now c.args.client ≡ Some c.in_ok-midway.midway.now.running =
     seen_as i.begun i.clients i.parts.items i.holders i.order.items c.self.invariant c.args.client c.args.client c.args.self.now (Some c.in_ok-midway.midway.now) c.self.view_is refl (sym c.in_ok-midway.ensures) in (
       highest_takes c.args.self.now c.args.client c.in_ok-midway.midway.now.running was c.args.part c.requires
           (ap is_some (sym c.next_part.ensures) ∙ sym c.is_some.ensures ∙ c.if-is_some.true) (sym c.quits.ensures ∙ c.if-not-quits.true),
@@ -33,7 +33,7 @@ returns-then-is_some-clause-step c =
 pub returns-then-not-has_edited-clause-step : goal.returns-then-not-has_edited-clause-step
 returns-then-not-has_edited-clause-step c =
     let i = c.self.inside in
-    let was : running batches c.args.self.now c.args.client ≡ Some c.in_ok-midway.midway.now.running =
+    let was : client_at batches c.args.self.now c.args.client ≡ Some c.in_ok-midway.midway.now.running =
     seen_as i.begun i.clients i.parts.items i.holders i.order.items c.self.invariant c.args.client c.args.client c.args.self.now (Some c.in_ok-midway.midway.now) c.self.view_is refl (sym c.in_ok-midway.ensures) in
     let stays = sym c.quits-2.ensures ∙ c.if-not-quits-2.true in (
       highest_edits c.args.self.now c.args.client c.in_ok-midway.midway.now.running was c.args.part c.requires stays
@@ -48,7 +48,7 @@ returns-then-not-has_edited-clause-step c =
 pub returns-clause-step : goal.returns-clause-step
 returns-clause-step c =
     let i = c.self.inside in
-    let was : running batches c.args.self.now c.args.client ≡ Some c.in_ok-midway.midway.now.running =
+    let was : client_at batches c.args.self.now c.args.client ≡ Some c.in_ok-midway.midway.now.running =
     seen_as i.begun i.clients i.parts.items i.holders i.order.items c.self.invariant c.args.client c.args.client c.args.self.now (Some c.in_ok-midway.midway.now) c.self.view_is refl (sym c.in_ok-midway.ensures) in (
       highest_gives c.args.self.now c.args.client c.in_ok-midway.midway.now.running was c.args.part c.requires (elim c.else-not-quits-2.branch [
         | else-not-quits-2-via-then-not-quits-2+else-not-has_edited w ↦ inl (sym w.has_edited.ensures ∙ w.if-not-has_edited.false)
