@@ -7,7 +7,7 @@ use Rattle.moc_parts.specs.declared.command.Command.{Command}
 use Rattle.moc_parts.specs.declared.reply.Reply.{Reply}
 use Rattle.moc_parts.specs.declared.reply.Reply.TheVariants.{Cover}
 use Rattle.moc_shared.specs.Batches.{batch_answer, BatchCall}
-use Rattle.moc_shared.specs.Clients.{AfterError, call_of, Ends, LacksMemory, record_of, start_of}
+use Rattle.moc_shared.specs.Clients.{AfterTryApply, call_of, Ends, LacksMemory, record_of, start_of}
 use Rattle.moc_shared.specs.History.{call_by, IsLegal}
 use Rattle.moc_shared.specs.declared.errors.TryError.{TryError}
 use Rattle.moc_shared.specs.declared.errors.TryError.TheVariants as try
@@ -49,7 +49,7 @@ applied s new m n line cs o is says after calls =
     subst (λ x. Applies s new (ok_or x fault.NoMap) line o) (sym is)
     (subst (λ x. DoesLine s new m x o) (sym says) (inl (n, after, calls)))
 
-pub refused : (m n : Membership) (cs : List Command) (e : TryError) (o : Outcome) → AfterError m.map cs e (record_of m.client) (record_of n.client)
+pub refused : (m n : Membership) (cs : List Command) (e : TryError) (o : Outcome) → AfterTryApply m.map cs e (record_of m.client) (record_of n.client)
     → o ≡ outcome_of (try_fault e) → IsTurnedAway m n cs o
 refused m n cs (try.Busy b) o after tells = inl (b, after, tells)
 refused m n cs try.Memory o after tells = inr (after, tells)

@@ -14,7 +14,7 @@ use Rattle.moc_shared.specs.declared.record.Calls.{Calls}
 use Rattle.moc_shared.specs.declared.record.Record.{Record}
 use Rattle.moc_shared.specs.declared.record.Note.{Note}
 use Rattle.moc_shared.specs.declared.record.View.{View}
-use Rattle.moc_shared.specs.History.{Fits, StandsFor, stood, newcomer}
+use Rattle.moc_shared.specs.History.{Fits, StandsFor, times_standing, newcomer}
 use Rattle.moc_shared.specs.Seats.{table_place, note}
 use Rattle.moc_shared.specs.Private.Rule.{records, stood_in, stood_by, ViewFits, Kept}
 use Rattle.moc_shared.specs.Private.Opening.{no_client, seat_for, newcomers, first_view}
@@ -30,28 +30,28 @@ module _ {O R : Type 0} where
       (cons_cases (newcomer c) (newcomers (suc c) k) r h)
 
 module _ (O R : Type 0) where
-  pub stood_same : (c : ℕ) → stood c (newcomer {O = O} {R = R} c) ≡ 1
+  pub stood_same : (c : ℕ) → times_standing c (newcomer {O = O} {R = R} c) ≡ 1
   stood_same c = ap (λ (b : Bool). 0 + cond b 1 0) (eq-eqb c c refl)
 
-  stood_other : (c d : ℕ) → d ≢ c → stood c (newcomer {O = O} {R = R} d) ≡ 0
+  stood_other : (c d : ℕ) → d ≢ c → times_standing c (newcomer {O = O} {R = R} d) ≡ 0
   stood_other c d ne = ap (λ (b : Bool). 0 + cond b 1 0) (ne_eqb d c ne)
 
   stands_is : (c d : ℕ) → StandsFor (newcomer {O = O} {R = R} d) c → d ≡ c
   stands_is c d st = dite (ℕ_discrete d c) (λ e. e) (λ ne. let z = stood_other c d ne in absurd (omega arith))
 
-  few : (x c k : ℕ) → (x < c → sum_by (stood x) (newcomers {O = O} {R = R} c k) ≡ 0)
-      × (sum_by (stood x) (newcomers {O = O} {R = R} c k) ≤ 1)
+  few : (x c k : ℕ) → (x < c → sum_by (times_standing x) (newcomers {O = O} {R = R} c k) ≡ 0)
+      × (sum_by (times_standing x) (newcomers {O = O} {R = R} c k) ≤ 1)
   few x c zero = ((λ l. refl), omega arith)
   few x c (suc k) =
       let f = few x (suc c) k in
-      let e : sum_by (stood x) (newcomers {O = O} {R = R} c (suc k)) ≡ stood x (newcomer {O = O} {R = R} c) + sum_by
-      (stood x) (newcomers {O = O} {R = R} (suc c) k) = sum_by-cons (stood x) (newcomer c) (newcomers (suc c) k) in
+      let e : sum_by (times_standing x) (newcomers {O = O} {R = R} c (suc k)) ≡ times_standing x (newcomer {O = O} {R = R} c) + sum_by
+      (times_standing x) (newcomers {O = O} {R = R} (suc c) k) = sum_by-cons (times_standing x) (newcomer c) (newcomers (suc c) k) in
       dite (ℕ_discrete c x)
       (λ same. let z = f.0 (omega arith) in
-      let o : stood x (newcomer {O = O} {R = R} c) ≡ 1 =
-      ap (λ (y : ℕ). stood y (newcomer {O = O} {R = R} c)) (sym same) ∙ stood_same c in
+      let o : times_standing x (newcomer {O = O} {R = R} c) ≡ 1 =
+      ap (λ (y : ℕ). times_standing y (newcomer {O = O} {R = R} c)) (sym same) ∙ stood_same c in
       ((λ l. absurd (omega arith)), omega arith))
-      (λ other. let o : stood x (newcomer {O = O} {R = R} c) ≡ 0 = stood_other x c other in let g = f.1 in
+      (λ other. let o : times_standing x (newcomer {O = O} {R = R} c) ≡ 0 = stood_other x c other in let g = f.1 in
       ((λ l. let z = f.0 (omega arith) in omega arith), omega arith))
 
 module _ {S X O R Y : Type 0} (n : ℕ) (content : S → Y) (part : ℕ → X → Y) (answer : X → O → X × R)
@@ -65,7 +65,7 @@ module _ {S X O R Y : Type 0} (n : ℕ) (content : S → Y) (part : ℕ → X �
   records_are (q ∷ qs) r h = inr h
 
   sums_are : (rs : List (Record O R)) (c : ℕ)
-      → stood_in c (let v : V = seat_for start clients rs in v) ≡ sum_by (stood c) rs
+      → stood_in c (let v : V = seat_for start clients rs in v) ≡ sum_by (times_standing c) rs
   sums_are [] c = refl
   sums_are (q ∷ qs) c = refl
 

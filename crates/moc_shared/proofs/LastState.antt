@@ -9,7 +9,7 @@ use Rattle.moc_shared.specs.declared.record.Note.{Note}
 use Rattle.moc_shared.specs.declared.record.View.{View}
 use Rattle.moc_shared.specs.History.{Fits, StandsFor, state_after, IsHistory}
 use Rattle.moc_shared.specs.Seats.{table_place, note}
-use Rattle.moc_shared.specs.Private.Rule.{IsFree, IsHeld, Kept}
+use Rattle.moc_shared.specs.Private.Rule.{IsFree, SomeHolds, Kept}
 use Rattle.moc_shared.proofs.Basics.{here, none_in}
 use Rattle.moc_shared.proofs.Apart.{stood_of, one_view}
 
@@ -38,13 +38,13 @@ module _ {S X O R Y : Type 0} (n : ℕ) (content : S → Y) (part : ℕ → X �
         (λ b x l z e. let z' : slice_index s.words (table_place b) ≡ 0 = ap (λ (w : List ℕ). slice_index w (table_place b)) same_words ∙ z in ⊎_elim
             (λ (f : IsFree content part A s.words s.homes b). let q : f.1.0 ≡ x = some-injective f.1.0 x
             (sym (values (table_place b) f.1.0 f.1.1) ∙ e) in sym (ap content q) ∙ f.1.2)
-            (λ (h : IsHeld s.views b). let w = ((k.each_view h.0 h.1 h.3).holding b h.2 h.4).word_is in
+            (λ (h : SomeHolds s.views b). let w = ((k.each_view h.0 h.1 h.3).holding b h.2 h.4).word_is in
             absurd (omega arith))
             (k.each_part b l)),
         (λ b l nz all. let nz' : slice_index s.words (table_place b) ≢ 0 =
             (λ z. nz (sym (ap (λ (w : List ℕ). slice_index w (table_place b)) same_words) ∙ z)) in ⊎_elim
             (λ (f : IsFree content part A s.words s.homes b). absurd (nz' f.0))
-            (λ (h : IsHeld s.views b).
+            (λ (h : SomeHolds s.views b).
             let u = h.1 in
             let d = (k.each_view h.0 u h.3).holding b h.2 h.4 in
             let c = u.mine.number in

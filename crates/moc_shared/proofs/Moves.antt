@@ -18,9 +18,9 @@ use Rattle.moc_shared.specs.declared.record.Call.{Call}
 use Rattle.moc_shared.specs.declared.record.Record.{Record}
 use Rattle.moc_shared.specs.declared.record.Note.{Note}
 use Rattle.moc_shared.specs.declared.record.View.{View}
-use Rattle.moc_shared.specs.History.{call_by, Fits, StandsFor, stood, state_after, IsLegal, IsHistory}
+use Rattle.moc_shared.specs.History.{call_by, Fits, StandsFor, times_standing, state_after, IsLegal, IsHistory}
 use Rattle.moc_shared.specs.Seats.{table_place, note}
-use Rattle.moc_shared.specs.Private.Rule.{IsSpare, records, Present, stood_in, IsFree, IsHeld, Holding, ViewFits}
+use Rattle.moc_shared.specs.Private.Rule.{IsSpare, records, Present, stood_in, IsFree, SomeHolds, Holding, ViewFits}
 use Rattle.moc_shared.specs.Private.Rule.{Kept, noted_parts, IsOne}
 use Rattle.moc_shared.specs.Private.Seats.{IsCarried}
 use Rattle.moc_shared.specs.Private.Answering.{AnswersRightly}
@@ -84,7 +84,7 @@ module _ {S X O R Y : Type 0} (n : ℕ) (content : S → Y) (part : ℕ → X �
       → proper (state_after answer start log)
       → ((e : Call O R) → Contains log e → e.client < clients)
       → length words ≡ table_place n → length homes ≡ table_place n → ((k : ℕ) → IsSpare k → slice_index words k ≡ 0)
-      → ((b : ℕ) → b < n → IsFree content part (state_after answer start log) words homes b ⊎ IsHeld (set s.views id w) b)
+      → ((b : ℕ) → b < n → IsFree content part (state_after answer start log) words homes b ⊎ SomeHolds (set s.views id w) b)
       → FitsIn log words homes w
       → ((j : ℕ) (u : V) → j ≢ id → get_elem? s.views j ≡ some u → FitsIn log words homes u)
       → Grows s.views v w
@@ -149,8 +149,8 @@ module _ {S X O R Y : Type 0} (n : ℕ) (content : S → Y) (part : ℕ → X �
 
   -- a part that was held still is, where the new view holds what the old one held of it
   still_held : (views : List V) (id : ℕ) (v w : V) (b : ℕ) → get_elem? views id ≡ some v
-      → ((y : Y) → Contains v.holds (note b y) → (z : Y) × Contains w.holds (note b z)) → IsHeld views b
-      → IsHeld (set views id w) b
+      → ((y : Y) → Contains v.holds (note b y) → (z : Y) × Contains w.holds (note b z)) → SomeHolds views b
+      → SomeHolds (set views id w) b
   still_held views id v w b at keep (i, u, y, e, h) = dite (ℕ_discrete i id)
       (λ same. let one : u ≡ v = some-injective u v
       (sym e ∙ subst (λ (k : ℕ). get_elem? views k ≡ some v) (sym same) at) in
@@ -265,7 +265,7 @@ module _ {S X O R Y : Type 0} (n : ℕ) (content : S → Y) (part : ℕ → X �
       × Held (state_after answer start k.log) s.words s.homes u b y
   holder s k b h within is = ⊎_elim
       (λ (f : IsFree content part (state_after answer start k.log) s.words s.homes b). let z = f.0 in absurd (omega arith))
-      (λ (t : IsHeld s.views b). let d = (k.each_view t.0 t.1 t.3).holding b t.2 t.4 in let w = d.word_is in
+      (λ (t : SomeHolds s.views b). let d = (k.each_view t.0 t.1 t.3).holding b t.2 t.4 in let w = d.word_is in
       (t.0, t.1, t.2, t.3, t.4, omega arith, d))
       (k.each_part b within)
 
@@ -344,8 +344,8 @@ module _ {S X O R Y : Type 0} (n : ℕ) (content : S → Y) (part : ℕ → X �
       let wu = du.word_is in
       let c : ℕ = v.mine.number in
       let same : u.mine.number ≡ c = omega arith in
-      let sv : 0 < stood c v.mine = dv.stands in
-      let su : 0 < stood c u.mine = subst (λ (x : ℕ). 0 < stood x u.mine) same du.stands in
+      let sv : 0 < times_standing c v.mine = dv.stands in
+      let su : 0 < times_standing c u.mine = subst (λ (x : ℕ). 0 < times_standing x u.mine) same du.stands in
       let pv = stood_of c v v.mine (here v.mine v.others) in
       let pu = stood_of c u u.mine (here u.mine u.others) in
       ne (one_view c s.views id j v u (k.alone c) at e (omega arith) (omega arith))
@@ -460,7 +460,7 @@ module _ {S X O R Y : Type 0} (n : ℕ) (content : S → Y) (part : ℕ → X �
       (old.known v.mine (here v.mine v.others) v.mine.number stands)) (Contains-push_cases log e q h))
       (length-set s.words (table_place b) 0 ∙ wide) (length-set s.homes (table_place b) (some x) ∙ deep) (spare_apart s.words b 0 k.spare)
       (λ c l. subst
-      (λ (a : X). IsFree content part a (set s.words (table_place b) 0) (set s.homes (table_place b) (some x)) c ⊎ IsHeld (set s.views id w) c)
+      (λ (a : X). IsFree content part a (set s.words (table_place b) 0) (set s.homes (table_place b) (some x)) c ⊎ SomeHolds (set s.views id w) c)
       (sym set_is) (dite (ℕ_discrete c b)
       (λ q. inl
       (subst (λ (j : ℕ). IsFree content part (answer A op).0 (set s.words (table_place b) 0) (set s.homes (table_place b) (some x)) j) (sym q) (
@@ -470,7 +470,7 @@ module _ {S X O R Y : Type 0} (n : ℕ) (content : S → Y) (part : ℕ → X �
       (λ ne. ⊎_elim
       (λ (f : IsFree content part A s.words s.homes c). let g = free_apart A s.words s.homes b 0 (some x) c ne f in
       inl (g.0, (g.1.0, g.1.1, g.1.2 ∙ sym (did.2 c (unheld c f.0)))))
-      (λ (h : IsHeld s.views c). inr (still_held s.views id v w c at
+      (λ (h : SomeHolds s.views c). inr (still_held s.views id v w c at
       (λ y i. ⊎_elim (λ (q : b ≡ c). absurd (ne (sym q))) (λ (t : Contains (noted_parts notes) c). note_in notes c t)
       (cons_cases b (noted_parts notes) c (in_new c y i))) h))
       (k.each_part c l))))
@@ -537,7 +537,7 @@ module _ {S X O R Y : Type 0} (n : ℕ) (content : S → Y) (part : ℕ → X �
     where
       same_sums : (c : ℕ) → stood_in c (after_call v k.log (call_by v.mine.number op reply) notes) ≡ stood_in c v
       same_sums c =
-          ap (λ (m : ℕ). fold (λ (a : ℕ) (r : Record O R). a + stood c r) (0 + m) v.others)
+          ap (λ (m : ℕ). fold (λ (a : ℕ) (r : Record O R). a + times_standing c r) (0 + m) v.others)
           (stood_with_call (call_by v.mine.number op reply) v.mine [] c)
 
   abbrev M : Type 0
@@ -574,7 +574,7 @@ module _ {S X O R Y : Type 0} (n : ℕ) (content : S → Y) (part : ℕ → X �
         (λ b' e. told b' e word (w, (table_place b, x) ∷ me.1)
             ((λ z. (x, state_after answer start k.log, f.1.2, refl)), (λ h z. absurd (omega arith)))),
       ))
-      (λ (t : IsHeld s.views b). let d = ((k.each_view t.0 t.1 t.3).holding b t.2 t.4).word_is in absurd (omega arith))
+      (λ (t : SomeHolds s.views b). let d = ((k.each_view t.0 t.1 t.3).holding b t.2 t.4).word_is in absurd (omega arith))
       (k.each_part b within))
       (λ miss.
       let h : ℕ = word - 1 in

@@ -18,7 +18,7 @@ use Rattle.moc_shared.specs.Private.Plays.{first_alone, both_views, with_history
 use Rattle.moc_shared.specs.Private.Slots.{GivesUp, RefusesTaking, EndsBatch}
 use Rattle.moc_parts.specs.Batches.{footprint_of_all}
 use Rattle.moc_shared.specs.Batches.{BatchCall, BatchRecord, batch_answer}
-use Rattle.moc_shared.specs.Clients.{start_of, clients_of, record_of, IsClientOf, IsHoldingOf, Meets, TakesIn}
+use Rattle.moc_shared.specs.Clients.{start_of, clients_of, record_of, IsClientOf, IsHoldingOf, SeeTheSame, TakesIn}
 use Rattle.moc_shared.specs.Clients.{AddsMarks, Ends, Refuses, Undone, LacksMemory, LacksMemoryHolding}
 use Rattle.moc_shared.proofs.Basics.{here, there, none_in, cons_cases, starts_itself, stood_with_call}
 use Rattle.moc_shared.proofs.Places.{noted_touched}
@@ -120,7 +120,7 @@ pub met_from : (the : SharedMap) (a a' b b' : Client) (b1 b2 b3 : Sight) → IsC
     → (looked : (log : List BatchCall) × (b3 ≡ with_history b2 log) × IsHistory batch_answer b2.start b2.clients log
     × ((r : BatchRecord) → Contains (records b2) r → StartsWith log r.seen × Fits log r))
     → b'.seat.me.0 ≡ first_alone b3 → a'.seat.me.0 ≡ rest_view b3
-    → Meets the (record_of a) (record_of a') (record_of b) (record_of b')
+    → SeeTheSame the (record_of a) (record_of a') (record_of b) (record_of b')
 met_from the a a' b b' b1 b2 b3 of_a of_b e1 e2 looked e4 e5 =
     let va = a.seat.me.0 in
     let vb = b.seat.me.0 in

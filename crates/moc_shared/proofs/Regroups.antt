@@ -16,9 +16,9 @@ use Rattle.moc_shared.specs.declared.record.Calls.{Calls}
 use Rattle.moc_shared.specs.declared.record.Record.{Record}
 use Rattle.moc_shared.specs.declared.record.Note.{Note}
 use Rattle.moc_shared.specs.declared.record.View.{View}
-use Rattle.moc_shared.specs.History.{StartsWith, Fits, StandsFor, stood, IsLegal, IsHistory, MissesMarked}
+use Rattle.moc_shared.specs.History.{StartsWith, Fits, StandsFor, times_standing, IsLegal, IsHistory, MissesMarked}
 use Rattle.moc_shared.specs.Seats.{note}
-use Rattle.moc_shared.specs.Private.Rule.{records, Present, stood_in, stood_by, IsHeld, ViewFits, Kept}
+use Rattle.moc_shared.specs.Private.Rule.{records, Present, stood_in, stood_by, SomeHolds, ViewFits, Kept}
 use Rattle.moc_shared.specs.Private.Plays.{seen_to, both_of, with_history, gathered, both_views, first_alone, Looked, Gathered, GatheredWith}
 use Rattle.moc_shared.specs.Private.Opening.{no_client, idle_view, seat_for}
 use Rattle.moc_shared.proofs.Basics.{here, there, none_in, only, cons_cases, sum_set, sum_set_same, starts_itself}
@@ -44,7 +44,7 @@ module _ {S X O R Y : Type 0} (n : ℕ) (content : S → Y) (part : ℕ → X �
   MissesStay views views' = (r : Record O R) (h b : ℕ) → Present views' r → Contains r.misses (h, b) → (q : Record O R)
       × Present views q × Contains q.misses (h, b)
 
-  regrouped : (s : State S V) (k : Rule s) (views : List V) → ((b : ℕ) → IsHeld s.views b → IsHeld views b)
+  regrouped : (s : State S V) (k : Rule s) (views : List V) → ((b : ℕ) → SomeHolds s.views b → SomeHolds views b)
       → ((j : ℕ) (u : V) → get_elem? views j ≡ some u → FitsIn k.log s.words s.homes u)
       → MarksStay s.views views → MissesStay s.views views → ((c : ℕ) → stood_by c views ≤ stood_by c s.views)
       → ((r : Record O R) × Present views r × (r.seen ≡ k.log))
@@ -74,7 +74,7 @@ module _ {S X O R Y : Type 0} (n : ℕ) (content : S → Y) (part : ℕ → X �
 
   -- a part that was held still is, where the new view holds what the old one held
   still_held : (views : List V) (id : ℕ) (v w : V) (b : ℕ) → get_elem? views id ≡ some v → w.holds ≡ v.holds
-      → IsHeld views b → IsHeld (set views id w) b
+      → SomeHolds views b → SomeHolds (set views id w) b
   still_held views id v w b at same (i, u, y, e, h) = dite (ℕ_discrete i id)
       (λ here. let one : u ≡ v = some-injective u v
       (sym e ∙ subst (λ (k : ℕ). get_elem? views k ≡ some v) (sym here) at) in (
@@ -96,10 +96,10 @@ module _ {S X O R Y : Type 0} (n : ℕ) (content : S → Y) (part : ℕ → X �
       (cons_cases (seen_to log x) (map (seen_to log) xs) r h)
 
   seen_stood : (log : List (Call O R)) (c : ℕ) (rs : List (Record O R))
-      → sum_by (stood c) (map (seen_to log) rs) ≡ sum_by (stood c) rs
+      → sum_by (times_standing c) (map (seen_to log) rs) ≡ sum_by (times_standing c) rs
   seen_stood log c [] = refl
-  seen_stood log c (x ∷ xs) = sum_by-cons (stood c) (seen_to log x) (map (seen_to log) xs)
-      ∙ ap (λ (m : ℕ). stood c x + m) (seen_stood log c xs) ∙ sym (sum_by-cons (stood c) x xs)
+  seen_stood log c (x ∷ xs) = sum_by-cons (times_standing c) (seen_to log x) (map (seen_to log) xs)
+      ∙ ap (λ (m : ℕ). times_standing c x + m) (seen_stood log c xs) ∙ sym (sum_by-cons (times_standing c) x xs)
 
   looked_kept : (s : State S V) (k : Rule s) (id : ℕ) (v : V) → get_elem? s.views id ≡ some v
       → Rule record { words = s.words; homes = s.homes; views = set s.views id (with_history v k.log) }
@@ -150,12 +150,12 @@ module _ {S X O R Y : Type 0} (n : ℕ) (content : S → Y) (part : ℕ → X �
       (λ c. let e = sum_set_same (stood_in c) s.views id v w at (same_sums c) in omega arith)
       (w.mine, (id, w, at_new s.views id v w at, here w.mine w.others), refl)
 
-  stood_both : (c : ℕ) (r q : Record O R) (log : List (Call O R)) → stood c (both_of r q log) ≡ stood c r + stood c q
+  stood_both : (c : ℕ) (r q : Record O R) (log : List (Call O R)) → times_standing c (both_of r q log) ≡ times_standing c r + times_standing c q
   stood_both c r q log = sum_by-append (λ (k : Calls O R). cond (eqb k.client c) 1 0) r.own q.own
 
-  stood_two : (c : ℕ) (v : V) (q : Record O R) → v.others ≡ q ∷ [] → stood_in c v ≡ stood c v.mine + stood c q
-  stood_two c v q two = ap (λ (l : List (Record O R)). sum_by (stood c) (v.mine ∷ l)) two
-      ∙ sum_by-cons (stood c) v.mine (q ∷ []) ∙ ap (λ (m : ℕ). stood c v.mine + m) (zero-add (stood c q))
+  stood_two : (c : ℕ) (v : V) (q : Record O R) → v.others ≡ q ∷ [] → stood_in c v ≡ times_standing c v.mine + times_standing c q
+  stood_two c v q two = ap (λ (l : List (Record O R)). sum_by (times_standing c) (v.mine ∷ l)) two
+      ∙ sum_by-cons (times_standing c) v.mine (q ∷ []) ∙ ap (λ (m : ℕ). times_standing c v.mine + m) (zero-add (times_standing c q))
 
   gathered_kept : (s : State S V) (k : Rule s) (id : ℕ) (v : V) (q : Record O R) → get_elem? s.views id ≡ some v
       → v.others ≡ q ∷ []
@@ -177,7 +177,7 @@ module _ {S X O R Y : Type 0} (n : ℕ) (content : S → Y) (part : ℕ → X �
             (Contains-append_cases v.mine.own q.own c i),
       ) in
       let same_sums : (c : ℕ) → stood_in c w ≡ stood_in c v =
-      (λ c. zero-add (stood c w.mine) ∙ stood_both c v.mine q log ∙ sym (stood_two c v q two)) in
+      (λ c. zero-add (times_standing c w.mine) ∙ stood_both c v.mine q log ∙ sym (stood_two c v q two)) in
       let one = λ (r : Record O R) (h : Contains (records w) r). let e : w.mine ≡ r = only w.mine r h in e in
       let marks : MarksStay s.views (set s.views id w) = (λ r h p st. ⊎_elim
       (λ (i : Contains (records w) r). let e = one r i in
@@ -232,28 +232,28 @@ module _ {S X O R Y : Type 0} (n : ℕ) (content : S → Y) (part : ℕ → X �
           subst (λ (l : List (Record O R)). Contains (v.mine ∷ l) q) (sym two) (there v.mine (q ∷ []) q (here q []))
 
       known_one : (c : ℕ) → StandsFor (both_of v.mine q k.log) c → c < clients
-      known_one c st = dite (ℕ_discrete (stood c v.mine) 0)
+      known_one c st = dite (ℕ_discrete (times_standing c v.mine) 0)
           (λ z. (k.each_view id v at).known q second' c
-          (let sum = stood_both c v.mine q k.log in let z' : stood c v.mine ≡ 0 = z in omega arith))
+          (let sum = stood_both c v.mine q k.log in let z' : times_standing c v.mine ≡ 0 = z in omega arith))
           (λ nz. (k.each_view id v at).known v.mine (here v.mine v.others) c
-          (let z' : stood c v.mine ≢ 0 = nz in omega arith))
+          (let z' : times_standing c v.mine ≢ 0 = nz in omega arith))
 
       pick : (h : ℕ) (r : Record O R) → both_of v.mine q k.log ≡ r → StandsFor (both_of v.mine q k.log) h
-          → stood h (both_of v.mine q k.log) ≡ stood h v.mine + stood h q
+          → times_standing h (both_of v.mine q k.log) ≡ times_standing h v.mine + times_standing h q
           → (x : Record O R) × Present s.views x × StandsFor x h
           × ((b : ℕ) → Contains x.marks (h, b) → Contains r.marks (h, b))
-      pick h r e st sum = dite (ℕ_discrete (stood h v.mine) 0)
+      pick h r e st sum = dite (ℕ_discrete (times_standing h v.mine) 0)
           (λ z. (
             q,
             (id, v, at, second'),
-            (let z' : stood h v.mine ≡ 0 = z in omega arith),
+            (let z' : times_standing h v.mine ≡ 0 = z in omega arith),
             λ b m. subst
                 (λ (x : Record O R). Contains x.marks (h, b)) e (Contains-append_right v.mine.marks q.marks (h, b) m),
           ))
           (λ nz. (
             v.mine,
             (id, v, at, here v.mine v.others),
-            (let z' : stood h v.mine ≢ 0 = nz in omega arith),
+            (let z' : times_standing h v.mine ≢ 0 = nz in omega arith),
             λ b m.
                 subst (λ (x : Record O R). Contains x.marks (h, b)) e
                 (Contains-append_left v.mine.marks q.marks (h, b) m),
@@ -286,10 +286,10 @@ module _ {S X O R Y : Type 0} (n : ℕ) (content : S → Y) (part : ℕ → X �
       (present_cases s.views id u r m))
       (present_cases mid other spent r p)) in
       let sum_u : (c : ℕ) → stood_in c u ≡ stood_in c v + stood_in c w =
-      (λ c. sum_by-append (stood c) (records v) (records w)) in
+      (λ c. sum_by-append (times_standing c) (records v) (records w)) in
       let sum_spent : (c : ℕ) → stood_in c spent ≡ 0 =
-      (λ c. ap (λ (l : List (Record O R)). sum_by (stood c) (spent.mine ∷ l)) lone
-      ∙ ap (λ (r : Record O R). 0 + stood c r) blank) in
+      (λ c. ap (λ (l : List (Record O R)). sum_by (times_standing c) (spent.mine ∷ l)) lone
+      ∙ ap (λ (r : Record O R). 0 + times_standing c r) blank) in
       regrouped s k (set mid other spent)
       (λ b h. goes b h)
       (λ j x e. ⊎_elim
@@ -375,7 +375,7 @@ module _ {S X O R Y : Type 0} (n : ℕ) (content : S → Y) (part : ℕ → X �
           )))
 
       -- the parts that were held still are
-      goes : (b : ℕ) → IsHeld s.views b → IsHeld (set (set s.views id (both_views v w)) other spent) b
+      goes : (b : ℕ) → SomeHolds s.views b → SomeHolds (set (set s.views id (both_views v w)) other spent) b
       goes b (i, x, y, e, h) = dite (ℕ_discrete i other)
           (λ z. let one : x ≡ w = some-injective x w
           (sym e ∙ subst (λ (j : ℕ). get_elem? s.views j ≡ some w) (sym z) there_is) in
@@ -405,7 +405,7 @@ module _ {S X O R Y : Type 0} (n : ℕ) (content : S → Y) (part : ℕ → X �
       → get_elem? s.views id ≡ some v → right.start ≡ v.start → right.clients ≡ v.clients → right.holds ≡ []
       → ((r : Record O R) → Contains (records right) r → (no_client ≡ r) ⊎ Contains v.others r)
       → ((r : Record O R) → Contains v.others r → Contains (records right) r)
-      → ((c : ℕ) → stood_in c right ≡ sum_by (stood c) v.others)
+      → ((c : ℕ) → stood_in c right ≡ sum_by (times_standing c) v.others)
       → Rule record { words = s.words; homes = s.homes; views = set s.views id (first_alone v) ++ right ∷ [] }
   cut_kept s k id v right stands at same_start same_clients empty theirs keep sums =
       let left = first_alone v in
@@ -414,8 +414,8 @@ module _ {S X O R Y : Type 0} (n : ℕ) (content : S → Y) (part : ℕ → X �
       let mid = set s.views id left in
       let first = here v.mine v.others in
       let map_of = old.same_map v.mine.number (let a = stood_of v.mine.number v v.mine first in omega arith) in
-      let two : (c : ℕ) → stood_in c v ≡ stood c v.mine + sum_by (stood c) v.others =
-      (λ c. sum_by-cons (stood c) v.mine v.others) in
+      let two : (c : ℕ) → stood_in c v ≡ times_standing c v.mine + sum_by (times_standing c) v.others =
+      (λ c. sum_by-cons (times_standing c) v.mine v.others) in
       let in_old = λ (r : Record O R) (h : Contains v.others r). let t : Present s.views r =
       (id, v, at, there v.mine v.others r h) in t in
       let right_was = λ (r : Record O R) (h : Contains (records right) r). let t : (no_client ≡ r) ⊎ Present s.views r =
@@ -469,7 +469,7 @@ module _ {S X O R Y : Type 0} (n : ℕ) (content : S → Y) (part : ℕ → X �
       (λ (z : no_client ≡ r). absurd (none_in (h, b) (subst (λ (q : Record O R). Contains q.misses (h, b)) (sym z) m)))
       (λ (o : Present s.views r). (r, o, m)) (was r p))
       (λ c. let a = sum_set (stood_in c) s.views id v left at in let b = sum_by_push (stood_in c) mid right in
-      let d = two c in let e = sums c in let f : stood_in c left ≡ stood c v.mine = zero-add (stood c v.mine) in
+      let d = two c in let e = sums c in let f : stood_in c left ≡ times_standing c v.mine = zero-add (times_standing c v.mine) in
       omega arith)
       (seen_by k.shown.0 k.shown.1 k.shown.2)
     where
@@ -529,11 +529,11 @@ module _ {S X O R Y : Type 0} (n : ℕ) (content : S → Y) (part : ℕ → X �
       cut [] e =
           cut_kept s k id v (idle_view v.start v.clients) stands at refl refl refl (λ r h. inl (only no_client r h))
           (λ r h. absurd (none_in r (subst (λ (l : List (Record O R)). Contains l r) e h)))
-          (λ c. sym (ap (sum_by (stood c)) e))
+          (λ c. sym (ap (sum_by (times_standing c)) e))
       cut (r ∷ rs) e =
           cut_kept s k id v (seat_for v.start v.clients (r ∷ rs)) stands at refl refl refl
           (λ q h. inr (subst (λ (l : List (Record O R)). Contains l q) (sym e) h))
-          (λ q h. subst (λ (l : List (Record O R)). Contains l q) e h) (λ c. sym (ap (sum_by (stood c)) e))
+          (λ q h. subst (λ (l : List (Record O R)). Contains l q) e h) (λ c. sym (ap (sum_by (times_standing c)) e))
 
   abbrev M : Type 0
   M = Me S V

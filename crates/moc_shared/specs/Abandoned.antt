@@ -5,7 +5,7 @@ use lib.ListN.{get_elem?}
 use Rattle.atomic_table.specs.Table.{Act, stepped}
 use Rattle.moc_lists.specs.RangeList.{NumberSet}
 use Rattle.moc_shared.specs.Seats.{table_place, note, Pointer, Sight, Table}
-pub use Rattle.moc_shared.specs.Private.Seats.{IsKept}
+pub use Rattle.moc_shared.specs.Private.Seats.{KeepsTheRule}
 
 -- the seat has the view
 abbrev pub HasView : List Sight → ℕ → Sight → Type 0
@@ -21,7 +21,7 @@ IsHeldIn table c b =
 -- abandoned stay held.
 pub record AbandonedPartsStayHeld : Type 0 where
   pub marked : (start : NumberSet) (clients : ℕ) (table : Table) (seat : ℕ) (v : Sight) (b : ℕ) (y : Option NumberSet)
-      → IsKept start clients table → HasView table.views seat v → Contains v.holds (note b y)
+      → KeepsTheRule start clients table → HasView table.views seat v → Contains v.holds (note b y)
       → IsHeldIn table v.mine.number b
   pub steps : (table : Table) (seat other : ℕ) (v w : Sight) (word number : ℕ) (carried : List (ℕ × Option Pointer))
       (act : Act (Option Pointer)) → HasView table.views seat v → ¬ (seat ≡ other)

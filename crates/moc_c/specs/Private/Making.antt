@@ -6,7 +6,7 @@ use Rattle.moc_ranges.specs.declared.errors.Memory.{Memory}
 use Rattle.moc_parts.specs.declared.command.Command.{Command}
 use Rattle.moc_parts.specs.declared.reply.Reply.{Reply}
 use Rattle.moc_parts.specs.declared.reply.Reply.TheVariants.{Cover}
-use Rattle.moc_shared.specs.Clients.{AfterError, record_of}
+use Rattle.moc_shared.specs.Clients.{AfterTryApply, record_of}
 use Rattle.moc_shared.specs.declared.errors.TryError.{TryError}
 use Rattle.moc_shared.specs.declared.errors.TryError.TheVariants as try
 use Rattle.moc_c.specs.Answers.{Makes}
@@ -36,13 +36,13 @@ try_fault try.Memory = fault.Memory
 -- the member's call of these commands went through, with these replies, or why it did not
 abbrev pub Tries : Membership → Membership → List Command → Result (List Reply) TryError → Type 0
 Tries old new cs (Ok r) = IsAfter old new × MemberEnds old new cs r
-Tries old new cs (Err e) = IsAfter old new × AfterError old.map cs e (record_of old.client) (record_of new.client)
+Tries old new cs (Err e) = IsAfter old new × AfterTryApply old.map cs e (record_of old.client) (record_of new.client)
 
 -- the member's call of it went through, and replied this set; or why it did not, or that it was not made
 abbrev pub ReadsSky : Membership → Membership → Result NumberSet TryError → Type 0
 ReadsSky old new (Ok a) = IsAfter old new × MemberEnds old new whole_sky (Cover a ∷ [])
 ReadsSky old new (Err e) =
-    (IsAfter old new × AfterError old.map whole_sky e (record_of old.client) (record_of new.client))
+    (IsAfter old new × AfterTryApply old.map whole_sky e (record_of old.client) (record_of new.client))
     ⊎ ((new ≡ old) × (e ≡ try.Memory))
 
 -- the bytes of a text that was made

@@ -74,5 +74,5 @@ abbrev pub AreOwn : List (Option Pointer) → Type 0
 AreOwn slots = (b : ℕ) → IsOwn b (at_place slots b)
 
 -- what holds of the table of a map between any two steps
-abbrev pub IsKept : NumberSet → ℕ → Table → Type 0
-IsKept start clients table = Kept 12 content part batch_answer IsProper start clients table
+abbrev pub KeepsTheRule : NumberSet → ℕ → Table → Type 0
+KeepsTheRule start clients table = Kept 12 content part batch_answer IsProper start clients table

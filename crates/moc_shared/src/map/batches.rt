@@ -4,7 +4,7 @@ ghost use Rattle.std.specs.List.{list_any};
 ghost use Rattle.moc_parts.specs.Commands.{is_update};
 ghost use Rattle.moc_shared.specs.Clients.{number_of, record_of, holder_of, held_batch, call_of};
 ghost use Rattle.moc_shared.specs.Clients.{IsClientOf, IsHoldingOf, Ends, Refuses, Undone, LacksMemoryHolding};
-ghost use Rattle.moc_shared.specs.Clients.{EndsWaiting, LacksMemoryWaiting, AfterError, AfterLook, AfterSnapshot};
+ghost use Rattle.moc_shared.specs.Clients.{EndsWaiting, LacksMemoryWaiting, AfterTryApply, AfterLook, AfterSnapshot};
 
 use crate::client::{Client, Holding};
 use crate::errors::{Busy, LookError, SnapshotError, TryError};
@@ -31,7 +31,7 @@ impl SharedMap {
         ensures ok { IfOk result
             (λ r. Ends self.now (call_of client.old batch.now r) (record_of client.old) (record_of client.new)) }
         ensures err { IfErr result
-            (λ e. AfterError self.now batch.now e (record_of client.old) (record_of client.new)) }
+            (λ e. AfterTryApply self.now batch.now e (record_of client.old) (record_of client.new)) }
     {
         let mark = client.mark();
         let table = &self.table.shared;

@@ -1,6 +1,6 @@
 //! What clients of a map tell one another, and the end of a map.
 ghost use Rattle.std.specs.Prelude.{◌≡◌};
-ghost use Rattle.moc_shared.specs.Clients.{number_of, record_of, IsClientOf, Meets, TakesIn, AfterClose};
+ghost use Rattle.moc_shared.specs.Clients.{number_of, record_of, IsClientOf, SeeTheSame, TakesIn, AfterClose};
 
 use crate::client::Client;
 use crate::errors::CloseError;
@@ -17,7 +17,7 @@ impl SharedMap {
         requires second { IsClientOf self.now b.old }
         ensures first { IsClientOf self.now a.new × (number_of a.new ≡ number_of a.old) }
         ensures second { IsClientOf self.now b.new × (number_of b.new ≡ number_of b.old) }
-        ensures met { Meets self.now (record_of a.old) (record_of a.new) (record_of b.old) (record_of b.new) }
+        ensures met { SeeTheSame self.now (record_of a.old) (record_of a.new) (record_of b.old) (record_of b.new) }
     {
         let table = &self.table.shared;
         let idle = split(table, &mut b.seat);

@@ -15,7 +15,7 @@ pub(crate) fn index(part: Part) -> usize
     ensures place { result ≡ table_place part }
     ensures in_range { part < 12 }
 {
-    APART * usize::from(part.get())
+    APART * part.index()
 }
 
 /// The part whose word and slot stand at a place, if there is one.

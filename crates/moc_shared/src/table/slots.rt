@@ -30,21 +30,21 @@ pub(crate) fn no_slots() -> Slots
 pub(crate) fn pointer_at(slots: &Slots, part: Part) -> Option<&Pointer>
     ensures { option_copied result ≡ at_place slots.now part }
 {
-    slots[usize::from(part.get())].as_ref()
+    slots[part.index()].as_ref()
 }
 
 /// Takes out the pointer of a part.
 pub(crate) fn take_at(slots: &mut Slots, part: Part) -> Option<Pointer>
     ensures { (result ≡ at_place slots.old part) × (slots.new ≡ slice_set slots.old part None) }
 {
-    std::mem::replace(&mut slots[usize::from(part.get())], None)
+    std::mem::replace(&mut slots[part.index()], None)
 }
 
 /// Puts in the pointer of a part.
 pub(crate) fn put_at(slots: &mut Slots, part: Part, pointer: Pointer)
     ensures { slots.new ≡ slice_set slots.old part (Some pointer) }
 {
-    slots[usize::from(part.get())] = Some(pointer);
+    slots[part.index()] = Some(pointer);
 }
 
 /// The last part with a pointer.
@@ -82,7 +82,7 @@ pub(crate) fn share(alloc: Global, list: Coverage) -> Result<Pointer, Memory>
 pub(crate) fn set_at(slots: &mut Slots, part: Part, slot: Option<Pointer>)
     ensures { slots.new ≡ slice_set slots.old part slot }
 {
-    slots[usize::from(part.get())] = slot;
+    slots[part.index()] = slot;
 }
 
 /// Makes a copy of each pointer, where there is none yet. Refused where a count is full.
@@ -113,18 +113,9 @@ fn list(slot: &Option<Pointer>) -> Option<&Coverage>
 pub(crate) fn lists(slots: &Slots) -> [Option<&Coverage>; 12]
     ensures { map option_copied result ≡ map content slots.now }
 {
-    [
-        list(&slots[0]),
-        list(&slots[1]),
-        list(&slots[2]),
-        list(&slots[3]),
-        list(&slots[4]),
-        list(&slots[5]),
-        list(&slots[6]),
-        list(&slots[7]),
-        list(&slots[8]),
-        list(&slots[9]),
-        list(&slots[10]),
-        list(&slots[11]),
-    ]
+    let mut lists = [None; 12];
+    for (b, slot) in slots.iter().enumerate() {
+        lists[b] = list(slot);
+    }
+    lists
 }
