@@ -6,8 +6,8 @@ ghost use Rattle.moc_lines.specs.Runs.{script_text, EndsFlushed, Flushes, Runs, 
 ghost use Rattle.moc_lines.specs.Runs.{line_limit};
 ghost use Rattle.moc_lines.specs.Numberings.{number_on, renumber_rules, renumbered};
 
-use crate::fault::{LineFault, push_fault};
-use crate::numbering::Numbering;
+use crate::fault::push_fault;
+use crate::numbering::{NumberFault, Numbering};
 use crate::responder::Responder;
 use crate::run_error::RunError;
 use crate::runner::answer_all_lines;
@@ -34,7 +34,7 @@ pub struct Renumbering {
 
 impl Renumbering {
     /// The number, in the one numbering, of the cell whose number in the other a line spells.
-    fn renumbered(self, line: &[u8]) -> Result<u64, LineFault>
+    fn renumbered(self, line: &[u8]) -> Result<u64, NumberFault>
         ensures { result ≡ renumbered self line.now }
     {
         // Any order is 29 at most, and so all its numbers have 62 bits at most.
@@ -59,7 +59,7 @@ impl Responder for Renumbering {
         }
         match self.renumbered(line) {
             Ok(number) => push_number(number, text),
-            Err(fault) => push_fault(fault, text),
+            Err(fault) => push_fault(fault.name(), text),
         }
     }
 
@@ -69,7 +69,7 @@ impl Responder for Renumbering {
 }
 
 /// The number that a line spells, which has just one field, or `u64::MAX` where it is larger.
-fn read_number(line: &[u8]) -> Result<u64, LineFault>
+fn read_number(line: &[u8]) -> Result<u64, NumberFault>
     ensures { result ≡ result_map_both (λ n. min n (2 ^ 64 - 1)) (λ fault. fault) (number_on line.now) }
 {
     if line.len() <= SAFE_DIGITS {
@@ -79,9 +79,9 @@ fn read_number(line: &[u8]) -> Result<u64, LineFault>
     }
     let (field, behind) = split_word(line);
     if !is_blank_text(behind) {
-        return Err(LineFault::WrongCount);
+        return Err(NumberFault::WrongCount);
     }
-    number_in(field).ok_or(LineFault::BadNumber)
+    number_in(field).ok_or(NumberFault::BadNumber)
 }
 
 /// Adds a number as a line.

@@ -1,6 +1,7 @@
 -- Schedules of steps on the step machine: what their lines say, and the texts that answer them.
 use Rattle.std.specs.Prelude.{ℕ, List, codes, nat_lt, Result, Ok, Err, if◌then◌else◌, suc, ◌==◌, [], ◌∷◌, ◌++◌, decimal}
 use Rattle.std.specs.Prelude.{get_or, Option, None, Some}
+use Rattle.moc_text.specs.Names.{told_fault}
 use Rattle.moc_lines.specs.Language.{name_of_line, is_blank_text, word_of, behind_word, number_spelled, ◌>>=◌}
 use Rattle.moc_lines.specs.Language.{only_field, two_fields, command_of, batch_of, cover_text, replies_text}
 use Rattle.moc_script.specs.declared.fault.StepFault.{StepFault}
@@ -154,7 +155,7 @@ abbrev pub answer_to_step : Schedule → Result BatchStep StepFault → List ℕ
 answer_to_step s (Ok step) =
     option_map_or (λ why. codes "refused " ++ name_of_refusal why) (refusal batches s.world.locks step)
     (done_text (reply_to batches s.world step)) ++ 10 ∷ []
-answer_to_step s (Err fault) = codes "fault " ++ name_of_step fault ++ 10 ∷ []
+answer_to_step s (Err fault) = told_fault (name_of_step fault)
 
 -- one more line was read
 abbrev pub next_line : Schedule → Schedule

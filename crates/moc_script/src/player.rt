@@ -6,9 +6,9 @@ ghost use Rattle.moc_parts.specs.Batches.{batches};
 ghost use Rattle.moc_script.specs.Schedules.{after_step, answer_to_step, begin_lines, done_text};
 ghost use Rattle.moc_script.specs.Schedules.{end_text, name_of_refusal, schedule_rules, start_schedule};
 
-use crate::fault::{ReadStepError, push_step_fault};
+use crate::fault::ReadStepError;
 use crate::step::read_step;
-use moc_lines::{Responder, is_blank_text, push_count, push_cover, push_reply_line};
+use moc_lines::{Responder, is_blank_text, push_count, push_cover, push_fault, push_reply_line};
 use moc_parts::Replies;
 use moc_ranges::{Coverage, Memory};
 use moc_steps::{CoverError, Entry, Step, StepError, World};
@@ -81,7 +81,7 @@ impl Responder for Player {
         }
         match read_step(alloc, line) {
             Ok(step) => self.take(alloc, step, text),
-            Err(ReadStepError::Fault(fault)) => push_step_fault(fault, text),
+            Err(ReadStepError::Fault(fault)) => push_fault(fault.name(), text),
             Err(ReadStepError::Memory) => Err(Memory),
         }
     }
