@@ -13,7 +13,7 @@ use Rattle.std.specs.Option.{ok_or}
 use Rattle.std.specs.Result.{result_or, result_map_both, is_ok, OkIff, IfOk}
 use Rattle.moc_sphere.specs.CellNumber.{CellNumber, IsCell, cell_number, cell_count, uniq_of}
 use Rattle.moc_sphere.specs.Rings.{ring_number, stands_before}
-use Rattle.moc_lines.specs.Numberings.{cell_under, fault_under, number_under, cell_or_fault}
+use Rattle.moc_lines.specs.Numberings.{cell_under, fault_under, number_under, cell_or_fault, other_number}
 use Rattle.moc_lines.specs.Language.{◌>>=◌}
 use Rattle.moc_lines.specs.Private.Finding.{FindsCell}
 use Rattle.moc_lines.specs.declared.numbering.NumberFault.{NumberFault}
@@ -180,22 +180,13 @@ held_alike v k n small =
           ∙ sym (unfound v k n (fault_under v n) (far v k n small high) refl)
     ]
 
--- what is told of a number that was read
-abbrev told : Renumbering → Result ℕ NumberFault → Result ℕ NumberFault
-told r read = do
-  n ← read
-  i ← cell_or_fault r.from r.order n
-  Ok (number_under r.to r.order i)
-
 -- the same is told of a number that is held
 told_held : (r : Renumbering) (read : Result ℕ NumberFault) → r.order ≤ 29
-    → told r (result_map_both (λ n. min n (2 ^ 64 - 1)) (λ fault. fault) read) ≡ told r read
+    → (result_map_both (λ n. min n (2 ^ 64 - 1)) (λ fault. fault) read >>= other_number r) ≡ (read >>= other_number r)
 told_held r (Err fault) small = refl
 told_held r (Ok n) small = ap (λ c. c >>= (λ i. Ok (number_under r.to r.order i))) (held_alike r.from r.order n small)
 
--- what is told where such a number was read, and such a cell or fault was found
-pub tells : (r : Renumbering) (read : Result ℕ NumberFault) (n : ℕ) (cell : Result ℕ NumberFault) → r.order ≤ 29
-    → Ok n ≡ result_map_both (λ n. min n (2 ^ 64 - 1)) (λ fault. fault) read → cell_or_fault r.from r.order n ≡ cell
-    → (cell >>= (λ i. Ok (number_under r.to r.order i))) ≡ told r read
-tells r read n cell small held is =
-    sym (ap (λ c. c >>= (λ i. Ok (number_under r.to r.order i))) is) ∙ ap (told r) held ∙ told_held r read small
+-- what is told where such a number was read
+pub tells : (r : Renumbering) (read : Result ℕ NumberFault) (n : ℕ) → r.order ≤ 29
+    → Ok n ≡ result_map_both (λ n. min n (2 ^ 64 - 1)) (λ fault. fault) read → other_number r n ≡ (read >>= other_number r)
+tells r read n small held = ap (λ c. c >>= other_number r) held ∙ told_held r read small

@@ -117,6 +117,14 @@ two_fields text =
     if is_blank_text rest then Err WrongCount
     else (if is_blank_text (behind_word rest) then Ok (word_of text, word_of rest) else Err WrongCount)
 
+-- the numbers that the fields of a text spell that has just two
+abbrev pub two_numbers : List ℕ → Result (ℕ × ℕ) LineFault
+two_numbers text = do
+  fields ← two_fields text
+  a ← ok_or (number_spelled fields.0) BadNumber
+  b ← ok_or (number_spelled fields.1) BadNumber
+  Ok (a, b)
+
 -- the set that a text says in the ASCII form of MOC 2.0, or its fault
 abbrev pub coverage_of : List ℕ → Result NumberSet LineFault
 coverage_of text = result_map_both (λ read. read.0) (λ e. Coverage e) (reading_of text)
@@ -181,9 +189,7 @@ degrade_of text = do
 -- what stands behind `near`: just two fields, an order and the number of one of its cells
 abbrev pub near_of : List ℕ → Result Command LineFault
 near_of text = do
-  fields ← two_fields text
-  k ← ok_or (number_spelled fields.0) BadNumber
-  i ← ok_or (number_spelled fields.1) BadNumber
+  (k, i) ← two_numbers text
   if nat_lt 29 k then Err OrderTooLarge
       else (if nat_lt i (cell_count k) then Ok (Near (cell_number k i)) else Err CellTooLarge)
 

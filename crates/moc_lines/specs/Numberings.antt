@@ -54,10 +54,9 @@ abbrev pub number_on : List ℕ → Result ℕ NumberFault
 number_on line =
     if is_blank_text (behind_word line) then ok_or (number_spelled (word_of line)) BadNumber else Err WrongCount
 
--- the number, in the one numbering, of the cell whose number in the other a line spells
-abbrev pub renumbered : Renumbering → List ℕ → Result ℕ NumberFault
-renumbered r line = do
-  n ← number_on line
+-- the number, in the one numbering, of the cell that has this number in the other, or the fault
+abbrev pub other_number : Renumbering → ℕ → Result ℕ NumberFault
+other_number r n = do
   i ← cell_or_fault r.from r.order n
   Ok (number_under r.to r.order i)
 
@@ -69,7 +68,7 @@ number_line (Err fault) = told_fault (name_of_number fault)
 -- how lines of numbers are answered; blank ones have no answer, and nothing is said behind the last
 abbrev pub renumber_rules : Rules Renumbering
 renumber_rules = record {
-  answer = λ r line. if is_blank_text line then [] else number_line (renumbered r line);
+  answer = λ r line. if is_blank_text line then [] else number_line (number_on line >>= other_number r);
   after = λ r line. r;
   closing = λ _. [];
 }

@@ -4,7 +4,8 @@ ghost use Rattle.std.specs.Io.KnownBytes.{Appends};
 ghost use Rattle.std.specs.Result.{result_map_both};
 ghost use Rattle.moc_lines.specs.Runs.{script_text, EndsFlushed, Flushes, Runs, TellsFailed, WritesBeginning};
 ghost use Rattle.moc_lines.specs.Runs.{line_limit};
-ghost use Rattle.moc_lines.specs.Numberings.{number_on, renumber_rules, renumbered};
+ghost use Rattle.moc_lines.specs.Language.{◌>>=◌ as and_then};
+ghost use Rattle.moc_lines.specs.Numberings.{number_on, other_number, renumber_rules};
 
 use crate::fault::push_fault;
 use crate::numbering::{NumberFault, Numbering};
@@ -33,15 +34,22 @@ pub struct Renumbering {
 }
 
 impl Renumbering {
-    /// The number, in the one numbering, of the cell whose number in the other a line spells.
-    fn renumbered(self, line: &[u8]) -> Result<u64, NumberFault>
-        ensures { result ≡ renumbered self line.now }
+    /// The number, in the one numbering, of the cell that has this number in the other; refused where the order has no
+    /// such cell: with `CellTooLarge`, `RingTooLarge`, `NotUniq` or `OtherOrder`. O(1); takes no memory.
+    pub fn of(self, number: u64) -> Result<u64, NumberFault>
+        ensures { result ≡ other_number self number }
+    {
+        let cell = self.from.cell(self.order, number)?;
+        Ok(self.to.number(cell))
+    }
+
+    /// The same of the number that a line spells.
+    fn of_line(self, line: &[u8]) -> Result<u64, NumberFault>
+        ensures { result ≡ and_then (number_on line.now) (λ n. other_number self n) }
     {
         // Any order is 29 at most, and so all its numbers have 62 bits at most.
         self.order.get();
-        let number = read_number(line)?;
-        let cell = self.from.cell(self.order, number)?;
-        Ok(self.to.number(cell))
+        self.of(read_number(line)?)
     }
 }
 
@@ -57,7 +65,7 @@ impl Responder for Renumbering {
         if is_blank_text(line) {
             return Ok(());
         }
-        match self.renumbered(line) {
+        match self.of_line(line) {
             Ok(number) => push_number(number, text),
             Err(fault) => push_fault(fault.name(), text),
         }

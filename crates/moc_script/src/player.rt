@@ -1,10 +1,8 @@
 //! The answers to lines, by the step machine.
 ghost use Rattle.std.specs.Prelude.{◌≡◌, ◌++◌, ◌∷◌, [], IfOk, Ok, OnOk, codes, get_or};
-ghost use Rattle.moc_steps.specs.Machine.{refusal};
 ghost use Rattle.moc_steps.specs.Played.{entries_of, step_of};
-ghost use Rattle.moc_parts.specs.Batches.{batches};
-ghost use Rattle.moc_script.specs.Schedules.{after_step, answer_to_step, begin_lines, done_text};
-ghost use Rattle.moc_script.specs.Schedules.{end_text, name_of_refusal, schedule_rules, start_schedule};
+ghost use Rattle.moc_script.specs.Schedules.{answer_to_step, begin_lines, done_text, end_text};
+ghost use Rattle.moc_script.specs.Schedules.{name_of_refusal, schedule_rules, start_schedule, step_taken, with_step};
 
 use crate::fault::ReadStepError;
 use crate::step::read_step;
@@ -49,8 +47,7 @@ impl Player {
     /// Takes the step that the last line says, if it is permitted, and adds the answer.
     fn take(&mut self, alloc: Global, step: Step, text: &mut Vec<u8>) -> Result<(), Memory>
         ensures text { OnOk result (text.new.items ≡ text.old.items ++ answer_to_step self.old (Ok (step_of step))) }
-        ensures after { OnOk result (self.new ≡
-            after_step (refusal batches self.old.world.locks (step_of step)) self.old (step_of step)) }
+        ensures after { OnOk result (self.new ≡ with_step self.old (step_taken self.old (Ok (step_of step)))) }
     {
         let is_begin = matches!(step, Step::Begin { .. });
         match self.world.step(step) {
