@@ -55,7 +55,6 @@ KINDS = {
     58: Kind("NoOrder", "a cell stands before any order"),
     59: Kind("Backwards", "a range of cells goes backwards"),
     60: Kind("Unfinished", "a word of a coverage is not finished"),
-    61: Kind("Other", "no line of commands has the fault"),
     70: Kind("NoMap", "nobody sits on the seat"),
     71: Kind("SeatTaken", "somebody sits on the seat"),
     72: Kind("BadCount", "a map has 1 to 64 clients", ("clients",)),

@@ -99,7 +99,6 @@ enum {
     MOC_LINE_NO_ORDER = 58,          /* a cell before any order */
     MOC_LINE_BACKWARDS = 59,         /* a range of cells that goes backwards */
     MOC_LINE_UNFINISHED = 60,        /* a word of a coverage that is not finished */
-    MOC_LINE_OTHER = 61,             /* a fault of other lines than those of commands: no call tells it */
 
     /* a seat */
     MOC_NO_MAP = 70,     /* nobody sits there */

@@ -72,7 +72,7 @@ outcome_of_ranges ranges.Memory = memory
 outcome_of_ranges (ranges.Backwards at) = outcome 40 at 0
 outcome_of_ranges (ranges.PixelTooLarge at) = outcome 41 at 0
 
--- the code of the fault of a coverage in a line; the last is for want of memory, which no text has
+-- the code of the fault of a coverage in a line
 abbrev pub code_of_coverage : TextError → ℕ
 code_of_coverage (text.OrderTooLarge at) = 55
 code_of_coverage (text.CellTooLarge at) = 56
@@ -80,9 +80,9 @@ code_of_coverage (text.BadByte at) = 57
 code_of_coverage (text.NoOrder at) = 58
 code_of_coverage (text.Backwards at) = 59
 code_of_coverage (text.Unfinished at) = 60
-code_of_coverage text.Memory = 61
+code_of_coverage text.Memory = 1
 
--- the code of a line's fault; the last is for those that no line of commands has
+-- the code of the fault of a line of commands
 abbrev pub line_code : LineFault → ℕ
 line_code line.UnknownWord = 50
 line_code line.EmptyCommand = 51
@@ -92,9 +92,6 @@ line_code line.BadNumber = 54
 line_code line.OrderTooLarge = 55
 line_code line.CellTooLarge = 56
 line_code (line.Coverage e) = code_of_coverage e
-line_code line.NotUniq = 61
-line_code line.RingTooLarge = 61
-line_code line.OtherOrder = 61
 
 -- the fault of a line of commands
 abbrev pub outcome_of_line : LineFault → Outcome

@@ -72,8 +72,6 @@ pub(crate) const LINE_BACKWARDS: u32 = 59;
 
 pub(crate) const LINE_UNFINISHED: u32 = 60;
 
-pub(crate) const LINE_OTHER: u32 = 61;
-
 pub(crate) const NO_MAP: u32 = 70;
 
 pub(crate) const SEAT_TAKEN: u32 = 71;

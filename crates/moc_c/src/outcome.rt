@@ -174,9 +174,6 @@ impl Outcome {
             LineFault::OrderTooLarge => codes::LINE_ORDER_TOO_LARGE,
             LineFault::CellTooLarge => codes::LINE_CELL_TOO_LARGE,
             LineFault::Coverage(error) => coverage_code(error),
-            LineFault::NotUniq | LineFault::RingTooLarge | LineFault::OtherOrder => {
-                codes::LINE_OTHER
-            }
         };
         Outcome::new(code, 0, 0)
     }
@@ -193,6 +190,6 @@ fn coverage_code(error: TextError) -> u32
         TextError::NoOrder { .. } => codes::LINE_NO_ORDER,
         TextError::Backwards { .. } => codes::LINE_BACKWARDS,
         TextError::Unfinished { .. } => codes::LINE_UNFINISHED,
-        TextError::Memory => codes::LINE_OTHER,
+        TextError::Memory => codes::MEMORY,
     }
 }

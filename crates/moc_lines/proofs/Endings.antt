@@ -8,7 +8,7 @@ use Rattle.std.proofs.lemmas.List.Sums.{take_while-cons}
 use Rattle.std.specs.Io.KnownBytes.{Appends, Consumes, IsAtEnd, Keeps}
 use Rattle.std.proofs.KnownBytes.{Appends-kept, Appends-trans}
 use Rattle.moc_text.specs.Lines.{lines_of}
-use Rattle.moc_lines.specs.Runs.{Rules, is_within, answers_to, after_lines, closing_behind, script_text, AreWithin}
+use Rattle.moc_lines.specs.Runs.{Rules, is_short, answers_to, after_lines, closing_behind, script_text, AreShort}
 use Rattle.moc_lines.specs.Runs.{IsWritten, Runs, WritesBeginning}
 use Rattle.moc_devices.specs.Devices.{Sends}
 use Rattle.moc_lines.specs.Private.Ended.{Ended, text_at}
@@ -18,7 +18,7 @@ use Rattle.moc_lines.proofs.Progress.{at_end}
 use Rattle.moc_lines.proofs.Outcomes.{at_ok}
 use Rattle.std.specs.Result.{is_err, OnOk}
 
-within-append : (limit : ℕ) (lines rest : List (List ℕ)) → AreWithin limit lines
+within-append : (limit : ℕ) (lines rest : List (List ℕ)) → AreShort limit lines
     → take_while (λ line. leb (length line) limit) (lines ++ rest) ≡ lines ++ take_while (λ line. leb (length line) limit) rest
 within-append limit [] rest each = refl
 within-append limit (line ∷ lines) rest each =
@@ -26,14 +26,14 @@ within-append limit (line ∷ lines) rest each =
     take_while-cons (λ l. leb (length l) limit) line (lines ++ rest) ∙ ap (λ b. cond b (line ∷ take_while (λ l. leb (length l) limit) (lines ++ rest)) []) passes
     ∙ ap (λ l. line ∷ l) (within-append limit lines rest each.1)
 
-taken_all : (limit : ℕ) (lines : List (List ℕ)) → AreWithin limit lines → take_while (is_within limit) lines ≡ lines
+taken_all : (limit : ℕ) (lines : List (List ℕ)) → AreShort limit lines → take_while (is_short limit) lines ≡ lines
 taken_all limit lines each =
-    ap (take_while (is_within limit)) (sym (append-nil lines)) ∙ within-append limit lines [] each ∙ append-nil lines
+    ap (take_while (is_short limit)) (sym (append-nil lines)) ∙ within-append limit lines [] each ∙ append-nil lines
 
-all_within : (limit : ℕ) (lines : List (List ℕ)) → AreWithin limit lines → list_all (is_within limit) lines ≡ true
+all_within : (limit : ℕ) (lines : List (List ℕ)) → AreShort limit lines → list_all (is_short limit) lines ≡ true
 all_within limit [] each = refl
 all_within limit (line ∷ lines) each =
-    ap (λ b. b && list_all (is_within limit) lines) (le-leb (length line) limit each.0) ∙ all_within limit lines each.1
+    ap (λ b. b && list_all (is_short limit) lines) (le-leb (length line) limit each.0) ∙ all_within limit lines each.1
 
 module _ {S : Type 0} (limit : ℕ) (rules : Rules S) where
   answers_to-append : (s : S) (lines more : List (List ℕ)) → answers_to rules s (lines ++ more) ≡ answers_to rules s lines ++ answers_to rules (after_lines rules s lines) more
@@ -42,26 +42,26 @@ module _ {S : Type 0} (limit : ℕ) (rules : Rules S) where
 
   -- what is said behind all lines, where none is over the limit
   abbrev closing_text : S → List (List ℕ) → List ℕ
-  closing_text s lines = cond (list_all (is_within limit) lines) (closing_behind rules s lines) []
+  closing_text s lines = cond (list_all (is_short limit) lines) (closing_behind rules s lines) []
 
   -- the answers so far begin the text
-  beginning : (s : S) (input : List ℕ) (lines rest : List (List ℕ)) → AreWithin limit lines → lines_of input ≡ lines ++ rest
+  beginning : (s : S) (input : List ℕ) (lines rest : List (List ℕ)) → AreShort limit lines → lines_of input ≡ lines ++ rest
       → (tail : List ℕ) × (script_text rules limit s input ≡ answers_to rules s lines ++ tail)
   beginning s input lines rest within is =
       let closing = closing_text s (lines_of input) in
-      let later = answers_to rules (after_lines rules s lines) (take_while (is_within limit) rest) in (
+      let later = answers_to rules (after_lines rules s lines) (take_while (is_short limit) rest) in (
         later ++ closing,
-        ap (λ l. answers_to rules s (take_while (is_within limit) l) ++ closing) is
+        ap (λ l. answers_to rules s (take_while (is_short limit) l) ++ closing) is
             ∙ ap (λ l. answers_to rules s l ++ closing) (within-append limit lines rest within)
-            ∙ ap (λ l. l ++ closing) (answers_to-append s lines (take_while (is_within limit) rest))
+            ∙ ap (λ l. l ++ closing) (answers_to-append s lines (take_while (is_short limit) rest))
             ∙ append_assoc (answers_to rules s lines) later closing,
       )
 
   -- where no line is over the limit, the text is the answers to all lines and what is said behind them
-  whole_is : (s : S) (input : List ℕ) (lines : List (List ℕ)) → AreWithin limit lines → lines_of input ≡ lines
+  whole_is : (s : S) (input : List ℕ) (lines : List (List ℕ)) → AreShort limit lines → lines_of input ≡ lines
       → script_text rules limit s input ≡ answers_to rules s lines ++ closing_behind rules s lines
   whole_is s input lines within is =
-      ap (λ l. answers_to rules s (take_while (is_within limit) l) ++ closing_text s l) is
+      ap (λ l. answers_to rules s (take_while (is_short limit) l) ++ closing_text s l) is
       ∙ ap (λ l. answers_to rules s l ++ closing_text s lines) (taken_all limit lines within)
       ∙ ap (λ b. answers_to rules s lines ++ cond b (closing_behind rules s lines) []) (all_within limit lines within)
 
@@ -146,15 +146,15 @@ module _ {S : Type 0} (limit : ℕ) (rules : Rules S) where
       let same = all_given input e.given b e.consumed e.ends.0 in
       let lines : lines_of input ≡ e.lines = ap lines_of (sym same) ∙ sym e.ends.1 in (
         same,
-        subst (AreWithin limit) (sym lines) e.within,
+        subst (AreShort limit) (sym lines) e.within,
         sym (whole_is s input e.lines e.within lines),
       )
   written s input b w v pending (Err Write) other e = absurd (other refl)
-  written s input b w v pending (Err Read) other e = (subst (AreWithin limit) e.ends e.within, ap (answers_to rules s) e.ends)
-  written s input b w v pending (Err (LineTooLong line)) other e = (e.ends.0, subst (AreWithin limit) e.ends.1 e.within, ap (answers_to rules s) e.ends.1)
+  written s input b w v pending (Err Read) other e = (subst (AreShort limit) e.ends e.within, ap (answers_to rules s) e.ends)
+  written s input b w v pending (Err (LineTooLong line)) other e = (e.ends.0, subst (AreShort limit) e.ends.1 e.within, ap (answers_to rules s) e.ends.1)
   written s input b w v pending (Err (Memory line)) other e = (
     ⊎_elim inl (λ closed. inr (all_given input e.given b e.consumed closed.0, closed.1)) e.ends.0,
-    subst (AreWithin limit) e.ends.1 e.within,
+    subst (AreShort limit) e.ends.1 e.within,
     ap (answers_to rules s) e.ends.1,
   )
 

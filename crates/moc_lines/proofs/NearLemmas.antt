@@ -36,6 +36,10 @@ cells_fit k small =
 near_at_cell : (k i : ℕ) → k ≤ 29 → i < cell_count k → near_at k i ≡ Ok (Near (cell_number k i))
 near_at_cell k i small below = grind (arith, nat_tests)
 
+-- both numbers, if there are both
+abbrev numbers_of : Option ℕ → Option ℕ → Result (ℕ × ℕ) LineFault
+numbers_of order index = ok_or order BadNumber >>= (λ k. ok_or index BadNumber >>= (λ i. Ok (k, i)))
+
 -- two fields that spell an order and the number of one of its cells name that cell
 pub near_is : (order index : List ℕ) (k i : ℕ) → k ≤ 29 → i < cell_count k
     → Some k ≡ option_map (λ n. min n (2 ^ 64 - 1)) (number_spelled order) → Some i ≡ option_map (λ n. min n (2 ^ 64 - 1)) (number_spelled index)
@@ -43,7 +47,7 @@ pub near_is : (order index : List ℕ) (k i : ℕ) → k ≤ 29 → i < cell_cou
 near_is order index k i small below e f =
     let order_is : number_spelled order ≡ Some k = held_number (number_spelled order) k e (omega arith) in
     let index_is : number_spelled index ≡ Some i = held_number (number_spelled index) i f (omega (arith, cells_fit k small)) in
-    (λ t. ok_or (order_is t) BadNumber >>= (λ k. ok_or (index_is t) BadNumber >>= (λ i. near_at k i))) ∙ near_at_cell k i small below
+    (λ t. numbers_of (order_is t) (index_is t) >>= (λ both. near_at both.0 both.1)) ∙ near_at_cell k i small below
 
 -- the answer for a cell under its two names
 pub same_answer : (k o i : ℕ) (cell : CellNumber) → o ≡ k → cell ≡ cell_number o i → answer_of (cell_number k i) ≡ answer_of cell

@@ -13,11 +13,11 @@ use Rattle.std.specs.Option.{ok_or}
 use Rattle.std.specs.Result.{result_or, result_map_both, is_ok, OkIff, IfOk}
 use Rattle.moc_sphere.specs.CellNumber.{CellNumber, IsCell, cell_number, cell_count, uniq_of}
 use Rattle.moc_sphere.specs.Rings.{ring_number, stands_before}
-use Rattle.moc_lines.specs.Numberings.{cell_under, fault_under, number_under, cell_or_fault}
+use Rattle.moc_lines.specs.Numberings.{cell_under, fault_under, number_under, cell_or_fault, other_number}
 use Rattle.moc_lines.specs.Language.{◌>>=◌}
 use Rattle.moc_lines.specs.Private.Finding.{FindsCell}
-use Rattle.moc_lines.specs.declared.fault.LineFault.{LineFault}
-use Rattle.moc_lines.specs.declared.fault.LineFault.TheVariants.{CellTooLarge, RingTooLarge, NotUniq, OtherOrder}
+use Rattle.moc_lines.specs.declared.numbering.NumberFault.{NumberFault}
+use Rattle.moc_lines.specs.declared.numbering.NumberFault.TheVariants.{CellTooLarge, RingTooLarge, NotUniq, OtherOrder}
 use Rattle.moc_lines.specs.declared.numbering.Numbering.{Numbering}
 use Rattle.moc_lines.specs.declared.numbering.Numbering.TheVariants.{Nest, Ring, Uniq}
 use Rattle.moc_lines.specs.declared.renumbering.Renumbering.{Renumbering}
@@ -65,9 +65,9 @@ found : (v : Numbering) (k n i : ℕ) → cell_under v k n ≡ Some i → cell_o
 found v k n i is = ap (λ c. ok_or c (fault_under v n)) is
 
 -- a number that no cell has tells its fault
-unfound : (v : Numbering) (k n : ℕ) (fault : LineFault) → cell_under v k n ≡ None → fault ≡ fault_under v n
+unfound : (v : Numbering) (k n : ℕ) (fault : NumberFault) → cell_under v k n ≡ None → fault ≡ fault_under v n
     → cell_or_fault v k n ≡ Err fault
-unfound v k n fault none is = ap (λ c. ok_or c (fault_under v n)) none ∙ ap (λ (f : LineFault). Err f) (sym is)
+unfound v k n fault none is = ap (λ c. ok_or c (fault_under v n)) none ∙ ap (λ (f : NumberFault). Err f) (sym is)
 
 -- the nested numbers of an order are those below the number of its cells
 nested : (k n : ℕ) → n < cell_count k → cell_under Nest k n ≡ Some n
@@ -77,7 +77,7 @@ not_nested : (k n : ℕ) → cell_count k ≤ n → cell_under Nest k n ≡ None
 not_nested k n high = cell_under-none Nest k n (λ j below is. omega (arith, below, high, is))
 
 -- what is found by a nested number
-pub found_nested : {E : Type 0} (k n : ℕ) (r : Result CellNumber E) (s : Result CellNumber LineFault)
+pub found_nested : {E : Type 0} (k n : ℕ) (r : Result CellNumber E) (s : Result CellNumber NumberFault)
     → s ≡ result_or r (Err CellTooLarge) → OkIff r (n < cell_count k) (cell_number k n) → FindsCell Nest k n s
 found_nested k n (Ok cell) s e is =
     let number = found Nest k n n (nested k n is.0) in
@@ -97,7 +97,7 @@ found_index (Ok cell) = cell.index
 found_index (Err why) = 0
 
 -- what is found by a ring number
-pub found_ring : {E : Type 0} (k n : ℕ) (r : Result CellNumber E) (s : Result CellNumber LineFault)
+pub found_ring : {E : Type 0} (k n : ℕ) (r : Result CellNumber E) (s : Result CellNumber NumberFault)
     → s ≡ result_or r (Err RingTooLarge) → IfOk r (λ c. (c.order ≡ k) × IsCell c × (ring_number k c.index ≡ n))
     → ((i : ℕ) → i < cell_count k → ring_number k i ≡ n → r ≡ Ok (cell_number k i)) → FindsCell Ring k n s
 found_ring k n (Ok cell) s e is only =
@@ -180,22 +180,13 @@ held_alike v k n small =
           ∙ sym (unfound v k n (fault_under v n) (far v k n small high) refl)
     ]
 
--- what is told of a number that was read
-abbrev told : Renumbering → Result ℕ LineFault → Result ℕ LineFault
-told r read = do
-  n ← read
-  i ← cell_or_fault r.from r.order n
-  Ok (number_under r.to r.order i)
-
 -- the same is told of a number that is held
-told_held : (r : Renumbering) (read : Result ℕ LineFault) → r.order ≤ 29
-    → told r (result_map_both (λ n. min n (2 ^ 64 - 1)) (λ fault. fault) read) ≡ told r read
+told_held : (r : Renumbering) (read : Result ℕ NumberFault) → r.order ≤ 29
+    → (result_map_both (λ n. min n (2 ^ 64 - 1)) (λ fault. fault) read >>= other_number r) ≡ (read >>= other_number r)
 told_held r (Err fault) small = refl
 told_held r (Ok n) small = ap (λ c. c >>= (λ i. Ok (number_under r.to r.order i))) (held_alike r.from r.order n small)
 
--- what is told where such a number was read, and such a cell or fault was found
-pub tells : (r : Renumbering) (read : Result ℕ LineFault) (n : ℕ) (cell : Result ℕ LineFault) → r.order ≤ 29
-    → Ok n ≡ result_map_both (λ n. min n (2 ^ 64 - 1)) (λ fault. fault) read → cell_or_fault r.from r.order n ≡ cell
-    → (cell >>= (λ i. Ok (number_under r.to r.order i))) ≡ told r read
-tells r read n cell small held is =
-    sym (ap (λ c. c >>= (λ i. Ok (number_under r.to r.order i))) is) ∙ ap (told r) held ∙ told_held r read small
+-- what is told where such a number was read
+pub tells : (r : Renumbering) (read : Result ℕ NumberFault) (n : ℕ) → r.order ≤ 29
+    → Ok n ≡ result_map_both (λ n. min n (2 ^ 64 - 1)) (λ fault. fault) read → other_number r n ≡ (read >>= other_number r)
+tells r read n small held = ap (λ c. c >>= other_number r) held ∙ told_held r read small

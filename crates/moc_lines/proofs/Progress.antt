@@ -1,5 +1,5 @@
 -- The loop that answers lines.
-use Rattle.std.proofs.Common.{◌≡◌, ◌≢◌, inl, inr, ℕ, suc, true, false, ◌+◌, ◌-◌, ◌<◌, ◌≤◌, List, [], ◌∷◌, ◌++◌, length}
+use Rattle.std.proofs.Common.{◌≡◌, ◌≢◌, inl, inr, ℕ, suc, false, ◌+◌, ◌-◌, ◌<◌, ◌≤◌, List, [], ◌∷◌, ◌++◌, length}
 use Rattle.std.proofs.Common.{take, get_or, Option, Some, None, Result, Ok, Err, refl, sym, ap, ◌∙◌, arith}
 use Rattle.std.proofs.Common.{append_assoc, append-nil, length-append, subst}
 use Rattle.std.specs.List.{count_by, AllByRecursion}
@@ -11,7 +11,7 @@ use Rattle.std.proofs.lemmas.List.{get_or-append-add, take_all}
 use Rattle.moc_text.specs.Lines.{is_line_feed, lines_of}
 use Rattle.moc_lines.specs.Private.Held.{Held, IsUnbroken}
 use Rattle.moc_lines.specs.Private.LineReading.{IsOfLine, TakesLine}
-use Rattle.moc_lines.specs.Runs.{Rules, answers_to, after_lines, AreWithin, IsTooLong, IsBegunLine, IsUnclosed, error_of_input}
+use Rattle.moc_lines.specs.Runs.{Rules, answers_to, after_lines, AreShort, IsTooLong, IsBegunLine, IsUnclosed, error_of_input}
 use Rattle.moc_lines.specs.Runs.{whole_lines_of, lines_before}
 use Rattle.moc_devices.specs.Devices.{Sends}
 use Rattle.moc_lines.specs.Private.Ended.{Ended, EndsAt, IsSent}
@@ -81,7 +81,7 @@ module _ {S : Type 0} (limit : ℕ) (rules : Rules S) where
     pub appended : Appends written written' sent
     pub split : given ≡ ended lines ++ unread
     pub unbroken : AllByRecursion IsUnbroken lines
-    pub within : AreWithin limit lines
+    pub within : AreShort limit lines
     pub text : answers_to rules s lines ≡ sent ++ pending
     pub state : now ≡ after_lines rules s lines
     pub count : number ≡ length lines + 1
@@ -93,7 +93,7 @@ module _ {S : Type 0} (limit : ℕ) (rules : Rules S) where
     pub sent : List ℕ
     pub consumed : Consumes left left' given
     pub appended : Appends written written' sent
-    pub within : AreWithin limit lines
+    pub within : AreShort limit lines
     pub front : (more : List ℕ) → left' ≡ Some more → (rest : List (List ℕ)) × (lines_of (given ++ more) ≡ lines ++ rest)
     pub end : IsAtEnd left'
     pub all : lines ≡ lines_of given

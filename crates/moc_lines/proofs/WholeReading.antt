@@ -6,7 +6,7 @@ use Rattle.std.proofs.lemmas.Bool.{cases_lt, eqb-true}
 use Rattle.std.proofs.lemmas.List.{get_or-append-add, get_or-drop, take-append-drop, take_more, drop-append-le, drop-drop}
 use Rattle.moc_text.specs.Lines.{is_line_feed, lines_of}
 use Rattle.moc_lines.specs.Private.Held.{IsUnbroken}
-use Rattle.moc_lines.specs.Runs.{AreWithin, IsTooLong, IsBegunLine}
+use Rattle.moc_lines.specs.Runs.{AreShort, IsTooLong, IsBegunLine}
 use Rattle.std.specs.Io.KnownBytes.{Consumes}
 use Rattle.std.proofs.KnownBytes.{Consumes-trans}
 use Rattle.moc_lines.specs.Private.Input.{IsHeld, IsBehindLast}
@@ -17,24 +17,24 @@ both : {X : Type 0} (P : X → Type 0) (xs ys : List X) → AllByRecursion P xs 
 both P [] ys left right = right
 both P (x ∷ xs) ys left right = (left.0, both P xs ys left.1 right)
 
-weaker : (m n : ℕ) (lines : List (List ℕ)) → m ≤ n → AreWithin m lines → AreWithin n lines
+weaker : (m n : ℕ) (lines : List (List ℕ)) → m ≤ n → AreShort m lines → AreShort n lines
 weaker m n [] less within = tt
 weaker m n (line ∷ lines) less within = (let low = within.0 in omega arith, weaker m n lines less within.1)
 
-onto : (n b : ℕ) (lines : List (List ℕ)) → AreWithin n lines → AreWithin (suc n) (onto_first b lines)
+onto : (n b : ℕ) (lines : List (List ℕ)) → AreShort n lines → AreShort (suc n) (onto_first b lines)
 onto n b [] within = (omega arith, tt)
 onto n b (line ∷ lines) within = ((let low = within.0 in omega arith), weaker n (suc n) lines (omega arith) within.1)
 
 -- no line is longer than the text
-lines_fit : (text : List ℕ) → AreWithin (length text) (lines_of text)
+lines_fit : (text : List ℕ) → AreShort (length text) (lines_of text)
 lines_fit [] = tt
-lines_fit (b ∷ text) = elim (is_line_feed b) as (λ v. AreWithin (suc (length text)) (cond v ([] ∷ lines_of text) (onto_first b (lines_of text)))) [
+lines_fit (b ∷ text) = elim (is_line_feed b) as (λ v. AreShort (suc (length text)) (cond v ([] ∷ lines_of text) (onto_first b (lines_of text)))) [
   | true ↦ (omega arith, weaker (length text) (suc (length text)) (lines_of text) (omega arith) (lines_fit text))
   | false ↦ onto (length text) b (lines_of text) (lines_fit text)
 ]
 
 -- lines of a text that is no longer than the limit
-pub lines_within : (limit : ℕ) (text : List ℕ) → length text ≤ limit → AreWithin limit (lines_of text)
+pub lines_within : (limit : ℕ) (text : List ℕ) → length text ≤ limit → AreShort limit (lines_of text)
 lines_within limit text short = weaker (length text) limit (lines_of text) short (lines_fit text)
 
 onto-append : (b : ℕ) (lines more : List (List ℕ)) → 0 < length lines → onto_first b (lines ++ more) ≡ onto_first b lines ++ more
@@ -75,7 +75,7 @@ front_of_both P [] ys all = tt
 front_of_both P (x ∷ xs) ys all = (all.0, front_of_both P xs ys all.1)
 
 -- a line that is begun, and a text whose first line ends it within the limit
-within_begun : (limit : ℕ) (part text : List ℕ) → IsUnbroken part → length part + position_or_len is_line_feed text ≤ limit → length text ≤ limit → AreWithin limit (lines_of (part ++ text))
+within_begun : (limit : ℕ) (part text : List ℕ) → IsUnbroken part → length part + position_or_len is_line_feed text ≤ limit → length text ≤ limit → AreShort limit (lines_of (part ++ text))
 within_begun limit part text unbroken first short = elim (cases_lt (position_or_len is_line_feed text) (length text)) [
   | inl found ↦
       let before = before_first is_line_feed text in
@@ -83,7 +83,7 @@ within_begun limit part text unbroken first short = elim (cases_lt (position_or_
       let line : IsUnbroken (part ++ before) = count-append part before ∙ omega (arith, unbroken, IsUnbroken-before_first text) in
       let parts : lines_of (part ++ text) ≡ (part ++ before) ∷ lines_of after =
       ap (λ l. lines_of (part ++ l)) (split_at_line_feed text found) ∙ ap lines_of (sym (append_assoc part before (10 ∷ after))) ∙ lines_of-line (part ++ before) after line in
-      subst (AreWithin limit) (sym parts) (
+      subst (AreShort limit) (sym parts) (
         omega (arith, first, length-append part before, length-take (position_or_len is_line_feed text) text),
         lines_within limit after (omega (arith, short, length-drop (position_or_len is_line_feed text + 1) text)),
       )
@@ -126,7 +126,7 @@ module _ (bytes chunk : List ℕ) (start : ℕ) (held : IsHeld bytes start) wher
       ∙ ap lines_of (sym (append_assoc (drop start bytes) (last.front ++ 10 ∷ []) (tail ++ more)))
       ∙ ap (λ l. lines_of (l ++ (tail ++ more))) (sym (append_assoc (drop start bytes) last.front (10 ∷ [])))
       ∙ lines_of-behind ended (tail ++ more) in
-      let all : AreWithin 1048576 (lines_of (drop start bytes ++ chunk)) = within_begun 1048576 (drop start bytes) chunk held.begun fits (omega arith) in
+      let all : AreShort 1048576 (lines_of (drop start bytes ++ chunk)) = within_begun 1048576 (drop start bytes) chunk held.begun fits (omega arith) in
       let whole : lines_of (drop start bytes ++ chunk) ≡ lines_of (ended ++ 10 ∷ []) ++ lines_of tail =
       ap (λ l. lines_of (drop start bytes ++ l)) (sym (append-nil chunk)) ∙ parts [] ∙ ap (λ l. lines_of (ended ++ 10 ∷ []) ++ lines_of l) (append-nil tail) in
       record {
@@ -148,7 +148,7 @@ module _ (bytes chunk : List ℕ) (start : ℕ) (held : IsHeld bytes start) wher
               count-append (last.front ++ 10 ∷ []) tail,
             );
         within = both (λ line. length line ≤ 1048576) held.lines (lines_of (ended ++ 10 ∷ [])) held.within
-            (front_of_both (λ line. length line ≤ 1048576) (lines_of (ended ++ 10 ∷ [])) (lines_of tail) (subst (AreWithin 1048576) whole all));
+            (front_of_both (λ line. length line ≤ 1048576) (lines_of (ended ++ 10 ∷ [])) (lines_of tail) (subst (AreShort 1048576) whole all));
         begun = ap (count_by is_line_feed) begun ∙ last.unbroken;
         short = omega (arith, small, ap length begun, length-drop place chunk);
         inside = omega (arith, last.inside, length-append bytes chunk);
@@ -180,14 +180,14 @@ module _ (bytes chunk : List ℕ) (start : ℕ) (held : IsHeld bytes start) wher
       (omega arith, subst (λ (l : List ℕ). 1048576 < length l) (sym at) found.3)
 
 -- all lines are within the limit
-pub held_all : (bytes : List ℕ) (start : ℕ) → IsHeld bytes start → AreWithin 1048576 (lines_of bytes)
+pub held_all : (bytes : List ℕ) (start : ℕ) → IsHeld bytes start → AreShort 1048576 (lines_of bytes)
 held_all bytes start held =
     let part = drop start bytes in
     let lines : lines_of bytes ≡ held.lines ++ lines_of part = ap lines_of (sym (append-nil bytes)) ∙ held.front [] ∙ ap (λ l. held.lines ++ lines_of l) (append-nil part) in
-    subst (AreWithin 1048576) (sym lines) (both (λ line. length line ≤ 1048576) held.lines (lines_of part) held.within (lines_within 1048576 part held.short))
+    subst (AreShort 1048576) (sym lines) (both (λ line. length line ≤ 1048576) held.lines (lines_of part) held.within (lines_within 1048576 part held.short))
 
 -- where no byte is a line feed, there is none
-pub unbroken_by : (bytes : List ℕ) → ((k : ℕ) → k < length bytes → is_line_feed (get_or bytes k 0) ≡ true → ⊥) → IsUnbroken bytes
+unbroken_by : (bytes : List ℕ) → ((k : ℕ) → k < length bytes → is_line_feed (get_or bytes k 0) ≡ true → ⊥) → IsUnbroken bytes
 unbroken_by [] none = refl
 unbroken_by (b ∷ bytes) none =
     count-cons b bytes ∙ omega (arith, unbroken_by bytes (λ k low is. none (suc k) (omega arith) is), ap {B = ℕ} (λ v. cond v 1 0) (not_true (is_line_feed b) (none 0 (omega arith))))
@@ -231,11 +231,18 @@ pub held_new : (bytes : List ℕ) (start : ℕ) → bytes ≡ [] → start ≡ 0
 held_new bytes start none first = subst (λ (b : List ℕ). IsHeld b start) (sym none) (subst (λ (n : ℕ). IsHeld [] n) (sym first) held_none)
 
 -- a line feed that is found is one
-pub some_line_feed : (bytes : List ℕ) → position_or_len is_line_feed bytes < length bytes → 0 < count_by is_line_feed bytes
+some_line_feed : (bytes : List ℕ) → position_or_len is_line_feed bytes < length bytes → 0 < count_by is_line_feed bytes
 some_line_feed bytes found =
     let before = before_first is_line_feed bytes in
     let after = after_first is_line_feed bytes in
     omega (arith, ap (count_by is_line_feed) (split_at_line_feed bytes found), count-append before (10 ∷ after), count-cons 10 after)
+
+-- where no byte is a line feed, none is found
+pub none_found : (bytes : List ℕ) → ((k : ℕ) → k < length bytes → is_line_feed (get_or bytes k 0) ≡ true → ⊥) → length bytes ≤ position_or_len is_line_feed bytes
+none_found bytes none = elim (cases_lt (position_or_len is_line_feed bytes) (length bytes)) [
+  | inl found ↦ absurd (omega (arith, some_line_feed bytes found, unbroken_by bytes none))
+  | inr past ↦ past
+]
 
 -- more was given
 pub given_more : (a b c : Option (List ℕ)) (bytes chunk bytes' : List ℕ) → Consumes a b bytes → Consumes b c chunk → bytes' ≡ bytes ++ chunk → Consumes a c bytes'

@@ -7,7 +7,6 @@ use Rattle.std.specs.Str.Parse.{digits_value}
 use Rattle.moc_lines.specs.declared.fault.LineFault.{LineFault}
 use Rattle.moc_lines.specs.declared.fault.LineFault.TheVariants.{UnknownWord, EmptyCommand, TooManyCommands, WrongCount}
 use Rattle.moc_lines.specs.declared.fault.LineFault.TheVariants.{BadNumber, OrderTooLarge, CellTooLarge, Coverage}
-use Rattle.moc_lines.specs.declared.fault.LineFault.TheVariants.{NotUniq, RingTooLarge, OtherOrder}
 use Rattle.std.specs.FinSet as set
 use Rattle.moc_lists.specs.RangeList.{NumberSet}
 use Rattle.moc_parts.specs.declared.reply.Reply.{Reply}
@@ -23,7 +22,7 @@ use Rattle.moc_parts.specs.declared.command.Operand.{Operand}
 use Rattle.moc_parts.specs.declared.command.Command.{Command}
 use Rattle.moc_parts.specs.declared.command.Command.TheVariants.{Add, Remove, Keep, Claim, Invert, Degrade, Count, Read}
 use Rattle.moc_parts.specs.declared.command.Command.TheVariants.{Near}
-use Rattle.moc_text.specs.Names.{name_of_text}
+use Rattle.moc_text.specs.Names.{name_of_text, told_fault}
 use Rattle.moc_text.specs.Reading.{reading_of}
 use Rattle.moc_parts.specs.Batches.{replies_on, set_after_all}
 use Rattle.moc_text.specs.Lines.{pieces_of}
@@ -59,7 +58,7 @@ number_spelled field =
 
 -- Faults
 
--- the name of a fault, as an answer gives it
+-- the name of the fault of a line of commands, as an answer gives it
 abbrev pub name_of_line : LineFault → List ℕ
 name_of_line UnknownWord = codes "UnknownWord"
 name_of_line EmptyCommand = codes "EmptyCommand"
@@ -69,13 +68,6 @@ name_of_line BadNumber = codes "BadNumber"
 name_of_line OrderTooLarge = codes "OrderTooLarge"
 name_of_line CellTooLarge = codes "CellTooLarge"
 name_of_line (Coverage e) = name_of_text e
-name_of_line NotUniq = codes "NotUniq"
-name_of_line RingTooLarge = codes "RingTooLarge"
-name_of_line OtherOrder = codes "OtherOrder"
-
--- the answer to a bad line
-abbrev pub fault_answer : LineFault → List ℕ
-fault_answer fault = codes "fault " ++ name_of_line fault ++ 10 ∷ []
 
 -- Replies
 
@@ -124,6 +116,14 @@ two_fields text =
     let rest = behind_word text in
     if is_blank_text rest then Err WrongCount
     else (if is_blank_text (behind_word rest) then Ok (word_of text, word_of rest) else Err WrongCount)
+
+-- the numbers that the fields of a text spell that has just two
+abbrev pub two_numbers : List ℕ → Result (ℕ × ℕ) LineFault
+two_numbers text = do
+  fields ← two_fields text
+  a ← ok_or (number_spelled fields.0) BadNumber
+  b ← ok_or (number_spelled fields.1) BadNumber
+  Ok (a, b)
 
 -- the set that a text says in the ASCII form of MOC 2.0, or its fault
 abbrev pub coverage_of : List ℕ → Result NumberSet LineFault
@@ -189,9 +189,7 @@ degrade_of text = do
 -- what stands behind `near`: just two fields, an order and the number of one of its cells
 abbrev pub near_of : List ℕ → Result Command LineFault
 near_of text = do
-  fields ← two_fields text
-  k ← ok_or (number_spelled fields.0) BadNumber
-  i ← ok_or (number_spelled fields.1) BadNumber
+  (k, i) ← two_numbers text
   if nat_lt 29 k then Err OrderTooLarge
       else (if nat_lt i (cell_count k) then Ok (Near (cell_number k i)) else Err CellTooLarge)
 
@@ -219,7 +217,7 @@ commands_in (Several commands) = commands
 -- the answer to what a line says
 abbrev pub answer_to : NumberSet → Result (List Command) LineFault → List ℕ
 answer_to a (Ok commands) = replies_text (replies_on a commands) ++ 10 ∷ []
-answer_to a (Err fault) = fault_answer fault
+answer_to a (Err fault) = told_fault (name_of_line fault)
 
 -- what it leaves: a fault changes nothing
 abbrev pub after_batch : NumberSet → Result (List Command) LineFault → NumberSet

@@ -1,6 +1,6 @@
 -- Scripts, and what a run of one has read and written when it ends.
-use Rattle.std.specs.Prelude.{ℕ, nat_le, Bool, List, [], ◌∷◌, ◌++◌, length, if◌then◌else◌, fold, Result, ◌≡◌, ◌≢◌, ◌+◌}
-use Rattle.std.specs.Prelude.{◌-◌, ◌<◌, ◌≤◌, ◌⊎◌, take, Option, Some, Ok, Err, OnOk, OnErr, IsErrOf, IsTrue, ◌↔◌}
+use Rattle.std.specs.Prelude.{ℕ, nat_le, Bool, List, [], ◌++◌, length, if◌then◌else◌, fold, Result, ◌≡◌, ◌≢◌, ◌+◌}
+use Rattle.std.specs.Prelude.{◌-◌, ◌^◌, ◌<◌, ◌≤◌, ◌⊎◌, take, Option, Some, Ok, Err, OnOk, OnErr, IsErrOf, IsTrue, ◌↔◌}
 use Rattle.std.specs.Prelude.{slice_index_or, codes}
 use Rattle.std.specs.List.{list_all, take_while, AllByRecursion, concat, count_by, scan}
 use Rattle.moc_text.specs.Lines.{lines_of, is_line_feed}
@@ -25,8 +25,8 @@ pub record Rules (S : Type 0) : Type 0 where
   pub closing : S → List ℕ
 
 -- the line has no more bytes than the limit
-abbrev pub is_within : ℕ → List ℕ → Bool
-is_within limit line = nat_le (length line) limit
+abbrev pub is_short : ℕ → List ℕ → Bool
+is_short limit line = nat_le (length line) limit
 
 module _ {S : Type 0} (rules : Rules S) where
   -- the answers to lines, one after another, each on what the lines before leave
@@ -45,8 +45,8 @@ module _ {S : Type 0} (rules : Rules S) where
   abbrev pub script_text : ℕ → S → List ℕ → List ℕ
   script_text limit s input =
       let lines = lines_of input in
-      answers_to s (take_while (is_within limit) lines)
-      ++ (if list_all (is_within limit) lines then closing_behind s lines else [])
+      answers_to s (take_while (is_short limit) lines)
+      ++ (if list_all (is_short limit) lines then closing_behind s lines else [])
 
 -- Scripts of commands on a set of pixels
 
@@ -69,8 +69,8 @@ answers_of input = script_text script_rules line_limit set.empty input
 -- What a run has read and written when it ends
 
 -- no line is over the limit
-abbrev pub AreWithin : ℕ → List (List ℕ) → Type 0
-AreWithin limit lines = AllByRecursion (λ line. length line ≤ limit) lines
+abbrev pub AreShort : ℕ → List (List ℕ) → Type 0
+AreShort limit lines = AllByRecursion (λ line. length line ≤ limit) lines
 
 -- the line of this number, counted from 1, is over the limit
 abbrev pub IsTooLong : ℕ → List (List ℕ) → ℕ → Type 0
@@ -88,7 +88,7 @@ lines_before number text = take (number - 1) (lines_of text)
 -- The last number of 64 bits stands for all lines from there on.
 pub record IsBegunLine (number : ℕ) (given : List ℕ) : Type 0 where
   pub none : number ≡ 0 → given ≡ []
-  pub some : number < 18446744073709551615 → number ≤ length (lines_of given)
+  pub some : number < 2 ^ 64 - 1 → number ≤ length (lines_of given)
   pub next : number ≤ length (lines_of given) + 1
 
 -- All lines are answered, and the closing text, which is not empty, was not made: it is the line behind the last.
@@ -120,16 +120,16 @@ module _ {S : Type 0} (limit : ℕ) (rules : Rules S) (s : S) where
   -- end, a beginning of it where the writer failed, else the answers to the lines before the fault.
   abbrev pub IsWritten : List ℕ → List ℕ → Result (Unit {0}) RunError → List ℕ → Type 0
   IsWritten input given (Ok _) text =
-      (given ≡ input) × AreWithin limit (lines_of input) × (text ≡ script_text rules limit s input)
+      (given ≡ input) × AreShort limit (lines_of input) × (text ≡ script_text rules limit s input)
   IsWritten input given (Err Write) text = (rest : List ℕ) × (script_text rules limit s input ≡ text ++ rest)
   IsWritten input given (Err Read) text =
-      AreWithin limit (whole_lines_of given) × (text ≡ answers_to rules s (whole_lines_of given))
+      AreShort limit (whole_lines_of given) × (text ≡ answers_to rules s (whole_lines_of given))
   IsWritten input given (Err (LineTooLong line)) text =
-      IsTooLong limit (lines_of given) line × AreWithin limit (lines_before line given)
+      IsTooLong limit (lines_of given) line × AreShort limit (lines_before line given)
       × (text ≡ answers_to rules s (lines_before line given))
   IsWritten input given (Err (Memory line)) text =
       (IsBegunLine line given ⊎ ((given ≡ input) × IsUnclosed line given (closing_behind rules s (lines_of given))))
-      × AreWithin limit (lines_before line given) × (text ≡ answers_to rules s (lines_before line given))
+      × AreShort limit (lines_before line given) × (text ≡ answers_to rules s (lines_before line given))
 
   -- of its input a run was given a front, and it wrote what its outcome names
   pub record Runs (input : List ℕ) (left written written' : Option (List ℕ)) (result : Result (Unit {0}) RunError)
@@ -151,7 +151,7 @@ module _ {S : Type 0} (limit : ℕ) (rules : Rules S) (s : S) where
 
 -- all was read, and no line of it has more bytes than the limit
 abbrev pub ReadsAll : Option (List ℕ) → Option (List ℕ) → List ℕ → Type 0
-ReadsAll left left' input = Consumes left left' input × IsAtEnd left' × AreWithin line_limit (lines_of input)
+ReadsAll left left' input = Consumes left left' input × IsAtEnd left' × AreShort line_limit (lines_of input)
 
 -- the line that is told, of what was given, is over the limit, or is one that was begun
 abbrev pub FailsOn : List ℕ → InputError → Type 0

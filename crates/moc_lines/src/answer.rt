@@ -56,7 +56,7 @@ impl Responder for Map {
         match read_commands(alloc, line) {
             Ok(Commands::One(command)) => answer_command(self, alloc, &command, text),
             Ok(Commands::Several(batch)) => answer_batch(self, alloc, &batch, text),
-            Err(ReadError::Fault(fault)) => push_fault(fault, text),
+            Err(ReadError::Fault(fault)) => push_fault(fault.name(), text),
             Err(ReadError::Memory) => Err(Memory),
         }
     }

@@ -1,6 +1,7 @@
 //! What is wrong with a line.
 ghost use Rattle.std.specs.Prelude.{◌≡◌, ◌++◌, OnOk};
-ghost use Rattle.moc_lines.specs.Language.{fault_answer, name_of_line};
+ghost use Rattle.moc_text.specs.Names.{told_fault};
+ghost use Rattle.moc_lines.specs.Language.{name_of_line};
 ghost use Rattle.moc_lines.specs.Private.ReadErrors.{error_of_text};
 ghost use Rattle.moc_lines.specs.declared.fault.ReadError.TheVariants as read;
 
@@ -9,7 +10,7 @@ use moc_text::TextError;
 use std::alloc::AllocError;
 use thiserror::Error;
 
-/// Why a line is bad. Its answer gives the name.
+/// Why a line of commands is bad. Its answer gives the name.
 #[derive(Clone, Copy, Debug, PartialEq, Eq, Error)]
 pub enum LineFault {
     /// The first word is no command.
@@ -36,15 +37,6 @@ pub enum LineFault {
     /// The coverage of an operand is at fault. Its place is counted from behind the word before it.
     #[error(transparent)]
     Coverage(TextError),
-    /// A number that no cell has as its NUNIQ number.
-    #[error("a number that is no NUNIQ number")]
-    NotUniq,
-    /// A number that no cell of the order has as its ring number.
-    #[error("no cell of the order has that ring number")]
-    RingTooLarge,
-    /// The NUNIQ number of a cell of another order.
-    #[error("the NUNIQ number of a cell of another order")]
-    OtherOrder,
 }
 
 impl LineFault {
@@ -61,19 +53,16 @@ impl LineFault {
             LineFault::OrderTooLarge => "OrderTooLarge",
             LineFault::CellTooLarge => "CellTooLarge",
             LineFault::Coverage(error) => error.name(),
-            LineFault::NotUniq => "NotUniq",
-            LineFault::RingTooLarge => "RingTooLarge",
-            LineFault::OtherOrder => "OtherOrder",
         }
     }
 }
 
-/// Adds the answer to a bad line, `fault NAME` and a line feed. Refused where memory runs out.
-pub fn push_fault(fault: LineFault, text: &mut Vec<u8>) -> Result<(), Memory>
-    ensures { OnOk result (text.new.items ≡ text.old.items ++ fault_answer fault) }
+/// Adds the answer to a line with the fault of this name, `fault NAME` and a line feed. Refused where memory runs out.
+pub fn push_fault(name: &str, text: &mut Vec<u8>) -> Result<(), Memory>
+    ensures { OnOk result (text.new.items ≡ text.old.items ++ told_fault name.now) }
 {
     text.extend_from_slice(b"fault ")?;
-    text.extend_from_slice(fault.name().as_bytes())?;
+    text.extend_from_slice(name.as_bytes())?;
     text.extend_from_slice(b"\n")?;
     Ok(())
 }

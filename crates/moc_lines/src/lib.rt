@@ -26,7 +26,7 @@ pub use language::{Commands, answer_text, read_batch, read_commands};
 pub use line_reader::LINE_LIMIT;
 pub use moc_devices::{DeviceFault, OverReader, OverWriter, Sink, Source, write_all};
 pub use name_error::NumberingNameError;
-pub use numbering::Numbering;
+pub use numbering::{NumberFault, Numbering};
 pub use reading::{InputError, number_behind_last, read_all, split_line};
 pub use renumbering::{Renumbering, renumber};
 pub use reply_text::{push_count, push_cover, push_reply_line};

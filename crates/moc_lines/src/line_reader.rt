@@ -5,7 +5,7 @@ ghost use Rattle.std.specs.List.{position_or_len, before_first, after_first};
 ghost use Rattle.std.specs.Io.KnownBytes.{IsAtEnd};
 ghost use Rattle.moc_text.specs.Lines.{is_line_feed};
 
-use crate::bytes::first_or_len;
+use crate::bytes::{CHUNK, first_or_len};
 use crate::reading::InputError;
 use moc_devices::{DeviceFault, Source};
 use std::alloc::{AllocError, Global};
@@ -13,9 +13,6 @@ use std::marker::Model;
 
 /// The most bytes that a line may have, without its line feed.
 pub const LINE_LIMIT: usize = 1_048_576;
-
-/// How many bytes are read at a time.
-const CHUNK: usize = 65_536;
 
 /// What stands at the front of the bytes to come.
 #[derive(Clone, Copy)]

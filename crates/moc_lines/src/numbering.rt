@@ -1,13 +1,13 @@
 //! The numberings of the cells of an order.
 ghost use Rattle.std.specs.Prelude.{◌≡◌};
-ghost use Rattle.moc_lines.specs.Numberings.{number_under};
+ghost use Rattle.moc_lines.specs.Numberings.{name_of_number, number_under};
 ghost use Rattle.moc_lines.specs.Private.Finding.{FindsCell};
 
-use crate::fault::LineFault;
 use crate::name_error::NumberingNameError;
 use moc_sphere::{Cell, Order};
 use std::fmt;
 use std::str::FromStr;
+use thiserror::Error;
 
 /// A numbering of the cells of an order.
 #[derive(Clone, Copy, Debug, PartialEq, Eq, Hash)]
@@ -56,6 +56,45 @@ impl fmt::Display for Numbering {
     }
 }
 
+/// Why a line of numbers is bad. Its answer gives the name.
+#[derive(Clone, Copy, Debug, PartialEq, Eq, Error)]
+pub enum NumberFault {
+    /// More than one field.
+    #[error("more than one field")]
+    WrongCount,
+    /// A field that has another byte than digits.
+    #[error("a field that is no number")]
+    BadNumber,
+    /// A number that no cell of the order has as its nested number.
+    #[error("no cell of the order has that number")]
+    CellTooLarge,
+    /// A number that no cell of the order has as its ring number.
+    #[error("no cell of the order has that ring number")]
+    RingTooLarge,
+    /// A number that no cell has as its NUNIQ number.
+    #[error("a number that is no NUNIQ number")]
+    NotUniq,
+    /// The NUNIQ number of a cell of another order.
+    #[error("the NUNIQ number of a cell of another order")]
+    OtherOrder,
+}
+
+impl NumberFault {
+    /// The name that the answer gives. Takes no memory.
+    pub fn name(self) -> &'static str
+        ensures { result.now ≡ name_of_number self }
+    {
+        match self {
+            NumberFault::WrongCount => "WrongCount",
+            NumberFault::BadNumber => "BadNumber",
+            NumberFault::CellTooLarge => "CellTooLarge",
+            NumberFault::RingTooLarge => "RingTooLarge",
+            NumberFault::NotUniq => "NotUniq",
+            NumberFault::OtherOrder => "OtherOrder",
+        }
+    }
+}
+
 impl Numbering {
     /// The number of a cell.
     pub(crate) fn number(self, cell: Cell) -> u64
@@ -69,28 +108,28 @@ impl Numbering {
     }
 
     /// The cell of the order that has this number, or the fault.
-    pub(crate) fn cell(self, order: Order, number: u64) -> Result<Cell, LineFault>
+    pub(crate) fn cell(self, order: Order, number: u64) -> Result<Cell, NumberFault>
         ensures { FindsCell self order number result }
     {
         match self {
-            Numbering::Nest => Cell::new(order, number).or(Err(LineFault::CellTooLarge)),
-            Numbering::Ring => Cell::from_ring(order, number).or(Err(LineFault::RingTooLarge)),
+            Numbering::Nest => Cell::new(order, number).or(Err(NumberFault::CellTooLarge)),
+            Numbering::Ring => Cell::from_ring(order, number).or(Err(NumberFault::RingTooLarge)),
             Numbering::Uniq => cell_of_uniq(order, number),
         }
     }
 }
 
 /// The cell of the order that has this NUNIQ number, or the fault.
-fn cell_of_uniq(order: Order, uniq: u64) -> Result<Cell, LineFault>
+fn cell_of_uniq(order: Order, uniq: u64) -> Result<Cell, NumberFault>
     ensures { FindsCell Numbering.Uniq order uniq result }
 {
     let depth = order.get();
     let Ok(cell) = Cell::from_uniq(uniq) else {
-        return Err(LineFault::NotUniq);
+        return Err(NumberFault::NotUniq);
     };
     if cell.order().get() == depth {
         Ok(cell)
     } else {
-        Err(LineFault::OtherOrder)
+        Err(NumberFault::OtherOrder)
     }
 }

@@ -5,17 +5,14 @@ ghost use Rattle.std.specs.List.{count_by};
 ghost use Rattle.std.specs.Io.KnownBytes.{Consumes};
 ghost use Rattle.moc_text.specs.Lines.{is_line_feed, lines_of};
 ghost use Rattle.moc_lines.specs.Runs.{FailsOn, ReadsAll};
-ghost use Rattle.moc_lines.specs.Private.Input.{IsBehindLast, IsHeld};
+ghost use Rattle.moc_lines.specs.Private.Input.{IsHeld};
 
-use crate::bytes::first_or_len;
+use crate::bytes::{CHUNK, first_or_len};
 use crate::line_reader::LINE_LIMIT;
 use memchr::memrchr;
 use moc_devices::{DeviceFault, Source};
 use std::alloc::Global;
 use thiserror::Error;
-
-/// How many bytes are read at a time.
-const CHUNK: usize = 65_536;
 
 /// The bytes of a script so far.
 #[derive(Drop)]
@@ -74,15 +71,14 @@ impl Script {
         ensures read { result ≢ Err InputError.Read }
     {
         let before = self.bytes.len();
-        let first = first_or_len(b'\n', chunk);
-        if first > LINE_LIMIT - (before - self.start) {
+        if first_or_len(b'\n', chunk) > LINE_LIMIT - (before - self.start) {
             return Err(InputError::TooLong { line: self.begun() });
         }
         let Ok(()) = self.bytes.extend_from_slice(chunk) else {
             return Err(InputError::Memory { line: self.begun() });
         };
-        if first < chunk.len() {
-            self.start = before + behind_last(chunk);
+        if let Some(at) = memrchr(b'\n', chunk) {
+            self.start = before + at + 1;
         }
         Ok(())
     }
@@ -93,13 +89,7 @@ fn line_feeds(bytes: &[u8]) -> u64
     ensures count { result ≡ count_by is_line_feed bytes.now }
     ensures few { result ≤ length bytes.now }
 {
-    let mut count = 0;
-    for byte in bytes {
-        if *byte == b'\n' {
-            count += 1;
-        }
-    }
-    count
+    bytes.iter().filter(|b| **b == b'\n').count() as u64
 }
 
 /// The number of the line behind the last, counted from 1. Linear in the bytes; takes no memory.
@@ -111,17 +101,6 @@ pub fn number_behind_last(input: &[u8]) -> u64
         None => 1,
         Some(b'\n') => whole + 1,
         Some(_) => whole + 2,
-    }
-}
-
-/// The place behind the last line feed, of which there is one.
-fn behind_last(chunk: &[u8]) -> usize
-    requires some { 0 < count_by is_line_feed chunk.now }
-    ensures { IsBehindLast chunk.now result }
-{
-    match memrchr(b'\n', chunk) {
-        Some(at) => at + 1,
-        None => unreachable!(),
     }
 }
 

@@ -4,10 +4,11 @@ ghost use Rattle.std.specs.Io.KnownBytes.{Appends};
 ghost use Rattle.std.specs.Result.{result_map_both};
 ghost use Rattle.moc_lines.specs.Runs.{script_text, EndsFlushed, Flushes, Runs, TellsFailed, WritesBeginning};
 ghost use Rattle.moc_lines.specs.Runs.{line_limit};
-ghost use Rattle.moc_lines.specs.Numberings.{number_on, renumber_rules, renumbered};
+ghost use Rattle.moc_lines.specs.Language.{◌>>=◌ as and_then};
+ghost use Rattle.moc_lines.specs.Numberings.{number_on, other_number, renumber_rules};
 
-use crate::fault::{LineFault, push_fault};
-use crate::numbering::Numbering;
+use crate::fault::push_fault;
+use crate::numbering::{NumberFault, Numbering};
 use crate::responder::Responder;
 use crate::run_error::RunError;
 use crate::runner::answer_all_lines;
@@ -33,15 +34,22 @@ pub struct Renumbering {
 }
 
 impl Renumbering {
-    /// The number, in the one numbering, of the cell whose number in the other a line spells.
-    fn renumbered(self, line: &[u8]) -> Result<u64, LineFault>
-        ensures { result ≡ renumbered self line.now }
+    /// The number, in the one numbering, of the cell that has this number in the other; refused where the order has no
+    /// such cell: with `CellTooLarge`, `RingTooLarge`, `NotUniq` or `OtherOrder`. O(1); takes no memory.
+    pub fn of(self, number: u64) -> Result<u64, NumberFault>
+        ensures { result ≡ other_number self number }
+    {
+        let cell = self.from.cell(self.order, number)?;
+        Ok(self.to.number(cell))
+    }
+
+    /// The same of the number that a line spells.
+    fn of_line(self, line: &[u8]) -> Result<u64, NumberFault>
+        ensures { result ≡ and_then (number_on line.now) (λ n. other_number self n) }
     {
         // Any order is 29 at most, and so all its numbers have 62 bits at most.
         self.order.get();
-        let number = read_number(line)?;
-        let cell = self.from.cell(self.order, number)?;
-        Ok(self.to.number(cell))
+        self.of(read_number(line)?)
     }
 }
 
@@ -57,9 +65,9 @@ impl Responder for Renumbering {
         if is_blank_text(line) {
             return Ok(());
         }
-        match self.renumbered(line) {
+        match self.of_line(line) {
             Ok(number) => push_number(number, text),
-            Err(fault) => push_fault(fault, text),
+            Err(fault) => push_fault(fault.name(), text),
         }
     }
 
@@ -69,7 +77,7 @@ impl Responder for Renumbering {
 }
 
 /// The number that a line spells, which has just one field, or `u64::MAX` where it is larger.
-fn read_number(line: &[u8]) -> Result<u64, LineFault>
+fn read_number(line: &[u8]) -> Result<u64, NumberFault>
     ensures { result ≡ result_map_both (λ n. min n (2 ^ 64 - 1)) (λ fault. fault) (number_on line.now) }
 {
     if line.len() <= SAFE_DIGITS {
@@ -79,9 +87,9 @@ fn read_number(line: &[u8]) -> Result<u64, LineFault>
     }
     let (field, behind) = split_word(line);
     if !is_blank_text(behind) {
-        return Err(LineFault::WrongCount);
+        return Err(NumberFault::WrongCount);
     }
-    number_in(field).ok_or(LineFault::BadNumber)
+    number_in(field).ok_or(NumberFault::BadNumber)
 }
 
 /// Adds a number as a line.

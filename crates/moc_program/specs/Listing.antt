@@ -1,8 +1,10 @@
 -- What the word `faults` prints: the exit statuses, and the faults with what they mean.
 use Rattle.std.specs.Prelude.{ℕ, ◌+◌, ◌-◌, List, [], ◌∷◌, ◌++◌, codes, length, replicate}
 use Rattle.moc_lines.specs.Language.{name_of_line}
+use Rattle.moc_lines.specs.Numberings.{name_of_number}
 use Rattle.moc_lines.specs.Runs.{name_of_run}
 use Rattle.moc_lines.specs.declared.fault.LineFault.TheVariants as line
+use Rattle.moc_lines.specs.declared.numbering.NumberFault.TheVariants as number
 use Rattle.moc_lines.specs.declared.run_error.RunError.TheVariants as run
 use Rattle.moc_script.specs.Schedules.{name_of_step}
 use Rattle.moc_script.specs.declared.fault.StepFault.TheVariants as step
@@ -52,9 +54,9 @@ fault_list =
     (name_of_cell cell.CellTooLarge, codes "the order has no such cell; order k has 12 times 4^k, from 0")
     ∷ (name_of_cell cell.RingTooLarge, codes "the order has no such ring number, of 12 times 4^k from 0")
     ∷ (name_of_cell cell.NotUniq, codes "no cell has this NUNIQ number, 4 to 2^62 - 1")
-    ∷ (name_of_line line.OtherOrder, codes "a NUNIQ number of another order (renumber)")
-    ∷ (name_of_line line.BadNumber, codes "digits alone make a number")
-    ∷ (name_of_line line.WrongCount, codes "too few or too many fields on a line")
+    ∷ (name_of_number number.OtherOrder, codes "a NUNIQ number of another order (renumber)")
+    ∷ (name_of_number number.BadNumber, codes "digits alone make a number")
+    ∷ (name_of_number number.WrongCount, codes "too few or too many fields on a line")
     ∷ [])
     ++ section (codes "Coverages in ASCII") 17 (
     (name_of_text (text.BadByte 0), codes "a byte that no word has at its place")

@@ -8,7 +8,7 @@ use Rattle.std.proofs.lemmas.Bool.{cases_lt}
 use Rattle.std.proofs.lemmas.List.Sums.{sum_by-cons}
 use Rattle.std.specs.List.{concat}
 use Rattle.moc_lists.specs.RangeList.{NumberSet}
-use Rattle.moc_lines.specs.Runs.{script_rules, AreWithin, IsBegunLine, line_limit}
+use Rattle.moc_lines.specs.Runs.{script_rules, AreShort, IsBegunLine, line_limit}
 use Rattle.moc_script.specs.Crews.{in_lane, dealt, cover_line, said_lines, IsCrewText, IsRefusedLine, CrewEnds}
 use Rattle.moc_shared.specs.History.{calls_of, state_after, IsLegal}
 use Rattle.moc_script.specs.Private.LaneWork.{Does}
@@ -173,7 +173,7 @@ module _ (lanes : ℕ) (items cover : List ℕ) (answers : List Texts) (told : A
       (h.0, h.1, ([], subst (IsCrewText lanes (said_lines (lines_of items))) (sym (append-nil h.0)) h.2))
 
   -- all is written and flushed
-  pub crew_done : {E : Type 0} (a : Option (List ℕ)) → Consumes a b items → AreWithin line_limit (lines_of items) → JoinsTo {E = E} answers cover w0 w1 (Ok tt) → Keeps w1 w2
+  pub crew_done : {E : Type 0} (a : Option (List ℕ)) → Consumes a b items → AreShort line_limit (lines_of items) → JoinsTo {E = E} answers cover w0 w1 (Ok tt) → Keeps w1 w2
       → IfSome a (λ input. CrewEnds lanes input b w0 w2 (Ok tt))
   crew_done None consumed within joins kept = tt
   crew_done (Some xs) consumed within joins kept =

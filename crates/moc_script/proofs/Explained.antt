@@ -1,11 +1,11 @@
 -- What the lines of a schedule say is local, and the steps that they take lead to the world that they leave.
-use Rattle.std.proofs.Common.{◌≡◌, ℕ, suc, ◌<◌, ◌≤◌, Bool, true, false, cond, ltb, List, [], ◌∷◌, ◌++◌, length, Option}
+use Rattle.std.proofs.Common.{◌≡◌, ℕ, suc, ◌<◌, ◌≤◌, Bool, true, false, cond, ltb, List, [], ◌∷◌, length, Option}
 use Rattle.std.proofs.Common.{None, Some, Result, Ok, Err, codes, refl, sym, ap, subst, ◌∙◌, arith, length-append, eqb}
 use Rattle.std.specs.Result.{IfOk, result_map_both}
 use Rattle.std.specs.Option.{ok_or, option_map_or}
+use Rattle.std.specs.List.{cons_option}
 use Rattle.std.specs.Str.{bytes_eq}
 use Rattle.std.specs.FinSet as set
-use Rattle.std.specs.FinMap as map
 use Rattle.std.proofs.lemmas.Bool.Decides.{nat_tests}
 use Rattle.std.proofs.lemmas.List.Splits.{length-slice_split}
 use Rattle.moc_sphere.specs.CellNumber.{cell_count, cell_number}
@@ -20,21 +20,21 @@ use Rattle.moc_parts.specs.declared.command.Command.{Command}
 use Rattle.moc_parts.specs.declared.command.Command.TheVariants.{Near}
 use Rattle.moc_text.specs.declared.ascii.error.TextError.{TextError}
 use Rattle.moc_text.specs.Reading.{reading_of}
-use Rattle.moc_steps.specs.Machine.{Locks, ArePermitted, AreLocal, locks_after, refusal, World, world_after_all, world_after, whole}
+use Rattle.moc_steps.specs.Machine.{Locks, ArePermitted, AreLocal, locks_after, refusal, World, world_after_all, world_after}
 use Rattle.moc_steps.specs.Machine.Step.{Begin, Take, Edit, Give, Quit, End}
 use Rattle.std.specs.Prelude.{fold}
-use Rattle.moc_steps.specs.Orders.{Fate, just_begun, with_open, fates_after, midway, Explains, set_by_order}
-use Rattle.moc_steps.specs.Laws.{ArePlayed, HasOneOrder, StepsHaveOneOrder}
+use Rattle.moc_steps.specs.Orders.{Fate, just_begun, with_open, fates_after}
+use Rattle.moc_steps.specs.Laws.{ArePlayed, StepsHaveOneOrder}
 use Rattle.moc_steps.specs.declared.error.StepError.{StepError}
 use Rattle.moc_parts.specs.declared.reply.Reply.{Reply}
 use Rattle.moc_lines.specs.Language.{is_blank_text, word_of, behind_word, number_spelled, ◌>>=◌}
 use Rattle.moc_lines.specs.Language.{coverage_of, order_of, plain_operand_of, ordered_operand_of, operand_by}
 use Rattle.moc_lines.specs.Language.{operand_of, command_named, command_with, degrade_of, near_of, only_field}
-use Rattle.moc_lines.specs.Language.{two_fields, command_of, piece_says, commands_of, batch_of}
+use Rattle.moc_lines.specs.Language.{two_numbers, command_of, piece_says, commands_of, batch_of}
 use Rattle.moc_text.specs.Lines.{is_semicolon, pieces_of}
 use Rattle.moc_script.specs.Schedules.{BatchStep, as_in_script, client_by, only_client, only_client_and_part, step_by}
 use Rattle.moc_script.specs.Schedules.{step_at, other_step, begin_by, begin_of, said_step, Schedule, start_schedule}
-use Rattle.moc_script.specs.Schedules.{next_line, begins_after, after_step, after_said, schedule_rules, step_taken}
+use Rattle.moc_script.specs.Schedules.{next_line, begin_lines_after, with_step, schedule_rules, step_taken}
 use Rattle.moc_script.specs.Schedules.{steps_taken}
 use Rattle.moc_lines.specs.Runs.{after_lines}
 use Rattle.moc_script.proofs.Single.{first_then}
@@ -136,10 +136,7 @@ near_cell order index = deep (ltb 29 order) refl
 
 near_proper : (text : List ℕ) → IfOk (near_of text) IsCommand
 near_proper text =
-    ok_then Any IsCommand (two_fields text) _ (ok_any (two_fields text)) (λ fields _.
-    let order = ok_or (number_spelled fields.0) BadNumber in
-    let index = ok_or (number_spelled fields.1) BadNumber in
-    ok_then Any IsCommand order _ (ok_any order) (λ k _. ok_then Any IsCommand index _ (ok_any index) (λ i _. near_cell k i)))
+    ok_then Any IsCommand (two_numbers text) _ (ok_any (two_numbers text)) (λ both _. near_cell both.0 both.1)
 
 command_proper : (piece : List ℕ) → IfOk (command_of piece) IsCommand
 command_proper piece =
@@ -230,7 +227,7 @@ length-mark : (c : ℕ) (f : Fate (List Command) → Fate (List Command)) (xs : 
 length-mark c f [] = refl
 length-mark c f (x ∷ xs) = ap suc (length-mark c f xs)
 
-begun_on : (begins : List ℕ) (line : ℕ) (xs : List (Fate (List Command))) (step : BatchStep) → length begins ≡ length xs → length (begins_after begins line step) ≡ length (fates_after xs step)
+begun_on : (begins : List ℕ) (line : ℕ) (xs : List (Fate (List Command))) (step : BatchStep) → length begins ≡ length xs → length (begin_lines_after begins line step) ≡ length (fates_after xs step)
 begun_on begins line xs (Begin c op) same = omega (arith, same, length-append begins (line ∷ []), length-append xs (just_begun c op ∷ []))
 begun_on begins line xs (Take c) same = same
 begun_on begins line xs (Edit c b) same = same ∙ sym (length-mark c (λ x. record x { committed = true }) xs)
@@ -249,8 +246,12 @@ record TakesOn (s : Schedule) (steps : List BatchStep) (s' : Schedule) : Type 0 
 passed : (s : Schedule) (rest : List BatchStep) (s' : Schedule) → TakesOn (next_line s) rest s' → TakesOn s rest s'
 passed s rest s' h = record { local = h.local; permitted = h.permitted; leads = h.leads; begun = h.begun }
 
+-- a step, unless it is refused
+abbrev unless : Option StepError → BatchStep → Option BatchStep
+unless o step = option_map_or (λ why. None) o (Some step)
+
 by_refusal : (s : Schedule) (step : BatchStep) (o : Option StepError) → refusal batches s.world.locks step ≡ o → AreLocal batches (step ∷ [])
-    → (rest : List BatchStep) (s' : Schedule) → TakesOn (after_step o (next_line s) step) rest s' → TakesOn s (option_map_or (λ why. []) o (step ∷ []) ++ rest) s'
+    → (rest : List BatchStep) (s' : Schedule) → TakesOn (with_step (next_line s) (unless o step)) rest s' → TakesOn s (cons_option (unless o step) rest) s'
 by_refusal s step (Some why) is alone rest s' h = passed s rest s' h
 by_refusal s step None is alone rest s' h = record {
   local = local_on step rest alone h.local;
@@ -260,12 +261,12 @@ by_refusal s step None is alone rest s' h = record {
 }
 
 by_saying : (s : Schedule) (r : Result BatchStep StepFault) → IfOk r (λ step. AreLocal batches (step ∷ []))
-    → (rest : List BatchStep) (s' : Schedule) → TakesOn (after_said (next_line s) r) rest s' → TakesOn s (step_taken s r ++ rest) s'
+    → (rest : List BatchStep) (s' : Schedule) → TakesOn (with_step (next_line s) (step_taken s r)) rest s' → TakesOn s (cons_option (step_taken s r) rest) s'
 by_saying s (Ok step) alone rest s' h = by_refusal s step (refusal batches s.world.locks step) refl alone rest s' h
 by_saying s (Err e) alone rest s' h = passed s rest s' h
 
 by_blanks : (s : Schedule) (b : Bool) (r : Result BatchStep StepFault) → IfOk r (λ step. AreLocal batches (step ∷ []))
-    → (rest : List BatchStep) (s' : Schedule) → TakesOn (cond b (next_line s) (after_said (next_line s) r)) rest s' → TakesOn s (cond b [] (step_taken s r) ++ rest) s'
+    → (rest : List BatchStep) (s' : Schedule) → TakesOn (cond b (next_line s) (with_step (next_line s) (step_taken s r))) rest s' → TakesOn s (cons_option (cond b None (step_taken s r)) rest) s'
 by_blanks s true r alone rest s' h = passed s rest s' h
 by_blanks s false r alone rest s' h = by_saying s r alone rest s' h
 
@@ -281,12 +282,4 @@ schedules_have_one_order local one_order lines =
     let steps = steps_taken start_schedule lines in
     let takes = lines_take local start_schedule lines in
     let played : ArePlayed batches set.empty steps = record { within = empty_within; local = takes.local; permitted = takes.permitted } in
-    let ordered : HasOneOrder batches set.empty steps = one_order set.empty steps played in
-    record {
-      played = played;
-      leads = takes.leads;
-      explained = subst (λ (w : World (List Command) (List Reply)). Explains batches w.order steps set.empty) takes.leads ordered.explained;
-      begun = takes.begun [] refl;
-      counted = subst (λ (w : World (List Command) (List Reply)). map.len w.locks.clients ≡ midway steps) takes.leads ordered.counted;
-      together = subst (λ (w : World (List Command) (List Reply)). midway steps ≡ 0 → whole batches w ≡ set_by_order batches w.order steps set.empty) takes.leads ordered.together;
-    }
+    record { played = played; leads = takes.leads; ordered = one_order set.empty steps played; begun = takes.begun [] refl }

@@ -1,7 +1,7 @@
 -- The answers of the lanes, joined in turn.
 use Rattle.std.proofs.Common.{◌≡◌, ◌⊎◌, inl, inr, ℕ, zero, suc, ◌+◌, ◌-◌, ◌%◌, ◌<◌, ◌≤◌, List, [], ◌∷◌, ◌++◌, length}
 use Rattle.std.proofs.Common.{set, get_or, Option, Result, Ok, Err, refl, sym, ap, ◌∙◌, subst, arith, append_assoc}
-use Rattle.std.proofs.Common.{append-nil, length-append, length-set, add-one}
+use Rattle.std.proofs.Common.{append-nil, length-append, length-set}
 use native.Mathlib.Decide.{ℕ_discrete}
 use Rattle.std.proofs.Math.Nat.{mod-lt, mod-eq_of_lt}
 use Rattle.std.proofs.lemmas.Bool.{cases_lt}
@@ -124,7 +124,7 @@ module _ (all walks : List Texts) (turn : ℕ) (w0 w w' : Option (List ℕ)) (pe
     text = t.text ++ answer;
     sent = t.sent ++ s.sent;
     joined = join_more (length all) turn t.count all walks new t.text answer t.joined low t.at here;
-    at = ap (λ n. n % length all) (add-one t.count) ∙ elim (next_rest (length all) t.count (omega arith)) [
+    at = elim (next_rest (length all) t.count (omega arith)) [
       | inl n ↦ elim next [ inl f ↦ omega (arith, n.1, f.1, t.at) | inr f ↦ absurd (omega (arith, n.0, f.0, t.at)) ]
       | inr n ↦ elim next [ inl f ↦ absurd (omega (arith, n.0, f.0, t.at)) | inr f ↦ n.1 ∙ sym f.1 ]
     ];

@@ -3,7 +3,8 @@ use Rattle.std.proofs.Common.{◌≡◌, inl, inr, ℕ, eq-eqb, Bool, false, if�
 use Rattle.std.proofs.Common.{Err, refl, sym, ap, subst, ◌∙◌, append-nil}
 use Rattle.moc_lists.specs.RangeList.{NumberSet}
 use Rattle.moc_parts.specs.declared.command.Command.{Command}
-use Rattle.moc_lines.specs.Language.{is_blank_text, command_of, fault_answer, replies_text, batch_of, commands_in}
+use Rattle.moc_text.specs.Names.{told_fault}
+use Rattle.moc_lines.specs.Language.{is_blank_text, command_of, name_of_line, replies_text, batch_of, commands_in}
 use Rattle.moc_lines.specs.Language.{answer_to, after_batch, line_answer, after_line, ReadsText}
 use Rattle.moc_lines.specs.declared.language.Commands.{Commands}
 use Rattle.moc_lines.specs.Runs.{Rules, script_rules}
@@ -44,11 +45,11 @@ said_line client line commands old new before after said is (replies, text, made
     (answer, text, (e ∷ [], inr (e, refl, asks_line line e answer said is refl), made))
 
 -- and one at fault changes nothing
-quiet_line : (line : List ℕ) (fault : LineFault) → is_blank_text line ≡ false → batch_of command_of line ≡ Err fault → IsQuiet object script_rules line (fault_answer fault)
+quiet_line : (line : List ℕ) (fault : LineFault) → is_blank_text line ≡ false → batch_of command_of line ≡ Err fault → IsQuiet object script_rules line (told_fault (name_of_line fault))
 quiet_line line fault said is s = says_line (batch_of command_of) s line (Err fault) said is
 
 pub quiet_read : (line : List ℕ) (e : ReadError) (fault : LineFault) → e ≡ error.Fault fault → is_blank_text line ≡ false
-    → ReadsText {X = Commands} commands_in (Err e) (batch_of command_of line) → IsQuiet object script_rules line (fault_answer fault)
+    → ReadsText {X = Commands} commands_in (Err e) (batch_of command_of line) → IsQuiet object script_rules line (told_fault (name_of_line fault))
 quiet_read line e fault is said reads =
     quiet_line line fault said (subst (λ (x : ReadError). ReadsText {X = Commands} commands_in (Err x) (batch_of command_of line)) is reads)
 

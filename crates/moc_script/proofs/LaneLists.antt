@@ -5,17 +5,24 @@ use Rattle.std.proofs.Common.{append-nil, append_assoc, length-append, take, dro
 use Rattle.std.proofs.lemmas.Bool.{cases_lt}
 use Rattle.std.proofs.Math.Nat.{mod-one, mod-lt, mod-eq_of_lt, mod_self, suc-mod}
 use Rattle.std.proofs.lemmas.List.{take-append-drop}
-use Rattle.moc_script.specs.Crews.{InLane, placed, in_lane, dealt_from, dealt}
+use Rattle.moc_script.specs.Crews.{InLane, put_in_lane, in_lane, dealt}
+use Rattle.std.specs.List.{enumerate_from}
+use Rattle.std.specs.Prelude.{map}
 use Rattle.moc_script.specs.Private.Input.{in_turn}
 
 -- the next number's rest is one more, or 0 behind the greatest
-pub next_rest : (n j : ℕ) → 0 < n → ((j % n + 1 < n) × (suc j % n ≡ j % n + 1)) ⊎ ((j % n + 1 ≡ n) × (suc j % n ≡ 0))
+pub next_rest : (n j : ℕ) → 0 < n → ((j % n + 1 < n) × ((j + 1) % n ≡ j % n + 1)) ⊎ ((j % n + 1 ≡ n) × ((j + 1) % n ≡ 0))
 next_rest n j some =
     let low : j % n < n = mod-lt j some in
+    let next : (j + 1) % n ≡ suc (j % n) % n = ap (λ m. m % n) (add-one j) ∙ suc-mod j n in
     elim (cases_lt (suc (j % n)) n) [
-      | inl inside ↦ inl (omega arith, suc-mod j n ∙ mod-eq_of_lt inside ∙ sym (add-one (j % n)))
-      | inr past ↦ let last : suc (j % n) ≡ n = omega arith in inr (omega arith, suc-mod j n ∙ ap (λ m. m % n) last ∙ mod_self n)
+      | inl inside ↦ inl (omega arith, next ∙ mod-eq_of_lt inside ∙ sym (add-one (j % n)))
+      | inr past ↦ let last : suc (j % n) ≡ n = omega arith in inr (omega arith, next ∙ ap (λ m. m % n) last ∙ mod_self n)
     ]
+
+-- elements dealt to lanes in turn, the first of them to the lane j mod lanes
+abbrev dealt_from : {A : Type 0} → ℕ → ℕ → List A → List (InLane A)
+dealt_from {A} lanes j xs = map (λ (numbered : ℕ × A). put_in_lane (numbered.0 % lanes) numbered.1) (enumerate_from j xs)
 
 module _ {A : Type 0} where
   pub in_lane-append : (lane : ℕ) (xs ys : List (InLane A)) → in_lane lane (xs ++ ys) ≡ in_lane lane xs ++ in_lane lane ys
@@ -27,45 +34,45 @@ module _ {A : Type 0} where
       by true rest = ap (λ l. x.it ∷ l) rest
       by false rest = rest
 
-  dealt_from-push : (lanes j : ℕ) (xs : List A) (x : A) → dealt_from lanes j (xs ++ x ∷ []) ≡ dealt_from lanes j xs ++ placed ((j + length xs) % lanes) x ∷ []
-  dealt_from-push lanes j [] x = let same : j ≡ j + 0 = omega arith in ap (λ (n : ℕ). placed (n % lanes) x ∷ []) same
+  dealt_from-push : (lanes j : ℕ) (xs : List A) (x : A) → dealt_from lanes j (xs ++ x ∷ []) ≡ dealt_from lanes j xs ++ put_in_lane ((j + length xs) % lanes) x ∷ []
+  dealt_from-push lanes j [] x = let same : j ≡ j + 0 = omega arith in ap (λ (n : ℕ). put_in_lane (n % lanes) x ∷ []) same
   dealt_from-push lanes j (y ∷ xs) x =
-      let same : suc j + length xs ≡ j + length (y ∷ xs) = omega arith in
-      ap (λ l. placed (j % lanes) y ∷ l) (dealt_from-push lanes (suc j) xs x ∙ ap (λ (n : ℕ). dealt_from lanes (suc j) xs ++ placed (n % lanes) x ∷ []) same)
+      let same : (j + 1) + length xs ≡ j + length (y ∷ xs) = omega arith in
+      ap (λ l. put_in_lane (j % lanes) y ∷ l) (dealt_from-push lanes (j + 1) xs x ∙ ap (λ (n : ℕ). dealt_from lanes (j + 1) xs ++ put_in_lane (n % lanes) x ∷ []) same)
 
   -- one more element goes to the next lane
-  pub dealt-push : (lanes : ℕ) (xs : List A) (x : A) → dealt lanes (xs ++ x ∷ []) ≡ dealt lanes xs ++ placed (length xs % lanes) x ∷ []
-  dealt-push lanes xs x = let same : 0 + length xs ≡ length xs = omega arith in dealt_from-push lanes 0 xs x ∙ ap (λ (n : ℕ). dealt lanes xs ++ placed (n % lanes) x ∷ []) same
+  pub dealt-push : (lanes : ℕ) (xs : List A) (x : A) → dealt lanes (xs ++ x ∷ []) ≡ dealt lanes xs ++ put_in_lane (length xs % lanes) x ∷ []
+  dealt-push lanes xs x = let same : 0 + length xs ≡ length xs = omega arith in dealt_from-push lanes 0 xs x ∙ ap (λ (n : ℕ). dealt lanes xs ++ put_in_lane (n % lanes) x ∷ []) same
 
   -- a lane that is alone has all
   pub dealt-alone : (j : ℕ) (xs : List A) → in_lane 0 (dealt_from 1 j xs) ≡ xs
   dealt-alone j [] = refl
   dealt-alone j (x ∷ xs) =
-      ap (λ (lane : ℕ). if lane == 0 then x ∷ in_lane 0 (dealt_from 1 (suc j) xs) else in_lane 0 (dealt_from 1 (suc j) xs)) (mod-one j)
-      ∙ ap (λ l. x ∷ l) (dealt-alone (suc j) xs)
+      ap (λ (lane : ℕ). if lane == 0 then x ∷ in_lane 0 (dealt_from 1 (j + 1) xs) else in_lane 0 (dealt_from 1 (j + 1) xs)) (mod-one j)
+      ∙ ap (λ l. x ∷ l) (dealt-alone (j + 1) xs)
 
-  pub in_lane-one : (lane : ℕ) (x : A) → in_lane lane (placed lane x ∷ []) ≡ x ∷ []
+  pub in_lane-one : (lane : ℕ) (x : A) → in_lane lane (put_in_lane lane x ∷ []) ≡ x ∷ []
   in_lane-one lane x = ap (λ (b : Bool). if b then x ∷ [] else []) (eq-eqb lane lane refl)
 
-  pub in_lane-other : (lane d : ℕ) (x : A) → d ≢ lane → in_lane d (placed lane x ∷ []) ≡ []
+  pub in_lane-other : (lane d : ℕ) (x : A) → d ≢ lane → in_lane d (put_in_lane lane x ∷ []) ≡ []
   in_lane-other lane d x other = ap (λ (b : Bool). if b then x ∷ [] else []) (ne_eqb lane d (λ e. other (sym e)))
 
   pub dealt-here : (lanes lane : ℕ) (xs : List A) (x : A) → length xs % lanes ≡ lane → in_lane lane (dealt lanes (xs ++ x ∷ [])) ≡ in_lane lane (dealt lanes xs) ++ x ∷ []
   dealt-here lanes lane xs x is =
-      ap (in_lane lane) (dealt-push lanes xs x ∙ ap (λ (n : ℕ). dealt lanes xs ++ placed n x ∷ []) is) ∙ in_lane-append lane (dealt lanes xs) (placed lane x ∷ [])
+      ap (in_lane lane) (dealt-push lanes xs x ∙ ap (λ (n : ℕ). dealt lanes xs ++ put_in_lane n x ∷ []) is) ∙ in_lane-append lane (dealt lanes xs) (put_in_lane lane x ∷ [])
       ∙ ap (λ l. in_lane lane (dealt lanes xs) ++ l) (in_lane-one lane x)
 
   pub dealt-else : (lanes lane : ℕ) (xs : List A) (x : A) → lane ≢ length xs % lanes → in_lane lane (dealt lanes (xs ++ x ∷ [])) ≡ in_lane lane (dealt lanes xs)
   dealt-else lanes lane xs x other =
-      ap (in_lane lane) (dealt-push lanes xs x) ∙ in_lane-append lane (dealt lanes xs) (placed (length xs % lanes) x ∷ [])
+      ap (in_lane lane) (dealt-push lanes xs x) ∙ in_lane-append lane (dealt lanes xs) (put_in_lane (length xs % lanes) x ∷ [])
       ∙ ap (λ l. in_lane lane (dealt lanes xs) ++ l) (in_lane-other (length xs % lanes) lane x other) ∙ append-nil (in_lane lane (dealt lanes xs))
 
   none_from : (lanes j lane : ℕ) (xs : List A) → 0 < lanes → lanes ≤ lane → in_lane lane (dealt_from lanes j xs) ≡ []
   none_from lanes j lane [] some high = refl
   none_from lanes j lane (x ∷ xs) some high =
       let other : j % lanes ≢ lane = λ e. absurd (omega arith) in
-      ap (λ (b : Bool). if b then x ∷ in_lane lane (dealt_from lanes (suc j) xs) else in_lane lane (dealt_from lanes (suc j) xs)) (ne_eqb (j % lanes) lane other)
-      ∙ none_from lanes (suc j) lane xs some high
+      ap (λ (b : Bool). if b then x ∷ in_lane lane (dealt_from lanes (j + 1) xs) else in_lane lane (dealt_from lanes (j + 1) xs)) (ne_eqb (j % lanes) lane other)
+      ∙ none_from lanes (j + 1) lane xs some high
 
   -- nothing goes to a lane that there is not
   pub none_above : (lanes lane : ℕ) (xs : List A) → 0 < lanes → lanes ≤ lane → in_lane lane (dealt lanes xs) ≡ []
@@ -76,10 +83,10 @@ module _ {A B : Type 0} where
   as_long_from lanes j lane [] [] same = refl
   as_long_from lanes j lane [] (y ∷ ys) same = absurd (omega arith)
   as_long_from lanes j lane (x ∷ xs) [] same = absurd (omega arith)
-  as_long_from lanes j lane (x ∷ xs) (y ∷ ys) same = by ((j % lanes) == lane) (as_long_from lanes (suc j) lane xs ys (omega arith))
+  as_long_from lanes j lane (x ∷ xs) (y ∷ ys) same = by ((j % lanes) == lane) (as_long_from lanes (j + 1) lane xs ys (omega arith))
     where
-      by : (b : Bool) → length (in_lane lane (dealt_from lanes (suc j) xs)) ≡ length (in_lane lane (dealt_from lanes (suc j) ys))
-          → length (if b then x ∷ in_lane lane (dealt_from lanes (suc j) xs) else in_lane lane (dealt_from lanes (suc j) xs)) ≡ length (if b then y ∷ in_lane lane (dealt_from lanes (suc j) ys) else in_lane lane (dealt_from lanes (suc j) ys))
+      by : (b : Bool) → length (in_lane lane (dealt_from lanes (j + 1) xs)) ≡ length (in_lane lane (dealt_from lanes (j + 1) ys))
+          → length (if b then x ∷ in_lane lane (dealt_from lanes (j + 1) xs) else in_lane lane (dealt_from lanes (j + 1) xs)) ≡ length (if b then y ∷ in_lane lane (dealt_from lanes (j + 1) ys) else in_lane lane (dealt_from lanes (j + 1) ys))
       by true rest = ap suc rest
       by false rest = rest
 
@@ -90,10 +97,10 @@ module _ {A B : Type 0} where
 module _ {A : Type 0} where
   grows_from : (lanes j lane : ℕ) (xs more : List A) → length (in_lane lane (dealt_from lanes j xs)) ≤ length (in_lane lane (dealt_from lanes j (xs ++ more)))
   grows_from lanes j lane [] more = omega arith
-  grows_from lanes j lane (x ∷ xs) more = by ((j % lanes) == lane) (grows_from lanes (suc j) lane xs more)
+  grows_from lanes j lane (x ∷ xs) more = by ((j % lanes) == lane) (grows_from lanes (j + 1) lane xs more)
     where
-      by : (b : Bool) → length (in_lane lane (dealt_from lanes (suc j) xs)) ≤ length (in_lane lane (dealt_from lanes (suc j) (xs ++ more)))
-          → length (if b then x ∷ in_lane lane (dealt_from lanes (suc j) xs) else in_lane lane (dealt_from lanes (suc j) xs)) ≤ length (if b then x ∷ in_lane lane (dealt_from lanes (suc j) (xs ++ more)) else in_lane lane (dealt_from lanes (suc j) (xs ++ more)))
+      by : (b : Bool) → length (in_lane lane (dealt_from lanes (j + 1) xs)) ≤ length (in_lane lane (dealt_from lanes (j + 1) (xs ++ more)))
+          → length (if b then x ∷ in_lane lane (dealt_from lanes (j + 1) xs) else in_lane lane (dealt_from lanes (j + 1) xs)) ≤ length (if b then x ∷ in_lane lane (dealt_from lanes (j + 1) (xs ++ more)) else in_lane lane (dealt_from lanes (j + 1) (xs ++ more)))
       by true rest = omega arith
       by false rest = rest
 
@@ -132,20 +139,20 @@ module _ {A : Type 0} where
   turns_from others j lane zero (x ∷ xs) few low at =
       let inside : j % suc others < suc others = mod-lt j (omega arith) in
       let here : j % suc others ≡ lane = elim at [ inl e ↦ omega arith | inr e ↦ absurd (omega arith) ] in
-      let next : (suc j % suc others + others ≡ lane) ⊎ (suc j % suc others + others ≡ lane + suc others) =
+      let next : ((j + 1) % suc others + others ≡ lane) ⊎ ((j + 1) % suc others + others ≡ lane + suc others) =
       elim (next_rest (suc others) j (omega arith)) [ inl n ↦ inr (omega (arith, n.1)) | inr n ↦ inl (omega (arith, n.0, n.1)) ] in
-      ap (λ l. x ∷ l) (turns_from others (suc j) lane others xs (omega arith) low next)
-      ∙ ap (λ (b : Bool). if b then x ∷ in_lane lane (dealt_from (suc others) (suc j) xs) else in_lane lane (dealt_from (suc others) (suc j) xs)) (sym (eq-eqb (j % suc others) lane here))
+      ap (λ l. x ∷ l) (turns_from others (j + 1) lane others xs (omega arith) low next)
+      ∙ ap (λ (b : Bool). if b then x ∷ in_lane lane (dealt_from (suc others) (j + 1) xs) else in_lane lane (dealt_from (suc others) (j + 1) xs)) (sym (eq-eqb (j % suc others) lane here))
   turns_from others j lane (suc turn) (x ∷ xs) few low at =
       let inside : j % suc others < suc others = mod-lt j (omega arith) in
       let other : j % suc others ≢ lane = λ e. elim at [ inl f ↦ absurd (omega arith) | inr f ↦ absurd (omega arith) ] in
-      let next : (suc j % suc others + turn ≡ lane) ⊎ (suc j % suc others + turn ≡ lane + suc others) =
+      let next : ((j + 1) % suc others + turn ≡ lane) ⊎ ((j + 1) % suc others + turn ≡ lane + suc others) =
       elim (next_rest (suc others) j (omega arith)) [
         | inl n ↦ elim at [ inl f ↦ inl (omega (arith, n.1)) | inr f ↦ inr (omega (arith, n.1)) ]
         | inr n ↦ elim at [ inl f ↦ absurd (omega (arith, n.0)) | inr f ↦ inl (omega (arith, n.0, n.1)) ]
       ] in
-      turns_from others (suc j) lane turn xs (omega arith) low next
-      ∙ ap (λ (b : Bool). if b then x ∷ in_lane lane (dealt_from (suc others) (suc j) xs) else in_lane lane (dealt_from (suc others) (suc j) xs)) (sym (ne_eqb (j % suc others) lane other))
+      turns_from others (j + 1) lane turn xs (omega arith) low next
+      ∙ ap (λ (b : Bool). if b then x ∷ in_lane lane (dealt_from (suc others) (j + 1) xs) else in_lane lane (dealt_from (suc others) (j + 1) xs)) (sym (ne_eqb (j % suc others) lane other))
 
   -- what is dealt to a lane comes once the lanes before it have had one, and then each time all others have
   pub turns_of_lane : (lanes lane : ℕ) (xs : List A) → lane < lanes → in_turn (lanes - 1) lane xs ≡ in_lane lane (dealt lanes xs)

@@ -5,7 +5,7 @@ use native.Mathlib.Decide.{ℕ_discrete}
 use Rattle.moc_shared.specs.declared.record.Call.{Call}
 use Rattle.moc_shared.specs.History.{calls_of, state_after, IsLegal}
 use Rattle.moc_lines.specs.Runs.{Rules}
-use Rattle.moc_script.specs.Crews.{InLane, placed, in_lane, answers_in, left_by}
+use Rattle.moc_script.specs.Crews.{InLane, put_in_lane, in_lane, answers_in, left_by}
 use Rattle.moc_script.specs.Private.LaneWork.{IsAskedBy, Does}
 
 module _ {A : Type 0} where
@@ -21,10 +21,10 @@ module _ {A : Type 0} where
   unfolding with_lane
   with_lane-else lane x lists d other = ap (λ (b : Bool). if b then x else lists d) (ne_eqb d lane other)
 
-  pub in_lane-here : (lane : ℕ) (x : A) (xs : List (InLane A)) → in_lane lane (placed lane x ∷ xs) ≡ x ∷ in_lane lane xs
+  pub in_lane-here : (lane : ℕ) (x : A) (xs : List (InLane A)) → in_lane lane (put_in_lane lane x ∷ xs) ≡ x ∷ in_lane lane xs
   in_lane-here lane x xs = ap (λ (b : Bool). if b then x ∷ in_lane lane xs else in_lane lane xs) (eq-eqb lane lane refl)
 
-  pub in_lane-else : (lane d : ℕ) (x : A) (xs : List (InLane A)) → d ≢ lane → in_lane d (placed lane x ∷ xs) ≡ in_lane d xs
+  pub in_lane-else : (lane d : ℕ) (x : A) (xs : List (InLane A)) → d ≢ lane → in_lane d (put_in_lane lane x ∷ xs) ≡ in_lane d xs
   in_lane-else lane d x xs other = ap (λ (b : Bool). if b then x ∷ in_lane d xs else in_lane d xs) (ne_eqb lane d (λ e. other (sym e)))
 
 module _ {S O R : Type 0} (object : S → O → S × R) (rules : Rules S) where
@@ -40,7 +40,7 @@ module _ {S O R : Type 0} (object : S → O → S × R) (rules : Rules S) where
       → lines lane ≡ line ∷ rest → texts lane ≡ text ∷ later → rules.answer s line ≡ text → rules.after s line ≡ next
       → Woven next (with_lane lane rest lines) (with_lane lane later texts) end → Woven s lines texts end
   put s next end lines texts lane line text rest later here there says leaves w = record {
-    order = placed lane line ∷ w.order;
+    order = put_in_lane lane line ∷ w.order;
     merged = λ d. merged d (ℕ_discrete d lane);
     answered = λ d. answered d (ℕ_discrete d lane);
     left = ap (λ (t : S). left_by rules t w.order) leaves ∙ w.left;
@@ -49,18 +49,18 @@ module _ {S O R : Type 0} (object : S → O → S × R) (rules : Rules S) where
       tail : List (InLane (List ℕ))
       tail = answers_in rules next w.order
 
-      front : answers_in rules s (placed lane line ∷ w.order) ≡ placed lane text ∷ tail
-      front = ap (λ (t : List ℕ). placed lane t ∷ answers_in rules (rules.after s line) w.order) says ∙ ap (λ (t : S). placed lane text ∷ answers_in rules t w.order) leaves
+      front : answers_in rules s (put_in_lane lane line ∷ w.order) ≡ put_in_lane lane text ∷ tail
+      front = ap (λ (t : List ℕ). put_in_lane lane t ∷ answers_in rules (rules.after s line) w.order) says ∙ ap (λ (t : S). put_in_lane lane text ∷ answers_in rules t w.order) leaves
 
-      merged : (d : ℕ) → Dec (d ≡ lane) → in_lane d (placed lane line ∷ w.order) ≡ lines d
+      merged : (d : ℕ) → Dec (d ≡ lane) → in_lane d (put_in_lane lane line ∷ w.order) ≡ lines d
       merged d (yes e) =
-          subst (λ (m : ℕ). in_lane m (placed lane line ∷ w.order) ≡ lines m) (sym e)
+          subst (λ (m : ℕ). in_lane m (put_in_lane lane line ∷ w.order) ≡ lines m) (sym e)
           (in_lane-here lane line w.order ∙ ap (λ l. line ∷ l) (w.merged lane ∙ with_lane-here lane rest lines) ∙ sym here)
       merged d (no other) = in_lane-else lane d line w.order other ∙ w.merged d ∙ with_lane-else lane rest lines d other
 
-      answered : (d : ℕ) → Dec (d ≡ lane) → in_lane d (answers_in rules s (placed lane line ∷ w.order)) ≡ texts d
+      answered : (d : ℕ) → Dec (d ≡ lane) → in_lane d (answers_in rules s (put_in_lane lane line ∷ w.order)) ≡ texts d
       answered d (yes e) =
-          subst (λ (m : ℕ). in_lane m (answers_in rules s (placed lane line ∷ w.order)) ≡ texts m) (sym e)
+          subst (λ (m : ℕ). in_lane m (answers_in rules s (put_in_lane lane line ∷ w.order)) ≡ texts m) (sym e)
           (ap (in_lane lane) front ∙ in_lane-here lane text tail ∙ ap (λ l. text ∷ l) (w.answered lane ∙ with_lane-here lane later texts) ∙ sym there)
       answered d (no other) = ap (in_lane d) front ∙ in_lane-else lane d text tail other ∙ w.answered d ∙ with_lane-else lane later texts d other
 

@@ -1,5 +1,5 @@
 -- Languages that answer each line alike answer scripts and schedules alike.
-use Rattle.std.proofs.Common.{◌≡◌, ℕ, Bool, true, false, cond, List, [], ◌∷◌, ◌++◌, Result, Ok, Err, codes, refl, sym}
+use Rattle.std.proofs.Common.{◌≡◌, ℕ, Bool, true, false, cond, List, [], ◌∷◌, ◌++◌, Result, Ok, Err, codes, refl}
 use Rattle.std.proofs.Common.{ap, ◌∙◌}
 use Rattle.std.specs.List.{AllByRecursion, list_all, list_any, onto_first, take_while}
 use Rattle.std.specs.Str.{bytes_eq}
@@ -9,11 +9,11 @@ use Rattle.moc_text.specs.Lines.{is_line_feed, lines_of, is_semicolon}
 use Rattle.moc_lists.specs.RangeList.{NumberSet}
 use Rattle.moc_parts.specs.declared.command.Command.{Command}
 use Rattle.moc_steps.specs.Machine.Step.{Begin}
-use Rattle.moc_lines.specs.Runs.{Rules, is_within, answers_to, after_lines, script_text, line_limit, rules_by, script_rules}
+use Rattle.moc_lines.specs.Runs.{Rules, is_short, answers_to, after_lines, script_text, line_limit, rules_by, script_rules}
 use Rattle.moc_lines.specs.Language.{answer_to, after_batch, is_blank_text, word_of, behind_word, batch_of, ◌>>=◌, command_of, command_by}
 use Rattle.moc_lines.specs.Language.{plain_operand_of}
 use Rattle.moc_script.specs.Schedules.{BatchStep, as_in_script, client_by, begin_of, other_step, said_by, said_step}
-use Rattle.moc_script.specs.Schedules.{Schedule, next_line, answer_to_step, after_said, last_lines, step_rules}
+use Rattle.moc_script.specs.Schedules.{Schedule, next_line, answer_to_step, step_taken, with_step, last_lines, step_rules}
 use Rattle.moc_script.specs.Schedules.{start_schedule}
 use Rattle.moc_lines.specs.declared.fault.LineFault.{LineFault}
 use Rattle.moc_lines.specs.declared.fault.LineFault.TheVariants.{WrongCount}
@@ -74,31 +74,31 @@ single_line a line none =
 
 pub scripts_of_single_commands : ScriptsOfSingleCommands
 scripts_of_single_commands input none =
-    ap (λ text. text ++ cond (list_all (is_within line_limit) (lines_of input)) [] [])
+    ap (λ text. text ++ cond (list_all (is_short line_limit) (lines_of input)) [] [])
     (same_answers script_rules (rules_by one_command) (λ l. list_any is_semicolon l ≡ false) single_line set.empty _
-    (each-take_while _ (is_within line_limit) (lines_of input) (none_in_lines is_semicolon input none)))
+    (each-take_while _ (is_short line_limit) (lines_of input) (none_in_lines is_semicolon input none)))
 
 pub scripts_without_order : ScriptsWithoutOrder
 scripts_without_order input none =
-    ap (λ text. text ++ cond (list_all (is_within line_limit) (lines_of input)) [] [])
+    ap (λ text. text ++ cond (list_all (is_short line_limit) (lines_of input)) [] [])
     (same_answers script_rules plain_rules (λ l. list_any is_at_sign l ≡ false) lines_without_order set.empty _
-    (each-take_while _ (is_within line_limit) (lines_of input) (none_in_lines is_at_sign input none)))
+    (each-take_while _ (is_short line_limit) (lines_of input) (none_in_lines is_at_sign input none)))
 
 -- Steps that are said alike are answered alike.
 module _ (says others : List ℕ → Result BatchStep StepFault) (Q : List ℕ → Type 0) (same : (line : List ℕ) → Q line → says line ≡ others line) where
   same_step : (s : Schedule) (line : List ℕ) → Q line → ((step_rules says).answer s line ≡ (step_rules others).answer s line) × ((step_rules says).after s line ≡ (step_rules others).after s line)
   same_step s line each = (
     ap (λ r. cond (is_blank_text line) [] (answer_to_step s r)) (same line each),
-    ap (λ r. cond (is_blank_text line) (next_line s) (after_said (next_line s) r)) (same line each),
+    ap (λ r. cond (is_blank_text line) (next_line s) (with_step (next_line s) (step_taken s r))) (same line each),
   )
 
   same_schedule : (input : List ℕ) → AllByRecursion Q (lines_of input) → script_text (step_rules says) line_limit start_schedule input ≡ script_text (step_rules others) line_limit start_schedule input
   same_schedule input each =
       let lines = lines_of input in
-      let read = take_while (is_within line_limit) lines in
-      ap (λ text. text ++ cond (list_all (is_within line_limit) lines) (last_lines (after_lines (step_rules says) start_schedule lines)) [])
-      (same_answers (step_rules says) (step_rules others) Q same_step start_schedule read (each-take_while Q (is_within line_limit) lines each))
-      ∙ ap (λ s. answers_to (step_rules others) start_schedule read ++ cond (list_all (is_within line_limit) lines) (last_lines s) [])
+      let read = take_while (is_short line_limit) lines in
+      ap (λ text. text ++ cond (list_all (is_short line_limit) lines) (last_lines (after_lines (step_rules says) start_schedule lines)) [])
+      (same_answers (step_rules says) (step_rules others) Q same_step start_schedule read (each-take_while Q (is_short line_limit) lines each))
+      ∙ ap (λ s. answers_to (step_rules others) start_schedule read ++ cond (list_all (is_short line_limit) lines) (last_lines s) [])
       (same_left (step_rules says) (step_rules others) Q same_step start_schedule lines each)
 
 -- Lines whose batches say the same say the same.

@@ -1,14 +1,14 @@
 -- What a crew of lanes may answer, and what it has written when it ends.
-use Rattle.std.specs.Prelude.{◌≡◌, ◌==◌, ◌%◌, ℕ, suc, List, [], ◌∷◌, if◌then◌else◌, ◌⊎◌, ◌<◌, ◌≤◌, ◌+◌, ◌-◌, false}
-use Rattle.std.specs.Prelude.{◌++◌, length, slice_index_or, Option, Some, Result, Ok, Err, not, filter, fold}
+use Rattle.std.specs.Prelude.{◌≡◌, ◌==◌, ◌%◌, ℕ, List, [], ◌∷◌, if◌then◌else◌, ◌⊎◌, ◌<◌, ◌≤◌, ◌+◌, ◌-◌, false}
+use Rattle.std.specs.Prelude.{◌++◌, length, slice_index_or, Option, Some, Result, Ok, Err, not, filter, fold, map}
 use Rattle.std.specs.FinSet as set
 use Rattle.std.specs.Io.KnownBytes.{Appends, Consumes, Keeps}
 use Rattle.moc_devices.specs.Devices.{CallsMore}
-use Rattle.std.specs.List.{concat}
+use Rattle.std.specs.List.{concat, enumerate_from}
 use Rattle.moc_lists.specs.RangeList.{NumberSet}
 use Rattle.moc_text.specs.Lines.{lines_of}
 use Rattle.moc_lines.specs.Language.{is_blank_text, cover_text}
-use Rattle.moc_lines.specs.Runs.{Rules, AreWithin, IsTooLong, IsBegunLine, Flushes, line_limit, script_rules}
+use Rattle.moc_lines.specs.Runs.{Rules, AreShort, IsTooLong, IsBegunLine, Flushes, line_limit, script_rules}
 use Rattle.moc_lines.specs.declared.run_error.RunError.TheVariants.{Read, Write, LineTooLong, Memory}
 use Rattle.moc_script.specs.declared.crew_error.CrewError.{CrewError}
 use Rattle.moc_script.specs.declared.crews.lanes.Lanes.{Lanes}
@@ -23,22 +23,17 @@ pub record InLane (A : Type 0) : Type 0 where
 
 module _ {A : Type 0} where
   -- an element in a lane
-  abbrev pub placed : ℕ → A → InLane A
-  placed lane x = record { lane = lane; it = x }
+  abbrev pub put_in_lane : ℕ → A → InLane A
+  put_in_lane lane x = record { lane = lane; it = x }
 
   -- what a lane has, in order
   abbrev pub in_lane : ℕ → List (InLane A) → List A
   in_lane lane [] = []
   in_lane lane (x ∷ xs) = if x.lane == lane then x.it ∷ in_lane lane xs else in_lane lane xs
 
-  -- elements dealt to lanes in turn, the first of them to the lane j mod lanes
-  abbrev pub dealt_from : ℕ → ℕ → List A → List (InLane A)
-  dealt_from lanes j [] = []
-  dealt_from lanes j (x ∷ xs) = placed (j % lanes) x ∷ dealt_from lanes (suc j) xs
-
   -- elements dealt to lanes: the j-th, counted from 0, to the lane j mod lanes
   abbrev pub dealt : ℕ → List A → List (InLane A)
-  dealt lanes xs = dealt_from lanes 0 xs
+  dealt lanes xs = map (λ (numbered : ℕ × A). put_in_lane (numbered.0 % lanes) numbered.1) (enumerate_from 0 xs)
 
   -- both have the same in each lane, in the same order: each is a merge of the other's lanes
   abbrev pub IsMerge : List (InLane A) → List (InLane A) → Type 0
@@ -58,7 +53,7 @@ module _ {S : Type 0} (rules : Rules S) where
   -- the answers to lines that are done in this order, each on what those before it leave
   abbrev pub answers_in : S → List (InLane (List ℕ)) → List (InLane (List ℕ))
   answers_in s [] = []
-  answers_in s (x ∷ xs) = placed x.lane (rules.answer s x.it) ∷ answers_in (rules.after s x.it) xs
+  answers_in s (x ∷ xs) = put_in_lane x.lane (rules.answer s x.it) ∷ answers_in (rules.after s x.it) xs
 
   -- what lines leave that are done in this order
   abbrev pub left_by : S → List (InLane (List ℕ)) → S
@@ -95,7 +90,7 @@ IsRefusedLine number lines = (number ≡ 0) ⊎ IsSaidLine number lines ⊎ (num
 abbrev pub CrewEnds :
     ℕ → List ℕ → Option (List ℕ) → Option (List ℕ) → Option (List ℕ) → Result (Unit {0}) CrewError → Type 0
 CrewEnds lanes input left' written written' (Ok _) =
-    AreWithin line_limit (lines_of input)
+    AreShort line_limit (lines_of input)
     × ((text : List ℕ) × Appends written written' text × IsCrewText lanes (said_lines (lines_of input)) text)
 CrewEnds lanes input left' written written' (Err (Run Write)) =
     (text : List ℕ) × Appends written written' text

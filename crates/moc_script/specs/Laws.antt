@@ -2,13 +2,11 @@
 use Rattle.std.specs.Prelude.{◌≡◌, ℕ, Bool, false, ◌==◌, List, ◌∷◌, [], length, Result, Ok}
 use Rattle.std.specs.List.{list_any}
 use Rattle.std.specs.FinSet as set
-use Rattle.std.specs.FinMap as map
 use Rattle.moc_lists.specs.RangeList.{NumberSet}
 use Rattle.moc_parts.specs.Batches.{batches}
 use Rattle.moc_parts.specs.declared.command.Command.{Command}
-use Rattle.moc_steps.specs.Orders.{operations, midway, Explains, set_by_order}
-use Rattle.moc_steps.specs.Machine.{whole}
-use Rattle.moc_steps.specs.Laws.{ArePlayed, led_to}
+use Rattle.moc_steps.specs.Orders.{operations}
+use Rattle.moc_steps.specs.Laws.{ArePlayed, HasOneOrder, led_to}
 use Rattle.moc_lines.specs.Language.{is_blank_text, ◌>>=◌, plain_operand_of, command_by, command_of}
 use Rattle.moc_lines.specs.Language.{batch_of}
 use Rattle.moc_text.specs.Lines.{is_semicolon}
@@ -72,15 +70,12 @@ SchedulesWithoutOrder =
 pub record StandInOrder (steps : List BatchStep) (s : Schedule) : Type 0 where
   -- each is permitted when it is taken
   pub played : ArePlayed batches set.empty steps
+  -- they lead to the schedule's world
   pub leads : led_to batches set.empty steps ≡ s.world
-  -- the order names the operations that have edited, in time, each with the reply of one single set
-  pub explained : Explains batches s.world.order steps set.empty
+  -- its order explains them: each operation has the reply of one single set, which is its own where none is midway
+  pub ordered : HasOneOrder batches set.empty steps
   -- there is a line for each operation, which began it
   pub begun : length s.begins ≡ length (operations steps)
-  -- as many clients are midway as operations
-  pub counted : map.len s.world.locks.clients ≡ midway steps
-  -- where none is midway, the set is what the operations make, done one by one in the order
-  pub together : midway steps ≡ 0 → whole batches s.world ≡ set_by_order batches s.world.order steps set.empty
 
 -- The steps that the lines of a schedule take lead to where it stands behind them, and its last lines explain them.
 abbrev pub SchedulesHaveOneOrder : Type 0

@@ -1,8 +1,9 @@
 -- Schedules of steps on the step machine: what their lines say, and the texts that answer them.
 use Rattle.std.specs.Prelude.{ℕ, List, codes, nat_lt, Result, Ok, Err, if◌then◌else◌, suc, ◌==◌, [], ◌∷◌, ◌++◌, decimal}
 use Rattle.std.specs.Prelude.{get_or, Option, None, Some}
+use Rattle.moc_text.specs.Names.{told_fault}
 use Rattle.moc_lines.specs.Language.{name_of_line, is_blank_text, word_of, behind_word, number_spelled, ◌>>=◌}
-use Rattle.moc_lines.specs.Language.{only_field, two_fields, command_of, batch_of, cover_text, replies_text}
+use Rattle.moc_lines.specs.Language.{only_field, two_numbers, command_of, batch_of, cover_text, replies_text}
 use Rattle.moc_script.specs.declared.fault.StepFault.{StepFault}
 use Rattle.moc_script.specs.declared.fault.StepFault.TheVariants.{Line, ClientTooLarge, PartTooLarge}
 use Rattle.moc_steps.specs.declared.error.StepError.{StepError}
@@ -17,7 +18,7 @@ use Rattle.moc_steps.specs.Machine.{Step, refusal, World, Entry, start_world, wo
 use Rattle.moc_steps.specs.Machine.Step.{Begin, Take, Edit, Give, Quit, End}
 use Rattle.moc_lines.specs.declared.fault.LineFault.{LineFault}
 use Rattle.moc_lines.specs.declared.fault.LineFault.TheVariants.{UnknownWord, WrongCount, BadNumber}
-use Rattle.std.specs.List.{flat_map}
+use Rattle.std.specs.List.{cons_option, flat_map}
 use Rattle.std.specs.FinSet as set
 use Rattle.std.specs.FinMap as map
 use Rattle.moc_parts.specs.Batches.{batches}
@@ -65,25 +66,18 @@ client_by field = do
   client ← ok_or (number_spelled field) (Line BadNumber)
   if nat_lt 4294967295 client then Err ClientTooLarge else Ok client
 
--- the client and the part that two fields name: the part is one of twelve
-abbrev pub client_and_part_by : List ℕ → List ℕ → Result (ℕ × ℕ) StepFault
-client_and_part_by client part = do
-  c ← ok_or (number_spelled client) (Line BadNumber)
-  b ← ok_or (number_spelled part) (Line BadNumber)
-  if nat_lt 4294967295 c then Err ClientTooLarge
-      else (if nat_lt 11 b then Err PartTooLarge else Ok (c, b))
-
 -- the client that a text names: it has just one field
 abbrev pub only_client : List ℕ → Result ℕ StepFault
 only_client text = do
   field ← as_in_script (only_field text)
   client_by field
 
--- the client and the part that a text names: it has just two fields
+-- the client and the part, one of twelve, that a text names: it has just two fields
 abbrev pub only_client_and_part : List ℕ → Result (ℕ × ℕ) StepFault
 only_client_and_part text = do
-  fields ← as_in_script (two_fields text)
-  client_and_part_by fields.0 fields.1
+  (c, b) ← as_in_script (two_numbers text)
+  if nat_lt 4294967295 c then Err ClientTooLarge
+      else (if nat_lt 11 b then Err PartTooLarge else Ok (c, b))
 
 -- a step of a client, which the text names
 abbrev pub step_by : (ℕ → BatchStep) → List ℕ → Result BatchStep StepFault
@@ -154,34 +148,29 @@ abbrev pub answer_to_step : Schedule → Result BatchStep StepFault → List ℕ
 answer_to_step s (Ok step) =
     option_map_or (λ why. codes "refused " ++ name_of_refusal why) (refusal batches s.world.locks step)
     (done_text (reply_to batches s.world step)) ++ 10 ∷ []
-answer_to_step s (Err fault) = codes "fault " ++ name_of_step fault ++ 10 ∷ []
+answer_to_step s (Err fault) = told_fault (name_of_step fault)
 
 -- one more line was read
 abbrev pub next_line : Schedule → Schedule
 next_line s = record s { lines = suc s.lines }
 
 -- the lines that began operations, after a step of the line of this number
-abbrev pub begins_after : List ℕ → ℕ → BatchStep → List ℕ
-begins_after begins number (Begin c commands) = begins ++ number ∷ []
-begins_after begins number step = begins
-
--- what a step leaves, by its refusal: one that is refused changes nothing
-abbrev pub after_step : Option StepError → Schedule → BatchStep → Schedule
-after_step (Some why) s step = s
-after_step None s step = record s {
-  world = world_after batches s.world step;
-  begins = begins_after s.begins s.lines step;
-}
-
--- what is left by what a line says, which was read last
-abbrev pub after_said : Schedule → Result BatchStep StepFault → Schedule
-after_said s (Ok step) = after_step (refusal batches s.world.locks step) s step
-after_said s (Err fault) = s
+abbrev pub begin_lines_after : List ℕ → ℕ → BatchStep → List ℕ
+begin_lines_after begins number (Begin c commands) = begins ++ number ∷ []
+begin_lines_after begins number step = begins
 
 -- the step that is taken by what a line says: none at a fault, and where it is refused
-abbrev pub step_taken : Schedule → Result BatchStep StepFault → List BatchStep
-step_taken s (Ok step) = option_map_or (λ why. []) (refusal batches s.world.locks step) (step ∷ [])
-step_taken s (Err fault) = []
+abbrev pub step_taken : Schedule → Result BatchStep StepFault → Option BatchStep
+step_taken s (Ok step) = option_map_or (λ why. None) (refusal batches s.world.locks step) (Some step)
+step_taken s (Err fault) = None
+
+-- what a step leaves that the last line took; where it took none, nothing changes
+abbrev pub with_step : Schedule → Option BatchStep → Schedule
+with_step s None = s
+with_step s (Some step) = record s {
+  world = world_after batches s.world step;
+  begins = begin_lines_after s.begins s.lines step;
+}
 
 -- for each entry of the order a space and the line that began its operation
 abbrev pub begin_lines : List ℕ → List (Entry (List Reply)) → List ℕ
@@ -201,7 +190,7 @@ last_lines s = codes "order" ++ begin_lines s.begins s.world.order ++ 10 ∷ end
 abbrev pub step_rules : (List ℕ → Result BatchStep StepFault) → Rules Schedule
 step_rules says = record {
   answer = λ s line. if is_blank_text line then [] else answer_to_step s (says line);
-  after = λ s line. if is_blank_text line then next_line s else after_said (next_line s) (says line);
+  after = λ s line. if is_blank_text line then next_line s else with_step (next_line s) (step_taken s (says line));
   closing = last_lines;
 }
 
@@ -213,8 +202,8 @@ schedule_rules = step_rules said_step
 abbrev pub steps_taken : Schedule → List (List ℕ) → List BatchStep
 steps_taken s [] = []
 steps_taken s (line ∷ lines) =
-    (if is_blank_text line then [] else step_taken s (said_step line))
-    ++ steps_taken (schedule_rules.after s line) lines
+    cons_option (if is_blank_text line then None else step_taken s (said_step line))
+    (steps_taken (schedule_rules.after s line) lines)
 
 -- the text that a schedule is answered with
 abbrev pub schedule_text : List ℕ → List ℕ

@@ -1,14 +1,12 @@
 //! The answers to lines, by the step machine.
 ghost use Rattle.std.specs.Prelude.{◌≡◌, ◌++◌, ◌∷◌, [], IfOk, Ok, OnOk, codes, get_or};
-ghost use Rattle.moc_steps.specs.Machine.{refusal};
 ghost use Rattle.moc_steps.specs.Played.{entries_of, step_of};
-ghost use Rattle.moc_parts.specs.Batches.{batches};
-ghost use Rattle.moc_script.specs.Schedules.{after_step, answer_to_step, begin_lines, done_text};
-ghost use Rattle.moc_script.specs.Schedules.{end_text, name_of_refusal, schedule_rules, start_schedule};
+ghost use Rattle.moc_script.specs.Schedules.{answer_to_step, begin_lines, done_text, end_text};
+ghost use Rattle.moc_script.specs.Schedules.{name_of_refusal, schedule_rules, start_schedule, step_taken, with_step};
 
-use crate::fault::{ReadStepError, push_step_fault};
+use crate::fault::ReadStepError;
 use crate::step::read_step;
-use moc_lines::{Responder, is_blank_text, push_count, push_cover, push_reply_line};
+use moc_lines::{Responder, is_blank_text, push_count, push_cover, push_fault, push_reply_line};
 use moc_parts::Replies;
 use moc_ranges::{Coverage, Memory};
 use moc_steps::{CoverError, Entry, Step, StepError, World};
@@ -49,8 +47,7 @@ impl Player {
     /// Takes the step that the last line says, if it is permitted, and adds the answer.
     fn take(&mut self, alloc: Global, step: Step, text: &mut Vec<u8>) -> Result<(), Memory>
         ensures text { OnOk result (text.new.items ≡ text.old.items ++ answer_to_step self.old (Ok (step_of step))) }
-        ensures after { OnOk result (self.new ≡
-            after_step (refusal batches self.old.world.locks (step_of step)) self.old (step_of step)) }
+        ensures after { OnOk result (self.new ≡ with_step self.old (step_taken self.old (Ok (step_of step)))) }
     {
         let is_begin = matches!(step, Step::Begin { .. });
         match self.world.step(step) {
@@ -81,7 +78,7 @@ impl Responder for Player {
         }
         match read_step(alloc, line) {
             Ok(step) => self.take(alloc, step, text),
-            Err(ReadStepError::Fault(fault)) => push_step_fault(fault, text),
+            Err(ReadStepError::Fault(fault)) => push_fault(fault.name(), text),
             Err(ReadStepError::Memory) => Err(Memory),
         }
     }

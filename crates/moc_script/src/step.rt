@@ -2,8 +2,7 @@
 ghost use Rattle.std.specs.Prelude.{◌≤◌, SomeIff};
 ghost use Rattle.moc_steps.specs.Played.{step_of};
 ghost use Rattle.moc_lines.specs.Language.{batch_of, command_of};
-ghost use Rattle.moc_script.specs.Schedules.{begin_of, client_by, client_and_part_by, only_client};
-ghost use Rattle.moc_script.specs.Schedules.{only_client_and_part, said_step};
+ghost use Rattle.moc_script.specs.Schedules.{begin_of, client_by, only_client, only_client_and_part, said_step};
 ghost use Rattle.moc_script.specs.Private.StepReading.{ReadsStep};
 
 use crate::fault::{ReadStepError, StepFault};
@@ -37,10 +36,11 @@ fn read_client(field: &[u8]) -> Result<u32, ReadStepError>
     Ok(client)
 }
 
-/// The client and the part that two fields name.
-fn read_client_and_part(client: &[u8], part: &[u8]) -> Result<(u32, Part), ReadStepError>
-    ensures { ReadsStep (λ both. both) result (client_and_part_by client.now part.now) }
+/// The client and the part that a text names: it has just two fields.
+fn only_client_and_part(text: &[u8]) -> Result<(u32, Part), ReadStepError>
+    ensures { ReadsStep (λ both. both) result (only_client_and_part text.now) }
 {
+    let (client, part) = two_fields(text)?;
     let client = number_in(client).ok_or(LineFault::BadNumber)?;
     let part = number_in(part).ok_or(LineFault::BadNumber)?;
     let client = client_of_number(client).ok_or(StepFault::ClientTooLarge)?;
@@ -54,14 +54,6 @@ fn only_client(text: &[u8]) -> Result<u32, ReadStepError>
 {
     let field = only_field(text)?;
     read_client(field)
-}
-
-/// The client and the part that a text names: it has just two fields.
-fn only_client_and_part(text: &[u8]) -> Result<(u32, Part), ReadStepError>
-    ensures { ReadsStep (λ both. both) result (only_client_and_part text.now) }
-{
-    let (client, part) = two_fields(text)?;
-    read_client_and_part(client, part)
 }
 
 /// What stands behind `begin`: a client, and a batch of commands.

@@ -133,7 +133,7 @@ fn texts_of_answers(rt: HostRuntime) {
     let replies = [Reply::Changed(7), Reply::Near(true)];
     push_reply_line(alloc, &replies, &mut text).expect(&rt, "memory");
     push_count(b"midway ", 2, &mut text).expect(&rt, "memory");
-    push_fault(LineFault::WrongCount, &mut text).expect(&rt, "memory");
+    push_fault(LineFault::WrongCount.name(), &mut text).expect(&rt, "memory");
     push_cover(alloc, &read_set(&rt, alloc, 0), &mut text).expect(&rt, "memory");
     push_cover(alloc, &read_set(&rt, alloc, 3), &mut text).expect(&rt, "memory");
     has_text(

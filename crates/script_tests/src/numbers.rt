@@ -1,8 +1,8 @@
 //! What lines of numbers are answered.
 use crate::between::{Language, expect_answers as expect};
 use moc_script::{
-    LINE_LIMIT, Numbering, NumberingNameError, OverReader, OverWriter, Renumbering, RunError,
-    renumber,
+    LINE_LIMIT, NumberFault, Numbering, NumberingNameError, OverReader, OverWriter, Renumbering,
+    RunError, renumber,
 };
 use moc_sphere::Order;
 use std::alloc::{AllocError, Global};
@@ -211,6 +211,25 @@ fn expect_over_zeros(
     );
     assert_eq!(rt; ended, outcome);
     assert_eq!(rt; text.as_slice(), answers);
+}
+
+#[test]
+fn one_number(rt: HostRuntime) {
+    let (nest, ring, uniq) = (Numbering::Nest, Numbering::Ring, Numbering::Uniq);
+    for (from, to, number, told) in [
+        (nest, ring, 18, Ok(27)),
+        (ring, nest, 27, Ok(18)),
+        (uniq, ring, 34, Ok(27)),
+        (nest, uniq, 48, Err(NumberFault::CellTooLarge)),
+        (ring, uniq, u64::MAX, Err(NumberFault::RingTooLarge)),
+        (uniq, nest, 3, Err(NumberFault::NotUniq)),
+        (uniq, nest, 15, Err(NumberFault::OtherOrder)),
+    ] {
+        let order = Order::of(1);
+        assert_eq!(rt; Renumbering { from, to, order }.of(number), told);
+    }
+    let faults = [NumberFault::WrongCount, NumberFault::BadNumber];
+    assert_eq!(rt; faults.map(NumberFault::name), ["WrongCount", "BadNumber"]);
 }
 
 #[test]

@@ -2,7 +2,7 @@
 use Rattle.std.specs.Prelude.{◌≡◌, ℕ, ◌⊎◌, List, ◌++◌, Option, Some, Result, Ok, Err}
 use Rattle.std.specs.Io.KnownBytes.{Appends, Consumes, IsAtEnd}
 use Rattle.moc_text.specs.Lines.{lines_of}
-use Rattle.moc_lines.specs.Runs.{Rules, answers_to, closing_behind, AreWithin, IsTooLong, whole_lines_of, lines_before}
+use Rattle.moc_lines.specs.Runs.{Rules, answers_to, closing_behind, AreShort, IsTooLong, whole_lines_of, lines_before}
 use Rattle.moc_lines.specs.Runs.{IsBegunLine, IsUnclosed}
 use Rattle.moc_lines.specs.declared.run_error.RunError.{RunError}
 use Rattle.moc_lines.specs.declared.run_error.RunError.TheVariants.{Read, Write, LineTooLong, Memory}
@@ -39,7 +39,7 @@ module _ {S : Type 0} (limit : ℕ) (rules : Rules S) (s : S) where
     pub sent : List ℕ
     pub consumed : Consumes left left' given
     pub appended : Appends written written' sent
-    pub within : AreWithin limit lines
+    pub within : AreShort limit lines
     pub front : (more : List ℕ) → left' ≡ Some more
         → (rest : List (List ℕ)) × (lines_of (given ++ more) ≡ lines ++ rest)
     pub ends : EndsAt limit rules s lines given left' result

@@ -25,10 +25,16 @@ abbrev pub made_by_word : Option Verb → Result (Operand → Command) LineFault
 made_by_word None = Err UnknownWord
 made_by_word (Some verb) = Ok (made_by verb)
 
+-- the numbers that two fields spell
+abbrev pub both_spelled : List ℕ → List ℕ → Result (ℕ × ℕ) LineFault
+both_spelled first second = do
+  a ← ok_or (number_spelled first) BadNumber
+  b ← ok_or (number_spelled second) BadNumber
+  Ok (a, b)
+
 -- the cell that two fields name, an order and a number
 abbrev pub near_by : List ℕ → List ℕ → Result Command LineFault
 near_by order index = do
-  k ← ok_or (number_spelled order) BadNumber
-  i ← ok_or (number_spelled index) BadNumber
+  (k, i) ← both_spelled order index
   if nat_lt 29 k then Err OrderTooLarge
       else (if nat_lt i (cell_count k) then Ok (command.Near (cell_number k i)) else Err CellTooLarge)

@@ -88,7 +88,7 @@ fn answer_line<R: Wait>(
     match read_commands(alloc, line) {
         Ok(Commands::One(command)) => answer_command(rt, alloc, map, client, command, answers),
         Ok(Commands::Several(batch)) => answer_batch(rt, alloc, map, client, &batch, answers),
-        Err(ReadError::Fault(fault)) => push_fault(fault, answers),
+        Err(ReadError::Fault(fault)) => push_fault(fault.name(), answers),
         Err(ReadError::Memory) => Err(Memory),
     }
 }

@@ -1,10 +1,10 @@
 -- A part of a line was found, the line was ended, or it is too long.
-use Rattle.std.proofs.Common.{◌≡◌, ℕ, zero, suc, ◌+◌, ◌<◌, ◌≤◌, ◌||◌, Bool, true, false, eqb, List, [], ◌∷◌, Option, length, sym, ap, ◌∙◌, Err, refl, arith, length-append}
+use Rattle.std.proofs.Common.{◌≡◌, ℕ, zero, suc, ◌<◌, ◌≤◌, ◌||◌, Bool, true, false, eqb, List, [], ◌∷◌, Option, length, sym, ap, ◌∙◌, Err, refl, arith, length-append}
 use Rattle.std.proofs.lemmas.Bool.{ltb-true, ltb-false, eqb-true}
 use Rattle.moc_lines.specs.declared.reading.InputError.{InputError}
 use Rattle.moc_lines.specs.declared.reading.InputError.TheVariants.{Read, TooLong, Memory}
 use Rattle.moc_lines.specs.Private.LineReading.{FailsPart, IsOfLine, TakesLine}
-use Rattle.std.specs.List.{count_by, position_or_len}
+use Rattle.std.specs.List.{count_by}
 use Rattle.moc_text.specs.Lines.{is_line_feed}
 use Rattle.moc_lines.specs.Private.Held.{Held}
 use Rattle.moc_lines.proofs.Turns.{Turn, Turn-brought, Turn-line, Turn-more, Turn-none, Turn-too_long}

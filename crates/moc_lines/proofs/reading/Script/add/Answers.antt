@@ -3,16 +3,16 @@ use Rattle.std.proofs.Common.{◌≡◌, ◌∙◌, ◌+◌, ◌++◌, ℕ, List
 use Rattle.std.specs.List.{count_by, position_or_len}
 use Rattle.moc_text.specs.Lines.{is_line_feed}
 use Rattle.moc_lines.specs.Private.Input.{IsHeld}
-use Rattle.moc_lines.proofs.WholeReading.{held_begun, held_long, held_lines, held_more, some_line_feed}
+use Rattle.moc_lines.proofs.WholeReading.{behind_last, held_begun, held_long, held_lines, held_more, none_found}
 use Rattle.moc_lines.proofs.reading.Script.add.Goals as goal
 
-pub returns-then-first-before-clause-fails : goal.returns-then-first-before-clause-fails
-returns-then-first-before-clause-fails c =
+pub returns-then-first_or_len-before-clause-fails : goal.returns-then-first_or_len-before-clause-fails
+returns-then-first_or_len-before-clause-fails c =
     let bytes = c.args.self.now.bytes in
     let start : ℕ = c.args.self.now.start in
-    let place : c.first_or_len-first.result ≡ position_or_len is_line_feed c.args.chunk.now = c.first_or_len-first.ensures.value in
+    let place : c.first_or_len.result ≡ position_or_len is_line_feed c.args.chunk.now = c.first_or_len.ensures.value in
     held_long bytes.items c.args.chunk.now start c.requires.held
-    (omega (arith, c.if-first-before.true, length-drop start bytes.items, c.len-before.ensures, bytes.ok, place, c.requires.held.inside)) (omega (arith, place, c.first_or_len-first.ensures.within))
+    (omega (arith, c.if-first_or_len-before.true, length-drop start bytes.items, c.len-before.ensures, bytes.ok, place, c.requires.held.inside)) (omega (arith, place, c.first_or_len.ensures.within))
     c.begun.result c.begun.ensures
 
 pub returns-in_default-clause-fails : goal.returns-in_default-clause-fails
@@ -20,26 +20,24 @@ returns-in_default-clause-fails c =
     held_begun c.args.self.now.bytes.items c.args.chunk.now c.args.self.now.start c.requires.held c.requires.some c.begun-in_default.result
     (c.begun-in_default.ensures ∙ ap (λ (l : List ℕ). count_by is_line_feed l + 1) c.in_default.ensures.items)
 
-pub behind_last-requires : goal.behind_last-requires
-behind_last-requires c =
-    let place : c.first_or_len-first.result ≡ position_or_len is_line_feed c.args.chunk.now = c.first_or_len-first.ensures.value in
-    record { some = some_line_feed c.args.chunk.now (omega (arith, place, c.if-first-chunk.true)) }
-
-pub returns-then-first-chunk-clause-held : goal.returns-then-first-chunk-clause-held
-returns-then-first-chunk-clause-held c =
+pub returns-in-Some-clause-held : goal.returns-in-Some-clause-held
+returns-in-Some-clause-held c =
     let bytes = c.args.self.now.bytes in
     let start : ℕ = c.args.self.now.start in
-    let place : c.first_or_len-first.result ≡ position_or_len is_line_feed c.args.chunk.now = c.first_or_len-first.ensures.value in
-    let long : length bytes.items + c.behind_last.result ≡ c.len-before.result + c.behind_last.result = omega (arith, c.len-before.ensures, bytes.ok) in
-    subst (λ (b : List ℕ). IsHeld b (c.len-before.result + c.behind_last.result)) (sym c.in-Ok.ensures.items)
-    (subst (λ (n : ℕ). IsHeld (bytes.items ++ c.args.chunk.now) n) long (held_lines bytes.items c.args.chunk.now start c.requires.held c.behind_last.result c.behind_last.ensures
-    (omega (arith, c.if-first-before.false, length-drop start bytes.items, c.len-before.ensures, bytes.ok, place, c.requires.held.inside, c.requires.held.short)) c.requires.short))
+    let at : ℕ = c.in-Some.at in
+    let place : c.first_or_len.result ≡ position_or_len is_line_feed c.args.chunk.now = c.first_or_len.ensures.value in
+    let long : length bytes.items + (at + 1) ≡ c.len-before.result + at + 1 = omega (arith, c.len-before.ensures, bytes.ok) in
+    let last = behind_last c.args.chunk.now at c.in-Some.ensures.0.high c.in-Some.ensures.1 c.in-Some.ensures.0.after in
+    subst (λ (b : List ℕ). IsHeld b (c.len-before.result + at + 1)) (sym c.in-Ok.ensures.items)
+    (subst (λ (n : ℕ). IsHeld (bytes.items ++ c.args.chunk.now) n) long (held_lines bytes.items c.args.chunk.now start c.requires.held (at + 1) last
+    (omega (arith, c.if-first_or_len-before.false, length-drop start bytes.items, c.len-before.ensures, bytes.ok, place, c.requires.held.inside, c.requires.held.short)) c.requires.short))
 
-pub returns-else-first-chunk-clause-held : goal.returns-else-first-chunk-clause-held
-returns-else-first-chunk-clause-held c =
+pub returns-in_default-memrchr-clause-held : goal.returns-in_default-memrchr-clause-held
+returns-in_default-memrchr-clause-held c =
     let bytes = c.args.self.now.bytes in
     let start : ℕ = c.args.self.now.start in
-    let place : c.first_or_len-first.result ≡ position_or_len is_line_feed c.args.chunk.now = c.first_or_len-first.ensures.value in
+    let place : c.first_or_len.result ≡ position_or_len is_line_feed c.args.chunk.now = c.first_or_len.ensures.value in
+    let none = none_found c.args.chunk.now (λ k low is. c.in_default-memrchr.ensures k (omega arith) low is) in
     subst (λ (b : List ℕ). IsHeld b start) (sym c.in-Ok.ensures.items)
-    (held_more bytes.items c.args.chunk.now start c.requires.held (omega (arith, c.if-first-chunk.false, place))
-    (omega (arith, c.if-first-before.false, length-drop start bytes.items, c.len-before.ensures, bytes.ok, place, c.requires.held.inside, c.requires.held.short)))
+    (held_more bytes.items c.args.chunk.now start c.requires.held none
+    (omega (arith, c.if-first_or_len-before.false, length-drop start bytes.items, c.len-before.ensures, bytes.ok, place, c.requires.held.inside, c.requires.held.short)))
