@@ -1,6 +1,5 @@
 -- A change that walks over the parts that it can alter: those between them stay as they are.
-use Rattle.std.proofs.Common.{◌≡◌, ℕ, zero, suc, ◌+◌, ◌-◌, ◌<◌, ◌≤◌, false, List, [], ◌∷◌, refl, sym, ap, ◌∙◌, arith}
-use Rattle.std.specs.Prelude.{None}
+use Rattle.std.proofs.Common.{◌≡◌, ℕ, zero, suc, ◌+◌, ◌-◌, ◌<◌, ◌≤◌, false, List, [], ◌∷◌, refl, sym, ap, subst, ◌∙◌, arith}
 use Rattle.std.specs.FinSet as set
 use Rattle.moc_lists.specs.RangeList.{NumberSet}
 use Rattle.moc_ranges.specs.Operations.{pixels, part_of, symmetric, IsWithin}
@@ -11,7 +10,7 @@ use Rattle.moc_parts.specs.Private.Changes.{changed, IsChange, LeavesOthers}
 use Rattle.moc_parts.specs.Private.Drafts.{with_part}
 use Rattle.moc_parts.proofs.PartLaw.{part_law, changed_within}
 use Rattle.moc_parts.proofs.Sums.{size_none, size-next}
-use Rattle.moc_parts.proofs.Turned.{turned_in, turned_within, left_alone}
+use Rattle.moc_parts.proofs.Turned.{turned_in, turned_within, same_turned}
 use Rattle.moc_parts.proofs.Twelve.{first_parts, first_parts-all}
 use Rattle.moc_parts.proofs.Drafting.{half_changed, half-none, half-all, part-half, with_next, with_own, part_lies}
 
@@ -28,7 +27,7 @@ half-skip new old n same =
 
 none_turned : (new old : NumberSet) (n : ℕ) → part_of new n ≡ part_of old n → 0 ≡ set.len (part_of (symmetric new old) n)
 none_turned new old n same =
-    (left_alone (part_of old n) (part_of old n) (record { list = None; pixels = 0 }) refl refl).1 ∙ turned_in new old (part_of old n) (part_of old n) n refl (sym same)
+    same_turned (part_of old n) (part_of old n) refl ∙ turned_in new old (part_of old n) (part_of old n) n refl (sym same)
 
 passed : (new old : NumberSet) (n d : ℕ) → ((k : ℕ) → n ≤ k → k < n + d → part_of new k ≡ part_of old k) → IsSameBelow new old n (n + d)
 passed new old n zero same =
@@ -111,6 +110,14 @@ turn_done change old now after turned more b others t half count = record {
   half = half;
   count = (λ i. t.count i + count i) ∙ size-next (symmetric (changed change old) old) b;
 }
+
+-- part b is left as it is
+pub turn_left : (change : Change) (old now : NumberSet) (turned b : ℕ) (others : List ℕ) → IsTurn change old now turned b others
+    → part_of (changed change old) b ≡ part_of old b → IsHalfway change old now turned (b + 1) others
+turn_left change old now turned b others t same =
+    let none : turned + 0 ≡ turned = omega arith in
+    subst (λ k. IsHalfway change old now k (b + 1) others) none
+    (turn_done change old now now turned 0 b others t (t.half ∙ half-skip (changed change old) old b same) (none_turned (changed change old) old b same))
 
 -- at its end the set is changed, and the pixels are counted
 pub walk_ends : (change : Change) → IsChange change → (old now : NumberSet) (turned n : ℕ) (coming : List ℕ) → IsWithin old pixels → coming ≡ []

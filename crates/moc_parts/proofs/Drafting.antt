@@ -14,8 +14,8 @@ use Rattle.moc_ranges.specs.Lemmas.{is_pixel}
 use Rattle.moc_ranges.specs.Operations.{pixels, base_pixel_size, part_of, IsWithin}
 use Rattle.moc_parts.specs.declared.change.Change.{Change}
 use Rattle.moc_parts.specs.Private.Changes.{changed, changed_part, IsChange}
-use Rattle.moc_parts.specs.Parts.{union_of, parts_below, AreParts}
-use Rattle.moc_parts.specs.Private.Drafts.{current_lists, sets_of, with_part}
+use Rattle.moc_parts.specs.Parts.{union_of, parts_below}
+use Rattle.moc_parts.specs.Private.Drafts.{current_lists, sets_of, with_part, AreParts}
 use Rattle.moc_parts.specs.Prepared.{found_in}
 use Rattle.moc_parts.proofs.Members.{has-union, has-difference, and_true, or_true}
 use Rattle.moc_parts.proofs.PartLaw.{part_law}

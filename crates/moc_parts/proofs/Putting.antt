@@ -9,8 +9,8 @@ use Rattle.moc_lists.specs.Lemmas.Members.{same_members, contains-kept}
 use Rattle.moc_ranges.specs.Lemmas.Members.{contains-part_of}
 use Rattle.moc_ranges.specs.Operations.{base_pixel_size, pixels, part_of, IsWithin}
 use Rattle.moc_parts.specs.Commands.{parts_met}
-use Rattle.moc_parts.specs.Parts.{union_of, parts_below, AreParts}
-use Rattle.moc_parts.specs.Private.Drafts.{with_part}
+use Rattle.moc_parts.specs.Parts.{union_of, parts_below}
+use Rattle.moc_parts.specs.Private.Drafts.{with_part, AreParts}
 use Rattle.moc_parts.proofs.Members as members
 use Rattle.moc_parts.proofs.Counts.{parts_met_some}
 use Rattle.moc_parts.proofs.PartLaw.{part-union}

@@ -1,6 +1,5 @@
 -- How many pixels a change adds or removes.
-use Rattle.std.proofs.Common.{◌≡◌, ℕ, ◌+◌, ◌-◌, ◌/◌, Bool, true, false, not, ◌&&◌, ◌||◌, nat_eq, nat_lt, inl, inr, refl, sym, ap, subst, ◌∙◌}
-use Rattle.std.specs.Prelude.{None}
+use Rattle.std.proofs.Common.{◌≡◌, ℕ, ◌+◌, ◌-◌, ◌/◌, Bool, true, false, not, ◌&&◌, ◌||◌, nat_eq, nat_lt, inl, inr, refl, sym, ap, ◌∙◌}
 use Rattle.std.specs.Ordering.{nat_cmp}
 use Rattle.std.specs.FinSet as set
 use Rattle.moc_lists.specs.RangeList.{NumberSet, pixel_count}
@@ -9,8 +8,6 @@ use Rattle.moc_ranges.specs.Lemmas.Members.{contains-complement, contains-part_o
 use Rattle.moc_ranges.specs.Operations.{pixels, base_pixel_size, complement, part_of, symmetric, IsWithin}
 use Rattle.moc_ranges.specs.Cells.{degrade}
 use Rattle.moc_lists.specs.Lemmas.Sizes.{len_parts}
-use Rattle.moc_parts.specs.declared.change.Altered.{Altered}
-use Rattle.moc_parts.specs.Private.Changes.{Alters}
 use Rattle.moc_parts.proofs.Members.{has-union, has-intersection, has-difference, has-empty, and_true, or_true}
 use Rattle.moc_parts.proofs.Counts.{in_degrade, degrade_added}
 use Rattle.moc_parts.proofs.Sums.{lacking, dropped}
@@ -128,20 +125,17 @@ turned_in new old part made b p m = (λ i. set.len (symmetric (m i) (p i))) ∙ 
 
 -- ---- what the program finds
 
--- a list is left where what becomes of it is the same
-pub left_alone : (old new : NumberSet) (altered : Altered) → new ≡ old → altered ≡ record { list = None; pixels = 0 } → Alters old new altered
-left_alone old new altered same is = subst (λ (x : Altered). Alters old new x) (sym is) (sym same, none_turned)
+-- where two sets are the same no pixel is added or removed
+pub same_turned : (old new : NumberSet) → new ≡ old → 0 ≡ set.len (symmetric new old)
+same_turned old new same = sym (ap set.len (same_members (symmetric new old) set.empty (λ q. ap (λ s. set.contains (symmetric s old) q) same ∙ contains-symmetric old old q ∙ nowhere (set.contains old q) ∙ sym (has-empty q))) ∙ set.len-empty nat_cmp)
   where
     nowhere : (x : Bool) → ((x && not x) || (x && not x)) ≡ false
     nowhere true = refl
     nowhere false = refl
 
-    none_turned : 0 ≡ set.len (symmetric new old)
-    none_turned = sym (ap set.len (same_members (symmetric new old) set.empty (λ q. ap (λ s. set.contains (symmetric s old) q) same ∙ contains-symmetric old old q ∙ nowhere (set.contains old q) ∙ sym (has-empty q))) ∙ set.len-empty nat_cmp)
-
--- so where no pixel is added or removed
-pub none_altered : (old new : NumberSet) (n : ℕ) (altered : Altered) → n ≡ set.len (symmetric new old) → n ≡ 0 → altered ≡ record { list = None; pixels = 0 } → Alters old new altered
-none_altered old new n altered count none is = left_alone old new altered (alike new old (sym count ∙ none)) is
+-- and where none is, they are the same
+pub none_altered : (old new : NumberSet) (n : ℕ) → n ≡ set.len (symmetric new old) → n ≡ 0 → new ≡ old
+none_altered old new n count none = alike new old (sym count ∙ none)
 
 -- a list with more pixels, and the counts of the program
 pub lacking_pixels : (list more : NumberSet) → set.len more - set.len (set.intersection list more) ≡ set.len (symmetric (set.union list more) list)

@@ -11,8 +11,9 @@ use Rattle.moc_ranges.specs.Lemmas.Members.{contains-part_of, contains-pixels}
 use Rattle.moc_ranges.specs.Lemmas.{in_base_pixels, is_pixel}
 use Rattle.moc_ranges.specs.Operations.{pixels, base_pixel_size, part_of, IsWithin}
 use Rattle.moc_parts.specs.Objects.{base_pixel}
-use Rattle.moc_parts.specs.Parts.{union_of, parts_below, AreParts, LieInParts}
+use Rattle.moc_parts.specs.Parts.{union_of, parts_below, LieInParts}
 use Rattle.moc_parts.proofs.Members.{has-union, has-empty, and_true, or_true, or_left, or_right, both, same_test, clash, in_part, of_part}
+use Rattle.moc_parts.specs.Private.Drafts.{AreParts}
 
 -- the pixels of a set in its first n parts
 unfoldable pub first_parts : NumberSet → ℕ → NumberSet

@@ -76,15 +76,10 @@ reply_on a (Near c) = reply.Near (meets a (surroundings c))
 
 -- whether a command may change the set
 abbrev pub is_update : Command → Bool
-is_update (Add x) = true
-is_update (Remove x) = true
-is_update (Keep x) = true
-is_update (Claim x) = true
-is_update Invert = true
-is_update (Degrade order) = true
 is_update (Count x) = false
 is_update (Read x) = false
 is_update (Near c) = false
+is_update c = true
 
 -- the commands as an object
 abbrev pub commands : Object Command Reply

@@ -7,7 +7,7 @@ use Rattle.moc_ranges.specs.Operations.{part_of, IsWithin, pixels}
 use Rattle.moc_parts.specs.Objects.{base_pixel, IsLocal}
 use Rattle.moc_parts.specs.Commands.{commands, is_update, operand_set, parts_met, IsCommand, IsOperand}
 use Rattle.moc_parts.specs.Batches.{batches, set_after_all, AreCommands}
-use Rattle.moc_parts.specs.Parts.{parts_below, union_of, AreParts, LieInParts}
+use Rattle.moc_parts.specs.Parts.{parts_below, union_of, LieInParts}
 use Rattle.moc_parts.specs.declared.command.Operand.{Operand}
 use Rattle.moc_parts.specs.declared.command.Command.{Command}
 
@@ -31,7 +31,7 @@ QueriesLeaveTheSet = (cs : List Command) → list_any is_update cs ≡ false →
 -- Twelve sets that lie each in its own base pixel are the parts of their union, which lies in the sky; a pixel is in
 -- the union where it is in the set of its own base pixel.
 pub record SetsAreUnitedByParts : Type 0 where
-  pub parts : (sets : List NumberSet) → LieInParts sets → AreParts sets
+  pub parts : (sets : List NumberSet) → LieInParts sets → sets ≡ parts_below (union_of sets) 12
   pub within : (sets : List NumberSet) → LieInParts sets → IsWithin (union_of sets) pixels
   pub found : (sets : List NumberSet) → LieInParts sets → (p : ℕ) → base_pixel p < 12
       → set.contains (union_of sets) p ≡ set.contains (get_or sets (base_pixel p) set.empty) p

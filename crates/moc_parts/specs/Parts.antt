@@ -16,10 +16,6 @@ unfoldable pub parts_below : NumberSet → ℕ → List NumberSet
 parts_below a zero = []
 parts_below a (suc n) = parts_below a n ++ (part_of a n ∷ [])
 
--- the sets are the twelve parts of their union
-abbrev pub AreParts : List NumberSet → Type 0
-AreParts sets = sets ≡ parts_below (union_of sets) 12
-
 -- there are twelve sets, and each lies in its own base pixel
 pub record LieInParts (sets : List NumberSet) : Type 0 where
   pub twelve : length sets ≡ 12

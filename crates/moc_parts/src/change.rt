@@ -1,5 +1,5 @@
 //! Changes of a set that are made part by part.
-ghost use Rattle.std.specs.Prelude.{◌≡◌, IfOk, None};
+ghost use Rattle.std.specs.Prelude.{◌≡◌, IfOk};
 ghost use Rattle.std.specs.FinSet as set;
 ghost use Rattle.moc_ranges.specs.Cells.{degrade};
 ghost use Rattle.moc_ranges.specs.Operations.{complement, part_of};
@@ -26,10 +26,10 @@ pub(crate) enum Change<'a> {
     Degrade(Order),
 }
 
-/// What a change makes of a list: a new one where it alters it, and how many pixels it adds or removes.
+/// What a change makes of a list that it alters: a new one, and how many pixels it adds or removes.
 #[derive(Drop)]
 pub(crate) struct Altered {
-    pub list: Option<Coverage>,
+    pub list: Coverage,
     pub pixels: u64,
 }
 
@@ -45,8 +45,13 @@ impl<'a> Change<'a> {
         }
     }
 
-    /// What the change makes of the list of one part.
-    pub(crate) fn part(&self, alloc: Global, list: &Coverage, part: Part) -> Result<Altered, Memory>
+    /// What the change makes of the list of one part, if it alters it.
+    pub(crate) fn part(
+        &self,
+        alloc: Global,
+        list: &Coverage,
+        part: Part,
+    ) -> Result<Option<Altered>, Memory>
         requires change { IsChange self.now }
         requires list { part_of list.now part ≡ list.now }
         ensures { IfOk result (λ new. Alters list.now (changed_part self.now list.now part) new) }
@@ -61,74 +66,59 @@ impl<'a> Change<'a> {
     }
 }
 
-/// A list that a change leaves.
-fn unaltered() -> Altered
-    ensures { result ≡ record { list = None; pixels = 0 } }
-{
-    Altered {
-        list: None,
-        pixels: 0,
-    }
-}
-
 /// A list with more pixels.
-fn join(alloc: Global, list: &Coverage, more: &Coverage) -> Result<Altered, Memory>
+fn join(alloc: Global, list: &Coverage, more: &Coverage) -> Result<Option<Altered>, Memory>
     ensures { IfOk result (λ new. Alters list.now (set.union list.now more.now) new) }
 {
     let pixels = more.count() - list.count_common(more);
     if pixels == 0 {
-        return Ok(unaltered());
+        return Ok(None);
     }
-    let list = Some(list.union(alloc, more)?);
-    Ok(Altered { list, pixels })
+    let list = list.union(alloc, more)?;
+    Ok(Some(Altered { list, pixels }))
 }
 
 /// A list without the pixels of a set.
-fn leave(alloc: Global, list: &Coverage, others: &Coverage) -> Result<Altered, Memory>
+fn leave(alloc: Global, list: &Coverage, others: &Coverage) -> Result<Option<Altered>, Memory>
     ensures { IfOk result (λ new. Alters list.now (set.difference list.now others.now) new) }
 {
     let pixels = list.count_common(others);
     if pixels == 0 {
-        return Ok(unaltered());
+        return Ok(None);
     }
-    let list = Some(list.difference(alloc, others)?);
-    Ok(Altered { list, pixels })
+    let list = list.difference(alloc, others)?;
+    Ok(Some(Altered { list, pixels }))
 }
 
 /// Of a list the pixels that a set has.
-fn share(alloc: Global, list: &Coverage, others: &Coverage) -> Result<Altered, Memory>
+fn share(alloc: Global, list: &Coverage, others: &Coverage) -> Result<Option<Altered>, Memory>
     ensures { IfOk result (λ new. Alters list.now (set.intersection list.now others.now) new) }
 {
     let pixels = list.count() - list.count_common(others);
     if pixels == 0 {
-        return Ok(unaltered());
+        return Ok(None);
     }
-    let list = Some(list.intersection(alloc, others)?);
-    Ok(Altered { list, pixels })
+    let list = list.intersection(alloc, others)?;
+    Ok(Some(Altered { list, pixels }))
 }
 
 /// The pixels of a part that its list lacks.
-fn invert(alloc: Global, list: &Coverage, part: Part) -> Result<Altered, Memory>
+fn invert(alloc: Global, list: &Coverage, part: Part) -> Result<Option<Altered>, Memory>
     ensures { IfOk result (λ new. Alters list.now (part_of (complement list.now) part) new) }
 {
     let new = list.complement(alloc)?.part(alloc, part.get())?;
-    Ok(Altered {
-        pixels: list.count() + new.count(),
-        list: Some(new),
-    })
+    let pixels = list.count() + new.count();
+    Ok(Some(Altered { list: new, pixels }))
 }
 
 /// A list, degraded.
-fn degrade(alloc: Global, list: &Coverage, order: Order) -> Result<Altered, Memory>
+fn degrade(alloc: Global, list: &Coverage, order: Order) -> Result<Option<Altered>, Memory>
     ensures { IfOk result (λ new. Alters list.now (degrade list.now order) new) }
 {
     let new = list.degrade(alloc, order)?;
     let pixels = new.count() - list.count();
     if pixels == 0 {
-        return Ok(unaltered());
+        return Ok(None);
     }
-    Ok(Altered {
-        list: Some(new),
-        pixels,
-    })
+    Ok(Some(Altered { list: new, pixels }))
 }

@@ -4,8 +4,8 @@ ghost use Rattle.std.specs.FinSet as set;
 ghost use Rattle.moc_ranges.specs.Operations.{meets, part_of, symmetric, IsWithin, pixels};
 ghost use Rattle.moc_parts.specs.Private.Changes.{changed, IsChange};
 ghost use Rattle.moc_parts.specs.Commands.{parts_met};
-ghost use Rattle.moc_parts.specs.Private.Drafts.{current_lists, sets_of, with_part};
-ghost use Rattle.moc_parts.specs.Parts.{union_of, parts_below, AreParts};
+ghost use Rattle.moc_parts.specs.Private.Drafts.{current_lists, sets_of, with_part, AreParts};
+ghost use Rattle.moc_parts.specs.Parts.{union_of, parts_below};
 ghost use Rattle.moc_parts.specs.Prepared.{found_sets, is_given, part_if};
 
 mod commands;
@@ -27,8 +27,8 @@ pub(crate) struct Draft<'a> {
 
 impl<'a> Model for Draft<'a> {
     ghost use Rattle.std.specs.Prelude.{◌≡◌, length};
-    ghost use Rattle.moc_parts.specs.Private.Drafts.{Drafted, drafted_code, current_lists, sets_of};
-    ghost use Rattle.moc_parts.specs.Parts.{union_of, AreParts};
+    ghost use Rattle.moc_parts.specs.Private.Drafts.{Drafted, drafted_code, current_lists, sets_of, AreParts};
+    ghost use Rattle.moc_parts.specs.Parts.{union_of};
 
     ghost Value = { Drafted };
 
@@ -114,9 +114,8 @@ impl<'a> Draft<'a> {
         self.lies_in_sky();
         let mut turned = 0;
         for part in change.parts() {
-            let Altered { list: new, pixels } = change.part(alloc, self.part(part), part)?;
-            turned += pixels;
-            if let Some(list) = new {
+            if let Some(Altered { list, pixels }) = change.part(alloc, self.part(part), part)? {
+                turned += pixels;
                 self.put(part, list)?;
             }
         }

@@ -27,9 +27,10 @@ pub struct Map {
 
 impl Model for Map {
     ghost use Rattle.std.specs.Ordering.{nat_cmp};
+    ghost use Rattle.moc_parts.specs.Private.Drafts.{AreParts};
     ghost use Rattle.std.specs.FinSet as set;
     ghost use Rattle.std.specs.Coded.{coded_ℕ};
-    ghost use Rattle.moc_parts.specs.Parts.{union_of, AreParts};
+    ghost use Rattle.moc_parts.specs.Parts.{union_of};
 
     ghost Value = { set.FinSet nat_cmp };
 

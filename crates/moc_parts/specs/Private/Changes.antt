@@ -1,6 +1,5 @@
 -- What a change makes of a set, and of one of its parts.
-use Rattle.std.specs.Prelude.{◌≡◌, ℕ, ◌≤◌, ◌<◌, false}
-use Rattle.std.specs.Option.{unwrap_or}
+use Rattle.std.specs.Prelude.{◌≡◌, ℕ, ◌≤◌, ◌<◌, false, Option, None, Some}
 use Rattle.std.specs.FinSet as set
 use Rattle.moc_lists.specs.RangeList.{NumberSet}
 use Rattle.moc_ranges.specs.Operations.{pixels, complement, part_of, symmetric, IsWithin}
@@ -39,6 +38,7 @@ LeavesOthers change parts =
     (b : ℕ) → b < 12 → set.contains parts b ≡ false
     → (part : NumberSet) → part_of part b ≡ part → changed_part change part b ≡ part
 
--- a list becomes another: the new one is there if it differs, and so many pixels are added or removed
-abbrev pub Alters : NumberSet → NumberSet → Altered → Type 0
-Alters old new altered = (unwrap_or altered.list old ≡ new) × (altered.pixels ≡ set.len (symmetric new old))
+-- a list becomes another, and so many pixels are added or removed; or it is left
+abbrev pub Alters : NumberSet → NumberSet → Option Altered → Type 0
+Alters old new None = new ≡ old
+Alters old new (Some altered) = (altered.list ≡ new) × (altered.pixels ≡ set.len (symmetric new old))

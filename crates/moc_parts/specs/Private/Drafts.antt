@@ -1,5 +1,6 @@
 -- A set in twelve parts while a batch is done on it: the lists that were found, and those that were made anew.
-use Rattle.std.specs.Prelude.{ℕ, suc, ◌/◌, List, [], ◌∷◌, Option, None, Some, map, not, nat_eq, refl, if◌then◌else◌}
+use Rattle.std.specs.Prelude.{◌≡◌, ℕ, suc, ◌/◌, List, [], ◌∷◌, Option, None, Some, map, not, nat_eq, refl}
+use Rattle.std.specs.Prelude.{if◌then◌else◌}
 use Rattle.std.specs.List.{range_with_len}
 use Rattle.std.specs.Coded.{Coded, code_by, coded×, coded_list, coded_ℕ}
 use Rattle.std.specs.FinSet as set
@@ -7,10 +8,15 @@ use Rattle.std.specs.Borrow.{Bor}
 use Rattle.std.specs.Option.{unwrap_or}
 use Rattle.moc_lists.specs.RangeList.{NumberSet}
 use Rattle.moc_ranges.specs.Operations.{base_pixel_size}
+use Rattle.moc_parts.specs.Parts.{parts_below, union_of}
 
 -- the sets of the lists that were found
 abbrev pub sets_of : List (Bor NumberSet) → List NumberSet
 sets_of lists = map (λ list. list.now) lists
+
+-- the sets are the twelve parts of their union
+abbrev pub AreParts : List NumberSet → Type 0
+AreParts sets = sets ≡ parts_below (union_of sets) 12
 
 -- of each part the set that was made, or else the one that was found
 abbrev pub current_lists : List NumberSet → List (Option NumberSet) → List NumberSet

@@ -12,9 +12,9 @@ overflow_sub-pixels c =
 
 pub returns-then-pixels-eq0 : goal.returns-then-pixels-eq0
 returns-then-pixels-eq0 c =
-    none_altered c.args.list.now (degrade c.args.list.now c.args.order) _ c.unaltered.result
+    none_altered c.args.list.now (degrade c.args.list.now c.args.order) _
     ((λ i. (c.count.ensures.size ∙ ap set.len c.in_ok-new.ensures) i - c.count-2.ensures.size i) ∙ added_pixels c.args.list.now c.args.order c.count-2.ensures.within)
-    c.if-pixels-eq0.true c.unaltered.ensures
+    c.if-pixels-eq0.true
 
 pub returns : goal.returns
 returns c = (c.in_ok-new.ensures, (λ i. (c.count.ensures.size ∙ ap set.len c.in_ok-new.ensures) i - c.count-2.ensures.size i) ∙ added_pixels c.args.list.now c.args.order c.count-2.ensures.within)

@@ -9,8 +9,8 @@ overflow_sub-pixels c = omega (arith, shared_less c.args.list.now c.args.more.no
 
 pub returns-then-pixels-eq0 : goal.returns-then-pixels-eq0
 returns-then-pixels-eq0 c =
-    none_altered c.args.list.now (set.union c.args.list.now c.args.more.now) _ c.unaltered.result
-    ((λ i. c.count.ensures.size i - c.count_common.ensures.size i) ∙ lacking_pixels c.args.list.now c.args.more.now) c.if-pixels-eq0.true c.unaltered.ensures
+    none_altered c.args.list.now (set.union c.args.list.now c.args.more.now) _
+    ((λ i. c.count.ensures.size i - c.count_common.ensures.size i) ∙ lacking_pixels c.args.list.now c.args.more.now) c.if-pixels-eq0.true
 
 pub returns : goal.returns
-returns c = (c.in_ok-union.ensures.set, (λ i. c.count.ensures.size i - c.count_common.ensures.size i) ∙ lacking_pixels c.args.list.now c.args.more.now)
+returns c = (c.in_ok-list.ensures.set, (λ i. c.count.ensures.size i - c.count_common.ensures.size i) ∙ lacking_pixels c.args.list.now c.args.more.now)

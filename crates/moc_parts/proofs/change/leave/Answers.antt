@@ -5,8 +5,8 @@ use Rattle.moc_parts.proofs.change.leave.Goals as goal
 
 pub returns-then-pixels-eq0 : goal.returns-then-pixels-eq0
 returns-then-pixels-eq0 c =
-    none_altered c.args.list.now (set.difference c.args.list.now c.args.others.now) _ c.unaltered.result
-    (c.count_common-pixels.ensures.size ∙ common_pixels c.args.list.now c.args.others.now) c.if-pixels-eq0.true c.unaltered.ensures
+    none_altered c.args.list.now (set.difference c.args.list.now c.args.others.now) _
+    (c.count_common-pixels.ensures.size ∙ common_pixels c.args.list.now c.args.others.now) c.if-pixels-eq0.true
 
 pub returns : goal.returns
-returns c = (c.in_ok-difference.ensures.set, c.count_common-pixels.ensures.size ∙ common_pixels c.args.list.now c.args.others.now)
+returns c = (c.in_ok-list.ensures.set, c.count_common-pixels.ensures.size ∙ common_pixels c.args.list.now c.args.others.now)

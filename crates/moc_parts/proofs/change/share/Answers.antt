@@ -9,8 +9,8 @@ overflow_sub-pixels c = omega (arith, kept_less c.args.list.now c.args.others.no
 
 pub returns-then-pixels-eq0 : goal.returns-then-pixels-eq0
 returns-then-pixels-eq0 c =
-    none_altered c.args.list.now (set.intersection c.args.list.now c.args.others.now) _ c.unaltered.result
-    ((λ i. c.count.ensures.size i - c.count_common.ensures.size i) ∙ dropped_pixels c.args.list.now c.args.others.now) c.if-pixels-eq0.true c.unaltered.ensures
+    none_altered c.args.list.now (set.intersection c.args.list.now c.args.others.now) _
+    ((λ i. c.count.ensures.size i - c.count_common.ensures.size i) ∙ dropped_pixels c.args.list.now c.args.others.now) c.if-pixels-eq0.true
 
 pub returns : goal.returns
-returns c = (c.in_ok-intersection.ensures.set, (λ i. c.count.ensures.size i - c.count_common.ensures.size i) ∙ dropped_pixels c.args.list.now c.args.others.now)
+returns c = (c.in_ok-list.ensures.set, (λ i. c.count.ensures.size i - c.count_common.ensures.size i) ∙ dropped_pixels c.args.list.now c.args.others.now)

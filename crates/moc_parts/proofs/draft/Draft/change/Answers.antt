@@ -1,15 +1,14 @@
-use Rattle.std.proofs.Common.{◌≡◌, ◌+◌, ◌∙◌, ℕ, refl, sym, ap, arith}
-use Rattle.std.specs.Option.{unwrap_or}
+use Rattle.std.proofs.Common.{◌≡◌, ◌+◌, ◌∙◌, ℕ, refl, sym, ap, subst, arith}
 use Rattle.std.specs.FinSet as set
 use Rattle.moc_lists.specs.RangeList.{NumberSet}
 use Rattle.moc_ranges.specs.Operations.{part_of, symmetric}
-use Rattle.moc_parts.specs.Private.Changes.{changed}
+use Rattle.moc_parts.specs.Private.Changes.{changed, changed_part, Alters}
 use Rattle.moc_parts.specs.Private.Drafts.{with_part}
 use Rattle.moc_parts.proofs.PartLaw.{changed_within}
 use Rattle.moc_parts.proofs.Sums.{size_bound}
 use Rattle.moc_parts.proofs.Turned.{turned_in, turned_within}
-use Rattle.moc_parts.proofs.Changing.{IsTurn, walk_begins, walk_ends, turn_comes, turn_done}
-use Rattle.moc_parts.proofs.Drafting.{half_changed, with_next, with_own, part_lies, part_was, part_becomes}
+use Rattle.moc_parts.proofs.Changing.{IsTurn, walk_begins, walk_ends, turn_comes, turn_done, turn_left}
+use Rattle.moc_parts.proofs.Drafting.{with_next, part_lies, part_was, part_becomes}
 use Rattle.moc_parts.proofs.draft.Draft.change.Goals as goal
 
 pub loop-part-init : goal.loop-part-init
@@ -32,8 +31,8 @@ overflow_add-turned c =
     c.in-Some.ensures.steps c.loop-part.invariant.1 in
     let part : c.part.result.now ≡ part_of old b = part_was new old c.loop-part.self.set c.part.result.now b turn.half c.part.ensures.list in
     let becomes = part_becomes change c.requires old c.part.result.now b part in
-    let more : c.in_ok-new.field-0.pixels ≡ set.len (part_of (symmetric new old) b) =
-    c.in_ok-new.ensures.1 ∙ turned_in new old c.part.result.now _ b part becomes in
+    let did = subst (Alters c.part.result.now (changed_part change c.part.result.now b)) c.in-Some-2.is c.in_ok-list.ensures in
+    let more : c.in-Some-2.field-0.pixels ≡ set.len (part_of (symmetric new old) b) = did.1 ∙ turned_in new old c.part.result.now _ b part becomes in
     let within = c.lies_in_sky.ensures in
     let bound = size_bound (symmetric new old) b (turned_within new old (changed_within change old c.requires within) within) in
     omega (arith, turn.count, more, bound)
@@ -49,12 +48,12 @@ put-requires c =
     c.in-Some.ensures.steps c.loop-part.invariant.1 in
     let part : c.part.result.now ≡ part_of old b = part_was new old c.loop-part.self.set c.part.result.now b turn.half c.part.ensures.list in
     let becomes = part_becomes change c.requires old c.part.result.now b part in
-    let made : unwrap_or c.in_ok-new.field-0.list c.part.result.now ≡ part_of new b = c.in_ok-new.ensures.0 ∙ becomes in
-    let list : c.in-Some-new.list ≡ part_of new b = ap (λ o. unwrap_or o c.part.result.now) (sym c.in-Some-new.is) ∙ made in
+    let did = subst (Alters c.part.result.now (changed_part change c.part.result.now b)) c.in-Some-2.is c.in_ok-list.ensures in
+    let list : c.in-Some-2.field-0.list ≡ part_of new b = did.0 ∙ becomes in
     ap (λ p. part_of p b) list ∙ part_lies new b ∙ sym list
 
-pub loop-part-preserved-in-Continue-branch-2 : goal.loop-part-preserved-in-Continue-branch-2
-loop-part-preserved-in-Continue-branch-2 c =
+pub loop-part-preserved-in-Continue-branch-3 : goal.loop-part-preserved-in-Continue-branch-3
+loop-part-preserved-in-Continue-branch-3 c =
     let change = c.args.change.now in
     let old : NumberSet = c.args.self.now.set in
     let new : NumberSet = changed change old in
@@ -64,12 +63,11 @@ loop-part-preserved-in-Continue-branch-2 c =
     c.in-Some.ensures.steps c.loop-part.invariant.1 in
     let part : c.part.result.now ≡ part_of old b = part_was new old c.loop-part.self.set c.part.result.now b turn.half c.part.ensures.list in
     let becomes = part_becomes change c.requires old c.part.result.now b part in
-    let more : c.in_ok-new.field-0.pixels ≡ set.len (part_of (symmetric new old) b) =
-    c.in_ok-new.ensures.1 ∙ turned_in new old c.part.result.now _ b part becomes in
-    let made : unwrap_or c.in_ok-new.field-0.list c.part.result.now ≡ part_of new b = c.in_ok-new.ensures.0 ∙ becomes in
-    let list : c.in-Some-new.list ≡ part_of new b = ap (λ o. unwrap_or o c.part.result.now) (sym c.in-Some-new.is) ∙ made in (
+    let did = subst (Alters c.part.result.now (changed_part change c.part.result.now b)) c.in-Some-2.is c.in_ok-list.ensures in
+    let more : c.in-Some-2.field-0.pixels ≡ set.len (part_of (symmetric new old) b) = did.1 ∙ turned_in new old c.part.result.now _ b part becomes in
+    let list : c.in-Some-2.field-0.list ≡ part_of new b = did.0 ∙ becomes in (
       b + 1,
-      turn_done change old c.loop-part.self.set _ c.loop-part.turned c.in_ok-new.field-0.pixels b c.next.new.self turn
+      turn_done change old c.loop-part.self.set _ c.loop-part.turned c.in-Some-2.field-0.pixels b c.next.new.self turn
           (c.in_ok-put.ensures.set ∙ (λ i. with_part (turn.half i) b (list i)) ∙ with_next new old b) more,
       c.in_ok-put.ensures.found ∙ c.loop-part.invariant.2,
     )
@@ -85,14 +83,9 @@ loop-part-preserved c =
     c.in-Some.ensures.steps c.loop-part.invariant.1 in
     let part : c.part.result.now ≡ part_of old b = part_was new old c.loop-part.self.set c.part.result.now b turn.half c.part.ensures.list in
     let becomes = part_becomes change c.requires old c.part.result.now b part in
-    let more : c.in_ok-new.field-0.pixels ≡ set.len (part_of (symmetric new old) b) =
-    c.in_ok-new.ensures.1 ∙ turned_in new old c.part.result.now _ b part becomes in
-    let made : unwrap_or c.in_ok-new.field-0.list c.part.result.now ≡ part_of new b = c.in_ok-new.ensures.0 ∙ becomes in
-    let same : part_of (half_changed new old b) b ≡ part_of new b =
-    sym (c.part.ensures.list ∙ ap (λ a. part_of a b) turn.half) ∙ ap (λ o. unwrap_or o c.part.result.now) (sym c.in_default.is) ∙ made in (
+    let did = subst (Alters c.part.result.now (changed_part change c.part.result.now b)) c.in_default.is c.in_ok-list.ensures in (
       b + 1,
-      turn_done change old c.loop-part.self.set c.loop-part.self.set c.loop-part.turned c.in_ok-new.field-0.pixels b c.next.new.self turn
-          (turn.half ∙ sym (with_own (half_changed new old b) b) ∙ ap (λ p. with_part (half_changed new old b) b p) same ∙ with_next new old b) more,
+      turn_left change old c.loop-part.self.set c.loop-part.turned b c.next.new.self turn (sym becomes ∙ did ∙ part),
       c.loop-part.invariant.2,
     )
 

@@ -3,11 +3,12 @@ use Rattle.std.specs.FinSet as set
 use Rattle.std.proofs.lemmas.List.{get_or-map}
 use Rattle.moc_lists.specs.RangeList.{NumberSet}
 use Rattle.std.specs.Option.{option_copied}
-use Rattle.moc_parts.specs.Parts.{union_of, AreParts}
+use Rattle.moc_parts.specs.Parts.{union_of}
 use Rattle.moc_parts.specs.Prepared.{found_in, found_sets}
 use Rattle.moc_parts.proofs.Twelve.{parts_length}
 use Rattle.moc_parts.proofs.Drafting.{filled_next, filled_all, found_of}
 use Rattle.moc_parts.proofs.draft.Draft.from_found.Goals as goal
+use Rattle.moc_parts.specs.Private.Drafts.{AreParts}
 
 pub loop-b-preserved : goal.loop-b-preserved
 loop-b-preserved c =

@@ -2,8 +2,8 @@ use Rattle.std.proofs.Common.{◌≡◌, ◌∙◌, ap, sym, subst, length, Some
 use Rattle.std.specs.Prelude.{set as set_at}
 use Rattle.std.proofs.lemmas.List.{length-set}
 use Rattle.moc_lists.specs.RangeList.{NumberSet}
-use Rattle.moc_parts.specs.Private.Drafts.{current_lists, sets_of, with_part}
-use Rattle.moc_parts.specs.Parts.{union_of, AreParts}
+use Rattle.moc_parts.specs.Private.Drafts.{current_lists, sets_of, with_part, AreParts}
+use Rattle.moc_parts.specs.Parts.{union_of}
 use Rattle.moc_parts.proofs.Twelve.{parts_within, made_parts, made_union}
 use Rattle.moc_parts.proofs.Drafting.{newest_set, with_part_within}
 use Rattle.moc_parts.proofs.draft.Draft.put.Goals as goal

@@ -1,8 +1,8 @@
 use Rattle.std.proofs.Common.{◌≡◌, length, sym, ap, subst, ◌∙◌}
 use Rattle.moc_lists.specs.RangeList.{NumberSet}
 use Rattle.std.specs.Prelude.{List}
-use Rattle.moc_parts.specs.Private.Drafts.{current_lists, sets_of}
-use Rattle.moc_parts.specs.Parts.{AreParts, union_of}
+use Rattle.moc_parts.specs.Private.Drafts.{current_lists, sets_of, AreParts}
+use Rattle.moc_parts.specs.Parts.{union_of}
 use Rattle.moc_parts.proofs.Drafting.{current_lists-none}
 use Rattle.moc_parts.proofs.draft.Draft.unchanged.Goals as goal
 
