@@ -306,9 +306,9 @@ fn numbers(rt: &impl Abort, alloc: Global, text: &[u8]) -> Figures {
 fn figures_one_by_one(rt: HostRuntime) {
     let figures = numbers(&rt, rt.alloc(), b"1/0-3 2/20 29/".as_slice());
     assert_eq!(&rt; figures.deepest(), Order::new(29));
-    assert_eq!(&rt; figures.pixels(), 306244774661193728);
+    assert_eq!(&rt; figures.count(), 306244774661193728);
     assert_eq!(&rt; figures.share(), 88541666666);
-    assert_eq!(&rt; (figures.ranges(), figures.cells()), (2, 2));
+    assert_eq!(&rt; (figures.range_count(), figures.cell_count()), (2, 2));
     for (order, cells) in [(0, 1), (1, 0), (2, 1), (29, 0)] {
         assert_eq!(&rt; figures.cells_of(Order::of(order)), cells, "order {order}");
     }

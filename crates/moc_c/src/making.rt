@@ -3,7 +3,7 @@ ghost use Rattle.std.specs.Prelude.{◌≡◌, Ok, Err};
 ghost use Rattle.std.specs.FinSet as set;
 ghost use Rattle.moc_ranges.specs.Cells.{degrade};
 ghost use Rattle.moc_ranges.specs.Operations.{complement, symmetric, pixels};
-ghost use Rattle.moc_forms.specs.Combining.{combined};
+ghost use Rattle.moc_forms.specs.Combining.{set_of_two};
 ghost use Rattle.moc_forms.specs.Changing.{changed_set};
 ghost use Rattle.moc_c.specs.Answers.{both, Frees, made_of, Makes, of_two, order_numbered, set_at, sets_at};
 
@@ -18,7 +18,7 @@ use std::alloc::Global;
 impl Shelf {
     /// Keeps what an operation makes of two sets.
     fn combine(&mut self, alloc: Global, operation: Operation, a: u64, b: u64) -> Outcome
-        ensures { Makes self.old self.new (made_of (of_two (combined operation)) (sets_at self.old a b)) result }
+        ensures { Makes self.old self.new (made_of (of_two (set_of_two operation)) (sets_at self.old a b)) result }
     {
         match self.two(a, b) {
             Ok((first, second)) => {

@@ -1,12 +1,13 @@
 -- What a complaint of a text says.
 use Rattle.std.proofs.Common.{◌≡◌, ◌⊎◌, ◌∙◌, ℕ, List, Option, None, Result, Ok, Err, ap, inl, inr, refl, subst, sym}
-use Rattle.std.specs.Prelude.{IfErr, IsErrAnd, IsOkUnless}
+use Rattle.std.specs.Prelude.{IfErr, IsErrAnd, IsOkUnless, ◌≤◌, length, option_map, string_bytes}
+use Rattle.std.specs.Io.KnownBytes.{Consumes, IsAtEnd}
 use Rattle.moc_conversion.specs.Combining.{IsNotCombined}
 use Rattle.moc_lists.specs.RangeList.{NumberSet}
 use Rattle.moc_text.specs.AsciiText.{IsTooCoarse}
-use Rattle.moc_forms.specs.Forms.{FormFails, IsUnwritten}
+use Rattle.moc_forms.specs.Forms.{FormFails, IsFormFault, IsUnwritten}
 use Rattle.moc_forms.specs.Finding.{form_for, hint_of}
-use Rattle.moc_forms.specs.Places.{IsPlace, line_bytes}
+use Rattle.moc_forms.specs.Places.{IsPlace}
 use Rattle.moc_forms.specs.Quotes.{IsTold}
 use Rattle.moc_forms.specs.declared.finding.Choice.{Choice}
 use Rattle.moc_forms.specs.declared.form.Form.{Form}
@@ -14,7 +15,7 @@ use Rattle.moc_forms.specs.declared.form.Form.TheVariants.{Ascii, Json, Uniq}
 use Rattle.moc_forms.specs.declared.form.FormError.{FormError}
 use Rattle.moc_forms.specs.declared.form.FormError.TheVariants.{Memory}
 use Rattle.moc_forms.specs.declared.place.Place.{Place}
-use Rattle.moc_conversion.specs.Conversion.{IsAll, IsNotConverted, IsNotSaid, IsOfWhole, IsTextFault, IsWhole}
+use Rattle.moc_conversion.specs.Conversion.{IsAll, IsNotConverted, IsNotSaid, IsOfWhole, input_limit}
 use Rattle.moc_conversion.specs.Conversion.{TellsFault}
 use Rattle.moc_conversion.specs.Faults.{want_of_memory}
 use Rattle.moc_conversion.specs.declared.complaint.Complaint.{Complaint}
@@ -25,22 +26,30 @@ use Rattle.moc_conversion.specs.declared.fault.InputFault.TheVariants as fault
 module _ (form : Form) (text : List ℕ) (number : Option ℕ) (error : FormError) (place : Option Place) (c : Complaint)
     (is_place : IsPlace text error place) where
   pub told : FormFails form text error
-      → (c.fault ≡ want_of_memory) ⊎ ((c.fault ≡ fault.Form error) × IsTold number text error place (line_bytes c.place_line) × (c.hint ≡ hint_of form text))
+      → (c.fault ≡ want_of_memory) ⊎ ((c.fault ≡ fault.Form error) × IsTold number text error place (option_map string_bytes c.place_line) × (c.hint ≡ hint_of form text))
       → (c.fault ≡ want_of_memory) ⊎ TellsFault form text number c
   told fails (inl memory) = inl memory
   told (inl want) (inr (as_fault, line, hint)) = inl (as_fault ∙ ap (λ e. fault.Form e) want)
   told (inr is_fault) (inr (as_fault, line, hint)) =
       inr (record { error = error; is_fault = is_fault; told = as_fault; place = place; is_place = is_place; line = line; hint = hint })
 
+-- all that was left, which is no longer than an input may be
+abbrev pub IsWhole : Option (List ℕ) → Option (List ℕ) → List ℕ → Type 0
+IsWhole left left' given = Consumes left left' given × IsAtEnd left' × (length given ≤ input_limit)
+
+-- so it is such a text
+pub all_of : (is : List ℕ → Type 0) (left left' : Option (List ℕ)) (given : List ℕ) → IsWhole left left' given → is given → IsAll is left left'
+all_of is left left' given (came, end, within) holds = (given, came, (end, within, holds))
+
 -- a complaint of the input, or of the text that it was
 pub of_input : (choice : Choice) (left left' : Option (List ℕ)) (given : List ℕ) (c : Complaint) → IsWhole left left' given
     → (c.fault ≡ want_of_memory) ⊎ TellsFault (form_for choice given) given None c → IsNotSaid choice left left' c
 of_input choice left left' given c whole (inl memory) = inl (inr (inr memory))
-of_input choice left left' given c whole (inr tells) = inr (given, whole, tells)
+of_input choice left left' given c whole (inr tells) = inr (all_of (λ text. TellsFault (form_for choice text) text None c) left left' given whole tells)
 
 -- why an input was not converted
 abbrev pub Unconverted : Form → Option (List ℕ) → Option (List ℕ) → InputFault → Type 0
-Unconverted form left left' f = IsOfWhole left left' f ⊎ IsAll (λ text. IsTextFault form text f) left left'
+Unconverted form left left' f = IsOfWhole left left' f ⊎ IsAll (λ text. (e : FormError) × IsFormFault form text e × (f ≡ fault.Form e)) left left'
 
 -- and so tells a complaint of the fault alone
 pub told_alone : {T : Type 0} (r : Result T Complaint) (f : InputFault) (form : Form) (left left' : Option (List ℕ))
@@ -52,7 +61,8 @@ told_alone (Err c) f form left left' same why = (same.1, same.2, subst (λ g. Un
 pub not_read : (form : Form) (left left' : Option (List ℕ)) (given : List ℕ) (e : FormError) → IsWhole left left' given
     → FormFails form given e → Unconverted form left left' (fault.Form e)
 not_read form left left' given e whole (inl want) = inl (inr (inr (ap (λ x. fault.Form x) want)))
-not_read form left left' given e whole (inr is_fault) = inr (given, whole, (e, is_fault, refl))
+not_read form left left' given e whole (inr is_fault) =
+    inr (all_of (λ text. (x : FormError) × IsFormFault form text x × (fault.Form e ≡ fault.Form x)) left left' given whole (e, is_fault, refl))
 
 -- an error that is handed on
 pub handed_on : {T E : Type 0} (r : Result T E) (x : E) (Q : E → Type 0) → IsErrAnd r (λ y. y ≡ x) → Q x → IfErr r Q

@@ -8,9 +8,10 @@ use Rattle.moc_text.specs.Lemmas.Depths.{HasDepth, not_too_coarse, said_depth, j
 use Rattle.moc_text.specs.Lemmas.Depths.{intersection_depth}
 use Rattle.moc_text.specs.Lemmas.Depths.{difference_depth, symmetric_depth, complement_depth, degrade_depth}
 use Rattle.moc_forms.specs.Changing.{changed_order, changed_set}
-use Rattle.moc_forms.specs.Combining.{CombinesTexts, TextSays, combined, joined, texts_of}
+use Rattle.moc_forms.specs.Combining.{CombinesTexts, TextSays, set_of_two, joined, texts_of}
 use Rattle.moc_forms.specs.declared.combining.Said.{Said}
-use Rattle.moc_forms.specs.Finding.{first_byte, form_by}
+use Rattle.std.specs.Option.{option_map_or}
+use Rattle.moc_forms.specs.Finding.{first_byte}
 use Rattle.moc_forms.specs.Forms.{FormSays}
 use Rattle.moc_forms.specs.declared.changing.Change.{Change}
 use Rattle.moc_forms.specs.declared.changing.Change.TheVariants.{Complement, Degrade}
@@ -59,7 +60,7 @@ change_fit Complement Uniq a k fit = fit
 -- and so is what a change makes of it
 pub change_written : (change : Change) (choice : Choice) (left left' : Option (List ℕ)) (said : Said)
     → SaysAll choice left left' said → IsTooCoarse (changed_set change said.set) (changed_order change said.deepest) → ⊥
-change_written change choice left left' said (text, whole, says) =
+change_written change choice left left' said (text, came, (end, within, says)) =
     fit_written said.form _ _ (change_fit change said.form said.set said.deepest (text_fit said.form text said.set said.deepest says.0))
 
 -- ---- texts together
@@ -69,6 +70,10 @@ change_written change choice left left' said (text, whole, says) =
 abbrev AreFit : Choice → Said → Type 0
 AreFit Auto said = HasDepth said.set said.deepest
 AreFit (Named form) said = IsFit form said.set said.deepest
+
+-- the form that a text without a named one has by its first byte
+abbrev form_by : Option ℕ → Form
+form_by b = option_map_or (λ (c : ℕ). if c == 123 then Json else Ascii) b Ascii
 
 -- such a text is no list
 auto_fit : (b : Option ℕ) (a : NumberSet) (k : Option ℕ) → IsFit (form_by b) a k → HasDepth a k
@@ -87,7 +92,7 @@ said_fit (Named form) text said says =
     subst (λ (f : Form). IsFit f said.set said.deepest) says.1 (text_fit said.form text said.set said.deepest says.0)
 
 depth_combined : (operation : Operation) (a b : NumberSet) (x y : Option ℕ) → HasDepth a x → HasDepth b y
-    → HasDepth (combined operation a b) (deeper x y)
+    → HasDepth (set_of_two operation a b) (deeper x y)
 depth_combined Union a b x y of_a of_b = union_depth a b x y of_a of_b
 depth_combined Intersection a b x y of_a of_b = intersection_depth a b x y of_a of_b
 depth_combined Difference a b x y of_a of_b = difference_depth a b x y of_a of_b

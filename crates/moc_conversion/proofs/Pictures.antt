@@ -1,14 +1,14 @@
 -- The texts of a picture, by its first semicolon.
 use Rattle.std.proofs.Common.{◌≡◌, ◌∙◌, ◌+◌, ℕ, true, false, List, ◌∷◌, ◌++◌, Option, None, Some, arith, length, take, drop, ap, length-append}
 use Rattle.std.specs.Prelude.{if◌then◌else◌}
-use Rattle.std.specs.List.{after_first, position_or_len}
+use Rattle.std.specs.List.{after_first, before_first, position_or_len}
 use Rattle.std.proofs.Math.ListN.{get_or-append}
 use Rattle.std.proofs.Math.Seq.{drop-append-add, get_or-append_seam, take-append_seam}
 use Rattle.std.proofs.lemmas.List.{drop_all, take_all}
 use Rattle.std.proofs.lemmas.List.Sums.{position_or_len_is}
 use Rattle.moc_forms.specs.Combining.{are_blanks}
 use Rattle.moc_text.specs.Lines.{is_semicolon}
-use Rattle.moc_conversion.specs.Conversion.{first_text, second_text}
+use Rattle.moc_conversion.specs.Conversion.{second_text}
 use Rattle.moc_conversion.specs.Private.Pieces.{LacksSemicolons}
 
 place_of : (first behind : List ℕ) → LacksSemicolons first → position_or_len is_semicolon (first ++ 59 ∷ behind) ≡ length first
@@ -25,7 +25,7 @@ abbrev told_behind : List ℕ → Option (List ℕ)
 told_behind behind = if are_blanks behind then None else Some behind
 
 -- bytes without a semicolon are one text
-pub alone_first : (bytes : List ℕ) → LacksSemicolons bytes → first_text bytes ≡ bytes
+pub alone_first : (bytes : List ℕ) → LacksSemicolons bytes → before_first is_semicolon bytes ≡ bytes
 alone_first bytes lacks = ap (λ n. take n bytes) (no_place bytes lacks) ∙ take_all (length bytes) bytes (omega arith)
 
 pub alone_second : (bytes : List ℕ) → LacksSemicolons bytes → second_text bytes ≡ None
@@ -37,7 +37,7 @@ module _ (bytes first behind : List ℕ) (lacks : LacksSemicolons first) (are : 
   place : position_or_len is_semicolon bytes ≡ length first
   place = ap (λ all. position_or_len is_semicolon all) are ∙ place_of first behind lacks
 
-  pub parted_first : first_text bytes ≡ first
+  pub parted_first : before_first is_semicolon bytes ≡ first
   parted_first = ap (λ n. take n bytes) place ∙ ap (λ all. take (length first) all) are ∙ take-append_seam first (59 ∷ behind)
 
   parted_behind : after_first is_semicolon bytes ≡ behind

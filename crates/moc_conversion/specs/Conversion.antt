@@ -1,5 +1,6 @@
 -- Texts of coverages, from the input: converted, described, drawn, changed, checked.
-use Rattle.std.specs.Prelude.{◌≡◌, ℕ, ◌<◌, ◌≤◌, ◌⊎◌, if◌then◌else◌, List, length, Option, None, Some}
+use Rattle.std.specs.Prelude.{◌≡◌, ℕ, ◌<◌, ◌≤◌, ◌⊎◌, if◌then◌else◌, List, length, Option, None, Some, option_map}
+use Rattle.std.specs.Prelude.{string_bytes}
 use Rattle.std.specs.List.{after_first, before_first}
 use Rattle.std.specs.Io.KnownBytes.{Consumes, IsAtEnd}
 use Rattle.moc_forms.specs.Changing.{changed_order, changed_set}
@@ -10,7 +11,7 @@ use Rattle.moc_forms.specs.Describing.{Describes}
 use Rattle.moc_forms.specs.Drawing.{picture_of, picture_of_two}
 use Rattle.moc_forms.specs.Finding.{form_for, hint_of}
 use Rattle.moc_forms.specs.Forms.{IsFormFault, form_text}
-use Rattle.moc_forms.specs.Places.{IsPlace, line_bytes}
+use Rattle.moc_forms.specs.Places.{IsPlace}
 use Rattle.moc_forms.specs.Quotes.{IsTold}
 use Rattle.moc_forms.specs.declared.changing.Change.{Change}
 use Rattle.moc_forms.specs.declared.finding.Choice.{Choice}
@@ -27,15 +28,13 @@ use Rattle.moc_conversion.specs.declared.fault.InputFault.TheVariants as fault
 abbrev pub input_limit : ℕ
 input_limit = 16777216
 
--- the text is all that was left, and no longer than an input may be
-pub record IsWhole (left left' : Option (List ℕ)) (text : List ℕ) : Type 0 where
-  pub consumed : Consumes left left' text
-  pub end : IsAtEnd left'
-  pub within : length text ≤ input_limit
+-- such bytes of what was left were read
+abbrev pub HasRead : (List ℕ → Type 0) → Option (List ℕ) → Option (List ℕ) → Type 0
+HasRead is left left' = (given : List ℕ) × Consumes left left' given × is given
 
--- all that was left was read, and it is such a text
+-- all that was left was read, and it is such a text, no longer than an input may be
 abbrev pub IsAll : (List ℕ → Type 0) → Option (List ℕ) → Option (List ℕ) → Type 0
-IsAll is left left' = (given : List ℕ) × IsWhole left left' given × is given
+IsAll is left left' = HasRead (λ text. IsAtEnd left' × (length text ≤ input_limit) × is text) left left'
 
 -- the input says this, read in a form of this choice
 abbrev pub SaysAll : Choice → Option (List ℕ) → Option (List ℕ) → Said → Type 0
@@ -63,11 +62,7 @@ ChangesAll change =
 abbrev pub DescribesAll : Choice → Option (List ℕ) → Option (List ℕ) → List ℕ → Type 0
 DescribesAll = MakesAll (λ said text. Describes said.set said.deepest text)
 
--- the first text of a picture: the bytes before the first semicolon, or all
-abbrev pub first_text : List ℕ → List ℕ
-first_text bytes = before_first is_semicolon bytes
-
--- the second one: those behind that semicolon, if they are more than blanks
+-- the second text of a picture: the bytes behind the first semicolon, if they are more than blanks
 abbrev pub second_text : List ℕ → Option (List ℕ)
 second_text bytes =
     let behind = after_first is_semicolon bytes in
@@ -80,10 +75,10 @@ IsPictureOf choice first (Some second) picture =
     (one other : Said) × TextSays choice first one × TextSays choice second other
     × (picture ≡ picture_of_two one.set other.set)
 
--- the picture is that of the texts that the input is
+-- the picture is that of the texts that the input is: the bytes before its first semicolon, or all, and the second text
 abbrev pub DrawsAll : Choice → Option (List ℕ) → Option (List ℕ) → List ℕ → Type 0
 DrawsAll choice left left' picture =
-    IsAll (λ text. IsPictureOf choice (first_text text) (second_text text) picture) left left'
+    IsAll (λ text. IsPictureOf choice (before_first is_semicolon text) (second_text text) picture) left left'
 
 -- it tells the first fault of a text, counted or not, its place, what stands there and which other form it looks like
 pub record TellsFault (form : Form) (text : List ℕ) (number : Option ℕ) (c : Complaint) : Type 0 where
@@ -92,12 +87,8 @@ pub record TellsFault (form : Form) (text : List ℕ) (number : Option ℕ) (c :
   pub told : c.fault ≡ fault.Form error
   pub place : Option Place
   pub is_place : IsPlace text error place
-  pub line : IsTold number text error place (line_bytes c.place_line)
+  pub line : IsTold number text error place (option_map string_bytes c.place_line)
   pub hint : c.hint ≡ hint_of form text
-
--- such bytes of what was left were read
-abbrev pub HasRead : (List ℕ → Type 0) → Option (List ℕ) → Option (List ℕ) → Type 0
-HasRead is left left' = (given : List ℕ) × Consumes left left' given × is given
 
 -- an input could not be had: the reader failed, or it is too long by what was read, or memory was refused
 abbrev pub IsOfInput : (List ℕ → Type 0) → Option (List ℕ) → Option (List ℕ) → InputFault → Type 0
@@ -108,15 +99,12 @@ IsOfInput is_long left left' f =
 abbrev pub IsOfWhole : Option (List ℕ) → Option (List ℕ) → InputFault → Type 0
 IsOfWhole = IsOfInput (λ given. input_limit < length given)
 
--- the fault is the first of a text in a form
-abbrev pub IsTextFault : Form → List ℕ → InputFault → Type 0
-IsTextFault form text f = (error : FormError) × IsFormFault form text error × (f ≡ fault.Form error)
-
 -- why the input was not converted, which is told alone: it could not be had, or it has the fault that is told
 abbrev pub IsNotConverted : Form → Option (List ℕ) → Option (List ℕ) → Complaint → Type 0
 IsNotConverted form left left' c =
     (c.place_line ≡ None) × (c.hint ≡ None)
-    × (IsOfWhole left left' c.fault ⊎ IsAll (λ text. IsTextFault form text c.fault) left left')
+    × (IsOfWhole left left' c.fault
+    ⊎ IsAll (λ text. (e : FormError) × IsFormFault form text e × (c.fault ≡ fault.Form e)) left left')
 
 -- why the input says no set: it or memory could not be had, or it has the fault that is told, at the place that is told
 abbrev pub IsNotSaid : Choice → Option (List ℕ) → Option (List ℕ) → Complaint → Type 0
@@ -134,4 +122,4 @@ TellsTexts choice first (Some second) c =
 abbrev pub IsNotDrawn : Choice → Option (List ℕ) → Option (List ℕ) → Complaint → Type 0
 IsNotDrawn choice left left' c =
     IsOfWhole left left' c.fault
-    ⊎ IsAll (λ text. TellsTexts choice (first_text text) (second_text text) c) left left'
+    ⊎ IsAll (λ text. TellsTexts choice (before_first is_semicolon text) (second_text text) c) left left'

@@ -1,8 +1,9 @@
 //! Pictures of the coverage that an input has, or of two.
 ghost use Rattle.std.specs.Prelude.{◌≡◌, ◌≢◌, ◌↔◌, ◌⊎◌, false, IfErr, IfOk, IsErrAnd, IsTrue, option_map};
 ghost use Rattle.std.specs.String.{string_bytes};
-ghost use Rattle.moc_conversion.specs.Conversion.{DrawsAll, IsNotDrawn, IsPictureOf, TellsTexts, first_text};
-ghost use Rattle.moc_conversion.specs.Conversion.{second_text};
+ghost use Rattle.std.specs.List.{before_first};
+ghost use Rattle.moc_text.specs.Lines.{is_semicolon};
+ghost use Rattle.moc_conversion.specs.Conversion.{DrawsAll, IsNotDrawn, IsPictureOf, TellsTexts, second_text};
 ghost use Rattle.moc_conversion.specs.Faults.{want_of_memory};
 
 use crate::complaint::Complaint;
@@ -36,9 +37,9 @@ pub fn draw_input<R: Source>(
 fn pictured(alloc: Global, choice: Choice, text: &[u8]) -> Result<String, Complaint>
     ensures device { IfErr result (λ c. c.fault ≢ InputFault.Read) }
     ensures fault { IfErr result (λ c. (c.fault ≡ want_of_memory)
-        ⊎ TellsTexts choice (first_text text.now) (second_text text.now) c) }
+        ⊎ TellsTexts choice (before_first is_semicolon text.now) (second_text text.now) c) }
     ensures picture { IfOk result (λ t.
-        IsPictureOf choice (first_text text.now) (second_text text.now) (string_bytes t)) }
+        IsPictureOf choice (before_first is_semicolon text.now) (second_text text.now) (string_bytes t)) }
 {
     let (first, second) = texts_of_picture(text);
     let Some(second) = second else {
@@ -52,7 +53,7 @@ fn pictured(alloc: Global, choice: Choice, text: &[u8]) -> Result<String, Compla
 
 /// The text, or the two that its first semicolon parts: blanks alone behind it are none.
 fn texts_of_picture(text: &[u8]) -> (&[u8], Option<&[u8]>)
-    ensures first { first_text text.now ≡ result.0.now }
+    ensures first { before_first is_semicolon text.now ≡ result.0.now }
     ensures second { second_text text.now ≡ option_map (λ second. second.now) result.1 }
 {
     let Some((first, behind)) = parted(text) else {

@@ -1,6 +1,7 @@
 //! The bytes of an input, in pieces and as a whole, and parted at a semicolon.
-ghost use Rattle.std.specs.Prelude.{◌≡◌, ◌<◌, ◌↔◌, ◌⊎◌, false, IfErr, IfOk, IsErrOf, IsTrue, length};
-ghost use Rattle.moc_conversion.specs.Conversion.{IsOfWhole, IsWhole};
+ghost use Rattle.std.specs.Prelude.{◌≡◌, ◌<◌, ◌≤◌, ◌↔◌, ◌⊎◌, false, IfErr, IfOk, IsErrOf, IsTrue, length};
+ghost use Rattle.std.specs.Io.KnownBytes.{Consumes, IsAtEnd};
+ghost use Rattle.moc_conversion.specs.Conversion.{IsOfWhole, input_limit};
 ghost use Rattle.moc_conversion.specs.Faults.{want_of_memory};
 ghost use Rattle.moc_conversion.specs.Private.Pieces.{BringsPiece, IsParted};
 
@@ -47,7 +48,8 @@ pub(crate) fn read_whole<R: Source>(alloc: Global, input: &mut R) -> Result<Vec<
     requires { R.mark input.old ≡ false }
     ensures read { IsErrOf result InputFault.Read ↔ IsTrue (R.mark input.new) }
     ensures fault { IfErr result (λ f. IsOfWhole (R.left input.old) (R.left input.new) f) }
-    ensures whole { IfOk result (λ v. IsWhole (R.left input.old) (R.left input.new) v.items) }
+    ensures whole { IfOk result (λ v. Consumes (R.left input.old) (R.left input.new) v.items
+        × IsAtEnd (R.left input.new) × (length v.items ≤ input_limit)) }
 {
     let mut room = room(alloc)?;
     let mut text = Vec::new(alloc);

@@ -1,11 +1,11 @@
 //! What texts and inputs say, and the text of what is said.
 ghost use Rattle.std.specs.Prelude.{◌≡◌, ◌≢◌, ◌↔◌, ◌⊎◌, false, IfErr, IfOk, IsErrAnd, IsOkUnless, IsTrue, None};
+ghost use Rattle.std.specs.Prelude.{option_map};
 ghost use Rattle.std.specs.String.{string_bytes};
 ghost use Rattle.moc_text.specs.AsciiText.{IsTooCoarse};
 ghost use Rattle.moc_forms.specs.Combining.{TextSays};
 ghost use Rattle.moc_forms.specs.Finding.{form_for, hint_of};
 ghost use Rattle.moc_forms.specs.Forms.{form_text};
-ghost use Rattle.moc_forms.specs.Places.{line_bytes};
 ghost use Rattle.moc_forms.specs.Quotes.{IsTold};
 ghost use Rattle.moc_conversion.specs.Conversion.{IsNotSaid, SaysAll, TellsFault};
 ghost use Rattle.moc_conversion.specs.Faults.{want_of_memory};
@@ -51,7 +51,7 @@ fn complaint_of(
     ensures memory { result.fault ≡ want_of_memory → result.place_line ≡ None }
     ensures told { (result.fault ≡ want_of_memory)
         ⊎ ((result.fault ≡ InputFault.Form refusal.error)
-        × IsTold number text.now refusal.error refusal.place (line_bytes result.place_line)
+        × IsTold number text.now refusal.error refusal.place (option_map string_bytes result.place_line)
         × (result.hint ≡ hint_of form text.now)) }
 {
     let fault = InputFault::from(refusal.error);

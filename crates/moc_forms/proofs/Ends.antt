@@ -1,5 +1,5 @@
 -- The bytes behind the last that passes a test, those round a place, and the first line.
-use Rattle.std.proofs.Common.{◌≡◌, ◌∙◌, ℕ, suc, ◌+◌, ◌-◌, ◌<◌, ◌≤◌, Bool, true, false, not, List, [], ◌∷◌, ◌++◌, length, take, drop, get_or, refl, ap, sym, arith, inl, inr}
+use Rattle.std.proofs.Common.{◌≡◌, ◌∙◌, ℕ, zero, suc, cond, ◌+◌, ◌-◌, ◌<◌, ◌≤◌, Bool, true, false, not, List, [], ◌∷◌, ◌++◌, length, take, drop, get_or, refl, ap, sym, arith, inl, inr}
 use Rattle.std.specs.Prelude.{min}
 use Rattle.std.specs.List.{after_last, before_first, onto_first, position_or_len, slice_split, suffix_len}
 use Rattle.std.proofs.Math.Seq.{take-add}
@@ -7,7 +7,7 @@ use Rattle.std.proofs.lemmas.Bool.{cases_lt}
 use Rattle.std.proofs.lemmas.List.{drop-drop, drop-take, drop_all, length-drop, length-take-le, take_all}
 use Rattle.std.proofs.lemmas.List.Sums.{suffix_len-le-length, suffix_len-take_no, suffix_len-take_yes}
 use Rattle.std.proofs.lemmas.List.Splits.{slice_split_first, slice_split-cons_no}
-use Rattle.moc_text.specs.Lines.{is_line_feed}
+use Rattle.moc_text.specs.Lines.{is_line_feed, lines_of}
 
 ended : (p : ℕ → Bool) (xs : List ℕ) → length (after_last p xs) ≡ suffix_len (λ x. not (p x)) xs
 ended p xs = omega (arith, suffix_len-le-length (λ x. not (p x)) xs, length-drop (length xs - suffix_len (λ x. not (p x)) xs) xs)
@@ -78,3 +78,26 @@ first_line bytes = elim (cases_lt (position_or_len is_line_feed bytes) (length b
               slice_split-cons_no is_line_feed x bytes is ∙ ap (onto_first x) (unsplit bytes (omega arith))
         ] in
         step (is_line_feed x) refl
+
+-- a line of a text is a part of it between line feeds, and there is nothing behind the last one
+pub same_line : (bytes : List ℕ) (n : ℕ) → get_or (lines_of bytes) n [] ≡ get_or (slice_split is_line_feed bytes) n []
+same_line [] zero = refl
+same_line [] (suc n) = refl
+same_line (x ∷ bytes) n = elim (is_line_feed x) as (λ b. get_or (cond b ([] ∷ lines_of bytes) (onto_first x (lines_of bytes))) n [] ≡ get_or (cond b ([] ∷ slice_split is_line_feed bytes) (onto_first x (slice_split is_line_feed bytes))) n []) [
+  | true ↦ behind (same_line bytes) n
+  | false ↦ onto (lines_of bytes) (slice_split is_line_feed bytes) (same_line bytes) n
+]
+  where
+    behind : ((n : ℕ) → get_or (lines_of bytes) n [] ≡ get_or (slice_split is_line_feed bytes) n [])
+        → (n : ℕ) → get_or ([] ∷ lines_of bytes) n [] ≡ get_or ([] ∷ slice_split is_line_feed bytes) n []
+    behind same zero = refl
+    behind same (suc n) = same n
+
+    onto : (xs ys : List (List ℕ)) → ((n : ℕ) → get_or xs n [] ≡ get_or ys n []) → (n : ℕ) → get_or (onto_first x xs) n [] ≡ get_or (onto_first x ys) n []
+    onto [] [] same n = refl
+    onto [] (y ∷ ys) same zero = ap (λ (l : List ℕ). x ∷ l) (same 0)
+    onto [] (y ∷ ys) same (suc n) = same (suc n)
+    onto (z ∷ xs) [] same zero = ap (λ (l : List ℕ). x ∷ l) (same 0)
+    onto (z ∷ xs) [] same (suc n) = same (suc n)
+    onto (z ∷ xs) (y ∷ ys) same zero = ap (λ (l : List ℕ). x ∷ l) (same 0)
+    onto (z ∷ xs) (y ∷ ys) same (suc n) = same (suc n)

@@ -2,3 +2,4 @@ pub mod Ends
 pub mod Half
 pub mod Partial
 pub mod Pieces
+pub mod Ranges

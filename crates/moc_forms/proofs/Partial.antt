@@ -1,14 +1,22 @@
 -- Going from one cell of order 7 that a set meets to the next passes none that it fills in part.
 use Rattle.std.proofs.Common.{◌≡◌, ℕ, zero, suc, ◌+◌, ◌*◌, ◌/◌, ◌<◌, ◌≤◌, Bool, true, false, List, [], ◌∷◌, ◌++◌}
-use Rattle.std.proofs.Common.{refl, sym, ap, ◌∙◌, arith, inl, inr, append-nil, add-one}
+use Rattle.std.proofs.Common.{refl, sym, ap, ◌∙◌, arith, inl, inr, append-nil, map}
 use Rattle.std.specs.Prelude.{◌&&◌, not, nat_lt, nat_eq, if◌then◌else◌}
 use Rattle.std.specs.FinSet as set
+use Rattle.std.specs.List.{filter, range_with_len}
+use Rattle.std.proofs.lemmas.List.{map-append}
+use Rattle.std.proofs.lemmas.List.Elements.{filter-append}
 use Rattle.std.proofs.lemmas.Bool.{cases_lt, and_parts, eqb-true}
 use Rattle.moc_sphere.specs.CellNumber.{cell_number, cell_size}
 use Rattle.moc_ranges.specs.Cells.{span}
 use Rattle.moc_ranges.specs.Lemmas.Members.{contains-span, meets-none}
 use Rattle.moc_lists.specs.RangeList.{NumberSet, pixel_count}
-use Rattle.moc_forms.specs.Drawing.{Shaded, is_partial, partial_below, partial_mark, shade_of}
+use Rattle.moc_forms.specs.Drawing.{Shaded, is_partial, partial_below, shade_of}
+use Rattle.moc_forms.proofs.Ranges.{range_more}
+
+-- the mark of a cell that a set fills in part, if it does
+abbrev pub partial_mark : NumberSet → ℕ → List Shaded
+partial_mark a i = if is_partial a i then (cell_number 7 i, shade_of a i) ∷ [] else []
 
 -- a cell of order 7 has 4^22 pixels
 size : cell_size 7 ≡ 17592186044416
@@ -46,16 +54,31 @@ not_partial a i none =
 no_mark : (a : NumberSet) (i : ℕ) → is_partial a i ≡ false → partial_mark a i ≡ []
 no_mark a i lacks = ap (λ (b : Bool). if b then (cell_number 7 i, shade_of a i) ∷ [] else []) lacks
 
+kept_one : (b : Bool) (f : ℕ → Shaded) (i : ℕ) → map f (if b then i ∷ [] else []) ≡ (if b then f i ∷ [] else [])
+kept_one true f i = refl
+kept_one false f i = refl
+
+-- the marks below the next cell
+pub partial_next : (a : NumberSet) (i : ℕ) → partial_below a (i + 1) ≡ partial_below a i ++ partial_mark a i
+unfolding partial_below
+partial_next a i =
+    let f : ℕ → Shaded = λ (k : ℕ). (cell_number 7 k, shade_of a k) in
+    let before : List ℕ = range_with_len 0 i in
+    ap (λ (r : List ℕ). map f (filter (is_partial a) r)) (range_more i)
+    ∙ ap (map f) (filter-append (is_partial a) before (i ∷ [])) ∙ map-append f (filter (is_partial a) before) _
+    ∙ ap (λ (t : List Shaded). map f (filter (is_partial a) before) ++ t) (kept_one (is_partial a i) f i)
+
 -- between two cells with no pixel of the set between them there is no mark
 pub no_marks_between : (a : NumberSet) (i j : ℕ) → i ≤ j → HasNone a (i * 17592186044416) (j * 17592186044416)
     → partial_below a j ≡ partial_below a i
-unfolding partial_below
 no_marks_between a i zero le none = let is : i ≡ 0 = omega arith in ap (partial_below a) (sym is)
 no_marks_between a i (suc j) le none = elim (cases_lt i (suc j)) [
   | inl lt ↦
       let le : i ≤ j = omega arith in
       let here : is_partial a j ≡ false = not_partial a j (λ q from to. none q (omega arith) (omega arith)) in
-      ap (λ (marks : List Shaded). partial_below a j ++ marks) (no_mark a j here)
+      let next : suc j ≡ j + 1 = omega arith in
+      ap (partial_below a) next ∙ partial_next a j
+      ∙ ap (λ (marks : List Shaded). partial_below a j ++ marks) (no_mark a j here)
       ∙ append-nil (partial_below a j)
       ∙ no_marks_between a i j le (λ q from to. none q from (omega arith))
   | inr ge ↦ let is : i ≡ suc j = omega arith in ap (partial_below a) (sym is)
@@ -65,8 +88,3 @@ no_marks_between a i (suc j) le none = elim (cases_lt i (suc j)) [
 pub partial_none : (a : NumberSet) → partial_below a 0 ≡ []
 unfolding partial_below
 partial_none a = refl
-
--- the marks below the next cell
-pub partial_next : (a : NumberSet) (i : ℕ) → partial_below a (i + 1) ≡ partial_below a i ++ partial_mark a i
-unfolding partial_below
-partial_next a i = rw add-one refl

@@ -21,11 +21,11 @@ operation_name Difference = codes "difference"
 operation_name Symmetric = codes "symmetric"
 
 -- what an operation makes of two sets
-abbrev pub combined : Operation → NumberSet → NumberSet → NumberSet
-combined Union a b = set.union a b
-combined Intersection a b = set.intersection a b
-combined Difference a b = set.difference a b
-combined Symmetric a b = symmetric a b
+abbrev pub set_of_two : Operation → NumberSet → NumberSet → NumberSet
+set_of_two Union a b = set.union a b
+set_of_two Intersection a b = set.intersection a b
+set_of_two Difference a b = set.difference a b
+set_of_two Symmetric a b = symmetric a b
 
 -- what a text says that is read in a form of this choice
 abbrev pub TextSays : Choice → List ℕ → Said → Type 0
@@ -35,7 +35,7 @@ TextSays choice text said = FormSays said.form text said.set said.deepest × (sa
 abbrev pub joined : Operation → Option Said → Said → Said
 joined operation None said = said
 joined operation (Some before) said = record {
-  set = combined operation before.set said.set;
+  set = set_of_two operation before.set said.set;
   deepest = deeper before.deepest said.deepest;
   form = before.form;
 }

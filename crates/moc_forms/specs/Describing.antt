@@ -21,13 +21,9 @@ share_of count = count * 1000000000000 / pixel_count
 abbrev pub twelve_digits : ℕ → List ℕ
 twelve_digits n = replicate (12 - length (decimal n)) 48 ++ decimal n
 
--- how many cells are of an order
-abbrev pub cells_of_order : List CellNumber → ℕ → ℕ
-cells_of_order cells k = count_by (λ c. c.order == k) cells
-
 -- how many cells are of each order
 abbrev pub counts_of : List CellNumber → List ℕ
-counts_of cells = map (cells_of_order cells) (range_with_len 0 30)
+counts_of cells = map (λ k. count_by (λ c. c.order == k) cells) (range_with_len 0 30)
 
 -- the figures are those of a set; its ranges are those of its normal range list
 pub record AreFigures (a : NumberSet) (deepest : Option ℕ) (f : Figures) : Type 0 where

@@ -1,9 +1,9 @@
 -- A picture of a set: an SVG text that shows HEALPix's plane (Górski and others 2005), 1024 half steps of order 7
 -- wide and 512 high, with y from the north pole. Cells are drawn with x eastward, in a group that is mirrored: as on
 -- sky charts, east is to the left.
-use Rattle.std.specs.Prelude.{ℕ, zero, suc, ◌+◌, ◌-◌, ◌*◌, ◌/◌, ◌^◌, ◌==◌, Bool, not, ◌&&◌, nat_le, if◌then◌else◌}
-use Rattle.std.specs.Prelude.{List, [], ◌∷◌, ◌++◌, decimal, codes}
-use Rattle.std.specs.List.{flat_map}
+use Rattle.std.specs.Prelude.{ℕ, ◌+◌, ◌-◌, ◌*◌, ◌/◌, ◌^◌, ◌==◌, Bool, not, ◌&&◌, nat_le, if◌then◌else◌, List, []}
+use Rattle.std.specs.Prelude.{◌∷◌, ◌++◌, codes, decimal, map}
+use Rattle.std.specs.List.{filter, flat_map, range_with_len}
 use Rattle.std.specs.FinSet as set
 use Rattle.moc_sphere.specs.CellNumber.{CellNumber, cell_number, cell_count}
 use Rattle.moc_sphere.specs.Rings.{row_of, column_of}
@@ -25,16 +25,11 @@ is_partial a i = meets a (span 7 i) && not (set.is_subset (span 7 i) a)
 
 -- the shade of such a cell, of 4^22 pixels, by the quarters that the set has of it: 1 up to a quarter, 4 above three
 unfoldable pub shade_of : NumberSet → ℕ → ℕ
-shade_of a i = 1 + (set.len (set.intersection a (span 7 i)) - 1) / 4398046511104
-
--- its mark, if it is one
-abbrev pub partial_mark : NumberSet → ℕ → List Shaded
-partial_mark a i = if is_partial a i then (cell_number 7 i, shade_of a i) ∷ [] else []
+shade_of a i = 1 + (set.len (set.intersection a (span 7 i)) - 1) / (4 ^ 21)
 
 -- the marks of such cells below a number
 unfoldable pub partial_below : NumberSet → ℕ → List Shaded
-partial_below a zero = []
-partial_below a (suc i) = partial_below a i ++ partial_mark a i
+partial_below a n = map (λ i. (cell_number 7 i, shade_of a i)) (filter (is_partial a) (range_with_len 0 n))
 
 -- the marks of a set: its cells of order 7 or less, and those of order 7 that its deeper cells fill in part
 unfoldable pub marks_of : NumberSet → List Shaded
@@ -56,18 +51,9 @@ diamonds_at h row column =
 unfoldable pub cell_diamonds : CellNumber → List ℕ
 cell_diamonds c = diamonds_at (2 ^ (7 - c.order)) (row_of c.order c.index) (column_of c.order c.index)
 
--- the diamonds of the marks of a shade
-unfoldable pub shade_diamonds : ℕ → List Shaded → List ℕ
-shade_diamonds shade marks = flat_map (λ m. if m.1 == shade then cell_diamonds m.0 else []) marks
-
--- the diamonds of marks, whatever their shades are
+-- the diamonds of marks
 unfoldable pub mark_diamonds : List Shaded → List ℕ
 mark_diamonds marks = flat_map (λ m. cell_diamonds m.0) marks
-
--- the diamonds of the base pixels below a number
-unfoldable pub base_diamonds_below : ℕ → List ℕ
-base_diamonds_below zero = []
-base_diamonds_below (suc f) = base_diamonds_below f ++ cell_diamonds (cell_number 0 f)
 
 -- what a path of cells in a colour begins with
 unfoldable pub path_head : List ℕ → List ℕ
@@ -75,19 +61,15 @@ path_head colour =
     codes "<path fill=\"" ++ colour ++ codes "\" stroke=\"" ++ colour
     ++ codes "\" vector-effect=\"non-scaling-stroke\" d=\""
 
--- the path of a shade in its colour
-unfoldable pub shade_path : List Shaded → ℕ → List ℕ → List ℕ
-shade_path marks shade colour = path_head colour ++ shade_diamonds shade marks ++ codes "\"/>\n"
-
--- the path of all marks in one colour
+-- the path of marks in a colour
 unfoldable pub marks_path : List Shaded → List ℕ → List ℕ
 marks_path marks colour = path_head colour ++ mark_diamonds marks ++ codes "\"/>\n"
 
 -- the sky: the twelve base pixels in grey, outlined; they are the same from either side
 unfoldable pub outlines : List ℕ
 outlines =
-    codes "<path fill=\"#eee\" stroke=\"#bbb\" clip-path=\"url(#plane)\" d=\"" ++ base_diamonds_below 12
-    ++ codes "\"/>\n"
+    codes "<path fill=\"#eee\" stroke=\"#bbb\" clip-path=\"url(#plane)\" d=\""
+    ++ flat_map (λ f. cell_diamonds (cell_number 0 f)) (range_with_len 0 12) ++ codes "\"/>\n"
 
 -- a number, at a place
 unfoldable pub label : ℕ → ℕ → ℕ → List ℕ
@@ -103,38 +85,33 @@ labels_at f row column =
     then label f 16 (row * 128 + 5) ++ label f 1008 (row * 128 + 5)
     else label f (1024 - column * 128) (row * 128 + 5)
 
--- the numbers of the base pixels below a number
-unfoldable pub labels_below : ℕ → List ℕ
-labels_below zero = []
-labels_below (suc f) = labels_below f ++ labels_at f (row_of 0 f) (column_of 0 f)
-
 -- what stands first: a title, the bounds of the plane, and a white ground with a margin of 40, below of 88
-abbrev pub head : List ℕ
-head =
+abbrev pub picture_head : List ℕ
+picture_head =
     codes "<svg xmlns=\"http://www.w3.org/2000/svg\" viewBox=\"-40 -40 1104 640\">\n<title>Sky coverage</title>\n"
     ++ codes "<clipPath id=\"plane\"><path d=\"M0 0h1024v512H0z\"/></clipPath>\n"
     ++ codes "<rect x=\"-40\" y=\"-40\" width=\"1104\" height=\"640\" fill=\"#fff\"/>\n"
 
 -- what the group of the cells begins with: mirrored, within the plane, with sharp edges
-abbrev pub mirror : List ℕ
-mirror =
+abbrev pub group_head : List ℕ
+group_head =
     codes "<g transform=\"translate(1024 0) scale(-1 1)\" clip-path=\"url(#plane)\" shape-rendering=\"crispEdges\">\n"
 
 -- the marks in four shades of blue, mirrored, with sharp edges and a thin rim, so that a single cell is seen
 unfoldable pub shades : List Shaded → List ℕ
 shades marks =
-    mirror
-    ++ shade_path marks 1 (codes "#6baed6")
-    ++ shade_path marks 2 (codes "#4292c6")
-    ++ shade_path marks 3 (codes "#2171b5")
-    ++ shade_path marks 4 (codes "#08306b")
+    group_head
+    ++ marks_path (filter (λ m. m.1 == 1) marks) (codes "#6baed6")
+    ++ marks_path (filter (λ m. m.1 == 2) marks) (codes "#4292c6")
+    ++ marks_path (filter (λ m. m.1 == 3) marks) (codes "#2171b5")
+    ++ marks_path (filter (λ m. m.1 == 4) marks) (codes "#08306b")
     ++ codes "</g>\n"
 
 -- the numbers of the twelve base pixels, small and pale, below the cells
 unfoldable pub labels : List ℕ
 labels =
     codes "<g font-family=\"sans-serif\" font-size=\"14\" text-anchor=\"middle\" fill=\"#bbb\">\n"
-    ++ labels_below 12
+    ++ flat_map (λ f. labels_at f (row_of 0 f) (column_of 0 f)) (range_with_len 0 12)
     ++ codes "</g>\n"
 
 -- a shade in the legend, at its place
@@ -143,12 +120,17 @@ legend_entry x colour meaning =
     codes "<path fill=\"" ++ colour ++ codes "\" d=\"M" ++ decimal x ++ codes " 552h24v16h-24z\"/>"
     ++ codes "<text x=\"" ++ decimal (x + 32) ++ codes "\" y=\"566\">" ++ meaning ++ codes "</text>\n"
 
--- what the shades mean, and which way is east
+-- what a legend begins with: which way is east, and what its entries tell
+unfoldable pub legend_head : List ℕ → List ℕ
+legend_head title =
+    codes "<g font-family=\"sans-serif\" font-size=\"16\" fill=\"#444\">\n"
+    ++ codes "<text x=\"-28\" y=\"262\">E</text>\n<text x=\"1036\" y=\"262\">W</text>\n<text x=\"0\" y=\"566\">"
+    ++ title ++ codes "</text>\n"
+
+-- what the shades mean
 unfoldable pub legend : List ℕ
 legend =
-    codes "<g font-family=\"sans-serif\" font-size=\"16\" fill=\"#444\">\n"
-    ++ codes "<text x=\"-28\" y=\"262\">E</text>\n<text x=\"1036\" y=\"262\">W</text>\n"
-    ++ codes "<text x=\"0\" y=\"566\">Share of each cell of order 7</text>\n"
+    legend_head (codes "Share of each cell of order 7")
     ++ legend_entry 256 (codes "#6baed6") (codes "up to 1/4")
     ++ legend_entry 400 (codes "#4292c6") (codes "up to 1/2")
     ++ legend_entry 544 (codes "#2171b5") (codes "up to 3/4")
@@ -157,24 +139,22 @@ legend =
 
 -- the picture of a set of pixels
 abbrev pub picture_of : NumberSet → List ℕ
-picture_of a = head ++ outlines ++ labels ++ shades (marks_of a) ++ legend ++ codes "</svg>\n"
+picture_of a = picture_head ++ outlines ++ labels ++ shades (marks_of a) ++ legend ++ codes "</svg>\n"
 
 -- the cells that have pixels of the first set alone, of the second alone, and of both, each over those before it, in
 -- blue, orange and black (Okabe and Ito), mirrored and rimmed as the shades of one set are
-unfoldable pub kinds : NumberSet → NumberSet → List ℕ
-kinds a b =
-    mirror
+unfoldable pub cells_of_two : NumberSet → NumberSet → List ℕ
+cells_of_two a b =
+    group_head
     ++ marks_path (marks_of (set.difference a b)) (codes "#0072b2")
     ++ marks_path (marks_of (set.difference b a)) (codes "#e69f00")
     ++ marks_path (marks_of (set.intersection a b)) (codes "#000")
     ++ codes "</g>\n"
 
--- what the colours mean, and which way is east
+-- what the colours mean
 unfoldable pub legend_of_two : List ℕ
 legend_of_two =
-    codes "<g font-family=\"sans-serif\" font-size=\"16\" fill=\"#444\">\n"
-    ++ codes "<text x=\"-28\" y=\"262\">E</text>\n<text x=\"1036\" y=\"262\">W</text>\n"
-    ++ codes "<text x=\"0\" y=\"566\">Cells of order 7 with pixels of</text>\n"
+    legend_head (codes "Cells of order 7 with pixels of")
     ++ legend_entry 256 (codes "#0072b2") (codes "the first alone")
     ++ legend_entry 432 (codes "#e69f00") (codes "the second alone")
     ++ legend_entry 624 (codes "#000") (codes "both")
@@ -182,4 +162,4 @@ legend_of_two =
 
 -- the picture of two sets of pixels
 abbrev pub picture_of_two : NumberSet → NumberSet → List ℕ
-picture_of_two a b = head ++ outlines ++ labels ++ kinds a b ++ legend_of_two ++ codes "</svg>\n"
+picture_of_two a b = picture_head ++ outlines ++ labels ++ cells_of_two a b ++ legend_of_two ++ codes "</svg>\n"

@@ -1,16 +1,13 @@
 -- Where a text is at fault.
 use Rattle.std.specs.Prelude.{◌≡◌, ℕ, ◌+◌, List, [], ◌∷◌, ◌++◌, ◌⊎◌, length, take, Option, None, Some}
-use Rattle.std.specs.Prelude.{option_map, decimal, codes, count_by, String, string_bytes}
+use Rattle.std.specs.Prelude.{option_map, decimal, codes, count_by}
 use Rattle.std.specs.List.{after_last}
 use Rattle.std.specs.Option.{option_map_or}
-use Rattle.std.specs.declared.alloc.Global.{Global}
 use Rattle.moc_text.specs.JsonForm.{NameIsOrder}
 use Rattle.moc_text.specs.Lines.{is_line_feed}
-use Rattle.moc_text.specs.Places.{fault_byte}
+use Rattle.moc_text.specs.Places.{fault_byte, fault_line}
 use Rattle.moc_text.specs.declared.json_form.error.JsonError.{JsonError}
 use Rattle.moc_text.specs.declared.json_form.error.JsonError.TheVariants as json
-use Rattle.moc_text.specs.declared.uniq.UniqError.{UniqError}
-use Rattle.moc_text.specs.declared.uniq.UniqError.TheVariants as uniq
 use Rattle.moc_forms.specs.declared.form.FormError.{FormError}
 use Rattle.moc_forms.specs.declared.form.FormError.TheVariants as error
 use Rattle.moc_forms.specs.declared.place.Place.{Place}
@@ -22,12 +19,6 @@ abbrev pub byte_place : List ℕ → ℕ → Place
 byte_place bytes at =
     let before = take at bytes in
     Byte at (1 + count_by is_line_feed before) (length (after_last is_line_feed before))
-
--- the line of a fault of a NUNIQ list
-abbrev pub fault_line : UniqError → Option ℕ
-fault_line (uniq.BadByte line) = Some line
-fault_line (uniq.NotUniq line) = Some line
-fault_line uniq.Memory = None
 
 -- what is made of the order that a name names, by the number of the name, in a JSON text
 abbrev pub IsOfOrder : List ℕ → ℕ → (ℕ → Place) → Option Place → Type 0
@@ -73,7 +64,3 @@ line_of_place None (Some place) quote = Some (place_text place ++ quote_behind q
 line_of_place (Some number) None quote = Some ((codes "text " ++ decimal number) ++ 10 ∷ [])
 line_of_place (Some number) (Some place) quote =
     Some ((codes "text " ++ decimal number) ++ codes ", " ++ place_text place ++ quote_behind quote ++ 10 ∷ [])
-
--- the bytes of a line, if there is one
-abbrev pub line_bytes : Option (String Global) → Option (List ℕ)
-line_bytes line = option_map (λ (l : String Global). string_bytes l) line

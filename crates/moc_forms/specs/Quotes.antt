@@ -1,14 +1,13 @@
 -- What stands in a text at its fault, as it is quoted.
 use Rattle.std.specs.Prelude.{◌≡◌, ℕ, ◌+◌, ◌-◌, ◌/◌, ◌%◌, Bool, not, ◌&&◌, ◌==◌, nat_le, nat_lt, if◌then◌else◌, List}
-use Rattle.std.specs.Prelude.{[], ◌∷◌, ◌++◌, length, slice_index_or, take, drop, codes, Option, None, Some, option_map}
-use Rattle.std.specs.List.{after_last, before_first, flat_map, slice_split}
+use Rattle.std.specs.Prelude.{[], ◌∷◌, ◌++◌, length, slice_index_or, take, drop, codes, MatchOption, Option, None}
+use Rattle.std.specs.Prelude.{option_map}
+use Rattle.std.specs.List.{after_last, before_first, flat_map}
 use Rattle.moc_text.specs.Ascii.{is_separator}
 use Rattle.moc_text.specs.JsonForm.{HasText}
-use Rattle.moc_text.specs.Lines.{is_line_feed}
-use Rattle.moc_text.specs.declared.json_form.error.JsonError.{JsonError}
-use Rattle.moc_text.specs.declared.json_form.error.JsonError.TheVariants as json
-use Rattle.moc_forms.specs.Places.{fault_line, line_of_place}
-use Rattle.moc_text.specs.Places.{fault_byte}
+use Rattle.moc_text.specs.Lines.{lines_of}
+use Rattle.moc_text.specs.Places.{fault_byte, fault_line, json_fault_at}
+use Rattle.moc_forms.specs.Places.{line_of_place}
 use Rattle.moc_forms.specs.declared.form.FormError.{FormError}
 use Rattle.moc_forms.specs.declared.form.FormError.TheVariants as error
 use Rattle.moc_forms.specs.declared.place.Place.{Place}
@@ -19,22 +18,13 @@ word_round bytes at = after_last is_separator (take at bytes) ++ before_first is
 
 -- the line of a number, counted from 1
 abbrev pub line_numbered : List ℕ → ℕ → List ℕ
-line_numbered bytes line = slice_index_or (slice_split is_line_feed bytes) (line - 1) []
+line_numbered bytes line = slice_index_or (lines_of bytes) (line - 1) []
 
--- what stands at the fault of a JSON text: its name, or the item that is at fault
-abbrev pub IsQuotedInJson : List ℕ → JsonError → Option (List ℕ) → Type 0
-IsQuotedInJson bytes (json.BadOrder name) found = HasText bytes name None found
-IsQuotedInJson bytes (json.NotArray name) found = HasText bytes name None found
-IsQuotedInJson bytes (json.NotWhole name place) found = HasText bytes name (Some place) found
-IsQuotedInJson bytes (json.CellTooLarge name place) found = HasText bytes name (Some place) found
-IsQuotedInJson bytes json.NotJson found = found ≡ None
-IsQuotedInJson bytes json.NotObject found = found ≡ None
-IsQuotedInJson bytes json.Memory found = found ≡ None
-
--- what stands at the fault of a text: its word, its line, or a name or an item of JSON
+-- what stands at the fault of a text: its word, its line, or the name or the item of JSON that is at fault
 abbrev pub IsQuotedText : List ℕ → FormError → Option (List ℕ) → Type 0
 IsQuotedText bytes (error.Ascii e) found = found ≡ option_map (word_round bytes) (fault_byte e)
-IsQuotedText bytes (error.Json e) found = IsQuotedInJson bytes e found
+IsQuotedText bytes (error.Json e) found =
+    MatchOption (json_fault_at e) (found ≡ None) (λ at. HasText bytes at.0 at.1 found)
 IsQuotedText bytes (error.Uniq e) found = found ≡ option_map (line_numbered bytes) (fault_line e)
 IsQuotedText bytes error.TooCoarse found = found ≡ None
 IsQuotedText bytes error.Memory found = found ≡ None
@@ -56,14 +46,11 @@ unfoldable pub bytes_quoted : List ℕ → List ℕ
 bytes_quoted bytes = flat_map byte_quoted bytes
 
 -- a quote: at most 40 bytes between backquotes, and two points behind it where there are more
-abbrev pub quoted : List ℕ → List ℕ
-quoted bytes = 96 ∷ bytes_quoted (take 40 bytes) ++ 96 ∷ (if nat_lt 40 (length bytes) then codes ".." else [])
-
--- the quote of what stands at a fault
-abbrev pub IsQuote : List ℕ → FormError → Option (List ℕ) → Type 0
-IsQuote bytes e quote = (found : Option (List ℕ)) × IsQuotedText bytes e found × (quote ≡ option_map quoted found)
+abbrev pub quote_text : List ℕ → List ℕ
+quote_text bytes = 96 ∷ bytes_quoted (take 40 bytes) ++ 96 ∷ (if nat_lt 40 (length bytes) then codes ".." else [])
 
 -- the line that says where this fault is, which stands at this place, and quotes what stands there
 abbrev pub IsTold : Option ℕ → List ℕ → FormError → Option Place → Option (List ℕ) → Type 0
 IsTold number bytes e place line =
-    (quote : Option (List ℕ)) × IsQuote bytes e quote × (line ≡ line_of_place number place quote)
+    (found : Option (List ℕ)) × IsQuotedText bytes e found
+    × (line ≡ line_of_place number place (option_map quote_text found))

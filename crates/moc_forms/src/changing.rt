@@ -42,8 +42,5 @@ impl Change {
 fn coarser(first: Option<Order>, second: Order) -> Option<Order>
     ensures { result ≡ option_map (λ k. min k second) first }
 {
-    match first {
-        Some(first) => Some(first.min(second)),
-        None => None,
-    }
+    Some(first?.min(second))
 }

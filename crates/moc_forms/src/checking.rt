@@ -2,11 +2,12 @@
 ghost use Rattle.std.specs.Prelude.{◌≡◌, ◌⊎◌, ℕ, IfErr, IfOk, OnOk, Option, option_map};
 ghost use Rattle.moc_lists.specs.RangeList.{NumberSet};
 ghost use Rattle.moc_forms.specs.Forms.{FormFails, FormSays};
-ghost use Rattle.moc_forms.specs.Places.{IsJsonPlace, IsPlace, byte_place, fault_line, line_bytes};
+ghost use Rattle.std.specs.String.{string_bytes};
 ghost use Rattle.moc_text.specs.JsonForm.{NameIsOrder};
-ghost use Rattle.moc_text.specs.Places.{fault_byte};
+ghost use Rattle.moc_text.specs.Places.{fault_byte, fault_line};
+ghost use Rattle.moc_forms.specs.Places.{IsJsonPlace, IsOfOrder, IsPlace, byte_place};
 ghost use Rattle.moc_forms.specs.Quotes.{IsTold};
-ghost use Rattle.moc_forms.specs.declared.place.Place.TheVariants.{Line};
+ghost use Rattle.moc_forms.specs.declared.place.Place.TheVariants.{Line, Number};
 
 use crate::form::{Form, FormError};
 use crate::place::{Place, place_line};
@@ -40,14 +41,10 @@ impl Refusal {
         number: Option<u64>,
         text: &[u8],
     ) -> Result<Option<String>, Memory>
-        ensures { IfOk result (λ line. IsTold number text.now self.error self.place (line_bytes line)) }
+        ensures { IfOk result (λ line. IsTold number text.now self.error self.place (option_map string_bytes line)) }
     {
         let quote = quote(alloc, text, self.error)?;
-        let shown = match &quote {
-            Some(quote) => Some(quote.as_str()),
-            None => None,
-        };
-        Ok(place_line(alloc, number, self.place, shown)?)
+        Ok(place_line(alloc, number, self.place, quote.as_deref())?)
     }
 }
 
@@ -108,47 +105,55 @@ fn place_of(alloc: Global, text: &[u8], error: FormError) -> Result<Option<Place
 fn place_in_ascii(text: &[u8], fault: TextError) -> Option<Place>
     ensures { result ≡ option_map (byte_place text.now) (fault_byte fault) }
 {
-    match fault.place() {
-        Some(at) => Some(Place::of_byte(text, at)),
-        None => None,
-    }
+    Some(Place::of_byte(text, fault.place()?))
 }
 
 /// The place of a fault of a NUNIQ list.
 fn place_in_list(fault: UniqError) -> Option<Place>
     ensures { result ≡ option_map (λ line. Line line) (fault_line fault) }
 {
-    match fault.line() {
-        Some(line) => Some(Place::Line(line)),
-        None => None,
-    }
+    Some(Place::Line(fault.line()?))
 }
 
 /// The place of a fault of a JSON text, whose faulty order is read once more.
 fn place_in_json(alloc: Global, text: &[u8], fault: JsonError) -> Result<Option<Place>, JsonError>
     ensures { IfOk result (λ place. IsJsonPlace text.now fault place) }
 {
-    Ok(match fault {
-        JsonError::NotJson => match json_syntax_error(alloc, text) {
-            Some((line, column)) => Some(Place::Stop { line, column }),
-            None => None,
-        },
-        JsonError::BadOrder { name } => Some(Place::Name(name)),
+    match fault {
+        JsonError::NotJson => Ok(place_of_syntax(alloc, text)),
+        JsonError::BadOrder { name } => Ok(Some(Place::Name(name))),
         JsonError::NotArray { name } => match order_at(alloc, text, name)? {
-            Some(order) => Some(Place::Order(order)),
-            None => None,
+            Some(order) => Ok(Some(Place::Order(order))),
+            None => Ok(None),
         },
         JsonError::NotWhole { name, place } | JsonError::CellTooLarge { name, place } => {
-            match order_at(alloc, text, name)? {
-                Some(order) => Some(Place::Number {
-                    order,
-                    number: place,
-                }),
-                None => None,
-            }
+            place_of_number(alloc, text, name, place)
         }
-        JsonError::NotObject | JsonError::Memory => None,
-    })
+        JsonError::NotObject | JsonError::Memory => Ok(None),
+    }
+}
+
+/// Where `serde_json` stops reading a text that is no JSON, if it tells.
+fn place_of_syntax(alloc: Global, text: &[u8]) -> Option<Place>
+    ensures { IsJsonPlace text.now JsonError.NotJson result }
+{
+    let (line, column) = json_syntax_error(alloc, text)?;
+    Some(Place::Stop { line, column })
+}
+
+/// The place of a number in the array of the name of this number in a JSON text.
+fn place_of_number(
+    alloc: Global,
+    text: &[u8],
+    name: usize,
+    number: usize,
+) -> Result<Option<Place>, JsonError>
+    ensures { IfOk result (λ place. IsOfOrder text.now name (λ k. Number k number) place) }
+{
+    match order_at(alloc, text, name)? {
+        Some(order) => Ok(Some(Place::Number { order, number })),
+        None => Ok(None),
+    }
 }
 
 /// The order that the name of this number in a JSON text stands for.

@@ -1,8 +1,7 @@
 //! Operations on what texts say.
 ghost use Rattle.std.specs.Prelude.{◌≡◌, IfOk, Some};
-ghost use Rattle.moc_forms.specs.Combining.{are_blanks, combined, joined};
+ghost use Rattle.moc_forms.specs.Combining.{joined, set_of_two};
 
-use crate::finding::is_blank_byte;
 use crate::form::Form;
 use crate::name_error::FormNameError;
 use moc_ranges::{Coverage, Memory};
@@ -78,7 +77,7 @@ pub struct Said {
 impl Operation {
     /// What the operation makes of two sets. One pass, O(n); refused where memory runs out.
     pub fn of(self, alloc: Global, first: &Coverage, second: &Coverage) -> Result<Coverage, Memory>
-        ensures set { IfOk result (λ c. c ≡ combined self first.now second.now) }
+        ensures set { IfOk result (λ c. c ≡ set_of_two self first.now second.now) }
     {
         match self {
             Operation::Union => first.union(alloc, second),
@@ -105,18 +104,4 @@ impl Operation {
             form: before.form,
         })
     }
-}
-
-/// Whether a text is nothing, or blanks alone: spaces, tabs, CR and LF. Behind a semicolon such a text is none.
-///
-/// Linear in the blanks at its front; takes no memory.
-pub fn is_blank(text: &[u8]) -> bool
-    ensures { result ≡ are_blanks text.now }
-{
-    for byte in text {
-        if !is_blank_byte(*byte) {
-            return false;
-        }
-    }
-    true
 }

@@ -1,9 +1,12 @@
 //! A set of pixels as a picture.
-ghost use Rattle.std.specs.Prelude.{◌≡◌, ◌++◌, ◌<◌, ◌≤◌, ◌*◌, ◌^◌, IfOk, OnOk};
+ghost use Rattle.std.specs.Prelude.{◌≡◌, ◌++◌, ◌<◌, ◌≤◌, ◌*◌, ◌^◌, ◌==◌, IfOk, OnOk};
 ghost use Rattle.std.specs.String.{string_bytes};
-ghost use Rattle.moc_forms.specs.Drawing.{base_diamonds_below, cell_diamonds, diamond, diamonds_at, head, label};
-ghost use Rattle.moc_forms.specs.Drawing.{labels, labels_at, labels_below, legend, legend_entry, mirror, outlines};
-ghost use Rattle.moc_forms.specs.Drawing.{path_head, picture_of, shade_diamonds, shade_path, shades};
+ghost use Rattle.std.specs.List.{filter, flat_map, range_with_len};
+ghost use Rattle.moc_sphere.specs.CellNumber.{cell_number};
+ghost use Rattle.moc_sphere.specs.Rings.{column_of, row_of};
+ghost use Rattle.moc_forms.specs.Drawing.{cell_diamonds, diamond, diamonds_at, group_head, label, labels, labels_at};
+ghost use Rattle.moc_forms.specs.Drawing.{legend, legend_entry, legend_head, mark_diamonds, marks_path, outlines};
+ghost use Rattle.moc_forms.specs.Drawing.{path_head, picture_head, picture_of, shades};
 
 use crate::marks::marks;
 use crate::texts::push_count;
@@ -38,7 +41,7 @@ pub fn draw(alloc: Global, set: &Coverage) -> Result<String, Memory>
 
 /// Adds the title, the bounds of the plane and the ground.
 pub fn push_head(text: &mut String) -> Result<(), AllocError>
-    ensures { OnOk result (string_bytes text.new ≡ string_bytes text.old ++ head) }
+    ensures { OnOk result (string_bytes text.new ≡ string_bytes text.old ++ picture_head) }
 {
     text.push_str(
         "<svg xmlns=\"http://www.w3.org/2000/svg\" viewBox=\"-40 -40 1104 640\">\n<title>Sky coverage</title>\n",
@@ -50,7 +53,7 @@ pub fn push_head(text: &mut String) -> Result<(), AllocError>
 
 /// Adds what the group of the cells begins with.
 pub fn push_mirror(text: &mut String) -> Result<(), AllocError>
-    ensures { OnOk result (string_bytes text.new ≡ string_bytes text.old ++ mirror) }
+    ensures { OnOk result (string_bytes text.new ≡ string_bytes text.old ++ group_head) }
 {
     text.push_str(
         "<g transform=\"translate(1024 0) scale(-1 1)\" clip-path=\"url(#plane)\" shape-rendering=\"crispEdges\">\n",
@@ -78,7 +81,8 @@ fn push_shade(
     shade: u64,
     colour: &str,
 ) -> Result<(), AllocError>
-    ensures { OnOk result (string_bytes text.new ≡ string_bytes text.old ++ shade_path marks.now shade colour.now) }
+    ensures { OnOk result (string_bytes text.new
+        ≡ string_bytes text.old ++ marks_path (filter (λ m. m.1 == shade) marks.now) colour.now) }
 {
     push_path_head(text, colour)?;
     push_marks(text, marks, shade)?;
@@ -99,9 +103,10 @@ pub fn push_path_head(text: &mut String, colour: &str) -> Result<(), AllocError>
 }
 
 /// Adds the diamonds of the marks of a shade.
-#[tactic(auto, unfolding(crate::specs::Drawing::shade_diamonds))]
+#[tactic(auto, unfolding(crate::specs::Drawing::mark_diamonds))]
 fn push_marks(text: &mut String, marks: &[(Cell, u64)], shade: u64) -> Result<(), AllocError>
-    ensures { OnOk result (string_bytes text.new ≡ string_bytes text.old ++ shade_diamonds shade marks.now) }
+    ensures { OnOk result (string_bytes text.new
+        ≡ string_bytes text.old ++ mark_diamonds (filter (λ m. m.1 == shade) marks.now)) }
 {
     for (cell, dark) in marks {
         if *dark == shade {
@@ -123,7 +128,8 @@ pub fn push_outlines(text: &mut String) -> Result<(), AllocError>
 
 /// Adds the diamonds of the base pixels.
 fn push_base_pixels(text: &mut String) -> Result<(), AllocError>
-    ensures { OnOk result (string_bytes text.new ≡ string_bytes text.old ++ base_diamonds_below 12) }
+    ensures { OnOk result (string_bytes text.new
+        ≡ string_bytes text.old ++ flat_map (λ f. cell_diamonds (cell_number 0 f)) (range_with_len 0 12)) }
 {
     for face in 0..12 {
         push_cell(text, Cell::of(Order::of(0), face))?;
@@ -187,7 +193,8 @@ pub fn push_labels(text: &mut String) -> Result<(), AllocError>
 
 /// Adds a text for each base pixel.
 fn push_numbers(text: &mut String) -> Result<(), AllocError>
-    ensures { OnOk result (string_bytes text.new ≡ string_bytes text.old ++ labels_below 12) }
+    ensures { OnOk result (string_bytes text.new
+        ≡ string_bytes text.old ++ flat_map (λ f. labels_at f (row_of 0 f) (column_of 0 f)) (range_with_len 0 12)) }
 {
     for face in 0..12 {
         let (row, column) = Cell::of(Order::of(0), face).row_column();
@@ -223,16 +230,25 @@ fn push_label(text: &mut String, number: u64, x: u64, y: u64) -> Result<(), Allo
     text.push_str("</text>\n")
 }
 
-/// Adds what the shades mean, and which way is east.
+/// Adds what a legend begins with: which way is east, and what its entries tell.
+pub fn push_legend_head(text: &mut String, title: &str) -> Result<(), AllocError>
+    ensures { OnOk result (string_bytes text.new ≡ string_bytes text.old ++ legend_head title.now) }
+{
+    text.push_str("<g font-family=\"sans-serif\" font-size=\"16\" fill=\"#444\">\n")?;
+    text.push_str(
+        "<text x=\"-28\" y=\"262\">E</text>\n<text x=\"1036\" y=\"262\">W</text>\n<text x=\"0\" y=\"566\">",
+    )?;
+    text.push_str(title)?;
+    text.push_str("</text>\n")?;
+    Ok(())
+}
+
+/// Adds what the shades mean.
 #[tactic(auto, unfolding(crate::specs::Drawing::legend))]
 fn push_legend(text: &mut String) -> Result<(), AllocError>
     ensures { OnOk result (string_bytes text.new ≡ string_bytes text.old ++ legend) }
 {
-    text.push_str(
-        "<g font-family=\"sans-serif\" font-size=\"16\" fill=\"#444\">\n\
-         <text x=\"-28\" y=\"262\">E</text>\n<text x=\"1036\" y=\"262\">W</text>\n\
-         <text x=\"0\" y=\"566\">Share of each cell of order 7</text>\n",
-    )?;
+    push_legend_head(text, "Share of each cell of order 7")?;
     push_entry(text, 256, "#6baed6", "up to 1/4")?;
     push_entry(text, 400, "#4292c6", "up to 1/2")?;
     push_entry(text, 544, "#2171b5", "up to 3/4")?;

@@ -50,21 +50,21 @@ impl Figures {
     }
 
     /// How many pixels of order 29 the set has.
-    pub fn pixels(&self) -> u64
+    pub fn count(&self) -> u64
         ensures { result ≡ self.now.pixels }
     {
         self.pixels
     }
 
     /// How many ranges the set has, of pixels of order 29.
-    pub fn ranges(&self) -> u64
+    pub fn range_count(&self) -> u64
         ensures { result ≡ self.now.ranges }
     {
         self.ranges
     }
 
     /// How many cells the set has: the fewest whose union it is.
-    pub fn cells(&self) -> u64
+    pub fn cell_count(&self) -> u64
         ensures { result ≡ self.now.cells }
     {
         self.cells

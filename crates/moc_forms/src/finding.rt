@@ -1,7 +1,8 @@
 //! Which form a text has, as its first byte that is no blank tells.
 ghost use Rattle.std.specs.Prelude.{◌≡◌};
+ghost use Rattle.moc_forms.specs.Combining.{are_blanks};
 ghost use Rattle.moc_forms.specs.Finding.{first_byte as first_byte_of, form_for, hint_of, hint_text};
-ghost use Rattle.moc_forms.specs.Finding.{is_blank_byte as is_blank_byte_of, looks_by};
+ghost use Rattle.moc_forms.specs.Finding.{is_blank_byte as is_blank_byte_of, looks_like};
 
 use crate::form::Form;
 use crate::name_error::FormNameError;
@@ -77,8 +78,17 @@ fn first_byte(text: &[u8]) -> Option<u8>
     None
 }
 
+/// Whether a text is nothing, or blanks alone: spaces, tabs, CR and LF. Behind a semicolon such a text is none.
+///
+/// Linear in the blanks at its front; takes no memory.
+pub fn is_blank(text: &[u8]) -> bool
+    ensures { result ≡ are_blanks text.now }
+{
+    first_byte(text).is_none()
+}
+
 /// Whether a byte is a space, a tab, CR or LF.
-pub fn is_blank_byte(byte: u8) -> bool
+fn is_blank_byte(byte: u8) -> bool
     ensures { result ≡ is_blank_byte_of byte }
 {
     matches!(byte, b' ' | b'\t' | b'\r' | b'\n')
@@ -91,20 +101,20 @@ pub fn is_blank_byte(byte: u8) -> bool
 pub fn hint(form: Form, text: &[u8]) -> Option<Form>
     ensures { result ≡ hint_of form text.now }
 {
-    let seen = looks(text.contains(&b'/'), first_byte(text))?;
+    let seen = looks(text)?;
     if seen == form {
         return None;
     }
     Some(seen)
 }
 
-/// The form that a text looks like which begins with this byte, and has a slash or not.
-fn looks(slash: bool, byte: Option<u8>) -> Option<Form>
-    ensures { result ≡ looks_by slash byte }
+/// The form that a text looks like.
+fn looks(text: &[u8]) -> Option<Form>
+    ensures { result ≡ looks_like text.now }
 {
-    match byte? {
+    match first_byte(text)? {
         b'{' => Some(Form::Json),
-        b'0'..=b'9' | b's' | b',' if slash => Some(Form::Ascii),
+        b'0'..=b'9' | b's' | b',' if text.contains(&b'/') => Some(Form::Ascii),
         b'0'..=b'9' | b's' | b',' => Some(Form::Uniq),
         _ => None,
     }

@@ -18,10 +18,10 @@ mod texts;
 
 pub use changing::Change;
 pub use checking::{Refusal, check, examine};
-pub use combining::{Operation, Said, is_blank};
+pub use combining::{Operation, Said};
 pub use drawing::draw;
 pub use figures::{Figures, describe};
-pub use finding::{Choice, hint, hint_line};
+pub use finding::{Choice, hint, hint_line, is_blank};
 pub use form::{Form, FormError};
 pub use name_error::FormNameError;
 pub use pair::draw_two;

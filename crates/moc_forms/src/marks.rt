@@ -1,9 +1,9 @@
 //! Which cells of a set are drawn, and how dark.
-ghost use Rattle.std.specs.Prelude.{◌≡◌, ◌++◌, ◌<◌, true, IfOk, OnOk};
-ghost use Rattle.moc_sphere.specs.CellNumber.{cell_count};
+ghost use Rattle.std.specs.Prelude.{◌≡◌, ◌++◌, ◌<◌, ◌∷◌, [], true, if◌then◌else◌, IfOk, OnOk};
+ghost use Rattle.moc_sphere.specs.CellNumber.{cell_count, cell_number};
 ghost use Rattle.moc_ranges.specs.Cells.{span};
 ghost use Rattle.moc_ranges.specs.Operations.{meets};
-ghost use Rattle.moc_forms.specs.Drawing.{marks_of, partial_below, partial_mark, shade_of, whole_marks};
+ghost use Rattle.moc_forms.specs.Drawing.{is_partial, marks_of, partial_below, shade_of, whole_marks};
 
 use moc_ranges::{Coverage, Memory};
 use moc_sphere::{Cell, Order};
@@ -73,7 +73,8 @@ fn push_partial(
     index: u64,
 ) -> Result<(), Memory>
     requires { index < cell_count 7 }
-    ensures { OnOk result (marks.new.items ≡ marks.old.items ++ partial_mark set.now index) }
+    ensures { OnOk result (marks.new.items ≡ marks.old.items
+        ++ (if is_partial set.now index then (cell_number 7 index, shade_of set.now index) ∷ [] else [])) }
 {
     let cell = Cell::of(Order::of(DEEPEST), index);
     if set.meets_cell(cell) && !set.contains_cell(cell) {

@@ -1,10 +1,12 @@
 //! Two sets of pixels as a picture.
 ghost use Rattle.std.specs.Prelude.{◌≡◌, ◌++◌, IfOk, OnOk};
 ghost use Rattle.std.specs.String.{string_bytes};
-ghost use Rattle.moc_forms.specs.Drawing.{kinds, legend_of_two, mark_diamonds, marks_of, marks_path, picture_of_two};
+ghost use Rattle.moc_forms.specs.Drawing.{cells_of_two, legend_of_two, mark_diamonds, marks_of, marks_path};
+ghost use Rattle.moc_forms.specs.Drawing.{picture_of_two};
 
 use crate::drawing::{
-    push_cell, push_entry, push_head, push_labels, push_mirror, push_outlines, push_path_head,
+    push_cell, push_entry, push_head, push_labels, push_legend_head, push_mirror, push_outlines,
+    push_path_head,
 };
 use crate::marks::marks;
 use moc_ranges::{Coverage, Memory};
@@ -37,7 +39,7 @@ fn push_kinds(
     first: &Coverage,
     second: &Coverage,
 ) -> Result<(), Memory>
-    ensures { OnOk result (string_bytes text.new ≡ string_bytes text.old ++ kinds first.now second.now) }
+    ensures { OnOk result (string_bytes text.new ≡ string_bytes text.old ++ cells_of_two first.now second.now) }
 {
     push_mirror(text)?;
     push_set(alloc, text, &first.difference(alloc, second)?, "#0072b2")?;
@@ -69,15 +71,11 @@ fn push_diamonds_of(text: &mut String, marks: &[(Cell, u64)]) -> Result<(), Allo
     Ok(())
 }
 
-/// Adds what the colours mean, and which way is east.
+/// Adds what the colours mean.
 fn push_legend_of_two(text: &mut String) -> Result<(), AllocError>
     ensures { OnOk result (string_bytes text.new ≡ string_bytes text.old ++ legend_of_two) }
 {
-    text.push_str(
-        "<g font-family=\"sans-serif\" font-size=\"16\" fill=\"#444\">\n\
-         <text x=\"-28\" y=\"262\">E</text>\n<text x=\"1036\" y=\"262\">W</text>\n\
-         <text x=\"0\" y=\"566\">Cells of order 7 with pixels of</text>\n",
-    )?;
+    push_legend_head(text, "Cells of order 7 with pixels of")?;
     push_entry(text, 256, "#0072b2", "the first alone")?;
     push_entry(text, 432, "#e69f00", "the second alone")?;
     push_entry(text, 624, "#000", "both")?;

@@ -1,7 +1,7 @@
 //! Where a text is at fault.
 ghost use Rattle.std.specs.Prelude.{◌≡◌, ◌++◌, IfOk, OnOk, option_map};
 ghost use Rattle.std.specs.String.{string_bytes};
-ghost use Rattle.moc_forms.specs.Places.{byte_place, line_bytes, line_of_place, place_text, quote_behind};
+ghost use Rattle.moc_forms.specs.Places.{byte_place, line_of_place, place_text, quote_behind};
 
 use crate::texts::push_count;
 use moc_sphere::Order;
@@ -90,7 +90,8 @@ pub fn place_line(
     place: Option<Place>,
     quote: Option<&str>,
 ) -> Result<Option<String>, AllocError>
-    ensures { IfOk result (λ line. line_bytes line ≡ line_of_place number place (option_map (λ q. q.now) quote.entry)) }
+    ensures { IfOk result (λ line.
+        option_map string_bytes line ≡ line_of_place number place (option_map (λ q. q.now) quote.entry)) }
 {
     let mut line = String::new(alloc);
     match (number, place) {

@@ -1,18 +1,17 @@
 //! What stands in a text at its fault.
-ghost use Rattle.std.specs.Prelude.{◌≡◌, ◌++◌, ◌<◌, ◌≤◌, [], length, option_map, slice_index_or, take, IfOk, OnOk};
-ghost use Rattle.std.specs.List.{after_last, before_first, position_or_len, slice_split};
+ghost use Rattle.std.specs.Prelude.{◌≡◌, ◌++◌, ◌<◌, ◌≤◌, ℕ, List, Option, [], length, option_map, slice_index_or};
+ghost use Rattle.std.specs.Prelude.{take, IfOk, OnOk};
+ghost use Rattle.std.specs.List.{after_last, before_first, position_or_len};
 ghost use Rattle.std.specs.String.{string_bytes};
 ghost use Rattle.moc_text.specs.Ascii.{is_separator as is_separator_byte};
-ghost use Rattle.moc_text.specs.JsonForm.{HasText};
-ghost use Rattle.moc_text.specs.Lines.{is_line_feed};
-ghost use Rattle.moc_forms.specs.Places.{fault_line, line_bytes};
-ghost use Rattle.moc_text.specs.Places.{fault_byte};
-ghost use Rattle.moc_forms.specs.Quotes.{IsQuotedInJson, IsQuote, byte_quoted, bytes_quoted, hex_digit};
-ghost use Rattle.moc_forms.specs.Quotes.{is_plain as is_plain_byte, line_numbered, quoted, word_round};
+ghost use Rattle.moc_text.specs.Lines.{is_line_feed, lines_of};
+ghost use Rattle.moc_text.specs.Places.{fault_byte, fault_line};
+ghost use Rattle.moc_forms.specs.Quotes.{IsQuotedText, byte_quoted, bytes_quoted, hex_digit};
+ghost use Rattle.moc_forms.specs.Quotes.{is_plain as is_plain_byte, line_numbered, quote_text, word_round};
 
 use crate::form::FormError;
 use moc_ranges::Memory;
-use moc_text::{JsonError, JsonPlace, TextError, UniqError, is_separator, json_site};
+use moc_text::{JsonError, TextError, UniqError, is_separator, json_site};
 use std::alloc::{AllocError, Global};
 
 /// How many bytes are quoted at most.
@@ -25,7 +24,8 @@ const QUOTED: usize = 40;
 ///
 /// Linear in the text, of which a JSON one is parsed once more; refused where memory runs out.
 pub fn quote(alloc: Global, text: &[u8], error: FormError) -> Result<Option<String>, Memory>
-    ensures { IfOk result (λ quote. IsQuote text.now error (line_bytes quote)) }
+    ensures { IfOk result (λ quote. (found : Option (List ℕ)) × IsQuotedText text.now error found
+        × (option_map string_bytes quote ≡ option_map quote_text found)) }
 {
     match error {
         FormError::Ascii(fault) => Ok(quote_of(alloc, word_at(text, fault))?),
@@ -41,7 +41,8 @@ pub fn quote(alloc: Global, text: &[u8], error: FormError) -> Result<Option<Stri
 
 /// The quote of bytes, if there are any to quote.
 fn quote_of(alloc: Global, piece: Option<&[u8]>) -> Result<Option<String>, AllocError>
-    ensures { IfOk result (λ quote. line_bytes quote ≡ option_map quoted (option_map (λ p. p.now) piece.entry)) }
+    ensures { IfOk result (λ quote.
+        option_map string_bytes quote ≡ option_map quote_text (option_map (λ p. p.now) piece.entry)) }
 {
     let Some(piece) = piece else {
         return Ok(None);
@@ -53,7 +54,7 @@ fn quote_of(alloc: Global, piece: Option<&[u8]>) -> Result<Option<String>, Alloc
 
 /// Adds a quote.
 fn push_quoted(text: &mut String, piece: &[u8]) -> Result<(), AllocError>
-    ensures { OnOk result (string_bytes text.new ≡ string_bytes text.old ++ quoted piece.now) }
+    ensures { OnOk result (string_bytes text.new ≡ string_bytes text.old ++ quote_text piece.now) }
 {
     text.push('`')?;
     push_bytes(text, &piece[..piece.len().min(QUOTED)])?;
@@ -111,10 +112,7 @@ fn hex(number: u8) -> u8
 fn word_at(text: &[u8], fault: TextError) -> Option<&[u8]>
     ensures { option_map (λ w. w.now) result ≡ option_map (word_round text.now) (fault_byte fault) }
 {
-    match fault.place() {
-        Some(at) => Some(word_round_place(text, at)),
-        None => None,
-    }
+    Some(word_round_place(text, fault.place()?))
 }
 
 /// The word round a place.
@@ -161,15 +159,13 @@ fn first_word(bytes: &[u8]) -> usize
 fn line_at(text: &[u8], fault: UniqError) -> Option<&[u8]>
     ensures { option_map (λ l. l.now) result ≡ option_map (line_numbered text.now) (fault_line fault) }
 {
-    match fault.line() {
-        Some(line) => Some(front_line(behind_feeds(text, line.saturating_sub(1)))),
-        None => None,
-    }
+    let line = fault.line()?;
+    Some(front_line(behind_feeds(text, line.saturating_sub(1))))
 }
 
 /// The bytes behind so many line feeds.
 fn behind_feeds(text: &[u8], feeds: usize) -> &[u8]
-    ensures { before_first is_line_feed result.now ≡ slice_index_or (slice_split is_line_feed text.now) feeds [] }
+    ensures { before_first is_line_feed result.now ≡ slice_index_or (lines_of text.now) feeds [] }
 {
     let mut left = feeds;
     let mut rest = text;
@@ -200,28 +196,11 @@ fn front_line(bytes: &[u8]) -> &[u8]
 
 /// The name or the item at the fault of a JSON text.
 fn json_piece(alloc: Global, text: &[u8], fault: JsonError) -> Result<Option<String>, JsonError>
-    ensures { IfOk result (λ piece. IsQuotedInJson text.now fault (option_map string_bytes piece)) }
+    ensures { IfOk result (λ piece. IsQuotedText text.now (FormError.Json fault) (option_map string_bytes piece)) }
 {
-    match fault {
-        JsonError::BadOrder { name } | JsonError::NotArray { name } => {
-            text_at(alloc, text, name, None)
-        }
-        JsonError::NotWhole { name, place } | JsonError::CellTooLarge { name, place } => {
-            text_at(alloc, text, name, Some(place))
-        }
-        JsonError::NotJson | JsonError::NotObject | JsonError::Memory => Ok(None),
-    }
-}
-
-/// The name of this number in a JSON text, or the item of this place in its array.
-fn text_at(
-    alloc: Global,
-    text: &[u8],
-    name: usize,
-    item: Option<usize>,
-) -> Result<Option<String>, JsonError>
-    ensures { IfOk result (λ piece. HasText text.now name item (option_map string_bytes piece)) }
-{
-    let site = json_site(alloc, text, JsonPlace { name, item })?;
+    let Some(place) = fault.place() else {
+        return Ok(None);
+    };
+    let site = json_site(alloc, text, place)?;
     Ok(site.text)
 }

@@ -4,8 +4,14 @@ use Rattle.std.specs.Prelude.{slice_index_or, slice_get}
 use Rattle.std.proofs.lemmas.Bool.{cases_lt}
 use Rattle.moc_sphere.specs.CellNumber.{CellNumber}
 use Rattle.moc_text.specs.Ascii.{deeper}
-use Rattle.moc_text.specs.AsciiText.{HasDeeper, deepest_cell}
+use Rattle.std.specs.List.{Any}
+use Rattle.std.specs.Option.{IsSomeAnd}
+use Rattle.moc_text.specs.AsciiText.{deepest_cell}
 use Rattle.moc_text.specs.Private.AsciiWriting.{AreRising}
+
+-- some of the cells is of a deeper order than the stated one
+abbrev pub HasDeeper : List CellNumber → Option ℕ → Type 0
+HasDeeper cells stated = IsSomeAnd stated (λ k. Any (λ (c : CellNumber). k < c.order) cells)
 
 next_index : (c : CellNumber) (cells : List CellNumber) → 1 ≤ length cells → length (c ∷ cells) - 1 ≡ suc (length cells - 1)
 next_index c cells some = omega arith

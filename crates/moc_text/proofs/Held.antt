@@ -4,7 +4,7 @@ use Rattle.std.specs.Char.{is_ascii_digit, digit_value}
 use Rattle.std.specs.Int.{IsInRange}
 use Rattle.std.specs.Option.{ForSome}
 use Rattle.std.proofs.lemmas.Bool.{ltb-true, ltb-false}
-use Rattle.moc_text.specs.Ascii.{order_in_force, last_of, mark_fault, item_fault, item_pixels}
+use Rattle.moc_text.specs.Ascii.{order_in_force, last_cell, mark_fault, item_fault, item_pixels}
 use Rattle.moc_sphere.specs.CellNumber.{cell_count}
 use Rattle.moc_ranges.specs.Cells.{spans}
 use Rattle.moc_text.specs.declared.ascii.error.TextError.{TextError}
@@ -85,8 +85,8 @@ pub order_at-held : (before : Option ℕ) (m : Option Numeral) → mark_fault m 
 order_at-held before None h = refl
 order_at-held before (Some n) h = ap (λ (v : ℕ). Some v) (held_below (2 ^ 64 - 1) 30 n.value (omega (arith, order_small n h)) (omega arith))
 
-last_of-held : (i : Item) → last_of (held_item i) ≡ held_number (last_of i)
-last_of-held i = elim i.last as (λ l. unwrap_or (held_last l) (held_number i.first) ≡ held_number (unwrap_or l i.first)) [ None ↦ refl | Some n ↦ refl ]
+last_cell-held : (i : Item) → last_cell (held_item i) ≡ held_number (last_cell i)
+last_cell-held i = elim i.last as (λ l. unwrap_or (held_last l) (held_number i.first) ≡ held_number (unwrap_or l i.first)) [ None ↦ refl | Some n ↦ refl ]
 
 -- the tests of an item, on its numbers
 abbrev tests : ℕ → Numeral → Numeral → Option TextError
@@ -121,7 +121,7 @@ item_fault-held None at None h = refl
 item_fault-held (Some k) at None h = refl
 item_fault-held None at (Some i) h = refl
 item_fault-held (Some k) at (Some i) h =
-    ap (tests (cell_count k) (held_number i.first)) (last_of-held i) ∙ tests-held (cell_count k) i.first (last_of i) (omega (arith, cells_fit k (h k refl)))
+    ap (tests (cell_count k) (held_number i.first)) (last_cell-held i) ∙ tests-held (cell_count k) i.first (last_cell i) (omega (arith, cells_fit k (h k refl)))
 
 -- the numbers of an item that is not refused are cells
 tests_pass : (cells : ℕ) (first last : Numeral) → tests cells first last ≡ None → (first.value < cells) × (last.value < cells) × (first.value ≤ last.value)
@@ -137,8 +137,8 @@ tests_pass cells first last h =
       ] refl
     ] refl h
 
-pub item_cells : (k at : ℕ) (i : Item) → item_fault (Some k) at (Some i) ≡ None → (i.first.value < cell_count k) × ((last_of i).value < cell_count k) × (i.first.value ≤ (last_of i).value)
-item_cells k at i h = tests_pass (cell_count k) i.first (last_of i) h
+pub item_cells : (k at : ℕ) (i : Item) → item_fault (Some k) at (Some i) ≡ None → (i.first.value < cell_count k) × ((last_cell i).value < cell_count k) × (i.first.value ≤ (last_cell i).value)
+item_cells k at i h = tests_pass (cell_count k) i.first (last_cell i) h
 
 pub item_pixels-held : (k : Option ℕ) (at : ℕ) (i : Option Item) → IsSmall k → item_fault k at i ≡ None → item_pixels k (held_maybe i) ≡ item_pixels k i
 item_pixels-held None at None small h = refl
@@ -148,6 +148,6 @@ item_pixels-held (Some k) at (Some i) small h =
     let p = item_cells k at i h in
     let fit : cell_count k ≤ 2 ^ 64 - 1 = omega (arith, cells_fit k (small k refl)) in
     let x : min i.first.value (2 ^ 64 - 1) ≡ i.first.value = held_below (2 ^ 64 - 1) (cell_count k) i.first.value p.0 fit in
-    let y : min (last_of i).value (2 ^ 64 - 1) ≡ (last_of i).value = held_below (2 ^ 64 - 1) (cell_count k) (last_of i).value p.1 fit in
-    let z : (last_of (held_item i)).value ≡ (last_of i).value = ap (λ (n : Numeral). n.value) (last_of-held i) ∙ y in
-    ap (λ (f : ℕ). spans k f (last_of (held_item i)).value) x ∙ ap (spans k i.first.value) z
+    let y : min (last_cell i).value (2 ^ 64 - 1) ≡ (last_cell i).value = held_below (2 ^ 64 - 1) (cell_count k) (last_cell i).value p.1 fit in
+    let z : (last_cell (held_item i)).value ≡ (last_cell i).value = ap (λ (n : Numeral). n.value) (last_cell-held i) ∙ y in
+    ap (λ (f : ℕ). spans k f (last_cell (held_item i)).value) x ∙ ap (spans k i.first.value) z

@@ -15,9 +15,13 @@ use Rattle.serde_json.specs.Read.{of_json, of_items, of_members}
 use Rattle.serde_json.specs.Written.{outline, items_outline, members_outline}
 use Rattle.serde_json.proofs.Numbers.{number_of-decimal}
 use Rattle.moc_sphere.specs.CellNumber.{CellNumber, IsCell}
-use Rattle.moc_text.specs.JsonText.{datum, data_at, is_name, with_order, members_below}
+use Rattle.moc_text.specs.JsonText.{datum, data_at, is_name, members_below}
 use Rattle.moc_text.specs.Private.JsonWriting.{orders_by_name, members_along}
 use Rattle.moc_text.proofs.Powers.{cells_fit}
+
+-- the members with those of an order, if it is a name
+abbrev pub with_order : ℕ → Option ℕ → List Data → Members → Members
+with_order k bare ds members = cond (is_name k bare ds) (put (decimal k) (array (items_of ds)) members) members
 
 -- ---- orders by their names
 

@@ -32,13 +32,14 @@ use Rattle.moc_ranges.specs.Cells.{span, pixels_of, is_cell_of, cells_below, cel
 use Rattle.moc_ranges.specs.Lemmas.Cells.{cells_are}
 use Rattle.moc_ranges.specs.Lemmas.{cells_fill}
 use Rattle.moc_text.specs.Ascii.{deeper, IsNumber}
-use Rattle.moc_text.specs.AsciiText.{HasDeeper, IsTooCoarse, deepest_cell, deepest_written, stated_beyond}
+use Rattle.moc_text.specs.AsciiText.{IsTooCoarse, deepest_cell, deepest_written, stated_beyond}
+use Rattle.moc_text.proofs.Deepest.{HasDeeper}
 use Rattle.moc_text.specs.JsonForm.{order_of_name, items_pixels, elements_fault, array_pixels, name_fault}
 use Rattle.moc_text.specs.JsonForm.{members_pixels, members_fault, deepest_name, SaysJson}
-use Rattle.moc_text.specs.JsonText.{datum, data_at, is_name, with_order, members_below, members_of_cells, json_value, json_text}
+use Rattle.moc_text.specs.JsonText.{datum, data_at, is_name, members_below, json_value, json_text}
 use Rattle.moc_text.specs.Private.JsonWriting.{members_along, orders_by_name}
 use Rattle.moc_text.specs.Private.AsciiWriting.{AreRising}
-use Rattle.moc_text.proofs.JsonNames.{along_numbers, members_by_name, members_back}
+use Rattle.moc_text.proofs.JsonNames.{along_numbers, members_by_name, members_back, with_order}
 use Rattle.moc_text.proofs.Written.{IsNumber-decimal, value-decimal, not_deeper, stated_is_deepest}
 
 -- ---- the cells of a set stand by rising order
@@ -436,7 +437,7 @@ deepest_beyond cells s (Some m) lt d le fine =
       | false ↦ λ e. deepest_unstated cells (Some m) d ∙ ap (λ (n : ℕ). Some n) (omega (arith, most, ltb-false m s e))
     ] refl
 
-deepest_is : (a : NumberSet) (stated : Option ℕ) → ForSome stated (λ k. k ≤ 29) → (IsTooCoarse a stated → ⊥) → deepest_name (members_of_cells (cells_of a) stated) ≡ deepest_written a stated
+deepest_is : (a : NumberSet) (stated : Option ℕ) → ForSome stated (λ k. k ≤ 29) → (IsTooCoarse a stated → ⊥) → deepest_name (members_below (cells_of a) (stated_beyond (deepest_cell (cells_of a)) stated) 30) ≡ deepest_written a stated
 deepest_is a None small fine = deepest_unstated (cells_of a) (deepest_cell (cells_of a)) (deepest_of (cells_of a) (cells_are a))
 deepest_is a (Some s) small fine =
     deepest_beyond (cells_of a) s (deepest_cell (cells_of a)) (omega (arith, small s refl)) (deepest_of (cells_of a) (cells_are a)) (stated_is_deepest (cells_of a) s fine) fine
@@ -493,7 +494,7 @@ written_says a stated text utf8 is in_pixels small fine =
     record {
       value = json_value a stated;
       json = record { utf8 = utf8; value = is };
-      members = members_of_cells cells stated;
+      members = members_below cells bare 30;
       object = refl;
       faultless = say.faultless;
       set_is = same_members a (members_pixels (members_below cells bare 30)) (λ q.

@@ -4,9 +4,9 @@ use Rattle.std.specs.Char.{is_ascii_digit}
 use Rattle.std.specs.Str.{all_ascii_digits}
 use Rattle.std.proofs.lemmas.List.{append-nil}
 use Rattle.std.proofs.lemmas.Bool.Decides.{nat_tests}
-use Rattle.moc_text.specs.Ascii.{Word, words, IsNumber, Mark, prefix, ItemText, OneCell, CellRange, item_text, IsItemText, Shape}
+use Rattle.moc_text.specs.Ascii.{Word, words, IsNumber, Mark, mark_prefix, ItemText, OneCell, CellRange, item_text, IsItemText, Shape}
 use Rattle.moc_text.specs.Ascii.{JustMark, JustItem, MarkItem, shape_text, IsShape, IsLawful, ShapeFaultAt}
-use Rattle.moc_text.specs.Ascii.{HasShapeFault, numbers_at, Means, order_in_force, order_after, fault_of, AreRead}
+use Rattle.moc_text.specs.Ascii.{HasShapeFault, numbers_at, Means, order_in_force, order_after, fault_of, AreNumbersOf}
 use Rattle.moc_text.specs.Ascii.{IsFault, IsFirstFault, Says, pixels_said, deepest_of}
 use Rattle.moc_lists.specs.RangeList.{NumberSet}
 use Rattle.moc_text.specs.Private.Scan.{front_digits, past_digits, after_byte, starts_with_digit}
@@ -77,7 +77,7 @@ abbrev shape_of : List ℕ → Shape
 shape_of bytes = shape_after bytes (after_byte 115 bytes)
 
 -- a mark, and what follows it
-shape_of-mark : (prefixed : Bool) (order rest : List ℕ) → IsNumber order → shape_of ((prefix prefixed ++ order) ++ 47 ∷ rest) ≡ marked_of (record { prefixed = prefixed; order = order }) rest
+shape_of-mark : (prefixed : Bool) (order rest : List ℕ) → IsNumber order → shape_of ((mark_prefix prefixed ++ order) ++ 47 ∷ rest) ≡ marked_of (record { prefixed = prefixed; order = order }) rest
 shape_of-mark true order rest h =
     ap (λ (r : List ℕ). mark_after true (front_digits (order ++ 47 ∷ rest)) (after_byte 47 r) (JustItem (OneCell []))) (past_all order (47 ∷ rest) h.1 refl)
     ∙ ap (λ (r : List ℕ). marked_of (record { prefixed = true; order = r }) rest) (front_all order (47 ∷ rest) h.1 refl)
@@ -108,7 +108,7 @@ pub shape_of-text : (s : Shape) → IsShape s → shape_of (shape_text s) ≡ s
 shape_of-text (JustMark m) h = shape_of-mark m.prefixed m.order [] h
 shape_of-text (JustItem c) h = shape_of-cells c h ∙ ap (λ (d : ItemText). JustItem d) (cells_of-text c h)
 shape_of-text (MarkItem m c) h =
-    ap shape_of (append_assoc (prefix m.prefixed ++ m.order) (47 ∷ []) (item_text c))
+    ap shape_of (append_assoc (mark_prefix m.prefixed ++ m.order) (47 ∷ []) (item_text c))
     ∙ shape_of-mark m.prefixed m.order (item_text c) h.0
     ∙ marked_of-cells m c h.1
     ∙ ap (λ (d : ItemText). MarkItem m d) (cells_of-text c h.1)
@@ -168,7 +168,7 @@ one_fault before w f g (inr x) (inr y) =
 
 -- ---- a text has one meaning
 
-one_read : (before : Option ℕ) (ws : List Word) (ms ns : List WordNumbers) → AreRead before ws ms → AreRead before ws ns → ms ≡ ns
+one_read : (before : Option ℕ) (ws : List Word) (ms ns : List WordNumbers) → AreNumbersOf before ws ms → AreNumbersOf before ws ns → ms ≡ ns
 one_read before [] [] [] x y = refl
 one_read before [] [] (n ∷ ns) x y = absurd y
 one_read before [] (m ∷ ms) ns x y = absurd x
@@ -176,10 +176,10 @@ one_read before (w ∷ ws) [] ns x y = absurd x
 one_read before (w ∷ ws) (m ∷ ms) [] x y = absurd y
 one_read before (w ∷ ws) (m ∷ ms) (n ∷ ns) x y =
     let e : m ≡ n = one_meaning w m n x.0 y.0 in
-    let t : ms ≡ ns = one_read (order_in_force before n.mark) ws ms ns (subst (λ (k : WordNumbers). AreRead (order_in_force before k.mark) ws ms) e x.2) y.2 in
+    let t : ms ≡ ns = one_read (order_in_force before n.mark) ws ms ns (subst (λ (k : WordNumbers). AreNumbersOf (order_in_force before k.mark) ws ms) e x.2) y.2 in
     ap (λ (k : WordNumbers). k ∷ ms) e ∙ ap (λ (r : List WordNumbers). n ∷ r) t
 
-read_or_faulty : (before : Option ℕ) (good : List Word) (w : Word) (others : List Word) (ms ns : List WordNumbers) (f : TextError) → AreRead before (good ++ w ∷ others) ns → AreRead before good ms → IsFault (order_after before ms) w f → ⊥
+read_or_faulty : (before : Option ℕ) (good : List Word) (w : Word) (others : List Word) (ms ns : List WordNumbers) (f : TextError) → AreNumbersOf before (good ++ w ∷ others) ns → AreNumbersOf before good ms → IsFault (order_after before ms) w f → ⊥
 read_or_faulty before [] w others [] [] f x y z = x
 read_or_faulty before [] w others [] (n ∷ ns) f x y z = read_no_fault before w n f x.0 x.1 z
 read_or_faulty before [] w others (m ∷ ms) ns f x y z = y
@@ -187,9 +187,9 @@ read_or_faulty before (v ∷ good) w others [] ns f x y z = y
 read_or_faulty before (v ∷ good) w others (m ∷ ms) [] f x y z = x
 read_or_faulty before (v ∷ good) w others (m ∷ ms) (n ∷ ns) f x y z =
     let e : m ≡ n = one_meaning v m n y.0 x.0 in
-    read_or_faulty (order_in_force before n.mark) good w others ms ns f x.2 (subst (λ (k : WordNumbers). AreRead (order_in_force before k.mark) good ms) e y.2) (subst (λ (k : WordNumbers). IsFault (order_after (order_in_force before k.mark) ms) w f) e z)
+    read_or_faulty (order_in_force before n.mark) good w others ms ns f x.2 (subst (λ (k : WordNumbers). AreNumbersOf (order_in_force before k.mark) good ms) e y.2) (subst (λ (k : WordNumbers). IsFault (order_after (order_in_force before k.mark) ms) w f) e z)
 
-first_fault : (before : Option ℕ) (a b : List Word) (v w : Word) (x y : List Word) (ms ns : List WordNumbers) (f g : TextError) → a ++ v ∷ x ≡ b ++ w ∷ y → AreRead before a ms → AreRead before b ns → IsFault (order_after before ms) v f → IsFault (order_after before ns) w g → f ≡ g
+first_fault : (before : Option ℕ) (a b : List Word) (v w : Word) (x y : List Word) (ms ns : List WordNumbers) (f g : TextError) → a ++ v ∷ x ≡ b ++ w ∷ y → AreNumbersOf before a ms → AreNumbersOf before b ns → IsFault (order_after before ms) v f → IsFault (order_after before ns) w g → f ≡ g
 first_fault before [] [] v w x y [] [] f g e ra rb p q =
     let h : v ≡ w = cc in
     one_fault before w f g (subst (λ (k : Word). IsFault before k f) h p) q
@@ -211,7 +211,7 @@ first_fault before (c ∷ a) (d ∷ b) v w x y (m ∷ ms) (n ∷ ns) f g e ra rb
     let h : c ≡ d = cc in
     let t : a ++ v ∷ x ≡ b ++ w ∷ y = cc in
     let k : m ≡ n = one_meaning d m n (subst (λ (z : Word). Means z m) h ra.0) rb.0 in
-    first_fault (order_in_force before n.mark) a b v w x y ms ns f g t (subst (λ (z : WordNumbers). AreRead (order_in_force before z.mark) a ms) k ra.2) rb.2 (subst (λ (z : WordNumbers). IsFault (order_after (order_in_force before z.mark) ms) v f) k p) q
+    first_fault (order_in_force before n.mark) a b v w x y ms ns f g t (subst (λ (z : WordNumbers). AreNumbersOf (order_in_force before z.mark) a ms) k ra.2) rb.2 (subst (λ (z : WordNumbers). IsFault (order_after (order_in_force before z.mark) ms) v f) k p) q
 
 pub one_set : (text : List ℕ) (a b : NumberSet) (j k : Option ℕ) → Says text a j → Says text b k → (a ≡ b) × (j ≡ k)
 one_set text a b j k x y =
@@ -222,4 +222,4 @@ pub one_first_fault : (text : List ℕ) (f g : TextError) → IsFirstFault text 
 one_first_fault text f g x y = first_fault None x.good y.good x.bad y.bad x.others y.others x.numbers y.numbers f g (sym x.parts ∙ y.parts) x.before y.before x.fault y.fault
 
 pub set_or_fault : (text : List ℕ) (a : NumberSet) (k : Option ℕ) (f : TextError) → Says text a k → IsFirstFault text f → ⊥
-set_or_fault text a k f x y = read_or_faulty None y.good y.bad y.others y.numbers x.numbers f (subst (λ (ws : List Word). AreRead None ws x.numbers) y.parts x.read) y.before y.fault
+set_or_fault text a k f x y = read_or_faulty None y.good y.bad y.others y.numbers x.numbers f (subst (λ (ws : List Word). AreNumbersOf None ws x.numbers) y.parts x.read) y.before y.fault

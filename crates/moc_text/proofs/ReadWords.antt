@@ -6,7 +6,7 @@ use Rattle.std.specs.FinSet as set
 use Rattle.std.proofs.lemmas.List.{append-nil}
 use Rattle.moc_text.specs.Ascii.{is_separator, Word, words, words_from, Shape, shape_text, IsShape, numbers_at, Means}
 use Rattle.moc_text.specs.Ascii.{order_in_force, order_after, mark_fault, item_fault, fault_of, item_pixels}
-use Rattle.moc_text.specs.Ascii.{pixels_said, deeper, deepest_of, AreRead, HasShapeFault, IsFirstFault, Says}
+use Rattle.moc_text.specs.Ascii.{pixels_said, deeper, deepest_of, AreNumbersOf, HasShapeFault, IsFirstFault, Says}
 use Rattle.moc_lists.specs.RangeList.{NumberSet}
 use Rattle.moc_ranges.specs.Lemmas.{union-assoc, empty-union, union-empty}
 use Rattle.moc_text.specs.Private.Scan.{is_end, scan_word}
@@ -21,11 +21,11 @@ use Rattle.moc_text.proofs.Scanning.{Scanned, WordOutcome, word_outcome}
 
 -- ---- one more word
 
-AreRead_push : (before : Option ℕ) (ws : List Word) (ns : List WordNumbers) (w : Word) (n : WordNumbers) → AreRead before ws ns → Means w n → fault_of (order_after before ns) w.at n ≡ None → AreRead before (ws ++ w ∷ []) (ns ++ n ∷ [])
-AreRead_push before [] [] w n h m f = (m, f, tt)
-AreRead_push before (v ∷ ws) (k ∷ ns) w n h m f = (h.0, h.1, AreRead_push (order_in_force before k.mark) ws ns w n h.2 m f)
-AreRead_push before [] (k ∷ ns) w n h m f = absurd h
-AreRead_push before (v ∷ ws) [] w n h m f = absurd h
+AreNumbersOf_push : (before : Option ℕ) (ws : List Word) (ns : List WordNumbers) (w : Word) (n : WordNumbers) → AreNumbersOf before ws ns → Means w n → fault_of (order_after before ns) w.at n ≡ None → AreNumbersOf before (ws ++ w ∷ []) (ns ++ n ∷ [])
+AreNumbersOf_push before [] [] w n h m f = (m, f, tt)
+AreNumbersOf_push before (v ∷ ws) (k ∷ ns) w n h m f = (h.0, h.1, AreNumbersOf_push (order_in_force before k.mark) ws ns w n h.2 m f)
+AreNumbersOf_push before [] (k ∷ ns) w n h m f = absurd h
+AreNumbersOf_push before (v ∷ ws) [] w n h m f = absurd h
 
 order_after_push : (before : Option ℕ) (ns : List WordNumbers) (n : WordNumbers) → order_after before (ns ++ n ∷ []) ≡ order_in_force (order_after before ns) n.mark
 order_after_push before [] n = refl
@@ -117,7 +117,7 @@ small_order before (Some n) small h = λ k e.
     let is : n.value ≡ k = cc in
     subst (λ v. v ≤ 29) is (order_small n h)
 
-order_after_small : (before : Option ℕ) (ws : List Word) (ns : List WordNumbers) → IsSmall before → AreRead before ws ns → IsSmall (order_after before ns)
+order_after_small : (before : Option ℕ) (ws : List Word) (ns : List WordNumbers) → IsSmall before → AreNumbersOf before ws ns → IsSmall (order_after before ns)
 order_after_small before [] [] small h = small
 order_after_small before [] (n ∷ ns) small h = absurd h
 order_after_small before (w ∷ ws) [] small h = absurd h
@@ -136,7 +136,7 @@ says_all text a order deepest p =
     let all : p.good ≡ words text = sym (p.parts ∙ append-nil p.good) in
     record {
       numbers = p.numbers;
-      read = subst (λ (ws : List Word). AreRead None ws p.numbers) all p.read;
+      read = subst (λ (ws : List Word). AreNumbersOf None ws p.numbers) all p.read;
       set_is = p.set_is;
       deepest_is = p.deepest_is;
     }
@@ -165,7 +165,7 @@ progress_word text rest a order deepest n after a' order' deepest' small p s mf 
       numbers = p.numbers ++ t ∷ [];
       within = omega (arith, p.within, after_shorter (length text) rest n after s);
       parts = p.parts ∙ ap (λ (ws : List Word). p.good ++ ws) (words_scanned text rest n after p.within s) ∙ sym (append_assoc p.good (w ∷ []) (words_from (length text - length after) after));
-      read = AreRead_push None p.good p.numbers w t p.read (s.shape, s.lawful, refl, refl) fault;
+      read = AreNumbersOf_push None p.good p.numbers w t p.read (s.shape, s.lawful, refl, refl) fault;
       set_is = added ∙ ap (λ (r : NumberSet). set.union r (item_pixels (order_in_force order t.mark) t.item)) p.set_is ∙ ap (λ k. set.union (pixels_said None p.numbers) (item_pixels (order_in_force k t.mark) t.item)) p.order_is ∙ sym (pixels_said_push None p.numbers t);
       order_is = o ∙ ap (λ k. order_in_force k t.mark) p.order_is ∙ sym (order_after_push None p.numbers t);
       deepest_is = d ∙ ap (λ k. deeper k (order_in_force None t.mark)) p.deepest_is ∙ sym (deepest_of_push p.numbers t);

@@ -8,7 +8,7 @@ use Rattle.moc_sphere.specs.CellNumber.{CellNumber, cell_number}
 use Rattle.moc_lists.specs.RangeList.{IsNormal, BeginsAfter}
 use Rattle.moc_ranges.specs.Cells.{AreOfOrders, cells_in}
 use Rattle.moc_text.specs.Ascii.{deeper}
-use Rattle.moc_text.specs.AsciiText.{one, follows, runs_from, runs_of, deepest_cell}
+use Rattle.moc_text.specs.AsciiText.{run_of_one, follows, runs_from, runs_of, deepest_cell}
 use Rattle.moc_text.specs.Private.AsciiWriting.{AreRising, cells_from, runs_in}
 use Rattle.moc_text.specs.declared.ascii.writing.Run.{Run as CellRun}
 
@@ -123,13 +123,13 @@ run_whole k first last zero [] stops = ap (λ n. run k first n ∷ []) (omega ar
 run_whole k first last zero (c ∷ cells) stops =
     let here : last ≡ last + 0 = omega arith in
     let is : follows (run k first last) c ≡ false = ap (λ n. eqb c.order k && eqb (n + 1) c.index) here ∙ stops in
-    ap (λ b. cond b (runs_from (run k first c.index) cells) (run k first last ∷ runs_from (one c) cells)) is
+    ap (λ b. cond b (runs_from (run k first c.index) cells) (run k first last ∷ runs_from (run_of_one c) cells)) is
     ∙ ap (λ n. run k first n ∷ runs_of (c ∷ cells)) here
 run_whole k first last (suc n) cells stops =
     let more : last + suc n ≡ last + 1 + n = omega arith in
     let rest = map (cell_number k) (range_with_len (last + 1 + 1) n) ++ cells in
     let is : follows (run k first last) (cell_number k (last + 1)) ≡ true = (λ i. eq-eqb k k refl i && eq-eqb (last + 1) (last + 1) refl i) in
-    ap (λ b. cond b (runs_from (run k first (last + 1)) rest) (run k first last ∷ runs_from (one (cell_number k (last + 1))) rest)) is
+    ap (λ b. cond b (runs_from (run k first (last + 1)) rest) (run k first last ∷ runs_from (run_of_one (cell_number k (last + 1))) rest)) is
     ∙ run_whole k first (last + 1) n cells (subst (λ m. Stops k m cells) more stops)
     ∙ ap (λ m. run k first m ∷ runs_of cells) (sym more)
 

@@ -8,7 +8,7 @@ use Rattle.std.proofs.lemmas.List.{append-nil}
 use Rattle.moc_lists.specs.RangeList.{NumberSet}
 use Rattle.moc_text.specs.Ascii.{is_separator, Word, words, Shape, shape_text, IsShape, numbers_at, Means, HasShapeFault}
 use Rattle.moc_text.specs.Ascii.{IsFault, order_in_force, order_after, mark_fault, item_fault, fault_of, item_pixels}
-use Rattle.moc_text.specs.Ascii.{pixels_said, deeper, deepest_of, AreRead, Says, IsFirstFault}
+use Rattle.moc_text.specs.Ascii.{pixels_said, deeper, deepest_of, AreNumbersOf, Says, IsFirstFault}
 use Rattle.moc_text.specs.Private.Scan.{◌>>=◌, is_end, scan_word}
 use Rattle.moc_text.specs.Private.Scanned.{word_numbers, faultless, numbers_of, reading_of}
 use Rattle.moc_text.specs.Reading.{IsReadingOf, ReadingsAreTold}
@@ -85,11 +85,11 @@ record FaultIn (before : Option ℕ) (ws : List Word) (f : TextError) : Type 0 w
   bad : Word
   others : List Word
   parts : ws ≡ good ++ bad ∷ others
-  read : AreRead before good numbers
+  read : AreNumbersOf before good numbers
   fault : IsFault (order_after before numbers) bad f
 
 abbrev Outcome : Option ℕ → List Word → Result (List WordNumbers) TextError → Type 0
-Outcome before ws (Ok ns) = (ts : List WordNumbers) × AreRead before ws ts × (pixels_said before ns ≡ pixels_said before ts) × (deepest_of ns ≡ deepest_of ts)
+Outcome before ws (Ok ns) = (ts : List WordNumbers) × AreNumbersOf before ws ts × (pixels_said before ns ≡ pixels_said before ts) × (deepest_of ns ≡ deepest_of ts)
 Outcome before ws (Err f) = FaultIn before ws f
 
 -- the words after one that is read

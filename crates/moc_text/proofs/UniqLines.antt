@@ -2,7 +2,7 @@
 use Rattle.std.proofs.Common.{◌≡◌, ℕ, suc, ◌+◌, ◌-◌, ◌*◌, ◌^◌, ◌<◌, ◌≤◌, Bool, true, false, cond, not, ◌&&◌, eqb, List, [], ◌∷◌, ◌++◌, length, map, min, Option, Some, None, refl, sym, ap, ◌∙◌, arith, length-append, append_assoc, pow-suc, lit<, inl, inr}
 use Rattle.std.specs.Prelude.{decimal}
 use Rattle.std.specs.Char.{is_ascii_digit}
-use Rattle.std.specs.List.{AllByRecursion, onto_first}
+use Rattle.std.specs.List.{AllByRecursion, flat_map, onto_first}
 use Rattle.std.specs.Str.{all_ascii_digits}
 use Rattle.std.specs.Option.{option_or}
 use Rattle.std.specs.FinSet as set
@@ -11,17 +11,18 @@ use Rattle.std.proofs.Math.Nat.{pow-le-pow_right}
 use Rattle.std.proofs.lemmas.Bool.{cases_lt, cases_order, eqb-true, le-leb, le-ltb, lt-leb, lt-ltb}
 use Rattle.std.proofs.lemmas.Bool.Decides.{nat_tests}
 use Rattle.std.proofs.lemmas.List.{append-nil, map-append}
+use Rattle.std.proofs.lemmas.List.Folds.{flat_map-map}
 use Rattle.moc_sphere.specs.CellNumber.{CellNumber, cell_number, is_uniq, IsCell, uniq_of}
 use Rattle.moc_lists.specs.RangeList.{NumberSet}
 use Rattle.moc_ranges.specs.Operations.{pixels, IsWithin}
-use Rattle.moc_ranges.specs.Cells.{span, spans, pixels_of, cells_of}
+use Rattle.moc_ranges.specs.Cells.{span, pixels_of, cells_of}
 use Rattle.moc_ranges.specs.Lemmas.Cells.{cells_are}
-use Rattle.moc_ranges.specs.Lemmas.{spans-one, pixels_of-append, cells_fill, union-assoc, empty-union, union-empty}
+use Rattle.moc_ranges.specs.Lemmas.{pixels_of-append, cells_fill, union-assoc, empty-union, union-empty}
 use Rattle.moc_text.specs.Ascii.{IsNumber}
 use Rattle.moc_text.specs.Private.Scan.{front_digits, past_digits, held_after, starts_with_digit}
 use Rattle.moc_text.specs.Lines.{lines_of}
 use Rattle.moc_ranges.specs.Faults.{first_fault_of}
-use Rattle.moc_text.specs.UniqList.{line_fault, uniq_fault, numbers_on, SaysUniq, number_lines, uniq_text}
+use Rattle.moc_text.specs.UniqList.{uniq_line_fault, uniq_fault, numbers_on, SaysUniq, uniq_text}
 use Rattle.moc_text.specs.Private.UniqReading.{behind_line_feed, IsPart, IsLineRead, LinesSoFar}
 use Rattle.moc_text.specs.declared.uniq.UniqError.{UniqError}
 use Rattle.moc_text.specs.declared.uniq.UniqError.TheVariants.{BadByte, NotUniq}
@@ -155,18 +156,18 @@ not_digits [] b l e = rw e refl
 not_digits (d ∷ ds) b l e =
     ap (λ v. is_ascii_digit d && v) (not_digits ds b l e) ∙ elim (is_ascii_digit d) as (λ v. (v && false) ≡ false) [ true ↦ refl | false ↦ refl ]
 
-bad_byte : (n : ℕ) (line : List ℕ) → all_ascii_digits line ≡ false → line_fault n line ≡ Some (BadByte n)
+bad_byte : (n : ℕ) (line : List ℕ) → all_ascii_digits line ≡ false → uniq_line_fault n line ≡ Some (BadByte n)
 bad_byte n [] h = absurd cc
 bad_byte n (b ∷ line) h = rw h refl
 
-bad_after : (n : ℕ) (ds after : List ℕ) → all_ascii_digits ds ≡ true → starts_with_digit after ≡ false → behind_line_feed after ≡ None → first_fault_of line_fault n (lines_of (ds ++ after)) ≡ Some (BadByte n)
+bad_after : (n : ℕ) (ds after : List ℕ) → all_ascii_digits ds ≡ true → starts_with_digit after ≡ false → behind_line_feed after ≡ None → first_fault_of uniq_line_fault n (lines_of (ds ++ after)) ≡ Some (BadByte n)
 bad_after n ds [] h stops none = absurd cc
 bad_after n ds (b ∷ more) h stops none =
     let f = lines_bad ds b more h (no_line_end b more none) in
-    ap (first_fault_of line_fault n) f.2 ∙ ap (λ x. option_or x (first_fault_of line_fault (n + 1) f.1)) (bad_byte n (ds ++ b ∷ f.0) (not_digits ds b f.0 stops))
+    ap (first_fault_of uniq_line_fault n) f.2 ∙ ap (λ x. option_or x (first_fault_of uniq_line_fault (n + 1) f.1)) (bad_byte n (ds ++ b ∷ f.0) (not_digits ds b f.0 stops))
 
-pub line_bad : (n : ℕ) (bytes : List ℕ) → behind_line_feed (past_digits bytes) ≡ None → first_fault_of line_fault n (lines_of bytes) ≡ Some (BadByte n)
-line_bad n bytes none = ap (λ (b : List ℕ). first_fault_of line_fault n (lines_of b)) (digits-split bytes) ∙ bad_after n (front_digits bytes) (past_digits bytes) (front-digits bytes) (past-digits bytes) none
+pub line_bad : (n : ℕ) (bytes : List ℕ) → behind_line_feed (past_digits bytes) ≡ None → first_fault_of uniq_line_fault n (lines_of bytes) ≡ Some (BadByte n)
+line_bad n bytes none = ap (λ (b : List ℕ). first_fault_of uniq_line_fault n (lines_of b)) (digits-split bytes) ∙ bad_after n (front_digits bytes) (past_digits bytes) (front-digits bytes) (past-digits bytes) none
 
 -- ---- a line of digits
 
@@ -181,11 +182,11 @@ numbers_cons (b ∷ l) ls some = refl
 abbrev line_test : ℕ → Bool → ℕ → Option UniqError
 line_test n digits v = cond (not digits) (Some (BadByte n)) (cond (is_uniq v) None (Some (NotUniq n)))
 
-fault_cons : (n : ℕ) (l : List ℕ) → 0 < length l → line_fault n l ≡ line_test n (all_ascii_digits l) (digits_value 10 l)
+fault_cons : (n : ℕ) (l : List ℕ) → 0 < length l → uniq_line_fault n l ≡ line_test n (all_ascii_digits l) (digits_value 10 l)
 fault_cons n [] some = absurd (omega arith)
 fault_cons n (b ∷ l) some = refl
 
-line_fine : (n : ℕ) (l : List ℕ) → IsNumber l → 4 ≤ digits_value 10 l → digits_value 10 l < 2 ^ 62 → line_fault n l ≡ None
+line_fine : (n : ℕ) (l : List ℕ) → IsNumber l → 4 ≤ digits_value 10 l → digits_value 10 l < 2 ^ 62 → uniq_line_fault n l ≡ None
 line_fine n l h low high = fault_cons n l h.0 ∙ rw (h.1, le-leb 4 (digits_value 10 l) low, lt-ltb (digits_value 10 l) (2 ^ 62) high) refl
 
 shorter : (bytes rest : List ℕ) → 0 < length bytes → behind_line_feed (past_digits bytes) ≡ Some rest → length rest < length bytes
@@ -207,7 +208,7 @@ line_empty n bytes rest old some e same =
     record {
       shorter = shorter bytes rest some e;
       part = record { cells = []; are_cells = tt; numbers = ap numbers_on lines; set_is = sym (union-empty old) };
-      fault = ap (first_fault_of line_fault n) lines;
+      fault = ap (first_fault_of uniq_line_fault n) lines;
     }
 
 some_digits : (bytes : List ℕ) → (length (past_digits bytes) ≡ length bytes → ⊥) → 0 < length (front_digits bytes)
@@ -221,7 +222,7 @@ below_top v top n lt e = omega arith
 
 -- a line with the number of a cell
 pub line_cell : (n : ℕ) (bytes rest : List ℕ) (old new : NumberSet) (c : CellNumber) → 0 < length bytes → behind_line_feed (past_digits bytes) ≡ Some rest → (length (past_digits bytes) ≡ length bytes → ⊥) → IsCell c → uniq_of c ≡ held_after 0 (front_digits bytes)
-    → new ≡ set.union old (spans c.order c.index c.index) → IsLineRead n bytes old rest new
+    → new ≡ set.union old (span c.order c.index) → IsLineRead n bytes old rest new
 unfolding pixels_of
 line_cell n bytes rest old new c some e digits is number added =
     let ds = front_digits bytes in
@@ -235,9 +236,9 @@ line_cell n bytes rest old new c some e digits is number added =
         cells = c ∷ [];
         are_cells = (is, tt);
         numbers = ap numbers_on lines ∙ numbers_cons ds (lines_of rest) h.0 ∙ ap (λ v. v ∷ numbers_on (lines_of rest)) value;
-        set_is = added ∙ ap (set.union old) (spans-one c.order c.index ∙ sym (union-empty (span c.order c.index)));
+        set_is = added ∙ ap (set.union old) (sym (union-empty (span c.order c.index)));
       };
-      fault = ap (first_fault_of line_fault n) lines ∙ ap (λ x. option_or x (first_fault_of line_fault (n + 1) (lines_of rest))) (line_fine n ds h (omega (arith, value, range.0)) (omega (arith, value, range.1)));
+      fault = ap (first_fault_of uniq_line_fault n) lines ∙ ap (λ x. option_or x (first_fault_of uniq_line_fault (n + 1) (lines_of rest))) (line_fine n ds h (omega (arith, value, range.0)) (omega (arith, value, range.1)));
     }
 
 wrong_number : (v top : ℕ) → 2 ^ 62 ≤ top → ((4 ≤ min v top) × (min v top < 2 ^ 62) → ⊥) → is_uniq v ≡ false
@@ -251,14 +252,14 @@ wrong_number v top le h = elim (cases_lt v 4) [
 
 -- a line with another number
 pub line_wrong : (n : ℕ) (bytes rest : List ℕ) → 0 < length bytes → behind_line_feed (past_digits bytes) ≡ Some rest → (length (past_digits bytes) ≡ length bytes → ⊥)
-    → ((4 ≤ held_after 0 (front_digits bytes)) × (held_after 0 (front_digits bytes) < 2 ^ 62) → ⊥) → first_fault_of line_fault n (lines_of bytes) ≡ Some (NotUniq n)
+    → ((4 ≤ held_after 0 (front_digits bytes)) × (held_after 0 (front_digits bytes) < 2 ^ 62) → ⊥) → first_fault_of uniq_line_fault n (lines_of bytes) ≡ Some (NotUniq n)
 line_wrong n bytes rest some e digits wrong =
     let ds = front_digits bytes in
     let h : IsNumber ds = (some_digits bytes digits, front-digits bytes) in
     let held : held_after 0 ds ≡ min (digits_value 10 ds) (2 ^ 64 - 1) = held_is ds h.1 in
     let w : is_uniq (digits_value 10 ds) ≡ false = wrong_number (digits_value 10 ds) (2 ^ 64 - 1) (omega arith) (λ r. wrong (omega (arith, held, r.0), omega (arith, held, r.1))) in
-    let f : line_fault n ds ≡ Some (NotUniq n) = fault_cons n ds h.0 ∙ rw (h.1, w) refl in
-    ap (first_fault_of line_fault n) (front_lines bytes rest some e) ∙ ap (λ x. option_or x (first_fault_of line_fault (n + 1) (lines_of rest))) f
+    let f : uniq_line_fault n ds ≡ Some (NotUniq n) = fault_cons n ds h.0 ∙ rw (h.1, w) refl in
+    ap (first_fault_of uniq_line_fault n) (front_lines bytes rest some e) ∙ ap (λ x. option_or x (first_fault_of uniq_line_fault (n + 1) (lines_of rest))) f
 
 -- ---- all lines
 
@@ -309,6 +310,10 @@ one_set text a b x y =
 
 -- ---- what is written is read
 
+-- each number in decimal, and LF
+abbrev number_lines : List ℕ → List ℕ
+number_lines ns = flat_map (λ n. decimal n ++ 10 ∷ []) ns
+
 lines_numbers : (ns : List ℕ) → AllByRecursion (λ n. n < 2 ^ 62) ns → lines_of (number_lines ns) ≡ map decimal ns
 lines_numbers [] h = refl
 lines_numbers (n ∷ ns) h =
@@ -326,13 +331,13 @@ small_numbers : (cells : List CellNumber) → AllByRecursion IsCell cells → Al
 small_numbers [] h = tt
 small_numbers (c ∷ cells) h = ((uniq_range c h.0).1, small_numbers cells h.1)
 
-decimals_fine : (at : ℕ) (cells : List CellNumber) → AllByRecursion IsCell cells → first_fault_of line_fault at (map decimal (map uniq_of cells)) ≡ None
+decimals_fine : (at : ℕ) (cells : List CellNumber) → AllByRecursion IsCell cells → first_fault_of uniq_line_fault at (map decimal (map uniq_of cells)) ≡ None
 decimals_fine at [] h = refl
 decimals_fine at (c ∷ cells) h =
     let range = uniq_range c h.0 in
     let n : IsNumber (decimal (uniq_of c)) = IsNumber-decimal (uniq_of c) (omega (arith, range.1)) in
     let value = value-decimal (uniq_of c) (omega (arith, range.1)) in
-    ap (λ x. option_or x (first_fault_of line_fault (at + 1) (map decimal (map uniq_of cells)))) (line_fine at (decimal (uniq_of c)) n (omega (arith, value, range.0)) (omega (arith, value, range.1)))
+    ap (λ x. option_or x (first_fault_of uniq_line_fault (at + 1) (map decimal (map uniq_of cells)))) (line_fine at (decimal (uniq_of c)) n (omega (arith, value, range.0)) (omega (arith, value, range.1)))
     ∙ decimals_fine (at + 1) cells h.1
 
 pub written_uniq_is_read : (a : NumberSet) → IsWithin a pixels → SaysUniq (uniq_text a) a
@@ -340,9 +345,10 @@ unfolding uniq_text uniq_fault
 written_uniq_is_read a in_pixels =
     let cells = cells_of a in
     let are : AllByRecursion IsCell cells = cells_are a in
-    let lines : lines_of (number_lines (map uniq_of cells)) ≡ map decimal (map uniq_of cells) = lines_numbers (map uniq_of cells) (small_numbers cells are) in
+    let lines : lines_of (flat_map (λ c. decimal (uniq_of c) ++ 10 ∷ []) cells) ≡ map decimal (map uniq_of cells) =
+    ap lines_of (sym (flat_map-map (λ n. decimal n ++ 10 ∷ []) uniq_of cells)) ∙ lines_numbers (map uniq_of cells) (small_numbers cells are) in
     record {
-      faultless = ap (first_fault_of line_fault 1) lines ∙ decimals_fine 1 cells are;
+      faultless = ap (first_fault_of uniq_line_fault 1) lines ∙ decimals_fine 1 cells are;
       cells = cells;
       are_cells = are;
       numbers = sym (ap numbers_on lines ∙ numbers_decimal (map uniq_of cells) (small_numbers cells are));

@@ -13,9 +13,9 @@ use Rattle.std.proofs.lemmas.Str.Parse.{digit_from_value}
 use Rattle.std.proofs.lemmas.Fmt.{decimal_is_IsNumeral}
 use Rattle.moc_text.specs.Ascii.{Word, words, words_from, IsNumber, Mark, mark_text, ItemText, OneCell, CellRange, item_text}
 use Rattle.moc_text.specs.Ascii.{IsItemText, Shape, JustMark, JustItem, MarkItem, shape_text, IsShape, numbers_at, mark_at}
-use Rattle.moc_text.specs.Ascii.{item_at, order_in_force, last_of, mark_fault, item_fault, fault_of, item_pixels}
-use Rattle.moc_text.specs.Ascii.{pixels_said, deeper, deepest_of, AreRead, Says}
-use Rattle.moc_text.specs.AsciiText.{one, follows, runs_from, runs_of, run_text, order_text, mark_text_of, stated_beyond, words_of, ascii_text, text_of_cells, HasDeeper, IsTooCoarse, deepest_cell, deepest_written}
+use Rattle.moc_text.specs.Ascii.{item_at, order_in_force, last_cell, mark_fault, item_fault, fault_of, item_pixels}
+use Rattle.moc_text.specs.Ascii.{pixels_said, deeper, deepest_of, AreNumbersOf, Says}
+use Rattle.moc_text.specs.AsciiText.{run_of_one, follows, runs_from, runs_of, run_text, order_text, mark_text_of, stated_beyond, words_of, ascii_text, IsTooCoarse, deepest_cell, deepest_written}
 use Rattle.moc_text.specs.declared.ascii.number.Item.{Item}
 use Rattle.moc_text.specs.declared.ascii.number.WordNumbers.{WordNumbers}
 use Rattle.moc_text.specs.declared.ascii.writing.Run.{Run as CellRun}
@@ -34,6 +34,7 @@ use Rattle.moc_ranges.specs.Cells.{span, spans, pixels_of, cells_of}
 use Rattle.moc_ranges.specs.Lemmas.Cells.{cells_are}
 use Rattle.moc_ranges.specs.Lemmas.{spans-one, cells_fill, union-assoc, empty-union}
 use Rattle.std.proofs.lemmas.Bool.Decides.{nat_tests}
+use Rattle.moc_text.proofs.Deepest.{HasDeeper}
 
 -- ---- decimal numbers
 
@@ -122,20 +123,20 @@ runs_from-all : (r : CellRun) (cs : List CellNumber) → IsRun r → AllByRecurs
 runs_from-all r [] h all = (h, tt)
 runs_from-all r (c ∷ cs) h all =
     let k : IsCell c = all.0 in
-    elim (follows r c) as (λ v. follows r c ≡ v → AllByRecursion IsRun (cond v (runs_from (record r { last = c.index }) cs) (r ∷ runs_from (one c) cs))) [
+    elim (follows r c) as (λ v. follows r c ≡ v → AllByRecursion IsRun (cond v (runs_from (record r { last = c.index }) cs) (r ∷ runs_from (run_of_one c) cs))) [
       | true ↦ λ e.
           let p = both (eqb c.order r.order) (eqb (r.last + 1) c.index) e in
           let o : c.order ≡ r.order = eqb-true c.order r.order p.0 in
           let n : r.last + 1 ≡ c.index = eqb-true (r.last + 1) c.index p.1 in
           runs_from-all (record r { last = c.index }) cs (record { order = h.order; forwards = omega (arith, h.forwards); last = subst (λ j. c.index < cell_count j) o k.index_in_range }) all.1
-      | false ↦ λ e. (h, runs_from-all (one c) cs (record { order = k.order_in_range; forwards = omega arith; last = k.index_in_range }) all.1)
+      | false ↦ λ e. (h, runs_from-all (run_of_one c) cs (record { order = k.order_in_range; forwards = omega arith; last = k.index_in_range }) all.1)
     ] refl
 
 runs_of-all : (cells : List CellNumber) → AllByRecursion IsCell cells → AllByRecursion IsRun (runs_of cells)
 runs_of-all [] all = tt
 runs_of-all (c ∷ cs) all =
     let k : IsCell c = all.0 in
-    runs_from-all (one c) cs (record { order = k.order_in_range; forwards = omega arith; last = k.index_in_range }) all.1
+    runs_from-all (run_of_one c) cs (record { order = k.order_in_range; forwards = omega arith; last = k.index_in_range }) all.1
 
 -- ---- the shapes are lawful
 
@@ -171,7 +172,7 @@ shapes_are stated before (r ∷ rs) small h = (run_shape_is before r h.0, shapes
 
 record RunItem (r : CellRun) (i : Item) : Type 0 where
   first : i.first.value ≡ r.first
-  last : (last_of i).value ≡ r.last
+  last : (last_cell i).value ≡ r.last
 
 run_item : (at : ℕ) (r : CellRun) → IsRun r → RunItem r (item_at at (run_cells r))
 run_item at r h =
@@ -231,8 +232,8 @@ run_parts (Some j) at r h =
 item_ok : (k at : ℕ) (i : Item) (r : CellRun) → RunItem r i → r.first ≤ r.last → r.last < cell_count k → item_fault (Some k) at (Some i) ≡ None
 item_ok k at i r v le lt =
     let a : ltb i.first.value (cell_count k) ≡ true = lt-ltb _ _ (omega (arith, v.first)) in
-    let b : ltb (last_of i).value (cell_count k) ≡ true = lt-ltb _ _ (omega (arith, v.last)) in
-    let c : ltb (last_of i).value i.first.value ≡ false = le-ltb _ _ (omega (arith, v.first, v.last)) in
+    let b : ltb (last_cell i).value (cell_count k) ≡ true = lt-ltb _ _ (omega (arith, v.last)) in
+    let c : ltb (last_cell i).value i.first.value ≡ false = le-ltb _ _ (omega (arith, v.first, v.last)) in
     rw (a, b, c) refl
 
 run_fault : (before : Option ℕ) (at : ℕ) (r : CellRun) (n : WordNumbers) → IsRun r → RunParts before r n → fault_of before at n ≡ None
@@ -240,18 +241,18 @@ run_fault before at r n h p =
     let i : item_fault (order_in_force before n.mark) at n.item ≡ None = ap (λ k. item_fault k at n.item) p.order ∙ ap (item_fault (Some r.order) at) p.item_is ∙ item_ok r.order at p.item r p.values h.forwards h.last in
     rw (p.mark, i) refl
 
-bare_read : (before bare : Option ℕ) (at : ℕ) → IsSmall bare → AreRead before (placed at (bare_shapes bare)) (numbers at (bare_shapes bare))
+bare_read : (before bare : Option ℕ) (at : ℕ) → IsSmall bare → AreNumbersOf before (placed at (bare_shapes bare)) (numbers at (bare_shapes bare))
 bare_read before None at h = tt
 bare_read before (Some k) at h = ((JustMark (order_mark k), order_number k (h k refl), refl, refl), ap (λ f. option_or f None) (order_mark-fault at k (h k refl)), tt)
 
-runs_read : (stated before : Option ℕ) (rs : List CellRun) (at : ℕ) → IsSmall stated → AllByRecursion IsRun rs → AreRead before (placed at (shapes_of stated before rs)) (numbers at (shapes_of stated before rs))
+runs_read : (stated before : Option ℕ) (rs : List CellRun) (at : ℕ) → IsSmall stated → AllByRecursion IsRun rs → AreNumbersOf before (placed at (shapes_of stated before rs)) (numbers at (shapes_of stated before rs))
 runs_read stated before [] at small h = bare_read before (stated_beyond before stated) at (small_beyond before stated small)
 runs_read stated before (r ∷ rs) at small h =
     let p = run_parts before at r h.0 in
     let next = at + length (shape_text (run_shape before r)) + 1 in (
       (run_shape before r, run_shape_is before r h.0, refl, refl),
       run_fault before at r (numbers_at at (run_shape before r)) h.0 p,
-      subst (λ k. AreRead k (placed next (shapes_of stated (Some r.order) rs)) (numbers next (shapes_of stated (Some r.order) rs))) (sym p.order) (runs_read stated (Some r.order) rs next small h.1),
+      subst (λ k. AreNumbersOf k (placed next (shapes_of stated (Some r.order) rs)) (numbers next (shapes_of stated (Some r.order) rs))) (sym p.order) (runs_read stated (Some r.order) rs next small h.1),
     )
 
 -- ---- their pixels and their deepest order
@@ -270,7 +271,7 @@ bare_said before (Some k) at = empty-union set.empty
 run_said : (before : Option ℕ) (r : CellRun) (n : WordNumbers) → RunParts before r n → item_pixels (order_in_force before n.mark) n.item ≡ run_pixels r
 run_said before r n p =
     ap (λ k. item_pixels k n.item) p.order ∙ ap (item_pixels (Some r.order)) p.item_is
-    ∙ ap (λ (f : ℕ). spans r.order f (last_of p.item).value) p.values.first
+    ∙ ap (λ (f : ℕ). spans r.order f (last_cell p.item).value) p.values.first
     ∙ ap (spans r.order r.first) p.values.last
 
 runs_said : (stated before : Option ℕ) (rs : List CellRun) (at : ℕ) → AllByRecursion IsRun rs → pixels_said before (numbers at (shapes_of stated before rs)) ≡ all_pixels rs
@@ -335,7 +336,7 @@ runs_from-pixels : (r : CellRun) (cs : List CellNumber) → r.first ≤ r.last �
 unfolding pixels_of
 runs_from-pixels r [] h = refl
 runs_from-pixels r (c ∷ cs) h =
-    elim (follows r c) as (λ v. follows r c ≡ v → all_pixels (cond v (runs_from (record r { last = c.index }) cs) (r ∷ runs_from (one c) cs)) ≡ set.union (run_pixels r) (set.union (span c.order c.index) (pixels_of cs))) [
+    elim (follows r c) as (λ v. follows r c ≡ v → all_pixels (cond v (runs_from (record r { last = c.index }) cs) (r ∷ runs_from (run_of_one c) cs)) ≡ set.union (run_pixels r) (set.union (span c.order c.index) (pixels_of cs))) [
       | true ↦ λ e.
           let p = both (eqb c.order r.order) (eqb (r.last + 1) c.index) e in
           let o : c.order ≡ r.order = eqb-true c.order r.order p.0 in
@@ -344,28 +345,28 @@ runs_from-pixels r (c ∷ cs) h =
           ∙ ap (λ (a : NumberSet). set.union a (pixels_of cs)) (run_more r c h n o)
           ∙ union-assoc (run_pixels r) (span c.order c.index) (pixels_of cs)
       | false ↦ λ e.
-          ap (set.union (run_pixels r)) (runs_from-pixels (one c) cs (omega arith) ∙ ap (λ (a : NumberSet). set.union a (pixels_of cs)) (spans-one c.order c.index))
+          ap (set.union (run_pixels r)) (runs_from-pixels (run_of_one c) cs (omega arith) ∙ ap (λ (a : NumberSet). set.union a (pixels_of cs)) (spans-one c.order c.index))
     ] refl
 
 runs_pixels : (cells : List CellNumber) → all_pixels (runs_of cells) ≡ pixels_of cells
 unfolding pixels_of
 runs_pixels [] = refl
-runs_pixels (c ∷ cs) = runs_from-pixels (one c) cs (omega arith) ∙ ap (λ (a : NumberSet). set.union a (pixels_of cs)) (spans-one c.order c.index)
+runs_pixels (c ∷ cs) = runs_from-pixels (run_of_one c) cs (omega arith) ∙ ap (λ (a : NumberSet). set.union a (pixels_of cs)) (spans-one c.order c.index)
 
 runs_from-deepest : (r : CellRun) (cs : List CellNumber) → deepest_run (runs_from r cs) ≡ deeper (Some r.order) (deepest_cell cs)
 runs_from-deepest r [] = refl
 runs_from-deepest r (c ∷ cs) =
-    elim (follows r c) as (λ v. follows r c ≡ v → deepest_run (cond v (runs_from (record r { last = c.index }) cs) (r ∷ runs_from (one c) cs)) ≡ deeper (Some r.order) (deeper (Some c.order) (deepest_cell cs))) [
+    elim (follows r c) as (λ v. follows r c ≡ v → deepest_run (cond v (runs_from (record r { last = c.index }) cs) (r ∷ runs_from (run_of_one c) cs)) ≡ deeper (Some r.order) (deeper (Some c.order) (deepest_cell cs))) [
       | true ↦ λ e.
           let p = both (eqb c.order r.order) (eqb (r.last + 1) c.index) e in
           let o : c.order ≡ r.order = eqb-true c.order r.order p.0 in
           runs_from-deepest (record r { last = c.index }) cs ∙ sym (deeper_same r.order (deepest_cell cs)) ∙ ap (λ n. deeper (Some r.order) (deeper (Some n) (deepest_cell cs))) (sym o)
-      | false ↦ λ e. ap (deeper (Some r.order)) (runs_from-deepest (one c) cs)
+      | false ↦ λ e. ap (deeper (Some r.order)) (runs_from-deepest (run_of_one c) cs)
     ] refl
 
 runs_of-deepest : (cells : List CellNumber) → deepest_run (runs_of cells) ≡ deepest_cell cells
 runs_of-deepest [] = refl
-runs_of-deepest (c ∷ cs) = runs_from-deepest (one c) cs
+runs_of-deepest (c ∷ cs) = runs_from-deepest (run_of_one c) cs
 
 pub not_deeper : (c : CellNumber) (cs : List CellNumber) (k : ℕ) → (HasDeeper (c ∷ cs) (Some k) → ⊥) → c.order ≤ k
 not_deeper c cs k h = elim (cases_lt k c.order) [ inl lt ↦ absurd (h (0, c, omega arith, refl, lt)) | inr le ↦ le ]
@@ -393,11 +394,11 @@ written_is_read a stated in_pixels small fine =
     let rs = runs_of cells in
     let runs : AllByRecursion IsRun rs = runs_of-all cells all in
     let shapes = shapes_of stated None rs in
-    let text : join_with_byte 32 (map shape_text shapes) ≡ text_of_cells cells stated = ap (join_with_byte 32) (shapes_of-text stated None rs) in
-    let ws : placed 0 shapes ≡ words (text_of_cells cells stated) = sym (words-join 0 shapes (shapes_are stated None rs small runs)) ∙ ap words text in
+    let text : join_with_byte 32 (map shape_text shapes) ≡ join_with_byte 32 (words_of stated None rs) = ap (join_with_byte 32) (shapes_of-text stated None rs) in
+    let ws : placed 0 shapes ≡ words (join_with_byte 32 (words_of stated None rs)) = sym (words-join 0 shapes (shapes_are stated None rs small runs)) ∙ ap words text in
     record {
       numbers = numbers 0 shapes;
-      read = subst (λ (w : List Word). AreRead None w (numbers 0 shapes)) ws (runs_read stated None rs 0 small runs);
+      read = subst (λ (w : List Word). AreNumbersOf None w (numbers 0 shapes)) ws (runs_read stated None rs 0 small runs);
       set_is = sym (runs_said stated None rs 0 runs ∙ runs_pixels cells ∙ cells_fill a in_pixels);
       deepest_is = sym (runs_deepest stated None rs 0 small runs ∙ ap (λ k. deeper k stated) (runs_of-deepest cells) ∙ deepest_is_written a stated fine);
     }

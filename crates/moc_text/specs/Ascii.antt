@@ -1,7 +1,7 @@
 -- Reading the ASCII form of a coverage (MOC 2.0): what a text says, or its first fault.
 use Rattle.std.specs.Prelude.{◌≡◌, ℕ, ◌+◌, ◌<◌, ◌≤◌, Bool, true, not, ◌||◌, ◌==◌, nat_lt, if◌then◌else◌, List, [], ◌∷◌}
 use Rattle.std.specs.Prelude.{◌++◌, length, Option, Some, None, unwrap_or, ◌⊎◌, max, fold}
-use Rattle.std.specs.Option.{option_or}
+use Rattle.std.specs.Option.{option_map_or, option_or}
 use Rattle.std.specs.Str.{all_ascii_digits}
 use Rattle.std.specs.Str.Parse.{digits_value}
 use Rattle.std.specs.FinSet as set
@@ -52,12 +52,12 @@ pub record Mark : Type 0 where
   pub order : List ℕ
 
 -- `s` or nothing
-abbrev pub prefix : Bool → List ℕ
-prefix prefixed = if prefixed then 115 ∷ [] else []
+abbrev pub mark_prefix : Bool → List ℕ
+mark_prefix prefixed = if prefixed then 115 ∷ [] else []
 
 -- the bytes of a mark
 abbrev pub mark_text : Mark → List ℕ
-mark_text m = prefix m.prefixed ++ m.order ++ 47 ∷ []
+mark_text m = mark_prefix m.prefixed ++ m.order ++ 47 ∷ []
 
 -- a number; or a number, `-`, a number
 pub data ItemText : Type 0 where
@@ -123,7 +123,7 @@ number_at at digits = record { at = at; value = digits_value 10 digits }
 
 -- the number of a mark that begins at a place
 abbrev pub mark_at : ℕ → Mark → Numeral
-mark_at at m = number_at (at + length (prefix m.prefixed)) m.order
+mark_at at m = number_at (at + length (mark_prefix m.prefixed)) m.order
 
 -- the numbers of an item that begins at a place
 abbrev pub item_at : ℕ → ItemText → Item
@@ -149,8 +149,8 @@ order_in_force before None = before
 order_in_force before (Some n) = Some n.value
 
 -- the last cell of an item
-abbrev pub last_of : Item → Numeral
-last_of i = unwrap_or i.last i.first
+abbrev pub last_cell : Item → Numeral
+last_cell i = unwrap_or i.last i.first
 
 -- of a mark, if there is one: an order above 29
 abbrev pub mark_fault : Option Numeral → Option TextError
@@ -163,8 +163,8 @@ item_fault k at None = None
 item_fault None at (Some i) = Some (NoOrder at)
 item_fault (Some k) at (Some i) =
     if not (nat_lt i.first.value (cell_count k)) then Some (CellTooLarge i.first.at)
-    else (if not (nat_lt (last_of i).value (cell_count k)) then Some (CellTooLarge (last_of i).at)
-    else (if nat_lt (last_of i).value i.first.value then Some (Backwards i.first.at) else None))
+    else (if not (nat_lt (last_cell i).value (cell_count k)) then Some (CellTooLarge (last_cell i).at)
+    else (if nat_lt (last_cell i).value i.first.value then Some (Backwards i.first.at) else None))
 
 -- the first fault of a lawful word's numbers, if there is one
 abbrev pub fault_of : Option ℕ → ℕ → WordNumbers → Option TextError
@@ -177,12 +177,12 @@ IsFault before w f =
     HasShapeFault w f ⊎ ((n : WordNumbers) × Means w n × (fault_of before w.at n ≡ Some f))
 
 -- No word is faulty, and these are the numbers of each.
-abbrev pub AreRead : Option ℕ → List Word → List WordNumbers → Type 0
-AreRead before [] [] = Unit {0}
-AreRead before (w ∷ ws) (n ∷ ns) =
-    Means w n × (fault_of before w.at n ≡ None) × AreRead (order_in_force before n.mark) ws ns
-AreRead before [] (n ∷ ns) = ⊥
-AreRead before (w ∷ ws) [] = ⊥
+abbrev pub AreNumbersOf : Option ℕ → List Word → List WordNumbers → Type 0
+AreNumbersOf before [] [] = Unit {0}
+AreNumbersOf before (w ∷ ws) (n ∷ ns) =
+    Means w n × (fault_of before w.at n ≡ None) × AreNumbersOf (order_in_force before n.mark) ws ns
+AreNumbersOf before [] (n ∷ ns) = ⊥
+AreNumbersOf before (w ∷ ws) [] = ⊥
 
 -- the order in force after words with these numbers
 abbrev pub order_after : Option ℕ → List WordNumbers → Option ℕ
@@ -190,9 +190,8 @@ order_after before ns = fold (λ k n. order_in_force k n.mark) before ns
 
 -- the pixels of an item's cells, in the order in force
 abbrev pub item_pixels : Option ℕ → Option Item → NumberSet
-item_pixels k None = set.empty
-item_pixels None (Some i) = set.empty
-item_pixels (Some k) (Some i) = spans k i.first.value (last_of i).value
+item_pixels order item =
+    option_map_or (λ i. option_map_or (λ k. spans k i.first.value (last_cell i).value) order set.empty) item set.empty
 
 -- the pixels of all items
 abbrev pub pixels_said : Option ℕ → List WordNumbers → NumberSet
@@ -216,7 +215,7 @@ deepest_of (n ∷ ns) = deeper (order_in_force None n.mark) (deepest_of ns)
 -- The text says this set and this deepest order.
 pub record Says (text : List ℕ) (a : NumberSet) (deepest : Option ℕ) : Type 0 where
   pub numbers : List WordNumbers
-  pub read : AreRead None (words text) numbers
+  pub read : AreNumbersOf None (words text) numbers
   pub set_is : a ≡ pixels_said None numbers
   pub deepest_is : deepest ≡ deepest_of numbers
 
@@ -227,5 +226,5 @@ pub record IsFirstFault (text : List ℕ) (f : TextError) : Type 0 where
   pub bad : Word
   pub others : List Word
   pub parts : words text ≡ good ++ bad ∷ others
-  pub before : AreRead None good numbers
+  pub before : AreNumbersOf None good numbers
   pub fault : IsFault (order_after None numbers) bad f

@@ -2,6 +2,7 @@
 use Rattle.std.specs.Prelude.{ℕ, ◌+◌, Bool, ◌&&◌, ◌==◌, nat_lt, ◌<◌, if◌then◌else◌, List, [], ◌∷◌, ◌++◌, Option, Some}
 use Rattle.std.specs.Prelude.{None, option_map, option_to_list, decimal}
 use Rattle.std.specs.List.{Any, join_with_byte}
+use Rattle.std.specs.Option.{IsSomeAnd}
 use Rattle.moc_sphere.specs.CellNumber.{CellNumber}
 use Rattle.moc_lists.specs.RangeList.{NumberSet}
 use Rattle.moc_ranges.specs.Cells.{cells_of}
@@ -9,8 +10,8 @@ use Rattle.moc_text.specs.Ascii.{deeper}
 use Rattle.moc_text.specs.declared.ascii.writing.Run.{Run}
 
 -- a run of one cell
-abbrev pub one : CellNumber → Run
-one c = record { order = c.order; first = c.index; last = c.index }
+abbrev pub run_of_one : CellNumber → Run
+run_of_one c = record { order = c.order; first = c.index; last = c.index }
 
 -- whether the cell is the next of the run's order
 abbrev pub follows : Run → CellNumber → Bool
@@ -20,12 +21,12 @@ follows r c = (c.order == r.order) && (r.last + 1 == c.index)
 abbrev pub runs_from : Run → List CellNumber → List Run
 runs_from r [] = r ∷ []
 runs_from r (c ∷ cs) =
-    if follows r c then runs_from (record r { last = c.index }) cs else r ∷ runs_from (one c) cs
+    if follows r c then runs_from (record r { last = c.index }) cs else r ∷ runs_from (run_of_one c) cs
 
 -- the longest runs of consecutive cells of one order
 abbrev pub runs_of : List CellNumber → List Run
 runs_of [] = []
-runs_of (c ∷ cs) = runs_from (one c) cs
+runs_of (c ∷ cs) = runs_from (run_of_one c) cs
 
 -- a single cell `a`, a run of two or more `a-b`
 abbrev pub run_text : Run → List ℕ
@@ -53,22 +54,13 @@ words_of stated before [] = option_to_list (option_map order_text (stated_beyond
 words_of stated before (r ∷ rs) =
     (mark_text_of before r.order ++ run_text r) ∷ words_of stated (Some r.order) rs
 
--- the text of cells and an optional stated order
-abbrev pub text_of_cells : List CellNumber → Option ℕ → List ℕ
-text_of_cells cells stated = join_with_byte 32 (words_of stated None (runs_of cells))
-
 -- the text of a set and an optional stated order
 unfoldable pub ascii_text : NumberSet → Option ℕ → List ℕ
-ascii_text a stated = text_of_cells (cells_of a) stated
-
--- Some of the cells is of a deeper order than the stated one.
-abbrev pub HasDeeper : List CellNumber → Option ℕ → Type 0
-HasDeeper cells None = ⊥
-HasDeeper cells (Some k) = Any (λ c. k < c.order) cells
+ascii_text a stated = join_with_byte 32 (words_of stated None (runs_of (cells_of a)))
 
 -- Some cell of the set is of a deeper order than the stated one.
 abbrev pub IsTooCoarse : NumberSet → Option ℕ → Type 0
-IsTooCoarse a stated = HasDeeper (cells_of a) stated
+IsTooCoarse a stated = IsSomeAnd stated (λ k. Any (λ c. k < c.order) (cells_of a))
 
 -- the greatest order of a cell
 abbrev pub deepest_cell : List CellNumber → Option ℕ

@@ -24,23 +24,17 @@ abbrev pub is_name : ℕ → Option ℕ → List Data → Bool
 is_name k bare [] = option_map_or (λ j. k == j) bare false
 is_name k bare (d ∷ ds) = true
 
--- the members with those of an order, if it is a name; `put` keeps the names in byte order
-abbrev pub with_order : ℕ → Option ℕ → List Data → Members → Members
-with_order k bare ds members =
-    if is_name k bare ds then put (decimal k) (array (items_of ds)) members else members
-
--- the members of the orders below a number
+-- the members of the orders below a number that are names; `put` keeps these in byte order
 abbrev pub members_below : List CellNumber → Option ℕ → ℕ → Members
 members_below cells bare zero = no_members
-members_below cells bare (suc k) = with_order k bare (data_at k cells) (members_below cells bare k)
+members_below cells bare (suc k) =
+    if is_name k bare (data_at k cells)
+    then put (decimal k) (array (items_of (data_at k cells))) (members_below cells bare k)
+    else members_below cells bare k
 
--- the members of cells and a stated order: it is a name without cells where it is deeper than these
-abbrev pub members_of_cells : List CellNumber → Option ℕ → Members
-members_of_cells cells stated = members_below cells (stated_beyond (deepest_cell cells) stated) 30
-
--- the object of a set and an optional stated order
+-- the object of a set and an optional stated order, which is a name without cells where it is deeper than all cells
 unfoldable pub json_value : NumberSet → Option ℕ → Data
-json_value a stated = object (members_of_cells (cells_of a) stated)
+json_value a stated = object (members_below (cells_of a) (stated_beyond (deepest_cell (cells_of a)) stated) 30)
 
 -- its text with no space
 unfoldable pub json_text : NumberSet → Option ℕ → List ℕ

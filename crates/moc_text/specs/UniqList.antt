@@ -12,16 +12,16 @@ use Rattle.moc_text.specs.declared.uniq.UniqError.{UniqError}
 use Rattle.moc_text.specs.declared.uniq.UniqError.TheVariants.{BadByte, NotUniq}
 
 -- what is wrong with the line of a number, if anything; an empty line is skipped
-abbrev pub line_fault : ℕ → List ℕ → Option UniqError
-line_fault number [] = None
-line_fault number (b ∷ line) =
+abbrev pub uniq_line_fault : ℕ → List ℕ → Option UniqError
+uniq_line_fault number [] = None
+uniq_line_fault number (b ∷ line) =
     if not (all_ascii_digits (b ∷ line)) then Some (BadByte number)
     else if is_uniq (digits_value 10 (b ∷ line)) then None
     else Some (NotUniq number)
 
 -- the fault of the first faulty line of a text
 unfoldable pub uniq_fault : List ℕ → Option UniqError
-uniq_fault text = first_fault_of line_fault 1 (lines_of text)
+uniq_fault text = first_fault_of uniq_line_fault 1 (lines_of text)
 
 -- the numbers of the lines that are not empty
 abbrev pub numbers_on : List (List ℕ) → List ℕ
@@ -37,10 +37,6 @@ pub record SaysUniq (text : List ℕ) (a : NumberSet) : Type 0 where
   pub numbers : map uniq_of cells ≡ numbers_on (lines_of text)
   pub pixels_are : a ≡ pixels_of cells
 
--- each number in decimal, and LF
-abbrev pub number_lines : List ℕ → List ℕ
-number_lines ns = flat_map (λ n. decimal n ++ 10 ∷ []) ns
-
--- the list of a set: the numbers of its cells, rising
+-- the list of a set: the numbers of its cells, rising, each in decimal and with LF
 unfoldable pub uniq_text : NumberSet → List ℕ
-uniq_text a = number_lines (map uniq_of (cells_of a))
+uniq_text a = flat_map (λ c. decimal (uniq_of c) ++ 10 ∷ []) (cells_of a)

@@ -1,16 +1,17 @@
 //! NUNIQ lists: the NUNIQ number of a cell on each line.
-ghost use Rattle.std.specs.Prelude.{◌≡◌, ◌++◌, ◌<◌, ◌⊎◌, map, IfErr, IfOk, length, MatchOption, MatchResult, OnOk};
+ghost use Rattle.std.specs.Prelude.{◌≡◌, ◌++◌, ◌<◌, ◌∷◌, [], decimal, IfErr, IfOk, length, MatchResult, OnOk};
+ghost use Rattle.std.specs.List.{flat_map};
 ghost use Rattle.std.specs.Option.{option_copied};
 ghost use Rattle.std.specs.String.{string_bytes};
 ghost use Rattle.moc_sphere.specs.CellNumber.{uniq_of};
 ghost use Rattle.moc_lists.specs.RangeList.{NumberSet};
 ghost use Rattle.moc_text.specs.Lines.{lines_of};
 ghost use Rattle.moc_text.specs.Names.{name_of_uniq};
+ghost use Rattle.moc_text.specs.Places.{fault_line};
 ghost use Rattle.moc_text.specs.Private.UniqReading.{behind_line_feed, IsLineRead};
 ghost use Rattle.moc_text.specs.Faults.{Fails};
-ghost use Rattle.moc_text.specs.declared.uniq.UniqError.TheVariants.{BadByte, Memory, NotUniq};
 ghost use Rattle.moc_ranges.specs.Faults.{first_fault_of};
-ghost use Rattle.moc_text.specs.UniqList.{line_fault, number_lines, SaysUniq, uniq_fault, uniq_text};
+ghost use Rattle.moc_text.specs.UniqList.{SaysUniq, uniq_fault, uniq_line_fault, uniq_text};
 
 use crate::ascii::digits;
 use itoa::Buffer;
@@ -53,7 +54,7 @@ impl UniqError {
 
     /// The number of the line that is at fault, counted from 1; `None` for `Memory`.
     pub fn line(self) -> Option<usize>
-        ensures { MatchOption result (self ≡ Memory) (λ line. (self ≡ BadByte line) ⊎ (self ≡ NotUniq line)) }
+        ensures { result ≡ fault_line self }
     {
         match self {
             UniqError::BadByte { line } | UniqError::NotUniq { line } => Some(line),
@@ -93,7 +94,7 @@ fn read_line<'a>(
     requires { 0 < length bytes.now }
     ensures { MatchResult result
         (λ rest. IsLineRead line bytes.now cells.old rest.now cells.new)
-        (λ e. Fails UniqError.Memory (first_fault_of line_fault line (lines_of bytes.now)) e) }
+        (λ e. Fails UniqError.Memory (first_fault_of uniq_line_fault line (lines_of bytes.now)) e) }
 {
     let (value, after) = digits(bytes);
     let Some(rest) = past_line(after) else {
@@ -105,7 +106,7 @@ fn read_line<'a>(
     let Ok(cell) = Cell::from_uniq(value) else {
         return Err(UniqError::NotUniq { line });
     };
-    cells.add_cells(cell.order(), cell.index(), cell.index())?;
+    cells.add_cell(cell)?;
     Ok(rest)
 }
 
@@ -140,7 +141,8 @@ pub fn read_uniq(alloc: Global, text: &[u8]) -> Result<Coverage, UniqError>
 
 /// Writes the lines of cells.
 fn push_numbers(text: &mut String, cells: &[Cell]) -> Result<(), AllocError>
-    ensures { OnOk result (string_bytes text.new ≡ string_bytes text.old ++ number_lines (map uniq_of cells.now)) }
+    ensures { OnOk result (string_bytes text.new
+        ≡ string_bytes text.old ++ flat_map (λ c. decimal (uniq_of c) ++ 10 ∷ []) cells.now) }
 {
     for cell in cells {
         text.push_str(Buffer::new().format(cell.uniq()))?;

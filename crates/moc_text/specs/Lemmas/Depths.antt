@@ -23,7 +23,7 @@ use Rattle.moc_ranges.specs.Lemmas.Cells.{cells_are, parent_of_pixel, in_cell_ra
 use Rattle.moc_text.specs.declared.ascii.number.Item.{Item}
 use Rattle.moc_text.specs.declared.ascii.number.Numeral.{Numeral}
 use Rattle.moc_text.specs.declared.ascii.number.WordNumbers.{WordNumbers}
-use Rattle.moc_text.specs.Ascii.{order_in_force, item_pixels, pixels_said, deepest_of, deeper, last_of, Says}
+use Rattle.moc_text.specs.Ascii.{order_in_force, item_pixels, pixels_said, deepest_of, deeper, last_cell, Says}
 use Rattle.moc_text.specs.AsciiText.{IsTooCoarse}
 use Rattle.moc_text.specs.JsonForm.{order_of_name, whole_number, cell_pixels, items_pixels, array_pixels}
 use Rattle.moc_text.specs.JsonForm.{members_pixels, deepest_name, SaysJson}
@@ -307,7 +307,7 @@ spans_made j first last = record {
 item_made : (k : ℕ) (j : Option ℕ) (i : Option Item) → IsAtMost j k → IsMadeOf k (item_pixels j i)
 item_made k j None le = empty_made k
 item_made k None (Some i) le = empty_made k
-item_made k (Some j) (Some i) le = deeper_made j k _ le (spans_made j i.first.value (last_of i).value)
+item_made k (Some j) (Some i) le = deeper_made j k _ le (spans_made j i.first.value (last_cell i).value)
 
 in_force : (before : Option ℕ) (mark : Option Numeral) (k : ℕ) → IsAtMost before k
     → IsAtMost (order_in_force None mark) k → IsAtMost (order_in_force before mark) k

@@ -8,7 +8,7 @@ use Rattle.moc_lists.specs.RangeList.{NumberSet}
 use Rattle.moc_ranges.specs.Cells.{pixels_of}
 use Rattle.moc_text.specs.Lines.{is_line_feed, lines_of}
 use Rattle.moc_ranges.specs.Faults.{first_fault_of}
-use Rattle.moc_text.specs.UniqList.{line_fault, numbers_on, uniq_fault}
+use Rattle.moc_text.specs.UniqList.{uniq_line_fault, numbers_on, uniq_fault}
 
 -- what comes after a line that ends where the bytes begin
 abbrev pub behind_line_feed : List ℕ → Option (List ℕ)
@@ -28,10 +28,11 @@ pub record IsLineRead (line : ℕ) (bytes : List ℕ) (old : NumberSet) (rest : 
     (new : NumberSet) : Type 0 where
   pub shorter : length rest < length bytes
   pub part : IsPart bytes old rest new
-  pub fault : first_fault_of line_fault line (lines_of bytes) ≡ first_fault_of line_fault (line + 1) (lines_of rest)
+  pub fault :
+      first_fault_of uniq_line_fault line (lines_of bytes) ≡ first_fault_of uniq_line_fault (line + 1) (lines_of rest)
 
 -- The lines before the rest are read, and the next one has this number.
 pub record LinesSoFar (text rest : List ℕ) (line : ℕ) (a : NumberSet) : Type 0 where
   pub part : IsPart text set.empty rest a
-  pub fault : uniq_fault text ≡ first_fault_of line_fault line (lines_of rest)
+  pub fault : uniq_fault text ≡ first_fault_of uniq_line_fault line (lines_of rest)
   pub within : line + length rest ≤ length text + 1

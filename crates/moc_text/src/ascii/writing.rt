@@ -1,14 +1,14 @@
 //! Writing the ASCII form.
 ghost use Rattle.std.specs.Prelude.{◌≡◌, ◌++◌, ◌∷◌, ◌<◌, ◌≤◌, decimal, IfErr, IfOk, IsTrue, OnOk, ◌↔◌, ◌⊎◌};
-ghost use Rattle.std.specs.Prelude.{List, Option, ℕ};
+ghost use Rattle.std.specs.Prelude.{List, None, Option, ℕ};
 ghost use Rattle.std.specs.Option.{ForSome};
 ghost use Rattle.std.specs.String.{string_bytes};
-ghost use Rattle.moc_sphere.specs.CellNumber.{CellNumber};
+ghost use Rattle.std.specs.List.{join_with_byte};
 ghost use Rattle.moc_ranges.specs.Cells.{AreOfOrders, cells_of};
-ghost use Rattle.moc_lists.specs.RangeList.{IsNormal};
+ghost use Rattle.moc_lists.specs.RangeList.{IsNormal, NumberSet};
 ghost use Rattle.moc_text.specs.Ascii.{Says};
-ghost use Rattle.moc_text.specs.AsciiText.{ascii_text, deepest_cell, deepest_written, HasDeeper, IsTooCoarse};
-ghost use Rattle.moc_text.specs.AsciiText.{run_text, stated_beyond, text_of_cells};
+ghost use Rattle.moc_text.specs.AsciiText.{ascii_text, deepest_cell, deepest_written, IsTooCoarse, run_text};
+ghost use Rattle.moc_text.specs.AsciiText.{runs_of, stated_beyond, words_of};
 ghost use Rattle.moc_text.specs.Private.AsciiWriting.{gap, onward, run_part, runs_in, stated_part};
 ghost use Rattle.moc_text.specs.declared.ascii.writing.Run.{Run as CellRun};
 
@@ -97,10 +97,7 @@ pub fn depth_of(order: Option<Order>) -> Option<u8>
     ensures same { result ≡ order }
     ensures small { ForSome result (λ k. k ≤ 29) }
 {
-    match order {
-        Some(order) => Some(order.get()),
-        None => None,
-    }
+    Some(order?.get())
 }
 
 /// The deepest order of a cell of the set, of the orders that its cells can have.
@@ -121,7 +118,7 @@ pub fn deepest_of(set: &Coverage, orders: (u8, u8)) -> Option<u8>
 
 /// Whether the deepest order of cells is deeper than the stated one.
 pub fn is_too_coarse(deepest: Option<u8>, stated: Option<u8>) -> bool
-    ensures { (cells : List CellNumber) → deepest ≡ deepest_cell cells → (IsTrue result ↔ HasDeeper cells stated) }
+    ensures { (set : NumberSet) → deepest ≡ deepest_cell (cells_of set) → (IsTrue result ↔ IsTooCoarse set stated) }
 {
     match (deepest, stated) {
         (Some(deepest), Some(stated)) => deepest > stated,
@@ -159,7 +156,8 @@ fn push_all(
 ) -> Result<(), AllocError>
     requires each { AreOfOrders orders.0 orders.1 (cells_of set.now) }
     requires in_range { orders.1 ≤ 30 }
-    ensures { OnOk result (text.new ≡ text.old ++ text_of_cells (cells_of set.now) stated) }
+    ensures { OnOk result (text.new
+        ≡ text.old ++ join_with_byte 32 (words_of stated None (runs_of (cells_of set.now)))) }
 {
     let mut before = None;
     for level in orders.0..orders.1 {

@@ -1,9 +1,9 @@
 //! Why a JSON text could not be read.
 
-ghost use Rattle.std.specs.Prelude.{◌≡◌, ◌⊎◌, MatchOption};
+ghost use Rattle.std.specs.Prelude.{◌≡◌, option_map};
 ghost use Rattle.moc_text.specs.Names.{name_of_json};
-ghost use Rattle.moc_text.specs.Places.{IsJsonFaultAt};
-ghost use Rattle.moc_text.specs.declared.json_form.error.JsonError.TheVariants.{Memory, NotJson, NotObject};
+ghost use Rattle.moc_text.specs.Places.{json_fault_at};
+ghost use Rattle.moc_text.specs.declared.json_form.error.JsonError.TheVariants.{Memory};
 
 use moc_ranges::Memory as MemoryRefused;
 use std::alloc::{AllocError, AllocFailed};
@@ -81,9 +81,7 @@ impl JsonError {
     /// The place at which the text is at fault; `None` for what is no fault at a place: `NotJson`, `NotObject`
     /// and `Memory`.
     pub fn place(self) -> Option<JsonPlace>
-        ensures { MatchOption result
-            ((self ≡ NotJson) ⊎ (self ≡ NotObject) ⊎ (self ≡ Memory))
-            (λ place. IsJsonFaultAt place.name place.item self) }
+        ensures { option_map (λ place. (place.name, place.item)) result ≡ json_fault_at self }
     {
         match self {
             JsonError::BadOrder { name } | JsonError::NotArray { name } => {

@@ -203,10 +203,7 @@ pub struct JsonSite {
 fn member_of(value: &Value, number: usize) -> Option<(&String, &Value)>
     ensures { option_map (λ m. (string_bytes m.0.now, view m.1.now)) result ≡ object_member number (view value.now) }
 {
-    match value.as_object() {
-        Some(members) => member_at(members, number),
-        None => None,
-    }
+    member_at(value.as_object()?, number)
 }
 
 /// What stands at a place that a fault of a JSON text tells (`JsonError::place`). Where the text is no object, nothing

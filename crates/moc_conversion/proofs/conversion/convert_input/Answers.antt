@@ -27,10 +27,14 @@ returns-clause-converts g c = (
   record { set = c.in_ok-set.set; deepest = c.in_ok-set.deepest; form = c.args.from },
   (
     c.in_ok-text.text.items,
-    c.in_ok-text.ensures.whole,
+    c.in_ok-text.ensures.whole.0,
     (
-      subst (λ (bytes : List ℕ). FormSays c.args.from bytes c.in_ok-set.set c.in_ok-set.deepest) c.deref.ensures.value c.in_ok-set.ensures.says,
-      refl,
+      c.in_ok-text.ensures.whole.1,
+      c.in_ok-text.ensures.whole.2,
+      (
+        subst (λ (bytes : List ℕ). FormSays c.args.from bytes c.in_ok-set.set c.in_ok-set.deepest) c.deref.ensures.value c.in_ok-set.ensures.says,
+        refl,
+      ),
     ),
   ),
   c.in_ok-text_of.ensures.text,

@@ -1,11 +1,13 @@
 use Rattle.std.proofs.Common.{◌≡◌, ◌⊎◌, ◌∙◌, ℕ, List, Option, None, Some, ap, inl, inr, subst₂, sym}
 use Rattle.std.specs.Prelude.{option_map, string_bytes}
 use Rattle.std.specs.Borrow.{Bor}
+use Rattle.std.specs.List.{before_first}
+use Rattle.moc_text.specs.Lines.{is_semicolon}
 use Rattle.moc_forms.specs.Combining.{TextSays}
 use Rattle.moc_forms.specs.declared.combining.Said.{Said}
 use Rattle.moc_forms.specs.Finding.{form_for}
 use Rattle.moc_forms.specs.declared.finding.Choice.{Choice}
-use Rattle.moc_conversion.specs.Conversion.{IsPictureOf, TellsFault, TellsTexts, first_text, second_text}
+use Rattle.moc_conversion.specs.Conversion.{IsPictureOf, TellsFault, TellsTexts, second_text}
 use Rattle.moc_conversion.specs.declared.complaint.Complaint.{Complaint}
 use Rattle.moc_conversion.specs.Faults.{want_of_memory}
 use Rattle.moc_conversion.proofs.Checks.{handed_on}
@@ -15,14 +17,14 @@ abbrev bytes_of : Option (Bor (List ℕ)) → Option (List ℕ)
 bytes_of second = option_map (λ (s : Bor (List ℕ)). s.now) second
 
 -- what is so of the two texts that were found is so of those of the bytes
-of_texts : (P : List ℕ → Option (List ℕ) → Type 0) (bytes first : List ℕ) (second : Option (List ℕ)) (found : Option (Bor (List ℕ))) → first_text bytes ≡ first
-    → second_text bytes ≡ bytes_of found → bytes_of found ≡ second → P first second → P (first_text bytes) (second_text bytes)
+of_texts : (P : List ℕ → Option (List ℕ) → Type 0) (bytes first : List ℕ) (second : Option (List ℕ)) (found : Option (Bor (List ℕ))) → before_first is_semicolon bytes ≡ first
+    → second_text bytes ≡ bytes_of found → bytes_of found ≡ second → P first second → P (before_first is_semicolon bytes) (second_text bytes)
 of_texts P bytes first second found one other is holds = subst₂ P (sym one) (sym (other ∙ is)) holds
 
 -- the texts tell a fault
-faulty : (choice : Choice) (bytes first : List ℕ) (second : Option (List ℕ)) (found : Option (Bor (List ℕ))) (c : Complaint) → first_text bytes ≡ first
+faulty : (choice : Choice) (bytes first : List ℕ) (second : Option (List ℕ)) (found : Option (Bor (List ℕ))) (c : Complaint) → before_first is_semicolon bytes ≡ first
     → second_text bytes ≡ bytes_of found → bytes_of found ≡ second → (c.fault ≡ want_of_memory) ⊎ TellsTexts choice first second c
-    → (c.fault ≡ want_of_memory) ⊎ TellsTexts choice (first_text bytes) (second_text bytes) c
+    → (c.fault ≡ want_of_memory) ⊎ TellsTexts choice (before_first is_semicolon bytes) (second_text bytes) c
 faulty choice bytes first second found c one other is (inl memory) = inl memory
 faulty choice bytes first second found c one other is (inr tells) =
     inr (of_texts (λ x y. TellsTexts choice x y c) bytes first second found one other is tells)

@@ -1,18 +1,15 @@
-use Rattle.std.proofs.Common.{◌≡◌, ℕ, ◌+◌, ◌++◌, refl, sym, ap, ◌∙◌, rules, add-one}
+use Rattle.std.proofs.Common.{◌≡◌, ℕ, ◌++◌, sym, ap, ◌∙◌, arith, append-nil}
 use Rattle.std.proofs.lemmas.List.{append_assoc}
 use Rattle.std.specs.String.{string_bytes}
 use Rattle.moc_sphere.specs.CellNumber.{CellNumber, cell_number}
 use Rattle.moc_sphere.specs.Rings.{row_of, column_of}
-use Rattle.moc_forms.specs.Drawing.{labels_at, labels_below}
+use Rattle.moc_forms.specs.Drawing.{labels_at}
+use Rattle.moc_forms.proofs.Ranges.{flat_more}
+use Rattle.moc_forms.proofs.drawing.push_numbers.Invariants.{labels_below}
 use Rattle.moc_forms.proofs.drawing.push_numbers.Goals as goal
 
-one_more : (f : ℕ) → labels_below (f + 1) ≡ labels_below f ++ labels_at f (row_of 0 f) (column_of 0 f)
-unfolding labels_below
-one_more f = rw add-one refl
-
 pub loop-face-init : goal.loop-face-init
-unfolding labels_below
-loop-face-init c = search rules
+loop-face-init c = sym (append-nil (string_bytes c.args.text.now))
 
 pub loop-face-preserved : goal.loop-face-preserved
 loop-face-preserved c =
@@ -26,4 +23,9 @@ loop-face-preserved c =
     ∙ (λ i. c.loop-face.invariant i ++ labels_at c.loop-face.face (row i) (column i))
     ∙ append_assoc (string_bytes c.args.text.now) (labels_below c.loop-face.face)
     (labels_at c.loop-face.face (row_of 0 c.loop-face.face) (column_of 0 c.loop-face.face))
-    ∙ ap (λ t. string_bytes c.args.text.now ++ t) (sym (one_more c.loop-face.face))
+    ∙ ap (λ t. string_bytes c.args.text.now ++ t) (sym (flat_more (λ f. labels_at f (row_of 0 f) (column_of 0 f)) c.loop-face.face))
+
+pub returns : goal.returns
+returns c =
+    let last : c.loop-face.face ≡ 12 = omega arith in
+    c.loop-face.invariant ∙ ap (λ (f : ℕ). string_bytes c.args.text.now ++ labels_below f) last

@@ -1,9 +1,9 @@
 use Rattle.std.proofs.lemmas.List.{append_assoc}
-use Rattle.moc_forms.specs.Drawing.{shade_path}
+use Rattle.moc_forms.specs.Drawing.{marks_path}
 use Rattle.moc_forms.proofs.drawing.push_shade.Goals as goal
 
 pub returns : goal.returns
-unfolding shade_path
+unfolding marks_path
 returns c =
     rw (
       c.in_ok-push_str.ensures.bytes,

@@ -4,7 +4,8 @@ use Rattle.std.proofs.lemmas.List.{drop_all, get_or-replicate}
 use Rattle.std.proofs.lemmas.List.FromFn.{get_or-map-range_with_len}
 use Rattle.std.proofs.lemmas.Grind.{same_number_lists}
 use Rattle.moc_sphere.specs.CellNumber.{CellNumber}
-use Rattle.moc_forms.specs.Describing.{cells_of_order, counts_of}
+use Rattle.moc_forms.specs.Describing.{counts_of}
+use Rattle.moc_forms.proofs.figures.counts.Invariants.{cells_of_order}
 use Rattle.moc_forms.proofs.figures.counts.Goals as goal
 
 none_yet : (k : ℕ) → k < 30 → slice_index (replicate 30 0) k ≡ 0

@@ -1,7 +1,11 @@
-use Rattle.std.proofs.Common.{◌≡◌, ◌+◌, ◌<◌, ◌≤◌, ℕ, drop, length}
-use Rattle.std.specs.Prelude.{slice_index}
-use Rattle.moc_forms.specs.Describing.{cells_of_order}
+use Rattle.std.proofs.Common.{◌≡◌, ◌+◌, ◌<◌, ◌≤◌, ℕ, List, count_by, drop, length}
+use Rattle.std.specs.Prelude.{slice_index, ◌==◌}
+use Rattle.moc_sphere.specs.CellNumber.{CellNumber}
 use Rattle.moc_forms.proofs.figures.counts.Given as goal
+
+-- how many cells are of an order
+abbrev pub cells_of_order : List CellNumber → ℕ → ℕ
+cells_of_order cells k = count_by (λ (c : CellNumber). c.order == k) cells
 
 abbrev pub invariant-loop-cell : goal.invariant-loop-cell
 invariant-loop-cell l = record {

@@ -1,7 +1,7 @@
 use Rattle.std.proofs.Common.{◌/◌, ◌≤◌, ◌++◌, sym, ap, ◌∙◌, arith, append-nil}
 use Rattle.std.proofs.lemmas.List.{append_assoc}
-use Rattle.moc_forms.specs.Drawing.{partial_below, partial_mark}
-use Rattle.moc_forms.proofs.Partial.{no_marks_between, partial_next, partial_none}
+use Rattle.moc_forms.specs.Drawing.{partial_below}
+use Rattle.moc_forms.proofs.Partial.{no_marks_between, partial_mark, partial_next, partial_none}
 use Rattle.moc_forms.proofs.marks.push_all_partial.Goals as goal
 
 pub loop-pixel-init : goal.loop-pixel-init

@@ -1,9 +1,9 @@
 use Rattle.std.proofs.lemmas.List.{append_assoc}
-use Rattle.moc_forms.specs.Drawing.{kinds}
+use Rattle.moc_forms.specs.Drawing.{cells_of_two}
 use Rattle.moc_forms.proofs.pair.push_kinds.Goals as goal
 
 pub returns : goal.returns
-unfolding kinds
+unfolding cells_of_two
 returns c =
     rw (
       c.in_ok-push_str.ensures.bytes,

@@ -6,9 +6,9 @@ pub returns : goal.returns
 unfolding legend_of_two
 returns c =
     rw (
-      c.in_ok-push_str-2.ensures.bytes,
+      c.in_ok-push_str.ensures.bytes,
       c.in_ok-push_entry-3.ensures,
       c.in_ok-push_entry-2.ensures,
       c.in_ok-push_entry.ensures,
-      c.in_ok-push_str.ensures.bytes,
+      c.in_ok-push_legend_head.ensures,
     ) (simp append_assoc)

@@ -1,22 +1,22 @@
 use Rattle.std.proofs.Common.{◌∙◌, ℕ, List, Some, ap}
 use Rattle.std.specs.Prelude.{option_map}
 use Rattle.std.specs.String.{string_bytes}
-use Rattle.moc_forms.specs.Quotes.{quoted}
+use Rattle.moc_forms.specs.Quotes.{quote_text}
 use Rattle.moc_forms.proofs.Pieces.{of_ascii, of_json, of_list}
 use Rattle.moc_forms.proofs.quoting.quote.Goals as goal
 
 pub returns-in_ok-quote_of-in-Ascii : goal.returns-in_ok-quote_of-in-Ascii
 returns-in_ok-quote_of-in-Ascii c =
     of_ascii c.args.text.now c.args.error c.in-Ascii.fault _ c.in-Ascii.is
-    (c.in_ok-quote_of-in-Ascii.ensures ∙ ap (option_map quoted) c.word_at.ensures)
+    (c.in_ok-quote_of-in-Ascii.ensures ∙ ap (option_map quote_text) c.word_at.ensures)
 
 pub returns-in_ok-quote_of-in-Uniq : goal.returns-in_ok-quote_of-in-Uniq
 returns-in_ok-quote_of-in-Uniq c =
     of_list c.args.text.now c.args.error c.in-Uniq.fault _ c.in-Uniq.is
-    (c.in_ok-quote_of-in-Uniq.ensures ∙ ap (option_map quoted) c.line_at.ensures)
+    (c.in_ok-quote_of-in-Uniq.ensures ∙ ap (option_map quote_text) c.line_at.ensures)
 
 pub returns-in_ok-quote_of-in-Ok-Some : goal.returns-in_ok-quote_of-in-Ok-Some
 returns-in_ok-quote_of-in-Ok-Some c =
     let stands = rw c.in-Ok-Some.field-0-is at c.in-Ok-Some.ensures in
     of_json c.args.text.now c.args.error c.in-Json.fault (Some (string_bytes c.in-Ok-Some.piece)) _ c.in-Json.is stands
-    (c.in_ok-quote_of-in-Ok-Some.ensures ∙ ap (λ (b : List ℕ). Some (quoted b)) c.as_bytes.ensures.value)
+    (c.in_ok-quote_of-in-Ok-Some.ensures ∙ ap (λ (b : List ℕ). Some (quote_text b)) c.as_bytes.ensures.value)

@@ -24,4 +24,4 @@ pub returns : goal.returns
 returns c =
     let ends : behind_line_feed (past_digits c.args.bytes.now) ≡ Some c.in-Some.rest.now = ap behind_line_feed (sym c.digits-value.ensures.rest) ∙ sym c.in-Some.ensures in
     let k = c.in-Ok.ensures.number in
-    line_cell c.args.line c.args.bytes.now c.in-Some.rest.now c.args.cells.now c.add_cells.new.self c.in-Ok.cell c.requires ends (λ e. c.if-after-bytes.false (ap length c.digits-value.ensures.rest ∙ e)) k.0 (k.1 ∙ c.digits-value.ensures.value) (rw (c.order.ensures, c.index.ensures.value, c.index-2.ensures.value) at c.in_ok-add_cells.ensures.added)
+    line_cell c.args.line c.args.bytes.now c.in-Some.rest.now c.args.cells.now c.add_cell.new.self c.in-Ok.cell c.requires ends (λ e. c.if-after-bytes.false (ap length c.digits-value.ensures.rest ∙ e)) k.0 (k.1 ∙ c.digits-value.ensures.value) c.in_ok-add_cell.ensures.added

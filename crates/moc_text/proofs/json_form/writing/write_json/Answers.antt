@@ -4,7 +4,7 @@ use Rattle.std.proofs.lemmas.Str.{IsUtf8-string_bytes}
 use Rattle.serde_json.specs.Data.{object}
 use Rattle.serde_json.specs.Written.{compact_text}
 use Rattle.moc_ranges.specs.Cells.{cells_of}
-use Rattle.moc_text.specs.AsciiText.{HasDeeper, deepest_cell, stated_beyond}
+use Rattle.moc_text.specs.AsciiText.{IsTooCoarse, deepest_cell, stated_beyond}
 use Rattle.moc_text.specs.JsonText.{json_text}
 use Rattle.moc_text.specs.Private.JsonWriting.{members_along, orders_by_name}
 use Rattle.moc_text.proofs.JsonWritten.{written_text, written_read, written_says}
@@ -24,8 +24,8 @@ returns-clause-text c = text_is c
 
 pub returns-clause-reads_back : goal.returns-clause-reads_back
 returns-clause-reads_back c =
-    let fine : HasDeeper (cells_of c.args.set.now) c.args.stated → ⊥ = λ deeper.
-    let found : c.is_too_coarse.result ≡ true = (c.is_too_coarse.ensures (cells_of c.args.set.now) c.deepest_of-deepest.ensures).1 (rw c.depth_of-stated.ensures.same deeper) in
+    let fine : IsTooCoarse c.args.set.now c.args.stated → ⊥ = λ deeper.
+    let found : c.is_too_coarse.result ≡ true = (c.is_too_coarse.ensures c.args.set.now c.deepest_of-deepest.ensures).1 (rw c.depth_of-stated.ensures.same deeper) in
     let none : c.is_too_coarse.result ≡ false = c.if-is_too_coarse.false in
     absurd cc in
     written_says c.args.set.now c.args.stated _ (IsUtf8-string_bytes c.in_ok-object_text.field-0) (written_read c.args.set.now c.args.stated _ (text_is c)) c.cell_orders-orders.ensures.within (rw c.depth_of-stated.ensures.same at c.depth_of-stated.ensures.small) fine
