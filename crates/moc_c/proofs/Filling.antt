@@ -3,7 +3,7 @@ use Rattle.std.proofs.Common.{◌≡◌, ℕ, suc, ◌+◌, ◌<◌, ◌≤◌, 
 use Rattle.std.proofs.lemmas.List.{append_assoc, append-nil, length-append, length-map, map-append, take_more_set}
 use Rattle.std.proofs.lemmas.List.{length-set}
 use Rattle.moc_c.specs.Buffers.{Fills, ranges_from}
-use Rattle.moc_c.specs.Outcomes.{told}
+use Rattle.moc_c.specs.Outcomes.{number_told}
 use Rattle.moc_c.specs.declared.outcome.Outcome.{Outcome}
 use Rattle.moc_c.specs.declared.range.Range.{Range}
 
@@ -30,10 +30,10 @@ filling_more all before left rest out at x f is = (
   take_more_set out at (range x) (has_room all before left rest out at x f is) ∙ ap (λ ys. ys ++ range x ∷ []) f.3 ∙ sym (map-append range before (x ∷ [])),
 )
 
-pub filled : (all before left : List (ℕ × ℕ)) (old out : List Range) (at : ℕ) (o : Outcome) → IsFilling all before left out at → left ≡ [] → o ≡ told (length all)
+pub filled : (all before left : List (ℕ × ℕ)) (old out : List Range) (at : ℕ) (o : Outcome) → IsFilling all before left out at → left ≡ [] → o ≡ number_told (length all)
     → Fills (ranges_from all) old out o
 filled all before left old out at o f none is =
     let whole : all ≡ before = f.0 ∙ ap (λ ys. before ++ ys) none ∙ append-nil before in
     let count : length (ranges_from all) ≡ length all = length-map all range in
     let place : length (ranges_from all) ≡ at = count ∙ ap length whole ∙ sym f.2 in
-    inl (ap (λ n. take n out) place ∙ f.3 ∙ ap ranges_from (sym whole), is ∙ ap told (sym count))
+    inl (ap (λ n. take n out) place ∙ f.3 ∙ ap ranges_from (sym whole), is ∙ ap number_told (sym count))

@@ -17,7 +17,7 @@ use Rattle.moc_c.specs.Contents.{Contents}
 use Rattle.moc_c.specs.Membership.{Membership}
 use Rattle.moc_c.specs.Outcomes.{outcome_of}
 use Rattle.moc_c.specs.Private.Making.{try_fault, ReadsSky}
-use Rattle.moc_c.specs.Sharing.{Applies, Begins, Calls, DoesLine, Gives, IsAfter, IsTurnedAway, Joins, LaysSet}
+use Rattle.moc_c.specs.Sharing.{Applies, BeginsMap, CallsMap, DoesLine, Gives, IsAfter, IsTurnedAway, Joins, LaysSet}
 use Rattle.moc_c.specs.Sharing.{MemberEnds, seated_member, Seats, unless_taken, whole_sky, with_member}
 use Rattle.moc_c.specs.declared.fault.CallFault.{CallFault}
 use Rattle.moc_c.specs.declared.fault.CallFault.TheVariants as fault
@@ -27,7 +27,7 @@ use Rattle.moc_c.specs.declared.sitter.Sitter.{Sitter}
 -- ---- who sits down
 
 pub begin_taken : (m : Option Membership) (q : Option (List Reply)) (r : Result (NumberSet × ℕ) CallFault) (o : Outcome) → is_some m ≡ true → o ≡ outcome_of fault.SeatTaken
-    → Begins (record { member = m; replies = q }) (record { member = m; replies = q }) (unless_taken m r) o
+    → BeginsMap (record { member = m; replies = q }) (record { member = m; replies = q }) (unless_taken m r) o
 begin_taken (Some x) q r o some tells = (Err fault.SeatTaken, inl refl, (refl, tells))
 begin_taken None q r o some tells = let clash : false ≡ true = some in absurd cc
 
@@ -44,7 +44,7 @@ joined s t last m n given o is none gives seats =
 -- ---- calls
 
 pub applied : (s new : Sitter) (m n : Membership) (line : List ℕ) (cs : List Command) (o : Outcome) → s.member ≡ Some m → batch_of command_of line ≡ Ok cs
-    → IsAfter m n → Calls s new m n cs o → Applies s new (seated_member s) line o
+    → IsAfter m n → CallsMap s new m n cs o → Applies s new (seated_member s) line o
 applied s new m n line cs o is says after calls =
     subst (λ x. Applies s new (ok_or x fault.NoMap) line o) (sym is)
     (subst (λ x. DoesLine s new m x o) (sym says) (inl (n, after, calls)))

@@ -4,7 +4,7 @@ use Rattle.std.specs.Option.{ok_or}
 use Rattle.std.specs.Result.{result_map_both}
 use Rattle.moc_lists.specs.RangeList.{NumberSet}
 use Rattle.moc_c.specs.Contents.{Contents, at_key, with_set, without_set}
-use Rattle.moc_c.specs.Outcomes.{all_well, memory, outcome_of, told}
+use Rattle.moc_c.specs.Outcomes.{all_well, memory, outcome_of, number_told}
 use Rattle.moc_c.specs.declared.fault.CallFault.{CallFault}
 use Rattle.moc_c.specs.declared.fault.CallFault.TheVariants.{NoSuchSet, NoSuchOrder}
 use Rattle.moc_c.specs.declared.outcome.Outcome.{Outcome}
@@ -25,7 +25,7 @@ sets_at d a b = both (set_at d a) (set_at d b)
 
 -- what is asked about tells a number that stands in this relation to it, or the fault is told
 abbrev pub Answers : {X : Type 0} → (X → ℕ → Type 0) → Result X CallFault → Outcome → Type 0
-Answers Is (Ok x) o = (n : ℕ) × Is x n × (o ≡ told n)
+Answers Is (Ok x) o = (n : ℕ) × Is x n × (o ≡ number_told n)
 Answers Is (Err e) o = o ≡ outcome_of e
 
 -- 1 where something holds, and else 0
@@ -47,7 +47,7 @@ order_numbered k = if nat_le k 29 then Ok k else Err (NoSuchOrder k)
 -- a set that is wanted was put at the next key, which is told; or the fault is told, or no memory is left, and all is
 -- as it was
 abbrev pub Makes : Contents → Contents → Result NumberSet CallFault → Outcome → Type 0
-Makes old new (Ok a) o = ((o ≡ told old.next) × (new ≡ with_set old a)) ⊎ ((o ≡ memory) × (new ≡ old))
+Makes old new (Ok a) o = ((o ≡ number_told old.next) × (new ≡ with_set old a)) ⊎ ((o ≡ memory) × (new ≡ old))
 Makes old new (Err e) o = ((o ≡ outcome_of e) ⊎ (o ≡ memory)) × (new ≡ old)
 
 -- the set at a key is gone, or there was none, and all is as it was

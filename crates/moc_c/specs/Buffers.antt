@@ -14,7 +14,7 @@ use Rattle.moc_ranges.specs.Faults.{first_fault}
 use Rattle.moc_lists.specs.RangeList.{NumberSet, IsNormal, set_of}
 use Rattle.moc_c.specs.Answers.{Makes}
 use Rattle.moc_c.specs.Contents.{Contents}
-use Rattle.moc_c.specs.Outcomes.{all_well, memory, outcome_of, told}
+use Rattle.moc_c.specs.Outcomes.{all_well, memory, outcome_of, number_told}
 use Rattle.moc_c.specs.declared.fault.CallFault.{CallFault}
 use Rattle.moc_c.specs.declared.fault.CallFault.TheVariants as fault
 use Rattle.moc_c.specs.declared.outcome.Outcome.{Outcome}
@@ -128,7 +128,7 @@ MakesOfUniqs old new uniqs o =
 -- is told
 abbrev pub Fills : {X : Type 0} → List X → List X → List X → Outcome → Type 0
 Fills items old new o =
-    ((take (length items) new ≡ items) × (o ≡ told (length items)))
+    ((take (length items) new ≡ items) × (o ≡ number_told (length items)))
     ⊎ ((length old < length items) × (new ≡ old) × (o ≡ outcome_of (fault.NoRoom (length items))))
 
 -- pairs as ranges

@@ -11,8 +11,8 @@ pub record Contents : Type 0 where
   pub text : List ℕ
 
 -- nothing, and no text
-abbrev pub bare : Contents
-bare = record { sets = map.empty; next = 0; text = [] }
+abbrev pub empty_desk : Contents
+empty_desk = record { sets = map.empty; next = 0; text = [] }
 
 -- the set at a key, if there is one
 abbrev pub at_key : Contents → ℕ → Option NumberSet

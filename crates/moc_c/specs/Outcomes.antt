@@ -21,12 +21,12 @@ abbrev pub outcome : ℕ → ℕ → ℕ → Outcome
 outcome code first second = record { code = code; first = first; second = second }
 
 -- a number was asked for, and told
-abbrev pub told : ℕ → Outcome
-told number = outcome 0 number 0
+abbrev pub number_told : ℕ → Outcome
+number_told number = outcome 0 number 0
 
 -- all went well, and nothing is to be told
 abbrev pub all_well : Outcome
-all_well = told 0
+all_well = number_told 0
 
 -- no memory is left
 abbrev pub memory : Outcome

@@ -15,7 +15,7 @@ use Rattle.moc_lines.specs.declared.fault.LineFault.{LineFault}
 use Rattle.moc_c.specs.Buffers.{Fills}
 use Rattle.moc_c.specs.Contents.{Contents, with_set}
 use Rattle.moc_c.specs.Membership.{IsNewMember, Membership}
-use Rattle.moc_c.specs.Outcomes.{all_well, memory, outcome_of, told}
+use Rattle.moc_c.specs.Outcomes.{all_well, memory, outcome_of, number_told}
 use Rattle.moc_c.specs.declared.fault.CallFault.{CallFault}
 use Rattle.moc_c.specs.declared.fault.CallFault.TheVariants as fault
 use Rattle.moc_c.specs.declared.outcome.Outcome.{Outcome}
@@ -55,12 +55,12 @@ IsBegun (Err f) (Err e) = (e ≡ f) ⊎ (e ≡ fault.Memory)
 
 -- the member sits there now, and its client's number is told; or the fault is told, and all is as it was
 abbrev pub Seats : Sitter → Sitter → Result Membership CallFault → Outcome → Type 0
-Seats old new (Ok m) o = (new ≡ with_member old m) × (o ≡ told (number_of m.client))
+Seats old new (Ok m) o = (new ≡ with_member old m) × (o ≡ number_told (number_of m.client))
 Seats old new (Err e) o = (new ≡ old) × (o ≡ outcome_of e)
 
 -- a client of the new map sits there, or the fault is told
-abbrev pub Begins : Sitter → Sitter → Result (NumberSet × ℕ) CallFault → Outcome → Type 0
-Begins old new what o = (begun : Result Membership CallFault) × IsBegun what begun × Seats old new begun o
+abbrev pub BeginsMap : Sitter → Sitter → Result (NumberSet × ℕ) CallFault → Outcome → Type 0
+BeginsMap old new what o = (begun : Result Membership CallFault) × IsBegun what begun × Seats old new begun o
 
 -- the last client that waits is given away, as a member of the same map; or there is none, or no memory is left, and
 -- the giver is as it was
@@ -96,15 +96,15 @@ IsTurnedAway old new cs o =
     ⊎ (LacksMemory old.map cs (record_of old.client) (record_of new.client) × (o ≡ memory))
 
 -- the call went through, and its replies are kept; or it was refused, and the replies of before are kept
-abbrev pub Calls : Sitter → Sitter → Membership → Membership → List Command → Outcome → Type 0
-Calls old new m n cs o =
+abbrev pub CallsMap : Sitter → Sitter → Membership → Membership → List Command → Outcome → Type 0
+CallsMap old new m n cs o =
     ((r : List Reply) × MemberEnds m n cs r × (new ≡ record { member = Some n; replies = Some r }) × (o ≡ all_well))
     ⊎ (IsTurnedAway m n cs o × (new ≡ with_member old n))
 
 -- the commands of a line are called; or the line's fault is told, or no memory is left, and all is as it was
 abbrev pub DoesLine : Sitter → Sitter → Membership → Result (List Command) LineFault → Outcome → Type 0
 DoesLine old new m (Ok cs) o =
-    ((n : Membership) × IsAfter m n × Calls old new m n cs o) ⊎ ((new ≡ old) × (o ≡ memory))
+    ((n : Membership) × IsAfter m n × CallsMap old new m n cs o) ⊎ ((new ≡ old) × (o ≡ memory))
 DoesLine old new m (Err e) o = (new ≡ old) × ((o ≡ outcome_of (fault.Line e)) ⊎ (o ≡ memory))
 
 -- the same for the member who sits there, or nobody does
@@ -122,7 +122,8 @@ whole_sky = Read (record { set = pixels; coarse = None }) ∷ []
 -- desk is as it was
 abbrev pub LaysRead : Membership → Membership → Contents → Contents → Outcome → Type 0
 LaysRead m n desk desk' o =
-    ((a : NumberSet) × MemberEnds m n whole_sky (Cover a ∷ []) × (desk' ≡ with_set desk a) × (o ≡ told desk.next))
+    ((a : NumberSet) × MemberEnds m n whole_sky (Cover a ∷ []) × (desk' ≡ with_set desk a)
+    × (o ≡ number_told desk.next))
     ⊎ (IsTurnedAway m n whole_sky o × (desk' ≡ desk))
 
 -- the map's set is put on the desk; or the fault is told, or no memory is left, and all is as it was

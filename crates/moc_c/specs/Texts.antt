@@ -9,7 +9,7 @@ use Rattle.moc_forms.specs.declared.form.Form.{Form}
 use Rattle.moc_forms.specs.declared.form.FormError.{FormError}
 use Rattle.moc_c.specs.Answers.{both, set_at}
 use Rattle.moc_c.specs.Contents.{Contents, with_set, with_text}
-use Rattle.moc_c.specs.Outcomes.{outcome_of_form, outcome, outcome_of, told}
+use Rattle.moc_c.specs.Outcomes.{outcome_of_form, outcome, outcome_of, number_told}
 use Rattle.moc_c.specs.declared.fault.CallFault.{CallFault}
 use Rattle.moc_c.specs.declared.fault.CallFault.TheVariants as fault
 use Rattle.moc_c.specs.declared.outcome.Outcome.{Outcome}
@@ -40,7 +40,7 @@ IsMadeText Is Refuses (Err e) r = r ≡ Err e
 
 -- a text that was made is kept, and its length is told; else the fault is told, and all is as it was
 abbrev pub KeepsText : Contents → Contents → Result (List ℕ) CallFault → Outcome → Type 0
-KeepsText old new (Ok text) o = (new ≡ with_text old text) × (o ≡ told (length text))
+KeepsText old new (Ok text) o = (new ≡ with_text old text) × (o ≡ number_told (length text))
 KeepsText old new (Err e) o = (new ≡ old) × (o ≡ outcome_of e)
 
 -- the text of a set in a form is made, with the order that is stated

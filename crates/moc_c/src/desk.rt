@@ -1,7 +1,7 @@
 //! What C holds: a shelf of coverages.
 ghost use Rattle.std.specs.Prelude.{◌≡◌, IfOk};
 ghost use Rattle.std.specs.Borrow.{sem};
-ghost use Rattle.moc_c.specs.Contents.{bare, Contents};
+ghost use Rattle.moc_c.specs.Contents.{empty_desk, Contents};
 ghost use Rattle.moc_c.specs.Private.Storing.{contents_code};
 ghost use Rattle.moc_c.specs.Private.Desk.{desk_owns};
 
@@ -27,7 +27,7 @@ impl Desk {
 
     /// A desk with nothing on it. Refused where memory runs out.
     pub(crate) fn bare(alloc: Global) -> Result<Desk, AllocError>
-        ensures { IfOk result (λ d. d.contents ≡ bare) }
+        ensures { IfOk result (λ d. d.contents ≡ empty_desk) }
     {
         Ok(Desk::of_parts(BoxParts::of(Box::new(alloc, Shelf::new(alloc))?)))
     }

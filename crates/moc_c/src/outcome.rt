@@ -2,7 +2,7 @@
 ghost use Rattle.std.specs.Prelude.{◌≡◌};
 ghost use Rattle.moc_c.specs.Outcomes.{all_well, outcome_of_form, outcome_of_json, outcome_of_line, outcome};
 ghost use Rattle.moc_c.specs.Outcomes.{code_of_coverage, outcome_of_ranges};
-ghost use Rattle.moc_c.specs.Outcomes.{outcome_of, outcome_of_text, told, outcome_of_uniq};
+ghost use Rattle.moc_c.specs.Outcomes.{outcome_of, outcome_of_text, number_told, outcome_of_uniq};
 
 use crate::codes;
 use crate::fault::CallFault;
@@ -49,7 +49,7 @@ impl Outcome {
 
     /// What was asked for is a number.
     pub(crate) fn told(number: u64) -> Outcome
-        ensures { result ≡ told number }
+        ensures { result ≡ number_told number }
     {
         Outcome::new(codes::DONE, number, 0)
     }

@@ -1,8 +1,8 @@
 //! A map that threads of C change and query at the same time, each by a seat of its own.
 ghost use Rattle.std.specs.Prelude.{◌≡◌, IfOk};
 ghost use Rattle.moc_c.specs.Answers.{both, set_at};
-ghost use Rattle.moc_c.specs.Sharing.{answer_of, Applies, Begins, client_count, FillsAnswer, IsBegun, Joins, LaysSet};
-ghost use Rattle.moc_c.specs.Sharing.{seated_member, Seats, unless_taken};
+ghost use Rattle.moc_c.specs.Sharing.{answer_of, Applies, BeginsMap, client_count, FillsAnswer, IsBegun, Joins};
+ghost use Rattle.moc_c.specs.Sharing.{LaysSet, seated_member, Seats, unless_taken};
 
 use crate::desk::Desk;
 use crate::fault::CallFault;
@@ -41,7 +41,7 @@ fn begun(alloc: Global, shelf: &Shelf, a: u64, clients: u8) -> Result<Member, Ca
 impl Sitter {
     /// A client of a new map of the set at a key sits down.
     fn begin(&mut self, alloc: Global, shelf: &Shelf, a: u64, clients: u8) -> Outcome
-        ensures { Begins self.old self.new
+        ensures { BeginsMap self.old self.new
             (unless_taken self.old.member (both (set_at shelf.now a) (client_count clients))) result }
     {
         if self.member.is_some() {
@@ -135,7 +135,7 @@ pub extern "C" fn moc_map_begin(
     a: u64,
     clients: u8,
 ) -> Outcome
-    ensures begins { Begins seat.old.contents seat.new.contents
+    ensures begins { BeginsMap seat.old.contents seat.new.contents
         (unless_taken seat.old.contents.member (both (set_at desk.old.contents a) (client_count clients))) result }
     ensures same { desk.new.contents ≡ desk.old.contents }
 {

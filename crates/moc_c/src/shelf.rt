@@ -5,7 +5,7 @@ ghost use Rattle.std.specs.String.{string_bytes};
 ghost use Rattle.std.specs.FinMap as map;
 ghost use Rattle.moc_c.specs.Answers.{order_numbered, set_at, sets_at};
 ghost use Rattle.moc_c.specs.Private.Making.{KeepsSaid, MakesIf};
-ghost use Rattle.moc_c.specs.Contents.{at_key, bare, with_set, with_text, without_set};
+ghost use Rattle.moc_c.specs.Contents.{at_key, empty_desk, with_set, with_text, without_set};
 
 use crate::fault::CallFault;
 use crate::outcome::Outcome;
@@ -108,7 +108,7 @@ impl Model for Shelf {
 impl Shelf {
     /// No coverage, and no text. Takes no memory.
     pub(crate) fn new(alloc: Global) -> Shelf
-        ensures { result ≡ bare }
+        ensures { result ≡ empty_desk }
     {
         Shelf {
             sets: Sets::new(alloc),

@@ -1,5 +1,5 @@
 use Rattle.std.proofs.Common.{◌≡◌, ◌<◌, [], length, refl, sym, ap, ◌∙◌, arith, rules}
-use Rattle.moc_c.specs.Outcomes.{told}
+use Rattle.moc_c.specs.Outcomes.{number_told}
 use Rattle.moc_c.proofs.Filling.{filled, filling_more, has_room}
 use Rattle.moc_c.proofs.lists.fill_ranges.Goals as goal
 
@@ -35,4 +35,4 @@ pub returns : goal.returns
 returns c =
     let none : c.loop-from.from-iterator ≡ [] = search rules in
     filled c.args.ranges c.loop-from.yielded c.loop-from.from-iterator c.args.out.now c.loop-from.out c.loop-from.at c.told.result c.loop-from.invariant none
-    (c.told.ensures ∙ ap told (ap (λ r. r.0) c.size_hint-count.ensures.exact))
+    (c.told.ensures ∙ ap number_told (ap (λ r. r.0) c.size_hint-count.ensures.exact))

@@ -38,7 +38,7 @@ use Rattle.std_heap.specs.contracts.Global as Heap
 use Rattle.std.specs.declared.result.Result.TheVariants.{Ok, Err}
 use Rattle.std.specs.contracts.result.Result as RS
 use Rattle.std.specs.contracts.alloc.AllocError as AE
-use Rattle.moc_c.specs.Contents.{Contents, bare as bare_contents}
+use Rattle.moc_c.specs.Contents.{Contents, empty_desk as bare_contents}
 use Rattle.moc_c.proofs.AsBox.{E}
 use Rattle.moc_c.specs.contracts.desk.Desk as Desk
 use Rattle.moc_c.specs.contracts.opening.moc_open as f

@@ -1,4 +1,4 @@
-use Rattle.std.proofs.Common.{◌∙◌, Some, ap, sym}
+use Rattle.std.proofs.Common.{◌∙◌, ap, sym}
 use Rattle.std.specs.Prelude.{option_map}
 use Rattle.moc_text.specs.declared.json_form.error.JsonPlace.{JsonPlace}
 use Rattle.moc_forms.proofs.Pieces.{stands_at, stands_nowhere}
