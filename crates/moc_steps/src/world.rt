@@ -216,7 +216,7 @@ impl World {
         ensures refused { IfErr result (λ why. why ≡ fault.Memory) }
         ensures unchanged { OnErr result (self.new ≡ self.old) }
     {
-        // Neither comes, as the step is permitted.
+        // Neither of these two refuses a step that is permitted.
         let midway = self.clients.get(client).ok_or(StepError::Idle)?;
         let part = self.part_to_take(midway)?;
         let list = self.parts[part.index()].share()?;
