@@ -143,7 +143,8 @@ class MOC:
         return made
 
     def union(self, *others: MOC) -> MOC:
-        """The pixels that any has. As the three behind it: a pass over the ranges of each; TypeError for what is no MOC."""
+        """The pixels that any has. As the three behind it: for each other a pass over its ranges and those made so far; TypeError for what
+        is no MOC."""
         return self._joined("union", *others)
 
     def intersection(self, *others: MOC) -> MOC:

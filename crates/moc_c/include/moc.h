@@ -124,8 +124,8 @@ bool moc_open(moc_desk *out);
 void moc_close(moc_desk desk);
 
 /* ---- Making sets. Each answers a new key as `first`; keys are 0, 1, 2 and so on, and no key is given twice. Look at `code` before `first`
-   is used as a key: of a fault it is a place. MOC_MEMORY where no memory is left. n cells or ranges take O(n log n), or O(n) where they
-   rise; an operation is linear in the ranges of its sets. */
+   is used as a key: of a fault it is a place. MOC_MEMORY where no memory is left. n cells or ranges, also those of a text, take
+   O(n log n), or O(n) where they rise by their pixels; an operation is linear in the ranges of its sets. */
 
 /* The set without pixels. */
 moc_outcome moc_empty(moc_desk *desk);
@@ -177,7 +177,8 @@ moc_outcome moc_meets(moc_desk *desk, uint64_t a, uint64_t b);
 moc_outcome moc_covers(moc_desk *desk, uint64_t a, uint64_t b);
 moc_outcome moc_same(moc_desk *desk, uint64_t a, uint64_t b);
 
-/* ---- Sets to arrays. MOC_NO_SUCH_SET. Linear in what is written; for pixels, O(log n) for each and n ranges, and less where they rise. */
+/* ---- Sets to arrays. MOC_NO_SUCH_SET goes before the codes of each call. Linear in what is written; for pixels, O(log n) for each and
+   n ranges, and less where they rise. */
 
 /* For each pixel of order 29 whether the set has it, 1 or 0, at its place in `out`. It takes no memory.
    MOC_LENGTHS_DIFFER where `length` is not `count`. */
@@ -185,12 +186,13 @@ moc_outcome moc_contains_all(moc_desk *desk, uint64_t a, const uint64_t *pixels,
 /* The ranges of the set, rising, none empty and none touching the next, to the front of `out`; `first` is how many. It takes no memory.
    MOC_NO_ROOM, with nothing written, where `length` is less. */
 moc_outcome moc_ranges(moc_desk *desk, uint64_t a, moc_range *out, size_t length);
-/* The same for the NUNIQ numbers of the set's cells, rising: the fewest cells that make it. It takes the memory of the cells. */
+/* The same for the NUNIQ numbers of the set's cells, rising: the fewest cells that make it. It takes the memory of the cells, or
+   MOC_MEMORY, and a pass over the ranges for each order that can have cells, also where the buffer is too short. */
 moc_outcome moc_cells(moc_desk *desk, uint64_t a, uint64_t *out, size_t length);
 
 /* ---- Sets to texts. Each makes a text, which the desk keeps until it makes the next one, and answers its length as `first`; then
    `moc_text` copies it. Texts have no 0 at their end. Where the call is refused, the text of before is kept. MOC_MEMORY where no memory
-   is left. A pass over the ranges for each order that has cells, and linear in the text. */
+   is left. A pass over the ranges for each order that can have cells and up to two more, and linear in the text. */
 
 /* The set in a text form, ended by a line feed; a list has one behind each number. `stated` is the order that is to be stated, as MOC 2.0
    asks where a set was made of deeper cells than it needs, or MOC_NONE. MOC_NO_SUCH_SET, then MOC_NO_SUCH_ORDER, then MOC_TOO_COARSE. */
@@ -200,7 +202,8 @@ moc_outcome moc_write_uniq(moc_desk *desk, uint64_t a);
 /* The figures of the set, a line each, as the program `moc describe` tells them: `deepest` is the deepest order that its text named, or
    MOC_NONE. MOC_NO_SUCH_SET, then MOC_NO_SUCH_ORDER. */
 moc_outcome moc_describe(moc_desk *desk, uint64_t a, uint8_t deepest);
-/* A picture of the set, as SVG, as the program `moc draw` makes it. MOC_NO_SUCH_SET. */
+/* A picture of the set, as SVG, as the program `moc draw` makes it. MOC_NO_SUCH_SET. Besides, O(log n) for each cell of order 7 that the
+   set meets. */
 moc_outcome moc_draw(moc_desk *desk, uint64_t a);
 /* Copies the text that the desk keeps, or nothing before the first one, to the front of `out`; `first` is its length.
    MOC_NO_ROOM, with nothing written, where `length` is less. */
@@ -227,7 +230,9 @@ moc_outcome moc_touching(uint8_t order, const uint64_t *cells, size_t count, uin
 moc_outcome moc_neighbours(uint8_t order, const uint64_t *cells, size_t count, uint64_t (*out)[8], size_t length);
 
 /* ---- A map that threads share: twelve parts, one for each base pixel, which up to 64 clients change and query at the same time. Each
-   client sits on a seat of its own. */
+   client sits on a seat of its own. MOC_MEMORY where no memory is left. To begin a map and to put its set on a desk takes O(n) for n
+   ranges, to join O(1); a line takes what its operands take to be read, and besides a pass over the ranges of the parts for each command at
+   most; an answer is linear in its text. */
 
 /* Begins a seat on which nobody sits in the room at `out`, and answers true; or false, as `moc_open`. */
 bool moc_seat_open(moc_seat *out);

@@ -105,8 +105,8 @@ impl Shelf {
     }
 }
 
-/// The set that an ASCII text says, at a new key, with the deepest order that the text names, or 255. One pass over
-/// the bytes; refused at the first fault of the text, or where memory runs out.
+/// The set that an ASCII text says, at a new key, with the deepest order that the text names, or 255. Time and memory as
+/// `read_ascii` takes; refused at the first fault of the text, or where memory runs out.
 #[unsafe(no_mangle)]
 pub extern "C" fn moc_read_ascii(alloc: Global, desk: &mut Desk, text: &[u8]) -> Outcome
     ensures { Reads Ascii text.now desk.old.contents desk.new.contents result }
@@ -130,8 +130,8 @@ pub extern "C" fn moc_read_uniq(alloc: Global, desk: &mut Desk, text: &[u8]) -> 
     desk.shelf().read(alloc, Form::Uniq, text)
 }
 
-/// Makes the ASCII text of a set, ended by a line feed, and tells its length; 255 states no order. Linear in the
-/// number of cells.
+/// Makes the ASCII text of a set, ended by a line feed, and tells its length; 255 states no order. Time and memory as
+/// `write_ascii` takes.
 ///
 /// Refused for a key without a set, for an order above 29, where a cell is deeper than the order, or where memory
 /// runs out.

@@ -160,10 +160,9 @@ prints
 /// What `moc crew --help` says below the usage.
 const LANES: &str = "\
 The script is one of `run`. Its lines that are not blank go to N threads in
-turn, 1 to 64, which work on one coverage at the same time. Each thread keeps
-the order of its own lines; which of two threads comes first is not told. The
-answers stand in the order of the lines, and behind them the cover of the
-coverage.
+turn, 1 to 64, which work on one map at the same time. Each thread keeps the
+order of its own lines; which of two threads comes first is not told. The
+answers stand in the order of the lines, and behind them the cover of the map.
 
 Example:
   printf 'add 0/0\\nadd 0/1\\n' | moc crew 2
@@ -342,8 +341,8 @@ Two coverages:
 
 /// What `moc renumber --help` says below the usage.
 const RENUMBERING: &str = "\
-Standard input has a line for each cell of order ORDER, its number in the scheme
-FROM; answered is its number in the scheme TO. A line that has no such number is
+Standard input has a line for each cell of order ORDER, its number in the
+numbering FROM; answered is that in the numbering TO. A line without one is
 answered `fault` with the fault's name; a blank line has no answer.
   nest  the number in the nested scheme, below 12 times 4^ORDER
   ring  the number in the ring scheme, from the north, below 12 times 4^ORDER

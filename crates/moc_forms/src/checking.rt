@@ -51,8 +51,8 @@ impl Refusal {
 /// Reads a text in a form as `Form::read` does: the set, and the deepest order that it names; else its first fault with
 /// its place.
 ///
-/// One pass over the bytes, as reading takes; at a fault of an ASCII text another over the bytes before it, and at one
-/// of a JSON text a second parse. Memory follows the set, and of a JSON text the text. Refused with a `Refusal`: the
+/// Time as `Form::read` takes; at a fault of an ASCII text another pass over the bytes before it, and at one of a JSON
+/// text a second parse. Memory follows the set, and of a JSON text the text. Refused with a `Refusal`: the
 /// first fault of the text with its place, or `FormError::Memory` without one.
 pub fn examine(alloc: Global, form: Form, text: &[u8]) -> Result<(Coverage, Option<Order>), Refusal>
     ensures says { IfOk result (λ r. FormSays form text.now r.0 r.1) }

@@ -28,7 +28,8 @@ pub struct Figures {
 impl Figures {
     /// The figures of a set, with the deepest order that its text names.
     ///
-    /// Takes the memory of the set's cells, and goes over them once; refused where memory runs out.
+    /// Takes the memory of the set's cells, a pass over the ranges for each order that can have cells, and one over the
+    /// cells; refused where memory runs out.
     pub fn of(alloc: Global, set: &Coverage, deepest: Option<Order>) -> Result<Figures, Memory>
         ensures { IfOk result (AreFigures set.now deepest) }
     {

@@ -40,7 +40,7 @@ pub enum LineFault {
 }
 
 impl LineFault {
-    /// The name that the answer gives.
+    /// The name that the answer gives. Takes no memory.
     pub fn name(self) -> &'static str
         ensures { result.now ≡ name_of_line self }
     {
@@ -57,7 +57,8 @@ impl LineFault {
     }
 }
 
-/// Adds the answer to a line with the fault of this name, `fault NAME` and a line feed. Refused where memory runs out.
+/// Adds the answer to a line with the fault of this name, `fault NAME` and a line feed. Refused where memory runs out; a
+/// part may then stand in the text. Linear in the name.
 pub fn push_fault(name: &str, text: &mut Vec<u8>) -> Result<(), Memory>
     ensures { OnOk result (text.new.items ≡ text.old.items ++ told_fault name.now) }
 {

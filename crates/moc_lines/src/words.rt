@@ -71,7 +71,7 @@ pub fn is_word(word: &[u8], this: &str) -> bool
 pub(crate) const SAFE_DIGITS: usize = 19;
 
 /// The number that a field spells in base ten, or `u64::MAX` where it is larger; `None` where it spells none. Takes no
-/// memory. Linear in the word.
+/// memory. Linear in the field.
 pub fn number_in(field: &[u8]) -> Option<u64>
     ensures { result ≡ option_map (λ n. min n (2 ^ 64 - 1)) (number_spelled field.now) }
 {

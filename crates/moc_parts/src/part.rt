@@ -104,14 +104,14 @@ impl Model for PartSet {
 }
 
 impl PartSet {
-    /// No part. Takes no memory.
+    /// No part. O(1), takes no memory.
     pub fn none() -> PartSet
         ensures { result ≡ set.empty }
     {
         PartSet { flags: [false; 12] }
     }
 
-    /// All twelve parts. Takes no memory.
+    /// All twelve parts. O(1), takes no memory.
     pub fn all() -> PartSet
         ensures { (b : ℕ) → set.contains result b ≡ nat_lt b 12 }
     {

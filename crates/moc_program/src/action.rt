@@ -102,24 +102,28 @@ impl Number {
     }
 }
 
+/// The form that the value of this name tells.
 fn form(values: &ArgMatches<'_>, id: &str) -> Option<Form>
     ensures { IfSome result (λ form. HasWord id.now (values_of values.now) (form_name form)) }
 {
     Form::from_str(values.get_str(id)?).ok()
 }
 
+/// The form to read in, or that it is to be found.
 fn choice(values: &ArgMatches<'_>) -> Option<Choice>
     ensures { IfSome result (λ choice. HasWord (codes "FORM") (values_of values.now) (choice_name choice)) }
 {
     Choice::from_str(values.get_str("FORM")?).ok()
 }
 
+/// The operation on two sets.
 fn operation(values: &ArgMatches<'_>) -> Option<Operation>
     ensures { IfSome result (λ operation. HasWord (codes "OP") (values_of values.now) (operation_name operation)) }
 {
     Operation::from_str(values.get_str("OP")?).ok()
 }
 
+/// The two numberings and the order.
 fn renumbering(values: &ArgMatches<'_>) -> Option<Renumbering>
     ensures { IfSome result (λ r. Asks (codes "renumber") (values_of values.now) (action.Renumber r)) }
 {
@@ -130,24 +134,28 @@ fn renumbering(values: &ArgMatches<'_>) -> Option<Renumbering>
     })
 }
 
+/// The numbering that the value of this name tells.
 fn numbering(values: &ArgMatches<'_>, id: &str) -> Option<Numbering>
     ensures { IfSome result (λ numbering. HasWord id.now (values_of values.now) (numbering_name numbering)) }
 {
     Numbering::from_str(values.get_str(id)?).ok()
 }
 
+/// How many lanes.
 fn lanes(values: &ArgMatches<'_>) -> Option<Lanes>
     ensures { IfSome result (λ lanes. HasNumber (codes "N") (values_of values.now) (lane_count lanes)) }
 {
     Lanes::new(values.get_one::<u8>("N")?)
 }
 
+/// The order.
 fn order(values: &ArgMatches<'_>) -> Option<Order>
     ensures { IfSome result (λ order. HasNumber (codes "ORDER") (values_of values.now) order) }
 {
     Order::new(values.get_one::<u8>("ORDER")?)
 }
 
+/// The number that the value of this name tells.
 fn index(values: &ArgMatches<'_>, id: &str) -> Option<u64>
     ensures { IfSome result (λ n. HasNumber id.now (values_of values.now) n) }
 {

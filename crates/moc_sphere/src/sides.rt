@@ -15,6 +15,7 @@ pub struct Xyf {
 }
 
 impl Xyf {
+    /// This place in this base pixel.
     pub fn new(face: u32, x: u32, y: u32) -> Xyf
         ensures { result ≡ record { face = face; x = x; y = y } }
     {
@@ -22,6 +23,7 @@ impl Xyf {
     }
 }
 
+/// The place across the north-eastern side, `along` steps from that side's eastern end.
 fn beyond_north_east(last: u32, face: u32, along: u32) -> Xyf
     requires { face < 12 }
     ensures { IsBeyondNorthEast last face along result.face result.x result.y }
@@ -35,6 +37,7 @@ fn beyond_north_east(last: u32, face: u32, along: u32) -> Xyf
     }
 }
 
+/// The place across the south-western side, `along` steps from that side's southern end.
 fn beyond_south_west(last: u32, face: u32, along: u32) -> Xyf
     requires { face < 12 }
     ensures { IsBeyondSouthWest last face along result.face result.x result.y }
@@ -48,6 +51,7 @@ fn beyond_south_west(last: u32, face: u32, along: u32) -> Xyf
     }
 }
 
+/// The place across the north-western side, `along` steps from that side's western end.
 fn beyond_north_west(last: u32, face: u32, along: u32) -> Xyf
     requires { face < 12 }
     ensures { IsBeyondNorthWest last face along result.face result.x result.y }
@@ -61,6 +65,7 @@ fn beyond_north_west(last: u32, face: u32, along: u32) -> Xyf
     }
 }
 
+/// The place across the south-eastern side, `along` steps from that side's southern end.
 fn beyond_south_east(last: u32, face: u32, along: u32) -> Xyf
     requires { face < 12 }
     ensures { IsBeyondSouthEast last face along result.face result.x result.y }
@@ -74,6 +79,7 @@ fn beyond_south_east(last: u32, face: u32, along: u32) -> Xyf
     }
 }
 
+/// The place across the northern vertex, where a base pixel touches there.
 fn beyond_north(last: u32, face: u32) -> Option<Xyf>
     requires { face < 12 }
     ensures { MatchOption result
@@ -89,6 +95,7 @@ fn beyond_north(last: u32, face: u32) -> Option<Xyf>
     }
 }
 
+/// The place across the southern vertex, where a base pixel touches there.
 fn beyond_south(last: u32, face: u32) -> Option<Xyf>
     requires { face < 12 }
     ensures { MatchOption result
@@ -104,6 +111,7 @@ fn beyond_south(last: u32, face: u32) -> Option<Xyf>
     }
 }
 
+/// The place across the eastern vertex, where a base pixel touches there.
 fn beyond_east(last: u32, face: u32) -> Option<Xyf>
     requires { face < 12 }
     ensures { MatchOption result
@@ -117,6 +125,7 @@ fn beyond_east(last: u32, face: u32) -> Option<Xyf>
     }
 }
 
+/// The place across the western vertex, where a base pixel touches there.
 fn beyond_west(last: u32, face: u32) -> Option<Xyf>
     requires { face < 12 }
     ensures { MatchOption result

@@ -71,7 +71,7 @@ impl World {
         })
     }
 
-    /// The pixels of one part. Takes no memory.
+    /// The pixels of one part. O(1), takes no memory.
     pub fn part(&self, part: Part) -> &Coverage
         ensures { result.now ≡ part_at batches self.now part }
     {
@@ -85,7 +85,7 @@ impl World {
         self.clients.len()
     }
 
-    /// The committed operations, by their first Edits. Takes no memory.
+    /// The committed operations, by their first Edits. O(1), takes no memory.
     pub fn order(&self) -> &[Entry]
         ensures { entries_of result.now ≡ self.now.order }
     {

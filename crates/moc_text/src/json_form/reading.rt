@@ -252,7 +252,7 @@ fn site_in(
 
 /// Where a text breaks the grammar of JSON: the line, counted from 1, and the column at which `serde_json` stops
 /// reading it. So `NotJson`, which has no place of its own, can be shown with one. `None` where the text is JSON, where
-/// memory was refused, or where `serde_json` tells no place.
+/// memory was refused, or where `serde_json` tells no place. As dear as the first pass of `read_json`.
 pub fn json_syntax_error(alloc: Global, text: &[u8]) -> Option<(usize, usize)>
     ensures { IfSome result (λ _. IsNotJson text.now) }
 {
