@@ -11,7 +11,7 @@ use Rattle.moc_sphere.specs.Touching.{healpy_place, IsNeighbour, touching_cells}
 use Rattle.moc_sphere.specs.declared.direction.Direction.{Direction}
 use Rattle.moc_ranges.specs.Cells.{cells_of, pixels_of}
 use Rattle.moc_ranges.specs.Faults.{first_fault}
-use Rattle.moc_lists.specs.RangeList.{NumberSet, IsNormal, set_of}
+use Rattle.moc_lists.specs.RangeList.{NumberSet, AreRangesOf, set_of}
 use Rattle.moc_c.specs.Answers.{Makes}
 use Rattle.moc_c.specs.Contents.{Contents}
 use Rattle.moc_c.specs.Outcomes.{all_well, memory, outcome_of, number_told}
@@ -138,7 +138,7 @@ ranges_from pairs = map (λ p. record { from = p.0; to = p.1 }) pairs
 -- the ranges of a set fill a buffer, or the fault is told
 abbrev pub FillsRanges : Result NumberSet CallFault → List Range → List Range → Outcome → Type 0
 FillsRanges (Ok a) old new o =
-    (ranges : List (ℕ × ℕ)) × IsNormal ranges × (set_of ranges ≡ a) × Fills (ranges_from ranges) old new o
+    (ranges : List (ℕ × ℕ)) × AreRangesOf a ranges × Fills (ranges_from ranges) old new o
 FillsRanges (Err e) old new o = (new ≡ old) × (o ≡ outcome_of e)
 
 -- the NUNIQ numbers of a set's cells fill a buffer, or no memory is left, or the fault is told

@@ -89,7 +89,7 @@ pub record IsAfter (old new : Membership) : Type 0 where
 abbrev pub MemberEnds : Membership → Membership → List Command → List Reply → Type 0
 MemberEnds old new cs r = Ends old.map (call_of old.client cs r) (record_of old.client) (record_of new.client)
 
--- another client holds a part of theirs: which, and who, is told; or no memory is left
+-- another client holds a part that the commands need: which, and who, is told; or no memory is left
 abbrev pub IsTurnedAway : Membership → Membership → List Command → Outcome → Type 0
 IsTurnedAway old new cs o =
     ((b : Busy) × Refuses old.map cs b (record_of old.client) (record_of new.client) × (o ≡ outcome_of (fault.Busy b)))

@@ -105,8 +105,8 @@ impl Shelf {
     }
 }
 
-/// The set that an ASCII text says, at a new key, with the deepest order that the text names, or 255. Time and memory as
-/// `read_ascii` takes; refused at the first fault of the text, or where memory runs out.
+/// The set that an ASCII text says, at a new key, with the deepest order that the text names, or 255. Time and memory
+/// as `read_ascii` takes; refused at the first fault of the text, or where memory runs out.
 #[unsafe(no_mangle)]
 pub extern "C" fn moc_read_ascii(alloc: Global, desk: &mut Desk, text: &[u8]) -> Outcome
     ensures { Reads Ascii text.now desk.old.contents desk.new.contents result }

@@ -42,7 +42,7 @@ IsFaultyText choice left left' c =
 abbrev pub HasLongPiece : List ℕ → Type 0
 HasLongPiece bytes = (piece : List ℕ) × Contains (pieces_of bytes) piece × (input_limit < length piece)
 
--- an input of texts could not be had: a piece is too long, say, or there are more bytes than are counted
+-- an input of texts could not be had: a piece is too long, or there are more bytes than are counted
 abbrev pub IsOfTexts : Option (List ℕ) → Option (List ℕ) → InputFault → Type 0
 IsOfTexts = IsOfInput (λ given. HasLongPiece given ⊎ (18446744073709551615 ≤ length given))
 

@@ -114,7 +114,7 @@ labels =
     ++ flat_map (λ f. labels_at f (row_of 0 f) (column_of 0 f)) (range_with_len 0 12)
     ++ codes "</g>\n"
 
--- a shade in the legend, at its place
+-- a colour in a legend, with its meaning, at its place
 unfoldable pub legend_entry : ℕ → List ℕ → List ℕ → List ℕ
 legend_entry x colour meaning =
     codes "<path fill=\"" ++ colour ++ codes "\" d=\"M" ++ decimal x ++ codes " 552h24v16h-24z\"/>"

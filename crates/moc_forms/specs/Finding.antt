@@ -23,7 +23,8 @@ abbrev pub choice_name : Choice → List ℕ
 choice_name (Named form) = form_name form
 choice_name Auto = codes "auto"
 
--- the form that a text is read in: the one that is named, and else JSON where it begins with `{`, and ASCII otherwise
+-- the form that a text is read in: the one that is named; else JSON where its first byte that is no blank is `{`, and
+-- ASCII otherwise
 abbrev pub form_for : Choice → List ℕ → Form
 form_for (Named form) text = form
 form_for Auto text = option_map_or (λ b. if b == 123 then Json else Ascii) (first_byte text) Ascii
@@ -32,8 +33,8 @@ form_for Auto text = option_map_or (λ b. if b == 123 then Json else Ascii) (fir
 abbrev pub begins_word : ℕ → Bool
 begins_word b = nat_le 48 b && nat_le b 57 || b == 115 || b == 44
 
--- the form that a text looks like by its first byte: JSON by `{`; by a digit, `s` or a comma ASCII where it has a
--- slash, and else a NUNIQ list
+-- the form that a text looks like by its first byte that is no blank: JSON by `{`; by a digit, `s` or a comma ASCII
+-- where it has a slash, and a NUNIQ list where it has none; by another, none
 abbrev pub looks_like : List ℕ → Option Form
 looks_like text =
     option_and_then

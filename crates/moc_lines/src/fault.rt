@@ -57,8 +57,8 @@ impl LineFault {
     }
 }
 
-/// Adds the answer to a line with the fault of this name, `fault NAME` and a line feed. Refused where memory runs out; a
-/// part may then stand in the text. Linear in the name.
+/// Adds the answer to a line with the fault of this name, `fault NAME` and a line feed. Linear in the name; refused
+/// where memory runs out, and a part may then stand in the text.
 pub fn push_fault(name: &str, text: &mut Vec<u8>) -> Result<(), Memory>
     ensures { OnOk result (text.new.items ≡ text.old.items ++ told_fault name.now) }
 {

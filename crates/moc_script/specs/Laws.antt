@@ -72,7 +72,7 @@ pub record StandInOrder (steps : List BatchStep) (s : Schedule) : Type 0 where
   pub played : ArePlayed batches set.empty steps
   -- they lead to the schedule's world
   pub leads : led_to batches set.empty steps ≡ s.world
-  -- its order explains them: each operation has the reply of one single set, which is its own where none is midway
+  -- its order explains them: what finished has the reply of one single set, the schedule's where none is midway
   pub ordered : HasOneOrder batches set.empty steps
   -- there is a line for each operation, which began it
   pub begun : length s.begins ≡ length (operations steps)

@@ -22,7 +22,7 @@ note b y = record { part = b; content = y }
 abbrev pub Pointer : Type 0
 Pointer = Arc NumberSet Global
 
--- what a client's seat knows
+-- a view, over sets and batches: what a client's seat knows
 abbrev pub Sight : Type 0
 Sight = View NumberSet (List Command) (List Reply) (Option NumberSet)
 

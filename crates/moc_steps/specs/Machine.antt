@@ -29,7 +29,7 @@ pub data Step (Op : Type 0) : Type 0 where
 
 -- a client that is midway
 pub record Running (Op : Type 0) : Type 0 where
-  -- how many Begins stand before its own
+  -- its operation's number: how many Begins stand before its own
   pub number : ℕ
   pub operation : Op
   -- how many parts of its footprint it has taken, in rising order
@@ -215,7 +215,7 @@ module _ {Op Reply : Type 0} (o : Object Op Reply) where
       option_map_or (λ r. set_at w.parts b (part_of (answer_on_found w c r).0 b)) (client_at w c) w.parts
   parts_after w step = w.parts
 
-  -- what midway clients have found after a step: a Take adds what the part holds
+  -- what midway clients have found after a step: at a Begin nothing; a Take adds what the part holds; an End drops it
   abbrev pub found_after : World Op Reply → Step Op → map.FinMap nat_cmp NumberSet
   found_after w (Begin c op) = map.insert w.found c set.empty
   found_after w (Take c) = map.insert w.found c (option_map_or

@@ -127,7 +127,7 @@ module _ {Op : Type 0} where
   AreProgress steps = AllByRecursion (λ step. is_progress step ≡ true) steps
 
 module _ {Op Reply : Type 0} (o : Object Op Reply) where
-  -- of each midway client a Take, an Edit and a Give for each part of its footprint, and an End
+  -- three steps for each part of the footprints of midway clients (Take, Edit, Give), and an End for each client
   abbrev pub steps_left : Clients Op → ℕ
   steps_left m = sum_by
       (λ c. option_map_or (λ r. 3 * count_by (o.footprint r.operation) twelve + 1) (map.get m c) 0) (map.keys m)

@@ -17,7 +17,7 @@ fault_byte (text.Backwards at) = Some at
 fault_byte (text.Unfinished at) = Some at
 fault_byte text.Memory = None
 
--- the name of a fault of a JSON object, and the item of the name's array, where one is at fault
+-- where a JSON text is at fault: at the name of this number, and at this item of its array, where it is an item
 abbrev pub json_fault_at : JsonError → Option (ℕ × Option ℕ)
 json_fault_at json.NotJson = None
 json_fault_at json.NotObject = None
