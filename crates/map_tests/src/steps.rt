@@ -72,8 +72,9 @@ fn end(rt: &impl Abort, world: &mut World, client: u32) -> Option<u64> {
 
 /// Checks the refusal of a step.
 fn is_refused(rt: &impl Abort, world: &mut World, step: Step, why: StepError) {
-    assert_eq!(rt; world.permits(&step).err(), Some(why));
-    assert_eq!(rt; world.step(step).err(), Some(why));
+    let told = world.permits(&step).err();
+    assert_eq!(rt; world.step(step).err(), told);
+    assert_eq!(rt; told, Some(why));
 }
 
 /// How many pixels the first reply tells of.
