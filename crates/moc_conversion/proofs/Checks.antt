@@ -1,7 +1,7 @@
 -- What a complaint of a text says.
 use Rattle.std.proofs.Common.{◌≡◌, ◌⊎◌, ◌∙◌, ℕ, List, Option, None, Result, Ok, Err, ap, inl, inr, refl, subst, sym}
 use Rattle.std.specs.Prelude.{IfErr, IsErrAnd, IsOkUnless, ◌≤◌, length, option_map, string_bytes}
-use Rattle.std.specs.Io.KnownBytes.{Consumes, IsAtEnd}
+use Rattle.moc_devices.specs.Devices.{Reading, Delivers, IsEnded}
 use Rattle.moc_conversion.specs.Combining.{IsNotCombined}
 use Rattle.moc_lists.specs.RangeList.{NumberSet}
 use Rattle.moc_text.specs.AsciiText.{IsTooCoarse}
@@ -34,31 +34,31 @@ module _ (form : Form) (text : List ℕ) (number : Option ℕ) (error : FormErro
       inr (record { error = error; is_fault = is_fault; told = as_fault; place = place; is_place = is_place; line = line; hint = hint })
 
 -- all that was left, which is no longer than an input may be
-abbrev pub IsWhole : Option (List ℕ) → Option (List ℕ) → List ℕ → Type 0
-IsWhole left left' given = Consumes left left' given × IsAtEnd left' × (length given ≤ input_limit)
+abbrev pub IsWhole : Reading → Reading → List ℕ → Type 0
+IsWhole left left' given = Delivers left left' given × IsEnded left' × (length given ≤ input_limit)
 
 -- so it is such a text
-pub all_of : (is : List ℕ → Type 0) (left left' : Option (List ℕ)) (given : List ℕ) → IsWhole left left' given → is given → IsAll is left left'
+pub all_of : (is : List ℕ → Type 0) (left left' : Reading) (given : List ℕ) → IsWhole left left' given → is given → IsAll is left left'
 all_of is left left' given (came, end, within) holds = (given, came, (end, within, holds))
 
 -- a complaint of the input, or of the text that it was
-pub of_input : (choice : Choice) (left left' : Option (List ℕ)) (given : List ℕ) (c : Complaint) → IsWhole left left' given
+pub of_input : (choice : Choice) (left left' : Reading) (given : List ℕ) (c : Complaint) → IsWhole left left' given
     → (c.fault ≡ want_of_memory) ⊎ TellsFault (form_for choice given) given None c → IsNotSaid choice left left' c
 of_input choice left left' given c whole (inl memory) = inl (inr (inr memory))
 of_input choice left left' given c whole (inr tells) = inr (all_of (λ text. TellsFault (form_for choice text) text None c) left left' given whole tells)
 
 -- why an input was not converted
-abbrev pub Unconverted : Form → Option (List ℕ) → Option (List ℕ) → InputFault → Type 0
+abbrev pub Unconverted : Form → Reading → Reading → InputFault → Type 0
 Unconverted form left left' f = IsOfWhole left left' f ⊎ IsAll (λ text. (e : FormError) × IsFormFault form text e × (f ≡ fault.Form e)) left left'
 
 -- and so tells a complaint of the fault alone
-pub told_alone : {T : Type 0} (r : Result T Complaint) (f : InputFault) (form : Form) (left left' : Option (List ℕ))
+pub told_alone : {T : Type 0} (r : Result T Complaint) (f : InputFault) (form : Form) (left left' : Reading)
     → IsErrAnd r (λ c. (c.fault ≡ f) × (c.place_line ≡ None) × (c.hint ≡ None)) → Unconverted form left left' f → IfErr r (λ c. IsNotConverted form left left' c)
 told_alone (Ok v) f form left left' same why = tt
 told_alone (Err c) f form left left' same why = (same.1, same.2, subst (λ g. Unconverted form left left' g) (sym same.0) why)
 
 -- what a text is refused for is why the input that it was is not converted
-pub not_read : (form : Form) (left left' : Option (List ℕ)) (given : List ℕ) (e : FormError) → IsWhole left left' given
+pub not_read : (form : Form) (left left' : Reading) (given : List ℕ) (e : FormError) → IsWhole left left' given
     → FormFails form given e → Unconverted form left left' (fault.Form e)
 not_read form left left' given e whole (inl want) = inl (inr (inr (ap (λ x. fault.Form x) want)))
 not_read form left left' given e whole (inr is_fault) =
@@ -83,13 +83,13 @@ unless_memory (Ok v) e same want = tt
 unless_memory (Err f) e same want = same ∙ ap (λ x. fault.Form x) want
 
 -- want of memory for what is made of an input
-pub no_memory : {T : Type 0} (r : Result T Complaint) (f : InputFault) (choice : Choice) (left left' : Option (List ℕ))
+pub no_memory : {T : Type 0} (r : Result T Complaint) (f : InputFault) (choice : Choice) (left left' : Reading)
     → IsErrAnd r (λ c. (c.fault ≡ f) × (c.place_line ≡ None) × (c.hint ≡ None)) → f ≡ want_of_memory → IfErr r (λ c. IsNotSaid choice left left' c)
 no_memory (Ok v) f choice left left' same memory = tt
 no_memory (Err c) f choice left left' same memory = inl (inr (inr (same.0 ∙ memory)))
 
 -- and for what is made of several texts
-pub no_memory_together : {T : Type 0} (r : Result T Complaint) (f : InputFault) (choice : Choice) (left left' : Option (List ℕ))
+pub no_memory_together : {T : Type 0} (r : Result T Complaint) (f : InputFault) (choice : Choice) (left left' : Reading)
     → IsErrAnd r (λ c. (c.fault ≡ f) × (c.place_line ≡ None) × (c.hint ≡ None)) → f ≡ want_of_memory → IfErr r (λ c. IsNotCombined choice left left' c)
 no_memory_together (Ok v) f choice left left' same memory = tt
 no_memory_together (Err c) f choice left left' same memory = inl (inr (inr (same.0 ∙ memory)))

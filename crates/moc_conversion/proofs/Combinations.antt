@@ -4,8 +4,8 @@ use Rattle.std.specs.Prelude.{if◌then◌else◌}
 use Rattle.std.specs.List.{AllByRecursion, onto_first}
 use Rattle.std.proofs.lemmas.List.Elements.{All-append, All-head, All-tail, Contains-append_right}
 use Rattle.std.proofs.lemmas.List.Splits.{slice_split-cons_no, slice_split_at, slice_split_none, length-slice_split}
-use Rattle.std.proofs.KnownBytes.{Consumes-trans}
-use Rattle.std.specs.Io.KnownBytes.{Consumes, IsAtEnd}
+use Rattle.moc_devices.specs.Lemmas.{Delivers-trans}
+use Rattle.moc_devices.specs.Devices.{Reading, Delivers, IsEnded}
 use Rattle.moc_forms.specs.Combining.{CombinesTexts, TextSays, are_blanks, joined, texts_among, texts_of}
 use Rattle.moc_forms.specs.declared.combining.Said.{Said}
 use Rattle.moc_forms.specs.Combining.{without_blank_end}
@@ -301,20 +301,20 @@ module _ (operation : Operation) (choice : Choice) (c : Combination) (begins : B
       (subst (λ texts. TellsFirstFault c.number c.choice texts complaint) (begins_texts bytes) fails))
 
 -- the piece that came where none was at hand
-module _ (left left' : Option (List ℕ)) (old new : List ℕ) (some : Bool) (bare : old ≡ []) (brings : BringsPiece left old left' new some) where
-  pub piece_is : Consumes left left' new
-  piece_is = subst (Consumes left left') (sym (brings.text ∙ ap (λ o. o ++ brings.came) bare)) brings.consumed
+module _ (left left' : Reading) (old new : List ℕ) (some : Bool) (bare : old ≡ []) (brings : BringsPiece left old left' new some) where
+  pub piece_is : Delivers left left' new
+  piece_is = subst (Delivers left left') (sym (brings.text ∙ ap (λ o. o ++ brings.came) bare)) brings.consumed
 
 -- the bytes that were taken, and a piece behind them; there are as many bytes as pieces at least
-pub piece_taken : (a b c : Option (List ℕ)) (start d e : Combination) (piece : List ℕ) (pieces : ℕ) → Consumes b c piece → Leads d piece e → 0 < length piece
+pub piece_taken : (a b c : Reading) (start d e : Combination) (piece : List ℕ) (pieces : ℕ) → Delivers b c piece → Leads d piece e → 0 < length piece
     → (runs : RunsTo a b start d) × (pieces ≤ length runs.0) → (runs : RunsTo a c start e) × (pieces + 1 ≤ length runs.0)
 piece_taken a b c start d e piece pieces consumed leads some ((taken, (before, led)), counted) = (
-  (taken ++ piece, (Consumes-trans a b c taken piece before consumed, led_on start d e taken piece led leads)),
+  (taken ++ piece, (Delivers-trans a b c taken piece before consumed, led_on start d e taken piece led leads)),
   omega (arith, some, counted, length-append taken piece),
 )
 
-module _ (operation : Operation) (choice : Choice) (a b c : Option (List ℕ)) (start d : Combination) (piece : List ℕ)
-    (begins : BeginsCombination operation choice start) (runs : RunsTo a b start d) (consumed : Consumes b c piece) where
+module _ (operation : Operation) (choice : Choice) (a b c : Reading) (start d : Combination) (piece : List ℕ)
+    (begins : BeginsCombination operation choice start) (runs : RunsTo a b start d) (consumed : Delivers b c piece) where
   taken : List ℕ
   taken = runs.0
 
@@ -325,7 +325,7 @@ module _ (operation : Operation) (choice : Choice) (a b c : Option (List ℕ)) (
     is,
     (
       runs.0 ++ piece,
-      Consumes-trans a b c runs.0 piece runs.1.0 consumed,
+      Delivers-trans a b c runs.0 piece runs.1.0 consumed,
       longer_from_1 operation choice start begins (runs.0 ++ piece) (runs.1.1.longer piece (subst (IsLong d) (append-nil piece) (long []))),
     ),
   )
@@ -335,16 +335,16 @@ module _ (operation : Operation) (choice : Choice) (a b c : Option (List ℕ)) (
   piece_fails complaint (inl not) = elim (piece_not_taken complaint.fault not) [ inl memory ↦ inl (inr (inr memory)) | inr longer ↦ inl (inr (inl longer)) ]
   piece_fails complaint (inr fails) = inr (
     runs.0 ++ piece,
-    Consumes-trans a b c runs.0 piece runs.1.0 consumed,
+    Delivers-trans a b c runs.0 piece runs.1.0 consumed,
     λ rest at_end.
         subst (λ bytes. TellsFirstFault 1 choice (texts_of bytes) complaint) (sym (append_assoc runs.0 piece rest))
         (fails_from_1 operation choice start begins (runs.0 ++ (piece ++ rest)) complaint (runs.1.1.fails (piece ++ rest) complaint (fails rest))),
   )
 
   -- all that was left was taken
-  module _ (empty : piece ≡ []) (end : IsAtEnd c) where
-    all_consumed : Consumes a c runs.0
-    all_consumed = subst (Consumes a c) (ap (λ p. runs.0 ++ p) empty ∙ append-nil runs.0) (Consumes-trans a b c runs.0 piece runs.1.0 consumed)
+  module _ (empty : piece ≡ []) (end : IsEnded c) where
+    all_consumed : Delivers a c runs.0
+    all_consumed = subst (Delivers a c) (ap (λ p. runs.0 ++ p) empty ∙ append-nil runs.0) (Delivers-trans a b c runs.0 piece runs.1.0 consumed)
 
     pub all_taken : (after : Said) → EndsCombination d [] (Some after) → SaysTogether operation choice a c after
     all_taken after ends =

@@ -1,6 +1,7 @@
 -- What texts say, and what is made of it, has no cell that is deeper than the order that is stated of it.
 use Rattle.std.proofs.Common.{◌≡◌, ℕ, Bool, true, false, List, [], ◌∷◌, Option, None, Some, sym, ap, ap₂, subst}
 use Rattle.std.specs.Prelude.{⊤, option_map, min, ◌==◌, if◌then◌else◌}
+use Rattle.moc_devices.specs.Devices.{Reading}
 use Rattle.moc_lists.specs.RangeList.{NumberSet}
 use Rattle.moc_text.specs.Ascii.{deeper}
 use Rattle.moc_text.specs.AsciiText.{IsTooCoarse}
@@ -58,7 +59,7 @@ change_fit Complement Json a k fit = complement_depth a k fit
 change_fit Complement Uniq a k fit = fit
 
 -- and so is what a change makes of it
-pub change_written : (change : Change) (choice : Choice) (left left' : Option (List ℕ)) (said : Said)
+pub change_written : (change : Change) (choice : Choice) (left left' : Reading) (said : Said)
     → SaysAll choice left left' said → IsTooCoarse (changed_set change said.set) (changed_order change said.deepest) → ⊥
 change_written change choice left left' said (text, came, (end, within, says)) =
     fit_written said.form _ _ (change_fit change said.form said.set said.deepest (text_fit said.form text said.set said.deepest says.0))
@@ -128,7 +129,7 @@ all_written Auto said fit = not_too_coarse said.set said.deepest fit
 all_written (Named form) said fit = fit_written form said.set said.deepest fit
 
 -- what texts say together is written
-pub together_written : (operation : Operation) (choice : Choice) (left left' : Option (List ℕ)) (said : Said)
+pub together_written : (operation : Operation) (choice : Choice) (left left' : Reading) (said : Said)
     → SaysTogether operation choice left left' said → IsTooCoarse said.set said.deepest → ⊥
 together_written operation choice left left' said (given, consumed, (at_end, within, combines)) =
     all_written choice said (texts_fit operation choice None (texts_of given) (Some said) tt combines)

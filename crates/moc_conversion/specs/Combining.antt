@@ -1,6 +1,6 @@
 -- Texts of coverages, parted by semicolons on the input, and combined.
 use Rattle.std.specs.Prelude.{◌≡◌, ℕ, ◌+◌, ◌<◌, ◌≤◌, ◌⊎◌, List, [], ◌++◌, Option, Some, Contains, length}
-use Rattle.std.specs.Io.KnownBytes.{IsAtEnd}
+use Rattle.moc_devices.specs.Devices.{Reading, IsEnded}
 use Rattle.std.specs.List.{AllByRecursion}
 use Rattle.moc_forms.specs.Combining.{Combines, StandsBehind, texts_of}
 use Rattle.moc_forms.specs.declared.combining.Said.{Said}
@@ -14,13 +14,13 @@ use Rattle.moc_conversion.specs.declared.complaint.Complaint.{Complaint}
 use Rattle.moc_conversion.specs.declared.fault.InputFault.{InputFault}
 
 -- all that was left was read; none of its texts is too long, and this is what they say together
-abbrev pub SaysTogether : Operation → Choice → Option (List ℕ) → Option (List ℕ) → Said → Type 0
+abbrev pub SaysTogether : Operation → Choice → Reading → Reading → Said → Type 0
 SaysTogether operation choice left left' said =
-    HasRead (λ given. IsAtEnd left' × AllByRecursion (λ text. length text ≤ input_limit) (texts_of given)
+    HasRead (λ given. IsEnded left' × AllByRecursion (λ text. length text ≤ input_limit) (texts_of given)
     × Combines operation choice given said) left left'
 
 -- the text, in the form of the first, of the set which all texts say together, with their deepest order stated
-abbrev pub CombinesAll : Operation → Choice → Option (List ℕ) → Option (List ℕ) → List ℕ → Type 0
+abbrev pub CombinesAll : Operation → Choice → Reading → Reading → List ℕ → Type 0
 CombinesAll operation choice left left' text =
     (said : Said) × SaysTogether operation choice left left' said × (text ≡ form_text said.form said.set said.deepest)
 
@@ -33,9 +33,9 @@ pub record TellsFirstFault (number : ℕ) (choice : Choice) (texts : List (List 
 
 -- some of what was left was read, and of its texts, counted from 1, the complaint tells the first that says no set; so
 -- it is whatever stands behind what was read, which is nothing at the end
-abbrev pub IsFaultyText : Choice → Option (List ℕ) → Option (List ℕ) → Complaint → Type 0
+abbrev pub IsFaultyText : Choice → Reading → Reading → Complaint → Type 0
 IsFaultyText choice left left' c =
-    HasRead (λ given. (rest : List ℕ) → (IsAtEnd left' → rest ≡ [])
+    HasRead (λ given. (rest : List ℕ) → (IsEnded left' → rest ≡ [])
     → TellsFirstFault 1 choice (texts_of (given ++ rest)) c) left left'
 
 -- one of the pieces of bytes, between their semicolons, is longer than a text may be
@@ -43,9 +43,9 @@ abbrev pub HasLongPiece : List ℕ → Type 0
 HasLongPiece bytes = (piece : List ℕ) × Contains (pieces_of bytes) piece × (input_limit < length piece)
 
 -- an input of texts could not be had: a piece is too long, or there are more bytes than are counted
-abbrev pub IsOfTexts : Option (List ℕ) → Option (List ℕ) → InputFault → Type 0
+abbrev pub IsOfTexts : Reading → Reading → InputFault → Type 0
 IsOfTexts = IsOfInput (λ given. HasLongPiece given ⊎ (18446744073709551615 ≤ length given))
 
 -- why texts say no set together: the input or memory could not be had, or a text is too long, or one is at fault
-abbrev pub IsNotCombined : Choice → Option (List ℕ) → Option (List ℕ) → Complaint → Type 0
+abbrev pub IsNotCombined : Choice → Reading → Reading → Complaint → Type 0
 IsNotCombined choice left left' c = IsOfTexts left left' c.fault ⊎ IsFaultyText choice left left' c

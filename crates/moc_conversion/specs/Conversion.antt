@@ -2,7 +2,7 @@
 use Rattle.std.specs.Prelude.{◌≡◌, ℕ, ◌<◌, ◌≤◌, ◌⊎◌, if◌then◌else◌, List, length, Option, None, Some, option_map}
 use Rattle.std.specs.Prelude.{string_bytes}
 use Rattle.std.specs.List.{after_first, before_first}
-use Rattle.std.specs.Io.KnownBytes.{Consumes, IsAtEnd}
+use Rattle.moc_devices.specs.Devices.{Reading, Delivers, IsEnded}
 use Rattle.moc_forms.specs.Changing.{changed_order, changed_set}
 use Rattle.moc_forms.specs.Combining.{TextSays, are_blanks}
 use Rattle.moc_forms.specs.declared.combining.Said.{Said}
@@ -29,37 +29,37 @@ abbrev pub input_limit : ℕ
 input_limit = 16777216
 
 -- such bytes of what was left were read
-abbrev pub HasRead : (List ℕ → Type 0) → Option (List ℕ) → Option (List ℕ) → Type 0
-HasRead is left left' = (given : List ℕ) × Consumes left left' given × is given
+abbrev pub HasRead : (List ℕ → Type 0) → Reading → Reading → Type 0
+HasRead is left left' = (given : List ℕ) × Delivers left left' given × is given
 
 -- all that was left was read, and it is such a text, no longer than an input may be
-abbrev pub IsAll : (List ℕ → Type 0) → Option (List ℕ) → Option (List ℕ) → Type 0
-IsAll is left left' = HasRead (λ text. IsAtEnd left' × (length text ≤ input_limit) × is text) left left'
+abbrev pub IsAll : (List ℕ → Type 0) → Reading → Reading → Type 0
+IsAll is left left' = HasRead (λ text. IsEnded left' × (length text ≤ input_limit) × is text) left left'
 
 -- the input says this, read in a form of this choice
-abbrev pub SaysAll : Choice → Option (List ℕ) → Option (List ℕ) → Said → Type 0
+abbrev pub SaysAll : Choice → Reading → Reading → Said → Type 0
 SaysAll choice left left' said = IsAll (λ text. TextSays choice text said) left left'
 
 -- the input says a set
-abbrev pub IsSaid : Choice → Option (List ℕ) → Option (List ℕ) → Type 0
+abbrev pub IsSaid : Choice → Reading → Reading → Type 0
 IsSaid choice left left' = (said : Said) × SaysAll choice left left' said
 
 -- such a text is made of what the input says
 abbrev pub MakesAll :
-    (Said → List ℕ → Type 0) → Choice → Option (List ℕ) → Option (List ℕ) → List ℕ → Type 0
+    (Said → List ℕ → Type 0) → Choice → Reading → Reading → List ℕ → Type 0
 MakesAll makes choice left left' text = (said : Said) × SaysAll choice left left' said × makes said text
 
 -- the text in one form of the set which the input says in the other, with the deepest order that it names stated
-abbrev pub ConvertsAll : Form → Form → Option (List ℕ) → Option (List ℕ) → List ℕ → Type 0
+abbrev pub ConvertsAll : Form → Form → Reading → Reading → List ℕ → Type 0
 ConvertsAll from to = MakesAll (λ said text. text ≡ form_text to said.set said.deepest) (Named from)
 
 -- the text, in the same form, of a change of the set which the input says, with the order stated of that
-abbrev pub ChangesAll : Change → Choice → Option (List ℕ) → Option (List ℕ) → List ℕ → Type 0
+abbrev pub ChangesAll : Change → Choice → Reading → Reading → List ℕ → Type 0
 ChangesAll change =
     MakesAll (λ said text. text ≡ form_text said.form (changed_set change said.set) (changed_order change said.deepest))
 
 -- the text has the figures of the set which the input says
-abbrev pub DescribesAll : Choice → Option (List ℕ) → Option (List ℕ) → List ℕ → Type 0
+abbrev pub DescribesAll : Choice → Reading → Reading → List ℕ → Type 0
 DescribesAll = MakesAll (λ said text. Describes said.set said.deepest text)
 
 -- the second text of a picture: the bytes behind the first semicolon, if they are more than blanks
@@ -76,7 +76,7 @@ IsPictureOf choice first (Some second) picture =
     × (picture ≡ picture_of_two one.set other.set)
 
 -- the picture is that of the texts that the input is: the bytes before its first semicolon, or all, and the second text
-abbrev pub DrawsAll : Choice → Option (List ℕ) → Option (List ℕ) → List ℕ → Type 0
+abbrev pub DrawsAll : Choice → Reading → Reading → List ℕ → Type 0
 DrawsAll choice left left' picture =
     IsAll (λ text. IsPictureOf choice (before_first is_semicolon text) (second_text text) picture) left left'
 
@@ -91,23 +91,23 @@ pub record TellsFault (form : Form) (text : List ℕ) (number : Option ℕ) (c :
   pub hint : c.hint ≡ hint_of form text
 
 -- an input could not be had: the reader failed, or it is too long by what was read, or memory was refused
-abbrev pub IsOfInput : (List ℕ → Type 0) → Option (List ℕ) → Option (List ℕ) → InputFault → Type 0
+abbrev pub IsOfInput : (List ℕ → Type 0) → Reading → Reading → InputFault → Type 0
 IsOfInput is_long left left' f =
     (f ≡ fault.Read) ⊎ ((f ≡ fault.TooLong) × HasRead is_long left left') ⊎ (f ≡ want_of_memory)
 
 -- an input that is one text could not be had
-abbrev pub IsOfWhole : Option (List ℕ) → Option (List ℕ) → InputFault → Type 0
+abbrev pub IsOfWhole : Reading → Reading → InputFault → Type 0
 IsOfWhole = IsOfInput (λ given. input_limit < length given)
 
 -- why the input was not converted, which is told alone: it could not be had, or it has the fault that is told
-abbrev pub IsNotConverted : Form → Option (List ℕ) → Option (List ℕ) → Complaint → Type 0
+abbrev pub IsNotConverted : Form → Reading → Reading → Complaint → Type 0
 IsNotConverted form left left' c =
     (c.place_line ≡ None) × (c.hint ≡ None)
     × (IsOfWhole left left' c.fault
     ⊎ IsAll (λ text. (e : FormError) × IsFormFault form text e × (c.fault ≡ fault.Form e)) left left')
 
 -- why the input says no set: it or memory could not be had, or it has the fault that is told, at the place that is told
-abbrev pub IsNotSaid : Choice → Option (List ℕ) → Option (List ℕ) → Complaint → Type 0
+abbrev pub IsNotSaid : Choice → Reading → Reading → Complaint → Type 0
 IsNotSaid choice left left' c =
     IsOfWhole left left' c.fault ⊎ IsAll (λ text. TellsFault (form_for choice text) text None c) left left'
 
@@ -119,7 +119,7 @@ TellsTexts choice first (Some second) c =
     ⊎ (((said : Said) × TextSays choice first said) × TellsFault (form_for choice second) second (Some 2) c)
 
 -- why the input has no picture: it or memory could not be had, or one of its texts has the fault that is told
-abbrev pub IsNotDrawn : Choice → Option (List ℕ) → Option (List ℕ) → Complaint → Type 0
+abbrev pub IsNotDrawn : Choice → Reading → Reading → Complaint → Type 0
 IsNotDrawn choice left left' c =
     IsOfWhole left left' c.fault
     ⊎ IsAll (λ text. TellsTexts choice (before_first is_semicolon text) (second_text text) c) left left'

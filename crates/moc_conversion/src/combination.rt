@@ -149,8 +149,8 @@ fn read_texts<R: Source>(
 ) -> Result<Said, Complaint>
     requires { R.mark input.old ≡ false }
     ensures read { IsErrAnd result (λ c. c.fault ≡ InputFault.Read) ↔ IsTrue (R.mark input.new) }
-    ensures fault { IfErr result (λ c. IsNotCombined choice (R.left input.old) (R.left input.new) c) }
-    ensures says { IfOk result (λ r. SaysTogether operation choice (R.left input.old) (R.left input.new) r) }
+    ensures fault { IfErr result (λ c. IsNotCombined choice (R.reading input.old) (R.reading input.new) c) }
+    ensures says { IfOk result (λ r. SaysTogether operation choice (R.reading input.old) (R.reading input.new) r) }
 {
     let mut room = room(alloc)?;
     let mut texts = Combination::new(alloc, operation, choice);
@@ -181,9 +181,9 @@ pub fn combine_input<R: Source>(
 ) -> Result<String, Complaint>
     requires { R.mark input.old ≡ false }
     ensures read { IsErrAnd result (λ c. c.fault ≡ InputFault.Read) ↔ IsTrue (R.mark input.new) }
-    ensures fault { IfErr result (λ c. IsNotCombined choice (R.left input.old) (R.left input.new) c) }
+    ensures fault { IfErr result (λ c. IsNotCombined choice (R.reading input.old) (R.reading input.new) c) }
     ensures combines { IfOk result (λ t.
-        CombinesAll operation choice (R.left input.old) (R.left input.new) (string_bytes t)) }
+        CombinesAll operation choice (R.reading input.old) (R.reading input.new) (string_bytes t)) }
 {
     let said = read_texts(alloc, operation, choice, input)?;
     Ok(text_of(alloc, said.form, &said.set, said.deepest)?)

@@ -27,8 +27,9 @@ pub fn convert_input<R: Source>(
 ) -> Result<String, Complaint>
     requires { R.mark input.old ≡ false }
     ensures read { IsErrAnd result (λ c. c.fault ≡ InputFault.Read) ↔ IsTrue (R.mark input.new) }
-    ensures fault { IfErr result (λ c. IsNotConverted from (R.left input.old) (R.left input.new) c) }
-    ensures converts { IfOk result (λ t. ConvertsAll from to (R.left input.old) (R.left input.new) (string_bytes t)) }
+    ensures fault { IfErr result (λ c. IsNotConverted from (R.reading input.old) (R.reading input.new) c) }
+    ensures converts { IfOk result (λ t.
+        ConvertsAll from to (R.reading input.old) (R.reading input.new) (string_bytes t)) }
 {
     let text = read_whole(alloc, input)?;
     let (set, deepest) = from.read(alloc, &text)?;
@@ -47,8 +48,9 @@ pub fn describe_input<R: Source>(
 ) -> Result<String, Complaint>
     requires { R.mark input.old ≡ false }
     ensures read { IsErrAnd result (λ c. c.fault ≡ InputFault.Read) ↔ IsTrue (R.mark input.new) }
-    ensures fault { IfErr result (λ c. IsNotSaid choice (R.left input.old) (R.left input.new) c) }
-    ensures describes { IfOk result (λ t. DescribesAll choice (R.left input.old) (R.left input.new) (string_bytes t)) }
+    ensures fault { IfErr result (λ c. IsNotSaid choice (R.reading input.old) (R.reading input.new) c) }
+    ensures describes { IfOk result (λ t.
+        DescribesAll choice (R.reading input.old) (R.reading input.new) (string_bytes t)) }
 {
     let said = input_says(alloc, choice, input)?;
     Ok(describe(alloc, &said.set, said.deepest)?)
@@ -68,9 +70,9 @@ pub fn change_input<R: Source>(
 ) -> Result<String, Complaint>
     requires { R.mark input.old ≡ false }
     ensures read { IsErrAnd result (λ c. c.fault ≡ InputFault.Read) ↔ IsTrue (R.mark input.new) }
-    ensures fault { IfErr result (λ c. IsNotSaid choice (R.left input.old) (R.left input.new) c) }
+    ensures fault { IfErr result (λ c. IsNotSaid choice (R.reading input.old) (R.reading input.new) c) }
     ensures changes { IfOk result (λ t.
-        ChangesAll change choice (R.left input.old) (R.left input.new) (string_bytes t)) }
+        ChangesAll change choice (R.reading input.old) (R.reading input.new) (string_bytes t)) }
 {
     let said = input_says(alloc, choice, input)?;
     let after = change.of(alloc, &said.set)?;
@@ -85,8 +87,8 @@ pub fn change_input<R: Source>(
 pub fn check_input<R: Source>(alloc: Global, choice: Choice, input: &mut R) -> Result<(), Complaint>
     requires { R.mark input.old ≡ false }
     ensures read { IsErrAnd result (λ c. c.fault ≡ InputFault.Read) ↔ IsTrue (R.mark input.new) }
-    ensures fault { IfErr result (λ c. IsNotSaid choice (R.left input.old) (R.left input.new) c) }
-    ensures says { OnOk result (IsSaid choice (R.left input.old) (R.left input.new)) }
+    ensures fault { IfErr result (λ c. IsNotSaid choice (R.reading input.old) (R.reading input.new) c) }
+    ensures says { OnOk result (IsSaid choice (R.reading input.old) (R.reading input.new)) }
 {
     input_says(alloc, choice, input)?;
     Ok(())

@@ -26,8 +26,8 @@ pub fn draw_input<R: Source>(
 ) -> Result<String, Complaint>
     requires { R.mark input.old ≡ false }
     ensures read { IsErrAnd result (λ c. c.fault ≡ InputFault.Read) ↔ IsTrue (R.mark input.new) }
-    ensures fault { IfErr result (λ c. IsNotDrawn choice (R.left input.old) (R.left input.new) c) }
-    ensures draws { IfOk result (λ t. DrawsAll choice (R.left input.old) (R.left input.new) (string_bytes t)) }
+    ensures fault { IfErr result (λ c. IsNotDrawn choice (R.reading input.old) (R.reading input.new) c) }
+    ensures draws { IfOk result (λ t. DrawsAll choice (R.reading input.old) (R.reading input.new) (string_bytes t)) }
 {
     let text = read_whole(alloc, input)?;
     pictured(alloc, choice, &text)

@@ -1,6 +1,6 @@
 //! The bytes of an input, in pieces and as a whole, and parted at a semicolon.
 ghost use Rattle.std.specs.Prelude.{◌≡◌, ◌<◌, ◌≤◌, ◌↔◌, ◌⊎◌, false, IfErr, IfOk, IsErrOf, IsTrue, length};
-ghost use Rattle.std.specs.Io.KnownBytes.{Consumes, IsAtEnd};
+ghost use Rattle.moc_devices.specs.Devices.{Delivers, IsEnded};
 ghost use Rattle.moc_conversion.specs.Conversion.{IsOfWhole, input_limit};
 ghost use Rattle.moc_conversion.specs.Faults.{want_of_memory};
 ghost use Rattle.moc_conversion.specs.Private.Pieces.{BringsPiece, IsParted};
@@ -34,7 +34,7 @@ pub(crate) fn read_chunk<R: Source>(
     ensures read { IsErrOf result InputFault.Read ↔ IsTrue (R.mark input.new) }
     ensures fault { IfErr result (λ f. (f ≡ InputFault.Read) ⊎ (f ≡ want_of_memory)) }
     ensures brings { IfOk result (λ some.
-        BringsPiece (R.left input.old) text.old.items (R.left input.new) text.new.items some) }
+        BringsPiece (R.reading input.old) text.old.items (R.reading input.new) text.new.items some) }
 {
     let Ok(count) = input.read(room) else {
         return Err(InputFault::Read);
@@ -47,9 +47,9 @@ pub(crate) fn read_chunk<R: Source>(
 pub(crate) fn read_whole<R: Source>(alloc: Global, input: &mut R) -> Result<Vec<u8>, InputFault>
     requires { R.mark input.old ≡ false }
     ensures read { IsErrOf result InputFault.Read ↔ IsTrue (R.mark input.new) }
-    ensures fault { IfErr result (λ f. IsOfWhole (R.left input.old) (R.left input.new) f) }
-    ensures whole { IfOk result (λ v. Consumes (R.left input.old) (R.left input.new) v.items
-        × IsAtEnd (R.left input.new) × (length v.items ≤ input_limit)) }
+    ensures fault { IfErr result (λ f. IsOfWhole (R.reading input.old) (R.reading input.new) f) }
+    ensures whole { IfOk result (λ v. Delivers (R.reading input.old) (R.reading input.new) v.items
+        × IsEnded (R.reading input.new) × (length v.items ≤ input_limit)) }
 {
     let mut room = room(alloc)?;
     let mut text = Vec::new(alloc);

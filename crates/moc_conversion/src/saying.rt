@@ -90,8 +90,8 @@ pub(crate) fn input_says<R: Source>(
 ) -> Result<Said, Complaint>
     requires { R.mark input.old ≡ false }
     ensures read { IsErrAnd result (λ c. c.fault ≡ InputFault.Read) ↔ IsTrue (R.mark input.new) }
-    ensures fault { IfErr result (λ c. IsNotSaid choice (R.left input.old) (R.left input.new) c) }
-    ensures says { IfOk result (λ r. SaysAll choice (R.left input.old) (R.left input.new) r) }
+    ensures fault { IfErr result (λ c. IsNotSaid choice (R.reading input.old) (R.reading input.new) c) }
+    ensures says { IfOk result (λ r. SaysAll choice (R.reading input.old) (R.reading input.new) r) }
 {
     let text = read_whole(alloc, input)?;
     said_or_told(alloc, choice, &text, None)

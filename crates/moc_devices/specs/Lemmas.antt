@@ -1,8 +1,45 @@
 -- Laws of calls and of what was written, for the proofs of callers.
-use Rattle.std.proofs.Common.{◌≡◌, Bool, false, ℕ, List, [], ◌++◌, Option, Some, None, Ok, sym, ap, ◌∙◌, arith}
+use Rattle.std.proofs.Common.{◌≡◌, Bool, false, ℕ, List, [], ◌++◌, Option, Some, None, Ok, refl, sym, ap, ◌∙◌, arith}
 use Rattle.std.proofs.Common.{append-nil, subst}
-use Rattle.std.specs.Io.KnownBytes.{Appends}
+use Rattle.std.proofs.Common.{append_assoc}
+use Rattle.std.proofs.KnownBytes.{Appends-nil, Appends-trans, Appends-kept, Consumes-nil, Consumes-trans, Keeps-refl}
+use Rattle.moc_devices.specs.Devices.{Reading, Delivers, Writing, Accepts, AcceptsNone}
 use Rattle.moc_devices.specs.Devices.{CallsMore, FlushesNothing, OnlyWrites, Sends}
+
+-- nothing is delivered yet
+pub Delivers-nil : (a : Reading) → Delivers a a []
+Delivers-nil a = record { delivered = sym (append-nil a.delivered); consumed = Consumes-nil a.left }
+
+-- more is delivered
+pub Delivers-trans : (a b c : Reading) (bytes more : List ℕ) → Delivers a b bytes → Delivers b c more
+    → Delivers a c (bytes ++ more)
+Delivers-trans a b c bytes more first later = record {
+  delivered = later.delivered ∙ ap (λ l. l ++ more) first.delivered ∙ append_assoc a.delivered bytes more;
+  consumed = Consumes-trans a.left b.left c.left bytes more first.consumed later.consumed;
+}
+
+-- nothing is accepted yet
+pub Accepts-nil : (a : Writing) → Accepts a a []
+Accepts-nil a = record { accepted = sym (append-nil a.accepted); appended = Appends-nil a.written }
+
+-- more is accepted
+pub Accepts-trans : (a b c : Writing) (bytes more : List ℕ) → Accepts a b bytes → Accepts b c more
+    → Accepts a c (bytes ++ more)
+Accepts-trans a b c bytes more first later = record {
+  accepted = later.accepted ∙ ap (λ l. l ++ more) first.accepted ∙ append_assoc a.accepted bytes more;
+  appended = Appends-trans a.written b.written c.written bytes more first.appended later.appended;
+}
+
+-- nothing more is accepted
+pub Accepts-kept : (a b c : Writing) (bytes : List ℕ) → Accepts a b bytes → AcceptsNone b c → Accepts a c bytes
+Accepts-kept a b c bytes first later = record {
+  accepted = later.accepted ∙ first.accepted;
+  appended = Appends-kept a.written b.written c.written bytes first.appended later.kept;
+}
+
+-- a sink that was not called
+pub AcceptsNone-refl : (a : Writing) → AcceptsNone a a
+AcceptsNone-refl a = record { accepted = refl; kept = Keeps-refl a.written }
 
 -- no call more
 pub CallsMore-none : (a : Option ℕ) → CallsMore a a 0
@@ -44,9 +81,9 @@ OnlyWrites-later first later = record {
 }
 
 -- nothing is left
-pub Sends-all : {E : Type 0} (bytes rest : List ℕ) (a b : Option (List ℕ)) → Sends {E = E} bytes a rest b (Ok tt)
-    → rest ≡ [] → Appends a b bytes
+pub Sends-all : {E : Type 0} (bytes rest : List ℕ) (a b : Writing) → Sends {E = E} bytes a rest b (Ok tt)
+    → rest ≡ [] → Accepts a b bytes
 Sends-all bytes rest a b sends none =
     let all : bytes ≡ sends.sent =
     sends.parts ∙ ap (λ l. sends.sent ++ l) (sym sends.pending ∙ none) ∙ append-nil sends.sent in
-    subst (Appends a b) (sym all) sends.appended
+    subst (Accepts a b) (sym all) sends.appended

@@ -2,9 +2,11 @@
 #![tactic(auto)]
 
 mod device;
+mod log;
 mod sink;
 mod source;
 
 pub use device::DeviceFault;
+pub use log::Log;
 pub use sink::{OverWriter, Sink, write_all};
 pub use source::{OverReader, Source};

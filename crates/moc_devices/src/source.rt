@@ -1,14 +1,16 @@
 //! Where bytes come from.
-ghost use Rattle.std.specs.Prelude.{◌≡◌, ◌≤◌, ◌||◌, ℕ, Bool, List, Option, false, IfOk, is_err, length};
-ghost use Rattle.std.specs.Io.KnownBytes.{ReadConsumes};
+ghost use Rattle.std.specs.Prelude.{◌≡◌, ◌≤◌, ◌||◌, Bool, [], false, IfOk, is_err, length};
+ghost use Rattle.moc_devices.specs.Devices.{Reading, Reads, found_end};
 
 use crate::device::DeviceFault;
+use crate::log::Log;
 use std::io::Read;
 
 /// A reader of bytes that remembers a failure.
 pub trait Source {
-    /// The bytes that it has still to give, where it tells them.
-    ghost left: { Self → Option (List ℕ) };
+    /// The bytes that its reads have delivered, whether the last of them found the end, and, where it tells them, the
+    /// bytes that it has still to give.
+    ghost reading: { Self → Reading };
 
     /// Whether a call of it has failed.
     ghost mark: { Self → Bool };
@@ -17,7 +19,8 @@ pub trait Source {
     /// failed read moves no byte.
     fn read(&mut self, buffer: &mut [u8]) -> Result<usize, DeviceFault>
         ensures count { IfOk result (λ n. n ≤ length buffer.new) }
-        ensures bytes { ReadConsumes (left self.old) (left self.new) result buffer.new }
+        ensures bytes { Reads (reading self.old) (reading self.new) result buffer.new }
+        ensures ended { (reading self.new).ended ≡ found_end result buffer.new }
         ensures marks { mark self.new ≡ (mark self.old || is_err result) };
 
     /// Whether a call of it has failed.
@@ -30,30 +33,43 @@ pub trait Source {
 pub struct OverReader<R> {
     reader: R,
     is_marked: bool,
+    /// Whether the last read found the end.
+    is_ended: bool,
+    /// What the reader delivered.
+    log: Log,
 }
 
 impl<R: Read> OverReader<R> {
     /// The source of a reader, unmarked.
     pub fn new(reader: R) -> OverReader<R>
         ensures unmarked { ⟦<OverReader<R> as Source>⟧.mark result ≡ false }
-        ensures left { ⟦<OverReader<R> as Source>⟧.left result ≡ R.remaining reader }
+        ensures nothing { (⟦<OverReader<R> as Source>⟧.reading result).delivered ≡ [] }
+        ensures unended { (⟦<OverReader<R> as Source>⟧.reading result).ended ≡ false }
+        ensures left { (⟦<OverReader<R> as Source>⟧.reading result).left ≡ R.remaining reader }
     {
         OverReader {
             reader,
             is_marked: false,
+            is_ended: false,
+            log: Log::new(),
         }
     }
 }
 
 impl<R: Read> Source for OverReader<R> {
-    ghost left = { λ s. R.remaining s.reader };
+    ghost reading = { λ s. record { delivered = s.log.bytes; ended = s.is_ended; left = R.remaining s.reader } };
 
     ghost mark = { λ s. s.is_marked };
 
     fn read(&mut self, buffer: &mut [u8]) -> Result<usize, DeviceFault> {
         match self.reader.read(buffer) {
-            Ok(count) => Ok(count),
+            Ok(count) => {
+                self.is_ended = count == 0 && !buffer.is_empty();
+                self.log.note(&buffer[..count]);
+                Ok(count)
+            }
             Err(_) => {
+                self.is_ended = false;
                 self.is_marked = true;
                 Err(DeviceFault)
             }

@@ -4,8 +4,9 @@ use Rattle.std.proofs.Common.{take, get_or, Option, Some, None, Result, Ok, Err,
 use Rattle.std.proofs.Common.{append_assoc, append-nil, length-append, subst}
 use Rattle.std.specs.List.{count_by, AllByRecursion}
 use Rattle.std.specs.Result.{is_err, IsErrAnd, OnOk, OnErr, IfErr}
-use Rattle.std.specs.Io.KnownBytes.{Appends, Consumes, IsAtEnd}
-use Rattle.std.proofs.KnownBytes.{Appends-nil, Appends-trans, Consumes-nil, Consumes-trans}
+use Rattle.std.specs.Io.KnownBytes.{IsAtEnd}
+use Rattle.moc_devices.specs.Devices.{Reading, Delivers, IsEnded, Writing, Accepts}
+use Rattle.moc_devices.specs.Lemmas.{Accepts-nil, Accepts-trans, Delivers-nil, Delivers-trans}
 use Rattle.std.proofs.Math.Seq.{take-append_seam}
 use Rattle.std.proofs.lemmas.List.{get_or-append-add, take_all}
 use Rattle.moc_text.specs.Lines.{is_line_feed, lines_of}
@@ -58,7 +59,7 @@ at_end None more end is = cc
 at_end (Some xs) more end is = let same : xs ≡ more = cc in sym same ∙ end
 
 -- what was found, or the fault, by its name
-pub at_found : (limit : ℕ) (old new : Held) (a b : Option (List ℕ)) (found name : Found) → found ≡ name → TakesLine limit old a new b (Ok found) → TakesLine limit old a new b (Ok name)
+pub at_found : (limit : ℕ) (old new : Held) (a b : Reading) (found name : Found) → found ≡ name → TakesLine limit old a new b (Ok found) → TakesLine limit old a new b (Ok name)
 at_found limit old new a b found name is takes = subst (λ (f : Found). TakesLine limit old a new b (Ok f)) is takes
 
 module _ {S : Type 0} (limit : ℕ) (rules : Rules S) where
@@ -73,12 +74,12 @@ module _ {S : Type 0} (limit : ℕ) (rules : Rules S) where
 
   -- the lines so far stand at the front of what was given, and what is at hand follows; their answers are written or
   -- pending
-  pub record Progress (s now : S) (left left' written written' : Option (List ℕ)) (unread pending : List ℕ) (number : ℕ) : Type 0 where
+  pub record Progress (s now : S) (left left' : Reading) (written written' : Writing) (unread pending : List ℕ) (number : ℕ) : Type 0 where
     pub lines : List (List ℕ)
     pub given : List ℕ
     pub sent : List ℕ
-    pub consumed : Consumes left left' given
-    pub appended : Appends written written' sent
+    pub consumed : Delivers left left' given
+    pub appended : Accepts written written' sent
     pub split : given ≡ ended lines ++ unread
     pub unbroken : AllByRecursion IsUnbroken lines
     pub within : AreShort limit lines
@@ -87,28 +88,28 @@ module _ {S : Type 0} (limit : ℕ) (rules : Rules S) where
     pub count : number ≡ length lines + 1
 
   -- all lines are answered, and the reader is at its end
-  pub record ReachedEnd (s now : S) (left left' written written' : Option (List ℕ)) (pending : List ℕ) (number : ℕ) : Type 0 where
+  pub record ReachedEnd (s now : S) (left left' : Reading) (written written' : Writing) (pending : List ℕ) (number : ℕ) : Type 0 where
     pub lines : List (List ℕ)
     pub given : List ℕ
     pub sent : List ℕ
-    pub consumed : Consumes left left' given
-    pub appended : Appends written written' sent
+    pub consumed : Delivers left left' given
+    pub appended : Accepts written written' sent
     pub within : AreShort limit lines
-    pub front : (more : List ℕ) → left' ≡ Some more → (rest : List (List ℕ)) × (lines_of (given ++ more) ≡ lines ++ rest)
-    pub end : IsAtEnd left'
+    pub front : (more : List ℕ) → (IsEnded left' → more ≡ []) → (rest : List (List ℕ)) × (lines_of (given ++ more) ≡ lines ++ rest)
+    pub end : IsEnded left'
     pub all : lines ≡ lines_of given
     pub text : answers_to rules s lines ≡ sent ++ pending
     pub state : now ≡ after_lines rules s lines
     pub count : number ≡ length lines + 1
 
-  pub Progress-start : (s : S) (a w : Option (List ℕ)) (unread pending : List ℕ) → unread ≡ [] → pending ≡ [] → Progress s s a a w w unread pending 1
+  pub Progress-start : (s : S) (a : Reading) (w : Writing) (unread pending : List ℕ) → unread ≡ [] → pending ≡ [] → Progress s s a a w w unread pending 1
   unfolding ended
   Progress-start s a w unread pending none empty = record {
     lines = [];
     given = [];
     sent = [];
-    consumed = Consumes-nil a;
-    appended = Appends-nil w;
+    consumed = Delivers-nil a;
+    appended = Accepts-nil w;
     split = sym none;
     unbroken = tt;
     within = tt;
@@ -117,14 +118,14 @@ module _ {S : Type 0} (limit : ℕ) (rules : Rules S) where
     count = refl;
   }
 
-  pub Progress-sent : {E : Type 0} (s now : S) (a b w v u : Option (List ℕ)) (held held' : Held) (pending pending' later : List ℕ) (number : ℕ) (r : Result (Unit {0}) E)
+  pub Progress-sent : {E : Type 0} (s now : S) (a b : Reading) (w v u : Writing) (held held' : Held) (pending pending' later : List ℕ) (number : ℕ) (r : Result (Unit {0}) E)
       → Progress s now a b w v held.unread pending number → is_err r ≡ false → Sends pending v pending' u r → held' ≡ held → later ≡ pending' → Progress s now a b w u held'.unread later number
   Progress-sent s now a b w v u held held' pending pending' later number r p ok sends same kept = record {
     lines = p.lines;
     given = p.given;
     sent = p.sent ++ sends.sent;
     consumed = p.consumed;
-    appended = Appends-trans w v u p.sent sends.sent p.appended sends.appended;
+    appended = Accepts-trans w v u p.sent sends.sent p.appended sends.appended;
     split = p.split ∙ ap (λ (h : Held). ended p.lines ++ h.unread) (sym same);
     unbroken = p.unbroken;
     within = p.within;
@@ -164,7 +165,7 @@ module _ {S : Type 0} (limit : ℕ) (rules : Rules S) where
       ap (λ l. get_or l (number - 1) []) all ∙ ap (λ n. get_or (lines ++ first ∷ more) n []) place ∙ get_or-append-add lines (first ∷ more) 0 [] in
       (omega arith, subst (λ (l : List ℕ). limit < length l) (sym found) long)
 
-  module _ (s now : S) (a b c w v : Option (List ℕ)) (held held' : Held) (pending : List ℕ) (number : ℕ) (p : Progress s now a b w v held.unread pending number) where
+  module _ (s now : S) (a b c : Reading) (w v : Writing) (held held' : Held) (pending : List ℕ) (number : ℕ) (p : Progress s now a b w v held.unread pending number) where
     split_with : (came : List ℕ) → p.given ++ came ≡ ended p.lines ++ (held.unread ++ came)
     split_with came = ap (λ l. l ++ came) p.split ∙ append_assoc (ended p.lines) held.unread came
 
@@ -181,7 +182,7 @@ module _ {S : Type 0} (limit : ℕ) (rules : Rules S) where
           lines = p.lines ++ held'.line ∷ [];
           given = p.given ++ t.0;
           sent = p.sent;
-          consumed = Consumes-trans a b c p.given t.0 p.consumed t.1;
+          consumed = Delivers-trans a b c p.given t.0 p.consumed t.1;
           appended = p.appended;
           split = split_with t.0 ∙ ap (λ l. ended p.lines ++ l) parts.0 ∙ sym (ap (λ l. l ++ held'.unread) (ended-push p.lines held'.line) ∙ append_assoc (ended p.lines) (held'.line ++ 10 ∷ []) held'.unread ∙ ap (λ l. ended p.lines ++ l) (append_assoc held'.line (10 ∷ []) held'.unread));
           unbroken = each-push IsUnbroken p.lines held'.line p.unbroken parts.1;
@@ -192,14 +193,14 @@ module _ {S : Type 0} (limit : ℕ) (rules : Rules S) where
         }
 
     -- what every fault leaves
-    faulty : (came : List ℕ) → Consumes b c came → (pending' : List ℕ) (e : RunError) → pending' ≡ pending
+    faulty : (came : List ℕ) → Delivers b c came → (pending' : List ℕ) (e : RunError) → pending' ≡ pending
         → EndsAt limit rules s p.lines (p.given ++ came) c (Err e) → (answers_to rules s p.lines ≡ p.sent ++ pending' → IsSent (answers_to rules s p.lines) p.sent pending' (Err e))
         → Ended limit rules s a c w v pending' (Err e)
     faulty came consumed pending' e same ends sent = record {
       lines = p.lines;
       given = p.given ++ came;
       sent = p.sent;
-      consumed = Consumes-trans a b c p.given came p.consumed consumed;
+      consumed = Delivers-trans a b c p.given came p.consumed consumed;
       appended = p.appended;
       within = p.within;
       front = λ more _. front_of p.lines (p.given ++ came) (held.unread ++ came) more (split_with came) p.unbroken;
@@ -208,7 +209,7 @@ module _ {S : Type 0} (limit : ℕ) (rules : Rules S) where
     }
 
     -- memory was refused once some of the line was given, or where numbers end
-    memory : (came : List ℕ) → Consumes b c came → (number < 18446744073709551615 → 0 < length (held.unread ++ came)) → (pending' : List ℕ) → pending' ≡ pending
+    memory : (came : List ℕ) → Delivers b c came → (number < 18446744073709551615 → 0 < length (held.unread ++ came)) → (pending' : List ℕ) → pending' ≡ pending
         → Ended limit rules s a c w v pending' (Err (Memory number))
     memory came consumed some pending' same =
         let split = split_with came in
@@ -222,7 +223,7 @@ module _ {S : Type 0} (limit : ℕ) (rules : Rules S) where
         faulty came consumed pending' (Memory number) same (inl begun, before p.lines (p.given ++ came) (held.unread ++ came) number split p.unbroken p.count) (λ e. e)
 
     -- where there are no more numbers
-    pub Ended-uncounted : number ≡ 18446744073709551615 → Consumes b c [] → Ended limit rules s a c w v pending (Err (Memory number))
+    pub Ended-uncounted : number ≡ 18446744073709551615 → Delivers b c [] → Ended limit rules s a c w v pending (Err (Memory number))
     Ended-uncounted last consumed = memory [] consumed (λ below. absurd (omega (arith, last, below))) pending refl
 
     -- memory was refused while a line was answered
@@ -263,7 +264,7 @@ module _ {S : Type 0} (limit : ℕ) (rules : Rules S) where
           lines = p.lines;
           given = p.given ++ t.0;
           sent = p.sent;
-          consumed = Consumes-trans a b c p.given t.0 p.consumed t.1;
+          consumed = Delivers-trans a b c p.given t.0 p.consumed t.1;
           appended = p.appended;
           within = p.within;
           front = λ more _. front_of p.lines (p.given ++ t.0) (held.unread ++ t.0) more split p.unbroken;
@@ -286,10 +287,10 @@ module _ {S : Type 0} (limit : ℕ) (rules : Rules S) where
           lines = p.lines ++ held'.line ∷ [];
           given = p.given ++ t.0;
           sent = p.sent;
-          consumed = Consumes-trans a b c p.given t.0 p.consumed t.1;
+          consumed = Delivers-trans a b c p.given t.0 p.consumed t.1;
           appended = p.appended;
           within = each-push (λ l. length l ≤ limit) p.lines held'.line p.within parts.2;
-          front = λ more is. ([], ap (λ l. lines_of (p.given ++ t.0 ++ l)) (at_end c more parts.5 is) ∙ ap lines_of (append-nil (p.given ++ t.0)) ∙ all ∙ sym (append-nil (p.lines ++ held'.line ∷ [])));
+          front = λ more is. ([], ap (λ l. lines_of (p.given ++ t.0 ++ l)) (is parts.5) ∙ ap lines_of (append-nil (p.given ++ t.0)) ∙ all ∙ sym (append-nil (p.lines ++ held'.line ∷ [])));
           end = parts.5;
           all = sym all;
           text = answered pending' held'.line text;
@@ -305,7 +306,7 @@ module _ {S : Type 0} (limit : ℕ) (rules : Rules S) where
         subst (λ (q : RunError). Ended limit rules s a c w v pending' (Err q)) (sym (told ∙ refused)) (Ended-unanswered found t some pending' same)
 
   -- all lines are answered, and what is said behind them was made or refused
-  pub Ended-closed : (s now : S) (a c w v : Option (List ℕ)) (pending pending' : List ℕ) (number : ℕ) (r : Result (Unit {0}) RunError) → ReachedEnd s now a c w v pending number
+  pub Ended-closed : (s now : S) (a c : Reading) (w v : Writing) (pending pending' : List ℕ) (number : ℕ) (r : Result (Unit {0}) RunError) → ReachedEnd s now a c w v pending number
       → OnOk r (pending' ≡ pending ++ rules.closing now) → IfErr r (λ e. e ≡ Memory number) → OnErr r (pending' ≡ pending) → OnErr r (rules.closing now ≢ [])
       → Ended limit rules s a c w v pending' r
   Ended-closed s now a c w v pending pending' number (Ok u) p text refused same some = record {
@@ -340,14 +341,14 @@ module _ {S : Type 0} (limit : ℕ) (rules : Rules S) where
       })
 
   -- the writer failed in the middle of what is pending
-  pub Ended-write : {E : Type 0} (s now : S) (a b w v u : Option (List ℕ)) (unread pending pending' : List ℕ) (number : ℕ) (r : Result (Unit {0}) E)
+  pub Ended-write : {E : Type 0} (s now : S) (a b : Reading) (w v u : Writing) (unread pending pending' : List ℕ) (number : ℕ) (r : Result (Unit {0}) E)
       → Progress s now a b w v unread pending number → Sends {E = E} pending v pending' u r → Ended limit rules s a b w u pending' (Err Write)
   Ended-write s now a b w v u unread pending pending' number r p sends = record {
     lines = p.lines;
     given = p.given;
     sent = p.sent ++ sends.sent;
     consumed = p.consumed;
-    appended = Appends-trans w v u p.sent sends.sent p.appended sends.appended;
+    appended = Accepts-trans w v u p.sent sends.sent p.appended sends.appended;
     within = p.within;
     front = λ more _. front_of p.lines p.given unread more p.split p.unbroken;
     ends = tt;

@@ -1,8 +1,8 @@
 -- The loop that looks for a line's end.
-use Rattle.std.proofs.Common.{◌≡◌, ℕ, ◌+◌, ◌<◌, ◌≤◌, List, [], ◌∷◌, ◌++◌, length, drop, Option, Ok, Err, sym, ap, ◌∙◌, arith, append_assoc, append-nil, length-append, length-take, not}
+use Rattle.std.proofs.Common.{◌≡◌, ℕ, ◌+◌, ◌<◌, ◌≤◌, List, [], ◌∷◌, ◌++◌, length, drop, Ok, Err, sym, ap, ◌∙◌, arith, append_assoc, append-nil, length-append, length-take, not}
 use Rattle.std.specs.List.{count_by, position_or_len, before_first, after_first}
-use Rattle.std.specs.Io.KnownBytes.{Consumes}
-use Rattle.std.proofs.KnownBytes.{Consumes-trans}
+use Rattle.moc_devices.specs.Devices.{Reading, Delivers}
+use Rattle.moc_devices.specs.Lemmas.{Delivers-trans}
 use Rattle.std.proofs.lemmas.List.{take-append-drop}
 use Rattle.std.proofs.lemmas.List.Sums.{prefix_len-le-length}
 use Rattle.moc_text.specs.Lines.{is_line_feed}
@@ -13,24 +13,24 @@ use Rattle.moc_lines.specs.declared.reading.InputError.TheVariants.{TooLong}
 use Rattle.moc_lines.proofs.LineLemmas.{count-append, IsUnbroken-before_first, split_at_line_feed, before_first-none, after_first-none}
 
 -- the bytes that came and those that were at hand are the line so far and those at hand; the line has no line feed
-pub record Turn (limit : ℕ) (old : Held) (left : Option (List ℕ)) (now : Held) (left' : Option (List ℕ)) : Type 0 where
+pub record Turn (limit : ℕ) (old : Held) (left : Reading) (now : Held) (left' : Reading) : Type 0 where
   pub came : List ℕ
-  pub consumed : Consumes left left' came
+  pub consumed : Delivers left left' came
   pub parts : old.unread ++ came ≡ now.line ++ now.unread
   pub unbroken : IsUnbroken now.line
   pub within : length now.line ≤ limit
 
-pub Turn-brought : (limit : ℕ) (old now next : Held) (a b c : Option (List ℕ)) → Turn limit old a now b → Brings now b next c → Turn limit old a next c
+pub Turn-brought : (limit : ℕ) (old now next : Held) (a b c : Reading) → Turn limit old a now b → Brings now b next c → Turn limit old a next c
 Turn-brought limit old now next a b c turn brings = record {
   came = turn.came ++ brings.came;
-  consumed = Consumes-trans a b c turn.came brings.came turn.consumed brings.consumed;
+  consumed = Delivers-trans a b c turn.came brings.came turn.consumed brings.consumed;
   parts = sym (append_assoc old.unread turn.came brings.came) ∙ ap (λ l. l ++ brings.came) turn.parts ∙ append_assoc now.line now.unread brings.came ∙ ap (λ l. l ++ (now.unread ++ brings.came)) (sym brings.line) ∙ ap (λ l. next.line ++ l) (sym brings.unread);
   unbroken = ap (count_by is_line_feed) brings.line ∙ turn.unbroken;
   within = rw brings.line turn.within;
 }
 
 -- where nothing is at hand, the line is all that was given
-pub Turn-none : (limit : ℕ) (old now : Held) (a b : Option (List ℕ)) (turn : Turn limit old a now b) → now.unread ≡ [] → old.unread ++ turn.came ≡ now.line
+pub Turn-none : (limit : ℕ) (old now : Held) (a b : Reading) (turn : Turn limit old a now b) → now.unread ≡ [] → old.unread ++ turn.came ≡ now.line
 Turn-none limit old now a b turn none = turn.parts ∙ ap (λ l. now.line ++ l) none ∙ append-nil now.line
 
 -- the line with the bytes before the first line feed
@@ -43,7 +43,7 @@ pub record Parted (limit : ℕ) (now next : Held) : Type 0 where
   pub unread : next.unread ≡ after_first is_line_feed now.unread
   pub within : length next.line ≤ limit
 
-pub Turn-line : (limit : ℕ) (old now next : Held) (a b : Option (List ℕ)) → Turn limit old a now b → Parted limit now next → position_or_len is_line_feed now.unread < length now.unread → TakesLine limit old a next b (Ok Line)
+pub Turn-line : (limit : ℕ) (old now next : Held) (a b : Reading) → Turn limit old a now b → Parted limit now next → position_or_len is_line_feed now.unread < length now.unread → TakesLine limit old a next b (Ok Line)
 Turn-line limit old now next a b turn parted found = (
   turn.came,
   turn.consumed,
@@ -54,7 +54,7 @@ Turn-line limit old now next a b turn parted found = (
   ),
 )
 
-pub Turn-more : (limit : ℕ) (old now next : Held) (a b : Option (List ℕ)) → Turn limit old a now b → Parted limit now next → length now.unread ≤ position_or_len is_line_feed now.unread → Turn limit old a next b
+pub Turn-more : (limit : ℕ) (old now next : Held) (a b : Reading) → Turn limit old a now b → Parted limit now next → length now.unread ≤ position_or_len is_line_feed now.unread → Turn limit old a next b
 Turn-more limit old now next a b turn parted none = record {
   came = turn.came;
   consumed = turn.consumed;
@@ -63,7 +63,7 @@ Turn-more limit old now next a b turn parted none = record {
   within = parted.within;
 }
 
-pub Turn-too_long : (limit : ℕ) (old now next : Held) (a b : Option (List ℕ)) → Turn limit old a now b → (number : ℕ) → limit < length now.line + position_or_len is_line_feed now.unread → TakesLine limit old a next b (Err (TooLong number))
+pub Turn-too_long : (limit : ℕ) (old now next : Held) (a b : Reading) → Turn limit old a now b → (number : ℕ) → limit < length now.line + position_or_len is_line_feed now.unread → TakesLine limit old a next b (Err (TooLong number))
 Turn-too_long limit old now next a b turn number long = (
   turn.came,
   turn.consumed,

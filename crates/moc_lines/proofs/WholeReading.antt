@@ -1,5 +1,5 @@
 -- Lines that are read many at a time.
-use Rattle.std.proofs.Common.{◌≡◌, inl, inr, ℕ, suc, ◌+◌, ◌-◌, ◌<◌, ◌≤◌, Bool, true, false, cond, List, [], ◌∷◌, ◌++◌, length, take, drop, get_or, Option, refl, sym, ap, ◌∙◌, arith, append_assoc, append-nil, length-append, length-take, length-drop, subst}
+use Rattle.std.proofs.Common.{◌≡◌, inl, inr, ℕ, suc, ◌+◌, ◌-◌, ◌<◌, ◌≤◌, Bool, true, false, cond, List, [], ◌∷◌, ◌++◌, length, take, drop, get_or, refl, sym, ap, ◌∙◌, arith, append_assoc, append-nil, length-append, length-take, length-drop, subst}
 use Rattle.std.specs.List.{count_by, position_or_len, before_first, after_first, onto_first, AllByRecursion}
 use Rattle.std.proofs.Math.Seq.{drop-append-add}
 use Rattle.std.proofs.lemmas.Bool.{cases_lt, eqb-true}
@@ -7,8 +7,8 @@ use Rattle.std.proofs.lemmas.List.{get_or-append-add, get_or-drop, take-append-d
 use Rattle.moc_text.specs.Lines.{is_line_feed, lines_of}
 use Rattle.moc_lines.specs.Private.Held.{IsUnbroken}
 use Rattle.moc_lines.specs.Runs.{AreShort, IsTooLong, IsBegunLine}
-use Rattle.std.specs.Io.KnownBytes.{Consumes}
-use Rattle.std.proofs.KnownBytes.{Consumes-trans}
+use Rattle.moc_devices.specs.Devices.{Reading, Delivers}
+use Rattle.moc_devices.specs.Lemmas.{Delivers-trans}
 use Rattle.moc_lines.specs.Private.Input.{IsHeld, IsBehindLast}
 use Rattle.moc_lines.proofs.LineLemmas.{not_true, count-append, count-cons, some-lines, lines_of-line, lines_of-last, lines_of-long, IsUnbroken-before_first, split_at_line_feed, before_first-none}
 
@@ -245,11 +245,11 @@ none_found bytes none = elim (cases_lt (position_or_len is_line_feed bytes) (len
 ]
 
 -- more was given
-pub given_more : (a b c : Option (List ℕ)) (bytes chunk bytes' : List ℕ) → Consumes a b bytes → Consumes b c chunk → bytes' ≡ bytes ++ chunk → Consumes a c bytes'
-given_more a b c bytes chunk bytes' given more is = subst (Consumes a c) (sym is) (Consumes-trans a b c bytes chunk given more)
+pub given_more : (a b c : Reading) (bytes chunk bytes' : List ℕ) → Delivers a b bytes → Delivers b c chunk → bytes' ≡ bytes ++ chunk → Delivers a c bytes'
+given_more a b c bytes chunk bytes' given more is = subst (Delivers a c) (sym is) (Delivers-trans a b c bytes chunk given more)
 
 -- the read that gave nothing was the last
-pub given_all : (a b c : Option (List ℕ)) (bytes buffer : List ℕ) (n : ℕ) → Consumes a b bytes → Consumes b c (take n buffer) → n ≡ 0 → Consumes a c bytes
+pub given_all : (a b c : Reading) (bytes buffer : List ℕ) (n : ℕ) → Delivers a b bytes → Delivers b c (take n buffer) → n ≡ 0 → Delivers a c bytes
 given_all a b c bytes buffer n given none zero_read =
     let empty : take n buffer ≡ [] = ap (λ k. take k buffer) zero_read in
     given_more a b c bytes (take n buffer) bytes given none (sym (append-nil bytes) ∙ ap (λ l. bytes ++ l) (sym empty))

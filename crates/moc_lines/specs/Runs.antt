@@ -9,8 +9,8 @@ use Rattle.moc_lists.specs.RangeList.{NumberSet}
 use Rattle.moc_parts.specs.declared.command.Command.{Command}
 use Rattle.moc_lines.specs.declared.fault.LineFault.{LineFault}
 use Rattle.moc_lines.specs.Language.{batch_of, command_of, line_answer, after_line}
-use Rattle.std.specs.Io.KnownBytes.{Appends, Consumes, IsAtEnd}
-use Rattle.moc_devices.specs.Devices.{CallsMore}
+use Rattle.std.specs.Io.KnownBytes.{Appends, Consumes}
+use Rattle.moc_devices.specs.Devices.{Reading, Delivers, IsEnded, Writing, Accepts, CallsMore}
 use Rattle.moc_lines.specs.declared.run_error.RunError.{RunError}
 use Rattle.moc_lines.specs.declared.run_error.RunError.TheVariants.{Read, Write, LineTooLong, Memory}
 use Rattle.moc_lines.specs.declared.reading.InputError.{InputError}
@@ -97,9 +97,9 @@ pub record IsUnclosed (number : ℕ) (given closing : List ℕ) : Type 0 where
   pub some : closing ≢ []
 
 -- at Ok all was read and all is flushed; at a fault all is flushed only where it was before
-pub record EndsFlushed {T E : Type 0} (result : Result T E) (left' : Option (List ℕ)) (before after : Bool)
+pub record EndsFlushed {T E : Type 0} (result : Result T E) (reading' : Reading) (before after : Bool)
     : Type 0 where
-  pub end : OnOk result (IsAtEnd left')
+  pub end : OnOk result (IsEnded reading')
   pub flushed : OnOk result (IsTrue after)
   pub unflushed : OnErr result (IsTrue after → IsTrue before)
 
@@ -116,6 +116,34 @@ Flushes (Err Write) old new = CallsMore old new 0 ⊎ CallsMore old new 1
 Flushes (Err _) old new = CallsMore old new 0
 
 module _ {S : Type 0} (limit : ℕ) (rules : Rules S) (s : S) where
+  -- The text that is written by a run that ends so, by what was given: at Ok the source has told its end, and it is the
+  -- answers to all that was given; at a fault but the writer's it is the answers to the lines before the fault.
+  abbrev pub AnswersGiven : List ℕ → Reading → Result (Unit {0}) RunError → List ℕ → Type 0
+  AnswersGiven given at (Ok _) text =
+      IsEnded at × AreShort limit (lines_of given) × (text ≡ script_text rules limit s given)
+  AnswersGiven given at (Err Write) text = Unit {0}
+  AnswersGiven given at (Err Read) text =
+      AreShort limit (whole_lines_of given) × (text ≡ answers_to rules s (whole_lines_of given))
+  AnswersGiven given at (Err (LineTooLong line)) text =
+      IsTooLong limit (lines_of given) line × AreShort limit (lines_before line given)
+      × (text ≡ answers_to rules s (lines_before line given))
+  AnswersGiven given at (Err (Memory line)) text =
+      (IsBegunLine line given ⊎ (IsEnded at × IsUnclosed line given (closing_behind rules s (lines_of given))))
+      × AreShort limit (lines_before line given) × (text ≡ answers_to rules s (lines_before line given))
+
+  -- What a run that ends so made of the bytes that its source delivered: its sink accepted their answers, as the
+  -- outcome names them. However the bytes go on, if they do, what was accepted is a beginning of the answers to them
+  -- all.
+  pub record Crosses (reading reading' : Reading) (writing writing' : Writing) (result : Result (Unit {0}) RunError)
+      : Type 0 where
+    pub given : List ℕ
+    pub text : List ℕ
+    pub delivered : Delivers reading reading' given
+    pub accepted : Accepts writing writing' text
+    pub begins : (more : List ℕ) → (IsEnded reading' → more ≡ [])
+        → (rest : List ℕ) × (script_text rules limit s (given ++ more) ≡ text ++ rest)
+    pub answers : AnswersGiven given reading' result text
+
   -- The text that is written by a run that ends so, of an input of which it read what was given: all of the text at the
   -- end, a beginning of it where the writer failed, else the answers to the lines before the fault.
   abbrev pub IsWritten : List ℕ → List ℕ → Result (Unit {0}) RunError → List ℕ → Type 0
@@ -150,8 +178,9 @@ module _ {S : Type 0} (limit : ℕ) (rules : Rules S) (s : S) where
 -- A script that is read whole
 
 -- all was read, and no line of it has more bytes than the limit
-abbrev pub ReadsAll : Option (List ℕ) → Option (List ℕ) → List ℕ → Type 0
-ReadsAll left left' input = Consumes left left' input × IsAtEnd left' × AreShort line_limit (lines_of input)
+abbrev pub ReadsAll : Reading → Reading → List ℕ → Type 0
+ReadsAll reading reading' input =
+    Delivers reading reading' input × IsEnded reading' × AreShort line_limit (lines_of input)
 
 -- the line that is told, of what was given, is over the limit, or is one that was begun
 abbrev pub FailsOn : List ℕ → InputError → Type 0

@@ -2,7 +2,7 @@
 ghost use Rattle.std.specs.Prelude.{◌≡◌, ◌+◌, ◌<◌, ◌≤◌, ◌≢◌, ◌||◌, ◌++◌, [], false, true, IfOk, OnOk, OnErr};
 ghost use Rattle.std.specs.Prelude.{IfErr, is_err, length, nat_lt, IsTrue, Err, Ok};
 ghost use Rattle.std.specs.List.{position_or_len, before_first, after_first};
-ghost use Rattle.std.specs.Io.KnownBytes.{IsAtEnd};
+ghost use Rattle.moc_devices.specs.Devices.{IsEnded};
 ghost use Rattle.moc_text.specs.Lines.{is_line_feed};
 
 use crate::bytes::{CHUNK, first_or_len};
@@ -112,9 +112,9 @@ impl LineReader {
 
     /// Sees to it that bytes are at hand, by a read where there are none. There are none only at the end.
     fn fill_chunk<R: Source>(&mut self, reader: &mut R) -> Result<bool, DeviceFault>
-        ensures brings { Brings self.old (R.left reader.old) self.new (R.left reader.new) }
+        ensures brings { Brings self.old (R.reading reader.old) self.new (R.reading reader.new) }
         ensures some { IfOk result (λ some. some ≡ nat_lt 0 (length self.new.unread)) }
-        ensures end { IfOk result (λ some. some ≡ false → IsAtEnd (R.left reader.new)) }
+        ensures end { IfOk result (λ some. some ≡ false → IsEnded (R.reading reader.new)) }
         ensures err { OnErr result (self.new.unread ≡ []) }
         ensures marks { R.mark reader.new ≡ (R.mark reader.old || is_err result) }
     {
@@ -133,7 +133,7 @@ impl LineReader {
         number: u64,
         reader: &mut R,
     ) -> Result<Found, InputError>
-        ensures takes { TakesLine LINE_LIMIT self.old (R.left reader.old) self.new (R.left reader.new) result }
+        ensures takes { TakesLine LINE_LIMIT self.old (R.reading reader.old) self.new (R.reading reader.new) result }
         ensures number { IfErr result (λ e. IsOfLine number e) }
         ensures read { result ≡ Err InputError.Read → IsTrue (R.mark reader.new) }
         ensures unmarked { result ≢ Err InputError.Read → R.mark reader.new ≡ R.mark reader.old }

@@ -2,7 +2,7 @@
 ghost use Rattle.std.specs.Prelude.{◌≡◌, ◌≢◌, ◌<◌, ◌≤◌, ◌+◌, ◌++◌, ◌∷◌, ◌↔◌, [], false, length, IfOk, IfErr, OnOk};
 ghost use Rattle.std.specs.Prelude.{IsErrOf, Err, IsTrue, List, ℕ};
 ghost use Rattle.std.specs.List.{count_by};
-ghost use Rattle.std.specs.Io.KnownBytes.{Consumes};
+ghost use Rattle.moc_devices.specs.Devices.{Delivers};
 ghost use Rattle.moc_text.specs.Lines.{is_line_feed, lines_of};
 ghost use Rattle.moc_lines.specs.Runs.{FailsOn, ReadsAll};
 ghost use Rattle.moc_lines.specs.Private.Input.{IsHeld};
@@ -111,9 +111,9 @@ pub fn number_behind_last(input: &[u8]) -> u64
 /// linear in the bytes. Wants a reader of which no call has failed.
 pub fn read_all<R: Source>(alloc: Global, reader: &mut R) -> Result<Vec<u8>, InputError>
     requires reader { R.mark reader.old ≡ false }
-    ensures all { IfOk result (λ input. ReadsAll (R.left reader.old) (R.left reader.new) input.items) }
+    ensures all { IfOk result (λ input. ReadsAll (R.reading reader.old) (R.reading reader.new) input.items) }
     ensures fails { IfErr result (λ e.
-        (given : List ℕ) × Consumes (R.left reader.old) (R.left reader.new) given × FailsOn given e) }
+        (given : List ℕ) × Delivers (R.reading reader.old) (R.reading reader.new) given × FailsOn given e) }
     ensures read { IsErrOf result InputError.Read ↔ IsTrue (R.mark reader.new) }
 {
     let Ok(mut chunk) = vec![in alloc; 0u8; CHUNK] else {

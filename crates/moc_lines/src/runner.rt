@@ -1,10 +1,10 @@
 //! A run under way.
 ghost use Rattle.std.specs.Prelude.{◌≡◌, ◌≢◌, ◌++◌, [], IfOk, IfErr, IfSome, if◌then◌else◌, IsTrue, ◌↔◌, false};
 ghost use Rattle.std.specs.Prelude.{OnOk, OnErr, IsErrOf, Err, is_err};
-ghost use Rattle.std.specs.Io.KnownBytes.{Appends, Keeps};
-ghost use Rattle.moc_devices.specs.Devices.{CallsMore, FlushesNothing, OnlyWrites, Sends};
+ghost use Rattle.std.specs.Io.KnownBytes.{Appends};
+ghost use Rattle.moc_devices.specs.Devices.{AcceptsNone, CallsMore, FlushesNothing, OnlyWrites, Sends};
 ghost use Rattle.moc_lines.specs.Private.LineReading.{IsOfLine, TakesLine, holds_line};
-ghost use Rattle.moc_lines.specs.Runs.{script_text, EndsFlushed, Flushes, Runs, TellsFailed, WritesBeginning};
+ghost use Rattle.moc_lines.specs.Runs.{script_text, Crosses, EndsFlushed, Flushes, Runs, TellsFailed, WritesBeginning};
 ghost use Rattle.moc_lines.specs.Runs.{line_limit};
 ghost use Rattle.moc_lines.specs.Private.Ended.{Ended};
 
@@ -52,13 +52,9 @@ impl Runner {
         requires pending { self.old.pending.items ≡ [] }
         requires reader { R.mark reader.old ≡ false }
         requires writer { W.mark writer.old ≡ false }
-        ensures runs { IfSome (R.left reader.old) (λ input.
-            Runs LINE_LIMIT A.rules responder.old input
-            (R.left reader.new) (W.written writer.old) (W.written writer.new) result) }
-        ensures begins { IfSome (R.left reader.old) (λ input.
-            WritesBeginning LINE_LIMIT A.rules responder.old input
-            (W.written writer.old) (W.written writer.new)) }
-        ensures end { EndsFlushed result (R.left reader.new) (W.flushed writer.old) (W.flushed writer.new) }
+        ensures crosses { Crosses LINE_LIMIT A.rules responder.old
+            (R.reading reader.old) (R.reading reader.new) (W.writing writer.old) (W.writing writer.new) result }
+        ensures end { EndsFlushed result (R.reading reader.new) (W.flushed writer.old) (W.flushed writer.new) }
         ensures flushes { Flushes result (W.flushes writer.old) (W.flushes writer.new) }
         ensures devices { TellsFailed result (R.mark reader.new) (W.mark writer.new) }
     {
@@ -87,8 +83,8 @@ impl Runner {
         requires reader { R.mark reader.old ≡ false }
         requires writer { W.mark writer.old ≡ false }
         ensures ended { Ended LINE_LIMIT A.rules responder.old
-            (R.left reader.old) (R.left reader.new)
-            (W.written writer.old) (W.written writer.new) self.new.pending.items result }
+            (R.reading reader.old) (R.reading reader.new)
+            (W.writing writer.old) (W.writing writer.new) self.new.pending.items result }
         ensures read { IsErrOf result RunError.Read ↔ IsTrue (R.mark reader.new) }
         ensures write { IsErrOf result RunError.Write ↔ IsTrue (W.mark writer.new) }
         ensures unflushed { FlushesNothing W.flushed W.flushes writer.old writer.new }
@@ -115,8 +111,8 @@ impl Runner {
     fn next_line<R: Source>(&mut self, number: u64, reader: &mut R) -> Result<Found, InputError>
         requires written { holds_line self.old.lines.unread ≡ false → self.old.pending.items ≡ [] }
         requires reader { R.mark reader.old ≡ false }
-        ensures takes { TakesLine LINE_LIMIT self.old.lines (R.left reader.old)
-            self.new.lines (R.left reader.new) result }
+        ensures takes { TakesLine LINE_LIMIT self.old.lines (R.reading reader.old)
+            self.new.lines (R.reading reader.new) result }
         ensures pending { self.new.pending.items ≡ self.old.pending.items }
         ensures number { IfErr result (λ e. IsOfLine number e) }
         ensures read { result ≡ Err InputError.Read ↔ IsTrue (R.mark reader.new) }
@@ -163,8 +159,8 @@ impl Runner {
 
     /// Writes what is pending, where the next line may have to be read, or much is pending.
     fn send_if_due<W: Sink>(&mut self, writer: &mut W) -> Result<(), DeviceFault>
-        ensures sends { Sends self.old.pending.items (W.written writer.old)
-            self.new.pending.items (W.written writer.new) result }
+        ensures sends { Sends self.old.pending.items (W.writing writer.old)
+            self.new.pending.items (W.writing writer.new) result }
         ensures written { OnOk result (holds_line self.new.lines.unread ≡ false → self.new.pending.items ≡ []) }
         ensures lines { self.new.lines ≡ self.old.lines }
         ensures writes { OnlyWrites W.mark W.flushed W.flushes writer.old writer.new (is_err result) }
@@ -177,8 +173,8 @@ impl Runner {
 
     /// Writes what is pending, in as many calls as it takes.
     fn send<W: Sink>(&mut self, writer: &mut W) -> Result<(), DeviceFault>
-        ensures sends { Sends self.old.pending.items (W.written writer.old)
-            self.new.pending.items (W.written writer.new) result }
+        ensures sends { Sends self.old.pending.items (W.writing writer.old)
+            self.new.pending.items (W.writing writer.new) result }
         ensures all { OnOk result (self.new.pending.items ≡ []) }
         ensures lines { self.new.lines ≡ self.old.lines }
         ensures writes { OnlyWrites W.mark W.flushed W.flushes writer.old writer.new (is_err result) }
@@ -210,20 +206,26 @@ pub fn answer_all_lines<A: Responder, R: Source, W: Sink>(
     requires reader { R.mark reader.old ≡ false }
     requires writer { W.mark writer.old ≡ false }
 
-    // What is written is the defined answers to what was read, as far as the outcome says.
-    ensures runs { IfSome (R.left reader.old) (λ input.
+    // What the sink accepted is the defined answers to what the source delivered, as far as the outcome says, whatever
+    // the devices tell.
+    ensures crosses { Crosses line_limit A.rules responder.old
+        (R.reading reader.old) (R.reading reader.new) (W.writing writer.old) (W.writing writer.new) result }
+
+    // So, over a source that tells what it has to give, what is written is the defined answers to what was read.
+    ensures runs { IfSome (R.reading reader.old).left (λ input.
         Runs line_limit A.rules responder.old input
-        (R.left reader.new) (W.written writer.old) (W.written writer.new) result) }
+        (R.reading reader.new).left (W.writing writer.old).written (W.writing writer.new).written result) }
 
     // So it is a beginning of the answers to the whole input, and all of them where no fault comes.
-    ensures begins { IfSome (R.left reader.old) (λ input.
+    ensures begins { IfSome (R.reading reader.old).left (λ input.
         WritesBeginning line_limit A.rules responder.old input
-        (W.written writer.old) (W.written writer.new)) }
-    ensures answers { OnOk result (IfSome (R.left reader.old) (λ input.
-        Appends (W.written writer.old) (W.written writer.new) (script_text A.rules line_limit responder.old input))) }
+        (W.writing writer.old).written (W.writing writer.new).written) }
+    ensures answers { OnOk result (IfSome (R.reading reader.old).left (λ input.
+        Appends (W.writing writer.old).written (W.writing writer.new).written
+        (script_text A.rules line_limit responder.old input))) }
 
     // Only the reader's end ends it without a fault, and then all is flushed, at once.
-    ensures end { EndsFlushed result (R.left reader.new) (W.flushed writer.old) (W.flushed writer.new) }
+    ensures end { EndsFlushed result (R.reading reader.new) (W.flushed writer.old) (W.flushed writer.new) }
     ensures flushes { Flushes result (W.flushes writer.old) (W.flushes writer.new) }
 
     // The devices' faults are theirs, and a device that failed is told.
@@ -245,7 +247,7 @@ fn is_write(outcome: &Result<(), RunError>) -> bool
 /// Flushes the writer, if that is due.
 fn flush_if<W: Sink>(is_due: bool, writer: &mut W) -> Result<(), DeviceFault>
     requires writer { W.mark writer.old ≡ false }
-    ensures bytes { Keeps (W.written writer.old) (W.written writer.new) }
+    ensures bytes { AcceptsNone (W.writing writer.old) (W.writing writer.new) }
     ensures marks { OnErr result (IsTrue (W.mark writer.new)) }
     ensures unmarked { OnOk result (W.mark writer.new ≡ false) }
     ensures flushed { OnOk result (IsTrue is_due → IsTrue (W.flushed writer.new)) }

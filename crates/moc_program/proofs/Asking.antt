@@ -6,6 +6,7 @@ use Rattle.std.specs.Result.{result_ok}
 use Rattle.clap.specs.Words.{Text, ReadsOne, first_value, one_text, rows_of}
 use Rattle.clap.specs.declared.parser.matches.Found.{Found}
 use Rattle.clap.proofs.WalkLemmas.{first_value-rows, one_text-rows}
+use Rattle.moc_devices.specs.Devices.{Reading, Writing}
 use Rattle.moc_sphere.specs.Names.{IsNamed, Spells}
 use Rattle.clap.specs.declared.parser.matches.ArgMatches.{ArgMatches}
 use Rattle.moc_program.specs.Actions.{ActionEnds}
@@ -49,7 +50,7 @@ word_read name_of none f name word (Err e) o is read same = subst (λ x. IfSome 
 
 -- ---- what the words ask for
 
-pub matched : (m : ArgMatches) (action : Action) (left left' w w' : Option (List ℕ)) (result : Result (Unit {0}) ProgramFault) → IsAskedIn m action
+pub matched : (m : ArgMatches) (action : Action) (left left' : Reading) (w w' : Writing) (result : Result (Unit {0}) ProgramFault) → IsAskedIn m action
     → ActionEnds action left left' w w' result → MatchedEnd m left left' w w' result
 matched m action left left' w w' (Ok u) asked ends = (action, asked, ends)
 matched m action left left' w w' (Err f) asked ends = inr (action, asked, ends)
@@ -64,11 +65,11 @@ asked_for words m action read asked = record {
   asks = asked.3;
 }
 
-pub words_done : (words : List Text) (m : ArgMatches) (left left' w w' : Option (List ℕ)) → AreReadAs words m → MatchedEnd m left left' w w' (Ok tt)
+pub words_done : (words : List Text) (m : ArgMatches) (left left' : Reading) (w w' : Writing) → AreReadAs words m → MatchedEnd m left left' w w' (Ok tt)
     → (action : Action) × AskFor words action × ActionEnds action left left' w w' (Ok tt)
 words_done words m left left' w w' read ends = (ends.0, asked_for words m ends.0 read ends.1, ends.2)
 
-pub words_end : (words : List Text) (m : ArgMatches) (left left' w w' : Option (List ℕ)) (fault : ProgramFault) → AreReadAs words m → MatchedEnd m left left' w w' (Err fault)
+pub words_end : (words : List Text) (m : ArgMatches) (left left' : Reading) (w w' : Writing) (fault : ProgramFault) → AreReadAs words m → MatchedEnd m left left' w w' (Err fault)
     → EndWith words left left' w w' fault
 words_end words m left left' w w' fault read (inl memory) = inl memory
 words_end words m left left' w w' fault read (inr ends) = inr (inr (ends.0, asked_for words m ends.0 read ends.1, ends.2))

@@ -1,7 +1,7 @@
 -- Which status has the number 2.
 use Rattle.std.proofs.Common.{◌≡◌, ◌⊎◌, inl, inr, Bool, false, ℕ, List, Option, Result, Ok, Err, refl, sym, ap, subst, ◌∙◌, arith}
 use Rattle.std.specs.Prelude.{IfErr, IsTrue}
-use Rattle.std.specs.Io.KnownBytes.{Appends, Keeps}
+use Rattle.moc_devices.specs.Devices.{Reading, Writing, Accepts, AcceptsNone}
 use Rattle.moc_lines.specs.declared.run_error.RunError.TheVariants as run
 use Rattle.moc_forms.specs.declared.form.FormError.TheVariants as form
 use Rattle.moc_conversion.specs.declared.fault.InputFault.{InputFault}
@@ -78,14 +78,14 @@ pub well : (s t : Status) (r : ℕ) → s ≡ t → r ≡ code_of s → r ≡ 0 
 well s t r same number zero = only_done t (ap code_of (sym same) ∙ sym number ∙ zero)
 
 -- a fault that ends the program is told
-pub told_by : (outcome : Result (Unit {0}) ProgramFault) (status : ℕ) (is : ProgramFault → Type 0) (w w' : Option (List ℕ)) → status ≡ code_of (end_of outcome)
-    → IfErr outcome (λ c. Appends w w' (fault_text c)) → IfErr outcome is → (status ≡ 1) ⊎ (status ≡ 3) → TellsFaultOf status is w w'
+pub told_by : (outcome : Result (Unit {0}) ProgramFault) (status : ℕ) (is : ProgramFault → Type 0) (w w' : Writing) → status ≡ code_of (end_of outcome)
+    → IfErr outcome (λ c. Accepts w w' (fault_text c)) → IfErr outcome is → (status ≡ 1) ⊎ (status ≡ 3) → TellsFaultOf status is w w'
 told_by (Ok u) status is w w' number told why (inl one) = absurd (omega (arith, number, one))
 told_by (Ok u) status is w w' number told why (inr three) = absurd (omega (arith, number, three))
 told_by (Err c) status is w w' number told why some = (c, sym number, why, told)
 
 -- the same where the devices are named otherwise
-module _ {I O : Type 0} (left : I → Option (List ℕ)) (written : O → Option (List ℕ)) (i i' : I) (o o' : O) (words : List Text) (m : ArgMatches) (l w : Option (List ℕ))
+module _ {I O : Type 0} (left : I → Reading) (written : O → Writing) (i i' : I) (o o' : O) (words : List Text) (m : ArgMatches) (l : Reading) (w : Writing)
     (read : AreReadAs words m) (same_i : i' ≡ i) (same_o : o' ≡ o) where
   pub done_by : (outcome : Result (Unit {0}) ProgramFault) → MatchedEnd m l (left i) w (written o) outcome → end_of outcome ≡ Done
       → (a : Action) × AskFor words a × ActionEnds a l (left i') w (written o') (Ok tt)
@@ -103,8 +103,8 @@ module _ {I O : Type 0} (left : I → Option (List ℕ)) (written : O → Option
       (subst (λ (y : O). BlamesFailed (marked i) (marked_out y) fault × EndWith words l (left i) w (written y) fault) (sym same_o)
       (blames, words_end words m l (left i) w (written o) fault read ends))
 
-pub told_outcome : {F : Type 0} (mark : F → Bool) (written : F → Option (List ℕ)) (f f' : F) (old : Option (List ℕ)) (outcome : Result (Unit {0}) ProgramFault) (status : ℕ) (is : ProgramFault → Type 0)
-    → (mark f ≡ false → IfErr outcome (λ c. Appends old (written f) (fault_text c))) → f' ≡ f → status ≡ code_of (end_of outcome) → IfErr outcome is → mark f' ≡ false
+pub told_outcome : {F : Type 0} (mark : F → Bool) (written : F → Writing) (f f' : F) (old : Writing) (outcome : Result (Unit {0}) ProgramFault) (status : ℕ) (is : ProgramFault → Type 0)
+    → (mark f ≡ false → IfErr outcome (λ c. Accepts old (written f) (fault_text c))) → f' ≡ f → status ≡ code_of (end_of outcome) → IfErr outcome is → mark f' ≡ false
     → (status ≡ 1) ⊎ (status ≡ 3) → TellsFaultOf status is old (written f')
 told_outcome {F} mark written f f' old outcome status is told same number why unmarked some =
     subst (λ (x : F). TellsFaultOf status is old (written x)) (sym same) (told_by outcome status is old (written f) number (told (ap mark (sym same) ∙ unmarked)) why some)
@@ -113,28 +113,28 @@ told_outcome {F} mark written f f' old outcome status is told same number why un
 abbrev IsUnhelped : Type 0 → Type 0 → Type 0 → ProgramFault → Type 0
 IsUnhelped kept failed help fault = ((fault ≡ Memory) × kept) ⊎ ((fault ≡ Write) × failed × help)
 
-unhelped : (input output : Bool) (words : List Text) (l l' w w' : Option (List ℕ)) (help : Type 0) (fault : ProgramFault) → (help → AskForHelp words)
-    → IsUnhelped (Keeps w w') (IsTrue output) help fault → BlamesFailed input output fault × EndWith words l l' w w' fault
+unhelped : (input output : Bool) (words : List Text) (l l' : Reading) (w w' : Writing) (help : Type 0) (fault : ProgramFault) → (help → AskForHelp words)
+    → IsUnhelped (AcceptsNone w w') (IsTrue output) help fault → BlamesFailed input output fault × EndWith words l l' w w' fault
 unhelped input output words l l' w w' help fault asks (inl (memory, kept)) =
     (subst (λ f. BlamesFailed input output f) (sym memory) tt, inl (memory, kept))
 unhelped input output words l l' w w' help fault asks (inr (write, failed, helped)) =
     (subst (λ f. BlamesFailed input output f) (sym write) failed, inr (inl (asks helped, write)))
 
-pub told_status : {F O : Type 0} (mark : F → Bool) (told_on : F → Option (List ℕ)) (marked : O → Bool) (written : O → Option (List ℕ)) (f f' : F) (o o' : O)
-    (input : Bool) (words : List Text) (l l' w old : Option (List ℕ)) (help : Type 0) (s : Status) (status : ℕ)
-    → (mark f ≡ false → (code_of s ≡ 1) ⊎ (code_of s ≡ 3) → TellsFaultOf (code_of s) (λ c. IsUnhelped (Keeps w (written o)) (IsTrue (marked o)) help c) old (told_on f))
+pub told_status : {F O : Type 0} (mark : F → Bool) (told_on : F → Writing) (marked : O → Bool) (written : O → Writing) (f f' : F) (o o' : O)
+    (input : Bool) (words : List Text) (l l' : Reading) (w old : Writing) (help : Type 0) (s : Status) (status : ℕ)
+    → (mark f ≡ false → (code_of s ≡ 1) ⊎ (code_of s ≡ 3) → TellsFaultOf (code_of s) (λ c. IsUnhelped (AcceptsNone w (written o)) (IsTrue (marked o)) help c) old (told_on f))
     → (help → AskForHelp words) → f' ≡ f → o' ≡ o → status ≡ code_of s → mark f' ≡ false → (status ≡ 1) ⊎ (status ≡ 3)
     → TellsFaultOf status (λ c. BlamesFailed input (marked o') c × EndWith words l l' w (written o') c) old (told_on f')
 told_status {F} {O} mark told_on marked written f f' o o' input words l l' w old help s status told asks same same_o number unmarked some =
     let here = told (ap mark (sym same) ∙ unmarked) (subst (λ (n : ℕ). (n ≡ 1) ⊎ (n ≡ 3)) number some) in
     let why = unhelped input (marked o') words l l' w (written o') help here.0 asks
-    (subst (λ (y : O). IsUnhelped (Keeps w (written y)) (IsTrue (marked y)) help here.0) (sym same_o) here.2) in
-    (here.0, here.1 ∙ sym number, why, subst (λ (x : F). Appends old (told_on x) (fault_text here.0)) (sym same) here.3)
+    (subst (λ (y : O). IsUnhelped (AcceptsNone w (written y)) (IsTrue (marked y)) help here.0) (sym same_o) here.2) in
+    (here.0, here.1 ∙ sym number, why, subst (λ (x : F). Accepts old (told_on x) (fault_text here.0)) (sym same) here.3)
 
 pub no_outcome : (outcome : Result (Unit {0}) ProgramFault) → end_of outcome ≡ BadWords → ⊥
 no_outcome (Ok u) e = cc
 no_outcome (Err fault) e = no_bad (status_of fault) (of_fault fault) e
 
 -- what a sink has, where it is named otherwise
-pub kept_by : {O : Type 0} (written : O → Option (List ℕ)) (o o' : O) (w : Option (List ℕ)) → o' ≡ o → Keeps w (written o) → Keeps w (written o')
-kept_by written o o' w same kept = subst (λ y. Keeps w (written y)) (sym same) kept
+pub kept_by : {O : Type 0} (written : O → Writing) (o o' : O) (w : Writing) → o' ≡ o → AcceptsNone w (written o) → AcceptsNone w (written o')
+kept_by written o o' w same kept = subst (λ y. AcceptsNone w (written y)) (sym same) kept

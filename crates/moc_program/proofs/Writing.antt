@@ -2,7 +2,8 @@
 use Rattle.std.proofs.Common.{◌≡◌, inl, inr, ℕ, List, [], ◌++◌, Option, None, Some, Result, Ok, Err, refl, sym, subst, ◌∙◌, append-nil, MatchResult}
 use Rattle.std.specs.Prelude.{IfOk, IfErr, String, string_bytes}
 use Rattle.std.specs.declared.alloc.Global.{Global}
-use Rattle.std.specs.Io.KnownBytes.{Appends, Keeps}
+use Rattle.moc_devices.specs.Devices.{Writing, Accepts, AcceptsNone}
+use Rattle.moc_devices.specs.Lemmas.{Accepts-kept}
 use Rattle.moc_conversion.specs.declared.complaint.Complaint.{Complaint}
 use Rattle.moc_program.specs.Actions.{PrintsText, Complains}
 use Rattle.moc_program.specs.Private.Writing.{IsSent}
@@ -16,32 +17,29 @@ same_fault : (f g : ProgramFault) (result : Result (Unit {0}) ProgramFault) → 
 same_fault f g result is same = cc
 
 -- what was written is written still when the sink has sent it on
-kept_sent : (text : List ℕ) (w m w' : Option (List ℕ)) → Appends w m text → Keeps m w' → Appends w w' text
-kept_sent text None m w' written kept = tt
-kept_sent text (Some x) None w' written kept = absurd written
-kept_sent text (Some x) (Some y) None written kept = absurd kept
-kept_sent text (Some x) (Some y) (Some z) written kept = kept ∙ written
+kept_sent : (text : List ℕ) (w m w' : Writing) → Accepts w m text → AcceptsNone m w' → Accepts w w' text
+kept_sent text w m w' written kept = Accepts-kept w m w' text written kept
 
-pub sent_on : (text : List ℕ) (w m w' : Option (List ℕ)) (result : Result (Unit {0}) ProgramFault) → IfErr result (λ fault. fault ≡ Write)
-    → Appends w m text → Keeps m w' → IsSent text w w' result
+pub sent_on : (text : List ℕ) (w m w' : Writing) (result : Result (Unit {0}) ProgramFault) → IfErr result (λ fault. fault ≡ Write)
+    → Accepts w m text → AcceptsNone m w' → IsSent text w w' result
 sent_on text w m w' (Ok _) write written kept = kept_sent text w m w' written kept
 sent_on text w m w' (Err fault) write written kept = (write, text, [], sym (append-nil text), kept_sent text w m w' written kept)
 
-pub sent_front : (text front rest : List ℕ) (w w' : Option (List ℕ)) (result : Result (Unit {0}) ProgramFault) → result ≡ Err Write → text ≡ front ++ rest
-    → Appends w w' front → IsSent text w w' result
+pub sent_front : (text front rest : List ℕ) (w w' : Writing) (result : Result (Unit {0}) ProgramFault) → result ≡ Err Write → text ≡ front ++ rest
+    → Accepts w w' front → IsSent text w w' result
 sent_front text front rest w w' (Ok u) failed parts written = absurd (no_error Write u (Ok u) refl failed)
 sent_front text front rest w w' (Err fault) failed parts written = (same_fault fault Write (Err fault) refl failed, front, rest, parts, written)
 
 -- an action that writes such a text
-pub sent_writes : (is : List ℕ → Type 0) (refused : ProgramFault → Type 0) (text : List ℕ) (w w' : Option (List ℕ)) (result : Result (Unit {0}) ProgramFault) → is text
+pub sent_writes : (is : List ℕ → Type 0) (refused : ProgramFault → Type 0) (text : List ℕ) (w w' : Writing) (result : Result (Unit {0}) ProgramFault) → is text
     → IsSent text w w' result → PrintsText is refused w w' result
 sent_writes is refused text w w' (Ok _) made sent = (text, made, sent)
 sent_writes is refused text w w' (Err fault) made sent = inl (sent.0, sent.1, sent.2, subst is sent.3 made, sent.4)
 
 -- an action that writes a text which was made of the input, or else complains of it
-pub answered_by : (is : List ℕ → Type 0) (complains : Complaint → Type 0) (made : Result (String Global) Complaint) (w w' : Option (List ℕ))
+pub answered_by : (is : List ℕ → Type 0) (complains : Complaint → Type 0) (made : Result (String Global) Complaint) (w w' : Writing)
     (result : Result (Unit {0}) ProgramFault) → IfOk made (λ t. is (string_bytes t)) → IfErr made complains
-    → MatchResult made (λ t. IsSent (string_bytes t) w w' result) (λ c. (result ≡ Err (Input c)) × Keeps w w')
+    → MatchResult made (λ t. IsSent (string_bytes t) w w' result) (λ c. (result ≡ Err (Input c)) × AcceptsNone w w')
     → PrintsText is (Complains complains) w w' result
 answered_by is complains (Ok t) w w' result made why sent = sent_writes is (Complains complains) (string_bytes t) w w' result made sent
 answered_by is complains (Err c) w w' (Ok u) made why (same, kept) = absurd (no_error (Input c) u (Ok u) refl same)

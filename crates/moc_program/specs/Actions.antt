@@ -1,10 +1,10 @@
 -- How what was asked for ends: what is written, or the fault that is told.
-use Rattle.std.specs.Prelude.{◌≡◌, ◌⊎◌, ℕ, List, [], ◌∷◌, ◌++◌, codes, Option, Result, Ok, Err, IfSome}
+use Rattle.std.specs.Prelude.{◌≡◌, ◌⊎◌, ℕ, List, [], ◌∷◌, ◌++◌, codes, Result, Ok, Err}
 use Rattle.std.specs.FinSet as set
-use Rattle.std.specs.Io.KnownBytes.{Appends, Keeps}
+use Rattle.moc_devices.specs.Devices.{Reading, Writing, Accepts, AcceptsNone}
 use Rattle.moc_script.specs.Crews.{CrewEnds, lane_count}
 use Rattle.moc_lines.specs.Numberings.{renumber_rules}
-use Rattle.moc_lines.specs.Runs.{Runs, line_limit, script_rules}
+use Rattle.moc_lines.specs.Runs.{Crosses, line_limit, script_rules}
 use Rattle.moc_script.specs.Schedules.{schedule_rules, start_schedule}
 use Rattle.moc_conversion.specs.Combining.{CombinesAll, IsNotCombined}
 use Rattle.moc_conversion.specs.Conversion.{ChangesAll, ConvertsAll, DescribesAll, DrawsAll, IsNotConverted, IsNotDrawn}
@@ -27,33 +27,33 @@ RunEnds fault_of ends (Err fault) = (error : _) × (fault ≡ fault_of error) ×
 
 -- such a text was written; or a front of one, where the output failed; or nothing, where such a fault came first
 abbrev pub PrintsText :
-    (List ℕ → Type 0) → (ProgramFault → Type 0) → Option (List ℕ) → Option (List ℕ)
+    (List ℕ → Type 0) → (ProgramFault → Type 0) → Writing → Writing
     → Result (Unit {0}) ProgramFault → Type 0
-PrintsText is refused w w' (Ok _) = (text : List ℕ) × is text × Appends w w' text
+PrintsText is refused w w' (Ok _) = (text : List ℕ) × is text × Accepts w w' text
 PrintsText is refused w w' (Err fault) =
-    ((fault ≡ program.Write) × (front rest : List ℕ) × is (front ++ rest) × Appends w w' front)
-    ⊎ (refused fault × Keeps w w')
+    ((fault ≡ program.Write) × (front rest : List ℕ) × is (front ++ rest) × Accepts w w' front)
+    ⊎ (refused fault × AcceptsNone w w')
 
 -- the fault is such a complaint of the input
 abbrev pub Complains : (Complaint → Type 0) → ProgramFault → Type 0
 Complains is fault = (c : Complaint) × (fault ≡ program.Input c) × is c
 
--- What was asked for ends so, with an input of which this was left and this is, where so much was and is written.
+-- What was asked for ends so, between what was and is known of the input, and what was and is known of the output.
 abbrev pub ActionEnds :
-    Action → Option (List ℕ) → Option (List ℕ) → Option (List ℕ) → Option (List ℕ)
+    Action → Reading → Reading → Writing → Writing
     → Result (Unit {0}) ProgramFault → Type 0
 ActionEnds Run left left' w w' =
     RunEnds (λ error. program.Lines error)
-    (λ end. IfSome left (λ input. Runs line_limit script_rules set.empty input left' w w' end))
+    (λ end. Crosses line_limit script_rules set.empty left left' w w' end)
 ActionEnds Play left left' w w' =
     RunEnds (λ error. program.Lines error)
-    (λ end. IfSome left (λ input. Runs line_limit schedule_rules start_schedule input left' w w' end))
+    (λ end. Crosses line_limit schedule_rules start_schedule left left' w w' end)
 ActionEnds (Crew lanes) left left' w w' =
-    RunEnds fault_of_crew (λ end. IfSome left (λ input. CrewEnds (lane_count lanes) input left' w w' end))
+    RunEnds fault_of_crew (λ end. CrewEnds (lane_count lanes) left left' w w' end)
 ActionEnds (Number number) left left' w w' = PrintsText (IsNumberLine number) (IsNumberRefusal number) w w'
 ActionEnds (Renumber r) left left' w w' =
     RunEnds (λ error. program.Lines error)
-    (λ end. IfSome left (λ input. Runs line_limit renumber_rules r input left' w w' end))
+    (λ end. Crosses line_limit renumber_rules r left left' w w' end)
 ActionEnds (Convert from to) left left' w w' =
     PrintsText (ConvertsAll from to left left') (Complains (IsNotConverted from left left')) w w'
 ActionEnds (Check choice) left left' w w' =

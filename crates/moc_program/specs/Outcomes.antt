@@ -1,6 +1,6 @@
 -- What the program has done when it ends.
-use Rattle.std.specs.Prelude.{◌≡◌, ◌≢◌, ◌⊎◌, ℕ, Bool, false, List, [], Option, Err, IsTrue}
-use Rattle.std.specs.Io.KnownBytes.{Appends, Keeps}
+use Rattle.std.specs.Prelude.{◌≡◌, ◌≢◌, ◌⊎◌, ℕ, Bool, false, List, [], Err, IsTrue}
+use Rattle.moc_devices.specs.Devices.{Reading, Writing, Accepts, AcceptsNone}
 use Rattle.clap.specs.Words.{App, Text, takes, fault_of, IsAmong}
 use Rattle.clap.specs.declared.error.kind.ErrorKind.{ErrorKind}
 use Rattle.clap.specs.declared.error.kind.ErrorKind.TheVariants.{DisplayHelp, DisplayVersion, OutOfMemory}
@@ -51,13 +51,13 @@ BlamesFailed input output _ = Unit {0}
 
 -- Memory was refused before any output, or help that is asked for was not written, or what is asked for ends so.
 abbrev pub EndWith :
-    List Text → Option (List ℕ) → Option (List ℕ) → Option (List ℕ) → Option (List ℕ) → ProgramFault → Type 0
+    List Text → Reading → Reading → Writing → Writing → ProgramFault → Type 0
 EndWith words left left' w w' fault =
-    ((fault ≡ Memory) × Keeps w w') ⊎ (AskForHelp words × (fault ≡ Write))
+    ((fault ≡ Memory) × AcceptsNone w w') ⊎ (AskForHelp words × (fault ≡ Write))
     ⊎ ((action : Action) × AskFor words action × ActionEnds action left left' w w' (Err fault))
 
 -- a fault of which this holds, and which has this status, is told
-abbrev pub TellsFaultOf : ℕ → (ProgramFault → Type 0) → Option (List ℕ) → Option (List ℕ) → Type 0
+abbrev pub TellsFaultOf : ℕ → (ProgramFault → Type 0) → Writing → Writing → Type 0
 TellsFaultOf status is written written' =
     (fault : ProgramFault) × (code_of (status_of fault) ≡ status) × is fault
-    × Appends written written' (fault_text fault)
+    × Accepts written written' (fault_text fault)

@@ -1,6 +1,6 @@
 //! What the words of the command line make the program do.
 ghost use Rattle.std.specs.Prelude.{◌≡◌, ◌≢◌, ◌⊎◌, false, map, IfErr, IfOk, IsTrue, Ok, OnOk};
-ghost use Rattle.std.specs.Io.KnownBytes.{Appends, Keeps};
+ghost use Rattle.moc_devices.specs.Devices.{Accepts, AcceptsNone};
 ghost use Rattle.std.specs.IoError.{error_kind};
 ghost use Rattle.clap.specs.Words.{kind_of};
 ghost use Rattle.moc_program.specs.Actions.{ActionEnds};
@@ -44,21 +44,21 @@ pub fn program<'a, T: Threads + Wait + Sync, S: AsStr, R: Source, W: Sink, E: Si
     // At 2 nothing is written.
     ensures refused { result ≡ 2 → AreRefused (map S.text words.entry.now) }
     ensures mistaken { AreMistaken (map S.text words.entry.now) → (result ≡ 2) ⊎ (result ≡ 3) }
-    ensures kept { result ≡ 2 → Keeps (W.written output.old) (W.written output.new) }
+    ensures kept { result ≡ 2 → AcceptsNone (W.writing output.old) (W.writing output.new) }
 
     // At 0 help was asked for, or what the words ask for is done, and all that comes of it is written.
     ensures done { result ≡ 0 → AskForHelp (map S.text words.entry.now)
         ⊎ ((action : Action) × AskFor (map S.text words.entry.now) action
         × ActionEnds action
-        (R.left input.old) (R.left input.new) (W.written output.old) (W.written output.new) (Ok tt)) }
+        (R.reading input.old) (R.reading input.new) (W.writing output.old) (W.writing output.new) (Ok tt)) }
 
     // At 1 and 3 a fault is told that ends so, unless that cannot be written. It is one that what the words ask for
     // gives on what was read, and a device that it blames has failed.
     ensures told { E.mark faults.old ≡ false → E.mark faults.new ≡ false → (result ≡ 1) ⊎ (result ≡ 3)
         → TellsFaultOf result (λ fault. BlamesFailed (R.mark input.new) (W.mark output.new) fault
         × EndWith (map S.text words.entry.now)
-        (R.left input.old) (R.left input.new) (W.written output.old) (W.written output.new) fault)
-        (E.written faults.old) (E.written faults.new) }
+        (R.reading input.old) (R.reading input.new) (W.writing output.old) (W.writing output.new) fault)
+        (E.writing faults.old) (E.writing faults.new) }
 
     // A device that failed ends with 3, and at 0 all that was written is flushed.
     ensures input { IsTrue (R.mark input.new) → result ≡ 3 }
@@ -77,7 +77,7 @@ pub fn refuse_words<E: Sink>(error: &io::Error, faults: &mut E) -> u8
     ensures memory { error_kind error.now ≡ IoErrorKind.OutOfMemory → result ≡ 3 }
     ensures not_utf8 { error_kind error.now ≢ IoErrorKind.OutOfMemory → result ≡ 2 }
     ensures told { E.mark faults.old ≡ false → E.mark faults.new ≡ false → result ≡ 3
-        → Appends (E.written faults.old) (E.written faults.new) (fault_text ProgramFault.Memory) }
+        → Accepts (E.writing faults.old) (E.writing faults.new) (fault_text ProgramFault.Memory) }
 {
     if error.kind() == IoErrorKind::OutOfMemory {
         return ended(Err(ProgramFault::Memory), faults).code();

@@ -1,6 +1,6 @@
 //! What is said where the words ask for help, or for nothing that the program does.
 ghost use Rattle.std.specs.Prelude.{◌≡◌, ◌⊎◌, false, IsTrue};
-ghost use Rattle.std.specs.Io.KnownBytes.{Keeps};
+ghost use Rattle.moc_devices.specs.Devices.{AcceptsNone};
 ghost use Rattle.clap.specs.Words.{kind_of};
 ghost use Rattle.moc_program.specs.Outcomes.{IsMistake, TellsFaultOf};
 ghost use Rattle.moc_program.specs.Statuses.{code_of};
@@ -26,7 +26,7 @@ pub(crate) fn explain<S: AsStr, W: Sink, E: Sink>(
     ensures bad_words { result ≡ Status.BadWords → IsMistake (kind_of error.now) }
     ensures mistake { IsMistake (kind_of error.now) → (result ≡ Status.BadWords) ⊎ (result ≡ Status.Broken) }
     ensures memory { kind_of error.now ≡ ErrorKind.OutOfMemory → result ≡ Status.Broken }
-    ensures kept { result ≡ Status.BadWords → Keeps (W.written output.old) (W.written output.new) }
+    ensures kept { result ≡ Status.BadWords → AcceptsNone (W.writing output.old) (W.writing output.new) }
     ensures output { IsTrue (W.mark output.new) → result ≡ Status.Broken }
     ensures flushed { result ≡ Status.Done → IsTrue (W.flushed output.new) }
     ensures help { result ≡ Status.Done
@@ -34,10 +34,10 @@ pub(crate) fn explain<S: AsStr, W: Sink, E: Sink>(
     ensures told { E.mark faults.old ≡ false → E.mark faults.new ≡ false
         → (code_of result ≡ 1) ⊎ (code_of result ≡ 3)
         → TellsFaultOf (code_of result) (λ fault.
-        ((fault ≡ ProgramFault.Memory) × Keeps (W.written output.old) (W.written output.new))
+        ((fault ≡ ProgramFault.Memory) × AcceptsNone (W.writing output.old) (W.writing output.new))
         ⊎ ((fault ≡ ProgramFault.Write) × IsTrue (W.mark output.new)
         × ((kind_of error.now ≡ ErrorKind.DisplayHelp) ⊎ (kind_of error.now ≡ ErrorKind.DisplayVersion))))
-        (E.written faults.old) (E.written faults.new) }
+        (E.writing faults.old) (E.writing faults.new) }
 {
     if error.kind() == ErrorKind::OutOfMemory {
         return ended(Err(ProgramFault::Memory), faults);

@@ -24,7 +24,7 @@ pub(crate) fn numbered<W: Sink>(
 ) -> Result<(), ProgramFault>
     requires { W.mark output.old ≡ false }
     ensures ends { PrintsText (IsNumberLine number) (IsNumberRefusal number)
-        (W.written output.old) (W.written output.new) result }
+        (W.writing output.old) (W.writing output.new) result }
     ensures flushed { OnOk result (IsTrue (W.flushed output.new)) }
     ensures write { IsErrOf result ProgramFault.Write → IsTrue (W.mark output.new) }
     ensures output { IsTrue (W.mark output.new) → end_of result ≡ Status.Broken }

@@ -35,8 +35,8 @@ pub(crate) fn act<T: Threads + Wait + Sync, R: Source, W: Sink>(
     ensures input { IsTrue (R.mark input.new) → end_of result ≡ Status.Broken }
     ensures output { IsTrue (W.mark output.new) → end_of result ≡ Status.Broken }
     ensures flushed { OnOk result (IsTrue (W.flushed output.new)) }
-    ensures ends { MatchedEnd matches.now (R.left input.old) (R.left input.new)
-        (W.written output.old) (W.written output.new) result }
+    ensures ends { MatchedEnd matches.now (R.reading input.old) (R.reading input.new)
+        (W.writing output.old) (W.writing output.new) result }
     ensures devices { IfErr result (BlamesFailed (R.mark input.new) (W.mark output.new)) }
 {
     let Some(action) = Action::from_matches(matches) else {
@@ -60,8 +60,8 @@ fn perform<T: Threads + Wait + Sync, R: Source, W: Sink>(
     ensures input { IsTrue (R.mark input.new) → end_of result ≡ Status.Broken }
     ensures output { IsTrue (W.mark output.new) → end_of result ≡ Status.Broken }
     ensures flushed { OnOk result (IsTrue (W.flushed output.new)) }
-    ensures ends { ActionEnds action (R.left input.old) (R.left input.new)
-        (W.written output.old) (W.written output.new) result }
+    ensures ends { ActionEnds action (R.reading input.old) (R.reading input.new)
+        (W.writing output.old) (W.writing output.new) result }
     ensures devices { IfErr result (BlamesFailed (R.mark input.new) (W.mark output.new)) }
 {
     match action {

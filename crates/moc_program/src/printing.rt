@@ -1,6 +1,6 @@
 //! Texts on the output.
 ghost use Rattle.std.specs.Prelude.{◌≡◌, false, Err, IsErrAnd, IsErrOf, IsTrue, MatchResult, OnOk, is_err};
-ghost use Rattle.std.specs.Io.KnownBytes.{Keeps};
+ghost use Rattle.moc_devices.specs.Devices.{AcceptsNone};
 ghost use Rattle.std.specs.String.{string_bytes};
 ghost use Rattle.moc_program.specs.Private.Ending.{end_of};
 ghost use Rattle.moc_program.specs.Private.Writing.{IsSent};
@@ -16,8 +16,8 @@ pub(crate) fn answered<W: Sink>(
 ) -> Result<(), ProgramFault>
     requires { W.mark output.old ≡ false }
     ensures sent { MatchResult text
-        (λ t. IsSent (string_bytes t) (W.written output.old) (W.written output.new) result)
-        (λ c. (result ≡ Err (ProgramFault.Input c)) × Keeps (W.written output.old) (W.written output.new)) }
+        (λ t. IsSent (string_bytes t) (W.writing output.old) (W.writing output.new) result)
+        (λ c. (result ≡ Err (ProgramFault.Input c)) × AcceptsNone (W.writing output.old) (W.writing output.new)) }
     ensures write { IsErrOf result ProgramFault.Write → IsTrue (W.mark output.new) }
     ensures flushed { OnOk result (IsTrue (W.flushed output.new)) }
     ensures input { IsErrAnd text (λ c. c.fault ≡ InputFault.Read) → end_of result ≡ Status.Broken }
@@ -31,7 +31,7 @@ pub(crate) fn answered<W: Sink>(
 #[tactic(auto, using(crate::proofs::Writing::sent_on, crate::proofs::Writing::sent_front))]
 pub(crate) fn printed<W: Sink>(text: &str, output: &mut W) -> Result<(), ProgramFault>
     requires { W.mark output.old ≡ false }
-    ensures sent { IsSent text.now (W.written output.old) (W.written output.new) result }
+    ensures sent { IsSent text.now (W.writing output.old) (W.writing output.new) result }
     ensures flushed { OnOk result (IsTrue (W.flushed output.new)) }
     ensures marks { W.mark output.new ≡ is_err result }
 {

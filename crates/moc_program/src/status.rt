@@ -1,6 +1,6 @@
 //! How the program ends, and what it says of that.
 ghost use Rattle.std.specs.Prelude.{◌≡◌, IfErr, OnOk, false, is_err};
-ghost use Rattle.std.specs.Io.KnownBytes.{Appends};
+ghost use Rattle.moc_devices.specs.Devices.{Accepts};
 ghost use Rattle.moc_program.specs.Statuses.{code_of, fault_of_crew, fault_text, name_of_cell};
 ghost use Rattle.moc_program.specs.Statuses.{status_of, status_of_input};
 ghost use Rattle.moc_program.specs.Private.Ending.{end_of};
@@ -70,7 +70,7 @@ impl ProgramFault {
     /// Tells it on the fault output.
     pub fn tell<E: Sink>(&self, faults: &mut E) -> Result<(), DeviceFault>
         ensures told { OnOk result (E.mark faults.old ≡ false →
-            Appends (E.written faults.old) (E.written faults.new) (fault_text self.now)) }
+            Accepts (E.writing faults.old) (E.writing faults.new) (fault_text self.now)) }
         ensures marks { E.mark faults.old ≡ false → E.mark faults.new ≡ is_err result }
     {
         match self {
@@ -88,7 +88,7 @@ impl ProgramFault {
 pub(crate) fn ended<E: Sink>(outcome: Result<(), ProgramFault>, faults: &mut E) -> Status
     ensures end { result ≡ end_of outcome }
     ensures told { E.mark faults.old ≡ false → E.mark faults.new ≡ false → IfErr outcome (λ fault.
-        Appends (E.written faults.old) (E.written faults.new) (fault_text fault)) }
+        Accepts (E.writing faults.old) (E.writing faults.new) (fault_text fault)) }
 {
     let Err(fault) = outcome else {
         return Status::Done;

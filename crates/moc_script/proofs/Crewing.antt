@@ -16,10 +16,10 @@ use Rattle.moc_shared.specs.Batches.{BatchCall, batch_answer as object}
 use Rattle.moc_shared.specs.Clients.{record_of, start_of, clients_of, StandsForAll, Closes}
 use Rattle.moc_shared.specs.declared.map.SharedMap.{SharedMap}
 use Rattle.moc_shared.specs.declared.record.Calls.{Calls}
-use Rattle.std.specs.Io.KnownBytes.{Appends, Consumes, IsAtEnd, Keeps}
+use Rattle.moc_devices.specs.Devices.{Reading, Delivers, IsEnded, Writing, Accepts, AcceptsNone}
 use Rattle.moc_lines.specs.declared.run_error.RunError.TheVariants as run
 use Rattle.moc_script.specs.declared.crew_error.CrewError.TheVariants as crew
-use Rattle.moc_devices.specs.Lemmas.{Sends-all}
+use Rattle.moc_devices.specs.Lemmas.{Accepts-kept, Sends-all}
 use Rattle.moc_shared.specs.declared.client.Client.{Client}
 use Rattle.moc_text.specs.Lines.{lines_of}
 use Rattle.moc_script.specs.Private.Input.{lane_lines}
@@ -122,59 +122,41 @@ crew_of_lanes map n input answers left c end text some lanes all start many clos
         subst (λ (l : List BatchCall). Does object script_rules (lane_lines n input lane) l (in_lane lane (dealt n all.done))) (sym calls)
         (subst (λ (l : List (List ℕ)). Does object script_rules (lane_lines n input lane) has.0 l) whole has.2)
 
-whole_input : (xs items : List ℕ) (b : Option (List ℕ)) → Consumes (Some xs) b items → IsAtEnd b → items ≡ xs
-whole_input xs items None consumed end = absurd consumed
-whole_input xs items (Some ys) consumed end = sym (consumed ∙ ap (λ l. items ++ l) end ∙ append-nil items)
-
 -- memory was refused while lines were read
-pub crew_begun : (lanes line : ℕ) (a b w0 w1 : Option (List ℕ)) → (given : List ℕ) × Consumes a b given × IsBegunLine line given → Keeps w0 w1
-    → IfSome a (λ input. CrewEnds lanes input b w0 w1 (Err (crew.Run (run.Memory line))))
-crew_begun lanes line None b w0 w1 begun kept = tt
-crew_begun lanes line (Some xs) b w0 w1 begun kept = (kept, (begun.0, begun.1, inl begun.2))
+pub crew_begun : (lanes line : ℕ) (a b : Reading) (w0 w1 : Writing) → (given : List ℕ) × Delivers a b given × IsBegunLine line given → AcceptsNone w0 w1
+    → CrewEnds lanes a b w0 w1 (Err (crew.Run (run.Memory line)))
+crew_begun lanes line a b w0 w1 begun kept = (kept, (begun.0, begun.1, inl begun.2))
 
 -- memory was refused once all lines were read
-pub crew_refused : (lanes line : ℕ) (items : List ℕ) (a b w0 w1 : Option (List ℕ)) → Consumes a b items → IsAtEnd b → IsRefusedLine line (lines_of items) → Keeps w0 w1
-    → IfSome a (λ input. CrewEnds lanes input b w0 w1 (Err (crew.Run (run.Memory line))))
-crew_refused lanes line items None b w0 w1 consumed end refused kept = tt
-crew_refused lanes line items (Some xs) b w0 w1 consumed end refused kept = (kept, (items, consumed, inr (whole_input xs items b consumed end, refused)))
+pub crew_refused : (lanes line : ℕ) (items : List ℕ) (a b : Reading) (w0 w1 : Writing) → Delivers a b items → IsEnded b → IsRefusedLine line (lines_of items) → AcceptsNone w0 w1
+    → CrewEnds lanes a b w0 w1 (Err (crew.Run (run.Memory line)))
+crew_refused lanes line items a b w0 w1 consumed end refused kept = (kept, (items, consumed, inr (end, refused)))
 
-Appends-kept : (a b c : Option (List ℕ)) (bs : List ℕ) → Appends a b bs → Keeps b c → Appends a c bs
-Appends-kept None b c bs p q = tt
-Appends-kept (Some x) None c bs p q = absurd p
-Appends-kept (Some x) (Some y) None bs p q = absurd q
-Appends-kept (Some x) (Some y) (Some z) bs p q = q ∙ p
-
-module _ (lanes : ℕ) (items cover : List ℕ) (answers : List Texts) (told : AreTold lanes (said_lines (lines_of items)) answers cover) (b w0 w1 w2 : Option (List ℕ)) (end : IsAtEnd b) where
+module _ (lanes : ℕ) (items cover : List ℕ) (answers : List Texts) (told : AreTold lanes (said_lines (lines_of items)) answers cover) (b : Reading) (w0 w1 w2 : Writing) (end : IsEnded b) where
   for : AreForLines (length answers) answers (length (said_lines (lines_of items)))
   for = subst (λ (n : ℕ). AreForLines n answers (length (said_lines (lines_of items)))) (sym told.wide) told.for_lines
 
   -- the writer failed on the way
-  pub crew_failed : {E : Type 0} (a : Option (List ℕ)) (r : Result (Unit {0}) E) → Consumes a b items → JoinsTo {E = E} answers cover w0 w1 r
-      → IfSome a (λ input. CrewEnds lanes input b w0 w1 (Err (crew.Run run.Write)))
-  crew_failed None r consumed joins = tt
-  crew_failed (Some xs) r consumed joins =
+  pub crew_failed : {E : Type 0} (a : Reading) (r : Result (Unit {0}) E) → Delivers a b items → JoinsTo {E = E} answers cover w0 w1 r
+      → CrewEnds lanes a b w0 w1 (Err (crew.Run run.Write))
+  crew_failed a r consumed joins =
       let h = joins (length (said_lines (lines_of items))) for in
-      subst (λ (input : List ℕ). CrewEnds lanes input b w0 w1 (Err (crew.Run run.Write))) (whole_input xs items b consumed end)
-      (h.2.sent, h.2.appended, (h.2.rest, subst (IsCrewText lanes (said_lines (lines_of items))) h.2.parts (told.text h.0 h.1)))
+      (items, consumed, end, (h.2.sent, h.2.appended, (h.2.rest, subst (IsCrewText lanes (said_lines (lines_of items))) h.2.parts (told.text h.0 h.1))))
 
-  all_written : {E : Type 0} → JoinsTo {E = E} answers cover w0 w1 (Ok tt) → Keeps w1 w2
-      → (text : List ℕ) × Appends w0 w2 text × IsCrewText lanes (said_lines (lines_of items)) text
+  all_written : {E : Type 0} → JoinsTo {E = E} answers cover w0 w1 (Ok tt) → AcceptsNone w1 w2
+      → (text : List ℕ) × Accepts w0 w2 text × IsCrewText lanes (said_lines (lines_of items)) text
   all_written joins kept =
       let h = joins (length (said_lines (lines_of items))) for in
-      (h.0 ++ cover, Appends-kept w0 w1 w2 (h.0 ++ cover) (Sends-all (h.0 ++ cover) [] w0 w1 h.2 refl) kept, told.text h.0 h.1)
+      (h.0 ++ cover, Accepts-kept w0 w1 w2 (h.0 ++ cover) (Sends-all (h.0 ++ cover) [] w0 w1 h.2 refl) kept, told.text h.0 h.1)
 
   -- the writer failed at its flush
-  pub crew_unflushed : {E : Type 0} (a : Option (List ℕ)) → Consumes a b items → JoinsTo {E = E} answers cover w0 w1 (Ok tt) → Keeps w1 w2
-      → IfSome a (λ input. CrewEnds lanes input b w0 w2 (Err (crew.Run run.Write)))
-  crew_unflushed None consumed joins kept = tt
-  crew_unflushed (Some xs) consumed joins kept =
+  pub crew_unflushed : {E : Type 0} (a : Reading) → Delivers a b items → JoinsTo {E = E} answers cover w0 w1 (Ok tt) → AcceptsNone w1 w2
+      → CrewEnds lanes a b w0 w2 (Err (crew.Run run.Write))
+  crew_unflushed a consumed joins kept =
       let h = all_written joins kept in
-      subst (λ (input : List ℕ). CrewEnds lanes input b w0 w2 (Err (crew.Run run.Write))) (whole_input xs items b consumed end)
-      (h.0, h.1, ([], subst (IsCrewText lanes (said_lines (lines_of items))) (sym (append-nil h.0)) h.2))
+      (items, consumed, end, (h.0, h.1, ([], subst (IsCrewText lanes (said_lines (lines_of items))) (sym (append-nil h.0)) h.2)))
 
   -- all is written and flushed
-  pub crew_done : {E : Type 0} (a : Option (List ℕ)) → Consumes a b items → AreShort line_limit (lines_of items) → JoinsTo {E = E} answers cover w0 w1 (Ok tt) → Keeps w1 w2
-      → IfSome a (λ input. CrewEnds lanes input b w0 w2 (Ok tt))
-  crew_done None consumed within joins kept = tt
-  crew_done (Some xs) consumed within joins kept =
-      subst (λ (input : List ℕ). CrewEnds lanes input b w0 w2 (Ok tt)) (whole_input xs items b consumed end) (within, all_written joins kept)
+  pub crew_done : {E : Type 0} (a : Reading) → Delivers a b items → AreShort line_limit (lines_of items) → JoinsTo {E = E} answers cover w0 w1 (Ok tt) → AcceptsNone w1 w2
+      → CrewEnds lanes a b w0 w2 (Ok tt)
+  crew_done a consumed within joins kept = (items, consumed, end, within, all_written joins kept)

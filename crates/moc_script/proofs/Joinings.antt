@@ -1,17 +1,17 @@
 -- The answers of the lanes, joined in turn.
 use Rattle.std.proofs.Common.{◌≡◌, ◌⊎◌, inl, inr, ℕ, zero, suc, ◌+◌, ◌-◌, ◌%◌, ◌<◌, ◌≤◌, List, [], ◌∷◌, ◌++◌, length}
-use Rattle.std.proofs.Common.{set, get_or, Option, Result, Ok, Err, refl, sym, ap, ◌∙◌, subst, arith, append_assoc}
+use Rattle.std.proofs.Common.{set, get_or, Result, Ok, Err, refl, sym, ap, ◌∙◌, subst, arith, append_assoc}
 use Rattle.std.proofs.Common.{append-nil, length-append, length-set}
 use native.Mathlib.Decide.{ℕ_discrete}
 use Rattle.std.proofs.Math.Nat.{mod-lt, mod-eq_of_lt}
 use Rattle.std.proofs.lemmas.Bool.{cases_lt}
 use Rattle.std.proofs.lemmas.List.{get_or-set_same, get_or-set_other, get_or_default}
-use Rattle.std.specs.Io.KnownBytes.{Appends}
+use Rattle.moc_devices.specs.Devices.{Writing, Accepts}
 use Rattle.std.specs.Result.{IsErr}
 use Rattle.std.specs.Prelude.{IsErrAnd}
 use Rattle.moc_script.specs.Crews.{in_lane, dealt}
 use Rattle.std.specs.List.{concat}
-use Rattle.std.proofs.KnownBytes.{Appends-nil, Appends-trans}
+use Rattle.moc_devices.specs.Lemmas.{Accepts-nil, Accepts-trans}
 use Rattle.moc_devices.specs.Devices.{Sends}
 use Rattle.moc_script.specs.Private.Joining.{AreForLines, IsJoined, SendsTurns, JoinsTo}
 use Rattle.moc_script.proofs.LaneLists.{dealt-alone, dealt-here, dealt-else, next_left, next_rest}
@@ -93,28 +93,28 @@ rest_of (suc k) lanes count turn all left text some for was sum =
     by (answer ∷ new) is next = next answer new is
 
 -- what is joined so far, is written but for what is pending
-pub record Turns (all walks : List Texts) (turn : ℕ) (written written' : Option (List ℕ)) (pending : List ℕ) : Type 0 where
+pub record Turns (all walks : List Texts) (turn : ℕ) (written written' : Writing) (pending : List ℕ) : Type 0 where
   pub count : ℕ
   pub text : List ℕ
   pub sent : List ℕ
   pub joined : IsJoined (length all) all walks count text
   pub at : count % length all ≡ turn
-  pub appended : Appends written written' sent
+  pub appended : Accepts written written' sent
   pub parts : text ≡ sent ++ pending
 
 -- nothing is joined yet
-pub Turns-start : (all : List Texts) (written : Option (List ℕ)) → 0 < length all → Turns all all 0 written written []
+pub Turns-start : (all : List Texts) (written : Writing) → 0 < length all → Turns all all 0 written written []
 Turns-start all written some = record {
   count = 0;
   text = [];
   sent = [];
   joined = record { done = []; text_is = refl; count_is = refl; wide = refl; parts = λ lane low. refl };
   at = mod-eq_of_lt some;
-  appended = Appends-nil written;
+  appended = Accepts-nil written;
   parts = refl;
 }
 
-module _ (all walks : List Texts) (turn : ℕ) (w0 w w' : Option (List ℕ)) (pending : List ℕ) (t : Turns all walks turn w0 w pending) where
+module _ (all walks : List Texts) (turn : ℕ) (w0 w w' : Writing) (pending : List ℕ) (t : Turns all walks turn w0 w pending) where
   -- one more answer is sent
   pub Turns-more : {E : Type 0} (turn' : ℕ) (pending' answer : List ℕ) (new : Texts) → turn < length all → get_or walks turn [] ≡ answer ∷ new
       → Sends {E = E} (pending ++ answer) w pending' w' (Ok tt) → ((turn + 1 < length all) × (turn' ≡ turn + 1)) ⊎ ((turn + 1 ≡ length all) × (turn' ≡ 0))
@@ -128,7 +128,7 @@ module _ (all walks : List Texts) (turn : ℕ) (w0 w w' : Option (List ℕ)) (pe
       | inl n ↦ elim next [ inl f ↦ omega (arith, n.1, f.1, t.at) | inr f ↦ absurd (omega (arith, n.0, f.0, t.at)) ]
       | inr n ↦ elim next [ inl f ↦ absurd (omega (arith, n.0, f.0, t.at)) | inr f ↦ n.1 ∙ sym f.1 ]
     ];
-    appended = Appends-trans w0 w w' t.sent s.sent t.appended s.appended;
+    appended = Accepts-trans w0 w w' t.sent s.sent t.appended s.appended;
     parts = ap (λ l. l ++ answer) t.parts ∙ append_assoc t.sent pending answer ∙ ap (λ l. t.sent ++ l) (s.parts ∙ ap (λ l. s.sent ++ l) (sym s.pending)) ∙ sym (append_assoc t.sent s.sent pending');
   }
 
@@ -150,7 +150,7 @@ module _ (all walks : List Texts) (turn : ℕ) (w0 w w' : Option (List ℕ)) (pe
       → Sends {E = E} (pending ++ answer) w pending' w' r → SendsTurns {E = F} all w0 pending'' w' r'
   Turns-fail pending' pending'' answer new r r' is low here s = record {
     sent = t.sent ++ s.sent;
-    appended = Appends-trans w0 w w' t.sent s.sent t.appended s.appended;
+    appended = Accepts-trans w0 w w' t.sent s.sent t.appended s.appended;
     whole = λ count for.
         let some : 0 < length all = omega arith in
         let more = join_more (length all) turn t.count all walks new t.text answer t.joined low t.at here in
@@ -163,13 +163,13 @@ module _ (all walks : List Texts) (turn : ℕ) (w0 w w' : Option (List ℕ)) (pe
   }
 
 -- the writer failed before the text behind the answers
-pub joins_fail : {E F : Type 0} (all : List Texts) (behind pending : List ℕ) (w w' : Option (List ℕ)) (r : Result (Unit {0}) E) (r' : Result (Unit {0}) F) → IsErr r' → SendsTurns {E = E} all w pending w' r → JoinsTo {E = F} all behind w w' r'
+pub joins_fail : {E F : Type 0} (all : List Texts) (behind pending : List ℕ) (w w' : Writing) (r : Result (Unit {0}) E) (r' : Result (Unit {0}) F) → IsErr r' → SendsTurns {E = E} all w pending w' r → JoinsTo {E = F} all behind w w' r'
 joins_fail all behind pending w w' r r' is turns count for =
     let h = turns.whole count for in
     (turns.sent ++ h.0, h.1, record { sent = turns.sent; rest = h.0 ++ behind; parts = append_assoc turns.sent h.0 behind; appended = turns.appended; pending = on_err _ r' is })
 
 -- the text behind the answers is sent, with what is pending of them
-pub joins_then : {E F : Type 0} (all : List Texts) (behind pending : List ℕ) (a b c : Option (List ℕ)) (r : Result (Unit {0}) F) → SendsTurns {E = E} all a pending b (Ok tt)
+pub joins_then : {E F : Type 0} (all : List Texts) (behind pending : List ℕ) (a b c : Writing) (r : Result (Unit {0}) F) → SendsTurns {E = E} all a pending b (Ok tt)
     → Sends {E = F} (pending ++ behind) b [] c r → JoinsTo {E = F} all behind a c r
 joins_then all behind pending a b c r turns sends count for =
     let h = turns.whole count for in
@@ -197,7 +197,7 @@ only_one (x ∷ []) d one = refl
 only_one (x ∷ y ∷ xs) d one = absurd (omega arith)
 
 -- the same, written with the text behind them
-pub joins_alone : {E : Type 0} (all : List Texts) (text behind : List ℕ) (a b : Option (List ℕ)) (r : Result (Unit {0}) E) → length all ≡ 1 → text ≡ concat (get_or all 0 [])
+pub joins_alone : {E : Type 0} (all : List Texts) (text behind : List ℕ) (a b : Writing) (r : Result (Unit {0}) E) → length all ≡ 1 → text ≡ concat (get_or all 0 [])
     → Sends {E = E} (text ++ behind) a [] b r → JoinsTo {E = E} all behind a b r
 joins_alone all text behind a b r one is sends count for = (
   text,
@@ -209,14 +209,14 @@ joins_alone all text behind a b r one is sends count for = (
 )
 
 -- the same outcome, whatever its fault is called
-pub joins_ok : {E F : Type 0} (all : List Texts) (behind : List ℕ) (a b : Option (List ℕ)) → JoinsTo {E = E} all behind a b (Ok tt) → JoinsTo {E = F} all behind a b (Ok tt)
+pub joins_ok : {E F : Type 0} (all : List Texts) (behind : List ℕ) (a b : Writing) → JoinsTo {E = E} all behind a b (Ok tt) → JoinsTo {E = F} all behind a b (Ok tt)
 joins_ok all behind a b joins count for = let h = joins count for in (h.0, h.1, Sends-ok (h.0 ++ behind) [] a b h.2)
 
-pub joins_fault : {E F : Type 0} (all : List Texts) (behind : List ℕ) (a b : Option (List ℕ)) (e : E) (f : F) → JoinsTo {E = E} all behind a b (Err e) → JoinsTo {E = F} all behind a b (Err f)
+pub joins_fault : {E F : Type 0} (all : List Texts) (behind : List ℕ) (a b : Writing) (e : E) (f : F) → JoinsTo {E = E} all behind a b (Err e) → JoinsTo {E = F} all behind a b (Err f)
 joins_fault all behind a b e f joins count for = let h = joins count for in (h.0, h.1, Sends-fault (h.0 ++ behind) [] [] a b (Err e) (Err f) refl h.2)
 
 -- the same where a fault is handed on
-pub joins_handed : {E F : Type 0} (all : List Texts) (behind : List ℕ) (a b : Option (List ℕ)) (e : E) (f : F) (r : Result (Unit {0}) F) → IsErrAnd r (λ g. g ≡ f)
+pub joins_handed : {E F : Type 0} (all : List Texts) (behind : List ℕ) (a b : Writing) (e : E) (f : F) (r : Result (Unit {0}) F) → IsErrAnd r (λ g. g ≡ f)
     → JoinsTo {E = E} all behind a b (Err e) → JoinsTo {E = F} all behind a b r
 joins_handed all behind a b e f (Ok u) given joins = absurd given
 joins_handed all behind a b e f (Err g) given joins = joins_fault all behind a b e g joins

@@ -2,8 +2,7 @@
 use Rattle.std.specs.Prelude.{◌≡◌, ◌==◌, ◌%◌, ℕ, List, [], ◌∷◌, if◌then◌else◌, ◌⊎◌, ◌<◌, ◌≤◌, ◌+◌, ◌-◌, false}
 use Rattle.std.specs.Prelude.{◌++◌, length, slice_index_or, Option, Some, Result, Ok, Err, not, filter, fold, map}
 use Rattle.std.specs.FinSet as set
-use Rattle.std.specs.Io.KnownBytes.{Appends, Consumes, Keeps}
-use Rattle.moc_devices.specs.Devices.{CallsMore}
+use Rattle.moc_devices.specs.Devices.{Reading, Delivers, IsEnded, Writing, Accepts, AcceptsNone, CallsMore}
 use Rattle.std.specs.List.{concat, enumerate_from}
 use Rattle.moc_lists.specs.RangeList.{NumberSet}
 use Rattle.moc_text.specs.Lines.{lines_of}
@@ -84,26 +83,26 @@ pub record IsSaidLine (number : ℕ) (lines : List (List ℕ)) : Type 0 where
 abbrev pub IsRefusedLine : ℕ → List (List ℕ) → Type 0
 IsRefusedLine number lines = (number ≡ 0) ⊎ IsSaidLine number lines ⊎ (number ≡ length lines + 1)
 
--- What a crew has written when it ends, of a whole input of which this is left: such a text; or a beginning of one
--- where the writer failed; or nothing. A line that is told is one of what was read: it is too long, or memory was
--- refused while it was read, or once all was read.
-abbrev pub CrewEnds :
-    ℕ → List ℕ → Option (List ℕ) → Option (List ℕ) → Option (List ℕ) → Result (Unit {0}) CrewError → Type 0
-CrewEnds lanes input left' written written' (Ok _) =
-    AreShort line_limit (lines_of input)
-    × ((text : List ℕ) × Appends written written' text × IsCrewText lanes (said_lines (lines_of input)) text)
-CrewEnds lanes input left' written written' (Err (Run Write)) =
-    (text : List ℕ) × Appends written written' text
-    × ((rest : List ℕ) × IsCrewText lanes (said_lines (lines_of input)) (text ++ rest))
-CrewEnds lanes input left' written written' (Err (Run (LineTooLong line))) =
-    Keeps written written'
-    × ((given : List ℕ) × Consumes (Some input) left' given × IsTooLong line_limit (lines_of given) line)
-CrewEnds lanes input left' written written' (Err (Run Read)) = Keeps written written'
-CrewEnds lanes input left' written written' (Err (Run (Memory line))) =
-    Keeps written written'
-    × ((given : List ℕ) × Consumes (Some input) left' given
-    × (IsBegunLine line given ⊎ ((given ≡ input) × IsRefusedLine line (lines_of given))))
-CrewEnds lanes input left' written written' (Err Spawn) = Keeps written written'
+-- What a crew that ends so made of the bytes that its source delivered. At the source's end its sink accepted such a
+-- text of them all; or a beginning of one where the writer failed; or nothing. A line that is told is one of what was
+-- delivered: it is too long, or memory was refused while it was read, or once all was read.
+abbrev pub CrewEnds : ℕ → Reading → Reading → Writing → Writing → Result (Unit {0}) CrewError → Type 0
+CrewEnds lanes reading reading' writing writing' (Ok _) =
+    (given : List ℕ) × Delivers reading reading' given × IsEnded reading' × AreShort line_limit (lines_of given)
+    × ((text : List ℕ) × Accepts writing writing' text × IsCrewText lanes (said_lines (lines_of given)) text)
+CrewEnds lanes reading reading' writing writing' (Err (Run Write)) =
+    (given : List ℕ) × Delivers reading reading' given × IsEnded reading'
+    × ((text : List ℕ) × Accepts writing writing' text
+    × ((rest : List ℕ) × IsCrewText lanes (said_lines (lines_of given)) (text ++ rest)))
+CrewEnds lanes reading reading' writing writing' (Err (Run (LineTooLong line))) =
+    AcceptsNone writing writing'
+    × ((given : List ℕ) × Delivers reading reading' given × IsTooLong line_limit (lines_of given) line)
+CrewEnds lanes reading reading' writing writing' (Err (Run Read)) = AcceptsNone writing writing'
+CrewEnds lanes reading reading' writing writing' (Err (Run (Memory line))) =
+    AcceptsNone writing writing'
+    × ((given : List ℕ) × Delivers reading reading' given
+    × (IsBegunLine line given ⊎ (IsEnded reading' × IsRefusedLine line (lines_of given))))
+CrewEnds lanes reading reading' writing writing' (Err Spawn) = AcceptsNone writing writing'
 
 -- how often a crew that ends so flushes: as a run does, and never where a thread was refused
 abbrev pub CrewFlushes : Result (Unit {0}) CrewError → Option ℕ → Option ℕ → Type 0

@@ -118,11 +118,11 @@ pub fn crew<R: Source, W: Sink, G: Gate + Sync, T: Threads + Wait + Sync>(
     requires writer { W.mark writer.old ≡ false }
 
     // What is written is a text that so many lanes may answer the input with, as far as the outcome says.
-    ensures ends { IfSome (R.left reader.old) (λ input.
-        CrewEnds (lane_count lanes) input (R.left reader.new) (W.written writer.old) (W.written writer.new) result) }
+    ensures ends { CrewEnds (lane_count lanes)
+        (R.reading reader.old) (R.reading reader.new) (W.writing writer.old) (W.writing writer.new) result }
 
     // Only the reader's end ends a crew without a fault, and then all is flushed, at once.
-    ensures end { EndsFlushed result (R.left reader.new) (W.flushed writer.old) (W.flushed writer.new) }
+    ensures end { EndsFlushed result (R.reading reader.new) (W.flushed writer.old) (W.flushed writer.new) }
     ensures flushes { CrewFlushes result (W.flushes writer.old) (W.flushes writer.new) }
 
     // The devices' faults are theirs, and a device that failed is told.
@@ -148,7 +148,7 @@ fn write_told<W: Sink>(
     requires some { 0 < length told.now.answers.items }
     requires writer { W.mark writer.old ≡ false }
     ensures ends { EndsTold input.now told.now.answers.items told.now.cover.items
-        (W.written writer.old) (W.written writer.new) result }
+        (W.writing writer.old) (W.writing writer.new) result }
     ensures flushed { OnOk result (IsTrue (W.flushed writer.new)) }
     ensures unflushed { OnErr result (IsTrue (W.flushed writer.new) → IsTrue (W.flushed writer.old)) }
     ensures flushes { CrewFlushes result (W.flushes writer.old) (W.flushes writer.new) }

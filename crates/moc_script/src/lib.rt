@@ -19,8 +19,8 @@ pub use laws::{
     scripts_without_order,
 };
 pub use moc_lines::{
-    DeviceFault, LINE_LIMIT, LineFault, NumberFault, Numbering, NumberingNameError, OverReader,
-    OverWriter, ReadError, Renumbering, RunError, Sink, Source, answer_text, read_batch, renumber,
-    run, write_all,
+    DeviceFault, LINE_LIMIT, LineFault, Log, NumberFault, Numbering, NumberingNameError,
+    OverReader, OverWriter, ReadError, Renumbering, RunError, Sink, Source, answer_text,
+    read_batch, renumber, run, write_all,
 };
 pub use schedule::play;

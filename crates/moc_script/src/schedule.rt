@@ -1,7 +1,7 @@
 //! Schedules of steps, played from a reader to a writer.
 ghost use Rattle.std.specs.Prelude.{◌≡◌, IfSome, false, OnOk};
 ghost use Rattle.std.specs.Io.KnownBytes.{Appends};
-ghost use Rattle.moc_lines.specs.Runs.{EndsFlushed, Flushes, Runs, TellsFailed, WritesBeginning, line_limit};
+ghost use Rattle.moc_lines.specs.Runs.{Crosses, EndsFlushed, Flushes, Runs, TellsFailed, WritesBeginning, line_limit};
 ghost use Rattle.moc_script.specs.Schedules.{schedule_rules, schedule_text, start_schedule};
 
 use crate::player::Player;
@@ -41,19 +41,25 @@ pub fn play<R: Source, W: Sink>(
     requires reader { R.mark reader.old ≡ false }
     requires writer { W.mark writer.old ≡ false }
 
-    // What is written is the defined answers to what was read, as far as the outcome says.
-    ensures plays { IfSome (R.left reader.old) (λ input.
+    // What the sink accepted is the defined answers to what the source delivered, as far as the outcome says, whatever
+    // the devices tell.
+    ensures crosses { Crosses line_limit schedule_rules start_schedule
+        (R.reading reader.old) (R.reading reader.new) (W.writing writer.old) (W.writing writer.new) result }
+
+    // So, over a source that tells what it has to give, what is written is the defined answers to what was read.
+    ensures plays { IfSome (R.reading reader.old).left (λ input.
         Runs line_limit schedule_rules start_schedule input
-        (R.left reader.new) (W.written writer.old) (W.written writer.new) result) }
+        (R.reading reader.new).left (W.writing writer.old).written (W.writing writer.new).written result) }
 
     // So it is a beginning of the answers to the whole input, and all of them where no fault comes.
-    ensures begins { IfSome (R.left reader.old) (λ input.
-        WritesBeginning line_limit schedule_rules start_schedule input (W.written writer.old) (W.written writer.new)) }
-    ensures answers { OnOk result (IfSome (R.left reader.old) (λ input.
-        Appends (W.written writer.old) (W.written writer.new) (schedule_text input))) }
+    ensures begins { IfSome (R.reading reader.old).left (λ input.
+        WritesBeginning line_limit schedule_rules start_schedule input
+        (W.writing writer.old).written (W.writing writer.new).written) }
+    ensures answers { OnOk result (IfSome (R.reading reader.old).left (λ input.
+        Appends (W.writing writer.old).written (W.writing writer.new).written (schedule_text input))) }
 
     // Only the reader's end ends it without a fault, and then all is flushed, at once.
-    ensures end { EndsFlushed result (R.left reader.new) (W.flushed writer.old) (W.flushed writer.new) }
+    ensures end { EndsFlushed result (R.reading reader.new) (W.flushed writer.old) (W.flushed writer.new) }
     ensures flushes { Flushes result (W.flushes writer.old) (W.flushes writer.new) }
 
     // The devices' faults are theirs, and a device that failed is told.

@@ -15,9 +15,9 @@ struct Broken {
 }
 
 impl Source for Broken {
-    ghost use Rattle.std.specs.Prelude.{None};
+    ghost use Rattle.std.specs.Prelude.{None, [], false};
 
-    ghost left = { λ _. None };
+    ghost reading = { λ _. record { delivered = []; ended = false; left = None } };
 
     ghost mark = { λ s. s.is_marked };
 

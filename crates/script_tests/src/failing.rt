@@ -1,7 +1,7 @@
 //! Devices that move one byte a call, and fail.
 ghost use Rattle.std.specs.Prelude.{◌≡◌, false, Some};
 
-use moc_script::{DeviceFault, Sink, Source};
+use moc_script::{DeviceFault, Log, Sink, Source};
 use std::alloc::Global;
 use std::io::{self, ErrorKind, Read, Write};
 
@@ -77,6 +77,8 @@ pub struct FailingSource<'a> {
     bytes: &'a [u8],
     failures: Failures,
     is_marked: bool,
+    is_ended: bool,
+    log: Log,
 }
 
 impl<'a> FailingSource<'a> {
@@ -88,16 +90,19 @@ impl<'a> FailingSource<'a> {
             bytes,
             failures: devices.reader,
             is_marked: false,
+            is_ended: false,
+            log: Log::new(),
         }
     }
 }
 
 impl Source for FailingSource<'_> {
-    ghost left = { λ s. Some s.bytes.now };
+    ghost reading = { λ s. record { delivered = s.log.bytes; ended = s.is_ended; left = Some s.bytes.now } };
 
     ghost mark = { λ s. s.is_marked };
 
     fn read(&mut self, buffer: &mut [u8]) -> Result<usize, DeviceFault> {
+        self.is_ended = false;
         if self.failures.next() {
             self.is_marked = true;
             return Err(DeviceFault);
@@ -106,10 +111,14 @@ impl Source for FailingSource<'_> {
             return Ok(0);
         }
         match self.bytes.split_first() {
-            None => Ok(0),
+            None => {
+                self.is_ended = true;
+                Ok(0)
+            }
             Some((first, others)) => {
                 buffer[0] = *first;
                 self.bytes = others;
+                self.log.note(&buffer[..1]);
                 Ok(1)
             }
         }
@@ -148,7 +157,7 @@ impl FailingSink {
 }
 
 impl Sink for FailingSink {
-    ghost written = { λ s. Some s.taken.items };
+    ghost writing = { λ s. record { accepted = s.taken.items; written = Some s.taken.items } };
 
     ghost mark = { λ s. s.is_marked };
 

@@ -1,18 +1,18 @@
 -- How an input is read, piece by piece, and parted.
 use Rattle.std.specs.Prelude.{◌≡◌, ◌<◌, ℕ, Bool, true, false, List, ◌∷◌, ◌++◌, length, Option, None, Some}
 use Rattle.std.specs.Borrow.{Bor}
-use Rattle.std.specs.Io.KnownBytes.{Consumes, IsAtEnd}
+use Rattle.moc_devices.specs.Devices.{Reading, Delivers, IsEnded}
 use Rattle.std.specs.List.{All}
 use Rattle.moc_text.specs.Lines.{is_semicolon}
 
 -- a piece came from a reader behind a text, where there was one; there is none only at the end
-pub record BringsPiece (left : Option (List ℕ)) (old : List ℕ) (left' : Option (List ℕ)) (new : List ℕ) (some : Bool)
+pub record BringsPiece (left : Reading) (old : List ℕ) (left' : Reading) (new : List ℕ) (some : Bool)
     : Type 0 where
   pub came : List ℕ
-  pub consumed : Consumes left left' came
+  pub consumed : Delivers left left' came
   pub text : new ≡ old ++ came
   pub more : some ≡ true → length old < length new
-  pub none : some ≡ false → (new ≡ old) × IsAtEnd left'
+  pub none : some ≡ false → (new ≡ old) × IsEnded left'
 
 -- no byte is a semicolon
 abbrev pub LacksSemicolons : List ℕ → Type 0

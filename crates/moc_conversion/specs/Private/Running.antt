@@ -1,6 +1,6 @@
 -- How texts of an input are taken piece by piece.
 use Rattle.std.specs.Prelude.{◌≡◌, ◌⊎◌, ℕ, ◌+◌, ◌<◌, ◌≤◌, List, [], ◌∷◌, ◌++◌, length, Option, None, Some}
-use Rattle.std.specs.Io.KnownBytes.{Consumes}
+use Rattle.moc_devices.specs.Devices.{Reading, Delivers}
 use Rattle.std.specs.List.{AllByRecursion}
 use Rattle.moc_forms.specs.Combining.{CombinesTexts, TextSays, joined, texts_of, without_blank_end}
 use Rattle.moc_forms.specs.declared.combining.Said.{Said}
@@ -79,8 +79,8 @@ pub record Leads (c : Combination) (bytes : List ℕ) (d : Combination) : Type 0
   pub longer : (rest : List ℕ) → IsLong d rest → IsLong c (bytes ++ rest)
 
 -- the bytes that were left and are no more, and what a combination has become that took them
-abbrev pub RunsTo : Option (List ℕ) → Option (List ℕ) → Combination → Combination → Type 0
-RunsTo left left' c d = (taken : List ℕ) × (Consumes left left' taken × Leads c taken d)
+abbrev pub RunsTo : Reading → Reading → Combination → Combination → Type 0
+RunsTo left left' c d = (taken : List ℕ) × (Delivers left left' taken × Leads c taken d)
 
 -- the byte that ends a text
 abbrev pub semicolon : List ℕ

@@ -1,6 +1,6 @@
 -- What stands when the last line is answered or a fault has come, before what is pending is written.
-use Rattle.std.specs.Prelude.{◌≡◌, ℕ, ◌⊎◌, List, ◌++◌, Option, Some, Result, Ok, Err}
-use Rattle.std.specs.Io.KnownBytes.{Appends, Consumes, IsAtEnd}
+use Rattle.std.specs.Prelude.{◌≡◌, ℕ, ◌⊎◌, List, [], ◌++◌, Result, Ok, Err}
+use Rattle.moc_devices.specs.Devices.{Reading, Delivers, IsEnded, Writing, Accepts}
 use Rattle.moc_text.specs.Lines.{lines_of}
 use Rattle.moc_lines.specs.Runs.{Rules, answers_to, closing_behind, AreShort, IsTooLong, whole_lines_of, lines_before}
 use Rattle.moc_lines.specs.Runs.{IsBegunLine, IsUnclosed}
@@ -10,14 +10,14 @@ use Rattle.moc_lines.specs.declared.run_error.RunError.TheVariants.{Read, Write,
 module _ {S : Type 0} (limit : ℕ) (rules : Rules S) (s : S) where
   -- Where the lines stand that were answered before a run's end:
   -- on what is written so far they follow from the front of what was given.
-  abbrev pub EndsAt : List (List ℕ) → List ℕ → Option (List ℕ) → Result (Unit {0}) RunError → Type 0
-  EndsAt lines given left (Ok _) = IsAtEnd left × (lines ≡ lines_of given)
+  abbrev pub EndsAt : List (List ℕ) → List ℕ → Reading → Result (Unit {0}) RunError → Type 0
+  EndsAt lines given left (Ok _) = IsEnded left × (lines ≡ lines_of given)
   EndsAt lines given left (Err Write) = Unit {0}
   EndsAt lines given left (Err Read) = lines ≡ whole_lines_of given
   EndsAt lines given left (Err (LineTooLong number)) =
       IsTooLong limit (lines_of given) number × (lines ≡ lines_before number given)
   EndsAt lines given left (Err (Memory number)) =
-      (IsBegunLine number given ⊎ (IsAtEnd left × IsUnclosed number given (closing_behind rules s (lines_of given))))
+      (IsBegunLine number given ⊎ (IsEnded left × IsUnclosed number given (closing_behind rules s (lines_of given))))
       × (lines ≡ lines_before number given)
 
 -- what is said when a run ends so: the answers to the lines, and behind them the closing text where all are answered
@@ -32,15 +32,15 @@ IsSent text sent pending _ = text ≡ sent ++ pending
 
 module _ {S : Type 0} (limit : ℕ) (rules : Rules S) (s : S) where
   -- what stands when the last line is answered or a fault has come
-  pub record Ended (left left' written written' : Option (List ℕ)) (pending : List ℕ)
+  pub record Ended (left left' : Reading) (written written' : Writing) (pending : List ℕ)
       (result : Result (Unit {0}) RunError) : Type 0 where
     pub lines : List (List ℕ)
     pub given : List ℕ
     pub sent : List ℕ
-    pub consumed : Consumes left left' given
-    pub appended : Appends written written' sent
+    pub consumed : Delivers left left' given
+    pub appended : Accepts written written' sent
     pub within : AreShort limit lines
-    pub front : (more : List ℕ) → left' ≡ Some more
+    pub front : (more : List ℕ) → (IsEnded left' → more ≡ [])
         → (rest : List (List ℕ)) × (lines_of (given ++ more) ≡ lines ++ rest)
     pub ends : EndsAt limit rules s lines given left' result
     pub text : IsSent (text_at rules s lines result) sent pending result

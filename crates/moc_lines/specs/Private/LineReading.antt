@@ -1,8 +1,8 @@
 -- What a line reader takes from its reader.
-use Rattle.std.specs.Prelude.{◌≡◌, ℕ, Bool, nat_lt, ◌+◌, ◌<◌, ◌≤◌, List, [], ◌∷◌, ◌++◌, length, Option, Result, Ok, Err}
+use Rattle.std.specs.Prelude.{◌≡◌, ℕ, Bool, nat_lt, ◌+◌, ◌<◌, ◌≤◌, List, [], ◌∷◌, ◌++◌, length, Result, Ok, Err}
 use Rattle.std.specs.List.{position_or_len}
 use Rattle.moc_text.specs.Lines.{is_line_feed}
-use Rattle.std.specs.Io.KnownBytes.{Consumes, IsAtEnd}
+use Rattle.moc_devices.specs.Devices.{Reading, Delivers, IsEnded}
 use Rattle.moc_lines.specs.Private.Held.{Held, IsUnbroken}
 use Rattle.moc_lines.specs.declared.line_reader.Found.{Found}
 use Rattle.moc_lines.specs.declared.line_reader.Found.TheVariants.{Line, LastLine, Nothing}
@@ -10,22 +10,22 @@ use Rattle.moc_lines.specs.declared.reading.InputError.{InputError}
 use Rattle.moc_lines.specs.declared.reading.InputError.TheVariants.{Read, TooLong, Memory}
 
 -- the bytes that were at hand or came in this call, `bytes`, are what a line's end leaves of them, or show the fault
-abbrev pub Parts : ℕ → List ℕ → Held → Option (List ℕ) → Result Found InputError → Type 0
+abbrev pub Parts : ℕ → List ℕ → Held → Reading → Result Found InputError → Type 0
 Parts limit bytes held left (Ok Line) =
     (bytes ≡ held.line ++ 10 ∷ held.unread) × IsUnbroken held.line × (length held.line ≤ limit)
 Parts limit bytes held left (Ok LastLine) =
     (bytes ≡ held.line) × IsUnbroken held.line × (length held.line ≤ limit) × (0 < length held.line)
-    × (held.unread ≡ []) × IsAtEnd left
-Parts limit bytes held left (Ok Nothing) = (bytes ≡ []) × (held.unread ≡ []) × IsAtEnd left
+    × (held.unread ≡ []) × IsEnded left
+Parts limit bytes held left (Ok Nothing) = (bytes ≡ []) × (held.unread ≡ []) × IsEnded left
 Parts limit bytes held left (Err Read) = IsUnbroken bytes
 Parts limit bytes held left (Err (TooLong number)) =
     (line rest : List ℕ) × (bytes ≡ line ++ rest) × IsUnbroken line × (limit < length line)
 Parts limit bytes held left (Err (Memory number)) = 0 < length bytes
 
 -- a call that looks for a line's end takes some bytes from the reader, and parts these and those at hand
-abbrev pub TakesLine : ℕ → Held → Option (List ℕ) → Held → Option (List ℕ) → Result Found InputError → Type 0
+abbrev pub TakesLine : ℕ → Held → Reading → Held → Reading → Result Found InputError → Type 0
 TakesLine limit old left new left' result =
-    (came : List ℕ) × Consumes left left' came × Parts limit (old.unread ++ came) new left' result
+    (came : List ℕ) × Delivers left left' came × Parts limit (old.unread ++ came) new left' result
 
 -- whether a whole line is at hand
 abbrev pub holds_line : List ℕ → Bool
@@ -45,8 +45,8 @@ FailsPart number limit held (TooLong line) =
 FailsPart number limit held (Memory line) = line ≡ number
 
 -- bytes came from the reader, behind those at hand
-pub record Brings (old : Held) (left : Option (List ℕ)) (new : Held) (left' : Option (List ℕ)) : Type 0 where
+pub record Brings (old : Held) (left : Reading) (new : Held) (left' : Reading) : Type 0 where
   pub came : List ℕ
-  pub consumed : Consumes left left' came
+  pub consumed : Delivers left left' came
   pub unread : new.unread ≡ old.unread ++ came
   pub line : new.line ≡ old.line

@@ -1,6 +1,6 @@
 -- What was found among the words.
-use Rattle.std.specs.Prelude.{◌≡◌, ◌⊎◌, ℕ, List, Option, Some, Result, Ok, Err}
-use Rattle.std.specs.Io.KnownBytes.{Keeps}
+use Rattle.std.specs.Prelude.{◌≡◌, ◌⊎◌, ℕ, List, Some, Result, Ok, Err}
+use Rattle.moc_devices.specs.Devices.{Reading, Writing, AcceptsNone}
 use Rattle.clap.specs.Words.{App, Row, Text, found_of, rows_of, subcommand_of, subcommand_rows_of}
 use Rattle.clap.specs.declared.parser.matches.ArgMatches.{ArgMatches}
 use Rattle.moc_command_line.specs.CommandLine.{IsCommandLine}
@@ -26,10 +26,10 @@ pub record AreReadAs (words : List Text) (matches : ArgMatches) : Type 0 where
   pub are : subcommand_rows_of matches ≡ subcommand_of app words
 
 -- what the word that was found asks for ends so; or memory was refused before anything was written
-abbrev pub MatchedEnd : ArgMatches → Option (List ℕ) → Option (List ℕ) → Option (List ℕ) → Option (List ℕ)
+abbrev pub MatchedEnd : ArgMatches → Reading → Reading → Writing → Writing
     → Result (Unit {0}) ProgramFault → Type 0
 MatchedEnd matches left left' w w' (Ok _) =
     (action : Action) × IsAskedIn matches action × ActionEnds action left left' w w' (Ok tt)
 MatchedEnd matches left left' w w' (Err fault) =
-    ((fault ≡ Memory) × Keeps w w')
+    ((fault ≡ Memory) × AcceptsNone w w')
     ⊎ ((action : Action) × IsAskedIn matches action × ActionEnds action left left' w w' (Err fault))

@@ -1,9 +1,8 @@
 -- The answers of the lanes in the order of the lines.
 use Rattle.std.specs.Prelude.{◌≡◌, ◌<◌, ◌++◌, ℕ, List, [], length, slice_index_or, Option, Result, OnOk, IfSome}
-use Rattle.std.specs.Io.KnownBytes.{Appends}
+use Rattle.moc_devices.specs.Devices.{Reading, Writing, Accepts, Sends}
 use Rattle.std.specs.List.{concat}
 use Rattle.moc_script.specs.Crews.{in_lane, dealt, CrewEnds, IsCrewText, said_lines}
-use Rattle.moc_devices.specs.Devices.{Sends}
 use Rattle.moc_text.specs.Lines.{lines_of}
 use Rattle.moc_lines.specs.Runs.{ReadsAll}
 use Rattle.moc_script.specs.declared.crew_error.CrewError.{CrewError}
@@ -29,15 +28,15 @@ pub record AreJoined (all : List (List (List ℕ))) (count : ℕ) (text : List �
   pub joined : IsJoined (length all) all left count text
 
 -- the answers in turn are written but for what is pending, or a beginning of them where the writer failed
-pub record SendsTurns {E : Type 0} (all : List (List (List ℕ))) (written : Option (List ℕ)) (pending : List ℕ)
-    (written' : Option (List ℕ)) (result : Result (Unit {0}) E) : Type 0 where
+pub record SendsTurns {E : Type 0} (all : List (List (List ℕ))) (written : Writing) (pending : List ℕ)
+    (written' : Writing) (result : Result (Unit {0}) E) : Type 0 where
   pub sent : List ℕ
-  pub appended : Appends written written' sent
+  pub appended : Accepts written written' sent
   pub whole : (count : ℕ) → AreForLines (length all) all count
       → (rest : List ℕ) × AreJoined all count (sent ++ rest) × OnOk result (rest ≡ pending)
 
 -- the answers in turn and the text behind them are written, or a beginning of both where the writer failed
-abbrev pub JoinsTo : {E : Type 0} → List (List (List ℕ)) → List ℕ → Option (List ℕ) → Option (List ℕ)
+abbrev pub JoinsTo : {E : Type 0} → List (List (List ℕ)) → List ℕ → Writing → Writing
     → Result (Unit {0}) E → Type 0
 JoinsTo all behind written written' result =
     (count : ℕ) → AreForLines (length all) all count
@@ -50,9 +49,9 @@ pub record AreTold (lanes : ℕ) (said : List (List ℕ)) (answers : List (List 
   pub text : (front : List ℕ) → AreJoined answers (length said) front → IsCrewText lanes said (front ++ behind)
 
 -- What so many lanes answered an input that was read whole is written, as far as the outcome says, as a crew ends.
-abbrev pub EndsTold : List ℕ → List (List (List ℕ)) → List ℕ → Option (List ℕ) → Option (List ℕ)
+abbrev pub EndsTold : List ℕ → List (List (List ℕ)) → List ℕ → Writing → Writing
     → Result (Unit {0}) CrewError → Type 0
 EndsTold input answers cover written written' result =
-    (lanes : ℕ) (left left' : Option (List ℕ))
+    (lanes : ℕ) (left left' : Reading)
     → AreTold lanes (said_lines (lines_of input)) answers cover → ReadsAll left left' input
-    → IfSome left (λ whole. CrewEnds lanes whole left' written written' result)
+    → CrewEnds lanes left left' written written' result

@@ -1,7 +1,7 @@
 //! The answers in the order of the lines.
 ghost use Rattle.std.specs.Prelude.{◌≡◌, ◌≢◌, ◌<◌, ◌≤◌, ◌+◌, ◌++◌, ◌↔◌, [], Err, false, is_err, length, IfOk, IsErrOf};
 ghost use Rattle.std.specs.Prelude.{IsTrue, vec_len, vec_capacity};
-ghost use Rattle.std.specs.Io.KnownBytes.{Keeps};
+ghost use Rattle.moc_devices.specs.Devices.{AcceptsNone};
 ghost use Rattle.moc_devices.specs.Devices.{FlushesNothing, OnlyWrites, Sends};
 ghost use Rattle.moc_script.specs.Private.Joining.{JoinsTo, SendsTurns};
 ghost use Rattle.moc_script.specs.declared.crews.joining.JoinError.TheVariants as join;
@@ -66,7 +66,7 @@ impl<'a> Joiner<'a> {
     fn write<W: Sink>(mut self, behind: &[u8], writer: &mut W) -> Result<(), DeviceFault>
         requires some { 0 < length self.walks.items }
         requires none { self.pending.items ≡ [] }
-        ensures sends { JoinsTo self.entry.walks.items behind.now (W.written writer.old) (W.written writer.new) result }
+        ensures sends { JoinsTo self.entry.walks.items behind.now (W.writing writer.old) (W.writing writer.new) result }
         ensures writes { OnlyWrites W.mark W.flushed W.flushes writer.old writer.new (is_err result) }
     {
         self.write_turns(writer)?;
@@ -78,8 +78,8 @@ impl<'a> Joiner<'a> {
     fn write_turns<W: Sink>(&mut self, writer: &mut W) -> Result<(), DeviceFault>
         requires some { 0 < length self.old.walks.items }
         requires none { self.old.pending.items ≡ [] }
-        ensures sends { SendsTurns self.old.walks.items (W.written writer.old)
-            self.new.pending.items (W.written writer.new) result }
+        ensures sends { SendsTurns self.old.walks.items (W.writing writer.old)
+            self.new.pending.items (W.writing writer.new) result }
         ensures writes { OnlyWrites W.mark W.flushed W.flushes writer.old writer.new (is_err result) }
     {
         let mut turn = 0;
@@ -97,8 +97,8 @@ impl<'a> Joiner<'a> {
 /// Puts a text behind what is pending. Where there is no room for it, what is pending is written first, and a text that
 /// is longer than all room at once.
 fn send<W: Sink>(text: &[u8], pending: &mut Vec<u8>, writer: &mut W) -> Result<(), DeviceFault>
-    ensures sends { Sends (pending.old.items ++ text.now) (W.written writer.old)
-        pending.new.items (W.written writer.new) result }
+    ensures sends { Sends (pending.old.items ++ text.now) (W.writing writer.old)
+        pending.new.items (W.writing writer.new) result }
     ensures writes { OnlyWrites W.mark W.flushed W.flushes writer.old writer.new (is_err result) }
 {
     if text.len() <= pending.capacity() - pending.len() {
@@ -136,8 +136,8 @@ pub(crate) fn write_joined<W: Sink>(
     requires some { 0 < length answers.now }
     requires writer { W.mark writer.old ≡ false }
     ensures sends { result ≢ Err JoinError.Memory
-        → JoinsTo answers.now behind.now (W.written writer.old) (W.written writer.new) result }
-    ensures kept { result ≡ Err JoinError.Memory → Keeps (W.written writer.old) (W.written writer.new) }
+        → JoinsTo answers.now behind.now (W.writing writer.old) (W.writing writer.new) result }
+    ensures kept { result ≡ Err JoinError.Memory → AcceptsNone (W.writing writer.old) (W.writing writer.new) }
     ensures write { IsErrOf result JoinError.Write ↔ IsTrue (W.mark writer.new) }
     ensures unflushed { FlushesNothing W.flushed W.flushes writer.old writer.new }
 {
@@ -150,7 +150,7 @@ pub(crate) fn write_joined<W: Sink>(
 
 /// Writes a text and one behind it.
 fn write_both<W: Sink>(text: &[u8], behind: &[u8], writer: &mut W) -> Result<(), DeviceFault>
-    ensures sends { Sends (text.now ++ behind.now) (W.written writer.old) [] (W.written writer.new) result }
+    ensures sends { Sends (text.now ++ behind.now) (W.writing writer.old) [] (W.writing writer.new) result }
     ensures writes { OnlyWrites W.mark W.flushed W.flushes writer.old writer.new (is_err result) }
 {
     write_all(text, writer)?;

@@ -7,5 +7,5 @@ invariant-loop-piece g l = record {
   unmarked : g.R.Source.mark l.input ≡ false;
   room : 0 < length l.room.items;
   opened : IsOpen l.texts;
-  taken : (runs : RunsTo (g.R.Source.left l.fn.input) (g.R.Source.left l.input) l.initial.texts l.texts) × (l._piece ≤ length runs.0);
+  taken : (runs : RunsTo (g.R.Source.reading l.fn.input) (g.R.Source.reading l.input) l.initial.texts l.texts) × (l._piece ≤ length runs.0);
 }

@@ -1,5 +1,5 @@
 use Rattle.std.proofs.Common.{◌≡◌, false, ◌+◌, ◌-◌, ◌<◌, length}
-use Rattle.std.specs.Io.KnownBytes.{Consumes}
+use Rattle.moc_devices.specs.Devices.{Delivers}
 use Rattle.moc_conversion.specs.Conversion.{input_limit}
 use Rattle.moc_conversion.proofs.reading.read_whole.Given as goal
 
@@ -7,7 +7,7 @@ abbrev pub invariant-loop-input : goal.invariant-loop-input
 invariant-loop-input g l = record {
   unmarked : g.R.Source.mark l.input ≡ false;
   room : 0 < length l.room.items;
-  consumed : Consumes (g.R.Source.left l.fn.input) (g.R.Source.left l.input) l.text.items;
+  consumed : Delivers (g.R.Source.reading l.fn.input) (g.R.Source.reading l.input) l.text.items;
 }
 
 abbrev pub decreases-loop-input : goal.decreases-loop-input

@@ -1,8 +1,8 @@
 -- Each read brings more, until there is none.
-use Rattle.std.proofs.Common.{◌≡◌, ◌∙◌, ◌≤◌, ◌||◌, Bool, true, false, ℕ, List, ◌++◌, length, take, drop, Ok, Err, refl, sym, ap, subst, arith, length-take, length-append, length-drop}
+use Rattle.std.proofs.Common.{◌≡◌, ◌∙◌, ◌≤◌, ◌||◌, Bool, true, false, ℕ, List, ◌++◌, length, take, drop, Ok, Err, refl, sym, ap, subst, arith, length-take, length-append, length-drop, append-nil}
 use Rattle.std.specs.Result.{IsErrOf}
-use Rattle.std.specs.Io.KnownBytes.{Consumes}
-use Rattle.std.proofs.KnownBytes.{Consumes-kept, Consumes-nil}
+use Rattle.moc_devices.specs.Devices.{Delivers}
+use Rattle.moc_devices.specs.Lemmas.{Delivers-nil}
 use Rattle.std.proofs.lemmas.List.{take-append-le, take-take}
 use Rattle.std.proofs.lemmas.Bool.{false≢true}
 use Rattle.moc_lines.specs.declared.reading.InputError.{InputError}
@@ -31,7 +31,7 @@ front len count buffer items few within =
 pub loop-script-init : goal.loop-script-init
 loop-script-init g c = record {
   held = held_new c.new-script.result.bytes.items c.new-script.result.start c.new-script.ensures.0 c.new-script.ensures.1;
-  given = subst (Consumes (g.R.Source.left c.args.reader.now) (g.R.Source.left c.args.reader.now)) (sym c.new-script.ensures.0) (Consumes-nil (g.R.Source.left c.args.reader.now));
+  given = subst (Delivers (g.R.Source.reading c.args.reader.now) (g.R.Source.reading c.args.reader.now)) (sym c.new-script.ensures.0) (Delivers-nil (g.R.Source.reading c.args.reader.now));
   reader = c.requires.reader;
   long = omega (arith, c.in-Ok.ensures.len, c.in-Ok.chunk.ok);
 }
@@ -53,7 +53,7 @@ returns-in-Ok-eq0 g c =
 pub returns-in-Err : goal.returns-in-Err
 returns-in-Err g c = record {
   all = tt;
-  fails = (c.loop-script.script.bytes.items, Consumes-kept _ _ _ _ c.loop-script.invariant.given c.in-Err.ensures.bytes, tt);
+  fails = (c.loop-script.script.bytes.items, given_more _ _ _ _ _ _ c.loop-script.invariant.given c.in-Err.ensures.bytes (sym (append-nil _)), tt);
   read = (λ _. failed _ _ c.in-Err.ensures.marks, λ _. refl);
 }
 

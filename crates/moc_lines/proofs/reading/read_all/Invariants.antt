@@ -1,13 +1,13 @@
 -- What was given is held.
 use Rattle.std.proofs.Common.{◌≡◌, ◌-◌, ◌^◌, false, length}
-use Rattle.std.specs.Io.KnownBytes.{Consumes}
+use Rattle.moc_devices.specs.Devices.{Delivers}
 use Rattle.moc_lines.specs.Private.Input.{IsHeld}
 use Rattle.moc_lines.proofs.reading.read_all.Given as goal
 
 abbrev pub invariant-loop-script : goal.invariant-loop-script
 invariant-loop-script g l = record {
   held : IsHeld l.script.bytes.items l.script.start;
-  given : Consumes (g.R.Source.left l.fn.reader) (g.R.Source.left l.reader) l.script.bytes.items;
+  given : Delivers (g.R.Source.reading l.fn.reader) (g.R.Source.reading l.reader) l.script.bytes.items;
   reader : g.R.Source.mark l.reader ≡ false;
   long : length l.chunk.items ≡ 65536;
 }

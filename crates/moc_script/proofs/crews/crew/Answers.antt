@@ -11,6 +11,6 @@ returns-clause-ends g c =
     let told = c.in-Ok.told in
     let says : AreTold c.args.lanes.number (said_lines (lines_of input)) told.answers.items told.cover.items =
     subst (λ (l : List ℕ). AreTold c.args.lanes.number (said_lines (lines_of l)) told.answers.items told.cover.items) c.deref.ensures.value c.in-Ok.ensures.told in
-    let ends : EndsTold input told.answers.items told.cover.items (g.W.Sink.written c.args.writer.now) (g.W.Sink.written c.write_told.new.writer) c.write_told.result =
-    subst (λ (l : List ℕ). EndsTold l told.answers.items told.cover.items (g.W.Sink.written c.args.writer.now) (g.W.Sink.written c.write_told.new.writer) c.write_told.result) c.deref-2.ensures.value c.write_told.ensures.ends in
-    ends c.args.lanes.number (g.R.Source.left c.args.reader.now) (g.R.Source.left c.read_all.new.reader) says c.in_ok-input.ensures.all
+    let ends : EndsTold input told.answers.items told.cover.items (g.W.Sink.writing c.args.writer.now) (g.W.Sink.writing c.write_told.new.writer) c.write_told.result =
+    subst (λ (l : List ℕ). EndsTold l told.answers.items told.cover.items (g.W.Sink.writing c.args.writer.now) (g.W.Sink.writing c.write_told.new.writer) c.write_told.result) c.deref-2.ensures.value c.write_told.ensures.ends in
+    ends c.args.lanes.number (g.R.Source.reading c.args.reader.now) (g.R.Source.reading c.read_all.new.reader) says c.in_ok-input.ensures.all

@@ -1,5 +1,5 @@
 -- A part of a line was found, the line was ended, or it is too long.
-use Rattle.std.proofs.Common.{◌≡◌, ℕ, zero, suc, ◌<◌, ◌≤◌, ◌||◌, Bool, true, false, eqb, List, [], ◌∷◌, Option, length, sym, ap, ◌∙◌, Err, refl, arith, length-append}
+use Rattle.std.proofs.Common.{◌≡◌, ℕ, zero, suc, ◌<◌, ◌≤◌, ◌||◌, Bool, true, false, eqb, List, [], ◌∷◌, length, sym, ap, ◌∙◌, Err, refl, arith, length-append}
 use Rattle.std.proofs.lemmas.Bool.{ltb-true, ltb-false, eqb-true}
 use Rattle.moc_lines.specs.declared.reading.InputError.{InputError}
 use Rattle.moc_lines.specs.declared.reading.InputError.TheVariants.{Read, TooLong, Memory}
@@ -7,10 +7,11 @@ use Rattle.moc_lines.specs.Private.LineReading.{FailsPart, IsOfLine, TakesLine}
 use Rattle.std.specs.List.{count_by}
 use Rattle.moc_text.specs.Lines.{is_line_feed}
 use Rattle.moc_lines.specs.Private.Held.{Held}
+use Rattle.moc_devices.specs.Devices.{Reading}
 use Rattle.moc_lines.proofs.Turns.{Turn, Turn-brought, Turn-line, Turn-more, Turn-none, Turn-too_long}
 use Rattle.moc_lines.proofs.line_reader.LineReader.next_line.Goals as goal
 
-faulty : (limit : ℕ) (old now next : Held) (a b : Option (List ℕ)) → Turn limit old a now b → (number : ℕ) (fault : InputError)
+faulty : (limit : ℕ) (old now next : Held) (a b : Reading) → Turn limit old a now b → (number : ℕ) (fault : InputError)
     → FailsPart number limit now fault → 0 < length now.unread → TakesLine limit old a next b (Err fault)
 faulty limit old now next a b turn number Read fails some = absurd fails
 faulty limit old now next a b turn number (TooLong line) fails some = Turn-too_long limit old now next a b turn line fails.1

@@ -1,7 +1,6 @@
 -- Each turn of the loop, and each way out of it.
 use Rattle.std.proofs.Common.{◌≡◌, ◌∙◌, sym, refl, arith}
-use Rattle.std.proofs.KnownBytes.{Consumes-nil}
-use Rattle.moc_devices.specs.Lemmas.{FlushesNothing-none, FlushesNothing-later}
+use Rattle.moc_devices.specs.Lemmas.{Delivers-nil, FlushesNothing-none, FlushesNothing-later}
 use Rattle.moc_lines.proofs.Outcomes.{unmarked}
 use Rattle.moc_lines.proofs.Progress.{at_found, Progress-start, Progress-sent, Progress-line, ReachedEnd-nothing, ReachedEnd-last, Ended-fault, Ended-refused, Ended-uncounted, Ended-closed, Ended-write}
 use Rattle.moc_lines.proofs.runner.Runner.answer_lines.Goals as goal
@@ -62,4 +61,4 @@ loop-line-preserved g c =
 pub returns-clause-ended : goal.returns-clause-ended
 returns-clause-ended g c =
     let all : c.loop-line.line ≡ 18446744073709551615 = omega arith in
-    rw (← all) (Ended-uncounted _ _ _ _ _ _ _ _ _ c.loop-line.self.lines c.loop-line.self.lines _ _ c.loop-line.invariant.progress all (Consumes-nil _))
+    rw (← all) (Ended-uncounted _ _ _ _ _ _ _ _ _ c.loop-line.self.lines c.loop-line.self.lines _ _ c.loop-line.invariant.progress all (Delivers-nil _))

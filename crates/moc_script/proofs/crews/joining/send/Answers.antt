@@ -1,7 +1,7 @@
 -- What was pending is written before the text.
 use Rattle.std.proofs.Common.{List, ℕ, [], ◌++◌, refl, sym, ap, ◌∙◌, subst}
-use Rattle.std.specs.Io.KnownBytes.{Appends}
-use Rattle.std.proofs.KnownBytes.{Appends-nil}
+use Rattle.moc_devices.specs.Devices.{Accepts}
+use Rattle.moc_devices.specs.Lemmas.{Accepts-nil}
 use Rattle.moc_devices.specs.Devices.{Sends}
 use Rattle.moc_devices.specs.Lemmas.{OnlyWrites-none, OnlyWrites-later}
 use Rattle.moc_script.proofs.Sending.{Sends-front, Sends-fails}
@@ -9,7 +9,7 @@ use Rattle.moc_script.proofs.crews.joining.send.Goals as goal
 
 pub returns-then-text-capacity : goal.returns-then-text-capacity
 returns-then-text-capacity g c = record {
-  sends = record { sent = []; rest = c.args.pending.now.items ++ c.args.text.now; parts = refl; appended = Appends-nil (g.W.Sink.written c.args.writer.now); pending = c.put.ensures };
+  sends = record { sent = []; rest = c.args.pending.now.items ++ c.args.text.now; parts = refl; appended = Accepts-nil (g.W.Sink.writing c.args.writer.now); pending = c.put.ensures };
   writes = OnlyWrites-none c.args.writer.now;
 }
 
@@ -18,7 +18,7 @@ returns-in_err-write_all g c =
     let old = c.args.pending.now.items in
     let failed = c.from_residual.ensures.0 in
     record {
-      sends = subst (λ (l : List ℕ). Sends (l ++ c.args.text.now) (g.W.Sink.written c.args.writer.now) old (g.W.Sink.written c.write_all.new.writer) c.from_residual.result) c.deref.ensures.value
+      sends = subst (λ (l : List ℕ). Sends (l ++ c.args.text.now) (g.W.Sink.writing c.args.writer.now) old (g.W.Sink.writing c.write_all.new.writer) c.from_residual.result) c.deref.ensures.value
           (Sends-fails c.deref.result.now c.args.text.now [] old _ _ c.write_all.result c.from_residual.result failed c.write_all.ensures.sends);
       writes = rw failed c.in_err-write_all.ensures.writes;
     }
@@ -29,9 +29,9 @@ returns-then-text-capacity-2 g c =
     let old = c.args.pending.now.items in
     let last = c.write_all-then-text-capacity-2 in
     record {
-      sends = subst (λ (n : List ℕ). Sends (old ++ text) (g.W.Sink.written c.args.writer.now) n (g.W.Sink.written last.new.writer) last.result) (sym c.clear.ensures.items)
-          (Sends-front old text [] (g.W.Sink.written c.args.writer.now) (g.W.Sink.written c.write_all.new.writer) (g.W.Sink.written last.new.writer) last.result
-          (subst (Appends (g.W.Sink.written c.args.writer.now) (g.W.Sink.written c.write_all.new.writer)) c.deref.ensures.value c.in_ok-write_all.ensures.written) last.ensures.sends);
+      sends = subst (λ (n : List ℕ). Sends (old ++ text) (g.W.Sink.writing c.args.writer.now) n (g.W.Sink.writing last.new.writer) last.result) (sym c.clear.ensures.items)
+          (Sends-front old text [] (g.W.Sink.writing c.args.writer.now) (g.W.Sink.writing c.write_all.new.writer) (g.W.Sink.writing last.new.writer) last.result
+          (subst (Accepts (g.W.Sink.writing c.args.writer.now) (g.W.Sink.writing c.write_all.new.writer)) c.deref.ensures.value c.in_ok-write_all.ensures.written) last.ensures.sends);
       writes = OnlyWrites-later c.in_ok-write_all.ensures.writes last.ensures.writes;
     }
 
@@ -41,7 +41,7 @@ returns g c = record {
     sent = c.args.pending.now.items;
     rest = c.args.text.now;
     parts = refl;
-    appended = subst (Appends (g.W.Sink.written c.args.writer.now) (g.W.Sink.written c.write_all.new.writer)) c.deref.ensures.value c.in_ok-write_all.ensures.written;
+    appended = subst (Accepts (g.W.Sink.writing c.args.writer.now) (g.W.Sink.writing c.write_all.new.writer)) c.deref.ensures.value c.in_ok-write_all.ensures.written;
     pending = c.put-2.ensures ∙ ap (λ l. l ++ c.args.text.now) c.clear.ensures.items;
   };
   writes = c.in_ok-write_all.ensures.writes;

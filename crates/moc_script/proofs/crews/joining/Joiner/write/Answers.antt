@@ -21,8 +21,8 @@ returns-clause-sends g c =
     let pending = c.write_turns.new.self.pending.items in
     let last = c.send.new.pending.items in
     joins_then c.args.self.walks.items c.args.behind.now pending _ _ _ c.write_all.result c.in_ok-write_turns.ensures.sends
-    (Sends-then (pending ++ c.args.behind.now) last [] (g.W.Sink.written c.write_turns.new.writer) (g.W.Sink.written c.send.new.writer) (g.W.Sink.written c.write_all.new.writer) c.write_all.result c.in_ok-send.ensures.sends
-    (subst (λ (l : List ℕ). Sends l (g.W.Sink.written c.send.new.writer) [] (g.W.Sink.written c.write_all.new.writer) c.write_all.result) c.deref.ensures.value c.write_all.ensures.sends))
+    (Sends-then (pending ++ c.args.behind.now) last [] (g.W.Sink.writing c.write_turns.new.writer) (g.W.Sink.writing c.send.new.writer) (g.W.Sink.writing c.write_all.new.writer) c.write_all.result c.in_ok-send.ensures.sends
+    (subst (λ (l : List ℕ). Sends l (g.W.Sink.writing c.send.new.writer) [] (g.W.Sink.writing c.write_all.new.writer) c.write_all.result) c.deref.ensures.value c.write_all.ensures.sends))
 
 pub returns-in_err-write_turns-clause-writes : goal.returns-in_err-write_turns-clause-writes
 returns-in_err-write_turns-clause-writes g c = rw c.from_residual.ensures.0 c.in_err-write_turns.ensures.writes

@@ -6,8 +6,8 @@ use Rattle.moc_script.proofs.crews.joining.Joiner.write_turns.Goals as goal
 
 pub loop-answer-init : goal.loop-answer-init
 loop-answer-init g c = record {
-  turns = subst (Turns c.args.self.now.walks.items c.args.self.now.walks.items 0 (g.W.Sink.written c.args.writer.now) (g.W.Sink.written c.args.writer.now)) (sym c.requires.none)
-      (Turns-start c.args.self.now.walks.items (g.W.Sink.written c.args.writer.now) c.requires.some);
+  turns = subst (Turns c.args.self.now.walks.items c.args.self.now.walks.items 0 (g.W.Sink.writing c.args.writer.now) (g.W.Sink.writing c.args.writer.now)) (sym c.requires.none)
+      (Turns-start c.args.self.now.walks.items (g.W.Sink.writing c.args.writer.now) c.requires.some);
   low = c.requires.some;
   writes = OnlyWrites-none c.args.writer.now;
 }
@@ -60,5 +60,5 @@ returns-clause-sends g c =
     let walks = c.loop-answer.self.walks.items in
     let turn : ℕ = c.loop-answer.turn in
     let low : turn < length walks = omega (arith, was.low, was.turns.joined.wide) in
-    Turns-end c.args.self.now.walks.items walks turn (g.W.Sink.written c.args.writer.now) (g.W.Sink.written c.loop-answer.writer) (g.W.Sink.written c.loop-answer.writer) c.loop-answer.self.pending.items was.turns c.requires.some
+    Turns-end c.args.self.now.walks.items walks turn (g.W.Sink.writing c.args.writer.now) (g.W.Sink.writing c.loop-answer.writer) (g.W.Sink.writing c.loop-answer.writer) c.loop-answer.self.pending.items was.turns c.requires.some
     (next_none walks turn c.index_mut.result.now low c.index_mut.ensures.value (c.in_default.ensures.none refl))

@@ -7,7 +7,7 @@ use Rattle.moc_script.proofs.crews.joining.Joiner.write_turns.Given as goal
 
 abbrev pub invariant-loop-answer : goal.invariant-loop-answer
 invariant-loop-answer g l = record {
-  turns : Turns l.fn.self.walks.items l.self.walks.items l.turn (g.W.Sink.written l.fn.writer) (g.W.Sink.written l.writer) l.self.pending.items;
+  turns : Turns l.fn.self.walks.items l.self.walks.items l.turn (g.W.Sink.writing l.fn.writer) (g.W.Sink.writing l.writer) l.self.pending.items;
   low : l.turn < length l.fn.self.walks.items;
   writes : OnlyWrites g.W.Sink.mark g.W.Sink.flushed g.W.Sink.flushes l.fn.writer l.writer false;
 }
