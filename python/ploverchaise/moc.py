@@ -287,7 +287,7 @@ class MOC:
         return list(zip(bounds[::2], bounds[1::2]))
 
     def cells(self) -> list[tuple[int, int]]:
-        """The fewest cells that make it, as (order, nested number), by rising NUNIQ numbers."""
+        """The cells of the set that lie in no larger cell of it, as (order, nested number), by ascending NUNIQ numbers."""
         orders = ((uniq, (uniq.bit_length() - 3) // 2) for uniq in self._uniqs())
         return [(order, uniq - 4**(order + 1)) for uniq, order in orders]
 

@@ -186,7 +186,7 @@ moc_outcome moc_contains_all(moc_desk *desk, uint64_t a, const uint64_t *pixels,
 /* The ranges of the set, rising, none empty and none touching the next, to the front of `out`; `first` is how many. It takes no memory.
    MOC_NO_ROOM, with nothing written, where `length` is less. */
 moc_outcome moc_ranges(moc_desk *desk, uint64_t a, moc_range *out, size_t length);
-/* The same for the NUNIQ numbers of the set's cells, rising: the fewest cells that make it. It takes the memory of the cells, or
+/* The same for the NUNIQ numbers, ascending, of the cells of the set that lie in no larger cell of it. It takes the memory of the cells, or
    MOC_MEMORY, and a pass over the ranges for each order that can have cells, also where the buffer is too short. */
 moc_outcome moc_cells(moc_desk *desk, uint64_t a, uint64_t *out, size_t length);
 

@@ -15,7 +15,7 @@ use Rattle.moc_forms.specs.declared.form.Form.TheVariants.{Ascii, Json, Uniq}
 use Rattle.moc_forms.specs.declared.form.FormError.{FormError}
 use Rattle.moc_forms.specs.declared.form.FormError.TheVariants.{Memory}
 use Rattle.moc_forms.specs.declared.place.Place.{Place}
-use Rattle.moc_conversion.specs.Conversion.{IsAll, IsNotConverted, IsNotSaid, IsOfWhole, input_limit}
+use Rattle.moc_conversion.specs.Conversion.{IsAll, IsNotConverted, IsNotSaid, IsOfWhole, IsOutOfMemory, input_limit}
 use Rattle.moc_conversion.specs.Conversion.{TellsFault}
 use Rattle.moc_conversion.specs.Faults.{want_of_memory}
 use Rattle.moc_conversion.specs.declared.complaint.Complaint.{Complaint}
@@ -25,12 +25,12 @@ use Rattle.moc_conversion.specs.declared.fault.InputFault.TheVariants as fault
 -- want of memory is told as such, and the first fault of a text with its place
 module _ (form : Form) (text : List ℕ) (number : Option ℕ) (error : FormError) (place : Option Place) (c : Complaint)
     (is_place : IsPlace text error place) where
-  pub told : FormFails form text error
-      → (c.fault ≡ want_of_memory) ⊎ ((c.fault ≡ fault.Form error) × IsTold number text error place (option_map string_bytes c.place_line) × (c.hint ≡ hint_of form text))
-      → (c.fault ≡ want_of_memory) ⊎ TellsFault form text number c
-  told fails (inl memory) = inl memory
-  told (inl want) (inr (as_fault, line, hint)) = inl (as_fault ∙ ap (λ e. fault.Form e) want)
-  told (inr is_fault) (inr (as_fault, line, hint)) =
+  pub told : FormFails form text error → (c.fault ≡ want_of_memory → IsOutOfMemory c)
+      → IsOutOfMemory c ⊎ ((c.fault ≡ fault.Form error) × IsTold number text error place (option_map string_bytes c.place_line) × (c.hint ≡ hint_of form text))
+      → IsOutOfMemory c ⊎ TellsFault form text number c
+  told fails alone (inl memory) = inl memory
+  told (inl want) alone (inr (as_fault, line, hint)) = inl (alone (as_fault ∙ ap (λ e. fault.Form e) want))
+  told (inr is_fault) alone (inr (as_fault, line, hint)) =
       inr (record { error = error; is_fault = is_fault; told = as_fault; place = place; is_place = is_place; line = line; hint = hint })
 
 -- all that was left, which is no longer than an input may be
@@ -43,8 +43,8 @@ all_of is left left' given (came, end, within) holds = (given, came, (end, withi
 
 -- a complaint of the input, or of the text that it was
 pub of_input : (choice : Choice) (left left' : Reading) (given : List ℕ) (c : Complaint) → IsWhole left left' given
-    → (c.fault ≡ want_of_memory) ⊎ TellsFault (form_for choice given) given None c → IsNotSaid choice left left' c
-of_input choice left left' given c whole (inl memory) = inl (inr (inr memory))
+    → IsOutOfMemory c ⊎ TellsFault (form_for choice given) given None c → IsNotSaid choice left left' c
+of_input choice left left' given c whole (inl (place, hint, memory)) = inl (place, hint, inr (inr memory))
 of_input choice left left' given c whole (inr tells) = inr (all_of (λ text. TellsFault (form_for choice text) text None c) left left' given whole tells)
 
 -- why an input was not converted
@@ -86,10 +86,10 @@ unless_memory (Err f) e same want = same ∙ ap (λ x. fault.Form x) want
 pub no_memory : {T : Type 0} (r : Result T Complaint) (f : InputFault) (choice : Choice) (left left' : Reading)
     → IsErrAnd r (λ c. (c.fault ≡ f) × (c.place_line ≡ None) × (c.hint ≡ None)) → f ≡ want_of_memory → IfErr r (λ c. IsNotSaid choice left left' c)
 no_memory (Ok v) f choice left left' same memory = tt
-no_memory (Err c) f choice left left' same memory = inl (inr (inr (same.0 ∙ memory)))
+no_memory (Err c) f choice left left' same memory = inl (same.1, same.2, inr (inr (same.0 ∙ memory)))
 
 -- and for what is made of several texts
 pub no_memory_together : {T : Type 0} (r : Result T Complaint) (f : InputFault) (choice : Choice) (left left' : Reading)
     → IsErrAnd r (λ c. (c.fault ≡ f) × (c.place_line ≡ None) × (c.hint ≡ None)) → f ≡ want_of_memory → IfErr r (λ c. IsNotCombined choice left left' c)
 no_memory_together (Ok v) f choice left left' same memory = tt
-no_memory_together (Err c) f choice left left' same memory = inl (inr (inr (same.0 ∙ memory)))
+no_memory_together (Err c) f choice left left' same memory = inl (inl (same.1, same.2, inr (same.0 ∙ memory)))

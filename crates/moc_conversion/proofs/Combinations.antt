@@ -1,8 +1,8 @@
 -- How a combination goes on with the bytes that it takes.
-use Rattle.std.proofs.Common.{◌≡◌, ◌≤◌, ◌<◌, ◌+◌, ◌∙◌, ◌⊎◌, inl, inr, ℕ, zero, suc, Bool, true, false, List, [], ◌∷◌, ◌++◌, Option, None, Some, arith, length, Contains, refl, sym, ap, subst, append_assoc, append-nil, length-append}
-use Rattle.std.specs.Prelude.{if◌then◌else◌}
+use Rattle.std.proofs.Common.{◌≡◌, ◌≤◌, ◌<◌, ◌+◌, ◌-◌, ◌∙◌, ◌⊎◌, inl, inr, ℕ, zero, suc, Bool, true, false, List, [], ◌∷◌, ◌++◌, Option, None, Some, arith, length, refl, sym, ap, subst, append_assoc, append-nil, length-append}
+use Rattle.std.specs.Prelude.{if◌then◌else◌, slice_index_or}
 use Rattle.std.specs.List.{AllByRecursion, onto_first}
-use Rattle.std.proofs.lemmas.List.Elements.{All-append, All-head, All-tail, Contains-append_right}
+use Rattle.std.proofs.lemmas.List.Elements.{All-append, All-head, All-tail}
 use Rattle.std.proofs.lemmas.List.Splits.{slice_split-cons_no, slice_split_at, slice_split_none, length-slice_split}
 use Rattle.moc_devices.specs.Lemmas.{Delivers-trans}
 use Rattle.moc_devices.specs.Devices.{Reading, Delivers, IsEnded}
@@ -13,15 +13,12 @@ use Rattle.moc_text.specs.Lines.{is_semicolon, pieces_of}
 use Rattle.moc_forms.specs.Finding.{form_for}
 use Rattle.moc_forms.specs.declared.combining.Operation.{Operation}
 use Rattle.moc_forms.specs.declared.finding.Choice.{Choice}
-use Rattle.moc_conversion.specs.Combining.{HasLongPiece, IsNotCombined, SaysTogether, TellsFirstFault}
+use Rattle.moc_conversion.specs.Combining.{IsLongPiece, IsNotCombined, IsOfTexts, ReportsLongText, SaysTogether, TellsFirstFault}
 use Rattle.moc_conversion.specs.Private.Pieces.{BringsPiece, LacksSemicolons}
-use Rattle.moc_conversion.specs.Conversion.{HasRead, TellsFault}
+use Rattle.moc_conversion.specs.Conversion.{HasRead, IsOutOfMemory, TellsFault}
 use Rattle.moc_conversion.specs.Private.Running.{AreNotTaken, BeginsCombination, EndsCombination, FailsCombination, FailsWithin, IsLong, IsOpen, Leads, SaysMore, RunsTo, TextsSay, semicolon, texts_behind}
 use Rattle.moc_conversion.specs.declared.combination.Combination.{Combination}
 use Rattle.moc_conversion.specs.declared.complaint.Complaint.{Complaint}
-use Rattle.moc_conversion.specs.declared.fault.InputFault.{InputFault}
-use Rattle.moc_conversion.specs.declared.fault.InputFault.TheVariants.{TooLong}
-use Rattle.moc_conversion.specs.Faults.{want_of_memory}
 
 -- ---- the texts of bytes
 
@@ -106,19 +103,20 @@ first_part (b ∷ front) rest lacks =
       omega (arith, behind.3),
     )
 
--- it is too long where these bytes are
-pub long_front : (front rest : List ℕ) → LacksSemicolons front → 16777216 < length front → HasLongPiece (front ++ rest)
+-- the piece at this place, counted from 0, is longer than a text may be
+abbrev IsLongAt : ℕ → List ℕ → Type 0
+IsLongAt k bytes = 16777216 < length (slice_index_or (pieces_of bytes) k [])
+
+-- the first piece is too long if these bytes begin it
+pub long_front : (front rest : List ℕ) → LacksSemicolons front → 16777216 < length front → IsLongAt 0 (front ++ rest)
 long_front front rest lacks long =
     let first = first_part front rest lacks in
-    (first.0, subst (λ parts. Contains parts first.0) (sym first.2) (0, omega arith, refl), omega (arith, long, first.3))
+    subst (λ (parts : List (List ℕ)). 16777216 < length (slice_index_or parts 0 [])) (sym first.2) (omega (arith, long, first.3))
 
--- a part behind a semicolon stays one
-long_behind : (text rest : List ℕ) → LacksSemicolons text → HasLongPiece rest → HasLongPiece (text ++ 59 ∷ rest)
-long_behind text rest lacks (part, here, long) = (
-  part,
-  subst (λ parts. Contains parts part) (sym (slice_split_at is_semicolon text 59 rest lacks refl)) (Contains-append_right (text ∷ []) (pieces_of rest) part here),
-  long,
-)
+-- a piece after a semicolon is the next one
+long_behind : (text rest : List ℕ) (k : ℕ) → LacksSemicolons text → IsLongAt k rest → IsLongAt (suc k) (text ++ 59 ∷ rest)
+long_behind text rest k lacks long =
+    subst (λ (parts : List (List ℕ)). 16777216 < length (slice_index_or parts (suc k) [])) (sym (slice_split_at is_semicolon text 59 rest lacks refl)) long
 
 -- ---- a combination
 
@@ -141,8 +139,12 @@ module _ (c d : Combination) (same_operation : d.operation ≡ c.operation) (sam
         (subst (λ f. TellsFirstFault d.number f (without_blank_end (pieces_of rest)) complaint) same_choice
         (subst (λ b. TellsFirstFault d.number d.choice (texts_behind b rest) complaint) before
         (subst (λ t. TellsFirstFault d.number d.choice (texts_behind d.before (t ++ rest)) complaint) bare later)))));
-    longer = λ rest long. elim long [
-      | inl part ↦ inl (long_behind c.text.items rest opened.lacks (subst (λ t. HasLongPiece (t ++ rest)) bare part))
+    longer = λ rest number long. elim long [
+      | inl piece ↦ inl (
+        suc piece.0,
+        omega (arith, piece.1, next),
+        long_behind c.text.items rest piece.0 opened.lacks (subst (λ t. IsLongAt piece.0 (t ++ rest)) bare piece.2),
+      )
       | inr many ↦ inr (omega (arith, many, next))
     ];
   }
@@ -152,8 +154,8 @@ module _ (c d : Combination) (same_operation : d.operation ≡ c.operation) (sam
       text_ended_so after opened (subst (λ b. SaysMore c b after) same more) bare next_before
 
 -- a text that a semicolon ends is at fault
-pub ended_fails : (c : Combination) (complaint : Complaint) → IsOpen c → (complaint.fault ≡ want_of_memory) ⊎ TellsFault (form_for c.choice c.text.items) c.text.items (Some c.number) complaint
-    → AreNotTaken c semicolon complaint.fault ⊎ FailsWithin c semicolon complaint
+pub ended_fails : (c : Combination) (complaint : Complaint) → IsOpen c → IsOutOfMemory complaint ⊎ TellsFault (form_for c.choice c.text.items) c.text.items (Some c.number) complaint
+    → AreNotTaken c semicolon complaint ⊎ FailsWithin c semicolon complaint
 ended_fails c complaint opened (inl memory) = inl (inl memory)
 ended_fails c complaint opened (inr tells) = inr (λ rest.
     subst (λ texts. TellsFirstFault c.number c.choice texts complaint) (sym (parted c.before c.text.items rest opened.lacks))
@@ -161,7 +163,7 @@ ended_fails c complaint opened (inr tells) = inr (λ rest.
 
 -- the last text is at fault
 pub last_fails : (c : Combination) (complaint : Complaint) → IsOpen c → (c.before ≡ None) ⊎ (are_blanks c.text.items ≡ false)
-    → (complaint.fault ≡ want_of_memory) ⊎ TellsFault (form_for c.choice c.text.items) c.text.items (Some c.number) complaint → (complaint.fault ≡ want_of_memory) ⊎ FailsCombination c [] complaint
+    → IsOutOfMemory complaint ⊎ TellsFault (form_for c.choice c.text.items) c.text.items (Some c.number) complaint → IsOutOfMemory complaint ⊎ FailsCombination c [] complaint
 last_fails c complaint opened why (inl memory) = inl memory
 last_fails c complaint opened why (inr tells) = inr (
     subst (λ t. TellsFirstFault c.number c.choice (texts_behind c.before t) complaint) (sym (append-nil c.text.items))
@@ -193,7 +195,7 @@ blanks_say c after opened before blank =
 
 -- no bytes lead nowhere
 pub led : (c : Combination) → Leads c [] c
-led c = record { operation = refl; choice = refl; ends = λ rest after end. end; fails = λ rest complaint fails. fails; longer = λ rest long. long }
+led c = record { operation = refl; choice = refl; ends = λ rest after end. end; fails = λ rest complaint fails. fails; longer = λ rest number long. long }
 
 -- one lead after another
 pub led_on : (a b c : Combination) (xs ys : List ℕ) → Leads a xs b → Leads b ys c → Leads a (xs ++ ys) c
@@ -206,7 +208,7 @@ led_on a b c xs ys first second = record {
   fails = λ rest complaint fails.
       subst (λ bytes. FailsCombination a bytes complaint) (sym (append_assoc xs ys rest))
       (first.fails (ys ++ rest) complaint (second.fails rest complaint fails));
-  longer = λ rest long. subst (IsLong a) (sym (append_assoc xs ys rest)) (first.longer (ys ++ rest) (second.longer rest long));
+  longer = λ rest number long. subst (λ bytes. IsLong a bytes number) (sym (append_assoc xs ys rest)) (first.longer (ys ++ rest) number (second.longer rest number long));
 }
 
 -- bytes without a semicolon are put behind the text
@@ -225,8 +227,8 @@ led_by c d bytes operation choice number before text = record {
       (subst (λ b. TellsFirstFault c.number c.choice (texts_behind b (d.text.items ++ rest)) complaint) before
       (subst (λ f. TellsFirstFault c.number f (texts_behind d.before (d.text.items ++ rest)) complaint) choice
       (subst (λ n. TellsFirstFault n d.choice (texts_behind d.before (d.text.items ++ rest)) complaint) number fails)));
-  longer = λ rest long. elim long [
-    | inl part ↦ inl (subst HasLongPiece (behind rest) part)
+  longer = λ rest n long. elim long [
+    | inl piece ↦ inl (piece.0, omega (arith, piece.1, number), subst (IsLongAt piece.0) (behind rest) piece.2)
     | inr many ↦ inr (omega (arith, many, number, length-append bytes rest))
   ];
 }
@@ -235,36 +237,42 @@ led_by c d bytes operation choice number before text = record {
     behind rest = ap (λ t. t ++ rest) text ∙ append_assoc c.text.items bytes rest
 
 -- bytes with which the text gets too long are not taken
-pub too_long : (c : Combination) (bytes : List ℕ) (fault : InputFault) → IsOpen c → LacksSemicolons bytes → 16777216 < length c.text.items + length bytes
-    → (fault ≡ want_of_memory) ⊎ (fault ≡ TooLong) → AreNotTaken c bytes fault
-too_long c bytes fault opened lacks long (inl memory) = inl memory
-too_long c bytes fault opened lacks long (inr is) =
+pub too_long : (c : Combination) (bytes : List ℕ) (complaint : Complaint) → IsOpen c → LacksSemicolons bytes → 16777216 < length c.text.items + length bytes
+    → IsOutOfMemory complaint ⊎ ReportsLongText c.number complaint → AreNotTaken c bytes complaint
+too_long c bytes complaint opened lacks long (inl memory) = inl memory
+too_long c bytes complaint opened lacks long (inr reports) =
     let all : LacksSemicolons (c.text.items ++ bytes) = All-append (λ b. is_semicolon b ≡ false) c.text.items bytes opened.lacks lacks in
     inr (
-      is,
-      λ rest. inl (subst HasLongPiece (append_assoc c.text.items bytes rest)
-          (long_front (c.text.items ++ bytes) rest all (omega (arith, long, length-append c.text.items bytes)))),
+      c.number,
+      reports,
+      λ rest. inl (
+        0,
+        omega arith,
+        subst (IsLongAt 0) (append_assoc c.text.items bytes rest)
+            (long_front (c.text.items ++ bytes) rest all (omega (arith, long, length-append c.text.items bytes))),
+      ),
     )
 
 -- a text that cannot be counted does not end
-pub too_many : (c : Combination) (fault : InputFault) → 18446744073709551615 ≤ c.number → (fault ≡ want_of_memory) ⊎ (fault ≡ TooLong) → AreNotTaken c semicolon fault
-too_many c fault many (inl memory) = inl memory
-too_many c fault many (inr is) = inr (is, λ rest. inr (omega (arith, many)))
+pub too_many : (c : Combination) (complaint : Complaint) → 18446744073709551615 ≤ c.number → IsOutOfMemory complaint ⊎ ReportsLongText c.number complaint → AreNotTaken c semicolon complaint
+too_many c complaint many (inl memory) = inl memory
+too_many c complaint many (inr reports) = inr (c.number, reports, λ rest. inr (omega (arith, many)))
 
 -- bytes behind those that were taken are not taken
-pub not_taken_on : (a b : Combination) (xs ys behind : List ℕ) (fault : InputFault) → Leads a xs b → AreNotTaken b ys fault → AreNotTaken a (xs ++ (ys ++ behind)) fault
-not_taken_on a b xs ys behind fault leads (inl memory) = inl memory
-not_taken_on a b xs ys behind fault leads (inr (is, long)) = inr (
-  is,
+pub not_taken_on : (a b : Combination) (xs ys behind : List ℕ) (complaint : Complaint) → Leads a xs b → AreNotTaken b ys complaint → AreNotTaken a (xs ++ (ys ++ behind)) complaint
+not_taken_on a b xs ys behind complaint leads (inl memory) = inl memory
+not_taken_on a b xs ys behind complaint leads (inr (number, reports, long)) = inr (
+  number,
+  reports,
   λ rest.
-      subst (IsLong a) (ap (λ more. xs ++ more) (sym (append_assoc ys behind rest)) ∙ sym (append_assoc xs (ys ++ behind) rest))
-      (leads.longer (ys ++ (behind ++ rest)) (long (behind ++ rest))),
+      subst (λ bytes. IsLong a bytes number) (ap (λ more. xs ++ more) (sym (append_assoc ys behind rest)) ∙ sym (append_assoc xs (ys ++ behind) rest))
+      (leads.longer (ys ++ (behind ++ rest)) number (long (behind ++ rest))),
 )
 
 -- a fault behind bytes that were taken
-pub failed_on : (a b : Combination) (xs ys behind : List ℕ) (complaint : Complaint) → Leads a xs b → AreNotTaken b ys complaint.fault ⊎ FailsWithin b ys complaint
-    → AreNotTaken a (xs ++ (ys ++ behind)) complaint.fault ⊎ FailsWithin a (xs ++ (ys ++ behind)) complaint
-failed_on a b xs ys behind complaint leads (inl not) = inl (not_taken_on a b xs ys behind complaint.fault leads not)
+pub failed_on : (a b : Combination) (xs ys behind : List ℕ) (complaint : Complaint) → Leads a xs b → AreNotTaken b ys complaint ⊎ FailsWithin b ys complaint
+    → AreNotTaken a (xs ++ (ys ++ behind)) complaint ⊎ FailsWithin a (xs ++ (ys ++ behind)) complaint
+failed_on a b xs ys behind complaint leads (inl not) = inl (not_taken_on a b xs ys behind complaint leads not)
 failed_on a b xs ys behind complaint leads (inr fails) = inr (λ rest.
     subst (λ bytes. FailsCombination a bytes complaint) (ap (λ more. xs ++ more) (sym (append_assoc ys behind rest)) ∙ sym (append_assoc xs (ys ++ behind) rest))
     (leads.fails (ys ++ (behind ++ rest)) complaint (fails (behind ++ rest))))
@@ -290,9 +298,11 @@ module _ (operation : Operation) (choice : Choice) (c : Combination) (begins : B
       (subst (λ t. TextsSay c.operation c.choice c.before t (Some after)) (ap (λ t. t ++ (bytes ++ [])) begins.text ∙ append-nil bytes) told)))
 
   -- and in what is too long
-  pub longer_from_1 : (bytes : List ℕ) → IsLong c bytes → HasLongPiece bytes ⊎ (18446744073709551615 ≤ length bytes)
-  longer_from_1 bytes (inl part) = inl (subst (λ t. HasLongPiece (t ++ bytes)) begins.text part)
-  longer_from_1 bytes (inr many) = inr (omega (arith, many, begins.number))
+  pub longer_from_1 : (bytes : List ℕ) (number : ℕ) → IsLong c bytes number → IsLongPiece number bytes ⊎ (18446744073709551615 ≤ length bytes)
+  longer_from_1 bytes number (inl (k, is, long)) =
+      let at : k ≡ number - 1 = omega (arith, is, begins.number) in
+      inl (omega (arith, is, begins.number), subst (λ n. IsLongAt n bytes) at (subst (λ t. IsLongAt k (t ++ bytes)) begins.text long))
+  longer_from_1 bytes number (inr many) = inr (omega (arith, many, begins.number))
 
   pub fails_from_1 : (bytes : List ℕ) (complaint : Complaint) → FailsCombination c bytes complaint → TellsFirstFault 1 choice (texts_of bytes) complaint
   fails_from_1 bytes complaint fails =
@@ -319,20 +329,20 @@ module _ (operation : Operation) (choice : Choice) (a b c : Reading) (start d : 
   taken = runs.0
 
   -- a piece was not taken
-  pub piece_not_taken : (fault : InputFault) → AreNotTaken d piece fault → (fault ≡ want_of_memory) ⊎ ((fault ≡ TooLong) × HasRead (λ given. HasLongPiece given ⊎ (18446744073709551615 ≤ length given)) a c)
-  piece_not_taken fault (inl memory) = inl memory
-  piece_not_taken fault (inr (is, long)) = inr (
-    is,
-    (
-      runs.0 ++ piece,
-      Delivers-trans a b c runs.0 piece runs.1.0 consumed,
-      longer_from_1 operation choice start begins (runs.0 ++ piece) (runs.1.1.longer piece (subst (IsLong d) (append-nil piece) (long []))),
-    ),
-  )
+  pub piece_not_taken : (complaint : Complaint) → AreNotTaken d piece complaint → IsOfTexts a c complaint
+  piece_not_taken complaint (inl (place, hint, memory)) = inl (place, hint, inr memory)
+  piece_not_taken complaint (inr (number, reports, long)) =
+      let longer = longer_from_1 operation choice start begins (runs.0 ++ piece) number
+          (runs.1.1.longer piece number (subst (λ bytes. IsLong d bytes number) (append-nil piece) (long []))) in
+      inr (
+        runs.0 ++ piece,
+        Delivers-trans a b c runs.0 piece runs.1.0 consumed,
+        elim longer [ inl long_piece ↦ inl (number, long_piece, reports) | inr many ↦ inr (reports.0, many) ],
+      )
 
   -- a text was at fault in a piece
-  pub piece_fails : (complaint : Complaint) → AreNotTaken d piece complaint.fault ⊎ FailsWithin d piece complaint → IsNotCombined choice a c complaint
-  piece_fails complaint (inl not) = elim (piece_not_taken complaint.fault not) [ inl memory ↦ inl (inr (inr memory)) | inr longer ↦ inl (inr (inl longer)) ]
+  pub piece_fails : (complaint : Complaint) → AreNotTaken d piece complaint ⊎ FailsWithin d piece complaint → IsNotCombined choice a c complaint
+  piece_fails complaint (inl not) = inl (piece_not_taken complaint not)
   piece_fails complaint (inr fails) = inr (
     runs.0 ++ piece,
     Delivers-trans a b c runs.0 piece runs.1.0 consumed,
@@ -352,8 +362,8 @@ module _ (operation : Operation) (choice : Choice) (a b c : Reading) (start d : 
         (runs.0, all_consumed, (end, told.within, told.says))
 
     -- the last text was at fault
-    pub all_fails : (complaint : Complaint) → (complaint.fault ≡ want_of_memory) ⊎ FailsCombination d [] complaint → IsNotCombined choice a c complaint
-    all_fails complaint (inl memory) = inl (inr (inr memory))
+    pub all_fails : (complaint : Complaint) → IsOutOfMemory complaint ⊎ FailsCombination d [] complaint → IsNotCombined choice a c complaint
+    all_fails complaint (inl (place, hint, memory)) = inl (inl (place, hint, inr memory))
     all_fails complaint (inr fails) = inr (
       runs.0,
       all_consumed,

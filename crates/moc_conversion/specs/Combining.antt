@@ -1,5 +1,6 @@
 -- Texts of coverages, parted by semicolons on the input, and combined.
-use Rattle.std.specs.Prelude.{◌≡◌, ℕ, ◌+◌, ◌<◌, ◌≤◌, ◌⊎◌, List, [], ◌++◌, Option, Some, Contains, length}
+use Rattle.std.specs.Prelude.{◌≡◌, ℕ, ◌+◌, ◌-◌, ◌<◌, ◌≤◌, ◌⊎◌, List, [], ◌++◌, Option, None, Some, option_map, length}
+use Rattle.std.specs.Prelude.{slice_index_or, string_bytes}
 use Rattle.moc_devices.specs.Devices.{Reading, IsEnded}
 use Rattle.std.specs.List.{AllByRecursion}
 use Rattle.moc_forms.specs.Combining.{Combines, StandsBehind, texts_of}
@@ -9,9 +10,11 @@ use Rattle.moc_forms.specs.Finding.{form_for}
 use Rattle.moc_forms.specs.Forms.{form_text}
 use Rattle.moc_forms.specs.declared.combining.Operation.{Operation}
 use Rattle.moc_forms.specs.declared.finding.Choice.{Choice}
-use Rattle.moc_conversion.specs.Conversion.{HasRead, IsOfInput, TellsFault, input_limit}
+use Rattle.moc_forms.specs.Places.{line_of_place}
+use Rattle.moc_conversion.specs.Conversion.{HasRead, IsAlone, TellsFault, input_limit}
+use Rattle.moc_conversion.specs.Faults.{want_of_memory}
 use Rattle.moc_conversion.specs.declared.complaint.Complaint.{Complaint}
-use Rattle.moc_conversion.specs.declared.fault.InputFault.{InputFault}
+use Rattle.moc_conversion.specs.declared.fault.InputFault.TheVariants as fault
 
 -- all that was left was read; none of its texts is too long, and this is what they say together
 abbrev pub SaysTogether : Operation → Choice → Reading → Reading → Said → Type 0
@@ -38,14 +41,28 @@ IsFaultyText choice left left' c =
     HasRead (λ given. (rest : List ℕ) → (IsEnded left' → rest ≡ [])
     → TellsFirstFault 1 choice (texts_of (given ++ rest)) c) left left'
 
--- one of the pieces of bytes, between their semicolons, is longer than a text may be
-abbrev pub HasLongPiece : List ℕ → Type 0
-HasLongPiece bytes = (piece : List ℕ) × Contains (pieces_of bytes) piece × (input_limit < length piece)
+-- the piece of this number, counted from 1, between the semicolons of bytes is longer than a text may be
+abbrev pub IsLongPiece : ℕ → List ℕ → Type 0
+IsLongPiece number bytes = (0 < number) × (input_limit < length (slice_index_or (pieces_of bytes) (number - 1) []))
 
--- an input of texts could not be had: a piece is too long, or there are more bytes than are counted
-abbrev pub IsOfTexts : Reading → Reading → InputFault → Type 0
-IsOfTexts = IsOfInput (λ given. HasLongPiece given ⊎ (18446744073709551615 ≤ length given))
+-- the complaint is that the text of this number is too long; its line has the number, and no place
+abbrev pub ReportsLongText : ℕ → Complaint → Type 0
+ReportsLongText number c =
+    (c.fault ≡ fault.TooLong) × (option_map string_bytes c.place_line ≡ line_of_place (Some number) None None)
+    × (c.hint ≡ None)
 
--- why texts say no set together: the input or memory could not be had, or a text is too long, or one is at fault
+-- the most texts, and the most bytes of all texts, that are counted
+abbrev pub count_limit : ℕ
+count_limit = 18446744073709551615
+
+-- the texts were not all read: the reader failed or memory ran out, or the text that is reported is too long, or there
+-- are more bytes than are counted
+abbrev pub IsOfTexts : Reading → Reading → Complaint → Type 0
+IsOfTexts left left' c =
+    IsAlone (λ f. (f ≡ fault.Read) ⊎ (f ≡ want_of_memory)) c
+    ⊎ HasRead (λ given. ((number : ℕ) × IsLongPiece number given × ReportsLongText number c)
+    ⊎ ((c.fault ≡ fault.TooLong) × (count_limit ≤ length given))) left left'
+
+-- why texts were not combined: they were not all read, or one is at fault
 abbrev pub IsNotCombined : Choice → Reading → Reading → Complaint → Type 0
-IsNotCombined choice left left' c = IsOfTexts left left' c.fault ⊎ IsFaultyText choice left left' c
+IsNotCombined choice left left' c = IsOfTexts left left' c ⊎ IsFaultyText choice left left' c

@@ -90,26 +90,29 @@ pub record TellsFault (form : Form) (text : List ℕ) (number : Option ℕ) (c :
   pub line : IsTold number text error place (option_map string_bytes c.place_line)
   pub hint : c.hint ≡ hint_of form text
 
--- an input could not be had: the reader failed, or it is too long by what was read, or memory was refused
-abbrev pub IsOfInput : (List ℕ → Type 0) → Reading → Reading → InputFault → Type 0
-IsOfInput is_long left left' f =
-    (f ≡ fault.Read) ⊎ ((f ≡ fault.TooLong) × HasRead is_long left left') ⊎ (f ≡ want_of_memory)
+-- the complaint is a fault alone, without a place and without a hint
+abbrev pub IsAlone : (InputFault → Type 0) → Complaint → Type 0
+IsAlone is c = (c.place_line ≡ None) × (c.hint ≡ None) × is c.fault
 
--- an input that is one text could not be had
+-- the complaint is that memory ran out
+abbrev pub IsOutOfMemory : Complaint → Type 0
+IsOutOfMemory = IsAlone (λ f. f ≡ want_of_memory)
+
+-- the input was not read whole: the reader failed, or the input is too long, or memory ran out
 abbrev pub IsOfWhole : Reading → Reading → InputFault → Type 0
-IsOfWhole = IsOfInput (λ given. input_limit < length given)
+IsOfWhole left left' f =
+    (f ≡ fault.Read) ⊎ ((f ≡ fault.TooLong) × HasRead (λ given. input_limit < length given) left left')
+    ⊎ (f ≡ want_of_memory)
 
--- why the input was not converted, which is told alone: it could not be had, or it has the fault that is told
+-- why the input was not converted: it was not read whole, or its text has this fault; the fault is reported alone
 abbrev pub IsNotConverted : Form → Reading → Reading → Complaint → Type 0
-IsNotConverted form left left' c =
-    (c.place_line ≡ None) × (c.hint ≡ None)
-    × (IsOfWhole left left' c.fault
-    ⊎ IsAll (λ text. (e : FormError) × IsFormFault form text e × (c.fault ≡ fault.Form e)) left left')
+IsNotConverted form left left' = IsAlone (λ f. IsOfWhole left left' f
+    ⊎ IsAll (λ text. (e : FormError) × IsFormFault form text e × (f ≡ fault.Form e)) left left')
 
--- why the input says no set: it or memory could not be had, or it has the fault that is told, at the place that is told
+-- why the input is no coverage: it was not read whole, which is reported alone, or its text is at fault at this place
 abbrev pub IsNotSaid : Choice → Reading → Reading → Complaint → Type 0
 IsNotSaid choice left left' c =
-    IsOfWhole left left' c.fault ⊎ IsAll (λ text. TellsFault (form_for choice text) text None c) left left'
+    IsAlone (IsOfWhole left left') c ⊎ IsAll (λ text. TellsFault (form_for choice text) text None c) left left'
 
 -- of the texts of a picture, which are counted where there are two, the complaint tells the first that says no set
 abbrev pub TellsTexts : Choice → List ℕ → Option (List ℕ) → Complaint → Type 0
@@ -118,8 +121,8 @@ TellsTexts choice first (Some second) c =
     TellsFault (form_for choice first) first (Some 1) c
     ⊎ (((said : Said) × TextSays choice first said) × TellsFault (form_for choice second) second (Some 2) c)
 
--- why the input has no picture: it or memory could not be had, or one of its texts has the fault that is told
+-- why the input was not drawn: it was not read whole, which is reported alone, or one of its texts has this fault
 abbrev pub IsNotDrawn : Choice → Reading → Reading → Complaint → Type 0
 IsNotDrawn choice left left' c =
-    IsOfWhole left left' c.fault
+    IsAlone (IsOfWhole left left') c
     ⊎ IsAll (λ text. TellsTexts choice (before_first is_semicolon text) (second_text text) c) left left'

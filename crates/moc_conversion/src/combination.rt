@@ -2,9 +2,8 @@
 ghost use Rattle.std.specs.Prelude.{◌≡◌, ◌≢◌, ◌↔◌, ◌⊎◌, [], false, IfErr, IfOk, IsErrAnd, IsTrue, OnOk, Some};
 ghost use Rattle.std.specs.String.{string_bytes};
 ghost use Rattle.moc_forms.specs.Finding.{form_for};
-ghost use Rattle.moc_conversion.specs.Combining.{CombinesAll, IsNotCombined, SaysTogether};
-ghost use Rattle.moc_conversion.specs.Conversion.{TellsFault};
-ghost use Rattle.moc_conversion.specs.Faults.{want_of_memory};
+ghost use Rattle.moc_conversion.specs.Combining.{CombinesAll, IsNotCombined, ReportsLongText, SaysTogether};
+ghost use Rattle.moc_conversion.specs.Conversion.{IsOutOfMemory, TellsFault};
 ghost use Rattle.moc_conversion.specs.Private.Pieces.{LacksSemicolons};
 ghost use Rattle.moc_conversion.specs.Private.Running.{AreNotTaken, BeginsCombination, EndsCombination};
 ghost use Rattle.moc_conversion.specs.Private.Running.{FailsCombination, FailsWithin, IsOpen, Leads};
@@ -47,7 +46,7 @@ impl Combination {
 
     /// The complaint that the text gets too long.
     fn too_long(&self, alloc: Global) -> Complaint
-        ensures { (result.fault ≡ want_of_memory) ⊎ (result.fault ≡ InputFault.TooLong) }
+        ensures { IsOutOfMemory result ⊎ ReportsLongText self.now.number result }
     {
         match place_line(alloc, Some(self.number), None, None) {
             Ok(line) => Complaint {
@@ -64,7 +63,7 @@ impl Combination {
         requires open { IsOpen self.old }
         requires lacks { LacksSemicolons bytes.now }
         ensures device { IfErr result (λ c. c.fault ≢ InputFault.Read) }
-        ensures fault { IfErr result (λ c. AreNotTaken self.old bytes.now c.fault) }
+        ensures fault { IfErr result (λ c. AreNotTaken self.old bytes.now c) }
         ensures open { OnOk result (IsOpen self.new) }
         ensures leads { OnOk result (Leads self.old bytes.now self.new) }
     {
@@ -79,7 +78,7 @@ impl Combination {
         ensures device { IfErr result (λ c. c.fault ≢ InputFault.Read) }
         ensures says { IfOk result (λ after. SaysMore self.now before after) }
         ensures told { IfErr result (λ c.
-            (c.fault ≡ want_of_memory) ⊎ TellsFault (form_for self.now.choice self.now.text.items) self.now.text.items
+            IsOutOfMemory c ⊎ TellsFault (form_for self.now.choice self.now.text.items) self.now.text.items
             (Some self.now.number) c) }
     {
         let said = said_or_told(alloc, self.choice, &self.text, Some(self.number))?;
@@ -90,7 +89,7 @@ impl Combination {
     fn end_text(&mut self, alloc: Global) -> Result<(), Complaint>
         requires { IsOpen self.old }
         ensures device { IfErr result (λ c. c.fault ≢ InputFault.Read) }
-        ensures fault { IfErr result (λ c. AreNotTaken self.old semicolon c.fault ⊎ FailsWithin self.old semicolon c) }
+        ensures fault { IfErr result (λ c. AreNotTaken self.old semicolon c ⊎ FailsWithin self.old semicolon c) }
         ensures open { OnOk result (IsOpen self.new) }
         ensures leads { OnOk result (Leads self.old semicolon self.new) }
     {
@@ -109,7 +108,7 @@ impl Combination {
     fn take_bytes(&mut self, alloc: Global, bytes: &[u8]) -> Result<(), Complaint>
         requires { IsOpen self.old }
         ensures device { IfErr result (λ c. c.fault ≢ InputFault.Read) }
-        ensures fault { IfErr result (λ c. AreNotTaken self.old bytes.now c.fault ⊎ FailsWithin self.old bytes.now c) }
+        ensures fault { IfErr result (λ c. AreNotTaken self.old bytes.now c ⊎ FailsWithin self.old bytes.now c) }
         ensures open { OnOk result (IsOpen self.new) }
         ensures leads { OnOk result (Leads self.old bytes.now self.new) }
     {
@@ -127,7 +126,7 @@ impl Combination {
     fn all_said(&mut self, alloc: Global) -> Result<Said, Complaint>
         requires { IsOpen self.old }
         ensures device { IfErr result (λ c. c.fault ≢ InputFault.Read) }
-        ensures fault { IfErr result (λ c. (c.fault ≡ want_of_memory) ⊎ FailsCombination self.old [] c) }
+        ensures fault { IfErr result (λ c. IsOutOfMemory c ⊎ FailsCombination self.old [] c) }
         ensures says { IfOk result (λ after. EndsCombination self.old [] (Some after)) }
     {
         let Some(before) = self.before.take() else {

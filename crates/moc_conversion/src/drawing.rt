@@ -3,8 +3,8 @@ ghost use Rattle.std.specs.Prelude.{◌≡◌, ◌≢◌, ◌↔◌, ◌⊎◌, 
 ghost use Rattle.std.specs.String.{string_bytes};
 ghost use Rattle.std.specs.List.{before_first};
 ghost use Rattle.moc_text.specs.Lines.{is_semicolon};
-ghost use Rattle.moc_conversion.specs.Conversion.{DrawsAll, IsNotDrawn, IsPictureOf, TellsTexts, second_text};
-ghost use Rattle.moc_conversion.specs.Faults.{want_of_memory};
+ghost use Rattle.moc_conversion.specs.Conversion.{DrawsAll, IsNotDrawn, IsOutOfMemory, IsPictureOf, TellsTexts};
+ghost use Rattle.moc_conversion.specs.Conversion.{second_text};
 
 use crate::complaint::Complaint;
 use crate::fault::InputFault;
@@ -36,7 +36,7 @@ pub fn draw_input<R: Source>(
 /// The picture of one text, or of two; else a complaint that tells the first fault of the first that says no set.
 fn pictured(alloc: Global, choice: Choice, text: &[u8]) -> Result<String, Complaint>
     ensures device { IfErr result (λ c. c.fault ≢ InputFault.Read) }
-    ensures fault { IfErr result (λ c. (c.fault ≡ want_of_memory)
+    ensures fault { IfErr result (λ c. IsOutOfMemory c
         ⊎ TellsTexts choice (before_first is_semicolon text.now) (second_text text.now) c) }
     ensures picture { IfOk result (λ t.
         IsPictureOf choice (before_first is_semicolon text.now) (second_text text.now) (string_bytes t)) }

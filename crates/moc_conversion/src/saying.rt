@@ -1,5 +1,5 @@
 //! What texts and inputs say, and the text of what is said.
-ghost use Rattle.std.specs.Prelude.{◌≡◌, ◌≢◌, ◌↔◌, ◌⊎◌, false, IfErr, IfOk, IsErrAnd, IsOkUnless, IsTrue, None};
+ghost use Rattle.std.specs.Prelude.{◌≡◌, ◌≢◌, ◌↔◌, ◌⊎◌, false, IfErr, IfOk, IsErrAnd, IsOkUnless, IsTrue};
 ghost use Rattle.std.specs.Prelude.{option_map};
 ghost use Rattle.std.specs.String.{string_bytes};
 ghost use Rattle.moc_text.specs.AsciiText.{IsTooCoarse};
@@ -7,7 +7,7 @@ ghost use Rattle.moc_forms.specs.Combining.{TextSays};
 ghost use Rattle.moc_forms.specs.Finding.{form_for, hint_of};
 ghost use Rattle.moc_forms.specs.Forms.{form_text};
 ghost use Rattle.moc_forms.specs.Quotes.{IsTold};
-ghost use Rattle.moc_conversion.specs.Conversion.{IsNotSaid, SaysAll, TellsFault};
+ghost use Rattle.moc_conversion.specs.Conversion.{IsNotSaid, IsOutOfMemory, SaysAll, TellsFault};
 ghost use Rattle.moc_conversion.specs.Faults.{want_of_memory};
 
 use crate::complaint::Complaint;
@@ -29,8 +29,7 @@ pub(crate) fn said_or_told(
 ) -> Result<Said, Complaint>
     ensures device { IfErr result (λ c. c.fault ≢ InputFault.Read) }
     ensures says { IfOk result (λ r. TextSays choice text.now r) }
-    ensures told { IfErr result (λ c. (c.fault ≡ want_of_memory)
-        ⊎ TellsFault (form_for choice text.now) text.now number c) }
+    ensures told { IfErr result (λ c. IsOutOfMemory c ⊎ TellsFault (form_for choice text.now) text.now number c) }
 {
     let form = choice.form(text);
     match examine(alloc, form, text) {
@@ -48,8 +47,8 @@ fn complaint_of(
     number: Option<u64>,
     refusal: Refusal,
 ) -> Complaint
-    ensures memory { result.fault ≡ want_of_memory → result.place_line ≡ None }
-    ensures told { (result.fault ≡ want_of_memory)
+    ensures memory { result.fault ≡ want_of_memory → IsOutOfMemory result }
+    ensures told { IsOutOfMemory result
         ⊎ ((result.fault ≡ InputFault.Form refusal.error)
         × IsTold number text.now refusal.error refusal.place (option_map string_bytes result.place_line)
         × (result.hint ≡ hint_of form text.now)) }

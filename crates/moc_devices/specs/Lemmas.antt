@@ -1,4 +1,4 @@
--- Laws of calls and of what was written, for the proofs of callers.
+-- Lemmas on deliveries, writes and flushes, for the proofs of callers.
 use Rattle.std.proofs.Common.{◌≡◌, Bool, false, ℕ, List, [], ◌++◌, Option, Some, None, Ok, refl, sym, ap, ◌∙◌, arith}
 use Rattle.std.proofs.Common.{append-nil, subst}
 use Rattle.std.proofs.Common.{append_assoc}

@@ -1,4 +1,4 @@
-//! Where bytes come from and go to: readers and writers that remember a failure.
+//! Readers and writers that remember a failure, with ghost logs of the bytes that they delivered and accepted.
 #![tactic(auto)]
 
 mod device;

@@ -1,10 +1,10 @@
-//! The bytes that crossed, for proofs alone: a log takes no memory, and its methods do nothing when they run.
+//! A ghost log of bytes: only proofs read it. It takes no memory, and its methods do nothing at run time.
 ghost use Rattle.std.specs.Prelude.{◌≡◌, ℕ, List, [], ◌++◌};
 ghost use Rattle.std.specs.Borrow.{ftrue};
 
 use std::marker::{Model, PhantomData, Send};
 
-/// The bytes that crossed so far, in order.
+/// The bytes that a device has delivered or accepted so far, in order.
 #[derive(Drop)]
 pub struct Log {
     marker: PhantomData<u8>,
@@ -15,11 +15,11 @@ impl Model for Log {
     ghost also_owns = { λ _. ftrue };
 }
 
-// It owns nothing.
+// A log owns nothing.
 unsafe impl Send for Log {}
 
 impl Log {
-    /// Nothing has crossed.
+    /// Returns an empty log.
     pub fn new() -> Log
         ensures { result.bytes ≡ [] }
     {
@@ -28,7 +28,7 @@ impl Log {
         }
     }
 
-    /// These bytes have crossed behind the others.
+    /// Appends these bytes.
     #[inline(always)]
     pub fn note(&mut self, _bytes: &[u8])
         ensures { self.new.bytes ≡ self.old.bytes ++ _bytes.now }

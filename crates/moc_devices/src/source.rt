@@ -1,4 +1,4 @@
-//! Where bytes come from.
+//! Readers of bytes.
 ghost use Rattle.std.specs.Prelude.{◌≡◌, ◌≤◌, ◌||◌, Bool, [], false, IfOk, is_err, length};
 ghost use Rattle.moc_devices.specs.Devices.{Reading, Reads, found_end};
 
@@ -6,41 +6,45 @@ use crate::device::DeviceFault;
 use crate::log::Log;
 use std::io::Read;
 
-/// A reader of bytes that remembers a failure.
+/// A reader of bytes that remembers whether one of its calls has failed.
 pub trait Source {
-    /// The bytes that its reads have delivered, whether the last of them found the end, and, where it tells them, the
-    /// bytes that it has still to give.
+    /// The bytes that its reads have delivered, whether the last read found the end, and, if the source reports them,
+    /// the bytes that are still to come.
     ghost reading: { Self → Reading };
 
-    /// Whether a call of it has failed.
+    /// Whether one of its calls has failed.
     ghost mark: { Self → Bool };
 
-    /// Reads some bytes into the front of the buffer, and answers how many: none only at the end or with no room. A
-    /// failed read moves no byte.
+    /// Reads some bytes into the front of the buffer and returns their number, which is 0 only at the end of the input
+    /// or if the buffer is empty.
+    ///
+    /// # Errors
+    ///
+    /// `DeviceFault` if the reader fails; then no byte is delivered.
     fn read(&mut self, buffer: &mut [u8]) -> Result<usize, DeviceFault>
         ensures count { IfOk result (λ n. n ≤ length buffer.new) }
         ensures bytes { Reads (reading self.old) (reading self.new) result buffer.new }
         ensures ended { (reading self.new).ended ≡ found_end result buffer.new }
         ensures marks { mark self.new ≡ (mark self.old || is_err result) };
 
-    /// Whether a call of it has failed.
+    /// Returns whether one of its calls has failed.
     fn is_marked(&self) -> bool
         ensures { result ≡ mark self.now };
 }
 
-/// A source over a reader of std.
+/// A [`Source`] over a reader of std, such as standard input.
 #[derive(Drop)]
 pub struct OverReader<R> {
     reader: R,
     is_marked: bool,
     /// Whether the last read found the end.
     is_ended: bool,
-    /// What the reader delivered.
+    /// The bytes that the reader delivered.
     log: Log,
 }
 
 impl<R: Read> OverReader<R> {
-    /// The source of a reader, unmarked.
+    /// Returns the source of a reader: no call has failed, and nothing is delivered yet.
     pub fn new(reader: R) -> OverReader<R>
         ensures unmarked { ⟦<OverReader<R> as Source>⟧.mark result ≡ false }
         ensures nothing { (⟦<OverReader<R> as Source>⟧.reading result).delivered ≡ [] }

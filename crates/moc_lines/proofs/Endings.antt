@@ -2,19 +2,16 @@
 use Rattle.std.proofs.Common.{◌≡◌, inl, inr, ℕ, true, false, ◌&&◌, cond, leb, le-leb, List, [], ◌∷◌, ◌++◌, length}
 use Rattle.std.proofs.Common.{Option, Some, None, Result, Ok, Err, refl, sym, ap, ◌∙◌, append_assoc, append-nil, ⊎_elim}
 use Rattle.std.proofs.Common.{subst}
-use Rattle.std.specs.Option.{IfSome}
 use Rattle.std.specs.List.{list_all, take_while}
 use Rattle.std.proofs.lemmas.List.Sums.{take_while-cons}
-use Rattle.std.specs.Io.KnownBytes.{Appends, Consumes, IsAtEnd}
 use Rattle.moc_text.specs.Lines.{lines_of}
 use Rattle.moc_lines.specs.Runs.{Rules, is_short, answers_to, after_lines, closing_behind, script_text, AreShort}
-use Rattle.moc_lines.specs.Runs.{AnswersGiven, Crosses, IsWritten, Runs, WritesBeginning}
-use Rattle.moc_devices.specs.Devices.{Reading, IsEnded, Writing, AcceptsNone, Sends}
+use Rattle.moc_lines.specs.Runs.{AnswersAll, IsOutput, Runs}
+use Rattle.moc_devices.specs.Devices.{Reading, IsEnded, Writing, Accepts, AcceptsNone, Sends}
 use Rattle.moc_devices.specs.Lemmas.{Accepts-kept, Accepts-trans}
 use Rattle.moc_lines.specs.Private.Ended.{Ended, text_at}
 use Rattle.moc_lines.specs.declared.run_error.RunError.{RunError}
 use Rattle.moc_lines.specs.declared.run_error.RunError.TheVariants.{Read, Write, LineTooLong, Memory}
-use Rattle.moc_lines.proofs.Progress.{at_end}
 use Rattle.moc_lines.proofs.Outcomes.{at_ok}
 use Rattle.std.specs.Result.{is_err, OnOk}
 
@@ -77,22 +74,22 @@ module _ {S : Type 0} (limit : ℕ) (rules : Rules S) where
       let front = e.front more last in beginning s (e.given ++ more) e.lines front.0 e.within front.1
 
   -- the writer failed before what is pending was written
-  Crosses-unsent : (s : S) (a b : Reading) (w v : Writing) (pending : List ℕ) → Ended limit rules s a b w v pending (Err Write) → Crosses limit rules s a b w v (Err Write)
-  Crosses-unsent s a b w v pending e = record {
-    given = e.given;
-    text = e.sent;
+  Runs-unsent : (s : S) (a b : Reading) (w v : Writing) (pending : List ℕ) → Ended limit rules s a b w v pending (Err Write) → Runs limit rules s a b w v (Err Write)
+  Runs-unsent s a b w v pending e = record {
+    input = e.given;
+    output = e.sent;
     delivered = e.consumed;
     accepted = e.appended;
-    begins = λ more last.
+    is_prefix = λ more last.
         let text = said_begins s a b w v pending (Err Write) e more last in
         (e.text.0 ++ text.0, text.1 ∙ ap (λ l. l ++ text.0) e.text.1 ∙ append_assoc e.sent e.text.0 text.0);
-    answers = tt;
+    is_output = tt;
   }
 
-  pub Crosses-ended : (s : S) (a b : Reading) (w v : Writing) (pending : List ℕ) (r : Result (Unit {0}) RunError) → r ≡ Err Write → Ended limit rules s a b w v pending r → Crosses limit rules s a b w v r
-  Crosses-ended s a b w v pending r is e =
-      subst (λ (q : Result (Unit {0}) RunError). Crosses limit rules s a b w v q) (sym is)
-      (Crosses-unsent s a b w v pending (subst (λ (q : Result (Unit {0}) RunError). Ended limit rules s a b w v pending q) is e))
+  pub Runs-ended : (s : S) (a b : Reading) (w v : Writing) (pending : List ℕ) (r : Result (Unit {0}) RunError) → r ≡ Err Write → Ended limit rules s a b w v pending r → Runs limit rules s a b w v r
+  Runs-ended s a b w v pending r is e =
+      subst (λ (q : Result (Unit {0}) RunError). Runs limit rules s a b w v q) (sym is)
+      (Runs-unsent s a b w v pending (subst (λ (q : Result (Unit {0}) RunError). Ended limit rules s a b w v pending q) is e))
 
   -- what is written and pending is what is said, where the writer has not failed
   said_is : (s : S) (a b : Reading) (w v : Writing) (pending : List ℕ) (r : Result (Unit {0}) RunError) → (r ≡ Err Write → ⊥) → (e : Ended limit rules s a b w v pending r)
@@ -104,25 +101,25 @@ module _ {S : Type 0} (limit : ℕ) (rules : Rules S) where
   said_is s a b w v pending (Err (Memory line)) other e = e.text
 
   -- the writer failed while what is pending was written, or was flushed
-  pub Crosses-failed : {E : Type 0} (s : S) (a b : Reading) (w v u x : Writing) (pending pending' : List ℕ) (r : Result (Unit {0}) RunError) (sends : Result (Unit {0}) E) → (r ≡ Err Write → ⊥)
-      → Ended limit rules s a b w v pending r → Sends pending v pending' u sends → AcceptsNone u x → Crosses limit rules s a b w x (Err Write)
-  Crosses-failed s a b w v u x pending pending' r sends other e sent kept =
+  pub Runs-failed : {E : Type 0} (s : S) (a b : Reading) (w v u x : Writing) (pending pending' : List ℕ) (r : Result (Unit {0}) RunError) (sends : Result (Unit {0}) E) → (r ≡ Err Write → ⊥)
+      → Ended limit rules s a b w v pending r → Sends pending v pending' u sends → AcceptsNone u x → Runs limit rules s a b w x (Err Write)
+  Runs-failed s a b w v u x pending pending' r sends other e sent kept =
       let answers = said_is s a b w v pending r other e in record {
-        given = e.given;
-        text = e.sent ++ sent.sent;
+        input = e.given;
+        output = e.sent ++ sent.sent;
         delivered = e.consumed;
         accepted = Accepts-kept w u x (e.sent ++ sent.sent) (Accepts-trans w v u e.sent sent.sent e.appended sent.appended) kept;
-        begins = λ more last.
+        is_prefix = λ more last.
             let text = said_begins s a b w v pending r e more last in (
               sent.rest ++ text.0,
               text.1 ∙ ap (λ l. l ++ text.0) (answers ∙ ap (λ l. e.sent ++ l) sent.parts ∙ sym (append_assoc e.sent sent.sent sent.rest)) ∙ append_assoc (e.sent ++ sent.sent) sent.rest text.0,
             );
-        answers = tt;
+        is_output = tt;
       }
 
   -- where it ended, what is written is what it says
   written : (s : S) (a b : Reading) (w v : Writing) (pending : List ℕ) (r : Result (Unit {0}) RunError) → (r ≡ Err Write → ⊥)
-      → (e : Ended limit rules s a b w v pending r) → AnswersGiven limit rules s e.given b r (text_at rules s e.lines r)
+      → (e : Ended limit rules s a b w v pending r) → IsOutput limit rules s e.given b r (text_at rules s e.lines r)
   written s a b w v pending (Ok u) other e = (
     e.ends.0,
     subst (AreShort limit) e.ends.1 e.within,
@@ -134,88 +131,23 @@ module _ {S : Type 0} (limit : ℕ) (rules : Rules S) where
   written s a b w v pending (Err (Memory line)) other e = (e.ends.0, subst (AreShort limit) e.ends.1 e.within, ap (answers_to rules s) e.ends.1)
 
   -- all is written
-  pub Crosses-sent : {E : Type 0} (s : S) (a b : Reading) (w v u x : Writing) (pending pending' : List ℕ) (r : Result (Unit {0}) RunError) (sends : Result (Unit {0}) E) → (r ≡ Err Write → ⊥)
-      → Ended limit rules s a b w v pending r → Sends pending v pending' u sends → is_err sends ≡ false → pending' ≡ [] → AcceptsNone u x → Crosses limit rules s a b w x r
-  Crosses-sent s a b w v u x pending pending' r sends other e sent ok empty kept =
+  pub Runs-sent : {E : Type 0} (s : S) (a b : Reading) (w v u x : Writing) (pending pending' : List ℕ) (r : Result (Unit {0}) RunError) (sends : Result (Unit {0}) E) → (r ≡ Err Write → ⊥)
+      → Ended limit rules s a b w v pending r → Sends pending v pending' u sends → is_err sends ≡ false → pending' ≡ [] → AcceptsNone u x → Runs limit rules s a b w x r
+  Runs-sent s a b w v u x pending pending' r sends other e sent ok empty kept =
       let answers = said_is s a b w v pending r other e in
       let rest = sym (at_ok sends ok sent.pending) ∙ empty in
       let all : text_at rules s e.lines r ≡ e.sent ++ sent.sent =
       answers ∙ ap (λ l. e.sent ++ l) (sent.parts ∙ ap (λ l. sent.sent ++ l) rest ∙ append-nil sent.sent) in record {
-        given = e.given;
-        text = e.sent ++ sent.sent;
+        input = e.given;
+        output = e.sent ++ sent.sent;
         delivered = e.consumed;
         accepted = Accepts-kept w u x (e.sent ++ sent.sent) (Accepts-trans w v u e.sent sent.sent e.appended sent.appended) kept;
-        begins = λ more last. let text = said_begins s a b w v pending r e more last in (text.0, text.1 ∙ ap (λ l. l ++ text.0) all);
-        answers = subst (AnswersGiven limit rules s e.given b r) all (written s a b w v pending r other e);
+        is_prefix = λ more last. let text = said_begins s a b w v pending r e more last in (text.0, text.1 ∙ ap (λ l. l ++ text.0) all);
+        is_output = subst (IsOutput limit rules s e.given b r) all (written s a b w v pending r other e);
       }
 
-  -- Devices that tell their bytes
-
-  -- all that was read follows from what was given and what is left
-  input_is : (input given : List ℕ) (b : Option (List ℕ)) → Consumes (Some input) b given → (more : List ℕ) × (b ≡ Some more) × (input ≡ given ++ more)
-  input_is input given None consumed = absurd consumed
-  input_is input given (Some more) consumed = (more, refl, consumed)
-
-  -- at the reader's end all was given
-  all_given : (input given : List ℕ) (b : Option (List ℕ)) → Consumes (Some input) b given → IsAtEnd b → given ≡ input
-  all_given input given b consumed end =
-      let all = input_is input given b consumed in
-      sym (all.2 ∙ ap (λ l. given ++ l) (at_end b all.0 end all.1) ∙ append-nil given)
-
-  module _ (s : S) (a b : Reading) (w v : Writing) where
-    begins_told : (r : Result (Unit {0}) RunError) (c : Crosses limit rules s a b w v r) (input : List ℕ) → Consumes (Some input) b.left c.given
-        → (rest : List ℕ) × (script_text rules limit s input ≡ c.text ++ rest)
-    begins_told r c input consumed =
-        let all = input_is input c.given b.left consumed in
-        let begins = c.begins all.0 (λ end. at_end b.left all.0 end.none all.1) in
-        (begins.0, ap (script_text rules limit s) all.2 ∙ begins.1)
-
-    written_told : (r : Result (Unit {0}) RunError) (c : Crosses limit rules s a b w v r) (input : List ℕ) → Consumes (Some input) b.left c.given
-        → IsWritten limit rules s input c.given r c.text
-    written_told (Ok u) c input consumed =
-        let same = all_given input c.given b.left consumed c.answers.0.none in
-        (same, subst (λ l. AreShort limit (lines_of l)) same c.answers.1, c.answers.2 ∙ ap (script_text rules limit s) same)
-    written_told (Err Write) c input consumed = begins_told (Err Write) c input consumed
-    written_told (Err Read) c input consumed = c.answers
-    written_told (Err (LineTooLong line)) c input consumed = c.answers
-    written_told (Err (Memory line)) c input consumed = (
-      ⊎_elim inl (λ closed. inr (all_given input c.given b.left consumed closed.0.none, closed.1)) c.answers.0,
-      c.answers.1,
-      c.answers.2,
-    )
-
-    -- what a run did with a source that tells what it has to give
-    pub Runs-told : (r : Result (Unit {0}) RunError) → Crosses limit rules s a b w v r → IfSome a.left (λ input. Runs limit rules s input b.left w.written v.written r)
-    Runs-told r c =
-        let of : (x : Option (List ℕ)) → Consumes x b.left c.given → IfSome x (λ input. Runs limit rules s input b.left w.written v.written r) =
-        elim [
-          | None ↦ λ consumed. tt
-          | Some input ↦ λ consumed. record {
-            given = c.given;
-            text = c.text;
-            consumed = consumed;
-            appended = c.accepted.appended;
-            is_written = written_told r c input consumed;
-          }
-        ] in
-        of a.left c.delivered.consumed
-
-    -- so the text begins with what is written
-    pub WritesBeginning-told : (r : Result (Unit {0}) RunError) → Crosses limit rules s a b w v r → IfSome a.left (λ input. WritesBeginning limit rules s input w.written v.written)
-    WritesBeginning-told r c =
-        let of : (x : Option (List ℕ)) → Consumes x b.left c.given → IfSome x (λ input. WritesBeginning limit rules s input w.written v.written) =
-        elim [
-          | None ↦ λ consumed. tt
-          | Some input ↦ λ consumed.
-              let begins = begins_told r c input consumed in
-              record { text = c.text; rest = begins.0; appended = c.accepted.appended; parts = begins.1 }
-        ] in
-        of a.left c.delivered.consumed
-
-  -- a run that ended well wrote the text
-  pub answers-ok : (s : S) (a b w v : Option (List ℕ)) (r : Result (Unit {0}) RunError) → IfSome a (λ input. Runs limit rules s input b w v r)
-      → OnOk r (IfSome a (λ input. Appends w v (script_text rules limit s input)))
-  answers-ok s None b w v (Ok u) runs = tt
-  answers-ok s None b w v (Err e) runs = tt
-  answers-ok s (Some input) b w v (Ok u) runs = subst (Appends w v) runs.is_written.2 runs.appended
-  answers-ok s (Some input) b w v (Err e) runs = tt
+  -- a run that ended well answered its whole input
+  pub AnswersAll-ok : (s : S) (a b : Reading) (w v : Writing) (r : Result (Unit {0}) RunError) → Runs limit rules s a b w v r
+      → OnOk r (AnswersAll (script_text rules limit s) a b w v)
+  AnswersAll-ok s a b w v (Ok u) runs = (runs.input, runs.delivered, runs.is_output.0, subst (Accepts w v) runs.is_output.2 runs.accepted)
+  AnswersAll-ok s a b w v (Err e) runs = tt

@@ -5,6 +5,7 @@ pub mod Turns
 pub mod Outcomes
 pub mod Progress
 pub mod Endings
+pub mod ReportedInput
 pub mod Batching
 pub mod NearLemmas
 pub mod WholeReading

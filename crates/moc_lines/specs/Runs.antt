@@ -9,7 +9,6 @@ use Rattle.moc_lists.specs.RangeList.{NumberSet}
 use Rattle.moc_parts.specs.declared.command.Command.{Command}
 use Rattle.moc_lines.specs.declared.fault.LineFault.{LineFault}
 use Rattle.moc_lines.specs.Language.{batch_of, command_of, line_answer, after_line}
-use Rattle.std.specs.Io.KnownBytes.{Appends, Consumes}
 use Rattle.moc_devices.specs.Devices.{Reading, Delivers, IsEnded, Writing, Accepts, CallsMore}
 use Rattle.moc_lines.specs.declared.run_error.RunError.{RunError}
 use Rattle.moc_lines.specs.declared.run_error.RunError.TheVariants.{Read, Write, LineTooLong, Memory}
@@ -123,64 +122,48 @@ Flushes (Err Write) old new = CallsMore old new 0 ⊎ CallsMore old new 1
 Flushes (Err _) old new = CallsMore old new 0
 
 module _ {S : Type 0} (limit : ℕ) (rules : Rules S) (s : S) where
-  -- The text that is written by a run that ends so, by what was given: at Ok the source has told its end, and it is the
-  -- answers to all that was given; at a fault but the writer's it is the answers to the lines before the fault.
-  abbrev pub AnswersGiven : List ℕ → Reading → Result (Unit {0}) RunError → List ℕ → Type 0
-  AnswersGiven given at (Ok _) text =
-      IsEnded at × AreShort limit (lines_of given) × (text ≡ script_text rules limit s given)
-  AnswersGiven given at (Err Write) text = Unit {0}
-  AnswersGiven given at (Err Read) text =
-      AreShort limit (whole_lines_of given) × (text ≡ answers_to rules s (whole_lines_of given))
-  AnswersGiven given at (Err (LineTooLong line)) text =
-      IsTooLong limit (lines_of given) line × AreShort limit (lines_before line given)
-      × (text ≡ answers_to rules s (lines_before line given))
-  AnswersGiven given at (Err (Memory line)) text =
-      (IsBegunLine line given ⊎ (IsEnded at × IsUnclosed line given (closing_behind rules s (lines_of given))))
-      × AreShort limit (lines_before line given) × (text ≡ answers_to rules s (lines_before line given))
+  -- The output of a run with this result whose source delivered this input. At Ok the source has ended, and the output
+  -- is the text of the whole input. At an error that is not the writer's it is the answers to the lines before the
+  -- error. After a failed write only `Runs.is_prefix` is known.
+  abbrev pub IsOutput : (input : List ℕ) (at_end : Reading) → Result (Unit {0}) RunError → (output : List ℕ) → Type 0
+  IsOutput input at_end (Ok _) output =
+      IsEnded at_end × AreShort limit (lines_of input) × (output ≡ script_text rules limit s input)
+  IsOutput input at_end (Err Write) output = Unit {0}
+  IsOutput input at_end (Err Read) output =
+      AreShort limit (whole_lines_of input) × (output ≡ answers_to rules s (whole_lines_of input))
+  IsOutput input at_end (Err (LineTooLong line)) output =
+      IsTooLong limit (lines_of input) line × AreShort limit (lines_before line input)
+      × (output ≡ answers_to rules s (lines_before line input))
+  IsOutput input at_end (Err (Memory line)) output =
+      (IsBegunLine line input
+      ⊎ (IsEnded at_end × IsUnclosed line input (closing_behind rules s (lines_of input))))
+      × AreShort limit (lines_before line input) × (output ≡ answers_to rules s (lines_before line input))
 
-  -- What a run that ends so made of the bytes that its source delivered: its sink accepted their answers, as the
-  -- outcome names them. However the bytes go on, if they do, what was accepted is a beginning of the answers to them
-  -- all.
-  pub record Crosses (reading reading' : Reading) (writing writing' : Writing) (result : Result (Unit {0}) RunError)
+  -- What a run did: its source delivered the input, and its sink accepted the output. The output is a prefix of the
+  -- text of the input and of any bytes that may still follow; no byte follows once the source has ended.
+  pub record Runs (reading reading' : Reading) (writing writing' : Writing) (result : Result (Unit {0}) RunError)
       : Type 0 where
-    pub given : List ℕ
-    pub text : List ℕ
-    pub delivered : Delivers reading reading' given
-    pub accepted : Accepts writing writing' text
-    pub begins : (more : List ℕ) → (IsEnded reading' → more ≡ [])
-        → (rest : List ℕ) × (script_text rules limit s (given ++ more) ≡ text ++ rest)
-    pub answers : AnswersGiven given reading' result text
+    pub input : List ℕ
+    pub output : List ℕ
+    pub delivered : Delivers reading reading' input
+    pub accepted : Accepts writing writing' output
+    pub is_prefix : (more : List ℕ) → (IsEnded reading' → more ≡ [])
+        → (rest : List ℕ) × (script_text rules limit s (input ++ more) ≡ output ++ rest)
+    pub is_output : IsOutput input reading' result output
 
-  -- The text that is written by a run that ends so, of an input of which it read what was given: all of the text at the
-  -- end, a beginning of it where the writer failed, else the answers to the lines before the fault.
-  abbrev pub IsWritten : List ℕ → List ℕ → Result (Unit {0}) RunError → List ℕ → Type 0
-  IsWritten input given (Ok _) text =
-      (given ≡ input) × AreShort limit (lines_of input) × (text ≡ script_text rules limit s input)
-  IsWritten input given (Err Write) text = (rest : List ℕ) × (script_text rules limit s input ≡ text ++ rest)
-  IsWritten input given (Err Read) text =
-      AreShort limit (whole_lines_of given) × (text ≡ answers_to rules s (whole_lines_of given))
-  IsWritten input given (Err (LineTooLong line)) text =
-      IsTooLong limit (lines_of given) line × AreShort limit (lines_before line given)
-      × (text ≡ answers_to rules s (lines_before line given))
-  IsWritten input given (Err (Memory line)) text =
-      (IsBegunLine line given ⊎ ((given ≡ input) × IsUnclosed line given (closing_behind rules s (lines_of given))))
-      × AreShort limit (lines_before line given) × (text ≡ answers_to rules s (lines_before line given))
+-- The source delivered its whole input, to its end, and the sink accepted the text of that input.
+abbrev pub AnswersAll : (text_of : List ℕ → List ℕ) (reading reading' : Reading) (writing writing' : Writing) → Type 0
+AnswersAll text_of reading reading' writing writing' =
+    (input : List ℕ) × Delivers reading reading' input × IsEnded reading' × Accepts writing writing' (text_of input)
 
-  -- of its input a run was given a front, and it wrote what its outcome names
-  pub record Runs (input : List ℕ) (left written written' : Option (List ℕ)) (result : Result (Unit {0}) RunError)
-      : Type 0 where
-    pub given : List ℕ
-    pub text : List ℕ
-    pub consumed : Consumes (Some input) left given
-    pub appended : Appends written written' text
-    pub is_written : IsWritten input given result text
-
-  -- what was written is a beginning of the text that a script is answered with
-  pub record WritesBeginning (input : List ℕ) (written written' : Option (List ℕ)) : Type 0 where
-    pub text : List ℕ
-    pub rest : List ℕ
-    pub appended : Appends written written' text
-    pub parts : script_text rules limit s input ≡ text ++ rest
+-- If the source reports its input, then whatever the result is, the output is a prefix of the text of that input; at Ok
+-- the source delivered the whole of it.
+pub record AnswersReportedInput {S : Type 0} (limit : ℕ) (rules : Rules S) : Type 0 where
+  pub is_prefix : (s : S) (input : List ℕ) (a b : Reading) (w v : Writing) (result : Result (Unit {0}) RunError)
+      → a.left ≡ Some input → (runs : Runs limit rules s a b w v result)
+      → (rest : List ℕ) × (script_text rules limit s input ≡ runs.output ++ rest)
+  pub is_whole : (s : S) (input : List ℕ) (a b : Reading) (w v : Writing) (result : Result (Unit {0}) RunError)
+      → a.left ≡ Some input → (runs : Runs limit rules s a b w v result) → OnOk result (runs.input ≡ input)
 
 -- A script that is read whole
 

@@ -18,6 +18,7 @@ mod responder;
 mod run_error;
 mod runner;
 mod script;
+mod theorems;
 mod words;
 
 pub use fault::{LineFault, ReadError, push_fault};
@@ -34,4 +35,5 @@ pub use responder::Responder;
 pub use run_error::RunError;
 pub use runner::answer_all_lines;
 pub use script::run;
+pub use theorems::reported_input_is_answered;
 pub use words::{is_blank_text, is_word, number_in, split_word};

@@ -1,9 +1,7 @@
 //! Numbers of cells, told in another numbering, from a reader to a writer.
-ghost use Rattle.std.specs.Prelude.{◌≡◌, ◌++◌, ◌∷◌, ◌-◌, ◌^◌, [], IfSome, false, OnOk, decimal, min};
-ghost use Rattle.std.specs.Io.KnownBytes.{Appends};
+ghost use Rattle.std.specs.Prelude.{◌≡◌, ◌++◌, ◌∷◌, ◌-◌, ◌^◌, [], false, OnOk, decimal, min};
 ghost use Rattle.std.specs.Result.{result_map_both};
-ghost use Rattle.moc_lines.specs.Runs.{script_text, Crosses, EndsFlushed, Flushes, Runs, TellsFailed, WritesBeginning};
-ghost use Rattle.moc_lines.specs.Runs.{line_limit};
+ghost use Rattle.moc_lines.specs.Runs.{script_text, line_limit, AnswersAll, EndsFlushed, Flushes, Runs, TellsFailed};
 ghost use Rattle.moc_lines.specs.Language.{◌>>=◌ as and_then};
 ghost use Rattle.moc_lines.specs.Numberings.{number_on, other_number, renumber_rules};
 
@@ -127,23 +125,14 @@ pub fn renumber<R: Source, W: Sink>(
     requires reader { R.mark reader.old ≡ false }
     requires writer { W.mark writer.old ≡ false }
 
-    // What the sink accepted is the defined answers to what the source delivered, as far as the outcome says, whatever
-    // the devices tell.
-    ensures crosses { Crosses line_limit renumber_rules renumbering
+    // The sink accepts the defined answers to what the source delivers. This needs no assumption about the devices:
+    // standard input and output are included.
+    ensures renumbers { Runs line_limit renumber_rules renumbering
         (R.reading reader.old) (R.reading reader.new) (W.writing writer.old) (W.writing writer.new) result }
 
-    // So, over a source that tells what it has to give, what is written is the defined answers to what was read.
-    ensures renumbers { IfSome (R.reading reader.old).left (λ input.
-        Runs line_limit renumber_rules renumbering input
-        (R.reading reader.new).left (W.writing writer.old).written (W.writing writer.new).written result) }
-
-    // So it is a beginning of the answers to the whole input, and all of them where no fault comes.
-    ensures begins { IfSome (R.reading reader.old).left (λ input.
-        WritesBeginning line_limit renumber_rules renumbering input
-        (W.writing writer.old).written (W.writing writer.new).written) }
-    ensures answers { OnOk result (IfSome (R.reading reader.old).left (λ input.
-        Appends (W.writing writer.old).written (W.writing writer.new).written
-        (script_text renumber_rules line_limit renumbering input))) }
+    // If the call succeeds, the source has ended, and the sink accepted the text of the whole input.
+    ensures answers { OnOk result (AnswersAll (script_text renumber_rules line_limit renumbering)
+        (R.reading reader.old) (R.reading reader.new) (W.writing writer.old) (W.writing writer.new)) }
 
     // Only the reader's end ends it without a fault, and then all is flushed, at once.
     ensures end { EndsFlushed result (R.reading reader.new) (W.flushed writer.old) (W.flushed writer.new) }

@@ -1,11 +1,10 @@
 //! A run under way.
-ghost use Rattle.std.specs.Prelude.{◌≡◌, ◌≢◌, ◌++◌, [], IfOk, IfErr, IfSome, if◌then◌else◌, IsTrue, ◌↔◌, false};
+ghost use Rattle.std.specs.Prelude.{◌≡◌, ◌≢◌, ◌++◌, [], IfOk, IfErr, if◌then◌else◌, IsTrue, ◌↔◌, false};
 ghost use Rattle.std.specs.Prelude.{OnOk, OnErr, IsErrOf, Err, is_err};
-ghost use Rattle.std.specs.Io.KnownBytes.{Appends};
 ghost use Rattle.moc_devices.specs.Devices.{AcceptsNone, CallsMore, FlushesNothing, OnlyWrites, Sends};
 ghost use Rattle.moc_lines.specs.Private.LineReading.{IsOfLine, PermitsReadsWithinLine, TakesLine, holds_line};
-ghost use Rattle.moc_lines.specs.Runs.{script_text, Crosses, EndsFlushed, Flushes, Runs, TellsFailed, WritesBeginning};
-ghost use Rattle.moc_lines.specs.Runs.{AreLinesAnswered, line_limit};
+ghost use Rattle.moc_lines.specs.Runs.{script_text, line_limit, AnswersAll, EndsFlushed, Flushes, Runs, TellsFailed};
+ghost use Rattle.moc_lines.specs.Runs.{AreLinesAnswered};
 ghost use Rattle.moc_lines.specs.Private.Ended.{Ended};
 
 use crate::line_reader::{Found, LINE_LIMIT, LineReader};
@@ -56,7 +55,7 @@ impl Runner {
             → AreLinesAnswered A.rules responder.old
                 (R.reading reader.old) (R.reading r) (W.writing writer.old) (W.writing w)
             → R.may_read r w }
-        ensures crosses { Crosses LINE_LIMIT A.rules responder.old
+        ensures runs { Runs LINE_LIMIT A.rules responder.old
             (R.reading reader.old) (R.reading reader.new) (W.writing writer.old) (W.writing writer.new) result }
         ensures end { EndsFlushed result (R.reading reader.new) (W.flushed writer.old) (W.flushed writer.new) }
         ensures flushes { Flushes result (W.flushes writer.old) (W.flushes writer.new) }
@@ -226,23 +225,14 @@ pub fn answer_all_lines<A: Responder, R: GuardedSource<W>, W: Sink>(
             (R.reading reader.old) (R.reading r) (W.writing writer.old) (W.writing w)
         → R.may_read r w }
 
-    // What the sink accepted is the defined answers to what the source delivered, as far as the outcome says, whatever
-    // the devices tell.
-    ensures crosses { Crosses line_limit A.rules responder.old
+    // The sink accepts the defined answers to what the source delivers. This needs no assumption about the devices:
+    // standard input and output are included.
+    ensures runs { Runs line_limit A.rules responder.old
         (R.reading reader.old) (R.reading reader.new) (W.writing writer.old) (W.writing writer.new) result }
 
-    // So, over a source that tells what it has to give, what is written is the defined answers to what was read.
-    ensures runs { IfSome (R.reading reader.old).left (λ input.
-        Runs line_limit A.rules responder.old input
-        (R.reading reader.new).left (W.writing writer.old).written (W.writing writer.new).written result) }
-
-    // So it is a beginning of the answers to the whole input, and all of them where no fault comes.
-    ensures begins { IfSome (R.reading reader.old).left (λ input.
-        WritesBeginning line_limit A.rules responder.old input
-        (W.writing writer.old).written (W.writing writer.new).written) }
-    ensures answers { OnOk result (IfSome (R.reading reader.old).left (λ input.
-        Appends (W.writing writer.old).written (W.writing writer.new).written
-        (script_text A.rules line_limit responder.old input))) }
+    // If the call succeeds, the source has ended, and the sink accepted the text of the whole input.
+    ensures answers { OnOk result (AnswersAll (script_text A.rules line_limit responder.old)
+        (R.reading reader.old) (R.reading reader.new) (W.writing writer.old) (W.writing writer.new)) }
 
     // Only the reader's end ends it without a fault, and then all is flushed, at once.
     ensures end { EndsFlushed result (R.reading reader.new) (W.flushed writer.old) (W.flushed writer.new) }

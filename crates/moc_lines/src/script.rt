@@ -1,9 +1,8 @@
 //! Scripts, run from a reader to a writer.
-ghost use Rattle.std.specs.Prelude.{◌≡◌, IfSome, false, OnOk};
-ghost use Rattle.std.specs.Io.KnownBytes.{Appends};
+ghost use Rattle.std.specs.Prelude.{◌≡◌, false, OnOk};
 ghost use Rattle.std.specs.FinSet as set;
-ghost use Rattle.moc_lines.specs.Runs.{Crosses, EndsFlushed, Flushes, Runs, TellsFailed, WritesBeginning, answers_of};
-ghost use Rattle.moc_lines.specs.Runs.{line_limit, script_rules};
+ghost use Rattle.moc_lines.specs.Runs.{answers_of, line_limit, script_rules};
+ghost use Rattle.moc_lines.specs.Runs.{AnswersAll, EndsFlushed, Flushes, Runs, TellsFailed};
 
 use crate::run_error::RunError;
 use crate::runner::answer_all_lines;
@@ -50,22 +49,14 @@ pub fn run<R: Source, W: Sink>(
     requires reader { R.mark reader.old ≡ false }
     requires writer { W.mark writer.old ≡ false }
 
-    // What the sink accepted is the defined answers to what the source delivered, as far as the outcome says, whatever
-    // the devices tell.
-    ensures crosses { Crosses line_limit script_rules set.empty
+    // The sink accepts the defined answers to what the source delivers. This needs no assumption about the devices:
+    // standard input and output are included.
+    ensures runs { Runs line_limit script_rules set.empty
         (R.reading reader.old) (R.reading reader.new) (W.writing writer.old) (W.writing writer.new) result }
 
-    // So, over a source that tells what it has to give, what is written is the defined answers to what was read.
-    ensures runs { IfSome (R.reading reader.old).left (λ input.
-        Runs line_limit script_rules set.empty input
-        (R.reading reader.new).left (W.writing writer.old).written (W.writing writer.new).written result) }
-
-    // So it is a beginning of the answers to the whole input, and all of them where no fault comes.
-    ensures begins { IfSome (R.reading reader.old).left (λ input.
-        WritesBeginning line_limit script_rules set.empty input
-        (W.writing writer.old).written (W.writing writer.new).written) }
-    ensures answers { OnOk result (IfSome (R.reading reader.old).left (λ input.
-        Appends (W.writing writer.old).written (W.writing writer.new).written (answers_of input))) }
+    // If the call succeeds, the source has ended, and the sink accepted the text of the whole input.
+    ensures answers { OnOk result (AnswersAll answers_of
+        (R.reading reader.old) (R.reading reader.new) (W.writing writer.old) (W.writing writer.new)) }
 
     // Only the reader's end ends a run without a fault, and then all is flushed, at once.
     ensures end { EndsFlushed result (R.reading reader.new) (W.flushed writer.old) (W.flushed writer.new) }

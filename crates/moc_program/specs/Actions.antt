@@ -4,7 +4,7 @@ use Rattle.std.specs.FinSet as set
 use Rattle.moc_devices.specs.Devices.{Reading, Writing, Accepts, AcceptsNone}
 use Rattle.moc_script.specs.Crews.{CrewEnds, lane_count}
 use Rattle.moc_lines.specs.Numberings.{renumber_rules}
-use Rattle.moc_lines.specs.Runs.{Crosses, line_limit, script_rules}
+use Rattle.moc_lines.specs.Runs.{Runs, line_limit, script_rules}
 use Rattle.moc_script.specs.Schedules.{schedule_rules, start_schedule}
 use Rattle.moc_conversion.specs.Combining.{CombinesAll, IsNotCombined}
 use Rattle.moc_conversion.specs.Conversion.{ChangesAll, ConvertsAll, DescribesAll, DrawsAll, IsNotConverted, IsNotDrawn}
@@ -44,16 +44,16 @@ abbrev pub ActionEnds :
     → Result (Unit {0}) ProgramFault → Type 0
 ActionEnds Run left left' w w' =
     RunEnds (λ error. program.Lines error)
-    (λ end. Crosses line_limit script_rules set.empty left left' w w' end)
+    (λ end. Runs line_limit script_rules set.empty left left' w w' end)
 ActionEnds Play left left' w w' =
     RunEnds (λ error. program.Lines error)
-    (λ end. Crosses line_limit schedule_rules start_schedule left left' w w' end)
+    (λ end. Runs line_limit schedule_rules start_schedule left left' w w' end)
 ActionEnds (Crew lanes) left left' w w' =
     RunEnds fault_of_crew (λ end. CrewEnds (lane_count lanes) left left' w w' end)
 ActionEnds (Number number) left left' w w' = PrintsText (IsNumberLine number) (IsNumberRefusal number) w w'
 ActionEnds (Renumber r) left left' w w' =
     RunEnds (λ error. program.Lines error)
-    (λ end. Crosses line_limit renumber_rules r left left' w w' end)
+    (λ end. Runs line_limit renumber_rules r left left' w w' end)
 ActionEnds (Convert from to) left left' w w' =
     PrintsText (ConvertsAll from to left left') (Complains (IsNotConverted from left left')) w w'
 ActionEnds (Check choice) left left' w w' =

@@ -1,7 +1,6 @@
 //! Schedules of steps, played from a reader to a writer.
-ghost use Rattle.std.specs.Prelude.{◌≡◌, IfSome, false, OnOk};
-ghost use Rattle.std.specs.Io.KnownBytes.{Appends};
-ghost use Rattle.moc_lines.specs.Runs.{Crosses, EndsFlushed, Flushes, Runs, TellsFailed, WritesBeginning, line_limit};
+ghost use Rattle.std.specs.Prelude.{◌≡◌, false, OnOk};
+ghost use Rattle.moc_lines.specs.Runs.{line_limit, AnswersAll, EndsFlushed, Flushes, Runs, TellsFailed};
 ghost use Rattle.moc_script.specs.Schedules.{schedule_rules, schedule_text, start_schedule};
 
 use crate::player::Player;
@@ -41,22 +40,14 @@ pub fn play<R: Source, W: Sink>(
     requires reader { R.mark reader.old ≡ false }
     requires writer { W.mark writer.old ≡ false }
 
-    // What the sink accepted is the defined answers to what the source delivered, as far as the outcome says, whatever
-    // the devices tell.
-    ensures crosses { Crosses line_limit schedule_rules start_schedule
+    // The sink accepts the defined answers to what the source delivers. This needs no assumption about the devices:
+    // standard input and output are included.
+    ensures plays { Runs line_limit schedule_rules start_schedule
         (R.reading reader.old) (R.reading reader.new) (W.writing writer.old) (W.writing writer.new) result }
 
-    // So, over a source that tells what it has to give, what is written is the defined answers to what was read.
-    ensures plays { IfSome (R.reading reader.old).left (λ input.
-        Runs line_limit schedule_rules start_schedule input
-        (R.reading reader.new).left (W.writing writer.old).written (W.writing writer.new).written result) }
-
-    // So it is a beginning of the answers to the whole input, and all of them where no fault comes.
-    ensures begins { IfSome (R.reading reader.old).left (λ input.
-        WritesBeginning line_limit schedule_rules start_schedule input
-        (W.writing writer.old).written (W.writing writer.new).written) }
-    ensures answers { OnOk result (IfSome (R.reading reader.old).left (λ input.
-        Appends (W.writing writer.old).written (W.writing writer.new).written (schedule_text input))) }
+    // If the call succeeds, the source has ended, and the sink accepted the text of the whole input.
+    ensures answers { OnOk result (AnswersAll schedule_text
+        (R.reading reader.old) (R.reading reader.new) (W.writing writer.old) (W.writing writer.new)) }
 
     // Only the reader's end ends it without a fault, and then all is flushed, at once.
     ensures end { EndsFlushed result (R.reading reader.new) (W.flushed writer.old) (W.flushed writer.new) }

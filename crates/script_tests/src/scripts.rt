@@ -1,6 +1,7 @@
 //! What scripts are answered.
 use crate::between::{Ended, Language, between, expect_answers, expect_end, holds};
 use crate::failing::{Devices, FailsOnce, Failure, PLENTY, failing_reader, failing_writer};
+use crate::silent::{SilentReader, SilentWriter, run_over_std};
 use moc_script::{
     CrewError, DeviceFault, LINE_LIMIT, LineFault, OverReader, OverWriter, ReadError, RunError,
     Sink, Source, StepFault, run, write_all,
@@ -339,6 +340,20 @@ fn failing_flush(rt: HostRuntime) {
         );
         expect_end(&rt, &ended, Err(RunError::Write), ANSWERS, 1);
     }
+}
+
+// Standard input and output report none of their bytes, and neither do these.
+#[test]
+fn devices_that_report_nothing(rt: HostRuntime) {
+    let mut writer = SilentWriter {
+        bytes: Vec::new(rt.alloc()),
+    };
+    let mut source = OverReader::new(SilentReader { rest: SCRIPT });
+    let mut sink = OverWriter::new(&mut writer);
+    let result = run_over_std(rt.alloc(), &mut source, &mut sink);
+    drop(sink);
+    assert_eq!(rt; result, Ok(()));
+    assert_eq!(rt; writer.bytes.as_slice(), ANSWERS);
 }
 
 // A device of std that has not been called yet, and fails at its first call alone.

@@ -1,5 +1,6 @@
 -- How texts of an input are taken piece by piece.
 use Rattle.std.specs.Prelude.{◌≡◌, ◌⊎◌, ℕ, ◌+◌, ◌<◌, ◌≤◌, List, [], ◌∷◌, ◌++◌, length, Option, None, Some}
+use Rattle.std.specs.Prelude.{slice_index_or}
 use Rattle.moc_devices.specs.Devices.{Reading, Delivers}
 use Rattle.std.specs.List.{AllByRecursion}
 use Rattle.moc_forms.specs.Combining.{CombinesTexts, TextSays, joined, texts_of, without_blank_end}
@@ -7,14 +8,11 @@ use Rattle.moc_forms.specs.declared.combining.Said.{Said}
 use Rattle.moc_text.specs.Lines.{pieces_of}
 use Rattle.moc_forms.specs.declared.combining.Operation.{Operation}
 use Rattle.moc_forms.specs.declared.finding.Choice.{Choice}
-use Rattle.moc_conversion.specs.Combining.{HasLongPiece, TellsFirstFault}
-use Rattle.moc_conversion.specs.Conversion.{input_limit}
-use Rattle.moc_conversion.specs.Faults.{want_of_memory}
+use Rattle.moc_conversion.specs.Combining.{ReportsLongText, TellsFirstFault, count_limit}
+use Rattle.moc_conversion.specs.Conversion.{IsOutOfMemory, input_limit}
 use Rattle.moc_conversion.specs.Private.Pieces.{LacksSemicolons}
 use Rattle.moc_conversion.specs.declared.combination.Combination.{Combination}
 use Rattle.moc_conversion.specs.declared.complaint.Complaint.{Complaint}
-use Rattle.moc_conversion.specs.declared.fault.InputFault.{InputFault}
-use Rattle.moc_conversion.specs.declared.fault.InputFault.TheVariants.{TooLong}
 
 -- the text that has not ended has no semicolon, and is no longer than an input may be
 pub record IsOpen (c : Combination) : Type 0 where
@@ -58,15 +56,19 @@ FailsCombination c rest complaint =
 abbrev pub FailsWithin : Combination → List ℕ → Complaint → Type 0
 FailsWithin c bytes complaint = (rest : List ℕ) → FailsCombination c (bytes ++ rest) complaint
 
--- with these bytes behind the text of a combination a part is longer than a text may be, or there are more parts than
--- are counted
-abbrev pub IsLong : Combination → List ℕ → Type 0
-IsLong c bytes = HasLongPiece (c.text.items ++ bytes) ⊎ (18446744073709551615 < c.number + length bytes)
+-- with these bytes after the text of a combination, the piece of this number is longer than a text may be, or there are
+-- more pieces than are counted
+abbrev pub IsLong : Combination → List ℕ → ℕ → Type 0
+IsLong c bytes number =
+    ((k : ℕ) × (number ≡ c.number + k)
+    × (input_limit < length (slice_index_or (pieces_of (c.text.items ++ bytes)) k [])))
+    ⊎ (count_limit < c.number + length bytes)
 
--- bytes were not taken: memory was refused, or something is too long, whatever stands behind them
-abbrev pub AreNotTaken : Combination → List ℕ → InputFault → Type 0
-AreNotTaken c bytes fault =
-    (fault ≡ want_of_memory) ⊎ ((fault ≡ TooLong) × ((rest : List ℕ) → IsLong c (bytes ++ rest)))
+-- bytes were not taken: memory ran out, or the text that is reported is too long, whatever follows the bytes
+abbrev pub AreNotTaken : Combination → List ℕ → Complaint → Type 0
+AreNotTaken c bytes complaint =
+    IsOutOfMemory complaint
+    ⊎ ((number : ℕ) × ReportsLongText number complaint × ((rest : List ℕ) → IsLong c (bytes ++ rest) number))
 
 -- a combination has taken these bytes behind another
 pub record Leads (c : Combination) (bytes : List ℕ) (d : Combination) : Type 0 where
@@ -76,7 +78,7 @@ pub record Leads (c : Combination) (bytes : List ℕ) (d : Combination) : Type 0
       → EndsCombination c (bytes ++ rest) after
   pub fails : (rest : List ℕ) (complaint : Complaint) → FailsCombination d rest complaint
       → FailsCombination c (bytes ++ rest) complaint
-  pub longer : (rest : List ℕ) → IsLong d rest → IsLong c (bytes ++ rest)
+  pub longer : (rest : List ℕ) (number : ℕ) → IsLong d rest number → IsLong c (bytes ++ rest) number
 
 -- the bytes that were left and are no more, and what a combination has become that took them
 abbrev pub RunsTo : Reading → Reading → Combination → Combination → Type 0

@@ -48,9 +48,9 @@ returns-in_err-take_bytes-clause-fault g c =
     handed_on c.from_residual-in_err-take_bytes.result told _ c.from_residual-in_err-take_bytes.ensures.1
     (piece_fails c.args.operation c.args.choice _ _ _ _ _ _ c.new-texts.ensures.begins c.loop-piece.invariant.taken.0
     (piece_is _ _ _ _ _ c.clear.ensures.items c.in_ok-read_chunk.ensures.brings) told
-    (subst (λ (bytes : List ℕ). AreNotTaken c.loop-piece.texts bytes told.fault ⊎ FailsWithin c.loop-piece.texts bytes told) c.deref.ensures.value c.in_err-take_bytes.ensures.fault))
+    (subst (λ (bytes : List ℕ). AreNotTaken c.loop-piece.texts bytes told ⊎ FailsWithin c.loop-piece.texts bytes told) c.deref.ensures.value c.in_err-take_bytes.ensures.fault))
 
 pub returns-clause-fault : goal.returns-clause-fault
 returns-clause-fault g c =
     let runs = c.loop-piece.invariant.taken in
-    inl (inr (inl (c.from.ensures.0, (runs.0.0, runs.0.1.0, inr (omega (arith, runs.1, c.loop-piece-test.false))))))
+    inl (inr (runs.0.0, runs.0.1.0, inr (c.from.ensures.0, omega (arith, runs.1, c.loop-piece-test.false))))

@@ -7,9 +7,8 @@ use Rattle.moc_forms.specs.Combining.{TextSays}
 use Rattle.moc_forms.specs.declared.combining.Said.{Said}
 use Rattle.moc_forms.specs.Finding.{form_for}
 use Rattle.moc_forms.specs.declared.finding.Choice.{Choice}
-use Rattle.moc_conversion.specs.Conversion.{IsPictureOf, TellsFault, TellsTexts, second_text}
+use Rattle.moc_conversion.specs.Conversion.{IsOutOfMemory, IsPictureOf, TellsFault, TellsTexts, second_text}
 use Rattle.moc_conversion.specs.declared.complaint.Complaint.{Complaint}
-use Rattle.moc_conversion.specs.Faults.{want_of_memory}
 use Rattle.moc_conversion.proofs.Checks.{handed_on}
 use Rattle.moc_conversion.proofs.drawing.pictured.Goals as goal
 
@@ -23,19 +22,19 @@ of_texts P bytes first second found one other is holds = subst₂ P (sym one) (s
 
 -- the texts tell a fault
 faulty : (choice : Choice) (bytes first : List ℕ) (second : Option (List ℕ)) (found : Option (Bor (List ℕ))) (c : Complaint) → before_first is_semicolon bytes ≡ first
-    → second_text bytes ≡ bytes_of found → bytes_of found ≡ second → (c.fault ≡ want_of_memory) ⊎ TellsTexts choice first second c
-    → (c.fault ≡ want_of_memory) ⊎ TellsTexts choice (before_first is_semicolon bytes) (second_text bytes) c
+    → second_text bytes ≡ bytes_of found → bytes_of found ≡ second → IsOutOfMemory c ⊎ TellsTexts choice first second c
+    → IsOutOfMemory c ⊎ TellsTexts choice (before_first is_semicolon bytes) (second_text bytes) c
 faulty choice bytes first second found c one other is (inl memory) = inl memory
 faulty choice bytes first second found c one other is (inr tells) =
     inr (of_texts (λ x y. TellsTexts choice x y c) bytes first second found one other is tells)
 
-first_fails : (choice : Choice) (first second : List ℕ) (c : Complaint) → (c.fault ≡ want_of_memory) ⊎ TellsFault (form_for choice first) first (Some 1) c
-    → (c.fault ≡ want_of_memory) ⊎ TellsTexts choice first (Some second) c
+first_fails : (choice : Choice) (first second : List ℕ) (c : Complaint) → IsOutOfMemory c ⊎ TellsFault (form_for choice first) first (Some 1) c
+    → IsOutOfMemory c ⊎ TellsTexts choice first (Some second) c
 first_fails choice first second c (inl memory) = inl memory
 first_fails choice first second c (inr tells) = inr (inl tells)
 
 second_fails : (choice : Choice) (first second : List ℕ) (c : Complaint) → ((said : Said) × TextSays choice first said)
-    → (c.fault ≡ want_of_memory) ⊎ TellsFault (form_for choice second) second (Some 2) c → (c.fault ≡ want_of_memory) ⊎ TellsTexts choice first (Some second) c
+    → IsOutOfMemory c ⊎ TellsFault (form_for choice second) second (Some 2) c → IsOutOfMemory c ⊎ TellsTexts choice first (Some second) c
 second_fails choice first second c says (inl memory) = inl memory
 second_fails choice first second c says (inr tells) = inr (inr (says, tells))
 

@@ -1,9 +1,8 @@
-use Rattle.std.proofs.Common.{◌≡◌, ◌⊎◌, ℕ, List, None, subst}
+use Rattle.std.proofs.Common.{◌⊎◌, ℕ, List, None, subst}
 use Rattle.std.proofs.lemmas.Result.{IfErr-weaker, IfOk-weaker}
 use Rattle.moc_forms.specs.Combining.{TextSays}
 use Rattle.moc_forms.specs.Finding.{form_for}
-use Rattle.moc_conversion.specs.Conversion.{TellsFault}
-use Rattle.moc_conversion.specs.Faults.{want_of_memory}
+use Rattle.moc_conversion.specs.Conversion.{IsOutOfMemory, TellsFault}
 use Rattle.moc_conversion.proofs.Checks.{all_of, of_input}
 use Rattle.moc_conversion.proofs.saying.input_says.Goals as goal
 
@@ -15,5 +14,5 @@ returns-clause-says g c = IfOk-weaker c.said_or_told.result _ _ (λ r says.
 pub returns-clause-fault : goal.returns-clause-fault
 returns-clause-fault g c = IfErr-weaker c.said_or_told.result _ _ (λ complaint told.
     of_input c.args.choice _ _ c.in_ok-text.text.items complaint c.in_ok-text.ensures.whole
-    (subst (λ (bytes : List ℕ). (complaint.fault ≡ want_of_memory) ⊎ TellsFault (form_for c.args.choice bytes) bytes None complaint) c.deref.ensures.value told))
+    (subst (λ (bytes : List ℕ). IsOutOfMemory complaint ⊎ TellsFault (form_for c.args.choice bytes) bytes None complaint) c.deref.ensures.value told))
     c.said_or_told.ensures.told

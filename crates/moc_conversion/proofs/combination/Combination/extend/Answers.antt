@@ -7,4 +7,4 @@ pub returns-then-bytes-len-clause-fault : goal.returns-then-bytes-len-clause-fau
 returns-then-bytes-len-clause-fault c =
     let long : 16777216 < length c.args.self.now.text.items + length c.args.bytes.now =
     omega (arith, c.if-bytes-len.true, c.len.ensures, c.args.self.now.text.ok, c.requires.open.within) in
-    too_long c.args.self.now c.args.bytes.now c.too_long.result.fault c.requires.open c.requires.lacks long c.too_long.ensures
+    too_long c.args.self.now c.args.bytes.now c.too_long.result c.requires.open c.requires.lacks long c.too_long.ensures

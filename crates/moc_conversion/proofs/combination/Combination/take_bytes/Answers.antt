@@ -27,8 +27,8 @@ returns-in_err-extend-clause-fault c =
     let told = c.in_err-extend.field-0.0 in
     let all : c.args.bytes.now ≡ taken ++ (part ++ 59 ∷ behind) = c.loop-part.invariant.1.1 ∙ ap (λ rest. taken ++ rest) c.in-Some.ensures.1 in
     handed_on c.from_residual.result told _ c.from_residual.ensures.1
-    (inl (subst (λ (bytes : List ℕ). AreNotTaken c.args.self.now bytes told.fault) (sym all)
-    (not_taken_on c.args.self.now _ taken part (59 ∷ behind) told.fault c.loop-part.invariant.1.2 c.in_err-extend.ensures.fault)))
+    (inl (subst (λ (bytes : List ℕ). AreNotTaken c.args.self.now bytes told) (sym all)
+    (not_taken_on c.args.self.now _ taken part (59 ∷ behind) told c.loop-part.invariant.1.2 c.in_err-extend.ensures.fault)))
 
 pub returns-in_err-end_text-clause-fault : goal.returns-in_err-end_text-clause-fault
 returns-in_err-end_text-clause-fault c =
@@ -39,7 +39,7 @@ returns-in_err-end_text-clause-fault c =
     let all : c.args.bytes.now ≡ (taken ++ part) ++ (semicolon ++ behind) =
     c.loop-part.invariant.1.1 ∙ ap (λ rest. taken ++ rest) c.in-Some.ensures.1 ∙ sym (append_assoc taken part (59 ∷ behind)) in
     handed_on c.from_residual-in_err-end_text.result told _ c.from_residual-in_err-end_text.ensures.1
-    (subst (λ (bytes : List ℕ). AreNotTaken c.args.self.now bytes told.fault ⊎ FailsWithin c.args.self.now bytes told) (sym all)
+    (subst (λ (bytes : List ℕ). AreNotTaken c.args.self.now bytes told ⊎ FailsWithin c.args.self.now bytes told) (sym all)
     (failed_on c.args.self.now _ (taken ++ part) semicolon behind told (led_on _ _ _ _ _ c.loop-part.invariant.1.2 c.in_ok-extend.ensures.leads)
     c.in_err-end_text.ensures.fault))
 
@@ -49,8 +49,8 @@ returns-clause-fault c =
     let rest = c.loop-part.rest.now in
     let all : taken ++ (rest ++ []) ≡ c.args.bytes.now = ap (λ more. taken ++ more) (append-nil rest) ∙ sym c.loop-part.invariant.1.1 in
     IfErr-weaker c.extend-2.result _ _ (λ complaint not.
-    inl (subst (λ (bytes : List ℕ). AreNotTaken c.args.self.now bytes complaint.fault) all
-    (not_taken_on c.args.self.now _ taken rest [] complaint.fault c.loop-part.invariant.1.2 not)))
+    inl (subst (λ (bytes : List ℕ). AreNotTaken c.args.self.now bytes complaint) all
+    (not_taken_on c.args.self.now _ taken rest [] complaint c.loop-part.invariant.1.2 not)))
     c.extend-2.ensures.fault
 
 pub returns-clause-leads : goal.returns-clause-leads
