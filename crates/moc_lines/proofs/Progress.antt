@@ -1,5 +1,5 @@
 -- The loop that answers lines.
-use Rattle.std.proofs.Common.{◌≡◌, ◌≢◌, inl, inr, ℕ, suc, false, ◌+◌, ◌-◌, ◌<◌, ◌≤◌, List, [], ◌∷◌, ◌++◌, length}
+use Rattle.std.proofs.Common.{◌≡◌, ◌≢◌, inl, inr, ℕ, suc, Bool, false, ◌+◌, ◌-◌, ◌<◌, ◌≤◌, List, [], ◌∷◌, ◌++◌, length}
 use Rattle.std.proofs.Common.{take, get_or, Option, Some, None, Result, Ok, Err, refl, sym, ap, ◌∙◌, arith}
 use Rattle.std.proofs.Common.{append_assoc, append-nil, length-append, subst}
 use Rattle.std.specs.List.{count_by, position_or_len, before_first, after_first, AllByRecursion}
@@ -168,16 +168,16 @@ module _ {S : Type 0} (limit : ℕ) (rules : Rules S) where
 
   -- What permits a read when all answers are accepted permits one until the next line feed: no whole line is at hand
   -- then, so that nothing is pending.
-  pub Progress-permits : {R W : Type 0} (reading : R → Reading) (writing : W → Writing) (may_read : R → W → Type 0) (s now : S) (a b : R) (w v : W) (unread pending : List ℕ) (number : ℕ)
-      → ((r : R) (x : W) → AreLinesAnswered rules s (reading a) (reading r) (writing w) (writing x) → may_read r x)
+  pub Progress-permits : {R W : Type 0} (reading : R → Reading) (writing : W → Writing) (mark : R → Bool) (failed : W → Bool) (may_read : R → W → Type 0) (s now : S) (a b : R) (w v : W) (unread pending : List ℕ) (number : ℕ)
+      → ((r : R) (x : W) → mark r ≡ false → failed x ≡ false → AreLinesAnswered rules s (reading a) (reading r) (writing w) (writing x) → may_read r x)
       → Progress s now (reading a) (reading b) (writing w) (writing v) unread pending number → (holds_line unread ≡ false → pending ≡ [])
-      → PermitsReadsWithinLine reading (λ r. may_read r v) unread b
-  Progress-permits reading writing may_read s now a b w v unread pending number permits p written = λ later came more unbroken.
+      → mark b ≡ false → failed v ≡ false → PermitsReadsWithinLine reading mark (λ r. may_read r v) unread b
+  Progress-permits reading writing mark failed may_read s now a b w v unread pending number permits p written reader writer = λ later came more same unbroken.
       let split : p.given ++ came ≡ ended p.lines ++ (unread ++ came) = ap (λ l. l ++ came) p.split ∙ append_assoc (ended p.lines) unread came in
       let lines = whole p.lines (p.given ++ came) (unread ++ came) split p.unbroken unbroken in
       let sent : p.sent ≡ answers_to rules s (whole_lines_of (p.given ++ came)) =
       sym (append-nil p.sent) ∙ ap (λ l. p.sent ++ l) (sym (written (unheld unread came unbroken))) ∙ sym p.text ∙ ap (answers_to rules s) lines in
-      permits later v (record {
+      permits later v (same ∙ reader) writer (record {
         given = p.given ++ came;
         delivered = Delivers-trans (reading a) (reading b) (reading later) p.given came p.consumed more;
         accepted = subst (Accepts (writing w) (writing v)) sent p.appended;

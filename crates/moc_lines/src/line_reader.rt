@@ -140,7 +140,8 @@ impl LineReader {
         reader: &mut R,
         writer: &W,
     ) -> Result<Found, InputError>
-        requires permission { PermitsReadsWithinLine R.reading (λ r. R.may_read r writer.now) self.old.unread reader.old }
+        requires permission { PermitsReadsWithinLine R.reading R.mark (λ r. R.may_read r writer.now)
+            self.old.unread reader.old }
         ensures takes { TakesLine LINE_LIMIT self.old (R.reading reader.old) self.new (R.reading reader.new) result }
         ensures number { IfErr result (λ e. IsOfLine number e) }
         ensures read { result ≡ Err InputError.Read → IsTrue (R.mark reader.new) }

@@ -51,7 +51,7 @@ impl Runner {
         requires pending { self.old.pending.items ≡ [] }
         requires reader { R.mark reader.old ≡ false }
         requires writer { W.mark writer.old ≡ false }
-        requires permission { (r : _) (w : _)
+        requires permission { (r : _) (w : _) → R.mark r ≡ false → W.mark w ≡ false
             → AreLinesAnswered A.rules responder.old
                 (R.reading reader.old) (R.reading r) (W.writing writer.old) (W.writing w)
             → R.may_read r w }
@@ -85,7 +85,7 @@ impl Runner {
         requires pending { self.old.pending.items ≡ [] }
         requires reader { R.mark reader.old ≡ false }
         requires writer { W.mark writer.old ≡ false }
-        requires permission { (r : _) (w : _)
+        requires permission { (r : _) (w : _) → R.mark r ≡ false → W.mark w ≡ false
             → AreLinesAnswered A.rules responder.old
                 (R.reading reader.old) (R.reading r) (W.writing writer.old) (W.writing w)
             → R.may_read r w }
@@ -120,7 +120,7 @@ impl Runner {
         reader: &mut R,
         writer: &W,
     ) -> Result<Found, InputError>
-        requires permission { PermitsReadsWithinLine R.reading (λ r. R.may_read r writer.now)
+        requires permission { PermitsReadsWithinLine R.reading R.mark (λ r. R.may_read r writer.now)
             self.old.lines.unread reader.old }
         requires reader { R.mark reader.old ≡ false }
         ensures takes { TakesLine LINE_LIMIT self.old.lines (R.reading reader.old)
@@ -218,9 +218,9 @@ pub fn answer_all_lines<A: Responder, R: GuardedSource<W>, W: Sink>(
     requires reader { R.mark reader.old ≡ false }
     requires writer { W.mark writer.old ≡ false }
 
-    // Before each read, the sink has accepted the answers to all whole lines that were delivered: the reader needs to
-    // permit reads in such states only.
-    requires permission { (r : _) (w : _)
+    // Before each read, no device has failed, and the sink has accepted the answers to all whole lines that were
+    // delivered: the reader needs to permit reads in such states only.
+    requires permission { (r : _) (w : _) → R.mark r ≡ false → W.mark w ≡ false
         → AreLinesAnswered A.rules responder.old
             (R.reading reader.old) (R.reading r) (W.writing writer.old) (W.writing w)
         → R.may_read r w }
