@@ -53,7 +53,7 @@ impl Runner {
         requires writer { W.mark writer.old ≡ false }
         requires permission { (r : _) (w : _) → R.mark r ≡ false → W.mark w ≡ false
             → AreLinesAnswered A.rules responder.old
-                (R.reading reader.old) (R.reading r) (W.writing writer.old) (W.writing w)
+            (R.reading reader.old) (R.reading r) (W.writing writer.old) (W.writing w)
             → R.may_read r w }
         ensures runs { Runs LINE_LIMIT A.rules responder.old
             (R.reading reader.old) (R.reading reader.new) (W.writing writer.old) (W.writing writer.new) result }
@@ -87,7 +87,7 @@ impl Runner {
         requires writer { W.mark writer.old ≡ false }
         requires permission { (r : _) (w : _) → R.mark r ≡ false → W.mark w ≡ false
             → AreLinesAnswered A.rules responder.old
-                (R.reading reader.old) (R.reading r) (W.writing writer.old) (W.writing w)
+            (R.reading reader.old) (R.reading r) (W.writing writer.old) (W.writing w)
             → R.may_read r w }
         ensures ended { Ended LINE_LIMIT A.rules responder.old
             (R.reading reader.old) (R.reading reader.new)
@@ -222,7 +222,7 @@ pub fn answer_all_lines<A: Responder, R: GuardedSource<W>, W: Sink>(
     // delivered: the reader needs to permit reads in such states only.
     requires permission { (r : _) (w : _) → R.mark r ≡ false → W.mark w ≡ false
         → AreLinesAnswered A.rules responder.old
-            (R.reading reader.old) (R.reading r) (W.writing writer.old) (W.writing w)
+        (R.reading reader.old) (R.reading r) (W.writing writer.old) (W.writing w)
         → R.may_read r w }
 
     // The sink accepts the defined answers to what the source delivers. This needs no assumption about the devices:
