@@ -2,11 +2,13 @@
 #![tactic(auto)]
 
 mod device;
+mod guarded_source;
 mod log;
 mod sink;
 mod source;
 
 pub use device::DeviceFault;
+pub use guarded_source::GuardedSource;
 pub use log::Log;
 pub use sink::{OverWriter, Sink, write_all};
 pub use source::{OverReader, Source};

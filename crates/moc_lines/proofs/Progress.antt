@@ -1,19 +1,20 @@
 -- The loop that answers lines.
-use Rattle.std.proofs.Common.{◌≡◌, ◌≢◌, inl, inr, ℕ, suc, false, ◌+◌, ◌-◌, ◌<◌, ◌≤◌, List, [], ◌∷◌, ◌++◌, length}
+use Rattle.std.proofs.Common.{◌≡◌, ◌≢◌, inl, inr, ℕ, suc, Bool, false, ◌+◌, ◌-◌, ◌<◌, ◌≤◌, List, [], ◌∷◌, ◌++◌, length}
 use Rattle.std.proofs.Common.{take, get_or, Option, Some, None, Result, Ok, Err, refl, sym, ap, ◌∙◌, arith}
 use Rattle.std.proofs.Common.{append_assoc, append-nil, length-append, subst}
-use Rattle.std.specs.List.{count_by, AllByRecursion}
+use Rattle.std.specs.List.{count_by, position_or_len, before_first, after_first, AllByRecursion}
 use Rattle.std.specs.Result.{is_err, IsErrAnd, OnOk, OnErr, IfErr}
 use Rattle.std.specs.Io.KnownBytes.{IsAtEnd}
 use Rattle.moc_devices.specs.Devices.{Reading, Delivers, IsEnded, Writing, Accepts}
 use Rattle.moc_devices.specs.Lemmas.{Accepts-nil, Accepts-trans, Delivers-nil, Delivers-trans}
 use Rattle.std.proofs.Math.Seq.{take-append_seam}
+use Rattle.std.proofs.lemmas.Bool.{ltb-true}
 use Rattle.std.proofs.lemmas.List.{get_or-append-add, take_all}
 use Rattle.moc_text.specs.Lines.{is_line_feed, lines_of}
 use Rattle.moc_lines.specs.Private.Held.{Held, IsUnbroken}
-use Rattle.moc_lines.specs.Private.LineReading.{IsOfLine, TakesLine}
+use Rattle.moc_lines.specs.Private.LineReading.{IsOfLine, PermitsReadsWithinLine, TakesLine, holds_line}
 use Rattle.moc_lines.specs.Runs.{Rules, answers_to, after_lines, AreShort, IsTooLong, IsBegunLine, IsUnclosed, error_of_input}
-use Rattle.moc_lines.specs.Runs.{whole_lines_of, lines_before}
+use Rattle.moc_lines.specs.Runs.{AreLinesAnswered, whole_lines_of, lines_before}
 use Rattle.moc_devices.specs.Devices.{Sends}
 use Rattle.moc_lines.specs.Private.Ended.{Ended, EndsAt, IsSent}
 use Rattle.moc_lines.specs.declared.line_reader.Found.{Found}
@@ -23,7 +24,7 @@ use Rattle.moc_lines.specs.declared.line_reader.Found.TheVariants.{Line, LastLin
 use Rattle.moc_lines.specs.declared.reading.InputError.TheVariants as fault
 use Rattle.moc_lines.specs.declared.run_error.RunError.TheVariants.{Read, Write, LineTooLong, Memory}
 use Rattle.moc_lines.proofs.LineLemmas.{count-append, some-lines, count-cons, lines_of-line, lines_of-last}
-use Rattle.moc_lines.proofs.LineLemmas.{lines_of-long}
+use Rattle.moc_lines.proofs.LineLemmas.{lines_of-long, not_true, split_at_line_feed}
 use Rattle.moc_lines.proofs.Outcomes.{at_ok}
 
 -- lines, each with its line feed
@@ -61,6 +62,15 @@ at_end (Some xs) more end is = let same : xs ≡ more = cc in sym same ∙ end
 -- what was found, or the fault, by its name
 pub at_found : (limit : ℕ) (old new : Held) (a b : Reading) (found name : Found) → found ≡ name → TakesLine limit old a new b (Ok found) → TakesLine limit old a new b (Ok name)
 at_found limit old new a b found name is takes = subst (λ (f : Found). TakesLine limit old a new b (Ok f)) is takes
+
+-- if no line feed is at hand and none came, no whole line is at hand
+unheld : (unread came : List ℕ) → IsUnbroken (unread ++ came) → holds_line unread ≡ false
+unheld unread came unbroken =
+    not_true (holds_line unread) (λ held.
+    let front = before_first is_line_feed unread in
+    let behind = after_first is_line_feed unread in
+    let is : unread ≡ front ++ 10 ∷ behind = split_at_line_feed unread (ltb-true (position_or_len is_line_feed unread) (length unread) held) in
+    absurd (omega (arith, sym (count-append unread came) ∙ unbroken, ap (count_by is_line_feed) is ∙ count-append front (10 ∷ behind), count-cons 10 behind)))
 
 module _ {S : Type 0} (limit : ℕ) (rules : Rules S) where
   pub answers_to-push : (s : S) (lines : List (List ℕ)) (line : List ℕ) → answers_to rules s (lines ++ line ∷ []) ≡ answers_to rules s lines ++ rules.answer (after_lines rules s lines) line
@@ -155,6 +165,23 @@ module _ {S : Type 0} (limit : ℕ) (rules : Rules S) where
       let count : length lines ≡ count_by is_line_feed given =
       omega (arith, ap (count_by is_line_feed) split, count-append (ended lines) tail, count-ended lines unbroken, none) in
       sym (take-append_seam lines (lines_of tail)) ∙ ap (λ n. take n (lines ++ lines_of tail)) count ∙ ap (take (count_by is_line_feed given)) (sym (lines_of-given lines given tail split unbroken))
+
+  -- What permits a read when all answers are accepted permits one until the next line feed: no whole line is at hand
+  -- then, so that nothing is pending.
+  pub Progress-permits : {R W : Type 0} (reading : R → Reading) (writing : W → Writing) (mark : R → Bool) (failed : W → Bool) (may_read : R → W → Type 0) (s now : S) (a b : R) (w v : W) (unread pending : List ℕ) (number : ℕ)
+      → ((r : R) (x : W) → mark r ≡ false → failed x ≡ false → AreLinesAnswered rules s (reading a) (reading r) (writing w) (writing x) → may_read r x)
+      → Progress s now (reading a) (reading b) (writing w) (writing v) unread pending number → (holds_line unread ≡ false → pending ≡ [])
+      → mark b ≡ false → failed v ≡ false → PermitsReadsWithinLine reading mark (λ r. may_read r v) unread b
+  Progress-permits reading writing mark failed may_read s now a b w v unread pending number permits p written reader writer = λ later came more same unbroken.
+      let split : p.given ++ came ≡ ended p.lines ++ (unread ++ came) = ap (λ l. l ++ came) p.split ∙ append_assoc (ended p.lines) unread came in
+      let lines = whole p.lines (p.given ++ came) (unread ++ came) split p.unbroken unbroken in
+      let sent : p.sent ≡ answers_to rules s (whole_lines_of (p.given ++ came)) =
+      sym (append-nil p.sent) ∙ ap (λ l. p.sent ++ l) (sym (written (unheld unread came unbroken))) ∙ sym p.text ∙ ap (answers_to rules s) lines in
+      permits later v (same ∙ reader) writer (record {
+        given = p.given ++ came;
+        delivered = Delivers-trans (reading a) (reading b) (reading later) p.given came p.consumed more;
+        accepted = subst (Accepts (writing w) (writing v)) sent p.appended;
+      })
 
   too_long : (lines : List (List ℕ)) (given tail : List ℕ) (number : ℕ) → given ≡ ended lines ++ tail → AllByRecursion IsUnbroken lines → number ≡ length lines + 1
       → (first : List ℕ) (more : List (List ℕ)) → lines_of tail ≡ first ∷ more → limit < length first → IsTooLong limit (lines_of given) number

@@ -95,6 +95,13 @@ pub record IsUnclosed (number : ℕ) (given closing : List ℕ) : Type 0 where
   pub next : number ≡ length (lines_of given) + 1
   pub some : closing ≢ []
 
+module _ {S : Type 0} (rules : Rules S) (s : S) where
+  -- the writer has accepted the answers to all whole lines that the reader has delivered, both since the first states
+  pub record AreLinesAnswered (reading reading' : Reading) (writing writing' : Writing) : Type 0 where
+    pub given : List ℕ
+    pub delivered : Delivers reading reading' given
+    pub accepted : Accepts writing writing' (answers_to rules s (whole_lines_of given))
+
 -- at Ok all was read and all is flushed; at a fault all is flushed only where it was before
 pub record EndsFlushed {T E : Type 0} (result : Result T E) (reading' : Reading) (before after : Bool)
     : Type 0 where

@@ -25,7 +25,9 @@ pub use fault::{LineFault, ReadError, push_fault};
 pub use fields::{only_field, two_fields};
 pub use language::{Commands, answer_text, read_batch, read_commands};
 pub use line_reader::LINE_LIMIT;
-pub use moc_devices::{DeviceFault, Log, OverReader, OverWriter, Sink, Source, write_all};
+pub use moc_devices::{
+    DeviceFault, GuardedSource, Log, OverReader, OverWriter, Sink, Source, write_all,
+};
 pub use name_error::NumberingNameError;
 pub use numbering::{NumberFault, Numbering};
 pub use reading::{InputError, number_behind_last, read_all, split_line};

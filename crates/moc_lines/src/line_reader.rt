@@ -7,7 +7,7 @@ ghost use Rattle.moc_text.specs.Lines.{is_line_feed};
 
 use crate::bytes::{CHUNK, first_or_len};
 use crate::reading::InputError;
-use moc_devices::{DeviceFault, Source};
+use moc_devices::{DeviceFault, GuardedSource};
 use std::alloc::{AllocError, Global};
 use std::marker::Model;
 
@@ -51,7 +51,8 @@ impl Model for LineReader {
 }
 
 impl LineReader {
-    ghost use Rattle.moc_lines.specs.Private.LineReading.{Brings, FailsPart, IsOfLine, TakesLine, holds_line};
+    ghost use Rattle.moc_lines.specs.Private.LineReading.{Brings, FailsPart, IsOfLine, TakesLine};
+    ghost use Rattle.moc_lines.specs.Private.LineReading.{PermitsReadsWithinLine, holds_line};
 
     pub(crate) fn new(alloc: Global) -> Result<LineReader, AllocError>
         ensures { IfOk result (λ r. r.unread ≡ []) }
@@ -111,7 +112,12 @@ impl LineReader {
     }
 
     /// Sees to it that bytes are at hand, by a read where there are none. There are none only at the end.
-    fn fill_chunk<R: Source>(&mut self, reader: &mut R) -> Result<bool, DeviceFault>
+    fn fill_chunk<R: GuardedSource<W>, W>(
+        &mut self,
+        reader: &mut R,
+        writer: &W,
+    ) -> Result<bool, DeviceFault>
+        requires permission { self.old.unread ≡ [] → R.may_read reader.old writer.now }
         ensures brings { Brings self.old (R.reading reader.old) self.new (R.reading reader.new) }
         ensures some { IfOk result (λ some. some ≡ nat_lt 0 (length self.new.unread)) }
         ensures end { IfOk result (λ some. some ≡ false → IsEnded (R.reading reader.new)) }
@@ -121,18 +127,21 @@ impl LineReader {
         if self.start == self.end {
             self.start = 0;
             self.end = 0;
-            self.end = reader.read(&mut self.chunk)?;
+            self.end = reader.read_after(writer, &mut self.chunk)?;
             self.ahead = first_or_len(b'\n', &self.chunk[..self.end]);
         }
         Ok(self.start < self.end)
     }
 
     /// Takes the next line, whose number this is.
-    pub(crate) fn next_line<R: Source>(
+    pub(crate) fn next_line<R: GuardedSource<W>, W>(
         &mut self,
         number: u64,
         reader: &mut R,
+        writer: &W,
     ) -> Result<Found, InputError>
+        requires permission { PermitsReadsWithinLine R.reading R.mark (λ r. R.may_read r writer.now)
+            self.old.unread reader.old }
         ensures takes { TakesLine LINE_LIMIT self.old (R.reading reader.old) self.new (R.reading reader.new) result }
         ensures number { IfErr result (λ e. IsOfLine number e) }
         ensures read { result ≡ Err InputError.Read → IsTrue (R.mark reader.new) }
@@ -140,7 +149,7 @@ impl LineReader {
     {
         self.line.clear();
         loop {
-            match self.fill_chunk(reader) {
+            match self.fill_chunk(reader, writer) {
                 Ok(true) => {}
                 Ok(false) if self.line.is_empty() => return Ok(Found::Nothing),
                 Ok(false) => return Ok(Found::LastLine),

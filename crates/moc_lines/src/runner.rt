@@ -2,15 +2,16 @@
 ghost use Rattle.std.specs.Prelude.{◌≡◌, ◌≢◌, ◌++◌, [], IfOk, IfErr, if◌then◌else◌, IsTrue, ◌↔◌, false};
 ghost use Rattle.std.specs.Prelude.{OnOk, OnErr, IsErrOf, Err, is_err};
 ghost use Rattle.moc_devices.specs.Devices.{AcceptsNone, CallsMore, FlushesNothing, OnlyWrites, Sends};
-ghost use Rattle.moc_lines.specs.Private.LineReading.{IsOfLine, TakesLine, holds_line};
+ghost use Rattle.moc_lines.specs.Private.LineReading.{IsOfLine, PermitsReadsWithinLine, TakesLine, holds_line};
 ghost use Rattle.moc_lines.specs.Runs.{script_text, line_limit, AnswersAll, EndsFlushed, Flushes, Runs, TellsFailed};
+ghost use Rattle.moc_lines.specs.Runs.{AreLinesAnswered};
 ghost use Rattle.moc_lines.specs.Private.Ended.{Ended};
 
 use crate::line_reader::{Found, LINE_LIMIT, LineReader};
 use crate::reading::InputError;
 use crate::responder::Responder;
 use crate::run_error::RunError;
-use moc_devices::{DeviceFault, Sink, Source, write_all};
+use moc_devices::{DeviceFault, GuardedSource, Sink, write_all};
 use std::alloc::{AllocError, Global};
 
 /// How many bytes of answers are kept before they are written.
@@ -40,7 +41,7 @@ impl Runner {
     }
 
     /// Answers each line that is read, and writes the answers.
-    fn run<A: Responder, R: Source, W: Sink>(
+    fn run<A: Responder, R: GuardedSource<W>, W: Sink>(
         &mut self,
         responder: &mut A,
         reader: &mut R,
@@ -50,6 +51,10 @@ impl Runner {
         requires pending { self.old.pending.items ≡ [] }
         requires reader { R.mark reader.old ≡ false }
         requires writer { W.mark writer.old ≡ false }
+        requires permission { (r : _) (w : _) → R.mark r ≡ false → W.mark w ≡ false
+            → AreLinesAnswered A.rules responder.old
+            (R.reading reader.old) (R.reading r) (W.writing writer.old) (W.writing w)
+            → R.may_read r w }
         ensures runs { Runs LINE_LIMIT A.rules responder.old
             (R.reading reader.old) (R.reading reader.new) (W.writing writer.old) (W.writing writer.new) result }
         ensures end { EndsFlushed result (R.reading reader.new) (W.flushed writer.old) (W.flushed writer.new) }
@@ -70,7 +75,7 @@ impl Runner {
     }
 
     /// Answers each line, and writes what is pending before each read that may wait.
-    fn answer_lines<A: Responder, R: Source, W: Sink>(
+    fn answer_lines<A: Responder, R: GuardedSource<W>, W: Sink>(
         &mut self,
         responder: &mut A,
         reader: &mut R,
@@ -80,6 +85,10 @@ impl Runner {
         requires pending { self.old.pending.items ≡ [] }
         requires reader { R.mark reader.old ≡ false }
         requires writer { W.mark writer.old ≡ false }
+        requires permission { (r : _) (w : _) → R.mark r ≡ false → W.mark w ≡ false
+            → AreLinesAnswered A.rules responder.old
+            (R.reading reader.old) (R.reading r) (W.writing writer.old) (W.writing w)
+            → R.may_read r w }
         ensures ended { Ended LINE_LIMIT A.rules responder.old
             (R.reading reader.old) (R.reading reader.new)
             (W.writing writer.old) (W.writing writer.new) self.new.pending.items result }
@@ -91,7 +100,7 @@ impl Runner {
             if self.send_if_due(writer).is_err() {
                 return Err(RunError::Write);
             }
-            match self.next_line(line, reader) {
+            match self.next_line(line, reader, writer) {
                 Ok(Found::Line) => self.answer_line(line, responder)?,
                 Ok(Found::LastLine) => {
                     self.answer_line(line, responder)?;
@@ -104,10 +113,15 @@ impl Runner {
         Err(RunError::Memory { line: u64::MAX })
     }
 
-    /// Takes the next line, whose number this is. A read may wait, so nothing is pending then: what was answered is
-    /// written.
-    fn next_line<R: Source>(&mut self, number: u64, reader: &mut R) -> Result<Found, InputError>
-        requires written { holds_line self.old.lines.unread ≡ false → self.old.pending.items ≡ [] }
+    /// Takes the next line, whose number this is. Reads only if the state of the writer permits it.
+    fn next_line<R: GuardedSource<W>, W>(
+        &mut self,
+        number: u64,
+        reader: &mut R,
+        writer: &W,
+    ) -> Result<Found, InputError>
+        requires permission { PermitsReadsWithinLine R.reading R.mark (λ r. R.may_read r writer.now)
+            self.old.lines.unread reader.old }
         requires reader { R.mark reader.old ≡ false }
         ensures takes { TakesLine LINE_LIMIT self.old.lines (R.reading reader.old)
             self.new.lines (R.reading reader.new) result }
@@ -115,7 +129,7 @@ impl Runner {
         ensures number { IfErr result (λ e. IsOfLine number e) }
         ensures read { result ≡ Err InputError.Read ↔ IsTrue (R.mark reader.new) }
     {
-        self.lines.next_line(number, reader)
+        self.lines.next_line(number, reader, writer)
     }
 
     /// Does what the line of this number says, which was taken last, and adds the whole answer to what is pending, or
@@ -195,7 +209,7 @@ impl Runner {
 ///
 /// A line's end is looked for once, and the line is copied. Takes memory linear in the longest line and the longest
 /// answer.
-pub fn answer_all_lines<A: Responder, R: Source, W: Sink>(
+pub fn answer_all_lines<A: Responder, R: GuardedSource<W>, W: Sink>(
     alloc: Global,
     responder: &mut A,
     reader: &mut R,
@@ -203,6 +217,13 @@ pub fn answer_all_lines<A: Responder, R: Source, W: Sink>(
 ) -> Result<(), RunError>
     requires reader { R.mark reader.old ≡ false }
     requires writer { W.mark writer.old ≡ false }
+
+    // Before each read, no device has failed, and the sink has accepted the answers to all whole lines that were
+    // delivered: the reader needs to permit reads in such states only.
+    requires permission { (r : _) (w : _) → R.mark r ≡ false → W.mark w ≡ false
+        → AreLinesAnswered A.rules responder.old
+        (R.reading reader.old) (R.reading r) (W.writing writer.old) (W.writing w)
+        → R.may_read r w }
 
     // The sink accepts the defined answers to what the source delivers. This needs no assumption about the devices:
     // standard input and output are included.

@@ -31,6 +31,13 @@ TakesLine limit old left new left' result =
 abbrev pub holds_line : List ℕ → Bool
 holds_line unread = nat_lt (position_or_len is_line_feed unread) (length unread)
 
+-- a reader permits a read in each state up to which no line feed came after the unread bytes, which have none, and no
+-- further call failed
+abbrev pub PermitsReadsWithinLine : {R : Type 0} → (R → Reading) → (R → Bool) → (R → Type 0) → List ℕ → R → Type 0
+PermitsReadsWithinLine reading mark may_read unread reader =
+    (reader' : _) (came : List ℕ) → Delivers (reading reader) (reading reader') came → mark reader' ≡ mark reader
+    → IsUnbroken (unread ++ came) → may_read reader'
+
 -- the fault names the line of this number, if it names one
 abbrev pub IsOfLine : ℕ → InputError → Type 0
 IsOfLine number Read = Unit {0}

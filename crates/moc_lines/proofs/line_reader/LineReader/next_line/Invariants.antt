@@ -5,8 +5,8 @@ use Rattle.moc_lines.proofs.line_reader.LineReader.next_line.Given as goal
 
 abbrev pub invariant-loop-self : goal.invariant-loop-self
 invariant-loop-self g l = record {
-  turn : Turn 1048576 l.fn.self (g.R.Source.reading l.fn.reader) l.self (g.R.Source.reading l.reader);
-  marks : g.R.Source.mark l.reader ≡ g.R.Source.mark l.fn.reader;
+  turn : Turn 1048576 l.fn.self (g.R.GuardedSource.reading l.fn.reader) l.self (g.R.GuardedSource.reading l.reader);
+  marks : g.R.GuardedSource.mark l.reader ≡ g.R.GuardedSource.mark l.fn.reader;
 }
 
 abbrev pub decreases-loop-self : goal.decreases-loop-self

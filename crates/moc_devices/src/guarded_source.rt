@@ -1,0 +1,43 @@
+//! Sources whose reads need a permission.
+ghost use Rattle.std.specs.Prelude.{◌≡◌, ◌≤◌, ◌||◌, Bool, ⊤, IfOk, is_err, length};
+ghost use Rattle.moc_devices.specs.Devices.{Reading, Reads, found_end};
+
+use crate::device::DeviceFault;
+use crate::source::Source;
+
+/// A source that may be read only when a sink permits it.
+///
+/// Code that is generic over this trait can read only in states in which it proves the permission. An example is a
+/// source that waits for the answers to the bytes that it has delivered, and would block if they were not in the sink.
+/// Every [`Source`] is a `GuardedSource` that may be read always.
+pub trait GuardedSource<W> {
+    /// The bytes that its reads have delivered, whether the last of them found the end, and, if it reports them, the
+    /// bytes that it has still to give.
+    ghost reading: { Self → Reading };
+
+    /// Whether a call of it has failed.
+    ghost mark: { Self → Bool };
+
+    /// Whether the source may be read now, as its state and the state of the sink permit.
+    ghost may_read: { Self → W → Type 0 };
+
+    /// Reads as [`Source::read`] does, in a state that permits it. Does not call the sink.
+    fn read_after(&mut self, sink: &W, buffer: &mut [u8]) -> Result<usize, DeviceFault>
+        requires permission { may_read self.old sink.now }
+        ensures count { IfOk result (λ n. n ≤ length buffer.new) }
+        ensures bytes { Reads (reading self.old) (reading self.new) result buffer.new }
+        ensures ended { (reading self.new).ended ≡ found_end result buffer.new }
+        ensures marks { mark self.new ≡ (mark self.old || is_err result) };
+}
+
+impl<R: Source, W> GuardedSource<W> for R {
+    ghost reading = { R.reading };
+
+    ghost mark = { R.mark };
+
+    ghost may_read = { λ _ _. ⊤ };
+
+    fn read_after(&mut self, _sink: &W, buffer: &mut [u8]) -> Result<usize, DeviceFault> {
+        self.read(buffer)
+    }
+}
