@@ -15,7 +15,7 @@ use Rattle.moc_forms.specs.declared.combining.Operation.{Operation}
 use Rattle.moc_forms.specs.declared.finding.Choice.{Choice}
 use Rattle.moc_conversion.specs.Combining.{IsLongPiece, IsNotCombined, IsOfTexts, ReportsLongText, SaysTogether, TellsFirstFault}
 use Rattle.moc_conversion.specs.Private.Pieces.{BringsPiece, LacksSemicolons}
-use Rattle.moc_conversion.specs.Conversion.{HasRead, IsOutOfMemory, TellsFault}
+use Rattle.moc_conversion.specs.Conversion.{IsOutOfMemory, TellsFault}
 use Rattle.moc_conversion.specs.Private.Running.{AreNotTaken, BeginsCombination, EndsCombination, FailsCombination, FailsWithin, IsLong, IsOpen, Leads, SaysMore, RunsTo, TextsSay, semicolon, texts_behind}
 use Rattle.moc_conversion.specs.declared.combination.Combination.{Combination}
 use Rattle.moc_conversion.specs.declared.complaint.Complaint.{Complaint}
@@ -333,7 +333,7 @@ module _ (operation : Operation) (choice : Choice) (a b c : Reading) (start d : 
   piece_not_taken complaint (inl (place, hint, memory)) = inl (place, hint, inr memory)
   piece_not_taken complaint (inr (number, reports, long)) =
       let longer = longer_from_1 operation choice start begins (runs.0 ++ piece) number
-          (runs.1.1.longer piece number (subst (λ bytes. IsLong d bytes number) (append-nil piece) (long []))) in
+      (runs.1.1.longer piece number (subst (λ bytes. IsLong d bytes number) (append-nil piece) (long []))) in
       inr (
         runs.0 ++ piece,
         Delivers-trans a b c runs.0 piece runs.1.0 consumed,

@@ -1,5 +1,5 @@
 -- Texts of coverages, parted by semicolons on the input, and combined.
-use Rattle.std.specs.Prelude.{◌≡◌, ℕ, ◌+◌, ◌-◌, ◌<◌, ◌≤◌, ◌⊎◌, List, [], ◌++◌, Option, None, Some, option_map, length}
+use Rattle.std.specs.Prelude.{◌≡◌, ℕ, ◌+◌, ◌-◌, ◌<◌, ◌≤◌, ◌⊎◌, List, [], ◌++◌, None, Some, option_map, length}
 use Rattle.std.specs.Prelude.{slice_index_or, string_bytes}
 use Rattle.moc_devices.specs.Devices.{Reading, IsEnded}
 use Rattle.std.specs.List.{AllByRecursion}

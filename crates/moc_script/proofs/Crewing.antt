@@ -1,8 +1,7 @@
 -- The text of a crew, from what its lanes did and what the closed map tells.
 use Rattle.std.proofs.Common.{◌≡◌, ◌≢◌, inl, inr, ℕ, zero, suc, ◌<◌, ◌≤◌, ◌==◌, eq-eqb, ne_eqb, Bool, cond, count_by}
 use Rattle.std.proofs.Common.{List, [], ◌∷◌, ◌++◌, Contains, refl, sym, ap, ◌∙◌, subst, arith, length, length-append}
-use Rattle.std.proofs.Common.{append-nil, get_or, Option, Some, None, Result, Ok, Err}
-use Rattle.std.specs.Option.{IfSome}
+use Rattle.std.proofs.Common.{append-nil, get_or, Result, Ok, Err}
 use Rattle.std.specs.FinSet as set
 use Rattle.std.proofs.lemmas.Bool.{cases_lt}
 use Rattle.std.proofs.lemmas.List.Sums.{sum_by-cons}

@@ -1,6 +1,6 @@
 -- What a crew of lanes may answer, and what it has written when it ends.
 use Rattle.std.specs.Prelude.{◌≡◌, ◌==◌, ◌%◌, ℕ, List, [], ◌∷◌, if◌then◌else◌, ◌⊎◌, ◌<◌, ◌≤◌, ◌+◌, ◌-◌, false}
-use Rattle.std.specs.Prelude.{◌++◌, length, slice_index_or, Option, Some, Result, Ok, Err, not, filter, fold, map}
+use Rattle.std.specs.Prelude.{◌++◌, length, slice_index_or, Option, Result, Ok, Err, not, filter, fold, map}
 use Rattle.std.specs.FinSet as set
 use Rattle.moc_devices.specs.Devices.{Reading, Delivers, IsEnded, Writing, Accepts, AcceptsNone, CallsMore}
 use Rattle.std.specs.List.{concat, enumerate_from}

@@ -1,5 +1,5 @@
 -- The answers of the lanes in the order of the lines.
-use Rattle.std.specs.Prelude.{◌≡◌, ◌<◌, ◌++◌, ℕ, List, [], length, slice_index_or, Option, Result, OnOk, IfSome}
+use Rattle.std.specs.Prelude.{◌≡◌, ◌<◌, ◌++◌, ℕ, List, [], length, slice_index_or, Result, OnOk}
 use Rattle.moc_devices.specs.Devices.{Reading, Writing, Accepts, Sends}
 use Rattle.std.specs.List.{concat}
 use Rattle.moc_script.specs.Crews.{in_lane, dealt, CrewEnds, IsCrewText, said_lines}
