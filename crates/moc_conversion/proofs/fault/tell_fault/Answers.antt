@@ -1,6 +1,6 @@
 -- The text up to the call that failed.
 use Rattle.std.proofs.Common.{◌∷◌, ◌++◌, [], codes}
-use Rattle.moc_conversion.proofs.Sending.{Sends-before, Sends-behind}
+use Rattle.moc_conversion.proofs.Sending.{Sends-before}
 use Rattle.moc_conversion.proofs.fault.tell_fault.Goals as goal
 
 pub returns-in_err-write_all-clause-sends : goal.returns-in_err-write_all-clause-sends

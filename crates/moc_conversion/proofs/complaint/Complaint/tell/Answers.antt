@@ -1,5 +1,5 @@
 -- The text up to the call that failed.
-use Rattle.std.proofs.Common.{ℕ, List, [], ◌++◌, refl}
+use Rattle.std.proofs.Common.{ℕ, List, [], ◌++◌}
 use Rattle.std.specs.Prelude.{string_bytes}
 use Rattle.std.specs.Option.{option_map_or}
 use Rattle.moc_text.specs.Names.{told_fault}
