@@ -1,5 +1,5 @@
 -- Which status has the number 2.
-use Rattle.std.proofs.Common.{◌≡◌, ◌⊎◌, ◌||◌, ◌<◌, inl, inr, Bool, false, ℕ, List, Option, Result, Ok, Err, refl, sym, ap, subst, ◌∙◌, arith}
+use Rattle.std.proofs.Common.{◌≡◌, ◌⊎◌, ◌||◌, ◌<◌, inl, inr, Bool, ℕ, List, Result, Ok, Err, refl, sym, ap, subst, ◌∙◌, arith}
 use Rattle.std.specs.Prelude.{IfErr, IsTrue, OnOk}
 use Rattle.moc_devices.specs.Devices.{Reading, Writing, Accepts, AcceptsNone}
 use Rattle.moc_lines.specs.declared.run_error.RunError.TheVariants as run

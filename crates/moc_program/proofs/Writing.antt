@@ -1,5 +1,5 @@
 -- What was written of a text, and how an action ends by that.
-use Rattle.std.proofs.Common.{◌≡◌, ◌||◌, inl, inr, ℕ, Bool, true, false, List, [], ◌++◌, Option, None, Some, Result, Ok, Err, refl, sym, subst, ◌∙◌, append-nil, MatchResult}
+use Rattle.std.proofs.Common.{◌≡◌, ◌||◌, inl, inr, ℕ, Bool, true, false, List, [], ◌++◌, Result, Ok, Err, refl, sym, subst, append-nil, MatchResult}
 use Rattle.std.specs.Prelude.{IfOk, IfErr, OnOk, String, is_err, string_bytes}
 use Rattle.std.specs.declared.alloc.Global.{Global}
 use Rattle.moc_devices.specs.Devices.{Writing, Accepts, AcceptsNone, Sends}
@@ -63,4 +63,3 @@ unless_failed text w w' old new result sends marks = record {
   accepted = sends.appended;
   whole = none_left result old new sends.rest sends.pending marks;
 }
-

@@ -29,7 +29,7 @@ returns-in-Some-hint-clause-sends g c =
     let name : List ℕ = told_fault (name_of_input c.args.self.now.fault) in
     let named : Accepts (g.E.Sink.writing c.args.faults.now) (g.E.Sink.writing c.tell_fault.new.faults) name = rw (← c.name.ensures) c.in_ok-tell_fault.ensures.told in
     let placed : Accepts (g.E.Sink.writing c.args.faults.now) (g.E.Sink.writing c.match-self.faults) (name ++ option_map_or string_bytes c.args.self.now.place_line []) = elim c.match-self.branch [
-      in-Some+in_ok-write_all w ↦ rw w.faults-is (Accepts-some string_bytes name c.args.self.now.place_line _ _ named w.in-Some.line _ w.in-Some.is (rw (← w.as_bytes.ensures.value) w.in_ok-write_all.ensures.written))
+      | in-Some+in_ok-write_all w ↦ rw w.faults-is (Accepts-some string_bytes name c.args.self.now.place_line _ _ named w.in-Some.line _ w.in-Some.is (rw (← w.as_bytes.ensures.value) w.in_ok-write_all.ensures.written))
       | in_default w ↦ rw w.faults-is (Accepts-no string_bytes name c.args.self.now.place_line _ _ named (none_of _ w.in_default.not-Some))
     ] in
     Sends-some hint_text (name ++ option_map_or string_bytes c.args.self.now.place_line []) c.args.self.now.hint _ _ placed c.in-Some-hint.form _ c.write_all-in-Some-hint.result c.in-Some-hint.is (rw (← c.hint_line.ensures, ← c.as_bytes-in-Some-hint.ensures.value) c.write_all-in-Some-hint.ensures.sends)
@@ -39,7 +39,7 @@ returns-in-None-clause-sends g c =
     let name : List ℕ = told_fault (name_of_input c.args.self.now.fault) in
     let named : Accepts (g.E.Sink.writing c.args.faults.now) (g.E.Sink.writing c.tell_fault.new.faults) name = rw (← c.name.ensures) c.in_ok-tell_fault.ensures.told in
     let placed : Accepts (g.E.Sink.writing c.args.faults.now) (g.E.Sink.writing c.match-self.faults) (name ++ option_map_or string_bytes c.args.self.now.place_line []) = elim c.match-self.branch [
-      in-Some+in_ok-write_all w ↦ rw w.faults-is (Accepts-some string_bytes name c.args.self.now.place_line _ _ named w.in-Some.line _ w.in-Some.is (rw (← w.as_bytes.ensures.value) w.in_ok-write_all.ensures.written))
+      | in-Some+in_ok-write_all w ↦ rw w.faults-is (Accepts-some string_bytes name c.args.self.now.place_line _ _ named w.in-Some.line _ w.in-Some.is (rw (← w.as_bytes.ensures.value) w.in_ok-write_all.ensures.written))
       | in_default w ↦ rw w.faults-is (Accepts-no string_bytes name c.args.self.now.place_line _ _ named (none_of _ w.in_default.not-Some))
     ] in
     Sends-no hint_text (name ++ option_map_or string_bytes c.args.self.now.place_line []) c.args.self.now.hint _ _ placed c.in-None.is
