@@ -242,16 +242,22 @@ MISTAKES = [
     (["combine", "ascii"], b"ascii"),
     (["combine", "union"], b"FORM"),
     (["combine", "minus", "ascii"], b"minus"),
-    (["union", "ascii"], b"'combine union'"),
-    (["help", "intersection"], b"'combine intersection'"),
-    (["difference", "ascii"], b"'combine difference'"),
-    (["symmetric", "ascii"], b"'combine symmetric'"),
-    (["invert", "ascii"], b"'complement'"),
-    (["coarsen", "3", "ascii"], b"'degrade'"),
     (["\x1b[31mfly"], b"error: a word of the command line has a control character\n"),
     (["check", "ascii\n"], b"error: a word of the command line has a control character\n"),
     (["convert", "auto", "ascii"], b"auto"),
     (["convert", "ascii", "auto"], b"auto"),
+]
+# Subcommands, and the words that users type in their place.
+GUESSES = [
+    ("combine union", ["union", "merge", "join"]),
+    ("combine intersection", ["intersection", "intersect", "overlap"]),
+    ("combine difference", ["difference", "subtract", "minus"]),
+    ("combine symmetric", ["symmetric", "xor"]),
+    ("complement", ["invert", "inverse"]),
+    ("degrade", ["coarsen", "downgrade"]),
+    ("draw", ["plot", "show"]),
+    ("describe", ["info", "stat", "stats", "summary"]),
+    ("check", ["validate", "verify"]),
 ]
 # What asks for help, and a part of it.
 HELP = [
@@ -322,6 +328,13 @@ def words_are_answered(tally):
     for words, part in MISTAKES:
         status, output, faults = outcome(words)
         tally.add(words, (status, output) == (2, b"") and part in faults, (status, output, faults))
+    for subcommand, guesses in GUESSES:
+        for guess in guesses:
+            text = (f"error: unrecognized subcommand '{guess}'\n\n  tip: what does it is '{subcommand}'\n\n"
+                    "Usage: moc <COMMAND>\n\nFor more information, try '--help'.\n")
+            for words in [[guess], [guess, "ascii"], ["help", guess]]:
+                seen = outcome(words)
+                tally.add(f"{words}: {subcommand}", seen == (2, b"", text.encode()), seen)
     seen = outcome([b"ring", b"1", b"\xff"])
     tally.add("a word that is not UTF-8", seen == (2, b"", b"error: a word of the command line is not UTF-8\n"), seen)
 
@@ -377,9 +390,10 @@ def devices_fail(tally):
         seen = outcome(words, stdin=folder)
         os.close(folder)
         tally.add(f"{words} on a folder", seen == (3, b"", b"fault Read\n"), seen)
-    for words, status in [(["cell", "3"], 1), (["ring", "30", "0"], 2)]:
+    for words, status in [(["cell", "3"], 1), (["check", "uniq"], 1), (["ring", "30", "0"], 2), ([], 2), (["union"], 2),
+                          (["\x1b[31mfly"], 2), ([b"ring", b"1", b"\xff"], 2)]:
         with open("/dev/full", "wb") as full:
-            seen = outcome(words, stderr=full)
+            seen = outcome(words, b"3", stderr=full)
         tally.add(f"{words} with a fault output that fails", seen == (status, b"", None), seen)
 
 

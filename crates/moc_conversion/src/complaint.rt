@@ -1,6 +1,6 @@
 //! What is told where nothing was made of an input.
-ghost use Rattle.std.specs.Prelude.{◌≡◌, None, OnOk, false, is_err};
-ghost use Rattle.moc_devices.specs.Devices.{Accepts};
+ghost use Rattle.std.specs.Prelude.{◌≡◌, [], None, OnOk, false, is_err};
+ghost use Rattle.moc_devices.specs.Devices.{Accepts, Sends};
 ghost use Rattle.moc_conversion.specs.Faults.{complaint_text, want_of_memory};
 ghost use Rattle.moc_conversion.specs.declared.fault.InputFault.TheVariants as refused;
 
@@ -28,8 +28,9 @@ impl Complaint {
     /// Tells the fault, behind it where it is, and which form the text looks like. Refused where the writer fails; what
     /// was told before that stays. Linear in the text that is written, takes no memory.
     pub fn tell<E: Sink>(&self, faults: &mut E) -> Result<(), DeviceFault>
-        ensures told { OnOk result (E.mark faults.old ≡ false →
+        ensures told { OnOk result (
             Accepts (E.writing faults.old) (E.writing faults.new) (complaint_text self.now)) }
+        ensures sends { Sends (complaint_text self.now) (E.writing faults.old) [] (E.writing faults.new) result }
         ensures marks { E.mark faults.old ≡ false → E.mark faults.new ≡ is_err result }
     {
         tell_fault(self.fault.name(), faults)?;

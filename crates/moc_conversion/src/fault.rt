@@ -1,6 +1,6 @@
 //! Why nothing was made of an input.
-ghost use Rattle.std.specs.Prelude.{◌≡◌, OnOk, false, is_err};
-ghost use Rattle.moc_devices.specs.Devices.{Accepts};
+ghost use Rattle.std.specs.Prelude.{◌≡◌, [], OnOk, false, is_err};
+ghost use Rattle.moc_devices.specs.Devices.{Accepts, Sends};
 ghost use Rattle.moc_text.specs.Names.{told_fault};
 ghost use Rattle.moc_conversion.specs.Faults.{name_of_input, want_of_memory};
 ghost use Rattle.moc_conversion.specs.declared.fault.InputFault.TheVariants as fault;
@@ -43,6 +43,7 @@ impl InputFault {
 /// stays. Linear in the name, takes no memory.
 pub fn tell_fault<E: Sink>(name: &str, faults: &mut E) -> Result<(), DeviceFault>
     ensures told { OnOk result (Accepts (E.writing faults.old) (E.writing faults.new) (told_fault name.now)) }
+    ensures sends { Sends (told_fault name.now) (E.writing faults.old) [] (E.writing faults.new) result }
     ensures marks { E.mark faults.old ≡ false → E.mark faults.new ≡ is_err result }
 {
     write_all(b"fault ", faults)?;

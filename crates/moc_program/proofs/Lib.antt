@@ -1,4 +1,5 @@
 pub mod Asking
+pub mod Controls
 pub mod Parsing
 pub mod Refusals
 pub mod NumberLines

@@ -1,6 +1,6 @@
 -- Which status has the number 2.
-use Rattle.std.proofs.Common.{◌≡◌, ◌⊎◌, inl, inr, Bool, false, ℕ, List, Option, Result, Ok, Err, refl, sym, ap, subst, ◌∙◌, arith}
-use Rattle.std.specs.Prelude.{IfErr, IsTrue}
+use Rattle.std.proofs.Common.{◌≡◌, ◌⊎◌, ◌||◌, ◌<◌, inl, inr, Bool, ℕ, List, Result, Ok, Err, refl, sym, ap, subst, ◌∙◌, arith}
+use Rattle.std.specs.Prelude.{IfErr, IsTrue, OnOk}
 use Rattle.moc_devices.specs.Devices.{Reading, Writing, Accepts, AcceptsNone}
 use Rattle.moc_lines.specs.declared.run_error.RunError.TheVariants as run
 use Rattle.moc_forms.specs.declared.form.FormError.TheVariants as form
@@ -12,7 +12,7 @@ use Rattle.moc_program.specs.Actions.{ActionEnds}
 use Rattle.moc_program.specs.Asking.{AskFor}
 use Rattle.moc_program.specs.Statuses.{code_of, fault_text, status_of, status_of_input}
 use Rattle.moc_program.specs.declared.action.Action.{Action}
-use Rattle.moc_program.specs.Outcomes.{AskForHelp, BlamesFailed, EndWith, TellsFaultOf}
+use Rattle.moc_program.specs.Outcomes.{AcceptsSome, AskForHelp, BlamesFailed, EndWith, ExplainsMistake, RunsOutOfMemory, TellsFaultOf, WritesUnlessFailed}
 use Rattle.moc_program.specs.Private.Ending.{end_of}
 use Rattle.moc_program.specs.Private.Matches.{AreReadAs, MatchedEnd}
 use Rattle.moc_program.proofs.Asking.{words_done, words_end}
@@ -77,12 +77,19 @@ only_done Broken e = absurd (omega (arith, e))
 pub well : (s t : Status) (r : ℕ) → s ≡ t → r ≡ code_of s → r ≡ 0 → t ≡ Done
 well s t r same number zero = only_done t (ap code_of (sym same) ∙ sym number ∙ zero)
 
+-- each status is one of four
+pub below_four : (s : Status) → code_of s < 4
+below_four Done = omega arith
+below_four Refused = omega arith
+below_four BadWords = omega arith
+below_four Broken = omega arith
+
 -- a fault that ends the program is told
-pub told_by : (outcome : Result (Unit {0}) ProgramFault) (status : ℕ) (is : ProgramFault → Type 0) (w w' : Writing) → status ≡ code_of (end_of outcome)
-    → IfErr outcome (λ c. Accepts w w' (fault_text c)) → IfErr outcome is → (status ≡ 1) ⊎ (status ≡ 3) → TellsFaultOf status is w w'
-told_by (Ok u) status is w w' number told why (inl one) = absurd (omega (arith, number, one))
-told_by (Ok u) status is w w' number told why (inr three) = absurd (omega (arith, number, three))
-told_by (Err c) status is w w' number told why some = (c, sym number, why, told)
+pub told_by : (outcome : Result (Unit {0}) ProgramFault) (status : ℕ) (is : ProgramFault → Type 0) (failed : Bool) (w w' : Writing) → status ≡ code_of (end_of outcome)
+    → IfErr outcome (λ c. WritesUnlessFailed failed (fault_text c) w w') → IfErr outcome is → (status ≡ 1) ⊎ (status ≡ 3) → TellsFaultOf status is failed w w'
+told_by (Ok u) status is failed w w' number told why (inl one) = absurd (omega (arith, number, one))
+told_by (Ok u) status is failed w w' number told why (inr three) = absurd (omega (arith, number, three))
+told_by (Err c) status is failed w w' number told why some = (c, sym number, why, told)
 
 -- the same where the devices are named otherwise
 module _ {I O : Type 0} (left : I → Reading) (written : O → Writing) (i i' : I) (o o' : O) (words : List Text) (m : ArgMatches) (l : Reading) (w : Writing)
@@ -103,33 +110,54 @@ module _ {I O : Type 0} (left : I → Reading) (written : O → Writing) (i i' :
       (subst (λ (y : O). BlamesFailed (marked i) (marked_out y) fault × EndWith words l (left i) w (written y) fault) (sym same_o)
       (blames, words_end words m l (left i) w (written o) fault read ends))
 
-pub told_outcome : {F : Type 0} (mark : F → Bool) (written : F → Writing) (f f' : F) (old : Writing) (outcome : Result (Unit {0}) ProgramFault) (status : ℕ) (is : ProgramFault → Type 0)
-    → (mark f ≡ false → IfErr outcome (λ c. Accepts old (written f) (fault_text c))) → f' ≡ f → status ≡ code_of (end_of outcome) → IfErr outcome is → mark f' ≡ false
-    → (status ≡ 1) ⊎ (status ≡ 3) → TellsFaultOf status is old (written f')
-told_outcome {F} mark written f f' old outcome status is told same number why unmarked some =
-    subst (λ (x : F). TellsFaultOf status is old (written x)) (sym same) (told_by outcome status is old (written f) number (told (ap mark (sym same) ∙ unmarked)) why some)
+-- what standard error is, where it is named otherwise: it was marked or not, and told is what it accepted
+module _ {F : Type 0} (marked : Bool) (mark : F → Bool) (written : F → Writing) (f f' : F) (old : Writing) (same : f' ≡ f) where
+  pub told_outcome : (outcome : Result (Unit {0}) ProgramFault) (status : ℕ) (is : ProgramFault → Type 0)
+      → IfErr outcome (λ c. WritesUnlessFailed (marked || mark f) (fault_text c) old (written f)) → status ≡ code_of (end_of outcome) → IfErr outcome is
+      → (status ≡ 1) ⊎ (status ≡ 3) → TellsFaultOf status is (marked || mark f') old (written f')
+  told_outcome outcome status is told number why some =
+      subst (λ (x : F). TellsFaultOf status is (marked || mark x) old (written x)) (sym same) (told_by outcome status is (marked || mark f) old (written f) number told why some)
+
+  pub explained_by : (words : List Text) → ExplainsMistake words (marked || mark f) old (written f) → ExplainsMistake words (marked || mark f') old (written f')
+  explained_by words explains = subst (λ (x : F). ExplainsMistake words (marked || mark x) old (written x)) (sym same) explains
+
+  pub memory_by : {O : Type 0} (output : O → Writing) (o o' : O) (w : Writing) → o' ≡ o → RunsOutOfMemory w (output o) (marked || mark f) old (written f)
+      → RunsOutOfMemory w (output o') (marked || mark f') old (written f')
+  memory_by {O} output o o' w same_o lacks =
+      subst (λ (y : O). RunsOutOfMemory w (output y) (marked || mark f') old (written f')) (sym same_o)
+      (subst (λ (x : F). RunsOutOfMemory w (output o) (marked || mark x) old (written x)) (sym same) lacks)
+
+-- what holds at an outcome that is well
+pub well_by : (outcome : Result (Unit {0}) ProgramFault) (P : Type 0) → OnOk outcome P → end_of outcome ≡ Done → P
+well_by (Ok u) P holds done = holds
+well_by (Err fault) P holds done = absurd (no_done (status_of fault) (of_fault fault) done)
 
 -- what is told where there are no matches
-abbrev IsUnhelped : Type 0 → Type 0 → Type 0 → ProgramFault → Type 0
-IsUnhelped kept failed help fault = ((fault ≡ Memory) × kept) ⊎ ((fault ≡ Write) × failed × help)
+abbrev IsUnhelped : Type 0 → Type 0 → Type 0 → Type 0 → ProgramFault → Type 0
+IsUnhelped kept failed help front fault = ((fault ≡ Memory) × kept) ⊎ ((fault ≡ Write) × failed × help × front)
+
+-- a front of some text was accepted
+abbrev HasFront : Writing → Writing → Type 0
+HasFront w w' = (front : List ℕ) × Accepts w w' front
 
 unhelped : (input output : Bool) (words : List Text) (l l' : Reading) (w w' : Writing) (help : Type 0) (fault : ProgramFault) → (help → AskForHelp words)
-    → IsUnhelped (AcceptsNone w w') (IsTrue output) help fault → BlamesFailed input output fault × EndWith words l l' w w' fault
+    → IsUnhelped (AcceptsNone w w') (IsTrue output) help (HasFront w w') fault → BlamesFailed input output fault × EndWith words l l' w w' fault
 unhelped input output words l l' w w' help fault asks (inl (memory, kept)) =
     (subst (λ f. BlamesFailed input output f) (sym memory) tt, inl (memory, kept))
-unhelped input output words l l' w w' help fault asks (inr (write, failed, helped)) =
-    (subst (λ f. BlamesFailed input output f) (sym write) failed, inr (inl (asks helped, write)))
+unhelped input output words l l' w w' help fault asks (inr (write, failed, helped, front)) =
+    (subst (λ f. BlamesFailed input output f) (sym write) failed, inr (inl (asks helped, write, front)))
 
-pub told_status : {F O : Type 0} (mark : F → Bool) (told_on : F → Writing) (marked : O → Bool) (written : O → Writing) (f f' : F) (o o' : O)
+pub told_status : {F O : Type 0} (before : Bool) (mark : F → Bool) (told_on : F → Writing) (marked : O → Bool) (written : O → Writing) (f f' : F) (o o' : O)
     (input : Bool) (words : List Text) (l l' : Reading) (w old : Writing) (help : Type 0) (s : Status) (status : ℕ)
-    → (mark f ≡ false → (code_of s ≡ 1) ⊎ (code_of s ≡ 3) → TellsFaultOf (code_of s) (λ c. IsUnhelped (AcceptsNone w (written o)) (IsTrue (marked o)) help c) old (told_on f))
-    → (help → AskForHelp words) → f' ≡ f → o' ≡ o → status ≡ code_of s → mark f' ≡ false → (status ≡ 1) ⊎ (status ≡ 3)
-    → TellsFaultOf status (λ c. BlamesFailed input (marked o') c × EndWith words l l' w (written o') c) old (told_on f')
-told_status {F} {O} mark told_on marked written f f' o o' input words l l' w old help s status told asks same same_o number unmarked some =
-    let here = told (ap mark (sym same) ∙ unmarked) (subst (λ (n : ℕ). (n ≡ 1) ⊎ (n ≡ 3)) number some) in
+    → ((code_of s ≡ 1) ⊎ (code_of s ≡ 3)
+    → TellsFaultOf (code_of s) (λ c. IsUnhelped (AcceptsNone w (written o)) (IsTrue (marked o)) help (HasFront w (written o)) c) (before || mark f) old (told_on f))
+    → (help → AskForHelp words) → f' ≡ f → o' ≡ o → status ≡ code_of s → (status ≡ 1) ⊎ (status ≡ 3)
+    → TellsFaultOf status (λ c. BlamesFailed input (marked o') c × EndWith words l l' w (written o') c) (before || mark f') old (told_on f')
+told_status {F} {O} before mark told_on marked written f f' o o' input words l l' w old help s status told asks same same_o number some =
+    let here = told (subst (λ (n : ℕ). (n ≡ 1) ⊎ (n ≡ 3)) number some) in
     let why = unhelped input (marked o') words l l' w (written o') help here.0 asks
-    (subst (λ (y : O). IsUnhelped (AcceptsNone w (written y)) (IsTrue (marked y)) help here.0) (sym same_o) here.2) in
-    (here.0, here.1 ∙ sym number, why, subst (λ (x : F). Accepts old (told_on x) (fault_text here.0)) (sym same) here.3)
+    (subst (λ (y : O). IsUnhelped (AcceptsNone w (written y)) (IsTrue (marked y)) help (HasFront w (written y)) here.0) (sym same_o) here.2) in
+    (here.0, here.1 ∙ sym number, why, subst (λ (x : F). WritesUnlessFailed (before || mark x) (fault_text here.0) old (told_on x)) (sym same) here.3)
 
 pub no_outcome : (outcome : Result (Unit {0}) ProgramFault) → end_of outcome ≡ BadWords → ⊥
 no_outcome (Ok u) e = cc
@@ -138,3 +166,6 @@ no_outcome (Err fault) e = no_bad (status_of fault) (of_fault fault) e
 -- what a sink has, where it is named otherwise
 pub kept_by : {O : Type 0} (written : O → Writing) (o o' : O) (w : Writing) → o' ≡ o → AcceptsNone w (written o) → AcceptsNone w (written o')
 kept_by written o o' w same kept = subst (λ y. AcceptsNone w (written y)) (sym same) kept
+
+pub some_by : {O : Type 0} (written : O → Writing) (o o' : O) (w : Writing) → o' ≡ o → AcceptsSome w (written o) → AcceptsSome w (written o')
+some_by written o o' w same some = subst (λ y. AcceptsSome w (written y)) (sym same) some

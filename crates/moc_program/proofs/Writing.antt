@@ -1,11 +1,12 @@
 -- What was written of a text, and how an action ends by that.
-use Rattle.std.proofs.Common.{◌≡◌, inl, inr, ℕ, List, [], ◌++◌, Option, None, Some, Result, Ok, Err, refl, sym, subst, ◌∙◌, append-nil, MatchResult}
-use Rattle.std.specs.Prelude.{IfOk, IfErr, String, string_bytes}
+use Rattle.std.proofs.Common.{◌≡◌, ◌||◌, inl, inr, ℕ, Bool, true, false, List, [], ◌++◌, Result, Ok, Err, refl, sym, subst, append-nil, MatchResult}
+use Rattle.std.specs.Prelude.{IfOk, IfErr, OnOk, String, is_err, string_bytes}
 use Rattle.std.specs.declared.alloc.Global.{Global}
-use Rattle.moc_devices.specs.Devices.{Writing, Accepts, AcceptsNone}
+use Rattle.moc_devices.specs.Devices.{Writing, Accepts, AcceptsNone, Sends}
 use Rattle.moc_devices.specs.Lemmas.{Accepts-kept}
 use Rattle.moc_conversion.specs.declared.complaint.Complaint.{Complaint}
 use Rattle.moc_program.specs.Actions.{PrintsText, Complains}
+use Rattle.moc_program.specs.Outcomes.{WritesUnlessFailed}
 use Rattle.moc_program.specs.Private.Writing.{IsSent}
 use Rattle.moc_program.specs.declared.status.ProgramFault.{ProgramFault}
 use Rattle.moc_program.specs.declared.status.ProgramFault.TheVariants.{Input, Write}
@@ -44,3 +45,21 @@ pub answered_by : (is : List ℕ → Type 0) (complains : Complaint → Type 0) 
 answered_by is complains (Ok t) w w' result made why sent = sent_writes is (Complains complains) (string_bytes t) w w' result made sent
 answered_by is complains (Err c) w w' (Ok u) made why (same, kept) = absurd (no_error (Input c) u (Ok u) refl same)
 answered_by is complains (Err c) w w' (Err fault) made why (same, kept) = inr ((c, same_fault fault (Input c) (Err fault) refl same, why), kept)
+
+-- ---- what standard error accepted
+
+none_left : {E : Type 0} (result : Result (Unit {0}) E) (old new : Bool) (rest : List ℕ) → OnOk result ([] ≡ rest) → (old ≡ false → new ≡ is_err result) → old || new ≡ false → rest ≡ []
+none_left (Ok u) old new rest pending marks none = sym pending
+none_left (Err e) true new rest pending marks none = absurd cc
+none_left (Err e) false new rest pending marks none = absurd (let marked = marks refl in cc)
+
+-- a text was written up to a rest; if the sink is not marked, nothing is left
+pub unless_failed : {E : Type 0} (text : List ℕ) (w w' : Writing) (old new : Bool) (result : Result (Unit {0}) E) → Sends text w [] w' result
+    → (old ≡ false → new ≡ is_err result) → WritesUnlessFailed (old || new) text w w'
+unless_failed text w w' old new result sends marks = record {
+  front = sends.sent;
+  rest = sends.rest;
+  parts = sends.parts;
+  accepted = sends.appended;
+  whole = none_left result old new sends.rest sends.pending marks;
+}

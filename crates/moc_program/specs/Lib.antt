@@ -1,5 +1,6 @@
 pub mod Actions
 pub mod Asking
+pub mod Explanations
 pub mod Listing
 pub mod Numbers
 pub mod Outcomes

@@ -1,5 +1,5 @@
 -- What the program has done when it ends.
-use Rattle.std.specs.Prelude.{◌≡◌, ◌≢◌, ◌⊎◌, ℕ, Bool, false, List, [], Err, IsTrue}
+use Rattle.std.specs.Prelude.{◌≡◌, ◌≢◌, ◌⊎◌, ℕ, ◌++◌, Bool, false, List, [], Err, IsTrue}
 use Rattle.moc_devices.specs.Devices.{Reading, Writing, Accepts, AcceptsNone}
 use Rattle.clap.specs.Words.{App, Text, takes, fault_of, IsAmong}
 use Rattle.clap.specs.declared.error.kind.ErrorKind.{ErrorKind}
@@ -9,6 +9,7 @@ use Rattle.moc_lines.specs.declared.run_error.RunError.TheVariants as run
 use Rattle.moc_conversion.specs.declared.fault.InputFault.TheVariants as input_fault
 use Rattle.moc_program.specs.Actions.{ActionEnds}
 use Rattle.moc_program.specs.Asking.{AskFor}
+use Rattle.moc_program.specs.Explanations.{IsMistakeText}
 use Rattle.moc_program.specs.Statuses.{code_of, fault_text, status_of}
 use Rattle.moc_program.specs.declared.action.Action.{Action}
 use Rattle.moc_program.specs.declared.status.ProgramFault.{ProgramFault}
@@ -49,15 +50,38 @@ BlamesFailed input output (Lines error) = (error ≡ run.Read → IsTrue input) 
 BlamesFailed input output Write = IsTrue output
 BlamesFailed input output _ = Unit {0}
 
--- Memory was refused before any output, or help that is asked for was not written, or what is asked for ends so.
+-- some bytes were accepted
+abbrev pub AcceptsSome : Writing → Writing → Type 0
+AcceptsSome w w' = (bytes : List ℕ) × (bytes ≢ []) × Accepts w w' bytes
+
+-- Memory was refused before any output, or help that is asked for was not written whole, or what is asked for ends so.
 abbrev pub EndWith :
     List Text → Reading → Reading → Writing → Writing → ProgramFault → Type 0
 EndWith words left left' w w' fault =
-    ((fault ≡ Memory) × AcceptsNone w w') ⊎ (AskForHelp words × (fault ≡ Write))
+    ((fault ≡ Memory) × AcceptsNone w w')
+    ⊎ (AskForHelp words × (fault ≡ Write) × ((front : List ℕ) × Accepts w w' front))
     ⊎ ((action : Action) × AskFor words action × ActionEnds action left left' w w' (Err fault))
 
--- a fault of which this holds, and which has this status, is told
-abbrev pub TellsFaultOf : ℕ → (ProgramFault → Type 0) → Writing → Writing → Type 0
-TellsFaultOf status is written written' =
+-- a sink accepted a beginning of a text, and the whole text if no call of the sink has failed
+pub record WritesUnlessFailed (failed : Bool) (text : List ℕ) (w w' : Writing) : Type 0 where
+  pub front : List ℕ
+  pub rest : List ℕ
+  pub parts : text ≡ front ++ rest
+  pub accepted : Accepts w w' front
+  pub whole : failed ≡ false → rest ≡ []
+
+-- a fault of which this holds, and which has this status, is reported, unless standard error fails
+abbrev pub TellsFaultOf : ℕ → (ProgramFault → Type 0) → Bool → Writing → Writing → Type 0
+TellsFaultOf status is failed w w' =
     (fault : ProgramFault) × (code_of (status_of fault) ≡ status) × is fault
-    × Accepts written written' (fault_text fault)
+    × WritesUnlessFailed failed (fault_text fault) w w'
+
+-- a text about words that are mistaken is written, unless standard error fails
+abbrev pub ExplainsMistake : List Text → Bool → Writing → Writing → Type 0
+ExplainsMistake words failed w w' =
+    (text : List ℕ) × IsMistakeText words text × WritesUnlessFailed failed text w w'
+
+-- memory was refused before any output, and standard error reports that, unless it fails
+abbrev pub RunsOutOfMemory : Writing → Writing → Bool → Writing → Writing → Type 0
+RunsOutOfMemory output output' failed w w' =
+    AcceptsNone output output' × WritesUnlessFailed failed (fault_text Memory) w w'

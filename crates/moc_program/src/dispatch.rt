@@ -1,12 +1,14 @@
 //! What the words of the command line make the program do.
-ghost use Rattle.std.specs.Prelude.{◌≡◌, ◌≢◌, ◌⊎◌, false, map, IfErr, IfOk, IsTrue, Ok, OnOk};
-ghost use Rattle.moc_devices.specs.Devices.{Accepts, AcceptsNone};
+ghost use Rattle.std.specs.Prelude.{◌≡◌, ◌≢◌, ◌⊎◌, ◌||◌, ◌<◌, false, map, IfErr, IfOk, IsTrue, Ok, OnOk};
+ghost use Rattle.moc_devices.specs.Devices.{AcceptsNone};
 ghost use Rattle.std.specs.IoError.{error_kind};
 ghost use Rattle.clap.specs.Words.{kind_of};
 ghost use Rattle.moc_program.specs.Actions.{ActionEnds};
 ghost use Rattle.moc_program.specs.Asking.{AskFor};
-ghost use Rattle.moc_program.specs.Outcomes.{AreMistaken, AreRefused, AskForHelp, BlamesFailed, EndWith, IsMistake};
-ghost use Rattle.moc_program.specs.Outcomes.{TellsFaultOf};
+ghost use Rattle.moc_program.specs.Explanations.{not_utf8_text};
+ghost use Rattle.moc_program.specs.Outcomes.{AcceptsSome, AreMistaken, AreRefused, AskForHelp, BlamesFailed, EndWith};
+ghost use Rattle.moc_program.specs.Outcomes.{ExplainsMistake, IsMistake, RunsOutOfMemory, TellsFaultOf};
+ghost use Rattle.moc_program.specs.Outcomes.{WritesUnlessFailed};
 ghost use Rattle.moc_program.specs.Statuses.{fault_text};
 ghost use Rattle.moc_program.specs.Private.Matches.{AreReadAs};
 ghost use Rattle.moc_program.specs.declared.action.Action.{Action};
@@ -40,25 +42,35 @@ pub fn program<'a, T: Threads + Wait + Sync, S: AsStr, R: Source, W: Sink, E: Si
     requires input { R.mark input.old ≡ false }
     requires output { W.mark output.old ≡ false }
 
-    // 2 comes only where the words are mistaken, and where they are nothing else but want of memory may come first.
-    // At 2 nothing is written.
-    ensures refused { result ≡ 2 → AreRefused (map S.text words.entry.now) }
-    ensures mistaken { AreMistaken (map S.text words.entry.now) → (result ≡ 2) ⊎ (result ≡ 3) }
-    ensures kept { result ≡ 2 → AcceptsNone (W.writing output.old) (W.writing output.new) }
+    // The status is one of `Status`.
+    ensures status { result < 4 }
 
-    // At 0 help was asked for, or what the words ask for is done, and all that comes of it is written.
-    ensures done { result ≡ 0 → AskForHelp (map S.text words.entry.now)
+    // 2 is returned only if the words are mistaken. Words that can only be mistaken end with 2 whether or not `faults`
+    // can be written, or with 3 if memory runs out first. At 2 `faults` alone is written.
+    ensures refused { result ≡ 2 → AreRefused (map S.text words.entry.now) }
+    ensures mistaken { AreMistaken (map S.text words.entry.now) → (result ≡ 2) ⊎ ((result ≡ 3)
+        × RunsOutOfMemory (W.writing output.old) (W.writing output.new)
+        (E.mark faults.old || E.mark faults.new) (E.writing faults.old) (E.writing faults.new)) }
+    ensures kept { result ≡ 2 → AcceptsNone (W.writing output.old) (W.writing output.new) }
+    ensures explained { result ≡ 2 → ExplainsMistake (map S.text words.entry.now)
+        (E.mark faults.old || E.mark faults.new) (E.writing faults.old) (E.writing faults.new) }
+
+    // At 0 help was asked for and some text is written, or what the words ask for is done, and all that comes of it is
+    // written. Nothing is written to `faults`.
+    ensures done { result ≡ 0 → (AskForHelp (map S.text words.entry.now)
+        × AcceptsSome (W.writing output.old) (W.writing output.new))
         ⊎ ((action : Action) × AskFor (map S.text words.entry.now) action
         × ActionEnds action
         (R.reading input.old) (R.reading input.new) (W.writing output.old) (W.writing output.new) (Ok tt)) }
+    ensures silent { result ≡ 0 → AcceptsNone (E.writing faults.old) (E.writing faults.new) }
 
-    // At 1 and 3 a fault is told that ends so, unless that cannot be written. It is one that what the words ask for
-    // gives on what was read, and a device that it blames has failed.
-    ensures told { E.mark faults.old ≡ false → E.mark faults.new ≡ false → (result ≡ 1) ⊎ (result ≡ 3)
+    // At 1 and 3 the status is that of a fault. What the words ask for ends with this fault on what was read, and a
+    // device that the fault blames has failed. Its text is written to `faults`, or a beginning of it if `faults` fails.
+    ensures told { (result ≡ 1) ⊎ (result ≡ 3)
         → TellsFaultOf result (λ fault. BlamesFailed (R.mark input.new) (W.mark output.new) fault
         × EndWith (map S.text words.entry.now)
         (R.reading input.old) (R.reading input.new) (W.writing output.old) (W.writing output.new) fault)
-        (E.writing faults.old) (E.writing faults.new) }
+        (E.mark faults.old || E.mark faults.new) (E.writing faults.old) (E.writing faults.new) }
 
     // A device that failed ends with 3, and at 0 all that was written is flushed.
     ensures input { IsTrue (R.mark input.new) → result ≡ 3 }
@@ -76,8 +88,10 @@ pub fn program<'a, T: Threads + Wait + Sync, S: AsStr, R: Source, W: Sink, E: Si
 pub fn refuse_words<E: Sink>(error: &io::Error, faults: &mut E) -> u8
     ensures memory { error_kind error.now ≡ IoErrorKind.OutOfMemory → result ≡ 3 }
     ensures not_utf8 { error_kind error.now ≢ IoErrorKind.OutOfMemory → result ≡ 2 }
-    ensures told { E.mark faults.old ≡ false → E.mark faults.new ≡ false → result ≡ 3
-        → Accepts (E.writing faults.old) (E.writing faults.new) (fault_text ProgramFault.Memory) }
+    ensures told { result ≡ 3 → WritesUnlessFailed (E.mark faults.old || E.mark faults.new)
+        (fault_text ProgramFault.Memory) (E.writing faults.old) (E.writing faults.new) }
+    ensures explained { result ≡ 2 → WritesUnlessFailed (E.mark faults.old || E.mark faults.new) not_utf8_text
+        (E.writing faults.old) (E.writing faults.new) }
 {
     if error.kind() == IoErrorKind::OutOfMemory {
         return ended(Err(ProgramFault::Memory), faults).code();

@@ -1,6 +1,7 @@
 //! How the program ends, and what it says of that.
-ghost use Rattle.std.specs.Prelude.{◌≡◌, IfErr, OnOk, false, is_err};
-ghost use Rattle.moc_devices.specs.Devices.{Accepts};
+ghost use Rattle.std.specs.Prelude.{◌≡◌, ◌||◌, [], IfErr, OnOk, false, is_err};
+ghost use Rattle.moc_devices.specs.Devices.{Accepts, AcceptsNone, Sends};
+ghost use Rattle.moc_program.specs.Outcomes.{WritesUnlessFailed};
 ghost use Rattle.moc_program.specs.Statuses.{code_of, fault_of_crew, fault_text, name_of_cell};
 ghost use Rattle.moc_program.specs.Statuses.{status_of, status_of_input};
 ghost use Rattle.moc_program.specs.Private.Ending.{end_of};
@@ -67,10 +68,10 @@ impl ProgramFault {
         }
     }
 
-    /// Tells it on the fault output.
+    /// Writes it to the error output. Fails if the output fails: then a beginning of its text is written.
     pub fn tell<E: Sink>(&self, faults: &mut E) -> Result<(), DeviceFault>
-        ensures told { OnOk result (E.mark faults.old ≡ false →
-            Accepts (E.writing faults.old) (E.writing faults.new) (fault_text self.now)) }
+        ensures told { OnOk result (Accepts (E.writing faults.old) (E.writing faults.new) (fault_text self.now)) }
+        ensures sends { Sends (fault_text self.now) (E.writing faults.old) [] (E.writing faults.new) result }
         ensures marks { E.mark faults.old ≡ false → E.mark faults.new ≡ is_err result }
     {
         match self {
@@ -87,8 +88,9 @@ impl ProgramFault {
 /// How the program ends with this outcome, after it has told a fault.
 pub(crate) fn ended<E: Sink>(outcome: Result<(), ProgramFault>, faults: &mut E) -> Status
     ensures end { result ≡ end_of outcome }
-    ensures told { E.mark faults.old ≡ false → E.mark faults.new ≡ false → IfErr outcome (λ fault.
-        Accepts (E.writing faults.old) (E.writing faults.new) (fault_text fault)) }
+    ensures told { IfErr outcome (λ fault. WritesUnlessFailed (E.mark faults.old || E.mark faults.new)
+        (fault_text fault) (E.writing faults.old) (E.writing faults.new)) }
+    ensures silent { OnOk outcome (AcceptsNone (E.writing faults.old) (E.writing faults.new)) }
 {
     let Err(fault) = outcome else {
         return Status::Done;
