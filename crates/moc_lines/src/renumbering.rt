@@ -2,6 +2,7 @@
 ghost use Rattle.std.specs.Prelude.{◌≡◌, ◌++◌, ◌∷◌, ◌-◌, ◌^◌, [], false, OnOk, decimal, min};
 ghost use Rattle.std.specs.Result.{result_map_both};
 ghost use Rattle.moc_lines.specs.Runs.{script_text, line_limit, AnswersAll, EndsFlushed, Flushes, Runs, TellsFailed};
+ghost use Rattle.moc_lines.specs.Runs.{AreLinesAnswered};
 ghost use Rattle.moc_lines.specs.Language.{◌>>=◌ as and_then};
 ghost use Rattle.moc_lines.specs.Numberings.{number_on, other_number, renumber_rules};
 
@@ -12,7 +13,7 @@ use crate::run_error::RunError;
 use crate::runner::answer_all_lines;
 use crate::words::{SAFE_DIGITS, is_blank_text, number_in, short_number_in, split_word};
 use itoa::write_digits;
-use moc_devices::{Sink, Source};
+use moc_devices::{GuardedSource, Sink};
 use moc_ranges::Memory;
 use moc_sphere::Order;
 use std::alloc::Global;
@@ -116,7 +117,7 @@ fn push_number(number: u64, text: &mut Vec<u8>) -> Result<(), Memory>
 ///
 /// Faults of the devices and lines over the limit end the call as they end `run`; what is written then is exactly the
 /// answers to the lines before. A line takes time linear in its bytes, and a growth of the buffers at most.
-pub fn renumber<R: Source, W: Sink>(
+pub fn renumber<R: GuardedSource<W>, W: Sink>(
     alloc: Global,
     reader: &mut R,
     writer: &mut W,
@@ -124,6 +125,13 @@ pub fn renumber<R: Source, W: Sink>(
 ) -> Result<(), RunError>
     requires reader { R.mark reader.old ≡ false }
     requires writer { W.mark writer.old ≡ false }
+
+    // Before each read, no device has failed, and the sink has accepted the answers to all whole lines that were
+    // delivered: the reader needs to permit reads in such states only. Every `Source` does.
+    requires permission { (r : _) (w : _) → R.mark r ≡ false → W.mark w ≡ false
+        → AreLinesAnswered renumber_rules renumbering
+        (R.reading reader.old) (R.reading r) (W.writing writer.old) (W.writing w)
+        → R.may_read r w }
 
     // The sink accepts the defined answers to what the source delivers. This needs no assumption about the devices:
     // standard input and output are included.

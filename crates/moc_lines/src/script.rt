@@ -1,12 +1,12 @@
 //! Scripts, run from a reader to a writer.
 ghost use Rattle.std.specs.Prelude.{◌≡◌, false, OnOk};
 ghost use Rattle.std.specs.FinSet as set;
-ghost use Rattle.moc_lines.specs.Runs.{answers_of, line_limit, script_rules};
+ghost use Rattle.moc_lines.specs.Runs.{answers_of, line_limit, script_rules, AreLinesAnswered};
 ghost use Rattle.moc_lines.specs.Runs.{AnswersAll, EndsFlushed, Flushes, Runs, TellsFailed};
 
 use crate::run_error::RunError;
 use crate::runner::answer_all_lines;
-use moc_devices::{Sink, Source};
+use moc_devices::{GuardedSource, Sink};
 use moc_parts::Map;
 use moc_ranges::Coverage;
 use std::alloc::Global;
@@ -41,13 +41,20 @@ use std::alloc::Global;
 /// A line's end is looked for, then the line is copied, looked through for `;` and parsed, by a fixed number of passes
 /// over its bytes. A command takes O(n log n) time for the n cells of its operand, O(n) where they rise, and besides
 /// time and memory at most linear in the ranges of both sets.
-pub fn run<R: Source, W: Sink>(
+pub fn run<R: GuardedSource<W>, W: Sink>(
     alloc: Global,
     reader: &mut R,
     writer: &mut W,
 ) -> Result<(), RunError>
     requires reader { R.mark reader.old ≡ false }
     requires writer { W.mark writer.old ≡ false }
+
+    // Before each read, no device has failed, and the sink has accepted the answers to all whole lines that were
+    // delivered: the reader needs to permit reads in such states only. Every `Source` does.
+    requires permission { (r : _) (w : _) → R.mark r ≡ false → W.mark w ≡ false
+        → AreLinesAnswered script_rules set.empty
+        (R.reading reader.old) (R.reading r) (W.writing writer.old) (W.writing w)
+        → R.may_read r w }
 
     // The sink accepts the defined answers to what the source delivers. This needs no assumption about the devices:
     // standard input and output are included.

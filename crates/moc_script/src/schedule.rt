@@ -1,10 +1,10 @@
 //! Schedules of steps, played from a reader to a writer.
 ghost use Rattle.std.specs.Prelude.{◌≡◌, false, OnOk};
-ghost use Rattle.moc_lines.specs.Runs.{line_limit, AnswersAll, EndsFlushed, Flushes, Runs, TellsFailed};
+ghost use Rattle.moc_lines.specs.Runs.{line_limit, AnswersAll, AreLinesAnswered, EndsFlushed, Flushes, Runs, TellsFailed};
 ghost use Rattle.moc_script.specs.Schedules.{schedule_rules, schedule_text, start_schedule};
 
 use crate::player::Player;
-use moc_devices::{Sink, Source};
+use moc_devices::{GuardedSource, Sink};
 use moc_lines::{RunError, answer_all_lines};
 use std::alloc::Global;
 
@@ -32,13 +32,20 @@ use std::alloc::Global;
 /// last lines are made before either is written: where memory is refused for them, `Memory` names the line behind the
 /// last. A step takes O(log n) for n clients midway, besides the batch's own work at its first `edit`; memory is linear
 /// in the sets, the clients midway, the committed batches, and the longest line and answer.
-pub fn play<R: Source, W: Sink>(
+pub fn play<R: GuardedSource<W>, W: Sink>(
     alloc: Global,
     reader: &mut R,
     writer: &mut W,
 ) -> Result<(), RunError>
     requires reader { R.mark reader.old ≡ false }
     requires writer { W.mark writer.old ≡ false }
+
+    // Before each read, no device has failed, and the sink has accepted the answers to all whole lines that were
+    // delivered: the reader needs to permit reads in such states only. Every `Source` does.
+    requires permission { (r : _) (w : _) → R.mark r ≡ false → W.mark w ≡ false
+        → AreLinesAnswered schedule_rules start_schedule
+        (R.reading reader.old) (R.reading r) (W.writing writer.old) (W.writing w)
+        → R.may_read r w }
 
     // The sink accepts the defined answers to what the source delivers. This needs no assumption about the devices:
     // standard input and output are included.

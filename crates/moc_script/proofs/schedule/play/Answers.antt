@@ -26,7 +26,7 @@ pub returns : goal.returns
 returns g c = record {
   plays = rw (c.in-Ok.ensures) at c.answer_all_lines.ensures.runs;
   answers = subst (λ (s : Schedule). OnOk c.answer_all_lines.result (AnswersAll (script_text schedule_rules line_limit s)
-      (g.R.Source.reading c.args.reader.now) (g.R.Source.reading c.answer_all_lines.new.reader)
+      (g.R.GuardedSource.reading c.args.reader.now) (g.R.GuardedSource.reading c.answer_all_lines.new.reader)
       (g.W.Sink.writing c.args.writer.now) (g.W.Sink.writing c.answer_all_lines.new.writer)))
       c.in-Ok.ensures c.answer_all_lines.ensures.answers;
   end = c.answer_all_lines.ensures.end;
