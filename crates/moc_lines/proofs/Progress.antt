@@ -14,7 +14,7 @@ use Rattle.moc_text.specs.Lines.{is_line_feed, lines_of}
 use Rattle.moc_lines.specs.Private.Held.{Held, IsUnbroken}
 use Rattle.moc_lines.specs.Private.LineReading.{IsOfLine, PermitsReadsWithinLine, TakesLine, holds_line}
 use Rattle.moc_lines.specs.Runs.{Rules, answers_to, after_lines, AreShort, IsTooLong, IsBegunLine, IsUnclosed, error_of_input}
-use Rattle.moc_lines.specs.Runs.{AreLinesAnswered, whole_lines_of, lines_before}
+use Rattle.moc_lines.specs.Runs.{AreLinesAnswered, HasNotEnded, whole_lines_of, lines_before}
 use Rattle.moc_devices.specs.Devices.{Sends}
 use Rattle.moc_lines.specs.Private.Ended.{Ended, EndsAt, IsSent}
 use Rattle.moc_lines.specs.declared.line_reader.Found.{Found}
@@ -26,6 +26,7 @@ use Rattle.moc_lines.specs.declared.run_error.RunError.TheVariants.{Read, Write,
 use Rattle.moc_lines.proofs.LineLemmas.{count-append, some-lines, count-cons, lines_of-line, lines_of-last}
 use Rattle.moc_lines.proofs.LineLemmas.{lines_of-long, not_true, split_at_line_feed}
 use Rattle.moc_lines.proofs.Outcomes.{at_ok}
+use Rattle.moc_lines.proofs.Turns.{HasNotEnded-later}
 
 -- lines, each with its line feed
 pub ended : List (List ℕ) → List ℕ
@@ -169,15 +170,15 @@ module _ {S : Type 0} (limit : ℕ) (rules : Rules S) where
   -- What permits a read when all answers are accepted permits one until the next line feed: no whole line is at hand
   -- then, so that nothing is pending.
   pub Progress-permits : {R W : Type 0} (reading : R → Reading) (writing : W → Writing) (mark : R → Bool) (failed : W → Bool) (may_read : R → W → Type 0) (s now : S) (a b : R) (w v : W) (unread pending : List ℕ) (number : ℕ)
-      → ((r : R) (x : W) → mark r ≡ false → failed x ≡ false → AreLinesAnswered rules s (reading a) (reading r) (writing w) (writing x) → may_read r x)
+      → ((r : R) (x : W) → mark r ≡ false → failed x ≡ false → HasNotEnded (reading a) (reading r) → AreLinesAnswered rules s (reading a) (reading r) (writing w) (writing x) → may_read r x)
       → Progress s now (reading a) (reading b) (writing w) (writing v) unread pending number → (holds_line unread ≡ false → pending ≡ [])
-      → mark b ≡ false → failed v ≡ false → PermitsReadsWithinLine reading mark (λ r. may_read r v) unread b
-  Progress-permits reading writing mark failed may_read s now a b w v unread pending number permits p written reader writer = λ later came more same unbroken.
+      → HasNotEnded (reading a) (reading b) → mark b ≡ false → failed v ≡ false → PermitsReadsWithinLine reading mark (λ r. may_read r v) unread b
+  Progress-permits reading writing mark failed may_read s now a b w v unread pending number permits p written ahead reader writer = λ later came more same further unbroken.
       let split : p.given ++ came ≡ ended p.lines ++ (unread ++ came) = ap (λ l. l ++ came) p.split ∙ append_assoc (ended p.lines) unread came in
       let lines = whole p.lines (p.given ++ came) (unread ++ came) split p.unbroken unbroken in
       let sent : p.sent ≡ answers_to rules s (whole_lines_of (p.given ++ came)) =
       sym (append-nil p.sent) ∙ ap (λ l. p.sent ++ l) (sym (written (unheld unread came unbroken))) ∙ sym p.text ∙ ap (answers_to rules s) lines in
-      permits later v (same ∙ reader) writer (record {
+      permits later v (same ∙ reader) writer (HasNotEnded-later (reading a) (reading b) (reading later) ahead further) (record {
         given = p.given ++ came;
         delivered = Delivers-trans (reading a) (reading b) (reading later) p.given came p.consumed more;
         accepted = subst (Accepts (writing w) (writing v)) sent p.appended;

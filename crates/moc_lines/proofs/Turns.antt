@@ -1,5 +1,5 @@
 -- The loop that looks for a line's end.
-use Rattle.std.proofs.Common.{◌≡◌, ℕ, ◌+◌, ◌<◌, ◌≤◌, List, [], ◌∷◌, ◌++◌, length, drop, Ok, Err, sym, ap, ◌∙◌, arith, append_assoc, append-nil, length-append, length-take, not}
+use Rattle.std.proofs.Common.{◌≡◌, ℕ, ◌+◌, ◌<◌, ◌≤◌, List, [], ◌∷◌, ◌++◌, length, drop, Ok, Err, sym, ap, ◌∙◌, arith, append_assoc, append-nil, length-append, length-take, not, inr, subst, ⊎_elim}
 use Rattle.std.specs.List.{count_by, position_or_len, before_first, after_first}
 use Rattle.moc_devices.specs.Devices.{Reading, Delivers}
 use Rattle.moc_devices.specs.Lemmas.{Delivers-trans}
@@ -8,9 +8,14 @@ use Rattle.std.proofs.lemmas.List.Sums.{prefix_len-le-length}
 use Rattle.moc_text.specs.Lines.{is_line_feed}
 use Rattle.moc_lines.specs.Private.Held.{Held, IsUnbroken}
 use Rattle.moc_lines.specs.Private.LineReading.{Brings, TakesLine}
+use Rattle.moc_lines.specs.Runs.{HasNotEnded}
 use Rattle.moc_lines.specs.declared.line_reader.Found.TheVariants.{Line}
 use Rattle.moc_lines.specs.declared.reading.InputError.TheVariants.{TooLong}
 use Rattle.moc_lines.proofs.LineLemmas.{count-append, IsUnbroken-before_first, split_at_line_feed, before_first-none, after_first-none}
+
+-- twice not ended
+pub HasNotEnded-later : (a b c : Reading) → HasNotEnded a b → HasNotEnded b c → HasNotEnded a c
+HasNotEnded-later a b c first later = ⊎_elim (λ same. subst (λ (r : Reading). HasNotEnded a r) (sym same) first) inr later
 
 -- the bytes that came and those that were at hand are the line so far and those at hand; the line has no line feed
 pub record Turn (limit : ℕ) (old : Held) (left : Reading) (now : Held) (left' : Reading) : Type 0 where

@@ -1,7 +1,7 @@
 -- Scripts, and what a run of one has read and written when it ends.
 use Rattle.std.specs.Prelude.{ℕ, nat_le, Bool, List, [], ◌++◌, length, if◌then◌else◌, fold, Result, ◌≡◌, ◌≢◌, ◌+◌}
 use Rattle.std.specs.Prelude.{◌-◌, ◌^◌, ◌<◌, ◌≤◌, ◌⊎◌, take, Option, Some, Ok, Err, OnOk, OnErr, IsErrOf, IsTrue, ◌↔◌}
-use Rattle.std.specs.Prelude.{slice_index_or, codes}
+use Rattle.std.specs.Prelude.{false, slice_index_or, codes}
 use Rattle.std.specs.List.{list_all, take_while, AllByRecursion, concat, count_by, scan}
 use Rattle.moc_text.specs.Lines.{lines_of, is_line_feed}
 use Rattle.std.specs.FinSet as set
@@ -94,6 +94,10 @@ pub record IsBegunLine (number : ℕ) (given : List ℕ) : Type 0 where
 pub record IsUnclosed (number : ℕ) (given closing : List ℕ) : Type 0 where
   pub next : number ≡ length (lines_of given) + 1
   pub some : closing ≢ []
+
+-- a source was not read since the first state, or its last read did not find the end
+abbrev pub HasNotEnded : Reading → Reading → Type 0
+HasNotEnded reading reading' = (reading' ≡ reading) ⊎ (reading'.ended ≡ false)
 
 module _ {S : Type 0} (rules : Rules S) (s : S) where
   -- the writer has accepted the answers to all whole lines that the reader has delivered, both since the first states

@@ -53,6 +53,7 @@ impl Model for LineReader {
 impl LineReader {
     ghost use Rattle.moc_lines.specs.Private.LineReading.{Brings, FailsPart, IsOfLine, TakesLine};
     ghost use Rattle.moc_lines.specs.Private.LineReading.{PermitsReadsWithinLine, holds_line};
+    ghost use Rattle.moc_lines.specs.Runs.{HasNotEnded};
 
     pub(crate) fn new(alloc: Global) -> Result<LineReader, AllocError>
         ensures { IfOk result (λ r. r.unread ≡ []) }
@@ -121,6 +122,7 @@ impl LineReader {
         ensures brings { Brings self.old (R.reading reader.old) self.new (R.reading reader.new) }
         ensures some { IfOk result (λ some. some ≡ nat_lt 0 (length self.new.unread)) }
         ensures end { IfOk result (λ some. some ≡ false → IsEnded (R.reading reader.new)) }
+        ensures more { IfOk result (λ some. some ≡ true → HasNotEnded (R.reading reader.old) (R.reading reader.new)) }
         ensures err { OnErr result (self.new.unread ≡ []) }
         ensures marks { R.mark reader.new ≡ (R.mark reader.old || is_err result) }
     {
@@ -144,6 +146,7 @@ impl LineReader {
             self.old.unread reader.old }
         ensures takes { TakesLine LINE_LIMIT self.old (R.reading reader.old) self.new (R.reading reader.new) result }
         ensures number { IfErr result (λ e. IsOfLine number e) }
+        ensures more { result ≡ Ok Found.Line → HasNotEnded (R.reading reader.old) (R.reading reader.new) }
         ensures read { result ≡ Err InputError.Read → IsTrue (R.mark reader.new) }
         ensures unmarked { result ≢ Err InputError.Read → R.mark reader.new ≡ R.mark reader.old }
     {

@@ -2,7 +2,7 @@
 ghost use Rattle.std.specs.Prelude.{◌≡◌, ◌++◌, ◌∷◌, ◌-◌, ◌^◌, [], false, OnOk, decimal, min};
 ghost use Rattle.std.specs.Result.{result_map_both};
 ghost use Rattle.moc_lines.specs.Runs.{script_text, line_limit, AnswersAll, EndsFlushed, Flushes, Runs, TellsFailed};
-ghost use Rattle.moc_lines.specs.Runs.{AreLinesAnswered};
+ghost use Rattle.moc_lines.specs.Runs.{AreLinesAnswered, HasNotEnded};
 ghost use Rattle.moc_lines.specs.Language.{◌>>=◌ as and_then};
 ghost use Rattle.moc_lines.specs.Numberings.{number_on, other_number, renumber_rules};
 
@@ -126,9 +126,11 @@ pub fn renumber<R: GuardedSource<W>, W: Sink>(
     requires reader { R.mark reader.old ≡ false }
     requires writer { W.mark writer.old ≡ false }
 
-    // Before each read, no device has failed, and the sink has accepted the answers to all whole lines that were
-    // delivered: the reader needs to permit reads in such states only. Every `Source` does.
+    // Before each read, no device has failed, no read of this call has found the end, and the sink has accepted the
+    // answers to all whole lines that were delivered: the reader needs to permit reads in such states only. Every
+    // `Source` does.
     requires permission { (r : _) (w : _) → R.mark r ≡ false → W.mark w ≡ false
+        → HasNotEnded (R.reading reader.old) (R.reading r)
         → AreLinesAnswered renumber_rules renumbering
         (R.reading reader.old) (R.reading r) (W.writing writer.old) (W.writing w)
         → R.may_read r w }

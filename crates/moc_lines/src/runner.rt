@@ -1,10 +1,10 @@
 //! A run under way.
 ghost use Rattle.std.specs.Prelude.{◌≡◌, ◌≢◌, ◌++◌, [], IfOk, IfErr, if◌then◌else◌, IsTrue, ◌↔◌, false};
-ghost use Rattle.std.specs.Prelude.{OnOk, OnErr, IsErrOf, Err, is_err};
+ghost use Rattle.std.specs.Prelude.{OnOk, OnErr, IsErrOf, Ok, Err, is_err};
 ghost use Rattle.moc_devices.specs.Devices.{AcceptsNone, CallsMore, FlushesNothing, OnlyWrites, Sends};
 ghost use Rattle.moc_lines.specs.Private.LineReading.{IsOfLine, PermitsReadsWithinLine, TakesLine, holds_line};
 ghost use Rattle.moc_lines.specs.Runs.{script_text, line_limit, AnswersAll, EndsFlushed, Flushes, Runs, TellsFailed};
-ghost use Rattle.moc_lines.specs.Runs.{AreLinesAnswered};
+ghost use Rattle.moc_lines.specs.Runs.{AreLinesAnswered, HasNotEnded};
 ghost use Rattle.moc_lines.specs.Private.Ended.{Ended};
 
 use crate::line_reader::{Found, LINE_LIMIT, LineReader};
@@ -52,6 +52,7 @@ impl Runner {
         requires reader { R.mark reader.old ≡ false }
         requires writer { W.mark writer.old ≡ false }
         requires permission { (r : _) (w : _) → R.mark r ≡ false → W.mark w ≡ false
+            → HasNotEnded (R.reading reader.old) (R.reading r)
             → AreLinesAnswered A.rules responder.old
             (R.reading reader.old) (R.reading r) (W.writing writer.old) (W.writing w)
             → R.may_read r w }
@@ -86,6 +87,7 @@ impl Runner {
         requires reader { R.mark reader.old ≡ false }
         requires writer { W.mark writer.old ≡ false }
         requires permission { (r : _) (w : _) → R.mark r ≡ false → W.mark w ≡ false
+            → HasNotEnded (R.reading reader.old) (R.reading r)
             → AreLinesAnswered A.rules responder.old
             (R.reading reader.old) (R.reading r) (W.writing writer.old) (W.writing w)
             → R.may_read r w }
@@ -127,6 +129,7 @@ impl Runner {
             self.new.lines (R.reading reader.new) result }
         ensures pending { self.new.pending.items ≡ self.old.pending.items }
         ensures number { IfErr result (λ e. IsOfLine number e) }
+        ensures more { result ≡ Ok Found.Line → HasNotEnded (R.reading reader.old) (R.reading reader.new) }
         ensures read { result ≡ Err InputError.Read ↔ IsTrue (R.mark reader.new) }
     {
         self.lines.next_line(number, reader, writer)
@@ -218,9 +221,10 @@ pub fn answer_all_lines<A: Responder, R: GuardedSource<W>, W: Sink>(
     requires reader { R.mark reader.old ≡ false }
     requires writer { W.mark writer.old ≡ false }
 
-    // Before each read, no device has failed, and the sink has accepted the answers to all whole lines that were
-    // delivered: the reader needs to permit reads in such states only.
+    // Before each read, no device has failed, no read of this call has found the end, and the sink has accepted the
+    // answers to all whole lines that were delivered: the reader needs to permit reads in such states only.
     requires permission { (r : _) (w : _) → R.mark r ≡ false → W.mark w ≡ false
+        → HasNotEnded (R.reading reader.old) (R.reading r)
         → AreLinesAnswered A.rules responder.old
         (R.reading reader.old) (R.reading r) (W.writing writer.old) (W.writing w)
         → R.may_read r w }

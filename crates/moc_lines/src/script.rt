@@ -1,7 +1,7 @@
 //! Scripts, run from a reader to a writer.
 ghost use Rattle.std.specs.Prelude.{◌≡◌, false, OnOk};
 ghost use Rattle.std.specs.FinSet as set;
-ghost use Rattle.moc_lines.specs.Runs.{answers_of, line_limit, script_rules, AreLinesAnswered};
+ghost use Rattle.moc_lines.specs.Runs.{answers_of, line_limit, script_rules, AreLinesAnswered, HasNotEnded};
 ghost use Rattle.moc_lines.specs.Runs.{AnswersAll, EndsFlushed, Flushes, Runs, TellsFailed};
 
 use crate::run_error::RunError;
@@ -49,9 +49,11 @@ pub fn run<R: GuardedSource<W>, W: Sink>(
     requires reader { R.mark reader.old ≡ false }
     requires writer { W.mark writer.old ≡ false }
 
-    // Before each read, no device has failed, and the sink has accepted the answers to all whole lines that were
-    // delivered: the reader needs to permit reads in such states only. Every `Source` does.
+    // Before each read, no device has failed, no read of this call has found the end, and the sink has accepted the
+    // answers to all whole lines that were delivered: the reader needs to permit reads in such states only. Every
+    // `Source` does.
     requires permission { (r : _) (w : _) → R.mark r ≡ false → W.mark w ≡ false
+        → HasNotEnded (R.reading reader.old) (R.reading r)
         → AreLinesAnswered script_rules set.empty
         (R.reading reader.old) (R.reading r) (W.writing writer.old) (W.writing w)
         → R.may_read r w }

@@ -1,6 +1,7 @@
 //! Schedules of steps, played from a reader to a writer.
 ghost use Rattle.std.specs.Prelude.{◌≡◌, false, OnOk};
-ghost use Rattle.moc_lines.specs.Runs.{line_limit, AnswersAll, AreLinesAnswered, EndsFlushed, Flushes, Runs, TellsFailed};
+ghost use Rattle.moc_lines.specs.Runs.{line_limit, AnswersAll, EndsFlushed, Flushes, Runs, TellsFailed};
+ghost use Rattle.moc_lines.specs.Runs.{AreLinesAnswered, HasNotEnded};
 ghost use Rattle.moc_script.specs.Schedules.{schedule_rules, schedule_text, start_schedule};
 
 use crate::player::Player;
@@ -40,9 +41,11 @@ pub fn play<R: GuardedSource<W>, W: Sink>(
     requires reader { R.mark reader.old ≡ false }
     requires writer { W.mark writer.old ≡ false }
 
-    // Before each read, no device has failed, and the sink has accepted the answers to all whole lines that were
-    // delivered: the reader needs to permit reads in such states only. Every `Source` does.
+    // Before each read, no device has failed, no read of this call has found the end, and the sink has accepted the
+    // answers to all whole lines that were delivered: the reader needs to permit reads in such states only. Every
+    // `Source` does.
     requires permission { (r : _) (w : _) → R.mark r ≡ false → W.mark w ≡ false
+        → HasNotEnded (R.reading reader.old) (R.reading r)
         → AreLinesAnswered schedule_rules start_schedule
         (R.reading reader.old) (R.reading r) (W.writing writer.old) (W.writing w)
         → R.may_read r w }

@@ -4,6 +4,7 @@ use Rattle.std.specs.List.{position_or_len}
 use Rattle.moc_text.specs.Lines.{is_line_feed}
 use Rattle.moc_devices.specs.Devices.{Reading, Delivers, IsEnded}
 use Rattle.moc_lines.specs.Private.Held.{Held, IsUnbroken}
+use Rattle.moc_lines.specs.Runs.{HasNotEnded}
 use Rattle.moc_lines.specs.declared.line_reader.Found.{Found}
 use Rattle.moc_lines.specs.declared.line_reader.Found.TheVariants.{Line, LastLine, Nothing}
 use Rattle.moc_lines.specs.declared.reading.InputError.{InputError}
@@ -36,7 +37,7 @@ holds_line unread = nat_lt (position_or_len is_line_feed unread) (length unread)
 abbrev pub PermitsReadsWithinLine : {R : Type 0} → (R → Reading) → (R → Bool) → (R → Type 0) → List ℕ → R → Type 0
 PermitsReadsWithinLine reading mark may_read unread reader =
     (reader' : _) (came : List ℕ) → Delivers (reading reader) (reading reader') came → mark reader' ≡ mark reader
-    → IsUnbroken (unread ++ came) → may_read reader'
+    → HasNotEnded (reading reader) (reading reader') → IsUnbroken (unread ++ came) → may_read reader'
 
 -- the fault names the line of this number, if it names one
 abbrev pub IsOfLine : ℕ → InputError → Type 0

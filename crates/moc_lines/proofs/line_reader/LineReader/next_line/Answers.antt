@@ -8,7 +8,7 @@ use Rattle.std.specs.List.{count_by}
 use Rattle.moc_text.specs.Lines.{is_line_feed}
 use Rattle.moc_lines.specs.Private.Held.{Held}
 use Rattle.moc_devices.specs.Devices.{Reading}
-use Rattle.moc_lines.proofs.Turns.{Turn, Turn-brought, Turn-line, Turn-more, Turn-none, Turn-too_long}
+use Rattle.moc_lines.proofs.Turns.{HasNotEnded-later, Turn, Turn-brought, Turn-line, Turn-more, Turn-none, Turn-too_long}
 use Rattle.moc_lines.proofs.line_reader.LineReader.next_line.Goals as goal
 
 faulty : (limit : ℕ) (old now next : Held) (a b : Reading) → Turn limit old a now b → (number : ℕ) (fault : InputError)
@@ -50,6 +50,7 @@ loop-self-preserved g c =
     let turn = Turn-brought _ _ _ _ _ _ _ c.loop-self.invariant.turn c.fill_chunk.ensures.brings in
     record {
       turn = Turn-more _ _ _ _ _ _ turn (record { line = part.line; unread = part.unread; within = part.within }) (ltb-false _ _ (sym part.found ∙ c.in-Ok-false-take_part.field-0-test));
+      more = HasNotEnded-later _ _ _ c.loop-self.invariant.more (c.in-Ok-true.ensures.more c.in-Ok-true.field-0-test);
       marks = unmarked _ _ c.in-Ok-true.ensures.marks ∙ c.loop-self.invariant.marks;
     }
 
@@ -68,6 +69,7 @@ returns-in-Err g c =
     record {
       takes = (turn.came, turn.consumed, ap (count_by is_line_feed) (Turn-none _ _ _ _ _ turn c.in-Err.ensures.err) ∙ turn.unbroken);
       number = tt;
+      more = λ e. cc;
       read = λ _. failed _ _ c.in-Err.ensures.marks;
       unmarked = λ other. absurd (other refl);
     }
@@ -81,6 +83,7 @@ returns-in-Ok-false g c =
     record {
       takes = (turn.came, turn.consumed, (Turn-none _ _ _ _ _ turn unread ∙ none _ empty, unread, c.in-Ok-false.ensures.end c.in-Ok-false.field-0-test));
       number = tt;
+      more = λ e. cc;
       read = λ e. cc;
       unmarked = λ _. unmarked _ _ c.in-Ok-false.ensures.marks ∙ c.loop-self.invariant.marks;
     }
@@ -94,6 +97,7 @@ returns-in-Ok-false-2 g c =
     record {
       takes = (turn.came, turn.consumed, (Turn-none _ _ _ _ _ turn unread, turn.unbroken, turn.within, filled, unread, c.in-Ok-false.ensures.end c.in-Ok-false.field-0-test));
       number = tt;
+      more = λ e. cc;
       read = λ e. cc;
       unmarked = λ _. unmarked _ _ c.in-Ok-false.ensures.marks ∙ c.loop-self.invariant.marks;
     }

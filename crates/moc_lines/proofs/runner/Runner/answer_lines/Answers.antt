@@ -1,13 +1,15 @@
 -- Each turn of the loop, and each way out of it.
-use Rattle.std.proofs.Common.{◌≡◌, ◌∙◌, sym, refl, arith}
+use Rattle.std.proofs.Common.{◌≡◌, ◌∙◌, inl, sym, refl, arith}
 use Rattle.moc_devices.specs.Lemmas.{Delivers-nil, FlushesNothing-none, FlushesNothing-later}
 use Rattle.moc_lines.proofs.Outcomes.{at_ok, unmarked}
 use Rattle.moc_lines.proofs.Progress.{at_found, Progress-permits, Progress-start, Progress-sent, Progress-line, ReachedEnd-nothing, ReachedEnd-last, Ended-fault, Ended-refused, Ended-uncounted, Ended-closed, Ended-write}
+use Rattle.moc_lines.proofs.Turns.{HasNotEnded-later}
 use Rattle.moc_lines.proofs.runner.Runner.answer_lines.Goals as goal
 
 pub loop-line-init : goal.loop-line-init
 loop-line-init g c = record {
   progress = Progress-start _ _ _ _ _ _ _ c.requires.unread c.requires.pending;
+  more = inl refl;
   reader = c.requires.reader;
   writer = c.requires.writer;
   unflushed = FlushesNothing-none _;
@@ -18,7 +20,7 @@ next_line-requires-clause-permission g c =
     let ok = sym c.is_err.ensures.value ∙ c.if-is_err.false in
     let sent = Progress-sent _ _ _ _ _ _ _ _ _ c.loop-line.self.lines c.send_if_due.new.self.lines _ _ _ _ c.send_if_due.result c.loop-line.invariant.progress ok c.send_if_due.ensures.sends c.send_if_due.ensures.lines refl in
     Progress-permits 1048576 _ g.R.GuardedSource.reading g.W.Sink.writing g.R.GuardedSource.mark g.W.Sink.mark g.R.GuardedSource.may_read _ _ _ _ _ _ _ _ _ c.requires.permission sent
-    (at_ok c.send_if_due.result ok c.send_if_due.ensures.written) c.loop-line.invariant.reader (c.send_if_due.ensures.writes.marks c.loop-line.invariant.writer ∙ ok)
+    (at_ok c.send_if_due.result ok c.send_if_due.ensures.written) c.loop-line.invariant.more c.loop-line.invariant.reader (c.send_if_due.ensures.writes.marks c.loop-line.invariant.writer ∙ ok)
 
 pub returns-then-is_err-clause-ended : goal.returns-then-is_err-clause-ended
 returns-then-is_err-clause-ended g c = Ended-write _ _ _ _ _ _ _ _ _ _ _ _ _ _ c.loop-line.invariant.progress c.send_if_due.ensures.sends
@@ -60,6 +62,7 @@ loop-line-preserved g c =
     let answered = c.in_ok-answer_line-in-Ok-Line.ensures in
     record {
       progress = rw answered.lines (Progress-line _ _ _ _ _ _ _ _ _ c.send_if_due.new.self.lines c.next_line.new.self.lines _ _ sent (at_found 1048576 c.send_if_due.new.self.lines c.next_line.new.self.lines _ _ _ _ c.in-Ok-Line.field-0-is c.in-Ok-Line.ensures.takes) _ _ answered.text answered.after);
+      more = HasNotEnded-later _ _ _ c.loop-line.invariant.more (c.next_line.ensures.more cc);
       reader = unmarked _ c.next_line.ensures.read.1 (λ is. cc (c.in-Ok-Line.is, is));
       writer = c.send_if_due.ensures.writes.marks c.loop-line.invariant.writer ∙ sym c.is_err.ensures.value ∙ c.if-is_err.false;
       unflushed = FlushesNothing-later c.loop-line.invariant.unflushed c.send_if_due.ensures.writes.unflushed;
