@@ -1,6 +1,7 @@
 //! Schedules of steps, played from a reader to a writer.
 ghost use Rattle.std.specs.Prelude.{◌≡◌, false, OnOk};
-ghost use Rattle.moc_lines.specs.Runs.{line_limit, AnswersAll, AreLinesAnswered, EndsFlushed, Flushes, Runs, TellsFailed};
+ghost use Rattle.moc_lines.specs.Runs.{line_limit, AnswersAll, AreLinesAnswered, EndsFlushed, Flushes, Runs};
+ghost use Rattle.moc_lines.specs.Runs.{TellsFailed};
 ghost use Rattle.moc_script.specs.Schedules.{schedule_rules, schedule_text, start_schedule};
 
 use crate::player::Player;
