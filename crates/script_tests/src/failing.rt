@@ -1,5 +1,5 @@
 //! Devices that move one byte a call, and fail.
-ghost use Rattle.std.specs.Prelude.{◌≡◌, false, Some};
+ghost use Rattle.std.specs.Prelude.{◌≡◌, [], false, Some};
 
 use moc_script::{DeviceFault, Log, Sink, Source};
 use std::alloc::Global;
@@ -143,7 +143,8 @@ pub struct FailingSink {
 impl FailingSink {
     /// A writer that has taken nothing.
     pub fn new(alloc: Global, devices: Devices) -> FailingSink
-        ensures { result.is_marked ≡ false }
+        ensures unmarked { result.is_marked ≡ false }
+        ensures empty { result.taken.items ≡ [] }
     {
         FailingSink {
             taken: Vec::new(alloc),
