@@ -4,7 +4,7 @@
 and the one for leaks, and once without; `tests/c/growths.c` makes sets and texts with each growth refused in turn (`tests/refuse.c`). The
 program of `docs/C.md` writes what the page says. The header is read as C99 and as C++, and its codes are compared with those of the crate;
 and each call of it is an export of the library, and each export a call of it, with arguments and an answer of the same types; its structs
-have the fields of the crate's.
+have the fields of the crate's. Guards over calls that only look at their pointers show that these are aligned, those of empty arrays too.
 
 The library is linked anew, by `./moc library`, in a room of its own. The last line printed is `N passed, M failed`."""
 import itertools
@@ -19,7 +19,7 @@ TOP = os.path.dirname(os.path.dirname(os.path.abspath(__file__)))
 CRATE = os.path.join(TOP, "crates", "moc_c")
 HEADER = os.path.join(CRATE, "include", "moc.h")
 sys.path.insert(0, os.path.join(TOP, "tools"))
-from guards import calls_of, source_of  # noqa: E402
+from guards import PROVED, calls_of, source_of  # noqa: E402
 
 CC, CXX = os.environ.get("CC", "cc"), os.environ.get("CXX", "c++")
 WARNINGS = ["-Wall", "-Wextra", "-Wpedantic", "-Werror"]
@@ -211,6 +211,41 @@ def check_calls(tally, room):
                 tally.add_line(program, ran([program], ASAN_OPTIONS="detect_leaks=1"))
 
 
+def stub_of(call):
+    """A proved call that only looks at its arrays: each has to be aligned."""
+    arrays = [it[1] for it in (re.search(r"\*(\w+)", one) for one in call.arguments if not one.startswith(("moc_desk", "moc_seat"))) if it]
+    looks = "".join(f" is_aligned &= (uintptr_t){it} % __alignof__(*{it}) == 0;" for it in arrays)
+    answer = {"moc_outcome": "return (moc_outcome){0, 0, 0};", "bool": "return true;", "void": ""}[call.answer]
+    return f"{call.answer} {PROVED}{call.name}({', '.join(call.arguments)}) {{ calls++;{looks} {answer} }}\n"
+
+
+def on_empty_arrays(call):
+    """The line of a program that makes a call with empty arrays that are not aligned, and counts whether the guard aligned them."""
+    handles = iter(("&other", "&seat"))
+    passed = ["&desk" if one.startswith("moc_desk") else next(handles) if one.startswith("moc_seat") else "askew" if "*" in one else "0"
+              for one in call.arguments]
+    return f"    calls = 0; is_aligned = true; moc_{call.name}({', '.join(passed)}); count(calls == 1 && is_aligned, \"{call.name}\");\n"
+
+
+def check_empty_arrays(tally, room):
+    """An empty array that is not aligned goes to the proved call as one that is."""
+    calls = calls_of(read(HEADER))
+    program = os.path.join(room, "empty")
+    with open(program + ".c", "w") as file:
+        file.write("#include <stdio.h>\n" + source_of(calls) + "static int calls, passed, failed;\nstatic bool is_aligned;\n")
+        file.write("static void count(bool holds, const char *name)\n{\n    passed += holds;\n    failed += !holds;\n"
+                   "    if (!holds)\n        printf(\"an empty array of %s is not aligned\\n\", name);\n}\n")
+        file.write("".join(map(stub_of, calls)))
+        file.write("int main(void)\n{\n    static uint64_t at[2];\n    void *askew = (char *)at + 1;\n"
+                   "    moc_desk desk = {at};\n    moc_seat seat = {at}, other = {at};\n")
+        file.write("".join(on_empty_arrays(it) for it in calls if it.answer == "moc_outcome"))
+        file.write('    printf("%d passed, %d failed\\n", passed, failed);\n    return failed != 0;\n}\n')
+    told = ran([CC, "-std=c99", "-Wno-unused", f"-I{room}", program + ".c", "-o", program])
+    tally.add("the program of empty arrays is built", told.returncode == 0, told.stderr)
+    if told.returncode == 0:
+        tally.add_line(program, ran([program]))
+
+
 def check_page(tally, room):
     """The program of docs/C.md writes what the page says."""
     page, program = read(os.path.join(TOP, "docs", "C.md")), os.path.join(room, "page")
@@ -255,6 +290,7 @@ def main():
         check_rows(tally)
         check_strange(tally)
         check_calls(tally, room)
+        check_empty_arrays(tally, room)
         check_page(tally, room)
         check_growths(tally, room)
     print(f"{tally.passed} passed, {tally.failed} failed")

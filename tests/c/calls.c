@@ -122,8 +122,9 @@ static void texts(void)
     REFUSED(moc_describe(&desk, 0, 30), MOC_NO_SUCH_ORDER, 30);
     outcome = moc_draw(&desk, set("0/4"));
     uint8_t picture[1 << 14];
+    picture[outcome.first] = 77;
     CHECK(outcome.code == MOC_DONE && is(moc_text(&desk, picture, sizeof picture), MOC_DONE, outcome.first, 0));
-    CHECK(memcmp(picture, "<svg ", 5) == 0 && memcmp(picture + outcome.first - 7, "</svg>\n", 7) == 0);
+    CHECK(memcmp(picture, "<svg ", 5) == 0 && memcmp(picture + outcome.first - 7, "</svg>\n", 7) == 0 && picture[outcome.first] == 77);
     REFUSED(moc_draw(&desk, 99), MOC_NO_SUCH_SET, 99);
 }
 
@@ -143,11 +144,12 @@ static void operations(void)
     key = moc_degrade(&desk, set("29/3"), 28);
     CHECK(key.code == MOC_DONE && same(key.first, "28/0"));
 
-    moc_range low[] = {{0, 8}}, high[] = {{4, 12}}, out[4] = {{0, 0}, {0, 0}, {0, 0}, {77, 78}};
+    moc_range low[] = {{0, 8}}, high[] = {{4, 12}}, out[4] = {{0, 0}, {0, 0}, {75, 76}, {77, 78}};
     key = moc_symmetric(&desk, moc_from_ranges(&desk, low, 1).first, moc_from_ranges(&desk, high, 1).first);
     TELLS(moc_range_count(&desk, key.first), 2);
     TELLS(moc_ranges(&desk, key.first, out, 4), 2);
-    CHECK(out[0].from == 0 && out[0].to == 4 && out[1].from == 8 && out[1].to == 12 && out[3].from == 77 && out[3].to == 78);
+    CHECK(out[0].from == 0 && out[0].to == 4 && out[1].from == 8 && out[1].to == 12);
+    CHECK(out[2].from == 75 && out[2].to == 76 && out[3].from == 77 && out[3].to == 78);
 
     REFUSED(moc_union(&desk, a, 10000), MOC_NO_SUCH_SET, 10000);
     REFUSED(moc_union(&desk, 10000, 20000), MOC_NO_SUCH_SET, 10000);
@@ -228,6 +230,7 @@ static void arrays(void)
     uint8_t told[5] = {7, 7, 7, 7, 7};
     REFUSED(moc_contains_all(&desk, key, pixels, 5, told, 4), MOC_LENGTHS_DIFFER, 0);
     REFUSED(moc_contains_all(&desk, 10000, pixels, 5, told, 4), MOC_NO_SUCH_SET, 10000);
+    CHECK(memcmp(told, "\7\7\7\7\7", 5) == 0);
     TELLS(moc_contains_all(&desk, key, pixels, 0, told, 0), 0);
     CHECK(told[0] == 7);
     TELLS(moc_contains_all(&desk, key, pixels, 5, told, 5), 0);

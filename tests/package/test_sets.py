@@ -3,7 +3,7 @@ import copy
 import pickle
 import xml.etree.ElementTree
 
-from ploverchaise import MOC
+from ploverchaise import MOC, nest2ring
 
 from .common import BASE, NUMBERS, PIXELS, TestCase, cells_in, runs
 
@@ -78,10 +78,16 @@ class Worked(TestCase):
         self.assertRanges(MOC.from_depth29_ranges(28, [(3, 4)]), [(0, 4)])
         self.assertRanges(MOC.from_depth29_ranges(29, [(3, 4)]), [(3, 4)])
         self.assertRanges(MOC.from_healpix_cells([3], 29, max_depth=28), [(0, 4)])
+        self.assertRanges(MOC.from_healpix_cells([3, 2], [29, 28], max_depth=28), [(0, 4), (8, 12)])
 
     def test_cells_of_several_orders(self):
         self.assertEqual(str(MOC.from_healpix_cells([0, 4, 5, 20], [0, 1, 1, 2])), "0/0 1/4-5")
         self.assertEqual(str(MOC.from_healpix_cells(7, 1)), "1/7")
+
+    def test_generators_keep_their_order(self):
+        moc = MOC.from_ranges([(3, 9)])
+        self.assertEqual(moc.contains(pixel for pixel in (8, 0, 3, 9)), [True, False, True, False])
+        self.assertEqual(nest2ring(2, (cell for cell in (3, 0, 18))), [0, 13, 27])
 
     def test_figures(self):
         told = MOC.from_string("1/0-3 2/20").describe().split("\n")

@@ -1,4 +1,7 @@
 """Sets that threads change at the same time."""
+import threading
+from unittest import mock
+
 from ploverchaise import MOC, Client, MocError, SharedMap, _library
 
 from .common import BASE, TestCase
@@ -111,6 +114,30 @@ class Threads(TestCase):
 
         self.in_threads(range(THREADS), work)
         self.assertEqual(client.moc().count(), THREADS * TURNS * 4**20)
+
+    def test_a_timeout_ends(self):
+        """If a part stays held, a call tries once with 0 seconds, and again and again until its seconds have passed."""
+        shared = SharedMap()
+        client = shared.client()
+        for call, arguments in ((client.apply, ("invert",)), (shared.apply, ("invert",)), (client.moc, ()), (shared.moc, ())):
+            # (after so many tries, some five seconds of them, the list ends, and so does the call, by another error)
+            busy = [MocError(74, 3, 5)] * 5000
+            with mock.patch("ploverchaise.shared.on_seat", side_effect=busy) as line, \
+                    mock.patch("ploverchaise.shared.on_seat_and_desk", side_effect=busy) as read:
+                self.assertFault("Busy", (3, 5), call, *arguments, timeout=0)
+                self.assertEqual(line.call_count + read.call_count, 1)
+                self.assertFault("Busy", (3, 5), call, *arguments, timeout=0.02)
+                self.assertGreater(line.call_count + read.call_count, 2)
+
+    def test_a_set_is_read_while_no_other_call_is_on_the_desk(self):
+        client, made = SharedMap().client(), []
+        thread = threading.Thread(target=lambda: made.append(client.moc()))
+        with _library._lock:
+            thread.start()
+            thread.join(0.2)
+            self.assertEqual(made, [])
+        thread.join()
+        self.assertEqual(made, [MOC()])
 
     def test_busy_is_told(self):
         error = MocError(74, 3, 5)

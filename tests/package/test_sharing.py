@@ -130,6 +130,19 @@ class Processes(TestCase):
             thread.join()
 
 
+    def test_threads_of_a_forked_process(self):
+        """The child starts with a free desk: its other threads may use it."""
+        moc = MOC.from_string("0/0")
+        child = os.fork()
+        if child == 0:
+            counted = []
+            thread = threading.Thread(target=lambda: counted.append(moc.count()), daemon=True)
+            thread.start()
+            thread.join(10)
+            os._exit(0 if counted == [4**29] else 1)
+        self.assertEqual(os.waitpid(child, 0)[1], 0)
+
+
 class Signals(TestCase):
     """A handler that uses the desk while a call uses it."""
 

@@ -287,6 +287,18 @@ fn the_set_of_some_cells(rt: HostRuntime) {
     has(&rt, &none, &[]);
 }
 
+// Each first cell comes after the third, and waits. Each time that 512 wait they are joined with the others: 39 times.
+#[test]
+fn few_cells_wait(rt: HostRuntime) {
+    let mut builder = CoverageBuilder::new(rt.alloc());
+    for _ in 0..20000 {
+        builder.add_cells(Order::MAX, 2, 2).expect(&rt, "memory");
+        builder.add_cells(Order::MAX, 0, 0).expect(&rt, "memory");
+    }
+    let text = "CoverageBuilder { joined: 2, rising: 1, waiting: 32 }";
+    is_debugged(&rt, rt.alloc(), &builder, text);
+}
+
 /// Checks the runs of a set's cells of an order.
 fn has_runs(rt: &impl Abort, set: &Coverage, order: u8, runs: &[(u64, u64)])
     requires { order ≤ 29 }
@@ -306,6 +318,18 @@ fn runs_of_cells(rt: HostRuntime) {
     has_runs(&rt, &set, 27, &[(1, 4)]);
     has_runs(&rt, &set, 28, &[(1, 2)]);
     has_runs(&rt, &set, 29, &[(3, 4), (8, 9)]);
+}
+
+// The first call of `next` makes the runs of all ranges, if they are few.
+#[test]
+fn hints_of_runs_of_cells(rt: HostRuntime) {
+    let set = set_of(&rt, rt.alloc(), &[(3, 9), (16, 64)]);
+    let mut seen = set.cell_ranges(Order::of(29));
+    assert_eq!(rt; seen.size_hint(), (0, Some(4)));
+    assert_eq!(rt; seen.next(), Some((3, 4)));
+    assert_eq!(rt; seen.size_hint(), (1, Some(1)));
+    assert_eq!(rt; seen.next(), Some((8, 9)));
+    assert_eq!(rt; seen.size_hint(), (0, Some(0)));
 }
 
 #[test]
@@ -420,7 +444,14 @@ fn number_of_chunks(set: &Coverage) -> usize {
 
 #[test]
 fn numbers_of_chunks(rt: HostRuntime) {
-    for (count, chunks) in [(0u16, 0usize), (1, 1), (128, 1), (129, 2), (12800, 100)] {
+    for (count, chunks) in [
+        (0u16, 0usize),
+        (1, 1),
+        (128, 1),
+        (129, 2),
+        (12800, 100),
+        (16384, 128),
+    ] {
         let set = dots(&rt, rt.alloc(), count);
         assert_eq!(rt; number_of_chunks(&set), chunks);
     }
@@ -461,6 +492,33 @@ fn steps_of_look_ups(rt: HostRuntime) {
         for pixel in [0u64, 1, 2, 254, 256, 12800, 12801, 25598, 25599, 25600] {
             is_found_within(&rt, &set, pixel, most);
         }
+    }
+}
+
+/// Returns how many steps the look-up of a pixel takes.
+fn steps_of(set: &Coverage, pixel: u64) -> u64 {
+    let mut steps = Steps::new();
+    set.contains_counting(pixel, &mut steps);
+    steps.get()
+}
+
+// Each look-up halves the blocks, and then the ranges of the block that it found: of 100 blocks it compares 50, 25, 12,
+// 6, 3, 1 and 0, and of 128 ranges 64, 32, 16, 8, 4, 2, 1 and 0. Up to 128 ranges need no block.
+#[test]
+fn exact_steps_of_look_ups(rt: HostRuntime) {
+    for (count, pixel, steps) in [
+        (0u16, 0u64, 0u64),
+        (1, 0, 1),
+        (1, 1, 1),
+        (128, 0, 8),
+        (128, 128, 1),
+        (12800, 0, 15),
+        (12800, 12800, 9),
+        (12800, 12801, 9),
+        (12800, 25600, 6),
+    ] {
+        let set = dots(&rt, rt.alloc(), count);
+        assert_eq!(rt; steps_of(&set, pixel), steps);
     }
 }
 

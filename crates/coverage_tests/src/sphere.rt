@@ -43,6 +43,11 @@ fn uniq_rows(rt: HostRuntime) {
 }
 
 #[test]
+fn the_first_cell_is_the_default(rt: HostRuntime) {
+    is(&rt, at(&rt, 0, 0), &Cell::default(), &at(&rt, 0, 0));
+}
+
+#[test]
 fn ring_rows(rt: HostRuntime) {
     for (order, index, ring) in [
         (1, 0, 13),

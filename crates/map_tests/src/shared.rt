@@ -207,15 +207,14 @@ fn two_clients_meet_and_one_takes_in_the_other(rt: HostRuntime) {
     ends_as(&rt, alloc, map, a, &[(4 * BASE, 5 * BASE)]);
 }
 
-/// The part at which a map was not closed, while a client holds a batch for good.
+/// The part at which a map was not closed, while a client holds a batch. The holding is abandoned afterwards.
 fn midway(map: SharedMap, a: Client, b: Client, batch: Batch) -> Option<u8>
     requires { IsClientOf map a × IsClientOf map b }
 {
-    match map.hold(a, batch) {
-        Ok(holding) => holding.abandon(),
-        Err(_) => return None,
-    }
-    match map.close(b).err()? {
+    let holding = map.hold(a, batch).ok()?;
+    let closed = map.close(b);
+    holding.abandon();
+    match closed.err()? {
         CloseError::Midway { part } => Some(part.get()),
         CloseError::Memory => None,
     }
@@ -228,6 +227,15 @@ fn a_part_that_stays_held_is_midway(rt: HostRuntime) {
     counts(&rt, alloc, &map, &mut b, base(&rt, alloc, 6, 8), BASE);
     let add = one(&rt, alloc, Command::Add(base(&rt, alloc, 3, 4)));
     assert_eq!(rt; midway(map, a, b, add), Some(3));
+}
+
+#[test]
+fn the_first_part_that_stays_held_is_midway(rt: HostRuntime) {
+    let alloc = rt.alloc();
+    let (map, a, b) = two(&rt, alloc, Coverage::empty(alloc));
+    let parts = set(&rt, alloc, &[(5 * BASE, 6 * BASE), (9 * BASE, 10 * BASE)]);
+    let add = one(&rt, alloc, Command::Add(Operand::from(parts)));
+    assert_eq!(rt; midway(map, a, b, add), Some(5));
 }
 
 /// Why a look is refused.

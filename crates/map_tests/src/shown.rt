@@ -1,10 +1,16 @@
-//! How errors are shown.
+//! How errors and values are shown.
 use std::alloc::Global;
-use std::fmt::Display;
+use std::fmt::{Debug, Display};
 use std::process::Abort;
 
 /// Checks the text of an error.
 pub fn is_shown<E: Display>(rt: &impl Abort, alloc: Global, error: &E, text: &str) {
     let shown = error.to_string(alloc).expect(rt, "memory");
+    assert_eq!(rt; shown.as_str(), text);
+}
+
+/// Checks the text that `{:?}` makes of a value.
+pub fn is_debugged<T: Debug>(rt: &impl Abort, alloc: Global, value: &T, text: &str) {
+    let shown = format!(in alloc; "{value:?}").expect(rt, "memory");
     assert_eq!(rt; shown.as_str(), text);
 }

@@ -2,7 +2,7 @@
 ghost use Rattle.std.specs.Prelude.{◌<◌, ◌≤◌, IfOk};
 ghost use Rattle.map_tests.specs.Worlds.{IsMadeInOrder};
 
-use crate::shown::is_shown;
+use crate::shown::{is_debugged, is_shown};
 use moc_parts::{Batch, Command, Operand, Part, Replies};
 use moc_ranges::Coverage;
 use moc_steps::{
@@ -157,6 +157,15 @@ fn a_count_waits_for_an_add(rt: HostRuntime) {
     assert!(rt; stand(&world, &[0, 1]));
     assert_eq!(rt; set_of(&rt, &world).count(), 2 * BASE);
     assert_eq!(rt; world.midway(), 0);
+}
+
+#[test]
+fn a_world_is_debugged_by_its_operations(rt: HostRuntime) {
+    let mut world = overtaken(&rt, rt.alloc());
+    assert_eq!(rt; drain(&mut world).expect(&rt, "drained"), 9);
+    go(&rt, &mut world, begin(&rt, rt.alloc(), 1, Command::Invert));
+    let text = "World { begun: 3, midway: 1 }";
+    is_debugged(&rt, rt.alloc(), &world, text);
 }
 
 /// The set of a world that was handed in: what its operations make, done one by one in its order.

@@ -1,5 +1,5 @@
 -- Buffers of the caller that are filled, and arrays of his that are told one by one.
-use Rattle.std.specs.Prelude.{◌≡◌, ◌⊎◌, ◌<◌, ◌≤◌, ◌+◌, ◌-◌, ◌^◌, ℕ, Bool, List, [], ◌∷◌, length, map, take}
+use Rattle.std.specs.Prelude.{◌≡◌, ◌⊎◌, ◌<◌, ◌≤◌, ◌+◌, ◌-◌, ◌^◌, ℕ, Bool, List, [], ◌∷◌, length, map, take, drop}
 use Rattle.std.specs.Prelude.{nat_le, nat_lt, ◌==◌, EachIndex, slice_index, slice_index_or, if◌then◌else◌, option_map}
 use Rattle.std.specs.Prelude.{Option, None, Some, Result, Ok, Err}
 use Rattle.std.specs.Option.{option_map_or, option_or}
@@ -124,11 +124,12 @@ MakesOfUniqs old new uniqs o =
 
 -- ---- what is put into buffers
 
--- items stand at the front of a buffer, and how many is told; or it is shorter, and as it was, and how many are wanted
--- is told
+-- Items stand at the front of a buffer, what lies after them is as it was, and the outcome has their number; or the
+-- buffer is shorter than they are, and as it was, and the outcome has the number that is wanted.
 abbrev pub Fills : {X : Type 0} → List X → List X → List X → Outcome → Type 0
 Fills items old new o =
-    ((take (length items) new ≡ items) × (o ≡ number_told (length items)))
+    ((take (length items) new ≡ items) × (drop (length items) new ≡ drop (length items) old)
+    × (o ≡ number_told (length items)))
     ⊎ ((length old < length items) × (new ≡ old) × (o ≡ outcome_of (fault.NoRoom (length items))))
 
 -- pairs as ranges
@@ -146,9 +147,11 @@ abbrev pub FillsCells : Result NumberSet CallFault → List ℕ → List ℕ →
 FillsCells (Ok a) old new o = Fills (map uniq_of (cells_of a)) old new o ⊎ ((new ≡ old) × (o ≡ memory))
 FillsCells (Err e) old new o = (new ≡ old) × (o ≡ outcome_of e)
 
--- which of some pixels a set has is told, by 1 for those that it has and 0 for the others; or the fault is
+-- The numbers at the places of pixels that a set has are 1, and those at the places of the others are 0; or the
+-- outcome is an error, and the numbers are as they were.
 abbrev pub TellsContained : Result NumberSet CallFault → List ℕ → List ℕ → List ℕ → Outcome → Type 0
 TellsContained (Ok a) pixels old new o =
     (o ≡ done_unless (lengths_fault (length pixels) (length old ∷ [])))
     × (o.code ≡ 0 → AreRelated (λ x y. y ≡ (if set.contains a x then 1 else 0)) pixels new)
+    × ((o.code ≡ 0 → ⊥) → new ≡ old)
 TellsContained (Err e) pixels old new o = (new ≡ old) × (o ≡ outcome_of e)

@@ -1,9 +1,9 @@
 -- What the last state of a table says to a client.
-use Rattle.std.proofs.Common.{◌≡◌, ◌≢◌, ℕ, ◌<◌, List, [], sym, ap, ◌∙◌, subst, ⊎_elim, arith, Contains}
+use Rattle.std.proofs.Common.{◌≡◌, ◌≢◌, ℕ, suc, ◌<◌, List, [], sym, ap, ◌∙◌, subst, ⊎_elim, arith, Contains}
 use Rattle.std.specs.Prelude.{slice_index}
-use mathlib.Core.Option.{some, some-injective}
+use mathlib.Core.Option.{none, some, some-injective}
 use lib.ListN.{get_elem?}
-use Rattle.atomic_table.specs.Table.{Final, Seen}
+use Rattle.atomic_table.specs.Table.{Final, Seen, State}
 use Rattle.moc_shared.specs.declared.record.Call.{Call}
 use Rattle.moc_shared.specs.declared.record.Note.{Note}
 use Rattle.moc_shared.specs.declared.record.View.{View}
@@ -60,3 +60,51 @@ module _ {S X O R Y : Type 0} (n : ℕ) (content : S → Y) (part : ℕ → X �
             (subst (λ (y : V). Contains y.holds (note b h.2)) one h.4)))
             (k.each_part b l)),
       )
+
+  -- a part whose last word is not 0 is held, in the last state, by a client for which the client does not stand
+  pub record Held_last (words : List ℕ) (v : V) (b : ℕ) : Type 0 where
+    pub state : State S V
+    pub rule : Kept n content part answer proper start clients state
+    pub seat : ℕ
+    pub seen : get_elem? state.views seat ≡ some v
+    pub holder : ℕ
+    pub known : holder < clients
+    pub other : ¬ StandsFor v.mine holder
+    pub word_is : slice_index state.words (table_place b) ≡ suc holder
+    pub out : get_elem? state.homes (table_place b) ≡ some none
+    pub words_are : state.words ≡ words
+
+  pub held_last : (words : List ℕ) (xs : List S) (id : ℕ) (v : V) → v.holds ≡ []
+      → Final (Seen (λ s. Kept n content part answer proper start clients s) id v) words xs
+      → (b : ℕ) → b < n → slice_index words (table_place b) ≢ 0 → Held_last words v b
+  held_last words xs id v idle (s, (k, at), same_words, long, values) b l nz =
+      let A = state_after answer start k.log in
+      let nz' : slice_index s.words (table_place b) ≢ 0 =
+      (λ z. nz (sym (ap (λ (w : List ℕ). slice_index w (table_place b)) same_words) ∙ z)) in ⊎_elim
+      (λ (f : IsFree content part A s.words s.homes b). absurd (nz' f.0))
+      (λ (h : SomeHolds s.views b).
+      let u = h.1 in
+      let fits = k.each_view h.0 u h.3 in
+      let d = fits.holding b h.2 h.4 in
+      let c = u.mine.number in record {
+        state = s;
+        rule = k;
+        seat = id;
+        seen = at;
+        holder = c;
+        known = fits.known u.mine (here u.mine u.others) c d.stands;
+        other = λ mine.
+            let a = stood_of c v v.mine (here v.mine v.others) in
+            let z = stood_of c u u.mine (here u.mine u.others) in
+            let st = d.stands in
+            let same : h.0 ≡ id = one_view c s.views id h.0 v u (k.alone c) at h.3 (omega arith) (omega arith) in
+            let one : u ≡ v =
+            some-injective u v (sym h.3 ∙ subst (λ (j : ℕ). get_elem? s.views j ≡ some v) (sym same) at) in
+            none_in (note b h.2)
+            (subst (λ (y : List (Note Y)). Contains y (note b h.2)) idle
+            (subst (λ (y : V). Contains y.holds (note b h.2)) one h.4));
+        word_is = d.word_is;
+        out = d.out;
+        words_are = same_words;
+      })
+      (k.each_part b l)

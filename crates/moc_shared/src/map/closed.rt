@@ -19,7 +19,8 @@ use std::alloc::Global;
 /// The first part that is held.
 pub(crate) fn first_held(closed: &Closed<Option<Pointer>, Global>) -> Option<Part>
     requires { (slots_len closed.now.words ≡ table_place 12) × IsFull closed.now.words }
-    ensures some { IfSome result (λ b. (b < 12) × (slice_index (slots_items closed.now.words) (table_place b) ≢ 0)) }
+    ensures some { IfSome result (λ b. (b < 12) × (slice_index (slots_items closed.now.words) (table_place b) ≢ 0)
+        × ((k : ℕ) → k < b → slice_index (slots_items closed.now.words) (table_place k) ≡ 0)) }
     ensures none { IfNone result ((b : ℕ) → b < 12 → slice_index (slots_items closed.now.words) (table_place b) ≡ 0) }
 {
     for part in Part::ALL {

@@ -1,4 +1,4 @@
-use Rattle.std.proofs.Common.{sym, ap, ◌∙◌}
+use Rattle.std.proofs.Common.{ℕ, ◌<◌, sym, ap, ◌∙◌, subst}
 use Rattle.std.specs.Prelude.{slice_index}
 use Rattle.moc_shared.specs.Seats.{table_place}
 use Rattle.std.specs.Slots.{slots_items}
@@ -14,9 +14,11 @@ loop-part-preserved c =
 
 pub returns-then-word-ne0-clause-some : goal.returns-then-word-ne0-clause-some
 returns-then-word-ne0-clause-some c =
-    let words = slots_items c.args.closed.now.words in (
+    let words = slots_items c.args.closed.now.words in
+    let is = all_parts c.loop-part.part-index c.part-item.result c.loop-part-test.true in (
       c.index.ensures.in_range,
-      λ z. c.if-word-ne0.true
+      (λ z. c.if-word-ne0.true
           (sym (read_at words c.index.result c.word.result c.word.ensures)
-          ∙ ap (slice_index words) c.index.ensures.place ∙ z),
+          ∙ ap (slice_index words) c.index.ensures.place ∙ z)),
+      λ k below. c.loop-part.invariant k (subst (λ (n : ℕ). k < n) is below),
     )
