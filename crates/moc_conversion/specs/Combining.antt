@@ -55,8 +55,8 @@ ReportsLongText number c =
 abbrev pub count_limit : ℕ
 count_limit = 18446744073709551615
 
--- The texts were not all read: the reader failed or memory ran out, and this is reported alone; or the text whose number
--- is reported is too long; or `TooLong` is reported because at least `count_limit` bytes were delivered.
+-- The texts were not all read: the reader failed or memory ran out, and this is reported alone; or the text whose
+-- number is reported is too long; or `TooLong` is reported because at least `count_limit` bytes were delivered.
 abbrev pub IsOfTexts : Reading → Reading → Complaint → Type 0
 IsOfTexts left left' c =
     IsAlone (λ f. (f ≡ fault.Read) ⊎ (f ≡ want_of_memory)) c

@@ -65,9 +65,9 @@ pub fn program<'a, T: Threads + Wait + Sync, S: AsStr, R: Source, W: Sink, E: Si
         (R.reading input.old) (R.reading input.new) (W.writing output.old) (W.writing output.new) (Ok tt)) }
     ensures silent { result ≡ 0 → AcceptsNone (E.writing faults.old) (E.writing faults.new) }
 
-    // At 1 and 3 the status is that of a fault: `Memory` before any output, `Write` of help, or one with which the action
-    // of the words may end on what was read. A device that the fault blames has failed. The fault's text is written to
-    // `faults`, or a prefix of it if `faults` fails.
+    // At 1 and 3 the status is that of a fault: `Memory` before any output, `Write` of help, or one with which the
+    // action of the words may end on what was read. A device that the fault blames has failed. The fault's text is
+    // written to `faults`, or a prefix of it if `faults` fails.
     ensures told { (result ≡ 1) ⊎ (result ≡ 3)
         → TellsFaultOf result (λ fault. BlamesFailed (R.mark input.new) (W.mark output.new) fault
         × EndWith (map S.text words.entry.now)
