@@ -39,7 +39,8 @@ def planted_calls():
 def planted_lines():
     """Each line in place of which a wrong one is planted, and whether it stands once."""
     for it in plants.PLANTS:
-        yield f"{it.crate}/{it.file}: the line of {it.name} stands once", source(it.crate, it.file).count(it.old) == 1
+        with open(plants.path_of(TOP, it), encoding="utf-8") as text:
+            yield f"{it.crate}/{it.file}: the line of {it.name} stands once", text.read().count(it.old) == 1
 
 
 def pages():
