@@ -371,6 +371,15 @@ def limits_are_kept(tally):
     tally.add("numbers of a thousand nines", seen == (0, told, b""), seen)
 
 
+def many_lines_are_answered(tally):
+    """More than a million lines: no number of a line is a limit."""
+    lines = 1_100_000
+    for words, closing in [(["run"], b""), (["crew", "2"], b"cover\n")]:
+        status, output, errors = outcome(words, b"near 0 0\n" * lines)
+        is_right = (status, errors) == (0, b"") and output == b"near no\n" * lines + closing
+        tally.add(f"{lines} lines of {words}", is_right, (status, len(output), errors))
+
+
 def devices_fail(tally):
     """A full device as output, a folder as input, and fault outputs that fail."""
     for words, given in [(["run"], SCRIPT), (["play"], SCHEDULE), (["crew", "2"], CREW),
@@ -564,6 +573,16 @@ def shared_calls_refuse(tally, shim):
         tally.add(f"some refusal of {call} shows", seen in met, met)
 
 
+def steady_calls_take_no_memory(tally, shim):
+    """Calls that take no memory ask for no growth: thirty rounds of them ask for as many growths as one round."""
+    seen = {}
+    for work in ["once", "often"]:
+        ended, growths = run_refusing(built("refusals", work), b"", 0, shim)
+        tally.add(f"the work {work}", (ended.returncode, ended.stdout) == (0, b"steady\n"), ended)
+        seen[work] = growths
+    tally.add("as many growths often as once", seen["once"] == seen["often"] > 0, seen)
+
+
 def conversation(tally, words, lines, closing=b""):
     """Each line's answer is read before the next line is sent; a blank line has none. The closing text comes at the end."""
     with subprocess.Popen([MOC, *words], stdin=subprocess.PIPE, stdout=subprocess.PIPE) as talk:
@@ -667,6 +686,7 @@ def main():
     words_are_answered(tally)
     crews_answer(tally)
     limits_are_kept(tally)
+    many_lines_are_answered(tally)
     devices_fail(tally)
     file_limits_are_met(tally)
     answers_come_at_once(tally)
@@ -685,6 +705,7 @@ def main():
         refused_line_is_told(tally, shim)
         refused_crew_is_told(tally, shim)
         shared_calls_refuse(tally, shim)
+        steady_calls_take_no_memory(tally, shim)
         threads_are_refused(tally, folder)
         crews_stop(tally, folder, shim)
     conversations_are_held(tally)

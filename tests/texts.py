@@ -1,8 +1,8 @@
 #!/usr/bin/env python3
 """Looks whether texts are where others take them to be, without running anything.
 
-- The programs beside the gate, `always_refused.py` and `plants.py`, put wrong lines in place of right ones: each right one has to stand
-  in its source, so that they can be run whenever one likes.
+- `always_refused.py` and `plants.py` put wrong lines in place of right ones, a third of them in CI: each right one has to stand in its
+  source, also if its turn is another day.
 - No line of a page is longer than 140 columns, but for the rows of tables, of which no cell is longer than 120.
 - Each line of README's program stands in the first example, which the gate proves and runs.
 
@@ -39,7 +39,8 @@ def planted_calls():
 def planted_lines():
     """Each line in place of which a wrong one is planted, and whether it stands once."""
     for it in plants.PLANTS:
-        yield f"{it.crate}/{it.file}: the line of {it.name} stands once", source(it.crate, it.file).count(it.old) == 1
+        with open(plants.path_of(TOP, it), encoding="utf-8") as text:
+            yield f"{it.crate}/{it.file}: the line of {it.name} stands once", text.read().count(it.old) == 1
 
 
 def pages():

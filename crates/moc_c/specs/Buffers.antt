@@ -125,7 +125,7 @@ MakesOfUniqs old new uniqs o =
 -- ---- what is put into buffers
 
 -- Items stand at the front of a buffer, what lies after them is as it was, and the outcome has their number; or the
--- buffer is shorter than they are, and as it was, and the outcome has the number that is wanted.
+-- buffer is shorter than they are, and as it was, and the outcome is `NoRoom` with their number.
 abbrev pub Fills : {X : Type 0} → List X → List X → List X → Outcome → Type 0
 Fills items old new o =
     ((take (length items) new ≡ items) × (drop (length items) new ≡ drop (length items) old)
@@ -147,8 +147,7 @@ abbrev pub FillsCells : Result NumberSet CallFault → List ℕ → List ℕ →
 FillsCells (Ok a) old new o = Fills (map uniq_of (cells_of a)) old new o ⊎ ((new ≡ old) × (o ≡ memory))
 FillsCells (Err e) old new o = (new ≡ old) × (o ≡ outcome_of e)
 
--- The numbers at the places of pixels that a set has are 1, and those at the places of the others are 0; or the
--- outcome is an error, and the numbers are as they were.
+-- At code 0 the number for a pixel is 1 if the set contains it, else 0. At any other code all numbers are as they were.
 abbrev pub TellsContained : Result NumberSet CallFault → List ℕ → List ℕ → List ℕ → Outcome → Type 0
 TellsContained (Ok a) pixels old new o =
     (o ≡ done_unless (lengths_fault (length pixels) (length old ∷ [])))

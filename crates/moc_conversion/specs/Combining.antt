@@ -51,12 +51,12 @@ ReportsLongText number c =
     (c.fault ≡ fault.TooLong) × (option_map string_bytes c.place_line ≡ line_of_place (Some number) None None)
     × (c.hint ≡ None)
 
--- the most texts, and the most bytes of all texts, that are counted
+-- the largest number of 64 bits: no text has a larger number
 abbrev pub count_limit : ℕ
 count_limit = 18446744073709551615
 
--- the texts were not all read: the reader failed or memory ran out, or the text that is reported is too long, or there
--- are more bytes than are counted
+-- The texts were not all read: the reader failed or memory ran out, and this is reported alone; or the text whose
+-- number is reported is too long; or `TooLong` is reported because at least `count_limit` bytes were delivered.
 abbrev pub IsOfTexts : Reading → Reading → Complaint → Type 0
 IsOfTexts left left' c =
     IsAlone (λ f. (f ≡ fault.Read) ⊎ (f ≡ want_of_memory)) c

@@ -109,7 +109,7 @@ abbrev pub IsNotConverted : Form → Reading → Reading → Complaint → Type 
 IsNotConverted form left left' = IsAlone (λ f. IsOfWhole left left' f
     ⊎ IsAll (λ text. (e : FormError) × IsFormFault form text e × (f ≡ fault.Form e)) left left')
 
--- why the input is no coverage: it was not read whole, which is reported alone, or its text is at fault at this place
+-- why the input is not a coverage: it was not read whole, which is reported alone, or its text has this error there
 abbrev pub IsNotSaid : Choice → Reading → Reading → Complaint → Type 0
 IsNotSaid choice left left' c =
     IsAlone (IsOfWhole left left') c ⊎ IsAll (λ text. TellsFault (form_for choice text) text None c) left left'

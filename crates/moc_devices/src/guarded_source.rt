@@ -11,17 +11,17 @@ use crate::source::Source;
 /// source that waits for the answers to the bytes that it has delivered, and would block if they were not in the sink.
 /// Every [`Source`] is a `GuardedSource` that may be read always.
 pub trait GuardedSource<W> {
-    /// The bytes that its reads have delivered, whether the last of them found the end, and, if it reports them, the
-    /// bytes that it has still to give.
+    /// The bytes that its reads have delivered, whether the last read found the end, and, if the source reports them,
+    /// the bytes that are still to come.
     ghost reading: { Self → Reading };
 
-    /// Whether a call of it has failed.
+    /// Whether one of its calls has failed.
     ghost mark: { Self → Bool };
 
     /// Whether the source may be read now, as its state and the state of the sink permit.
     ghost may_read: { Self → W → Type 0 };
 
-    /// Reads as [`Source::read`] does, in a state that permits it. Does not call the sink.
+    /// Reads as [`Source::read`] does, in a state that permits it. Takes the sink by shared reference.
     fn read_after(&mut self, sink: &W, buffer: &mut [u8]) -> Result<usize, DeviceFault>
         requires permission { may_read self.old sink.now }
         ensures count { IfOk result (λ n. n ≤ length buffer.new) }

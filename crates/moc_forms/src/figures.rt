@@ -64,7 +64,7 @@ impl Figures {
         self.ranges
     }
 
-    /// How many cells the set has: the fewest whose union it is.
+    /// How many cells the set has, those that lie in no larger cell of it.
     pub fn cell_count(&self) -> u64
         ensures { result ≡ self.now.cells }
     {

@@ -115,7 +115,7 @@ impl Runner {
         Err(RunError::Memory { line: u64::MAX })
     }
 
-    /// Takes the next line, whose number this is. Reads only if the state of the writer permits it.
+    /// Takes the next line, whose number this is. Reads only in states in which `permission` grants it.
     fn next_line<R: GuardedSource<W>, W>(
         &mut self,
         number: u64,

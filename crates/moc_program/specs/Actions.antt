@@ -38,7 +38,7 @@ PrintsText is refused w w' (Err fault) =
 abbrev pub Complains : (Complaint → Type 0) → ProgramFault → Type 0
 Complains is fault = (c : Complaint) × (fault ≡ program.Input c) × is c
 
--- What was asked for ends so, between what was and is known of the input, and what was and is known of the output.
+-- An action ends with this result, between these states of the input and these states of the output.
 abbrev pub ActionEnds :
     Action → Reading → Reading → Writing → Writing
     → Result (Unit {0}) ProgramFault → Type 0

@@ -54,7 +54,8 @@ BlamesFailed input output _ = Unit {0}
 abbrev pub AcceptsSome : Writing → Writing → Type 0
 AcceptsSome w w' = (bytes : List ℕ) × (bytes ≢ []) × Accepts w w' bytes
 
--- Memory was refused before any output, or help that is asked for was not written whole, or what is asked for ends so.
+-- Memory ran out before any output; or the words ask for help and a write failed, after any bytes; or the action of the
+-- words ends with this fault.
 abbrev pub EndWith :
     List Text → Reading → Reading → Writing → Writing → ProgramFault → Type 0
 EndWith words left left' w w' fault =
@@ -62,7 +63,7 @@ EndWith words left left' w w' fault =
     ⊎ (AskForHelp words × (fault ≡ Write) × ((front : List ℕ) × Accepts w w' front))
     ⊎ ((action : Action) × AskFor words action × ActionEnds action left left' w w' (Err fault))
 
--- a sink accepted a beginning of a text, and the whole text if no call of the sink has failed
+-- a sink accepted a prefix of a text, and the whole text if no call of the sink has failed
 pub record WritesUnlessFailed (failed : Bool) (text : List ℕ) (w w' : Writing) : Type 0 where
   pub front : List ℕ
   pub rest : List ℕ
@@ -70,18 +71,18 @@ pub record WritesUnlessFailed (failed : Bool) (text : List ℕ) (w w' : Writing)
   pub accepted : Accepts w w' front
   pub whole : failed ≡ false → rest ≡ []
 
--- a fault of which this holds, and which has this status, is reported, unless standard error fails
+-- The text of a fault that meets `is` and has this status is written, or a prefix of it if standard error fails.
 abbrev pub TellsFaultOf : ℕ → (ProgramFault → Type 0) → Bool → Writing → Writing → Type 0
 TellsFaultOf status is failed w w' =
     (fault : ProgramFault) × (code_of (status_of fault) ≡ status) × is fault
     × WritesUnlessFailed failed (fault_text fault) w w'
 
--- a text about words that are mistaken is written, unless standard error fails
+-- a text about mistaken words is written, or a prefix of it if standard error fails
 abbrev pub ExplainsMistake : List Text → Bool → Writing → Writing → Type 0
 ExplainsMistake words failed w w' =
     (text : List ℕ) × IsMistakeText words text × WritesUnlessFailed failed text w w'
 
--- memory was refused before any output, and standard error reports that, unless it fails
+-- nothing was written to the output, and the text of `Memory` to standard error, or a prefix of it if that fails
 abbrev pub RunsOutOfMemory : Writing → Writing → Bool → Writing → Writing → Type 0
 RunsOutOfMemory output output' failed w w' =
     AcceptsNone output output' × WritesUnlessFailed failed (fault_text Memory) w w'

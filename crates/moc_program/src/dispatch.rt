@@ -45,8 +45,9 @@ pub fn program<'a, T: Threads + Wait + Sync, S: AsStr, R: Source, W: Sink, E: Si
     // The status is one of `Status`.
     ensures status { result < 4 }
 
-    // 2 is returned only if the words are mistaken. Words that can only be mistaken end with 2 whether or not `faults`
-    // can be written, or with 3 if memory runs out first. At 2 `faults` alone is written.
+    // 2 is returned only if the words are mistaken. Words that can only be mistaken end with 2; or with 3, and then
+    // `faults` accepts the text of `Memory`, or a prefix of it if `faults` fails. At both, nothing is written to
+    // `output`.
     ensures refused { result ≡ 2 → AreRefused (map S.text words.entry.now) }
     ensures mistaken { AreMistaken (map S.text words.entry.now) → (result ≡ 2) ⊎ ((result ≡ 3)
         × RunsOutOfMemory (W.writing output.old) (W.writing output.new)
@@ -55,8 +56,8 @@ pub fn program<'a, T: Threads + Wait + Sync, S: AsStr, R: Source, W: Sink, E: Si
     ensures explained { result ≡ 2 → ExplainsMistake (map S.text words.entry.now)
         (E.mark faults.old || E.mark faults.new) (E.writing faults.old) (E.writing faults.new) }
 
-    // At 0 help was asked for and some text is written, or what the words ask for is done, and all that comes of it is
-    // written. Nothing is written to `faults`.
+    // At 0 either the words ask for help, and at least one byte is written, or the action of the words is done, and its
+    // whole output is written. Nothing is written to `faults`.
     ensures done { result ≡ 0 → (AskForHelp (map S.text words.entry.now)
         × AcceptsSome (W.writing output.old) (W.writing output.new))
         ⊎ ((action : Action) × AskFor (map S.text words.entry.now) action
@@ -64,8 +65,9 @@ pub fn program<'a, T: Threads + Wait + Sync, S: AsStr, R: Source, W: Sink, E: Si
         (R.reading input.old) (R.reading input.new) (W.writing output.old) (W.writing output.new) (Ok tt)) }
     ensures silent { result ≡ 0 → AcceptsNone (E.writing faults.old) (E.writing faults.new) }
 
-    // At 1 and 3 the status is that of a fault. What the words ask for ends with this fault on what was read, and a
-    // device that the fault blames has failed. Its text is written to `faults`, or a beginning of it if `faults` fails.
+    // At 1 and 3 the status is that of a fault: `Memory` before any output, `Write` of help, or one with which the
+    // action of the words may end on what was read. A device that the fault blames has failed. The fault's text is
+    // written to `faults`, or a prefix of it if `faults` fails.
     ensures told { (result ≡ 1) ⊎ (result ≡ 3)
         → TellsFaultOf result (λ fault. BlamesFailed (R.mark input.new) (W.mark output.new) fault
         × EndWith (map S.text words.entry.now)

@@ -68,7 +68,11 @@ impl ProgramFault {
         }
     }
 
-    /// Writes it to the error output. Fails if the output fails: then a beginning of its text is written.
+    /// Writes the text of the fault to the error output.
+    ///
+    /// # Errors
+    ///
+    /// `DeviceFault` at the first write that fails; the output has then accepted a prefix of the text.
     pub fn tell<E: Sink>(&self, faults: &mut E) -> Result<(), DeviceFault>
         ensures told { OnOk result (Accepts (E.writing faults.old) (E.writing faults.new) (fault_text self.now)) }
         ensures sends { Sends (fault_text self.now) (E.writing faults.old) [] (E.writing faults.new) result }

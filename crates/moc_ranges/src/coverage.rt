@@ -82,9 +82,10 @@ impl Coverage {
         }
     }
 
-    /// The same as `contains`, and counts each comparison of the pixel with the bounds of a range or a chunk: at most
-    /// the binary digits of the number of chunks, and 8. Not counted is how a chunk is found by its number, by
-    /// comparisons of numbers of chunks. O((log n)²), takes no memory. Wants `steps` to have counted fewer than 2^63.
+    /// Returns what `contains` returns, and counts each comparison of the pixel with the bounds of a range or a chunk.
+    /// There are at most 8 more comparisons than the number of chunks has binary digits, for some way to keep the set
+    /// in chunks. Comparisons of the numbers of chunks are not counted. O((log n)²), allocates nothing. `steps` has to
+    /// have counted fewer than 2^63.
     pub fn contains_counting(&self, pixel: u64, steps: &mut Steps) -> bool
         requires { steps.old < 9223372036854775808 }
         ensures found { result ≡ set.contains self.now pixel }

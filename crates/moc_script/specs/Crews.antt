@@ -83,9 +83,10 @@ pub record IsSaidLine (number : ℕ) (lines : List (List ℕ)) : Type 0 where
 abbrev pub IsRefusedLine : ℕ → List (List ℕ) → Type 0
 IsRefusedLine number lines = (number ≡ 0) ⊎ IsSaidLine number lines ⊎ (number ≡ length lines + 1)
 
--- What a crew that ends so made of the bytes that its source delivered. At the source's end its sink accepted such a
--- text of them all; or a beginning of one where the writer failed; or nothing. A line that is told is one of what was
--- delivered: it is too long, or memory was refused while it was read, or once all was read.
+-- What a crew with this result did with the bytes that its source delivered. At Ok the source ended, and the sink
+-- accepted a crew's text of all of them. If the writer failed, the sink accepted a prefix of such a text; at any other
+-- error it accepted nothing. The line of an error is too long, or memory ran out while it was read or after all was
+-- read.
 abbrev pub CrewEnds : ℕ → Reading → Reading → Writing → Writing → Result (Unit {0}) CrewError → Type 0
 CrewEnds lanes reading reading' writing writing' (Ok _) =
     (given : List ℕ) × Delivers reading reading' given × IsEnded reading' × AreShort line_limit (lines_of given)

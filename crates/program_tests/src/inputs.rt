@@ -7,6 +7,7 @@ use moc_devices::{OverReader, OverWriter};
 use moc_forms::{Change, Choice, Form, Operation};
 use moc_sphere::Order;
 use std::alloc::Global;
+use std::io::{self, Read};
 use std::process::Abort;
 
 /// What is made of an input.
@@ -152,4 +153,36 @@ fn an_input_too_long(rt: HostRuntime) {
         &mut OverReader::new(text.as_slice()),
     );
     assert!(rt; matches!(&read, Err(complaint) if complaint.fault == InputFault::TooLong));
+}
+
+/// A reader of these bytes that counts its calls.
+#[derive(Drop)]
+struct Counting<'a> {
+    bytes: &'a [u8],
+    calls: u32,
+}
+
+impl Read for Counting<'_> {
+    fn read(&mut self, buffer: &mut [u8]) -> io::Result<usize> {
+        self.calls = self.calls.saturating_add(1);
+        let (front, rest) = self.bytes.split_at(buffer.len().min(self.bytes.len()));
+        buffer[..front.len()].copy_from_slice(front);
+        self.bytes = rest;
+        Ok(front.len())
+    }
+}
+
+// An input of two pieces is read by three calls: one for each piece, and one that finds the end.
+#[test]
+fn reads_of_an_input(rt: HostRuntime) {
+    let text = [b' '; 100_000];
+    let mut device = Counting {
+        bytes: text.as_slice(),
+        calls: 0,
+    };
+    let mut input = OverReader::new(&mut device);
+    let read = check_input(rt.alloc(), Choice::Named(Form::Ascii), &mut input);
+    assert!(rt; read.is_ok());
+    drop(input);
+    assert_eq!(rt; device.calls, 3);
 }

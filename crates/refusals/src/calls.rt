@@ -64,7 +64,7 @@ fn operand(alloc: Global, from: u64, to: u64) -> Result<Operand> {
 }
 
 /// The last of the clients that are left.
-fn next(map: &SharedMap, clients: &mut Vec<Client>) -> Option<Client>
+pub fn next(map: &SharedMap, clients: &mut Vec<Client>) -> Option<Client>
     requires { All (IsClientOf map.now) clients.old.items }
     ensures left { All (IsClientOf map.now) clients.new.items }
     ensures next { IfSome result (IsClientOf map.now) }

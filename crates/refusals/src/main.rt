@@ -1,11 +1,12 @@
 //! `refusals WORK`: does a work that takes memory, and says how it came out. `tests/program.py` refuses each growth of
-//! each work in turn. Without a word all are done.
+//! each work in turn, and counts the growths of `once` and of `often`. Without a word all are done.
 #![tactic(auto)]
 
 mod calls;
 mod crew;
 mod inversion;
 mod script;
+mod steady;
 
 use anyhow::{Result, bail};
 use std::alloc::Global;
@@ -28,6 +29,8 @@ fn tell<R: Print + Threads + Wait + Sync>(rt: &R, alloc: Global, work: &str) -> 
         "calls" => calls::tell(rt, alloc),
         "crew" => crew::tell(rt, alloc),
         "inversion" => inversion::tell(rt, alloc),
+        "often" => steady::tell(rt, alloc, 30),
+        "once" => steady::tell(rt, alloc, 1),
         "script" => script::tell(rt, alloc),
         _ => bail!("no work {work}"),
     }
@@ -35,7 +38,7 @@ fn tell<R: Print + Threads + Wait + Sync>(rt: &R, alloc: Global, work: &str) -> 
 
 /// Tells how each work comes out.
 fn tell_all<R: Print + Threads + Wait + Sync>(rt: &R, alloc: Global) -> Result<()> {
-    for work in ["calls", "crew", "inversion", "script"] {
+    for work in ["calls", "crew", "inversion", "often", "once", "script"] {
         tell(rt, alloc, work)?;
     }
     Ok(())

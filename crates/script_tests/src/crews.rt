@@ -3,6 +3,7 @@ use crate::between::{Ended, expect_end};
 use crate::failing::{
     Devices, FailingSink, FailingSource, Failure, SOUND, failing_reader, failing_writer,
 };
+use crate::scripts::million_lines;
 use moc_script::{
     CrewError, Gate, LINE_LIMIT, Lanes, OpenGate, OverReader, OverWriter, RunError, crew,
 };
@@ -75,6 +76,19 @@ fn one_lane_or_two(rt: HostRuntime) {
     expect(&rt, rt.alloc(), SCRIPT, 2, &OpenGate, ANSWERS);
     expect(&rt, rt.alloc(), b" \n\n\t", 2, &OpenGate, b"cover\n");
     expect(&rt, rt.alloc(), b"", 64, &OpenGate, b"cover\n");
+}
+
+#[test]
+fn more_than_a_million_lines_of_a_crew(rt: HostRuntime) {
+    let script = million_lines(&rt, rt.alloc());
+    let mut taken = Vec::new(rt.alloc());
+    let mut source = OverReader::new(script.as_slice());
+    let mut sink = OverWriter::new(&mut taken);
+    let lanes = lanes(&rt, 1);
+    let ended = crew(&rt, rt.alloc(), &mut source, &mut sink, lanes, &OpenGate);
+    assert_eq!(rt; ended, Ok(()));
+    drop(sink);
+    assert_eq!(rt; taken.as_slice(), b"cover\ncover\n".as_slice());
 }
 
 #[test]

@@ -15,6 +15,11 @@ const SCRIPT: &[u8] = b"add 0/0\nadd 0/0 ; count 0/0-1\n \t\r\n\nhop\nadd 5/7-3\
 const ANSWERS: &[u8] = b"changed 288230376151711744\nchanged 0 ; total 288230376151711744\n\
       fault UnknownWord\nfault Backwards\ncover 0/0\n";
 
+const CHANGES: &[u8] = b"add 0/0\nadd 0/0\nclaim 1/0 0/5\nread 0/5\ninvert\nread 0/0-11\n";
+
+const CHANGED: &[u8] = b"changed 288230376151711744\nchanged 0\ntaken 72057594037927936\ncover\n\
+      changed 3458764513820540928\ncover 0/1-11\n";
+
 // Runs a script between such devices.
 fn run_between(alloc: Global, script: &[u8], devices: Devices) -> Ended {
     between(alloc, Language::Script, script, devices)
@@ -52,23 +57,7 @@ changed 288230376151711744
 
 #[test]
 fn claim_and_invert(rt: HostRuntime) {
-    let script = b"\
-add 0/0
-add 0/0
-claim 1/0 0/5
-read 0/5
-invert
-read 0/0-11
-";
-    let answers = b"\
-changed 288230376151711744
-changed 0
-taken 72057594037927936
-cover
-changed 3458764513820540928
-cover 0/1-11
-";
-    expect(&rt, rt.alloc(), script, answers);
+    expect(&rt, rt.alloc(), CHANGES, CHANGED);
 }
 
 #[test]
@@ -308,37 +297,61 @@ fn failing_reads(rt: HostRuntime) {
     expect(&rt, rt.alloc(), SCRIPT, ANSWERS);
 }
 
-// Checks that a writer that fails so, after so many writes, ends the call with the bytes before.
-fn expect_written(rt: &impl Abort, alloc: Global, writes: usize, failure: Failure, failures: u64) {
-    let ended = run_between(
-        alloc,
-        SCRIPT,
-        failing_writer(failure, writes as u64, failures),
-    );
-    let before = ANSWERS.split_at(writes.min(ANSWERS.len())).0;
-    expect_end(rt, &ended, Err(RunError::Write), before, 0);
+// The answers to the whole lines of a front of CHANGES: each line has one.
+fn changed_by_front(bytes: usize) -> &'static [u8] {
+    let mut line = 1u64;
+    for byte in CHANGES.split_at(bytes.min(CHANGES.len())).0 {
+        if *byte == b'\n' {
+            line = line.saturating_add(1);
+        }
+    }
+    lines_before(CHANGED, line)
+}
+
+#[test]
+fn failing_reads_of_changes(rt: HostRuntime) {
+    for reads in 0..CHANGES.len() + 1 {
+        let ended = run_between(rt.alloc(), CHANGES, failing_reader(reads as u64, PLENTY));
+        expect_end(&rt, &ended, Err(RunError::Read), changed_by_front(reads), 0);
+    }
+}
+
+// Checks that a writer that fails so, after each number of writes, ends the call with the bytes before.
+fn expect_written(
+    rt: &impl Abort,
+    alloc: Global,
+    script: &[u8],
+    answers: &[u8],
+    failure: Failure,
+    failures: u64,
+) {
+    for writes in 0..answers.len() {
+        let devices = failing_writer(failure, writes as u64, failures);
+        let ended = run_between(alloc, script, devices);
+        let before = answers.split_at(writes.min(answers.len())).0;
+        expect_end(rt, &ended, Err(RunError::Write), before, 0);
+    }
 }
 
 // A writer whose write is an error or takes no byte, for good or once, ends the call with the bytes before.
 #[test]
 fn failing_writes(rt: HostRuntime) {
-    for writes in 0..ANSWERS.len() {
-        expect_written(&rt, rt.alloc(), writes, Failure::Error, 1);
-        expect_written(&rt, rt.alloc(), writes, Failure::Error, PLENTY);
-        expect_written(&rt, rt.alloc(), writes, Failure::TakesNone, 1);
-        expect_written(&rt, rt.alloc(), writes, Failure::TakesNone, PLENTY);
+    for (script, answers) in [(SCRIPT, ANSWERS), (CHANGES, CHANGED)] {
+        for failure in [Failure::Error, Failure::TakesNone] {
+            expect_written(&rt, rt.alloc(), script, answers, failure, 1);
+            expect_written(&rt, rt.alloc(), script, answers, failure, PLENTY);
+        }
     }
 }
 
 #[test]
 fn failing_flush(rt: HostRuntime) {
-    for failures in [1, PLENTY] {
-        let ended = run_between(
-            rt.alloc(),
-            SCRIPT,
-            failing_writer(Failure::Flush, 0, failures),
-        );
-        expect_end(&rt, &ended, Err(RunError::Write), ANSWERS, 1);
+    for (script, answers) in [(SCRIPT, ANSWERS), (CHANGES, CHANGED)] {
+        for failures in [1, PLENTY] {
+            let devices = failing_writer(Failure::Flush, 0, failures);
+            let ended = run_between(rt.alloc(), script, devices);
+            expect_end(&rt, &ended, Err(RunError::Write), answers, 1);
+        }
     }
 }
 
@@ -398,6 +411,21 @@ fn writes_of_std(rt: HostRuntime) {
     assert!(rt; sink.is_marked());
     drop(sink);
     assert!(rt; device.calls == 2 && device.flushes == 1);
+}
+
+// All lines are there after one read, so that one write has all answers.
+#[test]
+fn writes_of_a_short_script(rt: HostRuntime) {
+    let mut device = FailsOnce {
+        has_failed: true,
+        ..fails_once()
+    };
+    let mut source = OverReader::new(CHANGES);
+    let mut sink = OverWriter::new(&mut device);
+    let result = run(rt.alloc(), &mut source, &mut sink);
+    drop(sink);
+    assert_eq!(rt; result, Ok(()));
+    assert_eq!(rt; (device.calls, device.flushes), (1, 1));
 }
 
 #[test]
@@ -462,6 +490,21 @@ fn thousands_of_lines_and_nines(rt: HostRuntime) {
         .extend_from_slice(b"fault CellTooLarge\n")
         .expect(&rt, "memory");
     expect(&rt, rt.alloc(), &script, &answers);
+}
+
+// A script of blank lines and a last line, more than a million.
+pub fn million_lines(rt: &impl Abort, alloc: Global) -> Vec<u8> {
+    let mut script = vec![in alloc; b'\n'; 1_100_000].expect(rt, "memory");
+    script.extend_from_slice(b"read 0/0").expect(rt, "memory");
+    script
+}
+
+#[test]
+fn more_than_a_million_lines(rt: HostRuntime) {
+    let script = million_lines(&rt, rt.alloc());
+    let (ended, text) = run_over(rt.alloc(), &script);
+    assert_eq!(rt; ended, Ok(()));
+    assert_eq!(rt; text.as_slice(), b"cover\n".as_slice());
 }
 
 // Checks the text of an error.

@@ -57,7 +57,7 @@ abbrev pub FailsWithin : Combination → List ℕ → Complaint → Type 0
 FailsWithin c bytes complaint = (rest : List ℕ) → FailsCombination c (bytes ++ rest) complaint
 
 -- with these bytes after the text of a combination, the piece of this number is longer than a text may be, or there are
--- more pieces than are counted
+-- so many bytes that the numbers of the pieces may not fit into 64 bits
 abbrev pub IsLong : Combination → List ℕ → ℕ → Type 0
 IsLong c bytes number =
     ((k : ℕ) × (number ≡ c.number + k)

@@ -22,7 +22,7 @@ impl SharedMap {
     /// Takes the parts of the batch in rising order, once each, does it and gives them back; or gives back all that it
     /// took.
     ///
-    /// Waits for nobody. `Busy` names the first part that was not free and who holds it; nothing is held then. Refused
+    /// Waits for nobody. `Busy` names a part that was not free and who holds it; nothing is held then. Refused
     /// also where memory runs out. Costs what `Map::apply` does, and a compare-exchange for each part.
     pub fn try_apply(&self, client: &mut Client, batch: &Batch) -> Result<Replies, TryError>
         requires map { IsClientOf self.now client.old }
