@@ -375,8 +375,8 @@ def many_lines_are_answered(tally):
     """More than a million lines: no number of a line is a limit."""
     lines = 1_100_000
     for words, closing in [(["run"], b""), (["crew", "2"], b"cover\n")]:
-        status, output, errors = outcome(words, b"near 0 0\n" * lines)
-        is_right = (status, errors) == (0, b"") and output == b"near no\n" * lines + closing
+        status, output, errors = outcome(words, b"x\n" * lines)
+        is_right = (status, errors) == (0, b"") and output == b"fault UnknownWord\n" * lines + closing
         tally.add(f"{lines} lines of {words}", is_right, (status, len(output), errors))
 
 
