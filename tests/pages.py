@@ -4,7 +4,8 @@
 In a block `console` each line that begins with `$` is a command of bash, and the lines up to the next one are all that
 it writes, faults too; the commands of the blocks under one heading run in turn in one shell and one folder. A block
 `python` is a program, and the block `text` behind it is all that it writes; the Python package of the checkout is on its
-path, and where it asks for numpy, that has to be installed for this Python or the system's, else it is left out. The help
+path, and where it asks for numpy, that has to be installed for this Python or the system's, else it is left out. If the
+commands of a page make a picture that the page shows, both have to have the same bytes. The help
 of each word begins with the line that the list of words has for it, is 80 columns wide at most, and has an example, a
 command and what it writes. The program `moc` lies where the environment's MOC says. The last line printed is
 `N passed, M failed`."""
@@ -96,14 +97,29 @@ def programs(page):
             yield "\n".join(lines), "".join(line + "\n" for line in told)
 
 
+def bytes_of(*path):
+    """Returns the bytes of a file."""
+    with open(os.path.join(*path), "rb") as file:
+        return file.read()
+
+
+def pictures_of(page):
+    """Returns the pictures that a page shows, by their names in the folder `docs`."""
+    return re.findall(r"^!\[.*\]\(docs/([a-z]+\.svg)\)$", page, re.MULTILINE)
+
+
 def checked(page):
-    """What came of each command and program of a page."""
+    """What came of each command, picture and program of a page."""
+    made = {}
     for heading, script in consoles(page):
         with tempfile.TemporaryDirectory() as folder:
             seen = outputs(folder_with_moc(folder), [command for command, _ in script])
+            made.update({name: bytes_of(folder, name) for name in pictures_of(page) if name in os.listdir(folder)})
         for place, (command, told) in enumerate(script):
             text = "".join(line + "\n" for line in told)
             yield compare(f"{heading}: {command}", seen[place] if place < len(seen) else None, text)
+    for name in pictures_of(page):
+        yield compare(f"the picture {name}", made.get(name), bytes_of(TOP, "docs", name))
     for program, told in programs(page):
         python = python_with("numpy") if "import numpy" in program else sys.executable
         if python is None:
