@@ -140,7 +140,7 @@ def example_of(text):
     """The command of a help text's example, and what it says that the command writes."""
     lines = text.splitlines()
     behind = lines[lines.index("Example:") + 1:]
-    told = behind[2:] if behind[1:2] in (["prints"], ["tells"]) else []
+    told = behind[2:] if behind[1:2] in (["prints"], ["writes to standard error"]) else []
     shown = list(itertools.takewhile(lambda line: line.startswith("  "), told))
     return behind[0].strip(), "".join(line[2:] + "\n" for line in shown)
 

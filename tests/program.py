@@ -261,9 +261,9 @@ GUESSES = [
 ]
 # What asks for help, and a part of it.
 HELP = [
-    (["--help"], b"Sky coverages (IVOA MOC 2.0) and HEALPix cell numbers"),
-    (["-h"], b"Sky coverages (IVOA MOC 2.0) and HEALPix cell numbers"),
-    (["help"], b"Sky coverages (IVOA MOC 2.0) and HEALPix cell numbers"),
+    (["--help"], b"Multi-Order Coverage maps (IVOA MOC 2.0) and HEALPix cell numbers"),
+    (["-h"], b"Multi-Order Coverage maps (IVOA MOC 2.0) and HEALPix cell numbers"),
+    (["help"], b"Multi-Order Coverage maps (IVOA MOC 2.0) and HEALPix cell numbers"),
     (["help", "ring"], b"Prints the ring number of a nested cell"),
     (["run", "--help"], b"The script is read from standard input"),
     (["play", "--help"], b"The schedule is read from standard input"),
@@ -281,11 +281,11 @@ HELP = [
     (["--version"], b"moc 0.1.0\n"),
     (["-V"], b"moc 0.1.0\n"),
     (["convert", "--help"], b"Converts a coverage from one text form to another"),
-    (["check", "--help"], b"Tells whether a text is a coverage, and else where it is at fault"),
-    (["describe", "--help"], b"Prints the figures of a coverage"),
-    (["combine", "--help"], b"Combines coverages by an operation of sets"),
-    (["draw", "--help"], b"Draws a coverage as an SVG picture"),
-    (["renumber", "--help"], b"Converts numbers of cells from one numbering to another"),
+    (["check", "--help"], b"Validates a coverage, or reports the first error and its position"),
+    (["describe", "--help"], b"Prints statistics of a coverage"),
+    (["combine", "--help"], b"Prints a union, an intersection or a difference of coverages"),
+    (["draw", "--help"], b"Draws one or two coverages as an SVG picture"),
+    (["renumber", "--help"], b"Converts cell numbers from one numbering to another"),
 ]
 
 

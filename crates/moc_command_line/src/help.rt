@@ -1,25 +1,25 @@
-//! What help says: of the program all of it, of a word what stands below its usage. Lines have at most 80 columns, and
-//! each example is run by `tests/pages.py`.
+//! The help texts: that of the program whole, that of a subcommand from below its usage line. Lines have at most 80
+//! columns, and `tests/pages.py` runs each example.
 
-/// What `moc --help` says. The lines of the words are those that the help of each word begins with.
+/// The text of `moc --help`. The line of each subcommand is the first line of its help.
 pub const OVERVIEW: &str = "\
-Sky coverages (IVOA MOC 2.0) and HEALPix cell numbers
+Multi-Order Coverage maps (IVOA MOC 2.0) and HEALPix cell numbers
 
 Usage: moc <COMMAND>
 
 Coverages, from standard input:
-  convert     Converts a coverage from one text form to another
-  check       Tells whether a text is a coverage, and else where it is at fault
-  describe    Prints the figures of a coverage
-  combine     Combines coverages by an operation of sets
+  convert     Converts a coverage from one text format to another
+  check       Validates a coverage, or reports the first error and its position
+  describe    Prints statistics of a coverage
+  combine     Prints a union, an intersection or a difference of coverages
   degrade     Degrades a coverage to an order
-  complement  Prints the coverage of what a coverage lacks
-  draw        Draws a coverage as an SVG picture
+  complement  Prints the complement of a coverage
+  draw        Draws one or two coverages as an SVG picture
 
-Maps, which keep one coverage and answer lines of standard input:
+Maps, which keep one coverage and reply to lines of standard input:
   run         Runs a script of commands
-  play        Plays a schedule of steps that clients take
-  crew        Runs a script of commands by N threads
+  play        Plays a schedule of lock steps of several clients
+  crew        Runs a script of commands on N threads
 
 Cells:
   ring        Prints the ring number of a nested cell
@@ -27,25 +27,25 @@ Cells:
   uniq        Prints the NUNIQ number of a nested cell
   near        Prints the nested cells that share a corner point with a cell
   cell        Prints the order and the nested number of a NUNIQ number
-  renumber    Converts numbers of cells from one numbering to another
+  renumber    Converts cell numbers from one numbering to another
 
 Help:
-  faults      Lists the exit statuses and the faults
-  help        Prints this text, or behind it the help of a word: moc help run
+  faults      Lists the exit statuses and the errors
+  help        Prints this text, or the help of a subcommand: moc help run
 
 Options:
   -h, --help     Print help
   -V, --version  Print version
 
-Pixels are cells of order 29. A coverage is written as in the ASCII form of
-MOC 2.0, as 3/10 12-15 4/2.
+Pixels are cells of order 29. A coverage is written in the ASCII format of
+MOC 2.0, for example 3/10 12-15 4/2.
 
 Example:
   echo '0/0;1/3' | moc combine difference ascii
 prints
   1/0-2";
 
-/// What the help of a word tells below the usage.
+/// The help of a subcommand, below its usage line.
 #[derive(Clone, Copy)]
 pub enum Topic {
     Script,
@@ -68,7 +68,7 @@ pub enum Topic {
 }
 
 impl Topic {
-    /// The lines that tell it.
+    /// Returns the lines of the help.
     pub fn text(self) -> &'static str {
         match self {
             Topic::Script => SCRIPT,
@@ -92,59 +92,62 @@ impl Topic {
     }
 }
 
-/// What `moc run --help` says below the usage.
+/// The text of `moc run --help` below the usage line.
 const SCRIPT: &str = "\
-The script is read from standard input, a command a line, on one map, a coverage
-that starts empty:
-  add MOC     adds the coverage, and answers how many pixels it added
-  remove MOC  removes the coverage, and answers how many pixels it removed
-  keep MOC    removes all but the coverage, and answers how many it removed
-  claim MOC   adds the coverage if the map has no pixel of it, or answers how
-              many pixels of it the map has
-  invert      takes the pixels that the map lacks, and answers how many changed
-  degrade K   degrades the map to order K, and answers how many pixels it added
-  count MOC   answers how many pixels of the coverage are in the map
-  read MOC    answers what the coverage and the map have in common
-  near K I    answers whether the map has a pixel of the cell I of order K or
-              of a touching cell
-Behind `@K` a coverage is degraded to order K first. Commands parted by `;` are
-one, and answered on one line. A bad line changes nothing and answers `fault`
-with the fault's name; `moc check ascii` says where a coverage is at fault.
+Reads a script from standard input, one command per line, and runs it on one
+map, a coverage that starts empty:
+  add MOC     adds the coverage; replies how many pixels are new
+  remove MOC  removes the coverage; replies how many pixels are removed
+  keep MOC    removes all but the coverage; replies how many pixels are removed
+  claim MOC   adds the coverage if the map has no pixel of it; otherwise changes
+              nothing and replies how many pixels of it the map has
+  invert      complements the map; replies how many pixels change: all
+  degrade K   degrades the map to order K; replies how many pixels are new
+  count MOC   replies how many pixels of the coverage are in the map
+  read MOC    replies the intersection of the coverage and the map
+  near K I    replies whether the map has a pixel of cell I of order K or of a
+              cell that touches it
+`@K` before a coverage degrades the coverage to order K first. Up to 16 commands
+separated by `;` run as one and have one line of replies. An invalid line
+changes nothing and has the reply `fault NAME`; `moc faults` explains the
+names, and `moc check ascii` reports the position of an error in a coverage.
 
 Example:
   printf 'add 3/10 12-15 4/2 ; count 0/0\\n' | moc run
 prints
   changed 23643898043695104 ; total 23643898043695104";
 
-/// What `moc play --help` says below the usage.
+/// The text of `moc play --help` below the usage line.
 const SCHEDULE: &str = "\
-The schedule is read from standard input, a step a line, on one map, a
-coverage that starts empty:
+Reads a schedule from standard input, one step per line, and plays it on one
+map, a coverage that starts empty. The map has 12 parts, one for each base
+pixel, and a lock for each part:
   begin C BATCH  client C begins a batch of commands, written as in `moc run`
-  take C         takes the next part that its batch looks at or changes (parts
-                 are the base pixels, 0 to 11, rising)
-  edit C B       changes part B, once all are taken
-  give C B       gives part B back
-  quit C         gives the batch up, before any part is changed
-  end C          ends, and answers what the batch answers
-A step that is not permitted is answered `refused` with the cause, a bad line
-`fault` with the fault's name, and neither changes anything. Behind the last
-line come `order`, with the lines that began the batches in the order in which
-they stand, and the coverage, or how many clients are midway.
+  take C         client C locks the next part that its batch reads or changes;
+                 parts are 0 to 11 and are locked in ascending order
+  edit C B       client C changes part B, after it has locked all its parts
+  give C B       client C unlocks part B
+  quit C         client C abandons its batch, before it has changed a part
+  end C          client C ends its batch and gets the replies
+A step that is not permitted has the reply `refused NAME`, an invalid line
+`fault NAME`; neither changes anything. After the last line, `order` lists the
+lines that began the committed batches, in the order of the batches, and the
+last line is the map, or `midway N` if N clients have not ended.
 
-Why a step is refused:
-  NotIdle, Idle   the client has a batch; it has none
-  PartHeld        another client has the next part
-  AllTaken        the client has taken all parts of its batch
-  NotAllTaken     it has not yet
-  NotHeld         it does not have the part
-  AlreadyEdited   it has changed the part
-  NotEdited       it has not yet, and does not quit
-  BegunEditing    it has changed a part, so that it cannot quit
-  Quitting        it has quit: it can only give and end
-  StillHolding    it has a part yet
-  NothingDone     it has taken no part, and not quit
-  TooMany         2^64 - 1 batches have begun
+Names after `refused`:
+  NotIdle        the client has a batch already
+  Idle           the client has no batch
+  PartHeld       another client has locked the next part
+  AllTaken       the client has locked all parts of its batch
+  NotAllTaken    the client has not locked all parts of its batch
+  NotHeld        the client has not locked the part
+  AlreadyEdited  the client has changed the part
+  NotEdited      the client has not changed the part, and does not quit
+  BegunEditing   the client has changed a part, so it cannot quit
+  Quitting       the client has quit: it can only give and end
+  StillHolding   the client has locked a part
+  NothingDone    the client has locked no part, and has not quit
+  TooMany        2^64 - 1 batches have begun
 
 Example:
   printf 'begin 1 add 0/3\\ntake 1\\nedit 1 3\\ngive 1 3\\nend 1\\n' | moc play
@@ -157,12 +160,13 @@ prints
   order 1
   cover 0/3";
 
-/// What `moc crew --help` says below the usage.
+/// The text of `moc crew --help` below the usage line.
 const LANES: &str = "\
-The script is one of `run`. Its lines that are not blank go to N threads in
-turn, 1 to 64, which work on one map at the same time. Each thread keeps the
-order of its own lines; which of two threads comes first is not told. The
-answers stand in the order of the lines, and behind them the cover of the map.
+Reads a whole script as that of `moc run` and deals its lines that are not
+blank to N threads in turn, 1 to 64, which work on one map at the same time.
+Each thread keeps the order of its own lines; the order of lines of different
+threads is not determined. The replies are in the order of the lines, followed
+by the map.
 
 Example:
   printf 'add 0/0\\nadd 0/1\\n' | moc crew 2
@@ -171,80 +175,82 @@ prints
   changed 288230376151711744
   cover 0/0-1";
 
-/// What `moc ring --help` says below the usage.
+/// The text of `moc ring --help` below the usage line.
 const RING: &str = "\
-Rings are rows of cells, counted from the north pole; the cells of a row are
-numbered behind those of the rows before it. Order k has 12 times 4^k cells,
-from 0: another number is `fault CellTooLarge`. `moc renumber` takes many.
+Ring numbers count the cells of an order along rings of equal latitude, from the
+north pole. Order k has 12 times 4^k cells, from 0: a larger number is an error,
+`fault CellTooLarge`. `moc renumber` converts many numbers.
 
 Example:
   moc ring 1 18
 prints
   27";
 
-/// What `moc nest --help` says below the usage.
+/// The text of `moc nest --help` below the usage line.
 const NEST: &str = "\
-The opposite of `moc ring`. Order k has 12 times 4^k ring numbers, from 0:
-another number is `fault RingTooLarge`.
+The inverse of `moc ring`. Order k has 12 times 4^k ring numbers, from 0: a
+larger number is an error, `fault RingTooLarge`.
 
 Example:
   moc nest 1 27
 prints
   18";
 
-/// What `moc uniq --help` says below the usage.
+/// The text of `moc uniq --help` below the usage line.
 const UNIQ: &str = "\
 The NUNIQ number of a cell is 4^(ORDER+1) + CELL. Order k has 12 times 4^k
-cells, from 0: another number is `fault CellTooLarge`.
+cells, from 0: a larger number is an error, `fault CellTooLarge`.
 
 Example:
   moc uniq 3 10
 prints
   266";
 
-/// What `moc near --help` says below the usage.
+/// The text of `moc near --help` below the usage line.
 const NEAR: &str = "\
-The cells rise, and the cell itself is not among them; there are six to eight.
-Order k has 12 times 4^k cells, from 0: another number is `fault CellTooLarge`.
+Prints six to eight cells in ascending order, without the cell itself. Order k
+has 12 times 4^k cells, from 0: a larger number is an error,
+`fault CellTooLarge`.
 
 Example:
   moc near 2 3
 prints
   0 1 2 4 6 8 9 12";
 
-/// What `moc cell --help` says below the usage.
+/// The text of `moc cell --help` below the usage line.
 const CELL: &str = "\
-The opposite of `moc uniq`. NUNIQ numbers go from 4 to 2^62 - 1: another one is
-`fault NotUniq`.
+The inverse of `moc uniq`. NUNIQ numbers go from 4 to 2^62 - 1: another number
+is an error, `fault NotUniq`.
 
 Example:
   moc cell 266
 prints
   3/10";
 
-/// What `moc check --help` says below the usage.
+/// The text of `moc check --help` below the usage line.
 const CHECK: &str = "\
-Prints `ok`. A text that is no coverage is told on standard error, by the
-fault's name and a line that says where it is and quotes what stands there: the
-byte, its line and the byte of that line (ascii), the line (uniq), or the order
-and the number in its array (json). Of `NotJson` it has line and column alone,
-if any; `NotObject` and `TooLong` have no such line. Lines are counted from 1,
-bytes and numbers from 0. Where the text looks like one of another form, a line
-says so. `moc help faults` says what the faults mean. `auto` reads a text that
-begins with `{` as json, and else as ascii.
+Prints `ok` if the text is a coverage. Otherwise standard error has the name of
+the first error and a line with its position and a quotation: the byte, its line
+and the byte in that line (ascii), the line (uniq), or the order and the number
+in its array (json). `NotJson` has only a line and a column, if any; `NotObject`
+and `TooLong` have no position. Lines are counted from 1, bytes and numbers from
+0. If the text looks like another format, a line says so. `moc faults` explains
+the names. `auto` reads a text that begins with `{` as json, any other text as
+ascii.
 
 Example:
   printf '1/0-3\\n2/7-5' | moc check ascii
-tells
+writes to standard error
   fault Backwards
   byte 8, line 2, byte 2 of it: `2/7-5`";
 
-/// What `moc describe --help` says below the usage.
+/// The text of `moc describe --help` below the usage line.
 const FIGURES: &str = "\
-Prints a line each for the deepest order that the text names, the number of
-pixels, which are cells of order 29, their share of the sky with twelve digits,
-the number of ranges of pixels and of cells, and the number of cells of each
-order. `auto` reads a text that begins with `{` as json, and else as ascii.
+Prints one line each for the deepest order that the text names, the number of
+pixels (cells of order 29), their share of the sky with twelve digits, the
+number of ranges of pixels, the number of cells, and the number of cells of each
+order. `auto` reads a text that begins with `{` as json, any other text as
+ascii.
 
 Example:
   echo '1/0-3 2/20' | moc describe ascii
@@ -257,28 +263,30 @@ prints
   order 0 1
   order 2 1";
 
-/// What `moc convert --help` says below the usage.
+/// The text of `moc convert --help` below the usage line.
 const CONVERSION: &str = "\
-The deepest order that the input names is stated, too; a NUNIQ list names none.
-A text that is no coverage is told by its fault alone: `moc check` says where.
+The output also states the deepest order that the input names; a NUNIQ list
+names none. An error in the input is reported by its name alone; use `moc check`
+for its position.
 
 Example:
   echo '2/0-3' | moc convert ascii json
 prints
   {\"1\":[0],\"2\":[]}";
 
-/// What `moc combine --help` says below the usage.
+/// The text of `moc combine --help` below the usage line.
 const COMBINATION: &str = "\
-The input is one text or more, parted by `;` and taken from the left; each has
-at most 16,777,216 bytes, and blanks behind the last `;` are none. Prints the
-result in the form of the first, with the deepest order that one of them names.
-  union         the pixels that any text has
-  intersection  the pixels that all texts have
-  difference    the pixels that the first text has and the others lack
-  symmetric     the pixels that an odd number of texts has
-A text that is no coverage is told by the fault, and a line with its number,
-from 1, and the place in it, as `moc check` tells it. `auto` reads each text
-that begins with `{` as json, and else as ascii.
+Reads one or more texts separated by `;`, each of at most 16,777,216 bytes, and
+combines them from left to right; blanks after the last `;` are ignored. Prints
+the result in the format of the first text, with the deepest order that a text
+names.
+  union         the pixels in any text
+  intersection  the pixels in all texts
+  difference    the pixels in the first text and in no other text
+  symmetric     the pixels in an odd number of texts
+For an error in a text, standard error has its name, the number of the text,
+from 1, and the position, as `moc check` reports it. `auto` reads each text that
+begins with `{` as json, any other text as ascii.
 
 Example:
   echo '0/0 1/4-5 ; 1/3-4 2/20 32' | moc combine intersection ascii
@@ -287,8 +295,7 @@ prints
 
 Many files:
   awk 'FNR==1 && NR>1 {printf \";\"} 1' *.moc | moc combine union ascii
-The same on all processors, 25 files at a time, since any grouping and any
-sequence give the same union:
+A union on all processors, 25 files at a time:
   union() {
     awk 'FNR==1 && NR>1 {printf \";\"} 1' \"$@\" | moc combine union ascii
   }
@@ -297,24 +304,24 @@ sequence give the same union:
     bash -c 'union \"$@\" > $(mktemp part.XXXXXX)' _
   union part.*";
 
-/// What `moc degrade --help` says below the usage.
+/// The text of `moc degrade --help` below the usage line.
 const DEGRADING: &str = "\
-Prints all of each cell of order ORDER that has a pixel of the coverage, in the
-same form; stated is ORDER, or the deepest order that the text names where that
-is coarser, and none where it names none. A text that is no coverage is told as
-by `moc check`. `auto` reads a text that begins with `{` as json, and else as
-ascii.
+Prints each cell of order ORDER that has a pixel of the coverage, in the format
+of the text. The output also states ORDER, or the deepest order that the text
+names if that is coarser; it states none if the text names none. Errors are
+reported as by `moc check`. `auto` reads a text that begins with `{` as json,
+any other text as ascii.
 
 Example:
   echo '0/0 3/300 5/' | moc degrade 1 ascii
 prints
   0/0 1/18";
 
-/// What `moc complement --help` says below the usage.
+/// The text of `moc complement --help` below the usage line.
 const COMPLEMENT: &str = "\
-Prints the sky but for the coverage, in the same form; stated is the deepest
-order that the text names, if any. A text that is no coverage is told as by
-`moc check`. `auto` reads a text that begins with `{` as json, and else as
+Prints the sky without the coverage, in the format of the text. The output also
+states the deepest order that the text names, if any. Errors are reported as by
+`moc check`. `auto` reads a text that begins with `{` as json, any other text as
 ascii.
 
 Example:
@@ -322,16 +329,15 @@ Example:
 prints
   1/45-47 2/";
 
-/// What `moc draw --help` says below the usage.
+/// The text of `moc draw --help` below the usage line.
 const PICTURE: &str = "\
-Prints an SVG picture in HEALPix's plane: the north pole is up and east to the
-left, as on sky charts; longitude 0 stands at both edges, 180 in the middle. The
-sky is grey, with the outlines and numbers of the base pixels below the cells.
-Cells of order 7 and coarser are drawn whole; what is deeper shows as its cell
-of order 7, in one of four shades by how much of that cell it fills. Of two
-coverages, parted by `;`, blue has what the first has alone, orange what the
-second has alone, and black what both have. `auto` reads a text that begins with
-`{` as json, and else as ascii.
+Prints an SVG picture in the HEALPix projection: north is up and east is left,
+as on sky charts; longitude 0 is at both edges, 180 in the middle. The sky is
+grey, with outlines and numbers of the base pixels. Cells of order 7 and coarser
+are drawn whole; a deeper cell is drawn as its cell of order 7, in one of four
+shades by how much of that cell is covered. Two coverages are separated by `;`:
+blue is in the first only, orange in the second only, black in both. `auto`
+reads a text that begins with `{` as json, any other text as ascii.
 
 Example:
   echo '1/0-3 2/20' | moc draw ascii > sky.svg
@@ -339,14 +345,14 @@ Example:
 Two coverages:
   { cat a.moc; echo ';'; cat b.moc; } | moc draw ascii > both.svg";
 
-/// What `moc renumber --help` says below the usage.
+/// The text of `moc renumber --help` below the usage line.
 const RENUMBERING: &str = "\
-Standard input has a line for each cell of order ORDER, its number in the
-numbering FROM; answered is that in the numbering TO. A line without one is
-answered `fault` with the fault's name; a blank line has no answer.
+Each line of standard input has the number of a cell of order ORDER in the
+numbering FROM; the reply is its number in the numbering TO. An invalid line has
+the reply `fault NAME`; a blank line has no reply.
   nest  the number in the nested scheme, below 12 times 4^ORDER
   ring  the number in the ring scheme, from the north, below 12 times 4^ORDER
-  uniq  the NUNIQ number: 4^(ORDER+1) and the number in the nested scheme
+  uniq  the NUNIQ number: 4^(ORDER+1) plus the number in the nested scheme
 
 Example:
   printf '0\\n3\\n48\\n' | moc renumber nest ring 1
@@ -355,60 +361,60 @@ prints
   0
   fault CellTooLarge";
 
-/// What `moc faults` prints, and `moc faults --help` says below the usage.
+/// The text of `moc faults`, and of `moc faults --help` below the usage line.
 pub const FAULTS: &str = "\
 Statuses:
-  0  done, also where lines answered `fault`, and after help
-  1  a number or a text is refused; standard error has `fault NAME`
-  2  the words are no command line
-  3  a device failed, or memory or a thread was refused: `fault NAME`
+  0  success, also if lines had the reply `fault`, and after help
+  1  invalid number, text or line; standard error has `fault NAME`
+  2  invalid command line
+  3  input or output failed, or no memory or thread was left: `fault NAME`
 
 Numbers of cells:
   CellTooLarge     the order has no such cell; order k has 12 times 4^k, from 0
-  RingTooLarge     the order has no such ring number, of 12 times 4^k from 0
-  NotUniq          no cell has this NUNIQ number, 4 to 2^62 - 1
+  RingTooLarge     the order has no such ring number; it has 12 times 4^k
+  NotUniq          not a NUNIQ number, 4 to 2^62 - 1
   OtherOrder       a NUNIQ number of another order (renumber)
-  BadNumber        digits alone make a number
+  BadNumber        not a number in decimal digits
   WrongCount       too few or too many fields on a line
 
 Coverages in ASCII:
-  BadByte          a byte that no word has at its place
+  BadByte          an unexpected byte
   Unfinished       a word that ends too early
-  NoOrder          a cell before any order
+  NoOrder          a cell before the first order
   OrderTooLarge    an order above 29
   CellTooLarge     the order has no such cell
-  Backwards        a-b with b below a
+  Backwards        a range a-b with b below a
 
 Coverages in JSON:
-  NotJson          no JSON text
-  NotObject        a JSON text that is no object
-  BadOrder         a name that is no order, 0 to 29
-  NotArray         the value of a name is no array
-  NotWhole         an item that is no whole number
+  NotJson          invalid JSON
+  NotObject        a JSON text that is not an object
+  BadOrder         a name that is not an order, 0 to 29
+  NotArray         the value of a name is not an array
+  NotWhole         an item that is not a whole number
   CellTooLarge     the order has no such cell
 
 NUNIQ lists:
-  BadByte          a byte that is no digit
-  NotUniq          no cell has this number
+  BadByte          a byte that is not a digit
+  NotUniq          not a NUNIQ number
 
 Lengths:
   TooLong          a text of more than 16,777,216 bytes
   LineTooLong      a line of more than 1,048,576 bytes
 
 Lines of scripts and schedules:
-  UnknownWord      no such command
-  EmptyCommand     nothing before, between or behind `;`
+  UnknownWord      unknown command
+  EmptyCommand     nothing before, between or after `;`
   TooManyCommands  more than 16 commands on a line
   ClientTooLarge   a client above 4294967295
   PartTooLarge     a part above 11
 
 Devices:
   Read, Write      standard input or output failed
-  Memory           memory was refused
-  Spawn            a thread was refused
+  Memory           out of memory
+  Spawn            a thread could not be started
 
 Example:
   moc cell 3
-tells
+writes to standard error
   fault NotUniq
 ";

@@ -30,25 +30,25 @@ pub fn words() -> &'static [Word]
 static WORDS: [Word; 17] = [
     Word {
         name: "convert",
-        about: "Converts a coverage from one text form to another",
+        about: "Converts a coverage from one text format to another",
         topic: Topic::Conversion,
         arguments: &[FROM_FORM, TO_FORM],
     },
     Word {
         name: "check",
-        about: "Tells whether a text is a coverage, and else where it is at fault",
+        about: "Validates a coverage, or reports the first error and its position",
         topic: Topic::Check,
         arguments: &[FORM],
     },
     Word {
         name: "describe",
-        about: "Prints the figures of a coverage",
+        about: "Prints statistics of a coverage",
         topic: Topic::Figures,
         arguments: &[FORM],
     },
     Word {
         name: "combine",
-        about: "Combines coverages by an operation of sets",
+        about: "Prints a union, an intersection or a difference of coverages",
         topic: Topic::Combination,
         arguments: &[OPERATION, FORM],
     },
@@ -60,13 +60,13 @@ static WORDS: [Word; 17] = [
     },
     Word {
         name: "complement",
-        about: "Prints the coverage of what a coverage lacks",
+        about: "Prints the complement of a coverage",
         topic: Topic::Complement,
         arguments: &[FORM],
     },
     Word {
         name: "draw",
-        about: "Draws a coverage as an SVG picture",
+        about: "Draws one or two coverages as an SVG picture",
         topic: Topic::Picture,
         arguments: &[FORM],
     },
@@ -78,13 +78,13 @@ static WORDS: [Word; 17] = [
     },
     Word {
         name: "play",
-        about: "Plays a schedule of steps that clients take",
+        about: "Plays a schedule of lock steps of several clients",
         topic: Topic::Schedule,
         arguments: &[],
     },
     Word {
         name: "crew",
-        about: "Runs a script of commands by N threads",
+        about: "Runs a script of commands on N threads",
         topic: Topic::Lanes,
         arguments: &[LANES],
     },
@@ -120,13 +120,13 @@ static WORDS: [Word; 17] = [
     },
     Word {
         name: "renumber",
-        about: "Converts numbers of cells from one numbering to another",
+        about: "Converts cell numbers from one numbering to another",
         topic: Topic::Renumbering,
         arguments: &[FROM_NUMBERING, TO_NUMBERING, ORDER],
     },
     Word {
         name: "faults",
-        about: "Lists the exit statuses and the faults",
+        about: "Lists the exit statuses and the errors",
         topic: Topic::Faults,
         arguments: &[],
     },
@@ -135,7 +135,7 @@ static WORDS: [Word; 17] = [
 /// How many threads.
 const LANES: Argument = Argument {
     name: "N",
-    help: "How many threads, 1 to 64",
+    help: "Number of threads, 1 to 64",
     values: ValueParser::Signed(1, 64),
 };
 
@@ -177,28 +177,28 @@ const UNIQ: Argument = Argument {
 /// An operation of sets.
 const OPERATION: Argument = Argument {
     name: "OP",
-    help: "Operator",
+    help: "Set operation",
     values: ValueParser::Names(&["union", "intersection", "difference", "symmetric"]),
 };
 
 /// The text form that a coverage is read in.
 const FORM: Argument = Argument {
     name: "FORM",
-    help: "Form of a text",
+    help: "Format of a text",
     values: ValueParser::Names(&["ascii", "json", "uniq", "auto"]),
 };
 
 /// The text form of the input.
 const FROM_FORM: Argument = Argument {
     name: "FROM",
-    help: "Form of the input",
+    help: "Format of the input",
     values: ValueParser::Names(&["ascii", "json", "uniq"]),
 };
 
 /// The text form of the output.
 const TO_FORM: Argument = Argument {
     name: "TO",
-    help: "Form of the output",
+    help: "Format of the output",
     ..FROM_FORM
 };
 
