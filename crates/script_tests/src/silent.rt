@@ -8,6 +8,7 @@ use std::io::{self, ErrorKind, Read, Write};
 
 /// How many bytes a reader delivers at most in one call, and how many a writer accepts.
 const MOST_READ: usize = 3;
+
 const MOST_WRITTEN: usize = 5;
 
 /// A reader of some bytes.
