@@ -85,7 +85,7 @@ def main():
     with tempfile.TemporaryDirectory() as folder:
         shutil.copy(os.path.join(TOP, "crates.txt"), folder)
         shutil.copy(os.path.join(TOP, "HANDLES"), folder)
-        shutil.copytree(os.path.join(TOP, "crates"), os.path.join(folder, "crates"), ignore=shutil.ignore_patterns("wrong-bodies", "out"))
+        shutil.copytree(os.path.join(TOP, "crates"), os.path.join(folder, "crates"), ignore=shutil.ignore_patterns("mutants", "out"))
         words = sys.argv[1:]
         plants = PLANTS[time.gmtime().tm_yday % 3::3] if words == ["--of-the-day"] else PLANTS
         for crate, source, call, answer, tests in plants:

@@ -174,7 +174,7 @@ def is_proved(plant, room):
 def copy_of(room, is_built):
     """A copy of the repository, without what was built or with it."""
     top = os.path.join(room, "copy")
-    left_out = shutil.ignore_patterns(".git", "edits", "plants-*", *[] if is_built else ["out", "wrong-bodies"])
+    left_out = shutil.ignore_patterns(".git", "edits", "plants-*", *[] if is_built else ["out", "mutants"])
     shutil.copytree(TOP, top, ignore=left_out, copy_function=link_or_copy, symlinks=True)
     return top
 

@@ -1,12 +1,12 @@
 #!/usr/bin/env python3
-"""Tries the wrong bodies, crates/*/wrong-bodies/*.edit: the prover must refuse each.
+"""Tries the mutants, crates/*/mutants/*.edit: the prover must refuse each.
 
 An edit is a file in the form of the toolchain's must-fail edits: a line `file: src/NAME.rt`, then pairs of lines `old: TEXT` and
 `new: TEXT`, each old text standing once in that file; or, where a line `after: TEXT` is before them, the first one behind that text, which
 stands once.
 
 `rt must-fail` checks a crate once for each edit. Here a check takes one edit of each function, of as many functions as there are:
-a function is proved from its body and the contracts of those it calls, so wrong bodies of several functions do not meet. An edit
+a function is proved from its body and the contracts of those it calls, so mutants of several functions do not meet. An edit
 is refused where the check tells of an error in the function that it edits. An error in any other function shows that edits did meet,
 and none of that check counts. What is edited outside a function, a constant say, has a check of its own, and names in a line
 `error: TEXT` a piece of the error that counts.
@@ -17,7 +17,7 @@ Refusals are of three kinds, and the last lines tell how many there are of each:
   answers  only the function's proof by hand fails, for two values that differ
   name     only for a name that went with the edited text, which shows nothing of the contract: such an edit fails
 
-usage: tests/wrong_bodies.py [--jobs N] [--told FOLDER] [CRATE | CRATE/EDIT]..
+usage: tests/mutants.py [--jobs N] [--told FOLDER] [CRATE | CRATE/EDIT]..
 
 `--jobs N` has N checks go on side by side, by one job each, as far as memory goes; without it, as many as there are processors. `--told
 FOLDER` keeps there what each check told, and makes the folder where there is none.
@@ -138,14 +138,14 @@ def place_of(text, after, old):
 
 
 class Edit:
-    """A wrong body: the texts that it changes, and the function that it lies in."""
+    """A mutant: the texts that it changes, and the function that it lies in."""
 
     def __init__(self, crate, name):
         self.label = f"{crate}/{name}"
         self.pairs, self.function, self.why, self.error = [], None, None, None
         folder = folder_of(crate)
         functions, texts, file, after, old = [], {}, None, None, None
-        with open(os.path.join(folder, "wrong-bodies", name)) as lines:
+        with open(os.path.join(folder, "mutants", name)) as lines:
             for line in lines.read().split("\n"):
                 if line.startswith("file: "):
                     file = line[6:].strip()
@@ -358,7 +358,7 @@ def numbers_told():
 
 
 def main():
-    words = argparse.ArgumentParser(description="Tries the wrong bodies.")
+    words = argparse.ArgumentParser(description="Tries the mutants.")
     words.add_argument("--jobs", type=int, default=len(os.sched_getaffinity(0)))
     words.add_argument("--told", metavar="FOLDER")
     words.add_argument("names", nargs="*", metavar="CRATE or CRATE/EDIT")
@@ -366,7 +366,7 @@ def main():
     below = libraries_below(crates_of())
     edits, bad = {}, []
     for crate in below:
-        folder = os.path.join(folder_of(crate), "wrong-bodies")
+        folder = os.path.join(folder_of(crate), "mutants")
         for name in sorted(os.listdir(folder)) if os.path.isdir(folder) else []:
             label = f"{crate}/{name}"
             if not given.names or crate in given.names or label in given.names or label.removesuffix(".edit") in given.names:
