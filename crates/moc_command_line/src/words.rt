@@ -177,7 +177,7 @@ const UNIQ: Argument = Argument {
 /// An operation of sets.
 const OPERATION: Argument = Argument {
     name: "OP",
-    help: "Set operation",
+    help: "Operator",
     values: ValueParser::Names(&["union", "intersection", "difference", "symmetric"]),
 };
 
