@@ -140,7 +140,7 @@ Names after `refused`:
   PartHeld       another client has locked the next part
   AllTaken       the client has locked all parts of its batch
   NotAllTaken    the client has not locked all parts of its batch
-  NotHeld        the client has not locked the part
+  NotHeld        the client does not hold the lock of the part
   AlreadyEdited  the client has changed the part
   NotEdited      the client has not changed the part, and does not quit
   BegunEditing   the client has changed a part, so it cannot quit
@@ -294,14 +294,14 @@ prints
   1/3-4 2/20
 
 Many files:
-  awk 'FNR==1 && NR>1 {printf \";\"} 1' *.moc | moc combine union ascii
+  for f in *.moc; do cat \"$f\"; printf ';'; done | moc combine union ascii
 A union on all processors, 25 files at a time:
   union() {
-    awk 'FNR==1 && NR>1 {printf \";\"} 1' \"$@\" | moc combine union ascii
+    for f in \"$@\"; do cat \"$f\"; printf ';'; done | moc combine union ascii
   }
   export -f union
   printf '%s\\0' *.moc | xargs -0 -n 25 -P $(nproc) \\
-    bash -c 'union \"$@\" > $(mktemp part.XXXXXX)' _
+    bash -c 'union \"$@\" > $(mktemp part.XXXXXX)' _ &&
   union part.*";
 
 /// The text of `moc degrade --help` below the usage line.
