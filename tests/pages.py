@@ -26,6 +26,8 @@ PACKAGE = os.path.join(TOP, "python")
 SECONDS = 60
 COLUMNS = 80
 END = "--- the end of what this command writes ---"
+# What a help text says of the stream that its example writes to, and the number of the other stream.
+OTHER_STREAM = {"prints": 2, "writes to standard error": 1}
 
 
 def blocks(page):
@@ -91,7 +93,7 @@ def consoles(page):
 def programs(page):
     """Each Python program, and what it writes."""
     shown = list(blocks(page))
-    for (heading, language, lines), (_, behind, told) in zip(shown, shown[1:]):
+    for (heading, language, lines), (_, behind, told) in itertools.zip_longest(shown, shown[1:], fillvalue=("", None, [])):
         if language == "python":
             assert behind == "text", f"nothing says what the program under {heading} writes"
             yield "\n".join(lines), "".join(line + "\n" for line in told)
@@ -137,12 +139,13 @@ def help_of(*words):
 
 
 def example_of(text):
-    """The command of a help text's example, and what it says that the command writes."""
+    """The command of a help text's example, the stream that it writes to, and what it writes there."""
     lines = text.splitlines()
     behind = lines[lines.index("Example:") + 1:]
-    told = behind[2:] if behind[1:2] in (["prints"], ["writes to standard error"]) else []
+    stream = behind[1] if behind[1:] and behind[1] in OTHER_STREAM else "prints"
+    told = behind[2:] if behind[1:2] == [stream] else []
     shown = list(itertools.takewhile(lambda line: line.startswith("  "), told))
-    return behind[0].strip(), "".join(line[2:] + "\n" for line in shown)
+    return behind[0].strip(), stream, "".join(line[2:] + "\n" for line in shown)
 
 
 def helps():
@@ -158,9 +161,9 @@ def helps():
         name = " ".join(["moc", *words, "--help"])
         wide = [line for line in text.splitlines() if len(line) > COLUMNS]
         yield compare(f"lines of {name} that are too long", wide, [])
-        command, told = example_of(text)
+        command, stream, told = example_of(text)
         with tempfile.TemporaryDirectory() as folder:
-            seen = outputs(folder_with_moc(folder), [command])
+            seen = outputs(folder_with_moc(folder), [f"{{ {command}; }} {OTHER_STREAM[stream]}> /dev/null"])
         yield compare(f"{name}: {command}", seen[0], told)
 
 
@@ -169,8 +172,10 @@ def main():
     assert len(results) > 40, "moc --help lists few words"
     for name in PAGES:
         with open(os.path.join(TOP, name), encoding="utf-8") as page:
-            found = list(checked(page.read()))
+            text = page.read()
+        found = list(checked(text))
         assert found, f"nothing is run on {name}"
+        assert name != "README.md" or pictures_of(text), "README shows no picture"
         results += found
     print(f"{sum(results)} passed, {len(results) - sum(results)} failed")
     return 0 if all(results) else 1

@@ -511,7 +511,9 @@ def combine_growths_are_refused(tally, shim):
 def help_is_refused(tally, shim):
     """Refuses each growth of a help text in turn: what is written is all of it or nothing."""
     _, text, _ = outcome(["--help"])
-    refuse_each(tally, "help", [MOC, "--help"], b"", (0, text, b""), {(3, b"", b"fault Memory\n")}, shim)
+    refused = (3, b"", b"fault Memory\n")
+    met = refuse_each(tally, "help", [MOC, "--help"], b"", (0, text, b""), {refused}, shim)
+    tally.add("some refusal of help shows", refused in met, met)
 
 
 def built(crate, *words):

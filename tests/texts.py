@@ -5,6 +5,7 @@
   source, also if its turn is another day.
 - No line of a page is longer than 140 columns, but for the rows of tables, of which no cell is longer than 120.
 - Each line of README's program stands in the first example, which the gate proves and runs.
+- The lines that README shows of its first command are those that CI compares with the program's output.
 
 usage: tests/texts.py
 
@@ -51,6 +52,15 @@ def pages():
         yield f"{os.path.relpath(path, TOP)}: no line is longer than {MOST_COLUMNS} columns, but {long}", not long
 
 
+def first_example():
+    """README's first example, and whether the lines that it shows are those that CI compares with the program's."""
+    with open(os.path.join(TOP, "README.md"), encoding="utf-8") as page:
+        text = page.read()
+    with open(os.path.join(TOP, "crates", "moc_cli", "stdout"), encoding="utf-8") as output:
+        shown = "".join(f"    {line}" for line in output)
+    yield "README.md: the lines of the first example are those of moc_cli/stdout", f"\n\n{shown}\n" in text
+
+
 def cells(line):
     """The cells of a row of a table."""
     return [cell.strip() for cell in re.split(r"(?<!\\)\|", line)[1:-1]]
@@ -81,7 +91,7 @@ def shown_lines():
 
 def main():
     passed = failed = 0
-    for what, is_so in (*planted_calls(), *planted_lines(), *pages(), *tables(), *shown_lines()):
+    for what, is_so in (*planted_calls(), *planted_lines(), *pages(), *tables(), *shown_lines(), *first_example()):
         passed, failed = passed + is_so, failed + (not is_so)
         if not is_so:
             print(f"not so: {what}")

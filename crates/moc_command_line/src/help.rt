@@ -1,5 +1,5 @@
 //! The help texts: that of the program whole, that of a subcommand from below its usage line. Lines have at most 80
-//! columns, and `tests/pages.py` runs each example.
+//! columns, and `tests/pages.py` runs the command after each `Example:`.
 
 /// The text of `moc --help`. The line of each subcommand is the first line of its help.
 pub const OVERVIEW: &str = "\
@@ -125,7 +125,8 @@ pixel, and a lock for each part:
   begin C BATCH  client C begins a batch of commands, written as in `moc run`
   take C         client C locks the next part that its batch reads or changes;
                  parts are 0 to 11 and are locked in ascending order
-  edit C B       client C changes part B, after it has locked all its parts
+  edit C B       client C changes part B, after it has locked all its parts; its
+                 first edit commits the batch
   give C B       client C unlocks part B
   quit C         client C abandons its batch, before it has changed a part
   end C          client C ends its batch and gets the replies
@@ -137,7 +138,7 @@ last line is the map, or `midway N` if N clients have not ended.
 Names after `refused`:
   NotIdle        the client has a batch already
   Idle           the client has no batch
-  PartHeld       another client has locked the next part
+  PartHeld       another client holds the lock of the next part
   AllTaken       the client has locked all parts of its batch
   NotAllTaken    the client has not locked all parts of its batch
   NotHeld        the client does not hold the lock of the part
@@ -145,7 +146,7 @@ Names after `refused`:
   NotEdited      the client has not changed the part, and does not quit
   BegunEditing   the client has changed a part, so it cannot quit
   Quitting       the client has quit: it can only give and end
-  StillHolding   the client has locked a part
+  StillHolding   the client still holds the lock of a part
   NothingDone    the client has locked no part, and has not quit
   TooMany        2^64 - 1 batches have begun
 
@@ -178,8 +179,8 @@ prints
 /// The text of `moc ring --help` below the usage line.
 const RING: &str = "\
 Ring numbers count the cells of an order along rings of equal latitude, from the
-north pole. Order k has 12 times 4^k cells, from 0: a larger number is an error,
-`fault CellTooLarge`. `moc renumber` converts many numbers.
+north pole. Cells of order k are numbered from 0 to 12 times 4^k - 1; another
+number is an error, `fault CellTooLarge`. `moc renumber` converts many numbers.
 
 Example:
   moc ring 1 18
@@ -188,8 +189,8 @@ prints
 
 /// The text of `moc nest --help` below the usage line.
 const NEST: &str = "\
-The inverse of `moc ring`. Order k has 12 times 4^k ring numbers, from 0: a
-larger number is an error, `fault RingTooLarge`.
+The inverse of `moc ring`. Order k has ring numbers from 0 to 12 times 4^k - 1;
+another number is an error, `fault RingTooLarge`.
 
 Example:
   moc nest 1 27
@@ -198,8 +199,8 @@ prints
 
 /// The text of `moc uniq --help` below the usage line.
 const UNIQ: &str = "\
-The NUNIQ number of a cell is 4^(ORDER+1) + CELL. Order k has 12 times 4^k
-cells, from 0: a larger number is an error, `fault CellTooLarge`.
+The NUNIQ number of a cell is 4^(ORDER+1) + CELL. Cells of order k are numbered
+from 0 to 12 times 4^k - 1; another number is an error, `fault CellTooLarge`.
 
 Example:
   moc uniq 3 10
@@ -208,8 +209,8 @@ prints
 
 /// The text of `moc near --help` below the usage line.
 const NEAR: &str = "\
-Prints six to eight cells in ascending order, without the cell itself. Order k
-has 12 times 4^k cells, from 0: a larger number is an error,
+Prints six to eight cells in ascending order, without the cell itself. Cells of
+order k are numbered from 0 to 12 times 4^k - 1; another number is an error,
 `fault CellTooLarge`.
 
 Example:
@@ -231,12 +232,12 @@ prints
 const CHECK: &str = "\
 Prints `ok` if the text is a coverage. Otherwise standard error has the name of
 the first error and a line with its position and a quotation: the byte, its line
-and the byte in that line (ascii), the line (uniq), or the order and the number
-in its array (json). `NotJson` has only a line and a column, if any; `NotObject`
-and `TooLong` have no position. Lines are counted from 1, bytes and numbers from
-0. If the text looks like another format, a line says so. `moc faults` explains
-the names. `auto` reads a text that begins with `{` as json, any other text as
-ascii.
+and the byte in that line (ascii), the line (uniq), or the order and, for an
+item, its index in the array (json). `BadOrder` has the index of the name,
+`NotJson` only a line and a column, if any; `NotObject` and `TooLong` have no
+position. Lines are counted from 1, bytes and indices from 0. If the text looks
+like another format, a line says so. `moc faults` explains the names. `auto`
+reads a text that begins with `{` as json, any other text as ascii.
 
 Example:
   printf '1/0-3\\n2/7-5' | moc check ascii
@@ -334,9 +335,9 @@ const PICTURE: &str = "\
 Prints an SVG picture in the HEALPix projection: north is up and east is left,
 as on sky charts; longitude 0 is at both edges, 180 in the middle. The sky is
 grey, with outlines and numbers of the base pixels. Cells of order 7 and coarser
-are drawn whole; a deeper cell is drawn as its cell of order 7, in one of four
-shades by how much of that cell is covered. Two coverages are separated by `;`:
-blue is in the first only, orange in the second only, black in both. `auto`
+are drawn whole; a deeper cell is drawn as its cell of order 7. One coverage has
+four shades, by how much of that cell is covered. Two coverages are separated by
+`;`: blue is in the first only, orange in the second only, black in both. `auto`
 reads a text that begins with `{` as json, any other text as ascii.
 
 Example:
@@ -365,9 +366,9 @@ prints
 pub const FAULTS: &str = "\
 Statuses:
   0  success, also if lines had the reply `fault`, and after help
-  1  invalid number, text or line; standard error has `fault NAME`
+  1  invalid number or text, or a line too long; standard error has `fault NAME`
   2  invalid command line
-  3  input or output failed, or no memory or thread was left: `fault NAME`
+  3  input or output failed, out of memory, or no thread: `fault NAME`
 
 Numbers of cells:
   CellTooLarge     the order has no such cell; order k has 12 times 4^k, from 0

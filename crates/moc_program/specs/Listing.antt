@@ -46,9 +46,9 @@ unfoldable pub fault_list : List ℕ
 fault_list =
     section (codes "Statuses") 3 (
     (digit_of Done, codes "success, also if lines had the reply `fault`, and after help")
-    ∷ (digit_of Refused, codes "invalid number, text or line; standard error has `fault NAME`")
+    ∷ (digit_of Refused, codes "invalid number or text, or a line too long; standard error has `fault NAME`")
     ∷ (digit_of BadWords, codes "invalid command line")
-    ∷ (digit_of Broken, codes "input or output failed, or no memory or thread was left: `fault NAME`")
+    ∷ (digit_of Broken, codes "input or output failed, out of memory, or no thread: `fault NAME`")
     ∷ [])
     ++ section (codes "Numbers of cells") 17 (
     (name_of_cell cell.CellTooLarge, codes "the order has no such cell; order k has 12 times 4^k, from 0")
