@@ -26,7 +26,7 @@ PACKAGE = os.path.join(TOP, "python")
 SECONDS = 60
 COLUMNS = 80
 END = "--- the end of what this command writes ---"
-# What a help text says of the stream that its example writes to, and the number of the other stream.
+# The line in a help text that names the stream of its example, and the number of the other stream.
 OTHER_STREAM = {"prints": 2, "writes to standard error": 1}
 
 
